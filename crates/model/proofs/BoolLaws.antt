@@ -1,0 +1,52 @@
+-- Tests taken apart and put together: what follows from a computed 'and', 'or', 'not' or choice, and what each follows from.
+use mathlib.Core.Path.{_≡_, refl}
+use mathlib.Core.Bool.{Bool, true, false, _&&_, _||_, true≢false, false≢true}
+use mathlib.Core.Logic.{_⊎_, inl, inr}
+use Rattle.model.specs.Base.{pick}
+
+pub and-left : (a b : Bool) → (a && b) ≡ true → a ≡ true
+and-left true b e = refl
+and-left false b e = e
+
+pub and-right : (a b : Bool) → (a && b) ≡ true → b ≡ true
+and-right true b e = e
+and-right false true e = refl
+and-right false false e = e
+
+pub and-both : (a b : Bool) → a ≡ true → b ≡ true → (a && b) ≡ true
+and-both true b e f = f
+and-both false b e f = e
+
+pub or-left : (a b : Bool) → a ≡ true → (a || b) ≡ true
+or-left true b e = refl
+or-left false true e = refl
+or-left false false e = e
+
+pub or-right : (a b : Bool) → b ≡ true → (a || b) ≡ true
+or-right true b e = refl
+or-right false b e = e
+
+pub or-cases : (a b : Bool) → (a || b) ≡ true → (a ≡ true) ⊎ (b ≡ true)
+or-cases true b e = inl refl
+or-cases false b e = inr e
+
+pub or-neither : (a b : Bool) → (a || b) ≡ false → (a ≡ false) × (b ≡ false)
+or-neither true true e = (e, e)
+or-neither true false e = (e, refl)
+or-neither false b e = (refl, e)
+
+-- by which a test of unknown value is taken apart
+pub bool-cases : (a : Bool) → (a ≡ true) ⊎ (a ≡ false)
+bool-cases true = inl refl
+bool-cases false = inr refl
+
+-- no test is both
+pub true-false : (a : Bool) → a ≡ true → a ≡ false → ⊥
+true-false true e f = true≢false f
+true-false false e f = false≢true e
+
+pub pick-true : {A : Type 0} (t : Bool) (x y : A) → t ≡ true → pick t x y ≡ x
+pick-true t x y e = rw e
+
+pub pick-false : {A : Type 0} (t : Bool) (x y : A) → t ≡ false → pick t x y ≡ y
+pick-false t x y e = rw e

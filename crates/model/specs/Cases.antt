@@ -1,0 +1,93 @@
+-- Document 01, 'Worked on plan P': the starred cases as one statement. Assumes nothing: these are definitions.
+use mathlib.Core.Path.{_≡_}
+use mathlib.Core.Bool.{Bool, true, false}
+use mathlib.Core.List.{List, [], _∷_, _++_}
+use mathlib.Core.Option.{Option, none, some}
+use Prim.Native.Nat.{ℕ}
+use Rattle.model.specs.Refusal.{Fault, fine, shortAt}
+use Rattle.model.specs.Table.{Row, Table, empty, rowAt, count}
+use Rattle.model.specs.Stored.{Read, bad, got, readPlan}
+use Rattle.model.specs.Script.{Expr, nil, Parsed, ill, parsed, readScript}
+use Rattle.model.specs.Run.{runOn}
+use Rattle.model.specs.Meeting.{answer, free, meet}
+use Rattle.model.specs.Promise.{tableOf, answerOf, historyOf, ends}
+
+abbrev pub tableBy : Read → Table
+tableBy (bad f) = empty
+tableBy (got x) = x
+
+abbrev pub exprBy : Parsed → Expr
+exprBy (ill f) = nil 0
+exprBy (parsed e i n c) = e
+
+abbrev pub faultBy : Parsed → Fault
+faultBy (ill f) = f
+faultBy (parsed e i n c) = fine
+
+abbrev pub script : List ℕ → Expr
+script b = exprBy (readScript b)
+
+abbrev pub planP : Table
+planP =
+    tableBy (readPlan
+    (0x11 ∷ 0x01 ∷ 0xFF ∷ 0xFF ∷ 0x11 ∷ 0x02 ∷ 0x00 ∷ 0x00 ∷ 0x12 ∷ 0xFE ∷ 0x01 ∷ 0x00 ∷ 0x11 ∷ 0x03 ∷ 0x00 ∷ 0x00 ∷ 0x13 ∷ 0x00 ∷ 0x00 ∷
+    0x00 ∷ []))
+
+-- children of document 0's root named 2, and named 3
+abbrev pub twos : List ℕ
+twos = 0x04 ∷ 0x00 ∷ 0x03 ∷ 0x02 ∷ 0x02 ∷ 0x00 ∷ []
+
+abbrev pub threes : List ℕ
+threes = 0x04 ∷ 0x00 ∷ 0x03 ∷ 0x03 ∷ 0x02 ∷ 0x00 ∷ []
+
+-- script A, and its relation 2 twin
+abbrev pub scriptA : Expr
+scriptA = script (0x0D ∷ 0x01 ∷ 0x00 ∷ 0x04 ∷ 0x00 ∷ 0x02 ∷ 0x00 ∷ twos)
+
+abbrev pub scriptTwin : Expr
+scriptTwin = script (0x0D ∷ 0x02 ∷ 0x00 ∷ 0x04 ∷ 0x00 ∷ 0x02 ∷ 0x00 ∷ twos)
+
+abbrev pub scriptB : Expr
+scriptB = script (0x0C ∷ 0x09 ∷ 0x04 ∷ threes)
+
+abbrev pub deleteTwos : Expr
+deleteTwos = script (0x0B ∷ twos)
+
+-- descendant leaves of document 0's root
+abbrev pub leavesBelow : Expr
+leavesBelow = script (0x04 ∷ 0x01 ∷ 0x02 ∷ 0x00 ∷ 0x02 ∷ 0x00 ∷ [])
+
+-- let x be the children named 2, join (delete x, leaves under x)
+abbrev pub letX : Expr
+letX = script (0x06 ∷ (twos ++ (0x05 ∷ 0x0B ∷ 0x03 ∷ 0x00 ∷ 0x04 ∷ 0x00 ∷ 0x02 ∷ 0x00 ∷ 0x03 ∷ 0x00 ∷ [])))
+
+abbrev pub deleteRoot : Expr
+deleteRoot = script (0x0B ∷ 0x02 ∷ 0x00 ∷ [])
+
+-- insert of row 1 twice into row 3
+abbrev pub twice : Expr
+twice = script (0x0C ∷ 0x05 ∷ (twos ++ twos ++ threes))
+
+abbrev pub elementRow : (name : ℕ) → (parent : Option ℕ) → Row
+elementRow n p = record { isLeaf = false; tag = n; parent = p }
+
+abbrev pub parentAt : Table → (row : ℕ) → Option ℕ
+parentAt x i = rowAt x i .parent
+
+abbrev pub afterB : Table
+afterB = tableOf (runOn planP scriptB)
+
+abbrev pub afterTwice : Table
+afterTwice = tableOf (runOn planP twice)
+
+abbrev pub Cases : Type 0
+Cases =
+    (count planP ≡ 4) × (answerOf (runOn planP scriptA) ≡ 2 ∷ []) ×
+    ((answerOf (runOn planP scriptTwin) ≡ []) × (ends (runOn planP scriptTwin) ≡ true)) ×
+    ((count afterB ≡ 6) × (rowAt afterB 4 ≡ elementRow 4 none) × (rowAt afterB 5 ≡ elementRow 4 (some 3))) ×
+    (answer deleteTwos scriptA ≡ meet) × (answer deleteTwos leavesBelow ≡ meet) × (answer scriptB scriptB ≡ free) ×
+    (answer scriptA scriptB ≡ free) × (answerOf (runOn planP letX) ≡ 2 ∷ []) ×
+    ((historyOf (runOn planP deleteRoot) ≡ []) × (ends (runOn planP deleteRoot) ≡ true)) ×
+    ((count afterTwice ≡ 8) × (parentAt afterTwice 4 ≡ some 3) × (parentAt afterTwice 5 ≡ some 4) × (parentAt afterTwice 6 ≡ some 3) ×
+    (parentAt afterTwice 7 ≡ some 6)) ×
+    (faultBy (readScript []) ≡ shortAt 0) × (readPlan [] ≡ got empty)

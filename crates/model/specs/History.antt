@@ -1,0 +1,44 @@
+-- Document 01, 'The history': its records, as bytes, and replayed. Assumes nothing: these are definitions.
+use mathlib.Core.List.{List, [], _∷_, _++_}
+use mathlib.Core.Option.{Option, none}
+use Prim.Native.Nat.{ℕ}
+use lib.Dec.{eqb}
+use Rattle.model.specs.Base.{pick}
+use Rattle.model.specs.Table.{Row, Table, linked, withRow}
+use Rattle.model.specs.Stored.{wordBytes, parentBytes}
+
+-- KINDS: element made, leaf made (body: row, name or value, parent), link cut (body: row, old parent)
+abbrev pub madeElementKind : ℕ
+madeElementKind = 0x41
+
+abbrev pub madeLeafKind : ℕ
+madeLeafKind = 0x42
+
+abbrev pub cutKind : ℕ
+cutKind = 0x43
+
+-- the tag of a cut is 0
+pub record Record : Type 0 where
+  pub kind : ℕ
+  pub row : ℕ
+  pub tag : ℕ
+  pub parent : Option ℕ
+
+-- WRITTEN
+abbrev pub recordBytes : Record → List ℕ
+recordBytes r =
+    (r .kind ∷ wordBytes (r .row)) ++ pick (eqb (r .kind) cutKind) (parentBytes (r .parent)) (r .tag ∷ parentBytes (r .parent))
+
+unfoldable pub historyBytes : List Record → List ℕ
+historyBytes [] = []
+historyBytes (r ∷ rs) = recordBytes r ++ historyBytes rs
+
+-- REPLAYED: replaying a history on the earlier table gives the later one
+abbrev pub replayed : Table → Record → Table
+replayed x r =
+    pick (eqb (r .kind) cutKind) (linked x (r .row) none)
+    (withRow x (record { isLeaf = eqb (r .kind) madeLeafKind; tag = r .tag; parent = r .parent }))
+
+unfoldable pub replayAll : Table → List Record → Table
+replayAll x [] = x
+replayAll x (r ∷ rs) = replayAll (replayed x r) rs

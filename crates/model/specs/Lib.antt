@@ -1,0 +1,15 @@
+pub mod Base
+pub mod Limits
+pub mod Refusal
+pub mod Table
+pub mod Stored
+pub mod Sweep
+pub mod Script
+pub mod Step
+pub mod History
+pub mod Run
+pub mod Undo
+pub mod Paths
+pub mod Meeting
+pub mod Promise
+pub mod Cases

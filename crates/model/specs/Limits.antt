@@ -1,0 +1,40 @@
+-- Document 01, 'Limits': each limit and each lent area's need, named once. Assumes nothing: these are definitions.
+use Prim.Native.Nat.{ℕ}
+
+-- rows of a table
+abbrev pub maxRows : ℕ
+maxRows = 512
+
+-- documents, numbered from 0
+abbrev pub documents : ℕ
+documents = 8
+
+-- records of a script
+abbrev pub maxRecords : ℕ
+maxRecords = 64
+
+-- depth of a script, the outermost being 1
+abbrev pub maxDepth : ℕ
+maxDepth = 16
+
+-- binders nested in one another's second operands
+abbrev pub maxBinders : ℕ
+maxBinders = 8
+
+-- items of a value
+abbrev pub maxItems : ℕ
+maxItems = 512
+
+-- records of a history
+abbrev pub maxHistory : ℕ
+maxHistory = 2048
+
+-- lent to a run: answer and work in two-byte numbers, history in bytes
+abbrev pub answerNeed : ℕ
+answerNeed = 512
+
+abbrev pub historyNeed : ℕ
+historyNeed = 12288
+
+abbrev pub workNeed : ℕ
+workNeed = 32768

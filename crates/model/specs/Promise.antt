@@ -1,0 +1,160 @@
+-- What is promised of every plan and every two scripts. Each promise is a type; a term of that type in proofs/ is its proof. Assumes nothing.
+use mathlib.Core.Path.{_≡_}
+use mathlib.Core.Logic.{_↔_}
+use mathlib.Core.Bool.{Bool, true, false, _&&_, _||_}
+use mathlib.Core.List.{List, [], _∷_}
+use mathlib.Core.Option.{Option, none, some}
+use Prim.Native.Nat.{ℕ, zero, suc, _+_, _-_, _<_}
+use lib.Dec.{ltb}
+use lib.ListN.{getD}
+use Rattle.model.specs.Base.{pick, any, among, areBytes}
+use Rattle.model.specs.Limits.{documents}
+use Rattle.model.specs.Table.{Row, Table, empty, rowAt, count, hasParent, isThe, isTree, isWell, withParent}
+use Rattle.model.specs.Stored.{got, readPlan, stored}
+use Rattle.model.specs.Sweep.{swept}
+use Rattle.model.specs.Script.{Expr, parsed, readScript}
+use Rattle.model.specs.Step.{stepped}
+use Rattle.model.specs.History.{Record, historyBytes, replayAll}
+use Rattle.model.specs.Run.{State, Out, stop, gives, runOn}
+use Rattle.model.specs.Undo.{back, undo}
+use Rattle.model.specs.Paths.{Place, documentPlace, Path, start, _▸_, pathsOf, traversed, hasUp}
+use Rattle.model.specs.Meeting.{answer, free, upward, meet}
+
+-- what some bytes are read as
+abbrev pub IsScript : Expr → Type 0
+IsScript e =
+    (b : List ℕ) × (areBytes b ≡ true) × ((i : ℕ) × ((n : ℕ) × ((c : List ℕ) × (readScript b ≡ parsed e i n c))))
+
+-- DEMAND 2, stored plans: table to bytes to table, and bytes to table to bytes
+abbrev pub StoredBack : Type 0
+StoredBack =
+    ((x : Table) → isWell x ≡ true → readPlan (stored x) ≡ got x) ×
+    ((b : List ℕ) (x : Table) → areBytes b ≡ true → readPlan b ≡ got x → (isWell x ≡ true) × (stored x ≡ b))
+
+-- DEMAND 2, sweeping: a table stays well formed, and a second sweep changes nothing
+abbrev pub SweepsWell : Type 0
+SweepsWell = (x : Table) → isWell x ≡ true → (isWell (swept x) ≡ true) × (swept (swept x) ≡ swept x)
+
+-- DEMAND 2, running and undo: a run keeps the table well formed; replaying gives the later table, undo the earlier
+abbrev pub RunsBack : Type 0
+RunsBack =
+    (e : Expr) (x : Table) (v : List ℕ) (s : State) → IsScript e → isWell x ≡ true → runOn x e ≡ gives v s →
+    (isWell (s .plan) ≡ true) × (replayAll x (s .history) ≡ s .plan) × (undo (s .plan) (historyBytes (s .history)) ≡ back x)
+
+-- DEMAND 2, what free means. Which rows each place holds
+abbrev pub Places : Type 0
+Places = Place → (row : ℕ) → Bool
+
+-- a document's place holds its root; a constructor's any rows without parent; no row is at two places
+abbrev pub ArePlaces : Table → Places → Type 0
+ArePlaces x h =
+    ((d i : ℕ) → i < count x → h (documentPlace d) i ≡ isThe i (getD (x .marks) d none)) ×
+    ((p : Place) (i : ℕ) → i < count x → h p i ≡ true → hasParent (rowAt x i .parent) ≡ false) ×
+    ((p q : Place) (i : ℕ) → i < count x → h p i ≡ true → h q i ≡ true → p ≡ q)
+
+unfoldable pub rowsAt : Table → Places → Place → (row : ℕ) → ℕ → List ℕ
+rowsAt x h p i zero = []
+rowsAt x h p i (suc n) = pick (h p i) (i ∷ rowsAt x h p (suc i) n) (rowsAt x h p (suc i) n)
+
+-- the rows on a path: those at its place; those that the step reaches from a row on the path
+unfoldable pub rowsOn : Table → Places → Path → List ℕ
+rowsOn x h (start p) = rowsAt x h p 0 (count x)
+rowsOn x h (p ▸ s) = stepped x s (rowsOn x h p)
+
+-- on a union where it is on one of its parts
+abbrev pub isOn : Table → Places → (row : ℕ) → List Path → Bool
+isOn x h i ps = any (λ (p : Path). among i (rowsOn x h p)) ps
+
+-- a row on a path that one script modifies and on a path that the other traverses
+abbrev pub isTouched : Table → Places → (row : ℕ) → Expr → Expr → Bool
+isTouched x h i e f =
+    (isOn x h i (pathsOf 1 e .modified) && isOn x h i (traversed (pathsOf 2 f))) ||
+    (isOn x h i (pathsOf 2 f .modified) && isOn x h i (traversed (pathsOf 1 e)))
+
+abbrev pub FreeMeans : Type 0
+FreeMeans =
+    (e f : Expr) → IsScript e → IsScript f →
+    ((answer e f ≡ upward) ↔ ((hasUp e || hasUp f) ≡ true)) ×
+    (answer e f ≡ free → (x : Table) (h : Places) (i : ℕ) → isTree x ≡ true → ArePlaces x h → i < count x → isTouched x h i e f ≡ false) ×
+    (answer e f ≡ meet →
+    (x : Table) × ((h : Places) × ((i : ℕ) × ((isTree x ≡ true) × ArePlaces x h × (i < count x) × (isTouched x h i e f ≡ true)))))
+
+-- DEMAND 3, the two orders: what a run leaves
+abbrev pub tableOf : Out → Table
+tableOf (stop x) = empty
+tableOf (gives v s) = s .plan
+
+abbrev pub answerOf : Out → List ℕ
+answerOf (stop x) = []
+answerOf (gives v s) = v
+
+abbrev pub historyOf : Out → List Record
+historyOf (stop x) = []
+historyOf (gives v s) = s .history
+
+abbrev pub ends : Out → Bool
+ends (stop x) = false
+ends (gives v s) = true
+
+-- The second run gets the table as the first left it
+abbrev pub firstRun : Table → Expr → Out
+firstRun x e = runOn x e
+
+abbrev pub secondRun : Table → (first second : Expr) → Out
+secondRun x e f = runOn (tableOf (firstRun x e)) f
+
+-- An order ends without refusal when neither of its runs is refused
+abbrev pub orderEnds : Table → (first second : Expr) → Bool
+orderEnds x e f = ends (firstRun x e) && ends (secondRun x e f)
+
+abbrev pub newRows : (before : Table) → Out → ℕ
+newRows x o = count (tableOf o) - count x
+
+-- MATCHING from the order one-two to the order two-one, with n rows at first, a made by script one and b by script two
+abbrev pub matched : (n a b row : ℕ) → ℕ
+matched n a b i = pick (ltb i n) i (pick (ltb i (n + a)) (i + b) (i - a))
+
+-- none matches none
+abbrev pub matchedParent : (n a b : ℕ) → Option ℕ → Option ℕ
+matchedParent n a b none = none
+matchedParent n a b (some p) = some (matched n a b p)
+
+unfoldable pub matchedAll : (n a b : ℕ) → List ℕ → List ℕ
+matchedAll n a b [] = []
+matchedAll n a b (i ∷ is) = matched n a b i ∷ matchedAll n a b is
+
+abbrev pub matchedRecord : (n a b : ℕ) → Record → Record
+matchedRecord n a b r =
+    record { kind = r .kind; row = matched n a b (r .row); tag = r .tag; parent = matchedParent n a b (r .parent) }
+
+unfoldable pub matchedHistory : (n a b : ℕ) → List Record → List Record
+matchedHistory n a b [] = []
+matchedHistory n a b (r ∷ rs) = matchedRecord n a b r ∷ matchedHistory n a b rs
+
+abbrev pub matchedRow : (n a b : ℕ) → Row → Row
+matchedRow n a b r = withParent r (matchedParent n a b (r .parent))
+
+-- as many rows, matching rows alike, and each document marks matching rows or none in both
+abbrev pub PlansEqual : (n a b : ℕ) → (one two : Table) → Type 0
+PlansEqual n a b x y =
+    (count x ≡ count y) × ((i : ℕ) → i < count x → rowAt y (matched n a b i) ≡ matchedRow n a b (rowAt x i)) ×
+    ((d : ℕ) → d < documents → getD (y .marks) d none ≡ matchedParent n a b (getD (x .marks) d none))
+
+abbrev pub madeBy : Table → Expr → ℕ
+madeBy x e = newRows x (firstRun x e)
+
+-- each script makes as many new rows in both orders; answers, histories and plans are equal under the matching
+abbrev pub OrdersEqual : Table → (one two : Expr) → Type 0
+OrdersEqual x e f =
+    (newRows (tableOf (firstRun x f)) (secondRun x f e) ≡ madeBy x e) ×
+    (newRows (tableOf (firstRun x e)) (secondRun x e f) ≡ madeBy x f) ×
+    (answerOf (secondRun x f e) ≡ matchedAll (count x) (madeBy x e) (madeBy x f) (answerOf (firstRun x e))) ×
+    (answerOf (firstRun x f) ≡ matchedAll (count x) (madeBy x e) (madeBy x f) (answerOf (secondRun x e f))) ×
+    (historyOf (secondRun x f e) ≡ matchedHistory (count x) (madeBy x e) (madeBy x f) (historyOf (firstRun x e))) ×
+    (historyOf (firstRun x f) ≡ matchedHistory (count x) (madeBy x e) (madeBy x f) (historyOf (secondRun x e f))) ×
+    PlansEqual (count x) (madeBy x e) (madeBy x f) (tableOf (secondRun x e f)) (tableOf (secondRun x f e))
+
+abbrev pub FreeCommutes : Type 0
+FreeCommutes =
+    (e f : Expr) (x : Table) → answer e f ≡ free → isWell x ≡ true →
+    (orderEnds x e f ≡ orderEnds x f e) × (orderEnds x e f ≡ true → OrdersEqual x e f)

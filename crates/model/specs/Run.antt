@@ -1,0 +1,149 @@
+-- Document 01, 'The scripts': evaluation with its history. Assumes nothing: these are definitions.
+use mathlib.Core.Bool.{Bool, true, false, _&&_}
+use mathlib.Core.List.{List, [], _∷_, _++_}
+use mathlib.Core.Option.{Option, none, some}
+use Prim.Native.Nat.{ℕ, zero, suc, _+_}
+use lib.Dec.{ltb, eqb}
+use lib.ListN.{length, getD}
+use Rattle.model.specs.Base.{pick}
+use Rattle.model.specs.Limits.{maxRows, maxItems, maxHistory}
+use Rattle.model.specs.Refusal.{Fault, isFine, orElse, unless, targetAt, itemsAt, historyAt, tableAt}
+use Rattle.model.specs.Table.{Row, Table, rowAt, count, isElement, withRow, withParent, linked}
+use Rattle.model.specs.Script.{Expr, nil, document, var, step, both, letIn, forIn, ifIn, element, leaf, delete, insert, choose}
+use Rattle.model.specs.Step.{isBelow, stepped, picked}
+use Rattle.model.specs.History.{Record, madeElementKind, madeLeafKind, cutKind}
+
+-- a run's state: table and history so far
+pub record State : Type 0 where
+  pub plan : Table
+  pub history : List Record
+
+abbrev pub state : Table → List Record → State
+state x h = record { plan = x; history = h }
+
+-- a refusal; or a value, which is a list of row numbers, and the state after it
+pub data Out : Type 0 where
+  stop : Fault → Out
+  gives : (items : List ℕ) → State → Out
+
+abbrev pub andThen : Out → (List ℕ → State → Out) → Out
+andThen (stop x) next = stop x
+andThen (gives v s) next = next v s
+
+-- joined in order, repeats kept; 8 past 512 items
+abbrev pub joinItems : (place : ℕ) → (one other : List ℕ) → State → Out
+joinItems z v w s = pick (ltb maxItems (length v + length w)) (stop (itemsAt z)) (gives (v ++ w) s)
+
+-- NEW ROWS take the next numbers; 10 before 9
+abbrev pub made : Row → (row : ℕ) → Record
+made r i = record { kind = pick (r .isLeaf) madeLeafKind madeElementKind; row = i; tag = r .tag; parent = r .parent }
+
+abbrev pub withMade : State → Row → State
+withMade s r = state (withRow (s .plan) r) (s .history ++ (made r (count (s .plan)) ∷ []))
+
+abbrev pub roomFault : (place : ℕ) → State → Fault
+roomFault z s =
+    orElse (unless (ltb (count (s .plan)) maxRows) (tableAt z)) (unless (ltb (length (s .history)) maxHistory) (historyAt z))
+
+abbrev pub newRow : (place : ℕ) → Row → State → Out
+newRow z r s = pick (isFine (roomFault z s)) (gives (count (s .plan) ∷ []) (withMade s r)) (stop (roomFault z s))
+
+abbrev pub loose : (isLeaf : Bool) → (tag : ℕ) → Row
+loose z t = record { isLeaf = z; tag = t; parent = none }
+
+-- DELETE cuts each row of its value from its parent, and does nothing to a row without one; its answer is empty
+abbrev pub cutRecord : (row parent : ℕ) → Record
+cutRecord i p = record { kind = cutKind; row = i; tag = 0; parent = some p }
+
+abbrev pub cutRow : State → (row parent : ℕ) → State
+cutRow s i p = state (linked (s .plan) i none) (s .history ++ (cutRecord i p ∷ []))
+
+abbrev pub cutBy : (place row : ℕ) → State → Option ℕ → (State → Out) → Out
+cutBy z i s none next = next s
+cutBy z i s (some p) next = pick (ltb (length (s .history)) maxHistory) (next (cutRow s i p)) (stop (historyAt z))
+
+unfoldable pub cutAll : (place : ℕ) → (items : List ℕ) → State → Out
+cutAll z [] s = gives [] s
+cutAll z (i ∷ is) s = cutBy z i s (rowAt (s .plan) i .parent) (λ (t : State). cutAll z is t)
+
+-- INSERT copies each item in order, the item first and then its descendants in rising number, as the table was before the insert;
+-- tops hang under the target. The rows copied so far, and their copies, newest first
+pub record Copied : Type 0 where
+  pub old : ℕ
+  pub new : ℕ
+
+unfoldable pub copyOf : (row : ℕ) → List Copied → Option ℕ
+copyOf i [] = none
+copyOf i (c ∷ cs) = pick (eqb (c .old) i) (some (c .new)) (copyOf i cs)
+
+abbrev pub copyParent : (isTop : Bool) → (target : ℕ) → Option ℕ → List Copied → Option ℕ
+copyParent true t p cs = some t
+copyParent false t none cs = none
+copyParent false t (some p) cs = copyOf p cs
+
+abbrev pub copyRow : Table → (top target row : ℕ) → List Copied → Row
+copyRow x t g i cs = withParent (rowAt x i) (copyParent (eqb i t) g (rowAt x i .parent) cs)
+
+unfoldable pub descendantsFrom : Table → (top row : ℕ) → ℕ → List ℕ
+descendantsFrom x t i zero = []
+descendantsFrom x t i (suc n) = pick (isBelow x t i) (i ∷ descendantsFrom x t (suc i) n) (descendantsFrom x t (suc i) n)
+
+abbrev pub subtree : Table → (top : ℕ) → List ℕ
+subtree x t = t ∷ descendantsFrom x t 0 (count x)
+
+abbrev pub thenRow : Out → (State → Out) → Out
+thenRow (stop x) next = stop x
+thenRow (gives v s) next = next s
+
+unfoldable pub copyEach : (place : ℕ) → (before : Table) → (top target : ℕ) → (rows : List ℕ) → List Copied → State → Out
+copyEach z x t g [] cs s = gives [] s
+copyEach z x t g (i ∷ is) cs s =
+    thenRow (newRow z (copyRow x t g i cs) s)
+    (λ (u : State). copyEach z x t g is (record { old = i; new = count (s .plan) } ∷ cs) u)
+
+unfoldable pub copyAll : (place : ℕ) → (before : Table) → (items : List ℕ) → (target : ℕ) → State → Out
+copyAll z x [] g s = gives [] s
+copyAll z x (i ∷ is) g s = thenRow (copyEach z x i g (subtree x i) [] s) (λ (u : State). copyAll z x is g u)
+
+-- 7: a target value of exactly one item, an element, even when there is nothing to copy
+abbrev pub inserted : (place : ℕ) → (items targets : List ℕ) → State → Out
+inserted z v w s =
+    pick (eqb (length w) 1 && isElement (s .plan) (getD w 0 0)) (copyAll z (s .plan) v (getD w 0 0) s) (stop (targetAt z))
+
+-- A 'FOR' runs its second expression once for each item of the first and joins the results; 8 after the item that passes the limit
+abbrev pub joinFor : (place : ℕ) → (sofar : List ℕ) → Out → (List ℕ → State → Out) → Out
+joinFor z v (stop x) next = stop x
+joinFor z v (gives w s) next = pick (ltb maxItems (length v + length w)) (stop (itemsAt z)) (next (v ++ w) s)
+
+unfoldable pub loop : (place : ℕ) → (ℕ → State → Out) → (items sofar : List ℕ) → State → Out
+loop z f [] v s = gives v s
+loop z f (i ∷ is) v s = joinFor z v (f i s) (λ (w : List ℕ) (t : State). loop z f is w t)
+
+-- a document's marked row, or empty
+abbrev pub marked : Option ℕ → List ℕ
+marked none = []
+marked (some i) = i ∷ []
+
+-- EVALUATION: operands run left to right and updates act immediately. The variables' values, the outermost binder first
+unfoldable pub run : Expr → (bound : List (List ℕ)) → State → Out
+run (nil z) b s = gives [] s
+run (document z d) b s = gives (marked (getD (s .plan .marks) d none)) s
+run (var z v) b s = gives (getD b v []) s
+run (step z t e) b s = andThen (run e b s) (λ (v : List ℕ) (u : State). gives (stepped (u .plan) t v) u)
+run (both z e f) b s =
+    andThen (run e b s) (λ (v : List ℕ) (u : State). andThen (run f b u) (λ (w : List ℕ) (q : State). joinItems z v w q))
+run (letIn z e f) b s = andThen (run e b s) (λ (v : List ℕ) (u : State). run f (b ++ (v ∷ [])) u)
+run (forIn z e f) b s =
+    andThen (run e b s) (λ (v : List ℕ) (u : State). loop z (λ (i : ℕ) (q : State). run f (b ++ ((i ∷ []) ∷ [])) q) v [] u)
+run (ifIn z e f g) b s =
+    andThen (run e b s) (λ (v : List ℕ) (u : State). pick (eqb (length v) 0) (run g b u) (run f b u))
+run (element z n) b s = newRow z (loose false n) s
+run (leaf z v) b s = newRow z (loose true v) s
+run (delete z e) b s = andThen (run e b s) (λ (v : List ℕ) (u : State). cutAll z v u)
+run (insert z e f) b s =
+    andThen (run e b s) (λ (v : List ℕ) (u : State). andThen (run f b u) (λ (w : List ℕ) (q : State). inserted z v w q))
+run (choose z r c e) b s = andThen (run e b s) (λ (v : List ℕ) (u : State). gives (picked (u .plan) r c v) u)
+
+-- a run starts with nothing bound and an empty history
+abbrev pub runOn : Table → Expr → Out
+runOn x e = run e [] (state x [])

@@ -1,0 +1,159 @@
+-- Document 01, 'The scripts': expressions in prefix order, read with number and place of a refusal. Assumes nothing: these are definitions.
+use mathlib.Core.Bool.{Bool, true, _&&_, _||_, not}
+use mathlib.Core.List.{List}
+use Prim.Native.Nat.{ℕ, zero, suc, _+_}
+use lib.Dec.{ltb, leb, eqb}
+use lib.ListN.{length, getD, drop}
+use Rattle.model.specs.Base.{pick, isIn}
+use Rattle.model.specs.Limits.{documents, maxRecords, maxDepth, maxBinders}
+use Rattle.model.specs.Refusal.{Fault, isFine, orElse, unless, kindAt, shortAt, tailAt, fieldAt, sizeAt}
+
+-- Axis: 0 child, 1 descendant, 2 parent, 3 ancestor. Test: 0 any node, 1 any element, 2 any leaf, 3 the named element
+pub record Step : Type 0 where
+  pub axis : ℕ
+  pub test : ℕ
+  pub name : ℕ
+
+abbrev pub stepBy : (axis test name : ℕ) → Step
+stepBy a t n = record { axis = a; test = t; name = n }
+
+-- an expression carries the place of its kind byte
+pub data Expr : Type 0 where
+  nil : (place : ℕ) → Expr
+  document : (place number : ℕ) → Expr
+  var : (place number : ℕ) → Expr
+  step : (place : ℕ) → Step → Expr → Expr
+  both : (place : ℕ) → Expr → Expr → Expr
+  letIn : (place : ℕ) → Expr → Expr → Expr
+  forIn : (place : ℕ) → Expr → Expr → Expr
+  ifIn : (place : ℕ) → Expr → Expr → Expr → Expr
+  element : (place name : ℕ) → Expr
+  leaf : (place value : ℕ) → Expr
+  delete : (place : ℕ) → Expr → Expr
+  insert : (place : ℕ) → Expr → Expr → Expr
+  choose : (place relation value : ℕ) → Expr → Expr
+
+-- KINDS, 1 to 13 in the order of the constructors
+abbrev pub nilKind : ℕ
+nilKind = 0x01
+
+abbrev pub documentKind : ℕ
+documentKind = 0x02
+
+abbrev pub varKind : ℕ
+varKind = 0x03
+
+abbrev pub stepKind : ℕ
+stepKind = 0x04
+
+abbrev pub bothKind : ℕ
+bothKind = 0x05
+
+abbrev pub letKind : ℕ
+letKind = 0x06
+
+abbrev pub forKind : ℕ
+forKind = 0x07
+
+abbrev pub ifKind : ℕ
+ifKind = 0x08
+
+abbrev pub newElementKind : ℕ
+newElementKind = 0x09
+
+abbrev pub newLeafKind : ℕ
+newLeafKind = 0x0A
+
+abbrev pub deleteKind : ℕ
+deleteKind = 0x0B
+
+abbrev pub insertKind : ℕ
+insertKind = 0x0C
+
+abbrev pub pickKind : ℕ
+pickKind = 0x0D
+
+-- bytes of a body
+abbrev pub bodySize : (kind : ℕ) → ℕ
+bodySize k =
+    pick (eqb k stepKind) 3
+    (pick (eqb k pickKind) 2
+    (pick (eqb k documentKind || eqb k varKind || eqb k newElementKind || eqb k newLeafKind) 1 0))
+
+-- name is 0 unless the test is 3, and then 1 to 255
+abbrev pub testFits : (test name : ℕ) → Bool
+testFits t n = pick (eqb t 3) (isIn 1 255 n) (ltb t 3 && eqb n 0)
+
+-- 4: the fields of the record at the front are in range, its variable is bound
+abbrev pub bodyFits : (bound : ℕ) → (bytes : List ℕ) → Bool
+bodyFits v b =
+    pick (eqb (getD b 0 0) documentKind) (ltb (getD b 1 0) documents)
+    (pick (eqb (getD b 0 0) varKind) (ltb (getD b 1 0) v)
+    (pick (eqb (getD b 0 0) stepKind) (ltb (getD b 1 0) 4 && testFits (getD b 2 0) (getD b 3 0))
+    (pick (eqb (getD b 0 0) newElementKind) (isIn 1 255 (getD b 1 0))
+    (pick (eqb (getD b 0 0) pickKind) (ltb (getD b 1 0) 3) true))))
+
+abbrev pub isBinder : (kind : ℕ) → Bool
+isBinder k = eqb k letKind || eqb k forKind
+
+-- of the record at the front: 2 where an operand is due and no byte is left; then 1, 5, 2, 4
+abbrev pub exprFault : (place records depth bound : ℕ) → (bytes : List ℕ) → Fault
+exprFault i n d v b =
+    orElse (unless (ltb 0 (length b)) (shortAt i))
+    (orElse (unless (isIn nilKind pickKind (getD b 0 0)) (kindAt i))
+    (orElse (unless (ltb n maxRecords && leb d maxDepth && not (isBinder (getD b 0 0) && leb maxBinders v)) (sizeAt i))
+    (orElse (unless (leb (1 + bodySize (getD b 0 0)) (length b)) (shortAt i)) (unless (bodyFits v b) (fieldAt i)))))
+
+-- READ: a refusal; or an expression, and the place, records and bytes behind it
+pub data Parsed : Type 0 where
+  ill : Fault → Parsed
+  parsed : Expr → (place records : ℕ) → (bytes : List ℕ) → Parsed
+
+abbrev pub thenParse : Parsed → (Expr → ℕ → ℕ → List ℕ → Parsed) → Parsed
+thenParse (ill x) next = ill x
+thenParse (parsed e i n b) next = next e i n b
+
+-- operands one after another; the second of two may bind one variable more
+abbrev pub one : (ℕ → ℕ → ℕ → List ℕ → Parsed) → (place records bound : ℕ) → (bytes : List ℕ) → (Expr → Expr) → Parsed
+one f i n v b make = thenParse (f i n v b) (λ (e : Expr) (j m : ℕ) (c : List ℕ). parsed (make e) j m c)
+
+abbrev pub two : (ℕ → ℕ → ℕ → List ℕ → Parsed) → (place records first second : ℕ) → (bytes : List ℕ) → (Expr → Expr → Expr) → Parsed
+two f i n v w b make =
+    thenParse (f i n v b) (λ (e : Expr) (j m : ℕ) (c : List ℕ). one f j m w c (make e))
+
+abbrev pub three : (ℕ → ℕ → ℕ → List ℕ → Parsed) → (place records bound : ℕ) → (bytes : List ℕ) → (Expr → Expr → Expr → Expr) → Parsed
+three f i n v b make =
+    thenParse (f i n v b) (λ (e : Expr) (j m : ℕ) (c : List ℕ). two f j m v v c (make e))
+
+-- the expression whose record, at place z, stands at the front of b; its operands, read by f, start at place i with the bytes c
+abbrev pub operands : (ℕ → ℕ → ℕ → List ℕ → Parsed) → (at place records bound : ℕ) → (bytes rest : List ℕ) → Parsed
+operands f z i n v b c =
+    pick (eqb (getD b 0 0) nilKind) (parsed (nil z) i n c)
+    (pick (eqb (getD b 0 0) documentKind) (parsed (document z (getD b 1 0)) i n c)
+    (pick (eqb (getD b 0 0) varKind) (parsed (var z (getD b 1 0)) i n c)
+    (pick (eqb (getD b 0 0) stepKind) (one f i n v c (step z (stepBy (getD b 1 0) (getD b 2 0) (getD b 3 0))))
+    (pick (eqb (getD b 0 0) bothKind) (two f i n v v c (both z))
+    (pick (eqb (getD b 0 0) letKind) (two f i n v (v + 1) c (letIn z))
+    (pick (eqb (getD b 0 0) forKind) (two f i n v (v + 1) c (forIn z))
+    (pick (eqb (getD b 0 0) ifKind) (three f i n v c (ifIn z))
+    (pick (eqb (getD b 0 0) newElementKind) (parsed (element z (getD b 1 0)) i n c)
+    (pick (eqb (getD b 0 0) newLeafKind) (parsed (leaf z (getD b 1 0)) i n c)
+    (pick (eqb (getD b 0 0) deleteKind) (one f i n v c (delete z))
+    (pick (eqb (getD b 0 0) insertKind) (two f i n v v c (insert z))
+    (one f i n v c (choose z (getD b 1 0) (getD b 2 0))))))))))))))
+
+-- the expression at the front; fuel: more than the depths left
+unfoldable pub parseFrom : ℕ → (depth place records bound : ℕ) → (bytes : List ℕ) → Parsed
+parseFrom zero d i n v b = ill (sizeAt i)
+parseFrom (suc k) d i n v b =
+    pick (isFine (exprFault i n d v b))
+    (operands (parseFrom k (d + 1)) i (i + (1 + bodySize (getD b 0 0))) (n + 1) v b (drop (1 + bodySize (getD b 0 0)) b))
+    (ill (exprFault i n d v b))
+
+-- 3 comes last, at the first spare byte
+abbrev pub whole : Parsed → Parsed
+whole (ill x) = ill x
+whole (parsed e i n b) = pick (eqb (length b) 0) (parsed e i n b) (ill (tailAt i))
+
+abbrev pub readScript : (bytes : List ℕ) → Parsed
+readScript b = whole (parseFrom (maxDepth + 2) 1 0 0 0 b)

@@ -1,0 +1,67 @@
+-- Document 01: what a test sees, which rows a step reaches, what pick keeps. Assumes nothing: these are definitions.
+use mathlib.Core.Bool.{Bool, true, false, _&&_, _||_, not}
+use mathlib.Core.List.{List, [], _∷_}
+use mathlib.Core.Option.{Option}
+use Prim.Native.Nat.{ℕ, zero, suc, _+_, _-_}
+use lib.Dec.{ltb, eqb}
+use Rattle.model.specs.Base.{pick, any}
+use Rattle.model.specs.Table.{Row, Table, rowAt, count, isThe}
+use Rattle.model.specs.Sweep.{through}
+use Rattle.model.specs.Script.{Step}
+
+-- LETTERS: what a test sees of a row, a leaf or an element's name; a leaf's value is not part of it
+pub data Letter : Type 0 where
+  leafLetter : Letter
+  named : ℕ → Letter
+
+abbrev pub letterOf : Row → Letter
+letterOf r = pick (r .isLeaf) leafLetter (named (r .tag))
+
+-- Test: 0 any node, 1 any element, 2 any leaf, 3 the named element
+abbrev pub admits : Step → Letter → Bool
+admits s leafLetter = eqb (s .test) 0 || eqb (s .test) 2
+admits s (named n) = eqb (s .test) 0 || eqb (s .test) 1 || (not (eqb (s .test) 2) && eqb n (s .name))
+
+-- AXES: parent, and ancestor
+abbrev pub parentIs : Table → (parent row : ℕ) → Bool
+parentIs x p i = isThe p (rowAt x i .parent)
+
+-- fuel: a row's number and one, parents being lower
+unfoldable pub isBelowFrom : ℕ → Table → (top row : ℕ) → Bool
+isBelowFrom zero x t i = false
+isBelowFrom (suc n) x t i = parentIs x t i || through (isBelowFrom n x t) (rowAt x i .parent)
+
+abbrev pub isBelow : Table → (top row : ℕ) → Bool
+isBelow x t i = isBelowFrom (suc i) x t i
+
+-- Axis: 0 child, 1 descendant, 2 parent, 3 ancestor
+abbrev pub reaches : Table → (axis from to : ℕ) → Bool
+reaches x a i j =
+    pick (eqb a 0) (parentIs x i j) (pick (eqb a 1) (isBelow x i j) (pick (eqb a 2) (parentIs x j i) (isBelow x j i)))
+
+-- A step answers its rows in rising number, each once
+abbrev pub isReached : Table → Step → (items : List ℕ) → (row : ℕ) → Bool
+isReached x s v j = admits s (letterOf (rowAt x j)) && any (λ (i : ℕ). reaches x (s .axis) i j) v
+
+unfoldable pub stepFrom : Table → Step → (items : List ℕ) → (row : ℕ) → ℕ → List ℕ
+stepFrom x s v j zero = []
+stepFrom x s v j (suc k) = pick (isReached x s v j) (j ∷ stepFrom x s v (suc j) k) (stepFrom x s v (suc j) k)
+
+abbrev pub stepped : Table → Step → (items : List ℕ) → List ℕ
+stepped x s v = stepFrom x s v 0 (count x)
+
+-- PICK. Relation: 0 equal, 1 less, 2 greater, on signed values: two's complement with its halves in order
+abbrev pub signedKey : (value : ℕ) → ℕ
+signedKey v = pick (ltb v 128) (v + 128) (v - 128)
+
+abbrev pub relates : (relation constant value : ℕ) → Bool
+relates r c v =
+    pick (eqb r 0) (eqb v c) (pick (eqb r 1) (ltb (signedKey v) (signedKey c)) (ltb (signedKey c) (signedKey v)))
+
+-- Pick keeps the leaves whose signed value stands in the relation to the constant; elements are dropped
+abbrev pub isPicked : Table → (relation constant row : ℕ) → Bool
+isPicked x r c i = rowAt x i .isLeaf && relates r c (rowAt x i .tag)
+
+unfoldable pub picked : Table → (relation constant : ℕ) → (items : List ℕ) → List ℕ
+picked x r c [] = []
+picked x r c (i ∷ is) = pick (isPicked x r c i) (i ∷ picked x r c is) (picked x r c is)

@@ -1,0 +1,109 @@
+-- Document 01, 'Stored plan': written, and read with number and place of a refusal. Assumes nothing: these are definitions.
+use mathlib.Core.Bool.{Bool, true, false, _&&_, _||_, not}
+use mathlib.Core.List.{List, [], _∷_, _++_}
+use mathlib.Core.Option.{Option, none, some}
+use Prim.Native.Nat.{ℕ, zero, suc, _+_, _*_, _/_, _%_}
+use lib.Dec.{ltb, leb, eqb}
+use lib.ListN.{length, getD, drop}
+use Rattle.model.specs.Base.{pick, isIn, any}
+use Rattle.model.specs.Limits.{maxRows, documents}
+use Rattle.model.specs.Refusal.{Fault, isFine, orElse, unless, kindAt, shortAt, fieldAt, sizeAt, linkAt}
+use Rattle.model.specs.Table.{Row, Table, empty, rowAt, count, isElement, isMarked, hasParent, withRow, withMark, tagFits, parentFits}
+
+-- KINDS: element and leaf (body: name or value, parent), mark (body: document, row)
+abbrev pub elementKind : ℕ
+elementKind = 0x11
+
+abbrev pub leafKind : ℕ
+leafKind = 0x12
+
+abbrev pub markKind : ℕ
+markKind = 0x13
+
+-- every stored record has four bytes
+abbrev pub recordSize : ℕ
+recordSize = 4
+
+-- two-byte numbers have the low byte first; parent 0xFFFF means none
+abbrev pub wordBytes : ℕ → List ℕ
+wordBytes n = n % 256 ∷ n / 256 ∷ []
+
+abbrev pub parentBytes : Option ℕ → List ℕ
+parentBytes none = 255 ∷ 255 ∷ []
+parentBytes (some p) = wordBytes p
+
+-- WRITTEN: rows in number order, then marks with rising document
+abbrev pub rowBytes : Row → List ℕ
+rowBytes r = pick (r .isLeaf) leafKind elementKind ∷ r .tag ∷ parentBytes (r .parent)
+
+unfoldable pub rowsBytes : List Row → List ℕ
+rowsBytes [] = []
+rowsBytes (r ∷ rs) = rowBytes r ++ rowsBytes rs
+
+abbrev pub markBytes : (document : ℕ) → Option ℕ → List ℕ
+markBytes d none = []
+markBytes d (some i) = markKind ∷ d ∷ wordBytes i
+
+unfoldable pub marksBytes : (document : ℕ) → List (Option ℕ) → List ℕ
+marksBytes d [] = []
+marksBytes d (m ∷ ms) = markBytes d m ++ marksBytes (suc d) ms
+
+abbrev pub stored : Table → List ℕ
+stored x = rowsBytes (x .rows) ++ marksBytes 0 (x .marks)
+
+-- READ: a refusal, or a table
+pub data Read : Type 0 where
+  bad : Fault → Read
+  got : Table → Read
+
+abbrev pub wordAt : (bytes : List ℕ) → (place : ℕ) → ℕ
+wordAt b i = getD b i 0 + 256 * getD b (i + 1) 0
+
+abbrev pub parentIn : (word : ℕ) → Option ℕ
+parentIn w = pick (eqb w 65535) none (some w)
+
+-- the row of the record at the front
+abbrev pub rowIn : (bytes : List ℕ) → Row
+rowIn b = record { isLeaf = eqb (getD b 0 0) leafKind; tag = getD b 1 0; parent = parentIn (wordAt b 2) }
+
+abbrev pub isMark : (bytes : List ℕ) → Bool
+isMark b = eqb (getD b 0 0) markKind
+
+-- one more than the last document that marks a row, 0 where none does
+unfoldable pub lastMarked : (from : ℕ) → List (Option ℕ) → ℕ
+lastMarked d [] = 0
+lastMarked d (none ∷ ms) = lastMarked (suc d) ms
+lastMarked d (some i ∷ ms) = pick (eqb (lastMarked (suc d) ms) 0) (suc d) (lastMarked (suc d) ms)
+
+-- 6: a row after a mark breaks the row order; the parent is a lower element
+abbrev pub rowLinks : Table → Row → Bool
+rowLinks x r = eqb (lastMarked 0 (x .marks)) 0 && parentFits x (count x) (r .parent)
+
+-- 6: documents rise; the row is an element without parent and without mark
+abbrev pub markLinks : Table → (document row : ℕ) → Bool
+markLinks x d i = leb (lastMarked 0 (x .marks)) d && isElement x i && not (hasParent (rowAt x i .parent)) && not (isMarked x i)
+
+-- of the record at the front, per record 1, 5, 2, 4, 6
+abbrev pub recordFault : Table → (place : ℕ) → (bytes : List ℕ) → Fault
+recordFault x i b =
+    orElse (unless (isIn elementKind markKind (getD b 0 0)) (kindAt i))
+    (orElse (unless (isMark b || ltb (count x) maxRows) (sizeAt i))
+    (orElse (unless (leb recordSize (length b)) (shortAt i))
+    (pick (isMark b)
+    (orElse (unless (ltb (getD b 1 0) documents) (fieldAt i)) (unless (markLinks x (getD b 1 0) (wordAt b 2)) (linkAt i)))
+    (orElse (unless (tagFits (rowIn b)) (fieldAt i)) (unless (rowLinks x (rowIn b)) (linkAt i))))))
+
+-- the table with the record at the front
+abbrev pub recorded : Table → (bytes : List ℕ) → Table
+recorded x b = pick (isMark b) (withMark x (getD b 1 0) (wordAt b 2)) (withRow x (rowIn b))
+
+-- record by record; fuel: more than there are bytes
+unfoldable pub readFrom : ℕ → Table → (place : ℕ) → (bytes : List ℕ) → Read
+readFrom zero x i b = got x
+readFrom (suc n) x i b =
+    pick (eqb (length b) 0) (got x)
+    (pick (isFine (recordFault x i b)) (readFrom n (recorded x b) (i + recordSize) (drop recordSize b)) (bad (recordFault x i b)))
+
+-- No bytes is the plan without rows
+abbrev pub readPlan : (bytes : List ℕ) → Read
+readPlan b = readFrom (length b + 1) empty 0 b

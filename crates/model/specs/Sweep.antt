@@ -1,0 +1,44 @@
+-- Document 01, 'Sweep': drops each row that is neither marked nor below a marked row, and renumbers. Assumes nothing: these are definitions.
+use mathlib.Core.Bool.{Bool, false, _||_}
+use mathlib.Core.List.{List, [], _∷_}
+use mathlib.Core.Option.{Option, none, some}
+use Prim.Native.Nat.{ℕ, zero, suc, _+_}
+use Rattle.model.specs.Base.{pick}
+use Rattle.model.specs.Table.{Row, Table, table, rowAt, isMarked, withParent}
+
+abbrev pub through : (ℕ → Bool) → Option ℕ → Bool
+through f none = false
+through f (some p) = f p
+
+-- marked, or below a marked row; fuel: a row's number and one, parents being lower
+unfoldable pub keptFrom : ℕ → Table → (row : ℕ) → Bool
+keptFrom zero x i = false
+keptFrom (suc n) x i = isMarked x i || through (keptFrom n x) (rowAt x i .parent)
+
+abbrev pub isKept : Table → (row : ℕ) → Bool
+isKept x i = keptFrom (suc i) x i
+
+-- kept rows among the next ones
+unfoldable pub keptBefore : Table → (from : ℕ) → ℕ → ℕ
+keptBefore x i zero = 0
+keptBefore x i (suc n) = pick (isKept x i) 1 0 + keptBefore x (suc i) n
+
+-- The others are renumbered in rising order
+abbrev pub newNumber : Table → (row : ℕ) → ℕ
+newNumber x i = keptBefore x 0 i
+
+abbrev pub renumbered : Table → Option ℕ → Option ℕ
+renumbered x none = none
+renumbered x (some i) = some (newNumber x i)
+
+unfoldable pub sweptRows : Table → (row : ℕ) → List Row → List Row
+sweptRows x i [] = []
+sweptRows x i (r ∷ rs) =
+    pick (isKept x i) (withParent r (renumbered x (r .parent)) ∷ sweptRows x (suc i) rs) (sweptRows x (suc i) rs)
+
+unfoldable pub sweptMarks : Table → List (Option ℕ) → List (Option ℕ)
+sweptMarks x [] = []
+sweptMarks x (m ∷ ms) = renumbered x m ∷ sweptMarks x ms
+
+abbrev pub swept : Table → Table
+swept x = table (sweptRows x 0 (x .rows)) (sweptMarks x (x .marks))

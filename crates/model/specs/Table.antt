@@ -1,0 +1,96 @@
+-- Document 01, 'The table': rows, marks, and when a table is well formed. Assumes nothing: these are definitions.
+use mathlib.Core.Bool.{Bool, true, false, _&&_, not}
+use mathlib.Core.List.{List, [], _∷_, _++_}
+use mathlib.Core.Option.{Option, none, some}
+use Prim.Native.Nat.{ℕ, suc}
+use lib.Dec.{ltb, leb, eqb}
+use lib.ListN.{length, getD, set, replicate}
+use Rattle.model.specs.Base.{pick, isIn, all, any}
+use Rattle.model.specs.Limits.{maxRows, documents}
+
+-- A row is an element with a name or a leaf with a value (two's complement in a byte); it has a parent or none
+pub record Row : Type 0 where
+  pub isLeaf : Bool
+  pub tag : ℕ
+  pub parent : Option ℕ
+
+-- Row numbers run 0, 1, 2 without a gap; each of eight documents marks at most one row
+pub record Table : Type 0 where
+  pub rows : List Row
+  pub marks : List (Option ℕ)
+
+abbrev pub table : List Row → List (Option ℕ) → Table
+table rs ms = record { rows = rs; marks = ms }
+
+-- the plan without rows
+abbrev pub empty : Table
+empty = table [] (replicate documents none)
+
+abbrev pub noRow : Row
+noRow = record { isLeaf = false; tag = 0; parent = none }
+
+abbrev pub rowAt : Table → (number : ℕ) → Row
+rowAt x i = getD (x .rows) i noRow
+
+abbrev pub count : Table → ℕ
+count x = length (x .rows)
+
+abbrev pub isElement : Table → (number : ℕ) → Bool
+isElement x i = ltb i (count x) && not (rowAt x i .isLeaf)
+
+abbrev pub hasParent : Option ℕ → Bool
+hasParent none = false
+hasParent (some p) = true
+
+abbrev pub isThe : ℕ → Option ℕ → Bool
+isThe i none = false
+isThe i (some p) = eqb p i
+
+abbrev pub isMarked : Table → (row : ℕ) → Bool
+isMarked x i = any (isThe i) (x .marks)
+
+-- a row more, a row without its parent, a mark more
+abbrev pub withRow : Table → Row → Table
+withRow x r = table (x .rows ++ (r ∷ [])) (x .marks)
+
+abbrev pub withParent : Row → Option ℕ → Row
+withParent r p = record { isLeaf = r .isLeaf; tag = r .tag; parent = p }
+
+abbrev pub linked : Table → (row : ℕ) → (parent : Option ℕ) → Table
+linked x i p = table (set (x .rows) i (withParent (rowAt x i) p)) (x .marks)
+
+abbrev pub withMark : Table → (document row : ℕ) → Table
+withMark x d i = table (x .rows) (set (x .marks) d (some i))
+
+-- WELL FORMED. A name is 1 to 255, a value one byte
+abbrev pub tagFits : Row → Bool
+tagFits r = pick (r .isLeaf) (leb (r .tag) 255) (isIn 1 255 (r .tag))
+
+-- every parent is an element with a lower number than its child
+abbrev pub parentFits : Table → (number : ℕ) → Option ℕ → Bool
+parentFits x i none = true
+parentFits x i (some p) = ltb p i && isElement x p
+
+unfoldable pub rowsFit : Table → (number : ℕ) → List Row → Bool
+rowsFit x i [] = true
+rowsFit x i (r ∷ rs) = tagFits r && parentFits x i (r .parent) && rowsFit x (suc i) rs
+
+-- a marked row is an element without parent
+abbrev pub markFits : Table → Option ℕ → Bool
+markFits x none = true
+markFits x (some i) = isElement x i && not (hasParent (rowAt x i .parent))
+
+-- that no other document marks
+unfoldable pub noneTwice : List (Option ℕ) → Bool
+noneTwice [] = true
+noneTwice (none ∷ ms) = noneTwice ms
+noneTwice (some i ∷ ms) = not (any (isThe i) ms) && noneTwice ms
+
+-- well formed but for the number of rows and of documents
+abbrev pub isTree : Table → Bool
+isTree x = rowsFit x 0 (x .rows) && all (markFits x) (x .marks) && noneTwice (x .marks)
+
+abbrev pub isWell : Table → Bool
+isWell x =
+    leb (count x) maxRows && rowsFit x 0 (x .rows) && eqb (length (x .marks)) documents && all (markFits x) (x .marks) &&
+    noneTwice (x .marks)
