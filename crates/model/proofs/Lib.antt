@@ -1,2 +1,4 @@
 pub mod BoolLaws
 pub mod CasesHold
+pub mod Words
+pub mod WordsMeet
