@@ -2,3 +2,9 @@ pub mod BoolLaws
 pub mod CasesHold
 pub mod Words
 pub mod WordsMeet
+pub mod RowLaws
+pub mod Labels
+pub mod Below
+pub mod All
+pub mod Shift
+pub mod Collect
