@@ -8,3 +8,5 @@ pub mod Below
 pub mod All
 pub mod Shift
 pub mod Collect
+pub mod Grows
+pub mod Twin
