@@ -1,4 +1,4 @@
--- The rows that pass a test, in rising number: what a step and a subtree compute. Two such lists agree where their tests do.
+-- The rows that pass a test, in rising number: what a step computes. Two such lists agree where their tests do.
 use mathlib.Core.Path.{_≡_, refl, sym, _∙_, ap, ap₂, subst}
 use mathlib.Core.Bool.{Bool, true, false}
 use mathlib.Core.List.{List, [], _∷_, _++_, map, append-nil, map-append}
@@ -8,8 +8,7 @@ use native.Mathlib.Omega.{arith}
 use Rattle.model.specs.Base.{pick}
 use Rattle.model.specs.Table.{Table, count}
 use Rattle.model.specs.Script.{Step}
-use Rattle.model.specs.Step.{isReached, isBelow, stepFrom}
-use Rattle.model.specs.Run.{descendantsFrom}
+use Rattle.model.specs.Step.{isReached, stepFrom}
 use Rattle.model.proofs.All.{All, nothing, also}
 use Rattle.model.proofs.Shift.{shift, shift-low, shift-high}
 
@@ -21,11 +20,6 @@ pub step-collect : (x : Table) (s : Step) (v : List ℕ) (i n : ℕ) → stepFro
 unfolding collect stepFrom
 step-collect x s v i zero = refl
 step-collect x s v i (suc n) = ap (λ (l : List ℕ). pick (isReached x s v i) (i ∷ l) l) (step-collect x s v (suc i) n)
-
-pub descendants-collect : (x : Table) (t i n : ℕ) → descendantsFrom x t i n ≡ collect (isBelow x t) i n
-unfolding collect descendantsFrom
-descendants-collect x t i zero = refl
-descendants-collect x t i (suc n) = ap (λ (l : List ℕ). pick (isBelow x t i) (i ∷ l) l) (descendants-collect x t (suc i) n)
 
 -- what passes the test
 pub collect-all : {P : ℕ → Type 0} (f : ℕ → Bool) (i n : ℕ) → ((j : ℕ) → j < i + n → f j ≡ true → P j) → All P (collect f i n)

@@ -10,3 +10,5 @@ pub mod Shift
 pub mod Collect
 pub mod Grows
 pub mod Twin
+pub mod Reach
+pub mod TwinLaws
