@@ -12,3 +12,4 @@ pub mod Grows
 pub mod Twin
 pub mod Reach
 pub mod TwinLaws
+pub mod TwinStep
