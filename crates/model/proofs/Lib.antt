@@ -13,3 +13,4 @@ pub mod Twin
 pub mod Reach
 pub mod TwinLaws
 pub mod TwinStep
+pub mod SimLaws
