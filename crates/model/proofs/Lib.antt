@@ -14,3 +14,4 @@ pub mod Reach
 pub mod TwinLaws
 pub mod TwinStep
 pub mod SimLaws
+pub mod TwinRow
