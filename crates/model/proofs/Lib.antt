@@ -15,3 +15,4 @@ pub mod TwinLaws
 pub mod TwinStep
 pub mod SimLaws
 pub mod TwinRow
+pub mod TwinCut

@@ -72,7 +72,7 @@ is-reach x s v j l (byDeep {i} k a b z) =
     (in-any (λ (i : ℕ). reaches x (s .axis) i j) k (subst (λ (n : ℕ). reaches x n i j ≡ true) (sym a) (is-below x l i j b)))
 
 -- descendants are what the step 'descendant, any node' reaches
-any-admits : (a : Letter) → admits anyBelow a ≡ true
+pub any-admits : (a : Letter) → admits anyBelow a ≡ true
 any-admits leafLetter = refl
 any-admits (named n) = refl
 

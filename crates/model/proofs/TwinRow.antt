@@ -67,7 +67,7 @@ module _ (W : World) (news : List Label) (s t : State) (T : Twin W news s t) whe
       shift-high (W .n) (W .m) (count (s .plan)) (omega (arith, one-count W news s t T)) ∙
       omega (arith, one-count W news s t T, two-count W news s t T)
 
-  row-bound : (i : ℕ) → i < count (s .plan) → φ W i < count (t .plan)
+  pub row-bound : (i : ℕ) → i < count (s .plan) → φ W i < count (t .plan)
   row-bound i h = go (shift-cases (W .n) (W .m) i)
     where
       go : ((i < W .n) × (φ W i ≡ i)) ⊎ ((W .n ≤ i) × (φ W i ≡ i + W .m)) → φ W i < count (t .plan)
@@ -137,7 +137,7 @@ module _ (W : World) (news : List Label) (s t : State) (T : Twin W news s t) whe
   abbrev faultBy : (place : ℕ) → (rows history : Bool) → Fault
   faultBy z a b = orElse (unless a (tableAt z)) (unless b (historyAt z))
 
-  same-length : length (t .history) ≡ length (s .history)
+  pub same-length : length (t .history) ≡ length (s .history)
   same-length = ap length (T .histories) ∙ length-map (s .history) (shiftRecord (W .n) (W .m))
 
   room-cases : (z : ℕ) → Room z
