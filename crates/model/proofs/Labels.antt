@@ -11,6 +11,7 @@ use lib.Seq.{getD-append-seam}
 use Rattle.model.specs.Base.{pick}
 use Rattle.model.specs.Table.{Row, Table, rowAt, count, withRow, withParent, linked}
 use Rattle.model.specs.Step.{Letter, leafLetter, named, letterOf}
+use Rattle.model.proofs.BoolLaws.{pick-false}
 use Rattle.model.proofs.RowLaws.{parent-row, count-with, row-new, row-old, row-cases, count-linked, same-linked, parent-cut}
 use Rattle.model.proofs.Words.{Word, Root, first, areElements, isProper}
 
@@ -49,6 +50,19 @@ fit-proper {ls} {x} f i h = go (labelAt ls i .word) (f .words i h)
     go : (w : Word) → EndsIn w (letterOf (rowAt x i)) → isProper w ≡ true
     go [] e = refl
     go (a ∷ w) e = e .1
+
+-- below an element every letter so far is an element's
+pub fit-elements : {ls : List Label} {x : Table} → Fit ls x → (i : ℕ) → i < count x → rowAt x i .isLeaf ≡ false →
+    areElements (labelAt ls i .word) ≡ true
+unfolding areElements
+fit-elements {ls} {x} f i h e = go (labelAt ls i .word) (f .words i h)
+  where
+    letter : letterOf (rowAt x i) ≡ named (rowAt x i .tag)
+    letter = pick-false (rowAt x i .isLeaf) leafLetter (named (rowAt x i .tag)) e
+
+    go : (w : Word) → EndsIn w (letterOf (rowAt x i)) → areElements w ≡ true
+    go [] k = refl
+    go (a ∷ w) k = subst (λ (b : Letter). areElements (b ∷ w) ≡ true) (sym (k .0 ∙ letter)) (k .1)
 
 -- CUT: what has no parent needs none
 pub fit-cut : {ls : List Label} {x : Table} → Fit ls x → (i : ℕ) → i < count x → Fit ls (linked x i none)

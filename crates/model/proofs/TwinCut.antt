@@ -26,9 +26,8 @@ use Rattle.model.proofs.Reach.{any-admits}
 use Rattle.model.proofs.All.{All, nothing, also, all-append, all-imp}
 use Rattle.model.proofs.Shift.{shiftParent, shiftRow, shiftRecord, shift-injective}
 use Rattle.model.proofs.Twin.{Side, Script, SideFits, World, Seen, Changed, Item, Kept, Named, Good, φ, ones, Twin, Valued, Vals, Sim, alike}
-use Rattle.model.proofs.TwinLaws.{label-side, label-across, vals-two, Alike, valued-alike, alike-row}
+use Rattle.model.proofs.TwinLaws.{label-side, label-across, Alike, row-bound, same-length, valued-alike}
 use Rattle.model.proofs.SimLaws.{sim-gives}
-use Rattle.model.proofs.TwinRow.{row-bound, same-length}
 
 -- CHANGED: a row on p is changed with all below it where p and what is below p are modified; rows below it where the latter is
 pub changed-at : (c : Script) (l : Label) (p : Path) → OnPath (c .marks) p l → c .modified p → c .modified (p ▸ anyBelow) → Changed c l

@@ -8,7 +8,7 @@ use mathlib.Core.Option.{Option, none, some, Option·none-ne-some, Option·some-
 use Prim.Native.Nat.{ℕ, _+_, _-_, _<_, _≤_}
 use native.Mathlib.Omega.{arith}
 use native.Mathlib.Decide.{decLt}
-use lib.ListN.{length, getD, length-append, List·getD-append}
+use lib.ListN.{length, getD, length-append, length-map, List·getD-append}
 use lib.Seq.{getD-append-add}
 use Rattle.model.specs.Table.{Row, Table, rowAt, count}
 use Rattle.model.specs.Script.{Step}
@@ -21,7 +21,7 @@ use Rattle.model.proofs.Below.{Below, below-label, OnPath, on-child, on
 use Rattle.model.proofs.RowLaws.{parent-row}
 use Rattle.model.proofs.Reach.{Reach, byChild, byDeep}
 use Rattle.model.proofs.All.{All, all-imp, all-map, all-in}
-use Rattle.model.proofs.Shift.{shift, shiftParent, shiftRow, shift-low, shift-high, shift-cases, shift-injective}
+use Rattle.model.proofs.Shift.{shift, shiftParent, shiftRow, shiftRecord, shift-low, shift-high, shift-cases, shift-injective}
 use Rattle.model.proofs.Twin.{Side, Script, SideFits, World, Own, Seen, Item, Good, φ, ones, twos, Twin, Valued, Vals, Sim, both, alike, full}
 
 pub in-step : (s : Step) {p : Path} {r : List Path} → In p r → In (p ▸ s) (withStep s r)
@@ -99,6 +99,21 @@ module _ (W : World) where
 
     pub two-count : count (t .plan) ≡ W .n + W .m + length news
     two-count = sym (T .two .fit .size) ∙ twos-length news
+
+    pub count-across : φ W (count (s .plan)) ≡ count (t .plan)
+    count-across =
+        shift-high (W .n) (W .m) (count (s .plan)) (omega (arith, one-count)) ∙
+        omega (arith, one-count, two-count)
+
+    pub row-bound : (i : ℕ) → i < count (s .plan) → φ W i < count (t .plan)
+    row-bound i h = go (shift-cases (W .n) (W .m) i)
+      where
+        go : ((i < W .n) × (φ W i ≡ i)) ⊎ ((W .n ≤ i) × (φ W i ≡ i + W .m)) → φ W i < count (t .plan)
+        go (inl (a, e)) = omega (arith, one-count, two-count)
+        go (inr (a, e)) = omega (arith, one-count, two-count)
+
+    pub same-length : length (t .history) ≡ length (s .history)
+    same-length = ap length (T .histories) ∙ length-map (s .history) (shiftRecord (W .n) (W .m))
 
     pub valued-alike : (r : List Path) (i : ℕ) → Valued W r news i → Alike s i (φ W i)
     valued-alike r i k =

@@ -24,7 +24,7 @@ use Rattle.model.proofs.All.{All, nothing, also, all-append, all-imp}
 use Rattle.model.proofs.Grows.{Grows}
 use Rattle.model.proofs.Shift.{shift, shiftParent, shiftRow, shiftRecord, shift-high, shift-cases}
 use Rattle.model.proofs.Twin.{Side, Script, SideFits, World, Touched, Kept, Named, Good, φ, ones, twos, Twin, Full, stopped, Sim, alike, full}
-use Rattle.model.proofs.TwinLaws.{label-across, Alike, one-count, two-count, clear-two, alike-row}
+use Rattle.model.proofs.TwinLaws.{label-across, Alike, one-count, two-count, count-across, row-bound, same-length, clear-two, alike-row}
 use Rattle.model.proofs.SimLaws.{full-grows}
 
 -- ONE STATE
@@ -62,18 +62,6 @@ good-row c d F news s g r l n clear h =
 
 -- BOTH STATES
 module _ (W : World) (news : List Label) (s t : State) (T : Twin W news s t) where
-  pub count-across : φ W (count (s .plan)) ≡ count (t .plan)
-  count-across =
-      shift-high (W .n) (W .m) (count (s .plan)) (omega (arith, one-count W news s t T)) ∙
-      omega (arith, one-count W news s t T, two-count W news s t T)
-
-  pub row-bound : (i : ℕ) → i < count (s .plan) → φ W i < count (t .plan)
-  row-bound i h = go (shift-cases (W .n) (W .m) i)
-    where
-      go : ((i < W .n) × (φ W i ≡ i)) ⊎ ((W .n ≤ i) × (φ W i ≡ i + W .m)) → φ W i < count (t .plan)
-      go (inl (a, e)) = omega (arith, one-count W news s t T, two-count W news s t T)
-      go (inr (a, e)) = omega (arith, one-count W news s t T, two-count W news s t T)
-
   -- the parent of a shifted row is a shifted parent
   parent-shift : (q : Option ℕ) (j : ℕ) → shiftParent (W .n) (W .m) q ≡ some j → (p : ℕ) × (q ≡ some p) × (φ W p ≡ j)
   parent-shift none j e = absurd (Option·none-ne-some j e)
@@ -92,7 +80,7 @@ module _ (W : World) (news : List Label) (s t : State) (T : Twin W news s t) whe
             (j < count (t .plan)) × (rowAt (t .plan) j .isLeaf ≡ false) × (l ≡ grow (labelAt (twos W news) j) (letterOf r))
         link j e =
             let (p, f, a) = parent-like j e in
-            let b : φ W p < count (t .plan) = row-bound p (a .0) in
+            let b : φ W p < count (t .plan) = row-bound W news s t T p (a .0) in
             let k : (p < count (s .plan)) × (rowAt (s .plan) p .isLeaf ≡ false) × (l ≡ grow (labelAt (ones W news) p) (letterOf r)) = n .link p f in (
               subst (λ (i : ℕ). i < count (t .plan)) (a .2) b,
               ap (λ (r : Row). r .isLeaf) (alike-row W news s t T p j a) ∙ k .1,
@@ -108,10 +96,10 @@ module _ (W : World) (news : List Label) (s t : State) (T : Twin W news s t) whe
     new-alike : (i : ℕ) → (W .one .hidden i → ⊥) → (i < count (s .plan)) ⊎ (i ≡ count (s .plan)) →
         rowAt (withRow (t .plan) (shiftRow (W .n) (W .m) r)) (φ W i) ≡ shiftRow (W .n) (W .m) (rowAt (withRow (s .plan) r) i)
     new-alike i c (inl h) =
-        row-old (t .plan) (shiftRow (W .n) (W .m) r) (φ W i) (row-bound i h) ∙ T .alike i h c ∙
+        row-old (t .plan) (shiftRow (W .n) (W .m) r) (φ W i) (row-bound W news s t T i h) ∙ T .alike i h c ∙
         ap (shiftRow (W .n) (W .m)) (sym (row-old (s .plan) r i h))
     new-alike i c (inr h) =
-        ap (rowAt (withRow (t .plan) (shiftRow (W .n) (W .m) r))) (ap (φ W) h ∙ count-across) ∙
+        ap (rowAt (withRow (t .plan) (shiftRow (W .n) (W .m) r))) (ap (φ W) h ∙ count-across W news s t T) ∙
         row-new (t .plan) (shiftRow (W .n) (W .m) r) ∙
         ap (shiftRow (W .n) (W .m)) (sym (ap (rowAt (withRow (s .plan) r)) h ∙ row-new (s .plan) r))
 
@@ -124,7 +112,7 @@ module _ (W : World) (news : List Label) (s t : State) (T : Twin W news s t) whe
           touched = all-append (T .touched) (also k nothing);
           alike = λ (i : ℕ) (h : i < count (withRow (s .plan) r)) (c : W .one .hidden i → ⊥). new-alike i c (row-cases (s .plan) r i h);
           histories =
-              ap₂ (λ (h : List Record) (i : ℕ). h ++ (made (shiftRow (W .n) (W .m) r) i ∷ [])) (T .histories) (sym count-across) ∙
+              ap₂ (λ (h : List Record) (i : ℕ). h ++ (made (shiftRow (W .n) (W .m) r) i ∷ [])) (T .histories) (sym (count-across W news s t T)) ∙
               sym (map-append (shiftRecord (W .n) (W .m)) (s .history) (made r (count (s .plan)) ∷ []));
         }
 
@@ -137,13 +125,10 @@ module _ (W : World) (news : List Label) (s t : State) (T : Twin W news s t) whe
   abbrev faultBy : (place : ℕ) → (rows history : Bool) → Fault
   faultBy z a b = orElse (unless a (tableAt z)) (unless b (historyAt z))
 
-  pub same-length : length (t .history) ≡ length (s .history)
-  same-length = ap length (T .histories) ∙ length-map (s .history) (shiftRecord (W .n) (W .m))
-
   room-cases : (z : ℕ) → Room z
   room-cases z =
       go (ltb (count (s .plan)) maxRows) (ltb (count (t .plan)) maxRows) (ltb (length (s .history)) maxHistory) refl refl refl
-      (ap (λ (k : ℕ). ltb k maxHistory) same-length)
+      (ap (λ (k : ℕ). ltb k maxHistory) (same-length W news s t T))
     where
       go : (a b h : Bool) → ltb (count (s .plan)) maxRows ≡ a → ltb (count (t .plan)) maxRows ≡ b → ltb (length (s .history)) maxHistory ≡ h →
           ltb (length (t .history)) maxHistory ≡ ltb (length (s .history)) maxHistory → Room z

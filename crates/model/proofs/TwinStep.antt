@@ -20,7 +20,7 @@ use Rattle.model.proofs.Reach.{Reach, reach-is, is-reach, descendants-s
 use Rattle.model.proofs.All.{All, nothing, also, all-imp, all-in}
 use Rattle.model.proofs.Shift.{shift, shift-cases, shift-injective}
 use Rattle.model.proofs.Twin.{World, Item, φ, ones, twos, Twin, Valued, Vals}
-use Rattle.model.proofs.TwinLaws.{item-clear, reach-item, ones-length, vals-two, Alike, one-count, two-count, valued-alike, like-of, alike-parent, parent-alike, alike-letter}
+use Rattle.model.proofs.TwinLaws.{item-clear, reach-item, ones-length, vals-two, Alike, one-count, two-count, row-bound, valued-alike, like-of, alike-parent, parent-alike, alike-letter}
 
 module _ (W : World) (news : List Label) (s t : State) (T : Twin W news s t) (r : List Path) (u : Step) (down : isUp u ≡ false)
     (acc : (p : Path) → In p r → W .script .accessed (p ▸ u)) (v : List ℕ) (vs : Vals W r news v) where
@@ -62,14 +62,10 @@ module _ (W : World) (news : List Label) (s t : State) (T : Twin W news s t) (r 
           is-reach (t .plan) u (map (φ W) v) (φ W j) (λ (i p : ℕ) (e : rowAt (t .plan) i .parent ≡ some p). T .two .fit .links i p e .0)
           (to-two j (φ W j) (h, item-clear (W .script) (W .one) (W .oneFits) news (withStep u r) j (one-item j k), refl) k)
 
-      bound : ((j < W .n) × (φ W j ≡ j)) ⊎ ((W .n ≤ j) × (φ W j ≡ j + W .m)) → φ W j < count (t .plan)
-      bound (inl (a, e)) = omega (arith, two-count W news s t T)
-      bound (inr (a, e)) = omega (arith, one-count W news s t T, two-count W news s t T)
-
       back : isReached (t .plan) u (map (φ W) v) (φ W j) ≡ true → isReached (s .plan) u v j ≡ true
       back e =
           let k : Reach (t .plan) u (map (φ W) v) (φ W j) = reach-is (t .plan) u (map (φ W) v) (φ W j) down e in
-          let (i, a) = like-of W news s t T (φ W j) (bound (shift-cases (W .n) (W .m) j)) (two-clear (φ W j) k) in
+          let (i, a) = like-of W news s t T (φ W j) (row-bound W news s t T j h) (two-clear (φ W j) k) in
           is-reach (s .plan) u v j (λ (i p : ℕ) (e : rowAt (s .plan) i .parent ≡ some p). T .one .fit .links i p e .0)
           (subst (λ (i : ℕ). Reach (s .plan) u v i) (shift-injective (W .n) (W .m) i j (a .2)) (to-one (φ W j) i a k))
 
