@@ -27,17 +27,17 @@ grows-less h (keeps k) =
     let l : _ ≤ _ = le-trans h k in
     keeps l
 
-grows-gives : (v : List ℕ) (s : State) → Grows (count (s .plan)) (gives v s)
+pub grows-gives : (v : List ℕ) (s : State) → Grows (count (s .plan)) (gives v s)
 grows-gives v s =
     let k : count (s .plan) ≤ count (s .plan) = omega arith in
     keeps k
 
-grows-then : {c : ℕ} {o : Out} (next : List ℕ → State → Out) → Grows c o → ((v : List ℕ) (s : State) → Grows (count (s .plan)) (next v s)) →
+pub grows-then : {c : ℕ} {o : Out} (next : List ℕ → State → Out) → Grows c o → ((v : List ℕ) (s : State) → Grows (count (s .plan)) (next v s)) →
     Grows c (andThen o next)
 grows-then next stops h = stops
 grows-then next (keeps {v} {s} k) h = grows-less k (h v s)
 
-grows-row : {c : ℕ} {o : Out} (next : State → Out) → Grows c o → ((s : State) → Grows (count (s .plan)) (next s)) → Grows c (thenRow o next)
+pub grows-row : {c : ℕ} {o : Out} (next : State → Out) → Grows c o → ((s : State) → Grows (count (s .plan)) (next s)) → Grows c (thenRow o next)
 grows-row next stops h = stops
 grows-row next (keeps {s = s} k) h = grows-less k (h s)
 
@@ -50,7 +50,7 @@ grows-for {c} z v next (keeps {v = w} {s} k) h = go (ltb maxItems (length v + le
     go true = stops
     go false = grows-less k (h (v ++ w) s)
 
-grows-pick : {c : ℕ} {o p : Out} (t : Bool) → Grows c o → Grows c p → Grows c (pick t o p)
+pub grows-pick : {c : ℕ} {o p : Out} (t : Bool) → Grows c o → Grows c p → Grows c (pick t o p)
 grows-pick true a b = a
 grows-pick false a b = b
 
@@ -71,7 +71,7 @@ grows-cut z (i ∷ is) s = go (rowAt (s .plan) i .parent) (λ (t : State). grows
         let k : count (s .plan) ≤ count (linked (s .plan) i none) = omega (arith, count-linked (s .plan) i none) in
         grows-pick (ltb (length (s .history)) maxHistory) (grows-less k (h (cutRow s i p))) stops
 
-grows-each : (z : ℕ) (x : Table) (t g : ℕ) (is : List ℕ) (cs : List Copied) (s : State) → Grows (count (s .plan)) (copyEach z x t g is cs s)
+pub grows-each : (z : ℕ) (x : Table) (t g : ℕ) (is : List ℕ) (cs : List Copied) (s : State) → Grows (count (s .plan)) (copyEach z x t g is cs s)
 unfolding copyEach
 grows-each z x t g [] cs s = grows-gives [] s
 grows-each z x t g (i ∷ is) cs s =

@@ -16,3 +16,4 @@ pub mod TwinStep
 pub mod SimLaws
 pub mod TwinRow
 pub mod TwinCut
+pub mod TwinCopy
