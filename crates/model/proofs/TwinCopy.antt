@@ -211,3 +211,68 @@ module _ (W : World) where
 
         older : (c : Copied) → CopyFits news u c → CopyFits (news ++ (l ∷ [])) (withMade u row) c
         older c k e = base-more news u q U row l (c .new) (k e)
+
+    -- the subtrees of a value's rows
+    all-sim : (r : List Path) → ((p : Path) → In p r → W .script .accessed (p ▸ anyBelow)) → (v : List ℕ) → Vals W r news₀ v →
+        (news : List Label) (u q : State) → Twin W news u q → Base news u g →
+        Sim W [] news (copyAll z (s₀ .plan) v g u) (copyAll z (t₀ .plan) (map (φ W) v) (φ W g) q)
+    unfolding copyAll
+    all-sim r acc [] nothing news u q U b = sim-gives W [] news [] u q U nothing
+    all-sim r acc (i ∷ is) (also k a) news u q U b =
+        subst
+        (λ (l : List ℕ).
+        Sim W [] news (thenRow (copyEach z (s₀ .plan) i g (subtree (s₀ .plan) i) [] u) (λ (u : State). copyAll z (s₀ .plan) is g u))
+        (thenRow (copyEach z (t₀ .plan) (φ W i) (φ W g) l [] q) (λ (u : State). copyAll z (t₀ .plan) (map (φ W) is) (φ W g) u)))
+        (subtree-alike W news₀ s₀ t₀ T₀ r acc i k)
+        (each-sim i (subtree (s₀ .plan) i) (subtree-clear W news₀ s₀ t₀ T₀ r acc i k) news [] u q U b nothing
+        (λ (u : State). copyAll z (s₀ .plan) is g u) (λ (u : State). copyAll z (t₀ .plan) (map (φ W) is) (φ W g) u)
+        (λ (news : List Label) (u q : State) (U : Twin W news u q) (b : Base news u g). all-sim r acc is a news u q U b)
+        (λ (u : State). grows-copy z (s₀ .plan) is g u))
+
+  -- THE OUTCOME of an insert of a value on r into a value on q
+  module _ (news : List Label) (s t : State) (T : Twin W news s t) (r q : List Path)
+      (acc : (p : Path) → In p r → W .script .accessed (p ▸ anyBelow)) (mods : (p : Path) → In p q → W .script .modified (p ▸ anyBelow)) where
+    element-across : (g : ℕ) → Alike W s g (φ W g) → isElement (t .plan) (φ W g) ≡ isElement (s .plan) g
+    element-across g a =
+        ap₂ (λ (b c : Bool). b && not c)
+        (lt-ltb (φ W g) (count (t .plan)) (row-bound W news s t T g (a .0)) ∙ sym (lt-ltb g (count (s .plan)) (a .0)))
+        (ap (λ (r : Row). r .isLeaf) (T .alike g (a .0) (a .1)))
+
+    target-base : (g : ℕ) → Valued W q news g → isElement (s .plan) g ≡ true → Base news s g
+    target-base g k e =
+        record {
+          bound = a .0;
+          isElement = not-true (rowAt (s .plan) g .isLeaf) (and-right (ltb g (count (s .plan))) (not (rowAt (s .plan) g .isLeaf)) e);
+          clear = a .1;
+          grows = λ (b : Letter). grows b (k .1);
+        }
+      where
+        a : Alike W s g (φ W g)
+        a = valued-alike W news s t T q g k
+
+        grows : (b : Letter) → Item (W .script) q (labelAt (ones W news) g) → Touched (W .script) (grow (labelAt (ones W news) g) b)
+        grows b (inl o) = inl o
+        grows b (inr (p, i, c, o)) = inr (changed-below (W .script) (labelAt (ones W news) g) b p o (mods p i))
+
+    pub insert-sim : (z : ℕ) (v w : List ℕ) → Vals W r news v → Vals W q news w →
+        Sim W [] news (inserted z v w s) (inserted z (map (φ W) v) (map (φ W) w) t)
+    insert-sim z v [] a b = alike
+    insert-sim z v (g ∷ []) a (also k b) =
+        subst
+        (λ (c : Bool).
+        Sim W [] news (pick (isElement (s .plan) g) (copyAll z (s .plan) v g s) (stop (targetAt z)))
+        (pick c (copyAll z (t .plan) (map (φ W) v) (φ W g) t) (stop (targetAt z))))
+        (sym (element-across g (valued-alike W news s t T q g k))) (go (isElement (s .plan) g) refl)
+      where
+        go : (c : Bool) → isElement (s .plan) g ≡ c →
+            Sim W [] news (pick c (copyAll z (s .plan) v g s) (stop (targetAt z)))
+            (pick c (copyAll z (t .plan) (map (φ W) v) (φ W g) t) (stop (targetAt z)))
+        go true e = all-sim news s t T z g r acc v a news s t T (target-base g k e)
+        go false e = alike
+    insert-sim z v (g ∷ h ∷ w) a b =
+        subst₂
+        (λ (c d : Bool).
+        Sim W [] news (pick (c && isElement (s .plan) g) (copyAll z (s .plan) v g s) (stop (targetAt z)))
+        (pick (d && isElement (t .plan) (φ W g)) (copyAll z (t .plan) (map (φ W) v) (φ W g) t) (stop (targetAt z))))
+        (sym (ne-eqb (suc (suc (length w))) 1 (λ (e : suc (suc (length w)) ≡ 1). omega arith)))
+        (sym (ne-eqb (suc (suc (length (map (φ W) w)))) 1 (λ (e : suc (suc (length (map (φ W) w))) ≡ 1). omega arith))) alike
