@@ -17,3 +17,5 @@ pub mod SimLaws
 pub mod TwinRow
 pub mod TwinCut
 pub mod TwinCopy
+pub mod SimOperands
+pub mod Simulation

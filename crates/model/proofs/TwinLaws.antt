@@ -1,5 +1,5 @@
 -- What follows from a twin: counts, labels, and that rows which are not hidden have their like in the other state.
-use mathlib.Core.Path.{_≡_, refl, sym, _∙_, ap, subst}
+use mathlib.Core.Path.{_≡_, refl, sym, _∙_, ap, ap₂, subst}
 use mathlib.Core.Bool.{Bool, true, false}
 use mathlib.Core.Logic.{_⊎_, inl, inr}
 use mathlib.Core.List.{List, [], _∷_, _++_, map, append-assoc}
@@ -16,7 +16,7 @@ use Rattle.model.specs.Step.{Letter, letterOf, admits}
 use Rattle.model.specs.Run.{State, Out, stop, gives}
 use Rattle.model.specs.Paths.{Path, _▸_, withStep}
 use Rattle.model.proofs.Words.{Word, Root, first, Grown}
-use Rattle.model.proofs.Labels.{Label, label, grow, labelAt, Fit}
+use Rattle.model.proofs.Labels.{Label, label, grow, labelAt, Fit, label-new}
 use Rattle.model.proofs.Below.{Below, below-label, OnPath, on-child, on-below}
 use Rattle.model.proofs.RowLaws.{parent-row}
 use Rattle.model.proofs.Reach.{Reach, byChild, byDeep}
@@ -114,6 +114,12 @@ module _ (W : World) where
 
     pub same-length : length (t .history) ≡ length (s .history)
     same-length = ap length (T .histories) ∙ length-map (s .history) (shiftRecord (W .n) (W .m))
+
+    -- the label of the next row
+    pub label-last : (l : Label) → labelAt (ones W (news ++ (l ∷ []))) (count (s .plan)) ≡ l
+    label-last l =
+        ap₂ (λ (ls : List Label) (i : ℕ). labelAt ls i) (sym (append-assoc (W .one .labels) news (l ∷ []))) (sym (T .one .fit .size)) ∙
+        label-new (ones W news) l
 
     pub valued-alike : (r : List Path) (i : ℕ) → Valued W r news i → Alike s i (φ W i)
     valued-alike r i k =
