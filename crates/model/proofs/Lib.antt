@@ -19,3 +19,4 @@ pub mod TwinCut
 pub mod TwinCopy
 pub mod SimOperands
 pub mod Simulation
+pub mod Start
