@@ -20,3 +20,5 @@ pub mod TwinCopy
 pub mod SimOperands
 pub mod Simulation
 pub mod Start
+pub mod Apart
+pub mod Worlds

@@ -24,16 +24,11 @@ use Rattle.model.proofs.All.{All, nothing, also, all-imp, all-in}
 use Rattle.model.proofs.Grows.{Grows, grows-row, grows-each, grows-copy}
 use Rattle.model.proofs.Shift.{shift, shiftParent, shiftRow, shift-injective}
 use Rattle.model.proofs.Twin.{World, Script, Own, Changed, Item, Touched, φ, ones, Twin, Valued, Vals, Sim, alike}
-use Rattle.model.proofs.TwinLaws.{item-clear, Alike, one-count, count-across, row-bound, label-last, valued-alike}
+use Rattle.model.proofs.TwinLaws.{touched-grow, Alike, one-count, count-across, row-bound, label-last, valued-alike}
 use Rattle.model.proofs.TwinStep.{subtree-alike, subtree-clear}
 use Rattle.model.proofs.TwinRow.{new-sim}
 use Rattle.model.proofs.TwinCut.{changed-below}
 use Rattle.model.proofs.SimLaws.{label-more, sim-gives, sim-more}
-
--- what is below a touched row is touched
-touched-grow : (c : Script) (l : Label) (a : Letter) → Touched c l → Touched c (grow l a)
-touched-grow c l a (inl o) = inl o
-touched-grow c l a (inr k) = inr (λ (w : Word) (g : Grown (a ∷ l .word) w). k w (grown-trans (more same) g))
 
 module _ (W : World) where
   -- COPIES, numbered for the second state
