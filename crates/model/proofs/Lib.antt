@@ -21,4 +21,6 @@ pub mod SimOperands
 pub mod Simulation
 pub mod Start
 pub mod Apart
-pub mod Worlds
+pub mod Alone
+pub mod Beside
+pub mod FreeCommutes
