@@ -3,6 +3,7 @@ use mathlib.Core.Path.{_≡_, refl, sym, _∙_, ap, ap₂, subst, subst₂}
 use mathlib.Core.Bool.{Bool, true, false, _&&_, true≢false, and-false}
 use mathlib.Core.Logic.{_⊎_, inl, inr}
 use mathlib.Core.List.{List, [], _∷_, _++_, map}
+use mathlib.Core.List.{List·Memᴰ as In}
 use mathlib.Core.Option.{Option, none, some}
 use Prim.Native.Nat.{ℕ, zero, suc, _+_, _-_, _<_, _≤_}
 use native.Mathlib.Omega.{arith}
@@ -12,6 +13,7 @@ use lib.ListN.{length, getD}
 use borrow.Author.Tests.{lt-ltb, le-ltb}
 use Rattle.model.specs.Base.{pick}
 use Rattle.model.specs.Limits.{maxRows, documents}
+use Rattle.model.specs.Refusal.{Fault}
 use Rattle.model.specs.Table.{Row, Table, rowAt, count, withParent, isWell}
 use Rattle.model.specs.Script.{Expr}
 use Rattle.model.specs.History.{Record}
@@ -30,30 +32,75 @@ use Rattle.model.proofs.Apart.{Away, Apart, free-apart}
 use Rattle.model.proofs.Alone.{start-twin, scriptOf, aloneSide, alone}
 use Rattle.model.proofs.Beside.{Left, left-count, beside, unlinked, Settled, made-stays, plan-settled}
 
--- MATCHING is the shift of either script's rows past the other's
-module _ (n a b : ℕ) where
-  matched-low : (i : ℕ) → i < n → matched n a b i ≡ i
-  matched-low i h = rw (lt-ltb i n h)
-
-  matched-first : (i : ℕ) → i < n + a → matched n a b i ≡ shift n b i
-  matched-first i h = go (decLt i n)
-    where
-      go : Dec (i < n) → matched n a b i ≡ shift n b i
-      go (yes k) = rw (lt-ltb i n k)
-      go (no k) = rw (le-ltb i n (omega arith), lt-ltb i (n + a) h)
-
-  matched-second : (i : ℕ) → matched n a b (shift n a i) ≡ i
-  matched-second i = go (decLt i n)
-    where
-      go : Dec (i < n) → matched n a b (shift n a i) ≡ i
-      go (yes k) = ap (matched n a b) (shift-low n a i k) ∙ matched-low i k
-      go (no k) =
-          ap (matched n a b) (shift-high n a i (omega arith)) ∙
-          rw (le-ltb (i + a) n (omega arith), le-ltb (i + a) (n + a) (omega arith)) (omega arith)
-
--- OUTCOMES of a simulated script that ends: the other run ends too, or does not fit
+-- OUTCOMES of a simulated script: where the first run ends, the second ends too, or has no room
 module _ (W : World) (r : List Path) where
-  pub Ended : (o : Out) → List ℕ → State → Type 0
+  abbrev Ended : Out → List ℕ → State → Type 0
   Ended o v s =
-      ((t : State) × ((news : List Label) × ((o ≡ gives (map (φ W) v) t) × Twin W news s t × Vals W r news v))) ⊎
+      ((t : State) × (news : List Label) × (o ≡ gives (map (φ W) v) t) × Twin W news s t × Vals W r news v) ⊎
       ((ends o ≡ false) × (0 < W .m) × (maxRows < count (s .plan) + W .m))
+
+  gives-items : {v w : List ℕ} {s t : State} → gives v s ≡ gives w t → v ≡ w
+  gives-items e = cc
+
+  gives-state : {v w : List ℕ} {s t : State} → gives v s ≡ gives w t → s ≡ t
+  gives-state e = cc
+
+  stop-gives : {z : Fault} {v : List ℕ} {s : State} → stop z ≡ gives v s → ⊥
+  stop-gives e = true≢false (sym (ap ends e))
+
+  sim-ended : {o o′ : Out} → Sim W r [] o o′ → (v : List ℕ) (s : State) → o ≡ gives v s → Ended o′ v s
+  sim-ended (both {t = t} more T a) v s e =
+      inl (
+        t,
+        more,
+        ap (λ (w : List ℕ). gives (map (φ W) w) t) (gives-items e),
+        subst (λ (u : State). Twin W more u t) (gives-state e) T,
+        subst (Vals W r more) (gives-items e) a,
+      )
+  sim-ended alike v s e = absurd (stop-gives e)
+  sim-ended (full k stopped) v s e = absurd (stop-gives e)
+  sim-ended (full k (passed l)) v s e = inr (refl, k, subst (λ (u : State). maxRows < count (u .plan) + W .m) (gives-state e) l)
+
+  sim-stops : {o o′ : Out} → Sim W r [] o o′ → ends o ≡ false → ends o′ ≡ false
+  sim-stops (both more T a) e = absurd (true≢false e)
+  sim-stops alike e = refl
+  sim-stops (full k f) e = refl
+
+-- ALONE: what a script leaves
+run-alone : (o : ℕ) (e : Expr) (x : Table) (w : Well x) → hasUp e ≡ false → (v : List ℕ) (s : State) → runOn x e ≡ gives v s →
+    (news : List Label) × Good (scriptOf o e (x .marks)) (aloneSide x (w .labels)) news s × All (Touched (scriptOf o e (x .marks))) news
+run-alone o e x w u v s h =
+    go
+    (sim-ended (alone o e x w) (pathsOf o e .result)
+    (script-sim (alone o e x w) e (state x []) (state x []) u (λ (p : Path) (i : In p (pathsOf o e .accessed)). i)
+    (λ (p : Path) (i : In p (pathsOf o e .modified)). i) (start-twin (alone o e x w))) v s h)
+  where
+    go : Ended (alone o e x w) (pathsOf o e .result) (runOn x e) v s →
+        (news : List Label) × Good (scriptOf o e (x .marks)) (aloneSide x (w .labels)) news s × All (Touched (scriptOf o e (x .marks))) news
+    go (inl (t, news, k, T, a)) = (news, T .one, T .touched)
+    go (inr (k, l, m)) = absurd (omega arith)
+
+abbrev leftBy : (o q : ℕ) → (o ≡ q → ⊥) → (e f : Expr) → Away (pathsOf o e) (pathsOf q f) → (x : Table) (w : Well x) → hasUp e ≡ false →
+    (v : List ℕ) (s : State) → runOn x e ≡ gives v s → Left
+leftBy o q n e f a x w u v s h =
+    record {
+      plan = x;
+      well = w;
+      owner = o;
+      other = q;
+      distinct = n;
+      ran = e;
+      next = f;
+      away = a;
+      news = run-alone o e x w u v s h .0;
+      left = s;
+      good = run-alone o e x w u v s h .1;
+      touched = run-alone o e x w u v s h .2;
+    }
+
+beside-sim : (L : Left) → hasUp (L .next) ≡ false →
+    Sim (beside L) (pathsOf (L .other) (L .next) .result) [] (runOn (L .plan) (L .next)) (runOn (L .left .plan) (L .next))
+beside-sim L u =
+    script-sim (beside L) (L .next) (state (L .plan) []) (state (L .left .plan) []) u
+    (λ (p : Path) (i : In p (pathsOf (L .other) (L .next) .accessed)). i)
+    (λ (p : Path) (i : In p (pathsOf (L .other) (L .next) .modified)). i) (start-twin (beside L))

@@ -23,4 +23,5 @@ pub mod Start
 pub mod Apart
 pub mod Alone
 pub mod Beside
+pub mod Matching
 pub mod FreeCommutes

@@ -60,6 +60,10 @@ pub record World : Type 1 where
       (rowAt (two .plan) i ≡ rowAt (one .plan) i) × (labelAt (two .labels) i ≡ labelAt (one .labels) i)
   pub between : (i : ℕ) → n ≤ i → i < n + m → two .hidden i
 
+-- a history names only rows that there are
+abbrev pub Named : (rows : ℕ) → Record → Type 0
+Named k r = (r .row < k) × ((p : ℕ) → r .parent ≡ some p → p < k)
+
 module _ (c : Script) where
   -- LABELS: the script's own; on one of these paths, which is accessed; one that the script may change, with all below it
   abbrev pub Own : Label → Type 0
@@ -80,10 +84,6 @@ module _ (c : Script) where
   -- a row of the first table is as it was; or cut, on an accessed path and all below it on modified ones
   abbrev pub Kept : Label → (before after : Row) → Type 0
   Kept l r q = (q ≡ r) ⊎ ((q ≡ withParent r none) × ((p : Path) × c .accessed p × OnPath (c .marks) p l) × Changed l)
-
-  -- a history names only rows that there are
-  abbrev pub Named : (rows : ℕ) → Record → Type 0
-  Named k r = (r .row < k) × ((p : ℕ) → r .parent ≡ some p → p < k)
 
   -- GOOD: a state in a run from one side's table; the labels of the rows made so far are given
   pub record Good (d : Side) (news : List Label) (s : State) : Type 0 where

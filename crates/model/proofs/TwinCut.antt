@@ -71,8 +71,8 @@ good-cut c d F news s g r m i p h k e =
     same-count : count (linked (s .plan) i none) ≡ count (s .plan)
     same-count = count-linked (s .plan) i none
 
-    wider : (q : Record) → Named c (count (s .plan)) q → Named c (count (linked (s .plan) i none)) q
-    wider q n = subst (λ (k : ℕ). Named c k q) (sym same-count) n
+    wider : (q : Record) → Named (count (s .plan)) q → Named (count (linked (s .plan) i none)) q
+    wider q n = subst (λ (k : ℕ). Named k q) (sym same-count) n
 
     lower : (q : ℕ) → some p ≡ some q → q < count (linked (s .plan) i none)
     lower q f = omega (arith, g .fit .links i q (e ∙ f) .0, same-count)

@@ -56,7 +56,7 @@ good-row c d F news s g r l n clear h =
     old : (i : ℕ) → i < count (d .plan) → i < count (s .plan)
     old i k = omega (arith, g .fit .size, length-append (d .labels) news, F .fit .size)
 
-    wider : (q : Record) → Named c (count (s .plan)) q → Named c (count (withRow (s .plan) r)) q
+    wider : (q : Record) → Named (count (s .plan)) q → Named (count (withRow (s .plan) r)) q
     wider q k =
         (omega (arith, k .0, count-with (s .plan) r), λ (p : ℕ) (e : q .parent ≡ some p). omega (arith, k .1 p e, count-with (s .plan) r))
 
