@@ -24,4 +24,5 @@ pub mod Apart
 pub mod Alone
 pub mod Beside
 pub mod Matching
+pub mod Orders
 pub mod FreeCommutes
