@@ -1,6 +1,6 @@
 -- DEMAND 3: free scripts end alike in both orders, on every well-formed plan.
 use mathlib.Core.Path.{_≡_, refl, sym, _∙_, ap, ap₂, subst, subst₂}
-use mathlib.Core.Bool.{Bool, true, false, _&&_, true≢false, and-false}
+use mathlib.Core.Bool.{Bool, true, false, _&&_, true≢false, false≢true}
 use mathlib.Core.Logic.{_⊎_, inl, inr}
 use mathlib.Core.List.{List, [], _∷_, _++_, map}
 use mathlib.Core.List.{List·Memᴰ as In}
@@ -30,6 +30,8 @@ use Rattle.model.proofs.Simulation.{script-sim}
 use Rattle.model.proofs.Start.{Well, well-by}
 use Rattle.model.proofs.Apart.{Away, Apart, free-apart}
 use Rattle.model.proofs.Alone.{start-twin, scriptOf, aloneSide, alone}
+use Rattle.model.proofs.Matching.{mark-low, all-first, all-second, history-first, history-second}
+use Rattle.model.proofs.Orders.{Order, order-by, rows-equal}
 use Rattle.model.proofs.Beside.{Left, left-count, beside, unlinked, Settled, made-stays, plan-settled}
 
 -- OUTCOMES of a simulated script: where the first run ends, the second ends too, or has no room
@@ -104,3 +106,141 @@ beside-sim L u =
     script-sim (beside L) (L .next) (state (L .plan) []) (state (L .left .plan) []) u
     (λ (p : Path) (i : In p (pathsOf (L .other) (L .next) .accessed)). i)
     (λ (p : Path) (i : In p (pathsOf (L .other) (L .next) .modified)). i) (start-twin (beside L))
+
+-- THE ORDERS, by their four outcomes: one first, two first, two after one, one after two
+abbrev OrdersBy : Table → (one two oneTwo twoOne : Out) → Type 0
+OrdersBy x a b c d =
+    (newRows (tableOf b) d ≡ newRows x a) × (newRows (tableOf a) c ≡ newRows x b) ×
+    (answerOf d ≡ matchedAll (count x) (newRows x a) (newRows x b) (answerOf a)) ×
+    (answerOf b ≡ matchedAll (count x) (newRows x a) (newRows x b) (answerOf c)) ×
+    (historyOf d ≡ matchedHistory (count x) (newRows x a) (newRows x b) (historyOf a)) ×
+    (historyOf b ≡ matchedHistory (count x) (newRows x a) (newRows x b) (historyOf c)) ×
+    PlansEqual (count x) (newRows x a) (newRows x b) (tableOf c) (tableOf d)
+
+module _ (e f : Expr) (x : Table) (w : Well x) (A : Apart e f) where
+  -- BOTH END ALONE
+  module _ (v₁ v₂ : List ℕ) (s₁ s₂ : State) (h₁ : runOn x e ≡ gives v₁ s₁) (h₂ : runOn x f ≡ gives v₂ s₂) where
+    abbrev one : Left
+    one = leftBy 1 2 (λ (q : 1 ≡ 2). omega arith) e f (A .firstAway) x w (A .firstDown) v₁ s₁ h₁
+
+    abbrev two : Left
+    two = leftBy 2 1 (λ (q : 2 ≡ 1). omega arith) f e (A .secondAway) x w (A .secondDown) v₂ s₂ h₂
+
+    ended₁₂ : Ended (beside one) (pathsOf 2 f .result) (runOn (s₁ .plan) f) v₂ s₂
+    ended₁₂ = sim-ended (beside one) (pathsOf 2 f .result) (beside-sim one (A .secondDown)) v₂ s₂ h₂
+
+    ended₂₁ : Ended (beside two) (pathsOf 1 e .result) (runOn (s₂ .plan) e) v₁ s₁
+    ended₂₁ = sim-ended (beside two) (pathsOf 1 e .result) (beside-sim two (A .firstDown)) v₁ s₁ h₁
+
+    -- and in both orders
+    module _ (n₁ n₂ : List Label) (t₁₂ t₂₁ : State) (T₁₂ : Twin (beside one) n₂ s₂ t₁₂) (T₂₁ : Twin (beside two) n₁ s₁ t₂₁)
+        (a₁ : Vals (beside two) (pathsOf 1 e .result) n₁ v₁) where
+      o₁₂ : Order x (s₁ .plan) (s₂ .plan) (t₁₂ .plan)
+      o₁₂ = order-by one n₂ s₂ t₁₂ T₁₂
+
+      o₂₁ : Order x (s₂ .plan) (s₁ .plan) (t₂₁ .plan)
+      o₂₁ = order-by two n₁ s₁ t₂₁ T₂₁
+
+      -- how many rows each script makes
+      abbrev a : ℕ
+      a = count (s₁ .plan) - count x
+
+      abbrev b : ℕ
+      b = count (s₂ .plan) - count x
+
+      made₁ : length (one .news) ≡ a
+      made₁ = omega (arith, left-count one)
+
+      made₂ : length (two .news) ≡ b
+      made₂ = omega (arith, left-count two)
+
+      rows₁ : count x + a ≡ count (s₁ .plan)
+      rows₁ = omega (arith, left-count one)
+
+      answer₁ : map (φ (beside two)) v₁ ≡ matchedAll (count x) a b v₁
+      answer₁ =
+          ap (λ (m : ℕ). map (shift (count x) m) v₁) made₂ ∙
+          all-first (count x) a b
+          (all-imp (λ (i : ℕ) (k : Valued (beside two) (pathsOf 1 e .result) n₁ i). omega (arith, k .0, T₂₁ .one .fit .size, rows₁)) a₁)
+
+      answer₂ : v₂ ≡ matchedAll (count x) a b (map (φ (beside one)) v₂)
+      answer₂ = all-second (count x) a b v₂ ∙ ap (λ (m : ℕ). matchedAll (count x) a b (map (shift (count x) m) v₂)) (sym made₁)
+
+      history₁ : t₂₁ .history ≡ matchedHistory (count x) a b (s₁ .history)
+      history₁ =
+          T₂₁ .histories ∙ ap (λ (m : ℕ). map (shiftRecord (count x) m) (s₁ .history)) made₂ ∙
+          history-first (count x) a b (subst (λ (c : ℕ). All (Named c) (s₁ .history)) (sym rows₁) (T₂₁ .one .names))
+
+      history₂ : s₂ .history ≡ matchedHistory (count x) a b (t₁₂ .history)
+      history₂ =
+          history-second (count x) a b (s₂ .history) ∙
+          ap (matchedHistory (count x) a b)
+          (ap (λ (m : ℕ). map (shiftRecord (count x) m) (s₂ .history)) (sym made₁) ∙ sym (T₁₂ .histories))
+
+      marks : (d : ℕ) → getD (t₂₁ .plan .marks) d none ≡ matchedParent (count x) a b (getD (t₁₂ .plan .marks) d none)
+      marks d =
+          ap (λ (ms : List (Option ℕ)). getD ms d none) (T₂₁ .two .marked) ∙
+          mark-low (count x) a b (getD (x .marks) d none) (λ (p : ℕ) (k : getD (x .marks) d none ≡ some p). w .rooted d p k .0) ∙
+          ap (λ (ms : List (Option ℕ)). matchedParent (count x) a b (getD ms d none)) (sym (T₁₂ .two .marked))
+
+      plans : PlansEqual (count x) a b (t₁₂ .plan) (t₂₁ .plan)
+      plans = (
+        omega (arith, o₁₂ .total, o₁₂ .grown, o₂₁ .total, o₂₁ .grown),
+        rows-equal x (s₁ .plan) (s₂ .plan) (t₁₂ .plan) (t₂₁ .plan) o₁₂ o₂₁
+            (λ (i p : ℕ) (k : rowAt x i .parent ≡ some p). w .started .fit .links i p k .0)
+            (λ (i p : ℕ) (k : rowAt (s₁ .plan) i .parent ≡ some p). T₂₁ .one .fit .links i p k .0),
+        (λ (d : ℕ) (k : d < documents). marks d),
+      )
+
+      orders-by : OrdersBy x (gives v₁ s₁) (gives v₂ s₂) (gives (map (φ (beside one)) v₂) t₁₂) (gives (map (φ (beside two)) v₁) t₂₁)
+      orders-by =
+          (omega (arith, o₂₁ .total), omega (arith, o₁₂ .total), answer₁, answer₂, history₁, history₂, plans)
+
+    -- THE OUTCOME where both end alone
+    both-end : ((ends (runOn (s₁ .plan) f)) ≡ ends (runOn (s₂ .plan) e)) ×
+        (ends (runOn (s₁ .plan) f) ≡ true → OrdersBy x (gives v₁ s₁) (gives v₂ s₂) (runOn (s₁ .plan) f) (runOn (s₂ .plan) e))
+    both-end = go ended₁₂ ended₂₁
+      where
+        go : Ended (beside one) (pathsOf 2 f .result) (runOn (s₁ .plan) f) v₂ s₂ →
+            Ended (beside two) (pathsOf 1 e .result) (runOn (s₂ .plan) e) v₁ s₁ →
+            ((ends (runOn (s₁ .plan) f)) ≡ ends (runOn (s₂ .plan) e)) ×
+            (ends (runOn (s₁ .plan) f) ≡ true → OrdersBy x (gives v₁ s₁) (gives v₂ s₂) (runOn (s₁ .plan) f) (runOn (s₂ .plan) e))
+        go (inl (t, n, k, T, a)) (inl (q, m, l, U, b)) = (
+          ap ends k ∙ sym (ap ends l),
+          λ (z : ends (runOn (s₁ .plan) f) ≡ true).
+              subst₂ (OrdersBy x (gives v₁ s₁) (gives v₂ s₂)) (sym k) (sym l) (orders-by m n t q T U b),
+        )
+        go (inl (t, n, k, T, a)) (inr (l, m, z)) =
+            absurd (omega (arith, left-count one, left-count two, two-count (beside one) n s₂ t T, one-count (beside one) n s₂ t T, T .two .room))
+        go (inr (k, m, z)) (inl (q, n, l, U, b)) =
+            absurd (omega (arith, left-count one, left-count two, two-count (beside two) n s₁ q U, one-count (beside two) n s₁ q U, U .two .room))
+        go (inr (k, m, z)) (inr (l, m′, z′)) =
+            (k ∙ sym l, λ (y : ends (runOn (s₁ .plan) f) ≡ true). absurd (true≢false (sym y ∙ k)))
+
+  -- ONE OF THEM STOPS ALONE, and so in the other order
+  stops-one : (z : Fault) → runOn x e ≡ stop z → (o : Out) → runOn x f ≡ o → (ends o && ends (runOn (tableOf o) e)) ≡ false
+  stops-one z h (stop y) k = refl
+  stops-one z h (gives v s) k =
+      sim-stops (beside L) (pathsOf 1 e .result) (beside-sim L (A .firstDown)) (ap ends h)
+    where
+      L : Left
+      L = leftBy 2 1 (λ (q : 2 ≡ 1). omega arith) f e (A .secondAway) x w (A .secondDown) v s k
+
+  stops-two : (z : Fault) → runOn x f ≡ stop z → (v : List ℕ) (s : State) → runOn x e ≡ gives v s → ends (runOn (s .plan) f) ≡ false
+  stops-two z h v s k =
+      sim-stops (beside L) (pathsOf 2 f .result) (beside-sim L (A .secondDown)) (ap ends h)
+    where
+      L : Left
+      L = leftBy 1 2 (λ (q : 1 ≡ 2). omega arith) e f (A .firstAway) x w (A .firstDown) v s k
+
+  -- by the outcomes of both scripts alone
+  orders : (o q : Out) → runOn x e ≡ o → runOn x f ≡ q →
+      ((ends o && ends (runOn (tableOf o) f)) ≡ (ends q && ends (runOn (tableOf q) e))) ×
+      ((ends o && ends (runOn (tableOf o) f)) ≡ true → OrdersBy x o q (runOn (tableOf o) f) (runOn (tableOf q) e))
+  orders (stop z) q h k = (sym (stops-one z h q k), λ (y : false ≡ true). absurd (false≢true y))
+  orders (gives v s) (stop z) h k =
+      (stops-two z k v s h, λ (y : ends (runOn (s .plan) f) ≡ true). absurd (true≢false (sym y ∙ stops-two z k v s h)))
+  orders (gives v s) (gives v′ s′) h k = both-end v v′ s s′ h k
+
+pub freeCommutes : FreeCommutes
+freeCommutes e f x h k = orders e f x (well-by x k) (free-apart e f h) (runOn x e) (runOn x f) refl refl
