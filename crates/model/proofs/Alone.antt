@@ -1,6 +1,6 @@
 -- The start of any world is a twin. And the world of a script alone: a plan beside itself, nothing hidden.
 use mathlib.Core.Path.{_≡_, refl, sym, _∙_, ap, subst}
-use mathlib.Core.Logic.{_⊎_, inl, inr}
+use mathlib.Core.Logic.{inl}
 use mathlib.Core.List.{List, [], append-nil}
 use mathlib.Core.List.{List·Memᴰ as In}
 use mathlib.Core.Option.{Option, some}

@@ -1,22 +1,21 @@
 -- Below: a row under another, link by link; this is what isBelow computes, and the lower row's label is grown from the upper's.
 use mathlib.Core.Path.{_≡_, refl, sym, _∙_, ap, subst}
-use mathlib.Core.Bool.{Bool, true, false, _||_, false≢true}
+use mathlib.Core.Bool.{true, _||_, false≢true}
 use mathlib.Core.Logic.{_⊎_, inl, inr}
-use mathlib.Core.List.{List, [], _∷_}
+use mathlib.Core.List.{List, _∷_}
 use mathlib.Core.Option.{Option, none, some}
-use Prim.Native.Nat.{ℕ, zero, suc, _+_, _<_, _≤_}
+use Prim.Native.Nat.{ℕ, zero, suc, _<_}
 use native.Mathlib.Nat.{not-suc-le-zero}
 use native.Mathlib.Omega.{arith}
-use lib.Dec.{eqb}
 use borrow.Author.Tests.{eqb-true, eq-eqb}
-use Rattle.model.specs.Table.{Row, Table, rowAt, count, isThe}
+use Rattle.model.specs.Table.{Table, rowAt, isThe}
 use Rattle.model.specs.Sweep.{through}
 use Rattle.model.specs.Script.{Step}
-use Rattle.model.specs.Step.{Letter, letterOf, admits, parentIs, isBelowFrom, isBelow}
+use Rattle.model.specs.Step.{letterOf, admits, parentIs, isBelowFrom, isBelow}
 use Rattle.model.specs.Paths.{Path, _▸_}
 use Rattle.model.proofs.BoolLaws.{or-left, or-right, or-cases}
 use Rattle.model.proofs.Words.{Word, Grown, same, more, On, child, deep}
-use Rattle.model.proofs.Labels.{Label, label, grow, labelAt, Linked, Fit}
+use Rattle.model.proofs.Labels.{Label, label, grow, labelAt, Fit}
 
 pub data Below (x : Table) (top : ℕ) : ℕ → Type 0 where
   under : {i : ℕ} → rowAt x i .parent ≡ some top → Below x top i

@@ -1,12 +1,12 @@
 -- The rows that pass a test, in rising number: what a step computes. Two such lists agree where their tests do.
-use mathlib.Core.Path.{_≡_, refl, sym, _∙_, ap, ap₂, subst}
+use mathlib.Core.Path.{_≡_, refl, sym, _∙_, ap, ap₂}
 use mathlib.Core.Bool.{Bool, true, false}
 use mathlib.Core.List.{List, [], _∷_, _++_, map, append-nil, map-append}
 use Prim.Native.Nat.{ℕ, zero, suc, _+_, _<_, _≤_}
 use native.Mathlib.Nat.{zero-add, suc-add, add-zero, add-suc}
 use native.Mathlib.Omega.{arith}
 use Rattle.model.specs.Base.{pick}
-use Rattle.model.specs.Table.{Table, count}
+use Rattle.model.specs.Table.{Table}
 use Rattle.model.specs.Script.{Step}
 use Rattle.model.specs.Step.{isReached, stepFrom}
 use Rattle.model.proofs.All.{All, nothing, also}

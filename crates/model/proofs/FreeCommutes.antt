@@ -1,30 +1,24 @@
 -- DEMAND 3: free scripts end alike in both orders, on every well-formed plan.
-use mathlib.Core.Path.{_≡_, refl, sym, _∙_, ap, ap₂, subst, subst₂}
-use mathlib.Core.Bool.{Bool, true, false, _&&_, true≢false, false≢true}
+use mathlib.Core.Path.{_≡_, refl, sym, _∙_, ap, subst, subst₂}
+use mathlib.Core.Bool.{true, false, _&&_, true≢false, false≢true}
 use mathlib.Core.Logic.{_⊎_, inl, inr}
-use mathlib.Core.List.{List, [], _∷_, _++_, map}
+use mathlib.Core.List.{List, [], map}
 use mathlib.Core.List.{List·Memᴰ as In}
 use mathlib.Core.Option.{Option, none, some}
-use Prim.Native.Nat.{ℕ, zero, suc, _+_, _-_, _<_, _≤_}
+use Prim.Native.Nat.{ℕ, _+_, _-_, _<_}
 use native.Mathlib.Omega.{arith}
-use native.Mathlib.Decide.{decLt}
-use lib.Dec.{ltb}
 use lib.ListN.{length, getD}
-use borrow.Author.Tests.{lt-ltb, le-ltb}
-use Rattle.model.specs.Base.{pick}
 use Rattle.model.specs.Limits.{maxRows, documents}
 use Rattle.model.specs.Refusal.{Fault}
-use Rattle.model.specs.Table.{Row, Table, rowAt, count, withParent, isWell}
+use Rattle.model.specs.Table.{Table, rowAt, count}
 use Rattle.model.specs.Script.{Expr}
-use Rattle.model.specs.History.{Record}
-use Rattle.model.specs.Run.{State, state, Out, stop, gives, run, runOn}
+use Rattle.model.specs.Run.{State, state, Out, stop, gives, runOn}
 use Rattle.model.specs.Paths.{Path, pathsOf, hasUp}
-use Rattle.model.specs.Meeting.{answer, free}
-use Rattle.model.specs.Promise.{tableOf, answerOf, historyOf, ends, firstRun, secondRun, orderEnds, newRows, matched, matchedParent, matchedAll, matchedRecord, matchedHistory, matchedRow, PlansEqual, madeBy, OrdersEqual, FreeCommutes}
-use Rattle.model.proofs.Labels.{Label, labelAt}
-use Rattle.model.proofs.All.{All, nothing, also, all-imp}
-use Rattle.model.proofs.Shift.{shift, shiftParent, shiftRow, shiftRecord, shift-low, shift-high, shift-cases}
-use Rattle.model.proofs.Twin.{Side, World, Script, Touched, Named, Good, φ, ones, Twin, Valued, Vals, Full, stopped, passed, Sim, both, alike, full}
+use Rattle.model.specs.Promise.{tableOf, answerOf, historyOf, ends, newRows, matchedParent, matchedAll, matchedHistory, PlansEqual, FreeCommutes}
+use Rattle.model.proofs.Labels.{Label}
+use Rattle.model.proofs.All.{All, all-imp}
+use Rattle.model.proofs.Shift.{shift, shiftRecord}
+use Rattle.model.proofs.Twin.{World, Touched, Named, Good, φ, Twin, Valued, Vals, stopped, passed, Sim, both, alike, full}
 use Rattle.model.proofs.TwinLaws.{one-count, two-count}
 use Rattle.model.proofs.Simulation.{script-sim}
 use Rattle.model.proofs.Start.{Well, well-by}
@@ -32,7 +26,7 @@ use Rattle.model.proofs.Apart.{Away, Apart, free-apart}
 use Rattle.model.proofs.Alone.{start-twin, scriptOf, aloneSide, alone}
 use Rattle.model.proofs.Matching.{mark-low, all-first, all-second, history-first, history-second}
 use Rattle.model.proofs.Orders.{Order, order-by, rows-equal}
-use Rattle.model.proofs.Beside.{Left, left-count, beside, unlinked, Settled, made-stays, plan-settled}
+use Rattle.model.proofs.Beside.{Left, left-count, beside}
 
 -- OUTCOMES of a simulated script: where the first run ends, the second ends too, or has no room
 module _ (W : World) (r : List Path) where

@@ -1,16 +1,15 @@
 -- A run never makes the table smaller.
-use mathlib.Core.Path.{_≡_, refl, sym, subst}
 use mathlib.Core.Bool.{Bool, true, false, _&&_}
 use mathlib.Core.List.{List, [], _∷_, _++_}
 use mathlib.Core.Option.{Option, none, some}
-use Prim.Native.Nat.{ℕ, _+_, _<_, _≤_}
+use Prim.Native.Nat.{ℕ, _+_, _≤_}
 use native.Mathlib.Nat.{le-trans}
 use native.Mathlib.Omega.{arith}
 use lib.Dec.{ltb, eqb}
 use lib.ListN.{length, getD}
 use Rattle.model.specs.Base.{pick}
 use Rattle.model.specs.Limits.{maxItems, maxHistory}
-use Rattle.model.specs.Refusal.{Fault, isFine, itemsAt, targetAt, historyAt}
+use Rattle.model.specs.Refusal.{Fault, isFine, itemsAt}
 use Rattle.model.specs.Table.{Row, Table, rowAt, count, isElement, linked}
 use Rattle.model.specs.Script.{Expr, nil, document, var, step, both, letIn, forIn, ifIn, element, leaf, delete, insert, choose}
 use Rattle.model.specs.Step.{stepped, picked}

@@ -1,15 +1,14 @@
 -- Labels: each row's root and word, given when the row is made and never changed. A table fits its labels, also after a cut and with a row more.
 use mathlib.Core.Path.{_≡_, refl, sym, _∙_, ap, ap₂, subst, subst₂}
-use mathlib.Core.Bool.{Bool, true, false}
+use mathlib.Core.Bool.{true, false}
 use mathlib.Core.Logic.{_⊎_, inl, inr}
 use mathlib.Core.List.{List, [], _∷_, _++_}
-use mathlib.Core.Option.{Option, none, some, Option·none-ne-some}
-use Prim.Native.Nat.{ℕ, suc, _+_, _<_, _≤_}
+use mathlib.Core.Option.{none, some}
+use Prim.Native.Nat.{ℕ, _+_, _<_}
 use native.Mathlib.Omega.{arith}
 use lib.ListN.{length, getD, length-append, List·getD-append}
 use lib.Seq.{getD-append-seam}
-use Rattle.model.specs.Base.{pick}
-use Rattle.model.specs.Table.{Row, Table, rowAt, count, withRow, withParent, linked}
+use Rattle.model.specs.Table.{Row, Table, rowAt, count, withRow, linked}
 use Rattle.model.specs.Step.{Letter, leafLetter, named, letterOf}
 use Rattle.model.proofs.BoolLaws.{pick-false}
 use Rattle.model.proofs.RowLaws.{parent-row, count-with, row-new, row-old, row-cases, count-linked, same-linked, parent-cut}

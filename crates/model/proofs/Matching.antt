@@ -2,13 +2,13 @@
 use mathlib.Core.Path.{_≡_, refl, sym, _∙_, ap, ap₂}
 use mathlib.Core.List.{List, [], _∷_, map}
 use mathlib.Core.Option.{Option, none, some}
-use Prim.Native.Nat.{ℕ, _+_, _-_, _<_, _≤_}
+use Prim.Native.Nat.{ℕ, _+_, _<_}
 use native.Mathlib.Omega.{arith}
 use native.Mathlib.Decide.{decLt}
 use borrow.Author.Tests.{lt-ltb, le-ltb}
 use Rattle.model.specs.Table.{Row, withParent}
 use Rattle.model.specs.History.{Record}
-use Rattle.model.specs.Promise.{matched, matchedParent, matchedAll, matchedRecord, matchedHistory, matchedRow}
+use Rattle.model.specs.Promise.{matched, matchedParent, matchedAll, matchedHistory, matchedRow}
 use Rattle.model.proofs.All.{All, nothing, also}
 use Rattle.model.proofs.Shift.{shift, shiftParent, shiftRow, shiftRecord, shift-low, shift-high}
 use Rattle.model.proofs.Twin.{Named}

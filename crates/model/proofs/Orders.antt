@@ -1,16 +1,15 @@
 -- The plans of the two orders are equal under the matching, row for row.
-use mathlib.Core.Path.{_≡_, refl, sym, _∙_, ap, subst}
+use mathlib.Core.Path.{_≡_, sym, _∙_, ap, subst}
 use mathlib.Core.Logic.{_⊎_, inl, inr}
 use mathlib.Core.List.{List}
-use mathlib.Core.Option.{Option, none, some, Option·none-ne-some}
+use mathlib.Core.Option.{some}
 use Prim.Native.Nat.{ℕ, _+_, _-_, _<_, _≤_}
 use native.Mathlib.Omega.{arith}
 use native.Mathlib.Decide.{decLt}
-use lib.ListN.{length}
 use Rattle.model.specs.Table.{Row, Table, rowAt, count}
 use Rattle.model.specs.Run.{State}
 use Rattle.model.specs.Promise.{matched, matchedRow}
-use Rattle.model.proofs.Labels.{Label, labelAt}
+use Rattle.model.proofs.Labels.{Label}
 use Rattle.model.proofs.Shift.{shift, shiftRow, shift-high}
 use Rattle.model.proofs.Twin.{Twin}
 use Rattle.model.proofs.TwinLaws.{one-count, two-count}

@@ -1,19 +1,18 @@
 -- Which rows a step down reaches from a value, link by link; carried over from one table to another in which the rows have their like.
 use mathlib.Core.Path.{_≡_, refl, sym, _∙_, ap, ap₂, subst}
-use mathlib.Core.Bool.{Bool, true, false, _&&_, _||_, false≢true, or-false}
+use mathlib.Core.Bool.{Bool, true, false, false≢true, or-false}
 use mathlib.Core.Logic.{_⊎_, inl, inr}
 use mathlib.Core.List.{List, [], _∷_}
 use mathlib.Core.List.{List·Memᴰ as In, List·Memᴰ·head as here, List·Memᴰ·tail as there}
-use mathlib.Core.Option.{Option, none, some}
-use Prim.Native.Nat.{ℕ, zero, suc, _+_, _<_, _≤_}
+use mathlib.Core.Option.{some}
+use Prim.Native.Nat.{ℕ, zero, suc, _<_}
 use native.Mathlib.Omega.{arith}
 use native.Mathlib.Decide.{ℕ-discrete}
-use lib.Dec.{eqb, leb}
 use borrow.Author.Tests.{leb-false}
 use Rattle.model.specs.Base.{pick, any}
-use Rattle.model.specs.Table.{Row, Table, rowAt, count}
+use Rattle.model.specs.Table.{Table, rowAt}
 use Rattle.model.specs.Script.{Step}
-use Rattle.model.specs.Step.{Letter, leafLetter, named, letterOf, admits, parentIs, isBelow, reaches, isReached, stepFrom}
+use Rattle.model.specs.Step.{Letter, leafLetter, named, letterOf, admits, isBelow, reaches, isReached, stepFrom}
 use Rattle.model.specs.Run.{descendantsFrom}
 use Rattle.model.specs.Paths.{anyBelow, isUp}
 use Rattle.model.proofs.BoolLaws.{and-left, and-right, and-both, or-left, or-right, or-cases}

@@ -1,19 +1,18 @@
 -- Values and outcomes when rows are made, and two runs one after another.
-use mathlib.Core.Path.{_≡_, refl, sym, _∙_, ap, subst}
-use mathlib.Core.Bool.{Bool, true, false}
-use mathlib.Core.Logic.{_⊎_, inl, inr}
-use mathlib.Core.List.{List, [], _∷_, _++_, map, append-assoc, append-nil, Memᴰ·append-left, Memᴰ·append-right}
+use mathlib.Core.Path.{_≡_, sym, _∙_, ap, subst}
+use mathlib.Core.Logic.{inl, inr}
+use mathlib.Core.List.{List, [], _++_, map, append-assoc, append-nil, Memᴰ·append-left, Memᴰ·append-right}
 use mathlib.Core.List.{List·Memᴰ as In}
 use Prim.Native.Nat.{ℕ, _+_, _<_, _≤_}
 use native.Mathlib.Omega.{arith}
-use lib.ListN.{length, getD, length-append, List·getD-append}
+use lib.ListN.{length, length-append, List·getD-append}
 use Rattle.model.specs.Limits.{maxRows}
 use Rattle.model.specs.Table.{count}
-use Rattle.model.specs.Run.{State, Out, stop, gives, andThen}
+use Rattle.model.specs.Run.{State, Out, gives, andThen}
 use Rattle.model.specs.Paths.{Path}
 use Rattle.model.proofs.Words.{first}
 use Rattle.model.proofs.Labels.{Label, label, labelAt}
-use Rattle.model.proofs.All.{All, nothing, also, all-imp}
+use Rattle.model.proofs.All.{all-imp}
 use Rattle.model.proofs.Grows.{Grows, stops, keeps}
 use Rattle.model.proofs.Twin.{World, Item, φ, ones, Twin, Valued, Vals, Full, stopped, passed, Sim, both, alike, full}
 

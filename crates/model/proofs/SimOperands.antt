@@ -1,34 +1,34 @@
 -- Outcomes of expressions without operands, and what joins, steps, picks and loops make of the operands' outcomes.
 use mathlib.Core.Path.{_≡_, refl, sym, _∙_, ap, ap₂, subst, subst₂}
 use mathlib.Core.Bool.{Bool, true, false, _&&_, true≢false, false≢true}
-use mathlib.Core.Logic.{_⊎_, inl, inr}
+use mathlib.Core.Logic.{inl, inr}
 use mathlib.Core.List.{List, [], _∷_, _++_, map, map-append}
 use mathlib.Core.List.{List·Memᴰ as In, List·Memᴰ·head as here}
 use mathlib.Core.Option.{Option, none, some, Option·none-ne-some}
-use Prim.Native.Nat.{ℕ, _+_, _<_, _≤_}
+use Prim.Native.Nat.{ℕ, _+_, _<_}
 use native.Mathlib.Omega.{arith}
 use lib.Dec.{ltb}
 use lib.ListN.{length, getD, length-map}
 use Rattle.model.specs.Base.{pick}
 use Rattle.model.specs.Limits.{maxItems}
 use Rattle.model.specs.Refusal.{Fault, itemsAt}
-use Rattle.model.specs.Table.{Row, Table, rowAt, count}
+use Rattle.model.specs.Table.{Row, rowAt, count}
 use Rattle.model.specs.Script.{Step}
-use Rattle.model.specs.Step.{letterOf, relates, isPicked, stepped, picked}
+use Rattle.model.specs.Step.{relates, isPicked, stepped, picked}
 use Rattle.model.specs.Run.{State, Out, stop, gives, joinItems, joinFor, loop, marked, loose, newRow, withMade}
-use Rattle.model.specs.Paths.{Path, start, _▸_, withStep, place, documentPlace, isUp}
+use Rattle.model.specs.Paths.{Path, start, _▸_, withStep, documentPlace, isUp}
 use Rattle.model.proofs.Words.{first, made, at}
 use Rattle.model.proofs.RowLaws.{count-with}
-use Rattle.model.proofs.Labels.{Label, label, labelAt, label-new}
+use Rattle.model.proofs.Labels.{Label, label, labelAt}
 use Rattle.model.proofs.Below.{OnPath}
-use Rattle.model.proofs.All.{All, nothing, also, all-append}
+use Rattle.model.proofs.All.{nothing, also, all-append}
 use Rattle.model.proofs.Grows.{Grows, grows-gives, grows-loop}
-use Rattle.model.proofs.Shift.{shift, shiftRow, shift-low}
-use Rattle.model.proofs.Twin.{World, Item, φ, ones, Twin, Valued, Vals, Full, stopped, passed, Sim, both, alike, full}
+use Rattle.model.proofs.Shift.{shiftRow, shift-low}
+use Rattle.model.proofs.Twin.{World, φ, ones, Twin, Valued, Vals, Full, stopped, passed, Sim, both, alike, full}
 use Rattle.model.proofs.TwinLaws.{label-side, ones-length, Alike, count-across, label-last, valued-alike}
 use Rattle.model.proofs.TwinStep.{step-alike, step-vals}
 use Rattle.model.proofs.TwinRow.{new-sim}
-use Rattle.model.proofs.TwinCopy.{Base, newLabel, new-fit, new-touched}
+use Rattle.model.proofs.TwinCopy.{Base, new-fit, new-touched}
 use Rattle.model.proofs.SimLaws.{vals-more, sim-gives, sim-more, full-grows}
 
 module _ (W : World) where

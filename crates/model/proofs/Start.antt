@@ -1,10 +1,10 @@
 -- A well-formed plan has labels: a row without parent is its own root, and any other row has its parent's label, grown.
-use mathlib.Core.Path.{_≡_, refl, sym, _∙_, ap, ap₂, subst}
+use mathlib.Core.Path.{_≡_, refl, sym, _∙_, ap, subst}
 use mathlib.Core.Bool.{Bool, true, false, _&&_, not, true≢false}
 use mathlib.Core.Logic.{_⊎_, inl, inr}
 use mathlib.Core.List.{List, [], _∷_, _++_, append-nil}
-use mathlib.Core.Option.{Option, none, some, Option·none-ne-some, Option·some-injective}
-use Prim.Native.Nat.{ℕ, zero, suc, _+_, _<_, _≤_}
+use mathlib.Core.Option.{Option, none, some, Option·none-ne-some}
+use Prim.Native.Nat.{ℕ, zero, suc, _<_, _≤_}
 use native.Mathlib.Nat.{not-suc-le-zero}
 use native.Mathlib.Omega.{arith}
 use lib.Dec.{ltb, leb, eqb}
@@ -16,8 +16,8 @@ use Rattle.model.specs.Limits.{maxRows, documents}
 use Rattle.model.specs.Table.{Row, Table, table, noRow, rowAt, count, isElement, hasParent, isThe, withRow, tagFits, parentFits, rowsFit, markFits, noneTwice, isWell}
 use Rattle.model.specs.Step.{Letter, letterOf}
 use Rattle.model.proofs.BoolLaws.{and-left, and-right, or-left, or-right, true-false}
-use Rattle.model.proofs.RowLaws.{count-with, row-new, row-old, row-cases}
-use Rattle.model.proofs.Words.{Word, Root, first, made}
+use Rattle.model.proofs.RowLaws.{row-new, row-old, row-cases}
+use Rattle.model.proofs.Words.{first}
 use Rattle.model.proofs.Labels.{Label, label, grow, labelAt, EndsIn, Fit, fit-elements, NewFit, label-old, label-new, fit-row}
 use Rattle.model.proofs.Below.{isThe-some}
 

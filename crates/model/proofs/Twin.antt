@@ -2,7 +2,7 @@
 -- values and outcomes are related.
 use mathlib.Core.Path.{_≡_}
 use mathlib.Core.Logic.{_⊎_}
-use mathlib.Core.List.{List, [], _∷_, _++_, map}
+use mathlib.Core.List.{List, [], _++_, map}
 use mathlib.Core.List.{List·Memᴰ as In}
 use mathlib.Core.Option.{Option, none, some}
 use Prim.Native.Nat.{ℕ, _+_, _<_, _≤_}
@@ -13,7 +13,7 @@ use Rattle.model.specs.Table.{Row, Table, rowAt, count, withParent}
 use Rattle.model.specs.History.{Record}
 use Rattle.model.specs.Run.{State, Out, stop, gives}
 use Rattle.model.specs.Paths.{Path}
-use Rattle.model.proofs.Words.{Word, Root, first, made, Grown, On}
+use Rattle.model.proofs.Words.{Word, first, made, Grown, On}
 use Rattle.model.proofs.Labels.{Label, label, labelAt, Fit}
 use Rattle.model.proofs.Below.{OnPath}
 use Rattle.model.proofs.All.{All}

@@ -1,29 +1,29 @@
 -- Copies in both states of a twin: subtrees, as they were before the insert, under a target.
 use mathlib.Core.Path.{_≡_, refl, sym, _∙_, ap, ap₂, subst, subst₂}
 use mathlib.Core.Bool.{Bool, true, false, _&&_, not}
-use mathlib.Core.Logic.{_⊎_, inl, inr}
+use mathlib.Core.Logic.{inl, inr}
 use mathlib.Core.List.{List, [], _∷_, _++_, map}
 use mathlib.Core.List.{List·Memᴰ as In}
 use mathlib.Core.Option.{Option, none, some, Option·none-ne-some, Option·some-injective}
-use Prim.Native.Nat.{ℕ, suc, _+_, _<_, _≤_}
+use Prim.Native.Nat.{ℕ, suc, _<_}
 use native.Mathlib.Omega.{arith}
 use lib.Dec.{ltb, eqb}
-use lib.ListN.{length, getD, length-map}
+use lib.ListN.{length}
 use borrow.Author.Tests.{eqb-true, eq-eqb, lt-ltb, ne-eqb, not-true}
 use Rattle.model.specs.Base.{pick}
 use Rattle.model.specs.Refusal.{Fault, targetAt}
-use Rattle.model.specs.Table.{Row, Table, rowAt, count, isElement, withRow, withParent}
+use Rattle.model.specs.Table.{Row, Table, rowAt, count, isElement, withParent}
 use Rattle.model.specs.Step.{Letter, letterOf}
-use Rattle.model.specs.Run.{State, Out, stop, gives, thenRow, withMade, newRow, Copied, copyOf, copyParent, copyRow, subtree, copyEach, copyAll, inserted}
+use Rattle.model.specs.Run.{State, Out, stop, thenRow, withMade, newRow, Copied, copyOf, copyParent, copyRow, subtree, copyEach, copyAll, inserted}
 use Rattle.model.specs.Paths.{Path, _▸_, anyBelow}
 use Rattle.model.proofs.BoolLaws.{and-right, bool-iff}
 use Rattle.model.proofs.RowLaws.{count-with, row-new, row-old}
-use Rattle.model.proofs.Words.{Word, made, Grown, same, more, grown-trans}
+use Rattle.model.proofs.Words.{made}
 use Rattle.model.proofs.Labels.{Label, label, grow, labelAt, EndsIn, NewFit, fit-elements}
-use Rattle.model.proofs.All.{All, nothing, also, all-imp, all-in}
+use Rattle.model.proofs.All.{All, nothing, also, all-imp}
 use Rattle.model.proofs.Grows.{Grows, grows-row, grows-each, grows-copy}
-use Rattle.model.proofs.Shift.{shift, shiftParent, shiftRow, shift-injective}
-use Rattle.model.proofs.Twin.{World, Script, Own, Changed, Item, Touched, φ, ones, Twin, Valued, Vals, Sim, alike}
+use Rattle.model.proofs.Shift.{shiftParent, shiftRow, shift-injective}
+use Rattle.model.proofs.Twin.{World, Item, Touched, φ, ones, Twin, Valued, Vals, Sim, alike}
 use Rattle.model.proofs.TwinLaws.{touched-grow, Alike, one-count, count-across, row-bound, label-last, valued-alike}
 use Rattle.model.proofs.TwinStep.{subtree-alike, subtree-clear}
 use Rattle.model.proofs.TwinRow.{new-sim}

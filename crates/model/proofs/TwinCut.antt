@@ -1,31 +1,31 @@
 -- Cuts in both states of a twin: they stay a twin. And what a script may change, with all below it.
-use mathlib.Core.Path.{_≡_, refl, sym, _∙_, ap, ap₂, subst, subst₂}
+use mathlib.Core.Path.{_≡_, refl, sym, _∙_, ap, subst, subst₂}
 use mathlib.Core.Bool.{Bool, true, false}
 use mathlib.Core.Logic.{_⊎_, inl, inr}
 use mathlib.Core.List.{List, [], _∷_, _++_, map, map-append}
 use mathlib.Core.List.{List·Memᴰ as In}
 use mathlib.Core.Option.{Option, none, some}
-use Prim.Native.Nat.{ℕ, _+_, _<_, _≤_}
+use Prim.Native.Nat.{ℕ, _<_}
 use native.Mathlib.Omega.{arith}
 use native.Mathlib.Decide.{ℕ-discrete}
 use lib.Dec.{ltb}
-use lib.ListN.{length, length-append, length-map}
+use lib.ListN.{length}
 use Rattle.model.specs.Base.{pick}
 use Rattle.model.specs.Limits.{maxHistory}
 use Rattle.model.specs.Refusal.{historyAt}
-use Rattle.model.specs.Table.{Row, Table, rowAt, count, linked, withParent}
+use Rattle.model.specs.Table.{Row, rowAt, count, linked, withParent}
 use Rattle.model.specs.History.{Record}
 use Rattle.model.specs.Step.{Letter}
-use Rattle.model.specs.Run.{State, Out, stop, gives, cutRecord, cutRow, cutBy, cutAll}
+use Rattle.model.specs.Run.{State, stop, cutRecord, cutRow, cutBy, cutAll}
 use Rattle.model.specs.Paths.{Path, _▸_, anyBelow}
 use Rattle.model.proofs.RowLaws.{count-linked, row-linked, row-others, linked-cases, parent-cut}
-use Rattle.model.proofs.Words.{Word, Grown, same, more, grown-trans, On, deep}
+use Rattle.model.proofs.Words.{same, more, grown-trans, deep}
 use Rattle.model.proofs.Labels.{Label, grow, labelAt, fit-cut}
 use Rattle.model.proofs.Below.{OnPath}
 use Rattle.model.proofs.Reach.{any-admits}
-use Rattle.model.proofs.All.{All, nothing, also, all-append, all-imp}
+use Rattle.model.proofs.All.{nothing, also, all-append, all-imp}
 use Rattle.model.proofs.Shift.{shiftParent, shiftRow, shiftRecord, shift-injective}
-use Rattle.model.proofs.Twin.{Side, Script, SideFits, World, Seen, Changed, Item, Kept, Named, Good, φ, ones, Twin, Valued, Vals, Sim, alike}
+use Rattle.model.proofs.Twin.{Side, Script, SideFits, World, Changed, Item, Kept, Named, Good, φ, Twin, Valued, Vals, Sim, alike}
 use Rattle.model.proofs.TwinLaws.{label-side, label-across, Alike, row-bound, same-length, valued-alike}
 use Rattle.model.proofs.SimLaws.{sim-gives}
 

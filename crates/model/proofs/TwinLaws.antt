@@ -1,6 +1,5 @@
 -- What follows from a twin: counts, labels, and that rows which are not hidden have their like in the other state.
 use mathlib.Core.Path.{_≡_, refl, sym, _∙_, ap, ap₂, subst}
-use mathlib.Core.Bool.{Bool, true, false}
 use mathlib.Core.Logic.{_⊎_, inl, inr}
 use mathlib.Core.List.{List, [], _∷_, _++_, map, append-assoc}
 use mathlib.Core.List.{List·Memᴰ as In, List·Memᴰ·head as here, List·Memᴰ·tail as there}
@@ -8,21 +7,20 @@ use mathlib.Core.Option.{Option, none, some, Option·none-ne-some, Option·some-
 use Prim.Native.Nat.{ℕ, _+_, _-_, _<_, _≤_}
 use native.Mathlib.Omega.{arith}
 use native.Mathlib.Decide.{decLt}
-use lib.ListN.{length, getD, length-append, length-map, List·getD-append}
+use lib.ListN.{length, length-append, length-map, List·getD-append}
 use lib.Seq.{getD-append-add}
-use Rattle.model.specs.Table.{Row, Table, rowAt, count}
+use Rattle.model.specs.Table.{Row, rowAt, count}
 use Rattle.model.specs.Script.{Step}
-use Rattle.model.specs.Step.{Letter, letterOf, admits}
-use Rattle.model.specs.Run.{State, Out, stop, gives}
+use Rattle.model.specs.Step.{Letter, letterOf}
+use Rattle.model.specs.Run.{State}
 use Rattle.model.specs.Paths.{Path, _▸_, withStep}
-use Rattle.model.proofs.Words.{Word, Root, first, Grown, same, more, grown-trans}
-use Rattle.model.proofs.Labels.{Label, label, grow, labelAt, Fit, label-new}
-use Rattle.model.proofs.Below.{Below, below-label, OnPath, on-child, on-below}
-use Rattle.model.proofs.RowLaws.{parent-row}
+use Rattle.model.proofs.Words.{Word, first, Grown, same, more, grown-trans}
+use Rattle.model.proofs.Labels.{Label, label, grow, labelAt, label-new}
+use Rattle.model.proofs.Below.{below-label, OnPath, on-child, on-below}
 use Rattle.model.proofs.Reach.{Reach, byChild, byDeep}
-use Rattle.model.proofs.All.{All, all-imp, all-map, all-in}
-use Rattle.model.proofs.Shift.{shift, shiftParent, shiftRow, shiftRecord, shift-low, shift-high, shift-cases, shift-injective}
-use Rattle.model.proofs.Twin.{Side, Script, SideFits, World, Own, Seen, Touched, Item, Good, φ, ones, twos, Twin, Valued, Vals, Sim, both, alike, full}
+use Rattle.model.proofs.All.{All, all-map, all-in}
+use Rattle.model.proofs.Shift.{shiftParent, shiftRow, shiftRecord, shift-low, shift-high, shift-cases}
+use Rattle.model.proofs.Twin.{Side, Script, SideFits, World, Touched, Item, Good, φ, ones, twos, Twin, Valued, Vals, alike}
 
 pub in-step : (s : Step) {p : Path} {r : List Path} → In p r → In (p ▸ s) (withStep s r)
 unfolding withStep

@@ -2,17 +2,16 @@
 use mathlib.Core.Path.{_≡_, refl, sym, _∙_, ap, ap₂, subst, subst₂}
 use mathlib.Core.Bool.{Bool, true, false}
 use mathlib.Core.Logic.{_⊎_, inl, inr}
-use mathlib.Core.List.{List, [], _∷_, _++_, map, append-assoc, map-append}
+use mathlib.Core.List.{List, [], _∷_, _++_, append-assoc, map-append}
 use mathlib.Core.Option.{Option, none, some, Option·none-ne-some, Option·some-injective}
-use Prim.Native.Nat.{ℕ, _+_, _-_, _<_, _≤_}
+use Prim.Native.Nat.{ℕ, _+_, _<_, _≤_}
 use native.Mathlib.Omega.{arith}
 use lib.Dec.{ltb}
-use lib.ListN.{length, length-append, length-map}
-use borrow.Author.Tests.{ltb-true, ltb-false, lt-ltb, le-ltb}
-use Rattle.model.specs.Base.{pick}
+use lib.ListN.{length, length-append}
+use borrow.Author.Tests.{ltb-true, ltb-false}
 use Rattle.model.specs.Limits.{maxRows, maxHistory}
 use Rattle.model.specs.Refusal.{Fault, isFine, orElse, unless, tableAt, historyAt}
-use Rattle.model.specs.Table.{Row, Table, rowAt, count, withRow}
+use Rattle.model.specs.Table.{Row, rowAt, count, withRow}
 use Rattle.model.specs.History.{Record}
 use Rattle.model.specs.Step.{letterOf}
 use Rattle.model.specs.Run.{State, Out, stop, gives, made, withMade, roomFault, newRow}
@@ -20,9 +19,9 @@ use Rattle.model.specs.Paths.{Path}
 use Rattle.model.proofs.BoolLaws.{bool-cases, pick-true, pick-false}
 use Rattle.model.proofs.RowLaws.{parent-row, count-with, row-new, row-old, row-cases}
 use Rattle.model.proofs.Labels.{Label, grow, labelAt, Fit, NewFit, fit-row}
-use Rattle.model.proofs.All.{All, nothing, also, all-append, all-imp}
+use Rattle.model.proofs.All.{nothing, also, all-append, all-imp}
 use Rattle.model.proofs.Grows.{Grows}
-use Rattle.model.proofs.Shift.{shift, shiftParent, shiftRow, shiftRecord, shift-high, shift-cases}
+use Rattle.model.proofs.Shift.{shiftParent, shiftRow, shiftRecord}
 use Rattle.model.proofs.Twin.{Side, Script, SideFits, World, Touched, Kept, Named, Good, φ, ones, twos, Twin, Full, stopped, Sim, alike, full}
 use Rattle.model.proofs.TwinLaws.{label-across, Alike, one-count, two-count, count-across, row-bound, same-length, clear-two, alike-row}
 use Rattle.model.proofs.SimLaws.{full-grows}

@@ -1,26 +1,26 @@
 -- A step down, and a subtree, reach the same rows in both states of a twin.
 use mathlib.Core.Path.{_≡_, refl, sym, _∙_, ap, subst}
-use mathlib.Core.Bool.{Bool, true, false}
+use mathlib.Core.Bool.{true, false}
 use mathlib.Core.Logic.{_⊎_, inl, inr}
-use mathlib.Core.List.{List, [], _∷_, _++_, map, Memᴰ·map, Memᴰ·of-map}
+use mathlib.Core.List.{List, [], _∷_, map, Memᴰ·map, Memᴰ·of-map}
 use mathlib.Core.List.{List·Memᴰ as In}
 use mathlib.Core.Option.{some}
 use Prim.Native.Nat.{ℕ, _+_, _<_, _≤_}
 use native.Mathlib.Omega.{arith}
 use lib.ListN.{length}
-use Rattle.model.specs.Table.{Table, rowAt, count}
+use Rattle.model.specs.Table.{rowAt, count}
 use Rattle.model.specs.Script.{Step}
-use Rattle.model.specs.Step.{isReached, stepFrom, stepped}
-use Rattle.model.specs.Run.{State, descendantsFrom, subtree}
+use Rattle.model.specs.Step.{isReached, stepped}
+use Rattle.model.specs.Run.{State, subtree}
 use Rattle.model.specs.Paths.{Path, _▸_, withStep, anyBelow, isUp}
 use Rattle.model.proofs.BoolLaws.{bool-cases, bool-iff}
 use Rattle.model.proofs.Labels.{Label, labelAt}
 use Rattle.model.proofs.Collect.{collect, step-collect, collect-all, collect-shift}
 use Rattle.model.proofs.Reach.{Reach, reach-is, is-reach, descendants-stepped, reach-across}
 use Rattle.model.proofs.All.{All, nothing, also, all-imp, all-in}
-use Rattle.model.proofs.Shift.{shift, shift-cases, shift-injective}
-use Rattle.model.proofs.Twin.{World, Item, φ, ones, twos, Twin, Valued, Vals}
-use Rattle.model.proofs.TwinLaws.{item-clear, reach-item, ones-length, vals-two, Alike, one-count, two-count, row-bound, valued-alike, like-of, alike-parent, parent-alike, alike-letter}
+use Rattle.model.proofs.Shift.{shift-injective}
+use Rattle.model.proofs.Twin.{World, Item, φ, ones, Twin, Valued, Vals}
+use Rattle.model.proofs.TwinLaws.{item-clear, reach-item, vals-two, Alike, one-count, two-count, row-bound, valued-alike, like-of, alike-parent, parent-alike, alike-letter}
 
 module _ (W : World) (news : List Label) (s t : State) (T : Twin W news s t) (r : List Path) (u : Step) (down : isUp u ≡ false)
     (acc : (p : Path) → In p r → W .script .accessed (p ▸ u)) (v : List ℕ) (vs : Vals W r news v) where

@@ -7,13 +7,13 @@ use mathlib.Core.Option.{Option, none, some}
 use Prim.Native.Nat.{ℕ}
 use lib.Dec.{eqb}
 use lib.ListN.{getD}
-use borrow.Author.Tests.{eqb-true, eq-eqb, not-true}
+use borrow.Author.Tests.{eqb-true, eq-eqb}
 use Rattle.model.specs.Base.{pick}
 use Rattle.model.specs.Script.{Step}
 use Rattle.model.specs.Step.{Letter, leafLetter, named, admits}
 use Rattle.model.specs.Paths.{Place, Path, start, _▸_}
-use Rattle.model.specs.Meeting.{admitsElement, admitsLeaf, isNamed, shareElement, shareLeaf, isDeep, Cell, joinCell, samePlace, isParent, onStep, downStep, upStep, startCells, stepCells, cell, isMet, meets}
-use Rattle.model.proofs.BoolLaws.{and-left, and-right, and-both, or-left, or-right, or-cases, bool-cases, true-false}
+use Rattle.model.specs.Meeting.{admitsElement, admitsLeaf, isNamed, shareElement, shareLeaf, isDeep, Cell, joinCell, samePlace, isParent, onStep, downStep, upStep, startCells, stepCells, cell, meets}
+use Rattle.model.proofs.BoolLaws.{and-left, and-right, and-both, or-left, or-right, true-false}
 use Rattle.model.proofs.Words.{Word, Root, Grown, same, more, grown-compare, isLeafLetter, endsInLeaf, areElements, isProper, elements-end, elements-proper, elements-grown, On, at, child, deep}
 
 -- what a cell says of a word
