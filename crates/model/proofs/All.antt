@@ -19,7 +19,8 @@ module _ {A : Type 0} where
   all-imp f nothing = nothing
   all-imp f (also p a) = also (f _ p) (all-imp f a)
 
-  pub all-map : {B : Type 0} {P : A → Type 0} {Q : B → Type 0} {l : List A} (g : A → B) → ((a : A) → P a → Q (g a)) → All P l → All Q (map g l)
+  pub all-map : {B : Type 0} {P : A → Type 0} {Q : B → Type 0} {l : List A} (g : A → B) → ((a : A) → P a → Q (g a)) → All P l →
+      All Q (map g l)
   all-map g f nothing = nothing
   all-map g f (also p a) = also (f _ p) (all-map g f a)
 

@@ -15,8 +15,8 @@ use Rattle.model.proofs.Words.{made, first-made}
 use Rattle.model.proofs.Labels.{Label, labelAt, Fit}
 use Rattle.model.proofs.Below.{OnPath}
 use Rattle.model.proofs.All.{nothing}
-use Rattle.model.proofs.Shift.{shiftRow, shift-low, shift-row-low}
-use Rattle.model.proofs.Twin.{Side, Script, SideFits, World, Good, φ, Twin}
+use Rattle.model.proofs.Shift.{shift-low, shift-row-low}
+use Rattle.model.proofs.Twin.{Side, Script, SideFits, World, Good, φ, Twin, φRow}
 use Rattle.model.proofs.Start.{Well}
 
 -- THE START of any world is a twin
@@ -42,7 +42,7 @@ start-twin W =
     }
   where
     alike : (i : ℕ) → i < count (W .one .plan) → (W .one .hidden i → ⊥) →
-        rowAt (W .two .plan) (φ W i) ≡ shiftRow (W .n) (W .m) (rowAt (W .one .plan) i)
+        rowAt (W .two .plan) (φ W i) ≡ φRow W (rowAt (W .one .plan) i)
     alike i h c =
         let k : i < W .n = omega (arith, W .oneCount) in
         ap (rowAt (W .two .plan)) (shift-low (W .n) (W .m) i k) ∙ W .alike i k c .0 ∙

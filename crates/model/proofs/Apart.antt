@@ -57,7 +57,8 @@ free-apart e f h = go (hasUp e || hasUp f) (pathsMeet (pathsOf 1 e) (pathsOf 2 f
     go false false a b c =
         let (d, g) = or-neither (hasUp e) (hasUp f) a in
         let (k, l) =
-        or-neither (anyMeet (pathsOf 1 e .modified) (traversed (pathsOf 2 f))) (anyMeet (pathsOf 2 f .modified) (traversed (pathsOf 1 e))) b in
+        or-neither (anyMeet (pathsOf 1 e .modified) (traversed (pathsOf 2 f)))
+        (anyMeet (pathsOf 2 f .modified) (traversed (pathsOf 1 e))) b in
         record {
           firstDown = d;
           secondDown = g;

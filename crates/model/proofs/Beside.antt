@@ -1,4 +1,5 @@
--- The world of a script beside another: a plan, and the plan as the other script left it, with what the other touched hidden. Which rows the
+-- The world of a script beside another: a plan, and the plan as the other script left it, with what the other touched hidden. Which rows
+-- the
 -- script can cut there, and how a row of the plan ends in both runs.
 use mathlib.Core.Path.{_≡_, refl, sym, _∙_, ap, subst}
 use mathlib.Core.Bool.{true}
@@ -93,8 +94,11 @@ module _ (L : Left) where
         rooted = rooted;
         room = room;
         closed =
-            λ (i p : ℕ) (h : rowAt y i .parent ≡ some p) (k : Hidden y l p).
-            (parent-row y i p h, subst (Touched c) (sym (fit .links i p h .2)) (touched-grow c (labelAt l p) (letterOf (rowAt y i)) (k .1)));
+            λ (i p : ℕ) (h : rowAt y i .parent ≡ some p) (k : Hidden y l p). (
+              parent-row y i p h,
+              subst (Touched c) (sym (fit .links i p h .2))
+                  (touched-grow c (labelAt l p) (letterOf (rowAt y i)) (k .1)),
+            );
         apart =
             λ (i : ℕ) (p : Path) (k : Hidden y l i) (a : d .accessed p) (g : OnPath (x .marks) p (labelAt l i)).
             touched-apart (labelAt l i) p (k .1) (fit-proper fit i (k .0)) a g;
@@ -129,7 +133,8 @@ module _ (L : Left) where
 
   pub plan-fits : SideFits d (side x ls)
   plan-fits =
-      side-fits x ls (L .well .started .fit) refl (L .well .room) (L .well .rooted) (λ (i : ℕ) (h : i < count x). inl (L .well .started .firsts i h))
+      side-fits x ls (L .well .started .fit) refl (L .well .room) (L .well .rooted)
+      (λ (i : ℕ) (h : i < count x). inl (L .well .started .firsts i h))
 
   pub left-fits : SideFits d (side (L .left .plan) ms)
   left-fits =
@@ -191,7 +196,8 @@ module _ (L : Left) (made : List Label) (u t : State) (T : Twin (beside L) made 
       go : Kept (d L) (labelAt (ms L) i) (rowAt (L .left .plan) i) (rowAt (t .plan) i) → rowAt (t .plan) i ≡ rowAt (L .left .plan) i
       go (inl k) = k
       go (inr (k, (p, q, o), l)) =
-          absurd (touched-apart L (labelAt (ms L) i) p (made-touched L i a (omega (arith, left-count L))) (fit-proper (L .good .fit) i b) q o)
+          absurd (touched-apart L (labelAt (ms L) i) p (made-touched L i a (omega (arith, left-count L)))
+          (fit-proper (L .good .fit) i b) q o)
 
   module _ (i : ℕ) (h : i < count (x L)) where
     -- a row of the plan that the next script sees has its like

@@ -25,7 +25,8 @@ step-collect x s v i (suc n) = ap (λ (l : List ℕ). pick (isReached x s v i) (
 pub collect-all : {P : ℕ → Type 0} (f : ℕ → Bool) (i n : ℕ) → ((j : ℕ) → j < i + n → f j ≡ true → P j) → All P (collect f i n)
 unfolding collect
 collect-all f i zero h = nothing
-collect-all {P} f i (suc n) h = go (f i) refl (collect-all f (suc i) n (λ (j : ℕ) (k : j < suc i + n) (e : f j ≡ true). h j (omega arith) e))
+collect-all {P} f i (suc n) h =
+    go (f i) refl (collect-all f (suc i) n (λ (j : ℕ) (k : j < suc i + n) (e : f j ≡ true). h j (omega arith) e))
   where
     go : (z : Bool) → f i ≡ z → All P (collect f (suc i) n) → All P (pick z (i ∷ collect f (suc i) n) (collect f (suc i) n))
     go true e a = also (h i (omega arith) e) a
@@ -41,7 +42,8 @@ unfolding collect
 collect-append f i zero b = rw (zero-add, add-zero)
 collect-append f i (suc a) b =
     rw (suc-add a b, add-suc i a)
-    (ap (λ (l : List ℕ). pick (f i) (i ∷ l) l) (collect-append f (suc i) a b ∙ ap (λ (k : ℕ). collect f (suc i) a ++ collect f k b) (suc-add i a)) ∙
+    (ap (λ (l : List ℕ). pick (f i) (i ∷ l) l)
+    (collect-append f (suc i) a b ∙ ap (λ (k : ℕ). collect f (suc i) a ++ collect f k b) (suc-add i a)) ∙
     pick-append (f i) i (collect f (suc i) a) (collect f (suc (i + a)) b))
 
 collect-none : (f : ℕ → Bool) (i n : ℕ) → ((j : ℕ) → i ≤ j → j < i + n → f j ≡ false) → collect f i n ≡ []

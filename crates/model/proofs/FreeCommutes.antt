@@ -14,7 +14,8 @@ use Rattle.model.specs.Table.{Table, rowAt, count}
 use Rattle.model.specs.Script.{Expr}
 use Rattle.model.specs.Run.{State, state, Out, stop, gives, runOn}
 use Rattle.model.specs.Paths.{Path, pathsOf, hasUp}
-use Rattle.model.specs.Promise.{tableOf, answerOf, historyOf, ends, newRows, matchedParent, matchedAll, matchedHistory, PlansEqual, FreeCommutes}
+use Rattle.model.specs.Promise.{tableOf, answerOf, historyOf, ends, newRows, matchedParent, matchedAll, matchedHistory, PlansEqual}
+use Rattle.model.specs.Promise.{FreeCommutes}
 use Rattle.model.proofs.Labels.{Label}
 use Rattle.model.proofs.All.{All, all-imp}
 use Rattle.model.proofs.Shift.{shift, shiftRecord}
@@ -205,9 +206,23 @@ module _ (e f : Expr) (x : Table) (w : Well x) (A : Apart e f) where
               subst₂ (OrdersBy x (gives v₁ s₁) (gives v₂ s₂)) (sym k) (sym l) (orders-by m n t q T U b),
         )
         go (inl (t, n, k, T, a)) (inr (l, m, z)) =
-            absurd (omega (arith, left-count one, left-count two, two-count (beside one) n s₂ t T, one-count (beside one) n s₂ t T, T .two .room))
+            absurd (omega (
+              arith,
+              left-count one,
+              left-count two,
+              two-count (beside one) n s₂ t T,
+              one-count (beside one) n s₂ t T,
+              T .two .room,
+            ))
         go (inr (k, m, z)) (inl (q, n, l, U, b)) =
-            absurd (omega (arith, left-count one, left-count two, two-count (beside two) n s₁ q U, one-count (beside two) n s₁ q U, U .two .room))
+            absurd (omega (
+              arith,
+              left-count one,
+              left-count two,
+              two-count (beside two) n s₁ q U,
+              one-count (beside two) n s₁ q U,
+              U .two .room,
+            ))
         go (inr (k, m, z)) (inr (l, m′, z′)) =
             (k ∙ sym l, λ (y : ends (runOn (s₁ .plan) f) ≡ true). absurd (true≢false (sym y ∙ k)))
 

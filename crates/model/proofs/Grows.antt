@@ -13,7 +13,8 @@ use Rattle.model.specs.Refusal.{Fault, isFine, itemsAt}
 use Rattle.model.specs.Table.{Row, Table, rowAt, count, isElement, linked}
 use Rattle.model.specs.Script.{Expr, nil, document, var, step, both, letIn, forIn, ifIn, element, leaf, delete, insert, choose}
 use Rattle.model.specs.Step.{stepped, picked}
-use Rattle.model.specs.Run.{State, Out, stop, gives, andThen, thenRow, joinItems, joinFor, withMade, roomFault, newRow, loose, cutRow, cutBy, cutAll, Copied, copyRow, subtree, copyEach, copyAll, inserted, loop, marked, run}
+use Rattle.model.specs.Run.{State, Out, stop, gives, andThen, thenRow, joinItems, joinFor, withMade, roomFault, newRow, loose}
+use Rattle.model.specs.Run.{cutRow, cutBy, cutAll, Copied, copyRow, subtree, copyEach, copyAll, inserted, loop, marked, run}
 use Rattle.model.proofs.RowLaws.{count-with, count-linked}
 
 pub data Grows (c : ℕ) : Out → Type 0 where
@@ -31,12 +32,14 @@ grows-gives v s =
     let k : count (s .plan) ≤ count (s .plan) = omega arith in
     keeps k
 
-pub grows-then : {c : ℕ} {o : Out} (next : List ℕ → State → Out) → Grows c o → ((v : List ℕ) (s : State) → Grows (count (s .plan)) (next v s)) →
+pub grows-then : {c : ℕ} {o : Out} (next : List ℕ → State → Out) → Grows c o →
+    ((v : List ℕ) (s : State) → Grows (count (s .plan)) (next v s)) →
     Grows c (andThen o next)
 grows-then next stops h = stops
 grows-then next (keeps {v} {s} k) h = grows-less k (h v s)
 
-pub grows-row : {c : ℕ} {o : Out} (next : State → Out) → Grows c o → ((s : State) → Grows (count (s .plan)) (next s)) → Grows c (thenRow o next)
+pub grows-row : {c : ℕ} {o : Out} (next : State → Out) → Grows c o → ((s : State) → Grows (count (s .plan)) (next s)) →
+    Grows c (thenRow o next)
 grows-row next stops h = stops
 grows-row next (keeps {s = s} k) h = grows-less k (h s)
 
@@ -70,7 +73,8 @@ grows-cut z (i ∷ is) s = go (rowAt (s .plan) i .parent) (λ (t : State). grows
         let k : count (s .plan) ≤ count (linked (s .plan) i none) = omega (arith, count-linked (s .plan) i none) in
         grows-pick (ltb (length (s .history)) maxHistory) (grows-less k (h (cutRow s i p))) stops
 
-pub grows-each : (z : ℕ) (x : Table) (t g : ℕ) (is : List ℕ) (cs : List Copied) (s : State) → Grows (count (s .plan)) (copyEach z x t g is cs s)
+pub grows-each : (z : ℕ) (x : Table) (t g : ℕ) (is : List ℕ) (cs : List Copied) (s : State) →
+    Grows (count (s .plan)) (copyEach z x t g is cs s)
 unfolding copyEach
 grows-each z x t g [] cs s = grows-gives [] s
 grows-each z x t g (i ∷ is) cs s =
@@ -115,7 +119,8 @@ run-grows (letIn z e f) b s =
 run-grows (forIn z e f) b s =
     grows-then (λ (v : List ℕ) (u : State). loop z (λ (i : ℕ) (q : State). run f (b ++ ((i ∷ []) ∷ [])) q) v [] u) (run-grows e b s)
     (λ (v : List ℕ) (u : State).
-    grows-loop z (λ (i : ℕ) (q : State). run f (b ++ ((i ∷ []) ∷ [])) q) (λ (i : ℕ) (q : State). run-grows f (b ++ ((i ∷ []) ∷ [])) q) v [] u)
+    grows-loop z (λ (i : ℕ) (q : State). run f (b ++ ((i ∷ []) ∷ [])) q)
+    (λ (i : ℕ) (q : State). run-grows f (b ++ ((i ∷ []) ∷ [])) q) v [] u)
 run-grows (ifIn z e f g) b s =
     grows-then (λ (v : List ℕ) (u : State). pick (eqb (length v) 0) (run g b u) (run f b u)) (run-grows e b s)
     (λ (v : List ℕ) (u : State). grows-pick (eqb (length v) 0) (run-grows g b u) (run-grows f b u))

@@ -68,7 +68,8 @@ module _ (x l u s t : Table) (A : Order x l u s) (B : Order x u l t) (lowX : Low
 
   plan-equal : (i : ℕ) → i < n → rowAt t (matched n a b i) ≡ matchedRow n a b (rowAt s i)
   plan-equal i h =
-      ap (rowAt t) (matched-low n a b i h) ∙ go (agree (rowAt x i) (rowAt l i) (rowAt u i) (rowAt s i) (rowAt t i) (A .settled i h) (B .settled i h))
+      ap (rowAt t) (matched-low n a b i h) ∙
+      go (agree (rowAt x i) (rowAt l i) (rowAt u i) (rowAt s i) (rowAt t i) (A .settled i h) (B .settled i h))
     where
       go : ((rowAt s i ≡ rowAt x i) × (rowAt t i ≡ rowAt x i)) ⊎ ((rowAt s i ≡ unlinked (rowAt x i)) × (rowAt t i ≡ unlinked (rowAt x i))) →
           rowAt t i ≡ matchedRow n a b (rowAt s i)

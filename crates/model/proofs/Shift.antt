@@ -44,7 +44,8 @@ shift-cases n m i = go (decLt i n)
 pub shift-injective : (n m i j : ℕ) → shift n m i ≡ shift n m j → i ≡ j
 shift-injective n m i j e = go (shift-cases n m i) (shift-cases n m j)
   where
-    go : ((i < n) × (shift n m i ≡ i)) ⊎ ((n ≤ i) × (shift n m i ≡ i + m)) → ((j < n) × (shift n m j ≡ j)) ⊎ ((n ≤ j) × (shift n m j ≡ j + m)) →
+    go : ((i < n) × (shift n m i ≡ i)) ⊎ ((n ≤ i) × (shift n m i ≡ i + m)) → ((j < n) × (shift n m j ≡ j)) ⊎
+        ((n ≤ j) × (shift n m j ≡ j + m)) →
         i ≡ j
     go (inl a) (inl b) = omega arith
     go (inl a) (inr b) = omega arith

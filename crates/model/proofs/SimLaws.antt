@@ -36,7 +36,8 @@ module _ (W : World) where
   vals-more r news more a = all-imp (valued-more r news more) a
 
   -- MORE PATHS
-  pub valued-paths : (q r : List Path) → ((p : Path) → In p q → In p r) → (news : List Label) (i : ℕ) → Valued W q news i → Valued W r news i
+  pub valued-paths : (q r : List Path) → ((p : Path) → In p q → In p r) → (news : List Label) (i : ℕ) → Valued W q news i →
+      Valued W r news i
   valued-paths q r h news i (b, k) = (b, go k)
     where
       go : Item (W .script) q (labelAt (ones W news) i) → Item (W .script) r (labelAt (ones W news) i)
@@ -49,7 +50,8 @@ module _ (W : World) where
   pub vals-right : (q r : List Path) (news : List Label) {v : List ℕ} → Vals W r news v → Vals W (q ++ r) news v
   vals-right q r news a = all-imp (valued-paths r (q ++ r) (λ (p : Path) (i : In p r). Memᴰ·append-right q i) news) a
 
-  pub sim-paths : (q r : List Path) → ((news : List Label) (v : List ℕ) → Vals W q news v → Vals W r news v) → (news : List Label) {o o′ : Out} →
+  pub sim-paths : (q r : List Path) → ((news : List Label) (v : List ℕ) → Vals W q news v → Vals W r news v) →
+      (news : List Label) {o o′ : Out} →
       Sim W q news o o′ → Sim W r news o o′
   sim-paths q r h news (both {v} more T a) = both more T (h (news ++ more) v a)
   sim-paths q r h news alike = alike
@@ -59,7 +61,8 @@ module _ (W : World) where
   pub sim-gives : (r : List Path) (news : List Label) (v : List ℕ) (s t : State) → Twin W news s t → Vals W r news v →
       Sim W r news (gives v s) (gives (map (φ W) v) t)
   sim-gives r news v s t T a =
-      both [] (subst (λ (l : List Label). Twin W l s t) (sym (append-nil news)) T) (subst (λ (l : List Label). Vals W r l v) (sym (append-nil news)) a)
+      both [] (subst (λ (l : List Label). Twin W l s t) (sym (append-nil news)) T)
+      (subst (λ (l : List Label). Vals W r l v) (sym (append-nil news)) a)
 
   -- ONE AFTER ANOTHER
   pub sim-more : (r : List Path) (news more : List Label) {o o′ : Out} → Sim W r (news ++ more) o o′ → Sim W r news o o′

@@ -23,8 +23,8 @@ use Rattle.model.proofs.Labels.{Label, label, labelAt}
 use Rattle.model.proofs.Below.{OnPath}
 use Rattle.model.proofs.All.{nothing, also, all-append}
 use Rattle.model.proofs.Grows.{Grows, grows-gives, grows-loop}
-use Rattle.model.proofs.Shift.{shiftRow, shift-low}
-use Rattle.model.proofs.Twin.{World, φ, ones, Twin, Valued, Vals, Full, stopped, passed, Sim, both, alike, full}
+use Rattle.model.proofs.Shift.{shift-low}
+use Rattle.model.proofs.Twin.{World, φ, ones, Twin, Valued, Vals, Full, stopped, passed, Sim, both, alike, full, φRow}
 use Rattle.model.proofs.TwinLaws.{label-side, ones-length, Alike, count-across, label-last, valued-alike}
 use Rattle.model.proofs.TwinStep.{step-alike, step-vals}
 use Rattle.model.proofs.TwinRow.{new-sim}
@@ -34,7 +34,8 @@ use Rattle.model.proofs.SimLaws.{vals-more, sim-gives, sim-more, full-g
 module _ (W : World) where
   -- DOCUMENT: its root is not hidden, and has the same number in both tables
   pub sim-document : (d : ℕ) → W .script .accessed (start (documentPlace d)) → (news : List Label) (s t : State) → Twin W news s t →
-      Sim W (start (documentPlace d) ∷ []) news (gives (marked (getD (s .plan .marks) d none)) s) (gives (marked (getD (t .plan .marks) d none)) t)
+      Sim W (start (documentPlace d) ∷ []) news (gives (marked (getD (s .plan .marks) d none)) s)
+      (gives (marked (getD (t .plan .marks) d none)) t)
   sim-document d acc news s t T =
       subst₂
       (λ (a b : List (Option ℕ)).
@@ -67,7 +68,8 @@ module _ (W : World) where
       (λ (o : Out). o) (λ (x : Fault). refl) (λ (x : Fault). refl)
       (λ (N : Twin W (news ++ (own ∷ [])) (withMade s (loose b n)) (withMade t (loose b n))).
       subst (λ (i : ℕ). Sim W r news (gives (count (s .plan) ∷ []) (withMade s (loose b n))) (gives (i ∷ []) (withMade t (loose b n))))
-      (count-across W news s t T) (both (own ∷ []) N (also (bound N, inl (ap (λ (l : Label). l .root) (label-last W news s t T own))) nothing)))
+      (count-across W news s t T) (both (own ∷ []) N
+      (also (bound N, inl (ap (λ (l : Label). l .root) (label-last W news s t T own))) nothing)))
       (grows-gives (count (s .plan) ∷ []) (withMade s (loose b n)))
     where
       own : Label
@@ -76,7 +78,8 @@ module _ (W : World) where
       base : (p : ℕ) → none ≡ some p → Base W news s p
       base p e = absurd (Option·none-ne-some p e)
 
-      bound : Twin W (news ++ (own ∷ [])) (withMade s (loose b n)) (withMade t (loose b n)) → count (s .plan) < length (ones W (news ++ (own ∷ [])))
+      bound : Twin W (news ++ (own ∷ [])) (withMade s (loose b n)) (withMade t (loose b n)) →
+          count (s .plan) < length (ones W (news ++ (own ∷ [])))
       bound N = omega (arith, N .one .fit .size, count-with (s .plan) (loose b n))
 
   -- STEP
@@ -100,7 +103,7 @@ module _ (W : World) where
       l : Alike W s i (φ W i)
       l = valued-alike W news s t T r i k
 
-      same : rowAt (t .plan) (φ W i) ≡ shiftRow (W .n) (W .m) (rowAt (s .plan) i)
+      same : rowAt (t .plan) (φ W i) ≡ φRow W (rowAt (s .plan) i)
       same = T .alike i (l .0) (l .1)
 
       go : (map (φ W) (picked (s .plan) y c is) ≡ picked (t .plan) y c (map (φ W) is)) × Vals W r news (picked (s .plan) y c is) →
@@ -129,7 +132,8 @@ module _ (W : World) where
   sim-join r z news v w s t T a =
       subst₂
       (λ (b : Bool) (l : List ℕ).
-      Sim W r news (pick (ltb maxItems (length v + length w)) (stop (itemsAt z)) (gives (v ++ w) s)) (pick b (stop (itemsAt z)) (gives l t)))
+      Sim W r news (pick (ltb maxItems (length v + length w)) (stop (itemsAt z)) (gives (v ++ w) s))
+      (pick b (stop (itemsAt z)) (gives l t)))
       (sym (test-items v w)) (map-append (φ W) v w) (go (ltb maxItems (length v + length w)))
     where
       go : (b : Bool) →

@@ -10,7 +10,8 @@ use Rattle.model.specs.Base.{pick}
 use Rattle.model.specs.Script.{Expr, nil, document, var, step, both, letIn, forIn, ifIn, element, leaf, delete, insert, choose}
 use Rattle.model.specs.Step.{stepped, picked}
 use Rattle.model.specs.Run.{State, Out, gives, andThen, joinItems, inserted, loop, cutAll, run}
-use Rattle.model.specs.Paths.{Path, start, _▸_, withStep, anyBelow, documentPlace, Paths, paths, after, joinPaths, infer, pathsOf, isUp, hasUp}
+use Rattle.model.specs.Paths.{Path, start, _▸_, withStep, anyBelow, documentPlace, Paths, paths, after, joinPaths, infer, pathsOf}
+use Rattle.model.specs.Paths.{isUp, hasUp}
 use Rattle.model.proofs.BoolLaws.{or-neither}
 use Rattle.model.proofs.Labels.{Label}
 use Rattle.model.proofs.All.{nothing, also, all-append}
@@ -83,7 +84,8 @@ module _ (W : World) where
       (λ (w : List ℕ) (q : State). gives (stepped (q .plan) c w) q)
       (simulation e b v news s t (ups .1) (inside-first x (withStep c r) (withStep c r) [] h) k T)
       (λ (more : List Label) (w : List ℕ) (s t : State) (T : Twin W (news ++ more) s t) (a : Vals W r (news ++ more) w).
-      sim-step W r c (ups .0) (λ (p : Path) (i : In p r). h .0 (p ▸ c) (Memᴰ·append-right (x .accessed) (in-step c i))) (news ++ more) w s t T a)
+      sim-step W r c (ups .0) (λ (p : Path) (i : In p r). h .0 (p ▸ c) (Memᴰ·append-right (x .accessed) (in-step c i)))
+      (news ++ more) w s t T a)
       (λ (w : List ℕ) (q : State). grows-gives (stepped (q .plan) c w) q)
     where
       x : Paths
@@ -126,7 +128,8 @@ module _ (W : World) where
       (λ (w : List ℕ) (q : State). run f (φs v ++ (w ∷ [])) q)
       (simulation e b v news s t (ups .0) (inside-first x (y .result) (y .accessed) (y .modified) h) k T)
       (λ (more : List Label) (w : List ℕ) (s t : State) (T : Twin W (news ++ more) s t) (a : Vals W (x .result) (news ++ more) w).
-      subst (λ (l : List (List ℕ)). Sim W (y .result) (news ++ more) (run f (v ++ (w ∷ [])) s) (run f l t)) (map-append (map (φ W)) v (w ∷ []))
+      subst (λ (l : List (List ℕ)). Sim W (y .result) (news ++ more) (run f (v ++ (w ∷ [])) s) (run f l t))
+      (map-append (map (φ W)) v (w ∷ []))
       (simulation f (b ++ (x .result ∷ [])) (v ++ (w ∷ [])) (news ++ more) s t (ups .1)
       (inside-rest x (y .result) (y .result) (y .accessed) (y .modified) h) (env-last (news ++ more) (env-more news more k) a) T))
       (λ (w : List ℕ) (q : State). run-grows f (v ++ (w ∷ [])) q)
@@ -154,7 +157,8 @@ module _ (W : World) where
       (inside-rest x (y .result) (y .result) (y .accessed) (y .modified) h) (env-last l c (also a nothing)) T))
       (λ (i : ℕ) (q : State). run-grows f (v ++ ((i ∷ []) ∷ [])) q) w (news ++ more) [] s t (env-more news more k) T a nothing)
       (λ (w : List ℕ) (q : State).
-      grows-loop z (λ (i : ℕ) (q : State). run f (v ++ ((i ∷ []) ∷ [])) q) (λ (i : ℕ) (q : State). run-grows f (v ++ ((i ∷ []) ∷ [])) q) w [] q)
+      grows-loop z (λ (i : ℕ) (q : State). run f (v ++ ((i ∷ []) ∷ [])) q)
+      (λ (i : ℕ) (q : State). run-grows f (v ++ ((i ∷ []) ∷ [])) q) w [] q)
     where
       x : Paths
       x = infer (W .script .owner) e b
@@ -175,10 +179,14 @@ module _ (W : World) where
       (pick (eqb n 0) (run g (φs v) t) (run f (φs v) t)))
       (sym (length-map l (φ W)))
       (sim-branch (y .result ++ w .result) (news ++ more) (eqb (length l) 0)
-      (sim-paths W (w .result) (y .result ++ w .result) (λ (n : List Label) (l : List ℕ) (a : Vals W (w .result) n l). vals-right W (y .result) (w .result) n a)
-      (news ++ more) (simulation g b v (news ++ more) s t (ups .2) (inside-rest y [] (w .result) (w .accessed) (w .modified) inner) (env-more news more k) T))
-      (sim-paths W (y .result) (y .result ++ w .result) (λ (n : List Label) (l : List ℕ) (a : Vals W (y .result) n l). vals-left W (y .result) (w .result) n a)
-      (news ++ more) (simulation f b v (news ++ more) s t (ups .1) (inside-first y [] (w .accessed) (w .modified) inner) (env-more news more k) T))))
+      (sim-paths W (w .result) (y .result ++ w .result)
+      (λ (n : List Label) (l : List ℕ) (a : Vals W (w .result) n l). vals-right W (y .result) (w .result) n a)
+      (news ++ more) (simulation g b v (news ++ more) s t (ups .2) (inside-rest y [] (w .result) (w .accessed) (w .modified) inner)
+      (env-more news more k) T))
+      (sim-paths W (y .result) (y .result ++ w .result)
+      (λ (n : List Label) (l : List ℕ) (a : Vals W (y .result) n l). vals-left W (y .result) (w .result) n a)
+      (news ++ more) (simulation f b v (news ++ more) s t (ups .1) (inside-first y [] (w .accessed) (w .modified) inner)
+      (env-more news more k) T))))
       (λ (l : List ℕ) (q : State). grows-pick (eqb (length l) 0) (run-grows g v q) (run-grows f v q))
     where
       x : Paths
@@ -225,7 +233,8 @@ module _ (W : World) where
       (λ (more : List Label) (w : List ℕ) (s t : State) (T : Twin W (news ++ more) s t) (a : Vals W (x .result) (news ++ more) w).
       sim-then W (y .result) [] (news ++ more) (λ (w′ : List ℕ) (q : State). inserted z w w′ q)
       (λ (w′ : List ℕ) (q : State). inserted z (map (φ W) w) w′ q)
-      (simulation f b v (news ++ more) s t (ups .1) (inside-rest x [] (y .result) (y .accessed) (y .modified) inner) (env-more news more k) T)
+      (simulation f b v (news ++ more) s t (ups .1) (inside-rest x [] (y .result) (y .accessed) (y .modified) inner)
+      (env-more news more k) T)
       (λ (rest : List Label) (w′ : List ℕ) (s t : State) (T : Twin W (news ++ more ++ rest) s t)
       (a′ : Vals W (y .result) (news ++ more ++ rest) w′).
       insert-sim W (news ++ more ++ rest) s t T (x .result) (y .result)
@@ -251,7 +260,8 @@ module _ (W : World) where
       ups : (hasUp e ≡ false) × (hasUp f ≡ false)
       ups = or-neither (hasUp e) (hasUp f) u
   simulation (choose z y c e) b v news s t u h k T =
-      sim-then W r r news (λ (w : List ℕ) (q : State). gives (picked (q .plan) y c w) q) (λ (w : List ℕ) (q : State). gives (picked (q .plan) y c w) q)
+      sim-then W r r news (λ (w : List ℕ) (q : State). gives (picked (q .plan) y c w) q)
+      (λ (w : List ℕ) (q : State). gives (picked (q .plan) y c w) q)
       (simulation e b v news s t u h k T)
       (λ (more : List Label) (w : List ℕ) (s t : State) (T : Twin W (news ++ more) s t) (a : Vals W r (news ++ more) w).
       sim-pick W r y c (news ++ more) w s t T a)

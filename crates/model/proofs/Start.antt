@@ -13,7 +13,8 @@ use lib.Seq.{append-snoc}
 use borrow.Author.Tests.{ltb-true, leb-true, not-true}
 use Rattle.model.specs.Base.{all, any}
 use Rattle.model.specs.Limits.{maxRows, documents}
-use Rattle.model.specs.Table.{Row, Table, table, noRow, rowAt, count, isElement, hasParent, isThe, withRow, tagFits, parentFits, rowsFit, markFits, noneTwice, isWell}
+use Rattle.model.specs.Table.{Row, Table, table, noRow, rowAt, count, isElement, hasParent, isThe, withRow, tagFits, parentFits}
+use Rattle.model.specs.Table.{rowsFit, markFits, noneTwice, isWell}
 use Rattle.model.specs.Step.{Letter, letterOf}
 use Rattle.model.proofs.BoolLaws.{and-left, and-right, or-left, or-right, true-false}
 use Rattle.model.proofs.RowLaws.{row-new, row-old, row-cases}

@@ -17,7 +17,7 @@ use Rattle.model.proofs.Words.{Word, first, made, Grown, On}
 use Rattle.model.proofs.Labels.{Label, label, labelAt, Fit}
 use Rattle.model.proofs.Below.{OnPath}
 use Rattle.model.proofs.All.{All}
-use Rattle.model.proofs.Shift.{shift, shiftRow, shiftRecord}
+use Rattle.model.proofs.Shift.{shift, shiftParent, shiftRow, shiftRecord}
 
 -- ONE SIDE: the table before the run, its labels, and the rows hidden from the script
 pub record Side : Type 1 where
@@ -95,9 +95,18 @@ module _ (c : Script) where
     pub names : All (Named (count (s .plan))) (s .history)
 
 module _ (W : World) where
-  -- row i of the first run is this row of the second
+  -- THE LIKE in the second run: of a row's number, a parent, a row and a record of the first
   abbrev pub φ : ℕ → ℕ
   φ i = shift (W .n) (W .m) i
+
+  abbrev pub φParent : Option ℕ → Option ℕ
+  φParent o = shiftParent (W .n) (W .m) o
+
+  abbrev pub φRow : Row → Row
+  φRow r = shiftRow (W .n) (W .m) r
+
+  abbrev pub φRecord : Record → Record
+  φRecord r = shiftRecord (W .n) (W .m) r
 
   -- the labels of each side's rows
   abbrev pub ones : List Label → List Label
@@ -112,8 +121,8 @@ module _ (W : World) where
     pub two : Good (W .script) (W .two) news t
     pub touched : All (Touched (W .script)) news
     pub alike : (i : ℕ) → i < count (s .plan) → (W .one .hidden i → ⊥) →
-        rowAt (t .plan) (φ i) ≡ shiftRow (W .n) (W .m) (rowAt (s .plan) i)
-    pub histories : t .history ≡ map (shiftRecord (W .n) (W .m)) (s .history)
+        rowAt (t .plan) (φ i) ≡ φRow (rowAt (s .plan) i)
+    pub histories : t .history ≡ map φRecord (s .history)
 
   -- a value whose paths are r
   abbrev pub Valued : List Path → List Label → (row : ℕ) → Type 0

@@ -14,7 +14,8 @@ use Rattle.model.specs.Base.{pick}
 use Rattle.model.specs.Refusal.{Fault, targetAt}
 use Rattle.model.specs.Table.{Row, Table, rowAt, count, isElement, withParent}
 use Rattle.model.specs.Step.{Letter, letterOf}
-use Rattle.model.specs.Run.{State, Out, stop, thenRow, withMade, newRow, Copied, copyOf, copyParent, copyRow, subtree, copyEach, copyAll, inserted}
+use Rattle.model.specs.Run.{State, Out, stop, thenRow, withMade, newRow, Copied, copyOf, copyParent, copyRow, subtree, copyEach}
+use Rattle.model.specs.Run.{copyAll, inserted}
 use Rattle.model.specs.Paths.{Path, _▸_, anyBelow}
 use Rattle.model.proofs.BoolLaws.{and-right, bool-iff}
 use Rattle.model.proofs.RowLaws.{count-with, row-new, row-old}
@@ -22,8 +23,8 @@ use Rattle.model.proofs.Words.{made}
 use Rattle.model.proofs.Labels.{Label, label, grow, labelAt, EndsIn, NewFit, fit-elements}
 use Rattle.model.proofs.All.{All, nothing, also, all-imp}
 use Rattle.model.proofs.Grows.{Grows, grows-row, grows-each, grows-copy}
-use Rattle.model.proofs.Shift.{shiftParent, shiftRow, shift-injective}
-use Rattle.model.proofs.Twin.{World, Item, Touched, φ, ones, Twin, Valued, Vals, Sim, alike}
+use Rattle.model.proofs.Shift.{shift-injective}
+use Rattle.model.proofs.Twin.{World, Item, Touched, φ, ones, Twin, Valued, Vals, Sim, alike, φRow, φParent}
 use Rattle.model.proofs.TwinLaws.{touched-grow, Alike, one-count, count-across, row-bound, label-last, valued-alike}
 use Rattle.model.proofs.TwinStep.{subtree-alike, subtree-clear}
 use Rattle.model.proofs.TwinRow.{new-sim}
@@ -41,25 +42,26 @@ module _ (W : World) where
       (λ (e : eqb (φ W i) (φ W j) ≡ true). eq-eqb i j (shift-injective (W .n) (W .m) i j (eqb-true (φ W i) (φ W j) e)))
       (λ (e : eqb i j ≡ true). eq-eqb (φ W i) (φ W j) (ap (φ W) (eqb-true i j e)))
 
-  copy-across : (i : ℕ) (cs : List Copied) → copyOf (φ W i) (map shiftCopied cs) ≡ shiftParent (W .n) (W .m) (copyOf i cs)
+  copy-across : (i : ℕ) (cs : List Copied) → copyOf (φ W i) (map shiftCopied cs) ≡ φParent W (copyOf i cs)
   unfolding copyOf
   copy-across i [] = refl
   copy-across i (c ∷ cs) =
       ap₂ (λ (z : Bool) (o : Option ℕ). pick z (some (φ W (c .new))) o) (test-across (c .old) i) (copy-across i cs) ∙
       go (eqb (c .old) i) (copyOf i cs)
     where
-      go : (z : Bool) (o : Option ℕ) → pick z (some (φ W (c .new))) (shiftParent (W .n) (W .m) o) ≡ shiftParent (W .n) (W .m) (pick z (some (c .new)) o)
+      go : (z : Bool) (o : Option ℕ) →
+          pick z (some (φ W (c .new))) (φParent W o) ≡ φParent W (pick z (some (c .new)) o)
       go true o = refl
       go false o = refl
 
   parent-across : (z : Bool) (g : ℕ) (q : Option ℕ) (cs : List Copied) →
-      copyParent z (φ W g) (shiftParent (W .n) (W .m) q) (map shiftCopied cs) ≡ shiftParent (W .n) (W .m) (copyParent z g q cs)
+      copyParent z (φ W g) (φParent W q) (map shiftCopied cs) ≡ φParent W (copyParent z g q cs)
   parent-across true g q cs = refl
   parent-across false g none cs = refl
   parent-across false g (some p) cs = copy-across p cs
 
-  row-across : (x y : Table) (t g i : ℕ) (cs : List Copied) → rowAt y (φ W i) ≡ shiftRow (W .n) (W .m) (rowAt x i) →
-      copyRow y (φ W t) (φ W g) (φ W i) (map shiftCopied cs) ≡ shiftRow (W .n) (W .m) (copyRow x t g i cs)
+  row-across : (x y : Table) (t g i : ℕ) (cs : List Copied) → rowAt y (φ W i) ≡ φRow W (rowAt x i) →
+      copyRow y (φ W t) (φ W g) (φ W i) (map shiftCopied cs) ≡ φRow W (copyRow x t g i cs)
   row-across x y t g i cs e =
       ap₂ (λ (r : Row) (z : Bool). withParent r (copyParent z (φ W g) (r .parent) (map shiftCopied cs))) e (test-across i t) ∙
       ap (withParent (rowAt x i)) (parent-across (eqb i t) g (rowAt x i .parent) cs)
@@ -90,8 +92,10 @@ module _ (W : World) where
       record {
         bound = omega (arith, count-with (s .plan) r);
         isElement = ap (λ (r : Row). r .isLeaf) (row-new (s .plan) r) ∙ e;
-        clear = λ (h : W .one .hidden (count (s .plan))). omega (arith, W .oneFits .early (count (s .plan)) h, W .oneCount, one-count W news s t T);
-        grows = λ (a : Letter). touched-grow (W .script) (labelAt (ones W (news ++ (l ∷ []))) (count (s .plan))) a (subst (Touched (W .script)) (sym (label-last W news s t T l)) k);
+        clear = λ (h : W .one .hidden (count (s .plan))).
+            omega (arith, W .oneFits .early (count (s .plan)) h, W .oneCount, one-count W news s t T);
+        grows = λ (a : Letter). touched-grow (W .script) (labelAt (ones W (news ++ (l ∷ []))) (count (s .plan))) a
+            (subst (Touched (W .script)) (sym (label-last W news s t T l)) k);
       }
 
   -- the label of a row more: its parent's grown, or the script's own
@@ -126,20 +130,23 @@ module _ (W : World) where
     abbrev CopyFits : List Label → State → Copied → Type 0
     CopyFits news s c = rowAt (s₀ .plan) (c .old) .isLeaf ≡ false → Base news s (c .new)
 
-    copy-base : (news : List Label) (s : State) (i p : ℕ) (cs : List Copied) → All (CopyFits news s) cs → rowAt (s₀ .plan) i .isLeaf ≡ false →
+    copy-base : (news : List Label) (s : State) (i p : ℕ) (cs : List Copied) → All (CopyFits news s) cs →
+        rowAt (s₀ .plan) i .isLeaf ≡ false →
         copyOf i cs ≡ some p → Base news s p
     unfolding copyOf
     copy-base news s i p [] a e f = absurd (Option·none-ne-some p f)
     copy-base news s i p (c ∷ cs) (also b a) e f =
         go (eqb (c .old) i) refl f (λ (f : copyOf i cs ≡ some p). copy-base news s i p cs a e f)
       where
-        go : (z : Bool) → eqb (c .old) i ≡ z → pick z (some (c .new)) (copyOf i cs) ≡ some p → (copyOf i cs ≡ some p → Base news s p) → Base news s p
+        go : (z : Bool) → eqb (c .old) i ≡ z → pick z (some (c .new)) (copyOf i cs) ≡ some p → (copyOf i cs ≡ some p → Base news s p) →
+            Base news s p
         go true q f k =
             subst (Base news s) (Option·some-injective (c .new) p f)
             (b (ap (λ (j : ℕ). rowAt (s₀ .plan) j .isLeaf) (eqb-true (c .old) i q) ∙ e))
         go false q f k = k f
 
-    parent-base : (news : List Label) (s : State) (cs : List Copied) → All (CopyFits news s) cs → Base news s g → (b : Bool) (o : Option ℕ) →
+    parent-base : (news : List Label) (s : State) (cs : List Copied) → All (CopyFits news s) cs → Base news s g →
+        (b : Bool) (o : Option ℕ) →
         ((i : ℕ) → o ≡ some i → rowAt (s₀ .plan) i .isLeaf ≡ false) → (p : ℕ) → copyParent b g o cs ≡ some p → Base news s p
     parent-base news s cs a b true o h p e = subst (Base news s) (Option·some-injective g p e) b
     parent-base news s cs a b false none h p e = absurd (Option·none-ne-some p e)
@@ -159,17 +166,18 @@ module _ (W : World) where
         (sym (row-across (s₀ .plan) (t₀ .plan) t g i cs (T₀ .alike i (e .0) (e .1))))
         (new-sim W news u q U [] z row l (new-fit news u q U row base) (λ (p : ℕ) (e : row .parent ≡ some p). base p e .clear)
         (new-touched news u q U row base) f f′ (λ (x : Fault). refl) (λ (x : Fault). refl)
-        (λ (N : Twin W (news ++ (l ∷ [])) (withMade u row) (withMade q (shiftRow (W .n) (W .m) row))).
+        (λ (N : Twin W (news ++ (l ∷ [])) (withMade u row) (withMade q (φRow W row))).
         sim-more W [] news (l ∷ [])
         (subst
         (λ (c : ℕ).
         Sim W [] (news ++ (l ∷ [])) (thenRow (copyEach z (s₀ .plan) t g is (new ∷ cs) (withMade u row)) k)
         (thenRow
         (copyEach z (t₀ .plan) (φ W t) (φ W g) (map (φ W) is) (record { old = φ W i; new = c } ∷ map shiftCopied cs)
-        (withMade q (shiftRow (W .n) (W .m) row))) k′))
+        (withMade q (φRow W row))) k′))
         (count-across W news u q U)
-        (each-sim t is es (news ++ (l ∷ [])) (new ∷ cs) (withMade u row) (withMade q (shiftRow (W .n) (W .m) row)) N
-        (base-more news u q U row l g b) (also (λ (e : row .isLeaf ≡ false). base-new news u q U row l e touched) (all-imp older a)) k k′ h d)))
+        (each-sim t is es (news ++ (l ∷ [])) (new ∷ cs) (withMade u row) (withMade q (φRow W row)) N
+        (base-more news u q U row l g b) (also (λ (e : row .isLeaf ≡ false). base-new news u q U row l e touched) (all-imp older a)) k k′
+        h d)))
         (grows-row k (grows-each z (s₀ .plan) t g is (new ∷ cs) (withMade u row)) d))
       where
         row : Row
@@ -221,7 +229,8 @@ module _ (W : World) where
 
   -- THE OUTCOME of an insert of a value on r into a value on q
   module _ (news : List Label) (s t : State) (T : Twin W news s t) (r q : List Path)
-      (acc : (p : Path) → In p r → W .script .accessed (p ▸ anyBelow)) (mods : (p : Path) → In p q → W .script .modified (p ▸ anyBelow)) where
+      (acc : (p : Path) → In p r → W .script .accessed (p ▸ anyBelow))
+      (mods : (p : Path) → In p q → W .script .modified (p ▸ anyBelow)) where
     element-across : (g : ℕ) → Alike W s g (φ W g) → isElement (t .plan) (φ W g) ≡ isElement (s .plan) g
     element-across g a =
         ap₂ (λ (b c : Bool). b && not c)

@@ -24,8 +24,8 @@ use Rattle.model.proofs.Labels.{Label, grow, labelAt, fit-cut}
 use Rattle.model.proofs.Below.{OnPath}
 use Rattle.model.proofs.Reach.{any-admits}
 use Rattle.model.proofs.All.{nothing, also, all-append, all-imp}
-use Rattle.model.proofs.Shift.{shiftParent, shiftRow, shiftRecord, shift-injective}
-use Rattle.model.proofs.Twin.{Side, Script, SideFits, World, Changed, Item, Kept, Named, Good, φ, Twin, Valued, Vals, Sim, alike}
+use Rattle.model.proofs.Shift.{shift-injective}
+use Rattle.model.proofs.Twin.{Side, Script, SideFits, World, Changed, Item, Kept, Named, Good, φ, Twin, Valued, Vals, Sim, alike, φRow, φParent, φRecord}
 use Rattle.model.proofs.TwinLaws.{label-side, label-across, Alike, row-bound, same-length, valued-alike}
 use Rattle.model.proofs.SimLaws.{sim-gives}
 
@@ -34,7 +34,8 @@ pub changed-at : (c : Script) (l : Label) (p : Path) → OnPath (c .marks) p l �
 changed-at c l p o a b w same = (p, a, o)
 changed-at c l p o a b w (more {a = d} g) = (p ▸ anyBelow, b, deep o g refl (any-admits d))
 
-pub changed-below : (c : Script) (l : Label) (a : Letter) (p : Path) → OnPath (c .marks) p l → c .modified (p ▸ anyBelow) → Changed c (grow l a)
+pub changed-below : (c : Script) (l : Label) (a : Letter) (p : Path) → OnPath (c .marks) p l → c .modified (p ▸ anyBelow) →
+    Changed c (grow l a)
 changed-below c l a p o b w same = (p ▸ anyBelow, b, deep o same refl (any-admits a))
 changed-below c l a p o b w (more {a = d} g) = (p ▸ anyBelow, b, deep o (grown-trans (more same) g) refl (any-admits d))
 
@@ -53,7 +54,8 @@ cut-item c d F news r m i (inr (p, k, a, o)) h =
 
 -- ONE STATE
 good-cut : (c : Script) (d : Side) → SideFits c d → (news : List Label) (s : State) → Good c d news s → (r : List Path) → Cuttable c r →
-    (i p : ℕ) → i < count (s .plan) → Item c r (labelAt (d .labels ++ news) i) → rowAt (s .plan) i .parent ≡ some p → Good c d news (cutRow s i p)
+    (i p : ℕ) → i < count (s .plan) → Item c r (labelAt (d .labels ++ news) i) → rowAt (s .plan) i .parent ≡ some p →
+    Good c d news (cutRow s i p)
 good-cut c d F news s g r m i p h k e =
     record {
       fit = fit-cut (g .fit) i h;
@@ -78,7 +80,8 @@ good-cut c d F news s g r m i p h k e =
     lower q f = omega (arith, g .fit .links i q (e ∙ f) .0, same-count)
 
     kept : (j : ℕ) → j < count (d .plan) →
-        (rowAt (linked (s .plan) i none) j ≡ rowAt (s .plan) j) ⊎ ((j ≡ i) × (rowAt (linked (s .plan) i none) j ≡ withParent (rowAt (s .plan) j) none)) →
+        (rowAt (linked (s .plan) i none) j ≡ rowAt (s .plan) j) ⊎
+        ((j ≡ i) × (rowAt (linked (s .plan) i none) j ≡ withParent (rowAt (s .plan) j) none)) →
         Kept c (labelAt (d .labels) j) (rowAt (d .plan) j) (rowAt (s .plan) j) →
         Kept c (labelAt (d .labels) j) (rowAt (d .plan) j) (rowAt (linked (s .plan) i none) j)
     kept j b (inl q) n = subst (Kept c (labelAt (d .labels) j) (rowAt (d .plan) j)) (sym q) n
@@ -97,14 +100,14 @@ module _ (W : World) (news : List Label) (r : List Path) (m : Cuttable (W .scrip
         two =
             good-cut (W .script) (W .two) (W .twoFits) news t (T .two) r m (φ W i) (φ W p) bound
             (subst (λ (l : Label). Item (W .script) r l) (sym (label-across W news i (a .1))) (k .1))
-            (ap (λ (r : Row). r .parent) (T .alike i (a .0) (a .1)) ∙ ap (shiftParent (W .n) (W .m)) e);
+            (ap (λ (r : Row). r .parent) (T .alike i (a .0) (a .1)) ∙ ap (φParent W) e);
         touched = T .touched;
         alike =
             λ (j : ℕ) (h : j < count (linked (s .plan) i none)) (c : W .one .hidden j → ⊥).
             cut-alike j (omega (arith, count-linked (s .plan) i none)) c (ℕ-discrete j i);
         histories =
             ap (λ (h : List Record). h ++ (cutRecord (φ W i) (φ W p) ∷ [])) (T .histories) ∙
-            sym (map-append (shiftRecord (W .n) (W .m)) (s .history) (cutRecord i p ∷ []));
+            sym (map-append (φRecord W) (s .history) (cutRecord i p ∷ []));
       }
     where
       a : Alike W s i (φ W i)
@@ -114,15 +117,15 @@ module _ (W : World) (news : List Label) (r : List Path) (m : Cuttable (W .scrip
       bound = row-bound W news s t T i (a .0)
 
       cut-alike : (j : ℕ) → j < count (s .plan) → (W .one .hidden j → ⊥) → Dec (j ≡ i) →
-          rowAt (linked (t .plan) (φ W i) none) (φ W j) ≡ shiftRow (W .n) (W .m) (rowAt (linked (s .plan) i none) j)
+          rowAt (linked (t .plan) (φ W i) none) (φ W j) ≡ φRow W (rowAt (linked (s .plan) i none) j)
       cut-alike j h c (yes q) =
           subst
-          (λ (j : ℕ). rowAt (linked (t .plan) (φ W i) none) (φ W j) ≡ shiftRow (W .n) (W .m) (rowAt (linked (s .plan) i none) j)) (sym q)
+          (λ (j : ℕ). rowAt (linked (t .plan) (φ W i) none) (φ W j) ≡ φRow W (rowAt (linked (s .plan) i none) j)) (sym q)
           (row-linked (t .plan) (φ W i) none bound ∙ ap (λ (r : Row). withParent r none) (T .alike i (a .0) (a .1)) ∙
-          sym (ap (shiftRow (W .n) (W .m)) (row-linked (s .plan) i none (a .0))))
+          sym (ap (φRow W) (row-linked (s .plan) i none (a .0))))
       cut-alike j h c (no q) =
           row-others (t .plan) (φ W i) (φ W j) none (λ (e : φ W j ≡ φ W i). q (shift-injective (W .n) (W .m) j i e)) ∙ T .alike j h c ∙
-          ap (shiftRow (W .n) (W .m)) (sym (row-others (s .plan) i j none q))
+          ap (φRow W) (sym (row-others (s .plan) i j none q))
 
   -- THE OUTCOME of cutting a value's rows
   pub cut-sim : (z : ℕ) (v : List ℕ) (s t : State) → Twin W news s t → Vals W r news v →
@@ -143,12 +146,12 @@ module _ (W : World) (news : List Label) (r : List Path) (m : Cuttable (W .scrip
           subst₂
           (λ (o p : Option ℕ).
           Sim W [] news (cutBy z i s o (λ (t : State). cutAll z is t)) (cutBy z (φ W i) t p (λ (t : State). cutAll z (map (φ W) is) t)))
-          (sym e) (sym (ap (λ (r : Row). r .parent) (T .alike i (A .0) (A .1)) ∙ ap (shiftParent (W .n) (W .m)) e)) (h s t T)
+          (sym e) (sym (ap (λ (r : Row). r .parent) (T .alike i (A .0) (A .1)) ∙ ap (φParent W) e)) (h s t T)
       go (some p) e h =
           subst₂
           (λ (o p : Option ℕ).
           Sim W [] news (cutBy z i s o (λ (t : State). cutAll z is t)) (cutBy z (φ W i) t p (λ (t : State). cutAll z (map (φ W) is) t)))
-          (sym e) (sym (ap (λ (r : Row). r .parent) (T .alike i (A .0) (A .1)) ∙ ap (shiftParent (W .n) (W .m)) e))
+          (sym e) (sym (ap (λ (r : Row). r .parent) (T .alike i (A .0) (A .1)) ∙ ap (φParent W) e))
           (subst
           (λ (k : ℕ).
           Sim W [] news (pick (ltb (length (s .history)) maxHistory) (cutAll z is (cutRow s i p)) (stop (historyAt z)))

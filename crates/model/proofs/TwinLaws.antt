@@ -19,8 +19,8 @@ use Rattle.model.proofs.Labels.{Label, label, grow, labelAt, label-new}
 use Rattle.model.proofs.Below.{below-label, OnPath, on-child, on-below}
 use Rattle.model.proofs.Reach.{Reach, byChild, byDeep}
 use Rattle.model.proofs.All.{All, all-map, all-in}
-use Rattle.model.proofs.Shift.{shiftParent, shiftRow, shiftRecord, shift-low, shift-high, shift-cases}
-use Rattle.model.proofs.Twin.{Side, Script, SideFits, World, Touched, Item, Good, φ, ones, twos, Twin, Valued, Vals, alike}
+use Rattle.model.proofs.Shift.{shift-low, shift-high, shift-cases}
+use Rattle.model.proofs.Twin.{Side, Script, SideFits, World, Touched, Item, Good, φ, ones, twos, Twin, Valued, Vals, alike, φRow, φParent, φRecord}
 
 pub in-step : (s : Step) {p : Path} {r : List Path} → In p r → In (p ▸ s) (withStep s r)
 unfolding withStep
@@ -49,8 +49,10 @@ module _ (c : Script) (d : Side) (F : SideFits c d) (news : List Label) where
       F .apart i p h a (subst (λ (l : Label). OnPath (c .marks) p l) (label-side i (F .early i h)) o)
 
   -- what a step reaches from items of r are items of r with the step
-  pub reach-item : (r : List Path) (s : State) (t : Step) (v : List ℕ) (j : ℕ) → Good c d news s → ((p : Path) → In p r → c .accessed (p ▸ t)) →
-      All (λ (i : ℕ). Item c r (labelAt (d .labels ++ news) i)) v → Reach (s .plan) t v j → Item c (withStep t r) (labelAt (d .labels ++ news) j)
+  pub reach-item : (r : List Path) (s : State) (t : Step) (v : List ℕ) (j : ℕ) → Good c d news s →
+      ((p : Path) → In p r → c .accessed (p ▸ t)) →
+      All (λ (i : ℕ). Item c r (labelAt (d .labels ++ news) i)) v → Reach (s .plan) t v j →
+      Item c (withStep t r) (labelAt (d .labels ++ news) j)
   reach-item r s t v j g h a (byChild {i} k x e z) = go (all-in a k)
     where
       go : Item c r (labelAt (d .labels ++ news) i) → Item c (withStep t r) (labelAt (d .labels ++ news) j)
@@ -116,7 +118,7 @@ module _ (W : World) where
         go (inr (a, e)) = omega (arith, one-count, two-count)
 
     pub same-length : length (t .history) ≡ length (s .history)
-    same-length = ap length (T .histories) ∙ length-map (s .history) (shiftRecord (W .n) (W .m))
+    same-length = ap length (T .histories) ∙ length-map (s .history) (φRecord W)
 
     -- the label of the next row
     pub label-last : (l : Label) → labelAt (ones W (news ++ (l ∷ []))) (count (s .plan)) ≡ l
@@ -151,8 +153,8 @@ module _ (W : World) where
           ),
         )
 
-    pub alike-row : (i j : ℕ) → Alike s i j → rowAt (t .plan) j ≡ shiftRow (W .n) (W .m) (rowAt (s .plan) i)
-    alike-row i j (a, b, e) = subst (λ (k : ℕ). rowAt (t .plan) k ≡ shiftRow (W .n) (W .m) (rowAt (s .plan) i)) e (T .alike i a b)
+    pub alike-row : (i j : ℕ) → Alike s i j → rowAt (t .plan) j ≡ φRow W (rowAt (s .plan) i)
+    alike-row i j (a, b, e) = subst (λ (k : ℕ). rowAt (t .plan) k ≡ φRow W (rowAt (s .plan) i)) e (T .alike i a b)
 
     -- parents, both ways
     pub alike-parent : (i j p : ℕ) → Alike s i j → rowAt (s .plan) i .parent ≡ some p →
@@ -160,7 +162,7 @@ module _ (W : World) where
     alike-parent i j p k e = (
       φ W p,
       (omega (arith, k .0, T .one .fit .links i p e .0), (λ (h : W .one .hidden p). k .1 (T .one .closed i p e h)), refl),
-      ap (λ (r : Row). r .parent) (alike-row i j k) ∙ ap (shiftParent (W .n) (W .m)) e,
+      ap (λ (r : Row). r .parent) (alike-row i j k) ∙ ap (φParent W) e,
     )
 
     pub parent-alike : (j i q : ℕ) → Alike s i j → rowAt (t .plan) j .parent ≡ some q →
@@ -169,7 +171,7 @@ module _ (W : World) where
       where
         go : (o : Option ℕ) → rowAt (s .plan) i .parent ≡ o → (p : ℕ) × Alike s p q × (rowAt (s .plan) i .parent ≡ some p)
         go none f =
-            absurd (Option·none-ne-some q (sym (ap (λ (r : Row). r .parent) (alike-row i j k) ∙ ap (shiftParent (W .n) (W .m)) f) ∙ e))
+            absurd (Option·none-ne-some q (sym (ap (λ (r : Row). r .parent) (alike-row i j k) ∙ ap (φParent W) f) ∙ e))
         go (some p) f =
             let (u, a, g) = alike-parent i j p k f in
             (p, (a .0, a .1, a .2 ∙ Option·some-injective u q (sym g ∙ e)), f)

@@ -20,7 +20,8 @@ use Rattle.model.proofs.Reach.{Reach, reach-is, is-reach, descendants-s
 use Rattle.model.proofs.All.{All, nothing, also, all-imp, all-in}
 use Rattle.model.proofs.Shift.{shift-injective}
 use Rattle.model.proofs.Twin.{World, Item, φ, ones, Twin, Valued, Vals}
-use Rattle.model.proofs.TwinLaws.{item-clear, reach-item, vals-two, Alike, one-count, two-count, row-bound, valued-alike, like-of, alike-parent, parent-alike, alike-letter}
+use Rattle.model.proofs.TwinLaws.{item-clear, reach-item, vals-two, Alike, one-count, two-count, row-bound, valued-alike, like-of}
+use Rattle.model.proofs.TwinLaws.{alike-parent, parent-alike, alike-letter}
 
 module _ (W : World) (news : List Label) (s t : State) (T : Twin W news s t) (r : List Path) (u : Step) (down : isUp u ≡ false)
     (acc : (p : Path) → In p r → W .script .accessed (p ▸ u)) (v : List ℕ) (vs : Vals W r news v) where

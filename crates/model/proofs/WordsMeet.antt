@@ -1,4 +1,5 @@
--- Cells are sound: a word on two paths, or on one and below a word on the other, turns their cell on. So paths that do not meet share no word.
+-- Cells are sound: a word on two paths, or on one and below a word on the other, turns their cell on. So paths that do not meet share no
+-- word.
 use mathlib.Core.Path.{_≡_, refl, sym, _∙_, subst}
 use mathlib.Core.Bool.{Bool, true, false, _&&_, _||_, not, false≢true}
 use mathlib.Core.Logic.{_⊎_, inl, inr}
@@ -12,9 +13,11 @@ use Rattle.model.specs.Base.{pick}
 use Rattle.model.specs.Script.{Step}
 use Rattle.model.specs.Step.{Letter, leafLetter, named, admits}
 use Rattle.model.specs.Paths.{Place, Path, start, _▸_}
-use Rattle.model.specs.Meeting.{admitsElement, admitsLeaf, isNamed, shareElement, shareLeaf, isDeep, Cell, joinCell, samePlace, isParent, onStep, downStep, upStep, startCells, stepCells, cell, meets}
+use Rattle.model.specs.Meeting.{admitsElement, admitsLeaf, isNamed, shareElement, shareLeaf, isDeep, Cell, joinCell, samePlace}
+use Rattle.model.specs.Meeting.{isParent, onStep, downStep, upStep, startCells, stepCells, cell, meets}
 use Rattle.model.proofs.BoolLaws.{and-left, and-right, and-both, or-left, or-right, true-false}
-use Rattle.model.proofs.Words.{Word, Root, Grown, same, more, grown-compare, isLeafLetter, endsInLeaf, areElements, isProper, elements-end, elements-proper, elements-grown, On, at, child, deep}
+use Rattle.model.proofs.Words.{Word, Root, Grown, same, more, grown-compare, isLeafLetter, endsInLeaf, areElements, isProper}
+use Rattle.model.proofs.Words.{elements-end, elements-proper, elements-grown, On, at, child, deep}
 
 -- what a cell says of a word
 abbrev pub onAt : Cell → Word → Bool
@@ -303,7 +306,8 @@ module _ (marks : List (Option ℕ)) (once : (d e i : ℕ) → getD marks d none
           downAt (cell (p ▸ s) (q ▸ t)) w ≡ true
       down r [] u f g h z = absurd (step-word f)
       down r (a ∷ w) u f g same z =
-          pick-or-left (isLeafLetter a) (c .downElement) (c .downLeaf) (joinCell d e .downElement) (joinCell d e .downLeaf) (met r a w f g z)
+          pick-or-left (isLeafLetter a) (c .downElement) (c .downLeaf) (joinCell d e .downElement) (joinCell d e .downLeaf)
+          (met r a w f g z)
       down r (a ∷ w) u f g (more h) z =
           let b : ((cell p (q ▸ t) .downElement || (isDeep s && cell p (q ▸ t) .upElement)) ≡ true) × (admits s a ≡ true) =
           down-below l f g h z in
