@@ -48,7 +48,7 @@ start-twin W =
         ap (rowAt (W .two .plan)) (shift-low (W .n) (W .m) i k) ∙ W .alike i k c .0 ∙
         sym
         (shift-row-low (W .n) (W .m) (rowAt (W .one .plan) i)
-        (λ (p : ℕ) (e : rowAt (W .one .plan) i .parent ≡ some p). omega (arith, W .oneFits .fit .links i p e .0)))
+        (λ p e. omega (arith, W .oneFits .fit .links i p e .0)))
 
 -- A SCRIPT by its owner and expression
 abbrev pub scriptOf : (owner : ℕ) → Expr → List (Option ℕ) → Script
@@ -72,12 +72,12 @@ module _ (o : ℕ) (e : Expr) (x : Table) (w : Well x) where
         marked = refl;
         rooted = w .rooted;
         room = w .room;
-        closed = λ (i p : ℕ) (e : rowAt x i .parent ≡ some p) (h : ⊥). h;
+        closed = λ i p e h. h;
         apart =
-            λ (i : ℕ) (p : Path) (h : ⊥) (a : In p (pathsOf o e .accessed)) (q : OnPath (x .marks) p (labelAt (w .labels) i)). h;
+            λ i p h a q. h;
         early = λ (i : ℕ) (h : ⊥). absurd h;
         foreign =
-            λ (i : ℕ) (h : i < count x) (q : labelAt (w .labels) i .root ≡ made o).
+            λ i h q.
             first-made (w .started .firsts i h .0) o (sym (w .started .firsts i h .1) ∙ q);
       }
 
@@ -93,8 +93,8 @@ module _ (o : ℕ) (e : Expr) (x : Table) (w : Well x) where
         twoFits = alone-fits;
         oneCount = refl;
         twoCount = sym (add-zero (count x));
-        clear = λ (i : ℕ) (h : i < count x) (c : ⊥ → ⊥) (k : ⊥). k;
-        clearBack = λ (i : ℕ) (h : i < count x) (c : ⊥ → ⊥) (k : ⊥). k;
+        clear = λ i h c k. k;
+        clearBack = λ i h c k. k;
         alike = λ (i : ℕ) (h : i < count x) (c : ⊥ → ⊥). (refl, refl);
-        between = λ (i : ℕ) (h : count x ≤ i) (k : i < count x + 0). absurd (omega arith);
+        between = λ i h k. absurd (omega arith);
       }

@@ -63,9 +63,9 @@ free-apart e f h = go (hasUp e || hasUp f) (pathsMeet (pathsOf 1 e) (pathsOf 2 f
           firstDown = d;
           secondDown = g;
           firstAway =
-              λ (p q : Path) (i : In p (pathsOf 1 e .modified)) (j : In q (pathsOf 2 f .accessed)).
+              λ p q i j.
               none-meet (pathsOf 1 e .modified) (traversed (pathsOf 2 f)) p q k i (in-prefixed j);
           secondAway =
-              λ (p q : Path) (i : In p (pathsOf 2 f .modified)) (j : In q (pathsOf 1 e .accessed)).
+              λ p q i j.
               none-meet (pathsOf 2 f .modified) (traversed (pathsOf 1 e)) p q l i (in-prefixed j);
         }

@@ -44,7 +44,7 @@ below-step n x t i h e = go (or-cases (parentIs x t i) (through (isBelowFrom n x
 below-from : (n : ℕ) (x : Table) (t i : ℕ) → isBelowFrom n x t i ≡ true → Below x t i
 unfolding isBelowFrom
 below-from zero x t i e = absurd (false≢true e)
-below-from (suc n) x t i e = below-step n x t i (λ (p : ℕ) (f : isBelowFrom n x t p ≡ true). below-from n x t p f) e
+below-from (suc n) x t i e = below-step n x t i (λ p f. below-from n x t p f) e
 
 pub below-is : (x : Table) (t i : ℕ) → isBelow x t i ≡ true → Below x t i
 below-is x t i e = below-from (suc i) x t i e

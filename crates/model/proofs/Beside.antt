@@ -94,16 +94,16 @@ module _ (L : Left) where
         rooted = rooted;
         room = room;
         closed =
-            λ (i p : ℕ) (h : rowAt y i .parent ≡ some p) (k : Hidden y l p). (
+            λ i p h k. (
               parent-row y i p h,
               subst (Touched c) (sym (fit .links i p h .2))
                   (touched-grow c (labelAt l p) (letterOf (rowAt y i)) (k .1)),
             );
         apart =
-            λ (i : ℕ) (p : Path) (k : Hidden y l i) (a : d .accessed p) (g : OnPath (x .marks) p (labelAt l i)).
+            λ i p k a g.
             touched-apart (labelAt l i) p (k .1) (fit-proper fit i (k .0)) a g;
         early = λ (i : ℕ) (k : Hidden y l i). k .0;
-        foreign = λ (i : ℕ) (h : i < count y) (g : labelAt l i .root ≡ made (L .other)). roots-foreign (labelAt l i) (roots i h) g;
+        foreign = λ i h g. roots-foreign (labelAt l i) (roots i h) g;
       }
 
   -- WHAT IS LEFT: the plan's rows, and those that c made
@@ -139,7 +139,7 @@ module _ (L : Left) where
   pub left-fits : SideFits d (side (L .left .plan) ms)
   left-fits =
       side-fits (L .left .plan) ms (L .good .fit) (L .good .marked) (L .good .room)
-      (λ (e i : ℕ) (h : getD (x .marks) e none ≡ some i).
+      (λ e i h.
       let (a, b) = L .well .rooted e i h in
       (omega (arith, a, left-count), plan-label i a ∙ b)) left-roots
 
@@ -173,8 +173,8 @@ module _ (L : Left) where
         twoFits = left-fits;
         oneCount = refl;
         twoCount = left-count;
-        clear = λ (i : ℕ) (h : i < count x) (n : Hidden x ls i → ⊥) (k : Hidden (L .left .plan) ms i). n (hidden-plan i h k);
-        clearBack = λ (i : ℕ) (h : i < count x) (n : Hidden (L .left .plan) ms i → ⊥) (k : Hidden x ls i). n (hidden-left i h k);
+        clear = λ i h n k. n (hidden-plan i h k);
+        clearBack = λ i h n k. n (hidden-left i h k);
         alike = left-same;
         between = hidden-made;
       }

@@ -26,7 +26,7 @@ pub collect-all : {P : ℕ → Type 0} (f : ℕ → Bool) (i n : ℕ) → ((j : 
 unfolding collect
 collect-all f i zero h = nothing
 collect-all {P} f i (suc n) h =
-    go (f i) refl (collect-all f (suc i) n (λ (j : ℕ) (k : j < suc i + n) (e : f j ≡ true). h j (omega arith) e))
+    go (f i) refl (collect-all f (suc i) n (λ j k e. h j (omega arith) e))
   where
     go : (z : Bool) → f i ≡ z → All P (collect f (suc i) n) → All P (pick z (i ∷ collect f (suc i) n) (collect f (suc i) n))
     go true e a = also (h i (omega arith) e) a
@@ -51,7 +51,7 @@ unfolding collect
 collect-none f i zero h = refl
 collect-none f i (suc n) h =
     rw (h i (omega arith) (omega arith))
-    (collect-none f (suc i) n (λ (j : ℕ) (a : suc i ≤ j) (b : j < suc i + n). h j (omega arith) (omega arith)))
+    (collect-none f (suc i) n (λ j a b. h j (omega arith) (omega arith)))
 
 -- RAISED by c
 pick-map : (h : ℕ → ℕ) (z : Bool) (i : ℕ) (l : List ℕ) → map h (pick z (i ∷ l) l) ≡ pick z (h i ∷ map h l) (map h l)
@@ -65,7 +65,7 @@ collect-raise f g h i c zero k = refl
 collect-raise f g h i c (suc n) k =
     let a : (h i ≡ i + c) × (f i ≡ g (i + c)) = k i (omega arith) (omega arith) in
     let r : map h (collect f (suc i) n) ≡ collect g (suc (i + c)) n =
-    collect-raise f g h (suc i) c n (λ (j : ℕ) (p : suc i ≤ j) (q : j < suc i + n). k j (omega arith) (omega arith)) ∙
+    collect-raise f g h (suc i) c n (λ j p q. k j (omega arith) (omega arith)) ∙
     ap (λ (m : ℕ). collect g m n) (suc-add i c) in
     pick-map h (f i) i (collect f (suc i) n) ∙ rw (a .0, a .1, r)
 
@@ -87,14 +87,14 @@ collect-shift f g n m k same hid =
     high : map (shift n m) (collect f (0 + n) k) ≡ collect g (0 + n + m) k
     high =
         collect-raise f g (shift n m) (0 + n) m k
-        (λ (j : ℕ) (a : 0 + n ≤ j) (b : j < 0 + n + k).
+        (λ j a b.
         (shift-high n m j (omega arith), same j (omega arith) ∙ ap g (shift-high n m j (omega arith))))
 
     middle : collect g 0 (n + m) ≡ collect g 0 n
     middle =
         collect-append g 0 n m ∙
         ap (λ (l : List ℕ). collect g 0 n ++ l)
-        (collect-none g (0 + n) m (λ (j : ℕ) (a : 0 + n ≤ j) (b : j < 0 + n + m). hid j (omega arith) (omega arith))) ∙
+        (collect-none g (0 + n) m (λ j a b. hid j (omega arith) (omega arith))) ∙
         append-nil (collect g 0 n)
 
     last : collect g (0 + (n + m)) k ≡ collect g (0 + n + m) k

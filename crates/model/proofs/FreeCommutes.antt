@@ -69,8 +69,8 @@ run-alone : (o : ℕ) (e : Expr) (x : Table) (w : Well x) → hasUp e ≡ false 
 run-alone o e x w u v s h =
     go
     (sim-ended (alone o e x w) (pathsOf o e .result)
-    (script-sim (alone o e x w) e (state x []) (state x []) u (λ (p : Path) (i : In p (pathsOf o e .accessed)). i)
-    (λ (p : Path) (i : In p (pathsOf o e .modified)). i) (start-twin (alone o e x w))) v s h)
+    (script-sim (alone o e x w) e (state x []) (state x []) u (λ p i. i)
+    (λ p i. i) (start-twin (alone o e x w))) v s h)
   where
     go : Ended (alone o e x w) (pathsOf o e .result) (runOn x e) v s →
         (news : List Label) × Good (scriptOf o e (x .marks)) (aloneSide x (w .labels)) news s × All (Touched (scriptOf o e (x .marks))) news
@@ -99,8 +99,8 @@ beside-sim : (L : Left) → hasUp (L .next) ≡ false →
     Sim (beside L) (pathsOf (L .other) (L .next) .result) [] (runOn (L .plan) (L .next)) (runOn (L .left .plan) (L .next))
 beside-sim L u =
     script-sim (beside L) (L .next) (state (L .plan) []) (state (L .left .plan) []) u
-    (λ (p : Path) (i : In p (pathsOf (L .other) (L .next) .accessed)). i)
-    (λ (p : Path) (i : In p (pathsOf (L .other) (L .next) .modified)). i) (start-twin (beside L))
+    (λ p i. i)
+    (λ p i. i) (start-twin (beside L))
 
 -- THE ORDERS, by their four outcomes: one first, two first, two after one, one after two
 abbrev OrdersBy : Table → (one two oneTwo twoOne : Out) → Type 0
@@ -156,7 +156,7 @@ module _ (e f : Expr) (x : Table) (w : Well x) (A : Apart e f) where
       answer₁ =
           ap (λ (m : ℕ). map (shift (count x) m) v₁) made₂ ∙
           all-first (count x) a b
-          (all-imp (λ (i : ℕ) (k : Valued (beside two) (pathsOf 1 e .result) n₁ i). omega (arith, k .0, T₂₁ .one .fit .size, rows₁)) a₁)
+          (all-imp (λ i k. omega (arith, k .0, T₂₁ .one .fit .size, rows₁)) a₁)
 
       answer₂ : v₂ ≡ matchedAll (count x) a b (map (φ (beside one)) v₂)
       answer₂ = all-second (count x) a b v₂ ∙ ap (λ (m : ℕ). matchedAll (count x) a b (map (shift (count x) m) v₂)) (sym made₁)
@@ -175,15 +175,15 @@ module _ (e f : Expr) (x : Table) (w : Well x) (A : Apart e f) where
       marks : (d : ℕ) → getD (t₂₁ .plan .marks) d none ≡ matchedParent (count x) a b (getD (t₁₂ .plan .marks) d none)
       marks d =
           ap (λ (ms : List (Option ℕ)). getD ms d none) (T₂₁ .two .marked) ∙
-          mark-low (count x) a b (getD (x .marks) d none) (λ (p : ℕ) (k : getD (x .marks) d none ≡ some p). w .rooted d p k .0) ∙
+          mark-low (count x) a b (getD (x .marks) d none) (λ p k. w .rooted d p k .0) ∙
           ap (λ (ms : List (Option ℕ)). matchedParent (count x) a b (getD ms d none)) (sym (T₁₂ .two .marked))
 
       plans : PlansEqual (count x) a b (t₁₂ .plan) (t₂₁ .plan)
       plans = (
         omega (arith, o₁₂ .total, o₁₂ .grown, o₂₁ .total, o₂₁ .grown),
         rows-equal x (s₁ .plan) (s₂ .plan) (t₁₂ .plan) (t₂₁ .plan) o₁₂ o₂₁
-            (λ (i p : ℕ) (k : rowAt x i .parent ≡ some p). w .started .fit .links i p k .0)
-            (λ (i p : ℕ) (k : rowAt (s₁ .plan) i .parent ≡ some p). T₂₁ .one .fit .links i p k .0),
+            (λ i p k. w .started .fit .links i p k .0)
+            (λ i p k. T₂₁ .one .fit .links i p k .0),
         (λ (d : ℕ) (k : d < documents). marks d),
       )
 
@@ -202,7 +202,7 @@ module _ (e f : Expr) (x : Table) (w : Well x) (A : Apart e f) where
             (ends (runOn (s₁ .plan) f) ≡ true → OrdersBy x (gives v₁ s₁) (gives v₂ s₂) (runOn (s₁ .plan) f) (runOn (s₂ .plan) e))
         go (inl (t, n, k, T, a)) (inl (q, m, l, U, b)) = (
           ap ends k ∙ sym (ap ends l),
-          λ (z : ends (runOn (s₁ .plan) f) ≡ true).
+          λ z.
               subst₂ (OrdersBy x (gives v₁ s₁) (gives v₂ s₂)) (sym k) (sym l) (orders-by m n t q T U b),
         )
         go (inl (t, n, k, T, a)) (inr (l, m, z)) =
@@ -224,7 +224,7 @@ module _ (e f : Expr) (x : Table) (w : Well x) (A : Apart e f) where
               U .two .room,
             ))
         go (inr (k, m, z)) (inr (l, m′, z′)) =
-            (k ∙ sym l, λ (y : ends (runOn (s₁ .plan) f) ≡ true). absurd (true≢false (sym y ∙ k)))
+            (k ∙ sym l, λ y. absurd (true≢false (sym y ∙ k)))
 
   -- ONE OF THEM STOPS ALONE, and so in the other order
   stops-one : (z : Fault) → runOn x e ≡ stop z → (o : Out) → runOn x f ≡ o → (ends o && ends (runOn (tableOf o) e)) ≡ false

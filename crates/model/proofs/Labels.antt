@@ -97,7 +97,7 @@ pub fit-row : {ls : List Label} {x : Table} → Fit ls x → (r : Row) (l : Labe
 fit-row {ls} {x} f r l n =
     record {
       size = size;
-      links = λ (j p : ℕ) (e : rowAt (withRow x r) j .parent ≡ some p). links j p e (row-cases x r j (parent-row (withRow x r) j p e));
+      links = λ j p e. links j p e (row-cases x r j (parent-row (withRow x r) j p e));
       words = λ (j : ℕ) (k : j < count (withRow x r)). words j (row-cases x r j k);
     }
   where

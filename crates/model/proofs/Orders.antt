@@ -35,10 +35,10 @@ order-by L news u t T =
       settled = plan-settled L news u t T;
       stays = made-stays L news u t T;
       raised =
-          λ (i : ℕ) (a : count (L .plan) ≤ i) (b : i < count (u .plan)).
+          λ i a b.
           subst (λ (m : ℕ). rowAt (t .plan) (shift (count (L .plan)) m i) ≡ shiftRow (count (L .plan)) m (rowAt (u .plan) i))
           (omega (arith, left-count L))
-          (T .alike i b (λ (h : Hidden L (L .plan) (L .well .labels) i). omega (arith, h .0)));
+          (T .alike i b (λ h. omega (arith, h .0)));
     }
 
 -- BOTH ORDERS
@@ -76,7 +76,7 @@ module _ (x l u s t : Table) (A : Order x l u s) (B : Order x u l t) (lowX : Low
       go (inl (e, f)) =
           f ∙
           sym (ap (matchedRow n a b) e ∙
-          row-low n a b (rowAt x i) (λ (p : ℕ) (g : rowAt x i .parent ≡ some p). omega (arith, lowX i p g)))
+          row-low n a b (rowAt x i) (λ p g. omega (arith, lowX i p g)))
       go (inr (e, f)) = f ∙ sym (ap (matchedRow n a b) e)
 
   first-equal : (i : ℕ) → n ≤ i → i < n + a → rowAt t (matched n a b i) ≡ matchedRow n a b (rowAt s i)
@@ -84,7 +84,7 @@ module _ (x l u s t : Table) (A : Order x l u s) (B : Order x u l t) (lowX : Low
       let c : i < count l = omega (arith, A .grown) in
       ap (rowAt t) (matched-first n a b i k) ∙ B .raised i h c ∙
       sym (ap (matchedRow n a b) (A .stays i h c) ∙
-      row-first n a b (rowAt l i) (λ (p : ℕ) (g : rowAt l i .parent ≡ some p). omega (arith, lowL i p g)))
+      row-first n a b (rowAt l i) (λ p g. omega (arith, lowL i p g)))
 
   second-equal : (i : ℕ) → n + a ≤ i → i < count s → rowAt t (matched n a b i) ≡ matchedRow n a b (rowAt s i)
   second-equal i h k =

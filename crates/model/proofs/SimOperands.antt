@@ -66,7 +66,7 @@ module _ (W : World) where
       new-sim W news s t T r z (loose b n) own (new-fit W news s t T (loose b n) base)
       (λ (p : ℕ) (e : none ≡ some p). absurd (Option·none-ne-some p e)) (new-touched W news s t T (loose b n) base) (λ (o : Out). o)
       (λ (o : Out). o) (λ (x : Fault). refl) (λ (x : Fault). refl)
-      (λ (N : Twin W (news ++ (own ∷ [])) (withMade s (loose b n)) (withMade t (loose b n))).
+      (λ N.
       subst (λ (i : ℕ). Sim W r news (gives (count (s .plan) ∷ []) (withMade s (loose b n))) (gives (i ∷ []) (withMade t (loose b n))))
       (count-across W news s t T) (both (own ∷ []) N
       (also (bound N, inl (ap (λ (l : Label). l .root) (label-last W news s t T own))) nothing)))
@@ -179,6 +179,6 @@ module _ (W : World) where
   sim-loop K keep q r z f f′ h g (i ∷ is) news v s t k T (also c a) b =
       sim-for r z news v (λ (w : List ℕ) (t : State). loop z f is w t) (λ (w : List ℕ) (t : State). loop z f′ (map (φ W) is) w t)
       (h news i s t k T c) b
-      (λ (more : List Label) (w : List ℕ) (s t : State) (U : Twin W (news ++ more) s t) (d : Vals W r (news ++ more) w).
+      (λ more w s t U d.
       sim-loop K keep q r z f f′ h g is (news ++ more) w s t (keep news more k) U (vals-more W q news more a) d)
       (λ (w : List ℕ) (s : State). grows-loop z f g is w s)

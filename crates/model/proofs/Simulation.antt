@@ -83,7 +83,7 @@ module _ (W : World) where
       sim-then W r (withStep c r) news (λ (w : List ℕ) (q : State). gives (stepped (q .plan) c w) q)
       (λ (w : List ℕ) (q : State). gives (stepped (q .plan) c w) q)
       (simulation e b v news s t (ups .1) (inside-first x (withStep c r) (withStep c r) [] h) k T)
-      (λ (more : List Label) (w : List ℕ) (s t : State) (T : Twin W (news ++ more) s t) (a : Vals W r (news ++ more) w).
+      (λ more w s t T a.
       sim-step W r c (ups .0) (λ (p : Path) (i : In p r). h .0 (p ▸ c) (Memᴰ·append-right (x .accessed) (in-step c i)))
       (news ++ more) w s t T a)
       (λ (w : List ℕ) (q : State). grows-gives (stepped (q .plan) c w) q)
@@ -101,13 +101,12 @@ module _ (W : World) where
       (λ (w : List ℕ) (q : State). andThen (run f v q) (λ (w′ : List ℕ) (q : State). joinItems z w w′ q))
       (λ (w : List ℕ) (q : State). andThen (run f (φs v) q) (λ (w′ : List ℕ) (q : State). joinItems z w w′ q))
       (simulation e b v news s t (ups .0) (inside-first x (x .result ++ y .result) (y .accessed) (y .modified) h) k T)
-      (λ (more : List Label) (w : List ℕ) (s t : State) (T : Twin W (news ++ more) s t) (a : Vals W (x .result) (news ++ more) w).
+      (λ more w s t T a.
       sim-then W (y .result) (x .result ++ y .result) (news ++ more) (λ (w′ : List ℕ) (q : State). joinItems z w w′ q)
       (λ (w′ : List ℕ) (q : State). joinItems z (map (φ W) w) w′ q)
       (simulation f b v (news ++ more) s t (ups .1)
       (inside-rest x (x .result ++ y .result) (y .result) (y .accessed) (y .modified) h) (env-more news more k) T)
-      (λ (rest : List Label) (w′ : List ℕ) (s t : State) (T : Twin W (news ++ more ++ rest) s t)
-      (a′ : Vals W (y .result) (news ++ more ++ rest) w′).
+      (λ rest w′ s t T a′.
       sim-join W (x .result ++ y .result) z (news ++ more ++ rest) w w′ s t T
       (all-append (vals-left W (x .result) (y .result) (news ++ more ++ rest) (vals-more W (x .result) (news ++ more) rest a))
       (vals-right W (x .result) (y .result) (news ++ more ++ rest) a′)))
@@ -127,7 +126,7 @@ module _ (W : World) where
       sim-then W (x .result) (y .result) news (λ (w : List ℕ) (q : State). run f (v ++ (w ∷ [])) q)
       (λ (w : List ℕ) (q : State). run f (φs v ++ (w ∷ [])) q)
       (simulation e b v news s t (ups .0) (inside-first x (y .result) (y .accessed) (y .modified) h) k T)
-      (λ (more : List Label) (w : List ℕ) (s t : State) (T : Twin W (news ++ more) s t) (a : Vals W (x .result) (news ++ more) w).
+      (λ more w s t T a.
       subst (λ (l : List (List ℕ)). Sim W (y .result) (news ++ more) (run f (v ++ (w ∷ [])) s) (run f l t))
       (map-append (map (φ W)) v (w ∷ []))
       (simulation f (b ++ (x .result ∷ [])) (v ++ (w ∷ [])) (news ++ more) s t (ups .1)
@@ -147,10 +146,10 @@ module _ (W : World) where
       (λ (w : List ℕ) (q : State). loop z (λ (i : ℕ) (q : State). run f (v ++ ((i ∷ []) ∷ [])) q) w [] q)
       (λ (w : List ℕ) (q : State). loop z (λ (i : ℕ) (q : State). run f (φs v ++ ((i ∷ []) ∷ [])) q) w [] q)
       (simulation e b v news s t (ups .0) (inside-first x (y .result) (y .accessed) (y .modified) h) k T)
-      (λ (more : List Label) (w : List ℕ) (s t : State) (T : Twin W (news ++ more) s t) (a : Vals W (x .result) (news ++ more) w).
+      (λ more w s t T a.
       sim-loop W (λ (l : List Label). Env l b v) (λ (l m : List Label) (c : Env l b v). env-more l m c) (x .result) (y .result) z
       (λ (i : ℕ) (q : State). run f (v ++ ((i ∷ []) ∷ [])) q) (λ (i : ℕ) (q : State). run f (φs v ++ ((i ∷ []) ∷ [])) q)
-      (λ (l : List Label) (i : ℕ) (s t : State) (c : Env l b v) (T : Twin W l s t) (a : Valued W (x .result) l i).
+      (λ l i s t c T a.
       subst (λ (m : List (List ℕ)). Sim W (y .result) l (run f (v ++ ((i ∷ []) ∷ [])) s) (run f m t))
       (map-append (map (φ W)) v ((i ∷ []) ∷ []))
       (simulation f (b ++ (x .result ∷ [])) (v ++ ((i ∷ []) ∷ [])) l s t (ups .1)
@@ -172,7 +171,7 @@ module _ (W : World) where
       sim-then W (x .result) (y .result ++ w .result) news (λ (l : List ℕ) (q : State). pick (eqb (length l) 0) (run g v q) (run f v q))
       (λ (l : List ℕ) (q : State). pick (eqb (length l) 0) (run g (φs v) q) (run f (φs v) q))
       (simulation e b v news s t (ups .0) (inside-first x (y .result ++ w .result) (yw .accessed) (yw .modified) h) k T)
-      (λ (more : List Label) (l : List ℕ) (s t : State) (T : Twin W (news ++ more) s t) (a : Vals W (x .result) (news ++ more) l).
+      (λ more l s t T a.
       subst
       (λ (n : ℕ).
       Sim W (y .result ++ w .result) (news ++ more) (pick (eqb (length l) 0) (run g v s) (run f v s))
@@ -180,11 +179,11 @@ module _ (W : World) where
       (sym (length-map l (φ W)))
       (sim-branch (y .result ++ w .result) (news ++ more) (eqb (length l) 0)
       (sim-paths W (w .result) (y .result ++ w .result)
-      (λ (n : List Label) (l : List ℕ) (a : Vals W (w .result) n l). vals-right W (y .result) (w .result) n a)
+      (λ n l a. vals-right W (y .result) (w .result) n a)
       (news ++ more) (simulation g b v (news ++ more) s t (ups .2) (inside-rest y [] (w .result) (w .accessed) (w .modified) inner)
       (env-more news more k) T))
       (sim-paths W (y .result) (y .result ++ w .result)
-      (λ (n : List Label) (l : List ℕ) (a : Vals W (y .result) n l). vals-left W (y .result) (w .result) n a)
+      (λ n l a. vals-left W (y .result) (w .result) n a)
       (news ++ more) (simulation f b v (news ++ more) s t (ups .1) (inside-first y [] (w .accessed) (w .modified) inner)
       (env-more news more k) T))))
       (λ (l : List ℕ) (q : State). grows-pick (eqb (length l) 0) (run-grows g v q) (run-grows f v q))
@@ -214,7 +213,7 @@ module _ (W : World) where
   simulation (delete z e) b v news s t u h k T =
       sim-then W (x .result) [] news (λ (w : List ℕ) (q : State). cutAll z w q) (λ (w : List ℕ) (q : State). cutAll z w q)
       (simulation e b v news s t u (inside-first x [] [] (x .result ++ withStep anyBelow (x .result)) h) k T)
-      (λ (more : List Label) (w : List ℕ) (s t : State) (T : Twin W (news ++ more) s t) (a : Vals W (x .result) (news ++ more) w).
+      (λ more w s t T a.
       cut-sim W (news ++ more) (x .result)
       (λ (p : Path) (i : In p (x .result)). (
         h .1 p (Memᴰ·append-right (x .modified) (Memᴰ·append-left (withStep anyBelow (x .result)) i)),
@@ -230,13 +229,12 @@ module _ (W : World) where
       (λ (w : List ℕ) (q : State). andThen (run f v q) (λ (w′ : List ℕ) (q : State). inserted z w w′ q))
       (λ (w : List ℕ) (q : State). andThen (run f (φs v) q) (λ (w′ : List ℕ) (q : State). inserted z w w′ q))
       (simulation e b v news s t (ups .0) (inside-first x [] (y .accessed) (y .modified) inner) k T)
-      (λ (more : List Label) (w : List ℕ) (s t : State) (T : Twin W (news ++ more) s t) (a : Vals W (x .result) (news ++ more) w).
+      (λ more w s t T a.
       sim-then W (y .result) [] (news ++ more) (λ (w′ : List ℕ) (q : State). inserted z w w′ q)
       (λ (w′ : List ℕ) (q : State). inserted z (map (φ W) w) w′ q)
       (simulation f b v (news ++ more) s t (ups .1) (inside-rest x [] (y .result) (y .accessed) (y .modified) inner)
       (env-more news more k) T)
-      (λ (rest : List Label) (w′ : List ℕ) (s t : State) (T : Twin W (news ++ more ++ rest) s t)
-      (a′ : Vals W (y .result) (news ++ more ++ rest) w′).
+      (λ rest w′ s t T a′.
       insert-sim W (news ++ more ++ rest) s t T (x .result) (y .result)
       (λ (p : Path) (i : In p (x .result)). h .0 (p ▸ anyBelow) (Memᴰ·append-right (xy .accessed) (in-step anyBelow i)))
       (λ (p : Path) (i : In p (y .result)). h .1 (p ▸ anyBelow) (Memᴰ·append-right (xy .modified) (in-step anyBelow i))) z w w′
@@ -263,7 +261,7 @@ module _ (W : World) where
       sim-then W r r news (λ (w : List ℕ) (q : State). gives (picked (q .plan) y c w) q)
       (λ (w : List ℕ) (q : State). gives (picked (q .plan) y c w) q)
       (simulation e b v news s t u h k T)
-      (λ (more : List Label) (w : List ℕ) (s t : State) (T : Twin W (news ++ more) s t) (a : Vals W r (news ++ more) w).
+      (λ more w s t T a.
       sim-pick W r y c (news ++ more) w s t T a)
       (λ (w : List ℕ) (q : State). grows-gives (picked (q .plan) y c w) q)
     where

@@ -55,7 +55,7 @@ module _ (ls : List Label) (x : Table) (S : Started ls x) (r : Row)
   started-row =
       record {
         fit = fit-row (S .fit) r next next-fit;
-        roots = λ (i : ℕ) (h : i < count (withRow x r)) (e : rowAt (withRow x r) i .parent ≡ none). roots i e (row-cases x r i h);
+        roots = λ i h e. roots i e (row-cases x r i h);
         firsts = λ (i : ℕ) (h : i < count (withRow x r)). firsts i (row-cases x r i h);
       }
     where
@@ -70,7 +70,7 @@ module _ (ls : List Label) (x : Table) (S : Started ls x) (r : Row)
       roots i e (inl h) = old i h ∙ S .roots i h (ap (λ (r : Row). r .parent) (sym (row-old x r i h)) ∙ e)
       roots i e (inr h) =
           subst (λ (i : ℕ). rowAt (withRow x r) i .parent ≡ none → labelAt (ls ++ (next ∷ [])) i ≡ label (first i) []) (sym h)
-          (λ (e : rowAt (withRow x r) (count x) .parent ≡ none).
+          (λ e.
           new ∙ ap (nextLabel ls (count x) (letterOf r)) (ap (λ (r : Row). r .parent) (sym (row-new x r)) ∙ e)) e
 
       firsts : (i : ℕ) → (i < count x) ⊎ (i ≡ count x) → (j : ℕ) × (labelAt (ls ++ (next ∷ [])) i .root ≡ first j)
@@ -126,7 +126,7 @@ started-none marks =
             links = λ (i p : ℕ) (e : none ≡ some p). absurd (Option·none-ne-some p e);
             words = λ (i : ℕ) (h : i < 0). tt;
           };
-      roots = λ (i : ℕ) (h : i < 0) (e : _≡_ {A = Option ℕ} none none). absurd (not-suc-le-zero h);
+      roots = λ i h e. absurd (not-suc-le-zero h);
       firsts = λ (i : ℕ) (h : i < 0). (0, refl);
     }
 
@@ -180,7 +180,7 @@ well-by x e =
       room = leb-true (count x) maxRows (and-left (leb (count x) maxRows) (rowsFit x 0 (x .rows)) front);
       once = marks-once (x .marks) (and-right (front-test && size-test && marks-test) (noneTwice (x .marks)) e);
       rooted =
-          λ (d i : ℕ) (h : getD (x .marks) d none ≡ some i). (
+          λ d i h. (
             row d i h,
             S .roots i (row d i h) (no-parent (rowAt x i .parent) (not-true (hasParent (rowAt x i .parent))
                 (and-right (isElement x i) (not (hasParent (rowAt x i .parent))) (marks-at (markFits x) (x .marks) d i marks h)))),

@@ -92,7 +92,7 @@ module _ (W : World) where
       record {
         bound = omega (arith, count-with (s .plan) r);
         isElement = ap (λ (r : Row). r .isLeaf) (row-new (s .plan) r) ∙ e;
-        clear = λ (h : W .one .hidden (count (s .plan))).
+        clear = λ h.
             omega (arith, W .oneFits .early (count (s .plan)) h, W .oneCount, one-count W news s t T);
         grows = λ (a : Letter). touched-grow (W .script) (labelAt (ones W (news ++ (l ∷ []))) (count (s .plan))) a
             (subst (Touched (W .script)) (sym (label-last W news s t T l)) k);
@@ -166,7 +166,7 @@ module _ (W : World) where
         (sym (row-across (s₀ .plan) (t₀ .plan) t g i cs (T₀ .alike i (e .0) (e .1))))
         (new-sim W news u q U [] z row l (new-fit news u q U row base) (λ (p : ℕ) (e : row .parent ≡ some p). base p e .clear)
         (new-touched news u q U row base) f f′ (λ (x : Fault). refl) (λ (x : Fault). refl)
-        (λ (N : Twin W (news ++ (l ∷ [])) (withMade u row) (withMade q (φRow W row))).
+        (λ N.
         sim-more W [] news (l ∷ [])
         (subst
         (λ (c : ℕ).
@@ -202,7 +202,7 @@ module _ (W : World) where
         base : (p : ℕ) → row .parent ≡ some p → Base news u p
         base p e =
             parent-base news u cs a b (eqb i t) (rowAt (s₀ .plan) i .parent)
-            (λ (j : ℕ) (h : rowAt (s₀ .plan) i .parent ≡ some j). T₀ .one .fit .links i j h .1) p e
+            (λ j h. T₀ .one .fit .links i j h .1) p e
 
         touched : Touched (W .script) l
         touched = new-touched news u q U row base
@@ -224,7 +224,7 @@ module _ (W : World) where
         (subtree-alike W news₀ s₀ t₀ T₀ r acc i k)
         (each-sim i (subtree (s₀ .plan) i) (subtree-clear W news₀ s₀ t₀ T₀ r acc i k) news [] u q U b nothing
         (λ (u : State). copyAll z (s₀ .plan) is g u) (λ (u : State). copyAll z (t₀ .plan) (map (φ W) is) (φ W g) u)
-        (λ (news : List Label) (u q : State) (U : Twin W news u q) (b : Base news u g). all-sim r acc is a news u q U b)
+        (λ news u q U b. all-sim r acc is a news u q U b)
         (λ (u : State). grows-copy z (s₀ .plan) is g u))
 
   -- THE OUTCOME of an insert of a value on r into a value on q
@@ -274,4 +274,4 @@ module _ (W : World) where
         Sim W [] news (pick (c && isElement (s .plan) g) (copyAll z (s .plan) v g s) (stop (targetAt z)))
         (pick (d && isElement (t .plan) (φ W g)) (copyAll z (t .plan) (map (φ W) v) (φ W g) t) (stop (targetAt z))))
         (sym (ne-eqb (suc (suc (length w))) 1 (λ (e : suc (suc (length w)) ≡ 1). omega arith)))
-        (sym (ne-eqb (suc (suc (length (map (φ W) w)))) 1 (λ (e : suc (suc (length (map (φ W) w))) ≡ 1). omega arith))) alike
+        (sym (ne-eqb (suc (suc (length (map (φ W) w)))) 1 (λ e. omega arith))) alike

@@ -62,7 +62,7 @@ good-cut c d F news s g r m i p h k e =
       marked = g .marked;
       room = omega (arith, g .room, count-linked (s .plan) i none);
       closed =
-          λ (j q : ℕ) (f : rowAt (linked (s .plan) i none) j .parent ≡ some q) (b : d .hidden q).
+          λ j q f b.
           g .closed j q (parent-cut (s .plan) i j q h f .0) b;
       kept = λ (j : ℕ) (b : j < count (d .plan)). kept j b (linked-cases (s .plan) i j none h) (g .kept j b);
       names =
@@ -103,7 +103,7 @@ module _ (W : World) (news : List Label) (r : List Path) (m : Cuttable (W .scrip
             (ap (λ (r : Row). r .parent) (T .alike i (a .0) (a .1)) ∙ ap (φParent W) e);
         touched = T .touched;
         alike =
-            λ (j : ℕ) (h : j < count (linked (s .plan) i none)) (c : W .one .hidden j → ⊥).
+            λ j h c.
             cut-alike j (omega (arith, count-linked (s .plan) i none)) c (ℕ-discrete j i);
         histories =
             ap (λ (h : List Record). h ++ (cutRecord (φ W i) (φ W p) ∷ [])) (T .histories) ∙

@@ -30,7 +30,7 @@ in-step s (there i) = there (in-step s i)
 -- what is below a touched row is touched
 pub touched-grow : (c : Script) (l : Label) (a : Letter) → Touched c l → Touched c (grow l a)
 touched-grow c l a (inl o) = inl o
-touched-grow c l a (inr k) = inr (λ (w : Word) (g : Grown (a ∷ l .word) w). k w (grown-trans (more same) g))
+touched-grow c l a (inr k) = inr (λ w g. k w (grown-trans (more same) g))
 
 -- A label behind the first ones
 pub label-high : (ls news : List Label) (i k : ℕ) → i ≡ length ls + k → labelAt (ls ++ news) i ≡ labelAt news k

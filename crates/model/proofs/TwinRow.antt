@@ -37,7 +37,7 @@ good-row c d F news s g r l n clear h =
       marked = g .marked;
       room = omega (arith, count-with (s .plan) r);
       closed =
-          λ (i p : ℕ) (e : rowAt (withRow (s .plan) r) i .parent ≡ some p) (k : d .hidden p).
+          λ i p e k.
           closed i p e k (row-cases (s .plan) r i (parent-row (withRow (s .plan) r) i p e));
       kept =
           λ (i : ℕ) (k : i < count (d .plan)).
@@ -118,7 +118,7 @@ module _ (W : World) (news : List Label) (s t : State) (T : Twin W news s t) whe
           one = good-row (W .script) (W .one) (W .oneFits) news s (T .one) r l n clear a;
           two = good-row (W .script) (W .two) (W .twoFits) news t (T .two) (φRow W r) l two-fit two-clear b;
           touched = all-append (T .touched) (also k nothing);
-          alike = λ (i : ℕ) (h : i < count (withRow (s .plan) r)) (c : W .one .hidden i → ⊥). new-alike i c (row-cases (s .plan) r i h);
+          alike = λ i h c. new-alike i c (row-cases (s .plan) r i h);
           histories =
               ap₂ (λ (h : List Record) (i : ℕ). h ++ (made (φRow W r) i ∷ [])) (T .histories)
               (sym (count-across W news s t T)) ∙

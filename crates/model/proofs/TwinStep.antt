@@ -38,14 +38,14 @@ module _ (W : World) (news : List Label) (s t : State) (T : Twin W news s t) (r 
   -- carried over, both ways
   to-two : (i j : ℕ) → Alike W s i j → Reach (s .plan) u v i → Reach (t .plan) u (map (φ W) v) j
   to-two i j a k =
-      reach-across (s .plan) (t .plan) (Alike W s) (λ (i j k : ℕ) (a : Alike W s i j) (b : Alike W s i k). sym (a .2) ∙ b .2)
+      reach-across (s .plan) (t .plan) (Alike W s) (λ i j k a b. sym (a .2) ∙ b .2)
       (alike-parent W news s t T) u v (map (φ W) v) i j
       (λ (l : ℕ) (h : In l v). (φ W l, Memᴰ·map (φ W) h, valued-alike W news s t T r l (all-in vs h))) a (alike-letter W news s t T i j a) k
 
   to-one : (j i : ℕ) → Alike W s i j → Reach (t .plan) u (map (φ W) v) j → Reach (s .plan) u v i
   to-one j i a k =
       reach-across (t .plan) (s .plan) (λ (j i : ℕ). Alike W s i j)
-      (λ (j i k : ℕ) (a : Alike W s i j) (b : Alike W s k j). shift-injective (W .n) (W .m) i k (a .2 ∙ sym (b .2)))
+      (λ j i k a b. shift-injective (W .n) (W .m) i k (a .2 ∙ sym (b .2)))
       (parent-alike W news s t T) u (map (φ W) v) v j i items a (sym (alike-letter W news s t T i j a)) k
     where
       items : (l : ℕ) → In l (map (φ W) v) → (i : ℕ) × In i v × Alike W s i l
@@ -60,14 +60,14 @@ module _ (W : World) (news : List Label) (s t : State) (T : Twin W news s t) (r 
       there : isReached (s .plan) u v j ≡ true → isReached (t .plan) u (map (φ W) v) (φ W j) ≡ true
       there e =
           let k : Reach (s .plan) u v j = reach-is (s .plan) u v j down e in
-          is-reach (t .plan) u (map (φ W) v) (φ W j) (λ (i p : ℕ) (e : rowAt (t .plan) i .parent ≡ some p). T .two .fit .links i p e .0)
+          is-reach (t .plan) u (map (φ W) v) (φ W j) (λ i p e. T .two .fit .links i p e .0)
           (to-two j (φ W j) (h, item-clear (W .script) (W .one) (W .oneFits) news (withStep u r) j (one-item j k), refl) k)
 
       back : isReached (t .plan) u (map (φ W) v) (φ W j) ≡ true → isReached (s .plan) u v j ≡ true
       back e =
           let k : Reach (t .plan) u (map (φ W) v) (φ W j) = reach-is (t .plan) u (map (φ W) v) (φ W j) down e in
           let (i, a) = like-of W news s t T (φ W j) (row-bound W news s t T j h) (two-clear (φ W j) k) in
-          is-reach (s .plan) u v j (λ (i p : ℕ) (e : rowAt (s .plan) i .parent ≡ some p). T .one .fit .links i p e .0)
+          is-reach (s .plan) u v j (λ i p e. T .one .fit .links i p e .0)
           (subst (λ (i : ℕ). Reach (s .plan) u v i) (shift-injective (W .n) (W .m) i j (a .2)) (to-one (φ W j) i a k))
 
   test-none : (j : ℕ) → W .n ≤ j → j < W .n + W .m → isReached (t .plan) u (map (φ W) v) j ≡ false
@@ -91,7 +91,7 @@ module _ (W : World) (news : List Label) (s t : State) (T : Twin W news s t) (r 
   step-vals =
       subst (Vals W (withStep u r) news) (sym (step-collect (s .plan) u v 0 (count (s .plan))))
       (collect-all (isReached (s .plan) u v) 0 (count (s .plan))
-      (λ (j : ℕ) (h : j < 0 + count (s .plan)) (e : isReached (s .plan) u v j ≡ true).
+      (λ j h e.
       (omega (arith, T .one .fit .size), one-item j (reach-is (s .plan) u v j down e))))
 
 -- SUBTREES: a row, and what the step 'descendant, any node' reaches from it
