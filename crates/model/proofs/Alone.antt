@@ -23,11 +23,11 @@ use Rattle.model.proofs.Start.{Well}
 start-good : (c : Script) (d : Side) → SideFits c d → Good c d [] (state (d .plan) [])
 start-good c d F =
     record {
-      fit = subst (λ (ls : List Label). Fit ls (d .plan)) (sym (append-nil (d .labels))) (F .fit);
+      fit = subst (λ ls. Fit ls (d .plan)) (sym (append-nil (d .labels))) (F .fit);
       marked = F .marked;
       room = F .room;
       closed = F .closed;
-      kept = λ (i : ℕ) (h : i < count (d .plan)). inl refl;
+      kept = λ i h. inl refl;
       names = nothing;
     }
 
@@ -75,7 +75,7 @@ module _ (o : ℕ) (e : Expr) (x : Table) (w : Well x) where
         closed = λ i p e h. h;
         apart =
             λ i p h a q. h;
-        early = λ (i : ℕ) (h : ⊥). absurd h;
+        early = λ i h. absurd h;
         foreign =
             λ i h q.
             first-made (w .started .firsts i h .0) o (sym (w .started .firsts i h .1) ∙ q);
@@ -95,6 +95,6 @@ module _ (o : ℕ) (e : Expr) (x : Table) (w : Well x) where
         twoCount = sym (add-zero (count x));
         clear = λ i h c k. k;
         clearBack = λ i h c k. k;
-        alike = λ (i : ℕ) (h : i < count x) (c : ⊥ → ⊥). (refl, refl);
+        alike = λ i h c. (refl, refl);
         between = λ i h k. absurd (omega arith);
       }

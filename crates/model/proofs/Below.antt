@@ -27,7 +27,7 @@ isThe-true i none e = absurd (false≢true e)
 isThe-true i (some p) e = ap some (eqb-true p i e)
 
 pub isThe-some : (i : ℕ) (q : Option ℕ) → q ≡ some i → isThe i q ≡ true
-isThe-some i q e = subst (λ (q : Option ℕ). isThe i q ≡ true) (sym e) (eq-eqb i i refl)
+isThe-some i q e = subst (λ q. isThe i q ≡ true) (sym e) (eq-eqb i i refl)
 
 below-step : (n : ℕ) (x : Table) (t i : ℕ) → ((p : ℕ) → isBelowFrom n x t p ≡ true → Below x t p) →
     (parentIs x t i || through (isBelowFrom n x t) (rowAt x i .parent)) ≡ true → Below x t i
@@ -58,7 +58,7 @@ is-below-from x l (suc n) t i (under e) h =
     or-left (parentIs x t i) (through (isBelowFrom n x t) (rowAt x i .parent)) (isThe-some t (rowAt x i .parent) e)
 is-below-from x l (suc n) t i (further {p = p} e b) h =
     or-right (parentIs x t i) (through (isBelowFrom n x t) (rowAt x i .parent))
-    (subst (λ (q : Option ℕ). through (isBelowFrom n x t) q ≡ true) (sym e)
+    (subst (λ q. through (isBelowFrom n x t) q ≡ true) (sym e)
     (is-below-from x l n t p b (omega (arith, l i p e))))
 
 pub is-below : (x : Table) → ((i p : ℕ) → rowAt x i .parent ≡ some p → p < i) → (t i : ℕ) → Below x t i → isBelow x t i ≡ true

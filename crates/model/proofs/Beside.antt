@@ -102,7 +102,7 @@ module _ (L : Left) where
         apart =
             λ i p k a g.
             touched-apart (labelAt l i) p (k .1) (fit-proper fit i (k .0)) a g;
-        early = λ (i : ℕ) (k : Hidden y l i). k .0;
+        early = λ i k. k .0;
         foreign = λ i h g. roots-foreign (labelAt l i) (roots i h) g;
       }
 
@@ -134,7 +134,7 @@ module _ (L : Left) where
   pub plan-fits : SideFits d (side x ls)
   plan-fits =
       side-fits x ls (L .well .started .fit) refl (L .well .room) (L .well .rooted)
-      (λ (i : ℕ) (h : i < count x). inl (L .well .started .firsts i h))
+      (λ i h. inl (L .well .started .firsts i h))
 
   pub left-fits : SideFits d (side (L .left .plan) ms)
   left-fits =
@@ -207,7 +207,7 @@ module _ (L : Left) (made : List Label) (u t : State) (T : Twin (beside L) made 
         subst (λ (j : ℕ). rowAt (t .plan) j ≡ shiftRow (count (x L)) (length (L .news)) (rowAt (u .plan) i))
         (shift-low (count (x L)) (length (L .news)) i h)
         (T .alike i (omega (arith, one-count (beside L) made u t T))
-        (λ (k : Hidden L (x L) (ls L) i). touched-apart L (labelAt (ls L) i) p (k .1) (fit-proper (L .well .started .fit) i h) a o))
+        (λ k. touched-apart L (labelAt (ls L) i) p (k .1) (fit-proper (L .well .started .fit) i h) a o))
 
     pub plan-settled : Settled (rowAt (x L) i) (rowAt (L .left .plan) i) (rowAt (u .plan) i) (rowAt (t .plan) i)
     plan-settled = go (T .one .kept i h) (T .two .kept i (omega (arith, left-count L)))

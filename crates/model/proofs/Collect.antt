@@ -74,12 +74,12 @@ pub collect-shift : (f g : ℕ → Bool) (n m k : ℕ) → ((j : ℕ) → j < n 
     ((j : ℕ) → n ≤ j → j < n + m → g j ≡ false) → map (shift n m) (collect f 0 (n + k)) ≡ collect g 0 (n + m + k)
 collect-shift f g n m k same hid =
     ap (map (shift n m)) (collect-append f 0 n k) ∙ map-append (shift n m) (collect f 0 n) (collect f (0 + n) k) ∙
-    ap₂ (λ (a b : List ℕ). a ++ b) low high ∙ sym (collect-append g 0 (n + m) k ∙ ap₂ (λ (a b : List ℕ). a ++ b) middle last)
+    ap₂ (λ a b. a ++ b) low high ∙ sym (collect-append g 0 (n + m) k ∙ ap₂ (λ a b. a ++ b) middle last)
   where
     low : map (shift n m) (collect f 0 n) ≡ collect g 0 n
     low =
         collect-raise f g (shift n m) 0 0 n
-        (λ (j : ℕ) (a : 0 ≤ j) (b : j < 0 + n). (
+        (λ j a b. (
           shift-low n m j (omega arith) ∙ sym (add-zero j),
           same j (omega arith) ∙ ap g (shift-low n m j (omega arith) ∙ sym (add-zero j)),
         ))

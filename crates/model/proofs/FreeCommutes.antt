@@ -174,9 +174,9 @@ module _ (e f : Expr) (x : Table) (w : Well x) (A : Apart e f) where
 
       marks : (d : ℕ) → getD (t₂₁ .plan .marks) d none ≡ matchedParent (count x) a b (getD (t₁₂ .plan .marks) d none)
       marks d =
-          ap (λ (ms : List (Option ℕ)). getD ms d none) (T₂₁ .two .marked) ∙
+          ap (λ ms. getD ms d none) (T₂₁ .two .marked) ∙
           mark-low (count x) a b (getD (x .marks) d none) (λ p k. w .rooted d p k .0) ∙
-          ap (λ (ms : List (Option ℕ)). matchedParent (count x) a b (getD ms d none)) (sym (T₁₂ .two .marked))
+          ap (λ ms. matchedParent (count x) a b (getD ms d none)) (sym (T₁₂ .two .marked))
 
       plans : PlansEqual (count x) a b (t₁₂ .plan) (t₂₁ .plan)
       plans = (
@@ -184,7 +184,7 @@ module _ (e f : Expr) (x : Table) (w : Well x) (A : Apart e f) where
         rows-equal x (s₁ .plan) (s₂ .plan) (t₁₂ .plan) (t₂₁ .plan) o₁₂ o₂₁
             (λ i p k. w .started .fit .links i p k .0)
             (λ i p k. T₂₁ .one .fit .links i p k .0),
-        (λ (d : ℕ) (k : d < documents). marks d),
+        (λ d k. marks d),
       )
 
       orders-by : OrdersBy x (gives v₁ s₁) (gives v₂ s₂) (gives (map (φ (beside one)) v₂) t₁₂) (gives (map (φ (beside two)) v₁) t₂₁)
@@ -246,9 +246,9 @@ module _ (e f : Expr) (x : Table) (w : Well x) (A : Apart e f) where
   orders : (o q : Out) → runOn x e ≡ o → runOn x f ≡ q →
       ((ends o && ends (runOn (tableOf o) f)) ≡ (ends q && ends (runOn (tableOf q) e))) ×
       ((ends o && ends (runOn (tableOf o) f)) ≡ true → OrdersBy x o q (runOn (tableOf o) f) (runOn (tableOf q) e))
-  orders (stop z) q h k = (sym (stops-one z h q k), λ (y : false ≡ true). absurd (false≢true y))
+  orders (stop z) q h k = (sym (stops-one z h q k), λ y. absurd (false≢true y))
   orders (gives v s) (stop z) h k =
-      (stops-two z k v s h, λ (y : ends (runOn (s .plan) f) ≡ true). absurd (true≢false (sym y ∙ stops-two z k v s h)))
+      (stops-two z k v s h, λ y. absurd (true≢false (sym y ∙ stops-two z k v s h)))
   orders (gives v s) (gives v′ s′) h k = both-end v v′ s s′ h k
 
 pub freeCommutes : FreeCommutes

@@ -96,7 +96,7 @@ pub grows-loop : (z : ℕ) (f : ℕ → State → Out) → ((i : ℕ) (s : State
 unfolding loop
 grows-loop z f h [] w s = grows-gives w s
 grows-loop z f h (i ∷ is) w s =
-    grows-for z w (λ (w : List ℕ) (t : State). loop z f is w t) (h i s) (λ (w : List ℕ) (t : State). grows-loop z f h is w t)
+    grows-for z w (λ w t. loop z f is w t) (h i s) (λ w t. grows-loop z f h is w t)
 
 pub grows-join : (z : ℕ) (v w : List ℕ) (s : State) → Grows (count (s .plan)) (joinItems z v w s)
 grows-join z v w s = grows-pick (ltb maxItems (length v + length w)) stops (grows-gives (v ++ w) s)
@@ -107,31 +107,31 @@ run-grows (nil z) b s = grows-gives [] s
 run-grows (document z d) b s = grows-gives (marked (getD (s .plan .marks) d none)) s
 run-grows (var z v) b s = grows-gives (getD b v []) s
 run-grows (step z t e) b s =
-    grows-then (λ (v : List ℕ) (u : State). gives (stepped (u .plan) t v) u) (run-grows e b s)
-    (λ (v : List ℕ) (u : State). grows-gives (stepped (u .plan) t v) u)
+    grows-then (λ v u. gives (stepped (u .plan) t v) u) (run-grows e b s)
+    (λ v u. grows-gives (stepped (u .plan) t v) u)
 run-grows (both z e f) b s =
-    grows-then (λ (v : List ℕ) (u : State). andThen (run f b u) (λ (w : List ℕ) (q : State). joinItems z v w q)) (run-grows e b s)
-    (λ (v : List ℕ) (u : State).
-    grows-then (λ (w : List ℕ) (q : State). joinItems z v w q) (run-grows f b u) (λ (w : List ℕ) (q : State). grows-join z v w q))
+    grows-then (λ v u. andThen (run f b u) (λ w q. joinItems z v w q)) (run-grows e b s)
+    (λ v u.
+    grows-then (λ w q. joinItems z v w q) (run-grows f b u) (λ w q. grows-join z v w q))
 run-grows (letIn z e f) b s =
-    grows-then (λ (v : List ℕ) (u : State). run f (b ++ (v ∷ [])) u) (run-grows e b s)
-    (λ (v : List ℕ) (u : State). run-grows f (b ++ (v ∷ [])) u)
+    grows-then (λ v u. run f (b ++ (v ∷ [])) u) (run-grows e b s)
+    (λ v u. run-grows f (b ++ (v ∷ [])) u)
 run-grows (forIn z e f) b s =
-    grows-then (λ (v : List ℕ) (u : State). loop z (λ (i : ℕ) (q : State). run f (b ++ ((i ∷ []) ∷ [])) q) v [] u) (run-grows e b s)
-    (λ (v : List ℕ) (u : State).
-    grows-loop z (λ (i : ℕ) (q : State). run f (b ++ ((i ∷ []) ∷ [])) q)
-    (λ (i : ℕ) (q : State). run-grows f (b ++ ((i ∷ []) ∷ [])) q) v [] u)
+    grows-then (λ v u. loop z (λ i q. run f (b ++ ((i ∷ []) ∷ [])) q) v [] u) (run-grows e b s)
+    (λ v u.
+    grows-loop z (λ i q. run f (b ++ ((i ∷ []) ∷ [])) q)
+    (λ i q. run-grows f (b ++ ((i ∷ []) ∷ [])) q) v [] u)
 run-grows (ifIn z e f g) b s =
-    grows-then (λ (v : List ℕ) (u : State). pick (eqb (length v) 0) (run g b u) (run f b u)) (run-grows e b s)
-    (λ (v : List ℕ) (u : State). grows-pick (eqb (length v) 0) (run-grows g b u) (run-grows f b u))
+    grows-then (λ v u. pick (eqb (length v) 0) (run g b u) (run f b u)) (run-grows e b s)
+    (λ v u. grows-pick (eqb (length v) 0) (run-grows g b u) (run-grows f b u))
 run-grows (element z n) b s = grows-new z (loose false n) s
 run-grows (leaf z v) b s = grows-new z (loose true v) s
 run-grows (delete z e) b s =
-    grows-then (λ (v : List ℕ) (u : State). cutAll z v u) (run-grows e b s) (λ (v : List ℕ) (u : State). grows-cut z v u)
+    grows-then (λ v u. cutAll z v u) (run-grows e b s) (λ v u. grows-cut z v u)
 run-grows (insert z e f) b s =
-    grows-then (λ (v : List ℕ) (u : State). andThen (run f b u) (λ (w : List ℕ) (q : State). inserted z v w q)) (run-grows e b s)
-    (λ (v : List ℕ) (u : State).
-    grows-then (λ (w : List ℕ) (q : State). inserted z v w q) (run-grows f b u) (λ (w : List ℕ) (q : State). grows-insert z v w q))
+    grows-then (λ v u. andThen (run f b u) (λ w q. inserted z v w q)) (run-grows e b s)
+    (λ v u.
+    grows-then (λ w q. inserted z v w q) (run-grows f b u) (λ w q. grows-insert z v w q))
 run-grows (choose z r c e) b s =
-    grows-then (λ (v : List ℕ) (u : State). gives (picked (u .plan) r c v) u) (run-grows e b s)
-    (λ (v : List ℕ) (u : State). grows-gives (picked (u .plan) r c v) u)
+    grows-then (λ v u. gives (picked (u .plan) r c v) u) (run-grows e b s)
+    (λ v u. grows-gives (picked (u .plan) r c v) u)

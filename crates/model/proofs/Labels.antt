@@ -98,7 +98,7 @@ fit-row {ls} {x} f r l n =
     record {
       size = size;
       links = λ j p e. links j p e (row-cases x r j (parent-row (withRow x r) j p e));
-      words = λ (j : ℕ) (k : j < count (withRow x r)). words j (row-cases x r j k);
+      words = λ j k. words j (row-cases x r j k);
     }
   where
     size : length (ls ++ (l ∷ [])) ≡ count (withRow x r)
@@ -117,7 +117,7 @@ fit-row {ls} {x} f r l n =
         let b : p < count x = omega (arith, k .0) in (
           k .0,
           ap (λ (r : Row). r .isLeaf) (row-old x r p b) ∙ k .1,
-          old j h ∙ k .2 ∙ ap₂ (λ (m : Label) (r : Row). grow m (letterOf r)) (sym (old p b)) (sym q),
+          old j h ∙ k .2 ∙ ap₂ (λ m r. grow m (letterOf r)) (sym (old p b)) (sym q),
         )
     links j p e (inr h) =
         let q : rowAt (withRow x r) j ≡ r = subst (λ (i : ℕ). rowAt (withRow x r) i ≡ r) (sym h) (row-new x r) in
@@ -126,12 +126,12 @@ fit-row {ls} {x} f r l n =
           subst (λ (i : ℕ). p < i) (sym h) (k .0),
           ap (λ (r : Row). r .isLeaf) (row-old x r p (k .0)) ∙ k .1,
           ap (λ (i : ℕ). labelAt (ls ++ (l ∷ [])) i) h ∙ new ∙ k .2 ∙
-              ap₂ (λ (m : Label) (r : Row). grow m (letterOf r)) (sym (old p (k .0))) (sym q),
+              ap₂ (λ m r. grow m (letterOf r)) (sym (old p (k .0))) (sym q),
         )
 
     words : (j : ℕ) → (j < count x) ⊎ (j ≡ count x) → EndsIn (labelAt (ls ++ (l ∷ [])) j .word) (letterOf (rowAt (withRow x r) j))
     words j (inl h) =
-        subst₂ (λ (m : Label) (r : Row). EndsIn (m .word) (letterOf r)) (sym (old j h)) (sym (row-old x r j h)) (f .words j h)
+        subst₂ (λ m r. EndsIn (m .word) (letterOf r)) (sym (old j h)) (sym (row-old x r j h)) (f .words j h)
     words j (inr h) =
         subst (λ (i : ℕ). EndsIn (labelAt (ls ++ (l ∷ [])) i .word) (letterOf (rowAt (withRow x r) i))) (sym h)
-        (subst₂ (λ (m : Label) (r : Row). EndsIn (m .word) (letterOf r)) (sym new) (sym (row-new x r)) (n .word))
+        (subst₂ (λ m r. EndsIn (m .word) (letterOf r)) (sym new) (sym (row-new x r)) (n .word))

@@ -64,12 +64,12 @@ module _ (n a b : ℕ) where
   pub all-first : {v : List ℕ} → All (λ (i : ℕ). i < n + a) v → map (shift n b) v ≡ matchedAll n a b v
   unfolding matchedAll
   all-first nothing = refl
-  all-first (also {a = i} h k) = ap₂ (λ (j : ℕ) (l : List ℕ). j ∷ l) (sym (matched-first i h)) (all-first k)
+  all-first (also {a = i} h k) = ap₂ (λ j l. j ∷ l) (sym (matched-first i h)) (all-first k)
 
   pub all-second : (v : List ℕ) → v ≡ matchedAll n a b (map (shift n a) v)
   unfolding matchedAll
   all-second [] = refl
-  all-second (i ∷ is) = ap₂ (λ (j : ℕ) (l : List ℕ). j ∷ l) (sym (matched-second i)) (all-second is)
+  all-second (i ∷ is) = ap₂ (λ j l. j ∷ l) (sym (matched-second i)) (all-second is)
 
   -- HISTORIES
   abbrev renumbered : Record → ℕ → Option ℕ → Record
@@ -79,12 +79,12 @@ module _ (n a b : ℕ) where
   unfolding matchedHistory
   history-first nothing = refl
   history-first (also {a = r} k h) =
-      ap₂ (λ (q : Record) (l : List Record). q ∷ l)
+      ap₂ (λ q l. q ∷ l)
       (ap₂ (renumbered r) (sym (matched-first (r .row) (k .0))) (sym (parent-first (r .parent) (k .1)))) (history-first h)
 
   pub history-second : (h : List Record) → h ≡ matchedHistory n a b (map (shiftRecord n a) h)
   unfolding matchedHistory
   history-second [] = refl
   history-second (r ∷ h) =
-      ap₂ (λ (q : Record) (l : List Record). q ∷ l) (ap₂ (renumbered r) (sym (matched-second (r .row))) (sym (parent-second (r .parent))))
+      ap₂ (λ q l. q ∷ l) (ap₂ (renumbered r) (sym (matched-second (r .row))) (sym (parent-second (r .parent))))
       (history-second h)

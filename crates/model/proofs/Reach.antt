@@ -22,7 +22,7 @@ use Rattle.model.proofs.Below.{Below, under, further, isThe-true, isThe
 pub any-in : {A : Type 0} (f : A → Bool) (l : List A) → any f l ≡ true → (a : A) × In a l × (f a ≡ true)
 unfolding any
 any-in f [] e = absurd (false≢true e)
-any-in {A} f (b ∷ l) e = go (or-cases (f b) (any f l) e) (λ (h : any f l ≡ true). any-in f l h)
+any-in {A} f (b ∷ l) e = go (or-cases (f b) (any f l) e) (λ h. any-in f l h)
   where
     go : (f b ≡ true) ⊎ (any f l ≡ true) → (any f l ≡ true → (a : A) × In a l × (f a ≡ true)) → (a : A) × In a (b ∷ l) × (f a ≡ true)
     go (inl h) k = (b, here refl, h)
@@ -83,7 +83,7 @@ pub descendants-stepped : (x : Table) (t i n : ℕ) → descendantsFrom x t i n 
 unfolding descendantsFrom stepFrom
 descendants-stepped x t i zero = refl
 descendants-stepped x t i (suc n) =
-    ap₂ (λ (z : Bool) (l : List ℕ). pick z (i ∷ l) l) (below-reached x t i) (descendants-stepped x t (suc i) n)
+    ap₂ (λ z l. pick z (i ∷ l) l) (below-reached x t i) (descendants-stepped x t (suc i) n)
 
 -- ACROSS: R relates rows of x to their like in y; the parent's like is the like's parent
 module _ (x y : Table) (R : ℕ → ℕ → Type 0) (one : (i j k : ℕ) → R i j → R i k → j ≡ k)

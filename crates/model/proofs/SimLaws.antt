@@ -23,7 +23,7 @@ module _ (W : World) where
 
   pub label-more : (news more : List Label) (i : ℕ) → i < length (ones W news) → labelAt (ones W (news ++ more)) i ≡ labelAt (ones W news) i
   label-more news more i h =
-      ap (λ (l : List Label). labelAt l i) (ones-more news more) ∙ List·getD-append (ones W news) more (label (first 0) []) i h
+      ap (λ l. labelAt l i) (ones-more news more) ∙ List·getD-append (ones W news) more (label (first 0) []) i h
 
   length-more : (news more : List Label) → length (ones W news) ≤ length (ones W (news ++ more))
   length-more news more = omega (arith, ap length (ones-more news more), length-append (ones W news) more)
@@ -45,10 +45,10 @@ module _ (W : World) where
       go (inr (p, j, a, o)) = inr (p, h p j, a, o)
 
   pub vals-left : (q r : List Path) (news : List Label) {v : List ℕ} → Vals W q news v → Vals W (q ++ r) news v
-  vals-left q r news a = all-imp (valued-paths q (q ++ r) (λ (p : Path) (i : In p q). Memᴰ·append-left r i) news) a
+  vals-left q r news a = all-imp (valued-paths q (q ++ r) (λ p i. Memᴰ·append-left r i) news) a
 
   pub vals-right : (q r : List Path) (news : List Label) {v : List ℕ} → Vals W r news v → Vals W (q ++ r) news v
-  vals-right q r news a = all-imp (valued-paths r (q ++ r) (λ (p : Path) (i : In p r). Memᴰ·append-right q i) news) a
+  vals-right q r news a = all-imp (valued-paths r (q ++ r) (λ p i. Memᴰ·append-right q i) news) a
 
   pub sim-paths : (q r : List Path) → ((news : List Label) (v : List ℕ) → Vals W q news v → Vals W r news v) →
       (news : List Label) {o o′ : Out} →
@@ -61,14 +61,14 @@ module _ (W : World) where
   pub sim-gives : (r : List Path) (news : List Label) (v : List ℕ) (s t : State) → Twin W news s t → Vals W r news v →
       Sim W r news (gives v s) (gives (map (φ W) v) t)
   sim-gives r news v s t T a =
-      both [] (subst (λ (l : List Label). Twin W l s t) (sym (append-nil news)) T)
-      (subst (λ (l : List Label). Vals W r l v) (sym (append-nil news)) a)
+      both [] (subst (λ l. Twin W l s t) (sym (append-nil news)) T)
+      (subst (λ l. Vals W r l v) (sym (append-nil news)) a)
 
   -- ONE AFTER ANOTHER
   pub sim-more : (r : List Path) (news more : List Label) {o o′ : Out} → Sim W r (news ++ more) o o′ → Sim W r news o o′
   sim-more r news more (both {v} {s} {t} rest T a) =
-      both (more ++ rest) (subst (λ (l : List Label). Twin W l s t) (append-assoc news more rest) T)
-      (subst (λ (l : List Label). Vals W r l v) (append-assoc news more rest) a)
+      both (more ++ rest) (subst (λ l. Twin W l s t) (append-assoc news more rest) T)
+      (subst (λ l. Vals W r l v) (append-assoc news more rest) a)
   sim-more r news more alike = alike
   sim-more r news more (full k f) = full k f
 

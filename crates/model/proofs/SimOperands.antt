@@ -38,7 +38,7 @@ module _ (W : World) where
       (gives (marked (getD (t .plan .marks) d none)) t)
   sim-document d acc news s t T =
       subst₂
-      (λ (a b : List (Option ℕ)).
+      (λ a b.
       Sim W (start (documentPlace d) ∷ []) news (gives (marked (getD a d none)) s) (gives (marked (getD b d none)) t))
       (sym (T .one .marked)) (sym (T .two .marked)) (go (getD (W .script .marks) d none) refl)
     where
@@ -64,7 +64,7 @@ module _ (W : World) where
       Sim W r news (newRow z (loose b n) s) (newRow z (loose b n) t)
   sim-new r z b n news s t T =
       new-sim W news s t T r z (loose b n) own (new-fit W news s t T (loose b n) base)
-      (λ (p : ℕ) (e : none ≡ some p). absurd (Option·none-ne-some p e)) (new-touched W news s t T (loose b n) base) (λ (o : Out). o)
+      (λ p e. absurd (Option·none-ne-some p e)) (new-touched W news s t T (loose b n) base) (λ (o : Out). o)
       (λ (o : Out). o) (λ (x : Fault). refl) (λ (x : Fault). refl)
       (λ N.
       subst (λ (i : ℕ). Sim W r news (gives (count (s .plan) ∷ []) (withMade s (loose b n))) (gives (i ∷ []) (withMade t (loose b n))))
@@ -98,7 +98,7 @@ module _ (W : World) where
   picked-alike r y c news s t T [] nothing = (refl, nothing)
   picked-alike r y c news s t T (i ∷ is) (also k a) =
       go (picked-alike r y c news s t T is a) (isPicked (s .plan) y c i) (isPicked (t .plan) y c (φ W i))
-      (ap₂ (λ (b : Bool) (n : ℕ). b && relates y c n) (ap (λ (r : Row). r .isLeaf) same) (ap (λ (r : Row). r .tag) same))
+      (ap₂ (λ b n. b && relates y c n) (ap (λ (r : Row). r .isLeaf) same) (ap (λ (r : Row). r .tag) same))
     where
       l : Alike W s i (φ W i)
       l = valued-alike W news s t T r i k
@@ -131,7 +131,7 @@ module _ (W : World) where
       Sim W r news (joinItems z v w s) (joinItems z (map (φ W) v) (map (φ W) w) t)
   sim-join r z news v w s t T a =
       subst₂
-      (λ (b : Bool) (l : List ℕ).
+      (λ b l.
       Sim W r news (pick (ltb maxItems (length v + length w)) (stop (itemsAt z)) (gives (v ++ w) s))
       (pick b (stop (itemsAt z)) (gives l t)))
       (sym (test-items v w)) (map-append (φ W) v w) (go (ltb maxItems (length v + length w)))
@@ -150,7 +150,7 @@ module _ (W : World) where
   sim-for r z news v next next′ (both {v = w} {s} {t} more T a) k h g =
       sim-more W r news more
       (subst₂
-      (λ (b : Bool) (l : List ℕ).
+      (λ b l.
       Sim W r (news ++ more) (pick (ltb maxItems (length v + length w)) (stop (itemsAt z)) (next (v ++ w) s))
       (pick b (stop (itemsAt z)) (next′ l t)))
       (sym (test-items v w)) (map-append (φ W) v w) (go (ltb maxItems (length v + length w))))
@@ -177,8 +177,8 @@ module _ (W : World) where
   unfolding loop
   sim-loop K keep q r z f f′ h g [] news v s t k T nothing b = sim-gives W r news v s t T b
   sim-loop K keep q r z f f′ h g (i ∷ is) news v s t k T (also c a) b =
-      sim-for r z news v (λ (w : List ℕ) (t : State). loop z f is w t) (λ (w : List ℕ) (t : State). loop z f′ (map (φ W) is) w t)
+      sim-for r z news v (λ w t. loop z f is w t) (λ w t. loop z f′ (map (φ W) is) w t)
       (h news i s t k T c) b
       (λ more w s t U d.
       sim-loop K keep q r z f f′ h g is (news ++ more) w s t (keep news more k) U (vals-more W q news more a) d)
-      (λ (w : List ℕ) (s : State). grows-loop z f g is w s)
+      (λ w s. grows-loop z f g is w s)

@@ -54,14 +54,14 @@ module _ (W : World) where
 
   inside-first : (x : Paths) (r a m : List Path) → Inside (after x r a m) → Inside x
   inside-first x r a m h = (
-    (λ (p : Path) (i : In p (x .accessed)). h .0 p (Memᴰ·append-left a i)),
-    (λ (p : Path) (i : In p (x .modified)). h .1 p (Memᴰ·append-left m i)),
+    (λ p i. h .0 p (Memᴰ·append-left a i)),
+    (λ p i. h .1 p (Memᴰ·append-left m i)),
   )
 
   inside-rest : (x : Paths) (q r a m : List Path) → Inside (after x q a m) → Inside (paths r a m)
   inside-rest x q r a m h = (
-    (λ (p : Path) (i : In p a). h .0 p (Memᴰ·append-right (x .accessed) i)),
-    (λ (p : Path) (i : In p m). h .1 p (Memᴰ·append-right (x .modified) i)),
+    (λ p i. h .0 p (Memᴰ·append-right (x .accessed) i)),
+    (λ p i. h .1 p (Memᴰ·append-right (x .modified) i)),
   )
 
   -- either branch
@@ -80,13 +80,13 @@ module _ (W : World) where
       subst (λ (w : List ℕ). Sim W (getD b i []) news (gives (getD v i []) s) (gives w t)) (sym (List·getD-map (map (φ W)) v i []))
       (sim-gives W (getD b i []) news (getD v i []) s t T (env-at news i k))
   simulation (step z c e) b v news s t u h k T =
-      sim-then W r (withStep c r) news (λ (w : List ℕ) (q : State). gives (stepped (q .plan) c w) q)
-      (λ (w : List ℕ) (q : State). gives (stepped (q .plan) c w) q)
+      sim-then W r (withStep c r) news (λ w q. gives (stepped (q .plan) c w) q)
+      (λ w q. gives (stepped (q .plan) c w) q)
       (simulation e b v news s t (ups .1) (inside-first x (withStep c r) (withStep c r) [] h) k T)
       (λ more w s t T a.
-      sim-step W r c (ups .0) (λ (p : Path) (i : In p r). h .0 (p ▸ c) (Memᴰ·append-right (x .accessed) (in-step c i)))
+      sim-step W r c (ups .0) (λ p i. h .0 (p ▸ c) (Memᴰ·append-right (x .accessed) (in-step c i)))
       (news ++ more) w s t T a)
-      (λ (w : List ℕ) (q : State). grows-gives (stepped (q .plan) c w) q)
+      (λ w q. grows-gives (stepped (q .plan) c w) q)
     where
       x : Paths
       x = infer (W .script .owner) e b
@@ -98,21 +98,21 @@ module _ (W : World) where
       ups = or-neither (isUp c) (hasUp e) u
   simulation (both z e f) b v news s t u h k T =
       sim-then W (x .result) (x .result ++ y .result) news
-      (λ (w : List ℕ) (q : State). andThen (run f v q) (λ (w′ : List ℕ) (q : State). joinItems z w w′ q))
-      (λ (w : List ℕ) (q : State). andThen (run f (φs v) q) (λ (w′ : List ℕ) (q : State). joinItems z w w′ q))
+      (λ w q. andThen (run f v q) (λ w′ q. joinItems z w w′ q))
+      (λ w q. andThen (run f (φs v) q) (λ w′ q. joinItems z w w′ q))
       (simulation e b v news s t (ups .0) (inside-first x (x .result ++ y .result) (y .accessed) (y .modified) h) k T)
       (λ more w s t T a.
-      sim-then W (y .result) (x .result ++ y .result) (news ++ more) (λ (w′ : List ℕ) (q : State). joinItems z w w′ q)
-      (λ (w′ : List ℕ) (q : State). joinItems z (map (φ W) w) w′ q)
+      sim-then W (y .result) (x .result ++ y .result) (news ++ more) (λ w′ q. joinItems z w w′ q)
+      (λ w′ q. joinItems z (map (φ W) w) w′ q)
       (simulation f b v (news ++ more) s t (ups .1)
       (inside-rest x (x .result ++ y .result) (y .result) (y .accessed) (y .modified) h) (env-more news more k) T)
       (λ rest w′ s t T a′.
       sim-join W (x .result ++ y .result) z (news ++ more ++ rest) w w′ s t T
       (all-append (vals-left W (x .result) (y .result) (news ++ more ++ rest) (vals-more W (x .result) (news ++ more) rest a))
       (vals-right W (x .result) (y .result) (news ++ more ++ rest) a′)))
-      (λ (w′ : List ℕ) (q : State). grows-join z w w′ q))
-      (λ (w : List ℕ) (q : State).
-      grows-then (λ (w′ : List ℕ) (q : State). joinItems z w w′ q) (run-grows f v q) (λ (w′ : List ℕ) (q : State). grows-join z w w′ q))
+      (λ w′ q. grows-join z w w′ q))
+      (λ w q.
+      grows-then (λ w′ q. joinItems z w w′ q) (run-grows f v q) (λ w′ q. grows-join z w w′ q))
     where
       x : Paths
       x = infer (W .script .owner) e b
@@ -123,15 +123,15 @@ module _ (W : World) where
       ups : (hasUp e ≡ false) × (hasUp f ≡ false)
       ups = or-neither (hasUp e) (hasUp f) u
   simulation (letIn z e f) b v news s t u h k T =
-      sim-then W (x .result) (y .result) news (λ (w : List ℕ) (q : State). run f (v ++ (w ∷ [])) q)
-      (λ (w : List ℕ) (q : State). run f (φs v ++ (w ∷ [])) q)
+      sim-then W (x .result) (y .result) news (λ w q. run f (v ++ (w ∷ [])) q)
+      (λ w q. run f (φs v ++ (w ∷ [])) q)
       (simulation e b v news s t (ups .0) (inside-first x (y .result) (y .accessed) (y .modified) h) k T)
       (λ more w s t T a.
-      subst (λ (l : List (List ℕ)). Sim W (y .result) (news ++ more) (run f (v ++ (w ∷ [])) s) (run f l t))
+      subst (λ l. Sim W (y .result) (news ++ more) (run f (v ++ (w ∷ [])) s) (run f l t))
       (map-append (map (φ W)) v (w ∷ []))
       (simulation f (b ++ (x .result ∷ [])) (v ++ (w ∷ [])) (news ++ more) s t (ups .1)
       (inside-rest x (y .result) (y .result) (y .accessed) (y .modified) h) (env-last (news ++ more) (env-more news more k) a) T))
-      (λ (w : List ℕ) (q : State). run-grows f (v ++ (w ∷ [])) q)
+      (λ w q. run-grows f (v ++ (w ∷ [])) q)
     where
       x : Paths
       x = infer (W .script .owner) e b
@@ -143,21 +143,21 @@ module _ (W : World) where
       ups = or-neither (hasUp e) (hasUp f) u
   simulation (forIn z e f) b v news s t u h k T =
       sim-then W (x .result) (y .result) news
-      (λ (w : List ℕ) (q : State). loop z (λ (i : ℕ) (q : State). run f (v ++ ((i ∷ []) ∷ [])) q) w [] q)
-      (λ (w : List ℕ) (q : State). loop z (λ (i : ℕ) (q : State). run f (φs v ++ ((i ∷ []) ∷ [])) q) w [] q)
+      (λ w q. loop z (λ i q. run f (v ++ ((i ∷ []) ∷ [])) q) w [] q)
+      (λ w q. loop z (λ i q. run f (φs v ++ ((i ∷ []) ∷ [])) q) w [] q)
       (simulation e b v news s t (ups .0) (inside-first x (y .result) (y .accessed) (y .modified) h) k T)
       (λ more w s t T a.
-      sim-loop W (λ (l : List Label). Env l b v) (λ (l m : List Label) (c : Env l b v). env-more l m c) (x .result) (y .result) z
-      (λ (i : ℕ) (q : State). run f (v ++ ((i ∷ []) ∷ [])) q) (λ (i : ℕ) (q : State). run f (φs v ++ ((i ∷ []) ∷ [])) q)
+      sim-loop W (λ l. Env l b v) (λ l m c. env-more l m c) (x .result) (y .result) z
+      (λ i q. run f (v ++ ((i ∷ []) ∷ [])) q) (λ i q. run f (φs v ++ ((i ∷ []) ∷ [])) q)
       (λ l i s t c T a.
-      subst (λ (m : List (List ℕ)). Sim W (y .result) l (run f (v ++ ((i ∷ []) ∷ [])) s) (run f m t))
+      subst (λ m. Sim W (y .result) l (run f (v ++ ((i ∷ []) ∷ [])) s) (run f m t))
       (map-append (map (φ W)) v ((i ∷ []) ∷ []))
       (simulation f (b ++ (x .result ∷ [])) (v ++ ((i ∷ []) ∷ [])) l s t (ups .1)
       (inside-rest x (y .result) (y .result) (y .accessed) (y .modified) h) (env-last l c (also a nothing)) T))
-      (λ (i : ℕ) (q : State). run-grows f (v ++ ((i ∷ []) ∷ [])) q) w (news ++ more) [] s t (env-more news more k) T a nothing)
-      (λ (w : List ℕ) (q : State).
-      grows-loop z (λ (i : ℕ) (q : State). run f (v ++ ((i ∷ []) ∷ [])) q)
-      (λ (i : ℕ) (q : State). run-grows f (v ++ ((i ∷ []) ∷ [])) q) w [] q)
+      (λ i q. run-grows f (v ++ ((i ∷ []) ∷ [])) q) w (news ++ more) [] s t (env-more news more k) T a nothing)
+      (λ w q.
+      grows-loop z (λ i q. run f (v ++ ((i ∷ []) ∷ [])) q)
+      (λ i q. run-grows f (v ++ ((i ∷ []) ∷ [])) q) w [] q)
     where
       x : Paths
       x = infer (W .script .owner) e b
@@ -168,8 +168,8 @@ module _ (W : World) where
       ups : (hasUp e ≡ false) × (hasUp f ≡ false)
       ups = or-neither (hasUp e) (hasUp f) u
   simulation (ifIn z e f g) b v news s t u h k T =
-      sim-then W (x .result) (y .result ++ w .result) news (λ (l : List ℕ) (q : State). pick (eqb (length l) 0) (run g v q) (run f v q))
-      (λ (l : List ℕ) (q : State). pick (eqb (length l) 0) (run g (φs v) q) (run f (φs v) q))
+      sim-then W (x .result) (y .result ++ w .result) news (λ l q. pick (eqb (length l) 0) (run g v q) (run f v q))
+      (λ l q. pick (eqb (length l) 0) (run g (φs v) q) (run f (φs v) q))
       (simulation e b v news s t (ups .0) (inside-first x (y .result ++ w .result) (yw .accessed) (yw .modified) h) k T)
       (λ more l s t T a.
       subst
@@ -186,7 +186,7 @@ module _ (W : World) where
       (λ n l a. vals-left W (y .result) (w .result) n a)
       (news ++ more) (simulation f b v (news ++ more) s t (ups .1) (inside-first y [] (w .accessed) (w .modified) inner)
       (env-more news more k) T))))
-      (λ (l : List ℕ) (q : State). grows-pick (eqb (length l) 0) (run-grows g v q) (run-grows f v q))
+      (λ l q. grows-pick (eqb (length l) 0) (run-grows g v q) (run-grows f v q))
     where
       x : Paths
       x = infer (W .script .owner) e b
@@ -211,37 +211,37 @@ module _ (W : World) where
   simulation (element z n) b v news s t u h k T = sim-new W _ z false n news s t T
   simulation (leaf z n) b v news s t u h k T = sim-new W _ z true n news s t T
   simulation (delete z e) b v news s t u h k T =
-      sim-then W (x .result) [] news (λ (w : List ℕ) (q : State). cutAll z w q) (λ (w : List ℕ) (q : State). cutAll z w q)
+      sim-then W (x .result) [] news (λ w q. cutAll z w q) (λ w q. cutAll z w q)
       (simulation e b v news s t u (inside-first x [] [] (x .result ++ withStep anyBelow (x .result)) h) k T)
       (λ more w s t T a.
       cut-sim W (news ++ more) (x .result)
-      (λ (p : Path) (i : In p (x .result)). (
+      (λ p i. (
         h .1 p (Memᴰ·append-right (x .modified) (Memᴰ·append-left (withStep anyBelow (x .result)) i)),
         h .1 (p ▸ anyBelow) (Memᴰ·append-right (x .modified) (Memᴰ·append-right (x .result) (in-step anyBelow i))),
       ))
       z w s t T a)
-      (λ (w : List ℕ) (q : State). grows-cut z w q)
+      (λ w q. grows-cut z w q)
     where
       x : Paths
       x = infer (W .script .owner) e b
   simulation (insert z e f) b v news s t u h k T =
       sim-then W (x .result) [] news
-      (λ (w : List ℕ) (q : State). andThen (run f v q) (λ (w′ : List ℕ) (q : State). inserted z w w′ q))
-      (λ (w : List ℕ) (q : State). andThen (run f (φs v) q) (λ (w′ : List ℕ) (q : State). inserted z w w′ q))
+      (λ w q. andThen (run f v q) (λ w′ q. inserted z w w′ q))
+      (λ w q. andThen (run f (φs v) q) (λ w′ q. inserted z w w′ q))
       (simulation e b v news s t (ups .0) (inside-first x [] (y .accessed) (y .modified) inner) k T)
       (λ more w s t T a.
-      sim-then W (y .result) [] (news ++ more) (λ (w′ : List ℕ) (q : State). inserted z w w′ q)
-      (λ (w′ : List ℕ) (q : State). inserted z (map (φ W) w) w′ q)
+      sim-then W (y .result) [] (news ++ more) (λ w′ q. inserted z w w′ q)
+      (λ w′ q. inserted z (map (φ W) w) w′ q)
       (simulation f b v (news ++ more) s t (ups .1) (inside-rest x [] (y .result) (y .accessed) (y .modified) inner)
       (env-more news more k) T)
       (λ rest w′ s t T a′.
       insert-sim W (news ++ more ++ rest) s t T (x .result) (y .result)
-      (λ (p : Path) (i : In p (x .result)). h .0 (p ▸ anyBelow) (Memᴰ·append-right (xy .accessed) (in-step anyBelow i)))
-      (λ (p : Path) (i : In p (y .result)). h .1 (p ▸ anyBelow) (Memᴰ·append-right (xy .modified) (in-step anyBelow i))) z w w′
+      (λ p i. h .0 (p ▸ anyBelow) (Memᴰ·append-right (xy .accessed) (in-step anyBelow i)))
+      (λ p i. h .1 (p ▸ anyBelow) (Memᴰ·append-right (xy .modified) (in-step anyBelow i))) z w w′
       (vals-more W (x .result) (news ++ more) rest a) a′)
-      (λ (w′ : List ℕ) (q : State). grows-insert z w w′ q))
-      (λ (w : List ℕ) (q : State).
-      grows-then (λ (w′ : List ℕ) (q : State). inserted z w w′ q) (run-grows f v q) (λ (w′ : List ℕ) (q : State). grows-insert z w w′ q))
+      (λ w′ q. grows-insert z w w′ q))
+      (λ w q.
+      grows-then (λ w′ q. inserted z w w′ q) (run-grows f v q) (λ w′ q. grows-insert z w w′ q))
     where
       x : Paths
       x = infer (W .script .owner) e b
@@ -258,12 +258,12 @@ module _ (W : World) where
       ups : (hasUp e ≡ false) × (hasUp f ≡ false)
       ups = or-neither (hasUp e) (hasUp f) u
   simulation (choose z y c e) b v news s t u h k T =
-      sim-then W r r news (λ (w : List ℕ) (q : State). gives (picked (q .plan) y c w) q)
-      (λ (w : List ℕ) (q : State). gives (picked (q .plan) y c w) q)
+      sim-then W r r news (λ w q. gives (picked (q .plan) y c w) q)
+      (λ w q. gives (picked (q .plan) y c w) q)
       (simulation e b v news s t u h k T)
       (λ more w s t T a.
       sim-pick W r y c (news ++ more) w s t T a)
-      (λ (w : List ℕ) (q : State). grows-gives (picked (q .plan) y c w) q)
+      (λ w q. grows-gives (picked (q .plan) y c w) q)
     where
       r : List Path
       r = infer (W .script .owner) e b .result

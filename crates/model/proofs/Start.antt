@@ -42,8 +42,8 @@ module _ (ls : List Label) (x : Table) (S : Started ls x) (r : Row)
   next-fit =
       record {
         link =
-            λ (p : ℕ) (e : r .parent ≡ some p).
-            (under p e .0, under p e .1, ap (λ (o : Option ℕ). nextLabel ls (count x) (letterOf r) o) e);
+            λ p e.
+            (under p e .0, under p e .1, ap (λ o. nextLabel ls (count x) (letterOf r) o) e);
         word = word (r .parent) refl;
       }
     where
@@ -56,7 +56,7 @@ module _ (ls : List Label) (x : Table) (S : Started ls x) (r : Row)
       record {
         fit = fit-row (S .fit) r next next-fit;
         roots = λ i h e. roots i e (row-cases x r i h);
-        firsts = λ (i : ℕ) (h : i < count (withRow x r)). firsts i (row-cases x r i h);
+        firsts = λ i h. firsts i (row-cases x r i h);
       }
     where
       old : (i : ℕ) → i < count x → labelAt (ls ++ (next ∷ [])) i ≡ labelAt ls i
@@ -93,7 +93,7 @@ started-from : (x : Table) (rest before : List Row) → before ++ rest ≡ x .ro
     Started ls (table before (x .marks)) → (ls : List Label) × Started ls x
 unfolding rowsFit
 started-from x [] before e f ls S =
-    (ls, subst (λ (rs : List Row). Started ls (table rs (x .marks))) (sym (append-nil before) ∙ e) S)
+    (ls, subst (λ rs. Started ls (table rs (x .marks))) (sym (append-nil before) ∙ e) S)
 started-from x (r ∷ rest) before e f ls S =
     started-from x rest (before ++ (r ∷ [])) (append-snoc before r rest ∙ e)
     (subst (λ (n : ℕ). rowsFit x n rest ≡ true) (omega (arith, length-append before (r ∷ [])))
@@ -106,13 +106,13 @@ started-from x (r ∷ rest) before e f ls S =
     under : (p : ℕ) → r .parent ≡ some p → (p < count y) × (rowAt y p .isLeaf ≡ false)
     under p q =
         let k : (ltb p (length before) && isElement x p) ≡ true =
-        subst (λ (o : Option ℕ). parentFits x (length before) o ≡ true) q
+        subst (λ o. parentFits x (length before) o ≡ true) q
         (and-right (tagFits r) (parentFits x (length before) (r .parent))
         (and-left (tagFits r && parentFits x (length before) (r .parent)) (rowsFit x (suc (length before)) rest) f)) in
         let b : p < length before = ltb-true p (length before) (and-left (ltb p (length before)) (isElement x p) k) in (
           b,
           ap (λ (r : Row). r .isLeaf)
-              (sym (List·getD-append before (r ∷ rest) noRow p b) ∙ ap (λ (rs : List Row). getD rs p noRow) e) ∙
+              (sym (List·getD-append before (r ∷ rest) noRow p b) ∙ ap (λ rs. getD rs p noRow) e) ∙
               not-true (rowAt x p .isLeaf)
               (and-right (ltb p (count x)) (not (rowAt x p .isLeaf)) (and-right (ltb p (length before)) (isElement x p) k)),
         )
@@ -123,18 +123,18 @@ started-none marks =
       fit =
           record {
             size = refl;
-            links = λ (i p : ℕ) (e : none ≡ some p). absurd (Option·none-ne-some p e);
-            words = λ (i : ℕ) (h : i < 0). tt;
+            links = λ i p e. absurd (Option·none-ne-some p e);
+            words = λ i h. tt;
           };
       roots = λ i h e. absurd (not-suc-le-zero h);
-      firsts = λ (i : ℕ) (h : i < 0). (0, refl);
+      firsts = λ i h. (0, refl);
     }
 
 -- MARKS: a marked row is a row without parent, and no two documents mark the same
 marks-at : (f : Option ℕ → Bool) (ms : List (Option ℕ)) (d i : ℕ) → all f ms ≡ true → getD ms d none ≡ some i → f (some i) ≡ true
 unfolding all
 marks-at f [] d i e h = absurd (Option·none-ne-some i h)
-marks-at f (m ∷ ms) zero i e h = subst (λ (m : Option ℕ). f m ≡ true) h (and-left (f m) (all f ms) e)
+marks-at f (m ∷ ms) zero i e h = subst (λ m. f m ≡ true) h (and-left (f m) (all f ms) e)
 marks-at f (m ∷ ms) (suc d) i e h = marks-at f ms d i (and-right (f m) (all f ms) e) h
 
 mark-among : (ms : List (Option ℕ)) (d i : ℕ) → getD ms d none ≡ some i → any (isThe i) ms ≡ true

@@ -39,14 +39,14 @@ module _ (W : World) where
   test-across : (i j : ℕ) → eqb (φ W i) (φ W j) ≡ eqb i j
   test-across i j =
       bool-iff (eqb (φ W i) (φ W j)) (eqb i j)
-      (λ (e : eqb (φ W i) (φ W j) ≡ true). eq-eqb i j (shift-injective (W .n) (W .m) i j (eqb-true (φ W i) (φ W j) e)))
-      (λ (e : eqb i j ≡ true). eq-eqb (φ W i) (φ W j) (ap (φ W) (eqb-true i j e)))
+      (λ e. eq-eqb i j (shift-injective (W .n) (W .m) i j (eqb-true (φ W i) (φ W j) e)))
+      (λ e. eq-eqb (φ W i) (φ W j) (ap (φ W) (eqb-true i j e)))
 
   copy-across : (i : ℕ) (cs : List Copied) → copyOf (φ W i) (map shiftCopied cs) ≡ φParent W (copyOf i cs)
   unfolding copyOf
   copy-across i [] = refl
   copy-across i (c ∷ cs) =
-      ap₂ (λ (z : Bool) (o : Option ℕ). pick z (some (φ W (c .new))) o) (test-across (c .old) i) (copy-across i cs) ∙
+      ap₂ (λ z o. pick z (some (φ W (c .new))) o) (test-across (c .old) i) (copy-across i cs) ∙
       go (eqb (c .old) i) (copyOf i cs)
     where
       go : (z : Bool) (o : Option ℕ) →
@@ -63,7 +63,7 @@ module _ (W : World) where
   row-across : (x y : Table) (t g i : ℕ) (cs : List Copied) → rowAt y (φ W i) ≡ φRow W (rowAt x i) →
       copyRow y (φ W t) (φ W g) (φ W i) (map shiftCopied cs) ≡ φRow W (copyRow x t g i cs)
   row-across x y t g i cs e =
-      ap₂ (λ (r : Row) (z : Bool). withParent r (copyParent z (φ W g) (r .parent) (map shiftCopied cs))) e (test-across i t) ∙
+      ap₂ (λ r z. withParent r (copyParent z (φ W g) (r .parent) (map shiftCopied cs))) e (test-across i t) ∙
       ap (withParent (rowAt x i)) (parent-across (eqb i t) g (rowAt x i .parent) cs)
 
   -- A BASE: an element that is not hidden and under which the script may make rows
@@ -108,8 +108,8 @@ module _ (W : World) where
     new-fit =
         record {
           link =
-              λ (p : ℕ) (e : r .parent ≡ some p).
-              (base p e .bound, base p e .isElement, ap (λ (o : Option ℕ). newLabel news o (letterOf r)) e);
+              λ p e.
+              (base p e .bound, base p e .isElement, ap (λ o. newLabel news o (letterOf r)) e);
           word = word (r .parent) refl;
         }
       where
@@ -136,7 +136,7 @@ module _ (W : World) where
     unfolding copyOf
     copy-base news s i p [] a e f = absurd (Option·none-ne-some p f)
     copy-base news s i p (c ∷ cs) (also b a) e f =
-        go (eqb (c .old) i) refl f (λ (f : copyOf i cs ≡ some p). copy-base news s i p cs a e f)
+        go (eqb (c .old) i) refl f (λ f. copy-base news s i p cs a e f)
       where
         go : (z : Bool) → eqb (c .old) i ≡ z → pick z (some (c .new)) (copyOf i cs) ≡ some p → (copyOf i cs ≡ some p → Base news s p) →
             Base news s p
@@ -164,7 +164,7 @@ module _ (W : World) where
     each-sim t (i ∷ is) (also e es) news cs u q U b a k k′ h d =
         subst (λ (r : Row). Sim W [] news (f (newRow z row u)) (f′ (newRow z r q)))
         (sym (row-across (s₀ .plan) (t₀ .plan) t g i cs (T₀ .alike i (e .0) (e .1))))
-        (new-sim W news u q U [] z row l (new-fit news u q U row base) (λ (p : ℕ) (e : row .parent ≡ some p). base p e .clear)
+        (new-sim W news u q U [] z row l (new-fit news u q U row base) (λ p e. base p e .clear)
         (new-touched news u q U row base) f f′ (λ (x : Fault). refl) (λ (x : Fault). refl)
         (λ N.
         sim-more W [] news (l ∷ [])
@@ -176,7 +176,7 @@ module _ (W : World) where
         (withMade q (φRow W row))) k′))
         (count-across W news u q U)
         (each-sim t is es (news ++ (l ∷ [])) (new ∷ cs) (withMade u row) (withMade q (φRow W row)) N
-        (base-more news u q U row l g b) (also (λ (e : row .isLeaf ≡ false). base-new news u q U row l e touched) (all-imp older a)) k k′
+        (base-more news u q U row l g b) (also (λ e. base-new news u q U row l e touched) (all-imp older a)) k k′
         h d)))
         (grows-row k (grows-each z (s₀ .plan) t g is (new ∷ cs) (withMade u row)) d))
       where
@@ -273,5 +273,5 @@ module _ (W : World) where
         (λ (c d : Bool).
         Sim W [] news (pick (c && isElement (s .plan) g) (copyAll z (s .plan) v g s) (stop (targetAt z)))
         (pick (d && isElement (t .plan) (φ W g)) (copyAll z (t .plan) (map (φ W) v) (φ W g) t) (stop (targetAt z))))
-        (sym (ne-eqb (suc (suc (length w))) 1 (λ (e : suc (suc (length w)) ≡ 1). omega arith)))
+        (sym (ne-eqb (suc (suc (length w))) 1 (λ e. omega arith)))
         (sym (ne-eqb (suc (suc (length (map (φ W) w)))) 1 (λ e. omega arith))) alike

@@ -64,10 +64,10 @@ good-cut c d F news s g r m i p h k e =
       closed =
           λ j q f b.
           g .closed j q (parent-cut (s .plan) i j q h f .0) b;
-      kept = λ (j : ℕ) (b : j < count (d .plan)). kept j b (linked-cases (s .plan) i j none h) (g .kept j b);
+      kept = λ j b. kept j b (linked-cases (s .plan) i j none h) (g .kept j b);
       names =
           all-append (all-imp wider (g .names))
-          (also (omega (arith, count-linked (s .plan) i none), λ (q : ℕ) (f : some p ≡ some q). lower q f) nothing);
+          (also (omega (arith, count-linked (s .plan) i none), λ q f. lower q f) nothing);
     }
   where
     same-count : count (linked (s .plan) i none) ≡ count (s .plan)
@@ -106,7 +106,7 @@ module _ (W : World) (news : List Label) (r : List Path) (m : Cuttable (W .scrip
             λ j h c.
             cut-alike j (omega (arith, count-linked (s .plan) i none)) c (ℕ-discrete j i);
         histories =
-            ap (λ (h : List Record). h ++ (cutRecord (φ W i) (φ W p) ∷ [])) (T .histories) ∙
+            ap (λ h. h ++ (cutRecord (φ W i) (φ W p) ∷ [])) (T .histories) ∙
             sym (map-append (φRecord W) (s .history) (cutRecord i p ∷ []));
       }
     where
@@ -124,7 +124,7 @@ module _ (W : World) (news : List Label) (r : List Path) (m : Cuttable (W .scrip
           (row-linked (t .plan) (φ W i) none bound ∙ ap (λ (r : Row). withParent r none) (T .alike i (a .0) (a .1)) ∙
           sym (ap (φRow W) (row-linked (s .plan) i none (a .0))))
       cut-alike j h c (no q) =
-          row-others (t .plan) (φ W i) (φ W j) none (λ (e : φ W j ≡ φ W i). q (shift-injective (W .n) (W .m) j i e)) ∙ T .alike j h c ∙
+          row-others (t .plan) (φ W i) (φ W j) none (λ e. q (shift-injective (W .n) (W .m) j i e)) ∙ T .alike j h c ∙
           ap (φRow W) (sym (row-others (s .plan) i j none q))
 
   -- THE OUTCOME of cutting a value's rows
@@ -133,7 +133,7 @@ module _ (W : World) (news : List Label) (r : List Path) (m : Cuttable (W .scrip
   unfolding cutAll
   cut-sim z [] s t T nothing = sim-gives W [] news [] s t T nothing
   cut-sim z (i ∷ is) s t T (also k a) =
-      go (rowAt (s .plan) i .parent) refl (λ (u q : State) (U : Twin W news u q). cut-sim z is u q U a)
+      go (rowAt (s .plan) i .parent) refl (λ u q U. cut-sim z is u q U a)
     where
       A : Alike W s i (φ W i)
       A = valued-alike W news s t T r i k
@@ -144,12 +144,12 @@ module _ (W : World) (news : List Label) (r : List Path) (m : Cuttable (W .scrip
           (cutBy z (φ W i) t (rowAt (t .plan) (φ W i) .parent) (λ (t : State). cutAll z (map (φ W) is) t))
       go none e h =
           subst₂
-          (λ (o p : Option ℕ).
+          (λ o p.
           Sim W [] news (cutBy z i s o (λ (t : State). cutAll z is t)) (cutBy z (φ W i) t p (λ (t : State). cutAll z (map (φ W) is) t)))
           (sym e) (sym (ap (λ (r : Row). r .parent) (T .alike i (A .0) (A .1)) ∙ ap (φParent W) e)) (h s t T)
       go (some p) e h =
           subst₂
-          (λ (o p : Option ℕ).
+          (λ o p.
           Sim W [] news (cutBy z i s o (λ (t : State). cutAll z is t)) (cutBy z (φ W i) t p (λ (t : State). cutAll z (map (φ W) is) t)))
           (sym e) (sym (ap (λ (r : Row). r .parent) (T .alike i (A .0) (A .1)) ∙ ap (φParent W) e))
           (subst

@@ -90,7 +90,7 @@ module _ (W : World) where
       All (λ (j : ℕ). Item (W .script) r (labelAt (twos W news) j)) (map (φ W) v)
   vals-two r news a =
       all-map (φ W)
-      (λ (i : ℕ) (k : Valued W r news i).
+      (λ i k.
       subst (λ (l : Label). Item (W .script) r l)
       (sym (label-across news i (item-clear (W .script) (W .one) (W .oneFits) news r i (k .1)))) (k .1)) a
 
@@ -123,7 +123,7 @@ module _ (W : World) where
     -- the label of the next row
     pub label-last : (l : Label) → labelAt (ones W (news ++ (l ∷ []))) (count (s .plan)) ≡ l
     label-last l =
-        ap₂ (λ (ls : List Label) (i : ℕ). labelAt ls i) (sym (append-assoc (W .one .labels) news (l ∷ []))) (sym (T .one .fit .size)) ∙
+        ap₂ (λ ls i. labelAt ls i) (sym (append-assoc (W .one .labels) news (l ∷ []))) (sym (T .one .fit .size)) ∙
         label-new (ones W news) l
 
     pub valued-alike : (r : List Path) (i : ℕ) → Valued W r news i → Alike s i (φ W i)
@@ -148,7 +148,7 @@ module _ (W : World) where
           j - W .m,
           (
             omega (arith, one-count, two-count),
-            (λ (k : W .one .hidden (j - W .m)). omega (arith, W .oneFits .early (j - W .m) k, W .oneCount)),
+            (λ k. omega (arith, W .oneFits .early (j - W .m) k, W .oneCount)),
             shift-high (W .n) (W .m) (j - W .m) (omega arith) ∙ omega arith,
           ),
         )
@@ -161,7 +161,7 @@ module _ (W : World) where
         (q : ℕ) × Alike s p q × (rowAt (t .plan) j .parent ≡ some q)
     alike-parent i j p k e = (
       φ W p,
-      (omega (arith, k .0, T .one .fit .links i p e .0), (λ (h : W .one .hidden p). k .1 (T .one .closed i p e h)), refl),
+      (omega (arith, k .0, T .one .fit .links i p e .0), (λ h. k .1 (T .one .closed i p e h)), refl),
       ap (λ (r : Row). r .parent) (alike-row i j k) ∙ ap (φParent W) e,
     )
 

@@ -33,20 +33,20 @@ good-row : (c : Script) (d : Side) → SideFits c d → (news : List Label) (s :
     Good c d (news ++ (l ∷ [])) (withMade s r)
 good-row c d F news s g r l n clear h =
     record {
-      fit = subst (λ (ls : List Label). Fit ls (withRow (s .plan) r)) (append-assoc (d .labels) news (l ∷ [])) (fit-row (g .fit) r l n);
+      fit = subst (λ ls. Fit ls (withRow (s .plan) r)) (append-assoc (d .labels) news (l ∷ [])) (fit-row (g .fit) r l n);
       marked = g .marked;
       room = omega (arith, count-with (s .plan) r);
       closed =
           λ i p e k.
           closed i p e k (row-cases (s .plan) r i (parent-row (withRow (s .plan) r) i p e));
       kept =
-          λ (i : ℕ) (k : i < count (d .plan)).
+          λ i k.
           subst (Kept c (labelAt (d .labels) i) (rowAt (d .plan) i)) (sym (row-old (s .plan) r i (old i k))) (g .kept i k);
       names =
           all-append (all-imp wider (g .names))
           (also (
             omega (arith, count-with (s .plan) r),
-            λ (p : ℕ) (e : r .parent ≡ some p).
+            λ p e.
                 omega (arith, n .link p e .0, count-with (s .plan) r),
           ) nothing);
     }
@@ -63,7 +63,7 @@ good-row c d F news s g r l n clear h =
 
     wider : (q : Record) → Named (count (s .plan)) q → Named (count (withRow (s .plan) r)) q
     wider q k =
-        (omega (arith, k .0, count-with (s .plan) r), λ (p : ℕ) (e : q .parent ≡ some p). omega (arith, k .1 p e, count-with (s .plan) r))
+        (omega (arith, k .0, count-with (s .plan) r), λ p e. omega (arith, k .1 p e, count-with (s .plan) r))
 
 -- BOTH STATES
 module _ (W : World) (news : List Label) (s t : State) (T : Twin W news s t) where
@@ -120,7 +120,7 @@ module _ (W : World) (news : List Label) (s t : State) (T : Twin W news s t) whe
           touched = all-append (T .touched) (also k nothing);
           alike = λ i h c. new-alike i c (row-cases (s .plan) r i h);
           histories =
-              ap₂ (λ (h : List Record) (i : ℕ). h ++ (made (φRow W r) i ∷ [])) (T .histories)
+              ap₂ (λ h i. h ++ (made (φRow W r) i ∷ [])) (T .histories)
               (sym (count-across W news s t T)) ∙
               sym (map-append (φRecord W) (s .history) (made r (count (s .plan)) ∷ []));
         }

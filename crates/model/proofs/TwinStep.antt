@@ -28,7 +28,7 @@ module _ (W : World) (news : List Label) (s t : State) (T : Twin W news s t) (r 
   -- what is reached is an item of r with the step, and so not hidden
   one-item : (j : ℕ) → Reach (s .plan) u v j → Item (W .script) (withStep u r) (labelAt (ones W news) j)
   one-item j k =
-      reach-item (W .script) (W .one) (W .oneFits) news r s u v j (T .one) acc (all-imp (λ (i : ℕ) (h : Valued W r news i). h .1) vs) k
+      reach-item (W .script) (W .one) (W .oneFits) news r s u v j (T .one) acc (all-imp (λ i h. h .1) vs) k
 
   two-clear : (j : ℕ) → Reach (t .plan) u (map (φ W) v) j → W .two .hidden j → ⊥
   two-clear j k =
@@ -40,7 +40,7 @@ module _ (W : World) (news : List Label) (s t : State) (T : Twin W news s t) (r 
   to-two i j a k =
       reach-across (s .plan) (t .plan) (Alike W s) (λ i j k a b. sym (a .2) ∙ b .2)
       (alike-parent W news s t T) u v (map (φ W) v) i j
-      (λ (l : ℕ) (h : In l v). (φ W l, Memᴰ·map (φ W) h, valued-alike W news s t T r l (all-in vs h))) a (alike-letter W news s t T i j a) k
+      (λ l h. (φ W l, Memᴰ·map (φ W) h, valued-alike W news s t T r l (all-in vs h))) a (alike-letter W news s t T i j a) k
 
   to-one : (j i : ℕ) → Alike W s i j → Reach (t .plan) u (map (φ W) v) j → Reach (s .plan) u v i
   to-one j i a k =
@@ -82,7 +82,7 @@ module _ (W : World) (news : List Label) (s t : State) (T : Twin W news s t) (r 
   step-alike =
       ap (map (φ W)) (step-collect (s .plan) u v 0 (count (s .plan)) ∙ ap (collect (isReached (s .plan) u v) 0) (one-count W news s t T)) ∙
       collect-shift (isReached (s .plan) u v) (isReached (t .plan) u (map (φ W) v)) (W .n) (W .m) (length news)
-      (λ (j : ℕ) (h : j < W .n + length news). test-same j (omega (arith, one-count W news s t T))) test-none ∙
+      (λ j h. test-same j (omega (arith, one-count W news s t T))) test-none ∙
       sym
       (step-collect (t .plan) u (map (φ W) v) 0 (count (t .plan)) ∙
       ap (collect (isReached (t .plan) u (map (φ W) v)) 0) (two-count W news s t T))
