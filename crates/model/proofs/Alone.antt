@@ -55,14 +55,14 @@ abbrev pub scriptOf : (owner : ℕ) → Expr → List (Option ℕ) → Script
 scriptOf o e marks =
     record {
       owner = o;
-      accessed = λ (p : Path). In p (pathsOf o e .accessed);
-      modified = λ (p : Path). In p (pathsOf o e .modified);
+      accessed = λ p. In p (pathsOf o e .accessed);
+      modified = λ p. In p (pathsOf o e .modified);
       marks = marks;
     }
 
 -- ALONE: the plan beside itself, nothing hidden
 abbrev pub aloneSide : (x : Table) → List Label → Side
-aloneSide x ls = record { plan = x; labels = ls; hidden = λ (i : ℕ). ⊥ }
+aloneSide x ls = record { plan = x; labels = ls; hidden = λ i. ⊥ }
 
 module _ (o : ℕ) (e : Expr) (x : Table) (w : Well x) where
   pub alone-fits : SideFits (scriptOf o e (x .marks)) (aloneSide x (w .labels))

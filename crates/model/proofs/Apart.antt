@@ -22,7 +22,7 @@ in-prefixes (p ▸ s) = here refl
 in-prefixed : {p : Path} {ps : List Path} → In p ps → In p (prefixed ps)
 unfolding prefixed
 in-prefixed {p} (here {x = q} {xs = ps} e) =
-    Memᴰ·append-left (prefixed ps) (subst (λ (q : Path). In p (prefixesOf q)) e (in-prefixes p))
+    Memᴰ·append-left (prefixed ps) (subst (λ q. In p (prefixesOf q)) e (in-prefixes p))
 in-prefixed (there {x = q} {xs = ps} i) = Memᴰ·append-right (prefixesOf q) (in-prefixed i)
 
 -- NO TWO of two lists of paths meet
@@ -30,7 +30,7 @@ none-meet : (ps qs : List Path) (p q : Path) → anyMeet ps qs ≡ false → In 
 none-meet ps qs p q e i j = go (bool-cases (meets p q))
   where
     go : (meets p q ≡ true) ⊎ (meets p q ≡ false) → meets p q ≡ false
-    go (inl h) = absurd (true-false (anyMeet ps qs) (in-any (λ (p : Path). any (meets p) qs) i (in-any (meets p) j h)) e)
+    go (inl h) = absurd (true-false (anyMeet ps qs) (in-any (λ p. any (meets p) qs) i (in-any (meets p) j h)) e)
     go (inr h) = h
 
 -- this script's modified paths lie away from what the other accesses

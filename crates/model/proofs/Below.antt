@@ -73,7 +73,7 @@ below-label {ls} {x} f t i (further {p = p} e b) = go (below-label f t p b)
     go : (w : Word) × (labelAt ls p ≡ label (labelAt ls t .root) (letterOf (rowAt x p) ∷ w)) × Grown (labelAt ls t .word) w →
         (w : Word) × (labelAt ls i ≡ label (labelAt ls t .root) (letterOf (rowAt x i) ∷ w)) × Grown (labelAt ls t .word) w
     go (w, q, g) =
-        (letterOf (rowAt x p) ∷ w, f .links i p e .2 ∙ ap (λ (l : Label). grow l (letterOf (rowAt x i))) q, more g)
+        (letterOf (rowAt x p) ∷ w, f .links i p e .2 ∙ ap (λ l. grow l (letterOf (rowAt x i))) q, more g)
 
 -- ON A PATH: what a step reaches is on the path with the step
 abbrev pub OnPath : List (Option ℕ) → Path → Label → Type 0
@@ -83,7 +83,7 @@ pub on-child : {marks : List (Option ℕ)} {ls : List Label} {x : Table} {p : Pa
     OnPath marks p (labelAt ls t) → rowAt x i .parent ≡ some t → s .axis ≡ 0 → admits s (letterOf (rowAt x i)) ≡ true →
     OnPath marks (p ▸ s) (labelAt ls i)
 on-child {marks} {ls} {x} {p} f s t i o e a z =
-    subst (λ (l : Label). OnPath marks (p ▸ s) l) (sym (f .links i t e .2)) (child o a z)
+    subst (λ l. OnPath marks (p ▸ s) l) (sym (f .links i t e .2)) (child o a z)
 
 pub on-below : {marks : List (Option ℕ)} {ls : List Label} {x : Table} {p : Path} → Fit ls x → (s : Step) (t i : ℕ) →
     OnPath marks p (labelAt ls t) → Below x t i → s .axis ≡ 1 → admits s (letterOf (rowAt x i)) ≡ true →
@@ -92,4 +92,4 @@ on-below {marks} {ls} {x} {p} f s t i o b a z = go (below-label f t i b)
   where
     go : (w : Word) × (labelAt ls i ≡ label (labelAt ls t .root) (letterOf (rowAt x i) ∷ w)) × Grown (labelAt ls t .word) w →
         OnPath marks (p ▸ s) (labelAt ls i)
-    go (w, q, g) = subst (λ (l : Label). OnPath marks (p ▸ s) l) (sym q) (deep o g a z)
+    go (w, q, g) = subst (λ l. OnPath marks (p ▸ s) l) (sym q) (deep o g a z)

@@ -204,7 +204,7 @@ module _ (L : Left) (made : List Label) (u t : State) (T : Twin (beside L) made 
     seen-alike : (p : Path) × d L .accessed p × OnPath (x L .marks) p (labelAt (ls L) i) →
         rowAt (t .plan) i ≡ shiftRow (count (x L)) (length (L .news)) (rowAt (u .plan) i)
     seen-alike (p, a, o) =
-        subst (λ (j : ℕ). rowAt (t .plan) j ≡ shiftRow (count (x L)) (length (L .news)) (rowAt (u .plan) i))
+        subst (λ j. rowAt (t .plan) j ≡ shiftRow (count (x L)) (length (L .news)) (rowAt (u .plan) i))
         (shift-low (count (x L)) (length (L .news)) i h)
         (T .alike i (omega (arith, one-count (beside L) made u t T))
         (λ k. touched-apart L (labelAt (ls L) i) p (k .1) (fit-proper (L .well .started .fit) i h) a o))

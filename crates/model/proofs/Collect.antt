@@ -19,7 +19,7 @@ collect f i (suc n) = pick (f i) (i ∷ collect f (suc i) n) (collect f (suc i) 
 pub step-collect : (x : Table) (s : Step) (v : List ℕ) (i n : ℕ) → stepFrom x s v i n ≡ collect (isReached x s v) i n
 unfolding collect stepFrom
 step-collect x s v i zero = refl
-step-collect x s v i (suc n) = ap (λ (l : List ℕ). pick (isReached x s v i) (i ∷ l) l) (step-collect x s v (suc i) n)
+step-collect x s v i (suc n) = ap (λ l. pick (isReached x s v i) (i ∷ l) l) (step-collect x s v (suc i) n)
 
 -- what passes the test
 pub collect-all : {P : ℕ → Type 0} (f : ℕ → Bool) (i n : ℕ) → ((j : ℕ) → j < i + n → f j ≡ true → P j) → All P (collect f i n)
@@ -42,8 +42,8 @@ unfolding collect
 collect-append f i zero b = rw (zero-add, add-zero)
 collect-append f i (suc a) b =
     rw (suc-add a b, add-suc i a)
-    (ap (λ (l : List ℕ). pick (f i) (i ∷ l) l)
-    (collect-append f (suc i) a b ∙ ap (λ (k : ℕ). collect f (suc i) a ++ collect f k b) (suc-add i a)) ∙
+    (ap (λ l. pick (f i) (i ∷ l) l)
+    (collect-append f (suc i) a b ∙ ap (λ k. collect f (suc i) a ++ collect f k b) (suc-add i a)) ∙
     pick-append (f i) i (collect f (suc i) a) (collect f (suc (i + a)) b))
 
 collect-none : (f : ℕ → Bool) (i n : ℕ) → ((j : ℕ) → i ≤ j → j < i + n → f j ≡ false) → collect f i n ≡ []
@@ -66,7 +66,7 @@ collect-raise f g h i c (suc n) k =
     let a : (h i ≡ i + c) × (f i ≡ g (i + c)) = k i (omega arith) (omega arith) in
     let r : map h (collect f (suc i) n) ≡ collect g (suc (i + c)) n =
     collect-raise f g h (suc i) c n (λ j p q. k j (omega arith) (omega arith)) ∙
-    ap (λ (m : ℕ). collect g m n) (suc-add i c) in
+    ap (λ m. collect g m n) (suc-add i c) in
     pick-map h (f i) i (collect f (suc i) n) ∙ rw (a .0, a .1, r)
 
 -- THE TWO LISTS: tests that agree up to the shift, the second passing none of the rows in between
@@ -93,9 +93,9 @@ collect-shift f g n m k same hid =
     middle : collect g 0 (n + m) ≡ collect g 0 n
     middle =
         collect-append g 0 n m ∙
-        ap (λ (l : List ℕ). collect g 0 n ++ l)
+        ap (λ l. collect g 0 n ++ l)
         (collect-none g (0 + n) m (λ j a b. hid j (omega arith) (omega arith))) ∙
         append-nil (collect g 0 n)
 
     last : collect g (0 + (n + m)) k ≡ collect g (0 + n + m) k
-    last = ap (λ (j : ℕ). collect g j k) (omega arith)
+    last = ap (λ j. collect g j k) (omega arith)

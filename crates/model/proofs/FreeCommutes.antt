@@ -50,13 +50,13 @@ module _ (W : World) (r : List Path) where
       inl (
         t,
         more,
-        ap (λ (w : List ℕ). gives (map (φ W) w) t) (gives-items e),
-        subst (λ (u : State). Twin W more u t) (gives-state e) T,
+        ap (λ w. gives (map (φ W) w) t) (gives-items e),
+        subst (λ u. Twin W more u t) (gives-state e) T,
         subst (Vals W r more) (gives-items e) a,
       )
   sim-ended alike v s e = absurd (stop-gives e)
   sim-ended (full k stopped) v s e = absurd (stop-gives e)
-  sim-ended (full k (passed l)) v s e = inr (refl, k, subst (λ (u : State). maxRows < count (u .plan) + W .m) (gives-state e) l)
+  sim-ended (full k (passed l)) v s e = inr (refl, k, subst (λ u. maxRows < count (u .plan) + W .m) (gives-state e) l)
 
   sim-stops : {o o′ : Out} → Sim W r [] o o′ → ends o ≡ false → ends o′ ≡ false
   sim-stops (both more T a) e = absurd (true≢false e)
@@ -116,10 +116,10 @@ module _ (e f : Expr) (x : Table) (w : Well x) (A : Apart e f) where
   -- BOTH END ALONE
   module _ (v₁ v₂ : List ℕ) (s₁ s₂ : State) (h₁ : runOn x e ≡ gives v₁ s₁) (h₂ : runOn x f ≡ gives v₂ s₂) where
     abbrev one : Left
-    one = leftBy 1 2 (λ (q : 1 ≡ 2). omega arith) e f (A .firstAway) x w (A .firstDown) v₁ s₁ h₁
+    one = leftBy 1 2 (λ q. omega arith) e f (A .firstAway) x w (A .firstDown) v₁ s₁ h₁
 
     abbrev two : Left
-    two = leftBy 2 1 (λ (q : 2 ≡ 1). omega arith) f e (A .secondAway) x w (A .secondDown) v₂ s₂ h₂
+    two = leftBy 2 1 (λ q. omega arith) f e (A .secondAway) x w (A .secondDown) v₂ s₂ h₂
 
     ended₁₂ : Ended (beside one) (pathsOf 2 f .result) (runOn (s₁ .plan) f) v₂ s₂
     ended₁₂ = sim-ended (beside one) (pathsOf 2 f .result) (beside-sim one (A .secondDown)) v₂ s₂ h₂
@@ -154,23 +154,23 @@ module _ (e f : Expr) (x : Table) (w : Well x) (A : Apart e f) where
 
       answer₁ : map (φ (beside two)) v₁ ≡ matchedAll (count x) a b v₁
       answer₁ =
-          ap (λ (m : ℕ). map (shift (count x) m) v₁) made₂ ∙
+          ap (λ m. map (shift (count x) m) v₁) made₂ ∙
           all-first (count x) a b
           (all-imp (λ i k. omega (arith, k .0, T₂₁ .one .fit .size, rows₁)) a₁)
 
       answer₂ : v₂ ≡ matchedAll (count x) a b (map (φ (beside one)) v₂)
-      answer₂ = all-second (count x) a b v₂ ∙ ap (λ (m : ℕ). matchedAll (count x) a b (map (shift (count x) m) v₂)) (sym made₁)
+      answer₂ = all-second (count x) a b v₂ ∙ ap (λ m. matchedAll (count x) a b (map (shift (count x) m) v₂)) (sym made₁)
 
       history₁ : t₂₁ .history ≡ matchedHistory (count x) a b (s₁ .history)
       history₁ =
-          T₂₁ .histories ∙ ap (λ (m : ℕ). map (shiftRecord (count x) m) (s₁ .history)) made₂ ∙
-          history-first (count x) a b (subst (λ (c : ℕ). All (Named c) (s₁ .history)) (sym rows₁) (T₂₁ .one .names))
+          T₂₁ .histories ∙ ap (λ m. map (shiftRecord (count x) m) (s₁ .history)) made₂ ∙
+          history-first (count x) a b (subst (λ c. All (Named c) (s₁ .history)) (sym rows₁) (T₂₁ .one .names))
 
       history₂ : s₂ .history ≡ matchedHistory (count x) a b (t₁₂ .history)
       history₂ =
           history-second (count x) a b (s₂ .history) ∙
           ap (matchedHistory (count x) a b)
-          (ap (λ (m : ℕ). map (shiftRecord (count x) m) (s₂ .history)) (sym made₁) ∙ sym (T₁₂ .histories))
+          (ap (λ m. map (shiftRecord (count x) m) (s₂ .history)) (sym made₁) ∙ sym (T₁₂ .histories))
 
       marks : (d : ℕ) → getD (t₂₁ .plan .marks) d none ≡ matchedParent (count x) a b (getD (t₁₂ .plan .marks) d none)
       marks d =
@@ -233,14 +233,14 @@ module _ (e f : Expr) (x : Table) (w : Well x) (A : Apart e f) where
       sim-stops (beside L) (pathsOf 1 e .result) (beside-sim L (A .firstDown)) (ap ends h)
     where
       L : Left
-      L = leftBy 2 1 (λ (q : 2 ≡ 1). omega arith) f e (A .secondAway) x w (A .secondDown) v s k
+      L = leftBy 2 1 (λ q. omega arith) f e (A .secondAway) x w (A .secondDown) v s k
 
   stops-two : (z : Fault) → runOn x f ≡ stop z → (v : List ℕ) (s : State) → runOn x e ≡ gives v s → ends (runOn (s .plan) f) ≡ false
   stops-two z h v s k =
       sim-stops (beside L) (pathsOf 2 f .result) (beside-sim L (A .secondDown)) (ap ends h)
     where
       L : Left
-      L = leftBy 1 2 (λ (q : 1 ≡ 2). omega arith) e f (A .firstAway) x w (A .firstDown) v s k
+      L = leftBy 1 2 (λ q. omega arith) e f (A .firstAway) x w (A .firstDown) v s k
 
   -- by the outcomes of both scripts alone
   orders : (o q : Out) → runOn x e ≡ o → runOn x f ≡ q →

@@ -64,10 +64,10 @@ grows-new z r s =
 pub grows-cut : (z : ℕ) (v : List ℕ) (s : State) → Grows (count (s .plan)) (cutAll z v s)
 unfolding cutAll
 grows-cut z [] s = grows-gives [] s
-grows-cut z (i ∷ is) s = go (rowAt (s .plan) i .parent) (λ (t : State). grows-cut z is t)
+grows-cut z (i ∷ is) s = go (rowAt (s .plan) i .parent) (λ t. grows-cut z is t)
   where
     go : (q : Option ℕ) → ((t : State) → Grows (count (t .plan)) (cutAll z is t)) →
-        Grows (count (s .plan)) (cutBy z i s q (λ (t : State). cutAll z is t))
+        Grows (count (s .plan)) (cutBy z i s q (λ t. cutAll z is t))
     go none h = h s
     go (some p) h =
         let k : count (s .plan) ≤ count (linked (s .plan) i none) = omega (arith, count-linked (s .plan) i none) in
@@ -78,14 +78,14 @@ pub grows-each : (z : ℕ) (x : Table) (t g : ℕ) (is : List ℕ) (cs : List Co
 unfolding copyEach
 grows-each z x t g [] cs s = grows-gives [] s
 grows-each z x t g (i ∷ is) cs s =
-    grows-row (λ (u : State). copyEach z x t g is (record { old = i; new = count (s .plan) } ∷ cs) u) (grows-new z (copyRow x t g i cs) s)
-    (λ (u : State). grows-each z x t g is (record { old = i; new = count (s .plan) } ∷ cs) u)
+    grows-row (λ u. copyEach z x t g is (record { old = i; new = count (s .plan) } ∷ cs) u) (grows-new z (copyRow x t g i cs) s)
+    (λ u. grows-each z x t g is (record { old = i; new = count (s .plan) } ∷ cs) u)
 
 pub grows-copy : (z : ℕ) (x : Table) (v : List ℕ) (g : ℕ) (s : State) → Grows (count (s .plan)) (copyAll z x v g s)
 unfolding copyAll
 grows-copy z x [] g s = grows-gives [] s
 grows-copy z x (i ∷ is) g s =
-    grows-row (λ (u : State). copyAll z x is g u) (grows-each z x i g (subtree x i) [] s) (λ (u : State). grows-copy z x is g u)
+    grows-row (λ u. copyAll z x is g u) (grows-each z x i g (subtree x i) [] s) (λ u. grows-copy z x is g u)
 
 pub grows-insert : (z : ℕ) (v w : List ℕ) (s : State) → Grows (count (s .plan)) (inserted z v w s)
 grows-insert z v w s =

@@ -62,7 +62,7 @@ fit-elements {ls} {x} f i h e = go (labelAt ls i .word) (f .words i h)
 
     go : (w : Word) → EndsIn w (letterOf (rowAt x i)) → areElements w ≡ true
     go [] k = refl
-    go (a ∷ w) k = subst (λ (b : Letter). areElements (b ∷ w) ≡ true) (sym (k .0 ∙ letter)) (k .1)
+    go (a ∷ w) k = subst (λ b. areElements (b ∷ w) ≡ true) (sym (k .0 ∙ letter)) (k .1)
 
 -- CUT: what has no parent needs none
 pub fit-cut : {ls : List Label} {x : Table} → Fit ls x → (i : ℕ) → i < count x → Fit ls (linked x i none)
@@ -73,14 +73,14 @@ fit-cut {ls} {x} f i h = record { size = f .size ∙ sym (count-linked x i none)
         let c : (rowAt x j .parent ≡ some p) × (rowAt (linked x i none) j ≡ rowAt x j) = parent-cut x i j p h e in
         let k : Linked ls x j p = f .links j p (c .0) in (
           k .0,
-          same-linked (λ (r : Row). r .isLeaf) x i p none (λ (r : Row). refl) h ∙ k .1,
-          k .2 ∙ ap (λ (r : Row). grow (labelAt ls p) (letterOf r)) (sym (c .1)),
+          same-linked (λ r. r .isLeaf) x i p none (λ r. refl) h ∙ k .1,
+          k .2 ∙ ap (λ r. grow (labelAt ls p) (letterOf r)) (sym (c .1)),
         )
 
     words : (j : ℕ) → j < count (linked x i none) → EndsIn (labelAt ls j .word) (letterOf (rowAt (linked x i none) j))
     words j k =
-        subst (λ (a : Letter). EndsIn (labelAt ls j .word) a) (sym (same-linked letterOf x i j none (λ (r : Row). refl) h))
-        (f .words j (subst (λ (n : ℕ). j < n) (count-linked x i none) k))
+        subst (λ a. EndsIn (labelAt ls j .word) a) (sym (same-linked letterOf x i j none (λ r. refl) h))
+        (f .words j (subst (λ n. j < n) (count-linked x i none) k))
 
 -- A ROW MORE, with a label that fits it
 pub record NewFit (ls : List Label) (x : Table) (r : Row) (l : Label) : Type 0 where
@@ -102,30 +102,30 @@ fit-row {ls} {x} f r l n =
     }
   where
     size : length (ls ++ (l ∷ [])) ≡ count (withRow x r)
-    size = length-append ls (l ∷ []) ∙ ap (λ (n : ℕ). n + 1) (f .size) ∙ sym (count-with x r)
+    size = length-append ls (l ∷ []) ∙ ap (λ n. n + 1) (f .size) ∙ sym (count-with x r)
 
     old : (i : ℕ) → i < count x → labelAt (ls ++ (l ∷ [])) i ≡ labelAt ls i
-    old i h = label-old ls l i (subst (λ (n : ℕ). i < n) (sym (f .size)) h)
+    old i h = label-old ls l i (subst (λ n. i < n) (sym (f .size)) h)
 
     new : labelAt (ls ++ (l ∷ [])) (count x) ≡ l
-    new = subst (λ (n : ℕ). labelAt (ls ++ (l ∷ [])) n ≡ l) (f .size) (label-new ls l)
+    new = subst (λ n. labelAt (ls ++ (l ∷ [])) n ≡ l) (f .size) (label-new ls l)
 
     links : (j p : ℕ) → rowAt (withRow x r) j .parent ≡ some p → (j < count x) ⊎ (j ≡ count x) → Linked (ls ++ (l ∷ [])) (withRow x r) j p
     links j p e (inl h) =
         let q : rowAt (withRow x r) j ≡ rowAt x j = row-old x r j h in
-        let k : Linked ls x j p = f .links j p (ap (λ (r : Row). r .parent) (sym q) ∙ e) in
+        let k : Linked ls x j p = f .links j p (ap (λ r. r .parent) (sym q) ∙ e) in
         let b : p < count x = omega (arith, k .0) in (
           k .0,
-          ap (λ (r : Row). r .isLeaf) (row-old x r p b) ∙ k .1,
+          ap (λ r. r .isLeaf) (row-old x r p b) ∙ k .1,
           old j h ∙ k .2 ∙ ap₂ (λ m r. grow m (letterOf r)) (sym (old p b)) (sym q),
         )
     links j p e (inr h) =
-        let q : rowAt (withRow x r) j ≡ r = subst (λ (i : ℕ). rowAt (withRow x r) i ≡ r) (sym h) (row-new x r) in
+        let q : rowAt (withRow x r) j ≡ r = subst (λ i. rowAt (withRow x r) i ≡ r) (sym h) (row-new x r) in
         let k : (p < count x) × (rowAt x p .isLeaf ≡ false) × (l ≡ grow (labelAt ls p) (letterOf r)) =
-        n .link p (ap (λ (r : Row). r .parent) (sym q) ∙ e) in (
-          subst (λ (i : ℕ). p < i) (sym h) (k .0),
-          ap (λ (r : Row). r .isLeaf) (row-old x r p (k .0)) ∙ k .1,
-          ap (λ (i : ℕ). labelAt (ls ++ (l ∷ [])) i) h ∙ new ∙ k .2 ∙
+        n .link p (ap (λ r. r .parent) (sym q) ∙ e) in (
+          subst (λ i. p < i) (sym h) (k .0),
+          ap (λ r. r .isLeaf) (row-old x r p (k .0)) ∙ k .1,
+          ap (λ i. labelAt (ls ++ (l ∷ [])) i) h ∙ new ∙ k .2 ∙
               ap₂ (λ m r. grow m (letterOf r)) (sym (old p (k .0))) (sym q),
         )
 
@@ -133,5 +133,5 @@ fit-row {ls} {x} f r l n =
     words j (inl h) =
         subst₂ (λ m r. EndsIn (m .word) (letterOf r)) (sym (old j h)) (sym (row-old x r j h)) (f .words j h)
     words j (inr h) =
-        subst (λ (i : ℕ). EndsIn (labelAt (ls ++ (l ∷ [])) i .word) (letterOf (rowAt (withRow x r) i))) (sym h)
+        subst (λ i. EndsIn (labelAt (ls ++ (l ∷ [])) i .word) (letterOf (rowAt (withRow x r) i))) (sym h)
         (subst₂ (λ m r. EndsIn (m .word) (letterOf r)) (sym new) (sym (row-new x r)) (n .word))

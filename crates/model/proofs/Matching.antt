@@ -61,7 +61,7 @@ module _ (n a b : ℕ) where
   mark-low o h = sym (parent-low o h)
 
   -- VALUES
-  pub all-first : {v : List ℕ} → All (λ (i : ℕ). i < n + a) v → map (shift n b) v ≡ matchedAll n a b v
+  pub all-first : {v : List ℕ} → All (λ i. i < n + a) v → map (shift n b) v ≡ matchedAll n a b v
   unfolding matchedAll
   all-first nothing = refl
   all-first (also {a = i} h k) = ap₂ (λ j l. j ∷ l) (sym (matched-first i h)) (all-first k)

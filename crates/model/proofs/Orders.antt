@@ -36,7 +36,7 @@ order-by L news u t T =
       stays = made-stays L news u t T;
       raised =
           λ i a b.
-          subst (λ (m : ℕ). rowAt (t .plan) (shift (count (L .plan)) m i) ≡ shiftRow (count (L .plan)) m (rowAt (u .plan) i))
+          subst (λ m. rowAt (t .plan) (shift (count (L .plan)) m i) ≡ shiftRow (count (L .plan)) m (rowAt (u .plan) i))
           (omega (arith, left-count L))
           (T .alike i b (λ h. omega (arith, h .0)));
     }
@@ -88,7 +88,7 @@ module _ (x l u s t : Table) (A : Order x l u s) (B : Order x u l t) (lowX : Low
 
   second-equal : (i : ℕ) → n + a ≤ i → i < count s → rowAt t (matched n a b i) ≡ matchedRow n a b (rowAt s i)
   second-equal i h k =
-      subst (λ (j : ℕ). rowAt t (matched n a b j) ≡ matchedRow n a b (rowAt s j)) back
+      subst (λ j. rowAt t (matched n a b j) ≡ matchedRow n a b (rowAt s j)) back
       (ap (rowAt t) (matched-second n a b (i - a)) ∙ B .stays (i - a) (omega arith) c ∙
       sym (ap (matchedRow n a b) (A .raised (i - a) (omega arith) c) ∙ row-second n a b (rowAt u (i - a))))
     where

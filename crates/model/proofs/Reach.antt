@@ -48,27 +48,27 @@ down-axis s e = go (ℕ-discrete (s .axis) 0)
     go (no h) = inr (omega (arith, leb-false 2 (s .axis) e))
 
 pub reach-is : (x : Table) (s : Step) (v : List ℕ) (j : ℕ) → isUp s ≡ false → isReached x s v j ≡ true → Reach x s v j
-reach-is x s v j u e = go (any-in (λ (i : ℕ). reaches x (s .axis) i j) v (and-right (admits s (letterOf (rowAt x j))) _ e))
+reach-is x s v j u e = go (any-in (λ i. reaches x (s .axis) i j) v (and-right (admits s (letterOf (rowAt x j))) _ e))
   where
     z : admits s (letterOf (rowAt x j)) ≡ true
-    z = and-left (admits s (letterOf (rowAt x j))) (any (λ (i : ℕ). reaches x (s .axis) i j) v) e
+    z = and-left (admits s (letterOf (rowAt x j))) (any (λ i. reaches x (s .axis) i j) v) e
 
     go : (i : ℕ) × In i v × (reaches x (s .axis) i j ≡ true) → Reach x s v j
     go (i, k, f) = by (down-axis s u)
       where
         by : (s .axis ≡ 0) ⊎ (s .axis ≡ 1) → Reach x s v j
-        by (inl a) = byChild k a (isThe-true i (rowAt x j .parent) (subst (λ (n : ℕ). reaches x n i j ≡ true) a f)) z
-        by (inr a) = byDeep k a (below-is x i j (subst (λ (n : ℕ). reaches x n i j ≡ true) a f)) z
+        by (inl a) = byChild k a (isThe-true i (rowAt x j .parent) (subst (λ n. reaches x n i j ≡ true) a f)) z
+        by (inr a) = byDeep k a (below-is x i j (subst (λ n. reaches x n i j ≡ true) a f)) z
 
 pub is-reach : (x : Table) (s : Step) (v : List ℕ) (j : ℕ) → ((i p : ℕ) → rowAt x i .parent ≡ some p → p < i) → Reach x s v j →
     isReached x s v j ≡ true
 is-reach x s v j l (byChild {i} k a e z) =
-    and-both (admits s (letterOf (rowAt x j))) (any (λ (i : ℕ). reaches x (s .axis) i j) v) z
-    (in-any (λ (i : ℕ). reaches x (s .axis) i j) k
-    (subst (λ (n : ℕ). reaches x n i j ≡ true) (sym a) (isThe-some i (rowAt x j .parent) e)))
+    and-both (admits s (letterOf (rowAt x j))) (any (λ i. reaches x (s .axis) i j) v) z
+    (in-any (λ i. reaches x (s .axis) i j) k
+    (subst (λ n. reaches x n i j ≡ true) (sym a) (isThe-some i (rowAt x j .parent) e)))
 is-reach x s v j l (byDeep {i} k a b z) =
-    and-both (admits s (letterOf (rowAt x j))) (any (λ (i : ℕ). reaches x (s .axis) i j) v) z
-    (in-any (λ (i : ℕ). reaches x (s .axis) i j) k (subst (λ (n : ℕ). reaches x n i j ≡ true) (sym a) (is-below x l i j b)))
+    and-both (admits s (letterOf (rowAt x j))) (any (λ i. reaches x (s .axis) i j) v) z
+    (in-any (λ i. reaches x (s .axis) i j) k (subst (λ n. reaches x n i j ≡ true) (sym a) (is-below x l i j b)))
 
 -- descendants are what the step 'descendant, any node' reaches
 pub any-admits : (a : Letter) → admits anyBelow a ≡ true
@@ -101,7 +101,7 @@ module _ (x y : Table) (R : ℕ → ℕ → Type 0) (one : (i j k : ℕ) → R i
   reach-across s v w i j h r l (byChild {i = t} k a e z) =
       let (u, m, q) = h t k in
       let (p, b, f) = parents i j t r e in
-      byChild m a (f ∙ ap some (one t p u b q)) (subst (λ (a : Letter). admits s a ≡ true) l z)
+      byChild m a (f ∙ ap some (one t p u b q)) (subst (λ a. admits s a ≡ true) l z)
   reach-across s v w i j h r l (byDeep {i = t} k a b z) =
       let (u, m, q) = h t k in
-      byDeep m a (below-across u j b r q) (subst (λ (a : Letter). admits s a ≡ true) l z)
+      byDeep m a (below-across u j b r q) (subst (λ a. admits s a ≡ true) l z)

@@ -19,7 +19,7 @@ parent-row x i p e = go (decLt i (count x))
   where
     go : Dec (i < count x) → i < count x
     go (yes h) = h
-    go (no h) = absurd (Option·none-ne-some p (sym (ap (λ (r : Row). r .parent) (row-out x i (omega arith))) ∙ e))
+    go (no h) = absurd (Option·none-ne-some p (sym (ap (λ r. r .parent) (row-out x i (omega arith))) ∙ e))
 
 -- A ROW MORE
 pub count-with : (x : Table) (r : Row) → count (withRow x r) ≡ count x + 1
@@ -53,7 +53,7 @@ pub linked-cases : (x : Table) (i j : ℕ) (q : Option ℕ) → i < count x →
 linked-cases x i j q h = go (ℕ-discrete j i)
   where
     go : Dec (j ≡ i) → (rowAt (linked x i q) j ≡ rowAt x j) ⊎ ((j ≡ i) × (rowAt (linked x i q) j ≡ withParent (rowAt x j) q))
-    go (yes e) = inr (e, subst (λ (k : ℕ). rowAt (linked x i q) k ≡ withParent (rowAt x k) q) (sym e) (row-linked x i q h))
+    go (yes e) = inr (e, subst (λ k. rowAt (linked x i q) k ≡ withParent (rowAt x k) q) (sym e) (row-linked x i q h))
     go (no n) = inl (row-others x i j q n)
 
 -- kind and tag stay
@@ -73,5 +73,5 @@ parent-cut x i j p h e = go (linked-cases x i j none h)
   where
     go : (rowAt (linked x i none) j ≡ rowAt x j) ⊎ ((j ≡ i) × (rowAt (linked x i none) j ≡ withParent (rowAt x j) none)) →
         (rowAt x j .parent ≡ some p) × (rowAt (linked x i none) j ≡ rowAt x j)
-    go (inl q) = (ap (λ (r : Row). r .parent) (sym q) ∙ e, q)
-    go (inr q) = absurd (Option·none-ne-some p (ap (λ (r : Row). r .parent) (sym (q .1)) ∙ e))
+    go (inl q) = (ap (λ r. r .parent) (sym q) ∙ e, q)
+    go (inr q) = absurd (Option·none-ne-some p (ap (λ r. r .parent) (sym (q .1)) ∙ e))

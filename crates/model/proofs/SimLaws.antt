@@ -30,7 +30,7 @@ module _ (W : World) where
 
   pub valued-more : (r : List Path) (news more : List Label) (i : ℕ) → Valued W r news i → Valued W r (news ++ more) i
   valued-more r news more i k =
-      (omega (arith, k .0, length-more news more), subst (λ (l : Label). Item (W .script) r l) (sym (label-more news more i (k .0))) (k .1))
+      (omega (arith, k .0, length-more news more), subst (λ l. Item (W .script) r l) (sym (label-more news more i (k .0))) (k .1))
 
   pub vals-more : (r : List Path) (news more : List Label) {v : List ℕ} → Vals W r news v → Vals W r (news ++ more) v
   vals-more r news more a = all-imp (valued-more r news more) a

@@ -46,7 +46,7 @@ module _ (W : World) where
           Sim W (start (documentPlace d) ∷ []) news (gives (marked o) s) (gives (marked o) t)
       go none e = sim-gives W (start (documentPlace d) ∷ []) news [] s t T nothing
       go (some i) e =
-          subst (λ (j : ℕ). Sim W (start (documentPlace d) ∷ []) news (gives (i ∷ []) s) (gives (j ∷ []) t))
+          subst (λ j. Sim W (start (documentPlace d) ∷ []) news (gives (i ∷ []) s) (gives (j ∷ []) t))
           (shift-low (W .n) (W .m) i (omega (arith, k .0, W .oneCount)))
           (sim-gives W (start (documentPlace d) ∷ []) news (i ∷ []) s t T
           (also (omega (arith, k .0, W .oneCount, ones-length W news), inr (start (documentPlace d), here refl, acc, on)) nothing))
@@ -56,7 +56,7 @@ module _ (W : World) where
 
           on : OnPath (W .script .marks) (start (documentPlace d)) (labelAt (ones W news) i)
           on =
-              subst (λ (l : Label). OnPath (W .script .marks) (start (documentPlace d)) l)
+              subst (λ l. OnPath (W .script .marks) (start (documentPlace d)) l)
               (sym (label-side (W .script) (W .one) (W .oneFits) news i (k .0) ∙ k .1)) (at refl e)
 
   -- CONSTRUCTOR: the row is the script's own
@@ -64,12 +64,12 @@ module _ (W : World) where
       Sim W r news (newRow z (loose b n) s) (newRow z (loose b n) t)
   sim-new r z b n news s t T =
       new-sim W news s t T r z (loose b n) own (new-fit W news s t T (loose b n) base)
-      (λ p e. absurd (Option·none-ne-some p e)) (new-touched W news s t T (loose b n) base) (λ (o : Out). o)
-      (λ (o : Out). o) (λ (x : Fault). refl) (λ (x : Fault). refl)
+      (λ p e. absurd (Option·none-ne-some p e)) (new-touched W news s t T (loose b n) base) (λ o. o)
+      (λ o. o) (λ x. refl) (λ x. refl)
       (λ N.
-      subst (λ (i : ℕ). Sim W r news (gives (count (s .plan) ∷ []) (withMade s (loose b n))) (gives (i ∷ []) (withMade t (loose b n))))
+      subst (λ i. Sim W r news (gives (count (s .plan) ∷ []) (withMade s (loose b n))) (gives (i ∷ []) (withMade t (loose b n))))
       (count-across W news s t T) (both (own ∷ []) N
-      (also (bound N, inl (ap (λ (l : Label). l .root) (label-last W news s t T own))) nothing)))
+      (also (bound N, inl (ap (λ l. l .root) (label-last W news s t T own))) nothing)))
       (grows-gives (count (s .plan) ∷ []) (withMade s (loose b n)))
     where
       own : Label
@@ -87,7 +87,7 @@ module _ (W : World) where
       (v : List ℕ) (s t : State) → Twin W news s t → Vals W r news v →
       Sim W (withStep u r) news (gives (stepped (s .plan) u v) s) (gives (stepped (t .plan) u (map (φ W) v)) t)
   sim-step r u d acc news v s t T a =
-      subst (λ (l : List ℕ). Sim W (withStep u r) news (gives (stepped (s .plan) u v) s) (gives l t))
+      subst (λ l. Sim W (withStep u r) news (gives (stepped (s .plan) u v) s) (gives l t))
       (step-alike W news s t T r u d acc v a)
       (sim-gives W (withStep u r) news (stepped (s .plan) u v) s t T (step-vals W news s t T r u d acc v a))
 
@@ -98,7 +98,7 @@ module _ (W : World) where
   picked-alike r y c news s t T [] nothing = (refl, nothing)
   picked-alike r y c news s t T (i ∷ is) (also k a) =
       go (picked-alike r y c news s t T is a) (isPicked (s .plan) y c i) (isPicked (t .plan) y c (φ W i))
-      (ap₂ (λ b n. b && relates y c n) (ap (λ (r : Row). r .isLeaf) same) (ap (λ (r : Row). r .tag) same))
+      (ap₂ (λ b n. b && relates y c n) (ap (λ r. r .isLeaf) same) (ap (λ r. r .tag) same))
     where
       l : Alike W s i (φ W i)
       l = valued-alike W news s t T r i k
@@ -111,7 +111,7 @@ module _ (W : World) where
           (map (φ W) (pick b (i ∷ picked (s .plan) y c is) (picked (s .plan) y c is)) ≡
           pick d (φ W i ∷ picked (t .plan) y c (map (φ W) is)) (picked (t .plan) y c (map (φ W) is))) ×
           Vals W r news (pick b (i ∷ picked (s .plan) y c is) (picked (s .plan) y c is))
-      go (e, h) true true f = (ap (λ (l : List ℕ). φ W i ∷ l) e, also k h)
+      go (e, h) true true f = (ap (λ l. φ W i ∷ l) e, also k h)
       go (e, h) false false f = (e, h)
       go (e, h) true false f = absurd (false≢true f)
       go (e, h) false true f = absurd (true≢false f)
@@ -120,12 +120,12 @@ module _ (W : World) where
       Sim W r news (gives (picked (s .plan) y c v) s) (gives (picked (t .plan) y c (map (φ W) v)) t)
   sim-pick r y c news v s t T a =
       let (e, k) = picked-alike r y c news s t T v a in
-      subst (λ (l : List ℕ). Sim W r news (gives (picked (s .plan) y c v) s) (gives l t)) e
+      subst (λ l. Sim W r news (gives (picked (s .plan) y c v) s) (gives l t)) e
       (sim-gives W r news (picked (s .plan) y c v) s t T k)
 
   -- JOIN: as many items in both
   test-items : (v w : List ℕ) → ltb maxItems (length (map (φ W) v) + length (map (φ W) w)) ≡ ltb maxItems (length v + length w)
-  test-items v w = ap₂ (λ (a b : ℕ). ltb maxItems (a + b)) (length-map v (φ W)) (length-map w (φ W))
+  test-items v w = ap₂ (λ a b. ltb maxItems (a + b)) (length-map v (φ W)) (length-map w (φ W))
 
   pub sim-join : (r : List Path) (z : ℕ) (news : List Label) (v w : List ℕ) (s t : State) → Twin W news s t → Vals W r news (v ++ w) →
       Sim W r news (joinItems z v w s) (joinItems z (map (φ W) v) (map (φ W) w) t)

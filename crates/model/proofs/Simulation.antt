@@ -77,7 +77,7 @@ module _ (W : World) where
   simulation (nil z) b v news s t u h k T = sim-gives W [] news [] s t T nothing
   simulation (document z d) b v news s t u h k T = sim-document W d (h .0 (start (documentPlace d)) (here refl)) news s t T
   simulation (var z i) b v news s t u h k T =
-      subst (λ (w : List ℕ). Sim W (getD b i []) news (gives (getD v i []) s) (gives w t)) (sym (List·getD-map (map (φ W)) v i []))
+      subst (λ w. Sim W (getD b i []) news (gives (getD v i []) s) (gives w t)) (sym (List·getD-map (map (φ W)) v i []))
       (sim-gives W (getD b i []) news (getD v i []) s t T (env-at news i k))
   simulation (step z c e) b v news s t u h k T =
       sim-then W r (withStep c r) news (λ w q. gives (stepped (q .plan) c w) q)
@@ -173,7 +173,7 @@ module _ (W : World) where
       (simulation e b v news s t (ups .0) (inside-first x (y .result ++ w .result) (yw .accessed) (yw .modified) h) k T)
       (λ more l s t T a.
       subst
-      (λ (n : ℕ).
+      (λ n.
       Sim W (y .result ++ w .result) (news ++ more) (pick (eqb (length l) 0) (run g v s) (run f v s))
       (pick (eqb n 0) (run g (φs v) t) (run f (φs v) t)))
       (sym (length-map l (φ W)))

@@ -63,30 +63,30 @@ module _ (ls : List Label) (x : Table) (S : Started ls x) (r : Row)
       old i h = label-old ls next i (omega (arith, S .fit .size))
 
       new : labelAt (ls ++ (next ∷ [])) (count x) ≡ next
-      new = subst (λ (n : ℕ). labelAt (ls ++ (next ∷ [])) n ≡ next) (S .fit .size) (label-new ls next)
+      new = subst (λ n. labelAt (ls ++ (next ∷ [])) n ≡ next) (S .fit .size) (label-new ls next)
 
       roots : (i : ℕ) → rowAt (withRow x r) i .parent ≡ none → (i < count x) ⊎ (i ≡ count x) →
           labelAt (ls ++ (next ∷ [])) i ≡ label (first i) []
-      roots i e (inl h) = old i h ∙ S .roots i h (ap (λ (r : Row). r .parent) (sym (row-old x r i h)) ∙ e)
+      roots i e (inl h) = old i h ∙ S .roots i h (ap (λ r. r .parent) (sym (row-old x r i h)) ∙ e)
       roots i e (inr h) =
-          subst (λ (i : ℕ). rowAt (withRow x r) i .parent ≡ none → labelAt (ls ++ (next ∷ [])) i ≡ label (first i) []) (sym h)
+          subst (λ i. rowAt (withRow x r) i .parent ≡ none → labelAt (ls ++ (next ∷ [])) i ≡ label (first i) []) (sym h)
           (λ e.
-          new ∙ ap (nextLabel ls (count x) (letterOf r)) (ap (λ (r : Row). r .parent) (sym (row-new x r)) ∙ e)) e
+          new ∙ ap (nextLabel ls (count x) (letterOf r)) (ap (λ r. r .parent) (sym (row-new x r)) ∙ e)) e
 
       firsts : (i : ℕ) → (i < count x) ⊎ (i ≡ count x) → (j : ℕ) × (labelAt (ls ++ (next ∷ [])) i .root ≡ first j)
       firsts i (inl h) =
           let (j, e) = S .firsts i h in
-          (j, ap (λ (l : Label). l .root) (old i h) ∙ e)
+          (j, ap (λ l. l .root) (old i h) ∙ e)
       firsts i (inr h) = go (r .parent) refl
         where
           at : labelAt (ls ++ (next ∷ [])) i ≡ next
           at = ap (labelAt (ls ++ (next ∷ []))) h ∙ new
 
           go : (o : Option ℕ) → r .parent ≡ o → (j : ℕ) × (labelAt (ls ++ (next ∷ [])) i .root ≡ first j)
-          go none e = (count x, ap (λ (l : Label). l .root) (at ∙ ap (nextLabel ls (count x) (letterOf r)) e))
+          go none e = (count x, ap (λ l. l .root) (at ∙ ap (nextLabel ls (count x) (letterOf r)) e))
           go (some p) e =
               let (j, f) = S .firsts p (under p e .0) in
-              (j, ap (λ (l : Label). l .root) (at ∙ ap (nextLabel ls (count x) (letterOf r)) e) ∙ f)
+              (j, ap (λ l. l .root) (at ∙ ap (nextLabel ls (count x) (letterOf r)) e) ∙ f)
 
 -- ROW BY ROW
 started-from : (x : Table) (rest before : List Row) → before ++ rest ≡ x .rows → rowsFit x (length before) rest ≡ true → (ls : List Label) →
@@ -96,7 +96,7 @@ started-from x [] before e f ls S =
     (ls, subst (λ rs. Started ls (table rs (x .marks))) (sym (append-nil before) ∙ e) S)
 started-from x (r ∷ rest) before e f ls S =
     started-from x rest (before ++ (r ∷ [])) (append-snoc before r rest ∙ e)
-    (subst (λ (n : ℕ). rowsFit x n rest ≡ true) (omega (arith, length-append before (r ∷ [])))
+    (subst (λ n. rowsFit x n rest ≡ true) (omega (arith, length-append before (r ∷ [])))
     (and-right (tagFits r && parentFits x (length before) (r .parent)) (rowsFit x (suc (length before)) rest) f))
     (ls ++ (next ls y S r under ∷ [])) (started-row ls y S r under)
   where
@@ -111,7 +111,7 @@ started-from x (r ∷ rest) before e f ls S =
         (and-left (tagFits r && parentFits x (length before) (r .parent)) (rowsFit x (suc (length before)) rest) f)) in
         let b : p < length before = ltb-true p (length before) (and-left (ltb p (length before)) (isElement x p) k) in (
           b,
-          ap (λ (r : Row). r .isLeaf)
+          ap (λ r. r .isLeaf)
               (sym (List·getD-append before (r ∷ rest) noRow p b) ∙ ap (λ rs. getD rs p noRow) e) ∙
               not-true (rowAt x p .isLeaf)
               (and-right (ltb p (count x)) (not (rowAt x p .isLeaf)) (and-right (ltb p (length before)) (isElement x p) k)),

@@ -78,11 +78,11 @@ module _ (W : World) where
   base-more news s t T r l p b =
       record {
         bound = omega (arith, b .bound, count-with (s .plan) r);
-        isElement = ap (λ (r : Row). r .isLeaf) (row-old (s .plan) r p (b .bound)) ∙ b .isElement;
+        isElement = ap (λ r. r .isLeaf) (row-old (s .plan) r p (b .bound)) ∙ b .isElement;
         clear = b .clear;
         grows =
-            λ (a : Letter).
-            subst (λ (m : Label). Touched (W .script) (grow m a))
+            λ a.
+            subst (λ m. Touched (W .script) (grow m a))
             (sym (label-more W news (l ∷ []) p (omega (arith, b .bound, T .one .fit .size)))) (b .grows a);
       }
 
@@ -91,10 +91,10 @@ module _ (W : World) where
   base-new news s t T r l e k =
       record {
         bound = omega (arith, count-with (s .plan) r);
-        isElement = ap (λ (r : Row). r .isLeaf) (row-new (s .plan) r) ∙ e;
+        isElement = ap (λ r. r .isLeaf) (row-new (s .plan) r) ∙ e;
         clear = λ h.
             omega (arith, W .oneFits .early (count (s .plan)) h, W .oneCount, one-count W news s t T);
-        grows = λ (a : Letter). touched-grow (W .script) (labelAt (ones W (news ++ (l ∷ []))) (count (s .plan))) a
+        grows = λ a. touched-grow (W .script) (labelAt (ones W (news ++ (l ∷ []))) (count (s .plan))) a
             (subst (Touched (W .script)) (sym (label-last W news s t T l)) k);
       }
 
@@ -142,7 +142,7 @@ module _ (W : World) where
             Base news s p
         go true q f k =
             subst (Base news s) (Option·some-injective (c .new) p f)
-            (b (ap (λ (j : ℕ). rowAt (s₀ .plan) j .isLeaf) (eqb-true (c .old) i q) ∙ e))
+            (b (ap (λ j. rowAt (s₀ .plan) j .isLeaf) (eqb-true (c .old) i q) ∙ e))
         go false q f k = k f
 
     parent-base : (news : List Label) (s : State) (cs : List Copied) → All (CopyFits news s) cs → Base news s g →
@@ -153,7 +153,7 @@ module _ (W : World) where
     parent-base news s cs a b false (some i) h p e = copy-base news s i p cs a (h i refl) e
 
     -- the rows of one subtree, and what is done next
-    each-sim : (t : ℕ) (is : List ℕ) → All (λ (i : ℕ). Alike W s₀ i (φ W i)) is → (news : List Label) (cs : List Copied) (u q : State) →
+    each-sim : (t : ℕ) (is : List ℕ) → All (λ i. Alike W s₀ i (φ W i)) is → (news : List Label) (cs : List Copied) (u q : State) →
         Twin W news u q → Base news u g → All (CopyFits news u) cs → (k k′ : State → Out) →
         ((news : List Label) (u q : State) → Twin W news u q → Base news u g → Sim W [] news (k u) (k′ q)) →
         ((u : State) → Grows (count (u .plan)) (k u)) →
@@ -162,14 +162,14 @@ module _ (W : World) where
     unfolding copyEach
     each-sim t [] nothing news cs u q U b a k k′ h d = h news u q U b
     each-sim t (i ∷ is) (also e es) news cs u q U b a k k′ h d =
-        subst (λ (r : Row). Sim W [] news (f (newRow z row u)) (f′ (newRow z r q)))
+        subst (λ r. Sim W [] news (f (newRow z row u)) (f′ (newRow z r q)))
         (sym (row-across (s₀ .plan) (t₀ .plan) t g i cs (T₀ .alike i (e .0) (e .1))))
         (new-sim W news u q U [] z row l (new-fit news u q U row base) (λ p e. base p e .clear)
-        (new-touched news u q U row base) f f′ (λ (x : Fault). refl) (λ (x : Fault). refl)
+        (new-touched news u q U row base) f f′ (λ x. refl) (λ x. refl)
         (λ N.
         sim-more W [] news (l ∷ [])
         (subst
-        (λ (c : ℕ).
+        (λ c.
         Sim W [] (news ++ (l ∷ [])) (thenRow (copyEach z (s₀ .plan) t g is (new ∷ cs) (withMade u row)) k)
         (thenRow
         (copyEach z (t₀ .plan) (φ W t) (φ W g) (map (φ W) is) (record { old = φ W i; new = c } ∷ map shiftCopied cs)
@@ -190,13 +190,13 @@ module _ (W : World) where
         new = record { old = i; new = count (u .plan) }
 
         f : Out → Out
-        f o = thenRow (thenRow o (λ (p : State). copyEach z (s₀ .plan) t g is (new ∷ cs) p)) k
+        f o = thenRow (thenRow o (λ p. copyEach z (s₀ .plan) t g is (new ∷ cs) p)) k
 
         f′ : Out → Out
         f′ o =
             thenRow
             (thenRow o
-            (λ (p : State).
+            (λ p.
             copyEach z (t₀ .plan) (φ W t) (φ W g) (map (φ W) is) (record { old = φ W i; new = count (q .plan) } ∷ map shiftCopied cs) p)) k′
 
         base : (p : ℕ) → row .parent ≡ some p → Base news u p
@@ -218,14 +218,14 @@ module _ (W : World) where
     all-sim r acc [] nothing news u q U b = sim-gives W [] news [] u q U nothing
     all-sim r acc (i ∷ is) (also k a) news u q U b =
         subst
-        (λ (l : List ℕ).
-        Sim W [] news (thenRow (copyEach z (s₀ .plan) i g (subtree (s₀ .plan) i) [] u) (λ (u : State). copyAll z (s₀ .plan) is g u))
-        (thenRow (copyEach z (t₀ .plan) (φ W i) (φ W g) l [] q) (λ (u : State). copyAll z (t₀ .plan) (map (φ W) is) (φ W g) u)))
+        (λ l.
+        Sim W [] news (thenRow (copyEach z (s₀ .plan) i g (subtree (s₀ .plan) i) [] u) (λ u. copyAll z (s₀ .plan) is g u))
+        (thenRow (copyEach z (t₀ .plan) (φ W i) (φ W g) l [] q) (λ u. copyAll z (t₀ .plan) (map (φ W) is) (φ W g) u)))
         (subtree-alike W news₀ s₀ t₀ T₀ r acc i k)
         (each-sim i (subtree (s₀ .plan) i) (subtree-clear W news₀ s₀ t₀ T₀ r acc i k) news [] u q U b nothing
-        (λ (u : State). copyAll z (s₀ .plan) is g u) (λ (u : State). copyAll z (t₀ .plan) (map (φ W) is) (φ W g) u)
+        (λ u. copyAll z (s₀ .plan) is g u) (λ u. copyAll z (t₀ .plan) (map (φ W) is) (φ W g) u)
         (λ news u q U b. all-sim r acc is a news u q U b)
-        (λ (u : State). grows-copy z (s₀ .plan) is g u))
+        (λ u. grows-copy z (s₀ .plan) is g u))
 
   -- THE OUTCOME of an insert of a value on r into a value on q
   module _ (news : List Label) (s t : State) (T : Twin W news s t) (r q : List Path)
@@ -233,9 +233,9 @@ module _ (W : World) where
       (mods : (p : Path) → In p q → W .script .modified (p ▸ anyBelow)) where
     element-across : (g : ℕ) → Alike W s g (φ W g) → isElement (t .plan) (φ W g) ≡ isElement (s .plan) g
     element-across g a =
-        ap₂ (λ (b c : Bool). b && not c)
+        ap₂ (λ b c. b && not c)
         (lt-ltb (φ W g) (count (t .plan)) (row-bound W news s t T g (a .0)) ∙ sym (lt-ltb g (count (s .plan)) (a .0)))
-        (ap (λ (r : Row). r .isLeaf) (T .alike g (a .0) (a .1)))
+        (ap (λ r. r .isLeaf) (T .alike g (a .0) (a .1)))
 
     target-base : (g : ℕ) → Valued W q news g → isElement (s .plan) g ≡ true → Base news s g
     target-base g k e =
@@ -243,7 +243,7 @@ module _ (W : World) where
           bound = a .0;
           isElement = not-true (rowAt (s .plan) g .isLeaf) (and-right (ltb g (count (s .plan))) (not (rowAt (s .plan) g .isLeaf)) e);
           clear = a .1;
-          grows = λ (b : Letter). grows b (k .1);
+          grows = λ b. grows b (k .1);
         }
       where
         a : Alike W s g (φ W g)
@@ -258,7 +258,7 @@ module _ (W : World) where
     insert-sim z v [] a b = alike
     insert-sim z v (g ∷ []) a (also k b) =
         subst
-        (λ (c : Bool).
+        (λ c.
         Sim W [] news (pick (isElement (s .plan) g) (copyAll z (s .plan) v g s) (stop (targetAt z)))
         (pick c (copyAll z (t .plan) (map (φ W) v) (φ W g) t) (stop (targetAt z))))
         (sym (element-across g (valued-alike W news s t T q g k))) (go (isElement (s .plan) g) refl)
@@ -270,7 +270,7 @@ module _ (W : World) where
         go false e = alike
     insert-sim z v (g ∷ h ∷ w) a b =
         subst₂
-        (λ (c d : Bool).
+        (λ c d.
         Sim W [] news (pick (c && isElement (s .plan) g) (copyAll z (s .plan) v g s) (stop (targetAt z)))
         (pick (d && isElement (t .plan) (φ W g)) (copyAll z (t .plan) (map (φ W) v) (φ W g) t) (stop (targetAt z))))
         (sym (ne-eqb (suc (suc (length w))) 1 (λ e. omega arith)))

@@ -47,9 +47,9 @@ cut-item : (c : Script) (d : Side) → SideFits c d → (news : List Label) (r :
     Item c r (labelAt (d .labels ++ news) i) → i < count (d .plan) →
     ((p : Path) × c .accessed p × OnPath (c .marks) p (labelAt (d .labels) i)) × Changed c (labelAt (d .labels) i)
 cut-item c d F news r m i (inl o) h =
-    absurd (F .foreign i h (ap (λ (l : Label). l .root) (sym (label-side c d F news i h)) ∙ o))
+    absurd (F .foreign i h (ap (λ l. l .root) (sym (label-side c d F news i h)) ∙ o))
 cut-item c d F news r m i (inr (p, k, a, o)) h =
-    let q : OnPath (c .marks) p (labelAt (d .labels) i) = subst (λ (l : Label). OnPath (c .marks) p l) (label-side c d F news i h) o in
+    let q : OnPath (c .marks) p (labelAt (d .labels) i) = subst (λ l. OnPath (c .marks) p l) (label-side c d F news i h) o in
     ((p, a, q), changed-at c (labelAt (d .labels) i) p q (m p k .0) (m p k .1))
 
 -- ONE STATE
@@ -74,7 +74,7 @@ good-cut c d F news s g r m i p h k e =
     same-count = count-linked (s .plan) i none
 
     wider : (q : Record) → Named (count (s .plan)) q → Named (count (linked (s .plan) i none)) q
-    wider q n = subst (λ (k : ℕ). Named k q) (sym same-count) n
+    wider q n = subst (λ k. Named k q) (sym same-count) n
 
     lower : (q : ℕ) → some p ≡ some q → q < count (linked (s .plan) i none)
     lower q f = omega (arith, g .fit .links i q (e ∙ f) .0, same-count)
@@ -86,9 +86,9 @@ good-cut c d F news s g r m i p h k e =
         Kept c (labelAt (d .labels) j) (rowAt (d .plan) j) (rowAt (linked (s .plan) i none) j)
     kept j b (inl q) n = subst (Kept c (labelAt (d .labels) j) (rowAt (d .plan) j)) (sym q) n
     kept j b (inr (q, f)) (inl n) =
-        let (o, v) = cut-item c d F news r m j (subst (λ (i : ℕ). Item c r (labelAt (d .labels ++ news) i)) (sym q) k) b in
-        inr (f ∙ ap (λ (r : Row). withParent r none) n, o, v)
-    kept j b (inr (q, f)) (inr (n, o, v)) = inr (f ∙ ap (λ (r : Row). withParent r none) n, o, v)
+        let (o, v) = cut-item c d F news r m j (subst (λ i. Item c r (labelAt (d .labels ++ news) i)) (sym q) k) b in
+        inr (f ∙ ap (λ r. withParent r none) n, o, v)
+    kept j b (inr (q, f)) (inr (n, o, v)) = inr (f ∙ ap (λ r. withParent r none) n, o, v)
 
 -- BOTH STATES
 module _ (W : World) (news : List Label) (r : List Path) (m : Cuttable (W .script) r) where
@@ -99,8 +99,8 @@ module _ (W : World) (news : List Label) (r : List Path) (m : Cuttable (W .scrip
         one = good-cut (W .script) (W .one) (W .oneFits) news s (T .one) r m i p (a .0) (k .1) e;
         two =
             good-cut (W .script) (W .two) (W .twoFits) news t (T .two) r m (φ W i) (φ W p) bound
-            (subst (λ (l : Label). Item (W .script) r l) (sym (label-across W news i (a .1))) (k .1))
-            (ap (λ (r : Row). r .parent) (T .alike i (a .0) (a .1)) ∙ ap (φParent W) e);
+            (subst (λ l. Item (W .script) r l) (sym (label-across W news i (a .1))) (k .1))
+            (ap (λ r. r .parent) (T .alike i (a .0) (a .1)) ∙ ap (φParent W) e);
         touched = T .touched;
         alike =
             λ j h c.
@@ -120,8 +120,8 @@ module _ (W : World) (news : List Label) (r : List Path) (m : Cuttable (W .scrip
           rowAt (linked (t .plan) (φ W i) none) (φ W j) ≡ φRow W (rowAt (linked (s .plan) i none) j)
       cut-alike j h c (yes q) =
           subst
-          (λ (j : ℕ). rowAt (linked (t .plan) (φ W i) none) (φ W j) ≡ φRow W (rowAt (linked (s .plan) i none) j)) (sym q)
-          (row-linked (t .plan) (φ W i) none bound ∙ ap (λ (r : Row). withParent r none) (T .alike i (a .0) (a .1)) ∙
+          (λ j. rowAt (linked (t .plan) (φ W i) none) (φ W j) ≡ φRow W (rowAt (linked (s .plan) i none) j)) (sym q)
+          (row-linked (t .plan) (φ W i) none bound ∙ ap (λ r. withParent r none) (T .alike i (a .0) (a .1)) ∙
           sym (ap (φRow W) (row-linked (s .plan) i none (a .0))))
       cut-alike j h c (no q) =
           row-others (t .plan) (φ W i) (φ W j) none (λ e. q (shift-injective (W .n) (W .m) j i e)) ∙ T .alike j h c ∙
@@ -140,20 +140,20 @@ module _ (W : World) (news : List Label) (r : List Path) (m : Cuttable (W .scrip
 
       go : (o : Option ℕ) → rowAt (s .plan) i .parent ≡ o →
           ((u q : State) → Twin W news u q → Sim W [] news (cutAll z is u) (cutAll z (map (φ W) is) q)) →
-          Sim W [] news (cutBy z i s (rowAt (s .plan) i .parent) (λ (t : State). cutAll z is t))
-          (cutBy z (φ W i) t (rowAt (t .plan) (φ W i) .parent) (λ (t : State). cutAll z (map (φ W) is) t))
+          Sim W [] news (cutBy z i s (rowAt (s .plan) i .parent) (λ t. cutAll z is t))
+          (cutBy z (φ W i) t (rowAt (t .plan) (φ W i) .parent) (λ t. cutAll z (map (φ W) is) t))
       go none e h =
           subst₂
           (λ o p.
-          Sim W [] news (cutBy z i s o (λ (t : State). cutAll z is t)) (cutBy z (φ W i) t p (λ (t : State). cutAll z (map (φ W) is) t)))
-          (sym e) (sym (ap (λ (r : Row). r .parent) (T .alike i (A .0) (A .1)) ∙ ap (φParent W) e)) (h s t T)
+          Sim W [] news (cutBy z i s o (λ t. cutAll z is t)) (cutBy z (φ W i) t p (λ t. cutAll z (map (φ W) is) t)))
+          (sym e) (sym (ap (λ r. r .parent) (T .alike i (A .0) (A .1)) ∙ ap (φParent W) e)) (h s t T)
       go (some p) e h =
           subst₂
           (λ o p.
-          Sim W [] news (cutBy z i s o (λ (t : State). cutAll z is t)) (cutBy z (φ W i) t p (λ (t : State). cutAll z (map (φ W) is) t)))
-          (sym e) (sym (ap (λ (r : Row). r .parent) (T .alike i (A .0) (A .1)) ∙ ap (φParent W) e))
+          Sim W [] news (cutBy z i s o (λ t. cutAll z is t)) (cutBy z (φ W i) t p (λ t. cutAll z (map (φ W) is) t)))
+          (sym e) (sym (ap (λ r. r .parent) (T .alike i (A .0) (A .1)) ∙ ap (φParent W) e))
           (subst
-          (λ (k : ℕ).
+          (λ k.
           Sim W [] news (pick (ltb (length (s .history)) maxHistory) (cutAll z is (cutRow s i p)) (stop (historyAt z)))
           (pick (ltb k maxHistory) (cutAll z (map (φ W) is) (cutRow t (φ W i) (φ W p))) (stop (historyAt z))))
           (sym (same-length W news s t T)) (by (ltb (length (s .history)) maxHistory)))

@@ -24,7 +24,7 @@ use Rattle.model.proofs.Twin.{Side, Script, SideFits, World, Touched, I
 
 pub in-step : (s : Step) {p : Path} {r : List Path} → In p r → In (p ▸ s) (withStep s r)
 unfolding withStep
-in-step s (here e) = here (ap (λ (p : Path). p ▸ s) e)
+in-step s (here e) = here (ap (λ p. p ▸ s) e)
 in-step s (there i) = there (in-step s i)
 
 -- what is below a touched row is touched
@@ -35,7 +35,7 @@ touched-grow c l a (inr k) = inr (λ w g. k w (grown-trans (more same) g))
 -- A label behind the first ones
 pub label-high : (ls news : List Label) (i k : ℕ) → i ≡ length ls + k → labelAt (ls ++ news) i ≡ labelAt news k
 label-high ls news i k e =
-    subst (λ (j : ℕ). labelAt (ls ++ news) j ≡ labelAt news k) (sym e) (getD-append-add ls news k (label (first 0) []))
+    subst (λ j. labelAt (ls ++ news) j ≡ labelAt news k) (sym e) (getD-append-add ls news k (label (first 0) []))
 
 -- ONE SIDE
 module _ (c : Script) (d : Side) (F : SideFits c d) (news : List Label) where
@@ -44,26 +44,26 @@ module _ (c : Script) (d : Side) (F : SideFits c d) (news : List Label) where
 
   -- no item of a value is hidden
   pub item-clear : (r : List Path) (i : ℕ) → Item c r (labelAt (d .labels ++ news) i) → d .hidden i → ⊥
-  item-clear r i (inl o) h = F .foreign i (F .early i h) (ap (λ (l : Label). l .root) (sym (label-side i (F .early i h))) ∙ o)
+  item-clear r i (inl o) h = F .foreign i (F .early i h) (ap (λ l. l .root) (sym (label-side i (F .early i h))) ∙ o)
   item-clear r i (inr (p, k, a, o)) h =
-      F .apart i p h a (subst (λ (l : Label). OnPath (c .marks) p l) (label-side i (F .early i h)) o)
+      F .apart i p h a (subst (λ l. OnPath (c .marks) p l) (label-side i (F .early i h)) o)
 
   -- what a step reaches from items of r are items of r with the step
   pub reach-item : (r : List Path) (s : State) (t : Step) (v : List ℕ) (j : ℕ) → Good c d news s →
       ((p : Path) → In p r → c .accessed (p ▸ t)) →
-      All (λ (i : ℕ). Item c r (labelAt (d .labels ++ news) i)) v → Reach (s .plan) t v j →
+      All (λ i. Item c r (labelAt (d .labels ++ news) i)) v → Reach (s .plan) t v j →
       Item c (withStep t r) (labelAt (d .labels ++ news) j)
   reach-item r s t v j g h a (byChild {i} k x e z) = go (all-in a k)
     where
       go : Item c r (labelAt (d .labels ++ news) i) → Item c (withStep t r) (labelAt (d .labels ++ news) j)
-      go (inl o) = inl (ap (λ (l : Label). l .root) (g .fit .links j i e .2) ∙ o)
+      go (inl o) = inl (ap (λ l. l .root) (g .fit .links j i e .2) ∙ o)
       go (inr (p, k, q, o)) = inr (p ▸ t, in-step t k, h p k, on-child (g .fit) t i j o e x z)
   reach-item r s t v j g h a (byDeep {i} k x b z) = go (all-in a k) (below-label (g .fit) i j b)
     where
       go : Item c r (labelAt (d .labels ++ news) i) →
           (w : Word) × (labelAt (d .labels ++ news) j ≡ label (labelAt (d .labels ++ news) i .root) (letterOf (rowAt (s .plan) j) ∷ w)) ×
           Grown (labelAt (d .labels ++ news) i .word) w → Item c (withStep t r) (labelAt (d .labels ++ news) j)
-      go (inl o) (w, e, q) = inl (ap (λ (l : Label). l .root) e ∙ o)
+      go (inl o) (w, e, q) = inl (ap (λ l. l .root) e ∙ o)
       go (inr (p, k, q, o)) m = inr (p ▸ t, in-step t k, h p k, on-below (g .fit) t i j o b x z)
 
 -- BOTH SIDES
@@ -80,18 +80,18 @@ module _ (W : World) where
     where
       go : ((i < W .n) × (φ W i ≡ i)) ⊎ ((W .n ≤ i) × (φ W i ≡ i + W .m)) → labelAt (twos W news) (φ W i) ≡ labelAt (ones W news) i
       go (inl (a, e)) =
-          ap (λ (j : ℕ). labelAt (twos W news) j) e ∙ label-side (W .script) (W .two) (W .twoFits) news i (omega (arith, W .twoCount)) ∙
+          ap (λ j. labelAt (twos W news) j) e ∙ label-side (W .script) (W .two) (W .twoFits) news i (omega (arith, W .twoCount)) ∙
           W .alike i a h .1 ∙ sym (label-side (W .script) (W .one) (W .oneFits) news i (omega (arith, W .oneCount)))
       go (inr (a, e)) =
           label-high (W .two .labels) news (φ W i) (i - W .n) (omega (arith, W .twoFits .fit .size, W .twoCount)) ∙
           sym (label-high (W .one .labels) news i (i - W .n) (omega (arith, W .oneFits .fit .size, W .oneCount)))
 
   pub vals-two : (r : List Path) (news : List Label) {v : List ℕ} → Vals W r news v →
-      All (λ (j : ℕ). Item (W .script) r (labelAt (twos W news) j)) (map (φ W) v)
+      All (λ j. Item (W .script) r (labelAt (twos W news) j)) (map (φ W) v)
   vals-two r news a =
       all-map (φ W)
       (λ i k.
-      subst (λ (l : Label). Item (W .script) r l)
+      subst (λ l. Item (W .script) r l)
       (sym (label-across news i (item-clear (W .script) (W .one) (W .oneFits) news r i (k .1)))) (k .1)) a
 
   -- ALIKE: a row that is not hidden, and its like
@@ -154,7 +154,7 @@ module _ (W : World) where
         )
 
     pub alike-row : (i j : ℕ) → Alike s i j → rowAt (t .plan) j ≡ φRow W (rowAt (s .plan) i)
-    alike-row i j (a, b, e) = subst (λ (k : ℕ). rowAt (t .plan) k ≡ φRow W (rowAt (s .plan) i)) e (T .alike i a b)
+    alike-row i j (a, b, e) = subst (λ k. rowAt (t .plan) k ≡ φRow W (rowAt (s .plan) i)) e (T .alike i a b)
 
     -- parents, both ways
     pub alike-parent : (i j p : ℕ) → Alike s i j → rowAt (s .plan) i .parent ≡ some p →
@@ -162,7 +162,7 @@ module _ (W : World) where
     alike-parent i j p k e = (
       φ W p,
       (omega (arith, k .0, T .one .fit .links i p e .0), (λ h. k .1 (T .one .closed i p e h)), refl),
-      ap (λ (r : Row). r .parent) (alike-row i j k) ∙ ap (φParent W) e,
+      ap (λ r. r .parent) (alike-row i j k) ∙ ap (φParent W) e,
     )
 
     pub parent-alike : (j i q : ℕ) → Alike s i j → rowAt (t .plan) j .parent ≡ some q →
@@ -171,7 +171,7 @@ module _ (W : World) where
       where
         go : (o : Option ℕ) → rowAt (s .plan) i .parent ≡ o → (p : ℕ) × Alike s p q × (rowAt (s .plan) i .parent ≡ some p)
         go none f =
-            absurd (Option·none-ne-some q (sym (ap (λ (r : Row). r .parent) (alike-row i j k) ∙ ap (φParent W) f) ∙ e))
+            absurd (Option·none-ne-some q (sym (ap (λ r. r .parent) (alike-row i j k) ∙ ap (φParent W) f) ∙ e))
         go (some p) f =
             let (u, a, g) = alike-parent i j p k f in
             (p, (a .0, a .1, a .2 ∙ Option·some-injective u q (sym g ∙ e)), f)

@@ -53,10 +53,10 @@ good-row c d F news s g r l n clear h =
   where
     closed : (i p : ℕ) → rowAt (withRow (s .plan) r) i .parent ≡ some p → d .hidden p → (i < count (s .plan)) ⊎ (i ≡ count (s .plan)) →
         d .hidden i
-    closed i p e k (inl b) = g .closed i p (ap (λ (r : Row). r .parent) (sym (row-old (s .plan) r i b)) ∙ e) k
+    closed i p e k (inl b) = g .closed i p (ap (λ r. r .parent) (sym (row-old (s .plan) r i b)) ∙ e) k
     closed i p e k (inr b) =
-        absurd (clear p (sym (ap (λ (j : ℕ). rowAt (withRow (s .plan) r) j .parent) b ∙
-        ap (λ (r : Row). r .parent) (row-new (s .plan) r)) ∙ e) k)
+        absurd (clear p (sym (ap (λ j. rowAt (withRow (s .plan) r) j .parent) b ∙
+        ap (λ r. r .parent) (row-new (s .plan) r)) ∙ e) k)
 
     old : (i : ℕ) → i < count (d .plan) → i < count (s .plan)
     old i k = omega (arith, g .fit .size, length-append (d .labels) news, F .fit .size)
@@ -89,11 +89,11 @@ module _ (W : World) (news : List Label) (s t : State) (T : Twin W news s t) whe
             let b : φ W p < count (t .plan) = row-bound W news s t T p (a .0) in
             let k : (p < count (s .plan)) × (rowAt (s .plan) p .isLeaf ≡ false) × (l ≡ grow (labelAt (ones W news) p) (letterOf r)) =
             n .link p f in (
-              subst (λ (i : ℕ). i < count (t .plan)) (a .2) b,
-              ap (λ (r : Row). r .isLeaf) (alike-row W news s t T p j a) ∙ k .1,
+              subst (λ i. i < count (t .plan)) (a .2) b,
+              ap (λ r. r .isLeaf) (alike-row W news s t T p j a) ∙ k .1,
               k .2 ∙
-                  ap (λ (m : Label). grow m (letterOf r))
-                  (sym (label-across W news p (a .1)) ∙ ap (λ (i : ℕ). labelAt (twos W news) i) (a .2)),
+                  ap (λ m. grow m (letterOf r))
+                  (sym (label-across W news p (a .1)) ∙ ap (λ i. labelAt (twos W news) i) (a .2)),
             )
 
     two-clear : (j : ℕ) → φParent W (r .parent) ≡ some j → W .two .hidden j → ⊥
@@ -137,22 +137,22 @@ module _ (W : World) (news : List Label) (s t : State) (T : Twin W news s t) whe
   room-cases : (z : ℕ) → Room z
   room-cases z =
       go (ltb (count (s .plan)) maxRows) (ltb (count (t .plan)) maxRows) (ltb (length (s .history)) maxHistory) refl refl refl
-      (ap (λ (k : ℕ). ltb k maxHistory) (same-length W news s t T))
+      (ap (λ k. ltb k maxHistory) (same-length W news s t T))
     where
       go : (a b h : Bool) → ltb (count (s .plan)) maxRows ≡ a → ltb (count (t .plan)) maxRows ≡ b →
           ltb (length (s .history)) maxHistory ≡ h →
           ltb (length (t .history)) maxHistory ≡ ltb (length (s .history)) maxHistory → Room z
       go true true true e f g k =
-          roomy (ap₂ (λ (a h : Bool). isFine (faultBy z a h)) e g) (ap₂ (λ (a h : Bool). isFine (faultBy z a h)) f (k ∙ g))
+          roomy (ap₂ (λ a h. isFine (faultBy z a h)) e g) (ap₂ (λ a h. isFine (faultBy z a h)) f (k ∙ g))
           (ltb-true (count (s .plan)) maxRows e) (ltb-true (count (t .plan)) maxRows f)
       go true true false e f g k =
-          filled (ap₂ (λ (a h : Bool). isFine (faultBy z a h)) e g) (ap₂ (λ (a h : Bool). isFine (faultBy z a h)) f (k ∙ g))
+          filled (ap₂ (λ a h. isFine (faultBy z a h)) e g) (ap₂ (λ a h. isFine (faultBy z a h)) f (k ∙ g))
           (ap₂ (faultBy z) (e ∙ sym f) (sym k))
       go false false h e f g k =
-          filled (ap₂ (λ (a h : Bool). isFine (faultBy z a h)) e g) (ap₂ (λ (a h : Bool). isFine (faultBy z a h)) f (k ∙ g))
+          filled (ap₂ (λ a h. isFine (faultBy z a h)) e g) (ap₂ (λ a h. isFine (faultBy z a h)) f (k ∙ g))
           (ap₂ (faultBy z) (e ∙ sym f) (sym k))
       go true false h e f g k =
-          tight (ap₂ (λ (a h : Bool). isFine (faultBy z a h)) f (k ∙ g))
+          tight (ap₂ (λ a h. isFine (faultBy z a h)) f (k ∙ g))
           (omega (
             arith,
             ltb-true (count (s .plan)) maxRows e,

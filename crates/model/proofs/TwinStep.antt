@@ -44,7 +44,7 @@ module _ (W : World) (news : List Label) (s t : State) (T : Twin W news s t) (r 
 
   to-one : (j i : ℕ) → Alike W s i j → Reach (t .plan) u (map (φ W) v) j → Reach (s .plan) u v i
   to-one j i a k =
-      reach-across (t .plan) (s .plan) (λ (j i : ℕ). Alike W s i j)
+      reach-across (t .plan) (s .plan) (λ j i. Alike W s i j)
       (λ j i k a b. shift-injective (W .n) (W .m) i k (a .2 ∙ sym (b .2)))
       (parent-alike W news s t T) u (map (φ W) v) v j i items a (sym (alike-letter W news s t T i j a)) k
     where
@@ -68,7 +68,7 @@ module _ (W : World) (news : List Label) (s t : State) (T : Twin W news s t) (r 
           let k : Reach (t .plan) u (map (φ W) v) (φ W j) = reach-is (t .plan) u (map (φ W) v) (φ W j) down e in
           let (i, a) = like-of W news s t T (φ W j) (row-bound W news s t T j h) (two-clear (φ W j) k) in
           is-reach (s .plan) u v j (λ i p e. T .one .fit .links i p e .0)
-          (subst (λ (i : ℕ). Reach (s .plan) u v i) (shift-injective (W .n) (W .m) i j (a .2)) (to-one (φ W j) i a k))
+          (subst (λ i. Reach (s .plan) u v i) (shift-injective (W .n) (W .m) i j (a .2)) (to-one (φ W j) i a k))
 
   test-none : (j : ℕ) → W .n ≤ j → j < W .n + W .m → isReached (t .plan) u (map (φ W) v) j ≡ false
   test-none j a b = go (bool-cases (isReached (t .plan) u (map (φ W) v) j))
@@ -99,14 +99,14 @@ module _ (W : World) (news : List Label) (s t : State) (T : Twin W news s t) (r 
     (acc : (p : Path) → In p r → W .script .accessed (p ▸ anyBelow)) (i : ℕ) (vs : Valued W r news i) where
   pub subtree-alike : map (φ W) (subtree (s .plan) i) ≡ subtree (t .plan) (φ W i)
   subtree-alike =
-      ap (λ (l : List ℕ). φ W i ∷ l)
+      ap (λ l. φ W i ∷ l)
       (ap (map (φ W)) (descendants-stepped (s .plan) i 0 (count (s .plan))) ∙
       step-alike W news s t T r anyBelow refl acc (i ∷ []) (also vs nothing) ∙
       sym (descendants-stepped (t .plan) (φ W i) 0 (count (t .plan))))
 
-  pub subtree-clear : All (λ (j : ℕ). Alike W s j (φ W j)) (subtree (s .plan) i)
+  pub subtree-clear : All (λ j. Alike W s j (φ W j)) (subtree (s .plan) i)
   subtree-clear =
       also (valued-alike W news s t T r i vs)
-      (subst (All (λ (j : ℕ). Alike W s j (φ W j))) (sym (descendants-stepped (s .plan) i 0 (count (s .plan))))
+      (subst (All (λ j. Alike W s j (φ W j))) (sym (descendants-stepped (s .plan) i 0 (count (s .plan))))
       (all-imp (valued-alike W news s t T (withStep anyBelow r))
       (step-vals W news s t T r anyBelow refl acc (i ∷ []) (also vs nothing))))

@@ -48,7 +48,7 @@ admits-element : (s : Step) (n : ℕ) → admits s (named n) ≡ true → admits
 admits-element s n e = test-element (eqb (s .test) 0) (eqb (s .test) 1) (eqb (s .test) 2) (eqb n (s .name)) low e
   where
     low : eqb (s .test) 2 ≡ true → (eqb (s .test) 0 || eqb (s .test) 1) ≡ true → ⊥
-    low f g = false≢true (subst (λ (k : ℕ). (eqb k 0 || eqb k 1) ≡ true) (eqb-true (s .test) 2 f) g)
+    low f g = false≢true (subst (λ k. (eqb k 0 || eqb k 1) ≡ true) (eqb-true (s .test) 2 f) g)
 
 admits-name : (s : Step) (n : ℕ) → admits s (named n) ≡ true → isNamed s ≡ true → n ≡ s .name
 admits-name s n e f =
@@ -337,7 +337,7 @@ module _ (marks : List (Option ℕ)) (once : (d e i : ℕ) → getD marks d none
 
   cell-sound : (p q : Path) → Sound p q
   cell-sound (start p) q = start-sound p q
-  cell-sound (p ▸ s) q = step-sound p s (λ (q : Path). cell-sound p q) q
+  cell-sound (p ▸ s) q = step-sound p s (λ q. cell-sound p q) q
 
   -- paths that do not meet share no word
   pub meets-apart : (p q : Path) (r : Root) (w : Word) → meets p q ≡ false → isProper w ≡ true → On marks p r w → On marks q r w → ⊥
