@@ -1,6 +1,5 @@
--- The world of a script beside another: a plan, and the plan as the other script left it, with what the other touched hidden. Which rows
--- the
--- script can cut there, and how a row of the plan ends in both runs.
+-- The world of a script beside another: a plan, and the plan as the other script left it, with what the other touched hidden.
+-- Which rows the script can cut there, and how a row of the plan ends in both runs.
 use mathlib.Core.Path.{_≡_, refl, sym, _∙_, ap, subst}
 use mathlib.Core.Bool.{true}
 use mathlib.Core.Logic.{_⊎_, inl, inr}

@@ -1,5 +1,5 @@
--- Labels: each row's root and word, given when the row is made and never changed. A table fits its labels, also after a cut and with a
--- row more.
+-- Labels: each row's root and word, given when the row is made and never changed. A table fits its labels; also after a cut, and with
+-- a row more.
 use mathlib.Core.Path.{_≡_, refl, sym, _∙_, ap, ap₂, subst, subst₂}
 use mathlib.Core.Bool.{true, false}
 use mathlib.Core.Logic.{_⊎_, inl, inr}

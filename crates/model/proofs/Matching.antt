@@ -1,5 +1,5 @@
--- The matching of the two orders: it shifts the first script's rows past the second's, and takes back the shift of the second's past the
--- first's.
+-- The matching of the two orders: it shifts the first script's rows past the second's, and takes back the shift of the second's rows
+-- past the first's.
 use mathlib.Core.Path.{_≡_, refl, sym, _∙_, ap, ap₂}
 use mathlib.Core.List.{List, [], _∷_, map}
 use mathlib.Core.Option.{Option, none, some}

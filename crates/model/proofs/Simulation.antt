@@ -7,7 +7,7 @@ use Prim.Native.Nat.{ℕ, zero, suc}
 use lib.Dec.{eqb}
 use lib.ListN.{length, getD, length-map, List·getD-map}
 use Rattle.model.specs.Base.{pick}
-use Rattle.model.specs.Script.{Expr, nil, document, var, step, both, letIn, forIn, ifIn, element, leaf, delete, insert, choose}
+use Rattle.model.specs.Script.{Step, Expr, nil, document, var, step, both, letIn, forIn, ifIn, element, leaf, delete, insert, choose}
 use Rattle.model.specs.Step.{stepped, picked}
 use Rattle.model.specs.Run.{State, Out, gives, andThen, joinItems, inserted, loop, cutAll, run}
 use Rattle.model.specs.Paths.{Path, start, _▸_, withStep, anyBelow, documentPlace, Paths, paths, after, joinPaths, infer, pathsOf}
@@ -70,19 +70,35 @@ module _ (W : World) where
   sim-branch r news true a b = a
   sim-branch r news false a b = b
 
-  simulation : (e : Expr) (b : List (List Path)) (v : List (List ℕ)) (news : List Label) (s t : State) → hasUp e ≡ false →
-      Inside (infer (W .script .owner) e b) → Env news b v → Twin W news s t →
-      Sim W (infer (W .script .owner) e b .result) news (run e v s) (run e (φs v) t)
+  -- SIMULATED: for all bound variables and in every twin, the outcomes are alike
+  abbrev Simulated : Expr → Type 0
+  Simulated e =
+      (b : List (List Path)) (v : List (List ℕ)) (news : List Label) (s t : State) → hasUp e ≡ false →
+      Inside (infer (W .script .owner) e b) →
+      Env news b v → Twin W news s t → Sim W (infer (W .script .owner) e b .result) news (run e v s) (run e (φs v) t)
+
+  -- EMPTY VALUE, DOCUMENT, VARIABLE
+  nil-simulated : (z : ℕ) → Simulated (nil z)
   unfolding run infer hasUp
-  simulation (nil z) b v news s t u h k T = sim-gives W [] news [] s t T nothing
-  simulation (document z d) b v news s t u h k T = sim-document W d (h .0 (start (documentPlace d)) (here refl)) news s t T
-  simulation (var z i) b v news s t u h k T =
+  nil-simulated z b v news s t u h k T = sim-gives W [] news [] s t T nothing
+
+  document-simulated : (z d : ℕ) → Simulated (document z d)
+  unfolding run infer hasUp
+  document-simulated z d b v news s t u h k T = sim-document W d (h .0 (start (documentPlace d)) (here refl)) news s t T
+
+  variable-simulated : (z i : ℕ) → Simulated (var z i)
+  unfolding run infer hasUp
+  variable-simulated z i b v news s t u h k T =
       subst (λ w. Sim W (getD b i []) news (gives (getD v i []) s) (gives w t)) (sym (List·getD-map (map (φ W)) v i []))
       (sim-gives W (getD b i []) news (getD v i []) s t T (env-at news i k))
-  simulation (step z c e) b v news s t u h k T =
+
+  -- STEP
+  step-simulated : (z : ℕ) (c : Step) (e : Expr) → Simulated e → Simulated (step z c e)
+  unfolding run infer hasUp
+  step-simulated z c e E b v news s t u h k T =
       sim-then W r (withStep c r) news (λ w q. gives (stepped (q .plan) c w) q)
       (λ w q. gives (stepped (q .plan) c w) q)
-      (simulation e b v news s t (ups .1) (inside-first x (withStep c r) (withStep c r) [] h) k T)
+      (E b v news s t (ups .1) (inside-first x (withStep c r) (withStep c r) [] h) k T)
       (λ more w s t T a.
       sim-step W r c (ups .0) (λ p i. h .0 (p ▸ c) (Memᴰ·append-right (x .accessed) (in-step c i)))
       (news ++ more) w s t T a)
@@ -96,15 +112,19 @@ module _ (W : World) where
 
       ups : (isUp c ≡ false) × (hasUp e ≡ false)
       ups = or-neither (isUp c) (hasUp e) u
-  simulation (both z e f) b v news s t u h k T =
+
+  -- JOIN
+  join-simulated : (z : ℕ) (e f : Expr) → Simulated e → Simulated f → Simulated (both z e f)
+  unfolding run infer hasUp
+  join-simulated z e f E F b v news s t u h k T =
       sim-then W (x .result) (x .result ++ y .result) news
       (λ w q. andThen (run f v q) (λ w′ q. joinItems z w w′ q))
       (λ w q. andThen (run f (φs v) q) (λ w′ q. joinItems z w w′ q))
-      (simulation e b v news s t (ups .0) (inside-first x (x .result ++ y .result) (y .accessed) (y .modified) h) k T)
+      (E b v news s t (ups .0) (inside-first x (x .result ++ y .result) (y .accessed) (y .modified) h) k T)
       (λ more w s t T a.
       sim-then W (y .result) (x .result ++ y .result) (news ++ more) (λ w′ q. joinItems z w w′ q)
       (λ w′ q. joinItems z (map (φ W) w) w′ q)
-      (simulation f b v (news ++ more) s t (ups .1)
+      (F b v (news ++ more) s t (ups .1)
       (inside-rest x (x .result ++ y .result) (y .result) (y .accessed) (y .modified) h) (env-more news more k) T)
       (λ rest w′ s t T a′.
       sim-join W (x .result ++ y .result) z (news ++ more ++ rest) w w′ s t T
@@ -122,14 +142,18 @@ module _ (W : World) where
 
       ups : (hasUp e ≡ false) × (hasUp f ≡ false)
       ups = or-neither (hasUp e) (hasUp f) u
-  simulation (letIn z e f) b v news s t u h k T =
+
+  -- LET
+  let-simulated : (z : ℕ) (e f : Expr) → Simulated e → Simulated f → Simulated (letIn z e f)
+  unfolding run infer hasUp
+  let-simulated z e f E F b v news s t u h k T =
       sim-then W (x .result) (y .result) news (λ w q. run f (v ++ (w ∷ [])) q)
       (λ w q. run f (φs v ++ (w ∷ [])) q)
-      (simulation e b v news s t (ups .0) (inside-first x (y .result) (y .accessed) (y .modified) h) k T)
+      (E b v news s t (ups .0) (inside-first x (y .result) (y .accessed) (y .modified) h) k T)
       (λ more w s t T a.
       subst (λ l. Sim W (y .result) (news ++ more) (run f (v ++ (w ∷ [])) s) (run f l t))
       (map-append (map (φ W)) v (w ∷ []))
-      (simulation f (b ++ (x .result ∷ [])) (v ++ (w ∷ [])) (news ++ more) s t (ups .1)
+      (F (b ++ (x .result ∷ [])) (v ++ (w ∷ [])) (news ++ more) s t (ups .1)
       (inside-rest x (y .result) (y .result) (y .accessed) (y .modified) h) (env-last (news ++ more) (env-more news more k) a) T))
       (λ w q. run-grows f (v ++ (w ∷ [])) q)
     where
@@ -141,18 +165,22 @@ module _ (W : World) where
 
       ups : (hasUp e ≡ false) × (hasUp f ≡ false)
       ups = or-neither (hasUp e) (hasUp f) u
-  simulation (forIn z e f) b v news s t u h k T =
+
+  -- FOR
+  for-simulated : (z : ℕ) (e f : Expr) → Simulated e → Simulated f → Simulated (forIn z e f)
+  unfolding run infer hasUp
+  for-simulated z e f E F b v news s t u h k T =
       sim-then W (x .result) (y .result) news
       (λ w q. loop z (λ i q. run f (v ++ ((i ∷ []) ∷ [])) q) w [] q)
       (λ w q. loop z (λ i q. run f (φs v ++ ((i ∷ []) ∷ [])) q) w [] q)
-      (simulation e b v news s t (ups .0) (inside-first x (y .result) (y .accessed) (y .modified) h) k T)
+      (E b v news s t (ups .0) (inside-first x (y .result) (y .accessed) (y .modified) h) k T)
       (λ more w s t T a.
       sim-loop W (λ l. Env l b v) (λ l m c. env-more l m c) (x .result) (y .result) z
       (λ i q. run f (v ++ ((i ∷ []) ∷ [])) q) (λ i q. run f (φs v ++ ((i ∷ []) ∷ [])) q)
       (λ l i s t c T a.
       subst (λ m. Sim W (y .result) l (run f (v ++ ((i ∷ []) ∷ [])) s) (run f m t))
       (map-append (map (φ W)) v ((i ∷ []) ∷ []))
-      (simulation f (b ++ (x .result ∷ [])) (v ++ ((i ∷ []) ∷ [])) l s t (ups .1)
+      (F (b ++ (x .result ∷ [])) (v ++ ((i ∷ []) ∷ [])) l s t (ups .1)
       (inside-rest x (y .result) (y .result) (y .accessed) (y .modified) h) (env-last l c (also a nothing)) T))
       (λ i q. run-grows f (v ++ ((i ∷ []) ∷ [])) q) w (news ++ more) [] s t (env-more news more k) T a nothing)
       (λ w q.
@@ -167,10 +195,14 @@ module _ (W : World) where
 
       ups : (hasUp e ≡ false) × (hasUp f ≡ false)
       ups = or-neither (hasUp e) (hasUp f) u
-  simulation (ifIn z e f g) b v news s t u h k T =
+
+  -- IF
+  if-simulated : (z : ℕ) (e f g : Expr) → Simulated e → Simulated f → Simulated g → Simulated (ifIn z e f g)
+  unfolding run infer hasUp
+  if-simulated z e f g E F G b v news s t u h k T =
       sim-then W (x .result) (y .result ++ w .result) news (λ l q. pick (eqb (length l) 0) (run g v q) (run f v q))
       (λ l q. pick (eqb (length l) 0) (run g (φs v) q) (run f (φs v) q))
-      (simulation e b v news s t (ups .0) (inside-first x (y .result ++ w .result) (yw .accessed) (yw .modified) h) k T)
+      (E b v news s t (ups .0) (inside-first x (y .result ++ w .result) (yw .accessed) (yw .modified) h) k T)
       (λ more l s t T a.
       subst
       (λ n.
@@ -180,11 +212,11 @@ module _ (W : World) where
       (sim-branch (y .result ++ w .result) (news ++ more) (eqb (length l) 0)
       (sim-paths W (w .result) (y .result ++ w .result)
       (λ n l a. vals-right W (y .result) (w .result) n a)
-      (news ++ more) (simulation g b v (news ++ more) s t (ups .2) (inside-rest y [] (w .result) (w .accessed) (w .modified) inner)
+      (news ++ more) (G b v (news ++ more) s t (ups .2) (inside-rest y [] (w .result) (w .accessed) (w .modified) inner)
       (env-more news more k) T))
       (sim-paths W (y .result) (y .result ++ w .result)
       (λ n l a. vals-left W (y .result) (w .result) n a)
-      (news ++ more) (simulation f b v (news ++ more) s t (ups .1) (inside-first y [] (w .accessed) (w .modified) inner)
+      (news ++ more) (F b v (news ++ more) s t (ups .1) (inside-first y [] (w .accessed) (w .modified) inner)
       (env-more news more k) T))))
       (λ l q. grows-pick (eqb (length l) 0) (run-grows g v q) (run-grows f v q))
     where
@@ -208,11 +240,22 @@ module _ (W : World) where
           let (c, d) = or-neither (hasUp e || hasUp f) (hasUp g) u in
           let (a, b) = or-neither (hasUp e) (hasUp f) c in
           (a, b, d)
-  simulation (element z n) b v news s t u h k T = sim-new W _ z false n news s t T
-  simulation (leaf z n) b v news s t u h k T = sim-new W _ z true n news s t T
-  simulation (delete z e) b v news s t u h k T =
+
+  -- CONSTRUCTORS
+  element-simulated : (z n : ℕ) → Simulated (element z n)
+  unfolding run infer hasUp
+  element-simulated z n b v news s t u h k T = sim-new W _ z false n news s t T
+
+  leaf-simulated : (z n : ℕ) → Simulated (leaf z n)
+  unfolding run infer hasUp
+  leaf-simulated z n b v news s t u h k T = sim-new W _ z true n news s t T
+
+  -- DELETE
+  delete-simulated : (z : ℕ) (e : Expr) → Simulated e → Simulated (delete z e)
+  unfolding run infer hasUp
+  delete-simulated z e E b v news s t u h k T =
       sim-then W (x .result) [] news (λ w q. cutAll z w q) (λ w q. cutAll z w q)
-      (simulation e b v news s t u (inside-first x [] [] (x .result ++ withStep anyBelow (x .result)) h) k T)
+      (E b v news s t u (inside-first x [] [] (x .result ++ withStep anyBelow (x .result)) h) k T)
       (λ more w s t T a.
       cut-sim W (news ++ more) (x .result)
       (λ p i. (
@@ -224,15 +267,19 @@ module _ (W : World) where
     where
       x : Paths
       x = infer (W .script .owner) e b
-  simulation (insert z e f) b v news s t u h k T =
+
+  -- INSERT
+  insert-simulated : (z : ℕ) (e f : Expr) → Simulated e → Simulated f → Simulated (insert z e f)
+  unfolding run infer hasUp
+  insert-simulated z e f E F b v news s t u h k T =
       sim-then W (x .result) [] news
       (λ w q. andThen (run f v q) (λ w′ q. inserted z w w′ q))
       (λ w q. andThen (run f (φs v) q) (λ w′ q. inserted z w w′ q))
-      (simulation e b v news s t (ups .0) (inside-first x [] (y .accessed) (y .modified) inner) k T)
+      (E b v news s t (ups .0) (inside-first x [] (y .accessed) (y .modified) inner) k T)
       (λ more w s t T a.
       sim-then W (y .result) [] (news ++ more) (λ w′ q. inserted z w w′ q)
       (λ w′ q. inserted z (map (φ W) w) w′ q)
-      (simulation f b v (news ++ more) s t (ups .1) (inside-rest x [] (y .result) (y .accessed) (y .modified) inner)
+      (F b v (news ++ more) s t (ups .1) (inside-rest x [] (y .result) (y .accessed) (y .modified) inner)
       (env-more news more k) T)
       (λ rest w′ s t T a′.
       insert-sim W (news ++ more ++ rest) s t T (x .result) (y .result)
@@ -257,16 +304,36 @@ module _ (W : World) where
 
       ups : (hasUp e ≡ false) × (hasUp f ≡ false)
       ups = or-neither (hasUp e) (hasUp f) u
-  simulation (choose z y c e) b v news s t u h k T =
+
+  -- PICK
+  pick-simulated : (z y c : ℕ) (e : Expr) → Simulated e → Simulated (choose z y c e)
+  unfolding run infer hasUp
+  pick-simulated z y c e E b v news s t u h k T =
       sim-then W r r news (λ w q. gives (picked (q .plan) y c w) q)
       (λ w q. gives (picked (q .plan) y c w) q)
-      (simulation e b v news s t u h k T)
+      (E b v news s t u h k T)
       (λ more w s t T a.
       sim-pick W r y c (news ++ more) w s t T a)
       (λ w q. grows-gives (picked (q .plan) y c w) q)
     where
       r : List Path
       r = infer (W .script .owner) e b .result
+
+  -- THE INDUCTION
+  simulation : (e : Expr) → Simulated e
+  simulation (nil z) = nil-simulated z
+  simulation (document z d) = document-simulated z d
+  simulation (var z i) = variable-simulated z i
+  simulation (step z c e) = step-simulated z c e (simulation e)
+  simulation (both z e f) = join-simulated z e f (simulation e) (simulation f)
+  simulation (letIn z e f) = let-simulated z e f (simulation e) (simulation f)
+  simulation (forIn z e f) = for-simulated z e f (simulation e) (simulation f)
+  simulation (ifIn z e f g) = if-simulated z e f g (simulation e) (simulation f) (simulation g)
+  simulation (element z n) = element-simulated z n
+  simulation (leaf z n) = leaf-simulated z n
+  simulation (delete z e) = delete-simulated z e (simulation e)
+  simulation (insert z e f) = insert-simulated z e f (simulation e) (simulation f)
+  simulation (choose z y c e) = pick-simulated z y c e (simulation e)
 
   -- a whole script
   pub script-sim : (e : Expr) (s t : State) → hasUp e ≡ false →

@@ -25,7 +25,8 @@ use Rattle.model.proofs.Below.{OnPath}
 use Rattle.model.proofs.Reach.{any-admits}
 use Rattle.model.proofs.All.{nothing, also, all-append, all-imp}
 use Rattle.model.proofs.Shift.{shift-injective}
-use Rattle.model.proofs.Twin.{Side, Script, SideFits, World, Changed, Item, Kept, Named, Good, φ, Twin, Valued, Vals, Sim, alike, φRow, φParent, φRecord}
+use Rattle.model.proofs.Twin.{Side, Script, SideFits, World, Changed, Item, Kept, Named, Good, φ, Twin, Valued, Vals, Sim, alike}
+use Rattle.model.proofs.Twin.{φRow, φParent, φRecord}
 use Rattle.model.proofs.TwinLaws.{label-side, label-across, Alike, row-bound, same-length, valued-alike}
 use Rattle.model.proofs.SimLaws.{sim-gives}
 

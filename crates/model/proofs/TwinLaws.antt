@@ -20,7 +20,8 @@ use Rattle.model.proofs.Below.{below-label, OnPath, on-child, on-below}
 use Rattle.model.proofs.Reach.{Reach, byChild, byDeep}
 use Rattle.model.proofs.All.{All, all-map, all-in}
 use Rattle.model.proofs.Shift.{shift-low, shift-high, shift-cases}
-use Rattle.model.proofs.Twin.{Side, Script, SideFits, World, Touched, Item, Good, φ, ones, twos, Twin, Valued, Vals, alike, φRow, φParent, φRecord}
+use Rattle.model.proofs.Twin.{Side, Script, SideFits, World, Touched, Item, Good, φ, ones, twos, Twin, Valued, Vals, alike, φRow}
+use Rattle.model.proofs.Twin.{φParent, φRecord}
 
 pub in-step : (s : Step) {p : Path} {r : List Path} → In p r → In (p ▸ s) (withStep s r)
 unfolding withStep

@@ -21,7 +21,8 @@ use Rattle.model.proofs.RowLaws.{parent-row, count-with, row-new, row-o
 use Rattle.model.proofs.Labels.{Label, grow, labelAt, Fit, NewFit, fit-row}
 use Rattle.model.proofs.All.{nothing, also, all-append, all-imp}
 use Rattle.model.proofs.Grows.{Grows}
-use Rattle.model.proofs.Twin.{Side, Script, SideFits, World, Touched, Kept, Named, Good, φ, ones, twos, Twin, Full, stopped, Sim, φRow, φParent, φRecord}
+use Rattle.model.proofs.Twin.{Side, Script, SideFits, World, Touched, Kept, Named, Good, φ, ones, twos, Twin, Full, stopped, Sim}
+use Rattle.model.proofs.Twin.{φRow, φParent, φRecord}
 use Rattle.model.proofs.Twin.{alike, full}
 use Rattle.model.proofs.TwinLaws.{label-across, Alike, one-count, two-count, count-across, row-bound, same-length, clear-two}
 use Rattle.model.proofs.TwinLaws.{alike-row}

@@ -1,5 +1,5 @@
--- Cells are sound: a word on two paths, or on one and below a word on the other, turns their cell on. So paths that do not meet share no
--- word.
+-- Cells are sound: a word on two paths, or on one and below a word on the other, turns their cell on.
+-- So paths that do not meet share no word.
 use mathlib.Core.Path.{_≡_, refl, sym, _∙_, subst}
 use mathlib.Core.Bool.{Bool, true, false, _&&_, _||_, not, false≢true}
 use mathlib.Core.Logic.{_⊎_, inl, inr}
