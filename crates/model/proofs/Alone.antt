@@ -3,17 +3,16 @@ use mathlib.Core.Path.{_≡_, refl, sym, _∙_, ap, subst}
 use mathlib.Core.Logic.{inl}
 use mathlib.Core.List.{List, [], append-nil}
 use mathlib.Core.List.{List·Memᴰ as In}
-use mathlib.Core.Option.{Option, some}
-use Prim.Native.Nat.{ℕ, _+_, _<_, _≤_}
+use mathlib.Core.Option.{Option}
+use Prim.Native.Nat.{ℕ, _<_}
 use native.Mathlib.Nat.{add-zero}
 use native.Mathlib.Omega.{arith}
 use Rattle.model.specs.Table.{Table, rowAt, count}
 use Rattle.model.specs.Script.{Expr}
 use Rattle.model.specs.Run.{state}
-use Rattle.model.specs.Paths.{Path, pathsOf}
-use Rattle.model.proofs.Words.{made, first-made}
-use Rattle.model.proofs.Labels.{Label, labelAt, Fit}
-use Rattle.model.proofs.Below.{OnPath}
+use Rattle.model.specs.Paths.{pathsOf}
+use Rattle.model.proofs.Words.{first-made}
+use Rattle.model.proofs.Labels.{Label, Fit}
 use Rattle.model.proofs.All.{nothing}
 use Rattle.model.proofs.Shift.{shift-low, shift-row-low}
 use Rattle.model.proofs.Twin.{Side, Script, SideFits, World, Good, φ, Twin, φRow}

@@ -3,14 +3,13 @@ use mathlib.Core.Path.{_≡_, refl, sym, _∙_, ap, subst, subst₂}
 use mathlib.Core.Bool.{true, false, _&&_, true≢false, false≢true}
 use mathlib.Core.Logic.{_⊎_, inl, inr}
 use mathlib.Core.List.{List, [], map}
-use mathlib.Core.List.{List·Memᴰ as In}
-use mathlib.Core.Option.{Option, none, some}
+use mathlib.Core.Option.{none}
 use Prim.Native.Nat.{ℕ, _+_, _-_, _<_}
 use native.Mathlib.Omega.{arith}
 use lib.ListN.{length, getD}
-use Rattle.model.specs.Limits.{maxRows, documents}
+use Rattle.model.specs.Limits.{maxRows}
 use Rattle.model.specs.Refusal.{Fault}
-use Rattle.model.specs.Table.{Table, rowAt, count}
+use Rattle.model.specs.Table.{Table, count}
 use Rattle.model.specs.Script.{Expr}
 use Rattle.model.specs.Run.{State, state, Out, stop, gives, runOn}
 use Rattle.model.specs.Paths.{Path, pathsOf, hasUp}
@@ -19,7 +18,7 @@ use Rattle.model.specs.Promise.{FreeCommutes}
 use Rattle.model.proofs.Labels.{Label}
 use Rattle.model.proofs.All.{All, all-imp}
 use Rattle.model.proofs.Shift.{shift, shiftRecord}
-use Rattle.model.proofs.Twin.{World, Touched, Named, Good, φ, Twin, Valued, Vals, stopped, passed, Sim, both, alike, full}
+use Rattle.model.proofs.Twin.{World, Touched, Named, Good, φ, Twin, Vals, stopped, passed, Sim, both, alike, full}
 use Rattle.model.proofs.TwinLaws.{one-count, two-count}
 use Rattle.model.proofs.Simulation.{script-sim}
 use Rattle.model.proofs.Start.{Well, well-by}

@@ -13,7 +13,7 @@ use Rattle.model.proofs.Labels.{Label}
 use Rattle.model.proofs.Shift.{shift, shiftRow, shift-high}
 use Rattle.model.proofs.Twin.{Twin}
 use Rattle.model.proofs.TwinLaws.{one-count, two-count}
-use Rattle.model.proofs.Beside.{Left, Hidden, left-count, beside, unlinked, Settled, made-stays, plan-settled}
+use Rattle.model.proofs.Beside.{Left, left-count, beside, unlinked, Settled, made-stays, plan-settled}
 use Rattle.model.proofs.Matching.{matched-low, matched-first, matched-second, row-low, row-first, row-second}
 
 -- ONE ORDER: the first script leaves l of plan x; the next makes u of the plan alone, and t of what was left

@@ -11,8 +11,8 @@ use lib.Dec.{ltb}
 use lib.ListN.{length, getD, length-map}
 use Rattle.model.specs.Base.{pick}
 use Rattle.model.specs.Limits.{maxItems}
-use Rattle.model.specs.Refusal.{Fault, itemsAt}
-use Rattle.model.specs.Table.{Row, rowAt, count}
+use Rattle.model.specs.Refusal.{itemsAt}
+use Rattle.model.specs.Table.{rowAt, count}
 use Rattle.model.specs.Script.{Step}
 use Rattle.model.specs.Step.{relates, isPicked, stepped, picked}
 use Rattle.model.specs.Run.{State, Out, stop, gives, joinItems, joinFor, loop, marked, loose, newRow, withMade}
@@ -28,7 +28,7 @@ use Rattle.model.proofs.Twin.{World, φ, ones, Twin, Valued, Vals, Full
 use Rattle.model.proofs.TwinLaws.{label-side, ones-length, Alike, count-across, label-last, valued-alike}
 use Rattle.model.proofs.TwinStep.{step-alike, step-vals}
 use Rattle.model.proofs.TwinRow.{new-sim}
-use Rattle.model.proofs.TwinCopy.{Base, new-fit, new-touched}
+use Rattle.model.proofs.TwinBase.{Base, new-fit, new-touched}
 use Rattle.model.proofs.SimLaws.{vals-more, sim-gives, sim-more, full-grows}
 
 module _ (W : World) where

@@ -16,7 +16,7 @@ use Rattle.model.proofs.BoolLaws.{or-neither}
 use Rattle.model.proofs.Labels.{Label}
 use Rattle.model.proofs.All.{nothing, also, all-append}
 use Rattle.model.proofs.Grows.{grows-gives, grows-then, grows-pick, grows-join, grows-cut, grows-insert, grows-loop, run-grows}
-use Rattle.model.proofs.Twin.{World, φ, Twin, Valued, Vals, Sim}
+use Rattle.model.proofs.Twin.{World, φ, Twin, Vals, Sim}
 use Rattle.model.proofs.TwinLaws.{in-step}
 use Rattle.model.proofs.TwinCut.{cut-sim}
 use Rattle.model.proofs.TwinCopy.{insert-sim}

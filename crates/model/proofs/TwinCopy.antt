@@ -5,31 +5,30 @@ use mathlib.Core.Logic.{inl, inr}
 use mathlib.Core.List.{List, [], _∷_, _++_, map}
 use mathlib.Core.List.{List·Memᴰ as In}
 use mathlib.Core.Option.{Option, none, some, Option·none-ne-some, Option·some-injective}
-use Prim.Native.Nat.{ℕ, suc, _<_}
+use Prim.Native.Nat.{ℕ, suc}
 use native.Mathlib.Omega.{arith}
 use lib.Dec.{ltb, eqb}
 use lib.ListN.{length}
 use borrow.Author.Tests.{eqb-true, eq-eqb, lt-ltb, ne-eqb, not-true}
 use Rattle.model.specs.Base.{pick}
-use Rattle.model.specs.Refusal.{Fault, targetAt}
+use Rattle.model.specs.Refusal.{targetAt}
 use Rattle.model.specs.Table.{Row, Table, rowAt, count, isElement, withParent}
 use Rattle.model.specs.Step.{Letter, letterOf}
 use Rattle.model.specs.Run.{State, Out, stop, thenRow, withMade, newRow, Copied, copyOf, copyParent, copyRow, subtree, copyEach}
 use Rattle.model.specs.Run.{copyAll, inserted}
 use Rattle.model.specs.Paths.{Path, _▸_, anyBelow}
 use Rattle.model.proofs.BoolLaws.{and-right, bool-iff}
-use Rattle.model.proofs.RowLaws.{count-with, row-new, row-old}
-use Rattle.model.proofs.Words.{made}
-use Rattle.model.proofs.Labels.{Label, label, grow, labelAt, EndsIn, NewFit, fit-elements}
+use Rattle.model.proofs.Labels.{Label, grow, labelAt}
 use Rattle.model.proofs.All.{All, nothing, also, all-imp}
 use Rattle.model.proofs.Grows.{Grows, grows-row, grows-each, grows-copy}
 use Rattle.model.proofs.Shift.{shift-injective}
 use Rattle.model.proofs.Twin.{World, Item, Touched, φ, ones, Twin, Valued, Vals, Sim, alike, φRow, φParent}
-use Rattle.model.proofs.TwinLaws.{touched-grow, Alike, one-count, count-across, row-bound, label-last, valued-alike}
+use Rattle.model.proofs.TwinLaws.{Alike, count-across, row-bound, valued-alike}
+use Rattle.model.proofs.TwinBase.{Base, base-more, base-new, newLabel, new-fit, new-touched}
 use Rattle.model.proofs.TwinStep.{subtree-alike, subtree-clear}
 use Rattle.model.proofs.TwinRow.{new-sim}
 use Rattle.model.proofs.TwinCut.{changed-below}
-use Rattle.model.proofs.SimLaws.{label-more, sim-gives, sim-more}
+use Rattle.model.proofs.SimLaws.{sim-gives, sim-more}
 
 module _ (W : World) where
   -- COPIES, numbered for the second state
@@ -66,96 +65,38 @@ module _ (W : World) where
       ap₂ (λ r z. withParent r (copyParent z (φ W g) (r .parent) (map shiftCopied cs))) e (test-across i t) ∙
       ap (withParent (rowAt x i)) (parent-across (eqb i t) g (rowAt x i .parent) cs)
 
-  -- A BASE: an element that is not hidden and under which the script may make rows
-  pub record Base (news : List Label) (s : State) (p : ℕ) : Type 0 where
-    pub bound : p < count (s .plan)
-    pub isElement : rowAt (s .plan) p .isLeaf ≡ false
-    pub clear : W .one .hidden p → ⊥
-    pub grows : (a : Letter) → Touched (W .script) (grow (labelAt (ones W news) p) a)
-
-  base-more : (news : List Label) (s t : State) → Twin W news s t → (r : Row) (l : Label) (p : ℕ) → Base news s p →
-      Base (news ++ (l ∷ [])) (withMade s r) p
-  base-more news s t T r l p b =
-      record {
-        bound = omega (arith, b .bound, count-with (s .plan) r);
-        isElement = ap (λ r. r .isLeaf) (row-old (s .plan) r p (b .bound)) ∙ b .isElement;
-        clear = b .clear;
-        grows =
-            λ a.
-            subst (λ m. Touched (W .script) (grow m a))
-            (sym (label-more W news (l ∷ []) p (omega (arith, b .bound, T .one .fit .size)))) (b .grows a);
-      }
-
-  base-new : (news : List Label) (s t : State) → Twin W news s t → (r : Row) (l : Label) → r .isLeaf ≡ false → Touched (W .script) l →
-      Base (news ++ (l ∷ [])) (withMade s r) (count (s .plan))
-  base-new news s t T r l e k =
-      record {
-        bound = omega (arith, count-with (s .plan) r);
-        isElement = ap (λ r. r .isLeaf) (row-new (s .plan) r) ∙ e;
-        clear = λ h.
-            omega (arith, W .oneFits .early (count (s .plan)) h, W .oneCount, one-count W news s t T);
-        grows = λ a. touched-grow (W .script) (labelAt (ones W (news ++ (l ∷ []))) (count (s .plan))) a
-            (subst (Touched (W .script)) (sym (label-last W news s t T l)) k);
-      }
-
-  -- the label of a row more: its parent's grown, or the script's own
-  abbrev pub newLabel : List Label → Option ℕ → Letter → Label
-  newLabel news none a = label (made (W .script .owner)) []
-  newLabel news (some p) a = grow (labelAt (ones W news) p) a
-
-  module _ (news : List Label) (s t : State) (T : Twin W news s t) (r : Row) (base : (p : ℕ) → r .parent ≡ some p → Base news s p) where
-    pub new-fit : NewFit (ones W news) (s .plan) r (newLabel news (r .parent) (letterOf r))
-    new-fit =
-        record {
-          link =
-              λ p e.
-              (base p e .bound, base p e .isElement, ap (λ o. newLabel news o (letterOf r)) e);
-          word = word (r .parent) refl;
-        }
-      where
-        word : (o : Option ℕ) → r .parent ≡ o → EndsIn (newLabel news o (letterOf r) .word) (letterOf r)
-        word none e = tt
-        word (some p) e = (refl, fit-elements (T .one .fit) p (base p e .bound) (base p e .isElement))
-
-    pub new-touched : Touched (W .script) (newLabel news (r .parent) (letterOf r))
-    new-touched = go (r .parent) refl
-      where
-        go : (o : Option ℕ) → r .parent ≡ o → Touched (W .script) (newLabel news o (letterOf r))
-        go none e = inl refl
-        go (some p) e = base p e .grows (letterOf r)
-
   -- THE INSERT: from the states before it, under the target g
   module _ (news₀ : List Label) (s₀ t₀ : State) (T₀ : Twin W news₀ s₀ t₀) (z g : ℕ) where
     -- the copy of an element is a base
     abbrev CopyFits : List Label → State → Copied → Type 0
-    CopyFits news s c = rowAt (s₀ .plan) (c .old) .isLeaf ≡ false → Base news s (c .new)
+    CopyFits news s c = rowAt (s₀ .plan) (c .old) .isLeaf ≡ false → Base W news s (c .new)
 
     copy-base : (news : List Label) (s : State) (i p : ℕ) (cs : List Copied) → All (CopyFits news s) cs →
         rowAt (s₀ .plan) i .isLeaf ≡ false →
-        copyOf i cs ≡ some p → Base news s p
+        copyOf i cs ≡ some p → Base W news s p
     unfolding copyOf
     copy-base news s i p [] a e f = absurd (Option·none-ne-some p f)
     copy-base news s i p (c ∷ cs) (also b a) e f =
         go (eqb (c .old) i) refl f (λ f. copy-base news s i p cs a e f)
       where
-        go : (z : Bool) → eqb (c .old) i ≡ z → pick z (some (c .new)) (copyOf i cs) ≡ some p → (copyOf i cs ≡ some p → Base news s p) →
-            Base news s p
+        go : (z : Bool) → eqb (c .old) i ≡ z → pick z (some (c .new)) (copyOf i cs) ≡ some p → (copyOf i cs ≡ some p → Base W news s p) →
+            Base W news s p
         go true q f k =
-            subst (Base news s) (Option·some-injective (c .new) p f)
+            subst (Base W news s) (Option·some-injective (c .new) p f)
             (b (ap (λ j. rowAt (s₀ .plan) j .isLeaf) (eqb-true (c .old) i q) ∙ e))
         go false q f k = k f
 
-    parent-base : (news : List Label) (s : State) (cs : List Copied) → All (CopyFits news s) cs → Base news s g →
+    parent-base : (news : List Label) (s : State) (cs : List Copied) → All (CopyFits news s) cs → Base W news s g →
         (b : Bool) (o : Option ℕ) →
-        ((i : ℕ) → o ≡ some i → rowAt (s₀ .plan) i .isLeaf ≡ false) → (p : ℕ) → copyParent b g o cs ≡ some p → Base news s p
-    parent-base news s cs a b true o h p e = subst (Base news s) (Option·some-injective g p e) b
+        ((i : ℕ) → o ≡ some i → rowAt (s₀ .plan) i .isLeaf ≡ false) → (p : ℕ) → copyParent b g o cs ≡ some p → Base W news s p
+    parent-base news s cs a b true o h p e = subst (Base W news s) (Option·some-injective g p e) b
     parent-base news s cs a b false none h p e = absurd (Option·none-ne-some p e)
     parent-base news s cs a b false (some i) h p e = copy-base news s i p cs a (h i refl) e
 
     -- the rows of one subtree, and what is done next
     each-sim : (t : ℕ) (is : List ℕ) → All (λ i. Alike W s₀ i (φ W i)) is → (news : List Label) (cs : List Copied) (u q : State) →
-        Twin W news u q → Base news u g → All (CopyFits news u) cs → (k k′ : State → Out) →
-        ((news : List Label) (u q : State) → Twin W news u q → Base news u g → Sim W [] news (k u) (k′ q)) →
+        Twin W news u q → Base W news u g → All (CopyFits news u) cs → (k k′ : State → Out) →
+        ((news : List Label) (u q : State) → Twin W news u q → Base W news u g → Sim W [] news (k u) (k′ q)) →
         ((u : State) → Grows (count (u .plan)) (k u)) →
         Sim W [] news (thenRow (copyEach z (s₀ .plan) t g is cs u) k)
         (thenRow (copyEach z (t₀ .plan) (φ W t) (φ W g) (map (φ W) is) (map shiftCopied cs) q) k′)
@@ -164,8 +105,8 @@ module _ (W : World) where
     each-sim t (i ∷ is) (also e es) news cs u q U b a k k′ h d =
         subst (λ r. Sim W [] news (f (newRow z row u)) (f′ (newRow z r q)))
         (sym (row-across (s₀ .plan) (t₀ .plan) t g i cs (T₀ .alike i (e .0) (e .1))))
-        (new-sim W news u q U [] z row l (new-fit news u q U row base) (λ p e. base p e .clear)
-        (new-touched news u q U row base) f f′ (λ x. refl) (λ x. refl)
+        (new-sim W news u q U [] z row l (new-fit W news u q U row base) (λ p e. base p e .clear)
+        (new-touched W news u q U row base) f f′ (λ x. refl) (λ x. refl)
         (λ N.
         sim-more W [] news (l ∷ [])
         (subst
@@ -176,7 +117,7 @@ module _ (W : World) where
         (withMade q (φRow W row))) k′))
         (count-across W news u q U)
         (each-sim t is es (news ++ (l ∷ [])) (new ∷ cs) (withMade u row) (withMade q (φRow W row)) N
-        (base-more news u q U row l g b) (also (λ e. base-new news u q U row l e touched) (all-imp older a)) k k′
+        (base-more W news u q U row l g b) (also (λ e. base-new W news u q U row l e touched) (all-imp older a)) k k′
         h d)))
         (grows-row k (grows-each z (s₀ .plan) t g is (new ∷ cs) (withMade u row)) d))
       where
@@ -184,7 +125,7 @@ module _ (W : World) where
         row = copyRow (s₀ .plan) t g i cs
 
         l : Label
-        l = newLabel news (row .parent) (letterOf row)
+        l = newLabel W news (row .parent) (letterOf row)
 
         new : Copied
         new = record { old = i; new = count (u .plan) }
@@ -199,20 +140,20 @@ module _ (W : World) where
             (λ p.
             copyEach z (t₀ .plan) (φ W t) (φ W g) (map (φ W) is) (record { old = φ W i; new = count (q .plan) } ∷ map shiftCopied cs) p)) k′
 
-        base : (p : ℕ) → row .parent ≡ some p → Base news u p
+        base : (p : ℕ) → row .parent ≡ some p → Base W news u p
         base p e =
             parent-base news u cs a b (eqb i t) (rowAt (s₀ .plan) i .parent)
             (λ j h. T₀ .one .fit .links i j h .1) p e
 
         touched : Touched (W .script) l
-        touched = new-touched news u q U row base
+        touched = new-touched W news u q U row base
 
         older : (c : Copied) → CopyFits news u c → CopyFits (news ++ (l ∷ [])) (withMade u row) c
-        older c k e = base-more news u q U row l (c .new) (k e)
+        older c k e = base-more W news u q U row l (c .new) (k e)
 
     -- the subtrees of a value's rows
     all-sim : (r : List Path) → ((p : Path) → In p r → W .script .accessed (p ▸ anyBelow)) → (v : List ℕ) → Vals W r news₀ v →
-        (news : List Label) (u q : State) → Twin W news u q → Base news u g →
+        (news : List Label) (u q : State) → Twin W news u q → Base W news u g →
         Sim W [] news (copyAll z (s₀ .plan) v g u) (copyAll z (t₀ .plan) (map (φ W) v) (φ W g) q)
     unfolding copyAll
     all-sim r acc [] nothing news u q U b = sim-gives W [] news [] u q U nothing
@@ -237,7 +178,7 @@ module _ (W : World) where
         (lt-ltb (φ W g) (count (t .plan)) (row-bound W news s t T g (a .0)) ∙ sym (lt-ltb g (count (s .plan)) (a .0)))
         (ap (λ r. r .isLeaf) (T .alike g (a .0) (a .1)))
 
-    target-base : (g : ℕ) → Valued W q news g → isElement (s .plan) g ≡ true → Base news s g
+    target-base : (g : ℕ) → Valued W q news g → isElement (s .plan) g ≡ true → Base W news s g
     target-base g k e =
         record {
           bound = a .0;

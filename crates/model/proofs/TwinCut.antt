@@ -13,7 +13,7 @@ use lib.ListN.{length}
 use Rattle.model.specs.Base.{pick}
 use Rattle.model.specs.Limits.{maxHistory}
 use Rattle.model.specs.Refusal.{historyAt}
-use Rattle.model.specs.Table.{Row, rowAt, count, linked, withParent}
+use Rattle.model.specs.Table.{rowAt, count, linked, withParent}
 use Rattle.model.specs.History.{Record}
 use Rattle.model.specs.Step.{Letter}
 use Rattle.model.specs.Run.{State, stop, cutRecord, cutRow, cutBy, cutAll}

@@ -9,7 +9,7 @@ use native.Mathlib.Omega.{arith}
 use native.Mathlib.Decide.{decLt}
 use lib.ListN.{length, length-append, length-map, List·getD-append}
 use lib.Seq.{getD-append-add}
-use Rattle.model.specs.Table.{Row, rowAt, count}
+use Rattle.model.specs.Table.{rowAt, count}
 use Rattle.model.specs.Script.{Step}
 use Rattle.model.specs.Step.{Letter, letterOf}
 use Rattle.model.specs.Run.{State}
