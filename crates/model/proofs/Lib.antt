@@ -1,5 +1,6 @@
 pub mod BoolLaws
 pub mod CasesHold
+pub mod TestLaws
 pub mod RefusalLaws
 pub mod TableLaws
 pub mod GrowLaws

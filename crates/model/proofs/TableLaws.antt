@@ -13,7 +13,8 @@ use borrow.Author.Tests.{ltb-true, leb-true, ltb-false, eqb-true, not-true, lt-l
 use Rattle.model.specs.Base.{all, any}
 use Rattle.model.specs.Table.{Row, Table, empty, noRow, rowAt, count, isElement, hasParent, isThe, tagFits, parentFits, rowsFit}
 use Rattle.model.specs.Table.{markFits, noneTwice, isTree, isWell}
-use Rattle.model.proofs.BoolLaws.{and-left, and-right, and-both, and-three, and-five, or-cases, or-left, or-right, true-false}
+use Rattle.model.proofs.BoolLaws.{and-left, and-right, and-both, or-cases, or-left, or-right, true-false}
+use Rattle.model.proofs.TestLaws.{and-three, and-five}
 
 -- A ROW FITS at its number: its tag is in range, its parent a lower element
 pub record RowFits (x : Table) (i : ℕ) (r : Row) : Type 0 where
