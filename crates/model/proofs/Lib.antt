@@ -7,3 +7,5 @@ pub mod GrowLaws
 pub mod StoredLaws
 pub mod BytesLaws
 pub mod StoredBack
+pub mod SweepLaws
+pub mod SweepsWell
