@@ -10,7 +10,7 @@ use lib.Dec.{ltb, eqb}
 use lib.ListN.{length, getD, set, length-append, length-set, List·getD-append}
 use lib.Seq.{getD-append-seam, getD-set-same, getD-set-other}
 use borrow.Author.Tests.{ltb-true, ltb-false, eqb-true, eqb-false}
-use Rattle.model.specs.Table.{Row, Table, noRow, rowAt, count, isMarked, withRow, withMark, tagFits, parentFits}
+use Rattle.model.specs.Table.{Row, Table, noRow, rowAt, count, isMarked, withRow, withParent, linked, withMark, tagFits, parentFits}
 use Rattle.model.proofs.BoolLaws.{true-false}
 use Rattle.model.proofs.TableLaws.{any-by, parentFits-at, isElement-at, parent-count, ParentLower, IsRoot, Tree, Well}
 
@@ -103,3 +103,55 @@ module _ (x : Table) (d i : ℕ) (t : Tree x) (k : IsRoot x i) (l : d < length (
 
   pub well-withMark : Well x → Well (withMark x d i)
   well-withMark w = record { few = w .few; eight = length-set (x .marks) d (some i) ∙ w .eight; tree = tree-withMark }
+
+-- A LINK CHANGED
+pub count-linked : (x : Table) (i : ℕ) (p : Option ℕ) → count (linked x i p) ≡ count x
+count-linked x i p = length-set (x .rows) i (withParent (rowAt x i) p)
+
+pub rowAt-linked-other : (x : Table) (i : ℕ) (p : Option ℕ) (j : ℕ) → j ≢ i → rowAt (linked x i p) j ≡ rowAt x j
+rowAt-linked-other x i p j h = getD-set-other (x .rows) i j (withParent (rowAt x i) p) noRow h
+
+pub rowAt-linked-same : (x : Table) (i : ℕ) (p : Option ℕ) → i < count x → rowAt (linked x i p) i ≡ withParent (rowAt x i) p
+rowAt-linked-same x i p l = getD-set-same (x .rows) i (withParent (rowAt x i) p) noRow l
+
+pub linked-cases : (x : Table) (i : ℕ) (p : Option ℕ) (P : ℕ → Row → Type 0) → i < count x →
+    ((j : ℕ) → j ≢ i → P j (rowAt x j)) → P i (withParent (rowAt x i) p) → (j : ℕ) → P j (rowAt (linked x i p) j)
+linked-cases x i p P l other same j = go (eqb j i) refl
+  where
+    go : (t : Bool) → eqb j i ≡ t → P j (rowAt (linked x i p) j)
+    go true e =
+        let q : i ≡ j = sym (eqb-true j i e) in
+        subst (λ (k : ℕ). P k (rowAt (linked x i p) k)) q (subst (P i) (sym (rowAt-linked-same x i p l)) same)
+    go false e = subst (P j) (sym (rowAt-linked-other x i p j (eqb-false j i e))) (other j (eqb-false j i e))
+
+pub isLeaf-linked : (x : Table) (i : ℕ) (p : Option ℕ) → i < count x → (j : ℕ) → rowAt (linked x i p) j .isLeaf ≡ rowAt x j .isLeaf
+isLeaf-linked x i p l = linked-cases x i p (λ j r. r .isLeaf ≡ rowAt x j .isLeaf) l (λ j h. refl) refl
+
+-- to a lower element, or to none; a marked row only to none
+module _ (x : Table) (i : ℕ) (p : Option ℕ) (t : Tree x) (l : i < count x) (f : ParentLower x i (withParent (rowAt x i) p))
+    (m : (d : ℕ) → getD (x .marks) d none ≡ some i → p ≡ none) where
+  linked-parent : (j : ℕ) (r : Row) → ParentLower x j r → ParentLower (linked x i p) j r
+  linked-parent j r h q e = let k = h q e in (k .0, isLeaf-linked x i p l q ∙ k .1)
+
+  linked-root : (d j : ℕ) → getD (x .marks) d none ≡ some j → IsRoot (linked x i p) j
+  linked-root d j e =
+      let k = t .roots d j e in (
+        omega (arith, count-linked x i p, k .0),
+        isLeaf-linked x i p l j ∙ k .1,
+        linked-cases x i p (λ n r. j ≡ n → r .parent ≡ none) l
+            (λ n h q. subst (λ (a : ℕ). rowAt x a .parent ≡ none) q (k .2)) (λ q. m d (e ∙ ap {B = Option ℕ} some q)) j refl,
+      )
+
+  pub tree-linked : Tree (linked x i p)
+  tree-linked = record {
+    tags = λ j h.
+        linked-cases x i p (λ n r. n < count x → tagFits r ≡ true) l (λ n k. t .tags n) (t .tags i) j (omega (arith, count-linked x i p));
+    parents =
+        linked-cases x i p (ParentLower (linked x i p)) l (λ j h. linked-parent j (rowAt x j) (t .parents j))
+        (linked-parent i (withParent (rowAt x i) p) f);
+    roots = linked-root;
+    once = t .once;
+  }
+
+  pub well-linked : Well x → Well (linked x i p)
+  well-linked w = record { few = omega (arith, count-linked x i p, w .few); eight = w .eight; tree = tree-linked }

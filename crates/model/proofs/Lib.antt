@@ -9,3 +9,10 @@ pub mod BytesLaws
 pub mod StoredBack
 pub mod SweepLaws
 pub mod SweepsWell
+pub mod RanLaws
+pub mod FormLaws
+pub mod UndoLaws
+pub mod ScriptLaws
+pub mod ValueLaws
+pub mod RunKeeps
+pub mod RunsBack
