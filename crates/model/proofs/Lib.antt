@@ -10,6 +10,7 @@ pub mod StoredBack
 pub mod SweepLaws
 pub mod SweepsWell
 pub mod RanLaws
+pub mod HistoryLaws
 pub mod FormLaws
 pub mod UndoLaws
 pub mod ScriptLaws

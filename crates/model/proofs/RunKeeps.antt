@@ -24,54 +24,54 @@ use Rattle.model.proofs.ScriptLaws.{TagsFit}
 use Rattle.model.proofs.ValueLaws.{AreRows, noRows, moreRows, areRows-append, areRows-more, AreValues, noValues, areValues-snoc}
 use Rattle.model.proofs.ValueLaws.{areValues-more, areValues-at, stepFrom-rows, picked-rows, descendantsFrom-rows, marked-rows}
 
--- A TABLE GROWN: no row goes, and none changes its kind
-pub record Grown (y z : Table) : Type 0 where
+-- A TABLE ENLARGED: no row goes, and none changes its kind
+pub record Enlarged (y z : Table) : Type 0 where
   pub more : count y ≤ count z
   pub kinds : (i : ℕ) → i < count y → rowAt z i .isLeaf ≡ rowAt y i .isLeaf
 
-grown-self : (y : Table) → Grown y y
-grown-self y = record { more = omega arith; kinds = λ i l. refl }
+enlarged-self : (y : Table) → Enlarged y y
+enlarged-self y = record { more = omega arith; kinds = λ i l. refl }
 
-grown-then : {x y z : Table} → Grown x y → Grown y z → Grown x z
-grown-then g h = record {
+enlarged-then : {x y z : Table} → Enlarged x y → Enlarged y z → Enlarged x z
+enlarged-then g h = record {
   more = omega (arith, g .more, h .more);
   kinds = λ i l. h .kinds i (omega (arith, g .more)) ∙ g .kinds i l;
 }
 
-grown-withRow : (y : Table) (r : Row) → Grown y (withRow y r)
-grown-withRow y r = record {
+enlarged-withRow : (y : Table) (r : Row) → Enlarged y (withRow y r)
+enlarged-withRow y r = record {
   more = omega (arith, count-withRow y r);
   kinds = λ i l. ap (λ (q : Row). q .isLeaf) (rowAt-withRow-old y r i l);
 }
 
-grown-cut : (y : Table) (i p : ℕ) → rowAt y i .parent ≡ some p → Grown y (linked y i none)
-grown-cut y i p e = record {
+enlarged-cut : (y : Table) (i p : ℕ) → rowAt y i .parent ≡ some p → Enlarged y (linked y i none)
+enlarged-cut y i p e = record {
   more = omega (arith, count-linked y i none);
   kinds = λ j l. isLeaf-linked y i none (parent-count y i p e) j;
 }
 
-grown-element : {y z : Table} (i : ℕ) → Grown y z → isElement y i ≡ true → isElement z i ≡ true
-grown-element {y} {z} i g h =
+enlarged-element : {y z : Table} (i : ℕ) → Enlarged y z → isElement y i ≡ true → isElement z i ≡ true
+enlarged-element {y} {z} i g h =
     let k = isElement-at y i h in
     isElement-by z i (omega (arith, g .more, k .0)) (g .kinds i (k .0) ∙ k .1)
 
--- AN OUTCOME from a state with table y: a refusal, or rows of a grown table that a run on x can come to
+-- AN OUTCOME from a state with table y: a refusal, or rows of an enlarged table that a run on x can come to
 abbrev pub Keeps : (x y : Table) → Out → Type 0
 Keeps x y (stop f) = Unit
-Keeps x y (gives v u) = Ran x u × AreRows (count (u .plan)) v × Grown y (u .plan)
+Keeps x y (gives v u) = Ran x u × AreRows (count (u .plan)) v × Enlarged y (u .plan)
 
-keeps-from : (x y z : Table) (o : Out) → Grown y z → Keeps x z o → Keeps x y o
+keeps-from : (x y z : Table) (o : Out) → Enlarged y z → Keeps x z o → Keeps x y o
 keeps-from x y z (stop f) g k = tt
-keeps-from x y z (gives v u) g k = (k .0, k .1, grown-then g (k .2))
+keeps-from x y z (gives v u) g k = (k .0, k .1, enlarged-then g (k .2))
 
 andThen-keeps : (x y : Table) (o : Out) (next : List ℕ → State → Out) → Keeps x y o →
-    ((v : List ℕ) (u : State) → Ran x u → AreRows (count (u .plan)) v → Grown y (u .plan) → Keeps x (u .plan) (next v u)) →
+    ((v : List ℕ) (u : State) → Ran x u → AreRows (count (u .plan)) v → Enlarged y (u .plan) → Keeps x (u .plan) (next v u)) →
     Keeps x y (andThen o next)
 andThen-keeps x y (stop f) next k h = tt
 andThen-keeps x y (gives v u) next k h = keeps-from x y (u .plan) (next v u) (k .2) (h v u (k .0) (k .1) (k .2))
 
 thenRow-keeps : (x y : Table) (o : Out) (next : State → Out) → Keeps x y o →
-    ((u : State) → Ran x u → Grown y (u .plan) → Keeps x (u .plan) (next u)) → Keeps x y (thenRow o next)
+    ((u : State) → Ran x u → Enlarged y (u .plan) → Keeps x (u .plan) (next u)) → Keeps x y (thenRow o next)
 thenRow-keeps x y (stop f) next k h = tt
 thenRow-keeps x y (gives v u) next k h = keeps-from x y (u .plan) (next u) (k .2) (h u (k .0) (k .2))
 
@@ -80,7 +80,7 @@ pick-keeps x y true o q h k = h refl
 pick-keeps x y false o q h k = k refl
 
 gives-keeps : (x : Table) (v : List ℕ) (s : State) → Ran x s → AreRows (count (s .plan)) v → Keeps x (s .plan) (gives v s)
-gives-keeps x v s r a = (r, a, grown-self (s .plan))
+gives-keeps x v s r a = (r, a, enlarged-self (s .plan))
 
 -- NEW ROWS
 roomFault-room : (z : ℕ) (s : State) → isFine (roomFault z s) ≡ true → count (s .plan) < 512
@@ -94,7 +94,7 @@ newRow-keeps x z r s q f g =
     pick-keeps x (s .plan) (isFine (roomFault z s)) _ _
     (λ e.
     let l : count (s .plan) < count (withRow (s .plan) r) = omega (arith, count-withRow (s .plan) r) in
-    (rowMade s r q (roomFault-room z s e) f g, moreRows l noRows, grown-withRow (s .plan) r))
+    (rowMade s r q (roomFault-room z s e) f g, moreRows l noRows, enlarged-withRow (s .plan) r))
     (λ e. tt)
 
 -- DELETE
@@ -109,7 +109,7 @@ cutAll-keeps x z (i ∷ is) s r = go (rowAt (s .plan) i .parent) refl (λ t q. c
     go (some p) e h =
         pick-keeps x (s .plan) (ltb (length (s .history)) 2048) _ _
         (λ q.
-        keeps-from x (s .plan) (linked (s .plan) i none) (cutAll z is (cutRow s i p)) (grown-cut (s .plan) i p e)
+        keeps-from x (s .plan) (linked (s .plan) i none) (cutAll z is (cutRow s i p)) (enlarged-cut (s .plan) i p e)
         (h (cutRow s i p) (linkCut s i p r e)))
         (λ q. tt)
 
@@ -173,11 +173,11 @@ module _ (x y : Table) (ty : Tree y) (place t g : ℕ) where
           (thenRow (pick b (gives (count (s .plan) ∷ []) (withMade s w)) (stop (roomFault place s)))
           (λ (u : State). copyEach place y t g is ds u))
       go true e next =
-          let f = grown-withRow (s .plan) w in
+          let f = enlarged-withRow (s .plan) w in
           keeps-from x (s .plan) (withRow (s .plan) w) (copyEach place y t g is ds (withMade s w)) f
           (next ds (withMade s w)
           (rowMade s w r (roomFault-room place s e) (ty .tags i l) (copyParent-fits (s .plan) i cs c h))
-          (copies-more y (s .plan) i w cs refl c) (grown-element g f h))
+          (copies-more y (s .plan) i w cs refl c) (enlarged-element g f h))
       go false e next = tt
 
 copyAll-keeps : (x y : Table) → Tree y → (place g : ℕ) {is : List ℕ} → AreRows (count y) is → (s : State) → Ran x s →
@@ -188,7 +188,7 @@ copyAll-keeps x y ty place g (moreRows {i} {is} l a) s r h =
     thenRow-keeps x (s .plan) (copyEach place y i g (subtree y i) [] s) _
     (copyEach-keeps x y ty place i g (moreRows l (descendantsFrom-rows y i 0 (count y) (count y) (omega arith))) [] s r
     (copies-none y (s .plan)) h)
-    (λ u q f. copyAll-keeps x y ty place g a u q (grown-element g f h))
+    (λ u q f. copyAll-keeps x y ty place g a u q (enlarged-element g f h))
 
 inserted-keeps : (x : Table) → Well x → (place : ℕ) (v w : List ℕ) (s : State) → Ran x s → AreRows (count (s .plan)) v →
     Keeps x (s .plan) (inserted place v w s)
@@ -203,15 +203,15 @@ joinItems-keeps x z v w s r a b =
     pick-keeps x (s .plan) (ltb 512 (length v + length w)) _ _ (λ e. tt) (λ e. gives-keeps x (v ++ w) s r (areRows-append a b))
 
 loop-keeps : (x y : Table) (z : ℕ) (f : ℕ → State → Out) →
-    ((i : ℕ) (u : State) → Ran x u → Grown y (u .plan) → i < count (u .plan) → Keeps x (u .plan) (f i u)) →
-    (is v : List ℕ) (s : State) → AreRows (count (s .plan)) is → AreRows (count (s .plan)) v → Ran x s → Grown y (s .plan) →
+    ((i : ℕ) (u : State) → Ran x u → Enlarged y (u .plan) → i < count (u .plan) → Keeps x (u .plan) (f i u)) →
+    (is v : List ℕ) (s : State) → AreRows (count (s .plan)) is → AreRows (count (s .plan)) v → Ran x s → Enlarged y (s .plan) →
     Keeps x (s .plan) (loop z f is v s)
 unfolding loop
 loop-keeps x y z f h [] v s a b r g = gives-keeps x v s r b
 loop-keeps x y z f h (i ∷ is) v s (moreRows l a) b r g = joined (f i s) (h i s r g l) (loop-keeps x y z f h is)
   where
     joined : (o : Out) → Keeps x (s .plan) o →
-        ((w : List ℕ) (u : State) → AreRows (count (u .plan)) is → AreRows (count (u .plan)) w → Ran x u → Grown y (u .plan) →
+        ((w : List ℕ) (u : State) → AreRows (count (u .plan)) is → AreRows (count (u .plan)) w → Ran x u → Enlarged y (u .plan) →
         Keeps x (u .plan) (loop z f is w u)) →
         Keeps x (s .plan) (joinFor z v o (λ (w : List ℕ) (u : State). loop z f is w u))
     joined (stop q) k next = tt
@@ -219,7 +219,7 @@ loop-keeps x y z f h (i ∷ is) v s (moreRows l a) b r g = joined (f i s) (h i s
         pick-keeps x (s .plan) (ltb 512 (length v + length w)) _ _ (λ e. tt)
         (λ e.
         keeps-from x (s .plan) (u .plan) (loop z f is (v ++ w) u) (k .2)
-        (next (v ++ w) u (areRows-more (k .2 .more) a) (areRows-append (areRows-more (k .2 .more) b) (k .1)) (k .0) (grown-then g (k .2))))
+        (next (v ++ w) u (areRows-more (k .2 .more) a) (areRows-append (areRows-more (k .2 .more) b) (k .1)) (k .0) (enlarged-then g (k .2))))
 
 -- EVALUATION, over the expression
 module _ (x : Table) (well : Well x) where

@@ -18,7 +18,8 @@ use Rattle.model.specs.Undo.{Placed, historySize, sameParent, sameBool, 
 use Rattle.model.proofs.BoolLaws.{and-both, true-false}
 use Rattle.model.proofs.TableLaws.{any-at, isElement-by, parentFits-at, parent-count, Well}
 use Rattle.model.proofs.GrowLaws.{count-withRow, rowAt-withRow-new, count-linked, rowAt-linked-same, isLeaf-linked}
-use Rattle.model.proofs.RanLaws.{Ran, begun, rowMade, linkCut, ran-well, isCut-made, ran-length}
+use Rattle.model.proofs.RanLaws.{Ran, begun, rowMade, linkCut, ran-well}
+use Rattle.model.proofs.HistoryLaws.{isCut-made, ran-length}
 use Rattle.model.proofs.FormLaws.{IsInRange, AllInRange, noneYet, allInRange-snoc, placed, formFrom-placed}
 
 -- ONE RECORD UNDONE: no row without mark is marked
