@@ -50,3 +50,8 @@ pick-true t x y e = rw e
 
 pub pick-false : {A : Type 0} (t : Bool) (x y : A) → t ≡ false → pick t x y ≡ y
 pick-false t x y e = rw e
+
+-- a proof by cases on a test
+pub by-cases : {P : Type 0} (t : Bool) → (t ≡ true → P) → (t ≡ false → P) → P
+by-cases true f g = f refl
+by-cases false f g = g refl
