@@ -219,7 +219,8 @@ loop-keeps x y z f h (i ∷ is) v s (moreRows l a) b r g = joined (f i s) (h i s
         pick-keeps x (s .plan) (ltb 512 (length v + length w)) _ _ (λ e. tt)
         (λ e.
         keeps-from x (s .plan) (u .plan) (loop z f is (v ++ w) u) (k .2)
-        (next (v ++ w) u (areRows-more (k .2 .more) a) (areRows-append (areRows-more (k .2 .more) b) (k .1)) (k .0) (enlarged-then g (k .2))))
+        (next (v ++ w) u (areRows-more (k .2 .more) a) (areRows-append (areRows-more (k .2 .more) b) (k .1)) (k .0)
+        (enlarged-then g (k .2))))
 
 -- EVALUATION, over the expression
 module _ (x : Table) (well : Well x) where
