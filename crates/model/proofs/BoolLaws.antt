@@ -1,5 +1,5 @@
 -- Tests taken apart and put together: what follows from a computed 'and', 'or', 'not' or choice, and what each follows from.
-use mathlib.Core.Path.{_≡_, refl}
+use mathlib.Core.Path.{_≡_, refl, sym}
 use mathlib.Core.Bool.{Bool, true, false, _&&_, _||_, true≢false, false≢true}
 use mathlib.Core.Logic.{_⊎_, inl, inr}
 use Rattle.model.specs.Base.{pick}
@@ -55,3 +55,9 @@ pick-false t x y e = rw e
 pub by-cases : {P : Type 0} (t : Bool) → (t ≡ true → P) → (t ≡ false → P) → P
 by-cases true f g = f refl
 by-cases false f g = g refl
+
+-- two tests that follow from one another are equal
+pub bool-iff : (a b : Bool) → (a ≡ true → b ≡ true) → (b ≡ true → a ≡ true) → a ≡ b
+bool-iff true b f g = sym (f refl)
+bool-iff false true f g = g refl
+bool-iff false false f g = refl

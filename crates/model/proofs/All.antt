@@ -1,0 +1,26 @@
+-- Every item of a list has a property.
+use mathlib.Core.Path.{_≡_}
+use mathlib.Core.List.{List, [], _∷_, _++_, map}
+use mathlib.Core.List.{List·Memᴰ as In, List·Memᴰ·head as here, List·Memᴰ·tail as there}
+use mathlib.Core.Path.{sym, subst}
+
+pub data All {A : Type 0} (P : A → Type 0) : List A → Type 0 where
+  nothing : All P []
+  also : {a : A} {l : List A} → P a → All P l → All P (a ∷ l)
+
+module _ {A : Type 0} where
+  pub all-append : {P : A → Type 0} {k l : List A} → All P k → All P l → All P (k ++ l)
+  all-append nothing b = b
+  all-append (also p a) b = also p (all-append a b)
+
+  pub all-imp : {P Q : A → Type 0} {l : List A} → ((a : A) → P a → Q a) → All P l → All Q l
+  all-imp f nothing = nothing
+  all-imp f (also p a) = also (f _ p) (all-imp f a)
+
+  pub all-map : {B : Type 0} {P : A → Type 0} {Q : B → Type 0} {l : List A} (g : A → B) → ((a : A) → P a → Q (g a)) → All P l → All Q (map g l)
+  all-map g f nothing = nothing
+  all-map g f (also p a) = also (f _ p) (all-map g f a)
+
+  pub all-in : {P : A → Type 0} {l : List A} {a : A} → All P l → In a l → P a
+  all-in {P} (also p b) (here e) = subst P (sym e) p
+  all-in (also p b) (there i) = all-in b i

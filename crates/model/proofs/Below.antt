@@ -1,0 +1,96 @@
+-- Below: a row under another, link by link; this is what isBelow computes, and the lower row's label is grown from the upper's.
+use mathlib.Core.Path.{_≡_, refl, sym, _∙_, ap, subst}
+use mathlib.Core.Bool.{Bool, true, false, _||_, false≢true}
+use mathlib.Core.Logic.{_⊎_, inl, inr}
+use mathlib.Core.List.{List, [], _∷_}
+use mathlib.Core.Option.{Option, none, some}
+use Prim.Native.Nat.{ℕ, zero, suc, _+_, _<_, _≤_}
+use native.Mathlib.Nat.{not-suc-le-zero}
+use native.Mathlib.Omega.{arith}
+use lib.Dec.{eqb}
+use borrow.Author.Tests.{eqb-true, eq-eqb}
+use Rattle.model.specs.Table.{Row, Table, rowAt, count, isThe}
+use Rattle.model.specs.Sweep.{through}
+use Rattle.model.specs.Script.{Step}
+use Rattle.model.specs.Step.{Letter, letterOf, admits, parentIs, isBelowFrom, isBelow}
+use Rattle.model.specs.Paths.{Path, _▸_}
+use Rattle.model.proofs.BoolLaws.{or-left, or-right, or-cases}
+use Rattle.model.proofs.Words.{Word, Grown, same, more, On, child, deep}
+use Rattle.model.proofs.Labels.{Label, label, grow, labelAt, Linked, Fit}
+
+pub data Below (x : Table) (top : ℕ) : ℕ → Type 0 where
+  under : {i : ℕ} → rowAt x i .parent ≡ some top → Below x top i
+  further : {i p : ℕ} → rowAt x i .parent ≡ some p → Below x top p → Below x top i
+
+-- COMPUTED
+pub isThe-true : (i : ℕ) (q : Option ℕ) → isThe i q ≡ true → q ≡ some i
+isThe-true i none e = absurd (false≢true e)
+isThe-true i (some p) e = ap some (eqb-true p i e)
+
+pub isThe-some : (i : ℕ) (q : Option ℕ) → q ≡ some i → isThe i q ≡ true
+isThe-some i q e = subst (λ (q : Option ℕ). isThe i q ≡ true) (sym e) (eq-eqb i i refl)
+
+below-step : (n : ℕ) (x : Table) (t i : ℕ) → ((p : ℕ) → isBelowFrom n x t p ≡ true → Below x t p) →
+    (parentIs x t i || through (isBelowFrom n x t) (rowAt x i .parent)) ≡ true → Below x t i
+below-step n x t i h e = go (or-cases (parentIs x t i) (through (isBelowFrom n x t) (rowAt x i .parent)) e)
+  where
+    deeper : (q : Option ℕ) → rowAt x i .parent ≡ q → through (isBelowFrom n x t) q ≡ true → Below x t i
+    deeper none f g = absurd (false≢true g)
+    deeper (some p) f g = further f (h p g)
+
+    go : (parentIs x t i ≡ true) ⊎ (through (isBelowFrom n x t) (rowAt x i .parent) ≡ true) → Below x t i
+    go (inl f) = under (isThe-true t (rowAt x i .parent) f)
+    go (inr f) = deeper (rowAt x i .parent) refl f
+
+below-from : (n : ℕ) (x : Table) (t i : ℕ) → isBelowFrom n x t i ≡ true → Below x t i
+unfolding isBelowFrom
+below-from zero x t i e = absurd (false≢true e)
+below-from (suc n) x t i e = below-step n x t i (λ (p : ℕ) (f : isBelowFrom n x t p ≡ true). below-from n x t p f) e
+
+pub below-is : (x : Table) (t i : ℕ) → isBelow x t i ≡ true → Below x t i
+below-is x t i e = below-from (suc i) x t i e
+
+-- fuel is enough where parents are lower
+is-below-from : (x : Table) → ((i p : ℕ) → rowAt x i .parent ≡ some p → p < i) → (n t i : ℕ) → Below x t i → i < n →
+    isBelowFrom n x t i ≡ true
+unfolding isBelowFrom
+is-below-from x l zero t i b h = absurd (not-suc-le-zero h)
+is-below-from x l (suc n) t i (under e) h =
+    or-left (parentIs x t i) (through (isBelowFrom n x t) (rowAt x i .parent)) (isThe-some t (rowAt x i .parent) e)
+is-below-from x l (suc n) t i (further {p = p} e b) h =
+    or-right (parentIs x t i) (through (isBelowFrom n x t) (rowAt x i .parent))
+    (subst (λ (q : Option ℕ). through (isBelowFrom n x t) q ≡ true) (sym e)
+    (is-below-from x l n t p b (omega (arith, l i p e))))
+
+pub is-below : (x : Table) → ((i p : ℕ) → rowAt x i .parent ≡ some p → p < i) → (t i : ℕ) → Below x t i → isBelow x t i ≡ true
+is-below x l t i b = is-below-from x l (suc i) t i b (omega arith)
+
+-- LABELS: below a row, a label has the row's root, its own letter last, and the rest grown from the row's word
+pub below-label : {ls : List Label} {x : Table} → Fit ls x → (t i : ℕ) → Below x t i →
+    (w : Word) × (labelAt ls i ≡ label (labelAt ls t .root) (letterOf (rowAt x i) ∷ w)) × Grown (labelAt ls t .word) w
+below-label {ls} f t i (under e) = (labelAt ls t .word, f .links i t e .2, same)
+below-label {ls} {x} f t i (further {p = p} e b) = go (below-label f t p b)
+  where
+    go : (w : Word) × (labelAt ls p ≡ label (labelAt ls t .root) (letterOf (rowAt x p) ∷ w)) × Grown (labelAt ls t .word) w →
+        (w : Word) × (labelAt ls i ≡ label (labelAt ls t .root) (letterOf (rowAt x i) ∷ w)) × Grown (labelAt ls t .word) w
+    go (w, q, g) =
+        (letterOf (rowAt x p) ∷ w, f .links i p e .2 ∙ ap (λ (l : Label). grow l (letterOf (rowAt x i))) q, more g)
+
+-- ON A PATH: what a step reaches is on the path with the step
+abbrev pub OnPath : List (Option ℕ) → Path → Label → Type 0
+OnPath marks p l = On marks p (l .root) (l .word)
+
+pub on-child : {marks : List (Option ℕ)} {ls : List Label} {x : Table} {p : Path} → Fit ls x → (s : Step) (t i : ℕ) →
+    OnPath marks p (labelAt ls t) → rowAt x i .parent ≡ some t → s .axis ≡ 0 → admits s (letterOf (rowAt x i)) ≡ true →
+    OnPath marks (p ▸ s) (labelAt ls i)
+on-child {marks} {ls} {x} {p} f s t i o e a z =
+    subst (λ (l : Label). OnPath marks (p ▸ s) l) (sym (f .links i t e .2)) (child o a z)
+
+pub on-below : {marks : List (Option ℕ)} {ls : List Label} {x : Table} {p : Path} → Fit ls x → (s : Step) (t i : ℕ) →
+    OnPath marks p (labelAt ls t) → Below x t i → s .axis ≡ 1 → admits s (letterOf (rowAt x i)) ≡ true →
+    OnPath marks (p ▸ s) (labelAt ls i)
+on-below {marks} {ls} {x} {p} f s t i o b a z = go (below-label f t i b)
+  where
+    go : (w : Word) × (labelAt ls i ≡ label (labelAt ls t .root) (letterOf (rowAt x i) ∷ w)) × Grown (labelAt ls t .word) w →
+        OnPath marks (p ▸ s) (labelAt ls i)
+    go (w, q, g) = subst (λ (l : Label). OnPath marks (p ▸ s) l) (sym q) (deep o g a z)

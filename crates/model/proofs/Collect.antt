@@ -1,0 +1,99 @@
+-- The rows that pass a test, in rising number: what a step computes. Two such lists agree where their tests do.
+use mathlib.Core.Path.{_≡_, refl, sym, _∙_, ap, ap₂, subst}
+use mathlib.Core.Bool.{Bool, true, false}
+use mathlib.Core.List.{List, [], _∷_, _++_, map, append-nil, map-append}
+use Prim.Native.Nat.{ℕ, zero, suc, _+_, _<_, _≤_}
+use native.Mathlib.Nat.{zero-add, suc-add, add-zero, add-suc}
+use native.Mathlib.Omega.{arith}
+use Rattle.model.specs.Base.{pick}
+use Rattle.model.specs.Table.{Table, count}
+use Rattle.model.specs.Script.{Step}
+use Rattle.model.specs.Step.{isReached, stepFrom}
+use Rattle.model.proofs.All.{All, nothing, also}
+use Rattle.model.proofs.Shift.{shift, shift-low, shift-high}
+
+unfoldable pub collect : (ℕ → Bool) → (row : ℕ) → ℕ → List ℕ
+collect f i zero = []
+collect f i (suc n) = pick (f i) (i ∷ collect f (suc i) n) (collect f (suc i) n)
+
+pub step-collect : (x : Table) (s : Step) (v : List ℕ) (i n : ℕ) → stepFrom x s v i n ≡ collect (isReached x s v) i n
+unfolding collect stepFrom
+step-collect x s v i zero = refl
+step-collect x s v i (suc n) = ap (λ (l : List ℕ). pick (isReached x s v i) (i ∷ l) l) (step-collect x s v (suc i) n)
+
+-- what passes the test
+pub collect-all : {P : ℕ → Type 0} (f : ℕ → Bool) (i n : ℕ) → ((j : ℕ) → j < i + n → f j ≡ true → P j) → All P (collect f i n)
+unfolding collect
+collect-all f i zero h = nothing
+collect-all {P} f i (suc n) h = go (f i) refl (collect-all f (suc i) n (λ (j : ℕ) (k : j < suc i + n) (e : f j ≡ true). h j (omega arith) e))
+  where
+    go : (z : Bool) → f i ≡ z → All P (collect f (suc i) n) → All P (pick z (i ∷ collect f (suc i) n) (collect f (suc i) n))
+    go true e a = also (h i (omega arith) e) a
+    go false e a = a
+
+-- JOINED
+pick-append : (z : Bool) (i : ℕ) (k l : List ℕ) → pick z (i ∷ (k ++ l)) (k ++ l) ≡ pick z (i ∷ k) k ++ l
+pick-append true i k l = refl
+pick-append false i k l = refl
+
+collect-append : (f : ℕ → Bool) (i a b : ℕ) → collect f i (a + b) ≡ collect f i a ++ collect f (i + a) b
+unfolding collect
+collect-append f i zero b = rw (zero-add, add-zero)
+collect-append f i (suc a) b =
+    rw (suc-add a b, add-suc i a)
+    (ap (λ (l : List ℕ). pick (f i) (i ∷ l) l) (collect-append f (suc i) a b ∙ ap (λ (k : ℕ). collect f (suc i) a ++ collect f k b) (suc-add i a)) ∙
+    pick-append (f i) i (collect f (suc i) a) (collect f (suc (i + a)) b))
+
+collect-none : (f : ℕ → Bool) (i n : ℕ) → ((j : ℕ) → i ≤ j → j < i + n → f j ≡ false) → collect f i n ≡ []
+unfolding collect
+collect-none f i zero h = refl
+collect-none f i (suc n) h =
+    rw (h i (omega arith) (omega arith))
+    (collect-none f (suc i) n (λ (j : ℕ) (a : suc i ≤ j) (b : j < suc i + n). h j (omega arith) (omega arith)))
+
+-- RAISED by c
+pick-map : (h : ℕ → ℕ) (z : Bool) (i : ℕ) (l : List ℕ) → map h (pick z (i ∷ l) l) ≡ pick z (h i ∷ map h l) (map h l)
+pick-map h true i l = refl
+pick-map h false i l = refl
+
+collect-raise : (f g : ℕ → Bool) (h : ℕ → ℕ) (i c n : ℕ) → ((j : ℕ) → i ≤ j → j < i + n → (h j ≡ j + c) × (f j ≡ g (j + c))) →
+    map h (collect f i n) ≡ collect g (i + c) n
+unfolding collect
+collect-raise f g h i c zero k = refl
+collect-raise f g h i c (suc n) k =
+    let a : (h i ≡ i + c) × (f i ≡ g (i + c)) = k i (omega arith) (omega arith) in
+    let r : map h (collect f (suc i) n) ≡ collect g (suc (i + c)) n =
+    collect-raise f g h (suc i) c n (λ (j : ℕ) (p : suc i ≤ j) (q : j < suc i + n). k j (omega arith) (omega arith)) ∙
+    ap (λ (m : ℕ). collect g m n) (suc-add i c) in
+    pick-map h (f i) i (collect f (suc i) n) ∙ rw (a .0, a .1, r)
+
+-- THE TWO LISTS: tests that agree up to the shift, the second passing none of the rows in between
+pub collect-shift : (f g : ℕ → Bool) (n m k : ℕ) → ((j : ℕ) → j < n + k → f j ≡ g (shift n m j)) →
+    ((j : ℕ) → n ≤ j → j < n + m → g j ≡ false) → map (shift n m) (collect f 0 (n + k)) ≡ collect g 0 (n + m + k)
+collect-shift f g n m k same hid =
+    ap (map (shift n m)) (collect-append f 0 n k) ∙ map-append (shift n m) (collect f 0 n) (collect f (0 + n) k) ∙
+    ap₂ (λ (a b : List ℕ). a ++ b) low high ∙ sym (collect-append g 0 (n + m) k ∙ ap₂ (λ (a b : List ℕ). a ++ b) middle last)
+  where
+    low : map (shift n m) (collect f 0 n) ≡ collect g 0 n
+    low =
+        collect-raise f g (shift n m) 0 0 n
+        (λ (j : ℕ) (a : 0 ≤ j) (b : j < 0 + n). (
+          shift-low n m j (omega arith) ∙ sym (add-zero j),
+          same j (omega arith) ∙ ap g (shift-low n m j (omega arith) ∙ sym (add-zero j)),
+        ))
+
+    high : map (shift n m) (collect f (0 + n) k) ≡ collect g (0 + n + m) k
+    high =
+        collect-raise f g (shift n m) (0 + n) m k
+        (λ (j : ℕ) (a : 0 + n ≤ j) (b : j < 0 + n + k).
+        (shift-high n m j (omega arith), same j (omega arith) ∙ ap g (shift-high n m j (omega arith))))
+
+    middle : collect g 0 (n + m) ≡ collect g 0 n
+    middle =
+        collect-append g 0 n m ∙
+        ap (λ (l : List ℕ). collect g 0 n ++ l)
+        (collect-none g (0 + n) m (λ (j : ℕ) (a : 0 + n ≤ j) (b : j < 0 + n + m). hid j (omega arith) (omega arith))) ∙
+        append-nil (collect g 0 n)
+
+    last : collect g (0 + (n + m)) k ≡ collect g (0 + n + m) k
+    last = ap (λ (j : ℕ). collect g j k) (omega arith)

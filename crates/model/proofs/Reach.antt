@@ -1,0 +1,108 @@
+-- Which rows a step down reaches from a value, link by link; carried over from one table to another in which the rows have their like.
+use mathlib.Core.Path.{_≡_, refl, sym, _∙_, ap, ap₂, subst}
+use mathlib.Core.Bool.{Bool, true, false, _&&_, _||_, false≢true, or-false}
+use mathlib.Core.Logic.{_⊎_, inl, inr}
+use mathlib.Core.List.{List, [], _∷_}
+use mathlib.Core.List.{List·Memᴰ as In, List·Memᴰ·head as here, List·Memᴰ·tail as there}
+use mathlib.Core.Option.{Option, none, some}
+use Prim.Native.Nat.{ℕ, zero, suc, _+_, _<_, _≤_}
+use native.Mathlib.Omega.{arith}
+use native.Mathlib.Decide.{ℕ-discrete}
+use lib.Dec.{eqb, leb}
+use borrow.Author.Tests.{leb-false}
+use Rattle.model.specs.Base.{pick, any}
+use Rattle.model.specs.Table.{Row, Table, rowAt, count}
+use Rattle.model.specs.Script.{Step}
+use Rattle.model.specs.Step.{Letter, leafLetter, named, letterOf, admits, parentIs, isBelow, reaches, isReached, stepFrom}
+use Rattle.model.specs.Run.{descendantsFrom}
+use Rattle.model.specs.Paths.{anyBelow, isUp}
+use Rattle.model.proofs.BoolLaws.{and-left, and-right, and-both, or-left, or-right, or-cases}
+use Rattle.model.proofs.Below.{Below, under, further, isThe-true, isThe-some, below-is, is-below}
+
+-- SOME ITEM of a list passes a test
+pub any-in : {A : Type 0} (f : A → Bool) (l : List A) → any f l ≡ true → (a : A) × In a l × (f a ≡ true)
+unfolding any
+any-in f [] e = absurd (false≢true e)
+any-in {A} f (b ∷ l) e = go (or-cases (f b) (any f l) e) (λ (h : any f l ≡ true). any-in f l h)
+  where
+    go : (f b ≡ true) ⊎ (any f l ≡ true) → (any f l ≡ true → (a : A) × In a l × (f a ≡ true)) → (a : A) × In a (b ∷ l) × (f a ≡ true)
+    go (inl h) k = (b, here refl, h)
+    go (inr h) k =
+        let (a, i, g) = k h in
+        (a, there i, g)
+
+pub in-any : {A : Type 0} (f : A → Bool) {l : List A} {a : A} → In a l → f a ≡ true → any f l ≡ true
+unfolding any
+in-any f (here {x = b} {xs = l} e) h = or-left (f b) (any f l) (ap f (sym e) ∙ h)
+in-any f (there {x = b} {xs = l} i) h = or-right (f b) (any f l) (in-any f i h)
+
+-- REACH
+pub data Reach (x : Table) (s : Step) (v : List ℕ) (j : ℕ) : Type 0 where
+  byChild : {i : ℕ} → In i v → s .axis ≡ 0 → rowAt x j .parent ≡ some i → admits s (letterOf (rowAt x j)) ≡ true → Reach x s v j
+  byDeep : {i : ℕ} → In i v → s .axis ≡ 1 → Below x i j → admits s (letterOf (rowAt x j)) ≡ true → Reach x s v j
+
+down-axis : (s : Step) → isUp s ≡ false → (s .axis ≡ 0) ⊎ (s .axis ≡ 1)
+down-axis s e = go (ℕ-discrete (s .axis) 0)
+  where
+    go : Dec (s .axis ≡ 0) → (s .axis ≡ 0) ⊎ (s .axis ≡ 1)
+    go (yes h) = inl h
+    go (no h) = inr (omega (arith, leb-false 2 (s .axis) e))
+
+pub reach-is : (x : Table) (s : Step) (v : List ℕ) (j : ℕ) → isUp s ≡ false → isReached x s v j ≡ true → Reach x s v j
+reach-is x s v j u e = go (any-in (λ (i : ℕ). reaches x (s .axis) i j) v (and-right (admits s (letterOf (rowAt x j))) _ e))
+  where
+    z : admits s (letterOf (rowAt x j)) ≡ true
+    z = and-left (admits s (letterOf (rowAt x j))) (any (λ (i : ℕ). reaches x (s .axis) i j) v) e
+
+    go : (i : ℕ) × In i v × (reaches x (s .axis) i j ≡ true) → Reach x s v j
+    go (i, k, f) = by (down-axis s u)
+      where
+        by : (s .axis ≡ 0) ⊎ (s .axis ≡ 1) → Reach x s v j
+        by (inl a) = byChild k a (isThe-true i (rowAt x j .parent) (subst (λ (n : ℕ). reaches x n i j ≡ true) a f)) z
+        by (inr a) = byDeep k a (below-is x i j (subst (λ (n : ℕ). reaches x n i j ≡ true) a f)) z
+
+pub is-reach : (x : Table) (s : Step) (v : List ℕ) (j : ℕ) → ((i p : ℕ) → rowAt x i .parent ≡ some p → p < i) → Reach x s v j →
+    isReached x s v j ≡ true
+is-reach x s v j l (byChild {i} k a e z) =
+    and-both (admits s (letterOf (rowAt x j))) (any (λ (i : ℕ). reaches x (s .axis) i j) v) z
+    (in-any (λ (i : ℕ). reaches x (s .axis) i j) k
+    (subst (λ (n : ℕ). reaches x n i j ≡ true) (sym a) (isThe-some i (rowAt x j .parent) e)))
+is-reach x s v j l (byDeep {i} k a b z) =
+    and-both (admits s (letterOf (rowAt x j))) (any (λ (i : ℕ). reaches x (s .axis) i j) v) z
+    (in-any (λ (i : ℕ). reaches x (s .axis) i j) k (subst (λ (n : ℕ). reaches x n i j ≡ true) (sym a) (is-below x l i j b)))
+
+-- descendants are what the step 'descendant, any node' reaches
+pub any-admits : (a : Letter) → admits anyBelow a ≡ true
+any-admits leafLetter = refl
+any-admits (named n) = refl
+
+below-reached : (x : Table) (t i : ℕ) → isBelow x t i ≡ isReached x anyBelow (t ∷ []) i
+unfolding any
+below-reached x t i = rw (any-admits (letterOf (rowAt x i))) (sym (or-false (isBelow x t i)))
+
+pub descendants-stepped : (x : Table) (t i n : ℕ) → descendantsFrom x t i n ≡ stepFrom x anyBelow (t ∷ []) i n
+unfolding descendantsFrom stepFrom
+descendants-stepped x t i zero = refl
+descendants-stepped x t i (suc n) =
+    ap₂ (λ (z : Bool) (l : List ℕ). pick z (i ∷ l) l) (below-reached x t i) (descendants-stepped x t (suc i) n)
+
+-- ACROSS: R relates rows of x to their like in y; the parent's like is the like's parent
+module _ (x y : Table) (R : ℕ → ℕ → Type 0) (one : (i j k : ℕ) → R i j → R i k → j ≡ k)
+    (parents : (i j p : ℕ) → R i j → rowAt x i .parent ≡ some p → (q : ℕ) × R p q × (rowAt y j .parent ≡ some q)) where
+  below-across : {t i : ℕ} (u j : ℕ) → Below x t i → R i j → R t u → Below y u j
+  below-across {t} {i} u j (under e) r q =
+      let (k, a, f) = parents i j t r e in
+      under (f ∙ ap some (one t k u a q))
+  below-across {t} {i} u j (further {p = p} e b) r q =
+      let (k, a, f) = parents i j p r e in
+      further f (below-across u k b a q)
+
+  pub reach-across : (s : Step) (v w : List ℕ) (i j : ℕ) → ((t : ℕ) → In t v → (u : ℕ) × In u w × R t u) → R i j →
+      letterOf (rowAt x i) ≡ letterOf (rowAt y j) → Reach x s v i → Reach y s w j
+  reach-across s v w i j h r l (byChild {i = t} k a e z) =
+      let (u, m, q) = h t k in
+      let (p, b, f) = parents i j t r e in
+      byChild m a (f ∙ ap some (one t p u b q)) (subst (λ (a : Letter). admits s a ≡ true) l z)
+  reach-across s v w i j h r l (byDeep {i = t} k a b z) =
+      let (u, m, q) = h t k in
+      byDeep m a (below-across u j b r q) (subst (λ (a : Letter). admits s a ≡ true) l z)

@@ -1,0 +1,162 @@
+-- Cuts in both states of a twin: they stay a twin. And what a script may change, with all below it.
+use mathlib.Core.Path.{_≡_, refl, sym, _∙_, ap, ap₂, subst, subst₂}
+use mathlib.Core.Bool.{Bool, true, false}
+use mathlib.Core.Logic.{_⊎_, inl, inr}
+use mathlib.Core.List.{List, [], _∷_, _++_, map, map-append}
+use mathlib.Core.List.{List·Memᴰ as In}
+use mathlib.Core.Option.{Option, none, some}
+use Prim.Native.Nat.{ℕ, _+_, _<_, _≤_}
+use native.Mathlib.Omega.{arith}
+use native.Mathlib.Decide.{ℕ-discrete}
+use lib.Dec.{ltb}
+use lib.ListN.{length, length-append, length-map}
+use Rattle.model.specs.Base.{pick}
+use Rattle.model.specs.Limits.{maxHistory}
+use Rattle.model.specs.Refusal.{historyAt}
+use Rattle.model.specs.Table.{Row, Table, rowAt, count, linked, withParent}
+use Rattle.model.specs.History.{Record}
+use Rattle.model.specs.Step.{Letter}
+use Rattle.model.specs.Run.{State, Out, stop, gives, cutRecord, cutRow, cutBy, cutAll}
+use Rattle.model.specs.Paths.{Path, _▸_, anyBelow}
+use Rattle.model.proofs.RowLaws.{count-linked, row-linked, row-others, linked-cases, parent-cut}
+use Rattle.model.proofs.Words.{Word, Grown, same, more, grown-trans, On, deep}
+use Rattle.model.proofs.Labels.{Label, grow, labelAt, fit-cut}
+use Rattle.model.proofs.Below.{OnPath}
+use Rattle.model.proofs.Reach.{any-admits}
+use Rattle.model.proofs.All.{All, nothing, also, all-append, all-imp}
+use Rattle.model.proofs.Shift.{shiftParent, shiftRow, shiftRecord, shift-injective}
+use Rattle.model.proofs.Twin.{Side, Script, SideFits, World, Seen, Changed, Item, Kept, Named, Good, φ, ones, Twin, Valued, Vals, Sim, alike}
+use Rattle.model.proofs.TwinLaws.{label-side, label-across, Alike, row-bound, same-length, valued-alike}
+use Rattle.model.proofs.SimLaws.{sim-gives}
+
+-- CHANGED: a row on p is changed with all below it where p and what is below p are modified; rows below it where the latter is
+pub changed-at : (c : Script) (l : Label) (p : Path) → OnPath (c .marks) p l → c .modified p → c .modified (p ▸ anyBelow) → Changed c l
+changed-at c l p o a b w same = (p, a, o)
+changed-at c l p o a b w (more {a = d} g) = (p ▸ anyBelow, b, deep o g refl (any-admits d))
+
+pub changed-below : (c : Script) (l : Label) (a : Letter) (p : Path) → OnPath (c .marks) p l → c .modified (p ▸ anyBelow) → Changed c (grow l a)
+changed-below c l a p o b w same = (p ▸ anyBelow, b, deep o same refl (any-admits a))
+changed-below c l a p o b w (more {a = d} g) = (p ▸ anyBelow, b, deep o (grown-trans (more same) g) refl (any-admits d))
+
+-- an item of a first table's rows that is cut
+abbrev Cuttable : Script → List Path → Type 0
+Cuttable c r = (p : Path) → In p r → c .modified p × c .modified (p ▸ anyBelow)
+
+cut-item : (c : Script) (d : Side) → SideFits c d → (news : List Label) (r : List Path) → Cuttable c r → (i : ℕ) →
+    Item c r (labelAt (d .labels ++ news) i) → i < count (d .plan) →
+    ((p : Path) × c .accessed p × OnPath (c .marks) p (labelAt (d .labels) i)) × Changed c (labelAt (d .labels) i)
+cut-item c d F news r m i (inl o) h =
+    absurd (F .foreign i h (ap (λ (l : Label). l .root) (sym (label-side c d F news i h)) ∙ o))
+cut-item c d F news r m i (inr (p, k, a, o)) h =
+    let q : OnPath (c .marks) p (labelAt (d .labels) i) = subst (λ (l : Label). OnPath (c .marks) p l) (label-side c d F news i h) o in
+    ((p, a, q), changed-at c (labelAt (d .labels) i) p q (m p k .0) (m p k .1))
+
+-- ONE STATE
+good-cut : (c : Script) (d : Side) → SideFits c d → (news : List Label) (s : State) → Good c d news s → (r : List Path) → Cuttable c r →
+    (i p : ℕ) → i < count (s .plan) → Item c r (labelAt (d .labels ++ news) i) → rowAt (s .plan) i .parent ≡ some p → Good c d news (cutRow s i p)
+good-cut c d F news s g r m i p h k e =
+    record {
+      fit = fit-cut (g .fit) i h;
+      marked = g .marked;
+      room = omega (arith, g .room, count-linked (s .plan) i none);
+      closed =
+          λ (j q : ℕ) (f : rowAt (linked (s .plan) i none) j .parent ≡ some q) (b : d .hidden q).
+          g .closed j q (parent-cut (s .plan) i j q h f .0) b;
+      kept = λ (j : ℕ) (b : j < count (d .plan)). kept j b (linked-cases (s .plan) i j none h) (g .kept j b);
+      names =
+          all-append (all-imp wider (g .names))
+          (also (omega (arith, count-linked (s .plan) i none), λ (q : ℕ) (f : some p ≡ some q). lower q f) nothing);
+    }
+  where
+    same-count : count (linked (s .plan) i none) ≡ count (s .plan)
+    same-count = count-linked (s .plan) i none
+
+    wider : (q : Record) → Named c (count (s .plan)) q → Named c (count (linked (s .plan) i none)) q
+    wider q n = subst (λ (k : ℕ). Named c k q) (sym same-count) n
+
+    lower : (q : ℕ) → some p ≡ some q → q < count (linked (s .plan) i none)
+    lower q f = omega (arith, g .fit .links i q (e ∙ f) .0, same-count)
+
+    kept : (j : ℕ) → j < count (d .plan) →
+        (rowAt (linked (s .plan) i none) j ≡ rowAt (s .plan) j) ⊎ ((j ≡ i) × (rowAt (linked (s .plan) i none) j ≡ withParent (rowAt (s .plan) j) none)) →
+        Kept c (labelAt (d .labels) j) (rowAt (d .plan) j) (rowAt (s .plan) j) →
+        Kept c (labelAt (d .labels) j) (rowAt (d .plan) j) (rowAt (linked (s .plan) i none) j)
+    kept j b (inl q) n = subst (Kept c (labelAt (d .labels) j) (rowAt (d .plan) j)) (sym q) n
+    kept j b (inr (q, f)) (inl n) =
+        let (o, v) = cut-item c d F news r m j (subst (λ (i : ℕ). Item c r (labelAt (d .labels ++ news) i)) (sym q) k) b in
+        inr (f ∙ ap (λ (r : Row). withParent r none) n, o, v)
+    kept j b (inr (q, f)) (inr (n, o, v)) = inr (f ∙ ap (λ (r : Row). withParent r none) n, o, v)
+
+-- BOTH STATES
+module _ (W : World) (news : List Label) (r : List Path) (m : Cuttable (W .script) r) where
+  twin-cut : (s t : State) → Twin W news s t → (i p : ℕ) → Valued W r news i → rowAt (s .plan) i .parent ≡ some p →
+      Twin W news (cutRow s i p) (cutRow t (φ W i) (φ W p))
+  twin-cut s t T i p k e =
+      record {
+        one = good-cut (W .script) (W .one) (W .oneFits) news s (T .one) r m i p (a .0) (k .1) e;
+        two =
+            good-cut (W .script) (W .two) (W .twoFits) news t (T .two) r m (φ W i) (φ W p) bound
+            (subst (λ (l : Label). Item (W .script) r l) (sym (label-across W news i (a .1))) (k .1))
+            (ap (λ (r : Row). r .parent) (T .alike i (a .0) (a .1)) ∙ ap (shiftParent (W .n) (W .m)) e);
+        touched = T .touched;
+        alike =
+            λ (j : ℕ) (h : j < count (linked (s .plan) i none)) (c : W .one .hidden j → ⊥).
+            cut-alike j (omega (arith, count-linked (s .plan) i none)) c (ℕ-discrete j i);
+        histories =
+            ap (λ (h : List Record). h ++ (cutRecord (φ W i) (φ W p) ∷ [])) (T .histories) ∙
+            sym (map-append (shiftRecord (W .n) (W .m)) (s .history) (cutRecord i p ∷ []));
+      }
+    where
+      a : Alike W s i (φ W i)
+      a = valued-alike W news s t T r i k
+
+      bound : φ W i < count (t .plan)
+      bound = row-bound W news s t T i (a .0)
+
+      cut-alike : (j : ℕ) → j < count (s .plan) → (W .one .hidden j → ⊥) → Dec (j ≡ i) →
+          rowAt (linked (t .plan) (φ W i) none) (φ W j) ≡ shiftRow (W .n) (W .m) (rowAt (linked (s .plan) i none) j)
+      cut-alike j h c (yes q) =
+          subst
+          (λ (j : ℕ). rowAt (linked (t .plan) (φ W i) none) (φ W j) ≡ shiftRow (W .n) (W .m) (rowAt (linked (s .plan) i none) j)) (sym q)
+          (row-linked (t .plan) (φ W i) none bound ∙ ap (λ (r : Row). withParent r none) (T .alike i (a .0) (a .1)) ∙
+          sym (ap (shiftRow (W .n) (W .m)) (row-linked (s .plan) i none (a .0))))
+      cut-alike j h c (no q) =
+          row-others (t .plan) (φ W i) (φ W j) none (λ (e : φ W j ≡ φ W i). q (shift-injective (W .n) (W .m) j i e)) ∙ T .alike j h c ∙
+          ap (shiftRow (W .n) (W .m)) (sym (row-others (s .plan) i j none q))
+
+  -- THE OUTCOME of cutting a value's rows
+  pub cut-sim : (z : ℕ) (v : List ℕ) (s t : State) → Twin W news s t → Vals W r news v →
+      Sim W [] news (cutAll z v s) (cutAll z (map (φ W) v) t)
+  unfolding cutAll
+  cut-sim z [] s t T nothing = sim-gives W [] news [] s t T nothing
+  cut-sim z (i ∷ is) s t T (also k a) =
+      go (rowAt (s .plan) i .parent) refl (λ (u q : State) (U : Twin W news u q). cut-sim z is u q U a)
+    where
+      A : Alike W s i (φ W i)
+      A = valued-alike W news s t T r i k
+
+      go : (o : Option ℕ) → rowAt (s .plan) i .parent ≡ o →
+          ((u q : State) → Twin W news u q → Sim W [] news (cutAll z is u) (cutAll z (map (φ W) is) q)) →
+          Sim W [] news (cutBy z i s (rowAt (s .plan) i .parent) (λ (t : State). cutAll z is t))
+          (cutBy z (φ W i) t (rowAt (t .plan) (φ W i) .parent) (λ (t : State). cutAll z (map (φ W) is) t))
+      go none e h =
+          subst₂
+          (λ (o p : Option ℕ).
+          Sim W [] news (cutBy z i s o (λ (t : State). cutAll z is t)) (cutBy z (φ W i) t p (λ (t : State). cutAll z (map (φ W) is) t)))
+          (sym e) (sym (ap (λ (r : Row). r .parent) (T .alike i (A .0) (A .1)) ∙ ap (shiftParent (W .n) (W .m)) e)) (h s t T)
+      go (some p) e h =
+          subst₂
+          (λ (o p : Option ℕ).
+          Sim W [] news (cutBy z i s o (λ (t : State). cutAll z is t)) (cutBy z (φ W i) t p (λ (t : State). cutAll z (map (φ W) is) t)))
+          (sym e) (sym (ap (λ (r : Row). r .parent) (T .alike i (A .0) (A .1)) ∙ ap (shiftParent (W .n) (W .m)) e))
+          (subst
+          (λ (k : ℕ).
+          Sim W [] news (pick (ltb (length (s .history)) maxHistory) (cutAll z is (cutRow s i p)) (stop (historyAt z)))
+          (pick (ltb k maxHistory) (cutAll z (map (φ W) is) (cutRow t (φ W i) (φ W p))) (stop (historyAt z))))
+          (sym (same-length W news s t T)) (by (ltb (length (s .history)) maxHistory)))
+        where
+          by : (b : Bool) →
+              Sim W [] news (pick b (cutAll z is (cutRow s i p)) (stop (historyAt z)))
+              (pick b (cutAll z (map (φ W) is) (cutRow t (φ W i) (φ W p))) (stop (historyAt z)))
+          by true = h (cutRow s i p) (cutRow t (φ W i) (φ W p)) (twin-cut s t T i p k e)
+          by false = alike

@@ -1,0 +1,207 @@
+-- A row more in both states of a twin: they stay a twin, or there is no room, or no room for the second alone.
+use mathlib.Core.Path.{_≡_, refl, sym, _∙_, ap, ap₂, subst, subst₂}
+use mathlib.Core.Bool.{Bool, true, false}
+use mathlib.Core.Logic.{_⊎_, inl, inr}
+use mathlib.Core.List.{List, [], _∷_, _++_, map, append-assoc, map-append}
+use mathlib.Core.Option.{Option, none, some, Option·none-ne-some, Option·some-injective}
+use Prim.Native.Nat.{ℕ, _+_, _-_, _<_, _≤_}
+use native.Mathlib.Omega.{arith}
+use lib.Dec.{ltb}
+use lib.ListN.{length, length-append, length-map}
+use borrow.Author.Tests.{ltb-true, ltb-false, lt-ltb, le-ltb}
+use Rattle.model.specs.Base.{pick}
+use Rattle.model.specs.Limits.{maxRows, maxHistory}
+use Rattle.model.specs.Refusal.{Fault, isFine, orElse, unless, tableAt, historyAt}
+use Rattle.model.specs.Table.{Row, Table, rowAt, count, withRow}
+use Rattle.model.specs.History.{Record}
+use Rattle.model.specs.Step.{letterOf}
+use Rattle.model.specs.Run.{State, Out, stop, gives, made, withMade, roomFault, newRow}
+use Rattle.model.specs.Paths.{Path}
+use Rattle.model.proofs.BoolLaws.{bool-cases, pick-true, pick-false}
+use Rattle.model.proofs.RowLaws.{parent-row, count-with, row-new, row-old, row-cases}
+use Rattle.model.proofs.Labels.{Label, grow, labelAt, Fit, NewFit, fit-row}
+use Rattle.model.proofs.All.{All, nothing, also, all-append, all-imp}
+use Rattle.model.proofs.Grows.{Grows}
+use Rattle.model.proofs.Shift.{shift, shiftParent, shiftRow, shiftRecord, shift-high, shift-cases}
+use Rattle.model.proofs.Twin.{Side, Script, SideFits, World, Touched, Kept, Named, Good, φ, ones, twos, Twin, Full, stopped, Sim, alike, full}
+use Rattle.model.proofs.TwinLaws.{label-across, Alike, one-count, two-count, count-across, row-bound, same-length, clear-two, alike-row}
+use Rattle.model.proofs.SimLaws.{full-grows}
+
+-- ONE STATE
+good-row : (c : Script) (d : Side) → SideFits c d → (news : List Label) (s : State) → Good c d news s → (r : Row) (l : Label) →
+    NewFit (d .labels ++ news) (s .plan) r l → ((p : ℕ) → r .parent ≡ some p → d .hidden p → ⊥) → count (s .plan) < maxRows →
+    Good c d (news ++ (l ∷ [])) (withMade s r)
+good-row c d F news s g r l n clear h =
+    record {
+      fit = subst (λ (ls : List Label). Fit ls (withRow (s .plan) r)) (append-assoc (d .labels) news (l ∷ [])) (fit-row (g .fit) r l n);
+      marked = g .marked;
+      room = omega (arith, count-with (s .plan) r);
+      closed =
+          λ (i p : ℕ) (e : rowAt (withRow (s .plan) r) i .parent ≡ some p) (k : d .hidden p).
+          closed i p e k (row-cases (s .plan) r i (parent-row (withRow (s .plan) r) i p e));
+      kept =
+          λ (i : ℕ) (k : i < count (d .plan)).
+          subst (Kept c (labelAt (d .labels) i) (rowAt (d .plan) i)) (sym (row-old (s .plan) r i (old i k))) (g .kept i k);
+      names =
+          all-append (all-imp wider (g .names))
+          (also (omega (arith, count-with (s .plan) r), λ (p : ℕ) (e : r .parent ≡ some p). omega (arith, n .link p e .0, count-with (s .plan) r)) nothing);
+    }
+  where
+    closed : (i p : ℕ) → rowAt (withRow (s .plan) r) i .parent ≡ some p → d .hidden p → (i < count (s .plan)) ⊎ (i ≡ count (s .plan)) →
+        d .hidden i
+    closed i p e k (inl b) = g .closed i p (ap (λ (r : Row). r .parent) (sym (row-old (s .plan) r i b)) ∙ e) k
+    closed i p e k (inr b) =
+        absurd (clear p (sym (ap (λ (j : ℕ). rowAt (withRow (s .plan) r) j .parent) b ∙ ap (λ (r : Row). r .parent) (row-new (s .plan) r)) ∙ e) k)
+
+    old : (i : ℕ) → i < count (d .plan) → i < count (s .plan)
+    old i k = omega (arith, g .fit .size, length-append (d .labels) news, F .fit .size)
+
+    wider : (q : Record) → Named c (count (s .plan)) q → Named c (count (withRow (s .plan) r)) q
+    wider q k =
+        (omega (arith, k .0, count-with (s .plan) r), λ (p : ℕ) (e : q .parent ≡ some p). omega (arith, k .1 p e, count-with (s .plan) r))
+
+-- BOTH STATES
+module _ (W : World) (news : List Label) (s t : State) (T : Twin W news s t) where
+  -- the parent of a shifted row is a shifted parent
+  parent-shift : (q : Option ℕ) (j : ℕ) → shiftParent (W .n) (W .m) q ≡ some j → (p : ℕ) × (q ≡ some p) × (φ W p ≡ j)
+  parent-shift none j e = absurd (Option·none-ne-some j e)
+  parent-shift (some p) j e = (p, refl, Option·some-injective (φ W p) j e)
+
+  module _ (r : Row) (l : Label) (n : NewFit (ones W news) (s .plan) r l) (clear : (p : ℕ) → r .parent ≡ some p → W .one .hidden p → ⊥) where
+    parent-like : (j : ℕ) → shiftParent (W .n) (W .m) (r .parent) ≡ some j → (p : ℕ) × (r .parent ≡ some p) × Alike W s p j
+    parent-like j e =
+        let (p, f, q) = parent-shift (r .parent) j e in
+        (p, f, (n .link p f .0, clear p f, q))
+
+    two-fit : NewFit (twos W news) (t .plan) (shiftRow (W .n) (W .m) r) l
+    two-fit = record { link = link; word = n .word }
+      where
+        link : (j : ℕ) → shiftParent (W .n) (W .m) (r .parent) ≡ some j →
+            (j < count (t .plan)) × (rowAt (t .plan) j .isLeaf ≡ false) × (l ≡ grow (labelAt (twos W news) j) (letterOf r))
+        link j e =
+            let (p, f, a) = parent-like j e in
+            let b : φ W p < count (t .plan) = row-bound W news s t T p (a .0) in
+            let k : (p < count (s .plan)) × (rowAt (s .plan) p .isLeaf ≡ false) × (l ≡ grow (labelAt (ones W news) p) (letterOf r)) = n .link p f in (
+              subst (λ (i : ℕ). i < count (t .plan)) (a .2) b,
+              ap (λ (r : Row). r .isLeaf) (alike-row W news s t T p j a) ∙ k .1,
+              k .2 ∙
+                  ap (λ (m : Label). grow m (letterOf r)) (sym (label-across W news p (a .1)) ∙ ap (λ (i : ℕ). labelAt (twos W news) i) (a .2)),
+            )
+
+    two-clear : (j : ℕ) → shiftParent (W .n) (W .m) (r .parent) ≡ some j → W .two .hidden j → ⊥
+    two-clear j e =
+        let (p, f, a) = parent-like j e in
+        clear-two W news s t T p j a
+
+    new-alike : (i : ℕ) → (W .one .hidden i → ⊥) → (i < count (s .plan)) ⊎ (i ≡ count (s .plan)) →
+        rowAt (withRow (t .plan) (shiftRow (W .n) (W .m) r)) (φ W i) ≡ shiftRow (W .n) (W .m) (rowAt (withRow (s .plan) r) i)
+    new-alike i c (inl h) =
+        row-old (t .plan) (shiftRow (W .n) (W .m) r) (φ W i) (row-bound W news s t T i h) ∙ T .alike i h c ∙
+        ap (shiftRow (W .n) (W .m)) (sym (row-old (s .plan) r i h))
+    new-alike i c (inr h) =
+        ap (rowAt (withRow (t .plan) (shiftRow (W .n) (W .m) r))) (ap (φ W) h ∙ count-across W news s t T) ∙
+        row-new (t .plan) (shiftRow (W .n) (W .m) r) ∙
+        ap (shiftRow (W .n) (W .m)) (sym (ap (rowAt (withRow (s .plan) r)) h ∙ row-new (s .plan) r))
+
+    twin-row : Touched (W .script) l → count (s .plan) < maxRows → count (t .plan) < maxRows →
+        Twin W (news ++ (l ∷ [])) (withMade s r) (withMade t (shiftRow (W .n) (W .m) r))
+    twin-row k a b =
+        record {
+          one = good-row (W .script) (W .one) (W .oneFits) news s (T .one) r l n clear a;
+          two = good-row (W .script) (W .two) (W .twoFits) news t (T .two) (shiftRow (W .n) (W .m) r) l two-fit two-clear b;
+          touched = all-append (T .touched) (also k nothing);
+          alike = λ (i : ℕ) (h : i < count (withRow (s .plan) r)) (c : W .one .hidden i → ⊥). new-alike i c (row-cases (s .plan) r i h);
+          histories =
+              ap₂ (λ (h : List Record) (i : ℕ). h ++ (made (shiftRow (W .n) (W .m) r) i ∷ [])) (T .histories) (sym (count-across W news s t T)) ∙
+              sym (map-append (shiftRecord (W .n) (W .m)) (s .history) (made r (count (s .plan)) ∷ []));
+        }
+
+  -- ROOM: for both; for neither, with the same refusal; or for the first and not for m rows more
+  pub data Room (z : ℕ) : Type 0 where
+    roomy : isFine (roomFault z s) ≡ true → isFine (roomFault z t) ≡ true → count (s .plan) < maxRows → count (t .plan) < maxRows → Room z
+    filled : isFine (roomFault z s) ≡ false → isFine (roomFault z t) ≡ false → roomFault z s ≡ roomFault z t → Room z
+    tight : isFine (roomFault z t) ≡ false → 0 < W .m → maxRows ≤ count (s .plan) + W .m → Room z
+
+  abbrev faultBy : (place : ℕ) → (rows history : Bool) → Fault
+  faultBy z a b = orElse (unless a (tableAt z)) (unless b (historyAt z))
+
+  room-cases : (z : ℕ) → Room z
+  room-cases z =
+      go (ltb (count (s .plan)) maxRows) (ltb (count (t .plan)) maxRows) (ltb (length (s .history)) maxHistory) refl refl refl
+      (ap (λ (k : ℕ). ltb k maxHistory) (same-length W news s t T))
+    where
+      go : (a b h : Bool) → ltb (count (s .plan)) maxRows ≡ a → ltb (count (t .plan)) maxRows ≡ b → ltb (length (s .history)) maxHistory ≡ h →
+          ltb (length (t .history)) maxHistory ≡ ltb (length (s .history)) maxHistory → Room z
+      go true true true e f g k =
+          roomy (ap₂ (λ (a h : Bool). isFine (faultBy z a h)) e g) (ap₂ (λ (a h : Bool). isFine (faultBy z a h)) f (k ∙ g))
+          (ltb-true (count (s .plan)) maxRows e) (ltb-true (count (t .plan)) maxRows f)
+      go true true false e f g k =
+          filled (ap₂ (λ (a h : Bool). isFine (faultBy z a h)) e g) (ap₂ (λ (a h : Bool). isFine (faultBy z a h)) f (k ∙ g))
+          (ap₂ (faultBy z) (e ∙ sym f) (sym k))
+      go false false h e f g k =
+          filled (ap₂ (λ (a h : Bool). isFine (faultBy z a h)) e g) (ap₂ (λ (a h : Bool). isFine (faultBy z a h)) f (k ∙ g))
+          (ap₂ (faultBy z) (e ∙ sym f) (sym k))
+      go true false h e f g k =
+          tight (ap₂ (λ (a h : Bool). isFine (faultBy z a h)) f (k ∙ g))
+          (omega (
+            arith,
+            ltb-true (count (s .plan)) maxRows e,
+            ltb-false (count (t .plan)) maxRows f,
+            one-count W news s t T,
+            two-count W news s t T,
+          ))
+          (omega (arith, ltb-false (count (t .plan)) maxRows f, one-count W news s t T, two-count W news s t T))
+      go false true h e f g k =
+          absurd (omega (
+            arith,
+            ltb-false (count (s .plan)) maxRows e,
+            ltb-true (count (t .plan)) maxRows f,
+            one-count W news s t T,
+            two-count W news s t T,
+          ))
+
+  -- THE OUTCOME of a row more, and of what is done next; f and f′ hand a refusal on
+  module _ (q : List Path) (z : ℕ) (r : Row) (l : Label) (n : NewFit (ones W news) (s .plan) r l)
+      (clear : (p : ℕ) → r .parent ≡ some p → W .one .hidden p → ⊥) (k : Touched (W .script) l) (f f′ : Out → Out)
+      (hands : (x : Fault) → f (stop x) ≡ stop x) (hands′ : (x : Fault) → f′ (stop x) ≡ stop x) where
+    pub new-sim :
+        (Twin W (news ++ (l ∷ [])) (withMade s r) (withMade t (shiftRow (W .n) (W .m) r)) →
+        Sim W q news (f (gives (count (s .plan) ∷ []) (withMade s r)))
+        (f′ (gives (count (t .plan) ∷ []) (withMade t (shiftRow (W .n) (W .m) r))))) →
+        Grows (count (withMade s r .plan)) (f (gives (count (s .plan) ∷ []) (withMade s r))) →
+        Sim W q news (f (newRow z r s)) (f′ (newRow z (shiftRow (W .n) (W .m) r) t))
+    new-sim next g = go (room-cases z)
+      where
+        fine : isFine (roomFault z s) ≡ true → newRow z r s ≡ gives (count (s .plan) ∷ []) (withMade s r)
+        fine e = pick-true (isFine (roomFault z s)) (gives (count (s .plan) ∷ []) (withMade s r)) (stop (roomFault z s)) e
+
+        fine′ : isFine (roomFault z t) ≡ true →
+            newRow z (shiftRow (W .n) (W .m) r) t ≡ gives (count (t .plan) ∷ []) (withMade t (shiftRow (W .n) (W .m) r))
+        fine′ e =
+            pick-true (isFine (roomFault z t)) (gives (count (t .plan) ∷ []) (withMade t (shiftRow (W .n) (W .m) r))) (stop (roomFault z t)) e
+
+        refused : isFine (roomFault z s) ≡ false → f (newRow z r s) ≡ stop (roomFault z s)
+        refused e =
+            ap f (pick-false (isFine (roomFault z s)) (gives (count (s .plan) ∷ []) (withMade s r)) (stop (roomFault z s)) e) ∙
+            hands (roomFault z s)
+
+        refused′ : isFine (roomFault z t) ≡ false → f′ (newRow z (shiftRow (W .n) (W .m) r) t) ≡ stop (roomFault z t)
+        refused′ e =
+            ap f′
+            (pick-false (isFine (roomFault z t)) (gives (count (t .plan) ∷ []) (withMade t (shiftRow (W .n) (W .m) r))) (stop (roomFault z t)) e) ∙
+            hands′ (roomFault z t)
+
+        fills : maxRows ≤ count (s .plan) + W .m → (isFine (roomFault z s) ≡ true) ⊎ (isFine (roomFault z s) ≡ false) →
+            Full W (f (newRow z r s))
+        fills b (inl e) =
+            subst (Full W) (ap f (sym (fine e)))
+            (full-grows W (count (withMade s r .plan)) (f (gives (count (s .plan) ∷ []) (withMade s r)))
+            (omega (arith, count-with (s .plan) r)) g)
+        fills b (inr e) = subst (Full W) (sym (refused e)) stopped
+
+        go : Room z → Sim W q news (f (newRow z r s)) (f′ (newRow z (shiftRow (W .n) (W .m) r) t))
+        go (roomy a b c d) =
+            subst₂ (Sim W q news) (ap f (sym (fine a))) (ap f′ (sym (fine′ b))) (next (twin-row r l n clear k c d))
+        go (filled a b e) = subst₂ (Sim W q news) (sym (refused a)) (sym (refused′ b ∙ ap stop (sym e))) alike
+        go (tight a b c) =
+            subst (Sim W q news (f (newRow z r s))) (sym (refused′ a)) (full b (fills c (bool-cases (isFine (roomFault z s)))))

@@ -1,0 +1,81 @@
+-- Words: the letters from a root down to a node. When a word is grown from another, and when a word is on a path.
+use mathlib.Core.Path.{_≡_, refl}
+use mathlib.Core.Bool.{Bool, true, false, false≢true}
+use mathlib.Core.Logic.{_⊎_, inl, inr}
+use mathlib.Core.List.{List, [], _∷_}
+use mathlib.Core.Option.{Option, none, some}
+use Prim.Native.Nat.{ℕ}
+use lib.ListN.{getD}
+use Rattle.model.specs.Script.{Step}
+use Rattle.model.specs.Step.{Letter, leafLetter, named, admits}
+use Rattle.model.specs.Paths.{Place, Path, start, _▸_}
+
+-- A word has the node's own letter first, then its parent's, up to and without the root's
+abbrev pub Word : Type 0
+Word = List Letter
+
+-- where a word starts: a row of the first table, or a row that a script made
+pub data Root : Type 0 where
+  first : (row : ℕ) → Root
+  made : (owner : ℕ) → Root
+
+-- GROWN: a word, or more letters below it
+pub data Grown (u : Word) : Word → Type 0 where
+  same : Grown u u
+  more : {a : Letter} {w : Word} → Grown u w → Grown u (a ∷ w)
+
+pub grown-trans : {u v w : Word} → Grown u v → Grown v w → Grown u w
+grown-trans g same = g
+grown-trans g (more h) = more (grown-trans g h)
+
+-- of two words from which a third is grown, one is grown from the other
+pub grown-compare : {u v w : Word} → Grown u w → Grown v w → Grown u v ⊎ Grown v u
+grown-compare same h = inr h
+grown-compare (more g) same = inl (more g)
+grown-compare (more g) (more h) = grown-compare g h
+
+-- ELEMENTS: every letter of a word but the node's own is an element's
+abbrev pub isLeafLetter : Letter → Bool
+isLeafLetter leafLetter = true
+isLeafLetter (named n) = false
+
+abbrev pub endsInLeaf : Word → Bool
+endsInLeaf [] = false
+endsInLeaf (a ∷ w) = isLeafLetter a
+
+unfoldable pub areElements : Word → Bool
+areElements [] = true
+areElements (leafLetter ∷ w) = false
+areElements (named n ∷ w) = areElements w
+
+abbrev pub isProper : Word → Bool
+isProper [] = true
+isProper (a ∷ w) = areElements w
+
+pub elements-end : (w : Word) → areElements w ≡ true → endsInLeaf w ≡ false
+unfolding areElements
+elements-end [] e = refl
+elements-end (leafLetter ∷ w) e = absurd (false≢true e)
+elements-end (named n ∷ w) e = refl
+
+pub elements-tail : (a : Letter) (w : Word) → areElements (a ∷ w) ≡ true → areElements w ≡ true
+unfolding areElements
+elements-tail leafLetter w e = absurd (false≢true e)
+elements-tail (named n) w e = e
+
+pub elements-proper : (w : Word) → areElements w ≡ true → isProper w ≡ true
+elements-proper [] e = refl
+elements-proper (a ∷ w) e = elements-tail a w e
+
+pub elements-grown : {u w : Word} → Grown u w → areElements w ≡ true → areElements u ≡ true
+elements-grown same e = e
+elements-grown (more {a} {w} g) e = elements-grown g (elements-tail a w e)
+
+-- ON A PATH: a document's place holds its root; a child step adds one letter that passes its test; a descendant step adds one or more,
+-- of which the last passes
+pub data On (marks : List (Option ℕ)) : Path → Root → Word → Type 0 where
+  at : {p : Place} {i : ℕ} → p .owner ≡ 0 → getD marks (p .number) none ≡ some i → On marks (start p) (first i) []
+  child : {p : Path} {s : Step} {r : Root} {a : Letter} {w : Word} → On marks p r w → s .axis ≡ 0 → admits s a ≡ true →
+      On marks (p ▸ s) r (a ∷ w)
+  deep : {p : Path} {s : Step} {r : Root} {a : Letter} {u w : Word} → On marks p r u → Grown u w → s .axis ≡ 1 → admits s a ≡ true →
+      On marks (p ▸ s) r (a ∷ w)

@@ -1,0 +1,344 @@
+-- Cells are sound: a word on two paths, or on one and below a word on the other, turns their cell on. So paths that do not meet share no word.
+use mathlib.Core.Path.{_≡_, refl, sym, _∙_, subst}
+use mathlib.Core.Bool.{Bool, true, false, _&&_, _||_, not, false≢true}
+use mathlib.Core.Logic.{_⊎_, inl, inr}
+use mathlib.Core.List.{List, [], _∷_}
+use mathlib.Core.Option.{Option, none, some}
+use Prim.Native.Nat.{ℕ}
+use lib.Dec.{eqb}
+use lib.ListN.{getD}
+use borrow.Author.Tests.{eqb-true, eq-eqb, not-true}
+use Rattle.model.specs.Base.{pick}
+use Rattle.model.specs.Script.{Step}
+use Rattle.model.specs.Step.{Letter, leafLetter, named, admits}
+use Rattle.model.specs.Paths.{Place, Path, start, _▸_}
+use Rattle.model.specs.Meeting.{admitsElement, admitsLeaf, isNamed, shareElement, shareLeaf, isDeep, Cell, joinCell, samePlace, isParent, onStep, downStep, upStep, startCells, stepCells, cell, isMet, meets}
+use Rattle.model.proofs.BoolLaws.{and-left, and-right, and-both, or-left, or-right, or-cases, bool-cases, true-false}
+use Rattle.model.proofs.Words.{Word, Root, Grown, same, more, grown-compare, isLeafLetter, endsInLeaf, areElements, isProper, elements-end, elements-proper, elements-grown, On, at, child, deep}
+
+-- what a cell says of a word
+abbrev pub onAt : Cell → Word → Bool
+onAt c w = pick (endsInLeaf w) (c .onLeaf) (c .onElement)
+
+abbrev pub downAt : Cell → Word → Bool
+downAt c w = pick (endsInLeaf w) (c .downLeaf) (c .downElement)
+
+abbrev pub upAt : Cell → Word → Bool
+upAt c w = pick (endsInLeaf w) (c .upLeaf) (c .upElement)
+
+-- TESTS: what follows when a step's test lets a letter through
+test-element : (any element leaf name : Bool) → (leaf ≡ true → (any || element) ≡ true → ⊥) →
+    (any || element || (not leaf && name)) ≡ true → not leaf ≡ true
+test-element a b false d h e = refl
+test-element true b true d h e = absurd (h refl refl)
+test-element false true true d h e = absurd (h refl refl)
+test-element false false true d h e = e
+
+test-name : (any element leaf name : Bool) → (any || element || (not leaf && name)) ≡ true → (not any && not element && not leaf) ≡ true →
+    name ≡ true
+test-name true b c d e f = absurd (false≢true f)
+test-name false true c d e f = absurd (false≢true f)
+test-name false false true d e f = absurd (false≢true f)
+test-name false false false d e f = e
+
+admits-element : (s : Step) (n : ℕ) → admits s (named n) ≡ true → admitsElement s ≡ true
+admits-element s n e = test-element (eqb (s .test) 0) (eqb (s .test) 1) (eqb (s .test) 2) (eqb n (s .name)) low e
+  where
+    low : eqb (s .test) 2 ≡ true → (eqb (s .test) 0 || eqb (s .test) 1) ≡ true → ⊥
+    low f g = false≢true (subst (λ (k : ℕ). (eqb k 0 || eqb k 1) ≡ true) (eqb-true (s .test) 2 f) g)
+
+admits-name : (s : Step) (n : ℕ) → admits s (named n) ≡ true → isNamed s ≡ true → n ≡ s .name
+admits-name s n e f =
+    eqb-true n (s .name) (test-name (eqb (s .test) 0) (eqb (s .test) 1) (eqb (s .test) 2) (eqb n (s .name)) e f)
+
+admits-kind : (s : Step) (a : Letter) → admits s a ≡ true → pick (isLeafLetter a) (admitsLeaf s) (admitsElement s) ≡ true
+admits-kind s leafLetter e = e
+admits-kind s (named n) e = admits-element s n e
+
+share-name : (s t : Step) (n : ℕ) → admits s (named n) ≡ true → admits t (named n) ≡ true →
+    (not (isNamed s && isNamed t) || eqb (s .name) (t .name)) ≡ true
+share-name s t n e f = go (isNamed s && isNamed t) refl
+  where
+    go : (z : Bool) → (isNamed s && isNamed t) ≡ z → (not z || eqb (s .name) (t .name)) ≡ true
+    go false g = refl
+    go true g =
+        eq-eqb (s .name) (t .name)
+        (sym (admits-name s n e (and-left (isNamed s) (isNamed t) g)) ∙ admits-name t n f (and-right (isNamed s) (isNamed t) g))
+
+share-kind : (s t : Step) (a : Letter) → admits s a ≡ true → admits t a ≡ true →
+    pick (isLeafLetter a) (shareLeaf s t) (shareElement s t) ≡ true
+share-kind s t leafLetter e f = and-both (admitsLeaf s) (admitsLeaf t) e f
+share-kind s t (named n) e f =
+    and-both (admitsElement s && admitsElement t) (not (isNamed s && isNamed t) || eqb (s .name) (t .name))
+    (and-both (admitsElement s) (admitsElement t) (admits-element s n e) (admits-element t n f)) (share-name s t n e f)
+
+-- STEPS: what one step makes of a cell, for a letter that passes
+pick-and : (z e l p : Bool) → p ≡ true → pick z l e ≡ true → pick z (p && l) (p && e) ≡ true
+pick-and true e l p f g = and-both p l f g
+pick-and false e l p f g = and-both p e f g
+
+pick-and-left : (z e l p : Bool) → p ≡ true → pick z l e ≡ true → pick z (l && p) (e && p) ≡ true
+pick-and-left true e l p f g = and-both l p g f
+pick-and-left false e l p f g = and-both e p g f
+
+step-on : (s t : Step) (a : Letter) (w : Word) (c : Cell) → isParent s t c ≡ true → admits s a ≡ true → admits t a ≡ true →
+    onAt (onStep s t c) (a ∷ w) ≡ true
+step-on s t a w c h e f =
+    pick-and (isLeafLetter a) (shareElement s t) (shareLeaf s t) (isParent s t c) h (share-kind s t a e f)
+
+step-down : (s : Step) (a : Letter) (w : Word) (c : Cell) → (c .downElement || (isDeep s && c .upElement)) ≡ true → admits s a ≡ true →
+    downAt (downStep s c) (a ∷ w) ≡ true
+step-down s a w c h e =
+    pick-and-left (isLeafLetter a) (admitsElement s) (admitsLeaf s) (c .downElement || (isDeep s && c .upElement)) h (admits-kind s a e)
+
+step-up : (t : Step) (a : Letter) (w : Word) (c : Cell) → (c .upElement || (isDeep t && c .downElement)) ≡ true → admits t a ≡ true →
+    upAt (upStep t c) (a ∷ w) ≡ true
+step-up t a w c h e =
+    pick-and-left (isLeafLetter a) (admitsElement t) (admitsLeaf t) (c .upElement || (isDeep t && c .downElement)) h (admits-kind t a e)
+
+-- JOINS
+pick-or-left : (z e l e′ l′ : Bool) → pick z l e ≡ true → pick z (l || l′) (e || e′) ≡ true
+pick-or-left true e l e′ l′ h = or-left l l′ h
+pick-or-left false e l e′ l′ h = or-left e e′ h
+
+pick-or-right : (z e l e′ l′ : Bool) → pick z l′ e′ ≡ true → pick z (l || l′) (e || e′) ≡ true
+pick-or-right true e l e′ l′ h = or-right l l′ h
+pick-or-right false e l e′ l′ h = or-right e e′ h
+
+module _ (marks : List (Option ℕ)) (once : (d e i : ℕ) → getD marks d none ≡ some i → getD marks e none ≡ some i → d ≡ e) where
+  -- SOUND: what words on p and on q from the same root make of the cell of p and q
+  pub record Sound (p q : Path) : Type 0 where
+    pub on : (r : Root) (w : Word) → On marks p r w → On marks q r w → isProper w ≡ true → onAt (cell p q) w ≡ true
+    pub down : (r : Root) (w u : Word) → On marks p r w → On marks q r u → Grown u w → isProper w ≡ true → downAt (cell p q) w ≡ true
+    pub up : (r : Root) (w u : Word) → On marks q r w → On marks p r u → Grown u w → isProper w ≡ true → upAt (cell p q) w ≡ true
+
+  -- a word of elements is one for the element's part of a cell
+  down-element : {p q : Path} → Sound p q → (r : Root) (w u : Word) → On marks p r w → On marks q r u → Grown u w → areElements w ≡ true →
+      cell p q .downElement ≡ true
+  down-element {p} {q} k r w u f g h e = rw (elements-end w e) at (k .down r w u f g h (elements-proper w e))
+
+  up-element : {p q : Path} → Sound p q → (r : Root) (w u : Word) → On marks q r w → On marks p r u → Grown u w → areElements w ≡ true →
+      cell p q .upElement ≡ true
+  up-element {p} {q} k r w u f g h e = rw (elements-end w e) at (k .up r w u f g h (elements-proper w e))
+
+  on-element : {p q : Path} → Sound p q → (r : Root) (w : Word) → On marks p r w → On marks q r w → areElements w ≡ true →
+      cell p q .onElement ≡ true
+  on-element {p} {q} k r w f g e = rw (elements-end w e) at (k .on r w f g (elements-proper w e))
+
+  -- STRICTLY BELOW: a node on q ▸ t below a node on p, from what holds of p and q; and the mirror image
+  up-below : {p q : Path} {t : Step} {r : Root} {a : Letter} {w u : Word} → Sound p q → On marks (q ▸ t) r (a ∷ w) → On marks p r u →
+      Grown u w → areElements w ≡ true →
+      ((cell p q .upElement || (isDeep t && cell p q .downElement)) ≡ true) × (admits t a ≡ true)
+  up-below {p} {q} {t} k (child f x z) g h e =
+      (or-left (cell p q .upElement) (isDeep t && cell p q .downElement) (up-element k _ _ _ f g h e), z)
+  up-below {p} {q} {t} {r} {u} k (deep {u = v} f y x z) g h e = (go (grown-compare h y), z)
+    where
+      go : Grown u v ⊎ Grown v u → (cell p q .upElement || (isDeep t && cell p q .downElement)) ≡ true
+      go (inl b) =
+          or-left (cell p q .upElement) (isDeep t && cell p q .downElement) (up-element k r v u f g b (elements-grown y e))
+      go (inr b) =
+          or-right (cell p q .upElement) (isDeep t && cell p q .downElement)
+          (and-both (isDeep t) (cell p q .downElement) (eq-eqb (t .axis) 1 x) (down-element k r u v g f b (elements-grown h e)))
+
+  down-below : {p q : Path} {s : Step} {r : Root} {a : Letter} {w u : Word} → Sound p q → On marks (p ▸ s) r (a ∷ w) → On marks q r u →
+      Grown u w → areElements w ≡ true →
+      ((cell p q .downElement || (isDeep s && cell p q .upElement)) ≡ true) × (admits s a ≡ true)
+  down-below {p} {q} {s} k (child f x z) g h e =
+      (or-left (cell p q .downElement) (isDeep s && cell p q .upElement) (down-element k _ _ _ f g h e), z)
+  down-below {p} {q} {s} {r} {u} k (deep {u = v} f y x z) g h e = (go (grown-compare h y), z)
+    where
+      go : Grown u v ⊎ Grown v u → (cell p q .downElement || (isDeep s && cell p q .upElement)) ≡ true
+      go (inl b) =
+          or-left (cell p q .downElement) (isDeep s && cell p q .upElement) (down-element k r v u f g b (elements-grown y e))
+      go (inr b) =
+          or-right (cell p q .downElement) (isDeep s && cell p q .upElement)
+          (and-both (isDeep s) (cell p q .upElement) (eq-eqb (s .axis) 1 x) (up-element k r u v g f b (elements-grown h e)))
+
+  -- ON BOTH: the parent of a node on p ▸ s and on q ▸ t
+  isParent-by : (on down up : Bool) → (on ≡ true) ⊎ ((down ≡ true) ⊎ (up ≡ true)) → (on || down || up) ≡ true
+  isParent-by a b c (inl e) = or-left (a || b) c (or-left a b e)
+  isParent-by a b c (inr (inl e)) = or-left (a || b) c (or-right a b e)
+  isParent-by a b c (inr (inr e)) = or-right (a || b) c e
+
+  both-parent : {p q : Path} {s t : Step} {r : Root} {a : Letter} {w : Word} → Sound p q → On marks (p ▸ s) r (a ∷ w) →
+      On marks (q ▸ t) r (a ∷ w) → areElements w ≡ true → (isParent s t (cell p q) ≡ true) × (admits s a ≡ true) × (admits t a ≡ true)
+  both-parent {p} {q} {s} {t} k (child f x z) (child g x′ z′) e = (
+    isParent-by (cell p q .onElement) (isDeep t && cell p q .downElement) (isDeep s && cell p q .upElement)
+        (inl (on-element k _ _ f g e)),
+    z,
+    z′,
+  )
+  both-parent {p} {q} {s} {t} k (child f x z) (deep g y′ x′ z′) e = (
+    isParent-by (cell p q .onElement) (isDeep t && cell p q .downElement) (isDeep s && cell p q .upElement)
+        (inr (inl (and-both (isDeep t) (cell p q .downElement) (eq-eqb (t .axis) 1 x′) (down-element k _ _ _ f g y′ e)))),
+    z,
+    z′,
+  )
+  both-parent {p} {q} {s} {t} k (deep f y x z) (child g x′ z′) e = (
+    isParent-by (cell p q .onElement) (isDeep t && cell p q .downElement) (isDeep s && cell p q .upElement)
+        (inr (inr (and-both (isDeep s) (cell p q .upElement) (eq-eqb (s .axis) 1 x) (up-element k _ _ _ g f y e)))),
+    z,
+    z′,
+  )
+  both-parent {p} {q} {s} {t} {r} k (deep {u = u} f y x z) (deep {u = v} g y′ x′ z′) e = (
+    isParent-by (cell p q .onElement) (isDeep t && cell p q .downElement) (isDeep s && cell p q .upElement)
+        (inr (go (grown-compare y y′))),
+    z,
+    z′,
+  )
+    where
+      go : Grown u v ⊎ Grown v u → ((isDeep t && cell p q .downElement) ≡ true) ⊎ ((isDeep s && cell p q .upElement) ≡ true)
+      go (inl b) =
+          inr (and-both (isDeep s) (cell p q .upElement) (eq-eqb (s .axis) 1 x) (up-element k r v u g f b (elements-grown y′ e)))
+      go (inr b) =
+          inl (and-both (isDeep t) (cell p q .downElement) (eq-eqb (t .axis) 1 x′) (down-element k r u v f g b (elements-grown y e)))
+
+  -- THE CELLS, as they are computed
+  place-same : {p q : Place} {r : Root} → On marks (start p) r [] → On marks (start q) r [] → samePlace p q ≡ true
+  place-same {p} {q} (at {i = i} o m) (at o′ m′) =
+      and-both (eqb (p .owner) (q .owner)) (eqb (p .number) (q .number)) (eq-eqb (p .owner) (q .owner) (o ∙ sym o′))
+      (eq-eqb (p .number) (q .number) (once (p .number) (q .number) i m m′))
+
+  start-word : {p : Place} {r : Root} {a : Letter} {w : Word} → On marks (start p) r (a ∷ w) → ⊥
+  start-word h = elim h [ ]
+
+  step-word : {p : Path} {s : Step} {r : Root} → On marks (p ▸ s) r [] → ⊥
+  step-word h = elim h [ ]
+
+  shrink-nil : {p : Path} {r : Root} {u : Word} → Grown u [] → On marks p r u → On marks p r []
+  shrink-nil same f = f
+
+  start-start : (p q : Place) → Sound (start p) (start q)
+  unfolding cell startCells
+  start-start p q = record { on = on; down = down; up = up }
+    where
+      on : (r : Root) (w : Word) → On marks (start p) r w → On marks (start q) r w → isProper w ≡ true →
+          onAt (cell (start p) (start q)) w ≡ true
+      on r [] f g e = place-same f g
+      on r (a ∷ w) f g e = absurd (start-word f)
+
+      down : (r : Root) (w u : Word) → On marks (start p) r w → On marks (start q) r u → Grown u w → isProper w ≡ true →
+          downAt (cell (start p) (start q)) w ≡ true
+      down r [] u f g h e = place-same f (shrink-nil h g)
+      down r (a ∷ w) u f g h e = absurd (start-word f)
+
+      up : (r : Root) (w u : Word) → On marks (start q) r w → On marks (start p) r u → Grown u w → isProper w ≡ true →
+          upAt (cell (start p) (start q)) w ≡ true
+      up r [] u f g h e = place-same (shrink-nil h g) f
+      up r (a ∷ w) u f g h e = absurd (start-word f)
+
+  start-step : (p : Place) (q : Path) (t : Step) → Sound (start p) q → Sound (start p) (q ▸ t)
+  unfolding cell startCells
+  start-step p q t k = record { on = on; down = down; up = up }
+    where
+      on : (r : Root) (w : Word) → On marks (start p) r w → On marks (q ▸ t) r w → isProper w ≡ true →
+          onAt (cell (start p) (q ▸ t)) w ≡ true
+      on r [] f g e = absurd (step-word g)
+      on r (a ∷ w) f g e = absurd (start-word f)
+
+      down : (r : Root) (w u : Word) → On marks (start p) r w → On marks (q ▸ t) r u → Grown u w → isProper w ≡ true →
+          downAt (cell (start p) (q ▸ t)) w ≡ true
+      down r [] u f g h e = absurd (step-word (shrink-nil h g))
+      down r (a ∷ w) u f g h e = absurd (start-word f)
+
+      up : (r : Root) (w u : Word) → On marks (q ▸ t) r w → On marks (start p) r u → Grown u w → isProper w ≡ true →
+          upAt (cell (start p) (q ▸ t)) w ≡ true
+      up r [] u f g h e = absurd (step-word f)
+      up r (a ∷ w) u f g same e = absurd (start-word g)
+      up r (a ∷ w) u f g (more h) e =
+          let b : ((cell (start p) q .upElement || (isDeep t && cell (start p) q .downElement)) ≡ true) × (admits t a ≡ true) =
+          up-below k f g h e in
+          step-up t a w (cell (start p) q) (b .0) (b .1)
+
+  step-start : (p : Path) (s : Step) (q : Place) → Sound p (start q) → Sound (p ▸ s) (start q)
+  unfolding cell stepCells
+  step-start p s q k = record { on = on; down = down; up = up }
+    where
+      on : (r : Root) (w : Word) → On marks (p ▸ s) r w → On marks (start q) r w → isProper w ≡ true →
+          onAt (cell (p ▸ s) (start q)) w ≡ true
+      on r [] f g e = absurd (step-word f)
+      on r (a ∷ w) f g e = absurd (start-word g)
+
+      down : (r : Root) (w u : Word) → On marks (p ▸ s) r w → On marks (start q) r u → Grown u w → isProper w ≡ true →
+          downAt (cell (p ▸ s) (start q)) w ≡ true
+      down r [] u f g h e = absurd (step-word f)
+      down r (a ∷ w) u f g same e = absurd (start-word g)
+      down r (a ∷ w) u f g (more h) e =
+          let b : ((cell p (start q) .downElement || (isDeep s && cell p (start q) .upElement)) ≡ true) × (admits s a ≡ true) =
+          down-below k f g h e in
+          step-down s a w (cell p (start q)) (b .0) (b .1)
+
+      up : (r : Root) (w u : Word) → On marks (start q) r w → On marks (p ▸ s) r u → Grown u w → isProper w ≡ true →
+          upAt (cell (p ▸ s) (start q)) w ≡ true
+      up r [] u f g h e = absurd (step-word (shrink-nil h g))
+      up r (a ∷ w) u f g h e = absurd (start-word f)
+
+  -- on both, below the one, below the other: the three parts of the join
+  step-step : (p : Path) (s : Step) (q : Path) (t : Step) → Sound p q → Sound p (q ▸ t) → Sound (p ▸ s) q → Sound (p ▸ s) (q ▸ t)
+  unfolding cell stepCells
+  step-step p s q t k l n = record { on = on; down = down; up = up }
+    where
+      c : Cell
+      c = onStep s t (cell p q)
+
+      d : Cell
+      d = downStep s (cell p (q ▸ t))
+
+      e : Cell
+      e = upStep t (cell (p ▸ s) q)
+
+      met : (r : Root) (a : Letter) (w : Word) → On marks (p ▸ s) r (a ∷ w) → On marks (q ▸ t) r (a ∷ w) → areElements w ≡ true →
+          onAt c (a ∷ w) ≡ true
+      met r a w f g z =
+          let b : (isParent s t (cell p q) ≡ true) × (admits s a ≡ true) × (admits t a ≡ true) = both-parent k f g z in
+          step-on s t a w (cell p q) (b .0) (b .1) (b .2)
+
+      on : (r : Root) (w : Word) → On marks (p ▸ s) r w → On marks (q ▸ t) r w → isProper w ≡ true →
+          onAt (cell (p ▸ s) (q ▸ t)) w ≡ true
+      on r [] f g z = absurd (step-word f)
+      on r (a ∷ w) f g z =
+          pick-or-left (isLeafLetter a) (c .onElement) (c .onLeaf) (joinCell d e .onElement) (joinCell d e .onLeaf) (met r a w f g z)
+
+      down : (r : Root) (w u : Word) → On marks (p ▸ s) r w → On marks (q ▸ t) r u → Grown u w → isProper w ≡ true →
+          downAt (cell (p ▸ s) (q ▸ t)) w ≡ true
+      down r [] u f g h z = absurd (step-word f)
+      down r (a ∷ w) u f g same z =
+          pick-or-left (isLeafLetter a) (c .downElement) (c .downLeaf) (joinCell d e .downElement) (joinCell d e .downLeaf) (met r a w f g z)
+      down r (a ∷ w) u f g (more h) z =
+          let b : ((cell p (q ▸ t) .downElement || (isDeep s && cell p (q ▸ t) .upElement)) ≡ true) × (admits s a ≡ true) =
+          down-below l f g h z in
+          pick-or-right (isLeafLetter a) (c .downElement) (c .downLeaf) (joinCell d e .downElement) (joinCell d e .downLeaf)
+          (pick-or-left (isLeafLetter a) (d .downElement) (d .downLeaf) (e .downElement) (e .downLeaf)
+          (step-down s a w (cell p (q ▸ t)) (b .0) (b .1)))
+
+      up : (r : Root) (w u : Word) → On marks (q ▸ t) r w → On marks (p ▸ s) r u → Grown u w → isProper w ≡ true →
+          upAt (cell (p ▸ s) (q ▸ t)) w ≡ true
+      up r [] u f g h z = absurd (step-word f)
+      up r (a ∷ w) u f g same z =
+          pick-or-left (isLeafLetter a) (c .upElement) (c .upLeaf) (joinCell d e .upElement) (joinCell d e .upLeaf) (met r a w g f z)
+      up r (a ∷ w) u f g (more h) z =
+          let b : ((cell (p ▸ s) q .upElement || (isDeep t && cell (p ▸ s) q .downElement)) ≡ true) × (admits t a ≡ true) =
+          up-below n f g h z in
+          pick-or-right (isLeafLetter a) (c .upElement) (c .upLeaf) (joinCell d e .upElement) (joinCell d e .upLeaf)
+          (pick-or-right (isLeafLetter a) (d .upElement) (d .upLeaf) (e .upElement) (e .upLeaf)
+          (step-up t a w (cell (p ▸ s) q) (b .0) (b .1)))
+
+  start-sound : (p : Place) (q : Path) → Sound (start p) q
+  start-sound p (start q) = start-start p q
+  start-sound p (q ▸ t) = start-step p q t (start-sound p q)
+
+  step-sound : (p : Path) (s : Step) → ((q : Path) → Sound p q) → (q : Path) → Sound (p ▸ s) q
+  step-sound p s k (start q) = step-start p s q (k (start q))
+  step-sound p s k (q ▸ t) = step-step p s q t (k q) (k (q ▸ t)) (step-sound p s k q)
+
+  cell-sound : (p q : Path) → Sound p q
+  cell-sound (start p) q = start-sound p q
+  cell-sound (p ▸ s) q = step-sound p s (λ (q : Path). cell-sound p q) q
+
+  -- paths that do not meet share no word
+  pub meets-apart : (p q : Path) (r : Root) (w : Word) → meets p q ≡ false → isProper w ≡ true → On marks p r w → On marks q r w → ⊥
+  meets-apart p q r w n e f g = go (endsInLeaf w) (cell-sound p q .on r w f g e)
+    where
+      go : (z : Bool) → pick z (cell p q .onLeaf) (cell p q .onElement) ≡ true → ⊥
+      go true h = true-false (meets p q) (or-right (cell p q .onElement) (cell p q .onLeaf) h) n
+      go false h = true-false (meets p q) (or-left (cell p q .onElement) (cell p q .onLeaf) h) n
