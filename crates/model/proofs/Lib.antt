@@ -34,3 +34,9 @@ pub mod SimLaws
 pub mod TwinRow
 pub mod TwinCut
 pub mod TwinCopy
+pub mod PathLaws
+pub mod Spells
+pub mod CellsFound
+pub mod RowsOn
+pub mod Chain
+pub mod FreeMeans

@@ -1,4 +1,4 @@
--- Every run of an expression whose tags fit does nothing but make fitting rows and cut links, and its values are rows of its table.
+-- Every run of an expression whose fields fit does nothing but make fitting rows and cut links, and its values are rows of its table.
 use mathlib.Core.Path.{_≡_, refl, sym, ap, _∙_}
 use mathlib.Core.Bool.{Bool, true, false, _&&_}
 use mathlib.Core.List.{List, [], _∷_, _++_}
@@ -20,7 +20,7 @@ use Rattle.model.proofs.RefusalLaws.{isFine-check}
 use Rattle.model.proofs.TableLaws.{isElement-at, isElement-by, parent-count, Tree, Well}
 use Rattle.model.proofs.GrowLaws.{count-withRow, rowAt-withRow-old, rowAt-withRow-new, count-linked, isLeaf-linked}
 use Rattle.model.proofs.RanLaws.{Ran, begun, rowMade, linkCut, ran-well}
-use Rattle.model.proofs.ScriptLaws.{TagsFit}
+use Rattle.model.proofs.ScriptLaws.{FieldsFit}
 use Rattle.model.proofs.ValueLaws.{AreRows, noRows, moreRows, areRows-append, areRows-more, AreValues, noValues, areValues-snoc}
 use Rattle.model.proofs.ValueLaws.{areValues-more, areValues-at, stepFrom-rows, picked-rows, descendantsFrom-rows, marked-rows}
 
@@ -224,14 +224,14 @@ loop-keeps x y z f h (i ∷ is) v s (moreRows l a) b r g = joined (f i s) (h i s
 
 -- EVALUATION, over the expression
 module _ (x : Table) (well : Well x) where
-  pub run-keeps : (e : Expr) → TagsFit e → (b : List (List ℕ)) (s : State) → Ran x s → AreValues (count (s .plan)) b →
+  pub run-keeps : (e : Expr) → FieldsFit e → (b : List (List ℕ)) (s : State) → Ran x s → AreValues (count (s .plan)) b →
       Keeps x (s .plan) (run e b s)
-  unfolding run TagsFit
+  unfolding run FieldsFit
   run-keeps (nil z) t b s r a = gives-keeps x [] s r noRows
   run-keeps (document z d) t b s r a = gives-keeps x _ s r (marked-rows (s .plan) (ran-well x well r .tree) d)
   run-keeps (var z v) t b s r a = gives-keeps x _ s r (areValues-at a v)
   run-keeps (step z q e) t b s r a =
-      andThen-keeps x (s .plan) (run e b s) _ (run-keeps e t b s r a)
+      andThen-keeps x (s .plan) (run e b s) _ (run-keeps e (t .1) b s r a)
       (λ v u w c g. gives-keeps x _ u w (stepFrom-rows (u .plan) q v 0 (count (u .plan)) (count (u .plan)) (omega arith)))
   run-keeps (both z e f) t b s r a =
       andThen-keeps x (s .plan) (run e b s) _ (run-keeps e (t .0) b s r a)
@@ -264,5 +264,5 @@ module _ (x : Table) (well : Well x) where
   run-keeps (choose z q c e) t b s r a =
       andThen-keeps x (s .plan) (run e b s) _ (run-keeps e t b s r a) (λ v u w d g. gives-keeps x _ u w (picked-rows (u .plan) q c d))
 
-  pub runOn-keeps : (e : Expr) → TagsFit e → Keeps x x (runOn x e)
+  pub runOn-keeps : (e : Expr) → FieldsFit e → Keeps x x (runOn x e)
   runOn-keeps e t = run-keeps e t [] (state x []) begun noValues
