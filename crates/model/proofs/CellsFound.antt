@@ -132,7 +132,7 @@ pick-neither true h = false≢true h
 pick-neither false h = false≢true h
 
 -- down from p ▸ s to q, and by the mirror image up
-lies-step : (z : Bool) (p q : Path) (s : Step) (c : Bool) (d : Bool) → StepFits s → (c ≡ true → Lies false p q) → (d ≡ true → Lies false q p) →
+lies-step : (z : Bool) (p q : Path) (s : Step) (c d : Bool) → StepFits s → (c ≡ true → Lies false p q) → (d ≡ true → Lies false q p) →
     pick z (admitsLeaf s && (c || (isDeep s && d))) (admitsElement s && (c || (isDeep s && d))) ≡ true → Lies z (p ▸ s) q
 lies-step z p q s c d f h k e =
     let a = pick-and z (admitsLeaf s) (admitsElement s) (c || (isDeep s && d)) e in

@@ -17,7 +17,7 @@ use Rattle.model.specs.Step.{Letter, leafLetter, named, letterOf, admits
 use Rattle.model.specs.Paths.{Place, documentPlace, Path, _▸_}
 use Rattle.model.specs.Promise.{Places, ArePlaces, rowsOn}
 use Rattle.model.proofs.BoolLaws.{and-both}
-use Rattle.model.proofs.TableLaws.{isThe-some, some-isThe, isElement-by, Tree}
+use Rattle.model.proofs.TableLaws.{isThe-at, isThe-by, isElement-by, Tree}
 use Rattle.model.proofs.GrowLaws.{count-withRow, rowAt-withRow-old, rowAt-withRow-new, tree-withRow}
 use Rattle.model.proofs.Words.{Word, Grown, same, more, grown-trans}
 use Rattle.model.proofs.Below.{Below, under, further}
@@ -78,7 +78,8 @@ grown-length : {u w : Word} → Grown u w → length u ≤ length w
 grown-length same = omega arith
 grown-length (more g) = omega (arith, grown-length g)
 
-pub chain-row : (d : ℕ) (a : Letter) (u : Word) {w : Word} → Grown (a ∷ u) w → rowAt (chain d w) (suc (length u)) ≡ rowOf a (some (length u))
+pub chain-row : (d : ℕ) (a : Letter) (u : Word) {w : Word} → Grown (a ∷ u) w →
+    rowAt (chain d w) (suc (length u)) ≡ rowOf a (some (length u))
 unfolding chain
 chain-row d a u same =
     subst (λ (i : ℕ). rowAt (withRow (chain d u) (rowOf a (some (length u)))) i ≡ rowOf a (some (length u))) (count-chain d u)
@@ -138,7 +139,7 @@ byMarks-at ms p i h = go (eqb (p .owner) 0) refl h
   where
     go : (t : Bool) → eqb (p .owner) 0 ≡ t → pick t (isThe i (getD ms (p .number) none)) false ≡ true →
         (p .owner ≡ 0) × (getD ms (p .number) none ≡ some i)
-    go true e k = (eqb-true _ _ e, isThe-some i _ k)
+    go true e k = (eqb-true _ _ e, isThe-at i _ k)
     go false e k = absurd (false≢true k)
 
 pub byMarks-places : (x : Table) → Tree x → ArePlaces x (byMarks (x .marks))
@@ -171,10 +172,12 @@ module _ (d : ℕ) (w : Word) (t : Tree (chain d w)) where
       In (suc (length u)) (rowsOnChain (p ▸ s))
   chain-reached p s a u g r =
       subst (In (suc (length u))) (sym (step-rows (chain d w) (byMarks (chain d w .marks)) p s))
-      (in-collect (isReached (chain d w) s (rowsOnChain p)) (count (chain d w)) (suc (length u)) (omega (arith, grown-length g, count-chain d w))
+      (in-collect (isReached (chain d w) s (rowsOnChain p)) (count (chain d w)) (suc (length u))
+      (omega (arith, grown-length g, count-chain d w))
       (is-reach (chain d w) s (rowsOnChain p) (suc (length u)) (λ i p e. t .parents i p e .0) r))
 
-  chain-admits : (s : Step) (a : Letter) (u : Word) → Grown (a ∷ u) w → admits s a ≡ true → admits s (letterOf (rowAt (chain d w) (suc (length u)))) ≡ true
+  chain-admits : (s : Step) (a : Letter) (u : Word) → Grown (a ∷ u) w → admits s a ≡ true →
+      admits s (letterOf (rowAt (chain d w) (suc (length u)))) ≡ true
   chain-admits s a u g z =
       subst (λ (b : Letter). admits s b ≡ true) (sym (ap letterOf (chain-row d a u g) ∙ letterOf-rowOf a (some (length u)))) z
 
@@ -183,7 +186,8 @@ module _ (d : ℕ) (w : Word) (t : Tree (chain d w)) where
   spells-row (spelled {p}) g e =
       subst (In 0) (sym (start-rows (chain d w) (byMarks (chain d w .marks)) p))
       (in-collect (byMarks (chain d w .marks) p) (count (chain d w)) 0 (omega (arith, count-chain d w))
-      (ap (λ (q : Place). byMarks (chain d w .marks) q 0) e ∙ some-isThe 0 _ (ap (λ (ms : List (Option ℕ)). getD ms d none) (marks-chain d w) ∙ markedBy-at d)))
+      (ap (λ (q : Place). byMarks (chain d w .marks) q 0) e ∙
+      isThe-by 0 _ (ap (λ (ms : List (Option ℕ)). getD ms d none) (marks-chain d w) ∙ markedBy-at d)))
   spells-row (child {p} {s} {a} {w = u} h k z) g e =
       chain-reached p s a u g (byChild (spells-row h (grown-trans (more same) g) e) k (chain-parent a u g) (chain-admits s a u g z))
   spells-row (deep {p} {s} {a} {u = v} {w = u} h b k z) g e =

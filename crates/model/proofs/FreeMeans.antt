@@ -1,5 +1,5 @@
--- What free means: 'upward' where a script climbs; 'free' where no row of any plan is on a path that one script modifies and on one that the
--- other traverses; 'meet' where some plan has such a row.
+-- What free means. 'upward': a script climbs. 'free': no row of any plan is on a path that one script modifies and on one that the other
+-- traverses. 'meet': some plan has such a row.
 use mathlib.Core.Path.{_≡_, refl, sym, ap, _∙_, subst}
 use mathlib.Core.Bool.{Bool, true, false, _&&_, _||_}
 use mathlib.Core.Logic.{_⊎_, inl, inr}
@@ -13,11 +13,11 @@ use Rattle.model.specs.Base.{pick, any, among}
 use Rattle.model.specs.Table.{Table, count, isTree}
 use Rattle.model.specs.Script.{Expr}
 use Rattle.model.specs.Paths.{Place, documentPlace, Path, pathsOf, traversed, hasUp}
-use Rattle.model.specs.Meeting.{meets, anyMeet, pathsMeet, free, upward, meet, answer}
+use Rattle.model.specs.Meeting.{meets, anyMeet, free, upward, meet, answer}
 use Rattle.model.specs.Promise.{IsScript, Places, ArePlaces, rowsOn, isOn, isTouched, FreeMeans}
 use Rattle.model.proofs.BoolLaws.{and-both, or-cases, or-left, or-right, or-neither, true-false}
 use Rattle.model.proofs.TestLaws.{and-parts}
-use Rattle.model.proofs.TableLaws.{isThe-some, Tree, isTree-at, isTree-by}
+use Rattle.model.proofs.TableLaws.{isThe-at, Tree, isTree-at, isTree-by}
 use Rattle.model.proofs.ScriptLaws.{isScript-fields}
 use Rattle.model.proofs.All.{All, all-in}
 use Rattle.model.proofs.Reach.{any-in, in-any}
@@ -75,9 +75,11 @@ module _ (x : Table) (t : Tree x) (h : Places) (a : ArePlaces x h) where
       let o : placeOf p .owner ≡ 0 = shared-document d f g b in
       let w : placeOf p ≡ documentPlace (placeOf p .number) = λ j. record { owner = o j; number = placeOf p .number } in
       let m : getD (x .marks) (placeOf p .number) none ≡ some (v .root) =
-      isThe-some (v .root) _ (sym (a .0 (placeOf p .number) (v .root) (v .within)) ∙ ap (λ (c : Place). h c (v .root)) (sym w) ∙ v .placed) in
+      isThe-at (v .root) _
+      (sym (a .0 (placeOf p .number) (v .root) (v .within)) ∙ ap (λ (c : Place). h c (v .root)) (sym w) ∙ v .placed) in
       let c : Spells q (v .word) = subst (Spells q) (sym (k .1)) (u .spells) in
-      meets-apart (x .marks) (t .once) p q (first (v .root)) (v .word) e (label-proper t (v .labelled)) (spells-on (v .root) (v .spells) o m)
+      meets-apart (x .marks) (t .once) p q (first (v .root)) (v .word) e (label-proper t (v .labelled))
+      (spells-on (v .root) (v .spells) o m)
       (spells-on (v .root) c (ap (λ (r : Place). r .owner) (sym b) ∙ o)
       (ap (λ (r : Place). getD (x .marks) (r .number) none) (sym b) ∙ m))
 
@@ -94,6 +96,9 @@ module _ (x : Table) (t : Tree x) (h : Places) (a : ArePlaces x h) where
       apart false c = refl
 
 -- MEET: a plan with a row on a path of each list
+isOn-in : (x : Table) (h : Places) (i : ℕ) {p : Path} {ps : List Path} → In p ps → In i (rowsOn x h p) → isOn x h i ps ≡ true
+isOn-in x h i y z = in-any (λ (r : Path). among i (rowsOn x h r)) y (in-among z)
+
 record Plan (ps qs : List Path) : Type 0 where
   plan : Table
   places : Places
@@ -112,39 +117,60 @@ meets-plan n o ps qs d f g e =
   where
     found : (p q : Path) → In p ps → In q qs → (k : Bool) (m : Meets k p q) → placeOf p .owner ≡ 0 → Plan ps qs
     found p q y z k m b =
-        let c : placeOf p ≡ documentPlace (placeOf p .number) = λ j. record { owner = b j; number = placeOf p .number } in
-        let x : Table = chain (placeOf p .number) (m .word) in
-        let t : Tree x = chain-tree (placeOf p .number) (m .good b) in
-        let h : Places = byMarks (x .marks) in
+        let d : ℕ = placeOf p .number in
+        let c : placeOf p ≡ documentPlace d = λ j. record { owner = b j; number = d } in
+        let x : Table = chain d (m .word) in
+        let t : Tree x = chain-tree d (m .good b) in
+        let i : ℕ = length (m .word) in
         record {
           plan = x;
-          places = h;
-          row = length (m .word);
+          places = byMarks (x .marks);
+          row = i;
           isPlan = isTree-by x t;
           arePlaces = byMarks-places x t;
-          within = omega (arith, count-chain (placeOf p .number) (m .word));
+          within = omega (arith, count-chain d (m .word));
           onBoth =
-              and-both _ _ (in-any (λ (r : Path). among (length (m .word)) (rowsOn x h r)) y (in-among (spells-row (placeOf p .number) (m .word) t (m .one) same c)))
-              (in-any (λ (r : Path). among (length (m .word)) (rowsOn x h r)) z
-              (in-among (spells-row (placeOf p .number) (m .word) t (m .two) same (sym (m .together) ∙ c))));
+              and-both _ _ (isOn-in x (byMarks (x .marks)) i y (spells-row d (m .word) t (m .one) same c))
+              (isOn-in x (byMarks (x .marks)) i z (spells-row d (m .word) t (m .two) same (sym (m .together) ∙ c)));
         }
 
+-- THE THEOREM
+abbrev SomeTouched : Expr → Expr → Type 0
+SomeTouched e f =
+    (x : Table) × ((h : Places) × ((i : ℕ) × ((isTree x ≡ true) × ArePlaces x h × (i < count x) × (isTouched x h i e f ≡ true))))
+
+one-two : _≡_ {A = ℕ} 1 2 → ⊥
+one-two k = omega arith
+
+two-one : _≡_ {A = ℕ} 2 1 → ⊥
+two-one k = omega arith
+
+module _ (e f : Expr) where
+  -- modified by one and traversed by the other, both ways round
+  abbrev firstModifies : Table → Places → ℕ → Bool
+  firstModifies x h i = isOn x h i (pathsOf 1 e .modified) && isOn x h i (traversed (pathsOf 2 f))
+
+  abbrev secondModifies : Table → Places → ℕ → Bool
+  secondModifies x h i = isOn x h i (pathsOf 2 f .modified) && isOn x h i (traversed (pathsOf 1 e))
+
+  abbrev firstMeets : Bool
+  firstMeets = anyMeet (pathsOf 1 e .modified) (traversed (pathsOf 2 f))
+
+  abbrev secondMeets : Bool
+  secondMeets = anyMeet (pathsOf 2 f .modified) (traversed (pathsOf 1 e))
+
 module _ (e f : Expr) (s : IsScript e) (r : IsScript f) where
-  one-two : _≡_ {A = ℕ} 1 2 → ⊥
-  one-two k = omega arith
-
-  two-one : _≡_ {A = ℕ} 2 1 → ⊥
-  two-one k = omega arith
-
-  free-untouched : answer e f ≡ free → (x : Table) (h : Places) (i : ℕ) → isTree x ≡ true → ArePlaces x h → i < count x → isTouched x h i e f ≡ false
+  free-untouched : answer e f ≡ free → (x : Table) (h : Places) (i : ℕ) → isTree x ≡ true → ArePlaces x h → i < count x →
+      isTouched x h i e f ≡ false
   free-untouched q x h i t a l =
-      let k = answer-free (hasUp e || hasUp f) (pathsMeet (pathsOf 1 e) (pathsOf 2 f)) q in
+      let k = answer-free (hasUp e || hasUp f) (firstMeets e f || secondMeets e f) q in
       let u = or-neither (hasUp e) (hasUp f) (k .0) in
-      let m = or-neither (anyMeet (pathsOf 1 e .modified) (traversed (pathsOf 2 f))) (anyMeet (pathsOf 2 f .modified) (traversed (pathsOf 1 e))) (k .1) in
+      let m = or-neither (firstMeets e f) (secondMeets e f) (k .1) in
       let b = pathsOf-fits 1 e (isScript-fields e s) (u .0) in
       let c = pathsOf-fits 2 f (isScript-fields f r) (u .1) in
-      untouched (isTouched x h i e f) (λ z.
-      elim (or-cases (isOn x h i (pathsOf 1 e .modified) && isOn x h i (traversed (pathsOf 2 f))) _ z) [
+      untouched (isTouched x h i e f)
+      (λ z.
+      elim (or-cases (firstModifies e f x h i) (secondModifies e f x h i) z) [
         | inl y ↦ isOn-apart x (isTree-at x t) h a 1 2 _ _ one-two (b .0) (c .1) (m .0) i y
         | inr y ↦ isOn-apart x (isTree-at x t) h a 2 1 _ _ two-one (c .0) (b .1) (m .1) i y
       ])
@@ -153,30 +179,30 @@ module _ (e f : Expr) (s : IsScript e) (r : IsScript f) where
       untouched true n = absurd (n refl)
       untouched false n = refl
 
-  touches : (ps qs : List Path) → ((x : Table) (h : Places) (i : ℕ) → (isOn x h i ps && isOn x h i qs) ≡ true → isTouched x h i e f ≡ true) →
-      Plan ps qs →
-      (x : Table) × ((h : Places) × ((i : ℕ) × ((isTree x ≡ true) × ArePlaces x h × (i < count x) × (isTouched x h i e f ≡ true))))
-  touches ps qs k p =
+  some-touched : (ps qs : List Path) →
+      ((x : Table) (h : Places) (i : ℕ) → (isOn x h i ps && isOn x h i qs) ≡ true → isTouched x h i e f ≡ true) → Plan ps qs →
+      SomeTouched e f
+  some-touched ps qs k p =
       (p .plan, (p .places, (p .row, (p .isPlan, p .arePlaces, p .within, k (p .plan) (p .places) (p .row) (p .onBoth)))))
 
-  meet-touched : answer e f ≡ meet →
-      (x : Table) × ((h : Places) × ((i : ℕ) × ((isTree x ≡ true) × ArePlaces x h × (i < count x) × (isTouched x h i e f ≡ true))))
+  meet-touched : answer e f ≡ meet → SomeTouched e f
   meet-touched q =
-      let k = answer-meet (hasUp e || hasUp f) (pathsMeet (pathsOf 1 e) (pathsOf 2 f)) q in
+      let k = answer-meet (hasUp e || hasUp f) (firstMeets e f || secondMeets e f) q in
       let u = or-neither (hasUp e) (hasUp f) (k .0) in
       let b = pathsOf-fits 1 e (isScript-fields e s) (u .0) in
       let c = pathsOf-fits 2 f (isScript-fields f r) (u .1) in
-      elim (or-cases (anyMeet (pathsOf 1 e .modified) (traversed (pathsOf 2 f))) _ (k .1)) [
-        | inl m ↦ touches (pathsOf 1 e .modified) (traversed (pathsOf 2 f)) (λ x h i z. or-left _ _ z) (meets-plan 1 2 _ _ one-two (b .0) (c .1) m)
+      elim (or-cases (firstMeets e f) (secondMeets e f) (k .1)) [
+        | inl m ↦
+            some-touched _ _ (λ x h i z. or-left (firstModifies e f x h i) (secondModifies e f x h i) z)
+            (meets-plan 1 2 (pathsOf 1 e .modified) (traversed (pathsOf 2 f)) one-two (b .0) (c .1) m)
         | inr m ↦
-            touches (pathsOf 2 f .modified) (traversed (pathsOf 1 e))
-            (λ x h i z. or-right (isOn x h i (pathsOf 1 e .modified) && isOn x h i (traversed (pathsOf 2 f))) _ z)
-            (meets-plan 2 1 _ _ two-one (c .0) (b .1) m)
+            some-touched _ _ (λ x h i z. or-right (firstModifies e f x h i) (secondModifies e f x h i) z)
+            (meets-plan 2 1 (pathsOf 2 f .modified) (traversed (pathsOf 1 e)) two-one (c .0) (b .1) m)
       ]
 
 pub freeMeans : FreeMeans
 freeMeans e f s r = (
-  (answer-upward (hasUp e || hasUp f) (pathsMeet (pathsOf 1 e) (pathsOf 2 f)), λ k. rw k),
+  (answer-upward (hasUp e || hasUp f) (firstMeets e f || secondMeets e f), λ k. rw k),
   free-untouched e f s r,
   meet-touched e f s r,
 )

@@ -61,7 +61,8 @@ all-getD nothing k = nothing
 all-getD (also h a) zero = h
 all-getD (also h a) (suc k) = all-getD a k
 
-pub infer-fits : (o : ℕ) (e : Expr) (b : List (List Path)) → FieldsFit e → hasUp e ≡ false → All (All (PathFits o)) b → PathsFit o (infer o e b)
+pub infer-fits : (o : ℕ) (e : Expr) (b : List (List Path)) → FieldsFit e → hasUp e ≡ false → All (All (PathFits o)) b →
+    PathsFit o (infer o e b)
 unfolding infer FieldsFit hasUp
 infer-fits o (nil z) b f u a = record { results = nothing; accesses = nothing; changes = nothing }
 infer-fits o (document z d) b f u a =

@@ -67,7 +67,8 @@ module _ (f : Reader) (r : ReaderWell f) where
       thenParse-well (f i n v b) _ (r i n v b h) (λ e j k c t a. one-well j k w c (make e) (λ g u. m e g t u) a)
 
   three-well : (i n v : ℕ) (b : List ℕ) (make : Expr → Expr → Expr → Expr) →
-      ((e g q : Expr) → FieldsFit e → FieldsFit g → FieldsFit q → FieldsFit (make e g q)) → areBytes b ≡ true → ReadsWell (three f i n v b make)
+      ((e g q : Expr) → FieldsFit e → FieldsFit g → FieldsFit q → FieldsFit (make e g q)) → areBytes b ≡ true →
+      ReadsWell (three f i n v b make)
   three-well i n v b make m h =
       thenParse-well (f i n v b) _ (r i n v b h) (λ e j k c t a. two-well j k v v c (make e) (λ g q u y. m e g q t u y) a)
 

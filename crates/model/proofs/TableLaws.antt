@@ -54,12 +54,12 @@ all-by f [] h = refl
 all-by f (m ∷ ms) h = and-both _ _ (h zero (omega arith)) (all-by f ms (λ d l. h (suc d) (omega arith)))
 
 -- a mark is in the list
-pub isThe-some : (i : ℕ) (m : Option ℕ) → isThe i m ≡ true → m ≡ some i
-isThe-some i none h = absurd (true-false false h refl)
-isThe-some i (some p) h = ap {B = Option ℕ} some (eqb-true p i h)
+pub isThe-at : (i : ℕ) (m : Option ℕ) → isThe i m ≡ true → m ≡ some i
+isThe-at i none h = absurd (true-false false h refl)
+isThe-at i (some p) h = ap {B = Option ℕ} some (eqb-true p i h)
 
-pub some-isThe : (i : ℕ) (m : Option ℕ) → m ≡ some i → isThe i m ≡ true
-some-isThe i m e = rw e (eq-eqb i i refl)
+pub isThe-by : (i : ℕ) (m : Option ℕ) → m ≡ some i → isThe i m ≡ true
+isThe-by i m e = rw e (eq-eqb i i refl)
 
 pub getD-some : (ms : List (Option ℕ)) (d i : ℕ) → getD ms d none ≡ some i → d < length ms
 getD-some [] d i e = absurd (Option·none-ne-some i e)
@@ -69,7 +69,7 @@ getD-some (m ∷ ms) (suc d) i e = omega (arith, getD-some ms d i e)
 pub any-at : (i : ℕ) (ms : List (Option ℕ)) → any (isThe i) ms ≡ true → (d : ℕ) × (getD ms d none ≡ some i)
 unfolding any
 any-at i [] h = absurd (true-false false h refl)
-any-at i (m ∷ ms) h = elim (or-cases (isThe i m) (any (isThe i) ms) h) [ inl e ↦ (zero, isThe-some i m e) | inr e ↦ later (any-at i ms e) ]
+any-at i (m ∷ ms) h = elim (or-cases (isThe i m) (any (isThe i) ms) h) [ inl e ↦ (zero, isThe-at i m e) | inr e ↦ later (any-at i ms e) ]
   where
     later : (d : ℕ) × (getD ms d none ≡ some i) → (d : ℕ) × (getD (m ∷ ms) d none ≡ some i)
     later w = (suc (w .0), w .1)
@@ -77,7 +77,7 @@ any-at i (m ∷ ms) h = elim (or-cases (isThe i m) (any (isThe i) ms) h) [ inl e
 pub any-by : (i : ℕ) (ms : List (Option ℕ)) (d : ℕ) → getD ms d none ≡ some i → any (isThe i) ms ≡ true
 unfolding any
 any-by i [] d e = absurd (Option·none-ne-some i e)
-any-by i (m ∷ ms) zero e = or-left _ _ (some-isThe i m e)
+any-by i (m ∷ ms) zero e = or-left _ _ (isThe-by i m e)
 any-by i (m ∷ ms) (suc d) e = or-right (isThe i m) _ (any-by i ms d e)
 
 -- no row is marked twice
