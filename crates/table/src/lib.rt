@@ -4,6 +4,8 @@ ghost use Rattle.model.specs.Table.{empty};
 ghost use Rattle.table.specs.Words.{encode};
 ghost use Rattle.table.specs.Calls.{planRead};
 
+mod fit;
+mod marks;
 mod read;
 mod words;
 
