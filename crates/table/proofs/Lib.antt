@@ -1,3 +1,4 @@
 pub mod WordLaws
 pub mod FitLaws
 pub mod ReadLaws
+pub mod WriteLaws

@@ -2,3 +2,4 @@ pub mod Words
 pub mod Calls
 pub mod Fitting
 pub mod Reading
+pub mod Writing

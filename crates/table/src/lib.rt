@@ -8,6 +8,7 @@ mod fit;
 mod marks;
 mod read;
 mod words;
+mod write;
 
 // A row's number and an element's name: one never stands where the other is meant.
 pub struct RowNumber(pub u16);
