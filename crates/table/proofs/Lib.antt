@@ -2,3 +2,4 @@ pub mod WordLaws
 pub mod FitLaws
 pub mod ReadLaws
 pub mod WriteLaws
+pub mod CallLaws

@@ -74,7 +74,7 @@ over-nil s o = simp (append-nil, add-zero) (take-append-drop s o)
 length-rowBytes : (r : model.Row) → length (rowBytes r) ≡ 4
 length-rowBytes r = omega (arith, length-parentBytes (r .parent))
 
-length-rowsBytes : (rs : List model.Row) → length (rowsBytes rs) ≡ 4 * length rs
+pub length-rowsBytes : (rs : List model.Row) → length (rowsBytes rs) ≡ 4 * length rs
 unfolding rowsBytes
 length-rowsBytes [] = refl
 length-rowsBytes (r ∷ rs) = length-append (rowBytes r) (rowsBytes rs) ∙ omega (arith, length-rowBytes r, length-rowsBytes rs)
