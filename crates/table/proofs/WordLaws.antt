@@ -74,7 +74,7 @@ module _ (n : ℕ) (ws ms : List ℕ) (within : n ≤ length ws) where
   rowAt-decode p h = List·getD-map rowOf (take n ws) p 0 ∙ ap rowOf (getD-take n ws p 0 h)
 
 -- a row more is a word more
-map-append : {A B : Type 0} (f : A → B) (xs ys : List A) → map f (xs ++ ys) ≡ map f xs ++ map f ys
+pub map-append : {A B : Type 0} (f : A → B) (xs ys : List A) → map f (xs ++ ys) ≡ map f xs ++ map f ys
 map-append f [] ys = refl
 map-append f (x ∷ xs) ys = ap (λ (l : List _). f x ∷ l) (map-append f xs ys)
 

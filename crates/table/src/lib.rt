@@ -2,10 +2,13 @@
 ghost use mathlib.Core.Path.{_≡_};
 ghost use Rattle.model.specs.Table.{empty};
 ghost use Rattle.table.specs.Words.{encode};
-ghost use Rattle.table.specs.Calls.{planRead};
+ghost use Rattle.table.specs.Calls.{planRead, planWritten, planOut};
 
+mod fit;
+mod marks;
 mod read;
 mod words;
+mod write;
 
 // A row's number and an element's name: one never stands where the other is meant.
 pub struct RowNumber(pub u16);
@@ -79,6 +82,12 @@ pub struct TableResult {
     pub table: Table,
 }
 
+// What the writer answers: the refusal, or the bytes written.
+pub struct Written {
+    pub fault: Fault,
+    pub bytes: usize,
+}
+
 // Reads a stored plan; refused, the table is the empty one.
 pub fn read_plan(bytes: &[u8]) -> TableResult
     ensures { λ r. ⌜ r ≡ planRead (now (bytes .entry)) ⌝ }
@@ -105,5 +114,41 @@ pub fn read_plan(bytes: &[u8]) -> TableResult
             rows,
             marks,
         },
+    }
+}
+
+// Writes a table in its stored form. 6 before 11; bytes past the stored length stay; refused, nothing is written.
+pub fn write_plan(table: Table, out: &mut [u8]) -> Written
+    ensures { λ r. ⌜ r ≡ planWritten table (now (out .entry)) ⌝ }
+    ensures { λ r. ⌜ now (out .exit) ≡ planOut table (now (out .entry)) ⌝ }
+{
+    let count = table.count;
+    if !fit::fits(count, &table.rows, &table.marks) {
+        return Written {
+            fault: Fault {
+                number: Fault::LINK,
+                place: 0,
+            },
+            bytes: 0,
+        };
+    }
+    let length = write::stored_length(count, &table.marks);
+    if out.len() < length {
+        return Written {
+            fault: Fault {
+                number: Fault::LENT,
+                place: 0,
+            },
+            bytes: 0,
+        };
+    }
+    write::rows(out, &table.rows, count);
+    write::marks(out, &table.marks, 4 * count);
+    Written {
+        fault: Fault {
+            number: 0,
+            place: 0,
+        },
+        bytes: length,
     }
 }

@@ -1,16 +1,12 @@
 // Reads a stored plan, record by record: per record 1, 5, 2, 4, 6.
 ghost use mathlib.Core.Path.{_≡_};
-ghost use mathlib.Core.Bool.{true};
-ghost use mathlib.Core.List.{map};
-ghost use Prim.Native.Nat.{_+_, _-_, _<_};
-ghost use lib.ListN.{length, getD, replicate};
-ghost use Rattle.model.specs.Base.{any, isIn};
-ghost use Rattle.model.specs.Table.{isThe};
+ghost use Prim.Native.Nat.{_+_, _<_};
+ghost use lib.ListN.{length};
 ghost use Rattle.model.specs.Stored.{wordAt};
-ghost use Rattle.table.specs.Words.{linked};
 ghost use Rattle.table.specs.Reading.{RowPre, RowPost, MarkPre, MarkPost, RecordPre, RecordPost, ReadPre, ReadPost};
 use crate::Fault;
 use crate::Table;
+use crate::marks;
 use crate::words;
 
 const ELEMENT: u8 = 0x11;
@@ -58,21 +54,6 @@ fn number_at(s: &[u8], at: usize) -> usize
     ensures { λ r. ⌜ r < 65536 ⌝ }
 {
     index(s[at]) + 256 * index(s[at + 1])
-}
-
-// Some document marks the row with this link.
-fn is_marked(marks: &[u16], link: u16) -> bool
-    requires { ⌜ 0 < link ⌝ }
-    ensures { λ r. ⌜ r ≡ any (isThe (link - 1)) (map linked (now (marks .entry))) ⌝ }
-{
-    let mut d = 0;
-    while d < marks.len() {
-        if marks[d] == link {
-            return true;
-        }
-        d += 1;
-    }
-    false
 }
 
 // The row at the front of s: its refusal's number, or 0 and the table has it.
@@ -129,7 +110,7 @@ fn mark(s: &[u8], rows: &[u32], marks: &mut [u16], count: usize, last: usize) ->
         return Fault::LINK;
     }
     let link = (row + 1) as u16;
-    if is_marked(marks, link) {
+    if marks::is_marked(marks, link) {
         return Fault::LINK;
     }
     marks[document] = link;

@@ -12,10 +12,10 @@ pub fn kind(w: u32) -> u32
     w % 4
 }
 
-pub fn link(w: u32) -> u32
+pub fn link(w: u32) -> usize
     ensures { λ r. ⌜ r ≡ w / 4 % 1024 ⌝ }
 {
-    w / 4 % 1024
+    (w / 4 % 1024) as usize
 }
 
 pub fn tag(w: u32) -> u32

@@ -17,7 +17,7 @@ use Rattle.table.proofs.read.mark.Tie as tie
 use Rattle.table.proofs.read.mark.Reads as reads
 use Rattle.table.proofs.read.mark.Lts as lts
 use Rattle.table.proofs.read.index.Reads as index-reads
-use Rattle.table.proofs.read.is_marked.Reads as is-marked-reads
+use Rattle.table.proofs.marks.is_marked.Reads as is-marked-reads
 use Rattle.table.proofs.read.number_at.Reads as number-at-reads
 use Rattle.table.proofs.words.kind.Reads as kind-reads
 use Rattle.table.proofs.words.link.Reads as link-reads

@@ -14,10 +14,10 @@ use native.Mathlib.Numerals.{add-one}
 use native.Mathlib.Omega.{arith}
 use Prim.Native.Nat.{ℕ, suc, _≤_, _-_, _+_}
 use borrow.Author.Needs.{needs}
-use Rattle.table.proofs.read.is_marked.Statement.{statement}
-use Rattle.table.proofs.read.is_marked.Tie as tie
-use Rattle.table.proofs.read.is_marked.Reads as reads
-use Rattle.table.proofs.read.is_marked.Lts as lts
+use Rattle.table.proofs.marks.is_marked.Statement.{statement}
+use Rattle.table.proofs.marks.is_marked.Tie as tie
+use Rattle.table.proofs.marks.is_marked.Reads as reads
+use Rattle.table.proofs.marks.is_marked.Lts as lts
 
 abbrev Inv-loop : tie.InvT-loop
 Inv-loop marks link d₀ d = (d ≤ length marks) × (any (isThe (link - 1)) (map linked marks) ≡ any (isThe (link - 1)) (map linked (drop d marks)))
