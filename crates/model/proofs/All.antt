@@ -1,8 +1,10 @@
 -- Every item of a list has a property.
-use mathlib.Core.Path.{_≡_}
+use mathlib.Core.Path.{sym, subst}
 use mathlib.Core.List.{List, [], _∷_, _++_, map}
 use mathlib.Core.List.{List·Memᴰ as In, List·Memᴰ·head as here, List·Memᴰ·tail as there}
-use mathlib.Core.Path.{sym, subst}
+use Prim.Native.Nat.{ℕ, zero, suc, _<_}
+use native.Mathlib.Nat.{not-suc-le-zero, le-of-suc-le-suc}
+use lib.ListN.{length, getD}
 
 pub data All {A : Type 0} (P : A → Type 0) : List A → Type 0 where
   nothing : All P []
@@ -24,3 +26,8 @@ module _ {A : Type 0} where
   pub all-in : {P : A → Type 0} {l : List A} {a : A} → All P l → In a l → P a
   all-in {P} (also p b) (here e) = subst P (sym e) p
   all-in (also p b) (there i) = all-in b i
+
+  pub all-at : {P : A → Type 0} {l : List A} (d : A) (i : ℕ) → All P l → i < length l → P (getD l i d)
+  all-at d i nothing h = absurd (not-suc-le-zero h)
+  all-at d zero (also p a) h = p
+  all-at d (suc i) (also p a) h = all-at d i a (le-of-suc-le-suc h)

@@ -52,3 +52,11 @@ shift-injective n m i j e = go (shift-cases n m i) (shift-cases n m j)
     go (inl a) (inr b) = omega arith
     go (inr a) (inl b) = omega arith
     go (inr a) (inr b) = omega arith
+
+-- below n nothing changes
+pub shift-row-low : (n m : ℕ) (r : Row) → ((p : ℕ) → r .parent ≡ some p → p < n) → shiftRow n m r ≡ r
+shift-row-low n m r h = ap (withParent r) (go (r .parent) refl)
+  where
+    go : (o : Option ℕ) → r .parent ≡ o → shiftParent n m o ≡ o
+    go none e = refl
+    go (some p) e = ap some (shift-low n m p (h p e))

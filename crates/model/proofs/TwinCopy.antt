@@ -2,7 +2,7 @@
 use mathlib.Core.Path.{_≡_, refl, sym, _∙_, ap, ap₂, subst, subst₂}
 use mathlib.Core.Bool.{Bool, true, false, _&&_, not}
 use mathlib.Core.Logic.{_⊎_, inl, inr}
-use mathlib.Core.List.{List, [], _∷_, _++_, map, append-assoc}
+use mathlib.Core.List.{List, [], _∷_, _++_, map}
 use mathlib.Core.List.{List·Memᴰ as In}
 use mathlib.Core.Option.{Option, none, some, Option·none-ne-some, Option·some-injective}
 use Prim.Native.Nat.{ℕ, suc, _+_, _<_, _≤_}
@@ -19,21 +19,16 @@ use Rattle.model.specs.Paths.{Path, _▸_, anyBelow}
 use Rattle.model.proofs.BoolLaws.{and-right, bool-iff}
 use Rattle.model.proofs.RowLaws.{count-with, row-new, row-old}
 use Rattle.model.proofs.Words.{Word, made, Grown, same, more, grown-trans}
-use Rattle.model.proofs.Labels.{Label, label, grow, labelAt, EndsIn, NewFit, fit-elements, label-new}
+use Rattle.model.proofs.Labels.{Label, label, grow, labelAt, EndsIn, NewFit, fit-elements}
 use Rattle.model.proofs.All.{All, nothing, also, all-imp, all-in}
 use Rattle.model.proofs.Grows.{Grows, grows-row, grows-each, grows-copy}
 use Rattle.model.proofs.Shift.{shift, shiftParent, shiftRow, shift-injective}
 use Rattle.model.proofs.Twin.{World, Script, Own, Changed, Item, Touched, φ, ones, Twin, Valued, Vals, Sim, alike}
-use Rattle.model.proofs.TwinLaws.{item-clear, Alike, one-count, count-across, row-bound, valued-alike}
+use Rattle.model.proofs.TwinLaws.{touched-grow, Alike, one-count, count-across, row-bound, label-last, valued-alike}
 use Rattle.model.proofs.TwinStep.{subtree-alike, subtree-clear}
 use Rattle.model.proofs.TwinRow.{new-sim}
 use Rattle.model.proofs.TwinCut.{changed-below}
 use Rattle.model.proofs.SimLaws.{label-more, sim-gives, sim-more}
-
--- what is below a touched row is touched
-touched-grow : (c : Script) (l : Label) (a : Letter) → Touched c l → Touched c (grow l a)
-touched-grow c l a (inl o) = inl o
-touched-grow c l a (inr k) = inr (λ (w : Word) (g : Grown (a ∷ l .word) w). k w (grown-trans (more same) g))
 
 module _ (W : World) where
   -- COPIES, numbered for the second state
@@ -96,13 +91,8 @@ module _ (W : World) where
         bound = omega (arith, count-with (s .plan) r);
         isElement = ap (λ (r : Row). r .isLeaf) (row-new (s .plan) r) ∙ e;
         clear = λ (h : W .one .hidden (count (s .plan))). omega (arith, W .oneFits .early (count (s .plan)) h, W .oneCount, one-count W news s t T);
-        grows = λ (a : Letter). touched-grow (W .script) (labelAt (ones W (news ++ (l ∷ []))) (count (s .plan))) a (subst (Touched (W .script)) (sym last) k);
+        grows = λ (a : Letter). touched-grow (W .script) (labelAt (ones W (news ++ (l ∷ []))) (count (s .plan))) a (subst (Touched (W .script)) (sym (label-last W news s t T l)) k);
       }
-    where
-      last : labelAt (ones W (news ++ (l ∷ []))) (count (s .plan)) ≡ l
-      last =
-          ap₂ (λ (ls : List Label) (i : ℕ). labelAt ls i) (sym (append-assoc (W .one .labels) news (l ∷ []))) (sym (T .one .fit .size)) ∙
-          label-new (ones W news) l
 
   -- the label of a row more: its parent's grown, or the script's own
   abbrev pub newLabel : List Label → Option ℕ → Letter → Label

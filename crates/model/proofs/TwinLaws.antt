@@ -1,5 +1,5 @@
 -- What follows from a twin: counts, labels, and that rows which are not hidden have their like in the other state.
-use mathlib.Core.Path.{_≡_, refl, sym, _∙_, ap, subst}
+use mathlib.Core.Path.{_≡_, refl, sym, _∙_, ap, ap₂, subst}
 use mathlib.Core.Bool.{Bool, true, false}
 use mathlib.Core.Logic.{_⊎_, inl, inr}
 use mathlib.Core.List.{List, [], _∷_, _++_, map, append-assoc}
@@ -15,22 +15,27 @@ use Rattle.model.specs.Script.{Step}
 use Rattle.model.specs.Step.{Letter, letterOf, admits}
 use Rattle.model.specs.Run.{State, Out, stop, gives}
 use Rattle.model.specs.Paths.{Path, _▸_, withStep}
-use Rattle.model.proofs.Words.{Word, Root, first, Grown}
-use Rattle.model.proofs.Labels.{Label, label, grow, labelAt, Fit}
+use Rattle.model.proofs.Words.{Word, Root, first, Grown, same, more, grown-trans}
+use Rattle.model.proofs.Labels.{Label, label, grow, labelAt, Fit, label-new}
 use Rattle.model.proofs.Below.{Below, below-label, OnPath, on-child, on-below}
 use Rattle.model.proofs.RowLaws.{parent-row}
 use Rattle.model.proofs.Reach.{Reach, byChild, byDeep}
 use Rattle.model.proofs.All.{All, all-imp, all-map, all-in}
 use Rattle.model.proofs.Shift.{shift, shiftParent, shiftRow, shiftRecord, shift-low, shift-high, shift-cases, shift-injective}
-use Rattle.model.proofs.Twin.{Side, Script, SideFits, World, Own, Seen, Item, Good, φ, ones, twos, Twin, Valued, Vals, Sim, both, alike, full}
+use Rattle.model.proofs.Twin.{Side, Script, SideFits, World, Own, Seen, Touched, Item, Good, φ, ones, twos, Twin, Valued, Vals, Sim, both, alike, full}
 
 pub in-step : (s : Step) {p : Path} {r : List Path} → In p r → In (p ▸ s) (withStep s r)
 unfolding withStep
 in-step s (here e) = here (ap (λ (p : Path). p ▸ s) e)
 in-step s (there i) = there (in-step s i)
 
+-- what is below a touched row is touched
+pub touched-grow : (c : Script) (l : Label) (a : Letter) → Touched c l → Touched c (grow l a)
+touched-grow c l a (inl o) = inl o
+touched-grow c l a (inr k) = inr (λ (w : Word) (g : Grown (a ∷ l .word) w). k w (grown-trans (more same) g))
+
 -- A label behind the first ones
-label-high : (ls news : List Label) (i k : ℕ) → i ≡ length ls + k → labelAt (ls ++ news) i ≡ labelAt news k
+pub label-high : (ls news : List Label) (i k : ℕ) → i ≡ length ls + k → labelAt (ls ++ news) i ≡ labelAt news k
 label-high ls news i k e =
     subst (λ (j : ℕ). labelAt (ls ++ news) j ≡ labelAt news k) (sym e) (getD-append-add ls news k (label (first 0) []))
 
@@ -114,6 +119,12 @@ module _ (W : World) where
 
     pub same-length : length (t .history) ≡ length (s .history)
     same-length = ap length (T .histories) ∙ length-map (s .history) (shiftRecord (W .n) (W .m))
+
+    -- the label of the next row
+    pub label-last : (l : Label) → labelAt (ones W (news ++ (l ∷ []))) (count (s .plan)) ≡ l
+    label-last l =
+        ap₂ (λ (ls : List Label) (i : ℕ). labelAt ls i) (sym (append-assoc (W .one .labels) news (l ∷ []))) (sym (T .one .fit .size)) ∙
+        label-new (ones W news) l
 
     pub valued-alike : (r : List Path) (i : ℕ) → Valued W r news i → Alike s i (φ W i)
     valued-alike r i k =

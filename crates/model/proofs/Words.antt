@@ -5,6 +5,7 @@ use mathlib.Core.Logic.{_⊎_, inl, inr}
 use mathlib.Core.List.{List, [], _∷_}
 use mathlib.Core.Option.{Option, none, some}
 use Prim.Native.Nat.{ℕ}
+use native.Mathlib.Omega.{arith}
 use lib.ListN.{getD}
 use Rattle.model.specs.Script.{Step}
 use Rattle.model.specs.Step.{Letter, leafLetter, named, admits}
@@ -18,6 +19,14 @@ Word = List Letter
 pub data Root : Type 0 where
   first : (row : ℕ) → Root
   made : (owner : ℕ) → Root
+
+pub first-made : (i o : ℕ) → first i ≡ made o → ⊥
+first-made i o e =
+    let z : _≡_ {A = ℕ} 0 1 = cc in
+    omega arith
+
+pub made-injective : (o p : ℕ) → made o ≡ made p → o ≡ p
+made-injective o p e = cc
 
 -- GROWN: a word, or more letters below it
 pub data Grown (u : Word) : Word → Type 0 where
@@ -79,3 +88,9 @@ pub data On (marks : List (Option ℕ)) : Path → Root → Word → Type 0 wher
       On marks (p ▸ s) r (a ∷ w)
   deep : {p : Path} {s : Step} {r : Root} {a : Letter} {u w : Word} → On marks p r u → Grown u w → s .axis ≡ 1 → admits s a ≡ true →
       On marks (p ▸ s) r (a ∷ w)
+
+-- what is on a path has a row of the first table for its root
+pub on-first : {marks : List (Option ℕ)} {p : Path} {r : Root} {w : Word} → On marks p r w → (i : ℕ) × (r ≡ first i)
+on-first (at {i = i} o m) = (i, refl)
+on-first (child f x z) = on-first f
+on-first (deep f y x z) = on-first f

@@ -1,0 +1,180 @@
+-- Outcomes of expressions without operands, and what joins, steps, picks and loops make of the operands' outcomes.
+use mathlib.Core.Path.{_≡_, refl, sym, _∙_, ap, ap₂, subst, subst₂}
+use mathlib.Core.Bool.{Bool, true, false, _&&_, true≢false, false≢true}
+use mathlib.Core.Logic.{_⊎_, inl, inr}
+use mathlib.Core.List.{List, [], _∷_, _++_, map, map-append}
+use mathlib.Core.List.{List·Memᴰ as In, List·Memᴰ·head as here}
+use mathlib.Core.Option.{Option, none, some, Option·none-ne-some}
+use Prim.Native.Nat.{ℕ, _+_, _<_, _≤_}
+use native.Mathlib.Omega.{arith}
+use lib.Dec.{ltb}
+use lib.ListN.{length, getD, length-map}
+use Rattle.model.specs.Base.{pick}
+use Rattle.model.specs.Limits.{maxItems}
+use Rattle.model.specs.Refusal.{Fault, itemsAt}
+use Rattle.model.specs.Table.{Row, Table, rowAt, count}
+use Rattle.model.specs.Script.{Step}
+use Rattle.model.specs.Step.{letterOf, relates, isPicked, stepped, picked}
+use Rattle.model.specs.Run.{State, Out, stop, gives, joinItems, joinFor, loop, marked, loose, newRow, withMade}
+use Rattle.model.specs.Paths.{Path, start, _▸_, withStep, place, documentPlace, isUp}
+use Rattle.model.proofs.Words.{first, made, at}
+use Rattle.model.proofs.RowLaws.{count-with}
+use Rattle.model.proofs.Labels.{Label, label, labelAt, label-new}
+use Rattle.model.proofs.Below.{OnPath}
+use Rattle.model.proofs.All.{All, nothing, also, all-append}
+use Rattle.model.proofs.Grows.{Grows, grows-gives, grows-loop}
+use Rattle.model.proofs.Shift.{shift, shiftRow, shift-low}
+use Rattle.model.proofs.Twin.{World, Item, φ, ones, Twin, Valued, Vals, Full, stopped, passed, Sim, both, alike, full}
+use Rattle.model.proofs.TwinLaws.{label-side, ones-length, Alike, count-across, label-last, valued-alike}
+use Rattle.model.proofs.TwinStep.{step-alike, step-vals}
+use Rattle.model.proofs.TwinRow.{new-sim}
+use Rattle.model.proofs.TwinCopy.{Base, newLabel, new-fit, new-touched}
+use Rattle.model.proofs.SimLaws.{vals-more, sim-gives, sim-more, full-grows}
+
+module _ (W : World) where
+  -- DOCUMENT: its root is not hidden, and has the same number in both tables
+  pub sim-document : (d : ℕ) → W .script .accessed (start (documentPlace d)) → (news : List Label) (s t : State) → Twin W news s t →
+      Sim W (start (documentPlace d) ∷ []) news (gives (marked (getD (s .plan .marks) d none)) s) (gives (marked (getD (t .plan .marks) d none)) t)
+  sim-document d acc news s t T =
+      subst₂
+      (λ (a b : List (Option ℕ)).
+      Sim W (start (documentPlace d) ∷ []) news (gives (marked (getD a d none)) s) (gives (marked (getD b d none)) t))
+      (sym (T .one .marked)) (sym (T .two .marked)) (go (getD (W .script .marks) d none) refl)
+    where
+      go : (o : Option ℕ) → getD (W .script .marks) d none ≡ o →
+          Sim W (start (documentPlace d) ∷ []) news (gives (marked o) s) (gives (marked o) t)
+      go none e = sim-gives W (start (documentPlace d) ∷ []) news [] s t T nothing
+      go (some i) e =
+          subst (λ (j : ℕ). Sim W (start (documentPlace d) ∷ []) news (gives (i ∷ []) s) (gives (j ∷ []) t))
+          (shift-low (W .n) (W .m) i (omega (arith, k .0, W .oneCount)))
+          (sim-gives W (start (documentPlace d) ∷ []) news (i ∷ []) s t T
+          (also (omega (arith, k .0, W .oneCount, ones-length W news), inr (start (documentPlace d), here refl, acc, on)) nothing))
+        where
+          k : (i < count (W .one .plan)) × (labelAt (W .one .labels) i ≡ label (first i) [])
+          k = W .oneFits .rooted d i e
+
+          on : OnPath (W .script .marks) (start (documentPlace d)) (labelAt (ones W news) i)
+          on =
+              subst (λ (l : Label). OnPath (W .script .marks) (start (documentPlace d)) l)
+              (sym (label-side (W .script) (W .one) (W .oneFits) news i (k .0) ∙ k .1)) (at refl e)
+
+  -- CONSTRUCTOR: the row is the script's own
+  pub sim-new : (r : List Path) (z : ℕ) (b : Bool) (n : ℕ) (news : List Label) (s t : State) → Twin W news s t →
+      Sim W r news (newRow z (loose b n) s) (newRow z (loose b n) t)
+  sim-new r z b n news s t T =
+      new-sim W news s t T r z (loose b n) own (new-fit W news s t T (loose b n) base)
+      (λ (p : ℕ) (e : none ≡ some p). absurd (Option·none-ne-some p e)) (new-touched W news s t T (loose b n) base) (λ (o : Out). o)
+      (λ (o : Out). o) (λ (x : Fault). refl) (λ (x : Fault). refl)
+      (λ (N : Twin W (news ++ (own ∷ [])) (withMade s (loose b n)) (withMade t (loose b n))).
+      subst (λ (i : ℕ). Sim W r news (gives (count (s .plan) ∷ []) (withMade s (loose b n))) (gives (i ∷ []) (withMade t (loose b n))))
+      (count-across W news s t T) (both (own ∷ []) N (also (bound N, inl (ap (λ (l : Label). l .root) (label-last W news s t T own))) nothing)))
+      (grows-gives (count (s .plan) ∷ []) (withMade s (loose b n)))
+    where
+      own : Label
+      own = label (made (W .script .owner)) []
+
+      base : (p : ℕ) → none ≡ some p → Base W news s p
+      base p e = absurd (Option·none-ne-some p e)
+
+      bound : Twin W (news ++ (own ∷ [])) (withMade s (loose b n)) (withMade t (loose b n)) → count (s .plan) < length (ones W (news ++ (own ∷ [])))
+      bound N = omega (arith, N .one .fit .size, count-with (s .plan) (loose b n))
+
+  -- STEP
+  pub sim-step : (r : List Path) (u : Step) → isUp u ≡ false → ((p : Path) → In p r → W .script .accessed (p ▸ u)) → (news : List Label)
+      (v : List ℕ) (s t : State) → Twin W news s t → Vals W r news v →
+      Sim W (withStep u r) news (gives (stepped (s .plan) u v) s) (gives (stepped (t .plan) u (map (φ W) v)) t)
+  sim-step r u d acc news v s t T a =
+      subst (λ (l : List ℕ). Sim W (withStep u r) news (gives (stepped (s .plan) u v) s) (gives l t))
+      (step-alike W news s t T r u d acc v a)
+      (sim-gives W (withStep u r) news (stepped (s .plan) u v) s t T (step-vals W news s t T r u d acc v a))
+
+  -- PICK: kept in one, kept in the other
+  picked-alike : (r : List Path) (y c : ℕ) (news : List Label) (s t : State) → Twin W news s t → (v : List ℕ) → Vals W r news v →
+      (map (φ W) (picked (s .plan) y c v) ≡ picked (t .plan) y c (map (φ W) v)) × Vals W r news (picked (s .plan) y c v)
+  unfolding picked
+  picked-alike r y c news s t T [] nothing = (refl, nothing)
+  picked-alike r y c news s t T (i ∷ is) (also k a) =
+      go (picked-alike r y c news s t T is a) (isPicked (s .plan) y c i) (isPicked (t .plan) y c (φ W i))
+      (ap₂ (λ (b : Bool) (n : ℕ). b && relates y c n) (ap (λ (r : Row). r .isLeaf) same) (ap (λ (r : Row). r .tag) same))
+    where
+      l : Alike W s i (φ W i)
+      l = valued-alike W news s t T r i k
+
+      same : rowAt (t .plan) (φ W i) ≡ shiftRow (W .n) (W .m) (rowAt (s .plan) i)
+      same = T .alike i (l .0) (l .1)
+
+      go : (map (φ W) (picked (s .plan) y c is) ≡ picked (t .plan) y c (map (φ W) is)) × Vals W r news (picked (s .plan) y c is) →
+          (b d : Bool) → d ≡ b →
+          (map (φ W) (pick b (i ∷ picked (s .plan) y c is) (picked (s .plan) y c is)) ≡
+          pick d (φ W i ∷ picked (t .plan) y c (map (φ W) is)) (picked (t .plan) y c (map (φ W) is))) ×
+          Vals W r news (pick b (i ∷ picked (s .plan) y c is) (picked (s .plan) y c is))
+      go (e, h) true true f = (ap (λ (l : List ℕ). φ W i ∷ l) e, also k h)
+      go (e, h) false false f = (e, h)
+      go (e, h) true false f = absurd (false≢true f)
+      go (e, h) false true f = absurd (true≢false f)
+
+  pub sim-pick : (r : List Path) (y c : ℕ) (news : List Label) (v : List ℕ) (s t : State) → Twin W news s t → Vals W r news v →
+      Sim W r news (gives (picked (s .plan) y c v) s) (gives (picked (t .plan) y c (map (φ W) v)) t)
+  sim-pick r y c news v s t T a =
+      let (e, k) = picked-alike r y c news s t T v a in
+      subst (λ (l : List ℕ). Sim W r news (gives (picked (s .plan) y c v) s) (gives l t)) e
+      (sim-gives W r news (picked (s .plan) y c v) s t T k)
+
+  -- JOIN: as many items in both
+  test-items : (v w : List ℕ) → ltb maxItems (length (map (φ W) v) + length (map (φ W) w)) ≡ ltb maxItems (length v + length w)
+  test-items v w = ap₂ (λ (a b : ℕ). ltb maxItems (a + b)) (length-map v (φ W)) (length-map w (φ W))
+
+  pub sim-join : (r : List Path) (z : ℕ) (news : List Label) (v w : List ℕ) (s t : State) → Twin W news s t → Vals W r news (v ++ w) →
+      Sim W r news (joinItems z v w s) (joinItems z (map (φ W) v) (map (φ W) w) t)
+  sim-join r z news v w s t T a =
+      subst₂
+      (λ (b : Bool) (l : List ℕ).
+      Sim W r news (pick (ltb maxItems (length v + length w)) (stop (itemsAt z)) (gives (v ++ w) s)) (pick b (stop (itemsAt z)) (gives l t)))
+      (sym (test-items v w)) (map-append (φ W) v w) (go (ltb maxItems (length v + length w)))
+    where
+      go : (b : Bool) →
+          Sim W r news (pick b (stop (itemsAt z)) (gives (v ++ w) s)) (pick b (stop (itemsAt z)) (gives (map (φ W) (v ++ w)) t))
+      go true = alike
+      go false = sim-gives W r news (v ++ w) s t T a
+
+  -- FOR: one item, and the items after it
+  sim-for : (r : List Path) (z : ℕ) (news : List Label) (v : List ℕ) (next next′ : List ℕ → State → Out) {o o′ : Out} → Sim W r news o o′ →
+      Vals W r news v →
+      ((more : List Label) (w : List ℕ) (s t : State) → Twin W (news ++ more) s t → Vals W r (news ++ more) w →
+      Sim W r (news ++ more) (next w s) (next′ (map (φ W) w) t)) →
+      ((w : List ℕ) (s : State) → Grows (count (s .plan)) (next w s)) → Sim W r news (joinFor z v o next) (joinFor z (map (φ W) v) o′ next′)
+  sim-for r z news v next next′ (both {v = w} {s} {t} more T a) k h g =
+      sim-more W r news more
+      (subst₂
+      (λ (b : Bool) (l : List ℕ).
+      Sim W r (news ++ more) (pick (ltb maxItems (length v + length w)) (stop (itemsAt z)) (next (v ++ w) s))
+      (pick b (stop (itemsAt z)) (next′ l t)))
+      (sym (test-items v w)) (map-append (φ W) v w) (go (ltb maxItems (length v + length w))))
+    where
+      go : (b : Bool) →
+          Sim W r (news ++ more) (pick b (stop (itemsAt z)) (next (v ++ w) s)) (pick b (stop (itemsAt z)) (next′ (map (φ W) (v ++ w)) t))
+      go true = alike
+      go false = h more (v ++ w) s t T (all-append (vals-more W r news more k) a)
+  sim-for r z news v next next′ alike k h g = alike
+  sim-for r z news v next next′ (full b stopped) k h g = full b stopped
+  sim-for r z news v next next′ (full b (passed {v = w} {s} l)) k h g = full b (go (ltb maxItems (length v + length w)))
+    where
+      go : (b : Bool) → Full W (pick b (stop (itemsAt z)) (next (v ++ w) s))
+      go true = stopped
+      go false = full-grows W (count (s .plan)) (next (v ++ w) s) l (g (v ++ w) s)
+
+  -- K is what the loop's body needs of the labels, and keeps with more of them
+  pub sim-loop : (K : List Label → Type 0) → ((news more : List Label) → K news → K (news ++ more)) → (q r : List Path) (z : ℕ)
+      (f f′ : ℕ → State → Out) →
+      ((news : List Label) (i : ℕ) (s t : State) → K news → Twin W news s t → Valued W q news i → Sim W r news (f i s) (f′ (φ W i) t)) →
+      ((i : ℕ) (s : State) → Grows (count (s .plan)) (f i s)) → (is : List ℕ) (news : List Label) (v : List ℕ) (s t : State) → K news →
+      Twin W news s t → Vals W q news is → Vals W r news v →
+      Sim W r news (loop z f is v s) (loop z f′ (map (φ W) is) (map (φ W) v) t)
+  unfolding loop
+  sim-loop K keep q r z f f′ h g [] news v s t k T nothing b = sim-gives W r news v s t T b
+  sim-loop K keep q r z f f′ h g (i ∷ is) news v s t k T (also c a) b =
+      sim-for r z news v (λ (w : List ℕ) (t : State). loop z f is w t) (λ (w : List ℕ) (t : State). loop z f′ (map (φ W) is) w t)
+      (h news i s t k T c) b
+      (λ (more : List Label) (w : List ℕ) (s t : State) (U : Twin W (news ++ more) s t) (d : Vals W r (news ++ more) w).
+      sim-loop K keep q r z f f′ h g is (news ++ more) w s t (keep news more k) U (vals-more W q news more a) d)
+      (λ (w : List ℕ) (s : State). grows-loop z f g is w s)
