@@ -9,6 +9,7 @@ use lib.ListN.{length, getD, length-append}
 use lib.Seq.{drop-at}
 use borrow.Author.Tests.{eqb-true, lt-ltb, le-leb, ne-eqb}
 use Rattle.model.specs.Base.{isIn}
+use Rattle.model.specs.Limits.{maxHistory}
 use Rattle.model.specs.Refusal.{isFine}
 use Rattle.model.specs.Stored.{wordAt, parentIn, parentBytes}
 use Rattle.model.specs.History.{Record, madeElementKind, cutKind, recordBytes, historyBytes}
@@ -46,11 +47,12 @@ recordIn-back r f c = go (eqb (r .kind) cutKind) refl
         rw e (λ i. record { kind = sym k i; row = w i; tag = sym (f .noTag k) i; parent = p i })
     go false e = rw e (λ i. record { kind = r .kind; row = w i; tag = r .tag; parent = p i })
 
-pub formFault-fine : (r : Record) → IsInRange r → (i n : ℕ) (c : List ℕ) → n < 2048 → isFine (formFault i n (recordBytes r ++ c)) ≡ true
+pub formFault-fine : (r : Record) → IsInRange r → (i n : ℕ) (c : List ℕ) → n < maxHistory →
+    isFine (formFault i n (recordBytes r ++ c)) ≡ true
 formFault-fine r f i n c l =
     isFine-check (isIn madeElementKind cutKind (r .kind)) 0 i _ ∙
     and-both _ _ (f .kindIn)
-    (isFine-check (ltb n 2048) 4 i _ ∙
+    (isFine-check (ltb n maxHistory) 4 i _ ∙
     and-both _ _ (lt-ltb _ _ l)
     (isFine-check (leb (historySize (r .kind)) (length b)) 1 i _ ∙
     and-both _ _ (le-leb (historySize (r .kind)) (length b) (omega (arith, length-recordBytes r, length-append (recordBytes r) c)))
@@ -79,7 +81,7 @@ pub allInRange-snoc : {rs : List Record} {r : Record} → AllInRange rs → IsIn
 allInRange-snoc noneYet f = andAlso f noneYet
 allInRange-snoc (andAlso g a) f = andAlso g (allInRange-snoc a f)
 
-formFrom-step : (k i n : ℕ) (r : Record) (c : List ℕ) → IsInRange r → n < 2048 →
+formFrom-step : (k i n : ℕ) (r : Record) (c : List ℕ) → IsInRange r → n < maxHistory →
     formFrom (suc k) i n (recordBytes r ++ c) ≡
     withPlaced (record { at = i; entry = r }) (formFrom k (i + historySize (r .kind)) (n + 1) c)
 unfolding formFrom
@@ -91,7 +93,7 @@ formFrom-step k i n r c f l =
     b : List ℕ
     b = recordBytes r ++ c
 
-pub formFrom-placed : (k i n : ℕ) (rs : List Record) → AllInRange rs → n + length rs ≤ 2048 → length (historyBytes rs) ≤ k →
+pub formFrom-placed : (k i n : ℕ) (rs : List Record) → AllInRange rs → n + length rs ≤ maxHistory → length (historyBytes rs) ≤ k →
     formFrom k i n (historyBytes rs) ≡ formed (placed i rs)
 unfolding formFrom historyBytes placed
 formFrom-placed zero i n [] a l h = refl

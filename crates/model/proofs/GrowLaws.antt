@@ -10,6 +10,7 @@ use lib.Dec.{ltb, eqb}
 use lib.ListN.{length, getD, set, length-append, length-set, List·getD-append}
 use lib.Seq.{getD-append-seam, getD-set-same, getD-set-other}
 use borrow.Author.Tests.{ltb-true, ltb-false, eqb-true, eqb-false}
+use Rattle.model.specs.Limits.{maxRows}
 use Rattle.model.specs.Table.{Row, Table, noRow, rowAt, count, isMarked, withRow, withParent, linked, withMark, tagFits, parentFits}
 use Rattle.model.proofs.BoolLaws.{true-false}
 use Rattle.model.proofs.TableLaws.{any-by, parentFits-at, isElement-at, parent-count, ParentLower, IsRoot, Tree, Well}
@@ -60,7 +61,7 @@ module _ (x : Table) (r : Row) (t : Tree x) (f : tagFits r ≡ true) (g : parent
     once = t .once;
   }
 
-  pub well-withRow : Well x → count x < 512 → Well (withRow x r)
+  pub well-withRow : Well x → count x < maxRows → Well (withRow x r)
   well-withRow w l = record { few = omega (arith, count-withRow x r); eight = w .eight; tree = tree-withRow }
 
 -- A MARK MORE

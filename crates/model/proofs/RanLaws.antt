@@ -4,6 +4,7 @@ use mathlib.Core.Bool.{Bool, true, false}
 use mathlib.Core.List.{List, [], _∷_, _++_}
 use mathlib.Core.Option.{none, some, Option·none-ne-some}
 use Prim.Native.Nat.{ℕ, _<_}
+use Rattle.model.specs.Limits.{maxRows}
 use Rattle.model.specs.Table.{Row, Table, rowAt, count, withRow, linked, tagFits, parentFits}
 use Rattle.model.specs.History.{Record, replayed, replayAll}
 use Rattle.model.specs.Run.{State, state, made, withMade, cutRecord, cutRow}
@@ -13,7 +14,7 @@ use Rattle.model.proofs.GrowLaws.{well-withRow, well-linked}
 -- THE STATES that a run on x can come to
 pub data Ran (x : Table) : State → Type 0 where
   begun : Ran x (state x [])
-  rowMade : (s : State) (r : Row) → Ran x s → count (s .plan) < 512 → tagFits r ≡ true →
+  rowMade : (s : State) (r : Row) → Ran x s → count (s .plan) < maxRows → tagFits r ≡ true →
       parentFits (s .plan) (count (s .plan)) (r .parent) ≡ true → Ran x (withMade s r)
   linkCut : (s : State) (i p : ℕ) → Ran x s → rowAt (s .plan) i .parent ≡ some p → Ran x (cutRow s i p)
 

@@ -9,6 +9,7 @@ use lib.Dec.{ltb, eqb}
 use lib.ListN.{length, getD}
 use borrow.Author.Tests.{ltb-true, eqb-true, lt-ltb}
 use Rattle.model.specs.Base.{pick}
+use Rattle.model.specs.Limits.{maxRows, maxItems, maxHistory}
 use Rattle.model.specs.Refusal.{isFine, historyAt, unless}
 use Rattle.model.specs.Table.{Row, Table, rowAt, count, isElement, withRow, linked, tagFits, parentFits}
 use Rattle.model.specs.Script.{Expr, nil, document, var, step, both, letIn, forIn, ifIn, element, leaf, delete, insert, choose}
@@ -83,10 +84,11 @@ gives-keeps : (x : Table) (v : List ℕ) (s : State) → Ran x s → AreRows (co
 gives-keeps x v s r a = (r, a, enlarged-self (s .plan))
 
 -- NEW ROWS
-roomFault-room : (z : ℕ) (s : State) → isFine (roomFault z s) ≡ true → count (s .plan) < 512
+roomFault-room : (z : ℕ) (s : State) → isFine (roomFault z s) ≡ true → count (s .plan) < maxRows
 roomFault-room z s h =
-    ltb-true (count (s .plan)) 512
-    (and-left _ _ (sym (isFine-check (ltb (count (s .plan)) 512) 9 z (unless (ltb (length (s .history)) 2048) (historyAt z))) ∙ h))
+    ltb-true (count (s .plan)) maxRows
+    (and-left _ _
+    (sym (isFine-check (ltb (count (s .plan)) maxRows) 9 z (unless (ltb (length (s .history)) maxHistory) (historyAt z))) ∙ h))
 
 newRow-keeps : (x : Table) (z : ℕ) (r : Row) (s : State) → Ran x s → tagFits r ≡ true →
     parentFits (s .plan) (count (s .plan)) (r .parent) ≡ true → Keeps x (s .plan) (newRow z r s)
@@ -107,7 +109,7 @@ cutAll-keeps x z (i ∷ is) s r = go (rowAt (s .plan) i .parent) refl (λ t q. c
         Keeps x (s .plan) (cutBy z i s p (λ (t : State). cutAll z is t))
     go none e h = h s r
     go (some p) e h =
-        pick-keeps x (s .plan) (ltb (length (s .history)) 2048) _ _
+        pick-keeps x (s .plan) (ltb (length (s .history)) maxHistory) _ _
         (λ q.
         keeps-from x (s .plan) (linked (s .plan) i none) (cutAll z is (cutRow s i p)) (enlarged-cut (s .plan) i p e)
         (h (cutRow s i p) (linkCut s i p r e)))
@@ -200,7 +202,7 @@ inserted-keeps x well place v w s r a =
 joinItems-keeps : (x : Table) (z : ℕ) (v w : List ℕ) (s : State) → Ran x s → AreRows (count (s .plan)) v → AreRows (count (s .plan)) w →
     Keeps x (s .plan) (joinItems z v w s)
 joinItems-keeps x z v w s r a b =
-    pick-keeps x (s .plan) (ltb 512 (length v + length w)) _ _ (λ e. tt) (λ e. gives-keeps x (v ++ w) s r (areRows-append a b))
+    pick-keeps x (s .plan) (ltb maxItems (length v + length w)) _ _ (λ e. tt) (λ e. gives-keeps x (v ++ w) s r (areRows-append a b))
 
 loop-keeps : (x y : Table) (z : ℕ) (f : ℕ → State → Out) →
     ((i : ℕ) (u : State) → Ran x u → Enlarged y (u .plan) → i < count (u .plan) → Keeps x (u .plan) (f i u)) →
@@ -216,7 +218,7 @@ loop-keeps x y z f h (i ∷ is) v s (moreRows l a) b r g = joined (f i s) (h i s
         Keeps x (s .plan) (joinFor z v o (λ (w : List ℕ) (u : State). loop z f is w u))
     joined (stop q) k next = tt
     joined (gives w u) k next =
-        pick-keeps x (s .plan) (ltb 512 (length v + length w)) _ _ (λ e. tt)
+        pick-keeps x (s .plan) (ltb maxItems (length v + length w)) _ _ (λ e. tt)
         (λ e.
         keeps-from x (s .plan) (u .plan) (loop z f is (v ++ w) u) (k .2)
         (next (v ++ w) u (areRows-more (k .2 .more) a) (areRows-append (areRows-more (k .2 .more) b) (k .1)) (k .0)

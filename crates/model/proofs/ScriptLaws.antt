@@ -7,6 +7,7 @@ use lib.Dec.{ltb, leb, eqb}
 use lib.ListN.{length, getD}
 use borrow.Author.Tests.{eqb-true, le-leb}
 use Rattle.model.specs.Base.{pick, isIn, areBytes}
+use Rattle.model.specs.Limits.{maxRecords, maxDepth, maxBinders}
 use Rattle.model.specs.Refusal.{isFine}
 use Rattle.model.specs.Table.{tagFits}
 use Rattle.model.specs.Script.{Expr, nil, document, var, step, both, letIn, forIn, ifIn, element, leaf, delete, insert, choose}
@@ -100,7 +101,7 @@ bodyFits-fine : (i n d v : ℕ) (b : List ℕ) → isFine (exprFault i n d v b) 
 bodyFits-fine i n d v b h =
     sym (isFine-unless (bodyFits v b) 3 i) ∙
     isFine-rest (leb (1 + bodySize (getD b 0 0)) (length b)) 1 i _
-    (isFine-rest (ltb n 64 && leb d 16 && not (isBinder (getD b 0 0) && leb 8 v)) 4 i _
+    (isFine-rest (ltb n maxRecords && leb d maxDepth && not (isBinder (getD b 0 0) && leb maxBinders v)) 4 i _
     (isFine-rest (isIn nilKind pickKind (getD b 0 0)) 0 i _ (isFine-rest (ltb 0 (length b)) 1 i _ h)))
 
 parseFrom-well : (k d : ℕ) → ReaderWell (parseFrom k d)
@@ -118,4 +119,5 @@ whole-well (ill x) h = tt
 whole-well (parsed e i n c) h = pick-well (eqb (length c) 0) _ _ (λ q. h) (λ q. tt)
 
 pub isScript-fields : (e : Expr) → IsScript e → FieldsFit e
-isScript-fields e (b, a, (i, (n, (c, q)))) = subst ReadsWell q (whole-well (parseFrom 18 1 0 0 0 b) (parseFrom-well 18 1 0 0 0 b a)) .0
+isScript-fields e (b, a, (i, (n, (c, q)))) =
+    subst ReadsWell q (whole-well (parseFrom (maxDepth + 2) 1 0 0 0 b) (parseFrom-well (maxDepth + 2) 1 0 0 0 b a)) .0

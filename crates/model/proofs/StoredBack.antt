@@ -12,9 +12,11 @@ use lib.ListN.{length, getD, take, drop, set, replicate, length-append, length-d
 use lib.Seq.{drop-at, set-append-seam, getD-append-seam}
 use borrow.Author.Tests.{ltb-true, ltb-false, eqb-true, eqb-false, lt-ltb}
 use Rattle.model.specs.Base.{pick, areBytes}
+use Rattle.model.specs.Limits.{documents}
 use Rattle.model.specs.Refusal.{isFine}
 use Rattle.model.specs.Table.{Row, Table, table, empty, noRow, rowAt, count, withRow, withMark, isMarked, tagFits, parentFits}
-use Rattle.model.specs.Stored.{Read, got, stored, parentBytes, rowBytes, rowsBytes, markBytes, marksBytes, rowIn, wordAt}
+use Rattle.model.specs.Stored.{elementKind, leafKind, Read, got, stored, parentBytes, rowBytes, rowsBytes, markBytes, marksBytes}
+use Rattle.model.specs.Stored.{rowIn, wordAt}
 use Rattle.model.specs.Stored.{recordFault, recorded, readFrom, readPlan}
 use Rattle.model.specs.Promise.{StoredBack}
 use Rattle.model.proofs.BoolLaws.{and-both}
@@ -135,7 +137,7 @@ module _ (x : Table) (w : Well x) (done rest : List Row) (r : Row) (e : done ++ 
         parent = subst (λ (s : Row). parentFits (table done ms) (length done) (s .parent) ≡ true) q (next-parent ms (r .parent) refl);
       }
     where
-      kind : (t : Bool) → (17 ≤ pick t 18 17) × (pick t 18 17 ≤ 18)
+      kind : (t : Bool) → (elementKind ≤ pick t leafKind elementKind) × (pick t leafKind elementKind ≤ leafKind)
       kind true = omega arith
       kind false = omega arith
 
@@ -179,7 +181,7 @@ module _ (x : Table) (w : Well x) (done rest : List (Option ℕ)) (j : ℕ) (e :
   next-mark : getD (x .marks) (length done) none ≡ some j
   next-mark = ap (λ (l : List (Option ℕ)). getD l (length done) none) (sym e) ∙ getD-append-seam done (some j) rest none
 
-  next-document : length done < 8
+  next-document : length done < documents
   next-document = omega (arith, length-append done (some j ∷ rest), ap length e, w .eight)
 
   done-mark : (d : ℕ) → d < length done → getD (x .marks) d none ≡ getD done d none
@@ -245,7 +247,7 @@ read-marks x w done (some j ∷ rest) i e =
 stored-read : (x : Table) → Well x → readPlan (stored x) ≡ got x
 stored-read x w =
     readFrom-fuel (length (stored x) + 1) (length (stored x)) empty 0 (stored x) (omega arith) (omega arith) ∙
-    read-rows x w [] (x .rows) (replicate 8 none) 0 (marksBytes 0 (x .marks)) refl (replicate-none 8) ∙
+    read-rows x w [] (x .rows) (replicate documents none) 0 (marksBytes 0 (x .marks)) refl (replicate-none documents) ∙
     ap (λ (n : ℕ). readAll (table (x .rows) (replicate n none)) (0 + 4 * count x) (marksBytes 0 (x .marks))) (sym (w .eight)) ∙
     read-marks x w [] (x .marks) (0 + 4 * count x) refl
 

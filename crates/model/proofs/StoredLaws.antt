@@ -10,6 +10,7 @@ use lib.Dec.{ltb, leb, eqb}
 use lib.ListN.{length, getD, drop, length-drop}
 use borrow.Author.Tests.{ltb-true, leb-true, eqb-true, eqb-false, not-true, lt-ltb, le-leb, eq-eqb, ne-eqb}
 use Rattle.model.specs.Base.{pick, isIn}
+use Rattle.model.specs.Limits.{maxRows, documents}
 use Rattle.model.specs.Refusal.{Fault, isFine, unless, orElse, fieldAt, linkAt}
 use Rattle.model.specs.Table.{Table, rowAt, count, isElement, isMarked, hasParent, withRow, withMark, tagFits, parentFits}
 use Rattle.model.specs.Stored.{bad, got, wordAt, rowIn, isMark, lastMarked, rowLinks, markLinks, recordFault, recorded, readFrom}
@@ -58,7 +59,7 @@ readFrom-fuel (suc n) (suc m) x i b h k =
 -- A FINE RECORD is a row with room and a fitting parent, before any mark, or a mark on a root, with rising document
 pub record IsRowRecord (x : Table) (b : List ℕ) : Type 0 where
   pub kind : (elementKind ≤ getD b 0 0) × (getD b 0 0 ≤ leafKind)
-  pub room : count x < 512
+  pub room : count x < maxRows
   pub long : 4 ≤ length b
   pub tag : tagFits (rowIn b) ≡ true
   pub before : lastMarked 0 (x .marks) ≡ 0
@@ -67,7 +68,7 @@ pub record IsRowRecord (x : Table) (b : List ℕ) : Type 0 where
 pub record IsMarkRecord (x : Table) (b : List ℕ) : Type 0 where
   pub kind : getD b 0 0 ≡ markKind
   pub long : 4 ≤ length b
-  pub document : getD b 1 0 < 8
+  pub document : getD b 1 0 < documents
   pub rises : lastMarked 0 (x .marks) ≤ getD b 1 0
   pub root : IsRoot x (wordAt b 2)
   pub unmarked : isMarked x (wordAt b 2) ≡ false
@@ -77,31 +78,31 @@ abbrev pub rowFine : Table → List ℕ → Bool
 rowFine x b = tagFits (rowIn b) && rowLinks x (rowIn b)
 
 abbrev pub markFine : Table → List ℕ → Bool
-markFine x b = ltb (getD b 1 0) 8 && markLinks x (getD b 1 0) (wordAt b 2)
+markFine x b = ltb (getD b 1 0) documents && markLinks x (getD b 1 0) (wordAt b 2)
 
 abbrev pub recordFine : Table → List ℕ → Bool
 recordFine x b =
     isIn elementKind markKind (getD b 0 0) &&
-    ((isMark b || ltb (count x) 512) && (leb 4 (length b) && pick (isMark b) (markFine x b) (rowFine x b)))
+    ((isMark b || ltb (count x) maxRows) && (leb 4 (length b) && pick (isMark b) (markFine x b) (rowFine x b)))
 
 pub isFine-record : (x : Table) (i : ℕ) (b : List ℕ) → isFine (recordFault x i b) ≡ recordFine x b
 isFine-record x i b =
     isFine-check (isIn elementKind markKind (getD b 0 0)) 0 i _ ∙
     ap (λ (t : Bool). isIn elementKind markKind (getD b 0 0) && t)
-    (isFine-check (isMark b || ltb (count x) 512) 4 i _ ∙
-    ap (λ (t : Bool). (isMark b || ltb (count x) 512) && t)
+    (isFine-check (isMark b || ltb (count x) maxRows) 4 i _ ∙
+    ap (λ (t : Bool). (isMark b || ltb (count x) maxRows) && t)
     (isFine-check (leb 4 (length b)) 1 i _ ∙ ap (λ (t : Bool). leb 4 (length b) && t) (go (isMark b))))
   where
     marks : Fault
-    marks = orElse (unless (ltb (getD b 1 0) 8) (fieldAt i)) (unless (markLinks x (getD b 1 0) (wordAt b 2)) (linkAt i))
+    marks = orElse (unless (ltb (getD b 1 0) documents) (fieldAt i)) (unless (markLinks x (getD b 1 0) (wordAt b 2)) (linkAt i))
 
     rows : Fault
     rows = orElse (unless (tagFits (rowIn b)) (fieldAt i)) (unless (rowLinks x (rowIn b)) (linkAt i))
 
     go : (t : Bool) → isFine (pick t marks rows) ≡ pick t (markFine x b) (rowFine x b)
     go true =
-        isFine-check (ltb (getD b 1 0) 8) 3 i _ ∙
-        ap (λ (t : Bool). ltb (getD b 1 0) 8 && t) (isFine-unless (markLinks x (getD b 1 0) (wordAt b 2)) 5 i)
+        isFine-check (ltb (getD b 1 0) documents) 3 i _ ∙
+        ap (λ (t : Bool). ltb (getD b 1 0) documents && t) (isFine-unless (markLinks x (getD b 1 0) (wordAt b 2)) 5 i)
     go false =
         isFine-check (tagFits (rowIn b)) 3 i _ ∙
         ap (λ (t : Bool). tagFits (rowIn b) && t) (isFine-unless (rowLinks x (rowIn b)) 5 i)
@@ -109,7 +110,7 @@ isFine-record x i b =
 row-record : (x : Table) (b : List ℕ) → isMark b ≡ false → recordFine x b ≡ true → IsRowRecord x b
 row-record x b m h =
     let k = and-parts (isIn elementKind markKind (getD b 0 0)) _ h in
-    let l = and-parts (isMark b || ltb (count x) 512) _ (k .1) in
+    let l = and-parts (isMark b || ltb (count x) maxRows) _ (k .1) in
     let n = and-parts (leb 4 (length b)) _ (l .1) in
     let f = and-parts (tagFits (rowIn b)) _ (rw m at (n .1)) in
     let g = and-parts (eqb (lastMarked 0 (x .marks)) 0) _ (f .1) in
@@ -125,9 +126,9 @@ row-record x b m h =
 mark-record : (x : Table) (b : List ℕ) → isMark b ≡ true → recordFine x b ≡ true → IsMarkRecord x b
 mark-record x b m h =
     let k = and-parts (isIn elementKind markKind (getD b 0 0)) _ h in
-    let l = and-parts (isMark b || ltb (count x) 512) _ (k .1) in
+    let l = and-parts (isMark b || ltb (count x) maxRows) _ (k .1) in
     let n = and-parts (leb 4 (length b)) _ (l .1) in
-    let f = and-parts (ltb (getD b 1 0) 8) _ (rw m at (n .1)) in
+    let f = and-parts (ltb (getD b 1 0) documents) _ (rw m at (n .1)) in
     let i : ℕ = wordAt b 2 in
     let g = and-four (leb (lastMarked 0 (x .marks)) (getD b 1 0)) (isElement x i) (not (hasParent (rowAt x i .parent))) _ (f .1) in
     let e = isElement-at x i (g .1) in

@@ -11,6 +11,7 @@ use lib.Dec.{ltb, leb, eqb}
 use lib.ListN.{length, getD, List·getD-eq-default}
 use borrow.Author.Tests.{ltb-true, leb-true, ltb-false, eqb-true, not-true, lt-ltb, le-leb, eq-eqb}
 use Rattle.model.specs.Base.{all, any}
+use Rattle.model.specs.Limits.{maxRows, documents}
 use Rattle.model.specs.Table.{Row, Table, empty, noRow, rowAt, count, isElement, hasParent, isThe, tagFits, parentFits, rowsFit}
 use Rattle.model.specs.Table.{markFits, noneTwice, isTree, isWell}
 use Rattle.model.proofs.BoolLaws.{and-left, and-right, and-both, or-cases, or-left, or-right, true-false}
@@ -193,13 +194,14 @@ isTree-by x t = let k = tree-by x t in and-both _ _ (and-both _ _ (k .0) (k .1))
 
 -- WELL FORMED: a tree of at most 512 rows and with eight documents
 pub record Well (x : Table) : Type 0 where
-  pub few : count x ≤ 512
-  pub eight : length (x .marks) ≡ 8
+  pub few : count x ≤ maxRows
+  pub eight : length (x .marks) ≡ documents
   pub tree : Tree x
 
 pub isWell-at : (x : Table) → isWell x ≡ true → Well x
 isWell-at x h =
-    let k = and-five (leb (count x) 512) (rowsFit x 0 (x .rows)) (eqb (length (x .marks)) 8) (all (markFits x) (x .marks)) _ h in
+    let k =
+    and-five (leb (count x) maxRows) (rowsFit x 0 (x .rows)) (eqb (length (x .marks)) documents) (all (markFits x) (x .marks)) _ h in
     record { few = leb-true _ _ (k .0); eight = eqb-true _ _ (k .2); tree = tree-at x (k .1) (k .3) (k .4) }
 
 pub isWell-by : (x : Table) → Well x → isWell x ≡ true

@@ -10,6 +10,7 @@ use lib.ListN.{length, getD, take, set}
 use lib.Seq.{take-append-seam, set-set, set-getD}
 use borrow.Author.Tests.{lt-ltb, eq-eqb}
 use Rattle.model.specs.Base.{pick, isIn}
+use Rattle.model.specs.Limits.{maxRows}
 use Rattle.model.specs.Table.{Row, Table, table, noRow, rowAt, count, isMarked, hasParent, withRow, withParent, linked, tagFits}
 use Rattle.model.specs.Table.{parentFits}
 use Rattle.model.specs.History.{Record, madeElementKind, madeLeafKind, cutKind, historyBytes}
@@ -22,7 +23,7 @@ use Rattle.model.proofs.RanLaws.{Ran, begun, rowMade, linkCut, ran-well
 use Rattle.model.proofs.HistoryLaws.{isCut-made, ran-length}
 use Rattle.model.proofs.FormLaws.{IsInRange, AllInRange, noneYet, allInRange-snoc, placed, formFrom-placed}
 
--- ONE RECORD UNDONE: no row without mark is marked
+-- ONE RECORD UNDONE. A row that no document marks is not marked
 isMarked-not : (x : Table) (i : ℕ) → ((d : ℕ) → getD (x .marks) d none ≡ some i → ⊥) → isMarked x i ≡ false
 isMarked-not x i h = go (isMarked x i) refl
   where
@@ -125,7 +126,7 @@ ran-undone x w (linkCut s i p q e) =
     (ap (λ (y : Table). undoAll y (backwards (placed 0 (s .history)) [])) (cut-undone (s .plan) v i p e) ∙ ran-undone x w q)
 
 -- the records of a run are in range, so its bytes are read back as its records
-made-inRange : (x : Table) (r : Row) → count x < 512 → tagFits r ≡ true → parentFits x (count x) (r .parent) ≡ true →
+made-inRange : (x : Table) (r : Row) → count x < maxRows → tagFits r ≡ true → parentFits x (count x) (r .parent) ≡ true →
     IsInRange (made r (count x))
 made-inRange x r l f g = record {
   kindIn = kind (r .isLeaf);
