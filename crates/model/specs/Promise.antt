@@ -9,9 +9,9 @@ use lib.Dec.{ltb}
 use lib.ListN.{getD}
 use Rattle.model.specs.Base.{pick, any, among, areBytes}
 use Rattle.model.specs.Limits.{documents}
-use Rattle.model.specs.Table.{Row, Table, empty, rowAt, count, hasParent, isThe, isTree, isWell, withParent}
+use Rattle.model.specs.Table.{Row, Table, empty, rowAt, count, hasParent, isThe, isMarked, isTree, isWell, withParent}
 use Rattle.model.specs.Stored.{got, readPlan, stored}
-use Rattle.model.specs.Sweep.{swept}
+use Rattle.model.specs.Sweep.{through, isKept, newNumber, renumbered, swept}
 use Rattle.model.specs.Script.{Expr, parsed, readScript}
 use Rattle.model.specs.Step.{stepped}
 use Rattle.model.specs.History.{Record, historyBytes, replayAll}
@@ -34,6 +34,19 @@ StoredBack =
 -- DEMAND 2, sweeping: a table stays well formed, and a second sweep changes nothing
 abbrev pub SweepsWell : Type 0
 SweepsWell = (x : Table) → isWell x ≡ true → (isWell (swept x) ≡ true) × (swept (swept x) ≡ swept x)
+
+-- DEMAND 2, which rows a sweep keeps: a row is kept when it is marked or its parent is kept; a kept row stands at its new number with its
+-- kind, tag and renumbered parent, which is kept too; every row left is a kept one; their order stays; marks are renumbered
+abbrev pub SweepKeeps : Type 0
+SweepKeeps =
+    (x : Table) → isWell x ≡ true →
+    ((i : ℕ) → isKept x i ≡ (isMarked x i || through (isKept x) (rowAt x i .parent))) ×
+    ((i : ℕ) → i < count x → isKept x i ≡ true →
+    (newNumber x i < count (swept x)) × (rowAt (swept x) (newNumber x i) ≡ withParent (rowAt x i) (renumbered x (rowAt x i .parent)))) ×
+    ((i p : ℕ) → rowAt x i .parent ≡ some p → isKept x i ≡ true → isKept x p ≡ true) ×
+    ((j : ℕ) → j < count (swept x) → (i : ℕ) × ((i < count x) × (isKept x i ≡ true) × (newNumber x i ≡ j))) ×
+    ((i j : ℕ) → isKept x i ≡ true → i < j → newNumber x i < newNumber x j) ×
+    ((d : ℕ) → getD (swept x .marks) d none ≡ renumbered x (getD (x .marks) d none))
 
 -- DEMAND 2, running and undo: a run keeps the table well formed; replaying gives the later table, undo the earlier
 abbrev pub RunsBack : Type 0

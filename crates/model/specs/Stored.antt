@@ -83,15 +83,20 @@ rowLinks x r = eqb (lastMarked 0 (x .marks)) 0 && parentFits x (count x) (r .par
 abbrev pub markLinks : Table → (document row : ℕ) → Bool
 markLinks x d i = leb (lastMarked 0 (x .marks)) d && isElement x i && not (hasParent (rowAt x i .parent)) && not (isMarked x i)
 
--- of the record at the front, per record 1, 5, 2, 4, 6
+-- 4, then 6, of a row and of a mark at the front
+abbrev pub rowFault : Table → (place : ℕ) → (bytes : List ℕ) → Fault
+rowFault x i b = orElse (unless (tagFits (rowIn b)) (fieldAt i)) (unless (rowLinks x (rowIn b)) (linkAt i))
+
+abbrev pub markFault : Table → (place : ℕ) → (bytes : List ℕ) → Fault
+markFault x i b =
+    orElse (unless (ltb (getD b 1 0) documents) (fieldAt i)) (unless (markLinks x (getD b 1 0) (wordAt b 2)) (linkAt i))
+
+-- of the record at the front: 1, 5, 2, 4, 6
 abbrev pub recordFault : Table → (place : ℕ) → (bytes : List ℕ) → Fault
 recordFault x i b =
     orElse (unless (isIn elementKind markKind (getD b 0 0)) (kindAt i))
     (orElse (unless (isMark b || ltb (count x) maxRows) (sizeAt i))
-    (orElse (unless (leb recordSize (length b)) (shortAt i))
-    (pick (isMark b)
-    (orElse (unless (ltb (getD b 1 0) documents) (fieldAt i)) (unless (markLinks x (getD b 1 0) (wordAt b 2)) (linkAt i)))
-    (orElse (unless (tagFits (rowIn b)) (fieldAt i)) (unless (rowLinks x (rowIn b)) (linkAt i))))))
+    (orElse (unless (leb recordSize (length b)) (shortAt i)) (pick (isMark b) (markFault x i b) (rowFault x i b))))
 
 -- the table with the record at the front
 abbrev pub recorded : Table → (bytes : List ℕ) → Table

@@ -1,0 +1,208 @@
+-- What free means. 'upward': a script climbs. 'free': no row of any plan is on a path that one script modifies and on one that the other
+-- traverses. 'meet': some plan has such a row.
+use mathlib.Core.Path.{_≡_, refl, sym, ap, _∙_, subst}
+use mathlib.Core.Bool.{Bool, true, false, _&&_, _||_}
+use mathlib.Core.Logic.{_⊎_, inl, inr}
+use mathlib.Core.List.{List}
+use mathlib.Core.List.{List·Memᴰ as In}
+use mathlib.Core.Option.{none, some}
+use Prim.Native.Nat.{ℕ, _<_}
+use native.Mathlib.Omega.{arith}
+use lib.ListN.{length, getD}
+use Rattle.model.specs.Base.{pick, any, among}
+use Rattle.model.specs.Table.{Table, count, isTree}
+use Rattle.model.specs.Script.{Expr}
+use Rattle.model.specs.Paths.{Place, documentPlace, Path, pathsOf, traversed, hasUp}
+use Rattle.model.specs.Meeting.{meets, anyMeet, free, upward, meet, answer}
+use Rattle.model.specs.Promise.{IsScript, Places, ArePlaces, rowsOn, isOn, isTouched, FreeMeans}
+use Rattle.model.proofs.BoolLaws.{and-both, or-cases, or-left, or-right, or-neither, true-false}
+use Rattle.model.proofs.TestLaws.{and-parts}
+use Rattle.model.proofs.TableLaws.{isThe-at, Tree, isTree-at, isTree-by}
+use Rattle.model.proofs.ScriptLaws.{isScript-fields}
+use Rattle.model.proofs.All.{All, all-in}
+use Rattle.model.proofs.Reach.{any-in, in-any}
+use Rattle.model.proofs.Words.{first, same}
+use Rattle.model.proofs.WordsMeet.{meets-apart}
+use Rattle.model.proofs.PathLaws.{PathFits, starts, steps, pathsOf-fits}
+use Rattle.model.proofs.Spells.{placeOf, Spells}
+use Rattle.model.proofs.RowsOn.{among-in, in-among, label-once, label-proper, row-spelled, spells-on}
+use Rattle.model.proofs.CellsFound.{Meets, meets-found}
+use Rattle.model.proofs.Chain.{chain, count-chain, chain-tree, byMarks, byMarks-places, spells-row}
+
+-- THE ANSWER, by its two tests
+answer-upward : (u m : Bool) → pick u upward (pick m meet free) ≡ upward → u ≡ true
+answer-upward true m e = refl
+answer-upward false true e = let z : _≡_ {A = ℕ} 0 1 = cc in absurd (omega arith)
+answer-upward false false e = let z : _≡_ {A = ℕ} 0 1 = cc in absurd (omega arith)
+
+answer-free : (u m : Bool) → pick u upward (pick m meet free) ≡ free → (u ≡ false) × (m ≡ false)
+answer-free true m e = let z : _≡_ {A = ℕ} 0 1 = cc in absurd (omega arith)
+answer-free false true e = let z : _≡_ {A = ℕ} 0 1 = cc in absurd (omega arith)
+answer-free false false e = (refl, refl)
+
+answer-meet : (u m : Bool) → pick u upward (pick m meet free) ≡ meet → (u ≡ false) × (m ≡ true)
+answer-meet true m e = let z : _≡_ {A = ℕ} 0 1 = cc in absurd (omega arith)
+answer-meet false true e = (refl, refl)
+answer-meet false false e = let z : _≡_ {A = ℕ} 0 1 = cc in absurd (omega arith)
+
+-- two scripts share no place but documents
+path-owner : {o : ℕ} {p : Path} → PathFits o p → (placeOf p .owner ≡ 0) ⊎ (placeOf p .owner ≡ o)
+unfolding placeOf
+path-owner (starts h) = h
+path-owner (steps h f) = path-owner h
+
+shared-document : {n o : ℕ} {p q : Path} → (n ≡ o → ⊥) → PathFits n p → PathFits o q → placeOf p ≡ placeOf q → placeOf p .owner ≡ 0
+shared-document {n} {o} {p} {q} d f g e = go (path-owner f) (path-owner g)
+  where
+    k : placeOf p .owner ≡ placeOf q .owner
+    k = ap (λ (z : Place). z .owner) e
+
+    go : (placeOf p .owner ≡ 0) ⊎ (placeOf p .owner ≡ n) → (placeOf q .owner ≡ 0) ⊎ (placeOf q .owner ≡ o) → placeOf p .owner ≡ 0
+    go (inl a) b = a
+    go (inr a) (inl b) = k ∙ b
+    go (inr a) (inr b) = absurd (d (sym a ∙ k ∙ b))
+
+-- FREE: a row on two paths makes them meet
+module _ (x : Table) (t : Tree x) (h : Places) (a : ArePlaces x h) where
+  row-meets : {n o : ℕ} {p q : Path} → (n ≡ o → ⊥) → PathFits n p → PathFits o q → (i : ℕ) → In i (rowsOn x h p) → In i (rowsOn x h q) →
+      meets p q ≡ false → ⊥
+  row-meets {p} {q} d f g i y z e =
+      let v = row-spelled x h a f i y in
+      let u = row-spelled x h a g i z in
+      let k = label-once (v .labelled) (u .labelled) in
+      let b : placeOf p ≡ placeOf q =
+      a .2 (placeOf p) (placeOf q) (v .root) (v .within) (v .placed) (subst (λ (r : ℕ). h (placeOf q) r ≡ true) (sym (k .0)) (u .placed)) in
+      let o : placeOf p .owner ≡ 0 = shared-document d f g b in
+      let w : placeOf p ≡ documentPlace (placeOf p .number) = λ j. record { owner = o j; number = placeOf p .number } in
+      let m : getD (x .marks) (placeOf p .number) none ≡ some (v .root) =
+      isThe-at (v .root) _
+      (sym (a .0 (placeOf p .number) (v .root) (v .within)) ∙ ap (λ (c : Place). h c (v .root)) (sym w) ∙ v .placed) in
+      let c : Spells q (v .word) = subst (Spells q) (sym (k .1)) (u .spells) in
+      meets-apart (x .marks) (t .once) p q (first (v .root)) (v .word) e (label-proper t (v .labelled))
+      (spells-on (v .root) (v .spells) o m)
+      (spells-on (v .root) c (ap (λ (r : Place). r .owner) (sym b) ∙ o)
+      (ap (λ (r : Place). getD (x .marks) (r .number) none) (sym b) ∙ m))
+
+  isOn-apart : (n o : ℕ) (ps qs : List Path) → (n ≡ o → ⊥) → All (PathFits n) ps → All (PathFits o) qs → anyMeet ps qs ≡ false → (i : ℕ) →
+      (isOn x h i ps && isOn x h i qs) ≡ true → ⊥
+  isOn-apart n o ps qs d f g e i k =
+      let b = and-parts (isOn x h i ps) (isOn x h i qs) k in
+      let (p, y, v) = any-in (λ (p : Path). among i (rowsOn x h p)) ps (b .0) in
+      let (q, z, w) = any-in (λ (q : Path). among i (rowsOn x h q)) qs (b .1) in
+      row-meets d (all-in f y) (all-in g z) i (among-in i _ v) (among-in i _ w) (apart (meets p q) (λ m. in-any _ y (in-any _ z m)))
+    where
+      apart : (m : Bool) → (m ≡ true → anyMeet ps qs ≡ true) → m ≡ false
+      apart true c = absurd (true-false _ (c refl) e)
+      apart false c = refl
+
+-- MEET: a plan with a row on a path of each list
+isOn-in : (x : Table) (h : Places) (i : ℕ) {p : Path} {ps : List Path} → In p ps → In i (rowsOn x h p) → isOn x h i ps ≡ true
+isOn-in x h i y z = in-any (λ (r : Path). among i (rowsOn x h r)) y (in-among z)
+
+record Plan (ps qs : List Path) : Type 0 where
+  plan : Table
+  places : Places
+  row : ℕ
+  isPlan : isTree plan ≡ true
+  arePlaces : ArePlaces plan places
+  within : row < count plan
+  onBoth : (isOn plan places row ps && isOn plan places row qs) ≡ true
+
+meets-plan : (n o : ℕ) (ps qs : List Path) → (n ≡ o → ⊥) → All (PathFits n) ps → All (PathFits o) qs → anyMeet ps qs ≡ true → Plan ps qs
+meets-plan n o ps qs d f g e =
+    let (p, y, v) = any-in (λ (p : Path). any (meets p) qs) ps e in
+    let (q, z, w) = any-in (meets p) qs v in
+    let (k, m) = meets-found (all-in f y) (all-in g z) w in
+    found p q y z k m (shared-document d (all-in f y) (all-in g z) (m .together))
+  where
+    found : (p q : Path) → In p ps → In q qs → (k : Bool) (m : Meets k p q) → placeOf p .owner ≡ 0 → Plan ps qs
+    found p q y z k m b =
+        let d : ℕ = placeOf p .number in
+        let c : placeOf p ≡ documentPlace d = λ j. record { owner = b j; number = d } in
+        let x : Table = chain d (m .word) in
+        let t : Tree x = chain-tree d (m .good b) in
+        let i : ℕ = length (m .word) in
+        record {
+          plan = x;
+          places = byMarks (x .marks);
+          row = i;
+          isPlan = isTree-by x t;
+          arePlaces = byMarks-places x t;
+          within = omega (arith, count-chain d (m .word));
+          onBoth =
+              and-both _ _ (isOn-in x (byMarks (x .marks)) i y (spells-row d (m .word) t (m .one) same c))
+              (isOn-in x (byMarks (x .marks)) i z (spells-row d (m .word) t (m .two) same (sym (m .together) ∙ c)));
+        }
+
+-- THE THEOREM
+abbrev SomeTouched : Expr → Expr → Type 0
+SomeTouched e f =
+    (x : Table) × ((h : Places) × ((i : ℕ) × ((isTree x ≡ true) × ArePlaces x h × (i < count x) × (isTouched x h i e f ≡ true))))
+
+one-two : _≡_ {A = ℕ} 1 2 → ⊥
+one-two k = omega arith
+
+two-one : _≡_ {A = ℕ} 2 1 → ⊥
+two-one k = omega arith
+
+module _ (e f : Expr) where
+  -- modified by one and traversed by the other, both ways round
+  abbrev firstModifies : Table → Places → ℕ → Bool
+  firstModifies x h i = isOn x h i (pathsOf 1 e .modified) && isOn x h i (traversed (pathsOf 2 f))
+
+  abbrev secondModifies : Table → Places → ℕ → Bool
+  secondModifies x h i = isOn x h i (pathsOf 2 f .modified) && isOn x h i (traversed (pathsOf 1 e))
+
+  abbrev firstMeets : Bool
+  firstMeets = anyMeet (pathsOf 1 e .modified) (traversed (pathsOf 2 f))
+
+  abbrev secondMeets : Bool
+  secondMeets = anyMeet (pathsOf 2 f .modified) (traversed (pathsOf 1 e))
+
+module _ (e f : Expr) (s : IsScript e) (r : IsScript f) where
+  free-untouched : answer e f ≡ free → (x : Table) (h : Places) (i : ℕ) → isTree x ≡ true → ArePlaces x h → i < count x →
+      isTouched x h i e f ≡ false
+  free-untouched q x h i t a l =
+      let k = answer-free (hasUp e || hasUp f) (firstMeets e f || secondMeets e f) q in
+      let u = or-neither (hasUp e) (hasUp f) (k .0) in
+      let m = or-neither (firstMeets e f) (secondMeets e f) (k .1) in
+      let b = pathsOf-fits 1 e (isScript-fields e s) (u .0) in
+      let c = pathsOf-fits 2 f (isScript-fields f r) (u .1) in
+      untouched (isTouched x h i e f)
+      (λ z.
+      elim (or-cases (firstModifies e f x h i) (secondModifies e f x h i) z) [
+        | inl y ↦ isOn-apart x (isTree-at x t) h a 1 2 _ _ one-two (b .0) (c .1) (m .0) i y
+        | inr y ↦ isOn-apart x (isTree-at x t) h a 2 1 _ _ two-one (c .0) (b .1) (m .1) i y
+      ])
+    where
+      untouched : (z : Bool) → (z ≡ true → ⊥) → z ≡ false
+      untouched true n = absurd (n refl)
+      untouched false n = refl
+
+  some-touched : (ps qs : List Path) →
+      ((x : Table) (h : Places) (i : ℕ) → (isOn x h i ps && isOn x h i qs) ≡ true → isTouched x h i e f ≡ true) → Plan ps qs →
+      SomeTouched e f
+  some-touched ps qs k p =
+      (p .plan, (p .places, (p .row, (p .isPlan, p .arePlaces, p .within, k (p .plan) (p .places) (p .row) (p .onBoth)))))
+
+  meet-touched : answer e f ≡ meet → SomeTouched e f
+  meet-touched q =
+      let k = answer-meet (hasUp e || hasUp f) (firstMeets e f || secondMeets e f) q in
+      let u = or-neither (hasUp e) (hasUp f) (k .0) in
+      let b = pathsOf-fits 1 e (isScript-fields e s) (u .0) in
+      let c = pathsOf-fits 2 f (isScript-fields f r) (u .1) in
+      elim (or-cases (firstMeets e f) (secondMeets e f) (k .1)) [
+        | inl m ↦
+            some-touched _ _ (λ x h i z. or-left (firstModifies e f x h i) (secondModifies e f x h i) z)
+            (meets-plan 1 2 (pathsOf 1 e .modified) (traversed (pathsOf 2 f)) one-two (b .0) (c .1) m)
+        | inr m ↦
+            some-touched _ _ (λ x h i z. or-right (firstModifies e f x h i) (secondModifies e f x h i) z)
+            (meets-plan 2 1 (pathsOf 2 f .modified) (traversed (pathsOf 1 e)) two-one (c .0) (b .1) m)
+      ]
+
+pub freeMeans : FreeMeans
+freeMeans e f s r = (
+  (answer-upward (hasUp e || hasUp f) (firstMeets e f || secondMeets e f), λ k. rw k),
+  free-untouched e f s r,
+  meet-touched e f s r,
+)

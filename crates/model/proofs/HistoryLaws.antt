@@ -1,0 +1,195 @@
+-- A run's history: it makes no row twice and cuts no link twice, so it has at most 1,024 records.
+use mathlib.Core.Path.{_≡_, refl, sym, ap, _∙_}
+use mathlib.Core.Bool.{Bool, true, false, _&&_, not}
+use mathlib.Core.Logic.{_≢_}
+use mathlib.Core.List.{List, [], _∷_, _++_}
+use mathlib.Core.Option.{Option, none, some, Option·none-ne-some}
+use Prim.Native.Nat.{ℕ, zero, suc, _+_, _≤_}
+use native.Mathlib.Omega.{arith}
+use lib.Dec.{ltb, eqb}
+use lib.ListN.{length, getD, set, length-append}
+use borrow.Author.Tests.{ltb-true, ltb-false, eqb-true, eqb-false, ne-eqb}
+use Rattle.model.specs.Base.{pick}
+use Rattle.model.specs.Table.{Row, Table, noRow, rowAt, count, hasParent, withRow, withParent, linked}
+use Rattle.model.specs.History.{Record, madeElementKind, madeLeafKind, cutKind}
+use Rattle.model.specs.Run.{State, made, cutRecord}
+use Rattle.model.proofs.TableLaws.{parent-count, Well}
+use Rattle.model.proofs.GrowLaws.{count-withRow, rowAt-withRow-old, count-linked, rowAt-linked-same, rowAt-linked-other}
+use Rattle.model.proofs.RanLaws.{Ran, begun, rowMade, linkCut, ran-well}
+
+-- RECORDS counted by a test
+abbrev one : Bool → ℕ
+one t = pick t 1 0
+
+one-le : (t : Bool) → one t ≤ 1
+one-le true = omega arith
+one-le false = omega arith
+
+unfoldable pub times : (Record → Bool) → List Record → ℕ
+times f [] = 0
+times f (r ∷ rs) = one (f r) + times f rs
+
+pub times-snoc : (f : Record → Bool) (rs : List Record) (r : Record) → times f (rs ++ (r ∷ [])) ≡ times f rs + one (f r)
+unfolding times
+times-snoc f [] r = omega arith
+times-snoc f (q ∷ rs) r = omega (arith, times-snoc f rs r)
+
+abbrev pub isCut : Record → Bool
+isCut r = eqb (r .kind) cutKind
+
+abbrev pub cutsRow : ℕ → Record → Bool
+cutsRow i r = isCut r && eqb (r .row) i
+
+abbrev pub makesRow : ℕ → Record → Bool
+makesRow i r = not (isCut r) && eqb (r .row) i
+
+pub isCut-made : (r : Row) (i : ℕ) → isCut (made r i) ≡ false
+isCut-made r i = go (r .isLeaf)
+  where
+    go : (t : Bool) → eqb (pick t madeLeafKind madeElementKind) cutKind ≡ false
+    go true = refl
+    go false = refl
+
+-- EACH ROW IS CUT AT MOST ONCE: a row that is cut has no parent any more, and none gets one later
+ran-cut-within : (x : Table) {s : State} → Ran x s → (i : ℕ) → count (s .plan) ≤ i → times (cutsRow i) (s .history) ≡ 0
+unfolding times
+ran-cut-within x begun i l = refl
+ran-cut-within x (rowMade s r q c f g) i l =
+    let z = made r (count (s .plan)) in
+    let k : one (cutsRow i z) ≡ 0 = ap (λ (t : Bool). one (t && eqb (count (s .plan)) i)) (isCut-made r (count (s .plan))) in
+    omega (arith, ran-cut-within x q i (omega (arith, count-withRow (s .plan) r)), times-snoc (cutsRow i) (s .history) z)
+ran-cut-within x (linkCut s j p q e) i l =
+    let m = count-linked (s .plan) j none in
+    let n = parent-count (s .plan) j p e in
+    let k : one (eqb j i) ≡ 0 = ap one (ne-eqb j i (λ (h : j ≡ i). omega arith)) in
+    omega (arith, ran-cut-within x q i (omega arith), times-snoc (cutsRow i) (s .history) (cutRecord j p))
+
+ran-cut-parent : (x : Table) {s : State} → Ran x s → (i : ℕ) →
+    times (cutsRow i) (s .history) + one (hasParent (rowAt (s .plan) i .parent)) ≤ 1
+unfolding times
+ran-cut-parent x begun i = omega (arith, one-le (hasParent (rowAt x i .parent)))
+ran-cut-parent x (rowMade s r q c f g) i = go (ltb i (count (s .plan))) refl (ran-cut-parent x q i)
+  where
+    z : Record
+    z = made r (count (s .plan))
+
+    k : one (cutsRow i z) ≡ 0
+    k = ap (λ (t : Bool). one (t && eqb (count (s .plan)) i)) (isCut-made r (count (s .plan)))
+
+    h : times (cutsRow i) (s .history ++ (z ∷ [])) ≡ times (cutsRow i) (s .history) + one (cutsRow i z)
+    h = times-snoc (cutsRow i) (s .history) z
+
+    go : (t : Bool) → ltb i (count (s .plan)) ≡ t → times (cutsRow i) (s .history) + one (hasParent (rowAt (s .plan) i .parent)) ≤ 1 →
+        times (cutsRow i) (s .history ++ (z ∷ [])) + one (hasParent (rowAt (withRow (s .plan) r) i .parent)) ≤ 1
+    go true e v = rw (rowAt-withRow-old (s .plan) r i (ltb-true _ _ e)) (omega (arith, h, k))
+    go false e v =
+        omega (arith, h, k, ran-cut-within x q i (ltb-false _ _ e), one-le (hasParent (rowAt (withRow (s .plan) r) i .parent)))
+ran-cut-parent x (linkCut s j p q e) i = go (eqb j i) refl (ran-cut-parent x q i)
+  where
+    h : times (cutsRow i) (s .history ++ (cutRecord j p ∷ [])) ≡ times (cutsRow i) (s .history) + one (eqb j i)
+    h = times-snoc (cutsRow i) (s .history) (cutRecord j p)
+
+    go : (t : Bool) → eqb j i ≡ t → times (cutsRow i) (s .history) + one (hasParent (rowAt (s .plan) i .parent)) ≤ 1 →
+        times (cutsRow i) (s .history ++ (cutRecord j p ∷ [])) + one (hasParent (rowAt (linked (s .plan) j none) i .parent)) ≤ 1
+    go true d v =
+        let m : j ≡ i = eqb-true j i d in
+        let a : one (hasParent (rowAt (s .plan) i .parent)) ≡ 1 =
+        ap (λ (n : ℕ). one (hasParent (rowAt (s .plan) n .parent))) (sym m) ∙ ap (λ (o : Option ℕ). one (hasParent o)) e in
+        let b : one (hasParent (rowAt (linked (s .plan) j none) i .parent)) ≡ 0 =
+        ap (λ (n : ℕ). one (hasParent (rowAt (linked (s .plan) j none) n .parent))) (sym m) ∙
+        ap (λ (w : Row). one (hasParent (w .parent))) (rowAt-linked-same (s .plan) j none (parent-count (s .plan) j p e)) in
+        let c : one (eqb j i) ≡ 1 = ap one d in
+        omega (arith, h)
+    go false d v =
+        let m : i ≢ j = λ (n : i ≡ j). eqb-false j i d (sym n) in
+        let a : one (hasParent (rowAt (linked (s .plan) j none) i .parent)) ≡ one (hasParent (rowAt (s .plan) i .parent)) =
+        ap (λ (w : Row). one (hasParent (w .parent))) (rowAt-linked-other (s .plan) j none i m) in
+        let c : one (eqb j i) ≡ 0 = ap one d in
+        omega (arith, h)
+
+-- no row is cut twice
+pub ran-cut-once : (x : Table) {s : State} → Ran x s → (i : ℕ) → times (cutsRow i) (s .history) ≤ 1
+ran-cut-once x r i = omega (arith, ran-cut-parent x r i)
+
+-- EACH ROW IS MADE AT MOST ONCE: a new row takes the next number
+ran-made-within : (x : Table) {s : State} → Ran x s → (i : ℕ) → count (s .plan) ≤ i → times (makesRow i) (s .history) ≡ 0
+unfolding times
+ran-made-within x begun i l = refl
+ran-made-within x (rowMade s r q c f g) i l =
+    let z = made r (count (s .plan)) in
+    let n = count-withRow (s .plan) r in
+    let k : one (makesRow i z) ≡ 0 =
+    ap (λ (t : Bool). one (not t && eqb (count (s .plan)) i)) (isCut-made r (count (s .plan))) ∙
+    ap one (ne-eqb (count (s .plan)) i (λ (h : count (s .plan) ≡ i). omega arith)) in
+    omega (arith, ran-made-within x q i (omega arith), times-snoc (makesRow i) (s .history) z)
+ran-made-within x (linkCut s j p q e) i l =
+    omega
+    (arith, ran-made-within x q i (omega (arith, count-linked (s .plan) j none)), times-snoc (makesRow i) (s .history) (cutRecord j p))
+
+pub ran-made-once : (x : Table) {s : State} → Ran x s → (i : ℕ) → times (makesRow i) (s .history) ≤ 1
+unfolding times
+ran-made-once x begun i = omega arith
+ran-made-once x (rowMade s r q c f g) i = go (eqb (count (s .plan)) i) refl (ran-made-once x q i)
+  where
+    z : Record
+    z = made r (count (s .plan))
+
+    k : one (makesRow i z) ≡ one (eqb (count (s .plan)) i)
+    k = ap (λ (t : Bool). one (not t && eqb (count (s .plan)) i)) (isCut-made r (count (s .plan)))
+
+    go : (t : Bool) → eqb (count (s .plan)) i ≡ t → times (makesRow i) (s .history) ≤ 1 → times (makesRow i) (s .history ++ (z ∷ [])) ≤ 1
+    go true e v =
+        let m = eqb-true (count (s .plan)) i e in
+        omega (arith, k, one-le (eqb (count (s .plan)) i), ran-made-within x q i (omega arith), times-snoc (makesRow i) (s .history) z)
+    go false e v =
+        let c : one (eqb (count (s .plan)) i) ≡ 0 = ap one e in
+        omega (arith, k, times-snoc (makesRow i) (s .history) z)
+ran-made-once x (linkCut s j p q e) i = omega (arith, ran-made-once x q i, times-snoc (makesRow i) (s .history) (cutRecord j p))
+
+-- BOUNDS. Each record makes a row or cuts a link. Rows with a parent
+unfoldable pub parented : List Row → ℕ
+parented [] = 0
+parented (r ∷ rs) = one (hasParent (r .parent)) + parented rs
+
+parented-le : (rs : List Row) → parented rs ≤ length rs
+unfolding parented
+parented-le [] = omega arith
+parented-le (r ∷ rs) = omega (arith, parented-le rs, one-le (hasParent (r .parent)))
+
+parented-snoc : (rs : List Row) (r : Row) → parented (rs ++ (r ∷ [])) ≤ suc (parented rs)
+unfolding parented
+parented-snoc [] r = omega (arith, one-le (hasParent (r .parent)))
+parented-snoc (q ∷ rs) r = omega (arith, parented-snoc rs r)
+
+parented-cut : (rs : List Row) (i p : ℕ) → getD rs i noRow .parent ≡ some p →
+    suc (parented (set rs i (withParent (getD rs i noRow) none))) ≡ parented rs
+unfolding parented
+parented-cut [] i p e = absurd (Option·none-ne-some p e)
+parented-cut (r ∷ rs) zero p e = rw e (omega arith)
+parented-cut (r ∷ rs) (suc i) p e = omega (arith, parented-cut rs i p e)
+
+pub ran-rows : (x : Table) {s : State} → Ran x s → count x + length (s .history) ≡ count (s .plan) + times isCut (s .history)
+unfolding times
+ran-rows x begun = omega arith
+ran-rows x (rowMade s r q c f g) =
+    let z = made r (count (s .plan)) in
+    let k : one (isCut z) ≡ 0 = ap one (isCut-made r (count (s .plan))) in
+    omega (arith, ran-rows x q, count-withRow (s .plan) r, length-append (s .history) (z ∷ []), times-snoc isCut (s .history) z)
+ran-rows x (linkCut s i p q e) =
+    let z = cutRecord i p in
+    omega (arith, ran-rows x q, count-linked (s .plan) i none, length-append (s .history) (z ∷ []), times-snoc isCut (s .history) z)
+
+pub ran-cuts : (x : Table) {s : State} → Ran x s → times isCut (s .history) + parented (s .plan .rows) ≤ count (s .plan)
+unfolding times
+ran-cuts x begun = omega (arith, parented-le (x .rows))
+ran-cuts x (rowMade s r q c f g) =
+    let z = made r (count (s .plan)) in
+    let k : one (isCut z) ≡ 0 = ap one (isCut-made r (count (s .plan))) in
+    omega (arith, ran-cuts x q, count-withRow (s .plan) r, parented-snoc (s .plan .rows) r, times-snoc isCut (s .history) z)
+ran-cuts x (linkCut s i p q e) =
+    let z = cutRecord i p in
+    omega (arith, ran-cuts x q, count-linked (s .plan) i none, parented-cut (s .plan .rows) i p e, times-snoc isCut (s .history) z)
+
+-- so a history has at most 1,024 records
+pub ran-length : (x : Table) → Well x → {s : State} → Ran x s → length (s .history) ≤ 1024
+ran-length x w r = omega (arith, ran-rows x r, ran-cuts x r, ran-well x w r .few)

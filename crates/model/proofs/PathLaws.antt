@@ -1,0 +1,141 @@
+-- The paths of a script that never climbs: every step leads down and names 1 to 255, and every place is a document's or the script's own.
+use mathlib.Core.Path.{_≡_, refl}
+use mathlib.Core.Bool.{Bool, true, false, _&&_, _||_, not, false≢true}
+use mathlib.Core.Logic.{_⊎_, inl, inr}
+use mathlib.Core.List.{List, [], _∷_, _++_}
+use Prim.Native.Nat.{ℕ, zero, suc}
+use native.Mathlib.Omega.{arith}
+use lib.Dec.{ltb, eqb}
+use lib.ListN.{getD}
+use borrow.Author.Tests.{ltb-true, eqb-false, not-true}
+use Rattle.model.specs.Base.{pick, isIn}
+use Rattle.model.specs.Script.{Step, testFits, Expr, nil, document, var, step, both, letIn, forIn, ifIn, element, leaf, delete}
+use Rattle.model.specs.Script.{insert, choose}
+use Rattle.model.specs.Paths.{Place, Path, start, _▸_, withStep, anyBelow, Paths, infer, prefixesOf, prefixed, traversed, isUp}
+use Rattle.model.specs.Paths.{hasUp, pathsOf}
+use Rattle.model.specs.Meeting.{isNamed}
+use Rattle.model.proofs.BoolLaws.{and-left, or-neither}
+use Rattle.model.proofs.TestLaws.{and-three}
+use Rattle.model.proofs.All.{All, nothing, also, all-append}
+use Rattle.model.proofs.ScriptLaws.{FieldsFit}
+
+-- A STEP down whose name, where its test has one, is in range
+pub record StepFits (s : Step) : Type 0 where
+  pub down : isUp s ≡ false
+  pub nameIn : isNamed s ≡ true → isIn 1 255 (s .name) ≡ true
+
+pub step-fits : (s : Step) → testFits (s .test) (s .name) ≡ true → isUp s ≡ false → StepFits s
+step-fits s f u = record { down = u; nameIn = λ n. go (eqb (s .test) 3) refl n f }
+  where
+    go : (t : Bool) → eqb (s .test) 3 ≡ t → isNamed s ≡ true →
+        pick t (isIn 1 255 (s .name)) (ltb (s .test) 3 && eqb (s .name) 0) ≡ true → isIn 1 255 (s .name) ≡ true
+    go true e n h = h
+    go false e n h =
+        let k = and-three (not (eqb (s .test) 0)) (not (eqb (s .test) 1)) (not (eqb (s .test) 2)) n in
+        let l = ltb-true (s .test) 3 (and-left _ (eqb (s .name) 0) h) in
+        let a = eqb-false (s .test) 0 (not-true _ (k .0)) in
+        let b = eqb-false (s .test) 1 (not-true _ (k .1)) in
+        let c = eqb-false (s .test) 2 (not-true _ (k .2)) in
+        absurd (omega arith)
+
+pub anyBelow-fits : StepFits anyBelow
+anyBelow-fits = record { down = refl; nameIn = λ e. absurd (false≢true e) }
+
+-- A PATH of such steps from a place of the documents or of the owner
+pub data PathFits (o : ℕ) : Path → Type 0 where
+  starts : {p : Place} → (p .owner ≡ 0) ⊎ (p .owner ≡ o) → PathFits o (start p)
+  steps : {p : Path} {s : Step} → PathFits o p → StepFits s → PathFits o (p ▸ s)
+
+pub record PathsFit (o : ℕ) (x : Paths) : Type 0 where
+  pub results : All (PathFits o) (x .result)
+  pub accesses : All (PathFits o) (x .accessed)
+  pub changes : All (PathFits o) (x .modified)
+
+withStep-fits : {o : ℕ} {s : Step} {ps : List Path} → StepFits s → All (PathFits o) ps → All (PathFits o) (withStep s ps)
+unfolding withStep
+withStep-fits f nothing = nothing
+withStep-fits f (also h a) = also (steps h f) (withStep-fits f a)
+
+all-getD : {o : ℕ} {b : List (List Path)} → All (All (PathFits o)) b → (k : ℕ) → All (PathFits o) (getD b k [])
+all-getD nothing k = nothing
+all-getD (also h a) zero = h
+all-getD (also h a) (suc k) = all-getD a k
+
+pub infer-fits : (o : ℕ) (e : Expr) (b : List (List Path)) → FieldsFit e → hasUp e ≡ false → All (All (PathFits o)) b →
+    PathsFit o (infer o e b)
+unfolding infer FieldsFit hasUp
+infer-fits o (nil z) b f u a = record { results = nothing; accesses = nothing; changes = nothing }
+infer-fits o (document z d) b f u a =
+    record { results = also (starts (inl refl)) nothing; accesses = also (starts (inl refl)) nothing; changes = nothing }
+infer-fits o (var z v) b f u a = record { results = all-getD a v; accesses = nothing; changes = nothing }
+infer-fits o (step z s e) b f u a =
+    let k = or-neither (isUp s) (hasUp e) u in
+    let h = infer-fits o e b (f .1) (k .1) a in
+    let g = withStep-fits (step-fits s (f .0) (k .0)) (h .results) in
+    record { results = g; accesses = all-append (h .accesses) g; changes = all-append (h .changes) nothing }
+infer-fits o (both z e g) b f u a =
+    let k = or-neither (hasUp e) (hasUp g) u in
+    let h = infer-fits o e b (f .0) (k .0) a in
+    let j = infer-fits o g b (f .1) (k .1) a in
+    record {
+      results = all-append (h .results) (j .results);
+      accesses = all-append (h .accesses) (j .accesses);
+      changes = all-append (h .changes) (j .changes);
+    }
+infer-fits o (letIn z e g) b f u a =
+    let k = or-neither (hasUp e) (hasUp g) u in
+    let h = infer-fits o e b (f .0) (k .0) a in
+    let j = infer-fits o g (b ++ (infer o e b .result ∷ [])) (f .1) (k .1) (all-append a (also (h .results) nothing)) in
+    record { results = j .results; accesses = all-append (h .accesses) (j .accesses); changes = all-append (h .changes) (j .changes) }
+infer-fits o (forIn z e g) b f u a =
+    let k = or-neither (hasUp e) (hasUp g) u in
+    let h = infer-fits o e b (f .0) (k .0) a in
+    let j = infer-fits o g (b ++ (infer o e b .result ∷ [])) (f .1) (k .1) (all-append a (also (h .results) nothing)) in
+    record { results = j .results; accesses = all-append (h .accesses) (j .accesses); changes = all-append (h .changes) (j .changes) }
+infer-fits o (ifIn z e g q) b f u a =
+    let k = or-neither (hasUp e || hasUp g) (hasUp q) u in
+    let l = or-neither (hasUp e) (hasUp g) (k .0) in
+    let h = infer-fits o e b (f .0) (l .0) a in
+    let i = infer-fits o g b (f .1) (l .1) a in
+    let j = infer-fits o q b (f .2) (k .1) a in
+    record {
+      results = all-append (i .results) (j .results);
+      accesses = all-append (h .accesses) (all-append (i .accesses) (j .accesses));
+      changes = all-append (h .changes) (all-append (i .changes) (j .changes));
+    }
+infer-fits o (element z n) b f u a =
+    record { results = also (starts (inr refl)) nothing; accesses = nothing; changes = also (starts (inr refl)) nothing }
+infer-fits o (leaf z v) b f u a =
+    record { results = also (starts (inr refl)) nothing; accesses = nothing; changes = also (starts (inr refl)) nothing }
+infer-fits o (delete z e) b f u a =
+    let h = infer-fits o e b f u a in
+    record {
+      results = nothing;
+      accesses = all-append (h .accesses) nothing;
+      changes = all-append (h .changes) (all-append (h .results) (withStep-fits anyBelow-fits (h .results)));
+    }
+infer-fits o (insert z e g) b f u a =
+    let k = or-neither (hasUp e) (hasUp g) u in
+    let h = infer-fits o e b (f .0) (k .0) a in
+    let j = infer-fits o g b (f .1) (k .1) a in
+    record {
+      results = nothing;
+      accesses = all-append (all-append (h .accesses) (j .accesses)) (withStep-fits anyBelow-fits (h .results));
+      changes = all-append (all-append (h .changes) (j .changes)) (withStep-fits anyBelow-fits (j .results));
+    }
+infer-fits o (choose z r c e) b f u a = infer-fits o e b f u a
+
+-- TRAVERSED paths fit too
+prefixesOf-fits : {o : ℕ} {p : Path} → PathFits o p → All (PathFits o) (prefixesOf p)
+unfolding prefixesOf
+prefixesOf-fits (starts h) = also (starts h) nothing
+prefixesOf-fits (steps h f) = also (steps h f) (prefixesOf-fits h)
+
+prefixed-fits : {o : ℕ} {ps : List Path} → All (PathFits o) ps → All (PathFits o) (prefixed ps)
+unfolding prefixed
+prefixed-fits nothing = nothing
+prefixed-fits (also h a) = all-append (prefixesOf-fits h) (prefixed-fits a)
+
+pub pathsOf-fits : (o : ℕ) (e : Expr) → FieldsFit e → hasUp e ≡ false →
+    All (PathFits o) (pathsOf o e .modified) × All (PathFits o) (traversed (pathsOf o e))
+pathsOf-fits o e f u = let h = infer-fits o e [] f u nothing in (h .changes, prefixed-fits (h .accesses))

@@ -1,0 +1,53 @@
+-- What a run can do to a table: make a fitting row, or cut a link. So it keeps the table well formed, and its history replays to it.
+use mathlib.Core.Path.{_≡_, refl, ap, _∙_}
+use mathlib.Core.Bool.{Bool, true, false}
+use mathlib.Core.List.{List, [], _∷_, _++_}
+use mathlib.Core.Option.{none, some, Option·none-ne-some}
+use Prim.Native.Nat.{ℕ, _<_}
+use Rattle.model.specs.Limits.{maxRows}
+use Rattle.model.specs.Table.{Row, Table, rowAt, count, withRow, linked, tagFits, parentFits}
+use Rattle.model.specs.History.{Record, replayed, replayAll}
+use Rattle.model.specs.Run.{State, state, made, withMade, cutRecord, cutRow}
+use Rattle.model.proofs.TableLaws.{parent-count, Well}
+use Rattle.model.proofs.GrowLaws.{well-withRow, well-linked}
+
+-- THE STATES that a run on x can come to
+pub data Ran (x : Table) : State → Type 0 where
+  begun : Ran x (state x [])
+  rowMade : (s : State) (r : Row) → Ran x s → count (s .plan) < maxRows → tagFits r ≡ true →
+      parentFits (s .plan) (count (s .plan)) (r .parent) ≡ true → Ran x (withMade s r)
+  linkCut : (s : State) (i p : ℕ) → Ran x s → rowAt (s .plan) i .parent ≡ some p → Ran x (cutRow s i p)
+
+-- a cut keeps the table well formed
+pub well-cut : (x : Table) (i p : ℕ) → Well x → rowAt x i .parent ≡ some p → Well (linked x i none)
+well-cut x i p w e =
+    well-linked x i none (w .tree) (parent-count x i p e) (λ q h. absurd (Option·none-ne-some q h)) (λ d h. refl) w
+
+pub ran-well : (x : Table) → Well x → {s : State} → Ran x s → Well (s .plan)
+ran-well x w begun = w
+ran-well x w (rowMade s r q c f g) = let v = ran-well x w q in well-withRow (s .plan) r (v .tree) f g v c
+ran-well x w (linkCut s i p q e) = well-cut (s .plan) i p (ran-well x w q) e
+
+-- REPLAYED: the history on the earlier table gives the later one
+pub replayAll-snoc : (x : Table) (rs : List Record) (r : Record) → replayAll x (rs ++ (r ∷ [])) ≡ replayed (replayAll x rs) r
+unfolding replayAll
+replayAll-snoc x [] r = refl
+replayAll-snoc x (q ∷ rs) r = replayAll-snoc (replayed x q) rs r
+
+pub replayed-made : (x : Table) (r : Row) (i : ℕ) → replayed x (made r i) ≡ withRow x r
+replayed-made x r i = go (r .isLeaf)
+  where
+    go : (t : Bool) →
+        replayed x (made (record { isLeaf = t; tag = r .tag; parent = r .parent }) i) ≡
+        withRow x (record { isLeaf = t; tag = r .tag; parent = r .parent })
+    go true = refl
+    go false = refl
+
+pub ran-replay : (x : Table) {s : State} → Ran x s → replayAll x (s .history) ≡ s .plan
+unfolding replayAll
+ran-replay x begun = refl
+ran-replay x (rowMade s r q c f g) =
+    replayAll-snoc x (s .history) (made r (count (s .plan))) ∙
+    ap (λ (y : Table). replayed y (made r (count (s .plan)))) (ran-replay x q) ∙ replayed-made (s .plan) r (count (s .plan))
+ran-replay x (linkCut s i p q e) =
+    replayAll-snoc x (s .history) (cutRecord i p) ∙ ap (λ (y : Table). replayed y (cutRecord i p)) (ran-replay x q)

@@ -1,0 +1,23 @@
+-- A run keeps the table well formed; replaying its history on the earlier table gives the later one, and undo gives the earlier back.
+use mathlib.Core.Path.{_≡_, subst}
+use mathlib.Core.List.{List}
+use Prim.Native.Nat.{ℕ}
+use Rattle.model.specs.Table.{Table}
+use Rattle.model.specs.Script.{Expr}
+use Rattle.model.specs.Run.{State, gives, runOn}
+use Rattle.model.specs.Promise.{IsScript, RunsBack}
+use Rattle.model.proofs.TableLaws.{Well, isWell-at, isWell-by}
+use Rattle.model.proofs.RanLaws.{Ran, ran-well, ran-replay}
+use Rattle.model.proofs.UndoLaws.{ran-undo}
+use Rattle.model.proofs.ScriptLaws.{isScript-fields}
+use Rattle.model.proofs.RunKeeps.{Keeps, runOn-keeps}
+
+-- what a script's run does is making rows and cutting links
+pub runOn-ran : (e : Expr) (x : Table) (v : List ℕ) (s : State) → IsScript e → Well x → runOn x e ≡ gives v s → Ran x s
+runOn-ran e x v s i w q = subst (Keeps x x) q (runOn-keeps x w e (isScript-fields e i)) .0
+
+pub runsBack : RunsBack
+runsBack e x v s i h q =
+    let w = isWell-at x h in
+    let r = runOn-ran e x v s i w q in
+    (isWell-by (s .plan) (ran-well x w r), ran-replay x r, ran-undo x w r)

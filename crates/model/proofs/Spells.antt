@@ -1,0 +1,123 @@
+-- Words spelled by a path's steps, wherever its place is; and the letters that a step, or two steps at once, let through.
+use mathlib.Core.Path.{_≡_, refl}
+use mathlib.Core.Bool.{Bool, true, false, _&&_, _||_, not}
+use mathlib.Core.Logic.{_⊎_, inl, inr}
+use mathlib.Core.List.{[], _∷_}
+use Prim.Native.Nat.{ℕ}
+use native.Mathlib.Omega.{arith}
+use lib.Dec.{eqb}
+use borrow.Author.Tests.{leb-false, eqb-true, eqb-false, eq-eqb}
+use Rattle.model.specs.Base.{pick, isIn}
+use Rattle.model.specs.Script.{Step}
+use Rattle.model.specs.Step.{Letter, leafLetter, named, admits}
+use Rattle.model.specs.Paths.{Place, Path, start, _▸_}
+use Rattle.model.specs.Meeting.{admitsElement, admitsLeaf, isNamed, shareElement, shareLeaf}
+use Rattle.model.proofs.BoolLaws.{and-left, and-right, true-false}
+use Rattle.model.proofs.TestLaws.{and-three}
+use Rattle.model.proofs.Words.{Word, Grown, same}
+use Rattle.model.proofs.PathLaws.{StepFits}
+
+unfoldable pub placeOf : Path → Place
+placeOf (start p) = p
+placeOf (p ▸ s) = placeOf p
+
+-- SPELLED: a child step adds one letter that passes its test; a descendant step adds one or more, of which the last passes
+pub data Spells : Path → Word → Type 0 where
+  spelled : {p : Place} → Spells (start p) []
+  child : {p : Path} {s : Step} {a : Letter} {w : Word} → Spells p w → s .axis ≡ 0 → admits s a ≡ true → Spells (p ▸ s) (a ∷ w)
+  deep : {p : Path} {s : Step} {a : Letter} {u w : Word} → Spells p u → Grown u w → s .axis ≡ 1 → admits s a ≡ true →
+      Spells (p ▸ s) (a ∷ w)
+
+pub down-cases : (s : Step) → StepFits s → (s .axis ≡ 0) ⊎ (s .axis ≡ 1)
+down-cases s f = go (eqb (s .axis) 0) refl
+  where
+    go : (t : Bool) → eqb (s .axis) 0 ≡ t → (s .axis ≡ 0) ⊎ (s .axis ≡ 1)
+    go true e = inl (eqb-true _ _ e)
+    go false e = inr (omega (arith, leb-false 2 (s .axis) (f .down), eqb-false (s .axis) 0 e))
+
+-- either step leads to a child
+pub spells-child : {p : Path} {s : Step} {a : Letter} {w : Word} → Spells p w → StepFits s → admits s a ≡ true → Spells (p ▸ s) (a ∷ w)
+spells-child {p} {s} h f e = elim (down-cases s f) [ inl k ↦ child h k e | inr k ↦ deep h same k e ]
+
+-- GOOD WORDS: elements with a name in range, and perhaps a leaf at the end
+pub data Elements : Word → Type 0 where
+  root : Elements []
+  below : {n : ℕ} {w : Word} → isIn 1 255 n ≡ true → Elements w → Elements (named n ∷ w)
+
+pub data Good : (isLeaf : Bool) → Word → Type 0 where
+  toElement : {w : Word} → Elements w → Good false w
+  toLeaf : {w : Word} → Elements w → Good true (leafLetter ∷ w)
+
+pub good-elements : {w : Word} → Good false w → Elements w
+good-elements (toElement e) = e
+
+-- LETTERS: one of the kind z that a step lets through
+abbrev pub admitsKind : Bool → Step → Bool
+admitsKind z s = pick z (admitsLeaf s) (admitsElement s)
+
+abbrev pub shareKind : Bool → Step → Step → Bool
+shareKind z s t = pick z (shareLeaf s t) (shareElement s t)
+
+abbrev pub Ends : Bool → Letter → Type 0
+Ends z a = (w : Word) → Elements w → Good z (a ∷ w)
+
+pub record LetterFor (z : Bool) (s : Step) : Type 0 where
+  pub letter : Letter
+  pub ends : Ends z letter
+  pub passes : admits s letter ≡ true
+
+pub record LetterForBoth (z : Bool) (s t : Step) : Type 0 where
+  pub letter : Letter
+  pub ends : Ends z letter
+  pub passes : admits s letter ≡ true
+  pub passesToo : admits t letter ≡ true
+
+-- an element's name passes where it is the step's, or the step names none
+name-passes : (any element leaf name : Bool) → not leaf ≡ true → ((not any && not element && not leaf) ≡ true → name ≡ true) →
+    (any || element || (not leaf && name)) ≡ true
+name-passes true b c d l h = refl
+name-passes false true c d l h = refl
+name-passes false false true d l h = l
+name-passes false false false d l h = h refl
+
+admits-named : (s : Step) (n : ℕ) → admitsElement s ≡ true → (isNamed s ≡ true → n ≡ s .name) → admits s (named n) ≡ true
+admits-named s n e h =
+    name-passes (eqb (s .test) 0) (eqb (s .test) 1) (eqb (s .test) 2) (eqb n (s .name)) e (λ k. eq-eqb n (s .name) (h k))
+
+element-ends : (n : ℕ) → isIn 1 255 n ≡ true → Ends false (named n)
+element-ends n h w e = toElement (below h e)
+
+-- the step's own name, or 1
+pub letter-for : (z : Bool) (s : Step) → StepFits s → admitsKind z s ≡ true → LetterFor z s
+letter-for true s f e = record { letter = leafLetter; ends = λ w h. toLeaf h; passes = e }
+letter-for false s f e = go (isNamed s) refl
+  where
+    go : (t : Bool) → isNamed s ≡ t → LetterFor false s
+    go true k =
+        record { letter = named (s .name); ends = element-ends (s .name) (f .nameIn k); passes = admits-named s (s .name) e (λ q. refl) }
+    go false k =
+        record { letter = named 1; ends = element-ends 1 refl; passes = admits-named s 1 e (λ q. absurd (true-false _ q k)) }
+
+pub letter-for-both : (z : Bool) (s t : Step) → StepFits s → StepFits t → shareKind z s t ≡ true → LetterForBoth z s t
+letter-for-both true s t f g e =
+    record { letter = leafLetter; ends = λ w h. toLeaf h; passes = and-left _ (admitsLeaf t) e; passesToo = and-right (admitsLeaf s) _ e }
+letter-for-both false s t f g e = go (isNamed s) (isNamed t) refl refl
+  where
+    parts : (admitsElement s ≡ true) × (admitsElement t ≡ true) × ((not (isNamed s && isNamed t) || eqb (s .name) (t .name)) ≡ true)
+    parts = and-three (admitsElement s) (admitsElement t) (not (isNamed s && isNamed t) || eqb (s .name) (t .name)) e
+
+    by : (n : ℕ) → isIn 1 255 n ≡ true → (isNamed s ≡ true → n ≡ s .name) → (isNamed t ≡ true → n ≡ t .name) → LetterForBoth false s t
+    by n h k l =
+        record {
+          letter = named n;
+          ends = element-ends n h;
+          passes = admits-named s n (parts .0) k;
+          passesToo = admits-named t n (parts .1) l;
+        }
+
+    go : (a b : Bool) → isNamed s ≡ a → isNamed t ≡ b → LetterForBoth false s t
+    go true true k l =
+        by (s .name) (f .nameIn k) (λ q. refl) (λ q. eqb-true (s .name) (t .name) (rw (k, l) at (parts .2)))
+    go true false k l = by (s .name) (f .nameIn k) (λ q. refl) (λ q. absurd (true-false _ q l))
+    go false true k l = by (t .name) (g .nameIn l) (λ q. absurd (true-false _ q k)) (λ q. refl)
+    go false false k l = by 1 refl (λ q. absurd (true-false _ q k)) (λ q. absurd (true-false _ q l))

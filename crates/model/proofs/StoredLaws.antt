@@ -1,0 +1,188 @@
+-- Reading a stored plan record by record: when a record is fine, what it adds, and that any fuel not below the length serves.
+use mathlib.Core.Path.{_≡_, refl, sym, ap, _∙_, subst}
+use mathlib.Core.Bool.{Bool, true, false, _&&_, _||_, not}
+use mathlib.Core.Logic.{_⊎_, inl, inr}
+use mathlib.Core.List.{List}
+use mathlib.Core.Option.{Option}
+use Prim.Native.Nat.{ℕ, zero, suc, _+_, _≤_, _<_}
+use native.Mathlib.Omega.{arith}
+use lib.Dec.{ltb, leb, eqb}
+use lib.ListN.{length, getD, drop, length-drop}
+use borrow.Author.Tests.{ltb-true, leb-true, eqb-true, eqb-false, not-true, lt-ltb, le-leb, eq-eqb, ne-eqb}
+use Rattle.model.specs.Base.{pick, isIn}
+use Rattle.model.specs.Limits.{maxRows, documents}
+use Rattle.model.specs.Refusal.{Fault, isFine, unless, orElse, fieldAt, linkAt}
+use Rattle.model.specs.Table.{Table, rowAt, count, isElement, isMarked, hasParent, withRow, withMark, tagFits, parentFits}
+use Rattle.model.specs.Stored.{bad, got, wordAt, rowIn, isMark, lastMarked, rowLinks, markLinks, recordFault, recorded, readFrom}
+use Rattle.model.specs.Stored.{elementKind, leafKind, markKind}
+use Rattle.model.proofs.BoolLaws.{and-both, or-left, or-right}
+use Rattle.model.proofs.TestLaws.{and-parts, and-four, isIn-at, isIn-by}
+use Rattle.model.proofs.RefusalLaws.{isFine-unless, isFine-check}
+use Rattle.model.proofs.TableLaws.{isElement-at, isElement-by, hasParent-none, IsRoot, Well}
+use Rattle.model.proofs.GrowLaws.{well-withRow, well-withMark}
+
+-- THE STEP of reading, at a record that is fine and at one that is refused
+pub readFrom-end : (n : ℕ) (x : Table) (i : ℕ) (b : List ℕ) → length b ≡ 0 → readFrom n x i b ≡ got x
+unfolding readFrom
+readFrom-end zero x i b l = refl
+readFrom-end (suc n) x i b l = rw (eq-eqb (length b) 0 l)
+
+pub readFrom-fine : (n : ℕ) (x : Table) (i : ℕ) (b : List ℕ) → 0 < length b → isFine (recordFault x i b) ≡ true →
+    readFrom (suc n) x i b ≡ readFrom n (recorded x b) (i + 4) (drop 4 b)
+unfolding readFrom
+readFrom-fine n x i b l f = rw (ne-eqb (length b) 0 (λ e. omega arith), f)
+
+pub readFrom-refused : (n : ℕ) (x : Table) (i : ℕ) (b : List ℕ) → 0 < length b → isFine (recordFault x i b) ≡ false →
+    readFrom (suc n) x i b ≡ bad (recordFault x i b)
+unfolding readFrom
+readFrom-refused n x i b l f = rw (ne-eqb (length b) 0 (λ e. omega arith), f)
+
+-- FUEL: any two not below the length agree
+pub readFrom-fuel : (n m : ℕ) (x : Table) (i : ℕ) (b : List ℕ) → length b ≤ n → length b ≤ m → readFrom n x i b ≡ readFrom m x i b
+readFrom-fuel zero m x i b h k = readFrom-end zero x i b (omega arith) ∙ sym (readFrom-end m x i b (omega arith))
+readFrom-fuel (suc n) zero x i b h k = readFrom-end (suc n) x i b (omega arith) ∙ sym (readFrom-end zero x i b (omega arith))
+readFrom-fuel (suc n) (suc m) x i b h k =
+    go (eqb (length b) 0) (isFine (recordFault x i b)) refl refl
+    (λ l. readFrom-fuel n m (recorded x b) (i + 4) (drop 4 b) (omega (arith, length-drop 4 b)) (omega (arith, length-drop 4 b)))
+  where
+    go : (t u : Bool) → eqb (length b) 0 ≡ t → isFine (recordFault x i b) ≡ u →
+        (0 < length b → readFrom n (recorded x b) (i + 4) (drop 4 b) ≡ readFrom m (recorded x b) (i + 4) (drop 4 b)) →
+        readFrom (suc n) x i b ≡ readFrom (suc m) x i b
+    go true u e f r = readFrom-end (suc n) x i b (eqb-true _ _ e) ∙ sym (readFrom-end (suc m) x i b (eqb-true _ _ e))
+    go false true e f r =
+        let l : 0 < length b = omega (arith, eqb-false (length b) 0 e) in
+        readFrom-fine n x i b l f ∙ r l ∙ sym (readFrom-fine m x i b l f)
+    go false false e f r =
+        let l : 0 < length b = omega (arith, eqb-false (length b) 0 e) in
+        readFrom-refused n x i b l f ∙ sym (readFrom-refused m x i b l f)
+
+-- A FINE RECORD is a row with room and a fitting parent, before any mark, or a mark on a root, with rising document
+pub record IsRowRecord (x : Table) (b : List ℕ) : Type 0 where
+  pub kind : (elementKind ≤ getD b 0 0) × (getD b 0 0 ≤ leafKind)
+  pub room : count x < maxRows
+  pub long : 4 ≤ length b
+  pub tag : tagFits (rowIn b) ≡ true
+  pub before : lastMarked 0 (x .marks) ≡ 0
+  pub parent : parentFits x (count x) (rowIn b .parent) ≡ true
+
+pub record IsMarkRecord (x : Table) (b : List ℕ) : Type 0 where
+  pub kind : getD b 0 0 ≡ markKind
+  pub long : 4 ≤ length b
+  pub document : getD b 1 0 < documents
+  pub rises : lastMarked 0 (x .marks) ≤ getD b 1 0
+  pub root : IsRoot x (wordAt b 2)
+  pub unmarked : isMarked x (wordAt b 2) ≡ false
+
+-- the checks of one record, as one test
+abbrev pub rowFine : Table → List ℕ → Bool
+rowFine x b = tagFits (rowIn b) && rowLinks x (rowIn b)
+
+abbrev pub markFine : Table → List ℕ → Bool
+markFine x b = ltb (getD b 1 0) documents && markLinks x (getD b 1 0) (wordAt b 2)
+
+abbrev pub recordFine : Table → List ℕ → Bool
+recordFine x b =
+    isIn elementKind markKind (getD b 0 0) &&
+    ((isMark b || ltb (count x) maxRows) && (leb 4 (length b) && pick (isMark b) (markFine x b) (rowFine x b)))
+
+pub isFine-record : (x : Table) (i : ℕ) (b : List ℕ) → isFine (recordFault x i b) ≡ recordFine x b
+isFine-record x i b =
+    isFine-check (isIn elementKind markKind (getD b 0 0)) 0 i _ ∙
+    ap (λ (t : Bool). isIn elementKind markKind (getD b 0 0) && t)
+    (isFine-check (isMark b || ltb (count x) maxRows) 4 i _ ∙
+    ap (λ (t : Bool). (isMark b || ltb (count x) maxRows) && t)
+    (isFine-check (leb 4 (length b)) 1 i _ ∙ ap (λ (t : Bool). leb 4 (length b) && t) (go (isMark b))))
+  where
+    marks : Fault
+    marks = orElse (unless (ltb (getD b 1 0) documents) (fieldAt i)) (unless (markLinks x (getD b 1 0) (wordAt b 2)) (linkAt i))
+
+    rows : Fault
+    rows = orElse (unless (tagFits (rowIn b)) (fieldAt i)) (unless (rowLinks x (rowIn b)) (linkAt i))
+
+    go : (t : Bool) → isFine (pick t marks rows) ≡ pick t (markFine x b) (rowFine x b)
+    go true =
+        isFine-check (ltb (getD b 1 0) documents) 3 i _ ∙
+        ap (λ (t : Bool). ltb (getD b 1 0) documents && t) (isFine-unless (markLinks x (getD b 1 0) (wordAt b 2)) 5 i)
+    go false =
+        isFine-check (tagFits (rowIn b)) 3 i _ ∙
+        ap (λ (t : Bool). tagFits (rowIn b) && t) (isFine-unless (rowLinks x (rowIn b)) 5 i)
+
+row-record : (x : Table) (b : List ℕ) → isMark b ≡ false → recordFine x b ≡ true → IsRowRecord x b
+row-record x b m h =
+    let k = and-parts (isIn elementKind markKind (getD b 0 0)) _ h in
+    let l = and-parts (isMark b || ltb (count x) maxRows) _ (k .1) in
+    let n = and-parts (leb 4 (length b)) _ (l .1) in
+    let f = and-parts (tagFits (rowIn b)) _ (rw m at (n .1)) in
+    let g = and-parts (eqb (lastMarked 0 (x .marks)) 0) _ (f .1) in
+    record {
+      kind = omega (arith, isIn-at elementKind markKind (getD b 0 0) (k .0), eqb-false (getD b 0 0) markKind m);
+      room = ltb-true _ _ (rw m at (l .0));
+      long = leb-true _ _ (n .0);
+      tag = f .0;
+      before = eqb-true _ _ (g .0);
+      parent = g .1;
+    }
+
+mark-record : (x : Table) (b : List ℕ) → isMark b ≡ true → recordFine x b ≡ true → IsMarkRecord x b
+mark-record x b m h =
+    let k = and-parts (isIn elementKind markKind (getD b 0 0)) _ h in
+    let l = and-parts (isMark b || ltb (count x) maxRows) _ (k .1) in
+    let n = and-parts (leb 4 (length b)) _ (l .1) in
+    let f = and-parts (ltb (getD b 1 0) documents) _ (rw m at (n .1)) in
+    let i : ℕ = wordAt b 2 in
+    let g = and-four (leb (lastMarked 0 (x .marks)) (getD b 1 0)) (isElement x i) (not (hasParent (rowAt x i .parent))) _ (f .1) in
+    let e = isElement-at x i (g .1) in
+    record {
+      kind = eqb-true _ _ m;
+      long = leb-true _ _ (n .0);
+      document = ltb-true _ _ (f .0);
+      rises = leb-true _ _ (g .0);
+      root = (e .0, e .1, hasParent-none _ (g .2));
+      unmarked = not-true _ (g .3);
+    }
+
+pub record-cases : (x : Table) (i : ℕ) (b : List ℕ) → isFine (recordFault x i b) ≡ true → IsRowRecord x b ⊎ IsMarkRecord x b
+record-cases x i b h = go (isMark b) refl
+  where
+    go : (t : Bool) → isMark b ≡ t → IsRowRecord x b ⊎ IsMarkRecord x b
+    go true e = inr (mark-record x b e (sym (isFine-record x i b) ∙ h))
+    go false e = inl (row-record x b e (sym (isFine-record x i b) ∙ h))
+
+pub isMark-row : (x : Table) (b : List ℕ) → IsRowRecord x b → isMark b ≡ false
+isMark-row x b r = ne-eqb (getD b 0 0) markKind (λ e. omega (arith, r .kind))
+
+pub isMark-mark : (x : Table) (b : List ℕ) → IsMarkRecord x b → isMark b ≡ true
+isMark-mark x b m = eq-eqb _ _ (m .kind)
+
+pub row-fine : (x : Table) (i : ℕ) (b : List ℕ) → IsRowRecord x b → isFine (recordFault x i b) ≡ true
+row-fine x i b r =
+    isFine-record x i b ∙
+    and-both _ _ (isIn-by elementKind markKind (getD b 0 0) (r .kind .0) (omega (arith, r .kind)))
+    (and-both _ _ (or-right (isMark b) _ (lt-ltb _ _ (r .room)))
+    (and-both _ _ (le-leb _ _ (r .long))
+    (rw (isMark-row x b r) (and-both _ _ (r .tag) (and-both _ _ (eq-eqb _ _ (r .before)) (r .parent))))))
+
+pub mark-fine : (x : Table) (i : ℕ) (b : List ℕ) → IsMarkRecord x b → isFine (recordFault x i b) ≡ true
+mark-fine x i b m =
+    isFine-record x i b ∙
+    and-both _ _ (isIn-by elementKind markKind (getD b 0 0) (omega (arith, m .kind)) (omega (arith, m .kind)))
+    (and-both _ _ (or-left _ _ (isMark-mark x b m))
+    (and-both _ _ (le-leb _ _ (m .long))
+    (rw (isMark-mark x b m)
+    (and-both _ _ (lt-ltb _ _ (m .document))
+    (and-both _ _ (and-both _ _ (and-both _ _ (le-leb _ _ (m .rises)) (isElement-by x _ (m .root .0) (m .root .1)))
+    (ap (λ (p : Option ℕ). not (hasParent p)) (m .root .2))) (ap not (m .unmarked)))))))
+
+-- what a fine record adds, and that the table stays well formed
+pub recorded-row : (x : Table) (b : List ℕ) → IsRowRecord x b → recorded x b ≡ withRow x (rowIn b)
+recorded-row x b r = rw (isMark-row x b r)
+
+pub recorded-mark : (x : Table) (b : List ℕ) → IsMarkRecord x b → recorded x b ≡ withMark x (getD b 1 0) (wordAt b 2)
+recorded-mark x b m = rw (isMark-mark x b m)
+
+pub well-recorded : (x : Table) (i : ℕ) (b : List ℕ) → Well x → isFine (recordFault x i b) ≡ true → Well (recorded x b)
+well-recorded x i b w h = elim (record-cases x i b h) [
+  | inl r ↦ subst Well (sym (recorded-row x b r)) (well-withRow x (rowIn b) (w .tree) (r .tag) (r .parent) w (r .room))
+  | inr m ↦ subst Well (sym (recorded-mark x b m))
+      (well-withMark x _ _ (w .tree) (m .root) (omega (arith, m .document, w .eight)) (m .unmarked) w)
+]

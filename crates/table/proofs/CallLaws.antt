@@ -1,0 +1,95 @@
+-- The calls over a table handed in: from the check's answer and what the parts leave to what the call owes.
+use mathlib.Core.Path.{_≡_, refl, ap, sym, _∙_}
+use mathlib.Core.Bool.{Bool, true, false, _&&_}
+use mathlib.Core.List.{List, [], _∷_, _++_, map}
+use Prim.Native.Nat.{ℕ, zero, suc, _+_, _*_, _-_, _/_, _%_, _≤_, _<_}
+use native.Mathlib.Omega.{arith}
+use native.Mathlib.Nat.{zero-add}
+use lib.Dec.{ltb, leb, eqb}
+use lib.ListN.{length, getD, take, drop, length-append}
+use borrow.Author.Tests.{le-leb, lt-leb, leb-true}
+use Rattle.model.specs.Base.{pick, isIn, all}
+use Rattle.model.specs.Table as model
+use Rattle.model.specs.Stored.{rowsBytes, marksBytes, stored}
+use Rattle.model.proofs.BoolLaws.{and-left, and-right, by-cases}
+use Rattle.model.proofs.TableLaws.{Well, isWell-at}
+use Rattle.table.specs.declared.Table.{Table}
+use Rattle.table.specs.declared.Fault.{Fault}
+use Rattle.table.specs.declared.Written.{Written}
+use Rattle.table.specs.Words.{linked, rowOf, rowsOf, isRowWord, isZero, decodeParts, decode, partsFit, fits}
+use Rattle.table.specs.Writing.{over}
+use Rattle.table.specs.Calls.{planWritten, planOut}
+use Rattle.table.proofs.WordLaws.{count-decode, rowAt-decode, Canonical, canonical-words}
+use Rattle.table.proofs.WriteLaws.{over-over, length-rowsBytes}
+
+-- WHAT FITS: the count, the words in use and past it, and the table decoded
+pub record Fits (n : ℕ) (ws ms : List ℕ) : Type 0 where
+  pub few : n ≤ 512
+  pub canonical : length ws ≡ 512 → Canonical n ws
+  pub well : Well (decodeParts n ws ms)
+
+pub fits-at : (n : ℕ) (ws ms : List ℕ) → partsFit n ws ms ≡ true → Fits n ws ms
+fits-at n ws ms h =
+    let a = leb n 512 in
+    let b = all isRowWord (take n ws) in
+    let c = all isZero (drop n ws) in
+    let d = model.isWell (decodeParts n ws ms) in
+    let e : (a && b && c) ≡ true = and-left (a && b && c) d h in
+    let f : (a && b) ≡ true = and-left (a && b) c e in
+    let g : n ≤ 512 = leb-true n 512 (and-left a b f) in
+    record {
+      few = g;
+      canonical = λ l. canonical-words n ws g l (and-right a b f) (and-right (a && b) c e);
+      well = isWell-at (decodeParts n ws ms) (and-right (a && b && c) d h);
+    }
+
+-- tags are bytes
+pub fits-tag : (n : ℕ) (ws ms : List ℕ) → Fits n ws ms → n ≤ length ws → (k : ℕ) → k < n → getD ws k 0 < 1048576
+fits-tag n ws ms f w k h =
+    let t : model.tagFits (rowOf (getD ws k 0)) ≡ true =
+    ap model.tagFits (sym (rowAt-decode n ws ms w k h)) ∙ f .well .tree .tags k (omega (arith, count-decode n ws ms w)) in
+    omega (
+      arith,
+      by-cases (eqb (getD ws k 0 % 4) 2) (λ e. leb-true (getD ws k 0 / 4096) 255 (rw e at t))
+          (λ e. leb-true (getD ws k 0 / 4096) 255 (and-right (leb 1 (getD ws k 0 / 4096)) (leb (getD ws k 0 / 4096) 255) (rw e at t))),
+    )
+
+-- WRITING
+module _ (t : Table) (o : List ℕ) where
+  pub write-ill : fits t ≡ false →
+      (record { fault = record { number = 6; place = 0 }; bytes = 0 } ≡ planWritten t o) × (o ≡ planOut t o)
+  write-ill e = (rw e, rw e)
+
+  module _ (e : fits t ≡ true) where
+    pub write-short : length o < length (stored (decode t)) →
+        (record { fault = record { number = 11; place = 0 }; bytes = 0 } ≡ planWritten t o) × (o ≡ planOut t o)
+    write-short h =
+        let k : leb (length (stored (decode t))) (length o) ≡ false = lt-leb (length (stored (decode t))) (length o) h in
+        (rw (e, k), rw (e, k))
+
+    pub write-fine : (n : ℕ) → length (stored (decode t)) ≤ length o → n ≡ length (stored (decode t)) →
+        record { fault = record { number = 0; place = 0 }; bytes = n } ≡ planWritten t o
+    write-fine n h l =
+        let k : leb (length (stored (decode t))) (length o) ≡ true = le-leb (length (stored (decode t))) (length o) h in
+        rw (e, k, l)
+
+    pub write-out : length (stored (decode t)) ≤ length o → planOut t o ≡ stored (decode t) ++ drop (length (stored (decode t))) o
+    write-out h =
+        let k : leb (length (stored (decode t))) (length o) ≡ true = le-leb (length (stored (decode t))) (length o) h in
+        rw (e, k)
+
+-- the stored form is the rows, then the marks
+module _ (n : ℕ) (ws ms : List ℕ) (within : n ≤ length ws) where
+  pub length-stored : length (stored (decodeParts n ws ms)) ≡ 4 * n + length (marksBytes 0 (map linked ms))
+  length-stored =
+      omega (arith, length-append (rowsBytes (rowsOf n ws)) (marksBytes 0 (map linked ms)), length-rowsBytes (rowsOf n ws), count-decode n ws ms within)
+
+  pub stored-over : (o : List ℕ) → 4 * n ≤ length o →
+      over (4 * n) (marksBytes 0 (map linked ms)) (over 0 (rowsBytes (rowsOf n ws)) o) ≡
+      stored (decodeParts n ws ms) ++ drop (length (stored (decodeParts n ws ms))) o
+  stored-over o h =
+      let l : 4 * n ≡ 0 + length (rowsBytes (rowsOf n ws)) = omega (arith, length-rowsBytes (rowsOf n ws), count-decode n ws ms within) in
+      let g : 0 + length (rowsBytes (rowsOf n ws)) ≤ length o = omega arith in
+      ap (λ (j : ℕ). over j (marksBytes 0 (map linked ms)) (over 0 (rowsBytes (rowsOf n ws)) o)) l ∙
+      over-over 0 (rowsBytes (rowsOf n ws)) (marksBytes 0 (map linked ms)) o g ∙
+      ap (λ (j : ℕ). stored (decodeParts n ws ms) ++ drop j o) (zero-add (length (stored (decodeParts n ws ms))))

@@ -1,0 +1,5 @@
+pub mod WordLaws
+pub mod FitLaws
+pub mod ReadLaws
+pub mod WriteLaws
+pub mod CallLaws

@@ -1,0 +1,41 @@
+-- The check of a table handed in, as the code makes it: row by row over the words. Assumes nothing: these are definitions.
+use mathlib.Core.Path.{_≡_}
+use mathlib.Core.Bool.{Bool, true, false, _&&_, _||_, not}
+use mathlib.Core.List.{List, [], _∷_, map}
+use Prim.Native.Nat.{ℕ, zero, suc, _+_, _-_, _/_, _%_}
+use lib.Dec.{ltb, leb, eqb}
+use lib.ListN.{length, getD}
+use Rattle.model.specs.Base.{pick, isIn, any}
+use Rattle.model.specs.Table.{isThe}
+use Rattle.table.specs.Words.{linked, isRowWord}
+
+-- rows and marks as they stand in a table
+pub record Words (ws ms : List ℕ) : Type 0 where
+  pub rows : length ws ≡ 512
+  pub marks : length ms ≡ 8
+
+-- the word at i holds a row whose tag fits, without parent or under a lower element
+abbrev pub tagFits : (word : ℕ) → Bool
+tagFits w = leb (w / 4096) 255 && pick (eqb (w % 4) 1) (ltb 0 (w / 4096)) (eqb (w % 4) 2)
+
+abbrev pub linkFits : (words : List ℕ) → (row link : ℕ) → Bool
+linkFits ws i l = eqb l 0 || (leb l i && not (eqb (getD ws (l - 1) 0 % 4) 2))
+
+abbrev pub rowFits : (words : List ℕ) → (row : ℕ) → Bool
+rowFits ws i = tagFits (getD ws i 0) && linkFits ws i (getD ws i 0 / 4 % 1024)
+
+unfoldable pub rowsFit : (words : List ℕ) → (row : ℕ) → ℕ → Bool
+rowsFit ws i zero = true
+rowsFit ws i (suc n) = rowFits ws i && rowsFit ws (suc i) n
+
+-- none, or the link of a row below the count that is an element without parent
+abbrev pub markFits : (words : List ℕ) → (count link : ℕ) → Bool
+markFits ws n l = eqb l 0 || (leb l n && not (eqb (getD ws (l - 1) 0 % 4) 2) && eqb (getD ws (l - 1) 0 / 4 % 1024) 0)
+
+-- every mark fits, and none stands again behind it
+abbrev pub isRepeated : (link : ℕ) → (marks : List ℕ) → Bool
+isRepeated l ms = not (eqb l 0) && any (isThe (l - 1)) (map linked ms)
+
+unfoldable pub marksFit : (words : List ℕ) → (count : ℕ) → (marks : List ℕ) → Bool
+marksFit ws n [] = true
+marksFit ws n (m ∷ ms) = markFits ws n m && not (isRepeated m ms) && marksFit ws n ms

@@ -1,0 +1,5 @@
+pub mod Words
+pub mod Calls
+pub mod Fitting
+pub mod Reading
+pub mod Writing

@@ -1,0 +1,63 @@
+-- How a table of the model stands in the type Table: rows packed into words, marks into numbers. Assumes nothing: these are definitions.
+use mathlib.Core.Bool.{Bool, true, false, _&&_}
+use mathlib.Core.List.{List, [], _∷_, _++_, map}
+use mathlib.Core.Option.{Option, none, some}
+use Prim.Native.Nat.{ℕ, _+_, _*_, _-_, _/_, _%_}
+use lib.Dec.{leb, eqb}
+use lib.ListN.{take, drop, replicate}
+use Rattle.model.specs.Base.{pick, isIn, all}
+use Rattle.model.specs.Limits.{maxRows}
+use Rattle.model.specs.Table as model
+use Rattle.table.specs.declared.Table.{Table}
+
+-- A LINK is a row number and one, or 0 for none; it stands for a parent in a word, and for a mark
+abbrev pub linkOf : Option ℕ → ℕ
+linkOf none = 0
+linkOf (some p) = p + 1
+
+abbrev pub linked : ℕ → Option ℕ
+linked n = pick (eqb n 0) none (some (n - 1))
+
+-- A WORD holds a row: kind (1 element, 2 leaf) in 2 bits, the parent's link in 10, name or value above
+abbrev pub elementWord : ℕ
+elementWord = 1
+
+abbrev pub leafWord : ℕ
+leafWord = 2
+
+abbrev pub wordOf : model.Row → ℕ
+wordOf r = pick (r .isLeaf) leafWord elementWord + 4 * linkOf (r .parent) + 4096 * r .tag
+
+abbrev pub rowOf : ℕ → model.Row
+rowOf w = record { isLeaf = eqb (w % 4) leafWord; tag = w / 4096; parent = linked (w / 4 % 1024) }
+
+abbrev pub isRowWord : ℕ → Bool
+isRowWord w = isIn elementWord leafWord (w % 4)
+
+-- ENCODED: rows past the count are zero
+abbrev pub wordsOf : List model.Row → List ℕ
+wordsOf rs = map wordOf rs ++ replicate (maxRows - lib.ListN.length rs) 0
+
+abbrev pub encode : model.Table → Table
+encode x = record { count = model.count x; rows = wordsOf (x .rows); marks = map linkOf (x .marks) }
+
+-- DECODED
+abbrev pub rowsOf : (count : ℕ) → (words : List ℕ) → List model.Row
+rowsOf n ws = map rowOf (take n ws)
+
+abbrev pub decodeParts : (count : ℕ) → (words marks : List ℕ) → model.Table
+decodeParts n ws ms = model.table (rowsOf n ws) (map linked ms)
+
+abbrev pub decode : Table → model.Table
+decode t = decodeParts (t .count) (t .rows) (t .marks)
+
+-- WELL FORMED as it is handed in: the words in use are rows, words past the count are zero, and the table is well formed
+abbrev pub isZero : ℕ → Bool
+isZero w = eqb w 0
+
+abbrev pub partsFit : (count : ℕ) → (words marks : List ℕ) → Bool
+partsFit n ws ms =
+    leb n maxRows && all isRowWord (take n ws) && all isZero (drop n ws) && model.isWell (decodeParts n ws ms)
+
+abbrev pub fits : Table → Bool
+fits t = partsFit (t .count) (t .rows) (t .marks)

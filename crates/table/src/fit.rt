@@ -1,0 +1,143 @@
+// The check of a table handed in: every rule of 'The table', rows past the count and fields not in use zero.
+ghost use mathlib.Core.Path.{_≡_};
+ghost use Prim.Native.Nat.{_≤_, _<_};
+ghost use lib.ListN.{length, drop};
+ghost use Rattle.model.specs.Base.{all};
+ghost use Rattle.table.specs.Words.{isZero, partsFit};
+ghost use Rattle.table.specs.Fitting.{Words, tagFits, linkFits, rowFits, rowsFit, markFits, marksFit};
+use crate::Table;
+use crate::marks;
+use crate::words;
+
+// A word holds a row with its name or value in range.
+fn tag_fits(w: u32) -> bool
+    ensures { λ r. ⌜ r ≡ tagFits w ⌝ }
+{
+    let kind = words::kind(w);
+    let tag = words::tag(w);
+    if 255 < tag {
+        return false;
+    }
+    if kind == words::ELEMENT {
+        return 0 < tag;
+    }
+    kind == words::LEAF
+}
+
+// A parent's link fits at row i: none, or a lower element.
+fn link_fits(rows: &[u32], i: usize, link: usize) -> bool
+    requires { ⌜ i < length (now rows) ⌝ }
+    ensures { λ r. ⌜ r ≡ linkFits (now (rows .entry)) i link ⌝ }
+{
+    if link == 0 {
+        return true;
+    }
+    if i < link {
+        return false;
+    }
+    words::kind(rows[link - 1]) != words::LEAF
+}
+
+// Row i fits.
+fn row_fits(rows: &[u32], i: usize) -> bool
+    requires { ⌜ i < length (now rows) ⌝ }
+    ensures { λ r. ⌜ r ≡ rowFits (now (rows .entry)) i ⌝ }
+{
+    let w = rows[i];
+    if !tag_fits(w) {
+        return false;
+    }
+    link_fits(rows, i, words::link(w))
+}
+
+// The rows below the count fit.
+fn rows_fit(rows: &[u32], count: usize) -> bool
+    requires { ⌜ count ≤ length (now rows) ⌝ }
+    ensures { λ r. ⌜ r ≡ rowsFit (now (rows .entry)) 0 count ⌝ }
+{
+    let mut i = 0;
+    while i < count {
+        if !row_fits(rows, i) {
+            return false;
+        }
+        i += 1;
+    }
+    true
+}
+
+// The words past the count are zero.
+fn rest_zero(rows: &[u32], count: usize) -> bool
+    ensures { λ r. ⌜ r ≡ all isZero (drop count (now (rows .entry))) ⌝ }
+{
+    let mut i = count;
+    while i < rows.len() {
+        if rows[i] != 0 {
+            return false;
+        }
+        i += 1;
+    }
+    true
+}
+
+fn index(link: u16) -> usize
+    ensures { λ r. ⌜ r ≡ link ⌝ }
+{
+    link as usize
+}
+
+// A mark fits: none, or an element without parent.
+fn mark_fits(rows: &[u32], count: usize, link: u16) -> bool
+    requires { ⌜ count ≤ length (now rows) ⌝ }
+    ensures { λ r. ⌜ r ≡ markFits (now (rows .entry)) count link ⌝ }
+{
+    let at = index(link);
+    if at == 0 {
+        return true;
+    }
+    if count < at {
+        return false;
+    }
+    let w = rows[at - 1];
+    if words::kind(w) == words::LEAF {
+        return false;
+    }
+    words::link(w) == 0
+}
+
+// The marks fit, and no two are the same.
+fn marks_fit(rows: &[u32], count: usize, marks: &[u16]) -> bool
+    requires { ⌜ count ≤ length (now rows) ⌝ }
+    ensures { λ r. ⌜ r ≡ marksFit (now (rows .entry)) count (now (marks .entry)) ⌝ }
+{
+    let mut d = 0;
+    while d < marks.len() {
+        let link = marks[d];
+        if !mark_fits(rows, count, link) {
+            return false;
+        }
+        d += 1;
+        if link != 0 {
+            if marks::is_marked(&marks[d..], link) {
+                return false;
+            }
+        }
+    }
+    true
+}
+
+// The whole table fits.
+pub fn fits<'a>(count: usize, rows: &'a [u32], marks: &'a [u16]) -> bool
+    requires { ⌜ Words (now rows) (now marks) ⌝ }
+    ensures { λ r. ⌜ r ≡ partsFit count (now (rows .entry)) (now (marks .entry)) ⌝ }
+{
+    if Table::ROWS < count {
+        return false;
+    }
+    if !rows_fit(rows, count) {
+        return false;
+    }
+    if !rest_zero(rows, count) {
+        return false;
+    }
+    marks_fit(rows, count, marks)
+}
