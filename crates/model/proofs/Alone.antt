@@ -16,7 +16,7 @@ use Rattle.model.proofs.Labels.{Label, Fit}
 use Rattle.model.proofs.All.{nothing}
 use Rattle.model.proofs.Shift.{shift-low, shift-row-low}
 use Rattle.model.proofs.Twin.{Side, Script, SideFits, World, Good, φ, Twin, φRow}
-use Rattle.model.proofs.Start.{Well}
+use Rattle.model.proofs.Start.{Labelled}
 
 -- THE START of any world is a twin
 start-good : (c : Script) (d : Side) → SideFits c d → Good c d [] (state (d .plan) [])
@@ -63,7 +63,7 @@ scriptOf o e marks =
 abbrev pub aloneSide : (x : Table) → List Label → Side
 aloneSide x ls = record { plan = x; labels = ls; hidden = λ i. ⊥ }
 
-module _ (o : ℕ) (e : Expr) (x : Table) (w : Well x) where
+module _ (o : ℕ) (e : Expr) (x : Table) (w : Labelled x) where
   pub alone-fits : SideFits (scriptOf o e (x .marks)) (aloneSide x (w .labels))
   alone-fits =
       record {

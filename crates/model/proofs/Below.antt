@@ -7,13 +7,13 @@ use mathlib.Core.Option.{Option, none, some}
 use Prim.Native.Nat.{ℕ, zero, suc, _<_}
 use native.Mathlib.Nat.{not-suc-le-zero}
 use native.Mathlib.Omega.{arith}
-use borrow.Author.Tests.{eqb-true, eq-eqb}
-use Rattle.model.specs.Table.{Table, rowAt, isThe}
+use Rattle.model.specs.Table.{Table, rowAt}
 use Rattle.model.specs.Sweep.{through}
 use Rattle.model.specs.Script.{Step}
 use Rattle.model.specs.Step.{letterOf, admits, parentIs, isBelowFrom, isBelow}
 use Rattle.model.specs.Paths.{Path, _▸_}
 use Rattle.model.proofs.BoolLaws.{or-left, or-right, or-cases}
+use Rattle.model.proofs.TableLaws.{isThe-at, isThe-by}
 use Rattle.model.proofs.Words.{Word, Grown, same, more, On, child, deep}
 use Rattle.model.proofs.Labels.{Label, label, grow, labelAt, Fit}
 
@@ -22,13 +22,6 @@ pub data Below (x : Table) (top : ℕ) : ℕ → Type 0 where
   further : {i p : ℕ} → rowAt x i .parent ≡ some p → Below x top p → Below x top i
 
 -- COMPUTED
-pub isThe-true : (i : ℕ) (q : Option ℕ) → isThe i q ≡ true → q ≡ some i
-isThe-true i none e = absurd (false≢true e)
-isThe-true i (some p) e = ap some (eqb-true p i e)
-
-pub isThe-some : (i : ℕ) (q : Option ℕ) → q ≡ some i → isThe i q ≡ true
-isThe-some i q e = subst (λ q. isThe i q ≡ true) (sym e) (eq-eqb i i refl)
-
 below-step : (n : ℕ) (x : Table) (t i : ℕ) → ((p : ℕ) → isBelowFrom n x t p ≡ true → Below x t p) →
     (parentIs x t i || through (isBelowFrom n x t) (rowAt x i .parent)) ≡ true → Below x t i
 below-step n x t i h e = go (or-cases (parentIs x t i) (through (isBelowFrom n x t) (rowAt x i .parent)) e)
@@ -38,7 +31,7 @@ below-step n x t i h e = go (or-cases (parentIs x t i) (through (isBelowFrom n x
     deeper (some p) f g = further f (h p g)
 
     go : (parentIs x t i ≡ true) ⊎ (through (isBelowFrom n x t) (rowAt x i .parent) ≡ true) → Below x t i
-    go (inl f) = under (isThe-true t (rowAt x i .parent) f)
+    go (inl f) = under (isThe-at t (rowAt x i .parent) f)
     go (inr f) = deeper (rowAt x i .parent) refl f
 
 below-from : (n : ℕ) (x : Table) (t i : ℕ) → isBelowFrom n x t i ≡ true → Below x t i
@@ -55,7 +48,7 @@ is-below-from : (x : Table) → ((i p : ℕ) → rowAt x i .parent ≡ some p �
 unfolding isBelowFrom
 is-below-from x l zero t i b h = absurd (not-suc-le-zero h)
 is-below-from x l (suc n) t i (under e) h =
-    or-left (parentIs x t i) (through (isBelowFrom n x t) (rowAt x i .parent)) (isThe-some t (rowAt x i .parent) e)
+    or-left (parentIs x t i) (through (isBelowFrom n x t) (rowAt x i .parent)) (isThe-by t (rowAt x i .parent) e)
 is-below-from x l (suc n) t i (further {p = p} e b) h =
     or-right (parentIs x t i) (through (isBelowFrom n x t) (rowAt x i .parent))
     (subst (λ q. through (isBelowFrom n x t) q ≡ true) (sym e)

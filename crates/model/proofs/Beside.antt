@@ -15,7 +15,7 @@ use Rattle.model.specs.Script.{Expr}
 use Rattle.model.specs.Step.{letterOf}
 use Rattle.model.specs.Run.{State}
 use Rattle.model.specs.Paths.{Path, pathsOf}
-use Rattle.model.proofs.RowLaws.{parent-row}
+use Rattle.model.proofs.TableLaws.{parent-count}
 use Rattle.model.proofs.Words.{first, made, first-made, made-injective, same, isProper, on-first}
 use Rattle.model.proofs.WordsMeet.{meets-apart}
 use Rattle.model.proofs.Labels.{Label, label, labelAt, Fit, fit-proper}
@@ -24,14 +24,14 @@ use Rattle.model.proofs.All.{All, all-at}
 use Rattle.model.proofs.Shift.{shiftRow, shift-low, shift-row-low}
 use Rattle.model.proofs.Twin.{Side, Script, SideFits, World, Touched, Kept, Good, Twin}
 use Rattle.model.proofs.TwinLaws.{touched-grow, label-high, label-side, one-count}
-use Rattle.model.proofs.Start.{Well}
+use Rattle.model.proofs.Start.{Labelled}
 use Rattle.model.proofs.Apart.{Away}
 use Rattle.model.proofs.Alone.{scriptOf, aloneSide, alone-fits}
 
 -- LEFT: a plan, a script that has run on it alone, and a script to run beside it, which accesses nothing that the first modifies
 pub record Left : Type 0 where
   pub plan : Table
-  pub well : Well plan
+  pub well : Labelled plan
   pub owner : ℕ
   pub other : ℕ
   pub distinct : owner ≡ other → ⊥
@@ -94,7 +94,7 @@ module _ (L : Left) where
         room = room;
         closed =
             λ i p h k. (
-              parent-row y i p h,
+              parent-count y i p h,
               subst (Touched c) (sym (fit .links i p h .2))
                   (touched-grow c (labelAt l p) (letterOf (rowAt y i)) (k .1)),
             );

@@ -15,13 +15,14 @@ use Rattle.model.specs.Run.{State, state, Out, stop, gives, runOn}
 use Rattle.model.specs.Paths.{Path, pathsOf, hasUp}
 use Rattle.model.specs.Promise.{tableOf, answerOf, historyOf, ends, newRows, matchedParent, matchedAll, matchedHistory, PlansEqual}
 use Rattle.model.specs.Promise.{FreeCommutes}
+use Rattle.model.proofs.TableLaws.{isWell-at}
 use Rattle.model.proofs.Labels.{Label}
 use Rattle.model.proofs.All.{All, all-imp}
 use Rattle.model.proofs.Shift.{shift, shiftRecord}
 use Rattle.model.proofs.Twin.{World, Touched, Named, Good, φ, Twin, Vals, stopped, passed, Sim, both, alike, full}
 use Rattle.model.proofs.TwinLaws.{one-count, two-count}
 use Rattle.model.proofs.Simulation.{script-sim}
-use Rattle.model.proofs.Start.{Well, well-by}
+use Rattle.model.proofs.Start.{Labelled, labelled-by}
 use Rattle.model.proofs.Apart.{Away, Apart, free-apart}
 use Rattle.model.proofs.Alone.{start-twin, scriptOf, aloneSide, alone}
 use Rattle.model.proofs.Matching.{mark-low, all-first, all-second, history-first, history-second}
@@ -63,7 +64,7 @@ module _ (W : World) (r : List Path) where
   sim-stops (full k f) e = refl
 
 -- ALONE: what a script leaves
-run-alone : (o : ℕ) (e : Expr) (x : Table) (w : Well x) → hasUp e ≡ false → (v : List ℕ) (s : State) → runOn x e ≡ gives v s →
+run-alone : (o : ℕ) (e : Expr) (x : Table) (w : Labelled x) → hasUp e ≡ false → (v : List ℕ) (s : State) → runOn x e ≡ gives v s →
     (news : List Label) × Good (scriptOf o e (x .marks)) (aloneSide x (w .labels)) news s × All (Touched (scriptOf o e (x .marks))) news
 run-alone o e x w u v s h =
     go
@@ -76,7 +77,7 @@ run-alone o e x w u v s h =
     go (inl (t, news, k, T, a)) = (news, T .one, T .touched)
     go (inr (k, l, m)) = absurd (omega arith)
 
-abbrev leftBy : (o q : ℕ) → (o ≡ q → ⊥) → (e f : Expr) → Away (pathsOf o e) (pathsOf q f) → (x : Table) (w : Well x) → hasUp e ≡ false →
+abbrev leftBy : (o q : ℕ) → (o ≡ q → ⊥) → (e f : Expr) → Away (pathsOf o e) (pathsOf q f) → (x : Table) (w : Labelled x) → hasUp e ≡ false →
     (v : List ℕ) (s : State) → runOn x e ≡ gives v s → Left
 leftBy o q n e f a x w u v s h =
     record {
@@ -111,7 +112,7 @@ OrdersBy x a b c d =
     (historyOf b ≡ matchedHistory (count x) (newRows x a) (newRows x b) (historyOf c)) ×
     PlansEqual (count x) (newRows x a) (newRows x b) (tableOf c) (tableOf d)
 
-module _ (e f : Expr) (x : Table) (w : Well x) (A : Apart e f) where
+module _ (e f : Expr) (x : Table) (w : Labelled x) (A : Apart e f) where
   -- BOTH END ALONE
   module _ (v₁ v₂ : List ℕ) (s₁ s₂ : State) (h₁ : runOn x e ≡ gives v₁ s₁) (h₂ : runOn x f ≡ gives v₂ s₂) where
     abbrev one : Left
@@ -251,4 +252,4 @@ module _ (e f : Expr) (x : Table) (w : Well x) (A : Apart e f) where
   orders (gives v s) (gives v′ s′) h k = both-end v v′ s s′ h k
 
 pub freeCommutes : FreeCommutes
-freeCommutes e f x h k = orders e f x (well-by x k) (free-apart e f h) (runOn x e) (runOn x f) refl refl
+freeCommutes e f x h k = orders e f x (labelled-by x (isWell-at x k)) (free-apart e f h) (runOn x e) (runOn x f) refl refl

@@ -15,7 +15,7 @@ use Rattle.model.specs.Script.{Expr, nil, document, var, step, both, let
 use Rattle.model.specs.Step.{stepped, picked}
 use Rattle.model.specs.Run.{State, Out, stop, gives, andThen, thenRow, joinItems, joinFor, withMade, roomFault, newRow, loose}
 use Rattle.model.specs.Run.{cutRow, cutBy, cutAll, Copied, copyRow, subtree, copyEach, copyAll, inserted, loop, marked, run}
-use Rattle.model.proofs.RowLaws.{count-with, count-linked}
+use Rattle.model.proofs.GrowLaws.{count-withRow, count-linked}
 
 pub data Grows (c : ℕ) : Out → Type 0 where
   stops : {z : Fault} → Grows c (stop z)
@@ -58,7 +58,7 @@ grows-pick false a b = b
 
 pub grows-new : (z : ℕ) (r : Row) (s : State) → Grows (count (s .plan)) (newRow z r s)
 grows-new z r s =
-    let k : count (s .plan) ≤ count (withMade s r .plan) = omega (arith, count-with (s .plan) r) in
+    let k : count (s .plan) ≤ count (withMade s r .plan) = omega (arith, count-withRow (s .plan) r) in
     grows-pick (isFine (roomFault z s)) (keeps k) stops
 
 pub grows-cut : (z : ℕ) (v : List ℕ) (s : State) → Grows (count (s .plan)) (cutAll z v s)

@@ -1,18 +1,19 @@
 -- Labels: each row's root and word, given when the row is made and never changed. A table fits its labels; also after a cut, and with
 -- a row more.
-use mathlib.Core.Path.{_≡_, refl, sym, _∙_, ap, ap₂, subst, subst₂}
+use mathlib.Core.Path.{_≡_, refl, sym, _∙_, ap, subst}
 use mathlib.Core.Bool.{true, false}
-use mathlib.Core.Logic.{_⊎_, inl, inr}
+use mathlib.Core.Logic.{_≢_}
 use mathlib.Core.List.{List, [], _∷_, _++_}
-use mathlib.Core.Option.{none, some}
-use Prim.Native.Nat.{ℕ, _+_, _<_}
+use mathlib.Core.Option.{none, some, Option·none-ne-some}
+use Prim.Native.Nat.{ℕ, _<_}
 use native.Mathlib.Omega.{arith}
 use lib.ListN.{length, getD, length-append, List·getD-append}
 use lib.Seq.{getD-append-seam}
 use Rattle.model.specs.Table.{Row, Table, rowAt, count, withRow, linked}
 use Rattle.model.specs.Step.{Letter, leafLetter, named, letterOf}
 use Rattle.model.proofs.BoolLaws.{pick-false}
-use Rattle.model.proofs.RowLaws.{parent-row, count-with, row-new, row-old, row-cases, count-linked, same-linked, parent-cut}
+use Rattle.model.proofs.TableLaws.{parent-count}
+use Rattle.model.proofs.GrowLaws.{count-withRow, rowAt-withRow-old, withRow-cases, count-linked, linked-cases, isLeaf-linked}
 use Rattle.model.proofs.Words.{Word, Root, first, areElements, isProper}
 
 pub record Label : Type 0 where
@@ -35,13 +36,13 @@ EndsIn [] b = Unit {0}
 EndsIn (a ∷ w) b = (a ≡ b) × (areElements w ≡ true)
 
 -- a parent, where there is one, is a lower element, and its label is the child's without the last letter
-abbrev pub Linked : List Label → Table → (row parent : ℕ) → Type 0
-Linked ls x i p =
-    (p < i) × (rowAt x p .isLeaf ≡ false) × (labelAt ls i ≡ grow (labelAt ls p) (letterOf (rowAt x i)))
+abbrev pub LinkedRow : List Label → Table → (number : ℕ) → Row → Type 0
+LinkedRow ls x i r =
+    (p : ℕ) → r .parent ≡ some p → (p < i) × (rowAt x p .isLeaf ≡ false) × (labelAt ls i ≡ grow (labelAt ls p) (letterOf r))
 
 pub record Fit (ls : List Label) (x : Table) : Type 0 where
   pub size : length ls ≡ count x
-  pub links : (i p : ℕ) → rowAt x i .parent ≡ some p → Linked ls x i p
+  pub links : (i : ℕ) → LinkedRow ls x i (rowAt x i)
   pub words : (i : ℕ) → i < count x → EndsIn (labelAt ls i .word) (letterOf (rowAt x i))
 
 pub fit-proper : {ls : List Label} {x : Table} → Fit ls x → (i : ℕ) → i < count x → isProper (labelAt ls i .word) ≡ true
@@ -66,21 +67,20 @@ fit-elements {ls} {x} f i h e = go (labelAt ls i .word) (f .words i h)
 
 -- CUT: what has no parent needs none
 pub fit-cut : {ls : List Label} {x : Table} → Fit ls x → (i : ℕ) → i < count x → Fit ls (linked x i none)
-fit-cut {ls} {x} f i h = record { size = f .size ∙ sym (count-linked x i none); links = links; words = words }
+fit-cut {ls} {x} f i h =
+    record {
+      size = f .size ∙ sym (count-linked x i none);
+      links = linked-cases x i none (LinkedRow ls (linked x i none)) h old (λ p e. absurd (Option·none-ne-some p e));
+      words =
+          λ j k.
+          linked-cases x i none (λ j q. j < count x → EndsIn (labelAt ls j .word) (letterOf q)) h (λ j n. f .words j) (f .words i) j
+          (subst (λ n. j < n) (count-linked x i none) k);
+    }
   where
-    links : (j p : ℕ) → rowAt (linked x i none) j .parent ≡ some p → Linked ls (linked x i none) j p
-    links j p e =
-        let c : (rowAt x j .parent ≡ some p) × (rowAt (linked x i none) j ≡ rowAt x j) = parent-cut x i j p h e in
-        let k : Linked ls x j p = f .links j p (c .0) in (
-          k .0,
-          same-linked (λ r. r .isLeaf) x i p none (λ r. refl) h ∙ k .1,
-          k .2 ∙ ap (λ r. grow (labelAt ls p) (letterOf r)) (sym (c .1)),
-        )
-
-    words : (j : ℕ) → j < count (linked x i none) → EndsIn (labelAt ls j .word) (letterOf (rowAt (linked x i none) j))
-    words j k =
-        subst (λ a. EndsIn (labelAt ls j .word) a) (sym (same-linked letterOf x i j none (λ r. refl) h))
-        (f .words j (subst (λ n. j < n) (count-linked x i none) k))
+    old : (j : ℕ) → j ≢ i → LinkedRow ls (linked x i none) j (rowAt x j)
+    old j n p e =
+        let k = f .links j p e in
+        (k .0, isLeaf-linked x i none h p ∙ k .1, k .2)
 
 -- A ROW MORE, with a label that fits it
 pub record NewFit (ls : List Label) (x : Table) (r : Row) (l : Label) : Type 0 where
@@ -96,42 +96,34 @@ label-new ls l = getD-append-seam ls l [] (label (first 0) [])
 pub fit-row : {ls : List Label} {x : Table} → Fit ls x → (r : Row) (l : Label) → NewFit ls x r l → Fit (ls ++ (l ∷ [])) (withRow x r)
 fit-row {ls} {x} f r l n =
     record {
-      size = size;
-      links = λ j p e. links j p e (row-cases x r j (parent-row (withRow x r) j p e));
-      words = λ j k. words j (row-cases x r j k);
+      size = omega (arith, length-append ls (l ∷ []), f .size, count-withRow x r);
+      links =
+          λ j p e.
+          withRow-cases x r (LinkedRow (ls ++ (l ∷ [])) (withRow x r)) links last j (parent-count (withRow x r) j p e) p e;
+      words =
+          withRow-cases x r (λ j q. EndsIn (labelAt (ls ++ (l ∷ [])) j .word) (letterOf q))
+          (λ j h. subst (λ m. EndsIn (m .word) (letterOf (rowAt x j))) (sym (old j h)) (f .words j h))
+          (subst (λ m. EndsIn (m .word) (letterOf r)) (sym new) (n .word));
     }
   where
-    size : length (ls ++ (l ∷ [])) ≡ count (withRow x r)
-    size = length-append ls (l ∷ []) ∙ ap (λ n. n + 1) (f .size) ∙ sym (count-with x r)
-
     old : (i : ℕ) → i < count x → labelAt (ls ++ (l ∷ [])) i ≡ labelAt ls i
-    old i h = label-old ls l i (subst (λ n. i < n) (sym (f .size)) h)
+    old i h = label-old ls l i (omega (arith, f .size))
 
     new : labelAt (ls ++ (l ∷ [])) (count x) ≡ l
     new = subst (λ n. labelAt (ls ++ (l ∷ [])) n ≡ l) (f .size) (label-new ls l)
 
-    links : (j p : ℕ) → rowAt (withRow x r) j .parent ≡ some p → (j < count x) ⊎ (j ≡ count x) → Linked (ls ++ (l ∷ [])) (withRow x r) j p
-    links j p e (inl h) =
-        let q : rowAt (withRow x r) j ≡ rowAt x j = row-old x r j h in
-        let k : Linked ls x j p = f .links j p (ap (λ r. r .parent) (sym q) ∙ e) in
-        let b : p < count x = omega (arith, k .0) in (
-          k .0,
-          ap (λ r. r .isLeaf) (row-old x r p b) ∙ k .1,
-          old j h ∙ k .2 ∙ ap₂ (λ m r. grow m (letterOf r)) (sym (old p b)) (sym q),
-        )
-    links j p e (inr h) =
-        let q : rowAt (withRow x r) j ≡ r = subst (λ i. rowAt (withRow x r) i ≡ r) (sym h) (row-new x r) in
-        let k : (p < count x) × (rowAt x p .isLeaf ≡ false) × (l ≡ grow (labelAt ls p) (letterOf r)) =
-        n .link p (ap (λ r. r .parent) (sym q) ∙ e) in (
-          subst (λ i. p < i) (sym h) (k .0),
-          ap (λ r. r .isLeaf) (row-old x r p (k .0)) ∙ k .1,
-          ap (λ i. labelAt (ls ++ (l ∷ [])) i) h ∙ new ∙ k .2 ∙
-              ap₂ (λ m r. grow m (letterOf r)) (sym (old p (k .0))) (sym q),
-        )
+    under : (p : ℕ) (a : Letter) → p < count x → rowAt x p .isLeaf ≡ false →
+        (rowAt (withRow x r) p .isLeaf ≡ false) × (grow (labelAt ls p) a ≡ grow (labelAt (ls ++ (l ∷ [])) p) a)
+    under p a b e = (ap (λ q. q .isLeaf) (rowAt-withRow-old x r p b) ∙ e, ap (λ m. grow m a) (sym (old p b)))
 
-    words : (j : ℕ) → (j < count x) ⊎ (j ≡ count x) → EndsIn (labelAt (ls ++ (l ∷ [])) j .word) (letterOf (rowAt (withRow x r) j))
-    words j (inl h) =
-        subst₂ (λ m r. EndsIn (m .word) (letterOf r)) (sym (old j h)) (sym (row-old x r j h)) (f .words j h)
-    words j (inr h) =
-        subst (λ i. EndsIn (labelAt (ls ++ (l ∷ [])) i .word) (letterOf (rowAt (withRow x r) i))) (sym h)
-        (subst₂ (λ m r. EndsIn (m .word) (letterOf r)) (sym new) (sym (row-new x r)) (n .word))
+    links : (j : ℕ) → j < count x → LinkedRow (ls ++ (l ∷ [])) (withRow x r) j (rowAt x j)
+    links j h p e =
+        let k = f .links j p e in
+        let u = under p (letterOf (rowAt x j)) (omega (arith, k .0)) (k .1) in
+        (k .0, u .0, old j h ∙ k .2 ∙ u .1)
+
+    last : LinkedRow (ls ++ (l ∷ [])) (withRow x r) (count x) r
+    last p e =
+        let k = n .link p e in
+        let u = under p (letterOf r) (k .0) (k .1) in
+        (k .0, u .0, new ∙ k .2 ∙ u .1)

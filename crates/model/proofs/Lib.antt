@@ -24,7 +24,6 @@ pub mod RowsOn
 pub mod Chain
 pub mod FreeMeans
 pub mod All
-pub mod RowLaws
 pub mod Shift
 pub mod Collect
 pub mod Words

@@ -16,7 +16,8 @@ use Rattle.model.specs.Step.{Letter, leafLetter, named, letterOf, admits
 use Rattle.model.specs.Run.{descendantsFrom}
 use Rattle.model.specs.Paths.{anyBelow, isUp}
 use Rattle.model.proofs.BoolLaws.{and-left, and-right, and-both, or-left, or-right, or-cases}
-use Rattle.model.proofs.Below.{Below, under, further, isThe-true, isThe-some, below-is, is-below}
+use Rattle.model.proofs.TableLaws.{isThe-at, isThe-by}
+use Rattle.model.proofs.Below.{Below, under, further, below-is, is-below}
 
 -- SOME ITEM of a list passes a test
 pub any-in : {A : Type 0} (f : A → Bool) (l : List A) → any f l ≡ true → (a : A) × In a l × (f a ≡ true)
@@ -57,7 +58,7 @@ reach-is x s v j u e = go (any-in (λ i. reaches x (s .axis) i j) v (and-right (
     go (i, k, f) = by (down-axis s u)
       where
         by : (s .axis ≡ 0) ⊎ (s .axis ≡ 1) → Reach x s v j
-        by (inl a) = byChild k a (isThe-true i (rowAt x j .parent) (subst (λ n. reaches x n i j ≡ true) a f)) z
+        by (inl a) = byChild k a (isThe-at i (rowAt x j .parent) (subst (λ n. reaches x n i j ≡ true) a f)) z
         by (inr a) = byDeep k a (below-is x i j (subst (λ n. reaches x n i j ≡ true) a f)) z
 
 pub is-reach : (x : Table) (s : Step) (v : List ℕ) (j : ℕ) → ((i p : ℕ) → rowAt x i .parent ≡ some p → p < i) → Reach x s v j →
@@ -65,7 +66,7 @@ pub is-reach : (x : Table) (s : Step) (v : List ℕ) (j : ℕ) → ((i p : ℕ) 
 is-reach x s v j l (byChild {i} k a e z) =
     and-both (admits s (letterOf (rowAt x j))) (any (λ i. reaches x (s .axis) i j) v) z
     (in-any (λ i. reaches x (s .axis) i j) k
-    (subst (λ n. reaches x n i j ≡ true) (sym a) (isThe-some i (rowAt x j .parent) e)))
+    (subst (λ n. reaches x n i j ≡ true) (sym a) (isThe-by i (rowAt x j .parent) e)))
 is-reach x s v j l (byDeep {i} k a b z) =
     and-both (admits s (letterOf (rowAt x j))) (any (λ i. reaches x (s .axis) i j) v) z
     (in-any (λ i. reaches x (s .axis) i j) k (subst (λ n. reaches x n i j ≡ true) (sym a) (is-below x l i j b)))

@@ -18,7 +18,7 @@ use Rattle.model.specs.Step.{relates, isPicked, stepped, picked}
 use Rattle.model.specs.Run.{State, Out, stop, gives, joinItems, joinFor, loop, marked, loose, newRow, withMade}
 use Rattle.model.specs.Paths.{Path, start, _▸_, withStep, documentPlace, isUp}
 use Rattle.model.proofs.Words.{first, made, at}
-use Rattle.model.proofs.RowLaws.{count-with}
+use Rattle.model.proofs.GrowLaws.{count-withRow}
 use Rattle.model.proofs.Labels.{Label, label, labelAt}
 use Rattle.model.proofs.Below.{OnPath}
 use Rattle.model.proofs.All.{nothing, also, all-append}
@@ -80,7 +80,7 @@ module _ (W : World) where
 
       bound : Twin W (news ++ (own ∷ [])) (withMade s (loose b n)) (withMade t (loose b n)) →
           count (s .plan) < length (ones W (news ++ (own ∷ [])))
-      bound N = omega (arith, N .one .fit .size, count-with (s .plan) (loose b n))
+      bound N = omega (arith, N .one .fit .size, count-withRow (s .plan) (loose b n))
 
   -- STEP
   pub sim-step : (r : List Path) (u : Step) → isUp u ≡ false → ((p : Path) → In p r → W .script .accessed (p ▸ u)) → (news : List Label)

@@ -9,7 +9,7 @@ use native.Mathlib.Omega.{arith}
 use Rattle.model.specs.Table.{Row, rowAt, count, isElement}
 use Rattle.model.specs.Step.{Letter, letterOf}
 use Rattle.model.specs.Run.{State, withMade}
-use Rattle.model.proofs.RowLaws.{count-with, row-new, row-old}
+use Rattle.model.proofs.GrowLaws.{count-withRow, rowAt-withRow-new, rowAt-withRow-old}
 use Rattle.model.proofs.Words.{made}
 use Rattle.model.proofs.Labels.{Label, label, grow, labelAt, EndsIn, NewFit, fit-elements}
 use Rattle.model.proofs.Twin.{World, Touched, ones, Twin}
@@ -28,8 +28,8 @@ module _ (W : World) where
       Base (news ++ (l ∷ [])) (withMade s r) p
   base-more news s t T r l p b =
       record {
-        bound = omega (arith, b .bound, count-with (s .plan) r);
-        isElement = ap (λ r. r .isLeaf) (row-old (s .plan) r p (b .bound)) ∙ b .isElement;
+        bound = omega (arith, b .bound, count-withRow (s .plan) r);
+        isElement = ap (λ r. r .isLeaf) (rowAt-withRow-old (s .plan) r p (b .bound)) ∙ b .isElement;
         clear = b .clear;
         grows =
             λ a.
@@ -41,8 +41,8 @@ module _ (W : World) where
       Base (news ++ (l ∷ [])) (withMade s r) (count (s .plan))
   base-new news s t T r l e k =
       record {
-        bound = omega (arith, count-with (s .plan) r);
-        isElement = ap (λ r. r .isLeaf) (row-new (s .plan) r) ∙ e;
+        bound = omega (arith, count-withRow (s .plan) r);
+        isElement = ap (λ r. r .isLeaf) (rowAt-withRow-new (s .plan) r) ∙ e;
         clear = λ h.
             omega (arith, W .oneFits .early (count (s .plan)) h, W .oneCount, one-count W news s t T);
         grows = λ a. touched-grow (W .script) (labelAt (ones W (news ++ (l ∷ []))) (count (s .plan))) a

@@ -1,13 +1,12 @@
 -- Cuts in both states of a twin: they stay a twin. And what a script may change, with all below it.
 use mathlib.Core.Path.{_≡_, refl, sym, _∙_, ap, subst, subst₂}
 use mathlib.Core.Bool.{Bool, true, false}
-use mathlib.Core.Logic.{_⊎_, inl, inr}
+use mathlib.Core.Logic.{inl, inr}
 use mathlib.Core.List.{List, [], _∷_, _++_, map, map-append}
 use mathlib.Core.List.{List·Memᴰ as In}
-use mathlib.Core.Option.{Option, none, some}
+use mathlib.Core.Option.{Option, none, some, Option·none-ne-some}
 use Prim.Native.Nat.{ℕ, _<_}
 use native.Mathlib.Omega.{arith}
-use native.Mathlib.Decide.{ℕ-discrete}
 use lib.Dec.{ltb}
 use lib.ListN.{length}
 use Rattle.model.specs.Base.{pick}
@@ -18,7 +17,7 @@ use Rattle.model.specs.History.{Record}
 use Rattle.model.specs.Step.{Letter}
 use Rattle.model.specs.Run.{State, stop, cutRecord, cutRow, cutBy, cutAll}
 use Rattle.model.specs.Paths.{Path, _▸_, anyBelow}
-use Rattle.model.proofs.RowLaws.{count-linked, row-linked, row-others, linked-cases, parent-cut}
+use Rattle.model.proofs.GrowLaws.{count-linked, rowAt-linked-same, rowAt-linked-other, linked-cases}
 use Rattle.model.proofs.Words.{same, more, grown-trans, deep}
 use Rattle.model.proofs.Labels.{Label, grow, labelAt, fit-cut}
 use Rattle.model.proofs.Below.{OnPath}
@@ -63,9 +62,11 @@ good-cut c d F news s g r m i p h k e =
       marked = g .marked;
       room = omega (arith, g .room, count-linked (s .plan) i none);
       closed =
-          λ j q f b.
-          g .closed j q (parent-cut (s .plan) i j q h f .0) b;
-      kept = λ j b. kept j b (linked-cases (s .plan) i j none h) (g .kept j b);
+          linked-cases (s .plan) i none (λ j r. (p : ℕ) → r .parent ≡ some p → d .hidden p → d .hidden j) h (λ j n. g .closed j)
+          (λ p e. absurd (Option·none-ne-some p e));
+      kept =
+          linked-cases (s .plan) i none (λ j r. j < count (d .plan) → Kept c (labelAt (d .labels) j) (rowAt (d .plan) j) r) h
+          (λ j n. g .kept j) (λ b. kept b (g .kept i b));
       names =
           all-append (all-imp wider (g .names))
           (also (omega (arith, count-linked (s .plan) i none), λ q f. lower q f) nothing);
@@ -80,16 +81,12 @@ good-cut c d F news s g r m i p h k e =
     lower : (q : ℕ) → some p ≡ some q → q < count (linked (s .plan) i none)
     lower q f = omega (arith, g .fit .links i q (e ∙ f) .0, same-count)
 
-    kept : (j : ℕ) → j < count (d .plan) →
-        (rowAt (linked (s .plan) i none) j ≡ rowAt (s .plan) j) ⊎
-        ((j ≡ i) × (rowAt (linked (s .plan) i none) j ≡ withParent (rowAt (s .plan) j) none)) →
-        Kept c (labelAt (d .labels) j) (rowAt (d .plan) j) (rowAt (s .plan) j) →
-        Kept c (labelAt (d .labels) j) (rowAt (d .plan) j) (rowAt (linked (s .plan) i none) j)
-    kept j b (inl q) n = subst (Kept c (labelAt (d .labels) j) (rowAt (d .plan) j)) (sym q) n
-    kept j b (inr (q, f)) (inl n) =
-        let (o, v) = cut-item c d F news r m j (subst (λ i. Item c r (labelAt (d .labels ++ news) i)) (sym q) k) b in
-        inr (f ∙ ap (λ r. withParent r none) n, o, v)
-    kept j b (inr (q, f)) (inr (n, o, v)) = inr (f ∙ ap (λ r. withParent r none) n, o, v)
+    kept : i < count (d .plan) → Kept c (labelAt (d .labels) i) (rowAt (d .plan) i) (rowAt (s .plan) i) →
+        Kept c (labelAt (d .labels) i) (rowAt (d .plan) i) (withParent (rowAt (s .plan) i) none)
+    kept b (inl n) =
+        let (o, v) = cut-item c d F news r m i k b in
+        inr (ap (λ r. withParent r none) n, o, v)
+    kept b (inr (n, o, v)) = inr (ap (λ r. withParent r none) n, o, v)
 
 -- BOTH STATES
 module _ (W : World) (news : List Label) (r : List Path) (m : Cuttable (W .script) r) where
@@ -103,9 +100,7 @@ module _ (W : World) (news : List Label) (r : List Path) (m : Cuttable (W .scrip
             (subst (λ l. Item (W .script) r l) (sym (label-across W news i (a .1))) (k .1))
             (ap (λ r. r .parent) (T .alike i (a .0) (a .1)) ∙ ap (φParent W) e);
         touched = T .touched;
-        alike =
-            λ j h c.
-            cut-alike j (omega (arith, count-linked (s .plan) i none)) c (ℕ-discrete j i);
+        alike = λ j h. cut-alike j (omega (arith, count-linked (s .plan) i none));
         histories =
             ap (λ h. h ++ (cutRecord (φ W i) (φ W p) ∷ [])) (T .histories) ∙
             sym (map-append (φRecord W) (s .history) (cutRecord i p ∷ []));
@@ -117,16 +112,14 @@ module _ (W : World) (news : List Label) (r : List Path) (m : Cuttable (W .scrip
       bound : φ W i < count (t .plan)
       bound = row-bound W news s t T i (a .0)
 
-      cut-alike : (j : ℕ) → j < count (s .plan) → (W .one .hidden j → ⊥) → Dec (j ≡ i) →
+      cut-alike : (j : ℕ) → j < count (s .plan) → (W .one .hidden j → ⊥) →
           rowAt (linked (t .plan) (φ W i) none) (φ W j) ≡ φRow W (rowAt (linked (s .plan) i none) j)
-      cut-alike j h c (yes q) =
-          subst
-          (λ j. rowAt (linked (t .plan) (φ W i) none) (φ W j) ≡ φRow W (rowAt (linked (s .plan) i none) j)) (sym q)
-          (row-linked (t .plan) (φ W i) none bound ∙ ap (λ r. withParent r none) (T .alike i (a .0) (a .1)) ∙
-          sym (ap (φRow W) (row-linked (s .plan) i none (a .0))))
-      cut-alike j h c (no q) =
-          row-others (t .plan) (φ W i) (φ W j) none (λ e. q (shift-injective (W .n) (W .m) j i e)) ∙ T .alike j h c ∙
-          ap (φRow W) (sym (row-others (s .plan) i j none q))
+      cut-alike =
+          linked-cases (s .plan) i none
+          (λ j r. j < count (s .plan) → (W .one .hidden j → ⊥) → rowAt (linked (t .plan) (φ W i) none) (φ W j) ≡ φRow W r) (a .0)
+          (λ j n h c.
+          rowAt-linked-other (t .plan) (φ W i) none (φ W j) (λ e. n (shift-injective (W .n) (W .m) j i e)) ∙ T .alike j h c)
+          (λ h c. rowAt-linked-same (t .plan) (φ W i) none bound ∙ ap (λ r. withParent r none) (T .alike i (a .0) (a .1)))
 
   -- THE OUTCOME of cutting a value's rows
   pub cut-sim : (z : ℕ) (v : List ℕ) (s t : State) → Twin W news s t → Vals W r news v →

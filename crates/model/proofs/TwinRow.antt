@@ -17,7 +17,8 @@ use Rattle.model.specs.Step.{letterOf}
 use Rattle.model.specs.Run.{State, Out, stop, gives, made, withMade, roomFault, newRow}
 use Rattle.model.specs.Paths.{Path}
 use Rattle.model.proofs.BoolLaws.{bool-cases, pick-true, pick-false}
-use Rattle.model.proofs.RowLaws.{parent-row, count-with, row-new, row-old, row-cases}
+use Rattle.model.proofs.TableLaws.{parent-count}
+use Rattle.model.proofs.GrowLaws.{withRow-cases, count-withRow, rowAt-withRow-new, rowAt-withRow-old}
 use Rattle.model.proofs.Labels.{Label, grow, labelAt, Fit, NewFit, fit-row}
 use Rattle.model.proofs.All.{nothing, also, all-append, all-imp}
 use Rattle.model.proofs.Grows.{Grows}
@@ -36,35 +37,29 @@ good-row c d F news s g r l n clear h =
     record {
       fit = subst (λ ls. Fit ls (withRow (s .plan) r)) (append-assoc (d .labels) news (l ∷ [])) (fit-row (g .fit) r l n);
       marked = g .marked;
-      room = omega (arith, count-with (s .plan) r);
+      room = omega (arith, count-withRow (s .plan) r);
       closed =
-          λ i p e k.
-          closed i p e k (row-cases (s .plan) r i (parent-row (withRow (s .plan) r) i p e));
+          λ i p e.
+          withRow-cases (s .plan) r (λ i q. (p : ℕ) → q .parent ≡ some p → d .hidden p → d .hidden i) (λ i l. g .closed i)
+          (λ p e k. absurd (clear p e k)) i (parent-count (withRow (s .plan) r) i p e) p e;
       kept =
           λ i k.
-          subst (Kept c (labelAt (d .labels) i) (rowAt (d .plan) i)) (sym (row-old (s .plan) r i (old i k))) (g .kept i k);
+          subst (Kept c (labelAt (d .labels) i) (rowAt (d .plan) i)) (sym (rowAt-withRow-old (s .plan) r i (old i k))) (g .kept i k);
       names =
           all-append (all-imp wider (g .names))
           (also (
-            omega (arith, count-with (s .plan) r),
+            omega (arith, count-withRow (s .plan) r),
             λ p e.
-                omega (arith, n .link p e .0, count-with (s .plan) r),
+                omega (arith, n .link p e .0, count-withRow (s .plan) r),
           ) nothing);
     }
   where
-    closed : (i p : ℕ) → rowAt (withRow (s .plan) r) i .parent ≡ some p → d .hidden p → (i < count (s .plan)) ⊎ (i ≡ count (s .plan)) →
-        d .hidden i
-    closed i p e k (inl b) = g .closed i p (ap (λ r. r .parent) (sym (row-old (s .plan) r i b)) ∙ e) k
-    closed i p e k (inr b) =
-        absurd (clear p (sym (ap (λ j. rowAt (withRow (s .plan) r) j .parent) b ∙
-        ap (λ r. r .parent) (row-new (s .plan) r)) ∙ e) k)
-
     old : (i : ℕ) → i < count (d .plan) → i < count (s .plan)
     old i k = omega (arith, g .fit .size, length-append (d .labels) news, F .fit .size)
 
     wider : (q : Record) → Named (count (s .plan)) q → Named (count (withRow (s .plan) r)) q
     wider q k =
-        (omega (arith, k .0, count-with (s .plan) r), λ p e. omega (arith, k .1 p e, count-with (s .plan) r))
+        (omega (arith, k .0, count-withRow (s .plan) r), λ p e. omega (arith, k .1 p e, count-withRow (s .plan) r))
 
 -- BOTH STATES
 module _ (W : World) (news : List Label) (s t : State) (T : Twin W news s t) where
@@ -102,15 +97,12 @@ module _ (W : World) (news : List Label) (s t : State) (T : Twin W news s t) whe
         let (p, f, a) = parent-like j e in
         clear-two W news s t T p j a
 
-    new-alike : (i : ℕ) → (W .one .hidden i → ⊥) → (i < count (s .plan)) ⊎ (i ≡ count (s .plan)) →
+    new-alike : (i : ℕ) → i < count (withRow (s .plan) r) → (W .one .hidden i → ⊥) →
         rowAt (withRow (t .plan) (φRow W r)) (φ W i) ≡ φRow W (rowAt (withRow (s .plan) r) i)
-    new-alike i c (inl h) =
-        row-old (t .plan) (φRow W r) (φ W i) (row-bound W news s t T i h) ∙ T .alike i h c ∙
-        ap (φRow W) (sym (row-old (s .plan) r i h))
-    new-alike i c (inr h) =
-        ap (rowAt (withRow (t .plan) (φRow W r))) (ap (φ W) h ∙ count-across W news s t T) ∙
-        row-new (t .plan) (φRow W r) ∙
-        ap (φRow W) (sym (ap (rowAt (withRow (s .plan) r)) h ∙ row-new (s .plan) r))
+    new-alike =
+        withRow-cases (s .plan) r (λ i q. (W .one .hidden i → ⊥) → rowAt (withRow (t .plan) (φRow W r)) (φ W i) ≡ φRow W q)
+        (λ i h c. rowAt-withRow-old (t .plan) (φRow W r) (φ W i) (row-bound W news s t T i h) ∙ T .alike i h c)
+        (λ c. ap (rowAt (withRow (t .plan) (φRow W r))) (count-across W news s t T) ∙ rowAt-withRow-new (t .plan) (φRow W r))
 
     twin-row : Touched (W .script) l → count (s .plan) < maxRows → count (t .plan) < maxRows →
         Twin W (news ++ (l ∷ [])) (withMade s r) (withMade t (φRow W r))
@@ -119,7 +111,7 @@ module _ (W : World) (news : List Label) (s t : State) (T : Twin W news s t) whe
           one = good-row (W .script) (W .one) (W .oneFits) news s (T .one) r l n clear a;
           two = good-row (W .script) (W .two) (W .twoFits) news t (T .two) (φRow W r) l two-fit two-clear b;
           touched = all-append (T .touched) (also k nothing);
-          alike = λ i h c. new-alike i c (row-cases (s .plan) r i h);
+          alike = new-alike;
           histories =
               ap₂ (λ h i. h ++ (made (φRow W r) i ∷ [])) (T .histories)
               (sym (count-across W news s t T)) ∙
@@ -209,7 +201,7 @@ module _ (W : World) (news : List Label) (s t : State) (T : Twin W news s t) whe
         fills b (inl e) =
             subst (Full W) (ap f (sym (fine e)))
             (full-grows W (count (withMade s r .plan)) (f (gives (count (s .plan) ∷ []) (withMade s r)))
-            (omega (arith, count-with (s .plan) r)) g)
+            (omega (arith, count-withRow (s .plan) r)) g)
         fills b (inr e) = subst (Full W) (sym (refused e)) stopped
 
         go : Room z → Sim W q news (f (newRow z r s)) (f′ (newRow z (φRow W r) t))
