@@ -2,12 +2,14 @@
 use mathlib.Core.Path.{_≡_, refl, ap, sym, _∙_}
 use mathlib.Core.Bool.{Bool, true, false, _&&_}
 use mathlib.Core.List.{List, [], _∷_, _++_, map}
+use mathlib.Core.Option.{Option, none, some}
 use Prim.Native.Nat.{ℕ, zero, suc, _+_, _*_, _-_, _/_, _%_, _≤_, _<_}
 use native.Mathlib.Omega.{arith}
 use native.Mathlib.Nat.{zero-add}
 use lib.Dec.{ltb, leb, eqb}
-use lib.ListN.{length, getD, take, drop, length-append}
-use borrow.Author.Tests.{le-leb, lt-leb, leb-true}
+use lib.ListN.{length, getD, take, drop, length-append, List·getD-map}
+use lib.Seq.{getD-take, length-take-le}
+use borrow.Author.Tests.{le-leb, lt-leb, leb-true, eqb-true, eqb-false}
 use Rattle.model.specs.Base.{pick, isIn, all}
 use Rattle.model.specs.Table as model
 use Rattle.model.specs.Stored.{rowsBytes, marksBytes, stored}
@@ -25,8 +27,15 @@ use Rattle.table.proofs.WriteLaws.{over-over, length-rowsBytes}
 -- WHAT FITS: the count, the words in use and past it, and the table decoded
 pub record Fits (n : ℕ) (ws ms : List ℕ) : Type 0 where
   pub few : n ≤ 512
+  pub kinds : (k : ℕ) → k < n → n ≤ length ws → isRowWord (getD ws k 0) ≡ true
   pub canonical : length ws ≡ 512 → Canonical n ws
   pub well : Well (decodeParts n ws ms)
+
+all-getD : (f : ℕ → Bool) (l : List ℕ) → all f l ≡ true → (k : ℕ) → k < length l → f (getD l k 0) ≡ true
+unfolding all
+all-getD f [] h k b = absurd (omega arith)
+all-getD f (a ∷ l) h zero b = and-left (f a) (all f l) h
+all-getD f (a ∷ l) h (suc k) b = all-getD f l (and-right (f a) (all f l) h) k (omega arith)
 
 pub fits-at : (n : ℕ) (ws ms : List ℕ) → partsFit n ws ms ≡ true → Fits n ws ms
 fits-at n ws ms h =
@@ -39,6 +48,8 @@ fits-at n ws ms h =
     let g : n ≤ 512 = leb-true n 512 (and-left a b f) in
     record {
       few = g;
+      kinds = λ k l w.
+          ap isRowWord (sym (getD-take n ws k 0 l)) ∙ all-getD isRowWord (take n ws) (and-right a b f) k (omega (arith, length-take-le n ws w));
       canonical = λ l. canonical-words n ws g l (and-right a b f) (and-right (a && b) c e);
       well = isWell-at (decodeParts n ws ms) (and-right (a && b && c) d h);
     }
@@ -53,6 +64,16 @@ fits-tag n ws ms f w k h =
       by-cases (eqb (getD ws k 0 % 4) 2) (λ e. leb-true (getD ws k 0 / 4096) 255 (rw e at t))
           (λ e. leb-true (getD ws k 0 / 4096) 255 (and-right (leb 1 (getD ws k 0 / 4096)) (leb (getD ws k 0 / 4096) 255) (rw e at t))),
     )
+
+-- a mark's link is below 513
+pub fits-mark : (n : ℕ) (ws ms : List ℕ) → Fits n ws ms → n ≤ length ws → (d : ℕ) → getD ms d 0 < 513
+fits-mark n ws ms f w d =
+    by-cases (eqb (getD ms d 0) 0) (λ e. omega (arith, eqb-true (getD ms d 0) 0 e)) (λ e. some-mark e (eqb-false (getD ms d 0) 0 e))
+  where
+    some-mark : eqb (getD ms d 0) 0 ≡ false → (getD ms d 0 ≡ 0 → ⊥) → getD ms d 0 < 513
+    some-mark e z =
+        let m : getD (map linked ms) d none ≡ some (getD ms d 0 - 1) = List·getD-map linked ms d 0 ∙ rw e in
+        omega (arith, f .well .tree .roots d (getD ms d 0 - 1) m .0, count-decode n ws ms w, f .few)
 
 -- WRITING
 module _ (t : Table) (o : List ℕ) where

@@ -2,4 +2,5 @@ pub mod WordLaws
 pub mod FitLaws
 pub mod ReadLaws
 pub mod WriteLaws
+pub mod SweepLaws
 pub mod CallLaws

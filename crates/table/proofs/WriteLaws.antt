@@ -80,7 +80,7 @@ length-rowsBytes [] = refl
 length-rowsBytes (r ∷ rs) = length-append (rowBytes r) (rowsBytes rs) ∙ omega (arith, length-rowBytes r, length-rowsBytes rs)
 
 module _ (ws : List ℕ) (n i : ℕ) (within : n ≤ length ws) (h : i < n) where
-  rows-next : take (i + 1) (rowsOf n ws) ≡ take i (rowsOf n ws) ++ (rowOf (getD ws i 0) ∷ [])
+  pub rows-next : take (i + 1) (rowsOf n ws) ≡ take i (rowsOf n ws) ++ (rowOf (getD ws i 0) ∷ [])
   rows-next =
       let k : i < length (rowsOf n ws) = omega (arith, count-decode n ws [] within) in
       ap (λ (j : ℕ). take j (rowsOf n ws)) (add-one i) ∙ take-suc (rowsOf n ws) i model.noRow k ∙

@@ -7,6 +7,7 @@ use Rattle.model.specs.Base.{pick}
 use Rattle.model.specs.Refusal as refusal
 use Rattle.model.specs.Table as model
 use Rattle.model.specs.Stored.{Read, bad, got, readPlan, stored}
+use Rattle.model.specs.Sweep.{swept}
 use Rattle.table.specs.Words.{encode, decode, fits}
 use Rattle.table.specs.declared.Fault.{Fault}
 use Rattle.table.specs.declared.Table.{Table}
@@ -41,3 +42,7 @@ planWritten t o =
 
 abbrev pub planOut : Table → (out : List ℕ) → List ℕ
 planOut t o = pick (refusal.isFine (writeFault t (length o))) (stored (decode t) ++ drop (length (stored (decode t))) o) o
+
+-- SWEEPING: refused, the table is as it was handed in
+abbrev pub planSwept : Table → TableResult
+planSwept t = pick (fits t) (result refusal.fine (swept (decode t))) (record { fault = faultOf (refusal.linkAt 0); table = t })

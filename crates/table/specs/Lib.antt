@@ -3,3 +3,4 @@ pub mod Calls
 pub mod Fitting
 pub mod Reading
 pub mod Writing
+pub mod Sweeping

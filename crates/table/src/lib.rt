@@ -2,11 +2,12 @@
 ghost use mathlib.Core.Path.{_≡_};
 ghost use Rattle.model.specs.Table.{empty};
 ghost use Rattle.table.specs.Words.{encode};
-ghost use Rattle.table.specs.Calls.{planRead, planWritten, planOut};
+ghost use Rattle.table.specs.Calls.{planRead, planWritten, planOut, planSwept};
 
 mod fit;
 mod marks;
 mod read;
+mod sweep;
 mod words;
 mod write;
 
@@ -150,5 +151,37 @@ pub fn write_plan(table: Table, out: &mut [u8]) -> Written
             place: 0,
         },
         bytes: length,
+    }
+}
+
+// Drops each row that is neither marked nor below a marked row; refused, the table is as it was handed in.
+pub fn sweep_table(table: Table) -> TableResult
+    ensures { λ r. ⌜ r ≡ planSwept table ⌝ }
+{
+    let count = table.count;
+    if !fit::fits(count, &table.rows, &table.marks) {
+        return TableResult {
+            fault: Fault {
+                number: Fault::LINK,
+                place: 0,
+            },
+            table,
+        };
+    }
+    let mut numbers = [0u16; 513];
+    let mut rows = [0u32; Table::ROWS];
+    let kept = sweep::rows(&table.rows, &table.marks, count, &mut numbers, &mut rows);
+    let mut marks = table.marks;
+    sweep::renumber(&mut marks, &numbers);
+    TableResult {
+        fault: Fault {
+            number: 0,
+            place: 0,
+        },
+        table: Table {
+            count: kept,
+            rows,
+            marks,
+        },
     }
 }
