@@ -1,0 +1,46 @@
+-- What the C calls answer and leave, for every input, from what the calls of the library answer. Assumes nothing: these are definitions.
+use mathlib.Core.List.{List}
+use Prim.Native.Nat.{ℕ, _+_, _*_, _%_}
+use lib.Dec.{ltb, eqb}
+use lib.ListN.{length}
+use Rattle.model.specs.Base.{pick}
+use Rattle.table.specs.Calls as library
+use Rattle.table.specs.declared.Table.{Table}
+use Rattle.table.specs.declared.TableResult.{TableResult}
+use Rattle.table.specs.declared.Written.{Written}
+
+-- number + 256 × which + 65,536 × place; a place of 2^48 or more, past any memory, is taken modulo that
+abbrev pub codeOf : (number which place : ℕ) → ℕ
+codeOf n w i = n + 256 * w + 65536 * (i % 281474976710656)
+
+-- 11 at place 0 for an area too short
+abbrev pub shortCode : ℕ
+shortCode = codeOf 11 0 0
+
+-- the plan's own refusal, or the code of what is written
+abbrev pub readCode : TableResult → (written : ℕ) → ℕ
+readCode r n = pick (eqb (r .fault .number) 0) n (codeOf (r .fault .number) 1 (r .fault .place))
+
+abbrev pub writtenCode : Written → ℕ
+writtenCode w = codeOf (w .fault .number) 0 (w .bytes)
+
+abbrev pub readOut : TableResult → (written out : List ℕ) → List ℕ
+readOut r b o = pick (eqb (r .fault .number) 0) b o
+
+-- READ AND WRITE BACK; out needs 2,080 bytes
+abbrev pub planCode : (plan out : List ℕ) → ℕ
+planCode p o =
+    pick (ltb (length o) 2080) shortCode (readCode (library.planRead p) (writtenCode (library.planWritten (library.planRead p .table) o)))
+
+abbrev pub planOut : (plan out : List ℕ) → List ℕ
+planOut p o = pick (ltb (length o) 2080) o (readOut (library.planRead p) (library.planOut (library.planRead p .table) o) o)
+
+-- READ, SWEEP AND WRITE
+abbrev pub sweptPlan : (plan : List ℕ) → Table
+sweptPlan p = library.planSwept (library.planRead p .table) .table
+
+abbrev pub sweepCode : (plan out : List ℕ) → ℕ
+sweepCode p o = pick (ltb (length o) 2080) shortCode (readCode (library.planRead p) (writtenCode (library.planWritten (sweptPlan p) o)))
+
+abbrev pub sweepOut : (plan out : List ℕ) → List ℕ
+sweepOut p o = pick (ltb (length o) 2080) o (readOut (library.planRead p) (library.planOut (sweptPlan p) o) o)

@@ -1,0 +1,61 @@
+// The C interface: every slice is a pointer and a length, nothing is kept. Each call answers number + 256 × which + 65,536 × place,
+// number 0 where nothing is refused; which says whose refusal it is: 0 a lent area's, 1 the plan's.
+ghost use mathlib.Core.Path.{_≡_};
+ghost use Rattle.ffi.specs.Calls.{codeOf, planCode, planOut, sweepCode, sweepOut};
+use table::Fault;
+use table::Table;
+
+const AREA: u8 = 0;
+
+const PLAN: u8 = 1;
+
+// The bytes that a plan takes at most: 512 rows and 8 marks.
+const ROOM: usize = 2080;
+
+fn code(number: u8, which: u8, place: usize) -> u64
+    ensures { λ r. ⌜ r ≡ codeOf number which place ⌝ }
+{
+    (number as u64) + 256 * (which as u64) + 65536 * (place as u64 % 281474976710656)
+}
+
+// Reads a plan and writes it back to out, which needs room for any plan.
+#[no_mangle]
+pub extern "C" fn yegnabit_plan(plan: &[u8], out: &mut [u8]) -> u64
+    ensures { λ r. ⌜ r ≡ planCode (now (plan .entry)) (now (out .entry)) ⌝ }
+    ensures { λ r. ⌜ now (out .exit) ≡ planOut (now (plan .entry)) (now (out .entry)) ⌝ }
+{
+    if out.len() < ROOM {
+        return code(Fault::LENT, AREA, 0);
+    }
+    let read = table::read_plan(plan);
+    let number = read.fault.number;
+    let place = read.fault.place;
+    if number != 0 {
+        return code(number, PLAN, place);
+    }
+    let t = read.table;
+    let written = table::write_plan(t, out);
+    code(written.fault.number, AREA, written.bytes)
+}
+
+// Reads a plan, sweeps it, and writes it to out.
+#[no_mangle]
+pub extern "C" fn yegnabit_sweep(plan: &[u8], out: &mut [u8]) -> u64
+    ensures { λ r. ⌜ r ≡ sweepCode (now (plan .entry)) (now (out .entry)) ⌝ }
+    ensures { λ r. ⌜ now (out .exit) ≡ sweepOut (now (plan .entry)) (now (out .entry)) ⌝ }
+{
+    if out.len() < ROOM {
+        return code(Fault::LENT, AREA, 0);
+    }
+    let read = table::read_plan(plan);
+    let number = read.fault.number;
+    let place = read.fault.place;
+    if number != 0 {
+        return code(number, PLAN, place);
+    }
+    let t = read.table;
+    let swept = table::sweep_table(t);
+    let u = swept.table;
+    let written = table::write_plan(u, out);
+    code(written.fault.number, AREA, written.bytes)
+}
