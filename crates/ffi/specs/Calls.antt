@@ -1,4 +1,5 @@
 -- What the C calls answer and leave, for every input, from what the calls of the library answer. Assumes nothing: these are definitions.
+use mathlib.Core.Bool.{Bool, _&&_}
 use mathlib.Core.List.{List}
 use Prim.Native.Nat.{ℕ, _+_, _*_, _%_}
 use lib.Dec.{ltb, eqb}
@@ -44,3 +45,36 @@ sweepCode p o = pick (ltb (length o) 2080) shortCode (readCode (library.planRead
 
 abbrev pub sweepOut : (plan out : List ℕ) → List ℕ
 sweepOut p o = pick (ltb (length o) 2080) o (readOut (library.planRead p) (library.planOut (sweptPlan p) o) o)
+
+-- A TABLE GIVEN as 512 row words and 8 marks
+abbrev pub isGiven : (rows marks : List ℕ) → Bool
+isGiven ws ms = eqb (length ws) 512 && eqb (length ms) 8
+
+abbrev pub given : (count : ℕ) → (rows marks : List ℕ) → Table
+given n ws ms = record { count = n; rows = ws; marks = ms }
+
+-- written: an ill-formed table is the plan's refusal
+abbrev pub writeCode : (count : ℕ) → (rows marks out : List ℕ) → ℕ
+writeCode n ws ms o =
+    pick (isGiven ws ms)
+    (pick (eqb (library.planWritten (given n ws ms) o .fault .number) 6) (codeOf 6 1 0) (writtenCode (library.planWritten (given n ws ms) o)))
+    shortCode
+
+abbrev pub writeOut : (count : ℕ) → (rows marks out : List ℕ) → List ℕ
+writeOut n ws ms o = pick (isGiven ws ms) (library.planOut (given n ws ms) o) o
+
+-- swept in place
+abbrev pub sweptTable : (count : ℕ) → (rows marks : List ℕ) → TableResult
+sweptTable n ws ms = library.planSwept (given n ws ms)
+
+abbrev pub sweptCode : (count : ℕ) → (rows marks : List ℕ) → ℕ
+sweptCode n ws ms =
+    pick (isGiven ws ms)
+    (pick (eqb (sweptTable n ws ms .fault .number) 0) (codeOf 0 0 (sweptTable n ws ms .table .count)) (codeOf (sweptTable n ws ms .fault .number) 1 0))
+    shortCode
+
+abbrev pub sweptRows : (count : ℕ) → (rows marks : List ℕ) → List ℕ
+sweptRows n ws ms = pick (isGiven ws ms && eqb (sweptTable n ws ms .fault .number) 0) (sweptTable n ws ms .table .rows) ws
+
+abbrev pub sweptMarks : (count : ℕ) → (rows marks : List ℕ) → List ℕ
+sweptMarks n ws ms = pick (isGiven ws ms && eqb (sweptTable n ws ms .fault .number) 0) (sweptTable n ws ms .table .marks) ms

@@ -1,7 +1,10 @@
 // The C interface: every slice is a pointer and a length, nothing is kept. Each call answers number + 256 × which + 65,536 × place,
 // number 0 where nothing is refused; which says whose refusal it is: 0 a lent area's, 1 the plan's.
 ghost use mathlib.Core.Path.{_≡_};
-ghost use Rattle.ffi.specs.Calls.{codeOf, planCode, planOut, sweepCode, sweepOut};
+ghost use Rattle.ffi.specs.Calls.{codeOf, planCode, planOut, sweepCode, sweepOut, writeCode, writeOut, sweptCode, sweptRows, sweptMarks};
+
+mod copy;
+
 use table::Fault;
 use table::Table;
 
@@ -58,4 +61,65 @@ pub extern "C" fn yegnabit_sweep(plan: &[u8], out: &mut [u8]) -> u64
     let u = swept.table;
     let written = table::write_plan(u, out);
     code(written.fault.number, AREA, written.bytes)
+}
+
+// Writes a table given as 512 row words and 8 marks: the call of the library on any table, well formed or not.
+#[no_mangle]
+pub extern "C" fn yegnabit_write_table(
+    count: usize,
+    rows: &[u32],
+    marks: &[u16],
+    out: &mut [u8],
+) -> u64
+    ensures { λ r. ⌜ r ≡ writeCode count (now (rows .entry)) (now (marks .entry)) (now (out .entry)) ⌝ }
+    ensures { λ r. ⌜ now (out .exit) ≡ writeOut count (now (rows .entry)) (now (marks .entry)) (now (out .entry)) ⌝ }
+{
+    if rows.len() != Table::ROWS {
+        return code(Fault::LENT, AREA, 0);
+    }
+    if marks.len() != Table::DOCUMENTS {
+        return code(Fault::LENT, AREA, 0);
+    }
+    let t = Table {
+        count,
+        rows: copy::rows_of(rows),
+        marks: copy::marks_of(marks),
+    };
+    let written = table::write_plan(t, out);
+    let number = written.fault.number;
+    if number == Fault::LINK {
+        return code(number, PLAN, 0);
+    }
+    code(number, AREA, written.bytes)
+}
+
+// Sweeps a table given as 512 row words and 8 marks, in place.
+#[no_mangle]
+pub extern "C" fn yegnabit_sweep_table(count: usize, rows: &mut [u32], marks: &mut [u16]) -> u64
+    ensures { λ r. ⌜ r ≡ sweptCode count (now (rows .entry)) (now (marks .entry)) ⌝ }
+    ensures { λ r. ⌜ now (rows .exit) ≡ sweptRows count (now (rows .entry)) (now (marks .entry)) ⌝ }
+    ensures { λ r. ⌜ now (marks .exit) ≡ sweptMarks count (now (rows .entry)) (now (marks .entry)) ⌝ }
+{
+    if rows.len() != Table::ROWS {
+        return code(Fault::LENT, AREA, 0);
+    }
+    if marks.len() != Table::DOCUMENTS {
+        return code(Fault::LENT, AREA, 0);
+    }
+    let t = Table {
+        count,
+        rows: copy::rows_of(rows),
+        marks: copy::marks_of(marks),
+    };
+    let swept = table::sweep_table(t);
+    let number = swept.fault.number;
+    if number != 0 {
+        return code(number, PLAN, 0);
+    }
+    let new_count = swept.table.count;
+    let new_rows = swept.table.rows;
+    let new_marks = swept.table.marks;
+    copy::put_rows(rows, new_rows);
+    copy::put_marks(marks, new_marks);
+    code(0, AREA, new_count)
 }
