@@ -1,0 +1,2 @@
+// Runs on a plan.
+mod step;
