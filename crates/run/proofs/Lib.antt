@@ -1,3 +1,4 @@
 pub mod StepLaws
 pub mod ReachLaws
 pub mod PassLaws
+pub mod ValueLaws

@@ -1,21 +1,20 @@
 // The rows that a step reaches from a value, and those that pick keeps. A row's flag stands at its number and one; position 0 is for no row.
 ghost use mathlib.Core.Path.{_≡_};
-ghost use mathlib.Core.Bool.{_&&_, _||_, not};
 ghost use Prim.Native.Nat.{_+_, _/_, _%_, _≤_, _<_};
-ghost use lib.Dec.{eqb};
-ghost use lib.ListN.{length, getD};
+ghost use lib.ListN.{length, getD, set};
+ghost use Rattle.model.specs.Base.{pick};
 ghost use Rattle.model.specs.Script.{stepBy};
 ghost use Rattle.model.specs.Step.{admits, letterOf};
 ghost use Rattle.table.specs.Words.{rowOf};
 ghost use Rattle.run.specs.Stepping.{bit, FlagPre, Flagged, counted, OnePre, descended, climbed, PassPre, Reached};
+ghost use Rattle.run.specs.Values.{kept, keptRows, CollectPre, Appended, StepPre, StepPost};
 use table::NameNumber;
 use table::RowNumber;
-use table::Table;
 
 const LEAF: u32 = 2;
 
 // A script's step: axis 0 child, 1 descendant, 2 parent, 3 ancestor; test 0 any node, 1 element, 2 leaf, 3 the named element.
-pub struct Step {
+pub struct StepBy {
     pub axis: u8,
     pub test: u8,
     pub name: NameNumber,
@@ -139,4 +138,94 @@ fn climb(rows: &[u32], count: usize, deep: bool, flags: &[u8], reached: &mut [u8
         j -= 1;
         climb_one(rows[j], j, deep, flags, reached);
     }
+}
+
+// The rows that an axis reaches from the flagged items.
+fn reach(rows: &[u32], count: usize, axis: u8, flags: &[u8], reached: &mut [u8])
+    requires { ⌜ axis < 4 ⌝ }
+    requires { ⌜ PassPre (now rows) count (now flags) (now reached) ⌝ }
+    ensures { λ r. ⌜ Reached (now (rows .entry)) count axis (now (flags .entry)) (now (reached .exit)) ⌝ }
+{
+    if axis == 0 {
+        descend(rows, count, false, flags, reached);
+        return;
+    }
+    if axis == 1 {
+        descend(rows, count, true, flags, reached);
+        return;
+    }
+    if axis == 2 {
+        climb(rows, count, false, flags, reached);
+        return;
+    }
+    climb(rows, count, true, flags, reached);
+}
+
+// A row is kept: it is reached and passes the test.
+fn keeps(rows: &[u32], row: RowNumber, flag: u8, test: u8, name: NameNumber) -> bool
+    requires { ⌜ row .0 < length (now rows) ⌝ }
+    ensures { λ r. ⌜ r ≡ kept (now (rows .entry)) (row .0) flag test (name .0) ⌝ }
+{
+    if flag == 0 {
+        return false;
+    }
+    passes(rows, row, test, name)
+}
+
+// Appends an item to the value that ends at a place, if it is kept; the place past the value.
+fn append_if(keep: bool, item: u16, work: &mut [u16], at: usize) -> usize
+    requires { ⌜ at < length (now work) ⌝ }
+    ensures { λ r. ⌜ now (work .exit) ≡ pick keep (set (now (work .entry)) at item) (now (work .entry)) ⌝ }
+    ensures { λ r. ⌜ r ≡ pick keep (at + 1) at ⌝ }
+{
+    if !keep {
+        return at;
+    }
+    work[at] = item;
+    at + 1
+}
+
+// The rows that are reached and pass the test, in rising number, from a place on; the place past them.
+fn collect(
+    rows: &[u32],
+    count: usize,
+    reached: &[u8],
+    test: u8,
+    name: NameNumber,
+    work: &mut [u16],
+    from: usize,
+) -> usize
+    requires { ⌜ CollectPre (now rows) count (now reached) (now work) from ⌝ }
+    ensures { λ r. ⌜ Appended (keptRows (now (rows .entry)) (now (reached .entry)) test (name .0) count) (now (work .entry)) from (now (work .exit)) r ⌝ }
+{
+    let mut at = from;
+    let mut j = 0;
+    while j < count {
+        let row = j as u16;
+        let keep = keeps(rows, RowNumber(row), reached[j + 1], test, name);
+        at = append_if(keep, row, work, at);
+        j += 1;
+    }
+    at
+}
+
+// A step from the value at a place, which its rows then take; the place past them.
+pub fn stepped(
+    rows: &[u32],
+    count: usize,
+    by: StepBy,
+    work: &mut [u16],
+    from: usize,
+    to: usize,
+) -> usize
+    requires { ⌜ StepPre (now rows) count (by .axis) (now work) from to ⌝ }
+    ensures { λ r. ⌜ StepPost (now (rows .entry)) count (by .axis) (by .test) (by .name .0) (now (work .entry)) from to (now (work .exit)) r ⌝ }
+{
+    let mut flags = [0u8; 513];
+    let mut reached = [0u8; 513];
+    flag(&mut flags, &work[from..to]);
+    reach(rows, count, by.axis, &flags, &mut reached);
+    let test = by.test;
+    let name = by.name;
+    collect(rows, count, &reached, test, name, work, from)
 }
