@@ -2,3 +2,4 @@ pub mod StepLaws
 pub mod ReachLaws
 pub mod PassLaws
 pub mod ValueLaws
+pub mod PickLaws

@@ -7,7 +7,7 @@ use lib.Dec.{eqb}
 use lib.ListN.{length, getD, take, drop}
 use Rattle.model.specs.Base.{pick}
 use Rattle.model.specs.Script.{stepBy}
-use Rattle.model.specs.Step.{admits, letterOf, stepped}
+use Rattle.model.specs.Step.{admits, letterOf, stepped, picked, relates}
 use Rattle.model.proofs.Collect.{collect}
 use Rattle.table.specs.Words.{rowOf, decodeParts}
 use Rattle.run.specs.Stepping.{RowsHeld}
@@ -45,3 +45,22 @@ pub record StepPre (ws : List ℕ) (n axis : ℕ) (w : List ℕ) (from to : ℕ)
 
 pub record StepPost (ws : List ℕ) (n axis test name : ℕ) (w : List ℕ) (from to : ℕ) (w′ : List ℕ) (r : ℕ) : Type 0 where
   pub value : (ms : List ℕ) → Appended (stepped (decodeParts n ws ms) (stepBy axis test name) (valueAt w from to)) w from w′ r
+
+-- the items that pass a test
+unfoldable pub filtered : (ℕ → Bool) → List ℕ → List ℕ
+filtered f [] = []
+filtered f (i ∷ is) = pick (f i) (i ∷ filtered f is) (filtered f is)
+
+abbrev pub pickedRow : (rows : List ℕ) → (relation constant row : ℕ) → Bool
+pickedRow ws r c i = rowOf (getD ws i 0) .isLeaf && relates r c (rowOf (getD ws i 0) .tag)
+
+-- PICK from the value at a place: what it keeps for every count of rows above the items
+pub record PickPre (ws w : List ℕ) (from to : ℕ) : Type 0 where
+  pub rows : length ws ≡ 512
+  pub order : from ≤ to
+  pub within : to ≤ length w
+  pub low : (k : ℕ) → k < to - from → getD (valueAt w from to) k 0 < 512
+
+pub record PickPost (ws : List ℕ) (relation constant : ℕ) (w : List ℕ) (from to : ℕ) (w′ : List ℕ) (r : ℕ) : Type 0 where
+  pub value : (n : ℕ) (ms : List ℕ) → n ≤ 512 → ((k : ℕ) → k < to - from → getD (valueAt w from to) k 0 < n) →
+      Appended (picked (decodeParts n ws ms) relation constant (valueAt w from to)) w from w′ r

@@ -1,2 +1,3 @@
 // Runs on a plan.
+mod pick;
 mod step;

@@ -20,7 +20,7 @@ pub struct StepBy {
     pub name: NameNumber,
 }
 
-fn index(x: u16) -> usize
+pub fn index(x: u16) -> usize
     ensures { λ r. ⌜ r ≡ x ⌝ }
     ensures { λ r. ⌜ r < 65536 ⌝ }
 {
@@ -173,7 +173,7 @@ fn keeps(rows: &[u32], row: RowNumber, flag: u8, test: u8, name: NameNumber) -> 
 }
 
 // Appends an item to the value that ends at a place, if it is kept; the place past the value.
-fn append_if(keep: bool, item: u16, work: &mut [u16], at: usize) -> usize
+pub fn append_if(keep: bool, item: u16, work: &mut [u16], at: usize) -> usize
     requires { ⌜ at < length (now work) ⌝ }
     ensures { λ r. ⌜ now (work .exit) ≡ pick keep (set (now (work .entry)) at item) (now (work .entry)) ⌝ }
     ensures { λ r. ⌜ r ≡ pick keep (at + 1) at ⌝ }
