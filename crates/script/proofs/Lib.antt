@@ -1,0 +1,4 @@
+pub mod WalkLaws
+pub mod HeadLaws
+pub mod ParseLaws
+pub mod PlaceLaws
