@@ -12,7 +12,7 @@ use Rattle.model.specs.Base.{pick, isIn}
 use Rattle.model.specs.Refusal.{Fault, fault, fine, isFine, orElse, unless, kindAt, shortAt, fieldAt, sizeAt}
 use Rattle.model.specs.Script.{bodySize, bodyFits, testFits, isBinder, exprFault}
 use Rattle.model.proofs.BoolLaws.{by-cases, and-left, and-right}
-use Rattle.script.specs.Walk.{RecordFits}
+use Rattle.script.specs.Accepted.{RecordFits}
 use Rattle.script.specs.Reading.{HeadPost, refusalAt}
 
 -- THE TEST of a step and its name

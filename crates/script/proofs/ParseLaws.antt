@@ -14,7 +14,8 @@ use Rattle.model.specs.Refusal.{Fault, fault, fine, isFine}
 use Rattle.model.specs.Script.{Expr, nil, Parsed, ill, parsed, thenParse, operands, parseFrom, exprFault, bodySize, bodyFits, isBinder}
 use Rattle.model.proofs.BoolLaws.{by-cases}
 use Rattle.script.proofs.HeadLaws.{kind-at, fine-fits, fine-records}
-use Rattle.script.specs.Walk.{arity, inner, past, endAt, firstAt, secondAt, thirdAt, exprOf, exprAt, RecordFits}
+use Rattle.script.specs.Walk.{arity, inner, past, endAt, firstAt, secondAt, thirdAt, exprOf, exprAt}
+use Rattle.script.specs.Accepted.{RecordFits}
 use Rattle.script.specs.Reading.{parseAt, endOf, expressionRead, refusalAt}
 
 -- a kind is one of thirteen

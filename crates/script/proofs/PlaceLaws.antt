@@ -11,7 +11,8 @@ use Rattle.model.proofs.BoolLaws.{by-cases}
 use Rattle.model.specs.Base.{pick}
 use Rattle.model.specs.Script.{stepKind, bothKind, letKind, forKind, ifKind, deleteKind, insertKind, pickKind}
 use Rattle.model.specs.Script.{Expr, Parsed, parsed, thenParse, bodySize}
-use Rattle.script.specs.Walk.{arity, inner, past, endAt, firstAt, secondAt, thirdAt, exprOf, exprAt, RecordFits}
+use Rattle.script.specs.Walk.{arity, inner, past, endAt, firstAt, secondAt, thirdAt, exprOf, exprAt}
+use Rattle.script.specs.Accepted.{RecordFits}
 use Rattle.script.specs.Reading.{parseAt}
 use Rattle.script.proofs.WalkLaws.{past-record, past-none}
 use Rattle.script.proofs.HeadLaws.{fine-fits}
@@ -120,7 +121,6 @@ reads-same b i left e e′ j j′ m m′ c c′ h r =
 module _ (b : List ℕ) (i k n v : ℕ) (e : Expr) (j m : ℕ) (c : List ℕ) where
   pub accepted-fits : parseAt b i k n v ≡ parsed e j m c → RecordFits b i k v
   accepted-fits h = fine-fits b i k n v i (parsed-fine (suc k) (17 - k) i n v (drop i b) e j m c h)
-
 
 abbrev Known : (bytes : List ℕ) → (left : ℕ) → Type 0
 Known b k = (i n v : ℕ) (e : Expr) (j m : ℕ) (c : List ℕ) → parseAt b i k n v ≡ parsed e j m c → Reads b i k e j c

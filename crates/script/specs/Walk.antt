@@ -1,15 +1,13 @@
 -- A script walked in place: where an expression and its operands stand, and which expression it is. Assumes nothing: these are definitions.
-use mathlib.Core.Path.{_≡_}
-use mathlib.Core.Bool.{Bool, true, _||_}
+use mathlib.Core.Bool.{Bool, _||_}
 use mathlib.Core.List.{List, [], _∷_}
-use Prim.Native.Nat.{ℕ, zero, suc, _+_, _-_, _≤_, _<_}
+use Prim.Native.Nat.{ℕ, zero, suc, _+_, _-_}
 use lib.Dec.{eqb}
-use lib.ListN.{length, getD, drop}
+use lib.ListN.{getD, drop}
 use Rattle.model.specs.Base.{pick}
-use Rattle.model.specs.Limits.{maxBinders}
 use Rattle.model.specs.Script.{Expr, nil, document, var, step, both, letIn, forIn, ifIn, element, leaf, delete, insert, choose, stepBy}
 use Rattle.model.specs.Script.{nilKind, documentKind, varKind, stepKind, bothKind, letKind, forKind, ifKind}
-use Rattle.model.specs.Script.{newElementKind, newLeafKind, deleteKind, insertKind, pickKind, bodySize, bodyFits, isBinder}
+use Rattle.model.specs.Script.{newElementKind, newLeafKind, deleteKind, insertKind, pickKind, bodySize, isBinder}
 
 -- operands of a record; none for a byte that is no kind
 unfoldable pub arity : (kind : ℕ) → ℕ
@@ -68,12 +66,3 @@ unfoldable pub exprAt : ℕ → (bytes : List ℕ) → (at : ℕ) → Expr
 exprAt zero b i = nil i
 exprAt (suc k) b i =
     exprOf (getD b i 0) b i (exprAt k b (firstAt b i)) (exprAt k b (secondAt b i)) (exprAt k b (thirdAt b i))
-
--- ACCEPTED: what the record of an accepted expression fulfils
-pub record RecordFits (b : List ℕ) (at left bound : ℕ) : Type 0 where
-  pub low : nilKind ≤ getD b at 0
-  pub high : getD b at 0 ≤ pickKind
-  pub depth : 0 < left
-  pub scope : isBinder (getD b at 0) ≡ true → bound < maxBinders
-  pub whole : at + bodySize (getD b at 0) < length b
-  pub fields : bodyFits bound (drop at b) ≡ true

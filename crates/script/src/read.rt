@@ -147,7 +147,7 @@ pub fn expression(bytes: &[u8], at: usize, left: usize, records: usize, bound: u
     }
     let kind = bytes[at];
     let operands = kinds::arity(kind);
-    let first_at = at + 1 + kinds::body_size(kind);
+    let first_at = at + (1 + kinds::body_size(kind));
     if operands == 0 {
         return End {
             number: 0,
@@ -162,7 +162,13 @@ pub fn expression(bytes: &[u8], at: usize, left: usize, records: usize, bound: u
     if operands == 1 {
         return first;
     }
-    let second = expression(bytes, first.place, left - 1, first.records, inner(kind, bound));
+    let second = expression(
+        bytes,
+        first.place,
+        left - 1,
+        first.records,
+        inner(kind, bound),
+    );
     if second.number != 0 {
         return second;
     }

@@ -3,50 +3,39 @@ use borrow.Author.Tests.{lt-ltb, le-ltb, le-leb, lt-leb, eq-eqb, ne-eqb}
 use Rattle.script.specs.Walk.{arity}
 use Rattle.script.proofs.kinds.arity.Statement.{statement}
 use Rattle.script.proofs.kinds.arity.Tie as tie
-use Rattle.script.proofs.kinds.arity.Reads as reads
-use Rattle.script.proofs.kinds.arity.Lts as lts
 
--- src/kinds.rt:62:9
 returns : tie.Need-returns
 unfolding arity
 returns c = search (eq-eqb, ne-eqb, lt-ltb, le-ltb, le-leb, lt-leb, needs)
 
--- src/kinds.rt:65:9
 returns-2 : tie.Need-returns-2
 unfolding arity
 returns-2 c = search (eq-eqb, ne-eqb, lt-ltb, le-ltb, le-leb, lt-leb, needs)
 
--- src/kinds.rt:68:9
 returns-3 : tie.Need-returns-3
 unfolding arity
 returns-3 c = search (eq-eqb, ne-eqb, lt-ltb, le-ltb, le-leb, lt-leb, needs)
 
--- src/kinds.rt:71:9
 returns-4 : tie.Need-returns-4
 unfolding arity
 returns-4 c = search (eq-eqb, ne-eqb, lt-ltb, le-ltb, le-leb, lt-leb, needs)
 
--- src/kinds.rt:74:9
 returns-5 : tie.Need-returns-5
 unfolding arity
 returns-5 c = search (eq-eqb, ne-eqb, lt-ltb, le-ltb, le-leb, lt-leb, needs)
 
--- src/kinds.rt:77:9
 returns-6 : tie.Need-returns-6
 unfolding arity
 returns-6 c = search (eq-eqb, ne-eqb, lt-ltb, le-ltb, le-leb, lt-leb, needs)
 
--- src/kinds.rt:80:9
 returns-7 : tie.Need-returns-7
 unfolding arity
 returns-7 c = search (eq-eqb, ne-eqb, lt-ltb, le-ltb, le-leb, lt-leb, needs)
 
--- src/kinds.rt:83:9
 returns-8 : tie.Need-returns-8
 unfolding arity
 returns-8 c = search (eq-eqb, ne-eqb, lt-ltb, le-ltb, le-leb, lt-leb, needs)
 
--- src/kinds.rt:58:1
 returns-9 : tie.Need-returns-9
 unfolding arity
 returns-9 c = search (eq-eqb, ne-eqb, lt-ltb, le-ltb, le-leb, lt-leb, needs)

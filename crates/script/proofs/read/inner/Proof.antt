@@ -5,28 +5,21 @@ use borrow.Author.Tests.{lt-ltb, le-ltb, le-leb, lt-leb, eq-eqb, ne-eqb}
 use Rattle.script.specs.Walk.{inner}
 use Rattle.script.proofs.read.inner.Statement.{statement}
 use Rattle.script.proofs.read.inner.Tie as tie
-use Rattle.script.proofs.read.inner.Reads as reads
-use Rattle.script.proofs.read.inner.Lts as lts
 
--- src/read.rt:95:16
 add-result : tie.Need-add-result
 add-result c = let h : c .before .args .bound < 8 = c .before .pre .room (rw (c .if1 .taken)) in omega arith
 
--- src/read.rt:95:9
 returns : tie.Need-returns
 unfolding inner
 returns c = search (eq-eqb, ne-eqb, lt-ltb, le-ltb, le-leb, lt-leb, needs)
 
--- src/read.rt:98:16
 add-result-2 : tie.Need-add-result-2
 add-result-2 c = let h : c .before .before .args .bound < 8 = c .before .before .pre .room (rw (c .if2 .taken)) in omega arith
 
--- src/read.rt:98:9
 returns-2 : tie.Need-returns-2
 unfolding inner
 returns-2 c = search (eq-eqb, ne-eqb, lt-ltb, le-ltb, le-leb, lt-leb, needs)
 
--- src/read.rt:90:1
 returns-3 : tie.Need-returns-3
 unfolding inner
 returns-3 c = search (eq-eqb, ne-eqb, lt-ltb, le-ltb, le-leb, lt-leb, needs)

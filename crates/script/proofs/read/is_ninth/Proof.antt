@@ -2,18 +2,13 @@ use borrow.Author.Needs.{needs}
 use borrow.Author.Tests.{lt-ltb, le-ltb, le-leb, lt-leb, eq-eqb, ne-eqb}
 use Rattle.script.proofs.read.is_ninth.Statement.{statement}
 use Rattle.script.proofs.read.is_ninth.Tie as tie
-use Rattle.script.proofs.read.is_ninth.Reads as reads
-use Rattle.script.proofs.read.is_ninth.Lts as lts
 
--- src/read.rt:81:9
 returns : tie.Need-returns
 returns c = search (eq-eqb, ne-eqb, lt-ltb, le-ltb, le-leb, lt-leb, needs)
 
--- src/read.rt:84:9
 returns-2 : tie.Need-returns-2
 returns-2 c = search (eq-eqb, ne-eqb, lt-ltb, le-ltb, le-leb, lt-leb, needs)
 
--- src/read.rt:77:1
 returns-3 : tie.Need-returns-3
 returns-3 c = search (eq-eqb, ne-eqb, lt-ltb, le-ltb, le-leb, lt-leb, needs)
 

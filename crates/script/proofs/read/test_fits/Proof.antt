@@ -5,18 +5,13 @@ use Rattle.script.proofs.HeadLaws.{test-named, test-plain, test-none}
 use borrow.Author.Tests.{lt-ltb, le-ltb, le-leb, lt-leb, eq-eqb, ne-eqb}
 use Rattle.script.proofs.read.test_fits.Statement.{statement}
 use Rattle.script.proofs.read.test_fits.Tie as tie
-use Rattle.script.proofs.read.test_fits.Reads as reads
-use Rattle.script.proofs.read.test_fits.Lts as lts
 
--- src/read.rt:41:9
 returns : tie.Need-returns
 returns c = sym (test-named (c .before .args .test) (c .before .args .name) (omega arith) (c .if1 .taken))
 
--- src/read.rt:44:9
 returns-2 : tie.Need-returns-2
 returns-2 c = sym (test-plain (c .before .before .args .test) (c .before .before .args .name) (c .if2 .taken))
 
--- src/read.rt:37:1
 returns-3 : tie.Need-returns-3
 returns-3 c = sym (test-none (c .before .before .args .test) (c .before .before .args .name) (omega arith))
 

@@ -7,10 +7,6 @@ use Rattle.script.specs.Walk.{arity, past, endAt, firstAt}
 use Rattle.script.proofs.WalkLaws.{past-record, past-short, past-none, past-empty}
 use Rattle.script.proofs.walk.end_at.Statement.{statement}
 use Rattle.script.proofs.walk.end_at.Tie as tie
-use Rattle.script.proofs.walk.end_at.Reads as reads
-use Rattle.script.proofs.walk.end_at.Lts as lts
-use Rattle.script.proofs.kinds.arity.Reads as arity-reads
-use Rattle.script.proofs.kinds.body_size.Reads as body-size-reads
 
 abbrev Inv-loop : tie.InvT-loop
 Inv-loop bytes at next₀ pending₀ next pending = (next + pending ≤ length bytes) × (past pending bytes next ≡ endAt bytes at)
@@ -18,63 +14,48 @@ Inv-loop bytes at next₀ pending₀ next pending = (next + pending ≤ length b
 abbrev μ-loop : tie.MeasureT-loop
 μ-loop bytes at next₀ pending₀ next pending = length bytes - next
 
--- src/walk.rt:11:9
 returns : tie.Need-returns Inv-loop μ-loop
 returns c = sym (past-empty (c .before .before .args .bytes .now) (c .before .before .args .at) (c .if1 .taken))
 
--- src/walk.rt:15:5
 loop-holds : tie.Need-loop-holds Inv-loop μ-loop
 loop-holds c = (omega arith, refl)
 
--- src/walk.rt:16:20
 shared-slice-read-kind : tie.Need-shared-slice-read-kind Inv-loop μ-loop
 shared-slice-read-kind c = search needs
 
--- src/walk.rt:17:13
 body-size-requires : tie.Need-body-size-requires Inv-loop μ-loop
 body-size-requires c κs = search needs
 
--- src/walk.rt:18:13
 arity-requires : tie.Need-arity-requires Inv-loop μ-loop
 arity-requires c κs = search needs
 
--- src/walk.rt:19:12
 sub-if2 : tie.Need-sub-if2 Inv-loop μ-loop
 sub-if2 c = search needs
 
--- src/walk.rt:19:12
 sub-if2-2 : tie.Need-sub-if2-2 Inv-loop μ-loop
 sub-if2-2 c = search needs
 
--- src/walk.rt:19:43
 add-if2 : tie.Need-add-if2 Inv-loop μ-loop
 add-if2 c = search needs
 
--- src/walk.rt:20:13
 returns-2 : tie.Need-returns-2 Inv-loop μ-loop
 returns-2 c = sym (past-short (c .before .before .before .before .before .before .before .before .args .bytes .now) (c .before .before .before .before .before .loop .pending) (c .before .before .before .before .before .loop .next) (omega arith) (omega arith) (omega (arith, c .before .before .body-size .ensures .0, c .before .arity .ensures .0))) ∙ c .before .before .before .before .before .loop .inv .1
 
--- src/walk.rt:22:17
 add-next : tie.Need-add-next Inv-loop μ-loop
 add-next c = search needs
 
--- src/walk.rt:22:9
 add-next-2 : tie.Need-add-next-2 Inv-loop μ-loop
 add-next-2 c = search needs
 
--- src/walk.rt:23:19
 sub-pending : tie.Need-sub-pending Inv-loop μ-loop
 sub-pending c = search needs
 
--- src/walk.rt:23:19
 add-pending : tie.Need-add-pending Inv-loop μ-loop
 add-pending c = search needs
 
--- src/walk.rt:15:5
 loop-less : tie.Need-loop-less Inv-loop μ-loop
 loop-less c = search needs
 
--- src/walk.rt:15:5
 loop-again : tie.Need-loop-again Inv-loop μ-loop
 loop-again c =
     let i : c .before .before .before .before .before .loop .next + (1 + c .before .before .body-size .result) ≡ firstAt (c .before .before .before .before .before .before .before .before .args .bytes .now) (c .before .before .before .before .before .loop .next) = ap (λ (s : ℕ). c .before .before .before .before .before .loop .next + (1 + s)) (c .before .before .body-size .ensures .0) in (
@@ -82,7 +63,6 @@ loop-again c =
       ap (past (c .before .before .before .before .before .loop .pending - 1 + c .before .arity .result) (c .before .before .before .before .before .before .before .before .args .bytes .now)) i ∙ ap (λ (a : ℕ). past (c .before .before .before .before .before .loop .pending - 1 + a) (c .before .before .before .before .before .before .before .before .args .bytes .now) (firstAt (c .before .before .before .before .before .before .before .before .args .bytes .now) (c .before .before .before .before .before .loop .next))) (c .before .arity .ensures .0) ∙ sym (past-record (c .before .before .before .before .before .before .before .before .args .bytes .now) (c .before .before .before .before .before .loop .pending) (c .before .before .before .before .before .loop .next) (omega arith) (omega arith) (omega (arith, c .before .before .body-size .ensures .0))) ∙ c .before .before .before .before .before .loop .inv .1,
     )
 
--- src/walk.rt:7:1
 returns-3 : tie.Need-returns-3 Inv-loop μ-loop
 returns-3 c = let e : c .before .loop .pending ≡ 0 = omega arith in sym (past-none (c .before .before .before .before .args .bytes .now) (c .before .loop .next)) ∙ ap (λ (p : ℕ). past p (c .before .before .before .before .args .bytes .now) (c .before .loop .next)) (sym e) ∙ c .before .loop .inv .1
 
