@@ -4,3 +4,5 @@ pub mod ParseLaws
 pub mod PlaceLaws
 pub mod ExpressionLaws
 pub mod ScriptLaws
+pub mod AcceptedLaws
+pub mod FieldLaws

@@ -48,7 +48,7 @@ reads-end b i left e j c r = sym (r .ends 0 ∙ past-none b j)
 
 -- a record and the operands that it has
 module _ (b : List ℕ) (i k : ℕ) (whole : i + bodySize (getD b i 0) < length b) where
-  pending : (p q : ℕ) → p + arity (getD b i 0) ≡ q → past (suc p) b i ≡ past q b (firstAt b i)
+  pub pending : (p q : ℕ) → p + arity (getD b i 0) ≡ q → past (suc p) b i ≡ past q b (firstAt b i)
   pending p q e =
       let g : suc p - 1 + arity (getD b i 0) ≡ q = omega arith in
       past-record b (suc p) i (omega arith) (omega arith) whole ∙ ap (λ (r : ℕ). past r b (firstAt b i)) g
@@ -69,7 +69,7 @@ module _ (b : List ℕ) (i k : ℕ) (whole : i + bodySize (getD b i 0) < length 
           within = first .within;
         }
 
-    second-at : j ≡ secondAt b i
+    pub second-at : j ≡ secondAt b i
     second-at = reads-end b (firstAt b i) k x j c first
 
     module _ (y : Expr) (j′ : ℕ) (c′ : List ℕ) (second : Reads b j k y j′ c′) where
@@ -87,7 +87,7 @@ module _ (b : List ℕ) (i k : ℕ) (whole : i + bodySize (getD b i 0) < length 
             within = second .within;
           }
 
-      third-at : j′ ≡ thirdAt b i
+      pub third-at : j′ ≡ thirdAt b i
       third-at = reads-end b j k y j′ c′ second ∙ ap (endAt b) second-at
 
       reads-three : (z : Expr) (j″ : ℕ) (c″ : List ℕ) → Reads b j′ k z j″ c″ → arity (getD b i 0) ≡ 3 →
