@@ -1,19 +1,19 @@
 -- For an evaluator: an accepted expression in place, its fields' ranges and, kind by kind, its operands.
 use mathlib.Core.Path.{_≡_, refl, ap, sym, subst, _∙_}
-use mathlib.Core.Bool.{Bool, true, false}
 use mathlib.Core.List.{List}
-use Prim.Native.Nat.{ℕ, zero, suc, _+_, _-_, _≤_, _<_}
+use Prim.Native.Nat.{ℕ, suc, _+_, _-_, _≤_, _<_}
 use native.Mathlib.Omega.{arith}
-use lib.ListN.{length, getD, drop}
+use lib.ListN.{length, getD}
 use Rattle.model.specs.Script.{Expr, nil, document, var, step, both, letIn, forIn, ifIn, element, leaf, delete, insert, choose, stepBy}
 use Rattle.model.specs.Script.{nilKind, documentKind, varKind, stepKind, bothKind, letKind, forKind, ifKind}
-use Rattle.model.specs.Script.{newElementKind, newLeafKind, deleteKind, insertKind, pickKind, parsed, testFits}
+use Rattle.model.specs.Script.{newElementKind, newLeafKind, deleteKind, insertKind, pickKind, parsed}
 use Rattle.script.specs.Walk.{arity, inner, past, endAt, firstAt, secondAt, thirdAt, exprOf, exprAt}
 use Rattle.script.specs.Reading.{parseAt}
 use Rattle.script.specs.Accepted.{Accepted, RecordFits, Nullary, Unary, Binary, Ternary}
 use Rattle.script.proofs.WalkLaws.{past-none}
-use Rattle.script.proofs.ParseLaws.{reader, afterFirst, afterSecond, Then}
-use Rattle.script.proofs.PlaceLaws.{Reads, reads, reads-end, accepted-fits, pending, first-operand, second-operand, third-operand}
+use Rattle.script.proofs.ParseLaws.{afterFirst, afterSecond, Then}
+use Rattle.script.proofs.PlaceLaws.{Reads, Known, reads, reads-end, accepted-fits, pending}
+use Rattle.script.proofs.PlaceLaws.{first-operand, first-reads, second-operand, second-reads, third-operand}
 
 -- where it ends, and what it is
 module _ (b : List ℕ) (at left v : ℕ) (a : Accepted b at left v) where
@@ -21,39 +21,39 @@ module _ (b : List ℕ) (at left v : ℕ) (a : Accepted b at left v) where
   reading = reads b left (a .deep) at (a .records) v (a .expr) (a .place) (a .after) (a .rest) (a .read)
 
   pub accepted-record : RecordFits b at left v
-  accepted-record = accepted-fits b at left (a .records) v (a .expr) (a .place) (a .after) (a .rest) (a .read)
-
-  ends-at : a .place ≡ endAt b at
-  ends-at = reads-end b at left (a .expr) (a .place) (a .rest) reading
+  accepted-record = accepted-fits b at left (a .records) v (a .read)
 
   pub accepted-within : endAt b at ≤ length b
-  accepted-within = omega (arith, reading .within, ends-at)
+  accepted-within = omega (arith, reading .within, reads-end reading)
 
   pub accepted-past : (p : ℕ) → past (suc p) b at ≡ past p b (endAt b at)
-  accepted-past p = reading .ends p ∙ ap (past p b) ends-at
+  accepted-past p = reading .ends p ∙ ap (past p b) (reads-end reading)
 
   level : left ≡ suc (left - 1)
   level = omega (arith, accepted-record .depth)
 
+  made : exprAt left b at ≡
+      exprOf (getD b at 0) b at (exprAt (left - 1) b (firstAt b at)) (exprAt (left - 1) b (secondAt b at)) (exprAt (left - 1) b (thirdAt b at))
+  unfolding exprAt
+  made = ap (λ (q : ℕ). exprAt q b at) level
+
+  -- its operands
   read-level : parseAt b at (suc (left - 1)) (a .records) v ≡ parsed (a .expr) (a .place) (a .after) (a .rest)
   read-level = ap (λ (q : ℕ). parseAt b at q (a .records) v) (sym level) ∙ a .read
 
   shallow : left - 1 < 16
   shallow = omega (arith, a .deep, accepted-record .depth)
 
-  expr-level : exprAt left b at ≡
-      exprOf (getD b at 0) b at (exprAt (left - 1) b (firstAt b at)) (exprAt (left - 1) b (secondAt b at)) (exprAt (left - 1) b (thirdAt b at))
-  unfolding exprAt
-  expr-level = ap (λ (q : ℕ). exprAt q b at) level
-
-  -- its operands
-  known : (i n w : ℕ) (e : Expr) (j m : ℕ) (c : List ℕ) → parseAt b i (left - 1) n w ≡ parsed e j m c → Reads b i (left - 1) e j c
+  known : Known b (left - 1)
   known = reads b (left - 1) (omega (arith, a .deep))
 
-  first-found : 0 < arity (getD b at 0) → Then (parseAt b (firstAt b at) (left - 1) (a .records + 1) v)
-      (afterFirst (reader (left - 1)) (getD b at 0) b at v (exprAt (left - 1) b (secondAt b at)) (exprAt (left - 1) b (thirdAt b at)))
+  abbrev FirstFound : Type 0
+  FirstFound =
+      Then (parseAt b (firstAt b at) (left - 1) (a .records + 1) v) (afterFirst (left - 1) (getD b at 0) b at v)
       (a .expr) (a .place) (a .after) (a .rest)
-  first-found = first-operand b at (left - 1) (a .records) v shallow known (a .expr) (a .place) (a .after) (a .rest) read-level
+
+  first-found : 0 < arity (getD b at 0) → FirstFound
+  first-found = first-operand b at (left - 1) (a .records) v shallow known read-level
 
   accepted-first : 0 < arity (getD b at 0) → Accepted b (firstAt b at) (left - 1) v
   accepted-first some =
@@ -65,50 +65,39 @@ module _ (b : List ℕ) (at left v : ℕ) (a : Accepted b at left v) where
         place = t .place;
         after = t .records;
         rest = t .bytes;
-        read = t .first;
+        read = t .is;
       }
 
-  module _ (more : 1 < arity (getD b at 0)) where
-    some : 0 < arity (getD b at 0)
-    some = omega arith
+  module _ (t : FirstFound) where
+    second-at : t .place ≡ secondAt b at
+    second-at = reads-end (first-reads b at (left - 1) (a .records) v shallow known read-level t)
 
-    second-place : first-found some .place ≡ secondAt b at
-    second-place =
-        let t = first-found some in
-        reads-end b (firstAt b at) (left - 1) (t .expr) (t .place) (t .bytes)
-        (known (firstAt b at) (a .records + 1) v (t .expr) (t .place) (t .records) (t .bytes) (t .first))
-
-    second-found : Then (parseAt b (first-found some .place) (left - 1) (first-found some .records) (inner (getD b at 0) v))
-        (afterSecond (reader (left - 1)) (getD b at 0) b at v (exprAt (left - 1) b (thirdAt b at)) (first-found some .expr))
+    abbrev SecondFound : Type 0
+    SecondFound =
+        Then (parseAt b (t .place) (left - 1) (t .records) (inner (getD b at 0) v)) (afterSecond (left - 1) (getD b at 0) b at v (t .expr))
         (a .expr) (a .place) (a .after) (a .rest)
-    second-found =
-        let t = first-found some in
-        second-operand b at (left - 1) (a .records) v shallow known (a .expr) (a .place) (a .after) (a .rest) read-level
-        (t .expr) (t .place) (t .records) (t .bytes) (t .first) (t .rest) more
 
-    accepted-second : Accepted b (secondAt b at) (left - 1) (inner (getD b at 0) v)
-    accepted-second =
-        let u = second-found in
+    second-found : 1 < arity (getD b at 0) → SecondFound
+    second-found = second-operand b at (left - 1) (a .records) v shallow known read-level t
+
+    found-second : 1 < arity (getD b at 0) → Accepted b (secondAt b at) (left - 1) (inner (getD b at 0) v)
+    found-second more =
+        let u = second-found more in
         record {
           deep = omega (arith, a .deep);
-          records = first-found some .records;
+          records = t .records;
           expr = u .expr;
           place = u .place;
           after = u .records;
           rest = u .bytes;
-          read = ap (λ (q : ℕ). parseAt b q (left - 1) (first-found some .records) (inner (getD b at 0) v)) (sym second-place) ∙ u .first;
+          read = ap (λ (q : ℕ). parseAt b q (left - 1) (t .records) (inner (getD b at 0) v)) (sym second-at) ∙ u .is;
         }
 
-    accepted-third : 2 < arity (getD b at 0) → Accepted b (thirdAt b at) (left - 1) v
-    accepted-third most =
-        let t = first-found some in
-        let u = second-found in
-        let w = third-operand b at (left - 1) (a .records) v shallow known (a .expr) (a .place) (a .after) (a .rest) read-level
-        (t .expr) (t .place) (t .records) (t .bytes) (t .first) (t .rest) (u .expr) (u .place) (u .records) (u .bytes) (u .first) (u .rest) most in
+    found-third : SecondFound → 2 < arity (getD b at 0) → Accepted b (thirdAt b at) (left - 1) v
+    found-third u most =
+        let w = third-operand b at (left - 1) (a .records) v shallow known read-level t u most in
         let p : u .place ≡ thirdAt b at =
-        reads-end b (t .place) (left - 1) (u .expr) (u .place) (u .bytes)
-        (known (t .place) (t .records) (inner (getD b at 0) v) (u .expr) (u .place) (u .records) (u .bytes) (u .first)) ∙
-        ap (endAt b) second-place in
+        reads-end (second-reads b at (left - 1) (a .records) v shallow known read-level t u) ∙ ap (endAt b) second-at in
         record {
           deep = omega (arith, a .deep);
           records = u .records;
@@ -116,16 +105,22 @@ module _ (b : List ℕ) (at left v : ℕ) (a : Accepted b at left v) where
           place = w .place;
           after = w .records;
           rest = w .bytes;
-          read = ap (λ (q : ℕ). parseAt b q (left - 1) (u .records) v) (sym p) ∙ w .first;
+          read = ap (λ (q : ℕ). parseAt b q (left - 1) (u .records) v) (sym p) ∙ w .is;
         }
+
+  accepted-second : 1 < arity (getD b at 0) → Accepted b (secondAt b at) (left - 1) (inner (getD b at 0) v)
+  accepted-second more = found-second (first-found (omega arith)) more
+
+  accepted-third : 2 < arity (getD b at 0) → Accepted b (thirdAt b at) (left - 1) v
+  accepted-third most =
+      let t = first-found (omega arith) in
+      found-third t (second-found t (omega arith)) most
 
 -- BY ARITY: the expression is made of its operands' and ends where the last does
 module _ (b : List ℕ) (at left v : ℕ) (a : Accepted b at left v) (k : ℕ) (kind : getD b at 0 ≡ k) where
-  made : exprAt left b at ≡
+  made-by : exprAt left b at ≡
       exprOf k b at (exprAt (left - 1) b (firstAt b at)) (exprAt (left - 1) b (secondAt b at)) (exprAt (left - 1) b (thirdAt b at))
-  made =
-      expr-level b at left v a ∙
-      ap (λ (j : ℕ). exprOf j b at (exprAt (left - 1) b (firstAt b at)) (exprAt (left - 1) b (secondAt b at)) (exprAt (left - 1) b (thirdAt b at))) kind
+  made-by = made b at left v a ∙ rw kind
 
   module _ (q : ℕ) (count : arity k ≡ q) where
     operands-are : arity (getD b at 0) ≡ q
@@ -135,13 +130,13 @@ module _ (b : List ℕ) (at left v : ℕ) (a : Accepted b at left v) (k : ℕ) (
     ends-by = pending b at (left - 1) (accepted-record b at left v a .whole) 0 q (omega (arith, operands-are))
 
   nullary : (e : Expr) → arity k ≡ 0 → ((x y z : Expr) → exprOf k b at x y z ≡ e) → Nullary b at left e
-  nullary e n f = record { expr = made ∙ f _ _ _; ends = ends-by 0 n ∙ past-none b (firstAt b at) }
+  nullary e n f = record { expr = made-by ∙ f _ _ _; ends = ends-by 0 n ∙ past-none b (firstAt b at) }
 
   unary : (make : Expr → Expr) → arity k ≡ 1 → ((x y z : Expr) → exprOf k b at x y z ≡ make x) → Unary b at left v make
   unary make n f =
       record {
         first = accepted-first b at left v a (omega (arith, operands-are 1 n));
-        expr = made ∙ f _ _ _;
+        expr = made-by ∙ f _ _ _;
         ends = ends-by 1 n;
       }
 
@@ -153,7 +148,7 @@ module _ (b : List ℕ) (at left v : ℕ) (a : Accepted b at left v) (k : ℕ) (
       record {
         first = x;
         second = subst (Accepted b (secondAt b at) (left - 1)) (ap (λ (j : ℕ). inner j v) kind ∙ scope) y;
-        expr = made ∙ f _ _ _;
+        expr = made-by ∙ f _ _ _;
         ends = ends-by 2 n ∙ accepted-past b (firstAt b at) (left - 1) v x 1;
       }
 
@@ -165,9 +160,11 @@ module _ (b : List ℕ) (at left v : ℕ) (a : Accepted b at left v) (k : ℕ) (
       record {
         first = x;
         second = subst (Accepted b (secondAt b at) (left - 1)) (ap (λ (j : ℕ). inner j v) kind ∙ scope) y;
-        third = accepted-third b at left v a (omega (arith, operands-are 3 n)) (omega (arith, operands-are 3 n));
-        expr = made ∙ f _ _ _;
-        ends = ends-by 3 n ∙ accepted-past b (firstAt b at) (left - 1) v x 2 ∙ accepted-past b (secondAt b at) (left - 1) (inner (getD b at 0) v) y 1;
+        third = accepted-third b at left v a (omega (arith, operands-are 3 n));
+        expr = made-by ∙ f _ _ _;
+        ends =
+            ends-by 3 n ∙ accepted-past b (firstAt b at) (left - 1) v x 2 ∙
+            accepted-past b (secondAt b at) (left - 1) (inner (getD b at 0) v) y 1;
       }
 
 -- BY KIND

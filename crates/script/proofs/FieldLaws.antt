@@ -26,7 +26,8 @@ module _ (b : List ℕ) (at left v : ℕ) (f : RecordFits b at left v) where
 
   pub step-axis : getD b at 0 ≡ stepKind → getD b (at + 1) 0 < 4
   step-axis e =
-      ltb-true (getD b (at + 1) 0) 4 (and-left (ltb (getD b (at + 1) 0) 4) (testFits (getD b (at + 2) 0) (getD b (at + 3) 0)) (step-fields e))
+      let h = and-left (ltb (getD b (at + 1) 0) 4) (testFits (getD b (at + 2) 0) (getD b (at + 3) 0)) (step-fields e) in
+      ltb-true (getD b (at + 1) 0) 4 h
 
   pub step-test : getD b at 0 ≡ stepKind → testFits (getD b (at + 2) 0) (getD b (at + 3) 0) ≡ true
   step-test e = and-right (ltb (getD b (at + 1) 0) 4) (testFits (getD b (at + 2) 0) (getD b (at + 3) 0)) (step-fields e)

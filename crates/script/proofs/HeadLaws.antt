@@ -61,7 +61,21 @@ module _ (s : List ℕ) (v : ℕ) where
       )
 
 -- THE REFUSAL of the record at the front, one law for each way out
-module _ (s : List ℕ) (left n v : ℕ) where
+body-left : (s : List ℕ) (left n v i : ℕ) → 0 < length s → 1 ≤ getD s 0 0 → getD s 0 0 ≤ 13 → n < 64 → 0 < left →
+    (isBinder (getD s 0 0) && leb 8 v) ≡ false → 1 + bodySize (getD s 0 0) ≤ length s →
+    exprFault i n (17 - left) v s ≡ unless (bodyFits v s) (fieldAt i)
+body-left s left n v i some low high room depth scope whole =
+    rw (
+      lt-ltb 0 (length s) some,
+      le-leb 1 (getD s 0 0) low,
+      le-leb (getD s 0 0) 13 high,
+      lt-ltb n 64 room,
+      le-leb (17 - left) 16 (omega arith),
+      scope,
+      le-leb (1 + bodySize (getD s 0 0)) (length s) whole,
+    )
+
+module _ {s : List ℕ} {left n v : ℕ} where
   pub head-empty : length s ≡ 0 → HeadPost s left n v 2
   head-empty e = record { fault = λ i. rw e }
 
@@ -84,62 +98,48 @@ module _ (s : List ℕ) (left n v : ℕ) where
     module _ (room : n < 64) where
       pub head-depth : left ≡ 0 → HeadPost s left n v 5
       head-depth e =
-          record { fault = λ i. rw (lt-ltb 0 (length s) some, le-leb 1 (getD s 0 0) low, le-leb (getD s 0 0) 13 high, lt-ltb n 64 room, e) }
+          record {
+            fault = λ i. rw (lt-ltb 0 (length s) some, le-leb 1 (getD s 0 0) low, le-leb (getD s 0 0) 13 high, lt-ltb n 64 room, e);
+          }
 
       module _ (depth : 0 < left) where
-        deep : leb (17 - left) 16 ≡ true
-        deep = le-leb (17 - left) 16 (omega arith)
-
         pub head-ninth : (isBinder (getD s 0 0) && leb 8 v) ≡ true → HeadPost s left n v 5
         head-ninth e =
+            let d : leb (17 - left) 16 ≡ true = le-leb (17 - left) 16 (omega arith) in
             record {
-              fault = λ i. rw (
-                lt-ltb 0 (length s) some,
-                le-leb 1 (getD s 0 0) low,
-                le-leb (getD s 0 0) 13 high,
-                lt-ltb n 64 room,
-                deep,
-                e,
-              );
+              fault = λ i. rw (lt-ltb 0 (length s) some, le-leb 1 (getD s 0 0) low, le-leb (getD s 0 0) 13 high, lt-ltb n 64 room, d, e);
             }
 
         module _ (scope : (isBinder (getD s 0 0) && leb 8 v) ≡ false) where
           pub head-short : length s < 1 + bodySize (getD s 0 0) → HeadPost s left n v 2
           head-short h =
+              let d : leb (17 - left) 16 ≡ true = le-leb (17 - left) 16 (omega arith) in
+              let w : leb (1 + bodySize (getD s 0 0)) (length s) ≡ false = lt-leb (1 + bodySize (getD s 0 0)) (length s) h in
               record {
                 fault = λ i. rw (
                   lt-ltb 0 (length s) some,
                   le-leb 1 (getD s 0 0) low,
                   le-leb (getD s 0 0) 13 high,
                   lt-ltb n 64 room,
-                  deep,
+                  d,
                   scope,
-                  lt-leb (1 + bodySize (getD s 0 0)) (length s) h,
+                  w,
                 );
               }
 
           module _ (whole : 1 + bodySize (getD s 0 0) ≤ length s) where
-            head-body : (i : ℕ) → exprFault i n (17 - left) v s ≡ unless (bodyFits v s) (fieldAt i)
-            head-body i =
-                rw (
-                  lt-ltb 0 (length s) some,
-                  le-leb 1 (getD s 0 0) low,
-                  le-leb (getD s 0 0) 13 high,
-                  lt-ltb n 64 room,
-                  deep,
-                  scope,
-                  le-leb (1 + bodySize (getD s 0 0)) (length s) whole,
-                )
-
             pub head-fine : bodyFits v s ≡ true → HeadPost s left n v 0
-            head-fine e = record { fault = λ i. head-body i ∙ ap (λ (z : Bool). unless z (fieldAt i)) e }
+            head-fine e =
+                record { fault = λ i. body-left s left n v i some low high room depth scope whole ∙ ap (λ (z : Bool). unless z (fieldAt i)) e }
 
             pub head-field : bodyFits v s ≡ false → HeadPost s left n v 4
-            head-field e = record { fault = λ i. head-body i ∙ ap (λ (z : Bool). unless z (fieldAt i)) e }
+            head-field e =
+                record { fault = λ i. body-left s left n v i some low high room depth scope whole ∙ ap (λ (z : Bool). unless z (fieldAt i)) e }
 
 -- AN ACCEPTED RECORD passed every test
 tests : (p q r s t : Bool) (i : ℕ) →
-    isFine (orElse (unless p (shortAt i)) (orElse (unless q (kindAt i)) (orElse (unless r (sizeAt i)) (orElse (unless s (shortAt i)) (unless t (fieldAt i)))))) ≡ true →
+    isFine (orElse (unless p (shortAt i)) (orElse (unless q (kindAt i)) (orElse (unless r (sizeAt i))
+    (orElse (unless s (shortAt i)) (unless t (fieldAt i)))))) ≡ true →
     (p ≡ true) × (q ≡ true) × (r ≡ true) × (s ≡ true) × (t ≡ true)
 tests true true true true true i e = (refl, refl, refl, refl, refl)
 tests true true true true false i e = absurd (false≢true e)
@@ -180,8 +180,12 @@ module _ (b : List ℕ) (at left n v i : ℕ) (e : isFine (exprFault i n (17 - l
   pub fine-fits : RecordFits b at left v
   fine-fits =
       record {
-        low = omega (arith, kind-at b at, leb-true 1 (getD (drop at b) 0 0) (and-left (leb 1 (getD (drop at b) 0 0)) (leb (getD (drop at b) 0 0) 13) (passed .1)));
-        high = omega (arith, kind-at b at, leb-true (getD (drop at b) 0 0) 13 (and-right (leb 1 (getD (drop at b) 0 0)) (leb (getD (drop at b) 0 0) 13) (passed .1)));
+        low =
+            let h = and-left (leb 1 (getD (drop at b) 0 0)) (leb (getD (drop at b) 0 0) 13) (passed .1) in
+            omega (arith, kind-at b at, leb-true 1 (getD (drop at b) 0 0) h);
+        high =
+            let h = and-right (leb 1 (getD (drop at b) 0 0)) (leb (getD (drop at b) 0 0) 13) (passed .1) in
+            omega (arith, kind-at b at, leb-true (getD (drop at b) 0 0) 13 h);
         depth = omega (arith, leb-true (17 - left) 16 (sizes .1));
         scope = in-scope;
         whole = omega (

@@ -14,11 +14,12 @@ use Rattle.model.specs.Cases.{faultBy}
 use Rattle.table.specs.Calls.{faultOf}
 use Rattle.table.specs.declared.Fault.{Fault}
 use Rattle.script.specs.Walk.{exprAt}
-use Rattle.script.specs.Reading.{scriptRead, parseAt, endOf, expressionRead}
+use Rattle.script.specs.Reading.{scriptRead, parseAt, endOf, ExpressionPost}
 use Rattle.script.specs.Accepted.{Accepted}
 use Rattle.script.specs.declared.read.End.{End}
 use Rattle.script.proofs.PlaceLaws.{Reads, reads}
-use Rattle.script.proofs.ExpressionLaws.{Sound, parse-sound, Ended, ended}
+use Rattle.script.proofs.RefusalLaws.{Sound, parse-sound}
+use Rattle.script.proofs.ExpressionLaws.{Ended, ended}
 
 -- WAYS OUT of the reader of a script, from what it found of the expression at its start
 whole-refused : (x : Parsed) (r : End) → r ≡ endOf x → (r .number ≡ 0 → ⊥) →
@@ -26,17 +27,18 @@ whole-refused : (x : Parsed) (r : End) → r ≡ endOf x → (r .number ≡ 0 �
 whole-refused (ill f) r h g = ap (λ (q : End). record { number = q .number; place = q .place }) h
 whole-refused (parsed e j m c) r h g = absurd (g (ap (λ (q : End). q .number) h))
 
-module _ (b : List ℕ) (r : End) (found : r ≡ expressionRead b 0 16 0 0) where
+module _ {b : List ℕ} {r : End} (found : ExpressionPost b 0 16 0 0 r) where
   pub script-refused : (r .number ≡ 0 → ⊥) → _≡_ {A = Fault} (record { number = r .number; place = r .place }) (scriptRead b)
-  script-refused h = whole-refused (parseAt b 0 16 0 0) r found h
+  script-refused h = whole-refused (parseAt b 0 16 0 0) r (found .read) h
 
   module _ (accepted : r .number ≡ 0) where
     end : Ended (parseAt b 0 16 0 0) r
-    end = ended (parseAt b 0 16 0 0) r (parse-sound 18 1 0 0 0 b) found accepted
+    end = ended (parseAt b 0 16 0 0) r (parse-sound 18 1 0 0 0 b) (found .read) accepted
 
     rest : length (end .bytes) ≡ length b - r .place
     rest =
-        ap length (reads b 16 (omega arith) 0 0 0 (end .expr) (r .place) (r .records) (end .bytes) (end .is) .rest) ∙ length-drop (r .place) b
+        let e = reads b 16 (omega arith) 0 0 0 (end .expr) (r .place) (r .records) (end .bytes) (end .is) in
+        ap length (e .rest) ∙ length-drop (r .place) b
 
     pub script-tail : r .place < length b → _≡_ {A = Fault} (record { number = 3; place = r .place }) (scriptRead b)
     script-tail h =
@@ -85,17 +87,19 @@ module _ (b : List ℕ) (h : scriptRead b .number ≡ 0) where
 
   pub script-parsed : (n : ℕ) × (readScript b ≡ parsed (exprAt 16 b 0) (length b) n [])
   script-parsed =
-      let r = reads b 16 (omega arith) 0 0 0 (found-whole .expr) (found-whole .place) (found-whole .records) (found-whole .bytes) (found-whole .is) in
-      let l : length (found-whole .bytes) ≡ length b - found-whole .place = ap length (r .rest) ∙ length-drop (found-whole .place) b in
-      let p : found-whole .place ≡ length b = omega (arith, r .within, found-whole .empty) in
-      let e : found-whole .expr ≡ exprAt 16 b 0 = r .expr in
-      let g : length b ≤ found-whole .place = omega arith in
-      let c : found-whole .bytes ≡ [] = r .rest ∙ drop-of-length-le b g in
-      let i : parseAt b 0 16 0 0 ≡ parsed (exprAt 16 b 0) (length b) (found-whole .records) [] = found-whole .is ∙ cc in
-      (found-whole .records, ap whole i)
+      let w = found-whole in
+      let r = reads b 16 (omega arith) 0 0 0 (w .expr) (w .place) (w .records) (w .bytes) (w .is) in
+      let l : length (w .bytes) ≡ length b - w .place = ap length (r .rest) ∙ length-drop (w .place) b in
+      let p : w .place ≡ length b = omega (arith, r .within, w .empty) in
+      let e : w .expr ≡ exprAt 16 b 0 = r .expr in
+      let g : length b ≤ w .place = omega arith in
+      let c : w .bytes ≡ [] = r .rest ∙ drop-of-length-le b g in
+      let i : parseAt b 0 16 0 0 ≡ parsed (exprAt 16 b 0) (length b) (w .records) [] = w .is ∙ cc in
+      (w .records, ap whole i)
 
 -- a refused one is refused so
-pub script-ill : (b : List ℕ) → (scriptRead b .number ≡ 0 → ⊥) → readScript b ≡ ill (refusal.fault (scriptRead b .number) (scriptRead b .place))
+pub script-ill : (b : List ℕ) → (scriptRead b .number ≡ 0 → ⊥) →
+    readScript b ≡ ill (refusal.fault (scriptRead b .number) (scriptRead b .place))
 script-ill b h = go (readScript b) h
   where
     go : (x : Parsed) → (faultBy x .number ≡ 0 → ⊥) → x ≡ ill (refusal.fault (faultBy x .number) (faultBy x .place))

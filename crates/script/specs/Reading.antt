@@ -40,6 +40,9 @@ pub record ExpressionPre (b : List ℕ) (at left : ℕ) : Type 0 where
   pub within : at ≤ length b
   pub depth : left ≤ maxDepth
 
+pub record ExpressionPost (b : List ℕ) (at left records bound : ℕ) (r : End) : Type 0 where
+  pub read : r ≡ expressionRead b at left records bound
+
 -- the refusal of a number at a place, 0 being none
 abbrev pub refusalAt : (number place : ℕ) → refusal.Fault
 refusalAt n i = pick (eqb n 0) refusal.fine (refusal.fault n i)
