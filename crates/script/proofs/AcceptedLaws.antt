@@ -33,7 +33,8 @@ module _ (b : List ℕ) (at left v : ℕ) (a : Accepted b at left v) where
   level = omega (arith, accepted-record .depth)
 
   made : exprAt left b at ≡
-      exprOf (getD b at 0) b at (exprAt (left - 1) b (firstAt b at)) (exprAt (left - 1) b (secondAt b at)) (exprAt (left - 1) b (thirdAt b at))
+      exprOf (getD b at 0) b at (exprAt (left - 1) b (firstAt b at)) (exprAt (left - 1) b (secondAt b at))
+      (exprAt (left - 1) b (thirdAt b at))
   unfolding exprAt
   made = ap (λ (q : ℕ). exprAt q b at) level
 

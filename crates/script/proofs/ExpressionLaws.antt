@@ -155,15 +155,16 @@ module _ {b : List ℕ} {i left n v : ℕ} {r s : End} (f : SecondRead b i left 
       let e = first-ended (f .first) (f .accepted) in
       after-record-read (f .first) ∙ ap (λ (q : Parsed). thenParse q (afterFirst (left - 1) (getD b i 0) b i v)) (e .is) ∙
       after-first (left - 1) (getD b i 0) b i v (r .place) (r .records) (e .bytes) x (f .more) ∙
-      ap (λ (c : List ℕ). thenParse (reader (left - 1) (r .place) (r .records) (inner (getD b i 0) v) c) (afterSecond (left - 1) (getD b i 0) b i v x))
+      ap (λ (c : List ℕ). thenParse (reader (left - 1) (r .place) (r .records) (inner (getD b i 0) v) c)
+      (afterSecond (left - 1) (getD b i 0) b i v x))
       (first-reads (f .first) (f .accepted) .rest)
 
   pub second-refused : (s .number ≡ 0 → ⊥) → ExpressionPost b i left n v s
   second-refused g =
       record {
         read =
-            then-refused (parseAt b (r .place) (left - 1) (r .records) (inner (getD b i 0) v)) (afterSecond (left - 1) (getD b i 0) b i v x) s
-            (f .read) g ∙ sym (ap endOf after-first-read);
+            then-refused (parseAt b (r .place) (left - 1) (r .records) (inner (getD b i 0) v))
+            (afterSecond (left - 1) (getD b i 0) b i v x) s (f .read) g ∙ sym (ap endOf after-first-read);
       }
 
   pub ends-second : arity (getD b i 0) ≡ 2 → ExpressionPost b i left n v s
@@ -179,7 +180,8 @@ module _ {b : List ℕ} {i left n v : ℕ} {r s : End} (f : SecondRead b i left 
     second-ended : Ended (parseAt b (r .place) (left - 1) (r .records) (inner (getD b i 0) v)) s
     second-ended =
         ended (parseAt b (r .place) (left - 1) (r .records) (inner (getD b i 0) v)) s
-        (parse-sound (suc (suc (left - 1))) (17 - (left - 1)) (r .place) (r .records) (inner (getD b i 0) v) (drop (r .place) b)) (f .read) z
+        (parse-sound (suc (suc (left - 1))) (17 - (left - 1)) (r .place) (r .records) (inner (getD b i 0) v) (drop (r .place) b))
+        (f .read) z
 
     second-reads : Reads b (r .place) (left - 1) (second-ended .expr) (s .place) (second-ended .bytes)
     second-reads =
@@ -198,7 +200,8 @@ module _ {b : List ℕ} {i left n v : ℕ} {r s : End} (f : SecondRead b i left 
         (second-reads .rest)
 
     -- AFTER THE THIRD
-    pub ends-third : 2 < arity (getD b i 0) → {t : End} → ExpressionPost b (s .place) (left - 1) (s .records) v t → ExpressionPost b i left n v t
+    pub ends-third : 2 < arity (getD b i 0) → {t : End} → ExpressionPost b (s .place) (left - 1) (s .records) v t →
+        ExpressionPost b i left n v t
     ends-third a {t} p =
         record {
           read =

@@ -116,7 +116,8 @@ pub parse-operands : (b : List ℕ) (i k n v : ℕ) → k < 16 → isFine (exprF
 parse-operands b i k n v shallow e =
     let f : RecordFits b i (suc k) v = fine-fits b i (suc k) n v i e in
     parse-fine (suc (suc k)) (17 - suc k) i n v (drop i b) e ∙
-    deeper k i (i + (1 + bodySize (getD (drop i b) 0 0))) (n + 1) v (drop i b) (drop (1 + bodySize (getD (drop i b) 0 0)) (drop i b)) shallow ∙
+    deeper k i (i + (1 + bodySize (getD (drop i b) 0 0))) (n + 1) v (drop i b) (drop (1 + bodySize (getD (drop i b) 0 0)) (drop i b))
+    shallow ∙
     ap (λ (q : ℕ). operands (reader k) i (i + (1 + bodySize q)) (n + 1) v (drop i b) (drop (1 + bodySize q) (drop i b))) (kind-at b i) ∙
     ap (operands (reader k) i (firstAt b i) (n + 1) v (drop i b)) (drop-drop (1 + bodySize (getD b i 0)) i b) ∙
     operands-by k b i (firstAt b i) (n + 1) v (drop (firstAt b i) b) (f .low) (f .high)

@@ -155,11 +155,12 @@ module _ (b : List ℕ) (i k n v : ℕ) (shallow : k < 16) (known : Known b k) {
         Then (parseAt b (t .place) k (t .records) (inner (getD b i 0) v)) (afterSecond k (getD b i 0) b i v (t .expr)) e j m c
     second-operand a =
         then-parsed (parseAt b (t .place) k (t .records) (inner (getD b i 0) v)) (afterSecond k (getD b i 0) b i v (t .expr))
-        (ap (λ (s : List ℕ). thenParse (reader k (t .place) (t .records) (inner (getD b i 0) v) s) (afterSecond k (getD b i 0) b i v (t .expr)))
-        (sym (first-reads .rest)) ∙
+        (ap (λ (s : List ℕ). thenParse (reader k (t .place) (t .records) (inner (getD b i 0) v) s)
+        (afterSecond k (getD b i 0) b i v (t .expr))) (sym (first-reads .rest)) ∙
         sym (after-first k (getD b i 0) b i v (t .place) (t .records) (t .bytes) (t .expr) a) ∙ t .rest)
 
-    module _ (u : Then (parseAt b (t .place) k (t .records) (inner (getD b i 0) v)) (afterSecond k (getD b i 0) b i v (t .expr)) e j m c) where
+    module _ (u : Then (parseAt b (t .place) k (t .records) (inner (getD b i 0) v))
+        (afterSecond k (getD b i 0) b i v (t .expr)) e j m c) where
       pub second-reads : Reads b (t .place) k (u .expr) (u .place) (u .bytes)
       second-reads = known (t .place) (t .records) (inner (getD b i 0) v) (u .expr) (u .place) (u .records) (u .bytes) (u .is)
 
@@ -180,7 +181,8 @@ module _ (b : List ℕ) (i k n v : ℕ) (shallow : k < 16) (known : Known b k) {
       read-three a =
           let w = third-operand (omega arith) in
           reads-same (w .rest)
-          (reads-three b i k whole first-reads second-reads (known (u .place) (u .records) v (w .expr) (w .place) (w .records) (w .bytes) (w .is)) a)
+          (reads-three b i k whole first-reads second-reads
+          (known (u .place) (u .records) v (w .expr) (w .place) (w .records) (w .bytes) (w .is)) a)
 
     read-more : 1 < arity (getD b i 0) → Reads b i (suc k) e j c
     read-more a =

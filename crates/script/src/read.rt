@@ -3,9 +3,9 @@ ghost use mathlib.Core.Path.{_≡_};
 ghost use mathlib.Core.Bool.{_&&_};
 ghost use lib.Dec.{leb};
 ghost use Rattle.model.specs.Limits.{maxBinders};
-ghost use Rattle.model.specs.Script.{bodyFits, isBinder, testFits};
+ghost use Rattle.model.specs.Script.{isBinder, testFits};
 ghost use Rattle.script.specs.Walk.{inner};
-ghost use Rattle.script.specs.Reading.{HeadPost, BodyPre, InnerPre, ExpressionPre, ExpressionPost};
+ghost use Rattle.script.specs.Reading.{BodyPre, BodyPost, InnerPre, HeadPost, ExpressionPre, ExpressionPost};
 use crate::kinds;
 use table::Fault;
 use table::Table;
@@ -49,7 +49,7 @@ fn test_fits(test: u8, name: u8) -> bool
 // The fields of the record at the front are in range, its variable is bound.
 fn body_fits(s: &[u8], bound: usize) -> bool
     requires { ⌜ BodyPre (now s) ⌝ }
-    ensures { λ r. ⌜ r ≡ bodyFits bound (now (s .entry)) ⌝ }
+    ensures { λ r. ⌜ BodyPost (now (s .entry)) bound r ⌝ }
 {
     let kind = s[0];
     if kind == kinds::DOCUMENT {

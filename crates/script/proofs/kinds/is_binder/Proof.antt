@@ -3,14 +3,10 @@ use borrow.Author.Needs.{needs}
 use borrow.Author.Tests.{eq-eqb, ne-eqb}
 use Rattle.script.proofs.kinds.is_binder.Statement.{statement}
 use Rattle.script.proofs.kinds.is_binder.Tie as tie
-use Rattle.script.proofs.kinds.is_binder.Reads as reads
-use Rattle.script.proofs.kinds.is_binder.Lts as lts
 
--- src/kinds.rt:96:9
 returns : tie.Need-returns
 returns c = search (eq-eqb, ne-eqb, needs)
 
--- src/kinds.rt:92:1
 returns-2 : tie.Need-returns-2
 returns-2 c = rw (ne-eqb (c .before .args .kind) 6 (c .if1 .left))
 

@@ -85,7 +85,8 @@ expression-head-requires t c κs = search needs
 expression-returns : (t : ℕ) → expression-lts.Need-returns (expression-claims t) (expression-at t) expression.Post
 expression-returns t c = record-refused (c .before .before .before .before .pre .1) (c .before .head .ensures) (c .if1 .taken)
 
-expression-shared-slice-read-kind : (t : ℕ) → expression-lts.Need-shared-slice-read-kind (expression-claims t) (expression-at t) expression.Post
+expression-shared-slice-read-kind : (t : ℕ) →
+    expression-lts.Need-shared-slice-read-kind (expression-claims t) (expression-at t) expression.Post
 expression-shared-slice-read-kind t c = omega (arith, record-fits (headed-at t (c .before)) .whole)
 
 expression-arity-requires : (t : ℕ) → expression-lts.Need-arity-requires (expression-claims t) (expression-at t) expression.Post
@@ -119,21 +120,26 @@ expression-expression-requires : (t : ℕ) → expression-lts.Need-expression-re
 expression-expression-requires t c κs =
     let p = c .before .before .before .before .before .before .before .before .pre in
     let f = record-fits (headed-at t (c .before .before .before .before)) in
-    (omega (arith, p .0, f .depth), record { within = omega (arith, f .whole, c .before .body-size .ensures .0); depth = omega (arith, p .1 .depth) })
+    let s = c .before .body-size .ensures .0 in
+    (omega (arith, p .0, f .depth), record { within = omega (arith, f .whole, s); depth = omega (arith, p .1 .depth) })
 
 expression-returns-3 : (t : ℕ) → expression-lts.Need-returns-3 (expression-claims t) (expression-at t) expression.Post
 expression-returns-3 t c = first-refused (first-at t (c .before .before)) (c .if3 .taken)
 
 expression-returns-4 : (t : ℕ) → expression-lts.Need-returns-4 (expression-claims t) (expression-at t) expression.Post
-expression-returns-4 t c = ends-first (first-at t (c .before .before .before)) (omega (arith, c .before .before .before .before .before .before .arity .ensures .0, c .if4 .taken))
+expression-returns-4 t c =
+    let f = c .before .before .before in
+    ends-first (first-at t f) (omega (arith, f .before .before .before .arity .ensures .0, c .if4 .taken))
 
 expression-sub-expression-2 : (t : ℕ) → expression-lts.Need-sub-expression-2 (expression-claims t) (expression-at t) expression.Post
 expression-sub-expression-2 t c = record-fits (headed-at t (c .before .before .before .before .before .before .before .before)) .depth
 
 expression-inner-requires : (t : ℕ) → expression-lts.Need-inner-requires (expression-claims t) (expression-at t) expression.Post
-expression-inner-requires t c κs = record { room = record-fits (headed-at t (c .before .before .before .before .before .before .before .before)) .scope }
+expression-inner-requires t c κs =
+    let h = headed-at t (c .before .before .before .before .before .before .before .before) in record { room = record-fits h .scope }
 
-expression-expression-requires-2 : (t : ℕ) → expression-lts.Need-expression-requires-2 (expression-claims t) (expression-at t) expression.Post
+expression-expression-requires-2 : (t : ℕ) →
+    expression-lts.Need-expression-requires-2 (expression-claims t) (expression-at t) expression.Post
 expression-expression-requires-2 t c κs =
     let p = c .before .before .before .before .before .before .before .before .before .before .before .before .before .pre in
     let f = first-at t (c .before .before .before .before) in
@@ -144,23 +150,29 @@ expression-returns-5 : (t : ℕ) → expression-lts.Need-returns-5 (expression-c
 expression-returns-5 t c = second-refused (second-at t (c .before .before)) (c .if5 .taken)
 
 expression-returns-6 : (t : ℕ) → expression-lts.Need-returns-6 (expression-claims t) (expression-at t) expression.Post
-expression-returns-6 t c = ends-second (second-at t (c .before .before .before)) (omega (arith, c .before .before .before .before .before .before .before .before .before .before .before .arity .ensures .0, c .if6 .taken))
+expression-returns-6 t c =
+    let a = c .before .before .before .before .before .before .before .before .before .before .before .arity .ensures .0 in
+    ends-second (second-at t (c .before .before .before)) (omega (arith, a, c .if6 .taken))
 
 expression-sub-expression-3 : (t : ℕ) → expression-lts.Need-sub-expression-3 (expression-claims t) (expression-at t) expression.Post
 expression-sub-expression-3 t c = record-fits (second-at t (c .before .before .before) .first .head) .depth
 
-expression-expression-requires-3 : (t : ℕ) → expression-lts.Need-expression-requires-3 (expression-claims t) (expression-at t) expression.Post
+expression-expression-requires-3 : (t : ℕ) →
+    expression-lts.Need-expression-requires-3 (expression-claims t) (expression-at t) expression.Post
 expression-expression-requires-3 t c κs =
-    let p = c .before .before .before .before .before .before .before .before .before .before .before .before .before .before .before .before .before .pre in
+    let f = c .before .before .before .before .before .before .before .before in
+    let p = f .before .before .before .before .before .before .before .before .before .pre in
     let s = second-at t (c .before .before .before) in
     let w = second-within s (search (c .before .if5 .left, needs)) in
     (omega (arith, p .0, record-fits (s .first .head) .depth), record { within = w; depth = omega (arith, p .1 .depth) })
 
 expression-returns-7 : (t : ℕ) → expression-lts.Need-returns-7 (expression-claims t) (expression-at t) expression.Post
 expression-returns-7 t c =
-    let a = c .before .before .before .before .before .before .before .before .before .before .before .before .arity .ensures .0 in
-    ends-third (second-at t (c .before .before .before .before)) (search (c .before .before .if5 .left, needs))
-    (omega (arith, a, c .before .before .before .before .before .before .before .before .before .before .if2 .left, c .before .before .before .before .before .before .if4 .left, c .before .if6 .left)) (c .expression3 .ensures)
+    let s = c .before .before .before .before in
+    let e = s .before .before .before .before .before .before in
+    ends-third (second-at t s) (search (c .before .before .if5 .left, needs))
+    (omega (arith, e .before .before .arity .ensures .0, e .if2 .left, s .before .before .if4 .left, c .before .if6 .left))
+    (c .expression3 .ensures)
 
 pub +expression-spec : {M : Type 1} → statement M
 +expression-spec = close μ-expression λ t. expression-lts.spec (expression-claims t)

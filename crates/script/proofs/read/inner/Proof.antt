@@ -1,3 +1,4 @@
+-- `read::inner` meets its contract: a binder binds one variable more, and there is room for it.
 use borrow.Author.Needs.{needs}
 use Prim.Native.Nat.{_<_}
 use native.Mathlib.Omega.{arith}
@@ -5,24 +6,20 @@ use mathlib.Core.Path.{sym, _∙_}
 use Rattle.script.specs.Walk.{inner}
 use Rattle.script.proofs.read.inner.Statement.{statement}
 use Rattle.script.proofs.read.inner.Tie as tie
-use Rattle.script.proofs.read.inner.Reads as reads
-use Rattle.script.proofs.read.inner.Lts as lts
-use Rattle.script.proofs.kinds.is_binder.Reads as is-binder-reads
 
--- src/read.rt:91:8
 is-binder-requires : tie.Need-is-binder-requires
 is-binder-requires c κs = search needs
 
--- src/read.rt:92:16
 add-result : tie.Need-add-result
-add-result c = let h : c .before .before .args .bound < 8 = c .before .before .pre .room (sym (c .before .is-binder .ensures) ∙ c .if1 .taken) in omega arith
+add-result c =
+    let s = c .before .before in
+    let h : s .args .bound < 8 = s .pre .room (sym (c .before .is-binder .ensures) ∙ c .if1 .taken) in
+    omega arith
 
--- src/read.rt:92:9
 returns : tie.Need-returns
 unfolding inner
 returns c = rw (sym (c .before .is-binder .ensures) ∙ c .if1 .taken)
 
--- src/read.rt:87:1
 returns-2 : tie.Need-returns-2
 unfolding inner
 returns-2 c = rw (sym (c .before .is-binder .ensures) ∙ c .if1 .left)
