@@ -1,0 +1,9 @@
+pub mod WalkLaws
+pub mod HeadLaws
+pub mod ParseLaws
+pub mod PlaceLaws
+pub mod RefusalLaws
+pub mod ExpressionLaws
+pub mod ScriptLaws
+pub mod AcceptedLaws
+pub mod FieldLaws
