@@ -4,10 +4,10 @@ ghost use Rattle.model.specs.Table.{empty};
 ghost use Rattle.table.specs.Words.{encode};
 ghost use Rattle.table.specs.Calls.{planRead, planWritten, planOut};
 
-mod fit;
-mod marks;
+pub mod fit;
+pub mod marks;
 mod read;
-mod words;
+pub mod words;
 mod write;
 
 // A row's number and an element's name: one never stands where the other is meant.

@@ -1,0 +1,3 @@
+pub mod StateLaws
+pub mod HistoryLaws
+pub mod UpdateLaws

@@ -1,0 +1,4 @@
+// Runs on a plan: the updates with their history, and undo.
+mod history;
+mod state;
+mod update;
