@@ -2,7 +2,7 @@
 use mathlib.Core.Path.{_≡_}
 use mathlib.Core.Bool.{true}
 use mathlib.Core.List.{List, [], _∷_}
-use Prim.Native.Nat.{ℕ, _/_, _%_, _<_}
+use Prim.Native.Nat.{ℕ, _/_, _%_, _≤_, _<_}
 use lib.Dec.{eqb}
 use lib.ListN.{length, getD}
 use Rattle.model.specs.Base.{pick}
@@ -28,6 +28,20 @@ pub record NewPre (ws h : List ℕ) (p : Progress) (w : ℕ) : Type 0 where
   pub tag : tagFits (rowOf w) ≡ true
   pub parent : parentFits (decodeParts (p .count) ws []) (p .count) (rowOf w .parent) ≡ true
 
+pub record ElementPre (ws h : List ℕ) (p : Progress) (name : ℕ) : Type 0 where
+  pub held : Held ws h p
+  pub low : 1 ≤ name
+  pub high : name ≤ 255
+
 -- ITEMS: a value's rows are rows of the table
 abbrev pub Within : (items : List ℕ) → (count : ℕ) → Type 0
 Within v n = (k : ℕ) → k < length v → getD v k 0 < n
+
+-- DELETE: one row of the table, and a value
+pub record CutPre (ws h : List ℕ) (p : Progress) (i : ℕ) : Type 0 where
+  pub held : Held ws h p
+  pub row : i < p .count
+
+pub record DeletePre (ws h : List ℕ) (p : Progress) (v : List ℕ) : Type 0 where
+  pub held : Held ws h p
+  pub items : Within v (p .count)

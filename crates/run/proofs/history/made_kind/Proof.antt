@@ -4,19 +4,13 @@ use Prim.Native.Nat.{ℕ, _%_}
 use borrow.Author.Needs.{needs}
 use Rattle.run.proofs.history.made_kind.Statement.{statement}
 use Rattle.run.proofs.history.made_kind.Tie as tie
-use Rattle.run.proofs.history.made_kind.Reads as reads
-use Rattle.run.proofs.history.made_kind.Lts as lts
-use Rattle.table.proofs.words.kind.Reads as kind-reads
 
--- src/history.rt:33:8
 kind-requires : tie.Need-kind-requires
 kind-requires c κs = search needs
 
--- src/history.rt:34:9
 returns : tie.Need-returns
 returns c = rw (eq-eqb (c .before .before .args .w % 4) 2 (sym (c .before .kind .ensures) ∙ c .if1 .taken))
 
--- src/history.rt:30:1
 returns-2 : tie.Need-returns-2
 returns-2 c = rw (ne-eqb (c .before .before .args .w % 4) 2 (λ q. c .if1 .left (c .before .kind .ensures ∙ q)))
 

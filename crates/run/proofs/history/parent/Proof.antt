@@ -3,18 +3,13 @@ use native.Mathlib.Omega.{arith}
 use borrow.Author.Needs.{needs}
 use Rattle.run.proofs.history.parent.Statement.{statement}
 use Rattle.run.proofs.history.parent.Tie as tie
-use Rattle.run.proofs.history.parent.Reads as reads
-use Rattle.run.proofs.history.parent.Lts as lts
 
--- src/history.rt:46:9
 returns : tie.Need-returns
 returns c = (parent-none (c .before .args .link) (c .if1 .taken), omega arith)
 
--- src/history.rt:48:5
 sub-result : tie.Need-sub-result
 sub-result c = search needs
 
--- src/history.rt:40:1
 returns-2 : tie.Need-returns-2
 returns-2 c = (parent-some (c .before .args .link) (c .if1 .left), omega (arith, c .before .pre))
 

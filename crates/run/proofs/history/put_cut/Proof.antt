@@ -5,66 +5,49 @@ use native.Mathlib.Omega.{arith}
 use borrow.Author.Needs.{needs}
 use Rattle.run.proofs.history.put_cut.Statement.{statement}
 use Rattle.run.proofs.history.put_cut.Tie as tie
-use Rattle.run.proofs.history.put_cut.Reads as reads
-use Rattle.run.proofs.history.put_cut.Lts as lts
 
--- src/history.rt:85:5
 slice-write-history : tie.Need-slice-write-history
 slice-write-history c = search needs
 
--- src/history.rt:86:23
 cast-history : tie.Need-cast-history
 cast-history c = search needs
 
--- src/history.rt:86:13
 add-history : tie.Need-add-history
 add-history c = search needs
 
--- src/history.rt:86:5
 slice-write-history-2 : tie.Need-slice-write-history-2
 slice-write-history-2 c = simp length-set (omega (arith, c .pre .0))
 
--- src/history.rt:87:23
 cast-history-2 : tie.Need-cast-history-2
 cast-history-2 c = search needs
 
--- src/history.rt:87:13
 add-history-2 : tie.Need-add-history-2
 add-history-2 c = search needs
 
--- src/history.rt:87:5
 slice-write-history-3 : tie.Need-slice-write-history-3
 slice-write-history-3 c = simp length-set (omega (arith, c .pre .0))
 
--- src/history.rt:88:23
 cast-history-3 : tie.Need-cast-history-3
 cast-history-3 c = search needs
 
--- src/history.rt:88:13
 add-history-3 : tie.Need-add-history-3
 add-history-3 c = search needs
 
--- src/history.rt:88:5
 slice-write-history-4 : tie.Need-slice-write-history-4
 slice-write-history-4 c = simp length-set (omega (arith, c .pre .0))
 
--- src/history.rt:89:23
 cast-history-4 : tie.Need-cast-history-4
 cast-history-4 c = search needs
 
--- src/history.rt:89:13
 add-history-4 : tie.Need-add-history-4
 add-history-4 c = search needs
 
--- src/history.rt:89:5
 slice-write-history-5 : tie.Need-slice-write-history-5
 slice-write-history-5 c = simp length-set (omega (arith, c .pre .0))
 
--- src/history.rt:79:1
 same-length : tie.Need-same-length
 same-length c = search needs
 
--- src/history.rt:79:1
 returns : tie.Need-returns
 returns c = put-five (c .args .history .now) (c .args .at) 67 (c .args .row % 256) (c .args .row / 256) (c .args .parent % 256) (c .args .parent / 256) (c .pre .0)
 
