@@ -1,2 +1,4 @@
 pub mod Stepping
 pub mod Values
+pub mod State
+pub mod Updating
