@@ -6,8 +6,10 @@ use lib.Dec.{ltb, eqb}
 use lib.ListN.{length}
 use borrow.Author.Tests.{lt-ltb, le-ltb, eq-eqb, ne-eqb}
 use Rattle.model.specs.Base.{pick}
+use Rattle.script.specs.Reading.{scriptRead}
+use Rattle.table.specs.declared.Fault.{Fault}
 use Rattle.table.specs.declared.TableResult.{TableResult}
-use Rattle.ffi.specs.Calls.{codeOf, shortCode, readCode, readOut}
+use Rattle.ffi.specs.Calls.{codeOf, shortCode, readCode, readOut, scriptCode}
 
 -- what a call answers and leaves, with n and b where the plan is read
 abbrev pub Answers : (out : List ℕ) → TableResult → (n : ℕ) → (b : List ℕ) → (code : ℕ) → (left : List ℕ) → Type 0
@@ -33,3 +35,12 @@ module _ (o b : List ℕ) (n : ℕ) (q : TableResult) where
       where
         y : q .fault .number ≡ 0
         y = ap (λ (t : TableResult). t .fault .number) (sym e) ∙ z
+
+-- a script's refusal, or none
+pub script-read : (b : List ℕ) (f : Fault) (c : ℕ) → f ≡ scriptRead b → f .number ≡ 0 → c ≡ codeOf 0 0 0 → c ≡ scriptCode b
+script-read b f c e z g = g ∙ rw (sym (ap (λ (t : Fault). t .number) e) ∙ z)
+
+pub script-refused : (b : List ℕ) (f : Fault) (c : ℕ) → f ≡ scriptRead b → (f .number ≡ 0 → ⊥) → c ≡ codeOf (f .number) 2 (f .place) → c ≡ scriptCode b
+script-refused b f c e z g =
+    let y : scriptRead b .number ≡ 0 → ⊥ = λ q. z (ap (λ (t : Fault). t .number) e ∙ q) in
+    g ∙ ap (λ (t : Fault). codeOf (t .number) 2 (t .place)) e ∙ rw (ne-eqb (scriptRead b .number) 0 y)

@@ -6,6 +6,7 @@ use lib.Dec.{ltb, eqb}
 use lib.ListN.{length}
 use Rattle.model.specs.Base.{pick}
 use Rattle.table.specs.Calls as library
+use Rattle.script.specs.Reading.{scriptRead}
 use Rattle.table.specs.declared.Table.{Table}
 use Rattle.table.specs.declared.TableResult.{TableResult}
 use Rattle.table.specs.declared.Written.{Written}
@@ -78,3 +79,7 @@ sweptRows n ws ms = pick (isGiven ws ms && eqb (sweptTable n ws ms .fault .numbe
 
 abbrev pub sweptMarks : (count : ℕ) → (rows marks : List ℕ) → List ℕ
 sweptMarks n ws ms = pick (isGiven ws ms && eqb (sweptTable n ws ms .fault .number) 0) (sweptTable n ws ms .table .marks) ms
+
+-- A SCRIPT read
+abbrev pub scriptCode : (script : List ℕ) → ℕ
+scriptCode b = pick (eqb (scriptRead b .number) 0) (codeOf 0 0 0) (codeOf (scriptRead b .number) 2 (scriptRead b .place))

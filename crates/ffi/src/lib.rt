@@ -1,7 +1,7 @@
 // The C interface: every slice is a pointer and a length, nothing is kept. Each call answers number + 256 × which + 65,536 × place,
-// number 0 where nothing is refused; which says whose refusal it is: 0 a lent area's, 1 the plan's.
+// number 0 where nothing is refused; which says whose refusal it is: 0 a lent area's, 1 the plan's, 2 the script's.
 ghost use mathlib.Core.Path.{_≡_};
-ghost use Rattle.ffi.specs.Calls.{codeOf, planCode, planOut, sweepCode, sweepOut, writeCode, writeOut, sweptCode, sweptRows, sweptMarks};
+ghost use Rattle.ffi.specs.Calls.{codeOf, planCode, planOut, sweepCode, sweepOut, writeCode, writeOut, sweptCode, sweptRows, sweptMarks, scriptCode};
 
 mod copy;
 
@@ -11,6 +11,8 @@ use table::Table;
 const AREA: u8 = 0;
 
 const PLAN: u8 = 1;
+
+const SCRIPT: u8 = 2;
 
 // The bytes that a plan takes at most: 512 rows and 8 marks.
 const ROOM: usize = 2080;
@@ -122,4 +124,18 @@ pub extern "C" fn yegnabit_sweep_table(count: usize, rows: &mut [u32], marks: &m
     copy::put_rows(rows, new_rows);
     copy::put_marks(marks, new_marks);
     code(0, AREA, new_count)
+}
+
+// Reads a script: its refusal, or 0.
+#[no_mangle]
+pub extern "C" fn yegnabit_script(bytes: &[u8]) -> u64
+    ensures { λ r. ⌜ r ≡ scriptCode (now (bytes .entry)) ⌝ }
+{
+    let fault = script::read_script(bytes);
+    let number = fault.number;
+    let place = fault.place;
+    if number == 0 {
+        return code(0, AREA, 0);
+    }
+    code(number, SCRIPT, place)
 }
