@@ -1,12 +1,12 @@
 -- The whole script: one law for each way out of its reader, and what its answer says of the model's reader.
 use mathlib.Core.Path.{_≡_, refl, ap, sym, _∙_}
-use mathlib.Core.Bool.{Bool, false}
+use mathlib.Core.Bool.{false}
 use mathlib.Core.List.{List, []}
 use Rattle.model.proofs.BoolLaws.{by-cases}
-use Prim.Native.Nat.{ℕ, zero, suc, _+_, _-_, _≤_, _<_}
+use Prim.Native.Nat.{ℕ, _-_, _≤_, _<_}
 use native.Mathlib.Omega.{arith}
 use lib.Dec.{eqb}
-use lib.ListN.{length, length-drop, drop, drop-of-length-le}
+use lib.ListN.{length, length-drop, drop-of-length-le}
 use borrow.Author.Tests.{eq-eqb, ne-eqb, eqb-true}
 use Rattle.model.specs.Refusal as refusal
 use Rattle.model.specs.Script.{Expr, Parsed, ill, parsed, whole, readScript}
@@ -17,7 +17,7 @@ use Rattle.script.specs.Walk.{exprAt}
 use Rattle.script.specs.Reading.{scriptRead, parseAt, endOf, ExpressionPost}
 use Rattle.script.specs.Accepted.{Accepted}
 use Rattle.script.specs.declared.read.End.{End}
-use Rattle.script.proofs.PlaceLaws.{Reads, reads}
+use Rattle.script.proofs.PlaceLaws.{reads}
 use Rattle.script.proofs.RefusalLaws.{Sound, parse-sound}
 use Rattle.script.proofs.ExpressionLaws.{Ended, ended}
 
