@@ -1,4 +1,5 @@
--- For an evaluator: an accepted expression in place, its fields' ranges and, kind by kind, its operands.
+-- For an evaluator: an accepted expression in place and, kind by kind, its operands. It starts from `script-accepted` of ScriptLaws, and the
+-- fields' ranges are in FieldLaws.
 use mathlib.Core.Path.{_≡_, refl, ap, sym, subst, _∙_}
 use mathlib.Core.List.{List}
 use Prim.Native.Nat.{ℕ, suc, _+_, _-_, _≤_, _<_}
@@ -163,9 +164,7 @@ module _ {b : List ℕ} {at left v : ℕ} (a : Accepted b at left v) (k : ℕ) (
         second = subst (Accepted b (secondAt b at) (left - 1)) (ap (λ (j : ℕ). inner j v) kind ∙ scope) y;
         third = accepted-third a (omega (arith, operands-are 3 n));
         expr = made-by ∙ f _ _ _;
-        ends =
-            ends-by 3 n ∙ accepted-past x 2 ∙
-            accepted-past y 1;
+        ends = ends-by 3 n ∙ accepted-past x 2 ∙ accepted-past y 1;
       }
 
 -- at the same place
