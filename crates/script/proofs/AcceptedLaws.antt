@@ -1,5 +1,5 @@
--- For an evaluator: an accepted expression in place and, kind by kind, its operands. It starts from `script-accepted` of ScriptLaws, and the
--- fields' ranges are in FieldLaws.
+-- For an evaluator: an accepted expression in place and, kind by kind, its operands.
+-- It starts from `script-accepted` of ScriptLaws; the ranges of fields are in FieldLaws.
 use mathlib.Core.Path.{_≡_, refl, ap, sym, subst, _∙_}
 use mathlib.Core.List.{List}
 use Prim.Native.Nat.{ℕ, suc, _+_, _-_, _≤_, _<_}
