@@ -1,3 +1,5 @@
 pub mod StateLaws
 pub mod HistoryLaws
 pub mod UpdateLaws
+pub mod InsertLawsScan
+pub mod InsertLaws

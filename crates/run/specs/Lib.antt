@@ -1,2 +1,3 @@
 pub mod State
 pub mod Updating
+pub mod Inserting

@@ -1,4 +1,5 @@
 // Runs on a plan: the updates with their history, and undo.
 mod history;
+mod insert;
 mod state;
 mod update;
