@@ -48,11 +48,11 @@ module _ (w l : ℕ) (small : l < 1024) where
   relinked-word h = ap (isIn 1 2) other-kind ∙ h
 
 -- STATES after a new row
-then-state : (o : Out) (u : State) → gives [] u ≡ thenRow o (λ (t : State). gives [] t) → (v : List ℕ) × (o ≡ gives v u)
+pub then-state : (o : Out) (u : State) → gives [] u ≡ thenRow o (λ (t : State). gives [] t) → (v : List ℕ) × (o ≡ gives v u)
 then-state (stop x) u e = absurd (let z : _≡_ {A = ℕ} 0 1 = cc in omega arith)
 then-state (gives v s) u e = (v, (cc))
 
-made-state : (z : ℕ) (r : model.Row) (s u : State) (v : List ℕ) → newRow z r s ≡ gives v u → u ≡ withMade s r
+pub made-state : (z : ℕ) (r : model.Row) (s u : State) (v : List ℕ) → newRow z r s ≡ gives v u → u ≡ withMade s r
 made-state z r s u v e =
     by-cases (ltb (model.count (s .plan)) 512)
     (λ a.
@@ -86,7 +86,7 @@ module _ (ws ms : List ℕ) (old n : ℕ) (l : old ≤ n) (w : n ≤ length ws) 
   row-before i h = rowAt-decode old ws ms (omega arith) i h ∙ sym (rowAt-decode n ws [] w i (omega arith))
 
 -- rows by their numbers
-rows-kept : (old n n′ : ℕ) (ws ws′ : List ℕ) → old ≤ n → n ≤ length ws → old ≤ n′ → n′ ≤ length ws′ →
+pub rows-kept : (old n n′ : ℕ) (ws ws′ : List ℕ) → old ≤ n → n ≤ length ws → old ≤ n′ → n′ ≤ length ws′ →
     ((c : ℕ) → c < n → model.rowAt (decodeParts n′ ws′ []) c ≡ model.rowAt (decodeParts n ws []) c) → rowsOf old ws′ ≡ rowsOf old ws
 rows-kept old n n′ ws ws′ a b c d same =
     let k : length (rowsOf old ws) ≡ old = count-decode old ws [] (omega arith) in
@@ -94,6 +94,29 @@ rows-kept old n n′ ws ws′ a b c d same =
     ext-getD model.noRow (rowsOf old ws′) (rowsOf old ws) (k′ ∙ sym k)
     (λ i h.
     row-before ws′ [] old n′ c d i (omega arith) ∙ same i (omega arith) ∙ sym (row-before ws [] old n a b i (omega arith)))
+
+-- A ROW MADE: the rows that were there, and the new one
+module _ {ws h : List ℕ} {p : Progress} (held : Held ws h p) {ws′ h′ : List ℕ} {r : Progress} (held′ : Held ws′ h′ r) (row : model.Row)
+    (e : stateOf ws′ [] h′ r ≡ withMade (stateOf ws [] h p) row) where
+  made-table : decodeParts (r .count) ws′ [] ≡ model.withRow (decodeParts (p .count) ws []) row
+  made-table = ap (λ (s : State). s .plan) e
+
+  pub made-count : r .count ≡ p .count + 1
+  made-count =
+      let k : model.count (decodeParts (r .count) ws′ []) ≡ model.count (decodeParts (p .count) ws []) + 1 =
+      ap model.count made-table ∙ count-with (decodeParts (p .count) ws []) row in
+      omega (arith, held-count ws h p held [], held-count ws′ h′ r held′ [])
+
+  pub made-old : (c : ℕ) → c < p .count → model.rowAt (decodeParts (r .count) ws′ []) c ≡ model.rowAt (decodeParts (p .count) ws []) c
+  made-old c a =
+      ap (λ (x : model.Table). model.rowAt x c) made-table ∙
+      rowAt-withRow-old (decodeParts (p .count) ws []) row c (omega (arith, held-count ws h p held []))
+
+  pub made-new : model.rowAt (decodeParts (r .count) ws′ []) (p .count) ≡ row
+  made-new =
+      ap (λ (x : model.Table). model.rowAt x (p .count)) made-table ∙
+      ap (model.rowAt (model.withRow (decodeParts (p .count) ws []) row)) (sym (held-count ws h p held [])) ∙
+      rowAt-withRow-new (decodeParts (p .count) ws []) row
 
 -- ONE ROW of the scan
 module _ {ws h m : List ℕ} {p : Progress} {t j : ℕ} (pre : NextPre ws h m p t j) where
@@ -200,34 +223,20 @@ module _ {ws h m : List ℕ} {p : Progress} {t j : ℕ} (pre : NextPre ws h m p 
         (gives-state ∙ pick-false (eqb link 0) (gives [] (stateOf ws [] h p)) _ (ne-eqb link 0 n)) in
         made-state 0 row (stateOf ws [] h p) (stateOf ws′ [] h′ r) (q .0) (q .1)
 
-    plan-copy : (link ≡ 0 → ⊥) →
-        decodeParts (r .count) ws′ [] ≡ model.withRow (decodeParts (p .count) ws []) (model.withParent (rowOf w) (linked link))
-    plan-copy n = ap (λ (s : State). s .plan) (state-copy n)
-
-    counted′ : model.count (decodeParts (r .count) ws′ []) ≡ r .count
-    counted′ = held-count ws′ h′ r (post .updated .after fine .held) []
+    held′ : Held ws′ h′ r
+    held′ = post .updated .after fine .held
 
     pub next-old : (c : ℕ) → c < p .count → model.rowAt (decodeParts (r .count) ws′ []) c ≡ model.rowAt (decodeParts (p .count) ws []) c
     next-old c a =
         by-cases (eqb link 0) (λ e. ap (λ (s : State). model.rowAt (s .plan) c) (state-same (eqb-true link 0 e)))
-        (λ e.
-        ap (λ (x : model.Table). model.rowAt x c) (plan-copy (eqb-false link 0 e)) ∙
-        rowAt-withRow-old (decodeParts (p .count) ws []) (model.withParent (rowOf w) (linked link)) c
-        (omega (arith, held-count ws h p (pre .held) [])))
+        (λ e. made-old (pre .held) held′ (model.withParent (rowOf w) (linked link)) (state-copy (eqb-false link 0 e)) c a)
 
     next-new : (link ≡ 0 → ⊥) → IsCopy ws′ (r .count) j (p .count)
-    next-new n =
-        let x = decodeParts (p .count) ws [] in
-        let row = model.withParent (rowOf w) (linked link) in
-        let k : model.count x ≡ p .count = held-count ws h p (pre .held) [] in
-        let more : model.count (decodeParts (r .count) ws′ []) ≡ model.count x + 1 =
-        ap model.count (plan-copy n) ∙ count-with x row in (
-          omega (arith, counted′),
-          ap (λ (y : model.Table). model.rowAt y (p .count) .isLeaf) (plan-copy n) ∙
-              ap (λ (c : ℕ). model.rowAt (model.withRow x row) c .isLeaf) (sym k) ∙
-              ap (λ (q : model.Row). q .isLeaf) (rowAt-withRow-new x row) ∙ ap (λ (q : model.Row). q .isLeaf) (sym row-here) ∙
-              ap (λ (q : model.Row). q .isLeaf) (sym (next-old j (pre .row))),
-        )
+    next-new n = (
+      omega (arith, made-count (pre .held) held′ (model.withParent (rowOf w) (linked link)) (state-copy n)),
+      ap (λ (q : model.Row). q .isLeaf) (made-new (pre .held) held′ (model.withParent (rowOf w) (linked link)) (state-copy n)) ∙
+          ap (λ (q : model.Row). q .isLeaf) (sym (next-old j (pre .row) ∙ row-here)),
+    )
 
     pub next-mapped : Mapped ws′ m′ (r .count) t (j + 1)
     next-mapped k a b = by-cases (eqb k j) (λ e. at (eqb-true k j e)) (λ e. old (eqb-false k j e))
@@ -244,8 +253,10 @@ module _ {ws h m : List ℕ} {p : Progress} {t j : ℕ} (pre : NextPre ws h m p 
             (⊎-elim (λ e. inl e)
             (λ c.
             let s : k < p .count = omega (arith, pre .row) in
-            inr (omega (arith, c .0, grown),
-              ap (λ (q : model.Row). q .isLeaf) (next-old (getD m k 0) (c .0)) ∙ c .1 ∙ ap (λ (q : model.Row). q .isLeaf) (sym (next-old k s))))
+            inr (
+              omega (arith, c .0, grown),
+              ap (λ (q : model.Row). q .isLeaf) (next-old (getD m k 0) (c .0)) ∙ c .1 ∙ ap (λ (q : model.Row). q .isLeaf) (sym (next-old k s)),
+            ))
             (pre .mapped k a (omega (arith, f))))
 
         here : getD m′ j 0 ≡ pick (eqb link 0) 65535 (p .count)

@@ -3,3 +3,4 @@ pub mod HistoryLaws
 pub mod UpdateLaws
 pub mod InsertLawsScan
 pub mod InsertLaws
+pub mod InsertLawsItems

@@ -5,59 +5,43 @@ use native.Mathlib.Omega.{arith}
 use borrow.Author.Needs.{needs}
 use Rattle.run.proofs.insert.copy_link.Statement.{statement}
 use Rattle.run.proofs.insert.copy_link.Tie as tie
-use Rattle.run.proofs.insert.copy_link.Reads as reads
-use Rattle.run.proofs.insert.copy_link.Lts as lts
-use Rattle.run.proofs.insert.index.Reads as index-reads
 
--- src/insert.rt:39:9
 returns : tie.Need-returns
 returns c = sym (link-none (c .before .before .args .map .now) (c .before .before .args .top) (c .before .before .args .link) (c .if1 .taken))
 
--- src/insert.rt:41:8
 sub-if2 : tie.Need-sub-if2
 sub-if2 c = search needs
 
--- src/insert.rt:42:9
 returns-2 : tie.Need-returns-2
 returns-2 c = sym (link-low (c .before .before .before .args .map .now) (c .before .before .before .args .top) (c .before .before .before .args .link) (c .before .if1 .left) (c .if2 .taken))
 
--- src/insert.rt:44:12
 sub-if3 : tie.Need-sub-if3
 sub-if3 c = search needs
 
--- src/insert.rt:44:8
 mul-if3 : tie.Need-mul-if3
 mul-if3 c = search needs
 
--- src/insert.rt:44:8
 shared-slice-read-if3 : tie.Need-shared-slice-read-if3
 shared-slice-read-if3 c = search needs
 
--- src/insert.rt:45:9
 returns-3 : tie.Need-returns-3
 returns-3 c = sym (link-out (c .before .before .before .before .before .args .map .now) (c .before .before .before .before .before .args .top) (c .before .before .before .before .before .args .link) (c .before .before .before .if1 .left) (omega (arith, c .before .before .if2 .left)) (c .if3 .taken))
 
--- src/insert.rt:47:15
 sub-index : tie.Need-sub-index
 sub-index c = search needs
 
--- src/insert.rt:47:11
 mul-index : tie.Need-mul-index
 mul-index c = search needs
 
--- src/insert.rt:47:11
 shared-slice-read-index : tie.Need-shared-slice-read-index
 shared-slice-read-index c = search needs
 
--- src/insert.rt:47:5
 index-requires : tie.Need-index-requires
 index-requires c κs = search needs
 
--- src/insert.rt:47:5
 add-result : tie.Need-add-result
 add-result c = search needs
 
--- src/insert.rt:34:1
 returns-4 : tie.Need-returns-4
 returns-4 c = ap (λ (j : ℕ). j + 1) (c .index .ensures .0) ∙ sym (link-in (c .before .before .before .before .before .before .before .args .map .now) (c .before .before .before .before .before .before .before .args .top) (c .before .before .before .before .before .before .before .args .link) (c .before .before .before .before .before .if1 .left) (omega (arith, c .before .before .before .before .if2 .left)) (c .before .before .if3 .left))
 

@@ -8,14 +8,7 @@ use native.Mathlib.Omega.{arith}
 use borrow.Author.Needs.{needs}
 use Rattle.run.proofs.insert.copy_next.Statement.{statement}
 use Rattle.run.proofs.insert.copy_next.Tie as tie
-use Rattle.run.proofs.insert.copy_next.Reads as reads
-use Rattle.run.proofs.insert.copy_next.Lts as lts
-use Rattle.run.proofs.insert.copy_link.Reads as copy-link-reads
-use Rattle.run.proofs.insert.relinked.Reads as relinked-reads
-use Rattle.run.proofs.update.new_row.Reads as new-row-reads
-use Rattle.table.proofs.words.link.Reads as link-reads
 
--- src/insert.rt:62:13
 is-link : (c : tie.After-copy-link) → c .copy-link .result ≡ nextLink (c .before .before .before .before .before .before .before .args .rows .now) (c .before .before .before .before .before .before .before .args .map .now) (c .before .before .before .before .before .before .before .args .top) (c .before .before .before .before .before .before .before .args .j)
 is-link c = c .copy-link .ensures ∙ ap (copyLink (c .before .before .before .before .before .before .before .args .map .now) (c .before .before .before .before .before .before .before .args .top)) (c .before .link .ensures)
 
@@ -28,67 +21,51 @@ copied-word c = c .relinked .ensures ∙ ap (λ (l : ℕ). getD (c .before .befo
 mul-w : tie.Need-mul-w
 mul-w c = search needs
 
--- src/insert.rt:62:13
 slice-read-w : tie.Need-slice-read-w
 slice-read-w c = search needs
 
--- src/insert.rt:63:36
 link-requires : tie.Need-link-requires
 link-requires c κs = search needs
 
--- src/insert.rt:63:9
 copy-link-requires : tie.Need-copy-link-requires
 copy-link-requires c κs = omega (arith, next-bound (c .before .before .before .before .before .before .pre), c .link .ensures)
 
--- src/insert.rt:65:9
 mul-map : tie.Need-mul-map
 mul-map c = search needs
 
--- src/insert.rt:65:9
 slice-write-map : tie.Need-slice-write-map
 slice-write-map c = search needs
 
--- src/insert.rt:66:9
 same-length : tie.Need-same-length
 same-length c = search needs
 
--- src/insert.rt:66:9
 returns : tie.Need-returns
 returns c = next-none (c .before .before .before .before .before .before .before .before .pre) (sym (is-link (c .before)) ∙ c .if1 .taken)
 
--- src/insert.rt:69:14
 cast-map : tie.Need-cast-map
 cast-map c = search needs
 
--- src/insert.rt:69:5
 mul-map-2 : tie.Need-mul-map-2
 mul-map-2 c = search needs
 
--- src/insert.rt:69:5
 slice-write-map-2 : tie.Need-slice-write-map-2
 slice-write-map-2 c = search needs
 
--- src/insert.rt:70:39
 relinked-requires : tie.Need-relinked-requires
 relinked-requires c κs = omega (arith, next-small (c .before .before .before .before .before .before .before .before .before .before .pre) (has-link (c .before .before)), is-link (c .before .before .before))
 
--- src/insert.rt:70:5
 new-row-requires : tie.Need-new-row-requires
 new-row-requires c κs = next-pre (c .before .before .before .before .before .before .before .before .before .before .before .pre) (has-link (c .before .before .before)) (c .relinked .result) (copied-word (c))
 
--- src/insert.rt:51:1
 same-length-2 : tie.Need-same-length-2
 same-length-2 c = search needs
 
--- src/insert.rt:51:1
 same-length-3 : tie.Need-same-length-3
 same-length-3 c = search needs
 
--- src/insert.rt:51:1
 same-length-4 : tie.Need-same-length-4
 same-length-4 c = search needs
 
--- src/insert.rt:51:1
 returns-2 : tie.Need-returns-2
 returns-2 c = next-made (c .before .before .before .before .before .before .before .before .before .before .before .before .before .before .before .before .pre) (has-link (c .before .before .before .before .before .before .before .before)) (c .before .before .before .before .before .relinked .result) (copied-word (c .before .before .before .before .before)) (c .before .before .before .before .new-row .ensures)
 

@@ -1,71 +1,58 @@
+use Rattle.run.proofs.InsertLaws.{Copying, copying-start, copying-next, copying-end, copying-refused, copying-again}
+use mathlib.Core.Path.{_≡_, sym, _∙_, ap}
+use Prim.Native.Nat.{ℕ, _+_, _-_}
+use native.Mathlib.Omega.{arith}
 use borrow.Author.Needs.{needs}
 use Rattle.run.proofs.insert.copy_rest.Statement.{statement}
 use Rattle.run.proofs.insert.copy_rest.Tie as tie
-use Rattle.run.proofs.insert.copy_rest.Reads as reads
-use Rattle.run.proofs.insert.copy_rest.Lts as lts
-use Rattle.run.proofs.insert.copy_next.Reads as copy-next-reads
 
 abbrev Inv-loop : tie.InvT-loop
-Inv-loop rows₀ history₀ map₀ old top now₀ j₀ rows history map now j = ?
+Inv-loop rows₀ history₀ map₀ old top now₀ j₀ rows history map now j = Copying old top rows₀ history₀ map₀ now₀ rows history map now j
 
 abbrev μ-loop : tie.MeasureT-loop
-μ-loop rows₀ history₀ map₀ old top now₀ j₀ rows history map now j = ?
+μ-loop rows₀ history₀ map₀ old top now₀ j₀ rows history map now j = old - j
 
--- src/insert.rt:86:17
 add-j : tie.Need-add-j Inv-loop μ-loop
-add-j c = search needs
+add-j c = omega (arith, c .before .before .before .pre .top)
 
--- src/insert.rt:87:5
 loop-holds : tie.Need-loop-holds Inv-loop μ-loop
-loop-holds c = search needs
+loop-holds c = copying-start (c .before .before .before .pre)
 
--- src/insert.rt:88:9
 copy-next-requires : tie.Need-copy-next-requires Inv-loop μ-loop
-copy-next-requires c κs = search needs
+copy-next-requires c κs = copying-next (c .before .before .before .before .before .before .before .before .pre) (c .before .before .before .before .loop .inv) (c .before .before .before .loop-test .taken)
 
--- src/insert.rt:90:13
 same-length : tie.Need-same-length Inv-loop μ-loop
 same-length c = search needs
 
--- src/insert.rt:90:13
 same-length-2 : tie.Need-same-length-2 Inv-loop μ-loop
 same-length-2 c = search needs
 
--- src/insert.rt:90:13
 same-length-3 : tie.Need-same-length-3 Inv-loop μ-loop
 same-length-3 c = search needs
 
--- src/insert.rt:90:13
 returns : tie.Need-returns Inv-loop μ-loop
-returns c = search needs
+returns c = copying-refused (c .before .before .before .before .before .before .before .before .before .before .before .before .before .before .before .before .before .pre) (c .before .before .before .before .before .before .before .before .before .before .before .before .before .loop .inv) (c .before .before .before .before .before .before .before .before .before .before .before .before .loop-test .taken) (c .before .before .before .before .before .before .before .before .copy-next .ensures) (c .if1 .taken)
 
--- src/insert.rt:92:9
 add-j-2 : tie.Need-add-j-2 Inv-loop μ-loop
 add-j-2 c = search needs
 
--- src/insert.rt:87:5
 loop-less : tie.Need-loop-less Inv-loop μ-loop
 loop-less c = search needs
 
--- src/insert.rt:87:5
 loop-again : tie.Need-loop-again Inv-loop μ-loop
-loop-again c = search needs
+loop-again c = copying-again (c .before .before .before .before .before .before .before .before .before .before .before .before .before .before .before .before .before .pre) (c .before .before .before .before .before .before .before .before .before .before .before .before .before .loop .inv) (c .before .before .before .before .before .before .before .before .before .before .before .before .loop-test .taken) (c .before .before .before .before .before .before .before .before .copy-next .ensures) (search (c .if1 .left, needs))
 
--- src/insert.rt:74:1
 same-length-4 : tie.Need-same-length-4 Inv-loop μ-loop
 same-length-4 c = search needs
 
--- src/insert.rt:74:1
 same-length-5 : tie.Need-same-length-5 Inv-loop μ-loop
 same-length-5 c = search needs
 
--- src/insert.rt:74:1
 same-length-6 : tie.Need-same-length-6 Inv-loop μ-loop
 same-length-6 c = search needs
 
--- src/insert.rt:74:1
 returns-2 : tie.Need-returns-2 Inv-loop μ-loop
-returns-2 c = search needs
+returns-2 c = copying-end (c .before .before .before .before .before .pre) (c .before .loop .inv) (omega (arith, c .loop-test .left))
 
 pub copy-rest-spec : {M : Type 1} → statement M
 copy-rest-spec =
