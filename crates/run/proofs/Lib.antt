@@ -6,3 +6,6 @@ pub mod PickLaws
 pub mod StateLaws
 pub mod HistoryLaws
 pub mod UpdateLaws
+pub mod InsertLawsScan
+pub mod InsertLaws
+pub mod InsertLawsItems

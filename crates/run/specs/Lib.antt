@@ -2,3 +2,4 @@ pub mod Stepping
 pub mod Values
 pub mod State
 pub mod Updating
+pub mod Inserting

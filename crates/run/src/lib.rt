@@ -1,5 +1,6 @@
-// Runs on a plan: the evaluator with its history, and undo.
+// Runs on a plan: the operators on values and the updates with their history.
 mod history;
+mod insert;
 mod pick;
 mod state;
 mod step;

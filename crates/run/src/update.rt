@@ -17,7 +17,7 @@ use table::Table;
 use table::words;
 
 // The same progress, with a refusal.
-fn refused(p: Progress, number: u8) -> Progress
+pub fn refused(p: Progress, number: u8) -> Progress
     ensures { λ r. ⌜ r ≡ stopped p number ⌝ }
 {
     Progress {
