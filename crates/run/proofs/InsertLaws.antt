@@ -6,6 +6,7 @@ use mathlib.Core.List.{List, [], _∷_, _++_, map}
 use mathlib.Core.Option.{Option, none, some}
 use Prim.Native.Nat.{ℕ, zero, suc, _+_, _*_, _-_, _/_, _%_, _≤_, _<_}
 use native.Mathlib.Omega.{arith}
+use native.Mathlib.Numerals.{add-one}
 use lib.Dec.{ltb, leb, eqb}
 use lib.ListN.{length, getD, take, set, length-set, length-map, List·getD-map}
 use lib.Seq.{getD-set-same, getD-set-other, ext-getD, take-take}
@@ -16,8 +17,7 @@ use Rattle.model.specs.Step.{isBelow}
 use Rattle.model.specs.Run.{State, state, Out, stop, gives, newRow, withMade, thenRow, copyEach, descendantsFrom}
 use Rattle.model.proofs.BoolLaws.{by-cases, pick-true, pick-false, and-both}
 use Rattle.model.proofs.TableLaws.{parent-count, isElement-by}
-use Rattle.model.proofs.GrowLaws.{rowAt-withRow-old, rowAt-withRow-new}
-use Rattle.model.proofs.RowLaws.{count-with}
+use Rattle.model.proofs.GrowLaws.{count-withRow, rowAt-withRow-old, rowAt-withRow-new}
 use Rattle.table.specs.Words.{linked, rowOf, rowsOf, isRowWord, decodeParts}
 use Rattle.table.proofs.WordLaws.{count-decode, rowAt-decode}
 use Rattle.run.specs.State.{stateOf, outcome, Held, After, Updated}
@@ -104,7 +104,8 @@ module _ {ws h : List ℕ} {p : Progress} (held : Held ws h p) {ws′ h′ : Lis
   pub made-count : r .count ≡ p .count + 1
   made-count =
       let k : model.count (decodeParts (r .count) ws′ []) ≡ model.count (decodeParts (p .count) ws []) + 1 =
-      ap model.count made-table ∙ count-with (decodeParts (p .count) ws []) row in
+      ap model.count made-table ∙ count-withRow (decodeParts (p .count) ws []) row ∙
+      sym (add-one (model.count (decodeParts (p .count) ws []))) in
       omega (arith, held-count ws h p held [], held-count ws′ h′ r held′ [])
 
   pub made-old : (c : ℕ) → c < p .count → model.rowAt (decodeParts (r .count) ws′ []) c ≡ model.rowAt (decodeParts (p .count) ws []) c
