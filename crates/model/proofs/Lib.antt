@@ -49,3 +49,5 @@ pub mod Beside
 pub mod Matching
 pub mod Orders
 pub mod FreeCommutes
+pub mod StopLaws
+pub mod CallsCommute

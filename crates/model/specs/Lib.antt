@@ -13,3 +13,4 @@ pub mod Paths
 pub mod Meeting
 pub mod Promise
 pub mod Cases
+pub mod Call
