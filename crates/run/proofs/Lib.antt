@@ -4,3 +4,5 @@ pub mod UpdateLaws
 pub mod InsertLawsScan
 pub mod InsertLaws
 pub mod InsertLawsItems
+pub mod UndoLaws
+pub mod UndoLawsBack

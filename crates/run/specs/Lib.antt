@@ -1,3 +1,4 @@
 pub mod State
 pub mod Updating
 pub mod Inserting
+pub mod Undoing

@@ -2,4 +2,5 @@
 mod history;
 mod insert;
 mod state;
+mod undo;
 mod update;

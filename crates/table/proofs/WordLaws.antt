@@ -89,7 +89,7 @@ Canonical n ws = wordsOf (rowsOf n ws) ≡ ws
 replicate-less : (m n : ℕ) → n < m → replicate {A = ℕ} (m - n) 0 ≡ 0 ∷ replicate (m - (n + 1)) 0
 replicate-less m n h = let e : m - n ≡ suc (m - (n + 1)) = omega arith in rw e
 
-wordsOf-snoc : (rs : List model.Row) (r : model.Row) → length rs < 512 → wordsOf (rs ++ (r ∷ [])) ≡ set (wordsOf rs) (length rs) (wordOf r)
+pub wordsOf-snoc : (rs : List model.Row) (r : model.Row) → length rs < 512 → wordsOf (rs ++ (r ∷ [])) ≡ set (wordsOf rs) (length rs) (wordOf r)
 wordsOf-snoc rs r h =
     ap (λ (l : List ℕ). l ++ replicate (512 - length (rs ++ (r ∷ []))) 0) (map-append wordOf rs (r ∷ [])) ∙
     append-snoc (map wordOf rs) (wordOf r) (replicate (512 - length (rs ++ (r ∷ []))) 0) ∙
