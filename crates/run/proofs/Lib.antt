@@ -6,3 +6,4 @@ pub mod InsertLaws
 pub mod InsertLawsItems
 pub mod UndoLaws
 pub mod UndoLawsBack
+pub mod UndoLawsCall

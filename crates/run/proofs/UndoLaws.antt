@@ -23,8 +23,8 @@ use Rattle.table.specs.Reading.{faultAt}
 use Rattle.table.proofs.WordLaws.{linked-linkOf, count-decode, rowAt-decode, Canonical, wordsOf-snoc}
 use Rattle.table.proofs.ReadLaws as reading
 use Rattle.run.specs.Undoing.{cutIn, madeIn, FormPost, undoing, Whole, PlacesPost, FitPre, BackPre, BackPost, AllPre, AllPost}
-use Rattle.run.specs.declared.undo.FormEnd.{FormEnd}
-use Rattle.run.specs.declared.undo.BackEnd.{BackEnd}
+use Rattle.run.specs.declared.undoing.FormEnd.{FormEnd}
+use Rattle.run.specs.declared.undoing.BackEnd.{BackEnd}
 use Rattle.run.proofs.StateLaws.{row-word, rowsOf-set, canonical-set}
 use Rattle.run.proofs.InsertLaws.{relinked-row, relinked-word}
 

@@ -20,7 +20,7 @@ use Rattle.model.proofs.TestLaws.{and-four, and-five}
 use Rattle.table.specs.Words.{linked, wordOf, rowOf, rowsOf, wordsOf, isRowWord, decodeParts}
 use Rattle.table.proofs.WordLaws.{linked-linkOf, count-decode, rowAt-decode, Canonical, wordsOf-snoc}
 use Rattle.run.specs.Undoing.{cutIn, madeIn, undoing, Whole, FitPre, BackPre, BackPost, AllPre, AllPost}
-use Rattle.run.specs.declared.undo.BackEnd.{BackEnd}
+use Rattle.run.specs.declared.undoing.BackEnd.{BackEnd}
 use Rattle.run.proofs.StateLaws.{row-word, rowsOf-set, canonical-set}
 use Rattle.run.proofs.InsertLaws.{relinked-row, relinked-word, rows-take}
 

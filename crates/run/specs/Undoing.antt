@@ -16,8 +16,8 @@ use Rattle.table.specs.Reading.{faultAt}
 use Rattle.table.specs.Calls.{faultOf, result}
 use Rattle.table.specs.declared.Table.{Table}
 use Rattle.table.specs.declared.TableResult.{TableResult}
-use Rattle.run.specs.declared.undo.FormEnd.{FormEnd}
-use Rattle.run.specs.declared.undo.BackEnd.{BackEnd}
+use Rattle.run.specs.declared.undoing.FormEnd.{FormEnd}
+use Rattle.run.specs.declared.undoing.BackEnd.{BackEnd}
 
 -- UNDO of a table handed in: 6 where it is ill formed; refused, the table is as it was
 abbrev pub asItWas : refusal.Fault → Table → TableResult

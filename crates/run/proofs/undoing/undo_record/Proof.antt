@@ -10,16 +10,9 @@ use mathlib.Core.Path.{_≡_, refl, sym, _∙_, ap}
 use Prim.Native.Nat.{ℕ, _+_, _-_, _<_, _≤_, _/_, _%_}
 use native.Mathlib.Omega.{arith}
 use borrow.Author.Needs.{needs}
-use Rattle.run.proofs.undo.undo_record.Statement.{statement}
-use Rattle.run.proofs.undo.undo_record.Tie as tie
-use Rattle.run.proofs.undo.undo_record.Reads as reads
-use Rattle.run.proofs.undo.undo_record.Lts as lts
-use Rattle.run.proofs.undo.cut_fits.Reads as cut-fits-reads
-use Rattle.run.proofs.undo.made_fits.Reads as made-fits-reads
-use Rattle.run.proofs.undo.number_at.Reads as number-at-reads
-use Rattle.run.proofs.update.relinked.Reads as relinked-reads
+use Rattle.run.proofs.undoing.undo_record.Statement.{statement}
+use Rattle.run.proofs.undoing.undo_record.Tie as tie
 
--- src/undo.rt:198:8
 cut-fit : (c : tie.Else2) → cutFits (decodeParts (c .before .before .before .before .before .before .before .before .args .count) (c .before .before .before .before .before .before .before .before .args .rows .now) (c .before .before .before .before .before .before .before .before .args .marks .now)) (cutIn (c .before .before .before .before .before .before .before .before .args .s .now)) ≡ true
 cut-fit c = sym (c .before .cut-fits .ensures) ∙ not-false (c .before .cut-fits .result) (c .if2 .left)
 
@@ -29,91 +22,69 @@ made-fit c = sym (c .before .made-fits .ensures) ∙ not-false (c .before .made-
 shared-slice-read-if1 : tie.Need-shared-slice-read-if1
 shared-slice-read-if1 c = omega (arith, c .before .before .before .before .pre .whole, size-low (getD (c .before .before .before .before .args .s .now) 0 0))
 
--- src/undo.rt:199:13
 cut-fits-requires : tie.Need-cut-fits-requires
 cut-fits-requires c κs = cut-pre (c .before .before .before .before .before .before .pre) (c .before .before .before .before .before .before .args .marks .now) (c .before .if1 .taken)
 
--- src/undo.rt:200:13
 same-length : tie.Need-same-length
 same-length c = search needs
 
--- src/undo.rt:200:13
 returns : tie.Need-returns
 returns c = cut-refused (c .before .before .before .before .before .before .before .before .pre) (c .before .before .before .before .before .before .before .before .args .marks .now) (c .before .before .before .if1 .taken) (sym (c .before .cut-fits .ensures) ∙ not-true (c .before .cut-fits .result) (c .if2 .taken))
 
--- src/undo.rt:206:13
 number-at-requires : tie.Need-number-at-requires
 number-at-requires c κs = omega (arith, cut-pre (c .before .before .before .before .before .before .before .before .pre) (c .before .before .before .before .before .before .before .before .args .marks .now) (c .before .before .before .if1 .taken) .whole)
 
--- src/undo.rt:207:13
 number-at-requires-2 : tie.Need-number-at-requires-2
 number-at-requires-2 c κs = omega (arith, cut-pre (c .before .before .before .before .before .before .before .before .before .pre) (c .before .before .before .before .before .before .before .before .before .args .marks .now) (c .before .before .before .before .if1 .taken) .whole)
 
--- src/undo.rt:208:38
 mul-relinked : tie.Need-mul-relinked
 mul-relinked c = omega (arith, c .before .number-at .ensures .1)
 
--- src/undo.rt:208:38
 slice-read-relinked : tie.Need-slice-read-relinked
 slice-read-relinked c = omega (arith, c .before .before .number-at .ensures .0, cut-row-low (c .before .before .before .before .before .before .before .before .before .before .before .pre) (c .before .before .before .before .before .before .before .before .before .before .before .args .marks .now) (c .before .before .before .before .before .before .if1 .taken) (cut-fit (c .before .before .before)), c .before .before .before .before .before .before .before .before .before .before .before .pre .rows, c .before .before .before .before .before .before .before .before .before .before .before .pre .few)
 
--- src/undo.rt:208:49
 add-relinked : tie.Need-add-relinked
 add-relinked c = omega (arith, c .before .number-at2 .ensures .1)
 
--- src/undo.rt:208:21
 relinked-requires : tie.Need-relinked-requires
 relinked-requires c κs = omega (arith, c .before .before .number-at .ensures .0, c .before .number-at2 .ensures .0, cut-row-low (c .before .before .before .before .before .before .before .before .before .before .before .pre) (c .before .before .before .before .before .before .before .before .before .before .before .args .marks .now) (c .before .before .before .before .before .before .if1 .taken) (cut-fit (c .before .before .before)), cut-parent-low (c .before .before .before .before .before .before .before .before .before .before .before .pre) (c .before .before .before .before .before .before .before .before .before .before .before .args .marks .now) (c .before .before .before .before .before .before .if1 .taken) (cut-fit (c .before .before .before)), c .before .before .before .before .before .before .before .before .before .before .before .pre .few)
 
--- src/undo.rt:208:9
 mul-rows : tie.Need-mul-rows
 mul-rows c = omega (arith, c .before .before .before .number-at .ensures .1)
 
--- src/undo.rt:208:9
 slice-write-rows : tie.Need-slice-write-rows
 slice-write-rows c = omega (arith, c .before .before .before .number-at .ensures .0, cut-row-low (c .before .before .before .before .before .before .before .before .before .before .before .before .pre) (c .before .before .before .before .before .before .before .before .before .before .before .before .args .marks .now) (c .before .before .before .before .before .before .before .if1 .taken) (cut-fit (c .before .before .before .before)), c .before .before .before .before .before .before .before .before .before .before .before .before .pre .rows, c .before .before .before .before .before .before .before .before .before .before .before .before .pre .few)
 
--- src/undo.rt:209:9
 same-length-2 : tie.Need-same-length-2
 same-length-2 c = search needs
 
--- src/undo.rt:209:9
 returns-2 : tie.Need-returns-2
 returns-2 c = cut-back (c .before .before .before .before .before .before .before .before .before .before .before .before .pre) (c .before .before .before .before .before .before .before .before .before .before .before .before .args .marks .now) (c .before .before .before .before .before .before .before .if1 .taken) (cut-fit (c .before .before .before .before)) (c .before .before .before .number-at .ensures .0) (c .before .before .number-at2 .ensures .0) (c .relinked .ensures)
 
--- src/undo.rt:215:9
 made-fits-requires : tie.Need-made-fits-requires
 made-fits-requires c κs = made-pre (c .before .before .before .before .before .before .pre) (c .before .before .before .before .before .before .args .marks .now) (c .before .if1 .left)
 
--- src/undo.rt:216:9
 same-length-3 : tie.Need-same-length-3
 same-length-3 c = search needs
 
--- src/undo.rt:216:9
 returns-3 : tie.Need-returns-3
 returns-3 c = made-refused (c .before .before .before .before .before .before .before .before .pre) (c .before .before .before .before .before .before .before .before .args .marks .now) (c .before .before .before .if1 .left) (sym (c .before .made-fits .ensures) ∙ not-true (c .before .made-fits .result) (c .if3 .taken))
 
--- src/undo.rt:222:10
 sub-rows : tie.Need-sub-rows
 sub-rows c = made-some (c .before .before .before .before .before .before .before .before .pre) (c .before .before .before .before .before .before .before .before .args .marks .now) (c .before .before .before .if1 .left) (made-fit (c))
 
--- src/undo.rt:222:5
 mul-rows-2 : tie.Need-mul-rows-2
 mul-rows-2 c = search needs
 
--- src/undo.rt:222:5
 slice-write-rows-2 : tie.Need-slice-write-rows-2
 slice-write-rows-2 c = omega (arith, made-some (c .before .before .before .before .before .before .before .before .pre) (c .before .before .before .before .before .before .before .before .args .marks .now) (c .before .before .before .if1 .left) (made-fit (c)), c .before .before .before .before .before .before .before .before .pre .rows, c .before .before .before .before .before .before .before .before .pre .few)
 
--- src/undo.rt:226:16
 sub-t24 : tie.Need-sub-t24
 sub-t24 c = made-some (c .before .before .before .before .before .before .before .before .pre) (c .before .before .before .before .before .before .before .before .args .marks .now) (c .before .before .before .if1 .left) (made-fit (c))
 
--- src/undo.rt:194:1
 same-length-4 : tie.Need-same-length-4
 same-length-4 c = search needs
 
--- src/undo.rt:194:1
 returns-4 : tie.Need-returns-4
 returns-4 c = made-back (c .before .before .before .before .before .before .before .before .pre) (c .before .before .before .before .before .before .before .before .args .marks .now) (c .before .before .before .if1 .left) (made-fit (c))
 

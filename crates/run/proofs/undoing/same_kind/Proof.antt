@@ -1,21 +1,15 @@
 use Rattle.run.proofs.UndoLaws.{kind-leaf, kind-element}
 use mathlib.Core.Path.{sym, _∙_}
 use borrow.Author.Needs.{needs}
-use Rattle.run.proofs.undo.same_kind.Statement.{statement}
-use Rattle.run.proofs.undo.same_kind.Tie as tie
-use Rattle.run.proofs.undo.same_kind.Reads as reads
-use Rattle.run.proofs.undo.same_kind.Lts as lts
-use Rattle.table.proofs.words.kind.Reads as kind-reads
+use Rattle.run.proofs.undoing.same_kind.Statement.{statement}
+use Rattle.run.proofs.undoing.same_kind.Tie as tie
 
--- src/undo.rt:128:8
 kind-requires : tie.Need-kind-requires
 kind-requires c κs = search needs
 
--- src/undo.rt:129:9
 returns : tie.Need-returns
 returns c = kind-leaf (c .before .before .args .w) (c .before .before .args .kind) (sym (c .before .kind .ensures) ∙ c .if1 .taken)
 
--- src/undo.rt:125:1
 returns-2 : tie.Need-returns-2
 returns-2 c = kind-element (c .before .before .args .w) (c .before .before .args .kind) (λ q. c .if1 .left (c .before .kind .ensures ∙ q))
 

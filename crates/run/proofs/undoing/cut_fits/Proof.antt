@@ -10,16 +10,9 @@ use mathlib.Core.Path.{_≡_, sym, _∙_, ap}
 use Prim.Native.Nat.{ℕ, _+_, _-_, _<_, _/_, _%_}
 use native.Mathlib.Omega.{arith}
 use borrow.Author.Needs.{needs}
-use Rattle.run.proofs.undo.cut_fits.Statement.{statement}
-use Rattle.run.proofs.undo.cut_fits.Tie as tie
-use Rattle.run.proofs.undo.cut_fits.Reads as reads
-use Rattle.run.proofs.undo.cut_fits.Lts as lts
-use Rattle.run.proofs.undo.number_at.Reads as number-at-reads
-use Rattle.table.proofs.marks.is_marked.Reads as is-marked-reads
-use Rattle.table.proofs.words.kind.Reads as kind-reads
-use Rattle.table.proofs.words.link.Reads as link-reads
+use Rattle.run.proofs.undoing.cut_fits.Statement.{statement}
+use Rattle.run.proofs.undoing.cut_fits.Tie as tie
 
--- src/undo.rt:172:9
 is-root : (c : tie.Else2) → getD (c .before .before .before .before .before .before .before .before .args .rows .now) (c .before .before .before .before .number-at .result) 0 / 4 % 1024 ≡ 0
 is-root c = sym (c .before .link .ensures) ∙ search (c .if2 .left, needs)
 
@@ -31,67 +24,51 @@ marked-by c =
 number-at-requires : tie.Need-number-at-requires
 number-at-requires c κs = omega (arith, c .before .before .before .pre .whole)
 
--- src/undo.rt:174:9
 returns : tie.Need-returns
 returns c = sym (cut-high (c .before .before .before .before .before .pre) (c .before .before .before .before .before .args .marks .now) (c .before .number-at .result) (c .before .number-at .ensures .0) (c .if1 .taken))
 
--- src/undo.rt:176:20
 mul-link : tie.Need-mul-link
 mul-link c = search needs
 
--- src/undo.rt:176:20
 shared-slice-read-link : tie.Need-shared-slice-read-link
 shared-slice-read-link c = omega (arith, c .before .if1 .left, c .before .before .before .before .before .before .pre .rows, c .before .before .before .before .before .before .pre .few)
 
--- src/undo.rt:176:8
 link-requires : tie.Need-link-requires
 link-requires c κs = search needs
 
--- src/undo.rt:177:9
 returns-2 : tie.Need-returns-2
 returns-2 c = sym (cut-child (c .before .before .before .before .before .before .before .before .pre) (c .before .before .before .before .before .before .before .before .args .marks .now) (c .before .before .before .before .number-at .result) (c .before .before .before .before .number-at .ensures .0) (omega (arith, c .before .before .before .if1 .left)) (λ q. c .if2 .taken (c .before .link .ensures ∙ q)))
 
--- src/undo.rt:179:33
 add-is-marked : tie.Need-add-is-marked
 add-is-marked c = search needs
 
--- src/undo.rt:179:32
 cast-is-marked : tie.Need-cast-is-marked
 cast-is-marked c = search needs
 
--- src/undo.rt:179:8
 is-marked-requires : tie.Need-is-marked-requires
 is-marked-requires c κs = search needs
 
--- src/undo.rt:180:9
 returns-3 : tie.Need-returns-3
 returns-3 c = sym (cut-marked (c .before .before .before .before .before .before .before .before .before .before .pre) (c .before .before .before .before .before .before .before .before .before .before .args .marks .now) (c .before .before .before .before .before .before .number-at .result) (c .before .before .before .before .before .before .number-at .ensures .0) (omega (arith, c .before .before .before .before .before .if1 .left)) (is-root (c .before .before)) (marked-by (c .before) ∙ c .if3 .taken))
 
--- src/undo.rt:182:9
 number-at-requires-2 : tie.Need-number-at-requires-2
 number-at-requires-2 c κs = omega (arith, c .before .before .before .before .before .before .before .before .before .before .pre .whole)
 
--- src/undo.rt:184:9
 returns-4 : tie.Need-returns-4
 returns-4 c = sym (cut-none (c .before .before .before .before .before .before .before .before .before .before .before .before .pre) (c .before .before .before .before .before .before .before .before .before .before .before .before .args .marks .now) (c .before .before .before .before .before .before .before .before .number-at .result) (c .before .before .before .before .before .before .before .before .number-at .ensures .0) (omega (arith, c .before .before .before .before .before .before .before .if1 .left)) (is-root (c .before .before .before .before)) (marked-by (c .before .before .before) ∙ c .before .before .if3 .left) (c .before .number-at2 .result) (c .before .number-at2 .ensures .0) (c .if4 .taken))
 
--- src/undo.rt:187:9
 returns-5 : tie.Need-returns-5
 returns-5 c = sym (cut-order (c .before .before .before .before .before .before .before .before .before .before .before .before .before .pre) (c .before .before .before .before .before .before .before .before .before .before .before .before .before .args .marks .now) (c .before .before .before .before .before .before .before .before .before .number-at .result) (c .before .before .before .before .before .before .before .before .before .number-at .ensures .0) (omega (arith, c .before .before .before .before .before .before .before .before .if1 .left)) (is-root (c .before .before .before .before .before)) (marked-by (c .before .before .before .before) ∙ c .before .before .before .if3 .left) (c .before .before .number-at2 .result) (c .before .before .number-at2 .ensures .0) (c .before .if4 .left) (c .if5 .taken))
 
--- src/undo.rt:189:17
 mul-kind : tie.Need-mul-kind
 mul-kind c = search needs
 
--- src/undo.rt:189:17
 shared-slice-read-kind : tie.Need-shared-slice-read-kind
 shared-slice-read-kind c = omega (arith, c .before .if5 .left, c .before .before .before .before .before .before .before .before .before .if1 .left, c .before .before .before .before .before .before .before .before .before .before .before .before .before .before .pre .rows, c .before .before .before .before .before .before .before .before .before .before .before .before .before .before .pre .few)
 
--- src/undo.rt:189:5
 kind-requires : tie.Need-kind-requires
 kind-requires c κs = search needs
 
--- src/undo.rt:168:1
 returns-6 : tie.Need-returns-6
 returns-6 c = ap (λ (j : ℕ). not (eqb j 2)) (c .kind .ensures) ∙ sym (cut-element (c .before .before .before .before .before .before .before .before .before .before .before .before .before .before .before .pre) (c .before .before .before .before .before .before .before .before .before .before .before .before .before .before .before .args .marks .now) (c .before .before .before .before .before .before .before .before .before .before .before .number-at .result) (c .before .before .before .before .before .before .before .before .before .before .before .number-at .ensures .0) (omega (arith, c .before .before .before .before .before .before .before .before .before .before .if1 .left)) (is-root (c .before .before .before .before .before .before .before)) (marked-by (c .before .before .before .before .before .before) ∙ c .before .before .before .before .before .if3 .left) (c .before .before .before .before .number-at2 .result) (c .before .before .before .before .number-at2 .ensures .0) (c .before .before .before .if4 .left) (omega (arith, c .before .before .if5 .left)))
 

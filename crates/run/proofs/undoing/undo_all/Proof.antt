@@ -4,12 +4,8 @@ use mathlib.Core.Path.{_≡_, refl, sym, _∙_, ap}
 use Prim.Native.Nat.{ℕ, _+_, _-_, _<_, _≤_}
 use native.Mathlib.Omega.{arith}
 use borrow.Author.Needs.{needs}
-use Rattle.run.proofs.undo.undo_all.Statement.{statement}
-use Rattle.run.proofs.undo.undo_all.Tie as tie
-use Rattle.run.proofs.undo.undo_all.Reads as reads
-use Rattle.run.proofs.undo.undo_all.Lts as lts
-use Rattle.run.proofs.undo.place.Reads as place-reads
-use Rattle.run.proofs.undo.undo_record.Reads as undo-record-reads
+use Rattle.run.proofs.undoing.undo_all.Statement.{statement}
+use Rattle.run.proofs.undoing.undo_all.Tie as tie
 
 abbrev Inv-loop : tie.InvT-loop
 Inv-loop rows₀ marks count bytes places records left₀ k₀ rows left k = Backing rows₀ marks left₀ bytes places k₀ rows left k
@@ -17,63 +13,48 @@ Inv-loop rows₀ marks count bytes places records left₀ k₀ rows left k = Bac
 abbrev μ-loop : tie.MeasureT-loop
 μ-loop rows₀ marks count bytes places records left₀ k₀ rows left k = k
 
--- src/undo.rt:243:5
 loop-holds : tie.Need-loop-holds Inv-loop μ-loop
 loop-holds c = backing-start (c .before .before .before .before .pre) (c .before .before .before .before .args .marks .now)
 
--- src/undo.rt:244:9
 sub-k : tie.Need-sub-k Inv-loop μ-loop
 sub-k c = search needs
 
--- src/undo.rt:245:24
 mul-place : tie.Need-mul-place Inv-loop μ-loop
 mul-place c = search needs
 
--- src/undo.rt:245:24
 shared-slice-read-place : tie.Need-shared-slice-read-place Inv-loop μ-loop
 shared-slice-read-place c = omega (arith, c .before .before .loop .inv .left, c .before .before .before .before .before .before .before .pre .places, c .before .before .before .before .before .before .before .pre .records)
 
--- src/undo.rt:245:13
 place-requires : tie.Need-place-requires Inv-loop μ-loop
 place-requires c κs = search needs
 
--- src/undo.rt:246:51
 sub-undo-record : tie.Need-sub-undo-record Inv-loop μ-loop
 sub-undo-record c = backing-at (c .before .before .before .before .before .before .before .before .before .pre) (c .before .before .before .before .before .before .before .before .before .args .marks .now) (c .before .before .before .before .loop .inv) (c .before .before .before .loop-test .taken) (c .before .place .ensures)
 
--- src/undo.rt:246:51
 part-undo-record-start : tie.Need-part-undo-record-start Inv-loop μ-loop
 part-undo-record-start c = backing-at (c .before .before .before .before .before .before .before .before .before .pre) (c .before .before .before .before .before .before .before .before .before .args .marks .now) (c .before .before .before .before .loop .inv) (c .before .before .before .loop-test .taken) (c .before .place .ensures)
 
--- src/undo.rt:246:51
 part-undo-record-end : tie.Need-part-undo-record-end Inv-loop μ-loop
 part-undo-record-end c = search needs
 
--- src/undo.rt:246:13
 undo-record-requires : tie.Need-undo-record-requires Inv-loop μ-loop
 undo-record-requires c κs = backing-record (c .before .before .before .before .before .before .before .before .before .before .pre) (c .before .before .before .before .before .before .before .before .before .before .args .marks .now) (c .before .before .before .before .before .loop .inv) (c .before .before .before .before .loop-test .taken) (c .before .before .place .ensures)
 
--- src/undo.rt:248:13
 same-length : tie.Need-same-length Inv-loop μ-loop
 same-length c = search needs
 
--- src/undo.rt:248:13
 returns : tie.Need-returns Inv-loop μ-loop
 returns c = backing-refused (c .before .before .before .before .before .before .before .before .before .before .before .before .before .before .before .pre) (c .before .before .before .before .before .before .before .before .before .before .before .before .before .before .before .args .marks .now) (c .before .before .before .before .before .before .before .before .before .before .loop .inv) (c .before .before .before .before .before .before .before .before .before .loop-test .taken) (c .before .before .before .before .before .before .before .place .ensures) (c .before .before .before .before .undo-record .ensures) (c .if1 .taken)
 
--- src/undo.rt:243:5
 loop-less : tie.Need-loop-less Inv-loop μ-loop
 loop-less c = search needs
 
--- src/undo.rt:243:5
 loop-again : tie.Need-loop-again Inv-loop μ-loop
 loop-again c = backing-again (c .before .before .before .before .before .before .before .before .before .before .before .before .before .before .before .pre) (c .before .before .before .before .before .before .before .before .before .before .before .before .before .before .before .args .marks .now) (c .before .before .before .before .before .before .before .before .before .before .loop .inv) (c .before .before .before .before .before .before .before .before .before .loop-test .taken) (c .before .before .before .before .before .before .before .place .ensures) (c .before .before .before .before .undo-record .ensures) (search (c .if1 .left, needs)) (c .before .before .before .before .undo-record .kept .0)
 
--- src/undo.rt:230:1
 same-length-2 : tie.Need-same-length-2 Inv-loop μ-loop
 same-length-2 c = search needs
 
--- src/undo.rt:230:1
 returns-2 : tie.Need-returns-2 Inv-loop μ-loop
 returns-2 c = backing-end (c .before .before .before .before .before .before .pre) (c .before .before .before .before .before .before .args .marks .now) (c .before .loop .inv) (omega (arith, c .loop-test .left))
 

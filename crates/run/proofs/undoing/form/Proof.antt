@@ -4,12 +4,8 @@ use mathlib.Core.Path.{_≡_, sym, _∙_, ap}
 use Prim.Native.Nat.{ℕ, _+_, _-_, _<_}
 use native.Mathlib.Omega.{arith}
 use borrow.Author.Needs.{needs}
-use Rattle.run.proofs.undo.form.Statement.{statement}
-use Rattle.run.proofs.undo.form.Tie as tie
-use Rattle.run.proofs.undo.form.Reads as reads
-use Rattle.run.proofs.undo.form.Lts as lts
-use Rattle.run.proofs.undo.form_fault.Reads as form-fault-reads
-use Rattle.run.proofs.undo.size.Reads as size-reads
+use Rattle.run.proofs.undoing.form.Statement.{statement}
+use Rattle.run.proofs.undoing.form.Tie as tie
 
 abbrev Inv-loop : tie.InvT-loop
 Inv-loop bytes places₀ at₀ records₀ places at records = Forming bytes places at records
@@ -17,78 +13,60 @@ Inv-loop bytes places₀ at₀ records₀ places at records = Forming bytes plac
 abbrev μ-loop : tie.MeasureT-loop
 μ-loop bytes places₀ at₀ records₀ places at records = length bytes - at
 
--- src/undo.rt:104:5
 is-fine : (c : tie.Else1 Inv-loop μ-loop) → c .before .form-fault .result ≡ 0
 is-fine c = search (c .if1 .left, needs)
 
 loop-holds : tie.Need-loop-holds Inv-loop μ-loop
 loop-holds c = forming-start (c .before .before .pre)
 
--- src/undo.rt:105:33
 sub-form-fault : tie.Need-sub-form-fault Inv-loop μ-loop
 sub-form-fault c = search needs
 
--- src/undo.rt:105:33
 part-form-fault-start : tie.Need-part-form-fault-start Inv-loop μ-loop
 part-form-fault-start c = search needs
 
--- src/undo.rt:105:33
 part-form-fault-end : tie.Need-part-form-fault-end Inv-loop μ-loop
 part-form-fault-end c = search needs
 
--- src/undo.rt:105:13
 form-fault-requires : tie.Need-form-fault-requires Inv-loop μ-loop
 form-fault-requires c κs = simp (length-take, length-drop) (omega arith)
 
--- src/undo.rt:107:13
 same-length : tie.Need-same-length Inv-loop μ-loop
 same-length c = search needs
 
--- src/undo.rt:107:13
 returns : tie.Need-returns Inv-loop μ-loop
 returns c = forming-refused (c .before .before .before .before .loop .inv) (c .before .before .before .loop-test .taken) (c .before .form-fault .ensures) (c .if1 .taken)
 
--- src/undo.rt:113:27
 cast-places : tie.Need-cast-places Inv-loop μ-loop
 cast-places c = omega (arith, c .before .before .before .before .loop .inv .high, c .before .before .before .before .loop .inv .few)
 
--- src/undo.rt:113:9
 mul-places : tie.Need-mul-places Inv-loop μ-loop
 mul-places c = omega (arith, c .before .before .before .before .loop .inv .few)
 
--- src/undo.rt:113:9
 slice-write-places : tie.Need-slice-write-places Inv-loop μ-loop
 slice-write-places c = omega (arith, c .before .before .before .before .loop .inv .size, forming-few (c .before .before .before .before .loop .inv) (c .before .before .before .loop-test .taken) (c .before .form-fault .ensures) (is-fine (c)))
 
--- src/undo.rt:114:9
 add-records : tie.Need-add-records Inv-loop μ-loop
 add-records c = omega (arith, c .before .before .before .before .loop .inv .few)
 
--- src/undo.rt:115:20
 shared-slice-read-size : tie.Need-shared-slice-read-size Inv-loop μ-loop
 shared-slice-read-size c = search needs
 
--- src/undo.rt:115:15
 size-requires : tie.Need-size-requires Inv-loop μ-loop
 size-requires c κs = search needs
 
--- src/undo.rt:115:9
 add-at : tie.Need-add-at Inv-loop μ-loop
 add-at c = omega (arith, c .before .before .before .before .before .before .loop .inv .high, c .before .before .before .before .before .before .loop .inv .few, c .size .ensures .1 .0)
 
--- src/undo.rt:104:5
 loop-less : tie.Need-loop-less Inv-loop μ-loop
 loop-less c = omega (arith, c .before .before .before .before .before .loop-test .taken, c .size .ensures .1 .1)
 
--- src/undo.rt:104:5
 loop-again : tie.Need-loop-again Inv-loop μ-loop
 loop-again c = forming-again (c .before .before .before .before .before .before .loop .inv) (c .before .before .before .before .before .loop-test .taken) (c .before .before .before .form-fault .ensures) (is-fine (c .before .before)) (ap (λ (k : ℕ). c .before .before .before .before .before .before .loop .at + k) (c .size .ensures .0)) (omega (arith, c .size .ensures .0, c .size .ensures .1 .1)) (omega (arith, c .size .ensures .0, c .size .ensures .1 .0))
 
--- src/undo.rt:98:1
 same-length-2 : tie.Need-same-length-2 Inv-loop μ-loop
 same-length-2 c = search needs
 
--- src/undo.rt:98:1
 returns-2 : tie.Need-returns-2 Inv-loop μ-loop
 returns-2 c = forming-end (c .before .loop .inv) (omega (arith, c .loop-test .left))
 

@@ -12,19 +12,9 @@ use mathlib.Core.Path.{_≡_, sym, _∙_, ap}
 use Prim.Native.Nat.{ℕ, _+_, _-_, _<_, _/_, _%_}
 use native.Mathlib.Omega.{arith}
 use borrow.Author.Needs.{needs}
-use Rattle.run.proofs.undo.made_fits.Statement.{statement}
-use Rattle.run.proofs.undo.made_fits.Tie as tie
-use Rattle.run.proofs.undo.made_fits.Reads as reads
-use Rattle.run.proofs.undo.made_fits.Lts as lts
-use Rattle.run.proofs.undo.number_at.Reads as number-at-reads
-use Rattle.run.proofs.undo.same_kind.Reads as same-kind-reads
-use Rattle.run.proofs.undo.same_parent.Reads as same-parent-reads
-use Rattle.run.proofs.undo.wide.Reads as wide-reads
-use Rattle.table.proofs.marks.is_marked.Reads as is-marked-reads
-use Rattle.table.proofs.words.link.Reads as link-reads
-use Rattle.table.proofs.words.tag.Reads as tag-reads
+use Rattle.run.proofs.undoing.made_fits.Statement.{statement}
+use Rattle.run.proofs.undoing.made_fits.Tie as tie
 
--- src/undo.rt:150:9
 is-last : (c : tie.Else1) → c .before .number-at .result + 1 ≡ c .before .before .before .before .before .args .count
 is-last c = search (c .if1 .left, needs)
 
@@ -36,79 +26,60 @@ marked-by c =
 number-at-requires : tie.Need-number-at-requires
 number-at-requires c κs = omega (arith, c .before .before .before .pre .whole)
 
--- src/undo.rt:151:8
 add-if1 : tie.Need-add-if1
 add-if1 c = search needs
 
--- src/undo.rt:152:9
 returns : tie.Need-returns
 returns c = sym (made-last (c .before .before .before .before .before .pre) (c .before .before .before .before .before .args .marks .now) (c .before .number-at .result) (c .before .number-at .ensures .0) (c .if1 .taken))
 
--- src/undo.rt:154:33
 add-is-marked : tie.Need-add-is-marked
 add-is-marked c = search needs
 
--- src/undo.rt:154:32
 cast-is-marked : tie.Need-cast-is-marked
 cast-is-marked c = search needs
 
--- src/undo.rt:154:8
 is-marked-requires : tie.Need-is-marked-requires
 is-marked-requires c κs = search needs
 
--- src/undo.rt:155:9
 returns-2 : tie.Need-returns-2
 returns-2 c = sym (made-marked (c .before .before .before .before .before .before .before .pre) (c .before .before .before .before .before .before .before .args .marks .now) (c .before .before .before .number-at .result) (c .before .before .before .number-at .ensures .0) (is-last (c .before .before)) (marked-by (c .before) ∙ c .if2 .taken))
 
--- src/undo.rt:157:13
 mul-w : tie.Need-mul-w
 mul-w c = search needs
 
--- src/undo.rt:157:13
 shared-slice-read-w : tie.Need-shared-slice-read-w
 shared-slice-read-w c = search needs
 
--- src/undo.rt:158:22
 shared-slice-read-same-kind : tie.Need-shared-slice-read-same-kind
 shared-slice-read-same-kind c = search needs
 
--- src/undo.rt:158:9
 same-kind-requires : tie.Need-same-kind-requires
 same-kind-requires c κs = search needs
 
--- src/undo.rt:159:9
 returns-3 : tie.Need-returns-3
 returns-3 c = sym (made-kind (c .before .before .before .before .before .before .before .before .before .before .before .pre) (c .before .before .before .before .before .before .before .before .before .before .before .args .marks .now) (c .before .before .before .before .before .before .before .number-at .result) (c .before .before .before .before .before .before .before .number-at .ensures .0) (is-last (c .before .before .before .before .before .before)) (marked-by (c .before .before .before .before .before) ∙ c .before .before .before .before .if2 .left) (sym (c .before .same-kind .ensures) ∙ not-true (c .before .same-kind .result) (c .if3 .taken)))
 
--- src/undo.rt:161:8
 tag-requires : tie.Need-tag-requires
 tag-requires c κs = search needs
 
--- src/undo.rt:161:30
 shared-slice-read-wide : tie.Need-shared-slice-read-wide
 shared-slice-read-wide c = search needs
 
--- src/undo.rt:161:25
 wide-requires : tie.Need-wide-requires
 wide-requires c κs = search needs
 
--- src/undo.rt:162:9
 returns-4 : tie.Need-returns-4
 returns-4 c = sym (made-tag (c .before .before .before .before .before .before .before .before .before .before .before .before .before .before .before .pre) (c .before .before .before .before .before .before .before .before .before .before .before .before .before .before .before .args .marks .now) (c .before .before .before .before .before .before .before .before .before .before .before .number-at .result) (c .before .before .before .before .before .before .before .before .before .before .before .number-at .ensures .0) (is-last (c .before .before .before .before .before .before .before .before .before .before)) (marked-by (c .before .before .before .before .before .before .before .before .before) ∙ c .before .before .before .before .before .before .before .before .if2 .left) (sym (c .before .before .before .before .before .same-kind .ensures) ∙ not-false (c .before .before .before .before .before .same-kind .result) (c .before .before .before .before .if3 .left)) (λ q. c .if4 .taken (c .before .before .before .tag .ensures ∙ q ∙ sym (c .before .wide .ensures))))
 
--- src/undo.rt:164:17
 link-requires : tie.Need-link-requires
 link-requires c κs = search needs
 
--- src/undo.rt:164:33
 number-at-requires-2 : tie.Need-number-at-requires-2
 number-at-requires-2 c κs = omega (arith, c .before .before .before .before .before .before .before .before .before .before .before .before .before .before .before .before .pre .whole)
 
--- src/undo.rt:164:5
 same-parent-requires : tie.Need-same-parent-requires
 same-parent-requires c κs = search needs
 
--- src/undo.rt:146:1
 returns-5 : tie.Need-returns-5
 returns-5 c = c .same-parent .ensures ∙ ap (λ (j : ℕ). sameParent (linked j) (parentIn (c .before .number-at2 .result))) (c .before .before .link .ensures) ∙ ap (λ (j : ℕ). sameParent (linked (getD (c .before .before .before .before .before .before .before .before .before .before .before .before .before .before .before .before .before .before .args .rows .now) (c .before .before .before .before .before .before .before .before .before .before .before .before .before .before .number-at .result) 0 / 4 % 1024)) (parentIn j)) (c .before .number-at2 .ensures .0) ∙ sym (made-parent (c .before .before .before .before .before .before .before .before .before .before .before .before .before .before .before .before .before .before .pre) (c .before .before .before .before .before .before .before .before .before .before .before .before .before .before .before .before .before .before .args .marks .now) (c .before .before .before .before .before .before .before .before .before .before .before .before .before .before .number-at .result) (c .before .before .before .before .before .before .before .before .before .before .before .before .before .before .number-at .ensures .0) (is-last (c .before .before .before .before .before .before .before .before .before .before .before .before .before)) (marked-by (c .before .before .before .before .before .before .before .before .before .before .before .before) ∙ c .before .before .before .before .before .before .before .before .before .before .before .if2 .left) (sym (c .before .before .before .before .before .before .before .before .same-kind .ensures) ∙ not-false (c .before .before .before .before .before .before .before .before .same-kind .result) (c .before .before .before .before .before .before .before .if3 .left)) (sym (c .before .before .before .before .before .before .tag .ensures) ∙ search (c .before .before .before .if4 .left, needs) ∙ c .before .before .before .before .wide .ensures))
 
