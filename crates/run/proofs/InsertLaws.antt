@@ -75,10 +75,12 @@ take-map f zero l = refl
 take-map f (suc n) [] = refl
 take-map f (suc n) (x ∷ l) = ap (λ (t : List _). f x ∷ t) (take-map f n l)
 
+pub rows-take : (old n : ℕ) (ws : List ℕ) → old ≤ n → take old (rowsOf n ws) ≡ rowsOf old ws
+rows-take old n ws l = take-map rowOf old (take n ws) ∙ ap (map rowOf) (take-take old n ws l)
+
 pub before-decode : (old : ℕ) (ws ms h : List ℕ) (p : Progress) → old ≤ p .count → before old (stateOf ws ms h p) ≡ decodeParts old ws ms
 before-decode old ws ms h p l =
-    ap (λ (rs : List model.Row). model.table rs (map linked ms))
-    (take-map rowOf old (take (p .count) ws) ∙ ap (map rowOf) (take-take old (p .count) ws l))
+    ap (λ (rs : List model.Row). model.table rs (map linked ms)) (rows-take old (p .count) ws l)
 
 -- a row is the same in the table and in the table before
 module _ (ws ms : List ℕ) (old n : ℕ) (l : old ≤ n) (w : n ≤ length ws) where

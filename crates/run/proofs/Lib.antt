@@ -9,3 +9,6 @@ pub mod UpdateLaws
 pub mod InsertLawsScan
 pub mod InsertLaws
 pub mod InsertLawsItems
+pub mod UndoLaws
+pub mod UndoLawsBack
+pub mod UndoLawsCall

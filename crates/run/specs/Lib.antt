@@ -3,3 +3,4 @@ pub mod Values
 pub mod State
 pub mod Updating
 pub mod Inserting
+pub mod Undoing

@@ -10,11 +10,11 @@ ghost use Rattle.table.specs.Writing.{over};
 ghost use Rattle.run.specs.Updating.{madeKind, sixBytes, fiveBytes};
 use table::words;
 
-const ELEMENT: u8 = 0x41;
+pub const ELEMENT: u8 = 0x41;
 
-const LEAF: u8 = 0x42;
+pub const LEAF: u8 = 0x42;
 
-const CUT: u8 = 0x43;
+pub const CUT: u8 = 0x43;
 
 const NONE: usize = 0xFFFF;
 

@@ -1,7 +1,7 @@
 // Insert: copies of rows with all their descendants, as the table was before, under a target.
 ghost use mathlib.Core.Path.{_≡_};
 ghost use mathlib.Core.List.{[]};
-ghost use Prim.Native.Nat.{_+_, _*_, _/_, _%_, _≤_, _<_};
+ghost use Prim.Native.Nat.{_≤_, _<_};
 ghost use lib.ListN.{length};
 ghost use Rattle.model.specs.Run.{inserted};
 ghost use Rattle.run.specs.State.{Updated};
@@ -20,14 +20,6 @@ fn index(row: u16) -> usize
     ensures { λ r. ⌜ r < 65536 ⌝ }
 {
     row as usize
-}
-
-// A row's word with another link to its parent.
-fn relinked(w: u32, link: usize) -> u32
-    requires { ⌜ link < 1024 ⌝ }
-    ensures { λ r. ⌜ r ≡ w % 4 + 4 * link + 4096 * (w / 4096) ⌝ }
-{
-    w % 4 + 4 * (link as u32) + 4096 * (w / 4096)
 }
 
 // The link to the copy of the parent with this link, 0 where it has none since top.
@@ -67,7 +59,7 @@ fn copy_next(
     }
     let count = p.count;
     map[j] = count as u16;
-    update::new_row(rows, history, p, relinked(w, link))
+    update::new_row(rows, history, p, update::relinked(w, link))
 }
 
 // The rows past top and below old, each under its parent's copy.
@@ -109,7 +101,7 @@ fn copy_item(
 {
     let count = p.count;
     map[top] = count as u16;
-    let w = relinked(rows[top], target + 1);
+    let w = update::relinked(rows[top], target + 1);
     let next = update::new_row(rows, history, p, w);
     if next.number != 0 {
         return next;

@@ -1,7 +1,7 @@
 // The updates of single rows: a new row, and delete.
 ghost use mathlib.Core.Path.{_≡_};
 ghost use mathlib.Core.List.{[], _∷_};
-ghost use Prim.Native.Nat.{_+_, _*_, _-_, _/_, _%_};
+ghost use Prim.Native.Nat.{_+_, _*_, _/_, _%_, _<_};
 ghost use Rattle.model.specs.Run.{newRow, loose, cutAll};
 ghost use Rattle.model.specs.Table.{withParent};
 ghost use mathlib.Core.Bool.{true, false};
@@ -74,6 +74,14 @@ fn index(row: u16) -> usize
     ensures { λ r. ⌜ r ≡ row ⌝ }
 {
     row as usize
+}
+
+// A row's word with another link to its parent.
+pub fn relinked(w: u32, link: usize) -> u32
+    requires { ⌜ link < 1024 ⌝ }
+    ensures { λ r. ⌜ r ≡ w % 4 + 4 * link + 4096 * (w / 4096) ⌝ }
+{
+    w % 4 + 4 * (link as u32) + 4096 * (w / 4096)
 }
 
 // A row's word without its parent.

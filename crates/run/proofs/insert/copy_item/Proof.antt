@@ -6,6 +6,11 @@ use native.Mathlib.Omega.{arith}
 use borrow.Author.Needs.{needs}
 use Rattle.run.proofs.insert.copy_item.Statement.{statement}
 use Rattle.run.proofs.insert.copy_item.Tie as tie
+use Rattle.run.proofs.insert.copy_item.Reads as reads
+use Rattle.run.proofs.insert.copy_item.Lts as lts
+use Rattle.run.proofs.insert.copy_rest.Reads as copy-rest-reads
+use Rattle.run.proofs.update.new_row.Reads as new-row-reads
+use Rattle.run.proofs.update.relinked.Reads as relinked-reads
 
 cast-map : tie.Need-cast-map
 cast-map c = omega (arith, c .before .before .before .pre .held .few)

@@ -8,6 +8,12 @@ use native.Mathlib.Omega.{arith}
 use borrow.Author.Needs.{needs}
 use Rattle.run.proofs.insert.copy_next.Statement.{statement}
 use Rattle.run.proofs.insert.copy_next.Tie as tie
+use Rattle.run.proofs.insert.copy_next.Reads as reads
+use Rattle.run.proofs.insert.copy_next.Lts as lts
+use Rattle.run.proofs.insert.copy_link.Reads as copy-link-reads
+use Rattle.run.proofs.update.new_row.Reads as new-row-reads
+use Rattle.run.proofs.update.relinked.Reads as relinked-reads
+use Rattle.table.proofs.words.link.Reads as link-reads
 
 is-link : (c : tie.After-copy-link) → c .copy-link .result ≡ nextLink (c .before .before .before .before .before .before .before .args .rows .now) (c .before .before .before .before .before .before .before .args .map .now) (c .before .before .before .before .before .before .before .args .top) (c .before .before .before .before .before .before .before .args .j)
 is-link c = c .copy-link .ensures ∙ ap (copyLink (c .before .before .before .before .before .before .before .args .map .now) (c .before .before .before .before .before .before .before .args .top)) (c .before .link .ensures)
