@@ -6,6 +6,7 @@ use lib.Dec.{ltb, eqb}
 use lib.ListN.{length}
 use Rattle.model.specs.Base.{pick}
 use Rattle.table.specs.Calls as library
+use Rattle.run.specs.Undoing.{planUndone}
 use Rattle.script.specs.Reading.{scriptRead}
 use Rattle.table.specs.declared.Table.{Table}
 use Rattle.table.specs.declared.TableResult.{TableResult}
@@ -46,6 +47,23 @@ sweepCode p o = pick (ltb (length o) 2080) shortCode (readCode (library.planRead
 
 abbrev pub sweepOut : (plan out : List ℕ) → List ℕ
 sweepOut p o = pick (ltb (length o) 2080) o (readOut (library.planRead p) (library.planOut (sweptPlan p) o) o)
+
+-- READ, TAKE A RUN BACK BY ITS HISTORY AND WRITE; a refusal of the history is which 2
+abbrev pub undonePlan : (plan history : List ℕ) → TableResult
+undonePlan p h = planUndone (library.planRead p .table) h
+
+abbrev pub backCode : TableResult → (out : List ℕ) → ℕ
+backCode r o =
+    pick (eqb (r .fault .number) 0) (writtenCode (library.planWritten (r .table) o)) (codeOf (r .fault .number) 2 (r .fault .place))
+
+abbrev pub backOut : TableResult → (out : List ℕ) → List ℕ
+backOut r o = pick (eqb (r .fault .number) 0) (library.planOut (r .table) o) o
+
+abbrev pub undoCode : (plan history out : List ℕ) → ℕ
+undoCode p h o = pick (ltb (length o) 2080) shortCode (readCode (library.planRead p) (backCode (undonePlan p h) o))
+
+abbrev pub undoOut : (plan history out : List ℕ) → List ℕ
+undoOut p h o = pick (ltb (length o) 2080) o (readOut (library.planRead p) (backOut (undonePlan p h) o) o)
 
 -- A TABLE GIVEN as 512 row words and 8 marks
 abbrev pub isGiven : (rows marks : List ℕ) → Bool

@@ -1,7 +1,7 @@
 // The C interface: every slice is a pointer and a length, nothing is kept. Each call answers number + 256 × which + 65,536 × place,
-// number 0 where nothing is refused; which says whose refusal it is: 0 a lent area's, 1 the plan's, 2 the script's.
+// number 0 where nothing is refused; which says whose refusal it is: 0 a lent area's, 1 the plan's, 2 the script's or the history's.
 ghost use mathlib.Core.Path.{_≡_};
-ghost use Rattle.ffi.specs.Calls.{codeOf, planCode, planOut, sweepCode, sweepOut, writeCode, writeOut, sweptCode, sweptRows, sweptMarks, scriptCode};
+ghost use Rattle.ffi.specs.Calls.{codeOf, planCode, planOut, sweepCode, sweepOut, writeCode, writeOut, sweptCode, sweptRows, sweptMarks, scriptCode, undoCode, undoOut};
 
 mod copy;
 
@@ -61,6 +61,33 @@ pub extern "C" fn yegnabit_sweep(plan: &[u8], out: &mut [u8]) -> u64
     let t = read.table;
     let swept = table::sweep_table(t);
     let u = swept.table;
+    let written = table::write_plan(u, out);
+    code(written.fault.number, AREA, written.bytes)
+}
+
+// Reads a plan, takes a run back by its history, and writes it to out.
+#[no_mangle]
+pub extern "C" fn yegnabit_undo(plan: &[u8], history: &[u8], out: &mut [u8]) -> u64
+    ensures { λ r. ⌜ r ≡ undoCode (now (plan .entry)) (now (history .entry)) (now (out .entry)) ⌝ }
+    ensures { λ r. ⌜ now (out .exit) ≡ undoOut (now (plan .entry)) (now (history .entry)) (now (out .entry)) ⌝ }
+{
+    if out.len() < ROOM {
+        return code(Fault::LENT, AREA, 0);
+    }
+    let read = table::read_plan(plan);
+    let number = read.fault.number;
+    let place = read.fault.place;
+    if number != 0 {
+        return code(number, PLAN, place);
+    }
+    let t = read.table;
+    let back = run::undo(t, history);
+    let refused = back.fault.number;
+    let at = back.fault.place;
+    if refused != 0 {
+        return code(refused, SCRIPT, at);
+    }
+    let u = back.table;
     let written = table::write_plan(u, out);
     code(written.fault.number, AREA, written.bytes)
 }
