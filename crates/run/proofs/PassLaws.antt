@@ -21,7 +21,7 @@ use Rattle.table.proofs.ReadLaws.{isThe-linked}
 use Rattle.run.specs.Stepping.{bit, Flagged, counted, descended, climbed, RowsHeld, PassPre, Reached, Descending, Climbing, anyFrom, upTo, childCounts}
 use Rattle.run.proofs.ReachLaws.{downTo, down-parent, up-children}
 
-not-zero : (t : Bool) → not (eqb (bit t) 0) ≡ t
+pub not-zero : (t : Bool) → not (eqb (bit t) 0) ≡ t
 not-zero true = refl
 not-zero false = refl
 

@@ -1,6 +1,6 @@
 -- What a step reaches, row by row: going down from a row's parent, going up from a row's children.
 use mathlib.Core.Path.{_≡_, refl, ap, sym, _∙_, subst}
-use mathlib.Core.Bool.{Bool, true, false, _&&_, _||_, not}
+use mathlib.Core.Bool.{Bool, true, false, _&&_, _||_, not, or-false}
 use mathlib.Core.List.{List, [], _∷_}
 use mathlib.Core.Option.{Option, none, some}
 use mathlib.Core.Logic.{_⊎_, inl, inr}
@@ -89,10 +89,6 @@ among-any p (x ∷ v) = ap (λ (t : Bool). eqb p x || t) (among-any p v)
 any-isThe : (q : Option ℕ) (v : List ℕ) → any (λ (i : ℕ). isThe i q) v ≡ through (λ (p : ℕ). among p v) q
 any-isThe none v = any-none v
 any-isThe (some p) v = among-any p v
-
-or-false : (t : Bool) → (t || false) ≡ t
-or-false true = refl
-or-false false = refl
 
 through-or : (f g : ℕ → Bool) (q : Option ℕ) → (through f q || through g q) ≡ through (λ (p : ℕ). f p || g p) q
 through-or f g none = refl

@@ -1,6 +1,6 @@
 -- A step's tests and flags, by the ways out of the code that makes them.
 use mathlib.Core.Path.{_≡_, refl, ap, sym, _∙_, subst}
-use mathlib.Core.Bool.{Bool, true, false, _&&_, _||_, not}
+use mathlib.Core.Bool.{Bool, true, false, _&&_, _||_, not, or-false, or-true, or-assoc}
 use mathlib.Core.List.{List, [], _∷_, _++_}
 use mathlib.Core.Option.{Option, none, some}
 use Prim.Native.Nat.{ℕ, zero, suc, _+_, _-_, _/_, _%_, _≤_, _<_}
@@ -48,19 +48,7 @@ module _ (w t n : ℕ) where
 among-append : (k : ℕ) (v w : List ℕ) → among k (v ++ w) ≡ (among k v || among k w)
 unfolding among
 among-append k [] w = refl
-among-append k (x ∷ v) w = ap (λ (t : Bool). eqb k x || t) (among-append k v w) ∙ assoc (eqb k x) (among k v) (among k w)
-  where
-    assoc : (a b c : Bool) → (a || (b || c)) ≡ (a || b || c)
-    assoc true b c = refl
-    assoc false b c = refl
-
-or-false : (t : Bool) → (t || false) ≡ t
-or-false true = refl
-or-false false = refl
-
-or-true : (t : Bool) → (t || true) ≡ true
-or-true true = refl
-or-true false = refl
+among-append k (x ∷ v) w = ap (λ (t : Bool). eqb k x || t) (among-append k v w) ∙ sym (or-assoc (eqb k x) (among k v) (among k w))
 
 among-next : (v : List ℕ) (d k : ℕ) → d < length v → among k (take (d + 1) v) ≡ (among k (take d v) || eqb k (getD v d 0))
 unfolding among

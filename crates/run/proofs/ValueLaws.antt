@@ -18,6 +18,7 @@ use Rattle.table.specs.Words.{rowOf, decodeParts}
 use Rattle.table.proofs.WordLaws.{count-decode, rowAt-decode}
 use Rattle.run.specs.Stepping.{bit, Flagged, Reached}
 use Rattle.run.specs.Values.{Appended, kept, keptRows}
+use Rattle.run.proofs.PassLaws.{not-zero}
 
 -- GROWN
 pub appended-none : (w : List ℕ) (from : ℕ) → Appended [] w from w from
@@ -87,10 +88,6 @@ step-rows ws n axis test name fs rs v ms within f s =
     sym (step-collect (decodeParts n ws ms) (stepBy axis test name) v 0 n) ∙
     ap (λ (k : ℕ). stepFrom (decodeParts n ws ms) (stepBy axis test name) v 0 k) (sym (count-decode n ws ms within))
   where
-    not-zero : (t : Bool) → not (eqb (bit t) 0) ≡ t
-    not-zero true = refl
-    not-zero false = refl
-
     here : (j : ℕ) → j < n → kept ws j (getD rs (j + 1) 0) test name ≡ isReached (decodeParts n ws ms) (stepBy axis test name) v j
     here j h =
         ap (λ (a : ℕ). not (eqb a 0) && admits (stepBy 0 test name) (letterOf (rowOf (getD ws j 0)))) (s .flags ms v f j h) ∙

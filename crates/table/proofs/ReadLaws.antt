@@ -12,10 +12,11 @@ use lib.Seq.{drop-cons, take-all, drop-drop}
 use native.Mathlib.Numerals.{add-one}
 use borrow.Author.Tests.{lt-ltb, le-ltb, le-leb, lt-leb, eq-eqb, ne-eqb, eqb-true, eqb-false}
 use Rattle.model.specs.Base.{pick, isIn, any}
-use Rattle.model.specs.Refusal.{Fault, fault, fine}
+use Rattle.model.specs.Refusal.{Fault, fault, fine, isFine}
 use Rattle.model.specs.Table as model
 use Rattle.model.specs.Stored.{wordAt, rowIn, parentIn, rowFault, markFault, rowLinks, markLinks, lastMarked, recordFault, recorded, readFrom, readPlan, bad, got}
 use Rattle.model.proofs.BoolLaws.{by-cases, pick-true, pick-false}
+use Rattle.model.proofs.StoredLaws.{readFrom-end, readFrom-fine, readFrom-refused}
 use Rattle.table.specs.Words.{linkOf, linked, wordOf, rowOf, rowsOf, wordsOf, decodeParts, encode}
 use Rattle.table.specs.Reading.{lastOf, RowPre, RowPost, MarkPre, MarkPost, RecordPre, RecordPost, Recorded, Held, ReadPre, ReadPost, faultAt}
 use Rattle.table.specs.Calls.{readBy, planRead}
@@ -342,20 +343,15 @@ module _ (s ws ms : List ℕ) (n last : ℕ) (pre : RecordPre s ws ms n last) (w
 
 -- READING: one turn, and the end
 module _ (k : ℕ) (x : model.Table) (i : ℕ) (b : List ℕ) where
-  pub read-fine : 0 < length b → recordFault x i b ≡ fine → readFrom (suc k) x i b ≡ readFrom k (recorded x b) (i + 4) (drop 4 b)
-  unfolding readFrom
-  read-fine h e = let z : length b ≡ 0 → ⊥ = λ q. omega arith in rw (ne-eqb (length b) 0 z, e)
+  read-fine : 0 < length b → recordFault x i b ≡ fine → readFrom (suc k) x i b ≡ readFrom k (recorded x b) (i + 4) (drop 4 b)
+  read-fine h e = readFrom-fine k x i b h (ap isFine e)
 
-  pub read-refused : (n : ℕ) → 0 < length b → recordFault x i b ≡ fault (suc n) i → readFrom (suc k) x i b ≡ bad (fault (suc n) i)
-  unfolding readFrom
+  read-refused : (n : ℕ) → 0 < length b → recordFault x i b ≡ fault (suc n) i → readFrom (suc k) x i b ≡ bad (fault (suc n) i)
   read-refused n h e =
-      let z : length b ≡ 0 → ⊥ = λ q. omega arith in
-      let y : suc n ≡ 0 → ⊥ = λ q. omega arith in
-      rw (ne-eqb (length b) 0 z, e, ne-eqb (suc n) 0 y)
+      let y : suc n ≡ 0 → ⊥ = λ q. omega arith in readFrom-refused k x i b h (ap isFine e ∙ ne-eqb (suc n) 0 y) ∙ ap bad e
 
-pub read-end : (k : ℕ) (x : model.Table) (i : ℕ) → readFrom (suc k) x i [] ≡ got x
-unfolding readFrom
-read-end k x i = refl
+read-end : (k : ℕ) (x : model.Table) (i : ℕ) → readFrom (suc k) x i [] ≡ got x
+read-end k x i = readFrom-end (suc k) x i [] refl
 
 -- reading goes on from what is held, at a place
 module _ (b ws ms : List ℕ) (n at : ℕ) (h : at < length b)

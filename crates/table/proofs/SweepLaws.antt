@@ -1,6 +1,6 @@
 -- The sweep over words, one mark and one row at a time, is the model's sweep.
 use mathlib.Core.Path.{_≡_, refl, ap, sym, _∙_, subst}
-use mathlib.Core.Bool.{Bool, true, false, _&&_, _||_, not}
+use mathlib.Core.Bool.{Bool, true, false, _&&_, _||_, not, or-false, or-true, or-assoc}
 use mathlib.Core.List.{List, [], _∷_, _++_, map, append-nil}
 use mathlib.Core.Option.{Option, none, some}
 use Prim.Native.Nat.{ℕ, zero, suc, _+_, _*_, _-_, _/_, _%_, _≤_, _<_}
@@ -44,11 +44,7 @@ flagged-none ns ms e =
 any-append : (f : Option ℕ → Bool) (xs ys : List (Option ℕ)) → any f (xs ++ ys) ≡ (any f xs || any f ys)
 unfolding any
 any-append f [] ys = refl
-any-append f (x ∷ xs) ys = ap (λ (t : Bool). f x || t) (any-append f xs ys) ∙ assoc (f x) (any f xs) (any f ys)
-  where
-    assoc : (a b c : Bool) → (a || (b || c)) ≡ (a || b || c)
-    assoc true b c = refl
-    assoc false b c = refl
+any-append f (x ∷ xs) ys = ap (λ (t : Bool). f x || t) (any-append f xs ys) ∙ sym (or-assoc (f x) (any f xs) (any f ys))
 
 marked-next : (ms : List ℕ) (d k : ℕ) → d < length ms →
     any (model.isThe k) (map linked (take (d + 1) ms)) ≡ (any (model.isThe k) (map linked (take d ms)) || eqb (getD ms d 0) (k + 1))
@@ -59,10 +55,6 @@ marked-next ms d k h =
     any-append (model.isThe k) (map linked (take d ms)) (linked (getD ms d 0) ∷ []) ∙
     ap (λ (t : Bool). any (model.isThe k) (map linked (take d ms)) || t) (last ∙ known)
   where
-    or-false : (t : Bool) → (t || false) ≡ t
-    or-false true = refl
-    or-false false = refl
-
     last : (model.isThe k (linked (getD ms d 0)) || false) ≡ model.isThe k (linked (getD ms d 0))
     last = or-false (model.isThe k (linked (getD ms d 0)))
 
@@ -70,14 +62,6 @@ marked-next ms d k h =
     known =
         let e : k ≡ k + 1 - 1 = omega arith in
         ap (λ (j : ℕ). model.isThe j (linked (getD ms d 0))) e ∙ isThe-linked (k + 1) (getD ms d 0) (omega arith)
-
-or-false : (t : Bool) → (t || false) ≡ t
-or-false true = refl
-or-false false = refl
-
-or-true : (t : Bool) → (t || true) ≡ true
-or-true true = refl
-or-true false = refl
 
 -- a row's flag after one mark more
 flag-other : (ms : List ℕ) (d k : ℕ) → d < length ms → (getD ms d 0 ≡ k + 1 → ⊥) → flagOf (take d ms) k ≡ flagOf (take (d + 1) ms) k
