@@ -49,3 +49,4 @@ pub mod Beside
 pub mod Matching
 pub mod Orders
 pub mod FreeCommutes
+pub mod Document03Script

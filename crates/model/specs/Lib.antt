@@ -13,3 +13,7 @@ pub mod Paths
 pub mod Meeting
 pub mod Promise
 pub mod Cases
+pub mod Document03Script
+pub mod Document03Run
+pub mod Document03Paths
+pub mod Document03
