@@ -50,3 +50,6 @@ pub mod Matching
 pub mod Orders
 pub mod FreeCommutes
 pub mod Document03Script
+pub mod Document03Run
+pub mod Document03Paths
+pub mod Document03
