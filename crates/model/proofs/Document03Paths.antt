@@ -203,8 +203,13 @@ module _ (f : P.Path → Bool) (g : Path → Bool) (same : (p : P.Path) → Test
   unfolding any P.prefixed prefixed
   any-prefixed nothing = refl
   any-prefixed (also {p} {q} {ps} {qs} e t h) =
-      rw (any-append f (P.prefixesOf (p .from) [] (p .steps)) (P.prefixed ps), any-append g (prefixesOf q) (prefixed qs), any-prefixed h,
-      prefixes-any p (rw e t), e)
+      rw (
+        any-append f (P.prefixesOf (p .from) [] (p .steps)) (P.prefixed ps),
+        any-append g (prefixesOf q) (prefixed qs),
+        any-prefixed h,
+        prefixes-any p (rw e t),
+        e,
+      )
 
 -- ROWS ON a path
 rows-along : (x : Table) (h : Places) (p : Path) (ss : List Step) → T.alongFrom x (rowsOn x h p) ss ≡ rowsOn x h (along p ss)

@@ -52,4 +52,6 @@ pub mod FreeCommutes
 pub mod Document03Script
 pub mod Document03Run
 pub mod Document03Paths
+pub mod Document03Search
+pub mod Document03Meeting
 pub mod Document03

@@ -51,7 +51,7 @@ FreeMeans =
     ((judged e f ≡ 1) ↔ ((hasUp e || hasUp f) ≡ true)) ×
     (judged e f ≡ 0 → (x : Table) (h : Places) (i : ℕ) → isTree x ≡ true → ArePlaces x h → i < count x → isTouched x h i e f ≡ false) ×
     (judged e f ≡ 2 →
-      (x : Table) × ((h : Places) × ((i : ℕ) × ((isTree x ≡ true) × ArePlaces x h × (i < count x) × (isTouched x h i e f ≡ true)))))
+    (x : Table) × ((h : Places) × ((i : ℕ) × ((isTree x ≡ true) × ArePlaces x h × (i < count x) × (isTouched x h i e f ≡ true)))))
 
 abbrev pub firstRun : Table → Expr → Out
 firstRun x e = runOn x e

@@ -144,4 +144,4 @@ pathsOf o e = infer o e []
 abbrev pub judged : Expr → Expr → ℕ
 judged e f =
     pick (hasUp e || hasUp f) 1
-      (pick (anyMeet (pathsOf 1 e .modified) (traversed (pathsOf 2 f)) || anyMeet (pathsOf 2 f .modified) (traversed (pathsOf 1 e))) 2 0)
+    (pick (anyMeet (pathsOf 1 e .modified) (traversed (pathsOf 2 f)) || anyMeet (pathsOf 2 f .modified) (traversed (pathsOf 1 e))) 2 0)

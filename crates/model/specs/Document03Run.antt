@@ -71,8 +71,8 @@ formFrom zero i n b = formed []
 formFrom (suc k) i n b =
     pick (eqb (length b) 0) (formed [])
     (pick (isFine (formFault i n b))
-      (withPlaced (record { at = i; entry = recordIn b }) (formFrom k (i + recordSize (getD b 0 0)) (suc n) (drop (recordSize (getD b 0 0)) b)))
-      (broken (formFault i n b)))
+    (withPlaced (record { at = i; entry = recordIn b }) (formFrom k (i + recordSize (getD b 0 0)) (suc n) (drop (recordSize (getD b 0 0)) b)))
+    (broken (formFault i n b)))
 
 abbrev pub madeFits : Table → Record → Bool
 madeFits x r =

@@ -46,10 +46,10 @@ two f i n v w b make =
 abbrev pub three : (ℕ → ℕ → ℕ → List ℕ → Parsed) → (place records bound : ℕ) → (bytes : List ℕ) → (Expr → Expr → Expr → Expr) → Parsed
 three f i n v b make =
     thenParse (f i n v b)
-      (λ (e : Expr) (j m : ℕ) (c : List ℕ).
-        thenParse (f j m v c)
-          (λ (g : Expr) (k l : ℕ) (d : List ℕ).
-            thenParse (f k l v d) (λ (h : Expr) (p q : ℕ) (r : List ℕ). parsed (make e g h) p q r)))
+    (λ (e : Expr) (j m : ℕ) (c : List ℕ).
+    thenParse (f j m v c)
+    (λ (g : Expr) (k l : ℕ) (d : List ℕ).
+    thenParse (f k l v d) (λ (h : Expr) (p q : ℕ) (r : List ℕ). parsed (make e g h) p q r)))
 
 abbrev pub operands : (ℕ → ℕ → ℕ → List ℕ → Parsed) → (at place records bound : ℕ) → (bytes rest : List ℕ) → Parsed
 operands f z i n v b c =
@@ -71,8 +71,8 @@ unfoldable pub parseFrom : ℕ → (depth place records bound : ℕ) → (bytes 
 parseFrom zero d i n v b = ill (fault 5 i)
 parseFrom (suc k) d i n v b =
     pick (isFine (exprFault i n d v b))
-      (operands (parseFrom k (suc d)) i (i + 1 + bodySize (getD b 0 0)) (suc n) v b (drop (1 + bodySize (getD b 0 0)) b))
-      (ill (exprFault i n d v b))
+    (operands (parseFrom k (suc d)) i (i + 1 + bodySize (getD b 0 0)) (suc n) v b (drop (1 + bodySize (getD b 0 0)) b))
+    (ill (exprFault i n d v b))
 
 abbrev pub whole : Parsed → Parsed
 whole (ill x) = ill x
