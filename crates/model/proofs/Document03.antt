@@ -1,14 +1,11 @@
--- Document 03's promises hold, over its own definitions: its answer is the number of ours, its runs and rows are ours, and so what is proved
--- of ours is proved of its.
+-- Document 03's promises hold, over its own definitions: its answer is the number of ours, and its runs and the rows on its paths are ours.
 use mathlib.Core.Path.{_≡_, refl, sym, ap, _∙_}
 use mathlib.Core.Bool.{Bool, true, false, _&&_, _||_}
-use mathlib.Core.List.{List}
-use Prim.Native.Nat.{ℕ, _<_}
+use Prim.Native.Nat.{ℕ}
 use native.Mathlib.Omega.{arith}
 use Rattle.model.specs.Base.{pick, any, all, among}
-use Rattle.model.specs.Table.{Table, count}
+use Rattle.model.specs.Table.{Table}
 use Rattle.model.specs.Stored.{readFrom, lastMarked}
-use Rattle.model.specs.Script.{Expr}
 use Rattle.model.specs.Step.{isBelowFrom, picked}
 use Rattle.model.specs.History.{historyBytes}
 use Rattle.model.specs.Run.{loop, cutAll, copyAll, copyEach, copyOf, descendantsFrom}
@@ -123,27 +120,7 @@ freeCommutes03 e f x i j q h =
 
 -- THE STARRED CASES
 pub cases03 : T.Cases
-unfolding any all among readFrom lastMarked D.parseFrom isBelowFrom R.stepFrom picked R.run loop cutAll copyAll copyEach copyOf descendantsFrom P.infer P.withStep P.prefixed P.prefixesOf P.hasUp P.meetFrom
-cases03 = (
-  refl,
-  refl,
-  refl,
-  refl,
-  refl,
-  refl,
-  refl,
-  refl,
-  refl,
-  refl,
-  refl,
-  refl,
-  refl,
-  refl,
-  refl,
-  refl,
-  refl,
-  refl,
-  refl,
-  refl,
-  refl,
-)
+unfolding any all readFrom lastMarked isBelowFrom picked loop cutAll copyAll copyEach copyOf descendantsFrom
+    D.parseFrom R.stepFrom R.run P.infer P.withStep P.prefixed P.prefixesOf P.hasUp P.meetFrom
+cases03 =
+    (refl, refl, refl, refl, refl, refl, refl, refl, refl, refl, refl, refl, refl, refl, refl, refl, refl, refl, refl, refl, refl)

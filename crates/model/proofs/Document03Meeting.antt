@@ -1,23 +1,21 @@
 -- Document 03's search and our cells agree: two paths with known tests meet by the one exactly where they meet by the other.
-use mathlib.Core.Path.{_≡_, refl, sym, ap, _∙_, subst}
-use mathlib.Core.Bool.{Bool, true, false, _&&_, _||_, not, false≢true}
-use mathlib.Core.Logic.{_⊎_, inl, inr}
+use mathlib.Core.Path.{_≡_, refl, sym, _∙_}
+use mathlib.Core.Bool.{Bool, true, false, _&&_, _||_, false≢true}
+use mathlib.Core.Logic.{inl, inr}
 use mathlib.Core.List.{List, [], _∷_}
-use Prim.Native.Nat.{ℕ, zero, suc, _+_, _<_}
+use Prim.Native.Nat.{ℕ, zero, suc, _+_}
 use native.Mathlib.Omega.{arith}
-use lib.Dec.{eqb}
 use lib.ListN.{length}
-use Rattle.model.specs.Base.{pick}
 use Rattle.model.specs.Script.{Step}
 use Rattle.model.specs.Paths.{Place, Path, start, _▸_}
 use Rattle.model.specs.Meeting.{admitsElement, shareElement, shareLeaf, isDeep, Cell, samePlace, isConstructor, isParent, onStep}
-use Rattle.model.specs.Meeting.{downStep, upStep, joinCell, startCells, stepCells, cell, isMet, meets}
+use Rattle.model.specs.Meeting.{downStep, upStep, joinCell, startCells, stepCells, cell, meets}
 use Rattle.model.specs.Document03Paths as P
-use Rattle.model.proofs.BoolLaws.{and-left, and-right, and-both, or-left, or-right, or-cases, bool-iff}
-use Rattle.model.proofs.TestLaws.{and-parts, and-three}
+use Rattle.model.proofs.BoolLaws.{and-left, and-both, or-left, or-right, or-cases, bool-iff}
+use Rattle.model.proofs.TestLaws.{and-parts}
 use Rattle.model.proofs.Spells.{placeOf}
 use Rattle.model.proofs.Document03Paths.{along, oursPath, Known, Tested, none, more, tested-before}
-use Rattle.model.proofs.Document03Search.{agree-share, agreeElement-share, Goes, last, both, passOne, passTwo, goes-by, goes-meet}
+use Rattle.model.proofs.Document03Search.{agree-share, agreeElement-share, last, both, passOne, passTwo, goes-by, goes-meet}
 use Rattle.model.proofs.Document03Search.{fuel-enough}
 
 -- FROM THE SEARCH TO THE CELLS. A step more, at the cells
@@ -286,7 +284,8 @@ module _ (p q : P.Path) (f : Tested (oursPath p)) (g : Tested (oursPath q)) wher
   unfolding cell startCells
   search-meets e =
       let k = and-parts (samePlace (p .from) (q .from)) _ e in
-      search-cell (length (p .steps) + length (q .steps) + 1) (start (p .from)) (start (q .from)) (p .steps) (q .steps) f g (k .1) (on (k .0))
+      search-cell (length (p .steps) + length (q .steps) + 1) (start (p .from)) (start (q .from)) (p .steps) (q .steps) f g (k .1)
+      (on (k .0))
 
   meets-met : meets (oursPath p) (oursPath q) ≡ true → Met (oursPath p) (oursPath q) [] []
   meets-met e =

@@ -7,10 +7,10 @@ use lib.Dec.{ltb, leb, eqb}
 use lib.ListN.{getD}
 use borrow.Author.Tests.{eqb-true, ltb-true, le-leb}
 use native.Mathlib.Omega.{arith}
-use Rattle.model.specs.Base.{pick, any, among, isIn}
+use Rattle.model.specs.Base.{pick, any, isIn}
 use Rattle.model.specs.Table.{Table}
-use Rattle.model.specs.Script.{Step, stepBy, Expr, testFits}
-use Rattle.model.specs.Paths.{Place, Path, start, _▸_, withStep, anyBelow, Paths, infer, prefixesOf, prefixed, traversed, hasUp}
+use Rattle.model.specs.Script.{Step, stepBy, testFits}
+use Rattle.model.specs.Paths.{Place, Path, start, _▸_, withStep, anyBelow, Paths, infer, prefixesOf, prefixed, hasUp}
 use Rattle.model.specs.Promise.{Places, rowsOn}
 use Rattle.model.specs.Document03Script as D
 use Rattle.model.specs.Document03Paths as P

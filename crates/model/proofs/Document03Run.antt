@@ -1,6 +1,6 @@
 -- Document 03's stored bytes, steps, runs and taking back are ours.
 use mathlib.Core.Path.{_≡_, refl, sym, ap, _∙_}
-use mathlib.Core.Bool.{Bool, true, false, _&&_, _||_, not, false≢true}
+use mathlib.Core.Bool.{Bool, true, false, _&&_, _||_, not}
 use mathlib.Core.List.{List, [], _∷_, _++_}
 use Prim.Native.Nat.{ℕ, zero, suc, _+_}
 use native.Mathlib.Numerals.{add-one}
@@ -8,15 +8,14 @@ use lib.Dec.{eqb}
 use lib.ListN.{length, getD, drop}
 use borrow.Author.Tests.{eqb-true}
 use Rattle.model.specs.Base.{pick, any}
-use Rattle.model.specs.Refusal.{isFine, linkAt}
-use Rattle.model.specs.Table.{Row, Table, rowAt, count, isMarked}
+use Rattle.model.specs.Table.{Row, Table, rowAt, count}
 use Rattle.model.specs.Stored.{parentBytes, rowBytes, rowsBytes, marksBytes, stored}
 use Rattle.model.specs.Script.{stepBy}
-use Rattle.model.specs.Step.{letterOf, admits, reaches, isReached, stepFrom, stepped, picked}
+use Rattle.model.specs.Step.{letterOf, admits, stepFrom, stepped}
 use Rattle.model.specs.History.{Record}
-use Rattle.model.specs.Run.{State, Out, stop, gives, andThen, joinItems, cutAll, inserted, joinFor, loop, run, runOn}
-use Rattle.model.specs.Undo.{historySize, recordIn, Placed, Formed, broken, formed, formFault, withPlaced, formFrom, madeFits, undoFits, undone}
-use Rattle.model.specs.Undo.{Undo, refused, undoAll, undoFormed, undo, cutFits}
+use Rattle.model.specs.Run.{State, Out, stop, gives, andThen, joinFor, loop, run, runOn}
+use Rattle.model.specs.Undo.{historySize, Placed, Formed, broken, formed, formFrom, undoFits, undone}
+use Rattle.model.specs.Undo.{undoAll, undoFormed, undo}
 use Rattle.model.specs.Document03Script as D
 use Rattle.model.specs.Document03Run as R
 use Rattle.model.proofs.Document03Script.{ours}

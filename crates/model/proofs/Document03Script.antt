@@ -6,10 +6,9 @@ use Prim.Native.Nat.{ℕ, zero, suc, _+_}
 use native.Mathlib.Nat.{add-assoc}
 use native.Mathlib.Numerals.{add-one}
 use lib.Dec.{eqb}
-use lib.ListN.{length, getD, drop}
+use lib.ListN.{length, getD}
 use Rattle.model.specs.Base.{pick}
-use Rattle.model.specs.Limits.{maxDepth}
-use Rattle.model.specs.Refusal.{isFine, sizeAt, tailAt}
+use Rattle.model.specs.Refusal.{isFine}
 use Rattle.model.specs.Script.{stepBy, Expr, nil, document, var, step, both, letIn, forIn, ifIn, element, leaf, delete, insert}
 use Rattle.model.specs.Script.{choose, bodySize, exprFault, Parsed, ill, parsed, thenParse, one, two, three, operands, parseFrom}
 use Rattle.model.specs.Script.{whole, readScript}

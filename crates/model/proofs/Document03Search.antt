@@ -1,8 +1,8 @@
 -- Document 03's search for a common node, and the tests it makes: two tests agree where they share an element or a leaf; a search that
 -- succeeds does so with any fuel past the number of steps.
-use mathlib.Core.Path.{_≡_, refl, sym, ap, _∙_, subst}
+use mathlib.Core.Path.{_≡_, refl}
 use mathlib.Core.Bool.{Bool, true, false, _&&_, _||_, not, false≢true}
-use mathlib.Core.Logic.{_⊎_, inl, inr}
+use mathlib.Core.Logic.{inl, inr}
 use mathlib.Core.List.{List, [], _∷_}
 use Prim.Native.Nat.{ℕ, zero, suc, _+_, _<_}
 use native.Mathlib.Omega.{arith}
@@ -11,9 +11,9 @@ use lib.ListN.{length}
 use borrow.Author.Tests.{leb-true, ne-eqb}
 use Rattle.model.specs.Base.{pick}
 use Rattle.model.specs.Script.{Step}
-use Rattle.model.specs.Meeting.{admitsElement, admitsLeaf, isNamed, shareElement, shareLeaf, isDeep}
+use Rattle.model.specs.Meeting.{shareElement, shareLeaf, isDeep}
 use Rattle.model.specs.Document03Paths as P
-use Rattle.model.proofs.BoolLaws.{and-left, and-right, and-both, or-left, or-right, or-cases}
+use Rattle.model.proofs.BoolLaws.{and-both, or-left, or-right, or-cases}
 use Rattle.model.proofs.TestLaws.{and-parts, and-three}
 use Rattle.model.proofs.Document03Paths.{Known}
 

@@ -1,7 +1,8 @@
--- Document 03's promises and starred cases, each a type, over its own scripts, runs, paths and answer. Definition by definition, document
--- 03's: IsScript, alongFrom, rowsOn, isOn, isTouched, FreeMeans, firstRun, secondRun, orderEnds, madeBy, OrdersEqual, FreeCommutes,
--- StoredBack, RunsBack, SweepsWell, and the cases from exprBy to Cases. Kept, being ours word for word: areBytes, Places, isTree, rowsAt,
--- ArePlaces, tableOf, answerOf, historyOf, ends, newRows, matched to PlansEqual, tableBy, twos (p is our planP, parentNow stands in Cases).
+-- Document 03's promises and starred cases, each a type, over its own scripts, runs, paths and answer. Each definition below is that of
+-- the same name in document 03's specs/Promise: IsScript, alongFrom, rowsOn, isOn, isTouched, FreeMeans, firstRun, secondRun, orderEnds,
+-- madeBy, OrdersEqual, FreeCommutes, StoredBack, RunsBack, SweepsWell, and planP to Cases but for tableBy.
+-- Ours serve for the rest, being the same with some parts of a definition named: areBytes, Places, isTree, rowsAt, ArePlaces, tableOf,
+-- answerOf, historyOf, ends, newRows, matched to PlansEqual, tableBy.
 -- Assumes nothing: these are definitions.
 use mathlib.Core.Path.{_≡_}
 use mathlib.Core.Logic.{_↔_}
@@ -20,11 +21,12 @@ use Rattle.model.specs.Run.{State, Out, gives}
 use Rattle.model.specs.Undo.{back}
 use Rattle.model.specs.Promise.{Places, ArePlaces, rowsAt, tableOf, answerOf, historyOf, ends, newRows, matchedAll, matchedHistory}
 use Rattle.model.specs.Promise.{PlansEqual}
-use Rattle.model.specs.Cases.{planP as p, twos}
+use Rattle.model.specs.Cases.{tableBy}
 use Rattle.model.specs.Document03Script.{Expr, nil, Parsed, ill, parsed, readScript}
 use Rattle.model.specs.Document03Run.{stored, stepped, runOn, takenBack}
 use Rattle.model.specs.Document03Paths.{Path, pathsOf, traversed, hasUp, judged}
 
+-- what some bytes are read as
 abbrev pub IsScript : Expr → Type 0
 IsScript e =
     (b : List ℕ) × (areBytes b ≡ true) × ((i : ℕ) × ((n : ℕ) × ((c : List ℕ) × (readScript b ≡ parsed e i n c))))
@@ -45,6 +47,7 @@ isTouched x h i e f =
     (isOn x h i (pathsOf 1 e .modified) && isOn x h i (traversed (pathsOf 2 f))) ||
     (isOn x h i (pathsOf 2 f .modified) && isOn x h i (traversed (pathsOf 1 e)))
 
+-- DEMAND 2: what free means
 abbrev pub FreeMeans : Type 0
 FreeMeans =
     (e f : Expr) → IsScript e → IsScript f →
@@ -53,6 +56,7 @@ FreeMeans =
     (judged e f ≡ 2 →
     (x : Table) × ((h : Places) × ((i : ℕ) × ((isTree x ≡ true) × ArePlaces x h × (i < count x) × (isTouched x h i e f ≡ true)))))
 
+-- DEMAND 3: the two orders. The second run gets the table as the first left it
 abbrev pub firstRun : Table → Expr → Out
 firstRun x e = runOn x e
 
@@ -93,6 +97,13 @@ RunsBack =
 abbrev pub SweepsWell : Type 0
 SweepsWell = (x : Table) → isWell x ≡ true → (isWell (swept x) ≡ true) × (swept (swept x) ≡ swept x)
 
+-- THE STARRED CASES on plan P
+abbrev pub planP : List ℕ
+planP = 17 ∷ 1 ∷ 255 ∷ 255 ∷ 17 ∷ 2 ∷ 0 ∷ 0 ∷ 18 ∷ 254 ∷ 1 ∷ 0 ∷ 17 ∷ 3 ∷ 0 ∷ 0 ∷ 19 ∷ 0 ∷ 0 ∷ 0 ∷ []
+
+abbrev pub p : Table
+p = tableBy (readPlan planP)
+
 abbrev pub exprBy : Parsed → Expr
 exprBy (ill f) = nil 0
 exprBy (parsed e i n c) = e
@@ -103,6 +114,9 @@ faultBy (parsed e i n c) = fault 0 0
 
 abbrev pub script : List ℕ → Expr
 script b = exprBy (readScript b)
+
+abbrev pub twos : List ℕ
+twos = 4 ∷ 0 ∷ 3 ∷ 2 ∷ 2 ∷ 0 ∷ []
 
 abbrev pub scriptA : Expr
 scriptA = script (13 ∷ 1 ∷ 0 ∷ 4 ∷ 0 ∷ 2 ∷ 0 ∷ twos)

@@ -1,7 +1,8 @@
 -- Document 03's paths, where its text differs from ours: a path is a place and a list of steps, two paths meet by a search with fuel, the
--- answer is a number. Definition by definition, document 03's: Path, path, withStep, Paths, paths, after, joinPaths, thenPaths, inserting,
--- deleting, stepping, infer, prefixesOf, prefixed, traversed, isUp, hasUp, canBeElement, agree, agreeElement, meetOn, meetFrom, meets,
--- anyMeet, pathsOf, judged. Kept, being ours word for word: Place, place, Step, stepBy, anyBelow, isDeep.
+-- answer is a number. Each definition below is that of the same name in document 03's specs/Paths: Path, path, withStep, Paths, paths,
+-- after, joinPaths, thenPaths, inserting, deleting, stepping, infer, prefixesOf, prefixed, traversed, isUp, hasUp, canBeElement, agree,
+-- agreeElement, meetOn, meetFrom, meets, anyMeet, pathsOf, judged.
+-- Ours serve for the rest, being the same: Place, place, Step, stepBy, anyBelow, isDeep.
 -- Assumes nothing: these are definitions.
 use mathlib.Core.Bool.{Bool, true, false, _&&_, _||_, not}
 use mathlib.Core.List.{List, [], _∷_, _++_}
@@ -12,9 +13,10 @@ use Rattle.model.specs.Base.{pick, any}
 use Rattle.model.specs.Script.{Step, stepBy}
 use Rattle.model.specs.Paths.{Place, place, anyBelow}
 use Rattle.model.specs.Meeting.{isDeep}
-use Rattle.model.specs.Document03Script.{Expr, nil, document, var, step, both, letIn, forIn, ifIn, element, leaf, delete, insert, choose}
+use Rattle.model.specs.Document03Script.{Expr, nil, document, var, step, both, letIn, forIn, ifIn, element, leaf, delete, insert}
+use Rattle.model.specs.Document03Script.{choose}
 
--- a path: a place and steps; a union is a list of paths, nothing the empty list
+-- PATHS: a place and steps; a union is a list of paths, nothing the empty list
 pub record Path : Type 0 where
   pub from : Place
   pub steps : List Step
@@ -101,8 +103,8 @@ hasUp (delete z e) = hasUp e
 hasUp (insert z e f) = hasUp e || hasUp f
 hasUp (choose z r c e) = hasUp e
 
--- MEETING, for paths that go down only: some node on both. The nodes from the place down are met one after another; a step that ends at a node
--- tests it, and every node but the last is an element
+-- MEETING, for paths that go down only: some node on both. The nodes from the place down are met one after another; a step that ends at a
+-- node tests it, and every node but the last is an element
 abbrev pub canBeElement : Step → Bool
 canBeElement s = not (eqb (s .test) 2)
 

@@ -1,13 +1,16 @@
 -- Document 03's stored plan, run and taking back, where its text differs from ours: a test sees a row, not a letter; a run is of its own
--- expressions; counts are by 'suc'. Definition by definition, document 03's: rowBytes, stored; testHolds, stepFrom, stepped, run, runOn;
--- formFrom, madeFits, undoFits, undoAll, takenBackBy, takenBack.
--- Kept, being ours word for word: Row to swept of its Plan (wordOf is our wordBytes, parentWord our parentBytes, parentKept our through);
--- Record to reaches, joinItems to marked, recordBytes to replayAll of its Run (chosen is our picked); Placed to withPlaced, sameParent to
--- sameBool, oldParentFits to undone, backwards (recordSize is our historySize, Back our Undo, refusedBack our refused).
+-- expressions; counts are by 'suc'. Each definition below is that of the same name in document 03: of specs/Plan rowBytes and stored; of
+-- specs/Run testHolds, stepFrom, stepped, run, runOn, formFrom, madeFits, undoFits, undoAll, takenBackBy, takenBack.
+-- Ours serve for the rest, being the same with kinds, limits and refusals named and some parts of a definition named.
+-- Of specs/Plan: all else, namely pick to isWell; wordOf, here wordBytes; parentWord, here parentBytes; markBytes, marksBytes; Fault to
+-- orElse; unless, with a refusal for its number and place; Read to readPlan; parentKept, here through; keptFrom to swept.
+-- Of specs/Run: Record to andThen; parentIs to reaches; joinItems to relates; chosen, here picked; made to marked; recordBytes to
+-- replayAll; recordSize, here historySize; recordIn to withPlaced; sameParent to sameBool; oldParentFits to undone; Back and refusedBack,
+-- here Undo and refused; backwards.
 -- Assumes nothing: these are definitions.
 use mathlib.Core.Bool.{Bool, true, false, _&&_, not}
 use mathlib.Core.List.{List, [], _∷_, _++_}
-use mathlib.Core.Option.{Option, none}
+use mathlib.Core.Option.{none}
 use Prim.Native.Nat.{ℕ, zero, suc, _+_}
 use lib.Dec.{eqb}
 use lib.ListN.{length, getD, drop}
@@ -20,8 +23,10 @@ use Rattle.model.specs.History.{Record}
 use Rattle.model.specs.Run.{State, state, Out, gives, andThen, joinItems, newRow, loose, cutAll, inserted, loop, marked}
 use Rattle.model.specs.Undo.{historySize as recordSize, recordIn, Placed, Formed, broken, formed, formFault, withPlaced, sameParent}
 use Rattle.model.specs.Undo.{sameBool, cutFits, undone, backwards, Undo as Back, refused as refusedBack, back}
-use Rattle.model.specs.Document03Script.{Expr, nil, document, var, step, both, letIn, forIn, ifIn, element, leaf, delete, insert, choose}
+use Rattle.model.specs.Document03Script.{Expr, nil, document, var, step, both, letIn, forIn, ifIn, element, leaf, delete, insert}
+use Rattle.model.specs.Document03Script.{choose}
 
+-- STORED, of specs/Plan
 unfoldable pub rowBytes : List Row → List ℕ
 rowBytes [] = []
 rowBytes (r ∷ rs) = pick (r .isLeaf) (18 ∷ r .tag ∷ []) (17 ∷ r .tag ∷ []) ++ parentWord (r .parent) ++ rowBytes rs
@@ -29,7 +34,7 @@ rowBytes (r ∷ rs) = pick (r .isLeaf) (18 ∷ r .tag ∷ []) (17 ∷ r .tag ∷
 abbrev pub stored : Table → List ℕ
 stored x = rowBytes (x .rows) ++ marksBytes 0 (x .marks)
 
--- STEPS: rows reached, in rising number, each once
+-- STEPS, of specs/Run: rows reached, in rising number, each once
 abbrev pub testHolds : (test name : ℕ) → Row → Bool
 testHolds t n r =
     pick (eqb t 0) true (pick (eqb t 1) (not (r .isLeaf)) (pick (eqb t 2) (r .isLeaf) (not (r .isLeaf) && eqb (r .tag) n)))
@@ -37,12 +42,13 @@ testHolds t n r =
 unfoldable pub stepFrom : Table → (axis test name : ℕ) → (items : List ℕ) → (row : ℕ) → ℕ → List ℕ
 stepFrom x a t n v j zero = []
 stepFrom x a t n v j (suc k) =
-    pick (testHolds t n (rowAt x j) && any (λ (i : ℕ). reaches x a i j) v) (j ∷ stepFrom x a t n v (suc j) k) (stepFrom x a t n v (suc j) k)
+    pick (testHolds t n (rowAt x j) && any (λ (i : ℕ). reaches x a i j) v) (j ∷ stepFrom x a t n v (suc j) k)
+    (stepFrom x a t n v (suc j) k)
 
 abbrev pub stepped : Table → (axis test name : ℕ) → (items : List ℕ) → List ℕ
 stepped x a t n v = stepFrom x a t n v 0 (count x)
 
--- variables' values, the outermost binder first
+-- EVALUATION: variables' values, the outermost binder first
 unfoldable pub run : Expr → (bound : List (List ℕ)) → State → Out
 run (nil z) b s = gives [] s
 run (document z d) b s = gives (marked (getD (s .plan .marks) d none)) s
@@ -65,13 +71,14 @@ run (choose z r c e) b s = andThen (run e b s) (λ (v : List ℕ) (u : State). g
 abbrev pub runOn : Table → Expr → Out
 runOn x e = run e [] (state x [])
 
--- fuel: bytes
+-- TAKING BACK; fuel: bytes
 unfoldable pub formFrom : ℕ → (place records : ℕ) → (bytes : List ℕ) → Formed
 formFrom zero i n b = formed []
 formFrom (suc k) i n b =
     pick (eqb (length b) 0) (formed [])
     (pick (isFine (formFault i n b))
-    (withPlaced (record { at = i; entry = recordIn b }) (formFrom k (i + recordSize (getD b 0 0)) (suc n) (drop (recordSize (getD b 0 0)) b)))
+    (withPlaced (record { at = i; entry = recordIn b })
+    (formFrom k (i + recordSize (getD b 0 0)) (suc n) (drop (recordSize (getD b 0 0)) b)))
     (broken (formFault i n b)))
 
 abbrev pub madeFits : Table → Record → Bool

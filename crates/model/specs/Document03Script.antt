@@ -1,6 +1,7 @@
--- Document 03's scripts, where its text differs from ours: a step's three numbers stand in the expression, and depths, records and
--- variables are counted by 'suc'. Definition by definition, document 03's: Expr, Parsed, thenParse, one, two, three, operands, parseFrom,
--- whole, readScript. Kept, being ours word for word: bodySize, testFits, bodyFits, isBinder; exprFault, with the refusals named.
+-- Document 03's scripts, where its text differs from ours: a step's three numbers stand in the expression; depths, records and variables
+-- are counted by 'suc'. Each definition below is that of the same name in document 03's specs/Script: Expr, Parsed, thenParse, one, two,
+-- three, operands, parseFrom, whole, readScript.
+-- Ours serve for the rest, being the same with kinds, limits and refusals named: bodySize, testFits, bodyFits, isBinder, exprFault.
 -- Assumes nothing: these are definitions.
 use mathlib.Core.List.{List}
 use Prim.Native.Nat.{ℕ, zero, suc, _+_}
@@ -10,7 +11,7 @@ use Rattle.model.specs.Base.{pick}
 use Rattle.model.specs.Refusal.{Fault, fault, isFine}
 use Rattle.model.specs.Script.{bodySize, exprFault}
 
--- an expression carries the place of its kind byte
+-- EXPRESSIONS: each carries the place of its kind byte
 pub data Expr : Type 0 where
   nil : (place : ℕ) → Expr
   document : (place number : ℕ) → Expr
@@ -41,7 +42,9 @@ one f i n v b make = thenParse (f i n v b) (λ (e : Expr) (j m : ℕ) (c : List 
 
 abbrev pub two : (ℕ → ℕ → ℕ → List ℕ → Parsed) → (place records first second : ℕ) → (bytes : List ℕ) → (Expr → Expr → Expr) → Parsed
 two f i n v w b make =
-    thenParse (f i n v b) (λ (e : Expr) (j m : ℕ) (c : List ℕ). thenParse (f j m w c) (λ (g : Expr) (k l : ℕ) (d : List ℕ). parsed (make e g) k l d))
+    thenParse (f i n v b)
+    (λ (e : Expr) (j m : ℕ) (c : List ℕ).
+    thenParse (f j m w c) (λ (g : Expr) (k l : ℕ) (d : List ℕ). parsed (make e g) k l d))
 
 abbrev pub three : (ℕ → ℕ → ℕ → List ℕ → Parsed) → (place records bound : ℕ) → (bytes : List ℕ) → (Expr → Expr → Expr → Expr) → Parsed
 three f i n v b make =
