@@ -51,3 +51,9 @@ pub mod Orders
 pub mod FreeCommutes
 pub mod StopLaws
 pub mod CallsCommute
+pub mod Document03Script
+pub mod Document03Run
+pub mod Document03Paths
+pub mod Document03Search
+pub mod Document03Meeting
+pub mod Document03
