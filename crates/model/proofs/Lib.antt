@@ -56,4 +56,5 @@ pub mod Document03Run
 pub mod Document03Paths
 pub mod Document03Search
 pub mod Document03Meeting
+pub mod Document03Kept
 pub mod Document03
