@@ -25,7 +25,11 @@ module _ (o b : List ℕ) (n : ℕ) (q : TableResult) where
   module _ (h : 2080 ≤ length o) (r : TableResult) (e : r ≡ q) where
     pub plan-refused : (c : ℕ) → c ≡ codeOf (r .fault .number) 1 (r .fault .place) → (r .fault .number ≡ 0 → ⊥) → Answers o q n b c o
     plan-refused c f z = (
-      f ∙ ap (λ (t : TableResult). codeOf (t .fault .number) 1 (t .fault .place)) e ∙ rw (le-ltb (length o) 2080 h, ne-eqb (q .fault .number) 0 y),
+      f ∙ ap (λ (t : TableResult). codeOf (t .fault .number) 1 (t .fault .place)) e ∙ rw (
+        le-ltb (length o) 2080 h,
+        ne-eqb (q .fault
+            .number) 0 y,
+      ),
       rw (le-ltb (length o) 2080 h, ne-eqb (q .fault .number) 0 y),
     )
       where
@@ -43,7 +47,8 @@ module _ (o b : List ℕ) (n : ℕ) (q : TableResult) where
 pub script-read : (b : List ℕ) (f : Fault) (c : ℕ) → f ≡ scriptRead b → f .number ≡ 0 → c ≡ codeOf 0 0 0 → c ≡ scriptCode b
 script-read b f c e z g = g ∙ rw (sym (ap (λ (t : Fault). t .number) e) ∙ z)
 
-pub script-refused : (b : List ℕ) (f : Fault) (c : ℕ) → f ≡ scriptRead b → (f .number ≡ 0 → ⊥) → c ≡ codeOf (f .number) 2 (f .place) → c ≡ scriptCode b
+pub script-refused : (b : List ℕ) (f : Fault) (c : ℕ) → f ≡ scriptRead b → (f .number ≡ 0 → ⊥) → c ≡ codeOf (f .number) 2 (f .place) → c
+    ≡ scriptCode b
 script-refused b f c e z g =
     let y : scriptRead b .number ≡ 0 → ⊥ = λ q. z (ap (λ (t : Fault). t .number) e ∙ q) in
     g ∙ ap (λ (t : Fault). codeOf (t .number) 2 (t .place)) e ∙ rw (ne-eqb (scriptRead b .number) 0 y)

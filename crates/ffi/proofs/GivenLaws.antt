@@ -38,14 +38,16 @@ module _ (n : ℕ) (ws ms : List ℕ) where
       out-given : o′ ≡ writeOut n ws ms o
       out-given = left ∙ ap (λ (u : Table). library.planOut u o) same ∙ rw h
 
-      pub write-link : (c : ℕ) → c ≡ codeOf (w .fault .number) 1 0 → w .fault .number ≡ 6 → (c ≡ writeCode n ws ms o) × (o′ ≡ writeOut n ws ms o)
+      pub write-link : (c : ℕ) → c ≡ codeOf (w .fault .number) 1 0 → w .fault .number ≡ 6 → (c ≡ writeCode n ws ms o) × (o′ ≡ writeOut n
+          ws ms o)
       write-link c e z =
           let k : library.planWritten (given n ws ms) o .fault .number ≡ 6 = sym (ap (λ (v : Written). v .fault .number) as-given) ∙ z in
           (e ∙ ap (λ (j : ℕ). codeOf j 1 0) z ∙ rw (h, k), out-given)
 
       pub write-rest : (c : ℕ) → c ≡ writtenCode w → (w .fault .number ≡ 6 → ⊥) → (c ≡ writeCode n ws ms o) × (o′ ≡ writeOut n ws ms o)
       write-rest c e z =
-          let k : library.planWritten (given n ws ms) o .fault .number ≡ 6 → ⊥ = λ q. z (ap (λ (v : Written). v .fault .number) as-given ∙ q) in
+          let k : library.planWritten (given n ws ms) o .fault .number ≡ 6 → ⊥ = λ q. z (ap (λ (v : Written). v .fault .number) as-given
+          ∙ q) in
           (e ∙ ap writtenCode as-given ∙ rw (h, ne-eqb (library.planWritten (given n ws ms) o .fault .number) 6 k), out-given)
 
   -- sweeping in place
@@ -71,5 +73,11 @@ module _ (n : ℕ) (ws ms : List ℕ) where
         let k : eqb (sweptTable n ws ms .fault .number) 0 ≡ true =
         eq-eqb (sweptTable n ws ms .fault .number) 0 (sym (ap (λ (v : TableResult). v .fault .number) result) ∙ z) in (
           e ∙ ap (λ (v : TableResult). codeOf 0 0 (v .table .count)) result ∙ rw (h, k),
-          (p ∙ ap (λ (v : TableResult). v .table .rows) result ∙ rw (h, k), q ∙ ap (λ (v : TableResult). v .table .marks) result ∙ rw (h, k)),
+          (
+            p ∙ ap (λ (v : TableResult). v .table .rows) result ∙ rw (h, k),
+            q ∙ ap (λ (v : TableResult). v .table .marks) result ∙ rw (
+              h,
+              k,
+            ),
+          ),
         )

@@ -76,7 +76,8 @@ given n ws ms = record { count = n; rows = ws; marks = ms }
 abbrev pub writeCode : (count : ℕ) → (rows marks out : List ℕ) → ℕ
 writeCode n ws ms o =
     pick (isGiven ws ms)
-    (pick (eqb (library.planWritten (given n ws ms) o .fault .number) 6) (codeOf 6 1 0) (writtenCode (library.planWritten (given n ws ms) o)))
+    (pick (eqb (library.planWritten (given n ws ms) o .fault .number) 6) (codeOf 6 1 0) (writtenCode (library.planWritten (given n ws ms)
+    o)))
     shortCode
 
 abbrev pub writeOut : (count : ℕ) → (rows marks out : List ℕ) → List ℕ
@@ -89,7 +90,8 @@ sweptTable n ws ms = library.planSwept (given n ws ms)
 abbrev pub sweptCode : (count : ℕ) → (rows marks : List ℕ) → ℕ
 sweptCode n ws ms =
     pick (isGiven ws ms)
-    (pick (eqb (sweptTable n ws ms .fault .number) 0) (codeOf 0 0 (sweptTable n ws ms .table .count)) (codeOf (sweptTable n ws ms .fault .number) 1 0))
+    (pick (eqb (sweptTable n ws ms .fault .number) 0) (codeOf 0 0 (sweptTable n ws ms .table .count)) (codeOf (sweptTable n ws ms .fault
+    .number) 1 0))
     shortCode
 
 abbrev pub sweptRows : (count : ℕ) → (rows marks : List ℕ) → List ℕ

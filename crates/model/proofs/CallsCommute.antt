@@ -55,7 +55,8 @@ calls-match n a b x y k l m k′ l′ m′ v v′ s s′ e f = (
     front w size = take-at w (replicate (size - length w) 0) (length w) refl
 
 -- A RUN THAT FITS is the model's run
-module _ (e : Expr) (b : List ℕ) (i n : ℕ) (r : List ℕ) (E : readScript b ≡ parsed e i n r) (a h w : List ℕ) (fits : areasFit a h w ≡ true) where
+module _ (e : Expr) (b : List ℕ) (i n : ℕ) (r : List ℕ) (E : readScript b ≡ parsed e i n r) (a h w : List ℕ) (fits : areasFit a h w ≡
+    true) where
   call-runs : (x : Table) → isWell x ≡ true → runCall x b a h w ≡ ranBy x (length a) (length h) (length w) (runOn x e)
   call-runs x well =
       pick-true (areasFit a h w) _ _ fits ∙
@@ -83,13 +84,16 @@ module _ (e f : Expr) (b c : List ℕ) (i n j m : ℕ) (r q : List ℕ) (E : rea
   order-ends : callsEnd (runCall x b a h w) (runCall (runCall x b a h w .plan) c a′ h′ w′) ≡ orderEnds x e f
   order-ends = go (runOn x e) refl
     where
-      go : (o : Out) → runOn x e ≡ o → callsEnd (runCall x b a h w) (runCall (runCall x b a h w .plan) c a′ h′ w′) ≡ (ends (runOn x e) && ends (runOn (tableOf (runOn x e)) f))
+      go : (o : Out) → runOn x e ≡ o → callsEnd (runCall x b a h w) (runCall (runCall x b a h w .plan) c a′ h′ w′) ≡ (ends (runOn x e) &&
+          ends (runOn (tableOf (runOn x e)) f))
       go (stop y) k =
-          ap (λ (t : Bool). t && isFine (runCall (runCall x b a h w .plan) c a′ h′ w′ .fault)) (call-ends e b i n r E a h w fits x well (stop y) k) ∙
+          ap (λ (t : Bool). t && isFine (runCall (runCall x b a h w .plan) c a′ h′ w′ .fault)) (call-ends e b i n r E a h w fits x well
+          (stop y) k) ∙
           sym (ap (λ (o : Out). ends o && ends (runOn (tableOf (runOn x e)) f)) k)
       go (gives v s) k =
           let P = call-plan e b i n r E a h w fits bytes x well v s k in
-          ap (λ (t : Bool). t && isFine (runCall (runCall x b a h w .plan) c a′ h′ w′ .fault)) (call-ends e b i n r E a h w fits x well (gives v s) k) ∙
+          ap (λ (t : Bool). t && isFine (runCall (runCall x b a h w .plan) c a′ h′ w′ .fault)) (call-ends e b i n r E a h w fits x well
+          (gives v s) k) ∙
           ap (λ (t : Table). isFine (runCall t c a′ h′ w′ .fault)) (P .0) ∙
           call-ends f c j m q F a′ h′ w′ fits′ (s .plan) (P .1) (runOn (s .plan) f) refl ∙
           sym (ap (λ (o : Out). ends o && ends (runOn (tableOf o) f)) k)
@@ -104,7 +108,8 @@ Matching x r r′ s s′ =
 matching-as : (x : Table) {r r′ s s′ t t′ u u′ : Ran} → r ≡ t → r′ ≡ t′ → s ≡ u → s′ ≡ u′ → Matching x t t′ u u′ → Matching x r r′ s s′
 matching-as x {r} {r′} {s} {s′} {t} {t′} {u} {u′} e e′ f f′ m =
     subst (λ (k : Ran). Matching x k r′ s s′) (sym e)
-    (subst (λ (k : Ran). Matching x t k s s′) (sym e′) (subst (λ (k : Ran). Matching x t t′ k s′) (sym f) (subst (λ (k : Ran). Matching x t t′ u k) (sym f′) m)))
+    (subst (λ (k : Ran). Matching x t k s s′) (sym e′) (subst (λ (k : Ran). Matching x t t′ k s′) (sym f) (subst (λ (k : Ran). Matching x
+    t t′ u k) (sym f′) m)))
 
 -- the four outcomes are values, and they match
 module _ (x : Table) (k l m k′ l′ m′ : ℕ) where
@@ -148,7 +153,8 @@ callsCommute b c x a h w a′ h′ w′ bytes bytes′ an well fits fits′ = go
         Matching x (runCall x b a h w) (runCall (runCall x b a h w .plan) c a′ h′ w′) (runCall x c a′ h′ w′)
         (runCall (runCall x c a′ h′ w′ .plan) b a h w))
 
-    scripts : (e f : Expr) (i n j m : ℕ) (r q : List ℕ) → readScript b ≡ parsed e i n r → readScript c ≡ parsed f j m q → answer e f ≡ free → Claim
+    scripts : (e f : Expr) (i n j m : ℕ) (r q : List ℕ) → readScript b ≡ parsed e i n r → readScript c ≡ parsed f j m q → answer e f ≡
+        free → Claim
     scripts e f i n j m r q E F h₀ =
         let C = freeCommutes e f x h₀ well in
         let one = order-ends e f b c i n j m r q E F bytes a h w a′ h′ w′ fits fits′ x well in
@@ -162,7 +168,8 @@ callsCommute b c x a h w a′ h′ w′ bytes bytes′ an well fits fits′ = go
               (call-runs f c j m q F a′ h′ w′ fits′ x well)
               (second-runs f e c b j m i n q r F E bytes′ a′ h′ w′ a h w fits′ fits x well (and-left (ends (runOn x f)) _ g′))
               (matching-by x (length a) (length h) (length w) (length a′) (length h′) (length w′) (runCall x b a h w .plan)
-              (runCall x c a′ h′ w′ .plan) (runOn x e) (runOn x f) (runOn (tableOf (runOn x e)) f) (runOn (tableOf (runOn x f)) e) g g′ (C .1 g)),
+              (runCall x c a′ h′ w′ .plan) (runOn x e) (runOn x f) (runOn (tableOf (runOn x e)) f) (runOn (tableOf (runOn x f)) e) g g′
+              (C .1 g)),
         )
 
     go : (p q : Parsed) → readScript b ≡ p → readScript c ≡ q → firstBy p q ≡ answered free → Claim

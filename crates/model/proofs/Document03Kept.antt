@@ -99,7 +99,8 @@ newRow z r s = pick (isFine (roomFault z s)) (gives (count (s .plan) ∷ []) (wi
 
 abbrev cutRow : State → (row parent : ℕ) → State
 cutRow s i p =
-    state (table (set (s .plan .rows) i (record { isLeaf = rowAt (s .plan) i .isLeaf; tag = rowAt (s .plan) i .tag; parent = none })) (s .plan .marks))
+    state (table (set (s .plan .rows) i (record { isLeaf = rowAt (s .plan) i .isLeaf; tag = rowAt (s .plan) i .tag; parent = none })) (s
+    .plan .marks))
     (s .history ++ (cutRecord i p ∷ []))
 
 abbrev cutBy : (place row : ℕ) → State → Option ℕ → (State → Out) → Out
@@ -166,12 +167,14 @@ formFault i n b =
 abbrev undone : Table → Record → Table
 undone x r =
     pick (eqb (r .kind) 67)
-    (table (set (x .rows) (r .row) (record { isLeaf = rowAt x (r .row) .isLeaf; tag = rowAt x (r .row) .tag; parent = r .parent })) (x .marks))
+    (table (set (x .rows) (r .row) (record { isLeaf = rowAt x (r .row) .isLeaf; tag = rowAt x (r .row) .tag; parent = r .parent })) (x
+    .marks))
     (table (take (count x - 1) (x .rows)) (x .marks))
 
 abbrev cutFits : Table → Record → Bool
 cutFits x r =
-    ltb (r .row) (count x) && not (hasParent (rowAt x (r .row) .parent)) && not (isMarked x (r .row)) && oldParentFits x (r .row) (r .parent)
+    ltb (r .row) (count x) && not (hasParent (rowAt x (r .row) .parent)) && not (isMarked x (r .row)) && oldParentFits x (r .row) (r
+    .parent)
 
 abbrev ArePlaces : Table → Places → Type 0
 ArePlaces x h =
@@ -283,10 +286,14 @@ row-next o p f g e h = go o ∙ ap (λ (q : Out). thenRow q g) e
     go (stop x) = refl
     go (gives v s) = h s
 
-copyEach-same : (z : ℕ) (x : Table) (t g : ℕ) (v : List ℕ) (cs : List Copied) (s : State) → copyEach z x t g v cs s ≡ R.copyEach z x t g v cs s
+copyEach-same : (z : ℕ) (x : Table) (t g : ℕ) (v : List ℕ) (cs : List Copied) (s : State) → copyEach z x t g v cs s ≡ R.copyEach z x t g
+    v cs s
 unfolding copyEach R.copyEach
 copyEach-same z x t g [] cs s = refl
-copyEach-same z x t g (i ∷ v) cs s = row-next (R.newRow z (R.copyRow x t g i cs) s) _ _ _ refl (λ u. copyEach-same z x t g v (record { old = i; new = count (s .plan) } ∷ cs) u)
+copyEach-same z x t g (i ∷ v) cs s = row-next (R.newRow z (R.copyRow x t g i cs) s) _ _ _ refl (λ u. copyEach-same z x t g v (record {
+  old = i;
+  new = count (s .plan);
+} ∷ cs) u)
 
 copyAll-same : (z : ℕ) (x : Table) (v : List ℕ) (g : ℕ) (s : State) → copyAll z x v g s ≡ R.copyAll z x v g s
 unfolding copyAll R.copyAll
@@ -299,7 +306,8 @@ inserted-same z v w s = rw (copyAll-same z (s .plan) v (getD w 0 0) s)
 joinItems-same : joinItems ≡ R.joinItems
 joinItems-same = refl
 
-for-next : (z : ℕ) (v : List ℕ) (o : Out) (f g : List ℕ → State → Out) → ((w : List ℕ) (t : State) → f w t ≡ g w t) → joinFor z v o f ≡ R.joinFor z v o g
+for-next : (z : ℕ) (v : List ℕ) (o : Out) (f g : List ℕ → State → Out) → ((w : List ℕ) (t : State) → f w t ≡ g w t) → joinFor z v o f ≡
+    R.joinFor z v o g
 for-next z v (stop x) f g h = refl
 for-next z v (gives w s) f g h = rw (h (v ++ w) s)
 

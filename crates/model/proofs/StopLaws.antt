@@ -56,7 +56,8 @@ unfolding copyAll
 copy-refuses z x [] g s = refl
 copy-refuses z x (i ∷ is) g s = row-refuses (copyEach z x i g _ [] s) _ (each-refuses z x i g _ [] s) (λ u. copy-refuses z x is g u)
 
-loop-refuses : (z : ℕ) (f : ℕ → State → Out) (is v : List ℕ) (s : State) → ((i : ℕ) (u : State) → refuses (f i u) ≡ true) → refuses (loop z f is v s) ≡ true
+loop-refuses : (z : ℕ) (f : ℕ → State → Out) (is v : List ℕ) (s : State) → ((i : ℕ) (u : State) → refuses (f i u) ≡ true) → refuses (loop
+    z f is v s) ≡ true
 unfolding loop
 loop-refuses z f [] v s h = refl
 loop-refuses z f (i ∷ is) v s h = go (f i s) (h i s) (λ w t. loop-refuses z f is w t h)

@@ -57,7 +57,8 @@ module _ (ws : List ℕ) (n : ℕ) (held : RowsHeld ws n) where
 
     module _ (j : ℕ) (h : j < n) (rs : List ℕ) (s : Descending ws n d fs j rs) where
       counts-down : (ms v : List ℕ) → Flagged v fs →
-          counted (getD fs (getD ws j 0 / 4 % 1024) 0) (getD rs (getD ws j 0 / 4 % 1024) 0) d ≡ downTo (decodeParts n ws ms) (held .lower) d v j
+          counted (getD fs (getD ws j 0 / 4 % 1024) 0) (getD rs (getD ws j 0 / 4 % 1024) 0) d ≡ downTo (decodeParts n ws ms) (held
+          .lower) d v j
       counts-down ms v f =
           by-cases (eqb (getD ws j 0 / 4 % 1024) 0) (λ e. no-parent e (eqb-true (getD ws j 0 / 4 % 1024) 0 e))
           (λ e. a-parent e (eqb-false (getD ws j 0 / 4 % 1024) 0 e))
@@ -70,13 +71,15 @@ module _ (ws : List ℕ) (n : ℕ) (held : RowsHeld ws n) where
               ap (through (λ (p : ℕ). among p v || (d && downTo (decodeParts n ws ms) (held .lower) d v p))) (parent-linked ms j h ∙ e)
 
           no-parent : eqb (getD ws j 0 / 4 % 1024) 0 ≡ true → getD ws j 0 / 4 % 1024 ≡ 0 →
-              counted (getD fs (getD ws j 0 / 4 % 1024) 0) (getD rs (getD ws j 0 / 4 % 1024) 0) d ≡ downTo (decodeParts n ws ms) (held .lower) d v j
+              counted (getD fs (getD ws j 0 / 4 % 1024) 0) (getD rs (getD ws j 0 / 4 % 1024) 0) d ≡ downTo (decodeParts n ws ms) (held
+              .lower) d v j
           no-parent e z =
               ap (λ (l : ℕ). counted (getD fs l 0) (getD rs l 0) d) z ∙ ap (λ (a : ℕ). counted a (getD rs 0 0) d) (f .none) ∙
               ap (λ (a : ℕ). counted 0 a d) (s .none) ∙ and-false d ∙ sym (by-parent none (rw e))
 
           a-parent : eqb (getD ws j 0 / 4 % 1024) 0 ≡ false → (getD ws j 0 / 4 % 1024 ≡ 0 → ⊥) →
-              counted (getD fs (getD ws j 0 / 4 % 1024) 0) (getD rs (getD ws j 0 / 4 % 1024) 0) d ≡ downTo (decodeParts n ws ms) (held .lower) d v j
+              counted (getD fs (getD ws j 0 / 4 % 1024) 0) (getD rs (getD ws j 0 / 4 % 1024) 0) d ≡ downTo (decodeParts n ws ms) (held
+              .lower) d v j
           a-parent e z =
               let p = getD ws j 0 / 4 % 1024 - 1 in
               let l : p < j = link-parent j h z in
@@ -107,7 +110,8 @@ module _ (ws : List ℕ) (n : ℕ) (held : RowsHeld ws n) where
                     (λ q. ap (λ (a : ℕ). getD (set rs (j + 1) 1) (a + 1) 0) (eqb-true k j q) ∙
                     getD-set-same rs (j + 1) 1 0 (omega (arith, s .size, held .few)) ∙ ap bit (sym e ∙ counts-down ms v f) ∙
                     ap (λ (a : ℕ). bit (downTo (decodeParts n ws ms) (held .lower) d v a)) (sym (eqb-true k j q)))
-                    (λ q. getD-set-other rs (j + 1) (k + 1) 1 0 (λ y. eqb-false k j q (omega arith)) ∙ s .done ms v f k (last k l (eqb-false k j q)));
+                    (λ q. getD-set-other rs (j + 1) (k + 1) 1 0 (λ y. eqb-false k j q (omega arith)) ∙ s .done ms v f k (last k l
+                    (eqb-false k j q)));
                 rest = λ k l u. getD-set-other rs (j + 1) (k + 1) 1 0 (λ y. omega arith) ∙ s .rest k (omega arith) u;
               }
 
@@ -119,7 +123,8 @@ module _ (ws : List ℕ) (n : ℕ) (held : RowsHeld ws n) where
                 done = λ ms v f k l.
                     by-cases (eqb k j)
                     (λ q. ap (λ (a : ℕ). getD rs (a + 1) 0) (eqb-true k j q) ∙ s .rest j (omega arith) (omega (arith, held .few)) ∙
-                    ap bit (sym e ∙ counts-down ms v f) ∙ ap (λ (a : ℕ). bit (downTo (decodeParts n ws ms) (held .lower) d v a)) (sym (eqb-true k j q)))
+                    ap bit (sym e ∙ counts-down ms v f) ∙ ap (λ (a : ℕ). bit (downTo (decodeParts n ws ms) (held .lower) d v a)) (sym
+                    (eqb-true k j q)))
                     (λ q. s .done ms v f k (last k l (eqb-false k j q)));
                 rest = λ k l u. s .rest k (omega arith) u;
               }
@@ -152,7 +157,8 @@ module _ (ws : List ℕ) (n : ℕ) (held : RowsHeld ws n) where
           counted (getD fs (k + 1) 0) (getD rs (k + 1) 0) d ≡ (among k v || (d && upTo (decodeParts n ws ms) d v k))
       counts-up ms v f =
           ap (λ (a : ℕ). counted a (getD rs (k + 1) 0) d) (f .flags k (omega (arith, held .few))) ∙
-          ap (λ (a : ℕ). counted (bit (among k v)) a d) (s .flags ms v f k (omega (arith, held .few)) ∙ ap bit (sym (up-all ms v k (k + 1) (omega arith)))) ∙
+          ap (λ (a : ℕ). counted (bit (among k v)) a d) (s .flags ms v f k (omega (arith, held .few)) ∙ ap bit (sym (up-all ms v k (k +
+          1) (omega arith)))) ∙
           counted-bits (among k v) (upTo (decodeParts n ws ms) d v k) d
 
       parent-is : (ms : List ℕ) (j : ℕ) → parentIs (decodeParts n ws ms) j k ≡ eqb (getD ws k 0 / 4 % 1024) (j + 1)
@@ -167,7 +173,8 @@ module _ (ws : List ℕ) (n : ℕ) (held : RowsHeld ws n) where
       one-more ms v j =
           let e : n - k ≡ suc (n - (k + 1)) = omega arith in
           ap (anyFrom (childCounts (decodeParts n ws ms) d v j) k) e ∙
-          ap (λ (a : ℕ). childCounts (decodeParts n ws ms) d v j k || anyFrom (childCounts (decodeParts n ws ms) d v j) a (n - (k + 1))) (sym (add-one k))
+          ap (λ (a : ℕ). childCounts (decodeParts n ws ms) d v j k || anyFrom (childCounts (decodeParts n ws ms) d v j) a (n - (k + 1)))
+          (sym (add-one k))
 
       pub climbing-next : Climbing ws n d fs k (climbed (getD ws k 0) k d fs rs)
       climbing-next =
@@ -180,7 +187,8 @@ module _ (ws : List ℕ) (n : ℕ) (held : RowsHeld ws n) where
           test : Bool
           test = counted (getD fs (k + 1) 0) (getD rs (k + 1) 0) d
 
-          child : (ms v : List ℕ) → Flagged v fs → (j : ℕ) → (t : Bool) → test ≡ t → childCounts (decodeParts n ws ms) d v j k ≡ (eqb l (j + 1) && t)
+          child : (ms v : List ℕ) → Flagged v fs → (j : ℕ) → (t : Bool) → test ≡ t → childCounts (decodeParts n ws ms) d v j k ≡ (eqb l
+              (j + 1) && t)
           child ms v f j t e =
               ap (λ (a : Bool). a && (among k v || (d && upTo (decodeParts n ws ms) d v k))) (parent-is ms j) ∙
               ap (λ (a : Bool). eqb l (j + 1) && a) (sym (counts-up ms v f) ∙ e)
@@ -198,14 +206,16 @@ module _ (ws : List ℕ) (n : ℕ) (held : RowsHeld ws n) where
                   ap (λ (a : ℕ). getD (set rs l 1) a 0) (sym (eqb-true l (j + 1) q)) ∙
                   getD-set-same rs l 1 0 (omega (arith, s .size, link-low k h)) ∙
                   ap bit (sym (one-more ms v j ∙
-                  ap (λ (t : Bool). t || anyFrom (childCounts (decodeParts n ws ms) d v j) (k + 1) (n - (k + 1))) (child ms v f j true e ∙ ap (λ (a : Bool). a && true) q)))
+                  ap (λ (t : Bool). t || anyFrom (childCounts (decodeParts n ws ms) d v j) (k + 1) (n - (k + 1))) (child ms v f j true e
+                  ∙ ap (λ (a : Bool). a && true) q)))
 
               there : (ms v : List ℕ) → Flagged v fs → (j : ℕ) → j < 512 → eqb l (j + 1) ≡ false →
                   getD (set rs l 1) (j + 1) 0 ≡ bit (anyFrom (childCounts (decodeParts n ws ms) d v j) k (n - k))
               there ms v f j u q =
                   getD-set-other rs l (j + 1) 1 0 (λ y. eqb-false l (j + 1) q (sym y)) ∙ s .flags ms v f j u ∙
                   ap bit (sym (one-more ms v j ∙
-                  ap (λ (t : Bool). t || anyFrom (childCounts (decodeParts n ws ms) d v j) (k + 1) (n - (k + 1))) (child ms v f j true e ∙ ap (λ (a : Bool). a && true) q)))
+                  ap (λ (t : Bool). t || anyFrom (childCounts (decodeParts n ws ms) d v j) (k + 1) (n - (k + 1))) (child ms v f j true e
+                  ∙ ap (λ (a : Bool). a && true) q)))
 
           not-counting : test ≡ false → Climbing ws n d fs k rs
           not-counting e =

@@ -35,7 +35,8 @@ filtered-next f [] i = refl
 filtered-next f (x ∷ v) i = go (f x) (filtered-next f v i)
   where
     go : (t : Bool) → filtered f (v ++ (i ∷ [])) ≡ filtered f v ++ pick (f i) (i ∷ []) [] →
-        pick t (x ∷ filtered f (v ++ (i ∷ []))) (filtered f (v ++ (i ∷ []))) ≡ pick t (x ∷ filtered f v) (filtered f v) ++ pick (f i) (i ∷ []) []
+        pick t (x ∷ filtered f (v ++ (i ∷ []))) (filtered f (v ++ (i ∷ []))) ≡ pick t (x ∷ filtered f v) (filtered f v) ++ pick (f i) (i
+        ∷ []) []
     go true e = ap (λ (l : List ℕ). x ∷ l) e
     go false e = e
 
@@ -43,7 +44,8 @@ pub filtered-none : (f : ℕ → Bool) (w : List ℕ) (from : ℕ) → Appended 
 unfolding filtered
 filtered-none f w from = subst (λ (v : List ℕ). Appended (filtered f v) w from w from) (sym (value-none w from)) (appended-none w from)
 
-pub filtered-by : (f : ℕ → Bool) (w w′ : List ℕ) (from k r : ℕ) → from ≤ k → k < length w → r < length w′ → Appended (filtered f (valueAt w from k)) w from w′ r →
+pub filtered-by : (f : ℕ → Bool) (w w′ : List ℕ) (from k r : ℕ) → from ≤ k → k < length w → r < length w′ → Appended (filtered f (valueAt
+    w from k)) w from w′ r →
     (t : Bool) (a : ℕ) (w″ : List ℕ) (r″ : ℕ) → a ≡ getD w k 0 → t ≡ f (getD w k 0) → w″ ≡ pick t (set w′ r a) w′ → r″ ≡ pick t (r + 1) r →
     Appended (filtered f (valueAt w from (k + 1))) w from w″ r″
 filtered-by f w w′ from k r l h b s t a w″ r″ same e p q =
@@ -59,7 +61,8 @@ filtered-by f w w′ from k r l h b s t a w″ r″ same e p q =
     (appended-if (f (getD w k 0)) (getD w k 0) (filtered f (valueAt w from k)) w w′ from r b s)))
 
 -- what is still to be read stays
-pub rest-kept : (t : Bool) (w w′ : List ℕ) (k r a : ℕ) → r ≤ k → drop k w′ ≡ drop k w → drop (k + 1) (pick t (set w′ r a) w′) ≡ drop (k + 1) w
+pub rest-kept : (t : Bool) (w w′ : List ℕ) (k r a : ℕ) → r ≤ k → drop k w′ ≡ drop k w → drop (k + 1) (pick t (set w′ r a) w′) ≡ drop (k +
+    1) w
 rest-kept true w w′ k r a l e =
     drop-set-lt (k + 1) w′ r a (omega arith) ∙ further
   where
@@ -70,7 +73,8 @@ rest-kept false w w′ k r a l e = sym (drop-drop 1 k w′) ∙ ap (drop 1) e �
 pub rest-at : (w w′ : List ℕ) (k : ℕ) → drop k w′ ≡ drop k w → getD w′ k 0 ≡ getD w k 0
 rest-at w w′ k e =
     let z : k + 0 ≡ k = omega arith in
-    ap (λ (j : ℕ). getD w′ j 0) (sym z) ∙ sym (getD-drop k w′ 0 0) ∙ ap (λ (l : List ℕ). getD l 0 0) e ∙ getD-drop k w 0 0 ∙ ap (λ (j : ℕ). getD w j 0) z
+    ap (λ (j : ℕ). getD w′ j 0) (sym z) ∙ sym (getD-drop k w′ 0 0) ∙ ap (λ (l : List ℕ). getD l 0 0) e ∙ getD-drop k w 0 0 ∙ ap (λ (j :
+    ℕ). getD w j 0) z
 
 -- the model's pick
 pub picked-rows : (ws : List ℕ) (n r c : ℕ) (v ms : List ℕ) → n ≤ length ws → ((k : ℕ) → k < length v → getD v k 0 < n) →
@@ -81,7 +85,8 @@ picked-rows ws n r c (i ∷ v) ms w h =
     let e : pickedRow ws r c i ≡ isPicked (decodeParts n ws ms) r c i =
     ap (λ (q : model.Row). q .isLeaf && relates r c (q .tag)) (sym (rowAt-decode n ws ms w i (h 0 (omega arith)))) in
     ap (λ (t : Bool). pick t (i ∷ filtered (pickedRow ws r c) v) (filtered (pickedRow ws r c) v)) e ∙
-    ap (λ (l : List ℕ). pick (isPicked (decodeParts n ws ms) r c i) (i ∷ l) l) (picked-rows ws n r c v ms w (λ k b. h (suc k) (omega arith)))
+    ap (λ (l : List ℕ). pick (isPicked (decodeParts n ws ms) r c i) (i ∷ l) l) (picked-rows ws n r c v ms w (λ k b. h (suc k) (omega
+    arith)))
 
 pub pick-low : (t : Bool) (r : ℕ) → pick t (r + 1) r ≤ r + 1
 pick-low true r = omega arith

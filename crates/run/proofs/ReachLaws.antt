@@ -97,7 +97,8 @@ through-or f g (some p) = refl
 -- DOWN
 module _ (x : Table) (lower : (i p : ℕ) → rowAt x i .parent ≡ some p → p < i) where
   below-unrolled : (t i : ℕ) → isBelow x t i ≡ (parentIs x t i || through (isBelow x t) (rowAt x i .parent))
-  below-unrolled t i = bool-iff (isBelow x t i) (parentIs x t i || through (isBelow x t) (rowAt x i .parent)) (λ e. one (below-is x t i e)) back
+  below-unrolled t i = bool-iff (isBelow x t i) (parentIs x t i || through (isBelow x t) (rowAt x i .parent)) (λ e. one (below-is x t i
+      e)) back
     where
       one : Below x t i → (parentIs x t i || through (isBelow x t) (rowAt x i .parent)) ≡ true
       one (under e) = or-left (parentIs x t i) (through (isBelow x t) (rowAt x i .parent)) (isThe-by t (rowAt x i .parent) e)
@@ -129,10 +130,12 @@ module _ (x : Table) (lower : (i p : ℕ) → rowAt x i .parent ≡ some p → p
       plain none = refl
       plain (some p) = sym (or-false (among p v))
   down-parent true v j =
-      any-ext (λ (i : ℕ). isBelow x i j) (λ (i : ℕ). parentIs x i j || through (isBelow x i) (rowAt x j .parent)) v (λ i. below-unrolled i j) ∙
+      any-ext (λ (i : ℕ). isBelow x i j) (λ (i : ℕ). parentIs x i j || through (isBelow x i) (rowAt x j .parent)) v (λ i. below-unrolled
+      i j) ∙
       any-or (λ (i : ℕ). parentIs x i j) (λ (i : ℕ). through (isBelow x i) (rowAt x j .parent)) v ∙
       ap (λ (t : Bool). t || any (λ (i : ℕ). through (isBelow x i) (rowAt x j .parent)) v) (any-isThe (rowAt x j .parent) v) ∙
-      ap (λ (t : Bool). through (λ (p : ℕ). among p v) (rowAt x j .parent) || t) (any-through (λ (i : ℕ). isBelow x i) v (rowAt x j .parent)) ∙
+      ap (λ (t : Bool). through (λ (p : ℕ). among p v) (rowAt x j .parent) || t) (any-through (λ (i : ℕ). isBelow x i) v (rowAt x j
+      .parent)) ∙
       through-or (λ (p : ℕ). among p v) (λ (p : ℕ). any (λ (i : ℕ). isBelow x i p) v) (rowAt x j .parent)
 
   -- UP
@@ -141,7 +144,8 @@ module _ (x : Table) (lower : (i p : ℕ) → rowAt x i .parent ≡ some p → p
   first-child j i (under e) = (i, e, inl refl)
   first-child j i (further {p = p} e b) = go (first-child j p b)
     where
-      go : (c : ℕ) × (rowAt x c .parent ≡ some j) × ((c ≡ p) ⊎ Below x c p) → (c : ℕ) × (rowAt x c .parent ≡ some j) × ((c ≡ i) ⊎ Below x c i)
+      go : (c : ℕ) × (rowAt x c .parent ≡ some j) × ((c ≡ p) ⊎ Below x c p) → (c : ℕ) × (rowAt x c .parent ≡ some j) × ((c ≡ i) ⊎ Below x
+          c i)
       go (c, f, inl q) = (c, f, inr (under (e ∙ ap some (sym q))))
       go (c, f, inr q) = (c, f, inr (further e q))
 
@@ -165,7 +169,8 @@ module _ (x : Table) (lower : (i p : ℕ) → rowAt x i .parent ≡ some p → p
   -- a row is reached where a child counts; children are above it, so any start up to the next row serves
   pub up-children : (d : Bool) (v : List ℕ) (j t : ℕ) → t ≤ j + 1 → upTo x d v j ≡ anyFrom (childCounts x d v j) t (count x - t)
   up-children false v j t low =
-      bool-iff (upTo x false v j) (anyFrom (childCounts x false v j) t (count x - t)) (λ e. there (any-elim (λ (i : ℕ). parentIs x j i) v e))
+      bool-iff (upTo x false v j) (anyFrom (childCounts x false v j) t (count x - t)) (λ e. there (any-elim (λ (i : ℕ). parentIs x j i) v
+      e))
       (λ e. back (any-from (childCounts x false v j) t (count x - t) e))
     where
       there : (i : ℕ) × (among i v ≡ true) × (parentIs x j i ≡ true) → anyFrom (childCounts x false v j) t (count x - t) ≡ true

@@ -37,7 +37,11 @@ appended-if true a v w w′ from r h s =
     total : r + 1 ≡ from + length (v ++ (a ∷ []))
     total = omega (arith, s .end, length-append v (a ∷ []))
 appended-if false a v w w′ from r h s =
-    record { front = s .front ∙ ap (λ (l : List ℕ). take from w ++ l) (sym (append-nil v)); end = s .end ∙ ap (λ (l : List ℕ). from + length l) (sym (append-nil v)) }
+    record {
+      front = s .front ∙ ap (λ (l : List ℕ). take from w ++ l) (sym (append-nil v));
+      end = s .end ∙ ap (λ (l : List ℕ). from +
+          length l) (sym (append-nil v));
+    }
 
 -- COLLECTED, one row more
 collect-last : (f : ℕ → Bool) (i n : ℕ) → collect f i (suc n) ≡ collect f i n ++ pick (f (i + n)) ((i + n) ∷ []) []
@@ -84,15 +88,18 @@ admits-axis a b t n (named m) = refl
 pub step-rows : (ws : List ℕ) (n axis test name : ℕ) (fs rs v ms : List ℕ) → n ≤ length ws → Flagged v fs → Reached ws n axis fs rs →
     keptRows ws rs test name n ≡ stepped (decodeParts n ws ms) (stepBy axis test name) v
 step-rows ws n axis test name fs rs v ms within f s =
-    collect-same (λ (j : ℕ). kept ws j (getD rs (j + 1) 0) test name) (isReached (decodeParts n ws ms) (stepBy axis test name) v) 0 n (λ j h. here j (omega arith)) ∙
+    collect-same (λ (j : ℕ). kept ws j (getD rs (j + 1) 0) test name) (isReached (decodeParts n ws ms) (stepBy axis test name) v) 0 n (λ
+    j h. here j (omega arith)) ∙
     sym (step-collect (decodeParts n ws ms) (stepBy axis test name) v 0 n) ∙
     ap (λ (k : ℕ). stepFrom (decodeParts n ws ms) (stepBy axis test name) v 0 k) (sym (count-decode n ws ms within))
   where
     here : (j : ℕ) → j < n → kept ws j (getD rs (j + 1) 0) test name ≡ isReached (decodeParts n ws ms) (stepBy axis test name) v j
     here j h =
         ap (λ (a : ℕ). not (eqb a 0) && admits (stepBy 0 test name) (letterOf (rowOf (getD ws j 0)))) (s .flags ms v f j h) ∙
-        ap (λ (t : Bool). t && admits (stepBy 0 test name) (letterOf (rowOf (getD ws j 0)))) (not-zero (any (λ (i : ℕ). reaches (decodeParts n ws ms) axis i j) v)) ∙
-        and-comm (any (λ (i : ℕ). reaches (decodeParts n ws ms) axis i j) v) (admits (stepBy 0 test name) (letterOf (rowOf (getD ws j 0)))) ∙
+        ap (λ (t : Bool). t && admits (stepBy 0 test name) (letterOf (rowOf (getD ws j 0)))) (not-zero (any (λ (i : ℕ). reaches
+        (decodeParts n ws ms) axis i j) v)) ∙
+        and-comm (any (λ (i : ℕ). reaches (decodeParts n ws ms) axis i j) v) (admits (stepBy 0 test name) (letterOf (rowOf (getD ws j
+        0)))) ∙
         ap (λ (r : model.Row). admits (stepBy 0 test name) (letterOf r) && any (λ (i : ℕ). reaches (decodeParts n ws ms) axis i j) v)
         (sym (rowAt-decode n ws ms within j h)) ∙
         ap (λ (t : Bool). t && any (λ (i : ℕ). reaches (decodeParts n ws ms) axis i j) v)
@@ -110,9 +117,11 @@ collected-next f n w w′ from r h s =
     (appended-if (f n) n (collect f 0 n) w w′ from r h s)
 
 pub collected-by : (f : ℕ → Bool) (n : ℕ) (w w′ : List ℕ) (from r : ℕ) → r < length w′ → Appended (collect f 0 n) w from w′ r →
-    (t : Bool) (w″ : List ℕ) (r″ : ℕ) → t ≡ f n → w″ ≡ pick t (set w′ r n) w′ → r″ ≡ pick t (r + 1) r → Appended (collect f 0 (n + 1)) w from w″ r″
+    (t : Bool) (w″ : List ℕ) (r″ : ℕ) → t ≡ f n → w″ ≡ pick t (set w′ r n) w′ → r″ ≡ pick t (r + 1) r → Appended (collect f 0 (n + 1)) w
+    from w″ r″
 collected-by f n w w′ from r h s t w″ r″ e a b =
     let here : w″ ≡ pick (f n) (set w′ r n) w′ = a ∙ ap (λ (u : Bool). pick u (set w′ r n) w′) e in
     let past : r″ ≡ pick (f n) (r + 1) r = b ∙ ap (λ (u : Bool). pick u (r + 1) r) e in
     subst (λ (l : List ℕ). Appended (collect f 0 (n + 1)) w from l r″) (sym here)
-    (subst (λ (j : ℕ). Appended (collect f 0 (n + 1)) w from (pick (f n) (set w′ r n) w′) j) (sym past) (collected-next f n w w′ from r h s))
+    (subst (λ (j : ℕ). Appended (collect f 0 (n + 1)) w from (pick (f n) (set w′ r n) w′) j) (sym past) (collected-next f n w w′ from r h
+    s))

@@ -108,7 +108,8 @@ module _ (s ws ms : List ℕ) (n i : ℕ) (pre : RowPre s ws n) where
         pub row-child : wordAt s 2 < n → (getD ws (wordAt s 2) 0 % 4 ≡ 2 → ⊥) → rowFault (decodeParts n ws ms) i s ≡ fine
         row-child h l =
             let k : wordAt s 2 < model.count (decodeParts n ws ms) = omega (arith, count-decode n ws ms within-512) in
-            let e : model.isElement (decodeParts n ws ms) (wordAt s 2) ≡ true = element-kind n ws ms within-512 (wordAt s 2) h ∙ rw (ne-eqb (getD ws (wordAt s 2) 0 % 4) 2 l) in
+            let e : model.isElement (decodeParts n ws ms) (wordAt s 2) ≡ true = element-kind n ws ms within-512 (wordAt s 2) h ∙ rw
+            (ne-eqb (getD ws (wordAt s 2) 0 % 4) 2 l) in
             rw (fits, first, ne-eqb (wordAt s 2) 65535 some-parent, e, lt-ltb (wordAt s 2) (model.count (decodeParts n ws ms)) k)
 
 -- MARKS: a mark at the front, by the tests on its way out
@@ -180,11 +181,13 @@ isThe-linked link m h =
 
     go-some : eqb m 0 ≡ false → (m ≡ 0 → ⊥) → model.isThe (link - 1) (linked m) ≡ eqb m link
     go-some e f =
-        rw e (by-cases (eqb m link) (λ q. let k : m - 1 ≡ link - 1 = omega (arith, eqb-true m link q) in eq-eqb (m - 1) (link - 1) k ∙ sym q)
+        rw e (by-cases (eqb m link) (λ q. let k : m - 1 ≡ link - 1 = omega (arith, eqb-true m link q) in eq-eqb (m - 1) (link - 1) k ∙
+        sym q)
         (λ q. ne-eqb (m - 1) (link - 1) (λ k. eqb-false m link q (omega (arith, f))) ∙ sym q))
 
 pub marked-turn : (ms : List ℕ) (d link : ℕ) → d < length ms → 0 < link →
-    any (model.isThe (link - 1)) (map linked (drop d ms)) ≡ (eqb (getD ms d 0) link || any (model.isThe (link - 1)) (map linked (drop (d + 1) ms)))
+    any (model.isThe (link - 1)) (map linked (drop d ms)) ≡ (eqb (getD ms d 0) link || any (model.isThe (link - 1)) (map linked (drop (d
+    + 1) ms)))
 unfolding any
 marked-turn ms d link h l = rw (drop-cons ms d 0 h, isThe-linked link (getD ms d 0) l, add-one)
 
@@ -241,7 +244,8 @@ last-range (some j ∷ ms) from =
     inr (by-cases (eqb (lastMarked (suc from) ms) 0) (λ e. rw e (omega arith))
     (λ e. rw e (⊎-elim (λ z. absurd (eqb-false (lastMarked (suc from) ms) 0 e z)) (λ h. omega arith) (last-range ms (suc from)))))
 
-pub last-set : (ms : List (Option ℕ)) (from d i : ℕ) → d < length ms → lastMarked from ms ≤ from + d → lastMarked from (set ms d (some i)) ≡ from + d + 1
+pub last-set : (ms : List (Option ℕ)) (from d i : ℕ) → d < length ms → lastMarked from ms ≤ from + d → lastMarked from (set ms d (some
+    i)) ≡ from + d + 1
 unfolding lastMarked
 last-set [] from d i h l = absurd (omega arith)
 last-set (none ∷ ms) from zero i h l =
@@ -257,7 +261,10 @@ last-set (none ∷ ms) from (suc d) i h l =
 last-set (some j ∷ ms) from (suc d) i h l = go (last-set ms (suc from) d i (omega arith) low)
   where
     low : lastMarked (suc from) ms ≤ suc from + d
-    low = by-cases (eqb (lastMarked (suc from) ms) 0) (λ e. omega (arith, eqb-true (lastMarked (suc from) ms) 0 e)) (λ e. omega (arith, rw e at l))
+    low = by-cases (eqb (lastMarked (suc from) ms) 0) (λ e. omega (arith, eqb-true (lastMarked (suc from) ms) 0 e)) (λ e. omega (
+      arith,
+      rw e at l,
+    ))
 
     go : lastMarked (suc from) (set ms d (some i)) ≡ suc from + d + 1 →
         pick (eqb (lastMarked (suc from) (set ms d (some i))) 0) (suc from) (lastMarked (suc from) (set ms d (some i))) ≡ from + suc d + 1
@@ -299,7 +306,8 @@ module _ (s ws ms : List ℕ) (n last : ℕ) (pre : RecordPre s ws ms n last) (w
           record {
             whole = whole;
             table =
-                ap (decodeParts n ws) e ∙ decode-mark n (getD s 1 0) (wordAt s 2) ws ms ∙ sym (recorded-mark (decodeParts n ws ms) 0 s kind);
+                ap (decodeParts n ws) e ∙ decode-mark n (getD s 1 0) (wordAt s 2) ws ms ∙ sym (recorded-mark (decodeParts n ws ms) 0 s
+                kind);
             held =
                 record {
                   room = pre .held .room;
@@ -384,7 +392,8 @@ module _ (b ws ms : List ℕ) (n at : ℕ) (h : at < length b)
         let w : 4 ≤ length (take (length b - at) (drop at b)) = post .fine z .whole in (
           omega (arith, ap length rest, length-drop at b),
           ap (λ (j : ℕ). readFrom j (decodeParts (r .count) ws′ ms′) (at + 4) (drop (at + 4) b)) falls ∙
-              ap (λ (x : model.Table). readFrom (length b - at / 4) x (at + 4) (drop (at + 4) b)) (post .fine z .table ∙ ap (recorded (decodeParts n ws ms)) rest) ∙
+              ap (λ (x : model.Table). readFrom (length b - at / 4) x (at + 4) (drop (at + 4) b)) (post .fine z .table ∙ ap (recorded
+              (decodeParts n ws ms)) rest) ∙
               ap (readFrom (length b - at / 4) (recorded (decodeParts n ws ms) (drop at b)) (at + 4)) (sym (drop-drop 4 at b)) ∙
               sym (read-fine (length b - at / 4) (decodeParts n ws ms) at (drop at b) more (faults ∙ rw z)) ∙
               ap (λ (j : ℕ). readFrom j (decodeParts n ws ms) at (drop at b)) (sym fuel) ∙ held,
@@ -414,7 +423,8 @@ module _ (ws ms : List ℕ) (pre : ReadPre ws ms) where
 
 -- the end
 pub reading-end : (b ws ms : List ℕ) (n at : ℕ) → length b ≤ at →
-    readFrom (length b + 1 - at / 4) (decodeParts n ws ms) at (drop at b) ≡ readPlan b → at ≤ length b → got (decodeParts n ws ms) ≡ readPlan b
+    readFrom (length b + 1 - at / 4) (decodeParts n ws ms) at (drop at b) ≡ readPlan b → at ≤ length b → got (decodeParts n ws ms) ≡
+    readPlan b
 reading-end b ws ms n at h held l =
     let fuel : length b + 1 - at / 4 ≡ suc (length b - at / 4) = omega arith in
     sym (read-end (length b - at / 4) (decodeParts n ws ms) at) ∙

@@ -2,10 +2,6 @@ use Rattle.ffi.proofs.CallLaws.{script-read, script-refused}
 use borrow.Author.Needs.{needs}
 use Rattle.ffi.proofs.yegnabit_script.Statement.{statement}
 use Rattle.ffi.proofs.yegnabit_script.Tie as tie
-use Rattle.ffi.proofs.yegnabit_script.Reads as reads
-use Rattle.ffi.proofs.yegnabit_script.Lts as lts
-use Rattle.ffi.proofs.code.Reads as code-reads
-use Rattle.script.proofs.read_script.Reads as read-script-reads
 
 read-script-requires : tie.Need-read-script-requires
 read-script-requires c κs = search needs
@@ -14,13 +10,15 @@ code-requires : tie.Need-code-requires
 code-requires c κs = search needs
 
 returns : tie.Need-returns
-returns c = script-read (c .before .before .before .before .args .bytes .now) (c .before .before .read-script .result) (c .code .result) (c .before .before .read-script .ensures) (c .before .if1 .taken) (c .code .ensures)
+returns c = script-read (c .before .before .before .before .args .bytes .now) (c .before .before .read-script .result) (c .code .result)
+    (c .before .before .read-script .ensures) (c .before .if1 .taken) (c .code .ensures)
 
 code-requires-2 : tie.Need-code-requires-2
 code-requires-2 c κs = search needs
 
 returns-2 : tie.Need-returns-2
-returns-2 c = script-refused (c .before .before .before .before .args .bytes .now) (c .before .before .read-script .result) (c .code2 .result) (c .before .before .read-script .ensures) (c .before .if1 .left) (c .code2 .ensures)
+returns-2 c = script-refused (c .before .before .before .before .args .bytes .now) (c .before .before .read-script .result) (c .code2
+    .result) (c .before .before .read-script .ensures) (c .before .if1 .left) (c .code2 .ensures)
 
 pub yegnabit-script-spec : {M : Type 1} → statement M
 yegnabit-script-spec =

@@ -9,26 +9,26 @@ use native.Mathlib.Omega.{arith}
 use borrow.Author.Needs.{needs}
 use Rattle.ffi.proofs.yegnabit_sweep_table.Statement.{statement}
 use Rattle.ffi.proofs.yegnabit_sweep_table.Tie as tie
-use Rattle.ffi.proofs.yegnabit_sweep_table.Reads as reads
-use Rattle.ffi.proofs.yegnabit_sweep_table.Lts as lts
-use Rattle.ffi.proofs.code.Reads as code-reads
-use Rattle.ffi.proofs.copy.marks_of.Reads as marks-of-reads
-use Rattle.ffi.proofs.copy.put_marks.Reads as put-marks-reads
-use Rattle.ffi.proofs.copy.put_rows.Reads as put-rows-reads
-use Rattle.ffi.proofs.copy.rows_of.Reads as rows-of-reads
-use Rattle.table.proofs.sweep_table.Reads as sweep-table-reads
 
 code-requires : tie.Need-code-requires
 code-requires c κs = search needs
 
 returns : tie.Need-returns
-returns c = sweep-not (c .before .before .before .before .args .count) (c .before .before .before .before .args .rows .now) (c .before .before .before .before .args .marks .now) (c .code .result) (c .code .ensures) (rows-not-given (c .before .before .before .before .args .rows .now) (c .before .before .before .before .args .marks .now) (c .before .if1 .taken))
+returns c = sweep-not (c .before .before .before .before .args .count) (c .before .before .before .before .args .rows .now) (c .before
+    .before .before .before .args .marks .now) (c .code .result) (c .code .ensures) (rows-not-given (c .before .before .before .before
+    .args .rows .now) (c .before .before .before .before .args .marks .now) (c .before .if1 .taken))
 
 code-requires-2 : tie.Need-code-requires-2
 code-requires-2 c κs = search needs
 
 returns-2 : tie.Need-returns-2
-returns-2 c = sweep-not (c .before .before .before .before .before .args .count) (c .before .before .before .before .before .args .rows .now) (c .before .before .before .before .before .args .marks .now) (c .code2 .result) (c .code2 .ensures) (marks-not-given (c .before .before .before .before .before .args .rows .now) (c .before .before .before .before .before .args .marks .now) (search (c .before .before .if1 .left, needs)) (c .before .if2 .taken))
+returns-2 c = sweep-not (c .before .before .before .before .before .args .count) (c .before .before .before .before .before .args .rows
+    .now) (c .before .before .before .before .before .args .marks .now) (c .code2 .result) (c .code2 .ensures) (marks-not-given (c
+    .before .before .before .before .before .args .rows .now) (c .before .before .before .before .before .args .marks .now) (search (
+      c
+          .before .before .if1 .left,
+      needs,
+    )) (c .before .if2 .taken))
 
 rows-of-requires : tie.Need-rows-of-requires
 rows-of-requires c κs = search needs
@@ -49,13 +49,32 @@ same-length-2 : tie.Need-same-length-2
 same-length-2 c = search needs
 
 returns-3 : tie.Need-returns-3
-returns-3 c = sweep-refused (c .before .before .before .before .before .before .before .before .before .before .before .args .count) (c .before .before .before .before .before .before .before .before .before .before .before .args .rows .now) (c .before .before .before .before .before .before .before .before .before .before .before .args .marks .now) (given (c .before .before .before .before .before .before .before .before .before .before .before .args .count) (c .before .before .before .before .before .rows-of .result) (c .before .before .before .marks-of .result)) (given-by (c .before .before .before .before .before .before .before .before .before .before .before .args .count) (c .before .before .before .before .before .before .before .before .before .before .before .args .rows .now) (c .before .before .before .before .before .before .before .before .before .before .before .args .marks .now) (c .before .before .before .before .before .rows-of .result) (c .before .before .before .marks-of .result) (c .before .before .before .before .before .rows-of .ensures) (c .before .before .before .marks-of .ensures)) (c .before .before .sweep-table .result) (is-given (c .before .before .before .before .before .before .before .before .before .before .before .args .rows .now) (c .before .before .before .before .before .before .before .before .before .before .before .args .marks .now) (search (c .before .before .before .before .before .before .before .before .if1 .left, needs)) (search (c .before .before .before .before .before .before .before .if2 .left, needs))) (c .before .before .sweep-table .ensures) (c .code3 .result) (c .code3 .ensures) (c .before .if3 .taken)
+returns-3 c = sweep-refused (c .before .before .before .before .before .before .before .before .before .before .before .args .count) (c
+    .before .before .before .before .before .before .before .before .before .before .before .args .rows .now) (c .before .before .before
+    .before .before .before .before .before .before .before .before .args .marks .now) (given (c .before .before .before .before .before
+    .before .before .before .before .before .before .args .count) (c .before .before .before .before .before .rows-of .result) (c .before
+    .before .before .marks-of .result)) (given-by (c .before .before .before .before .before .before .before .before .before .before
+    .before .args .count) (c .before .before .before .before .before .before .before .before .before .before .before .args .rows .now) (c
+    .before .before .before .before .before .before .before .before .before .before .before .args .marks .now) (c .before .before .before
+    .before .before .rows-of .result) (c .before .before .before .marks-of .result) (c .before .before .before .before .before .rows-of
+    .ensures) (c .before .before .before .marks-of .ensures)) (c .before .before .sweep-table .result) (is-given (c .before .before
+    .before .before .before .before .before .before .before .before .before .args .rows .now) (c .before .before .before .before .before
+    .before .before .before .before .before .before .args .marks .now) (search (
+      c .before .before .before .before .before .before .before
+          .before .if1 .left,
+      needs,
+    )) (search (c .before .before .before .before .before .before .before .if2 .left, needs))) (c .before
+    .before .sweep-table .ensures) (c .code3 .result) (c .code3 .ensures) (c .before .if3 .taken)
 
 put-rows-requires : tie.Need-put-rows-requires
 put-rows-requires c κs = search (c .before .before .before .before .before .before .before .before .before .before .if1 .left, needs)
 
 put-marks-requires : tie.Need-put-marks-requires
-put-marks-requires c κs = search (c .before .before .before .before .before .before .before .before .before .before .before .before .before .if2 .left, needs)
+put-marks-requires c κs = search (
+  c .before .before .before .before .before .before .before .before .before .before .before .before
+      .before .if2 .left,
+  needs,
+)
 
 code-requires-4 : tie.Need-code-requires-4
 code-requires-4 c κs = search needs
@@ -67,7 +86,42 @@ same-length-4 : tie.Need-same-length-4
 same-length-4 c = search needs
 
 returns-4 : tie.Need-returns-4
-returns-4 c = sweep-done (c .before .before .before .before .before .before .before .before .before .before .before .before .before .before .before .before .before .before .before .before .before .args .count) (c .before .before .before .before .before .before .before .before .before .before .before .before .before .before .before .before .before .before .before .before .before .args .rows .now) (c .before .before .before .before .before .before .before .before .before .before .before .before .before .before .before .before .before .before .before .before .before .args .marks .now) (given (c .before .before .before .before .before .before .before .before .before .before .before .before .before .before .before .before .before .before .before .before .before .args .count) (c .before .before .before .before .before .before .before .before .before .before .before .before .before .before .before .rows-of .result) (c .before .before .before .before .before .before .before .before .before .before .before .before .before .marks-of .result)) (given-by (c .before .before .before .before .before .before .before .before .before .before .before .before .before .before .before .before .before .before .before .before .before .args .count) (c .before .before .before .before .before .before .before .before .before .before .before .before .before .before .before .before .before .before .before .before .before .args .rows .now) (c .before .before .before .before .before .before .before .before .before .before .before .before .before .before .before .before .before .before .before .before .before .args .marks .now) (c .before .before .before .before .before .before .before .before .before .before .before .before .before .before .before .rows-of .result) (c .before .before .before .before .before .before .before .before .before .before .before .before .before .marks-of .result) (c .before .before .before .before .before .before .before .before .before .before .before .before .before .before .before .rows-of .ensures) (c .before .before .before .before .before .before .before .before .before .before .before .before .before .marks-of .ensures)) (c .before .before .before .before .before .before .before .before .before .before .before .before .sweep-table .result) (is-given (c .before .before .before .before .before .before .before .before .before .before .before .before .before .before .before .before .before .before .before .before .before .args .rows .now) (c .before .before .before .before .before .before .before .before .before .before .before .before .before .before .before .before .before .before .before .before .before .args .marks .now) (search (c .before .before .before .before .before .before .before .before .before .before .before .before .before .before .before .before .before .before .if1 .left, needs)) (search (c .before .before .before .before .before .before .before .before .before .before .before .before .before .before .before .before .before .if2 .left, needs))) (c .before .before .before .before .before .before .before .before .before .before .before .before .sweep-table .ensures) (c .code4 .result) (c .before .before .before .before .before .before .before .put-rows .last .0) (c .before .before .before .put-marks .last .0) (c .code4 .ensures) (c .before .before .before .before .before .before .before .put-rows .ensures) (c .before .before .before .put-marks .ensures) (search (c .before .before .before .before .before .before .before .before .before .before .before .if3 .left, needs))
+returns-4 c = sweep-done (c .before .before .before .before .before .before .before .before .before .before .before .before .before
+    .before .before .before .before .before .before .before .before .args .count) (c .before .before .before .before .before .before
+    .before .before .before .before .before .before .before .before .before .before .before .before .before .before .before .args .rows
+    .now) (c .before .before .before .before .before .before .before .before .before .before .before .before .before .before .before
+    .before .before .before .before .before .before .args .marks .now) (given (c .before .before .before .before .before .before .before
+    .before .before .before .before .before .before .before .before .before .before .before .before .before .before .args .count) (c
+    .before .before .before .before .before .before .before .before .before .before .before .before .before .before .before .rows-of
+    .result) (c .before .before .before .before .before .before .before .before .before .before .before .before .before .marks-of
+    .result)) (given-by (c .before .before .before .before .before .before .before .before .before .before .before .before .before
+    .before .before .before .before .before .before .before .before .args .count) (c .before .before .before .before .before .before
+    .before .before .before .before .before .before .before .before .before .before .before .before .before .before .before .args .rows
+    .now) (c .before .before .before .before .before .before .before .before .before .before .before .before .before .before .before
+    .before .before .before .before .before .before .args .marks .now) (c .before .before .before .before .before .before .before .before
+    .before .before .before .before .before .before .before .rows-of .result) (c .before .before .before .before .before .before .before
+    .before .before .before .before .before .before .marks-of .result) (c .before .before .before .before .before .before .before .before
+    .before .before .before .before .before .before .before .rows-of .ensures) (c .before .before .before .before .before .before .before
+    .before .before .before .before .before .before .marks-of .ensures)) (c .before .before .before .before .before .before .before
+    .before .before .before .before .before .sweep-table .result) (is-given (c .before .before .before .before .before .before .before
+    .before .before .before .before .before .before .before .before .before .before .before .before .before .before .args .rows .now) (c
+    .before .before .before .before .before .before .before .before .before .before .before .before .before .before .before .before
+    .before .before .before .before .before .args .marks .now) (search (
+      c .before .before .before .before .before .before .before .before
+          .before .before .before .before .before .before .before .before .before .before .if1 .left,
+      needs,
+    )) (search (
+      c .before .before
+          .before .before .before .before .before .before .before .before .before .before .before .before .before .before .before .if2 .left,
+      needs,
+    ))) (c .before .before .before .before .before .before .before .before .before .before .before .before .sweep-table .ensures) (c
+    .code4 .result) (c .before .before .before .before .before .before .before .put-rows .last .0) (c .before .before .before .put-marks
+    .last .0) (c .code4 .ensures) (c .before .before .before .before .before .before .before .put-rows .ensures) (c .before .before
+    .before .put-marks .ensures) (search (
+      c .before .before .before .before .before .before .before .before .before .before .before .if3
+          .left,
+      needs,
+    ))
 
 pub yegnabit-sweep-table-spec : {M : Type 1} → statement M
 yegnabit-sweep-table-spec =

@@ -8,18 +8,16 @@ use native.Mathlib.Omega.{arith}
 use borrow.Author.Needs.{needs}
 use Rattle.ffi.proofs.yegnabit_undo.Statement.{statement}
 use Rattle.ffi.proofs.yegnabit_undo.Tie as tie
-use Rattle.ffi.proofs.yegnabit_undo.Reads as reads
-use Rattle.ffi.proofs.yegnabit_undo.Lts as lts
-use Rattle.ffi.proofs.code.Reads as code-reads
-use Rattle.run.proofs.undo.Reads as undo-reads
-use Rattle.table.proofs.read_plan.Reads as read-plan-reads
-use Rattle.table.proofs.write_plan.Reads as write-plan-reads
 
 code-requires : tie.Need-code-requires
 code-requires c κs = search needs
 
 returns : tie.Need-returns
-returns c = area-short (c .before .before .before .before .before .args .out .now) (backOut (undonePlan (c .before .before .before .before .before .args .plan .now) (c .before .before .before .before .before .args .history .now)) (c .before .before .before .before .before .args .out .now)) (backCode (undonePlan (c .before .before .before .before .before .args .plan .now) (c .before .before .before .before .before .args .history .now)) (c .before .before .before .before .before .args .out .now)) (library.planRead (c .before .before .before .before .before .args .plan .now)) (c .code .result) (c .code .ensures) (c .before .if1 .taken)
+returns c = area-short (c .before .before .before .before .before .args .out .now) (backOut (undonePlan (c .before .before .before
+    .before .before .args .plan .now) (c .before .before .before .before .before .args .history .now)) (c .before .before .before .before
+    .before .args .out .now)) (backCode (undonePlan (c .before .before .before .before .before .args .plan .now) (c .before .before
+    .before .before .before .args .history .now)) (c .before .before .before .before .before .args .out .now)) (library.planRead (c
+    .before .before .before .before .before .args .plan .now)) (c .code .result) (c .code .ensures) (c .before .if1 .taken)
 
 read-plan-requires : tie.Need-read-plan-requires
 read-plan-requires c κs = search needs
@@ -28,7 +26,13 @@ code-requires-2 : tie.Need-code-requires-2
 code-requires-2 c κs = search needs
 
 returns-2 : tie.Need-returns-2
-returns-2 c = plan-refused (c .before .before .before .before .before .before .before .args .out .now) (backOut (undonePlan (c .before .before .before .before .before .before .before .args .plan .now) (c .before .before .before .before .before .before .before .args .history .now)) (c .before .before .before .before .before .before .before .args .out .now)) (backCode (undonePlan (c .before .before .before .before .before .before .before .args .plan .now) (c .before .before .before .before .before .before .before .args .history .now)) (c .before .before .before .before .before .before .before .args .out .now)) (library.planRead (c .before .before .before .before .before .before .before .args .plan .now)) (omega (arith, c .before .before .before .if1 .left)) (c .before .before .read-plan .result) (c .before .before .read-plan .ensures) (c .code2 .result) (c .code2 .ensures) (c .before .if2 .taken)
+returns-2 c = plan-refused (c .before .before .before .before .before .before .before .args .out .now) (backOut (undonePlan (c .before
+    .before .before .before .before .before .before .args .plan .now) (c .before .before .before .before .before .before .before .args
+    .history .now)) (c .before .before .before .before .before .before .before .args .out .now)) (backCode (undonePlan (c .before .before
+    .before .before .before .before .before .args .plan .now) (c .before .before .before .before .before .before .before .args .history
+    .now)) (c .before .before .before .before .before .before .before .args .out .now)) (library.planRead (c .before .before .before
+    .before .before .before .before .args .plan .now)) (omega (arith, c .before .before .before .if1 .left)) (c .before .before
+    .read-plan .result) (c .before .before .read-plan .ensures) (c .code2 .result) (c .code2 .ensures) (c .before .if2 .taken)
 
 undo-requires : tie.Need-undo-requires
 undo-requires c κs = search needs
@@ -37,7 +41,25 @@ code-requires-3 : tie.Need-code-requires-3
 code-requires-3 c κs = search needs
 
 returns-3 : tie.Need-returns-3
-returns-3 c = let u = undo-refused (c .before .before .before .before .before .before .before .before .before .before .args .plan .now) (c .before .before .before .before .before .before .before .before .before .before .args .history .now) (c .before .before .before .before .before .before .before .before .before .before .args .out .now) (c .before .before .undo .result) (c .code3 .result) (c .before .before .undo .ensures ∙ ap (λ (t : TableResult). planUndone (t .table) (c .before .before .before .before .before .before .before .before .before .before .args .history .now)) (c .before .before .before .before .before .read-plan .ensures)) (c .before .if3 .taken) (c .code3 .ensures) in plan-done (c .before .before .before .before .before .before .before .before .before .before .args .out .now) (backOut (undonePlan (c .before .before .before .before .before .before .before .before .before .before .args .plan .now) (c .before .before .before .before .before .before .before .before .before .before .args .history .now)) (c .before .before .before .before .before .before .before .before .before .before .args .out .now)) (backCode (undonePlan (c .before .before .before .before .before .before .before .before .before .before .args .plan .now) (c .before .before .before .before .before .before .before .before .before .before .args .history .now)) (c .before .before .before .before .before .before .before .before .before .before .args .out .now)) (library.planRead (c .before .before .before .before .before .before .before .before .before .before .args .plan .now)) (omega (arith, c .before .before .before .before .before .before .if1 .left)) (c .before .before .before .before .before .read-plan .result) (c .before .before .before .before .before .read-plan .ensures) (c .code3 .result) (u .0) (c .before .before .before .before .before .before .before .before .before .before .args .out .now) (u .1) (search (c .before .before .before .before .if2 .left, needs))
+returns-3 c = let u = undo-refused (c .before .before .before .before .before .before .before .before .before .before .args .plan .now)
+    (c .before .before .before .before .before .before .before .before .before .before .args .history .now) (c .before .before .before
+    .before .before .before .before .before .before .before .args .out .now) (c .before .before .undo .result) (c .code3 .result) (c
+    .before .before .undo .ensures ∙ ap (λ (t : TableResult). planUndone (t .table) (c .before .before .before .before .before .before
+    .before .before .before .before .args .history .now)) (c .before .before .before .before .before .read-plan .ensures)) (c .before
+    .if3 .taken) (c .code3 .ensures) in plan-done (c .before .before .before .before .before .before .before .before .before .before
+    .args .out .now) (backOut (undonePlan (c .before .before .before .before .before .before .before .before .before .before .args .plan
+    .now) (c .before .before .before .before .before .before .before .before .before .before .args .history .now)) (c .before .before
+    .before .before .before .before .before .before .before .before .args .out .now)) (backCode (undonePlan (c .before .before .before
+    .before .before .before .before .before .before .before .args .plan .now) (c .before .before .before .before .before .before .before
+    .before .before .before .args .history .now)) (c .before .before .before .before .before .before .before .before .before .before
+    .args .out .now)) (library.planRead (c .before .before .before .before .before .before .before .before .before .before .args .plan
+    .now)) (omega (arith, c .before .before .before .before .before .before .if1 .left)) (c .before .before .before .before .before
+    .read-plan .result) (c .before .before .before .before .before .read-plan .ensures) (c .code3 .result) (u .0) (c .before .before
+    .before .before .before .before .before .before .before .before .args .out .now) (u .1) (search (
+      c .before .before .before .before
+          .if2 .left,
+      needs,
+    ))
 
 write-plan-requires : tie.Need-write-plan-requires
 write-plan-requires c κs = search needs
@@ -49,7 +71,38 @@ same-length : tie.Need-same-length
 same-length c = search needs
 
 returns-4 : tie.Need-returns-4
-returns-4 c = let u = undo-done (c .before .before .before .before .before .before .before .before .before .before .before .before .before .before .before .args .plan .now) (c .before .before .before .before .before .before .before .before .before .before .before .before .before .before .before .args .history .now) (c .before .before .before .before .before .before .before .before .before .before .before .before .before .before .before .args .out .now) (c .before .before .before .before .before .before .before .undo .result) (c .before .before .before .write-plan .result) (c .before .before .before .write-plan .last .1 .0) (c .code4 .result) (c .before .before .before .before .before .before .before .undo .ensures ∙ ap (λ (t : TableResult). planUndone (t .table) (c .before .before .before .before .before .before .before .before .before .before .before .before .before .before .before .args .history .now)) (c .before .before .before .before .before .before .before .before .before .before .read-plan .ensures)) (search (c .before .before .before .before .before .before .if3 .left, needs)) (c .before .before .before .write-plan .ensures .0) (c .before .before .before .write-plan .ensures .1) (c .code4 .ensures) in plan-done (c .before .before .before .before .before .before .before .before .before .before .before .before .before .before .before .args .out .now) (backOut (undonePlan (c .before .before .before .before .before .before .before .before .before .before .before .before .before .before .before .args .plan .now) (c .before .before .before .before .before .before .before .before .before .before .before .before .before .before .before .args .history .now)) (c .before .before .before .before .before .before .before .before .before .before .before .before .before .before .before .args .out .now)) (backCode (undonePlan (c .before .before .before .before .before .before .before .before .before .before .before .before .before .before .before .args .plan .now) (c .before .before .before .before .before .before .before .before .before .before .before .before .before .before .before .args .history .now)) (c .before .before .before .before .before .before .before .before .before .before .before .before .before .before .before .args .out .now)) (library.planRead (c .before .before .before .before .before .before .before .before .before .before .before .before .before .before .before .args .plan .now)) (omega (arith, c .before .before .before .before .before .before .before .before .before .before .before .if1 .left)) (c .before .before .before .before .before .before .before .before .before .before .read-plan .result) (c .before .before .before .before .before .before .before .before .before .before .read-plan .ensures) (c .code4 .result) (u .0) (c .before .before .before .write-plan .last .1 .0) (u .1) (search (c .before .before .before .before .before .before .before .before .before .if2 .left, needs))
+returns-4 c = let u = undo-done (c .before .before .before .before .before .before .before .before .before .before .before .before
+    .before .before .before .args .plan .now) (c .before .before .before .before .before .before .before .before .before .before .before
+    .before .before .before .before .args .history .now) (c .before .before .before .before .before .before .before .before .before
+    .before .before .before .before .before .before .args .out .now) (c .before .before .before .before .before .before .before .undo
+    .result) (c .before .before .before .write-plan .result) (c .before .before .before .write-plan .last .1 .0) (c .code4 .result) (c
+    .before .before .before .before .before .before .before .undo .ensures ∙ ap (λ (t : TableResult). planUndone (t .table) (c .before
+    .before .before .before .before .before .before .before .before .before .before .before .before .before .before .args .history .now))
+    (c .before .before .before .before .before .before .before .before .before .before .read-plan .ensures)) (search (
+      c .before .before
+          .before .before .before .before .if3 .left,
+      needs,
+    )) (c .before .before .before .write-plan .ensures .0) (c .before .before .before
+    .write-plan .ensures .1) (c .code4 .ensures) in plan-done (c .before .before .before .before .before .before .before .before .before
+    .before .before .before .before .before .before .args .out .now) (backOut (undonePlan (c .before .before .before .before .before
+    .before .before .before .before .before .before .before .before .before .before .args .plan .now) (c .before .before .before .before
+    .before .before .before .before .before .before .before .before .before .before .before .args .history .now)) (c .before .before
+    .before .before .before .before .before .before .before .before .before .before .before .before .before .args .out .now)) (backCode
+    (undonePlan (c .before .before .before .before .before .before .before .before .before .before .before .before .before .before
+    .before .args .plan .now) (c .before .before .before .before .before .before .before .before .before .before .before .before .before
+    .before .before .args .history .now)) (c .before .before .before .before .before .before .before .before .before .before .before
+    .before .before .before .before .args .out .now)) (library.planRead (c .before .before .before .before .before .before .before
+    .before .before .before .before .before .before .before .before .args .plan .now)) (omega (
+      arith,
+      c .before .before .before .before
+          .before .before .before .before .before .before .before .if1 .left,
+    )) (c .before .before .before .before .before .before .before
+    .before .before .before .read-plan .result) (c .before .before .before .before .before .before .before .before .before .before
+    .read-plan .ensures) (c .code4 .result) (u .0) (c .before .before .before .write-plan .last .1 .0) (u .1) (search (
+      c .before .before
+          .before .before .before .before .before .before .before .if2 .left,
+      needs,
+    ))
 
 pub yegnabit-undo-spec : {M : Type 1} → statement M
 yegnabit-undo-spec =

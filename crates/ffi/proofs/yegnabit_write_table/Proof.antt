@@ -9,24 +9,28 @@ use native.Mathlib.Omega.{arith}
 use borrow.Author.Needs.{needs}
 use Rattle.ffi.proofs.yegnabit_write_table.Statement.{statement}
 use Rattle.ffi.proofs.yegnabit_write_table.Tie as tie
-use Rattle.ffi.proofs.yegnabit_write_table.Reads as reads
-use Rattle.ffi.proofs.yegnabit_write_table.Lts as lts
-use Rattle.ffi.proofs.code.Reads as code-reads
-use Rattle.ffi.proofs.copy.marks_of.Reads as marks-of-reads
-use Rattle.ffi.proofs.copy.rows_of.Reads as rows-of-reads
-use Rattle.table.proofs.write_plan.Reads as write-plan-reads
 
 code-requires : tie.Need-code-requires
 code-requires c κs = search needs
 
 returns : tie.Need-returns
-returns c = write-not (c .before .before .before .before .before .args .count) (c .before .before .before .before .before .args .rows .now) (c .before .before .before .before .before .args .marks .now) (c .before .before .before .before .before .args .out .now) (c .code .result) (c .code .ensures) (rows-not-given (c .before .before .before .before .before .args .rows .now) (c .before .before .before .before .before .args .marks .now) (c .before .if1 .taken))
+returns c = write-not (c .before .before .before .before .before .args .count) (c .before .before .before .before .before .args .rows
+    .now) (c .before .before .before .before .before .args .marks .now) (c .before .before .before .before .before .args .out .now) (c
+    .code .result) (c .code .ensures) (rows-not-given (c .before .before .before .before .before .args .rows .now) (c .before .before
+    .before .before .before .args .marks .now) (c .before .if1 .taken))
 
 code-requires-2 : tie.Need-code-requires-2
 code-requires-2 c κs = search needs
 
 returns-2 : tie.Need-returns-2
-returns-2 c = write-not (c .before .before .before .before .before .before .args .count) (c .before .before .before .before .before .before .args .rows .now) (c .before .before .before .before .before .before .args .marks .now) (c .before .before .before .before .before .before .args .out .now) (c .code2 .result) (c .code2 .ensures) (marks-not-given (c .before .before .before .before .before .before .args .rows .now) (c .before .before .before .before .before .before .args .marks .now) (search (c .before .before .if1 .left, needs)) (c .before .if2 .taken))
+returns-2 c = write-not (c .before .before .before .before .before .before .args .count) (c .before .before .before .before .before
+    .before .args .rows .now) (c .before .before .before .before .before .before .args .marks .now) (c .before .before .before .before
+    .before .before .args .out .now) (c .code2 .result) (c .code2 .ensures) (marks-not-given (c .before .before .before .before .before
+    .before .args .rows .now) (c .before .before .before .before .before .before .args .marks .now) (search (
+      c .before .before .if1
+          .left,
+      needs,
+    )) (c .before .if2 .taken))
 
 rows-of-requires : tie.Need-rows-of-requires
 rows-of-requires c κs = search needs
@@ -44,7 +48,27 @@ same-length : tie.Need-same-length
 same-length c = search needs
 
 returns-3 : tie.Need-returns-3
-returns-3 c = write-link (c .before .before .before .before .before .before .before .before .before .before .before .before .before .args .count) (c .before .before .before .before .before .before .before .before .before .before .before .before .before .args .rows .now) (c .before .before .before .before .before .before .before .before .before .before .before .before .before .args .marks .now) (c .before .before .before .before .before .before .before .before .before .before .before .before .before .args .out .now) (given (c .before .before .before .before .before .before .before .before .before .before .before .before .before .args .count) (c .before .before .before .before .before .before .before .rows-of .result) (c .before .before .before .before .before .before .marks-of .result)) (given-by (c .before .before .before .before .before .before .before .before .before .before .before .before .before .args .count) (c .before .before .before .before .before .before .before .before .before .before .before .before .before .args .rows .now) (c .before .before .before .before .before .before .before .before .before .before .before .before .before .args .marks .now) (c .before .before .before .before .before .before .before .rows-of .result) (c .before .before .before .before .before .before .marks-of .result) (c .before .before .before .before .before .before .before .rows-of .ensures) (c .before .before .before .before .before .before .marks-of .ensures)) (c .before .before .before .before .write-plan .result) (c .before .before .before .before .write-plan .last .1 .0) (is-given (c .before .before .before .before .before .before .before .before .before .before .before .before .before .args .rows .now) (c .before .before .before .before .before .before .before .before .before .before .before .before .before .args .marks .now) (search (c .before .before .before .before .before .before .before .before .before .if1 .left, needs)) (search (c .before .before .before .before .before .before .before .before .if2 .left, needs))) (c .before .before .before .before .write-plan .ensures .0) (c .before .before .before .before .write-plan .ensures .1) (c .code3 .result) (c .code3 .ensures) (c .before .if3 .taken)
+returns-3 c = write-link (c .before .before .before .before .before .before .before .before .before .before .before .before .before .args
+    .count) (c .before .before .before .before .before .before .before .before .before .before .before .before .before .args .rows .now)
+    (c .before .before .before .before .before .before .before .before .before .before .before .before .before .args .marks .now) (c
+    .before .before .before .before .before .before .before .before .before .before .before .before .before .args .out .now) (given (c
+    .before .before .before .before .before .before .before .before .before .before .before .before .before .args .count) (c .before
+    .before .before .before .before .before .before .rows-of .result) (c .before .before .before .before .before .before .marks-of
+    .result)) (given-by (c .before .before .before .before .before .before .before .before .before .before .before .before .before .args
+    .count) (c .before .before .before .before .before .before .before .before .before .before .before .before .before .args .rows .now)
+    (c .before .before .before .before .before .before .before .before .before .before .before .before .before .args .marks .now) (c
+    .before .before .before .before .before .before .before .rows-of .result) (c .before .before .before .before .before .before
+    .marks-of .result) (c .before .before .before .before .before .before .before .rows-of .ensures) (c .before .before .before .before
+    .before .before .marks-of .ensures)) (c .before .before .before .before .write-plan .result) (c .before .before .before .before
+    .write-plan .last .1 .0) (is-given (c .before .before .before .before .before .before .before .before .before .before .before .before
+    .before .args .rows .now) (c .before .before .before .before .before .before .before .before .before .before .before .before .before
+    .args .marks .now) (search (c .before .before .before .before .before .before .before .before .before .if1 .left, needs)) (search (
+      c
+          .before .before .before .before .before .before .before .before .if2 .left,
+      needs,
+    ))) (c .before .before .before .before .write-plan
+    .ensures .0) (c .before .before .before .before .write-plan .ensures .1) (c .code3 .result) (c .code3 .ensures) (c .before .if3
+    .taken)
 
 code-requires-4 : tie.Need-code-requires-4
 code-requires-4 c κs = search needs
@@ -53,7 +77,26 @@ same-length-2 : tie.Need-same-length-2
 same-length-2 c = search needs
 
 returns-4 : tie.Need-returns-4
-returns-4 c = write-rest (c .before .before .before .before .before .before .before .before .before .before .before .before .before .args .count) (c .before .before .before .before .before .before .before .before .before .before .before .before .before .args .rows .now) (c .before .before .before .before .before .before .before .before .before .before .before .before .before .args .marks .now) (c .before .before .before .before .before .before .before .before .before .before .before .before .before .args .out .now) (given (c .before .before .before .before .before .before .before .before .before .before .before .before .before .args .count) (c .before .before .before .before .before .before .before .rows-of .result) (c .before .before .before .before .before .before .marks-of .result)) (given-by (c .before .before .before .before .before .before .before .before .before .before .before .before .before .args .count) (c .before .before .before .before .before .before .before .before .before .before .before .before .before .args .rows .now) (c .before .before .before .before .before .before .before .before .before .before .before .before .before .args .marks .now) (c .before .before .before .before .before .before .before .rows-of .result) (c .before .before .before .before .before .before .marks-of .result) (c .before .before .before .before .before .before .before .rows-of .ensures) (c .before .before .before .before .before .before .marks-of .ensures)) (c .before .before .before .before .write-plan .result) (c .before .before .before .before .write-plan .last .1 .0) (is-given (c .before .before .before .before .before .before .before .before .before .before .before .before .before .args .rows .now) (c .before .before .before .before .before .before .before .before .before .before .before .before .before .args .marks .now) (search (c .before .before .before .before .before .before .before .before .before .if1 .left, needs)) (search (c .before .before .before .before .before .before .before .before .if2 .left, needs))) (c .before .before .before .before .write-plan .ensures .0) (c .before .before .before .before .write-plan .ensures .1) (c .code4 .result) (c .code4 .ensures) (c .before .if3 .left)
+returns-4 c = write-rest (c .before .before .before .before .before .before .before .before .before .before .before .before .before .args
+    .count) (c .before .before .before .before .before .before .before .before .before .before .before .before .before .args .rows .now)
+    (c .before .before .before .before .before .before .before .before .before .before .before .before .before .args .marks .now) (c
+    .before .before .before .before .before .before .before .before .before .before .before .before .before .args .out .now) (given (c
+    .before .before .before .before .before .before .before .before .before .before .before .before .before .args .count) (c .before
+    .before .before .before .before .before .before .rows-of .result) (c .before .before .before .before .before .before .marks-of
+    .result)) (given-by (c .before .before .before .before .before .before .before .before .before .before .before .before .before .args
+    .count) (c .before .before .before .before .before .before .before .before .before .before .before .before .before .args .rows .now)
+    (c .before .before .before .before .before .before .before .before .before .before .before .before .before .args .marks .now) (c
+    .before .before .before .before .before .before .before .rows-of .result) (c .before .before .before .before .before .before
+    .marks-of .result) (c .before .before .before .before .before .before .before .rows-of .ensures) (c .before .before .before .before
+    .before .before .marks-of .ensures)) (c .before .before .before .before .write-plan .result) (c .before .before .before .before
+    .write-plan .last .1 .0) (is-given (c .before .before .before .before .before .before .before .before .before .before .before .before
+    .before .args .rows .now) (c .before .before .before .before .before .before .before .before .before .before .before .before .before
+    .args .marks .now) (search (c .before .before .before .before .before .before .before .before .before .if1 .left, needs)) (search (
+      c
+          .before .before .before .before .before .before .before .before .if2 .left,
+      needs,
+    ))) (c .before .before .before .before .write-plan
+    .ensures .0) (c .before .before .before .before .write-plan .ensures .1) (c .code4 .result) (c .code4 .ensures) (c .before .if3 .left)
 
 pub yegnabit-write-table-spec : {M : Type 1} → statement M
 yegnabit-write-table-spec =

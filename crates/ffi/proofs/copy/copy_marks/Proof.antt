@@ -6,8 +6,6 @@ use native.Mathlib.Omega.{arith}
 use borrow.Author.Needs.{needs}
 use Rattle.ffi.proofs.copy.copy_marks.Statement.{statement}
 use Rattle.ffi.proofs.copy.copy_marks.Tie as tie
-use Rattle.ffi.proofs.copy.copy_marks.Reads as reads
-use Rattle.ffi.proofs.copy.copy_marks.Lts as lts
 
 abbrev Inv-loop : tie.InvT-loop
 Inv-loop to₀ from i₀ to i = (i ≤ length from) × (length to ≡ length from) × (take i to ≡ take i from)
@@ -37,13 +35,21 @@ loop-less : tie.Need-loop-less Inv-loop μ-loop
 loop-less c = omega arith
 
 loop-again : tie.Need-loop-again Inv-loop μ-loop
-loop-again c = (omega arith, length-set (c .before .before .loop .to) (c .before .before .loop .i) (getD (c .before .before .before .args .from .now) (c .before .before .loop .i) 0) ∙ c .before .before .loop .inv .1, copy-next (c .before .before .loop .to) (c .before .before .before .args .from .now) (c .before .before .loop .i) (c .before .before .loop .inv .1) (c .before .loop-test .taken) (c .before .before .loop .inv .2))
+loop-again c = (
+  omega arith,
+  length-set (c .before .before .loop .to) (c .before .before .loop .i) (getD (c .before .before .before .args
+      .from .now) (c .before .before .loop .i) 0) ∙ c .before .before .loop .inv .1,
+  copy-next (c .before .before .loop .to) (c .before
+      .before .before .args .from .now) (c .before .before .loop .i) (c .before .before .loop .inv .1) (c .before .loop-test .taken) (c
+      .before .before .loop .inv .2),
+)
 
 same-length : tie.Need-same-length Inv-loop μ-loop
 same-length c = search needs
 
 returns : tie.Need-returns Inv-loop μ-loop
-returns c = copy-all (c .before .loop .to) (c .before .before .args .from .now) (c .before .loop .i) (c .before .loop .inv .1) (omega arith) (c .before .loop .inv .2)
+returns c = copy-all (c .before .loop .to) (c .before .before .args .from .now) (c .before .loop .i) (c .before .loop .inv .1) (omega
+    arith) (c .before .loop .inv .2)
 
 pub copy-marks-spec : {M : Type 1} → statement M
 copy-marks-spec =

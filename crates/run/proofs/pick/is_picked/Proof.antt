@@ -7,10 +7,6 @@ use mathlib.Core.Path.{_≡_, refl, _∙_, sym, ap}
 use borrow.Author.Needs.{needs}
 use Rattle.run.proofs.pick.is_picked.Statement.{statement}
 use Rattle.run.proofs.pick.is_picked.Tie as tie
-use Rattle.run.proofs.pick.is_picked.Reads as reads
-use Rattle.run.proofs.pick.is_picked.Lts as lts
-use Rattle.run.proofs.pick.byte.Reads as byte-reads
-use Rattle.run.proofs.pick.is_related.Reads as is-related-reads
 
 returns : tie.Need-returns
 returns c = rw (ne-eqb (c .before .args .w % 4) 2 (c .if1 .taken))
@@ -22,7 +18,9 @@ is-related-requires : tie.Need-is-related-requires
 is-related-requires c κs = search needs
 
 returns-2 : tie.Need-returns-2
-returns-2 c = let h : c .before .before .before .args .w % 4 ≡ 2 = search (c .before .before .if1 .left, needs) in rw h (c .is-related .ensures ∙ ap (λ (a : ℕ). relates (c .before .before .before .args .relation) a (c .before .before .before .args .w / 4096)) (c .before .byte .ensures .0))
+returns-2 c = let h : c .before .before .before .args .w % 4 ≡ 2 = search (c .before .before .if1 .left, needs) in rw h (c .is-related
+    .ensures ∙ ap (λ (a : ℕ). relates (c .before .before .before .args .relation) a (c .before .before .before .args .w / 4096)) (c
+    .before .byte .ensures .0))
 
 pub is-picked-spec : {M : Type 1} → statement M
 is-picked-spec = tie.close (tie.spec returns byte-requires is-related-requires returns-2)

@@ -3,8 +3,6 @@ use native.Mathlib.Omega.{arith}
 use borrow.Author.Needs.{needs}
 use Rattle.run.proofs.pick.signed_key.Statement.{statement}
 use Rattle.run.proofs.pick.signed_key.Tie as tie
-use Rattle.run.proofs.pick.signed_key.Reads as reads
-use Rattle.run.proofs.pick.signed_key.Lts as lts
 
 add-result : tie.Need-add-result
 add-result c = search needs

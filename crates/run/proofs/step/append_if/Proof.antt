@@ -6,11 +6,14 @@ use mathlib.Core.Path.{_≡_, refl, _∙_, sym, ap}
 use borrow.Author.Needs.{needs}
 use Rattle.run.proofs.step.append_if.Statement.{statement}
 use Rattle.run.proofs.step.append_if.Tie as tie
-use Rattle.run.proofs.step.append_if.Reads as reads
-use Rattle.run.proofs.step.append_if.Lts as lts
 
 returns : tie.Need-returns
-returns c = (sym (pick-false (c .before .args .keep) (set (c .before .args .work .now) (c .before .args .at) (c .before .args .item)) (c .before .args .work .now) (not-true (c .before .args .keep) (c .if1 .taken))), sym (pick-false (c .before .args .keep) (c .before .args .at + 1) (c .before .args .at) (not-true (c .before .args .keep) (c .if1 .taken))))
+returns c = (
+  sym (pick-false (c .before .args .keep) (set (c .before .args .work .now) (c .before .args .at) (c .before .args .item)) (c
+      .before .args .work .now) (not-true (c .before .args .keep) (c .if1 .taken))),
+  sym (pick-false (c .before .args .keep) (c .before
+      .args .at + 1) (c .before .args .at) (not-true (c .before .args .keep) (c .if1 .taken))),
+)
 
 mul-work : tie.Need-mul-work
 mul-work c = search needs
@@ -25,7 +28,12 @@ same-length : tie.Need-same-length
 same-length c = search needs
 
 returns-2 : tie.Need-returns-2
-returns-2 c = (sym (pick-true (c .before .args .keep) (set (c .before .args .work .now) (c .before .args .at) (c .before .args .item)) (c .before .args .work .now) (not-false (c .before .args .keep) (c .if1 .left))), sym (pick-true (c .before .args .keep) (c .before .args .at + 1) (c .before .args .at) (not-false (c .before .args .keep) (c .if1 .left))))
+returns-2 c = (
+  sym (pick-true (c .before .args .keep) (set (c .before .args .work .now) (c .before .args .at) (c .before .args .item)) (c
+      .before .args .work .now) (not-false (c .before .args .keep) (c .if1 .left))),
+  sym (pick-true (c .before .args .keep) (c .before
+      .args .at + 1) (c .before .args .at) (not-false (c .before .args .keep) (c .if1 .left))),
+)
 
 pub append-if-spec : {M : Type 1} → statement M
 append-if-spec =

@@ -8,10 +8,6 @@ use native.Mathlib.Omega.{arith}
 use borrow.Author.Needs.{needs}
 use Rattle.run.proofs.step.climb_one.Statement.{statement}
 use Rattle.run.proofs.step.climb_one.Tie as tie
-use Rattle.run.proofs.step.climb_one.Reads as reads
-use Rattle.run.proofs.step.climb_one.Lts as lts
-use Rattle.run.proofs.step.counts.Reads as counts-reads
-use Rattle.run.proofs.step.link.Reads as link-reads
 
 add-counts : tie.Need-add-counts
 add-counts c = search needs
@@ -29,7 +25,12 @@ counts-requires : tie.Need-counts-requires
 counts-requires c κs = search needs
 
 returns : tie.Need-returns
-returns c = sym (pick-false (counted (getD (c .before .before .before .before .before .before .args .flags .now) (c .before .before .before .before .before .before .args .j + 1) 0) (getD (c .before .before .before .before .before .before .args .reached .now) (c .before .before .before .before .before .before .args .j + 1) 0) (c .before .before .before .before .before .before .args .deep)) (set (c .before .before .before .before .before .before .args .reached .now) (c .before .before .before .before .before .before .args .w / 4 % 1024) 1) (c .before .before .before .before .before .before .args .reached .now) (sym (c .before .counts .ensures) ∙ not-true (c .before .counts .result) (c .if1 .taken)))
+returns c = sym (pick-false (counted (getD (c .before .before .before .before .before .before .args .flags .now) (c .before .before
+    .before .before .before .before .args .j + 1) 0) (getD (c .before .before .before .before .before .before .args .reached .now) (c
+    .before .before .before .before .before .before .args .j + 1) 0) (c .before .before .before .before .before .before .args .deep))
+    (set (c .before .before .before .before .before .before .args .reached .now) (c .before .before .before .before .before .before .args
+    .w / 4 % 1024) 1) (c .before .before .before .before .before .before .args .reached .now) (sym (c .before .counts .ensures) ∙
+    not-true (c .before .counts .result) (c .if1 .taken)))
 
 link-requires : tie.Need-link-requires
 link-requires c κs = search needs
@@ -41,7 +42,13 @@ same-length : tie.Need-same-length
 same-length c = search needs
 
 returns-2 : tie.Need-returns-2
-returns-2 c = ap (λ (l : ℕ). set (c .before .before .before .before .before .before .before .args .reached .now) l 1) (c .link .ensures) ∙ sym (pick-true (counted (getD (c .before .before .before .before .before .before .before .args .flags .now) (c .before .before .before .before .before .before .before .args .j + 1) 0) (getD (c .before .before .before .before .before .before .before .args .reached .now) (c .before .before .before .before .before .before .before .args .j + 1) 0) (c .before .before .before .before .before .before .before .args .deep)) (set (c .before .before .before .before .before .before .before .args .reached .now) (c .before .before .before .before .before .before .before .args .w / 4 % 1024) 1) (c .before .before .before .before .before .before .before .args .reached .now) (sym (c .before .before .counts .ensures) ∙ not-false (c .before .before .counts .result) (c .before .if1 .left)))
+returns-2 c = ap (λ (l : ℕ). set (c .before .before .before .before .before .before .before .args .reached .now) l 1) (c .link .ensures)
+    ∙ sym (pick-true (counted (getD (c .before .before .before .before .before .before .before .args .flags .now) (c .before .before
+    .before .before .before .before .before .args .j + 1) 0) (getD (c .before .before .before .before .before .before .before .args
+    .reached .now) (c .before .before .before .before .before .before .before .args .j + 1) 0) (c .before .before .before .before .before
+    .before .before .args .deep)) (set (c .before .before .before .before .before .before .before .args .reached .now) (c .before .before
+    .before .before .before .before .before .args .w / 4 % 1024) 1) (c .before .before .before .before .before .before .before .args
+    .reached .now) (sym (c .before .before .counts .ensures) ∙ not-false (c .before .before .counts .result) (c .before .if1 .left)))
 
 pub climb-one-spec : {M : Type 1} → statement M
 climb-one-spec =

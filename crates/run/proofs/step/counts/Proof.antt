@@ -5,8 +5,6 @@ use mathlib.Core.Bool.{Bool, _&&_, _||_, not, true, false, and-false}
 use borrow.Author.Needs.{needs}
 use Rattle.run.proofs.step.counts.Statement.{statement}
 use Rattle.run.proofs.step.counts.Tie as tie
-use Rattle.run.proofs.step.counts.Reads as reads
-use Rattle.run.proofs.step.counts.Lts as lts
 
 returns : tie.Need-returns
 returns c = rw (ne-eqb (c .before .args .item) 0 (c .if1 .taken))

@@ -8,10 +8,6 @@ use native.Mathlib.Omega.{arith}
 use borrow.Author.Needs.{needs}
 use Rattle.run.proofs.step.descend_one.Statement.{statement}
 use Rattle.run.proofs.step.descend_one.Tie as tie
-use Rattle.run.proofs.step.descend_one.Reads as reads
-use Rattle.run.proofs.step.descend_one.Lts as lts
-use Rattle.run.proofs.step.counts.Reads as counts-reads
-use Rattle.run.proofs.step.link.Reads as link-reads
 
 link-requires : tie.Need-link-requires
 link-requires c κs = search needs
@@ -25,11 +21,21 @@ slice-read-counts c = search needs
 counts-requires : tie.Need-counts-requires
 counts-requires c κs = search needs
 
-same : (c : tie.After-counts) → counted (getD (c .before .before .before .before .before .before .args .flags .now) (c .before .before .before .before .before .before .args .w / 4 % 1024) 0) (getD (c .before .before .before .before .before .before .args .reached .now) (c .before .before .before .before .before .before .args .w / 4 % 1024) 0) (c .before .before .before .before .before .before .args .deep) ≡ c .counts .result
-same c = ap (λ (l : ℕ). counted (getD (c .before .before .before .before .before .before .args .flags .now) l 0) (getD (c .before .before .before .before .before .before .args .reached .now) l 0) (c .before .before .before .before .before .before .args .deep)) (sym (c .before .before .before .link .ensures)) ∙ sym (c .counts .ensures)
+same : (c : tie.After-counts) → counted (getD (c .before .before .before .before .before .before .args .flags .now) (c .before .before
+    .before .before .before .before .args .w / 4 % 1024) 0) (getD (c .before .before .before .before .before .before .args .reached .now)
+    (c .before .before .before .before .before .before .args .w / 4 % 1024) 0) (c .before .before .before .before .before .before .args
+    .deep) ≡ c .counts .result
+same c = ap (λ (l : ℕ). counted (getD (c .before .before .before .before .before .before .args .flags .now) l 0) (getD (c .before .before
+    .before .before .before .before .args .reached .now) l 0) (c .before .before .before .before .before .before .args .deep)) (sym (c
+    .before .before .before .link .ensures)) ∙ sym (c .counts .ensures)
 
 returns : tie.Need-returns
-returns c = sym (pick-false (counted (getD (c .before .before .before .before .before .before .before .args .flags .now) (c .before .before .before .before .before .before .before .args .w / 4 % 1024) 0) (getD (c .before .before .before .before .before .before .before .args .reached .now) (c .before .before .before .before .before .before .before .args .w / 4 % 1024) 0) (c .before .before .before .before .before .before .before .args .deep)) (set (c .before .before .before .before .before .before .before .args .reached .now) (c .before .before .before .before .before .before .before .args .j + 1) 1) (c .before .before .before .before .before .before .before .args .reached .now) (same (c .before) ∙ not-true (c .before .counts .result) (c .if1 .taken)))
+returns c = sym (pick-false (counted (getD (c .before .before .before .before .before .before .before .args .flags .now) (c .before
+    .before .before .before .before .before .before .args .w / 4 % 1024) 0) (getD (c .before .before .before .before .before .before
+    .before .args .reached .now) (c .before .before .before .before .before .before .before .args .w / 4 % 1024) 0) (c .before .before
+    .before .before .before .before .before .args .deep)) (set (c .before .before .before .before .before .before .before .args .reached
+    .now) (c .before .before .before .before .before .before .before .args .j + 1) 1) (c .before .before .before .before .before .before
+    .before .args .reached .now) (same (c .before) ∙ not-true (c .before .counts .result) (c .if1 .taken)))
 
 add-reached : tie.Need-add-reached
 add-reached c = search needs
@@ -41,7 +47,12 @@ same-length : tie.Need-same-length
 same-length c = search needs
 
 returns-2 : tie.Need-returns-2
-returns-2 c = sym (pick-true (counted (getD (c .before .before .before .before .before .before .before .args .flags .now) (c .before .before .before .before .before .before .before .args .w / 4 % 1024) 0) (getD (c .before .before .before .before .before .before .before .args .reached .now) (c .before .before .before .before .before .before .before .args .w / 4 % 1024) 0) (c .before .before .before .before .before .before .before .args .deep)) (set (c .before .before .before .before .before .before .before .args .reached .now) (c .before .before .before .before .before .before .before .args .j + 1) 1) (c .before .before .before .before .before .before .before .args .reached .now) (same (c .before) ∙ not-false (c .before .counts .result) (c .if1 .left)))
+returns-2 c = sym (pick-true (counted (getD (c .before .before .before .before .before .before .before .args .flags .now) (c .before
+    .before .before .before .before .before .before .args .w / 4 % 1024) 0) (getD (c .before .before .before .before .before .before
+    .before .args .reached .now) (c .before .before .before .before .before .before .before .args .w / 4 % 1024) 0) (c .before .before
+    .before .before .before .before .before .args .deep)) (set (c .before .before .before .before .before .before .before .args .reached
+    .now) (c .before .before .before .before .before .before .before .args .j + 1) 1) (c .before .before .before .before .before .before
+    .before .args .reached .now) (same (c .before) ∙ not-false (c .before .counts .result) (c .if1 .left)))
 
 pub descend-one-spec : {M : Type 1} → statement M
 descend-one-spec =

@@ -3,9 +3,6 @@ use mathlib.Core.Path.{_≡_, refl, _∙_, sym, ap}
 use borrow.Author.Needs.{needs}
 use Rattle.run.proofs.step.keeps.Statement.{statement}
 use Rattle.run.proofs.step.keeps.Tie as tie
-use Rattle.run.proofs.step.keeps.Reads as reads
-use Rattle.run.proofs.step.keeps.Lts as lts
-use Rattle.run.proofs.step.passes.Reads as passes-reads
 
 returns : tie.Need-returns
 returns c = rw (eq-eqb (c .before .before .args .flag) 0 (c .if1 .taken))

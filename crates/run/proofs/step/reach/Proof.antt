@@ -5,10 +5,6 @@ use native.Mathlib.Omega.{arith}
 use borrow.Author.Needs.{needs}
 use Rattle.run.proofs.step.reach.Statement.{statement}
 use Rattle.run.proofs.step.reach.Tie as tie
-use Rattle.run.proofs.step.reach.Reads as reads
-use Rattle.run.proofs.step.reach.Lts as lts
-use Rattle.run.proofs.step.climb.Reads as climb-reads
-use Rattle.run.proofs.step.descend.Reads as descend-reads
 
 descend-requires : tie.Need-descend-requires
 descend-requires c κs = search needs
@@ -17,7 +13,10 @@ same-length : tie.Need-same-length
 same-length c = search needs
 
 returns : tie.Need-returns
-returns c = subst (λ (a : ℕ). Reached (c .before .before .before .before .before .before .before .before .args .rows .now) (c .before .before .before .before .before .before .before .before .args .count) a (c .before .before .before .before .before .before .before .before .args .flags .now) (c .before .before .descend .last .1 .1 .1 .1 .0)) (sym (c .before .before .before .before .if1 .taken)) (c .before .before .descend .ensures)
+returns c = subst (λ (a : ℕ). Reached (c .before .before .before .before .before .before .before .before .args .rows .now) (c .before
+    .before .before .before .before .before .before .before .args .count) a (c .before .before .before .before .before .before .before
+    .before .args .flags .now) (c .before .before .descend .last .1 .1 .1 .1 .0)) (sym (c .before .before .before .before .if1 .taken))
+    (c .before .before .descend .ensures)
 
 descend-requires-2 : tie.Need-descend-requires-2
 descend-requires-2 c κs = search needs
@@ -26,7 +25,10 @@ same-length-2 : tie.Need-same-length-2
 same-length-2 c = search needs
 
 returns-2 : tie.Need-returns-2
-returns-2 c = subst (λ (a : ℕ). Reached (c .before .before .before .before .before .before .before .before .before .args .rows .now) (c .before .before .before .before .before .before .before .before .before .args .count) a (c .before .before .before .before .before .before .before .before .before .args .flags .now) (c .before .before .descend2 .last .1 .1 .1 .1 .0)) (sym (c .before .before .before .before .if2 .taken)) (c .before .before .descend2 .ensures)
+returns-2 c = subst (λ (a : ℕ). Reached (c .before .before .before .before .before .before .before .before .before .args .rows .now) (c
+    .before .before .before .before .before .before .before .before .before .args .count) a (c .before .before .before .before .before
+    .before .before .before .before .args .flags .now) (c .before .before .descend2 .last .1 .1 .1 .1 .0)) (sym (c .before .before
+    .before .before .if2 .taken)) (c .before .before .descend2 .ensures)
 
 climb-requires : tie.Need-climb-requires
 climb-requires c κs = search needs
@@ -35,7 +37,10 @@ same-length-3 : tie.Need-same-length-3
 same-length-3 c = search needs
 
 returns-3 : tie.Need-returns-3
-returns-3 c = subst (λ (a : ℕ). Reached (c .before .before .before .before .before .before .before .before .before .before .args .rows .now) (c .before .before .before .before .before .before .before .before .before .before .args .count) a (c .before .before .before .before .before .before .before .before .before .before .args .flags .now) (c .before .before .climb .last .1 .1 .1 .1 .0)) (sym (c .before .before .before .before .if3 .taken)) (c .before .before .climb .ensures)
+returns-3 c = subst (λ (a : ℕ). Reached (c .before .before .before .before .before .before .before .before .before .before .args .rows
+    .now) (c .before .before .before .before .before .before .before .before .before .before .args .count) a (c .before .before .before
+    .before .before .before .before .before .before .before .args .flags .now) (c .before .before .climb .last .1 .1 .1 .1 .0)) (sym (c
+    .before .before .before .before .if3 .taken)) (c .before .before .climb .ensures)
 
 climb-requires-2 : tie.Need-climb-requires-2
 climb-requires-2 c κs = search needs
@@ -44,7 +49,19 @@ same-length-4 : tie.Need-same-length-4
 same-length-4 c = search needs
 
 returns-4 : tie.Need-returns-4
-returns-4 c = let e : 3 ≡ c .before .before .before .before .before .before .before .before .before .before .args .axis = omega (arith, c .before .before .before .before .before .before .before .before .before .before .pre .0, c .before .before .before .before .before .before .if1 .left, c .before .before .before .before .before .if2 .left, c .before .before .before .before .if3 .left) in subst (λ (a : ℕ). Reached (c .before .before .before .before .before .before .before .before .before .before .args .rows .now) (c .before .before .before .before .before .before .before .before .before .before .args .count) a (c .before .before .before .before .before .before .before .before .before .before .args .flags .now) (c .before .before .climb2 .last .1 .1 .1 .1 .0)) e (c .before .before .climb2 .ensures)
+returns-4 c = let e : 3 ≡ c .before .before .before .before .before .before .before .before .before .before .args .axis = omega (
+  arith,
+  c
+      .before .before .before .before .before .before .before .before .before .before .pre .0,
+  c .before .before .before .before .before
+      .before .if1 .left,
+  c .before .before .before .before .before .if2 .left,
+  c .before .before .before .before .if3 .left,
+) in subst (λ
+    (a : ℕ). Reached (c .before .before .before .before .before .before .before .before .before .before .args .rows .now) (c .before
+    .before .before .before .before .before .before .before .before .before .args .count) a (c .before .before .before .before .before
+    .before .before .before .before .before .args .flags .now) (c .before .before .climb2 .last .1 .1 .1 .1 .0)) e (c .before .before
+    .climb2 .ensures)
 
 pub reach-spec : {M : Type 1} → statement M
 reach-spec =

@@ -9,11 +9,6 @@ use native.Mathlib.Omega.{arith}
 use borrow.Author.Needs.{needs}
 use Rattle.run.proofs.step.stepped.Statement.{statement}
 use Rattle.run.proofs.step.stepped.Tie as tie
-use Rattle.run.proofs.step.stepped.Reads as reads
-use Rattle.run.proofs.step.stepped.Lts as lts
-use Rattle.run.proofs.step.collect.Reads as collect-reads
-use Rattle.run.proofs.step.flag.Reads as flag-reads
-use Rattle.run.proofs.step.reach.Reads as reach-reads
 
 slice-aggregate-flag : tie.Need-slice-aggregate-flag
 slice-aggregate-flag c = search needs
@@ -31,7 +26,26 @@ part-flag-end : tie.Need-part-flag-end
 part-flag-end c = search needs
 
 flag-requires : tie.Need-flag-requires
-flag-requires c κs = record { clear = refl; low = λ k h. omega (arith, c .before .before .before .before .before .pre .held .few, c .before .before .before .before .before .pre .low k (omega (arith, h, length-take-le (c .before .before .before .before .before .args .to - c .before .before .before .before .before .args .from) (drop (c .before .before .before .before .before .args .from) (c .before .before .before .before .before .args .work .now)) (omega (arith, c .before .before .before .before .before .pre .within, length-drop (c .before .before .before .before .before .args .from) (c .before .before .before .before .before .args .work .now)))))) }
+flag-requires c κs = record {
+  clear = refl;
+  low = λ k h. omega (
+    arith,
+    c .before .before .before .before .before .pre .held .few,
+    c
+        .before .before .before .before .before .pre .low k (omega (
+          arith,
+          h,
+          length-take-le (c .before .before .before .before .before .args
+              .to - c .before .before .before .before .before .args .from) (drop (c .before .before .before .before .before .args .from) (c .before
+              .before .before .before .before .args .work .now)) (omega (
+                arith,
+                c .before .before .before .before .before .pre .within,
+                length-drop
+                    (c .before .before .before .before .before .args .from) (c .before .before .before .before .before .args .work .now),
+              )),
+        )),
+  );
+}
 
 slice-aggregate-reach : tie.Need-slice-aggregate-reach
 slice-aggregate-reach c = search needs
@@ -52,7 +66,31 @@ same-length : tie.Need-same-length
 same-length c = search needs
 
 returns : tie.Need-returns
-returns c = record { value = λ ms. subst (λ (v : List ℕ). Appended v (c .before .before .before .before .before .before .before .before .before .before .before .before .before .before .before .before .before .args .work .now) (c .before .before .before .before .before .before .before .before .before .before .before .before .before .before .before .before .before .args .from) (c .before .before .collect .last .1 .1 .1 .1 .1 .0) (c .before .before .collect .result)) (step-rows (c .before .before .before .before .before .before .before .before .before .before .before .before .before .before .before .before .before .args .rows .now) (c .before .before .before .before .before .before .before .before .before .before .before .before .before .before .before .before .before .args .count) (c .before .before .before .before .before .before .before .before .before .before .before .before .before .before .before .before .before .args .by .axis) (c .before .before .before .before .before .before .before .before .before .before .before .before .before .before .before .before .before .args .by .test) (c .before .before .before .before .before .before .before .before .before .before .before .before .before .before .before .before .before .args .by .name .0) (c .before .before .before .before .before .before .before .before .before .before .before .flag .last .0) (c .before .before .before .before .before .before .before .reach .last .1 .1 .1 .1 .0) (valueAt (c .before .before .before .before .before .before .before .before .before .before .before .before .before .before .before .before .before .args .work .now) (c .before .before .before .before .before .before .before .before .before .before .before .before .before .before .before .before .before .args .from) (c .before .before .before .before .before .before .before .before .before .before .before .before .before .before .before .before .before .args .to)) ms (omega (arith, c .before .before .before .before .before .before .before .before .before .before .before .before .before .before .before .before .before .pre .held .rows, c .before .before .before .before .before .before .before .before .before .before .before .before .before .before .before .before .before .pre .held .few)) (c .before .before .before .before .before .before .before .before .before .before .before .flag .ensures) (c .before .before .before .before .before .before .before .reach .ensures)) (c .before .before .collect .ensures) }
+returns c = record {
+  value = λ ms. subst (λ (v : List ℕ). Appended v (c .before .before .before .before .before .before .before .before
+      .before .before .before .before .before .before .before .before .before .args .work .now) (c .before .before .before .before .before
+      .before .before .before .before .before .before .before .before .before .before .before .before .args .from) (c .before .before
+      .collect .last .1 .1 .1 .1 .1 .0) (c .before .before .collect .result)) (step-rows (c .before .before .before .before .before .before
+      .before .before .before .before .before .before .before .before .before .before .before .args .rows .now) (c .before .before .before
+      .before .before .before .before .before .before .before .before .before .before .before .before .before .before .args .count) (c
+      .before .before .before .before .before .before .before .before .before .before .before .before .before .before .before .before
+      .before .args .by .axis) (c .before .before .before .before .before .before .before .before .before .before .before .before .before
+      .before .before .before .before .args .by .test) (c .before .before .before .before .before .before .before .before .before .before
+      .before .before .before .before .before .before .before .args .by .name .0) (c .before .before .before .before .before .before
+      .before .before .before .before .before .flag .last .0) (c .before .before .before .before .before .before .before .reach .last .1 .1
+      .1 .1 .0) (valueAt (c .before .before .before .before .before .before .before .before .before .before .before .before .before .before
+      .before .before .before .args .work .now) (c .before .before .before .before .before .before .before .before .before .before .before
+      .before .before .before .before .before .before .args .from) (c .before .before .before .before .before .before .before .before
+      .before .before .before .before .before .before .before .before .before .args .to)) ms (omega (
+        arith,
+        c .before .before .before
+            .before .before .before .before .before .before .before .before .before .before .before .before .before .before .pre .held .rows,
+        c
+            .before .before .before .before .before .before .before .before .before .before .before .before .before .before .before .before
+            .before .pre .held .few,
+      )) (c .before .before .before .before .before .before .before .before .before .before .before .flag .ensures)
+      (c .before .before .before .before .before .before .before .reach .ensures)) (c .before .before .collect .ensures);
+}
 
 pub stepped-spec : {M : Type 1} → statement M
 stepped-spec =

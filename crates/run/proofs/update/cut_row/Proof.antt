@@ -17,7 +17,9 @@ link-requires : tie.Need-link-requires
 link-requires c κs = search needs
 
 returns : tie.Need-returns
-returns c = cut-root (c .before .before .before .before .before .args .rows .now) (c .before .before .before .before .before .args .history .now) (c .before .before .before .before .before .args .p) (c .before .before .before .before .before .args .i) (c .before .before .before .before .before .pre) (sym (c .before .link .ensures) ∙ c .if1 .taken)
+returns c = cut-root (c .before .before .before .before .before .args .rows .now) (c .before .before .before .before .before .args
+    .history .now) (c .before .before .before .before .before .args .p) (c .before .before .before .before .before .args .i) (c .before
+    .before .before .before .before .pre) (sym (c .before .link .ensures) ∙ c .if1 .taken)
 
 add-if2 : tie.Need-add-if2
 add-if2 c = omega (arith, c .before .before .before .before .before .before .pre .held .history .limit)
@@ -26,7 +28,12 @@ refused-requires : tie.Need-refused-requires
 refused-requires c κs = search needs
 
 returns-2 : tie.Need-returns-2
-returns-2 c = cut-full (c .before .before .before .before .before .before .before .before .args .rows .now) (c .before .before .before .before .before .before .before .before .args .history .now) (c .before .before .before .before .before .before .before .before .args .p) (c .before .before .before .before .before .before .before .before .args .i) (c .before .before .before .before .before .before .before .before .pre) (λ q. c .before .before .before .if1 .left (c .before .before .before .before .link .ensures ∙ q)) (c .before .if2 .taken) (c .before .before .before .before .before .before .before .before .args .rows .now) (c .before .before .before .before .before .before .before .before .args .history .now) (c .refused .result) (c .refused .ensures)
+returns-2 c = cut-full (c .before .before .before .before .before .before .before .before .args .rows .now) (c .before .before .before
+    .before .before .before .before .before .args .history .now) (c .before .before .before .before .before .before .before .before .args
+    .p) (c .before .before .before .before .before .before .before .before .args .i) (c .before .before .before .before .before .before
+    .before .before .pre) (λ q. c .before .before .before .if1 .left (c .before .before .before .before .link .ensures ∙ q)) (c .before
+    .if2 .taken) (c .before .before .before .before .before .before .before .before .args .rows .now) (c .before .before .before .before
+    .before .before .before .before .args .history .now) (c .refused .result) (c .refused .ensures)
 
 unlinked-requires : tie.Need-unlinked-requires
 unlinked-requires c κs = search needs
@@ -41,13 +48,47 @@ sub-put-cut : tie.Need-sub-put-cut
 sub-put-cut c = search needs
 
 put-cut-requires : tie.Need-put-cut-requires
-put-cut-requires c κs = (omega (arith, c .before .before .before .before .before .before .before .before .before .pre .held .size, c .before .before .before .before .before .before .before .before .before .pre .held .area, c .before .before .if2 .left), (omega (arith, c .before .before .before .before .before .before .before .before .before .pre .row, c .before .before .before .before .before .before .before .before .before .pre .held .few), omega (arith, c .before .before .before .before .before .link .ensures, cut-low (c .before .before .before .before .before .before .before .before .before .args .rows .now) (c .before .before .before .before .before .before .before .before .before .args .history .now) (c .before .before .before .before .before .before .before .before .before .args .p) (c .before .before .before .before .before .before .before .before .before .args .i) (c .before .before .before .before .before .before .before .before .before .pre) (λ q. c .before .before .before .before .if1 .left (c .before .before .before .before .before .link .ensures ∙ q)))))
+put-cut-requires c κs = (
+  omega (
+    arith,
+    c .before .before .before .before .before .before .before .before .before .pre .held .size,
+    c
+        .before .before .before .before .before .before .before .before .before .pre .held .area,
+    c .before .before .if2 .left,
+  ),
+  (
+    omega (
+      arith,
+      c .before .before .before .before .before .before .before .before .before .pre .row,
+      c .before .before .before .before
+          .before .before .before .before .before .pre .held .few,
+    ),
+    omega (
+      arith,
+      c .before .before .before .before .before .link .ensures,
+      cut-low (c .before .before .before .before .before .before .before .before .before .args .rows .now) (c .before .before .before
+          .before .before .before .before .before .before .args .history .now) (c .before .before .before .before .before .before .before
+          .before .before .args .p) (c .before .before .before .before .before .before .before .before .before .args .i) (c .before .before
+          .before .before .before .before .before .before .before .pre) (λ q. c .before .before .before .before .if1 .left (c .before .before
+          .before .before .before .link .ensures ∙ q)),
+    ),
+  ),
+)
 
 add-t8 : tie.Need-add-t8
-add-t8 c = omega (arith, c .before .before .before .before .before .before .before .before .before .before .before .before .pre .held .size, c .before .before .before .before .before .before .before .before .before .before .before .before .pre .held .history .limit)
+add-t8 c = omega (
+  arith,
+  c .before .before .before .before .before .before .before .before .before .before .before .before .pre .held
+      .size,
+  c .before .before .before .before .before .before .before .before .before .before .before .before .pre .held .history .limit,
+)
 
 add-t16 : tie.Need-add-t16
-add-t16 c = omega (arith, c .before .before .before .before .before .before .before .before .before .before .before .before .before .pre .held .history .limit)
+add-t16 c = omega (
+  arith,
+  c .before .before .before .before .before .before .before .before .before .before .before .before .before .pre
+      .held .history .limit,
+)
 
 same-length : tie.Need-same-length
 same-length c = search needs
@@ -56,7 +97,16 @@ same-length-2 : tie.Need-same-length-2
 same-length-2 c = search needs
 
 returns-3 : tie.Need-returns-3
-returns-3 c = cut-done (c .before .before .before .before .before .before .before .before .before .before .before .before .before .args .rows .now) (c .before .before .before .before .before .before .before .before .before .before .before .before .before .args .history .now) (c .before .before .before .before .before .before .before .before .before .before .before .before .before .args .p) (c .before .before .before .before .before .before .before .before .before .before .before .before .before .args .i) (c .before .before .before .before .before .before .before .before .before .before .before .before .before .pre) (λ q. c .before .before .before .before .before .before .before .before .if1 .left (c .before .before .before .before .before .before .before .before .before .link .ensures ∙ q)) (omega (arith, c .before .before .before .before .before .before .if2 .left)) (c .before .before .before .before .before .unlinked .result) (c .before .before .before .before .before .before .before .before .before .link .result) (c .before .before .before .before .before .unlinked .ensures) (c .before .before .before .before .before .before .before .before .before .link .ensures) (c .before .before .before .put-cut .last .0) (c .before .before .before .put-cut .ensures)
+returns-3 c = cut-done (c .before .before .before .before .before .before .before .before .before .before .before .before .before .args
+    .rows .now) (c .before .before .before .before .before .before .before .before .before .before .before .before .before .args .history
+    .now) (c .before .before .before .before .before .before .before .before .before .before .before .before .before .args .p) (c .before
+    .before .before .before .before .before .before .before .before .before .before .before .before .args .i) (c .before .before .before
+    .before .before .before .before .before .before .before .before .before .before .pre) (λ q. c .before .before .before .before .before
+    .before .before .before .if1 .left (c .before .before .before .before .before .before .before .before .before .link .ensures ∙ q))
+    (omega (arith, c .before .before .before .before .before .before .if2 .left)) (c .before .before .before .before .before .unlinked
+    .result) (c .before .before .before .before .before .before .before .before .before .link .result) (c .before .before .before .before
+    .before .unlinked .ensures) (c .before .before .before .before .before .before .before .before .before .link .ensures) (c .before
+    .before .before .put-cut .last .0) (c .before .before .before .put-cut .ensures)
 
 pub cut-row-spec : {M : Type 1} → statement M
 cut-row-spec =
