@@ -1,11 +1,8 @@
 // Insert: copies of rows with all their descendants, as the table was before, under a target.
 ghost use mathlib.Core.Path.{_≡_};
-ghost use mathlib.Core.List.{[]};
 ghost use Prim.Native.Nat.{_≤_, _<_};
 ghost use lib.ListN.{length};
-ghost use Rattle.model.specs.Run.{inserted};
-ghost use Rattle.run.specs.State.{Updated};
-ghost use Rattle.run.specs.Inserting.{copyLink, NextPre, NextPost, RestPre, RestPost, ItemPre, ItemPost, ItemsPre, ItemsPost, InsertPre};
+ghost use Rattle.run.specs.Inserting.{copyLink, NextPre, NextPost, RestPre, RestPost, ItemPre, ItemPost, ItemsPre, ItemsPost, InsertPre, InsertPost};
 use crate::state::Progress;
 use crate::update;
 use table::Fault;
@@ -143,7 +140,7 @@ pub fn insert(
     targets: &[u16],
 ) -> Progress
     requires { ⌜ InsertPre (now rows) (now history) p (now items) (now targets) ⌝ }
-    ensures { λ r. ⌜ Updated (λ z s. inserted z (now (items .entry)) (now (targets .entry)) s) [] (now (rows .entry)) (now (history .entry)) p (now (rows .exit)) (now (history .exit)) r ⌝ }
+    ensures { λ r. ⌜ InsertPost (now (rows .entry)) (now (history .entry)) p (now (items .entry)) (now (targets .entry)) (now (rows .exit)) (now (history .exit)) r ⌝ }
 {
     if targets.len() != 1 {
         return update::refused(p, Fault::TARGET);
