@@ -107,17 +107,17 @@ module _ {ws h : List ℕ} {p : Progress} (held : Held ws h p) {ws′ h′ : Lis
   made-count =
       let k : model.count (decodeParts (r .count) ws′ []) ≡ model.count (decodeParts (p .count) ws []) + 1 =
       ap model.count made-table ∙ count-with (decodeParts (p .count) ws []) row in
-      omega (arith, held-count ws h p held [], held-count ws′ h′ r held′ [])
+      omega (arith, held-count held [], held-count held′ [])
 
   pub made-old : (c : ℕ) → c < p .count → model.rowAt (decodeParts (r .count) ws′ []) c ≡ model.rowAt (decodeParts (p .count) ws []) c
   made-old c a =
       ap (λ (x : model.Table). model.rowAt x c) made-table ∙
-      rowAt-withRow-old (decodeParts (p .count) ws []) row c (omega (arith, held-count ws h p held []))
+      rowAt-withRow-old (decodeParts (p .count) ws []) row c (omega (arith, held-count held []))
 
   pub made-new : model.rowAt (decodeParts (r .count) ws′ []) (p .count) ≡ row
   made-new =
       ap (λ (x : model.Table). model.rowAt x (p .count)) made-table ∙
-      ap (model.rowAt (model.withRow (decodeParts (p .count) ws []) row)) (sym (held-count ws h p held [])) ∙
+      ap (model.rowAt (model.withRow (decodeParts (p .count) ws []) row)) (sym (held-count held [])) ∙
       rowAt-withRow-new (decodeParts (p .count) ws []) row
 
 -- ONE ROW of the scan
@@ -152,7 +152,7 @@ module _ {ws h m : List ℕ} {p : Progress} {t j : ℕ} (pre : NextPre ws h m p 
             record {
               same = λ z ms.
                   outcome-gives z [] ws ms h p (pre .held .fine) ∙ sym (pick-true (eqb link 0) (gives [] (stateOf ws ms h p)) _ (eq-eqb link 0 e));
-              after = λ q. after-self ws h p (pre .held);
+              after = λ q. after-self (pre .held);
             };
         map = ap (set m j) (sym (pick-true (eqb link 0) 65535 (p .count) (eq-eqb link 0 e)));
       }
@@ -174,7 +174,7 @@ module _ {ws h m : List ℕ} {p : Progress} {t j : ℕ} (pre : NextPre ws h m p 
         let q : linked link ≡ some c = rw (ne-eqb link 0 n) (ap some e) in
         ap (model.parentFits (decodeParts (p .count) ws []) (p .count)) q ∙
         and-both (ltb c (p .count)) (model.isElement (decodeParts (p .count) ws []) c) (lt-ltb c (p .count) (copy-is .0))
-        (isElement-by (decodeParts (p .count) ws []) c (omega (arith, copy-is .0, held-count ws h p (pre .held) []))
+        (isElement-by (decodeParts (p .count) ws []) c (omega (arith, copy-is .0, held-count (pre .held) []))
         (copy-is .1 ∙ parent-here (k .parent) .1))
 
     module _ (v : ℕ) (word : v ≡ w % 4 + 4 * link + 4096 * (w / 4096)) where
@@ -190,7 +190,7 @@ module _ {ws h m : List ℕ} {p : Progress} {t j : ℕ} (pre : NextPre ws h m p 
                 relinked-word w link (omega (arith, next-small)) (row-word (p .count) ws (pre .held .canonical) fits j (pre .row));
             tag =
                 ap model.tagFits row-copy ∙ ap model.tagFits (sym row-here) ∙
-                pre .held .tree .tags j (omega (arith, pre .row, held-count ws h p (pre .held) []));
+                pre .held .tree .tags j (omega (arith, pre .row, held-count (pre .held) []));
             parent = ap (λ (r : model.Row). model.parentFits (decodeParts (p .count) ws []) (p .count) (r .parent)) row-copy ∙ parent-copy;
           }
 
@@ -301,7 +301,7 @@ module _ {old t : ℕ} {ws₀ h₀ m₀ : List ℕ} {p₀ : Progress} (pre : Res
   pub copying-start : Copying old t ws₀ h₀ m₀ p₀ ws₀ h₀ m₀ p₀ (t + 1)
   copying-start =
       record {
-        after = after-self ws₀ h₀ p₀ (pre .held);
+        after = after-self (pre .held);
         size = pre .size;
         low = omega arith;
         high = omega (arith, pre .top);
@@ -378,7 +378,7 @@ module _ {old t : ℕ} {ws₀ h₀ m₀ : List ℕ} {p₀ : Progress} (pre : Res
             thenRow o (λ (u : State). copyEach z x t g (descendantsFrom x t (j + 1) (old - (j + 1))) (copiedIn m′ t (j + 1 - t)) u))
             (post .updated .same z ms ∙ ap (λ (q : model.Row). copyBy z q (nextLink ws m t j) (stateOf ws ms h p)) (sym (row-x ms))) ∙
             sym (copy-turn x (lower-before (pre .held) old (pre .room) ms) t j (c .low) m (getD ws j 0 / 4 % 1024) (parent-x ms) (c .known ms)
-            (p .count) small sized m′ (post .map) z g old (stateOf ws ms h p) (held-count ws h p (c .after .held) ms) more) ∙
+            (p .count) small sized m′ (post .map) z g old (stateOf ws ms h p) (held-count (c .after .held) ms) more) ∙
             c .rest g z ms
 
         pub copying-refused : (r .number ≡ 0 → ⊥) → RestPost ws₀ h₀ m₀ p₀ old t ws′ h′ r
@@ -405,7 +405,7 @@ module _ {old t : ℕ} {ws₀ h₀ m₀ : List ℕ} {p₀ : Progress} (pre : Res
         copying-again n =
             let a = post .updated .after n in
             record {
-              after = after-then ws₀ h₀ p₀ ws h p ws′ h′ r (c .after) a;
+              after = after-then (c .after) a;
               size = ap length (post .map) ∙ length-set m j _ ∙ c .size;
               low = omega (arith, c .low);
               high = omega arith;

@@ -58,7 +58,7 @@ module _ {ws h m : List ℕ} {p : Progress} {old t g : ℕ} (pre : ItemPre ws h 
   fits = omega (arith, pre .held .few, pre .held .rows)
 
   pub item-target : g < p .count
-  item-target = omega (arith, isElement-at (decodeParts (p .count) ws []) g (pre .target) .0, held-count ws h p (pre .held) [])
+  item-target = omega (arith, isElement-at (decodeParts (p .count) ws []) g (pre .target) .0, held-count (pre .held) [])
 
   row-top : model.rowAt (decodeParts (p .count) ws []) t ≡ rowOf (getD ws t 0)
   row-top = rowAt-decode (p .count) ws [] fits t (omega (arith, pre .top, pre .room))
@@ -80,7 +80,7 @@ module _ {ws h m : List ℕ} {p : Progress} {old t g : ℕ} (pre : ItemPre ws h 
           word = ap isRowWord word ∙ relinked-word (getD ws t 0) (g + 1) small (row-word (p .count) ws (pre .held .canonical) fits t k);
           tag =
               ap model.tagFits row-copy ∙ ap model.tagFits (sym row-top) ∙
-              pre .held .tree .tags t (omega (arith, held-count ws h p (pre .held) []));
+              pre .held .tree .tags t (omega (arith, held-count (pre .held) []));
           parent =
               ap (λ (r : model.Row). model.parentFits (decodeParts (p .count) ws []) (p .count) (r .parent)) row-copy ∙
               and-both (ltb g (p .count)) (model.isElement (decodeParts (p .count) ws []) g) (lt-ltb g (p .count) item-target) (pre .target);
@@ -107,7 +107,7 @@ module _ {ws h m : List ℕ} {p : Progress} {old t g : ℕ} (pre : ItemPre ws h 
           ap (λ (c : ℕ).
           thenRow (newRow z (model.withParent (model.rowAt x t) (some g)) s)
           (λ (q : State). copyEach z x t g (descendantsFrom x t (t + 1) (old - (t + 1))) (record { old = t; new = c } ∷ []) q))
-          (sym (held-count ws h p (pre .held) ms)) ∙
+          (sym (held-count (pre .held) ms)) ∙
           sym (copyEach-top z x t g old s (count-decode old ws ms (omega (arith, pre .room, fits))) (pre .top)
           (lower-before (pre .held) old (pre .room) ms)) ∙
           ap (λ (y : model.Table). copyEach z y t g (subtree y t) [] s) (sym (before-decode old ws ms h p (pre .room)))
@@ -176,7 +176,7 @@ module _ {ws h m : List ℕ} {p : Progress} {old t g : ℕ} (pre : ItemPre ws h 
                         copyEach z (decodeParts old ws ms) t g (descendantsFrom (decodeParts old ws ms) t (t + 1) (old - (t + 1))) cs s₁)
                         (copiedIn-top m t (p .count) (omega (arith, pre .top, pre .room, pre .size, pre .held .few)) (omega (arith, pre .held .few))) ∙
                         sym (ap (λ (o : Out). thenRow o (rest z ms)) (outcome-gives z (p .count ∷ []) ws₁ ms h₁ p₁ n)) ∙ whole z ms;
-                    after = λ q. after-then ws h p ws₁ h₁ p₁ ws₂ h₂ p₂ after₁ (post .updated g .after q);
+                    after = λ q. after-then after₁ (post .updated g .after q);
                   };
               before = λ q. post .before q ∙ rows₁;
             }
@@ -195,7 +195,7 @@ module _ {ws₀ h₀ m₀ : List ℕ} {p₀ : Progress} {v : List ℕ} {g : ℕ}
   pub inserting-start : Inserting ws₀ h₀ p₀ v g ws₀ h₀ m₀ p₀ 0
   inserting-start =
       record {
-        after = after-self ws₀ h₀ p₀ (pre .held);
+        after = after-self (pre .held);
         size = pre .size;
         within = omega arith;
         same = refl;
@@ -217,9 +217,9 @@ module _ {ws₀ h₀ m₀ : List ℕ} {p₀ : Progress} {v : List ℕ} {g : ℕ}
       target : model.isElement (decodeParts (p .count) ws []) g ≡ true
       target =
           let a = isElement-at (decodeParts (p₀ .count) ws₀ []) g (pre .target) in
-          let b : g < p₀ .count = omega (arith, a .0, held-count ws₀ h₀ p₀ (pre .held) []) in
+          let b : g < p₀ .count = omega (arith, a .0, held-count (pre .held) []) in
           let f : p .count ≤ length ws = omega (arith, c .after .held .few, c .after .held .rows) in
-          isElement-by (decodeParts (p .count) ws []) g (omega (arith, c .after .rows, held-count ws h p (c .after .held) []))
+          isElement-by (decodeParts (p .count) ws []) g (omega (arith, c .after .rows, held-count (c .after .held) []))
           (ap (λ (r : model.Row). r .isLeaf)
           (sym (row-before ws [] (p₀ .count) (p .count) (c .after .rows) f g b) ∙
           ap (λ (rs : List model.Row). getD rs g model.noRow) (c .same)) ∙ a .1)
@@ -264,7 +264,7 @@ module _ {ws₀ h₀ m₀ : List ℕ} {p₀ : Progress} {v : List ℕ} {g : ℕ}
         pub inserting-again : r .number ≡ 0 → {m′ : List ℕ} → length m′ ≡ 512 → Inserting ws₀ h₀ p₀ v g ws′ h′ m′ r (k + 1)
         inserting-again n l =
             record {
-              after = after-then ws₀ h₀ p₀ ws h p ws′ h′ r (c .after) (post .updated .after n);
+              after = after-then (c .after) (post .updated .after n);
               size = l;
               within = omega arith;
               same = post .before n ∙ c .same;
@@ -278,7 +278,7 @@ module _ {ws h : List ℕ} {p : Progress} {v w : List ℕ} (pre : InsertPre ws h
   pub insert-many : (length w ≡ 1 → ⊥) → {ws′ h′ : List ℕ} {r : Progress} → r ≡ stopped p 7 →
       Updated (λ z s. inserted z v w s) [] ws h p ws′ h′ r
   insert-many n {ws′} {h′} {r} e =
-      updated-stopped (λ z s. inserted z v w s) [] ws h p ws′ h′ r 6 e (λ z ms. rw (ne-eqb (length w) 1 n))
+      updated-stopped 6 e (λ z ms. rw (ne-eqb (length w) 1 n))
 
   module _ (one : length w ≡ 1) (g : ℕ) (e : g ≡ getD w 0 0) where
     pub insert-low : g < p .count
@@ -292,7 +292,7 @@ module _ {ws h : List ℕ} {p : Progress} {v w : List ℕ} (pre : InsertPre ws h
     pub insert-leaf : getD ws g 0 % 4 ≡ 2 → {ws′ h′ : List ℕ} {r : Progress} → r ≡ stopped p 7 →
         Updated (λ z s. inserted z v w s) [] ws h p ws′ h′ r
     insert-leaf l {ws′} {h′} {r} f =
-        updated-stopped (λ z s. inserted z v w s) [] ws h p ws′ h′ r 6 f
+        updated-stopped 6 f
         (λ z ms. let b : model.isElement (decodeParts (p .count) ws ms) (getD w 0 0) ≡ false = kind ms ∙ rw l in rw (one, b))
 
     module _ (l : getD ws g 0 % 4 ≡ 2 → ⊥) where

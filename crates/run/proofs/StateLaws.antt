@@ -65,7 +65,7 @@ module _ (n : ℕ) (ws : List ℕ) (canonical : Canonical n ws) (within : n ≤ 
         ap (λ (v : List ℕ). set v i w) canonical
 
 -- A RECORD APPENDED to what is held
-module _ (ws h : List ℕ) (p : Progress) (held : Held ws h p) (r : Record) (n : ℕ) (size : length (recordBytes r) ≡ n) (small : n ≤ 6)
+module _ {ws h : List ℕ} {p : Progress} (held : Held ws h p) (r : Record) (n : ℕ) (size : length (recordBytes r) ≡ n) (small : n ≤ 6)
     (m : p .made + p .cut < 2048) where
   pub append-room : p .bytes + n ≤ length h
   append-room = omega (arith, held .size, held .area)
@@ -88,13 +88,13 @@ module _ (ws h : List ℕ) (p : Progress) (held : Held ws h p) (r : Record) (n :
   append-records f = ap recordsIn append-written ∙ recordsIn-push (take (p .bytes) h) (p .made) (p .cut) (held .history) r f
 
 -- ONE AFTER THE OTHER
-pub after-self : (ws h : List ℕ) (p : Progress) → Held ws h p → After ws h p ws h p
-after-self ws h p a =
+pub after-self : {ws h : List ℕ} {p : Progress} → Held ws h p → After ws h p ws h p
+after-self a =
     record { held = a; rows = omega arith; bytes = omega arith; area = refl; rest = λ k l. refl }
 
-pub after-then : (ws₀ h₀ : List ℕ) (p₀ : Progress) (ws h : List ℕ) (p : Progress) (ws′ h′ : List ℕ) (r : Progress) →
+pub after-then : {ws₀ h₀ : List ℕ} {p₀ : Progress} {ws h : List ℕ} {p : Progress} {ws′ h′ : List ℕ} {r : Progress} →
     After ws₀ h₀ p₀ ws h p → After ws h p ws′ h′ r → After ws₀ h₀ p₀ ws′ h′ r
-after-then ws₀ h₀ p₀ ws h p ws′ h′ r a b =
+after-then {p = p} a b =
     record {
       held = b .held;
       rows = omega (arith, a .rows, b .rows);
@@ -104,8 +104,8 @@ after-then ws₀ h₀ p₀ ws h p ws′ h′ r a b =
     }
 
 -- what is held, as a number of the model
-pub held-count : (ws h : List ℕ) (p : Progress) → Held ws h p → (ms : List ℕ) → model.count (decodeParts (p .count) ws ms) ≡ p .count
-held-count ws h p held ms = count-decode (p .count) ws ms (omega (arith, held .few, held .rows))
+pub held-count : {ws h : List ℕ} {p : Progress} → Held ws h p → (ms : List ℕ) → model.count (decodeParts (p .count) ws ms) ≡ p .count
+held-count {ws} {h} {p} held ms = count-decode (p .count) ws ms (omega (arith, held .few, held .rows))
 
 -- WHAT AN OUTCOME IS: a value and a state, or a refusal
 pub outcome-gives : (z : ℕ) (v ws ms h : List ℕ) (p : Progress) → p .number ≡ 0 → outcome z v ws ms h p ≡ gives v (stateOf ws ms h p)
@@ -115,7 +115,7 @@ pub outcome-stop : (z : ℕ) (v ws ms h : List ℕ) (p : Progress) → (p .numbe
 outcome-stop z v ws ms h p e = pick-false (eqb (p .number) 0) _ _ (ne-eqb (p .number) 0 e)
 
 -- REFUSED, the areas may be anything
-module _ (f : ℕ → State → Out) (v ws h : List ℕ) (p : Progress) (ws′ h′ : List ℕ) (r : Progress) where
+module _ {f : ℕ → State → Out} {v ws h : List ℕ} {p : Progress} {ws′ h′ : List ℕ} {r : Progress} where
   pub updated-stopped : (n : ℕ) → r ≡ stopped p (suc n) → ((z : ℕ) (ms : List ℕ) → stop (fault (suc n) z) ≡ f z (stateOf ws ms h p)) →
       Updated f v ws h p ws′ h′ r
   updated-stopped n e g =

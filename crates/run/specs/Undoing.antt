@@ -10,7 +10,7 @@ use Rattle.model.specs.Refusal as refusal
 use Rattle.model.specs.Table as model
 use Rattle.model.specs.Stored.{wordAt, parentIn}
 use Rattle.model.specs.History.{Record, cutKind}
-use Rattle.model.specs.Undo.{historySize, recordIn, Placed, Formed, broken, formed, formFault, undoFits, undone, Undo, refused, back, undoAll, backwards, undo}
+use Rattle.model.specs.Undo.{historySize, recordIn, Placed, formFault, undoFits, undone, Undo, refused, back, undoAll, undo}
 use Rattle.table.specs.Words.{rowsOf, wordsOf, encode, decode, decodeParts, fits}
 use Rattle.table.specs.Reading.{faultAt}
 use Rattle.table.specs.Calls.{faultOf, result}

@@ -2,7 +2,8 @@
 ghost use mathlib.Core.Path.{_≡_};
 ghost use Prim.Native.Nat.{_≤_, _<_};
 ghost use lib.ListN.{length};
-ghost use Rattle.run.specs.Inserting.{copyLink, NextPre, NextPost, RestPre, RestPost, ItemPre, ItemPost, ItemsPre, ItemsPost, InsertPre, InsertPost};
+ghost use Rattle.run.specs.Inserting.{copyLink, NextPre, NextPost, RestPre, RestPost, ItemPre, ItemPost};
+ghost use Rattle.run.specs.Inserting.{ItemsPre, ItemsPost, InsertPre, InsertPost};
 use crate::state::Progress;
 use crate::update;
 use table::Fault;
@@ -46,7 +47,8 @@ fn copy_next(
     j: usize,
 ) -> Progress
     requires { ⌜ NextPre (now rows) (now history) (now map) p top j ⌝ }
-    ensures { λ r. ⌜ NextPost (now (rows .entry)) (now (history .entry)) (now (map .entry)) p top j (now (rows .exit)) (now (history .exit)) (now (map .exit)) r ⌝ }
+    ensures { λ r. ⌜ NextPost (now (rows .entry)) (now (history .entry)) (now (map .entry)) p top j
+        (now (rows .exit)) (now (history .exit)) (now (map .exit)) r ⌝ }
 {
     let w = rows[j];
     let link = copy_link(map, top, words::link(w));
@@ -69,7 +71,8 @@ fn copy_rest(
     top: usize,
 ) -> Progress
     requires { ⌜ RestPre (now rows) (now history) (now map) p old top ⌝ }
-    ensures { λ r. ⌜ RestPost (now (rows .entry)) (now (history .entry)) (now (map .entry)) p old top (now (rows .exit)) (now (history .exit)) r ⌝ }
+    ensures { λ r. ⌜ RestPost (now (rows .entry)) (now (history .entry)) (now (map .entry)) p old top
+        (now (rows .exit)) (now (history .exit)) r ⌝ }
 {
     let mut now = p;
     let mut j = top + 1;
@@ -116,7 +119,8 @@ fn copy_items(
     target: usize,
 ) -> Progress
     requires { ⌜ ItemsPre (now rows) (now history) (now map) p (now items) target ⌝ }
-    ensures { λ r. ⌜ ItemsPost (now (rows .entry)) (now (history .entry)) p (now (items .entry)) target (now (rows .exit)) (now (history .exit)) r ⌝ }
+    ensures { λ r. ⌜ ItemsPost (now (rows .entry)) (now (history .entry)) p (now (items .entry)) target
+        (now (rows .exit)) (now (history .exit)) r ⌝ }
 {
     let old = p.count;
     let mut now = p;
@@ -140,7 +144,8 @@ pub fn insert(
     targets: &[u16],
 ) -> Progress
     requires { ⌜ InsertPre (now rows) (now history) p (now items) (now targets) ⌝ }
-    ensures { λ r. ⌜ InsertPost (now (rows .entry)) (now (history .entry)) p (now (items .entry)) (now (targets .entry)) (now (rows .exit)) (now (history .exit)) r ⌝ }
+    ensures { λ r. ⌜ InsertPost (now (rows .entry)) (now (history .entry)) p (now (items .entry)) (now (targets .entry))
+        (now (rows .exit)) (now (history .exit)) r ⌝ }
 {
     if targets.len() != 1 {
         return update::refused(p, Fault::TARGET);

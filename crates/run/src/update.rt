@@ -115,7 +115,8 @@ fn cut_row(rows: &mut [u32], history: &mut [u8], p: Progress, i: usize) -> Progr
 // Each row of the value cut from its parent.
 pub fn delete(rows: &mut [u32], history: &mut [u8], p: Progress, items: &[u16]) -> Progress
     requires { ⌜ DeletePre (now rows) (now history) p (now items) ⌝ }
-    ensures { λ r. ⌜ DeletePost (now (rows .entry)) (now (history .entry)) p (now (items .entry)) (now (rows .exit)) (now (history .exit)) r ⌝ }
+    ensures { λ r. ⌜ DeletePost (now (rows .entry)) (now (history .entry)) p (now (items .entry))
+        (now (rows .exit)) (now (history .exit)) r ⌝ }
 {
     let mut now = p;
     let mut k = 0;

@@ -15,7 +15,7 @@ abbrev μ-loop : tie.MeasureT-loop
 μ-loop rows₀ history₀ items now₀ k₀ rows history now k = length items - k
 
 loop-holds : tie.Need-loop-holds Inv-loop μ-loop
-loop-holds c = record { after = after-self (c .before .before .before .args .rows .now) (c .before .before .before .args .history .now) (c .before .before .before .args .p) (c .before .before .before .pre .held); within = omega arith; rest = λ z ms. refl }
+loop-holds c = record { after = after-self (c .before .before .before .pre .held); within = omega arith; rest = λ z ms. refl }
 
 mul-index : tie.Need-mul-index Inv-loop μ-loop
 mul-index c = search needs
@@ -36,7 +36,7 @@ same-length-2 : tie.Need-same-length-2 Inv-loop μ-loop
 same-length-2 c = search needs
 
 returns : tie.Need-returns Inv-loop μ-loop
-returns c = delete-refused (c .before .before .before .before .before .before .before .before .before .before .before .before .before .before .before .before .args .rows .now) (c .before .before .before .before .before .before .before .before .before .before .before .before .before .before .before .before .args .history .now) (c .before .before .before .before .before .before .before .before .before .before .before .before .before .before .before .before .args .p) (c .before .before .before .before .before .before .before .before .before .before .before .before .before .before .before .before .args .items .now) (c .before .before .before .before .before .before .before .before .before .before .before .before .loop .rows) (c .before .before .before .before .before .before .before .before .before .before .before .before .loop .history) (c .before .before .before .before .before .before .before .before .before .before .before .before .loop .now) (c .before .before .before .before .before .before .before .before .before .before .before .before .loop .k) (c .before .before .before .before .before .before .before .before .before .before .before .before .loop .inv) (c .before .before .before .before .before .before .before .before .before .before .before .loop-test .taken) (c .before .before .before .before .before .before .before .index .result) (c .before .before .before .before .before .before .before .index .ensures) (c .before .before .before .before .before .before .cut-row .last .0) (c .before .before .before .before .before .before .cut-row .last .1 .0) (c .before .before .before .before .before .before .cut-row .result) (c .before .before .before .before .before .before .cut-row .ensures) (c .if1 .taken)
+returns c = delete-refused (c .before .before .before .before .before .before .before .before .before .before .before .before .loop .inv) (c .before .before .before .before .before .before .before .before .before .before .before .loop-test .taken) (c .before .before .before .before .before .before .before .index .ensures) (c .before .before .before .before .before .before .cut-row .ensures) (c .if1 .taken)
 
 add-k : tie.Need-add-k Inv-loop μ-loop
 add-k c = search needs
@@ -45,7 +45,10 @@ loop-less : tie.Need-loop-less Inv-loop μ-loop
 loop-less c = search needs
 
 loop-again : tie.Need-loop-again Inv-loop μ-loop
-loop-again c = let n : c .before .before .before .before .before .before .cut-row .result .number ≡ 0 = search (c .if1 .left, needs) in let g = delete-again (c .before .before .before .before .before .before .before .before .before .before .before .before .before .before .before .before .args .rows .now) (c .before .before .before .before .before .before .before .before .before .before .before .before .before .before .before .before .args .history .now) (c .before .before .before .before .before .before .before .before .before .before .before .before .before .before .before .before .args .p) (c .before .before .before .before .before .before .before .before .before .before .before .before .before .before .before .before .args .items .now) (c .before .before .before .before .before .before .before .before .before .before .before .before .loop .rows) (c .before .before .before .before .before .before .before .before .before .before .before .before .loop .history) (c .before .before .before .before .before .before .before .before .before .before .before .before .loop .now) (c .before .before .before .before .before .before .before .before .before .before .before .before .loop .k) (c .before .before .before .before .before .before .before .before .before .before .before .before .loop .inv) (c .before .before .before .before .before .before .before .before .before .before .before .loop-test .taken) (c .before .before .before .before .before .before .before .index .result) (c .before .before .before .before .before .before .before .index .ensures) (c .before .before .before .before .before .before .cut-row .last .0) (c .before .before .before .before .before .before .cut-row .last .1 .0) (c .before .before .before .before .before .before .cut-row .result) (c .before .before .before .before .before .before .cut-row .ensures) n in record { after = g .0; within = omega arith; rest = g .1 }
+loop-again c =
+    let n : c .before .before .before .before .before .before .cut-row .result .number ≡ 0 = search (c .if1 .left, needs) in
+    let g = delete-again (c .before .before .before .before .before .before .before .before .before .before .before .before .loop .inv) (c .before .before .before .before .before .before .before .before .before .before .before .loop-test .taken) (c .before .before .before .before .before .before .before .index .ensures) (c .before .before .before .before .before .before .cut-row .ensures) n in
+    record { after = g .0; within = omega arith; rest = g .1 }
 
 same-length-3 : tie.Need-same-length-3 Inv-loop μ-loop
 same-length-3 c = search needs
@@ -54,7 +57,7 @@ same-length-4 : tie.Need-same-length-4 Inv-loop μ-loop
 same-length-4 c = search needs
 
 returns-2 : tie.Need-returns-2 Inv-loop μ-loop
-returns-2 c = delete-end (c .before .before .before .before .before .args .rows .now) (c .before .before .before .before .before .args .history .now) (c .before .before .before .before .before .args .p) (c .before .before .before .before .before .args .items .now) (c .before .loop .rows) (c .before .loop .history) (c .before .loop .now) (c .before .loop .k) (c .before .loop .inv) (omega (arith, c .loop-test .left))
+returns-2 c = delete-end (c .before .loop .inv) (omega (arith, c .loop-test .left))
 
 pub delete-spec : {M : Type 1} → statement M
 delete-spec =
