@@ -66,7 +66,8 @@ made-state z r s u v e =
     let q = newRow-full z r s (ltb-false (model.count (s .plan)) 512 a) in
     absurd (let y : _≡_ {A = ℕ} 0 1 = cc in omega arith))
 
-outcome-then : (z : ℕ) (v ws ms h : List ℕ) (p : Progress) → outcome z [] ws ms h p ≡ thenRow (outcome z v ws ms h p) (λ (u : State). gives [] u)
+outcome-then : (z : ℕ) (v ws ms h : List ℕ) (p : Progress) → outcome z [] ws ms h p ≡ thenRow (outcome z v ws ms h p) (λ (u : State).
+    gives [] u)
 outcome-then z v ws ms h p = by-cases (eqb (p .number) 0) (λ e. rw e) (λ e. rw e)
 
 -- ROWS BELOW a count that were there before
@@ -151,7 +152,8 @@ module _ {ws h m : List ℕ} {p : Progress} {t j : ℕ} (pre : NextPre ws h m p 
         updated =
             record {
               same = λ z ms.
-                  outcome-gives z [] ws ms h p (pre .held .fine) ∙ sym (pick-true (eqb link 0) (gives [] (stateOf ws ms h p)) _ (eq-eqb link 0 e));
+                  outcome-gives z [] ws ms h p (pre .held .fine) ∙ sym (pick-true (eqb link 0) (gives [] (stateOf ws ms h p)) _ (eq-eqb
+                  link 0 e));
               after = λ q. after-self (pre .held);
             };
         map = ap (set m j) (sym (pick-true (eqb link 0) 65535 (p .count) (eq-eqb link 0 e)));
@@ -257,7 +259,8 @@ module _ {ws h m : List ℕ} {p : Progress} {t j : ℕ} (pre : NextPre ws h m p 
             let s : k < p .count = omega (arith, pre .row) in
             inr (
               omega (arith, c .0, grown),
-              ap (λ (q : model.Row). q .isLeaf) (next-old (getD m k 0) (c .0)) ∙ c .1 ∙ ap (λ (q : model.Row). q .isLeaf) (sym (next-old k s)),
+              ap (λ (q : model.Row). q .isLeaf) (next-old (getD m k 0) (c .0)) ∙ c .1 ∙ ap (λ (q : model.Row). q .isLeaf) (sym (next-old k
+                  s)),
             ))
             (pre .mapped k a (omega (arith, f))))
 
@@ -284,7 +287,8 @@ pub record Copying (old t : ℕ) (ws₀ h₀ m₀ : List ℕ) (p₀ : Progress) 
   pub mapped : Mapped ws m (p .count) t j
   pub known : (ms : List ℕ) (k : ℕ) → t ≤ k → k < j → eqb (getD m k 0) 65535 ≡ not (eqb k t || isBelow (decodeParts old ws₀ ms) t k)
   pub rest : (g z : ℕ) (ms : List ℕ) →
-      copyEach z (decodeParts old ws₀ ms) t g (descendantsFrom (decodeParts old ws₀ ms) t j (old - j)) (copiedIn m t (j - t)) (stateOf ws ms h p) ≡
+      copyEach z (decodeParts old ws₀ ms) t g (descendantsFrom (decodeParts old ws₀ ms) t j (old - j)) (copiedIn m t (j - t)) (stateOf ws
+      ms h p) ≡
       copyEach z (decodeParts old ws₀ ms) t g (descendantsFrom (decodeParts old ws₀ ms) t (t + 1) (old - (t + 1))) (copiedIn m₀ t 1)
       (stateOf ws₀ ms h₀ p₀)
 
@@ -331,7 +335,8 @@ module _ {old t : ℕ} {ws₀ h₀ m₀ : List ℕ} {p₀ : Progress} (pre : Res
                     let e : old - j ≡ 0 = omega arith in
                     outcome-gives z [] ws ms h p (c .after .held .fine) ∙
                     ap (λ (i : ℕ).
-                    copyEach z (decodeParts old ws₀ ms) t g (descendantsFrom (decodeParts old ws₀ ms) t j i) (copiedIn m t (j - t)) (stateOf ws ms h p))
+                    copyEach z (decodeParts old ws₀ ms) t g (descendantsFrom (decodeParts old ws₀ ms) t j i) (copiedIn m t (j - t))
+                    (stateOf ws ms h p))
                     (sym e) ∙ c .rest g z ms ∙
                     ap (λ (x : model.Table).
                     copyEach z x t g (descendantsFrom x t (t + 1) (old - (t + 1))) (copiedIn m₀ t 1) (stateOf ws₀ ms h₀ p₀))
@@ -369,7 +374,8 @@ module _ {old t : ℕ} {ws₀ h₀ m₀ : List ℕ} {p₀ : Progress} (pre : Res
         turn : (g z : ℕ) (ms : List ℕ) →
             thenRow (outcome z [] ws′ ms h′ r)
             (λ (u : State).
-            copyEach z (decodeParts old ws₀ ms) t g (descendantsFrom (decodeParts old ws₀ ms) t (j + 1) (old - (j + 1))) (copiedIn m′ t (j + 1 - t)) u) ≡
+            copyEach z (decodeParts old ws₀ ms) t g (descendantsFrom (decodeParts old ws₀ ms) t (j + 1) (old - (j + 1))) (copiedIn m′ t (j
+            + 1 - t)) u) ≡
             copyEach z (decodeParts old ws₀ ms) t g (descendantsFrom (decodeParts old ws₀ ms) t (t + 1) (old - (t + 1))) (copiedIn m₀ t 1)
             (stateOf ws₀ ms h₀ p₀)
         turn g z ms =
@@ -377,7 +383,8 @@ module _ {old t : ℕ} {ws₀ h₀ m₀ : List ℕ} {p₀ : Progress} (pre : Res
             ap (λ (o : Out).
             thenRow o (λ (u : State). copyEach z x t g (descendantsFrom x t (j + 1) (old - (j + 1))) (copiedIn m′ t (j + 1 - t)) u))
             (post .updated .same z ms ∙ ap (λ (q : model.Row). copyBy z q (nextLink ws m t j) (stateOf ws ms h p)) (sym (row-x ms))) ∙
-            sym (copy-turn x (lower-before (pre .held) old (pre .room) ms) t j (c .low) m (getD ws j 0 / 4 % 1024) (parent-x ms) (c .known ms)
+            sym (copy-turn x (lower-before (pre .held) old (pre .room) ms) t j (c .low) m (getD ws j 0 / 4 % 1024) (parent-x ms) (c .known
+            ms)
             (p .count) small sized m′ (post .map) z g old (stateOf ws ms h p) (held-count (c .after .held) ms) more) ∙
             c .rest g z ms
 
@@ -390,7 +397,8 @@ module _ {old t : ℕ} {ws₀ h₀ m₀ : List ℕ} {p₀ : Progress} (pre : Res
                         let x = decodeParts old ws₀ ms in
                         outcome-stop z [] ws′ ms h′ r n ∙
                         sym (ap (λ (o : Out).
-                        thenRow o (λ (u : State). copyEach z x t g (descendantsFrom x t (j + 1) (old - (j + 1))) (copiedIn m′ t (j + 1 - t)) u))
+                        thenRow o (λ (u : State). copyEach z x t g (descendantsFrom x t (j + 1) (old - (j + 1))) (copiedIn m′ t (j + 1 -
+                        t)) u))
                         (outcome-stop z [] ws′ ms h′ r n)) ∙
                         turn g z ms ∙
                         ap (λ (y : model.Table).

@@ -13,7 +13,8 @@ use borrow.Author.Tests.{lt-ltb, eq-eqb, ne-eqb}
 use Rattle.model.specs.Base.{pick}
 use Rattle.model.specs.Refusal.{fault}
 use Rattle.model.specs.Table as model
-use Rattle.model.specs.Run.{State, state, Out, stop, gives, newRow, withMade, thenRow, Copied, copyParent, copyRow, copyEach, descendantsFrom, subtree, copyAll, inserted}
+use Rattle.model.specs.Run.{State, state, Out, stop, gives, newRow, withMade, thenRow, Copied, copyParent, copyRow, copyEach}
+use Rattle.model.specs.Run.{descendantsFrom, subtree, copyAll, inserted}
 use Rattle.model.proofs.BoolLaws.{and-both, pick-true}
 use Rattle.model.proofs.TableLaws.{isElement-at, isElement-by}
 use Rattle.table.specs.Words.{linked, rowOf, rowsOf, isRowWord, decodeParts}
@@ -25,7 +26,8 @@ use Rattle.run.specs.Inserting.{before, copiedIn, IsCopy, RestPre, RestP
 use Rattle.run.specs.declared.state.Progress.{Progress}
 use Rattle.run.proofs.StateLaws.{row-word, held-count, after-self, after-then, outcome-gives, outcome-stop, updated-stopped}
 use Rattle.run.proofs.InsertLawsScan.{descendants-past}
-use Rattle.run.proofs.InsertLaws.{relinked-row, relinked-word, made-state, made-count, made-old, made-new, before-decode, row-before, rows-kept, lower-before}
+use Rattle.run.proofs.InsertLaws.{relinked-row, relinked-word, made-state, made-count, made-old, made-new, before-decode}
+use Rattle.run.proofs.InsertLaws.{row-before, rows-kept, lower-before}
 
 -- THE TOP FIRST, then the rows past it
 copyEach-top : (z : ℕ) (x : model.Table) (t g n : ℕ) (s : State) → model.count x ≡ n → t < n →
@@ -83,7 +85,8 @@ module _ {ws h m : List ℕ} {p : Progress} {old t g : ℕ} (pre : ItemPre ws h 
               pre .held .tree .tags t (omega (arith, held-count (pre .held) []));
           parent =
               ap (λ (r : model.Row). model.parentFits (decodeParts (p .count) ws []) (p .count) (r .parent)) row-copy ∙
-              and-both (ltb g (p .count)) (model.isElement (decodeParts (p .count) ws []) g) (lt-ltb g (p .count) item-target) (pre .target);
+              and-both (ltb g (p .count)) (model.isElement (decodeParts (p .count) ws []) g) (lt-ltb g (p .count) item-target)
+              (pre .target);
         }
 
     module _ {ws₁ h₁ : List ℕ} {p₁ : Progress} (u : Updated (λ z s. newRow z (rowOf v) s) (p .count ∷ []) ws h p ws₁ h₁ p₁) where
@@ -103,7 +106,8 @@ module _ {ws h m : List ℕ} {p : Progress} {old t g : ℕ} (pre : ItemPre ws h 
           (u .same z ms ∙
           ap (λ (r : model.Row). newRow z r s)
           (row-copy ∙
-          ap (λ (r : model.Row). model.withParent r (some g)) (sym (rowAt-decode old ws ms (omega (arith, pre .room, fits)) t (pre .top))))) ∙
+          ap (λ (r : model.Row). model.withParent r (some g)) (sym (rowAt-decode old ws ms (omega (arith, pre .room, fits)) t
+          (pre .top))))) ∙
           ap (λ (c : ℕ).
           thenRow (newRow z (model.withParent (model.rowAt x t) (some g)) s)
           (λ (q : State). copyEach z x t g (descendantsFrom x t (t + 1) (old - (t + 1))) (record { old = t; new = c } ∷ []) q))
@@ -174,7 +178,10 @@ module _ {ws h m : List ℕ} {p : Progress} {old t g : ℕ} (pre : ItemPre ws h 
                         ap (λ (rs : List model.Row). model.table rs (map linked ms)) rows₁) ∙
                         ap (λ (cs : List Copied).
                         copyEach z (decodeParts old ws ms) t g (descendantsFrom (decodeParts old ws ms) t (t + 1) (old - (t + 1))) cs s₁)
-                        (copiedIn-top m t (p .count) (omega (arith, pre .top, pre .room, pre .size, pre .held .few)) (omega (arith, pre .held .few))) ∙
+                        (copiedIn-top m t (p .count) (omega (arith, pre .top, pre .room, pre .size, pre .held .few)) (omega (
+                          arith,
+                          pre .held .few,
+                        ))) ∙
                         sym (ap (λ (o : Out). thenRow o (rest z ms)) (outcome-gives z (p .count ∷ []) ws₁ ms h₁ p₁ n)) ∙ whole z ms;
                     after = λ q. after-then after₁ (post .updated g .after q);
                   };
@@ -209,7 +216,8 @@ module _ {ws₀ h₀ m₀ : List ℕ} {p₀ : Progress} {v : List ℕ} {g : ℕ}
         record {
           same = λ z ms.
               outcome-gives z [] ws ms h p (c .after .held .fine) ∙
-              ap (λ (is : List ℕ). copyAll z (decodeParts (p₀ .count) ws₀ ms) is g (stateOf ws ms h p)) (sym (drop-of-length-le v l)) ∙ c .rest z ms;
+              ap (λ (is : List ℕ). copyAll z (decodeParts (p₀ .count) ws₀ ms) is g (stateOf ws ms h p)) (sym (drop-of-length-le v l)) ∙
+              c .rest z ms;
           after = λ q. c .after;
         }
 
@@ -248,7 +256,8 @@ module _ {ws₀ h₀ m₀ : List ℕ} {p₀ : Progress} {v : List ℕ} {g : ℕ}
             (before-decode (p₀ .count) ws ms h p (c .after .rows) ∙
             ap (λ (rs : List model.Row). model.table rs (map linked ms)) (c .same))) ∙
             ap (λ (j : ℕ). copyAll z x (j ∷ drop (k + 1) v) g s) e ∙
-            ap (λ (is : List ℕ). copyAll z x is g s) (sym (drop-cons v k 0 more ∙ ap (λ (j : ℕ). getD v k 0 ∷ drop j v) (sym (add-one k)))) ∙
+            ap (λ (is : List ℕ). copyAll z x is g s) (sym (drop-cons v k 0 more ∙ ap (λ (j : ℕ). getD v k 0 ∷ drop j v) (sym (add-one
+            k)))) ∙
             c .rest z ms
 
         pub inserting-refused : (r .number ≡ 0 → ⊥) → ItemsPost ws₀ h₀ p₀ v g ws′ h′ r
@@ -305,7 +314,8 @@ module _ {ws h : List ℕ} {p : Progress} {v w : List ℕ} (pre : InsertPre ws h
             target = ap (model.isElement (decodeParts (p .count) ws [])) e ∙ kind [] ∙ rw (ne-eqb (getD ws g 0 % 4) 2 l);
           }
 
-      pub insert-done : {ws′ h′ : List ℕ} {r : Progress} → ItemsPost ws h p v g ws′ h′ r → Updated (λ z s. inserted z v w s) [] ws h p ws′ h′ r
+      pub insert-done : {ws′ h′ : List ℕ} {r : Progress} → ItemsPost ws h p v g ws′ h′ r → Updated (λ z s. inserted z v w s) [] ws h p ws′
+          h′ r
       insert-done u =
           record {
             same = λ z ms.

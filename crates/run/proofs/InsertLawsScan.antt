@@ -15,7 +15,8 @@ use Rattle.model.specs.Base.{pick}
 use Rattle.model.specs.Table as model
 use Rattle.model.specs.Sweep.{through}
 use Rattle.model.specs.Step.{parentIs, isBelowFrom, isBelow}
-use Rattle.model.specs.Run.{State, Out, stop, gives, newRow, thenRow, Copied, copyOf, copyParent, copyRow, copyEach, descendantsFrom, subtree}
+use Rattle.model.specs.Run.{State, Out, stop, gives, newRow, thenRow, Copied, copyOf, copyParent, copyRow, copyEach, descendantsFrom}
+use Rattle.model.specs.Run.{subtree}
 use Rattle.model.proofs.BoolLaws.{by-cases, pick-true, pick-false}
 use Rattle.model.proofs.Below.{Below, under, further, below-is}
 use Rattle.table.specs.Words.{linked}
@@ -171,7 +172,8 @@ module _ (x : model.Table) (lower : (i p : ℕ) → model.rowAt x i .parent ≡ 
       (sym (known (l - 1) (k .low) (lower j (l - 1) (parent-some (k .parent)))) ∙ ne-eqb (getD m (l - 1) 0) 65535 (k .copied)) ∙
       sym (ap (λ (n : ℕ). not (eqb n 0)) (k .is) ∙ ap not (ne-eqb (getD m (l - 1) 0 + 1) 0 z)))
 
-  copy-row : (g : ℕ) → (copyLink m t l ≡ 0 → ⊥) → copyRow x t g j (copiedIn m t (j - t)) ≡ model.withParent (model.rowAt x j) (linked (copyLink m t l))
+  copy-row : (g : ℕ) → (copyLink m t l ≡ 0 → ⊥) → copyRow x t g j (copiedIn m t (j - t)) ≡ model.withParent (model.rowAt x j) (linked
+      (copyLink m t l))
   copy-row g n =
       let k = linked-at m t l n in
       let a : j ≡ t → ⊥ = λ q. omega arith in
@@ -249,7 +251,8 @@ module _ (x : model.Table) (lower : (i p : ℕ) → model.rowAt x i .parent ≡ 
         (ap (λ (i : ℕ). copyEach z x t g (descendantsFrom x t i (n - (j + 1))) (copiedIn m t (j - t)) s) (sym (add-one j)) ∙
         ap (λ (cs : List Copied). copyEach z x t g (descendantsFrom x t (j + 1) (n - (j + 1))) cs s)
         (sym (ap (λ (v : List ℕ). copiedIn v t (j + 1 - t)) f ∙ copied-out (eqb-true (copyLink m t l) 0 y))) ∙
-        sym (ap (λ (o : Out). thenRow o next) (pick-true (eqb (copyLink m t l) 0) (gives [] s) (thenRow made (λ (u : State). gives [] u)) y))))
+        sym (ap (λ (o : Out). thenRow o next) (pick-true (eqb (copyLink m t l) 0) (gives [] s) (thenRow made (λ (u : State). gives [] u))
+        y))))
         (λ y.
         let w = eqb-false (copyLink m t l) 0 y in
         let b : isBelow x t j ≡ true = below-link ∙ ap not y in
@@ -257,7 +260,8 @@ module _ (x : model.Table) (lower : (i p : ℕ) → model.rowAt x i .parent ≡ 
         (ap (λ (r : model.Row).
         thenRow (newRow z r s)
         (λ (u : State).
-        copyEach z x t g (descendantsFrom x t (suc j) (n - (j + 1))) (record { old = j; new = model.count (s .plan) } ∷ copiedIn m t (j - t)) u))
+        copyEach z x t g (descendantsFrom x t (suc j) (n - (j + 1))) (record { old = j; new = model.count (s .plan) } ∷ copiedIn m t (j -
+        t)) u))
         (copy-row g w) ∙
         ap (λ (i : ℕ).
         thenRow made
@@ -268,7 +272,8 @@ module _ (x : model.Table) (lower : (i p : ℕ) → model.rowAt x i .parent ≡ 
         (ap (λ (i : ℕ). record { old = j; new = i } ∷ copiedIn m t (j - t)) count ∙
         sym (ap (λ (v : List ℕ). copiedIn v t (j + 1 - t)) f ∙ copied-in w)) ∙
         sym (thenRow-gives made next) ∙
-        sym (ap (λ (o : Out). thenRow o next) (pick-false (eqb (copyLink m t l) 0) (gives [] s) (thenRow made (λ (u : State). gives [] u)) y))))
+        sym (ap (λ (o : Out). thenRow o next) (pick-false (eqb (copyLink m t l) 0) (gives [] s) (thenRow made (λ (u : State). gives [] u))
+        y))))
       where
         made : Out
         made = newRow z (model.withParent (model.rowAt x j) (linked (copyLink m t l))) s

@@ -8,14 +8,16 @@ use native.Mathlib.Numerals.{add-one}
 use native.Mathlib.Omega.{arith}
 use lib.Dec.{ltb, leb, eqb}
 use lib.ListN.{length, getD, take, drop, set, replicate, length-set, length-drop, length-map, drop-of-length-le, getD-replicate}
-use lib.Seq.{getD-set-same, getD-set-other, set-set, set-getD, take-set-le, take-suc, take-take, take-all, drop-drop, getD-drop, getD-append-add}
+use lib.Seq.{getD-set-same, getD-set-other, set-set, set-getD, take-set-le, take-suc, take-take, take-all, drop-drop, getD-drop}
+use lib.Seq.{getD-append-add}
 use borrow.Author.Tests.{lt-ltb, le-ltb, le-leb, lt-leb, eq-eqb, ne-eqb, ltb-true, eqb-true, eqb-false, not-true}
 use Rattle.model.specs.Base.{pick, isIn, any}
 use Rattle.model.specs.Refusal.{fault, fine, isFine}
 use Rattle.model.specs.Table as model
 use Rattle.model.specs.Stored.{wordAt, parentIn}
 use Rattle.model.specs.History.{Record}
-use Rattle.model.specs.Undo.{historySize, recordIn, Placed, Formed, broken, formed, formFault, withPlaced, formFrom, sameBool, sameParent, madeFits, oldParentFits}
+use Rattle.model.specs.Undo.{historySize, recordIn, Placed, Formed, broken, formed, formFault, withPlaced, formFrom, sameBool, sameParent}
+use Rattle.model.specs.Undo.{madeFits, oldParentFits}
 use Rattle.model.specs.Undo.{cutFits, undoFits, undone, Undo, refused, back, undoAll, backwards, undo}
 use Rattle.model.proofs.BoolLaws.{by-cases, and-left, and-right, pick-true, pick-false}
 use Rattle.table.specs.Words.{linkOf, linked, wordOf, rowOf, rowsOf, wordsOf, isRowWord, decodeParts}
@@ -61,7 +63,13 @@ module _ (s : List ℕ) (n : ℕ) where
       module _ (whole : historySize (getD s 0 0) ≤ length s) where
         name : (i : ℕ) → formFault i n s ≡ pick (not (eqb (getD s 0 0) 65) || isIn 1 255 (getD s 3 0)) fine (fault 4 i)
         name i =
-            rw (le-leb 65 (getD s 0 0) low, le-leb (getD s 0 0) 67 high, lt-ltb n 2048 few, le-leb (historySize (getD s 0 0)) (length s) whole)
+            rw (
+              le-leb 65 (getD s 0 0) low,
+              le-leb (getD s 0 0) 67 high,
+              lt-ltb n 2048 few,
+              le-leb (historySize (getD s 0 0)) (length s)
+                  whole,
+            )
 
         pub form-field : getD s 0 0 ≡ 65 → getD s 3 0 ≡ 0 → FormPost s n 4
         form-field k t = refused-form 3 (λ i. name i ∙ rw (eq-eqb (getD s 0 0) 65 k, t))
@@ -178,7 +186,8 @@ module _ {b m : List ℕ} {at n : ℕ} (c : Forming b m at n) where
             let w : formFrom (suc (length b - n)) at n (drop at b) ≡ broken (formFault at n (drop at b)) =
             rw (ne-eqb (length (drop at b)) 0 there, y) in
             ap (λ (f : Rattle.model.specs.Refusal.Fault). refused f) (sym e) ∙
-            sym (ap (undoFrom x (undoing b m n)) w) ∙ ap (λ (k : ℕ). undoFrom x (undoing b m n) (formFrom k at n (drop at b))) (sym fuel) ∙ c .rest x
+            sym (ap (undoFrom x (undoing b m n)) w) ∙ ap (λ (k : ℕ). undoFrom x (undoing b m n) (formFrom k at n (drop at b))) (sym fuel)
+            ∙ c .rest x
 
     module _ (z : r ≡ 0) where
       abbrev step : ℕ
@@ -226,9 +235,11 @@ module _ {b m : List ℕ} {at n : ℕ} (c : Forming b m at n) where
           entry = record { at = at; entry = recordIn (drop at b) }
 
           turn : formFrom (suc (length b - n)) at n (drop at b) ≡
-              withPlaced entry (formFrom (length b - n) (at + historySize (getD (drop at b) 0 0)) (n + 1) (drop (historySize (getD (drop at b) 0 0)) (drop at b)))
+              withPlaced entry (formFrom (length b - n) (at + historySize (getD (drop at b) 0 0)) (n + 1) (drop (historySize (getD (drop
+              at b) 0 0)) (drop at b)))
           turn =
-              let y : isFine (formFault at n (drop at b)) ≡ true = ap isFine (faults ∙ pick-true (eqb r 0) fine (fault r at) (eq-eqb r 0 z)) in
+              let y : isFine (formFault at n (drop at b)) ≡ true = ap isFine (faults ∙ pick-true (eqb r 0) fine (fault r at) (eq-eqb r 0
+              z)) in
               rw (ne-eqb (length (drop at b)) 0 there, y)
 
           grown : undoing b (set m n at) (n + 1) ≡ entry ∷ undoing b m n
@@ -237,16 +248,20 @@ module _ {b m : List ℕ} {at n : ℕ} (c : Forming b m at n) where
               ap (λ (j : ℕ). record { at = j; entry = recordIn (drop j b) } ∷ undoing b (set m n at) n) here ∙
               ap (λ (ps : List Placed). entry ∷ ps) (undoing-set b m n n at (omega arith))
 
-          go : (x : model.Table) → undoFrom x (undoing b (set m n at) (n + 1)) (formFrom (length b + 1 - (n + 1)) at′ (n + 1) (drop at′ b)) ≡ undo x b
+          go : (x : model.Table) → undoFrom x (undoing b (set m n at) (n + 1)) (formFrom (length b + 1 - (n + 1)) at′ (n + 1) (drop at′
+              b)) ≡ undo x b
           go x =
               let f : length b + 1 - (n + 1) ≡ length b - n = omega arith in
               ap (λ (ps : List Placed). undoFrom x ps (formFrom (length b + 1 - (n + 1)) at′ (n + 1) (drop at′ b))) grown ∙
               ap (λ (k : ℕ). undoFrom x (entry ∷ undoing b m n) (formFrom k at′ (n + 1) (drop at′ b))) f ∙
               ap (λ (j : ℕ). undoFrom x (entry ∷ undoing b m n) (formFrom (length b - n) j (n + 1) (drop j b))) e ∙
-              ap (λ (d : List ℕ). undoFrom x (entry ∷ undoing b m n) (formFrom (length b - n) (at + step) (n + 1) d)) (sym (drop-drop step at b)) ∙
-              ap (λ (k : ℕ). undoFrom x (entry ∷ undoing b m n) (formFrom (length b - n) (at + historySize k) (n + 1) (drop (historySize k) (drop at b)))) (sym first) ∙
+              ap (λ (d : List ℕ). undoFrom x (entry ∷ undoing b m n) (formFrom (length b - n) (at + step) (n + 1) d)) (sym (drop-drop step
+              at b)) ∙
+              ap (λ (k : ℕ). undoFrom x (entry ∷ undoing b m n) (formFrom (length b - n) (at + historySize k) (n + 1) (drop (historySize
+              k) (drop at b)))) (sym first) ∙
               sym (undoFrom-placed x (undoing b m n) entry
-              (formFrom (length b - n) (at + historySize (getD (drop at b) 0 0)) (n + 1) (drop (historySize (getD (drop at b) 0 0)) (drop at b)))) ∙
+              (formFrom (length b - n) (at + historySize (getD (drop at b) 0 0)) (n + 1) (drop (historySize (getD (drop at b) 0 0)) (drop
+              at b)))) ∙
               sym (ap (undoFrom x (undoing b m n)) turn) ∙
               ap (λ (k : ℕ). undoFrom x (undoing b m n) (formFrom k at n (drop at b))) (sym fuel) ∙ c .rest x
 
@@ -327,7 +342,8 @@ module _ {ws : List ℕ} {n : ℕ} {s : List ℕ} {size : ℕ} (pre : FitPre ws 
 
   module _ (low : row < n) where
     cut-tests : cutFits x (cutIn s) ≡
-        (not (model.hasParent (linked (w / 4 % 1024))) && not (any (model.isThe row) (map linked ms)) && oldParentFits x row (parentIn (wordAt s 3)))
+        (not (model.hasParent (linked (w / 4 % 1024))) && not (any (model.isThe row) (map linked ms)) && oldParentFits x row (parentIn
+        (wordAt s 3)))
     cut-tests =
         let k : row < model.count x = omega (arith, counted) in
         cut-row ∙ rw (lt-ltb row (model.count x) k, rowAt-decode n ws ms within row low)

@@ -14,7 +14,8 @@ use Rattle.model.specs.Base.{pick}
 use Rattle.model.specs.Refusal.{fault, fine, linkAt}
 use Rattle.model.specs.Table as model
 use Rattle.model.specs.Stored.{wordAt, parentIn}
-use Rattle.model.specs.Undo.{historySize, recordIn, Placed, madeFits, oldParentFits, cutFits, undoFits, undone, Undo, refused, back, undoAll, undo}
+use Rattle.model.specs.Undo.{historySize, recordIn, Placed, madeFits, oldParentFits, cutFits, undoFits, undone, Undo, refused, back}
+use Rattle.model.specs.Undo.{undoAll, undo}
 use Rattle.model.proofs.BoolLaws.{by-cases, true-false, and-left, pick-true, pick-false}
 use Rattle.model.proofs.TestLaws.{and-four, and-five}
 use Rattle.table.specs.Words.{linked, wordOf, rowOf, rowsOf, wordsOf, isRowWord, decodeParts}
@@ -156,12 +157,14 @@ module _ {ws : List ℕ} {n : ℕ} {s : List ℕ} (pre : BackPre ws n s) (ms : L
                 ap (set (rowsOf n ws) (wordAt s 1))
                 (ap rowOf word ∙ relinked-row w (wordAt s 3 + 1) small ∙
                 ap (model.withParent (rowOf w)) (linked-linkOf (some (wordAt s 3)) ∙ sym parent-is) ∙
-                ap (λ (r : model.Row). model.withParent r (parentIn (wordAt s 3))) (sym (rowAt-decode n ws ms within (wordAt s 1) cut-row-low)))) ∙
+                ap (λ (r : model.Row). model.withParent r (parentIn (wordAt s 3))) (sym (rowAt-decode n ws ms within (wordAt s 1)
+                cut-row-low)))) ∙
                 sym (undone-cut x s kind);
             few = λ f. pre .few;
             canonical = λ f.
                 canonical-set n ws (pre .canonical) within (wordAt s 1) cut-row-low w′
-                (ap isRowWord word ∙ relinked-word w (wordAt s 3 + 1) small (row-word n ws (pre .canonical) within (wordAt s 1) cut-row-low));
+                (ap isRowWord word ∙ relinked-word w (wordAt s 3 + 1) small (row-word n ws (pre .canonical) within (wordAt s 1)
+                cut-row-low));
           }
 
       -- at the numbers read
@@ -267,7 +270,8 @@ module _ {ws₀ : List ℕ} {n₀ : ℕ} {b m : List ℕ} {k₀ : ℕ} (pre : Al
               fine = λ f. absurd (z f);
               stop = λ f.
                   ap (λ (j : ℕ). refused (fault j at)) (post .link z) ∙
-                  sym (pick-false (eqb (r .number) 0) (undoAll (undone y (recordIn (drop at b))) (undoing b m (k - 1))) (refused (linkAt at))
+                  sym (pick-false (eqb (r .number) 0) (undoAll (undone y (recordIn (drop at b))) (undoing b m (k - 1))) (refused (linkAt
+                  at))
                   (ne-eqb (r .number) 0 z)) ∙
                   turn;
               few = λ f. absurd (z f);

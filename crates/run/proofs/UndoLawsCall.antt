@@ -44,11 +44,13 @@ module _ (t : Table) (b : List ℕ) where
             }
 
         module _ {ws : List ℕ} {q : BackEnd} (post : AllPost (t .rows) (t .marks) (t .count) b m (r .records) ws q) where
-          pub undo-refused : (q .number ≡ 0 → ⊥) → record { fault = record { number = q .number; place = q .place }; table = t } ≡ planUndone t b
+          pub undo-refused : (q .number ≡ 0 → ⊥) → record { fault = record { number = q .number; place = q .place }; table = t } ≡
+              planUndone t b
           undo-refused y = by-model _ (post .stop y ∙ form .fine z (decode t))
 
           pub undo-done : q .number ≡ 0 → length ws ≡ 512 →
-              record { fault = record { number = 0; place = 0 }; table = record { count = q .count; rows = ws; marks = t .marks } } ≡ planUndone t b
+              record { fault = record { number = 0; place = 0 }; table = record { count = q .count; rows = ws; marks = t .marks } } ≡
+              planUndone t b
           undo-done y l =
               ap (λ (u : Table). record { fault = record { number = 0; place = 0 }; table = u })
               (sym (encode-decode (q .count) ws (t .marks) (omega (arith, post .few y)) (post .canonical y))) ∙

@@ -127,8 +127,10 @@ module _ {ws h : List ℕ} {p : Progress} {w : ℕ} (pre : NewPre ws h p w) wher
               (sym (held-count (pre .held) [])) (pre .parent)));
           size = omega (arith, pre .held .size);
           history =
-              subst (λ (b : List ℕ). Recorded b (p .made + 1) (p .cut)) (sym (append-written (pre .held) entry 6 entry-size (omega arith) m))
-              (recorded-made (take (p .bytes) h) (p .made) (p .cut) (pre .held .history) entry entry-range (isCut-made (rowOf w) (p .count)) m);
+              subst (λ (b : List ℕ). Recorded b (p .made + 1) (p .cut)) (sym (append-written (pre .held) entry 6 entry-size (omega arith)
+              m))
+              (recorded-made (take (p .bytes) h) (p .made) (p .cut) (pre .held .history) entry entry-range (isCut-made (rowOf w)
+              (p .count)) m);
         }
 
     after-made : After ws h p rows′ history′ after′
@@ -369,7 +371,8 @@ module _ {ws₀ h₀ : List ℕ} {p₀ : Progress} {v ws h : List ℕ} {p : Prog
         record {
           same = λ z ms.
               outcome-stop z [] ws′ ms h′ r n ∙
-              sym (ap (λ (o : Out). thenRow o (λ (t : State). cutAll z (drop (k + 1) v) t)) (outcome-stop z [] ws′ ms h′ r n)) ∙ delete-turn z ms;
+              sym (ap (λ (o : Out). thenRow o (λ (t : State). cutAll z (drop (k + 1) v) t)) (outcome-stop z [] ws′ ms h′ r n)) ∙
+              delete-turn z ms;
           after = λ q. absurd (n q);
         }
 
@@ -378,5 +381,6 @@ module _ {ws₀ h₀ : List ℕ} {p₀ : Progress} {v ws h : List ℕ} {p : Prog
     delete-again n = (
       after-then (d .after) (u .after n),
       λ z ms.
-          sym (ap (λ (o : Out). thenRow o (λ (t : State). cutAll z (drop (k + 1) v) t)) (outcome-gives z [] ws′ ms h′ r n)) ∙ delete-turn z ms,
+          sym (ap (λ (o : Out). thenRow o (λ (t : State). cutAll z (drop (k + 1) v) t)) (outcome-gives z [] ws′ ms h′ r n)) ∙ delete-turn
+          z ms,
     )

@@ -49,7 +49,9 @@ same-length : tie.Need-same-length
 same-length c = search needs
 
 returns : tie.Need-returns
-returns c = put-five (c .args .history .now) (c .args .at) 67 (c .args .row % 256) (c .args .row / 256) (c .args .parent % 256) (c .args .parent / 256) (c .pre .0)
+returns c =
+    put-five (c .args .history .now) (c .args .at) 67 (c .args .row % 256) (c .args .row / 256) (c .args .parent % 256) (c .args .parent /
+    256) (c .pre .0)
 
 pub put-cut-spec : {M : Type 1} → statement M
 put-cut-spec =

@@ -32,7 +32,16 @@ same-length : tie.Need-same-length
 same-length c = search needs
 
 returns : tie.Need-returns
-returns c = c .before .before .put-six .ensures ∙ ap (λ (b : List ℕ). over (c .before .before .before .before .before .before .before .before .before .args .at) b (c .before .before .before .before .before .before .before .before .before .args .history .now)) (made-six (c .before .before .before .before .before .before .before .before .before .args .w) (c .before .before .before .before .before .before .before .before .before .args .row) (c .before .before .before .made-kind .result) (c .before .before .before .before .before .tag .result) (c .before .before .before .before .before .before .parent .result) (c .before .before .before .made-kind .ensures) (c .before .before .before .before .before .tag .ensures) (c .before .before .before .before .before .before .parent .ensures .0 ∙ ap (λ (j : ℕ). parentBytes (linked j)) (c .before .before .before .before .before .before .before .link .ensures)))
+returns c =
+    c .before .before .put-six .ensures ∙ ap (λ (b : List ℕ). over
+    (c .before .before .before .before .before .before .before .before .before .args .at) b
+    (c .before .before .before .before .before .before .before .before .before .args .history .now)) (made-six
+    (c .before .before .before .before .before .before .before .before .before .args .w)
+    (c .before .before .before .before .before .before .before .before .before .args .row) (c .before .before .before .made-kind .result)
+    (c .before .before .before .before .before .tag .result) (c .before .before .before .before .before .before .parent .result)
+    (c .before .before .before .made-kind .ensures) (c .before .before .before .before .before .tag .ensures)
+    (c .before .before .before .before .before .before .parent .ensures .0 ∙ ap (λ (j : ℕ). parentBytes (linked j))
+    (c .before .before .before .before .before .before .before .link .ensures)))
 
 pub put-made-spec : {M : Type 1} → statement M
 put-made-spec =

@@ -27,7 +27,17 @@ index-requires : tie.Need-index-requires Inv-loop μ-loop
 index-requires c κs = search needs
 
 cut-row-requires : tie.Need-cut-row-requires Inv-loop μ-loop
-cut-row-requires c κs = record { held = c .before .before .before .before .before .loop .inv .after .held; row = omega (arith, c .index .ensures, c .before .before .before .before .before .before .before .before .before .pre .items (c .before .before .before .before .before .loop .k) (c .before .before .before .before .loop-test .taken), c .before .before .before .before .before .loop .inv .after .rows) }
+cut-row-requires c κs =
+    record {
+      held = c .before .before .before .before .before .loop .inv .after .held;
+      row = omega (
+        arith,
+        c .index .ensures,
+        c .before .before .before .before .before .before .before .before .before .pre .items
+            (c .before .before .before .before .before .loop .k) (c .before .before .before .before .loop-test .taken),
+        c .before .before .before .before .before .loop .inv .after .rows,
+      );
+    }
 
 same-length : tie.Need-same-length Inv-loop μ-loop
 same-length c = search needs
@@ -36,7 +46,11 @@ same-length-2 : tie.Need-same-length-2 Inv-loop μ-loop
 same-length-2 c = search needs
 
 returns : tie.Need-returns Inv-loop μ-loop
-returns c = delete-refused (c .before .before .before .before .before .before .before .before .before .before .before .before .loop .inv) (c .before .before .before .before .before .before .before .before .before .before .before .loop-test .taken) (c .before .before .before .before .before .before .before .index .ensures) (c .before .before .before .before .before .before .cut-row .ensures) (c .if1 .taken)
+returns c =
+    delete-refused (c .before .before .before .before .before .before .before .before .before .before .before .before .loop .inv)
+    (c .before .before .before .before .before .before .before .before .before .before .before .loop-test .taken)
+    (c .before .before .before .before .before .before .before .index .ensures)
+    (c .before .before .before .before .before .before .cut-row .ensures) (c .if1 .taken)
 
 add-k : tie.Need-add-k Inv-loop μ-loop
 add-k c = search needs
@@ -47,7 +61,10 @@ loop-less c = search needs
 loop-again : tie.Need-loop-again Inv-loop μ-loop
 loop-again c =
     let n : c .before .before .before .before .before .before .cut-row .result .number ≡ 0 = search (c .if1 .left, needs) in
-    let g = delete-again (c .before .before .before .before .before .before .before .before .before .before .before .before .loop .inv) (c .before .before .before .before .before .before .before .before .before .before .before .loop-test .taken) (c .before .before .before .before .before .before .before .index .ensures) (c .before .before .before .before .before .before .cut-row .ensures) n in
+    let g = delete-again (c .before .before .before .before .before .before .before .before .before .before .before .before .loop .inv)
+    (c .before .before .before .before .before .before .before .before .before .before .before .loop-test .taken)
+    (c .before .before .before .before .before .before .before .index .ensures)
+    (c .before .before .before .before .before .before .cut-row .ensures) n in
     record { after = g .0; within = omega arith; rest = g .1 }
 
 same-length-3 : tie.Need-same-length-3 Inv-loop μ-loop
