@@ -27,7 +27,8 @@ use Rattle.run.specs.declared.state.Progress.{Progress}
 use Rattle.run.proofs.StateLaws.{row-word, held-count, after-self, after-then, outcome-gives, outcome-stop, updated-stopped}
 use Rattle.run.proofs.InsertLawsScan.{descendants-past}
 use Rattle.run.proofs.InsertLaws.{relinked-row, relinked-word, made-state, made-count, made-old, made-new, before-decode}
-use Rattle.run.proofs.InsertLaws.{row-before, rows-kept, lower-before}
+use Rattle.run.proofs.InsertLaws.{row-before, rows-kept}
+use Rattle.run.proofs.InsertLawsRest.{lower-before}
 
 -- THE TOP FIRST, then the rows past it
 copyEach-top : (z : ℕ) (x : model.Table) (t g n : ℕ) (s : State) → model.count x ≡ n → t < n →
@@ -65,7 +66,7 @@ module _ {ws h m : List ℕ} {p : Progress} {old t g : ℕ} (pre : ItemPre ws h 
   row-top : model.rowAt (decodeParts (p .count) ws []) t ≡ rowOf (getD ws t 0)
   row-top = rowAt-decode (p .count) ws [] fits t (omega (arith, pre .top, pre .room))
 
-  module _ (v : ℕ) (word : v ≡ getD ws t 0 % 4 + 4 * (g + 1) + 4096 * (getD ws t 0 / 4096)) where
+  module _ {v : ℕ} (word : v ≡ getD ws t 0 % 4 + 4 * (g + 1) + 4096 * (getD ws t 0 / 4096)) where
     small : g + 1 < 1024
     small = omega (arith, item-target, pre .held .few)
 
@@ -221,7 +222,7 @@ module _ {ws₀ h₀ m₀ : List ℕ} {p₀ : Progress} {v : List ℕ} {g : ℕ}
           after = λ q. c .after;
         }
 
-    module _ (more : k < length v) (i : ℕ) (e : i ≡ getD v k 0) where
+    module _ (more : k < length v) {i : ℕ} (e : i ≡ getD v k 0) where
       target : model.isElement (decodeParts (p .count) ws []) g ≡ true
       target =
           let a = isElement-at (decodeParts (p₀ .count) ws₀ []) g (pre .target) in
@@ -289,7 +290,7 @@ module _ {ws h : List ℕ} {p : Progress} {v w : List ℕ} (pre : InsertPre ws h
   insert-many n {ws′} {h′} {r} e =
       updated-stopped 6 e (λ z ms. rw (ne-eqb (length w) 1 n))
 
-  module _ (one : length w ≡ 1) (g : ℕ) (e : g ≡ getD w 0 0) where
+  module _ (one : length w ≡ 1) {g : ℕ} (e : g ≡ getD w 0 0) where
     pub insert-low : g < p .count
     insert-low = subst (λ (j : ℕ). j < p .count) (sym e) (pre .targets 0 (omega arith))
 

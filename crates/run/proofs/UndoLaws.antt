@@ -288,7 +288,7 @@ parent-some l v e = rw (ne-eqb v 65535 e) (by-cases (eqb l 0) (λ z. root z (eqb
         (λ q. q ∙ sym (ne-eqb (l - 1) v (λ k. eqb-false l (v + 1) q (omega (arith, y))))))
 
 -- A ROW MADE, by the tests
-module _ {ws : List ℕ} {n : ℕ} {s : List ℕ} {size : ℕ} (pre : FitPre ws n s size) (ms : List ℕ) (row : ℕ) (here : row ≡ wordAt s 1) where
+module _ {ws : List ℕ} {n : ℕ} {s : List ℕ} {size : ℕ} (pre : FitPre ws n s size) (ms : List ℕ) {row : ℕ} (here : row ≡ wordAt s 1) where
   within : n ≤ length ws
   within = omega (arith, pre .rows, pre .few)
 
@@ -355,7 +355,7 @@ module _ {ws : List ℕ} {n : ℕ} {s : List ℕ} {size : ℕ} (pre : FitPre ws 
       pub cut-marked : any (model.isThe row) (map linked ms) ≡ true → cutFits x (cutIn s) ≡ false
       cut-marked e = cut-tests ∙ rw (eq-eqb (w / 4 % 1024) 0 root, e)
 
-      module _ (free : any (model.isThe row) (map linked ms) ≡ false) (v : ℕ) (there : v ≡ wordAt s 3) where
+      module _ (free : any (model.isThe row) (map linked ms) ≡ false) {v : ℕ} (there : v ≡ wordAt s 3) where
         cut-parent : cutFits x (cutIn s) ≡ oldParentFits x row (parentIn v)
         cut-parent =
             cut-tests ∙ rw (eq-eqb (w / 4 % 1024) 0 root, free) (ap (λ (j : ℕ). oldParentFits x row (parentIn j)) (sym there))

@@ -50,8 +50,7 @@ relinked-requires c κs =
 
 new-row-requires : tie.Need-new-row-requires
 new-row-requires c κs =
-    item-pre (c .before .before .before .before .before .before .before .pre) (c .before .before .relinked .result)
-    (c .before .before .relinked .ensures)
+    item-pre (c .before .before .before .before .before .before .before .pre) (c .before .before .relinked .ensures)
 
 same-length : tie.Need-same-length
 same-length c = search needs
@@ -65,7 +64,6 @@ same-length-3 c = search needs
 returns : tie.Need-returns
 returns c =
     item-refused (c .before .before .before .before .before .before .before .before .before .before .before .before .before .before .pre)
-    (c .before .before .before .before .before .before .before .before .before .relinked .result)
     (c .before .before .before .before .before .before .before .before .before .relinked .ensures)
     (c .before .before .before .before .before .before .new-row .ensures) (c .if1 .taken)
 
@@ -73,7 +71,6 @@ copy-rest-requires : tie.Need-copy-rest-requires
 copy-rest-requires c κs =
     item-rest
     (c .before .before .before .before .before .before .before .before .before .before .before .before .before .before .before .before .before .pre)
-    (c .before .before .before .before .before .before .before .before .before .before .before .before .relinked .result)
     (c .before .before .before .before .before .before .before .before .before .before .before .before .relinked .ensures)
     (c .before .before .before .before .before .before .before .before .before .new-row .ensures) (search
     (c .before .before .before .if1 .left, needs))
@@ -91,7 +88,6 @@ returns-2 : tie.Need-returns-2
 returns-2 c =
     item-done
     (c .before .before .before .before .before .before .before .before .before .before .before .before .before .before .before .before .before .before .before .before .before .before .before .before .pre)
-    (c .before .before .before .before .before .before .before .before .before .before .before .before .before .before .before .before .before .before .before .relinked .result)
     (c .before .before .before .before .before .before .before .before .before .before .before .before .before .before .before .before .before .before .before .relinked .ensures)
     (c .before .before .before .before .before .before .before .before .before .before .before .before .before .before .before .before .new-row .ensures)
     (search (c .before .before .before .before .before .before .before .before .before .before .if1 .left, needs))

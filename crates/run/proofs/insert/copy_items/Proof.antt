@@ -30,7 +30,7 @@ copy-item-requires : tie.Need-copy-item-requires Inv-loop μ-loop
 copy-item-requires c κs =
     inserting-item (c .before .before .before .before .before .before .before .before .before .before .before .pre)
     (c .before .before .before .before .before .before .loop .inv) (c .before .before .before .before .before .loop-test .taken)
-    (c .index .result) (c .index .ensures .0)
+    (c .index .ensures .0)
 
 same-length : tie.Need-same-length Inv-loop μ-loop
 same-length c = search needs
@@ -47,7 +47,6 @@ returns c =
     (c .before .before .before .before .before .before .before .before .before .before .before .before .before .before .before .before .before .before .before .before .pre)
     (c .before .before .before .before .before .before .before .before .before .before .before .before .before .before .before .loop .inv)
     (c .before .before .before .before .before .before .before .before .before .before .before .before .before .before .loop-test .taken)
-    (c .before .before .before .before .before .before .before .before .before .index .result)
     (c .before .before .before .before .before .before .before .before .before .index .ensures .0)
     (c .before .before .before .before .before .before .before .before .copy-item .ensures) (c .if1 .taken)
 
@@ -68,7 +67,6 @@ loop-again c =
     (c .before .before .before .before .before .before .before .before .before .before .before .before .before .before .before .before .before .before .before .before .pre)
     (c .before .before .before .before .before .before .before .before .before .before .before .before .before .before .before .loop .inv)
     (c .before .before .before .before .before .before .before .before .before .before .before .before .before .before .loop-test .taken)
-    (c .before .before .before .before .before .before .before .before .before .index .result)
     (c .before .before .before .before .before .before .before .before .before .index .ensures .0)
     (c .before .before .before .before .before .before .before .before .copy-item .ensures) (search (c .if1 .left, needs))
     (c .before .before .before .before .before .before .before .before .copy-item .kept .1 .1 .0 ∙

@@ -92,7 +92,7 @@ relinked-requires c κs =
 new-row-requires : tie.Need-new-row-requires
 new-row-requires c κs =
     next-pre (c .before .before .before .before .before .before .before .before .before .before .before .pre) (has-link
-    (c .before .before .before)) (c .relinked .result) (copied-word (c))
+    (c .before .before .before)) (copied-word (c))
 
 same-length-2 : tie.Need-same-length-2
 same-length-2 c = search needs
@@ -108,7 +108,7 @@ returns-2 c =
     next-made
     (c .before .before .before .before .before .before .before .before .before .before .before .before .before .before .before .before .pre)
     (has-link (c .before .before .before .before .before .before .before .before))
-    (c .before .before .before .before .before .relinked .result) (copied-word (c .before .before .before .before .before))
+    (copied-word (c .before .before .before .before .before))
     (c .before .before .before .before .new-row .ensures)
 
 pub copy-next-spec : {M : Type 1} → statement M

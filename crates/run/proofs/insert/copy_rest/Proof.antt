@@ -1,4 +1,4 @@
-use Rattle.run.proofs.InsertLaws.{Copying, copying-start, copying-next, copying-end, copying-refused, copying-again}
+use Rattle.run.proofs.InsertLawsRest.{Copying, copying-start, copying-next, copying-end, copying-refused, copying-again}
 use mathlib.Core.Path.{_≡_, sym, _∙_, ap}
 use Prim.Native.Nat.{ℕ, _+_, _-_}
 use native.Mathlib.Omega.{arith}

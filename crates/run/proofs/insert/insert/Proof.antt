@@ -36,7 +36,7 @@ slice-read-kind c =
     omega (
       arith,
       insert-low (c .before .before .before .before .before .before .before .before .pre) (one-target
-          (c .before .before .before)) (c .before .index .result) (c .before .index .ensures .0),
+          (c .before .before .before)) (c .before .index .ensures .0),
       c .before .before .before .before .before .before .before .before .pre .held .few,
       c .before .before .before .before .before .before .before .before .pre .held .rows,
     )
@@ -50,8 +50,7 @@ refused-requires-2 c κs = search needs
 returns-2 : tie.Need-returns-2
 returns-2 c =
     insert-leaf (c .before .before .before .before .before .before .before .before .before .before .before .pre) (one-target
-    (c .before .before .before .before .before .before)) (c .before .before .before .before .index .result)
-    (c .before .before .before .before .index .ensures .0) (sym (target-kind (c .before .before)) ∙ c .before .if2 .taken)
+    (c .before .before .before .before .before .before)) (c .before .before .before .before .index .ensures .0) (sym (target-kind (c .before .before)) ∙ c .before .if2 .taken)
     (c .refused2 .ensures)
 
 slice-aggregate-copy-items : tie.Need-slice-aggregate-copy-items
@@ -61,7 +60,6 @@ copy-items-requires : tie.Need-copy-items-requires
 copy-items-requires c κs =
     insert-items (c .before .before .before .before .before .before .before .before .before .before .before .before .before .pre)
     (one-target (c .before .before .before .before .before .before .before .before))
-    (c .before .before .before .before .before .before .index .result)
     (c .before .before .before .before .before .before .index .ensures .0) (λ q. c .before .before .before .if2 .left (target-kind
     (c .before .before .before .before) ∙ q)) refl
 
@@ -76,7 +74,6 @@ returns-3 c =
     insert-done
     (c .before .before .before .before .before .before .before .before .before .before .before .before .before .before .before .before .before .before .before .pre)
     (one-target (c .before .before .before .before .before .before .before .before .before .before .before .before .before .before))
-    (c .before .before .before .before .before .before .before .before .before .before .before .before .index .result)
     (c .before .before .before .before .before .before .before .before .before .before .before .before .index .ensures .0) (λ q.
     c .before .before .before .before .before .before .before .before .before .if2 .left (target-kind
     (c .before .before .before .before .before .before .before .before .before .before) ∙ q))

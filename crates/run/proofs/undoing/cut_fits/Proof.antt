@@ -31,7 +31,7 @@ number-at-requires c κs = omega (arith, c .before .before .before .pre .whole)
 returns : tie.Need-returns
 returns c =
     sym (cut-high (c .before .before .before .before .before .pre) (c .before .before .before .before .before .args .marks .now)
-    (c .before .number-at .result) (c .before .number-at .ensures .0) (c .if1 .taken))
+    (c .before .number-at .ensures .0) (c .if1 .taken))
 
 mul-link : tie.Need-mul-link
 mul-link c = search needs
@@ -52,7 +52,7 @@ returns-2 : tie.Need-returns-2
 returns-2 c =
     sym (cut-child (c .before .before .before .before .before .before .before .before .pre)
     (c .before .before .before .before .before .before .before .before .args .marks .now)
-    (c .before .before .before .before .number-at .result) (c .before .before .before .before .number-at .ensures .0) (omega (
+    (c .before .before .before .before .number-at .ensures .0) (omega (
       arith,
       c .before .before .before .if1 .left,
     )) (λ q. c .if2 .taken (c .before .link .ensures ∙ q)))
@@ -70,7 +70,6 @@ returns-3 : tie.Need-returns-3
 returns-3 c =
     sym (cut-marked (c .before .before .before .before .before .before .before .before .before .before .pre)
     (c .before .before .before .before .before .before .before .before .before .before .args .marks .now)
-    (c .before .before .before .before .before .before .number-at .result)
     (c .before .before .before .before .before .before .number-at .ensures .0) (omega (
       arith,
       c .before .before .before .before .before .if1 .left,
@@ -83,25 +82,22 @@ returns-4 : tie.Need-returns-4
 returns-4 c =
     sym (cut-none (c .before .before .before .before .before .before .before .before .before .before .before .before .pre)
     (c .before .before .before .before .before .before .before .before .before .before .before .before .args .marks .now)
-    (c .before .before .before .before .before .before .before .before .number-at .result)
     (c .before .before .before .before .before .before .before .before .number-at .ensures .0) (omega (
       arith,
       c .before .before .before .before .before .before .before .if1 .left,
     )) (is-root (c .before .before .before .before)) (marked-by
-    (c .before .before .before) ∙ c .before .before .if3 .left) (c .before .number-at2 .result) (c .before .number-at2 .ensures .0)
+    (c .before .before .before) ∙ c .before .before .if3 .left) (c .before .number-at2 .ensures .0)
     (c .if4 .taken))
 
 returns-5 : tie.Need-returns-5
 returns-5 c =
     sym (cut-order (c .before .before .before .before .before .before .before .before .before .before .before .before .before .pre)
     (c .before .before .before .before .before .before .before .before .before .before .before .before .before .args .marks .now)
-    (c .before .before .before .before .before .before .before .before .before .number-at .result)
     (c .before .before .before .before .before .before .before .before .before .number-at .ensures .0) (omega (
       arith,
       c .before .before .before .before .before .before .before .before .if1 .left,
     )) (is-root (c .before .before .before .before .before))
-    (marked-by (c .before .before .before .before) ∙ c .before .before .before .if3 .left) (c .before .before .number-at2 .result)
-    (c .before .before .number-at2 .ensures .0) (c .before .if4 .left) (c .if5 .taken))
+    (marked-by (c .before .before .before .before) ∙ c .before .before .before .if3 .left) (c .before .before .number-at2 .ensures .0) (c .before .if4 .left) (c .if5 .taken))
 
 mul-kind : tie.Need-mul-kind
 mul-kind c = search needs
@@ -124,14 +120,12 @@ returns-6 c =
     ap (λ (j : ℕ). not (eqb j 2)) (c .kind .ensures) ∙ sym (cut-element
     (c .before .before .before .before .before .before .before .before .before .before .before .before .before .before .before .pre)
     (c .before .before .before .before .before .before .before .before .before .before .before .before .before .before .before .args .marks .now)
-    (c .before .before .before .before .before .before .before .before .before .before .before .number-at .result)
     (c .before .before .before .before .before .before .before .before .before .before .before .number-at .ensures .0) (omega (
       arith,
       c .before .before .before .before .before .before .before .before .before .before .if1 .left,
     )) (is-root
     (c .before .before .before .before .before .before .before)) (marked-by (c .before .before .before .before .before .before) ∙
-    c .before .before .before .before .before .if3 .left) (c .before .before .before .before .number-at2 .result)
-    (c .before .before .before .before .number-at2 .ensures .0) (c .before .before .before .if4 .left) (omega (
+    c .before .before .before .before .before .if3 .left) (c .before .before .before .before .number-at2 .ensures .0) (c .before .before .before .if4 .left) (omega (
       arith,
       c .before .before .if5 .left,
     )))

@@ -34,7 +34,7 @@ add-if1 c = search needs
 returns : tie.Need-returns
 returns c =
     sym (made-last (c .before .before .before .before .before .pre) (c .before .before .before .before .before .args .marks .now)
-    (c .before .number-at .result) (c .before .number-at .ensures .0) (c .if1 .taken))
+    (c .before .number-at .ensures .0) (c .if1 .taken))
 
 add-is-marked : tie.Need-add-is-marked
 add-is-marked c = search needs
@@ -48,8 +48,7 @@ is-marked-requires c κs = search needs
 returns-2 : tie.Need-returns-2
 returns-2 c =
     sym (made-marked (c .before .before .before .before .before .before .before .pre)
-    (c .before .before .before .before .before .before .before .args .marks .now) (c .before .before .before .number-at .result)
-    (c .before .before .before .number-at .ensures .0) (is-last (c .before .before)) (marked-by (c .before) ∙ c .if2 .taken))
+    (c .before .before .before .before .before .before .before .args .marks .now) (c .before .before .before .number-at .ensures .0) (is-last (c .before .before)) (marked-by (c .before) ∙ c .if2 .taken))
 
 mul-w : tie.Need-mul-w
 mul-w c = search needs
@@ -67,7 +66,6 @@ returns-3 : tie.Need-returns-3
 returns-3 c =
     sym (made-kind (c .before .before .before .before .before .before .before .before .before .before .before .pre)
     (c .before .before .before .before .before .before .before .before .before .before .before .args .marks .now)
-    (c .before .before .before .before .before .before .before .number-at .result)
     (c .before .before .before .before .before .before .before .number-at .ensures .0) (is-last
     (c .before .before .before .before .before .before)) (marked-by (c .before .before .before .before .before) ∙
     c .before .before .before .before .if2 .left) (sym (c .before .same-kind .ensures) ∙ not-true (c .before .same-kind .result)
@@ -87,7 +85,6 @@ returns-4 c =
     sym (made-tag
     (c .before .before .before .before .before .before .before .before .before .before .before .before .before .before .before .pre)
     (c .before .before .before .before .before .before .before .before .before .before .before .before .before .before .before .args .marks .now)
-    (c .before .before .before .before .before .before .before .before .before .before .before .number-at .result)
     (c .before .before .before .before .before .before .before .before .before .before .before .number-at .ensures .0) (is-last
     (c .before .before .before .before .before .before .before .before .before .before)) (marked-by
     (c .before .before .before .before .before .before .before .before .before) ∙
@@ -118,7 +115,6 @@ returns-5 c =
     0 / 4 % 1024)) (parentIn j)) (c .before .number-at2 .ensures .0) ∙ sym (made-parent
     (c .before .before .before .before .before .before .before .before .before .before .before .before .before .before .before .before .before .before .pre)
     (c .before .before .before .before .before .before .before .before .before .before .before .before .before .before .before .before .before .before .args .marks .now)
-    (c .before .before .before .before .before .before .before .before .before .before .before .before .before .before .number-at .result)
     (c .before .before .before .before .before .before .before .before .before .before .before .before .before .before .number-at .ensures .0)
     (is-last (c .before .before .before .before .before .before .before .before .before .before .before .before .before)) (marked-by
     (c .before .before .before .before .before .before .before .before .before .before .before .before) ∙
