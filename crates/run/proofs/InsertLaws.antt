@@ -1,32 +1,31 @@
 -- Insert's parts, from the tests on each way out: one row of the scan, and the scan past the top.
 use mathlib.Core.Path.{_≡_, refl, ap, sym, _∙_, subst}
-use mathlib.Core.Bool.{Bool, true, false, _||_, _&&_, not}
+use mathlib.Core.Bool.{true, false}
 use mathlib.Core.Logic.{_⊎_, inl, inr, ⊎-elim}
-use mathlib.Core.List.{List, [], _∷_, _++_, map}
-use mathlib.Core.Option.{Option, none, some}
+use mathlib.Core.List.{List, [], _∷_, map}
+use mathlib.Core.Option.{some}
 use Prim.Native.Nat.{ℕ, zero, suc, _+_, _*_, _-_, _/_, _%_, _≤_, _<_}
 use native.Mathlib.Omega.{arith}
-use lib.Dec.{ltb, leb, eqb}
-use lib.ListN.{length, getD, take, set, length-set, length-map, List·getD-map}
+use lib.Dec.{ltb, eqb}
+use lib.ListN.{length, getD, take, set}
 use lib.Seq.{getD-set-same, getD-set-other, ext-getD, take-take}
-use borrow.Author.Tests.{lt-ltb, le-ltb, eq-eqb, ne-eqb, ltb-true, ltb-false, eqb-true, eqb-false}
+use borrow.Author.Tests.{lt-ltb, eq-eqb, ne-eqb, ltb-true, ltb-false, eqb-true, eqb-false}
 use Rattle.model.specs.Base.{pick, isIn}
 use Rattle.model.specs.Table as model
-use Rattle.model.specs.Step.{isBelow}
-use Rattle.model.specs.Run.{State, state, Out, stop, gives, newRow, withMade, thenRow, copyEach, descendantsFrom}
+use Rattle.model.specs.Run.{State, Out, stop, gives, newRow, withMade, thenRow}
 use Rattle.model.proofs.BoolLaws.{by-cases, pick-true, pick-false, and-both}
-use Rattle.model.proofs.TableLaws.{parent-count, isElement-by}
+use Rattle.model.proofs.TableLaws.{isElement-by}
 use Rattle.model.proofs.GrowLaws.{rowAt-withRow-old, rowAt-withRow-new}
 use Rattle.model.proofs.RowLaws.{count-with}
 use Rattle.table.specs.Words.{linked, rowOf, rowsOf, isRowWord, decodeParts}
 use Rattle.table.proofs.WordLaws.{count-decode, rowAt-decode}
-use Rattle.run.specs.State.{stateOf, outcome, Held, After, Updated}
+use Rattle.run.specs.State.{stateOf, outcome, Held, Updated}
 use Rattle.run.specs.Updating.{NewPre}
-use Rattle.run.specs.Inserting.{before, copiedIn, copyLink, nextLink, copyBy, IsCopy, Mapped, NextPre, NextPost, RestPre, RestPost}
+use Rattle.run.specs.Inserting.{before, nextLink, copyBy, IsCopy, Mapped, NextPre, NextPost}
 use Rattle.run.specs.declared.state.Progress.{Progress}
-use Rattle.run.proofs.StateLaws.{row-word, held-count, after-self, after-then, outcome-gives, outcome-stop}
+use Rattle.run.proofs.StateLaws.{row-word, held-count, after-self, outcome-gives}
 use Rattle.run.proofs.UpdateLaws.{newRow-full, newRow-over, newRow-room}
-use Rattle.run.proofs.InsertLawsScan.{linked-at, below-link, known-next, copy-turn}
+use Rattle.run.proofs.InsertLawsScan.{linked-at}
 
 -- A WORD with another link is the row with another parent
 module _ (w l : ℕ) (small : l < 1024) where

@@ -1,27 +1,25 @@
 -- Insert's parts: an item with its descendants, all items, and the target's check.
 use mathlib.Core.Path.{_≡_, refl, ap, sym, _∙_, subst}
 use mathlib.Core.Bool.{Bool, true, false, _&&_, not}
-use mathlib.Core.List.{List, [], _∷_, _++_, map}
-use mathlib.Core.Option.{Option, none, some}
-use Prim.Native.Nat.{ℕ, zero, suc, _+_, _*_, _-_, _/_, _%_, _≤_, _<_}
+use mathlib.Core.List.{List, [], _∷_, map}
+use mathlib.Core.Option.{some}
+use Prim.Native.Nat.{ℕ, _+_, _*_, _-_, _/_, _%_, _≤_, _<_}
 use native.Mathlib.Numerals.{add-one}
 use native.Mathlib.Omega.{arith}
-use lib.Dec.{ltb, leb, eqb}
-use lib.ListN.{length, getD, take, drop, set, length-set, drop-of-length-le}
+use lib.Dec.{ltb, eqb}
+use lib.ListN.{length, getD, drop, set, length-set, drop-of-length-le}
 use lib.Seq.{getD-set-same, drop-cons}
 use borrow.Author.Tests.{lt-ltb, eq-eqb, ne-eqb}
-use Rattle.model.specs.Base.{pick}
-use Rattle.model.specs.Refusal.{fault}
 use Rattle.model.specs.Table as model
-use Rattle.model.specs.Run.{State, state, Out, stop, gives, newRow, withMade, thenRow, Copied, copyParent, copyRow, copyEach}
+use Rattle.model.specs.Run.{State, Out, newRow, withMade, thenRow, Copied, copyParent, copyEach}
 use Rattle.model.specs.Run.{descendantsFrom, subtree, copyAll, inserted}
 use Rattle.model.proofs.BoolLaws.{and-both, pick-true}
 use Rattle.model.proofs.TableLaws.{isElement-at, isElement-by}
 use Rattle.table.specs.Words.{linked, rowOf, rowsOf, isRowWord, decodeParts}
 use Rattle.table.proofs.WordLaws.{linked-linkOf, count-decode, rowAt-decode}
 use Rattle.table.proofs.ReadLaws.{element-kind}
-use Rattle.run.specs.State.{stateOf, outcome, Held, After, Updated, stopped}
-use Rattle.run.specs.Updating.{NewPre, Within}
+use Rattle.run.specs.State.{stateOf, outcome, After, Updated, stopped}
+use Rattle.run.specs.Updating.{NewPre}
 use Rattle.run.specs.Inserting.{before, copiedIn, IsCopy, RestPre, RestPost, ItemPre, ItemPost, ItemsPre, ItemsPost, InsertPre}
 use Rattle.run.specs.declared.state.Progress.{Progress}
 use Rattle.run.proofs.StateLaws.{row-word, held-count, after-self, after-then, outcome-gives, outcome-stop, updated-stopped}

@@ -1,32 +1,25 @@
 -- The scan past the top: the loop's invariant from turn to turn.
 use mathlib.Core.Path.{_≡_, refl, ap, sym, _∙_, subst}
-use mathlib.Core.Bool.{Bool, true, false, _||_, _&&_, not}
-use mathlib.Core.Logic.{_⊎_, inl, inr, ⊎-elim}
-use mathlib.Core.List.{List, [], _∷_, _++_, map}
-use mathlib.Core.Option.{Option, none, some}
-use Prim.Native.Nat.{ℕ, zero, suc, _+_, _*_, _-_, _/_, _%_, _≤_, _<_}
+use mathlib.Core.Bool.{_||_, not}
+use mathlib.Core.Logic.{inr}
+use mathlib.Core.List.{List, [], map}
+use mathlib.Core.Option.{some}
+use Prim.Native.Nat.{ℕ, _+_, _-_, _/_, _%_, _≤_, _<_}
 use native.Mathlib.Omega.{arith}
-use lib.Dec.{ltb, leb, eqb}
-use lib.ListN.{length, getD, take, set, length-set, length-map, List·getD-map}
-use lib.Seq.{getD-set-same, getD-set-other, ext-getD, take-take}
-use borrow.Author.Tests.{lt-ltb, le-ltb, eq-eqb, ne-eqb, ltb-true, ltb-false, eqb-true, eqb-false}
-use Rattle.model.specs.Base.{pick, isIn}
+use lib.Dec.{eqb}
+use lib.ListN.{length, getD, length-set}
+use borrow.Author.Tests.{eq-eqb, ne-eqb}
 use Rattle.model.specs.Table as model
 use Rattle.model.specs.Step.{isBelow}
-use Rattle.model.specs.Run.{State, state, Out, stop, gives, newRow, withMade, thenRow, copyEach, descendantsFrom}
-use Rattle.model.proofs.BoolLaws.{by-cases, pick-true, pick-false, and-both}
-use Rattle.model.proofs.TableLaws.{parent-count, isElement-by}
-use Rattle.model.proofs.GrowLaws.{rowAt-withRow-old, rowAt-withRow-new}
-use Rattle.model.proofs.RowLaws.{count-with}
-use Rattle.table.specs.Words.{linked, rowOf, rowsOf, isRowWord, decodeParts}
+use Rattle.model.specs.Run.{State, Out, thenRow, copyEach, descendantsFrom}
+use Rattle.model.proofs.TableLaws.{parent-count}
+use Rattle.table.specs.Words.{linked, rowOf, rowsOf, decodeParts}
 use Rattle.table.proofs.WordLaws.{count-decode, rowAt-decode}
-use Rattle.run.specs.State.{stateOf, outcome, Held, After, Updated}
-use Rattle.run.specs.Updating.{NewPre}
-use Rattle.run.specs.Inserting.{before, copiedIn, copyLink, nextLink, copyBy, IsCopy, Mapped, NextPre, NextPost, RestPre, RestPost}
+use Rattle.run.specs.State.{stateOf, outcome, Held, After}
+use Rattle.run.specs.Inserting.{before, copiedIn, nextLink, copyBy, IsCopy, Mapped, NextPre, NextPost, RestPre, RestPost}
 use Rattle.run.specs.declared.state.Progress.{Progress}
-use Rattle.run.proofs.StateLaws.{row-word, held-count, after-self, after-then, outcome-gives, outcome-stop}
-use Rattle.run.proofs.UpdateLaws.{newRow-full, newRow-over, newRow-room}
-use Rattle.run.proofs.InsertLawsScan.{linked-at, below-link, known-next, copy-turn}
+use Rattle.run.proofs.StateLaws.{held-count, after-self, after-then, outcome-gives, outcome-stop}
+use Rattle.run.proofs.InsertLawsScan.{known-next, copy-turn}
 use Rattle.run.proofs.InsertLaws.{before-decode, row-before, rows-kept, next-old, next-mapped}
 
 -- THE SCAN: what is copied from row j on comes to what is copied past top

@@ -1,23 +1,22 @@
 -- What is held, and how it goes on: a record appended, a word set; updates one after the other, and refused.
-use mathlib.Core.Path.{_≡_, refl, ap, sym, _∙_, subst}
-use mathlib.Core.Bool.{Bool, true, false}
+use mathlib.Core.Path.{_≡_, refl, ap, sym, _∙_}
+use mathlib.Core.Bool.{true}
 use mathlib.Core.List.{List, [], _∷_, _++_, map}
 use Prim.Native.Nat.{ℕ, zero, suc, _+_, _*_, _-_, _/_, _%_, _≤_, _<_}
 use native.Mathlib.Omega.{arith}
 use lib.Dec.{eqb}
-use lib.ListN.{length, getD, take, drop, set, replicate, length-map, length-set, List·getD-append, List·getD-map}
-use lib.Seq.{getD-take, set-append-left, take-set-lt}
-use borrow.Author.Tests.{eq-eqb, ne-eqb, le-leb, eqb-true, eqb-false}
-use Rattle.model.specs.Base.{pick}
+use lib.ListN.{length, getD, take, drop, set, replicate, length-map, length-set, List·getD-append}
+use lib.Seq.{set-append-left, take-set-lt}
+use borrow.Author.Tests.{eq-eqb, ne-eqb, eqb-true}
 use Rattle.model.specs.Refusal.{fault}
 use Rattle.model.specs.Table as model
 use Rattle.model.specs.History.{Record, recordBytes}
-use Rattle.model.specs.Run.{State, state, Out, stop, gives, thenRow}
+use Rattle.model.specs.Run.{State, Out, stop, gives}
 use Rattle.model.proofs.BoolLaws.{pick-true, pick-false, by-cases}
 use Rattle.model.proofs.FormLaws.{IsInRange}
 use Rattle.table.specs.Words.{linkOf, linked, wordOf, rowOf, rowsOf, wordsOf, isRowWord, decodeParts}
 use Rattle.table.specs.Writing.{over}
-use Rattle.table.proofs.WordLaws.{linkOf-linked, wordOf-rowOf, count-decode, rowAt-decode, Canonical}
+use Rattle.table.proofs.WordLaws.{wordOf-rowOf, count-decode, rowAt-decode, Canonical}
 use Rattle.table.proofs.ReadLaws.{map-set}
 use Rattle.table.proofs.WriteLaws.{length-over}
 use Rattle.run.specs.State.{recordsIn, stateOf, outcome, Held, After, Updated, stopped}

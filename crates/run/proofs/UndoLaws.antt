@@ -1,34 +1,28 @@
 -- Undo's parts, from the tests on each way out: the form of a record, the places of all, whether a record fits, and a record undone.
 use mathlib.Core.Path.{_≡_, refl, ap, sym, _∙_, subst}
 use mathlib.Core.Bool.{Bool, true, false, _&&_, _||_, not}
-use mathlib.Core.List.{List, [], _∷_, _++_, map}
-use mathlib.Core.Option.{Option, none, some}
+use mathlib.Core.List.{List, [], _∷_, map}
+use mathlib.Core.Option.{some}
 use Prim.Native.Nat.{ℕ, zero, suc, _+_, _*_, _-_, _/_, _%_, _≤_, _<_}
 use native.Mathlib.Numerals.{add-one}
 use native.Mathlib.Omega.{arith}
-use lib.Dec.{ltb, leb, eqb}
-use lib.ListN.{length, getD, take, drop, set, replicate, length-set, length-drop, length-map, drop-of-length-le, getD-replicate}
-use lib.Seq.{getD-set-same, getD-set-other, set-set, set-getD, take-set-le, take-suc, take-take, take-all, drop-drop, getD-drop}
-use lib.Seq.{getD-append-add}
-use borrow.Author.Tests.{lt-ltb, le-ltb, le-leb, lt-leb, eq-eqb, ne-eqb, ltb-true, eqb-true, eqb-false, not-true}
+use lib.Dec.{eqb}
+use lib.ListN.{length, getD, take, drop, set, length-set, length-drop, drop-of-length-le}
+use lib.Seq.{getD-set-same, getD-set-other, take-all, drop-drop, getD-drop}
+use borrow.Author.Tests.{lt-ltb, le-ltb, le-leb, lt-leb, eq-eqb, ne-eqb, eqb-true, eqb-false}
 use Rattle.model.specs.Base.{pick, isIn, any}
 use Rattle.model.specs.Refusal.{fault, fine, isFine}
 use Rattle.model.specs.Table as model
 use Rattle.model.specs.Stored.{wordAt, parentIn}
-use Rattle.model.specs.History.{Record}
 use Rattle.model.specs.Undo.{historySize, recordIn, Placed, Formed, broken, formed, formFault, withPlaced, formFrom, sameBool, sameParent}
 use Rattle.model.specs.Undo.{madeFits, oldParentFits}
-use Rattle.model.specs.Undo.{cutFits, undoFits, undone, Undo, refused, back, undoAll, backwards, undo}
-use Rattle.model.proofs.BoolLaws.{by-cases, and-left, and-right, pick-true, pick-false}
-use Rattle.table.specs.Words.{linkOf, linked, wordOf, rowOf, rowsOf, wordsOf, isRowWord, decodeParts}
+use Rattle.model.specs.Undo.{cutFits, Undo, refused, undoAll, backwards, undo}
+use Rattle.model.proofs.BoolLaws.{by-cases, pick-true, pick-false}
+use Rattle.table.specs.Words.{linked, decodeParts}
 use Rattle.table.specs.Reading.{faultAt}
-use Rattle.table.proofs.WordLaws.{linked-linkOf, count-decode, rowAt-decode, Canonical, wordsOf-snoc}
+use Rattle.table.proofs.WordLaws.{count-decode, rowAt-decode}
 use Rattle.table.proofs.ReadLaws as reading
-use Rattle.run.specs.Undoing.{cutIn, madeIn, FormPost, undoing, Whole, PlacesPost, FitPre, BackPre, BackPost, AllPre, AllPost}
-use Rattle.run.specs.declared.undoing.FormEnd.{FormEnd}
-use Rattle.run.specs.declared.undoing.BackEnd.{BackEnd}
-use Rattle.run.proofs.StateLaws.{row-word, rowsOf-set, canonical-set}
-use Rattle.run.proofs.InsertLaws.{relinked-row, relinked-word}
+use Rattle.run.specs.Undoing.{cutIn, madeIn, FormPost, undoing, Whole, PlacesPost, FitPre}
 
 pub size-low : (k : ℕ) → 5 ≤ historySize k
 size-low k = by-cases (eqb k 67) (λ e. rw e (omega arith)) (λ e. rw e (omega arith))

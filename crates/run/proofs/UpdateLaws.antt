@@ -3,14 +3,14 @@ use mathlib.Core.Path.{_≡_, refl, ap, sym, _∙_, subst}
 use mathlib.Core.Bool.{Bool, true, false}
 use mathlib.Core.List.{List, [], _∷_, _++_, map}
 use mathlib.Core.Option.{Option, none, some, Option·none-ne-some}
-use Prim.Native.Nat.{ℕ, zero, suc, _+_, _*_, _-_, _/_, _%_, _≤_, _<_}
+use Prim.Native.Nat.{ℕ, _+_, _*_, _-_, _/_, _%_, _≤_, _<_}
 use native.Mathlib.Omega.{arith}
 use lib.Dec.{ltb, leb, eqb}
 use native.Mathlib.Numerals.{add-one}
 use lib.ListN.{length, getD, take, drop, set, length-set, drop-of-length-le}
 use lib.Seq.{drop-cons}
-use borrow.Author.Tests.{lt-ltb, le-ltb, eq-eqb, ne-eqb, leb-true}
-use Rattle.model.specs.Base.{pick, isIn}
+use borrow.Author.Tests.{lt-ltb, le-ltb, ne-eqb, leb-true}
+use Rattle.model.specs.Base.{isIn}
 use Rattle.model.specs.Refusal.{fault}
 use Rattle.model.specs.Table as model
 use Rattle.model.specs.History.{Record, recordBytes}
@@ -23,7 +23,7 @@ use Rattle.model.proofs.HistoryLaws.{isCut-made}
 use Rattle.model.proofs.UndoLaws.{made-inRange}
 use Rattle.table.specs.Words.{linkOf, linked, rowOf, wordOf, rowsOf, wordsOf, isRowWord, decodeParts}
 use Rattle.table.specs.Writing.{over}
-use Rattle.table.proofs.WordLaws.{linkOf-linked, rowOf-wordOf, wordOf-rowOf, count-decode, rowAt-decode, canonical-push}
+use Rattle.table.proofs.WordLaws.{linkOf-linked, rowOf-wordOf, wordOf-rowOf, rowAt-decode, canonical-push}
 use Rattle.table.proofs.ReadLaws.{decode-row}
 use Rattle.run.specs.State.{recordsIn, stateOf, outcome, Recorded, Held, After, Updated, stopped}
 use Rattle.run.specs.Updating.{NewPre, CutPre}

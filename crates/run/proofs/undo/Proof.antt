@@ -2,10 +2,8 @@ use Rattle.run.proofs.UndoLawsCall.{undo-ill, undo-broken, undo-pre, un
 use Rattle.table.specs.Fitting.{Words}
 use Rattle.table.specs.Words.{fits}
 use borrow.Author.Tests.{not-true, not-false}
-use lib.ListN.{length}
 use mathlib.Core.Bool.{true}
-use mathlib.Core.Path.{_≡_, refl, sym, _∙_, ap}
-use native.Mathlib.Omega.{arith}
+use mathlib.Core.Path.{_≡_, sym, _∙_}
 use borrow.Author.Needs.{needs}
 use Rattle.run.proofs.undo.Statement.{statement}
 use Rattle.run.proofs.undo.Tie as tie

@@ -3,9 +3,8 @@ use Rattle.table.specs.Words.{linked}
 use Rattle.run.proofs.HistoryLaws.{made-six}
 use Rattle.table.specs.Writing.{over}
 use mathlib.Core.List.{List}
-use mathlib.Core.Path.{ap, sym, _∙_}
-use Prim.Native.Nat.{ℕ, _+_, _/_, _%_}
-use native.Mathlib.Omega.{arith}
+use mathlib.Core.Path.{ap, _∙_}
+use Prim.Native.Nat.{ℕ}
 use borrow.Author.Needs.{needs}
 use Rattle.run.proofs.history.put_made.Statement.{statement}
 use Rattle.run.proofs.history.put_made.Tie as tie

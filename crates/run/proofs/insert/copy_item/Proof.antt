@@ -1,16 +1,10 @@
 use lib.ListN.{length-set}
 use Rattle.run.proofs.InsertLawsItems.{item-target, item-pre, item-refused, item-rest, item-done}
-use mathlib.Core.Path.{_≡_, sym, _∙_, ap}
-use Prim.Native.Nat.{ℕ, _+_, _-_, _<_}
+use mathlib.Core.Path.{_∙_}
 use native.Mathlib.Omega.{arith}
 use borrow.Author.Needs.{needs}
 use Rattle.run.proofs.insert.copy_item.Statement.{statement}
 use Rattle.run.proofs.insert.copy_item.Tie as tie
-use Rattle.run.proofs.insert.copy_item.Reads as reads
-use Rattle.run.proofs.insert.copy_item.Lts as lts
-use Rattle.run.proofs.insert.copy_rest.Reads as copy-rest-reads
-use Rattle.run.proofs.update.new_row.Reads as new-row-reads
-use Rattle.run.proofs.update.relinked.Reads as relinked-reads
 
 cast-map : tie.Need-cast-map
 cast-map c = omega (arith, c .before .before .before .pre .held .few)

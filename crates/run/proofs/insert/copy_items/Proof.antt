@@ -1,7 +1,7 @@
 use Rattle.run.proofs.InsertLawsItems.{Inserting, inserting-start, inserting-item, inserting-end, inserting-refused, inserting-again}
 use lib.ListN.{length}
-use mathlib.Core.Path.{_≡_, sym, _∙_, ap}
-use Prim.Native.Nat.{ℕ, _+_, _-_, _<_}
+use mathlib.Core.Path.{_∙_}
+use Prim.Native.Nat.{_-_}
 use native.Mathlib.Omega.{arith}
 use borrow.Author.Needs.{needs}
 use Rattle.run.proofs.insert.copy_items.Statement.{statement}

@@ -1,19 +1,13 @@
 use Rattle.run.specs.Inserting.{copyLink, nextLink}
 use lib.ListN.{getD}
-use Prim.Native.Nat.{_*_, _/_, _%_, _<_}
+use Prim.Native.Nat.{_*_, _/_, _%_}
 use Rattle.run.proofs.InsertLaws.{next-bound, next-none, next-small, next-pre, next-made}
 use mathlib.Core.Path.{_≡_, sym, _∙_, ap}
-use Prim.Native.Nat.{ℕ, _+_, _-_}
+use Prim.Native.Nat.{ℕ, _+_}
 use native.Mathlib.Omega.{arith}
 use borrow.Author.Needs.{needs}
 use Rattle.run.proofs.insert.copy_next.Statement.{statement}
 use Rattle.run.proofs.insert.copy_next.Tie as tie
-use Rattle.run.proofs.insert.copy_next.Reads as reads
-use Rattle.run.proofs.insert.copy_next.Lts as lts
-use Rattle.run.proofs.insert.copy_link.Reads as copy-link-reads
-use Rattle.run.proofs.update.new_row.Reads as new-row-reads
-use Rattle.run.proofs.update.relinked.Reads as relinked-reads
-use Rattle.table.proofs.words.link.Reads as link-reads
 
 is-link : (c : tie.After-copy-link) → c .copy-link .result ≡ nextLink
     (c .before .before .before .before .before .before .before .args .rows .now)

@@ -1,6 +1,5 @@
 use Rattle.run.proofs.InsertLawsRest.{Copying, copying-start, copying-next, copying-end, copying-refused, copying-again}
-use mathlib.Core.Path.{_≡_, sym, _∙_, ap}
-use Prim.Native.Nat.{ℕ, _+_, _-_}
+use Prim.Native.Nat.{_-_}
 use native.Mathlib.Omega.{arith}
 use borrow.Author.Needs.{needs}
 use Rattle.run.proofs.insert.copy_rest.Statement.{statement}

@@ -2,8 +2,7 @@ use lib.ListN.{getD}
 use Prim.Native.Nat.{_%_}
 use Rattle.run.proofs.InsertLawsItems.{insert-many, insert-low, insert-leaf, insert-items, insert-done}
 use lib.ListN.{length}
-use mathlib.Core.Path.{_≡_, refl, sym, _∙_, ap}
-use Prim.Native.Nat.{ℕ, _+_, _-_, _<_}
+use mathlib.Core.Path.{_≡_, refl, sym, _∙_}
 use native.Mathlib.Omega.{arith}
 use borrow.Author.Needs.{needs}
 use Rattle.run.proofs.insert.insert.Statement.{statement}

@@ -1,7 +1,7 @@
-use Rattle.run.proofs.UndoLaws.{Forming, forming-start, forming-end, forming-refused, forming-room, forming-few, forming-again}
+use Rattle.run.proofs.UndoLaws.{Forming, forming-start, forming-end, forming-refused, forming-few, forming-again}
 use lib.ListN.{length, length-take, length-drop}
-use mathlib.Core.Path.{_≡_, sym, _∙_, ap}
-use Prim.Native.Nat.{ℕ, _+_, _-_, _<_}
+use mathlib.Core.Path.{_≡_, ap}
+use Prim.Native.Nat.{ℕ, _+_, _-_}
 use native.Mathlib.Omega.{arith}
 use borrow.Author.Needs.{needs}
 use Rattle.run.proofs.undoing.form.Statement.{statement}

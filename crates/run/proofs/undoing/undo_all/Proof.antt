@@ -1,7 +1,4 @@
 use Rattle.run.proofs.UndoLawsBack.{Backing, backing-start, backing-end, backing-at, backing-record, backing-refused, backing-again}
-use lib.ListN.{length}
-use mathlib.Core.Path.{_≡_, refl, sym, _∙_, ap}
-use Prim.Native.Nat.{ℕ, _+_, _-_, _<_, _≤_}
 use native.Mathlib.Omega.{arith}
 use borrow.Author.Needs.{needs}
 use Rattle.run.proofs.undoing.undo_all.Statement.{statement}

@@ -1,14 +1,13 @@
 use Rattle.run.proofs.UndoLaws.{size-low}
 use Rattle.run.proofs.UndoLawsBack.{cut-pre, cut-refused, cut-row-low, cut-parent-low, cut-back, made-pre, made-refused, made-some}
 use Rattle.run.proofs.UndoLawsBack.{made-back}
-use Rattle.model.specs.Undo.{historySize, cutFits, madeFits}
+use Rattle.model.specs.Undo.{cutFits, madeFits}
 use Rattle.table.specs.Words.{decodeParts}
 use Rattle.run.specs.Undoing.{cutIn, madeIn}
 use borrow.Author.Tests.{not-true, not-false}
-use lib.ListN.{length, getD}
+use lib.ListN.{getD}
 use mathlib.Core.Bool.{true}
-use mathlib.Core.Path.{_≡_, refl, sym, _∙_, ap}
-use Prim.Native.Nat.{ℕ, _+_, _-_, _<_, _≤_, _/_, _%_}
+use mathlib.Core.Path.{_≡_, sym, _∙_}
 use native.Mathlib.Omega.{arith}
 use borrow.Author.Needs.{needs}
 use Rattle.run.proofs.undoing.undo_record.Statement.{statement}

@@ -1,7 +1,7 @@
 use Rattle.run.proofs.UpdateLaws.{cut-root, cut-low, cut-full, cut-done}
 use lib.ListN.{getD}
-use mathlib.Core.Path.{_≡_, sym, _∙_, ap}
-use Prim.Native.Nat.{ℕ, _-_, _+_, _/_, _%_, _<_}
+use mathlib.Core.Path.{_≡_, sym, _∙_}
+use Prim.Native.Nat.{_/_, _%_}
 use native.Mathlib.Omega.{arith}
 use borrow.Author.Needs.{needs}
 use Rattle.run.proofs.update.cut_row.Statement.{statement}

@@ -1,8 +1,8 @@
 use Rattle.run.proofs.UpdateLaws.{Deleting, delete-end, delete-refused, delete-again}
 use Rattle.run.proofs.StateLaws.{after-self}
-use lib.ListN.{length, getD}
-use mathlib.Core.Path.{_≡_, refl, sym, _∙_, ap}
-use Prim.Native.Nat.{ℕ, _-_, _+_, _<_, _≤_}
+use lib.ListN.{length}
+use mathlib.Core.Path.{_≡_, refl}
+use Prim.Native.Nat.{_-_}
 use native.Mathlib.Omega.{arith}
 use borrow.Author.Needs.{needs}
 use Rattle.run.proofs.update.delete.Statement.{statement}

@@ -1,8 +1,6 @@
 use Rattle.run.proofs.UpdateLaws.{loose-pre, loose-made}
 use Rattle.model.proofs.TestLaws.{isIn-by}
-use mathlib.Core.Bool.{true, false}
-use mathlib.Core.List.{[], _∷_}
-use native.Mathlib.Omega.{arith}
+use mathlib.Core.Bool.{false}
 use borrow.Author.Needs.{needs}
 use Rattle.run.proofs.update.new_element.Statement.{statement}
 use Rattle.run.proofs.update.new_element.Tie as tie

@@ -1,6 +1,5 @@
 use Rattle.run.proofs.UpdateLaws.{loose-pre, loose-made}
-use mathlib.Core.Bool.{true, false}
-use mathlib.Core.List.{[], _∷_}
+use mathlib.Core.Bool.{true}
 use borrow.Author.Tests.{le-leb}
 use native.Mathlib.Omega.{arith}
 use borrow.Author.Needs.{needs}

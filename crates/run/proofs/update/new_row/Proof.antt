@@ -1,5 +1,4 @@
 use Rattle.run.proofs.UpdateLaws.{new-full, new-over, new-made, tag-byte}
-use Prim.Native.Nat.{ℕ, _+_, _<_, _≤_}
 use native.Mathlib.Omega.{arith}
 use borrow.Author.Needs.{needs}
 use Rattle.run.proofs.update.new_row.Statement.{statement}
