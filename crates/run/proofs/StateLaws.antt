@@ -1,7 +1,8 @@
--- What is held, and how it goes on: a record appended, a word set; updates one after the other, and refused.
+-- What is held, and how it goes on: the start, a record appended, a word set; updates one after the other, and refused.
 use mathlib.Core.Path.{_≡_, refl, ap, sym, _∙_}
 use mathlib.Core.Bool.{true}
 use mathlib.Core.List.{List, [], _∷_, _++_, map}
+use mathlib.Core.Option.{Option·none-ne-some}
 use Prim.Native.Nat.{ℕ, zero, suc, _+_, _*_, _-_, _/_, _%_, _≤_, _<_}
 use native.Mathlib.Omega.{arith}
 use lib.Dec.{eqb}
@@ -10,16 +11,19 @@ use lib.Seq.{set-append-left, take-set-lt}
 use borrow.Author.Tests.{eq-eqb, ne-eqb, eqb-true}
 use Rattle.model.specs.Refusal.{fault}
 use Rattle.model.specs.Table as model
-use Rattle.model.specs.History.{Record, recordBytes}
-use Rattle.model.specs.Run.{State, Out, stop, gives}
+use Rattle.model.specs.History.{Record, recordBytes, historyBytes}
+use Rattle.model.specs.Run.{State, state, Out, stop, gives}
 use Rattle.model.proofs.BoolLaws.{pick-true, pick-false, by-cases}
-use Rattle.model.proofs.FormLaws.{IsInRange}
-use Rattle.table.specs.Words.{linkOf, linked, wordOf, rowOf, rowsOf, wordsOf, isRowWord, decodeParts}
+use Rattle.model.proofs.TableLaws.{Tree}
+use Rattle.model.proofs.FormLaws.{IsInRange, noneYet}
+use Rattle.model.proofs.HistoryLaws.{times}
+use Rattle.table.specs.Words.{linkOf, linked, wordOf, rowOf, rowsOf, wordsOf, isRowWord, decodeParts, partsFit}
 use Rattle.table.specs.Writing.{over}
 use Rattle.table.proofs.WordLaws.{wordOf-rowOf, count-decode, rowAt-decode, Canonical}
 use Rattle.table.proofs.ReadLaws.{map-set}
 use Rattle.table.proofs.WriteLaws.{length-over}
-use Rattle.run.specs.State.{recordsIn, stateOf, outcome, Held, After, Updated, stopped}
+use Rattle.table.proofs.CallLaws.{fits-at}
+use Rattle.run.specs.State.{recordsFrom, recordsIn, started, stopped, stateOf, outcome, Held, After, Updated}
 use Rattle.run.specs.declared.state.Progress.{Progress}
 use Rattle.run.proofs.HistoryLaws.{recordsIn-push, take-over, drop-over}
 
@@ -85,6 +89,35 @@ module _ {ws h : List ℕ} {p : Progress} (held : Held ws h p) (r : Record) (n :
   pub append-records : IsInRange r →
       recordsIn (take (p .bytes + n) (over (p .bytes) (recordBytes r) h)) ≡ recordsIn (take (p .bytes) h) ++ (r ∷ [])
   append-records f = ap recordsIn append-written ∙ recordsIn-push (take (p .bytes) h) (p .made) (p .cut) (held .history) r f
+
+-- THE START on a table that fits, with an empty history
+tree-rows : (n : ℕ) (ws ms : List ℕ) → Tree (decodeParts n ws ms) → Tree (decodeParts n ws [])
+tree-rows n ws ms t =
+    record {
+      tags = t .tags;
+      parents = t .parents;
+      roots = λ d i e. absurd (Option·none-ne-some i e);
+      once = λ d e i p q. absurd (Option·none-ne-some i p);
+    }
+
+pub held-start : (n : ℕ) (ws ms h : List ℕ) → partsFit n ws ms ≡ true → length ws ≡ 512 → 12288 ≤ length h → Held ws h (started n)
+unfolding recordsFrom historyBytes times
+held-start n ws ms h f l a =
+    let k = fits-at n ws ms f in
+    record {
+      fine = refl;
+      rows = l;
+      area = a;
+      few = k .few;
+      canonical = k .canonical l;
+      tree = tree-rows n ws ms (k .well .tree);
+      size = omega arith;
+      history = record { ranges = noneYet; bytes = refl; records = refl; cuts = refl; limit = omega arith };
+    }
+
+pub state-start : (n : ℕ) (ws ms h : List ℕ) → stateOf ws ms h (started n) ≡ state (decodeParts n ws ms) []
+unfolding recordsFrom
+state-start n ws ms h = refl
 
 -- ONE AFTER THE OTHER
 pub after-self : {ws h : List ℕ} {p : Progress} → Held ws h p → After ws h p ws h p

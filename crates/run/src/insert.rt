@@ -148,11 +148,11 @@ pub fn insert(
         (now (rows .exit)) (now (history .exit)) r ⌝ }
 {
     if targets.len() != 1 {
-        return update::refused(p, Fault::TARGET);
+        return p.refused(Fault::TARGET);
     }
     let target = index(targets[0]);
     if words::kind(rows[target]) == words::LEAF {
-        return update::refused(p, Fault::TARGET);
+        return p.refused(Fault::TARGET);
     }
     let mut map = [0u16; Table::ROWS];
     copy_items(rows, history, &mut map, p, items, target)

@@ -3,7 +3,7 @@ ghost use mathlib.Core.Path.{_≡_};
 ghost use mathlib.Core.List.{[], _∷_};
 ghost use Prim.Native.Nat.{_+_, _*_, _/_, _%_, _<_};
 ghost use mathlib.Core.Bool.{true, false};
-ghost use Rattle.run.specs.State.{Held, stopped};
+ghost use Rattle.run.specs.State.{Held};
 ghost use Rattle.run.specs.Updating.{NewPre, NewPost, ElementPre, LoosePost, CutPre, DeletePre, DeletePost};
 use crate::history;
 use crate::state::Progress;
@@ -11,19 +11,6 @@ use table::Fault;
 use table::NameNumber;
 use table::Table;
 use table::words;
-
-// The same progress, with a refusal.
-pub fn refused(p: Progress, number: u8) -> Progress
-    ensures { λ r. ⌜ r ≡ stopped p number ⌝ }
-{
-    Progress {
-        number,
-        count: p.count,
-        bytes: p.bytes,
-        made: p.made,
-        cut: p.cut,
-    }
-}
 
 // Row w more, with its record: 10 when the table is full, then 9 when the history is.
 pub fn new_row(rows: &mut [u32], history: &mut [u8], p: Progress, w: u32) -> Progress
@@ -33,10 +20,10 @@ pub fn new_row(rows: &mut [u32], history: &mut [u8], p: Progress, w: u32) -> Pro
     let count = p.count;
     let at = p.bytes;
     if Table::ROWS <= count {
-        return refused(p, Fault::TABLE);
+        return p.refused(Fault::TABLE);
     }
     if history::RECORDS <= p.made + p.cut {
-        return refused(p, Fault::HISTORY);
+        return p.refused(Fault::HISTORY);
     }
     rows[count] = w;
     history::put_made(history, at, count, w);
@@ -99,7 +86,7 @@ fn cut_row(rows: &mut [u32], history: &mut [u8], p: Progress, i: usize) -> Progr
         return p;
     }
     if history::RECORDS <= p.made + p.cut {
-        return refused(p, Fault::HISTORY);
+        return p.refused(Fault::HISTORY);
     }
     rows[i] = unlinked(w);
     history::put_cut(history, at, i, link - 1);
