@@ -1,27 +1,24 @@
 -- Records written and read back: the bytes of the records read are the bytes, and a record appended is one record more.
 use mathlib.Core.Path.{_≡_, refl, ap, sym, _∙_}
-use mathlib.Core.Bool.{Bool, true, false}
+use mathlib.Core.Bool.{true, false}
 use mathlib.Core.List.{List, [], _∷_, _++_, append-nil, append-assoc}
-use mathlib.Core.Option.{Option}
-use Prim.Native.Nat.{ℕ, zero, suc, _+_, _*_, _-_, _/_, _%_, _≤_, _<_}
+use Prim.Native.Nat.{ℕ, zero, suc, _+_, _-_, _/_, _%_, _≤_, _<_}
 use native.Mathlib.Omega.{arith}
-use lib.Dec.{eqb}
-use lib.ListN.{length, getD, take, drop, set, length-append}
+use lib.ListN.{length, take, drop, set, length-append}
 use lib.Seq.{drop-at, take-at, drop-drop, sets-eq, length-take-le}
-use borrow.Author.Tests.{eq-eqb, ne-eqb}
+use borrow.Author.Tests.{ne-eqb}
 use Rattle.model.specs.Base.{pick}
 use Rattle.model.specs.Table as model
 use Rattle.model.specs.Stored.{wordBytes, parentBytes}
 use Rattle.model.specs.History.{Record, recordBytes, historyBytes}
-use Rattle.model.specs.Run.{made, cutRecord}
-use Rattle.model.specs.Undo.{historySize, recordIn}
-use Rattle.model.proofs.BoolLaws.{by-cases}
-use Rattle.model.proofs.FormLaws.{IsInRange, AllInRange, noneYet, andAlso, allInRange-snoc, length-recordBytes, recordIn-back}
+use Rattle.model.specs.Run.{made}
+use Rattle.model.specs.Undo.{historySize}
+use Rattle.model.proofs.FormLaws.{IsInRange, AllInRange, andAlso, allInRange-snoc, length-recordBytes, recordIn-back}
 use Rattle.model.proofs.HistoryLaws.{times, times-snoc, isCut, isCut-made}
 use Rattle.table.specs.Words.{linked, rowOf}
 use Rattle.table.specs.Writing.{over}
 use Rattle.run.specs.State.{recordsFrom, recordsIn, Recorded}
-use Rattle.run.specs.Updating.{madeKind, sixBytes, fiveBytes}
+use Rattle.run.specs.Updating.{madeKind, sixBytes}
 
 -- BYTES of a record
 pub put-six : (o : List ℕ) (i a b c d e f : ℕ) → i + 6 ≤ length o →

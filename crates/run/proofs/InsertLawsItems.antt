@@ -1,31 +1,32 @@
 -- Insert's parts: an item with its descendants, all items, and the target's check.
 use mathlib.Core.Path.{_≡_, refl, ap, sym, _∙_, subst}
 use mathlib.Core.Bool.{Bool, true, false, _&&_, not}
-use mathlib.Core.List.{List, [], _∷_, _++_, map}
-use mathlib.Core.Option.{Option, none, some}
-use Prim.Native.Nat.{ℕ, zero, suc, _+_, _*_, _-_, _/_, _%_, _≤_, _<_}
+use mathlib.Core.List.{List, [], _∷_, map}
+use mathlib.Core.Option.{some}
+use Prim.Native.Nat.{ℕ, _+_, _*_, _-_, _/_, _%_, _≤_, _<_}
 use native.Mathlib.Numerals.{add-one}
 use native.Mathlib.Omega.{arith}
-use lib.Dec.{ltb, leb, eqb}
-use lib.ListN.{length, getD, take, drop, set, length-set, drop-of-length-le}
+use lib.Dec.{ltb, eqb}
+use lib.ListN.{length, getD, drop, set, length-set, drop-of-length-le}
 use lib.Seq.{getD-set-same, drop-cons}
 use borrow.Author.Tests.{lt-ltb, eq-eqb, ne-eqb}
-use Rattle.model.specs.Base.{pick}
-use Rattle.model.specs.Refusal.{fault}
 use Rattle.model.specs.Table as model
-use Rattle.model.specs.Run.{State, state, Out, stop, gives, newRow, withMade, thenRow, Copied, copyParent, copyRow, copyEach, descendantsFrom, subtree, copyAll, inserted}
+use Rattle.model.specs.Run.{State, Out, newRow, withMade, thenRow, Copied, copyParent, copyEach}
+use Rattle.model.specs.Run.{descendantsFrom, subtree, copyAll, inserted}
 use Rattle.model.proofs.BoolLaws.{and-both, pick-true}
 use Rattle.model.proofs.TableLaws.{isElement-at, isElement-by}
 use Rattle.table.specs.Words.{linked, rowOf, rowsOf, isRowWord, decodeParts}
 use Rattle.table.proofs.WordLaws.{linked-linkOf, count-decode, rowAt-decode}
 use Rattle.table.proofs.ReadLaws.{element-kind}
-use Rattle.run.specs.State.{stateOf, outcome, Held, After, Updated, stopped}
-use Rattle.run.specs.Updating.{NewPre, Within}
+use Rattle.run.specs.State.{stateOf, outcome, After, Updated, stopped}
+use Rattle.run.specs.Updating.{NewPre}
 use Rattle.run.specs.Inserting.{before, copiedIn, IsCopy, RestPre, RestPost, ItemPre, ItemPost, ItemsPre, ItemsPost, InsertPre}
 use Rattle.run.specs.declared.state.Progress.{Progress}
 use Rattle.run.proofs.StateLaws.{row-word, held-count, after-self, after-then, outcome-gives, outcome-stop, updated-stopped}
 use Rattle.run.proofs.InsertLawsScan.{descendants-past}
-use Rattle.run.proofs.InsertLaws.{relinked-row, relinked-word, made-state, made-count, made-old, made-new, before-decode, row-before, rows-kept, lower-before}
+use Rattle.run.proofs.InsertLaws.{relinked-row, relinked-word, made-state, made-count, made-old, made-new, before-decode}
+use Rattle.run.proofs.InsertLaws.{row-before, rows-kept}
+use Rattle.run.proofs.InsertLawsRest.{lower-before}
 
 -- THE TOP FIRST, then the rows past it
 copyEach-top : (z : ℕ) (x : model.Table) (t g n : ℕ) (s : State) → model.count x ≡ n → t < n →
@@ -58,12 +59,12 @@ module _ {ws h m : List ℕ} {p : Progress} {old t g : ℕ} (pre : ItemPre ws h 
   fits = omega (arith, pre .held .few, pre .held .rows)
 
   pub item-target : g < p .count
-  item-target = omega (arith, isElement-at (decodeParts (p .count) ws []) g (pre .target) .0, held-count ws h p (pre .held) [])
+  item-target = omega (arith, isElement-at (decodeParts (p .count) ws []) g (pre .target) .0, held-count (pre .held) [])
 
   row-top : model.rowAt (decodeParts (p .count) ws []) t ≡ rowOf (getD ws t 0)
   row-top = rowAt-decode (p .count) ws [] fits t (omega (arith, pre .top, pre .room))
 
-  module _ (v : ℕ) (word : v ≡ getD ws t 0 % 4 + 4 * (g + 1) + 4096 * (getD ws t 0 / 4096)) where
+  module _ {v : ℕ} (word : v ≡ getD ws t 0 % 4 + 4 * (g + 1) + 4096 * (getD ws t 0 / 4096)) where
     small : g + 1 < 1024
     small = omega (arith, item-target, pre .held .few)
 
@@ -80,11 +81,11 @@ module _ {ws h m : List ℕ} {p : Progress} {old t g : ℕ} (pre : ItemPre ws h 
           word = ap isRowWord word ∙ relinked-word (getD ws t 0) (g + 1) small (row-word (p .count) ws (pre .held .canonical) fits t k);
           tag =
               ap model.tagFits row-copy ∙ ap model.tagFits (sym row-top) ∙
-              pre .held .tree .tags t (omega (arith, held-count ws h p (pre .held) []));
+              pre .held .tree .tags t (omega (arith, held-count (pre .held) []));
           parent =
               ap (λ (r : model.Row). model.parentFits (decodeParts (p .count) ws []) (p .count) (r .parent)) row-copy ∙
-              and-both (ltb g (p .count)) (model.isElement (decodeParts (p .count) ws []) g) (lt-ltb g (p .count) item-target) (pre
-              .target);
+              and-both (ltb g (p .count)) (model.isElement (decodeParts (p .count) ws []) g) (lt-ltb g (p .count) item-target)
+              (pre .target);
         }
 
     module _ {ws₁ h₁ : List ℕ} {p₁ : Progress} (u : Updated (λ z s. newRow z (rowOf v) s) (p .count ∷ []) ws h p ws₁ h₁ p₁) where
@@ -104,12 +105,12 @@ module _ {ws h m : List ℕ} {p : Progress} {old t g : ℕ} (pre : ItemPre ws h 
           (u .same z ms ∙
           ap (λ (r : model.Row). newRow z r s)
           (row-copy ∙
-          ap (λ (r : model.Row). model.withParent r (some g)) (sym (rowAt-decode old ws ms (omega (arith, pre .room, fits)) t (pre
-          .top))))) ∙
+          ap (λ (r : model.Row). model.withParent r (some g)) (sym (rowAt-decode old ws ms (omega (arith, pre .room, fits)) t
+          (pre .top))))) ∙
           ap (λ (c : ℕ).
           thenRow (newRow z (model.withParent (model.rowAt x t) (some g)) s)
           (λ (q : State). copyEach z x t g (descendantsFrom x t (t + 1) (old - (t + 1))) (record { old = t; new = c } ∷ []) q))
-          (sym (held-count ws h p (pre .held) ms)) ∙
+          (sym (held-count (pre .held) ms)) ∙
           sym (copyEach-top z x t g old s (count-decode old ws ms (omega (arith, pre .room, fits))) (pre .top)
           (lower-before (pre .held) old (pre .room) ms)) ∙
           ap (λ (y : model.Table). copyEach z y t g (subtree y t) [] s) (sym (before-decode old ws ms h p (pre .room)))
@@ -178,11 +179,10 @@ module _ {ws h m : List ℕ} {p : Progress} {old t g : ℕ} (pre : ItemPre ws h 
                         copyEach z (decodeParts old ws ms) t g (descendantsFrom (decodeParts old ws ms) t (t + 1) (old - (t + 1))) cs s₁)
                         (copiedIn-top m t (p .count) (omega (arith, pre .top, pre .room, pre .size, pre .held .few)) (omega (
                           arith,
-                          pre
-                              .held .few,
+                          pre .held .few,
                         ))) ∙
                         sym (ap (λ (o : Out). thenRow o (rest z ms)) (outcome-gives z (p .count ∷ []) ws₁ ms h₁ p₁ n)) ∙ whole z ms;
-                    after = λ q. after-then ws h p ws₁ h₁ p₁ ws₂ h₂ p₂ after₁ (post .updated g .after q);
+                    after = λ q. after-then after₁ (post .updated g .after q);
                   };
               before = λ q. post .before q ∙ rows₁;
             }
@@ -201,7 +201,7 @@ module _ {ws₀ h₀ m₀ : List ℕ} {p₀ : Progress} {v : List ℕ} {g : ℕ}
   pub inserting-start : Inserting ws₀ h₀ p₀ v g ws₀ h₀ m₀ p₀ 0
   inserting-start =
       record {
-        after = after-self ws₀ h₀ p₀ (pre .held);
+        after = after-self (pre .held);
         size = pre .size;
         within = omega arith;
         same = refl;
@@ -215,18 +215,18 @@ module _ {ws₀ h₀ m₀ : List ℕ} {p₀ : Progress} {v : List ℕ} {g : ℕ}
         record {
           same = λ z ms.
               outcome-gives z [] ws ms h p (c .after .held .fine) ∙
-              ap (λ (is : List ℕ). copyAll z (decodeParts (p₀ .count) ws₀ ms) is g (stateOf ws ms h p)) (sym (drop-of-length-le v l)) ∙ c
-              .rest z ms;
+              ap (λ (is : List ℕ). copyAll z (decodeParts (p₀ .count) ws₀ ms) is g (stateOf ws ms h p)) (sym (drop-of-length-le v l)) ∙
+              c .rest z ms;
           after = λ q. c .after;
         }
 
-    module _ (more : k < length v) (i : ℕ) (e : i ≡ getD v k 0) where
+    module _ (more : k < length v) {i : ℕ} (e : i ≡ getD v k 0) where
       target : model.isElement (decodeParts (p .count) ws []) g ≡ true
       target =
           let a = isElement-at (decodeParts (p₀ .count) ws₀ []) g (pre .target) in
-          let b : g < p₀ .count = omega (arith, a .0, held-count ws₀ h₀ p₀ (pre .held) []) in
+          let b : g < p₀ .count = omega (arith, a .0, held-count (pre .held) []) in
           let f : p .count ≤ length ws = omega (arith, c .after .held .few, c .after .held .rows) in
-          isElement-by (decodeParts (p .count) ws []) g (omega (arith, c .after .rows, held-count ws h p (c .after .held) []))
+          isElement-by (decodeParts (p .count) ws []) g (omega (arith, c .after .rows, held-count (c .after .held) []))
           (ap (λ (r : model.Row). r .isLeaf)
           (sym (row-before ws [] (p₀ .count) (p .count) (c .after .rows) f g b) ∙
           ap (λ (rs : List model.Row). getD rs g model.noRow) (c .same)) ∙ a .1)
@@ -272,7 +272,7 @@ module _ {ws₀ h₀ m₀ : List ℕ} {p₀ : Progress} {v : List ℕ} {g : ℕ}
         pub inserting-again : r .number ≡ 0 → {m′ : List ℕ} → length m′ ≡ 512 → Inserting ws₀ h₀ p₀ v g ws′ h′ m′ r (k + 1)
         inserting-again n l =
             record {
-              after = after-then ws₀ h₀ p₀ ws h p ws′ h′ r (c .after) (post .updated .after n);
+              after = after-then (c .after) (post .updated .after n);
               size = l;
               within = omega arith;
               same = post .before n ∙ c .same;
@@ -286,9 +286,9 @@ module _ {ws h : List ℕ} {p : Progress} {v w : List ℕ} (pre : InsertPre ws h
   pub insert-many : (length w ≡ 1 → ⊥) → {ws′ h′ : List ℕ} {r : Progress} → r ≡ stopped p 7 →
       Updated (λ z s. inserted z v w s) [] ws h p ws′ h′ r
   insert-many n {ws′} {h′} {r} e =
-      updated-stopped (λ z s. inserted z v w s) [] ws h p ws′ h′ r 6 e (λ z ms. rw (ne-eqb (length w) 1 n))
+      updated-stopped 6 e (λ z ms. rw (ne-eqb (length w) 1 n))
 
-  module _ (one : length w ≡ 1) (g : ℕ) (e : g ≡ getD w 0 0) where
+  module _ (one : length w ≡ 1) {g : ℕ} (e : g ≡ getD w 0 0) where
     pub insert-low : g < p .count
     insert-low = subst (λ (j : ℕ). j < p .count) (sym e) (pre .targets 0 (omega arith))
 
@@ -300,7 +300,7 @@ module _ {ws h : List ℕ} {p : Progress} {v w : List ℕ} (pre : InsertPre ws h
     pub insert-leaf : getD ws g 0 % 4 ≡ 2 → {ws′ h′ : List ℕ} {r : Progress} → r ≡ stopped p 7 →
         Updated (λ z s. inserted z v w s) [] ws h p ws′ h′ r
     insert-leaf l {ws′} {h′} {r} f =
-        updated-stopped (λ z s. inserted z v w s) [] ws h p ws′ h′ r 6 f
+        updated-stopped 6 f
         (λ z ms. let b : model.isElement (decodeParts (p .count) ws ms) (getD w 0 0) ≡ false = kind ms ∙ rw l in rw (one, b))
 
     module _ (l : getD ws g 0 % 4 ≡ 2 → ⊥) where
@@ -313,8 +313,8 @@ module _ {ws h : List ℕ} {p : Progress} {v w : List ℕ} (pre : InsertPre ws h
             target = ap (model.isElement (decodeParts (p .count) ws [])) e ∙ kind [] ∙ rw (ne-eqb (getD ws g 0 % 4) 2 l);
           }
 
-      pub insert-done : {ws′ h′ : List ℕ} {r : Progress} → ItemsPost ws h p v g ws′ h′ r → Updated (λ z s. inserted z v w s) [] ws h p
-          ws′ h′ r
+      pub insert-done : {ws′ h′ : List ℕ} {r : Progress} → ItemsPost ws h p v g ws′ h′ r → Updated (λ z s. inserted z v w s) [] ws h p ws′
+          h′ r
       insert-done u =
           record {
             same = λ z ms.

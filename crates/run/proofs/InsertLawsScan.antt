@@ -1,13 +1,13 @@
 -- Insert in the model, row by row: which rows are below the top, the rows copied read off the map, and one turn of the scan.
-use mathlib.Core.Path.{_≡_, refl, ap, sym, _∙_, subst}
+use mathlib.Core.Path.{_≡_, refl, ap, sym, _∙_}
 use mathlib.Core.Bool.{Bool, true, false, _||_, not}
 use mathlib.Core.List.{List, [], _∷_}
 use mathlib.Core.Option.{Option, none, some}
-use Prim.Native.Nat.{ℕ, zero, suc, _+_, _*_, _-_, _/_, _%_, _≤_, _<_}
+use Prim.Native.Nat.{ℕ, zero, suc, _+_, _-_, _≤_, _<_}
 use native.Mathlib.Nat.{not-suc-le-zero}
 use native.Mathlib.Numerals.{add-one}
 use native.Mathlib.Omega.{arith}
-use lib.Dec.{ltb, leb, eqb}
+use lib.Dec.{ltb, eqb}
 use lib.ListN.{length, getD, set}
 use lib.Seq.{getD-set-same, getD-set-other}
 use borrow.Author.Tests.{lt-ltb, le-ltb, eq-eqb, ne-eqb, ltb-true, ltb-false, eqb-true, eqb-false, not-true, not-false}
@@ -15,7 +15,7 @@ use Rattle.model.specs.Base.{pick}
 use Rattle.model.specs.Table as model
 use Rattle.model.specs.Sweep.{through}
 use Rattle.model.specs.Step.{parentIs, isBelowFrom, isBelow}
-use Rattle.model.specs.Run.{State, Out, stop, gives, newRow, thenRow, Copied, copyOf, copyParent, copyRow, copyEach, descendantsFrom, subtree}
+use Rattle.model.specs.Run.{State, Out, stop, gives, newRow, thenRow, Copied, copyOf, copyParent, copyRow, copyEach, descendantsFrom}
 use Rattle.model.proofs.BoolLaws.{by-cases, pick-true, pick-false}
 use Rattle.model.proofs.Below.{Below, under, further, below-is}
 use Rattle.table.specs.Words.{linked}
@@ -271,8 +271,8 @@ module _ (x : model.Table) (lower : (i p : ℕ) → model.rowAt x i .parent ≡ 
         (ap (λ (i : ℕ). record { old = j; new = i } ∷ copiedIn m t (j - t)) count ∙
         sym (ap (λ (v : List ℕ). copiedIn v t (j + 1 - t)) f ∙ copied-in w)) ∙
         sym (thenRow-gives made next) ∙
-        sym (ap (λ (o : Out). thenRow o next) (pick-false (eqb (copyLink m t l) 0) (gives [] s) (thenRow made (λ (u : State). gives []
-        u)) y))))
+        sym (ap (λ (o : Out). thenRow o next) (pick-false (eqb (copyLink m t l) 0) (gives [] s) (thenRow made (λ (u : State). gives [] u))
+        y))))
       where
         made : Out
         made = newRow z (model.withParent (model.rowAt x j) (linked (copyLink m t l))) s

@@ -8,6 +8,7 @@ pub mod HistoryLaws
 pub mod UpdateLaws
 pub mod InsertLawsScan
 pub mod InsertLaws
+pub mod InsertLawsRest
 pub mod InsertLawsItems
 pub mod UndoLaws
 pub mod UndoLawsBack

@@ -1,26 +1,29 @@
--- What is held, and how it goes on: a record appended, a word set; updates one after the other, and refused.
-use mathlib.Core.Path.{_≡_, refl, ap, sym, _∙_, subst}
-use mathlib.Core.Bool.{Bool, true, false}
+-- What is held, and how it goes on: the start, a record appended, a word set; updates one after the other, and refused.
+use mathlib.Core.Path.{_≡_, refl, ap, sym, _∙_}
+use mathlib.Core.Bool.{true}
 use mathlib.Core.List.{List, [], _∷_, _++_, map}
+use mathlib.Core.Option.{Option·none-ne-some}
 use Prim.Native.Nat.{ℕ, zero, suc, _+_, _*_, _-_, _/_, _%_, _≤_, _<_}
 use native.Mathlib.Omega.{arith}
 use lib.Dec.{eqb}
-use lib.ListN.{length, getD, take, drop, set, replicate, length-map, length-set, List·getD-append, List·getD-map}
-use lib.Seq.{getD-take, set-append-left, take-set-lt}
-use borrow.Author.Tests.{eq-eqb, ne-eqb, le-leb, eqb-true, eqb-false}
-use Rattle.model.specs.Base.{pick}
+use lib.ListN.{length, getD, take, drop, set, replicate, length-map, length-set, List·getD-append}
+use lib.Seq.{set-append-left, take-set-lt}
+use borrow.Author.Tests.{eq-eqb, ne-eqb, eqb-true}
 use Rattle.model.specs.Refusal.{fault}
 use Rattle.model.specs.Table as model
-use Rattle.model.specs.History.{Record, recordBytes}
-use Rattle.model.specs.Run.{State, state, Out, stop, gives, thenRow}
+use Rattle.model.specs.History.{Record, recordBytes, historyBytes}
+use Rattle.model.specs.Run.{State, state, Out, stop, gives}
 use Rattle.model.proofs.BoolLaws.{pick-true, pick-false, by-cases}
-use Rattle.model.proofs.FormLaws.{IsInRange}
-use Rattle.table.specs.Words.{linkOf, linked, wordOf, rowOf, rowsOf, wordsOf, isRowWord, decodeParts}
+use Rattle.model.proofs.TableLaws.{Tree}
+use Rattle.model.proofs.FormLaws.{IsInRange, noneYet}
+use Rattle.model.proofs.HistoryLaws.{times}
+use Rattle.table.specs.Words.{linkOf, linked, wordOf, rowOf, rowsOf, wordsOf, isRowWord, decodeParts, partsFit}
 use Rattle.table.specs.Writing.{over}
-use Rattle.table.proofs.WordLaws.{linkOf-linked, wordOf-rowOf, count-decode, rowAt-decode, Canonical}
+use Rattle.table.proofs.WordLaws.{wordOf-rowOf, count-decode, rowAt-decode, Canonical}
 use Rattle.table.proofs.ReadLaws.{map-set}
 use Rattle.table.proofs.WriteLaws.{length-over}
-use Rattle.run.specs.State.{recordsIn, stateOf, outcome, Held, After, Updated, stopped}
+use Rattle.table.proofs.CallLaws.{fits-at}
+use Rattle.run.specs.State.{recordsFrom, recordsIn, started, stopped, stateOf, outcome, Held, After, Updated}
 use Rattle.run.specs.declared.state.Progress.{Progress}
 use Rattle.run.proofs.HistoryLaws.{recordsIn-push, take-over, drop-over}
 
@@ -65,7 +68,7 @@ module _ (n : ℕ) (ws : List ℕ) (canonical : Canonical n ws) (within : n ≤ 
         ap (λ (v : List ℕ). set v i w) canonical
 
 -- A RECORD APPENDED to what is held
-module _ (ws h : List ℕ) (p : Progress) (held : Held ws h p) (r : Record) (n : ℕ) (size : length (recordBytes r) ≡ n) (small : n ≤ 6)
+module _ {ws h : List ℕ} {p : Progress} (held : Held ws h p) (r : Record) (n : ℕ) (size : length (recordBytes r) ≡ n) (small : n ≤ 6)
     (m : p .made + p .cut < 2048) where
   pub append-room : p .bytes + n ≤ length h
   append-room = omega (arith, held .size, held .area)
@@ -87,14 +90,43 @@ module _ (ws h : List ℕ) (p : Progress) (held : Held ws h p) (r : Record) (n :
       recordsIn (take (p .bytes + n) (over (p .bytes) (recordBytes r) h)) ≡ recordsIn (take (p .bytes) h) ++ (r ∷ [])
   append-records f = ap recordsIn append-written ∙ recordsIn-push (take (p .bytes) h) (p .made) (p .cut) (held .history) r f
 
+-- THE START on a table that fits, with an empty history
+tree-rows : (n : ℕ) (ws ms : List ℕ) → Tree (decodeParts n ws ms) → Tree (decodeParts n ws [])
+tree-rows n ws ms t =
+    record {
+      tags = t .tags;
+      parents = t .parents;
+      roots = λ d i e. absurd (Option·none-ne-some i e);
+      once = λ d e i p q. absurd (Option·none-ne-some i p);
+    }
+
+pub held-start : (n : ℕ) (ws ms h : List ℕ) → partsFit n ws ms ≡ true → length ws ≡ 512 → 12288 ≤ length h → Held ws h (started n)
+unfolding recordsFrom historyBytes times
+held-start n ws ms h f l a =
+    let k = fits-at n ws ms f in
+    record {
+      fine = refl;
+      rows = l;
+      area = a;
+      few = k .few;
+      canonical = k .canonical l;
+      tree = tree-rows n ws ms (k .well .tree);
+      size = omega arith;
+      history = record { ranges = noneYet; bytes = refl; records = refl; cuts = refl; limit = omega arith };
+    }
+
+pub state-start : (n : ℕ) (ws ms h : List ℕ) → stateOf ws ms h (started n) ≡ state (decodeParts n ws ms) []
+unfolding recordsFrom
+state-start n ws ms h = refl
+
 -- ONE AFTER THE OTHER
-pub after-self : (ws h : List ℕ) (p : Progress) → Held ws h p → After ws h p ws h p
-after-self ws h p a =
+pub after-self : {ws h : List ℕ} {p : Progress} → Held ws h p → After ws h p ws h p
+after-self a =
     record { held = a; rows = omega arith; bytes = omega arith; area = refl; rest = λ k l. refl }
 
-pub after-then : (ws₀ h₀ : List ℕ) (p₀ : Progress) (ws h : List ℕ) (p : Progress) (ws′ h′ : List ℕ) (r : Progress) →
+pub after-then : {ws₀ h₀ : List ℕ} {p₀ : Progress} {ws h : List ℕ} {p : Progress} {ws′ h′ : List ℕ} {r : Progress} →
     After ws₀ h₀ p₀ ws h p → After ws h p ws′ h′ r → After ws₀ h₀ p₀ ws′ h′ r
-after-then ws₀ h₀ p₀ ws h p ws′ h′ r a b =
+after-then {p = p} a b =
     record {
       held = b .held;
       rows = omega (arith, a .rows, b .rows);
@@ -104,8 +136,8 @@ after-then ws₀ h₀ p₀ ws h p ws′ h′ r a b =
     }
 
 -- what is held, as a number of the model
-pub held-count : (ws h : List ℕ) (p : Progress) → Held ws h p → (ms : List ℕ) → model.count (decodeParts (p .count) ws ms) ≡ p .count
-held-count ws h p held ms = count-decode (p .count) ws ms (omega (arith, held .few, held .rows))
+pub held-count : {ws h : List ℕ} {p : Progress} → Held ws h p → (ms : List ℕ) → model.count (decodeParts (p .count) ws ms) ≡ p .count
+held-count {ws} {h} {p} held ms = count-decode (p .count) ws ms (omega (arith, held .few, held .rows))
 
 -- WHAT AN OUTCOME IS: a value and a state, or a refusal
 pub outcome-gives : (z : ℕ) (v ws ms h : List ℕ) (p : Progress) → p .number ≡ 0 → outcome z v ws ms h p ≡ gives v (stateOf ws ms h p)
@@ -115,7 +147,7 @@ pub outcome-stop : (z : ℕ) (v ws ms h : List ℕ) (p : Progress) → (p .numbe
 outcome-stop z v ws ms h p e = pick-false (eqb (p .number) 0) _ _ (ne-eqb (p .number) 0 e)
 
 -- REFUSED, the areas may be anything
-module _ (f : ℕ → State → Out) (v ws h : List ℕ) (p : Progress) (ws′ h′ : List ℕ) (r : Progress) where
+module _ {f : ℕ → State → Out} {v ws h : List ℕ} {p : Progress} {ws′ h′ : List ℕ} {r : Progress} where
   pub updated-stopped : (n : ℕ) → r ≡ stopped p (suc n) → ((z : ℕ) (ms : List ℕ) → stop (fault (suc n) z) ≡ f z (stateOf ws ms h p)) →
       Updated f v ws h p ws′ h′ r
   updated-stopped n e g =

@@ -1,32 +1,28 @@
 -- Undo's parts, from the tests on each way out: the form of a record, the places of all, whether a record fits, and a record undone.
 use mathlib.Core.Path.{_≡_, refl, ap, sym, _∙_, subst}
 use mathlib.Core.Bool.{Bool, true, false, _&&_, _||_, not}
-use mathlib.Core.List.{List, [], _∷_, _++_, map}
-use mathlib.Core.Option.{Option, none, some}
+use mathlib.Core.List.{List, [], _∷_, map}
+use mathlib.Core.Option.{some}
 use Prim.Native.Nat.{ℕ, zero, suc, _+_, _*_, _-_, _/_, _%_, _≤_, _<_}
 use native.Mathlib.Numerals.{add-one}
 use native.Mathlib.Omega.{arith}
-use lib.Dec.{ltb, leb, eqb}
-use lib.ListN.{length, getD, take, drop, set, replicate, length-set, length-drop, length-map, drop-of-length-le, getD-replicate}
-use lib.Seq.{getD-set-same, getD-set-other, set-set, set-getD, take-set-le, take-suc, take-take, take-all, drop-drop, getD-drop, getD-append-add}
-use borrow.Author.Tests.{lt-ltb, le-ltb, le-leb, lt-leb, eq-eqb, ne-eqb, ltb-true, eqb-true, eqb-false, not-true}
+use lib.Dec.{eqb}
+use lib.ListN.{length, getD, take, drop, set, length-set, length-drop, drop-of-length-le}
+use lib.Seq.{getD-set-same, getD-set-other, take-all, drop-drop, getD-drop}
+use borrow.Author.Tests.{lt-ltb, le-ltb, le-leb, lt-leb, eq-eqb, ne-eqb, eqb-true, eqb-false}
 use Rattle.model.specs.Base.{pick, isIn, any}
 use Rattle.model.specs.Refusal.{fault, fine, isFine}
 use Rattle.model.specs.Table as model
 use Rattle.model.specs.Stored.{wordAt, parentIn}
-use Rattle.model.specs.History.{Record}
-use Rattle.model.specs.Undo.{historySize, recordIn, Placed, Formed, broken, formed, formFault, withPlaced, formFrom, sameBool, sameParent, madeFits, oldParentFits}
-use Rattle.model.specs.Undo.{cutFits, undoFits, undone, Undo, refused, back, undoAll, backwards, undo}
-use Rattle.model.proofs.BoolLaws.{by-cases, and-left, and-right, pick-true, pick-false}
-use Rattle.table.specs.Words.{linkOf, linked, wordOf, rowOf, rowsOf, wordsOf, isRowWord, decodeParts}
+use Rattle.model.specs.Undo.{historySize, recordIn, Placed, Formed, broken, formed, formFault, withPlaced, formFrom, sameBool, sameParent}
+use Rattle.model.specs.Undo.{madeFits, oldParentFits}
+use Rattle.model.specs.Undo.{cutFits, Undo, refused, undoAll, backwards, undo}
+use Rattle.model.proofs.BoolLaws.{by-cases, pick-true, pick-false}
+use Rattle.table.specs.Words.{linked, decodeParts}
 use Rattle.table.specs.Reading.{faultAt}
-use Rattle.table.proofs.WordLaws.{linked-linkOf, count-decode, rowAt-decode, Canonical, wordsOf-snoc}
+use Rattle.table.proofs.WordLaws.{count-decode, rowAt-decode}
 use Rattle.table.proofs.ReadLaws as reading
-use Rattle.run.specs.Undoing.{cutIn, madeIn, FormPost, undoing, Whole, PlacesPost, FitPre, BackPre, BackPost, AllPre, AllPost}
-use Rattle.run.specs.declared.undoing.FormEnd.{FormEnd}
-use Rattle.run.specs.declared.undoing.BackEnd.{BackEnd}
-use Rattle.run.proofs.StateLaws.{row-word, rowsOf-set, canonical-set}
-use Rattle.run.proofs.InsertLaws.{relinked-row, relinked-word}
+use Rattle.run.specs.Undoing.{cutIn, madeIn, FormPost, undoing, Whole, PlacesPost, FitPre}
 
 pub size-low : (k : ℕ) → 5 ≤ historySize k
 size-low k = by-cases (eqb k 67) (λ e. rw e (omega arith)) (λ e. rw e (omega arith))
@@ -253,8 +249,8 @@ module _ {b m : List ℕ} {at n : ℕ} (c : Forming b m at n) where
               ap (λ (ps : List Placed). undoFrom x ps (formFrom (length b + 1 - (n + 1)) at′ (n + 1) (drop at′ b))) grown ∙
               ap (λ (k : ℕ). undoFrom x (entry ∷ undoing b m n) (formFrom k at′ (n + 1) (drop at′ b))) f ∙
               ap (λ (j : ℕ). undoFrom x (entry ∷ undoing b m n) (formFrom (length b - n) j (n + 1) (drop j b))) e ∙
-              ap (λ (d : List ℕ). undoFrom x (entry ∷ undoing b m n) (formFrom (length b - n) (at + step) (n + 1) d)) (sym (drop-drop
-              step at b)) ∙
+              ap (λ (d : List ℕ). undoFrom x (entry ∷ undoing b m n) (formFrom (length b - n) (at + step) (n + 1) d)) (sym (drop-drop step
+              at b)) ∙
               ap (λ (k : ℕ). undoFrom x (entry ∷ undoing b m n) (formFrom (length b - n) (at + historySize k) (n + 1) (drop (historySize
               k) (drop at b)))) (sym first) ∙
               sym (undoFrom-placed x (undoing b m n) entry
@@ -286,7 +282,7 @@ parent-some l v e = rw (ne-eqb v 65535 e) (by-cases (eqb l 0) (λ z. root z (eqb
         (λ q. q ∙ sym (ne-eqb (l - 1) v (λ k. eqb-false l (v + 1) q (omega (arith, y))))))
 
 -- A ROW MADE, by the tests
-module _ {ws : List ℕ} {n : ℕ} {s : List ℕ} {size : ℕ} (pre : FitPre ws n s size) (ms : List ℕ) (row : ℕ) (here : row ≡ wordAt s 1) where
+module _ {ws : List ℕ} {n : ℕ} {s : List ℕ} {size : ℕ} (pre : FitPre ws n s size) (ms : List ℕ) {row : ℕ} (here : row ≡ wordAt s 1) where
   within : n ≤ length ws
   within = omega (arith, pre .rows, pre .few)
 
@@ -353,7 +349,7 @@ module _ {ws : List ℕ} {n : ℕ} {s : List ℕ} {size : ℕ} (pre : FitPre ws 
       pub cut-marked : any (model.isThe row) (map linked ms) ≡ true → cutFits x (cutIn s) ≡ false
       cut-marked e = cut-tests ∙ rw (eq-eqb (w / 4 % 1024) 0 root, e)
 
-      module _ (free : any (model.isThe row) (map linked ms) ≡ false) (v : ℕ) (there : v ≡ wordAt s 3) where
+      module _ (free : any (model.isThe row) (map linked ms) ≡ false) {v : ℕ} (there : v ≡ wordAt s 3) where
         cut-parent : cutFits x (cutIn s) ≡ oldParentFits x row (parentIn v)
         cut-parent =
             cut-tests ∙ rw (eq-eqb (w / 4 % 1024) 0 root, free) (ap (λ (j : ℕ). oldParentFits x row (parentIn j)) (sym there))

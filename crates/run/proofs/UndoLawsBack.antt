@@ -1,25 +1,25 @@
 -- Undo's parts: a record undone on the words, all of them back to front, and the call.
 use mathlib.Core.Path.{_≡_, refl, ap, sym, _∙_, subst}
-use mathlib.Core.Bool.{Bool, true, false, _&&_, not}
+use mathlib.Core.Bool.{Bool, true, false, not}
 use mathlib.Core.List.{List, [], _∷_, _++_, map}
-use mathlib.Core.Option.{Option, none, some}
-use Prim.Native.Nat.{ℕ, zero, suc, _+_, _*_, _-_, _/_, _%_, _≤_, _<_}
-use native.Mathlib.Numerals.{add-one}
+use mathlib.Core.Option.{none, some}
+use Prim.Native.Nat.{ℕ, suc, _+_, _*_, _-_, _/_, _%_, _≤_, _<_}
 use native.Mathlib.Omega.{arith}
-use lib.Dec.{ltb, leb, eqb}
-use lib.ListN.{length, getD, take, drop, set, replicate, length-set, length-drop, length-map, getD-replicate}
+use lib.Dec.{ltb, eqb}
+use lib.ListN.{length, getD, take, drop, set, replicate, length-drop, length-map, getD-replicate}
 use lib.Seq.{set-set, set-getD, take-set-le, take-suc, take-all, getD-append-add}
-use borrow.Author.Tests.{le-leb, eq-eqb, ne-eqb, ltb-true, eqb-true, eqb-false}
+use borrow.Author.Tests.{eq-eqb, ne-eqb, ltb-true, eqb-true}
 use Rattle.model.specs.Base.{pick}
 use Rattle.model.specs.Refusal.{fault, fine, linkAt}
 use Rattle.model.specs.Table as model
 use Rattle.model.specs.Stored.{wordAt, parentIn}
-use Rattle.model.specs.Undo.{historySize, recordIn, Placed, madeFits, oldParentFits, cutFits, undoFits, undone, Undo, refused, back, undoAll, undo}
-use Rattle.model.proofs.BoolLaws.{by-cases, true-false, and-left, pick-true, pick-false}
+use Rattle.model.specs.Undo.{historySize, recordIn, madeFits, oldParentFits, cutFits, undoFits, undone, refused}
+use Rattle.model.specs.Undo.{undoAll}
+use Rattle.model.proofs.BoolLaws.{true-false, and-left, pick-true, pick-false}
 use Rattle.model.proofs.TestLaws.{and-four, and-five}
 use Rattle.table.specs.Words.{linked, wordOf, rowOf, rowsOf, wordsOf, isRowWord, decodeParts}
 use Rattle.table.proofs.WordLaws.{linked-linkOf, count-decode, rowAt-decode, Canonical, wordsOf-snoc}
-use Rattle.run.specs.Undoing.{cutIn, madeIn, undoing, Whole, FitPre, BackPre, BackPost, AllPre, AllPost}
+use Rattle.run.specs.Undoing.{cutIn, madeIn, undoing, FitPre, BackPre, BackPost, AllPre, AllPost}
 use Rattle.run.specs.declared.undoing.BackEnd.{BackEnd}
 use Rattle.run.proofs.StateLaws.{row-word, rowsOf-set, canonical-set}
 use Rattle.run.proofs.InsertLaws.{relinked-row, relinked-word, rows-take}

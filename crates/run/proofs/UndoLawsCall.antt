@@ -1,16 +1,14 @@
 -- Undo's call: from the check's answer and what the parts leave to what it owes.
-use mathlib.Core.Path.{_≡_, refl, ap, sym, _∙_}
-use mathlib.Core.Bool.{Bool, true, false}
+use mathlib.Core.Path.{_≡_, ap, sym, _∙_}
+use mathlib.Core.Bool.{true, false}
 use mathlib.Core.List.{List}
-use Prim.Native.Nat.{ℕ, _≤_}
+use Prim.Native.Nat.{ℕ}
 use native.Mathlib.Omega.{arith}
 use lib.ListN.{length}
-use Rattle.model.specs.Base.{pick}
 use Rattle.model.specs.Refusal.{fine, linkAt}
 use Rattle.model.specs.Undo.{Undo, undo}
 use Rattle.model.proofs.BoolLaws.{pick-true, pick-false}
-use Rattle.table.specs.Words.{encode, decode, fits}
-use Rattle.table.specs.Fitting.{Words}
+use Rattle.table.specs.Words.{decode, fits}
 use Rattle.table.specs.declared.Table.{Table}
 use Rattle.table.proofs.WordLaws.{encode-decode}
 use Rattle.table.proofs.CallLaws.{fits-at}

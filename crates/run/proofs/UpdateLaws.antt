@@ -3,14 +3,14 @@ use mathlib.Core.Path.{_≡_, refl, ap, sym, _∙_, subst}
 use mathlib.Core.Bool.{Bool, true, false}
 use mathlib.Core.List.{List, [], _∷_, _++_, map}
 use mathlib.Core.Option.{Option, none, some, Option·none-ne-some}
-use Prim.Native.Nat.{ℕ, zero, suc, _+_, _*_, _-_, _/_, _%_, _≤_, _<_}
+use Prim.Native.Nat.{ℕ, _+_, _*_, _-_, _/_, _%_, _≤_, _<_}
 use native.Mathlib.Omega.{arith}
 use lib.Dec.{ltb, leb, eqb}
 use native.Mathlib.Numerals.{add-one}
 use lib.ListN.{length, getD, take, drop, set, length-set, drop-of-length-le}
 use lib.Seq.{drop-cons}
-use borrow.Author.Tests.{lt-ltb, le-ltb, eq-eqb, ne-eqb, leb-true}
-use Rattle.model.specs.Base.{pick, isIn}
+use borrow.Author.Tests.{lt-ltb, le-ltb, ne-eqb, leb-true}
+use Rattle.model.specs.Base.{isIn}
 use Rattle.model.specs.Refusal.{fault}
 use Rattle.model.specs.Table as model
 use Rattle.model.specs.History.{Record, recordBytes}
@@ -23,7 +23,7 @@ use Rattle.model.proofs.HistoryLaws.{isCut-made}
 use Rattle.model.proofs.UndoLaws.{made-inRange}
 use Rattle.table.specs.Words.{linkOf, linked, rowOf, wordOf, rowsOf, wordsOf, isRowWord, decodeParts}
 use Rattle.table.specs.Writing.{over}
-use Rattle.table.proofs.WordLaws.{linkOf-linked, rowOf-wordOf, wordOf-rowOf, count-decode, rowAt-decode, canonical-push}
+use Rattle.table.proofs.WordLaws.{linkOf-linked, rowOf-wordOf, wordOf-rowOf, rowAt-decode, canonical-push}
 use Rattle.table.proofs.ReadLaws.{decode-row}
 use Rattle.run.specs.State.{recordsIn, stateOf, outcome, Recorded, Held, After, Updated, stopped}
 use Rattle.run.specs.Updating.{NewPre, CutPre}
@@ -54,22 +54,22 @@ tag-byte w h =
     )
 
 -- A ROW MADE
-module _ (ws h : List ℕ) (p : Progress) (w : ℕ) (pre : NewPre ws h p w) where
+module _ {ws h : List ℕ} {p : Progress} {w : ℕ} (pre : NewPre ws h p w) where
   new-link : linkOf (rowOf w .parent) < 1024
   new-link = omega (arith, linkOf-linked (w / 4 % 1024))
 
-  pub new-full : 512 ≤ p .count → (ws′ h′ : List ℕ) (r : Progress) → r ≡ stopped p 10 →
+  pub new-full : 512 ≤ p .count → {ws′ h′ : List ℕ} {r : Progress} → r ≡ stopped p 10 →
       Updated (λ z s. newRow z (rowOf w) s) (p .count ∷ []) ws h p ws′ h′ r
-  new-full l ws′ h′ r e =
-      updated-stopped (λ z s. newRow z (rowOf w) s) (p .count ∷ []) ws h p ws′ h′ r 9 e
-      (λ z ms. sym (newRow-full z (rowOf w) (stateOf ws ms h p) (omega (arith, held-count ws h p (pre .held) ms))))
+  new-full l e =
+      updated-stopped 9 e
+      (λ z ms. sym (newRow-full z (rowOf w) (stateOf ws ms h p) (omega (arith, held-count (pre .held) ms))))
 
-  pub new-over : p .count < 512 → 2048 ≤ p .made + p .cut → (ws′ h′ : List ℕ) (r : Progress) → r ≡ stopped p 9 →
+  pub new-over : p .count < 512 → 2048 ≤ p .made + p .cut → {ws′ h′ : List ℕ} {r : Progress} → r ≡ stopped p 9 →
       Updated (λ z s. newRow z (rowOf w) s) (p .count ∷ []) ws h p ws′ h′ r
-  new-over l m ws′ h′ r e =
-      updated-stopped (λ z s. newRow z (rowOf w) s) (p .count ∷ []) ws h p ws′ h′ r 8 e
+  new-over l m e =
+      updated-stopped 8 e
       (λ z ms.
-      sym (newRow-over z (rowOf w) (stateOf ws ms h p) (omega (arith, held-count ws h p (pre .held) ms))
+      sym (newRow-over z (rowOf w) (stateOf ws ms h p) (omega (arith, held-count (pre .held) ms))
       (omega (arith, pre .held .history .records))))
 
   module _ (l : p .count < 512) (m : p .made + p .cut < 2048) where
@@ -87,7 +87,7 @@ module _ (ws h : List ℕ) (p : Progress) (w : ℕ) (pre : NewPre ws h p w) wher
 
     entry-range : IsInRange entry
     entry-range =
-        let e : model.count (decodeParts (p .count) ws []) ≡ p .count = held-count ws h p (pre .held) [] in
+        let e : model.count (decodeParts (p .count) ws []) ≡ p .count = held-count (pre .held) [] in
         subst (λ (j : ℕ). IsInRange (made (rowOf w) j)) e
         (made-inRange (decodeParts (p .count) ws []) (rowOf w) (omega arith) (pre .tag)
         (subst (λ (j : ℕ). model.parentFits (decodeParts (p .count) ws []) j (rowOf w .parent) ≡ true) (sym e) (pre .parent)))
@@ -103,9 +103,9 @@ module _ (ws h : List ℕ) (p : Progress) (w : ℕ) (pre : NewPre ws h p w) wher
     state-made : (ms : List ℕ) → stateOf rows′ ms history′ after′ ≡ withMade (stateOf ws ms h p) (rowOf w)
     state-made ms =
         let e : recordsIn (take (p .bytes + 6) history′) ≡ recordsIn (take (p .bytes) h) ++ (entry ∷ []) =
-        append-records ws h p (pre .held) entry 6 entry-size (omega arith) m entry-range in
+        append-records (pre .held) entry 6 entry-size (omega arith) m entry-range in
         let g : recordsIn (take (p .bytes) h) ++ (entry ∷ []) ≡ withMade (stateOf ws ms h p) (rowOf w) .history =
-        ap (λ (j : ℕ). recordsIn (take (p .bytes) h) ++ (made (rowOf w) j ∷ [])) (sym (held-count ws h p (pre .held) ms)) in
+        ap (λ (j : ℕ). recordsIn (take (p .bytes) h) ++ (made (rowOf w) j ∷ [])) (sym (held-count (pre .held) ms)) in
         ap (λ (x : model.Table). state x (recordsIn (take (p .bytes + 6) history′))) (table-made ms) ∙
         ap (state (model.withRow (decodeParts (p .count) ws ms) (rowOf w))) (e ∙ g)
 
@@ -114,7 +114,7 @@ module _ (ws h : List ℕ) (p : Progress) (w : ℕ) (pre : NewPre ws h p w) wher
         record {
           fine = refl;
           rows = length-set ws (p .count) w ∙ pre .held .rows;
-          area = omega (arith, pre .held .area, append-area ws h p (pre .held) entry 6 entry-size (omega arith) m);
+          area = omega (arith, pre .held .area, append-area (pre .held) entry 6 entry-size (omega arith) m);
           few = omega arith;
           canonical =
               ap (λ (j : ℕ). wordsOf (rowsOf (p .count + 1) (set ws (p .count) j))) (sym (wordOf-rowOf w (pre .word))) ∙
@@ -124,13 +124,13 @@ module _ (ws h : List ℕ) (p : Progress) (w : ℕ) (pre : NewPre ws h p w) wher
               subst (λ (x : model.Table). Tree x) (sym (table-made []))
               (tree-withRow (decodeParts (p .count) ws []) (rowOf w) (pre .held .tree) (pre .tag)
               (subst (λ (j : ℕ). model.parentFits (decodeParts (p .count) ws []) j (rowOf w .parent) ≡ true)
-              (sym (held-count ws h p (pre .held) [])) (pre .parent)));
+              (sym (held-count (pre .held) [])) (pre .parent)));
           size = omega (arith, pre .held .size);
           history =
-              subst (λ (b : List ℕ). Recorded b (p .made + 1) (p .cut)) (sym (append-written ws h p (pre .held) entry 6 entry-size (omega
-              arith) m))
-              (recorded-made (take (p .bytes) h) (p .made) (p .cut) (pre .held .history) entry entry-range (isCut-made (rowOf w) (p
-              .count)) m);
+              subst (λ (b : List ℕ). Recorded b (p .made + 1) (p .cut)) (sym (append-written (pre .held) entry 6 entry-size (omega arith)
+              m))
+              (recorded-made (take (p .bytes) h) (p .made) (p .cut) (pre .held .history) entry entry-range (isCut-made (rowOf w)
+              (p .count)) m);
         }
 
     after-made : After ws h p rows′ history′ after′
@@ -139,24 +139,24 @@ module _ (ws h : List ℕ) (p : Progress) (w : ℕ) (pre : NewPre ws h p w) wher
           held = held-made;
           rows = omega arith;
           bytes = omega arith;
-          area = append-area ws h p (pre .held) entry 6 entry-size (omega arith) m;
-          rest = append-rest ws h p (pre .held) entry 6 entry-size (omega arith) m;
+          area = append-area (pre .held) entry 6 entry-size (omega arith) m;
+          rest = append-rest (pre .held) entry 6 entry-size (omega arith) m;
         }
 
-    pub new-made : (h′ : List ℕ) → h′ ≡ history′ → Updated (λ z s. newRow z (rowOf w) s) (p .count ∷ []) ws h p rows′ h′ after′
-    new-made h′ e =
+    pub new-made : {h′ : List ℕ} → h′ ≡ history′ → Updated (λ z s. newRow z (rowOf w) s) (p .count ∷ []) ws h p rows′ h′ after′
+    new-made e =
         subst (λ (v : List ℕ). Updated (λ z s. newRow z (rowOf w) s) (p .count ∷ []) ws h p rows′ v after′) (sym e)
         (record {
           same = λ z ms.
               ap (λ (s : State). gives (p .count ∷ []) s) (state-made ms) ∙
-              ap (λ (j : ℕ). gives (j ∷ []) (withMade (stateOf ws ms h p) (rowOf w))) (sym (held-count ws h p (pre .held) ms)) ∙
-              sym (newRow-room z (rowOf w) (stateOf ws ms h p) (omega (arith, held-count ws h p (pre .held) ms))
+              ap (λ (j : ℕ). gives (j ∷ []) (withMade (stateOf ws ms h p) (rowOf w))) (sym (held-count (pre .held) ms)) ∙
+              sym (newRow-room z (rowOf w) (stateOf ws ms h p) (omega (arith, held-count (pre .held) ms))
               (omega (arith, pre .held .history .records)));
           after = λ z. after-made;
         })
 
 -- WITHOUT PARENT: an element with a name, or a leaf with a value
-module _ (b : Bool) (t w : ℕ) (e : w ≡ wordOf (loose b t)) where
+module _ (b : Bool) (t : ℕ) {w : ℕ} (e : w ≡ wordOf (loose b t)) where
   loose-row : rowOf w ≡ loose b t
   loose-row = ap rowOf e ∙ rowOf-wordOf (loose b t) (omega arith)
 
@@ -167,8 +167,8 @@ module _ (b : Bool) (t w : ℕ) (e : w ≡ wordOf (loose b t)) where
       go true = let k : (2 + 4 * 0 + 4096 * t) % 4 ≡ 2 = omega arith in rw k
       go false = let k : (1 + 4 * 0 + 4096 * t) % 4 ≡ 1 = omega arith in rw k
 
-  pub loose-pre : (ws h : List ℕ) (p : Progress) → Held ws h p → model.tagFits (loose b t) ≡ true → NewPre ws h p w
-  loose-pre ws h p held f =
+  pub loose-pre : {ws h : List ℕ} {p : Progress} → Held ws h p → model.tagFits (loose b t) ≡ true → NewPre ws h p w
+  loose-pre {ws} {h} {p} held f =
       record {
         held = held;
         word = loose-word;
@@ -176,9 +176,9 @@ module _ (b : Bool) (t w : ℕ) (e : w ≡ wordOf (loose b t)) where
         parent = ap (λ (r : model.Row). model.parentFits (decodeParts (p .count) ws []) (p .count) (r .parent)) loose-row;
       }
 
-  pub loose-made : (v ws h : List ℕ) (p : Progress) (ws′ h′ : List ℕ) (r : Progress) →
+  pub loose-made : {v ws h : List ℕ} {p : Progress} {ws′ h′ : List ℕ} {r : Progress} →
       Updated (λ z s. newRow z (rowOf w) s) v ws h p ws′ h′ r → Updated (λ z s. newRow z (loose b t) s) v ws h p ws′ h′ r
-  loose-made v ws h p ws′ h′ r u = subst (λ (q : model.Row). Updated (λ z s. newRow z q s) v ws h p ws′ h′ r) loose-row u
+  loose-made {v} {ws} {h} {p} {ws′} {h′} {r} u = subst (λ (q : model.Row). Updated (λ z s. newRow z q s) v ws h p ws′ h′ r) loose-row u
 
 -- DELETE in the model
 module _ (z i : ℕ) (is : List ℕ) (s : State) where
@@ -208,7 +208,7 @@ unlinked-row w =
 unlinked-word : (w : ℕ) → isRowWord w ≡ true → isRowWord (w % 4 + 4096 * (w / 4096)) ≡ true
 unlinked-word w h = let a : (w % 4 + 4096 * (w / 4096)) % 4 ≡ w % 4 = omega arith in ap (isIn 1 2) a ∙ h
 
-module _ (ws h : List ℕ) (p : Progress) (i : ℕ) (pre : CutPre ws h p i) where
+module _ {ws h : List ℕ} {p : Progress} {i : ℕ} (pre : CutPre ws h p i) where
   abbrev word : ℕ
   word = getD ws i 0
 
@@ -226,7 +226,7 @@ module _ (ws h : List ℕ) (p : Progress) (i : ℕ) (pre : CutPre ws h p i) wher
   cut-root e =
       record {
         same = λ z ms. outcome-gives z [] ws ms h p (pre .held .fine) ∙ sym (cut-none z i [] (stateOf ws ms h p) (row-here ms ∙ rw e));
-        after = λ q. after-self ws h p (pre .held);
+        after = λ q. after-self (pre .held);
       }
 
   module _ (n : link ≡ 0 → ⊥) where
@@ -236,10 +236,10 @@ module _ (ws h : List ℕ) (p : Progress) (i : ℕ) (pre : CutPre ws h p i) wher
     pub cut-low : link - 1 < 512
     cut-low = omega (arith, pre .held .tree .parents i (link - 1) (parent-here []) .0, pre .row, pre .held .few)
 
-    pub cut-full : 2048 ≤ p .made + p .cut → (ws′ h′ : List ℕ) (r : Progress) → r ≡ stopped p 9 →
+    pub cut-full : 2048 ≤ p .made + p .cut → {ws′ h′ : List ℕ} {r : Progress} → r ≡ stopped p 9 →
         Updated (λ z s. cutAll z (i ∷ []) s) [] ws h p ws′ h′ r
-    cut-full m ws′ h′ r e =
-        updated-stopped (λ z s. cutAll z (i ∷ []) s) [] ws h p ws′ h′ r 8 e
+    cut-full m e =
+        updated-stopped 8 e
         (λ z ms. sym (cut-over z i [] (stateOf ws ms h p) (link - 1) (parent-here ms) (omega (arith, pre .held .history .records))))
 
     module _ (m : p .made + p .cut < 2048) where
@@ -279,20 +279,20 @@ module _ (ws h : List ℕ) (p : Progress) (i : ℕ) (pre : CutPre ws h p i) wher
       state-cut ms =
           ap (λ (x : model.Table). state x (recordsIn (take (p .bytes + 5) cutHistory))) (table-cut ms) ∙
           ap (state (model.linked (decodeParts (p .count) ws ms) i none))
-          (append-records ws h p (pre .held) cutEntry 5 refl (omega arith) m cut-range)
+          (append-records (pre .held) cutEntry 5 refl (omega arith) m cut-range)
 
       tree-cut : Tree (decodeParts (p .count) cutRows [])
       tree-cut =
           subst (λ (x : model.Table). Tree x) (sym (table-cut []))
           (tree-linked (decodeParts (p .count) ws []) i none (pre .held .tree)
-          (omega (arith, pre .row, held-count ws h p (pre .held) [])) (λ q e. absurd (Option·none-ne-some q e)) (λ d e. refl))
+          (omega (arith, pre .row, held-count (pre .held) [])) (λ q e. absurd (Option·none-ne-some q e)) (λ d e. refl))
 
       held-cut : Held cutRows cutHistory cutAfter
       held-cut =
           record {
             fine = refl;
             rows = length-set ws i cutWord ∙ pre .held .rows;
-            area = omega (arith, pre .held .area, append-area ws h p (pre .held) cutEntry 5 refl (omega arith) m);
+            area = omega (arith, pre .held .area, append-area (pre .held) cutEntry 5 refl (omega arith) m);
             few = pre .held .few;
             canonical =
                 canonical-set (p .count) ws (pre .held .canonical) cut-within i (pre .row) cutWord
@@ -301,7 +301,7 @@ module _ (ws h : List ℕ) (p : Progress) (i : ℕ) (pre : CutPre ws h p i) wher
             size = omega (arith, pre .held .size);
             history =
                 subst (λ (b : List ℕ). Recorded b (p .made) (p .cut + 1))
-                (sym (append-written ws h p (pre .held) cutEntry 5 refl (omega arith) m))
+                (sym (append-written (pre .held) cutEntry 5 refl (omega arith) m))
                 (recorded-cut (take (p .bytes) h) (p .made) (p .cut) (pre .held .history) cutEntry cut-range refl m);
           }
 
@@ -317,14 +317,14 @@ module _ (ws h : List ℕ) (p : Progress) (i : ℕ) (pre : CutPre ws h p i) wher
                   held = held-cut;
                   rows = omega arith;
                   bytes = omega arith;
-                  area = append-area ws h p (pre .held) cutEntry 5 refl (omega arith) m;
-                  rest = append-rest ws h p (pre .held) cutEntry 5 refl (omega arith) m;
+                  area = append-area (pre .held) cutEntry 5 refl (omega arith) m;
+                  rest = append-rest (pre .held) cutEntry 5 refl (omega arith) m;
                 };
           }
 
-      pub cut-done : (w′ l : ℕ) → w′ ≡ cutWord → l ≡ link → (h′ : List ℕ) → h′ ≡ over (p .bytes) (recordBytes (cutRecord i (l - 1))) h →
+      pub cut-done : {w′ l : ℕ} → w′ ≡ cutWord → l ≡ link → {h′ : List ℕ} → h′ ≡ over (p .bytes) (recordBytes (cutRecord i (l - 1))) h →
           Updated (λ z s. cutAll z (i ∷ []) s) [] ws h p (set ws i w′) h′ cutAfter
-      cut-done w′ l e f h′ g =
+      cut-done e f {h′} g =
           subst (λ (j : ℕ). Updated (λ z s. cutAll z (i ∷ []) s) [] ws h p (set ws i j) h′ cutAfter) (sym e)
           (subst (λ (v : List ℕ). Updated (λ z s. cutAll z (i ∷ []) s) [] ws h p cutRows v cutAfter)
           (sym (g ∙ ap (λ (j : ℕ). over (p .bytes) (recordBytes (cutRecord i (j - 1))) h) f)) updated-cut)
@@ -339,16 +339,15 @@ cutAll-split z i is s = go (model.rowAt (s .plan) i .parent)
     go none = refl
     go (some q) = by-cases (ltb (length (s .history)) 2048) (λ e. rw e) (λ e. rw e)
 
-module _ (ws₀ h₀ : List ℕ) (p₀ : Progress) (v : List ℕ) (ws h : List ℕ) (p : Progress) (k : ℕ) where
-  -- the loop's invariant
-  pub record Deleting : Type 0 where
-    pub after : After ws₀ h₀ p₀ ws h p
-    pub within : k ≤ length v
-    pub rest : (z : ℕ) (ms : List ℕ) → cutAll z (drop k v) (stateOf ws ms h p) ≡ cutAll z v (stateOf ws₀ ms h₀ p₀)
+pub record Deleting (ws₀ h₀ : List ℕ) (p₀ : Progress) (v ws h : List ℕ) (p : Progress) (k : ℕ) : Type 0 where
+  pub after : After ws₀ h₀ p₀ ws h p
+  pub within : k ≤ length v
+  pub rest : (z : ℕ) (ms : List ℕ) → cutAll z (drop k v) (stateOf ws ms h p) ≡ cutAll z v (stateOf ws₀ ms h₀ p₀)
 
-  pub delete-end : Deleting → length v ≤ k → Updated (λ z s. cutAll z v s) [] ws₀ h₀ p₀ ws h p
+module _ {ws₀ h₀ : List ℕ} {p₀ : Progress} {v ws h : List ℕ} {p : Progress} {k : ℕ} (d : Deleting ws₀ h₀ p₀ v ws h p k) where
+  pub delete-end : length v ≤ k → Updated (λ z s. cutAll z v s) [] ws₀ h₀ p₀ ws h p
   unfolding cutAll
-  delete-end d l =
+  delete-end l =
       record {
         same = λ z ms.
             outcome-gives z [] ws ms h p (d .after .held .fine) ∙
@@ -356,7 +355,7 @@ module _ (ws₀ h₀ : List ℕ) (p₀ : Progress) (v : List ℕ) (ws h : List �
         after = λ q. d .after;
       }
 
-  module _ (d : Deleting) (l : k < length v) (i : ℕ) (e : i ≡ getD v k 0) (ws′ h′ : List ℕ) (r : Progress)
+  module _ (l : k < length v) {i : ℕ} (e : i ≡ getD v k 0) {ws′ h′ : List ℕ} {r : Progress}
       (u : Updated (λ z s. cutAll z (i ∷ []) s) [] ws h p ws′ h′ r) where
     delete-turn : (z : ℕ) (ms : List ℕ) →
         thenRow (outcome z [] ws′ ms h′ r) (λ (t : State). cutAll z (drop (k + 1) v) t) ≡ cutAll z v (stateOf ws₀ ms h₀ p₀)
@@ -380,7 +379,7 @@ module _ (ws₀ h₀ : List ℕ) (p₀ : Progress) (v : List ℕ) (ws h : List �
     pub delete-again : r .number ≡ 0 → After ws₀ h₀ p₀ ws′ h′ r ×
         ((z : ℕ) (ms : List ℕ) → cutAll z (drop (k + 1) v) (stateOf ws′ ms h′ r) ≡ cutAll z v (stateOf ws₀ ms h₀ p₀))
     delete-again n = (
-      after-then ws₀ h₀ p₀ ws h p ws′ h′ r (d .after) (u .after n),
+      after-then (d .after) (u .after n),
       λ z ms.
           sym (ap (λ (o : Out). thenRow o (λ (t : State). cutAll z (drop (k + 1) v) t)) (outcome-gives z [] ws′ ms h′ r n)) ∙ delete-turn
           z ms,

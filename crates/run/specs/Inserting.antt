@@ -3,13 +3,12 @@ use mathlib.Core.Path.{_≡_}
 use mathlib.Core.Bool.{true}
 use mathlib.Core.Logic.{_⊎_}
 use mathlib.Core.List.{List, [], _∷_}
-use mathlib.Core.Option.{some}
 use Prim.Native.Nat.{ℕ, zero, suc, _+_, _-_, _/_, _%_, _≤_, _<_}
 use lib.Dec.{ltb, eqb}
 use lib.ListN.{length, getD, take, set}
 use Rattle.model.specs.Base.{pick}
 use Rattle.model.specs.Table as model
-use Rattle.model.specs.Run.{State, Out, gives, newRow, thenRow, Copied, copyEach, descendantsFrom, subtree, copyAll}
+use Rattle.model.specs.Run.{State, Out, gives, newRow, thenRow, Copied, copyEach, descendantsFrom, subtree, copyAll, inserted}
 use Rattle.table.specs.Words.{linked, rowOf, rowsOf, decodeParts}
 use Rattle.run.specs.State.{Held, Updated}
 use Rattle.run.specs.Updating.{Within}
@@ -96,3 +95,6 @@ pub record InsertPre (ws h : List ℕ) (p : Progress) (v w : List ℕ) : Type 0 
   pub held : Held ws h p
   pub items : Within v (p .count)
   pub targets : Within w (p .count)
+
+abbrev pub InsertPost : (ws h : List ℕ) → (p : Progress) → (v w ws′ h′ : List ℕ) → (r : Progress) → Type 0
+InsertPost ws h p v w ws′ h′ r = Updated (λ z s. inserted z v w s) [] ws h p ws′ h′ r

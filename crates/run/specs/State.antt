@@ -23,6 +23,13 @@ recordsFrom (suc k) b = pick (eqb (length b) 0) [] (recordIn b ∷ recordsFrom k
 abbrev pub recordsIn : (bytes : List ℕ) → List Record
 recordsIn b = recordsFrom (length b) b
 
+-- PROGRESS at a run's start, and with a refusal
+abbrev pub started : (count : ℕ) → Progress
+started n = record { number = 0; count = n; bytes = 0; made = 0; cut = 0 }
+
+abbrev pub stopped : Progress → (number : ℕ) → Progress
+stopped p n = record { number = n; count = p .count; bytes = p .bytes; made = p .made; cut = p .cut }
+
 -- THE STATE that rows, marks and history stand for
 abbrev pub stateOf : (rows marks history : List ℕ) → Progress → State
 stateOf ws ms h p = state (decodeParts (p .count) ws ms) (recordsIn (take (p .bytes) h))
@@ -62,7 +69,3 @@ pub record After (ws h : List ℕ) (p : Progress) (ws′ h′ : List ℕ) (r : P
 pub record Updated (f : (place : ℕ) → State → Out) (v ws h : List ℕ) (p : Progress) (ws′ h′ : List ℕ) (r : Progress) : Type 0 where
   pub same : (z : ℕ) (ms : List ℕ) → outcome z v ws′ ms h′ r ≡ f z (stateOf ws ms h p)
   pub after : r .number ≡ 0 → After ws h p ws′ h′ r
-
--- a refusal
-abbrev pub stopped : Progress → (number : ℕ) → Progress
-stopped p n = record { number = n; count = p .count; bytes = p .bytes; made = p .made; cut = p .cut }

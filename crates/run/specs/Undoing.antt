@@ -1,8 +1,7 @@
 -- What undo answers, for every input, and the contracts of its parts. Assumes nothing: these are definitions.
 use mathlib.Core.Path.{_≡_}
-use mathlib.Core.Bool.{Bool}
 use mathlib.Core.List.{List, [], _∷_}
-use Prim.Native.Nat.{ℕ, zero, suc, _+_, _≤_, _<_}
+use Prim.Native.Nat.{ℕ, zero, suc, _≤_, _<_}
 use lib.Dec.{eqb}
 use lib.ListN.{length, getD, drop}
 use Rattle.model.specs.Base.{pick}
@@ -10,8 +9,8 @@ use Rattle.model.specs.Refusal as refusal
 use Rattle.model.specs.Table as model
 use Rattle.model.specs.Stored.{wordAt, parentIn}
 use Rattle.model.specs.History.{Record, cutKind}
-use Rattle.model.specs.Undo.{historySize, recordIn, Placed, Formed, broken, formed, formFault, undoFits, undone, Undo, refused, back, undoAll, backwards, undo}
-use Rattle.table.specs.Words.{rowsOf, wordsOf, encode, decode, decodeParts, fits}
+use Rattle.model.specs.Undo.{historySize, recordIn, Placed, formFault, undoFits, undone, Undo, refused, back, undoAll, undo}
+use Rattle.table.specs.Words.{rowsOf, wordsOf, decode, decodeParts, fits}
 use Rattle.table.specs.Reading.{faultAt}
 use Rattle.table.specs.Calls.{faultOf, result}
 use Rattle.table.specs.declared.Table.{Table}

@@ -7,7 +7,7 @@ ghost use Rattle.model.specs.History.{recordBytes};
 ghost use Rattle.model.specs.Run.{made, cutRecord};
 ghost use Rattle.table.specs.Words.{linked, rowOf};
 ghost use Rattle.table.specs.Writing.{over};
-ghost use Rattle.run.specs.Updating.{madeKind, sixBytes, fiveBytes};
+ghost use Rattle.run.specs.Updating.{madeKind, sixBytes};
 use table::words;
 
 pub const ELEMENT: u8 = 0x41;

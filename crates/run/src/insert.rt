@@ -1,11 +1,9 @@
 // Insert: copies of rows with all their descendants, as the table was before, under a target.
 ghost use mathlib.Core.Path.{_≡_};
-ghost use mathlib.Core.List.{[]};
 ghost use Prim.Native.Nat.{_≤_, _<_};
 ghost use lib.ListN.{length};
-ghost use Rattle.model.specs.Run.{inserted};
-ghost use Rattle.run.specs.State.{Updated};
-ghost use Rattle.run.specs.Inserting.{copyLink, NextPre, NextPost, RestPre, RestPost, ItemPre, ItemPost, ItemsPre, ItemsPost, InsertPre};
+ghost use Rattle.run.specs.Inserting.{copyLink, NextPre, NextPost, RestPre, RestPost, ItemPre, ItemPost};
+ghost use Rattle.run.specs.Inserting.{ItemsPre, ItemsPost, InsertPre, InsertPost};
 use crate::state::Progress;
 use crate::update;
 use table::Fault;
@@ -49,7 +47,8 @@ fn copy_next(
     j: usize,
 ) -> Progress
     requires { ⌜ NextPre (now rows) (now history) (now map) p top j ⌝ }
-    ensures { λ r. ⌜ NextPost (now (rows .entry)) (now (history .entry)) (now (map .entry)) p top j (now (rows .exit)) (now (history .exit)) (now (map .exit)) r ⌝ }
+    ensures { λ r. ⌜ NextPost (now (rows .entry)) (now (history .entry)) (now (map .entry)) p top j
+        (now (rows .exit)) (now (history .exit)) (now (map .exit)) r ⌝ }
 {
     let w = rows[j];
     let link = copy_link(map, top, words::link(w));
@@ -72,7 +71,8 @@ fn copy_rest(
     top: usize,
 ) -> Progress
     requires { ⌜ RestPre (now rows) (now history) (now map) p old top ⌝ }
-    ensures { λ r. ⌜ RestPost (now (rows .entry)) (now (history .entry)) (now (map .entry)) p old top (now (rows .exit)) (now (history .exit)) r ⌝ }
+    ensures { λ r. ⌜ RestPost (now (rows .entry)) (now (history .entry)) (now (map .entry)) p old top
+        (now (rows .exit)) (now (history .exit)) r ⌝ }
 {
     let mut now = p;
     let mut j = top + 1;
@@ -119,7 +119,8 @@ fn copy_items(
     target: usize,
 ) -> Progress
     requires { ⌜ ItemsPre (now rows) (now history) (now map) p (now items) target ⌝ }
-    ensures { λ r. ⌜ ItemsPost (now (rows .entry)) (now (history .entry)) p (now (items .entry)) target (now (rows .exit)) (now (history .exit)) r ⌝ }
+    ensures { λ r. ⌜ ItemsPost (now (rows .entry)) (now (history .entry)) p (now (items .entry)) target
+        (now (rows .exit)) (now (history .exit)) r ⌝ }
 {
     let old = p.count;
     let mut now = p;
@@ -143,14 +144,15 @@ pub fn insert(
     targets: &[u16],
 ) -> Progress
     requires { ⌜ InsertPre (now rows) (now history) p (now items) (now targets) ⌝ }
-    ensures { λ r. ⌜ Updated (λ z s. inserted z (now (items .entry)) (now (targets .entry)) s) [] (now (rows .entry)) (now (history .entry)) p (now (rows .exit)) (now (history .exit)) r ⌝ }
+    ensures { λ r. ⌜ InsertPost (now (rows .entry)) (now (history .entry)) p (now (items .entry)) (now (targets .entry))
+        (now (rows .exit)) (now (history .exit)) r ⌝ }
 {
     if targets.len() != 1 {
-        return update::refused(p, Fault::TARGET);
+        return p.refused(Fault::TARGET);
     }
     let target = index(targets[0]);
     if words::kind(rows[target]) == words::LEAF {
-        return update::refused(p, Fault::TARGET);
+        return p.refused(Fault::TARGET);
     }
     let mut map = [0u16; Table::ROWS];
     copy_items(rows, history, &mut map, p, items, target)

@@ -237,7 +237,8 @@ pub fn undo_all(
     records: usize,
 ) -> BackEnd
     requires { ⌜ AllPre (now rows) count (now bytes) (now places) records ⌝ }
-    ensures { λ r. ⌜ AllPost (now (rows .entry)) (now (marks .entry)) count (now (bytes .entry)) (now (places .entry)) records (now (rows .exit)) r ⌝ }
+    ensures { λ r. ⌜ AllPost (now (rows .entry)) (now (marks .entry)) count (now (bytes .entry)) (now (places .entry)) records
+        (now (rows .exit)) r ⌝ }
 {
     let mut left = count;
     let mut k = records;

@@ -2,13 +2,9 @@
 ghost use mathlib.Core.Path.{_≡_};
 ghost use mathlib.Core.List.{[], _∷_};
 ghost use Prim.Native.Nat.{_+_, _*_, _/_, _%_, _<_};
-ghost use Rattle.model.specs.Run.{newRow, loose, cutAll};
-ghost use Rattle.model.specs.Table.{withParent};
 ghost use mathlib.Core.Bool.{true, false};
-ghost use mathlib.Core.Option.{none};
-ghost use Rattle.table.specs.Words.{rowOf};
-ghost use Rattle.run.specs.State.{Held, Updated, stopped};
-ghost use Rattle.run.specs.Updating.{NewPre, ElementPre, CutPre, DeletePre};
+ghost use Rattle.run.specs.State.{Held};
+ghost use Rattle.run.specs.Updating.{NewPre, NewPost, ElementPre, LoosePost, CutPre, DeletePre, DeletePost};
 use crate::history;
 use crate::state::Progress;
 use table::Fault;
@@ -16,31 +12,18 @@ use table::NameNumber;
 use table::Table;
 use table::words;
 
-// The same progress, with a refusal.
-pub fn refused(p: Progress, number: u8) -> Progress
-    ensures { λ r. ⌜ r ≡ stopped p number ⌝ }
-{
-    Progress {
-        number,
-        count: p.count,
-        bytes: p.bytes,
-        made: p.made,
-        cut: p.cut,
-    }
-}
-
 // Row w more, with its record: 10 when the table is full, then 9 when the history is.
 pub fn new_row(rows: &mut [u32], history: &mut [u8], p: Progress, w: u32) -> Progress
     requires { ⌜ NewPre (now rows) (now history) p w ⌝ }
-    ensures { λ r. ⌜ Updated (λ z s. newRow z (rowOf w) s) (p .count ∷ []) (now (rows .entry)) (now (history .entry)) p (now (rows .exit)) (now (history .exit)) r ⌝ }
+    ensures { λ r. ⌜ NewPost (now (rows .entry)) (now (history .entry)) p w (now (rows .exit)) (now (history .exit)) r ⌝ }
 {
     let count = p.count;
     let at = p.bytes;
     if Table::ROWS <= count {
-        return refused(p, Fault::TABLE);
+        return p.refused(Fault::TABLE);
     }
     if history::RECORDS <= p.made + p.cut {
-        return refused(p, Fault::HISTORY);
+        return p.refused(Fault::HISTORY);
     }
     rows[count] = w;
     history::put_made(history, at, count, w);
@@ -56,7 +39,7 @@ pub fn new_row(rows: &mut [u32], history: &mut [u8], p: Progress, w: u32) -> Pro
 // A new element without parent.
 pub fn new_element(rows: &mut [u32], history: &mut [u8], p: Progress, name: NameNumber) -> Progress
     requires { ⌜ ElementPre (now rows) (now history) p (name .0) ⌝ }
-    ensures { λ r. ⌜ Updated (λ z s. newRow z (loose false (name .0)) s) (p .count ∷ []) (now (rows .entry)) (now (history .entry)) p (now (rows .exit)) (now (history .exit)) r ⌝ }
+    ensures { λ r. ⌜ LoosePost (now (rows .entry)) (now (history .entry)) p false (name .0) (now (rows .exit)) (now (history .exit)) r ⌝ }
 {
     let tag = name.0;
     new_row(rows, history, p, words::word(words::ELEMENT, 0, tag as u32))
@@ -65,7 +48,7 @@ pub fn new_element(rows: &mut [u32], history: &mut [u8], p: Progress, name: Name
 // A new leaf without parent.
 pub fn new_leaf(rows: &mut [u32], history: &mut [u8], p: Progress, value: u8) -> Progress
     requires { ⌜ Held (now rows) (now history) p ⌝ }
-    ensures { λ r. ⌜ Updated (λ z s. newRow z (loose true value) s) (p .count ∷ []) (now (rows .entry)) (now (history .entry)) p (now (rows .exit)) (now (history .exit)) r ⌝ }
+    ensures { λ r. ⌜ LoosePost (now (rows .entry)) (now (history .entry)) p true value (now (rows .exit)) (now (history .exit)) r ⌝ }
 {
     new_row(rows, history, p, words::word(words::LEAF, 0, value as u32))
 }
@@ -94,7 +77,7 @@ fn unlinked(w: u32) -> u32
 // Row i cut from its parent, if it has one, with a record: 9 when the history is full.
 fn cut_row(rows: &mut [u32], history: &mut [u8], p: Progress, i: usize) -> Progress
     requires { ⌜ CutPre (now rows) (now history) p i ⌝ }
-    ensures { λ r. ⌜ Updated (λ z s. cutAll z (i ∷ []) s) [] (now (rows .entry)) (now (history .entry)) p (now (rows .exit)) (now (history .exit)) r ⌝ }
+    ensures { λ r. ⌜ DeletePost (now (rows .entry)) (now (history .entry)) p (i ∷ []) (now (rows .exit)) (now (history .exit)) r ⌝ }
 {
     let at = p.bytes;
     let w = rows[i];
@@ -103,7 +86,7 @@ fn cut_row(rows: &mut [u32], history: &mut [u8], p: Progress, i: usize) -> Progr
         return p;
     }
     if history::RECORDS <= p.made + p.cut {
-        return refused(p, Fault::HISTORY);
+        return p.refused(Fault::HISTORY);
     }
     rows[i] = unlinked(w);
     history::put_cut(history, at, i, link - 1);
@@ -119,7 +102,8 @@ fn cut_row(rows: &mut [u32], history: &mut [u8], p: Progress, i: usize) -> Progr
 // Each row of the value cut from its parent.
 pub fn delete(rows: &mut [u32], history: &mut [u8], p: Progress, items: &[u16]) -> Progress
     requires { ⌜ DeletePre (now rows) (now history) p (now items) ⌝ }
-    ensures { λ r. ⌜ Updated (λ z s. cutAll z (now (items .entry)) s) [] (now (rows .entry)) (now (history .entry)) p (now (rows .exit)) (now (history .exit)) r ⌝ }
+    ensures { λ r. ⌜ DeletePost (now (rows .entry)) (now (history .entry)) p (now (items .entry))
+        (now (rows .exit)) (now (history .exit)) r ⌝ }
 {
     let mut now = p;
     let mut k = 0;

@@ -1,6 +1,6 @@
 use Rattle.run.proofs.HistoryLaws.{put-five}
 use lib.ListN.{length-set}
-use Prim.Native.Nat.{ℕ, _+_, _/_, _%_}
+use Prim.Native.Nat.{_/_, _%_}
 use native.Mathlib.Omega.{arith}
 use borrow.Author.Needs.{needs}
 use Rattle.run.proofs.history.put_cut.Statement.{statement}
@@ -49,8 +49,9 @@ same-length : tie.Need-same-length
 same-length c = search needs
 
 returns : tie.Need-returns
-returns c = put-five (c .args .history .now) (c .args .at) 67 (c .args .row % 256) (c .args .row / 256) (c .args .parent % 256) (c .args
-    .parent / 256) (c .pre .0)
+returns c =
+    put-five (c .args .history .now) (c .args .at) 67 (c .args .row % 256) (c .args .row / 256) (c .args .parent % 256) (c .args .parent /
+    256) (c .pre .0)
 
 pub put-cut-spec : {M : Type 1} → statement M
 put-cut-spec =

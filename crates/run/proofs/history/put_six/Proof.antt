@@ -1,6 +1,6 @@
 use Rattle.run.proofs.HistoryLaws.{put-six}
 use lib.ListN.{length-set}
-use Prim.Native.Nat.{ℕ, _+_, _/_, _%_}
+use Prim.Native.Nat.{_/_, _%_}
 use native.Mathlib.Omega.{arith}
 use borrow.Author.Needs.{needs}
 use Rattle.run.proofs.history.put_six.Statement.{statement}
@@ -55,8 +55,9 @@ same-length : tie.Need-same-length
 same-length c = search needs
 
 returns : tie.Need-returns
-returns c = put-six (c .args .history .now) (c .args .at) (c .args .kind) (c .args .row % 256) (c .args .row / 256) (c .args .tag) (c
-    .args .parent % 256) (c .args .parent / 256) (c .pre .0)
+returns c =
+    put-six (c .args .history .now) (c .args .at) (c .args .kind) (c .args .row % 256) (c .args .row / 256) (c .args .tag)
+    (c .args .parent % 256) (c .args .parent / 256) (c .pre .0)
 
 pub put-six-spec : {M : Type 1} → statement M
 put-six-spec =

@@ -1,21 +1,22 @@
 use Rattle.run.proofs.InsertLawsScan.{link-none, link-low, link-out, link-in}
-use mathlib.Core.Path.{_≡_, sym, _∙_, ap}
-use Prim.Native.Nat.{ℕ, _+_, _-_}
+use mathlib.Core.Path.{sym, _∙_, ap}
+use Prim.Native.Nat.{ℕ, _+_}
 use native.Mathlib.Omega.{arith}
 use borrow.Author.Needs.{needs}
 use Rattle.run.proofs.insert.copy_link.Statement.{statement}
 use Rattle.run.proofs.insert.copy_link.Tie as tie
 
 returns : tie.Need-returns
-returns c = sym (link-none (c .before .before .args .map .now) (c .before .before .args .top) (c .before .before .args .link) (c .if1
-    .taken))
+returns c =
+    sym (link-none (c .before .before .args .map .now) (c .before .before .args .top) (c .before .before .args .link) (c .if1 .taken))
 
 sub-if2 : tie.Need-sub-if2
 sub-if2 c = search needs
 
 returns-2 : tie.Need-returns-2
-returns-2 c = sym (link-low (c .before .before .before .args .map .now) (c .before .before .before .args .top) (c .before .before .before
-    .args .link) (c .before .if1 .left) (c .if2 .taken))
+returns-2 c =
+    sym (link-low (c .before .before .before .args .map .now) (c .before .before .before .args .top)
+    (c .before .before .before .args .link) (c .before .if1 .left) (c .if2 .taken))
 
 sub-if3 : tie.Need-sub-if3
 sub-if3 c = search needs
@@ -27,11 +28,11 @@ shared-slice-read-if3 : tie.Need-shared-slice-read-if3
 shared-slice-read-if3 c = search needs
 
 returns-3 : tie.Need-returns-3
-returns-3 c = sym (link-out (c .before .before .before .before .before .args .map .now) (c .before .before .before .before .before .args
-    .top) (c .before .before .before .before .before .args .link) (c .before .before .before .if1 .left) (omega (
+returns-3 c =
+    sym (link-out (c .before .before .before .before .before .args .map .now) (c .before .before .before .before .before .args .top)
+    (c .before .before .before .before .before .args .link) (c .before .before .before .if1 .left) (omega (
       arith,
-      c .before .before
-          .if2 .left,
+      c .before .before .if2 .left,
     )) (c .if3 .taken))
 
 sub-index : tie.Need-sub-index
@@ -50,13 +51,12 @@ add-result : tie.Need-add-result
 add-result c = search needs
 
 returns-4 : tie.Need-returns-4
-returns-4 c = ap (λ (j : ℕ). j + 1) (c .index .ensures .0) ∙ sym (link-in (c .before .before .before .before .before .before .before
-    .args .map .now) (c .before .before .before .before .before .before .before .args .top) (c .before .before .before .before .before
-    .before .before .args .link) (c .before .before .before .before .before .if1 .left) (omega (
-      arith,
-      c .before .before .before .before
-          .if2 .left,
-    )) (c .before .before .if3 .left))
+returns-4 c =
+    ap (λ (j : ℕ). j + 1) (c .index .ensures .0) ∙ sym (link-in
+    (c .before .before .before .before .before .before .before .args .map .now)
+    (c .before .before .before .before .before .before .before .args .top)
+    (c .before .before .before .before .before .before .before .args .link) (c .before .before .before .before .before .if1 .left) (omega
+    (arith, c .before .before .before .before .if2 .left)) (c .before .before .if3 .left))
 
 pub copy-link-spec : {M : Type 1} → statement M
 copy-link-spec =

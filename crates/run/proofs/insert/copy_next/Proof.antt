@@ -1,37 +1,44 @@
 use Rattle.run.specs.Inserting.{copyLink, nextLink}
 use lib.ListN.{getD}
-use Prim.Native.Nat.{_*_, _/_, _%_, _<_}
+use Prim.Native.Nat.{_*_, _/_, _%_}
 use Rattle.run.proofs.InsertLaws.{next-bound, next-none, next-small, next-pre, next-made}
 use mathlib.Core.Path.{_≡_, sym, _∙_, ap}
-use Prim.Native.Nat.{ℕ, _+_, _-_}
+use Prim.Native.Nat.{ℕ, _+_}
 use native.Mathlib.Omega.{arith}
 use borrow.Author.Needs.{needs}
 use Rattle.run.proofs.insert.copy_next.Statement.{statement}
 use Rattle.run.proofs.insert.copy_next.Tie as tie
 
-is-link : (c : tie.After-copy-link) → c .copy-link .result ≡ nextLink (c .before .before .before .before .before .before .before .args
-    .rows .now) (c .before .before .before .before .before .before .before .args .map .now) (c .before .before .before .before .before
-    .before .before .args .top) (c .before .before .before .before .before .before .before .args .j)
-is-link c = c .copy-link .ensures ∙ ap (copyLink (c .before .before .before .before .before .before .before .args .map .now) (c .before
-    .before .before .before .before .before .before .args .top)) (c .before .link .ensures)
+is-link : (c : tie.After-copy-link) → c .copy-link .result ≡ nextLink
+    (c .before .before .before .before .before .before .before .args .rows .now)
+    (c .before .before .before .before .before .before .before .args .map .now)
+    (c .before .before .before .before .before .before .before .args .top)
+    (c .before .before .before .before .before .before .before .args .j)
+is-link c =
+    c .copy-link .ensures ∙ ap (copyLink (c .before .before .before .before .before .before .before .args .map .now)
+    (c .before .before .before .before .before .before .before .args .top)) (c .before .link .ensures)
 
-has-link : (c : tie.Else1) → nextLink (c .before .before .before .before .before .before .before .before .args .rows .now) (c .before
-    .before .before .before .before .before .before .before .args .map .now) (c .before .before .before .before .before .before .before
-    .before .args .top) (c .before .before .before .before .before .before .before .before .args .j) ≡ 0 → ⊥
+has-link : (c : tie.Else1) → nextLink (c .before .before .before .before .before .before .before .before .args .rows .now)
+    (c .before .before .before .before .before .before .before .before .args .map .now)
+    (c .before .before .before .before .before .before .before .before .args .top)
+    (c .before .before .before .before .before .before .before .before .args .j) ≡ 0 → ⊥
 has-link c q = c .if1 .left (is-link (c .before) ∙ q)
 
-copied-word : (c : tie.After-relinked) → c .relinked .result ≡ getD (c .before .before .before .before .before .before .before .before
-    .before .before .before .args .rows .now) (c .before .before .before .before .before .before .before .before .before .before .before
-    .args .j) 0 % 4 + 4 * nextLink (c .before .before .before .before .before .before .before .before .before .before .before .args .rows
-    .now) (c .before .before .before .before .before .before .before .before .before .before .before .args .map .now) (c .before .before
-    .before .before .before .before .before .before .before .before .before .args .top) (c .before .before .before .before .before
-    .before .before .before .before .before .before .args .j) + 4096 * (getD (c .before .before .before .before .before .before .before
-    .before .before .before .before .args .rows .now) (c .before .before .before .before .before .before .before .before .before .before
-    .before .args .j) 0 / 4096)
-copied-word c = c .relinked .ensures ∙ ap (λ (l : ℕ). getD (c .before .before .before .before .before .before .before .before .before
-    .before .before .args .rows .now) (c .before .before .before .before .before .before .before .before .before .before .before .args
-    .j) 0 % 4 + 4 * l + 4096 * (getD (c .before .before .before .before .before .before .before .before .before .before .before .args
-    .rows .now) (c .before .before .before .before .before .before .before .before .before .before .before .args .j) 0 / 4096)) (is-link
+copied-word : (c : tie.After-relinked) → c .relinked .result ≡ getD
+    (c .before .before .before .before .before .before .before .before .before .before .before .args .rows .now)
+    (c .before .before .before .before .before .before .before .before .before .before .before .args .j) 0 % 4 + 4 * nextLink
+    (c .before .before .before .before .before .before .before .before .before .before .before .args .rows .now)
+    (c .before .before .before .before .before .before .before .before .before .before .before .args .map .now)
+    (c .before .before .before .before .before .before .before .before .before .before .before .args .top)
+    (c .before .before .before .before .before .before .before .before .before .before .before .args .j) + 4096 * (getD
+    (c .before .before .before .before .before .before .before .before .before .before .before .args .rows .now)
+    (c .before .before .before .before .before .before .before .before .before .before .before .args .j) 0 / 4096)
+copied-word c =
+    c .relinked .ensures ∙ ap (λ (l : ℕ). getD
+    (c .before .before .before .before .before .before .before .before .before .before .before .args .rows .now)
+    (c .before .before .before .before .before .before .before .before .before .before .before .args .j) 0 % 4 + 4 * l + 4096 * (getD
+    (c .before .before .before .before .before .before .before .before .before .before .before .args .rows .now)
+    (c .before .before .before .before .before .before .before .before .before .before .before .args .j) 0 / 4096)) (is-link
     (c .before .before .before .before))
 
 mul-w : tie.Need-mul-w
@@ -68,16 +75,18 @@ slice-write-map-2 : tie.Need-slice-write-map-2
 slice-write-map-2 c = search needs
 
 relinked-requires : tie.Need-relinked-requires
-relinked-requires c κs = omega (
-  arith,
-  next-small (c .before .before .before .before .before .before .before .before .before .before
-      .pre) (has-link (c .before .before)),
-  is-link (c .before .before .before),
-)
+relinked-requires c κs =
+    omega (
+      arith,
+      next-small (c .before .before .before .before .before .before .before .before .before .before .pre) (has-link
+          (c .before .before)),
+      is-link (c .before .before .before),
+    )
 
 new-row-requires : tie.Need-new-row-requires
-new-row-requires c κs = next-pre (c .before .before .before .before .before .before .before .before .before .before .before .pre)
-    (has-link (c .before .before .before)) (c .relinked .result) (copied-word (c))
+new-row-requires c κs =
+    next-pre (c .before .before .before .before .before .before .before .before .before .before .before .pre) (has-link
+    (c .before .before .before)) (copied-word (c))
 
 same-length-2 : tie.Need-same-length-2
 same-length-2 c = search needs
@@ -89,10 +98,12 @@ same-length-4 : tie.Need-same-length-4
 same-length-4 c = search needs
 
 returns-2 : tie.Need-returns-2
-returns-2 c = next-made (c .before .before .before .before .before .before .before .before .before .before .before .before .before
-    .before .before .before .pre) (has-link (c .before .before .before .before .before .before .before .before)) (c .before .before
-    .before .before .before .relinked .result) (copied-word (c .before .before .before .before .before)) (c .before .before .before
-    .before .new-row .ensures)
+returns-2 c =
+    next-made
+    (c .before .before .before .before .before .before .before .before .before .before .before .before .before .before .before .before .pre)
+    (has-link (c .before .before .before .before .before .before .before .before))
+    (copied-word (c .before .before .before .before .before))
+    (c .before .before .before .before .new-row .ensures)
 
 pub copy-next-spec : {M : Type 1} → statement M
 copy-next-spec =

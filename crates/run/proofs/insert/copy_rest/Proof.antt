@@ -1,6 +1,5 @@
-use Rattle.run.proofs.InsertLaws.{Copying, copying-start, copying-next, copying-end, copying-refused, copying-again}
-use mathlib.Core.Path.{_≡_, sym, _∙_, ap}
-use Prim.Native.Nat.{ℕ, _+_, _-_}
+use Rattle.run.proofs.InsertLawsRest.{Copying, copying-start, copying-next, copying-end, copying-refused, copying-again}
+use Prim.Native.Nat.{_-_}
 use native.Mathlib.Omega.{arith}
 use borrow.Author.Needs.{needs}
 use Rattle.run.proofs.insert.copy_rest.Statement.{statement}
@@ -19,8 +18,9 @@ loop-holds : tie.Need-loop-holds Inv-loop μ-loop
 loop-holds c = copying-start (c .before .before .before .pre)
 
 copy-next-requires : tie.Need-copy-next-requires Inv-loop μ-loop
-copy-next-requires c κs = copying-next (c .before .before .before .before .before .before .before .before .pre) (c .before .before
-    .before .before .loop .inv) (c .before .before .before .loop-test .taken)
+copy-next-requires c κs =
+    copying-next (c .before .before .before .before .before .before .before .before .pre) (c .before .before .before .before .loop .inv)
+    (c .before .before .before .loop-test .taken)
 
 same-length : tie.Need-same-length Inv-loop μ-loop
 same-length c = search needs
@@ -32,10 +32,12 @@ same-length-3 : tie.Need-same-length-3 Inv-loop μ-loop
 same-length-3 c = search needs
 
 returns : tie.Need-returns Inv-loop μ-loop
-returns c = copying-refused (c .before .before .before .before .before .before .before .before .before .before .before .before .before
-    .before .before .before .before .pre) (c .before .before .before .before .before .before .before .before .before .before .before
-    .before .before .loop .inv) (c .before .before .before .before .before .before .before .before .before .before .before .before
-    .loop-test .taken) (c .before .before .before .before .before .before .before .before .copy-next .ensures) (c .if1 .taken)
+returns c =
+    copying-refused
+    (c .before .before .before .before .before .before .before .before .before .before .before .before .before .before .before .before .before .pre)
+    (c .before .before .before .before .before .before .before .before .before .before .before .before .before .loop .inv)
+    (c .before .before .before .before .before .before .before .before .before .before .before .before .loop-test .taken)
+    (c .before .before .before .before .before .before .before .before .copy-next .ensures) (c .if1 .taken)
 
 add-j-2 : tie.Need-add-j-2 Inv-loop μ-loop
 add-j-2 c = search needs
@@ -44,13 +46,12 @@ loop-less : tie.Need-loop-less Inv-loop μ-loop
 loop-less c = search needs
 
 loop-again : tie.Need-loop-again Inv-loop μ-loop
-loop-again c = copying-again (c .before .before .before .before .before .before .before .before .before .before .before .before .before
-    .before .before .before .before .pre) (c .before .before .before .before .before .before .before .before .before .before .before
-    .before .before .loop .inv) (c .before .before .before .before .before .before .before .before .before .before .before .before
-    .loop-test .taken) (c .before .before .before .before .before .before .before .before .copy-next .ensures) (search (
-      c .if1 .left,
-      needs,
-    ))
+loop-again c =
+    copying-again
+    (c .before .before .before .before .before .before .before .before .before .before .before .before .before .before .before .before .before .pre)
+    (c .before .before .before .before .before .before .before .before .before .before .before .before .before .loop .inv)
+    (c .before .before .before .before .before .before .before .before .before .before .before .before .loop-test .taken)
+    (c .before .before .before .before .before .before .before .before .copy-next .ensures) (search (c .if1 .left, needs))
 
 same-length-4 : tie.Need-same-length-4 Inv-loop μ-loop
 same-length-4 c = search needs

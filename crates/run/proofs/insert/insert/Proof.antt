@@ -2,15 +2,14 @@ use lib.ListN.{getD}
 use Prim.Native.Nat.{_%_}
 use Rattle.run.proofs.InsertLawsItems.{insert-many, insert-low, insert-leaf, insert-items, insert-done}
 use lib.ListN.{length}
-use mathlib.Core.Path.{_≡_, refl, sym, _∙_, ap}
-use Prim.Native.Nat.{ℕ, _+_, _-_, _<_}
+use mathlib.Core.Path.{_≡_, refl, sym, _∙_}
 use native.Mathlib.Omega.{arith}
 use borrow.Author.Needs.{needs}
 use Rattle.run.proofs.insert.insert.Statement.{statement}
 use Rattle.run.proofs.insert.insert.Tie as tie
 
-target-kind : (c : tie.After-kind) → c .kind .result ≡ getD (c .before .before .before .before .before .before .before .before .before
-    .args .rows .now) (c .before .before .index .result) 0 % 4
+target-kind : (c : tie.After-kind) → c .kind .result ≡ getD
+    (c .before .before .before .before .before .before .before .before .before .args .rows .now) (c .before .before .index .result) 0 % 4
 target-kind c = c .kind .ensures
 
 one-target : (c : tie.Else1) → length (c .before .before .before .before .before .args .targets .now) ≡ 1
@@ -32,14 +31,14 @@ mul-kind : tie.Need-mul-kind
 mul-kind c = search needs
 
 slice-read-kind : tie.Need-slice-read-kind
-slice-read-kind c = omega (
-  arith,
-  insert-low (c .before .before .before .before .before .before .before .before .pre) (one-target (c
-      .before .before .before)) (c .before .index .result) (c .before .index .ensures .0),
-  c .before .before .before .before .before
-      .before .before .before .pre .held .few,
-  c .before .before .before .before .before .before .before .before .pre .held .rows,
-)
+slice-read-kind c =
+    omega (
+      arith,
+      insert-low (c .before .before .before .before .before .before .before .before .pre) (one-target
+          (c .before .before .before)) (c .before .index .ensures .0),
+      c .before .before .before .before .before .before .before .before .pre .held .few,
+      c .before .before .before .before .before .before .before .before .pre .held .rows,
+    )
 
 kind-requires : tie.Need-kind-requires
 kind-requires c κs = search needs
@@ -48,18 +47,20 @@ refused-requires-2 : tie.Need-refused-requires-2
 refused-requires-2 c κs = search needs
 
 returns-2 : tie.Need-returns-2
-returns-2 c = insert-leaf (c .before .before .before .before .before .before .before .before .before .before .before .pre) (one-target (c
-    .before .before .before .before .before .before)) (c .before .before .before .before .index .result) (c .before .before .before
-    .before .index .ensures .0) (sym (target-kind (c .before .before)) ∙ c .before .if2 .taken) (c .refused2 .ensures)
+returns-2 c =
+    insert-leaf (c .before .before .before .before .before .before .before .before .before .before .before .pre) (one-target
+    (c .before .before .before .before .before .before)) (c .before .before .before .before .index .ensures .0) (sym (target-kind (c .before .before)) ∙ c .before .if2 .taken)
+    (c .refused2 .ensures)
 
 slice-aggregate-copy-items : tie.Need-slice-aggregate-copy-items
 slice-aggregate-copy-items c = search needs
 
 copy-items-requires : tie.Need-copy-items-requires
-copy-items-requires c κs = insert-items (c .before .before .before .before .before .before .before .before .before .before .before
-    .before .before .pre) (one-target (c .before .before .before .before .before .before .before .before)) (c .before .before .before
-    .before .before .before .index .result) (c .before .before .before .before .before .before .index .ensures .0) (λ q. c .before
-    .before .before .if2 .left (target-kind (c .before .before .before .before) ∙ q)) refl
+copy-items-requires c κs =
+    insert-items (c .before .before .before .before .before .before .before .before .before .before .before .before .before .pre)
+    (one-target (c .before .before .before .before .before .before .before .before))
+    (c .before .before .before .before .before .before .index .ensures .0) (λ q. c .before .before .before .if2 .left (target-kind
+    (c .before .before .before .before) ∙ q)) refl
 
 same-length : tie.Need-same-length
 same-length c = search needs
@@ -68,13 +69,14 @@ same-length-2 : tie.Need-same-length-2
 same-length-2 c = search needs
 
 returns-3 : tie.Need-returns-3
-returns-3 c = insert-done (c .before .before .before .before .before .before .before .before .before .before .before .before .before
-    .before .before .before .before .before .before .pre) (one-target (c .before .before .before .before .before .before .before .before
-    .before .before .before .before .before .before)) (c .before .before .before .before .before .before .before .before .before .before
-    .before .before .index .result) (c .before .before .before .before .before .before .before .before .before .before .before .before
-    .index .ensures .0) (λ q. c .before .before .before .before .before .before .before .before .before .if2 .left (target-kind (c
-    .before .before .before .before .before .before .before .before .before .before) ∙ q)) (c .before .before .before .before .before
-    .copy-items .ensures)
+returns-3 c =
+    insert-done
+    (c .before .before .before .before .before .before .before .before .before .before .before .before .before .before .before .before .before .before .before .pre)
+    (one-target (c .before .before .before .before .before .before .before .before .before .before .before .before .before .before))
+    (c .before .before .before .before .before .before .before .before .before .before .before .before .index .ensures .0) (λ q.
+    c .before .before .before .before .before .before .before .before .before .if2 .left (target-kind
+    (c .before .before .before .before .before .before .before .before .before .before) ∙ q))
+    (c .before .before .before .before .before .copy-items .ensures)
 
 pub insert-spec : {M : Type 1} → statement M
 insert-spec =

@@ -1,7 +1,7 @@
-use Rattle.run.proofs.UndoLaws.{Forming, forming-start, forming-end, forming-refused, forming-room, forming-few, forming-again}
+use Rattle.run.proofs.UndoLaws.{Forming, forming-start, forming-end, forming-refused, forming-few, forming-again}
 use lib.ListN.{length, length-take, length-drop}
-use mathlib.Core.Path.{_≡_, sym, _∙_, ap}
-use Prim.Native.Nat.{ℕ, _+_, _-_, _<_}
+use mathlib.Core.Path.{_≡_, ap}
+use Prim.Native.Nat.{ℕ, _+_, _-_}
 use native.Mathlib.Omega.{arith}
 use borrow.Author.Needs.{needs}
 use Rattle.run.proofs.undoing.form.Statement.{statement}
@@ -35,8 +35,9 @@ same-length : tie.Need-same-length Inv-loop μ-loop
 same-length c = search needs
 
 returns : tie.Need-returns Inv-loop μ-loop
-returns c = forming-refused (c .before .before .before .before .loop .inv) (c .before .before .before .loop-test .taken) (c .before
-    .form-fault .ensures) (c .if1 .taken)
+returns c =
+    forming-refused (c .before .before .before .before .loop .inv) (c .before .before .before .loop-test .taken)
+    (c .before .form-fault .ensures) (c .if1 .taken)
 
 cast-places : tie.Need-cast-places Inv-loop μ-loop
 cast-places c = omega (arith, c .before .before .before .before .loop .inv .high, c .before .before .before .before .loop .inv .few)
@@ -45,12 +46,13 @@ mul-places : tie.Need-mul-places Inv-loop μ-loop
 mul-places c = omega (arith, c .before .before .before .before .loop .inv .few)
 
 slice-write-places : tie.Need-slice-write-places Inv-loop μ-loop
-slice-write-places c = omega (
-  arith,
-  c .before .before .before .before .loop .inv .size,
-  forming-few (c .before .before .before .before
-      .loop .inv) (c .before .before .before .loop-test .taken) (c .before .form-fault .ensures) (is-fine (c)),
-)
+slice-write-places c =
+    omega (
+      arith,
+      c .before .before .before .before .loop .inv .size,
+      forming-few (c .before .before .before .before .loop .inv)
+          (c .before .before .before .loop-test .taken) (c .before .form-fault .ensures) (is-fine (c)),
+    )
 
 add-records : tie.Need-add-records Inv-loop μ-loop
 add-records c = omega (arith, c .before .before .before .before .loop .inv .few)
@@ -62,22 +64,23 @@ size-requires : tie.Need-size-requires Inv-loop μ-loop
 size-requires c κs = search needs
 
 add-at : tie.Need-add-at Inv-loop μ-loop
-add-at c = omega (
-  arith,
-  c .before .before .before .before .before .before .loop .inv .high,
-  c .before .before .before .before .before
-      .before .loop .inv .few,
-  c .size .ensures .1 .0,
-)
+add-at c =
+    omega (
+      arith,
+      c .before .before .before .before .before .before .loop .inv .high,
+      c .before .before .before .before .before .before .loop .inv .few,
+      c .size .ensures .1 .0,
+    )
 
 loop-less : tie.Need-loop-less Inv-loop μ-loop
 loop-less c = omega (arith, c .before .before .before .before .before .loop-test .taken, c .size .ensures .1 .1)
 
 loop-again : tie.Need-loop-again Inv-loop μ-loop
-loop-again c = forming-again (c .before .before .before .before .before .before .loop .inv) (c .before .before .before .before .before
-    .loop-test .taken) (c .before .before .before .form-fault .ensures) (is-fine (c .before .before)) (ap (λ (k : ℕ). c .before .before
-    .before .before .before .before .loop .at + k) (c .size .ensures .0)) (omega (arith, c .size .ensures .0, c .size .ensures .1 .1))
-    (omega (arith, c .size .ensures .0, c .size .ensures .1 .0))
+loop-again c =
+    forming-again (c .before .before .before .before .before .before .loop .inv)
+    (c .before .before .before .before .before .loop-test .taken) (c .before .before .before .form-fault .ensures) (is-fine
+    (c .before .before)) (ap (λ (k : ℕ). c .before .before .before .before .before .before .loop .at + k) (c .size .ensures .0)) (omega
+    (arith, c .size .ensures .0, c .size .ensures .1 .1)) (omega (arith, c .size .ensures .0, c .size .ensures .1 .0))
 
 same-length-2 : tie.Need-same-length-2 Inv-loop μ-loop
 same-length-2 c = search needs

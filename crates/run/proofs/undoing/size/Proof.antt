@@ -1,6 +1,5 @@
 use borrow.Author.Tests.{eq-eqb, ne-eqb}
 use native.Mathlib.Omega.{arith}
-use borrow.Author.Needs.{needs}
 use Rattle.run.proofs.undoing.size.Statement.{statement}
 use Rattle.run.proofs.undoing.size.Tie as tie
 

@@ -1,11 +1,15 @@
 use Rattle.run.proofs.UpdateLaws.{cut-root, cut-low, cut-full, cut-done}
-use lib.ListN.{set}
-use mathlib.Core.Path.{_≡_, sym, _∙_, ap}
-use Prim.Native.Nat.{ℕ, _-_, _+_, _<_}
+use lib.ListN.{getD}
+use mathlib.Core.Path.{_≡_, sym, _∙_}
+use Prim.Native.Nat.{_/_, _%_}
 use native.Mathlib.Omega.{arith}
 use borrow.Author.Needs.{needs}
 use Rattle.run.proofs.update.cut_row.Statement.{statement}
 use Rattle.run.proofs.update.cut_row.Tie as tie
+
+has-parent : (c : tie.Else1) → getD (c .before .before .before .before .before .args .rows .now)
+    (c .before .before .before .before .before .args .i) 0 / 4 % 1024 ≡ 0 → ⊥
+has-parent c q = c .if1 .left (c .before .link .ensures ∙ q)
 
 mul-w : tie.Need-mul-w
 mul-w c = search needs
@@ -17,9 +21,7 @@ link-requires : tie.Need-link-requires
 link-requires c κs = search needs
 
 returns : tie.Need-returns
-returns c = cut-root (c .before .before .before .before .before .args .rows .now) (c .before .before .before .before .before .args
-    .history .now) (c .before .before .before .before .before .args .p) (c .before .before .before .before .before .args .i) (c .before
-    .before .before .before .before .pre) (sym (c .before .link .ensures) ∙ c .if1 .taken)
+returns c = cut-root (c .before .before .before .before .before .pre) (sym (c .before .link .ensures) ∙ c .if1 .taken)
 
 add-if2 : tie.Need-add-if2
 add-if2 c = omega (arith, c .before .before .before .before .before .before .pre .held .history .limit)
@@ -28,12 +30,9 @@ refused-requires : tie.Need-refused-requires
 refused-requires c κs = search needs
 
 returns-2 : tie.Need-returns-2
-returns-2 c = cut-full (c .before .before .before .before .before .before .before .before .args .rows .now) (c .before .before .before
-    .before .before .before .before .before .args .history .now) (c .before .before .before .before .before .before .before .before .args
-    .p) (c .before .before .before .before .before .before .before .before .args .i) (c .before .before .before .before .before .before
-    .before .before .pre) (λ q. c .before .before .before .if1 .left (c .before .before .before .before .link .ensures ∙ q)) (c .before
-    .if2 .taken) (c .before .before .before .before .before .before .before .before .args .rows .now) (c .before .before .before .before
-    .before .before .before .before .args .history .now) (c .refused .result) (c .refused .ensures)
+returns-2 c =
+    cut-full (c .before .before .before .before .before .before .before .before .pre) (has-parent (c .before .before .before))
+    (c .before .if2 .taken) (c .refused .ensures)
 
 unlinked-requires : tie.Need-unlinked-requires
 unlinked-requires c κs = search needs
@@ -52,43 +51,38 @@ put-cut-requires c κs = (
   omega (
     arith,
     c .before .before .before .before .before .before .before .before .before .pre .held .size,
-    c
-        .before .before .before .before .before .before .before .before .before .pre .held .area,
+    c .before .before .before .before .before .before .before .before .before .pre .held .area,
     c .before .before .if2 .left,
   ),
   (
     omega (
       arith,
       c .before .before .before .before .before .before .before .before .before .pre .row,
-      c .before .before .before .before
-          .before .before .before .before .before .pre .held .few,
+      c .before .before .before .before .before .before .before .before .before .pre .held .few,
     ),
     omega (
       arith,
       c .before .before .before .before .before .link .ensures,
-      cut-low (c .before .before .before .before .before .before .before .before .before .args .rows .now) (c .before .before .before
-          .before .before .before .before .before .before .args .history .now) (c .before .before .before .before .before .before .before
-          .before .before .args .p) (c .before .before .before .before .before .before .before .before .before .args .i) (c .before .before
-          .before .before .before .before .before .before .before .pre) (λ q. c .before .before .before .before .if1 .left (c .before .before
-          .before .before .before .link .ensures ∙ q)),
+      cut-low
+          (c .before .before .before .before .before .before .before .before .before .pre) (has-parent (c .before .before .before .before)),
     ),
   ),
 )
 
 add-t8 : tie.Need-add-t8
-add-t8 c = omega (
-  arith,
-  c .before .before .before .before .before .before .before .before .before .before .before .before .pre .held
-      .size,
-  c .before .before .before .before .before .before .before .before .before .before .before .before .pre .held .history .limit,
-)
+add-t8 c =
+    omega (
+      arith,
+      c .before .before .before .before .before .before .before .before .before .before .before .before .pre .held .size,
+      c .before .before .before .before .before .before .before .before .before .before .before .before .pre .held .history .limit,
+    )
 
 add-t16 : tie.Need-add-t16
-add-t16 c = omega (
-  arith,
-  c .before .before .before .before .before .before .before .before .before .before .before .before .before .pre
-      .held .history .limit,
-)
+add-t16 c =
+    omega (
+      arith,
+      c .before .before .before .before .before .before .before .before .before .before .before .before .before .pre .held .history .limit,
+    )
 
 same-length : tie.Need-same-length
 same-length c = search needs
@@ -97,16 +91,14 @@ same-length-2 : tie.Need-same-length-2
 same-length-2 c = search needs
 
 returns-3 : tie.Need-returns-3
-returns-3 c = cut-done (c .before .before .before .before .before .before .before .before .before .before .before .before .before .args
-    .rows .now) (c .before .before .before .before .before .before .before .before .before .before .before .before .before .args .history
-    .now) (c .before .before .before .before .before .before .before .before .before .before .before .before .before .args .p) (c .before
-    .before .before .before .before .before .before .before .before .before .before .before .before .args .i) (c .before .before .before
-    .before .before .before .before .before .before .before .before .before .before .pre) (λ q. c .before .before .before .before .before
-    .before .before .before .if1 .left (c .before .before .before .before .before .before .before .before .before .link .ensures ∙ q))
-    (omega (arith, c .before .before .before .before .before .before .if2 .left)) (c .before .before .before .before .before .unlinked
-    .result) (c .before .before .before .before .before .before .before .before .before .link .result) (c .before .before .before .before
-    .before .unlinked .ensures) (c .before .before .before .before .before .before .before .before .before .link .ensures) (c .before
-    .before .before .put-cut .last .0) (c .before .before .before .put-cut .ensures)
+returns-3 c =
+    cut-done (c .before .before .before .before .before .before .before .before .before .before .before .before .before .pre) (has-parent
+    (c .before .before .before .before .before .before .before .before)) (omega (
+      arith,
+      c .before .before .before .before .before .before .if2 .left,
+    )) (c .before .before .before .before .before .unlinked .ensures)
+    (c .before .before .before .before .before .before .before .before .before .link .ensures)
+    (c .before .before .before .put-cut .ensures)
 
 pub cut-row-spec : {M : Type 1} → statement M
 cut-row-spec =

@@ -1,6 +1,5 @@
 use Rattle.run.proofs.UpdateLaws.{loose-pre, loose-made}
-use mathlib.Core.Bool.{true, false}
-use mathlib.Core.List.{[], _∷_}
+use mathlib.Core.Bool.{true}
 use borrow.Author.Tests.{le-leb}
 use native.Mathlib.Omega.{arith}
 use borrow.Author.Needs.{needs}
@@ -11,10 +10,12 @@ word-requires : tie.Need-word-requires
 word-requires c κs = search needs
 
 new-row-requires : tie.Need-new-row-requires
-new-row-requires c κs = loose-pre true (c .before .before .before .before .before .args .value) (c .word .result) (c .word .ensures) (c
-    .before .before .before .before .before .args .rows .now) (c .before .before .before .before .before .args .history .now) (c .before
-    .before .before .before .before .args .p) (c .before .before .before .before .before .pre) (le-leb (c .before .before .before .before
-    .before .args .value) 255 (omega (arith, c .before .before .before .before .before .fits .value)))
+new-row-requires c κs =
+    loose-pre true (c .before .before .before .before .before .args .value) (c .word .ensures)
+    (c .before .before .before .before .before .pre) (le-leb (c .before .before .before .before .before .args .value) 255 (omega (
+      arith,
+      c .before .before .before .before .before .fits .value,
+    )))
 
 same-length : tie.Need-same-length
 same-length c = search needs
@@ -23,13 +24,9 @@ same-length-2 : tie.Need-same-length-2
 same-length-2 c = search needs
 
 returns : tie.Need-returns
-returns c = loose-made true (c .before .before .before .before .before .before .before .before .before .before .args .value) (c .before
-    .before .before .before .before .word .result) (c .before .before .before .before .before .word .ensures) (c .before .before .before
-    .before .before .before .before .before .before .before .args .p .count ∷ []) (c .before .before .before .before .before .before
-    .before .before .before .before .args .rows .now) (c .before .before .before .before .before .before .before .before .before .before
-    .args .history .now) (c .before .before .before .before .before .before .before .before .before .before .args .p) (c .before .before
-    .before .before .new-row .last .0) (c .before .before .before .before .new-row .last .1 .0) (c .before .before .before .before
-    .new-row .result) (c .before .before .before .before .new-row .ensures)
+returns c =
+    loose-made true (c .before .before .before .before .before .before .before .before .before .before .args .value)
+    (c .before .before .before .before .before .word .ensures) (c .before .before .before .before .new-row .ensures)
 
 pub new-leaf-spec : {M : Type 1} → statement M
 new-leaf-spec =
