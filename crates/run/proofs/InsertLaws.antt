@@ -6,6 +6,7 @@ use mathlib.Core.List.{List, [], _∷_, map}
 use mathlib.Core.Option.{some}
 use Prim.Native.Nat.{ℕ, zero, suc, _+_, _*_, _-_, _/_, _%_, _≤_, _<_}
 use native.Mathlib.Omega.{arith}
+use native.Mathlib.Numerals.{add-one}
 use lib.Dec.{ltb, eqb}
 use lib.ListN.{length, getD, take, set}
 use lib.Seq.{getD-set-same, getD-set-other, ext-getD, take-take}
@@ -15,8 +16,7 @@ use Rattle.model.specs.Table as model
 use Rattle.model.specs.Run.{State, Out, stop, gives, newRow, withMade, thenRow}
 use Rattle.model.proofs.BoolLaws.{by-cases, pick-true, pick-false, and-both}
 use Rattle.model.proofs.TableLaws.{isElement-by}
-use Rattle.model.proofs.GrowLaws.{rowAt-withRow-old, rowAt-withRow-new}
-use Rattle.model.proofs.RowLaws.{count-with}
+use Rattle.model.proofs.GrowLaws.{count-withRow, rowAt-withRow-old, rowAt-withRow-new}
 use Rattle.table.specs.Words.{linked, rowOf, rowsOf, isRowWord, decodeParts}
 use Rattle.table.proofs.WordLaws.{count-decode, rowAt-decode}
 use Rattle.run.specs.State.{stateOf, outcome, Held, Updated}
@@ -106,7 +106,8 @@ module _ {ws h : List ℕ} {p : Progress} (held : Held ws h p) {ws′ h′ : Lis
   pub made-count : r .count ≡ p .count + 1
   made-count =
       let k : model.count (decodeParts (r .count) ws′ []) ≡ model.count (decodeParts (p .count) ws []) + 1 =
-      ap model.count made-table ∙ count-with (decodeParts (p .count) ws []) row in
+      ap model.count made-table ∙ count-withRow (decodeParts (p .count) ws []) row ∙
+      sym (add-one (model.count (decodeParts (p .count) ws []))) in
       omega (arith, held-count held [], held-count held′ [])
 
   pub made-old : (c : ℕ) → c < p .count → model.rowAt (decodeParts (r .count) ws′ []) c ≡ model.rowAt (decodeParts (p .count) ws []) c
