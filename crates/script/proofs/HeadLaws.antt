@@ -1,0 +1,195 @@
+-- The record at the front: what the model says of it from the tests that the reader makes, and what an accepted record fulfils.
+use mathlib.Core.Path.{_≡_, refl, ap, sym, _∙_}
+use mathlib.Core.Bool.{Bool, true, false, _&&_, _||_, not, false≢true}
+use mathlib.Core.List.{List}
+use Prim.Native.Nat.{ℕ, zero, suc, _+_, _-_, _≤_, _<_}
+use native.Mathlib.Omega.{arith}
+use lib.Dec.{ltb, leb, eqb}
+use lib.ListN.{length, length-drop, getD, drop}
+use lib.Seq.{getD-drop}
+use borrow.Author.Tests.{lt-ltb, le-ltb, le-leb, lt-leb, eq-eqb, ne-eqb, ltb-true, leb-true, leb-false, not-true}
+use Rattle.model.specs.Base.{pick, isIn}
+use Rattle.model.specs.Refusal.{Fault, fault, fine, isFine, orElse, unless, kindAt, shortAt, fieldAt, sizeAt}
+use Rattle.model.specs.Script.{bodySize, bodyFits, testFits, isBinder, exprFault}
+use Rattle.model.proofs.BoolLaws.{by-cases, and-left, and-right}
+use Rattle.script.specs.Accepted.{RecordFits}
+use Rattle.script.specs.Reading.{HeadPost, refusalAt}
+
+-- THE TEST of a step and its name
+module _ (t n : ℕ) where
+  pub test-named : n ≤ 255 → t ≡ 3 → testFits t n ≡ leb 1 n
+  test-named h e = rw (e, le-leb n 255 h) (by-cases (leb 1 n) (λ q. rw q) (λ q. rw q))
+
+  pub test-plain : t < 3 → testFits t n ≡ eqb n 0
+  test-plain h = rw (ne-eqb t 3 (λ q. omega arith), lt-ltb t 3 h)
+
+  pub test-none : 3 < t → testFits t n ≡ false
+  test-none h = rw (ne-eqb t 3 (λ q. omega arith), le-ltb t 3 (omega arith))
+
+-- THE BODY of the record at the front, by its kind
+pub body-whole : (s : List ℕ) (k j : ℕ) → 1 + bodySize (getD s 0 0) ≤ length s → getD s 0 0 ≡ k → j ≤ bodySize k → j < length s
+body-whole s k j h e l = omega (arith, ap (λ (x : ℕ). bodySize x) e)
+
+module _ (s : List ℕ) (v : ℕ) where
+  pub body-document : getD s 0 0 ≡ 2 → bodyFits v s ≡ ltb (getD s 1 0) 8
+  body-document e = rw e
+
+  pub body-variable : getD s 0 0 ≡ 3 → bodyFits v s ≡ ltb (getD s 1 0) v
+  body-variable e = rw e
+
+  pub body-axis : getD s 0 0 ≡ 4 → 4 ≤ getD s 1 0 → bodyFits v s ≡ false
+  body-axis e h = rw (e, le-ltb (getD s 1 0) 4 h)
+
+  pub body-step : getD s 0 0 ≡ 4 → getD s 1 0 < 4 → bodyFits v s ≡ testFits (getD s 2 0) (getD s 3 0)
+  body-step e h = rw (e, lt-ltb (getD s 1 0) 4 h)
+
+  pub body-element : getD s 0 0 ≡ 9 → getD s 1 0 ≤ 255 → bodyFits v s ≡ leb 1 (getD s 1 0)
+  body-element e h = rw (e, le-leb (getD s 1 0) 255 h) (by-cases (leb 1 (getD s 1 0)) (λ q. rw q) (λ q. rw q))
+
+  pub body-pick : getD s 0 0 ≡ 13 → bodyFits v s ≡ ltb (getD s 1 0) 3
+  body-pick e = rw e
+
+  pub body-none : (getD s 0 0 ≡ 2 → ⊥) → (getD s 0 0 ≡ 3 → ⊥) → (getD s 0 0 ≡ 4 → ⊥) → (getD s 0 0 ≡ 9 → ⊥) → (getD s 0 0 ≡ 13 → ⊥) →
+      bodyFits v s ≡ true
+  body-none f g h i j =
+      rw (
+        ne-eqb (getD s 0 0) 2 f,
+        ne-eqb (getD s 0 0) 3 g,
+        ne-eqb (getD s 0 0) 4 h,
+        ne-eqb (getD s 0 0) 9 i,
+        ne-eqb (getD s 0 0) 13 j,
+      )
+
+-- THE REFUSAL of the record at the front, one law for each way out
+module _ (s : List ℕ) (left n v : ℕ) where
+  pub head-empty : length s ≡ 0 → HeadPost s left n v 2
+  head-empty e = record { fault = λ i. rw e }
+
+  pub head-low : (length s ≡ 0 → ⊥) → getD s 0 0 < 1 → HeadPost s left n v 1
+  head-low h l =
+      let m : 0 < length s = omega (arith, h) in
+      record { fault = λ i. rw (lt-ltb 0 (length s) m, lt-leb 1 (getD s 0 0) l) }
+
+  pub head-high : (length s ≡ 0 → ⊥) → 13 < getD s 0 0 → HeadPost s left n v 1
+  head-high h l =
+      let m : 0 < length s = omega (arith, h) in
+      let k : 1 ≤ getD s 0 0 = omega arith in
+      record { fault = λ i. rw (lt-ltb 0 (length s) m, le-leb 1 (getD s 0 0) k, lt-leb (getD s 0 0) 13 l) }
+
+  module _ (some : 0 < length s) (low : 1 ≤ getD s 0 0) (high : getD s 0 0 ≤ 13) where
+    pub head-records : 64 ≤ n → HeadPost s left n v 5
+    head-records h =
+        record { fault = λ i. rw (lt-ltb 0 (length s) some, le-leb 1 (getD s 0 0) low, le-leb (getD s 0 0) 13 high, le-ltb n 64 h) }
+
+    module _ (room : n < 64) where
+      pub head-depth : left ≡ 0 → HeadPost s left n v 5
+      head-depth e =
+          record { fault = λ i. rw (lt-ltb 0 (length s) some, le-leb 1 (getD s 0 0) low, le-leb (getD s 0 0) 13 high, lt-ltb n 64 room, e) }
+
+      module _ (depth : 0 < left) where
+        deep : leb (17 - left) 16 ≡ true
+        deep = le-leb (17 - left) 16 (omega arith)
+
+        pub head-ninth : (isBinder (getD s 0 0) && leb 8 v) ≡ true → HeadPost s left n v 5
+        head-ninth e =
+            record {
+              fault = λ i. rw (
+                lt-ltb 0 (length s) some,
+                le-leb 1 (getD s 0 0) low,
+                le-leb (getD s 0 0) 13 high,
+                lt-ltb n 64 room,
+                deep,
+                e,
+              );
+            }
+
+        module _ (scope : (isBinder (getD s 0 0) && leb 8 v) ≡ false) where
+          pub head-short : length s < 1 + bodySize (getD s 0 0) → HeadPost s left n v 2
+          head-short h =
+              record {
+                fault = λ i. rw (
+                  lt-ltb 0 (length s) some,
+                  le-leb 1 (getD s 0 0) low,
+                  le-leb (getD s 0 0) 13 high,
+                  lt-ltb n 64 room,
+                  deep,
+                  scope,
+                  lt-leb (1 + bodySize (getD s 0 0)) (length s) h,
+                );
+              }
+
+          module _ (whole : 1 + bodySize (getD s 0 0) ≤ length s) where
+            head-body : (i : ℕ) → exprFault i n (17 - left) v s ≡ unless (bodyFits v s) (fieldAt i)
+            head-body i =
+                rw (
+                  lt-ltb 0 (length s) some,
+                  le-leb 1 (getD s 0 0) low,
+                  le-leb (getD s 0 0) 13 high,
+                  lt-ltb n 64 room,
+                  deep,
+                  scope,
+                  le-leb (1 + bodySize (getD s 0 0)) (length s) whole,
+                )
+
+            pub head-fine : bodyFits v s ≡ true → HeadPost s left n v 0
+            head-fine e = record { fault = λ i. head-body i ∙ ap (λ (z : Bool). unless z (fieldAt i)) e }
+
+            pub head-field : bodyFits v s ≡ false → HeadPost s left n v 4
+            head-field e = record { fault = λ i. head-body i ∙ ap (λ (z : Bool). unless z (fieldAt i)) e }
+
+-- AN ACCEPTED RECORD passed every test
+tests : (p q r s t : Bool) (i : ℕ) →
+    isFine (orElse (unless p (shortAt i)) (orElse (unless q (kindAt i)) (orElse (unless r (sizeAt i)) (orElse (unless s (shortAt i)) (unless t (fieldAt i)))))) ≡ true →
+    (p ≡ true) × (q ≡ true) × (r ≡ true) × (s ≡ true) × (t ≡ true)
+tests true true true true true i e = (refl, refl, refl, refl, refl)
+tests true true true true false i e = absurd (false≢true e)
+tests true true true false t i e = absurd (false≢true e)
+tests true true false s t i e = absurd (false≢true e)
+tests true false r s t i e = absurd (false≢true e)
+tests false q r s t i e = absurd (false≢true e)
+
+pub kind-at : (b : List ℕ) (i : ℕ) → getD (drop i b) 0 0 ≡ getD b i 0
+kind-at b i = let e : i + 0 ≡ i = omega arith in getD-drop i b 0 0 ∙ ap (λ (j : ℕ). getD b j 0) e
+
+module _ (b : List ℕ) (at left n v i : ℕ) (e : isFine (exprFault i n (17 - left) v (drop at b)) ≡ true) where
+  passed : (ltb 0 (length (drop at b)) ≡ true) × (isIn 1 13 (getD (drop at b) 0 0) ≡ true) ×
+      ((ltb n 64 && leb (17 - left) 16 && not (isBinder (getD (drop at b) 0 0) && leb 8 v)) ≡ true) ×
+      (leb (1 + bodySize (getD (drop at b) 0 0)) (length (drop at b)) ≡ true) × (bodyFits v (drop at b) ≡ true)
+  passed =
+      tests (ltb 0 (length (drop at b))) (isIn 1 13 (getD (drop at b) 0 0))
+      (ltb n 64 && leb (17 - left) 16 && not (isBinder (getD (drop at b) 0 0) && leb 8 v))
+      (leb (1 + bodySize (getD (drop at b) 0 0)) (length (drop at b))) (bodyFits v (drop at b)) i e
+
+  sizes : (ltb n 64 ≡ true) × (leb (17 - left) 16 ≡ true) × ((isBinder (getD (drop at b) 0 0) && leb 8 v) ≡ false)
+  sizes =
+      let s = and-left (ltb n 64 && leb (17 - left) 16) (not (isBinder (getD (drop at b) 0 0) && leb 8 v)) (passed .2) in (
+        and-left (ltb n 64) (leb (17 - left) 16) s,
+        and-right (ltb n 64) (leb (17 - left) 16) s,
+        not-true (isBinder (getD (drop at b) 0 0) && leb 8 v)
+            (and-right (ltb n 64 && leb (17 - left) 16) (not (isBinder (getD (drop at b) 0 0) && leb 8 v)) (passed .2)),
+      )
+
+  in-scope : isBinder (getD b at 0) ≡ true → v < 8
+  in-scope h =
+      let g : isBinder (getD (drop at b) 0 0) ≡ true = ap (λ (k : ℕ). isBinder k) (kind-at b at) ∙ h in
+      leb-false 8 v (sym (ap (λ (z : Bool). z && leb 8 v) g) ∙ sizes .2)
+
+  pub fine-records : n < 64
+  fine-records = ltb-true n 64 (sizes .0)
+
+  pub fine-fits : RecordFits b at left v
+  fine-fits =
+      record {
+        low = omega (arith, kind-at b at, leb-true 1 (getD (drop at b) 0 0) (and-left (leb 1 (getD (drop at b) 0 0)) (leb (getD (drop at b) 0 0) 13) (passed .1)));
+        high = omega (arith, kind-at b at, leb-true (getD (drop at b) 0 0) 13 (and-right (leb 1 (getD (drop at b) 0 0)) (leb (getD (drop at b) 0 0) 13) (passed .1)));
+        depth = omega (arith, leb-true (17 - left) 16 (sizes .1));
+        scope = in-scope;
+        whole = omega (
+          arith,
+          ap (λ (k : ℕ). bodySize k) (kind-at b at),
+          length-drop at b,
+          ltb-true 0 (length (drop at b)) (passed .0),
+          leb-true (1 + bodySize (getD (drop at b) 0 0)) (length (drop at b)) (passed .3),
+        );
+        fields = passed .4;
+      }

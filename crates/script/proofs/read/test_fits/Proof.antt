@@ -1,0 +1,19 @@
+use borrow.Author.Needs.{needs}
+use mathlib.Core.Path.{sym}
+use native.Mathlib.Omega.{arith}
+use Rattle.script.proofs.HeadLaws.{test-named, test-plain, test-none}
+use borrow.Author.Tests.{lt-ltb, le-ltb, le-leb, lt-leb, eq-eqb, ne-eqb}
+use Rattle.script.proofs.read.test_fits.Statement.{statement}
+use Rattle.script.proofs.read.test_fits.Tie as tie
+
+returns : tie.Need-returns
+returns c = sym (test-named (c .before .args .test) (c .before .args .name) (omega arith) (c .if1 .taken))
+
+returns-2 : tie.Need-returns-2
+returns-2 c = sym (test-plain (c .before .before .args .test) (c .before .before .args .name) (c .if2 .taken))
+
+returns-3 : tie.Need-returns-3
+returns-3 c = sym (test-none (c .before .before .args .test) (c .before .before .args .name) (omega arith))
+
+pub test-fits-spec : {M : Type 1} → statement M
+test-fits-spec = tie.close (tie.spec returns returns-2 returns-3)

@@ -1,0 +1,48 @@
+-- What reading a script answers, and the contracts of the reader's parts. Assumes nothing: these are definitions.
+use mathlib.Core.Path.{_≡_}
+use mathlib.Core.Bool.{Bool, true}
+use mathlib.Core.List.{List}
+use Prim.Native.Nat.{ℕ, suc, _+_, _-_, _≤_, _<_}
+use lib.Dec.{eqb}
+use lib.ListN.{length, getD, drop}
+use Rattle.model.specs.Base.{pick}
+use Rattle.model.specs.Limits.{maxDepth, maxBinders}
+use Rattle.model.specs.Refusal as refusal
+use Rattle.model.specs.Script.{Expr, Parsed, ill, parsed, parseFrom, readScript, exprFault, bodySize, isBinder}
+use Rattle.model.specs.Cases.{faultBy}
+use Rattle.table.specs.Calls.{faultOf}
+use Rattle.table.specs.declared.Fault.{Fault}
+use Rattle.script.specs.declared.read.End.{End}
+
+-- READING a script: its refusal, or none
+abbrev pub scriptRead : (bytes : List ℕ) → Fault
+scriptRead b = faultOf (faultBy (readScript b))
+
+-- the expression at a place, which may be `left` deep; one that may not be deeper than 0 is at depth 17
+abbrev pub parseAt : (bytes : List ℕ) → (at left records bound : ℕ) → Parsed
+parseAt b i k n v = parseFrom (suc (suc k)) (maxDepth + 1 - k) i n v (drop i b)
+
+abbrev pub endOf : Parsed → End
+endOf (ill x) = record { number = x .number; place = x .place; records = 0 }
+endOf (parsed e i n b) = record { number = 0; place = i; records = n }
+
+abbrev pub expressionRead : (bytes : List ℕ) → (at left records bound : ℕ) → End
+expressionRead b i k n v = endOf (parseAt b i k n v)
+
+-- THE PARTS: what each asks, and what it leaves
+pub record BodyPre (s : List ℕ) : Type 0 where
+  pub whole : 1 + bodySize (getD s 0 0) ≤ length s
+
+pub record InnerPre (kind bound : ℕ) : Type 0 where
+  pub room : isBinder kind ≡ true → bound < maxBinders
+
+pub record ExpressionPre (b : List ℕ) (at left : ℕ) : Type 0 where
+  pub within : at ≤ length b
+  pub depth : left ≤ maxDepth
+
+-- the refusal of a number at a place, 0 being none
+abbrev pub refusalAt : (number place : ℕ) → refusal.Fault
+refusalAt n i = pick (eqb n 0) refusal.fine (refusal.fault n i)
+
+pub record HeadPost (s : List ℕ) (left records bound r : ℕ) : Type 0 where
+  pub fault : (i : ℕ) → exprFault i records (maxDepth + 1 - left) bound s ≡ refusalAt r i

@@ -1,0 +1,32 @@
+// Scripts: reads one from any bytes, and walks an accepted one in place.
+ghost use mathlib.Core.Path.{_≡_};
+ghost use Rattle.script.specs.Reading.{scriptRead};
+use table::Fault;
+use table::Table;
+
+pub mod kinds;
+mod read;
+pub mod walk;
+
+// The refusal of a script, or number and place 0 where it is accepted: 3, bytes after the whole, comes last.
+pub fn read_script(bytes: &[u8]) -> Fault
+    ensures { λ r. ⌜ r ≡ scriptRead (now (bytes .entry)) ⌝ }
+{
+    let end = read::expression(bytes, 0, Table::DEPTH, 0, 0);
+    if end.number != 0 {
+        return Fault {
+            number: end.number,
+            place: end.place,
+        };
+    }
+    if end.place < bytes.len() {
+        return Fault {
+            number: Fault::TAIL,
+            place: end.place,
+        };
+    }
+    Fault {
+        number: 0,
+        place: 0,
+    }
+}

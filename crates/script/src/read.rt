@@ -1,0 +1,179 @@
+// Reads the expression at a place: per record 1, 5, 2, 4; then its operands, left to right.
+ghost use mathlib.Core.Path.{_≡_};
+ghost use mathlib.Core.Bool.{_&&_};
+ghost use Prim.Native.Nat.{_<_};
+ghost use lib.Dec.{leb};
+ghost use Rattle.model.specs.Script.{bodyFits, isBinder, testFits};
+ghost use Rattle.script.specs.Walk.{inner};
+ghost use Rattle.script.specs.Reading.{HeadPost, BodyPre, InnerPre, ExpressionPre, expressionRead};
+use crate::kinds;
+use table::Fault;
+use table::Table;
+
+// Records of a script, at most.
+const RECORDS: usize = 64;
+
+const AXES: u8 = 4;
+
+const RELATIONS: u8 = 3;
+
+// The test for the named element.
+const NAMED: u8 = 3;
+
+// After an expression: its refusal's number, or 0, and the refusal's place or the place past it; records so far.
+pub struct End {
+    pub number: u8,
+    pub place: usize,
+    pub records: usize,
+}
+
+fn index(b: u8) -> usize
+    ensures { λ r. ⌜ r ≡ b ⌝ }
+{
+    b as usize
+}
+
+// Name is 0 unless the test is 3, and then 1 to 255.
+fn test_fits(test: u8, name: u8) -> bool
+    ensures { λ r. ⌜ r ≡ testFits test name ⌝ }
+{
+    if test == NAMED {
+        return 1 <= name;
+    }
+    if test < NAMED {
+        return name == 0;
+    }
+    false
+}
+
+// The fields of the record at the front are in range, its variable is bound.
+fn body_fits(s: &[u8], bound: usize) -> bool
+    requires { ⌜ BodyPre (now s) ⌝ }
+    ensures { λ r. ⌜ r ≡ bodyFits bound (now (s .entry)) ⌝ }
+{
+    let kind = s[0];
+    if kind == kinds::DOCUMENT {
+        return index(s[1]) < Table::DOCUMENTS;
+    }
+    if kind == kinds::VARIABLE {
+        return index(s[1]) < bound;
+    }
+    if kind == kinds::STEP {
+        if AXES <= s[1] {
+            return false;
+        }
+        return test_fits(s[2], s[3]);
+    }
+    if kind == kinds::NEW_ELEMENT {
+        return 1 <= s[1];
+    }
+    if kind == kinds::PICK {
+        return s[1] < RELATIONS;
+    }
+    true
+}
+
+// A binder inside as many binders as there may be.
+fn is_ninth(kind: u8, bound: usize) -> bool
+    ensures { λ r. ⌜ r ≡ (isBinder kind && leb 8 bound) ⌝ }
+{
+    if kind == kinds::LET {
+        return Table::BINDERS <= bound;
+    }
+    if kind == kinds::FOR {
+        return Table::BINDERS <= bound;
+    }
+    false
+}
+
+// Variables in scope in the second operand.
+fn inner(kind: u8, bound: usize) -> usize
+    requires { ⌜ InnerPre kind bound ⌝ }
+    ensures { λ r. ⌜ r ≡ inner kind bound ⌝ }
+{
+    if kind == kinds::LET {
+        return bound + 1;
+    }
+    if kind == kinds::FOR {
+        return bound + 1;
+    }
+    bound
+}
+
+// The number of the refusal of the record at the front, or 0.
+fn head(s: &[u8], left: usize, records: usize, bound: usize) -> u8
+    ensures { λ r. ⌜ HeadPost (now (s .entry)) left records bound r ⌝ }
+{
+    if s.len() == 0 {
+        return Fault::SHORT;
+    }
+    let kind = s[0];
+    if kind < kinds::NIL {
+        return Fault::KIND;
+    }
+    if kinds::PICK < kind {
+        return Fault::KIND;
+    }
+    if RECORDS <= records {
+        return Fault::SIZE;
+    }
+    if left == 0 {
+        return Fault::SIZE;
+    }
+    if is_ninth(kind, bound) {
+        return Fault::SIZE;
+    }
+    if s.len() < 1 + kinds::body_size(kind) {
+        return Fault::SHORT;
+    }
+    if body_fits(s, bound) {
+        return 0;
+    }
+    Fault::FIELD
+}
+
+// The expression at a place, its records and those before it counted; `left` is how deep it may be.
+pub fn expression(bytes: &[u8], at: usize, left: usize, records: usize, bound: usize) -> End
+    requires { ⌜ ExpressionPre (now bytes) at left ⌝ }
+    ensures { λ r. ⌜ r ≡ expressionRead (now (bytes .entry)) at left records bound ⌝ }
+{
+    let number = head(&bytes[at..], left, records, bound);
+    if number != 0 {
+        return End {
+            number,
+            place: at,
+            records: 0,
+        };
+    }
+    let kind = bytes[at];
+    let operands = kinds::arity(kind);
+    let first_at = at + (1 + kinds::body_size(kind));
+    if operands == 0 {
+        return End {
+            number: 0,
+            place: first_at,
+            records: records + 1,
+        };
+    }
+    let first = expression(bytes, first_at, left - 1, records + 1, bound);
+    if first.number != 0 {
+        return first;
+    }
+    if operands == 1 {
+        return first;
+    }
+    let second = expression(
+        bytes,
+        first.place,
+        left - 1,
+        first.records,
+        inner(kind, bound),
+    );
+    if second.number != 0 {
+        return second;
+    }
+    if operands == 2 {
+        return second;
+    }
+    expression(bytes, second.place, left - 1, second.records, bound)
+}
