@@ -1,0 +1,4 @@
+pub mod CellLaws
+pub mod PositionLaws
+pub mod DocumentLaws
+pub mod EmitLaws

@@ -1,0 +1,1 @@
+// The path analysis: whether two scripts can touch the same node of some plan.
