@@ -1,4 +1,7 @@
 pub mod CellLaws
+pub mod MirrorLaws
 pub mod PositionLaws
 pub mod DocumentLaws
 pub mod EmitLaws
+pub mod TraverseLaws
+pub mod AnswerLaws
