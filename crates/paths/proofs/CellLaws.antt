@@ -246,7 +246,7 @@ module _ (s t : Step) where
       (sum-through (upStep t) (up-respects t) (λ (p : Path). row qs (p ▸ s)) ps ∙ ap (upStep t) (sym (sum-steps (λ (p : Path). sum (cell p) qs) s ps)))
 
 -- MEETING of lists is that of their cell
-isMet-join : (c d : Cell) → isMet (joinCell c d) ≡ (isMet c || isMet d)
+pub isMet-join : (c d : Cell) → isMet (joinCell c d) ≡ (isMet c || isMet d)
 isMet-join c d = or-swap (c .onElement) (d .onElement) (c .onLeaf) (d .onLeaf)
 
 isMet-sum : {A : Type 0} (f : A → Cell) (g : A → Bool) → ((a : A) → isMet (f a) ≡ g a) → (l : List A) → isMet (sum f l) ≡ any g l

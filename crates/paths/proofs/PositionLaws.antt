@@ -62,9 +62,14 @@ pathsAt-same (over s i) k ps qs l h = ap (withStep s) (h i l)
 pathsAt-same (union i j) k ps qs l h =
     ap (λ (v : List Path). v ++ getD ps j []) (h i (l .0)) ∙ ap (λ (v : List Path). getD qs i [] ++ v) (h j (l .1))
 
+pub pathsOn-split : (es : List Entry) (k : ℕ) → k < length es → pathsOn es k ≡ pathsAt (pathsBy (take k es)) (entryAt es k .position)
+pathsOn-split es k h =
+    ap (λ (l : List Entry). pathsOn l k) (split-at es k (plain nowhere) h) ∙
+    pathsOn-next (take k es) (entryAt es k) (drop (suc k) es) k (length-take-le k es (omega arith))
+
 pub pathsOn-at : (es : List Entry) → AreLower es → (k : ℕ) → k < length es → pathsOn es k ≡ pathsAt (pathsBy es) (entryAt es k .position)
 pathsOn-at es lower k h =
-    ap (λ (l : List Entry). pathsOn l k) split ∙ pathsOn-next (take k es) (entryAt es k) (drop (suc k) es) k len ∙
+    pathsOn-split es k h ∙
     pathsAt-same (entryAt es k .position) k (pathsBy (take k es)) (pathsBy es) (lower k h)
     (λ i l. sym (ap (λ (v : List Entry). pathsOn v i) split ∙ pathsOn-keeps (take k es) (entryAt es k ∷ drop (suc k) es) i (omega (arith, len))))
   where

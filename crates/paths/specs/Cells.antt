@@ -3,10 +3,12 @@ use mathlib.Core.Bool.{Bool, true, false, _&&_, _||_}
 use mathlib.Core.List.{List, [], _∷_}
 use Prim.Native.Nat.{ℕ, zero, suc}
 use lib.ListN.{length}
-use Rattle.model.specs.Script.{Step}
-use Rattle.model.specs.Paths.{documentPlace, Path}
+use Rattle.model.specs.Base.{pick}
+use Rattle.model.specs.Script.{Step, Expr}
+use Rattle.model.specs.Paths.{documentPlace, Path, hasUp}
 use Rattle.model.specs.Meeting.{Cell, onCell, joinCell, startCell, onStep, downStep, upStep, cell, isMet}
-use Rattle.paths.specs.Positions.{Position, nowhere, root, over, union, Entry, entryAt, pathsOn}
+use Rattle.model.specs.Meeting.{Answer, free, upward, meet}
+use Rattle.paths.specs.Positions.{Position, nowhere, root, over, union, Entry, entryAt, entriesOf, pathsOn}
 
 -- nothing in common
 abbrev pub noCell : Cell
@@ -62,3 +64,7 @@ rowMeets es fs k n = anyUpTo (meetAt es fs k) n
 
 abbrev pub positionsMeet : (first second : List Entry) → Bool
 positionsMeet es fs = anyUpTo (λ (k : ℕ). rowMeets es fs k (length fs)) (length es)
+
+-- THE ANSWER by positions
+abbrev pub answerBy : (first second : Expr) → Answer
+answerBy e f = pick (hasUp e || hasUp f) upward (pick (positionsMeet (entriesOf e) (entriesOf f)) meet free)
