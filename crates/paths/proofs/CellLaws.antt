@@ -3,9 +3,11 @@
 use mathlib.Core.Path.{_≡_, refl, ap, sym, _∙_}
 use mathlib.Core.Bool.{Bool, true, false, _&&_, _||_}
 use mathlib.Core.List.{List, [], _∷_, _++_}
+use Prim.Native.Nat.{ℕ}
+use lib.Dec.{eqb}
 use Rattle.model.specs.Base.{any}
 use Rattle.model.specs.Script.{Step}
-use Rattle.model.specs.Paths.{Place, Path, start, _▸_, withStep}
+use Rattle.model.specs.Paths.{Place, Path, start, _▸_, withStep, documentPlace}
 use Rattle.model.specs.Meeting.{Cell, onCell, joinCell, isDeep, isParent, admitsElement, admitsLeaf, shareElement, shareLeaf}
 use Rattle.model.specs.Meeting.{onStep, downStep, upStep, startCell, startCells, stepCells, cell, isMet, meets, anyMeet}
 use Rattle.paths.specs.Cells.{noCell, sum, between}
@@ -53,6 +55,10 @@ cell-equal x y a b c d e f =
     ap (λ (t : Bool). cellWith (y .onElement) (y .onLeaf) (y .downElement) t (x .upElement) (x .upLeaf)) d ∙
     ap (λ (t : Bool). cellWith (y .onElement) (y .onLeaf) (y .downElement) (y .downLeaf) t (x .upLeaf)) e ∙
     ap (λ (t : Bool). cellWith (y .onElement) (y .onLeaf) (y .downElement) (y .downLeaf) (y .upElement) t) f
+
+-- DOCUMENTS: their root, if they are one
+pub roots-are : (d e : ℕ) → onCell (eqb d e) false ≡ startCell (documentPlace d) (documentPlace e)
+roots-are d e = ap (onCell (eqb d e)) (sym (and-false (eqb d e)))
 
 -- JOINING
 pub join-none : (c : Cell) → joinCell c noCell ≡ c

@@ -1,2 +1,3 @@
 pub mod Positions
 pub mod Cells
+pub mod Codes

@@ -1,1 +1,2 @@
 // The path analysis: whether two scripts can touch the same node of some plan.
+mod cells;
