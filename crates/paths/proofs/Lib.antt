@@ -5,3 +5,4 @@ pub mod DocumentLaws
 pub mod EmitLaws
 pub mod TraverseLaws
 pub mod AnswerLaws
+pub mod WordLaws

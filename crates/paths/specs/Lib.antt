@@ -1,3 +1,4 @@
 pub mod Positions
 pub mod Cells
 pub mod Codes
+pub mod Words

@@ -5,19 +5,19 @@ ghost use Rattle.model.specs.Paths.{documentPlace};
 ghost use Rattle.paths.specs.Cells.{noCell};
 ghost use Rattle.paths.specs.Codes.{stepOf, cellOf};
 
-const DESCENDANT: u8 = 1;
+const DESCENDANT: usize = 1;
 
-const ANY_NODE: u8 = 0;
+const ANY_NODE: usize = 0;
 
-const ANY_ELEMENT: u8 = 1;
+const ANY_ELEMENT: usize = 1;
 
-const ANY_LEAF: u8 = 2;
+const ANY_LEAF: usize = 2;
 
 // A step: its axis, its test, and the name where the test has one.
 pub struct Step {
-    pub axis: u8,
-    pub test: u8,
-    pub name: u8,
+    pub axis: usize,
+    pub test: usize,
+    pub name: usize,
 }
 
 // For an element and for a leaf: whether some plan has such a node on both positions, or on the first at or below one on the second

@@ -1,2 +1,3 @@
 // The path analysis: whether two scripts can touch the same node of some plan.
 mod cells;
+mod positions;
