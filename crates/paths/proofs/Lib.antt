@@ -6,3 +6,4 @@ pub mod EmitLaws
 pub mod TraverseLaws
 pub mod AnswerLaws
 pub mod WordLaws
+pub mod PairLaws

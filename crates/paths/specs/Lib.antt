@@ -2,3 +2,4 @@ pub mod Positions
 pub mod Cells
 pub mod Codes
 pub mod Words
+pub mod Pairs
