@@ -13,7 +13,7 @@ use Rattle.model.specs.Refusal.{Fault, fault, fine, isFine, orElse, unless, kin
 use Rattle.model.specs.Script.{bodySize, bodyFits, testFits, isBinder, exprFault}
 use Rattle.model.proofs.BoolLaws.{by-cases, and-left, and-right}
 use Rattle.script.specs.Accepted.{RecordFits}
-use Rattle.script.specs.Reading.{HeadPost, refusalAt}
+use Rattle.script.specs.Reading.{BodyPre, BodyPost, HeadPost}
 
 -- THE TEST of a step and its name
 module _ (t n : ℕ) where
@@ -27,41 +27,58 @@ module _ (t n : ℕ) where
   test-none h = rw (ne-eqb t 3 (λ q. omega arith), le-ltb t 3 (omega arith))
 
 -- THE BODY of the record at the front, by its kind
-pub body-whole : (s : List ℕ) (k j : ℕ) → 1 + bodySize (getD s 0 0) ≤ length s → getD s 0 0 ≡ k → j ≤ bodySize k → j < length s
-body-whole s k j h e l = omega (arith, ap (λ (x : ℕ). bodySize x) e)
+pub body-whole : {s : List ℕ} {k : ℕ} → BodyPre s → getD s 0 0 ≡ k → (j : ℕ) → j ≤ bodySize k → j < length s
+body-whole pre e j l = omega (arith, pre .whole, ap (λ (x : ℕ). bodySize x) e)
 
-module _ (s : List ℕ) (v : ℕ) where
-  pub body-document : getD s 0 0 ≡ 2 → bodyFits v s ≡ ltb (getD s 1 0) 8
-  body-document e = rw e
+module _ {s : List ℕ} {v : ℕ} where
+  pub body-document : {j : ℕ} → getD s 0 0 ≡ 2 → j ≡ getD s 1 0 → BodyPost s v (ltb j 8)
+  body-document e h = record { fits = rw (e, h) }
 
-  pub body-variable : getD s 0 0 ≡ 3 → bodyFits v s ≡ ltb (getD s 1 0) v
-  body-variable e = rw e
+  pub body-variable : {j : ℕ} → getD s 0 0 ≡ 3 → j ≡ getD s 1 0 → BodyPost s v (ltb j v)
+  body-variable e h = record { fits = rw (e, h) }
 
-  pub body-axis : getD s 0 0 ≡ 4 → 4 ≤ getD s 1 0 → bodyFits v s ≡ false
-  body-axis e h = rw (e, le-ltb (getD s 1 0) 4 h)
+  pub body-axis : getD s 0 0 ≡ 4 → 4 ≤ getD s 1 0 → BodyPost s v false
+  body-axis e h = record { fits = rw (e, le-ltb (getD s 1 0) 4 h) }
 
-  pub body-step : getD s 0 0 ≡ 4 → getD s 1 0 < 4 → bodyFits v s ≡ testFits (getD s 2 0) (getD s 3 0)
-  body-step e h = rw (e, lt-ltb (getD s 1 0) 4 h)
+  pub body-step : {r : Bool} → getD s 0 0 ≡ 4 → getD s 1 0 < 4 → r ≡ testFits (getD s 2 0) (getD s 3 0) → BodyPost s v r
+  body-step e h t = record { fits = t ∙ rw (e, lt-ltb (getD s 1 0) 4 h) }
 
-  pub body-element : getD s 0 0 ≡ 9 → getD s 1 0 ≤ 255 → bodyFits v s ≡ leb 1 (getD s 1 0)
-  body-element e h = rw (e, le-leb (getD s 1 0) 255 h) (by-cases (leb 1 (getD s 1 0)) (λ q. rw q) (λ q. rw q))
+  pub body-element : getD s 0 0 ≡ 9 → getD s 1 0 ≤ 255 → BodyPost s v (leb 1 (getD s 1 0))
+  body-element e h =
+      record { fits = rw (e, le-leb (getD s 1 0) 255 h) (by-cases (leb 1 (getD s 1 0)) (λ q. rw q) (λ q. rw q)) }
 
-  pub body-pick : getD s 0 0 ≡ 13 → bodyFits v s ≡ ltb (getD s 1 0) 3
-  body-pick e = rw e
+  pub body-pick : getD s 0 0 ≡ 13 → BodyPost s v (ltb (getD s 1 0) 3)
+  body-pick e = record { fits = rw e }
 
-  pub body-none : (getD s 0 0 ≡ 2 → ⊥) → (getD s 0 0 ≡ 3 → ⊥) → (getD s 0 0 ≡ 4 → ⊥) → (getD s 0 0 ≡ 9 → ⊥) → (getD s 0 0 ≡ 13 → ⊥) →
-      bodyFits v s ≡ true
+  pub body-none : (getD s 0 0 ≡ 2 → ⊥) → (getD s 0 0 ≡ 3 → ⊥) → (getD s 0 0 ≡ 4 → ⊥) → (getD s 0 0 ≡ 9 → ⊥) →
+      (getD s 0 0 ≡ 13 → ⊥) → BodyPost s v true
   body-none f g h i j =
-      rw (
-        ne-eqb (getD s 0 0) 2 f,
-        ne-eqb (getD s 0 0) 3 g,
-        ne-eqb (getD s 0 0) 4 h,
-        ne-eqb (getD s 0 0) 9 i,
-        ne-eqb (getD s 0 0) 13 j,
-      )
+      record {
+        fits = rw (
+          ne-eqb (getD s 0 0) 2 f,
+          ne-eqb (getD s 0 0) 3 g,
+          ne-eqb (getD s 0 0) 4 h,
+          ne-eqb (getD s 0 0) 9 i,
+          ne-eqb (getD s 0 0) 13 j,
+        );
+      }
 
 -- THE REFUSAL of the record at the front, one law for each way out
-module _ (s : List ℕ) (left n v : ℕ) where
+body-left : (s : List ℕ) (left n v i : ℕ) → 0 < length s → 1 ≤ getD s 0 0 → getD s 0 0 ≤ 13 → n < 64 → 0 < left →
+    (isBinder (getD s 0 0) && leb 8 v) ≡ false → 1 + bodySize (getD s 0 0) ≤ length s →
+    exprFault i n (17 - left) v s ≡ unless (bodyFits v s) (fieldAt i)
+body-left s left n v i some low high room depth scope whole =
+    rw (
+      lt-ltb 0 (length s) some,
+      le-leb 1 (getD s 0 0) low,
+      le-leb (getD s 0 0) 13 high,
+      lt-ltb n 64 room,
+      le-leb (17 - left) 16 (omega arith),
+      scope,
+      le-leb (1 + bodySize (getD s 0 0)) (length s) whole,
+    )
+
+module _ {s : List ℕ} {left n v : ℕ} where
   pub head-empty : length s ≡ 0 → HeadPost s left n v 2
   head-empty e = record { fault = λ i. rw e }
 
@@ -84,62 +101,54 @@ module _ (s : List ℕ) (left n v : ℕ) where
     module _ (room : n < 64) where
       pub head-depth : left ≡ 0 → HeadPost s left n v 5
       head-depth e =
-          record { fault = λ i. rw (lt-ltb 0 (length s) some, le-leb 1 (getD s 0 0) low, le-leb (getD s 0 0) 13 high, lt-ltb n 64 room, e) }
+          record {
+            fault = λ i. rw (lt-ltb 0 (length s) some, le-leb 1 (getD s 0 0) low, le-leb (getD s 0 0) 13 high, lt-ltb n 64 room, e);
+          }
 
       module _ (depth : 0 < left) where
-        deep : leb (17 - left) 16 ≡ true
-        deep = le-leb (17 - left) 16 (omega arith)
-
         pub head-ninth : (isBinder (getD s 0 0) && leb 8 v) ≡ true → HeadPost s left n v 5
         head-ninth e =
+            let d : leb (17 - left) 16 ≡ true = le-leb (17 - left) 16 (omega arith) in
             record {
-              fault = λ i. rw (
-                lt-ltb 0 (length s) some,
-                le-leb 1 (getD s 0 0) low,
-                le-leb (getD s 0 0) 13 high,
-                lt-ltb n 64 room,
-                deep,
-                e,
-              );
+              fault = λ i. rw (lt-ltb 0 (length s) some, le-leb 1 (getD s 0 0) low, le-leb (getD s 0 0) 13 high, lt-ltb n 64 room, d, e);
             }
 
         module _ (scope : (isBinder (getD s 0 0) && leb 8 v) ≡ false) where
           pub head-short : length s < 1 + bodySize (getD s 0 0) → HeadPost s left n v 2
           head-short h =
+              let d : leb (17 - left) 16 ≡ true = le-leb (17 - left) 16 (omega arith) in
+              let w : leb (1 + bodySize (getD s 0 0)) (length s) ≡ false = lt-leb (1 + bodySize (getD s 0 0)) (length s) h in
               record {
                 fault = λ i. rw (
                   lt-ltb 0 (length s) some,
                   le-leb 1 (getD s 0 0) low,
                   le-leb (getD s 0 0) 13 high,
                   lt-ltb n 64 room,
-                  deep,
+                  d,
                   scope,
-                  lt-leb (1 + bodySize (getD s 0 0)) (length s) h,
+                  w,
                 );
               }
 
           module _ (whole : 1 + bodySize (getD s 0 0) ≤ length s) where
-            head-body : (i : ℕ) → exprFault i n (17 - left) v s ≡ unless (bodyFits v s) (fieldAt i)
-            head-body i =
-                rw (
-                  lt-ltb 0 (length s) some,
-                  le-leb 1 (getD s 0 0) low,
-                  le-leb (getD s 0 0) 13 high,
-                  lt-ltb n 64 room,
-                  deep,
-                  scope,
-                  le-leb (1 + bodySize (getD s 0 0)) (length s) whole,
-                )
+            pub head-fine : {r : Bool} → BodyPost s v r → r ≡ true → HeadPost s left n v 0
+            head-fine f e =
+                record {
+                  fault = λ i. body-left s left n v i some low high room depth scope whole ∙
+                      ap (λ (z : Bool). unless z (fieldAt i)) (sym (f .fits) ∙ e);
+                }
 
-            pub head-fine : bodyFits v s ≡ true → HeadPost s left n v 0
-            head-fine e = record { fault = λ i. head-body i ∙ ap (λ (z : Bool). unless z (fieldAt i)) e }
-
-            pub head-field : bodyFits v s ≡ false → HeadPost s left n v 4
-            head-field e = record { fault = λ i. head-body i ∙ ap (λ (z : Bool). unless z (fieldAt i)) e }
+            pub head-field : {r : Bool} → BodyPost s v r → r ≡ false → HeadPost s left n v 4
+            head-field f e =
+                record {
+                  fault = λ i. body-left s left n v i some low high room depth scope whole ∙
+                      ap (λ (z : Bool). unless z (fieldAt i)) (sym (f .fits) ∙ e);
+                }
 
 -- AN ACCEPTED RECORD passed every test
 tests : (p q r s t : Bool) (i : ℕ) →
-    isFine (orElse (unless p (shortAt i)) (orElse (unless q (kindAt i)) (orElse (unless r (sizeAt i)) (orElse (unless s (shortAt i)) (unless t (fieldAt i)))))) ≡ true →
+    isFine (orElse (unless p (shortAt i)) (orElse (unless q (kindAt i)) (orElse (unless r (sizeAt i))
+    (orElse (unless s (shortAt i)) (unless t (fieldAt i)))))) ≡ true →
     (p ≡ true) × (q ≡ true) × (r ≡ true) × (s ≡ true) × (t ≡ true)
 tests true true true true true i e = (refl, refl, refl, refl, refl)
 tests true true true true false i e = absurd (false≢true e)
@@ -180,8 +189,12 @@ module _ (b : List ℕ) (at left n v i : ℕ) (e : isFine (exprFault i n (17 - l
   pub fine-fits : RecordFits b at left v
   fine-fits =
       record {
-        low = omega (arith, kind-at b at, leb-true 1 (getD (drop at b) 0 0) (and-left (leb 1 (getD (drop at b) 0 0)) (leb (getD (drop at b) 0 0) 13) (passed .1)));
-        high = omega (arith, kind-at b at, leb-true (getD (drop at b) 0 0) 13 (and-right (leb 1 (getD (drop at b) 0 0)) (leb (getD (drop at b) 0 0) 13) (passed .1)));
+        low =
+            let h = and-left (leb 1 (getD (drop at b) 0 0)) (leb (getD (drop at b) 0 0) 13) (passed .1) in
+            omega (arith, kind-at b at, leb-true 1 (getD (drop at b) 0 0) h);
+        high =
+            let h = and-right (leb 1 (getD (drop at b) 0 0)) (leb (getD (drop at b) 0 0) 13) (passed .1) in
+            omega (arith, kind-at b at, leb-true (getD (drop at b) 0 0) 13 h);
         depth = omega (arith, leb-true (17 - left) 16 (sizes .1));
         scope = in-scope;
         whole = omega (

@@ -2,5 +2,8 @@ pub mod WalkLaws
 pub mod HeadLaws
 pub mod ParseLaws
 pub mod PlaceLaws
+pub mod RefusalLaws
 pub mod ExpressionLaws
 pub mod ScriptLaws
+pub mod AcceptedLaws
+pub mod FieldLaws

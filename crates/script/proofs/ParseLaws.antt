@@ -1,22 +1,21 @@
--- The model's reader at a place: its operands by arity, and what it accepts is the expression there and ends there.
-use mathlib.Core.Path.{_≡_, refl, ap, sym, _∙_}
-use mathlib.Core.Bool.{Bool, true, false, _&&_, _||_, not}
+-- The model's reader at a place, its operands by arity: the record is refused, or the operands are read one after another.
+use mathlib.Core.Path.{_≡_, refl, ap, _∙_}
+use mathlib.Core.Bool.{true}
 use mathlib.Core.List.{List}
-use mathlib.Core.Logic.{_⊎_, inl, inr, ⊎-elim}
-use Prim.Native.Nat.{ℕ, zero, suc, _+_, _-_, _≤_, _<_}
+use Prim.Native.Nat.{ℕ, suc, _+_, _-_, _≤_, _<_}
 use native.Mathlib.Omega.{arith}
-use lib.Dec.{ltb, leb, eqb}
-use lib.ListN.{length, length-drop, getD, drop}
+use lib.Dec.{eqb}
+use lib.ListN.{getD, drop}
 use lib.Seq.{getD-drop, drop-drop}
-use borrow.Author.Tests.{eq-eqb, ne-eqb, eqb-true, eqb-false}
+use borrow.Author.Tests.{ne-eqb, eqb-true, eqb-false}
 use Rattle.model.specs.Base.{pick}
-use Rattle.model.specs.Refusal.{Fault, fault, fine, isFine}
-use Rattle.model.specs.Script.{Expr, nil, Parsed, ill, parsed, thenParse, operands, parseFrom, exprFault, bodySize, bodyFits, isBinder}
+use Rattle.model.specs.Refusal.{Fault, fault, isFine}
+use Rattle.model.specs.Script.{Expr, Parsed, ill, parsed, thenParse, operands, parseFrom, exprFault, bodySize}
 use Rattle.model.proofs.BoolLaws.{by-cases}
-use Rattle.script.proofs.HeadLaws.{kind-at, fine-fits, fine-records}
-use Rattle.script.specs.Walk.{arity, inner, past, endAt, firstAt, secondAt, thirdAt, exprOf, exprAt}
+use Rattle.script.specs.Walk.{arity, inner, firstAt, secondAt, thirdAt, exprOf, exprAt}
+use Rattle.script.specs.Reading.{parseAt, refusalAt}
 use Rattle.script.specs.Accepted.{RecordFits}
-use Rattle.script.specs.Reading.{parseAt, endOf, expressionRead, refusalAt}
+use Rattle.script.proofs.HeadLaws.{kind-at, fine-fits}
 
 -- a kind is one of thirteen
 pub below : {P : Type 0} (k m : ℕ) → k ≤ suc m → (k ≡ suc m → P) → (k ≤ m → P) → P
@@ -29,54 +28,57 @@ by-kind k l h f1 f2 f3 f4 f5 f6 f7 f8 f9 f10 f11 f12 f13 =
     (λ h. below k 7 h f8 (λ h. below k 6 h f7 (λ h. below k 5 h f6 (λ h. below k 4 h f5 (λ h. below k 3 h f4
     (λ h. below k 2 h f3 (λ h. below k 1 h f2 (λ h. below k 0 h f1 (λ h. absurd (omega arith))))))))))))))
 
--- OPERANDS BY ARITY: what is read after the record at a place, after its first operand, and after its second.
--- An operand that the record does not have is any expression
-abbrev pub Parse : Type 0
-Parse = (place records bound : ℕ) → List ℕ → Parsed
-
--- the reader of what may be so deep
-abbrev pub reader : (left : ℕ) → Parse
+-- OPERANDS BY ARITY: what is read after the record of a kind at a place, and after its first, its second and its third operand.
+-- For an operand that the record does not have stands what is at its place
+abbrev pub reader : (left place records bound : ℕ) → List ℕ → Parsed
 reader k = parseFrom (suc (suc k)) (17 - k)
 
-abbrev pub afterSecond : Parse → (kind : ℕ) → List ℕ → (at bound : ℕ) → (third first second : Expr) → (place records : ℕ) → List ℕ → Parsed
-afterSecond f k b i v z x y j m c =
-    pick (eqb (arity k) 2) (parsed (exprOf k b i x y z) j m c)
-    (thenParse (f j m v c) (λ (w : Expr) (j m : ℕ) (c : List ℕ). parsed (exprOf k b i x y w) j m c))
+abbrev pub afterThird : (kind : ℕ) → List ℕ → (at : ℕ) → (first second third : Expr) → (place records : ℕ) → List ℕ → Parsed
+afterThird q b i x y z j m c = parsed (exprOf q b i x y z) j m c
 
-abbrev pub afterFirst : Parse → (kind : ℕ) → List ℕ → (at bound : ℕ) → (second third first : Expr) → (place records : ℕ) → List ℕ → Parsed
-afterFirst f k b i v y z x j m c =
-    pick (eqb (arity k) 1) (parsed (exprOf k b i x y z) j m c)
-    (thenParse (f j m (inner k v) c) (afterSecond f k b i v z x))
+abbrev pub afterSecond : (left kind : ℕ) → List ℕ → (at bound : ℕ) → (first second : Expr) → (place records : ℕ) → List ℕ → Parsed
+afterSecond k q b i v x y j m c =
+    pick (eqb (arity q) 2) (parsed (exprOf q b i x y (exprAt k b (thirdAt b i))) j m c)
+    (thenParse (reader k j m v c) (afterThird q b i x y))
 
-abbrev pub afterRecord : Parse → (kind : ℕ) → List ℕ → (at bound : ℕ) → (first second third : Expr) → (place records : ℕ) → List ℕ → Parsed
-afterRecord f k b i v x y z j m c =
-    pick (eqb (arity k) 0) (parsed (exprOf k b i x y z) j m c)
-    (thenParse (f j m v c) (afterFirst f k b i v y z))
+abbrev pub afterFirst : (left kind : ℕ) → List ℕ → (at bound : ℕ) → (first : Expr) → (place records : ℕ) → List ℕ → Parsed
+afterFirst k q b i v x j m c =
+    pick (eqb (arity q) 1) (parsed (exprOf q b i x (exprAt k b (secondAt b i)) (exprAt k b (thirdAt b i))) j m c)
+    (thenParse (reader k j m (inner q v) c) (afterSecond k q b i v x))
 
-module _ (f : Parse) (k : ℕ) (b : List ℕ) (i v j m : ℕ) (c : List ℕ) (x y z : Expr) where
-  pub after-none : arity k ≡ 0 → afterRecord f k b i v x y z j m c ≡ parsed (exprOf k b i x y z) j m c
+abbrev pub afterRecord : (left kind : ℕ) → List ℕ → (at bound place records : ℕ) → List ℕ → Parsed
+afterRecord k q b i v j m c =
+    pick (eqb (arity q) 0)
+    (parsed (exprOf q b i (exprAt k b (firstAt b i)) (exprAt k b (secondAt b i)) (exprAt k b (thirdAt b i))) j m c)
+    (thenParse (reader k j m v c) (afterFirst k q b i v))
+
+module _ (k q : ℕ) (b : List ℕ) (i v j m : ℕ) (c : List ℕ) where
+  pub after-none : arity q ≡ 0 → afterRecord k q b i v j m c ≡
+      parsed (exprOf q b i (exprAt k b (firstAt b i)) (exprAt k b (secondAt b i)) (exprAt k b (thirdAt b i))) j m c
   after-none e = rw e
 
-  pub after-record : 0 < arity k → afterRecord f k b i v x y z j m c ≡ thenParse (f j m v c) (afterFirst f k b i v y z)
-  after-record h = let g : arity k ≡ 0 → ⊥ = λ q. omega arith in rw (ne-eqb (arity k) 0 g)
+  pub after-record : 0 < arity q → afterRecord k q b i v j m c ≡ thenParse (reader k j m v c) (afterFirst k q b i v)
+  after-record h = let g : arity q ≡ 0 → ⊥ = λ z. omega arith in rw (ne-eqb (arity q) 0 g)
 
-  pub after-one : arity k ≡ 1 → afterFirst f k b i v y z x j m c ≡ parsed (exprOf k b i x y z) j m c
-  after-one e = rw e
+  module _ (x : Expr) where
+    pub after-one : arity q ≡ 1 →
+        afterFirst k q b i v x j m c ≡ parsed (exprOf q b i x (exprAt k b (secondAt b i)) (exprAt k b (thirdAt b i))) j m c
+    after-one e = rw e
 
-  pub after-first : 1 < arity k → afterFirst f k b i v y z x j m c ≡ thenParse (f j m (inner k v) c) (afterSecond f k b i v z x)
-  after-first h = let g : arity k ≡ 1 → ⊥ = λ q. omega arith in rw (ne-eqb (arity k) 1 g)
+    pub after-first : 1 < arity q → afterFirst k q b i v x j m c ≡ thenParse (reader k j m (inner q v) c) (afterSecond k q b i v x)
+    after-first h = let g : arity q ≡ 1 → ⊥ = λ z. omega arith in rw (ne-eqb (arity q) 1 g)
 
-  pub after-two : arity k ≡ 2 → afterSecond f k b i v z x y j m c ≡ parsed (exprOf k b i x y z) j m c
-  after-two e = rw e
+    module _ (y : Expr) where
+      pub after-two : arity q ≡ 2 → afterSecond k q b i v x y j m c ≡ parsed (exprOf q b i x y (exprAt k b (thirdAt b i))) j m c
+      after-two e = rw e
 
-  pub after-second : 2 < arity k →
-      afterSecond f k b i v z x y j m c ≡ thenParse (f j m v c) (λ (w : Expr) (j m : ℕ) (c : List ℕ). parsed (exprOf k b i x y w) j m c)
-  after-second h = let g : arity k ≡ 2 → ⊥ = λ q. omega arith in rw (ne-eqb (arity k) 2 g)
+      pub after-second : 2 < arity q → afterSecond k q b i v x y j m c ≡ thenParse (reader k j m v c) (afterThird q b i x y)
+      after-second h = let g : arity q ≡ 2 → ⊥ = λ z. omega arith in rw (ne-eqb (arity q) 2 g)
 
-operands-by : (f : Parse) (b : List ℕ) (i j m v : ℕ) (c : List ℕ) (x y z : Expr) → 1 ≤ getD b i 0 → getD b i 0 ≤ 13 →
-    operands f i j m v (drop i b) c ≡ afterRecord f (getD b i 0) b i v x y z j m c
+operands-by : (k : ℕ) (b : List ℕ) (i j m v : ℕ) (c : List ℕ) → 1 ≤ getD b i 0 → getD b i 0 ≤ 13 →
+    operands (reader k) i j m v (drop i b) c ≡ afterRecord k (getD b i 0) b i v j m c
 unfolding arity inner exprOf
-operands-by f b i j m v c x y z low high =
+operands-by k b i j m v c low high =
     by-kind (getD b i 0) low high
     (λ e. rw (kind-at b i, e))
     (λ e. rw (kind-at b i, getD-drop i b 1 0, e))
@@ -92,55 +94,52 @@ operands-by f b i j m v c x y z low high =
     (λ e. rw (kind-at b i, e))
     (λ e. rw (kind-at b i, getD-drop i b 1 0, getD-drop i b 2 0, e))
 
--- a refusal is no acceptance
-pub ill-parsed : (f : Fault) (e : Expr) (j m : ℕ) (c : List ℕ) → ill f ≡ parsed e j m c → ⊥
-ill-parsed f e j m c h = let z : _≡_ {A = ℕ} 0 1 = cc in omega arith
-
 -- THE RECORD at a place: refused, or its operands are read
-module _ (b : List ℕ) (i left n v : ℕ) where
-  pub parse-refused : (r : ℕ) → (r ≡ 0 → ⊥) → exprFault i n (17 - left) v (drop i b) ≡ refusalAt r i → parseAt b i left n v ≡ ill (fault r i)
-  unfolding parseFrom
-  parse-refused r h e = rw (e, ne-eqb r 0 h) (rw (ne-eqb r 0 h))
+pub parse-refused : (b : List ℕ) (i left n v r : ℕ) → (r ≡ 0 → ⊥) → exprFault i n (17 - left) v (drop i b) ≡ refusalAt r i →
+    parseAt b i left n v ≡ ill (fault r i)
+unfolding parseFrom
+parse-refused b i left n v r h e = rw (e, ne-eqb r 0 h) (rw (ne-eqb r 0 h))
 
-pub parse-fine : (k d i n v : ℕ) (s : List ℕ) → isFine (exprFault i n d v s) ≡ true → parseFrom (suc k) d i n v s ≡
+parse-fine : (k d i n v : ℕ) (s : List ℕ) → isFine (exprFault i n d v s) ≡ true → parseFrom (suc k) d i n v s ≡
     operands (parseFrom k (d + 1)) i (i + (1 + bodySize (getD s 0 0))) (n + 1) v s (drop (1 + bodySize (getD s 0 0)) s)
 unfolding parseFrom
 parse-fine k d i n v s e = rw e
 
-module _ (b : List ℕ) (i k n v : ℕ) (shallow : k < 16) (e : isFine (exprFault i n (17 - suc k) v (drop i b)) ≡ true) where
-  pub fits : RecordFits b i (suc k) v
-  fits = fine-fits b i (suc k) n v i e
+-- one level deeper is one level less to go
+deeper : (k i j n v : ℕ) (s c : List ℕ) → k < 16 →
+    operands (parseFrom (suc (suc k)) (17 - suc k + 1)) i j n v s c ≡ operands (reader k) i j n v s c
+deeper k i j n v s c h =
+    let e : 17 - suc k + 1 ≡ 17 - k = omega arith in ap (λ (d : ℕ). operands (parseFrom (suc (suc k)) d) i j n v s c) e
 
-  deeper : 17 - suc k + 1 ≡ 17 - k
-  deeper = omega arith
+pub parse-operands : (b : List ℕ) (i k n v : ℕ) → k < 16 → isFine (exprFault i n (17 - suc k) v (drop i b)) ≡ true →
+    parseAt b i (suc k) n v ≡ afterRecord k (getD b i 0) b i v (firstAt b i) (n + 1) (drop (firstAt b i) b)
+parse-operands b i k n v shallow e =
+    let f : RecordFits b i (suc k) v = fine-fits b i (suc k) n v i e in
+    parse-fine (suc (suc k)) (17 - suc k) i n v (drop i b) e ∙
+    deeper k i (i + (1 + bodySize (getD (drop i b) 0 0))) (n + 1) v (drop i b) (drop (1 + bodySize (getD (drop i b) 0 0)) (drop i b))
+    shallow ∙
+    ap (λ (q : ℕ). operands (reader k) i (i + (1 + bodySize q)) (n + 1) v (drop i b) (drop (1 + bodySize q) (drop i b))) (kind-at b i) ∙
+    ap (operands (reader k) i (firstAt b i) (n + 1) v (drop i b)) (drop-drop (1 + bodySize (getD b i 0)) i b) ∙
+    operands-by k b i (firstAt b i) (n + 1) v (drop (firstAt b i) b) (f .low) (f .high)
 
-  pub parse-operands : (x y z : Expr) → parseAt b i (suc k) n v ≡
-      afterRecord (reader k) (getD b i 0) b i v x y z (firstAt b i) (n + 1) (drop (firstAt b i) b)
-  parse-operands x y z =
-      parse-fine (suc (suc k)) (17 - suc k) i n v (drop i b) e ∙
-      ap (λ (d : ℕ). operands (parseFrom (suc (suc k)) d) i (i + (1 + bodySize (getD (drop i b) 0 0))) (n + 1) v (drop i b) (drop (1 + bodySize (getD (drop i b) 0 0)) (drop i b))) deeper ∙
-      ap (λ (x : ℕ). operands (reader k) i (i + (1 + bodySize x)) (n + 1) v (drop i b) (drop (1 + bodySize x) (drop i b))) (kind-at b i) ∙
-      ap (operands (reader k) i (firstAt b i) (n + 1) v (drop i b)) (drop-drop (1 + bodySize (getD b i 0)) i b) ∙
-      operands-by (reader k) b i (firstAt b i) (n + 1) v (drop (firstAt b i) b) x y z (fits .low) (fits .high)
+-- ACCEPTED: the record passed its tests, and what was read first was accepted
+pub ill-parsed : {f : Fault} {e : Expr} {j m : ℕ} {c : List ℕ} → ill f ≡ parsed e j m c → ⊥
+ill-parsed h = let z : _≡_ {A = ℕ} 0 1 = cc in omega arith
 
--- accepted: the record passed its tests
-pub parsed-fine : (k d i n v : ℕ) (s : List ℕ) (e : Expr) (j m : ℕ) (c : List ℕ) → parseFrom (suc k) d i n v s ≡ parsed e j m c →
+pub parsed-fine : (k d i n v : ℕ) (s : List ℕ) {e : Expr} {j m : ℕ} {c : List ℕ} → parseFrom (suc k) d i n v s ≡ parsed e j m c →
     isFine (exprFault i n d v s) ≡ true
 unfolding parseFrom
-parsed-fine k d i n v s e j m c h =
-    by-cases (isFine (exprFault i n d v s)) (λ t. t)
-    (λ t. absurd (ill-parsed (exprFault i n d v s) e j m c (rw t at h)))
+parsed-fine k d i n v s h = by-cases (isFine (exprFault i n d v s)) (λ t. t) (λ t. absurd (ill-parsed (rw t at h)))
 
--- accepted: so was what was read first
 pub record Then (x : Parsed) (next : Expr → ℕ → ℕ → List ℕ → Parsed) (e : Expr) (j m : ℕ) (c : List ℕ) : Type 0 where
   pub expr : Expr
   pub place : ℕ
   pub records : ℕ
   pub bytes : List ℕ
-  pub first : x ≡ parsed expr place records bytes
+  pub is : x ≡ parsed expr place records bytes
   pub rest : next expr place records bytes ≡ parsed e j m c
 
-pub then-parsed : (x : Parsed) (next : Expr → ℕ → ℕ → List ℕ → Parsed) (e : Expr) (j m : ℕ) (c : List ℕ) →
+pub then-parsed : (x : Parsed) (next : Expr → ℕ → ℕ → List ℕ → Parsed) {e : Expr} {j m : ℕ} {c : List ℕ} →
     thenParse x next ≡ parsed e j m c → Then x next e j m c
-then-parsed (ill f) next e j m c h = absurd (ill-parsed f e j m c h)
-then-parsed (parsed e′ j′ m′ c′) next e j m c h = record { expr = e′; place = j′; records = m′; bytes = c′; first = refl; rest = h }
+then-parsed (ill f) next h = absurd (ill-parsed h)
+then-parsed (parsed e j m c) next h = record { expr = e; place = j; records = m; bytes = c; is = refl; rest = h }

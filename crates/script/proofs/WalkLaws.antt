@@ -1,4 +1,4 @@
--- Where expressions end: a step over one record, and what is cut off.
+-- Where expressions end: a step over one record, what is cut off, and the walk past an expression.
 use mathlib.Core.Path.{_≡_, refl, ap, sym, _∙_}
 use mathlib.Core.Bool.{Bool, true, false}
 use mathlib.Core.List.{List, [], _∷_}
@@ -79,3 +79,28 @@ past-none b at = omega (arith, span-none (drop at b))
 pub past-empty : (b : List ℕ) (at : ℕ) → length b ≤ at → past 1 b at ≡ at
 unfolding span
 past-empty b at h = rw (drop-of-length-le b h) (omega arith)
+
+-- THE WALK from one expression on: the place reached and how many are pending, with bytes left for each
+pub record Walked (b : List ℕ) (at next pending : ℕ) : Type 0 where
+  pub within : next + pending ≤ length b
+  pub ends : past pending b next ≡ endAt b at
+
+pub walk-starts : {b : List ℕ} {at : ℕ} → at < length b → Walked b at at 1
+walk-starts h = record { within = omega arith; ends = refl }
+
+module _ {b : List ℕ} {at i p : ℕ} (w : Walked b at i p) where
+  pub walk-ends : p ≡ 0 → i ≡ endAt b at
+  walk-ends e = sym (past-none b i) ∙ ap (λ (q : ℕ). past q b i) (sym e) ∙ w .ends
+
+  module _ {s a : ℕ} (pending : 0 < p) (body : s ≡ bodySize (getD b i 0)) (operands : a ≡ arity (getD b i 0)) where
+    pub walk-short : length b - i - p < s + a → length b ≡ endAt b at
+    walk-short h = sym (past-short b p i pending (omega (arith, w .within)) (omega (arith, w .within, body, operands))) ∙ w .ends
+
+    pub walk-on : s + a ≤ length b - i - p → Walked b at (i + (1 + s)) (p - 1 + a)
+    walk-on h =
+        record {
+          within = omega (arith, w .within);
+          ends =
+              ap (λ (q : ℕ). past (p - 1 + a) b (i + (1 + q))) body ∙ ap (λ (q : ℕ). past (p - 1 + q) b (firstAt b i)) operands ∙
+              sym (past-record b p i pending (omega (arith, w .within)) (omega (arith, w .within, body))) ∙ w .ends;
+        }

@@ -8,7 +8,7 @@ use lib.ListN.{length, getD, drop}
 use Rattle.model.specs.Base.{pick}
 use Rattle.model.specs.Limits.{maxDepth, maxBinders}
 use Rattle.model.specs.Refusal as refusal
-use Rattle.model.specs.Script.{Expr, Parsed, ill, parsed, parseFrom, readScript, exprFault, bodySize, isBinder}
+use Rattle.model.specs.Script.{Expr, Parsed, ill, parsed, parseFrom, readScript, exprFault, bodySize, bodyFits, isBinder}
 use Rattle.model.specs.Cases.{faultBy}
 use Rattle.table.specs.Calls.{faultOf}
 use Rattle.table.specs.declared.Fault.{Fault}
@@ -33,12 +33,18 @@ expressionRead b i k n v = endOf (parseAt b i k n v)
 pub record BodyPre (s : List ℕ) : Type 0 where
   pub whole : 1 + bodySize (getD s 0 0) ≤ length s
 
+pub record BodyPost (s : List ℕ) (bound : ℕ) (r : Bool) : Type 0 where
+  pub fits : r ≡ bodyFits bound s
+
 pub record InnerPre (kind bound : ℕ) : Type 0 where
   pub room : isBinder kind ≡ true → bound < maxBinders
 
 pub record ExpressionPre (b : List ℕ) (at left : ℕ) : Type 0 where
   pub within : at ≤ length b
   pub depth : left ≤ maxDepth
+
+pub record ExpressionPost (b : List ℕ) (at left records bound : ℕ) (r : End) : Type 0 where
+  pub read : r ≡ expressionRead b at left records bound
 
 -- the refusal of a number at a place, 0 being none
 abbrev pub refusalAt : (number place : ℕ) → refusal.Fault

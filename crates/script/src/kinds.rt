@@ -1,7 +1,7 @@
 // The kinds of a script's records: their numbers, and for each the bytes of its body and its operands.
 ghost use mathlib.Core.Path.{_≡_};
 ghost use Prim.Native.Nat.{_<_};
-ghost use Rattle.model.specs.Script.{bodySize};
+ghost use Rattle.model.specs.Script.{bodySize, isBinder};
 ghost use Rattle.script.specs.Walk.{arity};
 
 pub const NIL: u8 = 0x01;
@@ -86,4 +86,14 @@ pub fn arity(kind: u8) -> usize
         return 1;
     }
     0
+}
+
+// Let and for bind a variable in their second operand.
+pub fn is_binder(kind: u8) -> bool
+    ensures { λ r. ⌜ r ≡ isBinder kind ⌝ }
+{
+    if kind == LET {
+        return true;
+    }
+    kind == FOR
 }

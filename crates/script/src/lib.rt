@@ -13,16 +13,17 @@ pub fn read_script(bytes: &[u8]) -> Fault
     ensures { λ r. ⌜ r ≡ scriptRead (now (bytes .entry)) ⌝ }
 {
     let end = read::expression(bytes, 0, Table::DEPTH, 0, 0);
+    let place = end.place;
     if end.number != 0 {
         return Fault {
             number: end.number,
             place: end.place,
         };
     }
-    if end.place < bytes.len() {
+    if place < bytes.len() {
         return Fault {
             number: Fault::TAIL,
-            place: end.place,
+            place,
         };
     }
     Fault {

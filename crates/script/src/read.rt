@@ -1,11 +1,11 @@
 // Reads the expression at a place: per record 1, 5, 2, 4; then its operands, left to right.
 ghost use mathlib.Core.Path.{_≡_};
 ghost use mathlib.Core.Bool.{_&&_};
-ghost use Prim.Native.Nat.{_<_};
 ghost use lib.Dec.{leb};
-ghost use Rattle.model.specs.Script.{bodyFits, isBinder, testFits};
+ghost use Rattle.model.specs.Limits.{maxBinders};
+ghost use Rattle.model.specs.Script.{isBinder, testFits};
 ghost use Rattle.script.specs.Walk.{inner};
-ghost use Rattle.script.specs.Reading.{HeadPost, BodyPre, InnerPre, ExpressionPre, expressionRead};
+ghost use Rattle.script.specs.Reading.{BodyPre, BodyPost, InnerPre, HeadPost, ExpressionPre, ExpressionPost};
 use crate::kinds;
 use table::Fault;
 use table::Table;
@@ -49,7 +49,7 @@ fn test_fits(test: u8, name: u8) -> bool
 // The fields of the record at the front are in range, its variable is bound.
 fn body_fits(s: &[u8], bound: usize) -> bool
     requires { ⌜ BodyPre (now s) ⌝ }
-    ensures { λ r. ⌜ r ≡ bodyFits bound (now (s .entry)) ⌝ }
+    ensures { λ r. ⌜ BodyPost (now (s .entry)) bound r ⌝ }
 {
     let kind = s[0];
     if kind == kinds::DOCUMENT {
@@ -75,12 +75,9 @@ fn body_fits(s: &[u8], bound: usize) -> bool
 
 // A binder inside as many binders as there may be.
 fn is_ninth(kind: u8, bound: usize) -> bool
-    ensures { λ r. ⌜ r ≡ (isBinder kind && leb 8 bound) ⌝ }
+    ensures { λ r. ⌜ r ≡ (isBinder kind && leb maxBinders bound) ⌝ }
 {
-    if kind == kinds::LET {
-        return Table::BINDERS <= bound;
-    }
-    if kind == kinds::FOR {
+    if kinds::is_binder(kind) {
         return Table::BINDERS <= bound;
     }
     false
@@ -91,10 +88,7 @@ fn inner(kind: u8, bound: usize) -> usize
     requires { ⌜ InnerPre kind bound ⌝ }
     ensures { λ r. ⌜ r ≡ inner kind bound ⌝ }
 {
-    if kind == kinds::LET {
-        return bound + 1;
-    }
-    if kind == kinds::FOR {
+    if kinds::is_binder(kind) {
         return bound + 1;
     }
     bound
@@ -135,7 +129,7 @@ fn head(s: &[u8], left: usize, records: usize, bound: usize) -> u8
 // The expression at a place, its records and those before it counted; `left` is how deep it may be.
 pub fn expression(bytes: &[u8], at: usize, left: usize, records: usize, bound: usize) -> End
     requires { ⌜ ExpressionPre (now bytes) at left ⌝ }
-    ensures { λ r. ⌜ r ≡ expressionRead (now (bytes .entry)) at left records bound ⌝ }
+    ensures { λ r. ⌜ ExpressionPost (now (bytes .entry)) at left records bound r ⌝ }
 {
     let number = head(&bytes[at..], left, records, bound);
     if number != 0 {

@@ -1,10 +1,8 @@
-use borrow.Author.Needs.{needs}
-use mathlib.Core.Path.{_≡_, sym, ap, _∙_}
-use Prim.Native.Nat.{ℕ}
+-- `read::body_fits` meets its contract: each answer cites one law of HeadLaws.
 use native.Mathlib.Omega.{arith}
-use lib.Dec.{ltb}
-use Rattle.script.proofs.HeadLaws.{body-whole, body-document, body-variable, body-axis, body-step, body-element, body-pick, body-none}
-use borrow.Author.Tests.{lt-ltb, le-ltb, le-leb, lt-leb, eq-eqb, ne-eqb}
+use borrow.Author.Needs.{needs}
+use Rattle.script.proofs.HeadLaws.{body-whole, body-document, body-variable, body-axis}
+use Rattle.script.proofs.HeadLaws.{body-step, body-element, body-pick, body-none}
 use Rattle.script.proofs.read.body_fits.Statement.{statement}
 use Rattle.script.proofs.read.body_fits.Tie as tie
 
@@ -12,55 +10,63 @@ shared-slice-read-kind : tie.Need-shared-slice-read-kind
 shared-slice-read-kind c = omega arith
 
 shared-slice-read-index : tie.Need-shared-slice-read-index
-shared-slice-read-index c = body-whole (c .before .before .before .before .args .s .now) 2 1 (c .before .before .before .before .pre .whole) (c .before .if1 .taken) (omega arith)
+shared-slice-read-index c = body-whole (c .before .before .before .before .pre) (c .before .if1 .taken) 1 (omega arith)
 
 index-requires : tie.Need-index-requires
 index-requires c κs = search needs
 
 returns : tie.Need-returns
-returns c = ap (λ (j : ℕ). ltb j 8) (c .index .ensures) ∙ sym (body-document (c .before .before .before .before .before .args .s .now) (c .before .before .before .before .before .args .bound) (c .before .before .if1 .taken))
+returns c = body-document (c .before .before .if1 .taken) (c .index .ensures)
 
 shared-slice-read-index-2 : tie.Need-shared-slice-read-index-2
-shared-slice-read-index-2 c = body-whole (c .before .before .before .before .before .args .s .now) 3 1 (c .before .before .before .before .before .pre .whole) (c .before .if2 .taken) (omega arith)
+shared-slice-read-index-2 c = body-whole (c .before .before .before .before .before .pre) (c .before .if2 .taken) 1 (omega arith)
 
 index-requires-2 : tie.Need-index-requires-2
 index-requires-2 c κs = search needs
 
 returns-2 : tie.Need-returns-2
-returns-2 c = ap (λ (j : ℕ). ltb j (c .before .before .before .before .before .before .args .bound)) (c .index2 .ensures) ∙ sym (body-variable (c .before .before .before .before .before .before .args .s .now) (c .before .before .before .before .before .before .args .bound) (c .before .before .if2 .taken))
+returns-2 c = body-variable (c .before .before .if2 .taken) (c .index2 .ensures)
 
 shared-slice-read-if4 : tie.Need-shared-slice-read-if4
-shared-slice-read-if4 c = body-whole (c .before .before .before .before .before .before .args .s .now) 4 1 (c .before .before .before .before .before .before .pre .whole) (c .before .if3 .taken) (omega arith)
+shared-slice-read-if4 c = body-whole (c .before .before .before .before .before .before .pre) (c .before .if3 .taken) 1 (omega arith)
 
 returns-3 : tie.Need-returns-3
-returns-3 c = sym (body-axis (c .before .before .before .before .before .before .before .args .s .now) (c .before .before .before .before .before .before .before .args .bound) (c .before .before .if3 .taken) (c .if4 .taken))
+returns-3 c = body-axis (c .before .before .if3 .taken) (c .if4 .taken)
 
 shared-slice-read-test-fits : tie.Need-shared-slice-read-test-fits
-shared-slice-read-test-fits c = body-whole (c .before .before .before .before .before .before .before .before .args .s .now) 4 2 (c .before .before .before .before .before .before .before .before .pre .whole) (c .before .before .before .if3 .taken) (omega arith)
+shared-slice-read-test-fits c =
+    body-whole (c .before .before .before .before .before .before .before .before .pre)
+    (c .before .before .before .if3 .taken) 2 (omega arith)
 
 shared-slice-read-test-fits-2 : tie.Need-shared-slice-read-test-fits-2
-shared-slice-read-test-fits-2 c = body-whole (c .before .before .before .before .before .before .before .before .before .args .s .now) 4 3 (c .before .before .before .before .before .before .before .before .before .pre .whole) (c .before .before .before .before .if3 .taken) (omega arith)
+shared-slice-read-test-fits-2 c =
+    body-whole (c .before .before .before .before .before .before .before .before .before .pre)
+    (c .before .before .before .before .if3 .taken) 3 (omega arith)
 
 test-fits-requires : tie.Need-test-fits-requires
 test-fits-requires c κs = search needs
 
 returns-4 : tie.Need-returns-4
-returns-4 c = c .test-fits .ensures ∙ sym (body-step (c .before .before .before .before .before .before .before .before .before .before .args .s .now) (c .before .before .before .before .before .before .before .before .before .before .args .bound) (c .before .before .before .before .before .if3 .taken) (omega arith))
+returns-4 c = body-step (c .before .before .before .before .before .if3 .taken) (omega arith) (c .test-fits .ensures)
 
 shared-slice-read-result : tie.Need-shared-slice-read-result
-shared-slice-read-result c = body-whole (c .before .before .before .before .before .before .before .args .s .now) 9 1 (c .before .before .before .before .before .before .before .pre .whole) (c .before .if5 .taken) (omega arith)
+shared-slice-read-result c =
+    body-whole (c .before .before .before .before .before .before .before .pre) (c .before .if5 .taken) 1 (omega arith)
 
 returns-5 : tie.Need-returns-5
-returns-5 c = sym (body-element (c .before .before .before .before .before .before .before .args .s .now) (c .before .before .before .before .before .before .before .args .bound) (c .before .if5 .taken) (omega (arith, c .shared-slice-known8 .given 1)))
+returns-5 c = body-element (c .before .if5 .taken) (omega (arith, c .shared-slice-known8 .given 1))
 
 shared-slice-read-result-2 : tie.Need-shared-slice-read-result-2
-shared-slice-read-result-2 c = body-whole (c .before .before .before .before .before .before .before .before .args .s .now) 13 1 (c .before .before .before .before .before .before .before .before .pre .whole) (c .before .if6 .taken) (omega arith)
+shared-slice-read-result-2 c =
+    body-whole (c .before .before .before .before .before .before .before .before .pre) (c .before .if6 .taken) 1 (omega arith)
 
 returns-6 : tie.Need-returns-6
-returns-6 c = sym (body-pick (c .before .before .before .before .before .before .before .before .args .s .now) (c .before .before .before .before .before .before .before .before .args .bound) (c .before .if6 .taken))
+returns-6 c = body-pick (c .before .if6 .taken)
 
 returns-7 : tie.Need-returns-7
-returns-7 c = sym (body-none (c .before .before .before .before .before .before .before .args .s .now) (c .before .before .before .before .before .before .before .args .bound) (c .before .before .before .before .if1 .left) (c .before .before .before .if2 .left) (c .before .before .if3 .left) (c .before .if5 .left) (c .if6 .left))
+returns-7 c =
+    body-none (c .before .before .before .before .if1 .left) (c .before .before .before .if2 .left) (c .before .before .if3 .left)
+    (c .before .if5 .left) (c .if6 .left)
 
 pub body-fits-spec : {M : Type 1} → statement M
 body-fits-spec =

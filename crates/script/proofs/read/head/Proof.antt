@@ -1,34 +1,36 @@
-use borrow.Author.Needs.{needs}
-use mathlib.Core.Path.{_≡_, sym, ap, _∙_}
+-- `read::head` meets its contract: each answer cites one law of HeadLaws.
+use mathlib.Core.Path.{sym, _∙_}
 use native.Mathlib.Omega.{arith}
-use Rattle.script.proofs.HeadLaws.{head-empty, head-low, head-high, head-records, head-depth, head-ninth, head-short, head-fine, head-field}
-use borrow.Author.Tests.{lt-ltb, le-ltb, le-leb, lt-leb, eq-eqb, ne-eqb}
+use borrow.Author.Needs.{needs}
+use Rattle.script.proofs.HeadLaws.{head-empty, head-low, head-high, head-records, head-depth, head-ninth}
+use Rattle.script.proofs.HeadLaws.{head-short, head-fine, head-field}
 use Rattle.script.proofs.read.head.Statement.{statement}
 use Rattle.script.proofs.read.head.Tie as tie
 
 returns : tie.Need-returns
-returns c = head-empty (c .before .before .args .s .now) (c .before .before .args .left) (c .before .before .args .records) (c .before .before .args .bound) (c .if1 .taken)
+returns c = head-empty (c .if1 .taken)
 
 shared-slice-read-kind : tie.Need-shared-slice-read-kind
 shared-slice-read-kind c = search needs
 
 returns-2 : tie.Need-returns-2
-returns-2 c = head-low (c .before .before .before .before .args .s .now) (c .before .before .before .before .args .left) (c .before .before .before .before .args .records) (c .before .before .before .before .args .bound) (c .before .before .if1 .left) (c .if2 .taken)
+returns-2 c = head-low (c .before .before .if1 .left) (c .if2 .taken)
 
 returns-3 : tie.Need-returns-3
-returns-3 c = head-high (c .before .before .before .before .before .args .s .now) (c .before .before .before .before .before .args .left) (c .before .before .before .before .before .args .records) (c .before .before .before .before .before .args .bound) (c .before .before .before .if1 .left) (c .if3 .taken)
+returns-3 c = head-high (c .before .before .before .if1 .left) (c .if3 .taken)
 
 returns-4 : tie.Need-returns-4
-returns-4 c = head-records (c .before .before .before .before .before .before .args .s .now) (c .before .before .before .before .before .before .args .left) (c .before .before .before .before .before .before .args .records) (c .before .before .before .before .before .before .args .bound) (omega arith) (omega arith) (omega arith) (c .if4 .taken)
+returns-4 c = head-records (omega arith) (omega arith) (omega arith) (c .if4 .taken)
 
 returns-5 : tie.Need-returns-5
-returns-5 c = head-depth (c .before .before .before .before .before .before .before .args .s .now) (c .before .before .before .before .before .before .before .args .left) (c .before .before .before .before .before .before .before .args .records) (c .before .before .before .before .before .before .before .args .bound) (omega arith) (omega arith) (omega arith) (omega arith) (c .if5 .taken)
+returns-5 c = head-depth (omega arith) (omega arith) (omega arith) (omega arith) (c .if5 .taken)
 
 is-ninth-requires : tie.Need-is-ninth-requires
 is-ninth-requires c κs = search needs
 
 returns-6 : tie.Need-returns-6
-returns-6 c = head-ninth (c .before .before .before .before .before .before .before .before .before .args .s .now) (c .before .before .before .before .before .before .before .before .before .args .left) (c .before .before .before .before .before .before .before .before .before .args .records) (c .before .before .before .before .before .before .before .before .before .args .bound) (omega arith) (omega arith) (omega arith) (omega arith) (omega arith) (sym (c .before .is-ninth .ensures) ∙ c .if6 .taken)
+returns-6 c =
+    head-ninth (omega arith) (omega arith) (omega arith) (omega arith) (omega arith) (sym (c .before .is-ninth .ensures) ∙ c .if6 .taken)
 
 body-size-requires : tie.Need-body-size-requires
 body-size-requires c κs = search needs
@@ -37,16 +39,26 @@ add-if7 : tie.Need-add-if7
 add-if7 c = search needs
 
 returns-7 : tie.Need-returns-7
-returns-7 c = head-short (c .before .before .before .before .before .before .before .before .before .before .before .args .s .now) (c .before .before .before .before .before .before .before .before .before .before .before .args .left) (c .before .before .before .before .before .before .before .before .before .before .before .args .records) (c .before .before .before .before .before .before .before .before .before .before .before .args .bound) (omega arith) (omega arith) (omega arith) (omega arith) (omega arith) (sym (c .before .before .before .is-ninth .ensures) ∙ c .before .before .if6 .left) (omega (arith, c .before .body-size .ensures .0))
+returns-7 c =
+    let n = sym (c .before .before .before .is-ninth .ensures) ∙ c .before .before .if6 .left in
+    head-short (omega arith) (omega arith) (omega arith) (omega arith) (omega arith) n (omega (arith, c .before .body-size .ensures .0))
 
 body-fits-requires : tie.Need-body-fits-requires
-body-fits-requires c κs = record { whole = (omega (arith, c .before .body-size .ensures .0, c .if7 .left)) }
+body-fits-requires c κs = record { whole = omega (arith, c .before .body-size .ensures .0, c .if7 .left) }
 
 returns-8 : tie.Need-returns-8
-returns-8 c = head-fine (c .before .before .before .before .before .before .before .before .before .before .before .before .before .args .s .now) (c .before .before .before .before .before .before .before .before .before .before .before .before .before .args .left) (c .before .before .before .before .before .before .before .before .before .before .before .before .before .args .records) (c .before .before .before .before .before .before .before .before .before .before .before .before .before .args .bound) (omega arith) (omega arith) (omega arith) (omega arith) (omega arith) (sym (c .before .before .before .before .before .is-ninth .ensures) ∙ c .before .before .before .before .if6 .left) (omega (arith, c .before .before .before .body-size .ensures .0, c .before .before .if7 .left)) (sym (c .before .body-fits .ensures) ∙ c .if8 .taken)
+returns-8 c =
+    let n = sym (c .before .before .before .before .before .is-ninth .ensures) ∙ c .before .before .before .before .if6 .left in
+    head-fine (omega arith) (omega arith) (omega arith) (omega arith) (omega arith) n
+    (omega (arith, c .before .before .before .body-size .ensures .0, c .before .before .if7 .left))
+    (c .before .body-fits .ensures) (c .if8 .taken)
 
 returns-9 : tie.Need-returns-9
-returns-9 c = head-field (c .before .before .before .before .before .before .before .before .before .before .before .before .before .args .s .now) (c .before .before .before .before .before .before .before .before .before .before .before .before .before .args .left) (c .before .before .before .before .before .before .before .before .before .before .before .before .before .args .records) (c .before .before .before .before .before .before .before .before .before .before .before .before .before .args .bound) (omega arith) (omega arith) (omega arith) (omega arith) (omega arith) (sym (c .before .before .before .before .before .is-ninth .ensures) ∙ c .before .before .before .before .if6 .left) (omega (arith, c .before .before .before .body-size .ensures .0, c .before .before .if7 .left)) (sym (c .before .body-fits .ensures) ∙ c .if8 .left)
+returns-9 c =
+    let n = sym (c .before .before .before .before .before .is-ninth .ensures) ∙ c .before .before .before .before .if6 .left in
+    head-field (omega arith) (omega arith) (omega arith) (omega arith) (omega arith) n
+    (omega (arith, c .before .before .before .body-size .ensures .0, c .before .before .if7 .left))
+    (c .before .body-fits .ensures) (c .if8 .left)
 
 pub head-spec : {M : Type 1} → statement M
 head-spec =

@@ -1,28 +1,28 @@
+-- `read::inner` meets its contract: a binder binds one variable more, and there is room for it.
 use borrow.Author.Needs.{needs}
 use Prim.Native.Nat.{_<_}
 use native.Mathlib.Omega.{arith}
-use borrow.Author.Tests.{lt-ltb, le-ltb, le-leb, lt-leb, eq-eqb, ne-eqb}
+use mathlib.Core.Path.{sym, _∙_}
 use Rattle.script.specs.Walk.{inner}
 use Rattle.script.proofs.read.inner.Statement.{statement}
 use Rattle.script.proofs.read.inner.Tie as tie
 
+is-binder-requires : tie.Need-is-binder-requires
+is-binder-requires c κs = search needs
+
 add-result : tie.Need-add-result
-add-result c = let h : c .before .args .bound < 8 = c .before .pre .room (rw (c .if1 .taken)) in omega arith
+add-result c =
+    let s = c .before .before in
+    let h : s .args .bound < 8 = s .pre .room (sym (c .before .is-binder .ensures) ∙ c .if1 .taken) in
+    omega arith
 
 returns : tie.Need-returns
 unfolding inner
-returns c = search (eq-eqb, ne-eqb, lt-ltb, le-ltb, le-leb, lt-leb, needs)
-
-add-result-2 : tie.Need-add-result-2
-add-result-2 c = let h : c .before .before .args .bound < 8 = c .before .before .pre .room (rw (c .if2 .taken)) in omega arith
+returns c = rw (sym (c .before .is-binder .ensures) ∙ c .if1 .taken)
 
 returns-2 : tie.Need-returns-2
 unfolding inner
-returns-2 c = search (eq-eqb, ne-eqb, lt-ltb, le-ltb, le-leb, lt-leb, needs)
-
-returns-3 : tie.Need-returns-3
-unfolding inner
-returns-3 c = search (eq-eqb, ne-eqb, lt-ltb, le-ltb, le-leb, lt-leb, needs)
+returns-2 c = rw (sym (c .before .is-binder .ensures) ∙ c .if1 .left)
 
 pub inner-spec : {M : Type 1} → statement M
-inner-spec = tie.close (tie.spec add-result returns add-result-2 returns-2 returns-3)
+inner-spec = tie.close (tie.spec is-binder-requires add-result returns returns-2)

@@ -1,16 +1,17 @@
+-- `read::is_ninth` meets its contract: its test is the definition's.
 use borrow.Author.Needs.{needs}
-use borrow.Author.Tests.{lt-ltb, le-ltb, le-leb, lt-leb, eq-eqb, ne-eqb}
+use mathlib.Core.Path.{sym, _∙_}
 use Rattle.script.proofs.read.is_ninth.Statement.{statement}
 use Rattle.script.proofs.read.is_ninth.Tie as tie
 
+is-binder-requires : tie.Need-is-binder-requires
+is-binder-requires c κs = search needs
+
 returns : tie.Need-returns
-returns c = search (eq-eqb, ne-eqb, lt-ltb, le-ltb, le-leb, lt-leb, needs)
+returns c = rw (sym (c .before .is-binder .ensures) ∙ c .if1 .taken)
 
 returns-2 : tie.Need-returns-2
-returns-2 c = search (eq-eqb, ne-eqb, lt-ltb, le-ltb, le-leb, lt-leb, needs)
-
-returns-3 : tie.Need-returns-3
-returns-3 c = search (eq-eqb, ne-eqb, lt-ltb, le-ltb, le-leb, lt-leb, needs)
+returns-2 c = rw (sym (c .before .is-binder .ensures) ∙ c .if1 .left)
 
 pub is-ninth-spec : {M : Type 1} → statement M
-is-ninth-spec = tie.close (tie.spec returns returns-2 returns-3)
+is-ninth-spec = tie.close (tie.spec is-binder-requires returns returns-2)

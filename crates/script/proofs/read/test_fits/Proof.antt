@@ -1,8 +1,7 @@
-use borrow.Author.Needs.{needs}
+-- `read::test_fits` meets its contract: each answer cites one law of HeadLaws.
 use mathlib.Core.Path.{sym}
 use native.Mathlib.Omega.{arith}
 use Rattle.script.proofs.HeadLaws.{test-named, test-plain, test-none}
-use borrow.Author.Tests.{lt-ltb, le-ltb, le-leb, lt-leb, eq-eqb, ne-eqb}
 use Rattle.script.proofs.read.test_fits.Statement.{statement}
 use Rattle.script.proofs.read.test_fits.Tie as tie
 

@@ -1,15 +1,15 @@
-use borrow.Author.Needs.{needs}
-use mathlib.Core.Path.{_≡_, refl, ap, sym, _∙_}
-use Prim.Native.Nat.{ℕ, _+_, _-_, _≤_, _<_}
+-- `walk::end_at` meets its contract. The loop's invariant is `Walked`; the measure is what is left of the bytes.
+use mathlib.Core.Path.{sym}
+use Prim.Native.Nat.{_-_}
 use native.Mathlib.Omega.{arith}
-use lib.ListN.{length, getD}
-use Rattle.script.specs.Walk.{arity, past, endAt, firstAt}
-use Rattle.script.proofs.WalkLaws.{past-record, past-short, past-none, past-empty}
+use lib.ListN.{length}
+use borrow.Author.Needs.{needs}
+use Rattle.script.proofs.WalkLaws.{past-empty, Walked, walk-starts, walk-ends, walk-short, walk-on}
 use Rattle.script.proofs.walk.end_at.Statement.{statement}
 use Rattle.script.proofs.walk.end_at.Tie as tie
 
 abbrev Inv-loop : tie.InvT-loop
-Inv-loop bytes at next₀ pending₀ next pending = (next + pending ≤ length bytes) × (past pending bytes next ≡ endAt bytes at)
+Inv-loop bytes at next₀ pending₀ next pending = Walked bytes at next pending
 
 abbrev μ-loop : tie.MeasureT-loop
 μ-loop bytes at next₀ pending₀ next pending = length bytes - next
@@ -18,7 +18,7 @@ returns : tie.Need-returns Inv-loop μ-loop
 returns c = sym (past-empty (c .before .before .args .bytes .now) (c .before .before .args .at) (c .if1 .taken))
 
 loop-holds : tie.Need-loop-holds Inv-loop μ-loop
-loop-holds c = (omega arith, refl)
+loop-holds c = walk-starts (omega arith)
 
 shared-slice-read-kind : tie.Need-shared-slice-read-kind Inv-loop μ-loop
 shared-slice-read-kind c = search needs
@@ -39,7 +39,10 @@ add-if2 : tie.Need-add-if2 Inv-loop μ-loop
 add-if2 c = search needs
 
 returns-2 : tie.Need-returns-2 Inv-loop μ-loop
-returns-2 c = sym (past-short (c .before .before .before .before .before .before .before .before .args .bytes .now) (c .before .before .before .before .before .loop .pending) (c .before .before .before .before .before .loop .next) (omega arith) (omega arith) (omega (arith, c .before .before .body-size .ensures .0, c .before .arity .ensures .0))) ∙ c .before .before .before .before .before .loop .inv .1
+returns-2 c =
+    walk-short (c .before .before .before .before .before .loop .inv) (omega arith)
+    (c .before .before .body-size .ensures .0) (c .before .arity .ensures .0)
+    (c .if2 .taken)
 
 add-next : tie.Need-add-next Inv-loop μ-loop
 add-next c = search needs
@@ -58,13 +61,12 @@ loop-less c = search needs
 
 loop-again : tie.Need-loop-again Inv-loop μ-loop
 loop-again c =
-    let i : c .before .before .before .before .before .loop .next + (1 + c .before .before .body-size .result) ≡ firstAt (c .before .before .before .before .before .before .before .before .args .bytes .now) (c .before .before .before .before .before .loop .next) = ap (λ (s : ℕ). c .before .before .before .before .before .loop .next + (1 + s)) (c .before .before .body-size .ensures .0) in (
-      omega arith,
-      ap (past (c .before .before .before .before .before .loop .pending - 1 + c .before .arity .result) (c .before .before .before .before .before .before .before .before .args .bytes .now)) i ∙ ap (λ (a : ℕ). past (c .before .before .before .before .before .loop .pending - 1 + a) (c .before .before .before .before .before .before .before .before .args .bytes .now) (firstAt (c .before .before .before .before .before .before .before .before .args .bytes .now) (c .before .before .before .before .before .loop .next))) (c .before .arity .ensures .0) ∙ sym (past-record (c .before .before .before .before .before .before .before .before .args .bytes .now) (c .before .before .before .before .before .loop .pending) (c .before .before .before .before .before .loop .next) (omega arith) (omega arith) (omega (arith, c .before .before .body-size .ensures .0))) ∙ c .before .before .before .before .before .loop .inv .1,
-    )
+    walk-on (c .before .before .before .before .before .loop .inv) (omega arith)
+    (c .before .before .body-size .ensures .0) (c .before .arity .ensures .0)
+    (omega arith)
 
 returns-3 : tie.Need-returns-3 Inv-loop μ-loop
-returns-3 c = let e : c .before .loop .pending ≡ 0 = omega arith in sym (past-none (c .before .before .before .before .args .bytes .now) (c .before .loop .next)) ∙ ap (λ (p : ℕ). past p (c .before .before .before .before .args .bytes .now) (c .before .loop .next)) (sym e) ∙ c .before .loop .inv .1
+returns-3 c = walk-ends (c .before .loop .inv) (omega arith)
 
 pub end-at-spec : {M : Type 1} → statement M
 end-at-spec =

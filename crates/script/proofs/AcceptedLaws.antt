@@ -1,0 +1,225 @@
+-- For an evaluator: an accepted expression in place, its fields' ranges and, kind by kind, its operands.
+use mathlib.Core.Path.{_≡_, refl, ap, sym, subst, _∙_}
+use mathlib.Core.List.{List}
+use Prim.Native.Nat.{ℕ, suc, _+_, _-_, _≤_, _<_}
+use native.Mathlib.Omega.{arith}
+use lib.ListN.{length, getD}
+use Rattle.model.specs.Script.{Expr, nil, document, var, step, both, letIn, forIn, ifIn, element, leaf, delete, insert, choose, stepBy}
+use Rattle.model.specs.Script.{nilKind, documentKind, varKind, stepKind, bothKind, letKind, forKind, ifKind}
+use Rattle.model.specs.Script.{newElementKind, newLeafKind, deleteKind, insertKind, pickKind, parsed}
+use Rattle.script.specs.Walk.{arity, inner, past, endAt, firstAt, secondAt, thirdAt, exprOf, exprAt}
+use Rattle.script.specs.Reading.{parseAt}
+use Rattle.script.specs.Accepted.{Accepted, RecordFits, Nullary, Unary, Binary, Ternary}
+use Rattle.script.proofs.WalkLaws.{past-none}
+use Rattle.script.proofs.ParseLaws.{afterFirst, afterSecond, Then}
+use Rattle.script.proofs.PlaceLaws.{Reads, Known, reads, reads-end, accepted-fits, pending}
+use Rattle.script.proofs.PlaceLaws.{first-operand, first-reads, second-operand, second-reads, third-operand}
+
+-- where it ends, and what it is
+module _ (b : List ℕ) (at left v : ℕ) (a : Accepted b at left v) where
+  reading : Reads b at left (a .expr) (a .place) (a .rest)
+  reading = reads b left (a .deep) at (a .records) v (a .expr) (a .place) (a .after) (a .rest) (a .read)
+
+  pub accepted-record : RecordFits b at left v
+  accepted-record = accepted-fits b at left (a .records) v (a .read)
+
+  pub accepted-within : endAt b at ≤ length b
+  accepted-within = omega (arith, reading .within, reads-end reading)
+
+  pub accepted-past : (p : ℕ) → past (suc p) b at ≡ past p b (endAt b at)
+  accepted-past p = reading .ends p ∙ ap (past p b) (reads-end reading)
+
+  level : left ≡ suc (left - 1)
+  level = omega (arith, accepted-record .depth)
+
+  made : exprAt left b at ≡
+      exprOf (getD b at 0) b at (exprAt (left - 1) b (firstAt b at)) (exprAt (left - 1) b (secondAt b at))
+      (exprAt (left - 1) b (thirdAt b at))
+  unfolding exprAt
+  made = ap (λ (q : ℕ). exprAt q b at) level
+
+  -- its operands
+  read-level : parseAt b at (suc (left - 1)) (a .records) v ≡ parsed (a .expr) (a .place) (a .after) (a .rest)
+  read-level = ap (λ (q : ℕ). parseAt b at q (a .records) v) (sym level) ∙ a .read
+
+  shallow : left - 1 < 16
+  shallow = omega (arith, a .deep, accepted-record .depth)
+
+  known : Known b (left - 1)
+  known = reads b (left - 1) (omega (arith, a .deep))
+
+  abbrev FirstFound : Type 0
+  FirstFound =
+      Then (parseAt b (firstAt b at) (left - 1) (a .records + 1) v) (afterFirst (left - 1) (getD b at 0) b at v)
+      (a .expr) (a .place) (a .after) (a .rest)
+
+  first-found : 0 < arity (getD b at 0) → FirstFound
+  first-found = first-operand b at (left - 1) (a .records) v shallow known read-level
+
+  accepted-first : 0 < arity (getD b at 0) → Accepted b (firstAt b at) (left - 1) v
+  accepted-first some =
+      let t = first-found some in
+      record {
+        deep = omega (arith, a .deep);
+        records = a .records + 1;
+        expr = t .expr;
+        place = t .place;
+        after = t .records;
+        rest = t .bytes;
+        read = t .is;
+      }
+
+  module _ (t : FirstFound) where
+    second-at : t .place ≡ secondAt b at
+    second-at = reads-end (first-reads b at (left - 1) (a .records) v shallow known read-level t)
+
+    abbrev SecondFound : Type 0
+    SecondFound =
+        Then (parseAt b (t .place) (left - 1) (t .records) (inner (getD b at 0) v)) (afterSecond (left - 1) (getD b at 0) b at v (t .expr))
+        (a .expr) (a .place) (a .after) (a .rest)
+
+    second-found : 1 < arity (getD b at 0) → SecondFound
+    second-found = second-operand b at (left - 1) (a .records) v shallow known read-level t
+
+    found-second : 1 < arity (getD b at 0) → Accepted b (secondAt b at) (left - 1) (inner (getD b at 0) v)
+    found-second more =
+        let u = second-found more in
+        record {
+          deep = omega (arith, a .deep);
+          records = t .records;
+          expr = u .expr;
+          place = u .place;
+          after = u .records;
+          rest = u .bytes;
+          read = ap (λ (q : ℕ). parseAt b q (left - 1) (t .records) (inner (getD b at 0) v)) (sym second-at) ∙ u .is;
+        }
+
+    found-third : SecondFound → 2 < arity (getD b at 0) → Accepted b (thirdAt b at) (left - 1) v
+    found-third u most =
+        let w = third-operand b at (left - 1) (a .records) v shallow known read-level t u most in
+        let p : u .place ≡ thirdAt b at =
+        reads-end (second-reads b at (left - 1) (a .records) v shallow known read-level t u) ∙ ap (endAt b) second-at in
+        record {
+          deep = omega (arith, a .deep);
+          records = u .records;
+          expr = w .expr;
+          place = w .place;
+          after = w .records;
+          rest = w .bytes;
+          read = ap (λ (q : ℕ). parseAt b q (left - 1) (u .records) v) (sym p) ∙ w .is;
+        }
+
+  accepted-second : 1 < arity (getD b at 0) → Accepted b (secondAt b at) (left - 1) (inner (getD b at 0) v)
+  accepted-second more = found-second (first-found (omega arith)) more
+
+  accepted-third : 2 < arity (getD b at 0) → Accepted b (thirdAt b at) (left - 1) v
+  accepted-third most =
+      let t = first-found (omega arith) in
+      found-third t (second-found t (omega arith)) most
+
+-- BY ARITY: the expression is made of its operands' and ends where the last does
+module _ (b : List ℕ) (at left v : ℕ) (a : Accepted b at left v) (k : ℕ) (kind : getD b at 0 ≡ k) where
+  made-by : exprAt left b at ≡
+      exprOf k b at (exprAt (left - 1) b (firstAt b at)) (exprAt (left - 1) b (secondAt b at)) (exprAt (left - 1) b (thirdAt b at))
+  made-by = made b at left v a ∙ rw kind
+
+  module _ (q : ℕ) (count : arity k ≡ q) where
+    operands-are : arity (getD b at 0) ≡ q
+    operands-are = ap arity kind ∙ count
+
+    ends-by : endAt b at ≡ past q b (firstAt b at)
+    ends-by = pending b at (left - 1) (accepted-record b at left v a .whole) 0 q (omega (arith, operands-are))
+
+  nullary : (e : Expr) → arity k ≡ 0 → ((x y z : Expr) → exprOf k b at x y z ≡ e) → Nullary b at left e
+  nullary e n f = record { expr = made-by ∙ f _ _ _; ends = ends-by 0 n ∙ past-none b (firstAt b at) }
+
+  unary : (make : Expr → Expr) → arity k ≡ 1 → ((x y z : Expr) → exprOf k b at x y z ≡ make x) → Unary b at left v make
+  unary make n f =
+      record {
+        first = accepted-first b at left v a (omega (arith, operands-are 1 n));
+        expr = made-by ∙ f _ _ _;
+        ends = ends-by 1 n;
+      }
+
+  binary : (w : ℕ) (make : Expr → Expr → Expr) → inner k v ≡ w → arity k ≡ 2 → ((x y z : Expr) → exprOf k b at x y z ≡ make x y) →
+      Binary b at left v w make
+  binary w make scope n f =
+      let x = accepted-first b at left v a (omega (arith, operands-are 2 n)) in
+      let y = accepted-second b at left v a (omega (arith, operands-are 2 n)) in
+      record {
+        first = x;
+        second = subst (Accepted b (secondAt b at) (left - 1)) (ap (λ (j : ℕ). inner j v) kind ∙ scope) y;
+        expr = made-by ∙ f _ _ _;
+        ends = ends-by 2 n ∙ accepted-past b (firstAt b at) (left - 1) v x 1;
+      }
+
+  ternary : (make : Expr → Expr → Expr → Expr) → inner k v ≡ v → arity k ≡ 3 → ((x y z : Expr) → exprOf k b at x y z ≡ make x y z) →
+      Ternary b at left v make
+  ternary make scope n f =
+      let x = accepted-first b at left v a (omega (arith, operands-are 3 n)) in
+      let y = accepted-second b at left v a (omega (arith, operands-are 3 n)) in
+      record {
+        first = x;
+        second = subst (Accepted b (secondAt b at) (left - 1)) (ap (λ (j : ℕ). inner j v) kind ∙ scope) y;
+        third = accepted-third b at left v a (omega (arith, operands-are 3 n));
+        expr = made-by ∙ f _ _ _;
+        ends =
+            ends-by 3 n ∙ accepted-past b (firstAt b at) (left - 1) v x 2 ∙
+            accepted-past b (secondAt b at) (left - 1) (inner (getD b at 0) v) y 1;
+      }
+
+-- BY KIND
+module _ (b : List ℕ) (at left v : ℕ) (a : Accepted b at left v) where
+  pub accepted-nil : getD b at 0 ≡ nilKind → Nullary b at left (nil at)
+  unfolding arity exprOf
+  accepted-nil e = nullary b at left v a nilKind e (nil at) refl (λ x y z. refl)
+
+  pub accepted-document : getD b at 0 ≡ documentKind → Nullary b at left (document at (getD b (at + 1) 0))
+  unfolding arity exprOf
+  accepted-document e = nullary b at left v a documentKind e (document at (getD b (at + 1) 0)) refl (λ x y z. refl)
+
+  pub accepted-variable : getD b at 0 ≡ varKind → Nullary b at left (var at (getD b (at + 1) 0))
+  unfolding arity exprOf
+  accepted-variable e = nullary b at left v a varKind e (var at (getD b (at + 1) 0)) refl (λ x y z. refl)
+
+  pub accepted-element : getD b at 0 ≡ newElementKind → Nullary b at left (element at (getD b (at + 1) 0))
+  unfolding arity exprOf
+  accepted-element e = nullary b at left v a newElementKind e (element at (getD b (at + 1) 0)) refl (λ x y z. refl)
+
+  pub accepted-leaf : getD b at 0 ≡ newLeafKind → Nullary b at left (leaf at (getD b (at + 1) 0))
+  unfolding arity exprOf
+  accepted-leaf e = nullary b at left v a newLeafKind e (leaf at (getD b (at + 1) 0)) refl (λ x y z. refl)
+
+  pub accepted-step : getD b at 0 ≡ stepKind →
+      Unary b at left v (step at (stepBy (getD b (at + 1) 0) (getD b (at + 2) 0) (getD b (at + 3) 0)))
+  unfolding arity exprOf
+  accepted-step e =
+      unary b at left v a stepKind e (step at (stepBy (getD b (at + 1) 0) (getD b (at + 2) 0) (getD b (at + 3) 0))) refl (λ x y z. refl)
+
+  pub accepted-delete : getD b at 0 ≡ deleteKind → Unary b at left v (delete at)
+  unfolding arity exprOf
+  accepted-delete e = unary b at left v a deleteKind e (delete at) refl (λ x y z. refl)
+
+  pub accepted-pick : getD b at 0 ≡ pickKind → Unary b at left v (choose at (getD b (at + 1) 0) (getD b (at + 2) 0))
+  unfolding arity exprOf
+  accepted-pick e = unary b at left v a pickKind e (choose at (getD b (at + 1) 0) (getD b (at + 2) 0)) refl (λ x y z. refl)
+
+  pub accepted-join : getD b at 0 ≡ bothKind → Binary b at left v v (both at)
+  unfolding arity inner exprOf
+  accepted-join e = binary b at left v a bothKind e v (both at) refl refl (λ x y z. refl)
+
+  pub accepted-let : getD b at 0 ≡ letKind → Binary b at left v (v + 1) (letIn at)
+  unfolding arity inner exprOf
+  accepted-let e = binary b at left v a letKind e (v + 1) (letIn at) refl refl (λ x y z. refl)
+
+  pub accepted-for : getD b at 0 ≡ forKind → Binary b at left v (v + 1) (forIn at)
+  unfolding arity inner exprOf
+  accepted-for e = binary b at left v a forKind e (v + 1) (forIn at) refl refl (λ x y z. refl)
+
+  pub accepted-insert : getD b at 0 ≡ insertKind → Binary b at left v v (insert at)
+  unfolding arity inner exprOf
+  accepted-insert e = binary b at left v a insertKind e v (insert at) refl refl (λ x y z. refl)
+
+  pub accepted-if : getD b at 0 ≡ ifKind → Ternary b at left v (ifIn at)
+  unfolding arity inner exprOf
+  accepted-if e = ternary b at left v a ifKind e (ifIn at) refl refl (λ x y z. refl)
