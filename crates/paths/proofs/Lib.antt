@@ -7,3 +7,4 @@ pub mod TraverseLaws
 pub mod AnswerLaws
 pub mod WordLaws
 pub mod PairLaws
+pub mod FillLaws

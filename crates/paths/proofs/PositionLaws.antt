@@ -10,7 +10,7 @@ use Rattle.model.specs.Paths.{Path, start, documentPlace, withStep}
 use Rattle.model.specs.Meeting.{Cell, joinCell, onStep, downStep, upStep}
 use Rattle.paths.specs.Positions.{Position, nowhere, root, over, union, Entry, plain, entryAt, IsLower, AreLower}
 use Rattle.paths.specs.Positions.{pathsAt, pathsFrom, pathsBy, pathsOn}
-use Rattle.paths.specs.Cells.{noCell, sum, between, Cells, rootCell, overCell, cellBy}
+use Rattle.paths.specs.Cells.{noCell, sum, between, Cells, rootCell, overCell, cellBy, Filled}
 use Rattle.paths.proofs.CellLaws.{between-none, between-first, between-second, between-starts, between-up, between-down, between-steps}
 
 -- PATHS of more positions
@@ -81,12 +81,7 @@ pathsOn-at es lower k h =
 
 -- THE CELL of two positions
 module _ (es fs : List Entry) (k l : ℕ) (t : Cells) where
-  -- what is known: each pair in a lower row, and each lower pair in this one
-  pub record Filled : Type 0 where
-    pub rows : (i j : ℕ) → i < k → j < length fs → t i j ≡ between (pathsOn es i) (pathsOn fs j)
-    pub row : (j : ℕ) → j < l → t k j ≡ between (pathsOn es k) (pathsOn fs j)
-
-  module _ (low : l < length fs) (filled : Filled) where
+  module _ (low : l < length fs) (filled : Filled es fs k l t) where
     -- two positions at l
     unionAt : (a b : ℕ) → (a < l) × (b < l) → pathsOn fs l ≡ pathsOn fs a ++ pathsOn fs b →
         joinCell (t k a) (t k b) ≡ between (pathsOn es k) (pathsOn fs l)
@@ -139,7 +134,7 @@ module _ (es fs : List Entry) (k l : ℕ) (t : Cells) where
         sym (ap (λ (v : List Path). between v (pathsOn fs l)) e ∙ between-first (pathsOn es a) (pathsOn es b) (pathsOn fs l))
 
   -- by positions, it is the join over all pairs of their paths
-  pub cell-by : AreLower es → AreLower fs → k < length es → l < length fs → Filled →
+  pub cell-by : AreLower es → AreLower fs → k < length es → l < length fs → Filled es fs k l t →
       cellBy k l (entryAt es k .position) (entryAt fs l .position) t ≡ between (pathsOn es k) (pathsOn fs l)
   cell-by e f h low filled =
       cellBy-is low filled (entryAt es k .position) (entryAt fs l .position) (e k h) (pathsOn-at es e k h) (f l low) (pathsOn-at fs f l low)

@@ -39,10 +39,10 @@ digit-64 l x q g h = omega arith
 digit-256 : (l x q : ℕ) → l < 256 → x < 256 → (l + 256 * (x + 256 * q)) / 256 % 256 ≡ x
 digit-256 l x q g h = omega arith
 
-digit-65536 : (l x q : ℕ) → l < 65536 → x < 256 → (l + 65536 * (x + 256 * q)) / 65536 % 256 ≡ x
+digit-65536 : (l x q : ℕ) → l < 65536 → x < 128 → (l + 65536 * (x + 128 * q)) / 65536 % 128 ≡ x
 digit-65536 l x q g h = omega arith
 
-digit-top : (l x : ℕ) → l < 16777216 → x < 256 → (l + 16777216 * x) / 16777216 % 256 ≡ x
+digit-top : (l x : ℕ) → l < 16777216 → x < 128 → (l + 16777216 * x) / 16777216 % 128 ≡ x
 digit-top l x g h = omega arith
 
 module _ (p : Position) (f : PositionFits p) where
@@ -69,10 +69,10 @@ module _ (p : Position) (f : PositionFits p) where
       let n : wordOf p / 256 % 256 ≡ p .name =
       at (λ (w : ℕ). w / 256 % 256) (p .kind + 4 * p .mark + 16 * p .axis + 64 * p .test + 256 * (p .name + 256 * (p .first + 256 * p .second))) (omega arith)
       (p .name) (digit-256 (p .kind + 4 * p .mark + 16 * p .axis + 64 * p .test) (p .name) _ low256 (f .name)) in
-      let i : wordOf p / 65536 % 256 ≡ p .first =
-      at (λ (w : ℕ). w / 65536 % 256) (p .kind + 4 * p .mark + 16 * p .axis + 64 * p .test + 256 * p .name + 65536 * (p .first + 256 * p .second)) (omega arith)
-      (p .first) (digit-65536 (p .kind + 4 * p .mark + 16 * p .axis + 64 * p .test + 256 * p .name) (p .first) (p .second) low65536 (f .first)) in
-      let j : wordOf p / 16777216 % 256 ≡ p .second =
+      let i : wordOf p / 65536 % 128 ≡ p .first =
+      at (λ (w : ℕ). w / 65536 % 128) (p .kind + 4 * p .mark + 16 * p .axis + 64 * p .test + 256 * p .name + 65536 * (p .first + 128 * (2 * p .second))) (omega arith)
+      (p .first) (digit-65536 (p .kind + 4 * p .mark + 16 * p .axis + 64 * p .test + 256 * p .name) (p .first) (2 * p .second) low65536 (f .first)) in
+      let j : wordOf p / 16777216 % 128 ≡ p .second =
       digit-top (p .kind + 4 * p .mark + 16 * p .axis + 64 * p .test + 256 * p .name + 65536 * p .first) (p .second) low-top (f .second) in
       alike (fieldsOf (wordOf p)) p k m a t n i j
     where

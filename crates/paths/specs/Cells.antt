@@ -1,7 +1,8 @@
 -- What two positions can have in common, from what lower positions have. Assumes nothing: these are definitions.
+use mathlib.Core.Path.{_≡_}
 use mathlib.Core.Bool.{Bool, true, false, _&&_, _||_}
 use mathlib.Core.List.{List, [], _∷_}
-use Prim.Native.Nat.{ℕ, zero, suc}
+use Prim.Native.Nat.{ℕ, zero, suc, _<_}
 use lib.ListN.{length}
 use Rattle.model.specs.Base.{pick}
 use Rattle.model.specs.Script.{Step, Expr}
@@ -45,6 +46,11 @@ cellBy k l nowhere q t = noCell
 cellBy k l (root d) q t = rootCell d k q t
 cellBy k l (over s i) q t = overCell s i k l q t
 cellBy k l (union a b) q t = joinCell (t a l) (t b l)
+
+-- filled up to the pair k, l: each pair in a lower row, and each lower pair in this one
+pub record Filled (es fs : List Entry) (k l : ℕ) (t : Cells) : Type 0 where
+  pub rows : (i j : ℕ) → i < k → j < length fs → t i j ≡ between (pathsOn es i) (pathsOn fs j)
+  pub row : (j : ℕ) → j < l → t k j ≡ between (pathsOn es k) (pathsOn fs j)
 
 -- MEETING: some position that one modifies meets one that the other accesses
 unfoldable pub anyUpTo : (ℕ → Bool) → (count : ℕ) → Bool

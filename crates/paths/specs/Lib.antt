@@ -3,3 +3,4 @@ pub mod Cells
 pub mod Codes
 pub mod Words
 pub mod Pairs
+pub mod Filling

@@ -33,8 +33,8 @@ fieldsOf w =
       axis = w / 16 % 4;
       test = w / 64 % 4;
       name = w / 256 % 256;
-      first = w / 65536 % 256;
-      second = w / 16777216 % 256;
+      first = w / 65536 % 128;
+      second = w / 16777216 % 128;
     }
 
 pub record PositionFits (p : Position) : Type 0 where
@@ -43,8 +43,8 @@ pub record PositionFits (p : Position) : Type 0 where
   pub axis : p .axis < 4
   pub test : p .test < 4
   pub name : p .name < 256
-  pub first : p .first < 256
-  pub second : p .second < 256
+  pub first : p .first < 128
+  pub second : p .second < 128
 
 -- the entries that the first words are
 abbrev pub entryOf : (word : ℕ) → positions.Entry

@@ -1,4 +1,5 @@
 // The path analysis: whether two scripts can touch the same node of some plan.
 mod cells;
+mod meet;
 mod pairs;
 mod positions;

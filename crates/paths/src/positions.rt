@@ -77,8 +77,8 @@ impl Position {
             axis: word / 16 % 4,
             test: word / 64 % 4,
             name: word / 256 % 256,
-            first: word / 65536 % 256,
-            second: word / 16777216 % 256,
+            first: word / 65536 % 128,
+            second: word / 16777216 % 128,
         }
     }
 }
