@@ -8,3 +8,4 @@ pub mod AnswerLaws
 pub mod WordLaws
 pub mod PairLaws
 pub mod FillLaws
+pub mod GrowLaws

@@ -4,3 +4,4 @@ pub mod Codes
 pub mod Words
 pub mod Pairs
 pub mod Filling
+pub mod Emitting

@@ -9,6 +9,7 @@ use Rattle.model.specs.Base.{pick}
 use Rattle.model.specs.Script.{stepBy}
 use Rattle.paths.specs.Positions as positions
 use Rattle.paths.specs.declared.positions.Position.{Position}
+use Rattle.paths.specs.declared.cells.Step.{Step}
 
 -- KINDS: 0 nowhere, 1 root, whose document stands for the name, 2 over, 3 union. MARKS: 0 none, 1 accessed, 2 modified
 abbrev pub positionBy : Position → positions.Position
@@ -19,6 +20,16 @@ positionBy p =
 
 abbrev pub entryBy : Position → positions.Entry
 entryBy p = record { position = positionBy p; accessed = eqb (p .mark) 1; modified = eqb (p .mark) 2 }
+
+-- the fields of a document's root, accessed; of a step over a position, and of two positions, so marked
+abbrev pub rootBy : (document : ℕ) → Position
+rootBy d = record { kind = 1; mark = 1; axis = 0; test = 0; name = d; first = 0; second = 0 }
+
+abbrev pub overBy : (mark : ℕ) → Step → (operand : ℕ) → Position
+overBy m s i = record { kind = 2; mark = m; axis = s .axis; test = s .test; name = s .name; first = i; second = 0 }
+
+abbrev pub unionBy : (mark first second : ℕ) → Position
+unionBy m i j = record { kind = 3; mark = m; axis = 0; test = 0; name = 0; first = i; second = j }
 
 -- WORDS: each field in its bits
 abbrev pub wordOf : Position → ℕ

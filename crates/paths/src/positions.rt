@@ -1,10 +1,6 @@
 // Positions of a script, each packed into a word: kind, mark, axis, test, name or document, first operand, second operand.
 ghost use mathlib.Core.Path.{_≡_};
-ghost use lib.ListN.{getD};
-ghost use Rattle.model.specs.Paths.{anyBelow};
-ghost use Rattle.paths.specs.Positions.{plain, accessing, modifying, nowhere, root, over, union};
-ghost use Rattle.paths.specs.Codes.{stepOf};
-ghost use Rattle.paths.specs.Words.{entryBy, wordOf, fieldsOf, PositionFits, PushPre, PushPost};
+ghost use Rattle.paths.specs.Words.{rootBy, overBy, unionBy, wordOf, fieldsOf, PositionFits, PushPre, PushPost};
 use crate::cells::Step;
 
 pub const NOWHERE: usize = 0;
@@ -15,7 +11,7 @@ pub const OVER: usize = 2;
 
 pub const UNION: usize = 3;
 
-const PLAIN: usize = 0;
+pub const PLAIN: usize = 0;
 
 pub const ACCESSED: usize = 1;
 
@@ -33,22 +29,9 @@ pub struct Position {
 }
 
 impl Position {
-    pub fn nowhere() -> Position
-        ensures { λ r. ⌜ entryBy r ≡ plain nowhere ⌝ }
-    {
-        Position {
-            kind: NOWHERE,
-            mark: PLAIN,
-            axis: 0,
-            test: 0,
-            name: 0,
-            first: 0,
-            second: 0,
-        }
-    }
-
+    // A document's root, accessed.
     pub fn root(document: usize) -> Position
-        ensures { λ r. ⌜ entryBy r ≡ accessing (root document) ⌝ }
+        ensures { λ r. ⌜ r ≡ rootBy document ⌝ }
     {
         Position {
             kind: ROOT,
@@ -58,6 +41,36 @@ impl Position {
             name: document,
             first: 0,
             second: 0,
+        }
+    }
+
+    // A step over a position.
+    pub fn over(mark: usize, step: Step, operand: usize) -> Position
+        ensures { λ r. ⌜ r ≡ overBy mark step operand ⌝ }
+    {
+        Position {
+            kind: OVER,
+            mark,
+            axis: step.axis,
+            test: step.test,
+            name: step.name,
+            first: operand,
+            second: 0,
+        }
+    }
+
+    // Two positions together.
+    pub fn union(mark: usize, first: usize, second: usize) -> Position
+        ensures { λ r. ⌜ r ≡ unionBy mark first second ⌝ }
+    {
+        Position {
+            kind: UNION,
+            mark,
+            axis: 0,
+            test: 0,
+            name: 0,
+            first,
+            second,
         }
     }
 
