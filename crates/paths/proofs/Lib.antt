@@ -9,3 +9,4 @@ pub mod WordLaws
 pub mod PairLaws
 pub mod FillLaws
 pub mod GrowLaws
+pub mod RecordLaws

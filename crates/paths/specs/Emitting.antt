@@ -7,9 +7,9 @@ use lib.Dec.{eqb}
 use lib.ListN.{length, getD, take}
 use Rattle.model.specs.Base.{pick}
 use Rattle.model.specs.Script.{Expr, nil, document, var, step, both, letIn, forIn, ifIn, element, leaf, delete, insert, choose, stepBy}
-use Rattle.model.specs.Script.{documentKind, varKind, stepKind, bothKind, deleteKind, insertKind, isBinder}
+use Rattle.model.specs.Script.{documentKind, varKind, stepKind, bothKind, deleteKind, insertKind, isBinder, bodySize}
 use Rattle.script.specs.Walk.{inner, endAt, exprAt}
-use Rattle.script.specs.Accepted.{Accepted, RecordFits}
+use Rattle.script.specs.Accepted.{Accepted}
 use Rattle.paths.specs.Positions as positions
 use Rattle.paths.specs.Words.{entriesIn}
 use Rattle.paths.specs.Pairs.{maxPositions}
@@ -71,9 +71,28 @@ pub record PairedPre (ws : List ℕ) (first : ℕ) (y : Emitted) : Type 0 where
   pub grow : GrowPre ws y
   pub low : first < y .count
 
-pub record UnaryPre (b : List ℕ) (at left bound : ℕ) (ws : List ℕ) (y : Emitted) : Type 0 where
+pub record UnaryPre (b : List ℕ) (at : ℕ) (ws : List ℕ) (y : Emitted) : Type 0 where
   pub grow : GrowPre ws y
-  pub fits : RecordFits b at left bound
+  pub whole : at + bodySize (getD b at 0) < length b
+  pub axis : getD b at 0 ≡ stepKind → getD b (at + 1) 0 < 4
+  pub test : getD b at 0 ≡ stepKind → getD b (at + 2) 0 < 4
+
+pub record NullaryPre (b : List ℕ) (at : ℕ) (env ws : List ℕ) (n : ℕ) : Type 0 where
+  pub size : length ws ≡ maxPositions
+  pub room : n < maxPositions
+  pub some : 0 < n
+  pub whole : at + bodySize (getD b at 0) < length b
+  pub document : getD b at 0 ≡ documentKind → getD b (at + 1) 0 < 256
+  pub variable : getD b at 0 ≡ varKind → getD b (at + 1) 0 < length env
+  pub low : getD b at 0 ≡ varKind → getD env (getD b (at + 1) 0) 0 < n
+
+pub record NullaryPost (b : List ℕ) (at next : ℕ) (env ws : List ℕ) (n : ℕ) (ws′ : List ℕ) (r : Emitted) : Type 0 where
+  pub size : length ws′ ≡ maxPositions
+  pub is : outOf ws′ r ≡ nullaryOf b at env (entriesIn ws n)
+  pub place : r .place ≡ next
+  pub low : r .result < r .count
+  pub more : n ≤ r .count
+  pub few : r .count ≤ n + 1
 
 -- at most two entries more, and the result is among them or nothing
 pub record Grown (goal : positions.Emitted) (y : Emitted) (ws′ : List ℕ) (r : Emitted) : Type 0 where
