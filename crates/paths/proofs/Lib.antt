@@ -10,3 +10,5 @@ pub mod PairLaws
 pub mod FillLaws
 pub mod GrowLaws
 pub mod RecordLaws
+pub mod OperandLaws
+pub mod WalkLaws
