@@ -12,3 +12,4 @@ pub mod GrowLaws
 pub mod RecordLaws
 pub mod OperandLaws
 pub mod WalkLaws
+pub mod SizeLaws
