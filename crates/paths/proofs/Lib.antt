@@ -13,3 +13,4 @@ pub mod RecordLaws
 pub mod OperandLaws
 pub mod WalkLaws
 pub mod SizeLaws
+pub mod ClimbLaws

@@ -4,8 +4,8 @@ use mathlib.Core.Bool.{Bool}
 use mathlib.Core.List.{List, map}
 use Prim.Native.Nat.{ℕ, _+_, _*_, _≤_, _<_}
 use lib.ListN.{length}
-use Rattle.paths.specs.Positions.{Entry, AreLower}
-use Rattle.paths.specs.Cells.{Filled, meetAt, rowMeets, positionsMeet}
+use Rattle.paths.specs.Positions.{Entry, AreLower, entryAt, isClimb}
+use Rattle.paths.specs.Cells.{Filled, anyUpTo, meetAt, rowMeets, positionsMeet}
 use Rattle.paths.specs.Words.{entryOf}
 use Rattle.paths.specs.Pairs.{maxPositions, cellIn}
 use Rattle.paths.specs.declared.positions.Position.{Position}
@@ -13,6 +13,13 @@ use Rattle.paths.specs.declared.positions.Position.{Position}
 -- the entries that words are
 abbrev pub entriesBy : (words : List ℕ) → List Entry
 entriesBy ws = map entryOf ws
+
+-- UPWARD: some position among them leads up
+abbrev pub climbAt : (words : List ℕ) → (number : ℕ) → Bool
+climbAt ws k = isClimb (entryAt (entriesBy ws) k .position)
+
+abbrev pub climbing : (words : List ℕ) → Bool
+climbing ws = anyUpTo (climbAt ws) (length ws)
 
 -- few enough positions, each over lower ones
 pub record PositionsPre (ws : List ℕ) : Type 0 where

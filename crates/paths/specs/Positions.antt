@@ -5,7 +5,7 @@ use Prim.Native.Nat.{ℕ, _<_}
 use lib.ListN.{length, getD}
 use Rattle.model.specs.Base.{pick}
 use Rattle.model.specs.Script.{Step, Expr, nil, document, var, step, both, letIn, forIn, ifIn, element, leaf, delete, insert, choose}
-use Rattle.model.specs.Paths.{documentPlace, Path, start, withStep, anyBelow}
+use Rattle.model.specs.Paths.{documentPlace, Path, start, withStep, anyBelow, isUp}
 
 -- A POSITION is nothing, a document, a step over a lower position, or two lower positions together
 pub data Position : Type 0 where
@@ -36,6 +36,13 @@ IsLower k nowhere = Unit
 IsLower k (root d) = Unit
 IsLower k (over s i) = i < k
 IsLower k (union i j) = (i < k) × (j < k)
+
+-- a step that leads up
+abbrev pub isClimb : Position → Bool
+isClimb nowhere = false
+isClimb (root d) = false
+isClimb (over s i) = isUp s
+isClimb (union i j) = false
 
 -- EMISSION: the number of an expression's position, and the entries up to there
 pub record Emitted : Type 0 where

@@ -1,6 +1,8 @@
 // Positions of a script, each packed into a word: kind, mark, axis, test, name or document, first operand, second operand.
 ghost use mathlib.Core.Path.{_≡_};
-ghost use Rattle.paths.specs.Words.{rootBy, overBy, unionBy, wordOf, fieldsOf, PositionFits, PushPre, PushPost};
+ghost use Rattle.paths.specs.Positions.{isClimb};
+ghost use Rattle.paths.specs.Filling.{climbing};
+ghost use Rattle.paths.specs.Words.{positionBy, rootBy, overBy, unionBy, wordOf, fieldsOf, PositionFits, PushPre, PushPost};
 use crate::cells::Step;
 
 pub const NOWHERE: usize = 0;
@@ -16,6 +18,9 @@ pub const PLAIN: usize = 0;
 pub const ACCESSED: usize = 1;
 
 pub const MODIFIED: usize = 2;
+
+// The first of the two axes that lead up.
+const PARENT: usize = 2;
 
 // The fields of a position; those that its kind does not have are 0.
 pub struct Position {
@@ -74,6 +79,13 @@ impl Position {
         }
     }
 
+    // A step that leads up.
+    fn is_climb(self) -> bool
+        ensures { λ r. ⌜ r ≡ isClimb (positionBy self) ⌝ }
+    {
+        (self.kind == OVER) & (PARENT <= self.axis)
+    }
+
     fn packed(self) -> usize
         requires { ⌜ PositionFits self ⌝ }
         ensures { λ r. ⌜ r ≡ wordOf self ⌝ }
@@ -102,4 +114,17 @@ pub fn push(words: &mut [usize], count: usize, p: Position)
     ensures { λ r. ⌜ PushPost (now (words .entry)) count p (now (words .exit)) ⌝ }
 {
     words[count] = p.packed();
+}
+
+// Some position leads up.
+pub fn climbs(words: &[usize]) -> bool
+    ensures { λ r. ⌜ r ≡ climbing (now (words .entry)) ⌝ }
+{
+    let mut found = false;
+    let mut i = 0;
+    while i < words.len() {
+        found = found | Position::unpacked(words[i]).is_climb();
+        i += 1;
+    }
+    found
 }
