@@ -207,14 +207,14 @@ module _ (o : ℕ) (own : o ≡ 0 → ⊥) where
   unfolding documents
   emits-delete es z r a m y h =
       let below = pushed es r a m y h (plain (over anyBelow (y .result))) (withStep anyBelow r) [] [] (h .low)
-          (ap (withStep anyBelow) (h .is) ∙ sym (documents-step anyBelow r)) refl refl in
+      (ap (withStep anyBelow) (h .is) ∙ sym (documents-step anyBelow r)) refl refl in
       let all = pushed es (withStep anyBelow r) (a ++ []) (m ++ []) (push (y .entries) (plain (over anyBelow (y .result)))) below
-          (modifying (union (y .result) (length (y .entries)))) (r ++ withStep anyBelow r) [] (r ++ withStep anyBelow r)
-          (omega (arith, h .low, length-append (y .entries) (plain (over anyBelow (y .result)) ∷ [])), below .low)
-          (ap (λ (v : List Path). v ++ pathsOn (y .entries ++ (plain (over anyBelow (y .result)) ∷ [])) (length (y .entries)))
-          (pathsOn-keeps (y .entries) (plain (over anyBelow (y .result)) ∷ []) (y .result) (h .low) ∙ h .is) ∙
-          ap (λ (v : List Path). documents r ++ v) (below .is) ∙ sym (documents-append r (withStep anyBelow r)))
-          refl refl in
+      (modifying (union (y .result) (length (y .entries)))) (r ++ withStep anyBelow r) [] (r ++ withStep anyBelow r)
+      (omega (arith, h .low, length-append (y .entries) (plain (over anyBelow (y .result)) ∷ [])), below .low)
+      (ap (λ (v : List Path). v ++ pathsOn (y .entries ++ (plain (over anyBelow (y .result)) ∷ [])) (length (y .entries)))
+      (pathsOn-keeps (y .entries) (plain (over anyBelow (y .result)) ∷ []) (y .result) (h .low) ∙ h .is) ∙
+      ap (λ (v : List Path). documents r ++ v) (below .is) ∙ sym (documents-append r (withStep anyBelow r)))
+      refl refl in
       alike es [] (a ++ [] ++ []) (m ++ [] ++ (r ++ withStep anyBelow r)) (a ++ []) (m ++ (r ++ withStep anyBelow r)) _
       (append-nil (a ++ [])) (ap (λ (v : List Path). v ++ (r ++ withStep anyBelow r)) (append-nil m))
       (discarded es z _ _ _ _ all)
@@ -225,13 +225,13 @@ module _ (o : ℕ) (own : o ≡ 0 → ⊥) where
   unfolding documents
   emits-insert es z r a m r′ a′ m′ y y′ h g =
       let read = pushed es r′ (a ++ a′) (m ++ m′) y′ (thenRight es r a m r′ a′ m′ y y′ h g) (accessing (over anyBelow (y .result)))
-          (withStep anyBelow r) (withStep anyBelow r) [] (omega (arith, h .low, g .more))
-          (ap (withStep anyBelow) (g .keeps (y .result) (h .low) ∙ h .is) ∙ sym (documents-step anyBelow r)) refl refl in
+      (withStep anyBelow r) (withStep anyBelow r) [] (omega (arith, h .low, g .more))
+      (ap (withStep anyBelow) (g .keeps (y .result) (h .low) ∙ h .is) ∙ sym (documents-step anyBelow r)) refl refl in
       let written = pushed es (withStep anyBelow r) (a ++ a′ ++ withStep anyBelow r) (m ++ m′ ++ []) (push (y′ .entries) (accessing (over anyBelow (y .result)))) read
-          (modifying (over anyBelow (y′ .result))) (withStep anyBelow r′) [] (withStep anyBelow r′)
-          (omega (arith, g .low, length-append (y′ .entries) (accessing (over anyBelow (y .result)) ∷ [])))
-          (ap (withStep anyBelow) (pathsOn-keeps (y′ .entries) (accessing (over anyBelow (y .result)) ∷ []) (y′ .result) (g .low) ∙ g .is) ∙
-          sym (documents-step anyBelow r′)) refl refl in
+      (modifying (over anyBelow (y′ .result))) (withStep anyBelow r′) [] (withStep anyBelow r′)
+      (omega (arith, g .low, length-append (y′ .entries) (accessing (over anyBelow (y .result)) ∷ [])))
+      (ap (withStep anyBelow) (pathsOn-keeps (y′ .entries) (accessing (over anyBelow (y .result)) ∷ []) (y′ .result) (g .low) ∙ g .is) ∙
+      sym (documents-step anyBelow r′)) refl refl in
       alike es [] (a ++ a′ ++ withStep anyBelow r ++ []) (m ++ m′ ++ [] ++ withStep anyBelow r′) (a ++ a′ ++ withStep anyBelow r)
       (m ++ m′ ++ withStep anyBelow r′) _ (append-nil (a ++ a′ ++ withStep anyBelow r))
       (ap (λ (v : List Path). v ++ withStep anyBelow r′) (append-nil (m ++ m′)))

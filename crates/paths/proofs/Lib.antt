@@ -14,3 +14,4 @@ pub mod OperandLaws
 pub mod WalkLaws
 pub mod SizeLaws
 pub mod ClimbLaws
+pub mod AnalysisLaws

@@ -5,3 +5,4 @@ pub mod Words
 pub mod Pairs
 pub mod Filling
 pub mod Emitting
+pub mod Analysis

@@ -61,7 +61,9 @@ impl Step {
     fn shares_element(self, other: Step) -> bool
         ensures { λ r. ⌜ r ≡ shareElement (stepOf self) (stepOf other) ⌝ }
     {
-        self.admits_element() & other.admits_element() & (!(self.is_named() & other.is_named()) | (self.name == other.name))
+        self.admits_element()
+            & other.admits_element()
+            & (!(self.is_named() & other.is_named()) | (self.name == other.name))
     }
 }
 
@@ -112,7 +114,9 @@ impl Cell {
     pub fn on_step(self, s: Step, t: Step) -> Cell
         ensures { λ r. ⌜ cellOf r ≡ onStep (stepOf s) (stepOf t) (cellOf self) ⌝ }
     {
-        let parent = self.on_element | (t.is_deep() & self.down_element) | (s.is_deep() & self.up_element);
+        let parent = self.on_element
+            | (t.is_deep() & self.down_element)
+            | (s.is_deep() & self.up_element);
         let element = parent & s.shares_element(t);
         let leaf = parent & (s.admits_leaf() & t.admits_leaf());
         Cell {

@@ -43,7 +43,11 @@ fn step(words: &mut [usize], s: Step, x: Emitted) -> Emitted
     ensures { λ r. ⌜ Grown (pushStep (stepOf s) (outOf (now (words .entry)) x)) x (now (words .exit)) r ⌝ }
 {
     let count = x.count;
-    positions::push(words, count, Position::over(positions::ACCESSED, s, x.result));
+    positions::push(
+        words,
+        count,
+        Position::over(positions::ACCESSED, s, x.result),
+    );
     Emitted {
         result: count,
         count: count + 1,
@@ -57,7 +61,11 @@ fn union(words: &mut [usize], first: usize, y: Emitted) -> Emitted
     ensures { λ r. ⌜ Grown (pushUnion first (outOf (now (words .entry)) y)) y (now (words .exit)) r ⌝ }
 {
     let count = y.count;
-    positions::push(words, count, Position::union(positions::PLAIN, first, y.result));
+    positions::push(
+        words,
+        count,
+        Position::union(positions::PLAIN, first, y.result),
+    );
     Emitted {
         result: count,
         count: count + 1,
@@ -71,8 +79,16 @@ fn delete(words: &mut [usize], x: Emitted) -> Emitted
     ensures { λ r. ⌜ Grown (pushDelete (outOf (now (words .entry)) x)) x (now (words .exit)) r ⌝ }
 {
     let count = x.count;
-    positions::push(words, count, Position::over(positions::PLAIN, any_below(), x.result));
-    positions::push(words, count + 1, Position::union(positions::MODIFIED, x.result, count));
+    positions::push(
+        words,
+        count,
+        Position::over(positions::PLAIN, any_below(), x.result),
+    );
+    positions::push(
+        words,
+        count + 1,
+        Position::union(positions::MODIFIED, x.result, count),
+    );
     Emitted {
         result: 0,
         count: count + 2,
@@ -86,8 +102,16 @@ fn insert(words: &mut [usize], first: usize, y: Emitted) -> Emitted
     ensures { λ r. ⌜ Grown (pushInsert first (outOf (now (words .entry)) y)) y (now (words .exit)) r ⌝ }
 {
     let count = y.count;
-    positions::push(words, count, Position::over(positions::ACCESSED, any_below(), first));
-    positions::push(words, count + 1, Position::over(positions::MODIFIED, any_below(), y.result));
+    positions::push(
+        words,
+        count,
+        Position::over(positions::ACCESSED, any_below(), first),
+    );
+    positions::push(
+        words,
+        count + 1,
+        Position::over(positions::MODIFIED, any_below(), y.result),
+    );
     Emitted {
         result: 0,
         count: count + 2,
@@ -96,7 +120,14 @@ fn insert(words: &mut [usize], first: usize, y: Emitted) -> Emitted
 }
 
 // A record without operands: a document, a variable, or nothing.
-fn nullary(bytes: &[u8], at: usize, next: usize, env: [usize; 8], words: &mut [usize], count: usize) -> Emitted
+fn nullary(
+    bytes: &[u8],
+    at: usize,
+    next: usize,
+    env: [usize; 8],
+    words: &mut [usize],
+    count: usize,
+) -> Emitted
     requires { ⌜ NullaryPre (now bytes) at env (now words) count ⌝ }
     ensures { λ r. ⌜ NullaryPost (now (bytes .entry)) at next env (now (words .entry)) count (now (words .exit)) r ⌝ }
 {
@@ -183,7 +214,15 @@ fn bind(kind: u8, env: [usize; 8], bound: usize, result: usize) -> [usize; 8]
 }
 
 // The expression at a place, behind the first `count` positions.
-pub fn emit(bytes: &[u8], at: usize, left: usize, bound: usize, env: [usize; 8], words: &mut [usize], count: usize) -> Emitted
+pub fn emit(
+    bytes: &[u8],
+    at: usize,
+    left: usize,
+    bound: usize,
+    env: [usize; 8],
+    words: &mut [usize],
+    count: usize,
+) -> Emitted
     requires { ⌜ EmitPre (now bytes) at left bound env (now words) count ⌝ }
     ensures { λ r. ⌜ EmitPost (now (bytes .entry)) at left bound env (now (words .entry)) count (now (words .exit)) r ⌝ }
 {
@@ -198,10 +237,26 @@ pub fn emit(bytes: &[u8], at: usize, left: usize, bound: usize, env: [usize; 8],
         return unary(bytes, at, words, first);
     }
     let inside = bind(kind, env, bound, first.result);
-    let second = emit(bytes, first.place, left - 1, inner(kind, bound), inside, words, first.count);
+    let second = emit(
+        bytes,
+        first.place,
+        left - 1,
+        inner(kind, bound),
+        inside,
+        words,
+        first.count,
+    );
     if operands == 2 {
         return binary(kind, words, first.result, second);
     }
-    let third = emit(bytes, second.place, left - 1, bound, env, words, second.count);
+    let third = emit(
+        bytes,
+        second.place,
+        left - 1,
+        bound,
+        env,
+        words,
+        second.count,
+    );
     union(words, second.result, third)
 }

@@ -82,7 +82,8 @@ fn cell(table: &[u8], k: usize, l: usize, p: Position, q: Position) -> Cell
 fn is_tested(p: Position, q: Position) -> bool
     ensures { λ r. ⌜ r ≡ isTested (entryBy p) (entryBy q) ⌝ }
 {
-    ((p.mark == positions::MODIFIED) & (q.mark == positions::ACCESSED)) | ((p.mark == positions::ACCESSED) & (q.mark == positions::MODIFIED))
+    ((p.mark == positions::MODIFIED) & (q.mark == positions::ACCESSED))
+        | ((p.mark == positions::ACCESSED) & (q.mark == positions::MODIFIED))
 }
 
 // Fills in the pair k, l, and says whether it meets.

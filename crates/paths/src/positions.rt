@@ -90,7 +90,13 @@ impl Position {
         requires { ⌜ PositionFits self ⌝ }
         ensures { λ r. ⌜ r ≡ wordOf self ⌝ }
     {
-        self.kind + 4 * self.mark + 16 * self.axis + 64 * self.test + 256 * self.name + 65536 * self.first + 16777216 * self.second
+        self.kind
+            + 4 * self.mark
+            + 16 * self.axis
+            + 64 * self.test
+            + 256 * self.name
+            + 65536 * self.first
+            + 16777216 * self.second
     }
 
     pub fn unpacked(word: usize) -> Position

@@ -3,38 +3,27 @@ use Rattle.paths.proofs.RecordLaws.{binary-join, binary-insert, binary-
 use borrow.Author.Needs.{needs}
 use Rattle.paths.proofs.emit.binary.Statement.{statement}
 use Rattle.paths.proofs.emit.binary.Tie as tie
-use Rattle.paths.proofs.emit.binary.Reads as reads
-use Rattle.paths.proofs.emit.binary.Lts as lts
-use Rattle.paths.proofs.emit.insert.Reads as insert-reads
-use Rattle.paths.proofs.emit.union.Reads as union-reads
 
--- src/emit.rt:152:9
 union-requires : tie.Need-union-requires
 union-requires c κs = search needs
 
--- src/emit.rt:152:9
 same-length : tie.Need-same-length
 same-length c = search needs
 
--- src/emit.rt:152:9
 returns : tie.Need-returns
 returns c =
     binary-join (c .before .before .before .before .before .before .args .kind) (c .before .before .before .before .before .before .args .first) (outOf (c .before .before .before .before .before .before .args .words .now) (c .before .before .before .before .before .before .args .y)) (c .before .before .before .before .before .before .args .y) (c .before .before .union .last .0) (c .before .before .union .result) (c .before .before .before .before .if1 .taken) (c .before .before .union .ensures)
 
--- src/emit.rt:155:9
 insert-requires : tie.Need-insert-requires
 insert-requires c κs = search needs
 
--- src/emit.rt:155:9
 same-length-2 : tie.Need-same-length-2
 same-length-2 c = search needs
 
--- src/emit.rt:155:9
 returns-2 : tie.Need-returns-2
 returns-2 c =
     binary-insert (c .before .before .before .before .before .before .before .args .kind) (c .before .before .before .before .before .before .before .args .first) (outOf (c .before .before .before .before .before .before .before .args .words .now) (c .before .before .before .before .before .before .before .args .y)) (c .before .before .before .before .before .before .before .args .y) (c .before .before .insert .last .0) (c .before .before .insert .result) (c .before .before .before .before .if2 .taken) (c .before .before .insert .ensures)
 
--- src/emit.rt:147:1
 returns-3 : tie.Need-returns-3
 returns-3 c =
     binary-none (c .before .before .before .args .kind) (c .before .before .before .args .first) (outOf (c .before .before .before .args .words .now) (c .before .before .before .args .y)) (c .before .before .before .args .y) (c .before .before .before .args .words .now) (c .before .before .before .args .y) (c .before .if1 .left) (c .if2 .left) (grown-none (c .before .before .before .args .words .now) (c .before .before .before .args .y) (c .before .before .before .pre .grow))

@@ -4,28 +4,20 @@ use Rattle.paths.proofs.RecordLaws.{bind-one, bind-none}
 use borrow.Author.Needs.{needs}
 use Rattle.paths.proofs.emit.bind.Statement.{statement}
 use Rattle.paths.proofs.emit.bind.Tie as tie
-use Rattle.paths.proofs.emit.bind.Reads as reads
-use Rattle.paths.proofs.emit.bind.Lts as lts
-use Rattle.script.proofs.kinds.is_binder.Reads as is-binder-reads
 
--- src/emit.rt:177:8
 is-binder-requires : tie.Need-is-binder-requires
 is-binder-requires c κs = search needs
 
--- src/emit.rt:178:9
 mul-inside : tie.Need-mul-inside
 mul-inside c = omega (arith, c .before .before .pre .scope (sym (c .before .is-binder .ensures) ∙ c .if1 .taken))
 
--- src/emit.rt:178:9
 array-write-inside : tie.Need-array-write-inside
 array-write-inside c = omega (arith, c .before .before .pre .scope (sym (c .before .is-binder .ensures) ∙ c .if1 .taken))
 
--- src/emit.rt:179:9
 returns : tie.Need-returns
 returns c =
     bind-one (c .before .before .args .kind) (c .before .before .args .env) (c .before .before .args .bound) (c .before .before .args .result) (c .before .before .pre) (sym (c .before .is-binder .ensures) ∙ c .if1 .taken)
 
--- src/emit.rt:172:1
 returns-2 : tie.Need-returns-2
 returns-2 c =
     bind-none (c .before .before .args .kind) (c .before .before .args .env) (c .before .before .args .bound) (c .before .before .args .result) (c .before .before .pre) (sym (c .before .is-binder .ensures) ∙ c .if1 .left)

@@ -3,21 +3,13 @@ use Rattle.paths.proofs.GrowLaws.{below-fits, insert-grown}
 use borrow.Author.Needs.{needs}
 use Rattle.paths.proofs.emit.insert.Statement.{statement}
 use Rattle.paths.proofs.emit.insert.Tie as tie
-use Rattle.paths.proofs.emit.insert.Reads as reads
-use Rattle.paths.proofs.emit.insert.Lts as lts
-use Rattle.paths.proofs.emit.any_below.Reads as any-below-reads
-use Rattle.paths.proofs.positions.Position.over.Reads as over-reads
-use Rattle.paths.proofs.positions.push.Reads as push-reads
 
--- src/emit.rt:87:71
 any-below-requires : tie.Need-any-below-requires
 any-below-requires c κs = search needs
 
--- src/emit.rt:87:35
 over-requires : tie.Need-over-requires
 over-requires c κs = search needs
 
--- src/emit.rt:87:5
 push-requires : tie.Need-push-requires
 push-requires c κs =
     record {
@@ -26,19 +18,15 @@ push-requires c κs =
           (omega (arith, c .before .before .before .before .pre .low, c .before .before .before .before .pre .grow .room));
     }
 
--- src/emit.rt:88:28
 add-push : tie.Need-add-push
 add-push c = search needs
 
--- src/emit.rt:88:75
 any-below-requires-2 : tie.Need-any-below-requires-2
 any-below-requires-2 c κs = search needs
 
--- src/emit.rt:88:39
 over-requires-2 : tie.Need-over-requires-2
 over-requires-2 c κs = search needs
 
--- src/emit.rt:88:5
 push-requires-2 : tie.Need-push-requires-2
 push-requires-2 c κs =
     record {
@@ -47,15 +35,12 @@ push-requires-2 c κs =
           (omega (arith, c .before .before .before .before .before .before .before .before .before .before .pre .grow .low, c .before .before .before .before .before .before .before .before .before .before .pre .grow .room));
     }
 
--- src/emit.rt:91:16
 add-t12 : tie.Need-add-t12
 add-t12 c = search needs
 
--- src/emit.rt:82:1
 same-length : tie.Need-same-length
 same-length c = search needs
 
--- src/emit.rt:82:1
 returns : tie.Need-returns
 returns c =
     insert-grown (c .before .before .before .before .before .before .before .before .before .before .before .before .before .args .words .now) (c .before .before .push2 .last .0) (c .before .before .before .before .before .before .before .before .before .before .before .before .before .args .y) (c .before .before .before .before .before .before .before .before .before .before .before .before .before .pre .grow) (c .before .before .before .before .before .before .before .before .push .last .0) (c .before .before .before .before .before .before .before .before .before .over .result) (c .before .before .before .over2 .result)

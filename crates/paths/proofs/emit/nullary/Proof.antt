@@ -6,33 +6,22 @@ use Rattle.paths.proofs.RecordLaws.{root-fits, nullary-document, nullar
 use borrow.Author.Needs.{needs}
 use Rattle.paths.proofs.emit.nullary.Statement.{statement}
 use Rattle.paths.proofs.emit.nullary.Tie as tie
-use Rattle.paths.proofs.emit.nullary.Reads as reads
-use Rattle.paths.proofs.emit.nullary.Lts as lts
-use Rattle.paths.proofs.emit.index.Reads as index-reads
-use Rattle.paths.proofs.positions.Position.root.Reads as root-reads
-use Rattle.paths.proofs.positions.push.Reads as push-reads
 
--- src/emit.rt:102:16
 shared-slice-read-kind : tie.Need-shared-slice-read-kind
 shared-slice-read-kind c = search needs
 
--- src/emit.rt:104:66
 add-index : tie.Need-add-index
 add-index c = search needs
 
--- src/emit.rt:104:60
 shared-slice-read-index : tie.Need-shared-slice-read-index
 shared-slice-read-index c = omega (arith, c .before .before .before .before .before .before .pre .whole, ap (λ (k : ℕ). bodySize k) (c .before .before .if1 .taken))
 
--- src/emit.rt:104:54
 index-requires : tie.Need-index-requires
 index-requires c κs = search needs
 
--- src/emit.rt:104:39
 root-requires : tie.Need-root-requires
 root-requires c κs = search needs
 
--- src/emit.rt:104:9
 push-requires : tie.Need-push-requires
 push-requires c κs =
     record {
@@ -40,46 +29,36 @@ push-requires c κs =
       fits = root-fits (c .root .result) (c .before .index .result) (c .root .ensures) (omega (arith, c .before .index .ensures, c .before .before .before .before .before .before .before .before .pre .document (c .before .before .before .before .if1 .taken)));
     }
 
--- src/emit.rt:107:20
 add-t17 : tie.Need-add-t17
 add-t17 c = search needs
 
--- src/emit.rt:105:9
 same-length : tie.Need-same-length
 same-length c = search needs
 
--- src/emit.rt:105:9
 returns : tie.Need-returns
 returns c =
     nullary-document (c .before .before .before .before .before .before .before .before .before .before .before .args .bytes .now) (c .before .before .before .before .before .before .before .before .before .before .before .args .at) (c .before .before .before .before .before .before .before .before .before .before .before .args .next) (c .before .before .before .before .before .before .before .before .before .before .before .args .t4) (c .before .before .before .before .before .before .before .before .before .before .before .args .words .now) (c .before .before .before .before .before .before .before .before .before .before .before .args .count) (c .before .before .before .before .before .before .before .before .before .before .before .pre) (c .before .before .before .before .before .before .before .if1 .taken) (c .before .before .before .root .result) (c .before .before .before .before .index .result) (c .before .before .push .last .0) (c .before .before .before .root .ensures) (c .before .before .before .before .index .ensures)
     (c .before .before .push .ensures)
 
--- src/emit.rt:112:29
 add-index-2 : tie.Need-add-index-2
 add-index-2 c = search needs
 
--- src/emit.rt:112:23
 shared-slice-read-index-2 : tie.Need-shared-slice-read-index-2
 shared-slice-read-index-2 c = omega (arith, c .before .before .before .before .before .before .pre .whole, ap (λ (k : ℕ). bodySize k) (c .before .if2 .taken))
 
--- src/emit.rt:112:13
 index-requires-2 : tie.Need-index-requires-2
 index-requires-2 c κs = search needs
 
--- src/emit.rt:114:21
 mul-t21 : tie.Need-mul-t21
 mul-t21 c = omega (arith, c .index2 .ensures, c .before .before .before .before .before .before .before .pre .variable (c .before .before .if2 .taken))
 
--- src/emit.rt:114:21
 array-read-t26 : tie.Need-array-read-t26
 array-read-t26 c = omega (arith, c .index2 .ensures, c .before .before .before .before .before .before .before .pre .variable (c .before .before .if2 .taken))
 
--- src/emit.rt:113:9
 returns-2 : tie.Need-returns-2
 returns-2 c =
     nullary-variable (c .before .before .before .before .before .before .before .args .bytes .now) (c .before .before .before .before .before .before .before .args .at) (c .before .before .before .before .before .before .before .args .next) (c .before .before .before .before .before .before .before .args .t4) (c .before .before .before .before .before .before .before .args .words .now) (c .before .before .before .before .before .before .before .args .count) (c .before .before .before .before .before .before .before .pre) (c .before .before .if2 .taken) (c .index2 .result) (c .index2 .ensures)
 
--- src/emit.rt:98:1
 returns-3 : tie.Need-returns-3
 returns-3 c =
     nullary-none (c .before .before .before .before .before .args .bytes .now) (c .before .before .before .before .before .args .at) (c .before .before .before .before .before .args .next) (c .before .before .before .before .before .args .t4) (c .before .before .before .before .before .args .words .now) (c .before .before .before .before .before .args .count) (c .before .before .before .before .before .pre) (c .before .if1 .left) (c .if2 .left)

@@ -3,16 +3,10 @@ use Rattle.paths.proofs.GrowLaws.{over-fits, step-grown}
 use borrow.Author.Needs.{needs}
 use Rattle.paths.proofs.emit.step.Statement.{statement}
 use Rattle.paths.proofs.emit.step.Tie as tie
-use Rattle.paths.proofs.emit.step.Reads as reads
-use Rattle.paths.proofs.emit.step.Lts as lts
-use Rattle.paths.proofs.positions.Position.over.Reads as over-reads
-use Rattle.paths.proofs.positions.push.Reads as push-reads
 
--- src/emit.rt:44:35
 over-requires : tie.Need-over-requires
 over-requires c κs = search needs
 
--- src/emit.rt:44:5
 push-requires : tie.Need-push-requires
 push-requires c κs =
     record {
@@ -21,15 +15,12 @@ push-requires c κs =
           (omega (arith, c .before .before .before .pre .grow .low, c .before .before .before .pre .grow .room));
     }
 
--- src/emit.rt:47:16
 add-t9 : tie.Need-add-t9
 add-t9 c = search needs
 
--- src/emit.rt:39:1
 same-length : tie.Need-same-length
 same-length c = search needs
 
--- src/emit.rt:39:1
 returns : tie.Need-returns
 returns c =
     step-grown (c .before .before .before .before .before .before .args .words .now) (c .before .before .push .last .0) (c .before .before .before .before .before .before .args .x) (c .before .before .before .before .before .before .pre .grow) (c .before .before .before .over .result) (c .before .before .before .before .before .before .args .s) (c .before .before .before .over .ensures) (c .before .before .push .ensures)

@@ -7,53 +7,37 @@ use Rattle.paths.proofs.RecordLaws.{unary-step, unary-delete, unary-non
 use borrow.Author.Needs.{needs}
 use Rattle.paths.proofs.emit.unary.Statement.{statement}
 use Rattle.paths.proofs.emit.unary.Tie as tie
-use Rattle.paths.proofs.emit.unary.Reads as reads
-use Rattle.paths.proofs.emit.unary.Lts as lts
-use Rattle.paths.proofs.emit.delete.Reads as delete-reads
-use Rattle.paths.proofs.emit.index.Reads as index-reads
-use Rattle.paths.proofs.emit.step.Reads as step-reads
 
--- src/emit.rt:131:16
 shared-slice-read-kind : tie.Need-shared-slice-read-kind
 shared-slice-read-kind c = search needs
 
--- src/emit.rt:134:31
 add-index : tie.Need-add-index
 add-index c = search needs
 
--- src/emit.rt:134:25
 shared-slice-read-index : tie.Need-shared-slice-read-index
 shared-slice-read-index c = omega (arith, c .before .before .before .before .before .pre .whole, ap (λ (k : ℕ). bodySize k) (c .before .if1 .taken))
 
--- src/emit.rt:134:19
 index-requires : tie.Need-index-requires
 index-requires c κs = search needs
 
--- src/emit.rt:135:31
 add-index-2 : tie.Need-add-index-2
 add-index-2 c = search needs
 
--- src/emit.rt:135:25
 shared-slice-read-index-2 : tie.Need-shared-slice-read-index-2
 shared-slice-read-index-2 c = omega (arith, c .before .before .before .before .before .before .before .pre .whole, ap (λ (k : ℕ). bodySize k) (c .before .before .before .if1 .taken))
 
--- src/emit.rt:135:19
 index-requires-2 : tie.Need-index-requires-2
 index-requires-2 c κs = search needs
 
--- src/emit.rt:136:31
 add-index-3 : tie.Need-add-index-3
 add-index-3 c = search needs
 
--- src/emit.rt:136:25
 shared-slice-read-index-3 : tie.Need-shared-slice-read-index-3
 shared-slice-read-index-3 c = omega (arith, c .before .before .before .before .before .before .before .before .before .pre .whole, ap (λ (k : ℕ). bodySize k) (c .before .before .before .before .before .if1 .taken))
 
--- src/emit.rt:136:19
 index-requires-3 : tie.Need-index-requires-3
 index-requires-3 c κs = search needs
 
--- src/emit.rt:138:9
 step-requires : tie.Need-step-requires
 step-requires c κs =
     record {
@@ -63,30 +47,24 @@ step-requires c κs =
       name = omega (arith, c .before .index3 .ensures, c .before .before .shared-slice-known5 .given (c .before .before .before .before .before .before .before .before .before .before .before .args .at + 3));
     }
 
--- src/emit.rt:138:9
 same-length : tie.Need-same-length
 same-length c = search needs
 
--- src/emit.rt:138:9
 returns : tie.Need-returns
 returns c =
     unary-step (c .before .before .before .before .before .before .before .before .before .before .before .before .before .before .args .bytes .now) (c .before .before .before .before .before .before .before .before .before .before .before .before .before .before .args .at) (outOf (c .before .before .before .before .before .before .before .before .before .before .before .before .before .before .args .words .now) (c .before .before .before .before .before .before .before .before .before .before .before .before .before .before .args .x)) (c .before .before .before .before .before .before .before .before .before .before .before .before .before .before .args .x) (c .before .before .step .last .0) (c .before .before .step .result) (c .before .before .before .before .before .before .before .before .before .before .if1 .taken) (record { axis = c .before .before .before .before .before .before .before .before .index .result; test = c .before .before .before .before .before .before .index2 .result; name = c .before .before .before .before .index3 .result })
     (c .before .before .before .before .before .before .before .before .index .ensures) (c .before .before .before .before .before .before .index2 .ensures) (c .before .before .before .before .index3 .ensures) (c .before .before .step .ensures)
 
--- src/emit.rt:141:9
 delete-requires : tie.Need-delete-requires
 delete-requires c κs = search needs
 
--- src/emit.rt:141:9
 same-length-2 : tie.Need-same-length-2
 same-length-2 c = search needs
 
--- src/emit.rt:141:9
 returns-2 : tie.Need-returns-2
 returns-2 c =
     unary-delete (c .before .before .before .before .before .before .before .before .before .args .bytes .now) (c .before .before .before .before .before .before .before .before .before .args .at) (outOf (c .before .before .before .before .before .before .before .before .before .args .words .now) (c .before .before .before .before .before .before .before .before .before .args .x)) (c .before .before .before .before .before .before .before .before .before .args .x) (c .before .before .delete .last .0) (c .before .before .delete .result) (c .before .before .before .before .if2 .taken) (c .before .before .delete .ensures)
 
--- src/emit.rt:127:1
 returns-3 : tie.Need-returns-3
 returns-3 c =
     unary-none (c .before .before .before .before .before .args .bytes .now) (c .before .before .before .before .before .args .at) (outOf (c .before .before .before .before .before .args .words .now) (c .before .before .before .before .before .args .x)) (c .before .before .before .before .before .args .x) (c .before .before .before .before .before .args .words .now) (c .before .before .before .before .before .args .x) (c .before .if1 .left) (c .if2 .left) (grown-none (c .before .before .before .before .before .args .words .now) (c .before .before .before .before .before .args .x) (c .before .before .before .before .before .pre .grow))

@@ -3,16 +3,10 @@ use Rattle.paths.proofs.GrowLaws.{union-fits, union-grown}
 use borrow.Author.Needs.{needs}
 use Rattle.paths.proofs.emit.union.Statement.{statement}
 use Rattle.paths.proofs.emit.union.Tie as tie
-use Rattle.paths.proofs.emit.union.Reads as reads
-use Rattle.paths.proofs.emit.union.Lts as lts
-use Rattle.paths.proofs.positions.Position.union.Reads as union-reads
-use Rattle.paths.proofs.positions.push.Reads as push-reads
 
--- src/emit.rt:58:35
 union-requires : tie.Need-union-requires
 union-requires c κs = search needs
 
--- src/emit.rt:58:5
 push-requires : tie.Need-push-requires
 push-requires c κs =
     record {
@@ -21,15 +15,12 @@ push-requires c κs =
           (omega (arith, c .before .before .before .pre .low, c .before .before .before .pre .grow .room)) (omega (arith, c .before .before .before .pre .grow .low, c .before .before .before .pre .grow .room));
     }
 
--- src/emit.rt:61:16
 add-t9 : tie.Need-add-t9
 add-t9 c = search needs
 
--- src/emit.rt:53:1
 same-length : tie.Need-same-length
 same-length c = search needs
 
--- src/emit.rt:53:1
 returns : tie.Need-returns
 returns c =
     union-grown (c .before .before .before .before .before .before .args .words .now) (c .before .before .push .last .0) (c .before .before .before .before .before .before .args .y) (c .before .before .before .before .before .before .pre .grow) (c .before .before .before .union .result) (c .before .before .before .before .before .before .args .first) (c .before .before .before .union .ensures) (c .before .before .push .ensures)

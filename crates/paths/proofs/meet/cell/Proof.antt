@@ -4,54 +4,37 @@ use Rattle.paths.proofs.FillLaws.{by-nowhere, by-root, by-over, by-unio
 use borrow.Author.Needs.{needs}
 use Rattle.paths.proofs.meet.cell.Statement.{statement}
 use Rattle.paths.proofs.meet.cell.Tie as tie
-use Rattle.paths.proofs.meet.cell.Reads as reads
-use Rattle.paths.proofs.meet.cell.Lts as lts
-use Rattle.paths.proofs.cells.Cell.join.Reads as join-reads
-use Rattle.paths.proofs.cells.Cell.none.Reads as none-reads
-use Rattle.paths.proofs.meet.over_cell.Reads as over-cell-reads
-use Rattle.paths.proofs.meet.root_cell.Reads as root-cell-reads
-use Rattle.paths.proofs.pairs.get.Reads as get-reads
 
--- src/meet.rt:70:9
 none-requires : tie.Need-none-requires
 none-requires c κs = search needs
 
--- src/meet.rt:70:9
 returns : tie.Need-returns
 returns c =
     by-nowhere (cellIn (c .before .before .before .before .args .table .now)) (c .before .before .before .before .args .k) (c .before .before .before .before .args .l) (c .before .before .before .before .args .p) (c .before .before .before .before .args .q) (cellOf (c .none .result)) (c .before .if1 .taken) (c .none .ensures)
 
--- src/meet.rt:73:9
 root-cell-requires : tie.Need-root-cell-requires
 root-cell-requires c κs = search needs
 
--- src/meet.rt:73:9
 returns-2 : tie.Need-returns-2
 returns-2 c =
     by-root (cellIn (c .before .before .before .before .before .before .args .table .now)) (c .before .before .before .before .before .before .args .k) (c .before .before .before .before .before .before .args .l) (c .before .before .before .before .before .before .args .p) (c .before .before .before .before .before .before .args .q) (cellOf (c .root-cell .result)) (c .before .if2 .taken) (c .root-cell .ensures)
 
--- src/meet.rt:76:9
 over-cell-requires : tie.Need-over-cell-requires
 over-cell-requires c κs = search needs
 
--- src/meet.rt:76:9
 returns-3 : tie.Need-returns-3
 returns-3 c =
     by-over (cellIn (c .before .before .before .before .before .before .before .before .args .table .now)) (c .before .before .before .before .before .before .before .before .args .k) (c .before .before .before .before .before .before .before .before .args .l) (c .before .before .before .before .before .before .before .before .args .p) (c .before .before .before .before .before .before .before .before .args .q) (cellOf (c .over-cell .result)) (c .before .if3 .taken) (c .over-cell .ensures)
 
--- src/meet.rt:78:5
 get-requires : tie.Need-get-requires
 get-requires c κs = search needs
 
--- src/meet.rt:78:40
 get-requires-2 : tie.Need-get-requires-2
 get-requires-2 c κs = search needs
 
--- src/meet.rt:78:5
 join-requires : tie.Need-join-requires
 join-requires c κs = search needs
 
--- src/meet.rt:65:1
 returns-4 : tie.Need-returns-4
 returns-4 c =
     by-union (cellIn (c .before .before .before .before .before .before .before .before .before .before .args .table .now)) (c .before .before .before .before .before .before .before .before .before .before .args .k) (c .before .before .before .before .before .before .before .before .before .before .args .l) (c .before .before .before .before .before .before .before .before .before .before .args .p) (c .before .before .before .before .before .before .before .before .before .before .args .q) (cellOf (c .join .result)) (c .before .before .before .before .before .before .before .if1 .left) (c .before .before .before .before .before .if2 .left) (c .before .before .before .if3 .left) (cellOf (c .before .before .get .result)) (cellOf (c .before .get2 .result))

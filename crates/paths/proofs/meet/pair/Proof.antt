@@ -5,39 +5,25 @@ use Rattle.paths.proofs.FillLaws.{first-low, second-low, pair-filled}
 use borrow.Author.Needs.{needs}
 use Rattle.paths.proofs.meet.pair.Statement.{statement}
 use Rattle.paths.proofs.meet.pair.Tie as tie
-use Rattle.paths.proofs.meet.pair.Reads as reads
-use Rattle.paths.proofs.meet.pair.Lts as lts
-use Rattle.paths.proofs.cells.Cell.is_met.Reads as is-met-reads
-use Rattle.paths.proofs.meet.cell.Reads as cell-reads
-use Rattle.paths.proofs.meet.is_tested.Reads as is-tested-reads
-use Rattle.paths.proofs.pairs.set.Reads as set-reads
-use Rattle.paths.proofs.positions.Position.unpacked.Reads as unpacked-reads
 
--- src/meet.rt:93:32
 mul-unpacked : tie.Need-mul-unpacked
 mul-unpacked c = search needs
 
--- src/meet.rt:93:32
 shared-slice-read-unpacked : tie.Need-shared-slice-read-unpacked
 shared-slice-read-unpacked c = search needs
 
--- src/meet.rt:93:9
 unpacked-requires : tie.Need-unpacked-requires
 unpacked-requires c κs = search needs
 
--- src/meet.rt:94:32
 mul-unpacked-2 : tie.Need-mul-unpacked-2
 mul-unpacked-2 c = search needs
 
--- src/meet.rt:94:32
 shared-slice-read-unpacked-2 : tie.Need-shared-slice-read-unpacked-2
 shared-slice-read-unpacked-2 c = search needs
 
--- src/meet.rt:94:9
 unpacked-requires-2 : tie.Need-unpacked-requires-2
 unpacked-requires-2 c κs = search needs
 
--- src/meet.rt:95:9
 cell-requires : tie.Need-cell-requires
 cell-requires c κs =
     record {
@@ -50,23 +36,18 @@ cell-requires c κs =
       otherSecond = second-low (c .before .unpacked2 .result) (getD (c .before .before .before .before .before .before .before .before .args .second .now) (c .before .before .before .before .before .before .before .before .args .l) 0) (c .before .unpacked2 .ensures);
     }
 
--- src/meet.rt:96:5
 set-requires : tie.Need-set-requires
 set-requires c κs = search needs
 
--- src/meet.rt:97:5
 is-tested-requires : tie.Need-is-tested-requires
 is-tested-requires c κs = search needs
 
--- src/meet.rt:97:23
 is-met-requires : tie.Need-is-met-requires
 is-met-requires c κs = search needs
 
--- src/meet.rt:89:1
 same-length : tie.Need-same-length
 same-length c = search needs
 
--- src/meet.rt:89:1
 returns : tie.Need-returns
 returns c =
     pair-filled (c .before .before .before .before .before .before .before .before .before .before .before .before .before .before .before .args .first .now) (c .before .before .before .before .before .before .before .before .before .before .before .before .before .before .before .args .second .now) (c .before .before .before .before .before .before .before .before .before .before .before .before .before .before .before .args .table .now) (c .before .before .before .before .before .before .before .before .before .before .before .before .before .before .before .args .k) (c .before .before .before .before .before .before .before .before .before .before .before .before .before .before .before .args .l) (c .before .before .before .before .before .before .before .before .before .before .before .before .before .before .before .pre) (c .before .before .before .before .before .before .before .before .before .before .unpacked .result) (c .before .before .before .before .before .before .before .before .unpacked2 .result) (c .before .before .before .before .before .before .before .before .before .before .unpacked .ensures) (c .before .before .before .before .before .before .before .before .unpacked2 .ensures)

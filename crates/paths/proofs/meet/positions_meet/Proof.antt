@@ -12,9 +12,6 @@ use Rattle.paths.proofs.FillLaws.{any-none, any-next, none-filled}
 use borrow.Author.Needs.{needs}
 use Rattle.paths.proofs.meet.positions_meet.Statement.{statement}
 use Rattle.paths.proofs.meet.positions_meet.Tie as tie
-use Rattle.paths.proofs.meet.positions_meet.Reads as reads
-use Rattle.paths.proofs.meet.positions_meet.Lts as lts
-use Rattle.paths.proofs.meet.row.Reads as row-reads
 
 abbrev Inv-loop : tie.InvT-loop
 Inv-loop first second table₀ met₀ k₀ table met k =
@@ -24,7 +21,6 @@ Inv-loop first second table₀ met₀ k₀ table met k =
 abbrev μ-loop : tie.MeasureT-loop
 μ-loop first second table₀ met₀ k₀ table met k = length first - k
 
--- src/meet.rt:121:5
 -- whether a row meets
 abbrev meetsRow : (first second : List ℕ) → ℕ → Bool
 meetsRow ws us i = rowMeets (entriesBy ws) (entriesBy us) i (length (entriesBy us))
@@ -33,7 +29,6 @@ loop-holds : tie.Need-loop-holds Inv-loop μ-loop
 loop-holds c =
     (omega arith, c .before .before .before .pre .size, none-filled (c .before .before .before .args .first .now) (c .before .before .before .args .second .now) (c .before .before .before .args .table .now), any-none (meetsRow (c .before .before .before .args .first .now) (c .before .before .before .args .second .now)))
 
--- src/meet.rt:122:21
 row-requires : tie.Need-row-requires Inv-loop μ-loop
 row-requires c κs =
     record {
@@ -44,29 +39,23 @@ row-requires c κs =
       filled = c .before .before .loop .inv .2;
     }
 
--- src/meet.rt:123:9
 add-k : tie.Need-add-k Inv-loop μ-loop
 add-k c = search needs
 
--- src/meet.rt:121:5
 loop-less : tie.Need-loop-less Inv-loop μ-loop
 loop-less c = search needs
 
--- src/meet.rt:121:5
 loop-again : tie.Need-loop-again Inv-loop μ-loop
-loop-again c =
-    (
-      omega arith,
-      c .before .before .row .ensures .size,
-      c .before .before .row .ensures .filled,
-      any-next (meetsRow (c .before .before .before .before .before .before .before .before .before .args .first .now) (c .before .before .before .before .before .before .before .before .before .args .second .now)) (c .before .before .before .before .before .loop .k) (c .before .before .before .before .before .loop .met) (c .before .before .row .result) _ (c .before .before .before .before .before .loop .inv .3) (c .before .before .row .ensures .met) refl,
-    )
+loop-again c = (
+  omega arith,
+  c .before .before .row .ensures .size,
+  c .before .before .row .ensures .filled,
+  any-next (meetsRow (c .before .before .before .before .before .before .before .before .before .args .first .now) (c .before .before .before .before .before .before .before .before .before .args .second .now)) (c .before .before .before .before .before .loop .k) (c .before .before .before .before .before .loop .met) (c .before .before .row .result) _ (c .before .before .before .before .before .loop .inv .3) (c .before .before .row .ensures .met) refl,
+)
 
--- src/meet.rt:115:1
 same-length : tie.Need-same-length Inv-loop μ-loop
 same-length c = search needs
 
--- src/meet.rt:115:1
 returns : tie.Need-returns Inv-loop μ-loop
 returns c =
     let e : c .before .loop .k ≡ length (entriesBy (c .before .before .before .before .before .args .first .now)) = omega (arith, c .before .loop .inv .0, length-map (c .before .before .before .before .before .args .first .now) entryOf) in

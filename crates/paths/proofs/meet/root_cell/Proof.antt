@@ -4,64 +4,44 @@ use Rattle.paths.proofs.FillLaws.{root-nowhere, root-root, root-over, r
 use borrow.Author.Needs.{needs}
 use Rattle.paths.proofs.meet.root_cell.Statement.{statement}
 use Rattle.paths.proofs.meet.root_cell.Tie as tie
-use Rattle.paths.proofs.meet.root_cell.Reads as reads
-use Rattle.paths.proofs.meet.root_cell.Lts as lts
-use Rattle.paths.proofs.cells.Cell.join.Reads as join-reads
-use Rattle.paths.proofs.cells.Cell.none.Reads as none-reads
-use Rattle.paths.proofs.cells.Cell.roots.Reads as roots-reads
-use Rattle.paths.proofs.cells.Cell.up_step.Reads as up-step-reads
-use Rattle.paths.proofs.meet.step_of.Reads as step-of-reads
-use Rattle.paths.proofs.pairs.get.Reads as get-reads
 
--- src/meet.rt:31:9
 none-requires : tie.Need-none-requires
 none-requires c κs = search needs
 
--- src/meet.rt:31:9
 returns : tie.Need-returns
 returns c =
     root-nowhere (cellIn (c .before .before .before .before .args .table .now)) (c .before .before .before .before .args .k) (c .before .before .before .before .args .l) (c .before .before .before .before .args .q) (cellOf (c .none .result)) (c .before .before .before .before .args .p .name) (c .before .if1 .taken) (c .none .ensures)
 
--- src/meet.rt:34:9
 roots-requires : tie.Need-roots-requires
 roots-requires c κs = search needs
 
--- src/meet.rt:34:9
 returns-2 : tie.Need-returns-2
 returns-2 c =
     root-root (cellIn (c .before .before .before .before .before .before .args .table .now)) (c .before .before .before .before .before .before .args .k) (c .before .before .before .before .before .before .args .l) (c .before .before .before .before .before .before .args .q) (cellOf (c .roots .result)) (c .before .before .before .before .before .before .args .p .name) (c .before .if2 .taken) (c .roots .ensures)
 
--- src/meet.rt:37:16
 get-requires : tie.Need-get-requires
 get-requires c κs = search needs
 
--- src/meet.rt:37:54
 step-of-requires : tie.Need-step-of-requires
 step-of-requires c κs = search needs
 
--- src/meet.rt:37:9
 up-step-requires : tie.Need-up-step-requires
 up-step-requires c κs = search needs
 
--- src/meet.rt:37:9
 returns-3 : tie.Need-returns-3
 returns-3 c =
     root-over (cellIn (c .before .before .before .before .before .before .before .before .before .before .args .table .now)) (c .before .before .before .before .before .before .before .before .before .before .args .k) (c .before .before .before .before .before .before .before .before .before .before .args .l) (c .before .before .before .before .before .before .before .before .before .before .args .q) (cellOf (c .up-step .result)) (c .before .before .before .before .before .before .before .before .before .before .args .p .name) (c .before .before .before .if3 .taken) (cellOf (c .before .before .get .result)) (stepOf (c .before .step-of .result))
     (c .up-step .ensures) (c .before .step-of .ensures) (c .before .before .get .ensures)
 
--- src/meet.rt:39:5
 get-requires-2 : tie.Need-get-requires-2
 get-requires-2 c κs = search needs
 
--- src/meet.rt:39:40
 get-requires-3 : tie.Need-get-requires-3
 get-requires-3 c κs = search needs
 
--- src/meet.rt:39:5
 join-requires : tie.Need-join-requires
 join-requires c κs = search needs
 
--- src/meet.rt:26:1
 returns-4 : tie.Need-returns-4
 returns-4 c =
     root-union (cellIn (c .before .before .before .before .before .before .before .before .before .before .args .table .now)) (c .before .before .before .before .before .before .before .before .before .before .args .k) (c .before .before .before .before .before .before .before .before .before .before .args .l) (c .before .before .before .before .before .before .before .before .before .before .args .q) (cellOf (c .join .result)) (c .before .before .before .before .before .before .before .before .before .before .args .p .name) (c .before .before .before .before .before .before .before .if1 .left) (c .before .before .before .before .before .if2 .left) (c .before .before .before .if3 .left)

@@ -9,9 +9,6 @@ use Rattle.paths.proofs.FillLaws.{any-none, any-next, row-done}
 use borrow.Author.Needs.{needs}
 use Rattle.paths.proofs.meet.row.Statement.{statement}
 use Rattle.paths.proofs.meet.row.Tie as tie
-use Rattle.paths.proofs.meet.row.Reads as reads
-use Rattle.paths.proofs.meet.row.Lts as lts
-use Rattle.paths.proofs.meet.pair.Reads as pair-reads
 
 abbrev Inv-loop : tie.InvT-loop
 Inv-loop first second table₀ k met₀ l₀ table met l =
@@ -21,12 +18,10 @@ Inv-loop first second table₀ k met₀ l₀ table met l =
 abbrev μ-loop : tie.MeasureT-loop
 μ-loop first second table₀ k met₀ l₀ table met l = length second - l
 
--- src/meet.rt:107:5
 loop-holds : tie.Need-loop-holds Inv-loop μ-loop
 loop-holds c =
     (omega arith, c .before .before .before .pre .size, c .before .before .before .pre .filled, any-none (meetAt (entriesBy (c .before .before .before .args .first .now)) (entriesBy (c .before .before .before .args .second .now)) (c .before .before .before .args .k)))
 
--- src/meet.rt:108:21
 pair-requires : tie.Need-pair-requires Inv-loop μ-loop
 pair-requires c κs =
     record {
@@ -38,30 +33,24 @@ pair-requires c κs =
       filled = c .before .before .loop .inv .2;
     }
 
--- src/meet.rt:109:9
 add-l : tie.Need-add-l Inv-loop μ-loop
 add-l c = search needs
 
--- src/meet.rt:107:5
 loop-less : tie.Need-loop-less Inv-loop μ-loop
 loop-less c = search needs
 
--- src/meet.rt:107:5
 loop-again : tie.Need-loop-again Inv-loop μ-loop
-loop-again c =
-    (
-      omega arith,
-      c .before .before .pair .ensures .size,
-      c .before .before .pair .ensures .filled,
-      any-next (meetAt (entriesBy (c .before .before .before .before .before .before .before .before .before .args .first .now)) (entriesBy (c .before .before .before .before .before .before .before .before .before .args .second .now)) (c .before .before .before .before .before .before .before .before .before .args .k)) (c .before .before .before .before .before .loop .l) (c .before .before .before .before .before .loop .met) (c .before .before .pair .result) _
-          (c .before .before .before .before .before .loop .inv .3) (c .before .before .pair .ensures .met) refl,
-    )
+loop-again c = (
+  omega arith,
+  c .before .before .pair .ensures .size,
+  c .before .before .pair .ensures .filled,
+  any-next (meetAt (entriesBy (c .before .before .before .before .before .before .before .before .before .args .first .now)) (entriesBy (c .before .before .before .before .before .before .before .before .before .args .second .now)) (c .before .before .before .before .before .before .before .before .before .args .k)) (c .before .before .before .before .before .loop .l) (c .before .before .before .before .before .loop .met) (c .before .before .pair .result) _
+      (c .before .before .before .before .before .loop .inv .3) (c .before .before .pair .ensures .met) refl,
+)
 
--- src/meet.rt:101:1
 same-length : tie.Need-same-length Inv-loop μ-loop
 same-length c = search needs
 
--- src/meet.rt:101:1
 returns : tie.Need-returns Inv-loop μ-loop
 returns c =
     let e : length (c .before .before .before .before .before .args .second .now) ≡ c .before .loop .l = omega (arith, c .before .loop .inv .0) in

@@ -4,75 +4,55 @@ use Rattle.paths.proofs.PairLaws.{bits-packed}
 use borrow.Author.Needs.{needs}
 use Rattle.paths.proofs.pairs.packed.Statement.{statement}
 use Rattle.paths.proofs.pairs.packed.Tie as tie
-use Rattle.paths.proofs.pairs.packed.Reads as reads
-use Rattle.paths.proofs.pairs.packed.Lts as lts
-use Rattle.paths.proofs.pairs.bit.Reads as bit-reads
 
--- src/pairs.rt:28:5
 bit-requires : tie.Need-bit-requires
 bit-requires c κs = search needs
 
--- src/pairs.rt:29:15
 bit-requires-2 : tie.Need-bit-requires-2
 bit-requires-2 c κs = search needs
 
--- src/pairs.rt:29:11
 mul-result : tie.Need-mul-result
 mul-result c = search needs
 
--- src/pairs.rt:28:5
 add-result : tie.Need-add-result
 add-result c = search needs
 
--- src/pairs.rt:30:15
 bit-requires-3 : tie.Need-bit-requires-3
 bit-requires-3 c κs = search needs
 
--- src/pairs.rt:30:11
 mul-result-2 : tie.Need-mul-result-2
 mul-result-2 c = search needs
 
--- src/pairs.rt:28:5
 add-result-2 : tie.Need-add-result-2
 add-result-2 c = search needs
 
--- src/pairs.rt:31:15
 bit-requires-4 : tie.Need-bit-requires-4
 bit-requires-4 c κs = search needs
 
--- src/pairs.rt:31:11
 mul-result-3 : tie.Need-mul-result-3
 mul-result-3 c = search needs
 
--- src/pairs.rt:28:5
 add-result-3 : tie.Need-add-result-3
 add-result-3 c = search needs
 
--- src/pairs.rt:32:16
 bit-requires-5 : tie.Need-bit-requires-5
 bit-requires-5 c κs = search needs
 
--- src/pairs.rt:32:11
 mul-result-4 : tie.Need-mul-result-4
 mul-result-4 c = search needs
 
--- src/pairs.rt:28:5
 add-result-4 : tie.Need-add-result-4
 add-result-4 c = search needs
 
--- src/pairs.rt:33:16
 bit-requires-6 : tie.Need-bit-requires-6
 bit-requires-6 c κs = search needs
 
--- src/pairs.rt:33:11
 mul-result-5 : tie.Need-mul-result-5
 mul-result-5 c = search needs
 
--- src/pairs.rt:28:5
 add-result-5 : tie.Need-add-result-5
 add-result-5 c = search needs
 
--- src/pairs.rt:25:1
 returns : tie.Need-returns
 returns c =
     bits-packed (cellOf (c .before .before .before .before .before .before .args .c)) (c .before .before .before .before .before .bit .result) (c .before .before .before .before .bit2 .result) (c .before .before .before .bit3 .result) (c .before .before .bit4 .result) (c .before .bit5 .result) (c .bit6 .result) _

@@ -2,31 +2,22 @@ use Rattle.paths.proofs.PairLaws.{cell-set}
 use borrow.Author.Needs.{needs}
 use Rattle.paths.proofs.pairs.set.Statement.{statement}
 use Rattle.paths.proofs.pairs.set.Tie as tie
-use Rattle.paths.proofs.pairs.set.Reads as reads
-use Rattle.paths.proofs.pairs.set.Lts as lts
-use Rattle.paths.proofs.pairs.packed.Reads as packed-reads
 
--- src/pairs.rt:62:14
 mul-at : tie.Need-mul-at
 mul-at c = search needs
 
--- src/pairs.rt:62:14
 add-at : tie.Need-add-at
 add-at c = search needs
 
--- src/pairs.rt:63:17
 packed-requires : tie.Need-packed-requires
 packed-requires c κs = search needs
 
--- src/pairs.rt:63:5
 slice-write-table : tie.Need-slice-write-table
 slice-write-table c = search needs
 
--- src/pairs.rt:58:1
 same-length : tie.Need-same-length
 same-length c = search needs
 
--- src/pairs.rt:58:1
 returns : tie.Need-returns
 returns c =
     cell-set (c .before .before .args .table .now) (c .before .before .args .k) (c .before .before .args .l) (c .before .before .args .c) (c .packed .result) (c .before .before .pre) (c .packed .ensures)

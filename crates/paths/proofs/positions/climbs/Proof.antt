@@ -9,10 +9,6 @@ use Rattle.paths.proofs.FillLaws.{any-none, any-next}
 use borrow.Author.Needs.{needs}
 use Rattle.paths.proofs.positions.climbs.Statement.{statement}
 use Rattle.paths.proofs.positions.climbs.Tie as tie
-use Rattle.paths.proofs.positions.climbs.Reads as reads
-use Rattle.paths.proofs.positions.climbs.Lts as lts
-use Rattle.paths.proofs.positions.Position.is_climb.Reads as is-climb-reads
-use Rattle.paths.proofs.positions.Position.unpacked.Reads as unpacked-reads
 
 abbrev Inv-loop : tie.InvT-loop
 Inv-loop words found₀ i₀ found i = (i ≤ length words) × (found ≡ anyUpTo (climbAt words) i)
@@ -20,44 +16,34 @@ Inv-loop words found₀ i₀ found i = (i ≤ length words) × (found ≡ anyUpT
 abbrev μ-loop : tie.MeasureT-loop
 μ-loop words found₀ i₀ found i = length words - i
 
--- src/positions.rt:125:5
 loop-holds : tie.Need-loop-holds Inv-loop μ-loop
 loop-holds c = (omega arith, any-none (climbAt (c .before .args .words .now)))
 
--- src/positions.rt:126:44
 mul-unpacked : tie.Need-mul-unpacked Inv-loop μ-loop
 mul-unpacked c = search needs
 
--- src/positions.rt:126:44
 shared-slice-read-unpacked : tie.Need-shared-slice-read-unpacked Inv-loop μ-loop
 shared-slice-read-unpacked c = search needs
 
--- src/positions.rt:126:25
 unpacked-requires : tie.Need-unpacked-requires Inv-loop μ-loop
 unpacked-requires c κs = search needs
 
--- src/positions.rt:126:25
 is-climb-requires : tie.Need-is-climb-requires Inv-loop μ-loop
 is-climb-requires c κs = search needs
 
--- src/positions.rt:127:9
 add-i : tie.Need-add-i Inv-loop μ-loop
 add-i c = search needs
 
--- src/positions.rt:125:5
 loop-less : tie.Need-loop-less Inv-loop μ-loop
 loop-less c = search needs
 
--- src/positions.rt:125:5
 loop-again : tie.Need-loop-again Inv-loop μ-loop
-loop-again c =
-    (
-      omega arith,
-      any-next (climbAt (c .before .before .before .before .before .before .args .words .now)) (c .before .before .before .before .loop .i) (c .before .before .before .before .loop .found) (c .is-climb .result) _ (c .before .before .before .before .loop .inv .1)
-          (climb-at (c .before .before .before .before .before .before .args .words .now) (c .before .before .before .before .loop .i) (c .before .unpacked .result) (c .is-climb .result) (c .before .unpacked .ensures) (c .is-climb .ensures)) refl,
-    )
+loop-again c = (
+  omega arith,
+  any-next (climbAt (c .before .before .before .before .before .before .args .words .now)) (c .before .before .before .before .loop .i) (c .before .before .before .before .loop .found) (c .is-climb .result) _ (c .before .before .before .before .loop .inv .1)
+      (climb-at (c .before .before .before .before .before .before .args .words .now) (c .before .before .before .before .loop .i) (c .before .unpacked .result) (c .is-climb .result) (c .before .unpacked .ensures) (c .is-climb .ensures)) refl,
+)
 
--- src/positions.rt:120:1
 returns : tie.Need-returns Inv-loop μ-loop
 returns c =
     let e : c .before .loop .i ≡ length (c .before .before .before .args .words .now) = omega (arith, c .before .loop .inv .0) in c .before .loop .inv .1 ∙ ap (anyUpTo (climbAt (c .before .before .before .args .words .now))) e

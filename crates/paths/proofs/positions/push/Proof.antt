@@ -6,27 +6,19 @@ use Rattle.paths.proofs.WordLaws.{word-pushed}
 use borrow.Author.Needs.{needs}
 use Rattle.paths.proofs.positions.push.Statement.{statement}
 use Rattle.paths.proofs.positions.push.Tie as tie
-use Rattle.paths.proofs.positions.push.Reads as reads
-use Rattle.paths.proofs.positions.push.Lts as lts
-use Rattle.paths.proofs.positions.Position.packed.Reads as packed-reads
 
--- src/positions.rt:91:20
 packed-requires : tie.Need-packed-requires
 packed-requires c κs = search needs
 
--- src/positions.rt:91:5
 mul-words : tie.Need-mul-words
 mul-words c = search needs
 
--- src/positions.rt:91:5
 slice-write-words : tie.Need-slice-write-words
 slice-write-words c = search needs
 
--- src/positions.rt:87:1
 same-length : tie.Need-same-length
 same-length c = search needs
 
--- src/positions.rt:87:1
 returns : tie.Need-returns
 returns c =
     subst (λ (w : ℕ). PushPost (c .before .before .args .words .now) (c .before .before .args .count) (c .before .before .args .p) (set (c .before .before .args .words .now) (c .before .before .args .count) w)) (sym (c .packed .ensures))

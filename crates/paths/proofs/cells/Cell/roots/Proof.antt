@@ -2,10 +2,7 @@ use Rattle.paths.proofs.CellLaws.{roots-are}
 use borrow.Author.Needs.{needs}
 use Rattle.paths.proofs.cells.Cell.roots.Statement.{statement}
 use Rattle.paths.proofs.cells.Cell.roots.Tie as tie
-use Rattle.paths.proofs.cells.Cell.roots.Reads as reads
-use Rattle.paths.proofs.cells.Cell.roots.Lts as lts
 
--- src/cells.rt:84:5
 returns : tie.Need-returns
 returns c = roots-are (c .args .first) (c .args .second)
 

@@ -3,10 +3,7 @@ use Rattle.paths.proofs.ClimbLaws.{climb-is}
 use borrow.Author.Needs.{needs}
 use Rattle.paths.proofs.positions.Position.is_climb.Statement.{statement}
 use Rattle.paths.proofs.positions.Position.is_climb.Tie as tie
-use Rattle.paths.proofs.positions.Position.is_climb.Reads as reads
-use Rattle.paths.proofs.positions.Position.is_climb.Lts as lts
 
--- src/positions.rt:83:5
 returns : tie.Need-returns
 returns c = climb-is (c .before .before .args .self) _ refl
 
