@@ -1,0 +1,131 @@
+-- The whole analysis: what each call asks is there, and each way out is the model's answer.
+use mathlib.Core.Path.{_≡_, refl, ap, sym, _∙_, subst}
+use mathlib.Core.Bool.{Bool, true, false, _||_}
+use mathlib.Core.List.{List, [], _∷_, map}
+use Prim.Native.Nat.{ℕ, zero, suc, _+_, _*_, _-_, _≤_, _<_}
+use native.Mathlib.Omega.{arith}
+use lib.Dec.{eqb}
+use lib.ListN.{length, getD, take}
+use lib.Seq.{take-suc, length-take-le}
+use Rattle.model.specs.Base.{pick}
+use Rattle.model.specs.Script.{Expr, Parsed, ill, parsed, readScript}
+use Rattle.model.specs.Paths.{hasUp}
+use Rattle.model.specs.Meeting.{Answer, free, upward, meet, answer}
+use Rattle.table.specs.Calls.{faultOf}
+use Rattle.table.specs.declared.Fault.{Fault}
+use Rattle.script.specs.Walk.{exprAt}
+use Rattle.script.specs.Reading.{scriptRead}
+use Rattle.script.proofs.ScriptLaws.{script-accepted, script-parsed, script-ill}
+use Rattle.paths.specs.Positions.{Entry, Emitted, emit, AreLower, entriesBefore, entriesOf}
+use Rattle.paths.specs.Cells.{positionsMeet, answerBy}
+use Rattle.paths.specs.Words.{entryOf, entriesIn}
+use Rattle.paths.specs.Filling.{entriesBy, climbing, PositionsPre, TablePre}
+use Rattle.paths.specs.Emitting.{EmitPre, EmitPost}
+use Rattle.paths.specs.Analysis.{byAnswer, analysisBy, analysed, ScriptPre, ScriptPost, AnswerPre, AnswerPost}
+use Rattle.paths.specs.declared.Analysis.{Analysis}
+use Rattle.paths.specs.declared.Analysis.the-variants.{Refused, Free, Upward, Meet}
+use Rattle.paths.specs.declared.emit.Emitted as code
+use Rattle.paths.proofs.AnswerLaws.{emitted-right, answer-by}
+use Rattle.paths.proofs.ClimbLaws.{climbing-is}
+use Rattle.paths.proofs.SizeLaws.{script-records}
+
+-- THE POSITIONS of an accepted script
+module _ {b ws : List ℕ} (pre : ScriptPre b ws) {env : List ℕ} where
+  pub positions-asks : length env ≡ 8 → EmitPre b 0 16 0 env ws 1
+  positions-asks e =
+      record {
+        accepted = script-accepted b (pre .accepted);
+        scope = omega arith;
+        size = pre .size;
+        variables = e;
+        some = omega arith;
+        room = omega (arith, script-records b (pre .accepted));
+        low = λ v h. absurd (omega arith);
+      }
+
+  pub positions-done : {ws′ : List ℕ} {r : code.Emitted} → EmitPost b 0 16 0 env ws 1 ws′ r → ScriptPost b ws′ (r .count)
+  positions-done post =
+      record {
+        size = post .size;
+        few = omega (arith, post .few, script-records b (pre .accepted));
+        entries = ap (λ (x : Emitted). x .entries) (post .is) ∙ ap (λ (es : List Entry). emit (exprAt 16 b 0) [] es .entries) before;
+      }
+    where
+      before : entriesIn ws 1 ≡ entriesBefore
+      before =
+          ap (map entryOf) (take-suc ws 0 0 (omega (arith, pre .size))) ∙ ap (λ (w : ℕ). entryOf w ∷ []) (pre .zero)
+
+pub entries-lower : (ws : List ℕ) (n : ℕ) (e : Expr) → entriesIn ws n ≡ entriesOf e → AreLower (entriesIn ws n)
+entries-lower ws n e h = subst AreLower (sym h) (emitted-right 1 (λ q. omega arith) e .lower)
+
+upward-is : (e f : Expr) → (hasUp e || hasUp f) ≡ true → Upward ≡ byAnswer (answer e f)
+upward-is e f h = rw h
+
+-- THE ANSWER, from the parts of the words that are positions
+abbrev part : List ℕ → ℕ → List ℕ
+part ws n = take (n - 0) ws
+
+part-is : (ws : List ℕ) (n : ℕ) → part ws n ≡ take n ws
+part-is ws n = let e : n - 0 ≡ n = omega arith in ap (λ (k : ℕ). take k ws) e
+
+module _ {ws : List ℕ} {n : ℕ} {us : List ℕ} {m : ℕ} {t : List ℕ} (pre : AnswerPre ws n us m t) where
+  pub table-asks : TablePre (part ws n) (part us m) t
+  table-asks =
+      subst (λ (x : List ℕ). TablePre x (part us m) t) (sym (part-is ws n))
+      (subst (λ (y : List ℕ). TablePre (take n ws) y t) (sym (part-is us m)) parts)
+    where
+      parts : TablePre (take n ws) (take m us) t
+      parts = record {
+        first = record { few = omega (arith, length-take-le n ws (omega (arith, pre .first, pre .firstFew)), pre .firstFew); lower = pre .firstLower };
+        second = record { few = omega (arith, length-take-le m us (omega (arith, pre .second, pre .secondFew)), pre .secondFew); lower = pre .secondLower };
+        size = pre .table;
+      }
+
+  module _ {x : Bool} (climbs : x ≡ climbing (part ws n)) where
+    first-climbs : x ≡ climbing (take n ws)
+    first-climbs = climbs ∙ ap climbing (part-is ws n)
+
+    pub answer-first : x ≡ true → AnswerPost ws n us m Upward
+    answer-first h =
+        record { is = λ e f g i. upward-is e f (ap (λ (y : Bool). y || hasUp f) (sym (climbing-is (take n ws) e g) ∙ sym first-climbs ∙ h)) }
+
+    module _ (not : x ≡ false) {y : Bool} (climbs₂ : y ≡ climbing (part us m)) where
+      ups : (e f : Expr) → entriesIn ws n ≡ entriesOf e → entriesIn us m ≡ entriesOf f → (hasUp e || hasUp f) ≡ y
+      ups e f g i =
+          ap (λ (z : Bool). z || hasUp f) (sym (climbing-is (take n ws) e g) ∙ sym first-climbs ∙ not) ∙ sym (climbing-is (take m us) f i) ∙ sym (climbs₂ ∙ ap climbing (part-is us m))
+
+      pub answer-second : y ≡ true → AnswerPost ws n us m Upward
+      answer-second h = record { is = λ e f g i. upward-is e f (ups e f g i ∙ h) }
+
+      module _ (neither : y ≡ false) {z : Bool} (meets : z ≡ positionsMeet (entriesBy (part ws n)) (entriesBy (part us m))) where
+        answered : (e f : Expr) → entriesIn ws n ≡ entriesOf e → entriesIn us m ≡ entriesOf f → byAnswer (pick z meet free) ≡ byAnswer (answer e f)
+        answered e f g i =
+            sym (ap byAnswer (sym (answer-by e f) ∙ ap (λ (q : Bool). pick q upward (pick (positionsMeet (entriesOf e) (entriesOf f)) meet free)) (ups e f g i ∙ neither) ∙
+            ap (λ (q : Bool). pick q meet free) (sym (meets ∙ ap (λ (v : List ℕ). positionsMeet (entriesBy v) (entriesBy (part us m))) (part-is ws n) ∙
+            ap (λ (v : List ℕ). positionsMeet (entriesIn ws n) (entriesBy v)) (part-is us m) ∙ ap (λ (es : List Entry). positionsMeet es (entriesIn us m)) g ∙ ap (positionsMeet (entriesOf e)) i))))
+
+        pub answer-meet : z ≡ true → AnswerPost ws n us m Meet
+        answer-meet h = record { is = λ e f g i. sym (ap (λ (q : Bool). byAnswer (pick q meet free)) h) ∙ answered e f g i }
+
+        pub answer-free : z ≡ false → AnswerPost ws n us m Free
+        answer-free h = record { is = λ e f g i. sym (ap (λ (q : Bool). byAnswer (pick q meet free)) h) ∙ answered e f g i }
+
+-- THE CALL
+module _ (b c : List ℕ) where
+  pub first-refused : (x : Fault) → x ≡ scriptRead b → (x .number ≡ 0 → ⊥) → Refused 1 x ≡ analysed b c
+  first-refused x e h =
+      ap (Refused 1) e ∙ sym (ap (λ (p : Parsed). analysisBy p (readScript c)) (script-ill b (λ q. h (ap (λ (y : Fault). y .number) e ∙ q))))
+
+  module _ (accepted : scriptRead b .number ≡ 0) where
+    pub second-refused : (x : Fault) → x ≡ scriptRead c → (x .number ≡ 0 → ⊥) → Refused 2 x ≡ analysed b c
+    second-refused x e h =
+        ap (Refused 2) e ∙
+        sym (ap (λ (p : Parsed). analysisBy p (readScript c)) (script-parsed b accepted .1) ∙
+        ap (analysisBy (parsed (exprAt 16 b 0) (length b) (script-parsed b accepted .0) [])) (script-ill c (λ q. h (ap (λ (y : Fault). y .number) e ∙ q))))
+
+    pub both-accepted : scriptRead c .number ≡ 0 → {ws : List ℕ} {n : ℕ} {us : List ℕ} {m : ℕ} {r : Analysis} → ScriptPost b ws n → ScriptPost c us m →
+        AnswerPost ws n us m r → r ≡ analysed b c
+    both-accepted h one two post =
+        post .is (exprAt 16 b 0) (exprAt 16 c 0) (one .entries) (two .entries) ∙
+        sym (ap (λ (p : Parsed). analysisBy p (readScript c)) (script-parsed b accepted .1) ∙
+        ap (analysisBy (parsed (exprAt 16 b 0) (length b) (script-parsed b accepted .0) [])) (script-parsed c h .1))

@@ -1,0 +1,17 @@
+pub mod CellLaws
+pub mod MirrorLaws
+pub mod PositionLaws
+pub mod DocumentLaws
+pub mod EmitLaws
+pub mod TraverseLaws
+pub mod AnswerLaws
+pub mod WordLaws
+pub mod PairLaws
+pub mod FillLaws
+pub mod GrowLaws
+pub mod RecordLaws
+pub mod OperandLaws
+pub mod WalkLaws
+pub mod SizeLaws
+pub mod ClimbLaws
+pub mod AnalysisLaws

@@ -1,0 +1,212 @@
+-- An accepted record by its arity: what it emits from its operands' emissions, its operands, and its records.
+use mathlib.Core.Path.{_≡_, refl, ap, sym, _∙_, subst}
+use mathlib.Core.Bool.{Bool, true, false}
+use mathlib.Core.List.{List, [], _∷_, _++_}
+use Prim.Native.Nat.{ℕ, zero, suc, _+_, _-_, _≤_, _<_}
+use native.Mathlib.Omega.{arith}
+use lib.Dec.{eqb}
+use lib.ListN.{length, getD}
+use borrow.Author.Tests.{eqb-true, eqb-false}
+use Rattle.model.specs.Script.{Expr, nil, document, var, step, both, letIn, forIn, ifIn, element, leaf, delete, insert, choose, stepBy}
+use Rattle.model.proofs.BoolLaws.{by-cases}
+use Rattle.script.specs.Walk.{arity, inner, endAt, firstAt, secondAt, thirdAt, exprAt}
+use Rattle.script.specs.Accepted.{Accepted, RecordFits, Nullary, Unary, Binary, Ternary}
+use Rattle.script.proofs.AcceptedLaws.{accepted-record, accepted-nil, accepted-document, accepted-variable, accepted-element, accepted-leaf}
+use Rattle.script.proofs.AcceptedLaws.{accepted-step, accepted-delete, accepted-pick, accepted-join, accepted-let, accepted-for}
+use Rattle.script.proofs.AcceptedLaws.{accepted-insert, accepted-if}
+use Rattle.paths.specs.Positions.{Entry, Emitted, emit, pushUnion}
+use Rattle.paths.specs.Emitting.{recordsOf, nullaryOf, unaryOf, binaryOf, within}
+
+-- a kind is one of thirteen
+below : {P : Type 0} (k m : ℕ) → k ≤ suc m → (k ≡ suc m → P) → (k ≤ m → P) → P
+below k m h f g = by-cases (eqb k (suc m)) (λ e. f (eqb-true k (suc m) e)) (λ e. g (omega (arith, eqb-false k (suc m) e)))
+
+by-kind : {P : Type 0} (k : ℕ) → 1 ≤ k → k ≤ 13 → (k ≡ 1 → P) → (k ≡ 2 → P) → (k ≡ 3 → P) → (k ≡ 4 → P) → (k ≡ 5 → P) → (k ≡ 6 → P) →
+    (k ≡ 7 → P) → (k ≡ 8 → P) → (k ≡ 9 → P) → (k ≡ 10 → P) → (k ≡ 11 → P) → (k ≡ 12 → P) → (k ≡ 13 → P) → P
+by-kind k l h f1 f2 f3 f4 f5 f6 f7 f8 f9 f10 f11 f12 f13 =
+    below k 12 h f13 (λ h. below k 11 h f12 (λ h. below k 10 h f11 (λ h. below k 9 h f10 (λ h. below k 8 h f9
+    (λ h. below k 7 h f8 (λ h. below k 6 h f7 (λ h. below k 5 h f6 (λ h. below k 4 h f5 (λ h. below k 3 h f4
+    (λ h. below k 2 h f3 (λ h. below k 1 h f2 (λ h. below k 0 h f1 (λ h. absurd (omega arith))))))))))))))
+
+-- not a kind of this arity
+other : {P : Type 0} (k m n q : ℕ) → arity k ≡ n → k ≡ m → arity m ≡ q → (n ≡ q → ⊥) → P
+other k m n q a e c h = absurd (h (sym a ∙ ap arity e ∙ c))
+
+module _ (b : List ℕ) (at left v : ℕ) (a : Accepted b at left v) where
+  abbrev whole : Expr
+  whole = exprAt left b at
+
+  abbrev one : Expr
+  one = exprAt (left - 1) b (firstAt b at)
+
+  abbrev two : Expr
+  two = exprAt (left - 1) b (secondAt b at)
+
+  abbrev three : Expr
+  three = exprAt (left - 1) b (thirdAt b at)
+
+  fits : RecordFits b at left v
+  fits = accepted-record b at left v a
+
+  -- NO OPERAND
+  pub record Zero : Type 0 where
+    pub emits : (ns : List ℕ) (es : List Entry) → emit (exprAt left b at) ns es ≡ nullaryOf b at ns es
+    pub ends : endAt b at ≡ firstAt b at
+    pub size : recordsOf (exprAt left b at) ≡ 1
+
+  zero-of : (e : Expr) → Nullary b at left e → ((ns : List ℕ) (es : List Entry) → emit e ns es ≡ nullaryOf b at ns es) → recordsOf e ≡ 1 → Zero
+  zero-of e n f s =
+      record {
+        emits = λ ns es. ap (λ (x : Expr). emit x ns es) (n .expr) ∙ f ns es;
+        ends = n .ends;
+        size = ap recordsOf (n .expr) ∙ s;
+      }
+
+  pub no-operand : arity (getD b at 0) ≡ 0 → Zero
+  unfolding arity emit recordsOf
+  no-operand z =
+      by-kind (getD b at 0) (fits .low) (fits .high)
+      (λ e. zero-of (nil at) (accepted-nil b at left v a e) (λ ns es. rw e) refl)
+      (λ e. zero-of (document at (getD b (at + 1) 0)) (accepted-document b at left v a e) (λ ns es. rw e) refl)
+      (λ e. zero-of (var at (getD b (at + 1) 0)) (accepted-variable b at left v a e) (λ ns es. rw e) refl)
+      (λ e. other (getD b at 0) 4 0 1 z e refl (λ q. omega arith))
+      (λ e. other (getD b at 0) 5 0 2 z e refl (λ q. omega arith))
+      (λ e. other (getD b at 0) 6 0 2 z e refl (λ q. omega arith))
+      (λ e. other (getD b at 0) 7 0 2 z e refl (λ q. omega arith))
+      (λ e. other (getD b at 0) 8 0 3 z e refl (λ q. omega arith))
+      (λ e. zero-of (element at (getD b (at + 1) 0)) (accepted-element b at left v a e) (λ ns es. rw e) refl)
+      (λ e. zero-of (leaf at (getD b (at + 1) 0)) (accepted-leaf b at left v a e) (λ ns es. rw e) refl)
+      (λ e. other (getD b at 0) 11 0 1 z e refl (λ q. omega arith))
+      (λ e. other (getD b at 0) 12 0 2 z e refl (λ q. omega arith))
+      (λ e. other (getD b at 0) 13 0 1 z e refl (λ q. omega arith))
+
+  -- ONE OPERAND
+  pub record One : Type 0 where
+    pub first : Accepted b (firstAt b at) (left - 1) v
+    pub emits : (ns : List ℕ) (es : List Entry) →
+        emit (exprAt left b at) ns es ≡ unaryOf b at (emit (exprAt (left - 1) b (firstAt b at)) ns es)
+    pub ends : endAt b at ≡ secondAt b at
+    pub size : recordsOf (exprAt left b at) ≡ 1 + recordsOf (exprAt (left - 1) b (firstAt b at))
+
+  one-of : (make : Expr → Expr) → Unary b at left v make →
+      ((x : Expr) (ns : List ℕ) (es : List Entry) → emit (make x) ns es ≡ unaryOf b at (emit x ns es)) →
+      ((x : Expr) → recordsOf (make x) ≡ 1 + recordsOf x) → One
+  one-of make u f s =
+      record {
+        first = u .first;
+        emits = λ ns es. ap (λ (x : Expr). emit x ns es) (u .expr) ∙ f one ns es;
+        ends = u .ends;
+        size = ap recordsOf (u .expr) ∙ s one;
+      }
+
+  pub one-operand : arity (getD b at 0) ≡ 1 → One
+  unfolding arity emit recordsOf
+  one-operand z =
+      by-kind (getD b at 0) (fits .low) (fits .high)
+      (λ e. other (getD b at 0) 1 1 0 z e refl (λ q. omega arith))
+      (λ e. other (getD b at 0) 2 1 0 z e refl (λ q. omega arith))
+      (λ e. other (getD b at 0) 3 1 0 z e refl (λ q. omega arith))
+      (λ e. one-of (step at (stepBy (getD b (at + 1) 0) (getD b (at + 2) 0) (getD b (at + 3) 0))) (accepted-step b at left v a e) (λ x ns es. rw e) (λ x. refl))
+      (λ e. other (getD b at 0) 5 1 2 z e refl (λ q. omega arith))
+      (λ e. other (getD b at 0) 6 1 2 z e refl (λ q. omega arith))
+      (λ e. other (getD b at 0) 7 1 2 z e refl (λ q. omega arith))
+      (λ e. other (getD b at 0) 8 1 3 z e refl (λ q. omega arith))
+      (λ e. other (getD b at 0) 9 1 0 z e refl (λ q. omega arith))
+      (λ e. other (getD b at 0) 10 1 0 z e refl (λ q. omega arith))
+      (λ e. one-of (delete at) (accepted-delete b at left v a e) (λ x ns es. rw e) (λ x. refl))
+      (λ e. other (getD b at 0) 12 1 2 z e refl (λ q. omega arith))
+      (λ e. one-of (choose at (getD b (at + 1) 0) (getD b (at + 2) 0)) (accepted-pick b at left v a e) (λ x ns es. rw e) (λ x. refl))
+
+  -- TWO OPERANDS
+  pub record Two : Type 0 where
+    pub first : Accepted b (firstAt b at) (left - 1) v
+    pub second : Accepted b (secondAt b at) (left - 1) (inner (getD b at 0) v)
+    pub emits : (ns : List ℕ) (es : List Entry) → emit (exprAt left b at) ns es ≡
+        binaryOf (getD b at 0) (emit (exprAt (left - 1) b (firstAt b at)) ns es .result)
+        (emit (exprAt (left - 1) b (secondAt b at)) (within (getD b at 0) ns (emit (exprAt (left - 1) b (firstAt b at)) ns es .result))
+        (emit (exprAt (left - 1) b (firstAt b at)) ns es .entries))
+    pub ends : endAt b at ≡ thirdAt b at
+    pub size : recordsOf (exprAt left b at) ≡ 1 + recordsOf (exprAt (left - 1) b (firstAt b at)) + recordsOf (exprAt (left - 1) b (secondAt b at))
+
+  two-of : (w : ℕ) (make : Expr → Expr → Expr) → Binary b at left v w make → w ≡ inner (getD b at 0) v →
+      ((x y : Expr) (ns : List ℕ) (es : List Entry) → emit (make x y) ns es ≡
+      binaryOf (getD b at 0) (emit x ns es .result) (emit y (within (getD b at 0) ns (emit x ns es .result)) (emit x ns es .entries))) →
+      ((x y : Expr) → recordsOf (make x y) ≡ 1 + recordsOf x + recordsOf y) → Two
+  two-of w make u scope f s =
+      record {
+        first = u .first;
+        second = subst (Accepted b (secondAt b at) (left - 1)) scope (u .second);
+        emits = λ ns es. ap (λ (x : Expr). emit x ns es) (u .expr) ∙ f one two ns es;
+        ends = u .ends;
+        size = ap recordsOf (u .expr) ∙ s one two;
+      }
+
+  pub two-operands : arity (getD b at 0) ≡ 2 → Two
+  unfolding arity inner emit recordsOf
+  two-operands z =
+      by-kind (getD b at 0) (fits .low) (fits .high)
+      (λ e. other (getD b at 0) 1 2 0 z e refl (λ q. omega arith))
+      (λ e. other (getD b at 0) 2 2 0 z e refl (λ q. omega arith))
+      (λ e. other (getD b at 0) 3 2 0 z e refl (λ q. omega arith))
+      (λ e. other (getD b at 0) 4 2 1 z e refl (λ q. omega arith))
+      (λ e. two-of v (both at) (accepted-join b at left v a e) (rw e) (λ x y ns es. rw e) (λ x y. refl))
+      (λ e. two-of (v + 1) (letIn at) (accepted-let b at left v a e) (rw e) (λ x y ns es. rw e) (λ x y. refl))
+      (λ e. two-of (v + 1) (forIn at) (accepted-for b at left v a e) (rw e) (λ x y ns es. rw e) (λ x y. refl))
+      (λ e. other (getD b at 0) 8 2 3 z e refl (λ q. omega arith))
+      (λ e. other (getD b at 0) 9 2 0 z e refl (λ q. omega arith))
+      (λ e. other (getD b at 0) 10 2 0 z e refl (λ q. omega arith))
+      (λ e. other (getD b at 0) 11 2 1 z e refl (λ q. omega arith))
+      (λ e. two-of v (insert at) (accepted-insert b at left v a e) (rw e) (λ x y ns es. rw e) (λ x y. refl))
+      (λ e. other (getD b at 0) 13 2 1 z e refl (λ q. omega arith))
+
+  -- THREE OPERANDS
+  pub record Three : Type 0 where
+    pub first : Accepted b (firstAt b at) (left - 1) v
+    pub second : Accepted b (secondAt b at) (left - 1) (inner (getD b at 0) v)
+    pub third : Accepted b (thirdAt b at) (left - 1) v
+    pub scope : inner (getD b at 0) v ≡ v
+    pub same : (ns : List ℕ) (r : ℕ) → within (getD b at 0) ns r ≡ ns
+    pub emits : (ns : List ℕ) (es : List Entry) → emit (exprAt left b at) ns es ≡
+        pushUnion (emit (exprAt (left - 1) b (secondAt b at)) ns (emit (exprAt (left - 1) b (firstAt b at)) ns es .entries) .result)
+        (emit (exprAt (left - 1) b (thirdAt b at)) ns
+        (emit (exprAt (left - 1) b (secondAt b at)) ns (emit (exprAt (left - 1) b (firstAt b at)) ns es .entries) .entries))
+    pub ends : endAt b at ≡ endAt b (thirdAt b at)
+    pub size : recordsOf (exprAt left b at) ≡
+        1 + recordsOf (exprAt (left - 1) b (firstAt b at)) + recordsOf (exprAt (left - 1) b (secondAt b at)) + recordsOf (exprAt (left - 1) b (thirdAt b at))
+
+  three-of : getD b at 0 ≡ 8 → Three
+  unfolding inner emit recordsOf
+  three-of e =
+      let u = accepted-if b at left v a e in
+      let w : v ≡ inner (getD b at 0) v = rw e in
+      record {
+        first = u .first;
+        second = subst (Accepted b (secondAt b at) (left - 1)) w (u .second);
+        third = u .third;
+        scope = sym w;
+        same = λ ns r. rw e;
+        emits = λ ns es. ap (λ (x : Expr). emit x ns es) (u .expr);
+        ends = u .ends;
+        size = ap recordsOf (u .expr);
+      }
+
+  pub three-operands : 2 < arity (getD b at 0) → Three
+  unfolding arity
+  three-operands z =
+      by-kind (getD b at 0) (fits .low) (fits .high)
+      (λ e. few 1 0 e refl (omega arith))
+      (λ e. few 2 0 e refl (omega arith))
+      (λ e. few 3 0 e refl (omega arith))
+      (λ e. few 4 1 e refl (omega arith))
+      (λ e. few 5 2 e refl (omega arith))
+      (λ e. few 6 2 e refl (omega arith))
+      (λ e. few 7 2 e refl (omega arith))
+      three-of
+      (λ e. few 9 0 e refl (omega arith))
+      (λ e. few 10 0 e refl (omega arith))
+      (λ e. few 11 1 e refl (omega arith))
+      (λ e. few 12 2 e refl (omega arith))
+      (λ e. few 13 1 e refl (omega arith))
+    where
+      few : {P : Type 0} (m q : ℕ) → getD b at 0 ≡ m → arity m ≡ q → q ≤ 2 → P
+      few m q e c h = absurd (omega (arith, ap arity e))

@@ -1,0 +1,95 @@
+use Rattle.paths.proofs.AnalysisLaws.{table-asks, answer-first, answer-second, answer-meet, answer-free}
+use borrow.Author.Needs.{needs}
+use Rattle.paths.proofs.answer.Statement.{statement}
+use Rattle.paths.proofs.answer.Tie as tie
+
+sub-climbs : tie.Need-sub-climbs
+sub-climbs c = search needs
+
+part-climbs-start : tie.Need-part-climbs-start
+part-climbs-start c = search needs
+
+part-climbs-end : tie.Need-part-climbs-end
+part-climbs-end c = search needs
+
+climbs-requires : tie.Need-climbs-requires
+climbs-requires c κs = search needs
+
+returns : tie.Need-returns
+returns c = answer-first (c .before .before .before .before .before .before .pre) (c .before .climbs .ensures) (c .if1 .taken)
+
+sub-climbs-2 : tie.Need-sub-climbs-2
+sub-climbs-2 c = search needs
+
+part-climbs-start-2 : tie.Need-part-climbs-start-2
+part-climbs-start-2 c = search needs
+
+part-climbs-end-2 : tie.Need-part-climbs-end-2
+part-climbs-end-2 c = search needs
+
+climbs-requires-2 : tie.Need-climbs-requires-2
+climbs-requires-2 c κs = search needs
+
+returns-2 : tie.Need-returns-2
+returns-2 c = answer-second (c .before .before .before .before .before .before .before .before .before .pre) (c .before .before .before .before .climbs .ensures) (c .before .before .before .if1 .left) (c .before .climbs2 .ensures) (c .if2 .taken)
+
+sub-positions-meet : tie.Need-sub-positions-meet
+sub-positions-meet c = search needs
+
+part-positions-meet-start : tie.Need-part-positions-meet-start
+part-positions-meet-start c = search needs
+
+part-positions-meet-end : tie.Need-part-positions-meet-end
+part-positions-meet-end c = search needs
+
+sub-positions-meet-2 : tie.Need-sub-positions-meet-2
+sub-positions-meet-2 c = search needs
+
+part-positions-meet-start-2 : tie.Need-part-positions-meet-start-2
+part-positions-meet-start-2 c = search needs
+
+part-positions-meet-end-2 : tie.Need-part-positions-meet-end-2
+part-positions-meet-end-2 c = search needs
+
+positions-meet-requires : tie.Need-positions-meet-requires
+positions-meet-requires c κs = table-asks (c .before .before .before .before .before .before .before .before .before .before .before .before .pre)
+
+same-length : tie.Need-same-length
+same-length c = search needs
+
+returns-3 : tie.Need-returns-3
+returns-3 c =
+    answer-meet (c .before .before .before .before .before .before .before .before .before .before .before .before .before .before .before .before .pre) (c .before .before .before .before .before .before .before .before .before .before .before .climbs .ensures) (c .before .before .before .before .before .before .before .before .before .before .if1 .left) (c .before .before .before .before .before .before .before .before .climbs2 .ensures) (c .before .before .before .before .before .before .before .if2 .left) (c .before .before .before .positions-meet .ensures) (c .if3 .taken)
+
+same-length-2 : tie.Need-same-length-2
+same-length-2 c = search needs
+
+returns-4 : tie.Need-returns-4
+returns-4 c =
+    answer-free (c .before .before .before .before .before .before .before .before .before .before .before .before .before .before .before .before .pre) (c .before .before .before .before .before .before .before .before .before .before .before .climbs .ensures) (c .before .before .before .before .before .before .before .before .before .before .if1 .left) (c .before .before .before .before .before .before .before .before .climbs2 .ensures) (c .before .before .before .before .before .before .before .if2 .left) (c .before .before .before .positions-meet .ensures) (c .if3 .left)
+
+pub answer-spec : {M : Type 1} → statement M
+answer-spec =
+    tie.close
+    (tie.spec
+    sub-climbs
+    part-climbs-start
+    part-climbs-end
+    climbs-requires
+    returns
+    sub-climbs-2
+    part-climbs-start-2
+    part-climbs-end-2
+    climbs-requires-2
+    returns-2
+    sub-positions-meet
+    part-positions-meet-start
+    part-positions-meet-end
+    sub-positions-meet-2
+    part-positions-meet-start-2
+    part-positions-meet-end-2
+    positions-meet-requires
+    same-length
+    returns-3
+    same-length-2
+    returns-4)

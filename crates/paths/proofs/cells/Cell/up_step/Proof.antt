@@ -1,0 +1,19 @@
+use borrow.Author.Needs.{needs}
+use Rattle.paths.proofs.cells.Cell.up_step.Statement.{statement}
+use Rattle.paths.proofs.cells.Cell.up_step.Tie as tie
+
+is-deep-requires : tie.Need-is-deep-requires
+is-deep-requires c κs = search needs
+
+admits-element-requires : tie.Need-admits-element-requires
+admits-element-requires c κs = search needs
+
+admits-leaf-requires : tie.Need-admits-leaf-requires
+admits-leaf-requires c κs = search needs
+
+returns : tie.Need-returns
+returns c = cc
+
+pub up-step-spec : {M : Type 1} → statement M
+up-step-spec =
+    tie.close (tie.spec is-deep-requires admits-element-requires admits-leaf-requires returns)

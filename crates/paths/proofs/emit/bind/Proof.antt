@@ -1,0 +1,26 @@
+use mathlib.Core.Path.{sym, _∙_}
+use native.Mathlib.Omega.{arith}
+use Rattle.paths.proofs.RecordLaws.{bind-one, bind-none}
+use borrow.Author.Needs.{needs}
+use Rattle.paths.proofs.emit.bind.Statement.{statement}
+use Rattle.paths.proofs.emit.bind.Tie as tie
+
+is-binder-requires : tie.Need-is-binder-requires
+is-binder-requires c κs = search needs
+
+mul-inside : tie.Need-mul-inside
+mul-inside c = omega (arith, c .before .before .pre .scope (sym (c .before .is-binder .ensures) ∙ c .if1 .taken))
+
+array-write-inside : tie.Need-array-write-inside
+array-write-inside c = omega (arith, c .before .before .pre .scope (sym (c .before .is-binder .ensures) ∙ c .if1 .taken))
+
+returns : tie.Need-returns
+returns c =
+    bind-one (c .before .before .args .kind) (c .before .before .args .env) (c .before .before .args .bound) (c .before .before .args .result) (c .before .before .pre) (sym (c .before .is-binder .ensures) ∙ c .if1 .taken)
+
+returns-2 : tie.Need-returns-2
+returns-2 c =
+    bind-none (c .before .before .args .kind) (c .before .before .args .env) (c .before .before .args .bound) (c .before .before .args .result) (c .before .before .pre) (sym (c .before .is-binder .ensures) ∙ c .if1 .left)
+
+pub bind-spec : {M : Type 1} → statement M
+bind-spec = tie.close (tie.spec is-binder-requires mul-inside array-write-inside returns returns-2)

@@ -1,0 +1,71 @@
+use native.Mathlib.Omega.{arith}
+use mathlib.Core.Path.{refl}
+use lib.ListN.{getD}
+use Rattle.paths.proofs.FillLaws.{first-low, second-low, pair-filled}
+use borrow.Author.Needs.{needs}
+use Rattle.paths.proofs.meet.pair.Statement.{statement}
+use Rattle.paths.proofs.meet.pair.Tie as tie
+
+mul-unpacked : tie.Need-mul-unpacked
+mul-unpacked c = search needs
+
+shared-slice-read-unpacked : tie.Need-shared-slice-read-unpacked
+shared-slice-read-unpacked c = search needs
+
+unpacked-requires : tie.Need-unpacked-requires
+unpacked-requires c κs = search needs
+
+mul-unpacked-2 : tie.Need-mul-unpacked-2
+mul-unpacked-2 c = search needs
+
+shared-slice-read-unpacked-2 : tie.Need-shared-slice-read-unpacked-2
+shared-slice-read-unpacked-2 c = search needs
+
+unpacked-requires-2 : tie.Need-unpacked-requires-2
+unpacked-requires-2 c κs = search needs
+
+cell-requires : tie.Need-cell-requires
+cell-requires c κs =
+    record {
+      size = c .before .before .before .before .before .before .before .before .pre .size;
+      row = omega (arith, c .before .before .before .before .before .before .before .before .pre .row, c .before .before .before .before .before .before .before .before .pre .first .few);
+      column = omega (arith, c .before .before .before .before .before .before .before .before .pre .column, c .before .before .before .before .before .before .before .before .pre .second .few);
+      firstLow = first-low (c .before .before .before .unpacked .result) (getD (c .before .before .before .before .before .before .before .before .args .first .now) (c .before .before .before .before .before .before .before .before .args .k) 0) (c .before .before .before .unpacked .ensures);
+      secondLow = second-low (c .before .before .before .unpacked .result) (getD (c .before .before .before .before .before .before .before .before .args .first .now) (c .before .before .before .before .before .before .before .before .args .k) 0) (c .before .before .before .unpacked .ensures);
+      otherFirst = first-low (c .before .unpacked2 .result) (getD (c .before .before .before .before .before .before .before .before .args .second .now) (c .before .before .before .before .before .before .before .before .args .l) 0) (c .before .unpacked2 .ensures);
+      otherSecond = second-low (c .before .unpacked2 .result) (getD (c .before .before .before .before .before .before .before .before .args .second .now) (c .before .before .before .before .before .before .before .before .args .l) 0) (c .before .unpacked2 .ensures);
+    }
+
+set-requires : tie.Need-set-requires
+set-requires c κs = search needs
+
+is-tested-requires : tie.Need-is-tested-requires
+is-tested-requires c κs = search needs
+
+is-met-requires : tie.Need-is-met-requires
+is-met-requires c κs = search needs
+
+same-length : tie.Need-same-length
+same-length c = search needs
+
+returns : tie.Need-returns
+returns c =
+    pair-filled (c .before .before .before .before .before .before .before .before .before .before .before .before .before .before .before .args .first .now) (c .before .before .before .before .before .before .before .before .before .before .before .before .before .before .before .args .second .now) (c .before .before .before .before .before .before .before .before .before .before .before .before .before .before .before .args .table .now) (c .before .before .before .before .before .before .before .before .before .before .before .before .before .before .before .args .k) (c .before .before .before .before .before .before .before .before .before .before .before .before .before .before .before .args .l) (c .before .before .before .before .before .before .before .before .before .before .before .before .before .before .before .pre) (c .before .before .before .before .before .before .before .before .before .before .unpacked .result) (c .before .before .before .before .before .before .before .before .unpacked2 .result) (c .before .before .before .before .before .before .before .before .before .before .unpacked .ensures) (c .before .before .before .before .before .before .before .before .unpacked2 .ensures)
+    (c .before .before .before .before .before .before .cell .result) (c .before .before .before .before .set .last .0) (c .before .before .before .before .set .ensures) (c .before .before .before .before .before .before .cell .ensures) (c .before .is-tested .result) (c .is-met .result) _ (c .before .is-tested .ensures) (c .is-met .ensures) refl
+
+pub pair-spec : {M : Type 1} → statement M
+pair-spec =
+    tie.close
+    (tie.spec
+    mul-unpacked
+    shared-slice-read-unpacked
+    unpacked-requires
+    mul-unpacked-2
+    shared-slice-read-unpacked-2
+    unpacked-requires-2
+    cell-requires
+    set-requires
+    is-tested-requires
+    is-met-requires
+    same-length
+    returns)

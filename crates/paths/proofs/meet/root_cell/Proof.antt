@@ -1,0 +1,65 @@
+use Rattle.paths.specs.Codes.{stepOf, cellOf}
+use Rattle.paths.specs.Pairs.{cellIn}
+use Rattle.paths.proofs.FillLaws.{root-nowhere, root-root, root-over, root-union}
+use borrow.Author.Needs.{needs}
+use Rattle.paths.proofs.meet.root_cell.Statement.{statement}
+use Rattle.paths.proofs.meet.root_cell.Tie as tie
+
+none-requires : tie.Need-none-requires
+none-requires c κs = search needs
+
+returns : tie.Need-returns
+returns c =
+    root-nowhere (cellIn (c .before .before .before .before .args .table .now)) (c .before .before .before .before .args .k) (c .before .before .before .before .args .l) (c .before .before .before .before .args .q) (cellOf (c .none .result)) (c .before .before .before .before .args .p .name) (c .before .if1 .taken) (c .none .ensures)
+
+roots-requires : tie.Need-roots-requires
+roots-requires c κs = search needs
+
+returns-2 : tie.Need-returns-2
+returns-2 c =
+    root-root (cellIn (c .before .before .before .before .before .before .args .table .now)) (c .before .before .before .before .before .before .args .k) (c .before .before .before .before .before .before .args .l) (c .before .before .before .before .before .before .args .q) (cellOf (c .roots .result)) (c .before .before .before .before .before .before .args .p .name) (c .before .if2 .taken) (c .roots .ensures)
+
+get-requires : tie.Need-get-requires
+get-requires c κs = search needs
+
+step-of-requires : tie.Need-step-of-requires
+step-of-requires c κs = search needs
+
+up-step-requires : tie.Need-up-step-requires
+up-step-requires c κs = search needs
+
+returns-3 : tie.Need-returns-3
+returns-3 c =
+    root-over (cellIn (c .before .before .before .before .before .before .before .before .before .before .args .table .now)) (c .before .before .before .before .before .before .before .before .before .before .args .k) (c .before .before .before .before .before .before .before .before .before .before .args .l) (c .before .before .before .before .before .before .before .before .before .before .args .q) (cellOf (c .up-step .result)) (c .before .before .before .before .before .before .before .before .before .before .args .p .name) (c .before .before .before .if3 .taken) (cellOf (c .before .before .get .result)) (stepOf (c .before .step-of .result))
+    (c .up-step .ensures) (c .before .step-of .ensures) (c .before .before .get .ensures)
+
+get-requires-2 : tie.Need-get-requires-2
+get-requires-2 c κs = search needs
+
+get-requires-3 : tie.Need-get-requires-3
+get-requires-3 c κs = search needs
+
+join-requires : tie.Need-join-requires
+join-requires c κs = search needs
+
+returns-4 : tie.Need-returns-4
+returns-4 c =
+    root-union (cellIn (c .before .before .before .before .before .before .before .before .before .before .args .table .now)) (c .before .before .before .before .before .before .before .before .before .before .args .k) (c .before .before .before .before .before .before .before .before .before .before .args .l) (c .before .before .before .before .before .before .before .before .before .before .args .q) (cellOf (c .join .result)) (c .before .before .before .before .before .before .before .before .before .before .args .p .name) (c .before .before .before .before .before .before .before .if1 .left) (c .before .before .before .before .before .if2 .left) (c .before .before .before .if3 .left)
+    (cellOf (c .before .before .get2 .result)) (cellOf (c .before .get3 .result)) (c .join .ensures) (c .before .before .get2 .ensures) (c .before .get3 .ensures)
+
+pub root-cell-spec : {M : Type 1} → statement M
+root-cell-spec =
+    tie.close
+    (tie.spec
+    none-requires
+    returns
+    roots-requires
+    returns-2
+    get-requires
+    step-of-requires
+    up-step-requires
+    returns-3
+    get-requires-2
+    get-requires-3
+    join-requires
+    returns-4)

@@ -1,0 +1,40 @@
+-- The table of pairs: a byte for each pair of positions holds their cell. Assumes nothing: these are definitions.
+use mathlib.Core.Path.{_≡_}
+use mathlib.Core.List.{List}
+use Prim.Native.Nat.{ℕ, _+_, _*_, _/_, _%_, _<_}
+use lib.Dec.{eqb}
+use lib.ListN.{length, getD}
+use Rattle.model.specs.Meeting as meeting
+use Rattle.paths.specs.Cells.{Cells}
+use Rattle.paths.specs.Codes.{cellOf}
+use Rattle.paths.specs.declared.cells.Cell.{Cell}
+
+-- positions of a script, at most
+abbrev pub maxPositions : ℕ
+maxPositions = 128
+
+-- a bit for each test of a cell
+abbrev pub cellBits : (byte : ℕ) → meeting.Cell
+cellBits b =
+    record {
+      onElement = eqb (b % 2) 1;
+      onLeaf = eqb (b / 2 % 2) 1;
+      downElement = eqb (b / 4 % 2) 1;
+      downLeaf = eqb (b / 8 % 2) 1;
+      upElement = eqb (b / 16 % 2) 1;
+      upLeaf = eqb (b / 32 % 2) 1;
+    }
+
+abbrev pub cellIn : (table : List ℕ) → Cells
+cellIn t k l = cellBits (getD t (maxPositions * k + l) 0)
+
+-- READING AND WRITING the cell of a pair: every other cell stays
+pub record PairPre (t : List ℕ) (k l : ℕ) : Type 0 where
+  pub size : length t ≡ maxPositions * maxPositions
+  pub first : k < maxPositions
+  pub second : l < maxPositions
+
+pub record SetPost (t : List ℕ) (k l : ℕ) (c : Cell) (t′ : List ℕ) : Type 0 where
+  pub size : length t′ ≡ length t
+  pub here : cellIn t′ k l ≡ cellOf c
+  pub others : (i j : ℕ) → j < maxPositions → (i ≡ k → j ≡ l → ⊥) → cellIn t′ i j ≡ cellIn t i j

@@ -1,0 +1,69 @@
+// The path analysis: whether two scripts can touch the same node of some plan.
+ghost use mathlib.Core.Path.{_≡_};
+ghost use Rattle.paths.specs.Analysis.{analysed, ScriptPre, ScriptPost, AnswerPre, AnswerPost};
+use table::Fault;
+use table::Table;
+
+mod cells;
+mod emit;
+mod meet;
+mod pairs;
+mod positions;
+
+// What the analysis answers: the script refused, 1 or 2, with its refusal; or whether the two are free of one another.
+pub enum Analysis {
+    Refused { script: u8, fault: Fault },
+    Free,
+    Upward,
+    Meet,
+}
+
+// Puts the positions of an accepted script into words of which the first is zero; how many there are.
+fn positions_of(bytes: &[u8], words: &mut [usize]) -> usize
+    requires { ⌜ ScriptPre (now bytes) (now words) ⌝ }
+    ensures { λ r. ⌜ ScriptPost (now (bytes .entry)) (now (words .exit)) r ⌝ }
+{
+    let variables = [0usize; Table::BINDERS];
+    let end = emit::emit(bytes, 0, Table::DEPTH, 0, variables, words, 1);
+    end.count
+}
+
+// The answer from the positions of two scripts. An upward step anywhere, even in a branch never run, comes first.
+fn answer(first: &[usize], n: usize, second: &[usize], m: usize, table: &mut [u8]) -> Analysis
+    requires { ⌜ AnswerPre (now first) n (now second) m (now table) ⌝ }
+    ensures { λ r. ⌜ AnswerPost (now (first .entry)) n (now (second .entry)) m r ⌝ }
+{
+    if positions::climbs(&first[0..n]) {
+        return Analysis::Upward;
+    }
+    if positions::climbs(&second[0..m]) {
+        return Analysis::Upward;
+    }
+    if meet::positions_meet(&first[0..n], &second[0..m], table) {
+        return Analysis::Meet;
+    }
+    Analysis::Free
+}
+
+// The analysis of two scripts: the first refused, else whether they are free, hold an upward step, or meet.
+pub fn analyse(first: &[u8], second: &[u8]) -> Analysis
+    ensures { λ r. ⌜ r ≡ analysed (now (first .entry)) (now (second .entry)) ⌝ }
+{
+    let fault = script::read_script(first);
+    if fault.number != 0 {
+        return Analysis::Refused { script: 1, fault };
+    }
+    let other = script::read_script(second);
+    if other.number != 0 {
+        return Analysis::Refused {
+            script: 2,
+            fault: other,
+        };
+    }
+    let mut words = [0usize; pairs::POSITIONS];
+    let n = positions_of(first, &mut words);
+    let mut others = [0usize; pairs::POSITIONS];
+    let m = positions_of(second, &mut others);
+    let mut table = [0u8; pairs::PAIRS];
+    answer(&words, n, &others, m, &mut table)
+}
