@@ -6,6 +6,9 @@ use lib.Dec.{ltb, eqb}
 use lib.ListN.{length}
 use Rattle.model.specs.Base.{pick}
 use Rattle.table.specs.Calls as library
+use Rattle.paths.specs.Analysis.{analysed}
+use Rattle.paths.specs.declared.Analysis.{Analysis}
+use Rattle.paths.specs.declared.Analysis.the-variants.{Refused, Free, Upward, Meet}
 use Rattle.run.specs.Undoing.{planUndone}
 use Rattle.script.specs.Reading.{scriptRead}
 use Rattle.table.specs.declared.Table.{Table}
@@ -103,3 +106,13 @@ sweptMarks n ws ms = pick (isGiven ws ms && eqb (sweptTable n ws ms .fault .numb
 -- A SCRIPT read
 abbrev pub scriptCode : (script : List ℕ) → ℕ
 scriptCode b = pick (eqb (scriptRead b .number) 0) (codeOf 0 0 0) (codeOf (scriptRead b .number) 2 (scriptRead b .place))
+
+-- TWO SCRIPTS ANALYSED: the first refused, or 0 free, 1 upward, 2 meet as `which`
+abbrev pub analysisCode : Analysis → ℕ
+analysisCode (Refused s f) = codeOf (f .number) s (f .place)
+analysisCode Free = codeOf 0 0 0
+analysisCode Upward = codeOf 0 1 0
+analysisCode Meet = codeOf 0 2 0
+
+abbrev pub analyseCode : (first second : List ℕ) → ℕ
+analyseCode b c = analysisCode (analysed b c)

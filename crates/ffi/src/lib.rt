@@ -1,10 +1,11 @@
 // The C interface: every slice is a pointer and a length, nothing is kept. Each call answers number + 256 × which + 65,536 × place,
 // number 0 where nothing is refused; which says whose refusal it is: 0 a lent area's, 1 the plan's, 2 the script's or the history's.
 ghost use mathlib.Core.Path.{_≡_};
-ghost use Rattle.ffi.specs.Calls.{codeOf, planCode, planOut, sweepCode, sweepOut, writeCode, writeOut, sweptCode, sweptRows, sweptMarks, scriptCode, undoCode, undoOut};
+ghost use Rattle.ffi.specs.Calls.{codeOf, planCode, planOut, sweepCode, sweepOut, writeCode, writeOut, sweptCode, sweptRows, sweptMarks, scriptCode, undoCode, undoOut, analyseCode};
 
 mod copy;
 
+use paths::Analysis;
 use table::Fault;
 use table::Table;
 
@@ -165,4 +166,18 @@ pub extern "C" fn yegnabit_script(bytes: &[u8]) -> u64
         return code(0, AREA, 0);
     }
     code(number, SCRIPT, place)
+}
+
+// Analyses two scripts: a refusal is the first's, which 1, or the second's, which 2; else which is the answer: 0 free, 1 upward, 2 meet.
+#[no_mangle]
+pub extern "C" fn yegnabit_analyse(first: &[u8], second: &[u8]) -> u64
+    ensures { λ r. ⌜ r ≡ analyseCode (now (first .entry)) (now (second .entry)) ⌝ }
+{
+    let analysis = paths::analyse(first, second);
+    match analysis {
+        Analysis::Refused { script, fault } => code(fault.number, script, fault.place),
+        Analysis::Free => code(0, 0, 0),
+        Analysis::Upward => code(0, 1, 0),
+        Analysis::Meet => code(0, 2, 0),
+    }
 }

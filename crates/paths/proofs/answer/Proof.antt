@@ -31,7 +31,8 @@ climbs-requires-2 : tie.Need-climbs-requires-2
 climbs-requires-2 c κs = search needs
 
 returns-2 : tie.Need-returns-2
-returns-2 c = answer-second (c .before .before .before .before .before .before .before .before .before .pre) (c .before .before .before .before .climbs .ensures) (c .before .before .before .if1 .left) (c .before .climbs2 .ensures) (c .if2 .taken)
+returns-2 c = answer-second (c .before .before .before .before .before .before .before .before .before .pre) (c .before .before .before
+    .before .climbs .ensures) (c .before .before .before .if1 .left) (c .before .climbs2 .ensures) (c .if2 .taken)
 
 sub-positions-meet : tie.Need-sub-positions-meet
 sub-positions-meet c = search needs
@@ -52,21 +53,30 @@ part-positions-meet-end-2 : tie.Need-part-positions-meet-end-2
 part-positions-meet-end-2 c = search needs
 
 positions-meet-requires : tie.Need-positions-meet-requires
-positions-meet-requires c κs = table-asks (c .before .before .before .before .before .before .before .before .before .before .before .before .pre)
+positions-meet-requires c κs = table-asks (c .before .before .before .before .before .before .before .before .before .before .before
+    .before .pre)
 
 same-length : tie.Need-same-length
 same-length c = search needs
 
 returns-3 : tie.Need-returns-3
 returns-3 c =
-    answer-meet (c .before .before .before .before .before .before .before .before .before .before .before .before .before .before .before .before .pre) (c .before .before .before .before .before .before .before .before .before .before .before .climbs .ensures) (c .before .before .before .before .before .before .before .before .before .before .if1 .left) (c .before .before .before .before .before .before .before .before .climbs2 .ensures) (c .before .before .before .before .before .before .before .if2 .left) (c .before .before .before .positions-meet .ensures) (c .if3 .taken)
+    answer-meet (c .before .before .before .before .before .before .before .before .before .before .before .before .before .before
+    .before .before .pre) (c .before .before .before .before .before .before .before .before .before .before .before .climbs
+    .ensures) (c .before .before .before .before .before .before .before .before .before .before .if1 .left) (c .before .before
+    .before .before .before .before .before .before .climbs2 .ensures) (c .before .before .before .before .before .before .before
+    .if2 .left) (c .before .before .before .positions-meet .ensures) (c .if3 .taken)
 
 same-length-2 : tie.Need-same-length-2
 same-length-2 c = search needs
 
 returns-4 : tie.Need-returns-4
 returns-4 c =
-    answer-free (c .before .before .before .before .before .before .before .before .before .before .before .before .before .before .before .before .pre) (c .before .before .before .before .before .before .before .before .before .before .before .climbs .ensures) (c .before .before .before .before .before .before .before .before .before .before .if1 .left) (c .before .before .before .before .before .before .before .before .climbs2 .ensures) (c .before .before .before .before .before .before .before .if2 .left) (c .before .before .before .positions-meet .ensures) (c .if3 .left)
+    answer-free (c .before .before .before .before .before .before .before .before .before .before .before .before .before .before
+    .before .before .pre) (c .before .before .before .before .before .before .before .before .before .before .before .climbs
+    .ensures) (c .before .before .before .before .before .before .before .before .before .before .if1 .left) (c .before .before
+    .before .before .before .before .before .before .climbs2 .ensures) (c .before .before .before .before .before .before .before
+    .if2 .left) (c .before .before .before .positions-meet .ensures) (c .if3 .left)
 
 pub answer-spec : {M : Type 1} → statement M
 answer-spec =

@@ -47,19 +47,24 @@ slice-aggregate-undo-all-2 c = search needs
 undo-all-requires : tie.Need-undo-all-requires
 undo-all-requires c κs =
     undo-pre
-    (c .before .before .before .before .before .before .before .before .before .before .before .before .before .before .before .before .before .before .before .args .t1)
-    (c .before .before .before .before .before .before .before .before .before .before .before .before .before .before .before .before .before .before .before .args .history .now)
+    (c .before .before .before .before .before .before .before .before .before .before .before .before .before .before .before .before
+    .before .before .before .args .t1)
+    (c .before .before .before .before .before .before .before .before .before .before .before .before .before .before .before .before
+    .before .before .before .args .history .now)
     (fitting (c .before .before .before .before .before .before .before .before .before .before .before))
     (c .before .before .before .before .before .before .before .before .before .form .ensures) (is-formed
     (c .before .before .before .before .before .before)) (size
-    (c .before .before .before .before .before .before .before .before .before .before .before .before .before .before .before .before .before .before .before) .rows)
+    (c .before .before .before .before .before .before .before .before .before .before .before .before .before .before .before .before
+    .before .before .before) .rows)
     (c .before .before .before .before .before .before .before .before .before .form .kept .1 .0)
 
 returns-3 : tie.Need-returns-3
 returns-3 c =
     undo-refused
-    (c .before .before .before .before .before .before .before .before .before .before .before .before .before .before .before .before .before .before .before .before .before .before .before .args .t1)
-    (c .before .before .before .before .before .before .before .before .before .before .before .before .before .before .before .before .before .before .before .before .before .before .before .args .history .now)
+    (c .before .before .before .before .before .before .before .before .before .before .before .before .before .before .before .before
+    .before .before .before .before .before .before .before .args .t1)
+    (c .before .before .before .before .before .before .before .before .before .before .before .before .before .before .before .before
+    .before .before .before .before .before .before .before .args .history .now)
     (fitting (c .before .before .before .before .before .before .before .before .before .before .before .before .before .before .before))
     (c .before .before .before .before .before .before .before .before .before .before .before .before .before .form .ensures) (is-formed
     (c .before .before .before .before .before .before .before .before .before .before)) (c .before .before .before .undo-all .ensures)
@@ -68,15 +73,18 @@ returns-3 c =
 returns-4 : tie.Need-returns-4
 returns-4 c =
     undo-done
-    (c .before .before .before .before .before .before .before .before .before .before .before .before .before .before .before .before .before .before .before .before .before .before .before .before .args .t1)
-    (c .before .before .before .before .before .before .before .before .before .before .before .before .before .before .before .before .before .before .before .before .before .before .before .before .args .history .now)
+    (c .before .before .before .before .before .before .before .before .before .before .before .before .before .before .before .before
+    .before .before .before .before .before .before .before .before .args .t1)
+    (c .before .before .before .before .before .before .before .before .before .before .before .before .before .before .before .before
+    .before .before .before .before .before .before .before .before .args .history .now)
     (fitting
     (c .before .before .before .before .before .before .before .before .before .before .before .before .before .before .before .before))
     (c .before .before .before .before .before .before .before .before .before .before .before .before .before .before .form .ensures)
     (is-formed (c .before .before .before .before .before .before .before .before .before .before .before))
     (c .before .before .before .before .undo-all .ensures) (search (c .before .if3 .left, needs))
     (c .before .before .before .before .undo-all .kept .0 ∙ size
-    (c .before .before .before .before .before .before .before .before .before .before .before .before .before .before .before .before .before .before .before .before .before .before .before .before) .rows)
+    (c .before .before .before .before .before .before .before .before .before .before .before .before .before .before .before .before
+    .before .before .before .before .before .before .before .before) .rows)
 
 pub undo-spec : {M : Type 1} → statement M
 undo-spec =

@@ -56,7 +56,11 @@ emit-claims t = (
 
 emit-shared-slice-read-kind : (t : ℕ) → emit-lts.Need-shared-slice-read-kind (emit-claims t) (emit-at t) emit.Post
 emit-shared-slice-read-kind t c =
-    omega (arith, accepted-record (c .before .before .before .args .bytes .now) (c .before .before .before .args .at) (c .before .before .before .args .left) (c .before .before .before .args .bound) (c .before .before .before .pre .1 .accepted) .whole)
+    omega (
+      arith,
+      accepted-record (c .before .before .before .args .bytes .now) (c .before .before .before .args .at) (c .before .before
+          .before .args .left) (c .before .before .before .args .bound) (c .before .before .before .pre .1 .accepted) .whole,
+    )
 
 emit-arity-requires : (t : ℕ) → emit-lts.Need-arity-requires (emit-claims t) (emit-at t) emit.Post
 emit-arity-requires t c κs = search needs
@@ -70,53 +74,114 @@ emit-add-first-at t c =
 
 emit-add-first-at-2 : (t : ℕ) → emit-lts.Need-add-first-at-2 (emit-claims t) (emit-at t) emit.Post
 emit-add-first-at-2 t c =
-    omega (arith, accepted-record (c .before .before .before .before .before .args .bytes .now) (c .before .before .before .before .before .args .at) (c .before .before .before .before .before .args .left) (c .before .before .before .before .before .args .bound) (c .before .before .before .before .before .pre .1 .accepted) .whole, c .body-size .ensures .0)
+    omega (
+      arith,
+      accepted-record (c .before .before .before .before .before .args .bytes .now) (c .before .before .before .before
+          .before .args .at) (c .before .before .before .before .before .args .left) (c .before .before .before .before .before .args
+          .bound) (c .before .before .before .before .before .pre .1 .accepted) .whole,
+      c .body-size .ensures .0,
+    )
 
 emit-nullary-requires : (t : ℕ) → emit-lts.Need-nullary-requires (emit-claims t) (emit-at t) emit.Post
 emit-nullary-requires t c κs =
-    nullary-asks (c .before .before .before .before .before .before .before .pre .1) (sym (c .before .before .before .arity .ensures .0) ∙ c .before .if1 .taken)
+    nullary-asks (c .before .before .before .before .before .before .before .pre .1) (sym (c .before .before .before .arity .ensures .0)
+    ∙ c .before .if1 .taken)
 
 emit-same-length : (t : ℕ) → emit-lts.Need-same-length (emit-claims t) (emit-at t) emit.Post
 emit-same-length t c = search needs
 
 emit-returns : (t : ℕ) → emit-lts.Need-returns (emit-claims t) (emit-at t) emit.Post
 emit-returns t c =
-    nullary-emits (c .before .before .before .before .before .before .before .before .before .before .pre .1) (sym (c .before .before .before .before .before .before .arity .ensures .0) ∙ c .before .before .before .before .if1 .taken) (ap (λ (s : ℕ). c .before .before .before .before .before .before .before .before .before .before .args .at + (1 + s)) (c .before .before .before .before .before .body-size .ensures .0)) (c .before .before .nullary .ensures)
+    nullary-emits (c .before .before .before .before .before .before .before .before .before .before .pre .1) (sym (c .before .before
+    .before .before .before .before .arity .ensures .0) ∙ c .before .before .before .before .if1 .taken) (ap (λ (s : ℕ). c .before
+    .before .before .before .before .before .before .before .before .before .args .at + (1 + s)) (c .before .before .before .before
+    .before .body-size .ensures .0)) (c .before .before .nullary .ensures)
 
 emit-sub-emit : (t : ℕ) → emit-lts.Need-sub-emit (emit-claims t) (emit-at t) emit.Post
 emit-sub-emit t c =
-    accepted-record (c .before .before .before .before .before .before .args .bytes .now) (c .before .before .before .before .before .before .args .at) (c .before .before .before .before .before .before .args .left) (c .before .before .before .before .before .before .args .bound) (c .before .before .before .before .before .before .pre .1 .accepted) .depth
+    accepted-record (c .before .before .before .before .before .before .args .bytes .now) (c .before .before .before .before .before
+    .before .args .at) (c .before .before .before .before .before .before .args .left) (c .before .before .before .before .before
+    .before .args .bound) (c .before .before .before .before .before .before .pre .1 .accepted) .depth
 
 emit-emit-requires : (t : ℕ) → emit-lts.Need-emit-requires (emit-claims t) (emit-at t) emit.Post
 emit-emit-requires t c κs =
-    let m : 0 < arity (getD (c .before .before .before .before .before .before .before .args .bytes .now) (c .before .before .before .before .before .before .before .args .at) 0) = omega (arith, c .before .before .before .arity .ensures .0, c .before .if1 .left) in
-    let e = (ap (λ (s : ℕ). c .before .before .before .before .before .before .before .args .at + (1 + s)) (c .before .before .body-size .ensures .0)) in
-    (omega (arith, c .before .before .before .before .before .before .before .pre .0, accepted-record (c .before .before .before .before .before .before .before .args .bytes .now) (c .before .before .before .before .before .before .before .args .at) (c .before .before .before .before .before .before .before .args .left) (c .before .before .before .before .before .before .before .args .bound) (c .before .before .before .before .before .before .before .pre .1 .accepted) .depth), first-asks (c .before .before .before .before .before .before .before .pre .1) m e)
+    let m : 0 < arity (getD (c .before .before .before .before .before .before .before .args .bytes .now) (c .before .before .before
+    .before .before .before .before .args .at) 0) = omega (arith, c .before .before .before .arity .ensures .0, c .before .if1 .left)
+    in
+    let e = (ap (λ (s : ℕ). c .before .before .before .before .before .before .before .args .at + (1 + s)) (c .before .before .body-size
+    .ensures .0)) in (
+      omega (
+        arith,
+        c .before .before .before .before .before .before .before .pre .0,
+        accepted-record (c .before .before .before .before
+            .before .before .before .args .bytes .now) (c .before .before .before .before .before .before .before .args .at) (c .before
+            .before .before .before .before .before .before .args .left) (c .before .before .before .before .before .before .before .args
+            .bound) (c .before .before .before .before .before .before .before .pre .1 .accepted) .depth,
+      ),
+      first-asks (c .before .before
+          .before .before .before .before .before .pre .1) m e,
+    )
 
 emit-unary-requires : (t : ℕ) → emit-lts.Need-unary-requires (emit-claims t) (emit-at t) emit.Post
 emit-unary-requires t c κs =
-    let m : 0 < arity (getD (c .before .before .before .before .before .before .before .before .before .before .before .before .args .bytes .now) (c .before .before .before .before .before .before .before .before .before .before .before .before .args .at) 0) = omega (arith, c .before .before .before .before .before .before .before .before .arity .ensures .0, c .before .before .before .before .before .before .if1 .left) in
-    let e = (ap (λ (s : ℕ). c .before .before .before .before .before .before .before .before .before .before .before .before .args .at + (1 + s)) (c .before .before .before .before .before .before .before .body-size .ensures .0)) in
-    unary-asks (c .before .before .before .before .before .before .before .before .before .before .before .before .pre .1) m e (c .before .before .before .before .emit .ensures) (sym (c .before .before .before .before .before .before .before .before .arity .ensures .0) ∙ c .before .if2 .taken)
+    let m : 0 < arity (getD (c .before .before .before .before .before .before .before .before .before .before .before .before .args
+    .bytes .now) (c .before .before .before .before .before .before .before .before .before .before .before .before .args .at) 0) =
+    omega (
+      arith,
+      c .before .before .before .before .before .before .before .before .arity .ensures .0,
+      c .before .before .before
+          .before .before .before .if1 .left,
+    ) in
+    let e = (ap (λ (s : ℕ). c .before .before .before .before .before .before .before .before .before .before .before .before .args .at +
+    (1 + s)) (c .before .before .before .before .before .before .before .body-size .ensures .0)) in
+    unary-asks (c .before .before .before .before .before .before .before .before .before .before .before .before .pre .1) m e (c .before
+    .before .before .before .emit .ensures) (sym (c .before .before .before .before .before .before .before .before .arity .ensures
+    .0) ∙ c .before .if2 .taken)
 
 emit-same-length-2 : (t : ℕ) → emit-lts.Need-same-length-2 (emit-claims t) (emit-at t) emit.Post
 emit-same-length-2 t c = search needs
 
 emit-returns-2 : (t : ℕ) → emit-lts.Need-returns-2 (emit-claims t) (emit-at t) emit.Post
 emit-returns-2 t c =
-    let m : 0 < arity (getD (c .before .before .before .before .before .before .before .before .before .before .before .before .before .before .before .args .bytes .now) (c .before .before .before .before .before .before .before .before .before .before .before .before .before .before .before .args .at) 0) = omega (arith, c .before .before .before .before .before .before .before .before .before .before .before .arity .ensures .0, c .before .before .before .before .before .before .before .before .before .if1 .left) in
-    let e = (ap (λ (s : ℕ). c .before .before .before .before .before .before .before .before .before .before .before .before .before .before .before .args .at + (1 + s)) (c .before .before .before .before .before .before .before .before .before .before .body-size .ensures .0)) in
-    unary-emits (c .before .before .before .before .before .before .before .before .before .before .before .before .before .before .before .pre .1) m e (c .before .before .before .before .before .before .before .emit .ensures) (sym (c .before .before .before .before .before .before .before .before .before .before .before .arity .ensures .0) ∙ c .before .before .before .before .if2 .taken) (c .before .before .unary .ensures)
+    let m : 0 < arity (getD (c .before .before .before .before .before .before .before .before .before .before .before .before .before
+    .before .before .args .bytes .now) (c .before .before .before .before .before .before .before .before .before .before .before
+    .before .before .before .before .args .at) 0) = omega (
+      arith,
+      c .before .before .before .before .before .before .before .before
+          .before .before .before .arity .ensures .0,
+      c .before .before .before .before .before .before .before .before .before .if1 .left,
+    )
+    in
+    let e = (ap (λ (s : ℕ). c .before .before .before .before .before .before .before .before .before .before .before .before .before
+    .before .before .args .at + (1 + s)) (c .before .before .before .before .before .before .before .before .before .before
+    .body-size .ensures .0)) in
+    unary-emits (c .before .before .before .before .before .before .before .before .before .before .before .before .before .before
+    .before .pre .1) m e (c .before .before .before .before .before .before .before .emit .ensures) (sym (c .before .before .before
+    .before .before .before .before .before .before .before .before .arity .ensures .0) ∙ c .before .before .before .before .if2
+    .taken) (c .before .before .unary .ensures)
 
 emit-bind-requires : (t : ℕ) → emit-lts.Need-bind-requires (emit-claims t) (emit-at t) emit.Post
 emit-bind-requires t c κs =
-    let m : 0 < arity (getD (c .before .before .before .before .before .before .before .before .before .before .before .args .bytes .now) (c .before .before .before .before .before .before .before .before .before .before .before .args .at) 0) = omega (arith, c .before .before .before .before .before .before .before .arity .ensures .0, c .before .before .before .before .before .if1 .left) in
-    let e = (ap (λ (s : ℕ). c .before .before .before .before .before .before .before .before .before .before .before .args .at + (1 + s)) (c .before .before .before .before .before .before .body-size .ensures .0)) in
-    bind-asks (c .before .before .before .before .before .before .before .before .before .before .before .pre .1) m e (c .before .before .before .emit .ensures)
+    let m : 0 < arity (getD (c .before .before .before .before .before .before .before .before .before .before .before .args .bytes .now)
+    (c .before .before .before .before .before .before .before .before .before .before .before .args .at) 0) = omega (
+      arith,
+      c
+          .before .before .before .before .before .before .before .arity .ensures .0,
+      c .before .before .before .before .before .if1 .left,
+    )
+    in
+    let e = (ap (λ (s : ℕ). c .before .before .before .before .before .before .before .before .before .before .before .args .at + (1 +
+    s)) (c .before .before .before .before .before .before .body-size .ensures .0)) in
+    bind-asks (c .before .before .before .before .before .before .before .before .before .before .before .pre .1) m e (c .before .before
+    .before .emit .ensures)
 
 emit-sub-emit-2 : (t : ℕ) → emit-lts.Need-sub-emit-2 (emit-claims t) (emit-at t) emit.Post
 emit-sub-emit-2 t c =
-    accepted-record (c .before .before .before .before .before .before .before .before .before .before .before .before .args .bytes .now) (c .before .before .before .before .before .before .before .before .before .before .before .before .args .at) (c .before .before .before .before .before .before .before .before .before .before .before .before .args .left) (c .before .before .before .before .before .before .before .before .before .before .before .before .args .bound) (c .before .before .before .before .before .before .before .before .before .before .before .before .pre .1 .accepted) .depth
+    accepted-record (c .before .before .before .before .before .before .before .before .before .before .before .before .args .bytes .now)
+    (c .before .before .before .before .before .before .before .before .before .before .before .before .args .at) (c .before .before
+    .before .before .before .before .before .before .before .before .before .before .args .left) (c .before .before .before .before
+    .before .before .before .before .before .before .before .before .args .bound) (c .before .before .before .before .before .before
+    .before .before .before .before .before .before .pre .1 .accepted) .depth
 
 emit-inner-requires : (t : ℕ) → emit-lts.Need-inner-requires (emit-claims t) (emit-at t) emit.Post
 emit-inner-requires t c κs =
@@ -124,58 +189,288 @@ emit-inner-requires t c κs =
 
 emit-emit-requires-2 : (t : ℕ) → emit-lts.Need-emit-requires-2 (emit-claims t) (emit-at t) emit.Post
 emit-emit-requires-2 t c κs =
-    let m : 0 < arity (getD (c .before .before .before .before .before .before .before .before .before .before .before .before .before .before .args .bytes .now) (c .before .before .before .before .before .before .before .before .before .before .before .before .before .before .args .at) 0) = omega (arith, c .before .before .before .before .before .before .before .before .before .before .arity .ensures .0, c .before .before .before .before .before .before .before .before .if1 .left) in
-    let e = (ap (λ (s : ℕ). c .before .before .before .before .before .before .before .before .before .before .before .before .before .before .args .at + (1 + s)) (c .before .before .before .before .before .before .before .before .before .body-size .ensures .0)) in
-    let h : 1 < arity (getD (c .before .before .before .before .before .before .before .before .before .before .before .before .before .before .args .bytes .now) (c .before .before .before .before .before .before .before .before .before .before .before .before .before .before .args .at) 0) = omega (arith, c .before .before .before .before .before .before .before .before .before .before .arity .ensures .0, c .before .before .before .before .before .before .before .before .if1 .left, c .before .before .before .if2 .left) in
-    (omega (arith, c .before .before .before .before .before .before .before .before .before .before .before .before .before .before .pre .0, accepted-record (c .before .before .before .before .before .before .before .before .before .before .before .before .before .before .args .bytes .now) (c .before .before .before .before .before .before .before .before .before .before .before .before .before .before .args .at) (c .before .before .before .before .before .before .before .before .before .before .before .before .before .before .args .left) (c .before .before .before .before .before .before .before .before .before .before .before .before .before .before .args .bound) (c .before .before .before .before .before .before .before .before .before .before .before .before .before .before .pre .1 .accepted) .depth), second-asks (c .before .before .before .before .before .before .before .before .before .before .before .before .before .before .pre .1) m e (c .before .before .before .before .before .before .emit .ensures) (c .before .before .bind .ensures) (c .before .inner .ensures) h)
+    let m : 0 < arity (getD (c .before .before .before .before .before .before .before .before .before .before .before .before .before
+    .before .args .bytes .now) (c .before .before .before .before .before .before .before .before .before .before .before .before
+    .before .before .args .at) 0) = omega (
+      arith,
+      c .before .before .before .before .before .before .before .before .before .before
+          .arity .ensures .0,
+      c .before .before .before .before .before .before .before .before .if1 .left,
+    ) in
+    let e = (ap (λ (s : ℕ). c .before .before .before .before .before .before .before .before .before .before .before .before .before
+    .before .args .at + (1 + s)) (c .before .before .before .before .before .before .before .before .before .body-size .ensures .0))
+    in
+    let h : 1 < arity (getD (c .before .before .before .before .before .before .before .before .before .before .before .before .before
+    .before .args .bytes .now) (c .before .before .before .before .before .before .before .before .before .before .before .before
+    .before .before .args .at) 0) = omega (
+      arith,
+      c .before .before .before .before .before .before .before .before .before .before
+          .arity .ensures .0,
+      c .before .before .before .before .before .before .before .before .if1 .left,
+      c .before .before .before .if2
+          .left,
+    ) in (
+      omega (
+        arith,
+        c .before .before .before .before .before .before .before .before .before .before .before .before .before .before .pre
+            .0,
+        accepted-record (c .before .before .before .before .before .before .before .before .before .before .before .before .before
+            .before .args .bytes .now) (c .before .before .before .before .before .before .before .before .before .before .before .before
+            .before .before .args .at) (c .before .before .before .before .before .before .before .before .before .before .before .before
+            .before .before .args .left) (c .before .before .before .before .before .before .before .before .before .before .before .before
+            .before .before .args .bound) (c .before .before .before .before .before .before .before .before .before .before .before .before
+            .before .before .pre .1 .accepted) .depth,
+      ),
+      second-asks (c .before .before .before .before .before .before .before .before
+          .before .before .before .before .before .before .pre .1) m e (c .before .before .before .before .before .before .emit .ensures)
+          (c .before .before .bind .ensures) (c .before .inner .ensures) h,
+    )
 
 emit-binary-requires : (t : ℕ) → emit-lts.Need-binary-requires (emit-claims t) (emit-at t) emit.Post
 emit-binary-requires t c κs =
-    let m : 0 < arity (getD (c .before .before .before .before .before .before .before .before .before .before .before .before .before .before .before .before .before .before .before .args .bytes .now) (c .before .before .before .before .before .before .before .before .before .before .before .before .before .before .before .before .before .before .before .args .at) 0) = omega (arith, c .before .before .before .before .before .before .before .before .before .before .before .before .before .before .before .arity .ensures .0, c .before .before .before .before .before .before .before .before .before .before .before .before .before .if1 .left) in
-    let e = (ap (λ (s : ℕ). c .before .before .before .before .before .before .before .before .before .before .before .before .before .before .before .before .before .before .before .args .at + (1 + s)) (c .before .before .before .before .before .before .before .before .before .before .before .before .before .before .body-size .ensures .0)) in
-    let h : 1 < arity (getD (c .before .before .before .before .before .before .before .before .before .before .before .before .before .before .before .before .before .before .before .args .bytes .now) (c .before .before .before .before .before .before .before .before .before .before .before .before .before .before .before .before .before .before .before .args .at) 0) = omega (arith, c .before .before .before .before .before .before .before .before .before .before .before .before .before .before .before .arity .ensures .0, c .before .before .before .before .before .before .before .before .before .before .before .before .before .if1 .left, c .before .before .before .before .before .before .before .before .if2 .left) in
-    binary-asks (c .before .before .before .before .before .before .before .before .before .before .before .before .before .before .before .before .before .before .before .pre .1) m e (c .before .before .before .before .before .before .before .before .before .before .before .emit .ensures) (c .before .before .before .before .before .before .before .bind .ensures) (c .before .before .before .before .before .before .inner .ensures) h (c .before .before .before .before .emit2 .ensures) (sym (c .before .before .before .before .before .before .before .before .before .before .before .before .before .before .before .arity .ensures .0) ∙ c .before .if3 .taken)
+    let m : 0 < arity (getD (c .before .before .before .before .before .before .before .before .before .before .before .before .before
+    .before .before .before .before .before .before .args .bytes .now) (c .before .before .before .before .before .before .before
+    .before .before .before .before .before .before .before .before .before .before .before .before .args .at) 0) = omega (
+      arith,
+      c
+          .before .before .before .before .before .before .before .before .before .before .before .before .before .before .before .arity
+          .ensures .0,
+      c .before .before .before .before .before .before .before .before .before .before .before .before .before .if1
+          .left,
+    ) in
+    let e = (ap (λ (s : ℕ). c .before .before .before .before .before .before .before .before .before .before .before .before .before
+    .before .before .before .before .before .before .args .at + (1 + s)) (c .before .before .before .before .before .before .before
+    .before .before .before .before .before .before .before .body-size .ensures .0)) in
+    let h : 1 < arity (getD (c .before .before .before .before .before .before .before .before .before .before .before .before .before
+    .before .before .before .before .before .before .args .bytes .now) (c .before .before .before .before .before .before .before
+    .before .before .before .before .before .before .before .before .before .before .before .before .args .at) 0) = omega (
+      arith,
+      c
+          .before .before .before .before .before .before .before .before .before .before .before .before .before .before .before .arity
+          .ensures .0,
+      c .before .before .before .before .before .before .before .before .before .before .before .before .before .if1
+          .left,
+      c .before .before .before .before .before .before .before .before .if2 .left,
+    ) in
+    binary-asks (c .before .before .before .before .before .before .before .before .before .before .before .before .before .before
+    .before .before .before .before .before .pre .1) m e (c .before .before .before .before .before .before .before .before .before
+    .before .before .emit .ensures) (c .before .before .before .before .before .before .before .bind .ensures) (c .before .before
+    .before .before .before .before .inner .ensures) h (c .before .before .before .before .emit2 .ensures) (sym (c .before .before
+    .before .before .before .before .before .before .before .before .before .before .before .before .before .arity .ensures .0) ∙ c
+    .before .if3 .taken)
 
 emit-same-length-3 : (t : ℕ) → emit-lts.Need-same-length-3 (emit-claims t) (emit-at t) emit.Post
 emit-same-length-3 t c = search needs
 
 emit-returns-3 : (t : ℕ) → emit-lts.Need-returns-3 (emit-claims t) (emit-at t) emit.Post
 emit-returns-3 t c =
-    let m : 0 < arity (getD (c .before .before .before .before .before .before .before .before .before .before .before .before .before .before .before .before .before .before .before .before .before .before .args .bytes .now) (c .before .before .before .before .before .before .before .before .before .before .before .before .before .before .before .before .before .before .before .before .before .before .args .at) 0) = omega (arith, c .before .before .before .before .before .before .before .before .before .before .before .before .before .before .before .before .before .before .arity .ensures .0, c .before .before .before .before .before .before .before .before .before .before .before .before .before .before .before .before .if1 .left) in
-    let e = (ap (λ (s : ℕ). c .before .before .before .before .before .before .before .before .before .before .before .before .before .before .before .before .before .before .before .before .before .before .args .at + (1 + s)) (c .before .before .before .before .before .before .before .before .before .before .before .before .before .before .before .before .before .body-size .ensures .0)) in
-    let h : 1 < arity (getD (c .before .before .before .before .before .before .before .before .before .before .before .before .before .before .before .before .before .before .before .before .before .before .args .bytes .now) (c .before .before .before .before .before .before .before .before .before .before .before .before .before .before .before .before .before .before .before .before .before .before .args .at) 0) = omega (arith, c .before .before .before .before .before .before .before .before .before .before .before .before .before .before .before .before .before .before .arity .ensures .0, c .before .before .before .before .before .before .before .before .before .before .before .before .before .before .before .before .if1 .left, c .before .before .before .before .before .before .before .before .before .before .before .if2 .left) in
-    binary-emits (c .before .before .before .before .before .before .before .before .before .before .before .before .before .before .before .before .before .before .before .before .before .before .pre .1) m e (c .before .before .before .before .before .before .before .before .before .before .before .before .before .before .emit .ensures) (c .before .before .before .before .before .before .before .before .before .before .bind .ensures) (c .before .before .before .before .before .before .before .before .before .inner .ensures) h (c .before .before .before .before .before .before .before .emit2 .ensures) (sym (c .before .before .before .before .before .before .before .before .before .before .before .before .before .before .before .before .before .before .arity .ensures .0) ∙ c .before .before .before .before .if3 .taken) (c .before .before .binary .ensures)
+    let m : 0 < arity (getD (c .before .before .before .before .before .before .before .before .before .before .before .before .before
+    .before .before .before .before .before .before .before .before .before .args .bytes .now) (c .before .before .before .before
+    .before .before .before .before .before .before .before .before .before .before .before .before .before .before .before .before
+    .before .before .args .at) 0) = omega (
+      arith,
+      c .before .before .before .before .before .before .before .before .before .before
+          .before .before .before .before .before .before .before .before .arity .ensures .0,
+      c .before .before .before .before .before
+          .before .before .before .before .before .before .before .before .before .before .before .if1 .left,
+    ) in
+    let e = (ap (λ (s : ℕ). c .before .before .before .before .before .before .before .before .before .before .before .before .before
+    .before .before .before .before .before .before .before .before .before .args .at + (1 + s)) (c .before .before .before .before
+    .before .before .before .before .before .before .before .before .before .before .before .before .before .body-size .ensures .0))
+    in
+    let h : 1 < arity (getD (c .before .before .before .before .before .before .before .before .before .before .before .before .before
+    .before .before .before .before .before .before .before .before .before .args .bytes .now) (c .before .before .before .before
+    .before .before .before .before .before .before .before .before .before .before .before .before .before .before .before .before
+    .before .before .args .at) 0) = omega (
+      arith,
+      c .before .before .before .before .before .before .before .before .before .before
+          .before .before .before .before .before .before .before .before .arity .ensures .0,
+      c .before .before .before .before .before
+          .before .before .before .before .before .before .before .before .before .before .before .if1 .left,
+      c .before .before .before
+          .before .before .before .before .before .before .before .before .if2 .left,
+    ) in
+    binary-emits (c .before .before .before .before .before .before .before .before .before .before .before .before .before .before
+    .before .before .before .before .before .before .before .before .pre .1) m e (c .before .before .before .before .before .before
+    .before .before .before .before .before .before .before .before .emit .ensures) (c .before .before .before .before .before
+    .before .before .before .before .before .bind .ensures) (c .before .before .before .before .before .before .before .before
+    .before .inner .ensures) h (c .before .before .before .before .before .before .before .emit2 .ensures) (sym (c .before .before
+    .before .before .before .before .before .before .before .before .before .before .before .before .before .before .before .before
+    .arity .ensures .0) ∙ c .before .before .before .before .if3 .taken) (c .before .before .binary .ensures)
 
 emit-sub-emit-3 : (t : ℕ) → emit-lts.Need-sub-emit-3 (emit-claims t) (emit-at t) emit.Post
 emit-sub-emit-3 t c =
-    accepted-record (c .before .before .before .before .before .before .before .before .before .before .before .before .before .before .before .before .before .before .args .bytes .now) (c .before .before .before .before .before .before .before .before .before .before .before .before .before .before .before .before .before .before .args .at) (c .before .before .before .before .before .before .before .before .before .before .before .before .before .before .before .before .before .before .args .left) (c .before .before .before .before .before .before .before .before .before .before .before .before .before .before .before .before .before .before .args .bound) (c .before .before .before .before .before .before .before .before .before .before .before .before .before .before .before .before .before .before .pre .1 .accepted) .depth
+    accepted-record (c .before .before .before .before .before .before .before .before .before .before .before .before .before .before
+    .before .before .before .before .args .bytes .now) (c .before .before .before .before .before .before .before .before .before
+    .before .before .before .before .before .before .before .before .before .args .at) (c .before .before .before .before .before
+    .before .before .before .before .before .before .before .before .before .before .before .before .before .args .left) (c .before
+    .before .before .before .before .before .before .before .before .before .before .before .before .before .before .before .before
+    .before .args .bound) (c .before .before .before .before .before .before .before .before .before .before .before .before .before
+    .before .before .before .before .before .pre .1 .accepted) .depth
 
 emit-emit-requires-3 : (t : ℕ) → emit-lts.Need-emit-requires-3 (emit-claims t) (emit-at t) emit.Post
 emit-emit-requires-3 t c κs =
-    let m : 0 < arity (getD (c .before .before .before .before .before .before .before .before .before .before .before .before .before .before .before .before .before .before .before .args .bytes .now) (c .before .before .before .before .before .before .before .before .before .before .before .before .before .before .before .before .before .before .before .args .at) 0) = omega (arith, c .before .before .before .before .before .before .before .before .before .before .before .before .before .before .before .arity .ensures .0, c .before .before .before .before .before .before .before .before .before .before .before .before .before .if1 .left) in
-    let e = (ap (λ (s : ℕ). c .before .before .before .before .before .before .before .before .before .before .before .before .before .before .before .before .before .before .before .args .at + (1 + s)) (c .before .before .before .before .before .before .before .before .before .before .before .before .before .before .body-size .ensures .0)) in
-    let h : 1 < arity (getD (c .before .before .before .before .before .before .before .before .before .before .before .before .before .before .before .before .before .before .before .args .bytes .now) (c .before .before .before .before .before .before .before .before .before .before .before .before .before .before .before .before .before .before .before .args .at) 0) = omega (arith, c .before .before .before .before .before .before .before .before .before .before .before .before .before .before .before .arity .ensures .0, c .before .before .before .before .before .before .before .before .before .before .before .before .before .if1 .left, c .before .before .before .before .before .before .before .before .if2 .left) in
-    let g : 2 < arity (getD (c .before .before .before .before .before .before .before .before .before .before .before .before .before .before .before .before .before .before .before .args .bytes .now) (c .before .before .before .before .before .before .before .before .before .before .before .before .before .before .before .before .before .before .before .args .at) 0) = omega (arith, c .before .before .before .before .before .before .before .before .before .before .before .before .before .before .before .arity .ensures .0, c .before .before .before .before .before .before .before .before .before .before .before .before .before .if1 .left, c .before .before .before .before .before .before .before .before .if2 .left, c .before .if3 .left) in
-    (omega (arith, c .before .before .before .before .before .before .before .before .before .before .before .before .before .before .before .before .before .before .before .pre .0, accepted-record (c .before .before .before .before .before .before .before .before .before .before .before .before .before .before .before .before .before .before .before .args .bytes .now) (c .before .before .before .before .before .before .before .before .before .before .before .before .before .before .before .before .before .before .before .args .at) (c .before .before .before .before .before .before .before .before .before .before .before .before .before .before .before .before .before .before .before .args .left) (c .before .before .before .before .before .before .before .before .before .before .before .before .before .before .before .before .before .before .before .args .bound) (c .before .before .before .before .before .before .before .before .before .before .before .before .before .before .before .before .before .before .before .pre .1 .accepted) .depth), third-asks (c .before .before .before .before .before .before .before .before .before .before .before .before .before .before .before .before .before .before .before .pre .1) m e (c .before .before .before .before .before .before .before .before .before .before .before .emit .ensures) (c .before .before .before .before .before .before .before .bind .ensures) (c .before .before .before .before .before .before .inner .ensures) h (c .before .before .before .before .emit2 .ensures) g)
+    let m : 0 < arity (getD (c .before .before .before .before .before .before .before .before .before .before .before .before .before
+    .before .before .before .before .before .before .args .bytes .now) (c .before .before .before .before .before .before .before
+    .before .before .before .before .before .before .before .before .before .before .before .before .args .at) 0) = omega (
+      arith,
+      c
+          .before .before .before .before .before .before .before .before .before .before .before .before .before .before .before .arity
+          .ensures .0,
+      c .before .before .before .before .before .before .before .before .before .before .before .before .before .if1
+          .left,
+    ) in
+    let e = (ap (λ (s : ℕ). c .before .before .before .before .before .before .before .before .before .before .before .before .before
+    .before .before .before .before .before .before .args .at + (1 + s)) (c .before .before .before .before .before .before .before
+    .before .before .before .before .before .before .before .body-size .ensures .0)) in
+    let h : 1 < arity (getD (c .before .before .before .before .before .before .before .before .before .before .before .before .before
+    .before .before .before .before .before .before .args .bytes .now) (c .before .before .before .before .before .before .before
+    .before .before .before .before .before .before .before .before .before .before .before .before .args .at) 0) = omega (
+      arith,
+      c
+          .before .before .before .before .before .before .before .before .before .before .before .before .before .before .before .arity
+          .ensures .0,
+      c .before .before .before .before .before .before .before .before .before .before .before .before .before .if1
+          .left,
+      c .before .before .before .before .before .before .before .before .if2 .left,
+    ) in
+    let g : 2 < arity (getD (c .before .before .before .before .before .before .before .before .before .before .before .before .before
+    .before .before .before .before .before .before .args .bytes .now) (c .before .before .before .before .before .before .before
+    .before .before .before .before .before .before .before .before .before .before .before .before .args .at) 0) = omega (
+      arith,
+      c
+          .before .before .before .before .before .before .before .before .before .before .before .before .before .before .before .arity
+          .ensures .0,
+      c .before .before .before .before .before .before .before .before .before .before .before .before .before .if1
+          .left,
+      c .before .before .before .before .before .before .before .before .if2 .left,
+      c .before .if3 .left,
+    ) in (
+      omega (
+        arith,
+        c .before .before .before .before .before .before .before .before .before .before .before .before .before .before
+            .before .before .before .before .before .pre .0,
+        accepted-record (c .before .before .before .before .before .before .before
+            .before .before .before .before .before .before .before .before .before .before .before .before .args .bytes .now) (c .before
+            .before .before .before .before .before .before .before .before .before .before .before .before .before .before .before .before
+            .before .before .args .at) (c .before .before .before .before .before .before .before .before .before .before .before .before
+            .before .before .before .before .before .before .before .args .left) (c .before .before .before .before .before .before .before
+            .before .before .before .before .before .before .before .before .before .before .before .before .args .bound) (c .before .before
+            .before .before .before .before .before .before .before .before .before .before .before .before .before .before .before .before
+            .before .pre .1 .accepted) .depth,
+      ),
+      third-asks (c .before .before .before .before .before .before .before .before .before .before
+          .before .before .before .before .before .before .before .before .before .pre .1) m e (c .before .before .before .before .before
+          .before .before .before .before .before .before .emit .ensures) (c .before .before .before .before .before .before .before .bind
+          .ensures) (c .before .before .before .before .before .before .inner .ensures) h (c .before .before .before .before .emit2
+          .ensures) g,
+    )
 
 emit-union-requires : (t : ℕ) → emit-lts.Need-union-requires (emit-claims t) (emit-at t) emit.Post
 emit-union-requires t c κs =
-    let m : 0 < arity (getD (c .before .before .before .before .before .before .before .before .before .before .before .before .before .before .before .before .before .before .before .before .before .before .before .args .bytes .now) (c .before .before .before .before .before .before .before .before .before .before .before .before .before .before .before .before .before .before .before .before .before .before .before .args .at) 0) = omega (arith, c .before .before .before .before .before .before .before .before .before .before .before .before .before .before .before .before .before .before .before .arity .ensures .0, c .before .before .before .before .before .before .before .before .before .before .before .before .before .before .before .before .before .if1 .left) in
-    let e = (ap (λ (s : ℕ). c .before .before .before .before .before .before .before .before .before .before .before .before .before .before .before .before .before .before .before .before .before .before .before .args .at + (1 + s)) (c .before .before .before .before .before .before .before .before .before .before .before .before .before .before .before .before .before .before .body-size .ensures .0)) in
-    let h : 1 < arity (getD (c .before .before .before .before .before .before .before .before .before .before .before .before .before .before .before .before .before .before .before .before .before .before .before .args .bytes .now) (c .before .before .before .before .before .before .before .before .before .before .before .before .before .before .before .before .before .before .before .before .before .before .before .args .at) 0) = omega (arith, c .before .before .before .before .before .before .before .before .before .before .before .before .before .before .before .before .before .before .before .arity .ensures .0, c .before .before .before .before .before .before .before .before .before .before .before .before .before .before .before .before .before .if1 .left, c .before .before .before .before .before .before .before .before .before .before .before .before .if2 .left) in
-    let g : 2 < arity (getD (c .before .before .before .before .before .before .before .before .before .before .before .before .before .before .before .before .before .before .before .before .before .before .before .args .bytes .now) (c .before .before .before .before .before .before .before .before .before .before .before .before .before .before .before .before .before .before .before .before .before .before .before .args .at) 0) = omega (arith, c .before .before .before .before .before .before .before .before .before .before .before .before .before .before .before .before .before .before .before .arity .ensures .0, c .before .before .before .before .before .before .before .before .before .before .before .before .before .before .before .before .before .if1 .left, c .before .before .before .before .before .before .before .before .before .before .before .before .if2 .left, c .before .before .before .before .before .if3 .left) in
-    union-asks (c .before .before .before .before .before .before .before .before .before .before .before .before .before .before .before .before .before .before .before .before .before .before .before .pre .1) m e (c .before .before .before .before .before .before .before .before .before .before .before .before .before .before .before .emit .ensures) (c .before .before .before .before .before .before .before .before .before .before .before .bind .ensures) (c .before .before .before .before .before .before .before .before .before .before .inner .ensures) h (c .before .before .before .before .before .before .before .before .emit2 .ensures) g (c .before .before .before .emit3 .ensures)
+    let m : 0 < arity (getD (c .before .before .before .before .before .before .before .before .before .before .before .before .before
+    .before .before .before .before .before .before .before .before .before .before .args .bytes .now) (c .before .before .before
+    .before .before .before .before .before .before .before .before .before .before .before .before .before .before .before .before
+    .before .before .before .before .args .at) 0) = omega (
+      arith,
+      c .before .before .before .before .before .before .before .before
+          .before .before .before .before .before .before .before .before .before .before .before .arity .ensures .0,
+      c .before .before
+          .before .before .before .before .before .before .before .before .before .before .before .before .before .before .before .if1
+          .left,
+    ) in
+    let e = (ap (λ (s : ℕ). c .before .before .before .before .before .before .before .before .before .before .before .before .before
+    .before .before .before .before .before .before .before .before .before .before .args .at + (1 + s)) (c .before .before .before
+    .before .before .before .before .before .before .before .before .before .before .before .before .before .before .before
+    .body-size .ensures .0)) in
+    let h : 1 < arity (getD (c .before .before .before .before .before .before .before .before .before .before .before .before .before
+    .before .before .before .before .before .before .before .before .before .before .args .bytes .now) (c .before .before .before
+    .before .before .before .before .before .before .before .before .before .before .before .before .before .before .before .before
+    .before .before .before .before .args .at) 0) = omega (
+      arith,
+      c .before .before .before .before .before .before .before .before
+          .before .before .before .before .before .before .before .before .before .before .before .arity .ensures .0,
+      c .before .before
+          .before .before .before .before .before .before .before .before .before .before .before .before .before .before .before .if1
+          .left,
+      c .before .before .before .before .before .before .before .before .before .before .before .before .if2 .left,
+    ) in
+    let g : 2 < arity (getD (c .before .before .before .before .before .before .before .before .before .before .before .before .before
+    .before .before .before .before .before .before .before .before .before .before .args .bytes .now) (c .before .before .before
+    .before .before .before .before .before .before .before .before .before .before .before .before .before .before .before .before
+    .before .before .before .before .args .at) 0) = omega (
+      arith,
+      c .before .before .before .before .before .before .before .before
+          .before .before .before .before .before .before .before .before .before .before .before .arity .ensures .0,
+      c .before .before
+          .before .before .before .before .before .before .before .before .before .before .before .before .before .before .before .if1
+          .left,
+      c .before .before .before .before .before .before .before .before .before .before .before .before .if2 .left,
+      c .before
+          .before .before .before .before .if3 .left,
+    ) in
+    union-asks (c .before .before .before .before .before .before .before .before .before .before .before .before .before .before .before
+    .before .before .before .before .before .before .before .before .pre .1) m e (c .before .before .before .before .before .before
+    .before .before .before .before .before .before .before .before .before .emit .ensures) (c .before .before .before .before
+    .before .before .before .before .before .before .before .bind .ensures) (c .before .before .before .before .before .before
+    .before .before .before .before .inner .ensures) h (c .before .before .before .before .before .before .before .before .emit2
+    .ensures) g (c .before .before .before .emit3 .ensures)
 
 emit-same-length-4 : (t : ℕ) → emit-lts.Need-same-length-4 (emit-claims t) (emit-at t) emit.Post
 emit-same-length-4 t c = search needs
 
 emit-returns-4 : (t : ℕ) → emit-lts.Need-returns-4 (emit-claims t) (emit-at t) emit.Post
 emit-returns-4 t c =
-    let m : 0 < arity (getD (c .before .before .before .before .before .before .before .before .before .before .before .before .before .before .before .before .before .before .before .before .before .before .before .before .before .before .args .bytes .now) (c .before .before .before .before .before .before .before .before .before .before .before .before .before .before .before .before .before .before .before .before .before .before .before .before .before .before .args .at) 0) = omega (arith, c .before .before .before .before .before .before .before .before .before .before .before .before .before .before .before .before .before .before .before .before .before .before .arity .ensures .0, c .before .before .before .before .before .before .before .before .before .before .before .before .before .before .before .before .before .before .before .before .if1 .left) in
-    let e = (ap (λ (s : ℕ). c .before .before .before .before .before .before .before .before .before .before .before .before .before .before .before .before .before .before .before .before .before .before .before .before .before .before .args .at + (1 + s)) (c .before .before .before .before .before .before .before .before .before .before .before .before .before .before .before .before .before .before .before .before .before .body-size .ensures .0)) in
-    let h : 1 < arity (getD (c .before .before .before .before .before .before .before .before .before .before .before .before .before .before .before .before .before .before .before .before .before .before .before .before .before .before .args .bytes .now) (c .before .before .before .before .before .before .before .before .before .before .before .before .before .before .before .before .before .before .before .before .before .before .before .before .before .before .args .at) 0) = omega (arith, c .before .before .before .before .before .before .before .before .before .before .before .before .before .before .before .before .before .before .before .before .before .before .arity .ensures .0, c .before .before .before .before .before .before .before .before .before .before .before .before .before .before .before .before .before .before .before .before .if1 .left, c .before .before .before .before .before .before .before .before .before .before .before .before .before .before .before .if2 .left) in
-    let g : 2 < arity (getD (c .before .before .before .before .before .before .before .before .before .before .before .before .before .before .before .before .before .before .before .before .before .before .before .before .before .before .args .bytes .now) (c .before .before .before .before .before .before .before .before .before .before .before .before .before .before .before .before .before .before .before .before .before .before .before .before .before .before .args .at) 0) = omega (arith, c .before .before .before .before .before .before .before .before .before .before .before .before .before .before .before .before .before .before .before .before .before .before .arity .ensures .0, c .before .before .before .before .before .before .before .before .before .before .before .before .before .before .before .before .before .before .before .before .if1 .left, c .before .before .before .before .before .before .before .before .before .before .before .before .before .before .before .if2 .left, c .before .before .before .before .before .before .before .before .if3 .left) in
-    union-emits (c .before .before .before .before .before .before .before .before .before .before .before .before .before .before .before .before .before .before .before .before .before .before .before .before .before .before .pre .1) m e (c .before .before .before .before .before .before .before .before .before .before .before .before .before .before .before .before .before .before .emit .ensures) (c .before .before .before .before .before .before .before .before .before .before .before .before .before .before .bind .ensures) (c .before .before .before .before .before .before .before .before .before .before .before .before .before .inner .ensures) h (c .before .before .before .before .before .before .before .before .before .before .before .emit2 .ensures) g (c .before .before .before .before .before .before .emit3 .ensures) (c .before .before .union .ensures)
+    let m : 0 < arity (getD (c .before .before .before .before .before .before .before .before .before .before .before .before .before
+    .before .before .before .before .before .before .before .before .before .before .before .before .before .args .bytes .now) (c
+    .before .before .before .before .before .before .before .before .before .before .before .before .before .before .before .before
+    .before .before .before .before .before .before .before .before .before .before .args .at) 0) = omega (
+      arith,
+      c .before .before
+          .before .before .before .before .before .before .before .before .before .before .before .before .before .before .before .before
+          .before .before .before .before .arity .ensures .0,
+      c .before .before .before .before .before .before .before .before .before
+          .before .before .before .before .before .before .before .before .before .before .before .if1 .left,
+    ) in
+    let e = (ap (λ (s : ℕ). c .before .before .before .before .before .before .before .before .before .before .before .before .before
+    .before .before .before .before .before .before .before .before .before .before .before .before .before .args .at + (1 + s)) (c
+    .before .before .before .before .before .before .before .before .before .before .before .before .before .before .before .before
+    .before .before .before .before .before .body-size .ensures .0)) in
+    let h : 1 < arity (getD (c .before .before .before .before .before .before .before .before .before .before .before .before .before
+    .before .before .before .before .before .before .before .before .before .before .before .before .before .args .bytes .now) (c
+    .before .before .before .before .before .before .before .before .before .before .before .before .before .before .before .before
+    .before .before .before .before .before .before .before .before .before .before .args .at) 0) = omega (
+      arith,
+      c .before .before
+          .before .before .before .before .before .before .before .before .before .before .before .before .before .before .before .before
+          .before .before .before .before .arity .ensures .0,
+      c .before .before .before .before .before .before .before .before .before
+          .before .before .before .before .before .before .before .before .before .before .before .if1 .left,
+      c .before .before .before
+          .before .before .before .before .before .before .before .before .before .before .before .before .if2 .left,
+    ) in
+    let g : 2 < arity (getD (c .before .before .before .before .before .before .before .before .before .before .before .before .before
+    .before .before .before .before .before .before .before .before .before .before .before .before .before .args .bytes .now) (c
+    .before .before .before .before .before .before .before .before .before .before .before .before .before .before .before .before
+    .before .before .before .before .before .before .before .before .before .before .args .at) 0) = omega (
+      arith,
+      c .before .before
+          .before .before .before .before .before .before .before .before .before .before .before .before .before .before .before .before
+          .before .before .before .before .arity .ensures .0,
+      c .before .before .before .before .before .before .before .before .before
+          .before .before .before .before .before .before .before .before .before .before .before .if1 .left,
+      c .before .before .before
+          .before .before .before .before .before .before .before .before .before .before .before .before .if2 .left,
+      c .before .before
+          .before .before .before .before .before .before .if3 .left,
+    ) in
+    union-emits (c .before .before .before .before .before .before .before .before .before .before .before .before .before .before
+    .before .before .before .before .before .before .before .before .before .before .before .before .pre .1) m e (c .before .before
+    .before .before .before .before .before .before .before .before .before .before .before .before .before .before .before .before
+    .emit .ensures) (c .before .before .before .before .before .before .before .before .before .before .before .before .before
+    .before .bind .ensures) (c .before .before .before .before .before .before .before .before .before .before .before .before
+    .before .inner .ensures) h (c .before .before .before .before .before .before .before .before .before .before .before .emit2
+    .ensures) g (c .before .before .before .before .before .before .emit3 .ensures) (c .before .before .union .ensures)
 
 pub +emit-spec : {M : Type 1} → statement M
 +emit-spec = close μ-emit λ t. emit-lts.spec (emit-claims t)

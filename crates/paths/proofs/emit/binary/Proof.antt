@@ -12,7 +12,10 @@ same-length c = search needs
 
 returns : tie.Need-returns
 returns c =
-    binary-join (c .before .before .before .before .before .before .args .kind) (c .before .before .before .before .before .before .args .first) (outOf (c .before .before .before .before .before .before .args .words .now) (c .before .before .before .before .before .before .args .y)) (c .before .before .before .before .before .before .args .y) (c .before .before .union .last .0) (c .before .before .union .result) (c .before .before .before .before .if1 .taken) (c .before .before .union .ensures)
+    binary-join (c .before .before .before .before .before .before .args .kind) (c .before .before .before .before .before .before .args
+    .first) (outOf (c .before .before .before .before .before .before .args .words .now) (c .before .before .before .before .before
+    .before .args .y)) (c .before .before .before .before .before .before .args .y) (c .before .before .union .last .0) (c .before
+    .before .union .result) (c .before .before .before .before .if1 .taken) (c .before .before .union .ensures)
 
 insert-requires : tie.Need-insert-requires
 insert-requires c κs = search needs
@@ -22,11 +25,18 @@ same-length-2 c = search needs
 
 returns-2 : tie.Need-returns-2
 returns-2 c =
-    binary-insert (c .before .before .before .before .before .before .before .args .kind) (c .before .before .before .before .before .before .before .args .first) (outOf (c .before .before .before .before .before .before .before .args .words .now) (c .before .before .before .before .before .before .before .args .y)) (c .before .before .before .before .before .before .before .args .y) (c .before .before .insert .last .0) (c .before .before .insert .result) (c .before .before .before .before .if2 .taken) (c .before .before .insert .ensures)
+    binary-insert (c .before .before .before .before .before .before .before .args .kind) (c .before .before .before .before .before
+    .before .before .args .first) (outOf (c .before .before .before .before .before .before .before .args .words .now) (c .before
+    .before .before .before .before .before .before .args .y)) (c .before .before .before .before .before .before .before .args .y)
+    (c .before .before .insert .last .0) (c .before .before .insert .result) (c .before .before .before .before .if2 .taken) (c
+    .before .before .insert .ensures)
 
 returns-3 : tie.Need-returns-3
 returns-3 c =
-    binary-none (c .before .before .before .args .kind) (c .before .before .before .args .first) (outOf (c .before .before .before .args .words .now) (c .before .before .before .args .y)) (c .before .before .before .args .y) (c .before .before .before .args .words .now) (c .before .before .before .args .y) (c .before .if1 .left) (c .if2 .left) (grown-none (c .before .before .before .args .words .now) (c .before .before .before .args .y) (c .before .before .before .pre .grow))
+    binary-none (c .before .before .before .args .kind) (c .before .before .before .args .first) (outOf (c .before .before .before .args
+    .words .now) (c .before .before .before .args .y)) (c .before .before .before .args .y) (c .before .before .before .args .words
+    .now) (c .before .before .before .args .y) (c .before .if1 .left) (c .if2 .left) (grown-none (c .before .before .before .args
+    .words .now) (c .before .before .before .args .y) (c .before .before .before .pre .grow))
 
 pub binary-spec : {M : Type 1} → statement M
 binary-spec =

@@ -14,7 +14,8 @@ push-requires : tie.Need-push-requires
 push-requires c κs =
     record {
       room = omega (arith, c .before .before .before .before .pre .size, c .before .before .before .before .pre .room);
-      fits = below-fits (c .over .result) 0 (c .before .any-below .result) (c .before .before .before .before .args .x .result) (c .over .ensures) (c .before .any-below .ensures) (omega arith)
+      fits = below-fits (c .over .result) 0 (c .before .any-below .result) (c .before .before .before .before .args .x .result) (c .over
+          .ensures) (c .before .any-below .ensures) (omega arith)
           (omega (arith, c .before .before .before .before .pre .low, c .before .before .before .before .pre .room));
     }
 
@@ -27,9 +28,25 @@ union-requires c κs = search needs
 push-requires-2 : tie.Need-push-requires-2
 push-requires-2 c κs =
     record {
-      room = omega (arith, c .before .before .before .before .before .before .before .before .before .pre .size, c .before .before .before .before .before .before .before .before .before .pre .room, c .before .before .before .before .push .ensures .size);
-      fits = union-fits (c .union .result) 2 (c .before .before .before .before .before .before .before .before .before .args .x .result) (c .before .before .before .before .before .before .before .before .before .args .x .count) (c .union .ensures) (omega arith)
-          (omega (arith, c .before .before .before .before .before .before .before .before .before .pre .low, c .before .before .before .before .before .before .before .before .before .pre .room)) (omega (arith, c .before .before .before .before .before .before .before .before .before .pre .room));
+      room = omega (
+        arith,
+        c .before .before .before .before .before .before .before .before .before .pre .size,
+        c .before .before
+            .before .before .before .before .before .before .before .pre .room,
+        c .before .before .before .before .push .ensures .size,
+      );
+      fits = union-fits (c .union .result) 2 (c .before .before .before .before .before .before .before .before .before .args .x .result)
+          (c .before .before .before .before .before .before .before .before .before .args .x .count) (c .union .ensures) (omega arith)
+          (omega (
+            arith,
+            c .before .before .before .before .before .before .before .before .before .pre .low,
+            c .before .before .before
+                .before .before .before .before .before .before .pre .room,
+          )) (omega (
+            arith,
+            c .before .before .before .before .before
+                .before .before .before .before .pre .room,
+          ));
     }
 
 add-t11 : tie.Need-add-t11
@@ -40,8 +57,15 @@ same-length c = search needs
 
 returns : tie.Need-returns
 returns c =
-    delete-grown (c .before .before .before .before .before .before .before .before .before .before .before .before .args .words .now) (c .before .before .push2 .last .0) (c .before .before .before .before .before .before .before .before .before .before .before .before .args .x) (c .before .before .before .before .before .before .before .before .before .before .before .before .pre) (c .before .before .before .before .before .before .before .push .last .0) (c .before .before .before .before .before .before .before .before .over .result) (c .before .before .before .union .result)
-    (c .before .before .before .before .before .before .before .push .ensures) (c .before .before .push2 .ensures) (c .before .before .before .before .before .before .before .before .before .any-below .result) (c .before .before .before .before .before .before .before .before .before .any-below .ensures) (c .before .before .before .before .before .before .before .before .over .ensures) (c .before .before .before .union .ensures)
+    delete-grown (c .before .before .before .before .before .before .before .before .before .before .before .before .args .words .now) (c
+    .before .before .push2 .last .0) (c .before .before .before .before .before .before .before .before .before .before .before
+    .before .args .x) (c .before .before .before .before .before .before .before .before .before .before .before .before .pre) (c
+    .before .before .before .before .before .before .before .push .last .0) (c .before .before .before .before .before .before
+    .before .before .over .result) (c .before .before .before .union .result)
+    (c .before .before .before .before .before .before .before .push .ensures) (c .before .before .push2 .ensures) (c .before .before
+    .before .before .before .before .before .before .before .any-below .result) (c .before .before .before .before .before .before
+    .before .before .before .any-below .ensures) (c .before .before .before .before .before .before .before .before .over .ensures)
+    (c .before .before .before .union .ensures)
 
 pub delete-spec : {M : Type 1} → statement M
 delete-spec =

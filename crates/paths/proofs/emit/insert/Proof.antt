@@ -14,7 +14,8 @@ push-requires : tie.Need-push-requires
 push-requires c κs =
     record {
       room = omega (arith, c .before .before .before .before .pre .grow .size, c .before .before .before .before .pre .grow .room);
-      fits = below-fits (c .over .result) 1 (c .before .any-below .result) (c .before .before .before .before .args .first) (c .over .ensures) (c .before .any-below .ensures) (omega arith)
+      fits = below-fits (c .over .result) 1 (c .before .any-below .result) (c .before .before .before .before .args .first) (c .over
+          .ensures) (c .before .any-below .ensures) (omega arith)
           (omega (arith, c .before .before .before .before .pre .low, c .before .before .before .before .pre .grow .room));
     }
 
@@ -30,9 +31,22 @@ over-requires-2 c κs = search needs
 push-requires-2 : tie.Need-push-requires-2
 push-requires-2 c κs =
     record {
-      room = omega (arith, c .before .before .before .before .before .before .before .before .before .before .pre .grow .size, c .before .before .before .before .before .before .before .before .before .before .pre .grow .room, c .before .before .before .before .before .push .ensures .size);
-      fits = below-fits (c .over2 .result) 2 (c .before .any-below2 .result) (c .before .before .before .before .before .before .before .before .before .before .args .y .result) (c .over2 .ensures) (c .before .any-below2 .ensures) (omega arith)
-          (omega (arith, c .before .before .before .before .before .before .before .before .before .before .pre .grow .low, c .before .before .before .before .before .before .before .before .before .before .pre .grow .room));
+      room = omega (
+        arith,
+        c .before .before .before .before .before .before .before .before .before .before .pre .grow .size,
+        c .before
+            .before .before .before .before .before .before .before .before .before .pre .grow .room,
+        c .before .before .before .before
+            .before .push .ensures .size,
+      );
+      fits = below-fits (c .over2 .result) 2 (c .before .any-below2 .result) (c .before .before .before .before .before .before .before
+          .before .before .before .args .y .result) (c .over2 .ensures) (c .before .any-below2 .ensures) (omega arith)
+          (omega (
+            arith,
+            c .before .before .before .before .before .before .before .before .before .before .pre .grow .low,
+            c .before
+                .before .before .before .before .before .before .before .before .before .pre .grow .room,
+          ));
     }
 
 add-t12 : tie.Need-add-t12
@@ -43,8 +57,16 @@ same-length c = search needs
 
 returns : tie.Need-returns
 returns c =
-    insert-grown (c .before .before .before .before .before .before .before .before .before .before .before .before .before .args .words .now) (c .before .before .push2 .last .0) (c .before .before .before .before .before .before .before .before .before .before .before .before .before .args .y) (c .before .before .before .before .before .before .before .before .before .before .before .before .before .pre .grow) (c .before .before .before .before .before .before .before .before .push .last .0) (c .before .before .before .before .before .before .before .before .before .over .result) (c .before .before .before .over2 .result)
-    (c .before .before .before .before .before .before .before .before .push .ensures) (c .before .before .push2 .ensures) (c .before .before .before .before .before .before .before .before .before .before .before .before .before .args .first) (c .before .before .before .before .before .before .before .before .before .before .any-below .result) (c .before .before .before .before .any-below2 .result) (c .before .before .before .before .before .before .before .before .before .before .any-below .ensures) (c .before .before .before .before .any-below2 .ensures)
+    insert-grown (c .before .before .before .before .before .before .before .before .before .before .before .before .before .args .words
+    .now) (c .before .before .push2 .last .0) (c .before .before .before .before .before .before .before .before .before .before
+    .before .before .before .args .y) (c .before .before .before .before .before .before .before .before .before .before .before
+    .before .before .pre .grow) (c .before .before .before .before .before .before .before .before .push .last .0) (c .before .before
+    .before .before .before .before .before .before .before .over .result) (c .before .before .before .over2 .result)
+    (c .before .before .before .before .before .before .before .before .push .ensures) (c .before .before .push2 .ensures) (c .before
+    .before .before .before .before .before .before .before .before .before .before .before .before .args .first) (c .before .before
+    .before .before .before .before .before .before .before .before .any-below .result) (c .before .before .before .before
+    .any-below2 .result) (c .before .before .before .before .before .before .before .before .before .before .any-below .ensures) (c
+    .before .before .before .before .any-below2 .ensures)
     (c .before .before .before .before .before .before .before .before .before .over .ensures) (c .before .before .before .over2 .ensures)
 
 pub insert-spec : {M : Type 1} → statement M

@@ -11,7 +11,10 @@ none-requires c κs = search needs
 
 returns : tie.Need-returns
 returns c =
-    over-nowhere (cellIn (c .before .before .before .before .args .table .now)) (c .before .before .before .before .args .k) (c .before .before .before .before .args .l) (c .before .before .before .before .args .q) (cellOf (c .none .result)) (stepBy (c .before .before .before .before .args .p .axis) (c .before .before .before .before .args .p .test) (c .before .before .before .before .args .p .name)) (c .before .before .before .before .args .p .first) (c .before .if1 .taken) (c .none .ensures)
+    over-nowhere (cellIn (c .before .before .before .before .args .table .now)) (c .before .before .before .before .args .k) (c .before
+    .before .before .before .args .l) (c .before .before .before .before .args .q) (cellOf (c .none .result)) (stepBy (c .before
+    .before .before .before .args .p .axis) (c .before .before .before .before .args .p .test) (c .before .before .before .before
+    .args .p .name)) (c .before .before .before .before .args .p .first) (c .before .if1 .taken) (c .none .ensures)
 
 get-requires : tie.Need-get-requires
 get-requires c κs = search needs
@@ -24,7 +27,13 @@ down-step-requires c κs = search needs
 
 returns-2 : tie.Need-returns-2
 returns-2 c =
-    over-root (cellIn (c .before .before .before .before .before .before .before .before .args .table .now)) (c .before .before .before .before .before .before .before .before .args .k) (c .before .before .before .before .before .before .before .before .args .l) (c .before .before .before .before .before .before .before .before .args .q) (cellOf (c .down-step .result)) (stepBy (c .before .before .before .before .before .before .before .before .args .p .axis) (c .before .before .before .before .before .before .before .before .args .p .test) (c .before .before .before .before .before .before .before .before .args .p .name)) (c .before .before .before .before .before .before .before .before .args .p .first) (c .before .before .before .if2 .taken) (cellOf (c .before .before .get .result)) (stepOf (c .before .step-of .result))
+    over-root (cellIn (c .before .before .before .before .before .before .before .before .args .table .now)) (c .before .before .before
+    .before .before .before .before .before .args .k) (c .before .before .before .before .before .before .before .before .args .l) (c
+    .before .before .before .before .before .before .before .before .args .q) (cellOf (c .down-step .result)) (stepBy (c .before
+    .before .before .before .before .before .before .before .args .p .axis) (c .before .before .before .before .before .before
+    .before .before .args .p .test) (c .before .before .before .before .before .before .before .before .args .p .name)) (c .before
+    .before .before .before .before .before .before .before .args .p .first) (c .before .before .before .if2 .taken) (cellOf (c
+    .before .before .get .result)) (stepOf (c .before .step-of .result))
     (c .down-step .ensures) (c .before .step-of .ensures) (c .before .before .get .ensures)
 
 step-of-requires-2 : tie.Need-step-of-requires-2
@@ -46,7 +55,14 @@ down-step-requires-2 : tie.Need-down-step-requires-2
 down-step-requires-2 c κs = search needs
 
 get-requires-4 : tie.Need-get-requires-4
-get-requires-4 c κs = record { size = c .before .before .before .before .before .before .before .before .before .before .before .before .before .pre .size; first = c .before .before .before .before .before .before .before .before .before .before .before .before .before .pre .row; second = c .before .before .before .before .before .before .before .before .before .before .before .before .before .pre .otherFirst }
+get-requires-4 c κs = record {
+  size = c .before .before .before .before .before .before .before .before .before .before .before .before
+      .before .pre .size;
+  first = c .before .before .before .before .before .before .before .before .before .before .before .before .before
+      .pre .row;
+  second = c .before .before .before .before .before .before .before .before .before .before .before .before .before .pre
+      .otherFirst;
+}
 
 up-step-requires : tie.Need-up-step-requires
 up-step-requires c κs = search needs
@@ -59,9 +75,28 @@ join-requires-2 c κs = search needs
 
 returns-3 : tie.Need-returns-3
 returns-3 c =
-    over-over (cellIn (c .before .before .before .before .before .before .before .before .before .before .before .before .before .before .before .before .before .args .table .now)) (c .before .before .before .before .before .before .before .before .before .before .before .before .before .before .before .before .before .args .k) (c .before .before .before .before .before .before .before .before .before .before .before .before .before .before .before .before .before .args .l) (c .before .before .before .before .before .before .before .before .before .before .before .before .before .before .before .before .before .args .q) (cellOf (c .join2 .result)) (stepBy (c .before .before .before .before .before .before .before .before .before .before .before .before .before .before .before .before .before .args .p .axis) (c .before .before .before .before .before .before .before .before .before .before .before .before .before .before .before .before .before .args .p .test) (c .before .before .before .before .before .before .before .before .before .before .before .before .before .before .before .before .before .args .p .name)) (c .before .before .before .before .before .before .before .before .before .before .before .before .before .before .before .before .before .args .p .first) (c .before .before .before .before .before .before .before .before .before .before .if3 .taken) (cellOf (c .before .before .before .before .before .before .on-step .result)) (cellOf (c .before .before .before .before .down-step2 .result)) (cellOf (c .before .before .up-step .result)) (cellOf (c .before .join .result))
-    (cellOf (c .before .before .before .before .before .before .before .get2 .result)) (cellOf (c .before .before .before .before .before .get3 .result)) (cellOf (c .before .before .before .get4 .result)) (stepOf (c .before .before .before .before .before .before .before .before .before .step-of2 .result)) (stepOf (c .before .before .before .before .before .before .before .before .step-of3 .result)) (c .join2 .ensures) (c .before .join .ensures)
-    (c .before .before .before .before .before .before .on-step .ensures) (c .before .before .before .before .down-step2 .ensures) (c .before .before .up-step .ensures) (c .before .before .before .before .before .before .before .before .before .step-of2 .ensures) (c .before .before .before .before .before .before .before .before .step-of3 .ensures) (c .before .before .before .before .before .before .before .get2 .ensures) (c .before .before .before .before .before .get3 .ensures) (c .before .before .before .get4 .ensures)
+    over-over (cellIn (c .before .before .before .before .before .before .before .before .before .before .before .before .before .before
+    .before .before .before .args .table .now)) (c .before .before .before .before .before .before .before .before .before .before
+    .before .before .before .before .before .before .before .args .k) (c .before .before .before .before .before .before .before
+    .before .before .before .before .before .before .before .before .before .before .args .l) (c .before .before .before .before
+    .before .before .before .before .before .before .before .before .before .before .before .before .before .args .q) (cellOf (c
+    .join2 .result)) (stepBy (c .before .before .before .before .before .before .before .before .before .before .before .before
+    .before .before .before .before .before .args .p .axis) (c .before .before .before .before .before .before .before .before
+    .before .before .before .before .before .before .before .before .before .args .p .test) (c .before .before .before .before
+    .before .before .before .before .before .before .before .before .before .before .before .before .before .args .p .name)) (c
+    .before .before .before .before .before .before .before .before .before .before .before .before .before .before .before .before
+    .before .args .p .first) (c .before .before .before .before .before .before .before .before .before .before .if3 .taken) (cellOf
+    (c .before .before .before .before .before .before .on-step .result)) (cellOf (c .before .before .before .before .down-step2
+    .result)) (cellOf (c .before .before .up-step .result)) (cellOf (c .before .join .result))
+    (cellOf (c .before .before .before .before .before .before .before .get2 .result)) (cellOf (c .before .before .before .before .before
+    .get3 .result)) (cellOf (c .before .before .before .get4 .result)) (stepOf (c .before .before .before .before .before .before
+    .before .before .before .step-of2 .result)) (stepOf (c .before .before .before .before .before .before .before .before .step-of3
+    .result)) (c .join2 .ensures) (c .before .join .ensures)
+    (c .before .before .before .before .before .before .on-step .ensures) (c .before .before .before .before .down-step2 .ensures) (c
+    .before .before .up-step .ensures) (c .before .before .before .before .before .before .before .before .before .step-of2 .ensures)
+    (c .before .before .before .before .before .before .before .before .step-of3 .ensures) (c .before .before .before .before .before
+    .before .before .get2 .ensures) (c .before .before .before .before .before .get3 .ensures) (c .before .before .before .get4
+    .ensures)
 
 get-requires-5 : tie.Need-get-requires-5
 get-requires-5 c κs = search needs
@@ -74,8 +109,16 @@ join-requires-3 c κs = search needs
 
 returns-4 : tie.Need-returns-4
 returns-4 c =
-    over-union (cellIn (c .before .before .before .before .before .before .before .before .before .before .args .table .now)) (c .before .before .before .before .before .before .before .before .before .before .args .k) (c .before .before .before .before .before .before .before .before .before .before .args .l) (c .before .before .before .before .before .before .before .before .before .before .args .q) (cellOf (c .join3 .result)) (stepBy (c .before .before .before .before .before .before .before .before .before .before .args .p .axis) (c .before .before .before .before .before .before .before .before .before .before .args .p .test) (c .before .before .before .before .before .before .before .before .before .before .args .p .name)) (c .before .before .before .before .before .before .before .before .before .before .args .p .first) (c .before .before .before .before .before .before .before .if1 .left) (c .before .before .before .before .before .if2 .left) (c .before .before .before .if3 .left)
-    (cellOf (c .before .before .get5 .result)) (cellOf (c .before .get6 .result)) (c .join3 .ensures) (c .before .before .get5 .ensures) (c .before .get6 .ensures)
+    over-union (cellIn (c .before .before .before .before .before .before .before .before .before .before .args .table .now)) (c .before
+    .before .before .before .before .before .before .before .before .before .args .k) (c .before .before .before .before .before
+    .before .before .before .before .before .args .l) (c .before .before .before .before .before .before .before .before .before
+    .before .args .q) (cellOf (c .join3 .result)) (stepBy (c .before .before .before .before .before .before .before .before .before
+    .before .args .p .axis) (c .before .before .before .before .before .before .before .before .before .before .args .p .test) (c
+    .before .before .before .before .before .before .before .before .before .before .args .p .name)) (c .before .before .before
+    .before .before .before .before .before .before .before .args .p .first) (c .before .before .before .before .before .before
+    .before .if1 .left) (c .before .before .before .before .before .if2 .left) (c .before .before .before .if3 .left)
+    (cellOf (c .before .before .get5 .result)) (cellOf (c .before .get6 .result)) (c .join3 .ensures) (c .before .before .get5 .ensures)
+    (c .before .get6 .ensures)
 
 pub over-cell-spec : {M : Type 1} → statement M
 over-cell-spec =

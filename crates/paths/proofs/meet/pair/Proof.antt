@@ -28,12 +28,30 @@ cell-requires : tie.Need-cell-requires
 cell-requires c κs =
     record {
       size = c .before .before .before .before .before .before .before .before .pre .size;
-      row = omega (arith, c .before .before .before .before .before .before .before .before .pre .row, c .before .before .before .before .before .before .before .before .pre .first .few);
-      column = omega (arith, c .before .before .before .before .before .before .before .before .pre .column, c .before .before .before .before .before .before .before .before .pre .second .few);
-      firstLow = first-low (c .before .before .before .unpacked .result) (getD (c .before .before .before .before .before .before .before .before .args .first .now) (c .before .before .before .before .before .before .before .before .args .k) 0) (c .before .before .before .unpacked .ensures);
-      secondLow = second-low (c .before .before .before .unpacked .result) (getD (c .before .before .before .before .before .before .before .before .args .first .now) (c .before .before .before .before .before .before .before .before .args .k) 0) (c .before .before .before .unpacked .ensures);
-      otherFirst = first-low (c .before .unpacked2 .result) (getD (c .before .before .before .before .before .before .before .before .args .second .now) (c .before .before .before .before .before .before .before .before .args .l) 0) (c .before .unpacked2 .ensures);
-      otherSecond = second-low (c .before .unpacked2 .result) (getD (c .before .before .before .before .before .before .before .before .args .second .now) (c .before .before .before .before .before .before .before .before .args .l) 0) (c .before .unpacked2 .ensures);
+      row = omega (
+        arith,
+        c .before .before .before .before .before .before .before .before .pre .row,
+        c .before .before .before .before
+            .before .before .before .before .pre .first .few,
+      );
+      column = omega (
+        arith,
+        c .before .before .before .before .before .before .before .before .pre .column,
+        c .before .before .before
+            .before .before .before .before .before .pre .second .few,
+      );
+      firstLow = first-low (c .before .before .before .unpacked .result) (getD (c .before .before .before .before .before .before .before
+          .before .args .first .now) (c .before .before .before .before .before .before .before .before .args .k) 0) (c .before .before
+          .before .unpacked .ensures);
+      secondLow = second-low (c .before .before .before .unpacked .result) (getD (c .before .before .before .before .before .before
+          .before .before .args .first .now) (c .before .before .before .before .before .before .before .before .args .k) 0) (c .before
+          .before .before .unpacked .ensures);
+      otherFirst = first-low (c .before .unpacked2 .result) (getD (c .before .before .before .before .before .before .before .before
+          .args .second .now) (c .before .before .before .before .before .before .before .before .args .l) 0) (c .before .unpacked2
+          .ensures);
+      otherSecond = second-low (c .before .unpacked2 .result) (getD (c .before .before .before .before .before .before .before .before
+          .args .second .now) (c .before .before .before .before .before .before .before .before .args .l) 0) (c .before .unpacked2
+          .ensures);
     }
 
 set-requires : tie.Need-set-requires
@@ -50,8 +68,19 @@ same-length c = search needs
 
 returns : tie.Need-returns
 returns c =
-    pair-filled (c .before .before .before .before .before .before .before .before .before .before .before .before .before .before .before .args .first .now) (c .before .before .before .before .before .before .before .before .before .before .before .before .before .before .before .args .second .now) (c .before .before .before .before .before .before .before .before .before .before .before .before .before .before .before .args .table .now) (c .before .before .before .before .before .before .before .before .before .before .before .before .before .before .before .args .k) (c .before .before .before .before .before .before .before .before .before .before .before .before .before .before .before .args .l) (c .before .before .before .before .before .before .before .before .before .before .before .before .before .before .before .pre) (c .before .before .before .before .before .before .before .before .before .before .unpacked .result) (c .before .before .before .before .before .before .before .before .unpacked2 .result) (c .before .before .before .before .before .before .before .before .before .before .unpacked .ensures) (c .before .before .before .before .before .before .before .before .unpacked2 .ensures)
-    (c .before .before .before .before .before .before .cell .result) (c .before .before .before .before .set .last .0) (c .before .before .before .before .set .ensures) (c .before .before .before .before .before .before .cell .ensures) (c .before .is-tested .result) (c .is-met .result) _ (c .before .is-tested .ensures) (c .is-met .ensures) refl
+    pair-filled (c .before .before .before .before .before .before .before .before .before .before .before .before .before .before
+    .before .args .first .now) (c .before .before .before .before .before .before .before .before .before .before .before .before
+    .before .before .before .args .second .now) (c .before .before .before .before .before .before .before .before .before .before
+    .before .before .before .before .before .args .table .now) (c .before .before .before .before .before .before .before .before
+    .before .before .before .before .before .before .before .args .k) (c .before .before .before .before .before .before .before
+    .before .before .before .before .before .before .before .before .args .l) (c .before .before .before .before .before .before
+    .before .before .before .before .before .before .before .before .before .pre) (c .before .before .before .before .before .before
+    .before .before .before .before .unpacked .result) (c .before .before .before .before .before .before .before .before .unpacked2
+    .result) (c .before .before .before .before .before .before .before .before .before .before .unpacked .ensures) (c .before
+    .before .before .before .before .before .before .before .unpacked2 .ensures)
+    (c .before .before .before .before .before .before .cell .result) (c .before .before .before .before .set .last .0) (c .before
+    .before .before .before .set .ensures) (c .before .before .before .before .before .before .cell .ensures) (c .before .is-tested
+    .result) (c .is-met .result) _ (c .before .is-tested .ensures) (c .is-met .ensures) refl
 
 pub pair-spec : {M : Type 1} → statement M
 pair-spec =

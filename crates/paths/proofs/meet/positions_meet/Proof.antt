@@ -26,8 +26,14 @@ abbrev meetsRow : (first second : List ℕ) → ℕ → Bool
 meetsRow ws us i = rowMeets (entriesBy ws) (entriesBy us) i (length (entriesBy us))
 
 loop-holds : tie.Need-loop-holds Inv-loop μ-loop
-loop-holds c =
-    (omega arith, c .before .before .before .pre .size, none-filled (c .before .before .before .args .first .now) (c .before .before .before .args .second .now) (c .before .before .before .args .table .now), any-none (meetsRow (c .before .before .before .args .first .now) (c .before .before .before .args .second .now)))
+loop-holds c = (
+  omega arith,
+  c .before .before .before .pre .size,
+  none-filled (c .before .before .before .args .first .now) (c .before .before
+      .before .args .second .now) (c .before .before .before .args .table .now),
+  any-none (meetsRow (c .before .before .before .args
+      .first .now) (c .before .before .before .args .second .now)),
+)
 
 row-requires : tie.Need-row-requires Inv-loop μ-loop
 row-requires c κs =
@@ -50,7 +56,10 @@ loop-again c = (
   omega arith,
   c .before .before .row .ensures .size,
   c .before .before .row .ensures .filled,
-  any-next (meetsRow (c .before .before .before .before .before .before .before .before .before .args .first .now) (c .before .before .before .before .before .before .before .before .before .args .second .now)) (c .before .before .before .before .before .loop .k) (c .before .before .before .before .before .loop .met) (c .before .before .row .result) _ (c .before .before .before .before .before .loop .inv .3) (c .before .before .row .ensures .met) refl,
+  any-next (meetsRow (c .before .before .before .before .before .before .before .before .before .args .first .now) (c .before .before
+      .before .before .before .before .before .before .before .args .second .now)) (c .before .before .before .before .before .loop .k)
+      (c .before .before .before .before .before .loop .met) (c .before .before .row .result) _ (c .before .before .before .before
+      .before .loop .inv .3) (c .before .before .row .ensures .met) refl,
 )
 
 same-length : tie.Need-same-length Inv-loop μ-loop
@@ -58,8 +67,14 @@ same-length c = search needs
 
 returns : tie.Need-returns Inv-loop μ-loop
 returns c =
-    let e : c .before .loop .k ≡ length (entriesBy (c .before .before .before .before .before .args .first .now)) = omega (arith, c .before .loop .inv .0, length-map (c .before .before .before .before .before .args .first .now) entryOf) in
-    c .before .loop .inv .3 ∙ ap (anyUpTo (meetsRow (c .before .before .before .before .before .args .first .now) (c .before .before .before .before .before .args .second .now))) e
+    let e : c .before .loop .k ≡ length (entriesBy (c .before .before .before .before .before .args .first .now)) = omega (
+      arith,
+      c
+          .before .loop .inv .0,
+      length-map (c .before .before .before .before .before .args .first .now) entryOf,
+    ) in
+    c .before .loop .inv .3 ∙ ap (anyUpTo (meetsRow (c .before .before .before .before .before .args .first .now) (c .before .before
+    .before .before .before .args .second .now))) e
 
 pub positions-meet-spec : {M : Type 1} → statement M
 positions-meet-spec =

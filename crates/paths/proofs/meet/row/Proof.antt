@@ -19,8 +19,14 @@ abbrev μ-loop : tie.MeasureT-loop
 μ-loop first second table₀ k met₀ l₀ table met l = length second - l
 
 loop-holds : tie.Need-loop-holds Inv-loop μ-loop
-loop-holds c =
-    (omega arith, c .before .before .before .pre .size, c .before .before .before .pre .filled, any-none (meetAt (entriesBy (c .before .before .before .args .first .now)) (entriesBy (c .before .before .before .args .second .now)) (c .before .before .before .args .k)))
+loop-holds c = (
+  omega arith,
+  c .before .before .before .pre .size,
+  c .before .before .before .pre .filled,
+  any-none (meetAt (entriesBy (c .before
+      .before .before .args .first .now)) (entriesBy (c .before .before .before .args .second .now)) (c .before .before .before .args
+      .k)),
+)
 
 pair-requires : tie.Need-pair-requires Inv-loop μ-loop
 pair-requires c κs =
@@ -44,7 +50,10 @@ loop-again c = (
   omega arith,
   c .before .before .pair .ensures .size,
   c .before .before .pair .ensures .filled,
-  any-next (meetAt (entriesBy (c .before .before .before .before .before .before .before .before .before .args .first .now)) (entriesBy (c .before .before .before .before .before .before .before .before .before .args .second .now)) (c .before .before .before .before .before .before .before .before .before .args .k)) (c .before .before .before .before .before .loop .l) (c .before .before .before .before .before .loop .met) (c .before .before .pair .result) _
+  any-next (meetAt (entriesBy (c .before .before .before .before .before .before .before .before .before .args .first .now)) (entriesBy
+      (c .before .before .before .before .before .before .before .before .before .args .second .now)) (c .before .before .before .before
+      .before .before .before .before .before .args .k)) (c .before .before .before .before .before .loop .l) (c .before .before .before
+      .before .before .loop .met) (c .before .before .pair .result) _
       (c .before .before .before .before .before .loop .inv .3) (c .before .before .pair .ensures .met) refl,
 )
 
@@ -53,8 +62,14 @@ same-length c = search needs
 
 returns : tie.Need-returns Inv-loop μ-loop
 returns c =
-    let e : length (c .before .before .before .before .before .args .second .now) ≡ c .before .loop .l = omega (arith, c .before .loop .inv .0) in
-    row-done (c .before .before .before .before .before .args .first .now) (c .before .before .before .before .before .args .second .now) (c .before .loop .table) (c .before .before .before .before .before .args .k) (c .before .loop .l) (c .before .loop .met) (c .before .loop .inv .1) e (c .before .loop .inv .2) (c .before .loop .inv .3)
+    let e : length (c .before .before .before .before .before .args .second .now) ≡ c .before .loop .l = omega (
+      arith,
+      c .before .loop
+          .inv .0,
+    ) in
+    row-done (c .before .before .before .before .before .args .first .now) (c .before .before .before .before .before .args .second .now)
+    (c .before .loop .table) (c .before .before .before .before .before .args .k) (c .before .loop .l) (c .before .loop .met) (c
+    .before .loop .inv .1) e (c .before .loop .inv .2) (c .before .loop .inv .3)
 
 pub row-spec : {M : Type 1} → statement M
 row-spec =

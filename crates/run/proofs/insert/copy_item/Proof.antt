@@ -64,7 +64,8 @@ returns c =
 copy-rest-requires : tie.Need-copy-rest-requires
 copy-rest-requires c κs =
     item-rest
-    (c .before .before .before .before .before .before .before .before .before .before .before .before .before .before .before .before .before .pre)
+    (c .before .before .before .before .before .before .before .before .before .before .before .before .before .before .before .before
+    .before .pre)
     (c .before .before .before .before .before .before .before .before .before .before .before .before .relinked .ensures)
     (c .before .before .before .before .before .before .before .before .before .new-row .ensures) (search
     (c .before .before .before .if1 .left, needs))
@@ -81,9 +82,12 @@ same-length-6 c = c .before .before .before .before .before .before .copy-rest .
 returns-2 : tie.Need-returns-2
 returns-2 c =
     item-done
-    (c .before .before .before .before .before .before .before .before .before .before .before .before .before .before .before .before .before .before .before .before .before .before .before .before .pre)
-    (c .before .before .before .before .before .before .before .before .before .before .before .before .before .before .before .before .before .before .before .relinked .ensures)
-    (c .before .before .before .before .before .before .before .before .before .before .before .before .before .before .before .before .new-row .ensures)
+    (c .before .before .before .before .before .before .before .before .before .before .before .before .before .before .before .before
+    .before .before .before .before .before .before .before .before .pre)
+    (c .before .before .before .before .before .before .before .before .before .before .before .before .before .before .before .before
+    .before .before .before .relinked .ensures)
+    (c .before .before .before .before .before .before .before .before .before .before .before .before .before .before .before .before
+    .new-row .ensures)
     (search (c .before .before .before .before .before .before .before .before .before .before .if1 .left, needs))
     (c .before .before .before .before .before .before .copy-rest .ensures)
 

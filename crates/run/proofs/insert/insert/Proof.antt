@@ -49,7 +49,8 @@ refused-requires-2 c κs = search needs
 returns-2 : tie.Need-returns-2
 returns-2 c =
     insert-leaf (c .before .before .before .before .before .before .before .before .before .before .before .pre) (one-target
-    (c .before .before .before .before .before .before)) (c .before .before .before .before .index .ensures .0) (sym (target-kind (c .before .before)) ∙ c .before .if2 .taken)
+    (c .before .before .before .before .before .before)) (c .before .before .before .before .index .ensures .0) (sym (target-kind (c
+    .before .before)) ∙ c .before .if2 .taken)
     (c .refused2 .ensures)
 
 slice-aggregate-copy-items : tie.Need-slice-aggregate-copy-items
@@ -71,7 +72,8 @@ same-length-2 c = search needs
 returns-3 : tie.Need-returns-3
 returns-3 c =
     insert-done
-    (c .before .before .before .before .before .before .before .before .before .before .before .before .before .before .before .before .before .before .before .pre)
+    (c .before .before .before .before .before .before .before .before .before .before .before .before .before .before .before .before
+    .before .before .before .pre)
     (one-target (c .before .before .before .before .before .before .before .before .before .before .before .before .before .before))
     (c .before .before .before .before .before .before .before .before .before .before .before .before .index .ensures .0) (λ q.
     c .before .before .before .before .before .before .before .before .before .if2 .left (target-kind

@@ -36,7 +36,8 @@ flag-requires c κs = record {
           arith,
           h,
           length-take-le (c .before .before .before .before .before .args
-              .to - c .before .before .before .before .before .args .from) (drop (c .before .before .before .before .before .args .from) (c .before
+              .to - c .before .before .before .before .before .args .from) (drop (c .before .before .before .before .before .args .from)
+              (c .before
               .before .before .before .before .args .work .now)) (omega (
                 arith,
                 c .before .before .before .before .before .pre .within,
@@ -84,7 +85,8 @@ returns c = record {
       .before .before .before .before .before .before .before .before .before .args .to)) ms (omega (
         arith,
         c .before .before .before
-            .before .before .before .before .before .before .before .before .before .before .before .before .before .before .pre .held .rows,
+            .before .before .before .before .before .before .before .before .before .before .before .before .before .before .pre .held
+            .rows,
         c
             .before .before .before .before .before .before .before .before .before .before .before .before .before .before .before .before
             .before .pre .held .few,

@@ -97,7 +97,8 @@ returns-5 c =
       arith,
       c .before .before .before .before .before .before .before .before .if1 .left,
     )) (is-root (c .before .before .before .before .before))
-    (marked-by (c .before .before .before .before) ∙ c .before .before .before .if3 .left) (c .before .before .number-at2 .ensures .0) (c .before .if4 .left) (c .if5 .taken))
+    (marked-by (c .before .before .before .before) ∙ c .before .before .before .if3 .left) (c .before .before .number-at2 .ensures .0) (c
+    .before .if4 .left) (c .if5 .taken))
 
 mul-kind : tie.Need-mul-kind
 mul-kind c = search needs
@@ -119,13 +120,15 @@ returns-6 : tie.Need-returns-6
 returns-6 c =
     ap (λ (j : ℕ). not (eqb j 2)) (c .kind .ensures) ∙ sym (cut-element
     (c .before .before .before .before .before .before .before .before .before .before .before .before .before .before .before .pre)
-    (c .before .before .before .before .before .before .before .before .before .before .before .before .before .before .before .args .marks .now)
+    (c .before .before .before .before .before .before .before .before .before .before .before .before .before .before .before .args
+    .marks .now)
     (c .before .before .before .before .before .before .before .before .before .before .before .number-at .ensures .0) (omega (
       arith,
       c .before .before .before .before .before .before .before .before .before .before .if1 .left,
     )) (is-root
     (c .before .before .before .before .before .before .before)) (marked-by (c .before .before .before .before .before .before) ∙
-    c .before .before .before .before .before .if3 .left) (c .before .before .before .before .number-at2 .ensures .0) (c .before .before .before .if4 .left) (omega (
+    c .before .before .before .before .before .if3 .left) (c .before .before .before .before .number-at2 .ensures .0) (c .before .before
+    .before .if4 .left) (omega (
       arith,
       c .before .before .if5 .left,
     )))

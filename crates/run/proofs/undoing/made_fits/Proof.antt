@@ -47,7 +47,8 @@ is-marked-requires c κs = search needs
 returns-2 : tie.Need-returns-2
 returns-2 c =
     sym (made-marked (c .before .before .before .before .before .before .before .pre)
-    (c .before .before .before .before .before .before .before .args .marks .now) (c .before .before .before .number-at .ensures .0) (is-last (c .before .before)) (marked-by (c .before) ∙ c .if2 .taken))
+    (c .before .before .before .before .before .before .before .args .marks .now) (c .before .before .before .number-at .ensures .0)
+    (is-last (c .before .before)) (marked-by (c .before) ∙ c .if2 .taken))
 
 mul-w : tie.Need-mul-w
 mul-w c = search needs
@@ -83,7 +84,8 @@ returns-4 : tie.Need-returns-4
 returns-4 c =
     sym (made-tag
     (c .before .before .before .before .before .before .before .before .before .before .before .before .before .before .before .pre)
-    (c .before .before .before .before .before .before .before .before .before .before .before .before .before .before .before .args .marks .now)
+    (c .before .before .before .before .before .before .before .before .before .before .before .before .before .before .before .args
+    .marks .now)
     (c .before .before .before .before .before .before .before .before .before .before .before .number-at .ensures .0) (is-last
     (c .before .before .before .before .before .before .before .before .before .before)) (marked-by
     (c .before .before .before .before .before .before .before .before .before) ∙
@@ -99,7 +101,8 @@ number-at-requires-2 : tie.Need-number-at-requires-2
 number-at-requires-2 c κs =
     omega (
       arith,
-      c .before .before .before .before .before .before .before .before .before .before .before .before .before .before .before .before .pre .whole,
+      c .before .before .before .before .before .before .before .before .before .before .before .before .before .before .before .before
+          .pre .whole,
     )
 
 same-parent-requires : tie.Need-same-parent-requires
@@ -109,12 +112,16 @@ returns-5 : tie.Need-returns-5
 returns-5 c =
     c .same-parent .ensures ∙ ap (λ (j : ℕ). sameParent (linked j) (parentIn (c .before .number-at2 .result)))
     (c .before .before .link .ensures) ∙ ap (λ (j : ℕ). sameParent (linked (getD
-    (c .before .before .before .before .before .before .before .before .before .before .before .before .before .before .before .before .before .before .args .rows .now)
+    (c .before .before .before .before .before .before .before .before .before .before .before .before .before .before .before .before
+    .before .before .args .rows .now)
     (c .before .before .before .before .before .before .before .before .before .before .before .before .before .before .number-at .result)
     0 / 4 % 1024)) (parentIn j)) (c .before .number-at2 .ensures .0) ∙ sym (made-parent
-    (c .before .before .before .before .before .before .before .before .before .before .before .before .before .before .before .before .before .before .pre)
-    (c .before .before .before .before .before .before .before .before .before .before .before .before .before .before .before .before .before .before .args .marks .now)
-    (c .before .before .before .before .before .before .before .before .before .before .before .before .before .before .number-at .ensures .0)
+    (c .before .before .before .before .before .before .before .before .before .before .before .before .before .before .before .before
+    .before .before .pre)
+    (c .before .before .before .before .before .before .before .before .before .before .before .before .before .before .before .before
+    .before .before .args .marks .now)
+    (c .before .before .before .before .before .before .before .before .before .before .before .before .before .before .number-at
+    .ensures .0)
     (is-last (c .before .before .before .before .before .before .before .before .before .before .before .before .before)) (marked-by
     (c .before .before .before .before .before .before .before .before .before .before .before .before) ∙
     c .before .before .before .before .before .before .before .before .before .before .before .if2 .left) (sym

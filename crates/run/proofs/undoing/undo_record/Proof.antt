@@ -48,7 +48,8 @@ number-at-requires c κs =
     omega (
       arith,
       cut-pre (c .before .before .before .before .before .before .before .before .pre)
-          (c .before .before .before .before .before .before .before .before .args .marks .now) (c .before .before .before .if1 .taken) .whole,
+          (c .before .before .before .before .before .before .before .before .args .marks .now) (c .before .before .before .if1 .taken)
+          .whole,
     )
 
 number-at-requires-2 : tie.Need-number-at-requires-2
@@ -150,7 +151,8 @@ slice-write-rows-2 c =
     omega (
       arith,
       made-some (c .before .before .before .before .before .before .before .before .pre)
-          (c .before .before .before .before .before .before .before .before .args .marks .now) (c .before .before .before .if1 .left) (made-fit
+          (c .before .before .before .before .before .before .before .before .args .marks .now) (c .before .before .before .if1 .left)
+          (made-fit
           (c)),
       c .before .before .before .before .before .before .before .before .pre .rows,
       c .before .before .before .before .before .before .before .before .pre .few,
