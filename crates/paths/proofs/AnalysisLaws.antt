@@ -76,10 +76,16 @@ module _ {ws : List ℕ} {n : ℕ} {us : List ℕ} {m : ℕ} {t : List ℕ} (pre
     where
       parts : TablePre (take n ws) (take m us) t
       parts = record {
-        first = record { few = omega (arith, length-take-le n ws (omega (arith, pre .first, pre .firstFew)), pre .firstFew); lower =
-            pre .firstLower };
-        second = record { few = omega (arith, length-take-le m us (omega (arith, pre .second, pre .secondFew)), pre .secondFew); lower =
-            pre .secondLower };
+        first = record {
+          few = omega (arith, length-take-le n ws (omega (arith, pre .first, pre .firstFew)), pre .firstFew);
+          lower =
+              pre .firstLower;
+        };
+        second = record {
+          few = omega (arith, length-take-le m us (omega (arith, pre .second, pre .secondFew)), pre .secondFew);
+          lower =
+              pre .secondLower;
+        };
         size = pre .table;
       }
 
@@ -89,7 +95,8 @@ module _ {ws : List ℕ} {n : ℕ} {us : List ℕ} {m : ℕ} {t : List ℕ} (pre
 
     pub answer-first : x ≡ true → AnswerPost ws n us m Upward
     answer-first h =
-        record { is = λ e f g i. upward-is e f (ap (λ (y : Bool). y || hasUp f) (sym (climbing-is (take n ws) e g) ∙ sym first-climbs ∙ h))
+        record {
+          is = λ e f g i. upward-is e f (ap (λ (y : Bool). y || hasUp f) (sym (climbing-is (take n ws) e g) ∙ sym first-climbs ∙ h));
         }
 
     module _ (not : x ≡ false) {y : Bool} (climbs₂ : y ≡ climbing (part us m)) where

@@ -143,8 +143,10 @@ module _ (ws us t : List ℕ) (k l : ℕ) (pre : MeetPre ws us t k l) where
     pair-filled c t′ post e tested met r f g h =
         record {
           size = post .size ∙ pre .size;
-          filled = record { rows = rows; row = λ j b. by-cases (eqb j l) (λ s. here j (eqb-true j l s)) (λ s. before j b (eqb-false j l s))
-              };
+          filled = record {
+            rows = rows;
+            row = λ j b. by-cases (eqb j l) (λ s. here j (eqb-true j l s)) (λ s. before j b (eqb-false j l s));
+          };
           met =
               h ∙ ap (λ (x : Bool). x && met) (f ∙ ap (λ (x : positions.Entry). isTested x (entryBy q)) entry-one ∙
               ap (isTested (positions.entryAt (entriesBy ws) k)) entry-two) ∙

@@ -46,7 +46,7 @@ digit-32 l x g h = omega arith
 
 module _ (c : meeting.Cell) (a b d e f g r : ℕ)
     (on : a ≡ bitOf (c .onElement)) (onLeaf : b ≡ bitOf (c .onLeaf)) (down : d ≡ bitOf (c .downElement))
-        (downLeaf : e ≡ bitOf (c .downLeaf))
+    (downLeaf : e ≡ bitOf (c .downLeaf))
     (up : f ≡ bitOf (c .upElement)) (upLeaf : g ≡ bitOf (c .upLeaf)) (sum : r ≡ a + 2 * b + 4 * d + 8 * e + 16 * f + 32 * g)
     (la : a < 2) (lb : b < 2) (ld : d < 2) (le : e < 2) (lf : f < 2) (lg : g < 2) where
   at : (h : ℕ → ℕ) (w x : ℕ) → r ≡ w → h w ≡ x → h r ≡ x

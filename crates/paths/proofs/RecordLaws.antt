@@ -28,8 +28,16 @@ use Rattle.paths.proofs.GrowLaws.{pushed-is}
 pub root-fits : (p : Position) (d : ℕ) → p ≡ rootBy d → d < 256 → PositionFits p
 root-fits p d e h =
     subst PositionFits (sym e)
-    (record { kind = omega arith; mark = omega arith; axis = omega arith; test = omega arith; name = h; first = omega arith; second =
-    omega arith })
+    (record {
+      kind = omega arith;
+      mark = omega arith;
+      axis = omega arith;
+      test = omega arith;
+      name = h;
+      first = omega arith;
+      second =
+          omega arith;
+    })
 
 module _ (b : List ℕ) (at next : ℕ) (env ws : List ℕ) (n : ℕ) (pre : NullaryPre b at env ws n) where
   pub nullary-document : getD b at 0 ≡ 2 → (p : Position) (d : ℕ) (ws′ : List ℕ) → p ≡ rootBy d → d ≡ getD b (at + 1) 0 →

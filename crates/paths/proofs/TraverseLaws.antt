@@ -209,8 +209,12 @@ owned o (document z d) rs k = record { result = also (inl refl) nothing; accesse
 owned o (var z v) rs k = record { result = own-at k v; accessed = nothing; modified = nothing }
 owned o (step z s e) rs k =
     let h = owned o e rs k in
-    record { result = own-step s (h .result); accessed = all-append (h .accessed) (own-step s (h .result)); modified = all-append
-    (h .modified) nothing }
+    record {
+      result = own-step s (h .result);
+      accessed = all-append (h .accessed) (own-step s (h .result));
+      modified = all-append
+          (h .modified) nothing;
+    }
 owned o (both z e e′) rs k =
     let h = owned o e rs k in
     let i = owned o e′ rs k in

@@ -1,3 +1,4 @@
+-- `analyse` answers what the model does: one law of AnalysisLaws for each way out.
 use mathlib.Core.Path.{_≡_, refl, ap, sym, _∙_}
 use Rattle.table.specs.declared.Fault.{Fault}
 use Rattle.script.specs.Walk.{exprAt}

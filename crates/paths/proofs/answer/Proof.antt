@@ -1,3 +1,4 @@
+-- `answer` from two lists of positions: one law of AnalysisLaws for each way out.
 use Rattle.paths.proofs.AnalysisLaws.{table-asks, answer-first, answer-second, answer-meet, answer-free}
 use borrow.Author.Needs.{needs}
 use Rattle.paths.proofs.answer.Statement.{statement}

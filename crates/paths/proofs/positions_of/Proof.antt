@@ -1,3 +1,4 @@
+-- `positions_of` gives the positions of the expression that the script is.
 use mathlib.Core.Path.{refl}
 use Rattle.paths.proofs.AnalysisLaws.{positions-asks, positions-done}
 use borrow.Author.Needs.{needs}

@@ -1,3 +1,4 @@
+-- The cycle of calls {emit}: the measure is how deep the expression may be; each answer cites one law of WalkLaws.
 use mathlib.Core.Path.{ap, sym, _∙_}
 use native.Mathlib.Omega.{arith}
 use lib.ListN.{getD}
@@ -73,8 +74,11 @@ emit-add-first-at t c =
 emit-add-first-at-2 : (t : ℕ) → emit-lts.Need-add-first-at-2 (emit-claims t) (emit-at t) emit.Post
 emit-add-first-at-2 t c =
     let c5 = c .before .before .before .before .before in
-    omega (arith, accepted-record (c5 .args .bytes .now) (c5 .args .at) (c5 .args .left) (c5 .args .bound) (c5 .pre .1 .accepted) .whole,
-    c .body-size .ensures .0)
+    omega (
+      arith,
+      accepted-record (c5 .args .bytes .now) (c5 .args .at) (c5 .args .left) (c5 .args .bound) (c5 .pre .1 .accepted) .whole,
+      c .body-size .ensures .0,
+    )
 
 emit-nullary-requires : (t : ℕ) → emit-lts.Need-nullary-requires (emit-claims t) (emit-at t) emit.Post
 emit-nullary-requires t c κs =
@@ -104,9 +108,15 @@ emit-emit-requires t c κs =
     let c3 = c .before .before .before in
     let c7 = c3 .before .before .before .before in
     let m : 0 < arity (getD (c7 .args .bytes .now) (c7 .args .at) 0) = omega (arith, c3 .arity .ensures .0, c .before .if1 .left) in
-    let e = (ap (λ (s : ℕ). c7 .args .at + (1 + s)) (c .before .before .body-size .ensures .0)) in
-    (omega (arith, c7 .pre .0, accepted-record (c7 .args .bytes .now) (c7 .args .at) (c7 .args .left) (c7 .args .bound)
-    (c7 .pre .1 .accepted) .depth), first-asks (c7 .pre .1) m e)
+    let e = (ap (λ (s : ℕ). c7 .args .at + (1 + s)) (c .before .before .body-size .ensures .0)) in (
+      omega (
+        arith,
+        c7 .pre .0,
+        accepted-record (c7 .args .bytes .now) (c7 .args .at) (c7 .args .left) (c7 .args .bound)
+            (c7 .pre .1 .accepted) .depth,
+      ),
+      first-asks (c7 .pre .1) m e,
+    )
 
 emit-unary-requires : (t : ℕ) → emit-lts.Need-unary-requires (emit-claims t) (emit-at t) emit.Post
 emit-unary-requires t c κs =
@@ -166,10 +176,16 @@ emit-emit-requires-2 t c κs =
     let m : 0 < arity (getD (c14 .args .bytes .now) (c14 .args .at) 0) = omega (arith, c10 .arity .ensures .0, c8 .if1 .left) in
     let e = (ap (λ (s : ℕ). c14 .args .at + (1 + s)) (c9 .body-size .ensures .0)) in
     let h : 1 < arity (getD (c14 .args .bytes .now) (c14 .args .at) 0) =
-    omega (arith, c10 .arity .ensures .0, c8 .if1 .left, c3 .if2 .left) in
-    (omega (arith, c14 .pre .0, accepted-record (c14 .args .bytes .now) (c14 .args .at) (c14 .args .left) (c14 .args .bound)
-    (c14 .pre .1 .accepted) .depth), second-asks (c14 .pre .1) m e (c6 .emit .ensures) (c .before .before .bind .ensures)
-    (c .before .inner .ensures) h)
+    omega (arith, c10 .arity .ensures .0, c8 .if1 .left, c3 .if2 .left) in (
+      omega (
+        arith,
+        c14 .pre .0,
+        accepted-record (c14 .args .bytes .now) (c14 .args .at) (c14 .args .left) (c14 .args .bound)
+            (c14 .pre .1 .accepted) .depth,
+      ),
+      second-asks (c14 .pre .1) m e (c6 .emit .ensures) (c .before .before .bind .ensures)
+          (c .before .inner .ensures) h,
+    )
 
 emit-binary-requires : (t : ℕ) → emit-lts.Need-binary-requires (emit-claims t) (emit-at t) emit.Post
 emit-binary-requires t c κs =
@@ -234,10 +250,16 @@ emit-emit-requires-3 t c κs =
     let h : 1 < arity (getD (c19 .args .bytes .now) (c19 .args .at) 0) =
     omega (arith, c15 .arity .ensures .0, c13 .if1 .left, c8 .if2 .left) in
     let g : 2 < arity (getD (c19 .args .bytes .now) (c19 .args .at) 0) =
-    omega (arith, c15 .arity .ensures .0, c13 .if1 .left, c8 .if2 .left, c .before .if3 .left) in
-    (omega (arith, c19 .pre .0, accepted-record (c19 .args .bytes .now) (c19 .args .at) (c19 .args .left) (c19 .args .bound)
-    (c19 .pre .1 .accepted) .depth), third-asks (c19 .pre .1) m e (c11 .emit .ensures) (c7 .bind .ensures) (c6 .inner .ensures) h
-    (c4 .emit2 .ensures) g)
+    omega (arith, c15 .arity .ensures .0, c13 .if1 .left, c8 .if2 .left, c .before .if3 .left) in (
+      omega (
+        arith,
+        c19 .pre .0,
+        accepted-record (c19 .args .bytes .now) (c19 .args .at) (c19 .args .left) (c19 .args .bound)
+            (c19 .pre .1 .accepted) .depth,
+      ),
+      third-asks (c19 .pre .1) m e (c11 .emit .ensures) (c7 .bind .ensures) (c6 .inner .ensures) h
+          (c4 .emit2 .ensures) g,
+    )
 
 emit-union-requires : (t : ℕ) → emit-lts.Need-union-requires (emit-claims t) (emit-at t) emit.Post
 emit-union-requires t c κs =

@@ -1,3 +1,4 @@
+-- `emit::binary` by its kind: one law of RecordLaws for each way out.
 use Rattle.paths.specs.Emitting.{outOf}
 use Rattle.paths.proofs.RecordLaws.{binary-join, binary-insert, binary-none, grown-none}
 use borrow.Author.Needs.{needs}

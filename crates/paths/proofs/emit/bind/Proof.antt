@@ -1,3 +1,4 @@
+-- `emit::bind` gives the variables of a second operand.
 use mathlib.Core.Path.{sym, _∙_}
 use native.Mathlib.Omega.{arith}
 use Rattle.paths.proofs.RecordLaws.{bind-one, bind-none}

@@ -1,3 +1,4 @@
+-- `emit::delete` pushes the entries of a delete.
 use native.Mathlib.Omega.{arith}
 use Rattle.paths.proofs.GrowLaws.{below-fits, union-fits, delete-grown}
 use borrow.Author.Needs.{needs}

@@ -1,3 +1,4 @@
+-- `emit::insert` pushes the entries of an insert.
 use native.Mathlib.Omega.{arith}
 use Rattle.paths.proofs.GrowLaws.{below-fits, insert-grown}
 use borrow.Author.Needs.{needs}

@@ -1,3 +1,4 @@
+-- `emit::step` pushes the entry of a step.
 use native.Mathlib.Omega.{arith}
 use Rattle.paths.proofs.GrowLaws.{over-fits, step-grown}
 use borrow.Author.Needs.{needs}

@@ -1,3 +1,4 @@
+-- `emit::union` pushes the entry of two results.
 use native.Mathlib.Omega.{arith}
 use Rattle.paths.proofs.GrowLaws.{union-fits, union-grown}
 use borrow.Author.Needs.{needs}

@@ -1,3 +1,4 @@
+-- `meet::cell` by the first position's kind: one law of FillLaws for each way out.
 use Rattle.paths.specs.Codes.{cellOf}
 use Rattle.paths.specs.Pairs.{cellIn}
 use Rattle.paths.proofs.FillLaws.{by-nowhere, by-root, by-over, by-union}

@@ -1,3 +1,4 @@
+-- `meet::over_cell` by the second position's kind: one law of FillLaws for each way out.
 use Rattle.model.specs.Script.{stepBy}
 use Rattle.paths.specs.Codes.{stepOf, cellOf}
 use Rattle.paths.specs.Pairs.{cellIn}

@@ -1,3 +1,4 @@
+-- `meet::pair` fills in one cell.
 use native.Mathlib.Omega.{arith}
 use mathlib.Core.Path.{refl}
 use lib.ListN.{getD}

@@ -1,3 +1,4 @@
+-- `meet::positions_meet` fills in the table. The invariant: the rows below k are filled, and one of them meets or none.
 use mathlib.Core.Path.{_≡_, refl, ap, sym, _∙_}
 use mathlib.Core.Bool.{Bool}
 use mathlib.Core.List.{List}
@@ -27,9 +28,13 @@ meetsRow ws us i = rowMeets (entriesBy ws) (entriesBy us) i (length (entriesBy u
 
 loop-holds : tie.Need-loop-holds Inv-loop μ-loop
 loop-holds c =
-    let c3 = c .before .before .before in
-    (omega arith, c3 .pre .size, none-filled (c3 .args .first .now) (c3 .args .second .now) (c3 .args .table .now), any-none
-    (meetsRow (c3 .args .first .now) (c3 .args .second .now)))
+    let c3 = c .before .before .before in (
+      omega arith,
+      c3 .pre .size,
+      none-filled (c3 .args .first .now) (c3 .args .second .now) (c3 .args .table .now),
+      any-none
+          (meetsRow (c3 .args .first .now) (c3 .args .second .now)),
+    )
 
 row-requires : tie.Need-row-requires Inv-loop μ-loop
 row-requires c κs =
@@ -53,14 +58,13 @@ loop-again : tie.Need-loop-again Inv-loop μ-loop
 loop-again c =
     let c2 = c .before .before in
     let c5 = c2 .before .before .before in
-    let c9 = c5 .before .before .before .before in
-    (
+    let c9 = c5 .before .before .before .before in (
       omega arith,
       c2 .row .ensures .size,
       c2 .row .ensures .filled,
       any-next (meetsRow (c9 .args .first .now) (c9 .args .second .now)) (c5 .loop .k) (c5 .loop .met) (c2 .row .result) _
-      (c5 .loop .inv .3) (c2 .row .ensures .met) refl,
-)
+          (c5 .loop .inv .3) (c2 .row .ensures .met) refl,
+    )
 
 same-length : tie.Need-same-length Inv-loop μ-loop
 same-length c = search needs

@@ -1,3 +1,4 @@
+-- `meet::root_cell` by the second position's kind: one law of FillLaws for each way out.
 use Rattle.paths.specs.Codes.{stepOf, cellOf}
 use Rattle.paths.specs.Pairs.{cellIn}
 use Rattle.paths.proofs.FillLaws.{root-nowhere, root-root, root-over, root-union}

@@ -1,3 +1,4 @@
+-- `meet::row` fills in a row. The invariant: the row is filled up to l, and one of the pairs so far meets or none.
 use mathlib.Core.Path.{_≡_, refl}
 use Prim.Native.Nat.{_*_, _-_, _≤_}
 use native.Mathlib.Omega.{arith}
@@ -20,9 +21,13 @@ abbrev μ-loop : tie.MeasureT-loop
 
 loop-holds : tie.Need-loop-holds Inv-loop μ-loop
 loop-holds c =
-    let c3 = c .before .before .before in
-    (omega arith, c3 .pre .size, c3 .pre .filled, any-none
-    (meetAt (entriesBy (c3 .args .first .now)) (entriesBy (c3 .args .second .now)) (c3 .args .k)))
+    let c3 = c .before .before .before in (
+      omega arith,
+      c3 .pre .size,
+      c3 .pre .filled,
+      any-none
+          (meetAt (entriesBy (c3 .args .first .now)) (entriesBy (c3 .args .second .now)) (c3 .args .k)),
+    )
 
 pair-requires : tie.Need-pair-requires Inv-loop μ-loop
 pair-requires c κs =
@@ -47,15 +52,14 @@ loop-again : tie.Need-loop-again Inv-loop μ-loop
 loop-again c =
     let c2 = c .before .before in
     let c5 = c2 .before .before .before in
-    let c9 = c5 .before .before .before .before in
-    (
+    let c9 = c5 .before .before .before .before in (
       omega arith,
       c2 .pair .ensures .size,
       c2 .pair .ensures .filled,
       any-next (meetAt (entriesBy (c9 .args .first .now)) (entriesBy (c9 .args .second .now)) (c9 .args .k)) (c5 .loop .l) (c5 .loop .met)
-      (c2 .pair .result) _
-      (c5 .loop .inv .3) (c2 .pair .ensures .met) refl,
-)
+          (c2 .pair .result) _
+          (c5 .loop .inv .3) (c2 .pair .ensures .met) refl,
+    )
 
 same-length : tie.Need-same-length Inv-loop μ-loop
 same-length c = search needs

@@ -1,3 +1,4 @@
+-- `pairs::packed` puts each test of a cell into its bit.
 use mathlib.Core.Path.{refl}
 use Rattle.paths.specs.Codes.{cellOf}
 use Rattle.paths.proofs.PairLaws.{bits-packed}

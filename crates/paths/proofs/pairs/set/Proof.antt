@@ -1,3 +1,4 @@
+-- `pairs::set` writes one cell and no other.
 use Rattle.paths.proofs.PairLaws.{cell-set}
 use borrow.Author.Needs.{needs}
 use Rattle.paths.proofs.pairs.set.Statement.{statement}

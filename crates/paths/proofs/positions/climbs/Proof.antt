@@ -1,3 +1,4 @@
+-- `positions::climbs`. The invariant: one of the positions below i leads up or none.
 use mathlib.Core.Path.{_≡_, refl, ap, _∙_}
 use Prim.Native.Nat.{_-_, _≤_}
 use native.Mathlib.Omega.{arith}
@@ -40,13 +41,12 @@ loop-less c = search needs
 loop-again : tie.Need-loop-again Inv-loop μ-loop
 loop-again c =
     let c4 = c .before .before .before .before in
-    let c6 = c4 .before .before in
-    (
+    let c6 = c4 .before .before in (
       omega arith,
       any-next (climbAt (c6 .args .words .now)) (c4 .loop .i) (c4 .loop .found) (c .is-climb .result) _ (c4 .loop .inv .1)
-      (climb-at (c6 .args .words .now) (c4 .loop .i) (c .before .unpacked .result) (c .is-climb .result) (c .before .unpacked .ensures)
-      (c .is-climb .ensures)) refl,
-)
+          (climb-at (c6 .args .words .now) (c4 .loop .i) (c .before .unpacked .result) (c .is-climb .result) (c .before .unpacked .ensures)
+          (c .is-climb .ensures)) refl,
+    )
 
 returns : tie.Need-returns Inv-loop μ-loop
 returns c =

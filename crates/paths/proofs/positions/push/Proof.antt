@@ -1,3 +1,4 @@
+-- `positions::push` is one entry more.
 use mathlib.Core.Path.{subst, sym}
 use Prim.Native.Nat.{ℕ}
 use lib.ListN.{set}
