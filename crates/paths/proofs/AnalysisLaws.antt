@@ -78,8 +78,8 @@ module _ {ws : List ℕ} {n : ℕ} {us : List ℕ} {m : ℕ} {t : List ℕ} (pre
       parts = record {
         first = record {
           few = omega (arith, length-take-le n ws (omega (arith, pre .first, pre .firstFew)), pre .firstFew);
-          lower = pre
-              .firstLower;
+          lower =
+              pre .firstLower;
         };
         second = record {
           few = omega (arith, length-take-le m us (omega (arith, pre .second, pre .secondFew)), pre .secondFew);
@@ -96,29 +96,30 @@ module _ {ws : List ℕ} {n : ℕ} {us : List ℕ} {m : ℕ} {t : List ℕ} (pre
     pub answer-first : x ≡ true → AnswerPost ws n us m Upward
     answer-first h =
         record {
-          is = λ e f g i. upward-is e f (ap (λ (y : Bool). y || hasUp f) (sym (climbing-is (take n ws) e g) ∙ sym first-climbs ∙
-              h));
+          is = λ e f g i. upward-is e f (ap (λ (y : Bool). y || hasUp f) (sym (climbing-is (take n ws) e g) ∙ sym first-climbs ∙ h));
         }
 
     module _ (not : x ≡ false) {y : Bool} (climbs₂ : y ≡ climbing (part us m)) where
       ups : (e f : Expr) → entriesIn ws n ≡ entriesOf e → entriesIn us m ≡ entriesOf f → (hasUp e || hasUp f) ≡ y
       ups e f g i =
-          ap (λ (z : Bool). z || hasUp f) (sym (climbing-is (take n ws) e g) ∙ sym first-climbs ∙ not) ∙ sym (climbing-is (take m us) f
-          i) ∙ sym (climbs₂ ∙ ap climbing (part-is us m))
+          ap (λ (z : Bool). z || hasUp f) (sym (climbing-is (take n ws) e g) ∙ sym first-climbs ∙ not) ∙
+          sym (climbing-is (take m us) f i) ∙ sym (climbs₂ ∙ ap climbing (part-is us m))
 
       pub answer-second : y ≡ true → AnswerPost ws n us m Upward
       answer-second h = record { is = λ e f g i. upward-is e f (ups e f g i ∙ h) }
 
       module _ (neither : y ≡ false) {z : Bool} (meets : z ≡ positionsMeet (entriesBy (part ws n)) (entriesBy (part us m))) where
-        answered : (e f : Expr) → entriesIn ws n ≡ entriesOf e → entriesIn us m ≡ entriesOf f → byAnswer (pick z meet free) ≡ byAnswer
-            (answer e f)
+        answered : (e f : Expr) → entriesIn ws n ≡ entriesOf e → entriesIn us m ≡ entriesOf f →
+            byAnswer (pick z meet free) ≡ byAnswer (answer e f)
         answered e f g i =
-            sym (ap byAnswer (sym (answer-by e f) ∙ ap (λ (q : Bool). pick q upward (pick (positionsMeet (entriesOf e) (entriesOf f))
-            meet free)) (ups e f g i ∙ neither) ∙
-            ap (λ (q : Bool). pick q meet free) (sym (meets ∙ ap (λ (v : List ℕ). positionsMeet (entriesBy v) (entriesBy (part us m)))
-            (part-is ws n) ∙
-            ap (λ (v : List ℕ). positionsMeet (entriesIn ws n) (entriesBy v)) (part-is us m) ∙ ap (λ (es : List Entry). positionsMeet es
-            (entriesIn us m)) g ∙ ap (positionsMeet (entriesOf e)) i))))
+            sym
+            (ap byAnswer
+            (sym (answer-by e f) ∙ ap (λ (q : Bool). pick q upward (pick (positionsMeet (entriesOf e) (entriesOf f)) meet free))
+            (ups e f g i ∙ neither) ∙
+            ap (λ (q : Bool). pick q meet free)
+            (sym (meets ∙ ap (λ (v : List ℕ). positionsMeet (entriesBy v) (entriesBy (part us m))) (part-is ws n) ∙
+            ap (λ (v : List ℕ). positionsMeet (entriesIn ws n) (entriesBy v)) (part-is us m) ∙
+            ap (λ (es : List Entry). positionsMeet es (entriesIn us m)) g ∙ ap (positionsMeet (entriesOf e)) i))))
 
         pub answer-meet : z ≡ true → AnswerPost ws n us m Meet
         answer-meet h = record { is = λ e f g i. sym (ap (λ (q : Bool). byAnswer (pick q meet free)) h) ∙ answered e f g i }
@@ -130,16 +131,16 @@ module _ {ws : List ℕ} {n : ℕ} {us : List ℕ} {m : ℕ} {t : List ℕ} (pre
 module _ (b c : List ℕ) where
   pub first-refused : (x : Fault) → x ≡ scriptRead b → (x .number ≡ 0 → ⊥) → Refused 1 x ≡ analysed b c
   first-refused x e h =
-      ap (Refused 1) e ∙ sym (ap (λ (p : Parsed). analysisBy p (readScript c)) (script-ill b (λ q. h (ap (λ (y : Fault). y .number) e ∙
-      q))))
+      ap (Refused 1) e ∙
+      sym (ap (λ (p : Parsed). analysisBy p (readScript c)) (script-ill b (λ q. h (ap (λ (y : Fault). y .number) e ∙ q))))
 
   module _ (accepted : scriptRead b .number ≡ 0) where
     pub second-refused : (x : Fault) → x ≡ scriptRead c → (x .number ≡ 0 → ⊥) → Refused 2 x ≡ analysed b c
     second-refused x e h =
         ap (Refused 2) e ∙
         sym (ap (λ (p : Parsed). analysisBy p (readScript c)) (script-parsed b accepted .1) ∙
-        ap (analysisBy (parsed (exprAt 16 b 0) (length b) (script-parsed b accepted .0) [])) (script-ill c (λ q. h (ap (λ (y : Fault). y
-        .number) e ∙ q))))
+        ap (analysisBy (parsed (exprAt 16 b 0) (length b) (script-parsed b accepted .0) []))
+        (script-ill c (λ q. h (ap (λ (y : Fault). y .number) e ∙ q))))
 
     pub both-accepted : scriptRead c .number ≡ 0 → {ws : List ℕ} {n : ℕ} {us : List ℕ} {m : ℕ} {r : Analysis} → ScriptPost b ws n →
         ScriptPost c us m →

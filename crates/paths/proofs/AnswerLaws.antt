@@ -21,7 +21,8 @@ use Rattle.paths.proofs.MirrorLaws.{anyMeet-mirror}
 use Rattle.paths.proofs.PositionLaws.{pathsOn-split}
 use Rattle.paths.proofs.DocumentLaws.{origin, documents, owners-apart}
 use Rattle.paths.proofs.EmitLaws.{markedFrom, marked, isAccessed, isModified, marked-push, Ready, Right, none, emits}
-use Rattle.paths.proofs.TraverseLaws.{any-append, any-same, any-traversed, Own, modified-own, accessed-own, any-documents, documents-are}
+use Rattle.paths.proofs.TraverseLaws.{any-append, any-same, any-traversed, Own, modified-own, accessed-own, any-documents}
+use Rattle.paths.proofs.TraverseLaws.{documents-are}
 
 -- UP TO a number
 pub anyUpTo-same : (f g : ℕ → Bool) (n : ℕ) → ((k : ℕ) → f k ≡ g k) → anyUpTo f n ≡ anyUpTo g n
@@ -44,8 +45,8 @@ anyUpTo-and a f (suc n) = and-or a (anyUpTo f n) (f n) ∙ ap (λ (t : Bool). t 
 -- MARKED POSITIONS: a test of lists of paths, that of a joined list being either's, at each marked position
 module _ (h : List Path → Bool) (none : h [] ≡ false) (append : (ps qs : List Path) → h (ps ++ qs) ≡ (h ps || h qs)) (f : Entry → Bool)
     (es : List Entry) where
-  marked-next : (k : ℕ) → k < length es → h (marked f (take (suc k) es)) ≡ (h (marked f (take k es)) || (f (entryAt es k) && h (pathsOn
-      es k)))
+  marked-next : (k : ℕ) → k < length es →
+      h (marked f (take (suc k) es)) ≡ (h (marked f (take k es)) || (f (entryAt es k) && h (pathsOn es k)))
   marked-next k l =
       ap (λ (v : List Entry). h (marked f v)) (take-suc es k (plain nowhere) l) ∙ ap h (marked-push f (take k es) (entryAt es k)) ∙
       append (marked f (take k es)) _ ∙
@@ -79,14 +80,14 @@ anyMeet-append ps qs qs′ =
 -- two marks: some position with one meets some position with the other
 module _ (es fs : List Entry) where
   marks-meet : (f g : Entry → Bool) → anyMeet (marked f es) (marked g fs) ≡
-      anyUpTo (λ (k : ℕ). anyUpTo (λ (l : ℕ). f (entryAt es k) && (g (entryAt fs l) && anyMeet (pathsOn es k) (pathsOn fs l))) (length
-      fs)) (length es)
+      anyUpTo (λ (k : ℕ). anyUpTo (λ (l : ℕ). f (entryAt es k) && (g (entryAt fs l) && anyMeet (pathsOn es k) (pathsOn fs l))) (length fs))
+      (length es)
   unfolding any
   marks-meet f g =
       marked-any (λ (ps : List Path). anyMeet ps (marked g fs)) refl (any-append (λ (p : Path). any (meets p) (marked g fs))) f es ∙
       anyUpTo-same _ _ (length es) (λ k.
-      ap (λ (t : Bool). f (entryAt es k) && t) (marked-any (anyMeet (pathsOn es k)) (anyMeet-none (pathsOn es k)) (anyMeet-append
-      (pathsOn es k)) g fs) ∙
+      ap (λ (t : Bool). f (entryAt es k) && t)
+      (marked-any (anyMeet (pathsOn es k)) (anyMeet-none (pathsOn es k)) (anyMeet-append (pathsOn es k)) g fs) ∙
       anyUpTo-and (f (entryAt es k)) (λ (l : ℕ). g (entryAt fs l) && anyMeet (pathsOn es k) (pathsOn fs l)) (length fs))
 
   tested : (a b c d t : Bool) → ((a && (b && t)) || (c && (d && t))) ≡ (((a && b) || (c && d)) && t)
@@ -109,8 +110,8 @@ module _ (es fs : List Entry) where
       anyUpTo-same _ _ (length es) (λ k.
       anyUpTo-or (one k) (two k) (length fs) ∙
       anyUpTo-same _ _ (length fs) (λ l.
-      tested (entryAt es k .modified) (entryAt fs l .accessed) (entryAt es k .accessed) (entryAt fs l .modified) (anyMeet (pathsOn es k)
-      (pathsOn fs l)) ∙
+      tested (entryAt es k .modified) (entryAt fs l .accessed) (entryAt es k .accessed) (entryAt fs l .modified)
+      (anyMeet (pathsOn es k) (pathsOn fs l)) ∙
       ap (λ (t : Bool). isTested (entryAt es k) (entryAt fs l) && t) (sym (isMet-between (pathsOn es k) (pathsOn fs l)))))
     where
       one : ℕ → ℕ → Bool
@@ -125,8 +126,8 @@ module _ (o o′ : ℕ) (first : o ≡ 0 → ⊥) (second : o′ ≡ 0 → ⊥) 
   own-apart p (inl e) q f = owners-apart p q (ne-eqb (origin p .owner) (origin q .owner) (λ g. second (sym f ∙ sym g ∙ e)))
   own-apart p (inr e) q f = owners-apart p q (ne-eqb (origin p .owner) (origin q .owner) (λ g. other (sym e ∙ g ∙ f)))
 
-  traversed-met : (p : Path) → Own o p → (f : Expr) → any (meets p) (traversed (pathsOf o′ f)) ≡ any (meets p) (documents (pathsOf o′ f
-      .accessed))
+  traversed-met : (p : Path) → Own o p →
+      (f : Expr) → any (meets p) (traversed (pathsOf o′ f)) ≡ any (meets p) (documents (pathsOf o′ f .accessed))
   unfolding origin
   traversed-met p h f =
       any-traversed (meets p) o′ (λ z. own-apart p h (start (place o′ z)) refl) f ∙
@@ -144,8 +145,8 @@ module _ (o o′ : ℕ) (first : o ≡ 0 → ⊥) (second : o′ ≡ 0 → ⊥) 
   scripts-meet e f =
       any-same (λ (p : Path). any (meets p) (traversed (pathsOf o′ f))) (λ (p : Path). any (meets p) (documents (pathsOf o′ f .accessed)))
       (pathsOf o e .modified) (all-imp (λ p h. traversed-met p h f) (modified-own o e)) ∙
-      any-documents (λ (p : Path). any (meets p) (documents (pathsOf o′ f .accessed))) o (λ p h. any-false p h (documents-are (pathsOf o′
-      f .accessed)))
+      any-documents (λ (p : Path). any (meets p) (documents (pathsOf o′ f .accessed))) o
+      (λ p h. any-false p h (documents-are (pathsOf o′ f .accessed)))
       (pathsOf o e .modified) (modified-own o e)
 
 -- THE POSITIONS of a script
@@ -183,8 +184,8 @@ paths-meet e f =
     two : _≡_ {A = ℕ} 2 0 → ⊥
     two q = omega arith
 
-    both : (o o′ : ℕ) → (o ≡ 0 → ⊥) → (o′ ≡ 0 → ⊥) → (e f : Expr) → anyMeet (documents (pathsOf o e .modified)) (documents (pathsOf o′ f
-        .accessed)) ≡
+    both : (o o′ : ℕ) → (o ≡ 0 → ⊥) → (o′ ≡ 0 → ⊥) →
+        (e f : Expr) → anyMeet (documents (pathsOf o e .modified)) (documents (pathsOf o′ f .accessed)) ≡
         anyMeet (marked isModified (entriesOf e)) (marked isAccessed (entriesOf f))
     both o o′ g h e f =
         ap (λ (v : List Path). anyMeet v (documents (pathsOf o′ f .accessed))) (sym (modified-are o g e)) ∙

@@ -110,8 +110,8 @@ admit-none e t = ap (λ (x : Bool). e && x) (past-none t) ∙ and-false e
 pub down-respects : (s : Step) → Respects (downStep s)
 down-respects s =
     record {
-      none = cell-equal (downStep s noCell) noCell refl refl (admit-none (admitsElement s) (isDeep s)) (admit-none (admitsLeaf s) (isDeep
-          s)) refl refl;
+      none = cell-equal (downStep s noCell) noCell refl refl (admit-none (admitsElement s) (isDeep s))
+          (admit-none (admitsLeaf s) (isDeep s)) refl refl;
       join = λ c d. cell-equal (downStep s (joinCell c d)) (joinCell (downStep s c) (downStep s d)) refl refl
           (admit-join (admitsElement s) (isDeep s) (c .downElement) (d .downElement) (c .upElement) (d .upElement))
           (admit-join (admitsLeaf s) (isDeep s) (c .downElement) (d .downElement) (c .upElement) (d .upElement)) refl refl;
@@ -120,8 +120,8 @@ down-respects s =
 pub up-respects : (t : Step) → Respects (upStep t)
 up-respects t =
     record {
-      none = cell-equal (upStep t noCell) noCell refl refl refl refl (admit-none (admitsElement t) (isDeep t)) (admit-none (admitsLeaf t)
-          (isDeep t));
+      none = cell-equal (upStep t noCell) noCell refl refl refl refl (admit-none (admitsElement t) (isDeep t))
+          (admit-none (admitsLeaf t) (isDeep t));
       join = λ c d. cell-equal (upStep t (joinCell c d)) (joinCell (upStep t c) (upStep t d)) refl refl refl refl
           (admit-join (admitsElement t) (isDeep t) (c .upElement) (d .upElement) (c .downElement) (d .downElement))
           (admit-join (admitsLeaf t) (isDeep t) (c .upElement) (d .upElement) (c .downElement) (d .downElement));
@@ -131,8 +131,8 @@ parent-join : (s t : Step) (c d : Cell) → isParent s t (joinCell c d) ≡ (isP
 parent-join s t c d =
     ap (λ (x : Bool). x || (isDeep s && (c .upElement || d .upElement)))
     (past-join (isDeep t) (c .onElement) (d .onElement) (c .downElement) (d .downElement)) ∙
-    past-join (isDeep s) (past (isDeep t) (c .onElement) (c .downElement)) (past (isDeep t) (d .onElement) (d .downElement)) (c
-    .upElement) (d .upElement)
+    past-join (isDeep s) (past (isDeep t) (c .onElement) (c .downElement)) (past (isDeep t) (d .onElement) (d .downElement)) (c .upElement)
+    (d .upElement)
 
 parent-none : (s t : Step) → isParent s t noCell ≡ false
 parent-none s t = ap (λ (x : Bool). x || (isDeep s && false)) (past-none (isDeep t)) ∙ past-none (isDeep s)
@@ -148,8 +148,8 @@ on-respects s t =
     record {
       none = ap (λ (x : Bool). onCell (x && shareElement s t) (x && shareLeaf s t)) (parent-none s t);
       join = λ c d. ap (λ (x : Bool). onCell x (isParent s t (joinCell c d) && shareLeaf s t)) (share-join s t (shareElement s t) c d) ∙
-          ap (λ (x : Bool). onCell ((isParent s t c && shareElement s t) || (isParent s t d && shareElement s t)) x) (share-join s t
-          (shareLeaf s t) c d);
+          ap (λ (x : Bool). onCell ((isParent s t c && shareElement s t) || (isParent s t d && shareElement s t)) x)
+          (share-join s t (shareLeaf s t) c d);
     }
 
 -- SUMS
@@ -232,8 +232,9 @@ module _ (s t : Step) where
       sum-join (λ (q : Path). onStep s t (cell p q)) (λ (q : Path). joinCell (downStep s (cell p (q ▸ t))) (upStep t (cell (p ▸ s) q))) qs ∙
       ap (joinCell (sum (λ (q : Path). onStep s t (cell p q)) qs))
       (sum-join (λ (q : Path). downStep s (cell p (q ▸ t))) (λ (q : Path). upStep t (cell (p ▸ s) q)) qs) ∙
-      ap (λ (c : Cell). joinCell c (joinCell (sum (λ (q : Path). downStep s (cell p (q ▸ t))) qs) (sum (λ (q : Path). upStep t (cell (p ▸
-      s) q)) qs)))
+      ap
+      (λ (c : Cell). joinCell c
+      (joinCell (sum (λ (q : Path). downStep s (cell p (q ▸ t))) qs) (sum (λ (q : Path). upStep t (cell (p ▸ s) q)) qs)))
       (sum-through (onStep s t) (on-respects s t) (cell p) qs) ∙
       ap (λ (c : Cell). joinCell (onStep s t (sum (cell p) qs)) (joinCell c (sum (λ (q : Path). upStep t (cell (p ▸ s) q)) qs)))
       (sum-through (downStep s) (down-respects s) (λ (q : Path). cell p (q ▸ t)) qs ∙ ap (downStep s) (sym (sum-steps (cell p) t qs))) ∙
@@ -245,20 +246,21 @@ module _ (s t : Step) where
   between-steps ps qs =
       sum-steps (λ (p : Path). sum (cell p) (withStep t qs)) s ps ∙
       sum-same (λ (p : Path). sum (cell (p ▸ s)) (withStep t qs))
-      (λ (p : Path). joinCell (onStep s t (row qs p)) (joinCell (downStep s (row (withStep t qs) p)) (upStep t (row qs (p ▸ s))))) (λ p.
-      row-steps p qs) ps ∙
-      sum-join (λ (p : Path). onStep s t (row qs p)) (λ (p : Path). joinCell (downStep s (row (withStep t qs) p)) (upStep t (row qs (p ▸
-      s)))) ps ∙
+      (λ (p : Path). joinCell (onStep s t (row qs p)) (joinCell (downStep s (row (withStep t qs) p)) (upStep t (row qs (p ▸ s)))))
+      (λ p. row-steps p qs) ps ∙
+      sum-join (λ (p : Path). onStep s t (row qs p))
+      (λ (p : Path). joinCell (downStep s (row (withStep t qs) p)) (upStep t (row qs (p ▸ s)))) ps ∙
       ap (joinCell (sum (λ (p : Path). onStep s t (row qs p)) ps))
       (sum-join (λ (p : Path). downStep s (row (withStep t qs) p)) (λ (p : Path). upStep t (row qs (p ▸ s))) ps) ∙
-      ap (λ (c : Cell). joinCell c (joinCell (sum (λ (p : Path). downStep s (row (withStep t qs) p)) ps) (sum (λ (p : Path). upStep t
-      (row qs (p ▸ s))) ps)))
+      ap
+      (λ (c : Cell). joinCell c
+      (joinCell (sum (λ (p : Path). downStep s (row (withStep t qs) p)) ps) (sum (λ (p : Path). upStep t (row qs (p ▸ s))) ps)))
       (sum-through (onStep s t) (on-respects s t) (row qs) ps) ∙
       ap (λ (c : Cell). joinCell (onStep s t (between ps qs)) (joinCell c (sum (λ (p : Path). upStep t (row qs (p ▸ s))) ps)))
       (sum-through (downStep s) (down-respects s) (row (withStep t qs)) ps) ∙
       ap (λ (c : Cell). joinCell (onStep s t (between ps qs)) (joinCell (downStep s (between ps (withStep t qs))) c))
-      (sum-through (upStep t) (up-respects t) (λ (p : Path). row qs (p ▸ s)) ps ∙ ap (upStep t) (sym (sum-steps (λ (p : Path). sum (cell
-      p) qs) s ps)))
+      (sum-through (upStep t) (up-respects t) (λ (p : Path). row qs (p ▸ s)) ps ∙
+      ap (upStep t) (sym (sum-steps (λ (p : Path). sum (cell p) qs) s ps)))
 
 -- MEETING of lists is that of their cell
 pub isMet-join : (c d : Cell) → isMet (joinCell c d) ≡ (isMet c || isMet d)

@@ -31,8 +31,9 @@ climb-is p t e =
     leads k = rw k
 
     others : (x y z : Bool) → z ≡ false →
-        false ≡ isClimb (pick x nowhere (pick y (root (p .name)) (pick z (over (stepBy (p .axis) (p .test) (p .name)) (p .first)) (union
-        (p .first) (p .second)))))
+        false ≡ isClimb
+        (pick x nowhere
+        (pick y (root (p .name)) (pick z (over (stepBy (p .axis) (p .test) (p .name)) (p .first)) (union (p .first) (p .second)))))
     others true y z h = refl
     others false true z h = refl
     others false false true h = absurd (true≢false h)

@@ -7,7 +7,8 @@ use lib.Dec.{eqb}
 use Rattle.model.specs.Base.{pick}
 use Rattle.model.specs.Script.{Step}
 use Rattle.model.specs.Paths.{Place, Path, start, _▸_, withStep}
-use Rattle.model.specs.Meeting.{Cell, onCell, joinCell, samePlace, isConstructor, onStep, downStep, upStep, startCells, stepCells, cell, isMet, meets}
+use Rattle.model.specs.Meeting.{Cell, onCell, joinCell, samePlace, isConstructor, onStep, downStep, upStep, startCells, stepCells, cell}
+use Rattle.model.specs.Meeting.{isMet, meets}
 use Rattle.paths.specs.Cells.{noCell}
 use Rattle.paths.proofs.CellLaws.{on-respects, down-respects, up-respects}
 

@@ -37,16 +37,16 @@ markedFrom-append : (f : Entry → Bool) (ps : List (List Path)) (es fs : List E
 unfolding markedFrom pathsFrom
 markedFrom-append f ps [] fs = refl
 markedFrom-append f ps (x ∷ es) fs =
-    ap (λ (l : List Path). pick (f x) (pathsAt ps (x .position)) [] ++ l) (markedFrom-append f (ps ++ (pathsAt ps (x .position) ∷ [])) es
-    fs) ∙
+    ap (λ (l : List Path). pick (f x) (pathsAt ps (x .position)) [] ++ l)
+    (markedFrom-append f (ps ++ (pathsAt ps (x .position) ∷ [])) es fs) ∙
     sym (append-assoc (pick (f x) (pathsAt ps (x .position)) []) (markedFrom f (ps ++ (pathsAt ps (x .position) ∷ [])) es) _)
 
 pub marked-push : (f : Entry → Bool) (es : List Entry) (x : Entry) →
     marked f (es ++ (x ∷ [])) ≡ marked f es ++ pick (f x) (pathsAt (pathsBy es) (x .position)) []
 unfolding markedFrom
 marked-push f es x =
-    markedFrom-append f [] es (x ∷ []) ∙ ap (λ (l : List Path). marked f es ++ l) (append-nil (pick (f x) (pathsAt (pathsBy es) (x
-    .position)) []))
+    markedFrom-append f [] es (x ∷ []) ∙ ap (λ (l : List Path). marked f es ++ l)
+    (append-nil (pick (f x) (pathsAt (pathsBy es) (x .position)) []))
 
 -- ENTRIES that positions may be emitted after: position 0 is nothing
 pub record Ready (es : List Entry) : Type 0 where
@@ -69,8 +69,8 @@ ready es z r a m y h =
     record { some = omega (arith, z .some, h .more); zero = h .keeps 0 (z .some) ∙ z .zero; lower = h .lower }
 
 -- nothing is emitted
-known : (es : List Entry) → Ready es → (n : ℕ) (r : List Path) → n < length es → pathsOn es n ≡ documents r → Right es r [] [] (emitted n
-    es)
+known : (es : List Entry) → Ready es → (n : ℕ) (r : List Path) → n < length es → pathsOn es n ≡ documents r →
+    Right es r [] [] (emitted n es)
 unfolding documents
 known es z n r h e =
     record {
@@ -222,8 +222,8 @@ module _ (o : ℕ) (own : o ≡ 0 → ⊥) where
       (append-nil (a ++ [])) (ap (λ (v : List Path). v ++ (r ++ withStep anyBelow r)) (append-nil m))
       (discarded es z _ _ _ _ all)
 
-  emits-insert : (es : List Entry) → Ready es → (r a m r′ a′ m′ : List Path) (y y′ : Emitted) → Right es r a m y → Right (y .entries) r′
-      a′ m′ y′ →
+  emits-insert : (es : List Entry) → Ready es → (r a m r′ a′ m′ : List Path) (y y′ : Emitted) → Right es r a m y →
+      Right (y .entries) r′ a′ m′ y′ →
       Right es [] (a ++ a′ ++ withStep anyBelow r) (m ++ m′ ++ withStep anyBelow r′)
       (emitted 0 (y′ .entries ++ (accessing (over anyBelow (y .result)) ∷ []) ++ (modifying (over anyBelow (y′ .result)) ∷ [])))
   unfolding documents
@@ -231,8 +231,9 @@ module _ (o : ℕ) (own : o ≡ 0 → ⊥) where
       let read = pushed es r′ (a ++ a′) (m ++ m′) y′ (thenRight es r a m r′ a′ m′ y y′ h g) (accessing (over anyBelow (y .result)))
       (withStep anyBelow r) (withStep anyBelow r) [] (omega (arith, h .low, g .more))
       (ap (withStep anyBelow) (g .keeps (y .result) (h .low) ∙ h .is) ∙ sym (documents-step anyBelow r)) refl refl in
-      let written = pushed es (withStep anyBelow r) (a ++ a′ ++ withStep anyBelow r) (m ++ m′ ++ []) (push (y′ .entries) (accessing (over
-      anyBelow (y .result)))) read
+      let written =
+      pushed es (withStep anyBelow r) (a ++ a′ ++ withStep anyBelow r) (m ++ m′ ++ [])
+      (push (y′ .entries) (accessing (over anyBelow (y .result)))) read
       (modifying (over anyBelow (y′ .result))) (withStep anyBelow r′) [] (withStep anyBelow r′)
       (omega (arith, g .low, length-append (y′ .entries) (accessing (over anyBelow (y .result)) ∷ [])))
       (ap (withStep anyBelow) (pathsOn-keeps (y′ .entries) (accessing (over anyBelow (y .result)) ∷ []) (y′ .result) (g .low) ∙ g .is) ∙
@@ -279,8 +280,8 @@ module _ (o : ℕ) (own : o ≡ 0 → ⊥) where
       let b1 = bound-later es _ _ _ _ h b in
       let i = emits f ns rs (emit e ns es .entries) y1 b1 in
       thenRight es _ _ _ _ _ _ (emit e ns es) _ h
-      (emits-union (emit e ns es .entries) _ _ _ _ _ _ (emit f ns (emit e ns es .entries)) (emit g ns (emit f ns (emit e ns es .entries)
-      .entries)) i
+      (emits-union (emit e ns es .entries) _ _ _ _ _ _ (emit f ns (emit e ns es .entries))
+      (emit g ns (emit f ns (emit e ns es .entries) .entries)) i
       (emits g ns rs (emit f ns (emit e ns es .entries) .entries) (ready _ y1 _ _ _ _ i) (bound-later _ _ _ _ _ i b1)))
   emits (element z n) ns rs es y b = constructed es y z
   emits (leaf z v) ns rs es y b = constructed es y z

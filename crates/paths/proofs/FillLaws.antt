@@ -65,25 +65,25 @@ module _ (t : Cells) (k l : ℕ) (q : Position) (r : Cell) where
   pub over-root : (s : Step) (i : ℕ) → q .kind ≡ 1 → (g : Cell) (u : Step) → r ≡ downStep u g → u ≡ s → g ≡ t i l →
       r ≡ overCell s i k l (positionBy q) t
   over-root s i e g u h j m =
-      h ∙ ap (λ (x : Step). downStep x g) j ∙ ap (downStep s) m ∙ sym (ap (λ (x : positions.Position). overCell s i k l x t) (kind-root q
-      e))
+      h ∙ ap (λ (x : Step). downStep x g) j ∙ ap (downStep s) m ∙
+      sym (ap (λ (x : positions.Position). overCell s i k l x t) (kind-root q e))
 
   pub over-union : (s : Step) (i : ℕ) → (q .kind ≡ 0 → ⊥) → (q .kind ≡ 1 → ⊥) → (q .kind ≡ 2 → ⊥) → (g h : Cell) → r ≡ joinCell g h →
       g ≡ t k (q .first) → h ≡ t k (q .second) → r ≡ overCell s i k l (positionBy q) t
   over-union s i a b c g h e m n =
       joined g h (t k (q .first)) (t k (q .second)) e m n ∙ sym (ap (λ (x : positions.Position). overCell s i k l x t) (kind-union q a b c))
 
-  pub over-over : (s : Step) (i : ℕ) → q .kind ≡ 2 → (on down up both x y z : Cell) (u v : Step) → r ≡ joinCell on both → both ≡ joinCell
-      down up →
+  pub over-over : (s : Step) (i : ℕ) → q .kind ≡ 2 → (on down up both x y z : Cell) (u v : Step) → r ≡ joinCell on both →
+      both ≡ joinCell down up →
       on ≡ onStep u v x → down ≡ downStep u y → up ≡ upStep v z → u ≡ s → v ≡ stepBy (q .axis) (q .test) (q .name) →
       x ≡ t i (q .first) → y ≡ t i l → z ≡ t k (q .first) → r ≡ overCell s i k l (positionBy q) t
   over-over s i e on down up both x y z u v a b c d f g h m n o =
       let w : Step = stepBy (q .axis) (q .test) (q .name) in
       a ∙ ap (joinCell on) b ∙ ap (λ (c : Cell). joinCell c (joinCell down up)) on-is ∙
-      ap (λ (c : Cell). joinCell (onStep s w (t i (q .first))) (joinCell c up)) (d ∙ ap (λ (s : Step). downStep s y) g ∙ ap (downStep s)
-      n) ∙
-      ap (λ (c : Cell). joinCell (onStep s w (t i (q .first))) (joinCell (downStep s (t i l)) c)) (f ∙ ap (λ (s : Step). upStep s z) h ∙
-      ap (upStep w) o) ∙
+      ap (λ (c : Cell). joinCell (onStep s w (t i (q .first))) (joinCell c up))
+      (d ∙ ap (λ (s : Step). downStep s y) g ∙ ap (downStep s) n) ∙
+      ap (λ (c : Cell). joinCell (onStep s w (t i (q .first))) (joinCell (downStep s (t i l)) c))
+      (f ∙ ap (λ (s : Step). upStep s z) h ∙ ap (upStep w) o) ∙
       sym (ap (λ (x : positions.Position). overCell s i k l x t) (kind-over q e))
     where
       on-is : on ≡ onStep s (stepBy (q .axis) (q .test) (q .name)) (t i (q .first))
@@ -136,27 +136,26 @@ module _ (ws us t : List ℕ) (k l : ℕ) (pre : MeetPre ws us t k l) where
         cell-by (entriesBy ws) (entriesBy us) k l (cellIn t) (pre .first .lower) (pre .second .lower)
         (omega (arith, pre .row, length-map ws entryOf)) (omega (arith, pre .column, length-map us entryOf)) (pre .filled)
 
-    pub pair-filled : (c : declared.Cell) (t′ : List ℕ) → SetPost t k l c t′ → cellOf c ≡ cellBy k l (positionBy p) (positionBy q)
-        (cellIn t) →
-        (tested met r : Bool) → tested ≡ isTested (entryBy p) (entryBy q) → met ≡ isMet (cellOf c) → r ≡ (tested && met) → MeetPost ws us
-        k l t′ r
+    pub pair-filled : (c : declared.Cell) (t′ : List ℕ) → SetPost t k l c t′ →
+        cellOf c ≡ cellBy k l (positionBy p) (positionBy q) (cellIn t) →
+        (tested met r : Bool) → tested ≡ isTested (entryBy p) (entryBy q) → met ≡ isMet (cellOf c) → r ≡ (tested && met) →
+        MeetPost ws us k l t′ r
     pair-filled c t′ post e tested met r f g h =
         record {
           size = post .size ∙ pre .size;
           filled = record {
             rows = rows;
-            row = λ j b. by-cases (eqb j l) (λ s. here j (eqb-true j l s)) (λ s. before j b (eqb-false j l
-                s));
+            row = λ j b. by-cases (eqb j l) (λ s. here j (eqb-true j l s)) (λ s. before j b (eqb-false j l s));
           };
           met =
               h ∙ ap (λ (x : Bool). x && met) (f ∙ ap (λ (x : positions.Entry). isTested x (entryBy q)) entry-one ∙
               ap (isTested (positions.entryAt (entriesBy ws) k)) entry-two) ∙
-              ap (λ (x : Bool). isTested (positions.entryAt (entriesBy ws) k) (positions.entryAt (entriesBy us) l) && x) (g ∙ ap isMet
-              (pair-cell (cellOf c) e));
+              ap (λ (x : Bool). isTested (positions.entryAt (entriesBy ws) k) (positions.entryAt (entriesBy us) l) && x)
+              (g ∙ ap isMet (pair-cell (cellOf c) e));
         }
       where
-        rows : (i j : ℕ) → i < k → j < length (entriesBy us) → cellIn t′ i j ≡ between (positions.pathsOn (entriesBy ws) i)
-            (positions.pathsOn (entriesBy us) j)
+        rows : (i j : ℕ) → i < k → j < length (entriesBy us) →
+            cellIn t′ i j ≡ between (positions.pathsOn (entriesBy ws) i) (positions.pathsOn (entriesBy us) j)
         rows i j a b =
             post .others i j (omega (arith, pre .second .few, length-map us entryOf)) (λ m n. omega arith) ∙ pre .filled .rows i j a b
 
@@ -165,8 +164,8 @@ module _ (ws us t : List ℕ) (k l : ℕ) (pre : MeetPre ws us t k l) where
             ap (cellIn t′ k) n ∙ post .here ∙ pair-cell (cellOf c) e ∙
             ap (λ (x : ℕ). between (positions.pathsOn (entriesBy ws) k) (positions.pathsOn (entriesBy us) x)) (sym n)
 
-        before : (j : ℕ) → j < l + 1 → (j ≡ l → ⊥) → cellIn t′ k j ≡ between (positions.pathsOn (entriesBy ws) k) (positions.pathsOn
-            (entriesBy us) j)
+        before : (j : ℕ) → j < l + 1 →
+            (j ≡ l → ⊥) → cellIn t′ k j ≡ between (positions.pathsOn (entriesBy ws) k) (positions.pathsOn (entriesBy us) j)
         before j b n =
             post .others k j (omega (arith, pre .column, pre .second .few, n)) (λ a. n) ∙ pre .filled .row j (omega (arith, n))
 
@@ -180,8 +179,8 @@ pub any-none : (f : ℕ → Bool) → false ≡ anyUpTo f 0
 unfolding anyUpTo
 any-none f = refl
 
-pub row-done : (ws us t′ : List ℕ) (k l : ℕ) (r : Bool) → length t′ ≡ 16384 → length us ≡ l → Filled (entriesBy ws) (entriesBy us) k l
-    (cellIn t′) →
+pub row-done : (ws us t′ : List ℕ) (k l : ℕ) (r : Bool) → length t′ ≡ 16384 → length us ≡ l →
+    Filled (entriesBy ws) (entriesBy us) k l (cellIn t′) →
     r ≡ rowMeets (entriesBy ws) (entriesBy us) k l → RowPost ws us k t′ r
 row-done ws us t′ k l r size e f h =
     record {
@@ -194,8 +193,8 @@ row-done ws us t′ k l r size e f h =
       met = h ∙ ap (rowMeets (entriesBy ws) (entriesBy us) k) (sym (length-map us entryOf ∙ e));
     }
   where
-    last : (i j : ℕ) → i ≡ k → j < length (entriesBy us) → cellIn t′ i j ≡ between (positions.pathsOn (entriesBy ws) i)
-        (positions.pathsOn (entriesBy us) j)
+    last : (i j : ℕ) → i ≡ k → j < length (entriesBy us) →
+        cellIn t′ i j ≡ between (positions.pathsOn (entriesBy ws) i) (positions.pathsOn (entriesBy us) j)
     last i j n b =
         ap (λ (x : ℕ). cellIn t′ x j) n ∙ f .row j (omega (arith, length-map us entryOf)) ∙
         ap (λ (x : ℕ). between (positions.pathsOn (entriesBy ws) x) (positions.pathsOn (entriesBy us) j)) (sym n)

@@ -96,13 +96,13 @@ module _ (ws ws′ : List ℕ) (y : Emitted) (pre : GrowPre ws y) where
         Grown (positions.pushDelete (outOf ws y)) y ws′ (record { result = 0; count = y .count + 2; place = y .place })
     delete-grown s b e f =
         two-more _ (two .size ∙ one .size)
-        (two-pushed ws ws₁ ws′ (y .count) p q (plain (over anyBelow (y .result))) (modifying (union (y .result) (length (entriesIn ws (y
-        .count))))) one two
+        (two-pushed ws ws₁ ws′ (y .count) p q (plain (over anyBelow (y .result)))
+        (modifying (union (y .result) (length (entriesIn ws (y .count))))) one two
         (over-entry p 0 s (y .result) anyBelow e b)
         (ap entryBy f ∙ ap (λ (k : ℕ). modifying (union (y .result) k)) (sym (entriesIn-length ws (y .count) within))))
 
-    pub insert-grown : (first : ℕ) (s u : Step) → stepOf s ≡ anyBelow → stepOf u ≡ anyBelow → p ≡ overBy 1 s first → q ≡ overBy 2 u (y
-        .result) →
+    pub insert-grown : (first : ℕ) (s u : Step) → stepOf s ≡ anyBelow → stepOf u ≡ anyBelow → p ≡ overBy 1 s first →
+        q ≡ overBy 2 u (y .result) →
         Grown (positions.pushInsert first (outOf ws y)) y ws′ (record { result = 0; count = y .count + 2; place = y .place })
     insert-grown first s u b c e f =
         two-more _ (two .size ∙ one .size)

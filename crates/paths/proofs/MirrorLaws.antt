@@ -91,8 +91,8 @@ step-cells s p h (start q) = ap (upStep s) (h (start q))
 step-cells s p h (q ▸ t) =
     ap (λ (c : Cell). joinCell (onStep t s c) (joinCell (downStep t (cell q (p ▸ s))) (upStep s (cell (q ▸ t) p)))) (h q) ∙
     ap (λ (c : Cell). joinCell c (joinCell (downStep t (cell q (p ▸ s))) (upStep s (cell (q ▸ t) p)))) (on-mirror s t (cell p q)) ∙
-    ap (λ (c : Cell). joinCell (mirror (onStep s t (cell p q))) (joinCell (downStep t c) (upStep s (cell (q ▸ t) p)))) (step-cells s p h
-    q) ∙
+    ap (λ (c : Cell). joinCell (mirror (onStep s t (cell p q))) (joinCell (downStep t c) (upStep s (cell (q ▸ t) p))))
+    (step-cells s p h q) ∙
     ap (λ (c : Cell). joinCell (mirror (onStep s t (cell p q))) (joinCell (mirror (upStep t (cell (p ▸ s) q))) (upStep s c))) (h (q ▸ t)) ∙
     ap (joinCell (mirror (onStep s t (cell p q)))) (join-comm (mirror (upStep t (cell (p ▸ s) q))) (mirror (downStep s (cell p (q ▸ t)))))
 

@@ -54,8 +54,8 @@ module _ (b : List ℕ) (at left v : ℕ) (a : Accepted b at left v) where
     pub ends : endAt b at ≡ firstAt b at
     pub size : recordsOf (exprAt left b at) ≡ 1
 
-  zero-of : (e : Expr) → Nullary b at left e → ((ns : List ℕ) (es : List Entry) → emit e ns es ≡ nullaryOf b at ns es) → recordsOf e ≡ 1
-      → Zero
+  zero-of : (e : Expr) → Nullary b at left e → ((ns : List ℕ) (es : List Entry) → emit e ns es ≡ nullaryOf b at ns es) → recordsOf e ≡ 1 →
+      Zero
   zero-of e n f s =
       record {
         emits = λ ns es. ap (λ (x : Expr). emit x ns es) (n .expr) ∙ f ns es;
@@ -107,8 +107,8 @@ module _ (b : List ℕ) (at left v : ℕ) (a : Accepted b at left v) where
       (λ e. other (getD b at 0) 1 1 0 z e refl (λ q. omega arith))
       (λ e. other (getD b at 0) 2 1 0 z e refl (λ q. omega arith))
       (λ e. other (getD b at 0) 3 1 0 z e refl (λ q. omega arith))
-      (λ e. one-of (step at (stepBy (getD b (at + 1) 0) (getD b (at + 2) 0) (getD b (at + 3) 0))) (accepted-step b at left v a e) (λ x ns
-      es. rw e) (λ x. refl))
+      (λ e. one-of (step at (stepBy (getD b (at + 1) 0) (getD b (at + 2) 0) (getD b (at + 3) 0))) (accepted-step b at left v a e)
+      (λ x ns es. rw e) (λ x. refl))
       (λ e. other (getD b at 0) 5 1 2 z e refl (λ q. omega arith))
       (λ e. other (getD b at 0) 6 1 2 z e refl (λ q. omega arith))
       (λ e. other (getD b at 0) 7 1 2 z e refl (λ q. omega arith))
@@ -128,8 +128,8 @@ module _ (b : List ℕ) (at left v : ℕ) (a : Accepted b at left v) where
         (emit (exprAt (left - 1) b (secondAt b at)) (within (getD b at 0) ns (emit (exprAt (left - 1) b (firstAt b at)) ns es .result))
         (emit (exprAt (left - 1) b (firstAt b at)) ns es .entries))
     pub ends : endAt b at ≡ thirdAt b at
-    pub size : recordsOf (exprAt left b at) ≡ 1 + recordsOf (exprAt (left - 1) b (firstAt b at)) + recordsOf (exprAt (left - 1) b
-        (secondAt b at))
+    pub size : recordsOf (exprAt left b at) ≡ 1 + recordsOf (exprAt (left - 1) b (firstAt b at)) + recordsOf
+        (exprAt (left - 1) b (secondAt b at))
 
   two-of : (w : ℕ) (make : Expr → Expr → Expr) → Binary b at left v w make → w ≡ inner (getD b at 0) v →
       ((x y : Expr) (ns : List ℕ) (es : List Entry) → emit (make x y) ns es ≡
@@ -175,8 +175,8 @@ module _ (b : List ℕ) (at left v : ℕ) (a : Accepted b at left v) where
         (emit (exprAt (left - 1) b (secondAt b at)) ns (emit (exprAt (left - 1) b (firstAt b at)) ns es .entries) .entries))
     pub ends : endAt b at ≡ endAt b (thirdAt b at)
     pub size : recordsOf (exprAt left b at) ≡
-        1 + recordsOf (exprAt (left - 1) b (firstAt b at)) + recordsOf (exprAt (left - 1) b (secondAt b at)) + recordsOf (exprAt (left -
-        1) b (thirdAt b at))
+        1 + recordsOf (exprAt (left - 1) b (firstAt b at)) + recordsOf (exprAt (left - 1) b (secondAt b at)) + recordsOf
+        (exprAt (left - 1) b (thirdAt b at))
 
   three-of : getD b at 0 ≡ 8 → Three
   unfolding inner emit recordsOf

@@ -45,8 +45,8 @@ digit-32 : (l x : ℕ) → l < 32 → x < 2 → (l + 32 * x) / 32 % 2 ≡ x
 digit-32 l x g h = omega arith
 
 module _ (c : meeting.Cell) (a b d e f g r : ℕ)
-    (on : a ≡ bitOf (c .onElement)) (onLeaf : b ≡ bitOf (c .onLeaf)) (down : d ≡ bitOf (c .downElement)) (downLeaf : e ≡ bitOf (c
-    .downLeaf))
+    (on : a ≡ bitOf (c .onElement)) (onLeaf : b ≡ bitOf (c .onLeaf)) (down : d ≡ bitOf (c .downElement))
+    (downLeaf : e ≡ bitOf (c .downLeaf))
     (up : f ≡ bitOf (c .upElement)) (upLeaf : g ≡ bitOf (c .upLeaf)) (sum : r ≡ a + 2 * b + 4 * d + 8 * e + 16 * f + 32 * g)
     (la : a < 2) (lb : b < 2) (ld : d < 2) (le : e < 2) (lf : f < 2) (lg : g < 2) where
   at : (h : ℕ → ℕ) (w x : ℕ) → r ≡ w → h w ≡ x → h r ≡ x
@@ -56,23 +56,23 @@ module _ (c : meeting.Cell) (a b d e f g r : ℕ)
   bits-packed =
       cell-equal (cellBits r) c
       (is-one (c .onElement) (r % 2)
-      (at (λ (w : ℕ). w % 2) (a + 2 * (b + 2 * d + 4 * e + 8 * f + 16 * g)) a (omega (arith, sum)) (digit-1 a (b + 2 * d + 4 * e + 8 * f
-      + 16 * g) la) ∙ on))
+      (at (λ (w : ℕ). w % 2) (a + 2 * (b + 2 * d + 4 * e + 8 * f + 16 * g)) a (omega (arith, sum))
+      (digit-1 a (b + 2 * d + 4 * e + 8 * f + 16 * g) la) ∙ on))
       (is-one (c .onLeaf) (r / 2 % 2)
-      (at (λ (w : ℕ). w / 2 % 2) (a + 2 * (b + 2 * (d + 2 * e + 4 * f + 8 * g))) b (omega (arith, sum)) (digit-2 a b (d + 2 * e + 4 * f +
-      8 * g) la lb) ∙ onLeaf))
+      (at (λ (w : ℕ). w / 2 % 2) (a + 2 * (b + 2 * (d + 2 * e + 4 * f + 8 * g))) b (omega (arith, sum))
+      (digit-2 a b (d + 2 * e + 4 * f + 8 * g) la lb) ∙ onLeaf))
       (is-one (c .downElement) (r / 4 % 2)
-      (at (λ (w : ℕ). w / 4 % 2) (a + 2 * b + 4 * (d + 2 * (e + 2 * f + 4 * g))) d (omega (arith, sum)) (digit-4 (a + 2 * b) d (e + 2 * f
-      + 4 * g) (omega arith) ld) ∙ down))
+      (at (λ (w : ℕ). w / 4 % 2) (a + 2 * b + 4 * (d + 2 * (e + 2 * f + 4 * g))) d (omega (arith, sum))
+      (digit-4 (a + 2 * b) d (e + 2 * f + 4 * g) (omega arith) ld) ∙ down))
       (is-one (c .downLeaf) (r / 8 % 2)
-      (at (λ (w : ℕ). w / 8 % 2) (a + 2 * b + 4 * d + 8 * (e + 2 * (f + 2 * g))) e (omega (arith, sum)) (digit-8 (a + 2 * b + 4 * d) e (f
-      + 2 * g) (omega arith) le) ∙ downLeaf))
+      (at (λ (w : ℕ). w / 8 % 2) (a + 2 * b + 4 * d + 8 * (e + 2 * (f + 2 * g))) e (omega (arith, sum))
+      (digit-8 (a + 2 * b + 4 * d) e (f + 2 * g) (omega arith) le) ∙ downLeaf))
       (is-one (c .upElement) (r / 16 % 2)
-      (at (λ (w : ℕ). w / 16 % 2) (a + 2 * b + 4 * d + 8 * e + 16 * (f + 2 * g)) f (omega (arith, sum)) (digit-16 (a + 2 * b + 4 * d + 8
-      * e) f g (omega arith) lf) ∙ up))
+      (at (λ (w : ℕ). w / 16 % 2) (a + 2 * b + 4 * d + 8 * e + 16 * (f + 2 * g)) f (omega (arith, sum))
+      (digit-16 (a + 2 * b + 4 * d + 8 * e) f g (omega arith) lf) ∙ up))
       (is-one (c .upLeaf) (r / 32 % 2)
-      (at (λ (w : ℕ). w / 32 % 2) (a + 2 * b + 4 * d + 8 * e + 16 * f + 32 * g) g sum (digit-32 (a + 2 * b + 4 * d + 8 * e + 16 * f) g
-      (omega arith) lg) ∙ upLeaf))
+      (at (λ (w : ℕ). w / 32 % 2) (a + 2 * b + 4 * d + 8 * e + 16 * f + 32 * g) g sum
+      (digit-32 (a + 2 * b + 4 * d + 8 * e + 16 * f) g (omega arith) lg) ∙ upLeaf))
 
 -- THE PAIR written
 pub cell-set : (t : List ℕ) (k l : ℕ) (c : Cell) (b : ℕ) → PairPre t k l → cellBits b ≡ cellOf c → SetPost t k l c (set t (128 * k + l) b)

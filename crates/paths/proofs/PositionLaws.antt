@@ -11,7 +11,8 @@ use Rattle.model.specs.Meeting.{Cell, joinCell, onStep, downStep, upStep}
 use Rattle.paths.specs.Positions.{Position, nowhere, root, over, union, Entry, plain, entryAt, IsLower, AreLower}
 use Rattle.paths.specs.Positions.{pathsAt, pathsFrom, pathsBy, pathsOn}
 use Rattle.paths.specs.Cells.{noCell, sum, between, Cells, rootCell, overCell, cellBy, Filled}
-use Rattle.paths.proofs.CellLaws.{between-none, between-first, between-second, between-starts, between-up, between-down, between-steps}
+use Rattle.paths.proofs.CellLaws.{between-none, between-first, between-second, between-starts, between-up, between-down}
+use Rattle.paths.proofs.CellLaws.{between-steps}
 
 -- PATHS of more positions
 pub pathsFrom-append : (ps : List (List Path)) (es fs : List Entry) → pathsFrom ps (es ++ fs) ≡ pathsFrom (pathsFrom ps es) fs
@@ -71,10 +72,8 @@ pub pathsOn-at : (es : List Entry) → AreLower es → (k : ℕ) → k < length 
 pathsOn-at es lower k h =
     pathsOn-split es k h ∙
     pathsAt-same (entryAt es k .position) k (pathsBy (take k es)) (pathsBy es) (lower k h)
-    (λ i l. sym (ap (λ (v : List Entry). pathsOn v i) split ∙ pathsOn-keeps (take k es) (entryAt es k ∷ drop (suc k) es) i (omega (
-      arith,
-      len,
-    ))))
+    (λ i l. sym (ap (λ (v : List Entry). pathsOn v i) split ∙ pathsOn-keeps (take k es) (entryAt es k ∷ drop (suc k) es) i
+    (omega (arith, len))))
   where
     split : es ≡ take k es ++ entryAt es k ∷ drop (suc k) es
     split = split-at es k (plain nowhere) h
@@ -89,15 +88,15 @@ module _ (es fs : List Entry) (k l : ℕ) (t : Cells) where
     unionAt : (a b : ℕ) → (a < l) × (b < l) → pathsOn fs l ≡ pathsOn fs a ++ pathsOn fs b →
         joinCell (t k a) (t k b) ≡ between (pathsOn es k) (pathsOn fs l)
     unionAt a b h e =
-        ap (λ (c : Cell). joinCell c (t k b)) (filled .row a (h .0)) ∙ ap (joinCell (between (pathsOn es k) (pathsOn fs a))) (filled .row
-        b (h .1)) ∙
+        ap (λ (c : Cell). joinCell c (t k b)) (filled .row a (h .0)) ∙ ap (joinCell (between (pathsOn es k) (pathsOn fs a)))
+        (filled .row b (h .1)) ∙
         sym (between-second (pathsOn es k) (pathsOn fs a) (pathsOn fs b)) ∙ ap (between (pathsOn es k)) (sym e)
 
     nowhereAt : pathsOn fs l ≡ [] → noCell ≡ between (pathsOn es k) (pathsOn fs l)
     nowhereAt e = sym (ap (between (pathsOn es k)) e ∙ between-none (pathsOn es k))
 
-    rootCell-is : (d : ℕ) (q : Position) → pathsOn es k ≡ start (documentPlace d) ∷ [] → IsLower l q → pathsOn fs l ≡ pathsAt (pathsBy
-        fs) q →
+    rootCell-is : (d : ℕ) (q : Position) → pathsOn es k ≡ start (documentPlace d) ∷ [] → IsLower l q →
+        pathsOn fs l ≡ pathsAt (pathsBy fs) q →
         rootCell d k q t ≡ between (pathsOn es k) (pathsOn fs l)
     rootCell-is d nowhere e h f = nowhereAt f
     rootCell-is d (root c) e h f =
@@ -127,8 +126,8 @@ module _ (es fs : List Entry) (k l : ℕ) (t : Cells) where
         between-steps s u (pathsOn es i) (pathsOn fs j))
     overCell-is s i (union a b) g e h f = unionAt a b h f
 
-    cellBy-is : (p q : Position) → IsLower k p → pathsOn es k ≡ pathsAt (pathsBy es) p → IsLower l q → pathsOn fs l ≡ pathsAt (pathsBy
-        fs) q →
+    cellBy-is : (p q : Position) → IsLower k p → pathsOn es k ≡ pathsAt (pathsBy es) p → IsLower l q →
+        pathsOn fs l ≡ pathsAt (pathsBy fs) q →
         cellBy k l p q t ≡ between (pathsOn es k) (pathsOn fs l)
     unfolding sum
     cellBy-is nowhere q g e h f = sym (ap (λ (v : List Path). between v (pathsOn fs l)) e)

@@ -17,7 +17,8 @@ use Rattle.paths.specs.Positions.{accessing, root}
 use Rattle.paths.specs.Positions as positions
 use Rattle.paths.specs.Codes.{stepOf}
 use Rattle.paths.specs.Words.{entryBy, rootBy, PositionFits, entriesIn, PushPost}
-use Rattle.paths.specs.Emitting.{outOf, nullaryOf, unaryOf, binaryOf, within, GrowPre, Grown, NullaryPre, NullaryPost, BindPre, BindPost}
+use Rattle.paths.specs.Emitting.{outOf, nullaryOf, unaryOf, binaryOf, within, GrowPre, Grown, NullaryPre, NullaryPost, BindPre}
+use Rattle.paths.specs.Emitting.{BindPost}
 use Rattle.paths.specs.declared.positions.Position.{Position}
 use Rattle.paths.specs.declared.cells.Step.{Step}
 use Rattle.paths.specs.declared.emit.Emitted.{Emitted}
@@ -39,8 +40,8 @@ root-fits p d e h =
     })
 
 module _ (b : List ℕ) (at next : ℕ) (env ws : List ℕ) (n : ℕ) (pre : NullaryPre b at env ws n) where
-  pub nullary-document : getD b at 0 ≡ 2 → (p : Position) (d : ℕ) (ws′ : List ℕ) → p ≡ rootBy d → d ≡ getD b (at + 1) 0 → PushPost ws n p
-      ws′ →
+  pub nullary-document : getD b at 0 ≡ 2 → (p : Position) (d : ℕ) (ws′ : List ℕ) → p ≡ rootBy d → d ≡ getD b (at + 1) 0 →
+      PushPost ws n p ws′ →
       NullaryPost b at next env ws n ws′ (record { result = n; count = n + 1; place = next })
   nullary-document k p d ws′ e f post =
       record {
@@ -68,8 +69,8 @@ module _ (b : List ℕ) (at next : ℕ) (env ws : List ℕ) (n : ℕ) (pre : Nul
   nullary-none f g = unchanged 0 (pre .some) (rw (ne-eqb (getD b at 0) 2 f, ne-eqb (getD b at 0) 3 g))
 
 -- WITH ONE, AND WITH TWO
-grown-as : (goal goal′ : positions.Emitted) (y : Emitted) (ws′ : List ℕ) (r : Emitted) → goal ≡ goal′ → Grown goal y ws′ r → Grown goal′
-    y ws′ r
+grown-as : (goal goal′ : positions.Emitted) (y : Emitted) (ws′ : List ℕ) (r : Emitted) → goal ≡ goal′ → Grown goal y ws′ r →
+    Grown goal′ y ws′ r
 grown-as goal goal′ y ws′ r e g = subst (λ (x : positions.Emitted). Grown x y ws′ r) e g
 
 pub grown-none : (ws : List ℕ) (y : Emitted) → GrowPre ws y → Grown (outOf ws y) y ws y

@@ -82,8 +82,9 @@ few-records : (i n d v : ℕ) (b : List ℕ) → isFine (exprFault i n d v b) �
 few-records i n d v b h =
     let sizes = isFine-rest (isIn nilKind pickKind (getD b 0 0)) 0 i _ (isFine-rest (ltb 0 (length b)) 1 i _ h) in
     let t = ltb n maxRecords && leb d maxDepth && not (isBinder (getD b 0 0) && leb maxBinders v) in
-    ltb-true n 64 (and-left (ltb n maxRecords) (leb d maxDepth) (and-left (ltb n maxRecords && leb d maxDepth) _ (and-left t _ (sym
-    (isFine-check t 4 i _) ∙ sizes))))
+    ltb-true n 64
+    (and-left (ltb n maxRecords) (leb d maxDepth)
+    (and-left (ltb n maxRecords && leb d maxDepth) _ (and-left t _ (sym (isFine-check t 4 i _) ∙ sizes))))
 
 parse-counted : (k d : ℕ) → Counts (parseFrom k d)
 unfolding parseFrom

@@ -10,7 +10,8 @@ use lib.ListN.{getD}
 use borrow.Author.Tests.{eqb-true, eqb-false}
 use Rattle.model.specs.Base.{pick, any}
 use Rattle.model.specs.Script.{Step, Expr, nil, document, var, step, both, letIn, forIn, ifIn, element, leaf, delete, insert, choose}
-use Rattle.model.specs.Paths.{Path, start, _▸_, place, documentPlace, withStep, anyBelow, Paths, infer, pathsOf, prefixesOf, prefixed, traversed, joinPaths, binding, modifiedPlace}
+use Rattle.model.specs.Paths.{Path, start, _▸_, place, documentPlace, withStep, anyBelow, Paths, infer, pathsOf, prefixesOf, prefixed}
+use Rattle.model.specs.Paths.{traversed, joinPaths, binding, modifiedPlace}
 use Rattle.model.proofs.BoolLaws.{or-left, or-right, or-cases, bool-iff, true-false, by-cases}
 use Rattle.model.proofs.All.{All, nothing, also, all-append}
 use Rattle.paths.proofs.CellLaws.{or-false, or-assoc, or-swap}
@@ -49,10 +50,10 @@ module _ (f : Path → Bool) where
   unfolding any prefixed prefixesOf withStep
   prefixed-step s [] = refl
   prefixed-step s (p ∷ ps) =
-      ap (λ (t : Bool). f (p ▸ s) || t) (any-append f (prefixesOf p) (prefixed (withStep s ps)) ∙ ap (λ (t : Bool). any f (prefixesOf p)
-      || t) (prefixed-step s ps)) ∙
-      sym (or-assoc (f (p ▸ s)) (any f (prefixesOf p)) _) ∙ or-swap (f (p ▸ s)) (any f (prefixesOf p)) (any f (withStep s ps)) (any f
-      (prefixed ps)) ∙
+      ap (λ (t : Bool). f (p ▸ s) || t) (any-append f (prefixesOf p) (prefixed (withStep s ps)) ∙
+      ap (λ (t : Bool). any f (prefixesOf p) || t) (prefixed-step s ps)) ∙
+      sym (or-assoc (f (p ▸ s)) (any f (prefixesOf p)) _) ∙ or-swap (f (p ▸ s)) (any f (prefixesOf p)) (any f (withStep s ps))
+      (any f (prefixed ps)) ∙
       ap (λ (t : Bool). f (p ▸ s) || any f (withStep s ps) || t) (sym (any-append f (prefixesOf p) (prefixed ps)))
 
   any-prefixed : (ps : List Path) → any f ps ≡ true → any f (prefixed ps) ≡ true
@@ -107,8 +108,8 @@ module _ (f : Path → Bool) where
         let x = infer o e rs in
         let y = infer o e′ (rs ++ (x .result ∷ [])) in
         let h = E rs k (λ t. g (any-left f (x .accessed) (y .accessed) t)) in
-        let i = E′ (rs ++ (x .result ∷ [])) (known-more rs (x .result) k (h .result)) (λ t. g (any-right f (x .accessed) (y .accessed)
-        t)) in
+        let i = E′ (rs ++ (x .result ∷ [])) (known-more rs (x .result) k (h .result)) (λ t. g (any-right f (x .accessed) (y .accessed) t))
+        in
         after x y (y .result) h i (i .result)
 
     -- the script's own place is not accessed, and passes no test
@@ -143,10 +144,10 @@ module _ (f : Path → Bool) where
         let y = infer o e′ rs in
         let w = infer o e″ rs in
         let h = closed e rs k (λ t. g (any-left f (x .accessed) (y .accessed ++ w .accessed) t)) in
-        let i = closed e′ rs k (λ t. g (any-right f (x .accessed) (y .accessed ++ w .accessed) (any-left f (y .accessed) (w .accessed)
-        t))) in
-        let j = closed e″ rs k (λ t. g (any-right f (x .accessed) (y .accessed ++ w .accessed) (any-right f (y .accessed) (w .accessed)
-        t))) in
+        let i = closed e′ rs k (λ t. g (any-right f (x .accessed) (y .accessed ++ w .accessed) (any-left f (y .accessed) (w .accessed) t)))
+        in
+        let j = closed e″ rs k
+        (λ t. g (any-right f (x .accessed) (y .accessed ++ w .accessed) (any-right f (y .accessed) (w .accessed) t))) in
         after x (joinPaths y w []) (y .result ++ w .result) h (after y w [] i j (never [] refl))
         (prefixed-either (y .result) (w .result) (i .result) (j .result))
     closed (element z n) rs k g = constructed z
@@ -174,8 +175,8 @@ module _ (f : Path → Bool) where
       any f (traversed (pathsOf o e)) ≡ any f (pathsOf o e .accessed)
   any-traversed o own e =
       bool-iff (any f (traversed (pathsOf o e))) (any f (pathsOf o e .accessed))
-      (closed o own (any f (pathsOf o e .accessed) ≡ true) e [] (λ v. never o own (any f (pathsOf o e .accessed) ≡ true) [] refl) (λ t.
-      t) .accessed)
+      (closed o own (any f (pathsOf o e .accessed) ≡ true) e [] (λ v. never o own (any f (pathsOf o e .accessed) ≡ true) [] refl)
+      (λ t. t) .accessed)
       (any-prefixed (pathsOf o e .accessed))
 
 -- ORIGINS: every path of a script starts at a document or at the script's own place
@@ -211,8 +212,8 @@ owned o (step z s e) rs k =
     record {
       result = own-step s (h .result);
       accessed = all-append (h .accessed) (own-step s (h .result));
-      modified = all-append (h
-          .modified) nothing;
+      modified = all-append
+          (h .modified) nothing;
     }
 owned o (both z e e′) rs k =
     let h = owned o e rs k in
@@ -278,7 +279,7 @@ unfolding documents
 documents-are [] = nothing
 documents-are (p ∷ ps) = go (documents-are ps) (isDocument p) refl
   where
-    go : All (λ (q : Path). origin q .owner ≡ 0) (documents ps) → (t : Bool) → isDocument p ≡ t → All (λ (q : Path). origin q .owner ≡ 0)
-        (pick t (p ∷ documents ps) (documents ps))
+    go : All (λ (q : Path). origin q .owner ≡ 0) (documents ps) → (t : Bool) → isDocument p ≡ t →
+        All (λ (q : Path). origin q .owner ≡ 0) (pick t (p ∷ documents ps) (documents ps))
     go a true e = also (eqb-true (origin p .owner) 0 e) a
     go a false e = a

@@ -27,11 +27,8 @@ use Rattle.paths.proofs.OperandLaws.{Zero, no-operand, One, one-operand
 test-low : (t n : ℕ) → testFits t n ≡ true → t < 4
 test-low t n h =
     by-cases (eqb t 3) (λ e. omega (arith, eqb-true t 3 e))
-    (λ e. omega (
-      arith,
-      ltb-true t 3 (and-left (ltb t 3) (eqb n 0) (sym (ap (λ (x : Bool). pick x (isIn 1 255 n) (ltb t 3 && eqb n 0)) e)
-          ∙ h)),
-    ))
+    (λ e. omega
+    (arith, ltb-true t 3 (and-left (ltb t 3) (eqb n 0) (sym (ap (λ (x : Bool). pick x (isIn 1 255 n) (ltb t 3 && eqb n 0)) e) ∙ h))))
 
 module _ {b : List ℕ} {at left v : ℕ} {env ws : List ℕ} {n : ℕ} (pre : EmitPre b at left v env ws n) where
   fits : RecordFits b at left v
@@ -67,8 +64,9 @@ module _ {b : List ℕ} {at left v : ℕ} {env ws : List ℕ} {n : ℕ} (pre : E
     where
       variable : getD b at 0 ≡ varKind → nullaryOf b at env (entriesIn ws n) ≡ nullaryOf b at (take v env) (entriesIn ws n)
       variable k =
-          rw k (ap (λ (x : ℕ). positions.emitted x (entriesIn ws n)) (sym (getD-take v env (getD b (at + 1) 0) 0 (variable-number b at
-          left v fits k))))
+          rw k
+          (ap (λ (x : ℕ). positions.emitted x (entriesIn ws n))
+          (sym (getD-take v env (getD b (at + 1) 0) 0 (variable-number b at left v fits k))))
 
   -- THE FIRST OPERAND, of one, two or three
   record Some : Type 0 where
@@ -141,8 +139,8 @@ module _ {b : List ℕ} {at left v : ℕ} {env ws : List ℕ} {n : ℕ} (pre : E
     -- THE SECOND OPERAND, of two or three
     record More : Type 0 where
       second : Accepted b (secondAt b at) (left - 1) (inner (getD b at 0) v)
-      size : 1 + recordsOf (exprAt (left - 1) b (firstAt b at)) + recordsOf (exprAt (left - 1) b (secondAt b at)) ≤ recordsOf (exprAt
-          left b at)
+      size : 1 + recordsOf (exprAt (left - 1) b (firstAt b at)) + recordsOf (exprAt (left - 1) b (secondAt b at)) ≤ recordsOf
+          (exprAt left b at)
 
     more : 1 < arity (getD b at 0) → More
     more h =
@@ -254,8 +252,9 @@ module _ {b : List ℕ} {at left v : ℕ} {env ws : List ℕ} {n : ℕ} (pre : E
                 record {
                   size = g .size;
                   is = g .is ∙ ap (λ (x : positions.Emitted). positions.pushUnion (x .result) (outOf ws₃ r₃)) plain ∙
-                      ap (positions.pushUnion (other .result)) (third .is ∙ ap (λ (x : positions.Emitted). emit (exprAt (left - 1) b
-                      (thirdAt b at)) (take v env) (x .entries)) plain) ∙
+                      ap (positions.pushUnion (other .result))
+                      (third .is ∙ ap (λ (x : positions.Emitted). emit (exprAt (left - 1) b (thirdAt b at)) (take v env) (x .entries))
+                      plain) ∙
                       sym (three .emits (take v env) (entriesIn ws n));
                   place = g .place ∙ third .place ∙ sym (three .ends);
                   low = g .low;

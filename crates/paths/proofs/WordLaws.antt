@@ -55,28 +55,28 @@ module _ (p : Position) (f : PositionFits p) where
       let low-top : p .kind + 4 * p .mark + 16 * p .axis + 64 * p .test + 256 * p .name + 65536 * p .first < 16777216 =
       omega (arith, low65536, f .first) in
       let k : wordOf p % 4 ≡ p .kind =
-      at (λ (w : ℕ). w % 4) (p .kind + 4 * (p .mark + 4 * p .axis + 16 * p .test + 64 * p .name + 16384 * p .first + 4194304 * p
-      .second)) (omega arith)
+      at (λ (w : ℕ). w % 4) (p .kind + 4 * (p .mark + 4 * p .axis + 16 * p .test + 64 * p .name + 16384 * p .first + 4194304 * p .second))
+      (omega arith)
       (p .kind) (digit-1 (p .kind) _ (f .kind)) in
       let m : wordOf p / 4 % 4 ≡ p .mark =
-      at (λ (w : ℕ). w / 4 % 4) (p .kind + 4 * (p .mark + 4 * (p .axis + 4 * p .test + 16 * p .name + 4096 * p .first + 1048576 * p
-      .second))) (omega arith)
+      at (λ (w : ℕ). w / 4 % 4)
+      (p .kind + 4 * (p .mark + 4 * (p .axis + 4 * p .test + 16 * p .name + 4096 * p .first + 1048576 * p .second))) (omega arith)
       (p .mark) (digit-4 (p .kind) (p .mark) _ (f .kind) (f .mark)) in
       let a : wordOf p / 16 % 4 ≡ p .axis =
-      at (λ (w : ℕ). w / 16 % 4) (p .kind + 4 * p .mark + 16 * (p .axis + 4 * (p .test + 4 * p .name + 1024 * p .first + 262144 * p
-      .second))) (omega arith)
+      at (λ (w : ℕ). w / 16 % 4)
+      (p .kind + 4 * p .mark + 16 * (p .axis + 4 * (p .test + 4 * p .name + 1024 * p .first + 262144 * p .second))) (omega arith)
       (p .axis) (digit-16 (p .kind + 4 * p .mark) (p .axis) _ low4 (f .axis)) in
       let t : wordOf p / 64 % 4 ≡ p .test =
-      at (λ (w : ℕ). w / 64 % 4) (p .kind + 4 * p .mark + 16 * p .axis + 64 * (p .test + 4 * (p .name + 256 * p .first + 65536 * p
-      .second))) (omega arith)
+      at (λ (w : ℕ). w / 64 % 4)
+      (p .kind + 4 * p .mark + 16 * p .axis + 64 * (p .test + 4 * (p .name + 256 * p .first + 65536 * p .second))) (omega arith)
       (p .test) (digit-64 (p .kind + 4 * p .mark + 16 * p .axis) (p .test) _ low64 (f .test)) in
       let n : wordOf p / 256 % 256 ≡ p .name =
-      at (λ (w : ℕ). w / 256 % 256) (p .kind + 4 * p .mark + 16 * p .axis + 64 * p .test + 256 * (p .name + 256 * (p .first + 256 * p
-      .second))) (omega arith)
+      at (λ (w : ℕ). w / 256 % 256)
+      (p .kind + 4 * p .mark + 16 * p .axis + 64 * p .test + 256 * (p .name + 256 * (p .first + 256 * p .second))) (omega arith)
       (p .name) (digit-256 (p .kind + 4 * p .mark + 16 * p .axis + 64 * p .test) (p .name) _ low256 (f .name)) in
       let i : wordOf p / 65536 % 128 ≡ p .first =
-      at (λ (w : ℕ). w / 65536 % 128) (p .kind + 4 * p .mark + 16 * p .axis + 64 * p .test + 256 * p .name + 65536 * (p .first + 128 * (2
-      * p .second))) (omega arith)
+      at (λ (w : ℕ). w / 65536 % 128)
+      (p .kind + 4 * p .mark + 16 * p .axis + 64 * p .test + 256 * p .name + 65536 * (p .first + 128 * (2 * p .second))) (omega arith)
       (p .first) (digit-65536 (p .kind + 4 * p .mark + 16 * p .axis + 64 * p .test + 256 * p .name) (p .first) (2 * p .second) low65536
       (f .first)) in
       let j : wordOf p / 16777216 % 128 ≡ p .second =
@@ -90,8 +90,8 @@ module _ (p : Position) (f : PositionFits p) where
   word-pushed ws n h =
       record {
         size = length-set ws n (wordOf p);
-        entries = ap (λ (k : ℕ). map entryOf (take k (set ws n (wordOf p)))) (add-one n) ∙ ap (map entryOf) (take-suc-set ws n (wordOf p)
-            h) ∙
+        entries = ap (λ (k : ℕ). map entryOf (take k (set ws n (wordOf p)))) (add-one n) ∙
+            ap (map entryOf) (take-suc-set ws n (wordOf p) h) ∙
             map-append entryOf (take n ws) (wordOf p ∷ []) ∙
             ap (λ (q : Position). entriesIn ws n ++ (entryBy q ∷ [])) fields-word;
       }

@@ -14,6 +14,7 @@ use Rattle.paths.specs.Pairs.{maxPositions}
 use Rattle.paths.specs.declared.Analysis.{Analysis}
 use Rattle.paths.specs.declared.Analysis.the-variants.{Refused, Free, Upward, Meet}
 
+-- the case of each answer
 abbrev pub byAnswer : Answer → Analysis
 byAnswer free = Free
 byAnswer upward = Upward
@@ -25,6 +26,7 @@ analysisBy (ill x) q = Refused 1 (faultOf x)
 analysisBy (parsed e i n b) (ill x) = Refused 2 (faultOf x)
 analysisBy (parsed e i n b) (parsed f j m c) = byAnswer (answer e f)
 
+-- from the bytes of both
 abbrev pub analysed : (first second : List ℕ) → Analysis
 analysed b c = analysisBy (readScript b) (readScript c)
 

@@ -28,19 +28,21 @@ between ps qs = sum (λ (p : Path). sum (cell p) qs) ps
 abbrev pub Cells : Type 0
 Cells = (k l : ℕ) → Cell
 
--- from a document, number k, and from a step over i, to a position that is not a union
+-- from a document d, number k, to a position
 abbrev pub rootCell : (d k : ℕ) → Position → Cells → Cell
 rootCell d k nowhere t = noCell
 rootCell d k (root e) t = startCell (documentPlace d) (documentPlace e)
 rootCell d k (over s j) t = upStep s (t k j)
 rootCell d k (union a b) t = joinCell (t k a) (t k b)
 
+-- from a step s over i, number k, to a position, number l
 abbrev pub overCell : Step → (i k l : ℕ) → Position → Cells → Cell
 overCell s i k l nowhere t = noCell
 overCell s i k l (root e) t = downStep s (t i l)
 overCell s i k l (over u j) t = joinCell (onStep s u (t i j)) (joinCell (downStep s (t i l)) (upStep u (t k j)))
 overCell s i k l (union a b) t = joinCell (t k a) (t k b)
 
+-- from any position
 abbrev pub cellBy : (k l : ℕ) → (first second : Position) → Cells → Cell
 cellBy k l nowhere q t = noCell
 cellBy k l (root d) q t = rootCell d k q t
@@ -52,7 +54,7 @@ pub record Filled (es fs : List Entry) (k l : ℕ) (t : Cells) : Type 0 where
   pub rows : (i j : ℕ) → i < k → j < length fs → t i j ≡ between (pathsOn es i) (pathsOn fs j)
   pub row : (j : ℕ) → j < l → t k j ≡ between (pathsOn es k) (pathsOn fs j)
 
--- MEETING: some position that one modifies meets one that the other accesses
+-- MEETING: some position that one modifies meets one that the other accesses. A test of some number below the count
 unfoldable pub anyUpTo : (ℕ → Bool) → (count : ℕ) → Bool
 anyUpTo f zero = false
 anyUpTo f (suc n) = anyUpTo f n || f n
@@ -61,6 +63,7 @@ anyUpTo f (suc n) = anyUpTo f n || f n
 abbrev pub isTested : Entry → Entry → Bool
 isTested x y = (x .modified && y .accessed) || (x .accessed && y .modified)
 
+-- positions k and l are tested, and meet
 abbrev pub meetAt : (first second : List Entry) → (k l : ℕ) → Bool
 meetAt es fs k l = isTested (entryAt es k) (entryAt fs l) && isMet (between (pathsOn es k) (pathsOn fs l))
 
@@ -68,6 +71,7 @@ meetAt es fs k l = isTested (entryAt es k) (entryAt fs l) && isMet (between (pat
 abbrev pub rowMeets : (first second : List Entry) → (k n : ℕ) → Bool
 rowMeets es fs k n = anyUpTo (meetAt es fs k) n
 
+-- any two positions
 abbrev pub positionsMeet : (first second : List Entry) → Bool
 positionsMeet es fs = anyUpTo (λ (k : ℕ). rowMeets es fs k (length fs)) (length es)
 

@@ -4,9 +4,11 @@ use Rattle.model.specs.Meeting as meeting
 use Rattle.paths.specs.declared.cells.Step.{Step}
 use Rattle.paths.specs.declared.cells.Cell.{Cell}
 
+-- a step
 abbrev pub stepOf : Step → model.Step
 stepOf s = model.stepBy (s .axis) (s .test) (s .name)
 
+-- a cell
 abbrev pub cellOf : Cell → meeting.Cell
 cellOf c =
     record {

@@ -25,6 +25,7 @@ cellBits b =
       upLeaf = eqb (b / 32 % 2) 1;
     }
 
+-- the cell of a pair in the table
 abbrev pub cellIn : (table : List ℕ) → Cells
 cellIn t k l = cellBits (getD t (maxPositions * k + l) 0)
 

@@ -49,6 +49,7 @@ pub record Emitted : Type 0 where
   pub result : ℕ
   pub entries : List Entry
 
+-- both
 abbrev pub emitted : (result : ℕ) → (entries : List Entry) → Emitted
 emitted r es = record { result = r; entries = es }
 
@@ -56,9 +57,11 @@ emitted r es = record { result = r; entries = es }
 abbrev pub push : (entries : List Entry) → Entry → Emitted
 push es x = emitted (length es) (es ++ (x ∷ []))
 
+-- a step over x, accessed
 abbrev pub pushStep : Step → Emitted → Emitted
 pushStep s x = push (x .entries) (accessing (over s (x .result)))
 
+-- two results together
 abbrev pub pushUnion : (first : ℕ) → (second : Emitted) → Emitted
 pushUnion r y = push (y .entries) (plain (union r (y .result)))
 
@@ -93,9 +96,11 @@ emit (choose z r c e) b es = emit e b es
 abbrev pub entriesBefore : List Entry
 entriesBefore = plain nowhere ∷ []
 
+-- the entries of a script
 abbrev pub entriesOf : Expr → List Entry
 entriesOf e = emit e [] entriesBefore .entries
 
+-- the entry of a number
 abbrev pub entryAt : List Entry → (number : ℕ) → Entry
 entryAt es k = getD es k (plain nowhere)
 
@@ -110,6 +115,7 @@ pathsAt ps (root d) = start (documentPlace d) ∷ []
 pathsAt ps (over s i) = withStep s (getD ps i [])
 pathsAt ps (union i j) = getD ps i [] ++ getD ps j []
 
+-- those of each position, after lower ones
 unfoldable pub pathsFrom : (lower : List (List Path)) → List Entry → List (List Path)
 pathsFrom ps [] = ps
 pathsFrom ps (x ∷ xs) = pathsFrom (ps ++ (pathsAt ps (x .position) ∷ [])) xs

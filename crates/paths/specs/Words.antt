@@ -18,6 +18,7 @@ positionBy p =
     (pick (eqb (p .kind) 1) (positions.root (p .name))
     (pick (eqb (p .kind) 2) (positions.over (stepBy (p .axis) (p .test) (p .name)) (p .first)) (positions.union (p .first) (p .second))))
 
+-- a position with its marks
 abbrev pub entryBy : Position → positions.Entry
 entryBy p = record { position = positionBy p; accessed = eqb (p .mark) 1; modified = eqb (p .mark) 2 }
 
@@ -36,6 +37,7 @@ abbrev pub wordOf : Position → ℕ
 wordOf p =
     p .kind + 4 * p .mark + 16 * p .axis + 64 * p .test + 256 * p .name + 65536 * p .first + 16777216 * p .second
 
+-- and taken out again
 abbrev pub fieldsOf : (word : ℕ) → Position
 fieldsOf w =
     record {
@@ -48,6 +50,7 @@ fieldsOf w =
       second = w / 16777216 % 128;
     }
 
+-- fields that fit their bits
 pub record PositionFits (p : Position) : Type 0 where
   pub kind : p .kind < 4
   pub mark : p .mark < 4
@@ -57,10 +60,11 @@ pub record PositionFits (p : Position) : Type 0 where
   pub first : p .first < 128
   pub second : p .second < 128
 
--- the entries that the first words are
+-- the entry that a word is
 abbrev pub entryOf : (word : ℕ) → positions.Entry
 entryOf w = entryBy (fieldsOf w)
 
+-- the entries that the first words are
 abbrev pub entriesIn : (words : List ℕ) → (count : ℕ) → List positions.Entry
 entriesIn ws n = map entryOf (take n ws)
 

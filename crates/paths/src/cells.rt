@@ -1,12 +1,15 @@
 // What two positions can have in common, and how steps lead from one such cell to the next.
 ghost use mathlib.Core.Path.{_≡_};
-ghost use Rattle.model.specs.Meeting.{admitsElement, admitsLeaf, isNamed, isDeep, isParent, shareElement, joinCell, onStep, downStep, upStep, startCell, isMet};
+ghost use Rattle.model.specs.Meeting.{admitsElement, admitsLeaf, isNamed, isDeep, shareElement};
+ghost use Rattle.model.specs.Meeting.{joinCell, onStep, downStep, upStep, startCell, isMet};
 ghost use Rattle.model.specs.Paths.{documentPlace};
 ghost use Rattle.paths.specs.Cells.{noCell};
 ghost use Rattle.paths.specs.Codes.{stepOf, cellOf};
 
+// The descendant axis.
 const DESCENDANT: usize = 1;
 
+// Tests; any other is for the named element.
 const ANY_NODE: usize = 0;
 
 const ANY_ELEMENT: usize = 1;
@@ -32,18 +35,21 @@ pub struct Cell {
 }
 
 impl Step {
+    // Some element passes the test.
     fn admits_element(self) -> bool
         ensures { λ r. ⌜ r ≡ admitsElement (stepOf self) ⌝ }
     {
         !(self.test == ANY_LEAF)
     }
 
+    // Some leaf passes the test.
     fn admits_leaf(self) -> bool
         ensures { λ r. ⌜ r ≡ admitsLeaf (stepOf self) ⌝ }
     {
         (self.test == ANY_NODE) | (self.test == ANY_LEAF)
     }
 
+    // The test is for the named element.
     fn is_named(self) -> bool
         ensures { λ r. ⌜ r ≡ isNamed (stepOf self) ⌝ }
     {
@@ -97,6 +103,7 @@ impl Cell {
         }
     }
 
+    // Both together.
     pub fn join(self, d: Cell) -> Cell
         ensures { λ r. ⌜ cellOf r ≡ joinCell (cellOf self) (cellOf d) ⌝ }
     {

@@ -20,6 +20,7 @@ pub struct Emitted {
     pub place: usize,
 }
 
+// A byte as a number.
 fn index(b: u8) -> usize
     ensures { λ r. ⌜ r ≡ b ⌝ }
 {

@@ -12,6 +12,7 @@ use crate::pairs;
 use crate::positions;
 use crate::positions::Position;
 
+// The step of a position over another.
 fn step_of(p: Position) -> Step
     ensures { λ r. ⌜ stepOf r ≡ stepBy (p .axis) (p .test) (p .name) ⌝ }
 {

@@ -12,6 +12,7 @@ pub const POSITIONS: usize = 128;
 // Bytes of the table.
 pub const PAIRS: usize = POSITIONS * POSITIONS;
 
+// 1 for true.
 fn bit(b: bool) -> u8
     ensures { λ r. ⌜ r ≡ pick b 1 0 ⌝ }
     ensures { λ r. ⌜ r < 2 ⌝ }
@@ -22,6 +23,7 @@ fn bit(b: bool) -> u8
     0
 }
 
+// A bit for each test.
 fn packed(c: Cell) -> u8
     ensures { λ r. ⌜ cellBits r ≡ cellOf c ⌝ }
 {
@@ -33,6 +35,7 @@ fn packed(c: Cell) -> u8
         + 32 * bit(c.up_leaf)
 }
 
+// The cell of a byte.
 fn unpacked(b: u8) -> Cell
     ensures { λ r. ⌜ cellOf r ≡ cellBits b ⌝ }
 {

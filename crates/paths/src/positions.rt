@@ -5,6 +5,7 @@ ghost use Rattle.paths.specs.Filling.{climbing};
 ghost use Rattle.paths.specs.Words.{positionBy, rootBy, overBy, unionBy, wordOf, fieldsOf, PositionFits, PushPre, PushPost};
 use crate::cells::Step;
 
+// Kinds.
 pub const NOWHERE: usize = 0;
 
 pub const ROOT: usize = 1;
@@ -13,6 +14,7 @@ pub const OVER: usize = 2;
 
 pub const UNION: usize = 3;
 
+// Marks: none, accessed, modified.
 pub const PLAIN: usize = 0;
 
 pub const ACCESSED: usize = 1;
@@ -86,6 +88,7 @@ impl Position {
         (self.kind == OVER) & (PARENT <= self.axis)
     }
 
+    // Each field in its bits.
     fn packed(self) -> usize
         requires { ⌜ PositionFits self ⌝ }
         ensures { λ r. ⌜ r ≡ wordOf self ⌝ }
@@ -99,6 +102,7 @@ impl Position {
             + 16777216 * self.second
     }
 
+    // The position that a word is.
     pub fn unpacked(word: usize) -> Position
         ensures { λ r. ⌜ r ≡ fieldsOf word ⌝ }
     {

@@ -1,3 +1,4 @@
+-- `analyse` answers what the model does: one law of AnalysisLaws for each way out.
 use mathlib.Core.Path.{_≡_, refl, ap, sym, _∙_}
 use Rattle.table.specs.declared.Fault.{Fault}
 use Rattle.script.specs.Walk.{exprAt}
@@ -11,61 +12,45 @@ read-script-requires c κs = search needs
 
 returns : tie.Need-returns
 returns c =
-    first-refused (c .before .before .before .before .before .args .first .now) (c .before .before .before .before .before .args .second
-    .now) (c .before .before .read-script .result) (c .before .before .read-script .ensures) (c .if1 .taken)
+    let c2 = c .before .before in
+    let c5 = c2 .before .before .before in
+    first-refused (c5 .args .first .now) (c5 .args .second .now) (c2 .read-script .result) (c2 .read-script .ensures) (c .if1 .taken)
 
 read-script-requires-2 : tie.Need-read-script-requires-2
 read-script-requires-2 c κs = search needs
 
 returns-2 : tie.Need-returns-2
 returns-2 c =
-    let zero : c .before .before .before .before .before .read-script .result .number ≡ 0 = search (
-      c .before .before .before .if1 .left,
-      needs,
-    ) in
-    second-refused (c .before .before .before .before .before .before .before .before .args .first .now) (c .before .before .before
-    .before .before .before .before .before .args .second .now) (sym (ap (λ (x : Fault). x .number) (c .before .before .before
-    .before .before .read-script .ensures)) ∙ zero) (c .before .before .read-script2 .result) (c .before .before .read-script2
-    .ensures) (c .if2 .taken)
+    let c2 = c .before .before in
+    let c3 = c2 .before in
+    let c5 = c3 .before .before in
+    let c8 = c5 .before .before .before in
+    let zero : c5 .read-script .result .number ≡ 0 = search (c3 .if1 .left, needs) in
+    second-refused (c8 .args .first .now) (c8 .args .second .now) (sym (ap (λ (x : Fault). x .number) (c5 .read-script .ensures)) ∙ zero)
+    (c2 .read-script2 .result) (c2 .read-script2 .ensures) (c .if2 .taken)
 
 slice-aggregate-positions-of : tie.Need-slice-aggregate-positions-of
 slice-aggregate-positions-of c = search needs
 
 positions-of-requires : tie.Need-positions-of-requires
 positions-of-requires c κs =
-    let zero : c .before .before .before .before .before .before .read-script .result .number ≡ 0 = search (
-      c .before .before .before
-          .before .if1 .left,
-      needs,
-    ) in
-    record {
-      accepted = (sym (ap (λ (x : Fault). x .number) (c .before .before .before .before .before .before .read-script .ensures)) ∙
-          zero);
-      size = refl;
-      zero = refl;
-    }
+    let c4 = c .before .before .before .before in
+    let c6 = c4 .before .before in
+    let zero : c6 .read-script .result .number ≡ 0 = search (c4 .if1 .left, needs) in
+    record { accepted = (sym (ap (λ (x : Fault). x .number) (c6 .read-script .ensures)) ∙ zero); size = refl; zero = refl }
 
 slice-aggregate-positions-of-2 : tie.Need-slice-aggregate-positions-of-2
 slice-aggregate-positions-of-2 c = search needs
 
 positions-of-requires-2 : tie.Need-positions-of-requires-2
 positions-of-requires-2 c κs =
-    let zero : c .before .before .before .before .before .before .before .before .before .read-script .result .number ≡ 0 = search (
-      c
-          .before .before .before .before .before .before .before .if1 .left,
-      needs,
-    ) in
-    let zero2 : c .before .before .before .before .before .before .read-script2 .result .number ≡ 0 = search (
-      c .before .before .before
-          .before .if2 .left,
-      needs,
-    ) in
-    record {
-      accepted = (sym (ap (λ (x : Fault). x .number) (c .before .before .before .before .before .before .read-script2 .ensures)) ∙
-          zero2);
-      size = refl;
-      zero = refl;
-    }
+    let c4 = c .before .before .before .before in
+    let c6 = c4 .before .before in
+    let c7 = c6 .before in
+    let c9 = c7 .before .before in
+    let zero : c9 .read-script .result .number ≡ 0 = search (c7 .if1 .left, needs) in
+    let zero2 : c6 .read-script2 .result .number ≡ 0 = search (c4 .if2 .left, needs) in
+    record { accepted = (sym (ap (λ (x : Fault). x .number) (c6 .read-script2 .ensures)) ∙ zero2); size = refl; zero = refl }
 
 slice-aggregate-answer : tie.Need-slice-aggregate-answer
 slice-aggregate-answer c = search needs
@@ -78,44 +63,37 @@ slice-aggregate-answer-3 c = search needs
 
 answer-requires : tie.Need-answer-requires
 answer-requires c κs =
+    let c4 = c .before .before .before .before in
+    let c7 = c4 .before .before .before in
+    let c17 = c7 .before .before .before .before .before .before .before .before .before .before in
     record {
-      first = c .before .before .before .before .before .before .before .positions-of .ensures .size;
-      firstFew = c .before .before .before .before .before .before .before .positions-of .ensures .few;
-      firstLower = entries-lower (c .before .before .before .before .before .before .before .positions-of .last .1 .0) (c .before .before
-          .before .before .before .before .before .positions-of .result) (exprAt 16 (c .before .before .before .before .before .before
-          .before .before .before .before .before .before .before .before .before .before .before .args .first .now) 0) (c .before
-          .before .before .before .before .before .before .positions-of .ensures .entries);
-      second = c .before .before .before .before .positions-of2 .ensures .size;
-      secondFew = c .before .before .before .before .positions-of2 .ensures .few;
-      secondLower = entries-lower (c .before .before .before .before .positions-of2 .last .1 .0) (c .before .before .before .before
-          .positions-of2 .result) (exprAt 16 (c .before .before .before .before .before .before .before .before .before .before .before
-          .before .before .before .before .before .before .args .second .now) 0) (c .before .before .before .before .positions-of2
-          .ensures .entries);
+      first = c7 .positions-of .ensures .size;
+      firstFew = c7 .positions-of .ensures .few;
+      firstLower =
+          entries-lower (c7 .positions-of .last .1 .0) (c7 .positions-of .result) (exprAt 16 (c17 .args .first .now) 0)
+          (c7 .positions-of .ensures .entries);
+      second = c4 .positions-of2 .ensures .size;
+      secondFew = c4 .positions-of2 .ensures .few;
+      secondLower =
+          entries-lower (c4 .positions-of2 .last .1 .0) (c4 .positions-of2 .result) (exprAt 16 (c17 .args .second .now) 0)
+          (c4 .positions-of2 .ensures .entries);
       table = refl;
     }
 
 returns-3 : tie.Need-returns-3
 returns-3 c =
-    let zero : c .before .before .before .before .before .before .before .before .before .before .before .before .before .before .before
-    .before .read-script .result .number ≡ 0 = search (
-      c .before .before .before .before .before .before .before .before .before
-          .before .before .before .before .before .if1 .left,
-      needs,
-    ) in
-    let zero2 : c .before .before .before .before .before .before .before .before .before .before .before .before .before .read-script2
-    .result .number ≡ 0 = search (
-      c .before .before .before .before .before .before .before .before .before .before .before .if2
-          .left,
-      needs,
-    ) in
-    both-accepted (c .before .before .before .before .before .before .before .before .before .before .before .before .before .before
-    .before .before .before .before .before .args .first .now) (c .before .before .before .before .before .before .before .before
-    .before .before .before .before .before .before .before .before .before .before .before .args .second .now) (sym (ap (λ (x :
-    Fault). x .number) (c .before .before .before .before .before .before .before .before .before .before .before .before .before
-    .before .before .before .read-script .ensures)) ∙ zero) (sym (ap (λ (x : Fault). x .number) (c .before .before .before .before
-    .before .before .before .before .before .before .before .before .before .read-script2 .ensures)) ∙ zero2) (c .before .before
-    .before .before .before .before .before .before .before .positions-of .ensures) (c .before .before .before .before .before
-    .before .positions-of2 .ensures) (c .before .answer .ensures)
+    let c6 = c .before .before .before .before .before .before in
+    let c9 = c6 .before .before .before in
+    let c11 = c9 .before .before in
+    let c13 = c11 .before .before in
+    let c14 = c13 .before in
+    let c16 = c14 .before .before in
+    let c19 = c16 .before .before .before in
+    let zero : c16 .read-script .result .number ≡ 0 = search (c14 .if1 .left, needs) in
+    let zero2 : c13 .read-script2 .result .number ≡ 0 = search (c11 .if2 .left, needs) in
+    both-accepted (c19 .args .first .now) (c19 .args .second .now) (sym (ap (λ (x : Fault). x .number) (c16 .read-script .ensures)) ∙ zero)
+    (sym (ap (λ (x : Fault). x .number) (c13 .read-script2 .ensures)) ∙ zero2) (c9 .positions-of .ensures) (c6 .positions-of2 .ensures)
+    (c .before .answer .ensures)
 
 pub analyse-spec : {M : Type 1} → statement M
 analyse-spec =

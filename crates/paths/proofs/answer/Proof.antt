@@ -1,3 +1,4 @@
+-- `answer` from two lists of positions: one law of AnalysisLaws for each way out.
 use Rattle.paths.proofs.AnalysisLaws.{table-asks, answer-first, answer-second, answer-meet, answer-free}
 use borrow.Author.Needs.{needs}
 use Rattle.paths.proofs.answer.Statement.{statement}
@@ -16,7 +17,9 @@ climbs-requires : tie.Need-climbs-requires
 climbs-requires c κs = search needs
 
 returns : tie.Need-returns
-returns c = answer-first (c .before .before .before .before .before .before .pre) (c .before .climbs .ensures) (c .if1 .taken)
+returns c =
+    let c6 = c .before .before .before .before .before .before in
+    answer-first (c6 .pre) (c .before .climbs .ensures) (c .if1 .taken)
 
 sub-climbs-2 : tie.Need-sub-climbs-2
 sub-climbs-2 c = search needs
@@ -31,8 +34,11 @@ climbs-requires-2 : tie.Need-climbs-requires-2
 climbs-requires-2 c κs = search needs
 
 returns-2 : tie.Need-returns-2
-returns-2 c = answer-second (c .before .before .before .before .before .before .before .before .before .pre) (c .before .before .before
-    .before .climbs .ensures) (c .before .before .before .if1 .left) (c .before .climbs2 .ensures) (c .if2 .taken)
+returns-2 c =
+    let c3 = c .before .before .before in
+    let c4 = c3 .before in
+    let c9 = c4 .before .before .before .before .before in
+    answer-second (c9 .pre) (c4 .climbs .ensures) (c3 .if1 .left) (c .before .climbs2 .ensures) (c .if2 .taken)
 
 sub-positions-meet : tie.Need-sub-positions-meet
 sub-positions-meet c = search needs
@@ -53,30 +59,37 @@ part-positions-meet-end-2 : tie.Need-part-positions-meet-end-2
 part-positions-meet-end-2 c = search needs
 
 positions-meet-requires : tie.Need-positions-meet-requires
-positions-meet-requires c κs = table-asks (c .before .before .before .before .before .before .before .before .before .before .before
-    .before .pre)
+positions-meet-requires c κs =
+    let c12 = c .before .before .before .before .before .before .before .before .before .before .before .before in
+    table-asks (c12 .pre)
 
 same-length : tie.Need-same-length
 same-length c = search needs
 
 returns-3 : tie.Need-returns-3
 returns-3 c =
-    answer-meet (c .before .before .before .before .before .before .before .before .before .before .before .before .before .before
-    .before .before .pre) (c .before .before .before .before .before .before .before .before .before .before .before .climbs
-    .ensures) (c .before .before .before .before .before .before .before .before .before .before .if1 .left) (c .before .before
-    .before .before .before .before .before .before .climbs2 .ensures) (c .before .before .before .before .before .before .before
-    .if2 .left) (c .before .before .before .positions-meet .ensures) (c .if3 .taken)
+    let c3 = c .before .before .before in
+    let c7 = c3 .before .before .before .before in
+    let c8 = c7 .before in
+    let c10 = c8 .before .before in
+    let c11 = c10 .before in
+    let c16 = c11 .before .before .before .before .before in
+    answer-meet (c16 .pre) (c11 .climbs .ensures) (c10 .if1 .left) (c8 .climbs2 .ensures) (c7 .if2 .left) (c3 .positions-meet .ensures)
+    (c .if3 .taken)
 
 same-length-2 : tie.Need-same-length-2
 same-length-2 c = search needs
 
 returns-4 : tie.Need-returns-4
 returns-4 c =
-    answer-free (c .before .before .before .before .before .before .before .before .before .before .before .before .before .before
-    .before .before .pre) (c .before .before .before .before .before .before .before .before .before .before .before .climbs
-    .ensures) (c .before .before .before .before .before .before .before .before .before .before .if1 .left) (c .before .before
-    .before .before .before .before .before .before .climbs2 .ensures) (c .before .before .before .before .before .before .before
-    .if2 .left) (c .before .before .before .positions-meet .ensures) (c .if3 .left)
+    let c3 = c .before .before .before in
+    let c7 = c3 .before .before .before .before in
+    let c8 = c7 .before in
+    let c10 = c8 .before .before in
+    let c11 = c10 .before in
+    let c16 = c11 .before .before .before .before .before in
+    answer-free (c16 .pre) (c11 .climbs .ensures) (c10 .if1 .left) (c8 .climbs2 .ensures) (c7 .if2 .left) (c3 .positions-meet .ensures)
+    (c .if3 .left)
 
 pub answer-spec : {M : Type 1} → statement M
 answer-spec =

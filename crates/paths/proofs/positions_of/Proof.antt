@@ -1,3 +1,4 @@
+-- `positions_of` gives the positions of the expression that the script is.
 use mathlib.Core.Path.{refl}
 use Rattle.paths.proofs.AnalysisLaws.{positions-asks, positions-done}
 use borrow.Author.Needs.{needs}
@@ -11,7 +12,9 @@ same-length : tie.Need-same-length
 same-length c = search needs
 
 returns : tie.Need-returns
-returns c = positions-done (c .before .before .before .before .before .before .pre) (c .before .before .emit .ensures)
+returns c =
+    let c6 = c .before .before .before .before .before .before in
+    positions-done (c6 .pre) (c .before .before .emit .ensures)
 
 pub positions-of-spec : {M : Type 1} → statement M
 positions-of-spec = tie.close (tie.spec emit-requires same-length returns)

@@ -1,3 +1,4 @@
+-- `emit::binary` by its kind: one law of RecordLaws for each way out.
 use Rattle.paths.specs.Emitting.{outOf}
 use Rattle.paths.proofs.RecordLaws.{binary-join, binary-insert, binary-none, grown-none}
 use borrow.Author.Needs.{needs}
@@ -12,10 +13,11 @@ same-length c = search needs
 
 returns : tie.Need-returns
 returns c =
-    binary-join (c .before .before .before .before .before .before .args .kind) (c .before .before .before .before .before .before .args
-    .first) (outOf (c .before .before .before .before .before .before .args .words .now) (c .before .before .before .before .before
-    .before .args .y)) (c .before .before .before .before .before .before .args .y) (c .before .before .union .last .0) (c .before
-    .before .union .result) (c .before .before .before .before .if1 .taken) (c .before .before .union .ensures)
+    let c2 = c .before .before in
+    let c4 = c2 .before .before in
+    let c6 = c4 .before .before in
+    binary-join (c6 .args .kind) (c6 .args .first) (outOf (c6 .args .words .now) (c6 .args .y)) (c6 .args .y) (c2 .union .last .0)
+    (c2 .union .result) (c4 .if1 .taken) (c2 .union .ensures)
 
 insert-requires : tie.Need-insert-requires
 insert-requires c κs = search needs
@@ -25,18 +27,17 @@ same-length-2 c = search needs
 
 returns-2 : tie.Need-returns-2
 returns-2 c =
-    binary-insert (c .before .before .before .before .before .before .before .args .kind) (c .before .before .before .before .before
-    .before .before .args .first) (outOf (c .before .before .before .before .before .before .before .args .words .now) (c .before
-    .before .before .before .before .before .before .args .y)) (c .before .before .before .before .before .before .before .args .y)
-    (c .before .before .insert .last .0) (c .before .before .insert .result) (c .before .before .before .before .if2 .taken) (c
-    .before .before .insert .ensures)
+    let c2 = c .before .before in
+    let c4 = c2 .before .before in
+    let c7 = c4 .before .before .before in
+    binary-insert (c7 .args .kind) (c7 .args .first) (outOf (c7 .args .words .now) (c7 .args .y)) (c7 .args .y) (c2 .insert .last .0)
+    (c2 .insert .result) (c4 .if2 .taken) (c2 .insert .ensures)
 
 returns-3 : tie.Need-returns-3
 returns-3 c =
-    binary-none (c .before .before .before .args .kind) (c .before .before .before .args .first) (outOf (c .before .before .before .args
-    .words .now) (c .before .before .before .args .y)) (c .before .before .before .args .y) (c .before .before .before .args .words
-    .now) (c .before .before .before .args .y) (c .before .if1 .left) (c .if2 .left) (grown-none (c .before .before .before .args
-    .words .now) (c .before .before .before .args .y) (c .before .before .before .pre .grow))
+    let c3 = c .before .before .before in
+    binary-none (c3 .args .kind) (c3 .args .first) (outOf (c3 .args .words .now) (c3 .args .y)) (c3 .args .y) (c3 .args .words .now)
+    (c3 .args .y) (c .before .if1 .left) (c .if2 .left) (grown-none (c3 .args .words .now) (c3 .args .y) (c3 .pre .grow))
 
 pub binary-spec : {M : Type 1} → statement M
 binary-spec =

@@ -1,3 +1,4 @@
+-- `emit::bind` gives the variables of a second operand.
 use mathlib.Core.Path.{sym, _∙_}
 use native.Mathlib.Omega.{arith}
 use Rattle.paths.proofs.RecordLaws.{bind-one, bind-none}
@@ -16,13 +17,15 @@ array-write-inside c = omega (arith, c .before .before .pre .scope (sym (c .befo
 
 returns : tie.Need-returns
 returns c =
-    bind-one (c .before .before .args .kind) (c .before .before .args .env) (c .before .before .args .bound) (c .before .before .args
-    .result) (c .before .before .pre) (sym (c .before .is-binder .ensures) ∙ c .if1 .taken)
+    let c2 = c .before .before in
+    bind-one (c2 .args .kind) (c2 .args .env) (c2 .args .bound) (c2 .args .result) (c2 .pre)
+    (sym (c .before .is-binder .ensures) ∙ c .if1 .taken)
 
 returns-2 : tie.Need-returns-2
 returns-2 c =
-    bind-none (c .before .before .args .kind) (c .before .before .args .env) (c .before .before .args .bound) (c .before .before .args
-    .result) (c .before .before .pre) (sym (c .before .is-binder .ensures) ∙ c .if1 .left)
+    let c2 = c .before .before in
+    bind-none (c2 .args .kind) (c2 .args .env) (c2 .args .bound) (c2 .args .result) (c2 .pre)
+    (sym (c .before .is-binder .ensures) ∙ c .if1 .left)
 
 pub bind-spec : {M : Type 1} → statement M
 bind-spec = tie.close (tie.spec is-binder-requires mul-inside array-write-inside returns returns-2)

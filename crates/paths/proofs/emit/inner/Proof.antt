@@ -1,3 +1,4 @@
+-- `emit::inner` counts the variables of a second operand.
 use mathlib.Core.Path.{sym, _∙_}
 use Rattle.script.specs.Walk.{inner}
 use borrow.Author.Needs.{needs}

@@ -1,3 +1,4 @@
+-- `emit::nullary` by its kind: one law of RecordLaws for each way out.
 use mathlib.Core.Path.{ap}
 use Prim.Native.Nat.{ℕ}
 use native.Mathlib.Omega.{arith}
@@ -14,12 +15,9 @@ add-index : tie.Need-add-index
 add-index c = search needs
 
 shared-slice-read-index : tie.Need-shared-slice-read-index
-shared-slice-read-index c = omega (
-  arith,
-  c .before .before .before .before .before .before .pre .whole,
-  ap (λ (k : ℕ). bodySize k) (c
-      .before .before .if1 .taken),
-)
+shared-slice-read-index c =
+    let c6 = c .before .before .before .before .before .before in
+    omega (arith, c6 .pre .whole, ap (λ (k : ℕ). bodySize k) (c .before .before .if1 .taken))
 
 index-requires : tie.Need-index-requires
 index-requires c κs = search needs
@@ -29,20 +27,12 @@ root-requires c κs = search needs
 
 push-requires : tie.Need-push-requires
 push-requires c κs =
+    let c4 = c .before .before .before .before in
+    let c8 = c4 .before .before .before .before in
     record {
-      room = omega (
-        arith,
-        c .before .before .before .before .before .before .before .before .pre .size,
-        c .before .before .before
-            .before .before .before .before .before .pre .room,
-      );
-      fits = root-fits (c .root .result) (c .before .index .result) (c .root .ensures) (omega (
-        arith,
-        c .before .index .ensures,
-        c
-            .before .before .before .before .before .before .before .before .pre .document (c .before .before .before .before .if1
-            .taken),
-      ));
+      room = omega (arith, c8 .pre .size, c8 .pre .room);
+      fits = root-fits (c .root .result) (c .before .index .result) (c .root .ensures)
+          (omega (arith, c .before .index .ensures, c8 .pre .document (c4 .if1 .taken)));
     }
 
 add-t17 : tie.Need-add-t17
@@ -53,61 +43,47 @@ same-length c = search needs
 
 returns : tie.Need-returns
 returns c =
-    nullary-document (c .before .before .before .before .before .before .before .before .before .before .before .args .bytes .now) (c
-    .before .before .before .before .before .before .before .before .before .before .before .args .at) (c .before .before .before
-    .before .before .before .before .before .before .before .before .args .next) (c .before .before .before .before .before .before
-    .before .before .before .before .before .args .t4) (c .before .before .before .before .before .before .before .before .before
-    .before .before .args .words .now) (c .before .before .before .before .before .before .before .before .before .before .before
-    .args .count) (c .before .before .before .before .before .before .before .before .before .before .before .pre) (c .before .before
-    .before .before .before .before .before .if1 .taken) (c .before .before .before .root .result) (c .before .before .before .before
-    .index .result) (c .before .before .push .last .0) (c .before .before .before .root .ensures) (c .before .before .before .before
-    .index .ensures)
-    (c .before .before .push .ensures)
+    let c2 = c .before .before in
+    let c3 = c2 .before in
+    let c4 = c3 .before in
+    let c7 = c4 .before .before .before in
+    let c11 = c7 .before .before .before .before in
+    nullary-document (c11 .args .bytes .now) (c11 .args .at) (c11 .args .next) (c11 .args .t4) (c11 .args .words .now) (c11 .args .count)
+    (c11 .pre) (c7 .if1 .taken) (c3 .root .result) (c4 .index .result) (c2 .push .last .0) (c3 .root .ensures) (c4 .index .ensures)
+    (c2 .push .ensures)
 
 add-index-2 : tie.Need-add-index-2
 add-index-2 c = search needs
 
 shared-slice-read-index-2 : tie.Need-shared-slice-read-index-2
-shared-slice-read-index-2 c = omega (
-  arith,
-  c .before .before .before .before .before .before .pre .whole,
-  ap (λ (k : ℕ). bodySize k) (c
-      .before .if2 .taken),
-)
+shared-slice-read-index-2 c =
+    let c6 = c .before .before .before .before .before .before in
+    omega (arith, c6 .pre .whole, ap (λ (k : ℕ). bodySize k) (c .before .if2 .taken))
 
 index-requires-2 : tie.Need-index-requires-2
 index-requires-2 c κs = search needs
 
 mul-t21 : tie.Need-mul-t21
-mul-t21 c = omega (
-  arith,
-  c .index2 .ensures,
-  c .before .before .before .before .before .before .before .pre .variable (c .before .before
-      .if2 .taken),
-)
+mul-t21 c =
+    let c7 = c .before .before .before .before .before .before .before in
+    omega (arith, c .index2 .ensures, c7 .pre .variable (c .before .before .if2 .taken))
 
 array-read-t26 : tie.Need-array-read-t26
-array-read-t26 c = omega (
-  arith,
-  c .index2 .ensures,
-  c .before .before .before .before .before .before .before .pre .variable (c .before
-      .before .if2 .taken),
-)
+array-read-t26 c =
+    let c7 = c .before .before .before .before .before .before .before in
+    omega (arith, c .index2 .ensures, c7 .pre .variable (c .before .before .if2 .taken))
 
 returns-2 : tie.Need-returns-2
 returns-2 c =
-    nullary-variable (c .before .before .before .before .before .before .before .args .bytes .now) (c .before .before .before .before
-    .before .before .before .args .at) (c .before .before .before .before .before .before .before .args .next) (c .before .before
-    .before .before .before .before .before .args .t4) (c .before .before .before .before .before .before .before .args .words .now)
-    (c .before .before .before .before .before .before .before .args .count) (c .before .before .before .before .before .before
-    .before .pre) (c .before .before .if2 .taken) (c .index2 .result) (c .index2 .ensures)
+    let c7 = c .before .before .before .before .before .before .before in
+    nullary-variable (c7 .args .bytes .now) (c7 .args .at) (c7 .args .next) (c7 .args .t4) (c7 .args .words .now) (c7 .args .count)
+    (c7 .pre) (c .before .before .if2 .taken) (c .index2 .result) (c .index2 .ensures)
 
 returns-3 : tie.Need-returns-3
 returns-3 c =
-    nullary-none (c .before .before .before .before .before .args .bytes .now) (c .before .before .before .before .before .args .at) (c
-    .before .before .before .before .before .args .next) (c .before .before .before .before .before .args .t4) (c .before .before
-    .before .before .before .args .words .now) (c .before .before .before .before .before .args .count) (c .before .before .before
-    .before .before .pre) (c .before .if1 .left) (c .if2 .left)
+    let c5 = c .before .before .before .before .before in
+    nullary-none (c5 .args .bytes .now) (c5 .args .at) (c5 .args .next) (c5 .args .t4) (c5 .args .words .now) (c5 .args .count) (c5 .pre)
+    (c .before .if1 .left) (c .if2 .left)
 
 pub nullary-spec : {M : Type 1} → statement M
 nullary-spec =

@@ -1,3 +1,4 @@
+-- `emit::step` pushes the entry of a step.
 use native.Mathlib.Omega.{arith}
 use Rattle.paths.proofs.GrowLaws.{over-fits, step-grown}
 use borrow.Author.Needs.{needs}
@@ -9,12 +10,12 @@ over-requires c κs = search needs
 
 push-requires : tie.Need-push-requires
 push-requires c κs =
+    let c3 = c .before .before .before in
     record {
-      room = omega (arith, c .before .before .before .pre .grow .size, c .before .before .before .pre .grow .room);
-      fits = over-fits (c .over .result) 1 (c .before .before .before .args .s) (c .before .before .before .args .x .result) (c .over
-          .ensures) (omega arith) (c .before .before .before .pre .axis) (c .before .before .before .pre .test) (c .before .before
-          .before .pre .name)
-          (omega (arith, c .before .before .before .pre .grow .low, c .before .before .before .pre .grow .room));
+      room = omega (arith, c3 .pre .grow .size, c3 .pre .grow .room);
+      fits = over-fits (c .over .result) 1 (c3 .args .s) (c3 .args .x .result) (c .over .ensures) (omega arith) (c3 .pre .axis)
+          (c3 .pre .test) (c3 .pre .name)
+          (omega (arith, c3 .pre .grow .low, c3 .pre .grow .room));
     }
 
 add-t9 : tie.Need-add-t9
@@ -25,10 +26,11 @@ same-length c = search needs
 
 returns : tie.Need-returns
 returns c =
-    step-grown (c .before .before .before .before .before .before .args .words .now) (c .before .before .push .last .0) (c .before
-    .before .before .before .before .before .args .x) (c .before .before .before .before .before .before .pre .grow) (c .before
-    .before .before .over .result) (c .before .before .before .before .before .before .args .s) (c .before .before .before .over
-    .ensures) (c .before .before .push .ensures)
+    let c2 = c .before .before in
+    let c3 = c2 .before in
+    let c6 = c3 .before .before .before in
+    step-grown (c6 .args .words .now) (c2 .push .last .0) (c6 .args .x) (c6 .pre .grow) (c3 .over .result) (c6 .args .s)
+    (c3 .over .ensures) (c2 .push .ensures)
 
 pub step-spec : {M : Type 1} → statement M
 step-spec = tie.close (tie.spec over-requires push-requires add-t9 same-length returns)

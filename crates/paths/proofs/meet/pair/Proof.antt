@@ -1,3 +1,4 @@
+-- `meet::pair` fills in one cell.
 use native.Mathlib.Omega.{arith}
 use mathlib.Core.Path.{refl}
 use lib.ListN.{getD}
@@ -26,32 +27,17 @@ unpacked-requires-2 c κs = search needs
 
 cell-requires : tie.Need-cell-requires
 cell-requires c κs =
+    let c3 = c .before .before .before in
+    let c8 = c3 .before .before .before .before .before in
     record {
-      size = c .before .before .before .before .before .before .before .before .pre .size;
-      row = omega (
-        arith,
-        c .before .before .before .before .before .before .before .before .pre .row,
-        c .before .before .before .before
-            .before .before .before .before .pre .first .few,
-      );
-      column = omega (
-        arith,
-        c .before .before .before .before .before .before .before .before .pre .column,
-        c .before .before .before
-            .before .before .before .before .before .pre .second .few,
-      );
-      firstLow = first-low (c .before .before .before .unpacked .result) (getD (c .before .before .before .before .before .before .before
-          .before .args .first .now) (c .before .before .before .before .before .before .before .before .args .k) 0) (c .before .before
-          .before .unpacked .ensures);
-      secondLow = second-low (c .before .before .before .unpacked .result) (getD (c .before .before .before .before .before .before
-          .before .before .args .first .now) (c .before .before .before .before .before .before .before .before .args .k) 0) (c .before
-          .before .before .unpacked .ensures);
-      otherFirst = first-low (c .before .unpacked2 .result) (getD (c .before .before .before .before .before .before .before .before
-          .args .second .now) (c .before .before .before .before .before .before .before .before .args .l) 0) (c .before .unpacked2
-          .ensures);
-      otherSecond = second-low (c .before .unpacked2 .result) (getD (c .before .before .before .before .before .before .before .before
-          .args .second .now) (c .before .before .before .before .before .before .before .before .args .l) 0) (c .before .unpacked2
-          .ensures);
+      size = c8 .pre .size;
+      row = omega (arith, c8 .pre .row, c8 .pre .first .few);
+      column = omega (arith, c8 .pre .column, c8 .pre .second .few);
+      firstLow = first-low (c3 .unpacked .result) (getD (c8 .args .first .now) (c8 .args .k) 0) (c3 .unpacked .ensures);
+      secondLow = second-low (c3 .unpacked .result) (getD (c8 .args .first .now) (c8 .args .k) 0) (c3 .unpacked .ensures);
+      otherFirst = first-low (c .before .unpacked2 .result) (getD (c8 .args .second .now) (c8 .args .l) 0) (c .before .unpacked2 .ensures);
+      otherSecond =
+          second-low (c .before .unpacked2 .result) (getD (c8 .args .second .now) (c8 .args .l) 0) (c .before .unpacked2 .ensures);
     }
 
 set-requires : tie.Need-set-requires
@@ -68,19 +54,15 @@ same-length c = search needs
 
 returns : tie.Need-returns
 returns c =
-    pair-filled (c .before .before .before .before .before .before .before .before .before .before .before .before .before .before
-    .before .args .first .now) (c .before .before .before .before .before .before .before .before .before .before .before .before
-    .before .before .before .args .second .now) (c .before .before .before .before .before .before .before .before .before .before
-    .before .before .before .before .before .args .table .now) (c .before .before .before .before .before .before .before .before
-    .before .before .before .before .before .before .before .args .k) (c .before .before .before .before .before .before .before
-    .before .before .before .before .before .before .before .before .args .l) (c .before .before .before .before .before .before
-    .before .before .before .before .before .before .before .before .before .pre) (c .before .before .before .before .before .before
-    .before .before .before .before .unpacked .result) (c .before .before .before .before .before .before .before .before .unpacked2
-    .result) (c .before .before .before .before .before .before .before .before .before .before .unpacked .ensures) (c .before
-    .before .before .before .before .before .before .before .unpacked2 .ensures)
-    (c .before .before .before .before .before .before .cell .result) (c .before .before .before .before .set .last .0) (c .before
-    .before .before .before .set .ensures) (c .before .before .before .before .before .before .cell .ensures) (c .before .is-tested
-    .result) (c .is-met .result) _ (c .before .is-tested .ensures) (c .is-met .ensures) refl
+    let c4 = c .before .before .before .before in
+    let c6 = c4 .before .before in
+    let c8 = c6 .before .before in
+    let c10 = c8 .before .before in
+    let c15 = c10 .before .before .before .before .before in
+    pair-filled (c15 .args .first .now) (c15 .args .second .now) (c15 .args .table .now) (c15 .args .k) (c15 .args .l) (c15 .pre)
+    (c10 .unpacked .result) (c8 .unpacked2 .result) (c10 .unpacked .ensures) (c8 .unpacked2 .ensures)
+    (c6 .cell .result) (c4 .set .last .0) (c4 .set .ensures) (c6 .cell .ensures) (c .before .is-tested .result) (c .is-met .result) _
+    (c .before .is-tested .ensures) (c .is-met .ensures) refl
 
 pub pair-spec : {M : Type 1} → statement M
 pair-spec =

@@ -1,3 +1,4 @@
+-- `meet::positions_meet` fills in the table. The invariant: the rows below k are filled, and one of them meets or none.
 use mathlib.Core.Path.{_≡_, refl, ap, sym, _∙_}
 use mathlib.Core.Bool.{Bool}
 use mathlib.Core.List.{List}
@@ -26,23 +27,25 @@ abbrev meetsRow : (first second : List ℕ) → ℕ → Bool
 meetsRow ws us i = rowMeets (entriesBy ws) (entriesBy us) i (length (entriesBy us))
 
 loop-holds : tie.Need-loop-holds Inv-loop μ-loop
-loop-holds c = (
-  omega arith,
-  c .before .before .before .pre .size,
-  none-filled (c .before .before .before .args .first .now) (c .before .before
-      .before .args .second .now) (c .before .before .before .args .table .now),
-  any-none (meetsRow (c .before .before .before .args
-      .first .now) (c .before .before .before .args .second .now)),
-)
+loop-holds c =
+    let c3 = c .before .before .before in (
+      omega arith,
+      c3 .pre .size,
+      none-filled (c3 .args .first .now) (c3 .args .second .now) (c3 .args .table .now),
+      any-none
+          (meetsRow (c3 .args .first .now) (c3 .args .second .now)),
+    )
 
 row-requires : tie.Need-row-requires Inv-loop μ-loop
 row-requires c κs =
+    let c2 = c .before .before in
+    let c6 = c2 .before .before .before .before in
     record {
-      first = c .before .before .before .before .before .before .pre .first;
-      second = c .before .before .before .before .before .before .pre .second;
-      size = c .before .before .loop .inv .1;
+      first = c6 .pre .first;
+      second = c6 .pre .second;
+      size = c2 .loop .inv .1;
       row = c .before .loop-test .taken;
-      filled = c .before .before .loop .inv .2;
+      filled = c2 .loop .inv .2;
     }
 
 add-k : tie.Need-add-k Inv-loop μ-loop
@@ -52,29 +55,26 @@ loop-less : tie.Need-loop-less Inv-loop μ-loop
 loop-less c = search needs
 
 loop-again : tie.Need-loop-again Inv-loop μ-loop
-loop-again c = (
-  omega arith,
-  c .before .before .row .ensures .size,
-  c .before .before .row .ensures .filled,
-  any-next (meetsRow (c .before .before .before .before .before .before .before .before .before .args .first .now) (c .before .before
-      .before .before .before .before .before .before .before .args .second .now)) (c .before .before .before .before .before .loop .k)
-      (c .before .before .before .before .before .loop .met) (c .before .before .row .result) _ (c .before .before .before .before
-      .before .loop .inv .3) (c .before .before .row .ensures .met) refl,
-)
+loop-again c =
+    let c2 = c .before .before in
+    let c5 = c2 .before .before .before in
+    let c9 = c5 .before .before .before .before in (
+      omega arith,
+      c2 .row .ensures .size,
+      c2 .row .ensures .filled,
+      any-next (meetsRow (c9 .args .first .now) (c9 .args .second .now)) (c5 .loop .k) (c5 .loop .met) (c2 .row .result) _
+          (c5 .loop .inv .3) (c2 .row .ensures .met) refl,
+    )
 
 same-length : tie.Need-same-length Inv-loop μ-loop
 same-length c = search needs
 
 returns : tie.Need-returns Inv-loop μ-loop
 returns c =
-    let e : c .before .loop .k ≡ length (entriesBy (c .before .before .before .before .before .args .first .now)) = omega (
-      arith,
-      c
-          .before .loop .inv .0,
-      length-map (c .before .before .before .before .before .args .first .now) entryOf,
-    ) in
-    c .before .loop .inv .3 ∙ ap (anyUpTo (meetsRow (c .before .before .before .before .before .args .first .now) (c .before .before
-    .before .before .before .args .second .now))) e
+    let c5 = c .before .before .before .before .before in
+    let e : c .before .loop .k ≡ length (entriesBy (c5 .args .first .now)) =
+    omega (arith, c .before .loop .inv .0, length-map (c5 .args .first .now) entryOf) in
+    c .before .loop .inv .3 ∙ ap (anyUpTo (meetsRow (c5 .args .first .now) (c5 .args .second .now))) e
 
 pub positions-meet-spec : {M : Type 1} → statement M
 positions-meet-spec =

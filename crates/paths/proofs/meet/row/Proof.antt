@@ -1,3 +1,4 @@
+-- `meet::row` fills in a row. The invariant: the row is filled up to l, and one of the pairs so far meets or none.
 use mathlib.Core.Path.{_≡_, refl}
 use Prim.Native.Nat.{_*_, _-_, _≤_}
 use native.Mathlib.Omega.{arith}
@@ -19,24 +20,26 @@ abbrev μ-loop : tie.MeasureT-loop
 μ-loop first second table₀ k met₀ l₀ table met l = length second - l
 
 loop-holds : tie.Need-loop-holds Inv-loop μ-loop
-loop-holds c = (
-  omega arith,
-  c .before .before .before .pre .size,
-  c .before .before .before .pre .filled,
-  any-none (meetAt (entriesBy (c .before
-      .before .before .args .first .now)) (entriesBy (c .before .before .before .args .second .now)) (c .before .before .before .args
-      .k)),
-)
+loop-holds c =
+    let c3 = c .before .before .before in (
+      omega arith,
+      c3 .pre .size,
+      c3 .pre .filled,
+      any-none
+          (meetAt (entriesBy (c3 .args .first .now)) (entriesBy (c3 .args .second .now)) (c3 .args .k)),
+    )
 
 pair-requires : tie.Need-pair-requires Inv-loop μ-loop
 pair-requires c κs =
+    let c2 = c .before .before in
+    let c6 = c2 .before .before .before .before in
     record {
-      first = c .before .before .before .before .before .before .pre .first;
-      second = c .before .before .before .before .before .before .pre .second;
-      size = c .before .before .loop .inv .1;
-      row = c .before .before .before .before .before .before .pre .row;
+      first = c6 .pre .first;
+      second = c6 .pre .second;
+      size = c2 .loop .inv .1;
+      row = c6 .pre .row;
       column = c .before .loop-test .taken;
-      filled = c .before .before .loop .inv .2;
+      filled = c2 .loop .inv .2;
     }
 
 add-l : tie.Need-add-l Inv-loop μ-loop
@@ -46,30 +49,27 @@ loop-less : tie.Need-loop-less Inv-loop μ-loop
 loop-less c = search needs
 
 loop-again : tie.Need-loop-again Inv-loop μ-loop
-loop-again c = (
-  omega arith,
-  c .before .before .pair .ensures .size,
-  c .before .before .pair .ensures .filled,
-  any-next (meetAt (entriesBy (c .before .before .before .before .before .before .before .before .before .args .first .now)) (entriesBy
-      (c .before .before .before .before .before .before .before .before .before .args .second .now)) (c .before .before .before .before
-      .before .before .before .before .before .args .k)) (c .before .before .before .before .before .loop .l) (c .before .before .before
-      .before .before .loop .met) (c .before .before .pair .result) _
-      (c .before .before .before .before .before .loop .inv .3) (c .before .before .pair .ensures .met) refl,
-)
+loop-again c =
+    let c2 = c .before .before in
+    let c5 = c2 .before .before .before in
+    let c9 = c5 .before .before .before .before in (
+      omega arith,
+      c2 .pair .ensures .size,
+      c2 .pair .ensures .filled,
+      any-next (meetAt (entriesBy (c9 .args .first .now)) (entriesBy (c9 .args .second .now)) (c9 .args .k)) (c5 .loop .l) (c5 .loop .met)
+          (c2 .pair .result) _
+          (c5 .loop .inv .3) (c2 .pair .ensures .met) refl,
+    )
 
 same-length : tie.Need-same-length Inv-loop μ-loop
 same-length c = search needs
 
 returns : tie.Need-returns Inv-loop μ-loop
 returns c =
-    let e : length (c .before .before .before .before .before .args .second .now) ≡ c .before .loop .l = omega (
-      arith,
-      c .before .loop
-          .inv .0,
-    ) in
-    row-done (c .before .before .before .before .before .args .first .now) (c .before .before .before .before .before .args .second .now)
-    (c .before .loop .table) (c .before .before .before .before .before .args .k) (c .before .loop .l) (c .before .loop .met) (c
-    .before .loop .inv .1) e (c .before .loop .inv .2) (c .before .loop .inv .3)
+    let c5 = c .before .before .before .before .before in
+    let e : length (c5 .args .second .now) ≡ c .before .loop .l = omega (arith, c .before .loop .inv .0) in
+    row-done (c5 .args .first .now) (c5 .args .second .now) (c .before .loop .table) (c5 .args .k) (c .before .loop .l)
+    (c .before .loop .met) (c .before .loop .inv .1) e (c .before .loop .inv .2) (c .before .loop .inv .3)
 
 pub row-spec : {M : Type 1} → statement M
 row-spec =

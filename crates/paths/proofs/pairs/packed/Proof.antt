@@ -1,3 +1,4 @@
+-- `pairs::packed` puts each test of a cell into its bit.
 use mathlib.Core.Path.{refl}
 use Rattle.paths.specs.Codes.{cellOf}
 use Rattle.paths.proofs.PairLaws.{bits-packed}
@@ -55,13 +56,17 @@ add-result-5 c = search needs
 
 returns : tie.Need-returns
 returns c =
-    bits-packed (cellOf (c .before .before .before .before .before .before .args .c)) (c .before .before .before .before .before .bit
-    .result) (c .before .before .before .before .bit2 .result) (c .before .before .before .bit3 .result) (c .before .before .bit4
-    .result) (c .before .bit5 .result) (c .bit6 .result) _
-    (c .before .before .before .before .before .bit .ensures .0) (c .before .before .before .before .bit2 .ensures .0) (c .before .before
-    .before .bit3 .ensures .0) (c .before .before .bit4 .ensures .0) (c .before .bit5 .ensures .0) (c .bit6 .ensures .0) refl
-    (c .before .before .before .before .before .bit .ensures .1) (c .before .before .before .before .bit2 .ensures .1) (c .before .before
-    .before .bit3 .ensures .1) (c .before .before .bit4 .ensures .1) (c .before .bit5 .ensures .1) (c .bit6 .ensures .1)
+    let c2 = c .before .before in
+    let c3 = c2 .before in
+    let c4 = c3 .before in
+    let c5 = c4 .before in
+    let c6 = c5 .before in
+    bits-packed (cellOf (c6 .args .c)) (c5 .bit .result) (c4 .bit2 .result) (c3 .bit3 .result) (c2 .bit4 .result) (c .before .bit5 .result)
+    (c .bit6 .result) _
+    (c5 .bit .ensures .0) (c4 .bit2 .ensures .0) (c3 .bit3 .ensures .0) (c2 .bit4 .ensures .0) (c .before .bit5 .ensures .0)
+    (c .bit6 .ensures .0) refl
+    (c5 .bit .ensures .1) (c4 .bit2 .ensures .1) (c3 .bit3 .ensures .1) (c2 .bit4 .ensures .1) (c .before .bit5 .ensures .1)
+    (c .bit6 .ensures .1)
 
 pub packed-spec : {M : Type 1} → statement M
 packed-spec =

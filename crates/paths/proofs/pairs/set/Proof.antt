@@ -1,3 +1,4 @@
+-- `pairs::set` writes one cell and no other.
 use Rattle.paths.proofs.PairLaws.{cell-set}
 use borrow.Author.Needs.{needs}
 use Rattle.paths.proofs.pairs.set.Statement.{statement}
@@ -20,8 +21,8 @@ same-length c = search needs
 
 returns : tie.Need-returns
 returns c =
-    cell-set (c .before .before .args .table .now) (c .before .before .args .k) (c .before .before .args .l) (c .before .before .args .c)
-    (c .packed .result) (c .before .before .pre) (c .packed .ensures)
+    let c2 = c .before .before in
+    cell-set (c2 .args .table .now) (c2 .args .k) (c2 .args .l) (c2 .args .c) (c .packed .result) (c2 .pre) (c .packed .ensures)
 
 pub set-spec : {M : Type 1} → statement M
 set-spec = tie.close (tie.spec mul-at add-at packed-requires slice-write-table same-length returns)

@@ -1,3 +1,4 @@
+-- `positions::climbs`. The invariant: one of the positions below i leads up or none.
 use mathlib.Core.Path.{_≡_, refl, ap, _∙_}
 use Prim.Native.Nat.{_-_, _≤_}
 use native.Mathlib.Omega.{arith}
@@ -38,18 +39,20 @@ loop-less : tie.Need-loop-less Inv-loop μ-loop
 loop-less c = search needs
 
 loop-again : tie.Need-loop-again Inv-loop μ-loop
-loop-again c = (
-  omega arith,
-  any-next (climbAt (c .before .before .before .before .before .before .args .words .now)) (c .before .before .before .before .loop .i)
-      (c .before .before .before .before .loop .found) (c .is-climb .result) _ (c .before .before .before .before .loop .inv .1)
-      (climb-at (c .before .before .before .before .before .before .args .words .now) (c .before .before .before .before .loop .i) (c
-      .before .unpacked .result) (c .is-climb .result) (c .before .unpacked .ensures) (c .is-climb .ensures)) refl,
-)
+loop-again c =
+    let c4 = c .before .before .before .before in
+    let c6 = c4 .before .before in (
+      omega arith,
+      any-next (climbAt (c6 .args .words .now)) (c4 .loop .i) (c4 .loop .found) (c .is-climb .result) _ (c4 .loop .inv .1)
+          (climb-at (c6 .args .words .now) (c4 .loop .i) (c .before .unpacked .result) (c .is-climb .result) (c .before .unpacked .ensures)
+          (c .is-climb .ensures)) refl,
+    )
 
 returns : tie.Need-returns Inv-loop μ-loop
 returns c =
-    let e : c .before .loop .i ≡ length (c .before .before .before .args .words .now) = omega (arith, c .before .loop .inv .0) in c
-    .before .loop .inv .1 ∙ ap (anyUpTo (climbAt (c .before .before .before .args .words .now))) e
+    let c3 = c .before .before .before in
+    let e : c .before .loop .i ≡ length (c3 .args .words .now) =
+    omega (arith, c .before .loop .inv .0) in c .before .loop .inv .1 ∙ ap (anyUpTo (climbAt (c3 .args .words .now))) e
 
 pub climbs-spec : {M : Type 1} → statement M
 climbs-spec =

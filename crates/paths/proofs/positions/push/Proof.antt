@@ -1,3 +1,4 @@
+-- `positions::push` is one entry more.
 use mathlib.Core.Path.{subst, sym}
 use Prim.Native.Nat.{ℕ}
 use lib.ListN.{set}
@@ -21,10 +22,10 @@ same-length c = search needs
 
 returns : tie.Need-returns
 returns c =
-    subst (λ (w : ℕ). PushPost (c .before .before .args .words .now) (c .before .before .args .count) (c .before .before .args .p) (set
-    (c .before .before .args .words .now) (c .before .before .args .count) w)) (sym (c .packed .ensures))
-    (word-pushed (c .before .before .args .p) (c .before .before .pre .fits) (c .before .before .args .words .now) (c .before .before
-    .args .count) (c .before .before .pre .room))
+    let c2 = c .before .before in
+    subst (λ (w : ℕ). PushPost (c2 .args .words .now) (c2 .args .count) (c2 .args .p) (set (c2 .args .words .now) (c2 .args .count) w))
+    (sym (c .packed .ensures))
+    (word-pushed (c2 .args .p) (c2 .pre .fits) (c2 .args .words .now) (c2 .args .count) (c2 .pre .room))
 
 pub push-spec : {M : Type 1} → statement M
 push-spec = tie.close (tie.spec packed-requires mul-words slice-write-words same-length returns)

@@ -1,3 +1,4 @@
+-- `Cell::down_step` is the model's step down, by what its calls ensure.
 use borrow.Author.Needs.{needs}
 use Rattle.paths.proofs.cells.Cell.down_step.Statement.{statement}
 use Rattle.paths.proofs.cells.Cell.down_step.Tie as tie

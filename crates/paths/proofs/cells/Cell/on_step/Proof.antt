@@ -1,3 +1,4 @@
+-- `Cell::on_step` is the model's step on both, by what its calls ensure.
 use borrow.Author.Needs.{needs}
 use Rattle.paths.proofs.cells.Cell.on_step.Statement.{statement}
 use Rattle.paths.proofs.cells.Cell.on_step.Tie as tie

@@ -1,3 +1,4 @@
+-- `Cell::up_step` is the model's step up, by what its calls ensure.
 use borrow.Author.Needs.{needs}
 use Rattle.paths.proofs.cells.Cell.up_step.Statement.{statement}
 use Rattle.paths.proofs.cells.Cell.up_step.Tie as tie

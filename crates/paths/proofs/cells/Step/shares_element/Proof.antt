@@ -1,3 +1,4 @@
+-- `Step::shares_element` is the model's test of two steps.
 use borrow.Author.Needs.{needs}
 use Rattle.paths.proofs.cells.Step.shares_element.Statement.{statement}
 use Rattle.paths.proofs.cells.Step.shares_element.Tie as tie

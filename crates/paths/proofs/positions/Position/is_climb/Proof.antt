@@ -1,3 +1,4 @@
+-- `Position::is_climb` is a step that leads up.
 use mathlib.Core.Path.{refl}
 use Rattle.paths.proofs.ClimbLaws.{climb-is}
 use borrow.Author.Needs.{needs}
