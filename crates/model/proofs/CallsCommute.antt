@@ -12,11 +12,11 @@ use Rattle.model.specs.Base.{pick, areBytes}
 use Rattle.model.specs.Refusal.{Fault, isFine}
 use Rattle.model.specs.Table.{Table, count, isWell}
 use Rattle.model.specs.Script.{Expr, Parsed, ill, parsed, readScript}
-use Rattle.model.specs.History.{Record, historyBytes}
+use Rattle.model.specs.History.{Record, historyBytes, replayAll}
 use Rattle.model.specs.Run.{State, Out, stop, gives, runOn}
 use Rattle.model.specs.Meeting.{free, answer}
 use Rattle.model.specs.Promise.{IsScript, ends, tableOf, orderEnds, OrdersEqual, matchedAll, matchedHistory, PlansEqual}
-use Rattle.model.specs.Call.{answered, firstBy, analyse, Ran, filled, countKind, runBy, ranBy, areasFit, runCall, callsEnd, CallsMatch, CallsCommute}
+use Rattle.model.specs.Call.{answered, firstBy, analyse, Ran, filled, countKind, runBy, ranBy, areasFit, runCall, callsEnd, CallsMatch, CallsEqual, CallsCommute}
 use Rattle.model.proofs.BoolLaws.{pick-true, and-left}
 use Rattle.model.proofs.StopLaws.{stop-refuses}
 use Rattle.model.proofs.RunsBack.{runsBack}
@@ -41,18 +41,37 @@ countKind-matched low high n a b (r ∷ h) =
 
 -- a run's results match where its answer and history do
 calls-match : (n a b : ℕ) (x y : Table) (k l m k′ l′ m′ : ℕ) (v v′ : List ℕ) (s s′ : State) → v′ ≡ matchedAll n a b v →
-    s′ .history ≡ matchedHistory n a b (s .history) → CallsMatch n a b (ranBy x k l m (gives v s)) (ranBy y k′ l′ m′ (gives v′ s′))
-calls-match n a b x y k l m k′ l′ m′ v v′ s s′ e f = (
+    s′ .history ≡ matchedHistory n a b (s .history) → replayAll x (s .history) ≡ s .plan → replayAll y (s′ .history) ≡ s′ .plan →
+    CallsMatch n a b x y (ranBy x k l m (gives v s)) (ranBy y k′ l′ m′ (gives v′ s′))
+calls-match n a b x y k l m k′ l′ m′ v v′ s s′ e f p q = (
   ap length e ∙ length-matchedAll n a b v,
   ap (countKind _ _) f ∙ countKind-matched _ _ n a b (s .history),
   ap (countKind _ _) f ∙ countKind-matched _ _ n a b (s .history),
   ap length f ∙ length-matchedHistory n a b (s .history),
   front v′ k′ ∙ e ∙ ap (matchedAll n a b) (sym (front v k)),
-  (s .history, (front (historyBytes (s .history)) l, front (historyBytes (s′ .history)) l′ ∙ ap historyBytes f)),
+  (
+    s .history,
+    (
+      refl,
+      front (historyBytes (s .history)) l,
+      p,
+      front (historyBytes (s′ .history)) l′ ∙ ap historyBytes f,
+      ap (replayAll y) (sym f) ∙ q,
+    ),
+  ),
 )
   where
     front : (w : List ℕ) (size : ℕ) → take (length w) (filled size w) ≡ w
     front w size = take-at w (replicate (size - length w) 0) (length w) refl
+
+-- replaying a run's history on the table before gives that after
+abbrev Replays : Table → Out → Type 0
+Replays x (stop f) = x ≡ x
+Replays x (gives v s) = replayAll x (s .history) ≡ s .plan
+
+run-replays : (e : Expr) → IsScript e → (x : Table) → isWell x ≡ true → (o : Out) → runOn x e ≡ o → Replays x o
+run-replays e i x w (stop f) k = refl
+run-replays e i x w (gives v s) k = runsBack e x v s i w k .1
 
 -- A RUN THAT FITS is the model's run
 module _ (e : Expr) (b : List ℕ) (i n : ℕ) (r : List ℕ) (E : readScript b ≡ parsed e i n r) (a h w : List ℕ) (fits : areasFit a h w ≡
@@ -98,30 +117,27 @@ module _ (e f : Expr) (b c : List ℕ) (i n j m : ℕ) (r q : List ℕ) (E : rea
           call-ends f c j m q F a′ h′ w′ fits′ (s .plan) (P .1) (runOn (s .plan) f) refl ∙
           sym (ap (λ (o : Out). ends o && ends (runOn (tableOf o) f)) k)
 
--- what is promised of four results
-abbrev Matching : Table → (one oneThen two twoThen : Ran) → Type 0
-Matching x r r′ s s′ =
-    CallsMatch (count x) (count (r .plan) - count x) (count (s .plan) - count x) r s′ ×
-    CallsMatch (count x) (count (r .plan) - count x) (count (s .plan) - count x) r′ s ×
-    PlansEqual (count x) (count (r .plan) - count x) (count (s .plan) - count x) (r′ .plan) (s′ .plan)
-
-matching-as : (x : Table) {r r′ s s′ t t′ u u′ : Ran} → r ≡ t → r′ ≡ t′ → s ≡ u → s′ ≡ u′ → Matching x t t′ u u′ → Matching x r r′ s s′
+-- four results, by equal ones
+matching-as : (x : Table) {r r′ s s′ t t′ u u′ : Ran} → r ≡ t → r′ ≡ t′ → s ≡ u → s′ ≡ u′ → CallsEqual x t t′ u u′ → CallsEqual x r r′ s s′
 matching-as x {r} {r′} {s} {s′} {t} {t′} {u} {u′} e e′ f f′ m =
-    subst (λ (k : Ran). Matching x k r′ s s′) (sym e)
-    (subst (λ (k : Ran). Matching x t k s s′) (sym e′) (subst (λ (k : Ran). Matching x t t′ k s′) (sym f) (subst (λ (k : Ran). Matching x
+    subst (λ (k : Ran). CallsEqual x k r′ s s′) (sym e)
+    (subst (λ (k : Ran). CallsEqual x t k s s′) (sym e′) (subst (λ (k : Ran). CallsEqual x t t′ k s′) (sym f) (subst (λ (k : Ran).
+    CallsEqual x
     t t′ u k) (sym f′) m)))
 
 -- the four outcomes are values, and they match
 module _ (x : Table) (k l m k′ l′ m′ : ℕ) where
-  matching-by : (y y′ : Table) (o q o₂ q₂ : Out) → (ends o && ends o₂) ≡ true → (ends q && ends q₂) ≡ true → OrdersBy x o q o₂ q₂ →
-      Matching x (ranBy x k l m o) (ranBy y k′ l′ m′ o₂) (ranBy x k′ l′ m′ q) (ranBy y′ k l m q₂)
-  matching-by y y′ (stop z) q o₂ q₂ g g′ O = absurd (false≢true g)
-  matching-by y y′ (gives v s) q (stop z) q₂ g g′ O = absurd (false≢true g)
-  matching-by y y′ (gives v s) (stop z) (gives v₂ s₂) q₂ g g′ O = absurd (false≢true g′)
-  matching-by y y′ (gives v s) (gives u t) (gives v₂ s₂) (stop z) g g′ O = absurd (false≢true g′)
-  matching-by y y′ (gives v s) (gives u t) (gives v₂ s₂) (gives u₂ t₂) g g′ O = (
-    calls-match (count x) (count (s .plan) - count x) (count (t .plan) - count x) x y′ k l m k l m v u₂ s t₂ (O .2) (O .4),
-    calls-match (count x) (count (s .plan) - count x) (count (t .plan) - count x) y x k′ l′ m′ k′ l′ m′ v₂ u s₂ t (O .3) (O .5),
+  matching-by : (o q o₂ q₂ : Out) → (ends o && ends o₂) ≡ true → (ends q && ends q₂) ≡ true → OrdersBy x o q o₂ q₂ →
+      Replays x o → Replays x q → Replays (tableOf o) o₂ → Replays (tableOf q) q₂ →
+      CallsEqual x (ranBy x k l m o) (ranBy (tableOf o) k′ l′ m′ o₂) (ranBy x k′ l′ m′ q) (ranBy (tableOf q) k l m q₂)
+  matching-by (stop z) q o₂ q₂ g g′ O A B C D = absurd (false≢true g)
+  matching-by (gives v s) q (stop z) q₂ g g′ O A B C D = absurd (false≢true g)
+  matching-by (gives v s) (stop z) (gives v₂ s₂) q₂ g g′ O A B C D = absurd (false≢true g′)
+  matching-by (gives v s) (gives u t) (gives v₂ s₂) (stop z) g g′ O A B C D = absurd (false≢true g′)
+  matching-by (gives v s) (gives u t) (gives v₂ s₂) (gives u₂ t₂) g g′ O A B C D = (
+    calls-match (count x) (count (s .plan) - count x) (count (t .plan) - count x) x (t .plan) k l m k l m v u₂ s t₂ (O .2) (O .4) A D,
+    calls-match (count x) (count (s .plan) - count x) (count (t .plan) - count x) (s .plan) x k′ l′ m′ k′ l′ m′ v₂ u s₂ t (O .3) (O .5)
+        C B,
     O .6,
   )
 
@@ -130,17 +146,25 @@ second-runs : (e f : Expr) (b c : List ℕ) (i n j m : ℕ) (r q : List ℕ) →
     areBytes b ≡ true → (a h w a′ h′ w′ : List ℕ) → areasFit a h w ≡ true → areasFit a′ h′ w′ ≡ true → (x : Table) → isWell x ≡ true →
     ends (runOn x e) ≡ true →
     runCall (runCall x b a h w .plan) c a′ h′ w′ ≡
-    ranBy (runCall x b a h w .plan) (length a′) (length h′) (length w′) (runOn (tableOf (runOn x e)) f)
+    ranBy (tableOf (runOn x e)) (length a′) (length h′) (length w′) (runOn (tableOf (runOn x e)) f)
 second-runs e f b c i n j m r q E F bytes a h w a′ h′ w′ fits fits′ x well g = go (runOn x e) refl
   where
     go : (o : Out) → runOn x e ≡ o →
         runCall (runCall x b a h w .plan) c a′ h′ w′ ≡
-        ranBy (runCall x b a h w .plan) (length a′) (length h′) (length w′) (runOn (tableOf (runOn x e)) f)
+        ranBy (tableOf (runOn x e)) (length a′) (length h′) (length w′) (runOn (tableOf (runOn x e)) f)
     go (stop z) k = absurd (false≢true (sym (ap ends k) ∙ g))
     go (gives v s) k =
         let P = call-plan e b i n r E a h w fits bytes x well v s k in
         call-runs f c j m q F a′ h′ w′ fits′ (runCall x b a h w .plan) (ap isWell (P .0) ∙ P .1) ∙
-        ap (λ (t : Table). ranBy (runCall x b a h w .plan) (length a′) (length h′) (length w′) (runOn t f)) (P .0 ∙ sym (ap tableOf k))
+        ap (λ (t : Table). ranBy t (length a′) (length h′) (length w′) (runOn t f)) (P .0 ∙ sym (ap tableOf k))
+
+-- a run that ends leaves a well-formed table
+well-after : (e : Expr) → IsScript e → (x : Table) → isWell x ≡ true → ends (runOn x e) ≡ true → isWell (tableOf (runOn x e)) ≡ true
+well-after e i x w g = go (runOn x e) refl
+  where
+    go : (o : Out) → runOn x e ≡ o → isWell (tableOf (runOn x e)) ≡ true
+    go (stop f) k = absurd (false≢true (sym (ap ends k) ∙ g))
+    go (gives v s) k = ap (λ (t : Out). isWell (tableOf t)) k ∙ runsBack e x v s i w k .0
 
 pub callsCommute : CallsCommute
 callsCommute b c x a h w a′ h′ w′ bytes bytes′ an well fits fits′ = go (readScript b) (readScript c) refl refl an
@@ -150,7 +174,7 @@ callsCommute b c x a h w a′ h′ w′ bytes bytes′ an well fits fits′ = go
         (callsEnd (runCall x b a h w) (runCall (runCall x b a h w .plan) c a′ h′ w′) ≡
         callsEnd (runCall x c a′ h′ w′) (runCall (runCall x c a′ h′ w′ .plan) b a h w)) ×
         (callsEnd (runCall x b a h w) (runCall (runCall x b a h w .plan) c a′ h′ w′) ≡ true →
-        Matching x (runCall x b a h w) (runCall (runCall x b a h w .plan) c a′ h′ w′) (runCall x c a′ h′ w′)
+        CallsEqual x (runCall x b a h w) (runCall (runCall x b a h w .plan) c a′ h′ w′) (runCall x c a′ h′ w′)
         (runCall (runCall x c a′ h′ w′ .plan) b a h w))
 
     scripts : (e f : Expr) (i n j m : ℕ) (r q : List ℕ) → readScript b ≡ parsed e i n r → readScript c ≡ parsed f j m q → answer e f ≡
@@ -167,9 +191,16 @@ callsCommute b c x a h w a′ h′ w′ bytes bytes′ an well fits fits′ = go
               (second-runs e f b c i n j m r q E F bytes a h w a′ h′ w′ fits fits′ x well (and-left (ends (runOn x e)) _ g))
               (call-runs f c j m q F a′ h′ w′ fits′ x well)
               (second-runs f e c b j m i n q r F E bytes′ a′ h′ w′ a h w fits′ fits x well (and-left (ends (runOn x f)) _ g′))
-              (matching-by x (length a) (length h) (length w) (length a′) (length h′) (length w′) (runCall x b a h w .plan)
-              (runCall x c a′ h′ w′ .plan) (runOn x e) (runOn x f) (runOn (tableOf (runOn x e)) f) (runOn (tableOf (runOn x f)) e) g g′
-              (C .1 g)),
+              (matching-by x (length a) (length h) (length w) (length a′) (length h′) (length w′) (runOn x e) (runOn x f)
+              (runOn (tableOf (runOn x e)) f) (runOn (tableOf (runOn x f)) e) g g′ (C .1 g) (run-replays e (b, bytes, (i, (n, (r, E)))) x
+              well (runOn x e) refl)
+              (run-replays f (c, bytes′, (j, (m, (q, F)))) x well (runOn x f) refl)
+              (run-replays f (c, bytes′, (j, (m, (q, F)))) (tableOf (runOn x e)) (well-after e (b, bytes, (i, (n, (r, E)))) x well
+              (and-left (ends (runOn x e)) _ g))
+              (runOn (tableOf (runOn x e)) f) refl)
+              (run-replays e (b, bytes, (i, (n, (r, E)))) (tableOf (runOn x f)) (well-after f (c, bytes′, (j, (m, (q, F)))) x well
+              (and-left (ends (runOn x f)) _ g′))
+              (runOn (tableOf (runOn x f)) e) refl)),
         )
 
     go : (p q : Parsed) → readScript b ≡ p → readScript c ≡ q → firstBy p q ≡ answered free → Claim

@@ -10,7 +10,7 @@ use Rattle.model.specs.Limits.{answerNeed, historyNeed, workNeed}
 use Rattle.model.specs.Refusal.{Fault, fine, isFine, linkAt, lentShort}
 use Rattle.model.specs.Table.{Table, count, isWell}
 use Rattle.model.specs.Script.{Expr, Parsed, ill, parsed, readScript}
-use Rattle.model.specs.History.{Record, madeElementKind, madeLeafKind, cutKind, historyBytes}
+use Rattle.model.specs.History.{Record, madeElementKind, madeLeafKind, cutKind, historyBytes, replayAll}
 use Rattle.model.specs.Run.{State, Out, stop, gives, runOn}
 use Rattle.model.specs.Meeting.{Answer, free, answer}
 use Rattle.model.specs.Promise.{matchedAll, matchedHistory, PlansEqual}
@@ -102,24 +102,29 @@ runCall x b a h w =
 abbrev pub callsEnd : (first second : Ran) → Bool
 callsEnd r s = isFine (r .fault) && isFine (s .fault)
 
--- a script's answer and history in one order and in the other, under the matching: item for item, record for record
-abbrev pub CallsMatch : (n a b : ℕ) → (one two : Ran) → Type 0
-CallsMatch n a b r s =
+-- a script's answer and history in one order and in the other, run on x and on y, under the matching: item for item, record for record;
+-- the records are those that the history area holds, as many as the tally says, and replaying them on the table before gives that after
+abbrev pub CallsMatch : (n a b : ℕ) → (x y : Table) → (one two : Ran) → Type 0
+CallsMatch n a b x y r s =
     (s .items ≡ r .items) × (s .made ≡ r .made) × (s .cut ≡ r .cut) × (s .records ≡ r .records) ×
     (take (s .items) (s .answer) ≡ matchedAll n a b (take (r .items) (r .answer))) ×
     ((rs : List Record) ×
-    ((take (r .bytes) (r .history) ≡ historyBytes rs) × (take (s .bytes) (s .history) ≡ historyBytes (matchedHistory n a b rs))))
+    ((length rs ≡ r .records) × (take (r .bytes) (r .history) ≡ historyBytes rs) × (replayAll x rs ≡ r .plan) ×
+    (take (s .bytes) (s .history) ≡ historyBytes (matchedHistory n a b rs)) × (replayAll y (matchedHistory n a b rs) ≡ s .plan)))
+
+-- four results: first and second call of one order, first and second call of the other
+abbrev pub CallsEqual : Table → (one oneThen two twoThen : Ran) → Type 0
+CallsEqual x r r′ s s′ =
+    CallsMatch (count x) (count (r .plan) - count x) (count (s .plan) - count x) x (s .plan) r s′ ×
+    CallsMatch (count x) (count (r .plan) - count x) (count (s .plan) - count x) (r .plan) x r′ s ×
+    PlansEqual (count x) (count (r .plan) - count x) (count (s .plan) - count x) (r′ .plan) (s′ .plan)
 
 abbrev pub CallsCommute : Type 0
 CallsCommute =
-    (b c : List ℕ) (x : Table) (a h w a′ h′ w′ : List ℕ) → areBytes b ≡ true → areBytes c ≡ true → analyse b c ≡ answered free → isWell x ≡ true → areasFit a h w ≡ true →
-    areasFit a′ h′ w′ ≡ true →
+    (b c : List ℕ) (x : Table) (a h w a′ h′ w′ : List ℕ) → areBytes b ≡ true → areBytes c ≡ true → analyse b c ≡ answered free →
+    isWell x ≡ true → areasFit a h w ≡ true → areasFit a′ h′ w′ ≡ true →
     (callsEnd (runCall x b a h w) (runCall (runCall x b a h w .plan) c a′ h′ w′) ≡
     callsEnd (runCall x c a′ h′ w′) (runCall (runCall x c a′ h′ w′ .plan) b a h w)) ×
     (callsEnd (runCall x b a h w) (runCall (runCall x b a h w .plan) c a′ h′ w′) ≡ true →
-    CallsMatch (count x) (count (runCall x b a h w .plan) - count x) (count (runCall x c a′ h′ w′ .plan) - count x)
-    (runCall x b a h w) (runCall (runCall x c a′ h′ w′ .plan) b a h w) ×
-    CallsMatch (count x) (count (runCall x b a h w .plan) - count x) (count (runCall x c a′ h′ w′ .plan) - count x)
-    (runCall (runCall x b a h w .plan) c a′ h′ w′) (runCall x c a′ h′ w′) ×
-    PlansEqual (count x) (count (runCall x b a h w .plan) - count x) (count (runCall x c a′ h′ w′ .plan) - count x)
-    (runCall (runCall x b a h w .plan) c a′ h′ w′ .plan) (runCall (runCall x c a′ h′ w′ .plan) b a h w .plan))
+    CallsEqual x (runCall x b a h w) (runCall (runCall x b a h w .plan) c a′ h′ w′) (runCall x c a′ h′ w′)
+    (runCall (runCall x c a′ h′ w′ .plan) b a h w))

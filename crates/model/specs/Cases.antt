@@ -41,32 +41,65 @@ abbrev pub threes : List ℕ
 threes = 0x04 ∷ 0x00 ∷ 0x03 ∷ 0x03 ∷ 0x02 ∷ 0x00 ∷ []
 
 -- script A, and its relation 2 twin
-abbrev pub scriptA : Expr
-scriptA = script (0x0D ∷ 0x01 ∷ 0x00 ∷ 0x04 ∷ 0x00 ∷ 0x02 ∷ 0x00 ∷ twos)
+abbrev pub bytesA : List ℕ
+bytesA = 0x0D ∷ 0x01 ∷ 0x00 ∷ 0x04 ∷ 0x00 ∷ 0x02 ∷ 0x00 ∷ twos
 
-abbrev pub scriptTwin : Expr
-scriptTwin = script (0x0D ∷ 0x02 ∷ 0x00 ∷ 0x04 ∷ 0x00 ∷ 0x02 ∷ 0x00 ∷ twos)
+abbrev pub bytesTwin : List ℕ
+bytesTwin = 0x0D ∷ 0x02 ∷ 0x00 ∷ 0x04 ∷ 0x00 ∷ 0x02 ∷ 0x00 ∷ twos
 
-abbrev pub scriptB : Expr
-scriptB = script (0x0C ∷ 0x09 ∷ 0x04 ∷ threes)
+abbrev pub bytesB : List ℕ
+bytesB = 0x0C ∷ 0x09 ∷ 0x04 ∷ threes
 
-abbrev pub deleteTwos : Expr
-deleteTwos = script (0x0B ∷ twos)
+abbrev pub bytesDeleteTwos : List ℕ
+bytesDeleteTwos = 0x0B ∷ twos
 
 -- descendant leaves of document 0's root
-abbrev pub leavesBelow : Expr
-leavesBelow = script (0x04 ∷ 0x01 ∷ 0x02 ∷ 0x00 ∷ 0x02 ∷ 0x00 ∷ [])
+abbrev pub bytesLeavesBelow : List ℕ
+bytesLeavesBelow = 0x04 ∷ 0x01 ∷ 0x02 ∷ 0x00 ∷ 0x02 ∷ 0x00 ∷ []
 
 -- let x be the children named 2, join (delete x, leaves under x)
+abbrev pub bytesLetX : List ℕ
+bytesLetX = 0x06 ∷ (twos ++ (0x05 ∷ 0x0B ∷ 0x03 ∷ 0x00 ∷ 0x04 ∷ 0x00 ∷ 0x02 ∷ 0x00 ∷ 0x03 ∷ 0x00 ∷ []))
+
+abbrev pub bytesDeleteRoot : List ℕ
+bytesDeleteRoot = 0x0B ∷ 0x02 ∷ 0x00 ∷ []
+
+-- insert of row 1 twice into row 3; and of row 3 twice into itself, where a second copy could take in the first
+abbrev pub bytesTwice : List ℕ
+bytesTwice = 0x0C ∷ 0x05 ∷ (twos ++ twos ++ threes)
+
+abbrev pub bytesIntoItself : List ℕ
+bytesIntoItself = 0x0C ∷ 0x05 ∷ (threes ++ threes ++ threes)
+
+abbrev pub accepted : List ℕ → Type 0
+accepted b = faultBy (readScript b) ≡ fine
+
+abbrev pub scriptA : Expr
+scriptA = script bytesA
+
+abbrev pub scriptTwin : Expr
+scriptTwin = script bytesTwin
+
+abbrev pub scriptB : Expr
+scriptB = script bytesB
+
+abbrev pub deleteTwos : Expr
+deleteTwos = script bytesDeleteTwos
+
+abbrev pub leavesBelow : Expr
+leavesBelow = script bytesLeavesBelow
+
 abbrev pub letX : Expr
-letX = script (0x06 ∷ (twos ++ (0x05 ∷ 0x0B ∷ 0x03 ∷ 0x00 ∷ 0x04 ∷ 0x00 ∷ 0x02 ∷ 0x00 ∷ 0x03 ∷ 0x00 ∷ [])))
+letX = script bytesLetX
 
 abbrev pub deleteRoot : Expr
-deleteRoot = script (0x0B ∷ 0x02 ∷ 0x00 ∷ [])
+deleteRoot = script bytesDeleteRoot
 
--- insert of row 1 twice into row 3
 abbrev pub twice : Expr
-twice = script (0x0C ∷ 0x05 ∷ (twos ++ twos ++ threes))
+twice = script bytesTwice
+
+abbrev pub intoItself : Expr
+intoItself = script bytesIntoItself
 
 abbrev pub elementRow : (name : ℕ) → (parent : Option ℕ) → Row
 elementRow n p = record { isLeaf = false; tag = n; parent = p }
@@ -80,8 +113,18 @@ afterB = tableOf (runOn planP scriptB)
 abbrev pub afterTwice : Table
 afterTwice = tableOf (runOn planP twice)
 
+abbrev pub afterItself : Table
+afterItself = tableOf (runOn planP intoItself)
+
+-- every script here is accepted
+abbrev pub AllAccepted : Type 0
+AllAccepted =
+    accepted bytesA × accepted bytesTwin × accepted bytesB × accepted bytesDeleteTwos × accepted bytesLeavesBelow × accepted bytesLetX ×
+    accepted bytesDeleteRoot × accepted bytesTwice × accepted bytesIntoItself
+
 abbrev pub Cases : Type 0
 Cases =
+    AllAccepted ×
     (count planP ≡ 4) × (answerOf (runOn planP scriptA) ≡ 2 ∷ []) ×
     ((answerOf (runOn planP scriptTwin) ≡ []) × (ends (runOn planP scriptTwin) ≡ true)) ×
     ((count afterB ≡ 6) × (rowAt afterB 4 ≡ elementRow 4 none) × (rowAt afterB 5 ≡ elementRow 4 (some 3))) ×
@@ -90,4 +133,5 @@ Cases =
     ((historyOf (runOn planP deleteRoot) ≡ []) × (ends (runOn planP deleteRoot) ≡ true)) ×
     ((count afterTwice ≡ 8) × (parentAt afterTwice 4 ≡ some 3) × (parentAt afterTwice 5 ≡ some 4) × (parentAt afterTwice 6 ≡ some 3) ×
     (parentAt afterTwice 7 ≡ some 6)) ×
+    ((count afterItself ≡ 6) × (parentAt afterItself 4 ≡ some 3) × (parentAt afterItself 5 ≡ some 3)) ×
     (faultBy (readScript []) ≡ shortAt 0) × (readPlan [] ≡ got empty)
