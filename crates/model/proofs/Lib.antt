@@ -17,6 +17,7 @@ pub mod ScriptLaws
 pub mod ValueLaws
 pub mod RunKeeps
 pub mod RunsBack
+pub mod UndoKeeps
 pub mod PathLaws
 pub mod Spells
 pub mod CellsFound

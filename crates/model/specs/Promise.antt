@@ -54,6 +54,10 @@ RunsBack =
     (e : Expr) (x : Table) (v : List ℕ) (s : State) → IsScript e → isWell x ≡ true → runOn x e ≡ gives v s →
     (isWell (s .plan) ≡ true) × (replayAll x (s .history) ≡ s .plan) × (undo (s .plan) (historyBytes (s .history)) ≡ back x)
 
+-- DEMAND 2, undo of any bytes that fit leaves a well-formed table
+abbrev pub UndoKeeps : Type 0
+UndoKeeps = (x y : Table) (b : List ℕ) → isWell x ≡ true → undo x b ≡ back y → isWell y ≡ true
+
 -- DEMAND 2, what free means. Which rows each place holds
 abbrev pub Places : Type 0
 Places = Place → (row : ℕ) → Bool
