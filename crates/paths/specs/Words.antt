@@ -1,10 +1,9 @@
 -- A position packed into a word, and what a list of words says. Assumes nothing: these are definitions.
 use mathlib.Core.Path.{_≡_}
-use mathlib.Core.Bool.{Bool}
 use mathlib.Core.List.{List, [], _∷_, _++_, map}
 use Prim.Native.Nat.{ℕ, _+_, _*_, _/_, _%_, _<_}
 use lib.Dec.{eqb}
-use lib.ListN.{length, getD, take}
+use lib.ListN.{length, take}
 use Rattle.model.specs.Base.{pick}
 use Rattle.model.specs.Script.{stepBy}
 use Rattle.paths.specs.Positions as positions
