@@ -32,17 +32,11 @@ other : {P : Type 0} (k m n q : ℕ) → arity k ≡ n → k ≡ m → arity m �
 other k m n q a e c h = absurd (h (sym a ∙ ap arity e ∙ c))
 
 module _ (b : List ℕ) (at left v : ℕ) (a : Accepted b at left v) where
-  abbrev whole : Expr
-  whole = exprAt left b at
-
   abbrev one : Expr
   one = exprAt (left - 1) b (firstAt b at)
 
   abbrev two : Expr
   two = exprAt (left - 1) b (secondAt b at)
-
-  abbrev three : Expr
-  three = exprAt (left - 1) b (thirdAt b at)
 
   fits : RecordFits b at left v
   fits = accepted-record b at left v a

@@ -18,10 +18,6 @@ use Rattle.paths.proofs.CellLaws.{cell-equal}
 abbrev bitOf : Bool → ℕ
 bitOf t = pick t 1 0
 
-low : (t : Bool) → bitOf t < 2
-low true = omega arith
-low false = omega arith
-
 is-one : (t : Bool) (x : ℕ) → x ≡ bitOf t → eqb x 1 ≡ t
 is-one true x e = ap (λ (y : ℕ). eqb y 1) e
 is-one false x e = ap (λ (y : ℕ). eqb y 1) e
