@@ -103,7 +103,7 @@ beside-sim L u =
     (λ p i. i) (start-twin (beside L))
 
 -- THE ORDERS, by their four outcomes: one first, two first, two after one, one after two
-abbrev OrdersBy : Table → (one two oneTwo twoOne : Out) → Type 0
+abbrev pub OrdersBy : Table → (one two oneTwo twoOne : Out) → Type 0
 OrdersBy x a b c d =
     (newRows (tableOf b) d ≡ newRows x a) × (newRows (tableOf a) c ≡ newRows x b) ×
     (answerOf d ≡ matchedAll (count x) (newRows x a) (newRows x b) (answerOf a)) ×

@@ -49,3 +49,12 @@ pub mod Beside
 pub mod Matching
 pub mod Orders
 pub mod FreeCommutes
+pub mod StopLaws
+pub mod CallsCommute
+pub mod Document03Script
+pub mod Document03Run
+pub mod Document03Paths
+pub mod Document03Search
+pub mod Document03Meeting
+pub mod Document03Kept
+pub mod Document03

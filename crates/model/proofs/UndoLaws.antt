@@ -126,7 +126,7 @@ ran-undone x w (linkCut s i p q e) =
     (ap (λ (y : Table). undoAll y (backwards (placed 0 (s .history)) [])) (cut-undone (s .plan) v i p e) ∙ ran-undone x w q)
 
 -- the records of a run are in range, so its bytes are read back as its records
-made-inRange : (x : Table) (r : Row) → count x < maxRows → tagFits r ≡ true → parentFits x (count x) (r .parent) ≡ true →
+pub made-inRange : (x : Table) (r : Row) → count x < maxRows → tagFits r ≡ true → parentFits x (count x) (r .parent) ≡ true →
     IsInRange (made r (count x))
 made-inRange x r l f g = record {
   kindIn = kind (r .isLeaf);

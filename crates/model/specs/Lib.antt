@@ -13,3 +13,8 @@ pub mod Paths
 pub mod Meeting
 pub mod Promise
 pub mod Cases
+pub mod Call
+pub mod Document03Script
+pub mod Document03Run
+pub mod Document03Paths
+pub mod Document03

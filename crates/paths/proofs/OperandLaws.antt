@@ -39,7 +39,7 @@ module _ (b : List ℕ) (at left v : ℕ) (a : Accepted b at left v) where
   two = exprAt (left - 1) b (secondAt b at)
 
   fits : RecordFits b at left v
-  fits = accepted-record b at left v a
+  fits = accepted-record a
 
   -- NO OPERAND
   pub record Zero : Type 0 where
@@ -60,16 +60,16 @@ module _ (b : List ℕ) (at left v : ℕ) (a : Accepted b at left v) where
   unfolding arity emit recordsOf
   no-operand z =
       by-kind (getD b at 0) (fits .low) (fits .high)
-      (λ e. zero-of (nil at) (accepted-nil b at left v a e) (λ ns es. rw e) refl)
-      (λ e. zero-of (document at (getD b (at + 1) 0)) (accepted-document b at left v a e) (λ ns es. rw e) refl)
-      (λ e. zero-of (var at (getD b (at + 1) 0)) (accepted-variable b at left v a e) (λ ns es. rw e) refl)
+      (λ e. zero-of (nil at) (accepted-nil a e) (λ ns es. rw e) refl)
+      (λ e. zero-of (document at (getD b (at + 1) 0)) (accepted-document a e) (λ ns es. rw e) refl)
+      (λ e. zero-of (var at (getD b (at + 1) 0)) (accepted-variable a e) (λ ns es. rw e) refl)
       (λ e. other (getD b at 0) 4 0 1 z e refl (λ q. omega arith))
       (λ e. other (getD b at 0) 5 0 2 z e refl (λ q. omega arith))
       (λ e. other (getD b at 0) 6 0 2 z e refl (λ q. omega arith))
       (λ e. other (getD b at 0) 7 0 2 z e refl (λ q. omega arith))
       (λ e. other (getD b at 0) 8 0 3 z e refl (λ q. omega arith))
-      (λ e. zero-of (element at (getD b (at + 1) 0)) (accepted-element b at left v a e) (λ ns es. rw e) refl)
-      (λ e. zero-of (leaf at (getD b (at + 1) 0)) (accepted-leaf b at left v a e) (λ ns es. rw e) refl)
+      (λ e. zero-of (element at (getD b (at + 1) 0)) (accepted-element a e) (λ ns es. rw e) refl)
+      (λ e. zero-of (leaf at (getD b (at + 1) 0)) (accepted-leaf a e) (λ ns es. rw e) refl)
       (λ e. other (getD b at 0) 11 0 1 z e refl (λ q. omega arith))
       (λ e. other (getD b at 0) 12 0 2 z e refl (λ q. omega arith))
       (λ e. other (getD b at 0) 13 0 1 z e refl (λ q. omega arith))
@@ -100,7 +100,7 @@ module _ (b : List ℕ) (at left v : ℕ) (a : Accepted b at left v) where
       (λ e. other (getD b at 0) 1 1 0 z e refl (λ q. omega arith))
       (λ e. other (getD b at 0) 2 1 0 z e refl (λ q. omega arith))
       (λ e. other (getD b at 0) 3 1 0 z e refl (λ q. omega arith))
-      (λ e. one-of (step at (stepBy (getD b (at + 1) 0) (getD b (at + 2) 0) (getD b (at + 3) 0))) (accepted-step b at left v a e)
+      (λ e. one-of (step at (stepBy (getD b (at + 1) 0) (getD b (at + 2) 0) (getD b (at + 3) 0))) (accepted-step a e)
       (λ x ns es. rw e) (λ x. refl))
       (λ e. other (getD b at 0) 5 1 2 z e refl (λ q. omega arith))
       (λ e. other (getD b at 0) 6 1 2 z e refl (λ q. omega arith))
@@ -108,9 +108,9 @@ module _ (b : List ℕ) (at left v : ℕ) (a : Accepted b at left v) where
       (λ e. other (getD b at 0) 8 1 3 z e refl (λ q. omega arith))
       (λ e. other (getD b at 0) 9 1 0 z e refl (λ q. omega arith))
       (λ e. other (getD b at 0) 10 1 0 z e refl (λ q. omega arith))
-      (λ e. one-of (delete at) (accepted-delete b at left v a e) (λ x ns es. rw e) (λ x. refl))
+      (λ e. one-of (delete at) (accepted-delete a e) (λ x ns es. rw e) (λ x. refl))
       (λ e. other (getD b at 0) 12 1 2 z e refl (λ q. omega arith))
-      (λ e. one-of (choose at (getD b (at + 1) 0) (getD b (at + 2) 0)) (accepted-pick b at left v a e) (λ x ns es. rw e) (λ x. refl))
+      (λ e. one-of (choose at (getD b (at + 1) 0) (getD b (at + 2) 0)) (accepted-pick a e) (λ x ns es. rw e) (λ x. refl))
 
   -- TWO OPERANDS
   pub record Two : Type 0 where
@@ -145,14 +145,14 @@ module _ (b : List ℕ) (at left v : ℕ) (a : Accepted b at left v) where
       (λ e. other (getD b at 0) 2 2 0 z e refl (λ q. omega arith))
       (λ e. other (getD b at 0) 3 2 0 z e refl (λ q. omega arith))
       (λ e. other (getD b at 0) 4 2 1 z e refl (λ q. omega arith))
-      (λ e. two-of v (both at) (accepted-join b at left v a e) (rw e) (λ x y ns es. rw e) (λ x y. refl))
-      (λ e. two-of (v + 1) (letIn at) (accepted-let b at left v a e) (rw e) (λ x y ns es. rw e) (λ x y. refl))
-      (λ e. two-of (v + 1) (forIn at) (accepted-for b at left v a e) (rw e) (λ x y ns es. rw e) (λ x y. refl))
+      (λ e. two-of v (both at) (accepted-join a e) (rw e) (λ x y ns es. rw e) (λ x y. refl))
+      (λ e. two-of (v + 1) (letIn at) (accepted-let a e) (rw e) (λ x y ns es. rw e) (λ x y. refl))
+      (λ e. two-of (v + 1) (forIn at) (accepted-for a e) (rw e) (λ x y ns es. rw e) (λ x y. refl))
       (λ e. other (getD b at 0) 8 2 3 z e refl (λ q. omega arith))
       (λ e. other (getD b at 0) 9 2 0 z e refl (λ q. omega arith))
       (λ e. other (getD b at 0) 10 2 0 z e refl (λ q. omega arith))
       (λ e. other (getD b at 0) 11 2 1 z e refl (λ q. omega arith))
-      (λ e. two-of v (insert at) (accepted-insert b at left v a e) (rw e) (λ x y ns es. rw e) (λ x y. refl))
+      (λ e. two-of v (insert at) (accepted-insert a e) (rw e) (λ x y ns es. rw e) (λ x y. refl))
       (λ e. other (getD b at 0) 13 2 1 z e refl (λ q. omega arith))
 
   -- THREE OPERANDS
@@ -174,7 +174,7 @@ module _ (b : List ℕ) (at left v : ℕ) (a : Accepted b at left v) where
   three-of : getD b at 0 ≡ 8 → Three
   unfolding inner emit recordsOf
   three-of e =
-      let u = accepted-if b at left v a e in
+      let u = accepted-if a e in
       let w : v ≡ inner (getD b at 0) v = rw e in
       record {
         first = u .first;

@@ -32,7 +32,7 @@ test-low t n h =
 
 module _ {b : List ℕ} {at left v : ℕ} {env ws : List ℕ} {n : ℕ} (pre : EmitPre b at left v env ws n) where
   fits : RecordFits b at left v
-  fits = accepted-record b at left v (pre .accepted)
+  fits = accepted-record (pre .accepted)
 
   -- NO OPERAND
   pub nullary-asks : arity (getD b at 0) ≡ 0 → NullaryPre b at env ws n
@@ -43,9 +43,9 @@ module _ {b : List ℕ} {at left v : ℕ} {env ws : List ℕ} {n : ℕ} (pre : E
         room = omega (arith, pre .room, o .size);
         some = pre .some;
         whole = fits .whole;
-        document = λ e. omega (arith, document-number b at left v fits e);
-        variable = λ e. omega (arith, variable-number b at left v fits e, pre .scope, pre .variables);
-        low = λ e. pre .low (getD b (at + 1) 0) (variable-number b at left v fits e);
+        document = λ e. omega (arith, document-number fits e);
+        variable = λ e. omega (arith, variable-number fits e, pre .scope, pre .variables);
+        low = λ e. pre .low (getD b (at + 1) 0) (variable-number fits e);
       }
 
   pub nullary-emits : arity (getD b at 0) ≡ 0 → {next : ℕ} → next ≡ firstAt b at → {ws′ : List ℕ} {r : Emitted} →
@@ -66,7 +66,7 @@ module _ {b : List ℕ} {at left v : ℕ} {env ws : List ℕ} {n : ℕ} (pre : E
       variable k =
           rw k
           (ap (λ (x : ℕ). positions.emitted x (entriesIn ws n))
-          (sym (getD-take v env (getD b (at + 1) 0) 0 (variable-number b at left v fits k))))
+          (sym (getD-take v env (getD b (at + 1) 0) 0 (variable-number fits k))))
 
   -- THE FIRST OPERAND, of one, two or three
   record Some : Type 0 where
@@ -119,8 +119,8 @@ module _ {b : List ℕ} {at left v : ℕ} {env ws : List ℕ} {n : ℕ} (pre : E
         record {
           grow = record { size = first .size; room = omega (arith, pre .room, o .size, first .few); low = first .low };
           whole = fits .whole;
-          axis = step-axis b at left v fits;
-          test = λ e. test-low (getD b (at + 2) 0) (getD b (at + 3) 0) (step-test b at left v fits e);
+          axis = step-axis fits;
+          test = λ e. test-low (getD b (at + 2) 0) (getD b (at + 3) 0) (step-test fits e);
         }
 
     pub unary-emits : arity (getD b at 0) ≡ 1 → {ws′ : List ℕ} {r : Emitted} → Grown (unaryOf b at (outOf ws₁ r₁)) r₁ ws′ r →

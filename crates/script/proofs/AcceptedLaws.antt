@@ -1,4 +1,5 @@
--- For an evaluator: an accepted expression in place, its fields' ranges and, kind by kind, its operands.
+-- For an evaluator: an accepted expression in place and, kind by kind, its operands.
+-- It starts from `script-accepted` of ScriptLaws; the ranges of fields are in FieldLaws.
 use mathlib.Core.Path.{_≡_, refl, ap, sym, subst, _∙_}
 use mathlib.Core.List.{List}
 use Prim.Native.Nat.{ℕ, suc, _+_, _-_, _≤_, _<_}
@@ -16,7 +17,7 @@ use Rattle.script.proofs.PlaceLaws.{Reads, Known, reads, reads-end, acc
 use Rattle.script.proofs.PlaceLaws.{first-operand, first-reads, second-operand, second-reads, third-operand}
 
 -- where it ends, and what it is
-module _ (b : List ℕ) (at left v : ℕ) (a : Accepted b at left v) where
+module _ {b : List ℕ} {at left v : ℕ} (a : Accepted b at left v) where
   reading : Reads b at left (a .expr) (a .place) (a .rest)
   reading = reads b left (a .deep) at (a .records) v (a .expr) (a .place) (a .after) (a .rest) (a .read)
 
@@ -118,17 +119,17 @@ module _ (b : List ℕ) (at left v : ℕ) (a : Accepted b at left v) where
       found-third t (second-found t (omega arith)) most
 
 -- BY ARITY: the expression is made of its operands' and ends where the last does
-module _ (b : List ℕ) (at left v : ℕ) (a : Accepted b at left v) (k : ℕ) (kind : getD b at 0 ≡ k) where
+module _ {b : List ℕ} {at left v : ℕ} (a : Accepted b at left v) (k : ℕ) (kind : getD b at 0 ≡ k) where
   made-by : exprAt left b at ≡
       exprOf k b at (exprAt (left - 1) b (firstAt b at)) (exprAt (left - 1) b (secondAt b at)) (exprAt (left - 1) b (thirdAt b at))
-  made-by = made b at left v a ∙ rw kind
+  made-by = made a ∙ rw kind
 
   module _ (q : ℕ) (count : arity k ≡ q) where
     operands-are : arity (getD b at 0) ≡ q
     operands-are = ap arity kind ∙ count
 
     ends-by : endAt b at ≡ past q b (firstAt b at)
-    ends-by = pending b at (left - 1) (accepted-record b at left v a .whole) 0 q (omega (arith, operands-are))
+    ends-by = pending b at (left - 1) (accepted-record a .whole) 0 q (omega (arith, operands-are))
 
   nullary : (e : Expr) → arity k ≡ 0 → ((x y z : Expr) → exprOf k b at x y z ≡ e) → Nullary b at left e
   nullary e n f = record { expr = made-by ∙ f _ _ _; ends = ends-by 0 n ∙ past-none b (firstAt b at) }
@@ -136,7 +137,7 @@ module _ (b : List ℕ) (at left v : ℕ) (a : Accepted b at left v) (k : ℕ) (
   unary : (make : Expr → Expr) → arity k ≡ 1 → ((x y z : Expr) → exprOf k b at x y z ≡ make x) → Unary b at left v make
   unary make n f =
       record {
-        first = accepted-first b at left v a (omega (arith, operands-are 1 n));
+        first = accepted-first a (omega (arith, operands-are 1 n));
         expr = made-by ∙ f _ _ _;
         ends = ends-by 1 n;
       }
@@ -144,82 +145,84 @@ module _ (b : List ℕ) (at left v : ℕ) (a : Accepted b at left v) (k : ℕ) (
   binary : (w : ℕ) (make : Expr → Expr → Expr) → inner k v ≡ w → arity k ≡ 2 → ((x y z : Expr) → exprOf k b at x y z ≡ make x y) →
       Binary b at left v w make
   binary w make scope n f =
-      let x = accepted-first b at left v a (omega (arith, operands-are 2 n)) in
-      let y = accepted-second b at left v a (omega (arith, operands-are 2 n)) in
+      let x = accepted-first a (omega (arith, operands-are 2 n)) in
+      let y = accepted-second a (omega (arith, operands-are 2 n)) in
       record {
         first = x;
         second = subst (Accepted b (secondAt b at) (left - 1)) (ap (λ (j : ℕ). inner j v) kind ∙ scope) y;
         expr = made-by ∙ f _ _ _;
-        ends = ends-by 2 n ∙ accepted-past b (firstAt b at) (left - 1) v x 1;
+        ends = ends-by 2 n ∙ accepted-past x 1;
       }
 
   ternary : (make : Expr → Expr → Expr → Expr) → inner k v ≡ v → arity k ≡ 3 → ((x y z : Expr) → exprOf k b at x y z ≡ make x y z) →
       Ternary b at left v make
   ternary make scope n f =
-      let x = accepted-first b at left v a (omega (arith, operands-are 3 n)) in
-      let y = accepted-second b at left v a (omega (arith, operands-are 3 n)) in
+      let x = accepted-first a (omega (arith, operands-are 3 n)) in
+      let y = accepted-second a (omega (arith, operands-are 3 n)) in
       record {
         first = x;
         second = subst (Accepted b (secondAt b at) (left - 1)) (ap (λ (j : ℕ). inner j v) kind ∙ scope) y;
-        third = accepted-third b at left v a (omega (arith, operands-are 3 n));
+        third = accepted-third a (omega (arith, operands-are 3 n));
         expr = made-by ∙ f _ _ _;
-        ends =
-            ends-by 3 n ∙ accepted-past b (firstAt b at) (left - 1) v x 2 ∙
-            accepted-past b (secondAt b at) (left - 1) (inner (getD b at 0) v) y 1;
+        ends = ends-by 3 n ∙ accepted-past x 2 ∙ accepted-past y 1;
       }
 
+-- at the same place
+pub accepted-at : {b : List ℕ} {p q left v : ℕ} → p ≡ q → Accepted b q left v → Accepted b p left v
+accepted-at {b} {left = left} {v = v} e a = subst (λ (i : ℕ). Accepted b i left v) (sym e) a
+
 -- BY KIND
-module _ (b : List ℕ) (at left v : ℕ) (a : Accepted b at left v) where
+module _ {b : List ℕ} {at left v : ℕ} (a : Accepted b at left v) where
   pub accepted-nil : getD b at 0 ≡ nilKind → Nullary b at left (nil at)
   unfolding arity exprOf
-  accepted-nil e = nullary b at left v a nilKind e (nil at) refl (λ x y z. refl)
+  accepted-nil e = nullary a nilKind e (nil at) refl (λ x y z. refl)
 
   pub accepted-document : getD b at 0 ≡ documentKind → Nullary b at left (document at (getD b (at + 1) 0))
   unfolding arity exprOf
-  accepted-document e = nullary b at left v a documentKind e (document at (getD b (at + 1) 0)) refl (λ x y z. refl)
+  accepted-document e = nullary a documentKind e (document at (getD b (at + 1) 0)) refl (λ x y z. refl)
 
   pub accepted-variable : getD b at 0 ≡ varKind → Nullary b at left (var at (getD b (at + 1) 0))
   unfolding arity exprOf
-  accepted-variable e = nullary b at left v a varKind e (var at (getD b (at + 1) 0)) refl (λ x y z. refl)
+  accepted-variable e = nullary a varKind e (var at (getD b (at + 1) 0)) refl (λ x y z. refl)
 
   pub accepted-element : getD b at 0 ≡ newElementKind → Nullary b at left (element at (getD b (at + 1) 0))
   unfolding arity exprOf
-  accepted-element e = nullary b at left v a newElementKind e (element at (getD b (at + 1) 0)) refl (λ x y z. refl)
+  accepted-element e = nullary a newElementKind e (element at (getD b (at + 1) 0)) refl (λ x y z. refl)
 
   pub accepted-leaf : getD b at 0 ≡ newLeafKind → Nullary b at left (leaf at (getD b (at + 1) 0))
   unfolding arity exprOf
-  accepted-leaf e = nullary b at left v a newLeafKind e (leaf at (getD b (at + 1) 0)) refl (λ x y z. refl)
+  accepted-leaf e = nullary a newLeafKind e (leaf at (getD b (at + 1) 0)) refl (λ x y z. refl)
 
   pub accepted-step : getD b at 0 ≡ stepKind →
       Unary b at left v (step at (stepBy (getD b (at + 1) 0) (getD b (at + 2) 0) (getD b (at + 3) 0)))
   unfolding arity exprOf
   accepted-step e =
-      unary b at left v a stepKind e (step at (stepBy (getD b (at + 1) 0) (getD b (at + 2) 0) (getD b (at + 3) 0))) refl (λ x y z. refl)
+      unary a stepKind e (step at (stepBy (getD b (at + 1) 0) (getD b (at + 2) 0) (getD b (at + 3) 0))) refl (λ x y z. refl)
 
   pub accepted-delete : getD b at 0 ≡ deleteKind → Unary b at left v (delete at)
   unfolding arity exprOf
-  accepted-delete e = unary b at left v a deleteKind e (delete at) refl (λ x y z. refl)
+  accepted-delete e = unary a deleteKind e (delete at) refl (λ x y z. refl)
 
   pub accepted-pick : getD b at 0 ≡ pickKind → Unary b at left v (choose at (getD b (at + 1) 0) (getD b (at + 2) 0))
   unfolding arity exprOf
-  accepted-pick e = unary b at left v a pickKind e (choose at (getD b (at + 1) 0) (getD b (at + 2) 0)) refl (λ x y z. refl)
+  accepted-pick e = unary a pickKind e (choose at (getD b (at + 1) 0) (getD b (at + 2) 0)) refl (λ x y z. refl)
 
   pub accepted-join : getD b at 0 ≡ bothKind → Binary b at left v v (both at)
   unfolding arity inner exprOf
-  accepted-join e = binary b at left v a bothKind e v (both at) refl refl (λ x y z. refl)
+  accepted-join e = binary a bothKind e v (both at) refl refl (λ x y z. refl)
 
   pub accepted-let : getD b at 0 ≡ letKind → Binary b at left v (v + 1) (letIn at)
   unfolding arity inner exprOf
-  accepted-let e = binary b at left v a letKind e (v + 1) (letIn at) refl refl (λ x y z. refl)
+  accepted-let e = binary a letKind e (v + 1) (letIn at) refl refl (λ x y z. refl)
 
   pub accepted-for : getD b at 0 ≡ forKind → Binary b at left v (v + 1) (forIn at)
   unfolding arity inner exprOf
-  accepted-for e = binary b at left v a forKind e (v + 1) (forIn at) refl refl (λ x y z. refl)
+  accepted-for e = binary a forKind e (v + 1) (forIn at) refl refl (λ x y z. refl)
 
   pub accepted-insert : getD b at 0 ≡ insertKind → Binary b at left v v (insert at)
   unfolding arity inner exprOf
-  accepted-insert e = binary b at left v a insertKind e v (insert at) refl refl (λ x y z. refl)
+  accepted-insert e = binary a insertKind e v (insert at) refl refl (λ x y z. refl)
 
   pub accepted-if : getD b at 0 ≡ ifKind → Ternary b at left v (ifIn at)
   unfolding arity inner exprOf
-  accepted-if e = ternary b at left v a ifKind e (ifIn at) refl refl (λ x y z. refl)
+  accepted-if e = ternary a ifKind e (ifIn at) refl refl (λ x y z. refl)

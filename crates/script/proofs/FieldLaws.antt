@@ -1,19 +1,19 @@
 -- For an evaluator: the fields of an accepted record are in range.
 use mathlib.Core.Path.{_≡_}
-use mathlib.Core.Bool.{Bool, true, _&&_}
+use mathlib.Core.Bool.{true, _&&_}
 use mathlib.Core.List.{List}
 use Prim.Native.Nat.{ℕ, _+_, _≤_, _<_}
 use lib.Dec.{ltb, leb}
-use lib.ListN.{getD, drop}
+use lib.ListN.{getD}
 use lib.Seq.{getD-drop}
 use borrow.Author.Tests.{ltb-true, leb-true}
 use Rattle.model.specs.Base.{isIn}
-use Rattle.model.specs.Script.{documentKind, varKind, stepKind, newElementKind, pickKind, bodyFits, testFits}
+use Rattle.model.specs.Script.{documentKind, varKind, stepKind, newElementKind, pickKind, testFits}
 use Rattle.model.proofs.BoolLaws.{and-left, and-right}
 use Rattle.script.specs.Accepted.{RecordFits}
 use Rattle.script.proofs.HeadLaws.{kind-at}
 
-module _ (b : List ℕ) (at left v : ℕ) (f : RecordFits b at left v) where
+module _ {b : List ℕ} {at left v : ℕ} (f : RecordFits b at left v) where
   pub document-number : getD b at 0 ≡ documentKind → getD b (at + 1) 0 < 8
   document-number e =
       ltb-true (getD b (at + 1) 0) 8 (rw (kind-at b at, e, getD-drop at b 1 0) at (f .fields))

@@ -1,15 +1,15 @@
 -- The record at the front: what the model says of it from the tests that the reader makes, and what an accepted record fulfils.
 use mathlib.Core.Path.{_≡_, refl, ap, sym, _∙_}
-use mathlib.Core.Bool.{Bool, true, false, _&&_, _||_, not, false≢true}
+use mathlib.Core.Bool.{Bool, true, false, _&&_, not, false≢true}
 use mathlib.Core.List.{List}
-use Prim.Native.Nat.{ℕ, zero, suc, _+_, _-_, _≤_, _<_}
+use Prim.Native.Nat.{ℕ, _+_, _-_, _≤_, _<_}
 use native.Mathlib.Omega.{arith}
 use lib.Dec.{ltb, leb, eqb}
 use lib.ListN.{length, length-drop, getD, drop}
 use lib.Seq.{getD-drop}
-use borrow.Author.Tests.{lt-ltb, le-ltb, le-leb, lt-leb, eq-eqb, ne-eqb, ltb-true, leb-true, leb-false, not-true}
-use Rattle.model.specs.Base.{pick, isIn}
-use Rattle.model.specs.Refusal.{Fault, fault, fine, isFine, orElse, unless, kindAt, shortAt, fieldAt, sizeAt}
+use borrow.Author.Tests.{lt-ltb, le-ltb, le-leb, lt-leb, ne-eqb, ltb-true, leb-true, leb-false, not-true}
+use Rattle.model.specs.Base.{isIn}
+use Rattle.model.specs.Refusal.{isFine, orElse, unless, kindAt, shortAt, fieldAt, sizeAt}
 use Rattle.model.specs.Script.{bodySize, bodyFits, testFits, isBinder, exprFault}
 use Rattle.model.proofs.BoolLaws.{by-cases, and-left, and-right}
 use Rattle.script.specs.Accepted.{RecordFits}

@@ -9,7 +9,7 @@ use lib.ListN.{length, getD, drop}
 use borrow.Author.Tests.{eqb-true, eqb-false}
 use Rattle.model.specs.Base.{pick}
 use Rattle.model.specs.Script.{stepKind, bothKind, letKind, forKind, ifKind, deleteKind, insertKind, pickKind}
-use Rattle.model.specs.Script.{Expr, Parsed, parsed, thenParse, bodySize}
+use Rattle.model.specs.Script.{Expr, parsed, thenParse, bodySize}
 use Rattle.model.proofs.BoolLaws.{by-cases}
 use Rattle.script.specs.Walk.{arity, inner, past, endAt, firstAt, secondAt, thirdAt, exprOf, exprAt}
 use Rattle.script.specs.Reading.{parseAt}

@@ -1,23 +1,24 @@
 -- The whole script: one law for each way out of its reader, and what its answer says of the model's reader.
 use mathlib.Core.Path.{_≡_, refl, ap, sym, _∙_}
-use mathlib.Core.Bool.{Bool, false}
+use mathlib.Core.Bool.{false}
 use mathlib.Core.List.{List, []}
-use Rattle.model.proofs.BoolLaws.{by-cases}
-use Prim.Native.Nat.{ℕ, zero, suc, _+_, _-_, _≤_, _<_}
+use Prim.Native.Nat.{ℕ, _-_, _≤_, _<_}
 use native.Mathlib.Omega.{arith}
 use lib.Dec.{eqb}
-use lib.ListN.{length, length-drop, drop, drop-of-length-le}
+use lib.ListN.{length, length-drop, drop-of-length-le}
 use borrow.Author.Tests.{eq-eqb, ne-eqb, eqb-true}
+use Rattle.model.specs.Limits.{maxDepth}
 use Rattle.model.specs.Refusal as refusal
 use Rattle.model.specs.Script.{Expr, Parsed, ill, parsed, whole, readScript}
 use Rattle.model.specs.Cases.{faultBy}
+use Rattle.model.proofs.BoolLaws.{by-cases}
 use Rattle.table.specs.Calls.{faultOf}
 use Rattle.table.specs.declared.Fault.{Fault}
 use Rattle.script.specs.Walk.{exprAt}
 use Rattle.script.specs.Reading.{scriptRead, parseAt, endOf, ExpressionPost}
 use Rattle.script.specs.Accepted.{Accepted}
 use Rattle.script.specs.declared.read.End.{End}
-use Rattle.script.proofs.PlaceLaws.{Reads, reads}
+use Rattle.script.proofs.PlaceLaws.{reads}
 use Rattle.script.proofs.RefusalLaws.{Sound, parse-sound}
 use Rattle.script.proofs.ExpressionLaws.{Ended, ended}
 
@@ -73,7 +74,7 @@ module _ (b : List ℕ) (h : scriptRead b .number ≡ 0) where
   found-whole : Whole (parseAt b 0 16 0 0)
   found-whole = whole-fine (parseAt b 0 16 0 0) (parse-sound 18 1 0 0 0 b) h
 
-  pub script-accepted : Accepted b 0 16 0
+  pub script-accepted : Accepted b 0 maxDepth 0
   script-accepted =
       record {
         deep = omega arith;
@@ -85,7 +86,7 @@ module _ (b : List ℕ) (h : scriptRead b .number ≡ 0) where
         read = found-whole .is;
       }
 
-  pub script-parsed : (n : ℕ) × (readScript b ≡ parsed (exprAt 16 b 0) (length b) n [])
+  pub script-parsed : (n : ℕ) × (readScript b ≡ parsed (exprAt maxDepth b 0) (length b) n [])
   script-parsed =
       let w = found-whole in
       let r = reads b 16 (omega arith) 0 0 0 (w .expr) (w .place) (w .records) (w .bytes) (w .is) in
@@ -105,3 +106,11 @@ script-ill b h = go (readScript b) h
     go : (x : Parsed) → (faultBy x .number ≡ 0 → ⊥) → x ≡ ill (refusal.fault (faultBy x .number) (faultBy x .place))
     go (ill f) g = refl
     go (parsed e j m c) g = absurd (g refl)
+
+-- what is read as an expression is accepted, and is the expression at place 0
+module _ (b : List ℕ) {e : Expr} {j m : ℕ} {c : List ℕ} (h : readScript b ≡ parsed e j m c) where
+  pub script-number : scriptRead b .number ≡ 0
+  script-number = ap (λ (x : Parsed). faultBy x .number) h
+
+  pub script-expr : e ≡ exprAt maxDepth b 0
+  script-expr = let r = sym h ∙ script-parsed b script-number .1 in cc r

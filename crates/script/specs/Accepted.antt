@@ -9,7 +9,7 @@ use Rattle.model.specs.Script.{Expr, parsed, nilKind, pickKind, bodySize, bodyF
 use Rattle.script.specs.Walk.{endAt, firstAt, secondAt, thirdAt, exprAt}
 use Rattle.script.specs.Reading.{parseAt}
 
--- the expression at a place is accepted, `left` deep at most, with so many variables bound
+-- the expression at a place is accepted, `left` deep at most, with so many variables bound; `records` stand before it
 pub record Accepted (b : List ℕ) (at left bound : ℕ) : Type 0 where
   pub deep : left ≤ maxDepth
   pub records : ℕ

@@ -8,7 +8,7 @@ use lib.ListN.{length, getD, drop}
 use Rattle.model.specs.Base.{pick}
 use Rattle.model.specs.Limits.{maxDepth, maxBinders}
 use Rattle.model.specs.Refusal as refusal
-use Rattle.model.specs.Script.{Expr, Parsed, ill, parsed, parseFrom, readScript, exprFault, bodySize, bodyFits, isBinder}
+use Rattle.model.specs.Script.{Parsed, ill, parsed, parseFrom, readScript, exprFault, bodySize, bodyFits, isBinder}
 use Rattle.model.specs.Cases.{faultBy}
 use Rattle.table.specs.Calls.{faultOf}
 use Rattle.table.specs.declared.Fault.{Fault}
@@ -18,7 +18,7 @@ use Rattle.script.specs.declared.read.End.{End}
 abbrev pub scriptRead : (bytes : List ℕ) → Fault
 scriptRead b = faultOf (faultBy (readScript b))
 
--- the expression at a place, which may be `left` deep; one that may not be deeper than 0 is at depth 17
+-- the model's reader at a place: the expression there may be `left` deep, so its own depth is 17 less that
 abbrev pub parseAt : (bytes : List ℕ) → (at left records bound : ℕ) → Parsed
 parseAt b i k n v = parseFrom (suc (suc k)) (maxDepth + 1 - k) i n v (drop i b)
 

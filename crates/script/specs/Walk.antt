@@ -1,5 +1,5 @@
--- A script walked in place: where an expression and its operands stand, and which expression it is. Assumes nothing: these are definitions.
-use mathlib.Core.Bool.{Bool, _||_}
+-- A script walked in place: where an expression and its operands stand, and which it is. Assumes nothing: these are definitions.
+use mathlib.Core.Bool.{_||_}
 use mathlib.Core.List.{List, [], _∷_}
 use Prim.Native.Nat.{ℕ, zero, suc, _+_, _-_}
 use lib.Dec.{eqb}

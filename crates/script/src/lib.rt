@@ -13,13 +13,13 @@ pub fn read_script(bytes: &[u8]) -> Fault
     ensures { λ r. ⌜ r ≡ scriptRead (now (bytes .entry)) ⌝ }
 {
     let end = read::expression(bytes, 0, Table::DEPTH, 0, 0);
-    let place = end.place;
     if end.number != 0 {
         return Fault {
             number: end.number,
             place: end.place,
         };
     }
+    let place = end.place;
     if place < bytes.len() {
         return Fault {
             number: Fault::TAIL,

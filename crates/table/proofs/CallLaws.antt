@@ -49,7 +49,11 @@ fits-at n ws ms h =
     record {
       few = g;
       kinds = λ k l w.
-          ap isRowWord (sym (getD-take n ws k 0 l)) ∙ all-getD isRowWord (take n ws) (and-right a b f) k (omega (arith, length-take-le n ws w));
+          ap isRowWord (sym (getD-take n ws k 0 l)) ∙ all-getD isRowWord (take n ws) (and-right a b f) k (omega (
+            arith,
+            length-take-le n
+                ws w,
+          ));
       canonical = λ l. canonical-words n ws g l (and-right a b f) (and-right (a && b) c e);
       well = isWell-at (decodeParts n ws ms) (and-right (a && b && c) d h);
     }
@@ -103,7 +107,13 @@ module _ (t : Table) (o : List ℕ) where
 module _ (n : ℕ) (ws ms : List ℕ) (within : n ≤ length ws) where
   pub length-stored : length (stored (decodeParts n ws ms)) ≡ 4 * n + length (marksBytes 0 (map linked ms))
   length-stored =
-      omega (arith, length-append (rowsBytes (rowsOf n ws)) (marksBytes 0 (map linked ms)), length-rowsBytes (rowsOf n ws), count-decode n ws ms within)
+      omega (
+        arith,
+        length-append (rowsBytes (rowsOf n ws)) (marksBytes 0 (map linked ms)),
+        length-rowsBytes (rowsOf n ws),
+        count-decode
+            n ws ms within,
+      )
 
   pub stored-over : (o : List ℕ) → 4 * n ≤ length o →
       over (4 * n) (marksBytes 0 (map linked ms)) (over 0 (rowsBytes (rowsOf n ws)) o) ≡

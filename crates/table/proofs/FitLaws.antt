@@ -21,7 +21,8 @@ use Rattle.table.proofs.ReadLaws.{element-high, element-kind}
 -- TURNS
 pub rows-turn : (ws : List ℕ) (i n : ℕ) → i < n → rowsFit ws i (n - i) ≡ (rowFits ws i && rowsFit ws (i + 1) (n - (i + 1)))
 unfolding rowsFit
-rows-turn ws i n h = let e : n - i ≡ suc (n - (i + 1)) = omega arith in ap (rowsFit ws i) e ∙ ap (λ (j : ℕ). rowFits ws i && rowsFit ws j (n - (i + 1))) (sym (add-one i))
+rows-turn ws i n h = let e : n - i ≡ suc (n - (i + 1)) = omega arith in ap (rowsFit ws i) e ∙ ap (λ (j : ℕ). rowFits ws i && rowsFit ws j
+    (n - (i + 1))) (sym (add-one i))
 
 pub rows-end : (ws : List ℕ) (i n : ℕ) → n ≤ i → rowsFit ws i (n - i) ≡ true
 unfolding rowsFit
@@ -36,7 +37,8 @@ unfolding all
 all-end f ws i h = ap (all f) (drop-of-length-le ws h)
 
 pub marks-turn : (ws : List ℕ) (n : ℕ) (ms : List ℕ) (d : ℕ) → d < length ms →
-    marksFit ws n (drop d ms) ≡ (markFits ws n (getD ms d 0) && not (isRepeated (getD ms d 0) (drop (d + 1) ms)) && marksFit ws n (drop (d + 1) ms))
+    marksFit ws n (drop d ms) ≡ (markFits ws n (getD ms d 0) && not (isRepeated (getD ms d 0) (drop (d + 1) ms)) && marksFit ws n (drop
+    (d + 1) ms))
 unfolding marksFit
 marks-turn ws n ms d h =
     ap (marksFit ws n) (drop-cons ms d 0 h) ∙
@@ -141,12 +143,15 @@ module _ (n : ℕ) (ws ms : List ℕ) (within : n ≤ length ws) where
   unfolding all model.noneTwice marksFit
   marks-words [] = refl
   marks-words (m ∷ vs) =
-      ap (λ (t : Bool). t && all (model.markFits (decodeParts n ws ms)) (map linked vs) && model.noneTwice (map linked (m ∷ vs))) (mark-word m) ∙
+      ap (λ (t : Bool). t && all (model.markFits (decodeParts n ws ms)) (map linked vs) && model.noneTwice (map linked (m ∷ vs)))
+      (mark-word m) ∙
       ap (λ (t : Bool). markFits ws n m && all (model.markFits (decodeParts n ws ms)) (map linked vs) && t) (twice (eqb m 0) refl) ∙
-      shuffle (markFits ws n m) (all (model.markFits (decodeParts n ws ms)) (map linked vs)) (not (isRepeated m vs)) (model.noneTwice (map linked vs)) ∙
+      shuffle (markFits ws n m) (all (model.markFits (decodeParts n ws ms)) (map linked vs)) (not (isRepeated m vs)) (model.noneTwice
+      (map linked vs)) ∙
       ap (λ (t : Bool). markFits ws n m && not (isRepeated m vs) && t) (marks-words vs)
     where
-      twice : (t : Bool) → eqb m 0 ≡ t → model.noneTwice (linked m ∷ map linked vs) ≡ (not (isRepeated m vs) && model.noneTwice (map linked vs))
+      twice : (t : Bool) → eqb m 0 ≡ t → model.noneTwice (linked m ∷ map linked vs) ≡ (not (isRepeated m vs) && model.noneTwice (map
+          linked vs))
       twice true e = rw e
       twice false e = rw e
 
@@ -166,7 +171,8 @@ parts-fit n ws ms size h =
     rw (le-leb n 512 h, le-leb (model.count (decodeParts n ws ms)) 512 k, eq-eqb (length (map linked ms)) 8 d)
     (shuffle (all isRowWord (take n ws)) (all isZero (drop n ws)) (model.rowsFit (decodeParts n ws ms) 0 (rowsOf n ws))
     (all (model.markFits (decodeParts n ws ms)) (map linked ms)) (model.noneTwice (map linked ms)) ∙
-    ap (λ (t : Bool). t && all isZero (drop n ws) && (all (model.markFits (decodeParts n ws ms)) (map linked ms) && model.noneTwice (map linked ms)))
+    ap (λ (t : Bool). t && all isZero (drop n ws) && (all (model.markFits (decodeParts n ws ms)) (map linked ms) && model.noneTwice (map
+    linked ms)))
     (rows-words n ws ms w 0 n z) ∙
     ap (λ (t : Bool). rowsFit ws 0 n && all isZero (drop n ws) && t) (marks-words n ws ms w ms))
   where

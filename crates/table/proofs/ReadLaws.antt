@@ -12,10 +12,11 @@ use lib.Seq.{drop-cons, take-all, drop-drop}
 use native.Mathlib.Numerals.{add-one}
 use borrow.Author.Tests.{lt-ltb, le-ltb, le-leb, lt-leb, eq-eqb, ne-eqb, eqb-true, eqb-false}
 use Rattle.model.specs.Base.{pick, isIn, any}
-use Rattle.model.specs.Refusal.{Fault, fault, fine}
+use Rattle.model.specs.Refusal.{Fault, fault, fine, isFine}
 use Rattle.model.specs.Table as model
 use Rattle.model.specs.Stored.{wordAt, rowIn, parentIn, rowFault, markFault, rowLinks, markLinks, lastMarked, recordFault, recorded, readFrom, readPlan, bad, got}
 use Rattle.model.proofs.BoolLaws.{by-cases, pick-true, pick-false}
+use Rattle.model.proofs.StoredLaws.{readFrom-end, readFrom-fine, readFrom-refused}
 use Rattle.table.specs.Words.{linkOf, linked, wordOf, rowOf, rowsOf, wordsOf, decodeParts, encode}
 use Rattle.table.specs.Reading.{lastOf, RowPre, RowPost, MarkPre, MarkPost, RecordPre, RecordPost, Recorded, Held, ReadPre, ReadPost, faultAt}
 use Rattle.table.specs.Calls.{readBy, planRead}
@@ -107,7 +108,8 @@ module _ (s ws ms : List ℕ) (n i : ℕ) (pre : RowPre s ws n) where
         pub row-child : wordAt s 2 < n → (getD ws (wordAt s 2) 0 % 4 ≡ 2 → ⊥) → rowFault (decodeParts n ws ms) i s ≡ fine
         row-child h l =
             let k : wordAt s 2 < model.count (decodeParts n ws ms) = omega (arith, count-decode n ws ms within-512) in
-            let e : model.isElement (decodeParts n ws ms) (wordAt s 2) ≡ true = element-kind n ws ms within-512 (wordAt s 2) h ∙ rw (ne-eqb (getD ws (wordAt s 2) 0 % 4) 2 l) in
+            let e : model.isElement (decodeParts n ws ms) (wordAt s 2) ≡ true = element-kind n ws ms within-512 (wordAt s 2) h ∙ rw
+            (ne-eqb (getD ws (wordAt s 2) 0 % 4) 2 l) in
             rw (fits, first, ne-eqb (wordAt s 2) 65535 some-parent, e, lt-ltb (wordAt s 2) (model.count (decodeParts n ws ms)) k)
 
 -- MARKS: a mark at the front, by the tests on its way out
@@ -179,11 +181,13 @@ isThe-linked link m h =
 
     go-some : eqb m 0 ≡ false → (m ≡ 0 → ⊥) → model.isThe (link - 1) (linked m) ≡ eqb m link
     go-some e f =
-        rw e (by-cases (eqb m link) (λ q. let k : m - 1 ≡ link - 1 = omega (arith, eqb-true m link q) in eq-eqb (m - 1) (link - 1) k ∙ sym q)
+        rw e (by-cases (eqb m link) (λ q. let k : m - 1 ≡ link - 1 = omega (arith, eqb-true m link q) in eq-eqb (m - 1) (link - 1) k ∙
+        sym q)
         (λ q. ne-eqb (m - 1) (link - 1) (λ k. eqb-false m link q (omega (arith, f))) ∙ sym q))
 
 pub marked-turn : (ms : List ℕ) (d link : ℕ) → d < length ms → 0 < link →
-    any (model.isThe (link - 1)) (map linked (drop d ms)) ≡ (eqb (getD ms d 0) link || any (model.isThe (link - 1)) (map linked (drop (d + 1) ms)))
+    any (model.isThe (link - 1)) (map linked (drop d ms)) ≡ (eqb (getD ms d 0) link || any (model.isThe (link - 1)) (map linked (drop (d
+    + 1) ms)))
 unfolding any
 marked-turn ms d link h l = rw (drop-cons ms d 0 h, isThe-linked link (getD ms d 0) l, add-one)
 
@@ -240,7 +244,8 @@ last-range (some j ∷ ms) from =
     inr (by-cases (eqb (lastMarked (suc from) ms) 0) (λ e. rw e (omega arith))
     (λ e. rw e (⊎-elim (λ z. absurd (eqb-false (lastMarked (suc from) ms) 0 e z)) (λ h. omega arith) (last-range ms (suc from)))))
 
-pub last-set : (ms : List (Option ℕ)) (from d i : ℕ) → d < length ms → lastMarked from ms ≤ from + d → lastMarked from (set ms d (some i)) ≡ from + d + 1
+pub last-set : (ms : List (Option ℕ)) (from d i : ℕ) → d < length ms → lastMarked from ms ≤ from + d → lastMarked from (set ms d (some
+    i)) ≡ from + d + 1
 unfolding lastMarked
 last-set [] from d i h l = absurd (omega arith)
 last-set (none ∷ ms) from zero i h l =
@@ -256,14 +261,17 @@ last-set (none ∷ ms) from (suc d) i h l =
 last-set (some j ∷ ms) from (suc d) i h l = go (last-set ms (suc from) d i (omega arith) low)
   where
     low : lastMarked (suc from) ms ≤ suc from + d
-    low = by-cases (eqb (lastMarked (suc from) ms) 0) (λ e. omega (arith, eqb-true (lastMarked (suc from) ms) 0 e)) (λ e. omega (arith, rw e at l))
+    low = by-cases (eqb (lastMarked (suc from) ms) 0) (λ e. omega (arith, eqb-true (lastMarked (suc from) ms) 0 e)) (λ e. omega (
+      arith,
+      rw e at l,
+    ))
 
     go : lastMarked (suc from) (set ms d (some i)) ≡ suc from + d + 1 →
         pick (eqb (lastMarked (suc from) (set ms d (some i))) 0) (suc from) (lastMarked (suc from) (set ms d (some i))) ≡ from + suc d + 1
     go e = rw e (let k : suc from + d + 1 ≡ 0 → ⊥ = λ q. omega arith in rw (ne-eqb (suc from + d + 1) 0 k) (omega arith))
 
 -- the table with a mark more, and with a row more
-map-set : {A B : Type 0} (f : A → B) (l : List A) (i : ℕ) (a : A) → map f (set l i a) ≡ set (map f l) i (f a)
+pub map-set : {A B : Type 0} (f : A → B) (l : List A) (i : ℕ) (a : A) → map f (set l i a) ≡ set (map f l) i (f a)
 map-set f [] i a = refl
 map-set f (x ∷ l) zero a = refl
 map-set f (x ∷ l) (suc i) a = ap (λ (t : List _). f x ∷ t) (map-set f l i a)
@@ -298,7 +306,8 @@ module _ (s ws ms : List ℕ) (n last : ℕ) (pre : RecordPre s ws ms n last) (w
           record {
             whole = whole;
             table =
-                ap (decodeParts n ws) e ∙ decode-mark n (getD s 1 0) (wordAt s 2) ws ms ∙ sym (recorded-mark (decodeParts n ws ms) 0 s kind);
+                ap (decodeParts n ws) e ∙ decode-mark n (getD s 1 0) (wordAt s 2) ws ms ∙ sym (recorded-mark (decodeParts n ws ms) 0 s
+                kind);
             held =
                 record {
                   room = pre .held .room;
@@ -342,20 +351,15 @@ module _ (s ws ms : List ℕ) (n last : ℕ) (pre : RecordPre s ws ms n last) (w
 
 -- READING: one turn, and the end
 module _ (k : ℕ) (x : model.Table) (i : ℕ) (b : List ℕ) where
-  pub read-fine : 0 < length b → recordFault x i b ≡ fine → readFrom (suc k) x i b ≡ readFrom k (recorded x b) (i + 4) (drop 4 b)
-  unfolding readFrom
-  read-fine h e = let z : length b ≡ 0 → ⊥ = λ q. omega arith in rw (ne-eqb (length b) 0 z, e)
+  read-fine : 0 < length b → recordFault x i b ≡ fine → readFrom (suc k) x i b ≡ readFrom k (recorded x b) (i + 4) (drop 4 b)
+  read-fine h e = readFrom-fine k x i b h (ap isFine e)
 
-  pub read-refused : (n : ℕ) → 0 < length b → recordFault x i b ≡ fault (suc n) i → readFrom (suc k) x i b ≡ bad (fault (suc n) i)
-  unfolding readFrom
+  read-refused : (n : ℕ) → 0 < length b → recordFault x i b ≡ fault (suc n) i → readFrom (suc k) x i b ≡ bad (fault (suc n) i)
   read-refused n h e =
-      let z : length b ≡ 0 → ⊥ = λ q. omega arith in
-      let y : suc n ≡ 0 → ⊥ = λ q. omega arith in
-      rw (ne-eqb (length b) 0 z, e, ne-eqb (suc n) 0 y)
+      let y : suc n ≡ 0 → ⊥ = λ q. omega arith in readFrom-refused k x i b h (ap isFine e ∙ ne-eqb (suc n) 0 y) ∙ ap bad e
 
-pub read-end : (k : ℕ) (x : model.Table) (i : ℕ) → readFrom (suc k) x i [] ≡ got x
-unfolding readFrom
-read-end k x i = refl
+read-end : (k : ℕ) (x : model.Table) (i : ℕ) → readFrom (suc k) x i [] ≡ got x
+read-end k x i = readFrom-end (suc k) x i [] refl
 
 -- reading goes on from what is held, at a place
 module _ (b ws ms : List ℕ) (n at : ℕ) (h : at < length b)
@@ -388,7 +392,8 @@ module _ (b ws ms : List ℕ) (n at : ℕ) (h : at < length b)
         let w : 4 ≤ length (take (length b - at) (drop at b)) = post .fine z .whole in (
           omega (arith, ap length rest, length-drop at b),
           ap (λ (j : ℕ). readFrom j (decodeParts (r .count) ws′ ms′) (at + 4) (drop (at + 4) b)) falls ∙
-              ap (λ (x : model.Table). readFrom (length b - at / 4) x (at + 4) (drop (at + 4) b)) (post .fine z .table ∙ ap (recorded (decodeParts n ws ms)) rest) ∙
+              ap (λ (x : model.Table). readFrom (length b - at / 4) x (at + 4) (drop (at + 4) b)) (post .fine z .table ∙ ap (recorded
+              (decodeParts n ws ms)) rest) ∙
               ap (readFrom (length b - at / 4) (recorded (decodeParts n ws ms) (drop at b)) (at + 4)) (sym (drop-drop 4 at b)) ∙
               sym (read-fine (length b - at / 4) (decodeParts n ws ms) at (drop at b) more (faults ∙ rw z)) ∙
               ap (λ (j : ℕ). readFrom j (decodeParts n ws ms) at (drop at b)) (sym fuel) ∙ held,
@@ -418,7 +423,8 @@ module _ (ws ms : List ℕ) (pre : ReadPre ws ms) where
 
 -- the end
 pub reading-end : (b ws ms : List ℕ) (n at : ℕ) → length b ≤ at →
-    readFrom (length b + 1 - at / 4) (decodeParts n ws ms) at (drop at b) ≡ readPlan b → at ≤ length b → got (decodeParts n ws ms) ≡ readPlan b
+    readFrom (length b + 1 - at / 4) (decodeParts n ws ms) at (drop at b) ≡ readPlan b → at ≤ length b → got (decodeParts n ws ms) ≡
+    readPlan b
 reading-end b ws ms n at h held l =
     let fuel : length b + 1 - at / 4 ≡ suc (length b - at / 4) = omega arith in
     sym (read-end (length b - at / 4) (decodeParts n ws ms) at) ∙

@@ -1,6 +1,6 @@
 -- The sweep over words, one mark and one row at a time, is the model's sweep.
 use mathlib.Core.Path.{_≡_, refl, ap, sym, _∙_, subst}
-use mathlib.Core.Bool.{Bool, true, false, _&&_, _||_, not}
+use mathlib.Core.Bool.{Bool, true, false, _&&_, _||_, not, or-false, or-true, or-assoc}
 use mathlib.Core.List.{List, [], _∷_, _++_, map, append-nil}
 use mathlib.Core.Option.{Option, none, some}
 use Prim.Native.Nat.{ℕ, zero, suc, _+_, _*_, _-_, _/_, _%_, _≤_, _<_}
@@ -44,11 +44,7 @@ flagged-none ns ms e =
 any-append : (f : Option ℕ → Bool) (xs ys : List (Option ℕ)) → any f (xs ++ ys) ≡ (any f xs || any f ys)
 unfolding any
 any-append f [] ys = refl
-any-append f (x ∷ xs) ys = ap (λ (t : Bool). f x || t) (any-append f xs ys) ∙ assoc (f x) (any f xs) (any f ys)
-  where
-    assoc : (a b c : Bool) → (a || (b || c)) ≡ (a || b || c)
-    assoc true b c = refl
-    assoc false b c = refl
+any-append f (x ∷ xs) ys = ap (λ (t : Bool). f x || t) (any-append f xs ys) ∙ sym (or-assoc (f x) (any f xs) (any f ys))
 
 marked-next : (ms : List ℕ) (d k : ℕ) → d < length ms →
     any (model.isThe k) (map linked (take (d + 1) ms)) ≡ (any (model.isThe k) (map linked (take d ms)) || eqb (getD ms d 0) (k + 1))
@@ -59,10 +55,6 @@ marked-next ms d k h =
     any-append (model.isThe k) (map linked (take d ms)) (linked (getD ms d 0) ∷ []) ∙
     ap (λ (t : Bool). any (model.isThe k) (map linked (take d ms)) || t) (last ∙ known)
   where
-    or-false : (t : Bool) → (t || false) ≡ t
-    or-false true = refl
-    or-false false = refl
-
     last : (model.isThe k (linked (getD ms d 0)) || false) ≡ model.isThe k (linked (getD ms d 0))
     last = or-false (model.isThe k (linked (getD ms d 0)))
 
@@ -70,14 +62,6 @@ marked-next ms d k h =
     known =
         let e : k ≡ k + 1 - 1 = omega arith in
         ap (λ (j : ℕ). model.isThe j (linked (getD ms d 0))) e ∙ isThe-linked (k + 1) (getD ms d 0) (omega arith)
-
-or-false : (t : Bool) → (t || false) ≡ t
-or-false true = refl
-or-false false = refl
-
-or-true : (t : Bool) → (t || true) ≡ true
-or-true true = refl
-or-true false = refl
 
 -- a row's flag after one mark more
 flag-other : (ms : List ℕ) (d k : ℕ) → d < length ms → (getD ms d 0 ≡ k + 1 → ⊥) → flagOf (take d ms) k ≡ flagOf (take (d + 1) ms) k
@@ -96,8 +80,10 @@ pub flagged-next : (ns ms : List ℕ) (d : ℕ) → d < length ms → getD ms d 
     Flagged (take (d + 1) ms) (pick (eqb (getD ms d 0) 0) ns (set ns (getD ms d 0) 1))
 flagged-next ns ms d h low f =
     by-cases (eqb (getD ms d 0) 0)
-    (λ e. subst (Flagged (take (d + 1) ms)) (sym (pick-true (eqb (getD ms d 0) 0) ns (set ns (getD ms d 0) 1) e)) (same (eqb-true (getD ms d 0) 0 e)))
-    (λ e. subst (Flagged (take (d + 1) ms)) (sym (pick-false (eqb (getD ms d 0) 0) ns (set ns (getD ms d 0) 1) e)) (more (eqb-false (getD ms d 0) 0 e)))
+    (λ e. subst (Flagged (take (d + 1) ms)) (sym (pick-true (eqb (getD ms d 0) 0) ns (set ns (getD ms d 0) 1) e)) (same (eqb-true (getD
+    ms d 0) 0 e)))
+    (λ e. subst (Flagged (take (d + 1) ms)) (sym (pick-false (eqb (getD ms d 0) 0) ns (set ns (getD ms d 0) 1) e)) (more (eqb-false (getD
+    ms d 0) 0 e)))
   where
     same : getD ms d 0 ≡ 0 → Flagged (take (d + 1) ms) ns
     same z = record { size = f .size; none = f .none; flags = λ k l. f .flags k l ∙ flag-other ms d k h (λ q. omega arith) }
@@ -159,15 +145,24 @@ sweptRows-snoc x i (q ∷ rs) r = go (isKept x i) (sweptRows-snoc x (suc i) rs r
         total = omega arith
 
     go : (t : Bool) → sweptRows x (suc i) (rs ++ (r ∷ [])) ≡ sweptRows x (suc i) rs ++ last (i + suc (length rs)) →
-        pick t (model.withParent q (renumbered x (q .parent)) ∷ sweptRows x (suc i) (rs ++ (r ∷ []))) (sweptRows x (suc i) (rs ++ (r ∷ []))) ≡
-        pick t (model.withParent q (renumbered x (q .parent)) ∷ sweptRows x (suc i) rs) (sweptRows x (suc i) rs) ++ last (i + suc (length rs))
+        pick t (model.withParent q (renumbered x (q .parent)) ∷ sweptRows x (suc i) (rs ++ (r ∷ []))) (sweptRows x (suc i) (rs ++ (r ∷
+        []))) ≡
+        pick t (model.withParent q (renumbered x (q .parent)) ∷ sweptRows x (suc i) rs) (sweptRows x (suc i) rs) ++ last (i + suc (length
+        rs))
     go true e = ap (λ (l : List model.Row). model.withParent q (renumbered x (q .parent)) ∷ l) e
     go false e = e
 
 -- the word of a kept row with its parent's new link
-word-linked : (w l : ℕ) (p : Option ℕ) → isRowWord w ≡ true → l ≡ linkOf p → w % 4 + 4 * l + 4096 * (w / 4096) ≡ wordOf (model.withParent (rowOf w) p)
+word-linked : (w l : ℕ) (p : Option ℕ) → isRowWord w ≡ true → l ≡ linkOf p → w % 4 + 4 * l + 4096 * (w / 4096) ≡ wordOf (model.withParent
+    (rowOf w) p)
 word-linked w l p h e =
-    by-cases (eqb (w % 4) 2) (λ t. rw t (omega (arith, e, eqb-true (w % 4) 2 t))) (λ t. rw t (omega (arith, e, eqb-false (w % 4) 2 t, low, high)))
+    by-cases (eqb (w % 4) 2) (λ t. rw t (omega (arith, e, eqb-true (w % 4) 2 t))) (λ t. rw t (omega (
+      arith,
+      e,
+      eqb-false (w % 4) 2 t,
+      low,
+      high,
+    )))
   where
     low : 1 ≤ w % 4
     low = leb-true 1 (w % 4) (and-left (leb 1 (w % 4)) (leb (w % 4) 2) h)
@@ -204,10 +199,16 @@ module _ (ws ms : List ℕ) (n i : ℕ) (fits : Fits n ws ms) (size : length ws 
 
   keeps-kept : keepsRow (getD ws i 0) i ns ≡ isKept (decodeParts n ws ms) i
   keeps-kept =
-      ap (λ (j : ℕ). not (eqb j 0) || not (eqb (getD ns (getD ws i 0 / 4 % 1024) 0) 0)) (s .flags i (omega arith) (omega (arith, fits .few))) ∙
+      ap (λ (j : ℕ). not (eqb j 0) || not (eqb (getD ns (getD ws i 0 / 4 % 1024) 0) 0)) (s .flags i (omega arith) (omega (
+        arith,
+        fits
+            .few,
+      ))) ∙
       ap (λ (u : Bool). u || not (eqb (getD ns (getD ws i 0 / 4 % 1024) 0) 0)) (keeps-flag (model.isMarked (decodeParts n ws ms) i) 0) ∙
-      ap (λ (u : Bool). model.isMarked (decodeParts n ws ms) i || u) (parent-kept (getD ws i 0 / 4 % 1024) (sym (ap (λ (r : model.Row). r .parent) here))) ∙
-      ap (λ (p : Option ℕ). model.isMarked (decodeParts n ws ms) i || through (isKept (decodeParts n ws ms)) p) (sym (ap (λ (r : model.Row). r .parent) here)) ∙
+      ap (λ (u : Bool). model.isMarked (decodeParts n ws ms) i || u) (parent-kept (getD ws i 0 / 4 % 1024) (sym (ap (λ (r : model.Row). r
+      .parent) here))) ∙
+      ap (λ (p : Option ℕ). model.isMarked (decodeParts n ws ms) i || through (isKept (decodeParts n ws ms)) p) (sym (ap (λ (r :
+      model.Row). r .parent) here)) ∙
       sym (isKept-unrolled (decodeParts n ws ms) (fits .well .tree) i)
 
   -- a kept row's parent has its new link
@@ -220,7 +221,8 @@ module _ (ws ms : List ℕ) (n i : ℕ) (fits : Fits n ws ms) (size : length ws 
       (λ t.
       let p : model.rowAt (decodeParts n ws ms) i .parent ≡ some (l - 1) = sym e ∙ rw t in
       entry l e (eqb-false l 0 t) .1 ∙
-      ap (λ (u : Bool). pick u (newNumber (decodeParts n ws ms) (l - 1) + 1) 0) (isKept-parent (decodeParts n ws ms) (fits .well .tree) i (l - 1) p k) ∙
+      ap (λ (u : Bool). pick u (newNumber (decodeParts n ws ms) (l - 1) + 1) 0) (isKept-parent (decodeParts n ws ms) (fits .well .tree) i
+      (l - 1) p k) ∙
       sym (ap (λ (u : Bool). linkOf (renumbered (decodeParts n ws ms) (pick u none (some (l - 1))))) t))
 
   rows-kept : sweptRows (decodeParts n ws ms) 0 (take (i + 1) (rowsOf n ws)) ≡
@@ -244,7 +246,8 @@ module _ (ws ms : List ℕ) (n i : ℕ) (fits : Fits n ws ms) (size : length ws 
   pub next-low : next ≤ i
   next-low = omega (arith, s .kept, newNumber-le (decodeParts n ws ms) i)
 
-  pub sweeping-next : (ns′ out′ : List ℕ) (r : ℕ) → RowPost (getD ws i 0) i next ns out ns′ out′ r → Sweeping (decodeParts n ws ms) (i + 1) r ns′ out′
+  pub sweeping-next : (ns′ out′ : List ℕ) (r : ℕ) → RowPost (getD ws i 0) i next ns out ns′ out′ r → Sweeping (decodeParts n ws ms) (i +
+      1) r ns′ out′
   sweeping-next ns′ out′ r post =
       by-cases (isKept (decodeParts n ws ms) i)
       (λ k. kept k
@@ -293,7 +296,8 @@ module _ (ws ms : List ℕ) (n i : ℕ) (fits : Fits n ws ms) (size : length ws 
           row : model.Row
           row = model.withParent (rowOf (getD ws i 0)) (renumbered (decodeParts n ws ms) (linked (getD ws i 0 / 4 % 1024)))
 
-          entry-done : (j : ℕ) → j < i + 1 → (t : Bool) → eqb j i ≡ t → getD (set ns (i + 1) (next + 1)) (j + 1) 0 ≡ numberOf (decodeParts n ws ms) j
+          entry-done : (j : ℕ) → j < i + 1 → (t : Bool) → eqb j i ≡ t → getD (set ns (i + 1) (next + 1)) (j + 1) 0 ≡ numberOf
+              (decodeParts n ws ms) j
           entry-done j l true q =
               let m : j ≡ i = eqb-true j i q in
               ap (λ (a : ℕ). getD (set ns (i + 1) (next + 1)) (a + 1) 0) m ∙
@@ -303,7 +307,8 @@ module _ (ws ms : List ℕ) (n i : ℕ) (fits : Fits n ws ms) (size : length ws 
               let z : j ≡ i → ⊥ = eqb-false j i q in
               getD-set-other ns (i + 1) (j + 1) (next + 1) 0 (λ y. z (omega arith)) ∙ s .done j (omega (arith, z))
 
-      dropped : isKept (decodeParts n ws ms) i ≡ false → ns′ ≡ ns → out′ ≡ out → r ≡ next → Sweeping (decodeParts n ws ms) (i + 1) r ns′ out′
+      dropped : isKept (decodeParts n ws ms) i ≡ false → ns′ ≡ ns → out′ ≡ out → r ≡ next → Sweeping (decodeParts n ws ms) (i + 1) r ns′
+          out′
       dropped k e f g =
           record {
             size = ap length e ∙ s .size;
@@ -311,7 +316,8 @@ module _ (ws ms : List ℕ) (n i : ℕ) (fits : Fits n ws ms) (size : length ws 
             done = λ j l. ap (λ (v : List ℕ). getD v (j + 1) 0) e ∙ entry-done j l (eqb j i) refl;
             flags = λ j l u. ap (λ (v : List ℕ). getD v (j + 1) 0) e ∙ s .flags j (omega arith) u;
             kept = g ∙ sym (counted false k ∙ add-zero next);
-            rows = f ∙ s .rows ∙ ap wordsOf (sym (append-nil before)) ∙ ap (λ (t : Bool). wordsOf (before ++ pick t (row ∷ []) [])) (sym k) ∙
+            rows = f ∙ s .rows ∙ ap wordsOf (sym (append-nil before)) ∙ ap (λ (t : Bool). wordsOf (before ++ pick t (row ∷ []) [])) (sym
+                k) ∙
                 ap wordsOf (sym rows-kept);
           }
         where
@@ -322,7 +328,8 @@ module _ (ws ms : List ℕ) (n i : ℕ) (fits : Fits n ws ms) (size : length ws 
           row = model.withParent (rowOf (getD ws i 0)) (renumbered (decodeParts n ws ms) (linked (getD ws i 0 / 4 % 1024)))
 
           unmarked : model.isMarked (decodeParts n ws ms) i ≡ false
-          unmarked = or-neither (model.isMarked (decodeParts n ws ms) i) _ (sym (isKept-unrolled (decodeParts n ws ms) (fits .well .tree) i) ∙ k) .0
+          unmarked = or-neither (model.isMarked (decodeParts n ws ms) i) _ (sym (isKept-unrolled (decodeParts n ws ms) (fits .well .tree)
+              i) ∙ k) .0
 
           entry-done : (j : ℕ) → j < i + 1 → (t : Bool) → eqb j i ≡ t → getD ns (j + 1) 0 ≡ numberOf (decodeParts n ws ms) j
           entry-done j l true q =
@@ -352,7 +359,8 @@ module _ (ws ms : List ℕ) (n i : ℕ) (fits : Fits n ws ms) (size : length ws 
     where
       number-low : (k : ℕ) → numberOf (decodeParts n ws ms) k ≤ k + 1
       number-low k =
-          by-cases (isKept (decodeParts n ws ms) k) (λ t. rw t (omega (arith, newNumber-le (decodeParts n ws ms) k))) (λ t. rw t (omega arith))
+          by-cases (isKept (decodeParts n ws ms) k) (λ t. rw t (omega (arith, newNumber-le (decodeParts n ws ms) k))) (λ t. rw t (omega
+          arith))
 
       some-low : (getD ws i 0 / 4 % 1024 ≡ 0 → ⊥) → getD ns (getD ws i 0 / 4 % 1024) 0 < 1024
       some-low z =
@@ -421,19 +429,23 @@ module _ (ws ms : List ℕ) (n : ℕ) (fits : Fits n ws ms) (size : length ws �
       same-at d h =
           ap (getD (newLinks ns ms) d) (sym (s .none)) ∙ List·getD-map (λ (m : ℕ). getD ns m 0) ms d 0 ∙ link-new d ∙
           sym (List·getD-map linkOf (sweptMarks (decodeParts n ws ms) (map linked ms)) d none ∙
-          ap linkOf (sweptMarks-at (decodeParts n ws ms) (map linked ms) d ∙ ap (renumbered (decodeParts n ws ms)) (List·getD-map linked ms d 0)))
+          ap linkOf (sweptMarks-at (decodeParts n ws ms) (map linked ms) d ∙ ap (renumbered (decodeParts n ws ms)) (List·getD-map linked
+          ms d 0)))
 
   rows-all : sweptRows (decodeParts n ws ms) 0 (take n (rowsOf n ws)) ≡ sweptRows (decodeParts n ws ms) 0 (rowsOf n ws)
   rows-all = ap (sweptRows (decodeParts n ws ms) 0) (take-all n (rowsOf n ws) (omega (arith, count-decode n ws ms all-within)))
 
   kept-count : next ≡ length (sweptRows (decodeParts n ws ms) 0 (rowsOf n ws))
   kept-count =
-      s .kept ∙ sym (length-sweptRows (decodeParts n ws ms) 0 (rowsOf n ws) ∙ ap (keptBefore (decodeParts n ws ms) 0) (count-decode n ws ms all-within))
+      s .kept ∙ sym (length-sweptRows (decodeParts n ws ms) 0 (rowsOf n ws) ∙ ap (keptBefore (decodeParts n ws ms) 0) (count-decode n ws
+      ms all-within))
 
-  pub encode-swept : (ms′ : List ℕ) → ms′ ≡ newLinks ns ms → record { count = next; rows = out; marks = ms′ } ≡ encode (swept (decodeParts n ws ms))
+  pub encode-swept : (ms′ : List ℕ) → ms′ ≡ newLinks ns ms → record { count = next; rows = out; marks = ms′ } ≡ encode (swept
+      (decodeParts n ws ms))
   encode-swept ms′ e =
       ap (λ (k : ℕ). record { count = k; rows = out; marks = ms′ }) kept-count ∙
-      ap (λ (v : List ℕ). record { count = length (sweptRows (decodeParts n ws ms) 0 (rowsOf n ws)); rows = v; marks = ms′ }) (s .rows ∙ ap wordsOf rows-all) ∙
+      ap (λ (v : List ℕ). record { count = length (sweptRows (decodeParts n ws ms) 0 (rowsOf n ws)); rows = v; marks = ms′ }) (s .rows ∙
+      ap wordsOf rows-all) ∙
       ap (λ (v : List ℕ). record {
         count = length (sweptRows (decodeParts n ws ms) 0 (rowsOf n ws));
         rows = wordsOf (sweptRows (decodeParts n ws ms) 0 (rowsOf n ws));

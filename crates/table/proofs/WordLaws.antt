@@ -57,7 +57,8 @@ rowOf-wordOf r f =
 pub wordOf-rowOf : (w : ℕ) → isRowWord w ≡ true → wordOf (rowOf w) ≡ w
 wordOf-rowOf w h =
     ap (λ (n : ℕ). pick (eqb (w % 4) 2) 2 1 + 4 * n + 4096 * (w / 4096)) (linkOf-linked (w / 4 % 1024)) ∙
-    ⊎-elim (λ e. rw e (omega (arith, eqb-true (w % 4) 2 e))) (λ e. rw e (omega (arith, eqb-false (w % 4) 2 e, low, high))) (bool-cases (eqb (w % 4) 2))
+    ⊎-elim (λ e. rw e (omega (arith, eqb-true (w % 4) 2 e))) (λ e. rw e (omega (arith, eqb-false (w % 4) 2 e, low, high))) (bool-cases
+    (eqb (w % 4) 2))
   where
     low : 1 ≤ w % 4
     low = leb-true 1 (w % 4) (and-left (leb 1 (w % 4)) (leb (w % 4) 2) h)
@@ -78,9 +79,11 @@ pub map-append : {A B : Type 0} (f : A → B) (xs ys : List A) → map f (xs ++ 
 map-append f [] ys = refl
 map-append f (x ∷ xs) ys = ap (λ (l : List _). f x ∷ l) (map-append f xs ys)
 
-pub rowsOf-push : (n : ℕ) (ws : List ℕ) (r : model.Row) → n < length ws → linkOf (r .parent) < 1024 → rowsOf (n + 1) (set ws n (wordOf r)) ≡ rowsOf n ws ++ (r ∷ [])
+pub rowsOf-push : (n : ℕ) (ws : List ℕ) (r : model.Row) → n < length ws → linkOf (r .parent) < 1024 → rowsOf (n + 1) (set ws n (wordOf
+    r)) ≡ rowsOf n ws ++ (r ∷ [])
 rowsOf-push n ws r h f =
-    rw (add-one, take-suc-set ws n (wordOf r)) (map-append rowOf (take n ws) (wordOf r ∷ []) ∙ ap (λ (q : model.Row). rowsOf n ws ++ (q ∷ [])) (rowOf-wordOf r f))
+    rw (add-one, take-suc-set ws n (wordOf r)) (map-append rowOf (take n ws) (wordOf r ∷ []) ∙ ap (λ (q : model.Row). rowsOf n ws ++ (q ∷
+    [])) (rowOf-wordOf r f))
 
 -- CANONICAL: words that encode the rows that they decode to
 abbrev pub Canonical : (count : ℕ) → (words : List ℕ) → Type 0
@@ -89,7 +92,8 @@ Canonical n ws = wordsOf (rowsOf n ws) ≡ ws
 replicate-less : (m n : ℕ) → n < m → replicate {A = ℕ} (m - n) 0 ≡ 0 ∷ replicate (m - (n + 1)) 0
 replicate-less m n h = let e : m - n ≡ suc (m - (n + 1)) = omega arith in rw e
 
-pub wordsOf-snoc : (rs : List model.Row) (r : model.Row) → length rs < 512 → wordsOf (rs ++ (r ∷ [])) ≡ set (wordsOf rs) (length rs) (wordOf r)
+pub wordsOf-snoc : (rs : List model.Row) (r : model.Row) → length rs < 512 → wordsOf (rs ++ (r ∷ [])) ≡ set (wordsOf rs) (length rs)
+    (wordOf r)
 wordsOf-snoc rs r h =
     ap (λ (l : List ℕ). l ++ replicate (512 - length (rs ++ (r ∷ []))) 0) (map-append wordOf rs (r ∷ [])) ∙
     append-snoc (map wordOf rs) (wordOf r) (replicate (512 - length (rs ++ (r ∷ []))) 0) ∙
@@ -97,7 +101,8 @@ wordsOf-snoc rs r h =
     sym (ap (λ (l : List ℕ). set (map wordOf rs ++ l) (length rs) (wordOf r)) (replicate-less 512 (length rs) h) ∙
     set-at (map wordOf rs) 0 (replicate (512 - (length rs + 1)) 0) (wordOf r) (length rs) (length-map rs wordOf))
 
-pub canonical-push : (n : ℕ) (ws : List ℕ) (r : model.Row) → n < 512 → length ws ≡ 512 → linkOf (r .parent) < 1024 → Canonical n ws → Canonical (n + 1) (set ws n (wordOf r))
+pub canonical-push : (n : ℕ) (ws : List ℕ) (r : model.Row) → n < 512 → length ws ≡ 512 → linkOf (r .parent) < 1024 → Canonical n ws →
+    Canonical (n + 1) (set ws n (wordOf r))
 canonical-push n ws r h l f e =
     let m : length (rowsOf n ws) ≡ n = count-decode n ws [] (omega arith) in
     let k : n < length ws = omega arith in
@@ -119,7 +124,8 @@ zeros (w ∷ ws) h =
     ap (λ (v : ℕ). v ∷ ws) (eqb-true w 0 (and-left (isZero w) (all isZero ws) h)) ∙
     ap (λ (l : List ℕ). 0 ∷ l) (zeros ws (and-right (isZero w) (all isZero ws) h))
 
-pub canonical-words : (n : ℕ) (ws : List ℕ) → n ≤ 512 → length ws ≡ 512 → all isRowWord (take n ws) ≡ true → all isZero (drop n ws) ≡ true → Canonical n ws
+pub canonical-words : (n : ℕ) (ws : List ℕ) → n ≤ 512 → length ws ≡ 512 → all isRowWord (take n ws) ≡ true → all isZero (drop n ws) ≡
+    true → Canonical n ws
 canonical-words n ws h l f e =
     let m : length (rowsOf n ws) ≡ n = count-decode n ws [] (omega arith) in
     let k : 512 - length (rowsOf n ws) ≡ length (drop n ws) = omega (arith, length-drop n ws) in
@@ -130,7 +136,12 @@ marks-links : (ms : List ℕ) → map linkOf (map linked ms) ≡ ms
 marks-links [] = refl
 marks-links (m ∷ ms) = ap (λ (n : ℕ). n ∷ map linkOf (map linked ms)) (linkOf-linked m) ∙ ap (λ (l : List ℕ). m ∷ l) (marks-links ms)
 
-pub encode-decode : (n : ℕ) (ws ms : List ℕ) → n ≤ length ws → Canonical n ws → encode (decodeParts n ws ms) ≡ record { count = n; rows = ws; marks = ms }
+pub encode-decode : (n : ℕ) (ws ms : List ℕ) → n ≤ length ws → Canonical n ws → encode (decodeParts n ws ms) ≡ record {
+  count = n;
+  rows =
+      ws;
+  marks = ms;
+}
 encode-decode n ws ms h e =
     ap (λ (k : ℕ). record { count = k; rows = wordsOf (rowsOf n ws); marks = map linkOf (map linked ms) }) (count-decode n ws ms h) ∙
     ap (λ (v : List ℕ). record { count = n; rows = v; marks = map linkOf (map linked ms) }) e ∙

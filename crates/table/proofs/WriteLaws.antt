@@ -55,7 +55,8 @@ over-grown A B o k h =
 
 pub over-over : (s : ℕ) (B C o : List ℕ) → s + length B ≤ length o → over (s + length B) C (over s B o) ≡ over s (B ++ C) o
 over-over s B C o h =
-    let l : length (take s o ++ B) ≡ s + length B = length-append (take s o) B ∙ ap (λ (j : ℕ). j + length B) (length-take-le s o (omega arith)) in
+    let l : length (take s o ++ B) ≡ s + length B = length-append (take s o) B ∙ ap (λ (j : ℕ). j + length B) (length-take-le s o (omega
+    arith)) in
     over-grown (take s o ++ B) C o (s + length B) l ∙
     ap (λ (v : List ℕ). v ++ drop (s + length B + length C) o) (append-assoc (take s o) B C) ∙
     ap (λ (j : ℕ). take s o ++ (B ++ C) ++ drop j o) total
@@ -64,7 +65,14 @@ over-over s B C o h =
     total = omega (arith, length-append B C)
 
 pub length-over : (s : ℕ) (B o : List ℕ) → s + length B ≤ length o → length (over s B o) ≡ length o
-length-over s B o h = omega (arith, length-append (take s o ++ B) (drop (s + length B) o), length-append (take s o) B, length-take-le s o (omega arith), length-drop (s + length B) o)
+length-over s B o h = omega (
+  arith,
+  length-append (take s o ++ B) (drop (s + length B) o),
+  length-append (take s o) B,
+  length-take-le s o
+      (omega arith),
+  length-drop (s + length B) o,
+)
 
 -- nothing put
 pub over-nil : (s : ℕ) (o : List ℕ) → over s [] o ≡ o
@@ -92,7 +100,8 @@ module _ (ws : List ℕ) (n i : ℕ) (within : n ≤ length ws) (h : i < n) wher
       length-rowsBytes (take i (rowsOf n ws)) ∙ ap (λ (j : ℕ). 4 * j) (length-take-le i (rowsOf n ws) k)
 
   pub rows-grown : (o : List ℕ) → 4 * n ≤ length o →
-      over (4 * i) (rowBytes (rowOf (getD ws i 0))) (over 0 (rowsBytes (take i (rowsOf n ws))) o) ≡ over 0 (rowsBytes (take (i + 1) (rowsOf n ws))) o
+      over (4 * i) (rowBytes (rowOf (getD ws i 0))) (over 0 (rowsBytes (take i (rowsOf n ws))) o) ≡ over 0 (rowsBytes (take (i + 1)
+      (rowsOf n ws))) o
   rows-grown o room =
       let e : 4 * i ≡ 0 + length (rowsBytes (take i (rowsOf n ws))) = omega (arith, length-rows) in
       let g : 0 + length (rowsBytes (take i (rowsOf n ws))) ≤ length o = omega arith in
@@ -101,7 +110,8 @@ module _ (ws : List ℕ) (n i : ℕ) (within : n ≤ length ws) (h : i < n) wher
       ap (λ (b : List ℕ). over 0 b o) (sym (ap rowsBytes rows-next ∙ rowsBytes-snoc (take i (rowsOf n ws)) (rowOf (getD ws i 0))))
 
 -- MARKS, one more
-marksBytes-snoc : (from : ℕ) (ms : List (Option ℕ)) (m : Option ℕ) → marksBytes from (ms ++ (m ∷ [])) ≡ marksBytes from ms ++ markBytes (from + length ms) m
+marksBytes-snoc : (from : ℕ) (ms : List (Option ℕ)) (m : Option ℕ) → marksBytes from (ms ++ (m ∷ [])) ≡ marksBytes from ms ++ markBytes
+    (from + length ms) m
 unfolding marksBytes
 marksBytes-snoc from [] m = append-nil (markBytes from m) ∙ ap (λ (j : ℕ). markBytes j m) (sym (add-zero from))
 marksBytes-snoc from (k ∷ ms) m =

@@ -4,11 +4,11 @@ ghost use Rattle.model.specs.Table.{empty};
 ghost use Rattle.table.specs.Words.{encode};
 ghost use Rattle.table.specs.Calls.{planRead, planWritten, planOut, planSwept};
 
-mod fit;
-mod marks;
+pub mod fit;
+pub mod marks;
 mod read;
 mod sweep;
-mod words;
+pub mod words;
 mod write;
 
 // A row's number and an element's name: one never stands where the other is meant.

@@ -3,10 +3,6 @@ use mathlib.Core.Path.{refl, _≡_}
 use borrow.Author.Needs.{needs}
 use Rattle.table.proofs.read_plan.Statement.{statement}
 use Rattle.table.proofs.read_plan.Tie as tie
-use Rattle.table.proofs.read_plan.Reads as reads
-use Rattle.table.proofs.read_plan.Lts as lts
-use Rattle.table.proofs.Table.empty.Reads as empty-reads
-use Rattle.table.proofs.read.records.Reads as records-reads
 
 slice-aggregate-records : tie.Need-slice-aggregate-records
 slice-aggregate-records c = search needs
@@ -21,10 +17,15 @@ empty-requires : tie.Need-empty-requires
 empty-requires c κs = search needs
 
 returns : tie.Need-returns
-returns c = plan-refused (c .before .before .before .before .before .before .before .before .before .args .bytes .now) (c .before .before .before .before .before .records .last .1 .0) (c .before .before .before .before .before .records .last .1 .1 .0) (c .before .before .before .before .before .records .result) (c .before .before .before .before .before .records .ensures) (c .empty .result) (c .before .if1 .taken) (c .empty .ensures)
+returns c = plan-refused (c .before .before .before .before .before .before .before .before .before .args .bytes .now) (c .before .before
+    .before .before .before .records .last .1 .0) (c .before .before .before .before .before .records .last .1 .1 .0) (c .before .before
+    .before .before .before .records .result) (c .before .before .before .before .before .records .ensures) (c .empty .result) (c .before
+    .if1 .taken) (c .empty .ensures)
 
 returns-2 : tie.Need-returns-2
-returns-2 c = plan-read (c .before .before .before .before .before .before .before .before .args .bytes .now) (c .before .before .before .before .records .last .1 .0) (c .before .before .before .before .records .last .1 .1 .0) (c .before .before .before .before .records .result) (c .before .before .before .before .records .ensures) (search (c .if1 .left, needs))
+returns-2 c = plan-read (c .before .before .before .before .before .before .before .before .args .bytes .now) (c .before .before .before
+    .before .records .last .1 .0) (c .before .before .before .before .records .last .1 .1 .0) (c .before .before .before .before .records
+    .result) (c .before .before .before .before .records .ensures) (search (c .if1 .left, needs))
 
 pub read-plan-spec : {M : Type 1} → statement M
 read-plan-spec =

@@ -9,11 +9,6 @@ use mathlib.Core.Path.{_≡_, refl, _∙_, sym, ap}
 use borrow.Author.Needs.{needs}
 use Rattle.table.proofs.sweep_table.Statement.{statement}
 use Rattle.table.proofs.sweep_table.Tie as tie
-use Rattle.table.proofs.sweep_table.Reads as reads
-use Rattle.table.proofs.sweep_table.Lts as lts
-use Rattle.table.proofs.fit.fits.Reads as fits-reads
-use Rattle.table.proofs.sweep.renumber.Reads as renumber-reads
-use Rattle.table.proofs.sweep.rows.Reads as rows-reads
 
 fits-requires : tie.Need-fits-requires
 fits-requires c κs = search needs
@@ -21,11 +16,15 @@ fits-requires c κs = search needs
 size : (c : tie.Start) → Words (c .args .t1 .rows) (c .args .t1 .marks)
 size c = search needs
 
-fitting : (c : tie.Else1) → Fits (c .before .before .before .before .before .before .before .args .t1 .count) (c .before .before .before .before .before .before .before .args .t1 .rows) (c .before .before .before .before .before .before .before .args .t1 .marks)
-fitting c = fits-at (c .before .before .before .before .before .before .before .args .t1 .count) (c .before .before .before .before .before .before .before .args .t1 .rows) (c .before .before .before .before .before .before .before .args .t1 .marks) (sym (c .before .fits2 .ensures) ∙ not-false (c .before .fits2 .result) (c .if1 .left))
+fitting : (c : tie.Else1) → Fits (c .before .before .before .before .before .before .before .args .t1 .count) (c .before .before .before
+    .before .before .before .before .args .t1 .rows) (c .before .before .before .before .before .before .before .args .t1 .marks)
+fitting c = fits-at (c .before .before .before .before .before .before .before .args .t1 .count) (c .before .before .before .before
+    .before .before .before .args .t1 .rows) (c .before .before .before .before .before .before .before .args .t1 .marks) (sym (c .before
+    .fits2 .ensures) ∙ not-false (c .before .fits2 .result) (c .if1 .left))
 
 returns : tie.Need-returns
-returns c = sweep-ill (c .before .before .before .before .before .before .before .args .t1) (sym (c .before .fits2 .ensures) ∙ not-true (c .before .fits2 .result) (c .if1 .taken))
+returns c = sweep-ill (c .before .before .before .before .before .before .before .args .t1) (sym (c .before .fits2 .ensures) ∙ not-true
+    (c .before .fits2 .result) (c .if1 .taken))
 
 slice-aggregate-rows : tie.Need-slice-aggregate-rows
 slice-aggregate-rows c = search needs
@@ -34,7 +33,15 @@ slice-aggregate-rows-2 : tie.Need-slice-aggregate-rows-2
 slice-aggregate-rows-2 c = search needs
 
 rows-requires : tie.Need-rows-requires
-rows-requires c κs = record { size = size (c .before .before .before .before .before .before .before .before .before .before .before .before .before .before) .rows; fits = sym (c .before .before .before .before .before .before .before .before .fits2 .ensures) ∙ not-false (c .before .before .before .before .before .before .before .before .fits2 .result) (c .before .before .before .before .before .before .before .if1 .left); numbers = refl; rows = refl }
+rows-requires c κs = record {
+  size = size (c .before .before .before .before .before .before .before .before .before .before .before
+      .before .before .before) .rows;
+  fits = sym (c .before .before .before .before .before .before .before .before .fits2 .ensures) ∙
+      not-false (c .before .before .before .before .before .before .before .before .fits2 .result) (c .before .before .before .before
+      .before .before .before .if1 .left);
+  numbers = refl;
+  rows = refl;
+}
 
 slice-aggregate-renumber : tie.Need-slice-aggregate-renumber
 slice-aggregate-renumber c = search needs
@@ -43,10 +50,40 @@ slice-aggregate-renumber-2 : tie.Need-slice-aggregate-renumber-2
 slice-aggregate-renumber-2 c = search needs
 
 renumber-requires : tie.Need-renumber-requires
-renumber-requires c κs = record { size = c .before .before .before .before .before .rows2 .ensures .size; links = λ d. fits-mark (c .before .before .before .before .before .before .before .before .before .before .before .before .before .before .before .before .before .before .before .before .args .t1 .count) (c .before .before .before .before .before .before .before .before .before .before .before .before .before .before .before .before .before .before .before .before .args .t1 .rows) (c .before .before .before .before .before .before .before .before .before .before .before .before .before .before .before .before .before .before .before .before .args .t1 .marks) (fitting (c .before .before .before .before .before .before .before .before .before .before .before .before .before)) (omega (arith, fitting (c .before .before .before .before .before .before .before .before .before .before .before .before .before) .few, size (c .before .before .before .before .before .before .before .before .before .before .before .before .before .before .before .before .before .before .before .before) .rows)) d }
+renumber-requires c κs = record {
+  size = c .before .before .before .before .before .rows2 .ensures .size;
+  links = λ d. fits-mark (c
+      .before .before .before .before .before .before .before .before .before .before .before .before .before .before .before .before
+      .before .before .before .before .args .t1 .count) (c .before .before .before .before .before .before .before .before .before .before
+      .before .before .before .before .before .before .before .before .before .before .args .t1 .rows) (c .before .before .before .before
+      .before .before .before .before .before .before .before .before .before .before .before .before .before .before .before .before .args
+      .t1 .marks) (fitting (c .before .before .before .before .before .before .before .before .before .before .before .before .before))
+      (omega (
+        arith,
+        fitting (c .before .before .before .before .before .before .before .before .before .before .before .before .before)
+            .few,
+        size (c .before .before .before .before .before .before .before .before .before .before .before .before .before .before .before
+            .before .before .before .before .before) .rows,
+      )) d;
+}
 
 returns-2 : tie.Need-returns-2
-returns-2 c = sweep-done (c .before .before .before .before .before .before .before .before .before .before .before .before .before .before .before .before .before .before .before .before .before .before .args .t1) _ (sym (c .before .before .before .before .before .before .before .before .before .before .before .before .before .before .before .before .fits2 .ensures) ∙ not-false (c .before .before .before .before .before .before .before .before .before .before .before .before .before .before .before .before .fits2 .result) (c .before .before .before .before .before .before .before .before .before .before .before .before .before .before .before .if1 .left)) (encode-swept (c .before .before .before .before .before .before .before .before .before .before .before .before .before .before .before .before .before .before .before .before .before .before .args .t1 .rows) (c .before .before .before .before .before .before .before .before .before .before .before .before .before .before .before .before .before .before .before .before .before .before .args .t1 .marks) (c .before .before .before .before .before .before .before .before .before .before .before .before .before .before .before .before .before .before .before .before .before .before .args .t1 .count) (fitting (c .before .before .before .before .before .before .before .before .before .before .before .before .before .before .before)) (size (c .before .before .before .before .before .before .before .before .before .before .before .before .before .before .before .before .before .before .before .before .before .before) .rows) (c .before .before .before .before .before .before .before .rows2 .result) (c .before .before .before .before .before .before .before .rows2 .last .1 .1 .1 .0) (c .before .before .before .before .before .before .before .rows2 .last .1 .1 .1 .1 .0) (c .before .before .before .before .before .before .before .rows2 .ensures) (c .before .renumber .last .0) (c .before .renumber .ensures))
+returns-2 c = sweep-done (c .before .before .before .before .before .before .before .before .before .before .before .before .before
+    .before .before .before .before .before .before .before .before .before .args .t1) _ (sym (c .before .before .before .before .before
+    .before .before .before .before .before .before .before .before .before .before .before .fits2 .ensures) ∙ not-false (c .before
+    .before .before .before .before .before .before .before .before .before .before .before .before .before .before .before .fits2
+    .result) (c .before .before .before .before .before .before .before .before .before .before .before .before .before .before .before
+    .if1 .left)) (encode-swept (c .before .before .before .before .before .before .before .before .before .before .before .before .before
+    .before .before .before .before .before .before .before .before .before .args .t1 .rows) (c .before .before .before .before .before
+    .before .before .before .before .before .before .before .before .before .before .before .before .before .before .before .before
+    .before .args .t1 .marks) (c .before .before .before .before .before .before .before .before .before .before .before .before .before
+    .before .before .before .before .before .before .before .before .before .args .t1 .count) (fitting (c .before .before .before .before
+    .before .before .before .before .before .before .before .before .before .before .before)) (size (c .before .before .before .before
+    .before .before .before .before .before .before .before .before .before .before .before .before .before .before .before .before
+    .before .before) .rows) (c .before .before .before .before .before .before .before .rows2 .result) (c .before .before .before .before
+    .before .before .before .rows2 .last .1 .1 .1 .0) (c .before .before .before .before .before .before .before .rows2 .last .1 .1 .1 .1
+    .0) (c .before .before .before .before .before .before .before .rows2 .ensures) (c .before .renumber .last .0) (c .before .renumber
+    .ensures))
 
 pub sweep-table-spec : {M : Type 1} → statement M
 sweep-table-spec =

@@ -59,7 +59,7 @@ emit-claims t = (
 emit-shared-slice-read-kind : (t : ℕ) → emit-lts.Need-shared-slice-read-kind (emit-claims t) (emit-at t) emit.Post
 emit-shared-slice-read-kind t c =
     let c3 = c .before .before .before in
-    omega (arith, accepted-record (c3 .args .bytes .now) (c3 .args .at) (c3 .args .left) (c3 .args .bound) (c3 .pre .1 .accepted) .whole)
+    omega (arith, accepted-record (c3 .pre .1 .accepted) .whole)
 
 emit-arity-requires : (t : ℕ) → emit-lts.Need-arity-requires (emit-claims t) (emit-at t) emit.Post
 emit-arity-requires t c κs = search needs
@@ -76,7 +76,7 @@ emit-add-first-at-2 t c =
     let c5 = c .before .before .before .before .before in
     omega (
       arith,
-      accepted-record (c5 .args .bytes .now) (c5 .args .at) (c5 .args .left) (c5 .args .bound) (c5 .pre .1 .accepted) .whole,
+      accepted-record (c5 .pre .1 .accepted) .whole,
       c .body-size .ensures .0,
     )
 
@@ -101,7 +101,7 @@ emit-returns t c =
 emit-sub-emit : (t : ℕ) → emit-lts.Need-sub-emit (emit-claims t) (emit-at t) emit.Post
 emit-sub-emit t c =
     let c6 = c .before .before .before .before .before .before in
-    accepted-record (c6 .args .bytes .now) (c6 .args .at) (c6 .args .left) (c6 .args .bound) (c6 .pre .1 .accepted) .depth
+    accepted-record (c6 .pre .1 .accepted) .depth
 
 emit-emit-requires : (t : ℕ) → emit-lts.Need-emit-requires (emit-claims t) (emit-at t) emit.Post
 emit-emit-requires t c κs =
@@ -112,7 +112,7 @@ emit-emit-requires t c κs =
       omega (
         arith,
         c7 .pre .0,
-        accepted-record (c7 .args .bytes .now) (c7 .args .at) (c7 .args .left) (c7 .args .bound)
+        accepted-record
             (c7 .pre .1 .accepted) .depth,
       ),
       first-asks (c7 .pre .1) m e,
@@ -158,7 +158,7 @@ emit-bind-requires t c κs =
 emit-sub-emit-2 : (t : ℕ) → emit-lts.Need-sub-emit-2 (emit-claims t) (emit-at t) emit.Post
 emit-sub-emit-2 t c =
     let c12 = c .before .before .before .before .before .before .before .before .before .before .before .before in
-    accepted-record (c12 .args .bytes .now) (c12 .args .at) (c12 .args .left) (c12 .args .bound) (c12 .pre .1 .accepted) .depth
+    accepted-record (c12 .pre .1 .accepted) .depth
 
 emit-inner-requires : (t : ℕ) → emit-lts.Need-inner-requires (emit-claims t) (emit-at t) emit.Post
 emit-inner-requires t c κs =
@@ -180,7 +180,7 @@ emit-emit-requires-2 t c κs =
       omega (
         arith,
         c14 .pre .0,
-        accepted-record (c14 .args .bytes .now) (c14 .args .at) (c14 .args .left) (c14 .args .bound)
+        accepted-record
             (c14 .pre .1 .accepted) .depth,
       ),
       second-asks (c14 .pre .1) m e (c6 .emit .ensures) (c .before .before .bind .ensures)
@@ -232,7 +232,7 @@ emit-sub-emit-3 t c =
     let c18 =
     c .before .before .before .before .before .before .before .before .before .before .before .before .before .before .before .before
     .before .before in
-    accepted-record (c18 .args .bytes .now) (c18 .args .at) (c18 .args .left) (c18 .args .bound) (c18 .pre .1 .accepted) .depth
+    accepted-record (c18 .pre .1 .accepted) .depth
 
 emit-emit-requires-3 : (t : ℕ) → emit-lts.Need-emit-requires-3 (emit-claims t) (emit-at t) emit.Post
 emit-emit-requires-3 t c κs =
@@ -254,7 +254,7 @@ emit-emit-requires-3 t c κs =
       omega (
         arith,
         c19 .pre .0,
-        accepted-record (c19 .args .bytes .now) (c19 .args .at) (c19 .args .left) (c19 .args .bound)
+        accepted-record
             (c19 .pre .1 .accepted) .depth,
       ),
       third-asks (c19 .pre .1) m e (c11 .emit .ensures) (c7 .bind .ensures) (c6 .inner .ensures) h

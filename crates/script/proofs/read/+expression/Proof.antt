@@ -1,4 +1,4 @@
--- The proof of the cycle of calls {expression}: the measure is how deep the expression may be. Each answer cites one law of ExpressionLaws,
+-- The proof of the cycle of calls {expression}: the measure is how deep it may be. Each answer cites one law of ExpressionLaws,
 -- from what is known after the record, after the first operand and after the second.
 use mathlib.Core.Path.{ap}
 use Prim.Native.Nat.{ℕ, _+_, _<_}

@@ -11,11 +11,6 @@ use native.Mathlib.Omega.{arith}
 use borrow.Author.Needs.{needs}
 use Rattle.table.proofs.fit.fits.Statement.{statement}
 use Rattle.table.proofs.fit.fits.Tie as tie
-use Rattle.table.proofs.fit.fits.Reads as reads
-use Rattle.table.proofs.fit.fits.Lts as lts
-use Rattle.table.proofs.fit.marks_fit.Reads as marks-fit-reads
-use Rattle.table.proofs.fit.rest_zero.Reads as rest-zero-reads
-use Rattle.table.proofs.fit.rows_fit.Reads as rows-fit-reads
 
 returns : tie.Need-returns
 returns c = rw (lt-leb (c .before .before .before .args .count) 512 (c .if1 .taken))
@@ -24,19 +19,52 @@ rows-fit-requires : tie.Need-rows-fit-requires
 rows-fit-requires c κs = omega (arith, c .before .before .before .pre .rows, c .if1 .left)
 
 returns-2 : tie.Need-returns-2
-returns-2 c = sym (parts-fit (c .before .before .before .before .before .args .count) (c .before .before .before .before .before .args .rows .now) (c .before .before .before .before .before .args .marks .now) (c .before .before .before .before .before .pre) (omega (arith, c .before .before .if1 .left)) ∙ ap (λ (t : Bool). t && all isZero (drop (c .before .before .before .before .before .args .count) (c .before .before .before .before .before .args .rows .now)) && marksFit (c .before .before .before .before .before .args .rows .now) (c .before .before .before .before .before .args .count) (c .before .before .before .before .before .args .marks .now)) (sym (c .before .rows-fit .ensures) ∙ not-true (c .before .rows-fit .result) (c .if2 .taken)))
+returns-2 c = sym (parts-fit (c .before .before .before .before .before .args .count) (c .before .before .before .before .before .args
+    .rows .now) (c .before .before .before .before .before .args .marks .now) (c .before .before .before .before .before .pre) (omega
+    (arith, c .before .before .if1 .left)) ∙ ap (λ (t : Bool). t && all isZero (drop (c .before .before .before .before .before .args
+    .count) (c .before .before .before .before .before .args .rows .now)) && marksFit (c .before .before .before .before .before .args
+    .rows .now) (c .before .before .before .before .before .args .count) (c .before .before .before .before .before .args .marks .now))
+    (sym (c .before .rows-fit .ensures) ∙ not-true (c .before .rows-fit .result) (c .if2 .taken)))
 
 rest-zero-requires : tie.Need-rest-zero-requires
 rest-zero-requires c κs = search needs
 
 returns-3 : tie.Need-returns-3
-returns-3 c = sym (parts-fit (c .before .before .before .before .before .before .before .args .count) (c .before .before .before .before .before .before .before .args .rows .now) (c .before .before .before .before .before .before .before .args .marks .now) (c .before .before .before .before .before .before .before .pre) (omega (arith, c .before .before .before .before .if1 .left)) ∙ ap (λ (t : Bool). t && all isZero (drop (c .before .before .before .before .before .before .before .args .count) (c .before .before .before .before .before .before .before .args .rows .now)) && marksFit (c .before .before .before .before .before .before .before .args .rows .now) (c .before .before .before .before .before .before .before .args .count) (c .before .before .before .before .before .before .before .args .marks .now)) (sym (c .before .before .before .rows-fit .ensures) ∙ not-false (c .before .before .before .rows-fit .result) (c .before .before .if2 .left)) ∙ ap (λ (t : Bool). t && marksFit (c .before .before .before .before .before .before .before .args .rows .now) (c .before .before .before .before .before .before .before .args .count) (c .before .before .before .before .before .before .before .args .marks .now)) (sym (c .before .rest-zero .ensures) ∙ not-true (c .before .rest-zero .result) (c .if3 .taken)))
+returns-3 c = sym (parts-fit (c .before .before .before .before .before .before .before .args .count) (c .before .before .before .before
+    .before .before .before .args .rows .now) (c .before .before .before .before .before .before .before .args .marks .now) (c .before
+    .before .before .before .before .before .before .pre) (omega (arith, c .before .before .before .before .if1 .left)) ∙ ap (λ (t :
+    Bool). t && all isZero (drop (c .before .before .before .before .before .before .before .args .count) (c .before .before .before
+    .before .before .before .before .args .rows .now)) && marksFit (c .before .before .before .before .before .before .before .args .rows
+    .now) (c .before .before .before .before .before .before .before .args .count) (c .before .before .before .before .before .before
+    .before .args .marks .now)) (sym (c .before .before .before .rows-fit .ensures) ∙ not-false (c .before .before .before .rows-fit
+    .result) (c .before .before .if2 .left)) ∙ ap (λ (t : Bool). t && marksFit (c .before .before .before .before .before .before .before
+    .args .rows .now) (c .before .before .before .before .before .before .before .args .count) (c .before .before .before .before .before
+    .before .before .args .marks .now)) (sym (c .before .rest-zero .ensures) ∙ not-true (c .before .rest-zero .result) (c .if3 .taken)))
 
 marks-fit-requires : tie.Need-marks-fit-requires
-marks-fit-requires c κs = omega (arith, c .before .before .before .before .before .before .before .pre .rows, c .before .before .before .before .if1 .left)
+marks-fit-requires c κs = omega (
+  arith,
+  c .before .before .before .before .before .before .before .pre .rows,
+  c .before .before .before
+      .before .if1 .left,
+)
 
 returns-4 : tie.Need-returns-4
-returns-4 c = c .marks-fit .ensures ∙ sym (parts-fit (c .before .before .before .before .before .before .before .before .args .count) (c .before .before .before .before .before .before .before .before .args .rows .now) (c .before .before .before .before .before .before .before .before .args .marks .now) (c .before .before .before .before .before .before .before .before .pre) (omega (arith, c .before .before .before .before .before .if1 .left)) ∙ ap (λ (t : Bool). t && all isZero (drop (c .before .before .before .before .before .before .before .before .args .count) (c .before .before .before .before .before .before .before .before .args .rows .now)) && marksFit (c .before .before .before .before .before .before .before .before .args .rows .now) (c .before .before .before .before .before .before .before .before .args .count) (c .before .before .before .before .before .before .before .before .args .marks .now)) (sym (c .before .before .before .before .rows-fit .ensures) ∙ not-false (c .before .before .before .before .rows-fit .result) (c .before .before .before .if2 .left)) ∙ ap (λ (t : Bool). t && marksFit (c .before .before .before .before .before .before .before .before .args .rows .now) (c .before .before .before .before .before .before .before .before .args .count) (c .before .before .before .before .before .before .before .before .args .marks .now)) (sym (c .before .before .rest-zero .ensures) ∙ not-false (c .before .before .rest-zero .result) (c .before .if3 .left)))
+returns-4 c = c .marks-fit .ensures ∙ sym (parts-fit (c .before .before .before .before .before .before .before .before .args .count) (c
+    .before .before .before .before .before .before .before .before .args .rows .now) (c .before .before .before .before .before .before
+    .before .before .args .marks .now) (c .before .before .before .before .before .before .before .before .pre) (omega (
+      arith,
+      c .before
+          .before .before .before .before .if1 .left,
+    )) ∙ ap (λ (t : Bool). t && all isZero (drop (c .before .before .before .before .before
+    .before .before .before .args .count) (c .before .before .before .before .before .before .before .before .args .rows .now)) &&
+    marksFit (c .before .before .before .before .before .before .before .before .args .rows .now) (c .before .before .before .before
+    .before .before .before .before .args .count) (c .before .before .before .before .before .before .before .before .args .marks .now))
+    (sym (c .before .before .before .before .rows-fit .ensures) ∙ not-false (c .before .before .before .before .rows-fit .result) (c
+    .before .before .before .if2 .left)) ∙ ap (λ (t : Bool). t && marksFit (c .before .before .before .before .before .before .before
+    .before .args .rows .now) (c .before .before .before .before .before .before .before .before .args .count) (c .before .before .before
+    .before .before .before .before .before .args .marks .now)) (sym (c .before .before .rest-zero .ensures) ∙ not-false (c .before
+    .before .rest-zero .result) (c .before .if3 .left)))
 
 pub fits-spec : {M : Type 1} → statement M
 fits-spec =

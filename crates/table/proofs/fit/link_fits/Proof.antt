@@ -8,9 +8,6 @@ use borrow.Author.Tests.{lt-ltb, le-ltb, le-leb, lt-leb, eq-eqb, ne-eqb}
 use borrow.Author.Needs.{needs}
 use Rattle.table.proofs.fit.link_fits.Statement.{statement}
 use Rattle.table.proofs.fit.link_fits.Tie as tie
-use Rattle.table.proofs.fit.link_fits.Reads as reads
-use Rattle.table.proofs.fit.link_fits.Lts as lts
-use Rattle.table.proofs.words.kind.Reads as kind-reads
 
 returns : tie.Need-returns
 returns c = search (lt-ltb, le-ltb, le-leb, lt-leb, eq-eqb, ne-eqb, needs)
@@ -31,7 +28,15 @@ kind-requires : tie.Need-kind-requires
 kind-requires c κs = search needs
 
 returns-3 : tie.Need-returns-3
-returns-3 c = rw (ne-eqb (c .before .before .before .before .before .args .link) 0 (c .before .before .before .if1 .left), le-leb (c .before .before .before .before .before .args .link) (c .before .before .before .before .before .args .i) (omega (arith, c .before .before .if2 .left))) (ap (λ (j : ℕ). not (eqb j 2)) (c .kind .ensures))
+returns-3 c = rw (
+  ne-eqb (c .before .before .before .before .before .args .link) 0 (c .before .before .before .if1 .left),
+  le-leb (c
+      .before .before .before .before .before .args .link) (c .before .before .before .before .before .args .i) (omega (
+        arith,
+        c .before
+            .before .if2 .left,
+      )),
+) (ap (λ (j : ℕ). not (eqb j 2)) (c .kind .ensures))
 
 pub link-fits-spec : {M : Type 1} → statement M
 link-fits-spec =

@@ -14,10 +14,6 @@ use native.Mathlib.Omega.{arith}
 use borrow.Author.Needs.{needs}
 use Rattle.table.proofs.fit.marks_fit.Statement.{statement}
 use Rattle.table.proofs.fit.marks_fit.Tie as tie
-use Rattle.table.proofs.fit.marks_fit.Reads as reads
-use Rattle.table.proofs.fit.marks_fit.Lts as lts
-use Rattle.table.proofs.fit.mark_fits.Reads as mark-fits-reads
-use Rattle.table.proofs.marks.is_marked.Reads as is-marked-reads
 
 abbrev Inv-loop : tie.InvT-loop
 Inv-loop rows count marks d₀ d = (d ≤ length marks) × (marksFit rows count marks ≡ marksFit rows count (drop d marks))
@@ -38,7 +34,15 @@ mark-fits-requires : tie.Need-mark-fits-requires Inv-loop μ-loop
 mark-fits-requires c κs = search needs
 
 returns : tie.Need-returns Inv-loop μ-loop
-returns c = sym (c .before .before .before .before .loop .inv .1 ∙ marks-turn (c .before .before .before .before .before .before .before .args .rows .now) (c .before .before .before .before .before .before .before .args .count) (c .before .before .before .before .before .before .before .args .marks .now) (c .before .before .before .before .loop .d) (c .before .before .before .loop-test .taken) ∙ ap (λ (t : Bool). t && not (isRepeated (getD (c .before .before .before .before .before .before .before .args .marks .now) (c .before .before .before .before .loop .d) 0) (drop (c .before .before .before .before .loop .d + 1) (c .before .before .before .before .before .before .before .args .marks .now))) && marksFit (c .before .before .before .before .before .before .before .args .rows .now) (c .before .before .before .before .before .before .before .args .count) (drop (c .before .before .before .before .loop .d + 1) (c .before .before .before .before .before .before .before .args .marks .now))) (sym (c .before .mark-fits .ensures) ∙ not-true (c .before .mark-fits .result) (c .if1 .taken)))
+returns c = sym (c .before .before .before .before .loop .inv .1 ∙ marks-turn (c .before .before .before .before .before .before .before
+    .args .rows .now) (c .before .before .before .before .before .before .before .args .count) (c .before .before .before .before .before
+    .before .before .args .marks .now) (c .before .before .before .before .loop .d) (c .before .before .before .loop-test .taken) ∙ ap (λ
+    (t : Bool). t && not (isRepeated (getD (c .before .before .before .before .before .before .before .args .marks .now) (c .before
+    .before .before .before .loop .d) 0) (drop (c .before .before .before .before .loop .d + 1) (c .before .before .before .before
+    .before .before .before .args .marks .now))) && marksFit (c .before .before .before .before .before .before .before .args .rows .now)
+    (c .before .before .before .before .before .before .before .args .count) (drop (c .before .before .before .before .loop .d + 1) (c
+    .before .before .before .before .before .before .before .args .marks .now))) (sym (c .before .mark-fits .ensures) ∙ not-true (c
+    .before .mark-fits .result) (c .if1 .taken)))
 
 add-d : tie.Need-add-d Inv-loop μ-loop
 add-d c = search needs
@@ -58,29 +62,67 @@ part-is-marked-end c = search needs
 is-marked-requires : tie.Need-is-marked-requires Inv-loop μ-loop
 is-marked-requires c κs = omega (arith, c .before .if2 .taken)
 
-again : (c : tie.After-is-marked Inv-loop μ-loop) → isRepeated (getD (c .before .before .before .before .before .before .before .before .before .before .args .marks .now) (c .before .before .before .before .before .before .before .loop .d) 0) (drop (c .before .before .before .before .before .before .before .loop .d + 1) (c .before .before .before .before .before .before .before .before .before .before .args .marks .now)) ≡ c .is-marked .result
+again : (c : tie.After-is-marked Inv-loop μ-loop) → isRepeated (getD (c .before .before .before .before .before .before .before .before
+    .before .before .args .marks .now) (c .before .before .before .before .before .before .before .loop .d) 0) (drop (c .before .before
+    .before .before .before .before .before .loop .d + 1) (c .before .before .before .before .before .before .before .before .before
+    .before .args .marks .now)) ≡ c .is-marked .result
 again c =
-    repeated-some (getD (c .before .before .before .before .before .before .before .before .before .before .args .marks .now) (c .before .before .before .before .before .before .before .loop .d) 0) (drop (c .before .before .before .before .before .before .before .loop .d + 1) (c .before .before .before .before .before .before .before .before .before .before .args .marks .now)) (c .before .before .if2 .taken) ∙
-    sym (c .is-marked .ensures ∙ ap (λ (l : List ℕ). any (isThe (getD (c .before .before .before .before .before .before .before .before .before .before .args .marks .now) (c .before .before .before .before .before .before .before .loop .d) 0 - 1)) (map linked l))
-    (take-all (length (c .before .before .before .before .before .before .before .before .before .before .args .marks .now) - (c .before .before .before .before .before .before .before .loop .d + 1)) (drop (c .before .before .before .before .before .before .before .loop .d + 1) (c .before .before .before .before .before .before .before .before .before .before .args .marks .now)) (omega (arith, length-drop (c .before .before .before .before .before .before .before .loop .d + 1) (c .before .before .before .before .before .before .before .before .before .before .args .marks .now)))))
+    repeated-some (getD (c .before .before .before .before .before .before .before .before .before .before .args .marks .now) (c .before
+    .before .before .before .before .before .before .loop .d) 0) (drop (c .before .before .before .before .before .before .before
+    .loop .d + 1) (c .before .before .before .before .before .before .before .before .before .before .args .marks .now)) (c .before
+    .before .if2 .taken) ∙
+    sym (c .is-marked .ensures ∙ ap (λ (l : List ℕ). any (isThe (getD (c .before .before .before .before .before .before .before .before
+    .before .before .args .marks .now) (c .before .before .before .before .before .before .before .loop .d) 0 - 1)) (map linked l))
+    (take-all (length (c .before .before .before .before .before .before .before .before .before .before .args .marks .now) - (c .before
+    .before .before .before .before .before .before .loop .d + 1)) (drop (c .before .before .before .before .before .before .before
+    .loop .d + 1) (c .before .before .before .before .before .before .before .before .before .before .args .marks .now)) (omega (
+      arith,
+      length-drop (c .before .before .before .before .before .before .before .loop .d + 1) (c .before .before .before .before
+          .before .before .before .before .before .before .args .marks .now),
+    ))))
 
 returns-2 : tie.Need-returns-2 Inv-loop μ-loop
-returns-2 c = sym (c .before .before .before .before .before .before .before .before .loop .inv .1 ∙ marks-go (c .before .before .before .before .before .before .before .before .before .before .before .args .rows .now) (c .before .before .before .before .before .before .before .before .before .before .before .args .count) (c .before .before .before .before .before .before .before .before .before .before .before .args .marks .now) (c .before .before .before .before .before .before .before .before .loop .d) true (c .before .before .before .before .before .before .before .loop-test .taken) (sym (c .before .before .before .before .before .mark-fits .ensures) ∙ not-false (c .before .before .before .before .before .mark-fits .result) (c .before .before .before .before .if1 .left)) (again (c .before) ∙ c .if3 .taken))
+returns-2 c = sym (c .before .before .before .before .before .before .before .before .loop .inv .1 ∙ marks-go (c .before .before .before
+    .before .before .before .before .before .before .before .before .args .rows .now) (c .before .before .before .before .before .before
+    .before .before .before .before .before .args .count) (c .before .before .before .before .before .before .before .before .before
+    .before .before .args .marks .now) (c .before .before .before .before .before .before .before .before .loop .d) true (c .before
+    .before .before .before .before .before .before .loop-test .taken) (sym (c .before .before .before .before .before .mark-fits
+    .ensures) ∙ not-false (c .before .before .before .before .before .mark-fits .result) (c .before .before .before .before .if1 .left))
+    (again (c .before) ∙ c .if3 .taken))
 
 loop-less : tie.Need-loop-less Inv-loop μ-loop
 loop-less c = omega arith
 
 loop-again : tie.Need-loop-again Inv-loop μ-loop
-loop-again c = (omega arith, c .before .before .before .before .before .before .before .before .loop .inv .1 ∙ marks-go (c .before .before .before .before .before .before .before .before .before .before .before .args .rows .now) (c .before .before .before .before .before .before .before .before .before .before .before .args .count) (c .before .before .before .before .before .before .before .before .before .before .before .args .marks .now) (c .before .before .before .before .before .before .before .before .loop .d) false (c .before .before .before .before .before .before .before .loop-test .taken) (sym (c .before .before .before .before .before .mark-fits .ensures) ∙ not-false (c .before .before .before .before .before .mark-fits .result) (c .before .before .before .before .if1 .left)) (again (c .before) ∙ c .if3 .left))
+loop-again c = (
+  omega arith,
+  c .before .before .before .before .before .before .before .before .loop .inv .1 ∙ marks-go (c .before
+      .before .before .before .before .before .before .before .before .before .before .args .rows .now) (c .before .before .before .before
+      .before .before .before .before .before .before .before .args .count) (c .before .before .before .before .before .before .before
+      .before .before .before .before .args .marks .now) (c .before .before .before .before .before .before .before .before .loop .d) false
+      (c .before .before .before .before .before .before .before .loop-test .taken) (sym (c .before .before .before .before .before
+      .mark-fits .ensures) ∙ not-false (c .before .before .before .before .before .mark-fits .result) (c .before .before .before .before
+      .if1 .left)) (again (c .before) ∙ c .if3 .left),
+)
 
 loop-less-2 : tie.Need-loop-less-2 Inv-loop μ-loop
 loop-less-2 c = omega arith
 
 loop-again-2 : tie.Need-loop-again-2 Inv-loop μ-loop
-loop-again-2 c = (omega arith, c .before .before .before .before .before .loop .inv .1 ∙ marks-go (c .before .before .before .before .before .before .before .before .args .rows .now) (c .before .before .before .before .before .before .before .before .args .count) (c .before .before .before .before .before .before .before .before .args .marks .now) (c .before .before .before .before .before .loop .d) false (c .before .before .before .before .loop-test .taken) (sym (c .before .before .mark-fits .ensures) ∙ not-false (c .before .before .mark-fits .result) (c .before .if1 .left)) (repeated-none (getD (c .before .before .before .before .before .before .before .before .args .marks .now) (c .before .before .before .before .before .loop .d) 0) (drop (c .before .before .before .before .before .loop .d + 1) (c .before .before .before .before .before .before .before .before .args .marks .now)) (search (c .if2 .left, needs))))
+loop-again-2 c = (
+  omega arith,
+  c .before .before .before .before .before .loop .inv .1 ∙ marks-go (c .before .before .before .before
+      .before .before .before .before .args .rows .now) (c .before .before .before .before .before .before .before .before .args .count) (c
+      .before .before .before .before .before .before .before .before .args .marks .now) (c .before .before .before .before .before .loop
+      .d) false (c .before .before .before .before .loop-test .taken) (sym (c .before .before .mark-fits .ensures) ∙ not-false (c .before
+      .before .mark-fits .result) (c .before .if1 .left)) (repeated-none (getD (c .before .before .before .before .before .before .before
+      .before .args .marks .now) (c .before .before .before .before .before .loop .d) 0) (drop (c .before .before .before .before .before
+      .loop .d + 1) (c .before .before .before .before .before .before .before .before .args .marks .now)) (search (c .if2 .left, needs))),
+)
 
 returns-3 : tie.Need-returns-3 Inv-loop μ-loop
-returns-3 c = sym (c .before .loop .inv .1 ∙ marks-end (c .before .before .before .before .args .rows .now) (c .before .before .before .before .args .count) (c .before .before .before .before .args .marks .now) (c .before .loop .d) (omega arith))
+returns-3 c = sym (c .before .loop .inv .1 ∙ marks-end (c .before .before .before .before .args .rows .now) (c .before .before .before
+    .before .args .count) (c .before .before .before .before .args .marks .now) (c .before .loop .d) (omega arith))
 
 pub marks-fit-spec : {M : Type 1} → statement M
 marks-fit-spec =

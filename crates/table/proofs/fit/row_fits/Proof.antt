@@ -8,11 +8,6 @@ use mathlib.Core.Path.{_≡_, refl, _∙_, sym, ap}
 use borrow.Author.Needs.{needs}
 use Rattle.table.proofs.fit.row_fits.Statement.{statement}
 use Rattle.table.proofs.fit.row_fits.Tie as tie
-use Rattle.table.proofs.fit.row_fits.Reads as reads
-use Rattle.table.proofs.fit.row_fits.Lts as lts
-use Rattle.table.proofs.fit.link_fits.Reads as link-fits-reads
-use Rattle.table.proofs.fit.tag_fits.Reads as tag-fits-reads
-use Rattle.table.proofs.words.link.Reads as link-reads
 
 mul-w : tie.Need-mul-w
 mul-w c = search needs
@@ -24,7 +19,9 @@ tag-fits-requires : tie.Need-tag-fits-requires
 tag-fits-requires c κs = search needs
 
 returns : tie.Need-returns
-returns c = sym (ap (λ (z : Bool). z && linkFits (c .before .before .before .before .args .rows .now) (c .before .before .before .before .args .i) (getD (c .before .before .before .before .args .rows .now) (c .before .before .before .before .args .i) 0 / 4 % 1024)) (sym (c .before .tag-fits .ensures) ∙ not-true (c .before .tag-fits .result) (c .if1 .taken)))
+returns c = sym (ap (λ (z : Bool). z && linkFits (c .before .before .before .before .args .rows .now) (c .before .before .before .before
+    .args .i) (getD (c .before .before .before .before .args .rows .now) (c .before .before .before .before .args .i) 0 / 4 % 1024)) (sym
+    (c .before .tag-fits .ensures) ∙ not-true (c .before .tag-fits .result) (c .if1 .taken)))
 
 link-requires : tie.Need-link-requires
 link-requires c κs = search needs
@@ -33,7 +30,12 @@ link-fits-requires : tie.Need-link-fits-requires
 link-fits-requires c κs = search needs
 
 returns-2 : tie.Need-returns-2
-returns-2 c = c .link-fits .ensures ∙ ap (linkFits (c .before .before .before .before .before .before .args .rows .now) (c .before .before .before .before .before .before .args .i)) (c .before .link .ensures) ∙ sym (ap (λ (z : Bool). z && linkFits (c .before .before .before .before .before .before .args .rows .now) (c .before .before .before .before .before .before .args .i) (getD (c .before .before .before .before .before .before .args .rows .now) (c .before .before .before .before .before .before .args .i) 0 / 4 % 1024)) (sym (c .before .before .before .tag-fits .ensures) ∙ not-false (c .before .before .before .tag-fits .result) (c .before .before .if1 .left)))
+returns-2 c = c .link-fits .ensures ∙ ap (linkFits (c .before .before .before .before .before .before .args .rows .now) (c .before
+    .before .before .before .before .before .args .i)) (c .before .link .ensures) ∙ sym (ap (λ (z : Bool). z && linkFits (c .before
+    .before .before .before .before .before .args .rows .now) (c .before .before .before .before .before .before .args .i) (getD (c
+    .before .before .before .before .before .before .args .rows .now) (c .before .before .before .before .before .before .args .i) 0 / 4
+    % 1024)) (sym (c .before .before .before .tag-fits .ensures) ∙ not-false (c .before .before .before .tag-fits .result) (c .before
+    .before .if1 .left)))
 
 pub row-fits-spec : {M : Type 1} → statement M
 row-fits-spec =

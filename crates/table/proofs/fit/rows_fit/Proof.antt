@@ -8,9 +8,6 @@ use native.Mathlib.Omega.{arith}
 use borrow.Author.Needs.{needs}
 use Rattle.table.proofs.fit.rows_fit.Statement.{statement}
 use Rattle.table.proofs.fit.rows_fit.Tie as tie
-use Rattle.table.proofs.fit.rows_fit.Reads as reads
-use Rattle.table.proofs.fit.rows_fit.Lts as lts
-use Rattle.table.proofs.fit.row_fits.Reads as row-fits-reads
 
 abbrev Inv-loop : tie.InvT-loop
 Inv-loop rows count i₀ i = (i ≤ count) × (rowsFit rows 0 count ≡ rowsFit rows i (count - i))
@@ -19,13 +16,21 @@ abbrev μ-loop : tie.MeasureT-loop
 μ-loop rows count i₀ i = count - i
 
 loop-holds : tie.Need-loop-holds Inv-loop μ-loop
-loop-holds c = (omega arith, let e : c .before .args .count ≡ c .before .args .count - 0 = omega arith in ap (rowsFit (c .before .args .rows .now) 0) e)
+loop-holds c = (
+  omega arith,
+  let e : c .before .args .count ≡ c .before .args .count - 0 = omega arith in ap (rowsFit (c .before .args
+      .rows .now) 0) e,
+)
 
 row-fits-requires : tie.Need-row-fits-requires Inv-loop μ-loop
 row-fits-requires c κs = search needs
 
 returns : tie.Need-returns Inv-loop μ-loop
-returns c = sym (c .before .before .before .loop .inv .1 ∙ rows-turn (c .before .before .before .before .before .args .rows .now) (c .before .before .before .loop .i) (c .before .before .before .before .before .args .count) (c .before .before .loop-test .taken) ∙ ap (λ (z : Bool). z && rowsFit (c .before .before .before .before .before .args .rows .now) (c .before .before .before .loop .i + 1) (c .before .before .before .before .before .args .count - (c .before .before .before .loop .i + 1))) (sym (c .before .row-fits .ensures) ∙ not-true (c .before .row-fits .result) (c .if1 .taken)))
+returns c = sym (c .before .before .before .loop .inv .1 ∙ rows-turn (c .before .before .before .before .before .args .rows .now) (c
+    .before .before .before .loop .i) (c .before .before .before .before .before .args .count) (c .before .before .loop-test .taken) ∙ ap
+    (λ (z : Bool). z && rowsFit (c .before .before .before .before .before .args .rows .now) (c .before .before .before .loop .i + 1) (c
+    .before .before .before .before .before .args .count - (c .before .before .before .loop .i + 1))) (sym (c .before .row-fits .ensures)
+    ∙ not-true (c .before .row-fits .result) (c .if1 .taken)))
 
 add-i : tie.Need-add-i Inv-loop μ-loop
 add-i c = search needs
@@ -34,10 +39,18 @@ loop-less : tie.Need-loop-less Inv-loop μ-loop
 loop-less c = omega arith
 
 loop-again : tie.Need-loop-again Inv-loop μ-loop
-loop-again c = (omega arith, c .before .before .before .loop .inv .1 ∙ rows-turn (c .before .before .before .before .before .args .rows .now) (c .before .before .before .loop .i) (c .before .before .before .before .before .args .count) (c .before .before .loop-test .taken) ∙ ap (λ (z : Bool). z && rowsFit (c .before .before .before .before .before .args .rows .now) (c .before .before .before .loop .i + 1) (c .before .before .before .before .before .args .count - (c .before .before .before .loop .i + 1))) (sym (c .before .row-fits .ensures) ∙ not-false (c .before .row-fits .result) (c .if1 .left)))
+loop-again c = (
+  omega arith,
+  c .before .before .before .loop .inv .1 ∙ rows-turn (c .before .before .before .before .before .args .rows
+      .now) (c .before .before .before .loop .i) (c .before .before .before .before .before .args .count) (c .before .before .loop-test
+      .taken) ∙ ap (λ (z : Bool). z && rowsFit (c .before .before .before .before .before .args .rows .now) (c .before .before .before
+      .loop .i + 1) (c .before .before .before .before .before .args .count - (c .before .before .before .loop .i + 1))) (sym (c .before
+      .row-fits .ensures) ∙ not-false (c .before .row-fits .result) (c .if1 .left)),
+)
 
 returns-2 : tie.Need-returns-2 Inv-loop μ-loop
-returns-2 c = sym (c .before .loop .inv .1 ∙ rows-end (c .before .before .before .args .rows .now) (c .before .loop .i) (c .before .before .before .args .count) (omega arith))
+returns-2 c = sym (c .before .loop .inv .1 ∙ rows-end (c .before .before .before .args .rows .now) (c .before .loop .i) (c .before
+    .before .before .args .count) (omega arith))
 
 pub rows-fit-spec : {M : Type 1} → statement M
 rows-fit-spec =

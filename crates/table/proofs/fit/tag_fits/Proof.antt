@@ -6,10 +6,6 @@ use borrow.Author.Tests.{lt-ltb, le-ltb, le-leb, lt-leb, eq-eqb, ne-eqb}
 use borrow.Author.Needs.{needs}
 use Rattle.table.proofs.fit.tag_fits.Statement.{statement}
 use Rattle.table.proofs.fit.tag_fits.Tie as tie
-use Rattle.table.proofs.fit.tag_fits.Reads as reads
-use Rattle.table.proofs.fit.tag_fits.Lts as lts
-use Rattle.table.proofs.words.kind.Reads as kind-reads
-use Rattle.table.proofs.words.tag.Reads as tag-reads
 
 kind-requires : tie.Need-kind-requires
 kind-requires c κs = search needs
@@ -18,13 +14,33 @@ tag-requires : tie.Need-tag-requires
 tag-requires c κs = search needs
 
 returns : tie.Need-returns
-returns c = let k : 255 < c .before .before .before .args .w / 4096 = omega (arith, c .before .tag .ensures, c .if1 .taken) in rw (lt-leb (c .before .before .before .args .w / 4096) 255 k)
+returns c = let k : 255 < c .before .before .before .args .w / 4096 = omega (arith, c .before .tag .ensures, c .if1 .taken) in rw (lt-leb
+    (c .before .before .before .args .w / 4096) 255 k)
 
 returns-2 : tie.Need-returns-2
-returns-2 c = let k : c .before .before .before .before .args .w / 4096 ≤ 255 = omega (arith, c .before .before .tag .ensures, c .before .if1 .left) in rw (le-leb (c .before .before .before .before .args .w / 4096) 255 k, eq-eqb (c .before .before .before .before .args .w % 4) 1 (sym (c .before .before .before .kind .ensures) ∙ c .if2 .taken)) (ap (ltb 0) (c .before .before .tag .ensures))
+returns-2 c = let k : c .before .before .before .before .args .w / 4096 ≤ 255 = omega (
+  arith,
+  c .before .before .tag .ensures,
+  c .before
+      .if1 .left,
+) in rw (
+  le-leb (c .before .before .before .before .args .w / 4096) 255 k,
+  eq-eqb (c .before .before .before .before .args
+      .w % 4) 1 (sym (c .before .before .before .kind .ensures) ∙ c .if2 .taken),
+) (ap (ltb 0) (c .before .before .tag .ensures))
 
 returns-3 : tie.Need-returns-3
-returns-3 c = let k : c .before .before .before .before .args .w / 4096 ≤ 255 = omega (arith, c .before .before .tag .ensures, c .before .if1 .left) in rw (le-leb (c .before .before .before .before .args .w / 4096) 255 k, ne-eqb (c .before .before .before .before .args .w % 4) 1 (λ q. c .if2 .left (c .before .before .before .kind .ensures ∙ q))) (ap (λ (j : ℕ). eqb j 2) (c .before .before .before .kind .ensures))
+returns-3 c = let k : c .before .before .before .before .args .w / 4096 ≤ 255 = omega (
+  arith,
+  c .before .before .tag .ensures,
+  c .before
+      .if1 .left,
+) in rw (
+  le-leb (c .before .before .before .before .args .w / 4096) 255 k,
+  ne-eqb (c .before .before .before .before .args
+      .w % 4) 1 (λ q. c .if2 .left (c .before .before .before .kind .ensures ∙ q)),
+) (ap (λ (j : ℕ). eqb j 2) (c .before .before .before
+    .kind .ensures))
 
 pub tag-fits-spec : {M : Type 1} → statement M
 tag-fits-spec = tie.close (tie.spec kind-requires tag-requires returns returns-2 returns-3)

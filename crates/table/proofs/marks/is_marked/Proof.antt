@@ -16,11 +16,10 @@ use Prim.Native.Nat.{ℕ, suc, _≤_, _-_, _+_}
 use borrow.Author.Needs.{needs}
 use Rattle.table.proofs.marks.is_marked.Statement.{statement}
 use Rattle.table.proofs.marks.is_marked.Tie as tie
-use Rattle.table.proofs.marks.is_marked.Reads as reads
-use Rattle.table.proofs.marks.is_marked.Lts as lts
 
 abbrev Inv-loop : tie.InvT-loop
-Inv-loop marks link d₀ d = (d ≤ length marks) × (any (isThe (link - 1)) (map linked marks) ≡ any (isThe (link - 1)) (map linked (drop d marks)))
+Inv-loop marks link d₀ d = (d ≤ length marks) × (any (isThe (link - 1)) (map linked marks) ≡ any (isThe (link - 1)) (map linked (drop d
+    marks)))
 
 abbrev μ-loop : tie.MeasureT-loop
 μ-loop marks link d₀ d = length marks - d
@@ -35,7 +34,10 @@ shared-slice-read-if1 : tie.Need-shared-slice-read-if1 Inv-loop μ-loop
 shared-slice-read-if1 c = search needs
 
 returns : tie.Need-returns Inv-loop μ-loop
-returns c = sym (c .before .before .before .loop .inv .1 ∙ marked-turn (c .before .before .before .before .args .marks .now) (c .before .before .before .loop .d) (c .before .before .before .before .args .link) (c .before .before .loop-test .taken) (c .before .before .before .before .pre) ∙ rw (eq-eqb (getD (c .before .before .before .before .args .marks .now) (c .before .before .before .loop .d) 0) (c .before .before .before .before .args .link) (c .if1 .taken)))
+returns c = sym (c .before .before .before .loop .inv .1 ∙ marked-turn (c .before .before .before .before .args .marks .now) (c .before
+    .before .before .loop .d) (c .before .before .before .before .args .link) (c .before .before .loop-test .taken) (c .before .before
+    .before .before .pre) ∙ rw (eq-eqb (getD (c .before .before .before .before .args .marks .now) (c .before .before .before .loop .d)
+    0) (c .before .before .before .before .args .link) (c .if1 .taken)))
 
 add-d : tie.Need-add-d Inv-loop μ-loop
 add-d c = search needs
@@ -44,10 +46,17 @@ loop-less : tie.Need-loop-less Inv-loop μ-loop
 loop-less c = omega arith
 
 loop-again : tie.Need-loop-again Inv-loop μ-loop
-loop-again c = (omega arith, c .before .before .before .loop .inv .1 ∙ marked-turn (c .before .before .before .before .args .marks .now) (c .before .before .before .loop .d) (c .before .before .before .before .args .link) (c .before .before .loop-test .taken) (c .before .before .before .before .pre) ∙ rw (ne-eqb (getD (c .before .before .before .before .args .marks .now) (c .before .before .before .loop .d) 0) (c .before .before .before .before .args .link) (c .if1 .left)))
+loop-again c = (
+  omega arith,
+  c .before .before .before .loop .inv .1 ∙ marked-turn (c .before .before .before .before .args .marks .now)
+      (c .before .before .before .loop .d) (c .before .before .before .before .args .link) (c .before .before .loop-test .taken) (c .before
+      .before .before .before .pre) ∙ rw (ne-eqb (getD (c .before .before .before .before .args .marks .now) (c .before .before .before
+      .loop .d) 0) (c .before .before .before .before .args .link) (c .if1 .left)),
+)
 
 returns-2 : tie.Need-returns-2 Inv-loop μ-loop
-returns-2 c = sym (c .before .loop .inv .1 ∙ marked-none (c .before .before .args .marks .now) (c .before .loop .d) (c .before .before .args .link) (omega arith))
+returns-2 c = sym (c .before .loop .inv .1 ∙ marked-none (c .before .before .args .marks .now) (c .before .loop .d) (c .before .before
+    .args .link) (omega arith))
 
 pub is-marked-spec : {M : Type 1} → statement M
 is-marked-spec =

@@ -2,8 +2,6 @@ use borrow.Author.Tests.{eq-eqb, ne-eqb}
 use borrow.Author.Needs.{needs}
 use Rattle.table.proofs.sweep.is_kept.Statement.{statement}
 use Rattle.table.proofs.sweep.is_kept.Tie as tie
-use Rattle.table.proofs.sweep.is_kept.Reads as reads
-use Rattle.table.proofs.sweep.is_kept.Lts as lts
 
 returns : tie.Need-returns
 returns c = rw (ne-eqb (c .before .args .flag) 0 (c .if1 .taken))

@@ -10,12 +10,10 @@ use native.Mathlib.Omega.{arith}
 use borrow.Author.Needs.{needs}
 use Rattle.table.proofs.sweep.renumber.Statement.{statement}
 use Rattle.table.proofs.sweep.renumber.Tie as tie
-use Rattle.table.proofs.sweep.renumber.Reads as reads
-use Rattle.table.proofs.sweep.renumber.Lts as lts
-use Rattle.table.proofs.sweep.index.Reads as index-reads
 
 abbrev Inv-loop : tie.InvT-loop
-Inv-loop marks₀ numbers d₀ marks d = (d ≤ length marks₀) × (marks ≡ newLinks numbers (take d marks₀) ++ drop d marks₀) × (length marks ≡ length marks₀)
+Inv-loop marks₀ numbers d₀ marks d = (d ≤ length marks₀) × (marks ≡ newLinks numbers (take d marks₀) ++ drop d marks₀) × (length marks ≡
+    length marks₀)
 
 abbrev μ-loop : tie.MeasureT-loop
 μ-loop marks₀ numbers d₀ marks d = length marks₀ - d
@@ -32,10 +30,17 @@ slice-read-index c = search needs
 index-requires : tie.Need-index-requires Inv-loop μ-loop
 index-requires c κs = search needs
 
-link-here : (c : tie.After-index Inv-loop μ-loop) → c .index .result ≡ getD (c .before .before .before .before .before .before .args .marks .now) (c .before .before .before .loop .d) 0
+link-here : (c : tie.After-index Inv-loop μ-loop) → c .index .result ≡ getD (c .before .before .before .before .before .before .args
+    .marks .now) (c .before .before .before .loop .d) 0
 link-here c =
     c .index .ensures ∙ ap (λ (l : List ℕ). getD l (c .before .before .before .loop .d) 0) (c .before .before .before .loop .inv .1) ∙
-    links-at (c .before .before .before .before .before .before .args .numbers .now) (c .before .before .before .before .before .before .args .marks .now) (c .before .before .before .loop .d) (omega (arith, c .before .before .loop-test .taken, c .before .before .before .loop .inv .2))
+    links-at (c .before .before .before .before .before .before .args .numbers .now) (c .before .before .before .before .before .before
+    .args .marks .now) (c .before .before .before .loop .d) (omega (
+      arith,
+      c .before .before .loop-test .taken,
+      c .before .before
+          .before .loop .inv .2,
+    ))
 
 low : (c : tie.After-index Inv-loop μ-loop) → c .index .result < 513
 low c = omega (arith, link-here c, c .before .before .before .before .before .before .pre .links (c .before .before .before .loop .d))
@@ -59,13 +64,28 @@ loop-less : tie.Need-loop-less Inv-loop μ-loop
 loop-less c = search needs
 
 loop-again : tie.Need-loop-again Inv-loop μ-loop
-loop-again c = (omega (arith, c .before .before .before .before .loop .inv .2), ap (λ (v : List ℕ). set v (c .before .before .before .before .loop .d) (getD (c .before .before .before .before .before .before .before .args .numbers .now) (c .before .index .result) 0)) (c .before .before .before .before .loop .inv .1) ∙ ap (λ (j : ℕ). set (newLinks (c .before .before .before .before .before .before .before .args .numbers .now) (take (c .before .before .before .before .loop .d) (c .before .before .before .before .before .before .before .args .marks .now)) ++ drop (c .before .before .before .before .loop .d) (c .before .before .before .before .before .before .before .args .marks .now)) (c .before .before .before .before .loop .d) (getD (c .before .before .before .before .before .before .before .args .numbers .now) j 0)) (link-here (c .before)) ∙ links-next (c .before .before .before .before .before .before .before .args .numbers .now) (c .before .before .before .before .before .before .before .args .marks .now) (c .before .before .before .before .loop .d) (omega (arith, c .before .before .before .loop-test .taken, c .before .before .before .before .loop .inv .2)), length-set (c .before .before .before .before .loop .marks) (c .before .before .before .before .loop .d) (getD (c .before .before .before .before .before .before .before .args .numbers .now) (c .before .index .result) 0) ∙ c .before .before .before .before .loop .inv .2)
+loop-again c = (
+  omega (arith, c .before .before .before .before .loop .inv .2),
+  ap (λ (v : List ℕ). set v (c .before .before .before
+      .before .loop .d) (getD (c .before .before .before .before .before .before .before .args .numbers .now) (c .before .index .result)
+      0)) (c .before .before .before .before .loop .inv .1) ∙ ap (λ (j : ℕ). set (newLinks (c .before .before .before .before .before
+      .before .before .args .numbers .now) (take (c .before .before .before .before .loop .d) (c .before .before .before .before .before
+      .before .before .args .marks .now)) ++ drop (c .before .before .before .before .loop .d) (c .before .before .before .before .before
+      .before .before .args .marks .now)) (c .before .before .before .before .loop .d) (getD (c .before .before .before .before .before
+      .before .before .args .numbers .now) j 0)) (link-here (c .before)) ∙ links-next (c .before .before .before .before .before .before
+      .before .args .numbers .now) (c .before .before .before .before .before .before .before .args .marks .now) (c .before .before .before
+      .before .loop .d) (omega (arith, c .before .before .before .loop-test .taken, c .before .before .before .before .loop .inv .2)),
+  length-set (c .before .before .before .before .loop .marks) (c .before .before .before .before .loop .d) (getD (c .before .before
+      .before .before .before .before .before .args .numbers .now) (c .before .index .result) 0) ∙ c .before .before .before .before .loop
+      .inv .2,
+)
 
 same-length : tie.Need-same-length Inv-loop μ-loop
 same-length c = search needs
 
 returns : tie.Need-returns Inv-loop μ-loop
-returns c = c .before .loop .inv .1 ∙ links-end (c .before .before .before .before .args .numbers .now) (c .before .before .before .before .args .marks .now) (c .before .loop .d) (omega (arith, c .before .loop .inv .2))
+returns c = c .before .loop .inv .1 ∙ links-end (c .before .before .before .before .args .numbers .now) (c .before .before .before
+    .before .args .marks .now) (c .before .loop .d) (omega (arith, c .before .loop .inv .2))
 
 pub renumber-spec : {M : Type 1} → statement M
 renumber-spec =

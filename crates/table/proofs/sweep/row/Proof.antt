@@ -8,14 +8,6 @@ use native.Mathlib.Omega.{arith}
 use borrow.Author.Needs.{needs}
 use Rattle.table.proofs.sweep.row.Statement.{statement}
 use Rattle.table.proofs.sweep.row.Tie as tie
-use Rattle.table.proofs.sweep.row.Reads as reads
-use Rattle.table.proofs.sweep.row.Lts as lts
-use Rattle.table.proofs.sweep.is_kept.Reads as is-kept-reads
-use Rattle.table.proofs.sweep.wide.Reads as wide-reads
-use Rattle.table.proofs.words.kind.Reads as kind-reads
-use Rattle.table.proofs.words.link.Reads as link-reads
-use Rattle.table.proofs.words.tag.Reads as tag-reads
-use Rattle.table.proofs.words.word.Reads as word-reads
 
 link-requires : tie.Need-link-requires
 link-requires c κs = search needs
@@ -38,12 +30,33 @@ slice-read-is-kept c = search needs
 is-kept-requires : tie.Need-is-kept-requires
 is-kept-requires c κs = search needs
 
-kept : (c : tie.After-is-kept) → keepsRow (c .before .before .before .before .before .before .args .w) (c .before .before .before .before .before .before .args .i) (c .before .before .before .before .before .before .args .numbers .now) ≡ c .is-kept .result
+kept : (c : tie.After-is-kept) → keepsRow (c .before .before .before .before .before .before .args .w) (c .before .before .before .before
+    .before .before .args .i) (c .before .before .before .before .before .before .args .numbers .now) ≡ c .is-kept .result
 kept c =
-    sym (c .is-kept .ensures ∙ ap (λ (j : ℕ). keeps (getD (c .before .before .before .before .before .before .args .numbers .now) (c .before .before .before .before .before .before .args .i + 1) 0) (getD (c .before .before .before .before .before .before .args .numbers .now) j 0)) (c .before .before .before .link .ensures))
+    sym (c .is-kept .ensures ∙ ap (λ (j : ℕ). keeps (getD (c .before .before .before .before .before .before .args .numbers .now) (c
+    .before .before .before .before .before .before .args .i + 1) 0) (getD (c .before .before .before .before .before .before .args
+    .numbers .now) j 0)) (c .before .before .before .link .ensures))
 
 returns : tie.Need-returns
-returns c = record { numbers = sym (pick-false (keepsRow (c .before .before .before .before .before .before .before .args .w) (c .before .before .before .before .before .before .before .args .i) (c .before .before .before .before .before .before .before .args .numbers .now)) (set (c .before .before .before .before .before .before .before .args .numbers .now) (c .before .before .before .before .before .before .before .args .i + 1) (c .before .before .before .before .before .before .before .args .next + 1)) (c .before .before .before .before .before .before .before .args .numbers .now) (kept (c .before) ∙ not-true (c .before .is-kept .result) (c .if1 .taken))); rows = sym (pick-false (keepsRow (c .before .before .before .before .before .before .before .args .w) (c .before .before .before .before .before .before .before .args .i) (c .before .before .before .before .before .before .before .args .numbers .now)) (set (c .before .before .before .before .before .before .before .args .out .now) (c .before .before .before .before .before .before .before .args .next) (newWord (c .before .before .before .before .before .before .before .args .w) (c .before .before .before .before .before .before .before .args .numbers .now))) (c .before .before .before .before .before .before .before .args .out .now) (kept (c .before) ∙ not-true (c .before .is-kept .result) (c .if1 .taken))); result = sym (pick-false (keepsRow (c .before .before .before .before .before .before .before .args .w) (c .before .before .before .before .before .before .before .args .i) (c .before .before .before .before .before .before .before .args .numbers .now)) (c .before .before .before .before .before .before .before .args .next + 1) (c .before .before .before .before .before .before .before .args .next) (kept (c .before) ∙ not-true (c .before .is-kept .result) (c .if1 .taken))) }
+returns c = record {
+  numbers = sym (pick-false (keepsRow (c .before .before .before .before .before .before .before .args .w) (c .before
+      .before .before .before .before .before .before .args .i) (c .before .before .before .before .before .before .before .args .numbers
+      .now)) (set (c .before .before .before .before .before .before .before .args .numbers .now) (c .before .before .before .before
+      .before .before .before .args .i + 1) (c .before .before .before .before .before .before .before .args .next + 1)) (c .before .before
+      .before .before .before .before .before .args .numbers .now) (kept (c .before) ∙ not-true (c .before .is-kept .result) (c .if1
+      .taken)));
+  rows = sym (pick-false (keepsRow (c .before .before .before .before .before .before .before .args .w) (c .before .before
+      .before .before .before .before .before .args .i) (c .before .before .before .before .before .before .before .args .numbers .now))
+      (set (c .before .before .before .before .before .before .before .args .out .now) (c .before .before .before .before .before .before
+      .before .args .next) (newWord (c .before .before .before .before .before .before .before .args .w) (c .before .before .before .before
+      .before .before .before .args .numbers .now))) (c .before .before .before .before .before .before .before .args .out .now) (kept (c
+      .before) ∙ not-true (c .before .is-kept .result) (c .if1 .taken)));
+  result = sym (pick-false (keepsRow (c .before .before .before
+      .before .before .before .before .args .w) (c .before .before .before .before .before .before .before .args .i) (c .before .before
+      .before .before .before .before .before .args .numbers .now)) (c .before .before .before .before .before .before .before .args .next
+      + 1) (c .before .before .before .before .before .before .before .args .next) (kept (c .before) ∙ not-true (c .before .is-kept
+      .result) (c .if1 .taken)));
+}
 
 add-numbers : tie.Need-add-numbers
 add-numbers c = search needs
@@ -70,7 +83,26 @@ tag-requires : tie.Need-tag-requires
 tag-requires c κs = search needs
 
 word-requires : tie.Need-word-requires
-word-requires c κs = (omega (arith, c .before .before .kind .ensures), (omega (arith, c .before .wide .ensures, c .before .before .before .before .before .before .before .before .before .before .pre .parent, ap (λ (j : ℕ). getD (c .before .before .before .before .before .before .before .before .before .before .args .numbers .now) j 0) (c .before .before .before .before .before .before .before .link .ensures)), omega (arith, c .tag .ensures, c .before .before .before .before .before .before .before .before .before .before .pre .word)))
+word-requires c κs = (
+  omega (arith, c .before .before .kind .ensures),
+  (
+    omega (
+      arith,
+      c .before .wide .ensures,
+      c .before .before .before
+          .before .before .before .before .before .before .before .pre .parent,
+      ap (λ (j : ℕ). getD (c .before .before .before .before .before
+          .before .before .before .before .before .args .numbers .now) j 0) (c .before .before .before .before .before .before .before .link
+          .ensures),
+    ),
+    omega (
+      arith,
+      c .tag .ensures,
+      c .before .before .before .before .before .before .before .before .before .before .pre
+          .word,
+    ),
+  ),
+)
 
 mul-out : tie.Need-mul-out
 mul-out c = search needs
@@ -87,14 +119,46 @@ same-length c = search needs
 same-length-2 : tie.Need-same-length-2
 same-length-2 c = search needs
 
-built : (c : tie.After-word) → c .word .result ≡ newWord (c .before .before .before .before .before .before .before .before .before .before .before .args .w) (c .before .before .before .before .before .before .before .before .before .before .before .args .numbers .now)
+built : (c : tie.After-word) → c .word .result ≡ newWord (c .before .before .before .before .before .before .before .before .before
+    .before .before .args .w) (c .before .before .before .before .before .before .before .before .before .before .before .args .numbers
+    .now)
 built c =
-    let e : getD (c .before .before .before .before .before .before .before .before .before .before .before .args .numbers .now) (c .before .before .before .before .before .before .before .before .link .result) 0 ≡ getD (c .before .before .before .before .before .before .before .before .before .before .before .args .numbers .now) (c .before .before .before .before .before .before .before .before .before .before .before .args .w / 4 % 1024) 0 =
-    ap (λ (j : ℕ). getD (c .before .before .before .before .before .before .before .before .before .before .before .args .numbers .now) j 0) (c .before .before .before .before .before .before .before .before .link .ensures) in
+    let e : getD (c .before .before .before .before .before .before .before .before .before .before .before .args .numbers .now) (c
+    .before .before .before .before .before .before .before .before .link .result) 0 ≡ getD (c .before .before .before .before
+    .before .before .before .before .before .before .before .args .numbers .now) (c .before .before .before .before .before .before
+    .before .before .before .before .before .args .w / 4 % 1024) 0 =
+    ap (λ (j : ℕ). getD (c .before .before .before .before .before .before .before .before .before .before .before .args .numbers .now) j
+    0) (c .before .before .before .before .before .before .before .before .link .ensures) in
     omega (arith, c .word .ensures, c .before .before .before .kind .ensures, c .before .before .wide .ensures, c .before .tag .ensures)
 
 returns-2 : tie.Need-returns-2
-returns-2 c = record { numbers = sym (pick-true (keepsRow (c .before .before .before .before .before .before .before .before .before .before .before .args .w) (c .before .before .before .before .before .before .before .before .before .before .before .args .i) (c .before .before .before .before .before .before .before .before .before .before .before .args .numbers .now)) (set (c .before .before .before .before .before .before .before .before .before .before .before .args .numbers .now) (c .before .before .before .before .before .before .before .before .before .before .before .args .i + 1) (c .before .before .before .before .before .before .before .before .before .before .before .args .next + 1)) (c .before .before .before .before .before .before .before .before .before .before .before .args .numbers .now) (kept (c .before .before .before .before .before) ∙ not-false (c .before .before .before .before .before .is-kept .result) (c .before .before .before .before .if1 .left))); rows = ap (set (c .before .before .before .before .before .before .before .before .before .before .before .args .out .now) (c .before .before .before .before .before .before .before .before .before .before .before .args .next)) (built c) ∙ sym (pick-true (keepsRow (c .before .before .before .before .before .before .before .before .before .before .before .args .w) (c .before .before .before .before .before .before .before .before .before .before .before .args .i) (c .before .before .before .before .before .before .before .before .before .before .before .args .numbers .now)) (set (c .before .before .before .before .before .before .before .before .before .before .before .args .out .now) (c .before .before .before .before .before .before .before .before .before .before .before .args .next) (newWord (c .before .before .before .before .before .before .before .before .before .before .before .args .w) (c .before .before .before .before .before .before .before .before .before .before .before .args .numbers .now))) (c .before .before .before .before .before .before .before .before .before .before .before .args .out .now) (kept (c .before .before .before .before .before) ∙ not-false (c .before .before .before .before .before .is-kept .result) (c .before .before .before .before .if1 .left))); result = sym (pick-true (keepsRow (c .before .before .before .before .before .before .before .before .before .before .before .args .w) (c .before .before .before .before .before .before .before .before .before .before .before .args .i) (c .before .before .before .before .before .before .before .before .before .before .before .args .numbers .now)) (c .before .before .before .before .before .before .before .before .before .before .before .args .next + 1) (c .before .before .before .before .before .before .before .before .before .before .before .args .next) (kept (c .before .before .before .before .before) ∙ not-false (c .before .before .before .before .before .is-kept .result) (c .before .before .before .before .if1 .left))) }
+returns-2 c = record {
+  numbers = sym (pick-true (keepsRow (c .before .before .before .before .before .before .before .before .before
+      .before .before .args .w) (c .before .before .before .before .before .before .before .before .before .before .before .args .i) (c
+      .before .before .before .before .before .before .before .before .before .before .before .args .numbers .now)) (set (c .before .before
+      .before .before .before .before .before .before .before .before .before .args .numbers .now) (c .before .before .before .before
+      .before .before .before .before .before .before .before .args .i + 1) (c .before .before .before .before .before .before .before
+      .before .before .before .before .args .next + 1)) (c .before .before .before .before .before .before .before .before .before .before
+      .before .args .numbers .now) (kept (c .before .before .before .before .before) ∙ not-false (c .before .before .before .before .before
+      .is-kept .result) (c .before .before .before .before .if1 .left)));
+  rows = ap (set (c .before .before .before .before .before .before
+      .before .before .before .before .before .args .out .now) (c .before .before .before .before .before .before .before .before .before
+      .before .before .args .next)) (built c) ∙ sym (pick-true (keepsRow (c .before .before .before .before .before .before .before .before
+      .before .before .before .args .w) (c .before .before .before .before .before .before .before .before .before .before .before .args
+      .i) (c .before .before .before .before .before .before .before .before .before .before .before .args .numbers .now)) (set (c .before
+      .before .before .before .before .before .before .before .before .before .before .args .out .now) (c .before .before .before .before
+      .before .before .before .before .before .before .before .args .next) (newWord (c .before .before .before .before .before .before
+      .before .before .before .before .before .args .w) (c .before .before .before .before .before .before .before .before .before .before
+      .before .args .numbers .now))) (c .before .before .before .before .before .before .before .before .before .before .before .args .out
+      .now) (kept (c .before .before .before .before .before) ∙ not-false (c .before .before .before .before .before .is-kept .result) (c
+      .before .before .before .before .if1 .left)));
+  result = sym (pick-true (keepsRow (c .before .before .before .before .before .before
+      .before .before .before .before .before .args .w) (c .before .before .before .before .before .before .before .before .before .before
+      .before .args .i) (c .before .before .before .before .before .before .before .before .before .before .before .args .numbers .now)) (c
+      .before .before .before .before .before .before .before .before .before .before .before .args .next + 1) (c .before .before .before
+      .before .before .before .before .before .before .before .before .args .next) (kept (c .before .before .before .before .before) ∙
+      not-false (c .before .before .before .before .before .is-kept .result) (c .before .before .before .before .if1 .left)));
+}
 
 pub row-spec : {M : Type 1} → statement M
 row-spec =

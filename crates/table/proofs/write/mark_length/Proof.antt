@@ -4,8 +4,6 @@ use mathlib.Core.Path.{_≡_, refl, _∙_, sym, ap}
 use borrow.Author.Needs.{needs}
 use Rattle.table.proofs.write.mark_length.Statement.{statement}
 use Rattle.table.proofs.write.mark_length.Tie as tie
-use Rattle.table.proofs.write.mark_length.Reads as reads
-use Rattle.table.proofs.write.mark_length.Lts as lts
 
 returns : tie.Need-returns
 returns c = λ d. sym (ap length (mark-none d (c .before .args .link) (c .if1 .taken)))

@@ -4,8 +4,6 @@ use native.Mathlib.Omega.{arith}
 use borrow.Author.Needs.{needs}
 use Rattle.table.proofs.write.parent.Statement.{statement}
 use Rattle.table.proofs.write.parent.Tie as tie
-use Rattle.table.proofs.write.parent.Reads as reads
-use Rattle.table.proofs.write.parent.Lts as lts
 
 returns : tie.Need-returns
 returns c = (parent-none (c .before .args .link) (c .if1 .taken), omega arith)

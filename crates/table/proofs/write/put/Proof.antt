@@ -5,8 +5,6 @@ use native.Mathlib.Omega.{arith}
 use borrow.Author.Needs.{needs}
 use Rattle.table.proofs.write.put.Statement.{statement}
 use Rattle.table.proofs.write.put.Tie as tie
-use Rattle.table.proofs.write.put.Reads as reads
-use Rattle.table.proofs.write.put.Lts as lts
 
 slice-write-out : tie.Need-slice-write-out
 slice-write-out c = search needs
@@ -39,7 +37,8 @@ same-length : tie.Need-same-length
 same-length c = search needs
 
 returns : tie.Need-returns
-returns c = put-four (c .args .out .now) (c .args .at) (c .args .kind) (c .args .field) (c .args .number % 256) (c .args .number / 256) (c .pre .0)
+returns c = put-four (c .args .out .now) (c .args .at) (c .args .kind) (c .args .field) (c .args .number % 256) (c .args .number / 256)
+    (c .pre .0)
 
 pub put-spec : {M : Type 1} → statement M
 put-spec =

@@ -9,13 +9,6 @@ use native.Mathlib.Omega.{arith}
 use borrow.Author.Needs.{needs}
 use Rattle.table.proofs.write.row.Statement.{statement}
 use Rattle.table.proofs.write.row.Tie as tie
-use Rattle.table.proofs.write.row.Reads as reads
-use Rattle.table.proofs.write.row.Lts as lts
-use Rattle.table.proofs.words.kind.Reads as kind-reads
-use Rattle.table.proofs.words.link.Reads as link-reads
-use Rattle.table.proofs.words.tag.Reads as tag-reads
-use Rattle.table.proofs.write.parent.Reads as parent-reads
-use Rattle.table.proofs.write.put.Reads as put-reads
 
 link-requires : tie.Need-link-requires
 link-requires c κs = search needs
@@ -39,7 +32,14 @@ same-length : tie.Need-same-length
 same-length c = search needs
 
 returns : tie.Need-returns
-returns c = c .before .before .put .ensures ∙ ap (λ (b : List ℕ). over (c .before .before .before .before .before .before .before .before .before .before .args .at) b (c .before .before .before .before .before .before .before .before .before .before .args .out .now)) (row-bytes (c .before .before .before .before .before .before .before .before .before .before .args .w) 18 (c .before .before .before .before .before .before .tag .result) (c .before .before .before .before .before .before .before .parent .result) (c .before .before .before .before .before .before .tag .ensures) (c .before .before .before .before .before .before .before .parent .ensures .0 ∙ ap (λ (l : ℕ). parentBytes (linked l)) (c .before .before .before .before .before .before .before .before .link .ensures)) ∙ sym (row-leaf (c .before .before .before .before .before .before .before .before .before .before .args .w) (sym (c .before .before .before .before .before .kind .ensures) ∙ c .before .before .before .before .if1 .taken)))
+returns c = c .before .before .put .ensures ∙ ap (λ (b : List ℕ). over (c .before .before .before .before .before .before .before .before
+    .before .before .args .at) b (c .before .before .before .before .before .before .before .before .before .before .args .out .now))
+    (row-bytes (c .before .before .before .before .before .before .before .before .before .before .args .w) 18 (c .before .before .before
+    .before .before .before .tag .result) (c .before .before .before .before .before .before .before .parent .result) (c .before .before
+    .before .before .before .before .tag .ensures) (c .before .before .before .before .before .before .before .parent .ensures .0 ∙ ap (λ
+    (l : ℕ). parentBytes (linked l)) (c .before .before .before .before .before .before .before .before .link .ensures)) ∙ sym (row-leaf
+    (c .before .before .before .before .before .before .before .before .before .before .args .w) (sym (c .before .before .before .before
+    .before .kind .ensures) ∙ c .before .before .before .before .if1 .taken)))
 
 put-requires-2 : tie.Need-put-requires-2
 put-requires-2 c κs = search needs
@@ -48,7 +48,14 @@ same-length-2 : tie.Need-same-length-2
 same-length-2 c = search needs
 
 returns-2 : tie.Need-returns-2
-returns-2 c = c .before .before .put2 .ensures ∙ ap (λ (b : List ℕ). over (c .before .before .before .before .before .before .before .before .before .before .args .at) b (c .before .before .before .before .before .before .before .before .before .before .args .out .now)) (row-bytes (c .before .before .before .before .before .before .before .before .before .before .args .w) 17 (c .before .before .before .before .before .before .tag .result) (c .before .before .before .before .before .before .before .parent .result) (c .before .before .before .before .before .before .tag .ensures) (c .before .before .before .before .before .before .before .parent .ensures .0 ∙ ap (λ (l : ℕ). parentBytes (linked l)) (c .before .before .before .before .before .before .before .before .link .ensures)) ∙ sym (row-element (c .before .before .before .before .before .before .before .before .before .before .args .w) (λ q. c .before .before .before .before .if1 .left (c .before .before .before .before .before .kind .ensures ∙ q))))
+returns-2 c = c .before .before .put2 .ensures ∙ ap (λ (b : List ℕ). over (c .before .before .before .before .before .before .before
+    .before .before .before .args .at) b (c .before .before .before .before .before .before .before .before .before .before .args .out
+    .now)) (row-bytes (c .before .before .before .before .before .before .before .before .before .before .args .w) 17 (c .before .before
+    .before .before .before .before .tag .result) (c .before .before .before .before .before .before .before .parent .result) (c .before
+    .before .before .before .before .before .tag .ensures) (c .before .before .before .before .before .before .before .parent .ensures .0
+    ∙ ap (λ (l : ℕ). parentBytes (linked l)) (c .before .before .before .before .before .before .before .before .link .ensures)) ∙ sym
+    (row-element (c .before .before .before .before .before .before .before .before .before .before .args .w) (λ q. c .before .before
+    .before .before .if1 .left (c .before .before .before .before .before .kind .ensures ∙ q))))
 
 pub row-spec : {M : Type 1} → statement M
 row-spec =

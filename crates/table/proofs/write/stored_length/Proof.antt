@@ -11,12 +11,10 @@ use native.Mathlib.Omega.{arith}
 use borrow.Author.Needs.{needs}
 use Rattle.table.proofs.write.stored_length.Statement.{statement}
 use Rattle.table.proofs.write.stored_length.Tie as tie
-use Rattle.table.proofs.write.stored_length.Reads as reads
-use Rattle.table.proofs.write.stored_length.Lts as lts
-use Rattle.table.proofs.write.mark_length.Reads as mark-length-reads
 
 abbrev Inv-loop : tie.InvT-loop
-Inv-loop count marks n₀ d₀ n d = (d ≤ length marks) × (n ≤ 2048 + 4 * d) × (n ≡ 4 * count + length (marksBytes 0 (map linked (take d marks))))
+Inv-loop count marks n₀ d₀ n d = (d ≤ length marks) × (n ≤ 2048 + 4 * d) × (n ≡ 4 * count + length (marksBytes 0 (map linked (take d
+    marks))))
 
 abbrev μ-loop : tie.MeasureT-loop
 μ-loop count marks n₀ d₀ n d = length marks - d
@@ -37,7 +35,17 @@ mark-length-requires : tie.Need-mark-length-requires Inv-loop μ-loop
 mark-length-requires c κs = search needs
 
 add-n : tie.Need-add-n Inv-loop μ-loop
-add-n c = record { fits = omega (arith, c .before .before .before .loop .inv .1, c .before .before .before .before .before .pre .1, c .mark-length .ensures (c .before .before .before .loop .d), mark-small (c .before .before .before .loop .d) (getD (c .before .before .before .before .before .args .marks .now) (c .before .before .before .loop .d) 0)) }
+add-n c = record {
+  fits = omega (
+    arith,
+    c .before .before .before .loop .inv .1,
+    c .before .before .before .before .before .pre .1,
+    c
+        .mark-length .ensures (c .before .before .before .loop .d),
+    mark-small (c .before .before .before .loop .d) (getD (c .before .before
+        .before .before .before .args .marks .now) (c .before .before .before .loop .d) 0),
+  );
+}
 
 add-d : tie.Need-add-d Inv-loop μ-loop
 add-d c = search needs
@@ -46,10 +54,29 @@ loop-less : tie.Need-loop-less Inv-loop μ-loop
 loop-less c = omega arith
 
 loop-again : tie.Need-loop-again Inv-loop μ-loop
-loop-again c = (omega arith, omega (arith, c .before .before .before .loop .inv .1, c .mark-length .ensures (c .before .before .before .loop .d), mark-small (c .before .before .before .loop .d) (getD (c .before .before .before .before .before .args .marks .now) (c .before .before .before .loop .d) 0)), omega (arith, c .before .before .before .loop .inv .2, length-marks (c .before .before .before .before .before .args .marks .now) (c .before .before .before .loop .d) (c .before .before .loop-test .taken), c .mark-length .ensures (c .before .before .before .loop .d)))
+loop-again c = (
+  omega arith,
+  omega (
+    arith,
+    c .before .before .before .loop .inv .1,
+    c .mark-length .ensures (c .before .before .before
+        .loop .d),
+    mark-small (c .before .before .before .loop .d) (getD (c .before .before .before .before .before .args .marks .now) (c
+        .before .before .before .loop .d) 0),
+  ),
+  omega (
+    arith,
+    c .before .before .before .loop .inv .2,
+    length-marks (c .before .before .before
+        .before .before .args .marks .now) (c .before .before .before .loop .d) (c .before .before .loop-test .taken),
+    c .mark-length
+        .ensures (c .before .before .before .loop .d),
+  ),
+)
 
 returns : tie.Need-returns Inv-loop μ-loop
-returns c = c .before .loop .inv .2 ∙ ap (λ (l : List ℕ). 4 * c .before .before .before .args .count + length (marksBytes 0 (map linked l))) (take-all (c .before .loop .d) (c .before .before .before .args .marks .now) (omega arith))
+returns c = c .before .loop .inv .2 ∙ ap (λ (l : List ℕ). 4 * c .before .before .before .args .count + length (marksBytes 0 (map linked
+    l))) (take-all (c .before .loop .d) (c .before .before .before .args .marks .now) (omega arith))
 
 pub stored-length-spec : {M : Type 1} → statement M
 stored-length-spec =

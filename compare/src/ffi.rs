@@ -1,0 +1,84 @@
+//! The C interface of the library under test, and safe wrappers.
+//!
+//! A slice is passed as a pointer and then a length. Each call answers
+//! number + 256 * which + 65,536 * place: see [`Answer`].
+
+use compare::interface::Answer;
+
+#[link(name = "ffi", kind = "static")]
+extern "C" {
+    fn yegnabit_plan(plan: *const u8, plan_length: usize, out: *mut u8, out_length: usize) -> u64;
+
+    fn yegnabit_sweep(plan: *const u8, plan_length: usize, out: *mut u8, out_length: usize) -> u64;
+
+    fn yegnabit_script(script: *const u8, script_length: usize) -> u64;
+
+    fn yegnabit_write_table(
+        count: u64,
+        rows: *const u32,
+        rows_length: usize,
+        marks: *const u16,
+        marks_length: usize,
+        out: *mut u8,
+        out_length: usize,
+    ) -> u64;
+
+    fn yegnabit_sweep_table(
+        count: u64,
+        rows: *mut u32,
+        rows_length: usize,
+        marks: *mut u16,
+        marks_length: usize,
+    ) -> u64;
+}
+
+// In each wrapper the pointers and lengths come from slices that live through
+// the call, and a slice passed as *mut is borrowed by nobody else.
+
+/// Reads a stored plan and writes it back to the start of `out`.
+pub fn plan(plan: &[u8], out: &mut [u8]) -> Answer {
+    // SAFETY: see above.
+    Answer(unsafe { yegnabit_plan(plan.as_ptr(), plan.len(), out.as_mut_ptr(), out.len()) })
+}
+
+/// Reads a stored plan, sweeps it and writes it to the start of `out`.
+pub fn sweep(plan: &[u8], out: &mut [u8]) -> Answer {
+    // SAFETY: see above.
+    Answer(unsafe { yegnabit_sweep(plan.as_ptr(), plan.len(), out.as_mut_ptr(), out.len()) })
+}
+
+/// Reads a script.
+pub fn script(script: &[u8]) -> Answer {
+    // SAFETY: see above.
+    Answer(unsafe { yegnabit_script(script.as_ptr(), script.len()) })
+}
+
+/// Writes a table handed in as words to the start of `out`.
+pub fn write_table(count: u64, rows: &[u32], marks: &[u16], out: &mut [u8]) -> Answer {
+    // SAFETY: see above.
+    Answer(unsafe {
+        yegnabit_write_table(
+            count,
+            rows.as_ptr(),
+            rows.len(),
+            marks.as_ptr(),
+            marks.len(),
+            out.as_mut_ptr(),
+            out.len(),
+        )
+    })
+}
+
+/// Sweeps a table handed in as words.
+pub fn sweep_table(count: u64, rows: &mut [u32], marks: &mut [u16]) -> Answer {
+    // SAFETY: see above.
+    Answer(unsafe {
+        yegnabit_sweep_table(
+            count,
+            rows.as_mut_ptr(),
+            rows.len(),
+            marks.as_mut_ptr(),
+            marks.len(),
+        )
+    })
+}

@@ -1,0 +1,8 @@
+//! Inputs for comparisons: random and hand-made, sound and damaged.
+
+pub mod damage;
+pub mod edges;
+pub mod plans;
+pub mod random;
+pub mod roads;
+pub mod scripts;

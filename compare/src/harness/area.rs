@@ -1,0 +1,66 @@
+//! Areas to lend, between guards and filled with a pattern, so that each byte
+//! that a call touches is seen.
+
+use super::Difference;
+
+/// Numbers before and after a lent area that nobody may touch.
+const GUARD: usize = 16;
+
+/// A twin area: one half for the library and one for the reference.
+pub struct Twin<T> {
+    library: Vec<T>,
+    reference: Vec<T>,
+}
+
+impl<T: Copy + PartialEq + std::fmt::Debug> Twin<T> {
+    pub const fn new() -> Twin<T> {
+        Twin {
+            library: Vec::new(),
+            reference: Vec::new(),
+        }
+    }
+
+    /// Lends two equal areas with this content to `call`, and compares them
+    /// and their guards afterwards. `guard` fills the guards.
+    pub fn lend<A>(
+        &mut self,
+        content: impl Iterator<Item = T> + Clone,
+        guard: T,
+        call: impl FnOnce(&mut [T], &mut [T]) -> A,
+    ) -> (A, Result<(), Difference>) {
+        for half in [&mut self.library, &mut self.reference] {
+            half.clear();
+            half.extend([guard; GUARD]);
+            half.extend(content.clone());
+            half.extend([guard; GUARD]);
+        }
+        let end = self.library.len() - GUARD;
+        let answer = call(
+            &mut self.library[GUARD..end],
+            &mut self.reference[GUARD..end],
+        );
+        (answer, self.compare())
+    }
+
+    fn compare(&self) -> Result<(), Difference> {
+        if self.library == self.reference {
+            return Ok(());
+        }
+        let mut pairs = self.library.iter().zip(&self.reference);
+        let place = pairs
+            .position(|(library, reference)| library != reference)
+            .expect("the halves differ");
+        Err(format!(
+            "lent area of {} differs at {}: library {:?}, reference {:?}",
+            self.library.len() - 2 * GUARD,
+            place as isize - GUARD as isize,
+            self.library[place],
+            self.reference[place]
+        ))
+    }
+
+    /// What the library left in its half.
+    pub fn library(&self) -> &[T] {
+        &self.library[GUARD..self.library.len() - GUARD]
+    }
+}

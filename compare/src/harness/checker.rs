@@ -1,0 +1,217 @@
+//! One comparison for each call: the answers, every lent area, and the laws.
+
+use compare::interface::{self, Answer};
+use compare::raw::RawTable;
+use compare::reference::limits::PLAN_BYTES;
+
+use super::area::Twin;
+use super::tally::{Call, Tally};
+use super::Difference;
+use crate::ffi;
+
+/// Bytes of an input that a message shows.
+const SHOWN: usize = 96;
+const GUARD_BYTE: u8 = 0xA5;
+const GUARD_WORD: u32 = 0xA5A5_A5A5;
+const GUARD_MARK: u16 = 0xA5A5;
+
+type PlanCall = fn(&[u8], &mut [u8]) -> Answer;
+
+pub struct Checker {
+    pub tally: Tally,
+    out: Twin<u8>,
+    rows: Twin<u32>,
+    marks: Twin<u16>,
+    /// Fills areas; several lengths of patterns can be cut from it.
+    pattern: Vec<u8>,
+    /// Changes with each call, so that the patterns do.
+    salt: usize,
+}
+
+impl Checker {
+    pub fn new() -> Checker {
+        Checker {
+            tally: Tally::default(),
+            out: Twin::new(),
+            rows: Twin::new(),
+            marks: Twin::new(),
+            pattern: (0..2 * PLAN_BYTES + 256)
+                .map(|index| (index * 151 + index / 251 + 1) as u8)
+                .collect(),
+            salt: 0,
+        }
+    }
+
+    /// Compares `yegnabit_plan` and `yegnabit_sweep` in an area that suffices.
+    pub fn plan(&mut self, plan: &[u8]) -> Result<(), Difference> {
+        self.plan_in(plan, PLAN_BYTES)
+    }
+
+    /// Compares both in an area of any length.
+    pub fn plan_in(&mut self, plan: &[u8], out_length: usize) -> Result<(), Difference> {
+        let answer = self.stored(Call::Plan, plan, out_length)?;
+        if answer.number() == 0 {
+            let written = &self.out.library()[..answer.place() as usize];
+            if written != plan {
+                let message = "law broken: an accepted plan is written back otherwise";
+                return Err(told(Call::Plan, plan, message));
+            }
+        }
+        let answer = self.stored(Call::Sweep, plan, out_length)?;
+        if answer.number() == 0 {
+            let once = self.out.library()[..answer.place() as usize].to_vec();
+            let again = self.stored(Call::Sweep, &once, out_length)?;
+            let twice = &self.out.library()[..again.place() as usize];
+            if again.number() != 0 || twice != once {
+                let message = "law broken: a second sweep changes something";
+                return Err(told(Call::Sweep, plan, message));
+            }
+        }
+        Ok(())
+    }
+
+    /// Compares a call that takes a stored plan and answers one.
+    fn stored(&mut self, call: Call, plan: &[u8], out_length: usize) -> Result<Answer, Difference> {
+        let (library, reference): (PlanCall, PlanCall) = match call {
+            Call::Plan => (ffi::plan, interface::plan),
+            _ => (ffi::sweep, interface::sweep),
+        };
+        let pattern = pattern(&self.pattern, &mut self.salt, out_length);
+        let (answers, areas) = self.out.lend(pattern, GUARD_BYTE, |ours, theirs| {
+            (library(plan, ours), reference(plan, theirs))
+        });
+        compare(answers)
+            .and(areas)
+            .map_err(|message| told(call, plan, &message))?;
+        self.tally.count(call, answers.1);
+        Ok(answers.1)
+    }
+
+    /// Compares `yegnabit_script`.
+    pub fn script(&mut self, script: &[u8]) -> Result<(), Difference> {
+        let answers = (ffi::script(script), interface::script(script));
+        compare(answers).map_err(|message| told(Call::Script, script, &message))?;
+        self.tally.count(Call::Script, answers.1);
+        Ok(())
+    }
+
+    /// Compares `yegnabit_write_table` and `yegnabit_sweep_table`.
+    pub fn table(&mut self, raw: &RawTable) -> Result<(), Difference> {
+        self.write_table(raw, PLAN_BYTES)?;
+        self.sweep_table(raw)
+    }
+
+    /// Compares `yegnabit_write_table` in an area of any length.
+    pub fn write_table(&mut self, raw: &RawTable, out_length: usize) -> Result<(), Difference> {
+        let call = Call::WriteTable;
+        let pattern = pattern(&self.pattern, &mut self.salt, out_length);
+        let (answers, areas) = self.out.lend(pattern, GUARD_BYTE, |ours, theirs| {
+            (
+                ffi::write_table(raw.count, &raw.rows, &raw.marks, ours),
+                interface::write_table(raw.count, &raw.rows, &raw.marks, theirs),
+            )
+        });
+        compare(answers)
+            .and(areas)
+            .map_err(|message| told_table(call, raw, &message))?;
+        self.tally.count(call, answers.1);
+        if answers.1.number() == 0 {
+            // The reader must accept what the writer wrote.
+            let written = self.out.library()[..answers.1.place() as usize].to_vec();
+            let read = self.stored(Call::Plan, &written, PLAN_BYTES)?;
+            if read.number() != 0 {
+                let message = "law broken: the reader refuses what was written";
+                return Err(told_table(call, raw, message));
+            }
+        }
+        Ok(())
+    }
+
+    /// Compares `yegnabit_sweep_table`.
+    pub fn sweep_table(&mut self, raw: &RawTable) -> Result<(), Difference> {
+        let call = Call::SweepTable;
+        let swept = self.swept(raw)?;
+        let Some(once) = swept else { return Ok(()) };
+        if self.swept(&once)?.as_ref() != Some(&once) {
+            let message = "law broken: a second sweep changes something";
+            return Err(told_table(call, raw, message));
+        }
+        Ok(())
+    }
+
+    /// What the library leaves of a table, unless it is refused.
+    fn swept(&mut self, raw: &RawTable) -> Result<Option<RawTable>, Difference> {
+        let call = Call::SweepTable;
+        let (rows, marks) = (raw.rows.iter().copied(), raw.marks.iter().copied());
+        let ((answers, mark_areas), row_areas) =
+            self.rows.lend(rows, GUARD_WORD, |our_rows, their_rows| {
+                self.marks
+                    .lend(marks, GUARD_MARK, |our_marks, their_marks| {
+                        (
+                            ffi::sweep_table(raw.count, our_rows, our_marks),
+                            interface::sweep_table(raw.count, their_rows, their_marks),
+                        )
+                    })
+            });
+        compare(answers)
+            .and(row_areas)
+            .and(mark_areas)
+            .map_err(|message| told_table(call, raw, &message))?;
+        self.tally.count(call, answers.1);
+        Ok((answers.1.number() == 0).then(|| RawTable {
+            count: answers.1.place(),
+            rows: self.rows.library().to_vec(),
+            marks: self.marks.library().to_vec(),
+        }))
+    }
+}
+
+/// A part of the pattern, another one for each call.
+fn pattern<'a>(
+    bytes: &'a [u8],
+    salt: &mut usize,
+    length: usize,
+) -> std::iter::Copied<std::slice::Iter<'a, u8>> {
+    *salt = (*salt + 1) % 251;
+    bytes[*salt..*salt + length].iter().copied()
+}
+
+fn compare((library, reference): (Answer, Answer)) -> Result<(), Difference> {
+    if library == reference {
+        return Ok(());
+    }
+    Err(format!("library {library:?}; reference {reference:?}"))
+}
+
+/// A message with the input in base 16.
+fn told(call: Call, input: &[u8], message: &str) -> Difference {
+    let shown: Vec<String> = input
+        .iter()
+        .take(SHOWN)
+        .map(|byte| format!("{byte:02X}"))
+        .collect();
+    let more = if input.len() > SHOWN { " .." } else { "" };
+    format!(
+        "{}: {message}\ninput of {} bytes: {}{more}",
+        call.name(),
+        input.len(),
+        shown.join(" ")
+    )
+}
+
+fn told_table(call: Call, raw: &RawTable, message: &str) -> Difference {
+    let rows: Vec<String> = raw
+        .rows
+        .iter()
+        .take(SHOWN)
+        .map(|word| format!("{word:X}"))
+        .collect();
+    format!(
+        "{}: {message}\ncount {}, {} rows: {} .., marks {:?}",
+        call.name(),
+        raw.count,
+        raw.rows.len(),
+        rows.join(" "),
+        raw.marks
+    )
+}

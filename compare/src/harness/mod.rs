@@ -1,0 +1,65 @@
+//! Comparisons of the library with the reference.
+
+mod area;
+mod checker;
+mod plans;
+mod scripts;
+mod tables;
+mod tally;
+
+use std::fmt::Write;
+
+use checker::Checker;
+use tally::Call;
+
+/// A message about the first difference.
+pub type Difference = String;
+
+/// The environment variable that scales the number of random inputs.
+const VOLUME_VARIABLE: &str = "YEGNABIT_VOLUME";
+
+/// How many random inputs there are, 1 being the usual.
+#[derive(Clone, Copy)]
+pub struct Volume(f64);
+
+impl Volume {
+    fn from_environment() -> Result<Volume, Difference> {
+        let Ok(text) = std::env::var(VOLUME_VARIABLE) else {
+            return Ok(Volume(1.0));
+        };
+        match text.parse() {
+            Ok(volume) if volume > 0.0 => Ok(Volume(volume)),
+            _ => Err(format!(
+                "{VOLUME_VARIABLE} is not a positive number: {text}"
+            )),
+        }
+    }
+
+    /// A usual number of inputs, scaled, at least 1.
+    pub fn of(self, usual: usize) -> usize {
+        ((usual as f64 * self.0) as usize).max(1)
+    }
+}
+
+/// Runs all comparisons and answers a summary, or the first difference.
+pub fn test() -> Result<String, Difference> {
+    let volume = Volume::from_environment()?;
+    let mut checker = Checker::new();
+    let mut summary = String::new();
+    for (name, part) in [
+        ("plans", plans::test as fn(&mut Checker, Volume) -> _),
+        ("scripts", scripts::test),
+        ("tables", tables::test),
+    ] {
+        let start = std::time::Instant::now();
+        part(&mut checker, volume)?;
+        let seconds = start.elapsed().as_secs_f64();
+        writeln!(summary, "{name}: {seconds:.1} s").expect("a string takes all");
+    }
+    checker.tally.require_coverage()?;
+    for call in Call::ALL {
+        writeln!(summary, "{}", checker.tally.line(call)).expect("a string takes all");
+    }
+    summary.push_str("no difference\n");
+    Ok(summary)
+}

@@ -1,0 +1,114 @@
+//! The reference behind the same calls as the C interface of the library.
+
+use crate::raw;
+use crate::reference::limits::{DOCUMENTS, PLAN_BYTES, ROWS};
+use crate::reference::refusal::{Number, Refusal};
+use crate::reference::{plan as stored, script as scripts, sweep as sweeping};
+
+/// Which input a refusal is about.
+pub const WHICH_NONE: u64 = 0;
+pub const WHICH_PLAN: u64 = 1;
+pub const WHICH_SCRIPT: u64 = 2;
+
+const WHICH_UNIT: u64 = 256;
+const PLACE_UNIT: u64 = 65_536;
+
+/// What a call answers: number + 256 * which + 65,536 * place. Number 0 means
+/// not refused.
+#[derive(Clone, Copy, PartialEq, Eq)]
+pub struct Answer(pub u64);
+
+impl Answer {
+    pub fn accepted(place: usize) -> Answer {
+        Answer(PLACE_UNIT * place as u64)
+    }
+
+    pub fn refused(which: u64, refusal: Refusal) -> Answer {
+        let number = u64::from(refusal.number.value());
+        Answer(number + WHICH_UNIT * which + PLACE_UNIT * refusal.place as u64)
+    }
+
+    pub const fn number(self) -> u64 {
+        self.0 % WHICH_UNIT
+    }
+
+    pub const fn which(self) -> u64 {
+        self.0 / WHICH_UNIT % (PLACE_UNIT / WHICH_UNIT)
+    }
+
+    pub const fn place(self) -> u64 {
+        self.0 / PLACE_UNIT
+    }
+}
+
+impl std::fmt::Debug for Answer {
+    fn fmt(&self, formatter: &mut std::fmt::Formatter<'_>) -> std::fmt::Result {
+        let (number, which, place) = (self.number(), self.which(), self.place());
+        write!(formatter, "number {number}, which {which}, place {place}")
+    }
+}
+
+fn lent() -> Answer {
+    Answer::refused(WHICH_NONE, Number::Lent.at(0))
+}
+
+/// Reads a stored plan and writes it back.
+pub fn plan(plan: &[u8], out: &mut [u8]) -> Answer {
+    if out.len() < PLAN_BYTES {
+        return lent();
+    }
+    match stored::read(plan).and_then(|table| stored::encode(&table, out)) {
+        Ok(length) => Answer::accepted(length),
+        Err(refusal) => Answer::refused(WHICH_PLAN, refusal),
+    }
+}
+
+/// Reads a stored plan, sweeps it and writes it back.
+pub fn sweep(plan: &[u8], out: &mut [u8]) -> Answer {
+    if out.len() < PLAN_BYTES {
+        return lent();
+    }
+    let swept = stored::read(plan).and_then(|mut table| {
+        sweeping::sweep_well_formed(&mut table);
+        stored::encode(&table, out)
+    });
+    match swept {
+        Ok(length) => Answer::accepted(length),
+        Err(refusal) => Answer::refused(WHICH_PLAN, refusal),
+    }
+}
+
+/// Reads a script.
+pub fn script(script: &[u8]) -> Answer {
+    match scripts::read(script) {
+        Ok(_) => Answer::accepted(0),
+        Err(refusal) => Answer::refused(WHICH_SCRIPT, refusal),
+    }
+}
+
+/// Writes a table handed in as words.
+pub fn write_table(count: u64, rows: &[u32], marks: &[u16], out: &mut [u8]) -> Answer {
+    if rows.len() != ROWS || marks.len() != DOCUMENTS {
+        return lent();
+    }
+    let Some(table) = raw::decode(count, rows, marks) else {
+        return Answer::refused(WHICH_PLAN, Number::Link.at(0));
+    };
+    match stored::encode(&table, out) {
+        Ok(length) => Answer::accepted(length),
+        Err(refusal) => Answer::refused(WHICH_NONE, refusal),
+    }
+}
+
+/// Sweeps a table handed in as words.
+pub fn sweep_table(count: u64, rows: &mut [u32], marks: &mut [u16]) -> Answer {
+    if rows.len() != ROWS || marks.len() != DOCUMENTS {
+        return lent();
+    }
+    let Some(mut table) = raw::decode(count, rows, marks) else {
+        return Answer::refused(WHICH_PLAN, Number::Link.at(0));
+    };
+    sweeping::sweep_well_formed(&mut table);
+    raw::encode(&table, rows, marks);
+    Answer::accepted(table.rows.len())
+}

@@ -1,0 +1,73 @@
+//! The path analysis of two scripts.
+
+use super::meeting::{meet, shortest_chain};
+use super::path::{infer, Inferred, Paths, Which};
+use super::refusal::Refusal;
+use super::script::{self, Script};
+
+#[derive(Clone, Copy, Debug, PartialEq, Eq)]
+pub enum Answer {
+    Free,
+    Upward,
+    Meet,
+}
+
+impl Answer {
+    pub const fn word(self) -> &'static str {
+        match self {
+            Answer::Free => "free",
+            Answer::Upward => "upward",
+            Answer::Meet => "meet",
+        }
+    }
+}
+
+/// Reads the first script, then the second, and analyses them.
+pub fn analyse(first: &[u8], second: &[u8]) -> Result<Answer, (Which, Refusal)> {
+    let first = script::read(first).map_err(|refusal| (Which::First, refusal))?;
+    let second = script::read(second).map_err(|refusal| (Which::Second, refusal))?;
+    Ok(analyse_read(&first, &second))
+}
+
+/// Analyses two scripts that were read.
+pub fn analyse_read(first: &Script, second: &Script) -> Answer {
+    if first.has_upward_step() || second.has_upward_step() {
+        return Answer::Upward;
+    }
+    let first = infer(first, Which::First);
+    let second = infer(second, Which::Second);
+    let meets = conflicts(&first, &second)
+        .iter()
+        .any(|(modified, traversed)| {
+            modified
+                .iter()
+                .any(|left| traversed.iter().any(|right| meet(left, right)))
+        });
+    if meets {
+        Answer::Meet
+    } else {
+        Answer::Free
+    }
+}
+
+/// What one script modifies and the other traverses, both ways.
+pub fn conflicts<'a>(first: &'a Inferred, second: &'a Inferred) -> [(&'a Paths, Paths); 2] {
+    [
+        (&first.modified, second.traversed()),
+        (&second.modified, first.traversed()),
+    ]
+}
+
+/// The rows of the smallest plan that shows a meeting, if there is one.
+pub fn smallest_meeting(first: &Inferred, second: &Inferred) -> Option<usize> {
+    conflicts(first, second)
+        .iter()
+        .flat_map(|(modified, traversed)| {
+            modified.iter().flat_map(|left| {
+                traversed
+                    .iter()
+                    .filter_map(|right| shortest_chain(left, right))
+            })
+        })
+        .min()
+}

@@ -1,0 +1,63 @@
+//! Tests of the reference. Expected values come from document 01 by hand.
+
+mod lent;
+mod paths;
+mod properties;
+mod readers;
+mod undoing;
+mod worked;
+
+use super::refusal::Refusal;
+use super::run::{run, OwnedAreas, Ran};
+use super::table::Table;
+use super::{history, plan};
+
+const PLAN_P: [u8; 20] = [
+    0x11, 0x01, 0xFF, 0xFF, 0x11, 0x02, 0x00, 0x00, 0x12, 0xFE, 0x01, 0x00, 0x11, 0x03, 0x00, 0x00,
+    0x13, 0x00, 0x00, 0x00,
+];
+const SCRIPT_A: [u8; 13] = [
+    0x0D, 0x01, 0x00, 0x04, 0x00, 0x02, 0x00, 0x04, 0x00, 0x03, 0x02, 0x02, 0x00,
+];
+const SCRIPT_B: [u8; 9] = [0x0C, 0x09, 0x04, 0x04, 0x00, 0x03, 0x03, 0x02, 0x00];
+/// The children named 2 of document 0's root.
+const CHILDREN_NAMED_2: [u8; 6] = [0x04, 0x00, 0x03, 0x02, 0x02, 0x00];
+/// The children named 3 of document 0's root.
+const CHILDREN_NAMED_3: [u8; 6] = [0x04, 0x00, 0x03, 0x03, 0x02, 0x00];
+
+/// What a run left.
+#[derive(Debug)]
+struct Left {
+    table: Table,
+    answer: Vec<u16>,
+    history: Vec<u8>,
+    ran: Ran,
+}
+
+impl Left {
+    fn records(&self) -> Vec<history::Record> {
+        let records = history::read(&self.history).expect("the form is right");
+        records.into_iter().map(|(_, record)| record).collect()
+    }
+}
+
+/// Runs a script on a table in areas of the stated lengths.
+fn run_on(table: &Table, script: &[u8]) -> Result<Left, Refusal> {
+    let mut areas = OwnedAreas::default();
+    let mut table = table.clone();
+    let ran = run(&mut table, script, areas.lend())?;
+    Ok(Left {
+        table,
+        answer: areas.answer[..ran.items].to_vec(),
+        history: areas.history[..ran.history_length].to_vec(),
+        ran,
+    })
+}
+
+fn table_p() -> Table {
+    plan::read(&PLAN_P).expect("P is a plan")
+}
+
+fn run_on_p(script: &[u8]) -> Result<Left, Refusal> {
+    run_on(&table_p(), script)
+}

@@ -1,0 +1,257 @@
+//! The cases of 'Worked on plan P', and the program `pair`.
+
+use super::*;
+use crate::reference::analysis::{analyse, Answer};
+use crate::reference::evaluate::Tally;
+use crate::reference::history::Record;
+use crate::reference::pair::pair;
+use crate::reference::refusal::Number;
+use crate::reference::script;
+use crate::reference::table::Row;
+
+/// A delete of the children named 2.
+fn delete_children_named_2() -> Vec<u8> {
+    [&[0x0B][..], &CHILDREN_NAMED_2].concat()
+}
+
+#[test]
+fn plan_p_is_read() {
+    let table = table_p();
+    let rows = [
+        Row::element(1, None),
+        Row::element(2, Some(0)),
+        Row::leaf(-2, Some(1)),
+        Row::element(3, Some(0)),
+    ];
+    assert_eq!(table.rows, rows);
+    assert_eq!(table.marks[0], Some(0));
+    assert!(table.marks[1..].iter().all(Option::is_none));
+}
+
+#[test]
+fn a_answers_row_2() {
+    let left = run_on_p(&SCRIPT_A).unwrap();
+    assert_eq!(left.answer, [2]);
+    assert_eq!(left.table, table_p());
+    assert_eq!(left.ran.tally, Tally::default());
+}
+
+#[test]
+fn the_twin_of_a_answers_nothing() {
+    let mut twin = SCRIPT_A;
+    twin[1] = 2;
+    assert_eq!(run_on_p(&twin).unwrap().answer, []);
+}
+
+#[test]
+fn b_makes_two_rows() {
+    let left = run_on_p(&SCRIPT_B).unwrap();
+    assert_eq!(left.answer, []);
+    let new_rows = [Row::element(4, None), Row::element(4, Some(3))];
+    assert_eq!(left.table.rows[4..], new_rows);
+    let history = [
+        0x41, 0x04, 0x00, 0x04, 0xFF, 0xFF, 0x41, 0x05, 0x00, 0x04, 0x03, 0x00,
+    ];
+    assert_eq!(left.history, history);
+    let tally = Tally {
+        rows_made: 2,
+        links_cut: 0,
+        records_written: 2,
+    };
+    assert_eq!(left.ran.tally, tally);
+}
+
+#[test]
+fn delete_of_children_meets_a() {
+    let delete = delete_children_named_2();
+    assert_eq!(analyse(&delete, &SCRIPT_A), Ok(Answer::Meet));
+    assert_eq!(analyse(&SCRIPT_A, &delete), Ok(Answer::Meet));
+}
+
+#[test]
+fn delete_of_children_meets_a_read_of_descendant_leaves() {
+    let leaves = [0x04, 0x01, 0x02, 0x00, 0x02, 0x00];
+    assert_eq!(
+        analyse(&delete_children_named_2(), &leaves),
+        Ok(Answer::Meet)
+    );
+}
+
+#[test]
+fn b_is_free_of_b() {
+    assert_eq!(analyse(&SCRIPT_B, &SCRIPT_B), Ok(Answer::Free));
+}
+
+#[test]
+fn a_is_free_of_b() {
+    assert_eq!(analyse(&SCRIPT_A, &SCRIPT_B), Ok(Answer::Free));
+}
+
+#[test]
+fn an_upward_step_is_upward_even_where_it_never_runs() {
+    let never = [0x08, 0x01, 0x04, 0x02, 0x00, 0x00, 0x01, 0x01];
+    assert_eq!(analyse(&never, &[0x01]), Ok(Answer::Upward));
+    assert_eq!(analyse(&[0x01], &never), Ok(Answer::Upward));
+}
+
+#[test]
+fn what_is_bound_stays_bound_after_a_delete() {
+    for axis in [0, 1] {
+        let body = [0x05, 0x0B, 0x03, 0x00, 0x04, axis, 0x02, 0x00, 0x03, 0x00];
+        let script = [&[0x06][..], &CHILDREN_NAMED_2, &body].concat();
+        let left = run_on_p(&script).unwrap();
+        assert_eq!(left.answer, [2]);
+        let cut = Record::Cut {
+            number: 1,
+            old: Some(0),
+        };
+        assert_eq!(left.records(), [cut]);
+    }
+}
+
+#[test]
+fn delete_of_the_root_writes_no_record() {
+    let left = run_on_p(&[0x0B, 0x02, 0x00]).unwrap();
+    assert_eq!(left.history, []);
+    assert_eq!(left.ran.tally, Tally::default());
+    assert_eq!(left.table, table_p());
+}
+
+#[test]
+fn insert_of_row_1_twice() {
+    let script = [
+        &[0x0C, 0x05][..],
+        &CHILDREN_NAMED_2,
+        &CHILDREN_NAMED_2,
+        &CHILDREN_NAMED_3,
+    ]
+    .concat();
+    let left = run_on_p(&script).unwrap();
+    let new_rows = [
+        Row::element(2, Some(3)),
+        Row::leaf(-2, Some(4)),
+        Row::element(2, Some(3)),
+        Row::leaf(-2, Some(6)),
+    ];
+    assert_eq!(left.table.rows[4..], new_rows);
+    assert_eq!(left.answer, []);
+}
+
+#[test]
+fn the_empty_script_and_the_empty_plan() {
+    assert_eq!(script::read(&[]), Err(Number::Short.at(0)));
+    assert_eq!(plan::read(&[]), Ok(Table::default()));
+}
+
+#[test]
+fn a_full_table() {
+    let mut table = Table {
+        rows: vec![Row::element(1, None); 512],
+        ..Table::default()
+    };
+    table.marks[0] = Some(0);
+    assert!(run_on(&table, &[0x0C, 0x01, 0x02, 0x00]).is_ok());
+    assert_eq!(
+        run_on(&table, &[0x09, 0x01]).unwrap_err(),
+        Number::Table.at(0)
+    );
+    // One row fewer leaves place for one.
+    table.rows.pop();
+    assert!(run_on(&table, &[0x09, 0x01]).is_ok());
+    assert_eq!(
+        run_on(&table, &[0x05, 0x09, 0x01, 0x09, 0x01]).unwrap_err(),
+        Number::Table.at(3)
+    );
+}
+
+/// Joins, balanced, with `ends` empty values: 2 * ends - 1 records.
+fn joins(ends: usize) -> Vec<u8> {
+    if ends == 1 {
+        return vec![0x01];
+    }
+    [vec![0x05], joins(ends / 2), joins(ends - ends / 2)].concat()
+}
+
+#[test]
+fn sixty_four_records_pass() {
+    let records_64 = [vec![0x0B], joins(32)].concat();
+    assert_eq!(records_64.len(), 64);
+    assert!(script::read(&records_64).is_ok());
+    let records_65 = joins(33);
+    assert_eq!(records_65.len(), 65);
+    assert_eq!(script::read(&records_65), Err(Number::Size.at(64)));
+}
+
+#[test]
+fn depth_sixteen_passes() {
+    let nested = |deletes: usize| [vec![0x0B; deletes], vec![0x01]].concat();
+    assert!(script::read(&nested(15)).is_ok());
+    assert_eq!(script::read(&nested(16)), Err(Number::Size.at(16)));
+}
+
+fn pair_prints(plan: &[u8], first: &[u8], second: &[u8], expected: &str) {
+    let output = String::from_utf8(pair(plan, first, second)).unwrap();
+    assert_eq!(output, expected);
+}
+
+#[test]
+fn pair_on_p_a_and_b() {
+    pair_prints(
+        &PLAN_P,
+        &SCRIPT_A,
+        &SCRIPT_B,
+        "answer free\none-two 1 0 6\ntwo-one 1 0 6\n",
+    );
+}
+
+#[test]
+fn pair_tells_the_first_file_refused() {
+    pair_prints(&PLAN_P, &[], &[], "file first 2 0\n");
+    pair_prints(&PLAN_P, &SCRIPT_A, &[0x01, 0x01], "file second 3 1\n");
+    pair_prints(&PLAN_P[..19], &[], &[], "file plan 2 16\n");
+    pair_prints(
+        &[0x11, 1, 0xFF, 0xFF].repeat(2000),
+        &[],
+        &[],
+        "file plan 5 2048\n",
+    );
+    pair_prints(&PLAN_P, &[0x01; 5000], &[], "file first 3 1\n");
+}
+
+#[test]
+fn pair_runs_both_orders_after_any_answer() {
+    let delete = delete_children_named_2();
+    pair_prints(
+        &PLAN_P,
+        &SCRIPT_A,
+        &delete,
+        "answer meet\none-two 1 0 4\ntwo-one 0 0 4\n",
+    );
+    // The parent of document 0's root: nothing.
+    let parent = [0x04, 0x02, 0x00, 0x00, 0x02, 0x00];
+    pair_prints(
+        &PLAN_P,
+        &parent,
+        &SCRIPT_A,
+        "answer upward\none-two 0 1 4\ntwo-one 0 1 4\n",
+    );
+}
+
+#[test]
+fn pair_tells_which_run_is_refused() {
+    // An insert into nothing: the second file's script in either order.
+    pair_prints(
+        &PLAN_P,
+        &SCRIPT_A,
+        &[0x0C, 0x01, 0x01],
+        "answer free\none-two refused 2 7\ntwo-one refused 2 7\n",
+    );
+    // B's target is gone once its road is deleted.
+    let delete = [&[0x0B][..], &CHILDREN_NAMED_3].concat();
+    pair_prints(
+        &PLAN_P,
+        &delete,
+        &SCRIPT_B,
+        "answer meet\none-two refused 2 7\ntwo-one 0 0 6\n",
+    );
+}

@@ -1,0 +1,83 @@
+-- The calls on a table given as raw words, by their ways out.
+use mathlib.Core.Path.{_≡_, refl, ap, sym, _∙_}
+use mathlib.Core.Bool.{Bool, true, false}
+use mathlib.Core.List.{List}
+use Prim.Native.Nat.{ℕ}
+use lib.Dec.{eqb}
+use lib.ListN.{length}
+use borrow.Author.Tests.{eq-eqb, ne-eqb}
+use Rattle.table.specs.Calls as library
+use Rattle.table.specs.declared.Table.{Table}
+use Rattle.table.specs.declared.TableResult.{TableResult}
+use Rattle.table.specs.declared.Written.{Written}
+use Rattle.ffi.specs.Calls.{codeOf, shortCode, writtenCode, isGiven, given, writeCode, writeOut, sweptTable, sweptCode, sweptRows, sweptMarks}
+
+pub rows-not-given : (ws ms : List ℕ) → (length ws ≡ 512 → ⊥) → isGiven ws ms ≡ false
+rows-not-given ws ms z = rw (ne-eqb (length ws) 512 z)
+
+pub marks-not-given : (ws ms : List ℕ) → length ws ≡ 512 → (length ms ≡ 8 → ⊥) → isGiven ws ms ≡ false
+marks-not-given ws ms e z = rw (eq-eqb (length ws) 512 e, ne-eqb (length ms) 8 z)
+
+pub is-given : (ws ms : List ℕ) → length ws ≡ 512 → length ms ≡ 8 → isGiven ws ms ≡ true
+is-given ws ms e f = rw (eq-eqb (length ws) 512 e, eq-eqb (length ms) 8 f)
+
+-- the table made of the copies is the table given
+pub given-by : (n : ℕ) (ws ms vs us : List ℕ) → vs ≡ ws → us ≡ ms → given n vs us ≡ given n ws ms
+given-by n ws ms vs us e f = ap (λ (v : List ℕ). given n v us) e ∙ ap (given n ws) f
+
+module _ (n : ℕ) (ws ms : List ℕ) where
+  module _ (o : List ℕ) where
+    pub write-not : (c : ℕ) → c ≡ shortCode → isGiven ws ms ≡ false → (c ≡ writeCode n ws ms o) × (o ≡ writeOut n ws ms o)
+    write-not c e z = (e ∙ rw z, rw z)
+
+    module _ (t : Table) (same : t ≡ given n ws ms) (w : Written) (o′ : List ℕ) (h : isGiven ws ms ≡ true)
+        (written : w ≡ library.planWritten t o) (left : o′ ≡ library.planOut t o) where
+      as-given : w ≡ library.planWritten (given n ws ms) o
+      as-given = written ∙ ap (λ (u : Table). library.planWritten u o) same
+
+      out-given : o′ ≡ writeOut n ws ms o
+      out-given = left ∙ ap (λ (u : Table). library.planOut u o) same ∙ rw h
+
+      pub write-link : (c : ℕ) → c ≡ codeOf (w .fault .number) 1 0 → w .fault .number ≡ 6 → (c ≡ writeCode n ws ms o) × (o′ ≡ writeOut n
+          ws ms o)
+      write-link c e z =
+          let k : library.planWritten (given n ws ms) o .fault .number ≡ 6 = sym (ap (λ (v : Written). v .fault .number) as-given) ∙ z in
+          (e ∙ ap (λ (j : ℕ). codeOf j 1 0) z ∙ rw (h, k), out-given)
+
+      pub write-rest : (c : ℕ) → c ≡ writtenCode w → (w .fault .number ≡ 6 → ⊥) → (c ≡ writeCode n ws ms o) × (o′ ≡ writeOut n ws ms o)
+      write-rest c e z =
+          let k : library.planWritten (given n ws ms) o .fault .number ≡ 6 → ⊥ = λ q. z (ap (λ (v : Written). v .fault .number) as-given
+          ∙ q) in
+          (e ∙ ap writtenCode as-given ∙ rw (h, ne-eqb (library.planWritten (given n ws ms) o .fault .number) 6 k), out-given)
+
+  -- sweeping in place
+  abbrev Left : (code : ℕ) → (rows marks : List ℕ) → Type 0
+  Left c vs us = (c ≡ sweptCode n ws ms) × ((vs ≡ sweptRows n ws ms) × (us ≡ sweptMarks n ws ms))
+
+  pub sweep-not : (c : ℕ) → c ≡ shortCode → isGiven ws ms ≡ false → Left c ws ms
+  sweep-not c e z = (e ∙ rw z, (rw z, rw z))
+
+  module _ (t : Table) (same : t ≡ given n ws ms) (r : TableResult) (h : isGiven ws ms ≡ true) (swept : r ≡ library.planSwept t) where
+    result : r ≡ sweptTable n ws ms
+    result = swept ∙ ap library.planSwept same
+
+    pub sweep-refused : (c : ℕ) → c ≡ codeOf (r .fault .number) 1 0 → (r .fault .number ≡ 0 → ⊥) → Left c ws ms
+    sweep-refused c e z =
+        let k : sweptTable n ws ms .fault .number ≡ 0 → ⊥ = λ q. z (ap (λ (v : TableResult). v .fault .number) result ∙ q) in
+        let f : eqb (sweptTable n ws ms .fault .number) 0 ≡ false = ne-eqb (sweptTable n ws ms .fault .number) 0 k in
+        (e ∙ ap (λ (v : TableResult). codeOf (v .fault .number) 1 0) result ∙ rw (h, f), (rw (h, f), rw (h, f)))
+
+    pub sweep-done : (c : ℕ) (vs us : List ℕ) → c ≡ codeOf 0 0 (r .table .count) → vs ≡ r .table .rows → us ≡ r .table .marks →
+        r .fault .number ≡ 0 → Left c vs us
+    sweep-done c vs us e p q z =
+        let k : eqb (sweptTable n ws ms .fault .number) 0 ≡ true =
+        eq-eqb (sweptTable n ws ms .fault .number) 0 (sym (ap (λ (v : TableResult). v .fault .number) result) ∙ z) in (
+          e ∙ ap (λ (v : TableResult). codeOf 0 0 (v .table .count)) result ∙ rw (h, k),
+          (
+            p ∙ ap (λ (v : TableResult). v .table .rows) result ∙ rw (h, k),
+            q ∙ ap (λ (v : TableResult). v .table .marks) result ∙ rw (
+              h,
+              k,
+            ),
+          ),
+        )

@@ -1,0 +1,76 @@
+use Rattle.ffi.proofs.CallLaws.{area-short, plan-refused, plan-done}
+use Rattle.ffi.specs.Calls.{codeOf, writtenCode}
+use Rattle.table.specs.declared.Written.{Written}
+use Rattle.table.specs.declared.TableResult.{TableResult}
+use Rattle.table.specs.declared.Table.{Table}
+use Rattle.table.specs.Calls as library
+use lib.ListN.{length}
+use Prim.Native.Nat.{ℕ, _≤_}
+use mathlib.Core.List.{List}
+use mathlib.Core.Path.{_≡_, refl, _∙_, sym, ap}
+use native.Mathlib.Omega.{arith}
+use borrow.Author.Needs.{needs}
+use Rattle.ffi.proofs.yegnabit_plan.Statement.{statement}
+use Rattle.ffi.proofs.yegnabit_plan.Tie as tie
+
+code-requires : tie.Need-code-requires
+code-requires c κs = search needs
+
+returns : tie.Need-returns
+returns c = area-short (c .before .before .before .before .args .out .now) (library.planOut (library.planRead (c .before .before .before
+    .before .args .plan .now) .table) (c .before .before .before .before .args .out .now)) (writtenCode (library.planWritten
+    (library.planRead (c .before .before .before .before .args .plan .now) .table) (c .before .before .before .before .args .out .now)))
+    (library.planRead (c .before .before .before .before .args .plan .now)) (c .code .result) (c .code .ensures) (c .before .if1 .taken)
+
+read-plan-requires : tie.Need-read-plan-requires
+read-plan-requires c κs = search needs
+
+code-requires-2 : tie.Need-code-requires-2
+code-requires-2 c κs = search needs
+
+returns-2 : tie.Need-returns-2
+returns-2 c = plan-refused (c .before .before .before .before .before .before .args .out .now) (library.planOut (library.planRead (c
+    .before .before .before .before .before .before .args .plan .now) .table) (c .before .before .before .before .before .before .args
+    .out .now)) (writtenCode (library.planWritten (library.planRead (c .before .before .before .before .before .before .args .plan .now)
+    .table) (c .before .before .before .before .before .before .args .out .now))) (library.planRead (c .before .before .before .before
+    .before .before .args .plan .now)) (omega (arith, c .before .before .before .if1 .left)) (c .before .before .read-plan .result) (c
+    .before .before .read-plan .ensures) (c .code2 .result) (c .code2 .ensures) (c .before .if2 .taken)
+
+write-plan-requires : tie.Need-write-plan-requires
+write-plan-requires c κs = search needs
+
+code-requires-3 : tie.Need-code-requires-3
+code-requires-3 c κs = search needs
+
+same-length : tie.Need-same-length
+same-length c = search needs
+
+returns-3 : tie.Need-returns-3
+returns-3 c = plan-done (c .before .before .before .before .before .before .before .before .before .before .before .args .out .now)
+    (library.planOut (library.planRead (c .before .before .before .before .before .before .before .before .before .before .before .args
+    .plan .now) .table) (c .before .before .before .before .before .before .before .before .before .before .before .args .out .now))
+    (writtenCode (library.planWritten (library.planRead (c .before .before .before .before .before .before .before .before .before
+    .before .before .args .plan .now) .table) (c .before .before .before .before .before .before .before .before .before .before .before
+    .args .out .now))) (library.planRead (c .before .before .before .before .before .before .before .before .before .before .before .args
+    .plan .now)) (omega (arith, c .before .before .before .before .before .before .before .before .if1 .left)) (c .before .before .before
+    .before .before .before .before .read-plan .result) (c .before .before .before .before .before .before .before .read-plan .ensures)
+    (c .code3 .result) (c .code3 .ensures ∙ ap writtenCode (c .before .before .before .write-plan .ensures .0 ∙ ap (λ (t : TableResult).
+    library.planWritten (t .table) (c .before .before .before .before .before .before .before .before .before .before .before .args .out
+    .now)) (c .before .before .before .before .before .before .before .read-plan .ensures))) (c .before .before .before .write-plan .last
+    .1 .0) (c .before .before .before .write-plan .ensures .1 ∙ ap (λ (t : TableResult). library.planOut (t .table) (c .before .before
+    .before .before .before .before .before .before .before .before .before .args .out .now)) (c .before .before .before .before .before
+    .before .before .read-plan .ensures)) (search (c .before .before .before .before .before .before .if2 .left, needs))
+
+pub yegnabit-plan-spec : {M : Type 1} → statement M
+yegnabit-plan-spec =
+    tie.close
+    (tie.spec
+    code-requires
+    returns
+    read-plan-requires
+    code-requires-2
+    returns-2
+    write-plan-requires
+    code-requires-3
+    same-length
+    returns-3)

@@ -1,0 +1,118 @@
+-- What the C calls answer and leave, for every input, from what the calls of the library answer. Assumes nothing: these are definitions.
+use mathlib.Core.Bool.{Bool, _&&_}
+use mathlib.Core.List.{List}
+use Prim.Native.Nat.{ℕ, _+_, _*_, _%_}
+use lib.Dec.{ltb, eqb}
+use lib.ListN.{length}
+use Rattle.model.specs.Base.{pick}
+use Rattle.table.specs.Calls as library
+use Rattle.paths.specs.Analysis.{analysed}
+use Rattle.paths.specs.declared.Analysis.{Analysis}
+use Rattle.paths.specs.declared.Analysis.the-variants.{Refused, Free, Upward, Meet}
+use Rattle.run.specs.Undoing.{planUndone}
+use Rattle.script.specs.Reading.{scriptRead}
+use Rattle.table.specs.declared.Table.{Table}
+use Rattle.table.specs.declared.TableResult.{TableResult}
+use Rattle.table.specs.declared.Written.{Written}
+
+-- number + 256 × which + 65,536 × place; a place of 2^48 or more, past any memory, is taken modulo that
+abbrev pub codeOf : (number which place : ℕ) → ℕ
+codeOf n w i = n + 256 * w + 65536 * (i % 281474976710656)
+
+-- 11 at place 0 for an area too short
+abbrev pub shortCode : ℕ
+shortCode = codeOf 11 0 0
+
+-- the plan's own refusal, or the code of what is written
+abbrev pub readCode : TableResult → (written : ℕ) → ℕ
+readCode r n = pick (eqb (r .fault .number) 0) n (codeOf (r .fault .number) 1 (r .fault .place))
+
+abbrev pub writtenCode : Written → ℕ
+writtenCode w = codeOf (w .fault .number) 0 (w .bytes)
+
+abbrev pub readOut : TableResult → (written out : List ℕ) → List ℕ
+readOut r b o = pick (eqb (r .fault .number) 0) b o
+
+-- READ AND WRITE BACK; out needs 2,080 bytes
+abbrev pub planCode : (plan out : List ℕ) → ℕ
+planCode p o =
+    pick (ltb (length o) 2080) shortCode (readCode (library.planRead p) (writtenCode (library.planWritten (library.planRead p .table) o)))
+
+abbrev pub planOut : (plan out : List ℕ) → List ℕ
+planOut p o = pick (ltb (length o) 2080) o (readOut (library.planRead p) (library.planOut (library.planRead p .table) o) o)
+
+-- READ, SWEEP AND WRITE
+abbrev pub sweptPlan : (plan : List ℕ) → Table
+sweptPlan p = library.planSwept (library.planRead p .table) .table
+
+abbrev pub sweepCode : (plan out : List ℕ) → ℕ
+sweepCode p o = pick (ltb (length o) 2080) shortCode (readCode (library.planRead p) (writtenCode (library.planWritten (sweptPlan p) o)))
+
+abbrev pub sweepOut : (plan out : List ℕ) → List ℕ
+sweepOut p o = pick (ltb (length o) 2080) o (readOut (library.planRead p) (library.planOut (sweptPlan p) o) o)
+
+-- READ, TAKE A RUN BACK BY ITS HISTORY AND WRITE; a refusal of the history is which 2
+abbrev pub undonePlan : (plan history : List ℕ) → TableResult
+undonePlan p h = planUndone (library.planRead p .table) h
+
+abbrev pub backCode : TableResult → (out : List ℕ) → ℕ
+backCode r o =
+    pick (eqb (r .fault .number) 0) (writtenCode (library.planWritten (r .table) o)) (codeOf (r .fault .number) 2 (r .fault .place))
+
+abbrev pub backOut : TableResult → (out : List ℕ) → List ℕ
+backOut r o = pick (eqb (r .fault .number) 0) (library.planOut (r .table) o) o
+
+abbrev pub undoCode : (plan history out : List ℕ) → ℕ
+undoCode p h o = pick (ltb (length o) 2080) shortCode (readCode (library.planRead p) (backCode (undonePlan p h) o))
+
+abbrev pub undoOut : (plan history out : List ℕ) → List ℕ
+undoOut p h o = pick (ltb (length o) 2080) o (readOut (library.planRead p) (backOut (undonePlan p h) o) o)
+
+-- A TABLE GIVEN as 512 row words and 8 marks
+abbrev pub isGiven : (rows marks : List ℕ) → Bool
+isGiven ws ms = eqb (length ws) 512 && eqb (length ms) 8
+
+abbrev pub given : (count : ℕ) → (rows marks : List ℕ) → Table
+given n ws ms = record { count = n; rows = ws; marks = ms }
+
+-- written: an ill-formed table is the plan's refusal
+abbrev pub writeCode : (count : ℕ) → (rows marks out : List ℕ) → ℕ
+writeCode n ws ms o =
+    pick (isGiven ws ms)
+    (pick (eqb (library.planWritten (given n ws ms) o .fault .number) 6) (codeOf 6 1 0) (writtenCode (library.planWritten (given n ws ms)
+    o)))
+    shortCode
+
+abbrev pub writeOut : (count : ℕ) → (rows marks out : List ℕ) → List ℕ
+writeOut n ws ms o = pick (isGiven ws ms) (library.planOut (given n ws ms) o) o
+
+-- swept in place
+abbrev pub sweptTable : (count : ℕ) → (rows marks : List ℕ) → TableResult
+sweptTable n ws ms = library.planSwept (given n ws ms)
+
+abbrev pub sweptCode : (count : ℕ) → (rows marks : List ℕ) → ℕ
+sweptCode n ws ms =
+    pick (isGiven ws ms)
+    (pick (eqb (sweptTable n ws ms .fault .number) 0) (codeOf 0 0 (sweptTable n ws ms .table .count)) (codeOf (sweptTable n ws ms .fault
+    .number) 1 0))
+    shortCode
+
+abbrev pub sweptRows : (count : ℕ) → (rows marks : List ℕ) → List ℕ
+sweptRows n ws ms = pick (isGiven ws ms && eqb (sweptTable n ws ms .fault .number) 0) (sweptTable n ws ms .table .rows) ws
+
+abbrev pub sweptMarks : (count : ℕ) → (rows marks : List ℕ) → List ℕ
+sweptMarks n ws ms = pick (isGiven ws ms && eqb (sweptTable n ws ms .fault .number) 0) (sweptTable n ws ms .table .marks) ms
+
+-- A SCRIPT read
+abbrev pub scriptCode : (script : List ℕ) → ℕ
+scriptCode b = pick (eqb (scriptRead b .number) 0) (codeOf 0 0 0) (codeOf (scriptRead b .number) 2 (scriptRead b .place))
+
+-- TWO SCRIPTS ANALYSED: the first refused, or 0 free, 1 upward, 2 meet as `which`
+abbrev pub analysisCode : Analysis → ℕ
+analysisCode (Refused s f) = codeOf (f .number) s (f .place)
+analysisCode Free = codeOf 0 0 0
+analysisCode Upward = codeOf 0 1 0
+analysisCode Meet = codeOf 0 2 0
+
+abbrev pub analyseCode : (first second : List ℕ) → ℕ
+analyseCode b c = analysisCode (analysed b c)

@@ -1,0 +1,176 @@
+-- Document 03's search for a common node, and the tests it makes: two tests agree where they share an element or a leaf; a search that
+-- succeeds does so with any fuel past the number of steps.
+use mathlib.Core.Path.{_≡_, refl}
+use mathlib.Core.Bool.{Bool, true, false, _&&_, _||_, not, false≢true}
+use mathlib.Core.Logic.{inl, inr}
+use mathlib.Core.List.{List, [], _∷_}
+use Prim.Native.Nat.{ℕ, zero, suc, _+_, _<_}
+use native.Mathlib.Omega.{arith}
+use lib.Dec.{leb, eqb}
+use lib.ListN.{length}
+use borrow.Author.Tests.{leb-true, ne-eqb}
+use Rattle.model.specs.Base.{pick}
+use Rattle.model.specs.Script.{Step}
+use Rattle.model.specs.Meeting.{shareElement, shareLeaf, isDeep}
+use Rattle.model.specs.Document03Paths as P
+use Rattle.model.proofs.BoolLaws.{and-both, or-left, or-right, or-cases}
+use Rattle.model.proofs.TestLaws.{and-parts, and-three}
+use Rattle.model.proofs.Document03Paths.{Known}
+
+-- TESTS, one of the four each
+data Test : ℕ → Type 0 where
+  anyNode : Test 0
+  anyElement : Test 1
+  anyLeaf : Test 2
+  theNamed : Test 3
+
+test-of : (t : ℕ) → leb t 3 ≡ true → Test t
+test-of zero h = anyNode
+test-of (suc zero) h = anyElement
+test-of (suc (suc zero)) h = anyLeaf
+test-of (suc (suc (suc zero))) h = theNamed
+test-of (suc (suc (suc (suc t)))) h = let k = leb-true (suc (suc (suc (suc t)))) 3 h in absurd (omega arith)
+
+-- agree and share, by the tests and whether the names are equal
+abbrev agreeBy : (s t : ℕ) → Bool → Bool
+agreeBy s t n =
+    not (eqb s 2 && (eqb t 1 || eqb t 3)) && not (eqb t 2 && (eqb s 1 || eqb s 3)) && (not (eqb s 3 && eqb t 3) || n)
+
+abbrev namedBy : ℕ → Bool
+namedBy t = not (eqb t 0) && not (eqb t 1) && not (eqb t 2)
+
+abbrev elementBy : (s t : ℕ) → Bool → Bool
+elementBy s t n = not (eqb s 2) && not (eqb t 2) && (not (namedBy s && namedBy t) || n)
+
+abbrev leafBy : (s t : ℕ) → Bool
+leafBy s t = (eqb s 0 || eqb s 2) && (eqb t 0 || eqb t 2)
+
+agree-by : {s t : ℕ} (n : Bool) → Test s → Test t → agreeBy s t n ≡ (elementBy s t n || leafBy s t)
+agree-by n anyNode anyNode = refl
+agree-by n anyNode anyElement = refl
+agree-by n anyNode anyLeaf = refl
+agree-by n anyNode theNamed = refl
+agree-by n anyElement anyNode = refl
+agree-by n anyElement anyElement = refl
+agree-by n anyElement anyLeaf = refl
+agree-by n anyElement theNamed = refl
+agree-by n anyLeaf anyNode = refl
+agree-by n anyLeaf anyElement = refl
+agree-by n anyLeaf anyLeaf = refl
+agree-by n anyLeaf theNamed = refl
+agree-by n theNamed anyNode = refl
+agree-by n theNamed anyElement = refl
+agree-by n theNamed anyLeaf = refl
+agree-by true theNamed theNamed = refl
+agree-by false theNamed theNamed = refl
+
+element-by : {s t : ℕ} (n : Bool) → Test s → Test t → (agreeBy s t n && not (eqb s 2) && not (eqb t 2)) ≡ elementBy s t n
+element-by n anyNode anyNode = refl
+element-by n anyNode anyElement = refl
+element-by n anyNode anyLeaf = refl
+element-by n anyNode theNamed = refl
+element-by n anyElement anyNode = refl
+element-by n anyElement anyElement = refl
+element-by n anyElement anyLeaf = refl
+element-by n anyElement theNamed = refl
+element-by n anyLeaf anyNode = refl
+element-by n anyLeaf anyElement = refl
+element-by n anyLeaf anyLeaf = refl
+element-by n anyLeaf theNamed = refl
+element-by n theNamed anyNode = refl
+element-by n theNamed anyElement = refl
+element-by n theNamed anyLeaf = refl
+element-by true theNamed theNamed = refl
+element-by false theNamed theNamed = refl
+
+pub agree-share : (s t : Step) → Known s → Known t → P.agree s t ≡ (shareElement s t || shareLeaf s t)
+agree-share s t h k = agree-by (eqb (s .name) (t .name)) (test-of (s .test) h) (test-of (t .test) k)
+
+pub agreeElement-share : (s t : Step) → Known s → Known t → P.agreeElement s t ≡ shareElement s t
+agreeElement-share s t h k = element-by (eqb (s .name) (t .name)) (test-of (s .test) h) (test-of (t .test) k)
+
+-- A NODE MORE: how a search goes on from two steps
+pub data Goes (s t : Step) (ss ts : List Step) (next : List Step → List Step → Bool) : Type 0 where
+  last : ss ≡ [] → ts ≡ [] → P.agree s t ≡ true → Goes s t ss ts next
+  both : P.agreeElement s t ≡ true → next ss ts ≡ true → Goes s t ss ts next
+  passOne : isDeep s ≡ true → P.canBeElement t ≡ true → next (s ∷ ss) ts ≡ true → Goes s t ss ts next
+  passTwo : isDeep t ≡ true → P.canBeElement s ≡ true → next ss (t ∷ ts) ≡ true → Goes s t ss ts next
+
+suc-zero : (n : ℕ) → eqb (suc n) 0 ≡ false
+suc-zero n = ne-eqb (suc n) 0 (λ e. omega arith)
+
+module _ (s t : Step) where
+  pub goes-by : (ss ts : List Step) (next : List Step → List Step → Bool) → P.meetOn next s t ss ts ≡ true → Goes s t ss ts next
+  goes-by ss ts next e =
+      elim (or-cases (first ss ts || one) two e) [
+        | inl k ↦ elim (or-cases (first ss ts) one k) [
+          | inl l ↦ go ss ts l
+          | inr l ↦ let a = and-three (isDeep s) (P.canBeElement t) (next (s ∷ ss) ts) l in passOne (a .0) (a .1) (a .2)
+        ]
+        | inr k ↦ let a = and-three (isDeep t) (P.canBeElement s) (next ss (t ∷ ts)) k in passTwo (a .0) (a .1) (a .2)
+      ]
+    where
+      first : List Step → List Step → Bool
+      first ps qs = pick (eqb (length ps) 0 && eqb (length qs) 0) (P.agree s t) (P.agreeElement s t && next ps qs)
+
+      one : Bool
+      one = isDeep s && P.canBeElement t && next (s ∷ ss) ts
+
+      two : Bool
+      two = isDeep t && P.canBeElement s && next ss (t ∷ ts)
+
+      go : (ps qs : List Step) → first ps qs ≡ true → Goes s t ps qs next
+      go [] [] l = last refl refl l
+      go [] (q ∷ qs) l =
+          let a = and-parts (P.agreeElement s t) (next [] (q ∷ qs)) (rw (suc-zero (length qs)) at l) in
+          both (a .0) (a .1)
+      go (p ∷ ps) qs l =
+          let a = and-parts (P.agreeElement s t) (next (p ∷ ps) qs) (rw (suc-zero (length ps)) at l) in
+          both (a .0) (a .1)
+
+  pub goes-meet : (ss ts : List Step) (next : List Step → List Step → Bool) → Goes s t ss ts next → P.meetOn next s t ss ts ≡ true
+  goes-meet ss ts next g = go g
+    where
+      first : List Step → List Step → Bool
+      first ps qs = pick (eqb (length ps) 0 && eqb (length qs) 0) (P.agree s t) (P.agreeElement s t && next ps qs)
+
+      one : Bool
+      one = isDeep s && P.canBeElement t && next (s ∷ ss) ts
+
+      two : Bool
+      two = isDeep t && P.canBeElement s && next ss (t ∷ ts)
+
+      choice : (z : Bool) → P.agreeElement s t ≡ true → next ss ts ≡ true →
+          pick z (P.agree s t) (P.agreeElement s t && next ss ts) ≡ true
+      choice true a h = and-three (P.agree s t) (P.canBeElement s) (P.canBeElement t) a .0
+      choice false a h = and-both (P.agreeElement s t) (next ss ts) a h
+
+      go : Goes s t ss ts next → P.meetOn next s t ss ts ≡ true
+      go (last a b h) = or-left (first ss ts || one) two (or-left (first ss ts) one (rw (a, b) h))
+      go (both a h) =
+          or-left (first ss ts || one) two
+          (or-left (first ss ts) one (choice (eqb (length ss) 0 && eqb (length ts) 0) a h))
+      go (passOne d a h) =
+          or-left (first ss ts || one) two (or-right (first ss ts) one (and-both _ (next (s ∷ ss) ts) (and-both (isDeep s) _ d a) h))
+      go (passTwo d a h) = or-right (first ss ts || one) two (and-both _ (next ss (t ∷ ts)) (and-both (isDeep t) _ d a) h)
+
+goes-on : {s t : Step} {ss ts : List Step} {f g : List Step → List Step → Bool} → Goes s t ss ts f →
+    (f ss ts ≡ true → g ss ts ≡ true) → (f (s ∷ ss) ts ≡ true → g (s ∷ ss) ts ≡ true) → (f ss (t ∷ ts) ≡ true → g ss (t ∷ ts) ≡ true) →
+    Goes s t ss ts g
+goes-on (last a b h) i j k = last a b h
+goes-on (both a h) i j k = both a (i h)
+goes-on (passOne d a h) i j k = passOne d a (j h)
+goes-on (passTwo d a h) i j k = passTwo d a (k h)
+
+-- FUEL past the number of steps is enough
+pub fuel-enough : (n m : ℕ) (ss ts : List Step) → P.meetFrom n ss ts ≡ true → length ss + length ts < m → P.meetFrom m ss ts ≡ true
+unfolding P.meetFrom
+fuel-enough zero m ss ts e l = absurd (false≢true e)
+fuel-enough (suc n) zero ss ts e l = absurd (omega arith)
+fuel-enough (suc n) (suc m) [] [] e l = refl
+fuel-enough (suc n) (suc m) [] (t ∷ ts) e l = e
+fuel-enough (suc n) (suc m) (s ∷ ss) [] e l = e
+fuel-enough (suc n) (suc m) (s ∷ ss) (t ∷ ts) e l =
+    goes-meet s t ss ts (P.meetFrom m)
+    (goes-on (goes-by s t ss ts (P.meetFrom n) e) (λ h. fuel-enough n m ss ts h (omega arith))
+    (λ h. fuel-enough n m (s ∷ ss) ts h (omega arith)) (λ h. fuel-enough n m ss (t ∷ ts) h (omega arith)))

@@ -1,0 +1,125 @@
+-- The calls on what callers see: bytes, a table and lent areas. Assumes nothing: these are definitions.
+use mathlib.Core.Path.{_≡_}
+use mathlib.Core.Bool.{Bool, true, _&&_}
+use mathlib.Core.List.{List, [], _∷_, _++_}
+use Prim.Native.Nat.{ℕ, _+_, _-_}
+use lib.Dec.{leb}
+use lib.ListN.{length, take, replicate}
+use Rattle.model.specs.Base.{pick, areBytes}
+use Rattle.model.specs.Limits.{answerNeed, historyNeed, workNeed}
+use Rattle.model.specs.Refusal.{Fault, fine, isFine, linkAt, lentShort}
+use Rattle.model.specs.Table.{Table, count, isWell}
+use Rattle.model.specs.Script.{Expr, Parsed, ill, parsed, readScript}
+use Rattle.model.specs.History.{Record, madeElementKind, madeLeafKind, cutKind, historyBytes}
+use Rattle.model.specs.Run.{State, Out, stop, gives, runOn}
+use Rattle.model.specs.Meeting.{Answer, free, answer}
+use Rattle.model.specs.Promise.{matchedAll, matchedHistory, PlansEqual}
+
+-- ANALYSIS of two scripts' bytes: the first refused one, 1 or 2, with its refusal, or the answer
+pub data Analysis : Type 0 where
+  refusedBy : (script : ℕ) → Fault → Analysis
+  answered : Answer → Analysis
+
+abbrev pub secondBy : Expr → Parsed → Analysis
+secondBy e (ill x) = refusedBy 2 x
+secondBy e (parsed f i n b) = answered (answer e f)
+
+abbrev pub firstBy : Parsed → Parsed → Analysis
+firstBy (ill x) q = refusedBy 1 x
+firstBy (parsed e i n b) q = secondBy e q
+
+abbrev pub analyse : (first second : List ℕ) → Analysis
+analyse b c = firstBy (readScript b) (readScript c)
+
+-- A RUN of a script's bytes: the script's own refusal, or the run
+abbrev pub runBy : Table → Parsed → Out
+runBy x (ill f) = stop f
+runBy x (parsed e i n b) = runOn x e
+
+-- what a run gives back, the tally with it, and leaves in the lent areas
+pub record Ran : Type 0 where
+  pub fault : Fault
+  pub plan : Table
+  pub items : ℕ
+  pub made : ℕ
+  pub cut : ℕ
+  pub records : ℕ
+  pub bytes : ℕ
+  pub answer : List ℕ
+  pub history : List ℕ
+  pub work : List ℕ
+
+-- Areas past the lengths given back are zero
+abbrev pub filled : (size : ℕ) → List ℕ → List ℕ
+filled n xs = xs ++ replicate (n - length xs) 0
+
+unfoldable pub countKind : (low high : ℕ) → List Record → ℕ
+countKind a b [] = 0
+countKind a b (r ∷ rs) = pick (leb a (r .kind) && leb (r .kind) b) 1 0 + countKind a b rs
+
+-- A refused run restores the table and zeroes answer and history; all of the work area is zero
+abbrev pub refusedRun : Fault → Table → (answer history work : List ℕ) → Ran
+refusedRun f x a h w =
+    record {
+      fault = f;
+      plan = x;
+      items = 0;
+      made = 0;
+      cut = 0;
+      records = 0;
+      bytes = 0;
+      answer = a;
+      history = h;
+      work = w;
+    }
+
+abbrev pub ranBy : Table → (answer history work : ℕ) → Out → Ran
+ranBy x a h w (stop f) = refusedRun f x (replicate a 0) (replicate h 0) (replicate w 0)
+ranBy x a h w (gives v s) =
+    record {
+      fault = fine;
+      plan = s .plan;
+      items = length v;
+      made = countKind madeElementKind madeLeafKind (s .history);
+      cut = countKind cutKind cutKind (s .history);
+      records = length (s .history);
+      bytes = length (historyBytes (s .history));
+      answer = filled a v;
+      history = filled h (historyBytes (s .history));
+      work = replicate w 0;
+    }
+
+abbrev pub areasFit : (answer history work : List ℕ) → Bool
+areasFit a h w = leb answerNeed (length a) && leb historyNeed (length h) && leb workNeed (length w)
+
+-- 11 first, nothing touched; then 6 at place 0; then the script's own refusal; then the run's
+abbrev pub runCall : Table → (script answer history work : List ℕ) → Ran
+runCall x b a h w =
+    pick (areasFit a h w) (ranBy x (length a) (length h) (length w) (pick (isWell x) (runBy x (readScript b)) (stop (linkAt 0))))
+    (refusedRun lentShort x a h w)
+
+-- DEMAND 3 on the calls: two scripts that the analysis calls free, a well-formed table, and areas of the stated lengths for each script
+abbrev pub callsEnd : (first second : Ran) → Bool
+callsEnd r s = isFine (r .fault) && isFine (s .fault)
+
+-- a script's answer and history in one order and in the other, under the matching: item for item, record for record
+abbrev pub CallsMatch : (n a b : ℕ) → (one two : Ran) → Type 0
+CallsMatch n a b r s =
+    (s .items ≡ r .items) × (s .made ≡ r .made) × (s .cut ≡ r .cut) × (s .records ≡ r .records) ×
+    (take (s .items) (s .answer) ≡ matchedAll n a b (take (r .items) (r .answer))) ×
+    ((rs : List Record) ×
+    ((take (r .bytes) (r .history) ≡ historyBytes rs) × (take (s .bytes) (s .history) ≡ historyBytes (matchedHistory n a b rs))))
+
+abbrev pub CallsCommute : Type 0
+CallsCommute =
+    (b c : List ℕ) (x : Table) (a h w a′ h′ w′ : List ℕ) → areBytes b ≡ true → areBytes c ≡ true → analyse b c ≡ answered free → isWell x ≡ true → areasFit a h w ≡ true →
+    areasFit a′ h′ w′ ≡ true →
+    (callsEnd (runCall x b a h w) (runCall (runCall x b a h w .plan) c a′ h′ w′) ≡
+    callsEnd (runCall x c a′ h′ w′) (runCall (runCall x c a′ h′ w′ .plan) b a h w)) ×
+    (callsEnd (runCall x b a h w) (runCall (runCall x b a h w .plan) c a′ h′ w′) ≡ true →
+    CallsMatch (count x) (count (runCall x b a h w .plan) - count x) (count (runCall x c a′ h′ w′ .plan) - count x)
+    (runCall x b a h w) (runCall (runCall x c a′ h′ w′ .plan) b a h w) ×
+    CallsMatch (count x) (count (runCall x b a h w .plan) - count x) (count (runCall x c a′ h′ w′ .plan) - count x)
+    (runCall (runCall x b a h w .plan) c a′ h′ w′) (runCall x c a′ h′ w′) ×
+    PlansEqual (count x) (count (runCall x b a h w .plan) - count x) (count (runCall x c a′ h′ w′ .plan) - count x)
+    (runCall (runCall x b a h w .plan) c a′ h′ w′ .plan) (runCall (runCall x c a′ h′ w′ .plan) b a h w .plan))

@@ -1,0 +1,15 @@
+pub mod StepLaws
+pub mod ReachLaws
+pub mod PassLaws
+pub mod ValueLaws
+pub mod PickLaws
+pub mod StateLaws
+pub mod HistoryLaws
+pub mod UpdateLaws
+pub mod InsertLawsScan
+pub mod InsertLaws
+pub mod InsertLawsRest
+pub mod InsertLawsItems
+pub mod UndoLaws
+pub mod UndoLawsBack
+pub mod UndoLawsCall
