@@ -1,25 +1,23 @@
 -- The whole analysis: what each call asks is there, and each way out is the model's answer.
-use mathlib.Core.Path.{_≡_, refl, ap, sym, _∙_, subst}
+use mathlib.Core.Path.{_≡_, ap, sym, _∙_, subst}
 use mathlib.Core.Bool.{Bool, true, false, _||_}
 use mathlib.Core.List.{List, [], _∷_, map}
-use Prim.Native.Nat.{ℕ, zero, suc, _+_, _*_, _-_, _≤_, _<_}
+use Prim.Native.Nat.{ℕ, zero, _-_}
 use native.Mathlib.Omega.{arith}
-use lib.Dec.{eqb}
-use lib.ListN.{length, getD, take}
+use lib.ListN.{length, take}
 use lib.Seq.{take-suc, length-take-le}
 use Rattle.model.specs.Base.{pick}
-use Rattle.model.specs.Script.{Expr, Parsed, ill, parsed, readScript}
+use Rattle.model.specs.Script.{Expr, Parsed, parsed, readScript}
 use Rattle.model.specs.Paths.{hasUp}
-use Rattle.model.specs.Meeting.{Answer, free, upward, meet, answer}
-use Rattle.table.specs.Calls.{faultOf}
+use Rattle.model.specs.Meeting.{free, upward, meet, answer}
 use Rattle.table.specs.declared.Fault.{Fault}
 use Rattle.script.specs.Walk.{exprAt}
 use Rattle.script.specs.Reading.{scriptRead}
 use Rattle.script.proofs.ScriptLaws.{script-accepted, script-parsed, script-ill}
 use Rattle.paths.specs.Positions.{Entry, Emitted, emit, AreLower, entriesBefore, entriesOf}
-use Rattle.paths.specs.Cells.{positionsMeet, answerBy}
+use Rattle.paths.specs.Cells.{positionsMeet}
 use Rattle.paths.specs.Words.{entryOf, entriesIn}
-use Rattle.paths.specs.Filling.{entriesBy, climbing, PositionsPre, TablePre}
+use Rattle.paths.specs.Filling.{entriesBy, climbing, TablePre}
 use Rattle.paths.specs.Emitting.{EmitPre, EmitPost}
 use Rattle.paths.specs.Analysis.{byAnswer, analysisBy, analysed, ScriptPre, ScriptPost, AnswerPre, AnswerPost}
 use Rattle.paths.specs.declared.Analysis.{Analysis}

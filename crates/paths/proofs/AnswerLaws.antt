@@ -1,22 +1,21 @@
 -- THE THEOREM: the answer by positions is the model's answer, for every two expressions.
 use mathlib.Core.Path.{_≡_, refl, ap, sym, _∙_}
 use mathlib.Core.Bool.{Bool, true, false, _&&_, _||_}
-use mathlib.Core.Logic.{_⊎_, inl, inr}
+use mathlib.Core.Logic.{inl, inr}
 use mathlib.Core.List.{List, [], _∷_, _++_}
 use Prim.Native.Nat.{ℕ, zero, suc, _<_, _≤_}
 use native.Mathlib.Omega.{arith}
-use lib.Dec.{eqb}
 use lib.ListN.{length, take}
 use lib.Seq.{take-suc, take-all}
 use borrow.Author.Tests.{ne-eqb}
 use Rattle.model.specs.Base.{pick, any}
 use Rattle.model.specs.Script.{Expr}
 use Rattle.model.specs.Paths.{Path, start, place, pathsOf, traversed, hasUp}
-use Rattle.model.specs.Meeting.{isMet, meets, anyMeet, pathsMeet, Answer, free, upward, meet, answer}
+use Rattle.model.specs.Meeting.{isMet, meets, anyMeet, pathsMeet, free, upward, meet, answer}
 use Rattle.model.proofs.All.{All, nothing, also, all-imp}
 use Rattle.paths.specs.Positions.{Entry, plain, nowhere, entryAt, AreLower, emit, entriesBefore, entriesOf, pathsFrom, pathsOn}
-use Rattle.paths.specs.Cells.{between, anyUpTo, isTested, meetAt, rowMeets, positionsMeet, answerBy}
-use Rattle.paths.proofs.CellLaws.{or-swap, and-or, or-and, isMet-between, isMet-join, between-second}
+use Rattle.paths.specs.Cells.{between, anyUpTo, isTested, positionsMeet, answerBy}
+use Rattle.paths.proofs.CellLaws.{or-swap, and-or, isMet-between, isMet-join, between-second}
 use Rattle.paths.proofs.MirrorLaws.{anyMeet-mirror}
 use Rattle.paths.proofs.PositionLaws.{pathsOn-split}
 use Rattle.paths.proofs.DocumentLaws.{origin, documents, owners-apart}

@@ -137,9 +137,6 @@ parent-join s t c d =
 parent-none : (s t : Step) → isParent s t noCell ≡ false
 parent-none s t = ap (λ (x : Bool). x || (isDeep s && false)) (past-none (isDeep t)) ∙ past-none (isDeep s)
 
-onCell-join : (a b c d : Bool) → onCell (a || b) (c || d) ≡ joinCell (onCell a c) (onCell b d)
-onCell-join a b c d = refl
-
 share-join : (s t : Step) (e : Bool) (c d : Cell) → (isParent s t (joinCell c d) && e) ≡ ((isParent s t c && e) || (isParent s t d && e))
 share-join s t e c d = ap (λ (x : Bool). x && e) (parent-join s t c d) ∙ or-and (isParent s t c) (isParent s t d) e
 

@@ -1,21 +1,21 @@
 -- Emission is exact: an expression's position has its result's paths that start at a document, and the positions marked accessed and
 -- modified have, in order, its accessed and its modified ones.
 use mathlib.Core.Path.{_≡_, refl, ap, sym, _∙_, subst}
-use mathlib.Core.Bool.{Bool, true, false}
+use mathlib.Core.Bool.{Bool}
 use mathlib.Core.List.{List, [], _∷_, _++_, append-assoc, append-nil}
-use Prim.Native.Nat.{ℕ, zero, suc, _+_, _<_, _≤_}
+use Prim.Native.Nat.{ℕ, zero, suc, _<_, _≤_}
 use native.Mathlib.Omega.{arith}
 use lib.Dec.{eqb}
 use lib.ListN.{length, getD, length-append, List·getD-append}
 use lib.Seq.{getD-at}
 use borrow.Author.Tests.{ne-eqb, eqb-true, eqb-false}
 use Rattle.model.specs.Base.{pick}
-use Rattle.model.specs.Script.{Step, Expr, nil, document, var, step, both, letIn, forIn, ifIn, element, leaf, delete, insert, choose}
-use Rattle.model.specs.Paths.{Path, start, place, withStep, anyBelow, Paths, infer}
+use Rattle.model.specs.Script.{Expr, nil, document, var, step, both, letIn, forIn, ifIn, element, leaf, delete, insert, choose}
+use Rattle.model.specs.Paths.{Path, start, place, withStep, anyBelow, infer}
 use Rattle.model.proofs.BoolLaws.{by-cases}
-use Rattle.paths.specs.Positions.{Position, over, union, Entry, plain, accessing, modifying, entryAt, IsLower, AreLower}
+use Rattle.paths.specs.Positions.{over, union, Entry, plain, accessing, modifying, entryAt, IsLower, AreLower}
 use Rattle.paths.specs.Positions.{Emitted, emitted, push, emit, pathsAt, pathsFrom, pathsBy, pathsOn}
-use Rattle.paths.proofs.PositionLaws.{pathsFrom-append, pathsOn-keeps, pathsOn-next}
+use Rattle.paths.proofs.PositionLaws.{pathsOn-keeps, pathsOn-next}
 use Rattle.paths.proofs.DocumentLaws.{origin, documents, documents-append, documents-step}
 
 -- the paths of the positions with a mark, in order

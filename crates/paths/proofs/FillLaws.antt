@@ -1,24 +1,23 @@
 -- The table of pairs, filled cell by cell: one law for each way out of the code that makes a cell, and one for each loop.
 use mathlib.Core.Path.{_≡_, refl, ap, sym, _∙_}
-use mathlib.Core.Bool.{Bool, true, false, _&&_, _||_}
-use mathlib.Core.List.{List, map}
-use Prim.Native.Nat.{ℕ, zero, suc, _+_, _*_, _≤_, _<_}
+use mathlib.Core.Bool.{Bool, false, _&&_, _||_}
+use mathlib.Core.List.{List}
+use Prim.Native.Nat.{ℕ, _+_, _<_}
 use native.Mathlib.Omega.{arith}
 use native.Mathlib.Numerals.{add-one}
 use lib.Dec.{eqb}
 use lib.ListN.{length, getD, length-map, List·getD-map}
-use borrow.Author.Tests.{eq-eqb, ne-eqb, eqb-true, eqb-false}
-use Rattle.model.specs.Base.{pick}
+use borrow.Author.Tests.{ne-eqb, eqb-true, eqb-false}
 use Rattle.model.specs.Script.{Step, stepBy}
 use Rattle.model.specs.Paths.{documentPlace}
 use Rattle.model.specs.Meeting.{Cell, joinCell, startCell, onStep, downStep, upStep, isMet}
 use Rattle.model.proofs.BoolLaws.{by-cases}
 use Rattle.paths.specs.Positions as positions
-use Rattle.paths.specs.Cells.{noCell, between, Cells, rootCell, overCell, cellBy, Filled, anyUpTo, isTested, meetAt, rowMeets}
+use Rattle.paths.specs.Cells.{noCell, between, Cells, rootCell, overCell, cellBy, Filled, anyUpTo, isTested, rowMeets}
 use Rattle.paths.specs.Codes.{cellOf}
 use Rattle.paths.specs.Words.{positionBy, entryBy, fieldsOf, entryOf}
 use Rattle.paths.specs.Pairs.{cellIn, SetPost}
-use Rattle.paths.specs.Filling.{entriesBy, PositionsPre, MeetPre, MeetPost, RowPost}
+use Rattle.paths.specs.Filling.{entriesBy, MeetPre, MeetPost, RowPost}
 use Rattle.paths.specs.declared.positions.Position.{Position}
 use Rattle.paths.specs.declared.cells.Cell as declared
 use Rattle.paths.proofs.PositionLaws.{cell-by}

@@ -11,7 +11,7 @@ use Rattle.paths.specs.Positions.{Entry, plain, accessing, modifying, ov
 use Rattle.paths.specs.Positions as positions
 use Rattle.paths.specs.Codes.{stepOf}
 use Rattle.paths.specs.Words.{entryBy, overBy, unionBy, PositionFits, entriesIn, PushPost}
-use Rattle.paths.specs.Emitting.{outOf, GrowPre, StepPre, PairedPre, Grown}
+use Rattle.paths.specs.Emitting.{outOf, GrowPre, Grown}
 use Rattle.paths.specs.declared.positions.Position.{Position}
 use Rattle.paths.specs.declared.cells.Step.{Step}
 use Rattle.paths.specs.declared.emit.Emitted.{Emitted}

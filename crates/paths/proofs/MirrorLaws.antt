@@ -9,8 +9,8 @@ use Rattle.model.specs.Script.{Step}
 use Rattle.model.specs.Paths.{Place, Path, start, _▸_}
 use Rattle.model.specs.Meeting.{Cell, onCell, joinCell, isDeep, isParent, isNamed, admitsElement, admitsLeaf, shareElement, shareLeaf}
 use Rattle.model.specs.Meeting.{samePlace, isConstructor, startCell, onStep, downStep, upStep, startCells, stepCells, cell, isMet, anyMeet}
-use Rattle.model.proofs.BoolLaws.{bool-iff, by-cases, and-left}
-use Rattle.paths.specs.Cells.{noCell, sum, between}
+use Rattle.model.proofs.BoolLaws.{bool-iff, and-left}
+use Rattle.paths.specs.Cells.{sum, between}
 use Rattle.paths.proofs.CellLaws.{Respects, cell-equal, sum-same, sum-join, sum-through, sum-none, isMet-between}
 
 -- up for down

@@ -1,20 +1,19 @@
 -- An accepted record by its arity: what it emits from its operands' emissions, its operands, and its records.
 use mathlib.Core.Path.{_≡_, refl, ap, sym, _∙_, subst}
-use mathlib.Core.Bool.{Bool, true, false}
-use mathlib.Core.List.{List, [], _∷_, _++_}
-use Prim.Native.Nat.{ℕ, zero, suc, _+_, _-_, _≤_, _<_}
+use mathlib.Core.List.{List}
+use Prim.Native.Nat.{ℕ, suc, _+_, _-_, _≤_, _<_}
 use native.Mathlib.Omega.{arith}
 use lib.Dec.{eqb}
-use lib.ListN.{length, getD}
+use lib.ListN.{getD}
 use borrow.Author.Tests.{eqb-true, eqb-false}
-use Rattle.model.specs.Script.{Expr, nil, document, var, step, both, letIn, forIn, ifIn, element, leaf, delete, insert, choose, stepBy}
+use Rattle.model.specs.Script.{Expr, nil, document, var, step, both, letIn, forIn, element, leaf, delete, insert, choose, stepBy}
 use Rattle.model.proofs.BoolLaws.{by-cases}
 use Rattle.script.specs.Walk.{arity, inner, endAt, firstAt, secondAt, thirdAt, exprAt}
-use Rattle.script.specs.Accepted.{Accepted, RecordFits, Nullary, Unary, Binary, Ternary}
+use Rattle.script.specs.Accepted.{Accepted, RecordFits, Nullary, Unary, Binary}
 use Rattle.script.proofs.AcceptedLaws.{accepted-record, accepted-nil, accepted-document, accepted-variable, accepted-element, accepted-leaf}
 use Rattle.script.proofs.AcceptedLaws.{accepted-step, accepted-delete, accepted-pick, accepted-join, accepted-let, accepted-for}
 use Rattle.script.proofs.AcceptedLaws.{accepted-insert, accepted-if}
-use Rattle.paths.specs.Positions.{Entry, Emitted, emit, pushUnion}
+use Rattle.paths.specs.Positions.{Entry, emit, pushUnion}
 use Rattle.paths.specs.Emitting.{recordsOf, nullaryOf, unaryOf, binaryOf, within}
 
 -- a kind is one of thirteen
@@ -33,17 +32,11 @@ other : {P : Type 0} (k m n q : ℕ) → arity k ≡ n → k ≡ m → arity m �
 other k m n q a e c h = absurd (h (sym a ∙ ap arity e ∙ c))
 
 module _ (b : List ℕ) (at left v : ℕ) (a : Accepted b at left v) where
-  abbrev whole : Expr
-  whole = exprAt left b at
-
   abbrev one : Expr
   one = exprAt (left - 1) b (firstAt b at)
 
   abbrev two : Expr
   two = exprAt (left - 1) b (secondAt b at)
-
-  abbrev three : Expr
-  three = exprAt (left - 1) b (thirdAt b at)
 
   fits : RecordFits b at left v
   fits = accepted-record a

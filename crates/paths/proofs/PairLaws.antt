@@ -1,26 +1,22 @@
 -- A cell put into a byte and taken out again is the same; a byte written is one pair's cell, and no other's.
-use mathlib.Core.Path.{_≡_, refl, ap, sym, _∙_}
+use mathlib.Core.Path.{_≡_, ap, _∙_}
 use mathlib.Core.Bool.{Bool, true, false}
 use mathlib.Core.List.{List}
 use Prim.Native.Nat.{ℕ, _+_, _*_, _/_, _%_, _<_}
 use native.Mathlib.Omega.{arith}
 use lib.Dec.{eqb}
-use lib.ListN.{length, getD, set, length-set}
+use lib.ListN.{set, length-set}
 use lib.Seq.{getD-set-same, getD-set-other}
 use Rattle.model.specs.Base.{pick}
 use Rattle.model.specs.Meeting as meeting
 use Rattle.paths.specs.Codes.{cellOf}
-use Rattle.paths.specs.Pairs.{cellBits, cellIn, PairPre, SetPost}
+use Rattle.paths.specs.Pairs.{cellBits, PairPre, SetPost}
 use Rattle.paths.specs.declared.cells.Cell.{Cell}
 use Rattle.paths.proofs.CellLaws.{cell-equal}
 
 -- BITS
 abbrev bitOf : Bool → ℕ
 bitOf t = pick t 1 0
-
-low : (t : Bool) → bitOf t < 2
-low true = omega arith
-low false = omega arith
 
 is-one : (t : Bool) (x : ℕ) → x ≡ bitOf t → eqb x 1 ≡ t
 is-one true x e = ap (λ (y : ℕ). eqb y 1) e

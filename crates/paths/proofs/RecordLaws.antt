@@ -1,15 +1,14 @@
 -- A record by its arity and kind: one law for each way out of the code that emits it, and of what binds a variable.
 use mathlib.Core.Path.{_≡_, refl, ap, sym, _∙_, subst}
-use mathlib.Core.Bool.{Bool, true, false}
-use mathlib.Core.List.{List, [], _∷_, _++_}
-use Prim.Native.Nat.{ℕ, suc, _+_, _≤_, _<_}
+use mathlib.Core.Bool.{true, false}
+use mathlib.Core.List.{List}
+use Prim.Native.Nat.{ℕ, _+_, _<_}
 use native.Mathlib.Omega.{arith}
 use native.Mathlib.Numerals.{add-one}
 use lib.Dec.{eqb}
-use lib.ListN.{length, getD, take, set, length-set}
+use lib.ListN.{getD, take, set, length-set}
 use lib.Seq.{take-suc-set, getD-set-same, getD-set-other}
 use borrow.Author.Tests.{ne-eqb, eqb-true, eqb-false}
-use Rattle.model.specs.Base.{pick}
 use Rattle.model.specs.Script as model
 use Rattle.model.proofs.BoolLaws.{by-cases}
 use Rattle.script.specs.Walk.{inner}
@@ -17,7 +16,7 @@ use Rattle.paths.specs.Positions.{accessing, root}
 use Rattle.paths.specs.Positions as positions
 use Rattle.paths.specs.Codes.{stepOf}
 use Rattle.paths.specs.Words.{entryBy, rootBy, PositionFits, entriesIn, PushPost}
-use Rattle.paths.specs.Emitting.{outOf, nullaryOf, unaryOf, binaryOf, within, GrowPre, Grown, NullaryPre, NullaryPost, BindPre}
+use Rattle.paths.specs.Emitting.{outOf, nullaryOf, unaryOf, binaryOf, GrowPre, Grown, NullaryPre, NullaryPost, BindPre}
 use Rattle.paths.specs.Emitting.{BindPost}
 use Rattle.paths.specs.declared.positions.Position.{Position}
 use Rattle.paths.specs.declared.cells.Step.{Step}

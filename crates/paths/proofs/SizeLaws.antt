@@ -5,15 +5,15 @@ use mathlib.Core.List.{List}
 use Prim.Native.Nat.{ℕ, zero, suc, _+_, _≤_, _<_}
 use native.Mathlib.Omega.{arith}
 use lib.Dec.{ltb, leb, eqb}
-use lib.ListN.{length, getD, drop}
+use lib.ListN.{length, getD}
 use borrow.Author.Tests.{ltb-true}
 use Rattle.model.specs.Base.{pick, isIn}
 use Rattle.model.specs.Limits.{maxRecords, maxDepth, maxBinders}
-use Rattle.model.specs.Refusal.{Fault, isFine}
-use Rattle.model.specs.Script.{Expr, nil, document, var, step, both, letIn, forIn, ifIn, element, leaf, delete, insert, choose}
+use Rattle.model.specs.Refusal.{isFine}
+use Rattle.model.specs.Script.{Expr, both, letIn, forIn, ifIn, delete, insert}
 use Rattle.model.specs.Script.{nilKind, documentKind, varKind, stepKind, bothKind, letKind, forKind, ifKind, newElementKind}
-use Rattle.model.specs.Script.{newLeafKind, deleteKind, insertKind, pickKind, bodySize, bodyFits, isBinder, exprFault}
-use Rattle.model.specs.Script.{Parsed, ill, parsed, thenParse, one, two, three, operands, parseFrom, whole, readScript}
+use Rattle.model.specs.Script.{newLeafKind, deleteKind, insertKind, pickKind, isBinder, exprFault}
+use Rattle.model.specs.Script.{Parsed, ill, parsed, thenParse, one, two, three, operands, parseFrom, whole}
 use Rattle.model.proofs.BoolLaws.{and-left}
 use Rattle.model.proofs.RefusalLaws.{isFine-check, isFine-rest}
 use Rattle.script.specs.Walk.{exprAt}

@@ -5,14 +5,13 @@ use mathlib.Core.Bool.{Bool, true, false, _||_, false≢true}
 use mathlib.Core.Logic.{_⊎_, inl, inr, ⊎-elim}
 use mathlib.Core.List.{List, [], _∷_, _++_, append-assoc}
 use Prim.Native.Nat.{ℕ, zero, suc}
-use lib.Dec.{eqb}
 use lib.ListN.{getD}
 use borrow.Author.Tests.{eqb-true, eqb-false}
 use Rattle.model.specs.Base.{pick, any}
 use Rattle.model.specs.Script.{Step, Expr, nil, document, var, step, both, letIn, forIn, ifIn, element, leaf, delete, insert, choose}
-use Rattle.model.specs.Paths.{Path, start, _▸_, place, documentPlace, withStep, anyBelow, Paths, infer, pathsOf, prefixesOf, prefixed}
+use Rattle.model.specs.Paths.{Path, start, _▸_, place, withStep, anyBelow, Paths, infer, pathsOf, prefixesOf, prefixed}
 use Rattle.model.specs.Paths.{traversed, joinPaths, binding, modifiedPlace}
-use Rattle.model.proofs.BoolLaws.{or-left, or-right, or-cases, bool-iff, true-false, by-cases}
+use Rattle.model.proofs.BoolLaws.{or-left, or-right, or-cases, bool-iff, by-cases}
 use Rattle.model.proofs.All.{All, nothing, also, all-append}
 use Rattle.paths.proofs.CellLaws.{or-false, or-assoc, or-swap}
 use Rattle.paths.proofs.DocumentLaws.{origin, isDocument, documents}

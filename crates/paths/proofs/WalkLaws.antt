@@ -1,27 +1,27 @@
 -- Emission from a script's bytes: what each call asks is there, and each way out is the emission of the expression at the place.
-use mathlib.Core.Path.{_≡_, refl, ap, sym, _∙_, subst}
-use mathlib.Core.Bool.{Bool, true, false, _&&_}
-use mathlib.Core.List.{List, [], _∷_, _++_}
-use Prim.Native.Nat.{ℕ, zero, suc, _+_, _*_, _-_, _≤_, _<_}
+use mathlib.Core.Path.{_≡_, ap, sym, _∙_, subst}
+use mathlib.Core.Bool.{Bool, true, _&&_}
+use mathlib.Core.List.{List}
+use Prim.Native.Nat.{ℕ, _+_, _-_, _≤_, _<_}
 use native.Mathlib.Omega.{arith}
 use lib.Dec.{ltb, eqb}
-use lib.ListN.{length, getD, take}
+use lib.ListN.{getD, take}
 use lib.Seq.{getD-take}
-use borrow.Author.Tests.{eqb-true, eqb-false, ltb-true, ne-eqb}
+use borrow.Author.Tests.{eqb-true, eqb-false, ltb-true}
 use Rattle.model.specs.Base.{pick, isIn}
-use Rattle.model.specs.Script.{Expr, testFits, stepKind, varKind, isBinder}
+use Rattle.model.specs.Script.{testFits, varKind, isBinder}
 use Rattle.model.proofs.BoolLaws.{by-cases, and-left}
-use Rattle.script.specs.Walk.{arity, inner, endAt, firstAt, secondAt, thirdAt, exprAt}
+use Rattle.script.specs.Walk.{arity, inner, firstAt, secondAt, thirdAt, exprAt}
 use Rattle.script.specs.Accepted.{Accepted, RecordFits}
 use Rattle.script.proofs.AcceptedLaws.{accepted-record}
 use Rattle.script.proofs.FieldLaws.{document-number, variable-number, step-axis, step-test}
-use Rattle.paths.specs.Positions.{Entry, emit}
+use Rattle.paths.specs.Positions.{emit}
 use Rattle.paths.specs.Positions as positions
 use Rattle.paths.specs.Words.{entriesIn}
-use Rattle.paths.specs.Emitting.{recordsOf, outOf, nullaryOf, unaryOf, binaryOf, within, GrowPre, PairedPre, UnaryPre, Grown}
+use Rattle.paths.specs.Emitting.{recordsOf, outOf, nullaryOf, unaryOf, binaryOf, within, PairedPre, UnaryPre, Grown}
 use Rattle.paths.specs.Emitting.{NullaryPre, NullaryPost, BindPre, BindPost, EmitPre, EmitPost}
 use Rattle.paths.specs.declared.emit.Emitted.{Emitted}
-use Rattle.paths.proofs.OperandLaws.{Zero, no-operand, One, one-operand, Two, two-operands, Three, three-operands}
+use Rattle.paths.proofs.OperandLaws.{no-operand, one-operand, two-operands, Three, three-operands}
 
 -- a test that fits is one of four
 test-low : (t n : ℕ) → testFits t n ≡ true → t < 4

@@ -1,11 +1,11 @@
 -- Words and the entries they are: a position packed and taken apart is the same, and one word more is one entry more.
-use mathlib.Core.Path.{_≡_, refl, ap, sym, _∙_}
+use mathlib.Core.Path.{_≡_, ap, _∙_}
 use mathlib.Core.List.{List, [], _∷_, _++_, map, map-append}
-use Prim.Native.Nat.{ℕ, suc, _+_, _*_, _/_, _%_, _<_, _≤_}
+use Prim.Native.Nat.{ℕ, _+_, _*_, _/_, _%_, _<_, _≤_}
 use native.Mathlib.Omega.{arith}
 use native.Mathlib.Numerals.{add-one}
-use lib.ListN.{length, getD, take, set, length-set, length-map, List·getD-map}
-use lib.Seq.{take-suc-set, length-take-le, getD-take}
+use lib.ListN.{length, take, set, length-set, length-map}
+use lib.Seq.{take-suc-set, length-take-le}
 use Rattle.paths.specs.Positions as positions
 use Rattle.paths.specs.Words.{entryBy, wordOf, fieldsOf, PositionFits, entryOf, entriesIn, PushPost}
 use Rattle.paths.specs.declared.positions.Position.{Position}

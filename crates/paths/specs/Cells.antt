@@ -1,6 +1,6 @@
 -- What two positions can have in common, from what lower positions have. Assumes nothing: these are definitions.
 use mathlib.Core.Path.{_≡_}
-use mathlib.Core.Bool.{Bool, true, false, _&&_, _||_}
+use mathlib.Core.Bool.{Bool, false, _&&_, _||_}
 use mathlib.Core.List.{List, [], _∷_}
 use Prim.Native.Nat.{ℕ, zero, suc, _<_}
 use lib.ListN.{length}
@@ -24,7 +24,8 @@ sum f (x ∷ xs) = joinCell (f x) (sum f xs)
 abbrev pub between : List Path → List Path → Cell
 between ps qs = sum (λ (p : Path). sum (cell p) qs) ps
 
--- THE CELL of positions k and l, from the cells of lower pairs
+-- THE CELL of positions k and l, from the cells of lower pairs. A source is a document or a step down: a union has those of its parts, and
+-- any other position one, itself
 abbrev pub Cells : Type 0
 Cells = (k l : ℕ) → Cell
 

@@ -5,7 +5,7 @@ use mathlib.Core.List.{List, map}
 use Prim.Native.Nat.{ℕ, _+_, _*_, _≤_, _<_}
 use lib.ListN.{length}
 use Rattle.paths.specs.Positions.{Entry, AreLower, entryAt, isClimb}
-use Rattle.paths.specs.Cells.{Filled, anyUpTo, meetAt, rowMeets, positionsMeet}
+use Rattle.paths.specs.Cells.{Filled, anyUpTo, meetAt, rowMeets}
 use Rattle.paths.specs.Words.{entryOf}
 use Rattle.paths.specs.Pairs.{maxPositions, cellIn}
 use Rattle.paths.specs.declared.positions.Position.{Position}

@@ -3,7 +3,6 @@ use mathlib.Core.Bool.{Bool, true, false}
 use mathlib.Core.List.{List, [], _∷_, _++_}
 use Prim.Native.Nat.{ℕ, _<_}
 use lib.ListN.{length, getD}
-use Rattle.model.specs.Base.{pick}
 use Rattle.model.specs.Script.{Step, Expr, nil, document, var, step, both, letIn, forIn, ifIn, element, leaf, delete, insert, choose}
 use Rattle.model.specs.Paths.{documentPlace, Path, start, withStep, anyBelow, isUp}
 

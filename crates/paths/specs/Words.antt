@@ -1,22 +1,26 @@
 -- A position packed into a word, and what a list of words says. Assumes nothing: these are definitions.
 use mathlib.Core.Path.{_≡_}
-use mathlib.Core.Bool.{Bool}
 use mathlib.Core.List.{List, [], _∷_, _++_, map}
 use Prim.Native.Nat.{ℕ, _+_, _*_, _/_, _%_, _<_}
 use lib.Dec.{eqb}
-use lib.ListN.{length, getD, take}
+use lib.ListN.{length, take}
 use Rattle.model.specs.Base.{pick}
+use Rattle.model.specs.Script as model
 use Rattle.model.specs.Script.{stepBy}
 use Rattle.paths.specs.Positions as positions
 use Rattle.paths.specs.declared.positions.Position.{Position}
 use Rattle.paths.specs.declared.cells.Step.{Step}
+
+-- the step of a position
+abbrev pub stepIn : Position → model.Step
+stepIn p = stepBy (p .axis) (p .test) (p .name)
 
 -- KINDS: 0 nowhere, 1 root, whose document stands for the name, 2 over, 3 union. MARKS: 0 none, 1 accessed, 2 modified
 abbrev pub positionBy : Position → positions.Position
 positionBy p =
     pick (eqb (p .kind) 0) positions.nowhere
     (pick (eqb (p .kind) 1) (positions.root (p .name))
-    (pick (eqb (p .kind) 2) (positions.over (stepBy (p .axis) (p .test) (p .name)) (p .first)) (positions.union (p .first) (p .second))))
+    (pick (eqb (p .kind) 2) (positions.over (stepIn p) (p .first)) (positions.union (p .first) (p .second))))
 
 -- a position with its marks
 abbrev pub entryBy : Position → positions.Entry

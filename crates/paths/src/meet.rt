@@ -2,10 +2,9 @@
 ghost use mathlib.Core.Path.{_≡_};
 ghost use Rattle.paths.specs.Cells.{rootCell, overCell, cellBy, isTested, positionsMeet};
 ghost use Rattle.paths.specs.Codes.{stepOf, cellOf};
-ghost use Rattle.paths.specs.Words.{positionBy, entryBy};
+ghost use Rattle.paths.specs.Words.{positionBy, entryBy, stepIn};
 ghost use Rattle.paths.specs.Pairs.{cellIn};
 ghost use Rattle.paths.specs.Filling.{entriesBy, CellPre, MeetPre, MeetPost, RowPre, RowPost, TablePre};
-ghost use Rattle.model.specs.Script.{stepBy};
 use crate::cells::Cell;
 use crate::cells::Step;
 use crate::pairs;
@@ -14,7 +13,7 @@ use crate::positions::Position;
 
 // The step of a position over another.
 fn step_of(p: Position) -> Step
-    ensures { λ r. ⌜ stepOf r ≡ stepBy (p .axis) (p .test) (p .name) ⌝ }
+    ensures { λ r. ⌜ stepOf r ≡ stepIn p ⌝ }
 {
     Step {
         axis: p.axis,
@@ -43,7 +42,7 @@ fn root_cell(table: &[u8], k: usize, l: usize, p: Position, q: Position) -> Cell
 // From a step, number k of the first script, to q, number l of the second.
 fn over_cell(table: &[u8], k: usize, l: usize, p: Position, q: Position) -> Cell
     requires { ⌜ CellPre (now table) k l p q ⌝ }
-    ensures { λ r. ⌜ cellOf r ≡ overCell (stepBy (p .axis) (p .test) (p .name)) (p .first) k l (positionBy q) (cellIn (now (table .entry))) ⌝ }
+    ensures { λ r. ⌜ cellOf r ≡ overCell (stepIn p) (p .first) k l (positionBy q) (cellIn (now (table .entry))) ⌝ }
 {
     if q.kind == positions::NOWHERE {
         return Cell::none();

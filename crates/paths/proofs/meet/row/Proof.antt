@@ -1,6 +1,6 @@
 -- `meet::row` fills in a row. The invariant: the row is filled up to l, and one of the pairs so far meets or none.
 use mathlib.Core.Path.{_≡_, refl}
-use Prim.Native.Nat.{_*_, _-_, _≤_}
+use Prim.Native.Nat.{_-_, _≤_}
 use native.Mathlib.Omega.{arith}
 use lib.ListN.{length}
 use Rattle.paths.specs.Cells.{Filled, meetAt, rowMeets}

@@ -1,6 +1,5 @@
 -- `Cell::roots` is the cell of two documents.
 use Rattle.paths.proofs.CellLaws.{roots-are}
-use borrow.Author.Needs.{needs}
 use Rattle.paths.proofs.cells.Cell.roots.Statement.{statement}
 use Rattle.paths.proofs.cells.Cell.roots.Tie as tie
 

@@ -1,7 +1,6 @@
 -- `Position::is_climb` is a step that leads up.
 use mathlib.Core.Path.{refl}
 use Rattle.paths.proofs.ClimbLaws.{climb-is}
-use borrow.Author.Needs.{needs}
 use Rattle.paths.proofs.positions.Position.is_climb.Statement.{statement}
 use Rattle.paths.proofs.positions.Position.is_climb.Tie as tie
 
