@@ -3,12 +3,17 @@
 use std::hint::black_box;
 use std::time::{Duration, Instant};
 
+use compare::generate::histories::{self, Told};
+#[cfg(feature = "analysis")]
+use compare::generate::pairs::most_paths;
 use compare::generate::plans::full_table;
 use compare::generate::random::Random;
 use compare::generate::scripts::{script, Wanted};
 use compare::interface::{self, Answer};
 use compare::reference::limits::{BINDERS, DEPTH, PLAN_BYTES, SCRIPT_RECORDS};
 use compare::reference::plan::to_vec;
+#[cfg(feature = "analysis")]
+use compare::reference::script::{kind, Axis, Operation, Test};
 
 use crate::ffi;
 
@@ -50,6 +55,95 @@ pub fn run() {
         library: Box::new(|| ffi::script(black_box(&bytes))),
         reference: Box::new(|| interface::script(black_box(&bytes))),
     });
+    undo(&mut random);
+    #[cfg(feature = "analysis")]
+    analysis();
+}
+
+/// A history that makes some 500 rows and cuts some links, taken back whole;
+/// the same with the first of its records, checked last, made wrong.
+fn undo(random: &mut Random) {
+    let Told { after, history, .. } = histories::long(random);
+    let after = to_vec(&after);
+    let mut misfit = history.clone();
+    misfit[3] ^= 0x80;
+    let name = "undo of some 500 rows made, with cuts";
+    measure(undo_case(name, 0, &after, &history));
+    let name = "undo refused at the record looked at last";
+    measure(undo_case(name, 6, &after, &misfit));
+}
+
+fn undo_case<'a>(name: &'static str, number: u64, plan: &'a [u8], history: &'a [u8]) -> Case<'a> {
+    let (mut ours, mut theirs) = ([0; PLAN_BYTES], [0; PLAN_BYTES]);
+    Case {
+        name,
+        number,
+        library: Box::new(move || {
+            ffi::undo(black_box(plan), black_box(history), black_box(&mut ours))
+        }),
+        reference: Box::new(move || {
+            interface::undo(black_box(plan), black_box(history), black_box(&mut theirs))
+        }),
+    }
+}
+
+/// The path analysis. The worst pairs have 64 records and eight binders on
+/// both sides, whose paths are too many to list; so the reference's method is
+/// the one by positions.
+#[cfg(feature = "analysis")]
+fn analysis() {
+    let steps = [(Axis::Descendant, Test::AnyElement)];
+    let worst = most_paths(&steps, Operation::Delete);
+    // The same roads from other documents: apart only where they start.
+    let mut elsewhere = worst.clone();
+    elsewhere[2] = 1;
+    // The same roads to rows of another kind: apart only where they end.
+    let cut_leaves = ending(&worst, &[kind::DELETE, kind::STEP, 1, 2, 0]);
+    let read_elements = ending(&worst, &[kind::STEP, 0, 1, 0]);
+    let typical: [&[u8]; 2] = [
+        // The leaves below zero under the children named 2.
+        &[13, 1, 0, 4, 0, 2, 0, 4, 0, 3, 2, 2, 0],
+        // An insert of a new element into the children named 3.
+        &[12, 9, 4, 4, 0, 3, 3, 2, 0],
+    ];
+    let refused = &elsewhere[..elsewhere.len() - 1];
+    for (name, number, [first, second]) in [
+        (
+            "analysis, worst, apart at the start",
+            0,
+            [&worst[..], &elsewhere],
+        ),
+        (
+            "analysis, worst, apart at the end",
+            0,
+            [&cut_leaves, &read_elements],
+        ),
+        ("analysis, worst, met", 0, [&worst, &worst]),
+        ("analysis, typical, free", 0, typical),
+        ("analysis, second refused at its end", 2, [&worst, refused]),
+    ] {
+        measure(Case {
+            name,
+            number,
+            library: Box::new(move || ffi::analyse(black_box(first), black_box(second))),
+            reference: Box::new(move || interface::analyse(black_box(first), black_box(second))),
+        });
+    }
+}
+
+/// A script with another end instead of its delete of a variable. A record
+/// more is made up for by a step less.
+#[cfg(feature = "analysis")]
+fn ending(bytes: &[u8], end: &[u8]) -> Vec<u8> {
+    let (body, variable) = bytes.split_at(bytes.len() - 2);
+    let (rest, _) = body.split_at(body.len() - 1);
+    let mut bytes = [rest, end, variable].concat();
+    if interface::script(&bytes).number() != 0 {
+        let step = bytes.iter().position(|&byte| byte == kind::STEP);
+        let step = step.expect("there are steps");
+        bytes.drain(step..step + 4);
+    }
+    bytes
 }
 
 fn plan_case<'a>(name: &'static str, number: u64, plan: &'a [u8]) -> Case<'a> {
