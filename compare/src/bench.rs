@@ -5,7 +5,7 @@ use std::time::{Duration, Instant};
 
 use compare::generate::histories::{self, Told};
 #[cfg(feature = "analysis")]
-use compare::generate::pairs::most_paths;
+use compare::generate::pairs::{most_paths, most_steps};
 use compare::generate::plans::full_table;
 use compare::generate::random::Random;
 use compare::generate::scripts::{script, Wanted};
@@ -13,7 +13,7 @@ use compare::interface::{self, Answer};
 use compare::reference::limits::{BINDERS, DEPTH, PLAN_BYTES, SCRIPT_RECORDS};
 use compare::reference::plan::to_vec;
 #[cfg(feature = "analysis")]
-use compare::reference::script::{kind, Axis, Operation, Test};
+use compare::reference::script::{Axis, Operation, Test};
 
 use crate::ffi;
 
@@ -87,41 +87,46 @@ fn undo_case<'a>(name: &'static str, number: u64, plan: &'a [u8], history: &'a [
     }
 }
 
-/// The path analysis. The worst pairs have 64 records and eight binders on
-/// both sides, whose paths are too many to list; so the reference's method is
-/// the one by positions.
+/// The path analysis. The worst pairs have 64 records on both sides, with eight
+/// binders or 48 steps. With binders the paths are too many to list; so the
+/// reference's method is the one by positions.
 #[cfg(feature = "analysis")]
 fn analysis() {
     let steps = [(Axis::Descendant, Test::AnyElement)];
-    let worst = most_paths(&steps, Operation::Delete);
-    // The same roads from other documents: apart only where they start.
-    let mut elsewhere = worst.clone();
-    elsewhere[2] = 1;
-    // The same roads to rows of another kind: apart only where they end.
-    let cut_leaves = ending(&worst, &[kind::DELETE, kind::STEP, 1, 2, 0]);
-    let read_elements = ending(&worst, &[kind::STEP, 0, 1, 0]);
+    let delete = Operation::Delete;
+    let to_leaves = Operation::Step(Axis::Descendant, Test::AnyLeaf);
+    let to_elements = Operation::Step(Axis::Child, Test::AnyElement);
+    // The same paths from other documents: apart only where they start.
+    let [here, there] = [0, 1].map(|document| most_paths(document, &steps, &[delete]));
+    let [roads, roads_there] = [0, 1].map(|document| most_steps(document, &steps, delete));
+    // The same paths to rows of another kind: apart only where they end.
+    let cut_leaves = most_paths(0, &steps, &[delete, to_leaves]);
+    let read_elements = most_paths(0, &steps, &[to_elements]);
     let typical: [&[u8]; 2] = [
         // The leaves below zero under the children named 2.
         &[13, 1, 0, 4, 0, 2, 0, 4, 0, 3, 2, 2, 0],
         // An insert of a new element into the children named 3.
         &[12, 9, 4, 4, 0, 3, 3, 2, 0],
     ];
-    let refused = &elsewhere[..elsewhere.len() - 1];
-    for (name, number, [first, second]) in [
+    let refused = &there[..there.len() - 1];
+    let cases: [(_, _, [&[u8]; 2]); 7] = [
+        ("analysis, binders, apart at start", 0, [&here, &there]),
         (
-            "analysis, worst, apart at the start",
-            0,
-            [&worst[..], &elsewhere],
-        ),
-        (
-            "analysis, worst, apart at the end",
+            "analysis, binders, apart at end",
             0,
             [&cut_leaves, &read_elements],
         ),
-        ("analysis, worst, met", 0, [&worst, &worst]),
+        ("analysis, binders, met", 0, [&here, &here]),
+        (
+            "analysis, 48 steps, apart at start",
+            0,
+            [&roads, &roads_there],
+        ),
+        ("analysis, 48 steps, met", 0, [&roads, &roads]),
         ("analysis, typical, free", 0, typical),
-        ("analysis, second refused at its end", 2, [&worst, refused]),
-    ] {
+        ("analysis, second refused at its end", 2, [&here, refused]),
+    ];
+    for (name, number, [first, second]) in cases {
         measure(Case {
             name,
             number,
@@ -129,21 +134,6 @@ fn analysis() {
             reference: Box::new(move || interface::analyse(black_box(first), black_box(second))),
         });
     }
-}
-
-/// A script with another end instead of its delete of a variable. A record
-/// more is made up for by a step less.
-#[cfg(feature = "analysis")]
-fn ending(bytes: &[u8], end: &[u8]) -> Vec<u8> {
-    let (body, variable) = bytes.split_at(bytes.len() - 2);
-    let (rest, _) = body.split_at(body.len() - 1);
-    let mut bytes = [rest, end, variable].concat();
-    if interface::script(&bytes).number() != 0 {
-        let step = bytes.iter().position(|&byte| byte == kind::STEP);
-        let step = step.expect("there are steps");
-        bytes.drain(step..step + 4);
-    }
-    bytes
 }
 
 fn plan_case<'a>(name: &'static str, number: u64, plan: &'a [u8]) -> Case<'a> {

@@ -228,8 +228,10 @@ fn extend_small(
 }
 
 /// A script of 64 records with very many paths: eight binders, each but the
-/// first with two to four uses of the one before it.
-pub fn most_paths(steps: &[(Axis, Test)], last: Operation) -> Vec<u8> {
+/// first with two to four uses of the one before it. The steps are used in
+/// turn. It ends in one or two records with one operand each, of the last
+/// binder's variable.
+pub fn most_paths(document: u8, steps: &[(Axis, Test)], end: &[Operation]) -> Vec<u8> {
     let mut bytes = Vec::new();
     let mut steps = steps.iter().cycle();
     let mut use_of = |variable: u8, with_step: bool, bytes: &mut Vec<u8>| {
@@ -240,7 +242,7 @@ pub fn most_paths(steps: &[(Axis, Test)], last: Operation) -> Vec<u8> {
         encode(Operation::Variable(variable), bytes);
     };
     encode(Operation::Let, &mut bytes);
-    encode(Operation::Document(0), &mut bytes);
+    encode(Operation::Document(document), &mut bytes);
     for variable in 0..7 {
         encode(Operation::Let, &mut bytes);
         encode(Operation::Join, &mut bytes);
@@ -252,19 +254,42 @@ pub fn most_paths(steps: &[(Axis, Test)], last: Operation) -> Vec<u8> {
             encode(Operation::Join, &mut bytes);
             use_of(variable, true, &mut bytes);
             use_of(variable, false, &mut bytes);
-        } else if variable == 6 {
-            // Two uses, both with steps: six records.
-            use_of(variable, true, &mut bytes);
-            use_of(variable, true, &mut bytes);
-        } else {
+        } else if variable < 6 {
             // Three uses, one with a step: seven records.
             use_of(variable, true, &mut bytes);
             encode(Operation::Join, &mut bytes);
             use_of(variable, false, &mut bytes);
             use_of(variable, false, &mut bytes);
+        } else {
+            // Two uses, one or both with a step: what is left for the end.
+            use_of(variable, true, &mut bytes);
+            use_of(variable, end.len() == 1, &mut bytes);
         }
     }
-    encode(last, &mut bytes);
+    for &operation in end {
+        encode(operation, &mut bytes);
+    }
     encode(Operation::Variable(7), &mut bytes);
+    bytes
+}
+
+/// A script of 64 records with very many steps: eight roads of six steps each,
+/// joined below a record with one operand. The steps are used in turn.
+pub fn most_steps(document: u8, steps: &[(Axis, Test)], last: Operation) -> Vec<u8> {
+    let mut bytes = Vec::new();
+    let mut steps = steps.iter().cycle();
+    encode(last, &mut bytes);
+    for road in 0..8u32 {
+        // The joins above the roads are a balanced tree.
+        let joins = if road == 0 { 3 } else { road.trailing_zeros() };
+        for _ in 0..joins {
+            encode(Operation::Join, &mut bytes);
+        }
+        for _ in 0..6 {
+            let &(axis, test) = steps.next().expect("there are steps");
+            encode(Operation::Step(axis, test), &mut bytes);
+        }
+        encode(Operation::Document(document), &mut bytes);
+    }
     bytes
 }

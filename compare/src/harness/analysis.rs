@@ -129,22 +129,19 @@ fn limits(checker: &mut Checker, random: &mut Random, volume: Volume) -> Result<
         }
     }
     for wanted in edges::wanted_scripts() {
+        let wanted = Wanted {
+            upward: 0,
+            ..wanted
+        };
         for _ in 0..volume.of(40) {
             let [one, two] = [(); 2].map(|()| {
+                let bytes = script(random, wanted);
                 let taste = Taste {
+                    updates: random.choose(&[0, 2, 5]),
                     upward: 10,
                     ..Taste::small(random)
                 };
-                let wanted = Wanted {
-                    upward: 0,
-                    ..wanted
-                };
-                let bytes = script(random, wanted);
-                let calm = Taste {
-                    updates: taste.updates / 20,
-                    ..taste
-                };
-                pairs::retold(random, &bytes, calm)
+                pairs::retold(random, &bytes, taste)
             });
             both_ways(checker, &one, &two)?;
         }
@@ -159,36 +156,38 @@ fn many_paths(
     volume: Volume,
 ) -> Result<(), Difference> {
     let tests = [
-        Test::AnyNode,
-        Test::AnyElement,
-        Test::Named(1),
         Test::Named(2),
+        Test::Named(1),
+        Test::AnyElement,
+        Test::AnyNode,
     ];
-    let last = Operation::Step(Axis::Child, Test::AnyLeaf);
-    for _ in 0..volume.of(500) {
-        let scripts = [Operation::Delete, last].map(|last| {
+    let leaves = Operation::Step(Axis::Child, Test::AnyLeaf);
+    for _ in 0..volume.of(800) {
+        let by_steps = random.chance(50);
+        let [one, two] = [Operation::Delete, leaves].map(|last| {
             let descendants = random.choose(&[0, 0, 5, 50]);
             let few = random.between(1, tests.len());
-            let steps: Vec<(Axis, Test)> = (0..12)
+            let steps: Vec<(Axis, Test)> = (0..random.between(1, 13))
                 .map(|_| {
                     let axis = match random.chance(descendants) {
                         true => Axis::Descendant,
                         false => Axis::Child,
                     };
-                    (axis, tests[tests.len() - 1 - random.below(few)])
+                    (axis, tests[random.below(few)])
                 })
                 .collect();
-            let start = random.below(2) as u8;
-            let mut bytes = pairs::most_paths(&steps, last);
-            // Let the first binder stand for a child, and not for the root.
-            if start == 1 && random.chance(50) {
-                bytes[2] = random.below(2) as u8 + 1;
+            let document = u8::from(random.chance(20));
+            if by_steps {
+                pairs::most_steps(document, &steps, last)
+            } else if random.chance(50) {
+                pairs::most_paths(document, &steps, &[last])
+            } else {
+                pairs::most_paths(document, &steps, &[last, leaves])
             }
-            bytes
         });
-        both_ways(checker, &scripts[0], &scripts[1])?;
-        both_ways(checker, &scripts[0], &scripts[0])?;
-        both_ways(checker, &scripts[1], &scripts[1])?;
+        both_ways(checker, &one, &two)?;
+        both_ways(checker, &one, &one)?;
+        both_ways(checker, &two, &two)?;
     }
     Ok(())
 }

@@ -1,6 +1,6 @@
 //! The ways of the path analysis agree.
 
-use crate::generate::pairs::{most_paths, pair, small, small_scripts};
+use crate::generate::pairs::{most_paths, most_steps, pair, small, small_scripts};
 use crate::generate::random::Random;
 use crate::reference::analysis::{self, smallest_meeting, Answer};
 use crate::reference::limits::SCRIPT_RECORDS;
@@ -71,11 +71,16 @@ fn small_trees_agree_with_sets_of_paths() {
 #[test]
 fn scripts_with_most_paths_are_at_the_limit() {
     let steps = [(Axis::Child, Test::Named(1)), (Axis::Child, Test::Named(2))];
-    let bytes = most_paths(&steps, Operation::Delete);
-    let script = read(&bytes).expect("within the limits");
-    assert_eq!(script.records.len(), SCRIPT_RECORDS);
-    assert!(count_at_most(&script) > 1000);
-    assert_eq!(positions::analyse(&bytes, &bytes), Ok(Answer::Meet));
+    let step = Operation::Step(Axis::Child, Test::AnyElement);
+    let paths = most_paths(0, &steps, &[Operation::Delete]);
+    let two_at_the_end = most_paths(0, &steps, &[Operation::Delete, step]);
+    let roads = most_steps(0, &steps, Operation::Delete);
+    for bytes in [&paths, &two_at_the_end, &roads] {
+        let script = read(bytes).expect("within the limits");
+        assert_eq!(script.records.len(), SCRIPT_RECORDS);
+        assert_eq!(positions::analyse(bytes, bytes), Ok(Answer::Meet));
+    }
+    assert!(count_at_most(&read(&paths).expect("within the limits")) > 1000);
 }
 
 #[test]
