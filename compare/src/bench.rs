@@ -3,12 +3,17 @@
 use std::hint::black_box;
 use std::time::{Duration, Instant};
 
+use compare::generate::histories::{self, Told};
+#[cfg(feature = "analysis")]
+use compare::generate::pairs::{most_paths, most_steps};
 use compare::generate::plans::full_table;
 use compare::generate::random::Random;
 use compare::generate::scripts::{script, Wanted};
 use compare::interface::{self, Answer};
 use compare::reference::limits::{BINDERS, DEPTH, PLAN_BYTES, SCRIPT_RECORDS};
 use compare::reference::plan::to_vec;
+#[cfg(feature = "analysis")]
+use compare::reference::script::{Axis, Operation, Test};
 
 use crate::ffi;
 
@@ -50,6 +55,85 @@ pub fn run() {
         library: Box::new(|| ffi::script(black_box(&bytes))),
         reference: Box::new(|| interface::script(black_box(&bytes))),
     });
+    undo(&mut random);
+    #[cfg(feature = "analysis")]
+    analysis();
+}
+
+/// A history that makes some 500 rows and cuts some links, taken back whole;
+/// the same with the first of its records, checked last, made wrong.
+fn undo(random: &mut Random) {
+    let Told { after, history, .. } = histories::long(random);
+    let after = to_vec(&after);
+    let mut misfit = history.clone();
+    misfit[3] ^= 0x80;
+    let name = "undo of some 500 rows made, with cuts";
+    measure(undo_case(name, 0, &after, &history));
+    let name = "undo refused at the record looked at last";
+    measure(undo_case(name, 6, &after, &misfit));
+}
+
+fn undo_case<'a>(name: &'static str, number: u64, plan: &'a [u8], history: &'a [u8]) -> Case<'a> {
+    let (mut ours, mut theirs) = ([0; PLAN_BYTES], [0; PLAN_BYTES]);
+    Case {
+        name,
+        number,
+        library: Box::new(move || {
+            ffi::undo(black_box(plan), black_box(history), black_box(&mut ours))
+        }),
+        reference: Box::new(move || {
+            interface::undo(black_box(plan), black_box(history), black_box(&mut theirs))
+        }),
+    }
+}
+
+/// The path analysis. The worst pairs have 64 records on both sides, with eight
+/// binders or 48 steps. With binders the paths are too many to list; so the
+/// reference's method is the one by positions.
+#[cfg(feature = "analysis")]
+fn analysis() {
+    let steps = [(Axis::Descendant, Test::AnyElement)];
+    let delete = Operation::Delete;
+    let to_leaves = Operation::Step(Axis::Descendant, Test::AnyLeaf);
+    let to_elements = Operation::Step(Axis::Child, Test::AnyElement);
+    // The same paths from other documents: apart only where they start.
+    let [here, there] = [0, 1].map(|document| most_paths(document, &steps, &[delete]));
+    let [roads, roads_there] = [0, 1].map(|document| most_steps(document, &steps, delete));
+    // The same paths to rows of another kind: apart only where they end.
+    let cut_leaves = most_paths(0, &steps, &[delete, to_leaves]);
+    let read_elements = most_paths(0, &steps, &[to_elements]);
+    let typical: [&[u8]; 2] = [
+        // The leaves below zero under the children named 2.
+        &[13, 1, 0, 4, 0, 2, 0, 4, 0, 3, 2, 2, 0],
+        // An insert of a new element into the children named 3.
+        &[12, 9, 4, 4, 0, 3, 3, 2, 0],
+    ];
+    let refused = &there[..there.len() - 1];
+    let cases: [(_, _, [&[u8]; 2]); 7] = [
+        ("analysis, binders, apart at start", 0, [&here, &there]),
+        (
+            "analysis, binders, apart at end",
+            0,
+            [&cut_leaves, &read_elements],
+        ),
+        ("analysis, binders, met", 0, [&here, &here]),
+        (
+            "analysis, 48 steps, apart at start",
+            0,
+            [&roads, &roads_there],
+        ),
+        ("analysis, 48 steps, met", 0, [&roads, &roads]),
+        ("analysis, typical, free", 0, typical),
+        ("analysis, second refused at its end", 2, [&here, refused]),
+    ];
+    for (name, number, [first, second]) in cases {
+        measure(Case {
+            name,
+            number,
+            library: Box::new(move || ffi::analyse(black_box(first), black_box(second))),
+            reference: Box::new(move || interface::analyse(black_box(first), black_box(second))),
+        });
+    }
 }
 
 fn plan_case<'a>(name: &'static str, number: u64, plan: &'a [u8]) -> Case<'a> {

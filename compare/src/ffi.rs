@@ -13,6 +13,23 @@ extern "C" {
 
     fn yegnabit_script(script: *const u8, script_length: usize) -> u64;
 
+    fn yegnabit_undo(
+        plan: *const u8,
+        plan_length: usize,
+        history: *const u8,
+        history_length: usize,
+        out: *mut u8,
+        out_length: usize,
+    ) -> u64;
+
+    #[cfg(feature = "analysis")]
+    fn yegnabit_analyse(
+        first: *const u8,
+        first_length: usize,
+        second: *const u8,
+        second_length: usize,
+    ) -> u64;
+
     fn yegnabit_write_table(
         count: u64,
         rows: *const u32,
@@ -51,6 +68,29 @@ pub fn sweep(plan: &[u8], out: &mut [u8]) -> Answer {
 pub fn script(script: &[u8]) -> Answer {
     // SAFETY: see above.
     Answer(unsafe { yegnabit_script(script.as_ptr(), script.len()) })
+}
+
+/// Reads a stored plan, takes a history back and writes the plan to the start
+/// of `out`.
+pub fn undo(plan: &[u8], history: &[u8], out: &mut [u8]) -> Answer {
+    // SAFETY: see above.
+    Answer(unsafe {
+        yegnabit_undo(
+            plan.as_ptr(),
+            plan.len(),
+            history.as_ptr(),
+            history.len(),
+            out.as_mut_ptr(),
+            out.len(),
+        )
+    })
+}
+
+/// Analyses two scripts.
+#[cfg(feature = "analysis")]
+pub fn analyse(first: &[u8], second: &[u8]) -> Answer {
+    // SAFETY: see above.
+    Answer(unsafe { yegnabit_analyse(first.as_ptr(), first.len(), second.as_ptr(), second.len()) })
 }
 
 /// Writes a table handed in as words to the start of `out`.

@@ -2,13 +2,18 @@
 
 use crate::raw;
 use crate::reference::limits::{DOCUMENTS, PLAN_BYTES, ROWS};
+use crate::reference::path::Which;
 use crate::reference::refusal::{Number, Refusal};
-use crate::reference::{plan as stored, script as scripts, sweep as sweeping};
+use crate::reference::undo as undoing;
+use crate::reference::{analysis, plan as stored, positions, script as scripts, sweep as sweeping};
 
 /// Which input a refusal is about.
 pub const WHICH_NONE: u64 = 0;
 pub const WHICH_PLAN: u64 = 1;
 pub const WHICH_SCRIPT: u64 = 2;
+pub const WHICH_HISTORY: u64 = 2;
+pub const WHICH_FIRST: u64 = 1;
+pub const WHICH_SECOND: u64 = 2;
 
 const WHICH_UNIT: u64 = 256;
 const PLACE_UNIT: u64 = 65_536;
@@ -21,6 +26,16 @@ pub struct Answer(pub u64);
 impl Answer {
     pub fn accepted(place: usize) -> Answer {
         Answer(PLACE_UNIT * place as u64)
+    }
+
+    /// What an analysis says stands where a refusal has its input.
+    pub fn analysed(answer: analysis::Answer) -> Answer {
+        let which = match answer {
+            analysis::Answer::Free => 0,
+            analysis::Answer::Upward => 1,
+            analysis::Answer::Meet => 2,
+        };
+        Answer(WHICH_UNIT * which)
     }
 
     pub fn refused(which: u64, refusal: Refusal) -> Answer {
@@ -83,6 +98,34 @@ pub fn script(script: &[u8]) -> Answer {
     match scripts::read(script) {
         Ok(_) => Answer::accepted(0),
         Err(refusal) => Answer::refused(WHICH_SCRIPT, refusal),
+    }
+}
+
+/// Reads a stored plan, takes a history back and writes the plan back.
+pub fn undo(plan: &[u8], history: &[u8], out: &mut [u8]) -> Answer {
+    if out.len() < PLAN_BYTES {
+        return lent();
+    }
+    let mut table = match stored::read(plan) {
+        Ok(table) => table,
+        Err(refusal) => return Answer::refused(WHICH_PLAN, refusal),
+    };
+    if let Err(refusal) = undoing::undo(&mut table, history) {
+        return Answer::refused(WHICH_HISTORY, refusal);
+    }
+    match stored::encode(&table, out) {
+        Ok(length) => Answer::accepted(length),
+        Err(refusal) => Answer::refused(WHICH_NONE, refusal),
+    }
+}
+
+/// Reads two scripts and analyses them. The method is the one that does not
+/// list paths, since those can be too many.
+pub fn analyse(first: &[u8], second: &[u8]) -> Answer {
+    match positions::analyse(first, second) {
+        Ok(answer) => Answer::analysed(answer),
+        Err((Which::First, refusal)) => Answer::refused(WHICH_FIRST, refusal),
+        Err((Which::Second, refusal)) => Answer::refused(WHICH_SECOND, refusal),
     }
 }
 

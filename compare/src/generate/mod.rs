@@ -2,6 +2,8 @@
 
 pub mod damage;
 pub mod edges;
+pub mod histories;
+pub mod pairs;
 pub mod plans;
 pub mod random;
 pub mod roads;

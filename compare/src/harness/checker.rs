@@ -54,7 +54,7 @@ impl Checker {
             let written = &self.out.library()[..answer.place() as usize];
             if written != plan {
                 let message = "law broken: an accepted plan is written back otherwise";
-                return Err(told(Call::Plan, plan, message));
+                return Err(told(Call::Plan, &[plan], message));
             }
         }
         let answer = self.stored(Call::Sweep, plan, out_length)?;
@@ -64,7 +64,7 @@ impl Checker {
             let twice = &self.out.library()[..again.place() as usize];
             if again.number() != 0 || twice != once {
                 let message = "law broken: a second sweep changes something";
-                return Err(told(Call::Sweep, plan, message));
+                return Err(told(Call::Sweep, &[plan], message));
             }
         }
         Ok(())
@@ -82,7 +82,7 @@ impl Checker {
         });
         compare(answers)
             .and(areas)
-            .map_err(|message| told(call, plan, &message))?;
+            .map_err(|message| told(call, &[plan], &message))?;
         self.tally.count(call, answers.1);
         Ok(answers.1)
     }
@@ -90,9 +90,65 @@ impl Checker {
     /// Compares `yegnabit_script`.
     pub fn script(&mut self, script: &[u8]) -> Result<(), Difference> {
         let answers = (ffi::script(script), interface::script(script));
-        compare(answers).map_err(|message| told(Call::Script, script, &message))?;
+        compare(answers).map_err(|message| told(Call::Script, &[script], &message))?;
         self.tally.count(Call::Script, answers.1);
         Ok(())
+    }
+
+    /// Compares `yegnabit_undo` in an area that suffices.
+    pub fn undo(&mut self, plan: &[u8], history: &[u8]) -> Result<Answer, Difference> {
+        self.undo_in(plan, history, PLAN_BYTES)
+    }
+
+    /// Compares `yegnabit_undo` in an area of any length.
+    pub fn undo_in(
+        &mut self,
+        plan: &[u8],
+        history: &[u8],
+        out_length: usize,
+    ) -> Result<Answer, Difference> {
+        let call = Call::Undo;
+        let pattern = pattern(&self.pattern, &mut self.salt, out_length);
+        let (answers, areas) = self.out.lend(pattern, GUARD_BYTE, |ours, theirs| {
+            (
+                ffi::undo(plan, history, ours),
+                interface::undo(plan, history, theirs),
+            )
+        });
+        compare(answers)
+            .and(areas)
+            .map_err(|message| told(call, &[plan, history], &message))?;
+        self.tally.count(call, answers.1);
+        Ok(answers.1)
+    }
+
+    /// Compares `yegnabit_undo` of a history on the plan that it left: the
+    /// plan before it must come back.
+    pub fn taken_back(
+        &mut self,
+        before: &[u8],
+        after: &[u8],
+        history: &[u8],
+    ) -> Result<(), Difference> {
+        let answer = self.undo(after, history)?;
+        let written = &self.out.library()[..answer.place() as usize];
+        if answer.number() != 0 || written != before {
+            let message = "law broken: a run is not taken back by its history";
+            return Err(told(Call::Undo, &[after, history], message));
+        }
+        Ok(())
+    }
+
+    /// Compares `yegnabit_analyse`.
+    #[cfg(feature = "analysis")]
+    pub fn analyse(&mut self, first: &[u8], second: &[u8]) -> Result<Answer, Difference> {
+        let answers = (
+            ffi::analyse(first, second),
+            interface::analyse(first, second),
+        );
+        compare(answers).map_err(|message| told(Call::Analyse, &[first, second], &message))?;
+        self.tally.count(Call::Analyse, answers.1);
+        Ok(answers.1)
     }
 
     /// Compares `yegnabit_write_table` and `yegnabit_sweep_table`.
@@ -183,20 +239,23 @@ fn compare((library, reference): (Answer, Answer)) -> Result<(), Difference> {
     Err(format!("library {library:?}; reference {reference:?}"))
 }
 
-/// A message with the input in base 16.
-fn told(call: Call, input: &[u8], message: &str) -> Difference {
-    let shown: Vec<String> = input
-        .iter()
-        .take(SHOWN)
-        .map(|byte| format!("{byte:02X}"))
-        .collect();
-    let more = if input.len() > SHOWN { " .." } else { "" };
-    format!(
-        "{}: {message}\ninput of {} bytes: {}{more}",
-        call.name(),
-        input.len(),
-        shown.join(" ")
-    )
+/// A message with the inputs in base 16.
+pub fn told(call: Call, inputs: &[&[u8]], message: &str) -> Difference {
+    let mut told = format!("{}: {message}", call.name());
+    for input in inputs {
+        let shown: Vec<String> = input
+            .iter()
+            .take(SHOWN)
+            .map(|byte| format!("{byte:02X}"))
+            .collect();
+        let more = if input.len() > SHOWN { " .." } else { "" };
+        told += &format!(
+            "\ninput of {} bytes: {}{more}",
+            input.len(),
+            shown.join(" ")
+        );
+    }
+    told
 }
 
 fn told_table(call: Call, raw: &RawTable, message: &str) -> Difference {

@@ -1,11 +1,14 @@
 //! Comparisons of the library with the reference.
 
+#[cfg(feature = "analysis")]
+mod analysis;
 mod area;
 mod checker;
 mod plans;
 mod scripts;
 mod tables;
 mod tally;
+mod undoing;
 
 use std::fmt::Write;
 
@@ -50,6 +53,9 @@ pub fn test() -> Result<String, Difference> {
         ("plans", plans::test as fn(&mut Checker, Volume) -> _),
         ("scripts", scripts::test),
         ("tables", tables::test),
+        ("undo", undoing::test),
+        #[cfg(feature = "analysis")]
+        ("analysis", analysis::test),
     ] {
         let start = std::time::Instant::now();
         part(&mut checker, volume)?;
@@ -57,7 +63,7 @@ pub fn test() -> Result<String, Difference> {
         writeln!(summary, "{name}: {seconds:.1} s").expect("a string takes all");
     }
     checker.tally.require_coverage()?;
-    for call in Call::ALL {
+    for &call in Call::ALL {
         writeln!(summary, "{}", checker.tally.line(call)).expect("a string takes all");
     }
     summary.push_str("no difference\n");

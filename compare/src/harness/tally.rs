@@ -7,6 +7,12 @@ use super::Difference;
 
 /// Numbers of refusals run from 1 to 11; 0 counts what was accepted.
 const NUMBERS: usize = 12;
+/// What the field `which` can be.
+const WHICHES: usize = 3;
+const CALLS: usize = 7;
+/// Of the pairs of scripts analysed each answer has at least this share.
+const LEAST_PERCENT: f64 = 5.0;
+const ANALYSED: [&str; WHICHES] = ["free", "upward", "meet"];
 
 /// The calls of the C interface.
 #[derive(Clone, Copy, Debug, PartialEq, Eq)]
@@ -16,15 +22,21 @@ pub enum Call {
     Script,
     WriteTable,
     SweepTable,
+    Undo,
+    #[cfg_attr(not(feature = "analysis"), allow(dead_code))]
+    Analyse,
 }
 
 impl Call {
-    pub const ALL: [Call; 5] = [
+    pub const ALL: &'static [Call] = &[
         Call::Plan,
         Call::Sweep,
         Call::Script,
         Call::WriteTable,
         Call::SweepTable,
+        Call::Undo,
+        #[cfg(feature = "analysis")]
+        Call::Analyse,
     ];
 
     pub const fn name(self) -> &'static str {
@@ -34,47 +46,80 @@ impl Call {
             Call::Script => "yegnabit_script",
             Call::WriteTable => "yegnabit_write_table",
             Call::SweepTable => "yegnabit_sweep_table",
+            Call::Undo => "yegnabit_undo",
+            Call::Analyse => "yegnabit_analyse",
         }
     }
 
-    /// The numbers that the inputs must bring about, 0 being no refusal.
-    const fn due(self) -> &'static [usize] {
+    /// What the inputs must bring about: each `which`, and the numbers with
+    /// it, 0 being no refusal.
+    const fn due(self) -> &'static [(usize, &'static [usize])] {
         match self {
-            Call::Plan | Call::Sweep => &[0, 1, 2, 4, 5, 6, 11],
-            Call::Script => &[0, 1, 2, 3, 4, 5],
-            Call::WriteTable | Call::SweepTable => &[0, 6, 11],
+            Call::Plan | Call::Sweep => &[(0, &[0, 11]), (1, &[1, 2, 4, 5, 6])],
+            Call::Script => &[(0, &[0]), (2, &[1, 2, 3, 4, 5])],
+            Call::WriteTable | Call::SweepTable => &[(0, &[0, 11]), (1, &[6])],
+            Call::Undo => &[(0, &[0, 11]), (1, &[1, 2, 4, 5, 6]), (2, &[1, 2, 4, 5, 6])],
+            Call::Analyse => &[
+                (0, &[0]),
+                (1, &[0, 1, 2, 3, 4, 5]),
+                (2, &[0, 1, 2, 3, 4, 5]),
+            ],
         }
     }
 }
 
 #[derive(Default)]
 pub struct Tally {
-    counts: [[u64; NUMBERS]; Call::ALL.len()],
+    counts: [[[u64; NUMBERS]; WHICHES]; CALLS],
 }
 
 impl Tally {
     pub fn count(&mut self, call: Call, answer: Answer) {
-        self.counts[call as usize][answer.number() as usize] += 1;
+        let (which, number) = (answer.which() as usize, answer.number() as usize);
+        self.counts[call as usize][which][number] += 1;
     }
 
     /// Refuses a test whose inputs left some answer out.
     pub fn require_coverage(&self) -> Result<(), Difference> {
-        for call in Call::ALL {
-            for &number in call.due() {
-                if self.counts[call as usize][number] == 0 {
-                    return Err(format!("no input of {} gave number {number}", call.name()));
+        for &call in Call::ALL {
+            for &(which, numbers) in call.due() {
+                for &number in numbers {
+                    if self.counts[call as usize][which][number] == 0 {
+                        let name = call.name();
+                        let message = format!("no input of {name} gave {number}, which {which}");
+                        return Err(message);
+                    }
                 }
             }
         }
-        Ok(())
+        let mut shares = ANALYSED.iter().zip(self.analysed_percents());
+        match shares.find(|(_, percent)| *percent < LEAST_PERCENT) {
+            Some((word, percent)) => Err(format!("only {percent:.2}% of the pairs are {word}")),
+            None => Ok(()),
+        }
+    }
+
+    /// The shares of free, upward and meet among the pairs not refused.
+    fn analysed_percents(&self) -> Vec<f64> {
+        let counts = self.counts[Call::Analyse as usize].map(|numbers| numbers[0]);
+        let total: u64 = counts.iter().sum();
+        if total == 0 {
+            return Vec::new();
+        }
+        let percent = |count: u64| 100.0 * count as f64 / total as f64;
+        counts.map(percent).to_vec()
     }
 
     /// A line for a call: inputs, and the share of each number.
     pub fn line(&self, call: Call) -> String {
         let counts = &self.counts[call as usize];
-        let total: u64 = counts.iter().sum();
+        let total: u64 = counts.iter().flatten().sum();
         let mut line = format!("{:<20} {total:>9} inputs:", call.name());
-        for (number, &count) in counts.iter().enumerate().filter(|(_, &count)| count > 0) {
+        for number in 0..NUMBERS {
+            let count: u64 = counts.iter().map(|numbers| numbers[number]).sum();
+            if count == 0 {
+                continue;
+            }
             let percent = 100.0 * count as f64 / total as f64;
             let label = match number {
                 0 => "accepted".to_string(),
@@ -83,6 +128,13 @@ impl Tally {
             write!(line, " {label}: {percent:.2}%,").expect("a string takes all");
         }
         line.pop();
+        if call == Call::Analyse {
+            line.push_str("; of those accepted");
+            for (word, percent) in ANALYSED.iter().zip(self.analysed_percents()) {
+                write!(line, " {word}: {percent:.2}%,").expect("a string takes all");
+            }
+            line.pop();
+        }
         line
     }
 }

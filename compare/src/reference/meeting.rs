@@ -10,7 +10,7 @@ use super::path::{Path, Step};
 use super::script::{Axis, Test};
 
 /// Is there a row that passes both tests? Only an element can have rows below.
-fn compatible(left: Test, right: Test, element: bool) -> bool {
+pub fn compatible(left: Test, right: Test, element: bool) -> bool {
     match (left, right) {
         (Test::AnyLeaf, Test::AnyElement | Test::Named(_))
         | (Test::AnyElement | Test::Named(_), Test::AnyLeaf) => false,

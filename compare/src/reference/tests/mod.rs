@@ -1,6 +1,7 @@
 //! Tests of the reference. Expected values come from document 01 by hand.
 
 mod lent;
+mod methods;
 mod paths;
 mod properties;
 mod readers;

@@ -2,6 +2,7 @@
 
 use crate::reference::analysis::{analyse, Answer};
 use crate::reference::path::Which;
+use crate::reference::positions;
 use crate::reference::refusal::Number;
 
 const CHILD: u8 = 0;
@@ -32,10 +33,12 @@ fn insert(source: &[u8], target: &[u8]) -> Vec<u8> {
     [&[0x0C][..], source, target].concat()
 }
 
-/// Asks in both orders.
+/// Asks in both orders, and both methods.
 fn analysed(first: &[u8], second: &[u8]) -> Answer {
     let answer = analyse(first, second).expect("both are read");
     assert_eq!(analyse(second, first), Ok(answer));
+    assert_eq!(positions::analyse(first, second), Ok(answer));
+    assert_eq!(positions::analyse(second, first), Ok(answer));
     answer
 }
 

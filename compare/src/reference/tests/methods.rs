@@ -1,0 +1,96 @@
+//! The ways of the path analysis agree.
+
+use crate::generate::pairs::{most_paths, most_steps, pair, small, small_scripts};
+use crate::generate::random::Random;
+use crate::reference::analysis::{self, smallest_meeting, Answer};
+use crate::reference::limits::SCRIPT_RECORDS;
+use crate::reference::path::{count_at_most, infer, Which};
+use crate::reference::positions;
+use crate::reference::script::{read, Axis, Operation, Test};
+use crate::reference::small_trees::SmallTrees;
+
+/// Scripts whose paths would be too many to list are left out.
+const MOST_PATHS: u64 = 120;
+
+#[test]
+fn positions_agree_with_sets_of_paths() {
+    let mut random = Random::new(1);
+    let mut counts = [0; 3];
+    for _ in 0..6000 {
+        let [first, second] = pair(&mut random);
+        let (Ok(first), Ok(second)) = (read(&first), read(&second)) else {
+            continue;
+        };
+        if count_at_most(&first) > MOST_PATHS || count_at_most(&second) > MOST_PATHS {
+            continue;
+        }
+        let answer = positions::analyse_read(&first, &second);
+        assert_eq!(analysis::analyse_read(&first, &second), answer);
+        counts[answer as usize] += 1;
+    }
+    assert!(counts.iter().all(|&count| count > 400), "{counts:?}");
+}
+
+/// Small trees show a meeting exactly when one needs no more rows than they
+/// have, and they say rightly when they have enough.
+#[test]
+fn small_trees_agree_with_sets_of_paths() {
+    const ROWS: usize = 4;
+    let trees = SmallTrees::new(ROWS);
+    let mut random = Random::new(2);
+    let (mut found, mut larger, mut none) = (0, 0, 0);
+    for _ in 0..1500 {
+        let scripts = [(); 2].map(|()| read(&small(&mut random)));
+        let [Ok(first), Ok(second)] = scripts else {
+            continue;
+        };
+        if count_at_most(&first) > MOST_PATHS || count_at_most(&second) > MOST_PATHS {
+            continue;
+        }
+        let first = infer(&first, Which::First);
+        let second = infer(&second, Which::Second);
+        let smallest = smallest_meeting(&first, &second);
+        let expected = smallest.is_some_and(|rows| rows <= ROWS);
+        let (one, two) = (trees.seen(&first), trees.seen(&second));
+        assert_eq!(trees.find_meeting(&one, &two), expected);
+        match smallest {
+            Some(_) if expected => found += 1,
+            Some(_) => {
+                assert!(!trees.are_enough(&one, &two));
+                larger += 1;
+            }
+            None => none += 1,
+        }
+    }
+    assert!(
+        found > 100 && larger > 0 && none > 100,
+        "{found} found, {larger} larger, {none} none"
+    );
+}
+
+#[test]
+fn scripts_with_most_paths_are_at_the_limit() {
+    let steps = [(Axis::Child, Test::Named(1)), (Axis::Child, Test::Named(2))];
+    let step = Operation::Step(Axis::Child, Test::AnyElement);
+    let paths = most_paths(0, &steps, &[Operation::Delete]);
+    let two_at_the_end = most_paths(0, &steps, &[Operation::Delete, step]);
+    let roads = most_steps(0, &steps, Operation::Delete);
+    for bytes in [&paths, &two_at_the_end, &roads] {
+        let script = read(bytes).expect("within the limits");
+        assert_eq!(script.records.len(), SCRIPT_RECORDS);
+        assert_eq!(positions::analyse(bytes, bytes), Ok(Answer::Meet));
+    }
+    assert!(count_at_most(&read(&paths).expect("within the limits")) > 1000);
+}
+
+#[test]
+fn small_scripts_are_all_different() {
+    let mut scripts = small_scripts(3);
+    let count = scripts.len();
+    scripts.sort();
+    scripts.dedup();
+    assert_eq!(scripts.len(), count);
+    // Without operands, and then with one operand each.
+    assert_eq!(small_scripts(1).len(), 4);
+    assert_eq!(small_scripts(2).len(), 4 + 9 * 4);
+}
