@@ -10,7 +10,19 @@ use Rattle.model.specs.Base.{pick}
 use Rattle.script.specs.Reading.{scriptRead}
 use Rattle.table.specs.declared.Fault.{Fault}
 use Rattle.table.specs.declared.TableResult.{TableResult}
-use Rattle.ffi.specs.Calls.{codeOf, shortCode, readCode, readOut, writtenCode, scriptCode, undonePlan, backCode, backOut}
+use Rattle.ffi.specs.Calls.{
+  codeOf,
+  shortCode,
+  readCode,
+  readOut,
+  writtenCode,
+  scriptCode,
+  undonePlan,
+  backCode,
+  backOut,
+  analysisCode,
+}
+use Rattle.paths.specs.declared.Analysis.{Analysis}
 use Rattle.table.specs.Calls as library
 use Rattle.table.specs.declared.Written.{Written}
 
@@ -78,3 +90,7 @@ undo-done p h o r w o′ c e z f g k =
 
     left : library.planOut (r .table) o ≡ backOut r o
     left = rw y
+
+-- an analysis told by its variant
+pub analysis-told : {a v w : Analysis} {r : ℕ} → a ≡ w → a ≡ v → r ≡ analysisCode v → r ≡ analysisCode w
+analysis-told e v r = r ∙ ap analysisCode (sym v ∙ e)

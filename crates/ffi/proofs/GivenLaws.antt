@@ -10,7 +10,8 @@ use Rattle.table.specs.Calls as library
 use Rattle.table.specs.declared.Table.{Table}
 use Rattle.table.specs.declared.TableResult.{TableResult}
 use Rattle.table.specs.declared.Written.{Written}
-use Rattle.ffi.specs.Calls.{codeOf, shortCode, writtenCode, isGiven, given, writeCode, writeOut, sweptTable, sweptCode, sweptRows, sweptMarks}
+use Rattle.ffi.specs.Calls.{codeOf, shortCode, writtenCode, isGiven, given, writeCode}
+use Rattle.ffi.specs.Calls.{writeOut, sweptTable, sweptCode, sweptRows, sweptMarks}
 
 pub rows-not-given : (ws ms : List ℕ) → (length ws ≡ 512 → ⊥) → isGiven ws ms ≡ false
 rows-not-given ws ms z = rw (ne-eqb (length ws) 512 z)

@@ -16,7 +16,8 @@ use Rattle.model.specs.History.{Record, historyBytes, replayAll}
 use Rattle.model.specs.Run.{State, Out, stop, gives, runOn}
 use Rattle.model.specs.Meeting.{free, answer}
 use Rattle.model.specs.Promise.{IsScript, ends, tableOf, orderEnds, OrdersEqual, matchedAll, matchedHistory, PlansEqual}
-use Rattle.model.specs.Call.{answered, firstBy, analyse, Ran, filled, countKind, runBy, ranBy, areasFit, runCall, callsEnd, CallsMatch, CallsEqual, CallsCommute}
+use Rattle.model.specs.Call.{answered, firstBy, analyse, Ran, filled, countKind, runBy}
+use Rattle.model.specs.Call.{ranBy, areasFit, runCall, callsEnd, CallsMatch, CallsEqual, CallsCommute}
 use Rattle.model.proofs.BoolLaws.{pick-true, and-left}
 use Rattle.model.proofs.StopLaws.{stop-refuses}
 use Rattle.model.proofs.RunsBack.{runsBack}

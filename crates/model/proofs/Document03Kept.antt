@@ -9,7 +9,8 @@ use lib.Dec.{ltb, leb, eqb}
 use lib.ListN.{length, getD, take, drop, set}
 use Rattle.model.specs.Base.{pick, any, isIn}
 use Rattle.model.specs.Refusal.{Fault, fault, fine, isFine, orElse}
-use Rattle.model.specs.Table.{Row, Table, table, empty, rowAt, count, isElement, hasParent, isThe, isMarked, withRow, tagFits, parentFits}
+use Rattle.model.specs.Table.{Row, Table, table, empty, rowAt, count, isElement}
+use Rattle.model.specs.Table.{hasParent, isThe, isMarked, withRow, tagFits, parentFits}
 use Rattle.model.specs.Stored.{Read, bad, got, wordAt, rowIn, isMark, lastMarked, rowLinks, recorded}
 use Rattle.model.specs.Step.{isBelow, relates}
 use Rattle.model.specs.Script.{testFits}

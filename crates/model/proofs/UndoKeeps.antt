@@ -11,7 +11,8 @@ use lib.Seq.{length-take-le, getD-take}
 use borrow.Author.Tests.{ltb-true, eqb-true, eqb-false, not-true}
 use Rattle.model.specs.Base.{pick, any}
 use Rattle.model.specs.Refusal.{linkAt}
-use Rattle.model.specs.Table.{Row, Table, table, noRow, rowAt, count, isElement, isMarked, hasParent, linked, withParent, tagFits, isWell}
+use Rattle.model.specs.Table.{Row, Table, table, noRow, rowAt, count, isElement}
+use Rattle.model.specs.Table.{isMarked, hasParent, linked, withParent, tagFits, isWell}
 use Rattle.model.specs.History.{Record, cutKind, madeLeafKind}
 use Rattle.model.specs.Undo.{Placed, Formed, broken, formed, formFrom, sameBool, sameParent, madeFits, oldParentFits, cutFits}
 use Rattle.model.specs.Undo.{undoFits, undone, Undo, refused, back, undoAll, backwards, undoFormed, undo}

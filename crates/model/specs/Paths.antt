@@ -4,7 +4,8 @@ use mathlib.Core.List.{List, [], _∷_, _++_}
 use Prim.Native.Nat.{ℕ}
 use lib.Dec.{leb}
 use lib.ListN.{getD}
-use Rattle.model.specs.Script.{Step, stepBy, Expr, nil, document, var, step, both, letIn, forIn, ifIn, element, leaf, delete, insert, choose}
+use Rattle.model.specs.Script.{Step, stepBy, Expr, nil, document, var, step, both}
+use Rattle.model.specs.Script.{letIn, forIn, ifIn, element, leaf, delete, insert, choose}
 
 -- PLACES: documents 0 to 7 (owner 0), and the constructor records of each script (owner 1 or 2, by the record's place)
 pub record Place : Type 0 where

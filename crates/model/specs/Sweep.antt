@@ -1,4 +1,5 @@
--- Document 01, 'Sweep': drops each row that is neither marked nor below a marked row, and renumbers. Assumes nothing: these are definitions.
+-- Document 01, 'Sweep': drops each row that is neither marked nor below a marked row, and renumbers.
+-- Assumes nothing: these are definitions.
 use mathlib.Core.Bool.{Bool, false, _||_}
 use mathlib.Core.List.{List, [], _∷_}
 use mathlib.Core.Option.{Option, none, some}

@@ -18,7 +18,8 @@ use Rattle.model.proofs.BoolLaws.{by-cases, pick-true, pick-false}
 use Rattle.table.specs.Words.{linked, rowOf, decodeParts}
 use Rattle.table.proofs.WordLaws.{count-decode, rowAt-decode}
 use Rattle.table.proofs.ReadLaws.{isThe-linked}
-use Rattle.run.specs.Stepping.{bit, Flagged, counted, descended, climbed, RowsHeld, PassPre, Reached, Descending, Climbing, anyFrom, upTo, childCounts}
+use Rattle.run.specs.Stepping.{bit, Flagged, counted, descended, climbed, RowsHeld, PassPre}
+use Rattle.run.specs.Stepping.{Reached, Descending, Climbing, anyFrom, upTo, childCounts}
 use Rattle.run.proofs.ReachLaws.{downTo, down-parent, up-children}
 
 pub not-zero : (t : Bool) → not (eqb (bit t) 0) ≡ t

@@ -14,11 +14,13 @@ use borrow.Author.Tests.{lt-ltb, le-ltb, le-leb, lt-leb, eq-eqb, ne-eqb, eqb-tru
 use Rattle.model.specs.Base.{pick, isIn, any}
 use Rattle.model.specs.Refusal.{Fault, fault, fine, isFine}
 use Rattle.model.specs.Table as model
-use Rattle.model.specs.Stored.{wordAt, rowIn, parentIn, rowFault, markFault, rowLinks, markLinks, lastMarked, recordFault, recorded, readFrom, readPlan, bad, got}
+use Rattle.model.specs.Stored.{wordAt, rowIn, parentIn, rowFault, markFault, rowLinks, markLinks}
+use Rattle.model.specs.Stored.{lastMarked, recordFault, recorded, readFrom, readPlan, bad, got}
 use Rattle.model.proofs.BoolLaws.{by-cases, pick-true, pick-false}
 use Rattle.model.proofs.StoredLaws.{readFrom-end, readFrom-fine, readFrom-refused}
 use Rattle.table.specs.Words.{linkOf, linked, wordOf, rowOf, rowsOf, wordsOf, decodeParts, encode}
-use Rattle.table.specs.Reading.{lastOf, RowPre, RowPost, MarkPre, MarkPost, RecordPre, RecordPost, Recorded, Held, ReadPre, ReadPost, faultAt}
+use Rattle.table.specs.Reading.{lastOf, RowPre, RowPost, MarkPre, MarkPost, RecordPre}
+use Rattle.table.specs.Reading.{RecordPost, Recorded, Held, ReadPre, ReadPost, faultAt}
 use Rattle.table.specs.Calls.{readBy, planRead}
 use Rattle.table.specs.declared.Table.{Table}
 use Rattle.table.specs.declared.TableResult.{TableResult}

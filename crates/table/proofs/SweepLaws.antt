@@ -8,7 +8,8 @@ use native.Mathlib.Omega.{arith}
 use native.Mathlib.Nat.{add-zero, zero-add}
 use native.Mathlib.Numerals.{add-one}
 use lib.Dec.{ltb, leb, eqb}
-use lib.ListN.{length, getD, take, drop, set, replicate, length-map, List·getD-map, length-set, drop-of-length-le, length-replicate, getD-replicate}
+use lib.ListN.{length, getD, take, drop, set, replicate}
+use lib.ListN.{length-map, List·getD-map, length-set, drop-of-length-le, length-replicate, getD-replicate}
 use lib.Seq.{drop-cons, set-at, getD-at, append-snoc, take-suc, take-all, ext-getD, length-take-le, getD-set-same, getD-set-other}
 use borrow.Author.Tests.{lt-ltb, le-ltb, le-leb, eq-eqb, ne-eqb, eqb-true, eqb-false, leb-true}
 use Rattle.model.specs.Base.{pick, isIn, all, any}
@@ -25,7 +26,8 @@ use Rattle.table.proofs.WordLaws.{linked-linkOf, linkOf-linked, map-app
 use Rattle.table.proofs.WriteLaws.{rows-next}
 use Rattle.table.proofs.ReadLaws.{isThe-linked}
 use Rattle.table.proofs.CallLaws.{Fits}
-use Rattle.model.proofs.SweepLaws.{newNumber-zero, newNumber-suc, isKept-unrolled, newNumber-le, isKept-marked, isKept-parent, length-sweptRows, length-sweptMarks, sweptMarks-at}
+use Rattle.model.proofs.SweepLaws.{newNumber-zero, newNumber-suc, isKept-unrolled, newNumber-le, isKept-marked}
+use Rattle.model.proofs.SweepLaws.{isKept-parent, length-sweptRows, length-sweptMarks, sweptMarks-at}
 use Rattle.model.proofs.TableLaws.{any-by}
 
 -- FLAGS: none at first, and one mark more

@@ -112,7 +112,8 @@ returns-4 c = sweep-done (c .before .before .before .before .before .before .bef
       needs,
     )) (search (
       c .before .before
-          .before .before .before .before .before .before .before .before .before .before .before .before .before .before .before .if2 .left,
+          .before .before .before .before .before .before .before .before .before .before .before .before .before .before .before .if2
+          .left,
       needs,
     ))) (c .before .before .before .before .before .before .before .before .before .before .before .before .sweep-table .ensures) (c
     .code4 .result) (c .before .before .before .before .before .before .before .put-rows .last .0) (c .before .before .before .put-marks

@@ -76,7 +76,8 @@ returns-4 c = let z : c .before .before .before .before .before .before .before 
       le-leb (c .before .before .before .before .before .before .before .before .args .link) (c
           .before .before .before .before .before .before .before .before .args .count) k,
       ne-eqb (getD (c .before .before .before .before
-          .before .before .before .before .args .rows .now) (c .before .before .before .before .before .before .before .before .args .link - 1)
+          .before .before .before .before .args .rows .now) (c .before .before .before .before .before .before .before .before .args
+          .link - 1)
           0 % 4) 2 e,
     ) (ap (λ (j : ℕ). eqb j 0) (c .link .ensures ∙ ap (λ (j : ℕ). getD (c .before .before .before .before .before .before
     .before .before .args .rows .now) (j - 1) 0 / 4 % 1024) (c .before .before .before .before .before .before .index .ensures)))

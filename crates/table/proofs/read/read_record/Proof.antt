@@ -1,6 +1,7 @@
 use Rattle.table.proofs.ReadLaws.{mark-record, row-record}
 use Rattle.model.specs.Table
-use Rattle.table.proofs.ReadLaws.{refused, record-low, record-high, record-mark-short, record-mark, recorded-mark, record-size, record-row-short, record-row, recorded-row, decode-mark, decode-row, lastOf-set}
+use Rattle.table.proofs.ReadLaws.{refused, record-low, record-high, record-mark-short, record-mark, recorded-mark, record-size}
+use Rattle.table.proofs.ReadLaws.{record-row-short, record-row, recorded-row, decode-mark, decode-row, lastOf-set}
 use Rattle.table.proofs.WordLaws.{count-decode, canonical-push}
 use Rattle.table.specs.Words.{decodeParts}
 use lib.ListN.{length, getD, set, length-set}
