@@ -5,7 +5,7 @@ use std::time::{Duration, Instant};
 
 use compare::generate::histories::{self, Told};
 #[cfg(feature = "analysis")]
-use compare::generate::pairs::{most_paths, most_steps};
+use compare::generate::pairs::{most_deletes, most_paths, most_steps};
 use compare::generate::plans::full_table;
 use compare::generate::random::Random;
 use compare::generate::scripts::{script, Wanted};
@@ -88,8 +88,9 @@ fn undo_case<'a>(name: &'static str, number: u64, plan: &'a [u8], history: &'a [
 }
 
 /// The path analysis. The worst pairs have 64 records on both sides, with eight
-/// binders or 48 steps. With binders the paths are too many to list; so the
-/// reference's method is the one by positions.
+/// binders, 48 steps or 55 deletes. Four uses of each of eight variables would
+/// take 65 records, so the last ones have fewer. With binders the paths are too
+/// many to list; so the reference's method is the one by positions.
 #[cfg(feature = "analysis")]
 fn analysis() {
     let steps = [(Axis::Descendant, Test::AnyElement)];
@@ -99,6 +100,7 @@ fn analysis() {
     // The same paths from other documents: apart only where they start.
     let [here, there] = [0, 1].map(|document| most_paths(document, &steps, &[delete]));
     let [roads, roads_there] = [0, 1].map(|document| most_steps(document, &steps, delete));
+    let [cuts, cuts_there] = [0, 1].map(most_deletes);
     // The same paths to rows of another kind: apart only where they end.
     let cut_leaves = most_paths(0, &steps, &[delete, to_leaves]);
     let read_elements = most_paths(0, &steps, &[to_elements]);
@@ -109,7 +111,7 @@ fn analysis() {
         &[12, 9, 4, 4, 0, 3, 3, 2, 0],
     ];
     let refused = &there[..there.len() - 1];
-    let cases: [(_, _, [&[u8]; 2]); 7] = [
+    let cases: [(_, _, [&[u8]; 2]); 8] = [
         ("analysis, binders, apart at start", 0, [&here, &there]),
         (
             "analysis, binders, apart at end",
@@ -123,6 +125,11 @@ fn analysis() {
             [&roads, &roads_there],
         ),
         ("analysis, 48 steps, met", 0, [&roads, &roads]),
+        (
+            "analysis, 55 deletes, apart at start",
+            0,
+            [&cuts, &cuts_there],
+        ),
         ("analysis, typical, free", 0, typical),
         ("analysis, second refused at its end", 2, [&here, refused]),
     ];

@@ -293,3 +293,19 @@ pub fn most_steps(document: u8, steps: &[(Axis, Test)], last: Operation) -> Vec<
     }
     bytes
 }
+
+/// A script of 64 records with the most positions, for an analysis that has two
+/// for a delete: five chains of eleven deletes, joined.
+pub fn most_deletes(document: u8) -> Vec<u8> {
+    let mut bytes = Vec::new();
+    for joins in [2, 0, 1, 1, 0] {
+        for _ in 0..joins {
+            encode(Operation::Join, &mut bytes);
+        }
+        for _ in 0..11 {
+            encode(Operation::Delete, &mut bytes);
+        }
+        encode(Operation::Document(document), &mut bytes);
+    }
+    bytes
+}

@@ -6,7 +6,7 @@ use compare::generate::pairs::{self, Taste};
 use compare::generate::random::Random;
 use compare::generate::scripts::{script, Wanted};
 use compare::interface::Answer;
-use compare::reference::analysis::analyse_read;
+use compare::reference::analysis::{self, analyse_read};
 use compare::reference::path::{count_at_most, infer, Which};
 use compare::reference::script::{kind, read, Axis, Operation, Test};
 use compare::reference::small_trees::{Seen, SmallTrees};
@@ -14,6 +14,7 @@ use compare::reference::small_trees::{Seen, SmallTrees};
 use super::checker::{told, Checker};
 use super::tally::Call;
 use super::{Difference, Volume};
+use crate::ffi;
 
 const SEED: u64 = 0x61;
 /// The most paths of a script for which they are listed.
@@ -26,9 +27,12 @@ const SOME_RECORDS: usize = 3;
 const TREE_ROWS: usize = 4;
 /// Rows of the trees tried for random scripts.
 const LARGE_TREE_ROWS: usize = 5;
+/// An analysis needs no more stack than this, in bytes.
+const STACK: usize = 128 * 1024;
 
 pub fn test(checker: &mut Checker, volume: Volume) -> Result<(), Difference> {
     let mut random = Random::new(SEED);
+    worked(checker)?;
     for _ in 0..volume.of(60_000) {
         let [first, second] = pairs::pair(&mut random);
         both_ways(checker, &first, &second)?;
@@ -47,6 +51,31 @@ pub fn test(checker: &mut Checker, volume: Volume) -> Result<(), Difference> {
     small_pairs(checker, &mut random, volume)?;
     for _ in 0..volume.of(4) {
         random_small_pairs(checker, &mut random)?;
+    }
+    Ok(())
+}
+
+/// Document 01's own pairs, with its answers.
+fn worked(checker: &mut Checker) -> Result<(), Difference> {
+    use analysis::Answer::{Free, Meet, Upward};
+    let a: &[u8] = &[13, 1, 0, 4, 0, 2, 0, 4, 0, 3, 2, 2, 0];
+    let b: &[u8] = &[12, 9, 4, 4, 0, 3, 3, 2, 0];
+    let delete: &[u8] = &[11, 4, 0, 3, 2, 2, 0];
+    let leaves: &[u8] = &[4, 1, 2, 0, 2, 0];
+    let never_up: &[u8] = &[8, 1, 4, 2, 0, 0, 1, 1];
+    for (first, second, answer) in [
+        (a, b, Free),
+        (b, b, Free),
+        (delete, a, Meet),
+        (delete, leaves, Meet),
+        (never_up, b, Upward),
+    ] {
+        for [one, two] in [[first, second], [second, first]] {
+            if checker.analyse(one, two)? != Answer::analysed(answer) {
+                let message = format!("document 01 says {}", answer.word());
+                return Err(told(Call::Analyse, &[one, two], &message));
+            }
+        }
     }
     Ok(())
 }
@@ -146,7 +175,43 @@ fn limits(checker: &mut Checker, random: &mut Random, volume: Volume) -> Result<
             both_ways(checker, &one, &two)?;
         }
     }
+    small_stack(checker)?;
     many_paths(checker, random, volume)
+}
+
+/// The scripts with the most of binders, steps and positions, each pair on a
+/// stack of the size allowed: an overflow ends the program.
+fn small_stack(checker: &mut Checker) -> Result<(), Difference> {
+    let steps = [(Axis::Descendant, Test::AnyElement)];
+    let delete = Operation::Delete;
+    let scripts: Vec<Vec<u8>> = [0, 1]
+        .into_iter()
+        .flat_map(|document| {
+            [
+                pairs::most_paths(document, &steps, &[delete]),
+                pairs::most_steps(document, &steps, delete),
+                pairs::most_deletes(document),
+            ]
+        })
+        .collect();
+    for first in &scripts {
+        for second in &scripts {
+            let usual = checker.analyse(first, second)?;
+            let small = std::thread::scope(|scope| {
+                std::thread::Builder::new()
+                    .stack_size(STACK)
+                    .spawn_scoped(scope, || ffi::analyse(first, second))
+                    .expect("a thread starts")
+                    .join()
+                    .expect("an analysis does not panic")
+            });
+            if small != usual {
+                let message = "another answer on a small stack";
+                return Err(told(Call::Analyse, &[first, second], message));
+            }
+        }
+    }
+    Ok(())
 }
 
 /// Scripts whose sets of paths are too large to list, free and not.

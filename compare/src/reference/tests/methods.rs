@@ -1,6 +1,6 @@
 //! The ways of the path analysis agree.
 
-use crate::generate::pairs::{most_paths, most_steps, pair, small, small_scripts};
+use crate::generate::pairs::{most_deletes, most_paths, most_steps, pair, small, small_scripts};
 use crate::generate::random::Random;
 use crate::reference::analysis::{self, smallest_meeting, Answer};
 use crate::reference::limits::SCRIPT_RECORDS;
@@ -75,7 +75,8 @@ fn scripts_with_most_paths_are_at_the_limit() {
     let paths = most_paths(0, &steps, &[Operation::Delete]);
     let two_at_the_end = most_paths(0, &steps, &[Operation::Delete, step]);
     let roads = most_steps(0, &steps, Operation::Delete);
-    for bytes in [&paths, &two_at_the_end, &roads] {
+    let cuts = most_deletes(0);
+    for bytes in [&paths, &two_at_the_end, &roads, &cuts] {
         let script = read(bytes).expect("within the limits");
         assert_eq!(script.records.len(), SCRIPT_RECORDS);
         assert_eq!(positions::analyse(bytes, bytes), Ok(Answer::Meet));
