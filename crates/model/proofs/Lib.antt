@@ -18,6 +18,7 @@ pub mod ValueLaws
 pub mod RunKeeps
 pub mod RunsBack
 pub mod UndoKeeps
+pub mod RefusedKeeps
 pub mod PathLaws
 pub mod Spells
 pub mod CellsFound

@@ -1,6 +1,6 @@
 -- The calls on what callers see: bytes, a table and lent areas. Assumes nothing: these are definitions.
 use mathlib.Core.Path.{_≡_}
-use mathlib.Core.Bool.{Bool, true, _&&_}
+use mathlib.Core.Bool.{Bool, true, false, _&&_}
 use mathlib.Core.List.{List, [], _∷_, _++_}
 use Prim.Native.Nat.{ℕ, _+_, _-_}
 use lib.Dec.{leb}
@@ -97,6 +97,11 @@ abbrev pub runCall : Table → (script answer history work : List ℕ) → Ran
 runCall x b a h w =
     pick (areasFit a h w) (ranBy x (length a) (length h) (length w) (pick (isWell x) (runBy x (readScript b)) (stop (linkAt 0))))
     (refusedRun lentShort x a h w)
+
+-- DEMAND 2 on the call: a refused run leaves the table as it was
+abbrev pub RefusedKeeps : Type 0
+RefusedKeeps =
+    (x : Table) (b a h w : List ℕ) → isFine (runCall x b a h w .fault) ≡ false → runCall x b a h w .plan ≡ x
 
 -- DEMAND 3 on the calls: two scripts that the analysis calls free, a well-formed table, and areas of the stated lengths for each script
 abbrev pub callsEnd : (first second : Ran) → Bool
