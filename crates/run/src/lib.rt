@@ -7,12 +7,12 @@ use table::TableResult;
 use table::fit;
 
 mod history;
-mod insert;
-mod pick;
-mod state;
-mod step;
+pub mod insert;
+pub mod pick;
+pub mod state;
+pub mod step;
 mod undoing;
-mod update;
+pub mod update;
 
 // Takes a run back by its history. An ill-formed table is 6; refused, the table is as it was.
 pub fn undo(table: Table, history: &[u8]) -> TableResult

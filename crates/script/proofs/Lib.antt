@@ -7,3 +7,4 @@ pub mod ExpressionLaws
 pub mod ScriptLaws
 pub mod AcceptedLaws
 pub mod FieldLaws
+pub mod KindLaws

@@ -1,0 +1,362 @@
+-- A for and its remaining items: what each call asks is there, and each way out is the loop of the model.
+use mathlib.Core.Path.{_≡_, refl, ap, sym, subst, _∙_}
+use mathlib.Core.Bool.{Bool, true, false}
+use mathlib.Core.List.{List, [], _∷_, _++_}
+use Prim.Native.Nat.{ℕ, suc, _+_, _*_, _-_, _/_, _≤_, _<_}
+use native.Mathlib.Omega.{arith}
+use lib.Dec.{ltb, eqb}
+use lib.ListN.{length, getD, take}
+use Rattle.model.specs.Base.{pick}
+use Rattle.model.specs.Limits.{maxItems}
+use Rattle.model.specs.Refusal.{itemsAt}
+use Rattle.model.specs.Script.{isBinder}
+use Rattle.model.specs.Run.{State, Out, stop, gives, andThen, joinItems, joinFor, loop, run}
+use Rattle.model.proofs.ValueLaws.{AreRows, noRows, moreRows, areRows-more}
+use Rattle.script.specs.Walk.{inner, endAt, firstAt, secondAt, thirdAt, exprAt}
+use Rattle.script.proofs.AcceptedLaws.{accepted-record, accepted-at}
+use Rattle.run.specs.State.{stateOf}
+use Rattle.run.specs.Values.{valueAt}
+use Rattle.run.specs.declared.state.Progress.{Progress}
+use Rattle.run.proofs.StateLaws.{after-self}
+use Rattle.eval.specs.Evaluating.{boundValues, valuesIn, InScope, BindPre, BindPost, limitedBy, movedTo, Fine, BinaryPre, BinaryPost}
+use Rattle.eval.specs.Evaluating.{EvalPre, EvalPost, bodyRun, EachPre, EachPost}
+use Rattle.eval.specs.declared.value.Span.{Span}
+use Rattle.eval.specs.declared.record.Evaluated.{Evaluated}
+use Rattle.eval.proofs.ValueLaws.{value-same, value-none, value-one, value-append}
+use Rattle.eval.proofs.YieldLaws.{yields-as, yields-gives, yields-stop, stop-yields, moved-yields, fine-between, between-then}
+use Rattle.eval.proofs.YieldLaws.{yields-after, limited-yields}
+use Rattle.eval.proofs.OperandLaws.{for-operands}
+use Rattle.eval.proofs.ScopeLaws.{marks-more, bound-kept, scope-kept, bound-inside, bound-back, scope-inside}
+use Rattle.eval.proofs.EvalLaws.{operand-asks, good, same-bound, next-asks}
+
+-- THE LOOP of the model: no item, one, and one part after another
+loop-none : (z : ℕ) (f : ℕ → State → Out) (v : List ℕ) (s : State) → loop z f [] v s ≡ gives v s
+unfolding loop
+loop-none z f v s = refl
+
+loop-one : (z : ℕ) (f : ℕ → State → Out) (i : ℕ) (v : List ℕ) (s : State) →
+    loop z f (i ∷ []) v s ≡ andThen (f i s) (λ (w : List ℕ) (t : State). joinItems z v w t)
+unfolding loop
+loop-one z f i v s = go (f i s)
+  where
+    go : (o : Out) → joinFor z v o (λ (w : List ℕ) (t : State). loop z f [] w t) ≡
+        andThen o (λ (w : List ℕ) (t : State). joinItems z v w t)
+    go (stop x) = refl
+    go (gives w t) = refl
+
+loop-split : (z : ℕ) (f : ℕ → State → Out) (is js v : List ℕ) (s : State) →
+    loop z f (is ++ js) v s ≡ andThen (loop z f is v s) (λ (w : List ℕ) (t : State). loop z f js w t)
+unfolding loop
+loop-split z f [] js v s = refl
+loop-split z f (i ∷ is) js v s = go (loop-split z f is js) (f i s)
+  where
+    more : (t : Bool) (w : List ℕ) (u : State) →
+        loop z f (is ++ js) w u ≡ andThen (loop z f is w u) (λ (w : List ℕ) (t : State). loop z f js w t) →
+        pick t (stop (itemsAt z)) (loop z f (is ++ js) w u) ≡
+        andThen (pick t (stop (itemsAt z)) (loop z f is w u)) (λ (w : List ℕ) (t : State). loop z f js w t)
+    more true w u h = refl
+    more false w u h = h
+
+    go : ((w : List ℕ) (u : State) → loop z f (is ++ js) w u ≡ andThen (loop z f is w u) (λ (w : List ℕ) (t : State). loop z f js w t)) →
+        (o : Out) → joinFor z v o (λ (w : List ℕ) (t : State). loop z f (is ++ js) w t) ≡
+        andThen (joinFor z v o (λ (w : List ℕ) (t : State). loop z f is w t)) (λ (w : List ℕ) (t : State). loop z f js w t)
+    go h (stop x) = refl
+    go h (gives w t) = more (ltb maxItems (length v + length w)) (v ++ w) t (h (v ++ w) t)
+
+-- rows of a part
+rows-front : {n : ℕ} (u v : List ℕ) → AreRows n (u ++ v) → AreRows n u
+rows-front [] v a = noRows
+rows-front (i ∷ u) v (moreRows l a) = moreRows l (rows-front u v a)
+
+rows-back : {n : ℕ} (u v : List ℕ) → AreRows n (u ++ v) → AreRows n v
+rows-back [] v a = a
+rows-back (i ∷ u) v (moreRows l a) = rows-back u v a
+
+-- A FOR
+module _ {b : List ℕ} {at left n : ℕ} {env : List Span} {ms ws h w : List ℕ} {top : ℕ} {p : Progress}
+    (pre : EvalPre b at left n env ms ws h w top p) (kind : getD b at 0 ≡ 7) where
+  abbrev looped : List ℕ → State → Out
+  looped v u = loop at (bodyRun b (secondAt b at) (left - 1) (boundValues w n env)) v [] u
+
+  start : firstAt b at ≡ at + 1
+  start = for-operands (pre .accepted) kind .start
+
+  whole-run : run (exprAt left b at) (boundValues w n env) (stateOf ws ms h p) ≡
+      andThen (run (exprAt (left - 1) b (at + 1)) (boundValues w n env) (stateOf ws ms h p)) looped
+  whole-run =
+      for-operands (pre .accepted) kind .runs (boundValues w n env) (stateOf ws ms h p) ∙
+      ap (λ (i : ℕ). andThen (run (exprAt (left - 1) b i) (boundValues w n env) (stateOf ws ms h p)) looped) start
+
+  pub for-first : EvalPre b (at + 1) (left - 1) n env ms ws h w top p
+  for-first = operand-asks pre (at + 1) (accepted-at (sym start) (for-operands (pre .accepted) kind .first))
+
+  module _ {ws₁ h₁ w₁ : List ℕ} {x : Evaluated} (ran : EvalPost b (at + 1) (left - 1) n env ms ws h w top p ws₁ h₁ w₁ x) where
+    pub for-stops : (x .progress .number ≡ 0 → ⊥) → EvalPost b at left n env ms ws h w top p ws₁ h₁ w₁ x
+    for-stops k = stop-yields k (whole-run ∙ ap (λ (q : Out). andThen q looped) (yields-stop ran k))
+
+    module _ (k : x .progress .number ≡ 0) where
+      fine : Fine (endAt b (at + 1)) n env ws h w top p ws₁ h₁ w₁ x
+      fine = good pre (at + 1) ran k
+
+      second-at : x .place ≡ secondAt b at
+      second-at = fine .place ∙ ap (endAt b) (sym start)
+
+      run-from : run (exprAt left b at) (boundValues w n env) (stateOf ws ms h p) ≡
+          looped (valueAt w₁ top (x .end)) (stateOf ws₁ ms h₁ (x .progress))
+      run-from = whole-run ∙ ap (λ (q : Out). andThen q looped) (yields-gives ran k)
+
+      -- no items
+      pub for-none : x .end ≡ top → {r : Evaluated} → r ≡ movedTo (endAt b (x .place)) x →
+          EvalPost b at left n env ms ws h w top p ws₁ h₁ w₁ r
+      for-none e eq =
+          let v : valueAt w₁ top (x .end) ≡ [] = ap (valueAt w₁ top) e ∙ value-none w₁ top in
+          yields-as
+          (yields-gives ran k ∙
+          sym (run-from ∙ ap (λ (u : List ℕ). looped u (stateOf ws₁ ms h₁ (x .progress))) v ∙
+          loop-none at (bodyRun b (secondAt b at) (left - 1) (boundValues w n env)) [] (stateOf ws₁ ms h₁ (x .progress)) ∙
+          ap (λ (u : List ℕ). gives u (stateOf ws₁ ms h₁ (x .progress))) (sym v)))
+          (ap (endAt b) second-at ∙ sym (for-operands (pre .accepted) kind .ends)) (moved-yields (endAt b (x .place)) ran k eq)
+
+      module _ (some : x .end ≡ top → ⊥) where
+        pub each-asks : EachPre b (x .place) (left - 1) n (x .env) ms ws₁ h₁ w₁ top (x .end) (x .end) (x .end) (x .progress)
+        each-asks =
+            record {
+              accepted = accepted-at second-at (for-operands (pre .accepted) kind .body);
+              held = fine .after .held;
+              marks = marks-more (pre .marks) (fine .after .rows);
+              scope = scope-kept (pre .scope) w₁ (x .env) (fine .below) (fine .scope) (fine .spans) (fine .order) (fine .after .rows);
+              binder = accepted-record (pre .accepted) .scope (ap isBinder kind);
+              some = omega (arith, fine .order, some);
+              items = omega arith;
+              many = fine .short;
+              rows = fine .rows;
+              order = omega arith;
+              short = omega arith;
+              sofar = subst (AreRows (x .progress .count)) (sym (value-none w₁ (x .end))) noRows;
+              room = omega (arith, pre .room, accepted-record (pre .accepted) .depth, fine .size, fine .short);
+            }
+
+        module _ {ws₂ h₂ w₂ : List ℕ} {y : Evaluated} (ran₂ :
+            EachPost b at (x .place) (left - 1) n (x .env) ms ws₁ h₁ w₁ top (x .end) (x .end) (x .end) (x .progress) ws₂ h₂ w₂ y) where
+          loop-is : run (exprAt left b at) (boundValues w n env) (stateOf ws ms h p) ≡
+              loop at (bodyRun b (x .place) (left - 1) (boundValues w₁ n (x .env))) (valueAt w₁ top (x .end))
+              (valueAt w₁ (x .end) (x .end)) (stateOf ws₁ ms h₁ (x .progress))
+          loop-is =
+              run-from ∙
+              ap (λ (i : ℕ). loop at (bodyRun b i (left - 1) (boundValues w n env)) (valueAt w₁ top (x .end)) []
+              (stateOf ws₁ ms h₁ (x .progress))) (sym second-at) ∙
+              ap (λ (vs : List (List ℕ)). loop at (bodyRun b (x .place) (left - 1) vs) (valueAt w₁ top (x .end)) []
+              (stateOf ws₁ ms h₁ (x .progress))) (sym (same-bound pre (at + 1) ran k)) ∙
+              ap (λ (v : List ℕ). loop at (bodyRun b (x .place) (left - 1) (boundValues w₁ n (x .env))) (valueAt w₁ top (x .end)) v
+              (stateOf ws₁ ms h₁ (x .progress))) (sym (value-none w₁ (x .end)))
+
+          pub items-stop : (y .progress .number ≡ 0 → ⊥) → EvalPost b at left n env ms ws h w top p ws₂ h₂ w₂ y
+          items-stop l = stop-yields l (loop-is ∙ yields-stop ran₂ l)
+
+          module _ (l : y .progress .number ≡ 0) where
+            fine₂ : Fine (endAt b (x .place)) n (x .env) ws₁ h₁ w₁ (x .end) (x .progress) ws₂ h₂ w₂ y
+            fine₂ = ran₂ .fine l
+
+            first-kept : valueAt w₂ top (x .end) ≡ valueAt w₁ top (x .end)
+            first-kept = value-same w₁ w₂ (x .end) top (x .end) (fine₂ .below) (fine .order) (omega arith)
+
+            pub close-asks : BinaryPre ws₂ h₂ w₂ top (x .end) y
+            close-asks =
+                record {
+                  value = record {
+                    held = fine₂ .after .held;
+                    order = fine₂ .order;
+                    short = fine₂ .short;
+                    room = omega
+                        (arith, pre .room, accepted-record (pre .accepted) .depth, fine .size, fine .short, fine₂ .size);
+                    rows = fine₂ .rows;
+                    spans = fine₂ .spans;
+                  };
+                  order = fine .order;
+                  short = fine .short;
+                  rows = subst (AreRows (y .progress .count)) (sym first-kept) (areRows-more (fine₂ .after .rows) (fine .rows));
+                }
+
+            pub close-yields : {ws′ h′ w′ : List ℕ} {r : Evaluated} → BinaryPost 7 at ws₂ h₂ w₂ top (x .end) y ws′ h′ w′ r →
+                EvalPost b at left n env ms ws h w top p ws′ h′ w′ r
+            close-yields post =
+                yields-after (between-then (fine-between fine) (fine-between fine₂) (fine .order))
+                (yields-as refl (fine₂ .place ∙ ap (endAt b) second-at ∙ sym (for-operands (pre .accepted) kind .ends)) (post n ms))
+                (loop-is ∙ yields-gives ran₂ l) (fine₂ .scope ∙ fine .scope)
+
+-- THE REMAINING ITEMS
+module _ {b : List ℕ} {at left n : ℕ} {env : List Span} {ms ws h w : List ℕ} {from to top end : ℕ} {p : Progress}
+    (pre : EachPre b at left n env ms ws h w from to top end p) where
+  abbrev body : ℕ → State → Out
+  body = bodyRun b at left (boundValues w n env)
+
+  pub item-asks : BindPre 7 env n from to
+  item-asks = record { size = pre .scope .size; scope = λ t. pre .binder; order = omega (arith, pre .some) }
+
+  inner-for : inner 7 n ≡ n + 1
+  unfolding inner
+  inner-for = refl
+
+  -- one item
+  module _ (single : to - from ≡ 1) {inside : List Span} (bound : BindPost 7 env n from to inside) where
+    pub body-asks : EvalPre b at left (n + 1) inside ms ws h w end p
+    body-asks =
+        record {
+          accepted = pre .accepted;
+          held = pre .held;
+          marks = pre .marks;
+          scope = subst (λ (m : ℕ). InScope w m inside end (p .count)) inner-for
+              (scope-inside (pre .scope) bound end (λ t. pre .binder) (omega (arith, pre .some)) (pre .many)
+              (omega (arith, pre .items, pre .order)) (pre .order) (pre .rows));
+          room = omega (arith, pre .room, pre .short);
+        }
+
+    item : valueAt w from to ≡ getD w from 0 ∷ []
+    item = value-one w from to single (omega (arith, pre .some, pre .items, pre .room))
+
+    values : boundValues w (n + 1) inside ≡ boundValues w n env ++ ((getD w from 0 ∷ []) ∷ [])
+    values =
+        ap (λ (m : ℕ). boundValues w m inside) (sym inner-for) ∙ bound-inside (pre .scope) bound ∙
+        ap (λ (v : List ℕ). boundValues w n env ++ (v ∷ [])) item
+
+    module _ {ws₁ h₁ w₁ : List ℕ} {y : Evaluated} (ran : EvalPost b at left (n + 1) inside ms ws h w end p ws₁ h₁ w₁ y) where
+      item-is : (z : ℕ) → loop z body (valueAt w from to) (valueAt w top end) (stateOf ws ms h p) ≡
+          andThen (run (exprAt left b at) (boundValues w (n + 1) inside) (stateOf ws ms h p))
+          (λ (u : List ℕ) (t : State). joinItems z (valueAt w top end) u t)
+      item-is z =
+          ap (λ (is : List ℕ). loop z body is (valueAt w top end) (stateOf ws ms h p)) item ∙
+          loop-one z body (getD w from 0) (valueAt w top end) (stateOf ws ms h p) ∙
+          ap (λ (vs : List (List ℕ)). andThen (run (exprAt left b at) vs (stateOf ws ms h p))
+          (λ (u : List ℕ) (t : State). joinItems z (valueAt w top end) u t)) (sym values)
+
+      pub item-stops : (z : ℕ) → (y .progress .number ≡ 0 → ⊥) → EachPost b z at left n env ms ws h w from to top end p ws₁ h₁ w₁ y
+      item-stops z k =
+          stop-yields k
+          (item-is z ∙
+          ap (λ (q : Out). andThen q (λ (u : List ℕ) (t : State). joinItems z (valueAt w top end) u t)) (yields-stop ran k))
+
+      module _ (k : y .progress .number ≡ 0) where
+        fine₁ : Fine (endAt b at) (n + 1) inside ws h w end p ws₁ h₁ w₁ y
+        fine₁ = ran .fine k
+
+        sofar-kept : valueAt w₁ top end ≡ valueAt w top end
+        sofar-kept = value-same w w₁ end top end (fine₁ .below) (pre .order) (omega arith)
+
+        pub limit-asks : top ≤ y .end
+        limit-asks = omega (arith, pre .order, fine₁ .order)
+
+        join-asks : BinaryPre ws₁ h₁ w₁ top end y
+        join-asks =
+            record {
+              value = record {
+                held = fine₁ .after .held;
+                order = fine₁ .order;
+                short = fine₁ .short;
+                room = omega (arith, pre .room, pre .short, fine₁ .size);
+                rows = fine₁ .rows;
+                spans = fine₁ .spans;
+              };
+              order = pre .order;
+              short = pre .short;
+              rows = subst (AreRows (y .progress .count)) (sym sofar-kept) (areRows-more (fine₁ .after .rows) (pre .sofar));
+            }
+
+        back : take n (y .env) ≡ take n env
+        back =
+            bound-back (pre .scope) bound (y .env)
+            (ap (λ (m : ℕ). take m (y .env)) inner-for ∙ fine₁ .scope ∙ ap (λ (m : ℕ). take m inside) (sym inner-for))
+
+        pub item-yields : (z : ℕ) {r : Evaluated} → r ≡ limitedBy y top z →
+            EachPost b z at left n env ms ws h w from to top end p ws₁ h₁ w₁ r
+        item-yields z eq =
+            yields-after
+            (between-then
+            (record { after = after-self (pre .held); size = refl; below = refl }) (fine-between fine₁) (pre .order))
+            (yields-as refl (fine₁ .place)
+            (limited-yields join-asks (omega (arith, fine₁ .short, pre .short, pre .room, fine₁ .size)) z eq))
+            (item-is z ∙
+            ap (λ (q : Out). andThen q (λ (u : List ℕ) (t : State). joinItems z (valueAt w top end) u t)) (yields-gives ran k) ∙
+            ap (λ (v : List ℕ). joinItems z v (valueAt w₁ end (y .end)) (stateOf ws₁ ms h₁ (y .progress))) (sym sofar-kept)) back
+
+  -- one half after the other
+  module _ (many : to - from ≡ 1 → ⊥) where
+    abbrev half : ℕ
+    half = from + (to - from) / 2
+
+    cut : (from < half) × (half < to)
+    cut = (omega (arith, pre .some, many), omega (arith, pre .some, many))
+
+    parts : valueAt w from half ++ valueAt w half to ≡ valueAt w from to
+    parts = value-append w from half to (omega (arith, cut .0)) (omega (arith, cut .1))
+
+    pub half-asks : EachPre b at left n env ms ws h w from half top end p
+    half-asks =
+        record {
+          accepted = pre .accepted;
+          held = pre .held;
+          marks = pre .marks;
+          scope = pre .scope;
+          binder = pre .binder;
+          some = cut .0;
+          items = omega (arith, cut .1, pre .items);
+          many = omega (arith, cut .1, pre .many);
+          rows = rows-front (valueAt w from half) (valueAt w half to) (subst (AreRows (p .count)) (sym parts) (pre .rows));
+          order = pre .order;
+          short = pre .short;
+          sofar = pre .sofar;
+          room = pre .room;
+        }
+
+    module _ (z : ℕ) {ws₁ h₁ w₁ : List ℕ} {x : Evaluated} (ran : EachPost b z at left n env ms ws h w from half top end p ws₁ h₁ w₁ x)
+      where
+        halves : loop z body (valueAt w from to) (valueAt w top end) (stateOf ws ms h p) ≡
+            andThen (loop z body (valueAt w from half) (valueAt w top end) (stateOf ws ms h p))
+            (λ (v : List ℕ) (t : State). loop z body (valueAt w half to) v t)
+        halves =
+            ap (λ (is : List ℕ). loop z body is (valueAt w top end) (stateOf ws ms h p)) (sym parts) ∙
+            loop-split z body (valueAt w from half) (valueAt w half to) (valueAt w top end) (stateOf ws ms h p)
+
+        pub half-stops : (x .progress .number ≡ 0 → ⊥) → EachPost b z at left n env ms ws h w from to top end p ws₁ h₁ w₁ x
+        half-stops k =
+            stop-yields k
+            (halves ∙ ap (λ (q : Out). andThen q (λ (v : List ℕ) (t : State). loop z body (valueAt w half to) v t)) (yields-stop ran k))
+
+        module _ (k : x .progress .number ≡ 0) where
+          half-fine : Fine (endAt b at) n env ws h w top p ws₁ h₁ w₁ x
+          half-fine = ran .fine k
+
+          items-kept : valueAt w₁ half to ≡ valueAt w half to
+          items-kept = value-same w w₁ top half to (half-fine .below) (omega (arith, cut .1)) (pre .items)
+
+          pub rest-asks : EachPre b at left n (x .env) ms ws₁ h₁ w₁ half to top (x .end) (x .progress)
+          rest-asks =
+              record {
+                accepted = pre .accepted;
+                held = half-fine .after .held;
+                marks = marks-more (pre .marks) (half-fine .after .rows);
+                scope = scope-kept (pre .scope) w₁ (x .env) (half-fine .below) (half-fine .scope) (half-fine .spans) (omega arith) (half-fine .after .rows);
+                binder = pre .binder;
+                some = cut .1;
+                items = pre .items;
+                many = omega (arith, cut .0, pre .many);
+                rows = subst (AreRows (x .progress .count)) (sym items-kept)
+                    (areRows-more (half-fine .after .rows)
+                    (rows-back (valueAt w from half) (valueAt w half to) (subst (AreRows (p .count)) (sym parts) (pre .rows))));
+                order = half-fine .order;
+                short = half-fine .short;
+                sofar = half-fine .rows;
+                room = omega (arith, pre .room, half-fine .size);
+              }
+
+          pub rest-yields : {ws′ h′ w′ : List ℕ} {r : Evaluated} →
+              EachPost b z at left n (x .env) ms ws₁ h₁ w₁ half to top (x .end) (x .progress) ws′ h′ w′ r →
+              EachPost b z at left n env ms ws h w from to top end p ws′ h′ w′ r
+          rest-yields post =
+              yields-after (fine-between half-fine) post
+              (halves ∙
+              ap (λ (q : Out). andThen q (λ (v : List ℕ) (t : State). loop z body (valueAt w half to) v t)) (yields-gives ran k) ∙
+              ap (λ (is : List ℕ). loop z body is (valueAt w₁ top (x .end)) (stateOf ws₁ ms h₁ (x .progress))) (sym items-kept) ∙
+              ap (λ (vs : List (List ℕ)). loop z (bodyRun b at left vs) (valueAt w₁ half to) (valueAt w₁ top (x .end))
+              (stateOf ws₁ ms h₁ (x .progress)))
+              (sym (bound-kept (pre .scope) w₁ (x .env) (half-fine .below) (half-fine .scope))))
+              (half-fine .scope)

@@ -1,0 +1,26 @@
+use borrow.Author.Needs.{needs}
+use Rattle.eval.proofs.refused.Statement.{statement}
+use Rattle.eval.proofs.refused.Tie as tie
+use Rattle.eval.proofs.refused.Reads as reads
+use Rattle.eval.proofs.refused.Lts as lts
+use Rattle.eval.proofs.tally.none.Reads as none-reads
+use mathlib.Core.Path.{ap}
+use Rattle.eval.specs.declared.tally.Tally.{Tally}
+
+-- src/lib.rt:38:9
+none-requires : tie.Need-none-requires
+none-requires c κs = search needs
+
+-- src/lib.rt:35:1
+returns : tie.Need-returns
+returns c =
+    ap (λ (y : Tally). record {
+      fault = record { number = c .before .args .number; place = c .before .args .place };
+      table = c .before .args .table;
+      items = 0;
+      bytes = 0;
+      tally = y;
+    }) (c .none .ensures)
+
+pub refused-spec : {M : Type 1} → statement M
+refused-spec = tie.close (tie.spec none-requires returns)

@@ -1,0 +1,3 @@
+pub mod Evaluating
+pub mod Tallying
+pub mod Calls

@@ -1,0 +1,427 @@
+// The evaluator: runs an accepted script in place. The work area is a stack of values; what is below top belongs to the callers.
+ghost use mathlib.Core.Path.{_≡_};
+ghost use lib.ListN.{getD};
+ghost use Rattle.model.specs.Script.{ifKind, forKind};
+ghost use Rattle.script.specs.Walk.{arity};
+ghost use Rattle.eval.specs.Evaluating.{IsBinary, EvalPre, EvalPost, EachPre, EachPost};
+use crate::record;
+use crate::record::Evaluated;
+use crate::value;
+use crate::value::Span;
+use run::state::Progress;
+use script::kinds;
+use script::walk;
+
+// A record with one operand.
+fn unary(
+    script: &[u8],
+    at: usize,
+    left: usize,
+    bound: usize,
+    env: [Span; 8],
+    marks: &[u16],
+    rows: &mut [u32],
+    history: &mut [u8],
+    work: &mut [u16],
+    top: usize,
+    p: Progress,
+) -> Evaluated
+    requires { ⌜ EvalPre (now script) at left bound env (now marks) (now rows) (now history) (now work) top p ⌝ }
+    requires { ⌜ arity (getD (now script) at 0) ≡ 1 ⌝ }
+    ensures { λ r. ⌜ EvalPost (now (script .entry)) at left bound env (now (marks .entry)) (now (rows .entry)) (now (history .entry))
+        (now (work .entry)) top p (now (rows .exit)) (now (history .exit)) (now (work .exit)) r ⌝ }
+{
+    let first_at = at + (1 + kinds::body_size(script[at]));
+    let x = eval(
+        script,
+        first_at,
+        left - 1,
+        bound,
+        env,
+        marks,
+        rows,
+        history,
+        work,
+        top,
+        p,
+    );
+    if x.progress.number != 0 {
+        return x;
+    }
+    record::applied(script, at, rows, history, work, top, x)
+}
+
+// A join, an insert or a let: the second value stands behind the first.
+fn binary(
+    script: &[u8],
+    at: usize,
+    left: usize,
+    bound: usize,
+    env: [Span; 8],
+    marks: &[u16],
+    rows: &mut [u32],
+    history: &mut [u8],
+    work: &mut [u16],
+    top: usize,
+    p: Progress,
+) -> Evaluated
+    requires { ⌜ EvalPre (now script) at left bound env (now marks) (now rows) (now history) (now work) top p ⌝ }
+    requires { ⌜ IsBinary (getD (now script) at 0) ⌝ }
+    ensures { λ r. ⌜ EvalPost (now (script .entry)) at left bound env (now (marks .entry)) (now (rows .entry)) (now (history .entry))
+        (now (work .entry)) top p (now (rows .exit)) (now (history .exit)) (now (work .exit)) r ⌝ }
+{
+    let kind = script[at];
+    let x = eval(
+        script,
+        at + 1,
+        left - 1,
+        bound,
+        env,
+        marks,
+        rows,
+        history,
+        work,
+        top,
+        p,
+    );
+    if x.progress.number != 0 {
+        return x;
+    }
+    let mid = x.end;
+    let scope = x.env;
+    let q = x.progress;
+    let inside = value::bind(kind, scope, bound, top, mid);
+    let y = eval(
+        script,
+        x.place,
+        left - 1,
+        value::inner(kind, bound),
+        inside,
+        marks,
+        rows,
+        history,
+        work,
+        mid,
+        q,
+    );
+    if y.progress.number != 0 {
+        return y;
+    }
+    record::combined(kind, at, rows, history, work, top, mid, y)
+}
+
+// An if: the second operand where the first is not empty, else the third.
+fn branch(
+    script: &[u8],
+    at: usize,
+    left: usize,
+    bound: usize,
+    env: [Span; 8],
+    marks: &[u16],
+    rows: &mut [u32],
+    history: &mut [u8],
+    work: &mut [u16],
+    top: usize,
+    p: Progress,
+) -> Evaluated
+    requires { ⌜ EvalPre (now script) at left bound env (now marks) (now rows) (now history) (now work) top p ⌝ }
+    requires { ⌜ getD (now script) at 0 ≡ ifKind ⌝ }
+    ensures { λ r. ⌜ EvalPost (now (script .entry)) at left bound env (now (marks .entry)) (now (rows .entry)) (now (history .entry))
+        (now (work .entry)) top p (now (rows .exit)) (now (history .exit)) (now (work .exit)) r ⌝ }
+{
+    let x = eval(
+        script,
+        at + 1,
+        left - 1,
+        bound,
+        env,
+        marks,
+        rows,
+        history,
+        work,
+        top,
+        p,
+    );
+    if x.progress.number != 0 {
+        return x;
+    }
+    let scope = x.env;
+    let q = x.progress;
+    if x.end == top {
+        let third = walk::end_at(script, x.place);
+        return eval(
+            script,
+            third,
+            left - 1,
+            bound,
+            scope,
+            marks,
+            rows,
+            history,
+            work,
+            top,
+            q,
+        );
+    }
+    let y = eval(
+        script,
+        x.place,
+        left - 1,
+        bound,
+        scope,
+        marks,
+        rows,
+        history,
+        work,
+        top,
+        q,
+    );
+    if y.progress.number != 0 {
+        return y;
+    }
+    record::past(script, y)
+}
+
+// A for: its items stand from top on, its results behind them.
+fn iterate(
+    script: &[u8],
+    at: usize,
+    left: usize,
+    bound: usize,
+    env: [Span; 8],
+    marks: &[u16],
+    rows: &mut [u32],
+    history: &mut [u8],
+    work: &mut [u16],
+    top: usize,
+    p: Progress,
+) -> Evaluated
+    requires { ⌜ EvalPre (now script) at left bound env (now marks) (now rows) (now history) (now work) top p ⌝ }
+    requires { ⌜ getD (now script) at 0 ≡ forKind ⌝ }
+    ensures { λ r. ⌜ EvalPost (now (script .entry)) at left bound env (now (marks .entry)) (now (rows .entry)) (now (history .entry))
+        (now (work .entry)) top p (now (rows .exit)) (now (history .exit)) (now (work .exit)) r ⌝ }
+{
+    let x = eval(
+        script,
+        at + 1,
+        left - 1,
+        bound,
+        env,
+        marks,
+        rows,
+        history,
+        work,
+        top,
+        p,
+    );
+    if x.progress.number != 0 {
+        return x;
+    }
+    let mid = x.end;
+    let scope = x.env;
+    let q = x.progress;
+    if mid == top {
+        return record::past(script, x);
+    }
+    let y = each(
+        script,
+        at,
+        x.place,
+        left - 1,
+        bound,
+        scope,
+        marks,
+        rows,
+        history,
+        work,
+        top,
+        mid,
+        mid,
+        mid,
+        q,
+    );
+    if y.progress.number != 0 {
+        return y;
+    }
+    record::combined(kinds::FOR, at, rows, history, work, top, mid, y)
+}
+
+// The items between two places, one after the other, by halves; the results so far stand from top to end. 8 is at the for's place.
+fn each(
+    script: &[u8],
+    place: usize,
+    at: usize,
+    left: usize,
+    bound: usize,
+    env: [Span; 8],
+    marks: &[u16],
+    rows: &mut [u32],
+    history: &mut [u8],
+    work: &mut [u16],
+    from: usize,
+    to: usize,
+    top: usize,
+    end: usize,
+    p: Progress,
+) -> Evaluated
+    requires { ⌜ EachPre (now script) at left bound env (now marks) (now rows) (now history) (now work) from to top end p ⌝ }
+    ensures { λ r. ⌜ EachPost (now (script .entry)) place at left bound env (now (marks .entry)) (now (rows .entry)) (now (history .entry))
+        (now (work .entry)) from to top end p (now (rows .exit)) (now (history .exit)) (now (work .exit)) r ⌝ }
+{
+    let count = to - from;
+    if count == 1 {
+        let inside = value::bind(kinds::FOR, env, bound, from, to);
+        let y = eval(
+            script,
+            at,
+            left,
+            bound + 1,
+            inside,
+            marks,
+            rows,
+            history,
+            work,
+            end,
+            p,
+        );
+        if y.progress.number != 0 {
+            return y;
+        }
+        return record::limited(y, top, place);
+    }
+    let half = from + count / 2;
+    let x = each(
+        script,
+        place,
+        at,
+        left,
+        bound,
+        env,
+        marks,
+        rows,
+        history,
+        work,
+        from,
+        half,
+        top,
+        end,
+        p,
+    );
+    if x.progress.number != 0 {
+        return x;
+    }
+    let scope = x.env;
+    let q = x.progress;
+    each(
+        script,
+        place,
+        at,
+        left,
+        bound,
+        scope,
+        marks,
+        rows,
+        history,
+        work,
+        half,
+        to,
+        top,
+        x.end,
+        q,
+    )
+}
+
+// The expression at a place, its value to stand from top on.
+pub fn eval(
+    script: &[u8],
+    at: usize,
+    left: usize,
+    bound: usize,
+    env: [Span; 8],
+    marks: &[u16],
+    rows: &mut [u32],
+    history: &mut [u8],
+    work: &mut [u16],
+    top: usize,
+    p: Progress,
+) -> Evaluated
+    requires { ⌜ EvalPre (now script) at left bound env (now marks) (now rows) (now history) (now work) top p ⌝ }
+    ensures { λ r. ⌜ EvalPost (now (script .entry)) at left bound env (now (marks .entry)) (now (rows .entry)) (now (history .entry))
+        (now (work .entry)) top p (now (rows .exit)) (now (history .exit)) (now (work .exit)) r ⌝ }
+{
+    let kind = script[at];
+    let operands = kinds::arity(kind);
+    if operands == 0 {
+        return record::nullary(
+            script,
+            at,
+            left,
+            bound,
+            env,
+            marks,
+            rows,
+            history,
+            work,
+            top,
+            p,
+        );
+    }
+    if operands == 1 {
+        return unary(
+            script,
+            at,
+            left,
+            bound,
+            env,
+            marks,
+            rows,
+            history,
+            work,
+            top,
+            p,
+        );
+    }
+    if kind == kinds::IF {
+        return branch(
+            script,
+            at,
+            left,
+            bound,
+            env,
+            marks,
+            rows,
+            history,
+            work,
+            top,
+            p,
+        );
+    }
+    if kind == kinds::FOR {
+        return iterate(
+            script,
+            at,
+            left,
+            bound,
+            env,
+            marks,
+            rows,
+            history,
+            work,
+            top,
+            p,
+        );
+    }
+    binary(
+        script,
+        at,
+        left,
+        bound,
+        env,
+        marks,
+        rows,
+        history,
+        work,
+        top,
+        p,
+    )
+}
