@@ -1,3 +1,4 @@
 pub mod CallLaws
 pub mod CopyLaws
 pub mod GivenLaws
+pub mod RunLaws
