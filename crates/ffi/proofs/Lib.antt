@@ -2,3 +2,5 @@ pub mod CallLaws
 pub mod CopyLaws
 pub mod GivenLaws
 pub mod RunLaws
+pub mod EncodeLaws
+pub mod Promised
