@@ -33,7 +33,7 @@ use Rattle.table.specs.declared.Table.{Table}
 use Rattle.table.specs.declared.TableResult.{TableResult}
 use Rattle.table.specs.declared.Written.{Written}
 use Rattle.run.specs.Undoing.{planUndone, undoneBy, asItWas}
-use Rattle.eval.specs.Calls.{ran, runResult, tallyOf}
+use Rattle.eval.specs.Calls.{ran, tallyOf}
 use Rattle.eval.specs.declared.RunResult.{RunResult}
 use Rattle.ffi.specs.Calls.{codeOf, shortCode, readCode, readOut, writtenCode, backCode, backOut}
 use Rattle.ffi.specs.Running.{isShort, sixOver, refusedCall, ranCall, readCall, runCalled}

@@ -1,5 +1,5 @@
--- What the C calls that end without refusal leave, in the model's own words: the plan is read, and what is written is the stored form of the
--- table that the rules give. Each is a type; a term of it in proofs/ is its proof. Assumes nothing.
+-- What the C calls leave, in the model's own words: the plan is read, and what is written is the stored form of the table that the rules
+-- give. Each promise is a type; a term of it in proofs/ is its proof. Assumes nothing.
 use mathlib.Core.Path.{_≡_}
 use mathlib.Core.Bool.{true, false}
 use mathlib.Core.List.{List, _++_}
