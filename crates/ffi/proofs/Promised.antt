@@ -18,7 +18,7 @@ use Rattle.model.specs.Stored.{stored, got, readPlan}
 use Rattle.model.specs.Sweep.{swept}
 use Rattle.model.specs.Table.{isWell}
 use Rattle.model.specs.Table as model
-use Rattle.model.specs.Undo.{Undo, back, undo}
+use Rattle.model.specs.Undo.{undo}
 use Rattle.model.proofs.BoolLaws.{and-both}
 use Rattle.model.proofs.RunsBack.{runsBack}
 use Rattle.model.proofs.StopLaws.{stop-refuses}
@@ -29,12 +29,9 @@ use Rattle.script.proofs.ParseLaws.{ill-parsed}
 use Rattle.script.proofs.RefusalLaws.{Sound, parse-sound}
 use Rattle.table.specs.Words.{encode, decode, fits}
 use Rattle.table.specs.Calls as library
-use Rattle.table.specs.declared.Table.{Table}
 use Rattle.table.specs.declared.TableResult.{TableResult}
-use Rattle.table.specs.declared.Written.{Written}
 use Rattle.run.specs.Undoing.{planUndone, undoneBy, asItWas}
-use Rattle.eval.specs.Calls.{ran, tallyOf}
-use Rattle.eval.specs.declared.RunResult.{RunResult}
+use Rattle.eval.specs.Calls.{ran, resultOf}
 use Rattle.ffi.specs.Calls.{codeOf, shortCode, readCode, readOut, writtenCode, backCode, backOut}
 use Rattle.ffi.specs.Running.{isShort, sixOver, refusedCall, ranCall, readCall, runCalled}
 use Rattle.ffi.specs.Promise.{atFront, PlanBack, SweptBack, UndoneBack, RunDone, RunRefused}
@@ -133,22 +130,11 @@ module _ (a h w o d : List ℕ) (long : isShort (length a) (length h) (length w)
         ltb-false (length o) 2080 (e₂ .1),
       )
 
--- what a run gives back, from what it leaves
-abbrev resultBy : Table → Ran → RunResult
-resultBy t l =
-    record {
-      fault = library.faultOf (l .fault);
-      table = pick (refusal.isFine (l .fault)) (encode (l .plan)) t;
-      items = l .items;
-      bytes = l .bytes;
-      tally = tallyOf l;
-    }
-
 -- the call, from what the run comes to
 call-of : (p s a h w o d : List ℕ) (x : model.Table) (t : Out) → isWell x ≡ true → readPlan p ≡ got x → runBy x (readScript s) ≡ t →
     isShort (length a) (length h) (length w) (length o) (length d) ≡ false → areasFit a h w ≡ true →
     runCalled p s a h w o d ≡
-    ranCall (resultBy (encode x) (ranBy x (length a) (length h) (length w) t)) (ranBy x (length a) (length h) (length w) t) o d
+    ranCall (resultOf (encode x) (ranBy x (length a) (length h) (length w) t)) (ranBy x (length a) (length h) (length w) t) o d
 call-of p s a h w o d x t well e g long fit =
     let left : ran (encode x) s a h w ≡ ranBy x (length a) (length h) (length w) t =
     ap (λ (z : Bool). pick z (ranBy (decode (encode x)) (length a) (length h) (length w)
@@ -161,7 +147,7 @@ call-of p s a h w o d x t well e g long fit =
     ap (λ (z : Bool). pick z (record { code = shortCode; answer = a; history = h; work = w; out = o; done = d })
     (readCall (library.planRead p) s a h w o d)) long ∙
     ap (λ (q : TableResult). readCall q s a h w o d) (ap library.readBy e) ∙
-    ap (λ (l : Ran). ranCall (resultBy (encode x) l) l o d) left
+    ap (λ (l : Ran). ranCall (resultOf (encode x) l) l o d) left
 
 pub runDone : RunDone
 runDone p s a h w o d x v t b c e g long =
@@ -205,7 +191,7 @@ runRefused p s a h w o d x f b e g long =
     call-of p s a h w o d x (stop f) well e g long (ok .0) ∙ the-refusal (stop-numbered s x f g)
   where
     the-refusal : refusal.isFine f ≡ false →
-        ranCall (resultBy (encode x) (ranBy x (length a) (length h) (length w) (stop f))) (ranBy x (length a) (length h) (length w) (stop
+        ranCall (resultOf (encode x) (ranBy x (length a) (length h) (length w) (stop f))) (ranBy x (length a) (length h) (length w) (stop
         f)) o d ≡
         refusedCall (codeOf (f .number) 2 (f .place)) (replicate (length a) 0) (replicate (length h) 0) (replicate (length w) 0) o d
     the-refusal k = rw k
