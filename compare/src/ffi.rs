@@ -4,6 +4,8 @@
 //! number + 256 * which + 65,536 * place: see [`Answer`].
 
 use compare::interface::Answer;
+#[cfg(feature = "run")]
+use compare::interface::Lent;
 
 #[link(name = "ffi", kind = "static")]
 extern "C" {
@@ -20,6 +22,24 @@ extern "C" {
         history_length: usize,
         out: *mut u8,
         out_length: usize,
+    ) -> u64;
+
+    #[cfg(feature = "run")]
+    fn yegnabit_run(
+        plan: *const u8,
+        plan_length: usize,
+        script: *const u8,
+        script_length: usize,
+        answer: *mut u16,
+        answer_length: usize,
+        history: *mut u8,
+        history_length: usize,
+        work: *mut u16,
+        work_length: usize,
+        out: *mut u8,
+        out_length: usize,
+        done: *mut u64,
+        done_length: usize,
     ) -> u64;
 
     #[cfg(feature = "analysis")]
@@ -82,6 +102,31 @@ pub fn undo(plan: &[u8], history: &[u8], out: &mut [u8]) -> Answer {
             history.len(),
             out.as_mut_ptr(),
             out.len(),
+        )
+    })
+}
+
+/// Reads a stored plan, runs a script on it in the lent areas and writes the
+/// plan to the start of `out`.
+#[cfg(feature = "run")]
+pub fn run(plan: &[u8], script: &[u8], areas: Lent<'_>) -> Answer {
+    // SAFETY: see above.
+    Answer(unsafe {
+        yegnabit_run(
+            plan.as_ptr(),
+            plan.len(),
+            script.as_ptr(),
+            script.len(),
+            areas.answer.as_mut_ptr(),
+            areas.answer.len(),
+            areas.history.as_mut_ptr(),
+            areas.history.len(),
+            areas.work.as_mut_ptr(),
+            areas.work.len(),
+            areas.out.as_mut_ptr(),
+            areas.out.len(),
+            areas.done.as_mut_ptr(),
+            areas.done.len(),
         )
     })
 }

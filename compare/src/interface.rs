@@ -1,11 +1,13 @@
 //! The reference behind the same calls as the C interface of the library.
 
 use crate::raw;
-use crate::reference::limits::{DOCUMENTS, PLAN_BYTES, ROWS};
+use crate::reference::limits::{
+    ANSWER_NUMBERS, DOCUMENTS, HISTORY_BYTES, PLAN_BYTES, ROWS, WORK_NUMBERS,
+};
 use crate::reference::path::Which;
 use crate::reference::refusal::{Number, Refusal};
-use crate::reference::undo as undoing;
 use crate::reference::{analysis, plan as stored, positions, script as scripts, sweep as sweeping};
+use crate::reference::{run as running, undo as undoing};
 
 /// Which input a refusal is about.
 pub const WHICH_NONE: u64 = 0;
@@ -14,6 +16,10 @@ pub const WHICH_SCRIPT: u64 = 2;
 pub const WHICH_HISTORY: u64 = 2;
 pub const WHICH_FIRST: u64 = 1;
 pub const WHICH_SECOND: u64 = 2;
+
+/// Numbers that a run hands back: the items of the answer, rows made, links
+/// cut, records written, bytes of the history, bytes of the plan.
+pub const DONE_NUMBERS: usize = 6;
 
 const WHICH_UNIT: u64 = 256;
 const PLACE_UNIT: u64 = 65_536;
@@ -117,6 +123,57 @@ pub fn undo(plan: &[u8], history: &[u8], out: &mut [u8]) -> Answer {
         Ok(length) => Answer::accepted(length),
         Err(refusal) => Answer::refused(WHICH_NONE, refusal),
     }
+}
+
+/// The areas lent to a run.
+pub struct Lent<'a> {
+    pub answer: &'a mut [u16],
+    pub history: &'a mut [u8],
+    pub work: &'a mut [u16],
+    pub out: &'a mut [u8],
+    pub done: &'a mut [u64],
+}
+
+/// Reads a stored plan, runs a script on it and writes the plan back. An area
+/// too short is refused before all else. If the plan is refused, nothing runs.
+pub fn run(plan: &[u8], script: &[u8], areas: Lent<'_>) -> Answer {
+    let short = areas.answer.len() < ANSWER_NUMBERS
+        || areas.history.len() < HISTORY_BYTES
+        || areas.work.len() < WORK_NUMBERS
+        || areas.out.len() < PLAN_BYTES
+        || areas.done.len() < DONE_NUMBERS;
+    if short {
+        return lent();
+    }
+    let done = &mut areas.done[..DONE_NUMBERS];
+    done.fill(0);
+    let mut table = match stored::read(plan) {
+        Ok(table) => table,
+        Err(refusal) => return Answer::refused(WHICH_PLAN, refusal),
+    };
+    let lent_to_run = running::Areas {
+        answer: areas.answer,
+        work: areas.work,
+        history: areas.history,
+    };
+    let ran = match running::run(&mut table, script, lent_to_run) {
+        Ok(ran) => ran,
+        Err(refusal) => return Answer::refused(WHICH_SCRIPT, refusal),
+    };
+    let length = match stored::encode(&table, areas.out) {
+        Ok(length) => length,
+        Err(refusal) => return Answer::refused(WHICH_NONE, refusal),
+    };
+    let numbers = [
+        ran.items,
+        ran.tally.rows_made,
+        ran.tally.links_cut,
+        ran.tally.records_written,
+        ran.history_length,
+        length,
+    ];
+    done.copy_from_slice(&numbers.map(|number| number as u64));
+    Answer::accepted(0)
 }
 
 /// Reads two scripts and analyses them. The method is the one that does not

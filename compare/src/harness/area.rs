@@ -28,21 +28,33 @@ impl<T: Copy + PartialEq + std::fmt::Debug> Twin<T> {
         guard: T,
         call: impl FnOnce(&mut [T], &mut [T]) -> A,
     ) -> (A, Result<(), Difference>) {
+        self.fill(content, guard);
+        let (library, reference) = self.halves();
+        let answer = call(library, reference);
+        (answer, self.compare())
+    }
+
+    /// Fills both halves with this content between guards.
+    pub fn fill(&mut self, content: impl Iterator<Item = T> + Clone, guard: T) {
         for half in [&mut self.library, &mut self.reference] {
             half.clear();
             half.extend([guard; GUARD]);
             half.extend(content.clone());
             half.extend([guard; GUARD]);
         }
-        let end = self.library.len() - GUARD;
-        let answer = call(
-            &mut self.library[GUARD..end],
-            &mut self.reference[GUARD..end],
-        );
-        (answer, self.compare())
     }
 
-    fn compare(&self) -> Result<(), Difference> {
+    /// The two areas to lend, the library's first.
+    pub fn halves(&mut self) -> (&mut [T], &mut [T]) {
+        let end = self.library.len() - GUARD;
+        (
+            &mut self.library[GUARD..end],
+            &mut self.reference[GUARD..end],
+        )
+    }
+
+    /// Compares both halves, their guards included.
+    pub fn compare(&self) -> Result<(), Difference> {
         if self.library == self.reference {
             return Ok(());
         }

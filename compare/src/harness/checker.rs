@@ -19,6 +19,8 @@ type PlanCall = fn(&[u8], &mut [u8]) -> Answer;
 
 pub struct Checker {
     pub tally: Tally,
+    /// Lines for the summary.
+    pub notes: String,
     out: Twin<u8>,
     rows: Twin<u32>,
     marks: Twin<u16>,
@@ -32,6 +34,7 @@ impl Checker {
     pub fn new() -> Checker {
         Checker {
             tally: Tally::default(),
+            notes: String::new(),
             out: Twin::new(),
             rows: Twin::new(),
             marks: Twin::new(),
@@ -232,7 +235,7 @@ fn pattern<'a>(
     bytes[*salt..*salt + length].iter().copied()
 }
 
-fn compare((library, reference): (Answer, Answer)) -> Result<(), Difference> {
+pub fn compare((library, reference): (Answer, Answer)) -> Result<(), Difference> {
     if library == reference {
         return Ok(());
     }

@@ -5,6 +5,8 @@ mod analysis;
 mod area;
 mod checker;
 mod plans;
+#[cfg(feature = "run")]
+mod running;
 mod scripts;
 mod tables;
 mod tally;
@@ -56,6 +58,8 @@ pub fn test() -> Result<String, Difference> {
         ("undo", undoing::test),
         #[cfg(feature = "analysis")]
         ("analysis", analysis::test),
+        #[cfg(feature = "run")]
+        ("runs", running::test),
     ] {
         let start = std::time::Instant::now();
         part(&mut checker, volume)?;
@@ -66,6 +70,7 @@ pub fn test() -> Result<String, Difference> {
     for &call in Call::ALL {
         writeln!(summary, "{}", checker.tally.line(call)).expect("a string takes all");
     }
+    summary.push_str(&checker.notes);
     summary.push_str("no difference\n");
     Ok(summary)
 }

@@ -9,7 +9,7 @@ use super::Difference;
 const NUMBERS: usize = 12;
 /// What the field `which` can be.
 const WHICHES: usize = 3;
-const CALLS: usize = 7;
+const CALLS: usize = 8;
 /// Of the pairs of scripts analysed each answer has at least this share.
 const LEAST_PERCENT: f64 = 5.0;
 const ANALYSED: [&str; WHICHES] = ["free", "upward", "meet"];
@@ -25,6 +25,8 @@ pub enum Call {
     Undo,
     #[cfg_attr(not(feature = "analysis"), allow(dead_code))]
     Analyse,
+    #[cfg_attr(not(feature = "run"), allow(dead_code))]
+    Run,
 }
 
 impl Call {
@@ -37,6 +39,8 @@ impl Call {
         Call::Undo,
         #[cfg(feature = "analysis")]
         Call::Analyse,
+        #[cfg(feature = "run")]
+        Call::Run,
     ];
 
     pub const fn name(self) -> &'static str {
@@ -48,6 +52,7 @@ impl Call {
             Call::SweepTable => "yegnabit_sweep_table",
             Call::Undo => "yegnabit_undo",
             Call::Analyse => "yegnabit_analyse",
+            Call::Run => "yegnabit_run",
         }
     }
 
@@ -63,6 +68,12 @@ impl Call {
                 (0, &[0]),
                 (1, &[0, 1, 2, 3, 4, 5]),
                 (2, &[0, 1, 2, 3, 4, 5]),
+            ],
+            // 9 cannot be: a row is made once and cut once at most.
+            Call::Run => &[
+                (0, &[0, 11]),
+                (1, &[1, 2, 4, 5, 6]),
+                (2, &[1, 2, 3, 4, 5, 7, 8, 10]),
             ],
         }
     }

@@ -1,3 +1,6 @@
 pub mod CallLaws
 pub mod CopyLaws
 pub mod GivenLaws
+pub mod RunLaws
+pub mod EncodeLaws
+pub mod Promised

@@ -3,8 +3,10 @@
 ghost use mathlib.Core.Path.{_≡_};
 ghost use Rattle.ffi.specs.Calls.{codeOf, planCode, planOut, sweepCode, sweepOut, writeCode, writeOut};
 ghost use Rattle.ffi.specs.Calls.{sweptCode, sweptRows, sweptMarks, scriptCode, undoCode, undoOut, analyseCode};
+ghost use Rattle.ffi.specs.Running.{runCalled};
 
 mod copy;
+mod lent;
 
 use paths::Analysis;
 use table::Fault;
@@ -92,6 +94,70 @@ pub extern "C" fn yegnabit_undo(plan: &[u8], history: &[u8], out: &mut [u8]) -> 
     let u = back.table;
     let written = table::write_plan(u, out);
     code(written.fault.number, AREA, written.bytes)
+}
+
+// Reads a plan, runs a script on it in the lent areas, and writes the plan as it then is to out. done takes six numbers: items of the
+// answer, rows made, links cut, records written, history bytes, bytes in out. A plan refused: nothing runs, and done is zero.
+#[no_mangle]
+pub extern "C" fn yegnabit_run(
+    plan: &[u8],
+    script: &[u8],
+    answer: &mut [u16],
+    history: &mut [u8],
+    work: &mut [u16],
+    out: &mut [u8],
+    done: &mut [u64],
+) -> u64
+    ensures { λ r. ⌜ r ≡ runCalled (now (plan .entry)) (now (script .entry)) (now (answer .entry))
+        (now (history .entry)) (now (work .entry)) (now (out .entry)) (now (done .entry)) .code ⌝ }
+    ensures { λ r. ⌜ now (answer .exit) ≡ runCalled (now (plan .entry)) (now (script .entry)) (now (answer .entry))
+        (now (history .entry)) (now (work .entry)) (now (out .entry)) (now (done .entry)) .answer ⌝ }
+    ensures { λ r. ⌜ now (history .exit) ≡ runCalled (now (plan .entry)) (now (script .entry)) (now (answer .entry))
+        (now (history .entry)) (now (work .entry)) (now (out .entry)) (now (done .entry)) .history ⌝ }
+    ensures { λ r. ⌜ now (work .exit) ≡ runCalled (now (plan .entry)) (now (script .entry)) (now (answer .entry))
+        (now (history .entry)) (now (work .entry)) (now (out .entry)) (now (done .entry)) .work ⌝ }
+    ensures { λ r. ⌜ now (out .exit) ≡ runCalled (now (plan .entry)) (now (script .entry)) (now (answer .entry))
+        (now (history .entry)) (now (work .entry)) (now (out .entry)) (now (done .entry)) .out ⌝ }
+    ensures { λ r. ⌜ now (done .exit) ≡ runCalled (now (plan .entry)) (now (script .entry)) (now (answer .entry))
+        (now (history .entry)) (now (work .entry)) (now (out .entry)) (now (done .entry)) .done ⌝ }
+{
+    if lent::is_short(
+        answer.len(),
+        history.len(),
+        work.len(),
+        out.len(),
+        done.len(),
+    ) {
+        return code(Fault::LENT, AREA, 0);
+    }
+    let read = table::read_plan(plan);
+    let number = read.fault.number;
+    let place = read.fault.place;
+    if number != 0 {
+        lent::put_six(done, 0, 0, 0, 0, 0, 0);
+        return code(number, PLAN, place);
+    }
+    let t = read.table;
+    let ran = eval::run(t, script, answer, history, work);
+    let refused = ran.fault.number;
+    let at = ran.fault.place;
+    if refused != 0 {
+        lent::put_six(done, 0, 0, 0, 0, 0, 0);
+        return code(refused, SCRIPT, at);
+    }
+    let u = ran.table;
+    let tally = ran.tally;
+    let written = table::write_plan(u, out);
+    lent::put_six(
+        done,
+        ran.items,
+        tally.made,
+        tally.cut,
+        tally.records,
+        ran.bytes,
+        written.bytes,
+    );
+    code(written.fault.number, AREA, 0)
 }
 
 // Writes a table given as 512 row words and 8 marks: the call of the library on any table, well formed or not.

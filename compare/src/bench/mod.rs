@@ -1,5 +1,8 @@
 //! Both sides measured in one process, in turn.
 
+#[cfg(feature = "run")]
+mod runs;
+
 use std::hint::black_box;
 use std::time::{Duration, Instant};
 
@@ -58,6 +61,8 @@ pub fn run() {
     undo(&mut random);
     #[cfg(feature = "analysis")]
     analysis();
+    #[cfg(feature = "run")]
+    runs::measure_runs();
 }
 
 /// A history that makes some 500 rows and cuts some links, taken back whole;

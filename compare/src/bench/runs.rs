@@ -1,0 +1,185 @@
+//! Runs: what a step, a pick, a loop, deletes and inserts cost on full plans,
+//! each with reading the plan and writing it back.
+
+use std::hint::black_box;
+
+use compare::interface::{self, Lent, DONE_NUMBERS};
+use compare::reference::limits::{ANSWER_NUMBERS, HISTORY_BYTES, PLAN_BYTES, ROWS, WORK_NUMBERS};
+use compare::reference::plan::to_vec;
+use compare::reference::run::{run as run_reference, OwnedAreas};
+use compare::reference::script::kind;
+use compare::reference::table::{Row, Table};
+
+use super::{measure, undo_case, Case};
+use crate::ffi;
+
+/// Rows of the subtree that is inserted.
+const SUBTREE: usize = 250;
+const ROOT: [u8; 2] = [kind::DOCUMENT, 0];
+
+pub fn measure_runs() {
+    let (road, fan) = (to_vec(&road()), to_vec(&fan()));
+    let below = [&[kind::STEP, 1, 0, 0][..], &ROOT].concat();
+    let children = [&[kind::STEP, 0, 0, 0][..], &ROOT].concat();
+    let pick = [kind::PICK, 2, 0x80];
+    let step_of_item = [kind::STEP, 0, 0, 0, kind::VARIABLE, 0];
+    let delete = [&[kind::DELETE][..], &below].concat();
+    let no_target = [kind::INSERT, kind::EMPTY, kind::EMPTY];
+    let subtree = [kind::STEP, 0, 3, 2, kind::DOCUMENT, 0];
+    measure(run_case(
+        "run, empty value on an empty plan",
+        0,
+        &[],
+        &[kind::EMPTY],
+    ));
+    measure(run_case(
+        "run, empty value on 512 rows",
+        0,
+        &road,
+        &[kind::EMPTY],
+    ));
+    measure(run_case(
+        "run, descendant step over 512 rows, in a row",
+        0,
+        &road,
+        &below,
+    ));
+    measure(run_case(
+        "run, descendant step over 512 rows, side by side",
+        0,
+        &fan,
+        &below,
+    ));
+    let picked = [&pick[..], &children].concat();
+    measure(run_case("run, pick over 511 leaves", 0, &fan, &picked));
+    let often = [&pick.repeat(12)[..], &children].concat();
+    measure(run_case(
+        "run, twelve picks over 511 leaves",
+        0,
+        &fan,
+        &often,
+    ));
+    let each = [&[kind::FOR][..], &below, &step_of_item].concat();
+    measure(run_case(
+        "run, for over 511 items with a step",
+        0,
+        &road,
+        &each,
+    ));
+    measure(run_case("run, delete of 511 rows", 0, &fan, &delete));
+    let insert = [&[kind::INSERT][..], &subtree, &[kind::DOCUMENT, 1]].concat();
+    let forest = to_vec(&forest());
+    measure(run_case(
+        "run, insert of a subtree of 250 rows",
+        0,
+        &forest,
+        &insert,
+    ));
+    let late = [&[kind::JOIN][..], &delete, &no_target].concat();
+    measure(run_case("run refused after 511 cuts", 7, &fan, &late));
+    undo_of_run(&fan, &delete);
+}
+
+/// The history of 511 cuts taken back.
+fn undo_of_run(plan: &[u8], script: &[u8]) {
+    let mut table = compare::reference::plan::read(plan).expect("a sound plan");
+    let mut areas = OwnedAreas::default();
+    let ran = run_reference(&mut table, script, areas.lend()).expect("a sound run");
+    let history = &areas.history[..ran.history_length];
+    let after = to_vec(&table);
+    measure(undo_case("undo of 511 cuts", 0, &after, history));
+}
+
+fn run_case<'a>(name: &'static str, number: u64, plan: &'a [u8], script: &'a [u8]) -> Case<'a> {
+    let (mut ours, mut theirs) = (Areas::new(), Areas::new());
+    Case {
+        name,
+        number,
+        library: Box::new(move || {
+            ffi::run(
+                black_box(plan),
+                black_box(script),
+                black_box(&mut ours).lend(),
+            )
+        }),
+        reference: Box::new(move || {
+            interface::run(
+                black_box(plan),
+                black_box(script),
+                black_box(&mut theirs).lend(),
+            )
+        }),
+    }
+}
+
+struct Areas {
+    answer: Vec<u16>,
+    history: Vec<u8>,
+    work: Vec<u16>,
+    out: Vec<u8>,
+    done: Vec<u64>,
+}
+
+impl Areas {
+    fn new() -> Areas {
+        Areas {
+            answer: vec![0; ANSWER_NUMBERS],
+            history: vec![0; HISTORY_BYTES],
+            work: vec![0; WORK_NUMBERS],
+            out: vec![0; PLAN_BYTES],
+            done: vec![0; DONE_NUMBERS],
+        }
+    }
+
+    fn lend(&mut self) -> Lent<'_> {
+        Lent {
+            answer: &mut self.answer,
+            history: &mut self.history,
+            work: &mut self.work,
+            out: &mut self.out,
+            done: &mut self.done,
+        }
+    }
+}
+
+/// Each row below the one before it.
+fn road() -> Table {
+    let mut table = Table::default();
+    table.rows.push(Row::element(1, None));
+    for number in 1..ROWS as u16 {
+        table.rows.push(Row::element(2, Some(number - 1)));
+    }
+    table.marks[0] = Some(0);
+    table
+}
+
+/// All rows leaves below the first.
+fn fan() -> Table {
+    let mut table = Table::default();
+    table.rows.push(Row::element(1, None));
+    for number in 1..ROWS {
+        table.rows.push(Row::leaf(number as i8 | 1, Some(0)));
+    }
+    table.marks[0] = Some(0);
+    table
+}
+
+/// Document 0's root has one child, named 2, with a subtree of 250 rows, of
+/// which every eighth is an element; document 1 marks another root.
+fn forest() -> Table {
+    let mut table = Table::default();
+    table.rows.push(Row::element(1, None));
+    table.rows.push(Row::element(1, None));
+    table.rows.push(Row::element(2, Some(0)));
+    for below in 1..SUBTREE as u16 {
+        let parent = Some(2 + (below - 1) / 8 * 8);
+        let leaf = !below.is_multiple_of(8);
+        table.rows.push(match leaf {
+            true => Row::leaf(1, parent),
+            false => Row::element(3, parent),
+        });
+    }
+    table.marks[0] = Some(0);
+    table.marks[1] = Some(1);
+    table
+}

@@ -1,0 +1,146 @@
+//! Plans and scripts for runs that do something: variables used after a
+//! delete, copies of copies, new elements with content, loops that update what
+//! they walk, tables that become full and values that grow too long.
+
+use super::lively::lively;
+use super::plans::{self, Shape};
+use super::random::Random;
+use super::scripts::{self, Wanted};
+use crate::reference::limits::ROWS;
+use crate::reference::script::{kind, read, Operation};
+use crate::reference::table::Table;
+
+/// Names are 1 to this, and documents 0 to one less.
+pub const NAMES: u8 = 3;
+pub const DOCUMENTS: u8 = 3;
+/// Of plans with more rows than this, one loop is walked at a time.
+const ONE_LOOP: usize = 60;
+/// Of plans with more rows than this, two loops.
+const TWO_LOOPS: usize = 8;
+
+/// A plan and a script to run on it.
+pub struct Case {
+    pub plan: Table,
+    pub script: Vec<u8>,
+}
+
+/// Any case. Most scripts are accepted, and most of these change the plan.
+pub fn case(random: &mut Random) -> Case {
+    if random.chance(15) {
+        return Case {
+            plan: one_tree(random),
+            script: growing(random),
+        };
+    }
+    let plan = plan(random);
+    let script = match random.below(10) {
+        0 => any_script(random, plan.rows.len()),
+        _ => lively(random, plan.rows.len()),
+    };
+    Case { plan, script }
+}
+
+/// A plan most of whose rows are below document 0.
+fn one_tree(random: &mut Random) -> Table {
+    let count = random.choose(&[12, 40, 120, 200, 300, ROWS]);
+    let count = random.between(count / 2, count);
+    let shape = Shape {
+        leaves: random.choose(&[10, 40, 70]),
+        roots: 0,
+        marked: 100,
+        names: NAMES,
+        ..Shape::random(random)
+    };
+    let mut table = plans::table(random, count, shape);
+    mark_largest(&mut table);
+    table
+}
+
+/// A well-formed plan whose documents mark rows, often nearly full.
+pub fn plan(random: &mut Random) -> Table {
+    let count = match random.below(10) {
+        0..=3 => random.between(1, 12),
+        4 | 5 => random.between(0, 60),
+        6 => random.between(60, ROWS),
+        _ => random.between(ROWS - 12, ROWS),
+    };
+    let shape = Shape {
+        leaves: random.choose(&[10, 40, 70]),
+        roots: random.choose(&[0, 2, 20]),
+        marked: random.choose(&[60, 100, 100]),
+        names: NAMES,
+        ..Shape::random(random)
+    };
+    let mut table = plans::table(random, count, shape);
+    if random.chance(80) {
+        mark_largest(&mut table);
+    }
+    table
+}
+
+/// Lets document 0 mark the root with the most rows below it.
+fn mark_largest(table: &mut Table) {
+    let mut sizes = vec![1usize; table.rows.len()];
+    for number in (0..table.rows.len()).rev() {
+        if let Some(parent) = table.rows[number].parent() {
+            sizes[usize::from(parent)] += sizes[number];
+        }
+    }
+    let roots = (0..table.rows.len()).filter(|&number| {
+        let row = table.rows[number];
+        row.is_element() && row.parent().is_none()
+    });
+    let Some(largest) = roots.max_by_key(|&number| sizes[number]) else {
+        return;
+    };
+    let largest = Some(largest as u16);
+    for mark in table.marks.iter_mut() {
+        if *mark == largest {
+            *mark = None;
+        }
+    }
+    table.marks[0] = largest;
+}
+
+/// A script without any plan, with loops that the rows allow.
+fn any_script(random: &mut Random, rows: usize) -> Vec<u8> {
+    loop {
+        let wanted = Wanted {
+            names: NAMES,
+            ..Wanted::random(random)
+        };
+        let bytes = scripts::script(random, wanted);
+        let loops = read(&bytes).map_or(0, |script| {
+            let records = script.records.iter();
+            records
+                .filter(|record| record.operation == Operation::For)
+                .count()
+        });
+        if loops <= most_loops(rows) {
+            return bytes;
+        }
+    }
+}
+
+/// What is below a document is copied under it again and again, or joined to
+/// itself again and again.
+fn growing(random: &mut Random) -> Vec<u8> {
+    let test = random.choose(&[0, 0, 1, 2]);
+    let below = [kind::STEP, 1, test, 0, kind::DOCUMENT, 0];
+    let insert = [&[kind::INSERT][..], &below, &[kind::DOCUMENT, 0]].concat();
+    let times = random.between(1, 5);
+    match random.below(3) {
+        0 => [vec![kind::JOIN; times], insert.repeat(times + 1)].concat(),
+        1 => [vec![kind::JOIN; times], below.repeat(times + 1)].concat(),
+        _ => [&[kind::FOR][..], &below, &below].concat(),
+    }
+}
+
+/// How many loops may be nested on a plan of so many rows.
+pub fn most_loops(rows: usize) -> usize {
+    match rows {
+        0..=TWO_LOOPS => 3,
+        0..=ONE_LOOP => 2,
+        _ => 1,
+    }
+}

@@ -1,0 +1,175 @@
+//! Runs on a small stack: the deepest nesting, with full loops.
+
+use compare::generate::random::Random;
+use compare::generate::scripts::{script, Wanted};
+use compare::interface::{self, Answer, Lent, DONE_NUMBERS};
+use compare::reference::limits::{
+    ANSWER_NUMBERS, BINDERS, DEPTH, HISTORY_BYTES, PLAN_BYTES, ROWS, SCRIPT_RECORDS, WORK_NUMBERS,
+};
+use compare::reference::plan::to_vec;
+use compare::reference::script::{kind, read};
+use compare::reference::table::{Row, Table};
+
+use crate::ffi;
+use crate::harness::checker::{compare, told};
+use crate::harness::tally::Call;
+use crate::harness::{Difference, Volume};
+
+/// A run needs no more stack than this, in bytes.
+const STACK: usize = 256 * 1024;
+/// Rows of the plan for random scripts at the limits, whose loops are nested.
+const FEW_ROWS: usize = 3;
+/// All 512 rows: those below the root, and the root.
+const ALL: [u8; 9] = [
+    kind::JOIN,
+    kind::STEP,
+    1,
+    0,
+    0,
+    kind::DOCUMENT,
+    0,
+    kind::DOCUMENT,
+    0,
+];
+const ONE: [u8; 2] = [kind::DOCUMENT, 0];
+
+/// What a run leaves in areas of the lengths it needs.
+#[derive(PartialEq)]
+struct Areas {
+    answer: Vec<u16>,
+    history: Vec<u8>,
+    work: Vec<u16>,
+    out: Vec<u8>,
+    done: Vec<u64>,
+}
+
+impl Areas {
+    fn new() -> Areas {
+        Areas {
+            answer: vec![7; ANSWER_NUMBERS],
+            history: vec![7; HISTORY_BYTES],
+            work: vec![7; WORK_NUMBERS],
+            out: vec![7; PLAN_BYTES],
+            done: vec![7; DONE_NUMBERS],
+        }
+    }
+
+    fn lend(&mut self) -> Lent<'_> {
+        Lent {
+            answer: &mut self.answer,
+            history: &mut self.history,
+            work: &mut self.work,
+            out: &mut self.out,
+            done: &mut self.done,
+        }
+    }
+}
+
+pub fn test(random: &mut Random, volume: Volume) -> Result<(), Difference> {
+    let wide = to_vec(&star(ROWS));
+    let few = to_vec(&star(FEW_ROWS));
+    let mut cases: Vec<(&[u8], Vec<u8>)> = deepest().map(|script| (&wide[..], script)).collect();
+    for _ in 0..volume.of(300) {
+        let wanted = Wanted {
+            records: SCRIPT_RECORDS,
+            depth: DEPTH,
+            binders: BINDERS,
+            unbound: 0,
+            upward: 10,
+            names: 1,
+        };
+        cases.push((&few, script(random, wanted)));
+    }
+    let ran = on_small_stack(&cases)?;
+    for ((plan, script), (answer, areas)) in cases.iter().zip(ran) {
+        let mut expected = Areas::new();
+        let reference = interface::run(plan, script, expected.lend());
+        compare((answer, reference))
+            .map_err(|message| told(Call::Run, &[plan, script], &message))?;
+        if areas != expected {
+            let message = "the areas of a run on a small stack differ";
+            return Err(told(Call::Run, &[plan, script], message));
+        }
+    }
+    Ok(())
+}
+
+/// Runs the library on a thread with a small stack. A run that needs more
+/// ends the whole test.
+fn on_small_stack(cases: &[(&[u8], Vec<u8>)]) -> Result<Vec<(Answer, Areas)>, Difference> {
+    std::thread::scope(|scope| {
+        let thread = std::thread::Builder::new().stack_size(STACK);
+        let run_all = move || {
+            let run_one = |(plan, script): &(&[u8], Vec<u8>)| {
+                let mut areas = Areas::new();
+                (ffi::run(plan, script, areas.lend()), areas)
+            };
+            cases.iter().map(run_one).collect()
+        };
+        let handle = thread
+            .spawn_scoped(scope, run_all)
+            .map_err(|error| format!("no thread: {error}"))?;
+        handle
+            .join()
+            .map_err(|_| "a run failed on a small stack".to_string())
+    })
+}
+
+/// A root with leaves; document 0 marks it.
+fn star(rows: usize) -> Table {
+    let mut table = Table::default();
+    table.rows.push(Row::element(1, None));
+    table.rows.resize(rows, Row::leaf(0, Some(0)));
+    table.marks[0] = Some(0);
+    table
+}
+
+/// Eight binders, and below them records of one kind down to depth 16. Where
+/// all loops are full, the innermost insert is refused at the first item;
+/// where one is, the run ends.
+fn deepest() -> impl Iterator<Item = Vec<u8>> {
+    let refused: &[u8] = &[kind::INSERT, kind::EMPTY, kind::EMPTY];
+    let levels = DEPTH - BINDERS - 2;
+    let chains: Vec<(Vec<u8>, Vec<u8>)> = [
+        // What stands before the next level, and what after it.
+        (vec![kind::JOIN, kind::EMPTY], vec![]),
+        (vec![kind::INSERT, kind::EMPTY], vec![]),
+        (vec![kind::IF, kind::EMPTY, kind::EMPTY], vec![]),
+        (vec![kind::STEP, 1, 0, 0], vec![]),
+        (vec![kind::PICK, 0, 0], vec![]),
+        (vec![kind::DELETE], vec![]),
+        (vec![kind::JOIN], vec![kind::EMPTY]),
+        (vec![kind::INSERT], vec![kind::EMPTY]),
+    ]
+    .into();
+    let mut scripts = Vec::new();
+    for (before, after) in chains {
+        let inner = |last: &[u8]| [&before.repeat(levels), last, &after.repeat(levels)].concat();
+        for binder in [kind::FOR, kind::LET] {
+            let nest = |firsts: &[&[u8]; BINDERS], last: &[u8]| {
+                let mut script = Vec::new();
+                for first in firsts {
+                    script.push(binder);
+                    script.extend(*first);
+                }
+                script.extend(inner(last));
+                script
+            };
+            scripts.push(nest(&[&ALL; BINDERS], refused));
+            for one in 0..BINDERS {
+                let mut firsts: [&[u8]; BINDERS] = [&ONE; BINDERS];
+                firsts[one] = &ALL;
+                let ends: &[u8] = &[kind::JOIN, kind::EMPTY, kind::EMPTY];
+                scripts.push(nest(&firsts, ends));
+            }
+            // Two full loops, where a turn costs little.
+            if before[0] == kind::DELETE {
+                let mut firsts: [&[u8]; BINDERS] = [&ONE; BINDERS];
+                (firsts[0], firsts[BINDERS - 1]) = (&ALL, &ALL);
+                scripts.push(nest(&firsts, &[kind::JOIN, kind::EMPTY, kind::EMPTY]));
+            }
+        }
+    }
+    assert!(scripts.iter().all(|script| read(script).is_ok()));
+    scripts.into_iter()
+}

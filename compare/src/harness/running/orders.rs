@@ -1,0 +1,174 @@
+//! Demand 3 as a test: free scripts run in both orders.
+
+use compare::generate::lively::lively;
+use compare::generate::pairs;
+use compare::generate::plans::{self, Shape};
+use compare::generate::random::Random;
+use compare::generate::roads;
+use compare::interface::{self, Answer};
+use compare::reference::analysis;
+use compare::reference::history;
+use compare::reference::limits::ROWS;
+use compare::reference::orders::{orders_are_equal, Order, Part};
+use compare::reference::plan::{read, to_vec};
+use compare::reference::script::{self, Operation};
+use compare::reference::table::Table;
+
+use super::check::{Left, Runs};
+use crate::harness::checker::told;
+use crate::harness::tally::Call;
+use crate::harness::{Difference, Volume};
+
+/// Of the free pairs in which both scripts change the plan, and of those that
+/// are refused, there are at least so many in a hundred free ones.
+const LEAST_PERCENT: f64 = 2.0;
+/// The rows of a plan on which loops may be nested.
+const FEW_ROWS: usize = 12;
+
+#[derive(Default)]
+struct Counts {
+    free: u64,
+    both_changed: u64,
+    refused: u64,
+}
+
+/// Tries many pairs, and answers a line on the free ones.
+pub fn test(
+    runs: &mut Runs<'_>,
+    random: &mut Random,
+    volume: Volume,
+) -> Result<String, Difference> {
+    let mut counts = Counts::default();
+    for _ in 0..volume.of(20_000) {
+        let plan = plan(random);
+        let [first, second] = pair(random, plan.rows.len());
+        let free = Answer::analysed(analysis::Answer::Free);
+        if interface::analyse(&first, &second) == free {
+            both_orders(runs, &plan, &first, &second, &mut counts)?;
+        }
+    }
+    let percent = |count: u64| 100.0 * count as f64 / counts.free as f64;
+    let (changed, refused) = (percent(counts.both_changed), percent(counts.refused));
+    if changed < LEAST_PERCENT || refused < LEAST_PERCENT {
+        return Err(format!(
+            "free pairs: changed {changed:.1}%, refused {refused:.1}%"
+        ));
+    }
+    let free = counts.free;
+    Ok(format!(
+        "of {free} free pairs in both orders, both changed: {changed:.1}%, refused: {refused:.1}%\n"
+    ))
+}
+
+/// A plan whose documents all mark rows, sometimes nearly full.
+fn plan(random: &mut Random) -> Table {
+    let count = match random.below(4) {
+        0 => random.between(ROWS - 6, ROWS),
+        1 => random.between(12, 60),
+        _ => random.between(1, FEW_ROWS),
+    };
+    let shape = Shape {
+        roots: random.choose(&[5, 20, 40]),
+        marked: 100,
+        names: 3,
+        ..Shape::random(random)
+    };
+    plans::table(random, count, shape)
+}
+
+/// Two scripts that are often free, with few loops unless the plan is small.
+fn pair(random: &mut Random, rows: usize) -> [Vec<u8>; 2] {
+    loop {
+        let scripts = match random.below(4) {
+            0 => [(); 2].map(|()| lively(random, rows)),
+            1 => [(); 2].map(|()| roads::script(random, 3)),
+            _ => pairs::pair(random),
+        };
+        if scripts
+            .iter()
+            .all(|bytes| loops(bytes) <= if rows > FEW_ROWS { 1 } else { 3 })
+        {
+            return scripts;
+        }
+    }
+}
+
+fn loops(bytes: &[u8]) -> usize {
+    script::read(bytes).map_or(0, |script| {
+        let records = script.records.iter();
+        records
+            .filter(|record| record.operation == Operation::For)
+            .count()
+    })
+}
+
+/// Runs a free pair in both orders: one is refused exactly if the other is,
+/// and else they are equal.
+fn both_orders(
+    runs: &mut Runs<'_>,
+    table: &Table,
+    first: &[u8],
+    second: &[u8],
+    counts: &mut Counts,
+) -> Result<(), Difference> {
+    let plan = to_vec(table);
+    let one_two = order(runs, &plan, first, second)?;
+    let two_one = order(runs, &plan, second, first)?;
+    counts.free += 1;
+    let equal = match (&one_two, &two_one) {
+        (None, None) => {
+            counts.refused += 1;
+            true
+        }
+        (Some((one, two)), Some((two_first, one_second))) => {
+            let changed = |left: &Left| !left.history.is_empty();
+            counts.both_changed += u64::from(changed(one) && changed(two));
+            let one_two = ended(one, two, &two.plan)?;
+            let two_one = ended(one_second, two_first, &one_second.plan)?;
+            orders_are_equal(table.rows.len(), &one_two, &two_one)
+        }
+        _ => false,
+    };
+    if !equal {
+        let message = "demand 3 broken: free scripts, and the orders differ";
+        return Err(told(Call::Run, &[&plan, first, second], message));
+    }
+    Ok(())
+}
+
+/// What two runs left, the second on the plan as the first left it, unless
+/// one is refused.
+fn order(
+    runs: &mut Runs<'_>,
+    plan: &[u8],
+    leader: &[u8],
+    other: &[u8],
+) -> Result<Option<(Left, Left)>, Difference> {
+    if runs.run(plan, leader)?.number() != 0 {
+        return Ok(None);
+    }
+    let led = runs.left();
+    if runs.run(&led.plan, other)?.number() != 0 {
+        return Ok(None);
+    }
+    Ok(Some((led, runs.left())))
+}
+
+/// An order as the reference compares it: the parts of the first and of the
+/// second script, and the plan at the end.
+fn ended(first: &Left, second: &Left, plan: &[u8]) -> Result<Order, Difference> {
+    let part = |left: &Left| {
+        let records = history::read(&left.history).map_err(|_| "a history is ill formed")?;
+        Ok::<_, Difference>(Part {
+            answer: left.answer.clone(),
+            history: records.into_iter().map(|(_, record)| record).collect(),
+            rows_made: left.rows_made,
+        })
+    };
+    let table = read(plan).map_err(|_| "a plan is ill formed".to_string())?;
+    Ok(Order {
+        first: part(first)?,
+        second: part(second)?,
+        table,
+    })
+}

@@ -1,0 +1,42 @@
+use lib.ListN.{length-set}
+use native.Mathlib.Omega.{arith}
+use borrow.Author.Needs.{needs}
+use Rattle.ffi.proofs.lent.put_six.Statement.{statement}
+use Rattle.ffi.proofs.lent.put_six.Tie as tie
+
+slice-write-done : tie.Need-slice-write-done
+slice-write-done c = search needs
+
+slice-write-done-2 : tie.Need-slice-write-done-2
+slice-write-done-2 c = simp length-set (omega (arith, c .pre))
+
+slice-write-done-3 : tie.Need-slice-write-done-3
+slice-write-done-3 c = simp length-set (omega (arith, c .pre))
+
+slice-write-done-4 : tie.Need-slice-write-done-4
+slice-write-done-4 c = simp length-set (omega (arith, c .pre))
+
+slice-write-done-5 : tie.Need-slice-write-done-5
+slice-write-done-5 c = simp length-set (omega (arith, c .pre))
+
+slice-write-done-6 : tie.Need-slice-write-done-6
+slice-write-done-6 c = search needs
+
+same-length : tie.Need-same-length
+same-length c = search needs
+
+returns : tie.Need-returns
+returns c = search needs
+
+pub put-six-spec : {M : Type 1} → statement M
+put-six-spec =
+    tie.close
+    (tie.spec
+    slice-write-done
+    slice-write-done-2
+    slice-write-done-3
+    slice-write-done-4
+    slice-write-done-5
+    slice-write-done-6
+    same-length
+    returns)

@@ -1,0 +1,64 @@
+-- What the C calls leave, in the model's own words: the plan is read, and what is written is the stored form of the table that the rules
+-- give. Each promise is a type; a term of it in proofs/ is its proof. Assumes nothing.
+use mathlib.Core.Path.{_≡_}
+use mathlib.Core.Bool.{true, false}
+use mathlib.Core.List.{List, _++_}
+use Prim.Native.Nat.{ℕ, _≤_}
+use lib.ListN.{length, drop, replicate}
+use Rattle.model.specs.Base.{areBytes}
+use Rattle.model.specs.Call.{countKind, filled, runBy}
+use Rattle.model.specs.History.{madeElementKind, madeLeafKind, cutKind, historyBytes}
+use Rattle.model.specs.Refusal.{Fault}
+use Rattle.model.specs.Run.{State, gives, stop}
+use Rattle.model.specs.Script.{readScript}
+use Rattle.model.specs.Stored.{stored, got, readPlan}
+use Rattle.model.specs.Sweep.{swept}
+use Rattle.model.specs.Table.{Table}
+use Rattle.model.specs.Undo.{back, undo}
+use Rattle.ffi.specs.Calls.{codeOf, planCode, planOut, sweepCode, sweepOut, undoCode, undoOut}
+use Rattle.ffi.specs.Running.{isShort, sixOver, refusedCall, runCalled}
+
+-- a plan at the start of out, the rest as it was
+abbrev pub atFront : (bytes out : List ℕ) → List ℕ
+atFront b o = b ++ drop (length b) o
+
+-- READ AND WRITTEN BACK: the bytes that were read
+abbrev pub PlanBack : Type 0
+PlanBack =
+    (p o : List ℕ) (x : Table) → areBytes p ≡ true → readPlan p ≡ got x → 2080 ≤ length o →
+    (planCode p o ≡ codeOf 0 0 (length p)) × (planOut p o ≡ atFront p o)
+
+-- SWEPT
+abbrev pub SweptBack : Type 0
+SweptBack =
+    (p o : List ℕ) (x : Table) → areBytes p ≡ true → readPlan p ≡ got x → 2080 ≤ length o →
+    (sweepCode p o ≡ codeOf 0 0 (length (stored (swept x)))) × (sweepOut p o ≡ atFront (stored (swept x)) o)
+
+-- UNDONE
+abbrev pub UndoneBack : Type 0
+UndoneBack =
+    (p h o : List ℕ) (x y : Table) → areBytes p ≡ true → readPlan p ≡ got x → undo x h ≡ back y → 2080 ≤ length o →
+    (undoCode p h o ≡ codeOf 0 0 (length (stored y))) × (undoOut p h o ≡ atFront (stored y) o)
+
+-- RUN: the answer and the history at the front of their areas, the rest and all of the work area zero; the plan as it then is; six numbers
+abbrev pub RunDone : Type 0
+RunDone =
+    (p s a h w o d : List ℕ) (x : Table) (v : List ℕ) (t : State) → areBytes p ≡ true → areBytes s ≡ true → readPlan p ≡ got x →
+    runBy x (readScript s) ≡ gives v t → isShort (length a) (length h) (length w) (length o) (length d) ≡ false →
+    runCalled p s a h w o d ≡ record {
+      code = codeOf 0 0 0;
+      answer = filled (length a) v;
+      history = filled (length h) (historyBytes (t .history));
+      work = replicate (length w) 0;
+      out = atFront (stored (t .plan)) o;
+      done = sixOver (length v) (countKind madeElementKind madeLeafKind (t .history)) (countKind cutKind cutKind (t .history))
+          (length (t .history)) (length (historyBytes (t .history))) (length (stored (t .plan))) d;
+    }
+
+-- refused by the script's reader or by the run: answer, history and work are zero, out is as it was, the six numbers are zero
+abbrev pub RunRefused : Type 0
+RunRefused =
+    (p s a h w o d : List ℕ) (x : Table) (f : Fault) → areBytes p ≡ true → readPlan p ≡ got x → runBy x (readScript s) ≡ stop f →
+    isShort (length a) (length h) (length w) (length o) (length d) ≡ false →
+    runCalled p s a h w o d ≡
+    refusedCall (codeOf (f .number) 2 (f .place)) (replicate (length a) 0) (replicate (length h) 0) (replicate (length w) 0) o d
