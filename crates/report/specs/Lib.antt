@@ -1,0 +1,4 @@
+pub mod Text
+pub mod Orders
+pub mod Lines
+pub mod Pair
