@@ -2,3 +2,4 @@ pub mod TextLaws
 pub mod LineLaws
 pub mod OrderLaws
 pub mod PairLaws
+pub mod ExamplesHold

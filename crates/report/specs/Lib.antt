@@ -2,3 +2,4 @@ pub mod Text
 pub mod Orders
 pub mod Lines
 pub mod Pair
+pub mod Examples
