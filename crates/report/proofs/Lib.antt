@@ -1,4 +1,5 @@
 pub mod TextLaws
+pub mod DecimalBack
 pub mod LineLaws
 pub mod OrderLaws
 pub mod PairLaws

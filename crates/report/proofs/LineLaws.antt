@@ -1,11 +1,11 @@
 -- Each line from its parts, placed one after another.
 use mathlib.Core.Path.{_≡_, sym, subst}
-use mathlib.Core.List.{List, _++_}
-use Prim.Native.Nat.{ℕ, _+_, _≤_}
+use mathlib.Core.List.{List}
+use Prim.Native.Nat.{ℕ, _≤_}
 use native.Mathlib.Omega.{arith}
 use lib.ListN.{length}
 use Rattle.table.specs.declared.Fault.{Fault}
-use Rattle.report.specs.Text.{ascii, field, Placed, Number, Field}
+use Rattle.report.specs.Text.{ascii, Placed, Number, Field}
 use Rattle.report.specs.Lines.{newline, fileLine, answerLine, orderLine, NamePre, FileLine, AnswerLine, OrderLine}
 use Rattle.report.specs.declared.orders.Order.{Order}
 use Rattle.report.specs.declared.orders.Order.the-variants.{Stopped, Ended}

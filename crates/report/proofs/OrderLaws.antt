@@ -1,16 +1,16 @@
 -- A run in areas that suffice, and two runs one after the other.
 use mathlib.Core.Path.{_≡_, refl, ap, sym, _∙_}
-use mathlib.Core.Bool.{Bool, true, false, _&&_, not}
-use mathlib.Core.List.{List, []}
+use mathlib.Core.Bool.{Bool, true, false}
+use mathlib.Core.List.{List}
 use Prim.Native.Nat.{ℕ, _≤_}
 use native.Mathlib.Omega.{arith}
-use lib.Dec.{leb, eqb}
+use lib.Dec.{eqb}
 use lib.ListN.{length}
 use borrow.Author.Tests.{le-leb, eq-eqb, ne-eqb}
 use Rattle.model.specs.Base.{pick}
 use Rattle.model.specs.Refusal.{Fault, isFine, linkAt, lentShort}
 use Rattle.model.specs.Script.{Parsed, ill, parsed, parseFrom, whole, readScript}
-use Rattle.model.specs.Run.{Out, stop, gives, runOn}
+use Rattle.model.specs.Run.{Out, stop, gives}
 use Rattle.model.specs.Call.{Ran, areasFit, ranBy, refusedRun, runBy}
 use Rattle.model.specs.Table as model
 use Rattle.model.proofs.BoolLaws.{by-cases}

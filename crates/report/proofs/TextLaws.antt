@@ -1,28 +1,17 @@
 -- A text placed in an area: byte by byte, one text after another, a number digit by digit.
 use mathlib.Core.Path.{_≡_, refl, ap, sym, subst, _∙_}
-use mathlib.Core.Bool.{Bool, true, false}
+use mathlib.Core.Bool.{true, false}
 use mathlib.Core.List.{List, [], _∷_, _++_, append-assoc}
-use Prim.Native.Nat.{ℕ, zero, suc, _+_, _*_, _/_, _%_, _^_, _≤_, _<_}
+use Prim.Native.Nat.{ℕ, zero, suc, _+_, _/_, _%_, _^_, _≤_, _<_}
 use native.Mathlib.Nat.{pow-suc}
 use native.Mathlib.Numerals.{add-one}
 use native.Mathlib.Omega.{arith}
 use lib.Dec.{ltb}
 use lib.ListN.{length, getD, take, drop, set, length-append}
-use lib.Seq.{
-  append-snoc,
-  drop-append-add,
-  drop-drop,
-  length-take-le,
-  paste,
-  paste-suc,
-  set-split,
-  take-at,
-  take-length,
-}
-use borrow.Author.Tests.{lt-ltb, le-ltb, ltb-true, ltb-false}
-use Rattle.model.specs.Base.{pick}
+use lib.Seq.{append-snoc, drop-append-add, drop-drop, length-take-le, paste, paste-suc, set-split, take-at, take-length}
+use borrow.Author.Tests.{lt-ltb, le-ltb}
 use Rattle.model.proofs.BoolLaws.{by-cases}
-use Rattle.report.specs.Text.{digits, decimal, field, ascii, placed, Placed, Number, Field}
+use Rattle.report.specs.Text.{digits, decimal, placed, Placed, Number}
 
 -- A COPY, byte by byte
 pub copy-next : (o d s : List ℕ) (i j : ℕ) → o ≡ paste d i s j → i + j < length d → j < length s →
@@ -74,11 +63,11 @@ placed-then {o} {s} {t} {i = i} {r = r} h a b =
     }
 
 -- DIGITS
-digits-low : (k n : ℕ) → ltb n 10 ≡ true → digits (suc k) n ≡ (48 + n) ∷ []
+pub digits-low : (k n : ℕ) → ltb n 10 ≡ true → digits (suc k) n ≡ (48 + n) ∷ []
 unfolding digits
 digits-low k n h = rw h
 
-digits-high : (k n : ℕ) → ltb n 10 ≡ false → digits (suc k) n ≡ digits k (n / 10) ++ ((48 + n % 10) ∷ [])
+pub digits-high : (k n : ℕ) → ltb n 10 ≡ false → digits (suc k) n ≡ digits k (n / 10) ++ ((48 + n % 10) ∷ [])
 unfolding digits
 digits-high k n h = rw h
 

@@ -1,5 +1,4 @@
 -- Document 01, 'The program `pair`': its lines. Every line ends with 0x0A. Assumes nothing: these are definitions.
-use mathlib.Core.Path.{_≡_}
 use mathlib.Core.List.{List, [], _∷_, _++_}
 use Prim.Native.Nat.{ℕ, _+_, _≤_}
 use lib.ListN.{length}

@@ -1,12 +1,13 @@
 -- Words in bytes, numbers in decimal, and a text placed in an area. Assumes nothing: these are definitions.
 use mathlib.Core.Path.{_≡_}
+use mathlib.Core.Bool.{true}
 use mathlib.Core.List.{List, [], _∷_, _++_}
-use Prim.Native.Nat.{ℕ, zero, suc, _+_, _/_, _%_, _≤_}
-use Prim.Native.Char.{Char, code}
+use Prim.Native.Nat.{ℕ, zero, suc, _+_, _-_, _*_, _/_, _%_, _≤_, _<_}
+use Prim.Native.Char.{code}
 use Prim.Native.String.{String, len, charAt}
 use lib.Dec.{ltb}
-use lib.ListN.{length, take, drop}
-use Rattle.model.specs.Base.{pick}
+use lib.ListN.{length, getD, take, drop}
+use Rattle.model.specs.Base.{pick, isIn, all}
 
 -- THE BYTES of a fixed word
 abbrev pub codesFrom : (count at : ℕ) → String → List ℕ
@@ -46,3 +47,14 @@ pub record Number (o : List ℕ) (i n : ℕ) (o′ : List ℕ) (r : ℕ) : Type 
 pub record Field (o : List ℕ) (i n : ℕ) (o′ : List ℕ) (r : ℕ) : Type 0 where
   pub text : Placed o i (field n) o′ r
   pub few : r ≤ i + 21
+
+-- DIGITS READ BACK, from the first on; the number stands before them so far
+unfoldable pub valueFrom : (before : ℕ) → (digits : List ℕ) → ℕ
+valueFrom v [] = v
+valueFrom v (d ∷ ds) = valueFrom (10 * v + (d - 48)) ds
+
+-- A number of 64 bits is read back from its digits, each of which is one of `0` to `9`; no zero stands in front of others
+abbrev pub DecimalBack : Type 0
+DecimalBack =
+    (n : ℕ) → n < 18446744073709551616 →
+    (valueFrom 0 (decimal n) ≡ n) × (all (isIn 48 57) (decimal n) ≡ true) × (10 ≤ n → 48 < getD (decimal n) 0 0)
