@@ -89,6 +89,22 @@ static void plans(void) {
     check_out(out, ALL(swept_b), "P after B, swept");
 }
 
+/* Plan P as words: kind, 4 * (parent + 1), 4,096 * name or value. */
+static void tables(void) {
+    uint32_t rows[ROWS] = {1 + 4096 * 1, 1 + 4 * 1 + 4096 * 2, 2 + 4 * 2 + 4096 * 0xFE, 1 + 4 * 1 + 4096 * 3};
+    uint16_t marks[8] = {1};
+    uint8_t out[YEGNABIT_OUT];
+    memset(out, GUARD, sizeof out);
+    check(yegnabit_write_table(4, rows, ROWS - 1, ALL(marks), ALL(out)) == code(YEGNABIT_LENT, 0, 0), "too few words");
+    check(yegnabit_write_table(3, ALL(rows), ALL(marks), ALL(out)) == code(YEGNABIT_LINK, 1, 0), "a word past the count");
+    check_out(out, out, 0, "an area that a refused call leaves");
+    check(yegnabit_write_table(4, ALL(rows), ALL(marks), ALL(out)) == code(0, 0, sizeof plan_p), "plan P from words");
+    check_out(out, ALL(plan_p), "plan P from words");
+    marks[0] = 0;
+    check(yegnabit_sweep_table(4, ALL(rows), ALL(marks)) == 0, "plan P without its mark, swept");
+    check(is_all(0, rows, 0, sizeof rows), "no row left");
+}
+
 static void undone(void) {
     uint8_t out[YEGNABIT_OUT];
     memset(out, GUARD, sizeof out);
@@ -231,6 +247,7 @@ static void runs(void) {
 
 int main(void) {
     plans();
+    tables();
     scripts();
     analysed();
     undone();
