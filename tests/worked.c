@@ -153,7 +153,6 @@ static void scripts(void) {
     check(yegnabit_script(deep, 17) == code(YEGNABIT_SIZE, 2, 16), "depth 17");
 }
 
-#ifndef WITHOUT_RUN
 /* What a run is to leave. */
 struct run {
     const char *name;
@@ -243,7 +242,6 @@ static void runs(void) {
     check(is_all(0, done, 0, sizeof done), "numbers zeroed");
     check_out(out, out, 0, "an area that a refused call leaves");
 }
-#endif
 
 int main(void) {
     plans();
@@ -251,9 +249,7 @@ int main(void) {
     scripts();
     analysed();
     undone();
-#ifndef WITHOUT_RUN
     runs();
-#endif
     printf("worked: %u checks hold\n", checks);
     return 0;
 }
