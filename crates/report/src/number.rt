@@ -10,11 +10,11 @@ fn put_number(out: &mut [u8], at: usize, n: usize) -> usize
     ensures { λ r. ⌜ Number (now (out .entry)) at n (now (out .exit)) r ⌝ }
 {
     if n < 10 {
-        out[at] = 48 + n as u8;
+        out[at] = b'0' + n as u8;
         return at + 1;
     }
     let last = put_number(out, at, n / 10);
-    out[last] = 48 + (n % 10) as u8;
+    out[last] = b'0' + (n % 10) as u8;
     last + 1
 }
 

@@ -24,6 +24,7 @@ pub enum Order {
     },
 }
 
+// The areas of a run, of the lengths that it needs.
 fn answer_area() -> [u16; eval::ANSWER]
     ensures { λ r. ⌜ length r ≡ 512 ⌝ }
 {
