@@ -18,9 +18,9 @@ use Rattle.model.proofs.StopLaws.{stop-refuses}
 use Rattle.script.proofs.RefusalLaws.{Sound, parse-sound}
 use Rattle.table.specs.Words.{encode, decode, fits}
 use Rattle.table.specs.declared.Table.{Table}
-use Rattle.eval.specs.Calls.{ran, runResult}
+use Rattle.eval.specs.Calls.{outcomeOf, ran, runResult}
 use Rattle.eval.specs.declared.RunResult.{RunResult}
-use Rattle.report.specs.Orders.{runOut, outcomeBy, outcome, orderThen, orderFrom, order, swap}
+use Rattle.report.specs.Orders.{outcomeBy, outcome, orderThen, orderFrom, order, swap}
 use Rattle.report.specs.declared.orders.Outcome.{Outcome}
 use Rattle.report.specs.declared.orders.Order.{Order}
 use Rattle.report.specs.declared.orders.Order.the-variants.{Stopped, Ended}
@@ -60,9 +60,9 @@ module _ (t : Table) (b a h w : List ℕ) (i : 512 ≤ length a) (j : 12288 ≤ 
   ran-given =
       ap
       (λ (z : Bool).
-      given t (pick z (ranBy (decode t) (length a) (length h) (length w) (runOut t b)) (refusedRun lentShort (decode t) a h w)))
+      given t (pick z (ranBy (decode t) (length a) (length h) (length w) (outcomeOf t b)) (refusedRun lentShort (decode t) a h w)))
       (areas-fit a h w i j k) ∙
-      out-given t (length a) (length h) (length w) (runOut t b)
+      out-given t (length a) (length h) (length w) (outcomeOf t b)
       (either-refuses (fits t) (decode t) (readScript b) (whole-sound (parseFrom 18 1 0 0 0 b) (parse-sound 18 1 0 0 0 b)))
 
   pub run-given : {r : RunResult} → r ≡ runResult t b a h w →

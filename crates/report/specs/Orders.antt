@@ -4,26 +4,21 @@ use Prim.Native.Nat.{ℕ}
 use lib.Dec.{eqb}
 use lib.ListN.{length}
 use Rattle.model.specs.Base.{pick}
-use Rattle.model.specs.Refusal.{linkAt}
-use Rattle.model.specs.Script.{readScript}
 use Rattle.model.specs.Run.{Out, stop, gives}
-use Rattle.model.specs.Call.{runBy}
-use Rattle.table.specs.Words.{encode, decode, fits}
+use Rattle.table.specs.Words.{encode}
 use Rattle.table.specs.declared.Table.{Table}
+use Rattle.eval.specs.Calls.{outcomeOf}
 use Rattle.report.specs.declared.orders.Outcome.{Outcome}
 use Rattle.report.specs.declared.orders.Order.{Order}
 use Rattle.report.specs.declared.orders.Order.the-variants.{Stopped, Ended}
 
--- A RUN of a script on a table, as `ran` says it for all areas that suffice: refused, with its number; or its items and the table after it
-abbrev pub runOut : Table → (script : List ℕ) → Out
-runOut t b = pick (fits t) (runBy (decode t) (readScript b)) (stop (linkAt 0))
-
+-- A RUN of a script on a table, as `ran` has it for all areas that suffice: refused, with its number; or its items and the table after it
 abbrev pub outcomeBy : Table → Out → Outcome
 outcomeBy t (stop f) = record { number = f .number; items = 0; table = t }
 outcomeBy t (gives v s) = record { number = 0; items = length v; table = encode (s .plan) }
 
 unfoldable pub outcome : Table → (script : List ℕ) → Outcome
-outcome t b = outcomeBy t (runOut t b)
+outcome t b = outcomeBy t (outcomeOf t b)
 
 -- AN ORDER: the script that follows gets the table as the one that leads left it; after a refusal no script runs
 abbrev pub orderThen : (items : ℕ) → Outcome → Order
