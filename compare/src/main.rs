@@ -1,30 +1,37 @@
 //! Compares the library under test with the reference: `compare test` runs
-//! all comparisons, `compare bench` measures both sides.
+//! all comparisons, `compare pair` those of the program, `compare bench`
+//! measures both sides.
 
 mod bench;
 mod ffi;
 mod harness;
+mod program;
 
 use std::process::ExitCode;
 
 fn main() -> ExitCode {
     match std::env::args().nth(1).as_deref() {
-        Some("test") => match harness::test() {
-            Ok(summary) => {
-                print!("{summary}");
-                ExitCode::SUCCESS
-            }
-            Err(difference) => {
-                eprintln!("FAILED: {difference}");
-                ExitCode::FAILURE
-            }
-        },
+        Some("test") => report(harness::test()),
+        Some("pair") => report(program::test()),
         Some("bench") => {
             bench::run();
             ExitCode::SUCCESS
         }
         _ => {
-            eprintln!("usage: compare test | bench");
+            eprintln!("usage: compare test | pair | bench");
+            ExitCode::FAILURE
+        }
+    }
+}
+
+fn report(outcome: Result<String, String>) -> ExitCode {
+    match outcome {
+        Ok(summary) => {
+            print!("{summary}");
+            ExitCode::SUCCESS
+        }
+        Err(difference) => {
+            eprintln!("FAILED: {difference}");
             ExitCode::FAILURE
         }
     }

@@ -1,0 +1,294 @@
+//! Compares the program `pair` with the reference: what it prints in folders
+//! whose files are sound, damaged, missing or too long.
+
+use std::collections::BTreeSet;
+use std::fs;
+use std::path::{Path, PathBuf};
+use std::process::Command;
+
+use compare::generate::random::Random;
+use compare::generate::{damage, pairs, plans};
+use compare::reference::limits::{FILE_BYTES, ROWS};
+use compare::reference::pair::pair;
+use compare::reference::plan::to_vec;
+use compare::reference::script::kind;
+
+/// The environment variable that names the program, and where it is otherwise,
+/// from the folder of this crate.
+const PROGRAM_VARIABLE: &str = "YEGNABIT_PAIR";
+const DEFAULT_PROGRAM: &str = "../target/bin/pair";
+
+const SEED: u64 = 0x7061_6972;
+const RANDOM_FOLDERS: usize = 3000;
+/// Loops may nest: how many turns a script may come to, about.
+const TURNS: usize = 20_000;
+
+const NAMES: [&str; 3] = ["plan", "first", "second"];
+
+/// What stands under a file's name.
+#[derive(Debug)]
+enum Entry {
+    File(Vec<u8>),
+    Missing,
+    /// Opens, and cannot be read.
+    Folder,
+}
+
+impl Entry {
+    /// The bytes that the program has of it.
+    fn bytes(&self) -> &[u8] {
+        match self {
+            Entry::File(bytes) => bytes,
+            Entry::Missing | Entry::Folder => &[],
+        }
+    }
+}
+
+/// The program, and the folder that it is run in.
+struct Program {
+    path: PathBuf,
+    folder: PathBuf,
+    /// The kinds of line seen.
+    seen: BTreeSet<String>,
+}
+
+impl Program {
+    fn find() -> Result<Program, String> {
+        let here = Path::new(env!("CARGO_MANIFEST_DIR"));
+        let path = std::env::var(PROGRAM_VARIABLE)
+            .map_or_else(|_| here.join(DEFAULT_PROGRAM), PathBuf::from);
+        let path = fs::canonicalize(&path)
+            .map_err(|error| format!("no program {}: {error}", path.display()))?;
+        let folder = std::env::temp_dir().join(format!("yegnabit-pair-{}", std::process::id()));
+        Ok(Program {
+            path,
+            folder,
+            seen: BTreeSet::new(),
+        })
+    }
+
+    /// Runs the program on the three entries and compares what it prints.
+    fn check(&mut self, entries: &[Entry; 3], expected: &[u8]) -> Result<(), String> {
+        let printed = self
+            .print(entries)
+            .map_err(|error| format!("running {}: {error}", self.path.display()))?;
+        if printed != expected {
+            return Err(format!(
+                "pair printed\n{}instead of\n{}for {entries:02x?}",
+                String::from_utf8_lossy(&printed),
+                String::from_utf8_lossy(expected)
+            ));
+        }
+        let text = String::from_utf8_lossy(&printed);
+        self.seen.extend(text.lines().map(kind_of_line));
+        Ok(())
+    }
+
+    fn print(&self, entries: &[Entry; 3]) -> std::io::Result<Vec<u8>> {
+        if self.folder.exists() {
+            fs::remove_dir_all(&self.folder)?;
+        }
+        fs::create_dir_all(&self.folder)?;
+        for (name, entry) in NAMES.iter().zip(entries) {
+            let path = self.folder.join(name);
+            match entry {
+                Entry::File(bytes) => fs::write(path, bytes)?,
+                Entry::Missing => {}
+                Entry::Folder => fs::create_dir(path)?,
+            }
+        }
+        let output = Command::new(&self.path)
+            .current_dir(&self.folder)
+            .output()?;
+        fs::remove_dir_all(&self.folder)?;
+        Ok(output.stdout)
+    }
+
+    /// The same, with what the reference prints.
+    fn compare(&mut self, entries: &[Entry; 3]) -> Result<(), String> {
+        let [plan, first, second] = entries;
+        let expected = pair(plan.bytes(), first.bytes(), second.bytes());
+        self.check(entries, &expected)
+    }
+}
+
+/// A line without its counts and place.
+fn kind_of_line(line: &str) -> String {
+    let words: Vec<&str> = line.split(' ').collect();
+    let kept = match words[..] {
+        ["answer", ..] => 2,
+        ["file", ..] => 3,
+        [_, "refused", ..] => 4,
+        _ => 1,
+    };
+    words[..kept].join(" ")
+}
+
+/// Lines that the folders have to bring about.
+const DUE: [&str; 17] = [
+    "file plan 1",
+    "file plan 6",
+    "file first 2",
+    "file second 4",
+    "answer free",
+    "answer upward",
+    "answer meet",
+    "one-two",
+    "two-one",
+    "one-two refused 1 7",
+    "one-two refused 2 7",
+    "one-two refused 1 8",
+    "one-two refused 2 10",
+    "two-one refused 1 7",
+    "two-one refused 2 7",
+    "two-one refused 2 8",
+    "two-one refused 1 10",
+];
+
+/// Runs all comparisons and answers a summary, or the first difference.
+pub fn test() -> Result<String, String> {
+    let mut program = Program::find()?;
+    documents_own(&mut program)?;
+    chosen(&mut program)?;
+    let mut random = Random::new(SEED);
+    for _ in 0..RANDOM_FOLDERS {
+        program.compare(&random_entries(&mut random))?;
+    }
+    let seen = &program.seen;
+    if let Some(due) = DUE.iter().find(|&&due| !seen.contains(due)) {
+        return Err(format!("no folder brought about a line '{due}': {seen:?}"));
+    }
+    Ok(format!(
+        "pair: {RANDOM_FOLDERS} random folders, {} kinds of line, no difference\n",
+        seen.len()
+    ))
+}
+
+/// What document 01 itself says that the program prints.
+fn documents_own(program: &mut Program) -> Result<(), String> {
+    let plan = [
+        0x11, 0x01, 0xFF, 0xFF, 0x11, 0x02, 0x00, 0x00, 0x12, 0xFE, 0x01, 0x00, 0x11, 0x03, 0x00,
+        0x00, 0x13, 0x00, 0x00, 0x00,
+    ];
+    let a = [
+        0x0D, 0x01, 0x00, 0x04, 0x00, 0x02, 0x00, 0x04, 0x00, 0x03, 0x02, 0x02, 0x00,
+    ];
+    let b = [0x0C, 0x09, 0x04, 0x04, 0x00, 0x03, 0x03, 0x02, 0x00];
+    let file = |bytes: &[u8]| Entry::File(bytes.to_vec());
+    program.check(
+        &[file(&plan), file(&a), file(&b)],
+        b"answer free\none-two 1 0 6\ntwo-one 1 0 6\n",
+    )?;
+    program.check(&[file(&plan), file(&[]), file(&b)], b"file first 2 0\n")?;
+    program.check(
+        &[file(&plan), Entry::Missing, file(&b)],
+        b"file first 2 0\n",
+    )
+}
+
+/// Files at the limit of what is read, missing files, refusals that are rare.
+fn chosen(program: &mut Program) -> Result<(), String> {
+    let script = || Entry::File(vec![kind::DOCUMENT, 0]);
+    let mut random = Random::new(SEED);
+    let full = to_vec(&plans::full_table(&mut random));
+
+    for entries in [
+        [Entry::Missing, script(), script()],
+        [Entry::Folder, script(), script()],
+        [script(), script(), script()],
+        [Entry::Missing, script(), Entry::Folder],
+        [Entry::Missing, Entry::Folder, Entry::Missing],
+        [Entry::File(full.clone()), script(), script()],
+    ] {
+        program.compare(&entries)?;
+    }
+    for length in [
+        FILE_BYTES - 1,
+        FILE_BYTES,
+        FILE_BYTES + 1,
+        2 * FILE_BYTES + 7,
+    ] {
+        for place in 0..3 {
+            let mut entries = [Entry::File(full.clone()), script(), script()];
+            let mut bytes = entries[place].bytes().to_vec();
+            bytes.resize(length, 0x11);
+            entries[place] = Entry::File(bytes);
+            program.compare(&entries)?;
+        }
+    }
+    // 512 rows: a new row is 10; all nodes below the root joined to themselves, often enough, are 8.
+    let all = [kind::STEP, 1, 0, 0, kind::DOCUMENT, 0];
+    let many = [
+        [kind::JOIN].as_slice(),
+        &[kind::JOIN],
+        &all,
+        &all,
+        &[kind::JOIN],
+        &all,
+        &all,
+    ]
+    .concat();
+    let table = tall();
+    for [first, second] in [
+        [vec![kind::ELEMENT, 4], script().bytes().to_vec()],
+        [script().bytes().to_vec(), vec![kind::ELEMENT, 4]],
+        [many.clone(), script().bytes().to_vec()],
+        [script().bytes().to_vec(), many.clone()],
+    ] {
+        program.compare(&[
+            Entry::File(table.clone()),
+            Entry::File(first),
+            Entry::File(second),
+        ])?;
+    }
+    Ok(())
+}
+
+/// 512 elements, all but the first below it; document 0 marks it.
+fn tall() -> Vec<u8> {
+    let mut plan = vec![0x11, 1, 0xFF, 0xFF];
+    for _ in 1..ROWS {
+        plan.extend([0x11, 2, 0, 0]);
+    }
+    plan.extend([0x13, 0, 0, 0]);
+    plan
+}
+
+fn random_entries(random: &mut Random) -> [Entry; 3] {
+    loop {
+        let rows = if random.chance(10) {
+            plans::row_count(random)
+        } else {
+            random.between(0, 30)
+        };
+        let shape = plans::Shape {
+            marked: random.choose(&[80, 100]),
+            names: 3,
+            ..plans::Shape::random(random)
+        };
+        let plan = to_vec(&plans::table(random, rows, shape));
+        let scripts = pairs::pair(random);
+        if scripts.iter().any(|script| turns(script, rows) > TURNS) {
+            continue;
+        }
+        let [first, second] = scripts;
+        return [plan, first, second].map(|bytes| entry(random, bytes));
+    }
+}
+
+/// At most about so many turns of loops: the rows, once for each byte that
+/// could be a loop's kind.
+fn turns(script: &[u8], rows: usize) -> usize {
+    let loops = script.iter().filter(|&&byte| byte == kind::FOR).count();
+    rows.max(2).saturating_pow(loops as u32)
+}
+
+fn entry(random: &mut Random, bytes: Vec<u8>) -> Entry {
+    match random.below(40) {
+        0 => Entry::Missing,
+        1 => Entry::File(damage::several(&bytes, random)),
+        2 => Entry::File(damage::noise(random, 12)),
+        3 => Entry::File(damage::appended(&bytes, random)),
+        _ => Entry::File(bytes),
+    }
+}

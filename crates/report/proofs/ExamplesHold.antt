@@ -1,0 +1,19 @@
+-- Document 01's examples of `pair` hold, by computing the definitions.
+use mathlib.Core.Path.{refl}
+use Rattle.model.specs.Base.{any, all, among}
+use Rattle.model.specs.Table.{rowsFit, noneTwice}
+use Rattle.model.specs.Stored.{readFrom, lastMarked}
+use Rattle.model.specs.Script.{parseFrom}
+use Rattle.model.specs.Step.{isBelowFrom, stepFrom, picked}
+use Rattle.model.specs.Run.{run, loop, cutAll, copyAll, copyEach, copyOf, descendantsFrom}
+use Rattle.model.specs.Paths.{infer, withStep, prefixed, prefixesOf, hasUp}
+use Rattle.model.specs.Meeting.{cell, startCells, stepCells}
+use Rattle.report.specs.Text.{digits}
+use Rattle.report.specs.Orders.{outcome, order}
+use Rattle.report.specs.Lines.{fileLine, answerLine, orderLine}
+use Rattle.report.specs.Pair.{threeLines, pairText}
+use Rattle.report.specs.Examples.{Examples}
+
+pub examples-hold : Examples
+unfolding any all among rowsFit noneTwice readFrom lastMarked parseFrom isBelowFrom stepFrom picked run loop cutAll copyAll copyEach copyOf descendantsFrom infer withStep prefixed prefixesOf hasUp cell startCells stepCells digits outcome order fileLine answerLine orderLine threeLines pairText
+examples-hold = (refl, refl, refl, refl)

@@ -1,0 +1,8 @@
+pub mod TextLaws
+pub mod DecimalBack
+pub mod LineLaws
+pub mod OrderLaws
+pub mod PairLaws
+pub mod EncodeLaws
+pub mod FreeLines
+pub mod ExamplesHold

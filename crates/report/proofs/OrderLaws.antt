@@ -1,0 +1,110 @@
+-- A run in areas that suffice, and two runs one after the other.
+use mathlib.Core.Path.{_≡_, refl, ap, sym, _∙_}
+use mathlib.Core.Bool.{Bool, true, false}
+use mathlib.Core.List.{List}
+use Prim.Native.Nat.{ℕ, _≤_}
+use native.Mathlib.Omega.{arith}
+use lib.Dec.{eqb}
+use lib.ListN.{length}
+use borrow.Author.Tests.{le-leb, eq-eqb, ne-eqb}
+use Rattle.model.specs.Base.{pick}
+use Rattle.model.specs.Refusal.{Fault, isFine, linkAt, lentShort}
+use Rattle.model.specs.Script.{Parsed, ill, parsed, parseFrom, whole, readScript}
+use Rattle.model.specs.Run.{Out, stop, gives}
+use Rattle.model.specs.Call.{Ran, areasFit, ranBy, refusedRun, runBy}
+use Rattle.model.specs.Table as model
+use Rattle.model.proofs.BoolLaws.{by-cases}
+use Rattle.model.proofs.StopLaws.{stop-refuses}
+use Rattle.script.proofs.RefusalLaws.{Sound, parse-sound}
+use Rattle.table.specs.Words.{encode, decode, fits}
+use Rattle.table.specs.declared.Table.{Table}
+use Rattle.eval.specs.Calls.{outcomeOf, ran, runResult}
+use Rattle.eval.specs.declared.RunResult.{RunResult}
+use Rattle.report.specs.Orders.{outcomeBy, outcome, orderThen, orderFrom, order, swap}
+use Rattle.report.specs.declared.orders.Outcome.{Outcome}
+use Rattle.report.specs.declared.orders.Order.{Order}
+use Rattle.report.specs.declared.orders.Order.the-variants.{Stopped, Ended}
+
+-- A STOP is a refusal: its number is not 0
+abbrev Refuses : Out → Type 0
+Refuses o = (f : Fault) → o ≡ stop f → isFine f ≡ false
+
+run-refuses : (x : model.Table) (p : Parsed) → Sound p → Refuses (runBy x p)
+run-refuses x (ill g) s f e = ne-eqb (f .number) 0 (λ q. s .numbered f (cc) q)
+run-refuses x (parsed d i n b) s f e = stop-refuses d x f e
+
+whole-sound : (p : Parsed) → Sound p → Sound (whole p)
+whole-sound (ill f) s = s
+whole-sound (parsed e i n b) s =
+    by-cases (eqb (length b) 0) (λ h. rw h s)
+    (λ h. rw h (record { numbered = λ f q z. let y : f .number ≡ 3 = cc in omega arith }))
+
+either-refuses : (z : Bool) (x : model.Table) (p : Parsed) → Sound p → Refuses (pick z (runBy x p) (stop (linkAt 0)))
+either-refuses true x p s f e = run-refuses x p s f e
+either-refuses false x p s f e = let q : f ≡ linkAt 0 = cc in ap isFine q
+
+-- WHAT A RUN GIVES BACK does not depend on the areas, where they suffice
+abbrev given : Table → Ran → Outcome
+given t r = record { number = r .fault .number; items = r .items; table = pick (isFine (r .fault)) (encode (r .plan)) t }
+
+out-given : (t : Table) (a h w : ℕ) (o : Out) → Refuses o → given t (ranBy (decode t) a h w o) ≡ outcomeBy t o
+out-given t a h w (stop f) k = ap (λ (z : Bool). record { number = f .number; items = 0; table = pick z (encode (decode t)) t }) (k f refl)
+out-given t a h w (gives v s) k = refl
+
+areas-fit : (a h w : List ℕ) → 512 ≤ length a → 12288 ≤ length h → 32768 ≤ length w → areasFit a h w ≡ true
+areas-fit a h w i j k = rw (le-leb 512 (length a) i, le-leb 12288 (length h) j, le-leb 32768 (length w) k)
+
+module _ (t : Table) (b a h w : List ℕ) (i : 512 ≤ length a) (j : 12288 ≤ length h) (k : 32768 ≤ length w) where
+  ran-given : given t (ran t b a h w) ≡ outcome t b
+  unfolding outcome
+  ran-given =
+      ap
+      (λ (z : Bool).
+      given t (pick z (ranBy (decode t) (length a) (length h) (length w) (outcomeOf t b)) (refusedRun lentShort (decode t) a h w)))
+      (areas-fit a h w i j k) ∙
+      out-given t (length a) (length h) (length w) (outcomeOf t b)
+      (either-refuses (fits t) (decode t) (readScript b) (whole-sound (parseFrom 18 1 0 0 0 b) (parse-sound 18 1 0 0 0 b)))
+
+  pub run-given : {r : RunResult} → r ≡ runResult t b a h w →
+      record { number = r .fault .number; items = r .items; table = r .table } ≡ outcome t b
+  run-given e =
+      ap (λ (q : RunResult). record { number = q .fault .number; items = q .items; table = q .table }) e ∙ ran-given
+
+-- A CHOICE by a refusal's number
+pub pick-fine : {A : Type 0} {n : ℕ} (x y : A) → n ≡ 0 → pick (eqb n 0) x y ≡ x
+pick-fine x y h = rw (eq-eqb _ 0 h)
+
+pub pick-refused : {A : Type 0} {n : ℕ} (x y : A) → (n ≡ 0 → ⊥) → pick (eqb n 0) x y ≡ y
+pick-refused x y h = rw (ne-eqb _ 0 h)
+
+-- AN ORDER by its three ways out
+module _ (t : Table) (b c : List ℕ) {one : Outcome} (e : one ≡ outcome t b) where
+  pub leads-refused : (one .number ≡ 0 → ⊥) → Stopped 1 (one .number) ≡ order t b c
+  unfolding order
+  leads-refused z =
+      sym (pick-refused (orderThen (one .items) (outcome (one .table) c)) (Stopped 1 (one .number)) z) ∙
+      ap (λ (r : Outcome). orderFrom r c) e
+
+  module _ (y : one .number ≡ 0) {two : Outcome} (f : two ≡ outcome (one .table) c) where
+    then-order : orderThen (one .items) two ≡ order t b c
+    unfolding order
+    then-order =
+        ap (orderThen (one .items)) f ∙
+        sym (pick-fine (orderThen (one .items) (outcome (one .table) c)) (Stopped 1 (one .number)) y) ∙
+        ap (λ (r : Outcome). orderFrom r c) e
+
+    pub follows-refused : (two .number ≡ 0 → ⊥) → Stopped 2 (two .number) ≡ order t b c
+    follows-refused z = sym (pick-refused (Ended (one .items) (two .items) (two .table .count)) (Stopped 2 (two .number)) z) ∙ then-order
+
+    pub both-ended : two .number ≡ 0 → Ended (one .items) (two .items) (two .table .count) ≡ order t b c
+    both-ended z = sym (pick-fine (Ended (one .items) (two .items) (two .table .count)) (Stopped 2 (two .number)) z) ∙ then-order
+
+-- EACH SCRIPT under its own number
+pub swap-first : {o : Order} {s n : ℕ} → o ≡ Stopped s n → s ≡ 1 → Stopped 2 n ≡ swap o
+swap-first {n = n} e h = sym (ap swap e ∙ ap (λ (z : Bool). Stopped (pick z 2 1) n) (eq-eqb _ 1 h))
+
+pub swap-second : {o : Order} {s n : ℕ} → o ≡ Stopped s n → (s ≡ 1 → ⊥) → Stopped 1 n ≡ swap o
+swap-second {n = n} e h = sym (ap swap e ∙ ap (λ (z : Bool). Stopped (pick z 2 1) n) (ne-eqb _ 1 h))
+
+pub swap-ended : {o : Order} {i j r : ℕ} → o ≡ Ended i j r → Ended j i r ≡ swap o
+swap-ended e = sym (ap swap e)

@@ -1,0 +1,93 @@
+-- The lines joined, and the whole output in the area lent for it.
+use mathlib.Core.Path.{_≡_, ap, sym, subst, _∙_}
+use mathlib.Core.Bool.{Bool}
+use mathlib.Core.List.{List, _++_}
+use Prim.Native.Nat.{ℕ, _≤_, _<_}
+use native.Mathlib.Nat.{zero-add}
+use native.Mathlib.Omega.{arith}
+use lib.ListN.{length, drop}
+use lib.Seq.{length-take-le}
+use borrow.Author.Tests.{lt-ltb, le-ltb, eq-eqb, ne-eqb}
+use Rattle.model.specs.Base.{pick}
+use Rattle.table.specs.Calls.{planRead}
+use Rattle.table.specs.declared.Fault.{Fault}
+use Rattle.table.specs.declared.Table.{Table}
+use Rattle.table.specs.declared.TableResult.{TableResult}
+use Rattle.table.specs.declared.Written.{Written}
+use Rattle.paths.specs.Analysis.{analysed}
+use Rattle.paths.specs.declared.Analysis.{Analysis}
+use Rattle.paths.specs.declared.Analysis.the-variants.{Refused}
+use Rattle.report.specs.Text.{ascii, Placed}
+use Rattle.report.specs.Orders.{order, swap}
+use Rattle.report.specs.Lines.{fileLine, answerLine, orderLine}
+use Rattle.report.specs.Pair.{threeLines, textBy, planText, pairText, Counted, pairWritten, pairOut}
+use Rattle.report.specs.declared.orders.Order.{Order}
+use Rattle.report.proofs.TextLaws.{placed-then}
+use Rattle.report.proofs.OrderLaws.{pick-fine, pick-refused}
+
+-- THREE LINES
+pub three-placed : (t : Table) (w b c : List ℕ) {o o₁ o₂ o₃ : List ℕ} {n m r : ℕ} {x y z : Order} → x ≡ order t b c → y ≡ order t c b →
+    z ≡ swap y → Placed o 0 (answerLine w) o₁ n → Placed o₁ n (orderLine (ascii "one-two") x) o₂ m →
+    Placed o₂ m (orderLine (ascii "two-one") z) o₃ r → Placed o 0 (threeLines t w b c) o₃ r
+unfolding threeLines
+three-placed t w b c e f g p q s =
+    placed-then (omega arith) (placed-then (omega arith) p (rw e at q)) (rw (g ∙ ap swap f) at s)
+
+-- a refused script by its number
+unfoldable named : (z : Bool) → Fault → List ℕ
+named z f = fileLine (pick z (ascii "first") (ascii "second")) f
+
+module _ {o o′ : List ℕ} {n : ℕ} (t : Table) (b c : List ℕ) (s : ℕ) (f : Fault) where
+  pub first-named : s ≡ 1 → Placed o 0 (fileLine (ascii "first") f) o′ n → Placed o 0 (textBy (Refused s f) t b c) o′ n
+  unfolding named
+  first-named e q = subst (λ (z : Bool). Placed o 0 (named z f) o′ n) (sym (eq-eqb s 1 e)) q
+
+  pub second-named : (s ≡ 1 → ⊥) → Placed o 0 (fileLine (ascii "second") f) o′ n → Placed o 0 (textBy (Refused s f) t b c) o′ n
+  unfolding named
+  second-named e q = subst (λ (z : Bool). Placed o 0 (named z f) o′ n) (sym (ne-eqb s 1 e)) q
+
+-- what is written for the text placed at the start of the area
+abbrev wrote : (bytes : ℕ) → Written
+wrote n = record { fault = record { number = 0; place = 0 }; bytes = n }
+
+counted : (n : ℕ) (o : List ℕ) → n ≤ length o → Counted n o
+counted n o h = (h, sym (length-take-le n o h))
+
+module _ (p b c : List ℕ) {o : List ℕ} where
+  pub area-short : length o < 160 →
+      (record { fault = record { number = 11; place = 0 }; bytes = 0 } ≡ pairWritten p b c o) × ((o ≡ pairOut p b c o) × Counted 0 o)
+  area-short h = (rw (lt-ltb (length o) 160 h), (rw (lt-ltb (length o) 160 h), counted 0 o (omega arith)))
+
+  module _ (h : 160 ≤ length o) {o′ : List ℕ} (l : length o′ ≡ length o) {n : ℕ} {x : Written} (w : x ≡ wrote n) where
+    placed-written : Placed o 0 (pairText p b c) o′ n → n ≤ 160 →
+        (x ≡ pairWritten p b c o) × ((o′ ≡ pairOut p b c o) × Counted (x .bytes) o′)
+    placed-written q k = (
+      w ∙ ap wrote (q .next ∙ zero-add (length (pairText p b c))) ∙ rw (le-ltb (length o) 160 h),
+      (
+        q .area ∙ ap (λ (k : ℕ). pairText p b c ++ drop k o) (zero-add (length (pairText p b c))) ∙ rw (le-ltb (length o) 160 h),
+        counted (x .bytes) o′ (omega (arith, ap (λ (v : Written). v .bytes) w)),
+      ),
+    )
+
+    module _ {r : TableResult} (e : r ≡ planRead p) where
+      pub plan-refused : (r .fault .number ≡ 0 → ⊥) → Placed o 0 (fileLine (ascii "plan") (r .fault)) o′ n → n ≤ 160 →
+          (x ≡ pairWritten p b c o) × ((o′ ≡ pairOut p b c o) × Counted (x .bytes) o′)
+      unfolding pairText
+      plan-refused z q k = placed-written (subst (λ (v : List ℕ). Placed o 0 v o′ n) same q) k
+        where
+          same : fileLine (ascii "plan") (r .fault) ≡ pairText p b c
+          same =
+              sym (pick-refused (textBy (analysed b c) (r .table) b c) (fileLine (ascii "plan") (r .fault)) z) ∙
+              ap (λ (s : TableResult). planText s b c) e
+
+      pub plan-read : r .fault .number ≡ 0 → {a v : Analysis} → a ≡ analysed b c → a ≡ v → Placed o 0 (textBy v (r .table) b c) o′ n →
+          n ≤ 160 →
+          (x ≡ pairWritten p b c o) × ((o′ ≡ pairOut p b c o) × Counted (x .bytes) o′)
+      unfolding pairText
+      plan-read z {v = v} f g q k = placed-written (subst (λ (v : List ℕ). Placed o 0 v o′ n) same q) k
+        where
+          same : textBy v (r .table) b c ≡ pairText p b c
+          same =
+              ap (λ (x : Analysis). textBy x (r .table) b c) (sym g ∙ f) ∙
+              sym (pick-fine (textBy (analysed b c) (r .table) b c) (fileLine (ascii "plan") (r .fault)) z) ∙
+              ap (λ (s : TableResult). planText s b c) e

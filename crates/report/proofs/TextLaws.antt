@@ -1,0 +1,122 @@
+-- A text placed in an area: byte by byte, one text after another, a number digit by digit.
+use mathlib.Core.Path.{_≡_, refl, ap, sym, subst, _∙_}
+use mathlib.Core.Bool.{true, false}
+use mathlib.Core.List.{List, [], _∷_, _++_, append-assoc}
+use Prim.Native.Nat.{ℕ, zero, suc, _+_, _/_, _%_, _^_, _≤_, _<_}
+use native.Mathlib.Nat.{pow-suc}
+use native.Mathlib.Numerals.{add-one}
+use native.Mathlib.Omega.{arith}
+use lib.Dec.{ltb}
+use lib.ListN.{length, getD, take, drop, set, length-append}
+use lib.Seq.{append-snoc, drop-append-add, drop-drop, length-take-le, paste, paste-suc, set-split, take-at, take-length}
+use borrow.Author.Tests.{lt-ltb, le-ltb}
+use Rattle.model.proofs.BoolLaws.{by-cases}
+use Rattle.report.specs.Text.{digits, decimal, placed, Placed, Number}
+
+-- A COPY, byte by byte
+pub copy-next : (o d s : List ℕ) (i j : ℕ) → o ≡ paste d i s j → i + j < length d → j < length s →
+    set o (i + j) (getD s j 0) ≡ paste d i s (j + 1)
+copy-next o d s i j e h k =
+    ap (λ (x : List ℕ). set x (i + j) (getD s j 0)) e ∙ paste-suc d i s j 0 h k ∙ ap (paste d i s) (sym (add-one j))
+
+pub copy-all : (o d s : List ℕ) (i j : ℕ) → o ≡ paste d i s j → j ≤ length s → length s ≤ j → Placed d i s o (i + j)
+copy-all o d s i j e h k =
+    let q : j ≡ length s = omega arith in
+    record {
+      area = e ∙ ap (paste d i s) q ∙ ap (λ (x : List ℕ). take i d ++ x ++ drop (i + length s) d) (take-length s);
+      next = ap (λ (n : ℕ). i + n) q;
+    }
+
+-- ONE BYTE
+pub placed-byte : (o : List ℕ) (i x : ℕ) → i < length o → Placed o i (x ∷ []) (set o i x) (i + 1)
+placed-byte o i x h =
+    record {
+      area =
+          set-split o i x h ∙ ap (λ (n : ℕ). take i o ++ x ∷ drop n o) (sym (add-one i)) ∙ sym (append-snoc (take i o) x (drop (i + 1) o));
+      next = refl;
+    }
+
+-- ONE TEXT AFTER ANOTHER
+module _ (o : List ℕ) (i : ℕ) (s t : List ℕ) (h : i ≤ length o) where
+  head-length : length (take i o ++ s) ≡ i + length s
+  head-length = length-append (take i o) s ∙ ap (λ (n : ℕ). n + length s) (length-take-le i o h)
+
+  then-area : placed (placed o i s) (i + length s) t ≡ placed o i (s ++ t)
+  then-area =
+      ap (λ (x : List ℕ). x ++ t ++ drop (i + length s + length t) (placed o i s))
+      (take-at (take i o ++ s) (drop (i + length s) o) (i + length s) head-length) ∙
+      ap (λ (x : List ℕ). take i o ++ s ++ t ++ x)
+      (ap (λ (n : ℕ). drop (n + length t) (placed o i s)) (sym head-length) ∙
+      drop-append-add (take i o ++ s) (drop (i + length s) o) (length t) ∙ drop-drop (length t) (i + length s) o ∙
+      ap (λ (n : ℕ). drop n o) (sym past)) ∙
+      ap (λ (x : List ℕ). x ++ drop (i + length (s ++ t)) o) (append-assoc (take i o) s t)
+    where
+      past : i + length (s ++ t) ≡ i + length s + length t
+      past = omega (arith, length-append s t)
+
+pub placed-then : {o s t o′ o″ : List ℕ} {i r q : ℕ} → i ≤ length o → Placed o i s o′ r → Placed o′ r t o″ q → Placed o i (s ++ t) o″ q
+placed-then {o} {s} {t} {i = i} {r = r} h a b =
+    record {
+      area =
+          b .area ∙ ap (λ (x : List ℕ). placed x r t) (a .area) ∙ ap (λ (n : ℕ). placed (placed o i s) n t) (a .next) ∙ then-area o i s t h;
+      next = omega (arith, length-append s t, a .next, b .next);
+    }
+
+-- DIGITS
+pub digits-low : (k n : ℕ) → ltb n 10 ≡ true → digits (suc k) n ≡ (48 + n) ∷ []
+unfolding digits
+digits-low k n h = rw h
+
+pub digits-high : (k n : ℕ) → ltb n 10 ≡ false → digits (suc k) n ≡ digits k (n / 10) ++ ((48 + n % 10) ∷ [])
+unfolding digits
+digits-high k n h = rw h
+
+length-digits : (k n : ℕ) → length (digits k n) ≤ k
+unfolding digits
+length-digits zero n = omega arith
+length-digits (suc k) n =
+    by-cases (ltb n 10) (λ h. rw h (omega arith))
+    (λ h. rw h (omega (arith, length-append (digits k (n / 10)) ((48 + n % 10) ∷ []), length-digits k (n / 10))))
+
+-- fuel for as many digits as there are makes no difference
+digits-fuel : (k n : ℕ) → n < 10 ^ suc k → digits (suc k) n ≡ digits (suc (suc k)) n
+digits-fuel zero n h =
+    let low : ltb n 10 ≡ true = lt-ltb n 10 (omega (arith, h)) in
+    digits-low 0 n low ∙ sym (digits-low 1 n low)
+digits-fuel (suc k) n h =
+    by-cases (ltb n 10) (λ low. digits-low (suc k) n low ∙ sym (digits-low (suc (suc k)) n low))
+    (λ high.
+    digits-high (suc k) n high ∙
+    ap (λ (x : List ℕ). x ++ ((48 + n % 10) ∷ [])) (digits-fuel k (n / 10) (omega (arith, h, pow-suc 10 (suc k)))) ∙
+    sym (digits-high (suc (suc k)) n high))
+
+-- NUMBERS of 64 bits
+pub decimal-low : (n : ℕ) → n < 10 → decimal n ≡ (48 + n) ∷ []
+decimal-low n h = digits-low 19 n (lt-ltb n 10 h)
+
+module _ (n : ℕ) (fits : n < 18446744073709551616) where
+  shorter : digits 19 (n / 10) ≡ decimal (n / 10)
+  shorter = digits-fuel 18 (n / 10) (omega arith)
+
+  pub decimal-high : 10 ≤ n → decimal n ≡ decimal (n / 10) ++ ((48 + n % 10) ∷ [])
+  decimal-high h = digits-high 19 n (le-ltb n 10 h) ∙ ap (λ (x : List ℕ). x ++ ((48 + n % 10) ∷ [])) shorter
+
+  pub decimal-shorter : length (decimal (n / 10)) ≤ 19
+  decimal-shorter = omega (arith, length-digits 19 (n / 10), ap length shorter)
+
+pub number-placed : {o o′ : List ℕ} {i n r : ℕ} → Placed o i (decimal n) o′ r → Number o i n o′ r
+number-placed {n = n} p = record { text = p; few = omega (arith, length-digits 20 n, p .next) }
+
+pub number-low : (o : List ℕ) (i n : ℕ) → n < 10 → i < length o → Number o i n (set o i (48 + n)) (i + 1)
+number-low o i n h k =
+    number-placed (subst (λ (s : List ℕ). Placed o i s (set o i (48 + n)) (i + 1)) (sym (decimal-low n h)) (placed-byte o i (48 + n) k))
+
+module _ (o o′ : List ℕ) (i n r : ℕ) (fits : n < 18446744073709551616) (p : Number o i (n / 10) o′ r) where
+  pub number-room : r < i + 20
+  number-room = omega (arith, p .text .next, decimal-shorter n fits)
+
+  pub number-high : 10 ≤ n → i + 20 ≤ length o → length o′ ≡ length o → Number o i n (set o′ r (48 + n % 10)) (r + 1)
+  number-high h k l =
+      number-placed
+      (subst (λ (s : List ℕ). Placed o i s (set o′ r (48 + n % 10)) (r + 1)) (sym (decimal-high n fits h))
+      (placed-then (omega arith) (p .text) (placed-byte o′ r (48 + n % 10) (omega (arith, number-room)))))

@@ -1,0 +1,103 @@
+use Rattle.report.proofs.LineLaws.{stopped-placed, ended-placed}
+use borrow.Author.Needs.{needs}
+use Rattle.report.proofs.lines.put_order.Statement.{statement}
+use Rattle.report.proofs.lines.put_order.Tie as tie
+
+put-requires : tie.Need-put-requires
+put-requires c κs = search needs
+
+enum-known-order : tie.Need-enum-known-order
+enum-known-order c = search needs
+
+slice-aggregate-put : tie.Need-slice-aggregate-put
+slice-aggregate-put c = search needs
+
+put-requires-2 : tie.Need-put-requires-2
+put-requires-2 c κs = search needs
+
+cast-put-field : tie.Need-cast-put-field
+cast-put-field c = search needs
+
+put-field-requires : tie.Need-put-field-requires
+put-field-requires c κs = search needs
+
+cast-put-field-2 : tie.Need-cast-put-field-2
+cast-put-field-2 c = search needs
+
+put-field-requires-2 : tie.Need-put-field-requires-2
+put-field-requires-2 c κs = search needs
+
+slice-aggregate-put-2 : tie.Need-slice-aggregate-put-2
+slice-aggregate-put-2 c = search needs
+
+put-requires-3 : tie.Need-put-requires-3
+put-requires-3 c κs = search needs
+
+enum-known-order-2 : tie.Need-enum-known-order-2
+enum-known-order-2 c = search needs
+
+put-field-requires-3 : tie.Need-put-field-requires-3
+put-field-requires-3 c κs = search needs
+
+put-field-requires-4 : tie.Need-put-field-requires-4
+put-field-requires-4 c κs = search needs
+
+put-field-requires-5 : tie.Need-put-field-requires-5
+put-field-requires-5 c κs = search needs
+
+slice-aggregate-put-3 : tie.Need-slice-aggregate-put-3
+slice-aggregate-put-3 c = search needs
+
+put-requires-4 : tie.Need-put-requires-4
+put-requires-4 c κs = search needs
+
+same-length : tie.Need-same-length
+same-length c = search needs
+
+returns : tie.Need-returns
+returns c = stopped-placed (c .before .before .before .before .before .before .before .before .before .before .before .before .before
+    .before .before .before .before .before .before .before .before .before .before .before .before .before .before .pre) (c .before
+    .before .before .before .before .before .before .before .before .before .before .before .before .before .before .before .before
+    .before .before .order .given .1) (c .before .before .before .before .before .before .before .before .before .before .before
+    .before .before .before .before .before .before .before .before .before .before .before .before .put .ensures) (c .before .before
+    .before .before .before .before .before .before .before .before .before .before .before .before .before .put2 .ensures) (c .before
+    .before .before .before .before .before .before .before .before .before .before .put-field .ensures) (c .before .before .before
+    .before .before .before .before .put-field2 .ensures) (c .before .before .put3 .ensures)
+
+same-length-2 : tie.Need-same-length-2
+same-length-2 c = search needs
+
+returns-2 : tie.Need-returns-2
+returns-2 c = ended-placed (c .before .before .before .before .before .before .before .before .before .before .before .before .before
+    .before .before .before .before .before .before .before .before .before .before .before .before .before .pre) (c .before .before
+    .before .before .before .before .before .before .before .before .before .before .before .before .before .before .before .before
+    .order2 .given .1) (c .before .before .before .before .before .before .before .before .before .before .before .before .before
+    .before .before .before .before .before .before .before .before .before .put .ensures) (c .before .before .before .before .before
+    .before .before .before .before .before .before .before .before .before .before .put-field3 .ensures) (c .before .before .before
+    .before .before .before .before .before .before .before .before .put-field4 .ensures) (c .before .before .before .before .before
+    .before .before .put-field5 .ensures) (c .before .before .put4 .ensures)
+
+pub put-order-spec : {M : Type 1} → statement M
+put-order-spec =
+    tie.close
+    (tie.spec
+    put-requires
+    enum-known-order
+    slice-aggregate-put
+    put-requires-2
+    cast-put-field
+    put-field-requires
+    cast-put-field-2
+    put-field-requires-2
+    slice-aggregate-put-2
+    put-requires-3
+    enum-known-order-2
+    put-field-requires-3
+    put-field-requires-4
+    put-field-requires-5
+    slice-aggregate-put-3
+    put-requires-4
+    same-length
+    returns
+    same-length-2
+    returns-2)

@@ -1,0 +1,24 @@
+-- Document 01's examples of `pair` as one statement. Assumes nothing: these are definitions.
+use mathlib.Core.Path.{_≡_}
+use mathlib.Core.List.{List, [], _∷_}
+use Prim.Native.Nat.{ℕ}
+use Rattle.model.specs.Cases.{bytesA, bytesB}
+use Rattle.report.specs.Text.{ascii}
+use Rattle.report.specs.Pair.{pairText}
+
+abbrev pub bytesP : List ℕ
+bytesP =
+    0x11 ∷ 0x01 ∷ 0xFF ∷ 0xFF ∷ 0x11 ∷ 0x02 ∷ 0x00 ∷ 0x00 ∷ 0x12 ∷ 0xFE ∷ 0x01 ∷ 0x00 ∷ 0x11 ∷ 0x03 ∷ 0x00 ∷ 0x00 ∷ 0x13 ∷ 0x00 ∷ 0x00 ∷
+    0x00 ∷ []
+
+-- an insert whose target is the empty value: 7
+abbrev pub bytesNoTarget : List ℕ
+bytesNoTarget = 0x0C ∷ 0x01 ∷ 0x01 ∷ []
+
+-- P, A and B; P and an empty `first`; a refused run, of the second script and of the first
+abbrev pub Examples : Type 0
+Examples =
+    (pairText bytesP bytesA bytesB ≡ ascii "answer free\none-two 1 0 6\ntwo-one 1 0 6\n") ×
+    (pairText bytesP [] bytesB ≡ ascii "file first 2 0\n") ×
+    (pairText bytesP bytesA bytesNoTarget ≡ ascii "answer free\none-two refused 2 7\ntwo-one refused 2 7\n") ×
+    (pairText bytesP bytesNoTarget bytesA ≡ ascii "answer free\none-two refused 1 7\ntwo-one refused 1 7\n")

@@ -1,0 +1,60 @@
+-- Document 01, 'The program `pair`': what it prints for the content of its three files. Assumes nothing: these are definitions.
+use mathlib.Core.Path.{_≡_}
+use mathlib.Core.List.{List, _++_}
+use Prim.Native.Nat.{ℕ, _≤_}
+use lib.Dec.{ltb, eqb}
+use lib.ListN.{length, take, drop}
+use Rattle.model.specs.Base.{pick}
+use Rattle.table.specs.Calls.{planRead}
+use Rattle.table.specs.declared.Table.{Table}
+use Rattle.table.specs.declared.TableResult.{TableResult}
+use Rattle.table.specs.declared.Written.{Written}
+use Rattle.paths.specs.Analysis.{analysed}
+use Rattle.paths.specs.declared.Analysis.{Analysis}
+use Rattle.paths.specs.declared.Analysis.the-variants.{Refused, Free, Upward, Meet}
+use Rattle.report.specs.Text.{ascii, Placed}
+use Rattle.report.specs.Orders.{order, swap}
+use Rattle.report.specs.Lines.{fileLine, answerLine, orderLine}
+
+-- the bytes that the lines take at most
+abbrev pub room : ℕ
+room = 160
+
+-- THREE LINES: the answer, and both orders, each from the plan read
+unfoldable pub threeLines : Table → (word first second : List ℕ) → List ℕ
+threeLines t w b c =
+    answerLine w ++ orderLine (ascii "one-two") (order t b c) ++ orderLine (ascii "two-one") (swap (order t c b))
+
+-- A refused script gives the only line; after every answer both orders are run
+abbrev pub textBy : Analysis → Table → (first second : List ℕ) → List ℕ
+textBy (Refused s f) t b c = fileLine (pick (eqb s 1) (ascii "first") (ascii "second")) f
+textBy Free t b c = threeLines t (ascii "free") b c
+textBy Upward t b c = threeLines t (ascii "upward") b c
+textBy Meet t b c = threeLines t (ascii "meet") b c
+
+-- The first file refused, in the order plan, first, second, gives the only line
+abbrev pub planText : TableResult → (first second : List ℕ) → List ℕ
+planText r b c = pick (eqb (r .fault .number) 0) (textBy (analysed b c) (r .table) b c) (fileLine (ascii "plan") (r .fault))
+
+-- ALL LINES
+unfoldable pub pairText : (plan first second : List ℕ) → List ℕ
+pairText p b c = planText (planRead p) b c
+
+-- in an area lent for them: 11 where it is too short, and nothing touched; the bytes past the lines stay
+abbrev pub pairWritten : (plan first second out : List ℕ) → Written
+pairWritten p b c o =
+    pick (ltb (length o) room)
+    (record { fault = record { number = 11; place = 0 }; bytes = 0 })
+    (record { fault = record { number = 0; place = 0 }; bytes = length (pairText p b c) })
+
+abbrev pub pairOut : (plan first second out : List ℕ) → List ℕ
+pairOut p b c o = pick (ltb (length o) room) o (pairText p b c ++ drop (length (pairText p b c)) o)
+
+-- so many bytes stand at the front of the area: both parts, so that a caller may lend the front with no proof of its own
+abbrev pub Counted : (bytes : ℕ) → (area : List ℕ) → Type 0
+Counted n o = (n ≤ length o) × (n ≡ length (take n o))
+
+-- what the three lines leave
+pub record Report (t : Table) (w b c o o′ : List ℕ) (r : ℕ) : Type 0 where
+  pub text : Placed o 0 (threeLines t w b c) o′ r
+  pub few : r ≤ room

@@ -1,0 +1,77 @@
+// The report of the program `pair`: two scripts analysed and run in both orders on a plan, as lines of text.
+ghost use mathlib.Core.Path.{_≡_};
+ghost use Prim.Native.Nat.{_≤_};
+ghost use lib.ListN.{length};
+ghost use Rattle.report.specs.Pair.{Report, Counted, pairWritten, pairOut};
+
+mod lines;
+mod number;
+mod orders;
+mod text;
+
+use paths::Analysis;
+use table::Fault;
+use table::Table;
+use table::Written;
+
+// The bytes that the lines take at most.
+pub const ROOM: usize = 160;
+
+fn written(bytes: usize) -> Written
+    ensures { λ r. ⌜ r ≡ record { fault = record { number = 0; place = 0 }; bytes = bytes } ⌝ }
+{
+    Written {
+        fault: Fault {
+            number: 0,
+            place: 0,
+        },
+        bytes,
+    }
+}
+
+// The answer and both orders, each from the table given.
+fn three_lines(out: &mut [u8], word: &[u8], table: Table, first: &[u8], second: &[u8]) -> usize
+    requires { ⌜ (160 ≤ length (now out)) × (length (now word) ≤ 7) ⌝ }
+    ensures { λ r. ⌜ Report table (now (word .entry)) (now (first .entry)) (now (second .entry)) (now (out .entry)) (now (out .exit)) r ⌝ }
+{
+    let n = lines::put_answer(out, word);
+    let one_two = orders::in_order(table, first, second);
+    let m = lines::put_order(out, n, b"one-two", one_two);
+    let two_one = orders::in_order(table, second, first);
+    lines::put_order(out, m, b"two-one", orders::swapped(two_one))
+}
+
+// Writes the lines for a plan and two scripts to the start of out, which needs 160 bytes; the rest of it stays.
+pub fn pair(plan: &[u8], first: &[u8], second: &[u8], out: &mut [u8]) -> Written
+    ensures { λ r. ⌜ r ≡ pairWritten (now (plan .entry)) (now (first .entry)) (now (second .entry)) (now (out .entry)) ⌝ }
+    ensures { λ r. ⌜ now (out .exit) ≡ pairOut (now (plan .entry)) (now (first .entry)) (now (second .entry)) (now (out .entry)) ⌝ }
+    ensures { λ r. ⌜ Counted (r .bytes) (now (out .exit)) ⌝ }
+{
+    if out.len() < ROOM {
+        return Written {
+            fault: Fault {
+                number: Fault::LENT,
+                place: 0,
+            },
+            bytes: 0,
+        };
+    }
+    let read = table::read_plan(plan);
+    let fault = read.fault;
+    if fault.number != 0 {
+        return written(lines::put_file(out, b"plan", fault));
+    }
+    let t = read.table;
+    let analysis = paths::analyse(first, second);
+    match analysis {
+        Analysis::Refused { script, fault } => {
+            if script == 1 {
+                return written(lines::put_file(out, b"first", fault));
+            }
+            written(lines::put_file(out, b"second", fault))
+        }
+        Analysis::Free => written(three_lines(out, b"free", t, first, second)),
+        Analysis::Upward => written(three_lines(out, b"upward", t, first, second)),
+        Analysis::Meet => written(three_lines(out, b"meet", t, first, second)),
+    }
+}

@@ -1,0 +1,102 @@
+/* The C interface of Yegnabit (crates/ffi; archive target/staticlib/libffi.a, by `rt staticlib ffi`).
+ *
+ * Every slice is a pointer and a length, counted in elements. Nothing is kept between calls and no memory is allocated. A pointer must
+ * be valid for its length, also where that is 0 (then any aligned pointer but NULL); what a call writes to must overlap nothing else.
+ *
+ * Each call answers number + 256 * which + 65,536 * place. `number` is a refusal's number, 0 where nothing is refused. `which` says whose
+ * refusal it is: 0 a lent area's, 1 the plan's, 2 the script's, the run's or the history's. `place` is the refusal's place.
+ * A refused call leaves `out` as it was. On success the bytes of the plan stand at the start of `out`, and the rest of it stays. */
+
+#ifndef YEGNABIT_H
+#define YEGNABIT_H
+
+#include <stddef.h>
+#include <stdint.h>
+
+#ifdef __cplusplus
+extern "C" {
+#endif
+
+/* Refusals. */
+enum yegnabit_refusal {
+    YEGNABIT_KIND = 1,     /* kind byte not of this form */
+    YEGNABIT_SHORT = 2,    /* a record or operand is cut off by the end */
+    YEGNABIT_TAIL = 3,     /* bytes after the whole script */
+    YEGNABIT_FIELD = 4,    /* a body field out of its range, a variable not bound */
+    YEGNABIT_SIZE = 5,     /* 513th row, 65th script record, depth 17, ninth nested binder, 2,049th history record read */
+    YEGNABIT_LINK = 6,     /* parent, mark or row order breaks the table's rules, or a history does not fit */
+    YEGNABIT_TARGET = 7,   /* insert's target is not one element */
+    YEGNABIT_ITEMS = 8,    /* a join or 'for' passes 512 items */
+    YEGNABIT_HISTORY = 9,  /* a run needs a 2,049th record */
+    YEGNABIT_TABLE = 10,   /* new rows pass 512 */
+    YEGNABIT_LENT = 11     /* a lent area is too short for its stated need */
+};
+
+/* What each lent area needs, in elements. */
+enum yegnabit_need {
+    YEGNABIT_OUT = 2080,        /* bytes: 512 rows and 8 marks */
+    YEGNABIT_ANSWER_AREA = 512, /* row numbers */
+    YEGNABIT_HISTORY_AREA = 12288,
+    YEGNABIT_WORK_AREA = 32768,
+    YEGNABIT_DONE = 6
+};
+
+/* What yegnabit_run leaves in `done`. */
+enum yegnabit_done {
+    YEGNABIT_DONE_ITEMS = 0,   /* items of the answer */
+    YEGNABIT_DONE_MADE = 1,    /* rows made */
+    YEGNABIT_DONE_CUT = 2,     /* links cut */
+    YEGNABIT_DONE_RECORDS = 3, /* records written */
+    YEGNABIT_DONE_HISTORY = 4, /* bytes of the history */
+    YEGNABIT_DONE_OUT = 5      /* bytes of the plan in `out` */
+};
+
+/* What yegnabit_analyse answers as `which`, with number 0. */
+enum yegnabit_answer { YEGNABIT_FREE = 0, YEGNABIT_UPWARD = 1, YEGNABIT_MEET = 2 };
+
+/* The parts of an answer. */
+static inline unsigned yegnabit_number(uint64_t answer) { return (unsigned)(answer & 0xff); }
+static inline unsigned yegnabit_which(uint64_t answer) { return (unsigned)(answer >> 8 & 0xff); }
+static inline uint64_t yegnabit_place(uint64_t answer) { return answer >> 16; }
+
+/* Reads a stored plan and writes it back; place: the bytes written. */
+uint64_t yegnabit_plan(const uint8_t *plan, size_t plan_length, uint8_t *out, size_t out_length);
+
+/* Reads a plan, drops each row that is neither marked nor below a marked row, and writes it; place: the bytes written. */
+uint64_t yegnabit_sweep(const uint8_t *plan, size_t plan_length, uint8_t *out, size_t out_length);
+
+/* Reads a plan, runs a script on it and writes the plan as it then is; place: 0. 11 for any area too short comes before all else, and
+ * nothing is touched. A refused plan zeroes `done`, and the other areas stay. After a run the answer's rows and the history stand at the
+ * front of their areas, and the rest of these and all of `work` is zero; a refused run leaves all of them, and `done`, zero. What `done`
+ * holds: enum yegnabit_done; numbers past the sixth stay. */
+uint64_t yegnabit_run(const uint8_t *plan, size_t plan_length, const uint8_t *script, size_t script_length,
+                      uint16_t *answer, size_t answer_length, uint8_t *history, size_t history_length,
+                      uint16_t *work, size_t work_length, uint8_t *out, size_t out_length,
+                      uint64_t *done, size_t done_length);
+
+/* Reads a plan, takes a run back by its history, and writes it; place: the bytes written. */
+uint64_t yegnabit_undo(const uint8_t *plan, size_t plan_length, const uint8_t *history, size_t history_length,
+                       uint8_t *out, size_t out_length);
+
+/* Analyses two scripts. A refusal is the first's, which 1, or the second's, which 2; else number is 0 and `which` is the answer: enum
+ * yegnabit_answer. */
+uint64_t yegnabit_analyse(const uint8_t *first, size_t first_length, const uint8_t *second, size_t second_length);
+
+/* Reads a script: its refusal, which 2, or 0. */
+uint64_t yegnabit_script(const uint8_t *script, size_t script_length);
+
+/* The same calls on a table of 512 row words and 8 marks, well formed or not (crates/table/src/words.rt has the words). An array of another
+ * length is 11, an ill-formed table 6 with which 1. */
+
+/* Writes the table; place: the bytes written. `out` needs the plan's stored length. */
+uint64_t yegnabit_write_table(size_t count, const uint32_t *rows, size_t rows_length, const uint16_t *marks, size_t marks_length,
+                              uint8_t *out, size_t out_length);
+
+/* Sweeps the table in place; place: the rows kept. */
+uint64_t yegnabit_sweep_table(size_t count, uint32_t *rows, size_t rows_length, uint16_t *marks, size_t marks_length);
+
+#ifdef __cplusplus
+}
+#endif
+
+#endif

@@ -1,0 +1,255 @@
+/* 'Worked on plan P' of document 01, through the C interface. Expected values are the document's. Exits 1 at the first difference. */
+
+#include "yegnabit.h"
+
+#include <stdio.h>
+#include <stdlib.h>
+#include <string.h>
+
+/* An array and its length. */
+#define ALL(array) (array), sizeof(array) / sizeof((array)[0])
+
+enum { GUARD = 0xA5, ROW_BYTES = 4, ROWS = 512 };
+
+static const uint8_t plan_p[] = {0x11, 0x01, 0xFF, 0xFF, 0x11, 0x02, 0x00, 0x00, 0x12, 0xFE, 0x01, 0x00,
+                                 0x11, 0x03, 0x00, 0x00, 0x13, 0x00, 0x00, 0x00};
+
+static const uint8_t script_a[] = {0x0D, 0x01, 0x00, 0x04, 0x00, 0x02, 0x00, 0x04, 0x00, 0x03, 0x02, 0x02, 0x00};
+static const uint8_t script_b[] = {0x0C, 0x09, 0x04, 0x04, 0x00, 0x03, 0x03, 0x02, 0x00};
+/* A with relation 2 */
+static const uint8_t twin[] = {0x0D, 0x02, 0x00, 0x04, 0x00, 0x02, 0x00, 0x04, 0x00, 0x03, 0x02, 0x02, 0x00};
+/* delete of children named 2 */
+static const uint8_t delete_twos[] = {0x0B, 0x04, 0x00, 0x03, 0x02, 0x02, 0x00};
+static const uint8_t leaves_below[] = {0x04, 0x01, 0x02, 0x00, 0x02, 0x00};
+/* let x be the children named 2, join (delete x, leaves under x) */
+static const uint8_t let_x[] = {0x06, 0x04, 0x00, 0x03, 0x02, 0x02, 0x00, 0x05, 0x0B, 0x03, 0x00, 0x04, 0x00, 0x02, 0x00, 0x03, 0x00};
+static const uint8_t delete_root[] = {0x0B, 0x02, 0x00};
+/* insert of row 1 twice into row 3 */
+static const uint8_t twice[] = {0x0C, 0x05, 0x04, 0x00, 0x03, 0x02, 0x02, 0x00, 0x04, 0x00,
+                                0x03, 0x02, 0x02, 0x00, 0x04, 0x00, 0x03, 0x03, 0x02, 0x00};
+static const uint8_t insert_nothing[] = {0x0C, 0x01, 0x02, 0x00};
+static const uint8_t new_element[] = {0x09, 0x04};
+/* the parent of document 0's root */
+static const uint8_t upward[] = {0x04, 0x02, 0x00, 0x00, 0x02, 0x00};
+static const uint8_t nothing[1];
+
+/* P after B: rows 4 (no parent) and 5 (parent 3), both elements named 4 */
+static const uint8_t after_b[] = {0x11, 0x01, 0xFF, 0xFF, 0x11, 0x02, 0x00, 0x00, 0x12, 0xFE, 0x01, 0x00, 0x11, 0x03,
+                                  0x00, 0x00, 0x11, 0x04, 0xFF, 0xFF, 0x11, 0x04, 0x03, 0x00, 0x13, 0x00, 0x00, 0x00};
+static const uint8_t history_b[] = {0x41, 0x04, 0x00, 0x04, 0xFF, 0xFF, 0x41, 0x05, 0x00, 0x04, 0x03, 0x00};
+/* P after the same rows copied twice: rows 4 to 7, parents 3, 4, 3, 6 */
+static const uint8_t after_twice[] = {0x11, 0x01, 0xFF, 0xFF, 0x11, 0x02, 0x00, 0x00, 0x12, 0xFE, 0x01, 0x00,
+                                      0x11, 0x03, 0x00, 0x00, 0x11, 0x02, 0x03, 0x00, 0x12, 0xFE, 0x04, 0x00,
+                                      0x11, 0x02, 0x03, 0x00, 0x12, 0xFE, 0x06, 0x00, 0x13, 0x00, 0x00, 0x00};
+/* P with row 1 cut from its parent, and the record of it */
+static const uint8_t after_cut[] = {0x11, 0x01, 0xFF, 0xFF, 0x11, 0x02, 0xFF, 0xFF, 0x12, 0xFE, 0x01, 0x00,
+                                    0x11, 0x03, 0x00, 0x00, 0x13, 0x00, 0x00, 0x00};
+static const uint8_t history_cut[] = {0x43, 0x01, 0x00, 0x00, 0x00};
+/* P after B, swept: row 4 goes, row 5 becomes row 4 */
+static const uint8_t swept_b[] = {0x11, 0x01, 0xFF, 0xFF, 0x11, 0x02, 0x00, 0x00, 0x12, 0xFE, 0x01, 0x00,
+                                  0x11, 0x03, 0x00, 0x00, 0x11, 0x04, 0x03, 0x00, 0x13, 0x00, 0x00, 0x00};
+
+static unsigned checks;
+
+static void check(int holds, const char *what) {
+    checks++;
+    if (!holds) {
+        fprintf(stderr, "worked: differs: %s\n", what);
+        exit(1);
+    }
+}
+
+static uint64_t code(unsigned number, unsigned which, uint64_t place) { return number + 256u * which + 65536u * place; }
+
+/* All bytes of an area from a place on are the same. */
+static int is_all(uint8_t byte, const void *area, size_t from, size_t size) {
+    const uint8_t *bytes = area;
+    for (; from < size; from++)
+        if (bytes[from] != byte) return 0;
+    return 1;
+}
+
+/* The plan stands at the start of `out`, and the rest is as it was. */
+static void check_out(const uint8_t *out, const uint8_t *plan, size_t length, const char *what) {
+    check(memcmp(out, plan, length) == 0, what);
+    check(is_all(GUARD, out, length, YEGNABIT_OUT), what);
+}
+
+static void plans(void) {
+    uint8_t out[YEGNABIT_OUT];
+    memset(out, GUARD, sizeof out);
+    check(yegnabit_plan(ALL(plan_p), out, sizeof out - 1) == code(YEGNABIT_LENT, 0, 0), "an area too short");
+    check(yegnabit_plan(plan_p, 19, ALL(out)) == code(YEGNABIT_SHORT, 1, 16), "plan P cut off in its mark");
+    check_out(out, out, 0, "an area that a refused call leaves");
+    check(yegnabit_plan(nothing, 0, ALL(out)) == 0, "the empty plan");
+    check(yegnabit_plan(ALL(plan_p), ALL(out)) == code(0, 0, sizeof plan_p), "plan P");
+    check_out(out, ALL(plan_p), "plan P written back");
+    memset(out, GUARD, sizeof out);
+    check(yegnabit_sweep(ALL(after_b), ALL(out)) == code(0, 0, sizeof swept_b), "P after B, swept");
+    check_out(out, ALL(swept_b), "P after B, swept");
+}
+
+/* Plan P as words: kind, 4 * (parent + 1), 4,096 * name or value. */
+static void tables(void) {
+    uint32_t rows[ROWS] = {1 + 4096 * 1, 1 + 4 * 1 + 4096 * 2, 2 + 4 * 2 + 4096 * 0xFE, 1 + 4 * 1 + 4096 * 3};
+    uint16_t marks[8] = {1};
+    uint8_t out[YEGNABIT_OUT];
+    memset(out, GUARD, sizeof out);
+    check(yegnabit_write_table(4, rows, ROWS - 1, ALL(marks), ALL(out)) == code(YEGNABIT_LENT, 0, 0), "too few words");
+    check(yegnabit_write_table(3, ALL(rows), ALL(marks), ALL(out)) == code(YEGNABIT_LINK, 1, 0), "a word past the count");
+    check_out(out, out, 0, "an area that a refused call leaves");
+    check(yegnabit_write_table(4, ALL(rows), ALL(marks), ALL(out)) == code(0, 0, sizeof plan_p), "plan P from words");
+    check_out(out, ALL(plan_p), "plan P from words");
+    marks[0] = 0;
+    check(yegnabit_sweep_table(4, ALL(rows), ALL(marks)) == 0, "plan P without its mark, swept");
+    check(is_all(0, rows, 0, sizeof rows), "no row left");
+}
+
+static void undone(void) {
+    uint8_t out[YEGNABIT_OUT];
+    memset(out, GUARD, sizeof out);
+    check(yegnabit_undo(ALL(plan_p), ALL(history_b), ALL(out)) == code(YEGNABIT_LINK, 2, 6), "B taken back from P itself");
+    check_out(out, out, 0, "an area that a refused call leaves");
+    check(yegnabit_undo(ALL(after_b), ALL(history_b), ALL(out)) == code(0, 0, sizeof plan_p), "B taken back");
+    check_out(out, ALL(plan_p), "P after B was taken back");
+}
+
+static void analysed(void) {
+    check(yegnabit_analyse(ALL(script_a), ALL(script_b)) == code(0, YEGNABIT_FREE, 0), "A against B");
+    check(yegnabit_analyse(ALL(delete_twos), ALL(script_a)) == code(0, YEGNABIT_MEET, 0), "delete of children named 2, against A");
+    check(yegnabit_analyse(ALL(delete_twos), ALL(leaves_below)) == code(0, YEGNABIT_MEET, 0), "that delete against descendant leaves");
+    check(yegnabit_analyse(ALL(script_b), ALL(script_b)) == code(0, YEGNABIT_FREE, 0), "B against B");
+    check(yegnabit_analyse(ALL(script_a), ALL(upward)) == code(0, YEGNABIT_UPWARD, 0), "a parent step");
+    check(yegnabit_analyse(nothing, 0, ALL(script_a)) == code(YEGNABIT_SHORT, 1, 0), "an empty first script");
+    check(yegnabit_analyse(ALL(script_a), nothing, 0) == code(YEGNABIT_SHORT, 2, 0), "an empty second script");
+}
+
+/* A join of so many empty values, at least one: twice as many records less one. */
+static size_t join(uint8_t *script, size_t values) {
+    size_t n = 1;
+    if (values == 1) {
+        script[0] = 0x01;
+        return 1;
+    }
+    script[0] = 0x05;
+    n += join(script + n, values / 2);
+    n += join(script + n, values - values / 2);
+    return n;
+}
+
+static void scripts(void) {
+    uint8_t deep[17], wide[65];
+    check(yegnabit_script(ALL(script_a)) == 0, "A read");
+    check(yegnabit_script(nothing, 0) == code(YEGNABIT_SHORT, 2, 0), "the empty script");
+
+    wide[0] = wide[1] = 0x0B;
+    check(join(wide + 2, 32) == 63, "63 records joined");
+    check(yegnabit_script(wide + 1, 64) == 0, "64 records");
+    check(yegnabit_script(wide, 65) == code(YEGNABIT_SIZE, 2, 64), "65 records");
+
+    memset(deep, 0x0B, sizeof deep);
+    deep[16] = 0x01;
+    check(yegnabit_script(deep + 1, 16) == 0, "depth 16");
+    check(yegnabit_script(deep, 17) == code(YEGNABIT_SIZE, 2, 16), "depth 17");
+}
+
+/* What a run is to leave. */
+struct run {
+    const char *name;
+    const uint8_t *script;
+    size_t script_length;
+    uint64_t code;
+    size_t items; /* the one item, if any, is row 2 */
+    const uint8_t *history;
+    uint64_t done[4]; /* rows made, links cut, records written, history bytes */
+    const uint8_t *plan;
+    size_t plan_length;
+};
+
+static uint16_t answer[YEGNABIT_ANSWER_AREA], work[YEGNABIT_WORK_AREA];
+static uint8_t history[YEGNABIT_HISTORY_AREA];
+
+static void check_run(const uint8_t *plan, size_t plan_length, struct run run) {
+    uint8_t out[YEGNABIT_OUT];
+    uint64_t done[YEGNABIT_DONE];
+    memset(out, GUARD, sizeof out);
+    memset(done, GUARD, sizeof done);
+    memset(answer, GUARD, sizeof answer);
+    memset(history, GUARD, sizeof history);
+    memset(work, GUARD, sizeof work);
+
+    check(yegnabit_run(plan, plan_length, run.script, run.script_length, ALL(answer), ALL(history), ALL(work), ALL(out), ALL(done)) ==
+              run.code,
+          run.name);
+    check(done[YEGNABIT_DONE_ITEMS] == run.items, run.name);
+    check(memcmp(&done[YEGNABIT_DONE_MADE], run.done, sizeof run.done) == 0, run.name);
+    check(done[YEGNABIT_DONE_OUT] == run.plan_length, run.name);
+    check_out(out, run.plan, run.plan_length, run.name);
+    check(run.items == 0 || answer[0] == 2, run.name);
+    check(is_all(0, answer, run.items * sizeof answer[0], sizeof answer), run.name);
+    check(memcmp(history, run.history, run.done[3]) == 0, run.name);
+    check(is_all(0, history, run.done[3], sizeof history), run.name);
+    check(is_all(0, work, 0, sizeof work), run.name);
+}
+
+static void runs(void) {
+    static const uint8_t history_twice[] = {0x41, 0x04, 0x00, 0x02, 0x03, 0x00, 0x42, 0x05, 0x00, 0xFE, 0x04, 0x00,
+                                            0x41, 0x06, 0x00, 0x02, 0x03, 0x00, 0x42, 0x07, 0x00, 0xFE, 0x06, 0x00};
+    static const struct run on_p[] = {
+        {"A", ALL(script_a), 0, 1, nothing, {0, 0, 0, 0}, ALL(plan_p)},
+        {"A's twin", ALL(twin), 0, 0, nothing, {0, 0, 0, 0}, ALL(plan_p)},
+        {"B", ALL(script_b), 0, 0, history_b, {2, 0, 2, 12}, ALL(after_b)},
+        {"let x", ALL(let_x), 0, 1, history_cut, {0, 1, 1, 5}, ALL(after_cut)},
+        {"delete of the root", ALL(delete_root), 0, 0, nothing, {0, 0, 0, 0}, ALL(plan_p)},
+        {"row 1 twice into row 3", ALL(twice), 0, 0, history_twice, {4, 0, 4, 24}, ALL(after_twice)},
+        {"the empty script", nothing, 0, YEGNABIT_SHORT + 2 * 256, 0, nothing, {0, 0, 0, 0}, nothing, 0},
+    };
+    static uint8_t full[ROWS * ROW_BYTES + ROW_BYTES];
+    static const struct run on_full[] = {
+        {"512 rows, nothing inserted", ALL(insert_nothing), 0, 0, nothing, {0, 0, 0, 0}, ALL(full)},
+        {"512 rows, a new one", ALL(new_element), YEGNABIT_TABLE + 2 * 256, 0, nothing, {0, 0, 0, 0}, nothing, 0},
+    };
+    uint8_t out[YEGNABIT_OUT];
+    uint64_t done[YEGNABIT_DONE];
+    size_t i;
+
+    for (i = 0; i < sizeof on_p / sizeof on_p[0]; i++) check_run(ALL(plan_p), on_p[i]);
+
+    /* 512 rows, all but the first under it, and document 0's mark */
+    for (i = 0; i < ROWS; i++) {
+        full[ROW_BYTES * i] = 0x11;
+        full[ROW_BYTES * i + 1] = 1;
+        full[ROW_BYTES * i + 2] = full[ROW_BYTES * i + 3] = i == 0 ? 0xFF : 0;
+    }
+    full[ROW_BYTES * ROWS] = 0x13;
+    for (i = 0; i < sizeof on_full / sizeof on_full[0]; i++) check_run(ALL(full), on_full[i]);
+
+    /* an area too short comes first, and nothing is touched */
+    memset(out, GUARD, sizeof out);
+    memset(done, GUARD, sizeof done);
+    memset(answer, GUARD, sizeof answer);
+    check(yegnabit_run(ALL(plan_p), ALL(script_a), answer, YEGNABIT_ANSWER_AREA - 1, ALL(history), ALL(work), ALL(out), ALL(done)) ==
+              code(YEGNABIT_LENT, 0, 0),
+          "an answer area too short");
+    check(is_all(GUARD, answer, 0, sizeof answer), "an answer area left alone");
+    check(is_all(GUARD, done, 0, sizeof done), "numbers left alone");
+    check_out(out, out, 0, "an area that a refused call leaves");
+
+    /* a refused plan zeroes the numbers alone */
+    check(yegnabit_run(plan_p, 19, ALL(script_a), ALL(answer), ALL(history), ALL(work), ALL(out), ALL(done)) == code(YEGNABIT_SHORT, 1, 16),
+          "plan P cut off in its mark");
+    check(is_all(GUARD, answer, 0, sizeof answer), "an answer area left alone");
+    check(is_all(0, done, 0, sizeof done), "numbers zeroed");
+    check_out(out, out, 0, "an area that a refused call leaves");
+}
+
+int main(void) {
+    plans();
+    tables();
+    scripts();
+    analysed();
+    undone();
+    runs();
+    printf("worked: %u checks hold\n", checks);
+    return 0;
+}
