@@ -10,6 +10,7 @@ use Rattle.model.specs.Base.{pick}
 use Rattle.model.specs.Script.{Expr, Parsed, parsed, readScript}
 use Rattle.model.specs.Paths.{hasUp}
 use Rattle.model.specs.Meeting.{free, upward, meet, answer}
+use Rattle.model.specs.Call.{firstBy, secondBy}
 use Rattle.table.specs.declared.Fault.{Fault}
 use Rattle.script.specs.Walk.{exprAt}
 use Rattle.script.specs.Reading.{scriptRead}
@@ -19,7 +20,7 @@ use Rattle.paths.specs.Cells.{positionsMeet}
 use Rattle.paths.specs.Words.{entryOf, entriesIn}
 use Rattle.paths.specs.Filling.{entriesBy, climbing, TablePre}
 use Rattle.paths.specs.Emitting.{EmitPre, EmitPost}
-use Rattle.paths.specs.Analysis.{byAnswer, analysisBy, analysed, ScriptPre, ScriptPost, AnswerPre, AnswerPost}
+use Rattle.paths.specs.Analysis.{byAnswer, analysisOf, analysed, ScriptPre, ScriptPost, AnswerPre, AnswerPost}
 use Rattle.paths.specs.declared.Analysis.{Analysis}
 use Rattle.paths.specs.declared.Analysis.the-variants.{Refused, Free, Upward, Meet}
 use Rattle.paths.specs.declared.emit.Emitted as code
@@ -130,14 +131,14 @@ module _ (b c : List ℕ) where
   pub first-refused : (x : Fault) → x ≡ scriptRead b → (x .number ≡ 0 → ⊥) → Refused 1 x ≡ analysed b c
   first-refused x e h =
       ap (Refused 1) e ∙
-      sym (ap (λ (p : Parsed). analysisBy p (readScript c)) (script-ill b (λ q. h (ap (λ (y : Fault). y .number) e ∙ q))))
+      sym (ap (λ (p : Parsed). analysisOf (firstBy p (readScript c))) (script-ill b (λ q. h (ap (λ (y : Fault). y .number) e ∙ q))))
 
   module _ (accepted : scriptRead b .number ≡ 0) where
     pub second-refused : (x : Fault) → x ≡ scriptRead c → (x .number ≡ 0 → ⊥) → Refused 2 x ≡ analysed b c
     second-refused x e h =
         ap (Refused 2) e ∙
-        sym (ap (λ (p : Parsed). analysisBy p (readScript c)) (script-parsed b accepted .1) ∙
-        ap (analysisBy (parsed (exprAt 16 b 0) (length b) (script-parsed b accepted .0) []))
+        sym (ap (λ (p : Parsed). analysisOf (firstBy p (readScript c))) (script-parsed b accepted .1) ∙
+        ap (λ (p : Parsed). analysisOf (secondBy (exprAt 16 b 0) p))
         (script-ill c (λ q. h (ap (λ (y : Fault). y .number) e ∙ q))))
 
     pub both-accepted : scriptRead c .number ≡ 0 → {ws : List ℕ} {n : ℕ} {us : List ℕ} {m : ℕ} {r : Analysis} → ScriptPost b ws n →
@@ -145,5 +146,5 @@ module _ (b c : List ℕ) where
         AnswerPost ws n us m r → r ≡ analysed b c
     both-accepted h one two post =
         post .is (exprAt 16 b 0) (exprAt 16 c 0) (one .entries) (two .entries) ∙
-        sym (ap (λ (p : Parsed). analysisBy p (readScript c)) (script-parsed b accepted .1) ∙
-        ap (analysisBy (parsed (exprAt 16 b 0) (length b) (script-parsed b accepted .0) [])) (script-parsed c h .1))
+        sym (ap (λ (p : Parsed). analysisOf (firstBy p (readScript c))) (script-parsed b accepted .1) ∙
+        ap (λ (p : Parsed). analysisOf (secondBy (exprAt 16 b 0) p)) (script-parsed c h .1))

@@ -15,3 +15,4 @@ pub mod WalkLaws
 pub mod SizeLaws
 pub mod ClimbLaws
 pub mod AnalysisLaws
+pub mod SaidLaws
