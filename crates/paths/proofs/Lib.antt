@@ -6,6 +6,7 @@ pub mod EmitLaws
 pub mod TraverseLaws
 pub mod AnswerLaws
 pub mod WordLaws
+pub mod BitLaws
 pub mod PairLaws
 pub mod FillLaws
 pub mod GrowLaws

@@ -1,29 +1,15 @@
 -- The table of pairs: a byte for each pair of positions holds their cell. Assumes nothing: these are definitions.
 use mathlib.Core.Path.{_≡_}
 use mathlib.Core.List.{List}
-use Prim.Native.Nat.{ℕ, _+_, _*_, _/_, _%_, _<_}
-use lib.Dec.{eqb}
+use Prim.Native.Nat.{ℕ, _+_, _*_, _<_}
 use lib.ListN.{length, getD}
-use Rattle.model.specs.Meeting as meeting
 use Rattle.paths.specs.Cells.{Cells}
-use Rattle.paths.specs.Codes.{cellOf}
+use Rattle.paths.specs.Codes.{cellBits, cellOf}
 use Rattle.paths.specs.declared.cells.Cell.{Cell}
 
 -- positions of a script, at most
 abbrev pub maxPositions : ℕ
 maxPositions = 128
-
--- a bit for each test of a cell
-abbrev pub cellBits : (byte : ℕ) → meeting.Cell
-cellBits b =
-    record {
-      onElement = eqb (b % 2) 1;
-      onLeaf = eqb (b / 2 % 2) 1;
-      downElement = eqb (b / 4 % 2) 1;
-      downLeaf = eqb (b / 8 % 2) 1;
-      upElement = eqb (b / 16 % 2) 1;
-      upLeaf = eqb (b / 32 % 2) 1;
-    }
 
 -- the cell of a pair in the table
 abbrev pub cellIn : (table : List ℕ) → Cells
