@@ -18,6 +18,7 @@ use Rattle.script.proofs.ScriptLaws.{script-accepted, script-parsed, script-ill
 use Rattle.paths.specs.Positions.{Entry, Emitted, emit, AreLower, entriesBefore, entriesOf}
 use Rattle.paths.specs.Cells.{positionsMeet}
 use Rattle.paths.specs.Words.{entryOf, entriesIn}
+use Rattle.paths.specs.Pairs.{HasRows}
 use Rattle.paths.specs.Filling.{entriesBy, climbing, TablePre}
 use Rattle.paths.specs.Emitting.{EmitPre, EmitPost}
 use Rattle.paths.specs.Analysis.{byAnswer, analysisOf, analysed, ScriptPre, ScriptPost, AnswerPre, AnswerPost}
@@ -85,7 +86,7 @@ module _ {ws : List ℕ} {n : ℕ} {us : List ℕ} {m : ℕ} {t : List ℕ} (pre
           lower =
               pre .secondLower;
         };
-        size = pre .table;
+        room = subst (HasRows t) (sym (length-take-le n ws (omega (arith, pre .first, pre .firstFew)))) (pre .table);
       }
 
   module _ {x : Bool} (climbs : x ≡ climbing (part ws n)) where

@@ -1,7 +1,7 @@
 -- What the analysis of two scripts answers, for every input. Assumes nothing: these are definitions.
 use mathlib.Core.Path.{_≡_}
 use mathlib.Core.List.{List, [], _∷_}
-use Prim.Native.Nat.{ℕ, _*_, _≤_}
+use Prim.Native.Nat.{ℕ, _≤_}
 use lib.ListN.{length, getD}
 use Rattle.model.specs.Script.{Expr}
 use Rattle.model.specs.Meeting.{Answer, free, upward, meet, answer}
@@ -11,7 +11,7 @@ use Rattle.script.specs.Walk.{exprAt}
 use Rattle.script.specs.Reading.{scriptRead}
 use Rattle.paths.specs.Positions.{entriesOf, AreLower}
 use Rattle.paths.specs.Words.{entriesIn}
-use Rattle.paths.specs.Pairs.{maxPositions}
+use Rattle.paths.specs.Pairs.{maxPositions, HasRows}
 use Rattle.paths.specs.declared.Analysis.{Analysis}
 use Rattle.paths.specs.declared.Analysis.the-variants.{Refused, Free, Upward, Meet}
 
@@ -71,7 +71,7 @@ pub record AnswerPre (ws : List ℕ) (n : ℕ) (us : List ℕ) (m : ℕ) (t : Li
   pub second : length us ≡ maxPositions
   pub secondFew : m ≤ maxPositions
   pub secondLower : AreLower (entriesIn us m)
-  pub table : length t ≡ maxPositions * maxPositions
+  pub table : HasRows t n
 
 pub record AnswerPost (ws : List ℕ) (n : ℕ) (us : List ℕ) (m : ℕ) (r : Analysis) : Type 0 where
   pub is : (e f : Expr) → entriesIn ws n ≡ entriesOf e → entriesIn us m ≡ entriesOf f → r ≡ byAnswer (answer e f)

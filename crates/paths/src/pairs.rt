@@ -1,30 +1,44 @@
-// The table of pairs of positions, a byte for each: nothing else knows how a cell is held.
+// The marks of pairs of positions: which of a cell's six tests hold. Nothing else knows how they are held: a byte for each pair, a row of
+// them for each position of the first script.
 ghost use mathlib.Core.Path.{_≡_};
 ghost use Rattle.paths.specs.Codes.{cellOf};
-ghost use Rattle.paths.specs.Pairs.{cellIn, PairPre, SetPost};
+ghost use Rattle.paths.specs.Pairs.{marks, HasRows, ClearPost, PairPre, MarkPost};
 use crate::cells::Cell;
 
 // Positions of a script, at most.
 pub const POSITIONS: usize = 128;
 
-// Bytes of the table.
+// Bytes of a table with room for all pairs.
 pub const PAIRS: usize = POSITIONS * POSITIONS;
 
-// The cell of a pair.
-pub fn get(table: &[u8], k: usize, l: usize) -> Cell
+// Unmarks all pairs of the first `rows` positions.
+pub fn clear(table: &mut [u8], rows: usize)
+    requires { ⌜ HasRows (now table) rows ⌝ }
+    ensures { λ r. ⌜ ClearPost (now (table .entry)) rows (now (table .exit)) ⌝ }
+{
+    let end = POSITIONS * rows;
+    let mut i = 0;
+    while i < end {
+        table[i] = 0;
+        i += 1;
+    }
+}
+
+// Marks a pair with a cell's tests, beside those marked before.
+pub fn mark(table: &mut [u8], k: usize, l: usize, c: Cell)
     requires { ⌜ PairPre (now table) k l ⌝ }
-    ensures { λ r. ⌜ cellOf r ≡ cellIn (now (table .entry)) k l ⌝ }
+    ensures { λ r. ⌜ MarkPost (now (table .entry)) k l c (now (table .exit)) ⌝ }
+{
+    let at = POSITIONS * k + l;
+    table[at] = table[at] | c.bits;
+}
+
+// What is marked of a pair.
+pub fn marked(table: &[u8], k: usize, l: usize) -> Cell
+    requires { ⌜ PairPre (now table) k l ⌝ }
+    ensures { λ r. ⌜ cellOf r ≡ marks (now (table .entry)) k l ⌝ }
 {
     Cell {
         bits: table[POSITIONS * k + l],
     }
-}
-
-// Writes the cell of a pair.
-pub fn set(table: &mut [u8], k: usize, l: usize, c: Cell)
-    requires { ⌜ PairPre (now table) k l ⌝ }
-    ensures { λ r. ⌜ SetPost (now (table .entry)) k l c (now (table .exit)) ⌝ }
-{
-    let at = POSITIONS * k + l;
-    table[at] = c.bits;
 }

@@ -130,11 +130,12 @@ pub fn push(words: &mut [usize], count: usize, p: Position)
 pub fn climbs(words: &[usize]) -> bool
     ensures { λ r. ⌜ r ≡ climbing (now (words .entry)) ⌝ }
 {
-    let mut found = false;
     let mut i = 0;
     while i < words.len() {
-        found = found | Position::unpacked(words[i]).is_climb();
+        if Position::unpacked(words[i]).is_climb() {
+            return true;
+        }
         i += 1;
     }
-    found
+    false
 }

@@ -3,6 +3,8 @@ use mathlib.Core.Path.{_≡_, refl, ap, sym, _∙_}
 use Rattle.table.specs.declared.Fault.{Fault}
 use Rattle.script.specs.Walk.{exprAt}
 use Rattle.paths.proofs.AnalysisLaws.{entries-lower, first-refused, second-refused, both-accepted}
+use native.Mathlib.Omega.{arith}
+use Rattle.paths.proofs.PairLaws.{has-rows}
 use borrow.Author.Needs.{needs}
 use Rattle.paths.proofs.analyse.Statement.{statement}
 use Rattle.paths.proofs.analyse.Tie as tie
@@ -77,7 +79,7 @@ answer-requires c κs =
       secondLower =
           entries-lower (c4 .positions-of2 .last .1 .0) (c4 .positions-of2 .result) (exprAt 16 (c17 .args .second .now) 0)
           (c4 .positions-of2 .ensures .entries);
-      table = refl;
+      table = has-rows _ _ (omega (arith, c7 .positions-of .ensures .few));
     }
 
 returns-3 : tie.Need-returns-3

@@ -1,6 +1,5 @@
 -- `Cell::join` is the model's joining of cells.
 use Rattle.paths.proofs.BitLaws.{join-bits}
-use borrow.Author.Needs.{needs}
 use Rattle.paths.proofs.cells.Cell.join.Statement.{statement}
 use Rattle.paths.proofs.cells.Cell.join.Tie as tie
 
