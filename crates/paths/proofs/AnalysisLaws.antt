@@ -55,8 +55,21 @@ module _ {b ws : List ℕ} (pre : ScriptPre b ws) {env : List ℕ} where
       before =
           ap (map entryOf) (take-suc ws 0 0 (omega (arith, pre .size))) ∙ ap (λ (w : ℕ). entryOf w ∷ []) (pre .zero)
 
-pub entries-lower : (ws : List ℕ) (n : ℕ) (e : Expr) → entriesIn ws n ≡ entriesOf e → AreLower (entriesIn ws n)
+entries-lower : (ws : List ℕ) (n : ℕ) (e : Expr) → entriesIn ws n ≡ entriesOf e → AreLower (entriesIn ws n)
 entries-lower ws n e h = subst AreLower (sym h) (emitted-right 1 (λ q. omega arith) e .lower)
+
+pub answer-asks : (b c : List ℕ) {ws : List ℕ} {n : ℕ} {us : List ℕ} {m : ℕ} → ScriptPost b ws n → ScriptPost c us m → (t : List ℕ) →
+    HasRows t n → AnswerPre ws n us m t
+answer-asks b c {ws} {n} {us} {m} one two t room =
+    record {
+      first = one .size;
+      firstFew = one .few;
+      firstLower = entries-lower ws n (exprAt 16 b 0) (one .entries);
+      second = two .size;
+      secondFew = two .few;
+      secondLower = entries-lower us m (exprAt 16 c 0) (two .entries);
+      table = room;
+    }
 
 upward-is : (e f : Expr) → (hasUp e || hasUp f) ≡ true → Upward ≡ byAnswer (answer e f)
 upward-is e f h = rw h

@@ -11,6 +11,11 @@ pub const POSITIONS: usize = 128;
 // Bytes of a table with room for all pairs.
 pub const PAIRS: usize = POSITIONS * POSITIONS;
 
+// Positions of a short script, and bytes of a table with room for its pairs with any other: less to set to zero.
+pub const FEW: usize = 16;
+
+pub const FEW_PAIRS: usize = POSITIONS * FEW;
+
 // Unmarks all pairs of the first `rows` positions.
 pub fn clear(table: &mut [u8], rows: usize)
     requires { ⌜ HasRows (now table) rows ⌝ }
