@@ -5,12 +5,15 @@ ghost use Rattle.model.specs.Base.{pick};
 ghost use Rattle.model.specs.Meeting.{onCell, downCell, upCell};
 ghost use Rattle.model.specs.Meeting.{admitsElement, admitsLeaf, isNamed, isDeep, shareElement};
 ghost use Rattle.model.specs.Meeting.{joinCell, onStep, downStep, upStep, startCell, isMet};
-ghost use Rattle.model.specs.Paths.{documentPlace};
+ghost use Rattle.model.specs.Paths.{documentPlace, isUp};
 ghost use Rattle.paths.specs.Cells.{noCell};
 ghost use Rattle.paths.specs.Codes.{stepOf, cellOf};
 
 // The descendant axis.
 const DESCENDANT: usize = 1;
+
+// The first of the two axes that lead up.
+pub const PARENT: usize = 2;
 
 // Tests; any other is for the named element.
 const ANY_NODE: usize = 0;
@@ -70,6 +73,13 @@ impl Step {
         ensures { λ r. ⌜ r ≡ isDeep (stepOf self) ⌝ }
     {
         self.axis == DESCENDANT
+    }
+
+    // A step that leads up.
+    pub fn is_up(self) -> bool
+        ensures { λ r. ⌜ r ≡ isUp (stepOf self) ⌝ }
+    {
+        PARENT <= self.axis
     }
 
     // Some element passes both tests.
