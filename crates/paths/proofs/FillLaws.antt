@@ -21,6 +21,7 @@ use Rattle.paths.specs.Pairs.{maxPositions, marks, ClearPost, PairPre, M
 use Rattle.paths.specs.Filling.{entriesBy, CellPre, MeetPre, MeetPost}
 use Rattle.paths.specs.declared.positions.Position.{Position}
 use Rattle.paths.specs.declared.cells.Cell as declared
+use Rattle.paths.proofs.CellLaws.{join-nothing, on-respects, down-respects, up-respects}
 use Rattle.paths.proofs.PairLaws.{fewer-rows}
 use Rattle.paths.proofs.PositionLaws.{one-source, no-source, cell-by}
 
@@ -98,22 +99,38 @@ module _ (t : Cells) (k l : ℕ) (q : Position) (r : Cell) where
       r ≡ sourcesCell k l t (fromStep s i ∷ []) (sourcesOf (positionBy q))
   step-root s i e g u h j m = to-root (fromStep s i) e (h ∙ ap (λ (x : Step). downStep x g) j ∙ ap (downStep s) m)
 
-  pub step-step : (s : Step) (i : ℕ) → q .kind ≡ 2 → (on down up both x y z : Cell) (u v : Step) → r ≡ joinCell on both →
-      both ≡ joinCell down up →
-      on ≡ onStep u v x → down ≡ downStep u y → up ≡ upStep v z → u ≡ s → v ≡ stepIn q →
-      x ≡ t i (q .first) → y ≡ t i l → z ≡ t k (q .first) → r ≡ sourcesCell k l t (fromStep s i ∷ []) (sourcesOf (positionBy q))
-  step-step s i e on down up both x y z u v a b c d f g h m n o =
-      to-step (fromStep s i) e
-      (a ∙ ap (joinCell on) b ∙ ap (λ (c : Cell). joinCell c (joinCell down up)) on-is ∙
-      ap (λ (c : Cell). joinCell (onStep s (stepIn q) (t i (q .first))) (joinCell c up))
-      (d ∙ ap (λ (s : Step). downStep s y) g ∙ ap (downStep s) n) ∙
-      ap (λ (c : Cell). joinCell (onStep s (stepIn q) (t i (q .first))) (joinCell (downStep s (t i l)) c))
-      (f ∙ ap (λ (s : Step). upStep s z) h ∙ ap (upStep (stepIn q)) o))
-    where
-      on-is : on ≡ onStep s (stepIn q) (t i (q .first))
-      on-is =
-          c ∙ ap (λ (s : Step). onStep s v x) g ∙ ap (λ (w : Step). onStep s w x) h ∙
-          ap (onStep s (stepIn q)) m
+  module _ (s : Step) (i : ℕ) (e : q .kind ≡ 2) (x y z : Cell) (m : x ≡ t i (q .first)) (n : y ≡ t i l) (o : z ≡ t k (q .first)) where
+    pub step-step : (on down up both : Cell) (u v : Step) → r ≡ joinCell on both → both ≡ joinCell down up → on ≡ onStep u v x →
+        down ≡ downStep u y → up ≡ upStep v z → u ≡ s → v ≡ stepIn q →
+        r ≡ sourcesCell k l t (fromStep s i ∷ []) (sourcesOf (positionBy q))
+    step-step on down up both u v a b c d f g h =
+        to-step (fromStep s i) e
+        (a ∙ ap (joinCell on) b ∙ ap (λ (c : Cell). joinCell c (joinCell down up)) on-is ∙
+        ap (λ (c : Cell). joinCell (onStep s (stepIn q) (t i (q .first))) (joinCell c up))
+        (d ∙ ap (λ (s : Step). downStep s y) g ∙ ap (downStep s) n) ∙
+        ap (λ (c : Cell). joinCell (onStep s (stepIn q) (t i (q .first))) (joinCell (downStep s (t i l)) c))
+        (f ∙ ap (λ (s : Step). upStep s z) h ∙ ap (upStep (stepIn q)) o))
+      where
+        on-is : on ≡ onStep s (stepIn q) (t i (q .first))
+        on-is =
+            c ∙ ap (λ (s : Step). onStep s v x) g ∙ ap (λ (w : Step). onStep s w x) h ∙
+            ap (onStep s (stepIn q)) m
+
+    -- from three cells with nothing in common
+    pub step-none : (both all : Cell) → both ≡ joinCell y z → all ≡ joinCell x both → all ≡ noCell → r ≡ noCell →
+        r ≡ sourcesCell k l t (fromStep s i ∷ []) (sourcesOf (positionBy q))
+    step-none both all a b c d =
+        let f = join-nothing x both (sym b ∙ c) in
+        let g = join-nothing y z (sym a ∙ f .1) in
+        to-step (fromStep s i) e
+        (d ∙ sym (ap (λ (c : Cell). joinCell (onStep s (stepIn q) c) (joinCell (downStep s (t i l)) (upStep (stepIn q) (t k (q .first)))))
+        (sym m ∙ f .0) ∙
+        ap (λ (c : Cell). joinCell (onStep s (stepIn q) noCell) (joinCell (downStep s c) (upStep (stepIn q) (t k (q .first)))))
+        (sym n ∙ g .0) ∙
+        ap (λ (c : Cell). joinCell (onStep s (stepIn q) noCell) (joinCell (downStep s noCell) (upStep (stepIn q) c))) (sym o ∙ g .1) ∙
+        ap (λ (c : Cell). joinCell c (joinCell (downStep s noCell) (upStep (stepIn q) noCell))) (on-respects s (stepIn q) .none) ∙
+        ap (λ (c : Cell). joinCell noCell (joinCell c (upStep (stepIn q) noCell))) (down-respects s .none) ∙
+        ap (λ (c : Cell). joinCell noCell (joinCell noCell c)) (up-respects (stepIn q) .none)))
 
 -- FROM A POSITION to a position
 module _ (t : Cells) (k l : ℕ) (p q : Position) (r : Cell) where
@@ -161,10 +178,9 @@ module _ (t : Cells) (k l : ℕ) (p q : Position) (r : Cell) where
 entry-at : (ws : List ℕ) (k : ℕ) → positions.entryAt (entriesBy ws) k ≡ entryOf (getD ws k 0)
 entry-at ws k = List·getD-map entryOf ws k 0
 
-module _ (ws us t : List ℕ) (k l : ℕ) (pre : MeetPre ws us t k l) (p q : Position) (one : p ≡ fieldsOf (getD ws k 0))
-    (two : q ≡ fieldsOf (getD us l 0)) where
+module _ (ws us t : List ℕ) (k l : ℕ) (p q : Position) (pre : MeetPre ws us t k l p) (two : q ≡ fieldsOf (getD us l 0)) where
   entry-one : entryBy p ≡ positions.entryAt (entriesBy ws) k
-  entry-one = ap entryBy one ∙ sym (entry-at ws k)
+  entry-one = ap entryBy (pre .position) ∙ sym (entry-at ws k)
 
   entry-two : entryBy q ≡ positions.entryAt (entriesBy us) l
   entry-two = ap entryBy two ∙ sym (entry-at us l)
@@ -174,7 +190,7 @@ module _ (ws us t : List ℕ) (k l : ℕ) (pre : MeetPre ws us t k l) (p q : Pos
       record {
         room = fewer-rows t (length ws) k (pre .room) (pre .row);
         column = omega (arith, pre .column, pre .second .few);
-        firstKind = omega (arith, ap (λ (x : Position). x .kind) one);
+        firstKind = omega (arith, ap (λ (x : Position). x .kind) (pre .position));
         secondKind = omega (arith, ap (λ (x : Position). x .kind) two);
         first = subst (λ (x : positions.Entry). positions.IsLower k (x .position)) (sym entry-one)
             (pre .first .lower k (omega (arith, pre .row, length-map ws entryOf)));

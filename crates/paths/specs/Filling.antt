@@ -3,10 +3,10 @@ use mathlib.Core.Path.{_≡_}
 use mathlib.Core.Bool.{Bool, false}
 use mathlib.Core.List.{List, map}
 use Prim.Native.Nat.{ℕ, _+_, _≤_, _<_}
-use lib.ListN.{length}
+use lib.ListN.{length, getD}
 use Rattle.paths.specs.Positions.{Entry, IsLower, AreLower, entryAt, isClimb}
 use Rattle.paths.specs.Cells.{Filled, anyUpTo, meetAt, rowMeets}
-use Rattle.paths.specs.Words.{positionBy, entryOf}
+use Rattle.paths.specs.Words.{positionBy, fieldsOf, entryOf}
 use Rattle.paths.specs.Pairs.{maxPositions, marks, HasRows}
 use Rattle.paths.specs.declared.positions.Position.{Position}
 
@@ -41,12 +41,13 @@ pub record FromStepPre (t : List ℕ) (k l : ℕ) (p q : Position) : Type 0 wher
   pub operand : p .first < k
 
 -- ONE PAIR: its cell is marked, and whether it meets is answered
-pub record MeetPre (ws us t : List ℕ) (k l : ℕ) : Type 0 where
+pub record MeetPre (ws us t : List ℕ) (k l : ℕ) (p : Position) : Type 0 where
   pub first : PositionsPre ws
   pub second : PositionsPre us
   pub room : HasRows t (length ws)
   pub row : k < length ws
   pub column : l < length us
+  pub position : p ≡ fieldsOf (getD ws k 0)
   pub filled : Filled (entriesBy ws) (entriesBy us) k l (marks t)
 
 pub record MeetPost (ws us : List ℕ) (k l : ℕ) (t′ : List ℕ) (r : Bool) : Type 0 where

@@ -1,5 +1,6 @@
 // What two positions can have in common, and how steps lead from one such cell to the next.
 ghost use mathlib.Core.Path.{_≡_};
+ghost use mathlib.Core.Bool.{true};
 ghost use Prim.Native.Nat.{_<_};
 ghost use Rattle.model.specs.Base.{pick};
 ghost use Rattle.model.specs.Meeting.{onCell, downCell, upCell};
@@ -98,6 +99,13 @@ impl Cell {
         ensures { λ r. ⌜ cellOf r ≡ noCell ⌝ }
     {
         Cell { bits: 0 }
+    }
+
+    // Nothing in common, as a test.
+    pub fn is_none(self) -> bool
+        ensures { λ r. ⌜ (r ≡ true → cellOf self ≡ noCell) ⌝ }
+    {
+        self.bits == 0
     }
 
     // A node on both, which is also down and up.

@@ -46,12 +46,16 @@ fn from_step(table: &[u8], k: usize, l: usize, p: Position, q: Position) -> Cell
         return pairs::marked(table, p.first, l).down_step(step_of(p));
     }
     if q.kind == positions::OVER {
+        let both = pairs::marked(table, p.first, q.first);
+        let first = pairs::marked(table, p.first, l);
+        let second = pairs::marked(table, k, q.first);
+        if both.join(first.join(second)).is_none() {
+            return Cell::none();
+        }
         let s = step_of(p);
         let t = step_of(q);
-        let on = pairs::marked(table, p.first, q.first).on_step(s, t);
-        let down = pairs::marked(table, p.first, l).down_step(s);
-        let up = pairs::marked(table, k, q.first).up_step(t);
-        return on.join(down.join(up));
+        return both.on_step(s, t)
+            .join(first.down_step(s).join(second.up_step(t)));
     }
     Cell::none()
 }
@@ -84,12 +88,18 @@ fn is_tested(p: Position, q: Position) -> bool
         | ((p.mark == positions::ACCESSED) & (q.mark == positions::MODIFIED))
 }
 
-// Fills in the pair k, l, and says whether it meets.
-fn pair(first: &[usize], second: &[usize], table: &mut [u8], k: usize, l: usize) -> bool
-    requires { ⌜ MeetPre (now first) (now second) (now table) k l ⌝ }
+// Fills in the pair k, l, p being position k, and says whether it meets.
+fn pair(
+    first: &[usize],
+    second: &[usize],
+    table: &mut [u8],
+    k: usize,
+    l: usize,
+    p: Position,
+) -> bool
+    requires { ⌜ MeetPre (now first) (now second) (now table) k l p ⌝ }
     ensures { λ r. ⌜ MeetPost (now (first .entry)) (now (second .entry)) k l (now (table .exit)) r ⌝ }
 {
-    let p = Position::unpacked(first[k]);
     let q = Position::unpacked(second[l]);
     let c = cell(table, k, l, p, q);
     pairs::mark(table, k, l, c);
@@ -101,9 +111,10 @@ fn row(first: &[usize], second: &[usize], table: &mut [u8], k: usize) -> bool
     requires { ⌜ RowPre (now first) (now second) (now table) k ⌝ }
     ensures { λ r. ⌜ RowPost (now (first .entry)) (now (second .entry)) k (now (table .exit)) r ⌝ }
 {
+    let p = Position::unpacked(first[k]);
     let mut l = 0;
     while l < second.len() {
-        if pair(first, second, table, k, l) {
+        if pair(first, second, table, k, l, p) {
             return true;
         }
         l += 1;

@@ -14,20 +14,11 @@ shared-slice-read-unpacked c = search needs
 unpacked-requires : tie.Need-unpacked-requires
 unpacked-requires c κs = search needs
 
-mul-unpacked-2 : tie.Need-mul-unpacked-2
-mul-unpacked-2 c = search needs
-
-shared-slice-read-unpacked-2 : tie.Need-shared-slice-read-unpacked-2
-shared-slice-read-unpacked-2 c = search needs
-
-unpacked-requires-2 : tie.Need-unpacked-requires-2
-unpacked-requires-2 c κs = search needs
-
 cell-requires : tie.Need-cell-requires
-cell-requires c κs = cell-asks (c .before .before .before .before .before .before .before .before .args .first .now) (c .before .before .before .before .before .before .before .before .args .second .now) (c .before .before .before .before .before .before .before .before .args .table .now) (c .before .before .before .before .before .before .before .before .args .k) (c .before .before .before .before .before .before .before .before .args .l) (c .before .before .before .before .before .before .before .before .pre) (c .before .before .before .unpacked .result) (c .before .unpacked2 .result) (c .before .before .before .unpacked .ensures) (c .before .unpacked2 .ensures)
+cell-requires c κs = cell-asks (c .before .before .before .before .before .before .args .first .now) (c .before .before .before .before .before .before .args .second .now) (c .before .before .before .before .before .before .args .table .now) (c .before .before .before .before .before .before .args .k) (c .before .before .before .before .before .before .args .l) (c .before .before .before .before .before .before .args .p) (c .before .unpacked .result) (c .before .before .before .before .before .before .pre) (c .before .unpacked .ensures)
 
 mark-requires : tie.Need-mark-requires
-mark-requires c κs = mark-asks (c .before .before .before .before .before .before .before .before .before .before .args .first .now) (c .before .before .before .before .before .before .before .before .before .before .args .second .now) (c .before .before .before .before .before .before .before .before .before .before .args .table .now) (c .before .before .before .before .before .before .before .before .before .before .args .k) (c .before .before .before .before .before .before .before .before .before .before .args .l) (c .before .before .before .before .before .before .before .before .before .before .pre) (c .before .before .before .before .before .unpacked .result) (c .before .before .before .unpacked2 .result) (c .before .before .before .before .before .unpacked .ensures) (c .before .before .before .unpacked2 .ensures)
+mark-requires c κs = mark-asks (c .before .before .before .before .before .before .before .before .args .first .now) (c .before .before .before .before .before .before .before .before .args .second .now) (c .before .before .before .before .before .before .before .before .args .table .now) (c .before .before .before .before .before .before .before .before .args .k) (c .before .before .before .before .before .before .before .before .args .l) (c .before .before .before .before .before .before .before .before .args .p) (c .before .before .before .unpacked .result) (c .before .before .before .before .before .before .before .before .pre) (c .before .before .before .unpacked .ensures)
 
 is-tested-requires : tie.Need-is-tested-requires
 is-tested-requires c κs = search needs
@@ -39,7 +30,7 @@ same-length : tie.Need-same-length
 same-length c = search needs
 
 returns : tie.Need-returns
-returns c = pair-filled (c .before .before .before .before .before .before .before .before .before .before .before .before .before .before .before .args .first .now) (c .before .before .before .before .before .before .before .before .before .before .before .before .before .before .before .args .second .now) (c .before .before .before .before .before .before .before .before .before .before .before .before .before .before .before .args .table .now) (c .before .before .before .before .before .before .before .before .before .before .before .before .before .before .before .args .k) (c .before .before .before .before .before .before .before .before .before .before .before .before .before .before .before .args .l) (c .before .before .before .before .before .before .before .before .before .before .before .before .before .before .before .pre) (c .before .before .before .before .before .before .before .before .before .before .unpacked .result) (c .before .before .before .before .before .before .before .before .unpacked2 .result) (c .before .before .before .before .before .before .before .before .before .before .unpacked .ensures) (c .before .before .before .before .before .before .before .before .unpacked2 .ensures) (c .before .before .before .before .before .before .cell .result) (c .before .before .before .before .before .before .cell .ensures) (c .before .before .before .before .mark .last .0) (c .before .before .before .before .mark .ensures) (c .before .is-tested .result) (c .is-met .result) _ (c .before .is-tested .ensures) (c .is-met .ensures) refl
+returns c = pair-filled (c .before .before .before .before .before .before .before .before .before .before .before .before .before .args .first .now) (c .before .before .before .before .before .before .before .before .before .before .before .before .before .args .second .now) (c .before .before .before .before .before .before .before .before .before .before .before .before .before .args .table .now) (c .before .before .before .before .before .before .before .before .before .before .before .before .before .args .k) (c .before .before .before .before .before .before .before .before .before .before .before .before .before .args .l) (c .before .before .before .before .before .before .before .before .before .before .before .before .before .args .p) (c .before .before .before .before .before .before .before .before .unpacked .result) (c .before .before .before .before .before .before .before .before .before .before .before .before .before .pre) (c .before .before .before .before .before .before .before .before .unpacked .ensures) (c .before .before .before .before .before .before .cell .result) (c .before .before .before .before .before .before .cell .ensures) (c .before .before .before .before .mark .last .0) (c .before .before .before .before .mark .ensures) (c .before .is-tested .result) (c .is-met .result) _ (c .before .is-tested .ensures) (c .is-met .ensures) refl
 
 pub pair-spec : {M : Type 1} → statement M
 pair-spec =
@@ -48,9 +39,6 @@ pair-spec =
     mul-unpacked
     shared-slice-read-unpacked
     unpacked-requires
-    mul-unpacked-2
-    shared-slice-read-unpacked-2
-    unpacked-requires-2
     cell-requires
     mark-requires
     is-tested-requires
