@@ -6,9 +6,8 @@ use lib.Dec.{ltb, eqb}
 use lib.ListN.{length}
 use Rattle.model.specs.Base.{pick}
 use Rattle.table.specs.Calls as library
-use Rattle.paths.specs.Analysis.{analysed}
+use Rattle.paths.specs.Analysis.{analysed, valuesOf}
 use Rattle.paths.specs.declared.Analysis.{Analysis}
-use Rattle.paths.specs.declared.Analysis.the-variants.{Refused, Free, Upward, Meet}
 use Rattle.run.specs.Undoing.{planUndone}
 use Rattle.script.specs.Reading.{scriptRead}
 use Rattle.table.specs.declared.Table.{Table}
@@ -109,10 +108,7 @@ scriptCode b = pick (eqb (scriptRead b .number) 0) (codeOf 0 0 0) (codeOf (scrip
 
 -- TWO SCRIPTS ANALYSED: the first refused, or 0 free, 1 upward, 2 meet as `which`
 abbrev pub analysisCode : Analysis → ℕ
-analysisCode (Refused s f) = codeOf (f .number) s (f .place)
-analysisCode Free = codeOf 0 0 0
-analysisCode Upward = codeOf 0 1 0
-analysisCode Meet = codeOf 0 2 0
+analysisCode a = codeOf (valuesOf a .number) (valuesOf a .which) (valuesOf a .place)
 
 abbrev pub analyseCode : (first second : List ℕ) → ℕ
 analyseCode b c = analysisCode (analysed b c)

@@ -17,7 +17,7 @@ use Rattle.model.specs.Run.{State, Out, stop, gives, runOn}
 use Rattle.model.specs.Meeting.{free, answer}
 use Rattle.model.specs.Promise.{IsScript, ends, tableOf, orderEnds, OrdersEqual, matchedAll, matchedHistory, PlansEqual}
 use Rattle.model.specs.Call.{answered, firstBy, analyse, Ran, filled, countKind, runBy}
-use Rattle.model.specs.Call.{ranBy, areasFit, runCall, callsEnd, CallsMatch, CallsEqual, CallsCommute}
+use Rattle.model.specs.Call.{ranBy, areasFit, runCall, callsEnd, CallsMatch, CallsEqual, EitherOrder, CallsCommute}
 use Rattle.model.proofs.BoolLaws.{pick-true, and-left}
 use Rattle.model.proofs.StopLaws.{stop-refuses}
 use Rattle.model.proofs.RunsBack.{runsBack}
@@ -171,12 +171,7 @@ pub callsCommute : CallsCommute
 callsCommute b c x a h w a′ h′ w′ bytes bytes′ an well fits fits′ = go (readScript b) (readScript c) refl refl an
   where
     Claim : Type 0
-    Claim =
-        (callsEnd (runCall x b a h w) (runCall (runCall x b a h w .plan) c a′ h′ w′) ≡
-        callsEnd (runCall x c a′ h′ w′) (runCall (runCall x c a′ h′ w′ .plan) b a h w)) ×
-        (callsEnd (runCall x b a h w) (runCall (runCall x b a h w .plan) c a′ h′ w′) ≡ true →
-        CallsEqual x (runCall x b a h w) (runCall (runCall x b a h w .plan) c a′ h′ w′) (runCall x c a′ h′ w′)
-        (runCall (runCall x c a′ h′ w′ .plan) b a h w))
+    Claim = EitherOrder b c x a h w a′ h′ w′
 
     scripts : (e f : Expr) (i n j m : ℕ) (r q : List ℕ) → readScript b ≡ parsed e i n r → readScript c ≡ parsed f j m q → answer e f ≡
         free → Claim

@@ -124,12 +124,16 @@ CallsEqual x r r′ s s′ =
     CallsMatch (count x) (count (r .plan) - count x) (count (s .plan) - count x) (r .plan) x r′ s ×
     PlansEqual (count x) (count (r .plan) - count x) (count (s .plan) - count x) (r′ .plan) (s′ .plan)
 
-abbrev pub CallsCommute : Type 0
-CallsCommute =
-    (b c : List ℕ) (x : Table) (a h w a′ h′ w′ : List ℕ) → areBytes b ≡ true → areBytes c ≡ true → analyse b c ≡ answered free →
-    isWell x ≡ true → areasFit a h w ≡ true → areasFit a′ h′ w′ ≡ true →
+-- both orders of two scripts' calls: one ends without refusal exactly when the other does, and then they are equal
+abbrev pub EitherOrder : (first second : List ℕ) → Table → (a h w a′ h′ w′ : List ℕ) → Type 0
+EitherOrder b c x a h w a′ h′ w′ =
     (callsEnd (runCall x b a h w) (runCall (runCall x b a h w .plan) c a′ h′ w′) ≡
     callsEnd (runCall x c a′ h′ w′) (runCall (runCall x c a′ h′ w′ .plan) b a h w)) ×
     (callsEnd (runCall x b a h w) (runCall (runCall x b a h w .plan) c a′ h′ w′) ≡ true →
     CallsEqual x (runCall x b a h w) (runCall (runCall x b a h w .plan) c a′ h′ w′) (runCall x c a′ h′ w′)
     (runCall (runCall x c a′ h′ w′ .plan) b a h w))
+
+abbrev pub CallsCommute : Type 0
+CallsCommute =
+    (b c : List ℕ) (x : Table) (a h w a′ h′ w′ : List ℕ) → areBytes b ≡ true → areBytes c ≡ true → analyse b c ≡ answered free →
+    isWell x ≡ true → areasFit a h w ≡ true → areasFit a′ h′ w′ ≡ true → EitherOrder b c x a h w a′ h′ w′

@@ -10,6 +10,7 @@ use Rattle.model.specs.Base.{pick}
 use Rattle.model.specs.Script.{Expr, Parsed, parsed, readScript}
 use Rattle.model.specs.Paths.{hasUp}
 use Rattle.model.specs.Meeting.{free, upward, meet, answer}
+use Rattle.model.specs.Call.{firstBy, secondBy}
 use Rattle.table.specs.declared.Fault.{Fault}
 use Rattle.script.specs.Walk.{exprAt}
 use Rattle.script.specs.Reading.{scriptRead}
@@ -17,9 +18,10 @@ use Rattle.script.proofs.ScriptLaws.{script-accepted, script-parsed, script-ill
 use Rattle.paths.specs.Positions.{Entry, Emitted, emit, AreLower, entriesBefore, entriesOf}
 use Rattle.paths.specs.Cells.{positionsMeet}
 use Rattle.paths.specs.Words.{entryOf, entriesIn}
+use Rattle.paths.specs.Pairs.{HasRows}
 use Rattle.paths.specs.Filling.{entriesBy, climbing, TablePre}
 use Rattle.paths.specs.Emitting.{EmitPre, EmitPost}
-use Rattle.paths.specs.Analysis.{byAnswer, analysisBy, analysed, ScriptPre, ScriptPost, AnswerPre, AnswerPost}
+use Rattle.paths.specs.Analysis.{byAnswer, analysisOf, analysed, ScriptPre, ScriptPost, AnswerPre, AnswerPost}
 use Rattle.paths.specs.declared.Analysis.{Analysis}
 use Rattle.paths.specs.declared.Analysis.the-variants.{Refused, Free, Upward, Meet}
 use Rattle.paths.specs.declared.emit.Emitted as code
@@ -53,8 +55,21 @@ module _ {b ws : List ℕ} (pre : ScriptPre b ws) {env : List ℕ} where
       before =
           ap (map entryOf) (take-suc ws 0 0 (omega (arith, pre .size))) ∙ ap (λ (w : ℕ). entryOf w ∷ []) (pre .zero)
 
-pub entries-lower : (ws : List ℕ) (n : ℕ) (e : Expr) → entriesIn ws n ≡ entriesOf e → AreLower (entriesIn ws n)
+entries-lower : (ws : List ℕ) (n : ℕ) (e : Expr) → entriesIn ws n ≡ entriesOf e → AreLower (entriesIn ws n)
 entries-lower ws n e h = subst AreLower (sym h) (emitted-right 1 (λ q. omega arith) e .lower)
+
+pub answer-asks : (b c : List ℕ) {ws : List ℕ} {n : ℕ} {us : List ℕ} {m : ℕ} → ScriptPost b ws n → ScriptPost c us m → (t : List ℕ) →
+    HasRows t n → AnswerPre ws n us m t
+answer-asks b c {ws} {n} {us} {m} one two t room =
+    record {
+      first = one .size;
+      firstFew = one .few;
+      firstLower = entries-lower ws n (exprAt 16 b 0) (one .entries);
+      second = two .size;
+      secondFew = two .few;
+      secondLower = entries-lower us m (exprAt 16 c 0) (two .entries);
+      table = room;
+    }
 
 upward-is : (e f : Expr) → (hasUp e || hasUp f) ≡ true → Upward ≡ byAnswer (answer e f)
 upward-is e f h = rw h
@@ -84,7 +99,7 @@ module _ {ws : List ℕ} {n : ℕ} {us : List ℕ} {m : ℕ} {t : List ℕ} (pre
           lower =
               pre .secondLower;
         };
-        size = pre .table;
+        room = subst (HasRows t) (sym (length-take-le n ws (omega (arith, pre .first, pre .firstFew)))) (pre .table);
       }
 
   module _ {x : Bool} (climbs : x ≡ climbing (part ws n)) where
@@ -130,14 +145,14 @@ module _ (b c : List ℕ) where
   pub first-refused : (x : Fault) → x ≡ scriptRead b → (x .number ≡ 0 → ⊥) → Refused 1 x ≡ analysed b c
   first-refused x e h =
       ap (Refused 1) e ∙
-      sym (ap (λ (p : Parsed). analysisBy p (readScript c)) (script-ill b (λ q. h (ap (λ (y : Fault). y .number) e ∙ q))))
+      sym (ap (λ (p : Parsed). analysisOf (firstBy p (readScript c))) (script-ill b (λ q. h (ap (λ (y : Fault). y .number) e ∙ q))))
 
   module _ (accepted : scriptRead b .number ≡ 0) where
     pub second-refused : (x : Fault) → x ≡ scriptRead c → (x .number ≡ 0 → ⊥) → Refused 2 x ≡ analysed b c
     second-refused x e h =
         ap (Refused 2) e ∙
-        sym (ap (λ (p : Parsed). analysisBy p (readScript c)) (script-parsed b accepted .1) ∙
-        ap (analysisBy (parsed (exprAt 16 b 0) (length b) (script-parsed b accepted .0) []))
+        sym (ap (λ (p : Parsed). analysisOf (firstBy p (readScript c))) (script-parsed b accepted .1) ∙
+        ap (λ (p : Parsed). analysisOf (secondBy (exprAt 16 b 0) p))
         (script-ill c (λ q. h (ap (λ (y : Fault). y .number) e ∙ q))))
 
     pub both-accepted : scriptRead c .number ≡ 0 → {ws : List ℕ} {n : ℕ} {us : List ℕ} {m : ℕ} {r : Analysis} → ScriptPost b ws n →
@@ -145,5 +160,5 @@ module _ (b c : List ℕ) where
         AnswerPost ws n us m r → r ≡ analysed b c
     both-accepted h one two post =
         post .is (exprAt 16 b 0) (exprAt 16 c 0) (one .entries) (two .entries) ∙
-        sym (ap (λ (p : Parsed). analysisBy p (readScript c)) (script-parsed b accepted .1) ∙
-        ap (analysisBy (parsed (exprAt 16 b 0) (length b) (script-parsed b accepted .0) [])) (script-parsed c h .1))
+        sym (ap (λ (p : Parsed). analysisOf (firstBy p (readScript c))) (script-parsed b accepted .1) ∙
+        ap (λ (p : Parsed). analysisOf (secondBy (exprAt 16 b 0) p)) (script-parsed c h .1))

@@ -10,6 +10,7 @@ use Rattle.model.specs.Script.{Step}
 use Rattle.model.specs.Paths.{Place, Path, start, _▸_, withStep, documentPlace}
 use Rattle.model.specs.Meeting.{Cell, onCell, joinCell, isDeep, isParent, admitsElement, admitsLeaf, shareElement, shareLeaf}
 use Rattle.model.specs.Meeting.{onStep, downStep, upStep, startCell, startCells, stepCells, cell, isMet, meets, anyMeet}
+use Rattle.model.proofs.BoolLaws.{or-neither}
 use Rattle.paths.specs.Cells.{noCell, sum, between}
 
 -- TESTS
@@ -65,6 +66,19 @@ pub join-none : (c : Cell) → joinCell c noCell ≡ c
 join-none c =
     cell-equal (joinCell c noCell) c (or-false (c .onElement)) (or-false (c .onLeaf)) (or-false (c .downElement)) (or-false (c .downLeaf))
     (or-false (c .upElement)) (or-false (c .upLeaf))
+
+-- what joins to nothing is nothing
+pub join-nothing : (c d : Cell) → joinCell c d ≡ noCell → (c ≡ noCell) × (d ≡ noCell)
+join-nothing c d e =
+    let a = or-neither (c .onElement) (d .onElement) (ap (λ (x : Cell). x .onElement) e) in
+    let b = or-neither (c .onLeaf) (d .onLeaf) (ap (λ (x : Cell). x .onLeaf) e) in
+    let f = or-neither (c .downElement) (d .downElement) (ap (λ (x : Cell). x .downElement) e) in
+    let g = or-neither (c .downLeaf) (d .downLeaf) (ap (λ (x : Cell). x .downLeaf) e) in
+    let h = or-neither (c .upElement) (d .upElement) (ap (λ (x : Cell). x .upElement) e) in
+    let i = or-neither (c .upLeaf) (d .upLeaf) (ap (λ (x : Cell). x .upLeaf) e) in (
+      cell-equal c noCell (a .0) (b .0) (f .0) (g .0) (h .0) (i .0),
+      cell-equal d noCell (a .1) (b .1) (f .1) (g .1) (h .1) (i .1),
+    )
 
 pub join-assoc : (c d e : Cell) → joinCell (joinCell c d) e ≡ joinCell c (joinCell d e)
 join-assoc c d e =

@@ -1,6 +1,6 @@
 -- A script holds a step that leads up when one of its positions is such a step.
 use mathlib.Core.Path.{_≡_, refl, ap, sym, _∙_}
-use mathlib.Core.Bool.{Bool, true, false, _&&_, _||_, true≢false}
+use mathlib.Core.Bool.{Bool, true, false, _&&_, _||_, not, true≢false}
 use mathlib.Core.List.{List, [], _∷_, _++_}
 use Prim.Native.Nat.{ℕ, zero, suc, _<_, _≤_}
 use native.Mathlib.Omega.{arith}
@@ -9,15 +9,18 @@ use lib.ListN.{length, getD, take, length-map, List·getD-map}
 use lib.Seq.{take-suc, take-all}
 use borrow.Author.Tests.{eqb-true}
 use Rattle.model.specs.Base.{pick, any}
-use Rattle.model.specs.Script.{stepBy, Expr, nil, document, var, step, both, letIn, forIn, ifIn, element, leaf, delete, insert, choose}
-use Rattle.model.specs.Paths.{isUp, hasUp}
-use Rattle.model.proofs.BoolLaws.{by-cases}
-use Rattle.paths.specs.Positions.{nowhere, root, over, union, Entry, plain, entryAt, isClimb, emit, entriesBefore, entriesOf}
+use Rattle.model.specs.Script.{Step, stepBy, Expr, nil, document, var, step, both, letIn, forIn, ifIn, element, leaf, delete, insert, choose}
+use Rattle.model.specs.Paths.{anyBelow, isUp, hasUp}
+use Rattle.model.proofs.BoolLaws.{by-cases, and-right}
+use Rattle.paths.specs.Positions as positions
+use Rattle.paths.specs.Positions.{nowhere, root, over, union, Entry, plain, accessing, modifying, entryAt, isClimb, Emitted}
+use Rattle.paths.specs.Positions.{pushStep, pushUnion, pushDelete, pushBelow, emit, entriesBefore, entriesOf}
 use Rattle.paths.specs.Cells.{anyUpTo}
 use Rattle.paths.specs.Words.{positionBy, fieldsOf, entryOf}
 use Rattle.paths.specs.Filling.{entriesBy, climbAt, climbing}
 use Rattle.paths.specs.declared.positions.Position.{Position}
 use Rattle.paths.proofs.CellLaws.{or-false, or-assoc}
+use Rattle.paths.proofs.EmitLaws.{picked}
 use Rattle.paths.proofs.TraverseLaws.{any-append}
 
 -- ONE POSITION, by its fields
@@ -68,6 +71,34 @@ any-push es x = any-append climbs es (x ∷ []) ∙ ap (λ (t : Bool). any climb
 any-plain : (es : List Entry) (x : Entry) → climbs x ≡ false → any climbs (es ++ (x ∷ [])) ≡ any climbs es
 any-plain es x e = any-push es x ∙ ap (λ (t : Bool). any climbs es || t) e ∙ or-false (any climbs es)
 
+-- RECORDS: a step's entry leads up where the step does, and no other record's does
+step-climbs : (s : Step) (x : Emitted) → any climbs (pushStep s x .entries) ≡ (any climbs (x .entries) || isUp s)
+step-climbs s x =
+    picked (eqb (x .result) 0 && not (isUp s)) (λ (y : Emitted). any climbs (y .entries) ≡ (any climbs (x .entries) || isUp s)) _ _
+    (λ e. sym (ap (λ (t : Bool). any climbs (x .entries) || t) (not-true (isUp s) (and-right (eqb (x .result) 0) (not (isUp s)) e)) ∙
+    or-false (any climbs (x .entries))))
+    (λ e. any-push (x .entries) _)
+  where
+    not-true : (t : Bool) → not t ≡ true → t ≡ false
+    not-true true e = sym e
+    not-true false e = refl
+
+union-climbs : (r : ℕ) (y : Emitted) → any climbs (pushUnion r y .entries) ≡ any climbs (y .entries)
+union-climbs r y =
+    picked (eqb r 0) (λ (z : Emitted). any climbs (z .entries) ≡ any climbs (y .entries)) _ _ (λ e. refl)
+    (λ e. picked (eqb (y .result) 0) (λ (z : Emitted). any climbs (z .entries) ≡ any climbs (y .entries)) _ _ (λ f. refl)
+    (λ f. any-plain (y .entries) _ refl))
+
+delete-climbs : (x : Emitted) → any climbs (pushDelete x .entries) ≡ any climbs (x .entries)
+delete-climbs x =
+    picked (eqb (x .result) 0) (λ (z : Emitted). any climbs (z .entries) ≡ any climbs (x .entries)) _ _ (λ e. refl)
+    (λ e. any-plain _ _ refl ∙ any-plain (x .entries) _ refl)
+
+below-climbs : (f : positions.Position → Entry) (n : ℕ) → climbs (f (over anyBelow n)) ≡ false → (es : List Entry) →
+    any climbs (pushBelow f n es) ≡ any climbs es
+below-climbs f n h es =
+    picked (eqb n 0) (λ (v : List Entry). any climbs v ≡ any climbs es) _ _ (λ e. refl) (λ e. any-plain es _ h)
+
 twice : (e f : Expr) (ns ms : List ℕ) (es : List Entry) → any climbs (emit e ns es .entries) ≡ (any climbs es || hasUp e) →
     any climbs (emit f ms (emit e ns es .entries) .entries) ≡ (any climbs (emit e ns es .entries) || hasUp f) →
     any climbs (emit f ms (emit e ns es .entries) .entries) ≡ (any climbs es || (hasUp e || hasUp f))
@@ -80,7 +111,7 @@ emit-climbs (nil z) ns es = sym (or-false (any climbs es))
 emit-climbs (document z d) ns es = any-push es _
 emit-climbs (var z v) ns es = sym (or-false (any climbs es))
 emit-climbs (step z s e) ns es =
-    any-push (emit e ns es .entries) _ ∙ ap (λ (t : Bool). t || isUp s) (emit-climbs e ns es) ∙ swap (any climbs es) (hasUp e) (isUp s)
+    step-climbs s (emit e ns es) ∙ ap (λ (t : Bool). t || isUp s) (emit-climbs e ns es) ∙ swap (any climbs es) (hasUp e) (isUp s)
   where
     swap : (a b c : Bool) → (a || b || c) ≡ (a || (c || b))
     swap true b c = refl
@@ -88,20 +119,22 @@ emit-climbs (step z s e) ns es =
     swap false true false = refl
     swap false false true = refl
     swap false false false = refl
-emit-climbs (both z e f) ns es = any-plain _ _ refl ∙ twice e f ns ns es (emit-climbs e ns es) (emit-climbs f ns (emit e ns es .entries))
+emit-climbs (both z e f) ns es = union-climbs (emit e ns es .result) (emit f ns (emit e ns es .entries)) ∙ twice e f ns ns es (emit-climbs e ns es) (emit-climbs f ns (emit e ns es .entries))
 emit-climbs (letIn z e f) ns es =
     twice e f ns _ es (emit-climbs e ns es) (emit-climbs f (ns ++ (emit e ns es .result ∷ [])) (emit e ns es .entries))
 emit-climbs (forIn z e f) ns es =
     twice e f ns _ es (emit-climbs e ns es) (emit-climbs f (ns ++ (emit e ns es .result ∷ [])) (emit e ns es .entries))
 emit-climbs (ifIn z e f g) ns es =
-    any-plain _ _ refl ∙ emit-climbs g ns (emit f ns (emit e ns es .entries) .entries) ∙
+    union-climbs (emit f ns (emit e ns es .entries) .result) (emit g ns (emit f ns (emit e ns es .entries) .entries)) ∙ emit-climbs g ns (emit f ns (emit e ns es .entries) .entries) ∙
     ap (λ (t : Bool). t || hasUp g) (twice e f ns ns es (emit-climbs e ns es) (emit-climbs f ns (emit e ns es .entries))) ∙
     or-assoc (any climbs es) (hasUp e || hasUp f) (hasUp g)
 emit-climbs (element z n) ns es = sym (or-false (any climbs es))
 emit-climbs (leaf z v) ns es = sym (or-false (any climbs es))
-emit-climbs (delete z e) ns es = any-plain _ _ refl ∙ any-plain _ _ refl ∙ emit-climbs e ns es
+emit-climbs (delete z e) ns es = delete-climbs (emit e ns es) ∙ emit-climbs e ns es
 emit-climbs (insert z e f) ns es =
-    any-plain _ _ refl ∙ any-plain _ _ refl ∙ twice e f ns ns es (emit-climbs e ns es) (emit-climbs f ns (emit e ns es .entries))
+    below-climbs modifying (emit f ns (emit e ns es .entries) .result) refl (pushBelow accessing (emit e ns es .result) _) ∙
+    below-climbs accessing (emit e ns es .result) refl (emit f ns (emit e ns es .entries) .entries) ∙
+    twice e f ns ns es (emit-climbs e ns es) (emit-climbs f ns (emit e ns es .entries))
 emit-climbs (choose z r c e) ns es = emit-climbs e ns es
 
 pub climbing-is : (ws : List ℕ) (e : Expr) → entriesBy ws ≡ entriesOf e → climbing ws ≡ hasUp e

@@ -1,202 +1,291 @@
 -- The table of pairs, filled cell by cell: one law for each way out of the code that makes a cell, and one for each loop.
-use mathlib.Core.Path.{_≡_, refl, ap, sym, _∙_}
-use mathlib.Core.Bool.{Bool, false, _&&_, _||_}
-use mathlib.Core.List.{List}
-use Prim.Native.Nat.{ℕ, _+_, _<_}
+use mathlib.Core.Path.{_≡_, refl, ap, sym, _∙_, subst}
+use mathlib.Core.Bool.{Bool, true, false, _&&_, _||_}
+use mathlib.Core.List.{List, [], _∷_}
+use Prim.Native.Nat.{ℕ, zero, suc, _+_, _≤_, _<_}
 use native.Mathlib.Omega.{arith}
 use native.Mathlib.Numerals.{add-one}
 use lib.Dec.{eqb}
 use lib.ListN.{length, getD, length-map, List·getD-map}
 use borrow.Author.Tests.{ne-eqb, eqb-true, eqb-false}
-use Rattle.model.specs.Script.{Step, stepBy}
-use Rattle.model.specs.Paths.{documentPlace}
-use Rattle.model.specs.Meeting.{Cell, joinCell, startCell, onStep, downStep, upStep, isMet}
+use Rattle.model.specs.Base.{pick}
+use Rattle.model.specs.Script.{Step}
+use Rattle.model.specs.Meeting.{Cell, joinCell, onStep, downStep, upStep, isMet}
 use Rattle.model.proofs.BoolLaws.{by-cases}
 use Rattle.paths.specs.Positions as positions
-use Rattle.paths.specs.Cells.{noCell, between, Cells, rootCell, overCell, cellBy, Filled, anyUpTo, isTested, rowMeets}
+use Rattle.paths.specs.Cells.{noCell, sum, between, Cells, Source, fromRoot, fromStep, sourcesOf, rootsCell, sourceCell}
+use Rattle.paths.specs.Cells.{sourcesCell, cellTo, cellBy, Filled, anyUpTo, isTested}
 use Rattle.paths.specs.Codes.{cellOf}
-use Rattle.paths.specs.Words.{positionBy, entryBy, fieldsOf, entryOf}
-use Rattle.paths.specs.Pairs.{cellIn, SetPost}
-use Rattle.paths.specs.Filling.{entriesBy, MeetPre, MeetPost, RowPost}
+use Rattle.paths.specs.Words.{stepIn, positionBy, entryBy, fieldsOf, entryOf}
+use Rattle.paths.specs.Pairs.{maxPositions, marks, ClearPost, PairPre, MarkPost}
+use Rattle.paths.specs.Filling.{entriesBy, CellPre, MeetPre, MeetPost}
 use Rattle.paths.specs.declared.positions.Position.{Position}
 use Rattle.paths.specs.declared.cells.Cell as declared
-use Rattle.paths.proofs.PositionLaws.{cell-by}
+use Rattle.paths.proofs.CellLaws.{join-nothing, on-respects, down-respects, up-respects}
+use Rattle.paths.proofs.PairLaws.{fewer-rows}
+use Rattle.paths.proofs.PositionLaws.{one-source, no-source, cell-by}
 
 -- THE KIND of a position
 module _ (p : Position) where
-  kind-nowhere : p .kind ≡ 0 → positionBy p ≡ positions.nowhere
-  kind-nowhere e = rw e
-
   kind-root : p .kind ≡ 1 → positionBy p ≡ positions.root (p .name)
   kind-root e = rw e
 
-  kind-over : p .kind ≡ 2 → positionBy p ≡ positions.over (stepBy (p .axis) (p .test) (p .name)) (p .first)
+  kind-over : p .kind ≡ 2 → positionBy p ≡ positions.over (stepIn p) (p .first)
   kind-over e = rw e
 
-  kind-union : (p .kind ≡ 0 → ⊥) → (p .kind ≡ 1 → ⊥) → (p .kind ≡ 2 → ⊥) → positionBy p ≡ positions.union (p .first) (p .second)
-  kind-union f g h = rw (ne-eqb (p .kind) 0 f, ne-eqb (p .kind) 1 g, ne-eqb (p .kind) 2 h)
+  kind-union : p .kind ≡ 3 → positionBy p ≡ positions.union (p .first) (p .second)
+  kind-union e = rw e
 
--- A CELL, from a document and from a step
+  kind-nowhere : p .kind < 4 → (p .kind ≡ 1 → ⊥) → (p .kind ≡ 2 → ⊥) → (p .kind ≡ 3 → ⊥) → positionBy p ≡ positions.nowhere
+  kind-nowhere l f g h = let e : p .kind ≡ 0 = omega (arith, f, g, h) in rw e
+
+  -- what holds of every position but a union
+  not-union : (P : positions.Position → Type 0) → p .kind < 4 → (p .kind ≡ 3 → ⊥) → P positions.nowhere →
+      ((d : ℕ) → P (positions.root d)) → ((s : Step) (i : ℕ) → P (positions.over s i)) → P (positionBy p)
+  not-union P l h a b c =
+      by-cases (eqb (p .kind) 1) (λ e. subst P (sym (kind-root (eqb-true (p .kind) 1 e))) (b (p .name)))
+      (λ e. by-cases (eqb (p .kind) 2) (λ f. subst P (sym (kind-over (eqb-true (p .kind) 2 f))) (c (stepIn p) (p .first)))
+      (λ f. subst P (sym (kind-nowhere l (eqb-false (p .kind) 1 e) (eqb-false (p .kind) 2 f) h)) a))
+
+  -- its operands are lower
+  pub over-lower : (k : ℕ) → positions.IsLower k (positionBy p) → p .kind ≡ 2 → p .first < k
+  over-lower k h e = subst (positions.IsLower k) (kind-over e) h
+
+  pub union-lower : (k : ℕ) → positions.IsLower k (positionBy p) → p .kind ≡ 3 → (p .first < k) × (p .second < k)
+  union-lower k h e = subst (positions.IsLower k) (kind-union e) h
+
+  no-sources : (p .kind ≡ 1 → ⊥) → (p .kind ≡ 2 → ⊥) → sourcesOf (positionBy p) ≡ []
+  no-sources f g = rw (ne-eqb (p .kind) 1 f, ne-eqb (p .kind) 2 g) (go (eqb (p .kind) 0))
+    where
+      go : (b : Bool) → sourcesOf (pick b positions.nowhere (positions.union (p .first) (p .second))) ≡ []
+      go true = refl
+      go false = refl
+
+-- PAIRS read for a cell: in its row, and in a lower one
+module _ (t : List ℕ) (k l : ℕ) (p q : Position) (pre : CellPre t k l p q) where
+  pub row-asks : (j : ℕ) → j < l → PairPre t k j
+  row-asks j h = record { room = pre .room; column = omega (arith, pre .column) }
+
+  pub lower-asks : (i j : ℕ) → i < k → j ≤ l → PairPre t i j
+  lower-asks i j h g =
+      record { room = fewer-rows t (k + 1) i (pre .room) (omega arith); column = omega (arith, pre .column) }
+
+-- FROM A SOURCE of k to those of q
 module _ (t : Cells) (k l : ℕ) (q : Position) (r : Cell) where
-  pub root-nowhere : (d : ℕ) → q .kind ≡ 0 → r ≡ noCell → r ≡ rootCell d k (positionBy q) t
-  root-nowhere d e h = h ∙ sym (ap (λ (x : positions.Position). rootCell d k x t) (kind-nowhere q e))
+  pub to-nothing : (x : Source) → (q .kind ≡ 1 → ⊥) → (q .kind ≡ 2 → ⊥) → r ≡ noCell →
+      r ≡ sourcesCell k l t (x ∷ []) (sourcesOf (positionBy q))
+  to-nothing x f g h = h ∙ sym (ap (sourcesCell k l t (x ∷ [])) (no-sources q f g) ∙ no-source k l t x)
 
-  pub root-root : (d : ℕ) → q .kind ≡ 1 → r ≡ startCell (documentPlace d) (documentPlace (q .name)) → r ≡ rootCell d k (positionBy q) t
-  root-root d e h = h ∙ sym (ap (λ (x : positions.Position). rootCell d k x t) (kind-root q e))
+  to-root : (x : Source) → q .kind ≡ 1 → r ≡ sourceCell k l t x (fromRoot (q .name)) →
+      r ≡ sourcesCell k l t (x ∷ []) (sourcesOf (positionBy q))
+  to-root x e h =
+      h ∙ sym (one-source k l t x (fromRoot (q .name))) ∙
+      sym (ap (λ (y : positions.Position). sourcesCell k l t (x ∷ []) (sourcesOf y)) (kind-root q e))
 
-  pub root-over : (d : ℕ) → q .kind ≡ 2 → (g : Cell) (s : Step) → r ≡ upStep s g → s ≡ stepBy (q .axis) (q .test) (q .name) →
-      g ≡ t k (q .first) → r ≡ rootCell d k (positionBy q) t
-  root-over d e g s h i j =
-      h ∙ ap (λ (x : Step). upStep x g) i ∙ ap (upStep (stepBy (q .axis) (q .test) (q .name))) j ∙
-      sym (ap (λ (x : positions.Position). rootCell d k x t) (kind-over q e))
+  to-step : (x : Source) → q .kind ≡ 2 → r ≡ sourceCell k l t x (fromStep (stepIn q) (q .first)) →
+      r ≡ sourcesCell k l t (x ∷ []) (sourcesOf (positionBy q))
+  to-step x e h =
+      h ∙ sym (one-source k l t x (fromStep (stepIn q) (q .first))) ∙
+      sym (ap (λ (y : positions.Position). sourcesCell k l t (x ∷ []) (sourcesOf y)) (kind-over q e))
 
+  pub root-root : (d : ℕ) → q .kind ≡ 1 → r ≡ rootsCell d (q .name) → r ≡ sourcesCell k l t (fromRoot d ∷ []) (sourcesOf (positionBy q))
+  root-root d e h = to-root (fromRoot d) e h
+
+  pub root-step : (d : ℕ) → q .kind ≡ 2 → (g : Cell) (s : Step) → r ≡ upStep s g → s ≡ stepIn q → g ≡ t k (q .first) →
+      r ≡ sourcesCell k l t (fromRoot d ∷ []) (sourcesOf (positionBy q))
+  root-step d e g s h i j = to-step (fromRoot d) e (h ∙ ap (λ (x : Step). upStep x g) i ∙ ap (upStep (stepIn q)) j)
+
+  pub step-root : (s : Step) (i : ℕ) → q .kind ≡ 1 → (g : Cell) (u : Step) → r ≡ downStep u g → u ≡ s → g ≡ t i l →
+      r ≡ sourcesCell k l t (fromStep s i ∷ []) (sourcesOf (positionBy q))
+  step-root s i e g u h j m = to-root (fromStep s i) e (h ∙ ap (λ (x : Step). downStep x g) j ∙ ap (downStep s) m)
+
+  module _ (s : Step) (i : ℕ) (e : q .kind ≡ 2) (x y z : Cell) (m : x ≡ t i (q .first)) (n : y ≡ t i l) (o : z ≡ t k (q .first)) where
+    pub step-step : (on down up both : Cell) (u v : Step) → r ≡ joinCell on both → both ≡ joinCell down up → on ≡ onStep u v x →
+        down ≡ downStep u y → up ≡ upStep v z → u ≡ s → v ≡ stepIn q →
+        r ≡ sourcesCell k l t (fromStep s i ∷ []) (sourcesOf (positionBy q))
+    step-step on down up both u v a b c d f g h =
+        to-step (fromStep s i) e
+        (a ∙ ap (joinCell on) b ∙ ap (λ (c : Cell). joinCell c (joinCell down up)) on-is ∙
+        ap (λ (c : Cell). joinCell (onStep s (stepIn q) (t i (q .first))) (joinCell c up))
+        (d ∙ ap (λ (s : Step). downStep s y) g ∙ ap (downStep s) n) ∙
+        ap (λ (c : Cell). joinCell (onStep s (stepIn q) (t i (q .first))) (joinCell (downStep s (t i l)) c))
+        (f ∙ ap (λ (s : Step). upStep s z) h ∙ ap (upStep (stepIn q)) o))
+      where
+        on-is : on ≡ onStep s (stepIn q) (t i (q .first))
+        on-is =
+            c ∙ ap (λ (s : Step). onStep s v x) g ∙ ap (λ (w : Step). onStep s w x) h ∙
+            ap (onStep s (stepIn q)) m
+
+    -- from three cells with nothing in common
+    pub step-none : (both all : Cell) → both ≡ joinCell y z → all ≡ joinCell x both → all ≡ noCell → r ≡ noCell →
+        r ≡ sourcesCell k l t (fromStep s i ∷ []) (sourcesOf (positionBy q))
+    step-none both all a b c d =
+        let f = join-nothing x both (sym b ∙ c) in
+        let g = join-nothing y z (sym a ∙ f .1) in
+        to-step (fromStep s i) e
+        (d ∙ sym (ap (λ (c : Cell). joinCell (onStep s (stepIn q) c) (joinCell (downStep s (t i l)) (upStep (stepIn q) (t k (q .first)))))
+        (sym m ∙ f .0) ∙
+        ap (λ (c : Cell). joinCell (onStep s (stepIn q) noCell) (joinCell (downStep s c) (upStep (stepIn q) (t k (q .first)))))
+        (sym n ∙ g .0) ∙
+        ap (λ (c : Cell). joinCell (onStep s (stepIn q) noCell) (joinCell (downStep s noCell) (upStep (stepIn q) c))) (sym o ∙ g .1) ∙
+        ap (λ (c : Cell). joinCell c (joinCell (downStep s noCell) (upStep (stepIn q) noCell))) (on-respects s (stepIn q) .none) ∙
+        ap (λ (c : Cell). joinCell noCell (joinCell c (upStep (stepIn q) noCell))) (down-respects s .none) ∙
+        ap (λ (c : Cell). joinCell noCell (joinCell noCell c)) (up-respects (stepIn q) .none)))
+
+-- FROM A POSITION to a position
+module _ (t : Cells) (k l : ℕ) (p q : Position) (r : Cell) where
   joined : (g h x y : Cell) → r ≡ joinCell g h → g ≡ x → h ≡ y → r ≡ joinCell x y
   joined g h x y e i j = e ∙ ap (λ (z : Cell). joinCell z h) i ∙ ap (joinCell x) j
 
-  pub root-union : (d : ℕ) → (q .kind ≡ 0 → ⊥) → (q .kind ≡ 1 → ⊥) → (q .kind ≡ 2 → ⊥) → (g h : Cell) → r ≡ joinCell g h →
-      g ≡ t k (q .first) → h ≡ t k (q .second) → r ≡ rootCell d k (positionBy q) t
-  root-union d a b c g h e i j =
-      joined g h (t k (q .first)) (t k (q .second)) e i j ∙ sym (ap (λ (x : positions.Position). rootCell d k x t) (kind-union q a b c))
+  pub first-union : p .kind ≡ 3 → (g h : Cell) → r ≡ joinCell g h → g ≡ t (p .first) l → h ≡ t (p .second) l →
+      r ≡ cellBy k l t (positionBy p) (positionBy q)
+  first-union a g h e i j =
+      joined g h (t (p .first) l) (t (p .second) l) e i j ∙
+      sym (ap (λ (x : positions.Position). cellBy k l t x (positionBy q)) (kind-union p a))
 
-  pub over-nowhere : (s : Step) (i : ℕ) → q .kind ≡ 0 → r ≡ noCell → r ≡ overCell s i k l (positionBy q) t
-  over-nowhere s i e h = h ∙ sym (ap (λ (x : positions.Position). overCell s i k l x t) (kind-nowhere q e))
+  module _ (low : p .kind < 4) (not : p .kind ≡ 3 → ⊥) where
+    pub second-union : q .kind ≡ 3 → (g h : Cell) → r ≡ joinCell g h → g ≡ t k (q .first) → h ≡ t k (q .second) →
+        r ≡ cellBy k l t (positionBy p) (positionBy q)
+    second-union a g h e i j =
+        joined g h (t k (q .first)) (t k (q .second)) e i j ∙
+        not-union p (λ (x : positions.Position). joinCell (t k (q .first)) (t k (q .second)) ≡
+        cellBy k l t x (positions.union (q .first) (q .second))) low not refl (λ d. refl) (λ s n. refl) ∙
+        sym (ap (cellBy k l t (positionBy p)) (kind-union q a))
 
-  pub over-root : (s : Step) (i : ℕ) → q .kind ≡ 1 → (g : Cell) (u : Step) → r ≡ downStep u g → u ≡ s → g ≡ t i l →
-      r ≡ overCell s i k l (positionBy q) t
-  over-root s i e g u h j m =
-      h ∙ ap (λ (x : Step). downStep x g) j ∙ ap (downStep s) m ∙
-      sym (ap (λ (x : positions.Position). overCell s i k l x t) (kind-root q e))
+    module _ (low₂ : q .kind < 4) (not₂ : q .kind ≡ 3 → ⊥) where
+      to-sources : (xs : List Source) → sourcesCell k l t xs (sourcesOf (positionBy q)) ≡ cellTo k l t xs (positionBy q)
+      to-sources xs =
+          not-union q (λ (y : positions.Position). sourcesCell k l t xs (sourcesOf y) ≡ cellTo k l t xs y) low₂ not₂ refl
+          (λ d. refl) (λ s n. refl)
 
-  pub over-union : (s : Step) (i : ℕ) → (q .kind ≡ 0 → ⊥) → (q .kind ≡ 1 → ⊥) → (q .kind ≡ 2 → ⊥) → (g h : Cell) → r ≡ joinCell g h →
-      g ≡ t k (q .first) → h ≡ t k (q .second) → r ≡ overCell s i k l (positionBy q) t
-  over-union s i a b c g h e m n =
-      joined g h (t k (q .first)) (t k (q .second)) e m n ∙ sym (ap (λ (x : positions.Position). overCell s i k l x t) (kind-union q a b c))
+      pub first-root : p .kind ≡ 1 → r ≡ sourcesCell k l t (fromRoot (p .name) ∷ []) (sourcesOf (positionBy q)) →
+          r ≡ cellBy k l t (positionBy p) (positionBy q)
+      first-root e h =
+          h ∙ to-sources (fromRoot (p .name) ∷ []) ∙ sym (ap (λ (x : positions.Position). cellBy k l t x (positionBy q)) (kind-root p e))
 
-  pub over-over : (s : Step) (i : ℕ) → q .kind ≡ 2 → (on down up both x y z : Cell) (u v : Step) → r ≡ joinCell on both →
-      both ≡ joinCell down up →
-      on ≡ onStep u v x → down ≡ downStep u y → up ≡ upStep v z → u ≡ s → v ≡ stepBy (q .axis) (q .test) (q .name) →
-      x ≡ t i (q .first) → y ≡ t i l → z ≡ t k (q .first) → r ≡ overCell s i k l (positionBy q) t
-  over-over s i e on down up both x y z u v a b c d f g h m n o =
-      let w : Step = stepBy (q .axis) (q .test) (q .name) in
-      a ∙ ap (joinCell on) b ∙ ap (λ (c : Cell). joinCell c (joinCell down up)) on-is ∙
-      ap (λ (c : Cell). joinCell (onStep s w (t i (q .first))) (joinCell c up))
-      (d ∙ ap (λ (s : Step). downStep s y) g ∙ ap (downStep s) n) ∙
-      ap (λ (c : Cell). joinCell (onStep s w (t i (q .first))) (joinCell (downStep s (t i l)) c))
-      (f ∙ ap (λ (s : Step). upStep s z) h ∙ ap (upStep w) o) ∙
-      sym (ap (λ (x : positions.Position). overCell s i k l x t) (kind-over q e))
-    where
-      on-is : on ≡ onStep s (stepBy (q .axis) (q .test) (q .name)) (t i (q .first))
-      on-is =
-          c ∙ ap (λ (s : Step). onStep s v x) g ∙ ap (λ (w : Step). onStep s w x) h ∙
-          ap (onStep s (stepBy (q .axis) (q .test) (q .name))) m
+      pub first-step : p .kind ≡ 2 → r ≡ sourcesCell k l t (fromStep (stepIn p) (p .first) ∷ []) (sourcesOf (positionBy q)) →
+          r ≡ cellBy k l t (positionBy p) (positionBy q)
+      first-step e h =
+          h ∙ to-sources (fromStep (stepIn p) (p .first) ∷ []) ∙
+          sym (ap (λ (x : positions.Position). cellBy k l t x (positionBy q)) (kind-over p e))
 
--- from any position
-module _ (t : Cells) (k l : ℕ) (p q : Position) (r : Cell) where
-  pub by-nowhere : p .kind ≡ 0 → r ≡ noCell → r ≡ cellBy k l (positionBy p) (positionBy q) t
-  by-nowhere e h = h ∙ sym (ap (λ (x : positions.Position). cellBy k l x (positionBy q) t) (kind-nowhere p e))
-
-  pub by-root : p .kind ≡ 1 → r ≡ rootCell (p .name) k (positionBy q) t → r ≡ cellBy k l (positionBy p) (positionBy q) t
-  by-root e h = h ∙ sym (ap (λ (x : positions.Position). cellBy k l x (positionBy q) t) (kind-root p e))
-
-  pub by-over : p .kind ≡ 2 → r ≡ overCell (stepBy (p .axis) (p .test) (p .name)) (p .first) k l (positionBy q) t →
-      r ≡ cellBy k l (positionBy p) (positionBy q) t
-  by-over e h = h ∙ sym (ap (λ (x : positions.Position). cellBy k l x (positionBy q) t) (kind-over p e))
-
-  pub by-union : (p .kind ≡ 0 → ⊥) → (p .kind ≡ 1 → ⊥) → (p .kind ≡ 2 → ⊥) → (g h : Cell) → r ≡ joinCell g h →
-      g ≡ t (p .first) l → h ≡ t (p .second) l → r ≡ cellBy k l (positionBy p) (positionBy q) t
-  by-union a b c g h e i j =
-      e ∙ ap (λ (z : Cell). joinCell z h) i ∙ ap (joinCell (t (p .first) l)) j ∙
-      sym (ap (λ (x : positions.Position). cellBy k l x (positionBy q) t) (kind-union p a b c))
-
--- UNPACKED fields are in range
-pub first-low : (p : Position) (w : ℕ) → p ≡ fieldsOf w → p .first < 128
-first-low p w e = omega (arith, ap (λ (x : Position). x .first) e)
-
-pub second-low : (p : Position) (w : ℕ) → p ≡ fieldsOf w → p .second < 128
-second-low p w e = omega (arith, ap (λ (x : Position). x .second) e)
+      pub first-nowhere : (p .kind ≡ 1 → ⊥) → (p .kind ≡ 2 → ⊥) → r ≡ noCell → r ≡ cellBy k l t (positionBy p) (positionBy q)
+      unfolding sum
+      first-nowhere f g h =
+          h ∙ to-sources [] ∙ sym (ap (λ (x : positions.Position). cellBy k l t x (positionBy q)) (kind-nowhere p low f g not))
 
 -- ONE PAIR
 entry-at : (ws : List ℕ) (k : ℕ) → positions.entryAt (entriesBy ws) k ≡ entryOf (getD ws k 0)
 entry-at ws k = List·getD-map entryOf ws k 0
 
-module _ (ws us t : List ℕ) (k l : ℕ) (pre : MeetPre ws us t k l) where
-  module _ (p q : Position) (one : p ≡ fieldsOf (getD ws k 0)) (two : q ≡ fieldsOf (getD us l 0)) where
-    entry-one : entryBy p ≡ positions.entryAt (entriesBy ws) k
-    entry-one = ap entryBy one ∙ sym (entry-at ws k)
+module _ (ws us t : List ℕ) (k l : ℕ) (p q : Position) (pre : MeetPre ws us t k l p) (two : q ≡ fieldsOf (getD us l 0)) where
+  entry-one : entryBy p ≡ positions.entryAt (entriesBy ws) k
+  entry-one = ap entryBy (pre .position) ∙ sym (entry-at ws k)
 
-    entry-two : entryBy q ≡ positions.entryAt (entriesBy us) l
-    entry-two = ap entryBy two ∙ sym (entry-at us l)
+  entry-two : entryBy q ≡ positions.entryAt (entriesBy us) l
+  entry-two = ap entryBy two ∙ sym (entry-at us l)
 
-    pub pair-cell : (c : Cell) → c ≡ cellBy k l (positionBy p) (positionBy q) (cellIn t) →
-        c ≡ between (positions.pathsOn (entriesBy ws) k) (positions.pathsOn (entriesBy us) l)
-    pair-cell c e =
-        e ∙ ap (λ (x : positions.Entry). cellBy k l (x .position) (positionBy q) (cellIn t)) entry-one ∙
-        ap (λ (x : positions.Entry). cellBy k l (positions.entryAt (entriesBy ws) k .position) (x .position) (cellIn t)) entry-two ∙
-        cell-by (entriesBy ws) (entriesBy us) k l (cellIn t) (pre .first .lower) (pre .second .lower)
+  pub cell-asks : CellPre t k l p q
+  cell-asks =
+      record {
+        room = fewer-rows t (length ws) k (pre .room) (pre .row);
+        column = omega (arith, pre .column, pre .second .few);
+        firstKind = omega (arith, ap (λ (x : Position). x .kind) (pre .position));
+        secondKind = omega (arith, ap (λ (x : Position). x .kind) two);
+        first = subst (λ (x : positions.Entry). positions.IsLower k (x .position)) (sym entry-one)
+            (pre .first .lower k (omega (arith, pre .row, length-map ws entryOf)));
+        second = subst (λ (x : positions.Entry). positions.IsLower l (x .position)) (sym entry-two)
+            (pre .second .lower l (omega (arith, pre .column, length-map us entryOf)));
+      }
+
+  pub mark-asks : PairPre t k l
+  mark-asks = record { room = cell-asks .room; column = cell-asks .column }
+
+  module _ (c : declared.Cell) (is : cellOf c ≡ cellBy k l (marks t) (positionBy p) (positionBy q)) where
+    pair-cell : cellOf c ≡ between (positions.pathsOn (entriesBy ws) k) (positions.pathsOn (entriesBy us) l)
+    pair-cell =
+        is ∙ ap (λ (x : positions.Entry). cellBy k l (marks t) (x .position) (positionBy q)) entry-one ∙
+        ap (λ (x : positions.Entry). cellBy k l (marks t) (positions.entryAt (entriesBy ws) k .position) (x .position)) entry-two ∙
+        cell-by (entriesBy ws) (entriesBy us) k l (marks t) (pre .first .lower) (pre .second .lower)
         (omega (arith, pre .row, length-map ws entryOf)) (omega (arith, pre .column, length-map us entryOf)) (pre .filled)
 
-    pub pair-filled : (c : declared.Cell) (t′ : List ℕ) → SetPost t k l c t′ →
-        cellOf c ≡ cellBy k l (positionBy p) (positionBy q) (cellIn t) →
-        (tested met r : Bool) → tested ≡ isTested (entryBy p) (entryBy q) → met ≡ isMet (cellOf c) → r ≡ (tested && met) →
-        MeetPost ws us k l t′ r
-    pair-filled c t′ post e tested met r f g h =
-        record {
-          size = post .size ∙ pre .size;
-          filled = record {
-            rows = rows;
-            row = λ j b. by-cases (eqb j l) (λ s. here j (eqb-true j l s)) (λ s. before j b (eqb-false j l s));
-          };
-          met =
-              h ∙ ap (λ (x : Bool). x && met) (f ∙ ap (λ (x : positions.Entry). isTested x (entryBy q)) entry-one ∙
-              ap (isTested (positions.entryAt (entriesBy ws) k)) entry-two) ∙
-              ap (λ (x : Bool). isTested (positions.entryAt (entriesBy ws) k) (positions.entryAt (entriesBy us) l) && x)
-              (g ∙ ap isMet (pair-cell (cellOf c) e));
-        }
-      where
-        rows : (i j : ℕ) → i < k → j < length (entriesBy us) →
-            cellIn t′ i j ≡ between (positions.pathsOn (entriesBy ws) i) (positions.pathsOn (entriesBy us) j)
-        rows i j a b =
-            post .others i j (omega (arith, pre .second .few, length-map us entryOf)) (λ m n. omega arith) ∙ pre .filled .rows i j a b
+    module _ (t′ : List ℕ) (post : MarkPost t k l c t′) where
+      stays : (i j : ℕ) → j < length (entriesBy us) → (i ≡ k → j ≡ l → ⊥) → marks t′ i j ≡ marks t i j
+      stays i j b n = post .others i j (omega (arith, pre .second .few, length-map us entryOf)) n
 
-        here : (j : ℕ) → j ≡ l → cellIn t′ k j ≡ between (positions.pathsOn (entriesBy ws) k) (positions.pathsOn (entriesBy us) j)
-        here j n =
-            ap (cellIn t′ k) n ∙ post .here ∙ pair-cell (cellOf c) e ∙
-            ap (λ (x : ℕ). between (positions.pathsOn (entriesBy ws) k) (positions.pathsOn (entriesBy us) x)) (sym n)
+      here : (j : ℕ) → j ≡ l → marks t′ k j ≡ between (positions.pathsOn (entriesBy ws) k) (positions.pathsOn (entriesBy us) j)
+      here j n =
+          ap (marks t′ k) n ∙ post .here ∙ ap (λ (x : Cell). joinCell x (cellOf c)) clear ∙ pair-cell ∙
+          ap (λ (x : ℕ). between (positions.pathsOn (entriesBy ws) k) (positions.pathsOn (entriesBy us) x)) (sym n)
+        where
+          clear : marks t k l ≡ noCell
+          clear =
+              pre .filled .rest k l (omega arith) (omega (arith, pre .row, length-map ws entryOf)) (λ e. omega arith)
+              (omega (arith, pre .column, length-map us entryOf))
 
-        before : (j : ℕ) → j < l + 1 →
-            (j ≡ l → ⊥) → cellIn t′ k j ≡ between (positions.pathsOn (entriesBy ws) k) (positions.pathsOn (entriesBy us) j)
-        before j b n =
-            post .others k j (omega (arith, pre .column, pre .second .few, n)) (λ a. n) ∙ pre .filled .row j (omega (arith, n))
+      pub pair-filled : (tested met r : Bool) → tested ≡ isTested (entryBy p) (entryBy q) → met ≡ isMet (cellOf c) →
+          r ≡ (tested && met) → MeetPost ws us k l t′ r
+      pair-filled tested met r f g h =
+          record {
+            room = post .room (length ws) (pre .room);
+            filled = record {
+              rows = λ i j a b. stays i j b (λ m n. omega arith) ∙ pre .filled .rows i j a b;
+              row = λ j b. by-cases (eqb j l) (λ s. here j (eqb-true j l s))
+                  (λ s. stays k j (omega (arith, pre .column, length-map us entryOf, eqb-false j l s)) (λ a. eqb-false j l s) ∙
+                  pre .filled .row j (omega (arith, eqb-false j l s)));
+              rest = λ i j a b m e. stays i j e (λ x y. omega (arith, m x)) ∙
+                  pre .filled .rest i j a b (λ x. omega (arith, m x)) e;
+            };
+            met =
+                h ∙ ap (λ (x : Bool). x && met) (f ∙ ap (λ (x : positions.Entry). isTested x (entryBy q)) entry-one ∙
+                ap (isTested (positions.entryAt (entriesBy ws) k)) entry-two) ∙
+                ap (λ (x : Bool). isTested (positions.entryAt (entriesBy ws) k) (positions.entryAt (entriesBy us) l) && x)
+                (g ∙ ap isMet pair-cell);
+          }
 
 -- LOOPS: one pair, and one row, more
-pub any-next : (f : ℕ → Bool) (n : ℕ) (a b r : Bool) → a ≡ anyUpTo f n → b ≡ f n → r ≡ (a || b) → r ≡ anyUpTo f (n + 1)
+pub any-next : (f : ℕ → Bool) (n : ℕ) (b : Bool) → anyUpTo f n ≡ false → b ≡ f n → b ≡ false → anyUpTo f (n + 1) ≡ false
 unfolding anyUpTo
-any-next f n a b r e g h =
-    h ∙ ap (λ (x : Bool). x || b) e ∙ ap (λ (x : Bool). anyUpTo f n || x) g ∙ sym (ap (anyUpTo f) (add-one n))
+any-next f n b e g h =
+    ap (anyUpTo f) (add-one n) ∙ ap (λ (x : Bool). x || f n) e ∙ sym g ∙ h
 
-pub any-none : (f : ℕ → Bool) → false ≡ anyUpTo f 0
+pub any-none : (f : ℕ → Bool) → anyUpTo f 0 ≡ false
 unfolding anyUpTo
 any-none f = refl
 
-pub row-done : (ws us t′ : List ℕ) (k l : ℕ) (r : Bool) → length t′ ≡ 16384 → length us ≡ l →
-    Filled (entriesBy ws) (entriesBy us) k l (cellIn t′) →
-    r ≡ rowMeets (entriesBy ws) (entriesBy us) k l → RowPost ws us k t′ r
-row-done ws us t′ k l r size e f h =
+-- one that holds is enough
+pub any-found : (f : ℕ → Bool) (k n : ℕ) → k < n → f k ≡ true → true ≡ anyUpTo f n
+unfolding anyUpTo
+any-found f k zero h e = absurd (omega arith)
+any-found f k (suc n) h e =
+    by-cases (eqb k n) (λ s. sym (ap (λ (x : Bool). anyUpTo f n || x) (ap f (sym (eqb-true k n s)) ∙ e) ∙ or-true (anyUpTo f n)))
+    (λ s. ap (λ (x : Bool). x || f n) (any-found f k n (omega (arith, eqb-false k n s)) e))
+  where
+    or-true : (x : Bool) → (x || true) ≡ true
+    or-true true = refl
+    or-true false = refl
+
+pub row-filled : (ws us t : List ℕ) (k l : ℕ) → length us ≡ l → Filled (entriesBy ws) (entriesBy us) k l (marks t) →
+    Filled (entriesBy ws) (entriesBy us) (k + 1) 0 (marks t)
+row-filled ws us t k l e f =
     record {
-      size = size;
-      filled = record {
-        rows = λ i j a b. by-cases (eqb i k)
-            (λ s. last i j (eqb-true i k s) b) (λ s. f .rows i j (omega (arith, eqb-false i k s)) b);
-        row = λ j a. absurd (omega arith);
-      };
-      met = h ∙ ap (rowMeets (entriesBy ws) (entriesBy us) k) (sym (length-map us entryOf ∙ e));
+      rows = λ i j a b. by-cases (eqb i k)
+          (λ s. last i j (eqb-true i k s) b) (λ s. f .rows i j (omega (arith, eqb-false i k s)) b);
+      row = λ j a. absurd (omega arith);
+      rest = λ i j a b m c. f .rest i j (omega arith) b (λ x. absurd (omega arith)) c;
     }
   where
     last : (i j : ℕ) → i ≡ k → j < length (entriesBy us) →
-        cellIn t′ i j ≡ between (positions.pathsOn (entriesBy ws) i) (positions.pathsOn (entriesBy us) j)
+        marks t i j ≡ between (positions.pathsOn (entriesBy ws) i) (positions.pathsOn (entriesBy us) j)
     last i j n b =
-        ap (λ (x : ℕ). cellIn t′ x j) n ∙ f .row j (omega (arith, length-map us entryOf)) ∙
+        ap (λ (x : ℕ). marks t x j) n ∙ f .row j (omega (arith, length-map us entryOf)) ∙
         ap (λ (x : ℕ). between (positions.pathsOn (entriesBy ws) x) (positions.pathsOn (entriesBy us) j)) (sym n)
 
-pub none-filled : (ws us t : List ℕ) → Filled (entriesBy ws) (entriesBy us) 0 0 (cellIn t)
-none-filled ws us t = record { rows = λ i j a b. absurd (omega arith); row = λ j a. absurd (omega arith) }
+pub none-filled : (ws us t t′ : List ℕ) → ClearPost t (length ws) t′ → length us ≤ maxPositions →
+    Filled (entriesBy ws) (entriesBy us) 0 0 (marks t′)
+none-filled ws us t t′ post few =
+    record {
+      rows = λ i j a b. absurd (omega arith);
+      row = λ j a. absurd (omega arith);
+      rest = λ i j a b m c. post .clear i j (omega (arith, length-map ws entryOf)) (omega (arith, length-map us entryOf));
+    }

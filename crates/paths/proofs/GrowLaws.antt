@@ -1,17 +1,20 @@
 -- One record more: the words pushed are the entries that the rules emit. One law for each way out.
 use mathlib.Core.Path.{_≡_, refl, ap, sym, _∙_, subst}
+use mathlib.Core.Bool.{Bool, true, false, _&&_, not}
 use mathlib.Core.List.{List, [], _∷_, _++_}
 use Prim.Native.Nat.{ℕ, _+_, _≤_, _<_}
 use native.Mathlib.Omega.{arith}
 use lib.Dec.{eqb}
 use lib.ListN.{length}
+use borrow.Author.Tests.{eq-eqb, ne-eqb}
+use Rattle.model.specs.Base.{pick}
 use Rattle.model.specs.Script as model
-use Rattle.model.specs.Paths.{anyBelow}
+use Rattle.model.specs.Paths.{anyBelow, isUp}
 use Rattle.paths.specs.Positions.{Entry, plain, accessing, modifying, over, union}
 use Rattle.paths.specs.Positions as positions
 use Rattle.paths.specs.Codes.{stepOf}
 use Rattle.paths.specs.Words.{entryBy, overBy, unionBy, PositionFits, entriesIn, PushPost}
-use Rattle.paths.specs.Emitting.{outOf, GrowPre, Grown}
+use Rattle.paths.specs.Emitting.{outOf, GrowPre, Grown, markedBy, BelowPre, BelowPost}
 use Rattle.paths.specs.declared.positions.Position.{Position}
 use Rattle.paths.specs.declared.cells.Step.{Step}
 use Rattle.paths.specs.declared.emit.Emitted.{Emitted}
@@ -67,44 +70,94 @@ module _ (ws ws′ : List ℕ) (y : Emitted) (pre : GrowPre ws y) where
   one-more goal size is =
       record { size = size ∙ pre .size; is = is; place = refl; low = omega arith; more = omega arith; few = omega arith }
 
-  two-more : (goal : List Entry) → length ws′ ≡ length ws → entriesIn ws′ (y .count + 2) ≡ goal →
-      Grown (positions.emitted 0 goal) y ws′ (record { result = 0; count = y .count + 2; place = y .place })
-  two-more goal size is =
+  pub step-grown : (p : Position) (s : Step) (up : Bool) → up ≡ isUp (stepOf s) → (eqb (y .result) 0 && not up) ≡ false →
+      p ≡ overBy 1 s (y .result) → PushPost ws (y .count) p ws′ →
+      Grown (positions.pushStep (stepOf s) (outOf ws y)) y ws′ (record { result = y .count; count = y .count + 1; place = y .place })
+  step-grown p s up u h e post =
+      one-more (positions.pushStep (stepOf s) (outOf ws y)) (post .size)
+      (pushed-is ws ws′ (y .count) p (accessing (over (stepOf s) (y .result))) within post (ap entryBy e) ∙
+      sym (ap (λ (t : Bool). pick t (outOf ws y) (positions.push (entriesIn ws (y .count)) (accessing (over (stepOf s) (y .result))))) (ap (λ (v : Bool). eqb (y .result) 0 && not v) (sym u) ∙ h)))
+
+  pub union-grown : (p : Position) (first : ℕ) → (first ≡ 0 → ⊥) → (y .result ≡ 0 → ⊥) → p ≡ unionBy 0 first (y .result) →
+      PushPost ws (y .count) p ws′ →
+      Grown (positions.pushUnion first (outOf ws y)) y ws′ (record { result = y .count; count = y .count + 1; place = y .place })
+  union-grown p first f g e post =
+      one-more (positions.pushUnion first (outOf ws y)) (post .size)
+      (pushed-is ws ws′ (y .count) p (plain (union first (y .result))) within post (ap entryBy e) ∙
+      rw (ne-eqb first 0 f, ne-eqb (y .result) 0 g))
+
+  module _ (ws₁ : List ℕ) (p q : Position) (one : PushPost ws (y .count) p ws₁) (two : PushPost ws₁ (y .count + 1) q ws′) where
+    pub delete-grown : (y .result ≡ 0 → ⊥) → (s : Step) → stepOf s ≡ anyBelow → p ≡ overBy 0 s (y .result) →
+        q ≡ unionBy 2 (y .result) (y .count) →
+        Grown (positions.pushDelete (outOf ws y)) y ws′ (record { result = 0; count = y .count + 2; place = y .place })
+    delete-grown n s b e f =
+        record {
+          size = two .size ∙ one .size ∙ pre .size;
+          is = ap (positions.emitted 0) (two-pushed ws ws₁ ws′ (y .count) p q (plain (over anyBelow (y .result)))
+              (modifying (union (y .result) (length (entriesIn ws (y .count))))) one two
+              (over-entry p 0 s (y .result) anyBelow e b)
+              (ap entryBy f ∙ ap (λ (k : ℕ). modifying (union (y .result) k)) (sym (entriesIn-length ws (y .count) within)))) ∙
+              rw (ne-eqb (y .result) 0 n);
+          place = refl;
+          low = omega arith;
+          more = omega arith;
+          few = omega arith;
+        }
+
+-- NOTHING more
+module _ (ws : List ℕ) (y : Emitted) (pre : GrowPre ws y) where
+  same : (goal : positions.Emitted) → outOf ws y ≡ goal → Grown goal y ws y
+  same goal is = record { size = pre .size; is = is; place = refl; low = pre .low; more = omega arith; few = omega arith }
+
+  pub step-none : (s : Step) (up : Bool) → up ≡ isUp (stepOf s) → (eqb (y .result) 0 && not up) ≡ true →
+      Grown (positions.pushStep (stepOf s) (outOf ws y)) y ws y
+  step-none s up u h =
+      same _ (sym (ap (λ (t : Bool). pick t (outOf ws y) (positions.push (entriesIn ws (y .count)) (accessing (over (stepOf s) (y .result))))) (ap (λ (v : Bool). eqb (y .result) 0 && not v) (sym u) ∙ h)))
+
+  pub delete-none : y .result ≡ 0 → Grown (positions.pushDelete (outOf ws y)) y ws y
+  delete-none e = same _ (rw (eq-eqb (y .result) 0 e))
+
+  pub union-first : (first : ℕ) → first ≡ 0 → Grown (positions.pushUnion first (outOf ws y)) y ws y
+  union-first first e = same _ (rw (eq-eqb first 0 e))
+
+  pub union-second : (first : ℕ) → first < y .count → (first ≡ 0 → ⊥) → y .result ≡ 0 →
+      Grown (positions.pushUnion first (outOf ws y)) y ws (record { result = first; count = y .count; place = y .place })
+  union-second first low f e =
       record {
-        size = size ∙ pre .size;
-        is = ap (positions.emitted 0) is;
+        size = pre .size;
+        is = rw (ne-eqb first 0 f, eq-eqb (y .result) 0 e);
         place = refl;
-        low = omega arith;
+        low = low;
         more = omega arith;
         few = omega arith;
       }
 
-  pub step-grown : (p : Position) (s : Step) → p ≡ overBy 1 s (y .result) → PushPost ws (y .count) p ws′ →
-      Grown (positions.pushStep (stepOf s) (outOf ws y)) y ws′ (record { result = y .count; count = y .count + 1; place = y .place })
-  step-grown p s e post =
-      one-more (positions.pushStep (stepOf s) (outOf ws y)) (post .size)
-      (pushed-is ws ws′ (y .count) p (accessing (over (stepOf s) (y .result))) within post (ap entryBy e))
+-- ALL BELOW a position, and twice that for an insert
+module _ (ws : List ℕ) (n mark operand : ℕ) (pre : BelowPre ws n mark operand) where
+  pub below-none : operand ≡ 0 → BelowPost ws n mark operand ws n
+  below-none e =
+      record { size = pre .size; is = rw (eq-eqb operand 0 e); more = omega arith; few = omega arith }
 
-  pub union-grown : (p : Position) (first : ℕ) → p ≡ unionBy 0 first (y .result) → PushPost ws (y .count) p ws′ →
-      Grown (positions.pushUnion first (outOf ws y)) y ws′ (record { result = y .count; count = y .count + 1; place = y .place })
-  union-grown p first e post =
-      one-more (positions.pushUnion first (outOf ws y)) (post .size)
-      (pushed-is ws ws′ (y .count) p (plain (union first (y .result))) within post (ap entryBy e))
+  pub below-some : (operand ≡ 0 → ⊥) → (ws′ : List ℕ) (p : Position) (s : Step) → stepOf s ≡ anyBelow → p ≡ overBy mark s operand →
+      PushPost ws n p ws′ → BelowPost ws n mark operand ws′ (n + 1)
+  below-some f ws′ p s b e post =
+      record {
+        size = post .size ∙ pre .size;
+        is = post .entries ∙ ap (λ (x : Entry). entriesIn ws n ++ (x ∷ [])) (over-entry p mark s operand anyBelow e b) ∙
+            rw (ne-eqb operand 0 f);
+        more = omega arith;
+        few = omega arith;
+      }
 
-  module _ (ws₁ : List ℕ) (p q : Position) (one : PushPost ws (y .count) p ws₁) (two : PushPost ws₁ (y .count + 1) q ws′) where
-    pub delete-grown : (s : Step) → stepOf s ≡ anyBelow → p ≡ overBy 0 s (y .result) → q ≡ unionBy 2 (y .result) (y .count) →
-        Grown (positions.pushDelete (outOf ws y)) y ws′ (record { result = 0; count = y .count + 2; place = y .place })
-    delete-grown s b e f =
-        two-more _ (two .size ∙ one .size)
-        (two-pushed ws ws₁ ws′ (y .count) p q (plain (over anyBelow (y .result)))
-        (modifying (union (y .result) (length (entriesIn ws (y .count))))) one two
-        (over-entry p 0 s (y .result) anyBelow e b)
-        (ap entryBy f ∙ ap (λ (k : ℕ). modifying (union (y .result) k)) (sym (entriesIn-length ws (y .count) within))))
-
-    pub insert-grown : (first : ℕ) (s u : Step) → stepOf s ≡ anyBelow → stepOf u ≡ anyBelow → p ≡ overBy 1 s first →
-        q ≡ overBy 2 u (y .result) →
-        Grown (positions.pushInsert first (outOf ws y)) y ws′ (record { result = 0; count = y .count + 2; place = y .place })
-    insert-grown first s u b c e f =
-        two-more _ (two .size ∙ one .size)
-        (two-pushed ws ws₁ ws′ (y .count) p q (accessing (over anyBelow first)) (modifying (over anyBelow (y .result))) one two
-        (over-entry p 1 s first anyBelow e b) (over-entry q 2 u (y .result) anyBelow f c))
+pub insert-grown : (ws ws₁ ws₂ : List ℕ) (first : ℕ) (y : Emitted) (m n : ℕ) → BelowPost ws (y .count) 1 first ws₁ m →
+    BelowPost ws₁ m 2 (y .result) ws₂ n → y .result < y .count →
+    Grown (positions.pushInsert first (outOf ws y)) y ws₂ (record { result = 0; count = n; place = y .place })
+insert-grown ws ws₁ ws₂ first y m n one two low =
+    record {
+      size = two .size;
+      is = ap (positions.emitted 0) (two .is ∙ ap (positions.pushBelow (markedBy 2) (y .result)) (one .is));
+      place = refl;
+      low = omega (arith, one .more, two .more);
+      more = omega (arith, one .more, two .more);
+      few = omega (arith, one .few, two .few);
+    }

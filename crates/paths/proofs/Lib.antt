@@ -6,6 +6,7 @@ pub mod EmitLaws
 pub mod TraverseLaws
 pub mod AnswerLaws
 pub mod WordLaws
+pub mod BitLaws
 pub mod PairLaws
 pub mod FillLaws
 pub mod GrowLaws
@@ -15,3 +16,4 @@ pub mod WalkLaws
 pub mod SizeLaws
 pub mod ClimbLaws
 pub mod AnalysisLaws
+pub mod SaidLaws

@@ -1,85 +1,66 @@
--- A cell put into a byte and taken out again is the same; a byte written is one pair's cell, and no other's.
+-- How marks are held: a byte for each pair. A byte written is one pair's marks and no other's; bytes of zero mark nothing.
 use mathlib.Core.Path.{_≡_, ap, _∙_}
-use mathlib.Core.Bool.{Bool, true, false}
 use mathlib.Core.List.{List}
-use Prim.Native.Nat.{ℕ, _+_, _*_, _/_, _%_, _<_}
+use Prim.Native.Nat.{ℕ, _+_, _*_, _≤_, _<_}
 use native.Mathlib.Omega.{arith}
+use lib.Bits.{bitOr}
 use lib.Dec.{eqb}
-use lib.ListN.{set, length-set}
+use lib.ListN.{length, getD, set, length-set}
 use lib.Seq.{getD-set-same, getD-set-other}
-use Rattle.model.specs.Base.{pick}
-use Rattle.model.specs.Meeting as meeting
-use Rattle.paths.specs.Codes.{cellOf}
-use Rattle.paths.specs.Pairs.{cellBits, PairPre, SetPost}
+use borrow.Author.Tests.{eqb-true, eqb-false}
+use Rattle.model.proofs.BoolLaws.{by-cases}
+use Rattle.paths.specs.Codes.{cellBits}
+use Rattle.paths.specs.Pairs.{marks, HasRows, ClearPost, PairPre, MarkPost}
 use Rattle.paths.specs.declared.cells.Cell.{Cell}
-use Rattle.paths.proofs.CellLaws.{cell-equal}
+use Rattle.paths.proofs.BitLaws.{join-bits}
 
--- BITS
-abbrev bitOf : Bool → ℕ
-bitOf t = pick t 1 0
+-- ROOM
+pub has-rows : (t : List ℕ) (n : ℕ) → 128 * n ≤ length t → HasRows t n
+unfolding HasRows
+has-rows t n h = h
 
-is-one : (t : Bool) (x : ℕ) → x ≡ bitOf t → eqb x 1 ≡ t
-is-one true x e = ap (λ (y : ℕ). eqb y 1) e
-is-one false x e = ap (λ (y : ℕ). eqb y 1) e
+pub fewer-rows : (t : List ℕ) (n k : ℕ) → HasRows t n → k < n → HasRows t (k + 1)
+unfolding HasRows
+fewer-rows t n k h l = omega arith
 
-digit-1 : (x q : ℕ) → x < 2 → (x + 2 * q) % 2 ≡ x
-digit-1 x q h = omega arith
+pub rows-fit : (t : List ℕ) (n : ℕ) → HasRows t n → 128 * n ≤ length t
+unfolding HasRows
+rows-fit t n h = h
 
-digit-2 : (l x q : ℕ) → l < 2 → x < 2 → (l + 2 * (x + 2 * q)) / 2 % 2 ≡ x
-digit-2 l x q g h = omega arith
+same-room : (t t′ : List ℕ) → length t′ ≡ length t → (n : ℕ) → HasRows t n → HasRows t′ n
+unfolding HasRows
+same-room t t′ e n h = omega arith
 
-digit-4 : (l x q : ℕ) → l < 4 → x < 2 → (l + 4 * (x + 2 * q)) / 4 % 2 ≡ x
-digit-4 l x q g h = omega arith
+-- CLEAR
+pub cleared : (t : List ℕ) (n : ℕ) (t′ : List ℕ) → length t′ ≡ length t → ((i : ℕ) → i < 128 * n → getD t′ i 0 ≡ 0) → ClearPost t n t′
+unfolding marks
+cleared t n t′ e h =
+    record { room = same-room t t′ e; clear = λ i j a b. ap cellBits (h (128 * i + j) (omega arith)) }
 
-digit-8 : (l x q : ℕ) → l < 8 → x < 2 → (l + 8 * (x + 2 * q)) / 8 % 2 ≡ x
-digit-8 l x q g h = omega arith
+pub zeroed : (t : List ℕ) (i : ℕ) → i < length t → ((j : ℕ) → j < i → getD t j 0 ≡ 0) → (j : ℕ) → j < i + 1 → getD (set t i 0) j 0 ≡ 0
+zeroed t i h z j l =
+    by-cases (eqb j i)
+    (λ e. ap (λ (k : ℕ). getD (set t i 0) k 0) (eqb-true j i e) ∙ getD-set-same t i 0 0 h)
+    (λ e. getD-set-other t i j 0 0 (eqb-false j i e) ∙ z j (omega (arith, eqb-false j i e)))
 
-digit-16 : (l x q : ℕ) → l < 16 → x < 2 → (l + 16 * (x + 2 * q)) / 16 % 2 ≡ x
-digit-16 l x q g h = omega arith
+-- MARK
+pub pair-place : (t : List ℕ) (k l : ℕ) → PairPre t k l → 128 * k + l < length t
+pair-place t k l pre = omega (arith, rows-fit t (k + 1) (pre .room), pre .column)
 
-digit-32 : (l x : ℕ) → l < 32 → x < 2 → (l + 32 * x) / 32 % 2 ≡ x
-digit-32 l x g h = omega arith
-
-module _ (c : meeting.Cell) (a b d e f g r : ℕ)
-    (on : a ≡ bitOf (c .onElement)) (onLeaf : b ≡ bitOf (c .onLeaf)) (down : d ≡ bitOf (c .downElement))
-    (downLeaf : e ≡ bitOf (c .downLeaf))
-    (up : f ≡ bitOf (c .upElement)) (upLeaf : g ≡ bitOf (c .upLeaf)) (sum : r ≡ a + 2 * b + 4 * d + 8 * e + 16 * f + 32 * g)
-    (la : a < 2) (lb : b < 2) (ld : d < 2) (le : e < 2) (lf : f < 2) (lg : g < 2) where
-  at : (h : ℕ → ℕ) (w x : ℕ) → r ≡ w → h w ≡ x → h r ≡ x
-  at h w x p q = ap h p ∙ q
-
-  pub bits-packed : cellBits r ≡ c
-  bits-packed =
-      cell-equal (cellBits r) c
-      (is-one (c .onElement) (r % 2)
-      (at (λ (w : ℕ). w % 2) (a + 2 * (b + 2 * d + 4 * e + 8 * f + 16 * g)) a (omega (arith, sum))
-      (digit-1 a (b + 2 * d + 4 * e + 8 * f + 16 * g) la) ∙ on))
-      (is-one (c .onLeaf) (r / 2 % 2)
-      (at (λ (w : ℕ). w / 2 % 2) (a + 2 * (b + 2 * (d + 2 * e + 4 * f + 8 * g))) b (omega (arith, sum))
-      (digit-2 a b (d + 2 * e + 4 * f + 8 * g) la lb) ∙ onLeaf))
-      (is-one (c .downElement) (r / 4 % 2)
-      (at (λ (w : ℕ). w / 4 % 2) (a + 2 * b + 4 * (d + 2 * (e + 2 * f + 4 * g))) d (omega (arith, sum))
-      (digit-4 (a + 2 * b) d (e + 2 * f + 4 * g) (omega arith) ld) ∙ down))
-      (is-one (c .downLeaf) (r / 8 % 2)
-      (at (λ (w : ℕ). w / 8 % 2) (a + 2 * b + 4 * d + 8 * (e + 2 * (f + 2 * g))) e (omega (arith, sum))
-      (digit-8 (a + 2 * b + 4 * d) e (f + 2 * g) (omega arith) le) ∙ downLeaf))
-      (is-one (c .upElement) (r / 16 % 2)
-      (at (λ (w : ℕ). w / 16 % 2) (a + 2 * b + 4 * d + 8 * e + 16 * (f + 2 * g)) f (omega (arith, sum))
-      (digit-16 (a + 2 * b + 4 * d + 8 * e) f g (omega arith) lf) ∙ up))
-      (is-one (c .upLeaf) (r / 32 % 2)
-      (at (λ (w : ℕ). w / 32 % 2) (a + 2 * b + 4 * d + 8 * e + 16 * f + 32 * g) g sum
-      (digit-32 (a + 2 * b + 4 * d + 8 * e + 16 * f) g (omega arith) lg) ∙ upLeaf))
-
--- THE PAIR written
-pub cell-set : (t : List ℕ) (k l : ℕ) (c : Cell) (b : ℕ) → PairPre t k l → cellBits b ≡ cellOf c → SetPost t k l c (set t (128 * k + l) b)
-cell-set t k l c b pre e =
+pub pair-marked : (t : List ℕ) (k l : ℕ) (c : Cell) → PairPre t k l →
+    MarkPost t k l c (set t (128 * k + l) (bitOr (getD t (128 * k + l) 0) (c .bits)))
+unfolding marks
+pair-marked t k l c pre =
     record {
-      size = length-set t (128 * k + l) b;
-      here = ap cellBits (getD-set-same t (128 * k + l) b 0 (omega (arith, pre .size, pre .first, pre .second))) ∙ e;
+      room = same-room t _ (length-set t (128 * k + l) b);
+      here = ap cellBits (getD-set-same t (128 * k + l) b 0 (pair-place t k l pre)) ∙ join-bits (getD t (128 * k + l) 0) (c .bits);
       others = λ i j h n. ap cellBits (getD-set-other t (128 * k + l) (128 * i + j) b 0 (λ q. other i j h n q));
     }
   where
+    b : ℕ
+    b = bitOr (getD t (128 * k + l) 0) (c .bits)
+
     other : (i j : ℕ) → j < 128 → (i ≡ k → j ≡ l → ⊥) → 128 * i + j ≡ 128 * k + l → ⊥
     other i j h n q =
-        let p : i ≡ k = omega (arith, pre .second) in
+        let p : i ≡ k = omega (arith, pre .column) in
         n p (omega arith)

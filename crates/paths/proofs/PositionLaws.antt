@@ -10,9 +10,10 @@ use Rattle.model.specs.Paths.{Path, start, documentPlace, withStep}
 use Rattle.model.specs.Meeting.{Cell, joinCell, onStep, downStep, upStep}
 use Rattle.paths.specs.Positions.{Position, nowhere, root, over, union, Entry, plain, entryAt, IsLower, AreLower}
 use Rattle.paths.specs.Positions.{pathsAt, pathsFrom, pathsBy, pathsOn}
-use Rattle.paths.specs.Cells.{noCell, sum, between, Cells, rootCell, overCell, cellBy, Filled}
+use Rattle.paths.specs.Cells.{noCell, sum, between, Cells, Source, fromRoot, fromStep}
+use Rattle.paths.specs.Cells.{sourceCell, sourcesCell, cellTo, cellBy, Filled}
 use Rattle.paths.proofs.CellLaws.{between-none, between-first, between-second, between-starts, between-up, between-down}
-use Rattle.paths.proofs.CellLaws.{between-steps}
+use Rattle.paths.proofs.CellLaws.{between-steps, join-none}
 
 -- PATHS of more positions
 pub pathsFrom-append : (ps : List (List Path)) (es fs : List Entry) → pathsFrom ps (es ++ fs) ≡ pathsFrom (pathsFrom ps es) fs
@@ -81,6 +82,16 @@ pathsOn-at es lower k h =
     len : length (take k es) ≡ k
     len = length-take-le k es (omega arith)
 
+-- ONE SOURCE on either side, or none
+module _ (k l : ℕ) (t : Cells) where
+  pub one-source : (x y : Source) → sourcesCell k l t (x ∷ []) (y ∷ []) ≡ sourceCell k l t x y
+  unfolding sum
+  one-source x y = join-none (joinCell (sourceCell k l t x y) noCell) ∙ join-none (sourceCell k l t x y)
+
+  pub no-source : (x : Source) → sourcesCell k l t (x ∷ []) [] ≡ noCell
+  unfolding sum
+  no-source x = refl
+
 -- THE CELL of two positions
 module _ (es fs : List Entry) (k l : ℕ) (t : Cells) where
   module _ (low : l < length fs) (filled : Filled es fs k l t) where
@@ -95,27 +106,40 @@ module _ (es fs : List Entry) (k l : ℕ) (t : Cells) where
     nowhereAt : pathsOn fs l ≡ [] → noCell ≡ between (pathsOn es k) (pathsOn fs l)
     nowhereAt e = sym (ap (between (pathsOn es k)) e ∙ between-none (pathsOn es k))
 
-    rootCell-is : (d : ℕ) (q : Position) → pathsOn es k ≡ start (documentPlace d) ∷ [] → IsLower l q →
+    -- from nothing, from a document, from a step
+    fromNowhere-is : (q : Position) → pathsOn es k ≡ [] → IsLower l q → pathsOn fs l ≡ pathsAt (pathsBy fs) q →
+        cellTo k l t [] q ≡ between (pathsOn es k) (pathsOn fs l)
+    unfolding sum
+    fromNowhere-is nowhere e h f = sym (ap (λ (v : List Path). between v (pathsOn fs l)) e)
+    fromNowhere-is (root c) e h f = sym (ap (λ (v : List Path). between v (pathsOn fs l)) e)
+    fromNowhere-is (over u j) e h f = sym (ap (λ (v : List Path). between v (pathsOn fs l)) e)
+    fromNowhere-is (union a b) e h f = unionAt a b h f
+
+    fromRoot-is : (d : ℕ) (q : Position) → pathsOn es k ≡ start (documentPlace d) ∷ [] → IsLower l q →
         pathsOn fs l ≡ pathsAt (pathsBy fs) q →
-        rootCell d k q t ≡ between (pathsOn es k) (pathsOn fs l)
-    rootCell-is d nowhere e h f = nowhereAt f
-    rootCell-is d (root c) e h f =
+        cellTo k l t (fromRoot d ∷ []) q ≡ between (pathsOn es k) (pathsOn fs l)
+    fromRoot-is d nowhere e h f = no-source k l t (fromRoot d) ∙ nowhereAt f
+    fromRoot-is d (root c) e h f =
+        one-source k l t (fromRoot d) (fromRoot c) ∙
         sym (ap (λ (v : List Path). between v (pathsOn fs l)) e ∙ ap (between (start (documentPlace d) ∷ [])) f ∙
         between-starts (documentPlace d) (documentPlace c))
-    rootCell-is d (over u j) e h f =
+    fromRoot-is d (over u j) e h f =
+        one-source k l t (fromRoot d) (fromStep u j) ∙
         ap (upStep u) (filled .row j h ∙ ap (λ (v : List Path). between v (pathsOn fs j)) e) ∙
         sym (ap (λ (v : List Path). between v (pathsOn fs l)) e ∙ ap (between (start (documentPlace d) ∷ [])) f ∙
         between-up (documentPlace d) u (pathsOn fs j))
-    rootCell-is d (union a b) e h f = unionAt a b h f
+    fromRoot-is d (union a b) e h f = unionAt a b h f
 
-    overCell-is : (s : Step) (i : ℕ) (q : Position) → i < k → pathsOn es k ≡ withStep s (pathsOn es i) → IsLower l q →
-        pathsOn fs l ≡ pathsAt (pathsBy fs) q → overCell s i k l q t ≡ between (pathsOn es k) (pathsOn fs l)
-    overCell-is s i nowhere g e h f = nowhereAt f
-    overCell-is s i (root c) g e h f =
+    fromStep-is : (s : Step) (i : ℕ) (q : Position) → i < k → pathsOn es k ≡ withStep s (pathsOn es i) → IsLower l q →
+        pathsOn fs l ≡ pathsAt (pathsBy fs) q → cellTo k l t (fromStep s i ∷ []) q ≡ between (pathsOn es k) (pathsOn fs l)
+    fromStep-is s i nowhere g e h f = no-source k l t (fromStep s i) ∙ nowhereAt f
+    fromStep-is s i (root c) g e h f =
+        one-source k l t (fromStep s i) (fromRoot c) ∙
         ap (downStep s) (filled .rows i l g low ∙ ap (between (pathsOn es i)) f) ∙
         sym (ap (λ (v : List Path). between v (pathsOn fs l)) e ∙ ap (between (withStep s (pathsOn es i))) f ∙
         between-down s (pathsOn es i) (documentPlace c))
-    overCell-is s i (over u j) g e h f =
+    fromStep-is s i (over u j) g e h f =
+        one-source k l t (fromStep s i) (fromStep u j) ∙
         ap (λ (c : Cell). joinCell (onStep s u c) (joinCell (downStep s (t i l)) (upStep u (t k j)))) (filled .rows i j g (omega arith)) ∙
         ap (λ (c : Cell). joinCell (onStep s u (between (pathsOn es i) (pathsOn fs j))) (joinCell (downStep s c) (upStep u (t k j))))
         (filled .rows i l g low ∙ ap (between (pathsOn es i)) f) ∙
@@ -124,15 +148,14 @@ module _ (es fs : List Entry) (k l : ℕ) (t : Cells) where
         (filled .row j h ∙ ap (λ (v : List Path). between v (pathsOn fs j)) e) ∙
         sym (ap (λ (v : List Path). between v (pathsOn fs l)) e ∙ ap (between (withStep s (pathsOn es i))) f ∙
         between-steps s u (pathsOn es i) (pathsOn fs j))
-    overCell-is s i (union a b) g e h f = unionAt a b h f
+    fromStep-is s i (union a b) g e h f = unionAt a b h f
 
     cellBy-is : (p q : Position) → IsLower k p → pathsOn es k ≡ pathsAt (pathsBy es) p → IsLower l q →
         pathsOn fs l ≡ pathsAt (pathsBy fs) q →
-        cellBy k l p q t ≡ between (pathsOn es k) (pathsOn fs l)
-    unfolding sum
-    cellBy-is nowhere q g e h f = sym (ap (λ (v : List Path). between v (pathsOn fs l)) e)
-    cellBy-is (root d) q g e h f = rootCell-is d q e h f
-    cellBy-is (over s i) q g e h f = overCell-is s i q g e h f
+        cellBy k l t p q ≡ between (pathsOn es k) (pathsOn fs l)
+    cellBy-is nowhere q g e h f = fromNowhere-is q e h f
+    cellBy-is (root d) q g e h f = fromRoot-is d q e h f
+    cellBy-is (over s i) q g e h f = fromStep-is s i q g e h f
     cellBy-is (union a b) q g e h f =
         ap (λ (c : Cell). joinCell c (t b l)) (filled .rows a l (g .0) low) ∙
         ap (joinCell (between (pathsOn es a) (pathsOn fs l))) (filled .rows b l (g .1) low) ∙
@@ -140,6 +163,6 @@ module _ (es fs : List Entry) (k l : ℕ) (t : Cells) where
 
   -- by positions, it is the join over all pairs of their paths
   pub cell-by : AreLower es → AreLower fs → k < length es → l < length fs → Filled es fs k l t →
-      cellBy k l (entryAt es k .position) (entryAt fs l .position) t ≡ between (pathsOn es k) (pathsOn fs l)
+      cellBy k l t (entryAt es k .position) (entryAt fs l .position) ≡ between (pathsOn es k) (pathsOn fs l)
   cell-by e f h low filled =
       cellBy-is low filled (entryAt es k .position) (entryAt fs l .position) (e k h) (pathsOn-at es e k h) (f l low) (pathsOn-at fs f l low)

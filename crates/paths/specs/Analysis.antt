@@ -1,16 +1,17 @@
 -- What the analysis of two scripts answers, for every input. Assumes nothing: these are definitions.
 use mathlib.Core.Path.{_≡_}
 use mathlib.Core.List.{List, [], _∷_}
-use Prim.Native.Nat.{ℕ, _*_, _≤_}
+use Prim.Native.Nat.{ℕ, _≤_}
 use lib.ListN.{length, getD}
-use Rattle.model.specs.Script.{Expr, Parsed, ill, parsed, readScript}
+use Rattle.model.specs.Script.{Expr}
 use Rattle.model.specs.Meeting.{Answer, free, upward, meet, answer}
+use Rattle.model.specs.Call as model
 use Rattle.table.specs.Calls.{faultOf}
 use Rattle.script.specs.Walk.{exprAt}
 use Rattle.script.specs.Reading.{scriptRead}
 use Rattle.paths.specs.Positions.{entriesOf, AreLower}
 use Rattle.paths.specs.Words.{entriesIn}
-use Rattle.paths.specs.Pairs.{maxPositions}
+use Rattle.paths.specs.Pairs.{maxPositions, HasRows}
 use Rattle.paths.specs.declared.Analysis.{Analysis}
 use Rattle.paths.specs.declared.Analysis.the-variants.{Refused, Free, Upward, Meet}
 
@@ -20,29 +21,36 @@ byAnswer free = Free
 byAnswer upward = Upward
 byAnswer meet = Meet
 
--- the first script refused, with its number and place; else the model's answer
-abbrev pub analysisBy : (first second : Parsed) → Analysis
-analysisBy (ill x) q = Refused 1 (faultOf x)
-analysisBy (parsed e i n b) (ill x) = Refused 2 (faultOf x)
-analysisBy (parsed e i n b) (parsed f j m c) = byAnswer (answer e f)
+-- the case of each of the model's analyses: the script refused with its fault, or the answer
+abbrev pub analysisOf : model.Analysis → Analysis
+analysisOf (model.refusedBy s x) = Refused s (faultOf x)
+analysisOf (model.answered a) = byAnswer a
 
--- from the bytes of both
+-- THE ANALYSIS of the bytes of two scripts is the model's
 abbrev pub analysed : (first second : List ℕ) → Analysis
-analysed b c = analysisBy (readScript b) (readScript c)
+analysed b c = analysisOf (model.analyse b c)
 
--- DOCUMENT 01 for each case: an answer's number, or the script refused with the refusal's number and place
-abbrev pub valuesOf : Analysis → List ℕ
-valuesOf (Refused s f) = s ∷ f .number ∷ f .place ∷ []
-valuesOf Free = 0 ∷ []
-valuesOf Upward = 1 ∷ []
-valuesOf Meet = 2 ∷ []
+-- DOCUMENT 01 for each case: a refusal's number, which script is refused, and the place; else number 0, and which answer it is
+pub record Values : Type 0 where
+  pub number : ℕ
+  pub which : ℕ
+  pub place : ℕ
 
--- and an answer's word, in bytes
-abbrev pub wordOf : Analysis → List ℕ
-wordOf (Refused s f) = []
-wordOf Free = 0x66 ∷ 0x72 ∷ 0x65 ∷ 0x65 ∷ []
-wordOf Upward = 0x75 ∷ 0x70 ∷ 0x77 ∷ 0x61 ∷ 0x72 ∷ 0x64 ∷ []
-wordOf Meet = 0x6D ∷ 0x65 ∷ 0x65 ∷ 0x74 ∷ []
+abbrev pub values : (number which place : ℕ) → Values
+values n w i = record { number = n; which = w; place = i }
+
+abbrev pub valuesOf : Analysis → Values
+valuesOf (Refused s f) = values (f .number) s (f .place)
+valuesOf Free = values 0 0 0
+valuesOf Upward = values 0 1 0
+valuesOf Meet = values 0 2 0
+
+-- and an answer's word, in bytes: free, upward, meet
+abbrev pub answerWord : Analysis → List ℕ
+answerWord (Refused s f) = []
+answerWord Free = 0x66 ∷ 0x72 ∷ 0x65 ∷ 0x65 ∷ []
+answerWord Upward = 0x75 ∷ 0x70 ∷ 0x77 ∷ 0x61 ∷ 0x72 ∷ 0x64 ∷ []
+answerWord Meet = 0x6D ∷ 0x65 ∷ 0x65 ∷ 0x74 ∷ []
 
 -- THE POSITIONS of an accepted script, in words of which the first is zero
 pub record ScriptPre (b ws : List ℕ) : Type 0 where
@@ -63,7 +71,7 @@ pub record AnswerPre (ws : List ℕ) (n : ℕ) (us : List ℕ) (m : ℕ) (t : Li
   pub second : length us ≡ maxPositions
   pub secondFew : m ≤ maxPositions
   pub secondLower : AreLower (entriesIn us m)
-  pub table : length t ≡ maxPositions * maxPositions
+  pub table : HasRows t n
 
 pub record AnswerPost (ws : List ℕ) (n : ℕ) (us : List ℕ) (m : ℕ) (r : Analysis) : Type 0 where
   pub is : (e f : Expr) → entriesIn ws n ≡ entriesOf e → entriesIn us m ≡ entriesOf f → r ≡ byAnswer (answer e f)

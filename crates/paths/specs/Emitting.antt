@@ -71,6 +71,22 @@ pub record PairedPre (ws : List ℕ) (first : ℕ) (y : Emitted) : Type 0 where
   pub grow : GrowPre ws y
   pub low : first < y .count
 
+-- all below a position, with a mark: 1 accessed, 2 modified
+abbrev pub markedBy : (mark : ℕ) → positions.Position → positions.Entry
+markedBy m p = record { position = p; accessed = eqb m 1; modified = eqb m 2 }
+
+pub record BelowPre (ws : List ℕ) (n mark operand : ℕ) : Type 0 where
+  pub size : length ws ≡ maxPositions
+  pub room : n < maxPositions
+  pub known : mark < 4
+  pub low : operand < n
+
+pub record BelowPost (ws : List ℕ) (n mark operand : ℕ) (ws′ : List ℕ) (r : ℕ) : Type 0 where
+  pub size : length ws′ ≡ maxPositions
+  pub is : entriesIn ws′ r ≡ positions.pushBelow (markedBy mark) operand (entriesIn ws n)
+  pub more : n ≤ r
+  pub few : r ≤ n + 1
+
 pub record UnaryPre (b : List ℕ) (at : ℕ) (ws : List ℕ) (y : Emitted) : Type 0 where
   pub grow : GrowPre ws y
   pub whole : at + bodySize (getD b at 0) < length b

@@ -1,13 +1,13 @@
 -- Contracts of what fills the table of pairs and answers whether two scripts' positions meet. Assumes nothing: these are definitions.
 use mathlib.Core.Path.{_≡_}
-use mathlib.Core.Bool.{Bool}
+use mathlib.Core.Bool.{Bool, false}
 use mathlib.Core.List.{List, map}
-use Prim.Native.Nat.{ℕ, _+_, _*_, _≤_, _<_}
-use lib.ListN.{length}
-use Rattle.paths.specs.Positions.{Entry, AreLower, entryAt, isClimb}
+use Prim.Native.Nat.{ℕ, _+_, _≤_, _<_}
+use lib.ListN.{length, getD}
+use Rattle.paths.specs.Positions.{Entry, IsLower, AreLower, entryAt, isClimb}
 use Rattle.paths.specs.Cells.{Filled, anyUpTo, meetAt, rowMeets}
-use Rattle.paths.specs.Words.{entryOf}
-use Rattle.paths.specs.Pairs.{maxPositions, cellIn}
+use Rattle.paths.specs.Words.{positionBy, fieldsOf, entryOf}
+use Rattle.paths.specs.Pairs.{maxPositions, marks, HasRows}
 use Rattle.paths.specs.declared.positions.Position.{Position}
 
 -- the entries that words are
@@ -28,43 +28,48 @@ pub record PositionsPre (ws : List ℕ) : Type 0 where
 
 -- ONE CELL from those of lower pairs
 pub record CellPre (t : List ℕ) (k l : ℕ) (p q : Position) : Type 0 where
-  pub size : length t ≡ maxPositions * maxPositions
-  pub row : k < maxPositions
+  pub room : HasRows t (k + 1)
   pub column : l < maxPositions
-  pub firstLow : p .first < maxPositions
-  pub secondLow : p .second < maxPositions
-  pub otherFirst : q .first < maxPositions
-  pub otherSecond : q .second < maxPositions
+  pub firstKind : p .kind < 4
+  pub secondKind : q .kind < 4
+  pub first : IsLower k (positionBy p)
+  pub second : IsLower l (positionBy q)
 
--- ONE PAIR: its cell is written, and whether it meets is answered
-pub record MeetPre (ws us t : List ℕ) (k l : ℕ) : Type 0 where
+-- and from a step
+pub record FromStepPre (t : List ℕ) (k l : ℕ) (p q : Position) : Type 0 where
+  pub pair : CellPre t k l p q
+  pub operand : p .first < k
+
+-- ONE PAIR: its cell is marked, and whether it meets is answered
+pub record MeetPre (ws us t : List ℕ) (k l : ℕ) (p : Position) : Type 0 where
   pub first : PositionsPre ws
   pub second : PositionsPre us
-  pub size : length t ≡ maxPositions * maxPositions
+  pub room : HasRows t (length ws)
   pub row : k < length ws
   pub column : l < length us
-  pub filled : Filled (entriesBy ws) (entriesBy us) k l (cellIn t)
+  pub position : p ≡ fieldsOf (getD ws k 0)
+  pub filled : Filled (entriesBy ws) (entriesBy us) k l (marks t)
 
 pub record MeetPost (ws us : List ℕ) (k l : ℕ) (t′ : List ℕ) (r : Bool) : Type 0 where
-  pub size : length t′ ≡ maxPositions * maxPositions
-  pub filled : Filled (entriesBy ws) (entriesBy us) k (l + 1) (cellIn t′)
+  pub room : HasRows t′ (length ws)
+  pub filled : Filled (entriesBy ws) (entriesBy us) k (l + 1) (marks t′)
   pub met : r ≡ meetAt (entriesBy ws) (entriesBy us) k l
 
--- A ROW
+-- A ROW, up to a pair that meets
 pub record RowPre (ws us t : List ℕ) (k : ℕ) : Type 0 where
   pub first : PositionsPre ws
   pub second : PositionsPre us
-  pub size : length t ≡ maxPositions * maxPositions
+  pub room : HasRows t (length ws)
   pub row : k < length ws
-  pub filled : Filled (entriesBy ws) (entriesBy us) k 0 (cellIn t)
+  pub filled : Filled (entriesBy ws) (entriesBy us) k 0 (marks t)
 
 pub record RowPost (ws us : List ℕ) (k : ℕ) (t′ : List ℕ) (r : Bool) : Type 0 where
-  pub size : length t′ ≡ maxPositions * maxPositions
-  pub filled : Filled (entriesBy ws) (entriesBy us) (k + 1) 0 (cellIn t′)
+  pub room : HasRows t′ (length ws)
+  pub filled : r ≡ false → Filled (entriesBy ws) (entriesBy us) (k + 1) 0 (marks t′)
   pub met : r ≡ rowMeets (entriesBy ws) (entriesBy us) k (length (entriesBy us))
 
 -- THE TABLE
 pub record TablePre (ws us t : List ℕ) : Type 0 where
   pub first : PositionsPre ws
   pub second : PositionsPre us
-  pub size : length t ≡ maxPositions * maxPositions
+  pub room : HasRows t (length ws)

@@ -6,3 +6,4 @@ pub mod Pairs
 pub mod Filling
 pub mod Emitting
 pub mod Analysis
+pub mod Promise

@@ -1,41 +1,37 @@
--- The table of pairs: a byte for each pair of positions holds their cell. Assumes nothing: these are definitions.
+-- The marks of pairs of positions. Each pair has six, the tests of its cell. How they are held, a byte for each pair, is known here, in
+-- PairLaws and in the proofs of `pairs`; everywhere else `marks` and `HasRows` stay shut. Assumes nothing: these are definitions.
 use mathlib.Core.Path.{_≡_}
 use mathlib.Core.List.{List}
-use Prim.Native.Nat.{ℕ, _+_, _*_, _/_, _%_, _<_}
-use lib.Dec.{eqb}
+use Prim.Native.Nat.{ℕ, _+_, _*_, _≤_, _<_}
 use lib.ListN.{length, getD}
-use Rattle.model.specs.Meeting as meeting
-use Rattle.paths.specs.Cells.{Cells}
-use Rattle.paths.specs.Codes.{cellOf}
+use Rattle.model.specs.Meeting.{joinCell}
+use Rattle.paths.specs.Cells.{noCell, Cells}
+use Rattle.paths.specs.Codes.{cellBits, cellOf}
 use Rattle.paths.specs.declared.cells.Cell.{Cell}
 
 -- positions of a script, at most
 abbrev pub maxPositions : ℕ
 maxPositions = 128
 
--- a bit for each test of a cell
-abbrev pub cellBits : (byte : ℕ) → meeting.Cell
-cellBits b =
-    record {
-      onElement = eqb (b % 2) 1;
-      onLeaf = eqb (b / 2 % 2) 1;
-      downElement = eqb (b / 4 % 2) 1;
-      downLeaf = eqb (b / 8 % 2) 1;
-      upElement = eqb (b / 16 % 2) 1;
-      upLeaf = eqb (b / 32 % 2) 1;
-    }
+-- what is marked of each pair
+unfoldable pub marks : (table : List ℕ) → Cells
+marks t k l = cellBits (getD t (maxPositions * k + l) 0)
 
--- the cell of a pair in the table
-abbrev pub cellIn : (table : List ℕ) → Cells
-cellIn t k l = cellBits (getD t (maxPositions * k + l) 0)
+-- room for the pairs of so many positions with those of any script
+unfoldable pub HasRows : (table : List ℕ) → (rows : ℕ) → Type 0
+HasRows t n = maxPositions * n ≤ length t
 
--- READING AND WRITING the cell of a pair: every other cell stays
+-- CLEAR: nothing is marked in these rows
+pub record ClearPost (t : List ℕ) (rows : ℕ) (t′ : List ℕ) : Type 0 where
+  pub room : (n : ℕ) → HasRows t n → HasRows t′ n
+  pub clear : (i j : ℕ) → i < rows → j < maxPositions → marks t′ i j ≡ noCell
+
+-- MARK: a pair's marks, with those of a cell; every other pair's stay
 pub record PairPre (t : List ℕ) (k l : ℕ) : Type 0 where
-  pub size : length t ≡ maxPositions * maxPositions
-  pub first : k < maxPositions
-  pub second : l < maxPositions
+  pub room : HasRows t (k + 1)
+  pub column : l < maxPositions
 
-pub record SetPost (t : List ℕ) (k l : ℕ) (c : Cell) (t′ : List ℕ) : Type 0 where
-  pub size : length t′ ≡ length t
-  pub here : cellIn t′ k l ≡ cellOf c
-  pub others : (i j : ℕ) → j < maxPositions → (i ≡ k → j ≡ l → ⊥) → cellIn t′ i j ≡ cellIn t i j
+pub record MarkPost (t : List ℕ) (k l : ℕ) (c : Cell) (t′ : List ℕ) : Type 0 where
+  pub room : (n : ℕ) → HasRows t n → HasRows t′ n
+  pub here : marks t′ k l ≡ joinCell (marks t k l) (cellOf c)
+  pub others : (i j : ℕ) → j < maxPositions → (i ≡ k → j ≡ l → ⊥) → marks t′ i j ≡ marks t i j

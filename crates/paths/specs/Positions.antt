@@ -1,8 +1,10 @@
 -- Positions stand for the paths of a script's expressions, numbered in one pass over it. Assumes nothing: these are definitions.
-use mathlib.Core.Bool.{Bool, true, false}
+use mathlib.Core.Bool.{Bool, true, false, _&&_, not}
 use mathlib.Core.List.{List, [], _∷_, _++_}
 use Prim.Native.Nat.{ℕ, _<_}
+use lib.Dec.{eqb}
 use lib.ListN.{length, getD}
+use Rattle.model.specs.Base.{pick}
 use Rattle.model.specs.Script.{Step, Expr, nil, document, var, step, both, letIn, forIn, ifIn, element, leaf, delete, insert, choose}
 use Rattle.model.specs.Paths.{documentPlace, Path, start, withStep, anyBelow, isUp}
 
@@ -56,23 +58,28 @@ emitted r es = record { result = r; entries = es }
 abbrev pub push : (entries : List Entry) → Entry → Emitted
 push es x = emitted (length es) (es ++ (x ∷ []))
 
--- a step over x, accessed
+-- a step over x, accessed. A step from nothing is nothing; it has a position only where it leads up, to be seen
 abbrev pub pushStep : Step → Emitted → Emitted
-pushStep s x = push (x .entries) (accessing (over s (x .result)))
+pushStep s x = pick (eqb (x .result) 0 && not (isUp s)) x (push (x .entries) (accessing (over s (x .result))))
 
--- two results together
+-- two results together; with nothing it is the other
 abbrev pub pushUnion : (first : ℕ) → (second : Emitted) → Emitted
-pushUnion r y = push (y .entries) (plain (union r (y .result)))
+pushUnion r y =
+    pick (eqb r 0) y (pick (eqb (y .result) 0) (emitted r (y .entries)) (push (y .entries) (plain (union r (y .result)))))
 
 -- Delete: all below r1, and r1 with that, modified
 abbrev pub pushDelete : Emitted → Emitted
 pushDelete x =
-    emitted 0 (x .entries ++ (plain (over anyBelow (x .result)) ∷ []) ++ (modifying (union (x .result) (length (x .entries))) ∷ []))
+    pick (eqb (x .result) 0) x
+    (emitted 0 (x .entries ++ (plain (over anyBelow (x .result)) ∷ []) ++ (modifying (union (x .result) (length (x .entries))) ∷ [])))
+
+-- all below a position, so marked; below nothing is nothing
+abbrev pub pushBelow : (mark : Position → Entry) → (operand : ℕ) → List Entry → List Entry
+pushBelow f i es = pick (eqb i 0) es (es ++ (f (over anyBelow i) ∷ []))
 
 -- Insert: all below r1, accessed, and all below r2, modified
 abbrev pub pushInsert : (first : ℕ) → (second : Emitted) → Emitted
-pushInsert r y =
-    emitted 0 (y .entries ++ (accessing (over anyBelow r) ∷ []) ++ (modifying (over anyBelow (y .result)) ∷ []))
+pushInsert r y = emitted 0 (pushBelow modifying (y .result) (pushBelow accessing r (y .entries)))
 
 -- from the numbers of the bound variables' positions and the entries before; position 0 is nothing
 unfoldable pub emit : Expr → (bound : List ℕ) → (entries : List Entry) → Emitted

@@ -1,13 +1,20 @@
 // What two positions can have in common, and how steps lead from one such cell to the next.
 ghost use mathlib.Core.Path.{_≡_};
+ghost use mathlib.Core.Bool.{true};
+ghost use Prim.Native.Nat.{_<_};
+ghost use Rattle.model.specs.Base.{pick};
+ghost use Rattle.model.specs.Meeting.{onCell, downCell, upCell};
 ghost use Rattle.model.specs.Meeting.{admitsElement, admitsLeaf, isNamed, isDeep, shareElement};
 ghost use Rattle.model.specs.Meeting.{joinCell, onStep, downStep, upStep, startCell, isMet};
-ghost use Rattle.model.specs.Paths.{documentPlace};
+ghost use Rattle.model.specs.Paths.{documentPlace, isUp};
 ghost use Rattle.paths.specs.Cells.{noCell};
 ghost use Rattle.paths.specs.Codes.{stepOf, cellOf};
 
 // The descendant axis.
 const DESCENDANT: usize = 1;
+
+// The first of the two axes that lead up.
+pub const PARENT: usize = 2;
 
 // Tests; any other is for the named element.
 const ANY_NODE: usize = 0;
@@ -24,14 +31,20 @@ pub struct Step {
 }
 
 // For an element and for a leaf: whether some plan has such a node on both positions, or on the first at or below one on the second
-// (down), or on the second at or below one on the first (up).
+// (down), or on the second at or below one on the first (up). A bit for each of the six tests, in this order.
 pub struct Cell {
-    pub on_element: bool,
-    pub on_leaf: bool,
-    pub down_element: bool,
-    pub down_leaf: bool,
-    pub up_element: bool,
-    pub up_leaf: bool,
+    pub bits: u8,
+}
+
+// 1 for true.
+fn bit(b: bool) -> u8
+    ensures { λ r. ⌜ r ≡ pick b 1 0 ⌝ }
+    ensures { λ r. ⌜ r < 2 ⌝ }
+{
+    if b {
+        return 1;
+    }
+    0
 }
 
 impl Step {
@@ -63,6 +76,13 @@ impl Step {
         self.axis == DESCENDANT
     }
 
+    // A step that leads up.
+    pub fn is_up(self) -> bool
+        ensures { λ r. ⌜ r ≡ isUp (stepOf self) ⌝ }
+    {
+        PARENT <= self.axis
+    }
+
     // Some element passes both tests.
     fn shares_element(self, other: Step) -> bool
         ensures { λ r. ⌜ r ≡ shareElement (stepOf self) (stepOf other) ⌝ }
@@ -78,29 +98,76 @@ impl Cell {
     pub fn none() -> Cell
         ensures { λ r. ⌜ cellOf r ≡ noCell ⌝ }
     {
+        Cell { bits: 0 }
+    }
+
+    // Nothing in common, as a test.
+    pub fn is_none(self) -> bool
+        ensures { λ r. ⌜ (r ≡ true → cellOf self ≡ noCell) ⌝ }
+    {
+        self.bits == 0
+    }
+
+    // A node on both, which is also down and up.
+    fn on(element: bool, leaf: bool) -> Cell
+        ensures { λ r. ⌜ cellOf r ≡ onCell element leaf ⌝ }
+    {
         Cell {
-            on_element: false,
-            on_leaf: false,
-            down_element: false,
-            down_leaf: false,
-            up_element: false,
-            up_leaf: false,
+            bits: 21 * bit(element) + 42 * bit(leaf),
         }
+    }
+
+    // A node on the first, at or below one on the second.
+    fn down(element: bool, leaf: bool) -> Cell
+        ensures { λ r. ⌜ cellOf r ≡ downCell element leaf ⌝ }
+    {
+        Cell {
+            bits: 4 * bit(element) + 8 * bit(leaf),
+        }
+    }
+
+    // A node on the second, at or below one on the first.
+    fn up(element: bool, leaf: bool) -> Cell
+        ensures { λ r. ⌜ cellOf r ≡ upCell element leaf ⌝ }
+    {
+        Cell {
+            bits: 16 * bit(element) + 32 * bit(leaf),
+        }
+    }
+
+    // An element on both.
+    fn on_element(self) -> bool
+        ensures { λ r. ⌜ r ≡ cellOf self .onElement ⌝ }
+    {
+        self.bits % 2 == 1
+    }
+
+    // An element on the first, at or below one on the second.
+    fn down_element(self) -> bool
+        ensures { λ r. ⌜ r ≡ cellOf self .downElement ⌝ }
+    {
+        self.bits / 4 % 2 == 1
+    }
+
+    // An element on the second, at or below one on the first.
+    fn up_element(self) -> bool
+        ensures { λ r. ⌜ r ≡ cellOf self .upElement ⌝ }
+    {
+        self.bits / 16 % 2 == 1
+    }
+
+    // A leaf on both.
+    fn on_leaf(self) -> bool
+        ensures { λ r. ⌜ r ≡ cellOf self .onLeaf ⌝ }
+    {
+        self.bits / 2 % 2 == 1
     }
 
     // Two documents: their root, if they are one.
     pub fn roots(first: usize, second: usize) -> Cell
         ensures { λ r. ⌜ cellOf r ≡ startCell (documentPlace first) (documentPlace second) ⌝ }
     {
-        let same = first == second;
-        Cell {
-            on_element: same,
-            on_leaf: false,
-            down_element: same,
-            down_leaf: false,
-            up_element: same,
-            up_leaf: false,
-        }
+        Cell::on(first == second, false)
     }
 
     // Both together.
@@ -108,12 +175,7 @@ impl Cell {
         ensures { λ r. ⌜ cellOf r ≡ joinCell (cellOf self) (cellOf d) ⌝ }
     {
         Cell {
-            on_element: self.on_element | d.on_element,
-            on_leaf: self.on_leaf | d.on_leaf,
-            down_element: self.down_element | d.down_element,
-            down_leaf: self.down_leaf | d.down_leaf,
-            up_element: self.up_element | d.up_element,
-            up_leaf: self.up_leaf | d.up_leaf,
+            bits: self.bits | d.bits,
         }
     }
 
@@ -121,55 +183,35 @@ impl Cell {
     pub fn on_step(self, s: Step, t: Step) -> Cell
         ensures { λ r. ⌜ cellOf r ≡ onStep (stepOf s) (stepOf t) (cellOf self) ⌝ }
     {
-        let parent = self.on_element
-            | (t.is_deep() & self.down_element)
-            | (s.is_deep() & self.up_element);
-        let element = parent & s.shares_element(t);
-        let leaf = parent & (s.admits_leaf() & t.admits_leaf());
-        Cell {
-            on_element: element,
-            on_leaf: leaf,
-            down_element: element,
-            down_leaf: leaf,
-            up_element: element,
-            up_leaf: leaf,
-        }
+        let parent = self.on_element()
+            | (t.is_deep() & self.down_element())
+            | (s.is_deep() & self.up_element());
+        Cell::on(
+            parent & s.shares_element(t),
+            parent & (s.admits_leaf() & t.admits_leaf()),
+        )
     }
 
     // From this cell to that of the first position stepped from, its nodes below the second's.
     pub fn down_step(self, s: Step) -> Cell
         ensures { λ r. ⌜ cellOf r ≡ downStep (stepOf s) (cellOf self) ⌝ }
     {
-        let parent = self.down_element | (s.is_deep() & self.up_element);
-        Cell {
-            on_element: false,
-            on_leaf: false,
-            down_element: s.admits_element() & parent,
-            down_leaf: s.admits_leaf() & parent,
-            up_element: false,
-            up_leaf: false,
-        }
+        let parent = self.down_element() | (s.is_deep() & self.up_element());
+        Cell::down(s.admits_element() & parent, s.admits_leaf() & parent)
     }
 
     // The mirror image, for the second position stepped from.
     pub fn up_step(self, t: Step) -> Cell
         ensures { λ r. ⌜ cellOf r ≡ upStep (stepOf t) (cellOf self) ⌝ }
     {
-        let parent = self.up_element | (t.is_deep() & self.down_element);
-        Cell {
-            on_element: false,
-            on_leaf: false,
-            down_element: false,
-            down_leaf: false,
-            up_element: t.admits_element() & parent,
-            up_leaf: t.admits_leaf() & parent,
-        }
+        let parent = self.up_element() | (t.is_deep() & self.down_element());
+        Cell::up(t.admits_element() & parent, t.admits_leaf() & parent)
     }
 
     // Some plan has a node on both.
     pub fn is_met(self) -> bool
         ensures { λ r. ⌜ r ≡ isMet (cellOf self) ⌝ }
     {
-        self.on_element | self.on_leaf
+        self.on_element() | self.on_leaf()
     }
 }

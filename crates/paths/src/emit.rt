@@ -6,6 +6,7 @@ ghost use Rattle.script.specs.Walk.{inner};
 ghost use Rattle.paths.specs.Positions.{pushStep, pushUnion, pushDelete, pushInsert};
 ghost use Rattle.paths.specs.Codes.{stepOf};
 ghost use Rattle.paths.specs.Emitting.{outOf, unaryOf, binaryOf, GrowPre, StepPre, PairedPre, UnaryPre, Grown, BindPre, BindPost};
+ghost use Rattle.paths.specs.Emitting.{BelowPre, BelowPost};
 ghost use Rattle.paths.specs.Emitting.{NullaryPre, NullaryPost};
 ghost use Rattle.paths.specs.Emitting.{EmitPre, EmitPost};
 use crate::cells::Step;
@@ -38,11 +39,14 @@ fn any_below() -> Step
     }
 }
 
-// A step over x, accessed.
+// A step over x, accessed. From nothing it is nothing, with a position only where it leads up.
 fn step(words: &mut [usize], s: Step, x: Emitted) -> Emitted
     requires { ⌜ StepPre (now words) s x ⌝ }
     ensures { λ r. ⌜ Grown (pushStep (stepOf s) (outOf (now (words .entry)) x)) x (now (words .exit)) r ⌝ }
 {
+    if (x.result == 0) & !s.is_up() {
+        return x;
+    }
     let count = x.count;
     positions::push(
         words,
@@ -56,12 +60,22 @@ fn step(words: &mut [usize], s: Step, x: Emitted) -> Emitted
     }
 }
 
-// Two results together.
+// Two results together; with nothing it is the other.
 fn union(words: &mut [usize], first: usize, y: Emitted) -> Emitted
     requires { ⌜ PairedPre (now words) first y ⌝ }
     ensures { λ r. ⌜ Grown (pushUnion first (outOf (now (words .entry)) y)) y (now (words .exit)) r ⌝ }
 {
+    if first == 0 {
+        return y;
+    }
     let count = y.count;
+    if y.result == 0 {
+        return Emitted {
+            result: first,
+            count,
+            place: y.place,
+        };
+    }
     positions::push(
         words,
         count,
@@ -79,6 +93,9 @@ fn delete(words: &mut [usize], x: Emitted) -> Emitted
     requires { ⌜ GrowPre (now words) x ⌝ }
     ensures { λ r. ⌜ Grown (pushDelete (outOf (now (words .entry)) x)) x (now (words .exit)) r ⌝ }
 {
+    if x.result == 0 {
+        return x;
+    }
     let count = x.count;
     positions::push(
         words,
@@ -97,25 +114,28 @@ fn delete(words: &mut [usize], x: Emitted) -> Emitted
     }
 }
 
+// All below a position, so marked, unless it is nothing; the positions so far.
+fn below(words: &mut [usize], count: usize, mark: usize, operand: usize) -> usize
+    requires { ⌜ BelowPre (now words) count mark operand ⌝ }
+    ensures { λ r. ⌜ BelowPost (now (words .entry)) count mark operand (now (words .exit)) r ⌝ }
+{
+    if operand == 0 {
+        return count;
+    }
+    positions::push(words, count, Position::over(mark, any_below(), operand));
+    count + 1
+}
+
 // All below the first result, accessed, and all below the second, modified; the result is nothing.
 fn insert(words: &mut [usize], first: usize, y: Emitted) -> Emitted
     requires { ⌜ PairedPre (now words) first y ⌝ }
     ensures { λ r. ⌜ Grown (pushInsert first (outOf (now (words .entry)) y)) y (now (words .exit)) r ⌝ }
 {
-    let count = y.count;
-    positions::push(
-        words,
-        count,
-        Position::over(positions::ACCESSED, any_below(), first),
-    );
-    positions::push(
-        words,
-        count + 1,
-        Position::over(positions::MODIFIED, any_below(), y.result),
-    );
+    let read = below(words, y.count, positions::ACCESSED, first);
+    let count = below(words, read, positions::MODIFIED, y.result);
     Emitted {
         result: 0,
-        count: count + 2,
+        count,
         place: y.place,
     }
 }

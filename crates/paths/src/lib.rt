@@ -64,6 +64,10 @@ pub fn analyse(first: &[u8], second: &[u8]) -> Analysis
     let n = positions_of(first, &mut words);
     let mut others = [0usize; pairs::POSITIONS];
     let m = positions_of(second, &mut others);
+    if n <= pairs::FEW {
+        let mut small = [0u8; pairs::FEW_PAIRS];
+        return answer(&words, n, &others, m, &mut small);
+    }
     let mut table = [0u8; pairs::PAIRS];
     answer(&words, n, &others, m, &mut table)
 }

@@ -1,10 +1,11 @@
 // Whether the positions of two scripts meet: fills the table of pairs row by row, each cell from those of lower pairs.
 ghost use mathlib.Core.Path.{_≡_};
-ghost use Rattle.paths.specs.Cells.{rootCell, overCell, cellBy, isTested, positionsMeet};
+ghost use Rattle.paths.specs.Cells.{fromRoot, fromStep, sourcesOf, sourcesCell, cellBy, isTested, positionsMeet};
 ghost use Rattle.paths.specs.Codes.{stepOf, cellOf};
 ghost use Rattle.paths.specs.Words.{positionBy, entryBy, stepIn};
-ghost use Rattle.paths.specs.Pairs.{cellIn};
-ghost use Rattle.paths.specs.Filling.{entriesBy, CellPre, MeetPre, MeetPost, RowPre, RowPost, TablePre};
+ghost use mathlib.Core.List.{[], _∷_};
+ghost use Rattle.paths.specs.Pairs.{marks};
+ghost use Rattle.paths.specs.Filling.{entriesBy, CellPre, FromStepPre, MeetPre, MeetPost, RowPre, RowPost, TablePre};
 use crate::cells::Cell;
 use crate::cells::Step;
 use crate::pairs;
@@ -22,60 +23,61 @@ fn step_of(p: Position) -> Step
     }
 }
 
-// From a document, number k of the first script, to q.
-fn root_cell(table: &[u8], k: usize, l: usize, p: Position, q: Position) -> Cell
+// From a document, number k of the first script, to the sources of q, number l of the second.
+fn from_root(table: &[u8], k: usize, l: usize, p: Position, q: Position) -> Cell
     requires { ⌜ CellPre (now table) k l p q ⌝ }
-    ensures { λ r. ⌜ cellOf r ≡ rootCell (p .name) k (positionBy q) (cellIn (now (table .entry))) ⌝ }
+    ensures { λ r. ⌜ cellOf r ≡ sourcesCell k l (marks (now (table .entry))) (fromRoot (p .name) ∷ []) (sourcesOf (positionBy q)) ⌝ }
 {
-    if q.kind == positions::NOWHERE {
-        return Cell::none();
-    }
     if q.kind == positions::ROOT {
         return Cell::roots(p.name, q.name);
     }
     if q.kind == positions::OVER {
-        return pairs::get(table, k, q.first).up_step(step_of(q));
+        return pairs::marked(table, k, q.first).up_step(step_of(q));
     }
-    pairs::get(table, k, q.first).join(pairs::get(table, k, q.second))
+    Cell::none()
 }
 
-// From a step, number k of the first script, to q, number l of the second.
-fn over_cell(table: &[u8], k: usize, l: usize, p: Position, q: Position) -> Cell
-    requires { ⌜ CellPre (now table) k l p q ⌝ }
-    ensures { λ r. ⌜ cellOf r ≡ overCell (stepIn p) (p .first) k l (positionBy q) (cellIn (now (table .entry))) ⌝ }
+// From a step, number k of the first script, to the sources of q, number l of the second.
+fn from_step(table: &[u8], k: usize, l: usize, p: Position, q: Position) -> Cell
+    requires { ⌜ FromStepPre (now table) k l p q ⌝ }
+    ensures { λ r. ⌜ cellOf r ≡ sourcesCell k l (marks (now (table .entry))) (fromStep (stepIn p) (p .first) ∷ []) (sourcesOf (positionBy q)) ⌝ }
 {
-    if q.kind == positions::NOWHERE {
-        return Cell::none();
-    }
     if q.kind == positions::ROOT {
-        return pairs::get(table, p.first, l).down_step(step_of(p));
+        return pairs::marked(table, p.first, l).down_step(step_of(p));
     }
     if q.kind == positions::OVER {
+        let both = pairs::marked(table, p.first, q.first);
+        let first = pairs::marked(table, p.first, l);
+        let second = pairs::marked(table, k, q.first);
+        if both.join(first.join(second)).is_none() {
+            return Cell::none();
+        }
         let s = step_of(p);
         let t = step_of(q);
-        let on = pairs::get(table, p.first, q.first).on_step(s, t);
-        let down = pairs::get(table, p.first, l).down_step(s);
-        let up = pairs::get(table, k, q.first).up_step(t);
-        return on.join(down.join(up));
+        return both.on_step(s, t)
+            .join(first.down_step(s).join(second.up_step(t)));
     }
-    pairs::get(table, k, q.first).join(pairs::get(table, k, q.second))
+    Cell::none()
 }
 
-// The cell of p, number k of the first script, and q, number l of the second.
+// The cell of p, number k of the first script, and q, number l of the second: a union's from its parts, any other's from its source.
 fn cell(table: &[u8], k: usize, l: usize, p: Position, q: Position) -> Cell
     requires { ⌜ CellPre (now table) k l p q ⌝ }
-    ensures { λ r. ⌜ cellOf r ≡ cellBy k l (positionBy p) (positionBy q) (cellIn (now (table .entry))) ⌝ }
+    ensures { λ r. ⌜ cellOf r ≡ cellBy k l (marks (now (table .entry))) (positionBy p) (positionBy q) ⌝ }
 {
-    if p.kind == positions::NOWHERE {
-        return Cell::none();
+    if p.kind == positions::UNION {
+        return pairs::marked(table, p.first, l).join(pairs::marked(table, p.second, l));
+    }
+    if q.kind == positions::UNION {
+        return pairs::marked(table, k, q.first).join(pairs::marked(table, k, q.second));
     }
     if p.kind == positions::ROOT {
-        return root_cell(table, k, l, p, q);
+        return from_root(table, k, l, p, q);
     }
     if p.kind == positions::OVER {
-        return over_cell(table, k, l, p, q);
+        return from_step(table, k, l, p, q);
     }
-    pairs::get(table, p.first, l).join(pairs::get(table, p.second, l))
+    Cell::none()
 }
 
 // One of the two is modified, the other accessed.
@@ -86,30 +88,38 @@ fn is_tested(p: Position, q: Position) -> bool
         | ((p.mark == positions::ACCESSED) & (q.mark == positions::MODIFIED))
 }
 
-// Fills in the pair k, l, and says whether it meets.
-fn pair(first: &[usize], second: &[usize], table: &mut [u8], k: usize, l: usize) -> bool
-    requires { ⌜ MeetPre (now first) (now second) (now table) k l ⌝ }
+// Fills in the pair k, l, p being position k, and says whether it meets.
+fn pair(
+    first: &[usize],
+    second: &[usize],
+    table: &mut [u8],
+    k: usize,
+    l: usize,
+    p: Position,
+) -> bool
+    requires { ⌜ MeetPre (now first) (now second) (now table) k l p ⌝ }
     ensures { λ r. ⌜ MeetPost (now (first .entry)) (now (second .entry)) k l (now (table .exit)) r ⌝ }
 {
-    let p = Position::unpacked(first[k]);
     let q = Position::unpacked(second[l]);
     let c = cell(table, k, l, p, q);
-    pairs::set(table, k, l, c);
+    pairs::mark(table, k, l, c);
     is_tested(p, q) & c.is_met()
 }
 
-// Fills in row k, and says whether one of its pairs meets.
+// Fills in row k up to a pair that meets, and says whether there is one.
 fn row(first: &[usize], second: &[usize], table: &mut [u8], k: usize) -> bool
     requires { ⌜ RowPre (now first) (now second) (now table) k ⌝ }
     ensures { λ r. ⌜ RowPost (now (first .entry)) (now (second .entry)) k (now (table .exit)) r ⌝ }
 {
-    let mut met = false;
+    let p = Position::unpacked(first[k]);
     let mut l = 0;
     while l < second.len() {
-        met = met | pair(first, second, table, k, l);
+        if pair(first, second, table, k, l, p) {
+            return true;
+        }
         l += 1;
     }
-    met
+    false
 }
 
 // Some position that one script modifies meets one that the other accesses.
@@ -117,11 +127,13 @@ pub fn positions_meet(first: &[usize], second: &[usize], table: &mut [u8]) -> bo
     requires { ⌜ TablePre (now first) (now second) (now table) ⌝ }
     ensures { λ r. ⌜ r ≡ positionsMeet (entriesBy (now (first .entry))) (entriesBy (now (second .entry))) ⌝ }
 {
-    let mut met = false;
+    pairs::clear(table, first.len());
     let mut k = 0;
     while k < first.len() {
-        met = met | row(first, second, table, k);
+        if row(first, second, table, k) {
+            return true;
+        }
         k += 1;
     }
-    met
+    false
 }

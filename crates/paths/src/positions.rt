@@ -3,6 +3,7 @@ ghost use mathlib.Core.Path.{_≡_};
 ghost use Rattle.paths.specs.Positions.{isClimb};
 ghost use Rattle.paths.specs.Filling.{climbing};
 ghost use Rattle.paths.specs.Words.{positionBy, rootBy, overBy, unionBy, wordOf, fieldsOf, PositionFits, PushPre, PushPost};
+use crate::cells;
 use crate::cells::Step;
 
 // Kinds.
@@ -20,9 +21,6 @@ pub const PLAIN: usize = 0;
 pub const ACCESSED: usize = 1;
 
 pub const MODIFIED: usize = 2;
-
-// The first of the two axes that lead up.
-const PARENT: usize = 2;
 
 // The fields of a position; those that its kind does not have are 0.
 pub struct Position {
@@ -85,7 +83,7 @@ impl Position {
     fn is_climb(self) -> bool
         ensures { λ r. ⌜ r ≡ isClimb (positionBy self) ⌝ }
     {
-        (self.kind == OVER) & (PARENT <= self.axis)
+        (self.kind == OVER) & (cells::PARENT <= self.axis)
     }
 
     // Each field in its bits.
@@ -130,11 +128,12 @@ pub fn push(words: &mut [usize], count: usize, p: Position)
 pub fn climbs(words: &[usize]) -> bool
     ensures { λ r. ⌜ r ≡ climbing (now (words .entry)) ⌝ }
 {
-    let mut found = false;
     let mut i = 0;
     while i < words.len() {
-        found = found | Position::unpacked(words[i]).is_climb();
+        if Position::unpacked(words[i]).is_climb() {
+            return true;
+        }
         i += 1;
     }
-    found
+    false
 }

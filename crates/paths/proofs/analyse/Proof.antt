@@ -1,8 +1,9 @@
 -- `analyse` answers what the model does: one law of AnalysisLaws for each way out.
 use mathlib.Core.Path.{_≡_, refl, ap, sym, _∙_}
 use Rattle.table.specs.declared.Fault.{Fault}
-use Rattle.script.specs.Walk.{exprAt}
-use Rattle.paths.proofs.AnalysisLaws.{entries-lower, first-refused, second-refused, both-accepted}
+use Rattle.paths.proofs.AnalysisLaws.{answer-asks, first-refused, second-refused, both-accepted}
+use native.Mathlib.Omega.{arith}
+use Rattle.paths.proofs.PairLaws.{has-rows}
 use borrow.Author.Needs.{needs}
 use Rattle.paths.proofs.analyse.Statement.{statement}
 use Rattle.paths.proofs.analyse.Tie as tie
@@ -62,38 +63,35 @@ slice-aggregate-answer-3 : tie.Need-slice-aggregate-answer-3
 slice-aggregate-answer-3 c = search needs
 
 answer-requires : tie.Need-answer-requires
-answer-requires c κs =
-    let c4 = c .before .before .before .before in
-    let c7 = c4 .before .before .before in
-    let c17 = c7 .before .before .before .before .before .before .before .before .before .before in
-    record {
-      first = c7 .positions-of .ensures .size;
-      firstFew = c7 .positions-of .ensures .few;
-      firstLower =
-          entries-lower (c7 .positions-of .last .1 .0) (c7 .positions-of .result) (exprAt 16 (c17 .args .first .now) 0)
-          (c7 .positions-of .ensures .entries);
-      second = c4 .positions-of2 .ensures .size;
-      secondFew = c4 .positions-of2 .ensures .few;
-      secondLower =
-          entries-lower (c4 .positions-of2 .last .1 .0) (c4 .positions-of2 .result) (exprAt 16 (c17 .args .second .now) 0)
-          (c4 .positions-of2 .ensures .entries);
-      table = refl;
-    }
+answer-requires c κs = answer-asks (c .before .before .before .before .before .before .before .before .before .before .before .before .before .before .before .before .before .before .args .first .now) (c .before .before .before .before .before .before .before .before .before .before .before .before .before .before .before .before .before .before .args .second .now) (c .before .before .before .before .before .before .before .before .positions-of .ensures) (c .before .before .before .before .before .positions-of2 .ensures) _ (has-rows _ _ (omega (arith, c .before .before .before .if3 .taken)))
 
 returns-3 : tie.Need-returns-3
 returns-3 c =
-    let c6 = c .before .before .before .before .before .before in
-    let c9 = c6 .before .before .before in
-    let c11 = c9 .before .before in
-    let c13 = c11 .before .before in
-    let c14 = c13 .before in
-    let c16 = c14 .before .before in
-    let c19 = c16 .before .before .before in
-    let zero : c16 .read-script .result .number ≡ 0 = search (c14 .if1 .left, needs) in
-    let zero2 : c13 .read-script2 .result .number ≡ 0 = search (c11 .if2 .left, needs) in
-    both-accepted (c19 .args .first .now) (c19 .args .second .now) (sym (ap (λ (x : Fault). x .number) (c16 .read-script .ensures)) ∙ zero)
-    (sym (ap (λ (x : Fault). x .number) (c13 .read-script2 .ensures)) ∙ zero2) (c9 .positions-of .ensures) (c6 .positions-of2 .ensures)
+    let zero : c .before .before .before .before .before .before .before .before .before .before .before .before .before .before .before .before .before .read-script .result .number ≡ 0 = search (c .before .before .before .before .before .before .before .before .before .before .before .before .before .before .before .if1 .left, needs) in
+    let zero2 : c .before .before .before .before .before .before .before .before .before .before .before .before .before .before .read-script2 .result .number ≡ 0 = search (c .before .before .before .before .before .before .before .before .before .before .before .before .if2 .left, needs) in
+    both-accepted (c .before .before .before .before .before .before .before .before .before .before .before .before .before .before .before .before .before .before .before .before .args .first .now) (c .before .before .before .before .before .before .before .before .before .before .before .before .before .before .before .before .before .before .before .before .args .second .now) (sym (ap (λ (x : Fault). x .number) (c .before .before .before .before .before .before .before .before .before .before .before .before .before .before .before .before .before .read-script .ensures)) ∙ zero)
+    (sym (ap (λ (x : Fault). x .number) (c .before .before .before .before .before .before .before .before .before .before .before .before .before .before .read-script2 .ensures)) ∙ zero2) (c .before .before .before .before .before .before .before .before .before .before .positions-of .ensures) (c .before .before .before .before .before .before .before .positions-of2 .ensures)
     (c .before .answer .ensures)
+
+slice-aggregate-answer-4 : tie.Need-slice-aggregate-answer-4
+slice-aggregate-answer-4 c = search needs
+
+slice-aggregate-answer-5 : tie.Need-slice-aggregate-answer-5
+slice-aggregate-answer-5 c = search needs
+
+slice-aggregate-answer-6 : tie.Need-slice-aggregate-answer-6
+slice-aggregate-answer-6 c = search needs
+
+answer-requires-2 : tie.Need-answer-requires-2
+answer-requires-2 c κs = answer-asks (c .before .before .before .before .before .before .before .before .before .before .before .before .before .before .before .before .before .before .args .first .now) (c .before .before .before .before .before .before .before .before .before .before .before .before .before .before .before .before .before .before .args .second .now) (c .before .before .before .before .before .before .before .before .positions-of .ensures) (c .before .before .before .before .before .positions-of2 .ensures) _ (has-rows _ _ (omega (arith, c .before .before .before .before .before .before .before .before .positions-of .ensures .few)))
+
+returns-4 : tie.Need-returns-4
+returns-4 c =
+    let zero : c .before .before .before .before .before .before .before .before .before .before .before .before .before .before .before .before .before .read-script .result .number ≡ 0 = search (c .before .before .before .before .before .before .before .before .before .before .before .before .before .before .before .if1 .left, needs) in
+    let zero2 : c .before .before .before .before .before .before .before .before .before .before .before .before .before .before .read-script2 .result .number ≡ 0 = search (c .before .before .before .before .before .before .before .before .before .before .before .before .if2 .left, needs) in
+    both-accepted (c .before .before .before .before .before .before .before .before .before .before .before .before .before .before .before .before .before .before .before .before .args .first .now) (c .before .before .before .before .before .before .before .before .before .before .before .before .before .before .before .before .before .before .before .before .args .second .now) (sym (ap (λ (x : Fault). x .number) (c .before .before .before .before .before .before .before .before .before .before .before .before .before .before .before .before .before .read-script .ensures)) ∙ zero)
+    (sym (ap (λ (x : Fault). x .number) (c .before .before .before .before .before .before .before .before .before .before .before .before .before .before .read-script2 .ensures)) ∙ zero2) (c .before .before .before .before .before .before .before .before .before .before .positions-of .ensures) (c .before .before .before .before .before .before .before .positions-of2 .ensures)
+    (c .before .answer2 .ensures)
 
 pub analyse-spec : {M : Type 1} → statement M
 analyse-spec =
@@ -111,4 +109,9 @@ analyse-spec =
     slice-aggregate-answer-2
     slice-aggregate-answer-3
     answer-requires
-    returns-3)
+    returns-3
+    slice-aggregate-answer-4
+    slice-aggregate-answer-5
+    slice-aggregate-answer-6
+    answer-requires-2
+    returns-4)

@@ -1,35 +1,32 @@
--- `emit::union` pushes the entry of two results.
+-- `emit::union` pushes the entry of two results, unless one is nothing.
 use native.Mathlib.Omega.{arith}
-use Rattle.paths.proofs.GrowLaws.{union-fits, union-grown}
+use Rattle.paths.proofs.GrowLaws.{union-fits, union-first, union-second, union-grown}
 use borrow.Author.Needs.{needs}
 use Rattle.paths.proofs.emit.union.Statement.{statement}
 use Rattle.paths.proofs.emit.union.Tie as tie
+
+returns : tie.Need-returns
+returns c = union-first (c .before .before .args .words .now) (c .before .before .args .y) (c .before .before .pre .grow) (c .before .before .args .first) (c .if1 .taken)
+
+returns-2 : tie.Need-returns-2
+returns-2 c = union-second (c .before .before .before .before .args .words .now) (c .before .before .before .before .args .y) (c .before .before .before .before .pre .grow) (c .before .before .before .before .args .first) (c .before .before .before .before .pre .low) (c .before .before .if1 .left) (c .if2 .taken)
 
 union-requires : tie.Need-union-requires
 union-requires c κs = search needs
 
 push-requires : tie.Need-push-requires
-push-requires c κs =
-    let c3 = c .before .before .before in
-    record {
-      room = omega (arith, c3 .pre .grow .size, c3 .pre .grow .room);
-      fits = union-fits (c .union .result) 0 (c3 .args .first) (c3 .args .y .result) (c .union .ensures) (omega arith)
-          (omega (arith, c3 .pre .low, c3 .pre .grow .room)) (omega (arith, c3 .pre .grow .low, c3 .pre .grow .room));
-    }
+push-requires c κs = record { room = omega (arith, c .before .before .before .before .before .before .pre .grow .size, c .before .before .before .before .before .before .pre .grow .room); fits = union-fits (c .union .result) 0 (c .before .before .before .before .before .before .args .first) (c .before .before .before .before .before .before .args .y .result) (c .union .ensures) (omega arith) (omega (arith, c .before .before .before .before .before .before .pre .low, c .before .before .before .before .before .before .pre .grow .room)) (omega (arith, c .before .before .before .before .before .before .pre .grow .low, c .before .before .before .before .before .before .pre .grow .room)) }
 
-add-t9 : tie.Need-add-t9
-add-t9 c = search needs
+add-t10 : tie.Need-add-t10
+add-t10 c = search needs
 
 same-length : tie.Need-same-length
 same-length c = search needs
 
-returns : tie.Need-returns
-returns c =
-    let c2 = c .before .before in
-    let c3 = c2 .before in
-    let c6 = c3 .before .before .before in
-    union-grown (c6 .args .words .now) (c2 .push .last .0) (c6 .args .y) (c6 .pre .grow) (c3 .union .result) (c6 .args .first)
-    (c3 .union .ensures) (c2 .push .ensures)
+returns-3 : tie.Need-returns-3
+returns-3 c = union-grown (c .before .before .before .before .before .before .before .before .before .args .words .now) (c .before .before .push .last .0) (c .before .before .before .before .before .before .before .before .before .args .y) (c .before .before .before .before .before .before .before .before .before .pre .grow) (c .before .before .before .union .result) (c .before .before .before .before .before .before .before .before .before .args .first) (c .before .before .before .before .before .before .before .if1 .left) (c .before .before .before .before .before .if2 .left) (c .before .before .before .union .ensures) (c .before .before .push .ensures)
 
 pub union-spec : {M : Type 1} → statement M
-union-spec = tie.close (tie.spec union-requires push-requires add-t9 same-length returns)
+union-spec =
+    tie.close
+    (tie.spec returns returns-2 union-requires push-requires add-t10 same-length returns-3)

@@ -1,69 +1,70 @@
--- `meet::cell` by the first position's kind: one law of FillLaws for each way out.
+-- `meet::cell`: a union's cell from its parts, any other's from its source. One law of FillLaws for each way out.
+use native.Mathlib.Omega.{arith}
 use Rattle.paths.specs.Codes.{cellOf}
-use Rattle.paths.specs.Pairs.{cellIn}
-use Rattle.paths.proofs.FillLaws.{by-nowhere, by-root, by-over, by-union}
+use Rattle.paths.specs.Pairs.{marks}
+use Rattle.paths.proofs.FillLaws.{over-lower, union-lower, row-asks, lower-asks}
+use Rattle.paths.proofs.FillLaws.{first-union, second-union, first-root, first-step, first-nowhere}
 use borrow.Author.Needs.{needs}
 use Rattle.paths.proofs.meet.cell.Statement.{statement}
 use Rattle.paths.proofs.meet.cell.Tie as tie
 
-none-requires : tie.Need-none-requires
-none-requires c κs = search needs
+marked-requires : tie.Need-marked-requires
+marked-requires c κs = lower-asks (c .before .before .before .args .table .now) (c .before .before .before .args .k) (c .before .before .before .args .l) (c .before .before .before .args .p) (c .before .before .before .args .q) (c .before .before .before .pre) (c .before .before .before .args .p .first) (c .before .before .before .args .l) (union-lower (c .before .before .before .args .p) (c .before .before .before .args .k) (c .before .before .before .pre .first) (c .if1 .taken) .0) (omega arith)
 
-returns : tie.Need-returns
-returns c =
-    let c4 = c .before .before .before .before in
-    by-nowhere (cellIn (c4 .args .table .now)) (c4 .args .k) (c4 .args .l) (c4 .args .p) (c4 .args .q) (cellOf (c .none .result))
-    (c .before .if1 .taken) (c .none .ensures)
-
-root-cell-requires : tie.Need-root-cell-requires
-root-cell-requires c κs = search needs
-
-returns-2 : tie.Need-returns-2
-returns-2 c =
-    let c6 = c .before .before .before .before .before .before in
-    by-root (cellIn (c6 .args .table .now)) (c6 .args .k) (c6 .args .l) (c6 .args .p) (c6 .args .q) (cellOf (c .root-cell .result))
-    (c .before .if2 .taken) (c .root-cell .ensures)
-
-over-cell-requires : tie.Need-over-cell-requires
-over-cell-requires c κs = search needs
-
-returns-3 : tie.Need-returns-3
-returns-3 c =
-    let c8 = c .before .before .before .before .before .before .before .before in
-    by-over (cellIn (c8 .args .table .now)) (c8 .args .k) (c8 .args .l) (c8 .args .p) (c8 .args .q) (cellOf (c .over-cell .result))
-    (c .before .if3 .taken) (c .over-cell .ensures)
-
-get-requires : tie.Need-get-requires
-get-requires c κs = search needs
-
-get-requires-2 : tie.Need-get-requires-2
-get-requires-2 c κs = search needs
+marked-requires-2 : tie.Need-marked-requires-2
+marked-requires-2 c κs = lower-asks (c .before .before .before .before .args .table .now) (c .before .before .before .before .args .k) (c .before .before .before .before .args .l) (c .before .before .before .before .args .p) (c .before .before .before .before .args .q) (c .before .before .before .before .pre) (c .before .before .before .before .args .p .second) (c .before .before .before .before .args .l) (union-lower (c .before .before .before .before .args .p) (c .before .before .before .before .args .k) (c .before .before .before .before .pre .first) (c .before .if1 .taken) .1) (omega arith)
 
 join-requires : tie.Need-join-requires
 join-requires c κs = search needs
 
+returns : tie.Need-returns
+returns c = first-union (marks (c .before .before .before .before .before .before .args .table .now)) (c .before .before .before .before .before .before .args .k) (c .before .before .before .before .before .before .args .l) (c .before .before .before .before .before .before .args .p) (c .before .before .before .before .before .before .args .q) (cellOf (c .join .result)) (c .before .before .before .if1 .taken) (cellOf (c .before .before .marked .result)) (cellOf (c .before .marked2 .result)) (c .join .ensures) (c .before .before .marked .ensures) (c .before .marked2 .ensures)
+
+marked-requires-3 : tie.Need-marked-requires-3
+marked-requires-3 c κs = row-asks (c .before .before .before .before .before .args .table .now) (c .before .before .before .before .before .args .k) (c .before .before .before .before .before .args .l) (c .before .before .before .before .before .args .p) (c .before .before .before .before .before .args .q) (c .before .before .before .before .before .pre) (c .before .before .before .before .before .args .q .first) (union-lower (c .before .before .before .before .before .args .q) (c .before .before .before .before .before .args .l) (c .before .before .before .before .before .pre .second) (c .if2 .taken) .0)
+
+marked-requires-4 : tie.Need-marked-requires-4
+marked-requires-4 c κs = row-asks (c .before .before .before .before .before .before .args .table .now) (c .before .before .before .before .before .before .args .k) (c .before .before .before .before .before .before .args .l) (c .before .before .before .before .before .before .args .p) (c .before .before .before .before .before .before .args .q) (c .before .before .before .before .before .before .pre) (c .before .before .before .before .before .before .args .q .second) (union-lower (c .before .before .before .before .before .before .args .q) (c .before .before .before .before .before .before .args .l) (c .before .before .before .before .before .before .pre .second) (c .before .if2 .taken) .1)
+
+join-requires-2 : tie.Need-join-requires-2
+join-requires-2 c κs = search needs
+
+returns-2 : tie.Need-returns-2
+returns-2 c = second-union (marks (c .before .before .before .before .before .before .before .before .args .table .now)) (c .before .before .before .before .before .before .before .before .args .k) (c .before .before .before .before .before .before .before .before .args .l) (c .before .before .before .before .before .before .before .before .args .p) (c .before .before .before .before .before .before .before .before .args .q) (cellOf (c .join2 .result)) (c .before .before .before .before .before .before .before .before .pre .firstKind) (c .before .before .before .before .before .if1 .left) (c .before .before .before .if2 .taken) (cellOf (c .before .before .marked3 .result)) (cellOf (c .before .marked4 .result)) (c .join2 .ensures) (c .before .before .marked3 .ensures) (c .before .marked4 .ensures)
+
+from-root-requires : tie.Need-from-root-requires
+from-root-requires c κs = search needs
+
+returns-3 : tie.Need-returns-3
+returns-3 c = first-root (marks (c .before .before .before .before .before .before .before .before .args .table .now)) (c .before .before .before .before .before .before .before .before .args .k) (c .before .before .before .before .before .before .before .before .args .l) (c .before .before .before .before .before .before .before .before .args .p) (c .before .before .before .before .before .before .before .before .args .q) (cellOf (c .from-root .result)) (c .before .before .before .before .before .before .before .before .pre .firstKind) (c .before .before .before .before .before .if1 .left) (c .before .before .before .before .before .before .before .before .pre .secondKind) (c .before .before .before .if2 .left) (c .before .if3 .taken) (c .from-root .ensures)
+
+from-step-requires : tie.Need-from-step-requires
+from-step-requires c κs = record { pair = c .before .before .before .before .before .before .before .before .before .pre; operand = over-lower (c .before .before .before .before .before .before .before .before .before .args .p) (c .before .before .before .before .before .before .before .before .before .args .k) (c .before .before .before .before .before .before .before .before .before .pre .first) (c .if4 .taken) }
+
 returns-4 : tie.Need-returns-4
-returns-4 c =
-    let c2 = c .before .before in
-    let c3 = c2 .before in
-    let c5 = c3 .before .before in
-    let c7 = c5 .before .before in
-    let c10 = c7 .before .before .before in
-    by-union (cellIn (c10 .args .table .now)) (c10 .args .k) (c10 .args .l) (c10 .args .p) (c10 .args .q) (cellOf (c .join .result))
-    (c7 .if1 .left) (c5 .if2 .left) (c3 .if3 .left) (cellOf (c2 .get .result)) (cellOf (c .before .get2 .result))
-    (c .join .ensures) (c2 .get .ensures) (c .before .get2 .ensures)
+returns-4 c = first-step (marks (c .before .before .before .before .before .before .before .before .before .before .args .table .now)) (c .before .before .before .before .before .before .before .before .before .before .args .k) (c .before .before .before .before .before .before .before .before .before .before .args .l) (c .before .before .before .before .before .before .before .before .before .before .args .p) (c .before .before .before .before .before .before .before .before .before .before .args .q) (cellOf (c .from-step .result)) (c .before .before .before .before .before .before .before .before .before .before .pre .firstKind) (c .before .before .before .before .before .before .before .if1 .left) (c .before .before .before .before .before .before .before .before .before .before .pre .secondKind) (c .before .before .before .before .before .if2 .left) (c .before .if4 .taken) (c .from-step .ensures)
+
+none-requires : tie.Need-none-requires
+none-requires c κs = search needs
+
+returns-5 : tie.Need-returns-5
+returns-5 c = first-nowhere (marks (c .before .before .before .before .before .before .before .before .before .before .args .table .now)) (c .before .before .before .before .before .before .before .before .before .before .args .k) (c .before .before .before .before .before .before .before .before .before .before .args .l) (c .before .before .before .before .before .before .before .before .before .before .args .p) (c .before .before .before .before .before .before .before .before .before .before .args .q) (cellOf (c .none .result)) (c .before .before .before .before .before .before .before .before .before .before .pre .firstKind) (c .before .before .before .before .before .before .before .if1 .left) (c .before .before .before .before .before .before .before .before .before .before .pre .secondKind) (c .before .before .before .before .before .if2 .left) (c .before .before .before .if3 .left) (c .before .if4 .left) (c .none .ensures)
 
 pub cell-spec : {M : Type 1} → statement M
 cell-spec =
     tie.close
     (tie.spec
-    none-requires
-    returns
-    root-cell-requires
-    returns-2
-    over-cell-requires
-    returns-3
-    get-requires
-    get-requires-2
+    marked-requires
+    marked-requires-2
     join-requires
-    returns-4)
+    returns
+    marked-requires-3
+    marked-requires-4
+    join-requires-2
+    returns-2
+    from-root-requires
+    returns-3
+    from-step-requires
+    returns-4
+    none-requires
+    returns-5)

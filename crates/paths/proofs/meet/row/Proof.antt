@@ -1,46 +1,44 @@
--- `meet::row` fills in a row. The invariant: the row is filled up to l, and one of the pairs so far meets or none.
-use mathlib.Core.Path.{_≡_, refl}
+-- `meet::row`. The invariant: the row is filled up to l, and none of its pairs so far meets.
+use mathlib.Core.Path.{_≡_, refl, ap, sym, _∙_}
+use mathlib.Core.Bool.{false, true≢false}
 use Prim.Native.Nat.{_-_, _≤_}
 use native.Mathlib.Omega.{arith}
-use lib.ListN.{length}
+use lib.ListN.{length, length-map}
 use Rattle.paths.specs.Cells.{Filled, meetAt, rowMeets}
-use Rattle.paths.specs.Pairs.{cellIn}
+use Rattle.paths.specs.Words.{entryOf}
+use Rattle.paths.specs.Pairs.{marks, HasRows}
 use Rattle.paths.specs.Filling.{entriesBy}
-use Rattle.paths.proofs.FillLaws.{any-none, any-next, row-done}
+use Rattle.paths.proofs.FillLaws.{any-none, any-next, any-found, row-filled}
 use borrow.Author.Needs.{needs}
 use Rattle.paths.proofs.meet.row.Statement.{statement}
 use Rattle.paths.proofs.meet.row.Tie as tie
 
 abbrev Inv-loop : tie.InvT-loop
-Inv-loop first second table₀ k met₀ l₀ table met l =
-    (l ≤ length second) × (length table ≡ 16384) × Filled (entriesBy first) (entriesBy second) k l (cellIn table) ×
-    (met ≡ rowMeets (entriesBy first) (entriesBy second) k l)
+Inv-loop first second table₀ k p l₀ table l = (l ≤ length second) × (length table ≡ length table₀) × HasRows table (length first) × Filled (entriesBy first) (entriesBy second) k l (marks table) × (rowMeets (entriesBy first) (entriesBy second) k l ≡ false)
 
 abbrev μ-loop : tie.MeasureT-loop
-μ-loop first second table₀ k met₀ l₀ table met l = length second - l
+μ-loop first second table₀ k p l₀ table l = length second - l
+
+mul-unpacked : tie.Need-mul-unpacked Inv-loop μ-loop
+mul-unpacked c = search needs
+
+shared-slice-read-unpacked : tie.Need-shared-slice-read-unpacked Inv-loop μ-loop
+shared-slice-read-unpacked c = search needs
+
+unpacked-requires : tie.Need-unpacked-requires Inv-loop μ-loop
+unpacked-requires c κs = search needs
 
 loop-holds : tie.Need-loop-holds Inv-loop μ-loop
-loop-holds c =
-    let c3 = c .before .before .before in (
-      omega arith,
-      c3 .pre .size,
-      c3 .pre .filled,
-      any-none
-          (meetAt (entriesBy (c3 .args .first .now)) (entriesBy (c3 .args .second .now)) (c3 .args .k)),
-    )
+loop-holds c = (omega arith, refl, c .before .before .before .before .before .pre .room, c .before .before .before .before .before .pre .filled, any-none (meetAt (entriesBy (c .before .before .before .before .before .args .first .now)) (entriesBy (c .before .before .before .before .before .args .second .now)) (c .before .before .before .before .before .args .k)))
 
 pair-requires : tie.Need-pair-requires Inv-loop μ-loop
-pair-requires c κs =
-    let c2 = c .before .before in
-    let c6 = c2 .before .before .before .before in
-    record {
-      first = c6 .pre .first;
-      second = c6 .pre .second;
-      size = c2 .loop .inv .1;
-      row = c6 .pre .row;
-      column = c .before .loop-test .taken;
-      filled = c2 .loop .inv .2;
-    }
+pair-requires c κs = record { first = c .before .before .before .before .before .before .before .before .pre .first; second = c .before .before .before .before .before .before .before .before .pre .second; room = c .before .before .loop .inv .2; row = c .before .before .before .before .before .before .before .before .pre .row; column = c .before .loop-test .taken; position = c .before .before .before .unpacked .ensures; filled = c .before .before .loop .inv .3 }
+
+same-length : tie.Need-same-length Inv-loop μ-loop
+same-length c = c .before .before .before .pair .kept .1 .1 .0 ∙ c .before .before .before .before .before .before .loop .inv .1
+
+returns : tie.Need-returns Inv-loop μ-loop
+returns c = record { room = c .before .before .before .pair .ensures .room; filled = λ e. absurd (true≢false e); met = any-found (meetAt (entriesBy (c .before .before .before .before .before .before .before .before .before .before .before .before .args .first .now)) (entriesBy (c .before .before .before .before .before .before .before .before .before .before .before .before .args .second .now)) (c .before .before .before .before .before .before .before .before .before .before .before .before .args .k)) (c .before .before .before .before .before .before .loop .l) (length (entriesBy (c .before .before .before .before .before .before .before .before .before .before .before .before .args .second .now))) (omega (arith, length-map (c .before .before .before .before .before .before .before .before .before .before .before .before .args .second .now) entryOf)) (sym (c .before .before .before .pair .ensures .met) ∙ c .if1 .taken) }
 
 add-l : tie.Need-add-l Inv-loop μ-loop
 add-l c = search needs
@@ -49,27 +47,13 @@ loop-less : tie.Need-loop-less Inv-loop μ-loop
 loop-less c = search needs
 
 loop-again : tie.Need-loop-again Inv-loop μ-loop
-loop-again c =
-    let c2 = c .before .before in
-    let c5 = c2 .before .before .before in
-    let c9 = c5 .before .before .before .before in (
-      omega arith,
-      c2 .pair .ensures .size,
-      c2 .pair .ensures .filled,
-      any-next (meetAt (entriesBy (c9 .args .first .now)) (entriesBy (c9 .args .second .now)) (c9 .args .k)) (c5 .loop .l) (c5 .loop .met)
-          (c2 .pair .result) _
-          (c5 .loop .inv .3) (c2 .pair .ensures .met) refl,
-    )
+loop-again c = (omega arith, c .before .before .before .pair .kept .1 .1 .0 ∙ c .before .before .before .before .before .before .loop .inv .1, c .before .before .before .pair .ensures .room, c .before .before .before .pair .ensures .filled, any-next (meetAt (entriesBy (c .before .before .before .before .before .before .before .before .before .before .before .before .args .first .now)) (entriesBy (c .before .before .before .before .before .before .before .before .before .before .before .before .args .second .now)) (c .before .before .before .before .before .before .before .before .before .before .before .before .args .k)) (c .before .before .before .before .before .before .loop .l) (c .before .before .before .pair .result) (c .before .before .before .before .before .before .loop .inv .4) (c .before .before .before .pair .ensures .met) (c .if1 .left))
 
-same-length : tie.Need-same-length Inv-loop μ-loop
-same-length c = search needs
+same-length-2 : tie.Need-same-length-2 Inv-loop μ-loop
+same-length-2 c = c .before .loop .inv .1
 
-returns : tie.Need-returns Inv-loop μ-loop
-returns c =
-    let c5 = c .before .before .before .before .before in
-    let e : length (c5 .args .second .now) ≡ c .before .loop .l = omega (arith, c .before .loop .inv .0) in
-    row-done (c5 .args .first .now) (c5 .args .second .now) (c .before .loop .table) (c5 .args .k) (c .before .loop .l)
-    (c .before .loop .met) (c .before .loop .inv .1) e (c .before .loop .inv .2) (c .before .loop .inv .3)
+returns-2 : tie.Need-returns-2 Inv-loop μ-loop
+returns-2 c = let e : length (c .before .before .before .before .before .before .before .args .second .now) ≡ c .before .loop .l = omega (arith, c .before .loop .inv .0) in record { room = c .before .loop .inv .2; filled = λ q. row-filled (c .before .before .before .before .before .before .before .args .first .now) (c .before .before .before .before .before .before .before .args .second .now) (c .before .loop .table) (c .before .before .before .before .before .before .before .args .k) (c .before .loop .l) e (c .before .loop .inv .3); met = sym (ap (rowMeets (entriesBy (c .before .before .before .before .before .before .before .args .first .now)) (entriesBy (c .before .before .before .before .before .before .before .args .second .now)) (c .before .before .before .before .before .before .before .args .k)) (length-map (c .before .before .before .before .before .before .before .args .second .now) entryOf ∙ e) ∙ c .before .loop .inv .4) }
 
 pub row-spec : {M : Type 1} → statement M
 row-spec =
@@ -77,10 +61,15 @@ row-spec =
     (tie.spec
     Inv-loop
     μ-loop
+    mul-unpacked
+    shared-slice-read-unpacked
+    unpacked-requires
     loop-holds
     pair-requires
+    same-length
+    returns
     add-l
     loop-less
     loop-again
-    same-length
-    returns)
+    same-length-2
+    returns-2)

@@ -1,21 +1,22 @@
--- `positions::climbs`. The invariant: one of the positions below i leads up or none.
-use mathlib.Core.Path.{_≡_, refl, ap, _∙_}
+-- `positions::climbs`. The invariant: none of the positions below i leads up.
+use mathlib.Core.Path.{_≡_, ap, sym, _∙_}
+use mathlib.Core.Bool.{false}
 use Prim.Native.Nat.{_-_, _≤_}
 use native.Mathlib.Omega.{arith}
 use lib.ListN.{length}
 use Rattle.paths.specs.Cells.{anyUpTo}
 use Rattle.paths.specs.Filling.{climbAt}
 use Rattle.paths.proofs.ClimbLaws.{climb-at}
-use Rattle.paths.proofs.FillLaws.{any-none, any-next}
+use Rattle.paths.proofs.FillLaws.{any-none, any-next, any-found}
 use borrow.Author.Needs.{needs}
 use Rattle.paths.proofs.positions.climbs.Statement.{statement}
 use Rattle.paths.proofs.positions.climbs.Tie as tie
 
 abbrev Inv-loop : tie.InvT-loop
-Inv-loop words found₀ i₀ found i = (i ≤ length words) × (found ≡ anyUpTo (climbAt words) i)
+Inv-loop words i₀ i = (i ≤ length words) × (anyUpTo (climbAt words) i ≡ false)
 
 abbrev μ-loop : tie.MeasureT-loop
-μ-loop words found₀ i₀ found i = length words - i
+μ-loop words i₀ i = length words - i
 
 loop-holds : tie.Need-loop-holds Inv-loop μ-loop
 loop-holds c = (omega arith, any-none (climbAt (c .before .args .words .now)))
@@ -32,6 +33,9 @@ unpacked-requires c κs = search needs
 is-climb-requires : tie.Need-is-climb-requires Inv-loop μ-loop
 is-climb-requires c κs = search needs
 
+returns : tie.Need-returns Inv-loop μ-loop
+returns c = any-found (climbAt (c .before .before .before .before .before .before .before .args .words .now)) (c .before .before .before .before .before .loop .i) (length (c .before .before .before .before .before .before .before .args .words .now)) (omega arith) (sym (climb-at (c .before .before .before .before .before .before .before .args .words .now) (c .before .before .before .before .before .loop .i) (c .before .before .unpacked .result) (c .before .is-climb .result) (c .before .before .unpacked .ensures) (c .before .is-climb .ensures)) ∙ c .if1 .taken)
+
 add-i : tie.Need-add-i Inv-loop μ-loop
 add-i c = search needs
 
@@ -39,20 +43,10 @@ loop-less : tie.Need-loop-less Inv-loop μ-loop
 loop-less c = search needs
 
 loop-again : tie.Need-loop-again Inv-loop μ-loop
-loop-again c =
-    let c4 = c .before .before .before .before in
-    let c6 = c4 .before .before in (
-      omega arith,
-      any-next (climbAt (c6 .args .words .now)) (c4 .loop .i) (c4 .loop .found) (c .is-climb .result) _ (c4 .loop .inv .1)
-          (climb-at (c6 .args .words .now) (c4 .loop .i) (c .before .unpacked .result) (c .is-climb .result) (c .before .unpacked .ensures)
-          (c .is-climb .ensures)) refl,
-    )
+loop-again c = (omega arith, any-next (climbAt (c .before .before .before .before .before .before .before .args .words .now)) (c .before .before .before .before .before .loop .i) (c .before .is-climb .result) (c .before .before .before .before .before .loop .inv .1) (climb-at (c .before .before .before .before .before .before .before .args .words .now) (c .before .before .before .before .before .loop .i) (c .before .before .unpacked .result) (c .before .is-climb .result) (c .before .before .unpacked .ensures) (c .before .is-climb .ensures)) (c .if1 .left))
 
-returns : tie.Need-returns Inv-loop μ-loop
-returns c =
-    let c3 = c .before .before .before in
-    let e : c .before .loop .i ≡ length (c3 .args .words .now) =
-    omega (arith, c .before .loop .inv .0) in c .before .loop .inv .1 ∙ ap (anyUpTo (climbAt (c3 .args .words .now))) e
+returns-2 : tie.Need-returns-2 Inv-loop μ-loop
+returns-2 c = let e : length (c .before .before .before .args .words .now) ≡ c .before .loop .i = omega (arith, c .before .loop .inv .0) in sym (ap (anyUpTo (climbAt (c .before .before .before .args .words .now))) e ∙ c .before .loop .inv .1)
 
 pub climbs-spec : {M : Type 1} → statement M
 climbs-spec =
@@ -65,7 +59,8 @@ climbs-spec =
     shared-slice-read-unpacked
     unpacked-requires
     is-climb-requires
+    returns
     add-i
     loop-less
     loop-again
-    returns)
+    returns-2)
