@@ -19,10 +19,10 @@ pub fn clear_words(area: &mut [u16])
 pub fn clear_bytes(area: &mut [u8])
     ensures { λ r. ⌜ now (area .exit) ≡ replicate (length (now (area .entry))) 0 ⌝ }
 {
-    let mut k = 0;
-    while k < area.len() {
-        area[k] = 0;
-        k += 1;
+    let mut i = 0;
+    while i < area.len() {
+        area[i] = 0;
+        i += 1;
     }
 }
 
@@ -31,9 +31,9 @@ pub fn put(area: &mut [u16], value: &[u16])
     requires { ⌜ length (now value) ≤ length (now area) ⌝ }
     ensures { λ r. ⌜ now (area .exit) ≡ now (value .entry) ++ drop (length (now (value .entry))) (now (area .entry)) ⌝ }
 {
-    let mut k = 0;
-    while k < value.len() {
-        area[k] = value[k];
-        k += 1;
+    let mut j = 0;
+    while j < value.len() {
+        area[j] = value[j];
+        j += 1;
     }
 }

@@ -25,8 +25,8 @@ slice-write-area : tie.Need-slice-write-area Inv-loop μ-loop
 slice-write-area c = search needs
 
 -- src/area.rt:25:9
-add-k : tie.Need-add-k Inv-loop μ-loop
-add-k c = search needs
+add-i : tie.Need-add-i Inv-loop μ-loop
+add-i c = search needs
 
 -- src/area.rt:23:5
 loop-less : tie.Need-loop-less Inv-loop μ-loop
@@ -36,7 +36,7 @@ loop-less c = search needs
 loop-again : tie.Need-loop-again Inv-loop μ-loop
 loop-again c =
     let l = c .before .loop .inv .1 in
-    (omega arith, length-set (c .before .loop .area) (c .before .loop .k) 0 ∙ l, cleared-next (c .before .before .args .area .now) (c .before .loop .area) (c .before .loop .k) (omega arith) (c .before .loop .inv .2))
+    (omega arith, length-set (c .before .loop .area) (c .before .loop .i) 0 ∙ l, cleared-next (c .before .before .args .area .now) (c .before .loop .area) (c .before .loop .i) (omega arith) (c .before .loop .inv .2))
 
 -- src/area.rt:19:1
 same-length : tie.Need-same-length Inv-loop μ-loop
@@ -46,7 +46,7 @@ same-length c = search needs
 returns : tie.Need-returns Inv-loop μ-loop
 returns c =
     let l = c .before .loop .inv .1 in
-    cleared-all (c .before .before .args .area .now) (c .before .loop .area) (c .before .loop .k) (omega arith) (c .before .loop .inv .0) (c .before .loop .inv .2)
+    cleared-all (c .before .before .args .area .now) (c .before .loop .area) (c .before .loop .i) (omega arith) (c .before .loop .inv .0) (c .before .loop .inv .2)
 
 pub clear-bytes-spec : {M : Type 1} → statement M
 clear-bytes-spec =
@@ -56,7 +56,7 @@ clear-bytes-spec =
     μ-loop
     loop-holds
     slice-write-area
-    add-k
+    add-i
     loop-less
     loop-again
     same-length

@@ -39,8 +39,8 @@ slice-write-area c =
     omega (arith, l, m)
 
 -- src/area.rt:37:9
-add-k : tie.Need-add-k Inv-loop μ-loop
-add-k c = search needs
+add-j : tie.Need-add-j Inv-loop μ-loop
+add-j c = search needs
 
 -- src/area.rt:35:5
 loop-less : tie.Need-loop-less Inv-loop μ-loop
@@ -51,8 +51,8 @@ loop-again : tie.Need-loop-again Inv-loop μ-loop
 loop-again c =
     let l = c .before .before .loop .inv .1 in (
       omega arith,
-      length-set (c .before .before .loop .area) (c .before .before .loop .k) (getD (c .before .before .before .args .value .now) (c .before .before .loop .k) 0) ∙ l,
-      put-next (c .before .before .before .args .value .now) (c .before .before .before .args .area .now) (c .before .before .loop .area) (c .before .before .loop .k) (c .before .before .before .pre) (c .before .loop-test .taken) (c .before .before .loop .inv .2),
+      length-set (c .before .before .loop .area) (c .before .before .loop .j) (getD (c .before .before .before .args .value .now) (c .before .before .loop .j) 0) ∙ l,
+      put-next (c .before .before .before .args .value .now) (c .before .before .before .args .area .now) (c .before .before .loop .area) (c .before .before .loop .j) (c .before .before .before .pre) (c .before .loop-test .taken) (c .before .before .loop .inv .2),
     )
 
 -- src/area.rt:30:1
@@ -61,7 +61,7 @@ same-length c = c .before .loop .inv .1
 
 -- src/area.rt:30:1
 returns : tie.Need-returns Inv-loop μ-loop
-returns c = put-all (c .before .before .args .value .now) (c .before .before .args .area .now) (c .before .loop .area) (c .before .loop .k) (omega arith) (c .before .loop .inv .0) (c .before .loop .inv .2)
+returns c = put-all (c .before .before .args .value .now) (c .before .before .args .area .now) (c .before .loop .area) (c .before .loop .j) (omega arith) (c .before .loop .inv .0) (c .before .loop .inv .2)
 
 pub put-spec : {M : Type 1} → statement M
 put-spec =
@@ -74,7 +74,7 @@ put-spec =
     shared-slice-read-area
     mul-area-2
     slice-write-area
-    add-k
+    add-j
     loop-less
     loop-again
     same-length
