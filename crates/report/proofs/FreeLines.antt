@@ -23,7 +23,7 @@ use Rattle.report.specs.Promise.{hasEnded, FreeLines}
 use Rattle.report.specs.declared.orders.Outcome.{Outcome}
 use Rattle.report.specs.declared.orders.Order.{Order}
 use Rattle.report.specs.declared.orders.Order.the-variants.{Stopped, Ended}
-use Rattle.report.proofs.EncodeLaws.{decode-encode, fits-encode}
+use Rattle.table.proofs.EncodeLaws.{decode-encode, fits-encode}
 
 -- AN ORDER by the outcomes of its two runs
 orderBy : (leads follows : Out) → Order

@@ -3,6 +3,5 @@ pub mod DecimalBack
 pub mod LineLaws
 pub mod OrderLaws
 pub mod PairLaws
-pub mod EncodeLaws
 pub mod FreeLines
 pub mod ExamplesHold

@@ -4,3 +4,4 @@ pub mod ReadLaws
 pub mod WriteLaws
 pub mod SweepLaws
 pub mod CallLaws
+pub mod EncodeLaws

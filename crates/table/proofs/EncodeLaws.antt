@@ -1,0 +1,121 @@
+-- A well-formed table survives its words: encoded it fits, decoded it is itself, and writing it is never refused where out has 2,080 bytes.
+use mathlib.Core.Path.{_≡_, refl, ap, sym, subst, _∙_}
+use mathlib.Core.Bool.{Bool, true, false}
+use mathlib.Core.List.{List, [], _∷_, _++_, map}
+use mathlib.Core.Option.{Option, none, some}
+use Prim.Native.Nat.{ℕ, zero, suc, _+_, _*_, _-_, _%_, _≤_, _<_}
+use native.Mathlib.Omega.{arith}
+use lib.Dec.{leb}
+use lib.ListN.{length, getD, take, drop, replicate, length-map, length-append}
+use lib.Seq.{take-at, drop-at}
+use borrow.Author.Tests.{le-leb}
+use Rattle.model.specs.Base.{pick, all}
+use Rattle.model.specs.Stored.{stored, rowsBytes, marksBytes, markBytes}
+use Rattle.model.specs.Table as model
+use Rattle.model.proofs.BoolLaws.{and-both}
+use Rattle.model.proofs.TableLaws.{Well, isWell-at, parent-count}
+use Rattle.table.specs.Words.{linkOf, linked, wordOf, rowOf, isRowWord, isZero, wordsOf, encode, decode, fits}
+use Rattle.table.specs.Calls as library
+use Rattle.table.proofs.WordLaws.{linked-linkOf, rowOf-wordOf}
+use Rattle.table.proofs.WriteLaws.{length-rowsBytes}
+use Rattle.table.proofs.CallLaws.{write-fine, write-out}
+
+-- every parent's link fits its 10 bits
+abbrev Links : List model.Row → Type 0
+Links rs = (k : ℕ) → linkOf (getD rs k model.noRow .parent) < 1024
+
+well-links : (x : model.Table) → Well x → Links (x .rows)
+well-links x w k = go (model.rowAt x k .parent) refl
+  where
+    go : (p : Option ℕ) → model.rowAt x k .parent ≡ p → linkOf p < 1024
+    go none e = omega arith
+    go (some p) e = omega (arith, w .tree .parents k p e .0, w .few, parent-count x k p e)
+
+-- ROWS AND MARKS come back
+rows-back : (rs : List model.Row) → Links rs → map rowOf (map wordOf rs) ≡ rs
+rows-back [] h = refl
+rows-back (r ∷ rs) h =
+    ap (λ (q : model.Row). q ∷ map rowOf (map wordOf rs)) (rowOf-wordOf r (h 0)) ∙ ap (λ (l : List model.Row). r ∷ l) (rows-back rs (λ k.
+    h (suc k)))
+
+marks-back : (ms : List (Option ℕ)) → map linked (map linkOf ms) ≡ ms
+marks-back [] = refl
+marks-back (m ∷ ms) =
+    ap (λ (q : Option ℕ). q ∷ map linked (map linkOf ms)) (linked-linkOf m) ∙ ap (λ (l : List (Option ℕ)). m ∷ l) (marks-back ms)
+
+front : (rs : List model.Row) → take (length rs) (wordsOf rs) ≡ map wordOf rs
+front rs = take-at (map wordOf rs) (replicate (512 - length rs) 0) (length rs) (length-map rs wordOf)
+
+behind : (rs : List model.Row) → drop (length rs) (wordsOf rs) ≡ replicate (512 - length rs) 0
+behind rs = drop-at (map wordOf rs) (replicate (512 - length rs) 0) (length rs) (length-map rs wordOf)
+
+pub decode-encode : (x : model.Table) → model.isWell x ≡ true → decode (encode x) ≡ x
+decode-encode x h =
+    ap (λ (l : List ℕ). model.table (map rowOf l) (map linked (map linkOf (x .marks)))) (front (x .rows)) ∙
+    ap (λ (l : List model.Row). model.table l (map linked (map linkOf (x .marks)))) (rows-back (x .rows) (well-links x (isWell-at x h))) ∙
+    ap (model.table (x .rows)) (marks-back (x .marks))
+
+-- WORDS of rows are words of rows, and the rest is zero
+in-range : (n : ℕ) → 1 ≤ n % 4 → n % 4 ≤ 2 → isRowWord n ≡ true
+in-range n low high = and-both (leb 1 (n % 4)) (leb (n % 4) 2) (le-leb 1 (n % 4) low) (le-leb (n % 4) 2 high)
+
+row-word : (r : model.Row) → isRowWord (wordOf r) ≡ true
+row-word r = go (r .isLeaf)
+  where
+    go : (z : Bool) → isRowWord (pick z 2 1 + 4 * linkOf (r .parent) + 4096 * r .tag) ≡ true
+    go true = in-range (2 + 4 * linkOf (r .parent) + 4096 * r .tag) (omega arith) (omega arith)
+    go false = in-range (1 + 4 * linkOf (r .parent) + 4096 * r .tag) (omega arith) (omega arith)
+
+rows-words : (rs : List model.Row) → all isRowWord (map wordOf rs) ≡ true
+unfolding all
+rows-words [] = refl
+rows-words (r ∷ rs) = and-both _ _ (row-word r) (rows-words rs)
+
+zeros : (n : ℕ) → all isZero (replicate n 0) ≡ true
+unfolding all
+zeros zero = refl
+zeros (suc n) = zeros n
+
+pub fits-encode : (x : model.Table) → model.isWell x ≡ true → fits (encode x) ≡ true
+fits-encode x h =
+    and-both _ _
+    (and-both _ _ (and-both _ _ (le-leb _ _ (isWell-at x h .few)) (ap (all isRowWord) (front (x .rows)) ∙ rows-words (x .rows)))
+    (ap (all isZero) (behind (x .rows)) ∙ zeros (512 - length (x .rows))))
+    (ap model.isWell (decode-encode x h) ∙ h)
+
+-- THE LENGTH: four bytes for each row and each mark
+length-mark : (d : ℕ) (m : Option ℕ) → length (markBytes d m) ≤ 4
+length-mark d none = omega arith
+length-mark d (some i) = omega arith
+
+length-marks : (d : ℕ) (ms : List (Option ℕ)) → length (marksBytes d ms) ≤ 4 * length ms
+unfolding marksBytes
+length-marks d [] = omega arith
+length-marks d (m ∷ ms) = omega (arith, length-append (markBytes d m) (marksBytes (suc d) ms), length-mark d m, length-marks (suc d) ms)
+
+pub stored-fits : (x : model.Table) → model.isWell x ≡ true → length (stored x) ≤ 2080
+stored-fits x h =
+    let w = isWell-at x h in
+    omega (
+      arith,
+      length-append (rowsBytes (x .rows)) (marksBytes 0 (x .marks)),
+      length-rowsBytes (x .rows),
+      length-marks 0 (x .marks),
+      w .few,
+      w .eight,
+    )
+
+-- WRITING a well-formed table is never refused
+module _ (x : model.Table) (h : model.isWell x ≡ true) (o : List ℕ) (room : 2080 ≤ length o) where
+  fits-room : length (stored (decode (encode x))) ≤ length o
+  fits-room = subst (λ (y : model.Table). length (stored y) ≤ length o) (sym (decode-encode x h)) (omega (arith, stored-fits x h))
+
+  pub well-written : library.planWritten (encode x) o ≡ record { fault = record { number = 0; place = 0 }; bytes = length (stored x) }
+  well-written =
+      sym (write-fine (encode x) o (fits-encode x h) (length (stored x)) fits-room (ap (λ (y : model.Table). length (stored y)) (sym
+      (decode-encode x h))))
+
+  pub well-out : library.planOut (encode x) o ≡ stored x ++ drop (length (stored x)) o
+  well-out =
+      write-out (encode x) o (fits-encode x h) fits-room ∙
+      ap (λ (y : model.Table). stored y ++ drop (length (stored y)) o) (decode-encode x h)
