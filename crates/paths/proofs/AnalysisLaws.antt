@@ -2,7 +2,7 @@
 use mathlib.Core.Path.{_≡_, ap, sym, _∙_, subst}
 use mathlib.Core.Bool.{Bool, true, false, _||_}
 use mathlib.Core.List.{List, [], _∷_, map}
-use Prim.Native.Nat.{ℕ, zero, _-_}
+use Prim.Native.Nat.{ℕ, _-_, _≤_, _<_}
 use native.Mathlib.Omega.{arith}
 use lib.ListN.{length, take}
 use lib.Seq.{take-suc, length-take-le}
@@ -15,7 +15,7 @@ use Rattle.table.specs.declared.Fault.{Fault}
 use Rattle.script.specs.Walk.{exprAt}
 use Rattle.script.specs.Reading.{scriptRead}
 use Rattle.script.proofs.ScriptLaws.{script-accepted, script-parsed, script-ill}
-use Rattle.paths.specs.Positions.{Entry, Emitted, emit, AreLower, entriesBefore, entriesOf}
+use Rattle.paths.specs.Positions.{Entry, Emitted, emit, AreLower, entriesBefore, entriesOf, pathsFrom, pathsOn}
 use Rattle.paths.specs.Cells.{positionsMeet}
 use Rattle.paths.specs.Words.{entryOf, entriesIn}
 use Rattle.paths.specs.Pairs.{HasRows}
@@ -27,6 +27,7 @@ use Rattle.paths.specs.declared.Analysis.the-variants.{Refused, Free, Up
 use Rattle.paths.specs.declared.emit.Emitted as code
 use Rattle.paths.proofs.AnswerLaws.{emitted-right, answer-by}
 use Rattle.paths.proofs.ClimbLaws.{climbing-is}
+use Rattle.paths.proofs.WordLaws.{entriesIn-length}
 use Rattle.paths.proofs.SizeLaws.{script-records}
 
 -- THE POSITIONS of an accepted script
@@ -58,15 +59,27 @@ module _ {b ws : List ℕ} (pre : ScriptPre b ws) {env : List ℕ} where
 entries-lower : (ws : List ℕ) (n : ℕ) (e : Expr) → entriesIn ws n ≡ entriesOf e → AreLower (entriesIn ws n)
 entries-lower ws n e h = subst AreLower (sym h) (emitted-right 1 (λ q. omega arith) e .lower)
 
+entries-nothing : (ws : List ℕ) (n : ℕ) (e : Expr) → entriesIn ws n ≡ entriesOf e → pathsOn (entriesIn ws n) 0 ≡ []
+unfolding pathsFrom
+entries-nothing ws n e h =
+    ap (λ (es : List Entry). pathsOn es 0) h ∙ emitted-right 1 (λ q. omega arith) e .keeps 0 (omega arith)
+
+entries-some : (ws : List ℕ) (n : ℕ) (e : Expr) → n ≤ length ws → entriesIn ws n ≡ entriesOf e → 0 < n
+entries-some ws n e l h = omega (arith, entriesIn-length ws n l, ap length h, emitted-right 1 (λ q. omega arith) e .more)
+
 pub answer-asks : (b c : List ℕ) {ws : List ℕ} {n : ℕ} {us : List ℕ} {m : ℕ} → ScriptPost b ws n → ScriptPost c us m → (t : List ℕ) →
     HasRows t n → AnswerPre ws n us m t
 answer-asks b c {ws} {n} {us} {m} one two t room =
     record {
       first = one .size;
+      firstSome = entries-some ws n (exprAt 16 b 0) (omega (arith, one .size, one .few)) (one .entries);
       firstFew = one .few;
+      firstNothing = entries-nothing ws n (exprAt 16 b 0) (one .entries);
       firstLower = entries-lower ws n (exprAt 16 b 0) (one .entries);
       second = two .size;
+      secondSome = entries-some us m (exprAt 16 c 0) (omega (arith, two .size, two .few)) (two .entries);
       secondFew = two .few;
+      secondNothing = entries-nothing us m (exprAt 16 c 0) (two .entries);
       secondLower = entries-lower us m (exprAt 16 c 0) (two .entries);
       table = room;
     }
@@ -90,12 +103,16 @@ module _ {ws : List ℕ} {n : ℕ} {us : List ℕ} {m : ℕ} {t : List ℕ} (pre
       parts : TablePre (take n ws) (take m us) t
       parts = record {
         first = record {
+          some = omega (arith, length-take-le n ws (omega (arith, pre .first, pre .firstFew)), pre .firstSome);
           few = omega (arith, length-take-le n ws (omega (arith, pre .first, pre .firstFew)), pre .firstFew);
+          nothing = pre .firstNothing;
           lower =
               pre .firstLower;
         };
         second = record {
+          some = omega (arith, length-take-le m us (omega (arith, pre .second, pre .secondFew)), pre .secondSome);
           few = omega (arith, length-take-le m us (omega (arith, pre .second, pre .secondFew)), pre .secondFew);
+          nothing = pre .secondNothing;
           lower =
               pre .secondLower;
         };

@@ -9,7 +9,8 @@ use lib.ListN.{length, getD, take, length-map, List·getD-map}
 use lib.Seq.{take-suc, take-all}
 use borrow.Author.Tests.{eqb-true}
 use Rattle.model.specs.Base.{pick, any}
-use Rattle.model.specs.Script.{Step, stepBy, Expr, nil, document, var, step, both, letIn, forIn, ifIn, element, leaf, delete, insert, choose}
+use Rattle.model.specs.Script.{Step, stepBy, Expr, nil, document, var, step, both, letIn, forIn, ifIn, element, leaf, delete}
+use Rattle.model.specs.Script.{insert, choose}
 use Rattle.model.specs.Paths.{anyBelow, isUp, hasUp}
 use Rattle.model.proofs.BoolLaws.{by-cases, and-right}
 use Rattle.paths.specs.Positions as positions
@@ -119,13 +120,16 @@ emit-climbs (step z s e) ns es =
     swap false true false = refl
     swap false false true = refl
     swap false false false = refl
-emit-climbs (both z e f) ns es = union-climbs (emit e ns es .result) (emit f ns (emit e ns es .entries)) ∙ twice e f ns ns es (emit-climbs e ns es) (emit-climbs f ns (emit e ns es .entries))
+emit-climbs (both z e f) ns es =
+    union-climbs (emit e ns es .result) (emit f ns (emit e ns es .entries)) ∙
+    twice e f ns ns es (emit-climbs e ns es) (emit-climbs f ns (emit e ns es .entries))
 emit-climbs (letIn z e f) ns es =
     twice e f ns _ es (emit-climbs e ns es) (emit-climbs f (ns ++ (emit e ns es .result ∷ [])) (emit e ns es .entries))
 emit-climbs (forIn z e f) ns es =
     twice e f ns _ es (emit-climbs e ns es) (emit-climbs f (ns ++ (emit e ns es .result ∷ [])) (emit e ns es .entries))
 emit-climbs (ifIn z e f g) ns es =
-    union-climbs (emit f ns (emit e ns es .entries) .result) (emit g ns (emit f ns (emit e ns es .entries) .entries)) ∙ emit-climbs g ns (emit f ns (emit e ns es .entries) .entries) ∙
+    union-climbs (emit f ns (emit e ns es .entries) .result) (emit g ns (emit f ns (emit e ns es .entries) .entries)) ∙
+    emit-climbs g ns (emit f ns (emit e ns es .entries) .entries) ∙
     ap (λ (t : Bool). t || hasUp g) (twice e f ns ns es (emit-climbs e ns es) (emit-climbs f ns (emit e ns es .entries))) ∙
     or-assoc (any climbs es) (hasUp e || hasUp f) (hasUp g)
 emit-climbs (element z n) ns es = sym (or-false (any climbs es))

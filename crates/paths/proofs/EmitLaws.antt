@@ -161,8 +161,8 @@ no-documents : (es : List Entry) → Ready es → (r a m : List Path) (y : Emitt
 no-documents es z r a m y h e = sym (h .is) ∙ ap (pathsOn (y .entries)) e ∙ h .keeps 0 (z .some) ∙ z .zero
 
 -- no entry more, for paths of which none starts at a document
-nothing-more : (es : List Entry) (r a m : List Path) (y : Emitted) → Right es r a m y → (r′ a′ m′ : List Path) → documents r ≡ documents r′ →
-    documents a′ ≡ [] → documents m′ ≡ [] → Right es r′ (a ++ a′) (m ++ m′) y
+nothing-more : (es : List Entry) (r a m : List Path) (y : Emitted) → Right es r a m y → (r′ a′ m′ : List Path) →
+    documents r ≡ documents r′ → documents a′ ≡ [] → documents m′ ≡ [] → Right es r′ (a ++ a′) (m ++ m′) y
 nothing-more es r a m y h r′ a′ m′ e f g =
     record {
       low = h .low;

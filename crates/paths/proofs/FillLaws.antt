@@ -10,18 +10,19 @@ use lib.ListN.{length, getD, length-map, List·getD-map}
 use borrow.Author.Tests.{ne-eqb, eqb-true, eqb-false}
 use Rattle.model.specs.Base.{pick}
 use Rattle.model.specs.Script.{Step}
+use Rattle.model.specs.Paths.{Path}
 use Rattle.model.specs.Meeting.{Cell, joinCell, onStep, downStep, upStep, isMet}
 use Rattle.model.proofs.BoolLaws.{by-cases}
 use Rattle.paths.specs.Positions as positions
 use Rattle.paths.specs.Cells.{noCell, sum, between, Cells, Source, fromRoot, fromStep, sourcesOf, rootsCell, sourceCell}
-use Rattle.paths.specs.Cells.{sourcesCell, cellTo, cellBy, Filled, anyUpTo, isTested}
+use Rattle.paths.specs.Cells.{sourcesCell, cellTo, cellBy, Filled, anyUpTo, isTested, meetAt, rowMeets}
 use Rattle.paths.specs.Codes.{cellOf}
 use Rattle.paths.specs.Words.{stepIn, positionBy, entryBy, fieldsOf, entryOf}
-use Rattle.paths.specs.Pairs.{maxPositions, marks, ClearPost, PairPre, MarkPost}
-use Rattle.paths.specs.Filling.{entriesBy, CellPre, MeetPre, MeetPost}
+use Rattle.paths.specs.Pairs.{marks, ClearPost, PairPre, MarkPost}
+use Rattle.paths.specs.Filling.{entriesBy, PositionsPre, CellPre, MeetPre, MeetPost}
 use Rattle.paths.specs.declared.positions.Position.{Position}
 use Rattle.paths.specs.declared.cells.Cell as declared
-use Rattle.paths.proofs.CellLaws.{join-nothing, on-respects, down-respects, up-respects}
+use Rattle.paths.proofs.CellLaws.{between-none, join-nothing, on-respects, down-respects, up-respects}
 use Rattle.paths.proofs.PairLaws.{fewer-rows}
 use Rattle.paths.proofs.PositionLaws.{one-source, no-source, cell-by}
 
@@ -249,9 +250,18 @@ unfolding anyUpTo
 any-next f n b e g h =
     ap (anyUpTo f) (add-one n) ∙ ap (λ (x : Bool). x || f n) e ∙ sym g ∙ h
 
+any-false : (f : ℕ → Bool) → ((k : ℕ) → f k ≡ false) → (n : ℕ) → anyUpTo f n ≡ false
+unfolding anyUpTo
+any-false f h zero = refl
+any-false f h (suc n) = ap (λ (x : Bool). x || f n) (any-false f h n) ∙ h n
+
 pub any-none : (f : ℕ → Bool) → anyUpTo f 0 ≡ false
 unfolding anyUpTo
 any-none f = refl
+
+pub any-one : (f : ℕ → Bool) → f 0 ≡ false → anyUpTo f 1 ≡ false
+unfolding anyUpTo
+any-one f h = h
 
 -- one that holds is enough
 pub any-found : (f : ℕ → Bool) (k n : ℕ) → k < n → f k ≡ true → true ≡ anyUpTo f n
@@ -281,11 +291,59 @@ row-filled ws us t k l e f =
         ap (λ (x : ℕ). marks t x j) n ∙ f .row j (omega (arith, length-map us entryOf)) ∙
         ap (λ (x : ℕ). between (positions.pathsOn (entriesBy ws) x) (positions.pathsOn (entriesBy us) j)) (sym n)
 
-pub none-filled : (ws us t t′ : List ℕ) → ClearPost t (length ws) t′ → length us ≤ maxPositions →
-    Filled (entriesBy ws) (entriesBy us) 0 0 (marks t′)
-none-filled ws us t t′ post few =
+-- NOTHING at 0: its pairs are clear and do not meet
+and-false : (t : Bool) → (t && false) ≡ false
+and-false true = refl
+and-false false = refl
+
+module _ (es fs : List positions.Entry) where
+  pub second-nothing : positions.pathsOn fs 0 ≡ [] → (k : ℕ) → meetAt es fs k 0 ≡ false
+  second-nothing n k =
+      ap (λ (v : List Path). isTested (positions.entryAt es k) (positions.entryAt fs 0) && isMet (between (positions.pathsOn es k) v)) n ∙
+      ap (λ (c : Cell). isTested (positions.entryAt es k) (positions.entryAt fs 0) && isMet c) (between-none (positions.pathsOn es k)) ∙
+      and-false (isTested (positions.entryAt es k) (positions.entryAt fs 0))
+
+  pub first-nothing : positions.pathsOn es 0 ≡ [] → (n : ℕ) → rowMeets es fs 0 n ≡ false
+  unfolding sum
+  first-nothing h n =
+      any-false (meetAt es fs 0)
+      (λ l. ap (λ (v : List Path). isTested (positions.entryAt es 0) (positions.entryAt fs l) && isMet (between v (positions.pathsOn fs l)))
+      h ∙
+      and-false (isTested (positions.entryAt es 0) (positions.entryAt fs l))) n
+
+pub row-started : (ws us t : List ℕ) (k : ℕ) → k < length ws → PositionsPre us → Filled (entriesBy ws) (entriesBy us) k 0 (marks t) →
+    Filled (entriesBy ws) (entriesBy us) k 1 (marks t)
+row-started ws us t k h pre f =
     record {
-      rows = λ i j a b. absurd (omega arith);
-      row = λ j a. absurd (omega arith);
-      rest = λ i j a b m c. post .clear i j (omega (arith, length-map ws entryOf)) (omega (arith, length-map us entryOf));
+      rows = f .rows;
+      row = λ j b. here j (omega arith);
+      rest = λ i j a b m c. f .rest i j a b (λ e. omega arith) c;
     }
+  where
+    here : (j : ℕ) → j ≡ 0 → marks t k j ≡ between (positions.pathsOn (entriesBy ws) k) (positions.pathsOn (entriesBy us) j)
+    here j e =
+        ap (marks t k) e ∙
+        f .rest k 0 (omega arith) (omega (arith, length-map ws entryOf)) (λ q. omega arith)
+        (omega (arith, pre .some, length-map us entryOf)) ∙
+        sym (ap (λ (i : ℕ). between (positions.pathsOn (entriesBy ws) k) (positions.pathsOn (entriesBy us) i)) e ∙
+        ap (between (positions.pathsOn (entriesBy ws) k)) (pre .nothing) ∙ between-none (positions.pathsOn (entriesBy ws) k))
+
+pub none-filled : (ws us t t′ : List ℕ) → PositionsPre ws → PositionsPre us → ClearPost t (length ws) t′ →
+    Filled (entriesBy ws) (entriesBy us) 1 0 (marks t′)
+unfolding sum
+none-filled ws us t t′ one two post =
+    record {
+      rows = λ i j a b. here i j (omega arith) b;
+      row = λ j a. absurd (omega arith);
+      rest = λ i j a b m c. clear i j (omega (arith, length-map ws entryOf)) c;
+    }
+  where
+    clear : (i j : ℕ) → i < length ws → j < length (entriesBy us) → marks t′ i j ≡ noCell
+    clear i j a b = post .clear i j a (omega (arith, two .few, length-map us entryOf))
+
+    here : (i j : ℕ) → i ≡ 0 → j < length (entriesBy us) →
+        marks t′ i j ≡ between (positions.pathsOn (entriesBy ws) i) (positions.pathsOn (entriesBy us) j)
+    here i j e b =
+        clear i j (omega (arith, one .some)) b ∙
+        sym (ap (λ (k : ℕ). between (positions.pathsOn (entriesBy ws) k) (positions.pathsOn (entriesBy us) j)) e ∙
+        ap (λ (v : List Path). between v (positions.pathsOn (entriesBy us) j)) (one .nothing))

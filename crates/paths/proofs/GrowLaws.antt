@@ -60,6 +60,14 @@ over-entry : (p : Position) (m : ℕ) (s : Step) (i : ℕ) (u : model.Step) → 
 over-entry p m s i u e f =
     ap entryBy e ∙ ap (λ (v : model.Step). record { position = over v i; accessed = eqb m 1; modified = eqb m 2 }) f
 
+-- whether a step has an entry
+step-chosen : (ws : List ℕ) (y : Emitted) (s : Step) (up none : Bool) → up ≡ isUp (stepOf s) → (eqb (y .result) 0 && not up) ≡ none →
+    positions.pushStep (stepOf s) (outOf ws y) ≡
+    pick none (outOf ws y) (positions.push (entriesIn ws (y .count)) (accessing (over (stepOf s) (y .result))))
+step-chosen ws y s up none u h =
+    ap (λ (t : Bool). pick t (outOf ws y) (positions.push (entriesIn ws (y .count)) (accessing (over (stepOf s) (y .result)))))
+    (ap (λ (v : Bool). eqb (y .result) 0 && not v) (sym u) ∙ h)
+
 -- WAYS OUT
 module _ (ws ws′ : List ℕ) (y : Emitted) (pre : GrowPre ws y) where
   within : y .count ≤ length ws
@@ -76,7 +84,7 @@ module _ (ws ws′ : List ℕ) (y : Emitted) (pre : GrowPre ws y) where
   step-grown p s up u h e post =
       one-more (positions.pushStep (stepOf s) (outOf ws y)) (post .size)
       (pushed-is ws ws′ (y .count) p (accessing (over (stepOf s) (y .result))) within post (ap entryBy e) ∙
-      sym (ap (λ (t : Bool). pick t (outOf ws y) (positions.push (entriesIn ws (y .count)) (accessing (over (stepOf s) (y .result))))) (ap (λ (v : Bool). eqb (y .result) 0 && not v) (sym u) ∙ h)))
+      sym (step-chosen ws y s up _ u h))
 
   pub union-grown : (p : Position) (first : ℕ) → (first ≡ 0 → ⊥) → (y .result ≡ 0 → ⊥) → p ≡ unionBy 0 first (y .result) →
       PushPost ws (y .count) p ws′ →
@@ -112,7 +120,7 @@ module _ (ws : List ℕ) (y : Emitted) (pre : GrowPre ws y) where
   pub step-none : (s : Step) (up : Bool) → up ≡ isUp (stepOf s) → (eqb (y .result) 0 && not up) ≡ true →
       Grown (positions.pushStep (stepOf s) (outOf ws y)) y ws y
   step-none s up u h =
-      same _ (sym (ap (λ (t : Bool). pick t (outOf ws y) (positions.push (entriesIn ws (y .count)) (accessing (over (stepOf s) (y .result))))) (ap (λ (v : Bool). eqb (y .result) 0 && not v) (sym u) ∙ h)))
+      same _ (sym (step-chosen ws y s up _ u h))
 
   pub delete-none : y .result ≡ 0 → Grown (positions.pushDelete (outOf ws y)) y ws y
   delete-none e = same _ (rw (eq-eqb (y .result) 0 e))

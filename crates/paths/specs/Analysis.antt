@@ -1,7 +1,7 @@
 -- What the analysis of two scripts answers, for every input. Assumes nothing: these are definitions.
 use mathlib.Core.Path.{_≡_}
 use mathlib.Core.List.{List, [], _∷_}
-use Prim.Native.Nat.{ℕ, _≤_}
+use Prim.Native.Nat.{ℕ, _≤_, _<_}
 use lib.ListN.{length, getD}
 use Rattle.model.specs.Script.{Expr}
 use Rattle.model.specs.Meeting.{Answer, free, upward, meet, answer}
@@ -9,7 +9,7 @@ use Rattle.model.specs.Call as model
 use Rattle.table.specs.Calls.{faultOf}
 use Rattle.script.specs.Walk.{exprAt}
 use Rattle.script.specs.Reading.{scriptRead}
-use Rattle.paths.specs.Positions.{entriesOf, AreLower}
+use Rattle.paths.specs.Positions.{entriesOf, AreLower, pathsOn}
 use Rattle.paths.specs.Words.{entriesIn}
 use Rattle.paths.specs.Pairs.{maxPositions, HasRows}
 use Rattle.paths.specs.declared.Analysis.{Analysis}
@@ -66,10 +66,14 @@ pub record ScriptPost (b ws′ : List ℕ) (n : ℕ) : Type 0 where
 -- THE ANSWER from the positions of two expressions
 pub record AnswerPre (ws : List ℕ) (n : ℕ) (us : List ℕ) (m : ℕ) (t : List ℕ) : Type 0 where
   pub first : length ws ≡ maxPositions
+  pub firstSome : 0 < n
   pub firstFew : n ≤ maxPositions
+  pub firstNothing : pathsOn (entriesIn ws n) 0 ≡ []
   pub firstLower : AreLower (entriesIn ws n)
   pub second : length us ≡ maxPositions
+  pub secondSome : 0 < m
   pub secondFew : m ≤ maxPositions
+  pub secondNothing : pathsOn (entriesIn us m) 0 ≡ []
   pub secondLower : AreLower (entriesIn us m)
   pub table : HasRows t n
 

@@ -1,10 +1,10 @@
 -- Contracts of what fills the table of pairs and answers whether two scripts' positions meet. Assumes nothing: these are definitions.
 use mathlib.Core.Path.{_≡_}
 use mathlib.Core.Bool.{Bool, false}
-use mathlib.Core.List.{List, map}
+use mathlib.Core.List.{List, [], map}
 use Prim.Native.Nat.{ℕ, _+_, _≤_, _<_}
 use lib.ListN.{length, getD}
-use Rattle.paths.specs.Positions.{Entry, IsLower, AreLower, entryAt, isClimb}
+use Rattle.paths.specs.Positions.{Entry, IsLower, AreLower, entryAt, isClimb, pathsOn}
 use Rattle.paths.specs.Cells.{Filled, anyUpTo, meetAt, rowMeets}
 use Rattle.paths.specs.Words.{positionBy, fieldsOf, entryOf}
 use Rattle.paths.specs.Pairs.{maxPositions, marks, HasRows}
@@ -21,9 +21,11 @@ climbAt ws k = isClimb (entryAt (entriesBy ws) k .position)
 abbrev pub climbing : (words : List ℕ) → Bool
 climbing ws = anyUpTo (climbAt ws) (length ws)
 
--- few enough positions, each over lower ones
+-- few enough positions, each over lower ones; position 0 is nothing
 pub record PositionsPre (ws : List ℕ) : Type 0 where
+  pub some : 0 < length ws
   pub few : length ws ≤ maxPositions
+  pub nothing : pathsOn (entriesBy ws) 0 ≡ []
   pub lower : AreLower (entriesBy ws)
 
 -- ONE CELL from those of lower pairs

@@ -8,6 +8,7 @@ use Rattle.model.specs.Base.{pick}
 use Rattle.model.specs.Script as model
 use Rattle.model.specs.Script.{stepBy}
 use Rattle.paths.specs.Positions as positions
+use Rattle.paths.specs.Cells.{Source, fromRoot, fromStep}
 use Rattle.paths.specs.declared.positions.Position.{Position}
 use Rattle.paths.specs.declared.cells.Step.{Step}
 
@@ -21,6 +22,13 @@ positionBy p =
     pick (eqb (p .kind) 0) positions.nowhere
     (pick (eqb (p .kind) 1) (positions.root (p .name))
     (pick (eqb (p .kind) 2) (positions.over (stepIn p) (p .first)) (positions.union (p .first) (p .second))))
+
+-- the source of a document, and of a step
+abbrev pub rootSource : Position → Source
+rootSource p = fromRoot (p .name)
+
+abbrev pub stepSource : Position → Source
+stepSource p = fromStep (stepIn p) (p .first)
 
 -- a position with its marks
 abbrev pub entryBy : Position → positions.Entry

@@ -1,8 +1,8 @@
 // Whether the positions of two scripts meet: fills the table of pairs row by row, each cell from those of lower pairs.
 ghost use mathlib.Core.Path.{_≡_};
-ghost use Rattle.paths.specs.Cells.{fromRoot, fromStep, sourcesOf, sourcesCell, cellBy, isTested, positionsMeet};
+ghost use Rattle.paths.specs.Cells.{sourcesOf, sourcesCell, cellBy, isTested, positionsMeet};
 ghost use Rattle.paths.specs.Codes.{stepOf, cellOf};
-ghost use Rattle.paths.specs.Words.{positionBy, entryBy, stepIn};
+ghost use Rattle.paths.specs.Words.{positionBy, entryBy, stepIn, rootSource, stepSource};
 ghost use mathlib.Core.List.{[], _∷_};
 ghost use Rattle.paths.specs.Pairs.{marks};
 ghost use Rattle.paths.specs.Filling.{entriesBy, CellPre, FromStepPre, MeetPre, MeetPost, RowPre, RowPost, TablePre};
@@ -26,7 +26,7 @@ fn step_of(p: Position) -> Step
 // From a document, number k of the first script, to the sources of q, number l of the second.
 fn from_root(table: &[u8], k: usize, l: usize, p: Position, q: Position) -> Cell
     requires { ⌜ CellPre (now table) k l p q ⌝ }
-    ensures { λ r. ⌜ cellOf r ≡ sourcesCell k l (marks (now (table .entry))) (fromRoot (p .name) ∷ []) (sourcesOf (positionBy q)) ⌝ }
+    ensures { λ r. ⌜ cellOf r ≡ sourcesCell k l (marks (now (table .entry))) (rootSource p ∷ []) (sourcesOf (positionBy q)) ⌝ }
 {
     if q.kind == positions::ROOT {
         return Cell::roots(p.name, q.name);
@@ -40,7 +40,7 @@ fn from_root(table: &[u8], k: usize, l: usize, p: Position, q: Position) -> Cell
 // From a step, number k of the first script, to the sources of q, number l of the second.
 fn from_step(table: &[u8], k: usize, l: usize, p: Position, q: Position) -> Cell
     requires { ⌜ FromStepPre (now table) k l p q ⌝ }
-    ensures { λ r. ⌜ cellOf r ≡ sourcesCell k l (marks (now (table .entry))) (fromStep (stepIn p) (p .first) ∷ []) (sourcesOf (positionBy q)) ⌝ }
+    ensures { λ r. ⌜ cellOf r ≡ sourcesCell k l (marks (now (table .entry))) (stepSource p ∷ []) (sourcesOf (positionBy q)) ⌝ }
 {
     if q.kind == positions::ROOT {
         return pairs::marked(table, p.first, l).down_step(step_of(p));
@@ -106,13 +106,13 @@ fn pair(
     is_tested(p, q) & c.is_met()
 }
 
-// Fills in row k up to a pair that meets, and says whether there is one.
+// Fills in row k up to a pair that meets, and says whether there is one. Position 0 is nothing: its pairs stay clear.
 fn row(first: &[usize], second: &[usize], table: &mut [u8], k: usize) -> bool
     requires { ⌜ RowPre (now first) (now second) (now table) k ⌝ }
     ensures { λ r. ⌜ RowPost (now (first .entry)) (now (second .entry)) k (now (table .exit)) r ⌝ }
 {
     let p = Position::unpacked(first[k]);
-    let mut l = 0;
+    let mut l = 1;
     while l < second.len() {
         if pair(first, second, table, k, l, p) {
             return true;
@@ -128,7 +128,7 @@ pub fn positions_meet(first: &[usize], second: &[usize], table: &mut [u8]) -> bo
     ensures { λ r. ⌜ r ≡ positionsMeet (entriesBy (now (first .entry))) (entriesBy (now (second .entry))) ⌝ }
 {
     pairs::clear(table, first.len());
-    let mut k = 0;
+    let mut k = 1;
     while k < first.len() {
         if row(first, second, table, k) {
             return true;

@@ -63,15 +63,28 @@ slice-aggregate-answer-3 : tie.Need-slice-aggregate-answer-3
 slice-aggregate-answer-3 c = search needs
 
 answer-requires : tie.Need-answer-requires
-answer-requires c κs = answer-asks (c .before .before .before .before .before .before .before .before .before .before .before .before .before .before .before .before .before .before .args .first .now) (c .before .before .before .before .before .before .before .before .before .before .before .before .before .before .before .before .before .before .args .second .now) (c .before .before .before .before .before .before .before .before .positions-of .ensures) (c .before .before .before .before .before .positions-of2 .ensures) _ (has-rows _ _ (omega (arith, c .before .before .before .if3 .taken)))
+answer-requires c κs =
+    let c3 = c .before .before .before in
+    let c5 = c3 .before .before in
+    let c8 = c5 .before .before .before in
+    let c18 = c8 .before .before .before .before .before .before .before .before .before .before in
+    answer-asks (c18 .args .first .now) (c18 .args .second .now) (c8 .positions-of .ensures) (c5 .positions-of2 .ensures) _ (has-rows
+    _ _ (omega (arith, c3 .if3 .taken)))
 
 returns-3 : tie.Need-returns-3
 returns-3 c =
-    let zero : c .before .before .before .before .before .before .before .before .before .before .before .before .before .before .before .before .before .read-script .result .number ≡ 0 = search (c .before .before .before .before .before .before .before .before .before .before .before .before .before .before .before .if1 .left, needs) in
-    let zero2 : c .before .before .before .before .before .before .before .before .before .before .before .before .before .before .read-script2 .result .number ≡ 0 = search (c .before .before .before .before .before .before .before .before .before .before .before .before .if2 .left, needs) in
-    both-accepted (c .before .before .before .before .before .before .before .before .before .before .before .before .before .before .before .before .before .before .before .before .args .first .now) (c .before .before .before .before .before .before .before .before .before .before .before .before .before .before .before .before .before .before .before .before .args .second .now) (sym (ap (λ (x : Fault). x .number) (c .before .before .before .before .before .before .before .before .before .before .before .before .before .before .before .before .before .read-script .ensures)) ∙ zero)
-    (sym (ap (λ (x : Fault). x .number) (c .before .before .before .before .before .before .before .before .before .before .before .before .before .before .read-script2 .ensures)) ∙ zero2) (c .before .before .before .before .before .before .before .before .before .before .positions-of .ensures) (c .before .before .before .before .before .before .before .positions-of2 .ensures)
-    (c .before .answer .ensures)
+    let c7 = c .before .before .before .before .before .before .before in
+    let c10 = c7 .before .before .before in
+    let c12 = c10 .before .before in
+    let c14 = c12 .before .before in
+    let c15 = c14 .before in
+    let c17 = c15 .before .before in
+    let c20 = c17 .before .before .before in
+    let zero : c17 .read-script .result .number ≡ 0 = search (c15 .if1 .left, needs) in
+    let zero2 : c14 .read-script2 .result .number ≡ 0 = search (c12 .if2 .left, needs) in
+    both-accepted (c20 .args .first .now) (c20 .args .second .now) (sym (ap (λ (x : Fault). x .number) (c17 .read-script .ensures)) ∙
+    zero) (sym (ap (λ (x : Fault). x .number) (c14 .read-script2 .ensures)) ∙ zero2) (c10 .positions-of .ensures)
+    (c7 .positions-of2 .ensures) (c .before .answer .ensures)
 
 slice-aggregate-answer-4 : tie.Need-slice-aggregate-answer-4
 slice-aggregate-answer-4 c = search needs
@@ -83,15 +96,27 @@ slice-aggregate-answer-6 : tie.Need-slice-aggregate-answer-6
 slice-aggregate-answer-6 c = search needs
 
 answer-requires-2 : tie.Need-answer-requires-2
-answer-requires-2 c κs = answer-asks (c .before .before .before .before .before .before .before .before .before .before .before .before .before .before .before .before .before .before .args .first .now) (c .before .before .before .before .before .before .before .before .before .before .before .before .before .before .before .before .before .before .args .second .now) (c .before .before .before .before .before .before .before .before .positions-of .ensures) (c .before .before .before .before .before .positions-of2 .ensures) _ (has-rows _ _ (omega (arith, c .before .before .before .before .before .before .before .before .positions-of .ensures .few)))
+answer-requires-2 c κs =
+    let c5 = c .before .before .before .before .before in
+    let c8 = c5 .before .before .before in
+    let c18 = c8 .before .before .before .before .before .before .before .before .before .before in
+    answer-asks (c18 .args .first .now) (c18 .args .second .now) (c8 .positions-of .ensures) (c5 .positions-of2 .ensures) _ (has-rows
+    _ _ (omega (arith, c8 .positions-of .ensures .few)))
 
 returns-4 : tie.Need-returns-4
 returns-4 c =
-    let zero : c .before .before .before .before .before .before .before .before .before .before .before .before .before .before .before .before .before .read-script .result .number ≡ 0 = search (c .before .before .before .before .before .before .before .before .before .before .before .before .before .before .before .if1 .left, needs) in
-    let zero2 : c .before .before .before .before .before .before .before .before .before .before .before .before .before .before .read-script2 .result .number ≡ 0 = search (c .before .before .before .before .before .before .before .before .before .before .before .before .if2 .left, needs) in
-    both-accepted (c .before .before .before .before .before .before .before .before .before .before .before .before .before .before .before .before .before .before .before .before .args .first .now) (c .before .before .before .before .before .before .before .before .before .before .before .before .before .before .before .before .before .before .before .before .args .second .now) (sym (ap (λ (x : Fault). x .number) (c .before .before .before .before .before .before .before .before .before .before .before .before .before .before .before .before .before .read-script .ensures)) ∙ zero)
-    (sym (ap (λ (x : Fault). x .number) (c .before .before .before .before .before .before .before .before .before .before .before .before .before .before .read-script2 .ensures)) ∙ zero2) (c .before .before .before .before .before .before .before .before .before .before .positions-of .ensures) (c .before .before .before .before .before .before .before .positions-of2 .ensures)
-    (c .before .answer2 .ensures)
+    let c7 = c .before .before .before .before .before .before .before in
+    let c10 = c7 .before .before .before in
+    let c12 = c10 .before .before in
+    let c14 = c12 .before .before in
+    let c15 = c14 .before in
+    let c17 = c15 .before .before in
+    let c20 = c17 .before .before .before in
+    let zero : c17 .read-script .result .number ≡ 0 = search (c15 .if1 .left, needs) in
+    let zero2 : c14 .read-script2 .result .number ≡ 0 = search (c12 .if2 .left, needs) in
+    both-accepted (c20 .args .first .now) (c20 .args .second .now) (sym (ap (λ (x : Fault). x .number) (c17 .read-script .ensures)) ∙
+    zero) (sym (ap (λ (x : Fault). x .number) (c14 .read-script2 .ensures)) ∙ zero2) (c10 .positions-of .ensures)
+    (c7 .positions-of2 .ensures) (c .before .answer2 .ensures)
 
 pub analyse-spec : {M : Type 1} → statement M
 analyse-spec =

@@ -6,7 +6,9 @@ use Rattle.paths.proofs.emit.below.Statement.{statement}
 use Rattle.paths.proofs.emit.below.Tie as tie
 
 returns : tie.Need-returns
-returns c = below-none (c .before .before .args .words .now) (c .before .before .args .count) (c .before .before .args .mark) (c .before .before .args .operand) (c .before .before .pre) (c .if1 .taken)
+returns c =
+    let c2 = c .before .before in
+    below-none (c2 .args .words .now) (c2 .args .count) (c2 .args .mark) (c2 .args .operand) (c2 .pre) (c .if1 .taken)
 
 any-below-requires : tie.Need-any-below-requires
 any-below-requires c κs = search needs
@@ -15,7 +17,14 @@ over-requires : tie.Need-over-requires
 over-requires c κs = search needs
 
 push-requires : tie.Need-push-requires
-push-requires c κs = record { room = omega (arith, c .before .before .before .before .before .pre .size, c .before .before .before .before .before .pre .room); fits = below-fits (c .over .result) (c .before .before .before .before .before .args .mark) (c .before .any-below .result) (c .before .before .before .before .before .args .operand) (c .over .ensures) (c .before .any-below .ensures) (c .before .before .before .before .before .pre .known) (omega (arith, c .before .before .before .before .before .pre .low, c .before .before .before .before .before .pre .room)) }
+push-requires c κs =
+    let c5 = c .before .before .before .before .before in
+    record {
+      room = omega (arith, c5 .pre .size, c5 .pre .room);
+      fits = below-fits (c .over .result) (c5 .args .mark)
+          (c .before .any-below .result) (c5 .args .operand) (c .over .ensures) (c .before .any-below .ensures) (c5 .pre .known)
+          (omega (arith, c5 .pre .low, c5 .pre .room));
+    }
 
 add-result : tie.Need-add-result
 add-result c = search needs
@@ -24,7 +33,14 @@ same-length : tie.Need-same-length
 same-length c = search needs
 
 returns-2 : tie.Need-returns-2
-returns-2 c = below-some (c .before .before .before .before .before .before .before .before .args .words .now) (c .before .before .before .before .before .before .before .before .args .count) (c .before .before .before .before .before .before .before .before .args .mark) (c .before .before .before .before .before .before .before .before .args .operand) (c .before .before .before .before .before .before .before .before .pre) (c .before .before .before .before .before .before .if1 .left) (c .before .before .push .last .0) (c .before .before .before .over .result) (c .before .before .before .before .any-below .result) (c .before .before .before .before .any-below .ensures) (c .before .before .before .over .ensures) (c .before .before .push .ensures)
+returns-2 c =
+    let c2 = c .before .before in
+    let c3 = c2 .before in
+    let c4 = c3 .before in
+    let c6 = c4 .before .before in
+    let c8 = c6 .before .before in
+    below-some (c8 .args .words .now) (c8 .args .count) (c8 .args .mark) (c8 .args .operand) (c8 .pre) (c6 .if1 .left)
+    (c2 .push .last .0) (c3 .over .result) (c4 .any-below .result) (c4 .any-below .ensures) (c3 .over .ensures) (c2 .push .ensures)
 
 pub below-spec : {M : Type 1} → statement M
 below-spec =

@@ -6,16 +6,28 @@ use Rattle.paths.proofs.emit.union.Statement.{statement}
 use Rattle.paths.proofs.emit.union.Tie as tie
 
 returns : tie.Need-returns
-returns c = union-first (c .before .before .args .words .now) (c .before .before .args .y) (c .before .before .pre .grow) (c .before .before .args .first) (c .if1 .taken)
+returns c =
+    let c2 = c .before .before in
+    union-first (c2 .args .words .now) (c2 .args .y) (c2 .pre .grow) (c2 .args .first) (c .if1 .taken)
 
 returns-2 : tie.Need-returns-2
-returns-2 c = union-second (c .before .before .before .before .args .words .now) (c .before .before .before .before .args .y) (c .before .before .before .before .pre .grow) (c .before .before .before .before .args .first) (c .before .before .before .before .pre .low) (c .before .before .if1 .left) (c .if2 .taken)
+returns-2 c =
+    let c2 = c .before .before in
+    let c4 = c2 .before .before in
+    union-second (c4 .args .words .now) (c4 .args .y) (c4 .pre .grow) (c4 .args .first) (c4 .pre .low) (c2 .if1 .left) (c .if2 .taken)
 
 union-requires : tie.Need-union-requires
 union-requires c κs = search needs
 
 push-requires : tie.Need-push-requires
-push-requires c κs = record { room = omega (arith, c .before .before .before .before .before .before .pre .grow .size, c .before .before .before .before .before .before .pre .grow .room); fits = union-fits (c .union .result) 0 (c .before .before .before .before .before .before .args .first) (c .before .before .before .before .before .before .args .y .result) (c .union .ensures) (omega arith) (omega (arith, c .before .before .before .before .before .before .pre .low, c .before .before .before .before .before .before .pre .grow .room)) (omega (arith, c .before .before .before .before .before .before .pre .grow .low, c .before .before .before .before .before .before .pre .grow .room)) }
+push-requires c κs =
+    let c6 = c .before .before .before .before .before .before in
+    record {
+      room = omega (arith, c6 .pre .grow .size, c6 .pre .grow .room);
+      fits = union-fits (c .union .result) 0 (c6 .args .first)
+          (c6 .args .y .result) (c .union .ensures) (omega arith) (omega (arith, c6 .pre .low, c6 .pre .grow .room))
+          (omega (arith, c6 .pre .grow .low, c6 .pre .grow .room));
+    }
 
 add-t10 : tie.Need-add-t10
 add-t10 c = search needs
@@ -24,7 +36,14 @@ same-length : tie.Need-same-length
 same-length c = search needs
 
 returns-3 : tie.Need-returns-3
-returns-3 c = union-grown (c .before .before .before .before .before .before .before .before .before .args .words .now) (c .before .before .push .last .0) (c .before .before .before .before .before .before .before .before .before .args .y) (c .before .before .before .before .before .before .before .before .before .pre .grow) (c .before .before .before .union .result) (c .before .before .before .before .before .before .before .before .before .args .first) (c .before .before .before .before .before .before .before .if1 .left) (c .before .before .before .before .before .if2 .left) (c .before .before .before .union .ensures) (c .before .before .push .ensures)
+returns-3 c =
+    let c2 = c .before .before in
+    let c3 = c2 .before in
+    let c5 = c3 .before .before in
+    let c7 = c5 .before .before in
+    let c9 = c7 .before .before in
+    union-grown (c9 .args .words .now) (c2 .push .last .0) (c9 .args .y) (c9 .pre .grow) (c3 .union .result) (c9 .args .first)
+    (c7 .if1 .left) (c5 .if2 .left) (c3 .union .ensures) (c2 .push .ensures)
 
 pub union-spec : {M : Type 1} → statement M
 union-spec =

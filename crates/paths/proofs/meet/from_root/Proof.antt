@@ -11,10 +11,16 @@ roots-requires : tie.Need-roots-requires
 roots-requires c κs = search needs
 
 returns : tie.Need-returns
-returns c = root-root (marks (c .before .before .before .before .args .table .now)) (c .before .before .before .before .args .k) (c .before .before .before .before .args .l) (c .before .before .before .before .args .q) (cellOf (c .roots .result)) (c .before .before .before .before .args .p .name) (c .before .if1 .taken) (c .roots .ensures)
+returns c =
+    let c4 = c .before .before .before .before in
+    root-root (marks (c4 .args .table .now)) (c4 .args .k) (c4 .args .l) (c4 .args .q) (cellOf (c .roots .result)) (c4 .args .p .name)
+    (c .before .if1 .taken) (c .roots .ensures)
 
 marked-requires : tie.Need-marked-requires
-marked-requires c κs = row-asks (c .before .before .before .before .before .args .table .now) (c .before .before .before .before .before .args .k) (c .before .before .before .before .before .args .l) (c .before .before .before .before .before .args .p) (c .before .before .before .before .before .args .q) (c .before .before .before .before .before .pre) (c .before .before .before .before .before .args .q .first) (over-lower (c .before .before .before .before .before .args .q) (c .before .before .before .before .before .args .l) (c .before .before .before .before .before .pre .second) (c .if2 .taken))
+marked-requires c κs =
+    let c5 = c .before .before .before .before .before in
+    row-asks (c5 .args .table .now) (c5 .args .k) (c5 .args .l) (c5 .args .p) (c5 .args .q) (c5 .pre) (c5 .args .q .first) (over-lower
+    (c5 .args .q) (c5 .args .l) (c5 .pre .second) (c .if2 .taken))
 
 step-of-requires : tie.Need-step-of-requires
 step-of-requires c κs = search needs
@@ -23,13 +29,23 @@ up-step-requires : tie.Need-up-step-requires
 up-step-requires c κs = search needs
 
 returns-2 : tie.Need-returns-2
-returns-2 c = root-step (marks (c .before .before .before .before .before .before .before .before .args .table .now)) (c .before .before .before .before .before .before .before .before .args .k) (c .before .before .before .before .before .before .before .before .args .l) (c .before .before .before .before .before .before .before .before .args .q) (cellOf (c .up-step .result)) (c .before .before .before .before .before .before .before .before .args .p .name) (c .before .before .before .if2 .taken) (cellOf (c .before .before .marked .result)) (stepOf (c .before .step-of .result)) (c .up-step .ensures) (c .before .step-of .ensures) (c .before .before .marked .ensures)
+returns-2 c =
+    let c2 = c .before .before in
+    let c3 = c2 .before in
+    let c8 = c3 .before .before .before .before .before in
+    root-step (marks (c8 .args .table .now)) (c8 .args .k) (c8 .args .l) (c8 .args .q) (cellOf (c .up-step .result))
+    (c8 .args .p .name) (c3 .if2 .taken) (cellOf (c2 .marked .result)) (stepOf (c .before .step-of .result)) (c .up-step .ensures)
+    (c .before .step-of .ensures) (c2 .marked .ensures)
 
 none-requires : tie.Need-none-requires
 none-requires c κs = search needs
 
 returns-3 : tie.Need-returns-3
-returns-3 c = to-nothing (marks (c .before .before .before .before .before .before .args .table .now)) (c .before .before .before .before .before .before .args .k) (c .before .before .before .before .before .before .args .l) (c .before .before .before .before .before .before .args .q) (cellOf (c .none .result)) (fromRoot (c .before .before .before .before .before .before .args .p .name)) (c .before .before .before .if1 .left) (c .before .if2 .left) (c .none .ensures)
+returns-3 c =
+    let c3 = c .before .before .before in
+    let c6 = c3 .before .before .before in
+    to-nothing (marks (c6 .args .table .now)) (c6 .args .k) (c6 .args .l) (c6 .args .q) (cellOf (c .none .result))
+    (fromRoot (c6 .args .p .name)) (c3 .if1 .left) (c .before .if2 .left) (c .none .ensures)
 
 pub from-root-spec : {M : Type 1} → statement M
 from-root-spec =

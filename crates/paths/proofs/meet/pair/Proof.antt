@@ -15,10 +15,17 @@ unpacked-requires : tie.Need-unpacked-requires
 unpacked-requires c κs = search needs
 
 cell-requires : tie.Need-cell-requires
-cell-requires c κs = cell-asks (c .before .before .before .before .before .before .args .first .now) (c .before .before .before .before .before .before .args .second .now) (c .before .before .before .before .before .before .args .table .now) (c .before .before .before .before .before .before .args .k) (c .before .before .before .before .before .before .args .l) (c .before .before .before .before .before .before .args .p) (c .before .unpacked .result) (c .before .before .before .before .before .before .pre) (c .before .unpacked .ensures)
+cell-requires c κs =
+    let c6 = c .before .before .before .before .before .before in
+    cell-asks (c6 .args .first .now) (c6 .args .second .now) (c6 .args .table .now) (c6 .args .k) (c6 .args .l) (c6 .args .p)
+    (c .before .unpacked .result) (c6 .pre) (c .before .unpacked .ensures)
 
 mark-requires : tie.Need-mark-requires
-mark-requires c κs = mark-asks (c .before .before .before .before .before .before .before .before .args .first .now) (c .before .before .before .before .before .before .before .before .args .second .now) (c .before .before .before .before .before .before .before .before .args .table .now) (c .before .before .before .before .before .before .before .before .args .k) (c .before .before .before .before .before .before .before .before .args .l) (c .before .before .before .before .before .before .before .before .args .p) (c .before .before .before .unpacked .result) (c .before .before .before .before .before .before .before .before .pre) (c .before .before .before .unpacked .ensures)
+mark-requires c κs =
+    let c3 = c .before .before .before in
+    let c8 = c3 .before .before .before .before .before in
+    mark-asks (c8 .args .first .now) (c8 .args .second .now) (c8 .args .table .now) (c8 .args .k) (c8 .args .l) (c8 .args .p)
+    (c3 .unpacked .result) (c8 .pre) (c3 .unpacked .ensures)
 
 is-tested-requires : tie.Need-is-tested-requires
 is-tested-requires c κs = search needs
@@ -30,7 +37,14 @@ same-length : tie.Need-same-length
 same-length c = search needs
 
 returns : tie.Need-returns
-returns c = pair-filled (c .before .before .before .before .before .before .before .before .before .before .before .before .before .args .first .now) (c .before .before .before .before .before .before .before .before .before .before .before .before .before .args .second .now) (c .before .before .before .before .before .before .before .before .before .before .before .before .before .args .table .now) (c .before .before .before .before .before .before .before .before .before .before .before .before .before .args .k) (c .before .before .before .before .before .before .before .before .before .before .before .before .before .args .l) (c .before .before .before .before .before .before .before .before .before .before .before .before .before .args .p) (c .before .before .before .before .before .before .before .before .unpacked .result) (c .before .before .before .before .before .before .before .before .before .before .before .before .before .pre) (c .before .before .before .before .before .before .before .before .unpacked .ensures) (c .before .before .before .before .before .before .cell .result) (c .before .before .before .before .before .before .cell .ensures) (c .before .before .before .before .mark .last .0) (c .before .before .before .before .mark .ensures) (c .before .is-tested .result) (c .is-met .result) _ (c .before .is-tested .ensures) (c .is-met .ensures) refl
+returns c =
+    let c4 = c .before .before .before .before in
+    let c6 = c4 .before .before in
+    let c8 = c6 .before .before in
+    let c13 = c8 .before .before .before .before .before in
+    pair-filled (c13 .args .first .now) (c13 .args .second .now) (c13 .args .table .now) (c13 .args .k) (c13 .args .l) (c13 .args .p)
+    (c8 .unpacked .result) (c13 .pre) (c8 .unpacked .ensures) (c6 .cell .result) (c6 .cell .ensures) (c4 .mark .last .0)
+    (c4 .mark .ensures) (c .before .is-tested .result) (c .is-met .result) _ (c .before .is-tested .ensures) (c .is-met .ensures) refl
 
 pub pair-spec : {M : Type 1} → statement M
 pair-spec =

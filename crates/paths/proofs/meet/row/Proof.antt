@@ -8,13 +8,15 @@ use Rattle.paths.specs.Cells.{Filled, meetAt, rowMeets}
 use Rattle.paths.specs.Words.{entryOf}
 use Rattle.paths.specs.Pairs.{marks, HasRows}
 use Rattle.paths.specs.Filling.{entriesBy}
-use Rattle.paths.proofs.FillLaws.{any-none, any-next, any-found, row-filled}
+use Rattle.paths.proofs.FillLaws.{any-one, any-next, any-found, second-nothing, row-started, row-filled}
 use borrow.Author.Needs.{needs}
 use Rattle.paths.proofs.meet.row.Statement.{statement}
 use Rattle.paths.proofs.meet.row.Tie as tie
 
 abbrev Inv-loop : tie.InvT-loop
-Inv-loop first second table₀ k p l₀ table l = (l ≤ length second) × (length table ≡ length table₀) × HasRows table (length first) × Filled (entriesBy first) (entriesBy second) k l (marks table) × (rowMeets (entriesBy first) (entriesBy second) k l ≡ false)
+Inv-loop first second table₀ k p l₀ table l =
+    (l ≤ length second) × (length table ≡ length table₀) × HasRows table (length first) × Filled (entriesBy first) (entriesBy second)
+    k l (marks table) × (rowMeets (entriesBy first) (entriesBy second) k l ≡ false)
 
 abbrev μ-loop : tie.MeasureT-loop
 μ-loop first second table₀ k p l₀ table l = length second - l
@@ -29,16 +31,50 @@ unpacked-requires : tie.Need-unpacked-requires Inv-loop μ-loop
 unpacked-requires c κs = search needs
 
 loop-holds : tie.Need-loop-holds Inv-loop μ-loop
-loop-holds c = (omega arith, refl, c .before .before .before .before .before .pre .room, c .before .before .before .before .before .pre .filled, any-none (meetAt (entriesBy (c .before .before .before .before .before .args .first .now)) (entriesBy (c .before .before .before .before .before .args .second .now)) (c .before .before .before .before .before .args .k)))
+loop-holds c =
+    let c5 = c .before .before .before .before .before in (
+      c5 .pre .second .some,
+      refl,
+      c5 .pre .room,
+      row-started (c5 .args .first .now) (c5 .args .second .now) (c5 .args .table .now)
+          (c5 .args .k) (c5 .pre .row) (c5 .pre .second) (c5 .pre .filled),
+      any-one (meetAt (entriesBy (c5 .args .first .now))
+          (entriesBy (c5 .args .second .now)) (c5 .args .k)) (second-nothing (entriesBy (c5 .args .first .now))
+          (entriesBy (c5 .args .second .now)) (c5 .pre .second .nothing) (c5 .args .k)),
+    )
 
 pair-requires : tie.Need-pair-requires Inv-loop μ-loop
-pair-requires c κs = record { first = c .before .before .before .before .before .before .before .before .pre .first; second = c .before .before .before .before .before .before .before .before .pre .second; room = c .before .before .loop .inv .2; row = c .before .before .before .before .before .before .before .before .pre .row; column = c .before .loop-test .taken; position = c .before .before .before .unpacked .ensures; filled = c .before .before .loop .inv .3 }
+pair-requires c κs =
+    let c2 = c .before .before in
+    let c3 = c2 .before in
+    let c8 = c3 .before .before .before .before .before in
+    record {
+      first = c8 .pre .first;
+      second = c8 .pre .second;
+      room = c2 .loop .inv .2;
+      row = c8 .pre .row;
+      column =
+          c .before .loop-test .taken;
+      position = c3 .unpacked .ensures;
+      filled = c2 .loop .inv .3;
+    }
 
 same-length : tie.Need-same-length Inv-loop μ-loop
 same-length c = c .before .before .before .pair .kept .1 .1 .0 ∙ c .before .before .before .before .before .before .loop .inv .1
 
 returns : tie.Need-returns Inv-loop μ-loop
-returns c = record { room = c .before .before .before .pair .ensures .room; filled = λ e. absurd (true≢false e); met = any-found (meetAt (entriesBy (c .before .before .before .before .before .before .before .before .before .before .before .before .args .first .now)) (entriesBy (c .before .before .before .before .before .before .before .before .before .before .before .before .args .second .now)) (c .before .before .before .before .before .before .before .before .before .before .before .before .args .k)) (c .before .before .before .before .before .before .loop .l) (length (entriesBy (c .before .before .before .before .before .before .before .before .before .before .before .before .args .second .now))) (omega (arith, length-map (c .before .before .before .before .before .before .before .before .before .before .before .before .args .second .now) entryOf)) (sym (c .before .before .before .pair .ensures .met) ∙ c .if1 .taken) }
+returns c =
+    let c3 = c .before .before .before in
+    let c6 = c3 .before .before .before in
+    let c12 = c6 .before .before .before .before .before .before in
+    record {
+      room = c3 .pair .ensures .room;
+      filled = λ e. absurd (true≢false e);
+      met = any-found (meetAt
+          (entriesBy (c12 .args .first .now)) (entriesBy (c12 .args .second .now)) (c12 .args .k)) (c6 .loop .l)
+          (length (entriesBy (c12 .args .second .now))) (omega (arith, length-map (c12 .args .second .now) entryOf))
+          (sym (c3 .pair .ensures .met) ∙ c .if1 .taken);
+    }
 
 add-l : tie.Need-add-l Inv-loop μ-loop
 add-l c = search needs
@@ -47,13 +83,34 @@ loop-less : tie.Need-loop-less Inv-loop μ-loop
 loop-less c = search needs
 
 loop-again : tie.Need-loop-again Inv-loop μ-loop
-loop-again c = (omega arith, c .before .before .before .pair .kept .1 .1 .0 ∙ c .before .before .before .before .before .before .loop .inv .1, c .before .before .before .pair .ensures .room, c .before .before .before .pair .ensures .filled, any-next (meetAt (entriesBy (c .before .before .before .before .before .before .before .before .before .before .before .before .args .first .now)) (entriesBy (c .before .before .before .before .before .before .before .before .before .before .before .before .args .second .now)) (c .before .before .before .before .before .before .before .before .before .before .before .before .args .k)) (c .before .before .before .before .before .before .loop .l) (c .before .before .before .pair .result) (c .before .before .before .before .before .before .loop .inv .4) (c .before .before .before .pair .ensures .met) (c .if1 .left))
+loop-again c =
+    let c3 = c .before .before .before in
+    let c6 = c3 .before .before .before in
+    let c12 = c6 .before .before .before .before .before .before in (
+      omega arith,
+      c3 .pair .kept .1 .1 .0 ∙ c6 .loop .inv .1,
+      c3 .pair .ensures .room,
+      c3 .pair .ensures .filled,
+      any-next (meetAt
+          (entriesBy (c12 .args .first .now)) (entriesBy (c12 .args .second .now)) (c12 .args .k)) (c6 .loop .l) (c3 .pair .result)
+          (c6 .loop .inv .4) (c3 .pair .ensures .met) (c .if1 .left),
+    )
 
 same-length-2 : tie.Need-same-length-2 Inv-loop μ-loop
 same-length-2 c = c .before .loop .inv .1
 
 returns-2 : tie.Need-returns-2 Inv-loop μ-loop
-returns-2 c = let e : length (c .before .before .before .before .before .before .before .args .second .now) ≡ c .before .loop .l = omega (arith, c .before .loop .inv .0) in record { room = c .before .loop .inv .2; filled = λ q. row-filled (c .before .before .before .before .before .before .before .args .first .now) (c .before .before .before .before .before .before .before .args .second .now) (c .before .loop .table) (c .before .before .before .before .before .before .before .args .k) (c .before .loop .l) e (c .before .loop .inv .3); met = sym (ap (rowMeets (entriesBy (c .before .before .before .before .before .before .before .args .first .now)) (entriesBy (c .before .before .before .before .before .before .before .args .second .now)) (c .before .before .before .before .before .before .before .args .k)) (length-map (c .before .before .before .before .before .before .before .args .second .now) entryOf ∙ e) ∙ c .before .loop .inv .4) }
+returns-2 c =
+    let c7 = c .before .before .before .before .before .before .before in
+    let e : length (c7 .args .second .now) ≡ c .before .loop .l = omega (arith, c .before .loop .inv .0) in
+    record {
+      room = c .before .loop .inv .2;
+      filled = λ q. row-filled (c7 .args .first .now) (c7 .args .second .now)
+          (c .before .loop .table) (c7 .args .k) (c .before .loop .l) e (c .before .loop .inv .3);
+      met = sym (ap (rowMeets
+          (entriesBy (c7 .args .first .now)) (entriesBy (c7 .args .second .now)) (c7 .args .k))
+          (length-map (c7 .args .second .now) entryOf ∙ e) ∙ c .before .loop .inv .4);
+    }
 
 pub row-spec : {M : Type 1} → statement M
 row-spec =

@@ -30,13 +30,23 @@ loop-less : tie.Need-loop-less Inv-loop μ-loop
 loop-less c = search needs
 
 loop-again : tie.Need-loop-again Inv-loop μ-loop
-loop-again c = (omega arith, length-set (c .before .loop .table) (c .before .loop .i) 0 ∙ c .before .loop .inv .1, zeroed (c .before .loop .table) (c .before .loop .i) (omega (arith, rows-fit (c .before .before .args .table .now) (c .before .before .args .rows) (c .before .before .pre))) (c .before .loop .inv .2))
+loop-again c =
+    let c2 = c .before .before in (
+      omega arith,
+      length-set (c .before .loop .table) (c .before .loop .i) 0 ∙ c .before .loop .inv .1,
+      zeroed
+          (c .before .loop .table) (c .before .loop .i) (omega (arith, rows-fit (c2 .args .table .now) (c2 .args .rows) (c2 .pre)))
+          (c .before .loop .inv .2),
+    )
 
 same-length : tie.Need-same-length Inv-loop μ-loop
 same-length c = search needs
 
 returns : tie.Need-returns Inv-loop μ-loop
-returns c = cleared (c .before .before .args .table .now) (c .before .before .args .rows) (c .before .loop .table) (c .before .loop .inv .1) (λ i h. c .before .loop .inv .2 i (omega arith))
+returns c =
+    let c2 = c .before .before in
+    cleared (c2 .args .table .now) (c2 .args .rows) (c .before .loop .table) (c .before .loop .inv .1) (λ i h. c .before .loop .inv .2
+    i (omega arith))
 
 pub clear-spec : {M : Type 1} → statement M
 clear-spec =

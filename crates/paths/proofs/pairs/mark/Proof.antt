@@ -14,13 +14,17 @@ slice-read-table : tie.Need-slice-read-table
 slice-read-table c = search (pair-place (c .before .args .table .now) (c .before .args .k) (c .before .args .l) (c .before .pre), needs)
 
 slice-write-table : tie.Need-slice-write-table
-slice-write-table c = search (pair-place (c .before .before .args .table .now) (c .before .before .args .k) (c .before .before .args .l) (c .before .before .pre), needs)
+slice-write-table c =
+    let c2 = c .before .before in
+    search (pair-place (c2 .args .table .now) (c2 .args .k) (c2 .args .l) (c2 .pre), needs)
 
 same-length : tie.Need-same-length
 same-length c = search needs
 
 returns : tie.Need-returns
-returns c = pair-marked (c .before .before .args .table .now) (c .before .before .args .k) (c .before .before .args .l) (c .before .before .args .c) (c .before .before .pre)
+returns c =
+    let c2 = c .before .before in
+    pair-marked (c2 .args .table .now) (c2 .args .k) (c2 .args .l) (c2 .args .c) (c2 .pre)
 
 pub mark-spec : {M : Type 1} → statement M
 mark-spec =

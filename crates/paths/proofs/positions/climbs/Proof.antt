@@ -34,7 +34,13 @@ is-climb-requires : tie.Need-is-climb-requires Inv-loop μ-loop
 is-climb-requires c κs = search needs
 
 returns : tie.Need-returns Inv-loop μ-loop
-returns c = any-found (climbAt (c .before .before .before .before .before .before .before .args .words .now)) (c .before .before .before .before .before .loop .i) (length (c .before .before .before .before .before .before .before .args .words .now)) (omega arith) (sym (climb-at (c .before .before .before .before .before .before .before .args .words .now) (c .before .before .before .before .before .loop .i) (c .before .before .unpacked .result) (c .before .is-climb .result) (c .before .before .unpacked .ensures) (c .before .is-climb .ensures)) ∙ c .if1 .taken)
+returns c =
+    let c2 = c .before .before in
+    let c5 = c2 .before .before .before in
+    let c7 = c5 .before .before in
+    any-found (climbAt (c7 .args .words .now)) (c5 .loop .i) (length (c7 .args .words .now)) (omega arith) (sym (climb-at
+    (c7 .args .words .now) (c5 .loop .i) (c2 .unpacked .result) (c .before .is-climb .result) (c2 .unpacked .ensures)
+    (c .before .is-climb .ensures)) ∙ c .if1 .taken)
 
 add-i : tie.Need-add-i Inv-loop μ-loop
 add-i c = search needs
@@ -43,10 +49,21 @@ loop-less : tie.Need-loop-less Inv-loop μ-loop
 loop-less c = search needs
 
 loop-again : tie.Need-loop-again Inv-loop μ-loop
-loop-again c = (omega arith, any-next (climbAt (c .before .before .before .before .before .before .before .args .words .now)) (c .before .before .before .before .before .loop .i) (c .before .is-climb .result) (c .before .before .before .before .before .loop .inv .1) (climb-at (c .before .before .before .before .before .before .before .args .words .now) (c .before .before .before .before .before .loop .i) (c .before .before .unpacked .result) (c .before .is-climb .result) (c .before .before .unpacked .ensures) (c .before .is-climb .ensures)) (c .if1 .left))
+loop-again c =
+    let c2 = c .before .before in
+    let c5 = c2 .before .before .before in
+    let c7 = c5 .before .before in (
+      omega arith,
+      any-next (climbAt (c7 .args .words .now)) (c5 .loop .i) (c .before .is-climb .result) (c5 .loop .inv .1) (climb-at
+          (c7 .args .words .now) (c5 .loop .i) (c2 .unpacked .result) (c .before .is-climb .result) (c2 .unpacked .ensures)
+          (c .before .is-climb .ensures)) (c .if1 .left),
+    )
 
 returns-2 : tie.Need-returns-2 Inv-loop μ-loop
-returns-2 c = let e : length (c .before .before .before .args .words .now) ≡ c .before .loop .i = omega (arith, c .before .loop .inv .0) in sym (ap (anyUpTo (climbAt (c .before .before .before .args .words .now))) e ∙ c .before .loop .inv .1)
+returns-2 c =
+    let c3 = c .before .before .before in
+    let e : length (c3 .args .words .now) ≡ c .before .loop .i = omega (arith, c .before .loop .inv .0) in
+    sym (ap (anyUpTo (climbAt (c3 .args .words .now))) e ∙ c .before .loop .inv .1)
 
 pub climbs-spec : {M : Type 1} → statement M
 climbs-spec =
