@@ -2,5 +2,4 @@ pub mod CallLaws
 pub mod CopyLaws
 pub mod GivenLaws
 pub mod RunLaws
-pub mod EncodeLaws
 pub mod Promised

@@ -35,7 +35,7 @@ use Rattle.eval.specs.Calls.{ran, resultOf}
 use Rattle.ffi.specs.Calls.{codeOf, shortCode, readCode, readOut, writtenCode, backCode, backOut}
 use Rattle.ffi.specs.Running.{isShort, sixOver, refusedCall, ranCall, readCall, runCalled}
 use Rattle.ffi.specs.Promise.{atFront, PlanBack, SweptBack, UndoneBack, RunDone, RunRefused}
-use Rattle.ffi.proofs.EncodeLaws.{decode-encode, fits-encode, well-written, well-out}
+use Rattle.table.proofs.EncodeLaws.{decode-encode, fits-encode, well-written, well-out}
 
 -- A PLAN READ is the table in its words; the call then answers n and leaves b
 module _ (p o : List ℕ) (x : model.Table) (read : readPlan p ≡ got x) (room : 2080 ≤ length o) where
