@@ -31,20 +31,9 @@ fn unary(
     ensures { λ r. ⌜ EvalPost (now (script .entry)) at left bound env (now (marks .entry)) (now (rows .entry)) (now (history .entry))
         (now (work .entry)) top p (now (rows .exit)) (now (history .exit)) (now (work .exit)) r ⌝ }
 {
-    let first_at = at + (1 + kinds::body_size(script[at]));
-    let x = eval(
-        script,
-        first_at,
-        left - 1,
-        bound,
-        env,
-        marks,
-        rows,
-        history,
-        work,
-        top,
-        p,
-    );
+    let i = at + (1 + kinds::body_size(script[at]));
+    let k = left - 1;
+    let x = eval(script, i, k, bound, env, marks, rows, history, work, top, p);
     if x.progress.number != 0 {
         return x;
     }
@@ -71,19 +60,9 @@ fn binary(
         (now (work .entry)) top p (now (rows .exit)) (now (history .exit)) (now (work .exit)) r ⌝ }
 {
     let kind = script[at];
-    let x = eval(
-        script,
-        at + 1,
-        left - 1,
-        bound,
-        env,
-        marks,
-        rows,
-        history,
-        work,
-        top,
-        p,
-    );
+    let i = at + 1;
+    let k = left - 1;
+    let x = eval(script, i, k, bound, env, marks, rows, history, work, top, p);
     if x.progress.number != 0 {
         return x;
     }
@@ -91,19 +70,9 @@ fn binary(
     let scope = x.env;
     let q = x.progress;
     let inside = value::bind(kind, scope, bound, top, mid);
-    let y = eval(
-        script,
-        x.place,
-        left - 1,
-        value::inner(kind, bound),
-        inside,
-        marks,
-        rows,
-        history,
-        work,
-        mid,
-        q,
-    );
+    let j = x.place;
+    let n = value::inner(kind, bound);
+    let y = eval(script, j, k, n, inside, marks, rows, history, work, mid, q);
     if y.progress.number != 0 {
         return y;
     }
@@ -129,30 +98,20 @@ fn branch(
     ensures { λ r. ⌜ EvalPost (now (script .entry)) at left bound env (now (marks .entry)) (now (rows .entry)) (now (history .entry))
         (now (work .entry)) top p (now (rows .exit)) (now (history .exit)) (now (work .exit)) r ⌝ }
 {
-    let x = eval(
-        script,
-        at + 1,
-        left - 1,
-        bound,
-        env,
-        marks,
-        rows,
-        history,
-        work,
-        top,
-        p,
-    );
+    let i = at + 1;
+    let k = left - 1;
+    let x = eval(script, i, k, bound, env, marks, rows, history, work, top, p);
     if x.progress.number != 0 {
         return x;
     }
     let scope = x.env;
     let q = x.progress;
     if x.end == top {
-        let third = walk::end_at(script, x.place);
+        let j = walk::end_at(script, x.place);
         return eval(
             script,
-            third,
-            left - 1,
+            j,
+            k,
             bound,
             scope,
             marks,
@@ -163,10 +122,11 @@ fn branch(
             q,
         );
     }
+    let j = x.place;
     let y = eval(
         script,
-        x.place,
-        left - 1,
+        j,
+        k,
         bound,
         scope,
         marks,
@@ -201,19 +161,9 @@ fn iterate(
     ensures { λ r. ⌜ EvalPost (now (script .entry)) at left bound env (now (marks .entry)) (now (rows .entry)) (now (history .entry))
         (now (work .entry)) top p (now (rows .exit)) (now (history .exit)) (now (work .exit)) r ⌝ }
 {
-    let x = eval(
-        script,
-        at + 1,
-        left - 1,
-        bound,
-        env,
-        marks,
-        rows,
-        history,
-        work,
-        top,
-        p,
-    );
+    let i = at + 1;
+    let k = left - 1;
+    let x = eval(script, i, k, bound, env, marks, rows, history, work, top, p);
     if x.progress.number != 0 {
         return x;
     }
@@ -227,7 +177,7 @@ fn iterate(
         script,
         at,
         x.place,
-        left - 1,
+        k,
         bound,
         scope,
         marks,
@@ -271,11 +221,12 @@ fn each(
     let count = to - from;
     if count == 1 {
         let inside = value::bind(kinds::FOR, env, bound, from, to);
+        let n = bound + 1;
         let y = eval(
             script,
             at,
             left,
-            bound + 1,
+            n,
             inside,
             marks,
             rows,

@@ -7,11 +7,9 @@ use Rattle.eval.proofs.tally.none.Reads as none-reads
 use mathlib.Core.Path.{ap}
 use Rattle.eval.specs.declared.tally.Tally.{Tally}
 
--- src/lib.rt:38:9
 none-requires : tie.Need-none-requires
 none-requires c κs = search needs
 
--- src/lib.rt:35:1
 returns : tie.Need-returns
 returns c =
     ap (λ (y : Tally). record {

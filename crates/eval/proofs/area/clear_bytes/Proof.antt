@@ -16,37 +16,34 @@ Inv-loop area₀ k₀ area k = (k ≤ length area₀) × (length area ≡ length
 abbrev μ-loop : tie.MeasureT-loop
 μ-loop area₀ k₀ area k = length area₀ - k
 
--- src/area.rt:23:5
 loop-holds : tie.Need-loop-holds Inv-loop μ-loop
 loop-holds c = search needs
 
--- src/area.rt:24:9
 slice-write-area : tie.Need-slice-write-area Inv-loop μ-loop
 slice-write-area c = search needs
 
--- src/area.rt:25:9
 add-i : tie.Need-add-i Inv-loop μ-loop
 add-i c = search needs
 
--- src/area.rt:23:5
 loop-less : tie.Need-loop-less Inv-loop μ-loop
 loop-less c = search needs
 
--- src/area.rt:23:5
 loop-again : tie.Need-loop-again Inv-loop μ-loop
 loop-again c =
-    let l = c .before .loop .inv .1 in
-    (omega arith, length-set (c .before .loop .area) (c .before .loop .i) 0 ∙ l, cleared-next (c .before .before .args .area .now) (c .before .loop .area) (c .before .loop .i) (omega arith) (c .before .loop .inv .2))
+    let l = c .before .loop .inv .1 in (
+      omega arith,
+      length-set (c .before .loop .area) (c .before .loop .i) 0 ∙ l,
+      cleared-next (c
+          .before .before .args .area .now) (c .before .loop .area) (c .before .loop .i) (omega arith) (c .before .loop .inv .2),
+    )
 
--- src/area.rt:19:1
 same-length : tie.Need-same-length Inv-loop μ-loop
 same-length c = search needs
 
--- src/area.rt:19:1
 returns : tie.Need-returns Inv-loop μ-loop
 returns c =
-    let l = c .before .loop .inv .1 in
-    cleared-all (c .before .before .args .area .now) (c .before .loop .area) (c .before .loop .i) (omega arith) (c .before .loop .inv .0) (c .before .loop .inv .2)
+    let l = c .before .loop .inv .1 in cleared-all (c .before .before .args .area .now) (c .before .loop .area) (c .before .loop .i)
+    (omega arith) (c .before .loop .inv .0) (c .before .loop .inv .2)
 
 pub clear-bytes-spec : {M : Type 1} → statement M
 clear-bytes-spec =

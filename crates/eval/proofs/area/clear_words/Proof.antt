@@ -16,41 +16,37 @@ Inv-loop area₀ k₀ area k = (k ≤ length area₀) × (length area ≡ length
 abbrev μ-loop : tie.MeasureT-loop
 μ-loop area₀ k₀ area k = length area₀ - k
 
--- src/area.rt:12:5
 loop-holds : tie.Need-loop-holds Inv-loop μ-loop
 loop-holds c = search needs
 
--- src/area.rt:13:9
 mul-area : tie.Need-mul-area Inv-loop μ-loop
 mul-area c = search needs
 
--- src/area.rt:13:9
 slice-write-area : tie.Need-slice-write-area Inv-loop μ-loop
 slice-write-area c = search needs
 
--- src/area.rt:14:9
 add-k : tie.Need-add-k Inv-loop μ-loop
 add-k c = search needs
 
--- src/area.rt:12:5
 loop-less : tie.Need-loop-less Inv-loop μ-loop
 loop-less c = search needs
 
--- src/area.rt:12:5
 loop-again : tie.Need-loop-again Inv-loop μ-loop
 loop-again c =
-    let l = c .before .loop .inv .1 in
-    (omega arith, length-set (c .before .loop .area) (c .before .loop .k) 0 ∙ l, cleared-next (c .before .before .args .area .now) (c .before .loop .area) (c .before .loop .k) (omega arith) (c .before .loop .inv .2))
+    let l = c .before .loop .inv .1 in (
+      omega arith,
+      length-set (c .before .loop .area) (c .before .loop .k) 0 ∙ l,
+      cleared-next (c
+          .before .before .args .area .now) (c .before .loop .area) (c .before .loop .k) (omega arith) (c .before .loop .inv .2),
+    )
 
--- src/area.rt:8:1
 same-length : tie.Need-same-length Inv-loop μ-loop
 same-length c = search needs
 
--- src/area.rt:8:1
 returns : tie.Need-returns Inv-loop μ-loop
 returns c =
-    let l = c .before .loop .inv .1 in
-    cleared-all (c .before .before .args .area .now) (c .before .loop .area) (c .before .loop .k) (omega arith) (c .before .loop .inv .0) (c .before .loop .inv .2)
+    let l = c .before .loop .inv .1 in cleared-all (c .before .before .args .area .now) (c .before .loop .area) (c .before .loop .k)
+    (omega arith) (c .before .loop .inv .0) (c .before .loop .inv .2)
 
 pub clear-words-spec : {M : Type 1} → statement M
 clear-words-spec =

@@ -167,651 +167,679 @@ unary-claims t = (
   applied-reads.Learnt,
 )
 
--- src/evaluate.rt:73:16
 binary-shared-slice-read-kind : (t : ℕ) → binary-lts.Need-shared-slice-read-kind (binary-claims t) (binary-at t) binary.Post
 binary-shared-slice-read-kind t c =
-    let a = accepted-record (c .before .before .before .before .before .before .pre .1 .0 .accepted) .whole in
+    let c6 = c .before .before .before .before .before .before in
+    let a = accepted-record (c6 .pre .1 .0 .accepted) .whole in
     omega (arith, a)
 
--- src/evaluate.rt:76:9
-binary-add-eval : (t : ℕ) → binary-lts.Need-add-eval (binary-claims t) (binary-at t) binary.Post
-binary-add-eval t c =
-    let a = accepted-record (c .before .before .before .before .before .before .pre .1 .0 .accepted) .whole in
+binary-add-i : (t : ℕ) → binary-lts.Need-add-i (binary-claims t) (binary-at t) binary.Post
+binary-add-i t c =
+    let c6 = c .before .before .before .before .before .before in
+    let a = accepted-record (c6 .pre .1 .0 .accepted) .whole in
     omega (arith, a)
 
--- src/evaluate.rt:77:9
-binary-sub-eval : (t : ℕ) → binary-lts.Need-sub-eval (binary-claims t) (binary-at t) binary.Post
-binary-sub-eval t c =
-    deep (c .before .before .before .before .before .before .pre .1 .0)
+binary-sub-k : (t : ℕ) → binary-lts.Need-sub-k (binary-claims t) (binary-at t) binary.Post
+binary-sub-k t c =
+    let c6 = c .before .before .before .before .before .before in
+    deep (c6 .pre .1 .0)
 
--- src/evaluate.rt:74:9
 binary-eval-requires : (t : ℕ) → binary-lts.Need-eval-requires (binary-claims t) (binary-at t) binary.Post
 binary-eval-requires t c κs =
-    let d = deep (c .before .before .before .before .before .before .before .before .before .pre .1 .0) in
-    let m = c .before .before .before .before .before .before .before .before .before .pre .0 in
-    (omega (arith, d, m), binary-first (c .before .before .before .before .before .before .before .before .before .pre .1 .0) (c .before .before .before .before .before .before .before .before .before .pre .1 .1))
+    let c9 = c .before .before .before .before .before .before .before .before .before in
+    let d = deep (c9 .pre .1 .0) in
+    let m = c9 .pre .0 in
+    (omega (arith, d, m), binary-first (c9 .pre .1 .0) (c9 .pre .1 .1))
 
--- src/evaluate.rt:88:9
-binary-same-length : (t : ℕ) → binary-lts.Need-same-length (binary-claims t) (binary-at t) binary.Post
-binary-same-length t c = c .before .before .before .before .before .before .before .before .eval .kept .1 .1 .1 .1 .1 .1 .0
-
--- src/evaluate.rt:88:9
-binary-same-length-2 : (t : ℕ) → binary-lts.Need-same-length-2 (binary-claims t) (binary-at t) binary.Post
-binary-same-length-2 t c = c .before .before .before .before .before .before .before .before .eval .kept .1 .1 .1 .1 .1 .1 .1 .0
-
--- src/evaluate.rt:88:9
-binary-same-length-3 : (t : ℕ) → binary-lts.Need-same-length-3 (binary-claims t) (binary-at t) binary.Post
-binary-same-length-3 t c = c .before .before .before .before .before .before .before .before .eval .kept .1 .1 .1 .1 .1 .1 .1 .1 .0
-
--- src/evaluate.rt:88:9
 binary-returns : (t : ℕ) → binary-lts.Need-returns (binary-claims t) (binary-at t) binary.Post
 binary-returns t c =
-    binary-stops (c .before .before .before .before .before .before .before .before .before .before .before .before .before .before .before .before .before .before .pre .1 .0) (c .before .before .before .before .before .before .before .before .before .before .before .before .before .before .before .before .before .before .pre .1 .1) (c .before .before .before .before .before .before .before .before .eval .ensures) (c .if1 .taken)
+    let c8 = c .before .before .before .before .before .before .before .before in
+    let c18 = c8 .before .before .before .before .before .before .before .before .before .before in
+    binary-stops (c18 .pre .1 .0) (c18 .pre .1 .1) (c8 .eval .ensures) (c .if1 .taken)
 
--- src/evaluate.rt:93:9
 binary-bind-requires : (t : ℕ) → binary-lts.Need-bind-requires (binary-claims t) (binary-at t) binary.Post
 binary-bind-requires t c κs =
-    bind-asks (c .before .before .before .before .before .before .before .before .before .before .before .before .before .before .before .before .before .before .before .before .pre .1 .0) (c .before .before .before .before .before .before .before .before .before .before .before .before .before .before .before .before .before .before .before .before .pre .1 .1) (c .before .before .before .before .before .before .before .before .before .before .eval .ensures) (c .before .before .if1 .left)
+    let c10 = c .before .before .before .before .before .before .before .before .before .before in
+    let c20 = c10 .before .before .before .before .before .before .before .before .before .before in
+    bind-asks (c20 .pre .1 .0) (c20 .pre .1 .1) (c10 .eval .ensures) (c .before .before .if1 .left)
 
--- src/evaluate.rt:97:9
-binary-sub-eval-2 : (t : ℕ) → binary-lts.Need-sub-eval-2 (binary-claims t) (binary-at t) binary.Post
-binary-sub-eval-2 t c =
-    deep (c .before .before .before .before .before .before .before .before .before .before .before .before .before .before .before .before .before .before .before .before .before .pre .1 .0)
-
--- src/evaluate.rt:98:9
 binary-inner-requires : (t : ℕ) → binary-lts.Need-inner-requires (binary-claims t) (binary-at t) binary.Post
 binary-inner-requires t c κs =
-    c .before .before .before .before .before .before .before .before .before .before .before .before .before .before .before .before .before .before .before .before .before .pre .1 .0 .scope .few
+    let c10 = c .before .before .before .before .before .before .before .before .before .before in
+    let c21 = c10 .before .before .before .before .before .before .before .before .before .before .before in
+    c21 .pre .1 .0 .scope .few
 
--- src/evaluate.rt:94:9
 binary-eval-requires-2 : (t : ℕ) → binary-lts.Need-eval-requires-2 (binary-claims t) (binary-at t) binary.Post
 binary-eval-requires-2 t c κs =
-    let d = deep (c .before .before .before .before .before .before .before .before .before .before .before .before .before .before .before .before .before .before .before .before .before .before .before .before .before .pre .1 .0) in
-    let m = c .before .before .before .before .before .before .before .before .before .before .before .before .before .before .before .before .before .before .before .before .before .before .before .before .before .pre .0 in
-    (omega (arith, d, m), second-asks (c .before .before .before .before .before .before .before .before .before .before .before .before .before .before .before .before .before .before .before .before .before .before .before .before .before .pre .1 .0) (c .before .before .before .before .before .before .before .before .before .before .before .before .before .before .before .before .before .before .before .before .before .before .before .before .before .pre .1 .1) (c .before .before .before .before .before .before .before .before .before .before .before .before .before .before .before .eval .ensures) (c .before .before .before .before .before .before .before .if1 .left) (c .before .before .before .before .bind .ensures) (c .before .before .before .inner .ensures))
+    let c3 = c .before .before .before in
+    let c4 = c3 .before in
+    let c7 = c4 .before .before .before in
+    let c15 = c7 .before .before .before .before .before .before .before .before in
+    let c25 = c15 .before .before .before .before .before .before .before .before .before .before in
+    let d = deep (c25 .pre .1 .0) in
+    let m = c25 .pre .0 in (
+      omega (arith, d, m),
+      second-asks (c25 .pre .1 .0) (c25 .pre .1 .1) (c15 .eval .ensures) (c7 .if1 .left) (c4 .bind .ensures) (c3
+          .inner .ensures),
+    )
 
--- src/evaluate.rt:108:9
 binary-same-length-4 : (t : ℕ) → binary-lts.Need-same-length-4 (binary-claims t) (binary-at t) binary.Post
-binary-same-length-4 t c = c .before .before .before .before .before .before .before .before .eval2 .kept .1 .1 .1 .1 .1 .1 .0 ∙ c .before .before .before .before .before .before .before .before .before .before .before .before .before .before .before .before .before .before .before .before .before .before .before .before .eval .kept .1 .1 .1 .1 .1 .1 .0
+binary-same-length-4 t c =
+    let c8 = c .before .before .before .before .before .before .before .before in
+    let c18 = c8 .before .before .before .before .before .before .before .before .before .before in
+    let c24 = c18 .before .before .before .before .before .before in
+    c8 .eval2 .kept .1 .1 .1 .1 .1 .1 .0 ∙ c24 .eval .kept .1 .1 .1 .1 .1 .1 .0
 
--- src/evaluate.rt:108:9
 binary-same-length-5 : (t : ℕ) → binary-lts.Need-same-length-5 (binary-claims t) (binary-at t) binary.Post
-binary-same-length-5 t c = c .before .before .before .before .before .before .before .before .eval2 .kept .1 .1 .1 .1 .1 .1 .1 .0 ∙ c .before .before .before .before .before .before .before .before .before .before .before .before .before .before .before .before .before .before .before .before .before .before .before .before .eval .kept .1 .1 .1 .1 .1 .1 .1 .0
+binary-same-length-5 t c =
+    let c8 = c .before .before .before .before .before .before .before .before in
+    let c18 = c8 .before .before .before .before .before .before .before .before .before .before in
+    let c24 = c18 .before .before .before .before .before .before in
+    c8 .eval2 .kept .1 .1 .1 .1 .1 .1 .1 .0 ∙ c24 .eval .kept .1 .1 .1 .1 .1 .1 .1 .0
 
--- src/evaluate.rt:108:9
 binary-same-length-6 : (t : ℕ) → binary-lts.Need-same-length-6 (binary-claims t) (binary-at t) binary.Post
-binary-same-length-6 t c = c .before .before .before .before .before .before .before .before .eval2 .kept .1 .1 .1 .1 .1 .1 .1 .1 .0 ∙ c .before .before .before .before .before .before .before .before .before .before .before .before .before .before .before .before .before .before .before .before .before .before .before .before .eval .kept .1 .1 .1 .1 .1 .1 .1 .1 .0
+binary-same-length-6 t c =
+    let c8 = c .before .before .before .before .before .before .before .before in
+    let c18 = c8 .before .before .before .before .before .before .before .before .before .before in
+    let c24 = c18 .before .before .before .before .before .before in
+    c8 .eval2 .kept .1 .1 .1 .1 .1 .1 .1 .1 .0 ∙ c24 .eval .kept .1 .1 .1 .1 .1 .1 .1 .1 .0
 
--- src/evaluate.rt:108:9
 binary-returns-2 : (t : ℕ) → binary-lts.Need-returns-2 (binary-claims t) (binary-at t) binary.Post
 binary-returns-2 t c =
-    second-stops (c .before .before .before .before .before .before .before .before .before .before .before .before .before .before .before .before .before .before .before .before .before .before .before .before .before .before .before .before .before .before .before .before .before .before .pre .1 .0) (c .before .before .before .before .before .before .before .before .before .before .before .before .before .before .before .before .before .before .before .before .before .before .before .before .before .before .before .before .before .before .before .before .before .before .pre .1 .1) (c .before .before .before .before .before .before .before .before .before .before .before .before .before .before .before .before .before .before .before .before .before .before .before .before .eval .ensures) (c .before .before .before .before .before .before .before .before .before .before .before .before .before .before .before .before .if1 .left) (c .before .before .before .before .before .before .before .before .before .before .before .before .before .bind .ensures) (c .before .before .before .before .before .before .before .before .before .before .before .before .inner .ensures) (c .before .before .before .before .before .before .before .before .eval2 .ensures) (c .if2 .taken)
+    let c8 = c .before .before .before .before .before .before .before .before in
+    let c12 = c8 .before .before .before .before in
+    let c13 = c12 .before in
+    let c16 = c13 .before .before .before in
+    let c24 = c16 .before .before .before .before .before .before .before .before in
+    let c34 = c24 .before .before .before .before .before .before .before .before .before .before in
+    second-stops (c34 .pre .1 .0) (c34 .pre .1 .1) (c24 .eval .ensures) (c16 .if1 .left) (c13 .bind .ensures) (c12 .inner .ensures)
+    (c8 .eval2 .ensures) (c .if2 .taken)
 
--- src/evaluate.rt:110:5
 binary-combined-requires : (t : ℕ) → binary-lts.Need-combined-requires (binary-claims t) (binary-at t) binary.Post
 binary-combined-requires t c κs =
-    combine-asks (c .before .before .before .before .before .before .before .before .before .before .before .before .before .before .before .before .before .before .before .before .before .before .before .before .before .before .before .before .before .before .before .before .before .before .before .before .before .pre .1 .0) (c .before .before .before .before .before .before .before .before .before .before .before .before .before .before .before .before .before .before .before .before .before .before .before .before .before .before .before .before .before .before .before .before .before .before .before .before .before .pre .1 .1) (c .before .before .before .before .before .before .before .before .before .before .before .before .before .before .before .before .before .before .before .before .before .before .before .before .before .before .before .eval .ensures) (c .before .before .before .before .before .before .before .before .before .before .before .before .before .before .before .before .before .before .before .if1 .left) (c .before .before .before .before .before .before .before .before .before .before .before .before .before .before .before .before .bind .ensures) (c .before .before .before .before .before .before .before .before .before .before .before .before .before .before .before .inner .ensures) (c .before .before .before .before .before .before .before .before .before .before .before .eval2 .ensures) (c .before .before .before .if2 .left)
+    let c3 = c .before .before .before in
+    let c11 = c3 .before .before .before .before .before .before .before .before in
+    let c15 = c11 .before .before .before .before in
+    let c16 = c15 .before in
+    let c19 = c16 .before .before .before in
+    let c27 = c19 .before .before .before .before .before .before .before .before in
+    let c37 = c27 .before .before .before .before .before .before .before .before .before .before in
+    combine-asks (c37 .pre .1 .0) (c37 .pre .1 .1) (c27 .eval .ensures) (c19 .if1 .left) (c16 .bind .ensures) (c15 .inner .ensures)
+    (c11 .eval2 .ensures) (c3 .if2 .left)
 
--- src/evaluate.rt:55:1
 binary-same-length-7 : (t : ℕ) → binary-lts.Need-same-length-7 (binary-claims t) (binary-at t) binary.Post
-binary-same-length-7 t c = c .before .before .before .before .before .before .combined .kept .1 .1 .0 ∙ c .before .before .before .before .before .before .before .before .before .before .before .before .before .before .before .before .before .before .eval2 .kept .1 .1 .1 .1 .1 .1 .0 ∙ c .before .before .before .before .before .before .before .before .before .before .before .before .before .before .before .before .before .before .before .before .before .before .before .before .before .before .before .before .before .before .before .before .before .before .eval .kept .1 .1 .1 .1 .1 .1 .0
+binary-same-length-7 t c =
+    let c6 = c .before .before .before .before .before .before in
+    let c18 = c6 .before .before .before .before .before .before .before .before .before .before .before .before in
+    let c28 = c18 .before .before .before .before .before .before .before .before .before .before in
+    let c34 = c28 .before .before .before .before .before .before in
+    c6 .combined .kept .1 .1 .0 ∙ c18 .eval2 .kept .1 .1 .1 .1 .1 .1 .0 ∙ c34 .eval .kept .1 .1 .1 .1 .1 .1 .0
 
--- src/evaluate.rt:55:1
 binary-same-length-8 : (t : ℕ) → binary-lts.Need-same-length-8 (binary-claims t) (binary-at t) binary.Post
-binary-same-length-8 t c = c .before .before .before .before .before .before .combined .kept .1 .1 .1 .0 ∙ c .before .before .before .before .before .before .before .before .before .before .before .before .before .before .before .before .before .before .eval2 .kept .1 .1 .1 .1 .1 .1 .1 .0 ∙ c .before .before .before .before .before .before .before .before .before .before .before .before .before .before .before .before .before .before .before .before .before .before .before .before .before .before .before .before .before .before .before .before .before .before .eval .kept .1 .1 .1 .1 .1 .1 .1 .0
+binary-same-length-8 t c =
+    let c6 = c .before .before .before .before .before .before in
+    let c18 = c6 .before .before .before .before .before .before .before .before .before .before .before .before in
+    let c28 = c18 .before .before .before .before .before .before .before .before .before .before in
+    let c34 = c28 .before .before .before .before .before .before in
+    c6 .combined .kept .1 .1 .1 .0 ∙ c18 .eval2 .kept .1 .1 .1 .1 .1 .1 .1 .0 ∙ c34 .eval .kept .1 .1 .1 .1 .1 .1 .1 .0
 
--- src/evaluate.rt:55:1
 binary-same-length-9 : (t : ℕ) → binary-lts.Need-same-length-9 (binary-claims t) (binary-at t) binary.Post
-binary-same-length-9 t c = c .before .before .before .before .before .before .combined .kept .1 .1 .1 .1 .0 ∙ c .before .before .before .before .before .before .before .before .before .before .before .before .before .before .before .before .before .before .eval2 .kept .1 .1 .1 .1 .1 .1 .1 .1 .0 ∙ c .before .before .before .before .before .before .before .before .before .before .before .before .before .before .before .before .before .before .before .before .before .before .before .before .before .before .before .before .before .before .before .before .before .before .eval .kept .1 .1 .1 .1 .1 .1 .1 .1 .0
+binary-same-length-9 t c =
+    let c6 = c .before .before .before .before .before .before in
+    let c18 = c6 .before .before .before .before .before .before .before .before .before .before .before .before in
+    let c28 = c18 .before .before .before .before .before .before .before .before .before .before in
+    let c34 = c28 .before .before .before .before .before .before in
+    c6 .combined .kept .1 .1 .1 .1 .0 ∙ c18 .eval2 .kept .1 .1 .1 .1 .1 .1 .1 .1 .0 ∙ c34 .eval .kept .1 .1 .1 .1 .1 .1 .1 .1 .0
 
--- src/evaluate.rt:55:1
 binary-returns-3 : (t : ℕ) → binary-lts.Need-returns-3 (binary-claims t) (binary-at t) binary.Post
 binary-returns-3 t c =
-    combine-yields (c .before .before .before .before .before .before .before .before .before .before .before .before .before .before .before .before .before .before .before .before .before .before .before .before .before .before .before .before .before .before .before .before .before .before .before .before .before .before .before .before .before .before .before .before .pre .1 .0) (c .before .before .before .before .before .before .before .before .before .before .before .before .before .before .before .before .before .before .before .before .before .before .before .before .before .before .before .before .before .before .before .before .before .before .before .before .before .before .before .before .before .before .before .before .pre .1 .1) (c .before .before .before .before .before .before .before .before .before .before .before .before .before .before .before .before .before .before .before .before .before .before .before .before .before .before .before .before .before .before .before .before .before .before .eval .ensures) (c .before .before .before .before .before .before .before .before .before .before .before .before .before .before .before .before .before .before .before .before .before .before .before .before .before .before .if1 .left) (c .before .before .before .before .before .before .before .before .before .before .before .before .before .before .before .before .before .before .before .before .before .before .before .bind .ensures) (c .before .before .before .before .before .before .before .before .before .before .before .before .before .before .before .before .before .before .before .before .before .before .inner .ensures) (c .before .before .before .before .before .before .before .before .before .before .before .before .before .before .before .before .before .before .eval2 .ensures) (c .before .before .before .before .before .before .before .before .before .before .if2 .left) (c .before .before .before .before .before .before .combined .ensures)
+    let c6 = c .before .before .before .before .before .before in
+    let c10 = c6 .before .before .before .before in
+    let c18 = c10 .before .before .before .before .before .before .before .before in
+    let c22 = c18 .before .before .before .before in
+    let c23 = c22 .before in
+    let c26 = c23 .before .before .before in
+    let c34 = c26 .before .before .before .before .before .before .before .before in
+    let c44 = c34 .before .before .before .before .before .before .before .before .before .before in
+    combine-yields (c44 .pre .1 .0) (c44 .pre .1 .1) (c34 .eval .ensures) (c26 .if1 .left) (c23 .bind .ensures) (c22 .inner
+    .ensures) (c18 .eval2 .ensures) (c10 .if2 .left) (c6 .combined .ensures)
 
--- src/evaluate.rt:134:9
-branch-add-eval : (t : ℕ) → branch-lts.Need-add-eval (branch-claims t) (branch-at t) branch.Post
-branch-add-eval t c =
-    let a = accepted-record (c .before .before .before .before .before .pre .1 .0 .accepted) .whole in
+branch-add-i : (t : ℕ) → branch-lts.Need-add-i (branch-claims t) (branch-at t) branch.Post
+branch-add-i t c =
+    let c5 = c .before .before .before .before .before in
+    let a = accepted-record (c5 .pre .1 .0 .accepted) .whole in
     omega (arith, a)
 
--- src/evaluate.rt:135:9
-branch-sub-eval : (t : ℕ) → branch-lts.Need-sub-eval (branch-claims t) (branch-at t) branch.Post
-branch-sub-eval t c =
-    deep (c .before .before .before .before .before .pre .1 .0)
+branch-sub-k : (t : ℕ) → branch-lts.Need-sub-k (branch-claims t) (branch-at t) branch.Post
+branch-sub-k t c =
+    let c5 = c .before .before .before .before .before in
+    deep (c5 .pre .1 .0)
 
--- src/evaluate.rt:132:9
 branch-eval-requires : (t : ℕ) → branch-lts.Need-eval-requires (branch-claims t) (branch-at t) branch.Post
 branch-eval-requires t c κs =
-    let d = deep (c .before .before .before .before .before .before .before .before .pre .1 .0) in
-    let m = c .before .before .before .before .before .before .before .before .pre .0 in
-    (omega (arith, d, m), branch-first (c .before .before .before .before .before .before .before .before .pre .1 .0) (c .before .before .before .before .before .before .before .before .pre .1 .1))
+    let c8 = c .before .before .before .before .before .before .before .before in
+    let d = deep (c8 .pre .1 .0) in
+    let m = c8 .pre .0 in
+    (omega (arith, d, m), branch-first (c8 .pre .1 .0) (c8 .pre .1 .1))
 
--- src/evaluate.rt:146:9
-branch-same-length : (t : ℕ) → branch-lts.Need-same-length (branch-claims t) (branch-at t) branch.Post
-branch-same-length t c = c .before .before .before .before .before .before .before .before .eval .kept .1 .1 .1 .1 .1 .1 .0
-
--- src/evaluate.rt:146:9
-branch-same-length-2 : (t : ℕ) → branch-lts.Need-same-length-2 (branch-claims t) (branch-at t) branch.Post
-branch-same-length-2 t c = c .before .before .before .before .before .before .before .before .eval .kept .1 .1 .1 .1 .1 .1 .1 .0
-
--- src/evaluate.rt:146:9
-branch-same-length-3 : (t : ℕ) → branch-lts.Need-same-length-3 (branch-claims t) (branch-at t) branch.Post
-branch-same-length-3 t c = c .before .before .before .before .before .before .before .before .eval .kept .1 .1 .1 .1 .1 .1 .1 .1 .0
-
--- src/evaluate.rt:146:9
 branch-returns : (t : ℕ) → branch-lts.Need-returns (branch-claims t) (branch-at t) branch.Post
 branch-returns t c =
-    branch-stops (c .before .before .before .before .before .before .before .before .before .before .before .before .before .before .before .before .before .pre .1 .0) (c .before .before .before .before .before .before .before .before .before .before .before .before .before .before .before .before .before .pre .1 .1) (c .before .before .before .before .before .before .before .before .eval .ensures) (c .if1 .taken)
+    let c8 = c .before .before .before .before .before .before .before .before in
+    let c17 = c8 .before .before .before .before .before .before .before .before .before in
+    branch-stops (c17 .pre .1 .0) (c17 .pre .1 .1) (c8 .eval .ensures) (c .if1 .taken)
 
--- src/evaluate.rt:151:13
 branch-end-at-requires : (t : ℕ) → branch-lts.Need-end-at-requires (branch-claims t) (branch-at t) branch.Post
-branch-end-at-requires t c κs =
-    search needs
+branch-end-at-requires t c κs = search needs
 
--- src/evaluate.rt:155:13
-branch-sub-eval-2 : (t : ℕ) → branch-lts.Need-sub-eval-2 (branch-claims t) (branch-at t) branch.Post
-branch-sub-eval-2 t c =
-    deep (c .before .before .before .before .before .before .before .before .before .before .before .before .before .before .before .before .before .before .before .before .before .before .pre .1 .0)
-
--- src/evaluate.rt:152:9
 branch-eval-requires-2 : (t : ℕ) → branch-lts.Need-eval-requires-2 (branch-claims t) (branch-at t) branch.Post
 branch-eval-requires-2 t c κs =
-    let d = deep (c .before .before .before .before .before .before .before .before .before .before .before .before .before .before .before .before .before .before .before .before .before .before .before .before .before .pre .1 .0) in
-    let m = c .before .before .before .before .before .before .before .before .before .before .before .before .before .before .before .before .before .before .before .before .before .before .before .before .before .pre .0 in
-    (omega (arith, d, m), else-asks (c .before .before .before .before .before .before .before .before .before .before .before .before .before .before .before .before .before .before .before .before .before .before .before .before .before .pre .1 .0) (c .before .before .before .before .before .before .before .before .before .before .before .before .before .before .before .before .before .before .before .before .before .before .before .before .before .pre .1 .1) (c .before .before .before .before .before .before .before .before .before .before .before .before .before .before .before .before .eval .ensures) (c .before .before .before .before .before .before .before .before .if1 .left) (c .before .before .before .end-at .ensures) (c .before .before .before .before .if2 .taken))
+    let c3 = c .before .before .before in
+    let c4 = c3 .before in
+    let c8 = c4 .before .before .before .before in
+    let c16 = c8 .before .before .before .before .before .before .before .before in
+    let c25 = c16 .before .before .before .before .before .before .before .before .before in
+    let d = deep (c25 .pre .1 .0) in
+    let m = c25 .pre .0 in (
+      omega (arith, d, m),
+      else-asks (c25 .pre .1 .0) (c25 .pre .1 .1) (c16 .eval .ensures) (c8 .if1 .left) (c3 .end-at .ensures) (c4
+          .if2 .taken),
+    )
 
--- src/evaluate.rt:152:9
 branch-same-length-4 : (t : ℕ) → branch-lts.Need-same-length-4 (branch-claims t) (branch-at t) branch.Post
-branch-same-length-4 t c = c .before .before .before .before .before .before .eval2 .kept .1 .1 .1 .1 .1 .1 .0 ∙ c .before .before .before .before .before .before .before .before .before .before .before .before .before .before .before .before .before .before .before .before .before .before .before .eval .kept .1 .1 .1 .1 .1 .1 .0
+branch-same-length-4 t c =
+    let c6 = c .before .before .before .before .before .before in
+    let c16 = c6 .before .before .before .before .before .before .before .before .before .before in
+    let c23 = c16 .before .before .before .before .before .before .before in
+    c6 .eval2 .kept .1 .1 .1 .1 .1 .1 .0 ∙ c23 .eval .kept .1 .1 .1 .1 .1 .1 .0
 
--- src/evaluate.rt:152:9
 branch-same-length-5 : (t : ℕ) → branch-lts.Need-same-length-5 (branch-claims t) (branch-at t) branch.Post
-branch-same-length-5 t c = c .before .before .before .before .before .before .eval2 .kept .1 .1 .1 .1 .1 .1 .1 .0 ∙ c .before .before .before .before .before .before .before .before .before .before .before .before .before .before .before .before .before .before .before .before .before .before .before .eval .kept .1 .1 .1 .1 .1 .1 .1 .0
+branch-same-length-5 t c =
+    let c6 = c .before .before .before .before .before .before in
+    let c16 = c6 .before .before .before .before .before .before .before .before .before .before in
+    let c23 = c16 .before .before .before .before .before .before .before in
+    c6 .eval2 .kept .1 .1 .1 .1 .1 .1 .1 .0 ∙ c23 .eval .kept .1 .1 .1 .1 .1 .1 .1 .0
 
--- src/evaluate.rt:152:9
 branch-same-length-6 : (t : ℕ) → branch-lts.Need-same-length-6 (branch-claims t) (branch-at t) branch.Post
-branch-same-length-6 t c = c .before .before .before .before .before .before .eval2 .kept .1 .1 .1 .1 .1 .1 .1 .1 .0 ∙ c .before .before .before .before .before .before .before .before .before .before .before .before .before .before .before .before .before .before .before .before .before .before .before .eval .kept .1 .1 .1 .1 .1 .1 .1 .1 .0
+branch-same-length-6 t c =
+    let c6 = c .before .before .before .before .before .before in
+    let c16 = c6 .before .before .before .before .before .before .before .before .before .before in
+    let c23 = c16 .before .before .before .before .before .before .before in
+    c6 .eval2 .kept .1 .1 .1 .1 .1 .1 .1 .1 .0 ∙ c23 .eval .kept .1 .1 .1 .1 .1 .1 .1 .1 .0
 
--- src/evaluate.rt:152:9
 branch-returns-2 : (t : ℕ) → branch-lts.Need-returns-2 (branch-claims t) (branch-at t) branch.Post
 branch-returns-2 t c =
-    else-yields (c .before .before .before .before .before .before .before .before .before .before .before .before .before .before .before .before .before .before .before .before .before .before .before .before .before .before .before .before .before .before .before .before .pre .1 .0) (c .before .before .before .before .before .before .before .before .before .before .before .before .before .before .before .before .before .before .before .before .before .before .before .before .before .before .before .before .before .before .before .before .pre .1 .1) (c .before .before .before .before .before .before .before .before .before .before .before .before .before .before .before .before .before .before .before .before .before .before .before .eval .ensures) (c .before .before .before .before .before .before .before .before .before .before .before .before .before .before .before .if1 .left) (c .before .before .before .before .before .before .before .before .before .before .end-at .ensures) (c .before .before .before .before .before .before .before .before .before .before .before .if2 .taken) (c .before .before .before .before .before .before .eval2 .ensures)
+    let c6 = c .before .before .before .before .before .before in
+    let c10 = c6 .before .before .before .before in
+    let c11 = c10 .before in
+    let c15 = c11 .before .before .before .before in
+    let c23 = c15 .before .before .before .before .before .before .before .before in
+    let c32 = c23 .before .before .before .before .before .before .before .before .before in
+    else-yields (c32 .pre .1 .0) (c32 .pre .1 .1) (c23 .eval .ensures) (c15 .if1 .left) (c10 .end-at .ensures) (c11 .if2 .taken) (c6
+    .eval2 .ensures)
 
--- src/evaluate.rt:169:9
-branch-sub-eval-3 : (t : ℕ) → branch-lts.Need-sub-eval-3 (branch-claims t) (branch-at t) branch.Post
-branch-sub-eval-3 t c =
-    deep (c .before .before .before .before .before .before .before .before .before .before .before .before .before .before .before .before .before .before .before .before .before .pre .1 .0)
-
--- src/evaluate.rt:166:9
 branch-eval-requires-3 : (t : ℕ) → branch-lts.Need-eval-requires-3 (branch-claims t) (branch-at t) branch.Post
 branch-eval-requires-3 t c κs =
-    let d = deep (c .before .before .before .before .before .before .before .before .before .before .before .before .before .before .before .before .before .before .before .before .before .before .before .before .pre .1 .0) in
-    let m = c .before .before .before .before .before .before .before .before .before .before .before .before .before .before .before .before .before .before .before .before .before .before .before .before .pre .0 in
-    (omega (arith, d, m), then-asks (c .before .before .before .before .before .before .before .before .before .before .before .before .before .before .before .before .before .before .before .before .before .before .before .before .pre .1 .0) (c .before .before .before .before .before .before .before .before .before .before .before .before .before .before .before .before .before .before .before .before .before .before .before .before .pre .1 .1) (c .before .before .before .before .before .before .before .before .before .before .before .before .before .before .before .eval .ensures) (c .before .before .before .before .before .before .before .if1 .left) (c .before .before .before .if2 .left))
+    let c3 = c .before .before .before in
+    let c7 = c3 .before .before .before .before in
+    let c15 = c7 .before .before .before .before .before .before .before .before in
+    let c24 = c15 .before .before .before .before .before .before .before .before .before in
+    let d = deep (c24 .pre .1 .0) in
+    let m = c24 .pre .0 in
+    (omega (arith, d, m), then-asks (c24 .pre .1 .0) (c24 .pre .1 .1) (c15 .eval .ensures) (c7 .if1 .left) (c3 .if2 .left))
 
--- src/evaluate.rt:180:9
 branch-same-length-7 : (t : ℕ) → branch-lts.Need-same-length-7 (branch-claims t) (branch-at t) branch.Post
-branch-same-length-7 t c = c .before .before .before .before .before .before .before .before .eval3 .kept .1 .1 .1 .1 .1 .1 .0 ∙ c .before .before .before .before .before .before .before .before .before .before .before .before .before .before .before .before .before .before .before .before .before .before .before .before .eval .kept .1 .1 .1 .1 .1 .1 .0
+branch-same-length-7 t c =
+    let c8 = c .before .before .before .before .before .before .before .before in
+    let c18 = c8 .before .before .before .before .before .before .before .before .before .before in
+    let c24 = c18 .before .before .before .before .before .before in
+    c8 .eval3 .kept .1 .1 .1 .1 .1 .1 .0 ∙ c24 .eval .kept .1 .1 .1 .1 .1 .1 .0
 
--- src/evaluate.rt:180:9
 branch-same-length-8 : (t : ℕ) → branch-lts.Need-same-length-8 (branch-claims t) (branch-at t) branch.Post
-branch-same-length-8 t c = c .before .before .before .before .before .before .before .before .eval3 .kept .1 .1 .1 .1 .1 .1 .1 .0 ∙ c .before .before .before .before .before .before .before .before .before .before .before .before .before .before .before .before .before .before .before .before .before .before .before .before .eval .kept .1 .1 .1 .1 .1 .1 .1 .0
+branch-same-length-8 t c =
+    let c8 = c .before .before .before .before .before .before .before .before in
+    let c18 = c8 .before .before .before .before .before .before .before .before .before .before in
+    let c24 = c18 .before .before .before .before .before .before in
+    c8 .eval3 .kept .1 .1 .1 .1 .1 .1 .1 .0 ∙ c24 .eval .kept .1 .1 .1 .1 .1 .1 .1 .0
 
--- src/evaluate.rt:180:9
 branch-same-length-9 : (t : ℕ) → branch-lts.Need-same-length-9 (branch-claims t) (branch-at t) branch.Post
-branch-same-length-9 t c = c .before .before .before .before .before .before .before .before .eval3 .kept .1 .1 .1 .1 .1 .1 .1 .1 .0 ∙ c .before .before .before .before .before .before .before .before .before .before .before .before .before .before .before .before .before .before .before .before .before .before .before .before .eval .kept .1 .1 .1 .1 .1 .1 .1 .1 .0
+branch-same-length-9 t c =
+    let c8 = c .before .before .before .before .before .before .before .before in
+    let c18 = c8 .before .before .before .before .before .before .before .before .before .before in
+    let c24 = c18 .before .before .before .before .before .before in
+    c8 .eval3 .kept .1 .1 .1 .1 .1 .1 .1 .1 .0 ∙ c24 .eval .kept .1 .1 .1 .1 .1 .1 .1 .1 .0
 
--- src/evaluate.rt:180:9
 branch-returns-3 : (t : ℕ) → branch-lts.Need-returns-3 (branch-claims t) (branch-at t) branch.Post
 branch-returns-3 t c =
-    then-stops (c .before .before .before .before .before .before .before .before .before .before .before .before .before .before .before .before .before .before .before .before .before .before .before .before .before .before .before .before .before .before .before .before .before .pre .1 .0) (c .before .before .before .before .before .before .before .before .before .before .before .before .before .before .before .before .before .before .before .before .before .before .before .before .before .before .before .before .before .before .before .before .before .pre .1 .1) (c .before .before .before .before .before .before .before .before .before .before .before .before .before .before .before .before .before .before .before .before .before .before .before .before .eval .ensures) (c .before .before .before .before .before .before .before .before .before .before .before .before .before .before .before .before .if1 .left) (c .before .before .before .before .before .before .before .before .before .before .before .before .if2 .left) (c .before .before .before .before .before .before .before .before .eval3 .ensures) (c .if3 .taken)
+    let c8 = c .before .before .before .before .before .before .before .before in
+    let c12 = c8 .before .before .before .before in
+    let c16 = c12 .before .before .before .before in
+    let c24 = c16 .before .before .before .before .before .before .before .before in
+    let c33 = c24 .before .before .before .before .before .before .before .before .before in
+    then-stops (c33 .pre .1 .0) (c33 .pre .1 .1) (c24 .eval .ensures) (c16 .if1 .left) (c12 .if2 .left) (c8 .eval3 .ensures) (c .if3
+    .taken)
 
--- src/evaluate.rt:182:5
 branch-past-requires : (t : ℕ) → branch-lts.Need-past-requires (branch-claims t) (branch-at t) branch.Post
-branch-past-requires t c κs =
-    search needs
+branch-past-requires t c κs = search needs
 
--- src/evaluate.rt:114:1
 branch-same-length-10 : (t : ℕ) → branch-lts.Need-same-length-10 (branch-claims t) (branch-at t) branch.Post
-branch-same-length-10 t c = c .before .before .before .before .before .before .before .before .before .eval3 .kept .1 .1 .1 .1 .1 .1 .0 ∙ c .before .before .before .before .before .before .before .before .before .before .before .before .before .before .before .before .before .before .before .before .before .before .before .before .before .eval .kept .1 .1 .1 .1 .1 .1 .0
+branch-same-length-10 t c =
+    let c9 = c .before .before .before .before .before .before .before .before .before in
+    let c19 = c9 .before .before .before .before .before .before .before .before .before .before in
+    let c25 = c19 .before .before .before .before .before .before in
+    c9 .eval3 .kept .1 .1 .1 .1 .1 .1 .0 ∙ c25 .eval .kept .1 .1 .1 .1 .1 .1 .0
 
--- src/evaluate.rt:114:1
 branch-same-length-11 : (t : ℕ) → branch-lts.Need-same-length-11 (branch-claims t) (branch-at t) branch.Post
-branch-same-length-11 t c = c .before .before .before .before .before .before .before .before .before .eval3 .kept .1 .1 .1 .1 .1 .1 .1 .0 ∙ c .before .before .before .before .before .before .before .before .before .before .before .before .before .before .before .before .before .before .before .before .before .before .before .before .before .eval .kept .1 .1 .1 .1 .1 .1 .1 .0
+branch-same-length-11 t c =
+    let c9 = c .before .before .before .before .before .before .before .before .before in
+    let c19 = c9 .before .before .before .before .before .before .before .before .before .before in
+    let c25 = c19 .before .before .before .before .before .before in
+    c9 .eval3 .kept .1 .1 .1 .1 .1 .1 .1 .0 ∙ c25 .eval .kept .1 .1 .1 .1 .1 .1 .1 .0
 
--- src/evaluate.rt:114:1
 branch-same-length-12 : (t : ℕ) → branch-lts.Need-same-length-12 (branch-claims t) (branch-at t) branch.Post
-branch-same-length-12 t c = c .before .before .before .before .before .before .before .before .before .eval3 .kept .1 .1 .1 .1 .1 .1 .1 .1 .0 ∙ c .before .before .before .before .before .before .before .before .before .before .before .before .before .before .before .before .before .before .before .before .before .before .before .before .before .eval .kept .1 .1 .1 .1 .1 .1 .1 .1 .0
+branch-same-length-12 t c =
+    let c9 = c .before .before .before .before .before .before .before .before .before in
+    let c19 = c9 .before .before .before .before .before .before .before .before .before .before in
+    let c25 = c19 .before .before .before .before .before .before in
+    c9 .eval3 .kept .1 .1 .1 .1 .1 .1 .1 .1 .0 ∙ c25 .eval .kept .1 .1 .1 .1 .1 .1 .1 .1 .0
 
--- src/evaluate.rt:114:1
 branch-returns-4 : (t : ℕ) → branch-lts.Need-returns-4 (branch-claims t) (branch-at t) branch.Post
 branch-returns-4 t c =
-    then-yields (c .before .before .before .before .before .before .before .before .before .before .before .before .before .before .before .before .before .before .before .before .before .before .before .before .before .before .before .before .before .before .before .before .before .before .pre .1 .0) (c .before .before .before .before .before .before .before .before .before .before .before .before .before .before .before .before .before .before .before .before .before .before .before .before .before .before .before .before .before .before .before .before .before .before .pre .1 .1) (c .before .before .before .before .before .before .before .before .before .before .before .before .before .before .before .before .before .before .before .before .before .before .before .before .before .eval .ensures) (c .before .before .before .before .before .before .before .before .before .before .before .before .before .before .before .before .before .if1 .left) (c .before .before .before .before .before .before .before .before .before .before .before .before .before .if2 .left) (c .before .before .before .before .before .before .before .before .before .eval3 .ensures) (c .before .if3 .left) (c .past .ensures)
+    let c9 = c .before .before .before .before .before .before .before .before .before in
+    let c13 = c9 .before .before .before .before in
+    let c17 = c13 .before .before .before .before in
+    let c25 = c17 .before .before .before .before .before .before .before .before in
+    let c34 = c25 .before .before .before .before .before .before .before .before .before in
+    then-yields (c34 .pre .1 .0) (c34 .pre .1 .1) (c25 .eval .ensures) (c17 .if1 .left) (c13 .if2 .left) (c9 .eval3 .ensures) (c
+    .before .if3 .left) (c .past .ensures)
 
--- src/evaluate.rt:271:17
 each-sub-count : (t : ℕ) → each-lts.Need-sub-count (each-claims t) (each-at t) each.Post
 each-sub-count t c =
-    let a = c .before .before .before .before .before .pre .1 .some in
+    let c5 = c .before .before .before .before .before in
+    let a = c5 .pre .1 .some in
     omega (arith, a)
 
--- src/evaluate.rt:273:13
 each-bind-requires : (t : ℕ) → each-lts.Need-bind-requires (each-claims t) (each-at t) each.Post
 each-bind-requires t c κs =
-    item-asks (c .before .before .before .before .before .before .pre .1)
+    let c6 = c .before .before .before .before .before .before in
+    item-asks (c6 .pre .1)
 
--- src/evaluate.rt:278:13
-each-add-eval : (t : ℕ) → each-lts.Need-add-eval (each-claims t) (each-at t) each.Post
-each-add-eval t c =
-    let a = c .before .before .before .before .before .before .before .pre .1 .binder in
+each-add-n : (t : ℕ) → each-lts.Need-add-n (each-claims t) (each-at t) each.Post
+each-add-n t c =
+    let c7 = c .before .before .before .before .before .before .before in
+    let a = c7 .pre .1 .binder in
     omega (arith, a)
 
--- src/evaluate.rt:274:13
 each-eval-requires : (t : ℕ) → each-lts.Need-eval-requires (each-claims t) (each-at t) each.Post
 each-eval-requires t c κs =
-    let m = c .before .before .before .before .before .before .before .before .before .before .pre .0 in
-    (omega (arith, m), body-asks (c .before .before .before .before .before .before .before .before .before .before .pre .1) (c .before .before .before .before .if1 .taken) (c .before .before .before .bind .ensures))
+    let c3 = c .before .before .before in
+    let c4 = c3 .before in
+    let c10 = c4 .before .before .before .before .before .before in
+    let m = c10 .pre .0 in
+    (omega (arith, m), body-asks (c10 .pre .1) (c4 .if1 .taken) (c3 .bind .ensures))
 
--- src/evaluate.rt:288:13
-each-same-length : (t : ℕ) → each-lts.Need-same-length (each-claims t) (each-at t) each.Post
-each-same-length t c = c .before .before .before .before .before .before .before .before .eval .kept .1 .1 .1 .1 .1 .1 .0
-
--- src/evaluate.rt:288:13
-each-same-length-2 : (t : ℕ) → each-lts.Need-same-length-2 (each-claims t) (each-at t) each.Post
-each-same-length-2 t c = c .before .before .before .before .before .before .before .before .eval .kept .1 .1 .1 .1 .1 .1 .1 .0
-
--- src/evaluate.rt:288:13
-each-same-length-3 : (t : ℕ) → each-lts.Need-same-length-3 (each-claims t) (each-at t) each.Post
-each-same-length-3 t c = c .before .before .before .before .before .before .before .before .eval .kept .1 .1 .1 .1 .1 .1 .1 .1 .0
-
--- src/evaluate.rt:288:13
 each-returns : (t : ℕ) → each-lts.Need-returns (each-claims t) (each-at t) each.Post
 each-returns t c =
-    item-stops (c .before .before .before .before .before .before .before .before .before .before .before .before .before .before .before .before .before .before .before .pre .1) (c .before .before .before .before .before .before .before .before .before .before .before .before .before .if1 .taken) (c .before .before .before .before .before .before .before .before .before .before .before .before .bind .ensures) (c .before .before .before .before .before .before .before .before .eval .ensures) (c .before .before .before .before .before .before .before .before .before .before .before .before .before .before .before .before .before .before .before .args .place) (c .if2 .taken)
+    let c8 = c .before .before .before .before .before .before .before .before in
+    let c12 = c8 .before .before .before .before in
+    let c13 = c12 .before in
+    let c19 = c13 .before .before .before .before .before .before in
+    item-stops (c19 .pre .1) (c13 .if1 .taken) (c12 .bind .ensures) (c8 .eval .ensures) (c19 .args .place) (c .if2 .taken)
 
--- src/evaluate.rt:290:9
 each-limited-requires : (t : ℕ) → each-lts.Need-limited-requires (each-claims t) (each-at t) each.Post
 each-limited-requires t c κs =
-    limit-asks (c .before .before .before .before .before .before .before .before .before .before .before .before .before .before .before .before .before .before .before .pre .1) (c .before .before .before .before .before .before .before .before .before .before .before .before .before .if1 .taken) (c .before .before .before .before .before .before .before .before .before .before .before .before .bind .ensures) (c .before .before .before .before .before .before .before .before .eval .ensures) (c .if2 .left)
+    let c8 = c .before .before .before .before .before .before .before .before in
+    let c12 = c8 .before .before .before .before in
+    let c13 = c12 .before in
+    let c19 = c13 .before .before .before .before .before .before in
+    limit-asks (c19 .pre .1) (c13 .if1 .taken) (c12 .bind .ensures) (c8 .eval .ensures) (c .if2 .left)
 
--- src/evaluate.rt:290:9
-each-same-length-4 : (t : ℕ) → each-lts.Need-same-length-4 (each-claims t) (each-at t) each.Post
-each-same-length-4 t c = c .before .before .before .before .before .before .before .before .before .eval .kept .1 .1 .1 .1 .1 .1 .0
-
--- src/evaluate.rt:290:9
-each-same-length-5 : (t : ℕ) → each-lts.Need-same-length-5 (each-claims t) (each-at t) each.Post
-each-same-length-5 t c = c .before .before .before .before .before .before .before .before .before .eval .kept .1 .1 .1 .1 .1 .1 .1 .0
-
--- src/evaluate.rt:290:9
-each-same-length-6 : (t : ℕ) → each-lts.Need-same-length-6 (each-claims t) (each-at t) each.Post
-each-same-length-6 t c = c .before .before .before .before .before .before .before .before .before .eval .kept .1 .1 .1 .1 .1 .1 .1 .1 .0
-
--- src/evaluate.rt:290:9
 each-returns-2 : (t : ℕ) → each-lts.Need-returns-2 (each-claims t) (each-at t) each.Post
 each-returns-2 t c =
-    item-yields (c .before .before .before .before .before .before .before .before .before .before .before .before .before .before .before .before .before .before .before .before .pre .1) (c .before .before .before .before .before .before .before .before .before .before .before .before .before .before .if1 .taken) (c .before .before .before .before .before .before .before .before .before .before .before .before .before .bind .ensures) (c .before .before .before .before .before .before .before .before .before .eval .ensures) (c .before .if2 .left) (c .before .before .before .before .before .before .before .before .before .before .before .before .before .before .before .before .before .before .before .before .args .place) (c .limited .ensures)
+    let c9 = c .before .before .before .before .before .before .before .before .before in
+    let c13 = c9 .before .before .before .before in
+    let c14 = c13 .before in
+    let c20 = c14 .before .before .before .before .before .before in
+    item-yields (c20 .pre .1) (c14 .if1 .taken) (c13 .bind .ensures) (c9 .eval .ensures) (c .before .if2 .left) (c20 .args .place)
+    (c .limited .ensures)
 
--- src/evaluate.rt:292:16
 each-add-half : (t : ℕ) → each-lts.Need-add-half (each-claims t) (each-at t) each.Post
 each-add-half t c =
-    let a = c .before .before .before .before .before .before .pre .1 .some in
-    omega (arith, a, c .before .before .before .before .before .before .fits .to)
+    let c6 = c .before .before .before .before .before .before in
+    let a = c6 .pre .1 .some in
+    omega (arith, a, c6 .fits .to)
 
--- src/evaluate.rt:293:9
 each-each-requires : (t : ℕ) → each-lts.Need-each-requires (each-claims t) (each-at t) each.Post
 each-each-requires t c κs =
-    let m = c .before .before .before .before .before .before .before .before .before .pre .0 in
-    let s = c .before .before .before .before .before .before .before .before .before .pre .1 .some in
-    (omega (arith, m, s, c .before .before .before .if1 .left), half-asks (c .before .before .before .before .before .before .before .before .before .pre .1) (c .before .before .before .if1 .left))
+    let c3 = c .before .before .before in
+    let c9 = c3 .before .before .before .before .before .before in
+    let m = c9 .pre .0 in
+    let s = c9 .pre .1 .some in
+    (omega (arith, m, s, c3 .if1 .left), half-asks (c9 .pre .1) (c3 .if1 .left))
 
--- src/evaluate.rt:311:9
-each-same-length-7 : (t : ℕ) → each-lts.Need-same-length-7 (each-claims t) (each-at t) each.Post
-each-same-length-7 t c = c .before .before .before .before .before .before .before .before .each .kept .1 .1 .1 .1 .1 .1 .1 .0
-
--- src/evaluate.rt:311:9
-each-same-length-8 : (t : ℕ) → each-lts.Need-same-length-8 (each-claims t) (each-at t) each.Post
-each-same-length-8 t c = c .before .before .before .before .before .before .before .before .each .kept .1 .1 .1 .1 .1 .1 .1 .1 .0
-
--- src/evaluate.rt:311:9
-each-same-length-9 : (t : ℕ) → each-lts.Need-same-length-9 (each-claims t) (each-at t) each.Post
-each-same-length-9 t c = c .before .before .before .before .before .before .before .before .each .kept .1 .1 .1 .1 .1 .1 .1 .1 .1 .0
-
--- src/evaluate.rt:311:9
 each-returns-3 : (t : ℕ) → each-lts.Need-returns-3 (each-claims t) (each-at t) each.Post
 each-returns-3 t c =
-    half-stops (c .before .before .before .before .before .before .before .before .before .before .before .before .before .before .before .before .before .before .pre .1) (c .before .before .before .before .before .before .before .before .before .before .before .before .if1 .left) (c .before .before .before .before .before .before .before .before .before .before .before .before .before .before .before .before .before .before .args .place) (c .before .before .before .before .before .before .before .before .each .ensures) (c .if3 .taken)
+    let c8 = c .before .before .before .before .before .before .before .before in
+    let c12 = c8 .before .before .before .before in
+    let c18 = c12 .before .before .before .before .before .before in
+    half-stops (c18 .pre .1) (c12 .if1 .left) (c18 .args .place) (c8 .each .ensures) (c .if3 .taken)
 
--- src/evaluate.rt:315:5
 each-each-requires-2 : (t : ℕ) → each-lts.Need-each-requires-2 (each-claims t) (each-at t) each.Post
 each-each-requires-2 t c κs =
-    let m = c .before .before .before .before .before .before .before .before .before .before .before .before .before .before .before .before .before .before .before .before .before .before .before .pre .0 in
-    let s = c .before .before .before .before .before .before .before .before .before .before .before .before .before .before .before .before .before .before .before .before .before .before .before .pre .1 .some in
-    (omega (arith, m, s, c .before .before .before .before .before .before .before .before .before .before .before .before .before .before .before .before .before .if1 .left), rest-asks (c .before .before .before .before .before .before .before .before .before .before .before .before .before .before .before .before .before .before .before .before .before .before .before .pre .1) (c .before .before .before .before .before .before .before .before .before .before .before .before .before .before .before .before .before .if1 .left) (c .before .before .before .before .before .before .before .before .before .before .before .before .before .before .before .before .before .before .before .before .before .before .before .args .place) (c .before .before .before .before .before .before .before .before .before .before .before .before .before .each .ensures) (c .before .before .before .before .before .if3 .left))
+    let c5 = c .before .before .before .before .before in
+    let c13 = c5 .before .before .before .before .before .before .before .before in
+    let c17 = c13 .before .before .before .before in
+    let c23 = c17 .before .before .before .before .before .before in
+    let m = c23 .pre .0 in
+    let s = c23 .pre .1 .some in (
+      omega (arith, m, s, c17 .if1 .left),
+      rest-asks (c23 .pre .1) (c17 .if1 .left) (c23 .args .place) (c13 .each .ensures) (c5 .if3
+          .left),
+    )
 
--- src/evaluate.rt:250:1
 each-same-length-10 : (t : ℕ) → each-lts.Need-same-length-10 (each-claims t) (each-at t) each.Post
-each-same-length-10 t c = c .before .before .before .before .before .before .each2 .kept .1 .1 .1 .1 .1 .1 .1 .0 ∙ c .before .before .before .before .before .before .before .before .before .before .before .before .before .before .before .before .before .before .before .before .each .kept .1 .1 .1 .1 .1 .1 .1 .0
+each-same-length-10 t c =
+    let c6 = c .before .before .before .before .before .before in
+    let c20 = c6 .before .before .before .before .before .before .before .before .before .before .before .before .before .before in
+    c6 .each2 .kept .1 .1 .1 .1 .1 .1 .1 .0 ∙ c20 .each .kept .1 .1 .1 .1 .1 .1 .1 .0
 
--- src/evaluate.rt:250:1
 each-same-length-11 : (t : ℕ) → each-lts.Need-same-length-11 (each-claims t) (each-at t) each.Post
-each-same-length-11 t c = c .before .before .before .before .before .before .each2 .kept .1 .1 .1 .1 .1 .1 .1 .1 .0 ∙ c .before .before .before .before .before .before .before .before .before .before .before .before .before .before .before .before .before .before .before .before .each .kept .1 .1 .1 .1 .1 .1 .1 .1 .0
+each-same-length-11 t c =
+    let c6 = c .before .before .before .before .before .before in
+    let c20 = c6 .before .before .before .before .before .before .before .before .before .before .before .before .before .before in
+    c6 .each2 .kept .1 .1 .1 .1 .1 .1 .1 .1 .0 ∙ c20 .each .kept .1 .1 .1 .1 .1 .1 .1 .1 .0
 
--- src/evaluate.rt:250:1
 each-same-length-12 : (t : ℕ) → each-lts.Need-same-length-12 (each-claims t) (each-at t) each.Post
-each-same-length-12 t c = c .before .before .before .before .before .before .each2 .kept .1 .1 .1 .1 .1 .1 .1 .1 .1 .0 ∙ c .before .before .before .before .before .before .before .before .before .before .before .before .before .before .before .before .before .before .before .before .each .kept .1 .1 .1 .1 .1 .1 .1 .1 .1 .0
+each-same-length-12 t c =
+    let c6 = c .before .before .before .before .before .before in
+    let c20 = c6 .before .before .before .before .before .before .before .before .before .before .before .before .before .before in
+    c6 .each2 .kept .1 .1 .1 .1 .1 .1 .1 .1 .1 .0 ∙ c20 .each .kept .1 .1 .1 .1 .1 .1 .1 .1 .1 .0
 
--- src/evaluate.rt:250:1
 each-returns-4 : (t : ℕ) → each-lts.Need-returns-4 (each-claims t) (each-at t) each.Post
 each-returns-4 t c =
-    rest-yields (c .before .before .before .before .before .before .before .before .before .before .before .before .before .before .before .before .before .before .before .before .before .before .before .before .before .before .before .before .before .before .pre .1) (c .before .before .before .before .before .before .before .before .before .before .before .before .before .before .before .before .before .before .before .before .before .before .before .before .if1 .left) (c .before .before .before .before .before .before .before .before .before .before .before .before .before .before .before .before .before .before .before .before .before .before .before .before .before .before .before .before .before .before .args .place) (c .before .before .before .before .before .before .before .before .before .before .before .before .before .before .before .before .before .before .before .before .each .ensures) (c .before .before .before .before .before .before .before .before .before .before .before .before .if3 .left) (c .before .before .before .before .before .before .each2 .ensures)
+    let c6 = c .before .before .before .before .before .before in
+    let c12 = c6 .before .before .before .before .before .before in
+    let c20 = c12 .before .before .before .before .before .before .before .before in
+    let c24 = c20 .before .before .before .before in
+    let c30 = c24 .before .before .before .before .before .before in
+    rest-yields (c30 .pre .1) (c24 .if1 .left) (c30 .args .place) (c20 .each .ensures) (c12 .if3 .left) (c6 .each2 .ensures)
 
--- src/evaluate.rt:352:16
 eval-shared-slice-read-kind : (t : ℕ) → eval-lts.Need-shared-slice-read-kind (eval-claims t) (eval-at t) eval.Post
 eval-shared-slice-read-kind t c =
-    let a = accepted-record (c .before .before .before .before .before .before .pre .1 .accepted) .whole in
+    let c6 = c .before .before .before .before .before .before in
+    let a = accepted-record (c6 .pre .1 .accepted) .whole in
     omega (arith, a)
 
--- src/evaluate.rt:353:9
 eval-arity-requires : (t : ℕ) → eval-lts.Need-arity-requires (eval-claims t) (eval-at t) eval.Post
-eval-arity-requires t c κs =
-    search needs
+eval-arity-requires t c κs = search needs
 
--- src/evaluate.rt:355:9
 eval-nullary-requires : (t : ℕ) → eval-lts.Need-nullary-requires (eval-claims t) (eval-at t) eval.Post
 eval-nullary-requires t c κs =
-    (c .before .before .before .before .before .before .before .before .before .before .before .pre .1, sym (c .before .before .before .before .arity .ensures .0) ∙ c .before .before .before .if1 .taken)
+    let c3 = c .before .before .before in
+    let c4 = c3 .before in
+    let c11 = c4 .before .before .before .before .before .before .before in
+    (c11 .pre .1, sym (c4 .arity .ensures .0) ∙ c3 .if1 .taken)
 
--- src/evaluate.rt:355:9
-eval-same-length : (t : ℕ) → eval-lts.Need-same-length (eval-claims t) (eval-at t) eval.Post
-eval-same-length t c = c .before .before .before .before .before .before .nullary .kept .1 .1 .1 .1 .1 .1 .0
-
--- src/evaluate.rt:355:9
-eval-same-length-2 : (t : ℕ) → eval-lts.Need-same-length-2 (eval-claims t) (eval-at t) eval.Post
-eval-same-length-2 t c = c .before .before .before .before .before .before .nullary .kept .1 .1 .1 .1 .1 .1 .1 .0
-
--- src/evaluate.rt:355:9
-eval-same-length-3 : (t : ℕ) → eval-lts.Need-same-length-3 (eval-claims t) (eval-at t) eval.Post
-eval-same-length-3 t c = c .before .before .before .before .before .before .nullary .kept .1 .1 .1 .1 .1 .1 .1 .1 .0
-
--- src/evaluate.rt:355:9
 eval-returns : (t : ℕ) → eval-lts.Need-returns (eval-claims t) (eval-at t) eval.Post
 eval-returns t c =
-    c .before .before .before .before .before .before .nullary .ensures
+    let c6 = c .before .before .before .before .before .before in
+    c6 .nullary .ensures
 
--- src/evaluate.rt:370:9
 eval-unary-requires : (t : ℕ) → eval-lts.Need-unary-requires (eval-claims t) (eval-at t) eval.Post
 eval-unary-requires t c κs =
-    let m = c .before .before .before .before .before .before .before .before .before .before .before .before .pre .0 in
-    (omega (arith, m), (c .before .before .before .before .before .before .before .before .before .before .before .before .pre .1, sym (c .before .before .before .before .before .arity .ensures .0) ∙ c .before .before .before .if2 .taken))
+    let c3 = c .before .before .before in
+    let c5 = c3 .before .before in
+    let c12 = c5 .before .before .before .before .before .before .before in
+    let m = c12 .pre .0 in
+    (omega (arith, m), (c12 .pre .1, sym (c5 .arity .ensures .0) ∙ c3 .if2 .taken))
 
--- src/evaluate.rt:370:9
-eval-same-length-4 : (t : ℕ) → eval-lts.Need-same-length-4 (eval-claims t) (eval-at t) eval.Post
-eval-same-length-4 t c = c .before .before .before .before .before .before .unary .kept .1 .1 .1 .1 .1 .1 .0
-
--- src/evaluate.rt:370:9
-eval-same-length-5 : (t : ℕ) → eval-lts.Need-same-length-5 (eval-claims t) (eval-at t) eval.Post
-eval-same-length-5 t c = c .before .before .before .before .before .before .unary .kept .1 .1 .1 .1 .1 .1 .1 .0
-
--- src/evaluate.rt:370:9
-eval-same-length-6 : (t : ℕ) → eval-lts.Need-same-length-6 (eval-claims t) (eval-at t) eval.Post
-eval-same-length-6 t c = c .before .before .before .before .before .before .unary .kept .1 .1 .1 .1 .1 .1 .1 .1 .0
-
--- src/evaluate.rt:370:9
 eval-returns-2 : (t : ℕ) → eval-lts.Need-returns-2 (eval-claims t) (eval-at t) eval.Post
 eval-returns-2 t c =
-    c .before .before .before .before .before .before .unary .ensures
+    let c6 = c .before .before .before .before .before .before in
+    c6 .unary .ensures
 
--- src/evaluate.rt:385:9
 eval-branch-requires : (t : ℕ) → eval-lts.Need-branch-requires (eval-claims t) (eval-at t) eval.Post
 eval-branch-requires t c κs =
-    let m = c .before .before .before .before .before .before .before .before .before .before .before .before .before .pre .0 in
-    (omega (arith, m), (c .before .before .before .before .before .before .before .before .before .before .before .before .before .pre .1, c .before .before .before .if3 .taken))
+    let c3 = c .before .before .before in
+    let c13 = c3 .before .before .before .before .before .before .before .before .before .before in
+    let m = c13 .pre .0 in
+    (omega (arith, m), (c13 .pre .1, c3 .if3 .taken))
 
--- src/evaluate.rt:385:9
-eval-same-length-7 : (t : ℕ) → eval-lts.Need-same-length-7 (eval-claims t) (eval-at t) eval.Post
-eval-same-length-7 t c = c .before .before .before .before .before .before .branch .kept .1 .1 .1 .1 .1 .1 .0
-
--- src/evaluate.rt:385:9
-eval-same-length-8 : (t : ℕ) → eval-lts.Need-same-length-8 (eval-claims t) (eval-at t) eval.Post
-eval-same-length-8 t c = c .before .before .before .before .before .before .branch .kept .1 .1 .1 .1 .1 .1 .1 .0
-
--- src/evaluate.rt:385:9
-eval-same-length-9 : (t : ℕ) → eval-lts.Need-same-length-9 (eval-claims t) (eval-at t) eval.Post
-eval-same-length-9 t c = c .before .before .before .before .before .before .branch .kept .1 .1 .1 .1 .1 .1 .1 .1 .0
-
--- src/evaluate.rt:385:9
 eval-returns-3 : (t : ℕ) → eval-lts.Need-returns-3 (eval-claims t) (eval-at t) eval.Post
 eval-returns-3 t c =
-    c .before .before .before .before .before .before .branch .ensures
+    let c6 = c .before .before .before .before .before .before in
+    c6 .branch .ensures
 
--- src/evaluate.rt:400:9
 eval-iterate-requires : (t : ℕ) → eval-lts.Need-iterate-requires (eval-claims t) (eval-at t) eval.Post
 eval-iterate-requires t c κs =
-    let m = c .before .before .before .before .before .before .before .before .before .before .before .before .before .before .pre .0 in
-    (omega (arith, m), (c .before .before .before .before .before .before .before .before .before .before .before .before .before .before .pre .1, c .before .before .before .if4 .taken))
+    let c3 = c .before .before .before in
+    let c14 = c3 .before .before .before .before .before .before .before .before .before .before .before in
+    let m = c14 .pre .0 in
+    (omega (arith, m), (c14 .pre .1, c3 .if4 .taken))
 
--- src/evaluate.rt:400:9
-eval-same-length-10 : (t : ℕ) → eval-lts.Need-same-length-10 (eval-claims t) (eval-at t) eval.Post
-eval-same-length-10 t c = c .before .before .before .before .before .before .iterate .kept .1 .1 .1 .1 .1 .1 .0
-
--- src/evaluate.rt:400:9
-eval-same-length-11 : (t : ℕ) → eval-lts.Need-same-length-11 (eval-claims t) (eval-at t) eval.Post
-eval-same-length-11 t c = c .before .before .before .before .before .before .iterate .kept .1 .1 .1 .1 .1 .1 .1 .0
-
--- src/evaluate.rt:400:9
-eval-same-length-12 : (t : ℕ) → eval-lts.Need-same-length-12 (eval-claims t) (eval-at t) eval.Post
-eval-same-length-12 t c = c .before .before .before .before .before .before .iterate .kept .1 .1 .1 .1 .1 .1 .1 .1 .0
-
--- src/evaluate.rt:400:9
 eval-returns-4 : (t : ℕ) → eval-lts.Need-returns-4 (eval-claims t) (eval-at t) eval.Post
 eval-returns-4 t c =
-    c .before .before .before .before .before .before .iterate .ensures
+    let c6 = c .before .before .before .before .before .before in
+    c6 .iterate .ensures
 
--- src/evaluate.rt:414:5
 eval-binary-requires : (t : ℕ) → eval-lts.Need-binary-requires (eval-claims t) (eval-at t) eval.Post
 eval-binary-requires t c κs =
-    let m = c .before .before .before .before .before .before .before .before .before .before .before .before .before .before .pre .0 in
-    let z = is-binary (c .before .before .before .before .before .before .before .before .before .before .before .before .before .before .pre .1) (λ e. c .before .before .before .before .before .before .if1 .left (c .before .before .before .before .before .before .before .arity .ensures .0 ∙ e)) (λ e. c .before .before .before .before .before .if2 .left (c .before .before .before .before .before .before .before .arity .ensures .0 ∙ e)) (c .before .before .before .before .if3 .left) (c .before .before .before .if4 .left) in
-    (omega (arith, m), (c .before .before .before .before .before .before .before .before .before .before .before .before .before .before .pre .1, z))
+    let c3 = c .before .before .before in
+    let c4 = c3 .before in
+    let c5 = c4 .before in
+    let c6 = c5 .before in
+    let c7 = c6 .before in
+    let c14 = c7 .before .before .before .before .before .before .before in
+    let m = c14 .pre .0 in
+    let z = is-binary (c14 .pre .1) (λ e. c6 .if1 .left (c7 .arity .ensures .0 ∙ e)) (λ e. c5 .if2 .left (c7 .arity .ensures .0 ∙
+    e)) (c4 .if3 .left) (c3 .if4 .left) in
+    (omega (arith, m), (c14 .pre .1, z))
 
--- src/evaluate.rt:335:1
-eval-same-length-13 : (t : ℕ) → eval-lts.Need-same-length-13 (eval-claims t) (eval-at t) eval.Post
-eval-same-length-13 t c = c .before .before .before .before .before .before .binary .kept .1 .1 .1 .1 .1 .1 .0
-
--- src/evaluate.rt:335:1
-eval-same-length-14 : (t : ℕ) → eval-lts.Need-same-length-14 (eval-claims t) (eval-at t) eval.Post
-eval-same-length-14 t c = c .before .before .before .before .before .before .binary .kept .1 .1 .1 .1 .1 .1 .1 .0
-
--- src/evaluate.rt:335:1
-eval-same-length-15 : (t : ℕ) → eval-lts.Need-same-length-15 (eval-claims t) (eval-at t) eval.Post
-eval-same-length-15 t c = c .before .before .before .before .before .before .binary .kept .1 .1 .1 .1 .1 .1 .1 .1 .0
-
--- src/evaluate.rt:335:1
 eval-returns-5 : (t : ℕ) → eval-lts.Need-returns-5 (eval-claims t) (eval-at t) eval.Post
 eval-returns-5 t c =
-    c .before .before .before .before .before .before .binary .ensures
+    let c6 = c .before .before .before .before .before .before in
+    c6 .binary .ensures
 
--- src/evaluate.rt:206:9
-iterate-add-eval : (t : ℕ) → iterate-lts.Need-add-eval (iterate-claims t) (iterate-at t) iterate.Post
-iterate-add-eval t c =
-    let a = accepted-record (c .before .before .before .before .before .pre .1 .0 .accepted) .whole in
+iterate-add-i : (t : ℕ) → iterate-lts.Need-add-i (iterate-claims t) (iterate-at t) iterate.Post
+iterate-add-i t c =
+    let c5 = c .before .before .before .before .before in
+    let a = accepted-record (c5 .pre .1 .0 .accepted) .whole in
     omega (arith, a)
 
--- src/evaluate.rt:207:9
-iterate-sub-eval : (t : ℕ) → iterate-lts.Need-sub-eval (iterate-claims t) (iterate-at t) iterate.Post
-iterate-sub-eval t c =
-    deep (c .before .before .before .before .before .pre .1 .0)
+iterate-sub-k : (t : ℕ) → iterate-lts.Need-sub-k (iterate-claims t) (iterate-at t) iterate.Post
+iterate-sub-k t c =
+    let c5 = c .before .before .before .before .before in
+    deep (c5 .pre .1 .0)
 
--- src/evaluate.rt:204:9
 iterate-eval-requires : (t : ℕ) → iterate-lts.Need-eval-requires (iterate-claims t) (iterate-at t) iterate.Post
 iterate-eval-requires t c κs =
-    let d = deep (c .before .before .before .before .before .before .before .before .pre .1 .0) in
-    let m = c .before .before .before .before .before .before .before .before .pre .0 in
-    (omega (arith, d, m), for-first (c .before .before .before .before .before .before .before .before .pre .1 .0) (c .before .before .before .before .before .before .before .before .pre .1 .1))
+    let c8 = c .before .before .before .before .before .before .before .before in
+    let d = deep (c8 .pre .1 .0) in
+    let m = c8 .pre .0 in
+    (omega (arith, d, m), for-first (c8 .pre .1 .0) (c8 .pre .1 .1))
 
--- src/evaluate.rt:218:9
-iterate-same-length : (t : ℕ) → iterate-lts.Need-same-length (iterate-claims t) (iterate-at t) iterate.Post
-iterate-same-length t c = c .before .before .before .before .before .before .before .before .eval .kept .1 .1 .1 .1 .1 .1 .0
-
--- src/evaluate.rt:218:9
-iterate-same-length-2 : (t : ℕ) → iterate-lts.Need-same-length-2 (iterate-claims t) (iterate-at t) iterate.Post
-iterate-same-length-2 t c = c .before .before .before .before .before .before .before .before .eval .kept .1 .1 .1 .1 .1 .1 .1 .0
-
--- src/evaluate.rt:218:9
-iterate-same-length-3 : (t : ℕ) → iterate-lts.Need-same-length-3 (iterate-claims t) (iterate-at t) iterate.Post
-iterate-same-length-3 t c = c .before .before .before .before .before .before .before .before .eval .kept .1 .1 .1 .1 .1 .1 .1 .1 .0
-
--- src/evaluate.rt:218:9
 iterate-returns : (t : ℕ) → iterate-lts.Need-returns (iterate-claims t) (iterate-at t) iterate.Post
 iterate-returns t c =
-    for-stops (c .before .before .before .before .before .before .before .before .before .before .before .before .before .before .before .before .before .pre .1 .0) (c .before .before .before .before .before .before .before .before .before .before .before .before .before .before .before .before .before .pre .1 .1) (c .before .before .before .before .before .before .before .before .eval .ensures) (c .if1 .taken)
+    let c8 = c .before .before .before .before .before .before .before .before in
+    let c17 = c8 .before .before .before .before .before .before .before .before .before in
+    for-stops (c17 .pre .1 .0) (c17 .pre .1 .1) (c8 .eval .ensures) (c .if1 .taken)
 
--- src/evaluate.rt:224:9
 iterate-past-requires : (t : ℕ) → iterate-lts.Need-past-requires (iterate-claims t) (iterate-at t) iterate.Post
-iterate-past-requires t c κs =
-    search needs
+iterate-past-requires t c κs = search needs
 
--- src/evaluate.rt:224:9
-iterate-same-length-4 : (t : ℕ) → iterate-lts.Need-same-length-4 (iterate-claims t) (iterate-at t) iterate.Post
-iterate-same-length-4 t c = c .before .before .before .before .before .before .before .before .before .before .before .before .eval .kept .1 .1 .1 .1 .1 .1 .0
-
--- src/evaluate.rt:224:9
-iterate-same-length-5 : (t : ℕ) → iterate-lts.Need-same-length-5 (iterate-claims t) (iterate-at t) iterate.Post
-iterate-same-length-5 t c = c .before .before .before .before .before .before .before .before .before .before .before .before .eval .kept .1 .1 .1 .1 .1 .1 .1 .0
-
--- src/evaluate.rt:224:9
-iterate-same-length-6 : (t : ℕ) → iterate-lts.Need-same-length-6 (iterate-claims t) (iterate-at t) iterate.Post
-iterate-same-length-6 t c = c .before .before .before .before .before .before .before .before .before .before .before .before .eval .kept .1 .1 .1 .1 .1 .1 .1 .1 .0
-
--- src/evaluate.rt:224:9
 iterate-returns-2 : (t : ℕ) → iterate-lts.Need-returns-2 (iterate-claims t) (iterate-at t) iterate.Post
 iterate-returns-2 t c =
-    for-none (c .before .before .before .before .before .before .before .before .before .before .before .before .before .before .before .before .before .before .before .before .before .pre .1 .0) (c .before .before .before .before .before .before .before .before .before .before .before .before .before .before .before .before .before .before .before .before .before .pre .1 .1) (c .before .before .before .before .before .before .before .before .before .before .before .before .eval .ensures) (c .before .before .before .before .if1 .left) (c .before .if2 .taken) (c .past .ensures)
+    let c4 = c .before .before .before .before in
+    let c12 = c4 .before .before .before .before .before .before .before .before in
+    let c21 = c12 .before .before .before .before .before .before .before .before .before in
+    for-none (c21 .pre .1 .0) (c21 .pre .1 .1) (c12 .eval .ensures) (c4 .if1 .left) (c .before .if2 .taken) (c .past .ensures)
 
--- src/evaluate.rt:230:9
-iterate-sub-each : (t : ℕ) → iterate-lts.Need-sub-each (iterate-claims t) (iterate-at t) iterate.Post
-iterate-sub-each t c =
-    deep (c .before .before .before .before .before .before .before .before .before .before .before .before .before .before .before .before .before .before .before .before .pre .1 .0)
-
--- src/evaluate.rt:226:9
 iterate-each-requires : (t : ℕ) → iterate-lts.Need-each-requires (iterate-claims t) (iterate-at t) iterate.Post
 iterate-each-requires t c κs =
-    let d = deep (c .before .before .before .before .before .before .before .before .before .before .before .before .before .before .before .before .before .before .before .before .before .before .before .pre .1 .0) in
-    let m = c .before .before .before .before .before .before .before .before .before .before .before .before .before .before .before .before .before .before .before .before .before .before .before .pre .0 in
-    let s = good (c .before .before .before .before .before .before .before .before .before .before .before .before .before .before .before .before .before .before .before .before .before .before .before .pre .1 .0) (c .before .before .before .before .before .before .before .before .before .before .before .before .before .before .before .before .before .before .before .before .before .before .before .args .at + 1) (c .before .before .before .before .before .before .before .before .before .before .before .before .before .before .eval .ensures) (c .before .before .before .before .before .before .if1 .left) .short in
-    (omega (arith, d, m, s), each-asks (c .before .before .before .before .before .before .before .before .before .before .before .before .before .before .before .before .before .before .before .before .before .before .before .pre .1 .0) (c .before .before .before .before .before .before .before .before .before .before .before .before .before .before .before .before .before .before .before .before .before .before .before .pre .1 .1) (c .before .before .before .before .before .before .before .before .before .before .before .before .before .before .eval .ensures) (c .before .before .before .before .before .before .if1 .left) (c .before .before .before .if2 .left))
+    let c3 = c .before .before .before in
+    let c6 = c3 .before .before .before in
+    let c14 = c6 .before .before .before .before .before .before .before .before in
+    let c23 = c14 .before .before .before .before .before .before .before .before .before in
+    let d = deep (c23 .pre .1 .0) in
+    let m = c23 .pre .0 in
+    let s = good (c23 .pre .1 .0) (c23 .args .at + 1) (c14 .eval .ensures) (c6 .if1 .left) .short in
+    (omega (arith, d, m, s), each-asks (c23 .pre .1 .0) (c23 .pre .1 .1) (c14 .eval .ensures) (c6 .if1 .left) (c3 .if2 .left))
 
--- src/evaluate.rt:244:9
 iterate-same-length-7 : (t : ℕ) → iterate-lts.Need-same-length-7 (iterate-claims t) (iterate-at t) iterate.Post
-iterate-same-length-7 t c = c .before .before .before .before .before .before .before .before .each .kept .1 .1 .1 .1 .1 .1 .1 .0 ∙ c .before .before .before .before .before .before .before .before .before .before .before .before .before .before .before .before .before .before .before .before .before .before .before .eval .kept .1 .1 .1 .1 .1 .1 .0
+iterate-same-length-7 t c =
+    let c8 = c .before .before .before .before .before .before .before .before in
+    let c18 = c8 .before .before .before .before .before .before .before .before .before .before in
+    let c23 = c18 .before .before .before .before .before in
+    c8 .each .kept .1 .1 .1 .1 .1 .1 .1 .0 ∙ c23 .eval .kept .1 .1 .1 .1 .1 .1 .0
 
--- src/evaluate.rt:244:9
 iterate-same-length-8 : (t : ℕ) → iterate-lts.Need-same-length-8 (iterate-claims t) (iterate-at t) iterate.Post
-iterate-same-length-8 t c = c .before .before .before .before .before .before .before .before .each .kept .1 .1 .1 .1 .1 .1 .1 .1 .0 ∙ c .before .before .before .before .before .before .before .before .before .before .before .before .before .before .before .before .before .before .before .before .before .before .before .eval .kept .1 .1 .1 .1 .1 .1 .1 .0
+iterate-same-length-8 t c =
+    let c8 = c .before .before .before .before .before .before .before .before in
+    let c18 = c8 .before .before .before .before .before .before .before .before .before .before in
+    let c23 = c18 .before .before .before .before .before in
+    c8 .each .kept .1 .1 .1 .1 .1 .1 .1 .1 .0 ∙ c23 .eval .kept .1 .1 .1 .1 .1 .1 .1 .0
 
--- src/evaluate.rt:244:9
 iterate-same-length-9 : (t : ℕ) → iterate-lts.Need-same-length-9 (iterate-claims t) (iterate-at t) iterate.Post
-iterate-same-length-9 t c = c .before .before .before .before .before .before .before .before .each .kept .1 .1 .1 .1 .1 .1 .1 .1 .1 .0 ∙ c .before .before .before .before .before .before .before .before .before .before .before .before .before .before .before .before .before .before .before .before .before .before .before .eval .kept .1 .1 .1 .1 .1 .1 .1 .1 .0
+iterate-same-length-9 t c =
+    let c8 = c .before .before .before .before .before .before .before .before in
+    let c18 = c8 .before .before .before .before .before .before .before .before .before .before in
+    let c23 = c18 .before .before .before .before .before in
+    c8 .each .kept .1 .1 .1 .1 .1 .1 .1 .1 .1 .0 ∙ c23 .eval .kept .1 .1 .1 .1 .1 .1 .1 .1 .0
 
--- src/evaluate.rt:244:9
 iterate-returns-3 : (t : ℕ) → iterate-lts.Need-returns-3 (iterate-claims t) (iterate-at t) iterate.Post
 iterate-returns-3 t c =
-    items-stop (c .before .before .before .before .before .before .before .before .before .before .before .before .before .before .before .before .before .before .before .before .before .before .before .before .before .before .before .before .before .before .before .before .pre .1 .0) (c .before .before .before .before .before .before .before .before .before .before .before .before .before .before .before .before .before .before .before .before .before .before .before .before .before .before .before .before .before .before .before .before .pre .1 .1) (c .before .before .before .before .before .before .before .before .before .before .before .before .before .before .before .before .before .before .before .before .before .before .before .eval .ensures) (c .before .before .before .before .before .before .before .before .before .before .before .before .before .before .before .if1 .left) (c .before .before .before .before .before .before .before .before .before .before .before .before .if2 .left) (c .before .before .before .before .before .before .before .before .each .ensures) (c .if3 .taken)
+    let c8 = c .before .before .before .before .before .before .before .before in
+    let c12 = c8 .before .before .before .before in
+    let c15 = c12 .before .before .before in
+    let c23 = c15 .before .before .before .before .before .before .before .before in
+    let c32 = c23 .before .before .before .before .before .before .before .before .before in
+    items-stop (c32 .pre .1 .0) (c32 .pre .1 .1) (c23 .eval .ensures) (c15 .if1 .left) (c12 .if2 .left) (c8 .each .ensures) (c .if3
+    .taken)
 
--- src/evaluate.rt:246:5
 iterate-combined-requires : (t : ℕ) → iterate-lts.Need-combined-requires (iterate-claims t) (iterate-at t) iterate.Post
 iterate-combined-requires t c κs =
-    close-asks (c .before .before .before .before .before .before .before .before .before .before .before .before .before .before .before .before .before .before .before .before .before .before .before .before .before .before .before .before .before .before .before .before .before .before .before .pre .1 .0) (c .before .before .before .before .before .before .before .before .before .before .before .before .before .before .before .before .before .before .before .before .before .before .before .before .before .before .before .before .before .before .before .before .before .before .before .pre .1 .1) (c .before .before .before .before .before .before .before .before .before .before .before .before .before .before .before .before .before .before .before .before .before .before .before .before .before .before .eval .ensures) (c .before .before .before .before .before .before .before .before .before .before .before .before .before .before .before .before .before .before .if1 .left) (c .before .before .before .before .before .before .before .before .before .before .before .before .before .before .before .if2 .left) (c .before .before .before .before .before .before .before .before .before .before .before .each .ensures) (c .before .before .before .if3 .left)
+    let c3 = c .before .before .before in
+    let c11 = c3 .before .before .before .before .before .before .before .before in
+    let c15 = c11 .before .before .before .before in
+    let c18 = c15 .before .before .before in
+    let c26 = c18 .before .before .before .before .before .before .before .before in
+    let c35 = c26 .before .before .before .before .before .before .before .before .before in
+    close-asks (c35 .pre .1 .0) (c35 .pre .1 .1) (c26 .eval .ensures) (c18 .if1 .left) (c15 .if2 .left) (c11 .each .ensures) (c3
+    .if3 .left)
 
--- src/evaluate.rt:186:1
 iterate-same-length-10 : (t : ℕ) → iterate-lts.Need-same-length-10 (iterate-claims t) (iterate-at t) iterate.Post
-iterate-same-length-10 t c = c .before .before .before .before .before .before .combined .kept .1 .1 .0 ∙ c .before .before .before .before .before .before .before .before .before .before .before .before .before .before .before .before .before .before .each .kept .1 .1 .1 .1 .1 .1 .1 .0 ∙ c .before .before .before .before .before .before .before .before .before .before .before .before .before .before .before .before .before .before .before .before .before .before .before .before .before .before .before .before .before .before .before .before .before .eval .kept .1 .1 .1 .1 .1 .1 .0
+iterate-same-length-10 t c =
+    let c6 = c .before .before .before .before .before .before in
+    let c18 = c6 .before .before .before .before .before .before .before .before .before .before .before .before in
+    let c28 = c18 .before .before .before .before .before .before .before .before .before .before in
+    let c33 = c28 .before .before .before .before .before in
+    c6 .combined .kept .1 .1 .0 ∙ c18 .each .kept .1 .1 .1 .1 .1 .1 .1 .0 ∙ c33 .eval .kept .1 .1 .1 .1 .1 .1 .0
 
--- src/evaluate.rt:186:1
 iterate-same-length-11 : (t : ℕ) → iterate-lts.Need-same-length-11 (iterate-claims t) (iterate-at t) iterate.Post
-iterate-same-length-11 t c = c .before .before .before .before .before .before .combined .kept .1 .1 .1 .0 ∙ c .before .before .before .before .before .before .before .before .before .before .before .before .before .before .before .before .before .before .each .kept .1 .1 .1 .1 .1 .1 .1 .1 .0 ∙ c .before .before .before .before .before .before .before .before .before .before .before .before .before .before .before .before .before .before .before .before .before .before .before .before .before .before .before .before .before .before .before .before .before .eval .kept .1 .1 .1 .1 .1 .1 .1 .0
+iterate-same-length-11 t c =
+    let c6 = c .before .before .before .before .before .before in
+    let c18 = c6 .before .before .before .before .before .before .before .before .before .before .before .before in
+    let c28 = c18 .before .before .before .before .before .before .before .before .before .before in
+    let c33 = c28 .before .before .before .before .before in
+    c6 .combined .kept .1 .1 .1 .0 ∙ c18 .each .kept .1 .1 .1 .1 .1 .1 .1 .1 .0 ∙ c33 .eval .kept .1 .1 .1 .1 .1 .1 .1 .0
 
--- src/evaluate.rt:186:1
 iterate-same-length-12 : (t : ℕ) → iterate-lts.Need-same-length-12 (iterate-claims t) (iterate-at t) iterate.Post
-iterate-same-length-12 t c = c .before .before .before .before .before .before .combined .kept .1 .1 .1 .1 .0 ∙ c .before .before .before .before .before .before .before .before .before .before .before .before .before .before .before .before .before .before .each .kept .1 .1 .1 .1 .1 .1 .1 .1 .1 .0 ∙ c .before .before .before .before .before .before .before .before .before .before .before .before .before .before .before .before .before .before .before .before .before .before .before .before .before .before .before .before .before .before .before .before .before .eval .kept .1 .1 .1 .1 .1 .1 .1 .1 .0
+iterate-same-length-12 t c =
+    let c6 = c .before .before .before .before .before .before in
+    let c18 = c6 .before .before .before .before .before .before .before .before .before .before .before .before in
+    let c28 = c18 .before .before .before .before .before .before .before .before .before .before in
+    let c33 = c28 .before .before .before .before .before in
+    c6 .combined .kept .1 .1 .1 .1 .0 ∙ c18 .each .kept .1 .1 .1 .1 .1 .1 .1 .1 .1 .0 ∙ c33 .eval .kept .1 .1 .1 .1 .1 .1 .1 .1 .0
 
--- src/evaluate.rt:186:1
 iterate-returns-4 : (t : ℕ) → iterate-lts.Need-returns-4 (iterate-claims t) (iterate-at t) iterate.Post
 iterate-returns-4 t c =
-    close-yields (c .before .before .before .before .before .before .before .before .before .before .before .before .before .before .before .before .before .before .before .before .before .before .before .before .before .before .before .before .before .before .before .before .before .before .before .before .before .before .before .before .before .before .pre .1 .0) (c .before .before .before .before .before .before .before .before .before .before .before .before .before .before .before .before .before .before .before .before .before .before .before .before .before .before .before .before .before .before .before .before .before .before .before .before .before .before .before .before .before .before .pre .1 .1) (c .before .before .before .before .before .before .before .before .before .before .before .before .before .before .before .before .before .before .before .before .before .before .before .before .before .before .before .before .before .before .before .before .before .eval .ensures) (c .before .before .before .before .before .before .before .before .before .before .before .before .before .before .before .before .before .before .before .before .before .before .before .before .before .if1 .left) (c .before .before .before .before .before .before .before .before .before .before .before .before .before .before .before .before .before .before .before .before .before .before .if2 .left) (c .before .before .before .before .before .before .before .before .before .before .before .before .before .before .before .before .before .before .each .ensures) (c .before .before .before .before .before .before .before .before .before .before .if3 .left) (c .before .before .before .before .before .before .combined .ensures)
+    let c6 = c .before .before .before .before .before .before in
+    let c10 = c6 .before .before .before .before in
+    let c18 = c10 .before .before .before .before .before .before .before .before in
+    let c22 = c18 .before .before .before .before in
+    let c25 = c22 .before .before .before in
+    let c33 = c25 .before .before .before .before .before .before .before .before in
+    let c42 = c33 .before .before .before .before .before .before .before .before .before in
+    close-yields (c42 .pre .1 .0) (c42 .pre .1 .1) (c33 .eval .ensures) (c25 .if1 .left) (c22 .if2 .left) (c18 .each .ensures) (c10
+    .if3 .left) (c6 .combined .ensures)
 
--- src/evaluate.rt:34:47
 unary-shared-slice-read-body-size : (t : ℕ) → unary-lts.Need-shared-slice-read-body-size (unary-claims t) (unary-at t) unary.Post
 unary-shared-slice-read-body-size t c =
-    let a = accepted-record (c .before .before .before .before .before .before .pre .1 .0 .accepted) .whole in
+    let c6 = c .before .before .before .before .before .before in
+    let a = accepted-record (c6 .pre .1 .0 .accepted) .whole in
     omega (arith, a)
 
--- src/evaluate.rt:34:30
 unary-body-size-requires : (t : ℕ) → unary-lts.Need-body-size-requires (unary-claims t) (unary-at t) unary.Post
-unary-body-size-requires t c κs =
-    search needs
+unary-body-size-requires t c κs = search needs
 
--- src/evaluate.rt:34:26
-unary-add-first-at : (t : ℕ) → unary-lts.Need-add-first-at (unary-claims t) (unary-at t) unary.Post
-unary-add-first-at t c =
-    omega (arith, c .body-size .ensures .1)
+unary-add-i : (t : ℕ) → unary-lts.Need-add-i (unary-claims t) (unary-at t) unary.Post
+unary-add-i t c = omega (arith, c .body-size .ensures .1)
 
--- src/evaluate.rt:34:20
-unary-add-first-at-2 : (t : ℕ) → unary-lts.Need-add-first-at-2 (unary-claims t) (unary-at t) unary.Post
-unary-add-first-at-2 t c =
-    let a = accepted-record (c .before .before .before .before .before .before .before .pre .1 .0 .accepted) .whole in
+unary-add-i-2 : (t : ℕ) → unary-lts.Need-add-i-2 (unary-claims t) (unary-at t) unary.Post
+unary-add-i-2 t c =
+    let c7 = c .before .before .before .before .before .before .before in
+    let a = accepted-record (c7 .pre .1 .0 .accepted) .whole in
     omega (arith, a, c .body-size .ensures .0)
 
--- src/evaluate.rt:38:9
-unary-sub-eval : (t : ℕ) → unary-lts.Need-sub-eval (unary-claims t) (unary-at t) unary.Post
-unary-sub-eval t c =
-    deep (c .before .before .before .before .before .before .before .pre .1 .0)
+unary-sub-k : (t : ℕ) → unary-lts.Need-sub-k (unary-claims t) (unary-at t) unary.Post
+unary-sub-k t c =
+    let c7 = c .before .before .before .before .before .before .before in
+    deep (c7 .pre .1 .0)
 
--- src/evaluate.rt:35:9
 unary-eval-requires : (t : ℕ) → unary-lts.Need-eval-requires (unary-claims t) (unary-at t) unary.Post
 unary-eval-requires t c κs =
-    let d = deep (c .before .before .before .before .before .before .before .before .before .before .pre .1 .0) in
-    let m = c .before .before .before .before .before .before .before .before .before .before .pre .0 in
-    (omega (arith, d, m), unary-first (c .before .before .before .before .before .before .before .before .before .before .pre .1 .0) (c .before .before .before .before .before .before .before .before .before .before .pre .1 .1) (c .before .before .before .before .before .before .before .before .before .before .args .at + (1 + c .before .before .before .body-size .result)) (ap (λ (s : ℕ). c .before .before .before .before .before .before .before .before .before .before .args .at + (1 + s)) (c .before .before .before .body-size .ensures .0)))
+    let c3 = c .before .before .before in
+    let c10 = c3 .before .before .before .before .before .before .before in
+    let d = deep (c10 .pre .1 .0) in
+    let m = c10 .pre .0 in (
+      omega (arith, d, m),
+      unary-first (c10 .pre .1 .0) (c10 .pre .1 .1) (c10 .args .at + (1 + c3 .body-size .result)) (ap (λ (s :
+          ℕ). c10 .args .at + (1 + s)) (c3 .body-size .ensures .0)),
+    )
 
--- src/evaluate.rt:49:9
-unary-same-length : (t : ℕ) → unary-lts.Need-same-length (unary-claims t) (unary-at t) unary.Post
-unary-same-length t c = c .before .before .before .before .before .before .before .before .eval .kept .1 .1 .1 .1 .1 .1 .0
-
--- src/evaluate.rt:49:9
-unary-same-length-2 : (t : ℕ) → unary-lts.Need-same-length-2 (unary-claims t) (unary-at t) unary.Post
-unary-same-length-2 t c = c .before .before .before .before .before .before .before .before .eval .kept .1 .1 .1 .1 .1 .1 .1 .0
-
--- src/evaluate.rt:49:9
-unary-same-length-3 : (t : ℕ) → unary-lts.Need-same-length-3 (unary-claims t) (unary-at t) unary.Post
-unary-same-length-3 t c = c .before .before .before .before .before .before .before .before .eval .kept .1 .1 .1 .1 .1 .1 .1 .1 .0
-
--- src/evaluate.rt:49:9
 unary-returns : (t : ℕ) → unary-lts.Need-returns (unary-claims t) (unary-at t) unary.Post
 unary-returns t c =
-    unary-stops (c .before .before .before .before .before .before .before .before .before .before .before .before .before .before .before .before .before .before .before .pre .1 .0) (c .before .before .before .before .before .before .before .before .before .before .before .before .before .before .before .before .before .before .before .args .at + (1 + c .before .before .before .before .before .before .before .before .before .before .before .before .body-size .result)) (ap (λ (s : ℕ). c .before .before .before .before .before .before .before .before .before .before .before .before .before .before .before .before .before .before .before .args .at + (1 + s)) (c .before .before .before .before .before .before .before .before .before .before .before .before .body-size .ensures .0)) (c .before .before .before .before .before .before .before .before .before .before .before .before .before .before .before .before .before .before .before .pre .1 .1) (c .before .before .before .before .before .before .before .before .eval .ensures) (c .if1 .taken)
+    let c8 = c .before .before .before .before .before .before .before .before in
+    let c12 = c8 .before .before .before .before in
+    let c19 = c12 .before .before .before .before .before .before .before in
+    unary-stops (c19 .pre .1 .0) (c19 .args .at + (1 + c12 .body-size .result)) (ap (λ (s : ℕ). c19 .args .at + (1 + s)) (c12
+    .body-size .ensures .0)) (c19 .pre .1 .1) (c8 .eval .ensures) (c .if1 .taken)
 
--- src/evaluate.rt:51:5
 unary-applied-requires : (t : ℕ) → unary-lts.Need-applied-requires (unary-claims t) (unary-at t) unary.Post
 unary-applied-requires t c κs =
-    unary-asks (c .before .before .before .before .before .before .before .before .before .before .before .before .before .before .before .before .before .before .before .before .before .before .pre .1 .0) (c .before .before .before .before .before .before .before .before .before .before .before .before .before .before .before .before .before .before .before .before .before .before .args .at + (1 + c .before .before .before .before .before .before .before .before .before .before .before .before .before .before .before .body-size .result)) (c .before .before .before .before .before .before .before .before .before .before .before .eval .ensures) (c .before .before .before .if1 .left) (ap (λ (s : ℕ). c .before .before .before .before .before .before .before .before .before .before .before .before .before .before .before .before .before .before .before .before .before .before .args .at + (1 + s)) (c .before .before .before .before .before .before .before .before .before .before .before .before .before .before .before .body-size .ensures .0)) (c .before .before .before .before .before .before .before .before .before .before .before .before .before .before .before .before .before .before .before .before .before .before .pre .1 .1)
+    let c3 = c .before .before .before in
+    let c11 = c3 .before .before .before .before .before .before .before .before in
+    let c15 = c11 .before .before .before .before in
+    let c22 = c15 .before .before .before .before .before .before .before in
+    unary-asks (c22 .pre .1 .0) (c22 .args .at + (1 + c15 .body-size .result)) (c11 .eval .ensures) (c3 .if1 .left) (ap (λ (s : ℕ).
+    c22 .args .at + (1 + s)) (c15 .body-size .ensures .0)) (c22 .pre .1 .1)
 
--- src/evaluate.rt:16:1
 unary-same-length-4 : (t : ℕ) → unary-lts.Need-same-length-4 (unary-claims t) (unary-at t) unary.Post
-unary-same-length-4 t c = c .before .before .before .before .before .before .applied .kept .1 .1 .0 ∙ c .before .before .before .before .before .before .before .before .before .before .before .before .before .before .before .before .before .before .eval .kept .1 .1 .1 .1 .1 .1 .0
+unary-same-length-4 t c =
+    let c6 = c .before .before .before .before .before .before in
+    let c18 = c6 .before .before .before .before .before .before .before .before .before .before .before .before in
+    c6 .applied .kept .1 .1 .0 ∙ c18 .eval .kept .1 .1 .1 .1 .1 .1 .0
 
--- src/evaluate.rt:16:1
 unary-same-length-5 : (t : ℕ) → unary-lts.Need-same-length-5 (unary-claims t) (unary-at t) unary.Post
-unary-same-length-5 t c = c .before .before .before .before .before .before .applied .kept .1 .1 .1 .0 ∙ c .before .before .before .before .before .before .before .before .before .before .before .before .before .before .before .before .before .before .eval .kept .1 .1 .1 .1 .1 .1 .1 .0
+unary-same-length-5 t c =
+    let c6 = c .before .before .before .before .before .before in
+    let c18 = c6 .before .before .before .before .before .before .before .before .before .before .before .before in
+    c6 .applied .kept .1 .1 .1 .0 ∙ c18 .eval .kept .1 .1 .1 .1 .1 .1 .1 .0
 
--- src/evaluate.rt:16:1
 unary-same-length-6 : (t : ℕ) → unary-lts.Need-same-length-6 (unary-claims t) (unary-at t) unary.Post
-unary-same-length-6 t c = c .before .before .before .before .before .before .applied .kept .1 .1 .1 .1 .0 ∙ c .before .before .before .before .before .before .before .before .before .before .before .before .before .before .before .before .before .before .eval .kept .1 .1 .1 .1 .1 .1 .1 .1 .0
+unary-same-length-6 t c =
+    let c6 = c .before .before .before .before .before .before in
+    let c18 = c6 .before .before .before .before .before .before .before .before .before .before .before .before in
+    c6 .applied .kept .1 .1 .1 .1 .0 ∙ c18 .eval .kept .1 .1 .1 .1 .1 .1 .1 .1 .0
 
--- src/evaluate.rt:16:1
 unary-returns-2 : (t : ℕ) → unary-lts.Need-returns-2 (unary-claims t) (unary-at t) unary.Post
 unary-returns-2 t c =
-    unary-yields (c .before .before .before .before .before .before .before .before .before .before .before .before .before .before .before .before .before .before .before .before .before .before .before .before .before .before .before .before .before .pre .1 .0) (c .before .before .before .before .before .before .before .before .before .before .before .before .before .before .before .before .before .before .before .before .before .before .before .before .before .before .before .before .before .args .at + (1 + c .before .before .before .before .before .before .before .before .before .before .before .before .before .before .before .before .before .before .before .before .before .before .body-size .result)) (c .before .before .before .before .before .before .before .before .before .before .before .before .before .before .before .before .before .before .eval .ensures) (c .before .before .before .before .before .before .before .before .before .before .if1 .left) (ap (λ (s : ℕ). c .before .before .before .before .before .before .before .before .before .before .before .before .before .before .before .before .before .before .before .before .before .before .before .before .before .before .before .before .before .args .at + (1 + s)) (c .before .before .before .before .before .before .before .before .before .before .before .before .before .before .before .before .before .before .before .before .before .before .body-size .ensures .0)) (c .before .before .before .before .before .before .before .before .before .before .before .before .before .before .before .before .before .before .before .before .before .before .before .before .before .before .before .before .before .pre .1 .1) (c .before .before .before .before .before .before .applied .ensures)
+    let c6 = c .before .before .before .before .before .before in
+    let c10 = c6 .before .before .before .before in
+    let c18 = c10 .before .before .before .before .before .before .before .before in
+    let c22 = c18 .before .before .before .before in
+    let c29 = c22 .before .before .before .before .before .before .before in
+    unary-yields (c29 .pre .1 .0) (c29 .args .at + (1 + c22 .body-size .result)) (c18 .eval .ensures) (c10 .if1 .left) (ap (λ (s :
+    ℕ). c29 .args .at + (1 + s)) (c22 .body-size .ensures .0)) (c29 .pre .1 .1) (c6 .applied .ensures)
 
 pub +binary+branch+each+eval+iterate+unary-spec : {M : Type 1} → statement M
 +binary+branch+each+eval+iterate+unary-spec =
@@ -819,15 +847,14 @@ pub +binary+branch+each+eval+iterate+unary-spec : {M : Type 1} → statement M
     (binary-at t)
     binary.Post
     (binary-shared-slice-read-kind t)
-    (binary-add-eval t)
-    (binary-sub-eval t)
+    (binary-add-i t)
+    (binary-sub-k t)
     (binary-eval-requires t)
-    (binary-same-length t)
-    (binary-same-length-2 t)
-    (binary-same-length-3 t)
+    (λ c. search needs)
+    (λ c. search needs)
+    (λ c. search needs)
     (binary-returns t)
     (binary-bind-requires t)
-    (binary-sub-eval-2 t)
     (binary-inner-requires t)
     (binary-eval-requires-2 t)
     (binary-same-length-4 t)
@@ -842,21 +869,19 @@ pub +binary+branch+each+eval+iterate+unary-spec : {M : Type 1} → statement M
     (λ t. branch-lts.spec (branch-claims t)
     (branch-at t)
     branch.Post
-    (branch-add-eval t)
-    (branch-sub-eval t)
+    (branch-add-i t)
+    (branch-sub-k t)
     (branch-eval-requires t)
-    (branch-same-length t)
-    (branch-same-length-2 t)
-    (branch-same-length-3 t)
+    (λ c. search needs)
+    (λ c. search needs)
+    (λ c. search needs)
     (branch-returns t)
     (branch-end-at-requires t)
-    (branch-sub-eval-2 t)
     (branch-eval-requires-2 t)
     (branch-same-length-4 t)
     (branch-same-length-5 t)
     (branch-same-length-6 t)
     (branch-returns-2 t)
-    (branch-sub-eval-3 t)
     (branch-eval-requires-3 t)
     (branch-same-length-7 t)
     (branch-same-length-8 t)
@@ -872,22 +897,22 @@ pub +binary+branch+each+eval+iterate+unary-spec : {M : Type 1} → statement M
     each.Post
     (each-sub-count t)
     (each-bind-requires t)
-    (each-add-eval t)
+    (each-add-n t)
     (each-eval-requires t)
-    (each-same-length t)
-    (each-same-length-2 t)
-    (each-same-length-3 t)
+    (λ c. search needs)
+    (λ c. search needs)
+    (λ c. search needs)
     (each-returns t)
     (each-limited-requires t)
-    (each-same-length-4 t)
-    (each-same-length-5 t)
-    (each-same-length-6 t)
+    (λ c. search needs)
+    (λ c. search needs)
+    (λ c. search needs)
     (each-returns-2 t)
     (each-add-half t)
     (each-each-requires t)
-    (each-same-length-7 t)
-    (each-same-length-8 t)
-    (each-same-length-9 t)
+    (λ c. search needs)
+    (λ c. search needs)
+    (λ c. search needs)
     (each-returns-3 t)
     (each-each-requires-2 t)
     (each-same-length-10 t)
@@ -900,46 +925,45 @@ pub +binary+branch+each+eval+iterate+unary-spec : {M : Type 1} → statement M
     (eval-shared-slice-read-kind t)
     (eval-arity-requires t)
     (eval-nullary-requires t)
-    (eval-same-length t)
-    (eval-same-length-2 t)
-    (eval-same-length-3 t)
+    (λ c. search needs)
+    (λ c. search needs)
+    (λ c. search needs)
     (eval-returns t)
     (eval-unary-requires t)
-    (eval-same-length-4 t)
-    (eval-same-length-5 t)
-    (eval-same-length-6 t)
+    (λ c. search needs)
+    (λ c. search needs)
+    (λ c. search needs)
     (eval-returns-2 t)
     (eval-branch-requires t)
-    (eval-same-length-7 t)
-    (eval-same-length-8 t)
-    (eval-same-length-9 t)
+    (λ c. search needs)
+    (λ c. search needs)
+    (λ c. search needs)
     (eval-returns-3 t)
     (eval-iterate-requires t)
-    (eval-same-length-10 t)
-    (eval-same-length-11 t)
-    (eval-same-length-12 t)
+    (λ c. search needs)
+    (λ c. search needs)
+    (λ c. search needs)
     (eval-returns-4 t)
     (eval-binary-requires t)
-    (eval-same-length-13 t)
-    (eval-same-length-14 t)
-    (eval-same-length-15 t)
+    (λ c. search needs)
+    (λ c. search needs)
+    (λ c. search needs)
     (eval-returns-5 t))
     (λ t. iterate-lts.spec (iterate-claims t)
     (iterate-at t)
     iterate.Post
-    (iterate-add-eval t)
-    (iterate-sub-eval t)
+    (iterate-add-i t)
+    (iterate-sub-k t)
     (iterate-eval-requires t)
-    (iterate-same-length t)
-    (iterate-same-length-2 t)
-    (iterate-same-length-3 t)
+    (λ c. search needs)
+    (λ c. search needs)
+    (λ c. search needs)
     (iterate-returns t)
     (iterate-past-requires t)
-    (iterate-same-length-4 t)
-    (iterate-same-length-5 t)
-    (iterate-same-length-6 t)
+    (λ c. search needs)
+    (λ c. search needs)
+    (λ c. search needs)
     (iterate-returns-2 t)
-    (iterate-sub-each t)
     (iterate-each-requires t)
     (iterate-same-length-7 t)
     (iterate-same-length-8 t)
@@ -955,13 +979,13 @@ pub +binary+branch+each+eval+iterate+unary-spec : {M : Type 1} → statement M
     unary.Post
     (unary-shared-slice-read-body-size t)
     (unary-body-size-requires t)
-    (unary-add-first-at t)
-    (unary-add-first-at-2 t)
-    (unary-sub-eval t)
+    (unary-add-i t)
+    (unary-add-i-2 t)
+    (unary-sub-k t)
     (unary-eval-requires t)
-    (unary-same-length t)
-    (unary-same-length-2 t)
-    (unary-same-length-3 t)
+    (λ c. search needs)
+    (λ c. search needs)
+    (λ c. search needs)
     (unary-returns t)
     (unary-applied-requires t)
     (unary-same-length-4 t)

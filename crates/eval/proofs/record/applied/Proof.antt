@@ -13,132 +13,142 @@ use native.Mathlib.Omega.{arith}
 use Rattle.eval.proofs.OperatorLaws.{value-within, unary-body, unary-step, unary-bytes, delete-asks, pick-asks, step-asks}
 use Rattle.eval.proofs.OperatorLaws.{delete-yields, pick-yields, step-yields}
 
--- src/record.rt:151:16
 shared-slice-read-kind : tie.Need-shared-slice-read-kind
 shared-slice-read-kind c =
-    let a = c .before .before .before .before .before .pre .whole in
+    let c5 = c .before .before .before .before .before in
+    let a = c5 .pre .whole in
     omega (arith, a)
 
--- src/record.rt:157:50
 mul-delete : tie.Need-mul-delete
 mul-delete c = search needs
 
--- src/record.rt:157:50
 sub-delete : tie.Need-sub-delete
-sub-delete c = c .before .before .before .before .before .before .before .before .before .before .pre .value .order
+sub-delete c =
+    let c10 = c .before .before .before .before .before .before .before .before .before .before in
+    c10 .pre .value .order
 
--- src/record.rt:157:50
 part-delete-start : tie.Need-part-delete-start
 part-delete-start c =
-    let a = value-within (c .before .before .before .before .before .before .before .before .before .before .before .pre .value) in
-    let o = c .before .before .before .before .before .before .before .before .before .before .before .pre .value .order in
+    let c11 = c .before .before .before .before .before .before .before .before .before .before .before in
+    let a = value-within (c11 .pre .value) in
+    let o = c11 .pre .value .order in
     omega (arith, a, o)
 
--- src/record.rt:157:50
 part-delete-end : tie.Need-part-delete-end
 part-delete-end c =
-    let a = value-within (c .before .before .before .before .before .before .before .before .before .before .before .pre .value) in
+    let c11 = c .before .before .before .before .before .before .before .before .before .before .before in
+    let a = value-within (c11 .pre .value) in
     omega (arith, a)
 
--- src/record.rt:157:13
 delete-requires : tie.Need-delete-requires
-delete-requires c κs = delete-asks (c .before .before .before .before .before .before .before .before .before .before .before .before .pre)
+delete-requires c κs =
+    let c12 = c .before .before .before .before .before .before .before .before .before .before .before .before in
+    delete-asks (c12 .pre)
 
--- src/record.rt:158:9
 ended-requires : tie.Need-ended-requires
 ended-requires c κs = search needs
 
--- src/record.rt:158:9
 same-length : tie.Need-same-length
 same-length c = search needs
 
--- src/record.rt:158:9
 same-length-2 : tie.Need-same-length-2
 same-length-2 c = search needs
 
--- src/record.rt:158:9
 same-length-3 : tie.Need-same-length-3
 same-length-3 c = search needs
 
--- src/record.rt:158:9
 returns : tie.Need-returns
-returns c = delete-yields (c .before .before .before .before .before .before .before .before .before .before .before .before .before .before .before .before .before .before .pre) (c .before .before .before .before .before .before .before .before .before .before .if1 .taken) (c .before .before .before .before .before .delete .ensures) (c .ended .ensures)
+returns c =
+    let c5 = c .before .before .before .before .before in
+    let c10 = c5 .before .before .before .before .before in
+    let c18 = c10 .before .before .before .before .before .before .before .before in
+    delete-yields (c18 .pre) (c10 .if1 .taken) (c5 .delete .ensures) (c .ended .ensures)
 
--- src/record.rt:160:20
 add-a : tie.Need-add-a
 add-a c =
-    let a = c .before .before .before .before .before .before .before .before .pre .whole in
+    let c8 = c .before .before .before .before .before .before .before .before in
+    let a = c8 .pre .whole in
     omega (arith, a)
 
--- src/record.rt:160:13
 shared-slice-read-a : tie.Need-shared-slice-read-a
 shared-slice-read-a c =
-    let a = unary-bytes (c .before .before .before .before .before .before .before .before .before .pre) (c .before .if1 .left) in
+    let c9 = c .before .before .before .before .before .before .before .before .before in
+    let a = unary-bytes (c9 .pre) (c .before .if1 .left) in
     omega (arith, a)
 
--- src/record.rt:161:20
 add-b : tie.Need-add-b
 add-b c =
-    let a = unary-bytes (c .before .before .before .before .before .before .before .before .before .pre) (c .before .if1 .left) in
+    let c9 = c .before .before .before .before .before .before .before .before .before in
+    let a = unary-bytes (c9 .pre) (c .before .if1 .left) in
     omega (arith, a)
 
--- src/record.rt:161:13
 shared-slice-read-b : tie.Need-shared-slice-read-b
-shared-slice-read-b c = unary-bytes (c .before .before .before .before .before .before .before .before .before .before .pre) (c .before .before .if1 .left)
+shared-slice-read-b c =
+    let c10 = c .before .before .before .before .before .before .before .before .before .before in
+    unary-bytes (c10 .pre) (c .before .before .if1 .left)
 
--- src/record.rt:163:13
 picked-requires : tie.Need-picked-requires
-picked-requires c κs = pick-asks (c .before .before .before .before .before .before .before .before .before .before .before .before .before .pre)
+picked-requires c κs =
+    let c13 = c .before .before .before .before .before .before .before .before .before .before .before .before .before in
+    pick-asks (c13 .pre)
 
--- src/record.rt:164:9
 ended-requires-2 : tie.Need-ended-requires-2
 ended-requires-2 c κs = search needs
 
--- src/record.rt:164:9
 same-length-4 : tie.Need-same-length-4
 same-length-4 c = search needs
 
--- src/record.rt:164:9
 same-length-5 : tie.Need-same-length-5
 same-length-5 c = search needs
 
--- src/record.rt:164:9
 returns-2 : tie.Need-returns-2
-returns-2 c = pick-yields (c .before .before .before .before .before .before .before .before .before .before .before .before .before .before .before .before .before .pre) (c .before .before .before .picked .kept .1 .1 .1 .0) (c .ended2 .ensures) (c .before .before .before .before .before .before .if2 .taken) (c .before .before .before .picked .ensures)
+returns-2 c =
+    let c3 = c .before .before .before in
+    let c6 = c3 .before .before .before in
+    let c17 = c6 .before .before .before .before .before .before .before .before .before .before .before in
+    pick-yields (c17 .pre) (c3 .picked .kept .1 .1 .1 .0) (c .ended2 .ensures) (c6 .if2 .taken) (c3 .picked .ensures)
 
--- src/record.rt:169:38
 add-name : tie.Need-add-name
 add-name c =
-    let a = unary-body (c .before .before .before .before .before .before .before .before .before .before .before .pre) 4 3 (unary-step (c .before .before .before .before .before .before .before .before .before .before .before .pre) (c .before .before .before .if1 .left) (c .if2 .left)) refl in
+    let c3 = c .before .before .before in
+    let c11 = c3 .before .before .before .before .before .before .before .before in
+    let a = unary-body (c11 .pre) 4 3 (unary-step (c11 .pre) (c3 .if1 .left) (c .if2 .left)) refl in
     omega (arith, a)
 
--- src/record.rt:169:31
 shared-slice-read-name : tie.Need-shared-slice-read-name
-shared-slice-read-name c = unary-body (c .before .before .before .before .before .before .before .before .before .before .before .before .pre) 4 3 (unary-step (c .before .before .before .before .before .before .before .before .before .before .before .before .pre) (c .before .before .before .before .if1 .left) (c .before .if2 .left)) refl
+shared-slice-read-name c =
+    let c4 = c .before .before .before .before in
+    let c12 = c4 .before .before .before .before .before .before .before .before in
+    unary-body (c12 .pre) 4 3 (unary-step (c12 .pre) (c4 .if1 .left) (c .before .if2 .left)) refl
 
--- src/record.rt:169:26
 name-requires : tie.Need-name-requires
 name-requires c κs = search needs
 
--- src/record.rt:171:9
 stepped-requires : tie.Need-stepped-requires
-stepped-requires c κs = step-asks (c .before .before .before .before .before .before .before .before .before .before .before .before .before .before .before .pre) (unary-step (c .before .before .before .before .before .before .before .before .before .before .before .before .before .before .before .pre) (c .before .before .before .before .before .before .before .if1 .left) (c .before .before .before .before .if2 .left))
+stepped-requires c κs =
+    let c4 = c .before .before .before .before in
+    let c7 = c4 .before .before .before in
+    let c15 = c7 .before .before .before .before .before .before .before .before in
+    step-asks (c15 .pre) (unary-step (c15 .pre) (c7 .if1 .left) (c4 .if2 .left))
 
--- src/record.rt:172:5
 ended-requires-3 : tie.Need-ended-requires-3
 ended-requires-3 c κs = search needs
 
--- src/record.rt:138:1
 same-length-6 : tie.Need-same-length-6
 same-length-6 c = search needs
 
--- src/record.rt:138:1
 same-length-7 : tie.Need-same-length-7
 same-length-7 c = search needs
 
--- src/record.rt:138:1
 returns-3 : tie.Need-returns-3
-returns-3 c = step-yields (c .before .before .before .before .before .before .before .before .before .before .before .before .before .before .before .before .before .before .before .pre) (c .before .before .before .stepped .kept .1 .1 .1 .0) (c .ended3 .ensures) (unary-step (c .before .before .before .before .before .before .before .before .before .before .before .before .before .before .before .before .before .before .before .pre) (c .before .before .before .before .before .before .before .before .before .before .before .if1 .left) (c .before .before .before .before .before .before .before .before .if2 .left)) (c .before .before .before .before .before .before .name .ensures) (c .before .before .before .stepped .ensures)
+returns-3 c =
+    let c3 = c .before .before .before in
+    let c6 = c3 .before .before .before in
+    let c8 = c6 .before .before in
+    let c11 = c8 .before .before .before in
+    let c19 = c11 .before .before .before .before .before .before .before .before in
+    step-yields (c19 .pre) (c3 .stepped .kept .1 .1 .1 .0) (c .ended3 .ensures) (unary-step (c19 .pre) (c11 .if1 .left) (c8 .if2
+    .left)) (c6 .name .ensures) (c3 .stepped .ensures)
 
 pub applied-spec : {M : Type 1} → statement M
 applied-spec =

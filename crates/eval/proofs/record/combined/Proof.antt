@@ -11,100 +11,105 @@ use mathlib.Core.Path.{sym, _∙_, refl}
 use native.Mathlib.Omega.{arith}
 use Rattle.eval.proofs.OperatorLaws.{binary-within, insert-asks, copy-asks, join-yields, insert-yields, body-yields}
 
--- src/record.rt:191:9
 limited-requires : tie.Need-limited-requires
 limited-requires c κs =
-    let a = c .before .before .before .before .pre .order in
-    let b = c .before .before .before .before .pre .value .order in
+    let c4 = c .before .before .before .before in
+    let a = c4 .pre .order in
+    let b = c4 .pre .value .order in
     omega (arith, a, b)
 
--- src/record.rt:191:9
 returns : tie.Need-returns
-returns c = join-yields (c .before .before .before .before .before .pre) (c .before .before .before .before .before .args .kind) (c .before .before .before .before .before .args .at) (c .before .if1 .taken) (c .limited .ensures)
+returns c =
+    let c5 = c .before .before .before .before .before in
+    join-yields (c5 .pre) (c5 .args .kind) (c5 .args .at) (c .before .if1 .taken) (c .limited .ensures)
 
--- src/record.rt:198:50
 mul-insert : tie.Need-mul-insert
 mul-insert c = search needs
 
--- src/record.rt:198:50
 sub-insert : tie.Need-sub-insert
-sub-insert c = c .before .before .before .before .before .before .before .before .before .pre .order
+sub-insert c =
+    let c9 = c .before .before .before .before .before .before .before .before .before in
+    c9 .pre .order
 
--- src/record.rt:198:50
 part-insert-start : tie.Need-part-insert-start
 part-insert-start c =
-    let a = c .before .before .before .before .before .before .before .before .before .before .pre .order in
-    let b = c .before .before .before .before .before .before .before .before .before .before .pre .value .order in
-    let w = binary-within (c .before .before .before .before .before .before .before .before .before .before .pre) in
+    let c10 = c .before .before .before .before .before .before .before .before .before .before in
+    let a = c10 .pre .order in
+    let b = c10 .pre .value .order in
+    let w = binary-within (c10 .pre) in
     omega (arith, a, b, w)
 
--- src/record.rt:198:50
 part-insert-end : tie.Need-part-insert-end
 part-insert-end c =
-    let b = c .before .before .before .before .before .before .before .before .before .before .pre .value .order in
-    let w = binary-within (c .before .before .before .before .before .before .before .before .before .before .pre) in
+    let c10 = c .before .before .before .before .before .before .before .before .before .before in
+    let b = c10 .pre .value .order in
+    let w = binary-within (c10 .pre) in
     omega (arith, b, w)
 
--- src/record.rt:198:67
 mul-insert-2 : tie.Need-mul-insert-2
 mul-insert-2 c = search needs
 
--- src/record.rt:198:67
 sub-insert-2 : tie.Need-sub-insert-2
-sub-insert-2 c = c .before .before .before .before .before .before .before .before .before .before .before .pre .value .order
+sub-insert-2 c =
+    let c11 = c .before .before .before .before .before .before .before .before .before .before .before in
+    c11 .pre .value .order
 
--- src/record.rt:198:67
 part-insert-start-2 : tie.Need-part-insert-start-2
 part-insert-start-2 c =
-    let b = c .before .before .before .before .before .before .before .before .before .before .before .pre .value .order in
-    let w = binary-within (c .before .before .before .before .before .before .before .before .before .before .before .pre) in
+    let c11 = c .before .before .before .before .before .before .before .before .before .before .before in
+    let b = c11 .pre .value .order in
+    let w = binary-within (c11 .pre) in
     omega (arith, b, w)
 
--- src/record.rt:198:67
 part-insert-end-2 : tie.Need-part-insert-end-2
 part-insert-end-2 c =
-    let w = binary-within (c .before .before .before .before .before .before .before .before .before .before .before .pre) in
+    let c11 = c .before .before .before .before .before .before .before .before .before .before .before in
+    let w = binary-within (c11 .pre) in
     omega (arith, w)
 
--- src/record.rt:198:13
 insert-requires : tie.Need-insert-requires
-insert-requires c κs = insert-asks (c .before .before .before .before .before .before .before .before .before .before .before .before .pre)
+insert-requires c κs =
+    let c12 = c .before .before .before .before .before .before .before .before .before .before .before .before in
+    insert-asks (c12 .pre)
 
--- src/record.rt:199:9
 ended-requires : tie.Need-ended-requires
 ended-requires c κs = search needs
 
--- src/record.rt:199:9
 same-length : tie.Need-same-length
 same-length c = search needs
 
--- src/record.rt:199:9
 same-length-2 : tie.Need-same-length-2
 same-length-2 c = search needs
 
--- src/record.rt:199:9
 same-length-3 : tie.Need-same-length-3
 same-length-3 c = search needs
 
--- src/record.rt:199:9
 returns-2 : tie.Need-returns-2
-returns-2 c = insert-yields (c .before .before .before .before .before .before .before .before .before .before .before .before .before .before .before .before .before .before .pre) (c .before .before .before .before .before .before .before .before .before .before .before .before .before .before .before .before .before .before .args .kind) (c .before .before .before .before .before .before .before .before .before .before .before .before .before .before .before .before .before .before .args .at) (c .before .before .before .before .before .before .before .before .before .before .before .if2 .taken) (c .before .before .before .before .before .insert .ensures) (c .ended .ensures)
+returns-2 c =
+    let c5 = c .before .before .before .before .before in
+    let c11 = c5 .before .before .before .before .before .before in
+    let c18 = c11 .before .before .before .before .before .before .before in
+    insert-yields (c18 .pre) (c18 .args .kind) (c18 .args .at) (c11 .if2 .taken) (c5 .insert .ensures) (c .ended .ensures)
 
--- src/record.rt:201:9
 copied-requires : tie.Need-copied-requires
-copied-requires c κs = copy-asks (c .before .before .before .before .before .before .before .before .pre)
+copied-requires c κs =
+    let c8 = c .before .before .before .before .before .before .before .before in
+    copy-asks (c8 .pre)
 
--- src/record.rt:202:5
 ended-requires-2 : tie.Need-ended-requires-2
 ended-requires-2 c κs = search needs
 
--- src/record.rt:176:1
 same-length-4 : tie.Need-same-length-4
 same-length-4 c = search needs
 
--- src/record.rt:176:1
 returns-3 : tie.Need-returns-3
-returns-3 c = body-yields (c .before .before .before .before .before .before .before .before .before .before .before .before .pre) (c .before .before .before .before .before .before .before .before .before .before .before .before .args .kind) (c .before .before .before .before .before .before .before .before .before .before .before .before .args .at) (c .before .before .before .before .before .before .before .before .if1 .left) (c .before .before .before .before .before .if2 .left) (c .before .before .before .copied .kept .0) (c .before .before .before .copied .ensures) (c .ended2 .ensures)
+returns-3 c =
+    let c3 = c .before .before .before in
+    let c5 = c3 .before .before in
+    let c8 = c5 .before .before .before in
+    let c12 = c8 .before .before .before .before in
+    body-yields (c12 .pre) (c12 .args .kind) (c12 .args .at) (c8 .if1 .left) (c5 .if2 .left) (c3 .copied .kept .0) (c3 .copied
+    .ensures) (c .ended2 .ensures)
 
 pub combined-spec : {M : Type 1} → statement M
 combined-spec =

@@ -16,56 +16,50 @@ Inv-loop work₀ from to top k₀ at₀ work k at = Copying work₀ from to top 
 abbrev μ-loop : tie.MeasureT-loop
 μ-loop work₀ from to top k₀ at₀ work k at = to - k
 
--- src/value.rt:26:5
 loop-holds : tie.Need-loop-holds Inv-loop μ-loop
 loop-holds c = copying-start (c .pre)
 
--- src/value.rt:27:20
 mul-work : tie.Need-mul-work Inv-loop μ-loop
 mul-work c = search needs
 
--- src/value.rt:27:20
 slice-read-work : tie.Need-slice-read-work Inv-loop μ-loop
 slice-read-work c =
-    let p = c .before .before .before .pre in
+    let c3 = c .before .before .before in
+    let p = c3 .pre in
     let i = c .before .before .loop .inv in
     omega (arith, p .within, i .size, c .before .loop-test .taken)
 
--- src/value.rt:27:9
 mul-work-2 : tie.Need-mul-work-2 Inv-loop μ-loop
 mul-work-2 c = search needs
 
--- src/value.rt:27:9
 slice-write-work : tie.Need-slice-write-work Inv-loop μ-loop
 slice-write-work c =
-    let p = c .before .before .before .pre in
+    let c3 = c .before .before .before in
+    let p = c3 .pre in
     let i = c .before .before .loop .inv in
     omega (arith, p .room, p .within, i .place, i .size, c .before .loop-test .taken)
 
--- src/value.rt:28:9
 add-at : tie.Need-add-at Inv-loop μ-loop
 add-at c =
-    let p = c .before .before .before .pre in
+    let c3 = c .before .before .before in
+    let p = c3 .pre in
     let i = c .before .before .loop .inv in
     omega (arith, p .room, p .within, i .place, i .size, c .before .loop-test .taken)
 
--- src/value.rt:29:9
 add-k : tie.Need-add-k Inv-loop μ-loop
 add-k c = search needs
 
--- src/value.rt:26:5
 loop-less : tie.Need-loop-less Inv-loop μ-loop
 loop-less c = omega arith
 
--- src/value.rt:26:5
 loop-again : tie.Need-loop-again Inv-loop μ-loop
-loop-again c = copying-next (c .before .before .before .pre) (c .before .before .loop .inv) (c .before .loop-test .taken)
+loop-again c =
+    let c3 = c .before .before .before in
+    copying-next (c3 .pre) (c .before .before .loop .inv) (c .before .loop-test .taken)
 
--- src/value.rt:20:1
 same-length : tie.Need-same-length Inv-loop μ-loop
 same-length c = c .before .loop .inv .size
 
--- src/value.rt:20:1
 returns : tie.Need-returns Inv-loop μ-loop
 returns c = copying-all (c .before .before .pre) (c .before .loop .inv) (omega arith)
 

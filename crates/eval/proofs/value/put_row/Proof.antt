@@ -5,33 +5,30 @@ use Rattle.eval.proofs.value.put_row.Reads as reads
 use Rattle.eval.proofs.value.put_row.Lts as lts
 use Rattle.eval.proofs.RecordLaws.{made-none, made-one}
 
--- src/value.rt:54:9
 returns : tie.Need-returns
-returns c = made-none (c .before .before .args .work .now) (c .before .before .args .top) (c .before .before .args .q) (c .before .before .args .row) (c .if1 .taken)
+returns c =
+    made-none (c .before .before .args .work .now) (c .before .before .args .top) (c .before .before .args .q) (c .before .before
+    .args .row) (c .if1 .taken)
 
--- src/value.rt:56:17
 cast-work : tie.Need-cast-work
 cast-work c = search needs
 
--- src/value.rt:56:5
 mul-work : tie.Need-mul-work
 mul-work c = search needs
 
--- src/value.rt:56:5
 slice-write-work : tie.Need-slice-write-work
 slice-write-work c = search needs
 
--- src/value.rt:57:5
 add-result : tie.Need-add-result
 add-result c = search needs
 
--- src/value.rt:49:1
 same-length : tie.Need-same-length
 same-length c = search needs
 
--- src/value.rt:49:1
 returns-2 : tie.Need-returns-2
-returns-2 c = made-one (c .before .before .args .work .now) (c .before .before .args .top) (c .before .before .args .q) (c .before .before .args .row) (c .if1 .left) (c .before .before .pre .room)
+returns-2 c =
+    made-one (c .before .before .args .work .now) (c .before .before .args .top) (c .before .before .args .q) (c .before .before
+    .args .row) (c .if1 .left) (c .before .before .pre .room)
 
 pub put-row-spec : {M : Type 1} → statement M
 put-row-spec =
