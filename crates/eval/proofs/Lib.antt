@@ -11,3 +11,4 @@ pub mod BranchLaws
 pub mod LoopLaws
 pub mod Raising
 pub mod CallLaws
+pub mod Promised

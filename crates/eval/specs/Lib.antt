@@ -1,3 +1,4 @@
 pub mod Evaluating
 pub mod Tallying
 pub mod Calls
+pub mod Promise

@@ -68,6 +68,10 @@ pub fn analyse(first: &[u8], second: &[u8]) -> Analysis
         let mut small = [0u8; pairs::FEW_PAIRS];
         return answer(&words, n, &others, m, &mut small);
     }
+    if n <= pairs::HALF {
+        let mut half = [0u8; pairs::HALF_PAIRS];
+        return answer(&words, n, &others, m, &mut half);
+    }
     let mut table = [0u8; pairs::PAIRS];
     answer(&words, n, &others, m, &mut table)
 }

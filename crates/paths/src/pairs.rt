@@ -11,10 +11,14 @@ pub const POSITIONS: usize = 128;
 // Bytes of a table with room for all pairs.
 pub const PAIRS: usize = POSITIONS * POSITIONS;
 
-// Positions of a short script, and bytes of a table with room for its pairs with any other: less to set to zero.
+// Tables for scripts of few positions, and of half as many as there can be: less to set to zero.
 pub const FEW: usize = 16;
 
 pub const FEW_PAIRS: usize = POSITIONS * FEW;
+
+pub const HALF: usize = 64;
+
+pub const HALF_PAIRS: usize = POSITIONS * HALF;
 
 // Unmarks all pairs of the first `rows` positions.
 pub fn clear(table: &mut [u8], rows: usize)

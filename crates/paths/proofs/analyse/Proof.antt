@@ -68,8 +68,8 @@ answer-requires c κs =
     let c5 = c3 .before .before in
     let c8 = c5 .before .before .before in
     let c18 = c8 .before .before .before .before .before .before .before .before .before .before in
-    answer-asks (c18 .args .first .now) (c18 .args .second .now) (c8 .positions-of .ensures) (c5 .positions-of2 .ensures) _ (has-rows
-    _ _ (omega (arith, c3 .if3 .taken)))
+    answer-asks (c18 .args .first .now) (c18 .args .second .now) (c8 .positions-of .ensures) (c5 .positions-of2 .ensures) _
+    (has-rows _ _ (omega (arith, c3 .if3 .taken)))
 
 returns-3 : tie.Need-returns-3
 returns-3 c =
@@ -97,26 +97,59 @@ slice-aggregate-answer-6 c = search needs
 
 answer-requires-2 : tie.Need-answer-requires-2
 answer-requires-2 c κs =
-    let c5 = c .before .before .before .before .before in
-    let c8 = c5 .before .before .before in
-    let c18 = c8 .before .before .before .before .before .before .before .before .before .before in
-    answer-asks (c18 .args .first .now) (c18 .args .second .now) (c8 .positions-of .ensures) (c5 .positions-of2 .ensures) _ (has-rows
-    _ _ (omega (arith, c8 .positions-of .ensures .few)))
+    let c3 = c .before .before .before in
+    let c6 = c3 .before .before .before in
+    let c9 = c6 .before .before .before in
+    let c19 = c9 .before .before .before .before .before .before .before .before .before .before in
+    answer-asks (c19 .args .first .now) (c19 .args .second .now) (c9 .positions-of .ensures) (c6 .positions-of2 .ensures) _
+    (has-rows _ _ (omega (arith, c3 .if4 .taken)))
 
 returns-4 : tie.Need-returns-4
 returns-4 c =
-    let c7 = c .before .before .before .before .before .before .before in
-    let c10 = c7 .before .before .before in
-    let c12 = c10 .before .before in
-    let c14 = c12 .before .before in
-    let c15 = c14 .before in
-    let c17 = c15 .before .before in
-    let c20 = c17 .before .before .before in
-    let zero : c17 .read-script .result .number ≡ 0 = search (c15 .if1 .left, needs) in
-    let zero2 : c14 .read-script2 .result .number ≡ 0 = search (c12 .if2 .left, needs) in
-    both-accepted (c20 .args .first .now) (c20 .args .second .now) (sym (ap (λ (x : Fault). x .number) (c17 .read-script .ensures)) ∙
-    zero) (sym (ap (λ (x : Fault). x .number) (c14 .read-script2 .ensures)) ∙ zero2) (c10 .positions-of .ensures)
-    (c7 .positions-of2 .ensures) (c .before .answer2 .ensures)
+    let c8 = c .before .before .before .before .before .before .before .before in
+    let c11 = c8 .before .before .before in
+    let c13 = c11 .before .before in
+    let c15 = c13 .before .before in
+    let c16 = c15 .before in
+    let c18 = c16 .before .before in
+    let c21 = c18 .before .before .before in
+    let zero : c18 .read-script .result .number ≡ 0 = search (c16 .if1 .left, needs) in
+    let zero2 : c15 .read-script2 .result .number ≡ 0 = search (c13 .if2 .left, needs) in
+    both-accepted (c21 .args .first .now) (c21 .args .second .now) (sym (ap (λ (x : Fault). x .number) (c18 .read-script .ensures)) ∙
+    zero) (sym (ap (λ (x : Fault). x .number) (c15 .read-script2 .ensures)) ∙ zero2) (c11 .positions-of .ensures)
+    (c8 .positions-of2 .ensures) (c .before .answer2 .ensures)
+
+slice-aggregate-answer-7 : tie.Need-slice-aggregate-answer-7
+slice-aggregate-answer-7 c = search needs
+
+slice-aggregate-answer-8 : tie.Need-slice-aggregate-answer-8
+slice-aggregate-answer-8 c = search needs
+
+slice-aggregate-answer-9 : tie.Need-slice-aggregate-answer-9
+slice-aggregate-answer-9 c = search needs
+
+answer-requires-3 : tie.Need-answer-requires-3
+answer-requires-3 c κs =
+    let c6 = c .before .before .before .before .before .before in
+    let c9 = c6 .before .before .before in
+    let c19 = c9 .before .before .before .before .before .before .before .before .before .before in
+    answer-asks (c19 .args .first .now) (c19 .args .second .now) (c9 .positions-of .ensures) (c6 .positions-of2 .ensures) _ (has-rows
+    _ _ (omega (arith, c9 .positions-of .ensures .few)))
+
+returns-5 : tie.Need-returns-5
+returns-5 c =
+    let c8 = c .before .before .before .before .before .before .before .before in
+    let c11 = c8 .before .before .before in
+    let c13 = c11 .before .before in
+    let c15 = c13 .before .before in
+    let c16 = c15 .before in
+    let c18 = c16 .before .before in
+    let c21 = c18 .before .before .before in
+    let zero : c18 .read-script .result .number ≡ 0 = search (c16 .if1 .left, needs) in
+    let zero2 : c15 .read-script2 .result .number ≡ 0 = search (c13 .if2 .left, needs) in
+    both-accepted (c21 .args .first .now) (c21 .args .second .now) (sym (ap (λ (x : Fault). x .number) (c18 .read-script .ensures)) ∙
+    zero) (sym (ap (λ (x : Fault). x .number) (c15 .read-script2 .ensures)) ∙ zero2) (c11 .positions-of .ensures)
+    (c8 .positions-of2 .ensures) (c .before .answer3 .ensures)
 
 pub analyse-spec : {M : Type 1} → statement M
 analyse-spec =
@@ -139,4 +172,9 @@ analyse-spec =
     slice-aggregate-answer-5
     slice-aggregate-answer-6
     answer-requires-2
-    returns-4)
+    returns-4
+    slice-aggregate-answer-7
+    slice-aggregate-answer-8
+    slice-aggregate-answer-9
+    answer-requires-3
+    returns-5)

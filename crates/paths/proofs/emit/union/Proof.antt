@@ -24,9 +24,9 @@ push-requires c κs =
     let c6 = c .before .before .before .before .before .before in
     record {
       room = omega (arith, c6 .pre .grow .size, c6 .pre .grow .room);
-      fits = union-fits (c .union .result) 0 (c6 .args .first)
-          (c6 .args .y .result) (c .union .ensures) (omega arith) (omega (arith, c6 .pre .low, c6 .pre .grow .room))
-          (omega (arith, c6 .pre .grow .low, c6 .pre .grow .room));
+      fits = union-fits (c .union .result) 0 _ _ (c .union .ensures) (omega arith)
+          (omega (arith, c6 .pre .low, c6 .pre .grow .low, c6 .pre .grow .room))
+          (omega (arith, c6 .pre .low, c6 .pre .grow .low, c6 .pre .grow .room));
     }
 
 add-t10 : tie.Need-add-t10

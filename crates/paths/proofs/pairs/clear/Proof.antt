@@ -33,7 +33,7 @@ loop-again : tie.Need-loop-again Inv-loop μ-loop
 loop-again c =
     let c2 = c .before .before in (
       omega arith,
-      length-set (c .before .loop .table) (c .before .loop .i) 0 ∙ c .before .loop .inv .1,
+      length-set (c .before .loop .table) (c .before .loop .i) _ ∙ c .before .loop .inv .1,
       zeroed
           (c .before .loop .table) (c .before .loop .i) (omega (arith, rows-fit (c2 .args .table .now) (c2 .args .rows) (c2 .pre)))
           (c .before .loop .inv .2),
