@@ -93,7 +93,8 @@ drop-zeros (suc k) (suc n) z =
 
 -- REFUSED
 module _ (t : Table) (b : List ℕ) (a h w : ℕ) (n i : ℕ) (some : n ≡ 0 → ⊥) (is : outcomeOf t b ≡ stop (refusal.fault n i)) where
-  leaves : ranBy (decode t) a h w (outcomeOf t b) ≡ refusedRun (refusal.fault n i) (decode t) (replicate a 0) (replicate h 0) (replicate w 0)
+  leaves : ranBy (decode t) a h w (outcomeOf t b) ≡ refusedRun (refusal.fault n i) (decode t) (replicate a 0) (replicate h 0) (replicate
+      w 0)
   leaves = ap (ranBy (decode t) a h w) is
 
   pub refused-result : refusedResult n i t ≡ resultOf t (ranBy (decode t) a h w (outcomeOf t b))

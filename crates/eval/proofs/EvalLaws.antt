@@ -20,7 +20,8 @@ use Rattle.script.proofs.KindLaws.{two-left}
 use Rattle.run.specs.State.{stateOf}
 use Rattle.run.specs.Values.{valueAt}
 use Rattle.run.specs.declared.state.Progress.{Progress}
-use Rattle.eval.specs.Evaluating.{boundValues, valuesIn, BindPre, BindPost, movedTo, Fine, Yields, unaryOf, binaryOf, ValuePre, UnaryPre}
+use Rattle.eval.specs.Evaluating.{boundValues, valuesIn, BindPre, BindPost, movedTo, Fine, Yields, unaryOf, binaryOf, ValuePre}
+use Rattle.eval.specs.Evaluating.{UnaryPre}
 use Rattle.eval.specs.Evaluating.{UnaryPost, BinaryPre, BinaryPost, IsBinary, EvalPre, EvalPost, bodyRun, EachPre, EachPost}
 use Rattle.eval.specs.declared.value.Span.{Span}
 use Rattle.eval.specs.declared.record.Evaluated.{Evaluated}
@@ -168,7 +169,8 @@ module _ {b : List ℕ} {at left n : ℕ} {env : List Span} {ms ws h w : List �
               accepted = accepted-at second-at (two-operands (pre .accepted) z .second);
               held = ok .after .held;
               marks = marks-more (pre .marks) (ok .after .rows);
-              scope = scope-inside (next-asks (at + 1) ran k (at + 1) (binary-first .accepted) .scope) bound (x .end) binary-scope (ok .order)
+              scope = scope-inside (next-asks (at + 1) ran k (at + 1) (binary-first .accepted) .scope) bound (x .end) binary-scope (ok
+                  .order)
                   (ok .short) (omega arith) (ok .order) (ok .rows);
               room = omega (arith, pre .room, deep, ok .size, ok .short);
             })

@@ -334,7 +334,8 @@ module _ {b : List ℕ} {at left n : ℕ} {env : List Span} {ms ws h w : List �
                 accepted = pre .accepted;
                 held = half-fine .after .held;
                 marks = marks-more (pre .marks) (half-fine .after .rows);
-                scope = scope-kept (pre .scope) w₁ (x .env) (half-fine .below) (half-fine .scope) (half-fine .spans) (omega arith) (half-fine .after .rows);
+                scope = scope-kept (pre .scope) w₁ (x .env) (half-fine .below) (half-fine .scope) (half-fine .spans) (omega arith)
+                    (half-fine .after .rows);
                 binder = pre .binder;
                 some = cut .1;
                 items = pre .items;

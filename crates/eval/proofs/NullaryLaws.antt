@@ -53,7 +53,8 @@ made-count {ws} {h} {p} {ws′} {h′} {q} {v} r held up k =
     e ∙ ap countOf (pick-true (isFine (roomFault 0 (stateOf ws [] h p))) _ _ t) in
     omega (arith, g, count-withRow (decodeParts (p .count) ws []) r, held-count held [], held-count held′ []))
     (λ t.
-    let g : model.count (decodeParts (q .count) ws′ []) ≡ 513 = e ∙ ap countOf (pick-false (isFine (roomFault 0 (stateOf ws [] h p))) _ _ t) in
+    let g : model.count (decodeParts (q .count) ws′ []) ≡ 513 = e ∙ ap countOf (pick-false (isFine (roomFault 0 (stateOf ws [] h p))) _ _
+    t) in
     omega (arith, g, held-count held′ [], held′ .few))
 
 -- a document's row is a row

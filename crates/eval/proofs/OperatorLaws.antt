@@ -26,7 +26,8 @@ use Rattle.run.specs.Values.{valueAt, Appended, StepPre, StepPost, PickPre, Pic
 use Rattle.run.proofs.StateLaws.{held-count}
 use Rattle.run.proofs.ValueLaws.{appended-none, length-collect}
 use Rattle.run.specs.declared.state.Progress.{Progress}
-use Rattle.eval.specs.Evaluating.{CopyPre, endedBy, limitedBy, Yields, unaryOf, binaryOf, ValuePre, UnaryPre, UnaryPost, BinaryPre, BinaryPost}
+use Rattle.eval.specs.Evaluating.{CopyPre, endedBy, limitedBy, Yields, unaryOf, binaryOf, ValuePre, UnaryPre, UnaryPost, BinaryPre}
+use Rattle.eval.specs.Evaluating.{BinaryPost}
 use Rattle.eval.specs.declared.record.Evaluated.{Evaluated}
 use Rattle.eval.proofs.ValueLaws.{length-value, rows-within}
 use Rattle.eval.proofs.YieldLaws.{yields-updated, updated-none, yields-as, limited-yields}
@@ -104,40 +105,42 @@ module _ {b : List ℕ} {at : ℕ} {ws h w : List ℕ} {top : ℕ} {x : Evaluate
         low = value-low (pre .value);
       }
 
-  pub delete-yields : getD b at 0 ≡ 11 → {ws′ h′ : List ℕ} {q : Progress} → DeletePost ws h (x .progress) (valueAt w top (x .end)) ws′ h′ q →
+  pub delete-yields : getD b at 0 ≡ 11 → {ws′ h′ : List ℕ} {q : Progress} → DeletePost ws h (x .progress) (valueAt w top (x .end)) ws′ h′
+      q →
       {r : Evaluated} → r ≡ endedBy q at (x .place) top (x .env) → UnaryPost b at ws h w top x ws′ h′ w r
   delete-yields e up eq n ms =
       yields-as (rw e) refl
       (yields-updated up (appended-none w top) (λ q. refl) refl (omega (arith, pre .value .room)) (omega arith) (λ q. noRows)
       (pre .value .spans) eq)
 
-  module _ {w′ : List ℕ} {e : ℕ} (size : length w′ ≡ length w) {r : Evaluated} (eq : r ≡ endedBy (x .progress) at (x .place) e (x .env)) where
-    pub pick-yields : getD b at 0 ≡ 13 → PickPost ws (getD b (at + 1) 0) (getD b (at + 2) 0) w top (x .end) w′ e →
-        UnaryPost b at ws h w top x ws h w′ r
-    pick-yields k post n ms =
-        let c = x .progress .count in
-        let v = valueAt w top (x .end) in
-        yields-as (rw k) refl
-        (yields-updated (updated-none (pre .value .held)) (post .value c ms (pre .value .held .few) (value-low (pre .value))) (λ q. refl)
-        size (omega (arith, pre .value .room))
-        (omega (arith, picked-few (decodeParts c ws ms) (getD b (at + 1) 0) (getD b (at + 2) 0) v, value-few (pre .value)))
-        (λ q. picked-rows (decodeParts c ws ms) (getD b (at + 1) 0) (getD b (at + 2) 0) (pre .value .rows)) (pre .value .spans) eq)
+  module _ {w′ : List ℕ} {e : ℕ} (size : length w′ ≡ length w) {r : Evaluated} (eq : r ≡ endedBy (x .progress) at (x .place) e (x .env))
+    where
+      pub pick-yields : getD b at 0 ≡ 13 → PickPost ws (getD b (at + 1) 0) (getD b (at + 2) 0) w top (x .end) w′ e →
+          UnaryPost b at ws h w top x ws h w′ r
+      pick-yields k post n ms =
+          let c = x .progress .count in
+          let v = valueAt w top (x .end) in
+          yields-as (rw k) refl
+          (yields-updated (updated-none (pre .value .held)) (post .value c ms (pre .value .held .few) (value-low (pre .value))) (λ q. refl)
+          size (omega (arith, pre .value .room))
+          (omega (arith, picked-few (decodeParts c ws ms) (getD b (at + 1) 0) (getD b (at + 2) 0) v, value-few (pre .value)))
+          (λ q. picked-rows (decodeParts c ws ms) (getD b (at + 1) 0) (getD b (at + 2) 0) (pre .value .rows)) (pre .value .spans) eq)
 
-    pub step-yields : getD b at 0 ≡ 4 → {name : ℕ} → name ≡ getD b (at + 3) 0 →
-        StepPost ws (x .progress .count) (getD b (at + 1) 0) (getD b (at + 2) 0) name w top (x .end) w′ e →
-        UnaryPost b at ws h w top x ws h w′ r
-    step-yields k {name} i post n ms =
-        let c = x .progress .count in
-        let v = valueAt w top (x .end) in
-        let t = decodeParts c ws ms in
-        let s = stepBy (getD b (at + 1) 0) (getD b (at + 2) 0) name in
-        let few : length (stepped t s v) ≤ 512 = stepped-few (pre .value .held) ms v (getD b (at + 1) 0) (getD b (at + 2) 0) name in
-        let l : 0 + model.count t ≤ c = omega (arith, held-count (pre .value .held) ms) in
-        yields-as
-        (ap (λ (j : ℕ). gives (stepped t (stepBy (getD b (at + 1) 0) (getD b (at + 2) 0) j) v) (stateOf ws ms h (x .progress))) i ∙ rw k)
-        refl
-        (yields-updated (updated-none (pre .value .held)) (post .value ms) (λ q. refl) size (omega (arith, pre .value .room)) few
-        (λ q. stepFrom-rows t s v 0 (model.count t) c l) (pre .value .spans) eq)
+      pub step-yields : getD b at 0 ≡ 4 → {name : ℕ} → name ≡ getD b (at + 3) 0 →
+          StepPost ws (x .progress .count) (getD b (at + 1) 0) (getD b (at + 2) 0) name w top (x .end) w′ e →
+          UnaryPost b at ws h w top x ws h w′ r
+      step-yields k {name} i post n ms =
+          let c = x .progress .count in
+          let v = valueAt w top (x .end) in
+          let t = decodeParts c ws ms in
+          let s = stepBy (getD b (at + 1) 0) (getD b (at + 2) 0) name in
+          let few : length (stepped t s v) ≤ 512 = stepped-few (pre .value .held) ms v (getD b (at + 1) 0) (getD b (at + 2) 0) name in
+          let l : 0 + model.count t ≤ c = omega (arith, held-count (pre .value .held) ms) in
+          yields-as
+          (ap (λ (j : ℕ). gives (stepped t (stepBy (getD b (at + 1) 0) (getD b (at + 2) 0) j) v) (stateOf ws ms h (x .progress))) i ∙ rw k)
+          refl
+          (yields-updated (updated-none (pre .value .held)) (post .value ms) (λ q. refl) size (omega (arith, pre .value .room)) few
+          (λ q. stepFrom-rows t s v 0 (model.count t) c l) (pre .value .spans) eq)
 
 -- WITH TWO OPERANDS
 module _ {ws h w : List ℕ} {top mid : ℕ} {y : Evaluated} (pre : BinaryPre ws h w top mid y) where

@@ -199,4 +199,5 @@ module _ {ws h w : List ℕ} {top mid : ℕ} {y : Evaluated} (pre : BinaryPre ws
       many l =
           subst Goal (sym (e ∙ limited-many y top at l))
           (stop-yields (λ q. omega arith)
-          (pick-true (ltb 512 (length (valueAt w top mid) + length (valueAt w mid (y .end)))) _ _ (lt-ltb 512 (length (valueAt w top mid) + length (valueAt w mid (y .end))) (omega (arith, lengths)))))
+          (pick-true (ltb 512 (length (valueAt w top mid) + length (valueAt w mid (y .end)))) _ _ (lt-ltb 512 (length (valueAt w top mid)
+          + length (valueAt w mid (y .end))) (omega (arith, lengths)))))

@@ -21,8 +21,13 @@ refused-requires c κs = search needs
 returns : tie.Need-returns
 returns c =
     let r =
-    short-result (c .before .before .before .before .before .before .args .table) (c .before .before .before .before .before .before .args .script .now) (c .before .before .before .before .before .before .args .answer .now) (c .before .before .before .before .before .before .args .history .now) (c .before .before .before .before .before .before .args .work .now)
-    (short-answer (c .before .before .before .before .before .before .args .table) (c .before .before .before .before .before .before .args .script .now) (c .before .before .before .before .before .before .args .answer .now) (c .before .before .before .before .before .before .args .history .now) (c .before .before .before .before .before .before .args .work .now) (c .before .if1 .taken)) (c .refused .ensures) in
+    short-result (c .before .before .before .before .before .before .args .table) (c .before .before .before .before .before .before
+    .args .script .now) (c .before .before .before .before .before .before .args .answer .now) (c .before .before .before .before
+    .before .before .args .history .now) (c .before .before .before .before .before .before .args .work .now)
+    (short-answer (c .before .before .before .before .before .before .args .table) (c .before .before .before .before .before .before
+    .args .script .now) (c .before .before .before .before .before .before .args .answer .now) (c .before .before .before .before
+    .before .before .args .history .now) (c .before .before .before .before .before .before .args .work .now) (c .before .if1
+    .taken)) (c .refused .ensures) in
     (r .0, (r .1, (r .2, r .3)))
 
 -- src/lib.rt:128:9
@@ -33,8 +38,14 @@ refused-requires-2 c κs = search needs
 returns-2 : tie.Need-returns-2
 returns-2 c =
     let r =
-    short-result (c .before .before .before .before .before .before .before .args .table) (c .before .before .before .before .before .before .before .args .script .now) (c .before .before .before .before .before .before .before .args .answer .now) (c .before .before .before .before .before .before .before .args .history .now) (c .before .before .before .before .before .before .before .args .work .now)
-    (short-history (c .before .before .before .before .before .before .before .args .table) (c .before .before .before .before .before .before .before .args .script .now) (c .before .before .before .before .before .before .before .args .answer .now) (c .before .before .before .before .before .before .before .args .history .now) (c .before .before .before .before .before .before .before .args .work .now) (c .before .before .if1 .left) (c .before .if2 .taken)) (c .refused2 .ensures) in
+    short-result (c .before .before .before .before .before .before .before .args .table) (c .before .before .before .before .before
+    .before .before .args .script .now) (c .before .before .before .before .before .before .before .args .answer .now) (c .before
+    .before .before .before .before .before .before .args .history .now) (c .before .before .before .before .before .before .before
+    .args .work .now)
+    (short-history (c .before .before .before .before .before .before .before .args .table) (c .before .before .before .before .before
+    .before .before .args .script .now) (c .before .before .before .before .before .before .before .args .answer .now) (c .before
+    .before .before .before .before .before .before .args .history .now) (c .before .before .before .before .before .before .before
+    .args .work .now) (c .before .before .if1 .left) (c .before .if2 .taken)) (c .refused2 .ensures) in
     (r .0, (r .1, (r .2, r .3)))
 
 -- src/lib.rt:131:9
@@ -45,8 +56,15 @@ refused-requires-3 c κs = search needs
 returns-3 : tie.Need-returns-3
 returns-3 c =
     let r =
-    short-result (c .before .before .before .before .before .before .before .before .args .table) (c .before .before .before .before .before .before .before .before .args .script .now) (c .before .before .before .before .before .before .before .before .args .answer .now) (c .before .before .before .before .before .before .before .before .args .history .now) (c .before .before .before .before .before .before .before .before .args .work .now)
-    (short-work (c .before .before .before .before .before .before .before .before .args .table) (c .before .before .before .before .before .before .before .before .args .script .now) (c .before .before .before .before .before .before .before .before .args .answer .now) (c .before .before .before .before .before .before .before .before .args .history .now) (c .before .before .before .before .before .before .before .before .args .work .now) (c .before .before .before .if1 .left) (c .before .before .if2 .left) (c .before .if3 .taken)) (c .refused3 .ensures) in
+    short-result (c .before .before .before .before .before .before .before .before .args .table) (c .before .before .before .before
+    .before .before .before .before .args .script .now) (c .before .before .before .before .before .before .before .before .args
+    .answer .now) (c .before .before .before .before .before .before .before .before .args .history .now) (c .before .before .before
+    .before .before .before .before .before .args .work .now)
+    (short-work (c .before .before .before .before .before .before .before .before .args .table) (c .before .before .before .before
+    .before .before .before .before .args .script .now) (c .before .before .before .before .before .before .before .before .args
+    .answer .now) (c .before .before .before .before .before .before .before .before .args .history .now) (c .before .before .before
+    .before .before .before .before .before .args .work .now) (c .before .before .before .if1 .left) (c .before .before .if2 .left)
+    (c .before .if3 .taken)) (c .refused3 .ensures) in
     (r .0, (r .1, (r .2, r .3)))
 
 -- src/lib.rt:133:5
@@ -60,8 +78,18 @@ clear-bytes-requires c κs = search needs
 -- src/lib.rt:135:9
 run-in-requires : tie.Need-run-in-requires
 run-in-requires c κs =
-    cleared-pre (c .before .before .before .before .before .before .before .before .before .before .before .before .before .before .before .before .before .before .args .table) (c .before .before .before .before .before .before .before .before .before .before .before .before .before .before .before .before .before .before .args .script .now) (c .before .before .before .before .before .before .before .before .before .before .before .before .before .before .before .before .before .before .args .answer .now) (c .before .before .before .before .before .before .before .before .before .before .before .before .before .before .before .before .before .before .args .history .now) (c .before .before .before .before .before .before .before .before .before .before .before .before .before .before .before .before .before .before .args .work .now) (c .before .before .before .before .before .before .before .before .before .before .before .before .before .if1 .left) (c .before .before .before .before .before .before .before .before .before .before .before .before .if2 .left) (c .before .before .before .before .before .before .before .before .before .before .before .if3 .left)
-    (c .before .before .before .before .before .before .before .before .before .clear-words .ensures) (c .before .before .before .before .before .clear-bytes .ensures)
+    cleared-pre (c .before .before .before .before .before .before .before .before .before .before .before .before .before .before
+    .before .before .before .before .args .table) (c .before .before .before .before .before .before .before .before .before .before
+    .before .before .before .before .before .before .before .before .args .script .now) (c .before .before .before .before .before
+    .before .before .before .before .before .before .before .before .before .before .before .before .before .args .answer .now) (c
+    .before .before .before .before .before .before .before .before .before .before .before .before .before .before .before .before
+    .before .before .args .history .now) (c .before .before .before .before .before .before .before .before .before .before .before
+    .before .before .before .before .before .before .before .args .work .now) (c .before .before .before .before .before .before
+    .before .before .before .before .before .before .before .if1 .left) (c .before .before .before .before .before .before .before
+    .before .before .before .before .before .if2 .left) (c .before .before .before .before .before .before .before .before .before
+    .before .before .if3 .left)
+    (c .before .before .before .before .before .before .before .before .before .clear-words .ensures) (c .before .before .before .before
+    .before .clear-bytes .ensures)
 
 -- src/lib.rt:136:5
 clear-words-requires-2 : tie.Need-clear-words-requires-2
@@ -69,22 +97,45 @@ clear-words-requires-2 c κs = search needs
 
 -- src/lib.rt:109:1
 same-length : tie.Need-same-length
-same-length c = c .before .before .before .before .before .before .before .before .before .before .run-in .kept .1 .1 .0 ∙ c .before .before .before .before .before .before .before .before .before .before .before .before .before .before .before .before .before .before .before .before .clear-words .kept .0
+same-length c = c .before .before .before .before .before .before .before .before .before .before .run-in .kept .1 .1 .0 ∙ c .before
+    .before .before .before .before .before .before .before .before .before .before .before .before .before .before .before .before
+    .before .before .before .clear-words .kept .0
 
 -- src/lib.rt:109:1
 same-length-2 : tie.Need-same-length-2
-same-length-2 c = c .before .before .before .before .before .before .before .before .before .before .run-in .kept .1 .1 .1 .0 ∙ c .before .before .before .before .before .before .before .before .before .before .before .before .before .before .before .before .clear-bytes .kept .0
+same-length-2 c = c .before .before .before .before .before .before .before .before .before .before .run-in .kept .1 .1 .1 .0 ∙ c .before
+    .before .before .before .before .before .before .before .before .before .before .before .before .before .before .before .clear-bytes
+    .kept .0
 
 -- src/lib.rt:109:1
 same-length-3 : tie.Need-same-length-3
-same-length-3 c = c .before .before .clear-words2 .kept .0 ∙ c .before .before .before .before .before .before .before .before .before .before .run-in .kept .1 .1 .1 .1 .0
+same-length-3 c = c .before .before .clear-words2 .kept .0 ∙ c .before .before .before .before .before .before .before .before .before
+    .before .run-in .kept .1 .1 .1 .1 .0
 
 -- src/lib.rt:109:1
 returns-4 : tie.Need-returns-4
 returns-4 c =
     let r =
-    run-done (c .before .before .before .before .before .before .before .before .before .before .before .before .before .before .before .before .before .before .before .before .before .before .before .before .before .before .before .before .before .args .table) (c .before .before .before .before .before .before .before .before .before .before .before .before .before .before .before .before .before .before .before .before .before .before .before .before .before .before .before .before .before .args .script .now) (c .before .before .before .before .before .before .before .before .before .before .before .before .before .before .before .before .before .before .before .before .before .before .before .before .before .before .before .before .before .args .answer .now) (c .before .before .before .before .before .before .before .before .before .before .before .before .before .before .before .before .before .before .before .before .before .before .before .before .before .before .before .before .before .args .history .now) (c .before .before .before .before .before .before .before .before .before .before .before .before .before .before .before .before .before .before .before .before .before .before .before .before .before .before .before .before .before .args .work .now) (c .before .before .before .before .before .before .before .before .before .before .before .before .before .before .before .before .before .before .before .before .before .before .before .before .if1 .left) (c .before .before .before .before .before .before .before .before .before .before .before .before .before .before .before .before .before .before .before .before .before .before .before .if2 .left) (c .before .before .before .before .before .before .before .before .before .before .before .before .before .before .before .before .before .before .before .before .before .before .if3 .left)
-    (c .before .before .before .before .before .before .before .before .before .before .before .before .before .before .before .before .before .before .before .before .clear-words .ensures) (c .before .before .before .before .before .before .before .before .before .before .before .before .before .before .before .before .clear-bytes .ensures) (c .before .before .before .before .before .before .before .before .before .before .run-in .ensures) (c .before .before .clear-words2 .ensures ∙ ap (λ (j : ℕ). replicate j 0) (c .before .before .before .before .before .before .before .before .before .before .run-in .kept .1 .1 .1 .1 .0)) in
+    run-done (c .before .before .before .before .before .before .before .before .before .before .before .before .before .before .before
+    .before .before .before .before .before .before .before .before .before .before .before .before .before .before .args .table) (c
+    .before .before .before .before .before .before .before .before .before .before .before .before .before .before .before .before
+    .before .before .before .before .before .before .before .before .before .before .before .before .before .args .script .now) (c
+    .before .before .before .before .before .before .before .before .before .before .before .before .before .before .before .before
+    .before .before .before .before .before .before .before .before .before .before .before .before .before .args .answer .now) (c
+    .before .before .before .before .before .before .before .before .before .before .before .before .before .before .before .before
+    .before .before .before .before .before .before .before .before .before .before .before .before .before .args .history .now) (c
+    .before .before .before .before .before .before .before .before .before .before .before .before .before .before .before .before
+    .before .before .before .before .before .before .before .before .before .before .before .before .before .args .work .now) (c
+    .before .before .before .before .before .before .before .before .before .before .before .before .before .before .before .before
+    .before .before .before .before .before .before .before .before .if1 .left) (c .before .before .before .before .before .before
+    .before .before .before .before .before .before .before .before .before .before .before .before .before .before .before .before
+    .before .if2 .left) (c .before .before .before .before .before .before .before .before .before .before .before .before .before
+    .before .before .before .before .before .before .before .before .before .if3 .left)
+    (c .before .before .before .before .before .before .before .before .before .before .before .before .before .before .before .before
+    .before .before .before .before .clear-words .ensures) (c .before .before .before .before .before .before .before .before .before
+    .before .before .before .before .before .before .before .clear-bytes .ensures) (c .before .before .before .before .before .before
+    .before .before .before .before .run-in .ensures) (c .before .before .clear-words2 .ensures ∙ ap (λ (j : ℕ). replicate j 0) (c
+    .before .before .before .before .before .before .before .before .before .before .run-in .kept .1 .1 .1 .1 .0)) in
     (r .0, (r .1, (r .2, r .3)))
 
 pub run-spec : {M : Type 1} → statement M

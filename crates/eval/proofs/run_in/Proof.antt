@@ -19,7 +19,8 @@ use lib.ListN.{length, replicate}
 use borrow.Author.Tests.{not-true, not-false}
 use Rattle.table.specs.Fitting.{Words}
 use Rattle.table.specs.Words.{fits}
-use Rattle.eval.proofs.CallLaws.{refused-post, ill-formed, refuses-by, accepted-by, eval-asks, run-stops, run-post, put-asks, limit, few}
+use Rattle.eval.proofs.CallLaws.{refused-post, ill-formed, refuses-by, accepted-by, eval-asks, run-stops, run-post, put-asks}
+use Rattle.eval.proofs.CallLaws.{limit, few}
 
 size : (c : tie.Start) → Words (c .args .t1 .rows) (c .args .t1 .marks)
 size c = search needs
@@ -35,8 +36,16 @@ refused-requires c κs = search needs
 -- src/lib.rt:62:9
 returns : tie.Need-returns
 returns c =
-    refused-post (c .before .before .before .before .before .before .before .before .before .before .before .before .args .t1) (c .before .before .before .before .before .before .before .before .before .before .before .before .args .script .now) (length (c .before .before .before .before .before .before .before .before .before .before .before .before .args .answer .now)) (length (c .before .before .before .before .before .before .before .before .before .before .before .before .args .history .now)) (length (c .before .before .before .before .before .before .before .before .before .before .before .before .args .work .now)) 6 0 (λ e. omega arith)
-    (ill-formed (c .before .before .before .before .before .before .before .before .before .before .before .before .args .t1) (c .before .before .before .before .before .before .before .before .before .before .before .before .args .script .now) (sym (c .before .before .fits2 .ensures) ∙ not-true (c .before .before .fits2 .result) (c .before .if1 .taken))) refl refl refl (c .before .before .before .before .before .before .before .before .before .before .before .before .pre .answered) (c .before .before .before .before .before .before .before .before .before .before .before .before .pre .recorded) (c .refused .ensures)
+    refused-post (c .before .before .before .before .before .before .before .before .before .before .before .before .args .t1) (c .before
+    .before .before .before .before .before .before .before .before .before .before .before .args .script .now) (length (c .before
+    .before .before .before .before .before .before .before .before .before .before .before .args .answer .now)) (length (c .before
+    .before .before .before .before .before .before .before .before .before .before .before .args .history .now)) (length (c .before
+    .before .before .before .before .before .before .before .before .before .before .before .args .work .now)) 6 0 (λ e. omega arith)
+    (ill-formed (c .before .before .before .before .before .before .before .before .before .before .before .before .args .t1) (c .before
+    .before .before .before .before .before .before .before .before .before .before .before .args .script .now) (sym (c .before
+    .before .fits2 .ensures) ∙ not-true (c .before .before .fits2 .result) (c .before .if1 .taken))) refl refl refl (c .before
+    .before .before .before .before .before .before .before .before .before .before .before .pre .answered) (c .before .before
+    .before .before .before .before .before .before .before .before .before .before .pre .recorded) (c .refused .ensures)
 
 -- src/lib.rt:64:9
 read-script-requires : tie.Need-read-script-requires
@@ -49,9 +58,21 @@ refused-requires-2 c κs = search needs
 -- src/lib.rt:66:9
 returns-2 : tie.Need-returns-2
 returns-2 c =
-    refused-post (c .before .before .before .before .before .before .before .before .before .before .before .before .before .before .before .args .t1) (c .before .before .before .before .before .before .before .before .before .before .before .before .before .before .before .args .script .now) (length (c .before .before .before .before .before .before .before .before .before .before .before .before .before .before .before .args .answer .now)) (length (c .before .before .before .before .before .before .before .before .before .before .before .before .before .before .before .args .history .now)) (length (c .before .before .before .before .before .before .before .before .before .before .before .before .before .before .before .args .work .now)) (c .before .before .before .read-script .result .number) (c .before .before .before .read-script .result .place) (c .before .if2 .taken)
-    (refuses-by (c .before .before .before .before .before .before .before .before .before .before .before .before .before .before .before .args .t1) (c .before .before .before .before .before .before .before .before .before .before .before .before .before .before .before .args .script .now) (sym (c .before .before .before .before .before .fits2 .ensures) ∙ not-false (c .before .before .before .before .before .fits2 .result) (c .before .before .before .before .if1 .left)) (c .before .before .before .read-script .ensures) (c .before .if2 .taken))
-    refl refl refl (c .before .before .before .before .before .before .before .before .before .before .before .before .before .before .before .pre .answered) (c .before .before .before .before .before .before .before .before .before .before .before .before .before .before .before .pre .recorded) (c .refused2 .ensures)
+    refused-post (c .before .before .before .before .before .before .before .before .before .before .before .before .before .before
+    .before .args .t1) (c .before .before .before .before .before .before .before .before .before .before .before .before .before
+    .before .before .args .script .now) (length (c .before .before .before .before .before .before .before .before .before .before
+    .before .before .before .before .before .args .answer .now)) (length (c .before .before .before .before .before .before .before
+    .before .before .before .before .before .before .before .before .args .history .now)) (length (c .before .before .before .before
+    .before .before .before .before .before .before .before .before .before .before .before .args .work .now)) (c .before .before
+    .before .read-script .result .number) (c .before .before .before .read-script .result .place) (c .before .if2 .taken)
+    (refuses-by (c .before .before .before .before .before .before .before .before .before .before .before .before .before .before
+    .before .args .t1) (c .before .before .before .before .before .before .before .before .before .before .before .before .before
+    .before .before .args .script .now) (sym (c .before .before .before .before .before .fits2 .ensures) ∙ not-false (c .before
+    .before .before .before .before .fits2 .result) (c .before .before .before .before .if1 .left)) (c .before .before .before
+    .read-script .ensures) (c .before .if2 .taken))
+    refl refl refl (c .before .before .before .before .before .before .before .before .before .before .before .before .before .before
+    .before .pre .answered) (c .before .before .before .before .before .before .before .before .before .before .before .before
+    .before .before .before .pre .recorded) (c .refused2 .ensures)
 
 -- src/lib.rt:77:9
 slice-aggregate-eval : tie.Need-slice-aggregate-eval
@@ -64,8 +85,22 @@ start-requires c κs = search needs
 -- src/lib.rt:70:9
 eval-requires : tie.Need-eval-requires
 eval-requires c κs =
-    eval-asks (c .before .before .before .before .before .before .before .before .before .before .before .before .before .before .before .before .before .before .before .before .before .before .args .t1) (c .before .before .before .before .before .before .before .before .before .before .before .before .before .before .before .before .before .before .before .before .before .before .args .script .now) (sym (c .before .before .before .before .before .before .before .before .before .before .before .before .fits2 .ensures) ∙ not-false (c .before .before .before .before .before .before .before .before .before .before .before .before .fits2 .result) (c .before .before .before .before .before .before .before .before .before .before .before .if1 .left))
-    (accepted-by (c .before .before .before .before .before .before .before .before .before .before .before .before .before .before .before .before .before .before .before .before .before .before .args .script .now) (c .before .before .before .before .before .before .before .before .before .before .read-script .ensures) (c .before .before .before .before .before .before .before .before .if2 .left)) (size (c .before .before .before .before .before .before .before .before .before .before .before .before .before .before .before .before .before .before .before .before .before .before) .rows) (size (c .before .before .before .before .before .before .before .before .before .before .before .before .before .before .before .before .before .before .before .before .before .before) .marks) (c .before .before .before .before .before .before .before .before .before .before .before .before .before .before .before .before .before .before .before .before .before .before .pre .history) (c .before .before .before .before .before .before .before .before .before .before .before .before .before .before .before .before .before .before .before .before .before .before .pre .work) refl (c .start .ensures)
+    eval-asks (c .before .before .before .before .before .before .before .before .before .before .before .before .before .before .before
+    .before .before .before .before .before .before .before .args .t1) (c .before .before .before .before .before .before .before
+    .before .before .before .before .before .before .before .before .before .before .before .before .before .before .before .args
+    .script .now) (sym (c .before .before .before .before .before .before .before .before .before .before .before .before .fits2
+    .ensures) ∙ not-false (c .before .before .before .before .before .before .before .before .before .before .before .before .fits2
+    .result) (c .before .before .before .before .before .before .before .before .before .before .before .if1 .left))
+    (accepted-by (c .before .before .before .before .before .before .before .before .before .before .before .before .before .before
+    .before .before .before .before .before .before .before .before .args .script .now) (c .before .before .before .before .before
+    .before .before .before .before .before .read-script .ensures) (c .before .before .before .before .before .before .before .before
+    .if2 .left)) (size (c .before .before .before .before .before .before .before .before .before .before .before .before .before
+    .before .before .before .before .before .before .before .before .before) .rows) (size (c .before .before .before .before .before
+    .before .before .before .before .before .before .before .before .before .before .before .before .before .before .before .before
+    .before) .marks) (c .before .before .before .before .before .before .before .before .before .before .before .before .before
+    .before .before .before .before .before .before .before .before .before .pre .history) (c .before .before .before .before .before
+    .before .before .before .before .before .before .before .before .before .before .before .before .before .before .before .before
+    .before .pre .work) refl (c .start .ensures)
 
 -- src/lib.rt:84:9
 clear-bytes-requires : tie.Need-clear-bytes-requires
@@ -77,20 +112,60 @@ refused-requires-3 c κs = search needs
 
 -- src/lib.rt:85:9
 same-length : tie.Need-same-length
-same-length c = c .before .before .before .clear-bytes .kept .0 ∙ c .before .before .before .before .before .before .before .before .before .before .before .before .eval .kept .1 .1 .1 .1 .1 .1 .1 .0
+same-length c = c .before .before .before .clear-bytes .kept .0 ∙ c .before .before .before .before .before .before .before .before
+    .before .before .before .before .eval .kept .1 .1 .1 .1 .1 .1 .1 .0
 
 -- src/lib.rt:85:9
 same-length-2 : tie.Need-same-length-2
-same-length-2 c = c .before .before .before .before .before .before .before .before .before .before .before .before .eval .kept .1 .1 .1 .1 .1 .1 .1 .1 .0
+same-length-2 c = c .before .before .before .before .before .before .before .before .before .before .before .before .eval .kept .1 .1 .1
+    .1 .1 .1 .1 .1 .0
 
 -- src/lib.rt:85:9
 returns-3 : tie.Need-returns-3
 returns-3 c =
-    refused-post (c .before .before .before .before .before .before .before .before .before .before .before .before .before .before .before .before .before .before .before .before .before .before .before .before .before .before .before .before .before .before .before .before .before .before .before .args .t1) (c .before .before .before .before .before .before .before .before .before .before .before .before .before .before .before .before .before .before .before .before .before .before .before .before .before .before .before .before .before .before .before .before .before .before .before .args .script .now) (length (c .before .before .before .before .before .before .before .before .before .before .before .before .before .before .before .before .before .before .before .before .before .before .before .before .before .before .before .before .before .before .before .before .before .before .before .args .answer .now)) (length (c .before .before .before .before .before .before .before .before .before .before .before .before .before .before .before .before .before .before .before .before .before .before .before .before .before .before .before .before .before .before .before .before .before .before .before .args .history .now)) (length (c .before .before .before .before .before .before .before .before .before .before .before .before .before .before .before .before .before .before .before .before .before .before .before .before .before .before .before .before .before .before .before .before .before .before .before .args .work .now)) (c .before .before .before .before .before .before .before .before .before .before .before .before .eval .result .progress .number) (c .before .before .before .before .before .before .before .before .before .before .before .before .eval .result .place) (c .before .before .before .before .before .if3 .taken)
-    (run-stops (c .before .before .before .before .before .before .before .before .before .before .before .before .before .before .before .before .before .before .before .before .before .before .before .before .before .before .before .before .before .before .before .before .before .before .before .args .t1) (c .before .before .before .before .before .before .before .before .before .before .before .before .before .before .before .before .before .before .before .before .before .before .before .before .before .before .before .before .before .before .before .before .before .before .before .args .script .now) (sym (c .before .before .before .before .before .before .before .before .before .before .before .before .before .before .before .before .before .before .before .before .before .before .before .before .before .fits2 .ensures) ∙ not-false (c .before .before .before .before .before .before .before .before .before .before .before .before .before .before .before .before .before .before .before .before .before .before .before .before .before .fits2 .result) (c .before .before .before .before .before .before .before .before .before .before .before .before .before .before .before .before .before .before .before .before .before .before .before .before .if1 .left))
-    (accepted-by (c .before .before .before .before .before .before .before .before .before .before .before .before .before .before .before .before .before .before .before .before .before .before .before .before .before .before .before .before .before .before .before .before .before .before .before .args .script .now) (c .before .before .before .before .before .before .before .before .before .before .before .before .before .before .before .before .before .before .before .before .before .before .before .read-script .ensures) (c .before .before .before .before .before .before .before .before .before .before .before .before .before .before .before .before .before .before .before .before .before .if2 .left)) (size (c .before .before .before .before .before .before .before .before .before .before .before .before .before .before .before .before .before .before .before .before .before .before .before .before .before .before .before .before .before .before .before .before .before .before .before) .rows) (size (c .before .before .before .before .before .before .before .before .before .before .before .before .before .before .before .before .before .before .before .before .before .before .before .before .before .before .before .before .before .before .before .before .before .before .before) .marks) (c .before .before .before .before .before .before .before .before .before .before .before .before .before .start .ensures) (c .before .before .before .before .before .before .before .before .before .before .before .before .eval .ensures) (c .before .before .before .before .before .if3 .taken))
-    refl refl refl (c .before .before .before .before .before .before .before .before .before .before .before .before .before .before .before .before .before .before .before .before .before .before .before .before .before .before .before .before .before .before .before .before .before .before .before .pre .answered)
-    (c .before .before .before .clear-bytes .ensures ∙ ap (λ (j : ℕ). replicate j 0) (c .before .before .before .before .before .before .before .before .before .before .before .before .eval .kept .1 .1 .1 .1 .1 .1 .1 .0)) (c .refused3 .ensures)
+    refused-post (c .before .before .before .before .before .before .before .before .before .before .before .before .before .before
+    .before .before .before .before .before .before .before .before .before .before .before .before .before .before .before .before
+    .before .before .before .before .before .args .t1) (c .before .before .before .before .before .before .before .before .before
+    .before .before .before .before .before .before .before .before .before .before .before .before .before .before .before .before
+    .before .before .before .before .before .before .before .before .before .before .args .script .now) (length (c .before .before
+    .before .before .before .before .before .before .before .before .before .before .before .before .before .before .before .before
+    .before .before .before .before .before .before .before .before .before .before .before .before .before .before .before .before
+    .before .args .answer .now)) (length (c .before .before .before .before .before .before .before .before .before .before .before
+    .before .before .before .before .before .before .before .before .before .before .before .before .before .before .before .before
+    .before .before .before .before .before .before .before .before .args .history .now)) (length (c .before .before .before .before
+    .before .before .before .before .before .before .before .before .before .before .before .before .before .before .before .before
+    .before .before .before .before .before .before .before .before .before .before .before .before .before .before .before .args
+    .work .now)) (c .before .before .before .before .before .before .before .before .before .before .before .before .eval .result
+    .progress .number) (c .before .before .before .before .before .before .before .before .before .before .before .before .eval
+    .result .place) (c .before .before .before .before .before .if3 .taken)
+    (run-stops (c .before .before .before .before .before .before .before .before .before .before .before .before .before .before .before
+    .before .before .before .before .before .before .before .before .before .before .before .before .before .before .before .before
+    .before .before .before .before .args .t1) (c .before .before .before .before .before .before .before .before .before .before
+    .before .before .before .before .before .before .before .before .before .before .before .before .before .before .before .before
+    .before .before .before .before .before .before .before .before .before .args .script .now) (sym (c .before .before .before
+    .before .before .before .before .before .before .before .before .before .before .before .before .before .before .before .before
+    .before .before .before .before .before .before .fits2 .ensures) ∙ not-false (c .before .before .before .before .before .before
+    .before .before .before .before .before .before .before .before .before .before .before .before .before .before .before .before
+    .before .before .before .fits2 .result) (c .before .before .before .before .before .before .before .before .before .before
+    .before .before .before .before .before .before .before .before .before .before .before .before .before .before .if1 .left))
+    (accepted-by (c .before .before .before .before .before .before .before .before .before .before .before .before .before .before
+    .before .before .before .before .before .before .before .before .before .before .before .before .before .before .before .before
+    .before .before .before .before .before .args .script .now) (c .before .before .before .before .before .before .before .before
+    .before .before .before .before .before .before .before .before .before .before .before .before .before .before .before
+    .read-script .ensures) (c .before .before .before .before .before .before .before .before .before .before .before .before .before
+    .before .before .before .before .before .before .before .before .if2 .left)) (size (c .before .before .before .before .before
+    .before .before .before .before .before .before .before .before .before .before .before .before .before .before .before .before
+    .before .before .before .before .before .before .before .before .before .before .before .before .before .before) .rows) (size (c
+    .before .before .before .before .before .before .before .before .before .before .before .before .before .before .before .before
+    .before .before .before .before .before .before .before .before .before .before .before .before .before .before .before .before
+    .before .before .before) .marks) (c .before .before .before .before .before .before .before .before .before .before .before
+    .before .before .start .ensures) (c .before .before .before .before .before .before .before .before .before .before .before
+    .before .eval .ensures) (c .before .before .before .before .before .if3 .taken))
+    refl refl refl (c .before .before .before .before .before .before .before .before .before .before .before .before .before .before
+    .before .before .before .before .before .before .before .before .before .before .before .before .before .before .before .before
+    .before .before .before .before .before .pre .answered)
+    (c .before .before .before .clear-bytes .ensures ∙ ap (λ (j : ℕ). replicate j 0) (c .before .before .before .before .before .before
+    .before .before .before .before .before .before .eval .kept .1 .1 .1 .1 .1 .1 .1 .0)) (c .refused3 .ensures)
 
 -- src/lib.rt:88:23
 sub-put : tie.Need-sub-put
@@ -103,24 +178,93 @@ part-put-start c = search needs
 -- src/lib.rt:88:23
 part-put-end : tie.Need-part-put-end
 part-put-end c =
-    let f = few (c .before .before .before .before .before .before .before .before .before .before .before .before .before .before .before .before .before .before .before .before .before .before .before .before .before .before .before .before .before .before .before .before .args .t1) (c .before .before .before .before .before .before .before .before .before .before .before .before .before .before .before .before .before .before .before .before .before .before .before .before .before .before .before .before .before .before .before .before .args .script .now) (sym (c .before .before .before .before .before .before .before .before .before .before .before .before .before .before .before .before .before .before .before .before .before .before .fits2 .ensures) ∙ not-false (c .before .before .before .before .before .before .before .before .before .before .before .before .before .before .before .before .before .before .before .before .before .before .fits2 .result) (c .before .before .before .before .before .before .before .before .before .before .before .before .before .before .before .before .before .before .before .before .before .if1 .left))
-    (accepted-by (c .before .before .before .before .before .before .before .before .before .before .before .before .before .before .before .before .before .before .before .before .before .before .before .before .before .before .before .before .before .before .before .before .args .script .now) (c .before .before .before .before .before .before .before .before .before .before .before .before .before .before .before .before .before .before .before .before .read-script .ensures) (c .before .before .before .before .before .before .before .before .before .before .before .before .before .before .before .before .before .before .if2 .left)) (size (c .before .before .before .before .before .before .before .before .before .before .before .before .before .before .before .before .before .before .before .before .before .before .before .before .before .before .before .before .before .before .before .before) .rows) (size (c .before .before .before .before .before .before .before .before .before .before .before .before .before .before .before .before .before .before .before .before .before .before .before .before .before .before .before .before .before .before .before .before) .marks) (c .before .before .before .before .before .before .before .before .before .before .start .ensures) (c .before .before .before .before .before .before .before .before .before .eval .ensures) (c .before .before .if3 .left) in
-    let w = c .before .before .before .before .before .before .before .before .before .before .before .before .before .before .before .before .before .before .before .before .before .before .before .before .before .before .before .before .before .before .before .before .pre .work in
+    let f = few (c .before .before .before .before .before .before .before .before .before .before .before .before .before .before
+    .before .before .before .before .before .before .before .before .before .before .before .before .before .before .before .before
+    .before .before .args .t1) (c .before .before .before .before .before .before .before .before .before .before .before .before
+    .before .before .before .before .before .before .before .before .before .before .before .before .before .before .before .before
+    .before .before .before .before .args .script .now) (sym (c .before .before .before .before .before .before .before .before
+    .before .before .before .before .before .before .before .before .before .before .before .before .before .before .fits2 .ensures)
+    ∙ not-false (c .before .before .before .before .before .before .before .before .before .before .before .before .before .before
+    .before .before .before .before .before .before .before .before .fits2 .result) (c .before .before .before .before .before
+    .before .before .before .before .before .before .before .before .before .before .before .before .before .before .before .before
+    .if1 .left))
+    (accepted-by (c .before .before .before .before .before .before .before .before .before .before .before .before .before .before
+    .before .before .before .before .before .before .before .before .before .before .before .before .before .before .before .before
+    .before .before .args .script .now) (c .before .before .before .before .before .before .before .before .before .before .before
+    .before .before .before .before .before .before .before .before .before .read-script .ensures) (c .before .before .before .before
+    .before .before .before .before .before .before .before .before .before .before .before .before .before .before .if2 .left))
+    (size (c .before .before .before .before .before .before .before .before .before .before .before .before .before .before .before
+    .before .before .before .before .before .before .before .before .before .before .before .before .before .before .before .before
+    .before) .rows) (size (c .before .before .before .before .before .before .before .before .before .before .before .before .before
+    .before .before .before .before .before .before .before .before .before .before .before .before .before .before .before .before
+    .before .before .before) .marks) (c .before .before .before .before .before .before .before .before .before .before .start
+    .ensures) (c .before .before .before .before .before .before .before .before .before .eval .ensures) (c .before .before .if3
+    .left) in
+    let w = c .before .before .before .before .before .before .before .before .before .before .before .before .before .before .before
+    .before .before .before .before .before .before .before .before .before .before .before .before .before .before .before .before
+    .before .pre .work in
     let l = c .before .before .before .before .before .before .before .before .before .eval .kept .1 .1 .1 .1 .1 .1 .1 .1 .0 in
     omega (arith, f, w, l)
 
 -- src/lib.rt:88:5
 put-requires : tie.Need-put-requires
 put-requires c κs =
-    put-asks (c .before .before .before .before .before .before .before .before .before .before .before .before .before .before .before .before .before .before .before .before .before .before .before .before .before .before .before .before .before .before .before .before .before .args .t1) (c .before .before .before .before .before .before .before .before .before .before .before .before .before .before .before .before .before .before .before .before .before .before .before .before .before .before .before .before .before .before .before .before .before .args .script .now) (sym (c .before .before .before .before .before .before .before .before .before .before .before .before .before .before .before .before .before .before .before .before .before .before .before .fits2 .ensures) ∙ not-false (c .before .before .before .before .before .before .before .before .before .before .before .before .before .before .before .before .before .before .before .before .before .before .before .fits2 .result) (c .before .before .before .before .before .before .before .before .before .before .before .before .before .before .before .before .before .before .before .before .before .before .if1 .left))
-    (accepted-by (c .before .before .before .before .before .before .before .before .before .before .before .before .before .before .before .before .before .before .before .before .before .before .before .before .before .before .before .before .before .before .before .before .before .args .script .now) (c .before .before .before .before .before .before .before .before .before .before .before .before .before .before .before .before .before .before .before .before .before .read-script .ensures) (c .before .before .before .before .before .before .before .before .before .before .before .before .before .before .before .before .before .before .before .if2 .left)) (size (c .before .before .before .before .before .before .before .before .before .before .before .before .before .before .before .before .before .before .before .before .before .before .before .before .before .before .before .before .before .before .before .before .before) .rows) (size (c .before .before .before .before .before .before .before .before .before .before .before .before .before .before .before .before .before .before .before .before .before .before .before .before .before .before .before .before .before .before .before .before .before) .marks) (c .before .before .before .before .before .before .before .before .before .before .before .start .ensures) (c .before .before .before .before .before .before .before .before .before .before .eval .ensures) (c .before .before .before .if3 .left)
-    (c .before .before .before .before .before .before .before .before .before .before .before .before .before .before .before .before .before .before .before .before .before .before .before .before .before .before .before .before .before .before .before .before .before .args .answer .now) (c .before .before .before .before .before .before .before .before .before .before .before .before .before .before .before .before .before .before .before .before .before .before .before .before .before .before .before .before .before .before .before .before .before .pre .answer)
+    put-asks (c .before .before .before .before .before .before .before .before .before .before .before .before .before .before .before
+    .before .before .before .before .before .before .before .before .before .before .before .before .before .before .before .before
+    .before .before .args .t1) (c .before .before .before .before .before .before .before .before .before .before .before .before
+    .before .before .before .before .before .before .before .before .before .before .before .before .before .before .before .before
+    .before .before .before .before .before .args .script .now) (sym (c .before .before .before .before .before .before .before
+    .before .before .before .before .before .before .before .before .before .before .before .before .before .before .before .before
+    .fits2 .ensures) ∙ not-false (c .before .before .before .before .before .before .before .before .before .before .before .before
+    .before .before .before .before .before .before .before .before .before .before .before .fits2 .result) (c .before .before
+    .before .before .before .before .before .before .before .before .before .before .before .before .before .before .before .before
+    .before .before .before .before .if1 .left))
+    (accepted-by (c .before .before .before .before .before .before .before .before .before .before .before .before .before .before
+    .before .before .before .before .before .before .before .before .before .before .before .before .before .before .before .before
+    .before .before .before .args .script .now) (c .before .before .before .before .before .before .before .before .before .before
+    .before .before .before .before .before .before .before .before .before .before .before .read-script .ensures) (c .before .before
+    .before .before .before .before .before .before .before .before .before .before .before .before .before .before .before .before
+    .before .if2 .left)) (size (c .before .before .before .before .before .before .before .before .before .before .before .before
+    .before .before .before .before .before .before .before .before .before .before .before .before .before .before .before .before
+    .before .before .before .before .before) .rows) (size (c .before .before .before .before .before .before .before .before .before
+    .before .before .before .before .before .before .before .before .before .before .before .before .before .before .before .before
+    .before .before .before .before .before .before .before .before) .marks) (c .before .before .before .before .before .before
+    .before .before .before .before .before .start .ensures) (c .before .before .before .before .before .before .before .before
+    .before .before .eval .ensures) (c .before .before .before .if3 .left)
+    (c .before .before .before .before .before .before .before .before .before .before .before .before .before .before .before .before
+    .before .before .before .before .before .before .before .before .before .before .before .before .before .before .before .before
+    .before .args .answer .now) (c .before .before .before .before .before .before .before .before .before .before .before .before
+    .before .before .before .before .before .before .before .before .before .before .before .before .before .before .before .before
+    .before .before .before .before .before .pre .answer)
 
 -- src/lib.rt:90:9
 tallied-requires : tie.Need-tallied-requires
 tallied-requires c κs =
-    limit (c .before .before .before .before .before .before .before .before .before .before .before .before .before .before .before .before .before .before .before .before .before .before .before .before .before .before .before .before .before .before .before .before .before .before .before .before .before .args .t1) (c .before .before .before .before .before .before .before .before .before .before .before .before .before .before .before .before .before .before .before .before .before .before .before .before .before .before .before .before .before .before .before .before .before .before .before .before .before .args .script .now) (sym (c .before .before .before .before .before .before .before .before .before .before .before .before .before .before .before .before .before .before .before .before .before .before .before .before .before .before .before .fits2 .ensures) ∙ not-false (c .before .before .before .before .before .before .before .before .before .before .before .before .before .before .before .before .before .before .before .before .before .before .before .before .before .before .before .fits2 .result) (c .before .before .before .before .before .before .before .before .before .before .before .before .before .before .before .before .before .before .before .before .before .before .before .before .before .before .if1 .left))
-    (accepted-by (c .before .before .before .before .before .before .before .before .before .before .before .before .before .before .before .before .before .before .before .before .before .before .before .before .before .before .before .before .before .before .before .before .before .before .before .before .before .args .script .now) (c .before .before .before .before .before .before .before .before .before .before .before .before .before .before .before .before .before .before .before .before .before .before .before .before .before .read-script .ensures) (c .before .before .before .before .before .before .before .before .before .before .before .before .before .before .before .before .before .before .before .before .before .before .before .if2 .left)) (size (c .before .before .before .before .before .before .before .before .before .before .before .before .before .before .before .before .before .before .before .before .before .before .before .before .before .before .before .before .before .before .before .before .before .before .before .before .before) .rows) (size (c .before .before .before .before .before .before .before .before .before .before .before .before .before .before .before .before .before .before .before .before .before .before .before .before .before .before .before .before .before .before .before .before .before .before .before .before .before) .marks) (c .before .before .before .before .before .before .before .before .before .before .before .before .before .before .before .start .ensures) (c .before .before .before .before .before .before .before .before .before .before .before .before .before .before .eval .ensures) (c .before .before .before .before .before .before .before .if3 .left)
+    limit (c .before .before .before .before .before .before .before .before .before .before .before .before .before .before .before
+    .before .before .before .before .before .before .before .before .before .before .before .before .before .before .before .before
+    .before .before .before .before .before .before .args .t1) (c .before .before .before .before .before .before .before .before
+    .before .before .before .before .before .before .before .before .before .before .before .before .before .before .before .before
+    .before .before .before .before .before .before .before .before .before .before .before .before .before .args .script .now) (sym
+    (c .before .before .before .before .before .before .before .before .before .before .before .before .before .before .before
+    .before .before .before .before .before .before .before .before .before .before .before .before .fits2 .ensures) ∙ not-false (c
+    .before .before .before .before .before .before .before .before .before .before .before .before .before .before .before .before
+    .before .before .before .before .before .before .before .before .before .before .before .fits2 .result) (c .before .before
+    .before .before .before .before .before .before .before .before .before .before .before .before .before .before .before .before
+    .before .before .before .before .before .before .before .before .if1 .left))
+    (accepted-by (c .before .before .before .before .before .before .before .before .before .before .before .before .before .before
+    .before .before .before .before .before .before .before .before .before .before .before .before .before .before .before .before
+    .before .before .before .before .before .before .before .args .script .now) (c .before .before .before .before .before .before
+    .before .before .before .before .before .before .before .before .before .before .before .before .before .before .before .before
+    .before .before .before .read-script .ensures) (c .before .before .before .before .before .before .before .before .before .before
+    .before .before .before .before .before .before .before .before .before .before .before .before .before .if2 .left)) (size (c
+    .before .before .before .before .before .before .before .before .before .before .before .before .before .before .before .before
+    .before .before .before .before .before .before .before .before .before .before .before .before .before .before .before .before
+    .before .before .before .before .before) .rows) (size (c .before .before .before .before .before .before .before .before .before
+    .before .before .before .before .before .before .before .before .before .before .before .before .before .before .before .before
+    .before .before .before .before .before .before .before .before .before .before .before .before) .marks) (c .before .before
+    .before .before .before .before .before .before .before .before .before .before .before .before .before .start .ensures) (c
+    .before .before .before .before .before .before .before .before .before .before .before .before .before .before .eval .ensures)
+    (c .before .before .before .before .before .before .before .if3 .left)
 
 -- src/lib.rt:49:1
 same-length-3 : tie.Need-same-length-3
@@ -128,18 +272,46 @@ same-length-3 c = c .before .before .before .before .put .kept .0
 
 -- src/lib.rt:49:1
 same-length-4 : tie.Need-same-length-4
-same-length-4 c = c .before .before .before .before .before .before .before .before .before .before .before .before .before .before .before .eval .kept .1 .1 .1 .1 .1 .1 .1 .0
+same-length-4 c = c .before .before .before .before .before .before .before .before .before .before .before .before .before .before
+    .before .eval .kept .1 .1 .1 .1 .1 .1 .1 .0
 
 -- src/lib.rt:49:1
 same-length-5 : tie.Need-same-length-5
-same-length-5 c = c .before .before .before .before .before .before .before .before .before .before .before .before .before .before .before .eval .kept .1 .1 .1 .1 .1 .1 .1 .1 .0
+same-length-5 c = c .before .before .before .before .before .before .before .before .before .before .before .before .before .before
+    .before .eval .kept .1 .1 .1 .1 .1 .1 .1 .1 .0
 
 -- src/lib.rt:49:1
 returns-4 : tie.Need-returns-4
 returns-4 c =
-    run-post (c .before .before .before .before .before .before .before .before .before .before .before .before .before .before .before .before .before .before .before .before .before .before .before .before .before .before .before .before .before .before .before .before .before .before .before .before .before .before .args .t1) (c .before .before .before .before .before .before .before .before .before .before .before .before .before .before .before .before .before .before .before .before .before .before .before .before .before .before .before .before .before .before .before .before .before .before .before .before .before .before .args .script .now) (sym (c .before .before .before .before .before .before .before .before .before .before .before .before .before .before .before .before .before .before .before .before .before .before .before .before .before .before .before .before .fits2 .ensures) ∙ not-false (c .before .before .before .before .before .before .before .before .before .before .before .before .before .before .before .before .before .before .before .before .before .before .before .before .before .before .before .before .fits2 .result) (c .before .before .before .before .before .before .before .before .before .before .before .before .before .before .before .before .before .before .before .before .before .before .before .before .before .before .before .if1 .left))
-    (accepted-by (c .before .before .before .before .before .before .before .before .before .before .before .before .before .before .before .before .before .before .before .before .before .before .before .before .before .before .before .before .before .before .before .before .before .before .before .before .before .before .args .script .now) (c .before .before .before .before .before .before .before .before .before .before .before .before .before .before .before .before .before .before .before .before .before .before .before .before .before .before .read-script .ensures) (c .before .before .before .before .before .before .before .before .before .before .before .before .before .before .before .before .before .before .before .before .before .before .before .before .if2 .left)) (size (c .before .before .before .before .before .before .before .before .before .before .before .before .before .before .before .before .before .before .before .before .before .before .before .before .before .before .before .before .before .before .before .before .before .before .before .before .before .before) .rows) (size (c .before .before .before .before .before .before .before .before .before .before .before .before .before .before .before .before .before .before .before .before .before .before .before .before .before .before .before .before .before .before .before .before .before .before .before .before .before .before) .marks) (c .before .before .before .before .before .before .before .before .before .before .before .before .before .before .before .before .start .ensures) (c .before .before .before .before .before .before .before .before .before .before .before .before .before .before .before .eval .ensures) (c .before .before .before .before .before .before .before .before .if3 .left)
-    (c .before .before .before .before .before .before .before .before .before .before .before .before .before .before .before .before .before .before .before .before .before .before .before .before .before .before .before .before .before .before .before .before .before .before .before .before .before .before .pre) (c .tallied .ensures) (c .before .before .before .before .put .ensures) refl
+    run-post (c .before .before .before .before .before .before .before .before .before .before .before .before .before .before .before
+    .before .before .before .before .before .before .before .before .before .before .before .before .before .before .before .before
+    .before .before .before .before .before .before .before .args .t1) (c .before .before .before .before .before .before .before
+    .before .before .before .before .before .before .before .before .before .before .before .before .before .before .before .before
+    .before .before .before .before .before .before .before .before .before .before .before .before .before .before .before .args
+    .script .now) (sym (c .before .before .before .before .before .before .before .before .before .before .before .before .before
+    .before .before .before .before .before .before .before .before .before .before .before .before .before .before .before .fits2
+    .ensures) ∙ not-false (c .before .before .before .before .before .before .before .before .before .before .before .before .before
+    .before .before .before .before .before .before .before .before .before .before .before .before .before .before .before .fits2
+    .result) (c .before .before .before .before .before .before .before .before .before .before .before .before .before .before
+    .before .before .before .before .before .before .before .before .before .before .before .before .before .if1 .left))
+    (accepted-by (c .before .before .before .before .before .before .before .before .before .before .before .before .before .before
+    .before .before .before .before .before .before .before .before .before .before .before .before .before .before .before .before
+    .before .before .before .before .before .before .before .before .args .script .now) (c .before .before .before .before .before
+    .before .before .before .before .before .before .before .before .before .before .before .before .before .before .before .before
+    .before .before .before .before .before .read-script .ensures) (c .before .before .before .before .before .before .before .before
+    .before .before .before .before .before .before .before .before .before .before .before .before .before .before .before .before
+    .if2 .left)) (size (c .before .before .before .before .before .before .before .before .before .before .before .before .before
+    .before .before .before .before .before .before .before .before .before .before .before .before .before .before .before .before
+    .before .before .before .before .before .before .before .before .before) .rows) (size (c .before .before .before .before .before
+    .before .before .before .before .before .before .before .before .before .before .before .before .before .before .before .before
+    .before .before .before .before .before .before .before .before .before .before .before .before .before .before .before .before
+    .before) .marks) (c .before .before .before .before .before .before .before .before .before .before .before .before .before
+    .before .before .before .start .ensures) (c .before .before .before .before .before .before .before .before .before .before
+    .before .before .before .before .before .eval .ensures) (c .before .before .before .before .before .before .before .before .if3
+    .left)
+    (c .before .before .before .before .before .before .before .before .before .before .before .before .before .before .before .before
+    .before .before .before .before .before .before .before .before .before .before .before .before .before .before .before .before
+    .before .before .before .before .before .before .pre) (c .tallied .ensures) (c .before .before .before .before .put .ensures) refl
 
 pub run-in-spec : {M : Type 1} → statement M
 run-in-spec =

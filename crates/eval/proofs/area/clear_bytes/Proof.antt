@@ -35,8 +35,12 @@ loop-less c = search needs
 -- src/area.rt:23:5
 loop-again : tie.Need-loop-again Inv-loop μ-loop
 loop-again c =
-    let l = c .before .loop .inv .1 in
-    (omega arith, length-set (c .before .loop .area) (c .before .loop .i) 0 ∙ l, cleared-next (c .before .before .args .area .now) (c .before .loop .area) (c .before .loop .i) (omega arith) (c .before .loop .inv .2))
+    let l = c .before .loop .inv .1 in (
+      omega arith,
+      length-set (c .before .loop .area) (c .before .loop .i) 0 ∙ l,
+      cleared-next (c .before .before .args .area .now) (c
+          .before .loop .area) (c .before .loop .i) (omega arith) (c .before .loop .inv .2),
+    )
 
 -- src/area.rt:19:1
 same-length : tie.Need-same-length Inv-loop μ-loop
@@ -46,7 +50,8 @@ same-length c = search needs
 returns : tie.Need-returns Inv-loop μ-loop
 returns c =
     let l = c .before .loop .inv .1 in
-    cleared-all (c .before .before .args .area .now) (c .before .loop .area) (c .before .loop .i) (omega arith) (c .before .loop .inv .0) (c .before .loop .inv .2)
+    cleared-all (c .before .before .args .area .now) (c .before .loop .area) (c .before .loop .i) (omega arith) (c .before .loop .inv .0)
+    (c .before .loop .inv .2)
 
 pub clear-bytes-spec : {M : Type 1} → statement M
 clear-bytes-spec =

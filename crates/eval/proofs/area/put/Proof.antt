@@ -51,8 +51,10 @@ loop-again : tie.Need-loop-again Inv-loop μ-loop
 loop-again c =
     let l = c .before .before .loop .inv .1 in (
       omega arith,
-      length-set (c .before .before .loop .area) (c .before .before .loop .j) (getD (c .before .before .before .args .value .now) (c .before .before .loop .j) 0) ∙ l,
-      put-next (c .before .before .before .args .value .now) (c .before .before .before .args .area .now) (c .before .before .loop .area) (c .before .before .loop .j) (c .before .before .before .pre) (c .before .loop-test .taken) (c .before .before .loop .inv .2),
+      length-set (c .before .before .loop .area) (c .before .before .loop .j) (getD (c .before .before .before .args .value .now) (c
+          .before .before .loop .j) 0) ∙ l,
+      put-next (c .before .before .before .args .value .now) (c .before .before .before .args .area .now) (c .before .before .loop .area)
+          (c .before .before .loop .j) (c .before .before .before .pre) (c .before .loop-test .taken) (c .before .before .loop .inv .2),
     )
 
 -- src/area.rt:30:1
@@ -61,7 +63,8 @@ same-length c = c .before .loop .inv .1
 
 -- src/area.rt:30:1
 returns : tie.Need-returns Inv-loop μ-loop
-returns c = put-all (c .before .before .args .value .now) (c .before .before .args .area .now) (c .before .loop .area) (c .before .loop .j) (omega arith) (c .before .loop .inv .0) (c .before .loop .inv .2)
+returns c = put-all (c .before .before .args .value .now) (c .before .before .args .area .now) (c .before .loop .area) (c .before .loop
+    .j) (omega arith) (c .before .loop .inv .0) (c .before .loop .inv .2)
 
 pub put-spec : {M : Type 1} → statement M
 put-spec =

@@ -3,10 +3,12 @@ use mathlib.Core.Path.{ap, sym, _∙_}
 use Prim.Native.Nat.{ℕ, _+_, _*_, _-_, _<_}
 use native.Mathlib.Omega.{arith}
 use Rattle.script.proofs.AcceptedLaws.{accepted-record}
-use Rattle.eval.proofs.EvalLaws.{deep, is-binary, good, unary-first, unary-stops, unary-asks, unary-yields, binary-first, binary-stops}
+use Rattle.eval.proofs.EvalLaws.{deep, is-binary, good, unary-first, unary-stops, unary-asks, unary-yields, binary-first}
+use Rattle.eval.proofs.EvalLaws.{binary-stops}
 use Rattle.eval.proofs.EvalLaws.{bind-asks, second-asks, second-stops, combine-asks, combine-yields}
 use Rattle.eval.proofs.BranchLaws.{branch-first, branch-stops, else-asks, else-yields, then-asks, then-stops, then-yields}
-use Rattle.eval.proofs.LoopLaws.{for-first, for-stops, for-none, each-asks, items-stop, close-asks, close-yields, item-asks, body-asks}
+use Rattle.eval.proofs.LoopLaws.{for-first, for-stops, for-none, each-asks, items-stop, close-asks, close-yields, item-asks}
+use Rattle.eval.proofs.LoopLaws.{body-asks}
 use Rattle.eval.proofs.LoopLaws.{item-stops, limit-asks, item-yields, half-asks, half-stops, rest-asks, rest-yields}
 use borrow.Fn.Kinds.{In}
 use borrow.Fn.PlainCycle.{Measures, is, falls, and}
@@ -188,8 +190,11 @@ binary-sub-eval t c =
 binary-eval-requires : (t : ℕ) → binary-lts.Need-eval-requires (binary-claims t) (binary-at t) binary.Post
 binary-eval-requires t c κs =
     let d = deep (c .before .before .before .before .before .before .before .before .before .pre .1 .0) in
-    let m = c .before .before .before .before .before .before .before .before .before .pre .0 in
-    (omega (arith, d, m), binary-first (c .before .before .before .before .before .before .before .before .before .pre .1 .0) (c .before .before .before .before .before .before .before .before .before .pre .1 .1))
+    let m = c .before .before .before .before .before .before .before .before .before .pre .0 in (
+      omega (arith, d, m),
+      binary-first (c .before .before .before .before .before .before .before .before .before .pre .1 .0) (c .before
+          .before .before .before .before .before .before .before .before .pre .1 .1),
+    )
 
 -- src/evaluate.rt:88:9
 binary-same-length : (t : ℕ) → binary-lts.Need-same-length (binary-claims t) (binary-at t) binary.Post
@@ -206,68 +211,140 @@ binary-same-length-3 t c = c .before .before .before .before .before .before .be
 -- src/evaluate.rt:88:9
 binary-returns : (t : ℕ) → binary-lts.Need-returns (binary-claims t) (binary-at t) binary.Post
 binary-returns t c =
-    binary-stops (c .before .before .before .before .before .before .before .before .before .before .before .before .before .before .before .before .before .before .pre .1 .0) (c .before .before .before .before .before .before .before .before .before .before .before .before .before .before .before .before .before .before .pre .1 .1) (c .before .before .before .before .before .before .before .before .eval .ensures) (c .if1 .taken)
+    binary-stops (c .before .before .before .before .before .before .before .before .before .before .before .before .before .before
+    .before .before .before .before .pre .1 .0) (c .before .before .before .before .before .before .before .before .before .before
+    .before .before .before .before .before .before .before .before .pre .1 .1) (c .before .before .before .before .before .before
+    .before .before .eval .ensures) (c .if1 .taken)
 
 -- src/evaluate.rt:93:9
 binary-bind-requires : (t : ℕ) → binary-lts.Need-bind-requires (binary-claims t) (binary-at t) binary.Post
 binary-bind-requires t c κs =
-    bind-asks (c .before .before .before .before .before .before .before .before .before .before .before .before .before .before .before .before .before .before .before .before .pre .1 .0) (c .before .before .before .before .before .before .before .before .before .before .before .before .before .before .before .before .before .before .before .before .pre .1 .1) (c .before .before .before .before .before .before .before .before .before .before .eval .ensures) (c .before .before .if1 .left)
+    bind-asks (c .before .before .before .before .before .before .before .before .before .before .before .before .before .before .before
+    .before .before .before .before .before .pre .1 .0) (c .before .before .before .before .before .before .before .before .before
+    .before .before .before .before .before .before .before .before .before .before .before .pre .1 .1) (c .before .before .before
+    .before .before .before .before .before .before .before .eval .ensures) (c .before .before .if1 .left)
 
 -- src/evaluate.rt:97:9
 binary-sub-eval-2 : (t : ℕ) → binary-lts.Need-sub-eval-2 (binary-claims t) (binary-at t) binary.Post
 binary-sub-eval-2 t c =
-    deep (c .before .before .before .before .before .before .before .before .before .before .before .before .before .before .before .before .before .before .before .before .before .pre .1 .0)
+    deep (c .before .before .before .before .before .before .before .before .before .before .before .before .before .before .before
+    .before .before .before .before .before .before .pre .1 .0)
 
 -- src/evaluate.rt:98:9
 binary-inner-requires : (t : ℕ) → binary-lts.Need-inner-requires (binary-claims t) (binary-at t) binary.Post
 binary-inner-requires t c κs =
-    c .before .before .before .before .before .before .before .before .before .before .before .before .before .before .before .before .before .before .before .before .before .pre .1 .0 .scope .few
+    c .before .before .before .before .before .before .before .before .before .before .before .before .before .before .before .before
+    .before .before .before .before .before .pre .1 .0 .scope .few
 
 -- src/evaluate.rt:94:9
 binary-eval-requires-2 : (t : ℕ) → binary-lts.Need-eval-requires-2 (binary-claims t) (binary-at t) binary.Post
 binary-eval-requires-2 t c κs =
-    let d = deep (c .before .before .before .before .before .before .before .before .before .before .before .before .before .before .before .before .before .before .before .before .before .before .before .before .before .pre .1 .0) in
-    let m = c .before .before .before .before .before .before .before .before .before .before .before .before .before .before .before .before .before .before .before .before .before .before .before .before .before .pre .0 in
-    (omega (arith, d, m), second-asks (c .before .before .before .before .before .before .before .before .before .before .before .before .before .before .before .before .before .before .before .before .before .before .before .before .before .pre .1 .0) (c .before .before .before .before .before .before .before .before .before .before .before .before .before .before .before .before .before .before .before .before .before .before .before .before .before .pre .1 .1) (c .before .before .before .before .before .before .before .before .before .before .before .before .before .before .before .eval .ensures) (c .before .before .before .before .before .before .before .if1 .left) (c .before .before .before .before .bind .ensures) (c .before .before .before .inner .ensures))
+    let d = deep (c .before .before .before .before .before .before .before .before .before .before .before .before .before .before
+    .before .before .before .before .before .before .before .before .before .before .before .pre .1 .0) in
+    let m = c .before .before .before .before .before .before .before .before .before .before .before .before .before .before .before
+    .before .before .before .before .before .before .before .before .before .before .pre .0 in (
+      omega (arith, d, m),
+      second-asks (c .before .before .before .before .before .before .before .before .before .before .before .before
+          .before .before .before .before .before .before .before .before .before .before .before .before .before .pre .1 .0) (c .before
+          .before .before .before .before .before .before .before .before .before .before .before .before .before .before .before .before
+          .before .before .before .before .before .before .before .before .pre .1 .1) (c .before .before .before .before .before .before
+          .before .before .before .before .before .before .before .before .before .eval .ensures) (c .before .before .before .before
+          .before .before .before .if1 .left) (c .before .before .before .before .bind .ensures) (c .before .before .before .inner
+          .ensures),
+    )
 
 -- src/evaluate.rt:108:9
 binary-same-length-4 : (t : ℕ) → binary-lts.Need-same-length-4 (binary-claims t) (binary-at t) binary.Post
-binary-same-length-4 t c = c .before .before .before .before .before .before .before .before .eval2 .kept .1 .1 .1 .1 .1 .1 .0 ∙ c .before .before .before .before .before .before .before .before .before .before .before .before .before .before .before .before .before .before .before .before .before .before .before .before .eval .kept .1 .1 .1 .1 .1 .1 .0
+binary-same-length-4 t c = c .before .before .before .before .before .before .before .before .eval2 .kept .1 .1 .1 .1 .1 .1 .0 ∙ c
+    .before .before .before .before .before .before .before .before .before .before .before .before .before .before .before .before
+    .before .before .before .before .before .before .before .before .eval .kept .1 .1 .1 .1 .1 .1 .0
 
 -- src/evaluate.rt:108:9
 binary-same-length-5 : (t : ℕ) → binary-lts.Need-same-length-5 (binary-claims t) (binary-at t) binary.Post
-binary-same-length-5 t c = c .before .before .before .before .before .before .before .before .eval2 .kept .1 .1 .1 .1 .1 .1 .1 .0 ∙ c .before .before .before .before .before .before .before .before .before .before .before .before .before .before .before .before .before .before .before .before .before .before .before .before .eval .kept .1 .1 .1 .1 .1 .1 .1 .0
+binary-same-length-5 t c = c .before .before .before .before .before .before .before .before .eval2 .kept .1 .1 .1 .1 .1 .1 .1 .0 ∙ c
+    .before .before .before .before .before .before .before .before .before .before .before .before .before .before .before .before
+    .before .before .before .before .before .before .before .before .eval .kept .1 .1 .1 .1 .1 .1 .1 .0
 
 -- src/evaluate.rt:108:9
 binary-same-length-6 : (t : ℕ) → binary-lts.Need-same-length-6 (binary-claims t) (binary-at t) binary.Post
-binary-same-length-6 t c = c .before .before .before .before .before .before .before .before .eval2 .kept .1 .1 .1 .1 .1 .1 .1 .1 .0 ∙ c .before .before .before .before .before .before .before .before .before .before .before .before .before .before .before .before .before .before .before .before .before .before .before .before .eval .kept .1 .1 .1 .1 .1 .1 .1 .1 .0
+binary-same-length-6 t c = c .before .before .before .before .before .before .before .before .eval2 .kept .1 .1 .1 .1 .1 .1 .1 .1 .0 ∙ c
+    .before .before .before .before .before .before .before .before .before .before .before .before .before .before .before .before
+    .before .before .before .before .before .before .before .before .eval .kept .1 .1 .1 .1 .1 .1 .1 .1 .0
 
 -- src/evaluate.rt:108:9
 binary-returns-2 : (t : ℕ) → binary-lts.Need-returns-2 (binary-claims t) (binary-at t) binary.Post
 binary-returns-2 t c =
-    second-stops (c .before .before .before .before .before .before .before .before .before .before .before .before .before .before .before .before .before .before .before .before .before .before .before .before .before .before .before .before .before .before .before .before .before .before .pre .1 .0) (c .before .before .before .before .before .before .before .before .before .before .before .before .before .before .before .before .before .before .before .before .before .before .before .before .before .before .before .before .before .before .before .before .before .before .pre .1 .1) (c .before .before .before .before .before .before .before .before .before .before .before .before .before .before .before .before .before .before .before .before .before .before .before .before .eval .ensures) (c .before .before .before .before .before .before .before .before .before .before .before .before .before .before .before .before .if1 .left) (c .before .before .before .before .before .before .before .before .before .before .before .before .before .bind .ensures) (c .before .before .before .before .before .before .before .before .before .before .before .before .inner .ensures) (c .before .before .before .before .before .before .before .before .eval2 .ensures) (c .if2 .taken)
+    second-stops (c .before .before .before .before .before .before .before .before .before .before .before .before .before .before
+    .before .before .before .before .before .before .before .before .before .before .before .before .before .before .before .before
+    .before .before .before .before .pre .1 .0) (c .before .before .before .before .before .before .before .before .before .before
+    .before .before .before .before .before .before .before .before .before .before .before .before .before .before .before .before
+    .before .before .before .before .before .before .before .before .pre .1 .1) (c .before .before .before .before .before .before
+    .before .before .before .before .before .before .before .before .before .before .before .before .before .before .before .before
+    .before .before .eval .ensures) (c .before .before .before .before .before .before .before .before .before .before .before
+    .before .before .before .before .before .if1 .left) (c .before .before .before .before .before .before .before .before .before
+    .before .before .before .before .bind .ensures) (c .before .before .before .before .before .before .before .before .before
+    .before .before .before .inner .ensures) (c .before .before .before .before .before .before .before .before .eval2 .ensures) (c
+    .if2 .taken)
 
 -- src/evaluate.rt:110:5
 binary-combined-requires : (t : ℕ) → binary-lts.Need-combined-requires (binary-claims t) (binary-at t) binary.Post
 binary-combined-requires t c κs =
-    combine-asks (c .before .before .before .before .before .before .before .before .before .before .before .before .before .before .before .before .before .before .before .before .before .before .before .before .before .before .before .before .before .before .before .before .before .before .before .before .before .pre .1 .0) (c .before .before .before .before .before .before .before .before .before .before .before .before .before .before .before .before .before .before .before .before .before .before .before .before .before .before .before .before .before .before .before .before .before .before .before .before .before .pre .1 .1) (c .before .before .before .before .before .before .before .before .before .before .before .before .before .before .before .before .before .before .before .before .before .before .before .before .before .before .before .eval .ensures) (c .before .before .before .before .before .before .before .before .before .before .before .before .before .before .before .before .before .before .before .if1 .left) (c .before .before .before .before .before .before .before .before .before .before .before .before .before .before .before .before .bind .ensures) (c .before .before .before .before .before .before .before .before .before .before .before .before .before .before .before .inner .ensures) (c .before .before .before .before .before .before .before .before .before .before .before .eval2 .ensures) (c .before .before .before .if2 .left)
+    combine-asks (c .before .before .before .before .before .before .before .before .before .before .before .before .before .before
+    .before .before .before .before .before .before .before .before .before .before .before .before .before .before .before .before
+    .before .before .before .before .before .before .before .pre .1 .0) (c .before .before .before .before .before .before .before
+    .before .before .before .before .before .before .before .before .before .before .before .before .before .before .before .before
+    .before .before .before .before .before .before .before .before .before .before .before .before .before .before .pre .1 .1) (c
+    .before .before .before .before .before .before .before .before .before .before .before .before .before .before .before .before
+    .before .before .before .before .before .before .before .before .before .before .before .eval .ensures) (c .before .before
+    .before .before .before .before .before .before .before .before .before .before .before .before .before .before .before .before
+    .before .if1 .left) (c .before .before .before .before .before .before .before .before .before .before .before .before .before
+    .before .before .before .bind .ensures) (c .before .before .before .before .before .before .before .before .before .before
+    .before .before .before .before .before .inner .ensures) (c .before .before .before .before .before .before .before .before
+    .before .before .before .eval2 .ensures) (c .before .before .before .if2 .left)
 
 -- src/evaluate.rt:55:1
 binary-same-length-7 : (t : ℕ) → binary-lts.Need-same-length-7 (binary-claims t) (binary-at t) binary.Post
-binary-same-length-7 t c = c .before .before .before .before .before .before .combined .kept .1 .1 .0 ∙ c .before .before .before .before .before .before .before .before .before .before .before .before .before .before .before .before .before .before .eval2 .kept .1 .1 .1 .1 .1 .1 .0 ∙ c .before .before .before .before .before .before .before .before .before .before .before .before .before .before .before .before .before .before .before .before .before .before .before .before .before .before .before .before .before .before .before .before .before .before .eval .kept .1 .1 .1 .1 .1 .1 .0
+binary-same-length-7 t c = c .before .before .before .before .before .before .combined .kept .1 .1 .0 ∙ c .before .before .before .before
+    .before .before .before .before .before .before .before .before .before .before .before .before .before .before .eval2 .kept .1 .1 .1
+    .1 .1 .1 .0 ∙ c .before .before .before .before .before .before .before .before .before .before .before .before .before .before
+    .before .before .before .before .before .before .before .before .before .before .before .before .before .before .before .before
+    .before .before .before .before .eval .kept .1 .1 .1 .1 .1 .1 .0
 
 -- src/evaluate.rt:55:1
 binary-same-length-8 : (t : ℕ) → binary-lts.Need-same-length-8 (binary-claims t) (binary-at t) binary.Post
-binary-same-length-8 t c = c .before .before .before .before .before .before .combined .kept .1 .1 .1 .0 ∙ c .before .before .before .before .before .before .before .before .before .before .before .before .before .before .before .before .before .before .eval2 .kept .1 .1 .1 .1 .1 .1 .1 .0 ∙ c .before .before .before .before .before .before .before .before .before .before .before .before .before .before .before .before .before .before .before .before .before .before .before .before .before .before .before .before .before .before .before .before .before .before .eval .kept .1 .1 .1 .1 .1 .1 .1 .0
+binary-same-length-8 t c = c .before .before .before .before .before .before .combined .kept .1 .1 .1 .0 ∙ c .before .before .before
+    .before .before .before .before .before .before .before .before .before .before .before .before .before .before .before .eval2 .kept
+    .1 .1 .1 .1 .1 .1 .1 .0 ∙ c .before .before .before .before .before .before .before .before .before .before .before .before .before
+    .before .before .before .before .before .before .before .before .before .before .before .before .before .before .before .before
+    .before .before .before .before .before .eval .kept .1 .1 .1 .1 .1 .1 .1 .0
 
 -- src/evaluate.rt:55:1
 binary-same-length-9 : (t : ℕ) → binary-lts.Need-same-length-9 (binary-claims t) (binary-at t) binary.Post
-binary-same-length-9 t c = c .before .before .before .before .before .before .combined .kept .1 .1 .1 .1 .0 ∙ c .before .before .before .before .before .before .before .before .before .before .before .before .before .before .before .before .before .before .eval2 .kept .1 .1 .1 .1 .1 .1 .1 .1 .0 ∙ c .before .before .before .before .before .before .before .before .before .before .before .before .before .before .before .before .before .before .before .before .before .before .before .before .before .before .before .before .before .before .before .before .before .before .eval .kept .1 .1 .1 .1 .1 .1 .1 .1 .0
+binary-same-length-9 t c = c .before .before .before .before .before .before .combined .kept .1 .1 .1 .1 .0 ∙ c .before .before .before
+    .before .before .before .before .before .before .before .before .before .before .before .before .before .before .before .eval2 .kept
+    .1 .1 .1 .1 .1 .1 .1 .1 .0 ∙ c .before .before .before .before .before .before .before .before .before .before .before .before
+    .before .before .before .before .before .before .before .before .before .before .before .before .before .before .before .before
+    .before .before .before .before .before .before .eval .kept .1 .1 .1 .1 .1 .1 .1 .1 .0
 
 -- src/evaluate.rt:55:1
 binary-returns-3 : (t : ℕ) → binary-lts.Need-returns-3 (binary-claims t) (binary-at t) binary.Post
 binary-returns-3 t c =
-    combine-yields (c .before .before .before .before .before .before .before .before .before .before .before .before .before .before .before .before .before .before .before .before .before .before .before .before .before .before .before .before .before .before .before .before .before .before .before .before .before .before .before .before .before .before .before .before .pre .1 .0) (c .before .before .before .before .before .before .before .before .before .before .before .before .before .before .before .before .before .before .before .before .before .before .before .before .before .before .before .before .before .before .before .before .before .before .before .before .before .before .before .before .before .before .before .before .pre .1 .1) (c .before .before .before .before .before .before .before .before .before .before .before .before .before .before .before .before .before .before .before .before .before .before .before .before .before .before .before .before .before .before .before .before .before .before .eval .ensures) (c .before .before .before .before .before .before .before .before .before .before .before .before .before .before .before .before .before .before .before .before .before .before .before .before .before .before .if1 .left) (c .before .before .before .before .before .before .before .before .before .before .before .before .before .before .before .before .before .before .before .before .before .before .before .bind .ensures) (c .before .before .before .before .before .before .before .before .before .before .before .before .before .before .before .before .before .before .before .before .before .before .inner .ensures) (c .before .before .before .before .before .before .before .before .before .before .before .before .before .before .before .before .before .before .eval2 .ensures) (c .before .before .before .before .before .before .before .before .before .before .if2 .left) (c .before .before .before .before .before .before .combined .ensures)
+    combine-yields (c .before .before .before .before .before .before .before .before .before .before .before .before .before .before
+    .before .before .before .before .before .before .before .before .before .before .before .before .before .before .before .before
+    .before .before .before .before .before .before .before .before .before .before .before .before .before .before .pre .1 .0) (c
+    .before .before .before .before .before .before .before .before .before .before .before .before .before .before .before .before
+    .before .before .before .before .before .before .before .before .before .before .before .before .before .before .before .before
+    .before .before .before .before .before .before .before .before .before .before .before .before .pre .1 .1) (c .before .before
+    .before .before .before .before .before .before .before .before .before .before .before .before .before .before .before .before
+    .before .before .before .before .before .before .before .before .before .before .before .before .before .before .before .before
+    .eval .ensures) (c .before .before .before .before .before .before .before .before .before .before .before .before .before
+    .before .before .before .before .before .before .before .before .before .before .before .before .before .if1 .left) (c .before
+    .before .before .before .before .before .before .before .before .before .before .before .before .before .before .before .before
+    .before .before .before .before .before .before .bind .ensures) (c .before .before .before .before .before .before .before
+    .before .before .before .before .before .before .before .before .before .before .before .before .before .before .before .inner
+    .ensures) (c .before .before .before .before .before .before .before .before .before .before .before .before .before .before
+    .before .before .before .before .eval2 .ensures) (c .before .before .before .before .before .before .before .before .before
+    .before .if2 .left) (c .before .before .before .before .before .before .combined .ensures)
 
 -- src/evaluate.rt:134:9
 branch-add-eval : (t : ℕ) → branch-lts.Need-add-eval (branch-claims t) (branch-at t) branch.Post
@@ -284,8 +361,11 @@ branch-sub-eval t c =
 branch-eval-requires : (t : ℕ) → branch-lts.Need-eval-requires (branch-claims t) (branch-at t) branch.Post
 branch-eval-requires t c κs =
     let d = deep (c .before .before .before .before .before .before .before .before .pre .1 .0) in
-    let m = c .before .before .before .before .before .before .before .before .pre .0 in
-    (omega (arith, d, m), branch-first (c .before .before .before .before .before .before .before .before .pre .1 .0) (c .before .before .before .before .before .before .before .before .pre .1 .1))
+    let m = c .before .before .before .before .before .before .before .before .pre .0 in (
+      omega (arith, d, m),
+      branch-first (c .before .before .before .before .before .before .before .before .pre .1 .0) (c .before .before
+          .before .before .before .before .before .before .pre .1 .1),
+    )
 
 -- src/evaluate.rt:146:9
 branch-same-length : (t : ℕ) → branch-lts.Need-same-length (branch-claims t) (branch-at t) branch.Post
@@ -302,7 +382,10 @@ branch-same-length-3 t c = c .before .before .before .before .before .before .be
 -- src/evaluate.rt:146:9
 branch-returns : (t : ℕ) → branch-lts.Need-returns (branch-claims t) (branch-at t) branch.Post
 branch-returns t c =
-    branch-stops (c .before .before .before .before .before .before .before .before .before .before .before .before .before .before .before .before .before .pre .1 .0) (c .before .before .before .before .before .before .before .before .before .before .before .before .before .before .before .before .before .pre .1 .1) (c .before .before .before .before .before .before .before .before .eval .ensures) (c .if1 .taken)
+    branch-stops (c .before .before .before .before .before .before .before .before .before .before .before .before .before .before
+    .before .before .before .pre .1 .0) (c .before .before .before .before .before .before .before .before .before .before .before
+    .before .before .before .before .before .before .pre .1 .1) (c .before .before .before .before .before .before .before .before
+    .eval .ensures) (c .if1 .taken)
 
 -- src/evaluate.rt:151:13
 branch-end-at-requires : (t : ℕ) → branch-lts.Need-end-at-requires (branch-claims t) (branch-at t) branch.Post
@@ -312,60 +395,110 @@ branch-end-at-requires t c κs =
 -- src/evaluate.rt:155:13
 branch-sub-eval-2 : (t : ℕ) → branch-lts.Need-sub-eval-2 (branch-claims t) (branch-at t) branch.Post
 branch-sub-eval-2 t c =
-    deep (c .before .before .before .before .before .before .before .before .before .before .before .before .before .before .before .before .before .before .before .before .before .before .pre .1 .0)
+    deep (c .before .before .before .before .before .before .before .before .before .before .before .before .before .before .before
+    .before .before .before .before .before .before .before .pre .1 .0)
 
 -- src/evaluate.rt:152:9
 branch-eval-requires-2 : (t : ℕ) → branch-lts.Need-eval-requires-2 (branch-claims t) (branch-at t) branch.Post
 branch-eval-requires-2 t c κs =
-    let d = deep (c .before .before .before .before .before .before .before .before .before .before .before .before .before .before .before .before .before .before .before .before .before .before .before .before .before .pre .1 .0) in
-    let m = c .before .before .before .before .before .before .before .before .before .before .before .before .before .before .before .before .before .before .before .before .before .before .before .before .before .pre .0 in
-    (omega (arith, d, m), else-asks (c .before .before .before .before .before .before .before .before .before .before .before .before .before .before .before .before .before .before .before .before .before .before .before .before .before .pre .1 .0) (c .before .before .before .before .before .before .before .before .before .before .before .before .before .before .before .before .before .before .before .before .before .before .before .before .before .pre .1 .1) (c .before .before .before .before .before .before .before .before .before .before .before .before .before .before .before .before .eval .ensures) (c .before .before .before .before .before .before .before .before .if1 .left) (c .before .before .before .end-at .ensures) (c .before .before .before .before .if2 .taken))
+    let d = deep (c .before .before .before .before .before .before .before .before .before .before .before .before .before .before
+    .before .before .before .before .before .before .before .before .before .before .before .pre .1 .0) in
+    let m = c .before .before .before .before .before .before .before .before .before .before .before .before .before .before .before
+    .before .before .before .before .before .before .before .before .before .before .pre .0 in (
+      omega (arith, d, m),
+      else-asks (c .before .before .before .before .before .before .before .before .before .before .before .before
+          .before .before .before .before .before .before .before .before .before .before .before .before .before .pre .1 .0) (c .before
+          .before .before .before .before .before .before .before .before .before .before .before .before .before .before .before .before
+          .before .before .before .before .before .before .before .before .pre .1 .1) (c .before .before .before .before .before .before
+          .before .before .before .before .before .before .before .before .before .before .eval .ensures) (c .before .before .before
+          .before .before .before .before .before .if1 .left) (c .before .before .before .end-at .ensures) (c .before .before .before
+          .before .if2 .taken),
+    )
 
 -- src/evaluate.rt:152:9
 branch-same-length-4 : (t : ℕ) → branch-lts.Need-same-length-4 (branch-claims t) (branch-at t) branch.Post
-branch-same-length-4 t c = c .before .before .before .before .before .before .eval2 .kept .1 .1 .1 .1 .1 .1 .0 ∙ c .before .before .before .before .before .before .before .before .before .before .before .before .before .before .before .before .before .before .before .before .before .before .before .eval .kept .1 .1 .1 .1 .1 .1 .0
+branch-same-length-4 t c = c .before .before .before .before .before .before .eval2 .kept .1 .1 .1 .1 .1 .1 .0 ∙ c .before .before
+    .before .before .before .before .before .before .before .before .before .before .before .before .before .before .before .before
+    .before .before .before .before .before .eval .kept .1 .1 .1 .1 .1 .1 .0
 
 -- src/evaluate.rt:152:9
 branch-same-length-5 : (t : ℕ) → branch-lts.Need-same-length-5 (branch-claims t) (branch-at t) branch.Post
-branch-same-length-5 t c = c .before .before .before .before .before .before .eval2 .kept .1 .1 .1 .1 .1 .1 .1 .0 ∙ c .before .before .before .before .before .before .before .before .before .before .before .before .before .before .before .before .before .before .before .before .before .before .before .eval .kept .1 .1 .1 .1 .1 .1 .1 .0
+branch-same-length-5 t c = c .before .before .before .before .before .before .eval2 .kept .1 .1 .1 .1 .1 .1 .1 .0 ∙ c .before .before
+    .before .before .before .before .before .before .before .before .before .before .before .before .before .before .before .before
+    .before .before .before .before .before .eval .kept .1 .1 .1 .1 .1 .1 .1 .0
 
 -- src/evaluate.rt:152:9
 branch-same-length-6 : (t : ℕ) → branch-lts.Need-same-length-6 (branch-claims t) (branch-at t) branch.Post
-branch-same-length-6 t c = c .before .before .before .before .before .before .eval2 .kept .1 .1 .1 .1 .1 .1 .1 .1 .0 ∙ c .before .before .before .before .before .before .before .before .before .before .before .before .before .before .before .before .before .before .before .before .before .before .before .eval .kept .1 .1 .1 .1 .1 .1 .1 .1 .0
+branch-same-length-6 t c = c .before .before .before .before .before .before .eval2 .kept .1 .1 .1 .1 .1 .1 .1 .1 .0 ∙ c .before .before
+    .before .before .before .before .before .before .before .before .before .before .before .before .before .before .before .before
+    .before .before .before .before .before .eval .kept .1 .1 .1 .1 .1 .1 .1 .1 .0
 
 -- src/evaluate.rt:152:9
 branch-returns-2 : (t : ℕ) → branch-lts.Need-returns-2 (branch-claims t) (branch-at t) branch.Post
 branch-returns-2 t c =
-    else-yields (c .before .before .before .before .before .before .before .before .before .before .before .before .before .before .before .before .before .before .before .before .before .before .before .before .before .before .before .before .before .before .before .before .pre .1 .0) (c .before .before .before .before .before .before .before .before .before .before .before .before .before .before .before .before .before .before .before .before .before .before .before .before .before .before .before .before .before .before .before .before .pre .1 .1) (c .before .before .before .before .before .before .before .before .before .before .before .before .before .before .before .before .before .before .before .before .before .before .before .eval .ensures) (c .before .before .before .before .before .before .before .before .before .before .before .before .before .before .before .if1 .left) (c .before .before .before .before .before .before .before .before .before .before .end-at .ensures) (c .before .before .before .before .before .before .before .before .before .before .before .if2 .taken) (c .before .before .before .before .before .before .eval2 .ensures)
+    else-yields (c .before .before .before .before .before .before .before .before .before .before .before .before .before .before
+    .before .before .before .before .before .before .before .before .before .before .before .before .before .before .before .before
+    .before .before .pre .1 .0) (c .before .before .before .before .before .before .before .before .before .before .before .before
+    .before .before .before .before .before .before .before .before .before .before .before .before .before .before .before .before
+    .before .before .before .before .pre .1 .1) (c .before .before .before .before .before .before .before .before .before .before
+    .before .before .before .before .before .before .before .before .before .before .before .before .before .eval .ensures) (c
+    .before .before .before .before .before .before .before .before .before .before .before .before .before .before .before .if1
+    .left) (c .before .before .before .before .before .before .before .before .before .before .end-at .ensures) (c .before .before
+    .before .before .before .before .before .before .before .before .before .if2 .taken) (c .before .before .before .before .before
+    .before .eval2 .ensures)
 
 -- src/evaluate.rt:169:9
 branch-sub-eval-3 : (t : ℕ) → branch-lts.Need-sub-eval-3 (branch-claims t) (branch-at t) branch.Post
 branch-sub-eval-3 t c =
-    deep (c .before .before .before .before .before .before .before .before .before .before .before .before .before .before .before .before .before .before .before .before .before .pre .1 .0)
+    deep (c .before .before .before .before .before .before .before .before .before .before .before .before .before .before .before
+    .before .before .before .before .before .before .pre .1 .0)
 
 -- src/evaluate.rt:166:9
 branch-eval-requires-3 : (t : ℕ) → branch-lts.Need-eval-requires-3 (branch-claims t) (branch-at t) branch.Post
 branch-eval-requires-3 t c κs =
-    let d = deep (c .before .before .before .before .before .before .before .before .before .before .before .before .before .before .before .before .before .before .before .before .before .before .before .before .pre .1 .0) in
-    let m = c .before .before .before .before .before .before .before .before .before .before .before .before .before .before .before .before .before .before .before .before .before .before .before .before .pre .0 in
-    (omega (arith, d, m), then-asks (c .before .before .before .before .before .before .before .before .before .before .before .before .before .before .before .before .before .before .before .before .before .before .before .before .pre .1 .0) (c .before .before .before .before .before .before .before .before .before .before .before .before .before .before .before .before .before .before .before .before .before .before .before .before .pre .1 .1) (c .before .before .before .before .before .before .before .before .before .before .before .before .before .before .before .eval .ensures) (c .before .before .before .before .before .before .before .if1 .left) (c .before .before .before .if2 .left))
+    let d = deep (c .before .before .before .before .before .before .before .before .before .before .before .before .before .before
+    .before .before .before .before .before .before .before .before .before .before .pre .1 .0) in
+    let m = c .before .before .before .before .before .before .before .before .before .before .before .before .before .before .before
+    .before .before .before .before .before .before .before .before .before .pre .0 in (
+      omega (arith, d, m),
+      then-asks (c .before .before .before .before .before .before .before .before .before .before .before .before
+          .before .before .before .before .before .before .before .before .before .before .before .before .pre .1 .0) (c .before .before
+          .before .before .before .before .before .before .before .before .before .before .before .before .before .before .before .before
+          .before .before .before .before .before .before .pre .1 .1) (c .before .before .before .before .before .before .before .before
+          .before .before .before .before .before .before .before .eval .ensures) (c .before .before .before .before .before .before
+          .before .if1 .left) (c .before .before .before .if2 .left),
+    )
 
 -- src/evaluate.rt:180:9
 branch-same-length-7 : (t : ℕ) → branch-lts.Need-same-length-7 (branch-claims t) (branch-at t) branch.Post
-branch-same-length-7 t c = c .before .before .before .before .before .before .before .before .eval3 .kept .1 .1 .1 .1 .1 .1 .0 ∙ c .before .before .before .before .before .before .before .before .before .before .before .before .before .before .before .before .before .before .before .before .before .before .before .before .eval .kept .1 .1 .1 .1 .1 .1 .0
+branch-same-length-7 t c = c .before .before .before .before .before .before .before .before .eval3 .kept .1 .1 .1 .1 .1 .1 .0 ∙ c
+    .before .before .before .before .before .before .before .before .before .before .before .before .before .before .before .before
+    .before .before .before .before .before .before .before .before .eval .kept .1 .1 .1 .1 .1 .1 .0
 
 -- src/evaluate.rt:180:9
 branch-same-length-8 : (t : ℕ) → branch-lts.Need-same-length-8 (branch-claims t) (branch-at t) branch.Post
-branch-same-length-8 t c = c .before .before .before .before .before .before .before .before .eval3 .kept .1 .1 .1 .1 .1 .1 .1 .0 ∙ c .before .before .before .before .before .before .before .before .before .before .before .before .before .before .before .before .before .before .before .before .before .before .before .before .eval .kept .1 .1 .1 .1 .1 .1 .1 .0
+branch-same-length-8 t c = c .before .before .before .before .before .before .before .before .eval3 .kept .1 .1 .1 .1 .1 .1 .1 .0 ∙ c
+    .before .before .before .before .before .before .before .before .before .before .before .before .before .before .before .before
+    .before .before .before .before .before .before .before .before .eval .kept .1 .1 .1 .1 .1 .1 .1 .0
 
 -- src/evaluate.rt:180:9
 branch-same-length-9 : (t : ℕ) → branch-lts.Need-same-length-9 (branch-claims t) (branch-at t) branch.Post
-branch-same-length-9 t c = c .before .before .before .before .before .before .before .before .eval3 .kept .1 .1 .1 .1 .1 .1 .1 .1 .0 ∙ c .before .before .before .before .before .before .before .before .before .before .before .before .before .before .before .before .before .before .before .before .before .before .before .before .eval .kept .1 .1 .1 .1 .1 .1 .1 .1 .0
+branch-same-length-9 t c = c .before .before .before .before .before .before .before .before .eval3 .kept .1 .1 .1 .1 .1 .1 .1 .1 .0 ∙ c
+    .before .before .before .before .before .before .before .before .before .before .before .before .before .before .before .before
+    .before .before .before .before .before .before .before .before .eval .kept .1 .1 .1 .1 .1 .1 .1 .1 .0
 
 -- src/evaluate.rt:180:9
 branch-returns-3 : (t : ℕ) → branch-lts.Need-returns-3 (branch-claims t) (branch-at t) branch.Post
 branch-returns-3 t c =
-    then-stops (c .before .before .before .before .before .before .before .before .before .before .before .before .before .before .before .before .before .before .before .before .before .before .before .before .before .before .before .before .before .before .before .before .before .pre .1 .0) (c .before .before .before .before .before .before .before .before .before .before .before .before .before .before .before .before .before .before .before .before .before .before .before .before .before .before .before .before .before .before .before .before .before .pre .1 .1) (c .before .before .before .before .before .before .before .before .before .before .before .before .before .before .before .before .before .before .before .before .before .before .before .before .eval .ensures) (c .before .before .before .before .before .before .before .before .before .before .before .before .before .before .before .before .if1 .left) (c .before .before .before .before .before .before .before .before .before .before .before .before .if2 .left) (c .before .before .before .before .before .before .before .before .eval3 .ensures) (c .if3 .taken)
+    then-stops (c .before .before .before .before .before .before .before .before .before .before .before .before .before .before .before
+    .before .before .before .before .before .before .before .before .before .before .before .before .before .before .before .before
+    .before .before .pre .1 .0) (c .before .before .before .before .before .before .before .before .before .before .before .before
+    .before .before .before .before .before .before .before .before .before .before .before .before .before .before .before .before
+    .before .before .before .before .before .pre .1 .1) (c .before .before .before .before .before .before .before .before .before
+    .before .before .before .before .before .before .before .before .before .before .before .before .before .before .before .eval
+    .ensures) (c .before .before .before .before .before .before .before .before .before .before .before .before .before .before
+    .before .before .if1 .left) (c .before .before .before .before .before .before .before .before .before .before .before .before
+    .if2 .left) (c .before .before .before .before .before .before .before .before .eval3 .ensures) (c .if3 .taken)
 
 -- src/evaluate.rt:182:5
 branch-past-requires : (t : ℕ) → branch-lts.Need-past-requires (branch-claims t) (branch-at t) branch.Post
@@ -374,20 +507,35 @@ branch-past-requires t c κs =
 
 -- src/evaluate.rt:114:1
 branch-same-length-10 : (t : ℕ) → branch-lts.Need-same-length-10 (branch-claims t) (branch-at t) branch.Post
-branch-same-length-10 t c = c .before .before .before .before .before .before .before .before .before .eval3 .kept .1 .1 .1 .1 .1 .1 .0 ∙ c .before .before .before .before .before .before .before .before .before .before .before .before .before .before .before .before .before .before .before .before .before .before .before .before .before .eval .kept .1 .1 .1 .1 .1 .1 .0
+branch-same-length-10 t c = c .before .before .before .before .before .before .before .before .before .eval3 .kept .1 .1 .1 .1 .1 .1 .0 ∙
+    c .before .before .before .before .before .before .before .before .before .before .before .before .before .before .before .before
+    .before .before .before .before .before .before .before .before .before .eval .kept .1 .1 .1 .1 .1 .1 .0
 
 -- src/evaluate.rt:114:1
 branch-same-length-11 : (t : ℕ) → branch-lts.Need-same-length-11 (branch-claims t) (branch-at t) branch.Post
-branch-same-length-11 t c = c .before .before .before .before .before .before .before .before .before .eval3 .kept .1 .1 .1 .1 .1 .1 .1 .0 ∙ c .before .before .before .before .before .before .before .before .before .before .before .before .before .before .before .before .before .before .before .before .before .before .before .before .before .eval .kept .1 .1 .1 .1 .1 .1 .1 .0
+branch-same-length-11 t c = c .before .before .before .before .before .before .before .before .before .eval3 .kept .1 .1 .1 .1 .1 .1 .1
+    .0 ∙ c .before .before .before .before .before .before .before .before .before .before .before .before .before .before .before
+    .before .before .before .before .before .before .before .before .before .before .eval .kept .1 .1 .1 .1 .1 .1 .1 .0
 
 -- src/evaluate.rt:114:1
 branch-same-length-12 : (t : ℕ) → branch-lts.Need-same-length-12 (branch-claims t) (branch-at t) branch.Post
-branch-same-length-12 t c = c .before .before .before .before .before .before .before .before .before .eval3 .kept .1 .1 .1 .1 .1 .1 .1 .1 .0 ∙ c .before .before .before .before .before .before .before .before .before .before .before .before .before .before .before .before .before .before .before .before .before .before .before .before .before .eval .kept .1 .1 .1 .1 .1 .1 .1 .1 .0
+branch-same-length-12 t c = c .before .before .before .before .before .before .before .before .before .eval3 .kept .1 .1 .1 .1 .1 .1 .1
+    .1 .0 ∙ c .before .before .before .before .before .before .before .before .before .before .before .before .before .before .before
+    .before .before .before .before .before .before .before .before .before .before .eval .kept .1 .1 .1 .1 .1 .1 .1 .1 .0
 
 -- src/evaluate.rt:114:1
 branch-returns-4 : (t : ℕ) → branch-lts.Need-returns-4 (branch-claims t) (branch-at t) branch.Post
 branch-returns-4 t c =
-    then-yields (c .before .before .before .before .before .before .before .before .before .before .before .before .before .before .before .before .before .before .before .before .before .before .before .before .before .before .before .before .before .before .before .before .before .before .pre .1 .0) (c .before .before .before .before .before .before .before .before .before .before .before .before .before .before .before .before .before .before .before .before .before .before .before .before .before .before .before .before .before .before .before .before .before .before .pre .1 .1) (c .before .before .before .before .before .before .before .before .before .before .before .before .before .before .before .before .before .before .before .before .before .before .before .before .before .eval .ensures) (c .before .before .before .before .before .before .before .before .before .before .before .before .before .before .before .before .before .if1 .left) (c .before .before .before .before .before .before .before .before .before .before .before .before .before .if2 .left) (c .before .before .before .before .before .before .before .before .before .eval3 .ensures) (c .before .if3 .left) (c .past .ensures)
+    then-yields (c .before .before .before .before .before .before .before .before .before .before .before .before .before .before
+    .before .before .before .before .before .before .before .before .before .before .before .before .before .before .before .before
+    .before .before .before .before .pre .1 .0) (c .before .before .before .before .before .before .before .before .before .before
+    .before .before .before .before .before .before .before .before .before .before .before .before .before .before .before .before
+    .before .before .before .before .before .before .before .before .pre .1 .1) (c .before .before .before .before .before .before
+    .before .before .before .before .before .before .before .before .before .before .before .before .before .before .before .before
+    .before .before .before .eval .ensures) (c .before .before .before .before .before .before .before .before .before .before
+    .before .before .before .before .before .before .before .if1 .left) (c .before .before .before .before .before .before .before
+    .before .before .before .before .before .before .if2 .left) (c .before .before .before .before .before .before .before .before
+    .before .eval3 .ensures) (c .before .if3 .left) (c .past .ensures)
 
 -- src/evaluate.rt:271:17
 each-sub-count : (t : ℕ) → each-lts.Need-sub-count (each-claims t) (each-at t) each.Post
@@ -409,8 +557,11 @@ each-add-eval t c =
 -- src/evaluate.rt:274:13
 each-eval-requires : (t : ℕ) → each-lts.Need-eval-requires (each-claims t) (each-at t) each.Post
 each-eval-requires t c κs =
-    let m = c .before .before .before .before .before .before .before .before .before .before .pre .0 in
-    (omega (arith, m), body-asks (c .before .before .before .before .before .before .before .before .before .before .pre .1) (c .before .before .before .before .if1 .taken) (c .before .before .before .bind .ensures))
+    let m = c .before .before .before .before .before .before .before .before .before .before .pre .0 in (
+      omega (arith, m),
+      body-asks (c .before .before .before .before .before .before .before .before .before .before .pre .1) (c .before
+          .before .before .before .if1 .taken) (c .before .before .before .bind .ensures),
+    )
 
 -- src/evaluate.rt:288:13
 each-same-length : (t : ℕ) → each-lts.Need-same-length (each-claims t) (each-at t) each.Post
@@ -427,12 +578,20 @@ each-same-length-3 t c = c .before .before .before .before .before .before .befo
 -- src/evaluate.rt:288:13
 each-returns : (t : ℕ) → each-lts.Need-returns (each-claims t) (each-at t) each.Post
 each-returns t c =
-    item-stops (c .before .before .before .before .before .before .before .before .before .before .before .before .before .before .before .before .before .before .before .pre .1) (c .before .before .before .before .before .before .before .before .before .before .before .before .before .if1 .taken) (c .before .before .before .before .before .before .before .before .before .before .before .before .bind .ensures) (c .before .before .before .before .before .before .before .before .eval .ensures) (c .before .before .before .before .before .before .before .before .before .before .before .before .before .before .before .before .before .before .before .args .place) (c .if2 .taken)
+    item-stops (c .before .before .before .before .before .before .before .before .before .before .before .before .before .before .before
+    .before .before .before .before .pre .1) (c .before .before .before .before .before .before .before .before .before .before
+    .before .before .before .if1 .taken) (c .before .before .before .before .before .before .before .before .before .before .before
+    .before .bind .ensures) (c .before .before .before .before .before .before .before .before .eval .ensures) (c .before .before
+    .before .before .before .before .before .before .before .before .before .before .before .before .before .before .before .before
+    .before .args .place) (c .if2 .taken)
 
 -- src/evaluate.rt:290:9
 each-limited-requires : (t : ℕ) → each-lts.Need-limited-requires (each-claims t) (each-at t) each.Post
 each-limited-requires t c κs =
-    limit-asks (c .before .before .before .before .before .before .before .before .before .before .before .before .before .before .before .before .before .before .before .pre .1) (c .before .before .before .before .before .before .before .before .before .before .before .before .before .if1 .taken) (c .before .before .before .before .before .before .before .before .before .before .before .before .bind .ensures) (c .before .before .before .before .before .before .before .before .eval .ensures) (c .if2 .left)
+    limit-asks (c .before .before .before .before .before .before .before .before .before .before .before .before .before .before .before
+    .before .before .before .before .pre .1) (c .before .before .before .before .before .before .before .before .before .before
+    .before .before .before .if1 .taken) (c .before .before .before .before .before .before .before .before .before .before .before
+    .before .bind .ensures) (c .before .before .before .before .before .before .before .before .eval .ensures) (c .if2 .left)
 
 -- src/evaluate.rt:290:9
 each-same-length-4 : (t : ℕ) → each-lts.Need-same-length-4 (each-claims t) (each-at t) each.Post
@@ -449,7 +608,12 @@ each-same-length-6 t c = c .before .before .before .before .before .before .befo
 -- src/evaluate.rt:290:9
 each-returns-2 : (t : ℕ) → each-lts.Need-returns-2 (each-claims t) (each-at t) each.Post
 each-returns-2 t c =
-    item-yields (c .before .before .before .before .before .before .before .before .before .before .before .before .before .before .before .before .before .before .before .before .pre .1) (c .before .before .before .before .before .before .before .before .before .before .before .before .before .before .if1 .taken) (c .before .before .before .before .before .before .before .before .before .before .before .before .before .bind .ensures) (c .before .before .before .before .before .before .before .before .before .eval .ensures) (c .before .if2 .left) (c .before .before .before .before .before .before .before .before .before .before .before .before .before .before .before .before .before .before .before .before .args .place) (c .limited .ensures)
+    item-yields (c .before .before .before .before .before .before .before .before .before .before .before .before .before .before
+    .before .before .before .before .before .before .pre .1) (c .before .before .before .before .before .before .before .before
+    .before .before .before .before .before .before .if1 .taken) (c .before .before .before .before .before .before .before .before
+    .before .before .before .before .before .bind .ensures) (c .before .before .before .before .before .before .before .before
+    .before .eval .ensures) (c .before .if2 .left) (c .before .before .before .before .before .before .before .before .before .before
+    .before .before .before .before .before .before .before .before .before .before .args .place) (c .limited .ensures)
 
 -- src/evaluate.rt:292:16
 each-add-half : (t : ℕ) → each-lts.Need-add-half (each-claims t) (each-at t) each.Post
@@ -461,8 +625,11 @@ each-add-half t c =
 each-each-requires : (t : ℕ) → each-lts.Need-each-requires (each-claims t) (each-at t) each.Post
 each-each-requires t c κs =
     let m = c .before .before .before .before .before .before .before .before .before .pre .0 in
-    let s = c .before .before .before .before .before .before .before .before .before .pre .1 .some in
-    (omega (arith, m, s, c .before .before .before .if1 .left), half-asks (c .before .before .before .before .before .before .before .before .before .pre .1) (c .before .before .before .if1 .left))
+    let s = c .before .before .before .before .before .before .before .before .before .pre .1 .some in (
+      omega (arith, m, s, c .before .before .before .if1 .left),
+      half-asks (c .before .before .before .before .before .before .before
+          .before .before .pre .1) (c .before .before .before .if1 .left),
+    )
 
 -- src/evaluate.rt:311:9
 each-same-length-7 : (t : ℕ) → each-lts.Need-same-length-7 (each-claims t) (each-at t) each.Post
@@ -479,31 +646,65 @@ each-same-length-9 t c = c .before .before .before .before .before .before .befo
 -- src/evaluate.rt:311:9
 each-returns-3 : (t : ℕ) → each-lts.Need-returns-3 (each-claims t) (each-at t) each.Post
 each-returns-3 t c =
-    half-stops (c .before .before .before .before .before .before .before .before .before .before .before .before .before .before .before .before .before .before .pre .1) (c .before .before .before .before .before .before .before .before .before .before .before .before .if1 .left) (c .before .before .before .before .before .before .before .before .before .before .before .before .before .before .before .before .before .before .args .place) (c .before .before .before .before .before .before .before .before .each .ensures) (c .if3 .taken)
+    half-stops (c .before .before .before .before .before .before .before .before .before .before .before .before .before .before .before
+    .before .before .before .pre .1) (c .before .before .before .before .before .before .before .before .before .before .before
+    .before .if1 .left) (c .before .before .before .before .before .before .before .before .before .before .before .before .before
+    .before .before .before .before .before .args .place) (c .before .before .before .before .before .before .before .before .each
+    .ensures) (c .if3 .taken)
 
 -- src/evaluate.rt:315:5
 each-each-requires-2 : (t : ℕ) → each-lts.Need-each-requires-2 (each-claims t) (each-at t) each.Post
 each-each-requires-2 t c κs =
-    let m = c .before .before .before .before .before .before .before .before .before .before .before .before .before .before .before .before .before .before .before .before .before .before .before .pre .0 in
-    let s = c .before .before .before .before .before .before .before .before .before .before .before .before .before .before .before .before .before .before .before .before .before .before .before .pre .1 .some in
-    (omega (arith, m, s, c .before .before .before .before .before .before .before .before .before .before .before .before .before .before .before .before .before .if1 .left), rest-asks (c .before .before .before .before .before .before .before .before .before .before .before .before .before .before .before .before .before .before .before .before .before .before .before .pre .1) (c .before .before .before .before .before .before .before .before .before .before .before .before .before .before .before .before .before .if1 .left) (c .before .before .before .before .before .before .before .before .before .before .before .before .before .before .before .before .before .before .before .before .before .before .before .args .place) (c .before .before .before .before .before .before .before .before .before .before .before .before .before .each .ensures) (c .before .before .before .before .before .if3 .left))
+    let m = c .before .before .before .before .before .before .before .before .before .before .before .before .before .before .before
+    .before .before .before .before .before .before .before .before .pre .0 in
+    let s = c .before .before .before .before .before .before .before .before .before .before .before .before .before .before .before
+    .before .before .before .before .before .before .before .before .pre .1 .some in (
+      omega (
+        arith,
+        m,
+        s,
+        c .before .before .before .before .before .before .before .before .before .before .before .before .before
+            .before .before .before .before .if1 .left,
+      ),
+      rest-asks (c .before .before .before .before .before .before .before .before .before
+          .before .before .before .before .before .before .before .before .before .before .before .before .before .before .pre .1) (c
+          .before .before .before .before .before .before .before .before .before .before .before .before .before .before .before .before
+          .before .if1 .left) (c .before .before .before .before .before .before .before .before .before .before .before .before .before
+          .before .before .before .before .before .before .before .before .before .before .args .place) (c .before .before .before .before
+          .before .before .before .before .before .before .before .before .before .each .ensures) (c .before .before .before .before
+          .before .if3 .left),
+    )
 
 -- src/evaluate.rt:250:1
 each-same-length-10 : (t : ℕ) → each-lts.Need-same-length-10 (each-claims t) (each-at t) each.Post
-each-same-length-10 t c = c .before .before .before .before .before .before .each2 .kept .1 .1 .1 .1 .1 .1 .1 .0 ∙ c .before .before .before .before .before .before .before .before .before .before .before .before .before .before .before .before .before .before .before .before .each .kept .1 .1 .1 .1 .1 .1 .1 .0
+each-same-length-10 t c = c .before .before .before .before .before .before .each2 .kept .1 .1 .1 .1 .1 .1 .1 .0 ∙ c .before .before
+    .before .before .before .before .before .before .before .before .before .before .before .before .before .before .before .before
+    .before .before .each .kept .1 .1 .1 .1 .1 .1 .1 .0
 
 -- src/evaluate.rt:250:1
 each-same-length-11 : (t : ℕ) → each-lts.Need-same-length-11 (each-claims t) (each-at t) each.Post
-each-same-length-11 t c = c .before .before .before .before .before .before .each2 .kept .1 .1 .1 .1 .1 .1 .1 .1 .0 ∙ c .before .before .before .before .before .before .before .before .before .before .before .before .before .before .before .before .before .before .before .before .each .kept .1 .1 .1 .1 .1 .1 .1 .1 .0
+each-same-length-11 t c = c .before .before .before .before .before .before .each2 .kept .1 .1 .1 .1 .1 .1 .1 .1 .0 ∙ c .before .before
+    .before .before .before .before .before .before .before .before .before .before .before .before .before .before .before .before
+    .before .before .each .kept .1 .1 .1 .1 .1 .1 .1 .1 .0
 
 -- src/evaluate.rt:250:1
 each-same-length-12 : (t : ℕ) → each-lts.Need-same-length-12 (each-claims t) (each-at t) each.Post
-each-same-length-12 t c = c .before .before .before .before .before .before .each2 .kept .1 .1 .1 .1 .1 .1 .1 .1 .1 .0 ∙ c .before .before .before .before .before .before .before .before .before .before .before .before .before .before .before .before .before .before .before .before .each .kept .1 .1 .1 .1 .1 .1 .1 .1 .1 .0
+each-same-length-12 t c = c .before .before .before .before .before .before .each2 .kept .1 .1 .1 .1 .1 .1 .1 .1 .1 .0 ∙ c .before
+    .before .before .before .before .before .before .before .before .before .before .before .before .before .before .before .before
+    .before .before .before .each .kept .1 .1 .1 .1 .1 .1 .1 .1 .1 .0
 
 -- src/evaluate.rt:250:1
 each-returns-4 : (t : ℕ) → each-lts.Need-returns-4 (each-claims t) (each-at t) each.Post
 each-returns-4 t c =
-    rest-yields (c .before .before .before .before .before .before .before .before .before .before .before .before .before .before .before .before .before .before .before .before .before .before .before .before .before .before .before .before .before .before .pre .1) (c .before .before .before .before .before .before .before .before .before .before .before .before .before .before .before .before .before .before .before .before .before .before .before .before .if1 .left) (c .before .before .before .before .before .before .before .before .before .before .before .before .before .before .before .before .before .before .before .before .before .before .before .before .before .before .before .before .before .before .args .place) (c .before .before .before .before .before .before .before .before .before .before .before .before .before .before .before .before .before .before .before .before .each .ensures) (c .before .before .before .before .before .before .before .before .before .before .before .before .if3 .left) (c .before .before .before .before .before .before .each2 .ensures)
+    rest-yields (c .before .before .before .before .before .before .before .before .before .before .before .before .before .before
+    .before .before .before .before .before .before .before .before .before .before .before .before .before .before .before .before
+    .pre .1) (c .before .before .before .before .before .before .before .before .before .before .before .before .before .before
+    .before .before .before .before .before .before .before .before .before .before .if1 .left) (c .before .before .before .before
+    .before .before .before .before .before .before .before .before .before .before .before .before .before .before .before .before
+    .before .before .before .before .before .before .before .before .before .before .args .place) (c .before .before .before .before
+    .before .before .before .before .before .before .before .before .before .before .before .before .before .before .before .before
+    .each .ensures) (c .before .before .before .before .before .before .before .before .before .before .before .before .if3 .left) (c
+    .before .before .before .before .before .before .each2 .ensures)
 
 -- src/evaluate.rt:352:16
 eval-shared-slice-read-kind : (t : ℕ) → eval-lts.Need-shared-slice-read-kind (eval-claims t) (eval-at t) eval.Post
@@ -518,8 +719,11 @@ eval-arity-requires t c κs =
 
 -- src/evaluate.rt:355:9
 eval-nullary-requires : (t : ℕ) → eval-lts.Need-nullary-requires (eval-claims t) (eval-at t) eval.Post
-eval-nullary-requires t c κs =
-    (c .before .before .before .before .before .before .before .before .before .before .before .pre .1, sym (c .before .before .before .before .arity .ensures .0) ∙ c .before .before .before .if1 .taken)
+eval-nullary-requires t c κs = (
+  c .before .before .before .before .before .before .before .before .before .before .before .pre .1,
+  sym (c .before .before .before
+      .before .arity .ensures .0) ∙ c .before .before .before .if1 .taken,
+)
 
 -- src/evaluate.rt:355:9
 eval-same-length : (t : ℕ) → eval-lts.Need-same-length (eval-claims t) (eval-at t) eval.Post
@@ -541,8 +745,14 @@ eval-returns t c =
 -- src/evaluate.rt:370:9
 eval-unary-requires : (t : ℕ) → eval-lts.Need-unary-requires (eval-claims t) (eval-at t) eval.Post
 eval-unary-requires t c κs =
-    let m = c .before .before .before .before .before .before .before .before .before .before .before .before .pre .0 in
-    (omega (arith, m), (c .before .before .before .before .before .before .before .before .before .before .before .before .pre .1, sym (c .before .before .before .before .before .arity .ensures .0) ∙ c .before .before .before .if2 .taken))
+    let m = c .before .before .before .before .before .before .before .before .before .before .before .before .pre .0 in (
+      omega (arith, m),
+      (
+        c .before .before .before .before .before .before .before .before .before .before .before .before .pre .1,
+        sym (c
+            .before .before .before .before .before .arity .ensures .0) ∙ c .before .before .before .if2 .taken,
+      ),
+    )
 
 -- src/evaluate.rt:370:9
 eval-same-length-4 : (t : ℕ) → eval-lts.Need-same-length-4 (eval-claims t) (eval-at t) eval.Post
@@ -564,8 +774,14 @@ eval-returns-2 t c =
 -- src/evaluate.rt:385:9
 eval-branch-requires : (t : ℕ) → eval-lts.Need-branch-requires (eval-claims t) (eval-at t) eval.Post
 eval-branch-requires t c κs =
-    let m = c .before .before .before .before .before .before .before .before .before .before .before .before .before .pre .0 in
-    (omega (arith, m), (c .before .before .before .before .before .before .before .before .before .before .before .before .before .pre .1, c .before .before .before .if3 .taken))
+    let m = c .before .before .before .before .before .before .before .before .before .before .before .before .before .pre .0 in (
+      omega (arith, m),
+      (
+        c .before .before .before .before .before .before .before .before .before .before .before .before .before .pre
+            .1,
+        c .before .before .before .if3 .taken,
+      ),
+    )
 
 -- src/evaluate.rt:385:9
 eval-same-length-7 : (t : ℕ) → eval-lts.Need-same-length-7 (eval-claims t) (eval-at t) eval.Post
@@ -587,8 +803,14 @@ eval-returns-3 t c =
 -- src/evaluate.rt:400:9
 eval-iterate-requires : (t : ℕ) → eval-lts.Need-iterate-requires (eval-claims t) (eval-at t) eval.Post
 eval-iterate-requires t c κs =
-    let m = c .before .before .before .before .before .before .before .before .before .before .before .before .before .before .pre .0 in
-    (omega (arith, m), (c .before .before .before .before .before .before .before .before .before .before .before .before .before .before .pre .1, c .before .before .before .if4 .taken))
+    let m = c .before .before .before .before .before .before .before .before .before .before .before .before .before .before .pre .0 in (
+      omega (arith, m),
+      (
+        c .before .before .before .before .before .before .before .before .before .before .before .before .before .before
+            .pre .1,
+        c .before .before .before .if4 .taken,
+      ),
+    )
 
 -- src/evaluate.rt:400:9
 eval-same-length-10 : (t : ℕ) → eval-lts.Need-same-length-10 (eval-claims t) (eval-at t) eval.Post
@@ -611,8 +833,18 @@ eval-returns-4 t c =
 eval-binary-requires : (t : ℕ) → eval-lts.Need-binary-requires (eval-claims t) (eval-at t) eval.Post
 eval-binary-requires t c κs =
     let m = c .before .before .before .before .before .before .before .before .before .before .before .before .before .before .pre .0 in
-    let z = is-binary (c .before .before .before .before .before .before .before .before .before .before .before .before .before .before .pre .1) (λ e. c .before .before .before .before .before .before .if1 .left (c .before .before .before .before .before .before .before .arity .ensures .0 ∙ e)) (λ e. c .before .before .before .before .before .if2 .left (c .before .before .before .before .before .before .before .arity .ensures .0 ∙ e)) (c .before .before .before .before .if3 .left) (c .before .before .before .if4 .left) in
-    (omega (arith, m), (c .before .before .before .before .before .before .before .before .before .before .before .before .before .before .pre .1, z))
+    let z = is-binary (c .before .before .before .before .before .before .before .before .before .before .before .before .before .before
+    .pre .1) (λ e. c .before .before .before .before .before .before .if1 .left (c .before .before .before .before .before .before
+    .before .arity .ensures .0 ∙ e)) (λ e. c .before .before .before .before .before .if2 .left (c .before .before .before .before
+    .before .before .before .arity .ensures .0 ∙ e)) (c .before .before .before .before .if3 .left) (c .before .before .before .if4
+    .left) in (
+      omega (arith, m),
+      (
+        c .before .before .before .before .before .before .before .before .before .before .before .before .before .before
+            .pre .1,
+        z,
+      ),
+    )
 
 -- src/evaluate.rt:335:1
 eval-same-length-13 : (t : ℕ) → eval-lts.Need-same-length-13 (eval-claims t) (eval-at t) eval.Post
@@ -646,8 +878,11 @@ iterate-sub-eval t c =
 iterate-eval-requires : (t : ℕ) → iterate-lts.Need-eval-requires (iterate-claims t) (iterate-at t) iterate.Post
 iterate-eval-requires t c κs =
     let d = deep (c .before .before .before .before .before .before .before .before .pre .1 .0) in
-    let m = c .before .before .before .before .before .before .before .before .pre .0 in
-    (omega (arith, d, m), for-first (c .before .before .before .before .before .before .before .before .pre .1 .0) (c .before .before .before .before .before .before .before .before .pre .1 .1))
+    let m = c .before .before .before .before .before .before .before .before .pre .0 in (
+      omega (arith, d, m),
+      for-first (c .before .before .before .before .before .before .before .before .pre .1 .0) (c .before .before
+          .before .before .before .before .before .before .pre .1 .1),
+    )
 
 -- src/evaluate.rt:218:9
 iterate-same-length : (t : ℕ) → iterate-lts.Need-same-length (iterate-claims t) (iterate-at t) iterate.Post
@@ -664,7 +899,10 @@ iterate-same-length-3 t c = c .before .before .before .before .before .before .b
 -- src/evaluate.rt:218:9
 iterate-returns : (t : ℕ) → iterate-lts.Need-returns (iterate-claims t) (iterate-at t) iterate.Post
 iterate-returns t c =
-    for-stops (c .before .before .before .before .before .before .before .before .before .before .before .before .before .before .before .before .before .pre .1 .0) (c .before .before .before .before .before .before .before .before .before .before .before .before .before .before .before .before .before .pre .1 .1) (c .before .before .before .before .before .before .before .before .eval .ensures) (c .if1 .taken)
+    for-stops (c .before .before .before .before .before .before .before .before .before .before .before .before .before .before .before
+    .before .before .pre .1 .0) (c .before .before .before .before .before .before .before .before .before .before .before .before
+    .before .before .before .before .before .pre .1 .1) (c .before .before .before .before .before .before .before .before .eval
+    .ensures) (c .if1 .taken)
 
 -- src/evaluate.rt:224:9
 iterate-past-requires : (t : ℕ) → iterate-lts.Need-past-requires (iterate-claims t) (iterate-at t) iterate.Post
@@ -673,72 +911,141 @@ iterate-past-requires t c κs =
 
 -- src/evaluate.rt:224:9
 iterate-same-length-4 : (t : ℕ) → iterate-lts.Need-same-length-4 (iterate-claims t) (iterate-at t) iterate.Post
-iterate-same-length-4 t c = c .before .before .before .before .before .before .before .before .before .before .before .before .eval .kept .1 .1 .1 .1 .1 .1 .0
+iterate-same-length-4 t c = c .before .before .before .before .before .before .before .before .before .before .before .before .eval .kept
+    .1 .1 .1 .1 .1 .1 .0
 
 -- src/evaluate.rt:224:9
 iterate-same-length-5 : (t : ℕ) → iterate-lts.Need-same-length-5 (iterate-claims t) (iterate-at t) iterate.Post
-iterate-same-length-5 t c = c .before .before .before .before .before .before .before .before .before .before .before .before .eval .kept .1 .1 .1 .1 .1 .1 .1 .0
+iterate-same-length-5 t c = c .before .before .before .before .before .before .before .before .before .before .before .before .eval .kept
+    .1 .1 .1 .1 .1 .1 .1 .0
 
 -- src/evaluate.rt:224:9
 iterate-same-length-6 : (t : ℕ) → iterate-lts.Need-same-length-6 (iterate-claims t) (iterate-at t) iterate.Post
-iterate-same-length-6 t c = c .before .before .before .before .before .before .before .before .before .before .before .before .eval .kept .1 .1 .1 .1 .1 .1 .1 .1 .0
+iterate-same-length-6 t c = c .before .before .before .before .before .before .before .before .before .before .before .before .eval .kept
+    .1 .1 .1 .1 .1 .1 .1 .1 .0
 
 -- src/evaluate.rt:224:9
 iterate-returns-2 : (t : ℕ) → iterate-lts.Need-returns-2 (iterate-claims t) (iterate-at t) iterate.Post
 iterate-returns-2 t c =
-    for-none (c .before .before .before .before .before .before .before .before .before .before .before .before .before .before .before .before .before .before .before .before .before .pre .1 .0) (c .before .before .before .before .before .before .before .before .before .before .before .before .before .before .before .before .before .before .before .before .before .pre .1 .1) (c .before .before .before .before .before .before .before .before .before .before .before .before .eval .ensures) (c .before .before .before .before .if1 .left) (c .before .if2 .taken) (c .past .ensures)
+    for-none (c .before .before .before .before .before .before .before .before .before .before .before .before .before .before .before
+    .before .before .before .before .before .before .pre .1 .0) (c .before .before .before .before .before .before .before .before
+    .before .before .before .before .before .before .before .before .before .before .before .before .before .pre .1 .1) (c .before
+    .before .before .before .before .before .before .before .before .before .before .before .eval .ensures) (c .before .before
+    .before .before .if1 .left) (c .before .if2 .taken) (c .past .ensures)
 
 -- src/evaluate.rt:230:9
 iterate-sub-each : (t : ℕ) → iterate-lts.Need-sub-each (iterate-claims t) (iterate-at t) iterate.Post
 iterate-sub-each t c =
-    deep (c .before .before .before .before .before .before .before .before .before .before .before .before .before .before .before .before .before .before .before .before .pre .1 .0)
+    deep (c .before .before .before .before .before .before .before .before .before .before .before .before .before .before .before
+    .before .before .before .before .before .pre .1 .0)
 
 -- src/evaluate.rt:226:9
 iterate-each-requires : (t : ℕ) → iterate-lts.Need-each-requires (iterate-claims t) (iterate-at t) iterate.Post
 iterate-each-requires t c κs =
-    let d = deep (c .before .before .before .before .before .before .before .before .before .before .before .before .before .before .before .before .before .before .before .before .before .before .before .pre .1 .0) in
-    let m = c .before .before .before .before .before .before .before .before .before .before .before .before .before .before .before .before .before .before .before .before .before .before .before .pre .0 in
-    let s = good (c .before .before .before .before .before .before .before .before .before .before .before .before .before .before .before .before .before .before .before .before .before .before .before .pre .1 .0) (c .before .before .before .before .before .before .before .before .before .before .before .before .before .before .before .before .before .before .before .before .before .before .before .args .at + 1) (c .before .before .before .before .before .before .before .before .before .before .before .before .before .before .eval .ensures) (c .before .before .before .before .before .before .if1 .left) .short in
-    (omega (arith, d, m, s), each-asks (c .before .before .before .before .before .before .before .before .before .before .before .before .before .before .before .before .before .before .before .before .before .before .before .pre .1 .0) (c .before .before .before .before .before .before .before .before .before .before .before .before .before .before .before .before .before .before .before .before .before .before .before .pre .1 .1) (c .before .before .before .before .before .before .before .before .before .before .before .before .before .before .eval .ensures) (c .before .before .before .before .before .before .if1 .left) (c .before .before .before .if2 .left))
+    let d = deep (c .before .before .before .before .before .before .before .before .before .before .before .before .before .before
+    .before .before .before .before .before .before .before .before .before .pre .1 .0) in
+    let m = c .before .before .before .before .before .before .before .before .before .before .before .before .before .before .before
+    .before .before .before .before .before .before .before .before .pre .0 in
+    let s = good (c .before .before .before .before .before .before .before .before .before .before .before .before .before .before
+    .before .before .before .before .before .before .before .before .before .pre .1 .0) (c .before .before .before .before .before
+    .before .before .before .before .before .before .before .before .before .before .before .before .before .before .before .before
+    .before .before .args .at + 1) (c .before .before .before .before .before .before .before .before .before .before .before .before
+    .before .before .eval .ensures) (c .before .before .before .before .before .before .if1 .left) .short in (
+      omega (arith, d, m, s),
+      each-asks (c .before .before .before .before .before .before .before .before .before .before .before .before
+          .before .before .before .before .before .before .before .before .before .before .before .pre .1 .0) (c .before .before .before
+          .before .before .before .before .before .before .before .before .before .before .before .before .before .before .before .before
+          .before .before .before .before .pre .1 .1) (c .before .before .before .before .before .before .before .before .before .before
+          .before .before .before .before .eval .ensures) (c .before .before .before .before .before .before .if1 .left) (c .before .before
+          .before .if2 .left),
+    )
 
 -- src/evaluate.rt:244:9
 iterate-same-length-7 : (t : ℕ) → iterate-lts.Need-same-length-7 (iterate-claims t) (iterate-at t) iterate.Post
-iterate-same-length-7 t c = c .before .before .before .before .before .before .before .before .each .kept .1 .1 .1 .1 .1 .1 .1 .0 ∙ c .before .before .before .before .before .before .before .before .before .before .before .before .before .before .before .before .before .before .before .before .before .before .before .eval .kept .1 .1 .1 .1 .1 .1 .0
+iterate-same-length-7 t c = c .before .before .before .before .before .before .before .before .each .kept .1 .1 .1 .1 .1 .1 .1 .0 ∙ c
+    .before .before .before .before .before .before .before .before .before .before .before .before .before .before .before .before
+    .before .before .before .before .before .before .before .eval .kept .1 .1 .1 .1 .1 .1 .0
 
 -- src/evaluate.rt:244:9
 iterate-same-length-8 : (t : ℕ) → iterate-lts.Need-same-length-8 (iterate-claims t) (iterate-at t) iterate.Post
-iterate-same-length-8 t c = c .before .before .before .before .before .before .before .before .each .kept .1 .1 .1 .1 .1 .1 .1 .1 .0 ∙ c .before .before .before .before .before .before .before .before .before .before .before .before .before .before .before .before .before .before .before .before .before .before .before .eval .kept .1 .1 .1 .1 .1 .1 .1 .0
+iterate-same-length-8 t c = c .before .before .before .before .before .before .before .before .each .kept .1 .1 .1 .1 .1 .1 .1 .1 .0 ∙ c
+    .before .before .before .before .before .before .before .before .before .before .before .before .before .before .before .before
+    .before .before .before .before .before .before .before .eval .kept .1 .1 .1 .1 .1 .1 .1 .0
 
 -- src/evaluate.rt:244:9
 iterate-same-length-9 : (t : ℕ) → iterate-lts.Need-same-length-9 (iterate-claims t) (iterate-at t) iterate.Post
-iterate-same-length-9 t c = c .before .before .before .before .before .before .before .before .each .kept .1 .1 .1 .1 .1 .1 .1 .1 .1 .0 ∙ c .before .before .before .before .before .before .before .before .before .before .before .before .before .before .before .before .before .before .before .before .before .before .before .eval .kept .1 .1 .1 .1 .1 .1 .1 .1 .0
+iterate-same-length-9 t c = c .before .before .before .before .before .before .before .before .each .kept .1 .1 .1 .1 .1 .1 .1 .1 .1 .0 ∙
+    c .before .before .before .before .before .before .before .before .before .before .before .before .before .before .before .before
+    .before .before .before .before .before .before .before .eval .kept .1 .1 .1 .1 .1 .1 .1 .1 .0
 
 -- src/evaluate.rt:244:9
 iterate-returns-3 : (t : ℕ) → iterate-lts.Need-returns-3 (iterate-claims t) (iterate-at t) iterate.Post
 iterate-returns-3 t c =
-    items-stop (c .before .before .before .before .before .before .before .before .before .before .before .before .before .before .before .before .before .before .before .before .before .before .before .before .before .before .before .before .before .before .before .before .pre .1 .0) (c .before .before .before .before .before .before .before .before .before .before .before .before .before .before .before .before .before .before .before .before .before .before .before .before .before .before .before .before .before .before .before .before .pre .1 .1) (c .before .before .before .before .before .before .before .before .before .before .before .before .before .before .before .before .before .before .before .before .before .before .before .eval .ensures) (c .before .before .before .before .before .before .before .before .before .before .before .before .before .before .before .if1 .left) (c .before .before .before .before .before .before .before .before .before .before .before .before .if2 .left) (c .before .before .before .before .before .before .before .before .each .ensures) (c .if3 .taken)
+    items-stop (c .before .before .before .before .before .before .before .before .before .before .before .before .before .before .before
+    .before .before .before .before .before .before .before .before .before .before .before .before .before .before .before .before
+    .before .pre .1 .0) (c .before .before .before .before .before .before .before .before .before .before .before .before .before
+    .before .before .before .before .before .before .before .before .before .before .before .before .before .before .before .before
+    .before .before .before .pre .1 .1) (c .before .before .before .before .before .before .before .before .before .before .before
+    .before .before .before .before .before .before .before .before .before .before .before .before .eval .ensures) (c .before
+    .before .before .before .before .before .before .before .before .before .before .before .before .before .before .if1 .left) (c
+    .before .before .before .before .before .before .before .before .before .before .before .before .if2 .left) (c .before .before
+    .before .before .before .before .before .before .each .ensures) (c .if3 .taken)
 
 -- src/evaluate.rt:246:5
 iterate-combined-requires : (t : ℕ) → iterate-lts.Need-combined-requires (iterate-claims t) (iterate-at t) iterate.Post
 iterate-combined-requires t c κs =
-    close-asks (c .before .before .before .before .before .before .before .before .before .before .before .before .before .before .before .before .before .before .before .before .before .before .before .before .before .before .before .before .before .before .before .before .before .before .before .pre .1 .0) (c .before .before .before .before .before .before .before .before .before .before .before .before .before .before .before .before .before .before .before .before .before .before .before .before .before .before .before .before .before .before .before .before .before .before .before .pre .1 .1) (c .before .before .before .before .before .before .before .before .before .before .before .before .before .before .before .before .before .before .before .before .before .before .before .before .before .before .eval .ensures) (c .before .before .before .before .before .before .before .before .before .before .before .before .before .before .before .before .before .before .if1 .left) (c .before .before .before .before .before .before .before .before .before .before .before .before .before .before .before .if2 .left) (c .before .before .before .before .before .before .before .before .before .before .before .each .ensures) (c .before .before .before .if3 .left)
+    close-asks (c .before .before .before .before .before .before .before .before .before .before .before .before .before .before .before
+    .before .before .before .before .before .before .before .before .before .before .before .before .before .before .before .before
+    .before .before .before .before .pre .1 .0) (c .before .before .before .before .before .before .before .before .before .before
+    .before .before .before .before .before .before .before .before .before .before .before .before .before .before .before .before
+    .before .before .before .before .before .before .before .before .before .pre .1 .1) (c .before .before .before .before .before
+    .before .before .before .before .before .before .before .before .before .before .before .before .before .before .before .before
+    .before .before .before .before .before .eval .ensures) (c .before .before .before .before .before .before .before .before
+    .before .before .before .before .before .before .before .before .before .before .if1 .left) (c .before .before .before .before
+    .before .before .before .before .before .before .before .before .before .before .before .if2 .left) (c .before .before .before
+    .before .before .before .before .before .before .before .before .each .ensures) (c .before .before .before .if3 .left)
 
 -- src/evaluate.rt:186:1
 iterate-same-length-10 : (t : ℕ) → iterate-lts.Need-same-length-10 (iterate-claims t) (iterate-at t) iterate.Post
-iterate-same-length-10 t c = c .before .before .before .before .before .before .combined .kept .1 .1 .0 ∙ c .before .before .before .before .before .before .before .before .before .before .before .before .before .before .before .before .before .before .each .kept .1 .1 .1 .1 .1 .1 .1 .0 ∙ c .before .before .before .before .before .before .before .before .before .before .before .before .before .before .before .before .before .before .before .before .before .before .before .before .before .before .before .before .before .before .before .before .before .eval .kept .1 .1 .1 .1 .1 .1 .0
+iterate-same-length-10 t c = c .before .before .before .before .before .before .combined .kept .1 .1 .0 ∙ c .before .before .before
+    .before .before .before .before .before .before .before .before .before .before .before .before .before .before .before .each .kept
+    .1 .1 .1 .1 .1 .1 .1 .0 ∙ c .before .before .before .before .before .before .before .before .before .before .before .before .before
+    .before .before .before .before .before .before .before .before .before .before .before .before .before .before .before .before
+    .before .before .before .before .eval .kept .1 .1 .1 .1 .1 .1 .0
 
 -- src/evaluate.rt:186:1
 iterate-same-length-11 : (t : ℕ) → iterate-lts.Need-same-length-11 (iterate-claims t) (iterate-at t) iterate.Post
-iterate-same-length-11 t c = c .before .before .before .before .before .before .combined .kept .1 .1 .1 .0 ∙ c .before .before .before .before .before .before .before .before .before .before .before .before .before .before .before .before .before .before .each .kept .1 .1 .1 .1 .1 .1 .1 .1 .0 ∙ c .before .before .before .before .before .before .before .before .before .before .before .before .before .before .before .before .before .before .before .before .before .before .before .before .before .before .before .before .before .before .before .before .before .eval .kept .1 .1 .1 .1 .1 .1 .1 .0
+iterate-same-length-11 t c = c .before .before .before .before .before .before .combined .kept .1 .1 .1 .0 ∙ c .before .before .before
+    .before .before .before .before .before .before .before .before .before .before .before .before .before .before .before .each .kept
+    .1 .1 .1 .1 .1 .1 .1 .1 .0 ∙ c .before .before .before .before .before .before .before .before .before .before .before .before
+    .before .before .before .before .before .before .before .before .before .before .before .before .before .before .before .before
+    .before .before .before .before .before .eval .kept .1 .1 .1 .1 .1 .1 .1 .0
 
 -- src/evaluate.rt:186:1
 iterate-same-length-12 : (t : ℕ) → iterate-lts.Need-same-length-12 (iterate-claims t) (iterate-at t) iterate.Post
-iterate-same-length-12 t c = c .before .before .before .before .before .before .combined .kept .1 .1 .1 .1 .0 ∙ c .before .before .before .before .before .before .before .before .before .before .before .before .before .before .before .before .before .before .each .kept .1 .1 .1 .1 .1 .1 .1 .1 .1 .0 ∙ c .before .before .before .before .before .before .before .before .before .before .before .before .before .before .before .before .before .before .before .before .before .before .before .before .before .before .before .before .before .before .before .before .before .eval .kept .1 .1 .1 .1 .1 .1 .1 .1 .0
+iterate-same-length-12 t c = c .before .before .before .before .before .before .combined .kept .1 .1 .1 .1 .0 ∙ c .before .before .before
+    .before .before .before .before .before .before .before .before .before .before .before .before .before .before .before .each .kept
+    .1 .1 .1 .1 .1 .1 .1 .1 .1 .0 ∙ c .before .before .before .before .before .before .before .before .before .before .before .before
+    .before .before .before .before .before .before .before .before .before .before .before .before .before .before .before .before
+    .before .before .before .before .before .eval .kept .1 .1 .1 .1 .1 .1 .1 .1 .0
 
 -- src/evaluate.rt:186:1
 iterate-returns-4 : (t : ℕ) → iterate-lts.Need-returns-4 (iterate-claims t) (iterate-at t) iterate.Post
 iterate-returns-4 t c =
-    close-yields (c .before .before .before .before .before .before .before .before .before .before .before .before .before .before .before .before .before .before .before .before .before .before .before .before .before .before .before .before .before .before .before .before .before .before .before .before .before .before .before .before .before .before .pre .1 .0) (c .before .before .before .before .before .before .before .before .before .before .before .before .before .before .before .before .before .before .before .before .before .before .before .before .before .before .before .before .before .before .before .before .before .before .before .before .before .before .before .before .before .before .pre .1 .1) (c .before .before .before .before .before .before .before .before .before .before .before .before .before .before .before .before .before .before .before .before .before .before .before .before .before .before .before .before .before .before .before .before .before .eval .ensures) (c .before .before .before .before .before .before .before .before .before .before .before .before .before .before .before .before .before .before .before .before .before .before .before .before .before .if1 .left) (c .before .before .before .before .before .before .before .before .before .before .before .before .before .before .before .before .before .before .before .before .before .before .if2 .left) (c .before .before .before .before .before .before .before .before .before .before .before .before .before .before .before .before .before .before .each .ensures) (c .before .before .before .before .before .before .before .before .before .before .if3 .left) (c .before .before .before .before .before .before .combined .ensures)
+    close-yields (c .before .before .before .before .before .before .before .before .before .before .before .before .before .before
+    .before .before .before .before .before .before .before .before .before .before .before .before .before .before .before .before
+    .before .before .before .before .before .before .before .before .before .before .before .before .pre .1 .0) (c .before .before
+    .before .before .before .before .before .before .before .before .before .before .before .before .before .before .before .before
+    .before .before .before .before .before .before .before .before .before .before .before .before .before .before .before .before
+    .before .before .before .before .before .before .before .before .pre .1 .1) (c .before .before .before .before .before .before
+    .before .before .before .before .before .before .before .before .before .before .before .before .before .before .before .before
+    .before .before .before .before .before .before .before .before .before .before .before .eval .ensures) (c .before .before
+    .before .before .before .before .before .before .before .before .before .before .before .before .before .before .before .before
+    .before .before .before .before .before .before .before .if1 .left) (c .before .before .before .before .before .before .before
+    .before .before .before .before .before .before .before .before .before .before .before .before .before .before .before .if2
+    .left) (c .before .before .before .before .before .before .before .before .before .before .before .before .before .before .before
+    .before .before .before .each .ensures) (c .before .before .before .before .before .before .before .before .before .before .if3
+    .left) (c .before .before .before .before .before .before .combined .ensures)
 
 -- src/evaluate.rt:34:47
 unary-shared-slice-read-body-size : (t : ℕ) → unary-lts.Need-shared-slice-read-body-size (unary-claims t) (unary-at t) unary.Post
@@ -771,8 +1078,14 @@ unary-sub-eval t c =
 unary-eval-requires : (t : ℕ) → unary-lts.Need-eval-requires (unary-claims t) (unary-at t) unary.Post
 unary-eval-requires t c κs =
     let d = deep (c .before .before .before .before .before .before .before .before .before .before .pre .1 .0) in
-    let m = c .before .before .before .before .before .before .before .before .before .before .pre .0 in
-    (omega (arith, d, m), unary-first (c .before .before .before .before .before .before .before .before .before .before .pre .1 .0) (c .before .before .before .before .before .before .before .before .before .before .pre .1 .1) (c .before .before .before .before .before .before .before .before .before .before .args .at + (1 + c .before .before .before .body-size .result)) (ap (λ (s : ℕ). c .before .before .before .before .before .before .before .before .before .before .args .at + (1 + s)) (c .before .before .before .body-size .ensures .0)))
+    let m = c .before .before .before .before .before .before .before .before .before .before .pre .0 in (
+      omega (arith, d, m),
+      unary-first (c .before .before .before .before .before .before .before .before .before .before .pre .1 .0) (c
+          .before .before .before .before .before .before .before .before .before .before .pre .1 .1) (c .before .before .before .before
+          .before .before .before .before .before .before .args .at + (1 + c .before .before .before .body-size .result)) (ap (λ (s : ℕ). c
+          .before .before .before .before .before .before .before .before .before .before .args .at + (1 + s)) (c .before .before .before
+          .body-size .ensures .0)),
+    )
 
 -- src/evaluate.rt:49:9
 unary-same-length : (t : ℕ) → unary-lts.Need-same-length (unary-claims t) (unary-at t) unary.Post
@@ -789,29 +1102,65 @@ unary-same-length-3 t c = c .before .before .before .before .before .before .bef
 -- src/evaluate.rt:49:9
 unary-returns : (t : ℕ) → unary-lts.Need-returns (unary-claims t) (unary-at t) unary.Post
 unary-returns t c =
-    unary-stops (c .before .before .before .before .before .before .before .before .before .before .before .before .before .before .before .before .before .before .before .pre .1 .0) (c .before .before .before .before .before .before .before .before .before .before .before .before .before .before .before .before .before .before .before .args .at + (1 + c .before .before .before .before .before .before .before .before .before .before .before .before .body-size .result)) (ap (λ (s : ℕ). c .before .before .before .before .before .before .before .before .before .before .before .before .before .before .before .before .before .before .before .args .at + (1 + s)) (c .before .before .before .before .before .before .before .before .before .before .before .before .body-size .ensures .0)) (c .before .before .before .before .before .before .before .before .before .before .before .before .before .before .before .before .before .before .before .pre .1 .1) (c .before .before .before .before .before .before .before .before .eval .ensures) (c .if1 .taken)
+    unary-stops (c .before .before .before .before .before .before .before .before .before .before .before .before .before .before
+    .before .before .before .before .before .pre .1 .0) (c .before .before .before .before .before .before .before .before .before
+    .before .before .before .before .before .before .before .before .before .before .args .at + (1 + c .before .before .before
+    .before .before .before .before .before .before .before .before .before .body-size .result)) (ap (λ (s : ℕ). c .before .before
+    .before .before .before .before .before .before .before .before .before .before .before .before .before .before .before .before
+    .before .args .at + (1 + s)) (c .before .before .before .before .before .before .before .before .before .before .before .before
+    .body-size .ensures .0)) (c .before .before .before .before .before .before .before .before .before .before .before .before
+    .before .before .before .before .before .before .before .pre .1 .1) (c .before .before .before .before .before .before .before
+    .before .eval .ensures) (c .if1 .taken)
 
 -- src/evaluate.rt:51:5
 unary-applied-requires : (t : ℕ) → unary-lts.Need-applied-requires (unary-claims t) (unary-at t) unary.Post
 unary-applied-requires t c κs =
-    unary-asks (c .before .before .before .before .before .before .before .before .before .before .before .before .before .before .before .before .before .before .before .before .before .before .pre .1 .0) (c .before .before .before .before .before .before .before .before .before .before .before .before .before .before .before .before .before .before .before .before .before .before .args .at + (1 + c .before .before .before .before .before .before .before .before .before .before .before .before .before .before .before .body-size .result)) (c .before .before .before .before .before .before .before .before .before .before .before .eval .ensures) (c .before .before .before .if1 .left) (ap (λ (s : ℕ). c .before .before .before .before .before .before .before .before .before .before .before .before .before .before .before .before .before .before .before .before .before .before .args .at + (1 + s)) (c .before .before .before .before .before .before .before .before .before .before .before .before .before .before .before .body-size .ensures .0)) (c .before .before .before .before .before .before .before .before .before .before .before .before .before .before .before .before .before .before .before .before .before .before .pre .1 .1)
+    unary-asks (c .before .before .before .before .before .before .before .before .before .before .before .before .before .before .before
+    .before .before .before .before .before .before .before .pre .1 .0) (c .before .before .before .before .before .before .before
+    .before .before .before .before .before .before .before .before .before .before .before .before .before .before .before .args .at
+    + (1 + c .before .before .before .before .before .before .before .before .before .before .before .before .before .before .before
+    .body-size .result)) (c .before .before .before .before .before .before .before .before .before .before .before .eval .ensures)
+    (c .before .before .before .if1 .left) (ap (λ (s : ℕ). c .before .before .before .before .before .before .before .before .before
+    .before .before .before .before .before .before .before .before .before .before .before .before .before .args .at + (1 + s)) (c
+    .before .before .before .before .before .before .before .before .before .before .before .before .before .before .before
+    .body-size .ensures .0)) (c .before .before .before .before .before .before .before .before .before .before .before .before
+    .before .before .before .before .before .before .before .before .before .before .pre .1 .1)
 
 -- src/evaluate.rt:16:1
 unary-same-length-4 : (t : ℕ) → unary-lts.Need-same-length-4 (unary-claims t) (unary-at t) unary.Post
-unary-same-length-4 t c = c .before .before .before .before .before .before .applied .kept .1 .1 .0 ∙ c .before .before .before .before .before .before .before .before .before .before .before .before .before .before .before .before .before .before .eval .kept .1 .1 .1 .1 .1 .1 .0
+unary-same-length-4 t c = c .before .before .before .before .before .before .applied .kept .1 .1 .0 ∙ c .before .before .before .before
+    .before .before .before .before .before .before .before .before .before .before .before .before .before .before .eval .kept .1 .1 .1
+    .1 .1 .1 .0
 
 -- src/evaluate.rt:16:1
 unary-same-length-5 : (t : ℕ) → unary-lts.Need-same-length-5 (unary-claims t) (unary-at t) unary.Post
-unary-same-length-5 t c = c .before .before .before .before .before .before .applied .kept .1 .1 .1 .0 ∙ c .before .before .before .before .before .before .before .before .before .before .before .before .before .before .before .before .before .before .eval .kept .1 .1 .1 .1 .1 .1 .1 .0
+unary-same-length-5 t c = c .before .before .before .before .before .before .applied .kept .1 .1 .1 .0 ∙ c .before .before .before
+    .before .before .before .before .before .before .before .before .before .before .before .before .before .before .before .eval .kept
+    .1 .1 .1 .1 .1 .1 .1 .0
 
 -- src/evaluate.rt:16:1
 unary-same-length-6 : (t : ℕ) → unary-lts.Need-same-length-6 (unary-claims t) (unary-at t) unary.Post
-unary-same-length-6 t c = c .before .before .before .before .before .before .applied .kept .1 .1 .1 .1 .0 ∙ c .before .before .before .before .before .before .before .before .before .before .before .before .before .before .before .before .before .before .eval .kept .1 .1 .1 .1 .1 .1 .1 .1 .0
+unary-same-length-6 t c = c .before .before .before .before .before .before .applied .kept .1 .1 .1 .1 .0 ∙ c .before .before .before
+    .before .before .before .before .before .before .before .before .before .before .before .before .before .before .before .eval .kept
+    .1 .1 .1 .1 .1 .1 .1 .1 .0
 
 -- src/evaluate.rt:16:1
 unary-returns-2 : (t : ℕ) → unary-lts.Need-returns-2 (unary-claims t) (unary-at t) unary.Post
 unary-returns-2 t c =
-    unary-yields (c .before .before .before .before .before .before .before .before .before .before .before .before .before .before .before .before .before .before .before .before .before .before .before .before .before .before .before .before .before .pre .1 .0) (c .before .before .before .before .before .before .before .before .before .before .before .before .before .before .before .before .before .before .before .before .before .before .before .before .before .before .before .before .before .args .at + (1 + c .before .before .before .before .before .before .before .before .before .before .before .before .before .before .before .before .before .before .before .before .before .before .body-size .result)) (c .before .before .before .before .before .before .before .before .before .before .before .before .before .before .before .before .before .before .eval .ensures) (c .before .before .before .before .before .before .before .before .before .before .if1 .left) (ap (λ (s : ℕ). c .before .before .before .before .before .before .before .before .before .before .before .before .before .before .before .before .before .before .before .before .before .before .before .before .before .before .before .before .before .args .at + (1 + s)) (c .before .before .before .before .before .before .before .before .before .before .before .before .before .before .before .before .before .before .before .before .before .before .body-size .ensures .0)) (c .before .before .before .before .before .before .before .before .before .before .before .before .before .before .before .before .before .before .before .before .before .before .before .before .before .before .before .before .before .pre .1 .1) (c .before .before .before .before .before .before .applied .ensures)
+    unary-yields (c .before .before .before .before .before .before .before .before .before .before .before .before .before .before
+    .before .before .before .before .before .before .before .before .before .before .before .before .before .before .before .pre .1
+    .0) (c .before .before .before .before .before .before .before .before .before .before .before .before .before .before .before
+    .before .before .before .before .before .before .before .before .before .before .before .before .before .before .args .at + (1 +
+    c .before .before .before .before .before .before .before .before .before .before .before .before .before .before .before .before
+    .before .before .before .before .before .before .body-size .result)) (c .before .before .before .before .before .before .before
+    .before .before .before .before .before .before .before .before .before .before .before .eval .ensures) (c .before .before
+    .before .before .before .before .before .before .before .before .if1 .left) (ap (λ (s : ℕ). c .before .before .before .before
+    .before .before .before .before .before .before .before .before .before .before .before .before .before .before .before .before
+    .before .before .before .before .before .before .before .before .before .args .at + (1 + s)) (c .before .before .before .before
+    .before .before .before .before .before .before .before .before .before .before .before .before .before .before .before .before
+    .before .before .body-size .ensures .0)) (c .before .before .before .before .before .before .before .before .before .before
+    .before .before .before .before .before .before .before .before .before .before .before .before .before .before .before .before
+    .before .before .before .pre .1 .1) (c .before .before .before .before .before .before .applied .ensures)
 
 pub +binary+branch+each+eval+iterate+unary-spec : {M : Type 1} → statement M
 +binary+branch+each+eval+iterate+unary-spec =

@@ -62,7 +62,9 @@ same-length-3 c = search needs
 
 -- src/record.rt:158:9
 returns : tie.Need-returns
-returns c = delete-yields (c .before .before .before .before .before .before .before .before .before .before .before .before .before .before .before .before .before .before .pre) (c .before .before .before .before .before .before .before .before .before .before .if1 .taken) (c .before .before .before .before .before .delete .ensures) (c .ended .ensures)
+returns c = delete-yields (c .before .before .before .before .before .before .before .before .before .before .before .before .before
+    .before .before .before .before .before .pre) (c .before .before .before .before .before .before .before .before .before .before .if1
+    .taken) (c .before .before .before .before .before .delete .ensures) (c .ended .ensures)
 
 -- src/record.rt:160:20
 add-a : tie.Need-add-a
@@ -84,11 +86,13 @@ add-b c =
 
 -- src/record.rt:161:13
 shared-slice-read-b : tie.Need-shared-slice-read-b
-shared-slice-read-b c = unary-bytes (c .before .before .before .before .before .before .before .before .before .before .pre) (c .before .before .if1 .left)
+shared-slice-read-b c = unary-bytes (c .before .before .before .before .before .before .before .before .before .before .pre) (c .before
+    .before .if1 .left)
 
 -- src/record.rt:163:13
 picked-requires : tie.Need-picked-requires
-picked-requires c κs = pick-asks (c .before .before .before .before .before .before .before .before .before .before .before .before .before .pre)
+picked-requires c κs = pick-asks (c .before .before .before .before .before .before .before .before .before .before .before .before
+    .before .pre)
 
 -- src/record.rt:164:9
 ended-requires-2 : tie.Need-ended-requires-2
@@ -104,17 +108,23 @@ same-length-5 c = search needs
 
 -- src/record.rt:164:9
 returns-2 : tie.Need-returns-2
-returns-2 c = pick-yields (c .before .before .before .before .before .before .before .before .before .before .before .before .before .before .before .before .before .pre) (c .before .before .before .picked .kept .1 .1 .1 .0) (c .ended2 .ensures) (c .before .before .before .before .before .before .if2 .taken) (c .before .before .before .picked .ensures)
+returns-2 c = pick-yields (c .before .before .before .before .before .before .before .before .before .before .before .before .before
+    .before .before .before .before .pre) (c .before .before .before .picked .kept .1 .1 .1 .0) (c .ended2 .ensures) (c .before .before
+    .before .before .before .before .if2 .taken) (c .before .before .before .picked .ensures)
 
 -- src/record.rt:169:38
 add-name : tie.Need-add-name
 add-name c =
-    let a = unary-body (c .before .before .before .before .before .before .before .before .before .before .before .pre) 4 3 (unary-step (c .before .before .before .before .before .before .before .before .before .before .before .pre) (c .before .before .before .if1 .left) (c .if2 .left)) refl in
+    let a = unary-body (c .before .before .before .before .before .before .before .before .before .before .before .pre) 4 3 (unary-step
+    (c .before .before .before .before .before .before .before .before .before .before .before .pre) (c .before .before .before .if1
+    .left) (c .if2 .left)) refl in
     omega (arith, a)
 
 -- src/record.rt:169:31
 shared-slice-read-name : tie.Need-shared-slice-read-name
-shared-slice-read-name c = unary-body (c .before .before .before .before .before .before .before .before .before .before .before .before .pre) 4 3 (unary-step (c .before .before .before .before .before .before .before .before .before .before .before .before .pre) (c .before .before .before .before .if1 .left) (c .before .if2 .left)) refl
+shared-slice-read-name c = unary-body (c .before .before .before .before .before .before .before .before .before .before .before .before
+    .pre) 4 3 (unary-step (c .before .before .before .before .before .before .before .before .before .before .before .before .pre) (c
+    .before .before .before .before .if1 .left) (c .before .if2 .left)) refl
 
 -- src/record.rt:169:26
 name-requires : tie.Need-name-requires
@@ -122,7 +132,10 @@ name-requires c κs = search needs
 
 -- src/record.rt:171:9
 stepped-requires : tie.Need-stepped-requires
-stepped-requires c κs = step-asks (c .before .before .before .before .before .before .before .before .before .before .before .before .before .before .before .pre) (unary-step (c .before .before .before .before .before .before .before .before .before .before .before .before .before .before .before .pre) (c .before .before .before .before .before .before .before .if1 .left) (c .before .before .before .before .if2 .left))
+stepped-requires c κs = step-asks (c .before .before .before .before .before .before .before .before .before .before .before .before
+    .before .before .before .pre) (unary-step (c .before .before .before .before .before .before .before .before .before .before .before
+    .before .before .before .before .pre) (c .before .before .before .before .before .before .before .if1 .left) (c .before .before
+    .before .before .if2 .left))
 
 -- src/record.rt:172:5
 ended-requires-3 : tie.Need-ended-requires-3
@@ -138,7 +151,12 @@ same-length-7 c = search needs
 
 -- src/record.rt:138:1
 returns-3 : tie.Need-returns-3
-returns-3 c = step-yields (c .before .before .before .before .before .before .before .before .before .before .before .before .before .before .before .before .before .before .before .pre) (c .before .before .before .stepped .kept .1 .1 .1 .0) (c .ended3 .ensures) (unary-step (c .before .before .before .before .before .before .before .before .before .before .before .before .before .before .before .before .before .before .before .pre) (c .before .before .before .before .before .before .before .before .before .before .before .if1 .left) (c .before .before .before .before .before .before .before .before .if2 .left)) (c .before .before .before .before .before .before .name .ensures) (c .before .before .before .stepped .ensures)
+returns-3 c = step-yields (c .before .before .before .before .before .before .before .before .before .before .before .before .before
+    .before .before .before .before .before .before .pre) (c .before .before .before .stepped .kept .1 .1 .1 .0) (c .ended3 .ensures)
+    (unary-step (c .before .before .before .before .before .before .before .before .before .before .before .before .before .before
+    .before .before .before .before .before .pre) (c .before .before .before .before .before .before .before .before .before .before
+    .before .if1 .left) (c .before .before .before .before .before .before .before .before .if2 .left)) (c .before .before .before
+    .before .before .before .name .ensures) (c .before .before .before .stepped .ensures)
 
 pub applied-spec : {M : Type 1} → statement M
 applied-spec =

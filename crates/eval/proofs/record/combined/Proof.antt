@@ -20,7 +20,8 @@ limited-requires c κs =
 
 -- src/record.rt:191:9
 returns : tie.Need-returns
-returns c = join-yields (c .before .before .before .before .before .pre) (c .before .before .before .before .before .args .kind) (c .before .before .before .before .before .args .at) (c .before .if1 .taken) (c .limited .ensures)
+returns c = join-yields (c .before .before .before .before .before .pre) (c .before .before .before .before .before .args .kind) (c
+    .before .before .before .before .before .args .at) (c .before .if1 .taken) (c .limited .ensures)
 
 -- src/record.rt:198:50
 mul-insert : tie.Need-mul-insert
@@ -88,7 +89,12 @@ same-length-3 c = search needs
 
 -- src/record.rt:199:9
 returns-2 : tie.Need-returns-2
-returns-2 c = insert-yields (c .before .before .before .before .before .before .before .before .before .before .before .before .before .before .before .before .before .before .pre) (c .before .before .before .before .before .before .before .before .before .before .before .before .before .before .before .before .before .before .args .kind) (c .before .before .before .before .before .before .before .before .before .before .before .before .before .before .before .before .before .before .args .at) (c .before .before .before .before .before .before .before .before .before .before .before .if2 .taken) (c .before .before .before .before .before .insert .ensures) (c .ended .ensures)
+returns-2 c = insert-yields (c .before .before .before .before .before .before .before .before .before .before .before .before .before
+    .before .before .before .before .before .pre) (c .before .before .before .before .before .before .before .before .before .before
+    .before .before .before .before .before .before .before .before .args .kind) (c .before .before .before .before .before .before
+    .before .before .before .before .before .before .before .before .before .before .before .before .args .at) (c .before .before .before
+    .before .before .before .before .before .before .before .before .if2 .taken) (c .before .before .before .before .before .insert
+    .ensures) (c .ended .ensures)
 
 -- src/record.rt:201:9
 copied-requires : tie.Need-copied-requires
@@ -104,7 +110,11 @@ same-length-4 c = search needs
 
 -- src/record.rt:176:1
 returns-3 : tie.Need-returns-3
-returns-3 c = body-yields (c .before .before .before .before .before .before .before .before .before .before .before .before .pre) (c .before .before .before .before .before .before .before .before .before .before .before .before .args .kind) (c .before .before .before .before .before .before .before .before .before .before .before .before .args .at) (c .before .before .before .before .before .before .before .before .if1 .left) (c .before .before .before .before .before .if2 .left) (c .before .before .before .copied .kept .0) (c .before .before .before .copied .ensures) (c .ended2 .ensures)
+returns-3 c = body-yields (c .before .before .before .before .before .before .before .before .before .before .before .before .pre) (c
+    .before .before .before .before .before .before .before .before .before .before .before .before .args .kind) (c .before .before
+    .before .before .before .before .before .before .before .before .before .before .args .at) (c .before .before .before .before .before
+    .before .before .before .if1 .left) (c .before .before .before .before .before .if2 .left) (c .before .before .before .copied .kept
+    .0) (c .before .before .before .copied .ensures) (c .ended2 .ensures)
 
 pub combined-spec : {M : Type 1} → statement M
 combined-spec =

@@ -25,8 +25,15 @@ refused-requires c κs = search needs
 -- src/record.rt:59:1
 returns-2 : tie.Need-returns-2
 returns-2 c =
-    ap (λ (p : Progress). record { progress = p; place = c .before .before .before .before .before .args .at; end = c .before .before .before .before .before .args .x .end; env = c .before .before .before .before .before .args .x .env }) (c .refused .ensures) ∙
-    sym (limited-many (c .before .before .before .before .before .args .x) (c .before .before .before .before .before .args .top) (c .before .before .before .before .before .args .at) (omega arith))
+    ap (λ (p : Progress). record {
+      progress = p;
+      place = c .before .before .before .before .before .args .at;
+      end = c .before .before
+          .before .before .before .args .x .end;
+      env = c .before .before .before .before .before .args .x .env;
+    }) (c .refused .ensures) ∙
+    sym (limited-many (c .before .before .before .before .before .args .x) (c .before .before .before .before .before .args .top) (c
+    .before .before .before .before .before .args .at) (omega arith))
 
 pub limited-spec : {M : Type 1} → statement M
 limited-spec = tie.close (tie.spec sub-if1 returns refused-requires returns-2)

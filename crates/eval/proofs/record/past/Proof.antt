@@ -13,7 +13,13 @@ end-at-requires c κs = search needs
 
 -- src/record.rt:77:1
 returns : tie.Need-returns
-returns c = ap (λ (i : ℕ). record { progress = c .before .before .before .before .args .x .progress; place = i; end = c .before .before .before .before .args .x .end; env = c .before .before .before .before .args .x .env }) (c .end-at .ensures)
+returns c = ap (λ (i : ℕ). record {
+  progress = c .before .before .before .before .args .x .progress;
+  place = i;
+  end = c .before .before
+      .before .before .args .x .end;
+  env = c .before .before .before .before .args .x .env;
+}) (c .end-at .ensures)
 
 pub past-spec : {M : Type 1} → statement M
 past-spec = tie.close (tie.spec end-at-requires returns)

@@ -28,11 +28,13 @@ array-set-from-inside c = c .before .before .pre .scope (sym (c .before .is-bind
 
 -- src/value.rt:71:9
 returns : tie.Need-returns
-returns c = bound-more (c .before .before .args .kind) (c .before .before .args .env) (c .before .before .args .bound) (c .before .before .args .start) (c .before .before .args .end) (c .before .before .pre) (sym (c .before .is-binder .ensures) ∙ c .if1 .taken)
+returns c = bound-more (c .before .before .args .kind) (c .before .before .args .env) (c .before .before .args .bound) (c .before .before
+    .args .start) (c .before .before .args .end) (c .before .before .pre) (sym (c .before .is-binder .ensures) ∙ c .if1 .taken)
 
 -- src/value.rt:61:1
 returns-2 : tie.Need-returns-2
-returns-2 c = bound-same (c .before .before .args .kind) (c .before .before .args .env) (c .before .before .args .bound) (c .before .before .args .start) (c .before .before .args .end) (c .before .before .pre) (sym (c .before .is-binder .ensures) ∙ c .if1 .left)
+returns-2 c = bound-same (c .before .before .args .kind) (c .before .before .args .env) (c .before .before .args .bound) (c .before
+    .before .args .start) (c .before .before .args .end) (c .before .before .pre) (sym (c .before .is-binder .ensures) ∙ c .if1 .left)
 
 pub bind-spec : {M : Type 1} → statement M
 bind-spec =

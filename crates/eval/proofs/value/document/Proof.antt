@@ -16,7 +16,8 @@ shared-slice-read-m c = search needs
 
 -- src/value.rt:42:9
 returns : tie.Need-returns
-returns c = document-none (c .before .before .args .work .now) (c .before .before .args .top) (getD (c .before .before .args .marks .now) (c .before .before .args .d) 0) (c .if1 .taken)
+returns c = document-none (c .before .before .args .work .now) (c .before .before .args .top) (getD (c .before .before .args .marks .now)
+    (c .before .before .args .d) 0) (c .if1 .taken)
 
 -- src/value.rt:44:17
 sub-work : tie.Need-sub-work
@@ -40,7 +41,8 @@ same-length c = search needs
 
 -- src/value.rt:35:1
 returns-2 : tie.Need-returns-2
-returns-2 c = document-some (c .before .before .args .work .now) (c .before .before .args .top) (getD (c .before .before .args .marks .now) (c .before .before .args .d) 0) (c .if1 .left) (c .before .before .pre .1)
+returns-2 c = document-some (c .before .before .args .work .now) (c .before .before .args .top) (getD (c .before .before .args .marks
+    .now) (c .before .before .args .d) 0) (c .if1 .left) (c .before .before .pre .1)
 
 pub document-spec : {M : Type 1} → statement M
 document-spec =

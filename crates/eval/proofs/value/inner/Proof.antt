@@ -17,11 +17,13 @@ add-result c = search needs
 
 -- src/value.rt:81:9
 returns : tie.Need-returns
-returns c = inner-more (c .before .before .args .kind) (c .before .before .args .bound) (sym (c .before .is-binder .ensures) ∙ c .if1 .taken)
+returns c = inner-more (c .before .before .args .kind) (c .before .before .args .bound) (sym (c .before .is-binder .ensures) ∙ c .if1
+    .taken)
 
 -- src/value.rt:76:1
 returns-2 : tie.Need-returns-2
-returns-2 c = inner-same (c .before .before .args .kind) (c .before .before .args .bound) (sym (c .before .is-binder .ensures) ∙ c .if1 .left)
+returns-2 c = inner-same (c .before .before .args .kind) (c .before .before .args .bound) (sym (c .before .is-binder .ensures) ∙ c .if1
+    .left)
 
 pub inner-spec : {M : Type 1} → statement M
 inner-spec = tie.close (tie.spec is-binder-requires add-result returns returns-2)
