@@ -18,7 +18,7 @@ use Rattle.paths.specs.Cells.{noCell, sum, between, Cells, Source, fromR
 use Rattle.paths.specs.Cells.{sourcesCell, cellTo, cellBy, Filled, anyUpTo, isTested, meetAt, rowMeets}
 use Rattle.paths.specs.Codes.{cellOf}
 use Rattle.paths.specs.Words.{stepIn, positionBy, entryBy, fieldsOf, entryOf}
-use Rattle.paths.specs.Pairs.{marks, ClearPost, PairPre, MarkPost}
+use Rattle.paths.specs.Pairs.{marks, HasRows, ClearPost, PairPre, MarkPost}
 use Rattle.paths.specs.Filling.{entriesBy, PositionsPre, CellPre, MeetPre, MeetPost}
 use Rattle.paths.specs.declared.positions.Position.{Position}
 use Rattle.paths.specs.declared.cells.Cell as declared
@@ -244,6 +244,31 @@ module _ (ws us t : List ℕ) (k l : ℕ) (p q : Position) (pre : MeetPre ws us 
                 (g ∙ ap isMet pair-cell);
           }
 
+-- a union's pair, from those of its parts
+module _ (ws us t : List ℕ) (k l : ℕ) (p : Position) (pre : MeetPre ws us t k l p) (kind : p .kind ≡ 3) where
+  abbrev other : Position
+  other = fieldsOf (getD us l 0)
+
+  parts : (p .first < k) × (p .second < k)
+  parts = union-lower p k (cell-asks ws us t k l p other pre refl .first) kind
+
+  pub part-asks : PairPre t (p .first) l × PairPre t (p .second) l
+  part-asks = (
+    lower-asks t k l p other (cell-asks ws us t k l p other pre refl) (p .first) l (parts .0) (omega arith),
+    lower-asks t k l p other (cell-asks ws us t k l p other pre refl) (p .second) l (parts .1) (omega arith),
+  )
+
+  pub union-asks : PairPre t k l
+  union-asks = mark-asks ws us t k l p other pre refl
+
+  pub union-filled : (g h : Cell) (c : declared.Cell) (t′ : List ℕ) → cellOf c ≡ joinCell g h → g ≡ marks t (p .first) l →
+      h ≡ marks t (p .second) l → MarkPost t k l c t′ →
+      HasRows t′ (length ws) × Filled (entriesBy ws) (entriesBy us) k (l + 1) (marks t′)
+  union-filled g h c t′ e i j post =
+      let met = pair-filled ws us t k l p other pre refl c (first-union (marks t) k l p other (cellOf c) kind g h e i j) t′ post
+      (isTested (entryBy p) (entryBy other)) (isMet (cellOf c)) (isTested (entryBy p) (entryBy other) && isMet (cellOf c)) refl refl refl in
+      (met .room, met .filled)
+
 -- LOOPS: one pair, and one row, more
 pub any-next : (f : ℕ → Bool) (n : ℕ) (b : Bool) → anyUpTo f n ≡ false → b ≡ f n → b ≡ false → anyUpTo f (n + 1) ≡ false
 unfolding anyUpTo
@@ -290,6 +315,22 @@ row-filled ws us t k l e f =
     last i j n b =
         ap (λ (x : ℕ). marks t x j) n ∙ f .row j (omega (arith, length-map us entryOf)) ∙
         ap (λ (x : ℕ). between (positions.pathsOn (entriesBy ws) x) (positions.pathsOn (entriesBy us) j)) (sym n)
+
+-- a position without a mark meets none
+pub plain-row : (ws us : List ℕ) (k : ℕ) (p : Position) → p ≡ fieldsOf (getD ws k 0) → p .mark ≡ 0 → (n : ℕ) →
+    false ≡ rowMeets (entriesBy ws) (entriesBy us) k n
+plain-row ws us k p e m n = sym (any-false (meetAt (entriesBy ws) (entriesBy us) k) not-met n)
+  where
+    plain : (x : positions.Entry) → isTested (entryBy p) x ≡ false
+    plain x = rw m
+
+    not-met : (l : ℕ) → meetAt (entriesBy ws) (entriesBy us) k l ≡ false
+    not-met l =
+        ap (λ (x : positions.Entry). isTested x (positions.entryAt (entriesBy us) l) &&
+        isMet (between (positions.pathsOn (entriesBy ws) k) (positions.pathsOn (entriesBy us) l)))
+        (entry-at ws k ∙ ap entryBy (sym e)) ∙
+        ap (λ (x : Bool). x && isMet (between (positions.pathsOn (entriesBy ws) k) (positions.pathsOn (entriesBy us) l)))
+        (plain (positions.entryAt (entriesBy us) l))
 
 -- NOTHING at 0: its pairs are clear and do not meet
 and-false : (t : Bool) → (t && false) ≡ false

@@ -70,6 +70,16 @@ pub record RowPost (ws us : List ℕ) (k : ℕ) (t′ : List ℕ) (r : Bool) : T
   pub filled : r ≡ false → Filled (entriesBy ws) (entriesBy us) (k + 1) 0 (marks t′)
   pub met : r ≡ rowMeets (entriesBy ws) (entriesBy us) k (length (entriesBy us))
 
+-- a union's, from those of its parts
+pub record UnionRowPre (ws us t : List ℕ) (k : ℕ) (p : Position) : Type 0 where
+  pub row : RowPre ws us t k
+  pub position : p ≡ fieldsOf (getD ws k 0)
+  pub union : p .kind ≡ 3
+
+pub record UnionRowPost (ws us : List ℕ) (k : ℕ) (t′ : List ℕ) : Type 0 where
+  pub room : HasRows t′ (length ws)
+  pub filled : Filled (entriesBy ws) (entriesBy us) (k + 1) 0 (marks t′)
+
 -- THE TABLE
 pub record TablePre (ws us t : List ℕ) : Type 0 where
   pub first : PositionsPre ws

@@ -6,6 +6,7 @@ ghost use Rattle.paths.specs.Words.{positionBy, entryBy, stepIn, rootSou
 ghost use mathlib.Core.List.{[], _∷_};
 ghost use Rattle.paths.specs.Pairs.{marks};
 ghost use Rattle.paths.specs.Filling.{entriesBy, CellPre, FromStepPre, MeetPre, MeetPost, RowPre, RowPost, TablePre};
+ghost use Rattle.paths.specs.Filling.{UnionRowPre, UnionRowPost};
 use crate::cells::Cell;
 use crate::cells::Step;
 use crate::pairs;
@@ -106,12 +107,30 @@ fn pair(
     is_tested(p, q) & c.is_met()
 }
 
-// Fills in row k up to a pair that meets, and says whether there is one. Position 0 is nothing: its pairs stay clear.
+// Fills in row k, p being position k, a union: from the rows of its parts.
+fn union_row(first: &[usize], second: &[usize], table: &mut [u8], k: usize, p: Position)
+    requires { ⌜ UnionRowPre (now first) (now second) (now table) k p ⌝ }
+    ensures { λ r. ⌜ UnionRowPost (now (first .entry)) (now (second .entry)) k (now (table .exit)) ⌝ }
+{
+    let mut l = 1;
+    while l < second.len() {
+        let c = pairs::marked(table, p.first, l).join(pairs::marked(table, p.second, l));
+        pairs::mark(table, k, l, c);
+        l += 1;
+    }
+}
+
+// Fills in row k up to a pair that meets, and says whether there is one. Position 0 is nothing: its pairs stay clear. A union that
+// is neither accessed nor modified meets none.
 fn row(first: &[usize], second: &[usize], table: &mut [u8], k: usize) -> bool
     requires { ⌜ RowPre (now first) (now second) (now table) k ⌝ }
     ensures { λ r. ⌜ RowPost (now (first .entry)) (now (second .entry)) k (now (table .exit)) r ⌝ }
 {
     let p = Position::unpacked(first[k]);
+    if (p.kind == positions::UNION) & (p.mark == positions::PLAIN) {
+        union_row(first, second, table, k, p);
+        return false;
+    }
     let mut l = 1;
     while l < second.len() {
         if pair(first, second, table, k, l, p) {
