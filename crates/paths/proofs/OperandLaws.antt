@@ -1,7 +1,7 @@
 -- An accepted record by its arity: what it emits from its operands' emissions, its operands, and its records.
 use mathlib.Core.Path.{_≡_, refl, ap, sym, _∙_, subst}
 use mathlib.Core.List.{List}
-use Prim.Native.Nat.{ℕ, suc, _+_, _-_, _≤_, _<_}
+use Prim.Native.Nat.{ℕ, _+_, _-_, _<_}
 use native.Mathlib.Omega.{arith}
 use lib.Dec.{eqb}
 use lib.ListN.{getD}
@@ -10,26 +10,12 @@ use Rattle.model.specs.Script.{Expr, nil, document, var, step, both, letIn, for
 use Rattle.model.proofs.BoolLaws.{by-cases}
 use Rattle.script.specs.Walk.{arity, inner, endAt, firstAt, secondAt, thirdAt, exprAt}
 use Rattle.script.specs.Accepted.{Accepted, RecordFits, Nullary, Unary, Binary}
+use Rattle.script.proofs.KindLaws.{nullary-kind, unary-kind, binary-kind, two-left}
 use Rattle.script.proofs.AcceptedLaws.{accepted-record, accepted-nil, accepted-document, accepted-variable, accepted-element, accepted-leaf}
 use Rattle.script.proofs.AcceptedLaws.{accepted-step, accepted-delete, accepted-pick, accepted-join, accepted-let, accepted-for}
 use Rattle.script.proofs.AcceptedLaws.{accepted-insert, accepted-if}
 use Rattle.paths.specs.Positions.{Entry, emit, pushUnion}
 use Rattle.paths.specs.Emitting.{recordsOf, nullaryOf, unaryOf, binaryOf, within}
-
--- a kind is one of thirteen
-below : {P : Type 0} (k m : ℕ) → k ≤ suc m → (k ≡ suc m → P) → (k ≤ m → P) → P
-below k m h f g = by-cases (eqb k (suc m)) (λ e. f (eqb-true k (suc m) e)) (λ e. g (omega (arith, eqb-false k (suc m) e)))
-
-by-kind : {P : Type 0} (k : ℕ) → 1 ≤ k → k ≤ 13 → (k ≡ 1 → P) → (k ≡ 2 → P) → (k ≡ 3 → P) → (k ≡ 4 → P) → (k ≡ 5 → P) → (k ≡ 6 → P) →
-    (k ≡ 7 → P) → (k ≡ 8 → P) → (k ≡ 9 → P) → (k ≡ 10 → P) → (k ≡ 11 → P) → (k ≡ 12 → P) → (k ≡ 13 → P) → P
-by-kind k l h f1 f2 f3 f4 f5 f6 f7 f8 f9 f10 f11 f12 f13 =
-    below k 12 h f13 (λ h. below k 11 h f12 (λ h. below k 10 h f11 (λ h. below k 9 h f10 (λ h. below k 8 h f9
-    (λ h. below k 7 h f8 (λ h. below k 6 h f7 (λ h. below k 5 h f6 (λ h. below k 4 h f5 (λ h. below k 3 h f4
-    (λ h. below k 2 h f3 (λ h. below k 1 h f2 (λ h. below k 0 h f1 (λ h. absurd (omega arith))))))))))))))
-
--- not a kind of this arity
-other : {P : Type 0} (k m n q : ℕ) → arity k ≡ n → k ≡ m → arity m ≡ q → (n ≡ q → ⊥) → P
-other k m n q a e c h = absurd (h (sym a ∙ ap arity e ∙ c))
 
 module _ (b : List ℕ) (at left v : ℕ) (a : Accepted b at left v) where
   abbrev one : Expr
@@ -57,22 +43,14 @@ module _ (b : List ℕ) (at left v : ℕ) (a : Accepted b at left v) where
       }
 
   pub no-operand : arity (getD b at 0) ≡ 0 → Zero
-  unfolding arity emit recordsOf
+  unfolding emit recordsOf
   no-operand z =
-      by-kind (getD b at 0) (fits .low) (fits .high)
+      nullary-kind (getD b at 0) (fits .low) (fits .high) z
       (λ e. zero-of (nil at) (accepted-nil a e) (λ ns es. rw e) refl)
       (λ e. zero-of (document at (getD b (at + 1) 0)) (accepted-document a e) (λ ns es. rw e) refl)
       (λ e. zero-of (var at (getD b (at + 1) 0)) (accepted-variable a e) (λ ns es. rw e) refl)
-      (λ e. other (getD b at 0) 4 0 1 z e refl (λ q. omega arith))
-      (λ e. other (getD b at 0) 5 0 2 z e refl (λ q. omega arith))
-      (λ e. other (getD b at 0) 6 0 2 z e refl (λ q. omega arith))
-      (λ e. other (getD b at 0) 7 0 2 z e refl (λ q. omega arith))
-      (λ e. other (getD b at 0) 8 0 3 z e refl (λ q. omega arith))
       (λ e. zero-of (element at (getD b (at + 1) 0)) (accepted-element a e) (λ ns es. rw e) refl)
       (λ e. zero-of (leaf at (getD b (at + 1) 0)) (accepted-leaf a e) (λ ns es. rw e) refl)
-      (λ e. other (getD b at 0) 11 0 1 z e refl (λ q. omega arith))
-      (λ e. other (getD b at 0) 12 0 2 z e refl (λ q. omega arith))
-      (λ e. other (getD b at 0) 13 0 1 z e refl (λ q. omega arith))
 
   -- ONE OPERAND
   pub record One : Type 0 where
@@ -94,22 +72,12 @@ module _ (b : List ℕ) (at left v : ℕ) (a : Accepted b at left v) where
       }
 
   pub one-operand : arity (getD b at 0) ≡ 1 → One
-  unfolding arity emit recordsOf
+  unfolding emit recordsOf
   one-operand z =
-      by-kind (getD b at 0) (fits .low) (fits .high)
-      (λ e. other (getD b at 0) 1 1 0 z e refl (λ q. omega arith))
-      (λ e. other (getD b at 0) 2 1 0 z e refl (λ q. omega arith))
-      (λ e. other (getD b at 0) 3 1 0 z e refl (λ q. omega arith))
+      unary-kind (getD b at 0) (fits .low) (fits .high) z
       (λ e. one-of (step at (stepBy (getD b (at + 1) 0) (getD b (at + 2) 0) (getD b (at + 3) 0))) (accepted-step a e)
       (λ x ns es. rw e) (λ x. refl))
-      (λ e. other (getD b at 0) 5 1 2 z e refl (λ q. omega arith))
-      (λ e. other (getD b at 0) 6 1 2 z e refl (λ q. omega arith))
-      (λ e. other (getD b at 0) 7 1 2 z e refl (λ q. omega arith))
-      (λ e. other (getD b at 0) 8 1 3 z e refl (λ q. omega arith))
-      (λ e. other (getD b at 0) 9 1 0 z e refl (λ q. omega arith))
-      (λ e. other (getD b at 0) 10 1 0 z e refl (λ q. omega arith))
       (λ e. one-of (delete at) (accepted-delete a e) (λ x ns es. rw e) (λ x. refl))
-      (λ e. other (getD b at 0) 12 1 2 z e refl (λ q. omega arith))
       (λ e. one-of (choose at (getD b (at + 1) 0) (getD b (at + 2) 0)) (accepted-pick a e) (λ x ns es. rw e) (λ x. refl))
 
   -- TWO OPERANDS
@@ -138,22 +106,13 @@ module _ (b : List ℕ) (at left v : ℕ) (a : Accepted b at left v) where
       }
 
   pub two-operands : arity (getD b at 0) ≡ 2 → Two
-  unfolding arity inner emit recordsOf
+  unfolding inner emit recordsOf
   two-operands z =
-      by-kind (getD b at 0) (fits .low) (fits .high)
-      (λ e. other (getD b at 0) 1 2 0 z e refl (λ q. omega arith))
-      (λ e. other (getD b at 0) 2 2 0 z e refl (λ q. omega arith))
-      (λ e. other (getD b at 0) 3 2 0 z e refl (λ q. omega arith))
-      (λ e. other (getD b at 0) 4 2 1 z e refl (λ q. omega arith))
+      binary-kind (getD b at 0) (fits .low) (fits .high) z
       (λ e. two-of v (both at) (accepted-join a e) (rw e) (λ x y ns es. rw e) (λ x y. refl))
       (λ e. two-of (v + 1) (letIn at) (accepted-let a e) (rw e) (λ x y ns es. rw e) (λ x y. refl))
       (λ e. two-of (v + 1) (forIn at) (accepted-for a e) (rw e) (λ x y ns es. rw e) (λ x y. refl))
-      (λ e. other (getD b at 0) 8 2 3 z e refl (λ q. omega arith))
-      (λ e. other (getD b at 0) 9 2 0 z e refl (λ q. omega arith))
-      (λ e. other (getD b at 0) 10 2 0 z e refl (λ q. omega arith))
-      (λ e. other (getD b at 0) 11 2 1 z e refl (λ q. omega arith))
       (λ e. two-of v (insert at) (accepted-insert a e) (rw e) (λ x y ns es. rw e) (λ x y. refl))
-      (λ e. other (getD b at 0) 13 2 1 z e refl (λ q. omega arith))
 
   -- THREE OPERANDS
   pub record Three : Type 0 where
@@ -188,22 +147,8 @@ module _ (b : List ℕ) (at left v : ℕ) (a : Accepted b at left v) where
       }
 
   pub three-operands : 2 < arity (getD b at 0) → Three
-  unfolding arity
   three-operands z =
-      by-kind (getD b at 0) (fits .low) (fits .high)
-      (λ e. few 1 0 e refl (omega arith))
-      (λ e. few 2 0 e refl (omega arith))
-      (λ e. few 3 0 e refl (omega arith))
-      (λ e. few 4 1 e refl (omega arith))
-      (λ e. few 5 2 e refl (omega arith))
-      (λ e. few 6 2 e refl (omega arith))
-      (λ e. few 7 2 e refl (omega arith))
-      three-of
-      (λ e. few 9 0 e refl (omega arith))
-      (λ e. few 10 0 e refl (omega arith))
-      (λ e. few 11 1 e refl (omega arith))
-      (λ e. few 12 2 e refl (omega arith))
-      (λ e. few 13 1 e refl (omega arith))
-    where
-      few : {P : Type 0} (m q : ℕ) → getD b at 0 ≡ m → arity m ≡ q → q ≤ 2 → P
-      few m q e c h = absurd (omega (arith, ap arity e))
+      by-cases (eqb (getD b at 0) 8) (λ e. three-of (eqb-true (getD b at 0) 8 e))
+      (λ e. absurd
+      (omega
+      (arith, two-left (getD b at 0) (fits .low) (fits .high) (λ q. omega arith) (λ q. omega arith) (eqb-false (getD b at 0) 8 e))))

@@ -1,7 +1,9 @@
 pub mod WordLaws
 pub mod FitLaws
 pub mod ReadLaws
+pub mod ReadingLaws
 pub mod WriteLaws
+pub mod FlagLaws
 pub mod SweepLaws
 pub mod CallLaws
 pub mod EncodeLaws

@@ -1,4 +1,4 @@
-use Rattle.table.proofs.ReadLaws.{plan-refused, plan-read}
+use Rattle.table.proofs.ReadingLaws.{plan-refused, plan-read}
 use mathlib.Core.Path.{refl, _≡_}
 use borrow.Author.Needs.{needs}
 use Rattle.table.proofs.read_plan.Statement.{statement}

@@ -1,5 +1,5 @@
 use lib.ListN.{length-take, take}
-use Rattle.table.proofs.ReadLaws.{held-empty, reading-all, reading-on, reading-refused, reading-end}
+use Rattle.table.proofs.ReadingLaws.{held-empty, reading-all, reading-on, reading-refused, reading-end}
 use Rattle.table.specs.Reading.{Held}
 use Rattle.table.specs.Words.{decodeParts}
 use Rattle.model.proofs.BoolLaws.{pick-false}

@@ -1,4 +1,4 @@
-use Rattle.table.proofs.SweepLaws.{flagged-none, flagged-next, flagged-all}
+use Rattle.table.proofs.FlagLaws.{flagged-none, flagged-next, flagged-all}
 use Rattle.table.specs.Sweeping.{Flagged}
 use lib.ListN.{length, take}
 use mathlib.Core.Path.{_≡_, refl, _∙_, sym, ap, subst}
