@@ -104,11 +104,13 @@ fn analysis() {
     let to_elements = Operation::Step(Axis::Child, Test::AnyElement);
     // The same paths from other documents: apart only where they start.
     let [here, there] = [0, 1].map(|document| most_paths(document, &steps, &[delete]));
-    let [roads, roads_there] = [0, 1].map(|document| most_steps(document, &steps, delete));
+    let [roads, roads_there] = [0, 1].map(|document| most_steps(document, &steps, &[delete]));
     let [cuts, cuts_there] = [0, 1].map(most_deletes);
     // The same paths to rows of another kind: apart only where they end.
     let cut_leaves = most_paths(0, &steps, &[delete, to_leaves]);
     let read_elements = most_paths(0, &steps, &[to_elements]);
+    let cut_roads = most_steps(0, &steps, &[delete, to_leaves]);
+    let read_roads = most_steps(0, &steps, &[to_elements]);
     let typical: [&[u8]; 2] = [
         // The leaves below zero under the children named 2.
         &[13, 1, 0, 4, 0, 2, 0, 4, 0, 3, 2, 2, 0],
@@ -116,7 +118,7 @@ fn analysis() {
         &[12, 9, 4, 4, 0, 3, 3, 2, 0],
     ];
     let refused = &there[..there.len() - 1];
-    let cases: [(_, _, [&[u8]; 2]); 8] = [
+    let cases: [(_, _, [&[u8]; 2]); 9] = [
         ("analysis, binders, apart at start", 0, [&here, &there]),
         (
             "analysis, binders, apart at end",
@@ -128,6 +130,11 @@ fn analysis() {
             "analysis, 48 steps, apart at start",
             0,
             [&roads, &roads_there],
+        ),
+        (
+            "analysis, 48 steps, apart at end",
+            0,
+            [&cut_roads, &read_roads],
         ),
         ("analysis, 48 steps, met", 0, [&roads, &roads]),
         (

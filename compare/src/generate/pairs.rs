@@ -274,18 +274,22 @@ pub fn most_paths(document: u8, steps: &[(Axis, Test)], end: &[Operation]) -> Ve
 }
 
 /// A script of 64 records with very many steps: eight roads of six steps each,
-/// joined below a record with one operand. The steps are used in turn.
-pub fn most_steps(document: u8, steps: &[(Axis, Test)], last: Operation) -> Vec<u8> {
+/// joined below records with one operand, each but the first in place of a step
+/// of the last road. The steps are used in turn.
+pub fn most_steps(document: u8, steps: &[(Axis, Test)], last: &[Operation]) -> Vec<u8> {
     let mut bytes = Vec::new();
     let mut steps = steps.iter().cycle();
-    encode(last, &mut bytes);
+    for &operation in last {
+        encode(operation, &mut bytes);
+    }
     for road in 0..8u32 {
         // The joins above the roads are a balanced tree.
         let joins = if road == 0 { 3 } else { road.trailing_zeros() };
         for _ in 0..joins {
             encode(Operation::Join, &mut bytes);
         }
-        for _ in 0..6 {
+        let fewer = if road == 7 { last.len() - 1 } else { 0 };
+        for _ in fewer..6 {
             let &(axis, test) = steps.next().expect("there are steps");
             encode(Operation::Step(axis, test), &mut bytes);
         }

@@ -189,7 +189,7 @@ fn small_stack(checker: &mut Checker) -> Result<(), Difference> {
         .flat_map(|document| {
             [
                 pairs::most_paths(document, &steps, &[delete]),
-                pairs::most_steps(document, &steps, delete),
+                pairs::most_steps(document, &steps, &[delete]),
                 pairs::most_deletes(document),
             ]
         })
@@ -243,7 +243,7 @@ fn many_paths(
                 .collect();
             let document = u8::from(random.chance(20));
             if by_steps {
-                pairs::most_steps(document, &steps, last)
+                pairs::most_steps(document, &steps, &[last])
             } else if random.chance(50) {
                 pairs::most_paths(document, &steps, &[last])
             } else {
