@@ -4,7 +4,6 @@
 //! number + 256 * which + 65,536 * place: see [`Answer`].
 
 use compare::interface::Answer;
-#[cfg(feature = "run")]
 use compare::interface::Lent;
 
 #[link(name = "ffi", kind = "static")]
@@ -24,7 +23,6 @@ extern "C" {
         out_length: usize,
     ) -> u64;
 
-    #[cfg(feature = "run")]
     fn yegnabit_run(
         plan: *const u8,
         plan_length: usize,
@@ -42,7 +40,6 @@ extern "C" {
         done_length: usize,
     ) -> u64;
 
-    #[cfg(feature = "analysis")]
     fn yegnabit_analyse(
         first: *const u8,
         first_length: usize,
@@ -108,7 +105,6 @@ pub fn undo(plan: &[u8], history: &[u8], out: &mut [u8]) -> Answer {
 
 /// Reads a stored plan, runs a script on it in the lent areas and writes the
 /// plan to the start of `out`.
-#[cfg(feature = "run")]
 pub fn run(plan: &[u8], script: &[u8], areas: Lent<'_>) -> Answer {
     // SAFETY: see above.
     Answer(unsafe {
@@ -132,7 +128,6 @@ pub fn run(plan: &[u8], script: &[u8], areas: Lent<'_>) -> Answer {
 }
 
 /// Analyses two scripts.
-#[cfg(feature = "analysis")]
 pub fn analyse(first: &[u8], second: &[u8]) -> Answer {
     // SAFETY: see above.
     Answer(unsafe { yegnabit_analyse(first.as_ptr(), first.len(), second.as_ptr(), second.len()) })

@@ -1,13 +1,11 @@
 //! Both sides measured in one process, in turn.
 
-#[cfg(feature = "run")]
 mod runs;
 
 use std::hint::black_box;
 use std::time::{Duration, Instant};
 
 use compare::generate::histories::{self, Told};
-#[cfg(feature = "analysis")]
 use compare::generate::pairs::{most_deletes, most_paths, most_steps};
 use compare::generate::plans::full_table;
 use compare::generate::random::Random;
@@ -15,7 +13,6 @@ use compare::generate::scripts::{script, Wanted};
 use compare::interface::{self, Answer};
 use compare::reference::limits::{BINDERS, DEPTH, PLAN_BYTES, SCRIPT_RECORDS};
 use compare::reference::plan::to_vec;
-#[cfg(feature = "analysis")]
 use compare::reference::script::{Axis, Operation, Test};
 
 use crate::ffi;
@@ -59,9 +56,7 @@ pub fn run() {
         reference: Box::new(|| interface::script(black_box(&bytes))),
     });
     undo(&mut random);
-    #[cfg(feature = "analysis")]
     analysis();
-    #[cfg(feature = "run")]
     runs::measure_runs();
 }
 
@@ -96,7 +91,6 @@ fn undo_case<'a>(name: &'static str, number: u64, plan: &'a [u8], history: &'a [
 /// binders, 48 steps or 55 deletes. Four uses of each of eight variables would
 /// take 65 records, so the last ones have fewer. With binders the paths are too
 /// many to list; so the reference's method is the one by positions.
-#[cfg(feature = "analysis")]
 fn analysis() {
     let steps = [(Axis::Descendant, Test::AnyElement)];
     let delete = Operation::Delete;

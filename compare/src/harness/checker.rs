@@ -143,7 +143,6 @@ impl Checker {
     }
 
     /// Compares `yegnabit_analyse`.
-    #[cfg(feature = "analysis")]
     pub fn analyse(&mut self, first: &[u8], second: &[u8]) -> Result<Answer, Difference> {
         let answers = (
             ffi::analyse(first, second),

@@ -1,11 +1,9 @@
 //! Comparisons of the library with the reference.
 
-#[cfg(feature = "analysis")]
 mod analysis;
 mod area;
 mod checker;
 mod plans;
-#[cfg(feature = "run")]
 mod running;
 mod scripts;
 mod tables;
@@ -56,9 +54,7 @@ pub fn test() -> Result<String, Difference> {
         ("scripts", scripts::test),
         ("tables", tables::test),
         ("undo", undoing::test),
-        #[cfg(feature = "analysis")]
         ("analysis", analysis::test),
-        #[cfg(feature = "run")]
         ("runs", running::test),
     ] {
         let start = std::time::Instant::now();

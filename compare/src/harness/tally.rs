@@ -23,9 +23,7 @@ pub enum Call {
     WriteTable,
     SweepTable,
     Undo,
-    #[cfg_attr(not(feature = "analysis"), allow(dead_code))]
     Analyse,
-    #[cfg_attr(not(feature = "run"), allow(dead_code))]
     Run,
 }
 
@@ -37,9 +35,7 @@ impl Call {
         Call::WriteTable,
         Call::SweepTable,
         Call::Undo,
-        #[cfg(feature = "analysis")]
         Call::Analyse,
-        #[cfg(feature = "run")]
         Call::Run,
     ];
 

@@ -3,17 +3,17 @@ use mathlib.Core.Path.{_≡_, refl, ap, sym, subst, _∙_}
 use mathlib.Core.Bool.{Bool, true, false, _&&_}
 use mathlib.Core.List.{List, [], _∷_, _++_, map}
 use mathlib.Core.Option.{none, some}
-use Prim.Native.Nat.{ℕ, zero, suc, _+_, _*_, _-_, _≤_, _<_}
+use Prim.Native.Nat.{ℕ, zero, suc, _+_, _-_, _≤_, _<_}
 use native.Mathlib.Omega.{arith}
 use lib.Dec.{leb, eqb}
 use lib.ListN.{length, getD, take, drop, replicate, length-replicate, List·getD-map, take-append-drop}
 use lib.Seq.{length-take-le}
-use borrow.Author.Tests.{eq-eqb, ne-eqb, eqb-true, eqb-false, le-leb, lt-leb, leb-true}
-use Rattle.model.specs.Base.{pick, isIn}
+use borrow.Author.Tests.{ne-eqb, eqb-true, eqb-false, le-leb, lt-leb, leb-true}
+use Rattle.model.specs.Base.{pick}
 use Rattle.model.specs.Refusal as refusal
-use Rattle.model.specs.Script.{Parsed, readScript}
+use Rattle.model.specs.Script.{readScript}
 use Rattle.model.specs.History.{Record, historyBytes}
-use Rattle.model.specs.Run.{State, Out, stop, gives, run}
+use Rattle.model.specs.Run.{Out, stop, gives, run}
 use Rattle.model.specs.Call.{Ran, filled, countKind, areasFit, ranBy, refusedRun, runBy}
 use Rattle.model.proofs.BoolLaws.{by-cases, pick-true, pick-false, and-left, and-right, and-both}
 use Rattle.model.proofs.FormLaws.{AllInRange, noneYet, andAlso}
@@ -27,13 +27,13 @@ use Rattle.table.specs.declared.Table.{Table}
 use Rattle.table.specs.declared.Fault.{Fault}
 use Rattle.table.proofs.WordLaws.{encode-decode, count-decode}
 use Rattle.table.proofs.CallLaws.{Fits, fits-at}
-use Rattle.run.specs.State.{recordsIn, started, stateOf, Held, Recorded}
+use Rattle.run.specs.State.{recordsIn, started, stateOf, Held}
 use Rattle.run.specs.Values.{valueAt}
 use Rattle.run.proofs.StateLaws.{held-start, state-start}
 use Rattle.run.specs.declared.state.Progress.{Progress}
 use Rattle.eval.specs.Tallying.{tallyFor}
-use Rattle.eval.specs.Calls.{outcomeOf, ran, resultOf, tallyOf, runResult, refusedResult, RunPre, RunPost}
-use Rattle.eval.specs.Evaluating.{noSpan, boundValues, Fine, MarksHeld, EvalPre, EvalPost}
+use Rattle.eval.specs.Calls.{outcomeOf, ran, resultOf, runResult, refusedResult, RunPre, RunPost}
+use Rattle.eval.specs.Evaluating.{boundValues, Fine, EvalPre, EvalPost}
 use Rattle.eval.specs.declared.value.Span.{Span}
 use Rattle.eval.specs.declared.record.Evaluated.{Evaluated}
 use Rattle.eval.specs.declared.tally.Tally.{Tally}

@@ -1,18 +1,14 @@
 -- The evaluator's walk: what each call of an operand asks is there, and each way out is the run of the expression at the place.
 use mathlib.Core.Path.{_≡_, refl, ap, sym, subst, _∙_}
 use mathlib.Core.Bool.{true}
-use mathlib.Core.List.{List, [], _∷_}
-use Prim.Native.Nat.{ℕ, suc, _+_, _*_, _-_, _≤_, _<_}
+use mathlib.Core.List.{List}
+use Prim.Native.Nat.{ℕ, _+_, _-_, _<_}
 use native.Mathlib.Omega.{arith}
-use lib.Dec.{eqb}
-use lib.ListN.{length, getD, take}
-use borrow.Author.Tests.{eq-eqb, ne-eqb}
-use Rattle.model.specs.Refusal.{fault}
+use lib.ListN.{getD}
 use Rattle.model.specs.Script.{isBinder}
-use Rattle.model.specs.Run.{State, Out, stop, gives, andThen, loop, run}
-use Rattle.model.proofs.BoolLaws.{pick-true, pick-false}
+use Rattle.model.specs.Run.{State, Out, andThen, loop, run}
 use Rattle.model.proofs.ValueLaws.{AreRows, areRows-more}
-use Rattle.script.specs.Walk.{arity, inner, endAt, firstAt, secondAt, thirdAt, exprAt}
+use Rattle.script.specs.Walk.{arity, inner, endAt, firstAt, secondAt, exprAt}
 use Rattle.script.specs.Accepted.{Accepted, RecordFits}
 use Rattle.script.proofs.AcceptedLaws.{accepted-record, accepted-at}
 use Rattle.script.proofs.FieldLaws.{step-axis}
@@ -20,14 +16,14 @@ use Rattle.script.proofs.KindLaws.{two-left}
 use Rattle.run.specs.State.{stateOf}
 use Rattle.run.specs.Values.{valueAt}
 use Rattle.run.specs.declared.state.Progress.{Progress}
-use Rattle.eval.specs.Evaluating.{boundValues, valuesIn, BindPre, BindPost, movedTo, Fine, Yields, unaryOf, binaryOf, ValuePre}
+use Rattle.eval.specs.Evaluating.{boundValues, valuesIn, BindPre, BindPost, Fine, unaryOf, binaryOf, ValuePre}
 use Rattle.eval.specs.Evaluating.{UnaryPre}
-use Rattle.eval.specs.Evaluating.{UnaryPost, BinaryPre, BinaryPost, IsBinary, EvalPre, EvalPost, bodyRun, EachPre, EachPost}
+use Rattle.eval.specs.Evaluating.{UnaryPost, BinaryPre, BinaryPost, IsBinary, EvalPre, EvalPost}
 use Rattle.eval.specs.declared.value.Span.{Span}
 use Rattle.eval.specs.declared.record.Evaluated.{Evaluated}
-use Rattle.eval.proofs.ValueLaws.{value-same, value-none, length-value}
+use Rattle.eval.proofs.ValueLaws.{value-same}
 use Rattle.eval.proofs.YieldLaws.{yields-as, yields-gives, yields-stop, stop-yields, fine-between, between-then, yields-after}
-use Rattle.eval.proofs.OperandLaws.{one-operand, two-operands, for-operands, if-operands}
+use Rattle.eval.proofs.OperandLaws.{one-operand, two-operands}
 use Rattle.eval.proofs.ScopeLaws.{marks-more, bound-kept, scope-kept, bound-inside, bound-back, scope-inside}
 
 module _ {b : List ℕ} {at left n : ℕ} {env : List Span} {ms ws h w : List ℕ} {top : ℕ} {p : Progress}

@@ -2,9 +2,9 @@
 use mathlib.Core.Path.{_≡_, refl, ap, sym, subst, _∙_}
 use mathlib.Core.Bool.{Bool, true, false}
 use mathlib.Core.List.{List, [], _∷_, _++_}
-use Prim.Native.Nat.{ℕ, suc, _+_, _*_, _-_, _/_, _≤_, _<_}
+use Prim.Native.Nat.{ℕ, _+_, _-_, _/_, _≤_, _<_}
 use native.Mathlib.Omega.{arith}
-use lib.Dec.{ltb, eqb}
+use lib.Dec.{ltb}
 use lib.ListN.{length, getD, take}
 use Rattle.model.specs.Base.{pick}
 use Rattle.model.specs.Limits.{maxItems}
@@ -12,13 +12,13 @@ use Rattle.model.specs.Refusal.{itemsAt}
 use Rattle.model.specs.Script.{isBinder}
 use Rattle.model.specs.Run.{State, Out, stop, gives, andThen, joinItems, joinFor, loop, run}
 use Rattle.model.proofs.ValueLaws.{AreRows, noRows, moreRows, areRows-more}
-use Rattle.script.specs.Walk.{inner, endAt, firstAt, secondAt, thirdAt, exprAt}
+use Rattle.script.specs.Walk.{inner, endAt, firstAt, secondAt, exprAt}
 use Rattle.script.proofs.AcceptedLaws.{accepted-record, accepted-at}
 use Rattle.run.specs.State.{stateOf}
 use Rattle.run.specs.Values.{valueAt}
 use Rattle.run.specs.declared.state.Progress.{Progress}
 use Rattle.run.proofs.StateLaws.{after-self}
-use Rattle.eval.specs.Evaluating.{boundValues, valuesIn, InScope, BindPre, BindPost, limitedBy, movedTo, Fine, BinaryPre, BinaryPost}
+use Rattle.eval.specs.Evaluating.{boundValues, InScope, BindPre, BindPost, limitedBy, movedTo, Fine, BinaryPre, BinaryPost}
 use Rattle.eval.specs.Evaluating.{EvalPre, EvalPost, bodyRun, EachPre, EachPost}
 use Rattle.eval.specs.declared.value.Span.{Span}
 use Rattle.eval.specs.declared.record.Evaluated.{Evaluated}
@@ -27,7 +27,7 @@ use Rattle.eval.proofs.YieldLaws.{yields-as, yields-gives, yields-stop,
 use Rattle.eval.proofs.YieldLaws.{yields-after, limited-yields}
 use Rattle.eval.proofs.OperandLaws.{for-operands}
 use Rattle.eval.proofs.ScopeLaws.{marks-more, bound-kept, scope-kept, bound-inside, bound-back, scope-inside}
-use Rattle.eval.proofs.EvalLaws.{operand-asks, good, same-bound, next-asks}
+use Rattle.eval.proofs.EvalLaws.{operand-asks, good, same-bound}
 
 -- THE LOOP of the model: no item, one, and one part after another
 loop-none : (z : ℕ) (f : ℕ → State → Out) (v : List ℕ) (s : State) → loop z f [] v s ≡ gives v s

@@ -7,29 +7,28 @@ use mathlib.Core.List.{List, [], _∷_, map}
 use Prim.Native.Nat.{ℕ, zero, suc, _+_, _-_, _≤_, _<_}
 use native.Mathlib.Omega.{arith}
 use lib.Dec.{eqb}
-use lib.ListN.{length, getD, take, drop, length-take, List·getD-map}
-use lib.Seq.{getD-take, length-take-le}
-use borrow.Author.Tests.{eq-eqb, ne-eqb, eqb-true, eqb-false}
+use lib.ListN.{length, getD, take, drop, List·getD-map}
+use borrow.Author.Tests.{eq-eqb, eqb-false}
 use Rattle.model.specs.Refusal.{isFine}
 use Rattle.model.specs.Table as model
 use Rattle.model.specs.Script.{Expr, nil, document, var, element, leaf, bodySize}
-use Rattle.model.specs.Run.{State, Out, stop, gives, marked, roomFault, withMade, newRow, loose, run}
+use Rattle.model.specs.Run.{Out, stop, gives, marked, roomFault, newRow, loose, run}
 use Rattle.model.proofs.BoolLaws.{by-cases, pick-true, pick-false}
 use Rattle.model.proofs.GrowLaws.{count-withRow}
 use Rattle.model.proofs.ValueLaws.{AreRows, noRows, moreRows, areValues-at}
-use Rattle.script.specs.Walk.{arity, endAt, firstAt, exprAt}
+use Rattle.script.specs.Walk.{arity}
 use Rattle.script.specs.Accepted.{RecordFits, Nullary}
 use Rattle.script.proofs.KindLaws.{nullary-kind}
 use Rattle.script.proofs.AcceptedLaws.{accepted-record, accepted-nil, accepted-document, accepted-variable, accepted-element, accepted-leaf}
-use Rattle.script.proofs.FieldLaws.{variable-number, document-number}
+use Rattle.script.proofs.FieldLaws.{variable-number}
 use Rattle.table.specs.Words.{linked, decodeParts}
-use Rattle.run.specs.State.{stateOf, outcome, Held, Updated}
+use Rattle.run.specs.State.{stateOf, Held, Updated}
 use Rattle.run.specs.Updating.{LoosePost}
 use Rattle.run.specs.Values.{valueAt, Appended}
 use Rattle.run.proofs.StateLaws.{outcome-gives, held-count}
 use Rattle.run.proofs.ValueLaws.{appended-none}
 use Rattle.run.specs.declared.state.Progress.{Progress}
-use Rattle.eval.specs.Evaluating.{noSpan, spanValue, boundValues, CopyPre, endedBy, madeValue, Yields, MarksHeld, EvalPre, EvalPost}
+use Rattle.eval.specs.Evaluating.{noSpan, spanValue, boundValues, CopyPre, endedBy, madeValue, Yields, EvalPre, EvalPost}
 use Rattle.eval.specs.declared.value.Span.{Span}
 use Rattle.eval.specs.declared.record.Evaluated.{Evaluated}
 use Rattle.eval.proofs.ValueLaws.{take-few}

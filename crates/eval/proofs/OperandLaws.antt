@@ -5,8 +5,8 @@ use Prim.Native.Nat.{ℕ, _+_, _-_}
 use lib.Dec.{eqb}
 use lib.ListN.{length, getD}
 use Rattle.model.specs.Base.{pick}
-use Rattle.model.specs.Script.{Expr, step, both, letIn, forIn, ifIn, delete, insert, choose, stepBy}
-use Rattle.model.specs.Run.{State, Out, stop, gives, andThen, joinItems, inserted, loop, run}
+use Rattle.model.specs.Script.{Expr, step, both, letIn, delete, insert, choose, stepBy}
+use Rattle.model.specs.Run.{State, Out, stop, gives, andThen, loop, run}
 use Rattle.script.specs.Walk.{arity, inner, endAt, firstAt, secondAt, thirdAt, exprAt}
 use Rattle.script.specs.Accepted.{Accepted, RecordFits, Unary, Binary}
 use Rattle.script.proofs.KindLaws.{unary-kind, binary-kind}

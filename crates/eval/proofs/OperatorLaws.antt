@@ -1,32 +1,29 @@
 -- Records with one or two operands, on their values: each call's needs, and what each way out yields.
-use mathlib.Core.Path.{_≡_, refl, ap, sym, subst, _∙_}
+use mathlib.Core.Path.{_≡_, refl, ap, subst, _∙_}
 use mathlib.Core.Bool.{Bool, true, false}
 use mathlib.Core.Logic.{inl}
 use mathlib.Core.List.{List, [], _∷_}
-use Prim.Native.Nat.{ℕ, zero, suc, _+_, _-_, _≤_, _<_}
+use Prim.Native.Nat.{ℕ, suc, _+_, _-_, _≤_, _<_}
 use native.Mathlib.Omega.{arith}
-use lib.Dec.{eqb}
 use lib.ListN.{length, getD}
 use borrow.Author.Tests.{ne-eqb}
 use Rattle.model.specs.Base.{pick}
 use Rattle.model.specs.Table as model
 use Rattle.model.specs.Script.{stepBy, bodySize}
 use Rattle.model.specs.Step.{isReached, isPicked, stepped, picked}
-use Rattle.model.specs.Run.{State, Out, gives, cutAll, joinItems, inserted}
-use Rattle.model.proofs.Collect.{collect, step-collect}
-use Rattle.model.proofs.ValueLaws.{AreRows, noRows, stepFrom-rows, picked-rows}
-use Rattle.script.specs.Walk.{arity}
+use Rattle.model.specs.Run.{gives}
+use Rattle.model.proofs.Collect.{step-collect}
+use Rattle.model.proofs.ValueLaws.{noRows, stepFrom-rows, picked-rows}
 use Rattle.script.proofs.KindLaws.{unary-kind}
 use Rattle.table.specs.Words.{decodeParts}
 use Rattle.run.specs.State.{stateOf, Held}
-use Rattle.run.specs.Stepping.{RowsHeld}
 use Rattle.run.specs.Updating.{DeletePre, DeletePost}
 use Rattle.run.specs.Inserting.{InsertPre, InsertPost}
 use Rattle.run.specs.Values.{valueAt, Appended, StepPre, StepPost, PickPre, PickPost}
 use Rattle.run.proofs.StateLaws.{held-count}
 use Rattle.run.proofs.ValueLaws.{appended-none, length-collect}
 use Rattle.run.specs.declared.state.Progress.{Progress}
-use Rattle.eval.specs.Evaluating.{CopyPre, endedBy, limitedBy, Yields, unaryOf, binaryOf, ValuePre, UnaryPre, UnaryPost, BinaryPre}
+use Rattle.eval.specs.Evaluating.{CopyPre, endedBy, limitedBy, ValuePre, UnaryPre, UnaryPost, BinaryPre}
 use Rattle.eval.specs.Evaluating.{BinaryPost}
 use Rattle.eval.specs.declared.record.Evaluated.{Evaluated}
 use Rattle.eval.proofs.ValueLaws.{length-value, rows-within}

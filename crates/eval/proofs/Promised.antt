@@ -3,15 +3,15 @@ use mathlib.Core.Path.{_≡_, refl, ap, sym, subst, _∙_}
 use mathlib.Core.Bool.{Bool, true, false, _&&_}
 use mathlib.Core.List.{List}
 use Prim.Native.Nat.{ℕ}
-use lib.Dec.{leb, eqb}
+use lib.Dec.{leb}
 use lib.ListN.{length, take, drop}
-use borrow.Author.Tests.{eqb-true, ne-eqb}
+use borrow.Author.Tests.{ne-eqb}
 use Rattle.model.specs.Base.{pick, all, areBytes}
 use Rattle.model.specs.Refusal as refusal
 use Rattle.model.specs.Table as model
-use Rattle.model.specs.Script.{Expr, Parsed, ill, parsed, readScript}
-use Rattle.model.specs.Run.{State, Out, stop, gives, runOn}
-use Rattle.model.specs.Call.{Ran, areasFit, ranBy, refusedRun, runBy, runCall, callsEnd, CallsEqual}
+use Rattle.model.specs.Script.{Parsed, ill, parsed, readScript}
+use Rattle.model.specs.Run.{State, Out, stop, gives}
+use Rattle.model.specs.Call.{Ran, areasFit, ranBy, refusedRun, runBy, runCall}
 use Rattle.model.proofs.BoolLaws.{by-cases, pick-true, pick-false, and-right}
 use Rattle.model.proofs.RunsBack.{runsBack}
 use Rattle.model.proofs.CallsCommute.{callsCommute}

@@ -1,13 +1,13 @@
 -- The small parts of an answer: past a record or refused at it, one item written, a variable bound.
-use mathlib.Core.Path.{_≡_, refl, ap, sym, subst, _∙_}
+use mathlib.Core.Path.{_≡_, ap, sym, subst, _∙_}
 use mathlib.Core.Bool.{Bool, true, false}
 use mathlib.Core.Option.{Option, none, some}
 use mathlib.Core.List.{List, [], _∷_, _++_}
-use Prim.Native.Nat.{ℕ, suc, _+_, _-_, _≤_, _<_}
+use Prim.Native.Nat.{ℕ, _+_, _-_, _≤_, _<_}
 use native.Mathlib.Omega.{arith}
 use native.Mathlib.Numerals.{add-one}
 use lib.Dec.{ltb, eqb}
-use lib.ListN.{length, getD, take, set, length-set}
+use lib.ListN.{length, take, set, length-set}
 use lib.Seq.{take-suc-set}
 use borrow.Author.Tests.{eq-eqb, ne-eqb, lt-ltb, le-ltb}
 use Rattle.model.specs.Base.{pick}
@@ -20,7 +20,7 @@ use Rattle.run.specs.State.{stopped}
 use Rattle.run.specs.Values.{Appended}
 use Rattle.run.proofs.ValueLaws.{appended-none, appended-if}
 use Rattle.run.specs.declared.state.Progress.{Progress}
-use Rattle.eval.specs.Evaluating.{spanOf, BindPre, BindPost, spansIn, endedBy, limitedBy, movedTo, madeValue}
+use Rattle.eval.specs.Evaluating.{spanOf, BindPre, BindPost, endedBy, limitedBy, madeValue}
 use Rattle.eval.specs.declared.value.Span.{Span}
 use Rattle.eval.specs.declared.record.Evaluated.{Evaluated}
 

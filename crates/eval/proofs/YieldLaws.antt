@@ -1,21 +1,20 @@
 -- What a part of an expression yields: after an update, past the limit, one part after another, and refused.
 use mathlib.Core.Path.{_≡_, refl, ap, sym, subst, _∙_}
-use mathlib.Core.Bool.{true, false}
-use mathlib.Core.List.{List, [], _∷_, _++_}
+use mathlib.Core.List.{List}
 use Prim.Native.Nat.{ℕ, _+_, _-_, _≤_, _<_}
 use native.Mathlib.Omega.{arith}
 use lib.Dec.{ltb, eqb}
 use lib.ListN.{length, take}
 use borrow.Author.Tests.{eq-eqb, ne-eqb, eqb-true, eqb-false, lt-ltb, le-ltb, ltb-true, ltb-false}
 use Rattle.model.specs.Refusal.{fault}
-use Rattle.model.specs.Run.{State, Out, stop, gives, andThen, joinItems}
+use Rattle.model.specs.Run.{State, Out, stop, gives, joinItems}
 use Rattle.model.proofs.BoolLaws.{by-cases, pick-true, pick-false}
 use Rattle.model.proofs.ValueLaws.{AreRows, areRows-append}
-use Rattle.run.specs.State.{stopped, stateOf, outcome, Held, After, Updated}
+use Rattle.run.specs.State.{stateOf, outcome, Held, After, Updated}
 use Rattle.run.specs.Values.{valueAt, Appended}
 use Rattle.run.proofs.StateLaws.{after-self, after-then, outcome-gives, outcome-stop}
 use Rattle.run.specs.declared.state.Progress.{Progress}
-use Rattle.eval.specs.Evaluating.{endedBy, limitedBy, movedTo, Fine, Yields, BinaryPre, ValuePre}
+use Rattle.eval.specs.Evaluating.{endedBy, limitedBy, movedTo, Fine, Yields, BinaryPre}
 use Rattle.eval.specs.declared.value.Span.{Span}
 use Rattle.eval.specs.declared.record.Evaluated.{Evaluated}
 use Rattle.eval.proofs.ValueLaws.{value-append, length-value, below-same, appended-value, appended-below}

@@ -12,11 +12,10 @@ use Rattle.model.specs.Limits.{maxItems}
 use Rattle.model.specs.Script.{stepBy, nilKind, stepKind, deleteKind, bothKind, insertKind, forKind, pickKind}
 use Rattle.model.specs.Script.{isBinder, bodySize}
 use Rattle.model.specs.Step.{stepped, picked}
-use Rattle.model.specs.Run.{State, Out, gives, marked, cutAll, joinItems, inserted, loop, run}
+use Rattle.model.specs.Run.{State, Out, gives, cutAll, joinItems, inserted, loop, run}
 use Rattle.model.proofs.ValueLaws.{AreRows, AreValues}
 use Rattle.script.specs.Walk.{arity, inner, endAt, exprAt}
 use Rattle.script.specs.Accepted.{Accepted}
-use Rattle.table.specs.Words.{linked}
 use Rattle.run.specs.State.{stopped, stateOf, outcome, Held, After}
 use Rattle.run.specs.Values.{valueAt}
 use Rattle.run.specs.declared.state.Progress.{Progress}

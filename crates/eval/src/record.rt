@@ -1,7 +1,7 @@
 // What a record does with the values of its operands.
 ghost use mathlib.Core.Path.{_≡_};
 ghost use Prim.Native.Nat.{_≤_, _<_};
-ghost use lib.ListN.{length, getD};
+ghost use lib.ListN.{getD};
 ghost use Rattle.script.specs.Walk.{arity, endAt};
 ghost use Rattle.eval.specs.Evaluating.{endedBy, limitedBy, movedTo, UnaryPre, UnaryPost, BinaryPre, BinaryPost, EvalPre, EvalPost};
 use crate::value;

@@ -1,22 +1,21 @@
 -- Demand 3 on what callers see: the results of the public run in both orders, from bytes, a table and lent areas.
 use mathlib.Core.Path.{_≡_, refl, ap, sym, _∙_, subst}
 use mathlib.Core.Bool.{Bool, true, false, _&&_, false≢true}
-use mathlib.Core.List.{List, [], _∷_, _++_}
-use mathlib.Core.Option.{Option}
+use mathlib.Core.List.{List, [], _∷_}
 use Prim.Native.Nat.{ℕ, suc, _+_, _-_}
 use native.Mathlib.Omega.{arith}
 use lib.Dec.{leb}
 use lib.ListN.{length, take, replicate}
 use lib.Seq.{take-at}
 use Rattle.model.specs.Base.{pick, areBytes}
-use Rattle.model.specs.Refusal.{Fault, isFine}
+use Rattle.model.specs.Refusal.{isFine}
 use Rattle.model.specs.Table.{Table, count, isWell}
 use Rattle.model.specs.Script.{Expr, Parsed, ill, parsed, readScript}
 use Rattle.model.specs.History.{Record, historyBytes, replayAll}
 use Rattle.model.specs.Run.{State, Out, stop, gives, runOn}
 use Rattle.model.specs.Meeting.{free, answer}
-use Rattle.model.specs.Promise.{IsScript, ends, tableOf, orderEnds, OrdersEqual, matchedAll, matchedHistory, PlansEqual}
-use Rattle.model.specs.Call.{answered, firstBy, analyse, Ran, filled, countKind, runBy}
+use Rattle.model.specs.Promise.{IsScript, ends, tableOf, orderEnds, matchedAll, matchedHistory}
+use Rattle.model.specs.Call.{answered, firstBy, Ran, filled, countKind, runBy}
 use Rattle.model.specs.Call.{ranBy, areasFit, runCall, callsEnd, CallsMatch, CallsEqual, EitherOrder, CallsCommute}
 use Rattle.model.proofs.BoolLaws.{pick-true, and-left}
 use Rattle.model.proofs.StopLaws.{stop-refuses}

@@ -1,21 +1,21 @@
 -- Document 03's text of the definitions for which ours serve, where the two texts differ (kinds, limits, refusals and parts named): each is
 -- equal to ours.
-use mathlib.Core.Path.{_≡_, refl, sym, ap, _∙_}
+use mathlib.Core.Path.{_≡_, refl, ap, _∙_}
 use mathlib.Core.Bool.{Bool, true, false, _&&_, _||_, not}
 use mathlib.Core.List.{List, [], _∷_, _++_}
 use mathlib.Core.Option.{Option, none, some}
-use Prim.Native.Nat.{ℕ, zero, suc, _+_, _*_, _-_, _/_, _%_, _<_}
+use Prim.Native.Nat.{ℕ, zero, suc, _+_, _-_, _<_}
 use lib.Dec.{ltb, leb, eqb}
 use lib.ListN.{length, getD, take, drop, set}
 use Rattle.model.specs.Base.{pick, any, isIn}
 use Rattle.model.specs.Refusal.{Fault, fault, fine, isFine, orElse}
 use Rattle.model.specs.Table.{Row, Table, table, empty, rowAt, count, isElement}
-use Rattle.model.specs.Table.{hasParent, isThe, isMarked, withRow, tagFits, parentFits}
+use Rattle.model.specs.Table.{hasParent, isThe, isMarked, withRow, tagFits}
 use Rattle.model.specs.Stored.{Read, bad, got, wordAt, rowIn, isMark, lastMarked, rowLinks, recorded}
-use Rattle.model.specs.Step.{isBelow, relates}
+use Rattle.model.specs.Step.{relates}
 use Rattle.model.specs.Script.{testFits}
 use Rattle.model.specs.History.{Record}
-use Rattle.model.specs.Run.{State, state, Out, stop, gives, made, withMade, cutRecord, Copied, copyParent, descendantsFrom, thenRow}
+use Rattle.model.specs.Run.{State, state, Out, stop, gives, withMade, cutRecord, Copied, copyParent, descendantsFrom, thenRow}
 use Rattle.model.specs.Undo.{oldParentFits}
 use Rattle.model.specs.Paths.{Place, place}
 use Rattle.model.specs.Promise.{Places, matched, matchedParent}

@@ -13,7 +13,7 @@ use Rattle.model.specs.Table.{Table, Row, rowAt, isElement}
 use Rattle.model.specs.Script.{Expr, nil, document, var, step, both, letIn, forIn, ifIn, element, leaf, delete, insert, choose}
 use Rattle.model.specs.Run.{State, Out, stop, gives, andThen, thenRow, newRow}
 use Rattle.model.specs.Run.{roomFault, cutBy, cutRow, cutAll, Copied, copyEach, copyAll}
-use Rattle.model.specs.Run.{inserted, joinItems, joinFor, loop, run, runOn}
+use Rattle.model.specs.Run.{joinFor, loop, run, runOn}
 use Rattle.model.proofs.BoolLaws.{by-cases}
 
 -- a refusal, or no stop at all

@@ -1,25 +1,25 @@
 -- Undo of any bytes that fit a well-formed table leaves a well-formed table.
 use mathlib.Core.Path.{_≡_, refl, ap, sym, _∙_, subst}
-use mathlib.Core.Bool.{Bool, true, false, _&&_, not}
+use mathlib.Core.Bool.{Bool, true, false, not}
 use mathlib.Core.List.{List, [], _∷_}
 use mathlib.Core.Option.{Option, none, some}
-use Prim.Native.Nat.{ℕ, suc, _+_, _-_, _≤_, _<_}
+use Prim.Native.Nat.{ℕ, _+_, _-_, _<_}
 use native.Mathlib.Omega.{arith}
 use lib.Dec.{ltb, eqb}
 use lib.ListN.{length, getD, take}
 use lib.Seq.{length-take-le, getD-take}
 use borrow.Author.Tests.{ltb-true, eqb-true, eqb-false, not-true}
-use Rattle.model.specs.Base.{pick, any}
+use Rattle.model.specs.Base.{pick}
 use Rattle.model.specs.Refusal.{linkAt}
 use Rattle.model.specs.Table.{Row, Table, table, noRow, rowAt, count, isElement}
 use Rattle.model.specs.Table.{isMarked, hasParent, linked, withParent, tagFits, isWell}
-use Rattle.model.specs.History.{Record, cutKind, madeLeafKind}
-use Rattle.model.specs.Undo.{Placed, Formed, broken, formed, formFrom, sameBool, sameParent, madeFits, oldParentFits, cutFits}
-use Rattle.model.specs.Undo.{undoFits, undone, Undo, refused, back, undoAll, backwards, undoFormed, undo}
+use Rattle.model.specs.History.{Record, cutKind}
+use Rattle.model.specs.Undo.{Placed, Formed, broken, formed, formFrom, madeFits, oldParentFits, cutFits}
+use Rattle.model.specs.Undo.{undoFits, undone, refused, back, undoAll, backwards, undoFormed}
 use Rattle.model.specs.Promise.{UndoKeeps}
 use Rattle.model.proofs.BoolLaws.{by-cases, true-false, and-left, and-right}
 use Rattle.model.proofs.TestLaws.{and-four, and-five}
-use Rattle.model.proofs.TableLaws.{Tree, Well, ParentLower, isWell-at, isWell-by, isElement-at, any-by, parent-count}
+use Rattle.model.proofs.TableLaws.{Well, ParentLower, isWell-at, isWell-by, isElement-at, any-by, parent-count}
 use Rattle.model.proofs.GrowLaws.{well-linked}
 
 -- A LINK BACK: the row is there and unmarked, its old parent a lower element

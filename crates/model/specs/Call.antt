@@ -11,7 +11,7 @@ use Rattle.model.specs.Refusal.{Fault, fine, isFine, linkAt, lentShort}
 use Rattle.model.specs.Table.{Table, count, isWell}
 use Rattle.model.specs.Script.{Expr, Parsed, ill, parsed, readScript}
 use Rattle.model.specs.History.{Record, madeElementKind, madeLeafKind, cutKind, historyBytes, replayAll}
-use Rattle.model.specs.Run.{State, Out, stop, gives, runOn}
+use Rattle.model.specs.Run.{Out, stop, gives, runOn}
 use Rattle.model.specs.Meeting.{Answer, free, answer}
 use Rattle.model.specs.Promise.{matchedAll, matchedHistory, PlansEqual}
 

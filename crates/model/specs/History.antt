@@ -4,7 +4,7 @@ use mathlib.Core.Option.{Option, none}
 use Prim.Native.Nat.{ℕ}
 use lib.Dec.{eqb}
 use Rattle.model.specs.Base.{pick}
-use Rattle.model.specs.Table.{Row, Table, linked, withRow}
+use Rattle.model.specs.Table.{Table, linked, withRow}
 use Rattle.model.specs.Stored.{wordBytes, parentBytes}
 
 -- KINDS: element made, leaf made (body: row, name or value, parent), link cut (body: row, old parent)

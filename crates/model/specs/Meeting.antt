@@ -1,8 +1,7 @@
 -- Document 01, 'The paths': when some plan has a node on two paths that go down only, and the answer.
 -- Assumes nothing: these are definitions.
-use mathlib.Core.Bool.{Bool, true, false, _&&_, _||_, not}
+use mathlib.Core.Bool.{Bool, false, _&&_, _||_, not}
 use mathlib.Core.List.{List}
-use Prim.Native.Nat.{ℕ}
 use lib.Dec.{eqb}
 use Rattle.model.specs.Base.{pick, any}
 use Rattle.model.specs.Script.{Step, Expr}

@@ -1,11 +1,11 @@
 -- Document 01, 'Stored plan': written, and read with number and place of a refusal. Assumes nothing: these are definitions.
-use mathlib.Core.Bool.{Bool, true, false, _&&_, _||_, not}
+use mathlib.Core.Bool.{Bool, _&&_, _||_, not}
 use mathlib.Core.List.{List, [], _∷_, _++_}
 use mathlib.Core.Option.{Option, none, some}
 use Prim.Native.Nat.{ℕ, zero, suc, _+_, _*_, _/_, _%_}
 use lib.Dec.{ltb, leb, eqb}
 use lib.ListN.{length, getD, drop}
-use Rattle.model.specs.Base.{pick, isIn, any}
+use Rattle.model.specs.Base.{pick, isIn}
 use Rattle.model.specs.Limits.{maxRows, documents}
 use Rattle.model.specs.Refusal.{Fault, isFine, orElse, unless, kindAt, shortAt, fieldAt, sizeAt, linkAt}
 use Rattle.model.specs.Table.{Row, Table, empty, rowAt, count, isElement, isMarked, hasParent, withRow, withMark, tagFits, parentFits}

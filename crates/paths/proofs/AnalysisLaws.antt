@@ -7,7 +7,7 @@ use native.Mathlib.Omega.{arith}
 use lib.ListN.{length, take}
 use lib.Seq.{take-suc, length-take-le}
 use Rattle.model.specs.Base.{pick}
-use Rattle.model.specs.Script.{Expr, Parsed, parsed, readScript}
+use Rattle.model.specs.Script.{Expr, Parsed, readScript}
 use Rattle.model.specs.Paths.{hasUp}
 use Rattle.model.specs.Meeting.{free, upward, meet, answer}
 use Rattle.model.specs.Call.{firstBy, secondBy}

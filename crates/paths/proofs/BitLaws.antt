@@ -6,7 +6,7 @@ use native.Mathlib.Omega.{arith}
 use lib.Dec.{eqb}
 use lib.Bits.{bitOr, or-step, or-shr}
 use Rattle.model.specs.Base.{pick}
-use Rattle.model.specs.Meeting.{Cell, onCell, downCell, upCell, joinCell}
+use Rattle.model.specs.Meeting.{onCell, downCell, upCell, joinCell}
 use Rattle.paths.specs.Codes.{cellBits}
 use Rattle.paths.proofs.CellLaws.{cell-equal}
 

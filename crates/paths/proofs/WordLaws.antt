@@ -6,7 +6,6 @@ use native.Mathlib.Omega.{arith}
 use native.Mathlib.Numerals.{add-one}
 use lib.ListN.{length, take, set, length-set, length-map}
 use lib.Seq.{take-suc-set, length-take-le}
-use Rattle.paths.specs.Positions as positions
 use Rattle.paths.specs.Words.{entryBy, wordOf, fieldsOf, PositionFits, entryOf, entriesIn, PushPost}
 use Rattle.paths.specs.declared.positions.Position.{Position}
 

@@ -1,6 +1,4 @@
 // The lines of the report. Each ends with 0x0A.
-ghost use Prim.Native.Nat.{_+_, _≤_};
-ghost use lib.ListN.{length};
 ghost use Rattle.report.specs.Lines.{FileLine, AnswerLine, OrderLine, NamePre};
 use crate::number;
 use crate::orders::Order;

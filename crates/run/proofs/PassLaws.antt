@@ -1,24 +1,24 @@
 -- One row more of a pass over the rows, down or up, and the whole pass.
 use mathlib.Core.Path.{_≡_, refl, ap, sym, _∙_, subst}
 use mathlib.Core.Bool.{Bool, true, false, _&&_, _||_, not, and-false}
-use mathlib.Core.List.{List, [], _∷_}
+use mathlib.Core.List.{List, []}
 use mathlib.Core.Option.{Option, none, some}
-use Prim.Native.Nat.{ℕ, zero, suc, _+_, _-_, _/_, _%_, _≤_, _<_}
+use Prim.Native.Nat.{ℕ, suc, _+_, _-_, _/_, _%_, _≤_, _<_}
 use native.Mathlib.Omega.{arith}
 use native.Mathlib.Numerals.{add-one}
 use lib.Dec.{eqb}
 use lib.ListN.{length, getD, set, replicate, length-set, getD-replicate}
 use lib.Seq.{getD-set-same, getD-set-other}
 use borrow.Author.Tests.{ne-eqb, eqb-true, eqb-false}
-use Rattle.model.specs.Base.{pick, any, among}
+use Rattle.model.specs.Base.{among}
 use Rattle.model.specs.Table as model
 use Rattle.model.specs.Sweep.{through}
-use Rattle.model.specs.Step.{parentIs, reaches}
+use Rattle.model.specs.Step.{parentIs}
 use Rattle.model.proofs.BoolLaws.{by-cases, pick-true, pick-false}
-use Rattle.table.specs.Words.{linked, rowOf, decodeParts}
+use Rattle.table.specs.Words.{linked, decodeParts}
 use Rattle.table.proofs.WordLaws.{count-decode, rowAt-decode}
 use Rattle.table.proofs.ReadLaws.{isThe-linked}
-use Rattle.run.specs.Stepping.{bit, Flagged, counted, descended, climbed, RowsHeld, PassPre}
+use Rattle.run.specs.Stepping.{bit, Flagged, counted, descended, climbed, RowsHeld}
 use Rattle.run.specs.Stepping.{Reached, Descending, Climbing, anyFrom, upTo, childCounts}
 use Rattle.run.proofs.ReachLaws.{downTo, down-parent, up-children}
 

@@ -1,18 +1,15 @@
 -- Pick over the work area: one item more, and that what is kept is what the model keeps.
 use mathlib.Core.Path.{_≡_, refl, ap, sym, _∙_, subst}
-use mathlib.Core.Bool.{Bool, true, false, _&&_, not}
+use mathlib.Core.Bool.{Bool, true, false, _&&_}
 use mathlib.Core.List.{List, [], _∷_, _++_}
-use Prim.Native.Nat.{ℕ, zero, suc, _+_, _-_, _/_, _%_, _≤_, _<_}
+use Prim.Native.Nat.{ℕ, suc, _+_, _-_, _≤_, _<_}
 use native.Mathlib.Omega.{arith}
-use native.Mathlib.Numerals.{add-one}
-use lib.Dec.{ltb, eqb}
 use lib.ListN.{length, getD, take, drop, set, length-drop}
-use lib.Seq.{drop-drop, take-suc, getD-drop, drop-set-lt, length-take-le, getD-take}
-use borrow.Author.Tests.{lt-ltb, le-ltb, eq-eqb, ne-eqb}
+use lib.Seq.{drop-drop, take-suc, getD-drop, drop-set-lt}
 use Rattle.model.specs.Base.{pick}
 use Rattle.model.specs.Table as model
-use Rattle.model.specs.Step.{signedKey, relates, isPicked, picked}
-use Rattle.table.specs.Words.{rowOf, decodeParts}
+use Rattle.model.specs.Step.{relates, isPicked, picked}
+use Rattle.table.specs.Words.{decodeParts}
 use Rattle.table.proofs.WordLaws.{rowAt-decode}
 use Rattle.run.specs.Values.{valueAt, Appended, filtered, pickedRow}
 use Rattle.run.proofs.ValueLaws.{appended-none, appended-if}

@@ -1,6 +1,6 @@
 -- What a step reaches, row by row: going down from a row's parent, going up from a row's children.
 use mathlib.Core.Path.{_≡_, refl, ap, sym, _∙_, subst}
-use mathlib.Core.Bool.{Bool, true, false, _&&_, _||_, not, or-false}
+use mathlib.Core.Bool.{Bool, true, false, _&&_, _||_, or-false}
 use mathlib.Core.List.{List, [], _∷_}
 use mathlib.Core.Option.{Option, none, some}
 use mathlib.Core.Logic.{_⊎_, inl, inr}
@@ -8,7 +8,7 @@ use Prim.Native.Nat.{ℕ, zero, suc, _+_, _-_, _≤_, _<_}
 use native.Mathlib.Omega.{arith}
 use lib.Dec.{eqb}
 use borrow.Author.Tests.{eq-eqb, eqb-true, eqb-false}
-use Rattle.model.specs.Base.{pick, any, among}
+use Rattle.model.specs.Base.{any, among}
 use Rattle.model.specs.Table.{Table, rowAt, count, isThe}
 use Rattle.model.specs.Sweep.{through}
 use Rattle.model.specs.Step.{parentIs, isBelow, reaches}

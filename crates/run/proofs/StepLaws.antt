@@ -1,22 +1,21 @@
 -- A step's tests and flags, by the ways out of the code that makes them.
 use mathlib.Core.Path.{_≡_, refl, ap, sym, _∙_, subst}
-use mathlib.Core.Bool.{Bool, true, false, _&&_, _||_, not, or-false, or-true, or-assoc}
+use mathlib.Core.Bool.{Bool, true, false, _||_, or-false, or-true, or-assoc}
 use mathlib.Core.List.{List, [], _∷_, _++_}
-use mathlib.Core.Option.{Option, none, some}
-use Prim.Native.Nat.{ℕ, zero, suc, _+_, _-_, _/_, _%_, _≤_, _<_}
+use mathlib.Core.Option.{none}
+use Prim.Native.Nat.{ℕ, _+_, _-_, _/_, _%_, _≤_, _<_}
 use native.Mathlib.Omega.{arith}
 use native.Mathlib.Numerals.{add-one}
-use lib.Dec.{ltb, leb, eqb}
-use lib.ListN.{length, getD, take, drop, set, replicate, length-set, getD-replicate}
+use lib.Dec.{eqb}
+use lib.ListN.{length, getD, take, set, replicate, length-set, getD-replicate}
 use lib.Seq.{take-suc, take-all, getD-set-same, getD-set-other}
-use borrow.Author.Tests.{eq-eqb, ne-eqb, eqb-true, eqb-false}
-use Rattle.model.specs.Base.{pick, any, among}
-use Rattle.model.specs.Table as model
+use borrow.Author.Tests.{ne-eqb, eqb-true, eqb-false}
+use Rattle.model.specs.Base.{among}
 use Rattle.model.specs.Script.{stepBy}
-use Rattle.model.specs.Step.{Letter, leafLetter, named, letterOf, admits}
+use Rattle.model.specs.Step.{leafLetter, named, letterOf, admits}
 use Rattle.model.proofs.BoolLaws.{by-cases}
 use Rattle.table.specs.Words.{rowOf}
-use Rattle.run.specs.Stepping.{bit, FlagPre, Flagged}
+use Rattle.run.specs.Stepping.{bit, Flagged}
 
 -- TESTS
 module _ (w t n : ℕ) where

@@ -7,7 +7,7 @@ use native.Mathlib.Omega.{arith}
 use native.Mathlib.Nat.{add-zero, zero-add}
 use native.Mathlib.Numerals.{add-one}
 use lib.Dec.{eqb}
-use lib.ListN.{length, getD, take, drop, set, length-append}
+use lib.ListN.{length, getD, take, set, length-append}
 use lib.Seq.{take-suc-set}
 use Rattle.model.specs.Base.{pick, any}
 use Rattle.model.specs.Table as model
@@ -16,7 +16,7 @@ use Rattle.model.specs.Step.{Letter, leafLetter, named, isReached, reaches, adm
 use Rattle.model.proofs.Collect.{collect, step-collect}
 use Rattle.table.specs.Words.{rowOf, decodeParts}
 use Rattle.table.proofs.WordLaws.{count-decode, rowAt-decode}
-use Rattle.run.specs.Stepping.{bit, Flagged, Reached}
+use Rattle.run.specs.Stepping.{Flagged, Reached}
 use Rattle.run.specs.Values.{Appended, kept, keptRows}
 use Rattle.run.proofs.PassLaws.{not-zero}
 

@@ -1,7 +1,7 @@
-// The rows that a step reaches from a value, and those that pick keeps.
+// The rows that a step reaches from a value.
 // A row's flag stands at its number and one; position 0 is for no row.
 ghost use mathlib.Core.Path.{_≡_};
-ghost use Prim.Native.Nat.{_+_, _/_, _%_, _≤_, _<_};
+ghost use Prim.Native.Nat.{_+_, _/_, _%_, _<_};
 ghost use lib.ListN.{length, getD, set};
 ghost use Rattle.model.specs.Base.{pick};
 ghost use Rattle.model.specs.Script.{stepBy};
@@ -197,7 +197,8 @@ fn collect(
     from: usize,
 ) -> usize
     requires { ⌜ CollectPre (now rows) count (now reached) (now work) from ⌝ }
-    ensures { λ r. ⌜ Appended (keptRows (now (rows .entry)) (now (reached .entry)) test (name .0) count) (now (work .entry)) from (now (work .exit)) r ⌝ }
+    ensures { λ r. ⌜ Appended (keptRows (now (rows .entry)) (now (reached .entry)) test (name .0) count) (now (work .entry)) from
+        (now (work .exit)) r ⌝ }
 {
     let mut at = from;
     let mut j = 0;
@@ -220,7 +221,8 @@ pub fn stepped(
     to: usize,
 ) -> usize
     requires { ⌜ StepPre (now rows) count (by .axis) (now work) from to ⌝ }
-    ensures { λ r. ⌜ StepPost (now (rows .entry)) count (by .axis) (by .test) (by .name .0) (now (work .entry)) from to (now (work .exit)) r ⌝ }
+    ensures { λ r. ⌜ StepPost (now (rows .entry)) count (by .axis) (by .test) (by .name .0) (now (work .entry)) from to
+        (now (work .exit)) r ⌝ }
 {
     let mut flags = [0u8; 513];
     let mut reached = [0u8; 513];

@@ -1,23 +1,21 @@
 -- The calls over a table handed in: from the check's answer and what the parts leave to what the call owes.
-use mathlib.Core.Path.{_≡_, refl, ap, sym, _∙_}
+use mathlib.Core.Path.{_≡_, ap, sym, _∙_}
 use mathlib.Core.Bool.{Bool, true, false, _&&_}
 use mathlib.Core.List.{List, [], _∷_, _++_, map}
-use mathlib.Core.Option.{Option, none, some}
+use mathlib.Core.Option.{none, some}
 use Prim.Native.Nat.{ℕ, zero, suc, _+_, _*_, _-_, _/_, _%_, _≤_, _<_}
 use native.Mathlib.Omega.{arith}
 use native.Mathlib.Nat.{zero-add}
-use lib.Dec.{ltb, leb, eqb}
+use lib.Dec.{leb, eqb}
 use lib.ListN.{length, getD, take, drop, length-append, List·getD-map}
 use lib.Seq.{getD-take, length-take-le}
 use borrow.Author.Tests.{le-leb, lt-leb, leb-true, eqb-true, eqb-false}
-use Rattle.model.specs.Base.{pick, isIn, all}
+use Rattle.model.specs.Base.{all}
 use Rattle.model.specs.Table as model
 use Rattle.model.specs.Stored.{rowsBytes, marksBytes, stored}
 use Rattle.model.proofs.BoolLaws.{and-left, and-right, by-cases}
 use Rattle.model.proofs.TableLaws.{Well, isWell-at}
 use Rattle.table.specs.declared.Table.{Table}
-use Rattle.table.specs.declared.Fault.{Fault}
-use Rattle.table.specs.declared.Written.{Written}
 use Rattle.table.specs.Words.{linked, rowOf, rowsOf, isRowWord, isZero, decodeParts, decode, partsFit, fits}
 use Rattle.table.specs.Writing.{over}
 use Rattle.table.specs.Calls.{planWritten, planOut}

@@ -1,8 +1,7 @@
 -- The check of a table handed in, one turn at a time; and that the check over the words is the model's rule on the table decoded.
 use mathlib.Core.Path.{_≡_, refl, ap, sym, _∙_}
-use mathlib.Core.Bool.{Bool, true, false, _&&_, _||_, not, and-true, and-false, and-comm}
+use mathlib.Core.Bool.{Bool, true, false, _&&_, not, and-true, and-false, and-comm}
 use mathlib.Core.List.{List, [], _∷_, map}
-use mathlib.Core.Option.{Option, none, some}
 use Prim.Native.Nat.{ℕ, zero, suc, _+_, _-_, _/_, _%_, _≤_, _<_}
 use native.Mathlib.Omega.{arith}
 use native.Mathlib.Numerals.{add-one}

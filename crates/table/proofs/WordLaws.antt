@@ -1,18 +1,18 @@
 -- A row survives its word, and a word that holds a row survives decoding; so do tables. Words are read, set and pushed as rows are.
 use mathlib.Core.Path.{_≡_, refl, ap, sym, _∙_}
-use mathlib.Core.Bool.{Bool, true, false, _&&_}
+use mathlib.Core.Bool.{Bool, true, false}
 use mathlib.Core.List.{List, [], _∷_, _++_, map}
 use mathlib.Core.Option.{Option, none, some}
 use mathlib.Core.Logic.{⊎-elim}
 use Prim.Native.Nat.{ℕ, zero, suc, _+_, _*_, _-_, _/_, _%_, _≤_, _<_}
 use native.Mathlib.Omega.{arith}
 use native.Mathlib.Numerals.{add-one}
-use lib.Dec.{ltb, leb, eqb}
+use lib.Dec.{leb, eqb}
 use lib.ListN.{length, getD, take, drop, set, replicate}
-use lib.ListN.{length-map, length-take, length-append, length-drop, take-append-drop, List·getD-map}
+use lib.ListN.{length-map, length-append, length-drop, take-append-drop, List·getD-map}
 use lib.Seq.{append-snoc, set-at, getD-take, take-suc-set, length-take-le}
-use borrow.Author.Tests.{lt-ltb, le-leb, eq-eqb, ne-eqb, leb-true, eqb-true, eqb-false}
-use Rattle.model.specs.Base.{pick, isIn, all}
+use borrow.Author.Tests.{eq-eqb, ne-eqb, leb-true, eqb-true, eqb-false}
+use Rattle.model.specs.Base.{pick, all}
 use Rattle.model.specs.Table as model
 use Rattle.model.proofs.BoolLaws.{and-left, and-right, bool-cases}
 use Rattle.table.specs.Words.{linkOf, linked, wordOf, rowOf, isRowWord, isZero, rowsOf, decodeParts, wordsOf, encode}

@@ -1,22 +1,20 @@
 -- What the writer puts: a record over an area, and the stored form grown row by row and mark by mark.
 use mathlib.Core.Path.{_≡_, refl, ap, sym, _∙_}
-use mathlib.Core.Bool.{Bool, true, false}
 use mathlib.Core.List.{List, [], _∷_, _++_, map, append-assoc, append-nil}
-use mathlib.Core.Option.{Option, none, some}
+use mathlib.Core.Option.{Option}
 use Prim.Native.Nat.{ℕ, zero, suc, _+_, _*_, _-_, _/_, _%_, _≤_, _<_}
 use native.Mathlib.Omega.{arith}
 use native.Mathlib.Nat.{add-zero}
 use native.Mathlib.Numerals.{add-one}
-use lib.Dec.{ltb, leb, eqb}
+use lib.Dec.{eqb}
 use lib.ListN.{length, getD, take, drop, set, length-append, length-map, length-drop, take-append-drop}
 use lib.Seq.{sets-eq, take-at, drop-append-add, drop-drop, take-suc, take-all, length-take-le}
-use borrow.Author.Tests.{eq-eqb, ne-eqb}
-use Rattle.model.specs.Base.{pick}
+use borrow.Author.Tests.{ne-eqb}
 use Rattle.model.specs.Table as model
 use Rattle.model.specs.Stored.{wordBytes, parentBytes, rowBytes, rowsBytes, markBytes, marksBytes}
 use Rattle.model.proofs.BoolLaws.{by-cases}
 use Rattle.model.proofs.BytesLaws.{length-parentBytes, rowsBytes-snoc}
-use Rattle.table.specs.Words.{linked, rowOf, rowsOf, decodeParts}
+use Rattle.table.specs.Words.{linked, rowOf, rowsOf}
 use Rattle.table.specs.Writing.{over}
 use Rattle.table.proofs.WordLaws.{map-append, count-decode, rowAt-decode}
 

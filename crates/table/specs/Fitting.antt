@@ -1,13 +1,13 @@
 -- The check of a table handed in, as the code makes it: row by row over the words. Assumes nothing: these are definitions.
 use mathlib.Core.Path.{_≡_}
-use mathlib.Core.Bool.{Bool, true, false, _&&_, _||_, not}
+use mathlib.Core.Bool.{Bool, true, _&&_, _||_, not}
 use mathlib.Core.List.{List, [], _∷_, map}
-use Prim.Native.Nat.{ℕ, zero, suc, _+_, _-_, _/_, _%_}
+use Prim.Native.Nat.{ℕ, zero, suc, _-_, _/_, _%_}
 use lib.Dec.{ltb, leb, eqb}
 use lib.ListN.{length, getD}
-use Rattle.model.specs.Base.{pick, isIn, any}
+use Rattle.model.specs.Base.{pick, any}
 use Rattle.model.specs.Table.{isThe}
-use Rattle.table.specs.Words.{linked, isRowWord}
+use Rattle.table.specs.Words.{linked}
 
 -- rows and marks as they stand in a table
 pub record Words (ws ms : List ℕ) : Type 0 where

@@ -1,13 +1,11 @@
 -- Contracts of the reader's parts: what each asks and what it leaves. Assumes nothing: these are definitions.
 use mathlib.Core.Path.{_≡_}
-use mathlib.Core.Bool.{Bool, true}
 use mathlib.Core.List.{List, map}
 use Prim.Native.Nat.{ℕ, _+_, _≤_, _<_}
 use lib.Dec.{eqb}
 use lib.ListN.{length, getD, set, replicate}
-use Rattle.model.specs.Base.{pick, isIn}
+use Rattle.model.specs.Base.{pick}
 use Rattle.model.specs.Refusal.{Fault, fault, fine}
-use Rattle.model.specs.Table as model
 use Rattle.model.specs.Stored.{Read, bad, got, readPlan, wordAt, rowIn, lastMarked, rowFault, markFault, recordFault, recorded}
 use Rattle.table.specs.Words.{linkOf, linked, wordOf, rowsOf, wordsOf, decodeParts}
 use Rattle.table.specs.declared.read.RecordRead.{RecordRead}

@@ -1,9 +1,6 @@
 use borrow.Author.Needs.{needs}
 use Rattle.eval.proofs.refused.Statement.{statement}
 use Rattle.eval.proofs.refused.Tie as tie
-use Rattle.eval.proofs.refused.Reads as reads
-use Rattle.eval.proofs.refused.Lts as lts
-use Rattle.eval.proofs.tally.none.Reads as none-reads
 use mathlib.Core.Path.{ap}
 use Rattle.eval.specs.declared.tally.Tally.{Tally}
 

@@ -1,16 +1,9 @@
 use borrow.Author.Needs.{needs}
 use Rattle.eval.proofs.run.Statement.{statement}
 use Rattle.eval.proofs.run.Tie as tie
-use Rattle.eval.proofs.run.Reads as reads
-use Rattle.eval.proofs.run.Lts as lts
-use Rattle.eval.proofs.area.clear_bytes.Reads as clear-bytes-reads
-use Rattle.eval.proofs.area.clear_words.Reads as clear-words-reads
-use Rattle.eval.proofs.refused.Reads as refused-reads
-use Rattle.eval.proofs.run_in.Reads as run-in-reads
-use mathlib.Core.Path.{_≡_, refl, ap, sym, _∙_}
+use mathlib.Core.Path.{ap, _∙_}
 use Prim.Native.Nat.{ℕ}
-use native.Mathlib.Omega.{arith}
-use lib.ListN.{length, replicate}
+use lib.ListN.{replicate}
 use Rattle.eval.proofs.CallLaws.{short-result, short-answer, short-history, short-work, cleared-pre, run-done}
 
 refused-requires : tie.Need-refused-requires

@@ -1,24 +1,12 @@
 use borrow.Author.Needs.{needs}
 use Rattle.eval.proofs.run_in.Statement.{statement}
 use Rattle.eval.proofs.run_in.Tie as tie
-use Rattle.eval.proofs.run_in.Reads as reads
-use Rattle.eval.proofs.run_in.Lts as lts
-use Rattle.eval.proofs.area.clear_bytes.Reads as clear-bytes-reads
-use Rattle.eval.proofs.area.put.Reads as put-reads
-use Rattle.eval.proofs.evaluate.eval.Reads as eval-reads
-use Rattle.eval.proofs.refused.Reads as refused-reads
-use Rattle.eval.proofs.tally.tallied.Reads as tallied-reads
-use Rattle.run.proofs.state.Progress.start.Reads as start-reads
-use Rattle.script.proofs.read_script.Reads as read-script-reads
-use Rattle.table.proofs.fit.fits.Reads as fits-reads
-use mathlib.Core.Path.{_≡_, refl, ap, sym, _∙_}
-use mathlib.Core.Bool.{true, false}
+use mathlib.Core.Path.{refl, ap, sym, _∙_}
 use Prim.Native.Nat.{ℕ}
 use native.Mathlib.Omega.{arith}
 use lib.ListN.{length, replicate}
 use borrow.Author.Tests.{not-true, not-false}
 use Rattle.table.specs.Fitting.{Words}
-use Rattle.table.specs.Words.{fits}
 use Rattle.eval.proofs.CallLaws.{refused-post, ill-formed, refuses-by, accepted-by, eval-asks, run-stops, run-post, put-asks, limit, few}
 
 size : (c : tie.Start) → Words (c .args .t1 .rows) (c .args .t1 .marks)

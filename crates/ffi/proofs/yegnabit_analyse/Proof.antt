@@ -2,10 +2,6 @@ use Rattle.ffi.proofs.CallLaws.{analysis-told}
 use borrow.Author.Needs.{needs}
 use Rattle.ffi.proofs.yegnabit_analyse.Statement.{statement}
 use Rattle.ffi.proofs.yegnabit_analyse.Tie as tie
-use Rattle.ffi.proofs.yegnabit_analyse.Reads as reads
-use Rattle.ffi.proofs.yegnabit_analyse.Lts as lts
-use Rattle.ffi.proofs.code.Reads as code-reads
-use Rattle.paths.proofs.analyse.Reads as analyse-reads
 
 analyse-requires : tie.Need-analyse-requires
 analyse-requires c κs = search needs

@@ -3,7 +3,7 @@ use Rattle.ffi.specs.Calls.{undonePlan, backCode, backOut}
 use Rattle.run.specs.Undoing.{planUndone}
 use Rattle.table.specs.declared.TableResult.{TableResult}
 use Rattle.table.specs.Calls as library
-use mathlib.Core.Path.{_≡_, refl, _∙_, sym, ap}
+use mathlib.Core.Path.{_∙_, ap}
 use native.Mathlib.Omega.{arith}
 use borrow.Author.Needs.{needs}
 use Rattle.ffi.proofs.yegnabit_undo.Statement.{statement}

@@ -1,5 +1,5 @@
 use Rattle.table.proofs.ReadingLaws.{plan-refused, plan-read}
-use mathlib.Core.Path.{refl, _≡_}
+use mathlib.Core.Path.{refl}
 use borrow.Author.Needs.{needs}
 use Rattle.table.proofs.read_plan.Statement.{statement}
 use Rattle.table.proofs.read_plan.Tie as tie

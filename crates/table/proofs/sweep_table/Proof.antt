@@ -2,10 +2,8 @@ use Rattle.table.proofs.SweepLaws.{encode-swept, sweep-ill, sweep-done}
 use Rattle.table.proofs.CallLaws.{Fits, fits-at, fits-mark}
 use Rattle.table.specs.Fitting.{Words}
 use borrow.Author.Tests.{not-true, not-false}
-use lib.ListN.{length}
-use Prim.Native.Nat.{ℕ, _≤_}
 use native.Mathlib.Omega.{arith}
-use mathlib.Core.Path.{_≡_, refl, _∙_, sym, ap}
+use mathlib.Core.Path.{refl, _∙_, sym}
 use borrow.Author.Needs.{needs}
 use Rattle.table.proofs.sweep_table.Statement.{statement}
 use Rattle.table.proofs.sweep_table.Tie as tie

@@ -5,11 +5,11 @@ use Rattle.table.specs.Writing.{over}
 use Rattle.table.specs.Fitting.{Words}
 use Rattle.table.specs.Words.{linked, rowsOf, decode}
 use Rattle.model.specs.Stored.{stored, rowsBytes, marksBytes}
-use lib.ListN.{length, getD, take, drop}
+use lib.ListN.{length}
 use borrow.Author.Tests.{not-true, not-false}
-use mathlib.Core.List.{List, map, _++_}
-use mathlib.Core.Path.{_≡_, refl, _∙_, sym, ap}
-use Prim.Native.Nat.{ℕ, _+_, _-_, _*_, _≤_, _<_}
+use mathlib.Core.List.{map}
+use mathlib.Core.Path.{_≡_, _∙_, sym, ap}
+use Prim.Native.Nat.{_-_, _*_, _≤_}
 use native.Mathlib.Omega.{arith}
 use borrow.Author.Needs.{needs}
 use Rattle.table.proofs.write_plan.Statement.{statement}

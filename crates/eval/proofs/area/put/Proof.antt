@@ -1,12 +1,10 @@
 use borrow.Author.Needs.{needs}
 use Rattle.eval.proofs.area.put.Statement.{statement}
 use Rattle.eval.proofs.area.put.Tie as tie
-use Rattle.eval.proofs.area.put.Reads as reads
-use Rattle.eval.proofs.area.put.Lts as lts
 use mathlib.Core.Path.{_≡_, refl, _∙_}
 use Prim.Native.Nat.{_≤_, _-_}
 use native.Mathlib.Omega.{arith}
-use lib.ListN.{length, getD, set, length-set}
+use lib.ListN.{length, getD, length-set}
 use Rattle.eval.proofs.AreaLaws.{putTo, put-next, put-all}
 
 abbrev Inv-loop : tie.InvT-loop

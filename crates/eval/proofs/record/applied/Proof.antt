@@ -1,14 +1,7 @@
 use borrow.Author.Needs.{needs}
 use Rattle.eval.proofs.record.applied.Statement.{statement}
 use Rattle.eval.proofs.record.applied.Tie as tie
-use Rattle.eval.proofs.record.applied.Reads as reads
-use Rattle.eval.proofs.record.applied.Lts as lts
-use Rattle.eval.proofs.record.ended.Reads as ended-reads
-use Rattle.eval.proofs.record.name.Reads as name-reads
-use Rattle.run.proofs.pick.picked.Reads as picked-reads
-use Rattle.run.proofs.step.stepped.Reads as stepped-reads
-use Rattle.run.proofs.update.delete.Reads as delete-reads
-use mathlib.Core.Path.{sym, _∙_, refl}
+use mathlib.Core.Path.{refl}
 use native.Mathlib.Omega.{arith}
 use Rattle.eval.proofs.OperatorLaws.{value-within, unary-body, unary-step, unary-bytes, delete-asks, pick-asks, step-asks}
 use Rattle.eval.proofs.OperatorLaws.{delete-yields, pick-yields, step-yields}

@@ -1,13 +1,6 @@
 use borrow.Author.Needs.{needs}
 use Rattle.eval.proofs.record.combined.Statement.{statement}
 use Rattle.eval.proofs.record.combined.Tie as tie
-use Rattle.eval.proofs.record.combined.Reads as reads
-use Rattle.eval.proofs.record.combined.Lts as lts
-use Rattle.eval.proofs.record.ended.Reads as ended-reads
-use Rattle.eval.proofs.record.limited.Reads as limited-reads
-use Rattle.eval.proofs.value.copied.Reads as copied-reads
-use Rattle.run.proofs.insert.insert.Reads as insert-reads
-use mathlib.Core.Path.{sym, _∙_, refl}
 use native.Mathlib.Omega.{arith}
 use Rattle.eval.proofs.OperatorLaws.{binary-within, insert-asks, copy-asks, join-yields, insert-yields, body-yields}
 

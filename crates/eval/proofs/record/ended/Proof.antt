@@ -1,8 +1,5 @@
-use borrow.Author.Needs.{needs}
 use Rattle.eval.proofs.record.ended.Statement.{statement}
 use Rattle.eval.proofs.record.ended.Tie as tie
-use Rattle.eval.proofs.record.ended.Reads as reads
-use Rattle.eval.proofs.record.ended.Lts as lts
 use Rattle.eval.proofs.RecordLaws.{ended-refused, ended-past}
 
 returns : tie.Need-returns

@@ -1,13 +1,9 @@
 use borrow.Author.Needs.{needs}
 use Rattle.eval.proofs.record.limited.Statement.{statement}
 use Rattle.eval.proofs.record.limited.Tie as tie
-use Rattle.eval.proofs.record.limited.Reads as reads
-use Rattle.eval.proofs.record.limited.Lts as lts
-use Rattle.run.proofs.state.Progress.refused.Reads as refused-reads
 use mathlib.Core.Path.{ap, sym, _∙_}
 use native.Mathlib.Omega.{arith}
 use Rattle.run.specs.declared.state.Progress.{Progress}
-use Rattle.eval.specs.declared.record.Evaluated.{Evaluated}
 use Rattle.eval.proofs.RecordLaws.{limited-few, limited-many}
 
 sub-if1 : tie.Need-sub-if1

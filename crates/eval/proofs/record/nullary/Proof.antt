@@ -1,17 +1,7 @@
 use borrow.Author.Needs.{needs}
 use Rattle.eval.proofs.record.nullary.Statement.{statement}
 use Rattle.eval.proofs.record.nullary.Tie as tie
-use Rattle.eval.proofs.record.nullary.Reads as reads
-use Rattle.eval.proofs.record.nullary.Lts as lts
-use Rattle.eval.proofs.record.ended.Reads as ended-reads
-use Rattle.eval.proofs.record.index.Reads as index-reads
-use Rattle.eval.proofs.record.name.Reads as name-reads
-use Rattle.eval.proofs.value.copied.Reads as copied-reads
-use Rattle.eval.proofs.value.document.Reads as document-reads
-use Rattle.eval.proofs.value.put_row.Reads as put-row-reads
-use Rattle.run.proofs.update.new_element.Reads as new-element-reads
-use Rattle.run.proofs.update.new_leaf.Reads as new-leaf-reads
-use mathlib.Core.Path.{sym, _∙_, refl}
+use mathlib.Core.Path.{refl}
 use native.Mathlib.Omega.{arith}
 use Rattle.script.proofs.AcceptedLaws.{accepted-record}
 use Rattle.script.proofs.FieldLaws.{document-number, variable-number, element-name}

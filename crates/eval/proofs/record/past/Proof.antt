@@ -1,9 +1,6 @@
 use borrow.Author.Needs.{needs}
 use Rattle.eval.proofs.record.past.Statement.{statement}
 use Rattle.eval.proofs.record.past.Tie as tie
-use Rattle.eval.proofs.record.past.Reads as reads
-use Rattle.eval.proofs.record.past.Lts as lts
-use Rattle.script.proofs.walk.end_at.Reads as end-at-reads
 use mathlib.Core.Path.{ap}
 use Prim.Native.Nat.{ℕ}
 

@@ -1,9 +1,6 @@
 use borrow.Author.Needs.{needs}
 use Rattle.eval.proofs.value.bind.Statement.{statement}
 use Rattle.eval.proofs.value.bind.Tie as tie
-use Rattle.eval.proofs.value.bind.Reads as reads
-use Rattle.eval.proofs.value.bind.Lts as lts
-use Rattle.script.proofs.kinds.is_binder.Reads as is-binder-reads
 use mathlib.Core.Path.{sym, _∙_}
 use native.Mathlib.Omega.{arith}
 use Rattle.eval.proofs.RecordLaws.{bound-more, bound-same}

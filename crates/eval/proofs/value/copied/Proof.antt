@@ -1,12 +1,8 @@
 use borrow.Author.Needs.{needs}
 use Rattle.eval.proofs.value.copied.Statement.{statement}
 use Rattle.eval.proofs.value.copied.Tie as tie
-use Rattle.eval.proofs.value.copied.Reads as reads
-use Rattle.eval.proofs.value.copied.Lts as lts
-use mathlib.Core.Path.{_≡_, refl, _∙_}
-use Prim.Native.Nat.{_≤_, _-_}
+use Prim.Native.Nat.{_-_}
 use native.Mathlib.Omega.{arith}
-use lib.ListN.{length, getD, set, length-set}
 use Rattle.eval.specs.Evaluating.{Copying}
 use Rattle.eval.proofs.ValueLaws.{copying-start, copying-next, copying-all}
 

@@ -1,8 +1,6 @@
 use borrow.Author.Needs.{needs}
 use Rattle.eval.proofs.value.document.Statement.{statement}
 use Rattle.eval.proofs.value.document.Tie as tie
-use Rattle.eval.proofs.value.document.Reads as reads
-use Rattle.eval.proofs.value.document.Lts as lts
 use lib.ListN.{getD}
 use Rattle.eval.proofs.RecordLaws.{document-none, document-some}
 

@@ -1,9 +1,6 @@
 use borrow.Author.Needs.{needs}
 use Rattle.eval.proofs.value.inner.Statement.{statement}
 use Rattle.eval.proofs.value.inner.Tie as tie
-use Rattle.eval.proofs.value.inner.Reads as reads
-use Rattle.eval.proofs.value.inner.Lts as lts
-use Rattle.script.proofs.kinds.is_binder.Reads as is-binder-reads
 use mathlib.Core.Path.{sym, _∙_}
 use Rattle.eval.proofs.RecordLaws.{inner-more, inner-same}
 

@@ -1,8 +1,6 @@
 use borrow.Author.Needs.{needs}
 use Rattle.eval.proofs.value.put_row.Statement.{statement}
 use Rattle.eval.proofs.value.put_row.Tie as tie
-use Rattle.eval.proofs.value.put_row.Reads as reads
-use Rattle.eval.proofs.value.put_row.Lts as lts
 use Rattle.eval.proofs.RecordLaws.{made-none, made-one}
 
 returns : tie.Need-returns

@@ -1,9 +1,8 @@
 use Prim.Native.Nat.{_%_}
 use Rattle.model.specs.Step.{relates}
-use borrow.Author.Tests.{eq-eqb, ne-eqb}
-use native.Mathlib.Omega.{arith}
+use borrow.Author.Tests.{ne-eqb}
 use Prim.Native.Nat.{ℕ, _/_}
-use mathlib.Core.Path.{_≡_, refl, _∙_, sym, ap}
+use mathlib.Core.Path.{_≡_, _∙_, ap}
 use borrow.Author.Needs.{needs}
 use Rattle.run.proofs.pick.is_picked.Statement.{statement}
 use Rattle.run.proofs.pick.is_picked.Tie as tie

@@ -1,8 +1,8 @@
 use Rattle.model.specs.Step.{signedKey}
-use borrow.Author.Tests.{eq-eqb, ne-eqb}
-use lib.Dec.{ltb, eqb}
+use borrow.Author.Tests.{ne-eqb}
+use lib.Dec.{ltb}
 use Prim.Native.Nat.{ℕ}
-use mathlib.Core.Path.{_≡_, refl, _∙_, sym, ap}
+use mathlib.Core.Path.{_∙_, ap}
 use borrow.Author.Needs.{needs}
 use Rattle.run.proofs.pick.is_related.Statement.{statement}
 use Rattle.run.proofs.pick.is_related.Tie as tie

@@ -1,12 +1,10 @@
 use Rattle.run.proofs.PickLaws.{filtered-none, filtered-by, rest-kept, rest-at, picked-rows, pick-low}
 use Rattle.run.specs.Values.{Appended, valueAt, filtered, pickedRow}
-use Rattle.model.specs.Base.{pick}
 use lib.Seq.{length-take-le, getD-take, getD-drop}
-use lib.ListN.{length, getD, take, drop, set, length-drop}
+use lib.ListN.{length, getD, drop, length-drop}
 use Prim.Native.Nat.{ℕ, _+_, _-_, _≤_, _<_}
-use mathlib.Core.Bool.{Bool}
 use mathlib.Core.List.{List}
-use mathlib.Core.Path.{_≡_, refl, _∙_, sym, ap, subst}
+use mathlib.Core.Path.{_≡_, refl, _∙_, ap, subst}
 use native.Mathlib.Omega.{arith}
 use borrow.Author.Needs.{needs}
 use Rattle.run.proofs.pick.picked.Statement.{statement}

@@ -1,8 +1,8 @@
 use Rattle.model.proofs.BoolLaws.{pick-true, pick-false}
 use borrow.Author.Tests.{not-true, not-false}
 use lib.ListN.{set}
-use Prim.Native.Nat.{ℕ, _+_}
-use mathlib.Core.Path.{_≡_, refl, _∙_, sym, ap}
+use Prim.Native.Nat.{_+_}
+use mathlib.Core.Path.{sym}
 use borrow.Author.Needs.{needs}
 use Rattle.run.proofs.step.append_if.Statement.{statement}
 use Rattle.run.proofs.step.append_if.Tie as tie

@@ -1,8 +1,8 @@
 use Rattle.run.proofs.PassLaws.{link-low, climbing-none, climbing-next, climbed-all}
 use Rattle.run.specs.Stepping.{Climbing}
-use lib.ListN.{length, getD}
-use mathlib.Core.Path.{_≡_, refl, _∙_, sym, ap, subst}
-use Prim.Native.Nat.{ℕ, _≤_, _<_, _-_, _+_}
+use lib.ListN.{length}
+use mathlib.Core.Path.{_≡_, sym, ap, subst}
+use Prim.Native.Nat.{ℕ, _≤_, _-_, _+_}
 use native.Mathlib.Omega.{arith}
 use borrow.Author.Needs.{needs}
 use Rattle.run.proofs.step.climb.Statement.{statement}

@@ -1,10 +1,8 @@
-use Rattle.run.proofs.ValueLaws.{appended-none, appended-if, collect-next, length-collect, collected-none, collected-by}
+use Rattle.run.proofs.ValueLaws.{length-collect, collected-none, collected-by}
 use Rattle.run.specs.Values.{Appended, kept, keptRows}
-use Rattle.model.specs.Base.{pick}
-use lib.ListN.{length, getD, set}
+use lib.ListN.{length, getD}
 use Prim.Native.Nat.{ℕ, _+_, _-_, _≤_, _<_}
-use mathlib.Core.List.{List, [], _∷_, _++_}
-use mathlib.Core.Path.{_≡_, refl, _∙_, sym, ap, subst}
+use mathlib.Core.Path.{_≡_, refl, subst}
 use native.Mathlib.Omega.{arith}
 use borrow.Author.Needs.{needs}
 use Rattle.run.proofs.step.collect.Statement.{statement}

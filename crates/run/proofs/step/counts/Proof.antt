@@ -1,7 +1,4 @@
 use borrow.Author.Tests.{eq-eqb, ne-eqb}
-use lib.Dec.{eqb}
-use mathlib.Core.Path.{_≡_, refl, _∙_, sym, ap}
-use mathlib.Core.Bool.{Bool, _&&_, _||_, not, true, false, and-false}
 use borrow.Author.Needs.{needs}
 use Rattle.run.proofs.step.counts.Statement.{statement}
 use Rattle.run.proofs.step.counts.Tie as tie

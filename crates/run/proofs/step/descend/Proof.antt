@@ -1,8 +1,8 @@
 use Rattle.run.proofs.PassLaws.{link-low, descending-none, descending-next, descended-all}
 use Rattle.run.specs.Stepping.{Descending}
-use lib.ListN.{length, getD}
-use mathlib.Core.Path.{_≡_, refl, _∙_, sym, ap, subst}
-use Prim.Native.Nat.{ℕ, _≤_, _-_, _+_}
+use lib.ListN.{length}
+use mathlib.Core.Path.{sym, ap, subst}
+use Prim.Native.Nat.{_≤_, _-_, _+_}
 use native.Mathlib.Omega.{arith}
 use borrow.Author.Needs.{needs}
 use Rattle.run.proofs.step.descend.Statement.{statement}

@@ -1,7 +1,7 @@
 use Rattle.run.proofs.StepLaws.{flagged-none, flagged-next, flagged-all}
 use Rattle.run.specs.Stepping.{Flagged}
-use lib.ListN.{length, getD, take, set}
-use mathlib.Core.Path.{_≡_, refl, _∙_, sym, ap, subst}
+use lib.ListN.{length, take, set}
+use mathlib.Core.Path.{sym, ap, subst}
 use Prim.Native.Nat.{ℕ, _≤_, _-_, _+_}
 use native.Mathlib.Omega.{arith}
 use borrow.Author.Needs.{needs}

@@ -1,5 +1,4 @@
 use borrow.Author.Tests.{eq-eqb, ne-eqb}
-use mathlib.Core.Path.{_≡_, refl, _∙_, sym, ap}
 use borrow.Author.Needs.{needs}
 use Rattle.run.proofs.step.keeps.Statement.{statement}
 use Rattle.run.proofs.step.keeps.Tie as tie

@@ -2,7 +2,7 @@ use Rattle.run.proofs.StepLaws.{pass-any, pass-leaf, pass-element, pass
 use lib.ListN.{getD}
 use lib.Dec.{eqb}
 use Prim.Native.Nat.{ℕ, _%_, _/_}
-use mathlib.Core.Path.{_≡_, refl, _∙_, sym, ap}
+use mathlib.Core.Path.{_≡_, _∙_, sym, ap}
 use borrow.Author.Needs.{needs}
 use Rattle.run.proofs.step.passes.Statement.{statement}
 use Rattle.run.proofs.step.passes.Tie as tie

@@ -1,10 +1,10 @@
 use Rattle.run.proofs.ValueLaws.{step-rows}
 use Rattle.run.specs.Values.{Appended, valueAt}
 use lib.Seq.{length-take-le}
-use lib.ListN.{length, getD, take, drop, length-take, length-drop}
-use Prim.Native.Nat.{ℕ, _+_, _-_, _≤_, _<_}
+use lib.ListN.{drop, length-drop}
+use Prim.Native.Nat.{ℕ, _-_}
 use mathlib.Core.List.{List}
-use mathlib.Core.Path.{_≡_, refl, _∙_, sym, ap, subst}
+use mathlib.Core.Path.{refl, subst}
 use native.Mathlib.Omega.{arith}
 use borrow.Author.Needs.{needs}
 use Rattle.run.proofs.step.stepped.Statement.{statement}

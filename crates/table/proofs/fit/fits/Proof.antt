@@ -1,12 +1,12 @@
 use Rattle.table.proofs.FitLaws.{parts-fit}
-use Rattle.table.specs.Fitting.{rowsFit, marksFit}
+use Rattle.table.specs.Fitting.{marksFit}
 use Rattle.table.specs.Words.{isZero}
 use Rattle.model.specs.Base.{all}
-use lib.ListN.{length, drop}
+use lib.ListN.{drop}
 use borrow.Author.Tests.{not-true, not-false, lt-leb}
-use mathlib.Core.Bool.{Bool, true, false, _&&_, not}
-use mathlib.Core.Path.{_≡_, refl, _∙_, sym, ap}
-use Prim.Native.Nat.{ℕ, _≤_, _<_, _+_, _-_}
+use mathlib.Core.Bool.{Bool, _&&_}
+use mathlib.Core.Path.{_∙_, sym, ap}
+use Prim.Native.Nat.{_-_}
 use native.Mathlib.Omega.{arith}
 use borrow.Author.Needs.{needs}
 use Rattle.table.proofs.fit.fits.Statement.{statement}

@@ -1,10 +1,9 @@
 use lib.ListN.{getD}
-use lib.Dec.{ltb, eqb}
-use mathlib.Core.Bool.{not}
-use mathlib.Core.Path.{_≡_, refl, _∙_, sym, ap}
-use Prim.Native.Nat.{ℕ, _≤_, _<_, _+_, _-_, _/_, _%_}
+use lib.Dec.{eqb}
+use mathlib.Core.Path.{_≡_, _∙_, sym, ap}
+use Prim.Native.Nat.{ℕ, _≤_, _<_, _-_, _/_, _%_}
 use native.Mathlib.Omega.{arith}
-use borrow.Author.Tests.{lt-ltb, le-ltb, le-leb, lt-leb, eq-eqb, ne-eqb}
+use borrow.Author.Tests.{le-leb, lt-leb, ne-eqb}
 use borrow.Author.Needs.{needs}
 use Rattle.table.proofs.fit.mark_fits.Statement.{statement}
 use Rattle.table.proofs.fit.mark_fits.Tie as tie

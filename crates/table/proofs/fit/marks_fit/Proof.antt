@@ -1,15 +1,15 @@
 use Rattle.table.proofs.FitLaws.{marks-turn, marks-end, marks-go, repeated-none, repeated-some}
-use Rattle.table.specs.Fitting.{markFits, isRepeated, marksFit}
+use Rattle.table.specs.Fitting.{isRepeated, marksFit}
 use Rattle.table.specs.Words.{linked}
 use Rattle.model.specs.Table.{isThe}
 use Rattle.model.specs.Base.{any}
 use lib.Seq.{take-all}
-use lib.ListN.{length, getD, drop, take, length-drop}
+use lib.ListN.{length, getD, drop, length-drop}
 use borrow.Author.Tests.{not-true, not-false}
 use mathlib.Core.List.{List, map}
 use mathlib.Core.Bool.{Bool, true, false, _&&_, not}
 use mathlib.Core.Path.{_≡_, refl, _∙_, sym, ap}
-use Prim.Native.Nat.{ℕ, _≤_, _<_, _+_, _-_}
+use Prim.Native.Nat.{ℕ, _≤_, _+_, _-_}
 use native.Mathlib.Omega.{arith}
 use borrow.Author.Needs.{needs}
 use Rattle.table.proofs.fit.marks_fit.Statement.{statement}

@@ -1,10 +1,9 @@
 use mathlib.Core.Bool.{Bool, _&&_}
-use Rattle.table.specs.Fitting.{tagFits, linkFits}
+use Rattle.table.specs.Fitting.{linkFits}
 use lib.ListN.{getD}
 use borrow.Author.Tests.{not-true, not-false}
-use mathlib.Core.Bool.{not, true, false}
-use Prim.Native.Nat.{ℕ, _/_, _%_}
-use mathlib.Core.Path.{_≡_, refl, _∙_, sym, ap}
+use Prim.Native.Nat.{_/_, _%_}
+use mathlib.Core.Path.{_∙_, sym, ap}
 use borrow.Author.Needs.{needs}
 use Rattle.table.proofs.fit.row_fits.Statement.{statement}
 use Rattle.table.proofs.fit.row_fits.Tie as tie

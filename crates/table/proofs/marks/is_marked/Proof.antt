@@ -1,18 +1,13 @@
 use Rattle.table.proofs.ReadLaws.{marked-turn, marked-none}
-use Rattle.table.proofs.ReadLaws.{isThe-linked}
 use Rattle.table.specs.Words.{linked}
 use Rattle.model.specs.Table.{isThe}
 use Rattle.model.specs.Base.{any}
 use borrow.Author.Tests.{eq-eqb, ne-eqb}
-use lib.Dec.{eqb}
-use lib.Seq.{drop-cons}
-use lib.ListN.{length, getD, drop, drop-of-length-le}
-use mathlib.Core.List.{List, [], map}
-use mathlib.Core.Bool.{true, false, _||_}
+use lib.ListN.{length, getD, drop}
+use mathlib.Core.List.{map}
 use mathlib.Core.Path.{_≡_, refl, _∙_, sym}
-use native.Mathlib.Numerals.{add-one}
 use native.Mathlib.Omega.{arith}
-use Prim.Native.Nat.{ℕ, suc, _≤_, _-_, _+_}
+use Prim.Native.Nat.{_≤_, _-_}
 use borrow.Author.Needs.{needs}
 use Rattle.table.proofs.marks.is_marked.Statement.{statement}
 use Rattle.table.proofs.marks.is_marked.Tie as tie

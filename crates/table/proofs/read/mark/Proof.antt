@@ -1,15 +1,14 @@
 use Rattle.table.proofs.ReadLaws.{refused}
 use Rattle.table.proofs.ReadLaws.{mark-field, mark-order, mark-high, mark-leaf, mark-child, mark-by}
-use Rattle.table.specs.Reading.{lastOf}
 use Rattle.table.specs.Words.{linked}
 use Rattle.model.specs.Stored.{wordAt}
 use Rattle.model.specs.Table.{isThe}
 use Rattle.model.specs.Base.{any}
-use lib.ListN.{length, getD, set}
-use mathlib.Core.List.{List, map}
+use lib.ListN.{getD, set}
+use mathlib.Core.List.{map}
 use mathlib.Core.Bool.{true, false}
 use mathlib.Core.Path.{_≡_, refl, _∙_, sym, ap}
-use Prim.Native.Nat.{ℕ, _≤_, _<_, _+_, _*_, _-_, _/_, _%_}
+use Prim.Native.Nat.{ℕ, _<_, _+_, _-_, _/_, _%_}
 use native.Mathlib.Omega.{arith}
 use borrow.Author.Needs.{needs}
 use Rattle.table.proofs.read.mark.Statement.{statement}

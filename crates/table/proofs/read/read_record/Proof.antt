@@ -1,12 +1,10 @@
 use Rattle.table.proofs.ReadLaws.{mark-record, row-record}
 use Rattle.model.specs.Table
-use Rattle.table.proofs.ReadLaws.{refused, record-low, record-high, record-mark-short, record-mark, recorded-mark, record-size}
-use Rattle.table.proofs.ReadLaws.{record-row-short, record-row, recorded-row, decode-mark, decode-row, lastOf-set}
-use Rattle.table.proofs.WordLaws.{count-decode, canonical-push}
+use Rattle.table.proofs.ReadLaws.{refused, record-low, record-high, record-mark-short, record-size}
+use Rattle.table.proofs.ReadLaws.{record-row-short}
+use Rattle.table.proofs.WordLaws.{count-decode}
 use Rattle.table.specs.Words.{decodeParts}
-use lib.ListN.{length, getD, set, length-set}
-use mathlib.Core.Path.{_≡_, refl, _∙_, sym, ap}
-use Prim.Native.Nat.{ℕ, suc, _≤_, _<_, _+_}
+use mathlib.Core.Path.{_≡_}
 use native.Mathlib.Omega.{arith}
 use borrow.Author.Needs.{needs}
 use Rattle.table.proofs.read.read_record.Statement.{statement}

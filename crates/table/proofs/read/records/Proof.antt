@@ -1,15 +1,15 @@
-use lib.ListN.{length-take, take}
+use lib.ListN.{length-take}
 use Rattle.table.proofs.ReadingLaws.{held-empty, reading-all, reading-on, reading-refused, reading-end}
 use Rattle.table.specs.Reading.{Held}
 use Rattle.table.specs.Words.{decodeParts}
 use Rattle.model.proofs.BoolLaws.{pick-false}
-use Rattle.model.specs.Stored.{readFrom, readPlan, got, bad}
+use Rattle.model.specs.Stored.{readFrom, readPlan, bad}
 use Rattle.model.specs.Refusal.{fault}
-use borrow.Author.Tests.{eq-eqb, ne-eqb}
+use borrow.Author.Tests.{ne-eqb}
 use lib.Dec.{eqb}
-use lib.ListN.{length, drop, length-drop, drop-of-length-le}
-use mathlib.Core.Path.{_≡_, refl, _∙_, sym, ap}
-use Prim.Native.Nat.{ℕ, suc, _≤_, _<_, _+_, _-_, _*_, _/_}
+use lib.ListN.{length, drop, length-drop}
+use mathlib.Core.Path.{_≡_, _∙_, ap}
+use Prim.Native.Nat.{_≤_, _+_, _-_, _/_}
 use native.Mathlib.Omega.{arith}
 use borrow.Author.Needs.{needs}
 use Rattle.table.proofs.read.records.Statement.{statement}

@@ -4,7 +4,7 @@ use Rattle.table.specs.Reading.{lastOf}
 use Rattle.table.specs.Words.{wordOf}
 use Rattle.model.specs.Stored.{rowIn, wordAt}
 use Rattle.table.proofs.ReadLaws.{row-word-none, row-word-some}
-use Prim.Native.Nat.{ℕ, _≤_, _<_, _+_, _*_, _-_, _%_}
+use Prim.Native.Nat.{ℕ, _≤_, _+_, _*_, _-_, _%_}
 use Rattle.table.proofs.ReadLaws.{row-field, row-order, row-none, row-high, row-leaf, row-child}
 use lib.ListN.{getD, set}
 use mathlib.Core.Logic.{⊎-elim}

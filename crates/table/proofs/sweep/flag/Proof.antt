@@ -1,8 +1,8 @@
 use Rattle.table.proofs.FlagLaws.{flagged-none, flagged-next, flagged-all}
 use Rattle.table.specs.Sweeping.{Flagged}
 use lib.ListN.{length, take}
-use mathlib.Core.Path.{_≡_, refl, _∙_, sym, ap, subst}
-use Prim.Native.Nat.{ℕ, _≤_, _-_, _+_}
+use mathlib.Core.Path.{sym, ap, subst}
+use Prim.Native.Nat.{_≤_, _-_, _+_}
 use native.Mathlib.Omega.{arith}
 use borrow.Author.Needs.{needs}
 use Rattle.table.proofs.sweep.flag.Statement.{statement}

@@ -4,7 +4,7 @@ use Rattle.table.proofs.SweepLaws.{links-next, links-at, links-end}
 use Rattle.table.specs.Sweeping.{newLinks}
 use lib.ListN.{length, getD, take, drop, set}
 use mathlib.Core.List.{List, _++_}
-use mathlib.Core.Path.{_≡_, refl, _∙_, sym, ap, subst}
+use mathlib.Core.Path.{_≡_, refl, _∙_, ap}
 use Prim.Native.Nat.{ℕ, _≤_, _-_, _+_}
 use native.Mathlib.Omega.{arith}
 use borrow.Author.Needs.{needs}

@@ -1,9 +1,9 @@
 use Rattle.model.proofs.BoolLaws.{pick-true, pick-false}
 use Rattle.table.specs.Sweeping.{keeps, keepsRow, newWord}
 use borrow.Author.Tests.{not-true, not-false}
-use lib.ListN.{getD, set, length-set}
-use mathlib.Core.Path.{_≡_, refl, _∙_, sym, ap}
-use Prim.Native.Nat.{ℕ, _≤_, _-_, _+_, _*_, _/_, _%_, _<_}
+use lib.ListN.{getD, set}
+use mathlib.Core.Path.{_≡_, _∙_, sym, ap}
+use Prim.Native.Nat.{ℕ, _-_, _+_, _/_, _%_}
 use native.Mathlib.Omega.{arith}
 use borrow.Author.Needs.{needs}
 use Rattle.table.proofs.sweep.row.Statement.{statement}

@@ -2,10 +2,9 @@ use Rattle.table.proofs.SweepLaws.{sweeping-none, sweeping-next, next-l
 use Rattle.table.proofs.CallLaws.{Fits, fits-at, fits-tag, fits-mark}
 use Rattle.table.specs.Sweeping.{Sweeping}
 use Rattle.table.specs.Words.{decodeParts}
-use lib.ListN.{length, getD}
-use mathlib.Core.List.{List}
-use mathlib.Core.Path.{_≡_, refl, _∙_, sym, ap, subst}
-use Prim.Native.Nat.{ℕ, _≤_, _-_, _+_, _*_, _/_, _%_, _<_}
+use lib.ListN.{length}
+use mathlib.Core.Path.{_≡_, ap, subst}
+use Prim.Native.Nat.{ℕ, _≤_, _-_}
 use native.Mathlib.Omega.{arith}
 use borrow.Author.Needs.{needs}
 use Rattle.table.proofs.sweep.rows.Statement.{statement}

@@ -3,8 +3,8 @@ use Rattle.table.specs.Writing.{over}
 use Rattle.model.specs.Stored.{wordBytes}
 use lib.ListN.{length}
 use mathlib.Core.List.{List, _∷_}
-use mathlib.Core.Path.{_≡_, refl, _∙_, sym, ap}
-use Prim.Native.Nat.{ℕ, _+_, _-_, _<_}
+use mathlib.Core.Path.{_∙_, sym, ap}
+use Prim.Native.Nat.{ℕ, _-_}
 use native.Mathlib.Omega.{arith}
 use borrow.Author.Needs.{needs}
 use Rattle.table.proofs.write.mark.Statement.{statement}

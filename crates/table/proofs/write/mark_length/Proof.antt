@@ -1,7 +1,6 @@
 use Rattle.table.proofs.WriteLaws.{mark-none, mark-some}
 use lib.ListN.{length}
-use mathlib.Core.Path.{_≡_, refl, _∙_, sym, ap}
-use borrow.Author.Needs.{needs}
+use mathlib.Core.Path.{sym, ap}
 use Rattle.table.proofs.write.mark_length.Statement.{statement}
 use Rattle.table.proofs.write.mark_length.Tie as tie
 

@@ -1,5 +1,5 @@
 use Rattle.table.proofs.WriteLaws.{parent-none, parent-some}
-use Prim.Native.Nat.{_<_, _-_}
+use Prim.Native.Nat.{_-_}
 use native.Mathlib.Omega.{arith}
 use borrow.Author.Needs.{needs}
 use Rattle.table.proofs.write.parent.Statement.{statement}

@@ -1,6 +1,6 @@
 use Rattle.table.proofs.WriteLaws.{put-four}
 use lib.ListN.{length-set}
-use Prim.Native.Nat.{ℕ, _+_, _/_, _%_}
+use Prim.Native.Nat.{_/_, _%_}
 use native.Mathlib.Omega.{arith}
 use borrow.Author.Needs.{needs}
 use Rattle.table.proofs.write.put.Statement.{statement}

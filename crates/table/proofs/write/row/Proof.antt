@@ -1,11 +1,10 @@
 use Rattle.table.proofs.WriteLaws.{row-leaf, row-element, row-bytes}
 use Rattle.table.specs.Writing.{over}
-use Rattle.table.specs.Words.{linked, rowOf}
-use Rattle.model.specs.Stored.{wordBytes, parentBytes, rowBytes}
-use Prim.Native.Nat.{ℕ, _+_, _/_, _%_}
-use mathlib.Core.List.{List, _∷_}
-use mathlib.Core.Path.{_≡_, refl, _∙_, sym, ap}
-use native.Mathlib.Omega.{arith}
+use Rattle.table.specs.Words.{linked}
+use Rattle.model.specs.Stored.{parentBytes}
+use Prim.Native.Nat.{ℕ}
+use mathlib.Core.List.{List}
+use mathlib.Core.Path.{_∙_, sym, ap}
 use borrow.Author.Needs.{needs}
 use Rattle.table.proofs.write.row.Statement.{statement}
 use Rattle.table.proofs.write.row.Tie as tie

@@ -1,13 +1,11 @@
-use Rattle.table.proofs.WriteLaws.{over-nil, length-over, length-rows, rows-start, rows-grown, rows-all}
-use Rattle.table.proofs.WordLaws.{count-decode}
+use Rattle.table.proofs.WriteLaws.{rows-start, rows-grown, rows-all}
 use Rattle.table.specs.Writing.{over}
 use Rattle.table.specs.Words.{rowOf, rowsOf}
 use Rattle.model.specs.Stored.{rowBytes, rowsBytes}
-use lib.Seq.{take-all}
-use lib.ListN.{length, getD, take, length-map}
+use lib.ListN.{length, getD, take}
 use mathlib.Core.List.{List}
 use mathlib.Core.Path.{_≡_, refl, _∙_, sym, ap}
-use Prim.Native.Nat.{ℕ, _+_, _-_, _*_, _≤_, _<_}
+use Prim.Native.Nat.{ℕ, _-_, _*_, _≤_}
 use native.Mathlib.Omega.{arith}
 use borrow.Author.Needs.{needs}
 use Rattle.table.proofs.write.rows.Statement.{statement}

@@ -1,12 +1,12 @@
 use Rattle.table.proofs.WriteLaws.{mark-small}
 use Rattle.table.proofs.WriteLaws.{length-marks, marks-start}
 use Rattle.table.specs.Words.{linked}
-use Rattle.model.specs.Stored.{markBytes, marksBytes}
+use Rattle.model.specs.Stored.{marksBytes}
 use lib.Seq.{take-all}
 use lib.ListN.{length, getD, take}
 use mathlib.Core.List.{List, map}
-use mathlib.Core.Path.{_≡_, refl, _∙_, sym, ap}
-use Prim.Native.Nat.{ℕ, _+_, _-_, _*_, _≤_, _<_}
+use mathlib.Core.Path.{_≡_, _∙_, ap}
+use Prim.Native.Nat.{ℕ, _+_, _-_, _*_, _≤_}
 use native.Mathlib.Omega.{arith}
 use borrow.Author.Needs.{needs}
 use Rattle.table.proofs.write.stored_length.Statement.{statement}
