@@ -43,7 +43,7 @@ pub extern "C" fn yegnabit_plan(plan: &[u8], out: &mut [u8]) -> u64
         return code(number, PLAN, place);
     }
     let t = read.table;
-    let written = table::write_plan(t, out);
+    let written = table::write::fitting(t, out);
     code(written.fault.number, AREA, written.bytes)
 }
 
@@ -65,7 +65,7 @@ pub extern "C" fn yegnabit_sweep(plan: &[u8], out: &mut [u8]) -> u64
     let t = read.table;
     let swept = table::sweep_table(t);
     let u = swept.table;
-    let written = table::write_plan(u, out);
+    let written = table::write::fitting(u, out);
     code(written.fault.number, AREA, written.bytes)
 }
 
@@ -92,7 +92,7 @@ pub extern "C" fn yegnabit_undo(plan: &[u8], history: &[u8], out: &mut [u8]) -> 
         return code(refused, SCRIPT, at);
     }
     let u = back.table;
-    let written = table::write_plan(u, out);
+    let written = table::write::fitting(u, out);
     code(written.fault.number, AREA, written.bytes)
 }
 
@@ -147,7 +147,7 @@ pub extern "C" fn yegnabit_run(
     }
     let u = ran.table;
     let tally = ran.tally;
-    let written = table::write_plan(u, out);
+    let written = table::write::fitting(u, out);
     lent::put_six(
         done,
         ran.items,

@@ -9,7 +9,7 @@ pub mod marks;
 mod read;
 mod sweep;
 pub mod words;
-mod write;
+pub mod write;
 
 // A row's number and an element's name: one never stands where the other is meant.
 pub struct RowNumber(pub u16);
@@ -133,25 +133,7 @@ pub fn write_plan(table: Table, out: &mut [u8]) -> Written
             bytes: 0,
         };
     }
-    let length = write::stored_length(count, &table.marks);
-    if out.len() < length {
-        return Written {
-            fault: Fault {
-                number: Fault::LENT,
-                place: 0,
-            },
-            bytes: 0,
-        };
-    }
-    write::rows(out, &table.rows, count);
-    write::marks(out, &table.marks, 4 * count);
-    Written {
-        fault: Fault {
-            number: 0,
-            place: 0,
-        },
-        bytes: length,
-    }
+    write::fitting(table, out)
 }
 
 // Drops each row that is neither marked nor below a marked row; refused, the table is as it was handed in.

@@ -4,8 +4,13 @@ ghost use mathlib.Core.List.{_∷_, map};
 ghost use Prim.Native.Nat.{ℕ, _+_, _*_, _≤_, _<_};
 ghost use lib.ListN.{length};
 ghost use Rattle.model.specs.Stored.{wordBytes, parentBytes, rowBytes, rowsBytes, markBytes, marksBytes};
-ghost use Rattle.table.specs.Words.{linked, rowOf, rowsOf};
+ghost use mathlib.Core.Bool.{true};
+ghost use Rattle.table.specs.Calls.{planWritten, planOut};
+ghost use Rattle.table.specs.Words.{linked, rowOf, rowsOf, fits};
 ghost use Rattle.table.specs.Writing.{over, RowsPre, MarksPre};
+use crate::Fault;
+use crate::Table;
+use crate::Written;
 use crate::words;
 
 const ELEMENT: u8 = 0x11;
@@ -123,4 +128,32 @@ pub fn stored_length(count: usize, marks: &[u16]) -> usize
         d += 1;
     }
     n
+}
+
+// A table that fits, at the start of the area; 11 where that is too short.
+pub fn fitting(table: Table, out: &mut [u8]) -> Written
+    requires { ⌜ fits table ≡ true ⌝ }
+    ensures { λ r. ⌜ r ≡ planWritten table (now (out .entry)) ⌝ }
+    ensures { λ r. ⌜ now (out .exit) ≡ planOut table (now (out .entry)) ⌝ }
+{
+    let count = table.count;
+    let length = stored_length(count, &table.marks);
+    if out.len() < length {
+        return Written {
+            fault: Fault {
+                number: Fault::LENT,
+                place: 0,
+            },
+            bytes: 0,
+        };
+    }
+    rows(out, &table.rows, count);
+    marks(out, &table.marks, SIZE * count);
+    Written {
+        fault: Fault {
+            number: 0,
+            place: 0,
+        },
+        bytes: length,
+    }
 }

@@ -1,3 +1,5 @@
+use Rattle.ffi.proofs.FittingLaws.{bytes-known, read-fits}
+use Rattle.table.specs.Words.{fits}
 use Rattle.ffi.proofs.CallLaws.{area-short, plan-refused, plan-done}
 use Rattle.ffi.specs.Calls.{writtenCode}
 use Rattle.table.specs.declared.TableResult.{TableResult}
@@ -31,8 +33,10 @@ returns-2 c = plan-refused (c .before .before .before .before .before .before .a
     .before .before .args .plan .now)) (omega (arith, c .before .before .before .if1 .left)) (c .before .before .read-plan .result) (c
     .before .before .read-plan .ensures) (c .code2 .result) (c .code2 .ensures) (c .before .if2 .taken)
 
-write-plan-requires : tie.Need-write-plan-requires
-write-plan-requires c κs = search needs
+fitting-requires : tie.Need-fitting-requires
+fitting-requires c κs = ap (λ (q : TableResult). fits (q .table)) (c .before .before .before .read-plan .ensures) ∙ read-fits (c .before
+    .before .before .before .before .before .before .args .plan .now) (bytes-known (c .before .before .before .before .before .before
+    .before .args .plan .now) (λ i. c .before .before .before .before .before .before .shared-slice-known .given i .fits))
 
 code-requires-3 : tie.Need-code-requires-3
 code-requires-3 c κs = search needs
@@ -49,10 +53,10 @@ returns-3 c = plan-done (c .before .before .before .before .before .before .befo
     .args .out .now))) (library.planRead (c .before .before .before .before .before .before .before .before .before .before .before .args
     .plan .now)) (omega (arith, c .before .before .before .before .before .before .before .before .if1 .left)) (c .before .before .before
     .before .before .before .before .read-plan .result) (c .before .before .before .before .before .before .before .read-plan .ensures)
-    (c .code3 .result) (c .code3 .ensures ∙ ap writtenCode (c .before .before .before .write-plan .ensures .0 ∙ ap (λ (t : TableResult).
+    (c .code3 .result) (c .code3 .ensures ∙ ap writtenCode (c .before .before .before .fitting .ensures .0 ∙ ap (λ (t : TableResult).
     library.planWritten (t .table) (c .before .before .before .before .before .before .before .before .before .before .before .args .out
-    .now)) (c .before .before .before .before .before .before .before .read-plan .ensures))) (c .before .before .before .write-plan .last
-    .1 .0) (c .before .before .before .write-plan .ensures .1 ∙ ap (λ (t : TableResult). library.planOut (t .table) (c .before .before
+    .now)) (c .before .before .before .before .before .before .before .read-plan .ensures))) (c .before .before .before .fitting .last
+    .1 .0) (c .before .before .before .fitting .ensures .1 ∙ ap (λ (t : TableResult). library.planOut (t .table) (c .before .before
     .before .before .before .before .before .before .before .before .before .args .out .now)) (c .before .before .before .before .before
     .before .before .read-plan .ensures)) (search (c .before .before .before .before .before .before .if2 .left, needs))
 
@@ -65,7 +69,7 @@ yegnabit-plan-spec =
     read-plan-requires
     code-requires-2
     returns-2
-    write-plan-requires
+    fitting-requires
     code-requires-3
     same-length
     returns-3)

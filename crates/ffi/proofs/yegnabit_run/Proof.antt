@@ -1,3 +1,9 @@
+use mathlib.Core.Path.{_∙_, ap}
+use Rattle.ffi.proofs.FittingLaws.{bytes-known, read-fits}
+use Rattle.table.specs.Words.{fits}
+use Rattle.table.specs.declared.TableResult.{TableResult}
+use Rattle.eval.proofs.Promised.{runsOn}
+use Rattle.eval.specs.declared.RunResult.{RunResult}
 use lib.ListN.{length}
 use borrow.Author.Needs.{needs}
 use Rattle.ffi.proofs.RunLaws.{six-fit, call-short, call-plan-refused, call-run-refused, call-done}
@@ -90,8 +96,28 @@ returns-3 c =
     (r .ensures .0) (r .ensures .1 .0) (r .ensures .1 .1 .0) (r .ensures .1 .1 .1)
     (c .code3 .result) (d .last .0) (c .before .before .before .before .before .if3 .taken) (c .code3 .ensures) (d .ensures)
 
-write-plan-requires : tie.Need-write-plan-requires
-write-plan-requires c κs = search needs
+fitting-requires : tie.Need-fitting-requires
+fitting-requires c κs = ap (λ (r : RunResult). fits (r .table)) (c .before .before .before .before .before .before .before .before
+    .before .before .run .ensures .0) ∙ runsOn (c .before .before .before .before .before .before .before .before .before .before .before
+    .before .before .before .before .before .read-plan .result .table) (c .before .before .before .before .before .before .before .before
+    .before .before .before .before .before .before .before .before .before .before .before .before .before .before .before .before
+    .before .before .args .script .now) (c .before .before .before .before .before .before .before .before .before .before .before
+    .before .before .before .before .before .before .before .before .before .before .before .before .before .before .before .args .answer
+    .now) (c .before .before .before .before .before .before .before .before .before .before .before .before .before .before .before
+    .before .before .before .before .before .before .before .before .before .before .before .args .history .now) (c .before .before
+    .before .before .before .before .before .before .before .before .before .before .before .before .before .before .before .before
+    .before .before .before .before .before .before .before .before .args .work .now) (bytes-known (c .before .before .before .before
+    .before .before .before .before .before .before .before .before .before .before .before .before .before .before .before .before
+    .before .before .before .before .before .before .args .script .now) (λ i. c .before .before .before .before .before .before .before
+    .before .before .before .before .before .before .before .before .before .before .before .before .before .before .before .before
+    .before .shared-slice-known2 .given i .fits)) (ap (λ (q : TableResult). fits (q .table)) (c .before .before .before .before .before
+    .before .before .before .before .before .before .before .before .before .before .before .read-plan .ensures) ∙ read-fits (c .before
+    .before .before .before .before .before .before .before .before .before .before .before .before .before .before .before .before
+    .before .before .before .before .before .before .before .before .before .args .plan .now) (bytes-known (c .before .before .before
+    .before .before .before .before .before .before .before .before .before .before .before .before .before .before .before .before
+    .before .before .before .before .before .before .before .args .plan .now) (λ i. c .before .before .before .before .before .before
+    .before .before .before .before .before .before .before .before .before .before .before .before .before .before .before .before
+    .before .before .before .shared-slice-known .given i .fits))) .0
 
 put-six-requires-3 : tie.Need-put-six-requires-3
 put-six-requires-3 c κs =
@@ -132,7 +158,7 @@ returns-4 c =
     .before .before .before .before .before .before .before .before .before .read-plan in
     let r = c .before .before .before .before .before .before .before .before .before .before .before .before .before .before .before
     .before .before .before .run in
-    let n = c .before .before .before .before .before .before .before .write-plan in
+    let n = c .before .before .before .before .before .before .before .fitting in
     let d = c .before .before .before .put-six3 in
     call-done (x .plan .now) (x .script .now) (x .answer .now) (x .history .now) (x .work .now) (x .out .now) (x .done .now)
     (k .result) (k .ensures) (c .before .before .before .before .before .before .before .before .before .before .before .before .before
@@ -164,7 +190,7 @@ yegnabit-run-spec =
     same-length-4
     same-length-5
     returns-3
-    write-plan-requires
+    fitting-requires
     put-six-requires-3
     code-requires-4
     same-length-6

@@ -1,3 +1,5 @@
+use Rattle.ffi.proofs.FittingLaws.{bytes-known, read-fits, swept-fits}
+use Rattle.table.specs.Words.{fits}
 use Rattle.ffi.proofs.CallLaws.{area-short, plan-refused, plan-done}
 use Rattle.ffi.specs.Calls.{writtenCode, sweptPlan}
 use Rattle.table.specs.declared.TableResult.{TableResult}
@@ -35,8 +37,12 @@ returns-2 c = plan-refused (c .before .before .before .before .before .before .a
 sweep-table-requires : tie.Need-sweep-table-requires
 sweep-table-requires c κs = search needs
 
-write-plan-requires : tie.Need-write-plan-requires
-write-plan-requires c κs = search needs
+fitting-requires : tie.Need-fitting-requires
+fitting-requires c κs = ap (λ (q : TableResult). fits (q .table)) (c .before .before .sweep-table .ensures) ∙ swept-fits (c .before
+    .before .before .before .before .read-plan .result .table) (ap (λ (q : TableResult). fits (q .table)) (c .before .before .before
+    .before .before .read-plan .ensures) ∙ read-fits (c .before .before .before .before .before .before .before .before .before .args
+    .plan .now) (bytes-known (c .before .before .before .before .before .before .before .before .before .args .plan .now) (λ i. c .before
+    .before .before .before .before .before .before .before .shared-slice-known .given i .fits)))
 
 code-requires-3 : tie.Need-code-requires-3
 code-requires-3 c κs = search needs
@@ -64,9 +70,9 @@ returns-3 c = plan-done (c .before .before .before .before .before .before .befo
           .before .before .before .before .before .if1 .left,
     )) (c .before .before .before .before .before .before .before .before .before
     .read-plan .result) (c .before .before .before .before .before .before .before .before .before .read-plan .ensures) (c .code3
-    .result) (c .code3 .ensures ∙ ap writtenCode (c .before .before .before .write-plan .ensures .0 ∙ ap (λ (t : Table).
+    .result) (c .code3 .ensures ∙ ap writtenCode (c .before .before .before .fitting .ensures .0 ∙ ap (λ (t : Table).
     library.planWritten t (c .before .before .before .before .before .before .before .before .before .before .before .before .before
-    .args .out .now)) (swept c))) (c .before .before .before .write-plan .last .1 .0) (c .before .before .before .write-plan .ensures .1
+    .args .out .now)) (swept c))) (c .before .before .before .fitting .last .1 .0) (c .before .before .before .fitting .ensures .1
     ∙ ap (λ (t : Table). library.planOut t (c .before .before .before .before .before .before .before .before .before .before .before
     .before .before .args .out .now)) (swept c)) (search (
       c .before .before .before .before .before .before .before .before .if2 .left,
@@ -83,7 +89,7 @@ yegnabit-sweep-spec =
     code-requires-2
     returns-2
     sweep-table-requires
-    write-plan-requires
+    fitting-requires
     code-requires-3
     same-length
     returns-3)

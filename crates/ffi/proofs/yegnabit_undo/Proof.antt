@@ -1,3 +1,5 @@
+use Rattle.ffi.proofs.FittingLaws.{bytes-known, read-fits, undone-fits}
+use Rattle.table.specs.Words.{fits}
 use Rattle.ffi.proofs.CallLaws.{area-short, plan-refused, plan-done, undo-refused, undo-done}
 use Rattle.ffi.specs.Calls.{undonePlan, backCode, backOut}
 use Rattle.run.specs.Undoing.{planUndone}
@@ -61,8 +63,13 @@ returns-3 c = let u = undo-refused (c .before .before .before .before .before .b
       needs,
     ))
 
-write-plan-requires : tie.Need-write-plan-requires
-write-plan-requires c κs = search needs
+fitting-requires : tie.Need-fitting-requires
+fitting-requires c κs = ap (λ (q : TableResult). fits (q .table)) (c .before .before .before .undo .ensures) ∙ undone-fits (c .before
+    .before .before .before .before .before .read-plan .result .table) (c .before .before .before .before .before .before .before .before
+    .before .before .before .args .history .now) (ap (λ (q : TableResult). fits (q .table)) (c .before .before .before .before .before
+    .before .read-plan .ensures) ∙ read-fits (c .before .before .before .before .before .before .before .before .before .before .before
+    .args .plan .now) (bytes-known (c .before .before .before .before .before .before .before .before .before .before .before .args .plan
+    .now) (λ i. c .before .before .before .before .before .before .before .before .before .before .shared-slice-known .given i .fits)))
 
 code-requires-4 : tie.Need-code-requires-4
 code-requires-4 c κs = search needs
@@ -75,15 +82,15 @@ returns-4 c = let u = undo-done (c .before .before .before .before .before .befo
     .before .before .before .args .plan .now) (c .before .before .before .before .before .before .before .before .before .before .before
     .before .before .before .before .args .history .now) (c .before .before .before .before .before .before .before .before .before
     .before .before .before .before .before .before .args .out .now) (c .before .before .before .before .before .before .before .undo
-    .result) (c .before .before .before .write-plan .result) (c .before .before .before .write-plan .last .1 .0) (c .code4 .result) (c
+    .result) (c .before .before .before .fitting .result) (c .before .before .before .fitting .last .1 .0) (c .code4 .result) (c
     .before .before .before .before .before .before .before .undo .ensures ∙ ap (λ (t : TableResult). planUndone (t .table) (c .before
     .before .before .before .before .before .before .before .before .before .before .before .before .before .before .args .history .now))
     (c .before .before .before .before .before .before .before .before .before .before .read-plan .ensures)) (search (
       c .before .before
           .before .before .before .before .if3 .left,
       needs,
-    )) (c .before .before .before .write-plan .ensures .0) (c .before .before .before
-    .write-plan .ensures .1) (c .code4 .ensures) in plan-done (c .before .before .before .before .before .before .before .before .before
+    )) (c .before .before .before .fitting .ensures .0) (c .before .before .before
+    .fitting .ensures .1) (c .code4 .ensures) in plan-done (c .before .before .before .before .before .before .before .before .before
     .before .before .before .before .before .before .args .out .now) (backOut (undonePlan (c .before .before .before .before .before
     .before .before .before .before .before .before .before .before .before .before .args .plan .now) (c .before .before .before .before
     .before .before .before .before .before .before .before .before .before .before .before .args .history .now)) (c .before .before
@@ -98,7 +105,7 @@ returns-4 c = let u = undo-done (c .before .before .before .before .before .befo
           .before .before .before .before .before .before .before .if1 .left,
     )) (c .before .before .before .before .before .before .before
     .before .before .before .read-plan .result) (c .before .before .before .before .before .before .before .before .before .before
-    .read-plan .ensures) (c .code4 .result) (u .0) (c .before .before .before .write-plan .last .1 .0) (u .1) (search (
+    .read-plan .ensures) (c .code4 .result) (u .0) (c .before .before .before .fitting .last .1 .0) (u .1) (search (
       c .before .before
           .before .before .before .before .before .before .before .if2 .left,
       needs,
@@ -116,7 +123,7 @@ yegnabit-undo-spec =
     undo-requires
     code-requires-3
     returns-3
-    write-plan-requires
+    fitting-requires
     code-requires-4
     same-length
     returns-4)

@@ -1,0 +1,60 @@
+-- The tables that the C calls write fit: read, swept or undone. So the writer need not look at them again.
+use mathlib.Core.Path.{_≡_, refl, ap, _∙_}
+use mathlib.Core.Bool.{Bool, true, _&&_}
+use mathlib.Core.List.{List, [], _∷_}
+use Prim.Native.Nat.{ℕ, suc, _<_}
+use native.Mathlib.Omega.{arith}
+use lib.Dec.{leb}
+use lib.ListN.{getD, take, drop}
+use borrow.Author.Tests.{le-leb}
+use Rattle.model.specs.Base.{pick, all, areBytes}
+use Rattle.model.specs.Refusal as refusal
+use Rattle.model.specs.Stored.{Read, bad, got, readPlan}
+use Rattle.model.specs.Sweep.{swept}
+use Rattle.model.specs.Table as model
+use Rattle.model.specs.Undo.{Undo, refused, back, undo}
+use Rattle.model.proofs.BoolLaws.{and-both, and-right}
+use Rattle.model.proofs.StoredBack.{storedBack}
+use Rattle.model.proofs.SweepsWell.{sweepsWell}
+use Rattle.model.proofs.TableLaws.{isWell-by, well-empty}
+use Rattle.model.proofs.UndoKeeps.{undoKeeps}
+use Rattle.table.specs.Words.{decode, fits, isRowWord, isZero}
+use Rattle.table.specs.Calls as library
+use Rattle.table.specs.declared.Table.{Table}
+use Rattle.table.proofs.EncodeLaws.{fits-encode}
+use Rattle.run.specs.Undoing.{planUndone, undoneBy, asItWas}
+
+-- the elements of a slice of bytes are bytes
+pub bytes-known : (l : List ℕ) → ((i : ℕ) → getD l i 0 < 256) → areBytes l ≡ true
+unfolding areBytes
+bytes-known [] h = refl
+bytes-known (b ∷ l) h = and-both (leb b 255) (areBytes l) (le-leb b 255 (omega (arith, h 0))) (bytes-known l (λ i. h (suc i)))
+
+-- what fits stands for a well-formed table
+well-decode : (t : Table) → fits t ≡ true → model.isWell (decode t) ≡ true
+well-decode t f =
+    and-right (leb (t .count) 512 && all isRowWord (take (t .count) (t .rows)) && all isZero (drop (t .count) (t .rows)))
+    (model.isWell (decode t)) f
+
+pub read-fits : (p : List ℕ) → areBytes p ≡ true → fits (library.planRead p .table) ≡ true
+read-fits p b = go (readPlan p) refl
+  where
+    go : (q : Read) → readPlan p ≡ q → fits (library.readBy (readPlan p) .table) ≡ true
+    go (bad f) e = ap (λ (q : Read). fits (library.readBy q .table)) e ∙ fits-encode model.empty (isWell-by model.empty well-empty)
+    go (got x) e = ap (λ (q : Read). fits (library.readBy q .table)) e ∙ fits-encode x (storedBack .1 p x b e .0)
+
+pub swept-fits : (t : Table) → fits t ≡ true → fits (library.planSwept t .table) ≡ true
+swept-fits t f =
+    ap (λ (z : Bool). fits (pick z (library.result refusal.fine (swept (decode t))) (record {
+      fault = library.faultOf (refusal.linkAt 0);
+      table = t;
+    }) .table)) f ∙
+    fits-encode (swept (decode t)) (sweepsWell (decode t) (well-decode t f) .0)
+
+pub undone-fits : (t : Table) (h : List ℕ) → fits t ≡ true → fits (planUndone t h .table) ≡ true
+undone-fits t h f =
+    ap (λ (z : Bool). fits (pick z (undoneBy t (undo (decode t) h)) (asItWas (refusal.linkAt 0) t) .table)) f ∙ go (undo (decode t) h) refl
+  where
+    go : (q : Undo) → undo (decode t) h ≡ q → fits (undoneBy t (undo (decode t) h) .table) ≡ true
+    go (refused g) e = ap (λ (q : Undo). fits (undoneBy t q .table)) e ∙ f
+    go (back x) e = ap (λ (q : Undo). fits (undoneBy t q .table)) e ∙ fits-encode x (undoKeeps (decode t) x h (well-decode t f) e)
