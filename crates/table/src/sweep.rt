@@ -78,7 +78,8 @@ pub fn rows<'a>(
     out: &mut [u32],
 ) -> usize
     requires { ⌜ RowsPre (now rows) (now marks) count (now numbers) (now out) ⌝ }
-    ensures { λ r. ⌜ Sweeping (decodeParts count (now (rows .entry)) (now (marks .entry))) count r (now (numbers .exit)) (now (out .exit)) ⌝ }
+    ensures { λ r. ⌜ Sweeping (decodeParts count (now (rows .entry)) (now (marks .entry))) count r
+        (now (numbers .exit)) (now (out .exit)) ⌝ }
 {
     flag(numbers, marks);
     let mut next = 0;
