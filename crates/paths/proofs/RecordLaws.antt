@@ -57,11 +57,11 @@ module _ (b : List ℕ) (at next : ℕ) (env ws : List ℕ) (n : ℕ) (pre : Nul
       NullaryPost b at next env ws n ws (record { result = r; count = n; place = next })
   unchanged r low is = record { size = pre .size; is = is; place = refl; low = low; more = omega arith; few = omega arith }
 
-  pub nullary-variable : getD b at 0 ≡ 3 → (v : ℕ) → v ≡ getD b (at + 1) 0 →
-      NullaryPost b at next env ws n ws (record { result = getD env v 0; count = n; place = next })
-  nullary-variable k v e =
-      let f : getD env v 0 ≡ getD env (getD b (at + 1) 0) 0 = ap (λ (x : ℕ). getD env x 0) e in
-      unchanged (getD env v 0) (omega (arith, pre .low k)) (ap (λ (x : ℕ). positions.emitted x (entriesIn ws n)) f ∙ rw k)
+  pub nullary-variable : getD b at 0 ≡ 3 → (v r : ℕ) → v ≡ getD b (at + 1) 0 → r ≡ getD env v 0 →
+      NullaryPost b at next env ws n ws (record { result = r; count = n; place = next })
+  nullary-variable k v r e g =
+      let f : r ≡ getD env (getD b (at + 1) 0) 0 = g ∙ ap (λ (x : ℕ). getD env x 0) e in
+      unchanged r (omega (arith, pre .low k)) (ap (λ (x : ℕ). positions.emitted x (entriesIn ws n)) f ∙ rw k)
 
   pub nullary-none : (getD b at 0 ≡ 2 → ⊥) → (getD b at 0 ≡ 3 → ⊥) →
       NullaryPost b at next env ws n ws (record { result = 0; count = n; place = next })
@@ -102,7 +102,7 @@ module _ (k first : ℕ) (x : positions.Emitted) (y : Emitted) (ws′ : List ℕ
   binary-none f g = grown-as x (binaryOf k first x) y ws′ r (rw (ne-eqb k 5 f, ne-eqb k 12 g))
 
 -- THE VARIABLES of a second operand
-module _ (k : ℕ) (env : List ℕ) (v r : ℕ) (pre : BindPre k env v) where
+module _ (k : ℕ) (env : List ℕ) (v r : ℕ) (pre : BindPre k env v r) where
   pub bind-one : model.isBinder k ≡ true → BindPost k env v r (set env v r)
   unfolding inner
   bind-one t =

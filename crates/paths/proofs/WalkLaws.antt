@@ -148,8 +148,14 @@ module _ {b : List ℕ} {at left v : ℕ} {env ws : List ℕ} {n : ℕ} (pre : E
         (λ z. let o = two-operands b at left v (pre .accepted) z in record { second = o .second; size = omega (arith, o .size) })
         (λ z. let o = three-operands b at left v (pre .accepted) z in record { second = o .second; size = omega (arith, o .size) })
 
-    pub bind-asks : BindPre (getD b at 0) env v
-    bind-asks = record { size = pre .variables; scope = fits .scope }
+    pub bind-asks : 1 < arity (getD b at 0) → BindPre (getD b at 0) env v (r₁ .result)
+    bind-asks h =
+        let o = more h in
+        record {
+          size = pre .variables;
+          few = omega (arith, pre .room, first .low, first .few, o .size);
+          scope = fits .scope;
+        }
 
     inner-most : inner (getD b at 0) v ≤ 8
     unfolding inner

@@ -120,8 +120,9 @@ pub record Grown (goal : positions.Emitted) (y : Emitted) (ws′ : List ℕ) (r 
   pub few : r .count ≤ y .count + 2
 
 -- THE VARIABLES of a second operand
-pub record BindPre (kind : ℕ) (env : List ℕ) (bound : ℕ) : Type 0 where
+pub record BindPre (kind : ℕ) (env : List ℕ) (bound result : ℕ) : Type 0 where
   pub size : length env ≡ 8
+  pub few : result < 256
   pub scope : isBinder kind ≡ true → bound < 8
 
 pub record BindPost (kind : ℕ) (env : List ℕ) (bound result : ℕ) (env′ : List ℕ) : Type 0 where

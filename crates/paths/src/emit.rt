@@ -145,7 +145,7 @@ fn nullary(
     bytes: &[u8],
     at: usize,
     next: usize,
-    env: [usize; 8],
+    env: [u8; 8],
     words: &mut [usize],
     count: usize,
 ) -> Emitted
@@ -164,7 +164,7 @@ fn nullary(
     if kind == kinds::VARIABLE {
         let v = index(bytes[at + 1]);
         return Emitted {
-            result: env[v],
+            result: index(env[v]),
             count,
             place: next,
         };
@@ -222,13 +222,13 @@ fn inner(kind: u8, bound: usize) -> usize
 }
 
 // Their positions: a binder's first result is one more.
-fn bind(kind: u8, env: [usize; 8], bound: usize, result: usize) -> [usize; 8]
-    requires { ⌜ BindPre kind env bound ⌝ }
+fn bind(kind: u8, env: [u8; 8], bound: usize, result: usize) -> [u8; 8]
+    requires { ⌜ BindPre kind env bound result ⌝ }
     ensures { λ r. ⌜ BindPost kind env bound result r ⌝ }
 {
     let mut inside = env;
     if kinds::is_binder(kind) {
-        inside[bound] = result;
+        inside[bound] = result as u8;
         return inside;
     }
     inside
@@ -240,7 +240,7 @@ pub fn emit(
     at: usize,
     left: usize,
     bound: usize,
-    env: [usize; 8],
+    env: [u8; 8],
     words: &mut [usize],
     count: usize,
 ) -> Emitted

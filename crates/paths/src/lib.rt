@@ -23,7 +23,7 @@ fn positions_of(bytes: &[u8], words: &mut [usize]) -> usize
     requires { ⌜ ScriptPre (now bytes) (now words) ⌝ }
     ensures { λ r. ⌜ ScriptPost (now (bytes .entry)) (now (words .exit)) r ⌝ }
 {
-    let variables = [0usize; Table::BINDERS];
+    let variables = [0u8; Table::BINDERS];
     let end = emit::emit(bytes, 0, Table::DEPTH, 0, variables, words, 1);
     end.count
 }

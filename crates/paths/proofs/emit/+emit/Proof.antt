@@ -153,7 +153,8 @@ emit-bind-requires t c κs =
     let c11 = c7 .before .before .before .before in
     let m : 0 < arity (getD (c11 .args .bytes .now) (c11 .args .at) 0) = omega (arith, c7 .arity .ensures .0, c5 .if1 .left) in
     let e = (ap (λ (s : ℕ). c11 .args .at + (1 + s)) (c6 .body-size .ensures .0)) in
-    bind-asks (c11 .pre .1) m e (c3 .emit .ensures)
+    let h : 1 < arity (getD (c11 .args .bytes .now) (c11 .args .at) 0) =
+    omega (arith, c7 .arity .ensures .0, c5 .if1 .left, c .if2 .left) in bind-asks (c11 .pre .1) m e (c3 .emit .ensures) h
 
 emit-sub-emit-2 : (t : ℕ) → emit-lts.Need-sub-emit-2 (emit-claims t) (emit-at t) emit.Post
 emit-sub-emit-2 t c =

@@ -9,8 +9,8 @@ use Rattle.paths.proofs.emit.bind.Tie as tie
 is-binder-requires : tie.Need-is-binder-requires
 is-binder-requires c κs = search needs
 
-mul-inside : tie.Need-mul-inside
-mul-inside c = omega (arith, c .before .before .pre .scope (sym (c .before .is-binder .ensures) ∙ c .if1 .taken))
+cast-inside : tie.Need-cast-inside
+cast-inside c = search needs
 
 array-write-inside : tie.Need-array-write-inside
 array-write-inside c = omega (arith, c .before .before .pre .scope (sym (c .before .is-binder .ensures) ∙ c .if1 .taken))
@@ -28,4 +28,5 @@ returns-2 c =
     (sym (c .before .is-binder .ensures) ∙ c .if1 .left)
 
 pub bind-spec : {M : Type 1} → statement M
-bind-spec = tie.close (tie.spec is-binder-requires mul-inside array-write-inside returns returns-2)
+bind-spec =
+    tie.close (tie.spec is-binder-requires cast-inside array-write-inside returns returns-2)

@@ -63,21 +63,21 @@ shared-slice-read-index-2 c =
 index-requires-2 : tie.Need-index-requires-2
 index-requires-2 c κs = search needs
 
-mul-t21 : tie.Need-mul-t21
-mul-t21 c =
-    let c7 = c .before .before .before .before .before .before .before in
-    omega (arith, c .index2 .ensures, c7 .pre .variable (c .before .before .if2 .taken))
+array-read-index : tie.Need-array-read-index
+array-read-index c =
+    let c2 = c .before .before in
+    let c7 = c2 .before .before .before .before .before in
+    omega (arith, c .index2 .ensures, c7 .pre .variable (c2 .if2 .taken))
 
-array-read-t26 : tie.Need-array-read-t26
-array-read-t26 c =
-    let c7 = c .before .before .before .before .before .before .before in
-    omega (arith, c .index2 .ensures, c7 .pre .variable (c .before .before .if2 .taken))
+index-requires-3 : tie.Need-index-requires-3
+index-requires-3 c κs = search needs
 
 returns-2 : tie.Need-returns-2
 returns-2 c =
-    let c7 = c .before .before .before .before .before .before .before in
-    nullary-variable (c7 .args .bytes .now) (c7 .args .at) (c7 .args .next) (c7 .args .t4) (c7 .args .words .now) (c7 .args .count)
-    (c7 .pre) (c .before .before .if2 .taken) (c .index2 .result) (c .index2 .ensures)
+    let c3 = c .before .before .before in
+    let c8 = c3 .before .before .before .before .before in
+    nullary-variable (c8 .args .bytes .now) (c8 .args .at) (c8 .args .next) (c8 .args .t4) (c8 .args .words .now) (c8 .args .count)
+    (c8 .pre) (c3 .if2 .taken) (c .before .index2 .result) (c .index3 .result) (c .before .index2 .ensures) (c .index3 .ensures)
 
 returns-3 : tie.Need-returns-3
 returns-3 c =
@@ -101,7 +101,7 @@ nullary-spec =
     add-index-2
     shared-slice-read-index-2
     index-requires-2
-    mul-t21
-    array-read-t26
+    array-read-index
+    index-requires-3
     returns-2
     returns-3)
