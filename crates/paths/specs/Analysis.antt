@@ -1,6 +1,6 @@
 -- What the analysis of two scripts answers, for every input. Assumes nothing: these are definitions.
 use mathlib.Core.Path.{_≡_}
-use mathlib.Core.List.{List, [], _∷_}
+use mathlib.Core.List.{List, []}
 use Prim.Native.Nat.{ℕ, _≤_, _<_}
 use lib.ListN.{length, getD}
 use Rattle.model.specs.Script.{Expr}
@@ -44,13 +44,6 @@ valuesOf (Refused s f) = values (f .number) s (f .place)
 valuesOf Free = values 0 0 0
 valuesOf Upward = values 0 1 0
 valuesOf Meet = values 0 2 0
-
--- and an answer's word, in bytes: free, upward, meet
-abbrev pub answerWord : Analysis → List ℕ
-answerWord (Refused s f) = []
-answerWord Free = 0x66 ∷ 0x72 ∷ 0x65 ∷ 0x65 ∷ []
-answerWord Upward = 0x75 ∷ 0x70 ∷ 0x77 ∷ 0x61 ∷ 0x72 ∷ 0x64 ∷ []
-answerWord Meet = 0x6D ∷ 0x65 ∷ 0x65 ∷ 0x74 ∷ []
 
 -- THE POSITIONS of an accepted script, in words of which the first is zero
 pub record ScriptPre (b ws : List ℕ) : Type 0 where

@@ -6,9 +6,7 @@ ghost use Rattle.paths.specs.Words.{positionBy, rootBy, overBy, unionBy,
 use crate::cells;
 use crate::cells::Step;
 
-// Kinds.
-pub const NOWHERE: usize = 0;
-
+// Kinds; 0 is nothing.
 pub const ROOT: usize = 1;
 
 pub const OVER: usize = 2;
