@@ -1,5 +1,6 @@
 // The C interface: every slice is a pointer and a length, nothing is kept. Each call answers number + 256 × which + 65,536 × place,
-// number 0 where nothing is refused; which says whose refusal it is: 0 a lent area's, 1 the plan's, 2 the script's or the history's.
+// number 0 where nothing is refused; which says whose refusal it is: 0 a lent area's, 1 the plan's,
+// 2 the script's, the run's or the history's.
 ghost use mathlib.Core.Path.{_≡_};
 ghost use Rattle.ffi.specs.Calls.{codeOf, planCode, planOut, sweepCode, sweepOut, writeCode, writeOut};
 ghost use Rattle.ffi.specs.Calls.{sweptCode, sweptRows, sweptMarks, scriptCode, undoCode, undoOut, analyseCode};
