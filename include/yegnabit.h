@@ -66,9 +66,9 @@ uint64_t yegnabit_plan(const uint8_t *plan, size_t plan_length, uint8_t *out, si
 uint64_t yegnabit_sweep(const uint8_t *plan, size_t plan_length, uint8_t *out, size_t out_length);
 
 /* Reads a plan, runs a script on it and writes the plan as it then is; place: 0. 11 for any area too short comes before all else, and
- * nothing is touched. A refused plan zeroes `done`, and the other areas stay. After a run the answer's rows and the history stand at the
- * front of their areas, and the rest of these and all of `work` is zero; a refused run leaves all of them, and `done`, zero. What `done`
- * holds: enum yegnabit_done; numbers past the sixth stay. */
+ * nothing is touched. After a run the answer's rows and the history stand at the front of their areas, and the rest of these and all of
+ * `work` is zero; a refused plan, script or run leaves all of them, and `done`, zero. What `done` holds: enum yegnabit_done; numbers past
+ * the sixth stay. */
 uint64_t yegnabit_run(const uint8_t *plan, size_t plan_length, const uint8_t *script, size_t script_length,
                       uint16_t *answer, size_t answer_length, uint8_t *history, size_t history_length,
                       uint16_t *work, size_t work_length, uint8_t *out, size_t out_length,

@@ -235,10 +235,14 @@ static void runs(void) {
     check(is_all(GUARD, done, 0, sizeof done), "numbers left alone");
     check_out(out, out, 0, "an area that a refused call leaves");
 
-    /* a refused plan zeroes the numbers alone */
+    /* a refused plan zeroes the run's areas and the numbers */
+    memset(history, GUARD, sizeof history);
+    memset(work, GUARD, sizeof work);
     check(yegnabit_run(plan_p, 19, ALL(script_a), ALL(answer), ALL(history), ALL(work), ALL(out), ALL(done)) == code(YEGNABIT_SHORT, 1, 16),
           "plan P cut off in its mark");
-    check(is_all(GUARD, answer, 0, sizeof answer), "an answer area left alone");
+    check(is_all(0, answer, 0, sizeof answer), "an answer area zeroed");
+    check(is_all(0, history, 0, sizeof history), "a history area zeroed");
+    check(is_all(0, work, 0, sizeof work), "a work area zeroed");
     check(is_all(0, done, 0, sizeof done), "numbers zeroed");
     check_out(out, out, 0, "an area that a refused call leaves");
 }

@@ -135,7 +135,8 @@ pub struct Lent<'a> {
 }
 
 /// Reads a stored plan, runs a script on it and writes the plan back. An area
-/// too short is refused before all else. If the plan is refused, nothing runs.
+/// too short is refused before all else. If the plan is refused, nothing runs,
+/// and the areas are zero as after a refused run.
 pub fn run(plan: &[u8], script: &[u8], areas: Lent<'_>) -> Answer {
     let short = areas.answer.len() < ANSWER_NUMBERS
         || areas.history.len() < HISTORY_BYTES
@@ -149,7 +150,12 @@ pub fn run(plan: &[u8], script: &[u8], areas: Lent<'_>) -> Answer {
     done.fill(0);
     let mut table = match stored::read(plan) {
         Ok(table) => table,
-        Err(refusal) => return Answer::refused(WHICH_PLAN, refusal),
+        Err(refusal) => {
+            areas.answer.fill(0);
+            areas.history.fill(0);
+            areas.work.fill(0);
+            return Answer::refused(WHICH_PLAN, refusal);
+        }
     };
     let lent_to_run = running::Areas {
         answer: areas.answer,

@@ -7,7 +7,7 @@ use table::Table;
 use table::fit;
 use value::Span;
 
-mod area;
+pub mod area;
 mod evaluate;
 mod record;
 mod tally;

@@ -4,7 +4,7 @@ use mathlib.Core.Bool.{Bool, true, false, _||_}
 use mathlib.Core.List.{List}
 use Prim.Native.Nat.{ℕ, _≤_}
 use lib.Dec.{T, ltb}
-use lib.ListN.{length}
+use lib.ListN.{length, replicate}
 use borrow.Author.Tests.{ltb-false, eq-eqb, ne-eqb}
 use Rattle.model.specs.Limits.{answerNeed, historyNeed, workNeed}
 use Rattle.model.specs.Call.{Ran}
@@ -48,13 +48,16 @@ module _ (p s a h w o d : List ℕ) (b : Bool) (short : b ≡ isShort (length a)
             runCalled p s a h w o d ≡ readCall (library.planRead p) s a h w o d
         the-read k = rw k
 
-    -- the plan is refused: nothing runs
-    pub call-plan-refused : (c : ℕ) (d′ : List ℕ) → (q .fault .number ≡ 0 → ⊥) → c ≡ codeOf (q .fault .number) 1 (q .fault .place) →
-        d′ ≡ sixOver 0 0 0 0 0 0 d → Leaves c a h w o d′ (runCalled p s a h w o d)
-    call-plan-refused c d′ z e f =
-        subst (Leaves c a h w o d′) (sym (called ∙ the-refusal)) (e, (refl, (refl, (refl, (refl, f)))))
+    -- the plan is refused: nothing runs, and the run's areas are cleared
+    pub call-plan-refused : (c : ℕ) (a′ h′ w′ d′ : List ℕ) → (q .fault .number ≡ 0 → ⊥) →
+        c ≡ codeOf (q .fault .number) 1 (q .fault .place) → a′ ≡ replicate (length a) 0 → h′ ≡ replicate (length h) 0 →
+        w′ ≡ replicate (length w) 0 → d′ ≡ sixOver 0 0 0 0 0 0 d → Leaves c a′ h′ w′ o d′ (runCalled p s a h w o d)
+    call-plan-refused c a′ h′ w′ d′ z e ea eh ew f =
+        subst (Leaves c a′ h′ w′ o d′) (sym (called ∙ the-refusal)) (e, (ea, (eh, (ew, (refl, f)))))
       where
-        the-refusal : readCall q s a h w o d ≡ refusedCall (codeOf (q .fault .number) 1 (q .fault .place)) a h w o d
+        the-refusal : readCall q s a h w o d ≡
+            refusedCall (codeOf (q .fault .number) 1 (q .fault .place)) (replicate (length a) 0) (replicate (length h) 0)
+            (replicate (length w) 0) o d
         the-refusal = rw (ne-eqb (q .fault .number) 0 z)
 
     module _ (z : q .fault .number ≡ 0) (r : RunResult) (a′ h′ w′ : List ℕ) (result : r ≡ runResult (q .table) s a h w)

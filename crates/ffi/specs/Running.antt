@@ -3,7 +3,7 @@ use mathlib.Core.Bool.{Bool, _||_}
 use mathlib.Core.List.{List}
 use Prim.Native.Nat.{ℕ}
 use lib.Dec.{ltb, eqb}
-use lib.ListN.{length, set}
+use lib.ListN.{length, set, replicate}
 use Rattle.model.specs.Base.{pick}
 use Rattle.model.specs.Limits.{answerNeed, historyNeed, workNeed}
 use Rattle.model.specs.Call.{Ran}
@@ -53,11 +53,12 @@ ranCall r l o d =
     pick (eqb (r .fault .number) 0) (writtenCall r l o d)
     (refusedCall (codeOf (r .fault .number) 2 (r .fault .place)) (l .answer) (l .history) (l .work) o d)
 
--- once the plan is read: its refusal, and then nothing runs, or the run
+-- once the plan is read: its refusal, and then nothing runs and the run's areas are zero, or the run
 abbrev pub readCall : TableResult → (script answer history work out done : List ℕ) → Called
 readCall q s a h w o d =
     pick (eqb (q .fault .number) 0) (ranCall (runResult (q .table) s a h w) (ran (q .table) s a h w) o d)
-    (refusedCall (codeOf (q .fault .number) 1 (q .fault .place)) a h w o d)
+    (refusedCall (codeOf (q .fault .number) 1 (q .fault .place)) (replicate (length a) 0) (replicate (length h) 0) (replicate (length w) 0)
+    o d)
 
 -- READ, RUN AND WRITE: 11 first, nothing touched; then the plan's refusal, then the run's
 abbrev pub runCalled : (plan script answer history work out done : List ℕ) → Called

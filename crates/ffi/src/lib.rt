@@ -9,6 +9,7 @@ ghost use Rattle.ffi.specs.Running.{runCalled};
 mod copy;
 mod lent;
 
+use eval::area;
 use paths::Analysis;
 use table::Fault;
 use table::Table;
@@ -135,6 +136,9 @@ pub extern "C" fn yegnabit_run(
     let number = read.fault.number;
     let place = read.fault.place;
     if number != 0 {
+        area::clear_words(answer);
+        area::clear_bytes(history);
+        area::clear_words(work);
         lent::put_six(done, 0, 0, 0, 0, 0, 0);
         return code(number, PLAN, place);
     }

@@ -19,9 +19,6 @@ madeKind w = pick (eqb (w % 4) 2) 0x42 0x41
 abbrev pub sixBytes : (kind row tag parent : ℕ) → List ℕ
 sixBytes k i t p = k ∷ i % 256 ∷ i / 256 ∷ t ∷ p % 256 ∷ p / 256 ∷ []
 
-abbrev pub fiveBytes : (kind row parent : ℕ) → List ℕ
-fiveBytes k i p = k ∷ i % 256 ∷ i / 256 ∷ p % 256 ∷ p / 256 ∷ []
-
 -- A NEW ROW that fits, in its word
 pub record NewPre (ws h : List ℕ) (p : Progress) (w : ℕ) : Type 0 where
   pub held : Held ws h p
