@@ -134,6 +134,39 @@ pub struct Lent<'a> {
     pub done: &'a mut [u64],
 }
 
+/// Areas of the lengths that a run needs.
+#[derive(PartialEq)]
+pub struct Areas {
+    pub answer: Vec<u16>,
+    pub history: Vec<u8>,
+    pub work: Vec<u16>,
+    pub out: Vec<u8>,
+    pub done: Vec<u64>,
+}
+
+impl Areas {
+    /// Areas that hold nothing but this number.
+    pub fn holding(number: u8) -> Areas {
+        Areas {
+            answer: vec![number.into(); ANSWER_NUMBERS],
+            history: vec![number; HISTORY_BYTES],
+            work: vec![number.into(); WORK_NUMBERS],
+            out: vec![number; PLAN_BYTES],
+            done: vec![number.into(); DONE_NUMBERS],
+        }
+    }
+
+    pub fn lend(&mut self) -> Lent<'_> {
+        Lent {
+            answer: &mut self.answer,
+            history: &mut self.history,
+            work: &mut self.work,
+            out: &mut self.out,
+            done: &mut self.done,
+        }
+    }
+}
+
 /// Reads a stored plan, runs a script on it and writes the plan back. An area
 /// too short is refused before all else. If the plan is refused, nothing runs,
 /// and the areas are zero as after a refused run.

@@ -11,9 +11,11 @@ use compare::generate::plans::full_table;
 use compare::generate::random::Random;
 use compare::generate::scripts::{script, Wanted};
 use compare::interface::{self, Answer};
+use compare::raw::RawTable;
 use compare::reference::limits::{BINDERS, DEPTH, PLAN_BYTES, SCRIPT_RECORDS};
 use compare::reference::plan::to_vec;
 use compare::reference::script::{Axis, Operation, Test};
+use compare::reference::table::Table;
 
 use crate::ffi;
 
@@ -44,10 +46,14 @@ pub fn run() {
     refused[PLAN_BYTES - 2] = refused[PLAN_BYTES - 6];
     let bytes = full_script(&mut random);
 
-    println!("| case | Rattle ns | Rust ns | ratio |");
+    println!("| case | library ns | Rust ns | ratio |");
     println!("|---|---|---|---|");
     measure(plan_case("plan of 512 rows, 8 marks", 0, &full));
     measure(plan_case("plan refused at its last record", 6, &refused));
+    measure(write_case(
+        "table of 512 rows handed in, written",
+        &full_table(&mut Random::new(SEED)),
+    ));
     measure(sweep_case("sweep of 512 rows, half kept", &full));
     measure(Case {
         name: "script of 64 records",
@@ -156,6 +162,32 @@ fn plan_case<'a>(name: &'static str, number: u64, plan: &'a [u8]) -> Case<'a> {
         number,
         library: Box::new(move || ffi::plan(black_box(plan), black_box(&mut ours))),
         reference: Box::new(move || interface::plan(black_box(plan), black_box(&mut theirs))),
+    }
+}
+
+/// A table handed in as words, checked and written.
+fn write_case(name: &'static str, table: &Table) -> Case<'static> {
+    let (mut ours, mut theirs) = ([0; PLAN_BYTES], [0; PLAN_BYTES]);
+    let (raw, same) = (RawTable::of(table), RawTable::of(table));
+    Case {
+        name,
+        number: 0,
+        library: Box::new(move || {
+            ffi::write_table(
+                raw.count,
+                black_box(&raw.rows),
+                &raw.marks,
+                black_box(&mut ours),
+            )
+        }),
+        reference: Box::new(move || {
+            interface::write_table(
+                same.count,
+                black_box(&same.rows),
+                &same.marks,
+                black_box(&mut theirs),
+            )
+        }),
     }
 }
 

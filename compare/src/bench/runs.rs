@@ -3,8 +3,8 @@
 
 use std::hint::black_box;
 
-use compare::interface::{self, Lent, DONE_NUMBERS};
-use compare::reference::limits::{ANSWER_NUMBERS, HISTORY_BYTES, PLAN_BYTES, ROWS, WORK_NUMBERS};
+use compare::interface::{self, Areas};
+use compare::reference::limits::ROWS;
 use compare::reference::plan::to_vec;
 use compare::reference::run::{run as run_reference, OwnedAreas};
 use compare::reference::script::kind;
@@ -91,7 +91,7 @@ fn undo_of_run(plan: &[u8], script: &[u8]) {
 }
 
 fn run_case<'a>(name: &'static str, number: u64, plan: &'a [u8], script: &'a [u8]) -> Case<'a> {
-    let (mut ours, mut theirs) = (Areas::new(), Areas::new());
+    let (mut ours, mut theirs) = (Areas::holding(0), Areas::holding(0));
     Case {
         name,
         number,
@@ -109,36 +109,6 @@ fn run_case<'a>(name: &'static str, number: u64, plan: &'a [u8], script: &'a [u8
                 black_box(&mut theirs).lend(),
             )
         }),
-    }
-}
-
-struct Areas {
-    answer: Vec<u16>,
-    history: Vec<u8>,
-    work: Vec<u16>,
-    out: Vec<u8>,
-    done: Vec<u64>,
-}
-
-impl Areas {
-    fn new() -> Areas {
-        Areas {
-            answer: vec![0; ANSWER_NUMBERS],
-            history: vec![0; HISTORY_BYTES],
-            work: vec![0; WORK_NUMBERS],
-            out: vec![0; PLAN_BYTES],
-            done: vec![0; DONE_NUMBERS],
-        }
-    }
-
-    fn lend(&mut self) -> Lent<'_> {
-        Lent {
-            answer: &mut self.answer,
-            history: &mut self.history,
-            work: &mut self.work,
-            out: &mut self.out,
-            done: &mut self.done,
-        }
     }
 }
 

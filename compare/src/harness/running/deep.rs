@@ -2,10 +2,8 @@
 
 use compare::generate::random::Random;
 use compare::generate::scripts::{script, Wanted};
-use compare::interface::{self, Answer, Lent, DONE_NUMBERS};
-use compare::reference::limits::{
-    ANSWER_NUMBERS, BINDERS, DEPTH, HISTORY_BYTES, PLAN_BYTES, ROWS, SCRIPT_RECORDS, WORK_NUMBERS,
-};
+use compare::interface::{self, Answer, Areas};
+use compare::reference::limits::{BINDERS, DEPTH, ROWS, SCRIPT_RECORDS};
 use compare::reference::plan::to_vec;
 use compare::reference::script::{kind, read};
 use compare::reference::table::{Row, Table};
@@ -33,38 +31,6 @@ const ALL: [u8; 9] = [
 ];
 const ONE: [u8; 2] = [kind::DOCUMENT, 0];
 
-/// What a run leaves in areas of the lengths it needs.
-#[derive(PartialEq)]
-struct Areas {
-    answer: Vec<u16>,
-    history: Vec<u8>,
-    work: Vec<u16>,
-    out: Vec<u8>,
-    done: Vec<u64>,
-}
-
-impl Areas {
-    fn new() -> Areas {
-        Areas {
-            answer: vec![7; ANSWER_NUMBERS],
-            history: vec![7; HISTORY_BYTES],
-            work: vec![7; WORK_NUMBERS],
-            out: vec![7; PLAN_BYTES],
-            done: vec![7; DONE_NUMBERS],
-        }
-    }
-
-    fn lend(&mut self) -> Lent<'_> {
-        Lent {
-            answer: &mut self.answer,
-            history: &mut self.history,
-            work: &mut self.work,
-            out: &mut self.out,
-            done: &mut self.done,
-        }
-    }
-}
-
 pub fn test(random: &mut Random, volume: Volume) -> Result<(), Difference> {
     let wide = to_vec(&star(ROWS));
     let few = to_vec(&star(FEW_ROWS));
@@ -82,7 +48,7 @@ pub fn test(random: &mut Random, volume: Volume) -> Result<(), Difference> {
     }
     let ran = on_small_stack(&cases)?;
     for ((plan, script), (answer, areas)) in cases.iter().zip(ran) {
-        let mut expected = Areas::new();
+        let mut expected = Areas::holding(7);
         let reference = interface::run(plan, script, expected.lend());
         compare((answer, reference))
             .map_err(|message| told(Call::Run, &[plan, script], &message))?;
@@ -101,7 +67,7 @@ fn on_small_stack(cases: &[(&[u8], Vec<u8>)]) -> Result<Vec<(Answer, Areas)>, Di
         let thread = std::thread::Builder::new().stack_size(STACK);
         let run_all = move || {
             let run_one = |(plan, script): &(&[u8], Vec<u8>)| {
-                let mut areas = Areas::new();
+                let mut areas = Areas::holding(7);
                 (ffi::run(plan, script, areas.lend()), areas)
             };
             cases.iter().map(run_one).collect()
