@@ -48,13 +48,20 @@ pub fn run() {
 
     println!("| case | library ns | Rust ns | ratio |");
     println!("|---|---|---|---|");
-    measure(plan_case("plan of 512 rows, 8 marks", 0, &full));
-    measure(plan_case("plan refused at its last record", 6, &refused));
+    let back: (OnPlan, OnPlan) = (ffi::plan, interface::plan);
+    let sweep: (OnPlan, OnPlan) = (ffi::sweep, interface::sweep);
+    measure(plan_case("plan of 512 rows, 8 marks", 0, &full, back));
+    measure(plan_case(
+        "plan refused at its last record",
+        6,
+        &refused,
+        back,
+    ));
     measure(write_case(
         "table of 512 rows handed in, written",
         &full_table(&mut Random::new(SEED)),
     ));
-    measure(sweep_case("sweep of 512 rows, half kept", &full));
+    measure(plan_case("sweep of 512 rows, half kept", 0, &full, sweep));
     measure(Case {
         name: "script of 64 records",
         number: 0,
@@ -155,13 +162,21 @@ fn analysis() {
     }
 }
 
-fn plan_case<'a>(name: &'static str, number: u64, plan: &'a [u8]) -> Case<'a> {
+/// A call that reads a plan and writes one.
+type OnPlan = fn(&[u8], &mut [u8]) -> Answer;
+
+fn plan_case<'a>(
+    name: &'static str,
+    number: u64,
+    plan: &'a [u8],
+    (library, reference): (OnPlan, OnPlan),
+) -> Case<'a> {
     let (mut ours, mut theirs) = ([0; PLAN_BYTES], [0; PLAN_BYTES]);
     Case {
         name,
         number,
-        library: Box::new(move || ffi::plan(black_box(plan), black_box(&mut ours))),
-        reference: Box::new(move || interface::plan(black_box(plan), black_box(&mut theirs))),
+        library: Box::new(move || library(black_box(plan), black_box(&mut ours))),
+        reference: Box::new(move || reference(black_box(plan), black_box(&mut theirs))),
     }
 }
 
@@ -188,16 +203,6 @@ fn write_case(name: &'static str, table: &Table) -> Case<'static> {
                 black_box(&mut theirs),
             )
         }),
-    }
-}
-
-fn sweep_case<'a>(name: &'static str, plan: &'a [u8]) -> Case<'a> {
-    let (mut ours, mut theirs) = ([0; PLAN_BYTES], [0; PLAN_BYTES]);
-    Case {
-        name,
-        number: 0,
-        library: Box::new(move || ffi::sweep(black_box(plan), black_box(&mut ours))),
-        reference: Box::new(move || interface::sweep(black_box(plan), black_box(&mut theirs))),
     }
 }
 

@@ -330,8 +330,8 @@ module _ (t : Table) (b : List ℕ) (e : fits t ≡ true) where
                   ap (λ (v : List ℕ). v ++ replicate (length h - length (historyBytes (recordsIn (take (q .bytes) h′)))) 0) (sym written)
 
 -- THE CALL: 11 first
-areas-by : (a h w : List ℕ) → 512 ≤ length a → 12288 ≤ length h → 32768 ≤ length w → areasFit a h w ≡ true
-areas-by a h w la lh lw =
+pub areas-fit : (a h w : List ℕ) → 512 ≤ length a → 12288 ≤ length h → 32768 ≤ length w → areasFit a h w ≡ true
+areas-fit a h w la lh lw =
     and-both _ _ (and-both _ _ (le-leb 512 (length a) la) (le-leb 12288 (length h) lh)) (le-leb 32768 (length w) lw)
 
 module _ (t : Table) (b a h w : List ℕ) where
@@ -390,7 +390,7 @@ module _ (t : Table) (b a h w : List ℕ) where
       same =
           ap (λ (j : ℕ). ranBy (decode t) j (length h′) (length w) (outcomeOf t b)) sa ∙
           ap (λ (j : ℕ). ranBy (decode t) (length a) j (length w) (outcomeOf t b)) sh ∙
-          sym (pick-true (areasFit a h w) (ranBy (decode t) (length a) (length h) (length w) (outcomeOf t b)) _ (areas-by a h w la lh lw))
+          sym (pick-true (areasFit a h w) (ranBy (decode t) (length a) (length h) (length w) (outcomeOf t b)) _ (areas-fit a h w la lh lw))
 
       works : (o : Out) → replicate (length w) 0 ≡ ranBy (decode t) (length a′) (length h′) (length w) o .work
       works (stop f) = refl

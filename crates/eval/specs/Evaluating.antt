@@ -8,7 +8,8 @@ use Prim.Native.Nat.{ℕ, _+_, _*_, _-_, _≤_, _<_}
 use lib.Dec.{ltb, eqb}
 use lib.ListN.{length, getD, take, drop}
 use Rattle.model.specs.Base.{pick}
-use Rattle.model.specs.Limits.{maxItems}
+use Rattle.model.specs.Limits.{maxItems, maxBinders, documents}
+use Rattle.model.specs.Refusal.{itemsAt}
 use Rattle.model.specs.Script.{stepBy, nilKind, stepKind, deleteKind, bothKind, insertKind, forKind, pickKind}
 use Rattle.model.specs.Script.{isBinder, bodySize}
 use Rattle.model.specs.Step.{stepped, picked}
@@ -38,12 +39,12 @@ boundValues w n env = map (spanValue w) (take n env)
 
 -- a variable's value lies below top
 abbrev pub SpanFits : (top : ℕ) → Span → Type 0
-SpanFits t s = (s .start + s .len ≤ t) × (s .len ≤ 512)
+SpanFits t s = (s .start + s .len ≤ t) × (s .len ≤ maxItems)
 
 -- and the items of all are rows
 pub record InScope (w : List ℕ) (n : ℕ) (env : List Span) (top count : ℕ) : Type 0 where
-  pub few : n ≤ 8
-  pub size : length env ≡ 8
+  pub few : n ≤ maxBinders
+  pub size : length env ≡ maxBinders
   pub spans : (v : ℕ) → v < n → SpanFits top (getD env v noSpan)
   pub values : AreValues count (boundValues w n env)
 
@@ -55,12 +56,12 @@ abbrev pub valuesIn : (kind : ℕ) → (bound : List (List ℕ)) → (value : Li
 valuesIn k b v = pick (isBinder k) (b ++ (v ∷ [])) b
 
 pub record BindPre (kind : ℕ) (env : List Span) (n start end : ℕ) : Type 0 where
-  pub size : length env ≡ 8
-  pub scope : isBinder kind ≡ true → n < 8
+  pub size : length env ≡ maxBinders
+  pub scope : isBinder kind ≡ true → n < maxBinders
   pub order : start ≤ end
 
 pub record BindPost (kind : ℕ) (env : List Span) (n start end : ℕ) (r : List Span) : Type 0 where
-  pub size : length r ≡ 8
+  pub size : length r ≡ maxBinders
   pub is : take (inner kind n) r ≡ spansIn kind (take n env) start end
 
 -- COPYING a value to a place
@@ -84,10 +85,10 @@ pub record Copying (w : List ℕ) (from to top : ℕ) (w′ : List ℕ) (k at : 
 abbrev pub endedBy : Progress → (at next end : ℕ) → List Span → Evaluated
 endedBy p i j e ss = record { progress = p; place = pick (eqb (p .number) 0) j i; end = e; env = ss }
 
--- 8 past 512 items
+-- 8, past the limit of items
 abbrev pub limitedBy : Evaluated → (top at : ℕ) → Evaluated
 limitedBy x t i =
-    pick (ltb maxItems (x .end - t)) (record { progress = stopped (x .progress) 8; place = i; end = x .end; env = x .env }) x
+    pick (ltb maxItems (x .end - t)) (record { progress = stopped (x .progress) (itemsAt i .number); place = i; end = x .end; env = x .env }) x
 
 abbrev pub movedTo : (place : ℕ) → Evaluated → Evaluated
 movedTo i x = record { progress = x .progress; place = i; end = x .end; env = x .env }
@@ -108,10 +109,10 @@ pub record Fine (next n : ℕ) (env : List Span) (ws h w : List ℕ) (top : ℕ)
   pub size : length w′ ≡ length w
   pub below : take top w′ ≡ take top w
   pub order : top ≤ r .end
-  pub short : r .end ≤ top + 512
+  pub short : r .end ≤ top + maxItems
   pub rows : AreRows (r .progress .count) (valueAt w′ top (r .end))
   pub place : r .place ≡ next
-  pub spans : length (r .env) ≡ 8
+  pub spans : length (r .env) ≡ maxBinders
   pub scope : take n (r .env) ≡ take n env
 
 pub record Yields (goal : Out) (next n : ℕ) (env : List Span) (ms ws h w : List ℕ) (top : ℕ) (p : Progress) (ws′ h′ w′ : List ℕ)
@@ -138,10 +139,10 @@ pub record IsBinary (kind : ℕ) : Type 0 where
 pub record ValuePre (ws h w : List ℕ) (top : ℕ) (x : Evaluated) : Type 0 where
   pub held : Held ws h (x .progress)
   pub order : top ≤ x .end
-  pub short : x .end ≤ top + 512
-  pub room : top + 512 ≤ length w
+  pub short : x .end ≤ top + maxItems
+  pub room : top + maxItems ≤ length w
   pub rows : AreRows (x .progress .count) (valueAt w top (x .end))
-  pub spans : length (x .env) ≡ 8
+  pub spans : length (x .env) ≡ maxBinders
 
 pub record UnaryPre (b : List ℕ) (at : ℕ) (ws h w : List ℕ) (top : ℕ) (x : Evaluated) : Type 0 where
   pub value : ValuePre ws h w top x
@@ -159,7 +160,7 @@ UnaryPost b i ws h w t x ws′ h′ w′ r =
 pub record BinaryPre (ws h w : List ℕ) (top mid : ℕ) (y : Evaluated) : Type 0 where
   pub value : ValuePre ws h w mid y
   pub order : top ≤ mid
-  pub short : mid ≤ top + 512
+  pub short : mid ≤ top + maxItems
   pub rows : AreRows (y .progress .count) (valueAt w top mid)
 
 abbrev pub BinaryPost : (kind at : ℕ) → (ws h w : List ℕ) → (top mid : ℕ) → Evaluated → (ws′ h′ w′ : List ℕ) → Evaluated → Type 0
@@ -168,9 +169,13 @@ BinaryPost k i ws h w t m y ws′ h′ w′ r =
     Yields (binaryOf k i (valueAt w t m) (valueAt w m (y .end)) (stateOf ws ms h (y .progress))) (y .place) n (y .env)
     ms ws h w t (y .progress) ws′ h′ w′ r
 
+-- the room that an expression so deep may take: each level keeps a value, and a loop its items and its results so far
+abbrev pub roomOf : (left : ℕ) → ℕ
+roomOf k = 2 * maxItems * k + maxItems
+
 -- AN EXPRESSION at a place, `left` deep at most, its value to stand from top on
 pub record MarksHeld (ms : List ℕ) (count : ℕ) : Type 0 where
-  pub size : length ms ≡ 8
+  pub size : length ms ≡ documents
   pub rows : (d : ℕ) → getD ms d 0 ≤ count
 
 pub record EvalPre (b : List ℕ) (at left n : ℕ) (env : List Span) (ms ws h w : List ℕ) (top : ℕ) (p : Progress) : Type 0 where
@@ -178,7 +183,7 @@ pub record EvalPre (b : List ℕ) (at left n : ℕ) (env : List Span) (ms ws h w
   pub held : Held ws h p
   pub marks : MarksHeld ms (p .count)
   pub scope : InScope w n env top (p .count)
-  pub room : top + 1024 * left + 512 ≤ length w
+  pub room : top + roomOf left ≤ length w
 
 abbrev pub EvalPost : (bytes : List ℕ) → (at left n : ℕ) → List Span → (ms ws h w : List ℕ) → (top : ℕ) → Progress →
     (ws′ h′ w′ : List ℕ) → Evaluated → Type 0
@@ -194,15 +199,15 @@ pub record EachPre (b : List ℕ) (at left n : ℕ) (env : List Span) (ms ws h w
   pub held : Held ws h p
   pub marks : MarksHeld ms (p .count)
   pub scope : InScope w n env top (p .count)
-  pub binder : n < 8
+  pub binder : n < maxBinders
   pub some : from < to
   pub items : to ≤ top
-  pub many : to ≤ from + 512
+  pub many : to ≤ from + maxItems
   pub rows : AreRows (p .count) (valueAt w from to)
   pub order : top ≤ end
-  pub short : end ≤ top + 512
+  pub short : end ≤ top + maxItems
   pub sofar : AreRows (p .count) (valueAt w top end)
-  pub room : top + 512 + 1024 * left + 512 ≤ length w
+  pub room : top + maxItems + roomOf left ≤ length w
 
 abbrev pub EachPost : (bytes : List ℕ) → (z at left n : ℕ) → List Span → (ms ws h w : List ℕ) → (from to top end : ℕ) → Progress →
     (ws′ h′ w′ : List ℕ) → Evaluated → Type 0

@@ -11,6 +11,7 @@ use crate::value::Span;
 use run::state::Progress;
 use script::kinds;
 use script::walk;
+use table::Table;
 
 // A record with one operand.
 fn unary(
@@ -18,7 +19,7 @@ fn unary(
     at: usize,
     left: usize,
     bound: usize,
-    env: [Span; 8],
+    env: [Span; Table::BINDERS],
     marks: &[u16],
     rows: &mut [u32],
     history: &mut [u8],
@@ -46,7 +47,7 @@ fn binary(
     at: usize,
     left: usize,
     bound: usize,
-    env: [Span; 8],
+    env: [Span; Table::BINDERS],
     marks: &[u16],
     rows: &mut [u32],
     history: &mut [u8],
@@ -85,7 +86,7 @@ fn branch(
     at: usize,
     left: usize,
     bound: usize,
-    env: [Span; 8],
+    env: [Span; Table::BINDERS],
     marks: &[u16],
     rows: &mut [u32],
     history: &mut [u8],
@@ -148,7 +149,7 @@ fn iterate(
     at: usize,
     left: usize,
     bound: usize,
-    env: [Span; 8],
+    env: [Span; Table::BINDERS],
     marks: &[u16],
     rows: &mut [u32],
     history: &mut [u8],
@@ -203,7 +204,7 @@ fn each(
     at: usize,
     left: usize,
     bound: usize,
-    env: [Span; 8],
+    env: [Span; Table::BINDERS],
     marks: &[u16],
     rows: &mut [u32],
     history: &mut [u8],
@@ -288,7 +289,7 @@ pub fn eval(
     at: usize,
     left: usize,
     bound: usize,
-    env: [Span; 8],
+    env: [Span; Table::BINDERS],
     marks: &[u16],
     rows: &mut [u32],
     history: &mut [u8],

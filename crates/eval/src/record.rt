@@ -23,7 +23,7 @@ pub struct Evaluated {
     pub progress: Progress,
     pub place: usize,
     pub end: usize,
-    pub env: [Span; 8],
+    pub env: [Span; Table::BINDERS],
 }
 
 fn index(b: u8) -> usize
@@ -40,7 +40,7 @@ fn name(b: u8) -> u16
 }
 
 // After the record at a place: past it where nothing is refused.
-fn ended(p: Progress, at: usize, next: usize, end: usize, env: [Span; 8]) -> Evaluated
+fn ended(p: Progress, at: usize, next: usize, end: usize, env: [Span; Table::BINDERS]) -> Evaluated
     ensures { λ r. ⌜ r ≡ endedBy p at next end env ⌝ }
 {
     let mut place = next;
@@ -93,7 +93,7 @@ pub fn nullary(
     at: usize,
     left: usize,
     bound: usize,
-    env: [Span; 8],
+    env: [Span; Table::BINDERS],
     marks: &[u16],
     rows: &mut [u32],
     history: &mut [u8],

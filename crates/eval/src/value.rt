@@ -9,6 +9,7 @@ ghost use Rattle.run.specs.Values.{Appended, valueAt};
 ghost use Rattle.eval.specs.Evaluating.{CopyPre, BindPre, BindPost, madeValue, PutPre};
 use run::state::Progress;
 use script::kinds;
+use table::Table;
 
 // A bound variable's value in the work area.
 pub struct Span {
@@ -58,7 +59,13 @@ pub fn put_row(q: Progress, row: usize, work: &mut [u16], top: usize) -> usize
 }
 
 // The variables of the second operand: a binder's first value is one more.
-pub fn bind(kind: u8, env: [Span; 8], bound: usize, start: usize, end: usize) -> [Span; 8]
+pub fn bind(
+    kind: u8,
+    env: [Span; Table::BINDERS],
+    bound: usize,
+    start: usize,
+    end: usize,
+) -> [Span; Table::BINDERS]
     requires { ⌜ BindPre kind env bound start end ⌝ }
     ensures { λ r. ⌜ BindPost kind env bound start end r ⌝ }
 {

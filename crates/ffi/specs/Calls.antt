@@ -18,6 +18,10 @@ use Rattle.table.specs.declared.Written.{Written}
 abbrev pub codeOf : (number which place : ℕ) → ℕ
 codeOf n w i = n + 256 * w + 65536 * (i % 281474976710656)
 
+-- what out needs: the bytes of 512 rows and 8 marks
+abbrev pub outNeed : ℕ
+outNeed = 2080
+
 -- 11 at place 0 for an area too short
 abbrev pub shortCode : ℕ
 shortCode = codeOf 11 0 0
@@ -35,20 +39,20 @@ readOut r b o = pick (eqb (r .fault .number) 0) b o
 -- READ AND WRITE BACK; out needs 2,080 bytes
 abbrev pub planCode : (plan out : List ℕ) → ℕ
 planCode p o =
-    pick (ltb (length o) 2080) shortCode (readCode (library.planRead p) (writtenCode (library.planWritten (library.planRead p .table) o)))
+    pick (ltb (length o) outNeed) shortCode (readCode (library.planRead p) (writtenCode (library.planWritten (library.planRead p .table) o)))
 
 abbrev pub planOut : (plan out : List ℕ) → List ℕ
-planOut p o = pick (ltb (length o) 2080) o (readOut (library.planRead p) (library.planOut (library.planRead p .table) o) o)
+planOut p o = pick (ltb (length o) outNeed) o (readOut (library.planRead p) (library.planOut (library.planRead p .table) o) o)
 
 -- READ, SWEEP AND WRITE
 abbrev pub sweptPlan : (plan : List ℕ) → Table
 sweptPlan p = library.planSwept (library.planRead p .table) .table
 
 abbrev pub sweepCode : (plan out : List ℕ) → ℕ
-sweepCode p o = pick (ltb (length o) 2080) shortCode (readCode (library.planRead p) (writtenCode (library.planWritten (sweptPlan p) o)))
+sweepCode p o = pick (ltb (length o) outNeed) shortCode (readCode (library.planRead p) (writtenCode (library.planWritten (sweptPlan p) o)))
 
 abbrev pub sweepOut : (plan out : List ℕ) → List ℕ
-sweepOut p o = pick (ltb (length o) 2080) o (readOut (library.planRead p) (library.planOut (sweptPlan p) o) o)
+sweepOut p o = pick (ltb (length o) outNeed) o (readOut (library.planRead p) (library.planOut (sweptPlan p) o) o)
 
 -- READ, TAKE A RUN BACK BY ITS HISTORY AND WRITE; a refusal of the history is which 2
 abbrev pub undonePlan : (plan history : List ℕ) → TableResult
@@ -62,10 +66,10 @@ abbrev pub backOut : TableResult → (out : List ℕ) → List ℕ
 backOut r o = pick (eqb (r .fault .number) 0) (library.planOut (r .table) o) o
 
 abbrev pub undoCode : (plan history out : List ℕ) → ℕ
-undoCode p h o = pick (ltb (length o) 2080) shortCode (readCode (library.planRead p) (backCode (undonePlan p h) o))
+undoCode p h o = pick (ltb (length o) outNeed) shortCode (readCode (library.planRead p) (backCode (undonePlan p h) o))
 
 abbrev pub undoOut : (plan history out : List ℕ) → List ℕ
-undoOut p h o = pick (ltb (length o) 2080) o (readOut (library.planRead p) (backOut (undonePlan p h) o) o)
+undoOut p h o = pick (ltb (length o) outNeed) o (readOut (library.planRead p) (backOut (undonePlan p h) o) o)
 
 -- A TABLE GIVEN as 512 row words and 8 marks
 abbrev pub isGiven : (rows marks : List ℕ) → Bool

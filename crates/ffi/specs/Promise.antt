@@ -15,7 +15,7 @@ use Rattle.model.specs.Stored.{stored, got, readPlan}
 use Rattle.model.specs.Sweep.{swept}
 use Rattle.model.specs.Table.{Table}
 use Rattle.model.specs.Undo.{back, undo}
-use Rattle.ffi.specs.Calls.{codeOf, planCode, planOut, sweepCode, sweepOut, undoCode, undoOut}
+use Rattle.ffi.specs.Calls.{outNeed, codeOf, planCode, planOut, sweepCode, sweepOut, undoCode, undoOut}
 use Rattle.ffi.specs.Running.{isShort, sixOver, refusedCall, runCalled}
 
 -- a plan at the start of out, the rest as it was
@@ -25,19 +25,19 @@ atFront b o = b ++ drop (length b) o
 -- READ AND WRITTEN BACK: the bytes that were read
 abbrev pub PlanBack : Type 0
 PlanBack =
-    (p o : List ℕ) (x : Table) → areBytes p ≡ true → readPlan p ≡ got x → 2080 ≤ length o →
+    (p o : List ℕ) (x : Table) → areBytes p ≡ true → readPlan p ≡ got x → outNeed ≤ length o →
     (planCode p o ≡ codeOf 0 0 (length p)) × (planOut p o ≡ atFront p o)
 
 -- SWEPT
 abbrev pub SweptBack : Type 0
 SweptBack =
-    (p o : List ℕ) (x : Table) → areBytes p ≡ true → readPlan p ≡ got x → 2080 ≤ length o →
+    (p o : List ℕ) (x : Table) → areBytes p ≡ true → readPlan p ≡ got x → outNeed ≤ length o →
     (sweepCode p o ≡ codeOf 0 0 (length (stored (swept x)))) × (sweepOut p o ≡ atFront (stored (swept x)) o)
 
 -- UNDONE
 abbrev pub UndoneBack : Type 0
 UndoneBack =
-    (p h o : List ℕ) (x y : Table) → areBytes p ≡ true → readPlan p ≡ got x → undo x h ≡ back y → 2080 ≤ length o →
+    (p h o : List ℕ) (x y : Table) → areBytes p ≡ true → readPlan p ≡ got x → undo x h ≡ back y → outNeed ≤ length o →
     (undoCode p h o ≡ codeOf 0 0 (length (stored y))) × (undoOut p h o ≡ atFront (stored y) o)
 
 -- RUN: the answer and the history at the front of their areas, the rest and all of the work area zero; the plan as it then is; six numbers

@@ -11,11 +11,11 @@ use Rattle.table.specs.Calls as library
 use Rattle.table.specs.declared.TableResult.{TableResult}
 use Rattle.eval.specs.Calls.{ran, runResult}
 use Rattle.eval.specs.declared.RunResult.{RunResult}
-use Rattle.ffi.specs.Calls.{codeOf, shortCode}
+use Rattle.ffi.specs.Calls.{outNeed, codeOf, shortCode}
 
 -- an area shorter than its need: out takes the longest plan, 2,080 bytes, and done six numbers
 abbrev pub isShort : (answer history work out done : ℕ) → Bool
-isShort a h w o d = ltb a answerNeed || ltb h historyNeed || ltb w workNeed || ltb o 2080 || ltb d 6
+isShort a h w o d = ltb a answerNeed || ltb h historyNeed || ltb w workNeed || ltb o outNeed || ltb d 6
 
 -- six numbers over the front of done: items, rows made, links cut, records written, history bytes, bytes in out
 abbrev pub sixOver : (items made cut records bytes written : ℕ) → (done : List ℕ) → List ℕ

@@ -6,12 +6,12 @@ use Prim.Native.Nat.{ℕ, _≤_}
 use native.Mathlib.Omega.{arith}
 use lib.Dec.{eqb}
 use lib.ListN.{length}
-use borrow.Author.Tests.{le-leb, eq-eqb, ne-eqb}
+use borrow.Author.Tests.{eq-eqb, ne-eqb}
 use Rattle.model.specs.Base.{pick}
 use Rattle.model.specs.Refusal.{Fault, isFine, linkAt, lentShort}
 use Rattle.model.specs.Script.{Parsed, ill, parsed, parseFrom, whole, readScript}
 use Rattle.model.specs.Run.{Out, stop, gives}
-use Rattle.model.specs.Call.{Ran, areasFit, ranBy, refusedRun, runBy}
+use Rattle.model.specs.Call.{Ran, ranBy, refusedRun, runBy}
 use Rattle.model.specs.Table as model
 use Rattle.model.proofs.BoolLaws.{by-cases}
 use Rattle.model.proofs.StopLaws.{stop-refuses}
@@ -24,6 +24,7 @@ use Rattle.report.specs.Orders.{outcomeBy, outcome, orderThen, orderFrom
 use Rattle.report.specs.declared.orders.Outcome.{Outcome}
 use Rattle.report.specs.declared.orders.Order.{Order}
 use Rattle.report.specs.declared.orders.Order.the-variants.{Stopped, Ended}
+use Rattle.eval.proofs.CallLaws.{areas-fit}
 
 -- A STOP is a refusal: its number is not 0
 abbrev Refuses : Out → Type 0
@@ -50,9 +51,6 @@ given t r = record { number = r .fault .number; items = r .items; table = pick (
 out-given : (t : Table) (a h w : ℕ) (o : Out) → Refuses o → given t (ranBy (decode t) a h w o) ≡ outcomeBy t o
 out-given t a h w (stop f) k = ap (λ (z : Bool). record { number = f .number; items = 0; table = pick z (encode (decode t)) t }) (k f refl)
 out-given t a h w (gives v s) k = refl
-
-areas-fit : (a h w : List ℕ) → 512 ≤ length a → 12288 ≤ length h → 32768 ≤ length w → areasFit a h w ≡ true
-areas-fit a h w i j k = rw (le-leb 512 (length a) i, le-leb 12288 (length h) j, le-leb 32768 (length w) k)
 
 module _ (t : Table) (b a h w : List ℕ) (i : 512 ≤ length a) (j : 12288 ≤ length h) (k : 32768 ≤ length w) where
   ran-given : given t (ran t b a h w) ≡ outcome t b
