@@ -1,6 +1,7 @@
 -- What the analysis of two scripts answers, for every input. Assumes nothing: these are definitions.
 use mathlib.Core.Path.{_≡_}
 use mathlib.Core.List.{List, []}
+use Prim.Native.String.{String}
 use Prim.Native.Nat.{ℕ, _≤_, _<_}
 use lib.ListN.{length, getD}
 use Rattle.model.specs.Script.{Expr}
@@ -44,6 +45,13 @@ valuesOf (Refused s f) = values (f .number) s (f .place)
 valuesOf Free = values 0 0 0
 valuesOf Upward = values 0 1 0
 valuesOf Meet = values 0 2 0
+
+-- and an answer's word
+abbrev pub answerWord : Analysis → String
+answerWord (Refused s f) = ""
+answerWord Free = "free"
+answerWord Upward = "upward"
+answerWord Meet = "meet"
 
 -- THE POSITIONS of an accepted script, in words of which the first is zero
 pub record ScriptPre (b ws : List ℕ) : Type 0 where

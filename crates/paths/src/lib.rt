@@ -1,6 +1,7 @@
 // The path analysis: whether two scripts can touch the same node of some plan.
 ghost use mathlib.Core.Path.{_≡_};
 ghost use Rattle.paths.specs.Analysis.{analysed, ScriptPre, ScriptPost, AnswerPre, AnswerPost};
+use pairs::Marks;
 use table::Fault;
 use table::Table;
 
@@ -29,7 +30,7 @@ fn positions_of(bytes: &[u8], words: &mut [usize]) -> usize
 }
 
 // The answer from the positions of two scripts. An upward step anywhere, even in a branch never run, comes first.
-fn answer(first: &[usize], n: usize, second: &[usize], m: usize, table: &mut [u8]) -> Analysis
+fn answer(first: &[usize], n: usize, second: &[usize], m: usize, table: &mut [Marks]) -> Analysis
     requires { ⌜ AnswerPre (now first) n (now second) m (now table) ⌝ }
     ensures { λ r. ⌜ AnswerPost (now (first .entry)) n (now (second .entry)) m r ⌝ }
 {
@@ -65,13 +66,13 @@ pub fn analyse(first: &[u8], second: &[u8]) -> Analysis
     let mut others = [0usize; pairs::POSITIONS];
     let m = positions_of(second, &mut others);
     if n <= pairs::FEW {
-        let mut small = [0u8; pairs::FEW_PAIRS];
+        let mut small = [pairs::NONE; pairs::FEW_PAIRS];
         return answer(&words, n, &others, m, &mut small);
     }
     if n <= pairs::HALF {
-        let mut half = [0u8; pairs::HALF_PAIRS];
+        let mut half = [pairs::NONE; pairs::HALF_PAIRS];
         return answer(&words, n, &others, m, &mut half);
     }
-    let mut table = [0u8; pairs::PAIRS];
+    let mut table = [pairs::NONE; pairs::PAIRS];
     answer(&words, n, &others, m, &mut table)
 }

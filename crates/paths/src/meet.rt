@@ -10,6 +10,7 @@ ghost use Rattle.paths.specs.Filling.{UnionRowPre, UnionRowPost};
 use crate::cells::Cell;
 use crate::cells::Step;
 use crate::pairs;
+use crate::pairs::Marks;
 use crate::positions;
 use crate::positions::Position;
 
@@ -25,7 +26,7 @@ fn step_of(p: Position) -> Step
 }
 
 // From a document, number k of the first script, to the sources of q, number l of the second.
-fn from_root(table: &[u8], k: usize, l: usize, p: Position, q: Position) -> Cell
+fn from_root(table: &[Marks], k: usize, l: usize, p: Position, q: Position) -> Cell
     requires { ⌜ CellPre (now table) k l p q ⌝ }
     ensures { λ r. ⌜ cellOf r ≡ sourcesCell k l (marks (now (table .entry))) (rootSource p ∷ []) (sourcesOf (positionBy q)) ⌝ }
 {
@@ -39,7 +40,7 @@ fn from_root(table: &[u8], k: usize, l: usize, p: Position, q: Position) -> Cell
 }
 
 // From a step, number k of the first script, to the sources of q, number l of the second.
-fn from_step(table: &[u8], k: usize, l: usize, p: Position, q: Position) -> Cell
+fn from_step(table: &[Marks], k: usize, l: usize, p: Position, q: Position) -> Cell
     requires { ⌜ FromStepPre (now table) k l p q ⌝ }
     ensures { λ r. ⌜ cellOf r ≡ sourcesCell k l (marks (now (table .entry))) (stepSource p ∷ []) (sourcesOf (positionBy q)) ⌝ }
 {
@@ -62,7 +63,7 @@ fn from_step(table: &[u8], k: usize, l: usize, p: Position, q: Position) -> Cell
 }
 
 // The cell of p, number k of the first script, and q, number l of the second: a union's from its parts, any other's from its source.
-fn cell(table: &[u8], k: usize, l: usize, p: Position, q: Position) -> Cell
+fn cell(table: &[Marks], k: usize, l: usize, p: Position, q: Position) -> Cell
     requires { ⌜ CellPre (now table) k l p q ⌝ }
     ensures { λ r. ⌜ cellOf r ≡ cellBy k l (marks (now (table .entry))) (positionBy p) (positionBy q) ⌝ }
 {
@@ -93,7 +94,7 @@ fn is_tested(p: Position, q: Position) -> bool
 fn pair(
     first: &[usize],
     second: &[usize],
-    table: &mut [u8],
+    table: &mut [Marks],
     k: usize,
     l: usize,
     p: Position,
@@ -108,7 +109,7 @@ fn pair(
 }
 
 // Fills in row k, p being position k, a union: from the rows of its parts.
-fn union_row(first: &[usize], second: &[usize], table: &mut [u8], k: usize, p: Position)
+fn union_row(first: &[usize], second: &[usize], table: &mut [Marks], k: usize, p: Position)
     requires { ⌜ UnionRowPre (now first) (now second) (now table) k p ⌝ }
     ensures { λ r. ⌜ UnionRowPost (now (first .entry)) (now (second .entry)) k (now (table .exit)) ⌝ }
 {
@@ -122,7 +123,7 @@ fn union_row(first: &[usize], second: &[usize], table: &mut [u8], k: usize, p: P
 
 // Fills in row k up to a pair that meets, and says whether there is one. Position 0 is nothing: its pairs stay clear. A union that
 // is neither accessed nor modified meets none.
-fn row(first: &[usize], second: &[usize], table: &mut [u8], k: usize) -> bool
+fn row(first: &[usize], second: &[usize], table: &mut [Marks], k: usize) -> bool
     requires { ⌜ RowPre (now first) (now second) (now table) k ⌝ }
     ensures { λ r. ⌜ RowPost (now (first .entry)) (now (second .entry)) k (now (table .exit)) r ⌝ }
 {
@@ -142,7 +143,7 @@ fn row(first: &[usize], second: &[usize], table: &mut [u8], k: usize) -> bool
 }
 
 // Some position that one script modifies meets one that the other accesses.
-pub fn positions_meet(first: &[usize], second: &[usize], table: &mut [u8]) -> bool
+pub fn positions_meet(first: &[usize], second: &[usize], table: &mut [Marks]) -> bool
     requires { ⌜ TablePre (now first) (now second) (now table) ⌝ }
     ensures { λ r. ⌜ r ≡ positionsMeet (entriesBy (now (first .entry))) (entriesBy (now (second .entry))) ⌝ }
 {

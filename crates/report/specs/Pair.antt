@@ -9,7 +9,7 @@ use Rattle.table.specs.Calls.{planRead}
 use Rattle.table.specs.declared.Table.{Table}
 use Rattle.table.specs.declared.TableResult.{TableResult}
 use Rattle.table.specs.declared.Written.{Written}
-use Rattle.paths.specs.Analysis.{analysed}
+use Rattle.paths.specs.Analysis.{analysed, answerWord}
 use Rattle.paths.specs.declared.Analysis.{Analysis}
 use Rattle.paths.specs.declared.Analysis.the-variants.{Refused, Free, Upward, Meet}
 use Rattle.report.specs.Text.{ascii, Placed}
@@ -28,9 +28,9 @@ threeLines t w b c =
 -- A refused script gives the only line; after every answer both orders are run
 abbrev pub textBy : Analysis → Table → (first second : List ℕ) → List ℕ
 textBy (Refused s f) t b c = fileLine (pick (eqb s 1) (ascii "first") (ascii "second")) f
-textBy Free t b c = threeLines t (ascii "free") b c
-textBy Upward t b c = threeLines t (ascii "upward") b c
-textBy Meet t b c = threeLines t (ascii "meet") b c
+textBy Free t b c = threeLines t (ascii (answerWord Free)) b c
+textBy Upward t b c = threeLines t (ascii (answerWord Upward)) b c
+textBy Meet t b c = threeLines t (ascii (answerWord Meet)) b c
 
 -- The first file refused, in the order plan, first, second, gives the only line
 abbrev pub planText : TableResult → (first second : List ℕ) → List ℕ
