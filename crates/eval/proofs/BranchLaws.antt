@@ -11,14 +11,14 @@ use Rattle.model.specs.Run.{State, Out, andThen, run}
 use Rattle.model.proofs.BoolLaws.{pick-true, pick-false}
 use Rattle.script.specs.Walk.{endAt, firstAt, secondAt, thirdAt, exprAt}
 use Rattle.script.proofs.AcceptedLaws.{accepted-at}
-use Rattle.run.specs.State.{stateOf}
-use Rattle.run.specs.Values.{valueAt}
-use Rattle.run.specs.declared.state.Progress.{Progress}
-use Rattle.eval.specs.Evaluating.{boundValues, movedTo, Fine, EvalPre, EvalPost}
-use Rattle.eval.specs.declared.value.Span.{Span}
-use Rattle.eval.specs.declared.record.Evaluated.{Evaluated}
-use Rattle.eval.proofs.ValueLaws.{value-none, length-value}
-use Rattle.eval.proofs.YieldLaws.{yields-as, yields-gives, yields-stop, stop-yields, moved-yields, fine-between, yields-after}
+use Rattle.updates.specs.State.{stateOf}
+use Rattle.query.specs.Values.{valueAt}
+use Rattle.updates.specs.declared.state.Progress.{Progress}
+use Rattle.operators.specs.Evaluating.{boundValues, movedTo, Fine, EvalPre, EvalPost}
+use Rattle.operators.specs.declared.value.Span.{Span}
+use Rattle.operators.specs.declared.record.Evaluated.{Evaluated}
+use Rattle.operators.proofs.ValueLaws.{value-none, length-value}
+use Rattle.operators.proofs.YieldLaws.{yields-as, yields-gives, yields-stop, stop-yields, moved-yields, fine-between, yields-after}
 use Rattle.eval.proofs.OperandLaws.{if-operands}
 use Rattle.eval.proofs.EvalLaws.{operand-asks, good, same-bound, next-asks}
 

@@ -13,16 +13,16 @@ use Rattle.script.specs.Accepted.{Accepted, RecordFits}
 use Rattle.script.proofs.AcceptedLaws.{accepted-record, accepted-at}
 use Rattle.script.proofs.FieldLaws.{step-axis}
 use Rattle.script.proofs.KindLaws.{two-left}
-use Rattle.run.specs.State.{stateOf}
-use Rattle.run.specs.Values.{valueAt}
-use Rattle.run.specs.declared.state.Progress.{Progress}
-use Rattle.eval.specs.Evaluating.{boundValues, valuesIn, BindPre, BindPost, Fine, unaryOf, binaryOf, ValuePre}
-use Rattle.eval.specs.Evaluating.{UnaryPre}
-use Rattle.eval.specs.Evaluating.{UnaryPost, BinaryPre, BinaryPost, IsBinary, EvalPre, EvalPost}
-use Rattle.eval.specs.declared.value.Span.{Span}
-use Rattle.eval.specs.declared.record.Evaluated.{Evaluated}
-use Rattle.eval.proofs.ValueLaws.{value-same}
-use Rattle.eval.proofs.YieldLaws.{yields-as, yields-gives, yields-stop, stop-yields, fine-between, between-then, yields-after}
+use Rattle.updates.specs.State.{stateOf}
+use Rattle.query.specs.Values.{valueAt}
+use Rattle.updates.specs.declared.state.Progress.{Progress}
+use Rattle.operators.specs.Evaluating.{boundValues, valuesIn, BindPre, BindPost, Fine, unaryOf, binaryOf, ValuePre}
+use Rattle.operators.specs.Evaluating.{UnaryPre}
+use Rattle.operators.specs.Evaluating.{UnaryPost, BinaryPre, BinaryPost, IsBinary, EvalPre, EvalPost}
+use Rattle.operators.specs.declared.value.Span.{Span}
+use Rattle.operators.specs.declared.record.Evaluated.{Evaluated}
+use Rattle.operators.proofs.ValueLaws.{value-same}
+use Rattle.operators.proofs.YieldLaws.{yields-as, yields-gives, yields-stop, stop-yields, fine-between, between-then, yields-after}
 use Rattle.eval.proofs.OperandLaws.{one-operand, two-operands}
 use Rattle.eval.proofs.ScopeLaws.{marks-more, bound-kept, scope-kept, bound-inside, bound-back, scope-inside}
 

@@ -1,14 +1,5 @@
-pub mod AreaLaws
-pub mod ValueLaws
-pub mod RecordLaws
-pub mod YieldLaws
-pub mod NullaryLaws
-pub mod OperatorLaws
 pub mod ScopeLaws
 pub mod OperandLaws
 pub mod EvalLaws
 pub mod BranchLaws
 pub mod LoopLaws
-pub mod Raising
-pub mod CallLaws
-pub mod Promised

@@ -14,17 +14,18 @@ use Rattle.model.specs.Run.{State, Out, stop, gives, andThen, joinItems, joinFo
 use Rattle.model.proofs.ValueLaws.{AreRows, noRows, moreRows, areRows-more}
 use Rattle.script.specs.Walk.{inner, endAt, firstAt, secondAt, exprAt}
 use Rattle.script.proofs.AcceptedLaws.{accepted-record, accepted-at}
-use Rattle.run.specs.State.{stateOf}
-use Rattle.run.specs.Values.{valueAt}
-use Rattle.run.specs.declared.state.Progress.{Progress}
-use Rattle.run.proofs.StateLaws.{after-self}
-use Rattle.eval.specs.Evaluating.{boundValues, InScope, BindPre, BindPost, limitedBy, movedTo, Fine, BinaryPre, BinaryPost}
-use Rattle.eval.specs.Evaluating.{EvalPre, EvalPost, bodyRun, EachPre, EachPost}
-use Rattle.eval.specs.declared.value.Span.{Span}
-use Rattle.eval.specs.declared.record.Evaluated.{Evaluated}
-use Rattle.eval.proofs.ValueLaws.{value-same, value-none, value-one, value-append}
-use Rattle.eval.proofs.YieldLaws.{yields-as, yields-gives, yields-stop, stop-yields, moved-yields, fine-between, between-then}
-use Rattle.eval.proofs.YieldLaws.{yields-after, limited-yields}
+use Rattle.updates.specs.State.{stateOf}
+use Rattle.query.specs.Values.{valueAt}
+use Rattle.updates.specs.declared.state.Progress.{Progress}
+use Rattle.updates.proofs.StateLaws.{after-self}
+use Rattle.operators.specs.Evaluating.{boundValues, InScope, BindPre, BindPost, limitedBy, movedTo, Fine, BinaryPre, BinaryPost}
+use Rattle.operators.specs.Evaluating.{EvalPre, EvalPost}
+use Rattle.eval.specs.Loops.{bodyRun, EachPre, EachPost}
+use Rattle.operators.specs.declared.value.Span.{Span}
+use Rattle.operators.specs.declared.record.Evaluated.{Evaluated}
+use Rattle.operators.proofs.ValueLaws.{value-same, value-none, value-one, value-append}
+use Rattle.operators.proofs.YieldLaws.{yields-as, yields-gives, yields-stop, stop-yields, moved-yields, fine-between, between-then}
+use Rattle.operators.proofs.YieldLaws.{yields-after, limited-yields}
 use Rattle.eval.proofs.OperandLaws.{for-operands}
 use Rattle.eval.proofs.ScopeLaws.{marks-more, bound-kept, scope-kept, bound-inside, bound-back, scope-inside}
 use Rattle.eval.proofs.EvalLaws.{operand-asks, good, same-bound}

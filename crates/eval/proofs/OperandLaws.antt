@@ -12,7 +12,8 @@ use Rattle.script.specs.Accepted.{Accepted, RecordFits, Unary, Binary}
 use Rattle.script.proofs.KindLaws.{unary-kind, binary-kind}
 use Rattle.script.proofs.AcceptedLaws.{accepted-record, accepted-step, accepted-delete, accepted-pick, accepted-join, accepted-let}
 use Rattle.script.proofs.AcceptedLaws.{accepted-for, accepted-insert, accepted-if}
-use Rattle.eval.specs.Evaluating.{valuesIn, unaryOf, binaryOf, bodyRun, IsBinary}
+use Rattle.operators.specs.Evaluating.{valuesIn, unaryOf, binaryOf, IsBinary}
+use Rattle.eval.specs.Loops.{bodyRun}
 
 -- an outcome that goes on with its own value
 then-gives : (o : Out) → andThen o (λ (v : List ℕ) (s : State). gives v s) ≡ o

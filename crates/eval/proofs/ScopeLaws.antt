@@ -13,11 +13,11 @@ use Rattle.model.specs.Script.{isBinder}
 use Rattle.model.proofs.BoolLaws.{by-cases}
 use Rattle.model.proofs.ValueLaws.{AreRows, AreValues, areValues-snoc, areValues-more}
 use Rattle.script.specs.Walk.{inner}
-use Rattle.run.specs.Values.{valueAt}
-use Rattle.eval.specs.Evaluating.{noSpan, spanOf, spanValue, boundValues, SpanFits, InScope, spansIn, valuesIn, BindPost, MarksHeld}
-use Rattle.eval.specs.declared.value.Span.{Span}
-use Rattle.eval.proofs.ValueLaws.{value-same}
-use Rattle.eval.proofs.RecordLaws.{inner-more, inner-same}
+use Rattle.query.specs.Values.{valueAt}
+use Rattle.operators.specs.Evaluating.{noSpan, spanOf, spanValue, boundValues, SpanFits, InScope, spansIn, valuesIn, BindPost, MarksHeld}
+use Rattle.operators.specs.declared.value.Span.{Span}
+use Rattle.operators.proofs.ValueLaws.{value-same}
+use Rattle.operators.proofs.RecordLaws.{inner-more, inner-same}
 
 -- MARKS stay within a table that grows
 pub marks-more : {ms : List ℕ} {c d : ℕ} → MarksHeld ms c → c ≤ d → MarksHeld ms d

@@ -1,4 +1,1 @@
-pub mod Evaluating
-pub mod Tallying
-pub mod Calls
-pub mod Promise
+pub mod Loops

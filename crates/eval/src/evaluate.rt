@@ -3,15 +3,16 @@ ghost use mathlib.Core.Path.{_≡_};
 ghost use lib.ListN.{getD};
 ghost use Rattle.model.specs.Script.{ifKind, forKind};
 ghost use Rattle.script.specs.Walk.{arity};
-ghost use Rattle.eval.specs.Evaluating.{IsBinary, EvalPre, EvalPost, EachPre, EachPost};
-use crate::record;
-use crate::record::Evaluated;
-use crate::value;
-use crate::value::Span;
-use run::state::Progress;
+ghost use Rattle.operators.specs.Evaluating.{IsBinary, EvalPre, EvalPost};
+ghost use Rattle.eval.specs.Loops.{EachPre, EachPost};
+use operators::record;
+use operators::record::Evaluated;
+use operators::value;
+use operators::value::Span;
 use script::kinds;
 use script::walk;
 use table::Table;
+use updates::state::Progress;
 
 // A record with one operand.
 fn unary(

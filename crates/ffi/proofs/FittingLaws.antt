@@ -22,7 +22,7 @@ use Rattle.table.specs.Words.{decode, fits, isRowWord, isZero}
 use Rattle.table.specs.Calls as library
 use Rattle.table.specs.declared.Table.{Table}
 use Rattle.table.proofs.EncodeLaws.{fits-encode}
-use Rattle.run.specs.Undoing.{planUndone, undoneBy, asItWas}
+use Rattle.undo.specs.Undoing.{planUndone, undoneBy, asItWas}
 
 -- the elements of a slice of bytes are bytes
 pub bytes-known : (l : List ℕ) → ((i : ℕ) → getD l i 0 < 256) → areBytes l ≡ true

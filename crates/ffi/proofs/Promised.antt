@@ -30,8 +30,8 @@ use Rattle.script.proofs.RefusalLaws.{Sound, parse-sound}
 use Rattle.table.specs.Words.{encode, decode, fits}
 use Rattle.table.specs.Calls as library
 use Rattle.table.specs.declared.TableResult.{TableResult}
-use Rattle.run.specs.Undoing.{planUndone, undoneBy, asItWas}
-use Rattle.eval.specs.Calls.{ran, resultOf}
+use Rattle.undo.specs.Undoing.{planUndone, undoneBy, asItWas}
+use Rattle.run.specs.Calls.{ran, resultOf}
 use Rattle.ffi.specs.Calls.{codeOf, shortCode, readCode, readOut, writtenCode, backCode, backOut}
 use Rattle.ffi.specs.Running.{isShort, sixOver, refusedCall, ranCall, readCall, runCalled}
 use Rattle.ffi.specs.Promise.{atFront, PlanBack, SweptBack, UndoneBack, RunDone, RunRefused}

@@ -11,8 +11,8 @@ use Rattle.model.specs.Call.{Ran}
 use Rattle.table.specs.Calls as library
 use Rattle.table.specs.declared.TableResult.{TableResult}
 use Rattle.table.specs.declared.Written.{Written}
-use Rattle.eval.specs.Calls.{ran, runResult}
-use Rattle.eval.specs.declared.RunResult.{RunResult}
+use Rattle.run.specs.Calls.{ran, runResult}
+use Rattle.run.specs.declared.RunResult.{RunResult}
 use Rattle.ffi.specs.Calls.{codeOf, shortCode}
 use Rattle.ffi.specs.Running.{isShort, sixOver, Called, refusedCall, writtenCall, ranCall, readCall, runCalled}
 

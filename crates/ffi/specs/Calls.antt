@@ -8,7 +8,7 @@ use Rattle.model.specs.Base.{pick}
 use Rattle.table.specs.Calls as library
 use Rattle.paths.specs.Analysis.{analysed, valuesOf}
 use Rattle.paths.specs.declared.Analysis.{Analysis}
-use Rattle.run.specs.Undoing.{planUndone}
+use Rattle.undo.specs.Undoing.{planUndone}
 use Rattle.script.specs.Reading.{scriptRead}
 use Rattle.table.specs.declared.Table.{Table}
 use Rattle.table.specs.declared.TableResult.{TableResult}

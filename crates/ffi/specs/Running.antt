@@ -9,8 +9,8 @@ use Rattle.model.specs.Limits.{answerNeed, historyNeed, workNeed}
 use Rattle.model.specs.Call.{Ran}
 use Rattle.table.specs.Calls as library
 use Rattle.table.specs.declared.TableResult.{TableResult}
-use Rattle.eval.specs.Calls.{ran, runResult}
-use Rattle.eval.specs.declared.RunResult.{RunResult}
+use Rattle.run.specs.Calls.{ran, runResult}
+use Rattle.run.specs.declared.RunResult.{RunResult}
 use Rattle.ffi.specs.Calls.{outNeed, codeOf, shortCode}
 
 -- an area shorter than its need: out takes the longest plan, 2,080 bytes, and done six numbers

@@ -10,9 +10,9 @@ const SIX: usize = 6;
 pub fn is_short(answer: usize, history: usize, work: usize, out: usize, done: usize) -> bool
     ensures { λ r. ⌜ r ≡ isShort answer history work out done ⌝ }
 {
-    (answer < eval::ANSWER)
-        | (history < eval::HISTORY)
-        | (work < eval::WORK)
+    (answer < run::ANSWER)
+        | (history < run::HISTORY)
+        | (work < run::WORK)
         | (out < crate::ROOM)
         | (done < SIX)
 }

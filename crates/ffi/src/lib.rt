@@ -9,8 +9,8 @@ ghost use Rattle.ffi.specs.Running.{runCalled};
 mod copy;
 mod lent;
 
-use eval::area;
 use paths::Analysis;
+use run::area;
 use table::Fault;
 use table::Table;
 
@@ -87,7 +87,7 @@ pub extern "C" fn yegnabit_undo(plan: &[u8], history: &[u8], out: &mut [u8]) -> 
         return code(number, PLAN, place);
     }
     let t = read.table;
-    let back = run::undo(t, history);
+    let back = undo::undo(t, history);
     let refused = back.fault.number;
     let at = back.fault.place;
     if refused != 0 {
@@ -143,7 +143,7 @@ pub extern "C" fn yegnabit_run(
         return code(number, PLAN, place);
     }
     let t = read.table;
-    let ran = eval::run(t, script, answer, history, work);
+    let ran = run::run(t, script, answer, history, work);
     let refused = ran.fault.number;
     let at = ran.fault.place;
     if refused != 0 {

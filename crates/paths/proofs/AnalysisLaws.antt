@@ -15,20 +15,21 @@ use Rattle.table.specs.declared.Fault.{Fault}
 use Rattle.script.specs.Walk.{exprAt}
 use Rattle.script.specs.Reading.{scriptRead}
 use Rattle.script.proofs.ScriptLaws.{script-accepted, script-parsed, script-ill}
-use Rattle.paths.specs.Positions.{Entry, Emitted, emit, AreLower, entriesBefore, entriesOf, pathsFrom, pathsOn}
-use Rattle.paths.specs.Cells.{positionsMeet}
-use Rattle.paths.specs.Words.{entryOf, entriesIn}
-use Rattle.paths.specs.Pairs.{HasRows}
-use Rattle.paths.specs.Filling.{entriesBy, climbing, TablePre}
-use Rattle.paths.specs.Emitting.{EmitPre, EmitPost}
+use Rattle.emission.specs.Positions.{Entry, Emitted, emit, AreLower, entriesBefore, entriesOf, pathsFrom, pathsOn}
+use Rattle.emission.specs.Sources.{positionsMeet}
+use Rattle.emission.specs.Words.{entryOf, entriesIn}
+use Rattle.meeting.specs.Pairs.{HasRows}
+use Rattle.paths.specs.Filling.{TablePre}
+use Rattle.emission.specs.Words.{entriesBy, climbing}
+use Rattle.emission.specs.Emitting.{EmitPre, EmitPost}
 use Rattle.paths.specs.Analysis.{byAnswer, analysisOf, analysed, ScriptPre, ScriptPost, AnswerPre, AnswerPost}
 use Rattle.paths.specs.declared.Analysis.{Analysis}
 use Rattle.paths.specs.declared.Analysis.the-variants.{Refused, Free, Upward, Meet}
-use Rattle.paths.specs.declared.emit.Emitted as code
-use Rattle.paths.proofs.AnswerLaws.{emitted-right, answer-by}
-use Rattle.paths.proofs.ClimbLaws.{climbing-is}
-use Rattle.paths.proofs.WordLaws.{entriesIn-length}
-use Rattle.paths.proofs.SizeLaws.{script-records}
+use Rattle.emission.specs.declared.emit.Emitted as code
+use Rattle.emission.proofs.AnswerLaws.{emitted-right, answer-by}
+use Rattle.emission.proofs.ClimbLaws.{climbing-is}
+use Rattle.emission.proofs.WordLaws.{entriesIn-length}
+use Rattle.emission.proofs.SizeLaws.{script-records}
 
 -- THE POSITIONS of an accepted script
 module _ {b ws : List ℕ} (pre : ScriptPre b ws) {env : List ℕ} where

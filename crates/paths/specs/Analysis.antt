@@ -10,9 +10,9 @@ use Rattle.model.specs.Call as model
 use Rattle.table.specs.Calls.{faultOf}
 use Rattle.script.specs.Walk.{exprAt}
 use Rattle.script.specs.Reading.{scriptRead}
-use Rattle.paths.specs.Positions.{entriesOf, AreLower, pathsOn}
-use Rattle.paths.specs.Words.{entriesIn}
-use Rattle.paths.specs.Pairs.{maxPositions, HasRows}
+use Rattle.emission.specs.Positions.{entriesOf, AreLower, pathsOn}
+use Rattle.emission.specs.Words.{entriesIn}
+use Rattle.meeting.specs.Pairs.{maxPositions, HasRows}
 use Rattle.paths.specs.declared.Analysis.{Analysis}
 use Rattle.paths.specs.declared.Analysis.the-variants.{Refused, Free, Upward, Meet}
 

@@ -1,25 +1,14 @@
 -- Contracts of what fills the table of pairs and answers whether two scripts' positions meet. Assumes nothing: these are definitions.
 use mathlib.Core.Path.{_≡_}
 use mathlib.Core.Bool.{Bool, false}
-use mathlib.Core.List.{List, [], map}
+use mathlib.Core.List.{List, []}
 use Prim.Native.Nat.{ℕ, _+_, _≤_, _<_}
 use lib.ListN.{length, getD}
-use Rattle.paths.specs.Positions.{Entry, IsLower, AreLower, entryAt, isClimb, pathsOn}
-use Rattle.paths.specs.Cells.{Filled, anyUpTo, meetAt, rowMeets}
-use Rattle.paths.specs.Words.{positionBy, fieldsOf, entryOf}
-use Rattle.paths.specs.Pairs.{maxPositions, marks, HasRows}
-use Rattle.paths.specs.declared.positions.Position.{Position}
-
--- the entries that words are
-abbrev pub entriesBy : (words : List ℕ) → List Entry
-entriesBy ws = map entryOf ws
-
--- UPWARD: some position among them leads up
-abbrev pub climbAt : (words : List ℕ) → (number : ℕ) → Bool
-climbAt ws k = isClimb (entryAt (entriesBy ws) k .position)
-
-abbrev pub climbing : (words : List ℕ) → Bool
-climbing ws = anyUpTo (climbAt ws) (length ws)
+use Rattle.emission.specs.Positions.{IsLower, AreLower, pathsOn}
+use Rattle.emission.specs.Sources.{Filled, meetAt, rowMeets}
+use Rattle.emission.specs.Words.{positionBy, fieldsOf, entriesBy}
+use Rattle.meeting.specs.Pairs.{maxPositions, marks, HasRows}
+use Rattle.emission.specs.declared.positions.Position.{Position}
 
 -- few enough positions, each over lower ones; position 0 is nothing
 pub record PositionsPre (ws : List ℕ) : Type 0 where

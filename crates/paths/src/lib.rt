@@ -1,15 +1,13 @@
 // The path analysis: whether two scripts can touch the same node of some plan.
 ghost use mathlib.Core.Path.{_≡_};
 ghost use Rattle.paths.specs.Analysis.{analysed, ScriptPre, ScriptPost, AnswerPre, AnswerPost};
-use pairs::Marks;
+use emission::emit;
+use meeting::pairs;
+use meeting::pairs::Marks;
 use table::Fault;
 use table::Table;
 
-mod cells;
-mod emit;
 mod meet;
-mod pairs;
-mod positions;
 
 // What the analysis answers: the script refused, 1 or 2, with its refusal; or whether the two are free of one another.
 pub enum Analysis {
@@ -34,10 +32,10 @@ fn answer(first: &[usize], n: usize, second: &[usize], m: usize, table: &mut [Ma
     requires { ⌜ AnswerPre (now first) n (now second) m (now table) ⌝ }
     ensures { λ r. ⌜ AnswerPost (now (first .entry)) n (now (second .entry)) m r ⌝ }
 {
-    if positions::climbs(&first[0..n]) {
+    if meet::climbs(&first[0..n]) {
         return Analysis::Upward;
     }
-    if positions::climbs(&second[0..m]) {
+    if meet::climbs(&second[0..m]) {
         return Analysis::Upward;
     }
     if meet::positions_meet(&first[0..n], &second[0..m], table) {

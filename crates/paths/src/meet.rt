@@ -1,18 +1,34 @@
 // Whether the positions of two scripts meet: fills the table of pairs row by row, each cell from those of lower pairs.
 ghost use mathlib.Core.Path.{_≡_};
-ghost use Rattle.paths.specs.Cells.{sourcesOf, sourcesCell, cellBy, isTested, positionsMeet};
-ghost use Rattle.paths.specs.Codes.{stepOf, cellOf};
-ghost use Rattle.paths.specs.Words.{positionBy, entryBy, stepIn, rootSource, stepSource};
+ghost use Rattle.emission.specs.Sources.{sourcesOf, sourcesCell, cellBy, isTested, positionsMeet};
+ghost use Rattle.meeting.specs.Codes.{stepOf, cellOf};
+ghost use Rattle.emission.specs.Words.{positionBy, entryBy, stepIn, rootSource, stepSource};
 ghost use mathlib.Core.List.{[], _∷_};
-ghost use Rattle.paths.specs.Pairs.{marks};
-ghost use Rattle.paths.specs.Filling.{entriesBy, CellPre, FromStepPre, MeetPre, MeetPost, RowPre, RowPost, TablePre};
+ghost use Rattle.meeting.specs.Pairs.{marks};
+ghost use Rattle.paths.specs.Filling.{CellPre, FromStepPre, MeetPre, MeetPost, RowPre, RowPost, TablePre};
+ghost use Rattle.emission.specs.Words.{entriesBy};
 ghost use Rattle.paths.specs.Filling.{UnionRowPre, UnionRowPost};
-use crate::cells::Cell;
-use crate::cells::Step;
-use crate::pairs;
-use crate::pairs::Marks;
-use crate::positions;
-use crate::positions::Position;
+ghost use Rattle.emission.specs.Words.{climbing};
+use emission::positions;
+use emission::positions::Position;
+use meeting::cells::Cell;
+use meeting::cells::Step;
+use meeting::pairs;
+use meeting::pairs::Marks;
+
+// Some position leads up.
+pub fn climbs(words: &[usize]) -> bool
+    ensures { λ r. ⌜ r ≡ climbing (now (words .entry)) ⌝ }
+{
+    let mut i = 0;
+    while i < words.len() {
+        if Position::unpacked(words[i]).is_climb() {
+            return true;
+        }
+        i += 1;
+    }
+    false
+}
 
 // The step of a position over another.
 fn step_of(p: Position) -> Step

@@ -18,13 +18,13 @@ use Rattle.model.proofs.StopLaws.{stop-refuses}
 use Rattle.script.proofs.RefusalLaws.{Sound, parse-sound}
 use Rattle.table.specs.Words.{encode, decode, fits}
 use Rattle.table.specs.declared.Table.{Table}
-use Rattle.eval.specs.Calls.{outcomeOf, ran, runResult}
-use Rattle.eval.specs.declared.RunResult.{RunResult}
+use Rattle.run.specs.Calls.{outcomeOf, ran, runResult}
+use Rattle.run.specs.declared.RunResult.{RunResult}
 use Rattle.report.specs.Orders.{outcomeBy, outcome, orderThen, orderFrom, order, swap}
 use Rattle.report.specs.declared.orders.Outcome.{Outcome}
 use Rattle.report.specs.declared.orders.Order.{Order}
 use Rattle.report.specs.declared.orders.Order.the-variants.{Stopped, Ended}
-use Rattle.eval.proofs.CallLaws.{areas-fit}
+use Rattle.run.proofs.CallLaws.{areas-fit}
 
 -- A STOP is a refusal: its number is not 0
 abbrev Refuses : Out → Type 0

@@ -7,7 +7,7 @@ use Rattle.model.specs.Base.{pick}
 use Rattle.model.specs.Run.{Out, stop, gives}
 use Rattle.table.specs.Words.{encode}
 use Rattle.table.specs.declared.Table.{Table}
-use Rattle.eval.specs.Calls.{outcomeOf}
+use Rattle.run.specs.Calls.{outcomeOf}
 use Rattle.report.specs.declared.orders.Outcome.{Outcome}
 use Rattle.report.specs.declared.orders.Order.{Order}
 use Rattle.report.specs.declared.orders.Order.the-variants.{Stopped, Ended}

@@ -25,22 +25,22 @@ pub enum Order {
 }
 
 // The areas of a run, of the lengths that it needs.
-fn answer_area() -> [u16; eval::ANSWER]
+fn answer_area() -> [u16; run::ANSWER]
     ensures { λ r. ⌜ length r ≡ 512 ⌝ }
 {
-    [0; eval::ANSWER]
+    [0; run::ANSWER]
 }
 
-fn history_area() -> [u8; eval::HISTORY]
+fn history_area() -> [u8; run::HISTORY]
     ensures { λ r. ⌜ length r ≡ 12288 ⌝ }
 {
-    [0; eval::HISTORY]
+    [0; run::HISTORY]
 }
 
-fn work_area() -> [u16; eval::WORK]
+fn work_area() -> [u16; run::WORK]
     ensures { λ r. ⌜ length r ≡ 32768 ⌝ }
 {
-    [0; eval::WORK]
+    [0; run::WORK]
 }
 
 // Runs a script in areas of its own.
@@ -50,7 +50,7 @@ fn run_alone(table: Table, script: &[u8]) -> Outcome
     let mut answer = answer_area();
     let mut history = history_area();
     let mut work = work_area();
-    let end = eval::run(table, script, &mut answer, &mut history, &mut work);
+    let end = run::run(table, script, &mut answer, &mut history, &mut work);
     let after = end.table;
     Outcome {
         number: end.fault.number,

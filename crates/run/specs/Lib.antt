@@ -1,6 +1,3 @@
-pub mod Stepping
-pub mod Values
-pub mod State
-pub mod Updating
-pub mod Inserting
-pub mod Undoing
+pub mod Tallying
+pub mod Calls
+pub mod Promise

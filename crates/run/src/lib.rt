@@ -1,72 +1,136 @@
-// Runs on a plan: the operators on values, the updates with their history, and undo.
+// Runs a script on a plan.
 ghost use mathlib.Core.Path.{_≡_};
-ghost use Rattle.run.specs.Undoing.{planUndone};
+ghost use Rattle.run.specs.Calls.{ran, runResult, refusedResult, RunPre, RunPost};
+use eval::evaluate;
+use operators::value::Span;
 use table::Fault;
 use table::Table;
-use table::TableResult;
 use table::fit;
+use updates::state::Progress;
 
-mod history;
-pub mod insert;
-pub mod pick;
-pub mod state;
-pub mod step;
-mod undoing;
-pub mod update;
+pub mod area;
+mod tally;
 
-// Takes a run back by its history. An ill-formed table is 6; refused, the table is as it was.
-pub fn undo(table: Table, history: &[u8]) -> TableResult
-    ensures { λ r. ⌜ r ≡ planUndone table (now (history .entry)) ⌝ }
+pub use tally::Tally;
+
+// What a run needs of each lent area.
+pub const ANSWER: usize = 512;
+
+pub const HISTORY: usize = 12288;
+
+pub const WORK: usize = 32768;
+
+// What a run gives back: the refusal, the table, the items of the answer, the bytes of the history, the tally.
+pub struct RunResult {
+    pub fault: Fault,
+    pub table: Table,
+    pub items: usize,
+    pub bytes: usize,
+    pub tally: Tally,
+}
+
+// Refused: the table as it was, and a tally of zeros.
+fn refused(number: u8, place: usize, table: Table) -> RunResult
+    ensures { λ r. ⌜ r ≡ refusedResult number place table ⌝ }
+{
+    let none = tally::none();
+    RunResult {
+        fault: Fault { number, place },
+        table,
+        items: 0,
+        bytes: 0,
+        tally: none,
+    }
+}
+
+// The run in areas that fit, answer and history cleared.
+fn run_in(
+    table: Table,
+    script: &[u8],
+    answer: &mut [u16],
+    history: &mut [u8],
+    work: &mut [u16],
+) -> RunResult
+    requires { ⌜ RunPre (now answer) (now history) (now work) ⌝ }
+    ensures { λ r. ⌜ RunPost table (now (script .entry)) (now (answer .entry)) (now (history .entry)) (now (work .entry))
+        (now (answer .exit)) (now (history .exit)) r ⌝ }
 {
     let count = table.count;
     if !fit::fits(count, &table.rows, &table.marks) {
-        return TableResult {
-            fault: Fault {
-                number: Fault::LINK,
-                place: 0,
-            },
-            table,
-        };
+        return refused(Fault::LINK, 0, table);
     }
-    let mut places = [0u16; history::RECORDS];
-    let form = undoing::form(history, &mut places);
-    if form.number != 0 {
-        return TableResult {
-            fault: Fault {
-                number: form.number,
-                place: form.place,
-            },
-            table,
-        };
+    let read = script::read_script(script);
+    if read.number != 0 {
+        return refused(read.number, read.place, table);
     }
     let mut rows = table.rows;
-    let back = undoing::undo_all(
-        &mut rows,
+    let unbound = [Span { start: 0, len: 0 }; Table::BINDERS];
+    let x = evaluate::eval(
+        script,
+        0,
+        Table::DEPTH,
+        0,
+        unbound,
         &table.marks,
-        count,
+        &mut rows,
         history,
-        &places,
-        form.records,
+        work,
+        0,
+        Progress::start(count),
     );
-    if back.number != 0 {
-        return TableResult {
-            fault: Fault {
-                number: back.number,
-                place: back.place,
-            },
-            table,
-        };
+    if x.progress.number != 0 {
+        area::clear_bytes(history);
+        return refused(x.progress.number, x.place, table);
     }
+    let items = x.end;
+    area::put(answer, &work[0..items]);
     let marks = table.marks;
-    TableResult {
+    let total = tally::tallied(x.progress.made, x.progress.cut);
+    RunResult {
         fault: Fault {
             number: 0,
             place: 0,
         },
         table: Table {
-            count: back.count,
+            count: x.progress.count,
             rows,
             marks,
         },
+        items,
+        bytes: x.progress.bytes,
+        tally: total,
     }
+}
+
+// Runs a script on a table in lent areas. Refused, the table is as it was and all areas are zero, but untouched on 11;
+// else answer and history stand at the front of their areas, the rest of these and all of the work area is zero.
+pub fn run(
+    table: Table,
+    script: &[u8],
+    answer: &mut [u16],
+    history: &mut [u8],
+    work: &mut [u16],
+) -> RunResult
+    ensures { λ r. ⌜ r ≡ runResult table (now (script .entry)) (now (answer .entry)) (now (history .entry)) (now (work .entry)) ⌝ }
+    ensures { λ r. ⌜ now (answer .exit) ≡
+        ran table (now (script .entry)) (now (answer .entry)) (now (history .entry)) (now (work .entry)) .answer ⌝ }
+    ensures { λ r. ⌜ now (history .exit) ≡
+        ran table (now (script .entry)) (now (answer .entry)) (now (history .entry)) (now (work .entry)) .history ⌝ }
+    ensures { λ r. ⌜ now (work .exit) ≡
+        ran table (now (script .entry)) (now (answer .entry)) (now (history .entry)) (now (work .entry)) .work ⌝ }
+{
+    if answer.len() < ANSWER {
+        return refused(Fault::LENT, 0, table);
+    }
+    if history.len() < HISTORY {
+        return refused(Fault::LENT, 0, table);
+    }
+    if work.len() < WORK {
+        return refused(Fault::LENT, 0, table);
+    }
+    area::clear_words(answer);
+    area::clear_bytes(history);
+    let result = run_in(table, script, answer, history, work);
+    area::clear_words(work);
+    result
 }

@@ -2,8 +2,8 @@ use mathlib.Core.Path.{_∙_, ap}
 use Rattle.ffi.proofs.FittingLaws.{bytes-known, read-fits}
 use Rattle.table.specs.Words.{fits}
 use Rattle.table.specs.declared.TableResult.{TableResult}
-use Rattle.eval.proofs.Promised.{runsOn}
-use Rattle.eval.specs.declared.RunResult.{RunResult}
+use Rattle.run.proofs.Promised.{runsOn}
+use Rattle.run.specs.declared.RunResult.{RunResult}
 use lib.ListN.{length}
 use borrow.Author.Needs.{needs}
 use Rattle.ffi.proofs.RunLaws.{six-fit, call-short, call-plan-refused, call-run-refused, call-done}
@@ -11,9 +11,9 @@ use Rattle.ffi.proofs.yegnabit_run.Statement.{statement}
 use Rattle.ffi.proofs.yegnabit_run.Tie as tie
 use Rattle.ffi.proofs.yegnabit_run.Reads as reads
 use Rattle.ffi.proofs.yegnabit_run.Lts as lts
-use Rattle.eval.proofs.area.clear_bytes.Reads as clear-bytes-reads
-use Rattle.eval.proofs.area.clear_words.Reads as clear-words-reads
-use Rattle.eval.proofs.run.Reads as run-reads
+use Rattle.run.proofs.area.clear_bytes.Reads as clear-bytes-reads
+use Rattle.run.proofs.area.clear_words.Reads as clear-words-reads
+use Rattle.run.proofs.run.Reads as run-reads
 use Rattle.ffi.proofs.code.Reads as code-reads
 use Rattle.ffi.proofs.lent.is_short.Reads as is-short-reads
 use Rattle.ffi.proofs.lent.put_six.Reads as put-six-reads

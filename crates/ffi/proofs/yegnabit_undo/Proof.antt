@@ -2,7 +2,7 @@ use Rattle.ffi.proofs.FittingLaws.{bytes-known, read-fits, undone-fits}
 use Rattle.table.specs.Words.{fits}
 use Rattle.ffi.proofs.CallLaws.{area-short, plan-refused, plan-done, undo-refused, undo-done}
 use Rattle.ffi.specs.Calls.{undonePlan, backCode, backOut}
-use Rattle.run.specs.Undoing.{planUndone}
+use Rattle.undo.specs.Undoing.{planUndone}
 use Rattle.table.specs.declared.TableResult.{TableResult}
 use Rattle.table.specs.Calls as library
 use mathlib.Core.Path.{_∙_, ap}

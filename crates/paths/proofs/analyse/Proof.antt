@@ -3,7 +3,7 @@ use mathlib.Core.Path.{_≡_, refl, ap, sym, _∙_}
 use Rattle.table.specs.declared.Fault.{Fault}
 use Rattle.paths.proofs.AnalysisLaws.{answer-asks, first-refused, second-refused, both-accepted}
 use native.Mathlib.Omega.{arith}
-use Rattle.paths.proofs.PairLaws.{has-rows}
+use Rattle.meeting.proofs.PairLaws.{has-rows}
 use borrow.Author.Needs.{needs}
 use Rattle.paths.proofs.analyse.Statement.{statement}
 use Rattle.paths.proofs.analyse.Tie as tie

@@ -1,7 +1,7 @@
 -- `meet::cell`: a union's cell from its parts, any other's from its source. One law of FillLaws for each way out.
 use native.Mathlib.Omega.{arith}
-use Rattle.paths.specs.Codes.{cellOf}
-use Rattle.paths.specs.Pairs.{marks}
+use Rattle.meeting.specs.Codes.{cellOf}
+use Rattle.meeting.specs.Pairs.{marks}
 use Rattle.paths.proofs.FillLaws.{over-lower, union-lower, row-asks, lower-asks}
 use Rattle.paths.proofs.FillLaws.{first-union, second-union, first-root, first-step, first-nowhere}
 use borrow.Author.Needs.{needs}

@@ -1,7 +1,7 @@
 -- `meet::from_root` by the second position's kind: one law of FillLaws for each way out.
-use Rattle.paths.specs.Cells.{fromRoot}
-use Rattle.paths.specs.Codes.{stepOf, cellOf}
-use Rattle.paths.specs.Pairs.{marks}
+use Rattle.emission.specs.Sources.{fromRoot}
+use Rattle.meeting.specs.Codes.{stepOf, cellOf}
+use Rattle.meeting.specs.Pairs.{marks}
 use Rattle.paths.proofs.FillLaws.{over-lower, row-asks, root-root, root-step, to-nothing}
 use borrow.Author.Needs.{needs}
 use Rattle.paths.proofs.meet.from_root.Statement.{statement}

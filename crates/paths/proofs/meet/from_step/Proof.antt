@@ -1,9 +1,9 @@
 -- `meet::from_step` by the second position's kind: one law of FillLaws for each way out.
 use native.Mathlib.Omega.{arith}
-use Rattle.paths.specs.Cells.{fromStep}
-use Rattle.paths.specs.Codes.{stepOf, cellOf}
-use Rattle.paths.specs.Words.{stepIn}
-use Rattle.paths.specs.Pairs.{marks}
+use Rattle.emission.specs.Sources.{fromStep}
+use Rattle.meeting.specs.Codes.{stepOf, cellOf}
+use Rattle.emission.specs.Words.{stepIn}
+use Rattle.meeting.specs.Pairs.{marks}
 use Rattle.paths.proofs.FillLaws.{over-lower, row-asks, lower-asks, step-root, step-step, step-none, to-nothing}
 use borrow.Author.Needs.{needs}
 use Rattle.paths.proofs.meet.from_step.Statement.{statement}

@@ -1,0 +1,4 @@
+pub mod Positions
+pub mod Sources
+pub mod Words
+pub mod Emitting

@@ -1,0 +1,4 @@
+pub mod CellLaws
+pub mod MirrorLaws
+pub mod BitLaws
+pub mod PairLaws

@@ -1,0 +1,5 @@
+pub mod ValueLaws
+pub mod RecordLaws
+pub mod YieldLaws
+pub mod NullaryLaws
+pub mod OperatorLaws

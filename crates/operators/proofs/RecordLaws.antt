@@ -1,0 +1,103 @@
+-- The small parts of an answer: past a record or refused at it, one item written, a variable bound.
+use mathlib.Core.Path.{_≡_, ap, sym, subst, _∙_}
+use mathlib.Core.Bool.{Bool, true, false}
+use mathlib.Core.Option.{Option, none, some}
+use mathlib.Core.List.{List, [], _∷_, _++_}
+use Prim.Native.Nat.{ℕ, _+_, _-_, _≤_, _<_}
+use native.Mathlib.Omega.{arith}
+use native.Mathlib.Numerals.{add-one}
+use lib.Dec.{ltb, eqb}
+use lib.ListN.{length, take, set, length-set}
+use lib.Seq.{take-suc-set}
+use borrow.Author.Tests.{eq-eqb, ne-eqb, lt-ltb, le-ltb}
+use Rattle.model.specs.Base.{pick}
+use Rattle.model.specs.Script.{isBinder}
+use Rattle.model.specs.Run.{marked}
+use Rattle.model.proofs.BoolLaws.{pick-true, pick-false}
+use Rattle.script.specs.Walk.{inner}
+use Rattle.table.specs.Words.{linked}
+use Rattle.updates.specs.State.{stopped}
+use Rattle.query.specs.Values.{Appended}
+use Rattle.query.proofs.ValueLaws.{appended-none, appended-if}
+use Rattle.updates.specs.declared.state.Progress.{Progress}
+use Rattle.operators.specs.Evaluating.{spanOf, BindPre, BindPost, endedBy, limitedBy, madeValue}
+use Rattle.operators.specs.declared.value.Span.{Span}
+use Rattle.operators.specs.declared.record.Evaluated.{Evaluated}
+
+-- ENDED: refused at the record, or past it
+module _ (p : Progress) (at next end : ℕ) (env : List Span) where
+  abbrev placed : ℕ → Evaluated
+  placed i = record { progress = p; place = i; end = end; env = env }
+
+  pub ended-refused : (p .number ≡ 0 → ⊥) → placed at ≡ endedBy p at next end env
+  ended-refused h = ap placed (sym (pick-false (eqb (p .number) 0) next at (ne-eqb (p .number) 0 h)))
+
+  pub ended-past : p .number ≡ 0 → placed next ≡ endedBy p at next end env
+  ended-past h = ap placed (sym (pick-true (eqb (p .number) 0) next at (eq-eqb (p .number) 0 h)))
+
+-- LIMITED to 512 items
+module _ (x : Evaluated) (top at : ℕ) where
+  abbrev over : Evaluated
+  over = record { progress = stopped (x .progress) 8; place = at; end = x .end; env = x .env }
+
+  pub limited-few : x .end - top ≤ 512 → limitedBy x top at ≡ x
+  limited-few h = pick-false (ltb 512 (x .end - top)) over x (le-ltb 512 (x .end - top) h)
+
+  pub limited-many : 512 < x .end - top → limitedBy x top at ≡ over
+  limited-many h = pick-true (ltb 512 (x .end - top)) over x (lt-ltb 512 (x .end - top) h)
+
+-- ONE ITEM written, or none
+pub appended-one : (w : List ℕ) (top a : ℕ) → top < length w → Appended (a ∷ []) w top (set w top a) (top + 1)
+appended-one w top a l = appended-if true a [] w w top top l (appended-none w top)
+
+module _ (w : List ℕ) (top : ℕ) where
+  pub document-none : (m : ℕ) → m ≡ 0 → Appended (marked (linked m)) w top w top
+  document-none m h =
+      subst (λ (o : Option ℕ). Appended (marked o) w top w top) (sym (pick-true (eqb m 0) none (some (m - 1)) (eq-eqb m 0 h)))
+      (appended-none w top)
+
+  pub document-some : (m : ℕ) → (m ≡ 0 → ⊥) → top < length w → Appended (marked (linked m)) w top (set w top (m - 1)) (top + 1)
+  document-some m h l =
+      subst (λ (o : Option ℕ). Appended (marked o) w top (set w top (m - 1)) (top + 1))
+      (sym (pick-false (eqb m 0) none (some (m - 1)) (ne-eqb m 0 h))) (appended-one w top (m - 1) l)
+
+  pub made-none : (q : Progress) (row : ℕ) → (q .number ≡ 0 → ⊥) → Appended (madeValue q row) w top w top
+  made-none q row h =
+      subst (λ (v : List ℕ). Appended v w top w top) (sym (pick-false (eqb (q .number) 0) (row ∷ []) [] (ne-eqb (q .number) 0 h)))
+      (appended-none w top)
+
+  pub made-one : (q : Progress) (row : ℕ) → q .number ≡ 0 → top < length w → Appended (madeValue q row) w top (set w top row) (top + 1)
+  made-one q row h l =
+      subst (λ (v : List ℕ). Appended v w top (set w top row) (top + 1))
+      (sym (pick-true (eqb (q .number) 0) (row ∷ []) [] (eq-eqb (q .number) 0 h))) (appended-one w top row l)
+
+-- BOUND: a binder's first value is one variable more
+inner-by : (t : Bool) (k n : ℕ) → isBinder k ≡ t → inner k n ≡ pick t (n + 1) n
+unfolding inner
+inner-by t k n e = ap (λ (b : Bool). pick b (n + 1) n) e
+
+module _ (k : ℕ) (env : List Span) (n i j : ℕ) (p : BindPre k env n i j) where
+  pub bound-more : isBinder k ≡ true → BindPost k env n i j (set env n (spanOf i j))
+  bound-more e =
+      record {
+        size = length-set env n (spanOf i j) ∙ p .size;
+        is =
+            ap (λ (m : ℕ). take m (set env n (spanOf i j))) (inner-by true k n e ∙ add-one n) ∙
+            take-suc-set env n (spanOf i j) (omega (arith, p .scope e, p .size)) ∙
+            sym (ap (λ (b : Bool). pick b (take n env ++ (spanOf i j ∷ [])) (take n env)) e);
+      }
+
+  pub bound-same : isBinder k ≡ false → BindPost k env n i j env
+  bound-same e =
+      record {
+        size = p .size;
+        is =
+            ap (λ (m : ℕ). take m env) (inner-by false k n e) ∙
+            sym (ap (λ (b : Bool). pick b (take n env ++ (spanOf i j ∷ [])) (take n env)) e);
+      }
+
+pub inner-more : (k n : ℕ) → isBinder k ≡ true → n + 1 ≡ inner k n
+inner-more k n e = sym (inner-by true k n e)
+
+pub inner-same : (k n : ℕ) → isBinder k ≡ false → n ≡ inner k n
+inner-same k n e = sym (inner-by false k n e)

@@ -1,0 +1,3 @@
+// Values in the work area, and what each record of a script does with those of its operands.
+pub mod record;
+pub mod value;

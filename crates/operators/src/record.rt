@@ -1,0 +1,203 @@
+// What a record does with the values of its operands.
+ghost use mathlib.Core.Path.{_≡_};
+ghost use Prim.Native.Nat.{_≤_, _<_};
+ghost use lib.ListN.{getD};
+ghost use Rattle.script.specs.Walk.{arity, endAt};
+ghost use Rattle.operators.specs.Evaluating.{endedBy, limitedBy, movedTo, UnaryPre, UnaryPost, BinaryPre, BinaryPost, EvalPre, EvalPost};
+use crate::value;
+use crate::value::Span;
+use query::pick;
+use query::step;
+use query::step::StepBy;
+use script::kinds;
+use script::walk;
+use table::Fault;
+use table::NameNumber;
+use table::Table;
+use updates::insert;
+use updates::state::Progress;
+use updates::update;
+
+// After an expression: how far the run has come; the place past it, or of the refusal; the end of its value; the variables.
+pub struct Evaluated {
+    pub progress: Progress,
+    pub place: usize,
+    pub end: usize,
+    pub env: [Span; Table::BINDERS],
+}
+
+fn index(b: u8) -> usize
+    ensures { λ r. ⌜ r ≡ b ⌝ }
+    ensures { λ r. ⌜ r ≤ 255 ⌝ }
+{
+    b as usize
+}
+
+fn name(b: u8) -> u16
+    ensures { λ r. ⌜ r ≡ b ⌝ }
+{
+    b as u16
+}
+
+// After the record at a place: past it where nothing is refused.
+fn ended(p: Progress, at: usize, next: usize, end: usize, env: [Span; Table::BINDERS]) -> Evaluated
+    ensures { λ r. ⌜ r ≡ endedBy p at next end env ⌝ }
+{
+    let mut place = next;
+    if p.number != 0 {
+        place = at;
+    }
+    Evaluated {
+        progress: p,
+        place,
+        end,
+        env,
+    }
+}
+
+// 8 at a place where the value from top on has passed the limit.
+pub fn limited(x: Evaluated, top: usize, at: usize) -> Evaluated
+    requires { ⌜ top ≤ x .end ⌝ }
+    ensures { λ r. ⌜ r ≡ limitedBy x top at ⌝ }
+{
+    if x.end - top <= Table::ITEMS {
+        return x;
+    }
+    let p = x.progress;
+    let env = x.env;
+    Evaluated {
+        progress: p.refused(Fault::ITEMS),
+        place: at,
+        end: x.end,
+        env,
+    }
+}
+
+// The same, past the expression behind it.
+pub fn past(script: &[u8], x: Evaluated) -> Evaluated
+    ensures { λ r. ⌜ r ≡ movedTo (endAt (now (script .entry)) (x .place)) x ⌝ }
+{
+    let p = x.progress;
+    let env = x.env;
+    Evaluated {
+        progress: p,
+        place: walk::end_at(script, x.place),
+        end: x.end,
+        env,
+    }
+}
+
+// An expression without operands.
+pub fn nullary(
+    script: &[u8],
+    at: usize,
+    left: usize,
+    bound: usize,
+    env: [Span; Table::BINDERS],
+    marks: &[u16],
+    rows: &mut [u32],
+    history: &mut [u8],
+    work: &mut [u16],
+    top: usize,
+    p: Progress,
+) -> Evaluated
+    requires { ⌜ EvalPre (now script) at left bound env (now marks) (now rows) (now history) (now work) top p ⌝ }
+    requires { ⌜ arity (getD (now script) at 0) ≡ 0 ⌝ }
+    ensures { λ r. ⌜ EvalPost (now (script .entry)) at left bound env (now (marks .entry)) (now (rows .entry)) (now (history .entry))
+        (now (work .entry)) top p (now (rows .exit)) (now (history .exit)) (now (work .exit)) r ⌝ }
+{
+    let kind = script[at];
+    if kind == kinds::NIL {
+        return ended(p, at, at + 1, top, env);
+    }
+    let b = script[at + 1];
+    if kind == kinds::DOCUMENT {
+        let end = value::document(marks, index(b), work, top);
+        return ended(p, at, at + 2, end, env);
+    }
+    if kind == kinds::VARIABLE {
+        let v = index(b);
+        let s = env[v];
+        let from = s.start;
+        let to = from + s.len;
+        let end = value::copied(work, from, to, top);
+        return ended(p, at, at + 2, end, env);
+    }
+    let row = p.count;
+    if kind == kinds::NEW_ELEMENT {
+        let q = update::new_element(rows, history, p, NameNumber(name(b)));
+        let end = value::put_row(q, row, work, top);
+        return ended(q, at, at + 2, end, env);
+    }
+    let q = update::new_leaf(rows, history, p, b);
+    let end = value::put_row(q, row, work, top);
+    ended(q, at, at + 2, end, env)
+}
+
+// What a record with one operand does with its value, which stands from top on.
+pub fn applied(
+    script: &[u8],
+    at: usize,
+    rows: &mut [u32],
+    history: &mut [u8],
+    work: &mut [u16],
+    top: usize,
+    x: Evaluated,
+) -> Evaluated
+    requires { ⌜ UnaryPre (now script) at (now rows) (now history) (now work) top x ⌝ }
+    ensures { λ r. ⌜ UnaryPost (now (script .entry)) at (now (rows .entry)) (now (history .entry)) (now (work .entry)) top x
+        (now (rows .exit)) (now (history .exit)) (now (work .exit)) r ⌝ }
+{
+    let kind = script[at];
+    let p = x.progress;
+    let env = x.env;
+    let next = x.place;
+    let to = x.end;
+    if kind == kinds::DELETE {
+        let q = update::delete(rows, history, p, &work[top..to]);
+        return ended(q, at, next, top, env);
+    }
+    let a = script[at + 1];
+    let b = script[at + 2];
+    if kind == kinds::PICK {
+        let end = pick::picked(rows, a, b, work, top, to);
+        return ended(p, at, next, end, env);
+    }
+    let by = StepBy {
+        axis: a,
+        test: b,
+        name: NameNumber(name(script[at + 3])),
+    };
+    let end = step::stepped(rows, p.count, by, work, top, to);
+    ended(p, at, next, end, env)
+}
+
+// What a record with two operands does with their values, which stand from top and from mid on.
+pub fn combined(
+    kind: u8,
+    at: usize,
+    rows: &mut [u32],
+    history: &mut [u8],
+    work: &mut [u16],
+    top: usize,
+    mid: usize,
+    y: Evaluated,
+) -> Evaluated
+    requires { ⌜ BinaryPre (now rows) (now history) (now work) top mid y ⌝ }
+    ensures { λ r. ⌜ BinaryPost kind at (now (rows .entry)) (now (history .entry)) (now (work .entry)) top mid y
+        (now (rows .exit)) (now (history .exit)) (now (work .exit)) r ⌝ }
+{
+    if kind == kinds::JOIN {
+        return limited(y, top, at);
+    }
+    let p = y.progress;
+    let env = y.env;
+    let next = y.place;
+    let to = y.end;
+    if kind == kinds::INSERT {
+        let q = insert::insert(rows, history, p, &work[top..mid], &work[mid..to]);
+        return ended(q, at, next, top, env);
+    }
+    let end = value::copied(work, mid, to, top);
+    ended(p, at, next, end, env)
+}

@@ -1,0 +1,211 @@
+use Rattle.query.proofs.PickLaws.{filtered-none, filtered-by, rest-kept, rest-at, picked-rows, pick-low}
+use Rattle.query.specs.Values.{Appended, valueAt, filtered, pickedRow}
+use lib.Seq.{length-take-le, getD-take, getD-drop}
+use lib.ListN.{length, getD, drop, length-drop}
+use Prim.Native.Nat.{ℕ, _+_, _-_, _≤_, _<_}
+use mathlib.Core.List.{List}
+use mathlib.Core.Path.{_≡_, refl, _∙_, ap, subst}
+use native.Mathlib.Omega.{arith}
+use borrow.Author.Needs.{needs}
+use Rattle.query.proofs.pick.picked.Statement.{statement}
+use Rattle.query.proofs.pick.picked.Tie as tie
+
+abbrev Inv-loop : tie.InvT-loop
+Inv-loop rows relation constant work₀ from to at₀ k₀ work at k = (from ≤ k) × (k ≤ to) × (at ≤ k) × Appended (filtered (pickedRow rows
+    relation constant) (valueAt work₀ from k)) work₀ from work at × (drop k work ≡ drop k work₀) × (length work ≡ length work₀)
+
+abbrev μ-loop : tie.MeasureT-loop
+μ-loop rows relation constant work₀ from to at₀ k₀ work at k = to - k
+
+loop-holds : tie.Need-loop-holds Inv-loop μ-loop
+loop-holds c = (
+  omega arith,
+  c .before .before .pre .order,
+  omega arith,
+  filtered-none (pickedRow (c .before .before .args .rows .now) (c
+      .before .before .args .relation) (c .before .before .args .constant)) (c .before .before .args .work .now) (c .before .before .args
+      .from),
+  refl,
+  refl,
+)
+
+mul-item : tie.Need-mul-item Inv-loop μ-loop
+mul-item c = search needs
+
+slice-read-item : tie.Need-slice-read-item Inv-loop μ-loop
+slice-read-item c = omega (
+  arith,
+  c .before .before .loop .inv .1,
+  c .before .before .loop .inv .5,
+  c .before .before .before .before
+      .before .pre .within,
+)
+
+index-requires : tie.Need-index-requires Inv-loop μ-loop
+index-requires c κs = search needs
+
+mul-is-picked : tie.Need-mul-is-picked Inv-loop μ-loop
+mul-is-picked c = search needs
+
+item-low : (c : tie.After-index Inv-loop μ-loop) → c .index .result < 512
+item-low c =
+    let k : c .before .before .before .loop .k - c .before .before .before .before .before .before .args .from < c .before .before
+    .before .before .before .before .args .to - c .before .before .before .before .before .before .args .from = omega (
+      arith,
+      c
+          .before .before .before .loop .inv .0,
+    ) in
+    let e : c .before .before .before .before .before .before .args .from + (c .before .before .before .loop .k - c .before .before
+    .before .before .before .before .args .from) ≡ c .before .before .before .loop .k = omega (
+      arith,
+      c .before .before .before .loop
+          .inv .0,
+    ) in
+    omega (
+      arith,
+      c .index .ensures .0,
+      rest-at (c .before .before .before .before .before .before .args .work .now) (c .before .before .before .loop .work) (c .before
+          .before .before .loop .k) (c .before .before .before .loop .inv .4),
+      c .before .before .before .before .before .before .pre .low (c .before .before .before .loop .k - c .before .before .before .before
+          .before .before .args .from) k,
+      getD-take (c .before .before .before .before .before .before .args .to - c .before .before .before .before .before .before .args
+          .from) (drop (c .before .before .before .before .before .before .args .from) (c .before .before .before .before .before .before
+          .args .work .now)) (c .before .before .before .loop .k - c .before .before .before .before .before .before .args .from) 0 k,
+      getD-drop (c .before .before .before .before .before .before .args .from) (c .before .before .before .before .before .before .args
+          .work .now) (c .before .before .before .loop .k - c .before .before .before .before .before .before .args .from) 0 ∙ ap (λ (j :
+          ℕ). getD (c .before .before .before .before .before .before .args .work .now) j 0) e,
+    )
+
+shared-slice-read-is-picked : tie.Need-shared-slice-read-is-picked Inv-loop μ-loop
+shared-slice-read-is-picked c = omega (arith, item-low (c .before), c .before .before .before .before .before .before .before .pre .rows)
+
+is-picked-requires : tie.Need-is-picked-requires Inv-loop μ-loop
+is-picked-requires c κs = search needs
+
+append-if-requires : tie.Need-append-if-requires Inv-loop μ-loop
+append-if-requires c κs = omega (
+  arith,
+  c .before .before .before .before .before .before .loop .inv .2,
+  c .before .before .before
+      .before .before .before .loop .inv .5,
+  c .before .before .before .before .before .before .before .before .before .pre .within,
+)
+
+add-k : tie.Need-add-k Inv-loop μ-loop
+add-k c = search needs
+
+loop-less : tie.Need-loop-less Inv-loop μ-loop
+loop-less c = omega arith
+
+past-low : (c : tie.After-append-if Inv-loop μ-loop) → c .append-if .result ≤ c .before .before .before .before .before .before .before
+    .loop .k + 1
+past-low c = omega (
+  arith,
+  c .append-if .ensures .1,
+  pick-low (c .before .before .is-picked .result) (c .before .before .before .before
+      .before .before .before .loop .at),
+  c .before .before .before .before .before .before .before .loop .inv .2,
+)
+
+loop-again : tie.Need-loop-again Inv-loop μ-loop
+loop-again c = (
+  omega (arith, c .before .before .before .before .before .before .before .before .before .loop .inv .0),
+  omega arith,
+  past-low (c .before .before),
+  filtered-by (pickedRow (c .before .before .before .before .before .before .before .before .before
+      .before .before .before .args .rows .now) (c .before .before .before .before .before .before .before .before .before .before .before
+      .before .args .relation) (c .before .before .before .before .before .before .before .before .before .before .before .before .args
+      .constant)) (c .before .before .before .before .before .before .before .before .before .before .before .before .args .work .now) (c
+      .before .before .before .before .before .before .before .before .before .loop .work) (c .before .before .before .before .before
+      .before .before .before .before .before .before .before .args .from) (c .before .before .before .before .before .before .before
+      .before .before .loop .k) (c .before .before .before .before .before .before .before .before .before .loop .at) (c .before .before
+      .before .before .before .before .before .before .before .loop .inv .0) (omega (
+        arith,
+        c .before .before .before .before .before
+            .before .before .before .before .before .before .before .pre .within,
+      )) (omega (
+        arith,
+        c .before .before .before .before .before
+            .before .before .before .before .loop .inv .2,
+        c .before .before .before .before .before .before .before .before .before .loop .inv
+            .5,
+        c .before .before .before .before .before .before .before .before .before .before .before .before .pre .within,
+      )) (c .before
+      .before .before .before .before .before .before .before .before .loop .inv .3) (c .before .before .before .before .is-picked .result)
+      (getD (c .before .before .before .before .before .before .before .before .before .loop .work) (c .before .before .before .before
+      .before .before .before .before .before .loop .k) 0) (c .before .before .append-if .last .1 .1 .0) (c .before .before .append-if
+      .result) (rest-at (c .before .before .before .before .before .before .before .before .before .before .before .before .args .work
+      .now) (c .before .before .before .before .before .before .before .before .before .loop .work) (c .before .before .before .before
+      .before .before .before .before .before .loop .k) (c .before .before .before .before .before .before .before .before .before .loop
+      .inv .4)) (c .before .before .before .before .is-picked .ensures ∙ ap (pickedRow (c .before .before .before .before .before .before
+      .before .before .before .before .before .before .args .rows .now) (c .before .before .before .before .before .before .before .before
+      .before .before .before .before .args .relation) (c .before .before .before .before .before .before .before .before .before .before
+      .before .before .args .constant)) (c .before .before .before .before .before .before .index .ensures .0 ∙ rest-at (c .before .before
+      .before .before .before .before .before .before .before .before .before .before .args .work .now) (c .before .before .before .before
+      .before .before .before .before .before .loop .work) (c .before .before .before .before .before .before .before .before .before .loop
+      .k) (c .before .before .before .before .before .before .before .before .before .loop .inv .4))) (c .before .before .append-if
+      .ensures .0) (c .before .before .append-if .ensures .1),
+  ap (drop (c .before .before .before .before .before .before .before .before
+      .before .loop .k + 1)) (c .before .before .append-if .ensures .0) ∙ rest-kept (c .before .before .before .before .is-picked .result)
+      (c .before .before .before .before .before .before .before .before .before .before .before .before .args .work .now) (c .before
+      .before .before .before .before .before .before .before .before .loop .work) (c .before .before .before .before .before .before
+      .before .before .before .loop .k) (c .before .before .before .before .before .before .before .before .before .loop .at) (getD (c
+      .before .before .before .before .before .before .before .before .before .loop .work) (c .before .before .before .before .before
+      .before .before .before .before .loop .k) 0) (c .before .before .before .before .before .before .before .before .before .loop .inv
+      .2) (c .before .before .before .before .before .before .before .before .before .loop .inv .4),
+  search (
+    c .before .before .before
+        .before .before .before .before .before .before .loop .inv .5,
+    needs,
+  ),
+)
+
+same-length : tie.Need-same-length Inv-loop μ-loop
+same-length c = search (c .before .loop .inv .5, needs)
+
+returns : tie.Need-returns Inv-loop μ-loop
+returns c = record {
+  value = λ n ms few low. let e : c .before .loop .k ≡ c .before .before .before .before .args .to = omega (
+    arith,
+    c
+        .before .loop .inv .1,
+  ) in let l : length (valueAt (c .before .before .before .before .args .work .now) (c .before .before .before
+      .before .args .from) (c .before .before .before .before .args .to)) ≡ c .before .before .before .before .args .to - c .before .before
+      .before .before .args .from = length-take-le (c .before .before .before .before .args .to - c .before .before .before .before .args
+      .from) (drop (c .before .before .before .before .args .from) (c .before .before .before .before .args .work .now)) (omega (
+        arith,
+        c
+            .before .before .before .before .pre .within,
+        c .before .before .before .before .pre .order,
+        length-drop (c .before .before .before
+            .before .args .from) (c .before .before .before .before .args .work .now),
+      )) in subst (λ (v : List ℕ). Appended v (c .before .before
+      .before .before .args .work .now) (c .before .before .before .before .args .from) (c .before .loop .work) (c .before .loop .at))
+      (picked-rows (c .before .before .before .before .args .rows .now) n (c .before .before .before .before .args .relation) (c .before
+      .before .before .before .args .constant) (valueAt (c .before .before .before .before .args .work .now) (c .before .before .before
+      .before .args .from) (c .before .before .before .before .args .to)) ms (omega (arith, c .before .before .before .before .pre .rows))
+      (λ k b. low k (omega arith))) (subst (λ (j : ℕ). Appended (filtered (pickedRow (c .before .before .before .before .args .rows .now)
+      (c .before .before .before .before .args .relation) (c .before .before .before .before .args .constant)) (valueAt (c .before .before
+      .before .before .args .work .now) (c .before .before .before .before .args .from) j)) (c .before .before .before .before .args .work
+      .now) (c .before .before .before .before .args .from) (c .before .loop .work) (c .before .loop .at)) e (c .before .loop .inv .3));
+}
+
+pub picked-spec : {M : Type 1} → statement M
+picked-spec =
+    tie.close
+    (tie.spec
+    Inv-loop
+    μ-loop
+    loop-holds
+    mul-item
+    slice-read-item
+    index-requires
+    mul-is-picked
+    shared-slice-read-is-picked
+    is-picked-requires
+    append-if-requires
+    add-k
+    loop-less
+    loop-again
+    same-length
+    returns)

@@ -1,0 +1,99 @@
+use Rattle.query.proofs.PassLaws.{link-low, climbing-none, climbing-next, climbed-all}
+use Rattle.query.specs.Stepping.{Climbing}
+use lib.ListN.{length}
+use mathlib.Core.Path.{_≡_, sym, ap, subst}
+use Prim.Native.Nat.{ℕ, _≤_, _-_, _+_}
+use native.Mathlib.Omega.{arith}
+use borrow.Author.Needs.{needs}
+use Rattle.query.proofs.step.climb.Statement.{statement}
+use Rattle.query.proofs.step.climb.Tie as tie
+
+abbrev Inv-loop : tie.InvT-loop
+Inv-loop rows count deep flags reached₀ j₀ reached j = (j ≤ count) × Climbing rows count deep flags j reached
+
+abbrev μ-loop : tie.MeasureT-loop
+μ-loop rows count deep flags reached₀ j₀ reached j = j
+
+loop-holds : tie.Need-loop-holds Inv-loop μ-loop
+loop-holds c = (
+  omega arith,
+  climbing-none (c .before .before .before .args .rows .now) (c .before .before .before .args .count) (c
+      .before .before .before .pre .held) (c .before .before .before .args .deep) (c .before .before .before .args .flags .now) (c .before
+      .before .before .args .reached .now) (c .before .before .before .pre .clear),
+)
+
+sub-j : tie.Need-sub-j Inv-loop μ-loop
+sub-j c = search needs
+
+mul-climb-one : tie.Need-mul-climb-one Inv-loop μ-loop
+mul-climb-one c = search needs
+
+shared-slice-read-climb-one : tie.Need-shared-slice-read-climb-one Inv-loop μ-loop
+shared-slice-read-climb-one c = omega (
+  arith,
+  c .before .before .before .before .before .before .pre .held .rows,
+  c .before .before
+      .before .before .before .before .pre .held .few,
+)
+
+climb-one-requires : tie.Need-climb-one-requires Inv-loop μ-loop
+climb-one-requires c κs = record {
+  low = omega (arith, c .before .before .before .before .before .before .before .pre .held .few);
+  link =
+      link-low (c .before .before .before .before .before .before .before .args .rows .now) (c .before .before .before .before .before
+      .before .before .args .count) (c .before .before .before .before .before .before .before .pre .held) (c .before .before .before .loop
+      .j - 1) (omega arith);
+  flags = c .before .before .before .before .before .before .before .pre .flags;
+  reached = c .before .before
+      .before .loop .inv .1 .size;
+}
+
+loop-less : tie.Need-loop-less Inv-loop μ-loop
+loop-less c = omega arith
+
+loop-again : tie.Need-loop-again Inv-loop μ-loop
+loop-again c = (
+  omega arith,
+  subst (Climbing (c .before .before .before .before .before .before .before .before .before .before .args
+      .rows .now) (c .before .before .before .before .before .before .before .before .before .before .args .count) (c .before .before
+      .before .before .before .before .before .before .before .before .args .deep) (c .before .before .before .before .before .before
+      .before .before .before .before .args .flags .now) (c .before .before .before .before .before .before .loop .j - 1)) (sym (c .before
+      .before .climb-one .ensures)) (climbing-next (c .before .before .before .before .before .before .before .before .before .before .args
+      .rows .now) (c .before .before .before .before .before .before .before .before .before .before .args .count) (c .before .before
+      .before .before .before .before .before .before .before .before .pre .held) (c .before .before .before .before .before .before
+      .before .before .before .before .args .deep) (c .before .before .before .before .before .before .before .before .before .before .args
+      .flags .now) (c .before .before .before .before .before .before .loop .j - 1) (omega arith) (c .before .before .before .before
+      .before .before .loop .reached) (let e : c .before .before .before .before .before .before .loop .j ≡ c .before .before .before
+      .before .before .before .loop .j - 1 + 1 = omega arith in subst (λ (t : ℕ). Climbing (c .before .before .before .before .before
+      .before .before .before .before .before .args .rows .now) (c .before .before .before .before .before .before .before .before .before
+      .before .args .count) (c .before .before .before .before .before .before .before .before .before .before .args .deep) (c .before
+      .before .before .before .before .before .before .before .before .before .args .flags .now) t (c .before .before .before .before
+      .before .before .loop .reached)) e (c .before .before .before .before .before .before .loop .inv .1))),
+)
+
+same-length : tie.Need-same-length Inv-loop μ-loop
+same-length c = search (c .before .loop .inv .1 .size, ap length (c .before .before .before .before .before .pre .clear), needs)
+
+returns : tie.Need-returns Inv-loop μ-loop
+returns c = let e : c .before .loop .j ≡ 0 = omega arith in climbed-all (c .before .before .before .before .before .args .rows .now) (c
+    .before .before .before .before .before .args .count) (c .before .before .before .before .before .pre .held) (c .before .before
+    .before .before .before .args .deep) (c .before .before .before .before .before .args .flags .now) (c .before .loop .reached) (subst
+    (λ (t : ℕ). Climbing (c .before .before .before .before .before .args .rows .now) (c .before .before .before .before .before .args
+    .count) (c .before .before .before .before .before .args .deep) (c .before .before .before .before .before .args .flags .now) t (c
+    .before .loop .reached)) e (c .before .loop .inv .1))
+
+pub climb-spec : {M : Type 1} → statement M
+climb-spec =
+    tie.close
+    (tie.spec
+    Inv-loop
+    μ-loop
+    loop-holds
+    sub-j
+    mul-climb-one
+    shared-slice-read-climb-one
+    climb-one-requires
+    loop-less
+    loop-again
+    same-length
+    returns)

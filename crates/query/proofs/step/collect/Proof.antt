@@ -1,0 +1,98 @@
+use Rattle.query.proofs.ValueLaws.{length-collect, collected-none, collected-by}
+use Rattle.query.specs.Values.{Appended, kept, keptRows}
+use lib.ListN.{length, getD}
+use Prim.Native.Nat.{ℕ, _+_, _-_, _≤_, _<_}
+use mathlib.Core.Path.{_≡_, refl, subst}
+use native.Mathlib.Omega.{arith}
+use borrow.Author.Needs.{needs}
+use Rattle.query.proofs.step.collect.Statement.{statement}
+use Rattle.query.proofs.step.collect.Tie as tie
+
+abbrev Inv-loop : tie.InvT-loop
+Inv-loop rows count reached test name work₀ from at₀ j₀ work at j = (j ≤ count) × Appended (keptRows rows reached test (name .0) j) work₀
+    from work at × (length work ≡ length work₀)
+
+abbrev μ-loop : tie.MeasureT-loop
+μ-loop rows count reached test name work₀ from at₀ j₀ work at j = count - j
+
+loop-holds : tie.Need-loop-holds Inv-loop μ-loop
+loop-holds c = (omega arith, collected-none (c .before .before .before .args .work .now) (c .before .before .before .args .from) _, refl)
+
+cast-row : tie.Need-cast-row Inv-loop μ-loop
+cast-row c = search needs
+
+add-keeps : tie.Need-add-keeps Inv-loop μ-loop
+add-keeps c = search needs
+
+shared-slice-read-keeps : tie.Need-shared-slice-read-keeps Inv-loop μ-loop
+shared-slice-read-keeps c = search needs
+
+keeps-requires : tie.Need-keeps-requires Inv-loop μ-loop
+keeps-requires c κs = search needs
+
+room : (c : tie.In-loop Inv-loop μ-loop) → c .before .loop .at < length (c .before .loop .work)
+room c = omega (
+  arith,
+  c .before .loop .inv .1 .end,
+  length-collect (λ (i : ℕ). kept (c .before .before .before .before .before .args
+      .rows .now) i (getD (c .before .before .before .before .before .args .reached .now) (i + 1) 0) (c .before .before .before .before
+      .before .args .test) (c .before .before .before .before .before .args .name .0)) 0 (c .before .loop .j),
+  c .before .before .before
+      .before .before .pre .room,
+  c .before .before .before .before .before .pre .few,
+  c .before .loop .inv .2,
+)
+
+append-if-requires : tie.Need-append-if-requires Inv-loop μ-loop
+append-if-requires c κs = room (c .before .before .before)
+
+add-j : tie.Need-add-j Inv-loop μ-loop
+add-j c = search needs
+
+loop-less : tie.Need-loop-less Inv-loop μ-loop
+loop-less c = omega arith
+
+loop-again : tie.Need-loop-again Inv-loop μ-loop
+loop-again c = (
+  omega arith,
+  collected-by (λ (i : ℕ). kept (c .before .before .before .before .before .before .before .before .before
+      .before .before .args .rows .now) i (getD (c .before .before .before .before .before .before .before .before .before .before .before
+      .args .reached .now) (i + 1) 0) (c .before .before .before .before .before .before .before .before .before .before .before .args
+      .test) (c .before .before .before .before .before .before .before .before .before .before .before .args .name .0)) (c .before .before
+      .before .before .before .before .before .loop .j) (c .before .before .before .before .before .before .before .before .before .before
+      .before .args .work .now) (c .before .before .before .before .before .before .before .loop .work) (c .before .before .before .before
+      .before .before .before .before .before .before .before .args .from) (c .before .before .before .before .before .before .before .loop
+      .at) (room (c .before .before .before .before .before .before)) (c .before .before .before .before .before .before .before .loop .inv
+      .1) (c .before .before .before .before .keeps .result) (c .before .before .append-if .last .1 .1 .0) (c .before .before .append-if
+      .result) (c .before .before .before .before .keeps .ensures) (c .before .before .append-if .ensures .0) (c .before .before .append-if
+      .ensures .1),
+  search (c .before .before .before .before .before .before .before .loop .inv .2, needs),
+)
+
+same-length : tie.Need-same-length Inv-loop μ-loop
+same-length c = search needs
+
+returns : tie.Need-returns Inv-loop μ-loop
+returns c = let e : c .before .loop .j ≡ c .before .before .before .before .before .args .count = omega (arith, c .before .loop .inv .0)
+    in subst (λ (k : ℕ). Appended (keptRows (c .before .before .before .before .before .args .rows .now) (c .before .before .before
+    .before .before .args .reached .now) (c .before .before .before .before .before .args .test) (c .before .before .before .before
+    .before .args .name .0) k) (c .before .before .before .before .before .args .work .now) (c .before .before .before .before .before
+    .args .from) (c .before .loop .work) (c .before .loop .at)) e (c .before .loop .inv .1)
+
+pub collect-spec : {M : Type 1} → statement M
+collect-spec =
+    tie.close
+    (tie.spec
+    Inv-loop
+    μ-loop
+    loop-holds
+    cast-row
+    add-keeps
+    shared-slice-read-keeps
+    keeps-requires
+    append-if-requires
+    add-j
+    loop-less
+    loop-again
+    same-length
+    returns)

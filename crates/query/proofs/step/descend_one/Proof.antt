@@ -1,0 +1,68 @@
+use Rattle.query.specs.Stepping.{counted}
+use Rattle.model.proofs.BoolLaws.{pick-true, pick-false}
+use borrow.Author.Tests.{not-true, not-false}
+use lib.ListN.{getD, set}
+use Prim.Native.Nat.{ℕ, _+_, _/_, _%_}
+use mathlib.Core.Path.{_≡_, _∙_, sym, ap}
+use borrow.Author.Needs.{needs}
+use Rattle.query.proofs.step.descend_one.Statement.{statement}
+use Rattle.query.proofs.step.descend_one.Tie as tie
+
+link-requires : tie.Need-link-requires
+link-requires c κs = search needs
+
+shared-slice-read-counts : tie.Need-shared-slice-read-counts
+shared-slice-read-counts c = search needs
+
+slice-read-counts : tie.Need-slice-read-counts
+slice-read-counts c = search needs
+
+counts-requires : tie.Need-counts-requires
+counts-requires c κs = search needs
+
+same : (c : tie.After-counts) → counted (getD (c .before .before .before .before .before .before .args .flags .now) (c .before .before
+    .before .before .before .before .args .w / 4 % 1024) 0) (getD (c .before .before .before .before .before .before .args .reached .now)
+    (c .before .before .before .before .before .before .args .w / 4 % 1024) 0) (c .before .before .before .before .before .before .args
+    .deep) ≡ c .counts .result
+same c = ap (λ (l : ℕ). counted (getD (c .before .before .before .before .before .before .args .flags .now) l 0) (getD (c .before .before
+    .before .before .before .before .args .reached .now) l 0) (c .before .before .before .before .before .before .args .deep)) (sym (c
+    .before .before .before .link .ensures)) ∙ sym (c .counts .ensures)
+
+returns : tie.Need-returns
+returns c = sym (pick-false (counted (getD (c .before .before .before .before .before .before .before .args .flags .now) (c .before
+    .before .before .before .before .before .before .args .w / 4 % 1024) 0) (getD (c .before .before .before .before .before .before
+    .before .args .reached .now) (c .before .before .before .before .before .before .before .args .w / 4 % 1024) 0) (c .before .before
+    .before .before .before .before .before .args .deep)) (set (c .before .before .before .before .before .before .before .args .reached
+    .now) (c .before .before .before .before .before .before .before .args .j + 1) 1) (c .before .before .before .before .before .before
+    .before .args .reached .now) (same (c .before) ∙ not-true (c .before .counts .result) (c .if1 .taken)))
+
+add-reached : tie.Need-add-reached
+add-reached c = search needs
+
+slice-write-reached : tie.Need-slice-write-reached
+slice-write-reached c = search needs
+
+same-length : tie.Need-same-length
+same-length c = search needs
+
+returns-2 : tie.Need-returns-2
+returns-2 c = sym (pick-true (counted (getD (c .before .before .before .before .before .before .before .args .flags .now) (c .before
+    .before .before .before .before .before .before .args .w / 4 % 1024) 0) (getD (c .before .before .before .before .before .before
+    .before .args .reached .now) (c .before .before .before .before .before .before .before .args .w / 4 % 1024) 0) (c .before .before
+    .before .before .before .before .before .args .deep)) (set (c .before .before .before .before .before .before .before .args .reached
+    .now) (c .before .before .before .before .before .before .before .args .j + 1) 1) (c .before .before .before .before .before .before
+    .before .args .reached .now) (same (c .before) ∙ not-false (c .before .counts .result) (c .if1 .left)))
+
+pub descend-one-spec : {M : Type 1} → statement M
+descend-one-spec =
+    tie.close
+    (tie.spec
+    link-requires
+    shared-slice-read-counts
+    slice-read-counts
+    counts-requires
+    returns
+    add-reached
+    slice-write-reached
+    same-length
+    returns-2)

@@ -1,0 +1,84 @@
+use Rattle.query.proofs.StepLaws.{flagged-none, flagged-next, flagged-all}
+use Rattle.query.specs.Stepping.{Flagged}
+use lib.ListN.{length, take, set}
+use mathlib.Core.Path.{sym, ap, subst}
+use Prim.Native.Nat.{ℕ, _≤_, _-_, _+_}
+use native.Mathlib.Omega.{arith}
+use borrow.Author.Needs.{needs}
+use Rattle.query.proofs.step.flag.Statement.{statement}
+use Rattle.query.proofs.step.flag.Tie as tie
+
+abbrev Inv-loop : tie.InvT-loop
+Inv-loop flags₀ items k₀ flags k = (k ≤ length items) × Flagged (take k items) flags
+
+abbrev μ-loop : tie.MeasureT-loop
+μ-loop flags₀ items k₀ flags k = length items - k
+
+loop-holds : tie.Need-loop-holds Inv-loop μ-loop
+loop-holds c = (
+  omega arith,
+  flagged-none (c .before .before .args .flags .now) (c .before .before .args .items .now) (c .before .before
+      .pre .clear),
+)
+
+mul-index : tie.Need-mul-index Inv-loop μ-loop
+mul-index c = search needs
+
+shared-slice-read-index : tie.Need-shared-slice-read-index Inv-loop μ-loop
+shared-slice-read-index c = search needs
+
+index-requires : tie.Need-index-requires Inv-loop μ-loop
+index-requires c κs = search needs
+
+add-flags : tie.Need-add-flags Inv-loop μ-loop
+add-flags c = search needs
+
+slice-write-flags : tie.Need-slice-write-flags Inv-loop μ-loop
+slice-write-flags c = omega (
+  arith,
+  c .before .before .before .loop .inv .1 .size,
+  c .index .ensures .0,
+  c .before .before .before
+      .before .before .before .pre .low (c .before .before .before .loop .k) (c .before .before .loop-test .taken),
+)
+
+add-k : tie.Need-add-k Inv-loop μ-loop
+add-k c = search needs
+
+loop-less : tie.Need-loop-less Inv-loop μ-loop
+loop-less c = omega arith
+
+loop-again : tie.Need-loop-again Inv-loop μ-loop
+loop-again c = (
+  omega arith,
+  subst (λ (j : ℕ). Flagged (take (c .before .before .before .loop .k + 1) (c .before .before .before .before
+      .before .before .args .items .now)) (set (c .before .before .before .loop .flags) (j + 1) 1)) (sym (c .index .ensures .0))
+      (flagged-next (c .before .before .before .loop .flags) (c .before .before .before .before .before .before .args .items .now) (c
+      .before .before .before .loop .k) (c .before .before .loop-test .taken) (c .before .before .before .before .before .before .pre .low
+      (c .before .before .before .loop .k) (c .before .before .loop-test .taken)) (c .before .before .before .loop .inv .1)),
+)
+
+same-length : tie.Need-same-length Inv-loop μ-loop
+same-length c = search (c .before .loop .inv .1 .size, ap length (c .before .before .before .before .pre .clear), needs)
+
+returns : tie.Need-returns Inv-loop μ-loop
+returns c = flagged-all (c .before .loop .flags) (c .before .before .before .before .args .items .now) (c .before .loop .k) (omega arith)
+    (c .before .loop .inv .1)
+
+pub flag-spec : {M : Type 1} → statement M
+flag-spec =
+    tie.close
+    (tie.spec
+    Inv-loop
+    μ-loop
+    loop-holds
+    mul-index
+    shared-slice-read-index
+    index-requires
+    add-flags
+    slice-write-flags
+    add-k
+    loop-less
+    loop-again
+    same-length
+    returns)

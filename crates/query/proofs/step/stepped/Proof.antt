@@ -1,0 +1,113 @@
+use Rattle.query.proofs.ValueLaws.{step-rows}
+use Rattle.query.specs.Values.{Appended, valueAt}
+use lib.Seq.{length-take-le}
+use lib.ListN.{drop, length-drop}
+use Prim.Native.Nat.{ℕ, _-_}
+use mathlib.Core.List.{List}
+use mathlib.Core.Path.{refl, subst}
+use native.Mathlib.Omega.{arith}
+use borrow.Author.Needs.{needs}
+use Rattle.query.proofs.step.stepped.Statement.{statement}
+use Rattle.query.proofs.step.stepped.Tie as tie
+
+slice-aggregate-flag : tie.Need-slice-aggregate-flag
+slice-aggregate-flag c = search needs
+
+mul-flag : tie.Need-mul-flag
+mul-flag c = search needs
+
+sub-flag : tie.Need-sub-flag
+sub-flag c = search needs
+
+part-flag-start : tie.Need-part-flag-start
+part-flag-start c = search needs
+
+part-flag-end : tie.Need-part-flag-end
+part-flag-end c = search needs
+
+flag-requires : tie.Need-flag-requires
+flag-requires c κs = record {
+  clear = refl;
+  low = λ k h. omega (
+    arith,
+    c .before .before .before .before .before .pre .held .few,
+    c
+        .before .before .before .before .before .pre .low k (omega (
+          arith,
+          h,
+          length-take-le (c .before .before .before .before .before .args
+              .to - c .before .before .before .before .before .args .from) (drop (c .before .before .before .before .before .args .from)
+              (c .before
+              .before .before .before .before .args .work .now)) (omega (
+                arith,
+                c .before .before .before .before .before .pre .within,
+                length-drop
+                    (c .before .before .before .before .before .args .from) (c .before .before .before .before .before .args .work .now),
+              )),
+        )),
+  );
+}
+
+slice-aggregate-reach : tie.Need-slice-aggregate-reach
+slice-aggregate-reach c = search needs
+
+slice-aggregate-reach-2 : tie.Need-slice-aggregate-reach-2
+slice-aggregate-reach-2 c = search needs
+
+reach-requires : tie.Need-reach-requires
+reach-requires c κs = search needs
+
+slice-aggregate-collect : tie.Need-slice-aggregate-collect
+slice-aggregate-collect c = search needs
+
+collect-requires : tie.Need-collect-requires
+collect-requires c κs = search needs
+
+same-length : tie.Need-same-length
+same-length c = search needs
+
+returns : tie.Need-returns
+returns c = record {
+  value = λ ms. subst (λ (v : List ℕ). Appended v (c .before .before .before .before .before .before .before .before
+      .before .before .before .before .before .before .before .before .before .args .work .now) (c .before .before .before .before .before
+      .before .before .before .before .before .before .before .before .before .before .before .before .args .from) (c .before .before
+      .collect .last .1 .1 .1 .1 .1 .0) (c .before .before .collect .result)) (step-rows (c .before .before .before .before .before .before
+      .before .before .before .before .before .before .before .before .before .before .before .args .rows .now) (c .before .before .before
+      .before .before .before .before .before .before .before .before .before .before .before .before .before .before .args .count) (c
+      .before .before .before .before .before .before .before .before .before .before .before .before .before .before .before .before
+      .before .args .by .axis) (c .before .before .before .before .before .before .before .before .before .before .before .before .before
+      .before .before .before .before .args .by .test) (c .before .before .before .before .before .before .before .before .before .before
+      .before .before .before .before .before .before .before .args .by .name .0) (c .before .before .before .before .before .before
+      .before .before .before .before .before .flag .last .0) (c .before .before .before .before .before .before .before .reach .last .1 .1
+      .1 .1 .0) (valueAt (c .before .before .before .before .before .before .before .before .before .before .before .before .before .before
+      .before .before .before .args .work .now) (c .before .before .before .before .before .before .before .before .before .before .before
+      .before .before .before .before .before .before .args .from) (c .before .before .before .before .before .before .before .before
+      .before .before .before .before .before .before .before .before .before .args .to)) ms (omega (
+        arith,
+        c .before .before .before
+            .before .before .before .before .before .before .before .before .before .before .before .before .before .before .pre .held
+            .rows,
+        c
+            .before .before .before .before .before .before .before .before .before .before .before .before .before .before .before .before
+            .before .pre .held .few,
+      )) (c .before .before .before .before .before .before .before .before .before .before .before .flag .ensures)
+      (c .before .before .before .before .before .before .before .reach .ensures)) (c .before .before .collect .ensures);
+}
+
+pub stepped-spec : {M : Type 1} → statement M
+stepped-spec =
+    tie.close
+    (tie.spec
+    slice-aggregate-flag
+    mul-flag
+    sub-flag
+    part-flag-start
+    part-flag-end
+    flag-requires
+    slice-aggregate-reach
+    slice-aggregate-reach-2
+    reach-requires
+    slice-aggregate-collect
+    collect-requires
+    same-length
+    returns)

@@ -1,0 +1,234 @@
+// The rows that a step reaches from a value.
+// A row's flag stands at its number and one; position 0 is for no row.
+ghost use mathlib.Core.Path.{_≡_};
+ghost use Prim.Native.Nat.{_+_, _/_, _%_, _<_};
+ghost use lib.ListN.{length, getD, set};
+ghost use Rattle.model.specs.Base.{pick};
+ghost use Rattle.model.specs.Script.{stepBy};
+ghost use Rattle.model.specs.Step.{admits, letterOf};
+ghost use Rattle.table.specs.Words.{rowOf};
+ghost use Rattle.query.specs.Stepping.{bit, FlagPre, Flagged, counted, OnePre, descended, climbed, PassPre, Reached};
+ghost use Rattle.query.specs.Values.{kept, keptRows, CollectPre, Appended, StepPre, StepPost};
+use table::NameNumber;
+use table::RowNumber;
+
+const LEAF: u32 = 2;
+
+// A script's step: axis 0 child, 1 descendant, 2 parent, 3 ancestor; test 0 any node, 1 element, 2 leaf, 3 the named element.
+pub struct StepBy {
+    pub axis: u8,
+    pub test: u8,
+    pub name: NameNumber,
+}
+
+pub fn index(x: u16) -> usize
+    ensures { λ r. ⌜ r ≡ x ⌝ }
+    ensures { λ r. ⌜ r < 65536 ⌝ }
+{
+    x as usize
+}
+
+fn link(w: u32) -> usize
+    ensures { λ r. ⌜ r ≡ w / 4 % 1024 ⌝ }
+{
+    (w / 4 % 1024) as usize
+}
+
+fn name_of(w: u32) -> u32
+    ensures { λ r. ⌜ r ≡ w / 4096 ⌝ }
+{
+    w / 4096
+}
+
+fn wide(x: u16) -> u32
+    ensures { λ r. ⌜ r ≡ x ⌝ }
+{
+    x as u32
+}
+
+// The row's letter passes the test.
+fn passes(rows: &[u32], row: RowNumber, test: u8, name: NameNumber) -> bool
+    requires { ⌜ row .0 < length (now rows) ⌝ }
+    ensures { λ r. ⌜ r ≡ admits (stepBy 0 test (name .0)) (letterOf (rowOf (getD (now (rows .entry)) (row .0) 0))) ⌝ }
+{
+    let at = index(row.0);
+    let w = rows[at];
+    if test == 0 {
+        return true;
+    }
+    if w % 4 == LEAF {
+        return test == 2;
+    }
+    if test == 1 {
+        return true;
+    }
+    if test == 2 {
+        return false;
+    }
+    name_of(w) == wide(name.0)
+}
+
+// Flags each item of a value.
+fn flag(flags: &mut [u8], items: &[u16])
+    requires { ⌜ FlagPre (now flags) (now items) ⌝ }
+    ensures { λ r. ⌜ Flagged (now (items .entry)) (now (flags .exit)) ⌝ }
+{
+    let mut k = 0;
+    while k < items.len() {
+        let at = index(items[k]);
+        flags[at + 1] = 1;
+        k += 1;
+    }
+}
+
+// Whether a row counts for the next: an item, or along a deep axis a row that is reached.
+fn counts(item: u8, reached: u8, deep: bool) -> bool
+    ensures { λ r. ⌜ r ≡ counted item reached deep ⌝ }
+{
+    if item != 0 {
+        return true;
+    }
+    if deep {
+        return reached != 0;
+    }
+    false
+}
+
+// A row on the way down: reached where its parent counts.
+fn descend_one(w: u32, j: usize, deep: bool, flags: &[u8], reached: &mut [u8])
+    requires { ⌜ OnePre w j (now flags) (now reached) ⌝ }
+    ensures { λ r. ⌜ now (reached .exit) ≡ descended w j deep (now (flags .entry)) (now (reached .entry)) ⌝ }
+{
+    let l = link(w);
+    if !counts(flags[l], reached[l], deep) {
+        return;
+    }
+    reached[j + 1] = 1;
+}
+
+// The rows below the items: children, or descendants along a deep axis. Parents are lower than their children.
+fn descend(rows: &[u32], count: usize, deep: bool, flags: &[u8], reached: &mut [u8])
+    requires { ⌜ PassPre (now rows) count (now flags) (now reached) ⌝ }
+    ensures { λ r. ⌜ Reached (now (rows .entry)) count (bit deep) (now (flags .entry)) (now (reached .exit)) ⌝ }
+{
+    let mut j = 0;
+    while j < count {
+        descend_one(rows[j], j, deep, flags, reached);
+        j += 1;
+    }
+}
+
+// A row on the way up: where it counts, its parent is reached.
+fn climb_one(w: u32, j: usize, deep: bool, flags: &[u8], reached: &mut [u8])
+    requires { ⌜ OnePre w j (now flags) (now reached) ⌝ }
+    ensures { λ r. ⌜ now (reached .exit) ≡ climbed w j deep (now (flags .entry)) (now (reached .entry)) ⌝ }
+{
+    if !counts(flags[j + 1], reached[j + 1], deep) {
+        return;
+    }
+    reached[link(w)] = 1;
+}
+
+// The rows above the items: parents, or ancestors along a deep axis.
+fn climb(rows: &[u32], count: usize, deep: bool, flags: &[u8], reached: &mut [u8])
+    requires { ⌜ PassPre (now rows) count (now flags) (now reached) ⌝ }
+    ensures { λ r. ⌜ Reached (now (rows .entry)) count (2 + bit deep) (now (flags .entry)) (now (reached .exit)) ⌝ }
+{
+    let mut j = count;
+    while 0 < j {
+        j -= 1;
+        climb_one(rows[j], j, deep, flags, reached);
+    }
+}
+
+// The rows that an axis reaches from the flagged items.
+fn reach(rows: &[u32], count: usize, axis: u8, flags: &[u8], reached: &mut [u8])
+    requires { ⌜ axis < 4 ⌝ }
+    requires { ⌜ PassPre (now rows) count (now flags) (now reached) ⌝ }
+    ensures { λ r. ⌜ Reached (now (rows .entry)) count axis (now (flags .entry)) (now (reached .exit)) ⌝ }
+{
+    if axis == 0 {
+        descend(rows, count, false, flags, reached);
+        return;
+    }
+    if axis == 1 {
+        descend(rows, count, true, flags, reached);
+        return;
+    }
+    if axis == 2 {
+        climb(rows, count, false, flags, reached);
+        return;
+    }
+    climb(rows, count, true, flags, reached);
+}
+
+// A row is kept: it is reached and passes the test.
+fn keeps(rows: &[u32], row: RowNumber, flag: u8, test: u8, name: NameNumber) -> bool
+    requires { ⌜ row .0 < length (now rows) ⌝ }
+    ensures { λ r. ⌜ r ≡ kept (now (rows .entry)) (row .0) flag test (name .0) ⌝ }
+{
+    if flag == 0 {
+        return false;
+    }
+    passes(rows, row, test, name)
+}
+
+// Appends an item to the value that ends at a place, if it is kept; the place past the value.
+pub fn append_if(keep: bool, item: u16, work: &mut [u16], at: usize) -> usize
+    requires { ⌜ at < length (now work) ⌝ }
+    ensures { λ r. ⌜ now (work .exit) ≡ pick keep (set (now (work .entry)) at item) (now (work .entry)) ⌝ }
+    ensures { λ r. ⌜ r ≡ pick keep (at + 1) at ⌝ }
+{
+    if !keep {
+        return at;
+    }
+    work[at] = item;
+    at + 1
+}
+
+// The rows that are reached and pass the test, in rising number, from a place on; the place past them.
+fn collect(
+    rows: &[u32],
+    count: usize,
+    reached: &[u8],
+    test: u8,
+    name: NameNumber,
+    work: &mut [u16],
+    from: usize,
+) -> usize
+    requires { ⌜ CollectPre (now rows) count (now reached) (now work) from ⌝ }
+    ensures { λ r. ⌜ Appended (keptRows (now (rows .entry)) (now (reached .entry)) test (name .0) count) (now (work .entry)) from
+        (now (work .exit)) r ⌝ }
+{
+    let mut at = from;
+    let mut j = 0;
+    while j < count {
+        let row = j as u16;
+        let keep = keeps(rows, RowNumber(row), reached[j + 1], test, name);
+        at = append_if(keep, row, work, at);
+        j += 1;
+    }
+    at
+}
+
+// A step from the value at a place, which its rows then take; the place past them.
+pub fn stepped(
+    rows: &[u32],
+    count: usize,
+    by: StepBy,
+    work: &mut [u16],
+    from: usize,
+    to: usize,
+) -> usize
+    requires { ⌜ StepPre (now rows) count (by .axis) (now work) from to ⌝ }
+    ensures { λ r. ⌜ StepPost (now (rows .entry)) count (by .axis) (by .test) (by .name .0) (now (work .entry)) from to
+        (now (work .exit)) r ⌝ }
+{
+    let mut flags = [0u8; 513];
+    let mut reached = [0u8; 513];
+    flag(&mut flags, &work[from..to]);
+    reach(rows, count, by.axis, &flags, &mut reached);
+    let test = by.test;
+    let name = by.name;
+    collect(rows, count, &reached, test, name, work, from)
+}

@@ -1,0 +1,75 @@
+use borrow.Author.Needs.{needs}
+use Rattle.run.proofs.area.put.Statement.{statement}
+use Rattle.run.proofs.area.put.Tie as tie
+use mathlib.Core.Path.{_≡_, refl, _∙_}
+use Prim.Native.Nat.{_≤_, _-_}
+use native.Mathlib.Omega.{arith}
+use lib.ListN.{length, getD, length-set}
+use Rattle.run.proofs.AreaLaws.{putTo, put-next, put-all}
+
+abbrev Inv-loop : tie.InvT-loop
+Inv-loop area₀ value k₀ area k = (k ≤ length value) × (length area ≡ length area₀) × (area ≡ putTo k value area₀)
+
+abbrev μ-loop : tie.MeasureT-loop
+μ-loop area₀ value k₀ area k = length value - k
+
+loop-holds : tie.Need-loop-holds Inv-loop μ-loop
+loop-holds c = (omega arith, refl, refl)
+
+mul-area : tie.Need-mul-area Inv-loop μ-loop
+mul-area c = search needs
+
+shared-slice-read-area : tie.Need-shared-slice-read-area Inv-loop μ-loop
+shared-slice-read-area c = search needs
+
+mul-area-2 : tie.Need-mul-area-2 Inv-loop μ-loop
+mul-area-2 c = search needs
+
+slice-write-area : tie.Need-slice-write-area Inv-loop μ-loop
+slice-write-area c =
+    let c3 = c .before .before .before in
+    let l = c .before .before .loop .inv .1 in
+    let m = c3 .pre in
+    omega (arith, l, m)
+
+add-j : tie.Need-add-j Inv-loop μ-loop
+add-j c = search needs
+
+loop-less : tie.Need-loop-less Inv-loop μ-loop
+loop-less c = omega arith
+
+loop-again : tie.Need-loop-again Inv-loop μ-loop
+loop-again c =
+    let c3 = c .before .before .before in
+    let l = c .before .before .loop .inv .1 in (
+      omega arith,
+      length-set (c .before .before .loop .area) (c .before .before .loop .j) (getD (c3 .args .value .now) (c .before
+          .before .loop .j) 0) ∙ l,
+      put-next (c3 .args .value .now) (c3 .args .area .now) (c .before .before .loop .area) (c .before
+          .before .loop .j) (c3 .pre) (c .before .loop-test .taken) (c .before .before .loop .inv .2),
+    )
+
+same-length : tie.Need-same-length Inv-loop μ-loop
+same-length c = c .before .loop .inv .1
+
+returns : tie.Need-returns Inv-loop μ-loop
+returns c =
+    put-all (c .before .before .args .value .now) (c .before .before .args .area .now) (c .before .loop .area) (c .before .loop .j)
+    (omega arith) (c .before .loop .inv .0) (c .before .loop .inv .2)
+
+pub put-spec : {M : Type 1} → statement M
+put-spec =
+    tie.close
+    (tie.spec
+    Inv-loop
+    μ-loop
+    loop-holds
+    mul-area
+    shared-slice-read-area
+    mul-area-2
+    slice-write-area
+    add-j
+    loop-less
+    loop-again
+    same-length
+    returns)

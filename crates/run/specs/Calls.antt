@@ -1,0 +1,60 @@
+-- What a run answers, for every input, and leaves in the lent areas. Assumes nothing: these are definitions.
+use mathlib.Core.Path.{_≡_}
+use mathlib.Core.List.{List}
+use Prim.Native.Nat.{ℕ, _≤_}
+use lib.ListN.{length, replicate}
+use Rattle.model.specs.Base.{pick}
+use Rattle.model.specs.Limits.{answerNeed, historyNeed, workNeed}
+use Rattle.model.specs.Refusal as refusal
+use Rattle.model.specs.Script.{readScript}
+use Rattle.model.specs.Run.{Out, stop}
+use Rattle.model.specs.Call.{Ran, areasFit, ranBy, refusedRun, runBy}
+use Rattle.table.specs.Words.{encode, decode, fits}
+use Rattle.table.specs.Calls.{faultOf}
+use Rattle.table.specs.declared.Table.{Table}
+use Rattle.run.specs.Tallying.{noneYet}
+use Rattle.run.specs.declared.tally.Tally.{Tally}
+use Rattle.run.specs.declared.RunResult.{RunResult}
+
+-- THE RUN on a table handed in: 6 at place 0; then the script's own refusal; then the run's
+abbrev pub outcomeOf : Table → (script : List ℕ) → Out
+outcomeOf t b = pick (fits t) (runBy (decode t) (readScript b)) (stop (refusal.linkAt 0))
+
+-- 11 comes first, and nothing is touched
+abbrev pub ran : Table → (script answer history work : List ℕ) → Ran
+ran t b a h w =
+    pick (areasFit a h w) (ranBy (decode t) (length a) (length h) (length w) (outcomeOf t b)) (refusedRun refusal.lentShort (decode t) a
+    h w)
+
+-- what it gives back: refused, the table is as it was handed in and the tally zero
+abbrev pub tallyOf : Ran → Tally
+tallyOf r = record { made = r .made; cut = r .cut; records = r .records }
+
+abbrev pub resultOf : Table → Ran → RunResult
+resultOf t r =
+    record {
+      fault = faultOf (r .fault);
+      table = pick (refusal.isFine (r .fault)) (encode (r .plan)) t;
+      items = r .items;
+      bytes = r .bytes;
+      tally = tallyOf r;
+    }
+
+abbrev pub runResult : Table → (script answer history work : List ℕ) → RunResult
+runResult t b a h w = resultOf t (ran t b a h w)
+
+abbrev pub refusedResult : (number place : ℕ) → Table → RunResult
+refusedResult n i t = record { fault = record { number = n; place = i }; table = t; items = 0; bytes = 0; tally = noneYet }
+
+-- IN AREAS that fit, answer and history cleared
+pub record RunPre (a h w : List ℕ) : Type 0 where
+  pub answer : answerNeed ≤ length a
+  pub history : historyNeed ≤ length h
+  pub work : workNeed ≤ length w
+  pub answered : a ≡ replicate (length a) 0
+  pub recorded : h ≡ replicate (length h) 0
+
+pub record RunPost (t : Table) (b a h w a′ h′ : List ℕ) (r : RunResult) : Type 0 where
+  pub result : r ≡ resultOf t (ranBy (decode t) (length a) (length h) (length w) (outcomeOf t b))
+  pub answer : a′ ≡ ranBy (decode t) (length a) (length h) (length w) (outcomeOf t b) .answer
+  pub history : h′ ≡ ranBy (decode t) (length a) (length h) (length w) (outcomeOf t b) .history

@@ -1,0 +1,36 @@
+-- The demands on what the call `run` gives back and leaves. Each is a type; its proof is in proofs/Promised. Assumes nothing.
+use mathlib.Core.Path.{_≡_}
+use mathlib.Core.Bool.{true}
+use mathlib.Core.List.{List}
+use Prim.Native.Nat.{ℕ}
+use Rattle.model.specs.Base.{areBytes}
+use Rattle.model.specs.Meeting.{free}
+use Rattle.model.specs.Call.{Ran, answered, analyse, areasFit, runCall, callsEnd, CallsEqual}
+use Rattle.table.specs.Words.{decode, fits}
+use Rattle.table.specs.declared.Table.{Table}
+use Rattle.run.specs.Calls.{ran, runResult}
+
+-- DEMAND 2: on a table that fits, what the call leaves is the model's call on the table that it stands for
+abbrev pub RunsAsCalled : Type 0
+RunsAsCalled = (t : Table) (b a h w : List ℕ) → fits t ≡ true → ran t b a h w ≡ runCall (decode t) b a h w
+
+-- and the table given back fits and stands for the model's
+abbrev pub RunsOn : Type 0
+RunsOn =
+    (t : Table) (b a h w : List ℕ) → areBytes b ≡ true → fits t ≡ true →
+    (fits (runResult t b a h w .table) ≡ true) × (decode (runResult t b a h w .table) ≡ runCall (decode t) b a h w .plan)
+
+-- DEMAND 1: refused, the table is as it was handed in, well formed or not
+abbrev pub RefusedGivesBack : Type 0
+RefusedGivesBack = (t : Table) (b a h w : List ℕ) → (runResult t b a h w .fault .number ≡ 0 → ⊥) → runResult t b a h w .table ≡ t
+
+-- DEMAND 3: two scripts of which the analysis says free, run one after the other on the table that the first gave back
+abbrev pub EitherEnd : Table → (one oneThen two twoThen : Ran) → Type 0
+EitherEnd t r r′ s s′ = (callsEnd r r′ ≡ callsEnd s s′) × (callsEnd r r′ ≡ true → CallsEqual (decode t) r r′ s s′)
+
+abbrev pub RunsCommute : Type 0
+RunsCommute =
+    (b c : List ℕ) (t : Table) (a h w a′ h′ w′ : List ℕ) → areBytes b ≡ true → areBytes c ≡ true → analyse b c ≡ answered free →
+    fits t ≡ true → areasFit a h w ≡ true → areasFit a′ h′ w′ ≡ true →
+    EitherEnd t (ran t b a h w) (ran (runResult t b a h w .table) c a′ h′ w′) (ran t c a′ h′ w′)
+    (ran (runResult t c a′ h′ w′ .table) b a h w)

@@ -1,0 +1,366 @@
+-- Undo's parts, from the tests on each way out: the form of a record, the places of all, whether a record fits, and a record undone.
+use mathlib.Core.Path.{_≡_, refl, ap, sym, _∙_, subst}
+use mathlib.Core.Bool.{Bool, true, false, _&&_, _||_, not}
+use mathlib.Core.List.{List, [], _∷_, map}
+use mathlib.Core.Option.{some}
+use Prim.Native.Nat.{ℕ, zero, suc, _+_, _*_, _-_, _/_, _%_, _≤_, _<_}
+use native.Mathlib.Numerals.{add-one}
+use native.Mathlib.Omega.{arith}
+use lib.Dec.{eqb}
+use lib.ListN.{length, getD, take, drop, set, length-set, length-drop, drop-of-length-le}
+use lib.Seq.{getD-set-same, getD-set-other, take-all, drop-drop, getD-drop}
+use borrow.Author.Tests.{lt-ltb, le-ltb, le-leb, lt-leb, eq-eqb, ne-eqb, eqb-true, eqb-false}
+use Rattle.model.specs.Base.{pick, isIn, any}
+use Rattle.model.specs.Refusal.{fault, fine, isFine}
+use Rattle.model.specs.Table as model
+use Rattle.model.specs.Stored.{wordAt, parentIn}
+use Rattle.model.specs.Undo.{historySize, recordIn, Placed, Formed, broken, formed, formFault, withPlaced, formFrom, sameBool, sameParent}
+use Rattle.model.specs.Undo.{madeFits, oldParentFits}
+use Rattle.model.specs.Undo.{cutFits, Undo, refused, undoAll, backwards, undo}
+use Rattle.model.proofs.BoolLaws.{by-cases, pick-true, pick-false}
+use Rattle.table.specs.Words.{linked, decodeParts}
+use Rattle.table.specs.Reading.{faultAt}
+use Rattle.table.proofs.WordLaws.{count-decode, rowAt-decode}
+use Rattle.table.proofs.ReadLaws as reading
+use Rattle.undo.specs.Undoing.{cutIn, madeIn, FormPost, undoing, Whole, PlacesPost, FitPre}
+
+pub size-low : (k : ℕ) → 5 ≤ historySize k
+size-low k = by-cases (eqb k 67) (λ e. rw e (omega arith)) (λ e. rw e (omega arith))
+
+-- THE FORM of the record at the front
+module _ (s : List ℕ) (n : ℕ) where
+  refused-form : (k : ℕ) → ((i : ℕ) → formFault i n s ≡ fault (suc k) i) → FormPost s n (suc k)
+  refused-form k f =
+      record {
+        fault = λ i. f i ∙ sym (pick-false (eqb (suc k) 0) fine (fault (suc k) i) (ne-eqb (suc k) 0 (λ q. omega arith)));
+        whole = λ e. absurd (omega arith);
+        few = λ e. absurd (omega arith);
+      }
+
+  pub form-low : getD s 0 0 < 65 → FormPost s n 1
+  form-low h = refused-form 0 (λ i. rw (lt-leb 65 (getD s 0 0) h))
+
+  pub form-high : 67 < getD s 0 0 → FormPost s n 1
+  form-high h = let k : 65 ≤ getD s 0 0 = omega arith in refused-form 0 (λ i. rw (le-leb 65 (getD s 0 0) k, lt-leb (getD s 0 0) 67 h))
+
+  module _ (low : 65 ≤ getD s 0 0) (high : getD s 0 0 ≤ 67) where
+    pub form-size : 2048 ≤ n → FormPost s n 5
+    form-size h = refused-form 4 (λ i. rw (le-leb 65 (getD s 0 0) low, le-leb (getD s 0 0) 67 high, le-ltb n 2048 h))
+
+    module _ (few : n < 2048) where
+      pub form-short : length s < historySize (getD s 0 0) → FormPost s n 2
+      form-short h =
+          refused-form 1
+          (λ i.
+          rw (le-leb 65 (getD s 0 0) low, le-leb (getD s 0 0) 67 high, lt-ltb n 2048 few, lt-leb (historySize (getD s 0 0)) (length s) h))
+
+      module _ (whole : historySize (getD s 0 0) ≤ length s) where
+        name : (i : ℕ) → formFault i n s ≡ pick (not (eqb (getD s 0 0) 65) || isIn 1 255 (getD s 3 0)) fine (fault 4 i)
+        name i =
+            rw (
+              le-leb 65 (getD s 0 0) low,
+              le-leb (getD s 0 0) 67 high,
+              lt-ltb n 2048 few,
+              le-leb (historySize (getD s 0 0)) (length s)
+                  whole,
+            )
+
+        pub form-field : getD s 0 0 ≡ 65 → getD s 3 0 ≡ 0 → FormPost s n 4
+        form-field k t = refused-form 3 (λ i. name i ∙ rw (eq-eqb (getD s 0 0) 65 k, t))
+
+        form-by : (not (eqb (getD s 0 0) 65) || isIn 1 255 (getD s 3 0)) ≡ true → FormPost s n 0
+        form-by e =
+            record {
+              fault = λ i. name i ∙ pick-true (not (eqb (getD s 0 0) 65) || isIn 1 255 (getD s 3 0)) fine (fault 4 i) e;
+              whole = λ q. whole;
+              few = λ q. few;
+            }
+
+        pub form-named : (getD s 3 0 ≡ 0 → ⊥) → getD s 3 0 ≤ 255 → FormPost s n 0
+        form-named t b =
+            let k : 1 ≤ getD s 3 0 = omega (arith, t) in
+            form-by (rw (le-leb 1 (getD s 3 0) k, le-leb (getD s 3 0) 255 b) (or-true (not (eqb (getD s 0 0) 65))))
+          where
+            or-true : (t : Bool) → (t || true) ≡ true
+            or-true true = refl
+            or-true false = refl
+
+        pub form-other : (getD s 0 0 ≡ 65 → ⊥) → FormPost s n 0
+        form-other k = form-by (rw (ne-eqb (getD s 0 0) 65 k))
+
+-- THE PLACES. Undo from where the form is: the records found so far are undone last
+abbrev undoFrom : model.Table → List Placed → Formed → Undo
+undoFrom x ps (broken f) = refused f
+undoFrom x ps (formed qs) = undoAll x (backwards qs ps)
+
+undoFrom-placed : (x : model.Table) (ps : List Placed) (p : Placed) (f : Formed) → undoFrom x ps (withPlaced p f) ≡ undoFrom x (p ∷ ps) f
+unfolding backwards
+undoFrom-placed x ps p (broken f) = refl
+undoFrom-placed x ps p (formed qs) = refl
+
+undoing-set : (b m : List ℕ) (n k v : ℕ) → k ≤ n → undoing b (set m n v) k ≡ undoing b m k
+unfolding undoing
+undoing-set b m n zero v h = refl
+undoing-set b m n (suc k) v h =
+    let e : getD (set m n v) k 0 ≡ getD m k 0 = getD-set-other m n k v 0 (λ q. omega arith) in
+    rw (e, undoing-set b m n k v (omega arith))
+
+pub record Forming (b m : List ℕ) (at n : ℕ) : Type 0 where
+  pub within : at ≤ length b
+  pub low : 5 * n ≤ at
+  pub high : at ≤ 6 * n
+  pub few : n ≤ 2048
+  pub size : length m ≡ 2048
+  pub whole : Whole b m n
+  pub rest : (x : model.Table) → undoFrom x (undoing b m n) (formFrom (length b + 1 - n) at n (drop at b)) ≡ undo x b
+
+pub forming-start : {b m : List ℕ} → length m ≡ 2048 → Forming b m 0 0
+unfolding undoing
+forming-start {b} {m} l =
+    record {
+      within = omega arith;
+      low = omega arith;
+      high = omega arith;
+      few = omega arith;
+      size = l;
+      whole = λ k h. absurd (omega arith);
+      rest = λ x.
+          let e : length b + 1 - 0 ≡ length b + 1 = omega arith in
+          ap (λ (k : ℕ). undoFrom x [] (formFrom k 0 0 b)) e ∙ start x (formFrom (length b + 1) 0 0 b);
+    }
+  where
+    start : (x : model.Table) (f : Formed) → undoFrom x [] f ≡ Rattle.model.specs.Undo.undoFormed x f
+    start x (broken f) = refl
+    start x (formed ps) = refl
+
+-- one record more, or a refusal, or the end
+module _ {b m : List ℕ} {at n : ℕ} (c : Forming b m at n) where
+  forming-done : length b ≤ at → (x : model.Table) → undoAll x (undoing b m n) ≡ undo x b
+  unfolding formFrom backwards
+  forming-done h x =
+      let e : length b + 1 - n ≡ suc (length b - n) = omega (arith, c .low, c .within) in
+      ap (λ (k : ℕ). undoFrom x (undoing b m n) (formFrom k at n [])) (sym e) ∙
+      ap (λ (d : List ℕ). undoFrom x (undoing b m n) (formFrom (length b + 1 - n) at n d)) (sym (drop-of-length-le b h)) ∙ c .rest x
+
+  pub forming-end : length b ≤ at → PlacesPost b m (record { number = 0; place = 0; records = n })
+  forming-end h =
+      record {
+        fine = λ e. forming-done h;
+        stop = λ e. absurd (e refl);
+        whole = λ e. c .whole;
+        few = λ e. c .few;
+      }
+
+  module _ (more : at < length b) {r : ℕ} (post : FormPost (take (length b - at) (drop at b)) n r) where
+    rest-all : take (length b - at) (drop at b) ≡ drop at b
+    rest-all = take-all (length b - at) (drop at b) (omega (arith, length-drop at b))
+
+    fuel : length b + 1 - n ≡ suc (length b - n)
+    fuel = omega (arith, c .low)
+
+    there : length (drop at b) ≡ 0 → ⊥
+    there q = omega (arith, length-drop at b)
+
+    faults : formFault at n (drop at b) ≡ faultAt r at
+    faults = ap (formFault at n) (sym rest-all) ∙ post .fault at
+
+    pub forming-refused : (r ≡ 0 → ⊥) → PlacesPost b m (record { number = r; place = at; records = n })
+    unfolding formFrom
+    forming-refused z =
+        record {
+          fine = λ e. absurd (z e);
+          stop = λ e x. stopped (faults ∙ pick-false (eqb r 0) fine (fault r at) (ne-eqb r 0 z)) x;
+          whole = λ e. absurd (z e);
+          few = λ e. absurd (z e);
+        }
+      where
+        stopped : formFault at n (drop at b) ≡ fault r at → (x : model.Table) → refused (fault r at) ≡ undo x b
+        stopped e x =
+            let y : isFine (formFault at n (drop at b)) ≡ false = ap isFine e ∙ ne-eqb r 0 z in
+            let w : formFrom (suc (length b - n)) at n (drop at b) ≡ broken (formFault at n (drop at b)) =
+            rw (ne-eqb (length (drop at b)) 0 there, y) in
+            ap (λ (f : Rattle.model.specs.Refusal.Fault). refused f) (sym e) ∙
+            sym (ap (undoFrom x (undoing b m n)) w) ∙ ap (λ (k : ℕ). undoFrom x (undoing b m n) (formFrom k at n (drop at b))) (sym fuel)
+            ∙ c .rest x
+
+    module _ (z : r ≡ 0) where
+      abbrev step : ℕ
+      step = historySize (getD b at 0)
+
+      first : getD (drop at b) 0 0 ≡ getD b at 0
+      first = let e : at + 0 ≡ at = omega arith in getD-drop at b 0 0 ∙ ap (λ (j : ℕ). getD b j 0) e
+
+      whole-here : historySize (getD (drop at b) 0 0) ≤ length (drop at b)
+      whole-here = subst (λ (d : List ℕ). historySize (getD d 0 0) ≤ length d) rest-all (post .whole z)
+
+      pub forming-room : at + step ≤ length b
+      forming-room =
+          let e : historySize (getD (drop at b) 0 0) ≡ step = ap historySize first in
+          omega (arith, whole-here, length-drop at b)
+
+      pub forming-few : n < 2048
+      forming-few = post .few z
+
+      pub forming-again : {at′ : ℕ} → at′ ≡ at + step → 5 ≤ step → step ≤ 6 → Forming b (set m n at) at′ (n + 1)
+      unfolding undoing formFrom
+      forming-again {at′} e l h =
+          record {
+            within = omega (arith, forming-room);
+            low = omega (arith, c .low);
+            high = omega (arith, c .high);
+            few = omega (arith, forming-few);
+            size = length-set m n at ∙ c .size;
+            whole = λ k g.
+                by-cases (eqb k n)
+                (λ q.
+                let y : getD (set m n at) k 0 ≡ at = ap (λ (j : ℕ). getD (set m n at) j 0) (eqb-true k n q) ∙ here in
+                subst (λ (j : ℕ). (j ≤ length b) × (historySize (getD (drop j b) 0 0) ≤ length (drop j b))) (sym y) (c .within, whole-here))
+                (λ q.
+                let f = eqb-false k n q in
+                subst (λ (j : ℕ). (j ≤ length b) × (historySize (getD (drop j b) 0 0) ≤ length (drop j b)))
+                (sym (getD-set-other m n k at 0 f)) (c .whole k (omega (arith, f))));
+            rest = go;
+          }
+        where
+          here : getD (set m n at) n 0 ≡ at
+          here = getD-set-same m n at 0 (omega (arith, forming-few, c .size))
+
+          entry : Placed
+          entry = record { at = at; entry = recordIn (drop at b) }
+
+          turn : formFrom (suc (length b - n)) at n (drop at b) ≡
+              withPlaced entry (formFrom (length b - n) (at + historySize (getD (drop at b) 0 0)) (n + 1) (drop (historySize (getD (drop
+              at b) 0 0)) (drop at b)))
+          turn =
+              let y : isFine (formFault at n (drop at b)) ≡ true = ap isFine (faults ∙ pick-true (eqb r 0) fine (fault r at) (eq-eqb r 0
+              z)) in
+              rw (ne-eqb (length (drop at b)) 0 there, y)
+
+          grown : undoing b (set m n at) (n + 1) ≡ entry ∷ undoing b m n
+          grown =
+              ap (undoing b (set m n at)) (add-one n) ∙
+              ap (λ (j : ℕ). record { at = j; entry = recordIn (drop j b) } ∷ undoing b (set m n at) n) here ∙
+              ap (λ (ps : List Placed). entry ∷ ps) (undoing-set b m n n at (omega arith))
+
+          go : (x : model.Table) → undoFrom x (undoing b (set m n at) (n + 1)) (formFrom (length b + 1 - (n + 1)) at′ (n + 1) (drop at′
+              b)) ≡ undo x b
+          go x =
+              let f : length b + 1 - (n + 1) ≡ length b - n = omega arith in
+              ap (λ (ps : List Placed). undoFrom x ps (formFrom (length b + 1 - (n + 1)) at′ (n + 1) (drop at′ b))) grown ∙
+              ap (λ (k : ℕ). undoFrom x (entry ∷ undoing b m n) (formFrom k at′ (n + 1) (drop at′ b))) f ∙
+              ap (λ (j : ℕ). undoFrom x (entry ∷ undoing b m n) (formFrom (length b - n) j (n + 1) (drop j b))) e ∙
+              ap (λ (d : List ℕ). undoFrom x (entry ∷ undoing b m n) (formFrom (length b - n) (at + step) (n + 1) d)) (sym (drop-drop step
+              at b)) ∙
+              ap (λ (k : ℕ). undoFrom x (entry ∷ undoing b m n) (formFrom (length b - n) (at + historySize k) (n + 1) (drop (historySize
+              k) (drop at b)))) (sym first) ∙
+              sym (undoFrom-placed x (undoing b m n) entry
+              (formFrom (length b - n) (at + historySize (getD (drop at b) 0 0)) (n + 1) (drop (historySize (getD (drop at b) 0 0)) (drop
+              at b)))) ∙
+              sym (ap (undoFrom x (undoing b m n)) turn) ∙
+              ap (λ (k : ℕ). undoFrom x (undoing b m n) (formFrom k at n (drop at b))) (sym fuel) ∙ c .rest x
+
+-- KINDS AND PARENTS say the same
+pub kind-leaf : (w k : ℕ) → w % 4 ≡ 2 → eqb k 66 ≡ sameBool (eqb (w % 4) 2) (eqb k 66)
+kind-leaf w k e = rw e
+
+pub kind-element : (w k : ℕ) → (w % 4 ≡ 2 → ⊥) → not (eqb k 66) ≡ sameBool (eqb (w % 4) 2) (eqb k 66)
+kind-element w k e = rw (ne-eqb (w % 4) 2 e)
+
+pub parent-none : (l v : ℕ) → v ≡ 65535 → eqb l 0 ≡ sameParent (linked l) (parentIn v)
+parent-none l v e = rw (eq-eqb v 65535 e) (by-cases (eqb l 0) (λ z. rw z) (λ z. rw z))
+
+pub parent-some : (l v : ℕ) → (v ≡ 65535 → ⊥) → eqb l (v + 1) ≡ sameParent (linked l) (parentIn v)
+parent-some l v e = rw (ne-eqb v 65535 e) (by-cases (eqb l 0) (λ z. root z (eqb-true l 0 z)) (λ z. child z (eqb-false l 0 z)))
+  where
+    root : eqb l 0 ≡ true → l ≡ 0 → eqb l (v + 1) ≡ sameParent (linked l) (some v)
+    root z y = let n : l ≡ v + 1 → ⊥ = λ q. omega arith in rw (z, ne-eqb l (v + 1) n)
+
+    child : eqb l 0 ≡ false → (l ≡ 0 → ⊥) → eqb l (v + 1) ≡ sameParent (linked l) (some v)
+    child z y =
+        rw z
+        (by-cases (eqb l (v + 1)) (λ q. let k : l - 1 ≡ v = omega (arith, eqb-true l (v + 1) q) in q ∙ sym (eq-eqb (l - 1) v k))
+        (λ q. q ∙ sym (ne-eqb (l - 1) v (λ k. eqb-false l (v + 1) q (omega (arith, y))))))
+
+-- A ROW MADE, by the tests
+module _ {ws : List ℕ} {n : ℕ} {s : List ℕ} {size : ℕ} (pre : FitPre ws n s size) (ms : List ℕ) {row : ℕ} (here : row ≡ wordAt s 1) where
+  within : n ≤ length ws
+  within = omega (arith, pre .rows, pre .few)
+
+  abbrev x : model.Table
+  x = decodeParts n ws ms
+
+  abbrev w : ℕ
+  w = getD ws row 0
+
+  counted : model.count x ≡ n
+  counted = count-decode n ws ms within
+
+  made-row : madeFits x (madeIn s) ≡
+      madeFits x (record { kind = getD s 0 0; row = row; tag = getD s 3 0; parent = parentIn (wordAt s 4) })
+  made-row =
+      ap (λ (j : ℕ). madeFits x (record { kind = getD s 0 0; row = j; tag = getD s 3 0; parent = parentIn (wordAt s 4) })) (sym here)
+
+  pub made-last : (row + 1 ≡ n → ⊥) → madeFits x (madeIn s) ≡ false
+  made-last f =
+      let g : row + 1 ≡ model.count x → ⊥ = λ q. f (q ∙ counted) in
+      made-row ∙ rw (ne-eqb (row + 1) (model.count x) g)
+
+  module _ (last : row + 1 ≡ n) where
+    made-tests : madeFits x (madeIn s) ≡
+        (not (any (model.isThe row) (map linked ms)) && sameBool (eqb (w % 4) 2) (eqb (getD s 0 0) 66) && eqb (w / 4096) (getD s 3 0) &&
+        sameParent (linked (w / 4 % 1024)) (parentIn (wordAt s 4)))
+    made-tests =
+        let k : row < n = omega arith in
+        made-row ∙ rw (eq-eqb (row + 1) (model.count x) (last ∙ sym counted), rowAt-decode n ws ms within row k)
+
+    pub made-marked : any (model.isThe row) (map linked ms) ≡ true → madeFits x (madeIn s) ≡ false
+    made-marked e = made-tests ∙ rw e
+
+    module _ (free : any (model.isThe row) (map linked ms) ≡ false) where
+      pub made-kind : sameBool (eqb (w % 4) 2) (eqb (getD s 0 0) 66) ≡ false → madeFits x (madeIn s) ≡ false
+      made-kind e = made-tests ∙ rw (free, e)
+
+      module _ (same : sameBool (eqb (w % 4) 2) (eqb (getD s 0 0) 66) ≡ true) where
+        pub made-tag : (w / 4096 ≡ getD s 3 0 → ⊥) → madeFits x (madeIn s) ≡ false
+        made-tag e = made-tests ∙ rw (free, same, ne-eqb (w / 4096) (getD s 3 0) e)
+
+        pub made-parent : w / 4096 ≡ getD s 3 0 → madeFits x (madeIn s) ≡ sameParent (linked (w / 4 % 1024)) (parentIn (wordAt s 4))
+        made-parent e = made-tests ∙ rw (free, same, eq-eqb (w / 4096) (getD s 3 0) e)
+
+  -- A LINK CUT, by the tests
+  cut-row : cutFits x (cutIn s) ≡ cutFits x (record { kind = 67; row = row; tag = 0; parent = parentIn (wordAt s 3) })
+  cut-row = ap (λ (j : ℕ). cutFits x (record { kind = 67; row = j; tag = 0; parent = parentIn (wordAt s 3) })) (sym here)
+
+  pub cut-high : n ≤ row → cutFits x (cutIn s) ≡ false
+  cut-high h = let k : model.count x ≤ row = omega (arith, counted) in cut-row ∙ rw (le-ltb row (model.count x) k)
+
+  module _ (low : row < n) where
+    cut-tests : cutFits x (cutIn s) ≡
+        (not (model.hasParent (linked (w / 4 % 1024))) && not (any (model.isThe row) (map linked ms)) && oldParentFits x row (parentIn
+        (wordAt s 3)))
+    cut-tests =
+        let k : row < model.count x = omega (arith, counted) in
+        cut-row ∙ rw (lt-ltb row (model.count x) k, rowAt-decode n ws ms within row low)
+
+    pub cut-child : (w / 4 % 1024 ≡ 0 → ⊥) → cutFits x (cutIn s) ≡ false
+    cut-child e = cut-tests ∙ rw (ne-eqb (w / 4 % 1024) 0 e)
+
+    module _ (root : w / 4 % 1024 ≡ 0) where
+      pub cut-marked : any (model.isThe row) (map linked ms) ≡ true → cutFits x (cutIn s) ≡ false
+      cut-marked e = cut-tests ∙ rw (eq-eqb (w / 4 % 1024) 0 root, e)
+
+      module _ (free : any (model.isThe row) (map linked ms) ≡ false) {v : ℕ} (there : v ≡ wordAt s 3) where
+        cut-parent : cutFits x (cutIn s) ≡ oldParentFits x row (parentIn v)
+        cut-parent =
+            cut-tests ∙ rw (eq-eqb (w / 4 % 1024) 0 root, free) (ap (λ (j : ℕ). oldParentFits x row (parentIn j)) (sym there))
+
+        pub cut-none : v ≡ 65535 → cutFits x (cutIn s) ≡ false
+        cut-none e = cut-parent ∙ rw (eq-eqb v 65535 e)
+
+        module _ (some-parent : v ≡ 65535 → ⊥) where
+          pub cut-order : row ≤ v → cutFits x (cutIn s) ≡ false
+          cut-order h = cut-parent ∙ rw (ne-eqb v 65535 some-parent, le-ltb v row h)
+
+          pub cut-element : v < row → cutFits x (cutIn s) ≡ not (eqb (getD ws v 0 % 4) 2)
+          cut-element h =
+              cut-parent ∙ rw (ne-eqb v 65535 some-parent, lt-ltb v row h) (reading.element-kind n ws ms within v (omega arith))

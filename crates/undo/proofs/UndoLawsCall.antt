@@ -1,0 +1,55 @@
+-- Undo's call: from the check's answer and what the parts leave to what it owes.
+use mathlib.Core.Path.{_≡_, ap, sym, _∙_}
+use mathlib.Core.Bool.{true, false}
+use mathlib.Core.List.{List}
+use Prim.Native.Nat.{ℕ}
+use native.Mathlib.Omega.{arith}
+use lib.ListN.{length}
+use Rattle.model.specs.Refusal.{fine, linkAt}
+use Rattle.model.specs.Undo.{Undo, undo}
+use Rattle.model.proofs.BoolLaws.{pick-true, pick-false}
+use Rattle.table.specs.Words.{decode, fits}
+use Rattle.table.specs.declared.Table.{Table}
+use Rattle.table.proofs.WordLaws.{encode-decode}
+use Rattle.table.proofs.CallLaws.{fits-at}
+use Rattle.undo.specs.Undoing.{asItWas, undoneBy, planUndone, PlacesPost, AllPre, AllPost}
+use Rattle.undo.specs.declared.undoing.FormEnd.{FormEnd}
+use Rattle.undo.specs.declared.undoing.BackEnd.{BackEnd}
+
+module _ (t : Table) (b : List ℕ) where
+  pub undo-ill : fits t ≡ false → record { fault = record { number = 6; place = 0 }; table = t } ≡ planUndone t b
+  undo-ill e = sym (pick-false (fits t) (undoneBy t (undo (decode t) b)) (asItWas (linkAt 0) t) e)
+
+  module _ (e : fits t ≡ true) where
+    by-model : (u : Undo) → u ≡ undo (decode t) b → undoneBy t u ≡ planUndone t b
+    by-model u f = ap (undoneBy t) f ∙ sym (pick-true (fits t) (undoneBy t (undo (decode t) b)) (asItWas (linkAt 0) t) e)
+
+    module _ {m : List ℕ} {r : FormEnd} (form : PlacesPost b m r) where
+      pub undo-broken : (r .number ≡ 0 → ⊥) → record { fault = record { number = r .number; place = r .place }; table = t } ≡ planUndone t b
+      undo-broken z = by-model _ (form .stop z (decode t))
+
+      module _ (z : r .number ≡ 0) where
+        pub undo-pre : length (t .rows) ≡ 512 → length m ≡ 2048 → AllPre (t .rows) (t .count) b m (r .records)
+        undo-pre l p =
+            let f = fits-at (t .count) (t .rows) (t .marks) e in
+            record {
+              rows = l;
+              few = f .few;
+              canonical = f .canonical l;
+              places = p;
+              records = form .few z;
+              whole = form .whole z;
+            }
+
+        module _ {ws : List ℕ} {q : BackEnd} (post : AllPost (t .rows) (t .marks) (t .count) b m (r .records) ws q) where
+          pub undo-refused : (q .number ≡ 0 → ⊥) → record { fault = record { number = q .number; place = q .place }; table = t } ≡
+              planUndone t b
+          undo-refused y = by-model _ (post .stop y ∙ form .fine z (decode t))
+
+          pub undo-done : q .number ≡ 0 → length ws ≡ 512 →
+              record { fault = record { number = 0; place = 0 }; table = record { count = q .count; rows = ws; marks = t .marks } } ≡
+              planUndone t b
+          undo-done y l =
+              ap (λ (u : Table). record { fault = record { number = 0; place = 0 }; table = u })
+              (sym (encode-decode (q .count) ws (t .marks) (omega (arith, post .few y)) (post .canonical y))) ∙
+              by-model _ (post .fine y ∙ form .fine z (decode t))

@@ -1,0 +1,157 @@
+use Rattle.undo.proofs.UndoLaws.{made-last, made-marked, made-kind, made-tag, made-parent}
+use Rattle.model.specs.Base.{any}
+use Rattle.model.specs.Table.{isThe}
+use Rattle.model.specs.Stored.{parentIn}
+use Rattle.model.specs.Undo.{sameParent}
+use Rattle.table.specs.Words.{linked}
+use borrow.Author.Tests.{not-true, not-false}
+use lib.ListN.{getD}
+use mathlib.Core.List.{map}
+use mathlib.Core.Path.{_≡_, sym, _∙_, ap}
+use Prim.Native.Nat.{ℕ, _+_, _-_, _/_, _%_}
+use native.Mathlib.Omega.{arith}
+use borrow.Author.Needs.{needs}
+use Rattle.undo.proofs.undoing.made_fits.Statement.{statement}
+use Rattle.undo.proofs.undoing.made_fits.Tie as tie
+
+is-last : (c : tie.Else1) → c .before .number-at .result + 1 ≡ c .before .before .before .before .before .args .count
+is-last c = search (c .if1 .left, needs)
+
+marked-by : (c : tie.After-is-marked) → any (isThe (c .before .before .number-at .result)) (map linked
+    (c .before .before .before .before .before .before .args .marks .now)) ≡ c .is-marked .result
+marked-by c =
+    let h : c .before .before .number-at .result + 1 - 1 ≡ c .before .before .number-at .result = omega arith in
+    sym (c .is-marked .ensures ∙ ap (λ (j : ℕ). any (isThe j) (map linked
+    (c .before .before .before .before .before .before .args .marks .now))) h)
+
+number-at-requires : tie.Need-number-at-requires
+number-at-requires c κs = omega (arith, c .before .before .before .pre .whole)
+
+add-if1 : tie.Need-add-if1
+add-if1 c = search needs
+
+returns : tie.Need-returns
+returns c =
+    sym (made-last (c .before .before .before .before .before .pre) (c .before .before .before .before .before .args .marks .now)
+    (c .before .number-at .ensures .0) (c .if1 .taken))
+
+add-is-marked : tie.Need-add-is-marked
+add-is-marked c = search needs
+
+cast-is-marked : tie.Need-cast-is-marked
+cast-is-marked c = search needs
+
+is-marked-requires : tie.Need-is-marked-requires
+is-marked-requires c κs = search needs
+
+returns-2 : tie.Need-returns-2
+returns-2 c =
+    sym (made-marked (c .before .before .before .before .before .before .before .pre)
+    (c .before .before .before .before .before .before .before .args .marks .now) (c .before .before .before .number-at .ensures .0)
+    (is-last (c .before .before)) (marked-by (c .before) ∙ c .if2 .taken))
+
+mul-w : tie.Need-mul-w
+mul-w c = search needs
+
+shared-slice-read-w : tie.Need-shared-slice-read-w
+shared-slice-read-w c = search needs
+
+shared-slice-read-same-kind : tie.Need-shared-slice-read-same-kind
+shared-slice-read-same-kind c = search needs
+
+same-kind-requires : tie.Need-same-kind-requires
+same-kind-requires c κs = search needs
+
+returns-3 : tie.Need-returns-3
+returns-3 c =
+    sym (made-kind (c .before .before .before .before .before .before .before .before .before .before .before .pre)
+    (c .before .before .before .before .before .before .before .before .before .before .before .args .marks .now)
+    (c .before .before .before .before .before .before .before .number-at .ensures .0) (is-last
+    (c .before .before .before .before .before .before)) (marked-by (c .before .before .before .before .before) ∙
+    c .before .before .before .before .if2 .left) (sym (c .before .same-kind .ensures) ∙ not-true (c .before .same-kind .result)
+    (c .if3 .taken)))
+
+tag-requires : tie.Need-tag-requires
+tag-requires c κs = search needs
+
+shared-slice-read-wide : tie.Need-shared-slice-read-wide
+shared-slice-read-wide c = search needs
+
+wide-requires : tie.Need-wide-requires
+wide-requires c κs = search needs
+
+returns-4 : tie.Need-returns-4
+returns-4 c =
+    sym (made-tag
+    (c .before .before .before .before .before .before .before .before .before .before .before .before .before .before .before .pre)
+    (c .before .before .before .before .before .before .before .before .before .before .before .before .before .before .before .args
+    .marks .now)
+    (c .before .before .before .before .before .before .before .before .before .before .before .number-at .ensures .0) (is-last
+    (c .before .before .before .before .before .before .before .before .before .before)) (marked-by
+    (c .before .before .before .before .before .before .before .before .before) ∙
+    c .before .before .before .before .before .before .before .before .if2 .left) (sym
+    (c .before .before .before .before .before .same-kind .ensures) ∙ not-false
+    (c .before .before .before .before .before .same-kind .result) (c .before .before .before .before .if3 .left)) (λ q. c .if4 .taken
+    (c .before .before .before .tag .ensures ∙ q ∙ sym (c .before .wide .ensures))))
+
+link-requires : tie.Need-link-requires
+link-requires c κs = search needs
+
+number-at-requires-2 : tie.Need-number-at-requires-2
+number-at-requires-2 c κs =
+    omega (
+      arith,
+      c .before .before .before .before .before .before .before .before .before .before .before .before .before .before .before .before
+          .pre .whole,
+    )
+
+same-parent-requires : tie.Need-same-parent-requires
+same-parent-requires c κs = search needs
+
+returns-5 : tie.Need-returns-5
+returns-5 c =
+    c .same-parent .ensures ∙ ap (λ (j : ℕ). sameParent (linked j) (parentIn (c .before .number-at2 .result)))
+    (c .before .before .link .ensures) ∙ ap (λ (j : ℕ). sameParent (linked (getD
+    (c .before .before .before .before .before .before .before .before .before .before .before .before .before .before .before .before
+    .before .before .args .rows .now)
+    (c .before .before .before .before .before .before .before .before .before .before .before .before .before .before .number-at .result)
+    0 / 4 % 1024)) (parentIn j)) (c .before .number-at2 .ensures .0) ∙ sym (made-parent
+    (c .before .before .before .before .before .before .before .before .before .before .before .before .before .before .before .before
+    .before .before .pre)
+    (c .before .before .before .before .before .before .before .before .before .before .before .before .before .before .before .before
+    .before .before .args .marks .now)
+    (c .before .before .before .before .before .before .before .before .before .before .before .before .before .before .number-at
+    .ensures .0)
+    (is-last (c .before .before .before .before .before .before .before .before .before .before .before .before .before)) (marked-by
+    (c .before .before .before .before .before .before .before .before .before .before .before .before) ∙
+    c .before .before .before .before .before .before .before .before .before .before .before .if2 .left) (sym
+    (c .before .before .before .before .before .before .before .before .same-kind .ensures) ∙ not-false
+    (c .before .before .before .before .before .before .before .before .same-kind .result)
+    (c .before .before .before .before .before .before .before .if3 .left)) (sym
+    (c .before .before .before .before .before .before .tag .ensures) ∙ search (c .before .before .before .if4 .left, needs) ∙
+    c .before .before .before .before .wide .ensures))
+
+pub made-fits-spec : {M : Type 1} → statement M
+made-fits-spec =
+    tie.close
+    (tie.spec
+    number-at-requires
+    add-if1
+    returns
+    add-is-marked
+    cast-is-marked
+    is-marked-requires
+    returns-2
+    mul-w
+    shared-slice-read-w
+    shared-slice-read-same-kind
+    same-kind-requires
+    returns-3
+    tag-requires
+    shared-slice-read-wide
+    wide-requires
+    returns-4
+    link-requires
+    number-at-requires-2
+    same-parent-requires
+    returns-5)

@@ -1,0 +1,112 @@
+use Rattle.undo.proofs.UndoLawsBack.{Backing, backing-start, backing-end, backing-at, backing-record, backing-refused, backing-again}
+use native.Mathlib.Omega.{arith}
+use borrow.Author.Needs.{needs}
+use Rattle.undo.proofs.undoing.undo_all.Statement.{statement}
+use Rattle.undo.proofs.undoing.undo_all.Tie as tie
+
+abbrev Inv-loop : tie.InvT-loop
+Inv-loop rows₀ marks count bytes places records left₀ k₀ rows left k = Backing rows₀ marks left₀ bytes places k₀ rows left k
+
+abbrev μ-loop : tie.MeasureT-loop
+μ-loop rows₀ marks count bytes places records left₀ k₀ rows left k = k
+
+loop-holds : tie.Need-loop-holds Inv-loop μ-loop
+loop-holds c = backing-start (c .before .before .before .before .pre) (c .before .before .before .before .args .marks .now)
+
+sub-k : tie.Need-sub-k Inv-loop μ-loop
+sub-k c = search needs
+
+mul-place : tie.Need-mul-place Inv-loop μ-loop
+mul-place c = search needs
+
+shared-slice-read-place : tie.Need-shared-slice-read-place Inv-loop μ-loop
+shared-slice-read-place c =
+    omega (
+      arith,
+      c .before .before .loop .inv .left,
+      c .before .before .before .before .before .before .before .pre .places,
+      c .before .before .before .before .before .before .before .pre .records,
+    )
+
+place-requires : tie.Need-place-requires Inv-loop μ-loop
+place-requires c κs = search needs
+
+sub-undo-record : tie.Need-sub-undo-record Inv-loop μ-loop
+sub-undo-record c =
+    backing-at (c .before .before .before .before .before .before .before .before .before .pre)
+    (c .before .before .before .before .before .before .before .before .before .args .marks .now)
+    (c .before .before .before .before .loop .inv) (c .before .before .before .loop-test .taken) (c .before .place .ensures)
+
+part-undo-record-start : tie.Need-part-undo-record-start Inv-loop μ-loop
+part-undo-record-start c =
+    backing-at (c .before .before .before .before .before .before .before .before .before .pre)
+    (c .before .before .before .before .before .before .before .before .before .args .marks .now)
+    (c .before .before .before .before .loop .inv) (c .before .before .before .loop-test .taken) (c .before .place .ensures)
+
+part-undo-record-end : tie.Need-part-undo-record-end Inv-loop μ-loop
+part-undo-record-end c = search needs
+
+undo-record-requires : tie.Need-undo-record-requires Inv-loop μ-loop
+undo-record-requires c κs =
+    backing-record (c .before .before .before .before .before .before .before .before .before .before .pre)
+    (c .before .before .before .before .before .before .before .before .before .before .args .marks .now)
+    (c .before .before .before .before .before .loop .inv) (c .before .before .before .before .loop-test .taken)
+    (c .before .before .place .ensures)
+
+same-length : tie.Need-same-length Inv-loop μ-loop
+same-length c = search needs
+
+returns : tie.Need-returns Inv-loop μ-loop
+returns c =
+    backing-refused
+    (c .before .before .before .before .before .before .before .before .before .before .before .before .before .before .before .pre)
+    (c .before .before .before .before .before .before .before .before .before .before .before .before .before .before .before .args
+    .marks .now)
+    (c .before .before .before .before .before .before .before .before .before .before .loop .inv)
+    (c .before .before .before .before .before .before .before .before .before .loop-test .taken)
+    (c .before .before .before .before .before .before .before .place .ensures) (c .before .before .before .before .undo-record .ensures)
+    (c .if1 .taken)
+
+loop-less : tie.Need-loop-less Inv-loop μ-loop
+loop-less c = search needs
+
+loop-again : tie.Need-loop-again Inv-loop μ-loop
+loop-again c =
+    backing-again
+    (c .before .before .before .before .before .before .before .before .before .before .before .before .before .before .before .pre)
+    (c .before .before .before .before .before .before .before .before .before .before .before .before .before .before .before .args
+    .marks .now)
+    (c .before .before .before .before .before .before .before .before .before .before .loop .inv)
+    (c .before .before .before .before .before .before .before .before .before .loop-test .taken)
+    (c .before .before .before .before .before .before .before .place .ensures) (c .before .before .before .before .undo-record .ensures)
+    (search (c .if1 .left, needs)) (c .before .before .before .before .undo-record .kept .0)
+
+same-length-2 : tie.Need-same-length-2 Inv-loop μ-loop
+same-length-2 c = search needs
+
+returns-2 : tie.Need-returns-2 Inv-loop μ-loop
+returns-2 c =
+    backing-end (c .before .before .before .before .before .before .pre)
+    (c .before .before .before .before .before .before .args .marks .now) (c .before .loop .inv) (omega (arith, c .loop-test .left))
+
+pub undo-all-spec : {M : Type 1} → statement M
+undo-all-spec =
+    tie.close
+    (tie.spec
+    Inv-loop
+    μ-loop
+    loop-holds
+    sub-k
+    mul-place
+    shared-slice-read-place
+    place-requires
+    sub-undo-record
+    part-undo-record-start
+    part-undo-record-end
+    undo-record-requires
+    same-length
+    returns
+    loop-less
+    loop-again
+    same-length-2
+    returns-2)

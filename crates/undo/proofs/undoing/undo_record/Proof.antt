@@ -1,0 +1,202 @@
+use Rattle.undo.proofs.UndoLaws.{size-low}
+use Rattle.undo.proofs.UndoLawsBack.{cut-pre, cut-refused, cut-row-low, cut-parent-low, cut-back, made-pre, made-refused, made-some}
+use Rattle.undo.proofs.UndoLawsBack.{made-back}
+use Rattle.model.specs.Undo.{cutFits, madeFits}
+use Rattle.table.specs.Words.{decodeParts}
+use Rattle.undo.specs.Undoing.{cutIn, madeIn}
+use borrow.Author.Tests.{not-true, not-false}
+use lib.ListN.{getD}
+use mathlib.Core.Bool.{true}
+use mathlib.Core.Path.{_≡_, sym, _∙_}
+use native.Mathlib.Omega.{arith}
+use borrow.Author.Needs.{needs}
+use Rattle.undo.proofs.undoing.undo_record.Statement.{statement}
+use Rattle.undo.proofs.undoing.undo_record.Tie as tie
+
+cut-fit : (c : tie.Else2) → cutFits (decodeParts (c .before .before .before .before .before .before .before .before .args .count)
+    (c .before .before .before .before .before .before .before .before .args .rows .now)
+    (c .before .before .before .before .before .before .before .before .args .marks .now)) (cutIn
+    (c .before .before .before .before .before .before .before .before .args .s .now)) ≡ true
+cut-fit c = sym (c .before .cut-fits .ensures) ∙ not-false (c .before .cut-fits .result) (c .if2 .left)
+
+made-fit : (c : tie.Else3) → madeFits (decodeParts (c .before .before .before .before .before .before .before .before .args .count)
+    (c .before .before .before .before .before .before .before .before .args .rows .now)
+    (c .before .before .before .before .before .before .before .before .args .marks .now)) (madeIn
+    (c .before .before .before .before .before .before .before .before .args .s .now)) ≡ true
+made-fit c = sym (c .before .made-fits .ensures) ∙ not-false (c .before .made-fits .result) (c .if3 .left)
+
+shared-slice-read-if1 : tie.Need-shared-slice-read-if1
+shared-slice-read-if1 c =
+    omega (arith, c .before .before .before .before .pre .whole, size-low (getD (c .before .before .before .before .args .s .now) 0 0))
+
+cut-fits-requires : tie.Need-cut-fits-requires
+cut-fits-requires c κs =
+    cut-pre (c .before .before .before .before .before .before .pre) (c .before .before .before .before .before .before .args .marks .now)
+    (c .before .if1 .taken)
+
+same-length : tie.Need-same-length
+same-length c = search needs
+
+returns : tie.Need-returns
+returns c =
+    cut-refused (c .before .before .before .before .before .before .before .before .pre)
+    (c .before .before .before .before .before .before .before .before .args .marks .now) (c .before .before .before .if1 .taken) (sym
+    (c .before .cut-fits .ensures) ∙ not-true (c .before .cut-fits .result) (c .if2 .taken))
+
+number-at-requires : tie.Need-number-at-requires
+number-at-requires c κs =
+    omega (
+      arith,
+      cut-pre (c .before .before .before .before .before .before .before .before .pre)
+          (c .before .before .before .before .before .before .before .before .args .marks .now) (c .before .before .before .if1 .taken)
+          .whole,
+    )
+
+number-at-requires-2 : tie.Need-number-at-requires-2
+number-at-requires-2 c κs =
+    omega (
+      arith,
+      cut-pre (c .before .before .before .before .before .before .before .before .before .pre)
+          (c .before .before .before .before .before .before .before .before .before .args .marks .now)
+          (c .before .before .before .before .if1 .taken) .whole,
+    )
+
+mul-relinked : tie.Need-mul-relinked
+mul-relinked c = omega (arith, c .before .number-at .ensures .1)
+
+slice-read-relinked : tie.Need-slice-read-relinked
+slice-read-relinked c =
+    omega (
+      arith,
+      c .before .before .number-at .ensures .0,
+      cut-row-low
+          (c .before .before .before .before .before .before .before .before .before .before .before .pre)
+          (c .before .before .before .before .before .before .before .before .before .before .before .args .marks .now)
+          (c .before .before .before .before .before .before .if1 .taken) (cut-fit (c .before .before .before)),
+      c .before .before .before .before .before .before .before .before .before .before .before .pre .rows,
+      c .before .before .before .before .before .before .before .before .before .before .before .pre .few,
+    )
+
+add-relinked : tie.Need-add-relinked
+add-relinked c = omega (arith, c .before .number-at2 .ensures .1)
+
+relinked-requires : tie.Need-relinked-requires
+relinked-requires c κs =
+    omega (
+      arith,
+      c .before .before .number-at .ensures .0,
+      c .before .number-at2 .ensures .0,
+      cut-row-low
+          (c .before .before .before .before .before .before .before .before .before .before .before .pre)
+          (c .before .before .before .before .before .before .before .before .before .before .before .args .marks .now)
+          (c .before .before .before .before .before .before .if1 .taken) (cut-fit (c .before .before .before)),
+      cut-parent-low
+          (c .before .before .before .before .before .before .before .before .before .before .before .pre)
+          (c .before .before .before .before .before .before .before .before .before .before .before .args .marks .now)
+          (c .before .before .before .before .before .before .if1 .taken) (cut-fit (c .before .before .before)),
+      c .before .before .before .before .before .before .before .before .before .before .before .pre .few,
+    )
+
+mul-rows : tie.Need-mul-rows
+mul-rows c = omega (arith, c .before .before .before .number-at .ensures .1)
+
+slice-write-rows : tie.Need-slice-write-rows
+slice-write-rows c =
+    omega (
+      arith,
+      c .before .before .before .number-at .ensures .0,
+      cut-row-low
+          (c .before .before .before .before .before .before .before .before .before .before .before .before .pre)
+          (c .before .before .before .before .before .before .before .before .before .before .before .before .args .marks .now)
+          (c .before .before .before .before .before .before .before .if1 .taken) (cut-fit (c .before .before .before .before)),
+      c .before .before .before .before .before .before .before .before .before .before .before .before .pre .rows,
+      c .before .before .before .before .before .before .before .before .before .before .before .before .pre .few,
+    )
+
+same-length-2 : tie.Need-same-length-2
+same-length-2 c = search needs
+
+returns-2 : tie.Need-returns-2
+returns-2 c =
+    cut-back (c .before .before .before .before .before .before .before .before .before .before .before .before .pre)
+    (c .before .before .before .before .before .before .before .before .before .before .before .before .args .marks .now)
+    (c .before .before .before .before .before .before .before .if1 .taken) (cut-fit (c .before .before .before .before))
+    (c .before .before .before .number-at .ensures .0) (c .before .before .number-at2 .ensures .0) (c .relinked .ensures)
+
+made-fits-requires : tie.Need-made-fits-requires
+made-fits-requires c κs =
+    made-pre (c .before .before .before .before .before .before .pre)
+    (c .before .before .before .before .before .before .args .marks .now) (c .before .if1 .left)
+
+same-length-3 : tie.Need-same-length-3
+same-length-3 c = search needs
+
+returns-3 : tie.Need-returns-3
+returns-3 c =
+    made-refused (c .before .before .before .before .before .before .before .before .pre)
+    (c .before .before .before .before .before .before .before .before .args .marks .now) (c .before .before .before .if1 .left) (sym
+    (c .before .made-fits .ensures) ∙ not-true (c .before .made-fits .result) (c .if3 .taken))
+
+sub-rows : tie.Need-sub-rows
+sub-rows c =
+    made-some (c .before .before .before .before .before .before .before .before .pre)
+    (c .before .before .before .before .before .before .before .before .args .marks .now) (c .before .before .before .if1 .left) (made-fit
+    (c))
+
+mul-rows-2 : tie.Need-mul-rows-2
+mul-rows-2 c = search needs
+
+slice-write-rows-2 : tie.Need-slice-write-rows-2
+slice-write-rows-2 c =
+    omega (
+      arith,
+      made-some (c .before .before .before .before .before .before .before .before .pre)
+          (c .before .before .before .before .before .before .before .before .args .marks .now) (c .before .before .before .if1 .left)
+          (made-fit
+          (c)),
+      c .before .before .before .before .before .before .before .before .pre .rows,
+      c .before .before .before .before .before .before .before .before .pre .few,
+    )
+
+sub-t24 : tie.Need-sub-t24
+sub-t24 c =
+    made-some (c .before .before .before .before .before .before .before .before .pre)
+    (c .before .before .before .before .before .before .before .before .args .marks .now) (c .before .before .before .if1 .left) (made-fit
+    (c))
+
+same-length-4 : tie.Need-same-length-4
+same-length-4 c = search needs
+
+returns-4 : tie.Need-returns-4
+returns-4 c =
+    made-back (c .before .before .before .before .before .before .before .before .pre)
+    (c .before .before .before .before .before .before .before .before .args .marks .now) (c .before .before .before .if1 .left) (made-fit
+    (c))
+
+pub undo-record-spec : {M : Type 1} → statement M
+undo-record-spec =
+    tie.close
+    (tie.spec
+    shared-slice-read-if1
+    cut-fits-requires
+    same-length
+    returns
+    number-at-requires
+    number-at-requires-2
+    mul-relinked
+    slice-read-relinked
+    add-relinked
+    relinked-requires
+    mul-rows
+    slice-write-rows
+    same-length-2
+    returns-2
+    made-fits-requires
+    same-length-3
+    returns-3
+    sub-rows
+    mul-rows-2
+    slice-write-rows-2
+    sub-t24
+    same-length-4
+    returns-4)

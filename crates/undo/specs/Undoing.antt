@@ -1,0 +1,94 @@
+-- What undo answers, for every input, and the contracts of its parts. Assumes nothing: these are definitions.
+use mathlib.Core.Path.{_≡_}
+use mathlib.Core.List.{List, [], _∷_}
+use Prim.Native.Nat.{ℕ, zero, suc, _≤_, _<_}
+use lib.Dec.{eqb}
+use lib.ListN.{length, getD, drop}
+use Rattle.model.specs.Base.{pick}
+use Rattle.model.specs.Refusal as refusal
+use Rattle.model.specs.Table as model
+use Rattle.model.specs.Stored.{wordAt, parentIn}
+use Rattle.model.specs.History.{Record, cutKind}
+use Rattle.model.specs.Undo.{historySize, recordIn, Placed, formFault, undoFits, undone, Undo, refused, back, undoAll, undo}
+use Rattle.table.specs.Words.{rowsOf, wordsOf, decode, decodeParts, fits}
+use Rattle.table.specs.Reading.{faultAt}
+use Rattle.table.specs.Calls.{faultOf, result}
+use Rattle.table.specs.declared.Table.{Table}
+use Rattle.table.specs.declared.TableResult.{TableResult}
+use Rattle.undo.specs.declared.undoing.FormEnd.{FormEnd}
+use Rattle.undo.specs.declared.undoing.BackEnd.{BackEnd}
+
+-- UNDO of a table handed in: 6 where it is ill formed; refused, the table is as it was
+abbrev pub asItWas : refusal.Fault → Table → TableResult
+asItWas f t = record { fault = faultOf f; table = t }
+
+abbrev pub undoneBy : Table → Undo → TableResult
+undoneBy t (refused f) = asItWas f t
+undoneBy t (back x) = result refusal.fine x
+
+abbrev pub planUndone : Table → (history : List ℕ) → TableResult
+planUndone t b = pick (fits t) (undoneBy t (undo (decode t) b)) (asItWas (refusal.linkAt 0) t)
+
+-- THE RECORD at the front, of a link cut and of a row made
+abbrev pub cutIn : (bytes : List ℕ) → Record
+cutIn b = record { kind = cutKind; row = wordAt b 1; tag = 0; parent = parentIn (wordAt b 3) }
+
+abbrev pub madeIn : (bytes : List ℕ) → Record
+madeIn b = record { kind = getD b 0 0; row = wordAt b 1; tag = getD b 3 0; parent = parentIn (wordAt b 4) }
+
+-- THE FORM of one record
+pub record FormPost (s : List ℕ) (n r : ℕ) : Type 0 where
+  pub fault : (i : ℕ) → formFault i n s ≡ faultAt r i
+  pub whole : r ≡ 0 → historySize (getD s 0 0) ≤ length s
+  pub few : r ≡ 0 → n < 2048
+
+-- the first n records by their places, in the order in which they are undone
+unfoldable pub undoing : (bytes places : List ℕ) → ℕ → List Placed
+undoing b m zero = []
+undoing b m (suc n) = record { at = getD m n 0; entry = recordIn (drop (getD m n 0) b) } ∷ undoing b m n
+
+-- each of them is whole
+abbrev pub Whole : (bytes places : List ℕ) → ℕ → Type 0
+Whole b m n =
+    (k : ℕ) → k < n → (getD m k 0 ≤ length b) × (historySize (getD (drop (getD m k 0) b) 0 0) ≤ length (drop (getD m k 0) b))
+
+pub record PlacesPost (b m : List ℕ) (r : FormEnd) : Type 0 where
+  pub fine : r .number ≡ 0 → (x : model.Table) → undoAll x (undoing b m (r .records)) ≡ undo x b
+  pub stop : (r .number ≡ 0 → ⊥) → (x : model.Table) → refused (refusal.fault (r .number) (r .place)) ≡ undo x b
+  pub whole : r .number ≡ 0 → Whole b m (r .records)
+  pub few : r .number ≡ 0 → r .records ≤ 2048
+
+-- THE FIT of one record of k bytes
+pub record FitPre (ws : List ℕ) (n : ℕ) (s : List ℕ) (k : ℕ) : Type 0 where
+  pub rows : length ws ≡ 512
+  pub few : n ≤ 512
+  pub whole : k ≤ length s
+
+-- UNDONE: one record
+pub record BackPre (ws : List ℕ) (n : ℕ) (s : List ℕ) : Type 0 where
+  pub rows : length ws ≡ 512
+  pub few : n ≤ 512
+  pub canonical : wordsOf (rowsOf n ws) ≡ ws
+  pub whole : historySize (getD s 0 0) ≤ length s
+
+pub record BackPost (ws ms : List ℕ) (n : ℕ) (s ws′ : List ℕ) (r : BackEnd) : Type 0 where
+  pub fit : undoFits (decodeParts n ws ms) (recordIn s) ≡ eqb (r .number) 0
+  pub link : (r .number ≡ 0 → ⊥) → r .number ≡ 6
+  pub table : r .number ≡ 0 → decodeParts (r .count) ws′ ms ≡ undone (decodeParts n ws ms) (recordIn s)
+  pub few : r .number ≡ 0 → r .count ≤ 512
+  pub canonical : r .number ≡ 0 → wordsOf (rowsOf (r .count) ws′) ≡ ws′
+
+-- and all of them
+pub record AllPre (ws : List ℕ) (n : ℕ) (b m : List ℕ) (k : ℕ) : Type 0 where
+  pub rows : length ws ≡ 512
+  pub few : n ≤ 512
+  pub canonical : wordsOf (rowsOf n ws) ≡ ws
+  pub places : length m ≡ 2048
+  pub records : k ≤ 2048
+  pub whole : Whole b m k
+
+pub record AllPost (ws ms : List ℕ) (n : ℕ) (b m : List ℕ) (k : ℕ) (ws′ : List ℕ) (r : BackEnd) : Type 0 where
+  pub fine : r .number ≡ 0 → back (decodeParts (r .count) ws′ ms) ≡ undoAll (decodeParts n ws ms) (undoing b m k)
+  pub stop : (r .number ≡ 0 → ⊥) → refused (refusal.fault (r .number) (r .place)) ≡ undoAll (decodeParts n ws ms) (undoing b m k)
+  pub few : r .number ≡ 0 → r .count ≤ 512
+  pub canonical : r .number ≡ 0 → wordsOf (rowsOf (r .count) ws′) ≡ ws′

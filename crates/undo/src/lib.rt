@@ -1,0 +1,67 @@
+// Takes a run back by its history.
+ghost use mathlib.Core.Path.{_≡_};
+ghost use Rattle.undo.specs.Undoing.{planUndone};
+use table::Fault;
+use table::Table;
+use table::TableResult;
+use table::fit;
+use updates::history;
+
+mod undoing;
+
+// Takes a run back by its history. An ill-formed table is 6; refused, the table is as it was.
+pub fn undo(table: Table, history: &[u8]) -> TableResult
+    ensures { λ r. ⌜ r ≡ planUndone table (now (history .entry)) ⌝ }
+{
+    let count = table.count;
+    if !fit::fits(count, &table.rows, &table.marks) {
+        return TableResult {
+            fault: Fault {
+                number: Fault::LINK,
+                place: 0,
+            },
+            table,
+        };
+    }
+    let mut places = [0u16; history::RECORDS];
+    let form = undoing::form(history, &mut places);
+    if form.number != 0 {
+        return TableResult {
+            fault: Fault {
+                number: form.number,
+                place: form.place,
+            },
+            table,
+        };
+    }
+    let mut rows = table.rows;
+    let back = undoing::undo_all(
+        &mut rows,
+        &table.marks,
+        count,
+        history,
+        &places,
+        form.records,
+    );
+    if back.number != 0 {
+        return TableResult {
+            fault: Fault {
+                number: back.number,
+                place: back.place,
+            },
+            table,
+        };
+    }
+    let marks = table.marks;
+    TableResult {
+        fault: Fault {
+            number: 0,
+            place: 0,
+        },
+        table: Table {
+            count: back.count,
+            rows,
+            marks,
+        },
+    }
+}

@@ -1,0 +1,263 @@
+// Undo: a history's form front to back, then its records back to front.
+ghost use mathlib.Core.Path.{_≡_};
+ghost use Prim.Native.Nat.{_+_, _%_, _<_, _≤_};
+ghost use lib.Dec.{eqb};
+ghost use lib.ListN.{length};
+ghost use Rattle.model.specs.Stored.{wordAt, parentIn};
+ghost use Rattle.model.specs.Undo.{historySize, sameBool, sameParent, madeFits, cutFits};
+ghost use Rattle.table.specs.Words.{linked, decodeParts};
+ghost use Rattle.undo.specs.Undoing.{madeIn, cutIn, FormPost, PlacesPost, FitPre, BackPre, BackPost, AllPre, AllPost};
+use table::Fault;
+use table::marks;
+use table::words;
+use updates::history;
+use updates::update;
+
+const NONE: usize = 0xFFFF;
+
+// The form's end: the refusal's number, or 0, and place; the records found.
+pub struct FormEnd {
+    pub number: u8,
+    pub place: usize,
+    pub records: usize,
+}
+
+// After a record is undone, or all are: the refusal's number, or 0, and place; rows left.
+pub struct BackEnd {
+    pub number: u8,
+    pub place: usize,
+    pub count: usize,
+}
+
+fn index(b: u8) -> usize
+    ensures { λ r. ⌜ r ≡ b ⌝ }
+    ensures { λ r. ⌜ r < 256 ⌝ }
+{
+    b as usize
+}
+
+fn wide(b: u8) -> u32
+    ensures { λ r. ⌜ r ≡ b ⌝ }
+{
+    b as u32
+}
+
+fn place(at: u16) -> usize
+    ensures { λ r. ⌜ r ≡ at ⌝ }
+{
+    at as usize
+}
+
+// The two-byte number at a place of the record.
+fn number_at(s: &[u8], at: usize) -> usize
+    requires { ⌜ at + 1 < length (now s) ⌝ }
+    ensures { λ r. ⌜ r ≡ wordAt (now (s .entry)) at ⌝ }
+    ensures { λ r. ⌜ r < 65536 ⌝ }
+{
+    index(s[at]) + 256 * index(s[at + 1])
+}
+
+// The bytes of a record of this kind.
+fn size(kind: u8) -> usize
+    ensures { λ r. ⌜ r ≡ historySize kind ⌝ }
+    ensures { λ r. ⌜ r ≤ 6 ⌝ }
+    ensures { λ r. ⌜ 5 ≤ r ⌝ }
+{
+    if kind == history::CUT {
+        return history::CUT_SIZE;
+    }
+    history::MADE_SIZE
+}
+
+// The refusal of the record at the front of s, past so many records, or 0: 1, 5, 2, 4.
+fn form_fault(s: &[u8], records: usize) -> u8
+    requires { ⌜ 0 < length (now s) ⌝ }
+    ensures { λ r. ⌜ FormPost (now (s .entry)) records r ⌝ }
+{
+    let kind = s[0];
+    if kind < history::ELEMENT {
+        return Fault::KIND;
+    }
+    if history::CUT < kind {
+        return Fault::KIND;
+    }
+    if history::RECORDS <= records {
+        return Fault::SIZE;
+    }
+    if s.len() < size(kind) {
+        return Fault::SHORT;
+    }
+    if kind == history::ELEMENT {
+        if s[3] == 0 {
+            return Fault::FIELD;
+        }
+    }
+    0
+}
+
+// The form of the whole history; the places of its records.
+pub fn form(bytes: &[u8], places: &mut [u16]) -> FormEnd
+    requires { ⌜ length (now places) ≡ 2048 ⌝ }
+    ensures { λ r. ⌜ PlacesPost (now (bytes .entry)) (now (places .exit)) r ⌝ }
+{
+    let mut at = 0;
+    let mut records = 0;
+    while at < bytes.len() {
+        let number = form_fault(&bytes[at..], records);
+        if number != 0 {
+            return FormEnd {
+                number,
+                place: at,
+                records,
+            };
+        }
+        places[records] = at as u16;
+        records += 1;
+        at += size(bytes[at]);
+    }
+    FormEnd {
+        number: 0,
+        place: 0,
+        records,
+    }
+}
+
+// A row's word and the kind of a record of a row made say the same.
+fn same_kind(w: u32, kind: u8) -> bool
+    ensures { λ r. ⌜ r ≡ sameBool (eqb (w % 4) 2) (eqb kind 66) ⌝ }
+{
+    if words::kind(w) == words::LEAF {
+        return kind == history::LEAF;
+    }
+    kind != history::LEAF
+}
+
+// A row's link and the number written for a parent say the same.
+fn same_parent(link: usize, number: usize) -> bool
+    requires { ⌜ number < 65536 ⌝ }
+    ensures { λ r. ⌜ r ≡ sameParent (linked link) (parentIn number) ⌝ }
+{
+    if number == NONE {
+        return link == 0;
+    }
+    link == number + 1
+}
+
+// The row made by the record s is the last, unmarked, and equal to it.
+fn made_fits(rows: &[u32], marks: &[u16], count: usize, s: &[u8]) -> bool
+    requires { ⌜ FitPre (now rows) count (now s) 6 ⌝ }
+    ensures { λ r. ⌜ r ≡ madeFits (decodeParts count (now (rows .entry)) (now (marks .entry))) (madeIn (now (s .entry))) ⌝ }
+{
+    let row = number_at(s, 1);
+    if row + 1 != count {
+        return false;
+    }
+    if marks::is_marked(marks, (row + 1) as u16) {
+        return false;
+    }
+    let w = rows[row];
+    if !same_kind(w, s[0]) {
+        return false;
+    }
+    if words::tag(w) != wide(s[3]) {
+        return false;
+    }
+    same_parent(words::link(w), number_at(s, 4))
+}
+
+// The row cut by the record s has no parent and no mark, and its old parent is a lower element.
+fn cut_fits(rows: &[u32], marks: &[u16], count: usize, s: &[u8]) -> bool
+    requires { ⌜ FitPre (now rows) count (now s) 5 ⌝ }
+    ensures { λ r. ⌜ r ≡ cutFits (decodeParts count (now (rows .entry)) (now (marks .entry))) (cutIn (now (s .entry))) ⌝ }
+{
+    let row = number_at(s, 1);
+    if count <= row {
+        return false;
+    }
+    if words::link(rows[row]) != 0 {
+        return false;
+    }
+    if marks::is_marked(marks, (row + 1) as u16) {
+        return false;
+    }
+    let parent = number_at(s, 3);
+    if parent == NONE {
+        return false;
+    }
+    if row <= parent {
+        return false;
+    }
+    words::kind(rows[parent]) != words::LEAF
+}
+
+// The record s undone: the link is back, or the last row is gone.
+fn undo_record(rows: &mut [u32], marks: &[u16], count: usize, s: &[u8]) -> BackEnd
+    requires { ⌜ BackPre (now rows) count (now s) ⌝ }
+    ensures { λ r. ⌜ BackPost (now (rows .entry)) (now (marks .entry)) count (now (s .entry)) (now (rows .exit)) r ⌝ }
+{
+    if s[0] == history::CUT {
+        if !cut_fits(rows, marks, count, s) {
+            return BackEnd {
+                number: Fault::LINK,
+                place: 0,
+                count,
+            };
+        }
+        let row = number_at(s, 1);
+        let parent = number_at(s, 3);
+        rows[row] = update::relinked(rows[row], parent + 1);
+        return BackEnd {
+            number: 0,
+            place: 0,
+            count,
+        };
+    }
+    if !made_fits(rows, marks, count, s) {
+        return BackEnd {
+            number: Fault::LINK,
+            place: 0,
+            count,
+        };
+    }
+    rows[count - 1] = 0;
+    BackEnd {
+        number: 0,
+        place: 0,
+        count: count - 1,
+    }
+}
+
+// Every record undone, the last first.
+pub fn undo_all(
+    rows: &mut [u32],
+    marks: &[u16],
+    count: usize,
+    bytes: &[u8],
+    places: &[u16],
+    records: usize,
+) -> BackEnd
+    requires { ⌜ AllPre (now rows) count (now bytes) (now places) records ⌝ }
+    ensures { λ r. ⌜ AllPost (now (rows .entry)) (now (marks .entry)) count (now (bytes .entry)) (now (places .entry)) records
+        (now (rows .exit)) r ⌝ }
+{
+    let mut left = count;
+    let mut k = records;
+    while 0 < k {
+        k -= 1;
+        let at = place(places[k]);
+        let step = undo_record(rows, marks, left, &bytes[at..]);
+        if step.number != 0 {
+            return BackEnd {
+                number: step.number,
+                place: at,
+                count: left,
+            };
+        }
+        left = step.count;
+    }
+    BackEnd {
+        number: 0,
+        place: 0,
+        count: left,
+    }
+}

@@ -1,0 +1,118 @@
+-- Records written and read back: the bytes of the records read are the bytes, and a record appended is one record more.
+use mathlib.Core.Path.{_≡_, refl, ap, sym, _∙_}
+use mathlib.Core.Bool.{true, false}
+use mathlib.Core.List.{List, [], _∷_, _++_, append-nil, append-assoc}
+use Prim.Native.Nat.{ℕ, zero, suc, _+_, _-_, _/_, _%_, _≤_, _<_}
+use native.Mathlib.Omega.{arith}
+use lib.ListN.{length, take, drop, set, length-append}
+use lib.Seq.{drop-at, take-at, drop-drop, sets-eq, length-take-le}
+use borrow.Author.Tests.{ne-eqb}
+use Rattle.model.specs.Base.{pick}
+use Rattle.model.specs.Table as model
+use Rattle.model.specs.Stored.{wordBytes, parentBytes}
+use Rattle.model.specs.History.{Record, recordBytes, historyBytes}
+use Rattle.model.specs.Run.{made}
+use Rattle.model.specs.Undo.{historySize}
+use Rattle.model.proofs.FormLaws.{IsInRange, AllInRange, andAlso, allInRange-snoc, length-recordBytes, recordIn-back}
+use Rattle.model.proofs.HistoryLaws.{times, times-snoc, isCut, isCut-made}
+use Rattle.table.specs.Words.{linked, rowOf}
+use Rattle.table.specs.Writing.{over}
+use Rattle.updates.specs.State.{recordsFrom, recordsIn, Recorded}
+use Rattle.updates.specs.Updating.{madeKind, sixBytes}
+
+-- BYTES of a record
+pub put-six : (o : List ℕ) (i a b c d e f : ℕ) → i + 6 ≤ length o →
+    set (set (set (set (set (set o i a) (i + 1) b) (i + 2) c) (i + 3) d) (i + 4) e) (i + 5) f ≡ over i (a ∷ b ∷ c ∷ d ∷ e ∷ f ∷ []) o
+put-six o i a b c d e f h =
+    let e₁ : i + 1 ≡ suc i = omega arith in
+    let e₂ : i + 2 ≡ suc (suc i) = omega arith in
+    let e₃ : i + 3 ≡ suc (suc (suc i)) = omega arith in
+    let e₄ : i + 4 ≡ suc (suc (suc (suc i))) = omega arith in
+    let e₅ : i + 5 ≡ suc (suc (suc (suc (suc i)))) = omega arith in
+    rw (e₁, e₂, e₃, e₄, e₅) (sets-eq (a ∷ b ∷ c ∷ d ∷ e ∷ f ∷ []) o i h)
+
+pub put-five : (o : List ℕ) (i a b c d e : ℕ) → i + 5 ≤ length o →
+    set (set (set (set (set o i a) (i + 1) b) (i + 2) c) (i + 3) d) (i + 4) e ≡ over i (a ∷ b ∷ c ∷ d ∷ e ∷ []) o
+put-five o i a b c d e h =
+    let e₁ : i + 1 ≡ suc i = omega arith in
+    let e₂ : i + 2 ≡ suc (suc i) = omega arith in
+    let e₃ : i + 3 ≡ suc (suc (suc i)) = omega arith in
+    let e₄ : i + 4 ≡ suc (suc (suc (suc i))) = omega arith in
+    rw (e₁, e₂, e₃, e₄) (sets-eq (a ∷ b ∷ c ∷ d ∷ e ∷ []) o i h)
+
+made-bytes : (r : model.Row) (i : ℕ) →
+    recordBytes (made r i) ≡ (pick (r .isLeaf) 66 65 ∷ wordBytes i) ++ (r .tag ∷ parentBytes (r .parent))
+made-bytes r i = rw (isCut-made r i)
+
+pub made-six : (w i k t p : ℕ) → k ≡ madeKind w → t ≡ w / 4096 → wordBytes p ≡ parentBytes (linked (w / 4 % 1024)) →
+    sixBytes k i t p ≡ recordBytes (made (rowOf w) i)
+made-six w i k t p e f g =
+    ap (λ (l : List ℕ). (k ∷ wordBytes i) ++ (t ∷ l)) g ∙
+    ap (λ (j : ℕ). (j ∷ wordBytes i) ++ (t ∷ parentBytes (linked (w / 4 % 1024)))) e ∙
+    ap (λ (j : ℕ). (madeKind w ∷ wordBytes i) ++ (j ∷ parentBytes (linked (w / 4 % 1024)))) f ∙ sym (made-bytes (rowOf w) i)
+
+-- RECORDS written and read back
+recordsFrom-step : (k : ℕ) (r : Record) (c : List ℕ) → IsInRange r → recordsFrom (suc k) (recordBytes r ++ c) ≡ r ∷ recordsFrom k c
+unfolding recordsFrom
+recordsFrom-step k r c f =
+    let l : length (recordBytes r ++ c) ≡ 0 → ⊥ = λ e. omega arith in
+    rw (ne-eqb (length (recordBytes r ++ c)) 0 l)
+    (ap (λ (q : Record). q ∷ recordsFrom k (drop (historySize (r .kind)) (recordBytes r ++ c))) (recordIn-back r f c) ∙
+    ap (λ (b : List ℕ). r ∷ recordsFrom k b) (drop-at (recordBytes r) c (historySize (r .kind)) (length-recordBytes r)))
+
+recordsFrom-bytes : (k : ℕ) (rs : List Record) → AllInRange rs → length (historyBytes rs) ≤ k → recordsFrom k (historyBytes rs) ≡ rs
+unfolding recordsFrom historyBytes
+recordsFrom-bytes zero [] a h = refl
+recordsFrom-bytes (suc k) [] a h = refl
+recordsFrom-bytes zero (r ∷ rs) a h = absurd (omega arith)
+recordsFrom-bytes (suc k) (r ∷ rs) (andAlso f a) h =
+    recordsFrom-step k r (historyBytes rs) f ∙
+    ap (λ (qs : List Record). r ∷ qs) (recordsFrom-bytes k rs a (omega (arith, length-append (recordBytes r) (historyBytes rs))))
+
+pub recordsIn-bytes : (rs : List Record) → AllInRange rs → recordsIn (historyBytes rs) ≡ rs
+recordsIn-bytes rs a = recordsFrom-bytes (length (historyBytes rs)) rs a (omega arith)
+
+historyBytes-snoc : (rs : List Record) (r : Record) → historyBytes (rs ++ (r ∷ [])) ≡ historyBytes rs ++ recordBytes r
+unfolding historyBytes
+historyBytes-snoc [] r = append-nil (recordBytes r)
+historyBytes-snoc (q ∷ rs) r =
+    ap (λ (b : List ℕ). recordBytes q ++ b) (historyBytes-snoc rs r) ∙ sym (append-assoc (recordBytes q) (historyBytes rs) (recordBytes r))
+
+-- ONE RECORD MORE
+module _ (b : List ℕ) (n c : ℕ) (h : Recorded b n c) (r : Record) (f : IsInRange r) where
+  grown-bytes : b ++ recordBytes r ≡ historyBytes (recordsIn b ++ (r ∷ []))
+  grown-bytes = sym (historyBytes-snoc (recordsIn b) r ∙ ap (λ (l : List ℕ). l ++ recordBytes r) (h .bytes))
+
+  pub recordsIn-push : recordsIn (b ++ recordBytes r) ≡ recordsIn b ++ (r ∷ [])
+  recordsIn-push = ap recordsIn grown-bytes ∙ recordsIn-bytes (recordsIn b ++ (r ∷ [])) (allInRange-snoc (h .ranges) f)
+
+  recorded-more : (m d : ℕ) → m + d ≡ n + c + 1 → c + pick (isCut r) 1 0 ≡ d → n + c < 2048 → Recorded (b ++ recordBytes r) m d
+  recorded-more m d e g l =
+      record {
+        ranges = rw recordsIn-push (allInRange-snoc (h .ranges) f);
+        bytes = ap historyBytes recordsIn-push ∙ sym grown-bytes;
+        records = ap length recordsIn-push ∙ omega (arith, length-append (recordsIn b) (r ∷ []), h .records);
+        cuts = ap (times isCut) recordsIn-push ∙ omega (arith, times-snoc isCut (recordsIn b) r, h .cuts);
+        limit = omega arith;
+      }
+
+  pub recorded-made : isCut r ≡ false → n + c < 2048 → Recorded (b ++ recordBytes r) (n + 1) c
+  recorded-made e l = recorded-more (n + 1) c (omega arith) (rw e (omega arith)) l
+
+  pub recorded-cut : isCut r ≡ true → n + c < 2048 → Recorded (b ++ recordBytes r) n (c + 1)
+  recorded-cut e l = recorded-more n (c + 1) (omega arith) (rw e (omega arith)) l
+
+-- in its area
+module _ (h : List ℕ) (n : ℕ) (b : List ℕ) (room : n + length b ≤ length h) where
+  front : length (take n h ++ b) ≡ n + length b
+  front = omega (arith, length-append (take n h) b, length-take-le n h (omega arith))
+
+  pub take-over : take (n + length b) (over n b h) ≡ take n h ++ b
+  take-over = take-at (take n h ++ b) (drop (n + length b) h) (n + length b) front
+
+  pub drop-over : (k : ℕ) → n + length b ≤ k → drop k (over n b h) ≡ drop k h
+  drop-over k l =
+      let e : k ≡ n + length b + (k - (n + length b)) = omega arith in
+      ap (λ (j : ℕ). drop j (over n b h)) e ∙ sym (drop-drop (k - (n + length b)) (n + length b) (over n b h)) ∙
+      ap (drop (k - (n + length b))) (drop-at (take n h ++ b) (drop (n + length b) h) (n + length b) front) ∙
+      drop-drop (k - (n + length b)) (n + length b) h ∙ ap (λ (j : ℕ). drop j h) (sym e)

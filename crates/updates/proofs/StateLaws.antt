@@ -1,0 +1,159 @@
+-- What is held, and how it goes on: the start, a record appended, a word set; updates one after the other, and refused.
+use mathlib.Core.Path.{_≡_, refl, ap, sym, _∙_}
+use mathlib.Core.Bool.{true}
+use mathlib.Core.List.{List, [], _∷_, _++_, map}
+use mathlib.Core.Option.{Option·none-ne-some}
+use Prim.Native.Nat.{ℕ, zero, suc, _+_, _*_, _-_, _/_, _%_, _≤_, _<_}
+use native.Mathlib.Omega.{arith}
+use lib.Dec.{eqb}
+use lib.ListN.{length, getD, take, drop, set, replicate, length-map, length-set, List·getD-append}
+use lib.Seq.{set-append-left, take-set-lt}
+use borrow.Author.Tests.{eq-eqb, ne-eqb, eqb-true}
+use Rattle.model.specs.Refusal.{fault}
+use Rattle.model.specs.Table as model
+use Rattle.model.specs.History.{Record, recordBytes, historyBytes}
+use Rattle.model.specs.Run.{State, state, Out, stop, gives}
+use Rattle.model.proofs.BoolLaws.{pick-true, pick-false, by-cases}
+use Rattle.model.proofs.TableLaws.{Tree}
+use Rattle.model.proofs.FormLaws.{IsInRange, noneYet}
+use Rattle.model.proofs.HistoryLaws.{times}
+use Rattle.table.specs.Words.{linkOf, linked, wordOf, rowOf, rowsOf, wordsOf, isRowWord, decodeParts, partsFit}
+use Rattle.table.specs.Writing.{over}
+use Rattle.table.proofs.WordLaws.{wordOf-rowOf, count-decode, rowAt-decode, Canonical}
+use Rattle.table.proofs.ReadLaws.{map-set}
+use Rattle.table.proofs.WriteLaws.{length-over}
+use Rattle.table.proofs.CallLaws.{fits-at}
+use Rattle.updates.specs.State.{recordsFrom, recordsIn, started, stopped, stateOf, outcome, Held, After, Updated}
+use Rattle.updates.specs.declared.state.Progress.{Progress}
+use Rattle.updates.proofs.HistoryLaws.{recordsIn-push, take-over, drop-over}
+
+-- WORDS: each word in use is a row's
+module _ (n : ℕ) (ws : List ℕ) (canonical : Canonical n ws) (within : n ≤ length ws) (i : ℕ) (l : i < n) where
+  word-back : wordOf (rowOf (getD ws i 0)) ≡ getD ws i 0
+  word-back =
+      let k : length (rowsOf n ws) ≡ n = count-decode n ws [] within in
+      let m : length (map wordOf (rowsOf n ws)) ≡ n = length-map (rowsOf n ws) wordOf ∙ k in
+      sym (ap (λ (v : List ℕ). getD v i 0) (sym canonical) ∙
+      List·getD-append (map wordOf (rowsOf n ws)) (replicate (512 - length (rowsOf n ws)) 0) 0 i (omega arith) ∙
+      getD-word (rowsOf n ws) i (omega arith) ∙ ap wordOf (rowAt-decode n ws [] within i l))
+    where
+      getD-word : (rs : List model.Row) (j : ℕ) → j < length rs → getD (map wordOf rs) j 0 ≡ wordOf (getD rs j model.noRow)
+      getD-word [] j h = absurd (omega arith)
+      getD-word (r ∷ rs) zero h = refl
+      getD-word (r ∷ rs) (suc j) h = getD-word rs j (omega arith)
+
+  pub row-word : isRowWord (getD ws i 0) ≡ true
+  row-word = by-cases (eqb (getD ws i 0 % 4) 2) (λ e. kind (eqb-true (getD ws i 0 % 4) 2 e)) (λ e. kind′ (rw e at word-back))
+    where
+      kind : getD ws i 0 % 4 ≡ 2 → isRowWord (getD ws i 0) ≡ true
+      kind e = rw e
+
+      kind′ : 1 + 4 * linkOf (linked (getD ws i 0 / 4 % 1024)) + 4096 * (getD ws i 0 / 4096) ≡ getD ws i 0 → isRowWord (getD ws i 0) ≡ true
+      kind′ e = let k : getD ws i 0 % 4 ≡ 1 = omega arith in rw k
+
+  -- a word set is a row set
+  module _ (w : ℕ) where
+    pub rowsOf-set : rowsOf n (set ws i w) ≡ set (rowsOf n ws) i (rowOf w)
+    rowsOf-set = ap (map rowOf) (take-set-lt n ws i w l) ∙ map-set rowOf (take n ws) i w
+
+    pub canonical-set : isRowWord w ≡ true → Canonical n (set ws i w)
+    canonical-set h =
+        let k : length (rowsOf n ws) ≡ n = count-decode n ws [] within in
+        let m : length (map wordOf (rowsOf n ws)) ≡ n = length-map (rowsOf n ws) wordOf ∙ k in
+        ap wordsOf rowsOf-set ∙
+        ap (λ (v : List ℕ). v ++ replicate (512 - length (set (rowsOf n ws) i (rowOf w))) 0)
+        (map-set wordOf (rowsOf n ws) i (rowOf w) ∙ ap (set (map wordOf (rowsOf n ws)) i) (wordOf-rowOf w h)) ∙
+        ap (λ (j : ℕ). set (map wordOf (rowsOf n ws)) i w ++ replicate (512 - j) 0) (length-set (rowsOf n ws) i (rowOf w)) ∙
+        sym (set-append-left (map wordOf (rowsOf n ws)) (replicate (512 - length (rowsOf n ws)) 0) i w (omega arith)) ∙
+        ap (λ (v : List ℕ). set v i w) canonical
+
+-- A RECORD APPENDED to what is held
+module _ {ws h : List ℕ} {p : Progress} (held : Held ws h p) (r : Record) (n : ℕ) (size : length (recordBytes r) ≡ n) (small : n ≤ 6)
+    (m : p .made + p .cut < 2048) where
+  pub append-room : p .bytes + n ≤ length h
+  append-room = omega (arith, held .size, held .area)
+
+  room : p .bytes + length (recordBytes r) ≤ length h
+  room = omega (arith, append-room, size)
+
+  pub append-area : length (over (p .bytes) (recordBytes r) h) ≡ length h
+  append-area = length-over (p .bytes) (recordBytes r) h room
+
+  pub append-rest : (k : ℕ) → p .bytes + n ≤ k → drop k (over (p .bytes) (recordBytes r) h) ≡ drop k h
+  append-rest k g = drop-over h (p .bytes) (recordBytes r) room k (omega (arith, size))
+
+  pub append-written : take (p .bytes + n) (over (p .bytes) (recordBytes r) h) ≡ take (p .bytes) h ++ recordBytes r
+  append-written =
+      ap (λ (j : ℕ). take (p .bytes + j) (over (p .bytes) (recordBytes r) h)) (sym size) ∙ take-over h (p .bytes) (recordBytes r) room
+
+  pub append-records : IsInRange r →
+      recordsIn (take (p .bytes + n) (over (p .bytes) (recordBytes r) h)) ≡ recordsIn (take (p .bytes) h) ++ (r ∷ [])
+  append-records f = ap recordsIn append-written ∙ recordsIn-push (take (p .bytes) h) (p .made) (p .cut) (held .history) r f
+
+-- THE START on a table that fits, with an empty history
+tree-rows : (n : ℕ) (ws ms : List ℕ) → Tree (decodeParts n ws ms) → Tree (decodeParts n ws [])
+tree-rows n ws ms t =
+    record {
+      tags = t .tags;
+      parents = t .parents;
+      roots = λ d i e. absurd (Option·none-ne-some i e);
+      once = λ d e i p q. absurd (Option·none-ne-some i p);
+    }
+
+pub held-start : (n : ℕ) (ws ms h : List ℕ) → partsFit n ws ms ≡ true → length ws ≡ 512 → 12288 ≤ length h → Held ws h (started n)
+unfolding recordsFrom historyBytes times
+held-start n ws ms h f l a =
+    let k = fits-at n ws ms f in
+    record {
+      fine = refl;
+      rows = l;
+      area = a;
+      few = k .few;
+      canonical = k .canonical l;
+      tree = tree-rows n ws ms (k .well .tree);
+      size = omega arith;
+      history = record { ranges = noneYet; bytes = refl; records = refl; cuts = refl; limit = omega arith };
+    }
+
+pub state-start : (n : ℕ) (ws ms h : List ℕ) → stateOf ws ms h (started n) ≡ state (decodeParts n ws ms) []
+unfolding recordsFrom
+state-start n ws ms h = refl
+
+-- ONE AFTER THE OTHER
+pub after-self : {ws h : List ℕ} {p : Progress} → Held ws h p → After ws h p ws h p
+after-self a =
+    record { held = a; rows = omega arith; bytes = omega arith; area = refl; rest = λ k l. refl }
+
+pub after-then : {ws₀ h₀ : List ℕ} {p₀ : Progress} {ws h : List ℕ} {p : Progress} {ws′ h′ : List ℕ} {r : Progress} →
+    After ws₀ h₀ p₀ ws h p → After ws h p ws′ h′ r → After ws₀ h₀ p₀ ws′ h′ r
+after-then {p = p} a b =
+    record {
+      held = b .held;
+      rows = omega (arith, a .rows, b .rows);
+      bytes = omega (arith, a .bytes, b .bytes);
+      area = b .area ∙ a .area;
+      rest = λ k l. let g : p .bytes ≤ k = omega (arith, b .bytes) in b .rest k l ∙ a .rest k g;
+    }
+
+-- what is held, as a number of the model
+pub held-count : {ws h : List ℕ} {p : Progress} → Held ws h p → (ms : List ℕ) → model.count (decodeParts (p .count) ws ms) ≡ p .count
+held-count {ws} {h} {p} held ms = count-decode (p .count) ws ms (omega (arith, held .few, held .rows))
+
+-- WHAT AN OUTCOME IS: a value and a state, or a refusal
+pub outcome-gives : (z : ℕ) (v ws ms h : List ℕ) (p : Progress) → p .number ≡ 0 → outcome z v ws ms h p ≡ gives v (stateOf ws ms h p)
+outcome-gives z v ws ms h p e = pick-true (eqb (p .number) 0) _ _ (eq-eqb (p .number) 0 e)
+
+pub outcome-stop : (z : ℕ) (v ws ms h : List ℕ) (p : Progress) → (p .number ≡ 0 → ⊥) → outcome z v ws ms h p ≡ stop (fault (p .number) z)
+outcome-stop z v ws ms h p e = pick-false (eqb (p .number) 0) _ _ (ne-eqb (p .number) 0 e)
+
+-- REFUSED, the areas may be anything
+module _ {f : ℕ → State → Out} {v ws h : List ℕ} {p : Progress} {ws′ h′ : List ℕ} {r : Progress} where
+  pub updated-stopped : (n : ℕ) → r ≡ stopped p (suc n) → ((z : ℕ) (ms : List ℕ) → stop (fault (suc n) z) ≡ f z (stateOf ws ms h p)) →
+      Updated f v ws h p ws′ h′ r
+  updated-stopped n e g =
+      let k : r .number ≡ suc n = ap (λ (q : Progress). q .number) e in
+      let y : r .number ≡ 0 → ⊥ = λ q. omega arith in
+      record {
+        same = λ z ms. outcome-stop z v ws′ ms h′ r y ∙ ap (λ (j : ℕ). stop (fault j z)) k ∙ g z ms;
+        after = λ q. absurd (y q);
+      }

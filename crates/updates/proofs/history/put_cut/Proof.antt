@@ -1,0 +1,74 @@
+use Rattle.updates.proofs.HistoryLaws.{put-five}
+use lib.ListN.{length-set}
+use Prim.Native.Nat.{_/_, _%_}
+use native.Mathlib.Omega.{arith}
+use borrow.Author.Needs.{needs}
+use Rattle.updates.proofs.history.put_cut.Statement.{statement}
+use Rattle.updates.proofs.history.put_cut.Tie as tie
+
+slice-write-history : tie.Need-slice-write-history
+slice-write-history c = search needs
+
+cast-history : tie.Need-cast-history
+cast-history c = search needs
+
+add-history : tie.Need-add-history
+add-history c = search needs
+
+slice-write-history-2 : tie.Need-slice-write-history-2
+slice-write-history-2 c = simp length-set (omega (arith, c .pre .0))
+
+cast-history-2 : tie.Need-cast-history-2
+cast-history-2 c = search needs
+
+add-history-2 : tie.Need-add-history-2
+add-history-2 c = search needs
+
+slice-write-history-3 : tie.Need-slice-write-history-3
+slice-write-history-3 c = simp length-set (omega (arith, c .pre .0))
+
+cast-history-3 : tie.Need-cast-history-3
+cast-history-3 c = search needs
+
+add-history-3 : tie.Need-add-history-3
+add-history-3 c = search needs
+
+slice-write-history-4 : tie.Need-slice-write-history-4
+slice-write-history-4 c = simp length-set (omega (arith, c .pre .0))
+
+cast-history-4 : tie.Need-cast-history-4
+cast-history-4 c = search needs
+
+add-history-4 : tie.Need-add-history-4
+add-history-4 c = search needs
+
+slice-write-history-5 : tie.Need-slice-write-history-5
+slice-write-history-5 c = simp length-set (omega (arith, c .pre .0))
+
+same-length : tie.Need-same-length
+same-length c = search needs
+
+returns : tie.Need-returns
+returns c =
+    put-five (c .args .history .now) (c .args .at) 67 (c .args .row % 256) (c .args .row / 256) (c .args .parent % 256) (c .args .parent /
+    256) (c .pre .0)
+
+pub put-cut-spec : {M : Type 1} → statement M
+put-cut-spec =
+    tie.close
+    (tie.spec
+    slice-write-history
+    cast-history
+    add-history
+    slice-write-history-2
+    cast-history-2
+    add-history-2
+    slice-write-history-3
+    cast-history-3
+    add-history-3
+    slice-write-history-4
+    cast-history-4
+    add-history-4
+    slice-write-history-5
+    same-length
+    returns)

@@ -1,0 +1,56 @@
+use Rattle.model.specs.Stored.{parentBytes}
+use Rattle.table.specs.Words.{linked}
+use Rattle.updates.proofs.HistoryLaws.{made-six}
+use Rattle.table.specs.Writing.{over}
+use mathlib.Core.List.{List}
+use mathlib.Core.Path.{ap, _∙_}
+use Prim.Native.Nat.{ℕ}
+use borrow.Author.Needs.{needs}
+use Rattle.updates.proofs.history.put_made.Statement.{statement}
+use Rattle.updates.proofs.history.put_made.Tie as tie
+
+link-requires : tie.Need-link-requires
+link-requires c κs = search needs
+
+parent-requires : tie.Need-parent-requires
+parent-requires c κs = search needs
+
+tag-requires : tie.Need-tag-requires
+tag-requires c κs = search needs
+
+cast-tag : tie.Need-cast-tag
+cast-tag c = search needs
+
+made-kind-requires : tie.Need-made-kind-requires
+made-kind-requires c κs = search needs
+
+put-six-requires : tie.Need-put-six-requires
+put-six-requires c κs = search needs
+
+same-length : tie.Need-same-length
+same-length c = search needs
+
+returns : tie.Need-returns
+returns c =
+    c .before .before .put-six .ensures ∙ ap (λ (b : List ℕ). over
+    (c .before .before .before .before .before .before .before .before .before .args .at) b
+    (c .before .before .before .before .before .before .before .before .before .args .history .now)) (made-six
+    (c .before .before .before .before .before .before .before .before .before .args .w)
+    (c .before .before .before .before .before .before .before .before .before .args .row) (c .before .before .before .made-kind .result)
+    (c .before .before .before .before .before .tag .result) (c .before .before .before .before .before .before .parent .result)
+    (c .before .before .before .made-kind .ensures) (c .before .before .before .before .before .tag .ensures)
+    (c .before .before .before .before .before .before .parent .ensures .0 ∙ ap (λ (j : ℕ). parentBytes (linked j))
+    (c .before .before .before .before .before .before .before .link .ensures)))
+
+pub put-made-spec : {M : Type 1} → statement M
+put-made-spec =
+    tie.close
+    (tie.spec
+    link-requires
+    parent-requires
+    tag-requires
+    cast-tag
+    made-kind-requires
+    put-six-requires
+    same-length
+    returns)

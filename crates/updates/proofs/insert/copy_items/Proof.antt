@@ -1,0 +1,113 @@
+use Rattle.updates.proofs.InsertLawsItems.{Inserting, inserting-start, inserting-item, inserting-end, inserting-refused, inserting-again}
+use lib.ListN.{length}
+use mathlib.Core.Path.{_∙_}
+use Prim.Native.Nat.{_-_}
+use native.Mathlib.Omega.{arith}
+use borrow.Author.Needs.{needs}
+use Rattle.updates.proofs.insert.copy_items.Statement.{statement}
+use Rattle.updates.proofs.insert.copy_items.Tie as tie
+
+abbrev Inv-loop : tie.InvT-loop
+Inv-loop rows₀ history₀ map₀ items target old now₀ k₀ rows history map now k = Inserting rows₀ history₀ now₀ items target rows history map
+    now k
+
+abbrev μ-loop : tie.MeasureT-loop
+μ-loop rows₀ history₀ map₀ items target old now₀ k₀ rows history map now k = length items - k
+
+loop-holds : tie.Need-loop-holds Inv-loop μ-loop
+loop-holds c = inserting-start (c .before .before .before .before .pre)
+
+mul-index : tie.Need-mul-index Inv-loop μ-loop
+mul-index c = search needs
+
+shared-slice-read-index : tie.Need-shared-slice-read-index Inv-loop μ-loop
+shared-slice-read-index c = search needs
+
+index-requires : tie.Need-index-requires Inv-loop μ-loop
+index-requires c κs = search needs
+
+copy-item-requires : tie.Need-copy-item-requires Inv-loop μ-loop
+copy-item-requires c κs =
+    inserting-item (c .before .before .before .before .before .before .before .before .before .before .before .pre)
+    (c .before .before .before .before .before .before .loop .inv) (c .before .before .before .before .before .loop-test .taken)
+    (c .index .ensures .0)
+
+same-length : tie.Need-same-length Inv-loop μ-loop
+same-length c = search needs
+
+same-length-2 : tie.Need-same-length-2 Inv-loop μ-loop
+same-length-2 c = search needs
+
+same-length-3 : tie.Need-same-length-3 Inv-loop μ-loop
+same-length-3 c = search needs
+
+returns : tie.Need-returns Inv-loop μ-loop
+returns c =
+    inserting-refused
+    (c .before .before .before .before .before .before .before .before .before .before .before .before .before .before .before .before
+    .before .before .before .before .pre)
+    (c .before .before .before .before .before .before .before .before .before .before .before .before .before .before .before .loop .inv)
+    (c .before .before .before .before .before .before .before .before .before .before .before .before .before .before .loop-test .taken)
+    (c .before .before .before .before .before .before .before .before .before .index .ensures .0)
+    (c .before .before .before .before .before .before .before .before .copy-item .ensures) (c .if1 .taken)
+
+add-k : tie.Need-add-k Inv-loop μ-loop
+add-k c =
+    omega (
+      arith,
+      c .before .before .before .before .before .before .before .before .before .before .before .before .before .before .loop-test .taken,
+      c .before .before .before .before .before .before .before .before .before .before .before .before .before .before .before .before
+          .before .before .before .before .good,
+    )
+
+loop-less : tie.Need-loop-less Inv-loop μ-loop
+loop-less c = search needs
+
+loop-again : tie.Need-loop-again Inv-loop μ-loop
+loop-again c =
+    inserting-again
+    (c .before .before .before .before .before .before .before .before .before .before .before .before .before .before .before .before
+    .before .before .before .before .pre)
+    (c .before .before .before .before .before .before .before .before .before .before .before .before .before .before .before .loop .inv)
+    (c .before .before .before .before .before .before .before .before .before .before .before .before .before .before .loop-test .taken)
+    (c .before .before .before .before .before .before .before .before .before .index .ensures .0)
+    (c .before .before .before .before .before .before .before .before .copy-item .ensures) (search (c .if1 .left, needs))
+    (c .before .before .before .before .before .before .before .before .copy-item .kept .1 .1 .0 ∙
+    c .before .before .before .before .before .before .before .before .before .before .before .before .before .before .before .loop .inv
+    .size)
+
+same-length-4 : tie.Need-same-length-4 Inv-loop μ-loop
+same-length-4 c = search needs
+
+same-length-5 : tie.Need-same-length-5 Inv-loop μ-loop
+same-length-5 c = search needs
+
+same-length-6 : tie.Need-same-length-6 Inv-loop μ-loop
+same-length-6 c = search needs
+
+returns-2 : tie.Need-returns-2 Inv-loop μ-loop
+returns-2 c =
+    inserting-end (c .before .before .before .before .before .before .pre) (c .before .loop .inv) (omega (arith, c .loop-test .left))
+
+pub copy-items-spec : {M : Type 1} → statement M
+copy-items-spec =
+    tie.close
+    (tie.spec
+    Inv-loop
+    μ-loop
+    loop-holds
+    mul-index
+    shared-slice-read-index
+    index-requires
+    copy-item-requires
+    same-length
+    same-length-2
+    same-length-3
+    returns
+    add-k
+    loop-less
+    loop-again
+    same-length-4
+    same-length-5
+    same-length-6
+    returns-2)

@@ -1,0 +1,77 @@
+use Rattle.updates.proofs.InsertLawsScan.{link-none, link-low, link-out, link-in}
+use mathlib.Core.Path.{sym, _∙_, ap}
+use Prim.Native.Nat.{ℕ, _+_}
+use native.Mathlib.Omega.{arith}
+use borrow.Author.Needs.{needs}
+use Rattle.updates.proofs.insert.copy_link.Statement.{statement}
+use Rattle.updates.proofs.insert.copy_link.Tie as tie
+
+returns : tie.Need-returns
+returns c =
+    sym (link-none (c .before .before .args .map .now) (c .before .before .args .top) (c .before .before .args .link) (c .if1 .taken))
+
+sub-if2 : tie.Need-sub-if2
+sub-if2 c = search needs
+
+returns-2 : tie.Need-returns-2
+returns-2 c =
+    sym (link-low (c .before .before .before .args .map .now) (c .before .before .before .args .top)
+    (c .before .before .before .args .link) (c .before .if1 .left) (c .if2 .taken))
+
+sub-if3 : tie.Need-sub-if3
+sub-if3 c = search needs
+
+mul-if3 : tie.Need-mul-if3
+mul-if3 c = search needs
+
+shared-slice-read-if3 : tie.Need-shared-slice-read-if3
+shared-slice-read-if3 c = search needs
+
+returns-3 : tie.Need-returns-3
+returns-3 c =
+    sym (link-out (c .before .before .before .before .before .args .map .now) (c .before .before .before .before .before .args .top)
+    (c .before .before .before .before .before .args .link) (c .before .before .before .if1 .left) (omega (
+      arith,
+      c .before .before .if2 .left,
+    )) (c .if3 .taken))
+
+sub-index : tie.Need-sub-index
+sub-index c = search needs
+
+mul-index : tie.Need-mul-index
+mul-index c = search needs
+
+shared-slice-read-index : tie.Need-shared-slice-read-index
+shared-slice-read-index c = search needs
+
+index-requires : tie.Need-index-requires
+index-requires c κs = search needs
+
+add-result : tie.Need-add-result
+add-result c = search needs
+
+returns-4 : tie.Need-returns-4
+returns-4 c =
+    ap (λ (j : ℕ). j + 1) (c .index .ensures .0) ∙ sym (link-in
+    (c .before .before .before .before .before .before .before .args .map .now)
+    (c .before .before .before .before .before .before .before .args .top)
+    (c .before .before .before .before .before .before .before .args .link) (c .before .before .before .before .before .if1 .left) (omega
+    (arith, c .before .before .before .before .if2 .left)) (c .before .before .if3 .left))
+
+pub copy-link-spec : {M : Type 1} → statement M
+copy-link-spec =
+    tie.close
+    (tie.spec
+    returns
+    sub-if2
+    returns-2
+    sub-if3
+    mul-if3
+    shared-slice-read-if3
+    returns-3
+    sub-index
+    mul-index
+    shared-slice-read-index
+    index-requires
+    add-result
+    returns-4)

@@ -1,0 +1,128 @@
+use Rattle.updates.specs.Inserting.{copyLink, nextLink}
+use lib.ListN.{getD}
+use Prim.Native.Nat.{_*_, _/_, _%_}
+use Rattle.updates.proofs.InsertLaws.{next-bound, next-none, next-small, next-pre, next-made}
+use mathlib.Core.Path.{_≡_, sym, _∙_, ap}
+use Prim.Native.Nat.{ℕ, _+_}
+use native.Mathlib.Omega.{arith}
+use borrow.Author.Needs.{needs}
+use Rattle.updates.proofs.insert.copy_next.Statement.{statement}
+use Rattle.updates.proofs.insert.copy_next.Tie as tie
+
+is-link : (c : tie.After-copy-link) → c .copy-link .result ≡ nextLink
+    (c .before .before .before .before .before .before .before .args .rows .now)
+    (c .before .before .before .before .before .before .before .args .map .now)
+    (c .before .before .before .before .before .before .before .args .top)
+    (c .before .before .before .before .before .before .before .args .j)
+is-link c =
+    c .copy-link .ensures ∙ ap (copyLink (c .before .before .before .before .before .before .before .args .map .now)
+    (c .before .before .before .before .before .before .before .args .top)) (c .before .link .ensures)
+
+has-link : (c : tie.Else1) → nextLink (c .before .before .before .before .before .before .before .before .args .rows .now)
+    (c .before .before .before .before .before .before .before .before .args .map .now)
+    (c .before .before .before .before .before .before .before .before .args .top)
+    (c .before .before .before .before .before .before .before .before .args .j) ≡ 0 → ⊥
+has-link c q = c .if1 .left (is-link (c .before) ∙ q)
+
+copied-word : (c : tie.After-relinked) → c .relinked .result ≡ getD
+    (c .before .before .before .before .before .before .before .before .before .before .before .args .rows .now)
+    (c .before .before .before .before .before .before .before .before .before .before .before .args .j) 0 % 4 + 4 * nextLink
+    (c .before .before .before .before .before .before .before .before .before .before .before .args .rows .now)
+    (c .before .before .before .before .before .before .before .before .before .before .before .args .map .now)
+    (c .before .before .before .before .before .before .before .before .before .before .before .args .top)
+    (c .before .before .before .before .before .before .before .before .before .before .before .args .j) + 4096 * (getD
+    (c .before .before .before .before .before .before .before .before .before .before .before .args .rows .now)
+    (c .before .before .before .before .before .before .before .before .before .before .before .args .j) 0 / 4096)
+copied-word c =
+    c .relinked .ensures ∙ ap (λ (l : ℕ). getD
+    (c .before .before .before .before .before .before .before .before .before .before .before .args .rows .now)
+    (c .before .before .before .before .before .before .before .before .before .before .before .args .j) 0 % 4 + 4 * l + 4096 * (getD
+    (c .before .before .before .before .before .before .before .before .before .before .before .args .rows .now)
+    (c .before .before .before .before .before .before .before .before .before .before .before .args .j) 0 / 4096)) (is-link
+    (c .before .before .before .before))
+
+mul-w : tie.Need-mul-w
+mul-w c = search needs
+
+slice-read-w : tie.Need-slice-read-w
+slice-read-w c = search needs
+
+link-requires : tie.Need-link-requires
+link-requires c κs = search needs
+
+copy-link-requires : tie.Need-copy-link-requires
+copy-link-requires c κs = omega (arith, next-bound (c .before .before .before .before .before .before .pre), c .link .ensures)
+
+mul-map : tie.Need-mul-map
+mul-map c = search needs
+
+slice-write-map : tie.Need-slice-write-map
+slice-write-map c = search needs
+
+same-length : tie.Need-same-length
+same-length c = search needs
+
+returns : tie.Need-returns
+returns c = next-none (c .before .before .before .before .before .before .before .before .pre) (sym (is-link (c .before)) ∙ c .if1 .taken)
+
+cast-map : tie.Need-cast-map
+cast-map c = search needs
+
+mul-map-2 : tie.Need-mul-map-2
+mul-map-2 c = search needs
+
+slice-write-map-2 : tie.Need-slice-write-map-2
+slice-write-map-2 c = search needs
+
+relinked-requires : tie.Need-relinked-requires
+relinked-requires c κs =
+    omega (
+      arith,
+      next-small (c .before .before .before .before .before .before .before .before .before .before .pre) (has-link
+          (c .before .before)),
+      is-link (c .before .before .before),
+    )
+
+new-row-requires : tie.Need-new-row-requires
+new-row-requires c κs =
+    next-pre (c .before .before .before .before .before .before .before .before .before .before .before .pre) (has-link
+    (c .before .before .before)) (copied-word (c))
+
+same-length-2 : tie.Need-same-length-2
+same-length-2 c = search needs
+
+same-length-3 : tie.Need-same-length-3
+same-length-3 c = search needs
+
+same-length-4 : tie.Need-same-length-4
+same-length-4 c = search needs
+
+returns-2 : tie.Need-returns-2
+returns-2 c =
+    next-made
+    (c .before .before .before .before .before .before .before .before .before .before .before .before .before .before .before .before .pre)
+    (has-link (c .before .before .before .before .before .before .before .before))
+    (copied-word (c .before .before .before .before .before))
+    (c .before .before .before .before .new-row .ensures)
+
+pub copy-next-spec : {M : Type 1} → statement M
+copy-next-spec =
+    tie.close
+    (tie.spec
+    mul-w
+    slice-read-w
+    link-requires
+    copy-link-requires
+    mul-map
+    slice-write-map
+    same-length
+    returns
+    cast-map
+    mul-map-2
+    slice-write-map-2
+    relinked-requires
+    new-row-requires
+    same-length-2
+    same-length-3
+    same-length-4
+    returns-2)

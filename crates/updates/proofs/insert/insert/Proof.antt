@@ -1,0 +1,100 @@
+use lib.ListN.{getD}
+use Prim.Native.Nat.{_%_}
+use Rattle.updates.proofs.InsertLawsItems.{insert-many, insert-low, insert-leaf, insert-items, insert-done}
+use lib.ListN.{length}
+use mathlib.Core.Path.{_≡_, refl, sym, _∙_}
+use native.Mathlib.Omega.{arith}
+use borrow.Author.Needs.{needs}
+use Rattle.updates.proofs.insert.insert.Statement.{statement}
+use Rattle.updates.proofs.insert.insert.Tie as tie
+
+target-kind : (c : tie.After-kind) → c .kind .result ≡ getD
+    (c .before .before .before .before .before .before .before .before .before .args .rows .now) (c .before .before .index .result) 0 % 4
+target-kind c = c .kind .ensures
+
+one-target : (c : tie.Else1) → length (c .before .before .before .before .before .args .targets .now) ≡ 1
+one-target c = search (c .if1 .left, needs)
+
+refused-requires : tie.Need-refused-requires
+refused-requires c κs = search needs
+
+returns : tie.Need-returns
+returns c = insert-many (c .before .before .before .before .before .before .pre) (c .before .if1 .taken) (c .refused .ensures)
+
+shared-slice-read-index : tie.Need-shared-slice-read-index
+shared-slice-read-index c = search needs
+
+index-requires : tie.Need-index-requires
+index-requires c κs = search needs
+
+mul-kind : tie.Need-mul-kind
+mul-kind c = search needs
+
+slice-read-kind : tie.Need-slice-read-kind
+slice-read-kind c =
+    omega (
+      arith,
+      insert-low (c .before .before .before .before .before .before .before .before .pre) (one-target
+          (c .before .before .before)) (c .before .index .ensures .0),
+      c .before .before .before .before .before .before .before .before .pre .held .few,
+      c .before .before .before .before .before .before .before .before .pre .held .rows,
+    )
+
+kind-requires : tie.Need-kind-requires
+kind-requires c κs = search needs
+
+refused-requires-2 : tie.Need-refused-requires-2
+refused-requires-2 c κs = search needs
+
+returns-2 : tie.Need-returns-2
+returns-2 c =
+    insert-leaf (c .before .before .before .before .before .before .before .before .before .before .before .pre) (one-target
+    (c .before .before .before .before .before .before)) (c .before .before .before .before .index .ensures .0) (sym (target-kind (c
+    .before .before)) ∙ c .before .if2 .taken)
+    (c .refused2 .ensures)
+
+slice-aggregate-copy-items : tie.Need-slice-aggregate-copy-items
+slice-aggregate-copy-items c = search needs
+
+copy-items-requires : tie.Need-copy-items-requires
+copy-items-requires c κs =
+    insert-items (c .before .before .before .before .before .before .before .before .before .before .before .before .before .pre)
+    (one-target (c .before .before .before .before .before .before .before .before))
+    (c .before .before .before .before .before .before .index .ensures .0) (λ q. c .before .before .before .if2 .left (target-kind
+    (c .before .before .before .before) ∙ q)) refl
+
+same-length : tie.Need-same-length
+same-length c = search needs
+
+same-length-2 : tie.Need-same-length-2
+same-length-2 c = search needs
+
+returns-3 : tie.Need-returns-3
+returns-3 c =
+    insert-done
+    (c .before .before .before .before .before .before .before .before .before .before .before .before .before .before .before .before
+    .before .before .before .pre)
+    (one-target (c .before .before .before .before .before .before .before .before .before .before .before .before .before .before))
+    (c .before .before .before .before .before .before .before .before .before .before .before .before .index .ensures .0) (λ q.
+    c .before .before .before .before .before .before .before .before .before .if2 .left (target-kind
+    (c .before .before .before .before .before .before .before .before .before .before) ∙ q))
+    (c .before .before .before .before .before .copy-items .ensures)
+
+pub insert-spec : {M : Type 1} → statement M
+insert-spec =
+    tie.close
+    (tie.spec
+    refused-requires
+    returns
+    shared-slice-read-index
+    index-requires
+    mul-kind
+    slice-read-kind
+    kind-requires
+    refused-requires-2
+    returns-2
+    slice-aggregate-copy-items
+    copy-items-requires
+    same-length
+    same-length-2
+    returns-3)

@@ -1,0 +1,123 @@
+use Rattle.updates.proofs.UpdateLaws.{cut-root, cut-low, cut-full, cut-done}
+use lib.ListN.{getD}
+use mathlib.Core.Path.{_≡_, sym, _∙_}
+use Prim.Native.Nat.{_/_, _%_}
+use native.Mathlib.Omega.{arith}
+use borrow.Author.Needs.{needs}
+use Rattle.updates.proofs.update.cut_row.Statement.{statement}
+use Rattle.updates.proofs.update.cut_row.Tie as tie
+
+has-parent : (c : tie.Else1) → getD (c .before .before .before .before .before .args .rows .now)
+    (c .before .before .before .before .before .args .i) 0 / 4 % 1024 ≡ 0 → ⊥
+has-parent c q = c .if1 .left (c .before .link .ensures ∙ q)
+
+mul-w : tie.Need-mul-w
+mul-w c = search needs
+
+slice-read-w : tie.Need-slice-read-w
+slice-read-w c = search needs
+
+link-requires : tie.Need-link-requires
+link-requires c κs = search needs
+
+returns : tie.Need-returns
+returns c = cut-root (c .before .before .before .before .before .pre) (sym (c .before .link .ensures) ∙ c .if1 .taken)
+
+add-if2 : tie.Need-add-if2
+add-if2 c = omega (arith, c .before .before .before .before .before .before .pre .held .history .limit)
+
+refused-requires : tie.Need-refused-requires
+refused-requires c κs = search needs
+
+returns-2 : tie.Need-returns-2
+returns-2 c =
+    cut-full (c .before .before .before .before .before .before .before .before .pre) (has-parent (c .before .before .before))
+    (c .before .if2 .taken) (c .refused .ensures)
+
+unlinked-requires : tie.Need-unlinked-requires
+unlinked-requires c κs = search needs
+
+mul-rows : tie.Need-mul-rows
+mul-rows c = search needs
+
+slice-write-rows : tie.Need-slice-write-rows
+slice-write-rows c = search needs
+
+sub-put-cut : tie.Need-sub-put-cut
+sub-put-cut c = search needs
+
+put-cut-requires : tie.Need-put-cut-requires
+put-cut-requires c κs = (
+  omega (
+    arith,
+    c .before .before .before .before .before .before .before .before .before .pre .held .size,
+    c .before .before .before .before .before .before .before .before .before .pre .held .area,
+    c .before .before .if2 .left,
+  ),
+  (
+    omega (
+      arith,
+      c .before .before .before .before .before .before .before .before .before .pre .row,
+      c .before .before .before .before .before .before .before .before .before .pre .held .few,
+    ),
+    omega (
+      arith,
+      c .before .before .before .before .before .link .ensures,
+      cut-low
+          (c .before .before .before .before .before .before .before .before .before .pre) (has-parent (c .before .before .before .before)),
+    ),
+  ),
+)
+
+add-t8 : tie.Need-add-t8
+add-t8 c =
+    omega (
+      arith,
+      c .before .before .before .before .before .before .before .before .before .before .before .before .pre .held .size,
+      c .before .before .before .before .before .before .before .before .before .before .before .before .pre .held .history .limit,
+    )
+
+add-t16 : tie.Need-add-t16
+add-t16 c =
+    omega (
+      arith,
+      c .before .before .before .before .before .before .before .before .before .before .before .before .before .pre .held .history .limit,
+    )
+
+same-length : tie.Need-same-length
+same-length c = search needs
+
+same-length-2 : tie.Need-same-length-2
+same-length-2 c = search needs
+
+returns-3 : tie.Need-returns-3
+returns-3 c =
+    cut-done (c .before .before .before .before .before .before .before .before .before .before .before .before .before .pre) (has-parent
+    (c .before .before .before .before .before .before .before .before)) (omega (
+      arith,
+      c .before .before .before .before .before .before .if2 .left,
+    )) (c .before .before .before .before .before .unlinked .ensures)
+    (c .before .before .before .before .before .before .before .before .before .link .ensures)
+    (c .before .before .before .put-cut .ensures)
+
+pub cut-row-spec : {M : Type 1} → statement M
+cut-row-spec =
+    tie.close
+    (tie.spec
+    mul-w
+    slice-read-w
+    link-requires
+    returns
+    add-if2
+    refused-requires
+    returns-2
+    unlinked-requires
+    mul-rows
+    slice-write-rows
+    sub-put-cut
+    put-cut-requires
+    add-t8
+    add-t16
+    same-length
+    same-length-2
+    returns-3)

@@ -1,0 +1,98 @@
+use Rattle.updates.proofs.UpdateLaws.{Deleting, delete-end, delete-refused, delete-again}
+use Rattle.updates.proofs.StateLaws.{after-self}
+use lib.ListN.{length}
+use mathlib.Core.Path.{_≡_, refl}
+use Prim.Native.Nat.{_-_}
+use native.Mathlib.Omega.{arith}
+use borrow.Author.Needs.{needs}
+use Rattle.updates.proofs.update.delete.Statement.{statement}
+use Rattle.updates.proofs.update.delete.Tie as tie
+
+abbrev Inv-loop : tie.InvT-loop
+Inv-loop rows₀ history₀ items now₀ k₀ rows history now k = Deleting rows₀ history₀ now₀ items rows history now k
+
+abbrev μ-loop : tie.MeasureT-loop
+μ-loop rows₀ history₀ items now₀ k₀ rows history now k = length items - k
+
+loop-holds : tie.Need-loop-holds Inv-loop μ-loop
+loop-holds c = record { after = after-self (c .before .before .before .pre .held); within = omega arith; rest = λ z ms. refl }
+
+mul-index : tie.Need-mul-index Inv-loop μ-loop
+mul-index c = search needs
+
+shared-slice-read-index : tie.Need-shared-slice-read-index Inv-loop μ-loop
+shared-slice-read-index c = search needs
+
+index-requires : tie.Need-index-requires Inv-loop μ-loop
+index-requires c κs = search needs
+
+cut-row-requires : tie.Need-cut-row-requires Inv-loop μ-loop
+cut-row-requires c κs =
+    record {
+      held = c .before .before .before .before .before .loop .inv .after .held;
+      row = omega (
+        arith,
+        c .index .ensures,
+        c .before .before .before .before .before .before .before .before .before .pre .items
+            (c .before .before .before .before .before .loop .k) (c .before .before .before .before .loop-test .taken),
+        c .before .before .before .before .before .loop .inv .after .rows,
+      );
+    }
+
+same-length : tie.Need-same-length Inv-loop μ-loop
+same-length c = search needs
+
+same-length-2 : tie.Need-same-length-2 Inv-loop μ-loop
+same-length-2 c = search needs
+
+returns : tie.Need-returns Inv-loop μ-loop
+returns c =
+    delete-refused (c .before .before .before .before .before .before .before .before .before .before .before .before .loop .inv)
+    (c .before .before .before .before .before .before .before .before .before .before .before .loop-test .taken)
+    (c .before .before .before .before .before .before .before .index .ensures)
+    (c .before .before .before .before .before .before .cut-row .ensures) (c .if1 .taken)
+
+add-k : tie.Need-add-k Inv-loop μ-loop
+add-k c = search needs
+
+loop-less : tie.Need-loop-less Inv-loop μ-loop
+loop-less c = search needs
+
+loop-again : tie.Need-loop-again Inv-loop μ-loop
+loop-again c =
+    let n : c .before .before .before .before .before .before .cut-row .result .number ≡ 0 = search (c .if1 .left, needs) in
+    let g = delete-again (c .before .before .before .before .before .before .before .before .before .before .before .before .loop .inv)
+    (c .before .before .before .before .before .before .before .before .before .before .before .loop-test .taken)
+    (c .before .before .before .before .before .before .before .index .ensures)
+    (c .before .before .before .before .before .before .cut-row .ensures) n in
+    record { after = g .0; within = omega arith; rest = g .1 }
+
+same-length-3 : tie.Need-same-length-3 Inv-loop μ-loop
+same-length-3 c = search needs
+
+same-length-4 : tie.Need-same-length-4 Inv-loop μ-loop
+same-length-4 c = search needs
+
+returns-2 : tie.Need-returns-2 Inv-loop μ-loop
+returns-2 c = delete-end (c .before .loop .inv) (omega (arith, c .loop-test .left))
+
+pub delete-spec : {M : Type 1} → statement M
+delete-spec =
+    tie.close
+    (tie.spec
+    Inv-loop
+    μ-loop
+    loop-holds
+    mul-index
+    shared-slice-read-index
+    index-requires
+    cut-row-requires
+    same-length
+    same-length-2
+    returns
+    add-k
+    loop-less
+    loop-again
+    same-length-3
+    same-length-4
+    returns-2)

@@ -1,0 +1,33 @@
+use Rattle.updates.proofs.UpdateLaws.{loose-pre, loose-made}
+use mathlib.Core.Bool.{true}
+use borrow.Author.Tests.{le-leb}
+use native.Mathlib.Omega.{arith}
+use borrow.Author.Needs.{needs}
+use Rattle.updates.proofs.update.new_leaf.Statement.{statement}
+use Rattle.updates.proofs.update.new_leaf.Tie as tie
+
+word-requires : tie.Need-word-requires
+word-requires c κs = search needs
+
+new-row-requires : tie.Need-new-row-requires
+new-row-requires c κs =
+    loose-pre true (c .before .before .before .before .before .args .value) (c .word .ensures)
+    (c .before .before .before .before .before .pre) (le-leb (c .before .before .before .before .before .args .value) 255 (omega (
+      arith,
+      c .before .before .before .before .before .fits .value,
+    )))
+
+same-length : tie.Need-same-length
+same-length c = search needs
+
+same-length-2 : tie.Need-same-length-2
+same-length-2 c = search needs
+
+returns : tie.Need-returns
+returns c =
+    loose-made true (c .before .before .before .before .before .before .before .before .before .before .args .value)
+    (c .before .before .before .before .before .word .ensures) (c .before .before .before .before .new-row .ensures)
+
+pub new-leaf-spec : {M : Type 1} → statement M
+new-leaf-spec =
+    tie.close (tie.spec word-requires new-row-requires same-length same-length-2 returns)

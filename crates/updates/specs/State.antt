@@ -1,0 +1,71 @@
+-- What the updates pass on, and the model's state that it stands for. Assumes nothing: these are definitions.
+use mathlib.Core.Path.{_≡_}
+use mathlib.Core.List.{List, [], _∷_}
+use Prim.Native.Nat.{ℕ, zero, suc, _+_, _*_, _≤_}
+use lib.Dec.{eqb}
+use lib.ListN.{length, getD, take, drop}
+use Rattle.model.specs.Base.{pick}
+use Rattle.model.specs.Refusal.{fault}
+use Rattle.model.specs.History.{Record, historyBytes}
+use Rattle.model.specs.Run.{State, state, Out, stop, gives}
+use Rattle.model.specs.Undo.{historySize, recordIn}
+use Rattle.model.proofs.TableLaws.{Tree}
+use Rattle.model.proofs.FormLaws.{AllInRange}
+use Rattle.model.proofs.HistoryLaws.{times, isCut}
+use Rattle.table.specs.Words.{rowsOf, wordsOf, decodeParts}
+use Rattle.updates.specs.declared.state.Progress.{Progress}
+
+-- RECORDS read off bytes, one after the other; fuel: as many as there are bytes
+unfoldable pub recordsFrom : ℕ → (bytes : List ℕ) → List Record
+recordsFrom zero b = []
+recordsFrom (suc k) b = pick (eqb (length b) 0) [] (recordIn b ∷ recordsFrom k (drop (historySize (getD b 0 0)) b))
+
+abbrev pub recordsIn : (bytes : List ℕ) → List Record
+recordsIn b = recordsFrom (length b) b
+
+-- PROGRESS at a run's start, and with a refusal
+abbrev pub started : (count : ℕ) → Progress
+started n = record { number = 0; count = n; bytes = 0; made = 0; cut = 0 }
+
+abbrev pub stopped : Progress → (number : ℕ) → Progress
+stopped p n = record { number = n; count = p .count; bytes = p .bytes; made = p .made; cut = p .cut }
+
+-- THE STATE that rows, marks and history stand for
+abbrev pub stateOf : (rows marks history : List ℕ) → Progress → State
+stateOf ws ms h p = state (decodeParts (p .count) ws ms) (recordsIn (take (p .bytes) h))
+
+-- the outcome: a value and the state after it, or the refusal at the place
+abbrev pub outcome : (place : ℕ) → (items rows marks history : List ℕ) → Progress → Out
+outcome z v ws ms h p = pick (eqb (p .number) 0) (gives v (stateOf ws ms h p)) (stop (fault (p .number) z))
+
+-- WHAT EVERY UPDATE NEEDS AND KEEPS. The bytes written are records in range and nothing else, as many as were made and cut
+pub record Recorded (b : List ℕ) (made cut : ℕ) : Type 0 where
+  pub ranges : AllInRange (recordsIn b)
+  pub bytes : historyBytes (recordsIn b) ≡ b
+  pub records : length (recordsIn b) ≡ made + cut
+  pub cuts : times isCut (recordsIn b) ≡ cut
+  pub limit : made + cut ≤ 2048
+
+-- the areas have their sizes, the rows their form; the marks are not in question
+pub record Held (ws h : List ℕ) (p : Progress) : Type 0 where
+  pub fine : p .number ≡ 0
+  pub rows : length ws ≡ 512
+  pub area : 12288 ≤ length h
+  pub few : p .count ≤ 512
+  pub canonical : wordsOf (rowsOf (p .count) ws) ≡ ws
+  pub tree : Tree (decodeParts (p .count) ws [])
+  pub size : p .bytes ≤ 6 * (p .made + p .cut)
+  pub history : Recorded (take (p .bytes) h) (p .made) (p .cut)
+
+-- AFTER some updates: rows and records are only added, and the area past the records is as it was
+pub record After (ws h : List ℕ) (p : Progress) (ws′ h′ : List ℕ) (r : Progress) : Type 0 where
+  pub held : Held ws′ h′ r
+  pub rows : p .count ≤ r .count
+  pub bytes : p .bytes ≤ r .bytes
+  pub area : length h′ ≡ length h
+  pub rest : (k : ℕ) → r .bytes ≤ k → drop k h′ ≡ drop k h
+
+-- UPDATED: what an update f of the model leaves, with the value v, for every place and all marks
+pub record Updated (f : (place : ℕ) → State → Out) (v ws h : List ℕ) (p : Progress) (ws′ h′ : List ℕ) (r : Progress) : Type 0 where
+  pub same : (z : ℕ) (ms : List ℕ) → outcome z v ws′ ms h′ r ≡ f z (stateOf ws ms h p)
+  pub after : r .number ≡ 0 → After ws h p ws′ h′ r

@@ -1,0 +1,118 @@
+// The updates of single rows: a new row, and delete.
+ghost use mathlib.Core.Path.{_≡_};
+ghost use mathlib.Core.List.{[], _∷_};
+ghost use Prim.Native.Nat.{_+_, _*_, _/_, _%_, _<_};
+ghost use mathlib.Core.Bool.{true, false};
+ghost use Rattle.updates.specs.State.{Held};
+ghost use Rattle.updates.specs.Updating.{NewPre, NewPost, ElementPre, LoosePost, CutPre, DeletePre, DeletePost};
+use crate::history;
+use crate::state::Progress;
+use table::Fault;
+use table::NameNumber;
+use table::Table;
+use table::words;
+
+// Row w more, with its record: 10 when the table is full, then 9 when the history is.
+pub fn new_row(rows: &mut [u32], history: &mut [u8], p: Progress, w: u32) -> Progress
+    requires { ⌜ NewPre (now rows) (now history) p w ⌝ }
+    ensures { λ r. ⌜ NewPost (now (rows .entry)) (now (history .entry)) p w (now (rows .exit)) (now (history .exit)) r ⌝ }
+{
+    let count = p.count;
+    let at = p.bytes;
+    if Table::ROWS <= count {
+        return p.refused(Fault::TABLE);
+    }
+    if history::RECORDS <= p.made + p.cut {
+        return p.refused(Fault::HISTORY);
+    }
+    rows[count] = w;
+    history::put_made(history, at, count, w);
+    Progress {
+        number: 0,
+        count: count + 1,
+        bytes: at + history::MADE_SIZE,
+        made: p.made + 1,
+        cut: p.cut,
+    }
+}
+
+// A new element without parent.
+pub fn new_element(rows: &mut [u32], history: &mut [u8], p: Progress, name: NameNumber) -> Progress
+    requires { ⌜ ElementPre (now rows) (now history) p (name .0) ⌝ }
+    ensures { λ r. ⌜ LoosePost (now (rows .entry)) (now (history .entry)) p false (name .0) (now (rows .exit)) (now (history .exit)) r ⌝ }
+{
+    let tag = name.0;
+    new_row(rows, history, p, words::word(words::ELEMENT, 0, tag as u32))
+}
+
+// A new leaf without parent.
+pub fn new_leaf(rows: &mut [u32], history: &mut [u8], p: Progress, value: u8) -> Progress
+    requires { ⌜ Held (now rows) (now history) p ⌝ }
+    ensures { λ r. ⌜ LoosePost (now (rows .entry)) (now (history .entry)) p true value (now (rows .exit)) (now (history .exit)) r ⌝ }
+{
+    new_row(rows, history, p, words::word(words::LEAF, 0, value as u32))
+}
+
+fn index(row: u16) -> usize
+    ensures { λ r. ⌜ r ≡ row ⌝ }
+{
+    row as usize
+}
+
+// A row's word with another link to its parent.
+pub fn relinked(w: u32, link: usize) -> u32
+    requires { ⌜ link < 1024 ⌝ }
+    ensures { λ r. ⌜ r ≡ w % 4 + 4 * link + 4096 * (w / 4096) ⌝ }
+{
+    w % 4 + 4 * (link as u32) + 4096 * (w / 4096)
+}
+
+// A row's word without its parent.
+fn unlinked(w: u32) -> u32
+    ensures { λ r. ⌜ r ≡ w % 4 + 4096 * (w / 4096) ⌝ }
+{
+    w % 4 + 4096 * (w / 4096)
+}
+
+// Row i cut from its parent, if it has one, with a record: 9 when the history is full.
+fn cut_row(rows: &mut [u32], history: &mut [u8], p: Progress, i: usize) -> Progress
+    requires { ⌜ CutPre (now rows) (now history) p i ⌝ }
+    ensures { λ r. ⌜ DeletePost (now (rows .entry)) (now (history .entry)) p (i ∷ []) (now (rows .exit)) (now (history .exit)) r ⌝ }
+{
+    let at = p.bytes;
+    let w = rows[i];
+    let link = words::link(w);
+    if link == 0 {
+        return p;
+    }
+    if history::RECORDS <= p.made + p.cut {
+        return p.refused(Fault::HISTORY);
+    }
+    rows[i] = unlinked(w);
+    history::put_cut(history, at, i, link - 1);
+    Progress {
+        number: 0,
+        count: p.count,
+        bytes: at + history::CUT_SIZE,
+        made: p.made,
+        cut: p.cut + 1,
+    }
+}
+
+// Each row of the value cut from its parent.
+pub fn delete(rows: &mut [u32], history: &mut [u8], p: Progress, items: &[u16]) -> Progress
+    requires { ⌜ DeletePre (now rows) (now history) p (now items) ⌝ }
+    ensures { λ r. ⌜ DeletePost (now (rows .entry)) (now (history .entry)) p (now (items .entry))
+        (now (rows .exit)) (now (history .exit)) r ⌝ }
+{
+    let mut now = p;
+    let mut k = 0;
+    while k < items.len() {
+        now = cut_row(rows, history, now, index(items[k]));
+        if now.number != 0 {
+            return now;
+        }
+        k += 1;
+    }
+    now
+}
