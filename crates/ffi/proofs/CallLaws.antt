@@ -23,7 +23,7 @@ use Rattle.ffi.specs.Calls.{
   analysisCode,
 }
 use Rattle.paths.specs.declared.Analysis.{Analysis}
-use Rattle.table.specs.Calls as library
+use Rattle.plan.specs.Calls as library
 use Rattle.table.specs.declared.Written.{Written}
 
 -- what a call answers and leaves, with n and b where the plan is read

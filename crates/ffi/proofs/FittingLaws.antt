@@ -19,7 +19,9 @@ use Rattle.model.proofs.SweepsWell.{sweepsWell}
 use Rattle.model.proofs.TableLaws.{isWell-by, well-empty}
 use Rattle.model.proofs.UndoKeeps.{undoKeeps}
 use Rattle.table.specs.Words.{decode, fits, isRowWord, isZero}
-use Rattle.table.specs.Calls as library
+use Rattle.plan.specs.Calls as library
+use Rattle.table.specs.Results as results
+use Rattle.sweep.specs.Sweeping as sweeping
 use Rattle.table.specs.declared.Table.{Table}
 use Rattle.table.proofs.EncodeLaws.{fits-encode}
 use Rattle.undo.specs.Undoing.{planUndone, undoneBy, asItWas}
@@ -43,10 +45,10 @@ read-fits p b = go (readPlan p) refl
     go (bad f) e = ap (λ (q : Read). fits (library.readBy q .table)) e ∙ fits-encode model.empty (isWell-by model.empty well-empty)
     go (got x) e = ap (λ (q : Read). fits (library.readBy q .table)) e ∙ fits-encode x (storedBack .1 p x b e .0)
 
-pub swept-fits : (t : Table) → fits t ≡ true → fits (library.planSwept t .table) ≡ true
+pub swept-fits : (t : Table) → fits t ≡ true → fits (sweeping.planSwept t .table) ≡ true
 swept-fits t f =
-    ap (λ (z : Bool). fits (pick z (library.result refusal.fine (swept (decode t))) (record {
-      fault = library.faultOf (refusal.linkAt 0);
+    ap (λ (z : Bool). fits (pick z (results.result refusal.fine (swept (decode t))) (record {
+      fault = results.faultOf (refusal.linkAt 0);
       table = t;
     }) .table)) f ∙
     fits-encode (swept (decode t)) (sweepsWell (decode t) (well-decode t f) .0)

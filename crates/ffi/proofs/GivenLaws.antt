@@ -6,7 +6,8 @@ use Prim.Native.Nat.{ℕ}
 use lib.Dec.{eqb}
 use lib.ListN.{length}
 use borrow.Author.Tests.{eq-eqb, ne-eqb}
-use Rattle.table.specs.Calls as library
+use Rattle.plan.specs.Calls as library
+use Rattle.sweep.specs.Sweeping as sweeping
 use Rattle.table.specs.declared.Table.{Table}
 use Rattle.table.specs.declared.TableResult.{TableResult}
 use Rattle.table.specs.declared.Written.{Written}
@@ -58,9 +59,9 @@ module _ (n : ℕ) (ws ms : List ℕ) where
   pub sweep-not : (c : ℕ) → c ≡ shortCode → isGiven ws ms ≡ false → Left c ws ms
   sweep-not c e z = (e ∙ rw z, (rw z, rw z))
 
-  module _ (t : Table) (same : t ≡ given n ws ms) (r : TableResult) (h : isGiven ws ms ≡ true) (swept : r ≡ library.planSwept t) where
+  module _ (t : Table) (same : t ≡ given n ws ms) (r : TableResult) (h : isGiven ws ms ≡ true) (swept : r ≡ sweeping.planSwept t) where
     result : r ≡ sweptTable n ws ms
-    result = swept ∙ ap library.planSwept same
+    result = swept ∙ ap sweeping.planSwept same
 
     pub sweep-refused : (c : ℕ) → c ≡ codeOf (r .fault .number) 1 0 → (r .fault .number ≡ 0 → ⊥) → Left c ws ms
     sweep-refused c e z =

@@ -28,31 +28,34 @@ use Rattle.model.proofs.UndoKeeps.{undoKeeps}
 use Rattle.script.proofs.ParseLaws.{ill-parsed}
 use Rattle.script.proofs.RefusalLaws.{Sound, parse-sound}
 use Rattle.table.specs.Words.{encode, decode, fits}
-use Rattle.table.specs.Calls as library
+use Rattle.plan.specs.Calls as library
+use Rattle.table.specs.Results as results
+use Rattle.sweep.specs.Sweeping as sweeping
 use Rattle.table.specs.declared.TableResult.{TableResult}
 use Rattle.undo.specs.Undoing.{planUndone, undoneBy, asItWas}
 use Rattle.run.specs.Calls.{ran, resultOf}
 use Rattle.ffi.specs.Calls.{codeOf, shortCode, readCode, readOut, writtenCode, backCode, backOut}
 use Rattle.ffi.specs.Running.{isShort, sixOver, refusedCall, ranCall, readCall, runCalled}
 use Rattle.ffi.specs.Promise.{atFront, PlanBack, SweptBack, UndoneBack, RunDone, RunRefused}
-use Rattle.table.proofs.EncodeLaws.{decode-encode, fits-encode, well-written, well-out}
+use Rattle.table.proofs.EncodeLaws.{decode-encode, fits-encode}
+use Rattle.plan.proofs.WritingLaws.{well-written, well-out}
 
 -- A PLAN READ is the table in its words; the call then answers n and leaves b
 module _ (p o : List ℕ) (x : model.Table) (read : readPlan p ≡ got x) (room : 2080 ≤ length o) where
-  the-plan : library.planRead p ≡ library.result refusal.fine x
+  the-plan : library.planRead p ≡ results.result refusal.fine x
   the-plan = ap library.readBy read
 
   code-then : (n : TableResult → ℕ) → pick (ltb (length o) 2080) shortCode (readCode (library.planRead p) (n (library.planRead p))) ≡
-      n (library.result refusal.fine x)
+      n (results.result refusal.fine x)
   code-then n =
       ap (λ (q : TableResult). pick (ltb (length o) 2080) shortCode (readCode q (n q))) the-plan ∙
-      ap (λ (z : Bool). pick z shortCode (n (library.result refusal.fine x))) (le-ltb (length o) 2080 room)
+      ap (λ (z : Bool). pick z shortCode (n (results.result refusal.fine x))) (le-ltb (length o) 2080 room)
 
   out-then : (b : TableResult → List ℕ) → pick (ltb (length o) 2080) o (readOut (library.planRead p) (b (library.planRead p)) o) ≡
-      b (library.result refusal.fine x)
+      b (results.result refusal.fine x)
   out-then b =
       ap (λ (q : TableResult). pick (ltb (length o) 2080) o (readOut q (b q) o)) the-plan ∙
-      ap (λ (z : Bool). pick z o (b (library.result refusal.fine x))) (le-ltb (length o) 2080 room)
+      ap (λ (z : Bool). pick z o (b (results.result refusal.fine x))) (le-ltb (length o) 2080 room)
 
 -- a well-formed table written
 written-code : (y : model.Table) → isWell y ≡ true → (o : List ℕ) → 2080 ≤ length o →
@@ -71,16 +74,16 @@ pub sweptBack : SweptBack
 sweptBack p o x b e room =
     let w = storedBack .1 p x b e .0 in
     let y : isWell (swept x) ≡ true = sweepsWell x w .0 in
-    let t : library.planSwept (encode x) ≡ library.result refusal.fine (swept x) =
-    ap (λ (z : Bool). pick z (library.result refusal.fine (swept (decode (encode x)))) (record {
-      fault = library.faultOf (refusal.linkAt
+    let t : sweeping.planSwept (encode x) ≡ results.result refusal.fine (swept x) =
+    ap (λ (z : Bool). pick z (results.result refusal.fine (swept (decode (encode x)))) (record {
+      fault = results.faultOf (refusal.linkAt
           0);
       table = encode x;
     })) (fits-encode x w) ∙
-    ap (λ (u : model.Table). library.result refusal.fine (swept u)) (decode-encode x w) in (
-      code-then p o x e room (λ q. writtenCode (library.planWritten (library.planSwept (q .table) .table) o)) ∙
+    ap (λ (u : model.Table). results.result refusal.fine (swept u)) (decode-encode x w) in (
+      code-then p o x e room (λ q. writtenCode (library.planWritten (sweeping.planSwept (q .table) .table) o)) ∙
           ap (λ (r : TableResult). writtenCode (library.planWritten (r .table) o)) t ∙ written-code (swept x) y o room,
-      out-then p o x e room (λ q. library.planOut (library.planSwept (q .table) .table) o) ∙
+      out-then p o x e room (λ q. library.planOut (sweeping.planSwept (q .table) .table) o) ∙
           ap (λ (r : TableResult). library.planOut (r .table) o) t ∙ well-out (swept x) y o room,
     )
 
@@ -88,7 +91,7 @@ pub undoneBack : UndoneBack
 undoneBack p h o x y b e u room =
     let w = storedBack .1 p x b e .0 in
     let v : isWell y ≡ true = undoKeeps x y h w u in
-    let t : planUndone (encode x) h ≡ library.result refusal.fine y =
+    let t : planUndone (encode x) h ≡ results.result refusal.fine y =
     ap (λ (z : Bool). pick z (undoneBy (encode x) (undo (decode (encode x)) h)) (asItWas (refusal.linkAt 0) (encode x))) (fits-encode x
     w) ∙
     ap (λ (q : model.Table). undoneBy (encode x) (undo q h)) (decode-encode x w) ∙ ap (undoneBy (encode x)) u in (

@@ -8,7 +8,7 @@ use lib.ListN.{length, replicate}
 use borrow.Author.Tests.{ltb-false, eq-eqb, ne-eqb}
 use Rattle.model.specs.Limits.{answerNeed, historyNeed, workNeed}
 use Rattle.model.specs.Call.{Ran}
-use Rattle.table.specs.Calls as library
+use Rattle.plan.specs.Calls as library
 use Rattle.table.specs.declared.TableResult.{TableResult}
 use Rattle.table.specs.declared.Written.{Written}
 use Rattle.run.specs.Calls.{ran, runResult}

@@ -5,7 +5,8 @@ use Prim.Native.Nat.{ℕ, _+_, _*_, _%_}
 use lib.Dec.{ltb, eqb}
 use lib.ListN.{length}
 use Rattle.model.specs.Base.{pick}
-use Rattle.table.specs.Calls as library
+use Rattle.plan.specs.Calls as library
+use Rattle.sweep.specs.Sweeping as sweeping
 use Rattle.paths.specs.Analysis.{analysed, valuesOf}
 use Rattle.paths.specs.declared.Analysis.{Analysis}
 use Rattle.undo.specs.Undoing.{planUndone}
@@ -46,7 +47,7 @@ planOut p o = pick (ltb (length o) outNeed) o (readOut (library.planRead p) (lib
 
 -- READ, SWEEP AND WRITE
 abbrev pub sweptPlan : (plan : List ℕ) → Table
-sweptPlan p = library.planSwept (library.planRead p .table) .table
+sweptPlan p = sweeping.planSwept (library.planRead p .table) .table
 
 abbrev pub sweepCode : (plan out : List ℕ) → ℕ
 sweepCode p o = pick (ltb (length o) outNeed) shortCode (readCode (library.planRead p) (writtenCode (library.planWritten (sweptPlan p) o)))
@@ -91,7 +92,7 @@ writeOut n ws ms o = pick (isGiven ws ms) (library.planOut (given n ws ms) o) o
 
 -- swept in place
 abbrev pub sweptTable : (count : ℕ) → (rows marks : List ℕ) → TableResult
-sweptTable n ws ms = library.planSwept (given n ws ms)
+sweptTable n ws ms = sweeping.planSwept (given n ws ms)
 
 abbrev pub sweptCode : (count : ℕ) → (rows marks : List ℕ) → ℕ
 sweptCode n ws ms =

@@ -7,7 +7,7 @@ use lib.ListN.{length, set, replicate}
 use Rattle.model.specs.Base.{pick}
 use Rattle.model.specs.Limits.{answerNeed, historyNeed, workNeed}
 use Rattle.model.specs.Call.{Ran}
-use Rattle.table.specs.Calls as library
+use Rattle.plan.specs.Calls as library
 use Rattle.table.specs.declared.TableResult.{TableResult}
 use Rattle.run.specs.Calls.{ran, runResult}
 use Rattle.run.specs.declared.RunResult.{RunResult}

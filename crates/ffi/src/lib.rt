@@ -38,14 +38,14 @@ pub extern "C" fn yegnabit_plan(plan: &[u8], out: &mut [u8]) -> u64
     if out.len() < ROOM {
         return code(Fault::LENT, AREA, 0);
     }
-    let read = table::read_plan(plan);
+    let read = plan::read_plan(plan);
     let number = read.fault.number;
     let place = read.fault.place;
     if number != 0 {
         return code(number, PLAN, place);
     }
     let t = read.table;
-    let written = table::write::fitting(t, out);
+    let written = plan::write::fitting(t, out);
     code(written.fault.number, AREA, written.bytes)
 }
 
@@ -58,16 +58,16 @@ pub extern "C" fn yegnabit_sweep(plan: &[u8], out: &mut [u8]) -> u64
     if out.len() < ROOM {
         return code(Fault::LENT, AREA, 0);
     }
-    let read = table::read_plan(plan);
+    let read = plan::read_plan(plan);
     let number = read.fault.number;
     let place = read.fault.place;
     if number != 0 {
         return code(number, PLAN, place);
     }
     let t = read.table;
-    let swept = table::sweep_table(t);
+    let swept = sweep::sweep_table(t);
     let u = swept.table;
-    let written = table::write::fitting(u, out);
+    let written = plan::write::fitting(u, out);
     code(written.fault.number, AREA, written.bytes)
 }
 
@@ -80,7 +80,7 @@ pub extern "C" fn yegnabit_undo(plan: &[u8], history: &[u8], out: &mut [u8]) -> 
     if out.len() < ROOM {
         return code(Fault::LENT, AREA, 0);
     }
-    let read = table::read_plan(plan);
+    let read = plan::read_plan(plan);
     let number = read.fault.number;
     let place = read.fault.place;
     if number != 0 {
@@ -94,7 +94,7 @@ pub extern "C" fn yegnabit_undo(plan: &[u8], history: &[u8], out: &mut [u8]) -> 
         return code(refused, SCRIPT, at);
     }
     let u = back.table;
-    let written = table::write::fitting(u, out);
+    let written = plan::write::fitting(u, out);
     code(written.fault.number, AREA, written.bytes)
 }
 
@@ -132,7 +132,7 @@ pub extern "C" fn yegnabit_run(
     ) {
         return code(Fault::LENT, AREA, 0);
     }
-    let read = table::read_plan(plan);
+    let read = plan::read_plan(plan);
     let number = read.fault.number;
     let place = read.fault.place;
     if number != 0 {
@@ -152,7 +152,7 @@ pub extern "C" fn yegnabit_run(
     }
     let u = ran.table;
     let tally = ran.tally;
-    let written = table::write::fitting(u, out);
+    let written = plan::write::fitting(u, out);
     lent::put_six(
         done,
         ran.items,
@@ -187,7 +187,7 @@ pub extern "C" fn yegnabit_write_table(
         rows: copy::rows_of(rows),
         marks: copy::marks_of(marks),
     };
-    let written = table::write_plan(t, out);
+    let written = plan::write_plan(t, out);
     let number = written.fault.number;
     if number == Fault::LINK {
         return code(number, PLAN, 0);
@@ -213,7 +213,7 @@ pub extern "C" fn yegnabit_sweep_table(count: usize, rows: &mut [u32], marks: &m
         rows: copy::rows_of(rows),
         marks: copy::marks_of(marks),
     };
-    let swept = table::sweep_table(t);
+    let swept = sweep::sweep_table(t);
     let number = swept.fault.number;
     if number != 0 {
         return code(number, PLAN, 0);

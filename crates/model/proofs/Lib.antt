@@ -1,4 +1,5 @@
 pub mod BoolLaws
+pub mod ListLaws
 pub mod CasesHold
 pub mod TestLaws
 pub mod RefusalLaws

@@ -1,8 +1,9 @@
--- Choices by a test and quantifiers over lists, computed. Assumes nothing: these are definitions.
+-- Choices by a test, quantifiers over lists, and areas, computed. Assumes nothing: these are definitions.
 use mathlib.Core.Bool.{Bool, true, false, _&&_, _||_}
-use mathlib.Core.List.{List, [], _∷_}
-use Prim.Native.Nat.{ℕ}
+use mathlib.Core.List.{List, [], _∷_, _++_}
+use Prim.Native.Nat.{ℕ, _+_}
 use lib.Dec.{leb, eqb}
+use lib.ListN.{length, take, drop}
 
 -- the first where the test holds, else the second
 abbrev pub pick : {A : Type 0} → Bool → A → A → A
@@ -30,3 +31,7 @@ among x (y ∷ ys) = eqb x y || among x ys
 unfoldable pub areBytes : List ℕ → Bool
 areBytes [] = true
 areBytes (b ∷ bs) = leb b 255 && areBytes bs
+
+-- an area with these bytes from a place on
+abbrev pub over : (place : ℕ) → (bytes area : List ℕ) → List ℕ
+over i b o = take i o ++ b ++ drop (i + length b) o

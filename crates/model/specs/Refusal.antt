@@ -59,6 +59,10 @@ tableAt i = fault 10 i
 abbrev pub lentShort : Fault
 lentShort = fault 11 0
 
+-- the refusal of a number at a place, 0 being none
+abbrev pub faultAt : (number place : ℕ) → Fault
+faultAt n i = pick (eqb n 0) fine (fault n i)
+
 -- THE ORDER OF CHECKS: the first refusal counts
 abbrev pub isFine : Fault → Bool
 isFine x = eqb (x .number) 0

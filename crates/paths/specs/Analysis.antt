@@ -7,7 +7,7 @@ use lib.ListN.{length, getD}
 use Rattle.model.specs.Script.{Expr}
 use Rattle.model.specs.Meeting.{Answer, free, upward, meet, answer}
 use Rattle.model.specs.Call as model
-use Rattle.table.specs.Calls.{faultOf}
+use Rattle.table.specs.Results.{faultOf}
 use Rattle.script.specs.Walk.{exprAt}
 use Rattle.script.specs.Reading.{scriptRead}
 use Rattle.emission.specs.Positions.{entriesOf, AreLower, pathsOn}

@@ -17,7 +17,7 @@ use Rattle.model.specs.Step.{parentIs}
 use Rattle.model.proofs.BoolLaws.{by-cases, pick-true, pick-false}
 use Rattle.table.specs.Words.{linked, decodeParts}
 use Rattle.table.proofs.WordLaws.{count-decode, rowAt-decode}
-use Rattle.table.proofs.ReadLaws.{isThe-linked}
+use Rattle.table.proofs.DecodeLaws.{isThe-linked}
 use Rattle.query.specs.Stepping.{bit, Flagged, counted, descended, climbed, RowsHeld}
 use Rattle.query.specs.Stepping.{Reached, Descending, Climbing, anyFrom, upTo, childCounts}
 use Rattle.query.proofs.ReachLaws.{downTo, down-parent, up-children}

@@ -56,7 +56,7 @@ pub fn pair(plan: &[u8], first: &[u8], second: &[u8], out: &mut [u8]) -> Written
             bytes: 0,
         };
     }
-    let read = table::read_plan(plan);
+    let read = plan::read_plan(plan);
     let fault = read.fault;
     if fault.number != 0 {
         return written(lines::put_file(out, b"plan", fault));

@@ -10,7 +10,7 @@ use Rattle.model.specs.Script.{readScript}
 use Rattle.model.specs.Run.{Out, stop}
 use Rattle.model.specs.Call.{Ran, areasFit, ranBy, refusedRun, runBy}
 use Rattle.table.specs.Words.{encode, decode, fits}
-use Rattle.table.specs.Calls.{faultOf}
+use Rattle.table.specs.Results.{faultOf}
 use Rattle.table.specs.declared.Table.{Table}
 use Rattle.run.specs.Tallying.{noneYet}
 use Rattle.run.specs.declared.tally.Tally.{Tally}

@@ -6,10 +6,10 @@ use Prim.Native.Nat.{ℕ, suc, _+_, _-_, _≤_, _<_}
 use native.Mathlib.Omega.{arith}
 use lib.ListN.{length, length-drop, getD, take, drop}
 use lib.Seq.{take-all}
-use Rattle.model.specs.Refusal.{isFine}
+use Rattle.model.specs.Refusal.{isFine, faultAt}
 use Rattle.model.specs.Script.{Expr, nil, Parsed, ill, parsed, thenParse, exprFault}
 use Rattle.script.specs.Walk.{arity, inner, firstAt, secondAt, thirdAt, exprOf, exprAt}
-use Rattle.script.specs.Reading.{parseAt, endOf, expressionRead, refusalAt, HeadPost, ExpressionPre, ExpressionPost}
+use Rattle.script.specs.Reading.{parseAt, endOf, expressionRead, HeadPost, ExpressionPre, ExpressionPost}
 use Rattle.script.specs.Accepted.{RecordFits}
 use Rattle.script.specs.declared.read.End.{End}
 use Rattle.script.proofs.HeadLaws.{fine-fits, fine-records}
@@ -43,7 +43,7 @@ then-last (parsed e j m c) next make r h g = h ∙ sym (ap endOf (g e j m c))
 
 -- AFTER THE RECORD: it is refused, or it passed its tests
 head-fault : (b : List ℕ) (i left n v r : ℕ) → i ≤ length b → HeadPost (take (length b - i) (drop i b)) left n v r →
-    exprFault i n (17 - left) v (drop i b) ≡ refusalAt r i
+    exprFault i n (17 - left) v (drop i b) ≡ faultAt r i
 head-fault b i left n v r h p =
     ap (exprFault i n (17 - left) v) (sym (take-all (length b - i) (drop i b) (omega (arith, length-drop i b)))) ∙ p .fault i
 

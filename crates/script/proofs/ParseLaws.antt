@@ -9,11 +9,11 @@ use lib.ListN.{getD, drop}
 use lib.Seq.{getD-drop, drop-drop}
 use borrow.Author.Tests.{ne-eqb, eqb-true, eqb-false}
 use Rattle.model.specs.Base.{pick}
-use Rattle.model.specs.Refusal.{Fault, fault, isFine}
+use Rattle.model.specs.Refusal.{Fault, fault, isFine, faultAt}
 use Rattle.model.specs.Script.{Expr, Parsed, ill, parsed, thenParse, operands, parseFrom, exprFault, bodySize}
 use Rattle.model.proofs.BoolLaws.{by-cases}
 use Rattle.script.specs.Walk.{arity, inner, firstAt, secondAt, thirdAt, exprOf, exprAt}
-use Rattle.script.specs.Reading.{parseAt, refusalAt}
+use Rattle.script.specs.Reading.{parseAt}
 use Rattle.script.specs.Accepted.{RecordFits}
 use Rattle.script.proofs.HeadLaws.{kind-at, fine-fits}
 
@@ -95,7 +95,7 @@ operands-by k b i j m v c low high =
     (λ e. rw (kind-at b i, getD-drop i b 1 0, getD-drop i b 2 0, e))
 
 -- THE RECORD at a place: refused, or its operands are read
-pub parse-refused : (b : List ℕ) (i left n v r : ℕ) → (r ≡ 0 → ⊥) → exprFault i n (17 - left) v (drop i b) ≡ refusalAt r i →
+pub parse-refused : (b : List ℕ) (i left n v r : ℕ) → (r ≡ 0 → ⊥) → exprFault i n (17 - left) v (drop i b) ≡ faultAt r i →
     parseAt b i left n v ≡ ill (fault r i)
 unfolding parseFrom
 parse-refused b i left n v r h e = rw (e, ne-eqb r 0 h) (rw (ne-eqb r 0 h))

@@ -12,7 +12,7 @@ use Rattle.model.specs.Refusal as refusal
 use Rattle.model.specs.Script.{Expr, Parsed, ill, parsed, whole, readScript}
 use Rattle.model.specs.Cases.{faultBy}
 use Rattle.model.proofs.BoolLaws.{by-cases}
-use Rattle.table.specs.Calls.{faultOf}
+use Rattle.table.specs.Results.{faultOf}
 use Rattle.table.specs.declared.Fault.{Fault}
 use Rattle.script.specs.Walk.{exprAt}
 use Rattle.script.specs.Reading.{scriptRead, parseAt, endOf, ExpressionPost}

@@ -3,14 +3,12 @@ use mathlib.Core.Path.{_≡_}
 use mathlib.Core.Bool.{Bool, true}
 use mathlib.Core.List.{List}
 use Prim.Native.Nat.{ℕ, suc, _+_, _-_, _≤_, _<_}
-use lib.Dec.{eqb}
 use lib.ListN.{length, getD, drop}
-use Rattle.model.specs.Base.{pick}
 use Rattle.model.specs.Limits.{maxDepth, maxBinders}
 use Rattle.model.specs.Refusal as refusal
 use Rattle.model.specs.Script.{Parsed, ill, parsed, parseFrom, readScript, exprFault, bodySize, bodyFits, isBinder}
 use Rattle.model.specs.Cases.{faultBy}
-use Rattle.table.specs.Calls.{faultOf}
+use Rattle.table.specs.Results.{faultOf}
 use Rattle.table.specs.declared.Fault.{Fault}
 use Rattle.script.specs.declared.read.End.{End}
 
@@ -46,9 +44,5 @@ pub record ExpressionPre (b : List ℕ) (at left : ℕ) : Type 0 where
 pub record ExpressionPost (b : List ℕ) (at left records bound : ℕ) (r : End) : Type 0 where
   pub read : r ≡ expressionRead b at left records bound
 
--- the refusal of a number at a place, 0 being none
-abbrev pub refusalAt : (number place : ℕ) → refusal.Fault
-refusalAt n i = pick (eqb n 0) refusal.fine (refusal.fault n i)
-
 pub record HeadPost (s : List ℕ) (left records bound r : ℕ) : Type 0 where
-  pub fault : (i : ℕ) → exprFault i records (maxDepth + 1 - left) bound s ≡ refusalAt r i
+  pub fault : (i : ℕ) → exprFault i records (maxDepth + 1 - left) bound s ≡ refusal.faultAt r i

@@ -1,24 +1,20 @@
--- A well-formed table survives its words: encoded it fits, decoded it is itself, and writing it is never refused where out has 2,080 bytes.
-use mathlib.Core.Path.{_≡_, refl, ap, sym, subst, _∙_}
+-- A well-formed table survives its words: encoded it fits, and decoded it is itself.
+use mathlib.Core.Path.{_≡_, refl, ap, _∙_}
 use mathlib.Core.Bool.{Bool, true, false}
-use mathlib.Core.List.{List, [], _∷_, _++_, map}
+use mathlib.Core.List.{List, [], _∷_, map}
 use mathlib.Core.Option.{Option, none, some}
 use Prim.Native.Nat.{ℕ, zero, suc, _+_, _*_, _-_, _%_, _≤_, _<_}
 use native.Mathlib.Omega.{arith}
 use lib.Dec.{leb}
-use lib.ListN.{length, getD, take, drop, replicate, length-map, length-append}
+use lib.ListN.{length, getD, take, drop, replicate, length-map}
 use lib.Seq.{take-at, drop-at}
 use borrow.Author.Tests.{le-leb}
 use Rattle.model.specs.Base.{pick, all}
-use Rattle.model.specs.Stored.{stored, rowsBytes, marksBytes, markBytes}
 use Rattle.model.specs.Table as model
 use Rattle.model.proofs.BoolLaws.{and-both}
 use Rattle.model.proofs.TableLaws.{Well, isWell-at, parent-count}
 use Rattle.table.specs.Words.{linkOf, linked, wordOf, rowOf, isRowWord, isZero, wordsOf, encode, decode, fits}
-use Rattle.table.specs.Calls as library
 use Rattle.table.proofs.WordLaws.{linked-linkOf, rowOf-wordOf}
-use Rattle.table.proofs.WriteLaws.{length-rowsBytes}
-use Rattle.table.proofs.CallLaws.{write-fine, write-out}
 
 -- every parent's link fits its 10 bits
 abbrev Links : List model.Row → Type 0
@@ -82,40 +78,3 @@ fits-encode x h =
     (and-both _ _ (and-both _ _ (le-leb _ _ (isWell-at x h .few)) (ap (all isRowWord) (front (x .rows)) ∙ rows-words (x .rows)))
     (ap (all isZero) (behind (x .rows)) ∙ zeros (512 - length (x .rows))))
     (ap model.isWell (decode-encode x h) ∙ h)
-
--- THE LENGTH: four bytes for each row and each mark
-length-mark : (d : ℕ) (m : Option ℕ) → length (markBytes d m) ≤ 4
-length-mark d none = omega arith
-length-mark d (some i) = omega arith
-
-length-marks : (d : ℕ) (ms : List (Option ℕ)) → length (marksBytes d ms) ≤ 4 * length ms
-unfolding marksBytes
-length-marks d [] = omega arith
-length-marks d (m ∷ ms) = omega (arith, length-append (markBytes d m) (marksBytes (suc d) ms), length-mark d m, length-marks (suc d) ms)
-
-pub stored-fits : (x : model.Table) → model.isWell x ≡ true → length (stored x) ≤ 2080
-stored-fits x h =
-    let w = isWell-at x h in
-    omega (
-      arith,
-      length-append (rowsBytes (x .rows)) (marksBytes 0 (x .marks)),
-      length-rowsBytes (x .rows),
-      length-marks 0 (x .marks),
-      w .few,
-      w .eight,
-    )
-
--- WRITING a well-formed table is never refused
-module _ (x : model.Table) (h : model.isWell x ≡ true) (o : List ℕ) (room : 2080 ≤ length o) where
-  fits-room : length (stored (decode (encode x))) ≤ length o
-  fits-room = subst (λ (y : model.Table). length (stored y) ≤ length o) (sym (decode-encode x h)) (omega (arith, stored-fits x h))
-
-  pub well-written : library.planWritten (encode x) o ≡ record { fault = record { number = 0; place = 0 }; bytes = length (stored x) }
-  well-written =
-      sym (write-fine (encode x) o (fits-encode x h) (length (stored x)) fits-room (ap (λ (y : model.Table). length (stored y)) (sym
-      (decode-encode x h))))
-
-  pub well-out : library.planOut (encode x) o ≡ stored x ++ drop (length (stored x)) o
-  well-out =
-      write-out (encode x) o (fits-encode x h) fits-room ∙
-      ap (λ (y : model.Table). stored y ++ drop (length (stored y)) o) (decode-encode x h)

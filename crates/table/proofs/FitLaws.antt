@@ -15,7 +15,7 @@ use Rattle.table.specs.Words.{linked, isRowWord, isZero, rowOf, rowsOf, 
 use Rattle.table.specs.Fitting.{Words, tagFits, linkFits, rowFits, rowsFit, markFits, isRepeated, marksFit}
 use Rattle.model.proofs.BoolLaws.{by-cases}
 use Rattle.table.proofs.WordLaws.{count-decode, rowAt-decode}
-use Rattle.table.proofs.ReadLaws.{element-high, element-kind}
+use Rattle.table.proofs.DecodeLaws.{element-high, element-kind}
 
 -- TURNS
 pub rows-turn : (ws : List ℕ) (i n : ℕ) → i < n → rowsFit ws i (n - i) ≡ (rowFits ws i && rowsFit ws (i + 1) (n - (i + 1)))

@@ -1,9 +1,5 @@
 pub mod WordLaws
+pub mod DecodeLaws
 pub mod FitLaws
-pub mod ReadLaws
-pub mod ReadingLaws
-pub mod WriteLaws
-pub mod FlagLaws
-pub mod SweepLaws
-pub mod CallLaws
+pub mod FitsLaws
 pub mod EncodeLaws

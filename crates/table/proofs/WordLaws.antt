@@ -8,8 +8,7 @@ use Prim.Native.Nat.{ℕ, zero, suc, _+_, _*_, _-_, _/_, _%_, _≤_, _<_}
 use native.Mathlib.Omega.{arith}
 use native.Mathlib.Numerals.{add-one}
 use lib.Dec.{leb, eqb}
-use lib.ListN.{length, getD, take, drop, set, replicate}
-use lib.ListN.{length-map, length-append, length-drop, take-append-drop, List·getD-map}
+use lib.ListN.{length, getD, take, drop, set, replicate, length-map, length-append, length-drop, take-append-drop, List·getD-map}
 use lib.Seq.{append-snoc, set-at, getD-take, take-suc-set, length-take-le}
 use borrow.Author.Tests.{eq-eqb, ne-eqb, leb-true, eqb-true, eqb-false}
 use Rattle.model.specs.Base.{pick, all}

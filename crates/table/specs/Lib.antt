@@ -1,6 +1,3 @@
 pub mod Words
-pub mod Calls
+pub mod Results
 pub mod Fitting
-pub mod Reading
-pub mod Writing
-pub mod Sweeping

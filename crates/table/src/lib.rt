@@ -1,15 +1,11 @@
-// The plan table: its type with its limits, the check of a table handed in, and the calls that read, write and sweep a plan.
+// The plan table: its type with its limits, and the check of a table handed in.
 ghost use mathlib.Core.Path.{_≡_};
 ghost use Rattle.model.specs.Table.{empty};
 ghost use Rattle.table.specs.Words.{encode};
-ghost use Rattle.table.specs.Calls.{planRead, planWritten, planOut, planSwept};
 
 pub mod fit;
 pub mod marks;
-mod read;
-mod sweep;
 pub mod words;
-pub mod write;
 
 // A row's number and an element's name: one never stands where the other is meant.
 pub struct RowNumber(pub u16);
@@ -87,83 +83,4 @@ pub struct TableResult {
 pub struct Written {
     pub fault: Fault,
     pub bytes: usize,
-}
-
-// Reads a stored plan; refused, the table is the empty one.
-pub fn read_plan(bytes: &[u8]) -> TableResult
-    ensures { λ r. ⌜ r ≡ planRead (now (bytes .entry)) ⌝ }
-{
-    let mut rows = [0u32; Table::ROWS];
-    let mut marks = [0u16; Table::DOCUMENTS];
-    let end = read::records(bytes, &mut rows, &mut marks);
-    if end.number != 0 {
-        return TableResult {
-            fault: Fault {
-                number: end.number,
-                place: end.place,
-            },
-            table: Table::empty(),
-        };
-    }
-    TableResult {
-        fault: Fault {
-            number: 0,
-            place: 0,
-        },
-        table: Table {
-            count: end.count,
-            rows,
-            marks,
-        },
-    }
-}
-
-// Writes a table in its stored form. 6 before 11; bytes past the stored length stay; refused, nothing is written.
-pub fn write_plan(table: Table, out: &mut [u8]) -> Written
-    ensures { λ r. ⌜ r ≡ planWritten table (now (out .entry)) ⌝ }
-    ensures { λ r. ⌜ now (out .exit) ≡ planOut table (now (out .entry)) ⌝ }
-{
-    let count = table.count;
-    if !fit::fits(count, &table.rows, &table.marks) {
-        return Written {
-            fault: Fault {
-                number: Fault::LINK,
-                place: 0,
-            },
-            bytes: 0,
-        };
-    }
-    write::fitting(table, out)
-}
-
-// Drops each row that is neither marked nor below a marked row; refused, the table is as it was handed in.
-pub fn sweep_table(table: Table) -> TableResult
-    ensures { λ r. ⌜ r ≡ planSwept table ⌝ }
-{
-    let count = table.count;
-    if !fit::fits(count, &table.rows, &table.marks) {
-        return TableResult {
-            fault: Fault {
-                number: Fault::LINK,
-                place: 0,
-            },
-            table,
-        };
-    }
-    let mut numbers = [0u16; 513];
-    let mut rows = [0u32; Table::ROWS];
-    let kept = sweep::rows(&table.rows, &table.marks, count, &mut numbers, &mut rows);
-    let mut marks = table.marks;
-    sweep::renumber(&mut marks, &numbers);
-    TableResult {
-        fault: Fault {
-            number: 0,
-            place: 0,
-        },
-        table: Table {
-            count: kept,
-            rows,
-            marks,
-        },
-    }
 }

@@ -11,17 +11,15 @@ use lib.ListN.{length, getD, take, drop, set, length-set, length-drop, drop-of-l
 use lib.Seq.{getD-set-same, getD-set-other, take-all, drop-drop, getD-drop}
 use borrow.Author.Tests.{lt-ltb, le-ltb, le-leb, lt-leb, eq-eqb, ne-eqb, eqb-true, eqb-false}
 use Rattle.model.specs.Base.{pick, isIn, any}
-use Rattle.model.specs.Refusal.{fault, fine, isFine}
+use Rattle.model.specs.Refusal.{fault, fine, isFine, faultAt}
 use Rattle.model.specs.Table as model
 use Rattle.model.specs.Stored.{wordAt, parentIn}
 use Rattle.model.specs.Undo.{historySize, recordIn, Placed, Formed, broken, formed, formFault, withPlaced, formFrom, sameBool, sameParent}
-use Rattle.model.specs.Undo.{madeFits, oldParentFits}
-use Rattle.model.specs.Undo.{cutFits, Undo, refused, undoAll, backwards, undo}
+use Rattle.model.specs.Undo.{madeFits, oldParentFits, cutFits, Undo, refused, undoAll, backwards, undo}
 use Rattle.model.proofs.BoolLaws.{by-cases, pick-true, pick-false}
 use Rattle.table.specs.Words.{linked, decodeParts}
-use Rattle.table.specs.Reading.{faultAt}
 use Rattle.table.proofs.WordLaws.{count-decode, rowAt-decode}
-use Rattle.table.proofs.ReadLaws as reading
+use Rattle.table.proofs.DecodeLaws.{element-kind}
 use Rattle.undo.specs.Undoing.{cutIn, madeIn, FormPost, undoing, Whole, PlacesPost, FitPre}
 
 pub size-low : (k : ℕ) → 5 ≤ historySize k
@@ -363,4 +361,4 @@ module _ {ws : List ℕ} {n : ℕ} {s : List ℕ} {size : ℕ} (pre : FitPre ws 
 
           pub cut-element : v < row → cutFits x (cutIn s) ≡ not (eqb (getD ws v 0 % 4) 2)
           cut-element h =
-              cut-parent ∙ rw (ne-eqb v 65535 some-parent, lt-ltb v row h) (reading.element-kind n ws ms within v (omega arith))
+              cut-parent ∙ rw (ne-eqb v 65535 some-parent, lt-ltb v row h) (element-kind n ws ms within v (omega arith))

@@ -11,7 +11,7 @@ use Rattle.model.proofs.BoolLaws.{pick-true, pick-false}
 use Rattle.table.specs.Words.{decode, fits}
 use Rattle.table.specs.declared.Table.{Table}
 use Rattle.table.proofs.WordLaws.{encode-decode}
-use Rattle.table.proofs.CallLaws.{fits-at}
+use Rattle.table.proofs.FitsLaws.{fits-at}
 use Rattle.undo.specs.Undoing.{asItWas, undoneBy, planUndone, PlacesPost, AllPre, AllPost}
 use Rattle.undo.specs.declared.undoing.FormEnd.{FormEnd}
 use Rattle.undo.specs.declared.undoing.BackEnd.{BackEnd}

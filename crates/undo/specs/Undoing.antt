@@ -11,8 +11,8 @@ use Rattle.model.specs.Stored.{wordAt, parentIn}
 use Rattle.model.specs.History.{Record, cutKind}
 use Rattle.model.specs.Undo.{historySize, recordIn, Placed, formFault, undoFits, undone, Undo, refused, back, undoAll, undo}
 use Rattle.table.specs.Words.{rowsOf, wordsOf, decode, decodeParts, fits}
-use Rattle.table.specs.Reading.{faultAt}
-use Rattle.table.specs.Calls.{faultOf, result}
+use Rattle.model.specs.Refusal.{faultAt}
+use Rattle.table.specs.Results.{faultOf, result}
 use Rattle.table.specs.declared.Table.{Table}
 use Rattle.table.specs.declared.TableResult.{TableResult}
 use Rattle.undo.specs.declared.undoing.FormEnd.{FormEnd}

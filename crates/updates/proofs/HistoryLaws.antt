@@ -7,7 +7,7 @@ use native.Mathlib.Omega.{arith}
 use lib.ListN.{length, take, drop, set, length-append}
 use lib.Seq.{drop-at, take-at, drop-drop, sets-eq, length-take-le}
 use borrow.Author.Tests.{ne-eqb}
-use Rattle.model.specs.Base.{pick}
+use Rattle.model.specs.Base.{pick, over}
 use Rattle.model.specs.Table as model
 use Rattle.model.specs.Stored.{wordBytes, parentBytes}
 use Rattle.model.specs.History.{Record, recordBytes, historyBytes}
@@ -16,7 +16,6 @@ use Rattle.model.specs.Undo.{historySize}
 use Rattle.model.proofs.FormLaws.{IsInRange, AllInRange, andAlso, allInRange-snoc, length-recordBytes, recordIn-back}
 use Rattle.model.proofs.HistoryLaws.{times, times-snoc, isCut, isCut-made}
 use Rattle.table.specs.Words.{linked, rowOf}
-use Rattle.table.specs.Writing.{over}
 use Rattle.updates.specs.State.{recordsFrom, recordsIn, Recorded}
 use Rattle.updates.specs.Updating.{madeKind, sixBytes}
 

@@ -17,7 +17,7 @@ use Rattle.model.proofs.BoolLaws.{and-both, pick-true}
 use Rattle.model.proofs.TableLaws.{isElement-at, isElement-by}
 use Rattle.table.specs.Words.{linked, rowOf, rowsOf, isRowWord, decodeParts}
 use Rattle.table.proofs.WordLaws.{linked-linkOf, count-decode, rowAt-decode}
-use Rattle.table.proofs.ReadLaws.{element-kind}
+use Rattle.table.proofs.DecodeLaws.{element-kind}
 use Rattle.updates.specs.State.{stateOf, outcome, After, Updated, stopped}
 use Rattle.updates.specs.Updating.{NewPre}
 use Rattle.updates.specs.Inserting.{before, copiedIn, IsCopy, RestPre, RestPost, ItemPre, ItemPost, ItemsPre, ItemsPost, InsertPre}

@@ -18,11 +18,10 @@ use Rattle.model.proofs.TableLaws.{Tree}
 use Rattle.model.proofs.FormLaws.{IsInRange, noneYet}
 use Rattle.model.proofs.HistoryLaws.{times}
 use Rattle.table.specs.Words.{linkOf, linked, wordOf, rowOf, rowsOf, wordsOf, isRowWord, decodeParts, partsFit}
-use Rattle.table.specs.Writing.{over}
+use Rattle.model.specs.Base.{over}
 use Rattle.table.proofs.WordLaws.{wordOf-rowOf, count-decode, rowAt-decode, Canonical}
-use Rattle.table.proofs.ReadLaws.{map-set}
-use Rattle.table.proofs.WriteLaws.{length-over}
-use Rattle.table.proofs.CallLaws.{fits-at}
+use Rattle.model.proofs.ListLaws.{map-set, length-over}
+use Rattle.table.proofs.FitsLaws.{fits-at}
 use Rattle.updates.specs.State.{recordsFrom, recordsIn, started, stopped, stateOf, outcome, Held, After, Updated}
 use Rattle.updates.specs.declared.state.Progress.{Progress}
 use Rattle.updates.proofs.HistoryLaws.{recordsIn-push, take-over, drop-over}

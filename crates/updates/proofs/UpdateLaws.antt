@@ -10,7 +10,7 @@ use native.Mathlib.Numerals.{add-one}
 use lib.ListN.{length, getD, take, drop, set, length-set, drop-of-length-le}
 use lib.Seq.{drop-cons}
 use borrow.Author.Tests.{lt-ltb, le-ltb, ne-eqb, leb-true}
-use Rattle.model.specs.Base.{isIn}
+use Rattle.model.specs.Base.{isIn, over}
 use Rattle.model.specs.Refusal.{fault}
 use Rattle.model.specs.Table as model
 use Rattle.model.specs.History.{Record, recordBytes}
@@ -22,9 +22,8 @@ use Rattle.model.proofs.FormLaws.{IsInRange, length-recordBytes}
 use Rattle.model.proofs.HistoryLaws.{isCut-made}
 use Rattle.model.proofs.UndoLaws.{made-inRange}
 use Rattle.table.specs.Words.{linkOf, linked, rowOf, wordOf, rowsOf, wordsOf, isRowWord, decodeParts}
-use Rattle.table.specs.Writing.{over}
 use Rattle.table.proofs.WordLaws.{linkOf-linked, rowOf-wordOf, wordOf-rowOf, rowAt-decode, canonical-push}
-use Rattle.table.proofs.ReadLaws.{decode-row}
+use Rattle.table.proofs.DecodeLaws.{decode-row}
 use Rattle.updates.specs.State.{recordsIn, stateOf, outcome, Recorded, Held, After, Updated, stopped}
 use Rattle.updates.specs.Updating.{NewPre, CutPre}
 use Rattle.updates.specs.declared.state.Progress.{Progress}

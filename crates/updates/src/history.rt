@@ -6,7 +6,7 @@ ghost use Rattle.model.specs.Stored.{wordBytes, parentBytes};
 ghost use Rattle.model.specs.History.{recordBytes};
 ghost use Rattle.model.specs.Run.{made, cutRecord};
 ghost use Rattle.table.specs.Words.{linked, rowOf};
-ghost use Rattle.table.specs.Writing.{over};
+ghost use Rattle.model.specs.Base.{over};
 ghost use Rattle.updates.specs.Updating.{madeKind, sixBytes};
 use table::words;
 

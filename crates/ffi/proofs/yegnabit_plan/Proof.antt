@@ -3,7 +3,7 @@ use Rattle.table.specs.Words.{fits}
 use Rattle.ffi.proofs.CallLaws.{area-short, plan-refused, plan-done}
 use Rattle.ffi.specs.Calls.{writtenCode}
 use Rattle.table.specs.declared.TableResult.{TableResult}
-use Rattle.table.specs.Calls as library
+use Rattle.plan.specs.Calls as library
 use mathlib.Core.Path.{_∙_, ap}
 use native.Mathlib.Omega.{arith}
 use borrow.Author.Needs.{needs}

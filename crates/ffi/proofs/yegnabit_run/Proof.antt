@@ -17,8 +17,8 @@ use Rattle.run.proofs.run.Reads as run-reads
 use Rattle.ffi.proofs.code.Reads as code-reads
 use Rattle.ffi.proofs.lent.is_short.Reads as is-short-reads
 use Rattle.ffi.proofs.lent.put_six.Reads as put-six-reads
-use Rattle.table.proofs.read_plan.Reads as read-plan-reads
-use Rattle.table.proofs.write.fitting.Reads as fitting-reads
+use Rattle.plan.proofs.read_plan.Reads as read-plan-reads
+use Rattle.plan.proofs.write.fitting.Reads as fitting-reads
 
 is-short-requires : tie.Need-is-short-requires
 is-short-requires c κs = search needs

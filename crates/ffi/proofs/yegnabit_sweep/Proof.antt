@@ -4,7 +4,8 @@ use Rattle.ffi.proofs.CallLaws.{area-short, plan-refused, plan-done}
 use Rattle.ffi.specs.Calls.{writtenCode, sweptPlan}
 use Rattle.table.specs.declared.TableResult.{TableResult}
 use Rattle.table.specs.declared.Table.{Table}
-use Rattle.table.specs.Calls as library
+use Rattle.plan.specs.Calls as library
+use Rattle.sweep.specs.Sweeping as sweeping
 use mathlib.Core.Path.{_≡_, _∙_, ap}
 use native.Mathlib.Omega.{arith}
 use borrow.Author.Needs.{needs}
@@ -54,7 +55,7 @@ swept : (c : tie.After-code3) → c .before .before .before .before .before .bef
     .before .before .before .before .before .before .before .before .before .before .before .before .args .plan .now)
 swept c =
     ap (λ (t : TableResult). t .table) (c .before .before .before .before .before .before .sweep-table .ensures) ∙
-    ap (λ (t : TableResult). library.planSwept (t .table) .table) (c .before .before .before .before .before .before .before .before
+    ap (λ (t : TableResult). sweeping.planSwept (t .table) .table) (c .before .before .before .before .before .before .before .before
     .before .read-plan .ensures)
 
 returns-3 : tie.Need-returns-3

@@ -4,7 +4,7 @@ use Rattle.ffi.proofs.CallLaws.{area-short, plan-refused, plan-done, un
 use Rattle.ffi.specs.Calls.{undonePlan, backCode, backOut}
 use Rattle.undo.specs.Undoing.{planUndone}
 use Rattle.table.specs.declared.TableResult.{TableResult}
-use Rattle.table.specs.Calls as library
+use Rattle.plan.specs.Calls as library
 use mathlib.Core.Path.{_∙_, ap}
 use native.Mathlib.Omega.{arith}
 use borrow.Author.Needs.{needs}

@@ -1,4 +1,4 @@
-use Rattle.table.proofs.ReadLaws.{marked-turn, marked-none}
+use Rattle.table.proofs.DecodeLaws.{marked-turn, marked-none}
 use Rattle.table.specs.Words.{linked}
 use Rattle.model.specs.Table.{isThe}
 use Rattle.model.specs.Base.{any}

@@ -1,4 +1,4 @@
-use Rattle.table.proofs.WriteLaws.{parent-none, parent-some}
+use Rattle.table.proofs.DecodeLaws.{parent-none, parent-some}
 use native.Mathlib.Omega.{arith}
 use borrow.Author.Needs.{needs}
 use Rattle.updates.proofs.history.parent.Statement.{statement}

@@ -1,7 +1,7 @@
 use Rattle.model.specs.Stored.{parentBytes}
 use Rattle.table.specs.Words.{linked}
 use Rattle.updates.proofs.HistoryLaws.{made-six}
-use Rattle.table.specs.Writing.{over}
+use Rattle.model.specs.Base.{over}
 use mathlib.Core.List.{List}
 use mathlib.Core.Path.{ap, _∙_}
 use Prim.Native.Nat.{ℕ}

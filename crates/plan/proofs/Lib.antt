@@ -1,0 +1,4 @@
+pub mod ReadLaws
+pub mod ReadingLaws
+pub mod WriteLaws
+pub mod WritingLaws

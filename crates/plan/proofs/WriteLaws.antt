@@ -1,0 +1,134 @@
+-- What the writer puts: a record over an area, and the stored form grown row by row and mark by mark.
+use mathlib.Core.Path.{_≡_, refl, ap, sym, _∙_}
+use mathlib.Core.List.{List, [], _∷_, _++_, map, append-assoc, append-nil}
+use mathlib.Core.Option.{Option}
+use Prim.Native.Nat.{ℕ, zero, suc, _+_, _*_, _-_, _/_, _%_, _≤_, _<_}
+use native.Mathlib.Omega.{arith}
+use native.Mathlib.Nat.{add-zero}
+use native.Mathlib.Numerals.{add-one}
+use lib.Dec.{eqb}
+use lib.ListN.{length, getD, take, set, length-append, length-map}
+use lib.Seq.{sets-eq, take-suc, take-all, length-take-le}
+use borrow.Author.Tests.{ne-eqb}
+use Rattle.model.specs.Table as model
+use Rattle.model.specs.Stored.{wordBytes, parentBytes, rowBytes, rowsBytes, markBytes, marksBytes}
+use Rattle.model.proofs.BoolLaws.{by-cases}
+use Rattle.model.proofs.BytesLaws.{length-parentBytes, rowsBytes-snoc}
+use Rattle.table.specs.Words.{linked, rowOf, rowsOf}
+use Rattle.model.specs.Base.{over}
+use Rattle.table.proofs.WordLaws.{map-append, count-decode}
+use Rattle.table.proofs.DecodeLaws.{rows-next}
+use Rattle.model.proofs.ListLaws.{over-over, over-nil}
+
+-- ONE RECORD
+pub put-four : (o : List ℕ) (i a b c d : ℕ) → i + 4 ≤ length o →
+    set (set (set (set o i a) (i + 1) b) (i + 2) c) (i + 3) d ≡ over i (a ∷ b ∷ c ∷ d ∷ []) o
+put-four o i a b c d h =
+    let e₁ : i + 1 ≡ suc i = omega arith in
+    let e₂ : i + 2 ≡ suc (suc i) = omega arith in
+    let e₃ : i + 3 ≡ suc (suc (suc i)) = omega arith in
+    rw (e₁, e₂, e₃) (sets-eq (a ∷ b ∷ c ∷ d ∷ []) o i h)
+
+-- the row of a word, as bytes
+pub row-leaf : (w : ℕ) → w % 4 ≡ 2 → rowBytes (rowOf w) ≡ 18 ∷ w / 4096 ∷ parentBytes (linked (w / 4 % 1024))
+row-leaf w h = rw h
+
+pub row-element : (w : ℕ) → (w % 4 ≡ 2 → ⊥) → rowBytes (rowOf w) ≡ 17 ∷ w / 4096 ∷ parentBytes (linked (w / 4 % 1024))
+row-element w h = rw (ne-eqb (w % 4) 2 h)
+
+pub row-bytes : (w k t p : ℕ) → t ≡ w / 4096 → wordBytes p ≡ parentBytes (linked (w / 4 % 1024)) →
+    k ∷ t ∷ wordBytes p ≡ k ∷ w / 4096 ∷ parentBytes (linked (w / 4 % 1024))
+row-bytes w k t p e f = ap (λ (b : List ℕ). k ∷ t ∷ b) f ∙ ap (λ (j : ℕ). k ∷ j ∷ parentBytes (linked (w / 4 % 1024))) e
+
+-- ROWS, one more
+length-rowBytes : (r : model.Row) → length (rowBytes r) ≡ 4
+length-rowBytes r = omega (arith, length-parentBytes (r .parent))
+
+pub length-rowsBytes : (rs : List model.Row) → length (rowsBytes rs) ≡ 4 * length rs
+unfolding rowsBytes
+length-rowsBytes [] = refl
+length-rowsBytes (r ∷ rs) = length-append (rowBytes r) (rowsBytes rs) ∙ omega (arith, length-rowBytes r, length-rowsBytes rs)
+
+module _ (ws : List ℕ) (n i : ℕ) (within : n ≤ length ws) (h : i < n) where
+  pub length-rows : length (rowsBytes (take i (rowsOf n ws))) ≡ 4 * i
+  length-rows =
+      let k : i ≤ length (rowsOf n ws) = omega (arith, count-decode n ws [] within) in
+      length-rowsBytes (take i (rowsOf n ws)) ∙ ap (λ (j : ℕ). 4 * j) (length-take-le i (rowsOf n ws) k)
+
+  pub rows-grown : (o : List ℕ) → 4 * n ≤ length o →
+      over (4 * i) (rowBytes (rowOf (getD ws i 0))) (over 0 (rowsBytes (take i (rowsOf n ws))) o) ≡ over 0 (rowsBytes (take (i + 1)
+      (rowsOf n ws))) o
+  rows-grown o room =
+      let e : 4 * i ≡ 0 + length (rowsBytes (take i (rowsOf n ws))) = omega (arith, length-rows) in
+      let g : 0 + length (rowsBytes (take i (rowsOf n ws))) ≤ length o = omega arith in
+      ap (λ (j : ℕ). over j (rowBytes (rowOf (getD ws i 0))) (over 0 (rowsBytes (take i (rowsOf n ws))) o)) e ∙
+      over-over 0 (rowsBytes (take i (rowsOf n ws))) (rowBytes (rowOf (getD ws i 0))) o g ∙
+      ap (λ (b : List ℕ). over 0 b o) (sym (ap rowsBytes (rows-next ws n i within h) ∙ rowsBytes-snoc (take i (rowsOf n ws)) (rowOf (getD ws i 0))))
+
+-- MARKS, one more
+marksBytes-snoc : (from : ℕ) (ms : List (Option ℕ)) (m : Option ℕ) → marksBytes from (ms ++ (m ∷ [])) ≡ marksBytes from ms ++ markBytes
+    (from + length ms) m
+unfolding marksBytes
+marksBytes-snoc from [] m = append-nil (markBytes from m) ∙ ap (λ (j : ℕ). markBytes j m) (sym (add-zero from))
+marksBytes-snoc from (k ∷ ms) m =
+    ap (λ (b : List ℕ). markBytes from k ++ b) (marksBytes-snoc (suc from) ms m) ∙
+    sym (append-assoc (markBytes from k) (marksBytes (suc from) ms) (markBytes (suc from + length ms) m)) ∙
+    ap (λ (j : ℕ). markBytes from k ++ marksBytes (suc from) ms ++ markBytes j m) total
+  where
+    total : suc from + length ms ≡ from + suc (length ms)
+    total = omega arith
+
+module _ (ms : List ℕ) (d : ℕ) (h : d < length ms) where
+  marks-next : marksBytes 0 (map linked (take (d + 1) ms)) ≡ marksBytes 0 (map linked (take d ms)) ++ markBytes d (linked (getD ms d 0))
+  marks-next =
+      let k : 0 + length (map linked (take d ms)) ≡ d = omega (arith, length-map (take d ms) linked, length-take-le d ms (omega arith)) in
+      ap (λ (v : List ℕ). marksBytes 0 (map linked v)) (ap (λ (j : ℕ). take j ms) (add-one d) ∙ take-suc ms d 0 h) ∙
+      ap (marksBytes 0) (map-append linked (take d ms) (getD ms d 0 ∷ [])) ∙
+      marksBytes-snoc 0 (map linked (take d ms)) (linked (getD ms d 0)) ∙
+      ap (λ (j : ℕ). marksBytes 0 (map linked (take d ms)) ++ markBytes j (linked (getD ms d 0))) k
+
+  pub length-marks : length (marksBytes 0 (map linked (take (d + 1) ms))) ≡
+      length (marksBytes 0 (map linked (take d ms))) + length (markBytes d (linked (getD ms d 0)))
+  length-marks = ap length marks-next ∙ length-append (marksBytes 0 (map linked (take d ms))) (markBytes d (linked (getD ms d 0)))
+
+  pub marks-grown : (o : List ℕ) (start : ℕ) → start + length (marksBytes 0 (map linked (take d ms))) ≤ length o →
+      over (start + length (marksBytes 0 (map linked (take d ms)))) (markBytes d (linked (getD ms d 0)))
+      (over start (marksBytes 0 (map linked (take d ms))) o) ≡ over start (marksBytes 0 (map linked (take (d + 1) ms))) o
+  marks-grown o start g =
+      over-over start (marksBytes 0 (map linked (take d ms))) (markBytes d (linked (getD ms d 0))) o g ∙
+      ap (λ (b : List ℕ). over start b o) (sym marks-next)
+
+-- a mark's record
+pub mark-none : (d l : ℕ) → l ≡ 0 → markBytes d (linked l) ≡ []
+mark-none d l e = rw e
+
+pub mark-some : (d l : ℕ) → (l ≡ 0 → ⊥) → markBytes d (linked l) ≡ 19 ∷ d ∷ wordBytes (l - 1)
+mark-some d l z = rw (ne-eqb l 0 z)
+
+-- the marks so far are a front of all marks
+pub marks-front : (from k : ℕ) (ms : List ℕ) → length (marksBytes from (map linked (take k ms))) ≤ length (marksBytes from (map linked ms))
+unfolding marksBytes
+marks-front from zero ms = omega arith
+marks-front from (suc k) [] = omega arith
+marks-front from (suc k) (m ∷ ms) =
+    omega (
+      arith,
+      length-append (markBytes from (linked m)) (marksBytes (suc from) (map linked (take k ms))),
+      length-append (markBytes from (linked m)) (marksBytes (suc from) (map linked ms)),
+      marks-front (suc from) k ms,
+    )
+
+-- the start and the end of both
+pub rows-start : (o : List ℕ) (rs : List model.Row) → over 0 (rowsBytes (take 0 rs)) o ≡ o
+unfolding rowsBytes
+rows-start o rs = over-nil 0 o
+
+pub rows-all : (ws : List ℕ) (n i : ℕ) → n ≤ length ws → n ≤ i → rowsBytes (take i (rowsOf n ws)) ≡ rowsBytes (rowsOf n ws)
+rows-all ws n i within h = ap rowsBytes (take-all i (rowsOf n ws) (omega (arith, count-decode n ws [] within)))
+
+pub marks-start : (ms : List ℕ) → marksBytes 0 (map linked (take 0 ms)) ≡ []
+unfolding marksBytes
+marks-start ms = refl
+
+pub mark-small : (d l : ℕ) → length (markBytes d (linked l)) ≤ 4
+mark-small d l = by-cases (eqb l 0) (λ e. rw e (omega arith)) (λ e. rw e (omega arith))

@@ -1,0 +1,261 @@
+use Rattle.plan.proofs.ReadLaws.{refused}
+use Rattle.plan.proofs.ReadLaws.{mark-field, mark-order, mark-high, mark-leaf, mark-child, mark-by}
+use Rattle.table.specs.Words.{linked}
+use Rattle.model.specs.Stored.{wordAt}
+use Rattle.model.specs.Table.{isThe}
+use Rattle.model.specs.Base.{any}
+use lib.ListN.{getD, set}
+use mathlib.Core.List.{map}
+use mathlib.Core.Bool.{true, false}
+use mathlib.Core.Path.{_≡_, refl, _∙_, sym, ap}
+use Prim.Native.Nat.{ℕ, _<_, _+_, _-_, _/_, _%_}
+use native.Mathlib.Omega.{arith}
+use borrow.Author.Needs.{needs}
+use Rattle.plan.proofs.read.mark.Statement.{statement}
+use Rattle.plan.proofs.read.mark.Tie as tie
+
+shared-slice-read-index : tie.Need-shared-slice-read-index
+shared-slice-read-index c = search needs
+
+index-requires : tie.Need-index-requires
+index-requires c κs = search needs
+
+known : (c : tie.Else1) → getD (c .before .before .before .before .before .before .args .s .now) 1 0 < 8
+known c = omega (arith, c .before .index .ensures .0, c .if1 .left)
+
+there : (c : tie.Else3) → wordAt (c .before .before .before .before .before .before .before .before .before .args .s .now) 2 < c .before
+    .before .before .before .before .before .before .before .before .args .count
+there c = omega (arith, c .before .number-at .ensures .0, c .if3 .left)
+
+row-kind : (c : tie.After-kind) → getD (c .before .before .before .before .before .before .before .before .before .before .before .args
+    .rows .now) (wordAt (c .before .before .before .before .before .before .before .before .before .before .before .args .s .now) 2) 0 %
+    4 ≡ c .kind .result
+row-kind c = sym (c .kind .ensures ∙ ap (λ (j : ℕ). getD (c .before .before .before .before .before .before .before .before .before
+    .before .before .args .rows .now) j 0 % 4) (c .before .before .before .number-at .ensures .0))
+
+row-link : (c : tie.After-link) → c .link .result ≡ getD (c .before .before .before .before .before .before .before .before .before
+    .before .before .before .before .args .rows .now) (wordAt (c .before .before .before .before .before .before .before .before .before
+    .before .before .before .before .args .s .now) 2) 0 / 4 % 1024
+row-link c = c .link .ensures ∙ ap (λ (j : ℕ). getD (c .before .before .before .before .before .before .before .before .before .before
+    .before .before .before .args .rows .now) j 0 / 4 % 1024) (c .before .before .before .before .before .number-at .ensures .0)
+
+link-zero : (c : tie.Else5) → c .before .link .result ≡ 0
+link-zero c = search (c .if5 .left, needs)
+
+marked-by : (c : tie.After-is-marked) → any (isThe (wordAt (c .before .before .before .before .before .before .before .before .before
+    .before .before .before .before .before .before .before .args .s .now) 2)) (map linked (c .before .before .before .before .before
+    .before .before .before .before .before .before .before .before .before .before .before .args .marks .now)) ≡ c .is-marked .result
+marked-by c =
+    let h : c .before .before .before .before .before .before .before .before .number-at .result + 1 - 1 ≡ wordAt (c .before .before
+    .before .before .before .before .before .before .before .before .before .before .before .before .before .before .args .s .now) 2
+    = omega (arith, c .before .before .before .before .before .before .before .before .number-at .ensures .0) in
+    sym (c .is-marked .ensures ∙ ap (λ (j : ℕ). any (isThe j) (map linked (c .before .before .before .before .before .before .before
+    .before .before .before .before .before .before .before .before .before .args .marks .now))) h)
+
+returns : tie.Need-returns
+returns c = record {
+  fault = λ i e. mark-field (c .before .before .before .before .before .before .args .s .now) (c .before .before
+      .before .before .before .before .args .rows .now) (c .before .before .before .before .before .before .args .marks .now) (c .before
+      .before .before .before .before .before .args .count) i (c .before .before .before .before .before .before .pre) (omega (
+        arith,
+        c
+            .before .index .ensures .0,
+        c .if1 .taken,
+      ));
+  marks = refl;
+  document = λ z. refused _ z;
+  order = λ z. refused _ z;
+}
+
+returns-2 : tie.Need-returns-2
+returns-2 c = record {
+  fault = λ i e. mark-order (c .before .before .before .before .before .before .before .args .s .now) (c .before
+      .before .before .before .before .before .before .args .rows .now) (c .before .before .before .before .before .before .before .args
+      .marks .now) (c .before .before .before .before .before .before .before .args .count) i (c .before .before .before .before .before
+      .before .before .pre) (known (c .before)) (omega (arith, e, c .before .before .index .ensures .0, c .if2 .taken));
+  marks = refl;
+  document = λ z. refused _ z;
+  order = λ z. refused _ z;
+}
+
+number-at-requires : tie.Need-number-at-requires
+number-at-requires c κs = search needs
+
+returns-3 : tie.Need-returns-3
+returns-3 c = record {
+  fault = λ i e. mark-high (c .before .before .before .before .before .before .before .before .before .args .s .now)
+      (c .before .before .before .before .before .before .before .before .before .args .rows .now) (c .before .before .before .before
+      .before .before .before .before .before .args .marks .now) (c .before .before .before .before .before .before .before .before .before
+      .args .count) i (c .before .before .before .before .before .before .before .before .before .pre) (known (c .before .before .before))
+      (omega (arith, e, c .before .before .before .before .index .ensures .0, c .before .before .if2 .left)) (omega (
+        arith,
+        c .before
+            .number-at .ensures .0,
+        c .if3 .taken,
+      ));
+  marks = refl;
+  document = λ z. refused _ z;
+  order = λ z. refused _ z;
+}
+
+mul-w : tie.Need-mul-w
+mul-w c = search needs
+
+shared-slice-read-w : tie.Need-shared-slice-read-w
+shared-slice-read-w c = search needs
+
+kind-requires : tie.Need-kind-requires
+kind-requires c κs = search needs
+
+returns-4 : tie.Need-returns-4
+returns-4 c = record {
+  fault = λ i e. mark-leaf (c .before .before .before .before .before .before .before .before .before .before
+      .before .before .args .s .now) (c .before .before .before .before .before .before .before .before .before .before .before .before
+      .args .rows .now) (c .before .before .before .before .before .before .before .before .before .before .before .before .args .marks
+      .now) (c .before .before .before .before .before .before .before .before .before .before .before .before .args .count) i (c .before
+      .before .before .before .before .before .before .before .before .before .before .before .pre) (known (c .before .before .before
+      .before .before .before)) (omega (
+        arith,
+        e,
+        c .before .before .before .before .before .before .before .index .ensures .0,
+        c .before
+            .before .before .before .before .if2 .left,
+      )) (there (c .before .before .before)) (row-kind (c .before) ∙ c .if4 .taken);
+  marks =
+      refl;
+  document = λ z. refused _ z;
+  order = λ z. refused _ z;
+}
+
+link-requires : tie.Need-link-requires
+link-requires c κs = search needs
+
+returns-5 : tie.Need-returns-5
+returns-5 c = record {
+  fault = λ i e. mark-child (c .before .before .before .before .before .before .before .before .before .before
+      .before .before .before .before .args .s .now) (c .before .before .before .before .before .before .before .before .before .before
+      .before .before .before .before .args .rows .now) (c .before .before .before .before .before .before .before .before .before .before
+      .before .before .before .before .args .marks .now) (c .before .before .before .before .before .before .before .before .before .before
+      .before .before .before .before .args .count) i (c .before .before .before .before .before .before .before .before .before .before
+      .before .before .before .before .pre) (known (c .before .before .before .before .before .before .before .before)) (omega (
+        arith,
+        e,
+        c
+            .before .before .before .before .before .before .before .before .before .index .ensures .0,
+        c .before .before .before .before .before
+            .before .before .if2 .left,
+      )) (there (c .before .before .before .before .before)) (λ z. c .before .before .if4 .left (sym (row-kind (c
+      .before .before .before)) ∙ z)) (λ z. c .if5 .taken (row-link (c .before) ∙ z));
+  marks = refl;
+  document = λ z. refused _ z;
+  order = λ
+      z. refused _ z;
+}
+
+add-link : tie.Need-add-link
+add-link c = search needs
+
+cast-link : tie.Need-cast-link
+cast-link c = search needs
+
+is-marked-requires : tie.Need-is-marked-requires
+is-marked-requires c κs = search needs
+
+same-length : tie.Need-same-length
+same-length c = search needs
+
+returns-6 : tie.Need-returns-6
+returns-6 c = record {
+  fault = λ i e. mark-by (c .before .before .before .before .before .before .before .before .before .before .before
+      .before .before .before .before .before .before .args .s .now) (c .before .before .before .before .before .before .before .before
+      .before .before .before .before .before .before .before .before .before .args .rows .now) (c .before .before .before .before .before
+      .before .before .before .before .before .before .before .before .before .before .before .before .args .marks .now) (c .before .before
+      .before .before .before .before .before .before .before .before .before .before .before .before .before .before .before .args .count)
+      i (c .before .before .before .before .before .before .before .before .before .before .before .before .before .before .before .before
+      .before .pre) (known (c .before .before .before .before .before .before .before .before .before .before .before)) (omega (
+        arith,
+        e,
+        c
+            .before .before .before .before .before .before .before .before .before .before .before .before .index .ensures .0,
+        c .before .before
+            .before .before .before .before .before .before .before .before .if2 .left,
+      )) (there (c .before .before .before .before .before
+      .before .before .before)) (λ z. c .before .before .before .before .before .if4 .left (sym (row-kind (c .before .before .before
+      .before .before .before)) ∙ z)) (sym (row-link (c .before .before .before .before)) ∙ link-zero (c .before .before .before)) true
+      (marked-by (c .before) ∙ c .if6 .taken);
+  marks = refl;
+  document = λ z. refused _ z;
+  order = λ z. refused _ z;
+}
+
+mul-marks : tie.Need-mul-marks
+mul-marks c = search needs
+
+slice-write-marks : tie.Need-slice-write-marks
+slice-write-marks c = search needs
+
+same-length-2 : tie.Need-same-length-2
+same-length-2 c = search needs
+
+returns-7 : tie.Need-returns-7
+returns-7 c = record {
+  fault = λ i e. mark-by (c .before .before .before .before .before .before .before .before .before .before .before
+      .before .before .before .before .before .before .args .s .now) (c .before .before .before .before .before .before .before .before
+      .before .before .before .before .before .before .before .before .before .args .rows .now) (c .before .before .before .before .before
+      .before .before .before .before .before .before .before .before .before .before .before .before .args .marks .now) (c .before .before
+      .before .before .before .before .before .before .before .before .before .before .before .before .before .before .before .args .count)
+      i (c .before .before .before .before .before .before .before .before .before .before .before .before .before .before .before .before
+      .before .pre) (known (c .before .before .before .before .before .before .before .before .before .before .before)) (omega (
+        arith,
+        e,
+        c
+            .before .before .before .before .before .before .before .before .before .before .before .before .index .ensures .0,
+        c .before .before
+            .before .before .before .before .before .before .before .before .if2 .left,
+      )) (there (c .before .before .before .before .before
+      .before .before .before)) (λ z. c .before .before .before .before .before .if4 .left (sym (row-kind (c .before .before .before
+      .before .before .before)) ∙ z)) (sym (row-link (c .before .before .before .before)) ∙ link-zero (c .before .before .before)) false
+      (marked-by (c .before) ∙ c .if6 .left);
+  marks = ap (λ (d : ℕ). set (c .before .before .before .before .before .before .before .before
+      .before .before .before .before .before .before .before .before .before .args .marks .now) d (c .before .before .before .before
+      .before .before .before .before .before .number-at .result + 1)) (c .before .before .before .before .before .before .before .before
+      .before .before .before .before .index .ensures .0) ∙ ap (λ (j : ℕ). set (c .before .before .before .before .before .before .before
+      .before .before .before .before .before .before .before .before .before .before .args .marks .now) (getD (c .before .before .before
+      .before .before .before .before .before .before .before .before .before .before .before .before .before .before .args .s .now) 1 0)
+      (j + 1)) (c .before .before .before .before .before .before .before .before .before .number-at .ensures .0);
+  document = λ z. known (c
+      .before .before .before .before .before .before .before .before .before .before .before);
+  order = λ z. omega (
+    arith,
+    c .before
+        .before .before .before .before .before .before .before .before .before .before .before .index .ensures .0,
+    c .before .before .before
+        .before .before .before .before .before .before .before .if2 .left,
+  );
+}
+
+pub mark-spec : {M : Type 1} → statement M
+mark-spec =
+    tie.close
+    (tie.spec
+    shared-slice-read-index
+    index-requires
+    returns
+    returns-2
+    number-at-requires
+    returns-3
+    mul-w
+    shared-slice-read-w
+    kind-requires
+    returns-4
+    link-requires
+    returns-5
+    add-link
+    cast-link
+    is-marked-requires
+    same-length
+    returns-6
+    mul-marks
+    slice-write-marks
+    same-length-2
+    returns-7)

@@ -1,0 +1,142 @@
+use mathlib.Core.Path.{_≡_, _∙_, sym, ap}
+use mathlib.Core.List.{map}
+use Prim.Native.Nat.{_*_, _≤_}
+use native.Mathlib.Omega.{arith}
+use lib.ListN.{length}
+use borrow.Author.Needs.{needs}
+use Rattle.model.specs.Stored.{stored, rowsBytes, marksBytes}
+use Rattle.table.specs.Fitting.{Words}
+use Rattle.table.specs.Words.{linked, rowsOf, decode}
+use Rattle.model.specs.Base.{over}
+use Rattle.plan.proofs.WritingLaws.{write-short, write-fine, write-out, length-stored, stored-over}
+use Rattle.table.proofs.FitsLaws.{Fits, fits-at, fits-tag}
+use Rattle.table.proofs.WordLaws.{count-decode}
+use Rattle.plan.proofs.WriteLaws.{length-rowsBytes}
+use Rattle.model.proofs.ListLaws.{length-over}
+use Rattle.plan.proofs.write.fitting.Statement.{statement}
+use Rattle.plan.proofs.write.fitting.Tie as tie
+
+size : (c : tie.Start) → Words (c .args .t1 .rows) (c .args .t1 .marks)
+size c = search needs
+
+fit : (c : tie.Start) → Fits (c .args .t1 .count) (c .args .t1 .rows) (c .args .t1 .marks)
+fit c = fits-at (c .args .t1 .count) (c .args .t1 .rows) (c .args .t1 .marks) (c .pre)
+
+within : (c : tie.Start) → c .args .t1 .count ≤ length (c .args .t1 .rows)
+within c = omega (arith, fit c .few, size c .rows)
+
+long : (c : tie.After-stored-length) → c .stored-length .result ≡ length (stored (decode (c .before .before .before .before .before .args
+    .t1)))
+long c = c .stored-length .ensures ∙ sym (length-stored (c .before .before .before .before .before .args .t1 .count) (c .before .before
+    .before .before .before .args .t1 .rows) (c .before .before .before .before .before .args .t1 .marks) (within (c .before .before
+    .before .before .before)))
+
+stored-length-requires : tie.Need-stored-length-requires
+stored-length-requires c κs = (fit (c .before .before .before .before) .few, size (c .before .before .before .before) .marks)
+
+returns : tie.Need-returns
+returns c = write-short (c .before .before .before .before .before .before .args .t1) (c .before .before .before .before .before .before
+    .args .out .now) (c .before .before .before .before .before .before .pre) (omega (arith, long (c .before), c .if1 .taken))
+
+rows-requires : tie.Need-rows-requires
+rows-requires c κs =
+    record {
+      rows = within (c .before .before .before .before .before .before .before .before .before .before);
+      few = fit (c .before .before .before .before .before .before .before .before .before .before) .few;
+      tags = fits-tag (c .before .before .before .before .before .before .before .before .before .before .args .t1 .count) (c .before
+          .before .before .before .before .before .before .before .before .before .args .t1 .rows) (c .before .before .before .before
+          .before .before .before .before .before .before .args .t1 .marks) (fit (c .before .before .before .before .before .before
+          .before .before .before .before)) (within (c .before .before .before .before .before .before .before .before .before .before));
+      room = omega (arith, c .before .before .before .before .before .stored-length .ensures, c .before .before .before .before .if1 .left);
+    }
+
+mul-marks : tie.Need-mul-marks
+mul-marks c = search needs
+
+wrote : (c : tie.After-rows) → length (c .rows .last .0) ≡ length (c .before .before .before .before .before .before .before .before
+    .before .before .before .args .out .now)
+wrote c =
+    ap length (c .rows .ensures) ∙
+    length-over 0 (rowsBytes (rowsOf (c .before .before .before .before .before .before .before .before .before .before .before .args .t1
+    .count) (c .before .before .before .before .before .before .before .before .before .before .before .args .t1 .rows))) (c .before
+    .before .before .before .before .before .before .before .before .before .before .args .out .now)
+    (omega (
+      arith,
+      c .before .before .before .before .before .before .stored-length .ensures,
+      c .before .before .before .before .before .if1 .left,
+      length-rowsBytes (rowsOf (c .before .before .before .before .before .before .before .before .before .before .before .args .t1
+          .count) (c .before .before .before .before .before .before .before .before .before .before .before .args .t1 .rows)),
+      count-decode (c .before .before .before .before .before .before .before .before .before .before .before .args .t1 .count) (c
+          .before .before .before .before .before .before .before .before .before .before .before .args .t1 .rows) (c .before .before
+          .before .before .before .before .before .before .before .before .before .args .t1 .marks) (within (c .before .before .before
+          .before .before .before .before .before .before .before .before)),
+    ))
+
+marks-requires : tie.Need-marks-requires
+marks-requires c κs =
+    record {
+      documents = size (c .before .before .before .before .before .before .before .before .before .before .before .before .before
+          .before .before .before .before) .marks;
+      room = omega (
+        arith,
+        c .before .before .before .before .before .before .before .before
+            .before .before .before .before .stored-length .ensures,
+        c .before .before .before .before .before .before .before .before
+            .before .before .before .if1 .left,
+        wrote (c .before .before .before .before .before .before),
+      );
+    }
+
+same-length : tie.Need-same-length
+same-length c = search needs
+
+returns-2 : tie.Need-returns-2
+returns-2 c =
+    let h = long (c .before .before .before .before .before .before .before .before .before .before .before .before .before .before
+    .before) in (
+      write-fine (c .before .before .before .before .before .before .before .before .before .before .before .before .before .before
+          .before .before .before .before .before .before .args .t1) (c .before .before .before .before .before .before .before .before
+          .before .before .before .before .before .before .before .before .before .before .before .before .args .out .now) (c .before
+          .before .before .before .before .before .before .before .before .before .before .before .before .before .before .before .before
+          .before .before .before .pre) (c .before .before .before .before .before .before .before .before .before .before .before
+          .before .before .before .before .stored-length .result) (omega (
+            arith,
+            h,
+            c .before .before .before .before .before .before
+                .before .before .before .before .before .before .before .before .if1 .left,
+          )) h,
+      c .before .before .marks .ensures ∙ ap (over (4 * c .before .before .before .before .before .before .before .before .before .before
+          .before .before .before .before .before .before .before .before .before .before .args .t1 .count) (marksBytes 0 (map linked (c
+          .before .before .before .before .before .before .before .before .before .before .before .before .before .before .before .before
+          .before .before .before .before .args .t1 .marks)))) (c .before .before .before .before .before .before .before .before .before
+          .rows .ensures) ∙
+          stored-over (c .before .before .before .before .before .before .before .before .before .before .before .before .before .before
+          .before .before .before .before .before .before .args .t1 .count) (c .before .before .before .before .before .before .before
+          .before .before .before .before .before .before .before .before .before .before .before .before .before .args .t1 .rows) (c
+          .before .before .before .before .before .before .before .before .before .before .before .before .before .before .before .before
+          .before .before .before .before .args .t1 .marks) (within (c .before .before .before .before .before .before .before .before
+          .before .before .before .before .before .before .before .before .before .before .before .before)) (c .before .before .before
+          .before .before .before .before .before .before .before .before .before .before .before .before .before .before .before .before
+          .before .args .out .now)
+          (omega (
+            arith,
+            c .before .before .before .before .before .before .before .before .before .before .before .before .before .before
+                .before .stored-length .ensures,
+            c .before .before .before .before .before .before .before .before .before .before .before
+                .before .before .before .if1 .left,
+          )) ∙
+          sym (write-out (c .before .before .before .before .before .before .before .before .before .before .before .before .before .before
+          .before .before .before .before .before .before .args .t1) (c .before .before .before .before .before .before .before .before
+          .before .before .before .before .before .before .before .before .before .before .before .before .args .out .now) (c .before
+          .before .before .before .before .before .before .before .before .before .before .before .before .before .before .before .before
+          .before .before .before .pre) (omega (
+            arith,
+            h,
+            c .before .before .before .before .before .before .before .before .before
+                .before .before .before .before .before .if1 .left,
+          ))),
+    )
+
+pub fitting-spec : {M : Type 1} → statement M
+fitting-spec =
+    tie.close (tie.spec stored-length-requires returns rows-requires mul-marks marks-requires same-length returns-2)

@@ -1,0 +1,149 @@
+use Rattle.plan.proofs.WriteLaws.{length-marks, marks-start, marks-front, marks-grown}
+use Rattle.model.proofs.ListLaws.{over-nil}
+use Rattle.model.specs.Base.{over}
+use Rattle.table.specs.Words.{linked}
+use Rattle.model.specs.Stored.{markBytes, marksBytes}
+use lib.Seq.{take-all}
+use lib.ListN.{length, getD, take}
+use mathlib.Core.List.{List, map}
+use mathlib.Core.Path.{_≡_, refl, _∙_, sym, ap}
+use Prim.Native.Nat.{ℕ, _+_, _-_, _≤_}
+use native.Mathlib.Omega.{arith}
+use borrow.Author.Needs.{needs}
+use Rattle.plan.proofs.write.marks.Statement.{statement}
+use Rattle.plan.proofs.write.marks.Tie as tie
+
+abbrev Inv-loop : tie.InvT-loop
+Inv-loop out₀ marks start d₀ at₀ out d at = (d ≤ length marks) × (at ≡ start + length (marksBytes 0 (map linked (take d marks)))) × (out
+    ≡ over start (marksBytes 0 (map linked (take d marks))) out₀) × (length out ≡ length out₀)
+
+abbrev μ-loop : tie.MeasureT-loop
+μ-loop out₀ marks start d₀ at₀ out d at = length marks - d
+
+loop-holds : tie.Need-loop-holds Inv-loop μ-loop
+loop-holds c = (
+  omega arith,
+  omega (arith, ap length (marks-start (c .before .before .args .marks .now))),
+  sym (ap (λ (b : List ℕ). over
+      (c .before .before .args .start) b (c .before .before .args .out .now)) (marks-start (c .before .before .args .marks .now)) ∙
+      over-nil (c .before .before .args .start) (c .before .before .args .out .now)),
+  refl,
+)
+
+cast-mark : tie.Need-cast-mark Inv-loop μ-loop
+cast-mark c = search needs
+
+mul-mark : tie.Need-mul-mark Inv-loop μ-loop
+mul-mark c = search needs
+
+shared-slice-read-mark : tie.Need-shared-slice-read-mark Inv-loop μ-loop
+shared-slice-read-mark c = search needs
+
+room : (c : tie.In-loop Inv-loop μ-loop) → c .before .loop .at + length (markBytes (c .before .loop .d) (linked (getD (c .before .before
+    .before .before .args .marks .now) (c .before .loop .d) 0))) ≤ length (c .before .before .before .before .args .out .now)
+room c =
+    omega (
+      arith,
+      c .before .loop .inv .1,
+      c .before .before .before .before .pre .room,
+      length-marks (c .before .before .before .before
+          .args .marks .now) (c .before .loop .d) (c .loop-test .taken),
+      marks-front 0 (c .before .loop .d + 1) (c .before .before .before
+          .before .args .marks .now),
+    )
+
+mark-requires : tie.Need-mark-requires Inv-loop μ-loop
+mark-requires c κs = omega (arith, room (c .before .before), c .before .before .before .loop .inv .3)
+
+mul-mark-length : tie.Need-mul-mark-length Inv-loop μ-loop
+mul-mark-length c = search needs
+
+shared-slice-read-mark-length : tie.Need-shared-slice-read-mark-length Inv-loop μ-loop
+shared-slice-read-mark-length c = search needs
+
+mark-length-requires : tie.Need-mark-length-requires Inv-loop μ-loop
+mark-length-requires c κs = search needs
+
+add-at : tie.Need-add-at Inv-loop μ-loop
+add-at c = record {
+  fits = omega (
+    arith,
+    room (c .before .before .before .before .before .before .before),
+    c .mark-length .ensures (c
+        .before .before .before .before .before .before .before .before .loop .d),
+  );
+}
+
+add-d : tie.Need-add-d Inv-loop μ-loop
+add-d c = search needs
+
+loop-less : tie.Need-loop-less Inv-loop μ-loop
+loop-less c = omega arith
+
+loop-again : tie.Need-loop-again Inv-loop μ-loop
+loop-again c = (
+  omega arith,
+  omega (
+    arith,
+    c .before .before .before .before .before .before .before .before .loop .inv .1,
+    length-marks
+        (c .before .before .before .before .before .before .before .before .before .before .before .args .marks .now) (c .before .before
+        .before .before .before .before .before .before .loop .d) (c .before .before .before .before .before .before .before .loop-test
+        .taken),
+    c .mark-length .ensures (c .before .before .before .before .before .before .before .before .loop .d),
+  ),
+  c .before .before
+      .before .before .mark .ensures ∙ ap (λ (i : ℕ). over i (markBytes (c .before .before .before .before .before .before .before .before
+      .loop .d) (linked (getD (c .before .before .before .before .before .before .before .before .before .before .before .args .marks .now)
+      (c .before .before .before .before .before .before .before .before .loop .d) 0))) (c .before .before .before .before .before .before
+      .before .before .loop .out)) (c .before .before .before .before .before .before .before .before .loop .inv .1) ∙ ap (over (c .before
+      .before .before .before .before .before .before .before .before .before .before .args .start + length (marksBytes 0 (map linked (take
+      (c .before .before .before .before .before .before .before .before .loop .d) (c .before .before .before .before .before .before
+      .before .before .before .before .before .args .marks .now))))) (markBytes (c .before .before .before .before .before .before .before
+      .before .loop .d) (linked (getD (c .before .before .before .before .before .before .before .before .before .before .before .args
+      .marks .now) (c .before .before .before .before .before .before .before .before .loop .d) 0)))) (c .before .before .before .before
+      .before .before .before .before .loop .inv .2) ∙ marks-grown (c .before .before .before .before .before .before .before .before
+      .before .before .before .args .marks .now) (c .before .before .before .before .before .before .before .before .loop .d) (c .before
+      .before .before .before .before .before .before .loop-test .taken) (c .before .before .before .before .before .before .before .before
+      .before .before .before .args .out .now) (c .before .before .before .before .before .before .before .before .before .before .before
+      .args .start) (omega (
+        arith,
+        room (c .before .before .before .before .before .before .before),
+        c .before .before .before .before
+            .before .before .before .before .loop .inv .1,
+      )),
+  search (
+    c .before .before .before .before .before .before .before .before .loop .inv
+        .3,
+    needs,
+  ),
+)
+
+same-length : tie.Need-same-length Inv-loop μ-loop
+same-length c = search needs
+
+returns : tie.Need-returns Inv-loop μ-loop
+returns c = c .before .loop .inv .2 ∙ ap (λ (l : List ℕ). over (c .before .before .before .before .args .start) (marksBytes 0 (map linked
+    l)) (c .before .before .before .before .args .out .now)) (take-all (c .before .loop .d) (c .before .before .before .before .args
+    .marks .now) (omega arith))
+
+pub marks-spec : {M : Type 1} → statement M
+marks-spec =
+    tie.close
+    (tie.spec
+    Inv-loop
+    μ-loop
+    loop-holds
+    cast-mark
+    mul-mark
+    shared-slice-read-mark
+    mark-requires
+    mul-mark-length
+    shared-slice-read-mark-length
+    mark-length-requires
+    add-at
+    add-d
+    loop-less
+    loop-again
+    same-length
+    returns)

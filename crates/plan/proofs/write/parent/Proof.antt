@@ -1,0 +1,18 @@
+use Rattle.table.proofs.DecodeLaws.{parent-none, parent-some}
+use Prim.Native.Nat.{_-_}
+use native.Mathlib.Omega.{arith}
+use borrow.Author.Needs.{needs}
+use Rattle.plan.proofs.write.parent.Statement.{statement}
+use Rattle.plan.proofs.write.parent.Tie as tie
+
+returns : tie.Need-returns
+returns c = (parent-none (c .before .args .link) (c .if1 .taken), omega arith)
+
+sub-result : tie.Need-sub-result
+sub-result c = search needs
+
+returns-2 : tie.Need-returns-2
+returns-2 c = (parent-some (c .before .args .link) (c .if1 .left), omega arith)
+
+pub parent-spec : {M : Type 1} → statement M
+parent-spec = tie.close (tie.spec returns sub-result returns-2)

@@ -1,0 +1,73 @@
+use Rattle.plan.proofs.WriteLaws.{row-leaf, row-element, row-bytes}
+use Rattle.model.specs.Base.{over}
+use Rattle.table.specs.Words.{linked}
+use Rattle.model.specs.Stored.{parentBytes}
+use Prim.Native.Nat.{ℕ}
+use mathlib.Core.List.{List}
+use mathlib.Core.Path.{_∙_, sym, ap}
+use borrow.Author.Needs.{needs}
+use Rattle.plan.proofs.write.row.Statement.{statement}
+use Rattle.plan.proofs.write.row.Tie as tie
+
+link-requires : tie.Need-link-requires
+link-requires c κs = search needs
+
+parent-requires : tie.Need-parent-requires
+parent-requires c κs = search needs
+
+tag-requires : tie.Need-tag-requires
+tag-requires c κs = search needs
+
+cast-field : tie.Need-cast-field
+cast-field c = search needs
+
+kind-requires : tie.Need-kind-requires
+kind-requires c κs = search needs
+
+put-requires : tie.Need-put-requires
+put-requires c κs = search needs
+
+same-length : tie.Need-same-length
+same-length c = search needs
+
+returns : tie.Need-returns
+returns c = c .before .before .put .ensures ∙ ap (λ (b : List ℕ). over (c .before .before .before .before .before .before .before .before
+    .before .before .args .at) b (c .before .before .before .before .before .before .before .before .before .before .args .out .now))
+    (row-bytes (c .before .before .before .before .before .before .before .before .before .before .args .w) 18 (c .before .before .before
+    .before .before .before .tag .result) (c .before .before .before .before .before .before .before .parent .result) (c .before .before
+    .before .before .before .before .tag .ensures) (c .before .before .before .before .before .before .before .parent .ensures .0 ∙ ap (λ
+    (l : ℕ). parentBytes (linked l)) (c .before .before .before .before .before .before .before .before .link .ensures)) ∙ sym (row-leaf
+    (c .before .before .before .before .before .before .before .before .before .before .args .w) (sym (c .before .before .before .before
+    .before .kind .ensures) ∙ c .before .before .before .before .if1 .taken)))
+
+put-requires-2 : tie.Need-put-requires-2
+put-requires-2 c κs = search needs
+
+same-length-2 : tie.Need-same-length-2
+same-length-2 c = search needs
+
+returns-2 : tie.Need-returns-2
+returns-2 c = c .before .before .put2 .ensures ∙ ap (λ (b : List ℕ). over (c .before .before .before .before .before .before .before
+    .before .before .before .args .at) b (c .before .before .before .before .before .before .before .before .before .before .args .out
+    .now)) (row-bytes (c .before .before .before .before .before .before .before .before .before .before .args .w) 17 (c .before .before
+    .before .before .before .before .tag .result) (c .before .before .before .before .before .before .before .parent .result) (c .before
+    .before .before .before .before .before .tag .ensures) (c .before .before .before .before .before .before .before .parent .ensures .0
+    ∙ ap (λ (l : ℕ). parentBytes (linked l)) (c .before .before .before .before .before .before .before .before .link .ensures)) ∙ sym
+    (row-element (c .before .before .before .before .before .before .before .before .before .before .args .w) (λ q. c .before .before
+    .before .before .if1 .left (c .before .before .before .before .before .kind .ensures ∙ q))))
+
+pub row-spec : {M : Type 1} → statement M
+row-spec =
+    tie.close
+    (tie.spec
+    link-requires
+    parent-requires
+    tag-requires
+    cast-field
+    kind-requires
+    put-requires
+    same-length
+    returns
+    put-requires-2
+    same-length-2
+    returns-2)

@@ -1,0 +1,95 @@
+use Rattle.plan.proofs.WriteLaws.{rows-start, rows-grown, rows-all}
+use Rattle.model.specs.Base.{over}
+use Rattle.table.specs.Words.{rowOf, rowsOf}
+use Rattle.model.specs.Stored.{rowBytes, rowsBytes}
+use lib.ListN.{length, getD, take}
+use mathlib.Core.List.{List}
+use mathlib.Core.Path.{_≡_, refl, _∙_, sym, ap}
+use Prim.Native.Nat.{ℕ, _-_, _*_, _≤_}
+use native.Mathlib.Omega.{arith}
+use borrow.Author.Needs.{needs}
+use Rattle.plan.proofs.write.rows.Statement.{statement}
+use Rattle.plan.proofs.write.rows.Tie as tie
+
+abbrev Inv-loop : tie.InvT-loop
+Inv-loop out₀ rows count i₀ out i = (i ≤ count) × (out ≡ over 0 (rowsBytes (take i (rowsOf count rows))) out₀) × (length out ≡ length out₀)
+
+abbrev μ-loop : tie.MeasureT-loop
+μ-loop out₀ rows count i₀ out i = count - i
+
+loop-holds : tie.Need-loop-holds Inv-loop μ-loop
+loop-holds c = (
+  omega arith,
+  sym (rows-start (c .before .before .args .out .now) (rowsOf (c .before .before .args .count) (c .before
+      .before .args .rows .now))),
+  refl,
+)
+
+mul-row : tie.Need-mul-row Inv-loop μ-loop
+mul-row c = search needs
+
+mul-row-2 : tie.Need-mul-row-2 Inv-loop μ-loop
+mul-row-2 c = search needs
+
+shared-slice-read-row : tie.Need-shared-slice-read-row Inv-loop μ-loop
+shared-slice-read-row c = search needs
+
+row-requires : tie.Need-row-requires Inv-loop μ-loop
+row-requires c κs = (
+  omega (
+    arith,
+    c .before .before .before .loop .inv .2,
+    c .before .before .before .before .before .before .pre
+        .room,
+  ),
+  c .before .before .before .before .before .before .pre .tags (c .before .before .before .loop .i) (c .before .before
+      .loop-test .taken),
+)
+
+add-i : tie.Need-add-i Inv-loop μ-loop
+add-i c = search needs
+
+loop-less : tie.Need-loop-less Inv-loop μ-loop
+loop-less c = omega arith
+
+loop-again : tie.Need-loop-again Inv-loop μ-loop
+loop-again c = (
+  omega arith,
+  c .before .before .row .ensures ∙ ap (over (4 * c .before .before .before .before .before .before .loop .i)
+      (rowBytes (rowOf (getD (c .before .before .before .before .before .before .before .before .before .args .rows .now) (c .before
+      .before .before .before .before .before .loop .i) 0)))) (c .before .before .before .before .before .before .loop .inv .1) ∙
+      rows-grown (c .before .before .before .before .before .before .before .before .before .args .rows .now) (c .before .before .before
+      .before .before .before .before .before .before .args .count) (c .before .before .before .before .before .before .loop .i) (c .before
+      .before .before .before .before .before .before .before .before .pre .rows) (c .before .before .before .before .before .loop-test
+      .taken) (c .before .before .before .before .before .before .before .before .before .args .out .now) (c .before .before .before
+      .before .before .before .before .before .before .pre .room),
+  search (
+    c .before .before .before .before .before .before .loop .inv .2,
+    needs,
+  ),
+)
+
+same-length : tie.Need-same-length Inv-loop μ-loop
+same-length c = search needs
+
+returns : tie.Need-returns Inv-loop μ-loop
+returns c = c .before .loop .inv .1 ∙ ap (λ (b : List ℕ). over 0 b (c .before .before .before .before .args .out .now)) (rows-all (c
+    .before .before .before .before .args .rows .now) (c .before .before .before .before .args .count) (c .before .loop .i) (c .before
+    .before .before .before .pre .rows) (omega arith))
+
+pub rows-spec : {M : Type 1} → statement M
+rows-spec =
+    tie.close
+    (tie.spec
+    Inv-loop
+    μ-loop
+    loop-holds
+    mul-row
+    mul-row-2
+    shared-slice-read-row
+    row-requires
+    add-i
+    loop-less
+    loop-again
+    same-length
+    returns)

@@ -1,0 +1,96 @@
+use Rattle.plan.proofs.WriteLaws.{mark-small}
+use Rattle.plan.proofs.WriteLaws.{length-marks, marks-start}
+use Rattle.table.specs.Words.{linked}
+use Rattle.model.specs.Stored.{marksBytes}
+use lib.Seq.{take-all}
+use lib.ListN.{length, getD, take}
+use mathlib.Core.List.{List, map}
+use mathlib.Core.Path.{_≡_, _∙_, ap}
+use Prim.Native.Nat.{ℕ, _+_, _-_, _*_, _≤_}
+use native.Mathlib.Omega.{arith}
+use borrow.Author.Needs.{needs}
+use Rattle.plan.proofs.write.stored_length.Statement.{statement}
+use Rattle.plan.proofs.write.stored_length.Tie as tie
+
+abbrev Inv-loop : tie.InvT-loop
+Inv-loop count marks n₀ d₀ n d = (d ≤ length marks) × (n ≤ 2048 + 4 * d) × (n ≡ 4 * count + length (marksBytes 0 (map linked (take d
+    marks))))
+
+abbrev μ-loop : tie.MeasureT-loop
+μ-loop count marks n₀ d₀ n d = length marks - d
+
+mul-n : tie.Need-mul-n Inv-loop μ-loop
+mul-n c = search needs
+
+loop-holds : tie.Need-loop-holds Inv-loop μ-loop
+loop-holds c = (omega arith, omega (arith, c .before .pre .0), omega (arith, ap length (marks-start (c .before .args .marks .now))))
+
+mul-mark-length : tie.Need-mul-mark-length Inv-loop μ-loop
+mul-mark-length c = search needs
+
+shared-slice-read-mark-length : tie.Need-shared-slice-read-mark-length Inv-loop μ-loop
+shared-slice-read-mark-length c = search needs
+
+mark-length-requires : tie.Need-mark-length-requires Inv-loop μ-loop
+mark-length-requires c κs = search needs
+
+add-n : tie.Need-add-n Inv-loop μ-loop
+add-n c = record {
+  fits = omega (
+    arith,
+    c .before .before .before .loop .inv .1,
+    c .before .before .before .before .before .pre .1,
+    c
+        .mark-length .ensures (c .before .before .before .loop .d),
+    mark-small (c .before .before .before .loop .d) (getD (c .before .before
+        .before .before .before .args .marks .now) (c .before .before .before .loop .d) 0),
+  );
+}
+
+add-d : tie.Need-add-d Inv-loop μ-loop
+add-d c = search needs
+
+loop-less : tie.Need-loop-less Inv-loop μ-loop
+loop-less c = omega arith
+
+loop-again : tie.Need-loop-again Inv-loop μ-loop
+loop-again c = (
+  omega arith,
+  omega (
+    arith,
+    c .before .before .before .loop .inv .1,
+    c .mark-length .ensures (c .before .before .before
+        .loop .d),
+    mark-small (c .before .before .before .loop .d) (getD (c .before .before .before .before .before .args .marks .now) (c
+        .before .before .before .loop .d) 0),
+  ),
+  omega (
+    arith,
+    c .before .before .before .loop .inv .2,
+    length-marks (c .before .before .before
+        .before .before .args .marks .now) (c .before .before .before .loop .d) (c .before .before .loop-test .taken),
+    c .mark-length
+        .ensures (c .before .before .before .loop .d),
+  ),
+)
+
+returns : tie.Need-returns Inv-loop μ-loop
+returns c = c .before .loop .inv .2 ∙ ap (λ (l : List ℕ). 4 * c .before .before .before .args .count + length (marksBytes 0 (map linked
+    l))) (take-all (c .before .loop .d) (c .before .before .before .args .marks .now) (omega arith))
+
+pub stored-length-spec : {M : Type 1} → statement M
+stored-length-spec =
+    tie.close
+    (tie.spec
+    Inv-loop
+    μ-loop
+    mul-n
+    loop-holds
+    mul-mark-length
+    shared-slice-read-mark-length
+    mark-length-requires
+    add-n
+    add-d
+    loop-less
+    loop-again
+    returns)

@@ -1,0 +1,26 @@
+use mathlib.Core.Path.{_∙_, sym}
+use borrow.Author.Tests.{not-true, not-false}
+use borrow.Author.Needs.{needs}
+use Rattle.plan.proofs.WritingLaws.{write-ill}
+use Rattle.plan.proofs.write_plan.Statement.{statement}
+use Rattle.plan.proofs.write_plan.Tie as tie
+
+fits-requires : tie.Need-fits-requires
+fits-requires c κs = search needs
+
+returns : tie.Need-returns
+returns c = write-ill (c .before .before .before .before .before .before .before .before .args .t1) (c .before .before .before .before
+    .before .before .before .before .args .out .now) (sym (c .before .fits2 .ensures) ∙ not-true (c .before .fits2 .result) (c .if1
+    .taken))
+
+fitting-requires : tie.Need-fitting-requires
+fitting-requires c κs = sym (c .before .before .fits2 .ensures) ∙ not-false (c .before .before .fits2 .result) (c .before .if1 .left)
+
+same-length : tie.Need-same-length
+same-length c = search needs
+
+returns-2 : tie.Need-returns-2
+returns-2 c = search needs
+
+pub write-plan-spec : {M : Type 1} → statement M
+write-plan-spec = tie.close (tie.spec fits-requires returns fitting-requires same-length returns-2)

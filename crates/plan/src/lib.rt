@@ -1,0 +1,58 @@
+// The stored form of a plan: read into a table, and written from one.
+ghost use mathlib.Core.Path.{_≡_};
+ghost use Rattle.plan.specs.Calls.{planRead, planWritten, planOut};
+use table::Fault;
+use table::Table;
+use table::TableResult;
+use table::Written;
+use table::fit;
+
+mod read;
+pub mod write;
+
+// Reads a stored plan; refused, the table is the empty one.
+pub fn read_plan(bytes: &[u8]) -> TableResult
+    ensures { λ r. ⌜ r ≡ planRead (now (bytes .entry)) ⌝ }
+{
+    let mut rows = [0u32; Table::ROWS];
+    let mut marks = [0u16; Table::DOCUMENTS];
+    let end = read::records(bytes, &mut rows, &mut marks);
+    if end.number != 0 {
+        return TableResult {
+            fault: Fault {
+                number: end.number,
+                place: end.place,
+            },
+            table: Table::empty(),
+        };
+    }
+    TableResult {
+        fault: Fault {
+            number: 0,
+            place: 0,
+        },
+        table: Table {
+            count: end.count,
+            rows,
+            marks,
+        },
+    }
+}
+
+// Writes a table in its stored form. 6 before 11; bytes past the stored length stay; refused, nothing is written.
+pub fn write_plan(table: Table, out: &mut [u8]) -> Written
+    ensures { λ r. ⌜ r ≡ planWritten table (now (out .entry)) ⌝ }
+    ensures { λ r. ⌜ now (out .exit) ≡ planOut table (now (out .entry)) ⌝ }
+{
+    let count = table.count;
+    if !fit::fits(count, &table.rows, &table.marks) {
+        return Written {
+            fault: Fault {
+                number: Fault::LINK,
+                place: 0,
+            },
+            bytes: 0,
+        };
+    }
+    write::fitting(table, out)
+}

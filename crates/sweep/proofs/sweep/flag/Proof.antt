@@ -1,0 +1,76 @@
+use Rattle.sweep.proofs.FlagLaws.{flagged-none, flagged-next, flagged-all}
+use Rattle.sweep.specs.Sweeping.{Flagged}
+use lib.ListN.{length, take}
+use mathlib.Core.Path.{sym, ap, subst}
+use Prim.Native.Nat.{_≤_, _-_, _+_}
+use native.Mathlib.Omega.{arith}
+use borrow.Author.Needs.{needs}
+use Rattle.sweep.proofs.sweep.flag.Statement.{statement}
+use Rattle.sweep.proofs.sweep.flag.Tie as tie
+
+abbrev Inv-loop : tie.InvT-loop
+Inv-loop numbers₀ marks d₀ numbers d = (d ≤ length marks) × Flagged (take d marks) numbers
+
+abbrev μ-loop : tie.MeasureT-loop
+μ-loop numbers₀ marks d₀ numbers d = length marks - d
+
+loop-holds : tie.Need-loop-holds Inv-loop μ-loop
+loop-holds c = (
+  omega arith,
+  flagged-none (c .before .before .args .numbers .now) (c .before .before .args .marks .now) (c .before
+      .before .pre .zero),
+)
+
+mul-flag-one : tie.Need-mul-flag-one Inv-loop μ-loop
+mul-flag-one c = search needs
+
+shared-slice-read-flag-one : tie.Need-shared-slice-read-flag-one Inv-loop μ-loop
+shared-slice-read-flag-one c = search needs
+
+flag-one-requires : tie.Need-flag-one-requires Inv-loop μ-loop
+flag-one-requires c κs = omega (
+  arith,
+  c .before .before .before .loop .inv .1 .size,
+  c .before .before .before .before .before .before
+      .pre .links (c .before .before .before .loop .d),
+)
+
+add-d : tie.Need-add-d Inv-loop μ-loop
+add-d c = search needs
+
+loop-less : tie.Need-loop-less Inv-loop μ-loop
+loop-less c = omega arith
+
+loop-again : tie.Need-loop-again Inv-loop μ-loop
+loop-again c = (
+  omega arith,
+  subst (Flagged (take (c .before .before .before .before .before .before .loop .d + 1) (c .before .before
+      .before .before .before .before .before .before .before .args .marks .now))) (sym (c .before .before .flag-one .ensures))
+      (flagged-next (c .before .before .before .before .before .before .loop .numbers) (c .before .before .before .before .before .before
+      .before .before .before .args .marks .now) (c .before .before .before .before .before .before .loop .d) (c .before .before .before
+      .before .before .loop-test .taken) (c .before .before .before .before .before .before .before .before .before .pre .links (c .before
+      .before .before .before .before .before .loop .d)) (c .before .before .before .before .before .before .loop .inv .1)),
+)
+
+same-length : tie.Need-same-length Inv-loop μ-loop
+same-length c = search (c .before .loop .inv .1 .size, ap length (c .before .before .before .before .pre .zero), needs)
+
+returns : tie.Need-returns Inv-loop μ-loop
+returns c = flagged-all (c .before .loop .numbers) (c .before .before .before .before .args .marks .now) (c .before .loop .d) (omega
+    arith) (c .before .loop .inv .1)
+
+pub flag-spec : {M : Type 1} → statement M
+flag-spec =
+    tie.close
+    (tie.spec
+    Inv-loop
+    μ-loop
+    loop-holds
+    mul-flag-one
+    shared-slice-read-flag-one
+    flag-one-requires
+    add-d
+    loop-less
+    loop-again
+    same-length
+    returns)

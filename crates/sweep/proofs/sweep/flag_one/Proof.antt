@@ -1,0 +1,37 @@
+use Rattle.model.proofs.BoolLaws.{pick-true, pick-false}
+use borrow.Author.Tests.{eq-eqb, ne-eqb}
+use lib.ListN.{set}
+use lib.Dec.{eqb}
+use Prim.Native.Nat.{ℕ}
+use mathlib.Core.Path.{_∙_, sym, ap}
+use borrow.Author.Needs.{needs}
+use Rattle.sweep.proofs.sweep.flag_one.Statement.{statement}
+use Rattle.sweep.proofs.sweep.flag_one.Tie as tie
+
+index-requires : tie.Need-index-requires
+index-requires c κs = search needs
+
+returns : tie.Need-returns
+returns c = sym (pick-true (eqb (c .before .before .before .args .link) 0) (c .before .before .before .args .numbers .now) (set (c
+    .before .before .before .args .numbers .now) (c .before .before .before .args .link) 1) (eq-eqb (c .before .before .before .args
+    .link) 0 (sym (c .before .index .ensures) ∙ c .if1 .taken)))
+
+mul-numbers : tie.Need-mul-numbers
+mul-numbers c = search needs
+
+slice-write-numbers : tie.Need-slice-write-numbers
+slice-write-numbers c = search needs
+
+same-length : tie.Need-same-length
+same-length c = search needs
+
+returns-2 : tie.Need-returns-2
+returns-2 c = ap (λ (j : ℕ). set (c .before .before .before .args .numbers .now) j 1) (c .before .index .ensures) ∙ sym (pick-false (eqb
+    (c .before .before .before .args .link) 0) (c .before .before .before .args .numbers .now) (set (c .before .before .before .args
+    .numbers .now) (c .before .before .before .args .link) 1) (ne-eqb (c .before .before .before .args .link) 0 (λ q. c .if1 .left (c
+    .before .index .ensures ∙ q))))
+
+pub flag-one-spec : {M : Type 1} → statement M
+flag-one-spec =
+    tie.close
+    (tie.spec index-requires returns mul-numbers slice-write-numbers same-length returns-2)

@@ -1,0 +1,13 @@
+use borrow.Author.Tests.{eq-eqb, ne-eqb}
+use borrow.Author.Needs.{needs}
+use Rattle.sweep.proofs.sweep.is_kept.Statement.{statement}
+use Rattle.sweep.proofs.sweep.is_kept.Tie as tie
+
+returns : tie.Need-returns
+returns c = rw (ne-eqb (c .before .args .flag) 0 (c .if1 .taken))
+
+returns-2 : tie.Need-returns-2
+returns-2 c = rw (eq-eqb (c .before .args .flag) 0 (search (c .if1 .left, needs)))
+
+pub is-kept-spec : {M : Type 1} → statement M
+is-kept-spec = tie.close (tie.spec returns returns-2)

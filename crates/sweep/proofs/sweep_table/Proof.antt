@@ -1,0 +1,98 @@
+use Rattle.sweep.proofs.SweepLaws.{encode-swept, sweep-ill, sweep-done}
+use Rattle.table.proofs.FitsLaws.{Fits, fits-at, fits-mark}
+use Rattle.table.specs.Fitting.{Words}
+use borrow.Author.Tests.{not-true, not-false}
+use native.Mathlib.Omega.{arith}
+use mathlib.Core.Path.{refl, _∙_, sym}
+use borrow.Author.Needs.{needs}
+use Rattle.sweep.proofs.sweep_table.Statement.{statement}
+use Rattle.sweep.proofs.sweep_table.Tie as tie
+
+fits-requires : tie.Need-fits-requires
+fits-requires c κs = search needs
+
+size : (c : tie.Start) → Words (c .args .t1 .rows) (c .args .t1 .marks)
+size c = search needs
+
+fitting : (c : tie.Else1) → Fits (c .before .before .before .before .before .before .before .args .t1 .count) (c .before .before .before
+    .before .before .before .before .args .t1 .rows) (c .before .before .before .before .before .before .before .args .t1 .marks)
+fitting c = fits-at (c .before .before .before .before .before .before .before .args .t1 .count) (c .before .before .before .before
+    .before .before .before .args .t1 .rows) (c .before .before .before .before .before .before .before .args .t1 .marks) (sym (c .before
+    .fits2 .ensures) ∙ not-false (c .before .fits2 .result) (c .if1 .left))
+
+returns : tie.Need-returns
+returns c = sweep-ill (c .before .before .before .before .before .before .before .args .t1) (sym (c .before .fits2 .ensures) ∙ not-true
+    (c .before .fits2 .result) (c .if1 .taken))
+
+slice-aggregate-rows : tie.Need-slice-aggregate-rows
+slice-aggregate-rows c = search needs
+
+slice-aggregate-rows-2 : tie.Need-slice-aggregate-rows-2
+slice-aggregate-rows-2 c = search needs
+
+rows-requires : tie.Need-rows-requires
+rows-requires c κs = record {
+  size = size (c .before .before .before .before .before .before .before .before .before .before .before
+      .before .before .before) .rows;
+  fits = sym (c .before .before .before .before .before .before .before .before .fits2 .ensures) ∙
+      not-false (c .before .before .before .before .before .before .before .before .fits2 .result) (c .before .before .before .before
+      .before .before .before .if1 .left);
+  numbers = refl;
+  rows = refl;
+}
+
+slice-aggregate-renumber : tie.Need-slice-aggregate-renumber
+slice-aggregate-renumber c = search needs
+
+slice-aggregate-renumber-2 : tie.Need-slice-aggregate-renumber-2
+slice-aggregate-renumber-2 c = search needs
+
+renumber-requires : tie.Need-renumber-requires
+renumber-requires c κs = record {
+  size = c .before .before .before .before .before .rows2 .ensures .size;
+  links = λ d. fits-mark (c
+      .before .before .before .before .before .before .before .before .before .before .before .before .before .before .before .before
+      .before .before .before .before .args .t1 .count) (c .before .before .before .before .before .before .before .before .before .before
+      .before .before .before .before .before .before .before .before .before .before .args .t1 .rows) (c .before .before .before .before
+      .before .before .before .before .before .before .before .before .before .before .before .before .before .before .before .before .args
+      .t1 .marks) (fitting (c .before .before .before .before .before .before .before .before .before .before .before .before .before))
+      (omega (
+        arith,
+        fitting (c .before .before .before .before .before .before .before .before .before .before .before .before .before)
+            .few,
+        size (c .before .before .before .before .before .before .before .before .before .before .before .before .before .before .before
+            .before .before .before .before .before) .rows,
+      )) d;
+}
+
+returns-2 : tie.Need-returns-2
+returns-2 c = sweep-done (c .before .before .before .before .before .before .before .before .before .before .before .before .before
+    .before .before .before .before .before .before .before .before .before .args .t1) _ (sym (c .before .before .before .before .before
+    .before .before .before .before .before .before .before .before .before .before .before .fits2 .ensures) ∙ not-false (c .before
+    .before .before .before .before .before .before .before .before .before .before .before .before .before .before .before .fits2
+    .result) (c .before .before .before .before .before .before .before .before .before .before .before .before .before .before .before
+    .if1 .left)) (encode-swept (c .before .before .before .before .before .before .before .before .before .before .before .before .before
+    .before .before .before .before .before .before .before .before .before .args .t1 .rows) (c .before .before .before .before .before
+    .before .before .before .before .before .before .before .before .before .before .before .before .before .before .before .before
+    .before .args .t1 .marks) (c .before .before .before .before .before .before .before .before .before .before .before .before .before
+    .before .before .before .before .before .before .before .before .before .args .t1 .count) (fitting (c .before .before .before .before
+    .before .before .before .before .before .before .before .before .before .before .before)) (size (c .before .before .before .before
+    .before .before .before .before .before .before .before .before .before .before .before .before .before .before .before .before
+    .before .before) .rows) (c .before .before .before .before .before .before .before .rows2 .result) (c .before .before .before .before
+    .before .before .before .rows2 .last .1 .1 .1 .0) (c .before .before .before .before .before .before .before .rows2 .last .1 .1 .1 .1
+    .0) (c .before .before .before .before .before .before .before .rows2 .ensures) (c .before .renumber .last .0) (c .before .renumber
+    .ensures))
+
+pub sweep-table-spec : {M : Type 1} → statement M
+sweep-table-spec =
+    tie.close
+    (tie.spec
+    fits-requires
+    returns
+    slice-aggregate-rows
+    slice-aggregate-rows-2
+    rows-requires
+    slice-aggregate-renumber
+    slice-aggregate-renumber-2
+    renumber-requires
+    returns-2)

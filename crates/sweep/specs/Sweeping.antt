@@ -1,0 +1,82 @@
+-- What a sweep answers, for every input, and the contracts of its parts: a row's entry among the numbers stands at its link. Assumes nothing: these are definitions.
+use mathlib.Core.Path.{_≡_}
+use mathlib.Core.Bool.{Bool, true, _||_, not}
+use mathlib.Core.List.{List, map}
+use Prim.Native.Nat.{ℕ, _+_, _*_, _/_, _%_, _≤_, _<_}
+use lib.Dec.{eqb}
+use lib.ListN.{length, getD, set, take, replicate}
+use Rattle.model.specs.Base.{pick, any}
+use Rattle.model.specs.Table as model
+use Rattle.model.specs.Refusal as refusal
+use Rattle.model.specs.Sweep.{swept, isKept, newNumber, sweptRows}
+use Rattle.table.specs.Words.{linked, wordsOf, decode, partsFit, fits}
+use Rattle.table.specs.Results.{result, asItWas}
+use Rattle.table.specs.declared.Table.{Table}
+use Rattle.table.specs.declared.TableResult.{TableResult}
+
+-- SWEEPING a table handed in: refused, it is as it was
+abbrev pub planSwept : Table → TableResult
+planSwept t = pick (fits t) (result refusal.fine (swept (decode t))) (asItWas (refusal.linkAt 0) t)
+
+-- FLAGS: 1 for a marked row, else 0
+abbrev pub flagOf : (marks : List ℕ) → (row : ℕ) → ℕ
+flagOf ms k = pick (any (model.isThe k) (map linked ms)) 1 0
+
+pub record LinksPre (ns ms : List ℕ) : Type 0 where
+  pub size : length ns ≡ 513
+  pub links : (d : ℕ) → getD ms d 0 < 513
+
+pub record FlagPre (ns ms : List ℕ) : Type 0 where
+  pub zero : ns ≡ replicate 513 0
+  pub links : (d : ℕ) → getD ms d 0 < 513
+
+pub record Flagged (ms ns : List ℕ) : Type 0 where
+  pub size : length ns ≡ 513
+  pub none : getD ns 0 0 ≡ 0
+  pub flags : (k : ℕ) → k < 512 → getD ns (k + 1) 0 ≡ flagOf ms k
+
+-- ONE ROW, from its flag and its parent's entry
+abbrev pub keeps : (flag parent : ℕ) → Bool
+keeps f p = not (eqb f 0) || not (eqb p 0)
+
+abbrev pub keepsRow : (word row : ℕ) → (numbers : List ℕ) → Bool
+keepsRow w i ns = keeps (getD ns (i + 1) 0) (getD ns (w / 4 % 1024) 0)
+
+abbrev pub newWord : (word : ℕ) → (numbers : List ℕ) → ℕ
+newWord w ns = w % 4 + 4 * getD ns (w / 4 % 1024) 0 + 4096 * (w / 4096)
+
+pub record RowPre (w i next : ℕ) (ns out : List ℕ) : Type 0 where
+  pub word : w < 1048576
+  pub low : i < 512
+  pub link : w / 4 % 1024 < 513
+  pub below : next ≤ i
+  pub numbers : length ns ≡ 513
+  pub rows : length out ≡ 512
+  pub parent : getD ns (w / 4 % 1024) 0 < 1024
+
+pub record RowPost (w i next : ℕ) (ns out ns′ out′ : List ℕ) (r : ℕ) : Type 0 where
+  pub numbers : ns′ ≡ pick (keepsRow w i ns) (set ns (i + 1) (next + 1)) ns
+  pub rows : out′ ≡ pick (keepsRow w i ns) (set out next (newWord w ns)) out
+  pub result : r ≡ pick (keepsRow w i ns) (next + 1) next
+
+-- ALL ROWS: those before i are done, `next` of them kept; the flags of the others still stand
+abbrev pub numberOf : model.Table → (row : ℕ) → ℕ
+numberOf x k = pick (isKept x k) (newNumber x k + 1) 0
+
+pub record Sweeping (x : model.Table) (i next : ℕ) (ns out : List ℕ) : Type 0 where
+  pub size : length ns ≡ 513
+  pub none : getD ns 0 0 ≡ 0
+  pub done : (k : ℕ) → k < i → getD ns (k + 1) 0 ≡ numberOf x k
+  pub flags : (k : ℕ) → i ≤ k → k < 512 → getD ns (k + 1) 0 ≡ pick (model.isMarked x k) 1 0
+  pub kept : next ≡ newNumber x i
+  pub rows : out ≡ wordsOf (sweptRows x 0 (take i (x .rows)))
+
+pub record RowsPre (ws ms : List ℕ) (n : ℕ) (ns out : List ℕ) : Type 0 where
+  pub size : length ws ≡ 512
+  pub fits : partsFit n ws ms ≡ true
+  pub numbers : ns ≡ replicate 513 0
+  pub rows : out ≡ replicate 512 0
+
+-- MARKS: each link's new one
+abbrev pub newLinks : (numbers marks : List ℕ) → List ℕ
+newLinks ns ms = map (λ (m : ℕ). getD ns m 0) ms

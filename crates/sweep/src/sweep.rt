@@ -1,0 +1,104 @@
+// Drops each row that is neither marked nor below a marked row, and renumbers the others in rising order.
+// A row's entry among the numbers stands at its link: first 1 where it is marked, then its new number and one where it is kept, else 0.
+ghost use mathlib.Core.Path.{_≡_};
+ghost use Prim.Native.Nat.{_<_};
+ghost use lib.Dec.{eqb};
+ghost use lib.ListN.{length, set};
+ghost use Rattle.model.specs.Base.{pick};
+ghost use Rattle.sweep.specs.Sweeping.{FlagPre, Flagged, keeps, RowPre, RowPost, RowsPre, Sweeping, LinksPre, newLinks};
+ghost use Rattle.table.specs.Words.{decodeParts};
+use table::words;
+
+fn index(link: u16) -> usize
+    ensures { λ r. ⌜ r ≡ link ⌝ }
+{
+    link as usize
+}
+
+fn wide(link: u16) -> u32
+    ensures { λ r. ⌜ r ≡ link ⌝ }
+{
+    link as u32
+}
+
+// Flags the row with this link, if there is one.
+fn flag_one(numbers: &mut [u16], link: u16)
+    requires { ⌜ link < length (now numbers) ⌝ }
+    ensures { λ r. ⌜ now (numbers .exit) ≡ pick (eqb link 0) (now (numbers .entry)) (set (now (numbers .entry)) link 1) ⌝ }
+{
+    let at = index(link);
+    if at == 0 {
+        return;
+    }
+    numbers[at] = 1;
+}
+
+// Flags the marked rows.
+pub fn flag(numbers: &mut [u16], marks: &[u16])
+    requires { ⌜ FlagPre (now numbers) (now marks) ⌝ }
+    ensures { λ r. ⌜ Flagged (now (marks .entry)) (now (numbers .exit)) ⌝ }
+{
+    let mut d = 0;
+    while d < marks.len() {
+        flag_one(numbers, marks[d]);
+        d += 1;
+    }
+}
+
+// A row is kept: it is marked, or its parent is kept.
+fn is_kept(flag: u16, parent: u16) -> bool
+    ensures { λ r. ⌜ r ≡ keeps flag parent ⌝ }
+{
+    if flag != 0 {
+        return true;
+    }
+    parent != 0
+}
+
+// One row: kept, it takes the next number. The next number.
+fn row(w: u32, i: usize, next: usize, numbers: &mut [u16], out: &mut [u32]) -> usize
+    requires { ⌜ RowPre w i next (now numbers) (now out) ⌝ }
+    ensures { λ r. ⌜ RowPost w i next (now (numbers .entry)) (now (out .entry)) (now (numbers .exit)) (now (out .exit)) r ⌝ }
+{
+    let parent = numbers[words::link(w)];
+    if !is_kept(numbers[i + 1], parent) {
+        return next;
+    }
+    numbers[i + 1] = (next + 1) as u16;
+    out[next] = words::word(words::kind(w), wide(parent), words::tag(w));
+    next + 1
+}
+
+// Every row below the count; how many are kept.
+pub fn rows<'a>(
+    rows: &'a [u32],
+    marks: &'a [u16],
+    count: usize,
+    numbers: &mut [u16],
+    out: &mut [u32],
+) -> usize
+    requires { ⌜ RowsPre (now rows) (now marks) count (now numbers) (now out) ⌝ }
+    ensures { λ r. ⌜ Sweeping (decodeParts count (now (rows .entry)) (now (marks .entry))) count r
+        (now (numbers .exit)) (now (out .exit)) ⌝ }
+{
+    flag(numbers, marks);
+    let mut next = 0;
+    let mut i = 0;
+    while i < count {
+        next = row(rows[i], i, next, numbers, out);
+        i += 1;
+    }
+    next
+}
+
+// The marks' links, renumbered.
+pub fn renumber(marks: &mut [u16], numbers: &[u16])
+    requires { ⌜ LinksPre (now numbers) (now marks) ⌝ }
+    ensures { λ r. ⌜ now (marks .exit) ≡ newLinks (now (numbers .entry)) (now (marks .entry)) ⌝ }
+{
+    let mut d = 0;
+    while d < marks.len() {
+        marks[d] = numbers[index(marks[d])];
+        d += 1;
+    }
+}

@@ -1,0 +1,79 @@
+-- What the table decoded from words has: its elements and its marks; one mark or one row more.
+use mathlib.Core.Path.{_≡_, ap, sym, _∙_}
+use mathlib.Core.Bool.{true, false, _||_, not}
+use mathlib.Core.List.{List, [], _∷_, map, _++_}
+use mathlib.Core.Option.{some}
+use Prim.Native.Nat.{ℕ, _+_, _-_, _%_, _≤_, _<_}
+use native.Mathlib.Omega.{arith}
+use lib.Dec.{eqb}
+use lib.ListN.{length, getD, set, drop, drop-of-length-le, take}
+use lib.Seq.{drop-cons, take-suc}
+use native.Mathlib.Numerals.{add-one}
+use borrow.Author.Tests.{lt-ltb, le-ltb, eq-eqb, ne-eqb, eqb-true, eqb-false}
+use Rattle.model.specs.Base.{any}
+use Rattle.model.specs.Table as model
+use Rattle.model.specs.Stored.{wordBytes, parentBytes}
+use Rattle.model.proofs.BoolLaws.{by-cases}
+use Rattle.table.specs.Words.{linkOf, linked, wordOf, rowsOf, decodeParts, rowOf}
+use Rattle.table.proofs.WordLaws.{linked-linkOf, count-decode, rowAt-decode, rowsOf-push}
+use Rattle.model.proofs.ListLaws.{map-set}
+
+-- whether a row of the table is an element, from its word
+module _ (n : ℕ) (ws ms : List ℕ) (within : n ≤ length ws) (p : ℕ) where
+  pub element-high : n ≤ p → model.isElement (decodeParts n ws ms) p ≡ false
+  element-high h =
+      let k : model.count (decodeParts n ws ms) ≤ p = omega (arith, count-decode n ws ms within) in
+      rw (le-ltb p (model.count (decodeParts n ws ms)) k)
+
+  pub element-kind : p < n → model.isElement (decodeParts n ws ms) p ≡ not (eqb (getD ws p 0 % 4) 2)
+  element-kind h =
+      let k : p < model.count (decodeParts n ws ms) = omega (arith, count-decode n ws ms within) in
+      rw (lt-ltb p (model.count (decodeParts n ws ms)) k, rowAt-decode n ws ms within p h)
+
+-- whether a row is marked, one mark after another
+pub isThe-linked : (link m : ℕ) → 0 < link → model.isThe (link - 1) (linked m) ≡ eqb m link
+isThe-linked link m h =
+    by-cases (eqb m 0) (λ e. go-zero e (eqb-true m 0 e)) (λ e. go-some e (eqb-false m 0 e))
+  where
+    go-zero : eqb m 0 ≡ true → m ≡ 0 → model.isThe (link - 1) (linked m) ≡ eqb m link
+    go-zero e z = rw e (sym (ne-eqb m link (λ q. omega arith)))
+
+    go-some : eqb m 0 ≡ false → (m ≡ 0 → ⊥) → model.isThe (link - 1) (linked m) ≡ eqb m link
+    go-some e f =
+        rw e (by-cases (eqb m link) (λ q. let k : m - 1 ≡ link - 1 = omega (arith, eqb-true m link q) in eq-eqb (m - 1) (link - 1) k ∙
+        sym q)
+        (λ q. ne-eqb (m - 1) (link - 1) (λ k. eqb-false m link q (omega (arith, f))) ∙ sym q))
+
+pub marked-turn : (ms : List ℕ) (d link : ℕ) → d < length ms → 0 < link →
+    any (model.isThe (link - 1)) (map linked (drop d ms)) ≡ (eqb (getD ms d 0) link || any (model.isThe (link - 1)) (map linked (drop (d
+    + 1) ms)))
+unfolding any
+marked-turn ms d link h l = rw (drop-cons ms d 0 h, isThe-linked link (getD ms d 0) l, add-one)
+
+pub marked-none : (ms : List ℕ) (d link : ℕ) → length ms ≤ d → any (model.isThe (link - 1)) (map linked (drop d ms)) ≡ false
+unfolding any
+marked-none ms d link h = rw (drop-of-length-le ms h)
+
+-- the table with a mark more, and with a row more
+pub decode-mark : (n d i : ℕ) (ws ms : List ℕ) → decodeParts n ws (set ms d (i + 1)) ≡ model.withMark (decodeParts n ws ms) d i
+decode-mark n d i ws ms =
+    ap (model.table (rowsOf n ws)) (map-set linked ms d (i + 1) ∙ ap (set (map linked ms) d) (linked-linkOf (some i)))
+
+pub decode-row : (n : ℕ) (r : model.Row) (ws ms : List ℕ) → n < length ws → linkOf (r .parent) < 1024 →
+    decodeParts (n + 1) (set ws n (wordOf r)) ms ≡ model.withRow (decodeParts n ws ms) r
+decode-row n r ws ms h f = ap (λ (rs : List model.Row). model.table rs (map linked ms)) (rowsOf-push n ws r h f)
+
+-- the rows below the next number
+module _ (ws : List ℕ) (n i : ℕ) (within : n ≤ length ws) (h : i < n) where
+  pub rows-next : take (i + 1) (rowsOf n ws) ≡ take i (rowsOf n ws) ++ (rowOf (getD ws i 0) ∷ [])
+  rows-next =
+      let k : i < length (rowsOf n ws) = omega (arith, count-decode n ws [] within) in
+      ap (λ (j : ℕ). take j (rowsOf n ws)) (add-one i) ∙ take-suc (rowsOf n ws) i model.noRow k ∙
+      ap (λ (r : model.Row). take i (rowsOf n ws) ++ (r ∷ [])) (rowAt-decode n ws [] within i h)
+
+-- the number stored for the parent with a link
+pub parent-none : (l : ℕ) → l ≡ 0 → wordBytes 65535 ≡ parentBytes (linked l)
+parent-none l h = rw h
+
+pub parent-some : (l : ℕ) → (l ≡ 0 → ⊥) → wordBytes (l - 1) ≡ parentBytes (linked l)
+parent-some l h = rw (ne-eqb l 0 h)

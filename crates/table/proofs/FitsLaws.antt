@@ -1,0 +1,72 @@
+-- What a table that fits has: few rows, words that hold rows, zeros past them, tags and marks in range.
+use mathlib.Core.Path.{_≡_, ap, sym, _∙_}
+use mathlib.Core.Bool.{Bool, true, false, _&&_}
+use mathlib.Core.List.{List, [], _∷_, map}
+use mathlib.Core.Option.{none, some}
+use Prim.Native.Nat.{ℕ, zero, suc, _-_, _/_, _%_, _≤_, _<_}
+use native.Mathlib.Omega.{arith}
+use lib.Dec.{leb, eqb}
+use lib.ListN.{length, getD, take, drop, List·getD-map}
+use lib.Seq.{getD-take, length-take-le}
+use borrow.Author.Tests.{leb-true, eqb-true, eqb-false}
+use Rattle.model.specs.Base.{all}
+use Rattle.model.specs.Table as model
+use Rattle.model.proofs.BoolLaws.{and-left, and-right, by-cases}
+use Rattle.model.proofs.TableLaws.{Well, isWell-at}
+use Rattle.table.specs.Words.{linked, rowOf, isRowWord, isZero, decodeParts, partsFit, fits}
+use Rattle.table.proofs.WordLaws.{count-decode, rowAt-decode, Canonical, canonical-words}
+
+-- WHAT FITS: the count, the words in use and past it, and the table decoded
+pub record Fits (n : ℕ) (ws ms : List ℕ) : Type 0 where
+  pub few : n ≤ 512
+  pub kinds : (k : ℕ) → k < n → n ≤ length ws → isRowWord (getD ws k 0) ≡ true
+  pub canonical : length ws ≡ 512 → Canonical n ws
+  pub well : Well (decodeParts n ws ms)
+
+all-getD : (f : ℕ → Bool) (l : List ℕ) → all f l ≡ true → (k : ℕ) → k < length l → f (getD l k 0) ≡ true
+unfolding all
+all-getD f [] h k b = absurd (omega arith)
+all-getD f (a ∷ l) h zero b = and-left (f a) (all f l) h
+all-getD f (a ∷ l) h (suc k) b = all-getD f l (and-right (f a) (all f l) h) k (omega arith)
+
+pub fits-at : (n : ℕ) (ws ms : List ℕ) → partsFit n ws ms ≡ true → Fits n ws ms
+fits-at n ws ms h =
+    let a = leb n 512 in
+    let b = all isRowWord (take n ws) in
+    let c = all isZero (drop n ws) in
+    let d = model.isWell (decodeParts n ws ms) in
+    let e : (a && b && c) ≡ true = and-left (a && b && c) d h in
+    let f : (a && b) ≡ true = and-left (a && b) c e in
+    let g : n ≤ 512 = leb-true n 512 (and-left a b f) in
+    record {
+      few = g;
+      kinds = λ k l w.
+          ap isRowWord (sym (getD-take n ws k 0 l)) ∙ all-getD isRowWord (take n ws) (and-right a b f) k (omega (
+            arith,
+            length-take-le n
+                ws w,
+          ));
+      canonical = λ l. canonical-words n ws g l (and-right a b f) (and-right (a && b) c e);
+      well = isWell-at (decodeParts n ws ms) (and-right (a && b && c) d h);
+    }
+
+-- tags are bytes
+pub fits-tag : (n : ℕ) (ws ms : List ℕ) → Fits n ws ms → n ≤ length ws → (k : ℕ) → k < n → getD ws k 0 < 1048576
+fits-tag n ws ms f w k h =
+    let t : model.tagFits (rowOf (getD ws k 0)) ≡ true =
+    ap model.tagFits (sym (rowAt-decode n ws ms w k h)) ∙ f .well .tree .tags k (omega (arith, count-decode n ws ms w)) in
+    omega (
+      arith,
+      by-cases (eqb (getD ws k 0 % 4) 2) (λ e. leb-true (getD ws k 0 / 4096) 255 (rw e at t))
+          (λ e. leb-true (getD ws k 0 / 4096) 255 (and-right (leb 1 (getD ws k 0 / 4096)) (leb (getD ws k 0 / 4096) 255) (rw e at t))),
+    )
+
+-- a mark's link is below 513
+pub fits-mark : (n : ℕ) (ws ms : List ℕ) → Fits n ws ms → n ≤ length ws → (d : ℕ) → getD ms d 0 < 513
+fits-mark n ws ms f w d =
+    by-cases (eqb (getD ms d 0) 0) (λ e. omega (arith, eqb-true (getD ms d 0) 0 e)) (λ e. some-mark e (eqb-false (getD ms d 0) 0 e))
+  where
+    some-mark : eqb (getD ms d 0) 0 ≡ false → (getD ms d 0 ≡ 0 → ⊥) → getD ms d 0 < 513
+    some-mark e z =
+        let m : getD (map linked ms) d none ≡ some (getD ms d 0 - 1) = List·getD-map linked ms d 0 ∙ rw e in
+        omega (arith, f .well .tree .roots d (getD ms d 0 - 1) m .0, count-decode n ws ms w, f .few)
