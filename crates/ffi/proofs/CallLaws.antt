@@ -10,28 +10,18 @@ use Rattle.model.specs.Base.{pick}
 use Rattle.script.specs.Reading.{scriptRead}
 use Rattle.table.specs.declared.Fault.{Fault}
 use Rattle.table.specs.declared.TableResult.{TableResult}
-use Rattle.ffi.specs.Calls.{
-  codeOf,
-  shortCode,
-  readCode,
-  readOut,
-  writtenCode,
-  scriptCode,
-  undonePlan,
-  backCode,
-  backOut,
-  analysisCode,
-}
+use Rattle.ffi.specs.Calls.{readCode, readOut, writtenCode, scriptCode, undonePlan, backCode, backOut, analysisCode}
+use Rattle.lent.specs.Codes.{codeOf, lentCode}
 use Rattle.paths.specs.declared.Analysis.{Analysis}
 use Rattle.plan.specs.Calls as library
 use Rattle.table.specs.declared.Written.{Written}
 
 -- what a call answers and leaves, with n and b where the plan is read
 abbrev pub Answers : (out : List ℕ) → TableResult → (n : ℕ) → (b : List ℕ) → (code : ℕ) → (left : List ℕ) → Type 0
-Answers o q n b c l = (c ≡ pick (ltb (length o) 2080) shortCode (readCode q n)) × (l ≡ pick (ltb (length o) 2080) o (readOut q b o))
+Answers o q n b c l = (c ≡ pick (ltb (length o) 2080) lentCode (readCode q n)) × (l ≡ pick (ltb (length o) 2080) o (readOut q b o))
 
 module _ (o b : List ℕ) (n : ℕ) (q : TableResult) where
-  pub area-short : (c : ℕ) → c ≡ shortCode → length o < 2080 → Answers o q n b c o
+  pub area-short : (c : ℕ) → c ≡ lentCode → length o < 2080 → Answers o q n b c o
   area-short c e h = (e ∙ rw (lt-ltb (length o) 2080 h), rw (lt-ltb (length o) 2080 h))
 
   module _ (h : 2080 ≤ length o) (r : TableResult) (e : r ≡ q) where

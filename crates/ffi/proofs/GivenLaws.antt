@@ -11,8 +11,9 @@ use Rattle.sweep.specs.Sweeping as sweeping
 use Rattle.table.specs.declared.Table.{Table}
 use Rattle.table.specs.declared.TableResult.{TableResult}
 use Rattle.table.specs.declared.Written.{Written}
-use Rattle.ffi.specs.Calls.{codeOf, shortCode, writtenCode, isGiven, given, writeCode}
-use Rattle.ffi.specs.Calls.{writeOut, sweptTable, sweptCode, sweptRows, sweptMarks}
+use Rattle.ffi.specs.Calls.{writtenCode, writeCode, writeOut, sweptTable, sweptCode, sweptRows, sweptMarks}
+use Rattle.lent.specs.Raw.{isGiven, given}
+use Rattle.lent.specs.Codes.{codeOf, lentCode}
 
 pub rows-not-given : (ws ms : List ℕ) → (length ws ≡ 512 → ⊥) → isGiven ws ms ≡ false
 rows-not-given ws ms z = rw (ne-eqb (length ws) 512 z)
@@ -23,13 +24,9 @@ marks-not-given ws ms e z = rw (eq-eqb (length ws) 512 e, ne-eqb (length ms) 8 z
 pub is-given : (ws ms : List ℕ) → length ws ≡ 512 → length ms ≡ 8 → isGiven ws ms ≡ true
 is-given ws ms e f = rw (eq-eqb (length ws) 512 e, eq-eqb (length ms) 8 f)
 
--- the table made of the copies is the table given
-pub given-by : (n : ℕ) (ws ms vs us : List ℕ) → vs ≡ ws → us ≡ ms → given n vs us ≡ given n ws ms
-given-by n ws ms vs us e f = ap (λ (v : List ℕ). given n v us) e ∙ ap (given n ws) f
-
 module _ (n : ℕ) (ws ms : List ℕ) where
   module _ (o : List ℕ) where
-    pub write-not : (c : ℕ) → c ≡ shortCode → isGiven ws ms ≡ false → (c ≡ writeCode n ws ms o) × (o ≡ writeOut n ws ms o)
+    pub write-not : (c : ℕ) → c ≡ lentCode → isGiven ws ms ≡ false → (c ≡ writeCode n ws ms o) × (o ≡ writeOut n ws ms o)
     write-not c e z = (e ∙ rw z, rw z)
 
     module _ (t : Table) (same : t ≡ given n ws ms) (w : Written) (o′ : List ℕ) (h : isGiven ws ms ≡ true)
@@ -56,7 +53,7 @@ module _ (n : ℕ) (ws ms : List ℕ) where
   abbrev Left : (code : ℕ) → (rows marks : List ℕ) → Type 0
   Left c vs us = (c ≡ sweptCode n ws ms) × ((vs ≡ sweptRows n ws ms) × (us ≡ sweptMarks n ws ms))
 
-  pub sweep-not : (c : ℕ) → c ≡ shortCode → isGiven ws ms ≡ false → Left c ws ms
+  pub sweep-not : (c : ℕ) → c ≡ lentCode → isGiven ws ms ≡ false → Left c ws ms
   sweep-not c e z = (e ∙ rw z, (rw z, rw z))
 
   module _ (t : Table) (same : t ≡ given n ws ms) (r : TableResult) (h : isGiven ws ms ≡ true) (swept : r ≡ sweeping.planSwept t) where

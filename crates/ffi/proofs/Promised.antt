@@ -19,7 +19,7 @@ use Rattle.model.specs.Sweep.{swept}
 use Rattle.model.specs.Table.{isWell}
 use Rattle.model.specs.Table as model
 use Rattle.model.specs.Undo.{undo}
-use Rattle.model.proofs.BoolLaws.{and-both}
+use Rattle.model.proofs.BoolLaws.{and-both, or-neither}
 use Rattle.model.proofs.RunsBack.{runsBack}
 use Rattle.model.proofs.StopLaws.{stop-refuses}
 use Rattle.model.proofs.StoredBack.{storedBack}
@@ -34,8 +34,10 @@ use Rattle.sweep.specs.Sweeping as sweeping
 use Rattle.table.specs.declared.TableResult.{TableResult}
 use Rattle.undo.specs.Undoing.{planUndone, undoneBy, asItWas}
 use Rattle.run.specs.Calls.{ran, resultOf}
-use Rattle.ffi.specs.Calls.{codeOf, shortCode, readCode, readOut, writtenCode, backCode, backOut}
-use Rattle.ffi.specs.Running.{isShort, sixOver, refusedCall, ranCall, readCall, runCalled}
+use Rattle.ffi.specs.Calls.{readCode, readOut, writtenCode, backCode, backOut}
+use Rattle.lent.specs.Codes.{codeOf, lentCode}
+use Rattle.ffi.specs.Running.{refusedCall, ranCall, readCall, runCalled}
+use Rattle.lent.specs.Done.{isLentShort, doneOver}
 use Rattle.ffi.specs.Promise.{atFront, PlanBack, SweptBack, UndoneBack, RunDone, RunRefused}
 use Rattle.table.proofs.EncodeLaws.{decode-encode, fits-encode}
 use Rattle.plan.proofs.WritingLaws.{well-written, well-out}
@@ -45,11 +47,11 @@ module _ (p o : List ℕ) (x : model.Table) (read : readPlan p ≡ got x) (room 
   the-plan : library.planRead p ≡ results.result refusal.fine x
   the-plan = ap library.readBy read
 
-  code-then : (n : TableResult → ℕ) → pick (ltb (length o) 2080) shortCode (readCode (library.planRead p) (n (library.planRead p))) ≡
+  code-then : (n : TableResult → ℕ) → pick (ltb (length o) 2080) lentCode (readCode (library.planRead p) (n (library.planRead p))) ≡
       n (results.result refusal.fine x)
   code-then n =
-      ap (λ (q : TableResult). pick (ltb (length o) 2080) shortCode (readCode q (n q))) the-plan ∙
-      ap (λ (z : Bool). pick z shortCode (n (results.result refusal.fine x))) (le-ltb (length o) 2080 room)
+      ap (λ (q : TableResult). pick (ltb (length o) 2080) lentCode (readCode q (n q))) the-plan ∙
+      ap (λ (z : Bool). pick z lentCode (n (results.result refusal.fine x))) (le-ltb (length o) 2080 room)
 
   out-then : (b : TableResult → List ℕ) → pick (ltb (length o) 2080) o (readOut (library.planRead p) (b (library.planRead p)) o) ≡
       b (results.result refusal.fine x)
@@ -110,21 +112,17 @@ run-well s b x w v t e = go (readScript s) refl
     go (parsed g i n c) k = runsBack g x v t (s, b, (i, (n, (c, k)))) w (sym (ap (runBy x) k) ∙ e) .0
 
 -- no area is too short: each has its need
-or-both : (x y : Bool) → x || y ≡ false → (x ≡ false) × (y ≡ false)
-or-both true y e = absurd (subst T e tt)
-or-both false y e = (refl, e)
-
-module _ (a h w o d : List ℕ) (long : isShort (length a) (length h) (length w) (length o) (length d) ≡ false) where
+module _ (a h w o d : List ℕ) (long : isLentShort (length a) (length h) (length w) (length o) (length d) ≡ false) where
   needs : (areasFit a h w ≡ true) × (2080 ≤ length o)
   needs =
       let A = ltb (length a) answerNeed in
       let H = ltb (length h) historyNeed in
       let W = ltb (length w) workNeed in
       let O = ltb (length o) 2080 in
-      let e₁ = or-both (A || H || W || O) (ltb (length d) 6) long .0 in
-      let e₂ = or-both (A || H || W) O e₁ in
-      let e₃ = or-both (A || H) W (e₂ .0) in
-      let e₄ = or-both A H (e₃ .0) in
+      let e₁ = or-neither (A || H || W || O) (ltb (length d) 6) long .0 in
+      let e₂ = or-neither (A || H || W) O e₁ in
+      let e₃ = or-neither (A || H) W (e₂ .0) in
+      let e₄ = or-neither A H (e₃ .0) in
       let fit : (need n : ℕ) → ltb n need ≡ false → leb need n ≡ true = λ need n e. le-leb need n (ltb-false n need e) in
       let B = leb answerNeed (length a) in
       let C = leb historyNeed (length h) in (
@@ -135,7 +133,7 @@ module _ (a h w o d : List ℕ) (long : isShort (length a) (length h) (length w)
 
 -- the call, from what the run comes to
 call-of : (p s a h w o d : List ℕ) (x : model.Table) (t : Out) → isWell x ≡ true → readPlan p ≡ got x → runBy x (readScript s) ≡ t →
-    isShort (length a) (length h) (length w) (length o) (length d) ≡ false → areasFit a h w ≡ true →
+    isLentShort (length a) (length h) (length w) (length o) (length d) ≡ false → areasFit a h w ≡ true →
     runCalled p s a h w o d ≡
     ranCall (resultOf (encode x) (ranBy x (length a) (length h) (length w) t)) (ranBy x (length a) (length h) (length w) t) o d
 call-of p s a h w o d x t well e g long fit =
@@ -147,7 +145,7 @@ call-of p s a h w o d x t well e g long fit =
     (pick z (runBy (decode (encode x)) (readScript s)) (stop (refusal.linkAt 0)))) (fits-encode x well) ∙
     ap (λ (y : model.Table). ranBy y (length a) (length h) (length w) (runBy y (readScript s))) (decode-encode x well) ∙
     ap (ranBy x (length a) (length h) (length w)) g in
-    ap (λ (z : Bool). pick z (record { code = shortCode; answer = a; history = h; work = w; out = o; done = d })
+    ap (λ (z : Bool). pick z (record { code = lentCode; answer = a; history = h; work = w; out = o; done = d })
     (readCall (library.planRead p) s a h w o d)) long ∙
     ap (λ (q : TableResult). readCall q s a h w o d) (ap library.readBy e) ∙
     ap (λ (l : Ran). ranCall (resultOf (encode x) l) l o d) left
@@ -165,7 +163,7 @@ runDone p s a h w o d x v t b c e g long =
       history = L .history;
       work = L .work;
       out = well-out (t .plan) after o (ok .1) i;
-      done = sixOver (L .items) (L .made) (L .cut) (L .records) (L .bytes) (well-written (t .plan) after o (ok .1) i .bytes) d;
+      done = doneOver (L .items) (L .made) (L .cut) (L .records) (L .bytes) (well-written (t .plan) after o (ok .1) i .bytes) d;
     })
 
 -- A REFUSAL has a number other than 0

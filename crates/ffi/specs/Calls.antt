@@ -1,11 +1,13 @@
 -- What the C calls answer and leave, for every input, from what the calls of the library answer. Assumes nothing: these are definitions.
-use mathlib.Core.Bool.{Bool, _&&_}
+use mathlib.Core.Bool.{_&&_}
 use mathlib.Core.List.{List}
-use Prim.Native.Nat.{ℕ, _+_, _*_, _%_}
+use Prim.Native.Nat.{ℕ}
 use lib.Dec.{ltb, eqb}
 use lib.ListN.{length}
 use Rattle.model.specs.Base.{pick}
 use Rattle.plan.specs.Calls as library
+use Rattle.lent.specs.Codes.{codeOf, lentCode, outNeed}
+use Rattle.lent.specs.Raw.{isGiven, given}
 use Rattle.sweep.specs.Sweeping as sweeping
 use Rattle.paths.specs.Analysis.{analysed, valuesOf}
 use Rattle.paths.specs.declared.Analysis.{Analysis}
@@ -14,18 +16,6 @@ use Rattle.script.specs.Reading.{scriptRead}
 use Rattle.table.specs.declared.Table.{Table}
 use Rattle.table.specs.declared.TableResult.{TableResult}
 use Rattle.table.specs.declared.Written.{Written}
-
--- number + 256 × which + 65,536 × place; a place of 2^48 or more, past any memory, is taken modulo that
-abbrev pub codeOf : (number which place : ℕ) → ℕ
-codeOf n w i = n + 256 * w + 65536 * (i % 281474976710656)
-
--- what out needs: the bytes of 512 rows and 8 marks
-abbrev pub outNeed : ℕ
-outNeed = 2080
-
--- 11 at place 0 for an area too short
-abbrev pub shortCode : ℕ
-shortCode = codeOf 11 0 0
 
 -- the plan's own refusal, or the code of what is written
 abbrev pub readCode : TableResult → (written : ℕ) → ℕ
@@ -40,7 +30,7 @@ readOut r b o = pick (eqb (r .fault .number) 0) b o
 -- READ AND WRITE BACK; out needs 2,080 bytes
 abbrev pub planCode : (plan out : List ℕ) → ℕ
 planCode p o =
-    pick (ltb (length o) outNeed) shortCode (readCode (library.planRead p) (writtenCode (library.planWritten (library.planRead p .table) o)))
+    pick (ltb (length o) outNeed) lentCode (readCode (library.planRead p) (writtenCode (library.planWritten (library.planRead p .table) o)))
 
 abbrev pub planOut : (plan out : List ℕ) → List ℕ
 planOut p o = pick (ltb (length o) outNeed) o (readOut (library.planRead p) (library.planOut (library.planRead p .table) o) o)
@@ -50,7 +40,7 @@ abbrev pub sweptPlan : (plan : List ℕ) → Table
 sweptPlan p = sweeping.planSwept (library.planRead p .table) .table
 
 abbrev pub sweepCode : (plan out : List ℕ) → ℕ
-sweepCode p o = pick (ltb (length o) outNeed) shortCode (readCode (library.planRead p) (writtenCode (library.planWritten (sweptPlan p) o)))
+sweepCode p o = pick (ltb (length o) outNeed) lentCode (readCode (library.planRead p) (writtenCode (library.planWritten (sweptPlan p) o)))
 
 abbrev pub sweepOut : (plan out : List ℕ) → List ℕ
 sweepOut p o = pick (ltb (length o) outNeed) o (readOut (library.planRead p) (library.planOut (sweptPlan p) o) o)
@@ -67,25 +57,18 @@ abbrev pub backOut : TableResult → (out : List ℕ) → List ℕ
 backOut r o = pick (eqb (r .fault .number) 0) (library.planOut (r .table) o) o
 
 abbrev pub undoCode : (plan history out : List ℕ) → ℕ
-undoCode p h o = pick (ltb (length o) outNeed) shortCode (readCode (library.planRead p) (backCode (undonePlan p h) o))
+undoCode p h o = pick (ltb (length o) outNeed) lentCode (readCode (library.planRead p) (backCode (undonePlan p h) o))
 
 abbrev pub undoOut : (plan history out : List ℕ) → List ℕ
 undoOut p h o = pick (ltb (length o) outNeed) o (readOut (library.planRead p) (backOut (undonePlan p h) o) o)
 
--- A TABLE GIVEN as 512 row words and 8 marks
-abbrev pub isGiven : (rows marks : List ℕ) → Bool
-isGiven ws ms = eqb (length ws) 512 && eqb (length ms) 8
-
-abbrev pub given : (count : ℕ) → (rows marks : List ℕ) → Table
-given n ws ms = record { count = n; rows = ws; marks = ms }
-
--- written: an ill-formed table is the plan's refusal
+-- A TABLE GIVEN as 512 row words and 8 marks, written: an ill-formed table is the plan's refusal
 abbrev pub writeCode : (count : ℕ) → (rows marks out : List ℕ) → ℕ
 writeCode n ws ms o =
     pick (isGiven ws ms)
     (pick (eqb (library.planWritten (given n ws ms) o .fault .number) 6) (codeOf 6 1 0) (writtenCode (library.planWritten (given n ws ms)
     o)))
-    shortCode
+    lentCode
 
 abbrev pub writeOut : (count : ℕ) → (rows marks out : List ℕ) → List ℕ
 writeOut n ws ms o = pick (isGiven ws ms) (library.planOut (given n ws ms) o) o
@@ -99,7 +82,7 @@ sweptCode n ws ms =
     pick (isGiven ws ms)
     (pick (eqb (sweptTable n ws ms .fault .number) 0) (codeOf 0 0 (sweptTable n ws ms .table .count)) (codeOf (sweptTable n ws ms .fault
     .number) 1 0))
-    shortCode
+    lentCode
 
 abbrev pub sweptRows : (count : ℕ) → (rows marks : List ℕ) → List ℕ
 sweptRows n ws ms = pick (isGiven ws ms && eqb (sweptTable n ws ms .fault .number) 0) (sweptTable n ws ms .table .rows) ws

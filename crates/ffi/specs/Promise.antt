@@ -15,8 +15,10 @@ use Rattle.model.specs.Stored.{stored, got, readPlan}
 use Rattle.model.specs.Sweep.{swept}
 use Rattle.model.specs.Table.{Table}
 use Rattle.model.specs.Undo.{back, undo}
-use Rattle.ffi.specs.Calls.{outNeed, codeOf, planCode, planOut, sweepCode, sweepOut, undoCode, undoOut}
-use Rattle.ffi.specs.Running.{isShort, sixOver, refusedCall, runCalled}
+use Rattle.ffi.specs.Calls.{planCode, planOut, sweepCode, sweepOut, undoCode, undoOut}
+use Rattle.lent.specs.Codes.{outNeed, codeOf}
+use Rattle.ffi.specs.Running.{refusedCall, runCalled}
+use Rattle.lent.specs.Done.{isLentShort, doneOver}
 
 -- a plan at the start of out, the rest as it was
 abbrev pub atFront : (bytes out : List ℕ) → List ℕ
@@ -44,14 +46,14 @@ UndoneBack =
 abbrev pub RunDone : Type 0
 RunDone =
     (p s a h w o d : List ℕ) (x : Table) (v : List ℕ) (t : State) → areBytes p ≡ true → areBytes s ≡ true → readPlan p ≡ got x →
-    runBy x (readScript s) ≡ gives v t → isShort (length a) (length h) (length w) (length o) (length d) ≡ false →
+    runBy x (readScript s) ≡ gives v t → isLentShort (length a) (length h) (length w) (length o) (length d) ≡ false →
     runCalled p s a h w o d ≡ record {
       code = codeOf 0 0 0;
       answer = filled (length a) v;
       history = filled (length h) (historyBytes (t .history));
       work = replicate (length w) 0;
       out = atFront (stored (t .plan)) o;
-      done = sixOver (length v) (countKind madeElementKind madeLeafKind (t .history)) (countKind cutKind cutKind (t .history))
+      done = doneOver (length v) (countKind madeElementKind madeLeafKind (t .history)) (countKind cutKind cutKind (t .history))
           (length (t .history)) (length (historyBytes (t .history))) (length (stored (t .plan))) d;
     }
 
@@ -59,6 +61,6 @@ RunDone =
 abbrev pub RunRefused : Type 0
 RunRefused =
     (p s a h w o d : List ℕ) (x : Table) (f : Fault) → areBytes p ≡ true → readPlan p ≡ got x → runBy x (readScript s) ≡ stop f →
-    isShort (length a) (length h) (length w) (length o) (length d) ≡ false →
+    isLentShort (length a) (length h) (length w) (length o) (length d) ≡ false →
     runCalled p s a h w o d ≡
     refusedCall (codeOf (f .number) 2 (f .place)) (replicate (length a) 0) (replicate (length h) 0) (replicate (length w) 0) o d

@@ -1,25 +1,16 @@
 -- What the C call for a run answers and leaves in its five lent areas, for every input. Assumes nothing: these are definitions.
-use mathlib.Core.Bool.{Bool, _||_}
 use mathlib.Core.List.{List}
 use Prim.Native.Nat.{ℕ}
-use lib.Dec.{ltb, eqb}
-use lib.ListN.{length, set, replicate}
+use lib.Dec.{eqb}
+use lib.ListN.{length, replicate}
 use Rattle.model.specs.Base.{pick}
-use Rattle.model.specs.Limits.{answerNeed, historyNeed, workNeed}
 use Rattle.model.specs.Call.{Ran}
 use Rattle.plan.specs.Calls as library
 use Rattle.table.specs.declared.TableResult.{TableResult}
 use Rattle.run.specs.Calls.{ran, runResult}
 use Rattle.run.specs.declared.RunResult.{RunResult}
-use Rattle.ffi.specs.Calls.{outNeed, codeOf, shortCode}
-
--- an area shorter than its need: out takes the longest plan, 2,080 bytes, and done six numbers
-abbrev pub isShort : (answer history work out done : ℕ) → Bool
-isShort a h w o d = ltb a answerNeed || ltb h historyNeed || ltb w workNeed || ltb o outNeed || ltb d 6
-
--- six numbers over the front of done: items, rows made, links cut, records written, history bytes, bytes in out
-abbrev pub sixOver : (items made cut records bytes written : ℕ) → (done : List ℕ) → List ℕ
-sixOver i m c r b n d = set (set (set (set (set (set d 0 i) 1 m) 2 c) 3 r) 4 b) 5 n
+use Rattle.lent.specs.Codes.{codeOf, lentCode}
+use Rattle.lent.specs.Done.{isLentShort, doneOver, endCode, endOut, endDone}
 
 -- what the call answers, and the areas after it
 pub record Called : Type 0 where
@@ -33,25 +24,12 @@ pub record Called : Type 0 where
 -- refused: out is as it was, and the six numbers are zero
 abbrev pub refusedCall : (code : ℕ) → (answer history work out done : List ℕ) → Called
 refusedCall n a h w o d =
-    record { code = n; answer = a; history = h; work = w; out = o; done = sixOver 0 0 0 0 0 0 d }
+    record { code = n; answer = a; history = h; work = w; out = o; done = doneOver 0 0 0 0 0 0 d }
 
 -- once the run is over: its refusal, or the plan written
-abbrev pub writtenCall : RunResult → Ran → (out done : List ℕ) → Called
-writtenCall r l o d =
-    record {
-      code = codeOf (library.planWritten (r .table) o .fault .number) 0 0;
-      answer = l .answer;
-      history = l .history;
-      work = l .work;
-      out = library.planOut (r .table) o;
-      done = sixOver (r .items) (r .tally .made) (r .tally .cut) (r .tally .records) (r .bytes) (library.planWritten (r .table) o .bytes)
-          d;
-    }
-
 abbrev pub ranCall : RunResult → Ran → (out done : List ℕ) → Called
 ranCall r l o d =
-    pick (eqb (r .fault .number) 0) (writtenCall r l o d)
-    (refusedCall (codeOf (r .fault .number) 2 (r .fault .place)) (l .answer) (l .history) (l .work) o d)
+    record { code = endCode r o; answer = l .answer; history = l .history; work = l .work; out = endOut r o; done = endDone r o d }
 
 -- once the plan is read: its refusal, and then nothing runs and the run's areas are zero, or the run
 abbrev pub readCall : TableResult → (script answer history work out done : List ℕ) → Called
@@ -63,6 +41,6 @@ readCall q s a h w o d =
 -- READ, RUN AND WRITE: 11 first, nothing touched; then the plan's refusal, then the run's
 abbrev pub runCalled : (plan script answer history work out done : List ℕ) → Called
 runCalled p s a h w o d =
-    pick (isShort (length a) (length h) (length w) (length o) (length d))
-    (record { code = shortCode; answer = a; history = h; work = w; out = o; done = d })
+    pick (isLentShort (length a) (length h) (length w) (length o) (length d))
+    (record { code = lentCode; answer = a; history = h; work = w; out = o; done = d })
     (readCall (library.planRead p) s a h w o d)

@@ -1,5 +1,4 @@
-use Rattle.ffi.proofs.GivenLaws.{rows-not-given, marks-not-given, is-given, given-by, sweep-not, sweep-refused, sweep-done}
-use Rattle.ffi.specs.Calls.{given}
+use Rattle.ffi.proofs.GivenLaws.{rows-not-given, marks-not-given, is-given, sweep-not, sweep-refused, sweep-done}
 use borrow.Author.Needs.{needs}
 use Rattle.ffi.proofs.yegnabit_sweep_table.Statement.{statement}
 use Rattle.ffi.proofs.yegnabit_sweep_table.Tie as tie
@@ -8,27 +7,20 @@ code-requires : tie.Need-code-requires
 code-requires c κs = search needs
 
 returns : tie.Need-returns
-returns c = sweep-not (c .before .before .before .before .args .count) (c .before .before .before .before .args .rows .now) (c .before
-    .before .before .before .args .marks .now) (c .code .result) (c .code .ensures) (rows-not-given (c .before .before .before .before
-    .args .rows .now) (c .before .before .before .before .args .marks .now) (c .before .if1 .taken))
+returns c = sweep-not (c .before .before .before .before .args .count) (c .before .before .before .before .args .rows .now) (c .before .before .before .before .args .marks .now) (c .code .result) (c .code .ensures) (rows-not-given (c .before .before .before .before .args .rows .now) (c .before .before .before .before .args .marks .now) (c .before .if1 .taken))
 
 code-requires-2 : tie.Need-code-requires-2
 code-requires-2 c κs = search needs
 
 returns-2 : tie.Need-returns-2
 returns-2 c = sweep-not (c .before .before .before .before .before .args .count) (c .before .before .before .before .before .args .rows
-    .now) (c .before .before .before .before .before .args .marks .now) (c .code2 .result) (c .code2 .ensures) (marks-not-given (c
-    .before .before .before .before .before .args .rows .now) (c .before .before .before .before .before .args .marks .now) (search (
-      c
-          .before .before .if1 .left,
+    .now) (c .before .before .before .before .before .args .marks .now) (c .code2 .result) (c .code2 .ensures) (marks-not-given (c .before .before .before .before .before .args .rows .now) (c .before .before .before .before .before .args .marks .now) (search (
+      c .before .before .if1 .left,
       needs,
     )) (c .before .if2 .taken))
 
-rows-of-requires : tie.Need-rows-of-requires
-rows-of-requires c κs = search needs
-
-marks-of-requires : tie.Need-marks-of-requires
-marks-of-requires c κs = search needs
+table-of-requires : tie.Need-table-of-requires
+table-of-requires c κs = search needs
 
 sweep-table-requires : tie.Need-sweep-table-requires
 sweep-table-requires c κs = search needs
@@ -43,32 +35,14 @@ same-length-2 : tie.Need-same-length-2
 same-length-2 c = search needs
 
 returns-3 : tie.Need-returns-3
-returns-3 c = sweep-refused (c .before .before .before .before .before .before .before .before .before .before .before .args .count) (c
-    .before .before .before .before .before .before .before .before .before .before .before .args .rows .now) (c .before .before .before
-    .before .before .before .before .before .before .before .before .args .marks .now) (given (c .before .before .before .before .before
-    .before .before .before .before .before .before .args .count) (c .before .before .before .before .before .rows-of .result) (c .before
-    .before .before .marks-of .result)) (given-by (c .before .before .before .before .before .before .before .before .before .before
-    .before .args .count) (c .before .before .before .before .before .before .before .before .before .before .before .args .rows .now) (c
-    .before .before .before .before .before .before .before .before .before .before .before .args .marks .now) (c .before .before .before
-    .before .before .rows-of .result) (c .before .before .before .marks-of .result) (c .before .before .before .before .before .rows-of
-    .ensures) (c .before .before .before .marks-of .ensures)) (c .before .before .sweep-table .result) (is-given (c .before .before
-    .before .before .before .before .before .before .before .before .before .args .rows .now) (c .before .before .before .before .before
-    .before .before .before .before .before .before .args .marks .now) (search (
-      c .before .before .before .before .before .before .before
-          .before .if1 .left,
-      needs,
-    )) (search (c .before .before .before .before .before .before .before .if2 .left, needs))) (c .before
-    .before .sweep-table .ensures) (c .code3 .result) (c .code3 .ensures) (c .before .if3 .taken)
+returns-3 c =
+    let x = c .before .before .before .before .before .before .before .before .before .before .args in
+    sweep-refused (x .count) (x .rows .now) (x .marks .now) (c .before .before .before .table-of .result) (c .before .before .before .table-of .ensures) (c .before .before .sweep-table .result)
+    (is-given (x .rows .now) (x .marks .now) (search (c .before .before .before .before .before .before .before .if1 .left, needs)) (search (c .before .before .before .before .before .before .if2 .left, needs))) (c .before .before .sweep-table .ensures)
+    (c .code3 .result) (c .code3 .ensures) (c .before .if3 .taken)
 
-put-rows-requires : tie.Need-put-rows-requires
-put-rows-requires c κs = search (c .before .before .before .before .before .before .before .before .before .before .if1 .left, needs)
-
-put-marks-requires : tie.Need-put-marks-requires
-put-marks-requires c κs = search (
-  c .before .before .before .before .before .before .before .before .before .before .before .before
-      .before .if2 .left,
-  needs,
-)
+put-table-requires : tie.Need-put-table-requires
+put-table-requires c κs = search needs
 
 code-requires-4 : tie.Need-code-requires-4
 code-requires-4 c κs = search needs
@@ -80,43 +54,11 @@ same-length-4 : tie.Need-same-length-4
 same-length-4 c = search needs
 
 returns-4 : tie.Need-returns-4
-returns-4 c = sweep-done (c .before .before .before .before .before .before .before .before .before .before .before .before .before
-    .before .before .before .before .before .before .before .before .args .count) (c .before .before .before .before .before .before
-    .before .before .before .before .before .before .before .before .before .before .before .before .before .before .before .args .rows
-    .now) (c .before .before .before .before .before .before .before .before .before .before .before .before .before .before .before
-    .before .before .before .before .before .before .args .marks .now) (given (c .before .before .before .before .before .before .before
-    .before .before .before .before .before .before .before .before .before .before .before .before .before .before .args .count) (c
-    .before .before .before .before .before .before .before .before .before .before .before .before .before .before .before .rows-of
-    .result) (c .before .before .before .before .before .before .before .before .before .before .before .before .before .marks-of
-    .result)) (given-by (c .before .before .before .before .before .before .before .before .before .before .before .before .before
-    .before .before .before .before .before .before .before .before .args .count) (c .before .before .before .before .before .before
-    .before .before .before .before .before .before .before .before .before .before .before .before .before .before .before .args .rows
-    .now) (c .before .before .before .before .before .before .before .before .before .before .before .before .before .before .before
-    .before .before .before .before .before .before .args .marks .now) (c .before .before .before .before .before .before .before .before
-    .before .before .before .before .before .before .before .rows-of .result) (c .before .before .before .before .before .before .before
-    .before .before .before .before .before .before .marks-of .result) (c .before .before .before .before .before .before .before .before
-    .before .before .before .before .before .before .before .rows-of .ensures) (c .before .before .before .before .before .before .before
-    .before .before .before .before .before .before .marks-of .ensures)) (c .before .before .before .before .before .before .before
-    .before .before .before .before .before .sweep-table .result) (is-given (c .before .before .before .before .before .before .before
-    .before .before .before .before .before .before .before .before .before .before .before .before .before .before .args .rows .now) (c
-    .before .before .before .before .before .before .before .before .before .before .before .before .before .before .before .before
-    .before .before .before .before .before .args .marks .now) (search (
-      c .before .before .before .before .before .before .before .before
-          .before .before .before .before .before .before .before .before .before .before .if1 .left,
-      needs,
-    )) (search (
-      c .before .before
-          .before .before .before .before .before .before .before .before .before .before .before .before .before .before .before .if2
-          .left,
-      needs,
-    ))) (c .before .before .before .before .before .before .before .before .before .before .before .before .sweep-table .ensures) (c
-    .code4 .result) (c .before .before .before .before .before .before .before .put-rows .last .0) (c .before .before .before .put-marks
-    .last .0) (c .code4 .ensures) (c .before .before .before .before .before .before .before .put-rows .ensures) (c .before .before
-    .before .put-marks .ensures) (search (
-      c .before .before .before .before .before .before .before .before .before .before .before .if3
-          .left,
-      needs,
-    ))
+returns-4 c =
+    let x = c .before .before .before .before .before .before .before .before .before .before .before .before .before .before .before .before .before .args in
+    sweep-done (x .count) (x .rows .now) (x .marks .now) (c .before .before .before .before .before .before .before .before .before .before .table-of .result) (c .before .before .before .before .before .before .before .before .before .before .table-of .ensures) (c .before .before .before .before .before .before .before .before .before .sweep-table .result)
+    (is-given (x .rows .now) (x .marks .now) (search (c .before .before .before .before .before .before .before .before .before .before .before .before .before .before .if1 .left, needs)) (search (c .before .before .before .before .before .before .before .before .before .before .before .before .before .if2 .left, needs))) (c .before .before .before .before .before .before .before .before .before .sweep-table .ensures)
+    (c .code4 .result) _ _ (c .code4 .ensures) (c .before .before .before .before .before .put-table .ensures .0) (c .before .before .before .before .before .put-table .ensures .1) (search (c .before .before .before .before .before .before .before .before .if3 .left, needs))
 
 pub yegnabit-sweep-table-spec : {M : Type 1} → statement M
 yegnabit-sweep-table-spec =
@@ -126,15 +68,13 @@ yegnabit-sweep-table-spec =
     returns
     code-requires-2
     returns-2
-    rows-of-requires
-    marks-of-requires
+    table-of-requires
     sweep-table-requires
     code-requires-3
     same-length
     same-length-2
     returns-3
-    put-rows-requires
-    put-marks-requires
+    put-table-requires
     code-requires-4
     same-length-3
     same-length-4

@@ -1,8 +1,8 @@
 use lib.ListN.{length-set}
 use native.Mathlib.Omega.{arith}
 use borrow.Author.Needs.{needs}
-use Rattle.ffi.proofs.lent.put_six.Statement.{statement}
-use Rattle.ffi.proofs.lent.put_six.Tie as tie
+use Rattle.lent.proofs.done.put_done.Statement.{statement}
+use Rattle.lent.proofs.done.put_done.Tie as tie
 
 slice-write-done : tie.Need-slice-write-done
 slice-write-done c = search needs
@@ -28,8 +28,8 @@ same-length c = search needs
 returns : tie.Need-returns
 returns c = search needs
 
-pub put-six-spec : {M : Type 1} → statement M
-put-six-spec =
+pub put-done-spec : {M : Type 1} → statement M
+put-done-spec =
     tie.close
     (tie.spec
     slice-write-done

@@ -1,11 +1,11 @@
-use Rattle.ffi.proofs.CopyLaws.{copy-next, copy-all}
+use Rattle.lent.proofs.CopyLaws.{copy-next, copy-all}
 use lib.ListN.{length, take, getD, length-set}
 use Prim.Native.Nat.{_≤_, _-_}
 use mathlib.Core.Path.{_≡_, refl, _∙_}
 use native.Mathlib.Omega.{arith}
 use borrow.Author.Needs.{needs}
-use Rattle.ffi.proofs.copy.copy_rows.Statement.{statement}
-use Rattle.ffi.proofs.copy.copy_rows.Tie as tie
+use Rattle.lent.proofs.copy.copy_rows.Statement.{statement}
+use Rattle.lent.proofs.copy.copy_rows.Tie as tie
 
 abbrev Inv-loop : tie.InvT-loop
 Inv-loop to₀ from i₀ to i = (i ≤ length from) × (length to ≡ length from) × (take i to ≡ take i from)

@@ -1,0 +1,41 @@
+-- The areas lent to a run through C, and what they hold once it is over. Assumes nothing: these are definitions.
+use mathlib.Core.Path.{_≡_}
+use mathlib.Core.Bool.{Bool, true, _||_}
+use mathlib.Core.List.{List}
+use Prim.Native.Nat.{ℕ, _≤_}
+use lib.Dec.{ltb, eqb}
+use lib.ListN.{length, set}
+use Rattle.model.specs.Base.{pick}
+use Rattle.model.specs.Limits.{answerNeed, historyNeed, workNeed}
+use Rattle.plan.specs.Calls.{planWritten, planOut}
+use Rattle.table.specs.Words.{fits}
+use Rattle.run.specs.declared.RunResult.{RunResult}
+use Rattle.lent.specs.Codes.{codeOf, outNeed}
+
+-- an area shorter than its need: out takes the longest plan, 2,080 bytes, and done six numbers
+abbrev pub isLentShort : (answer history work out done : ℕ) → Bool
+isLentShort a h w o d = ltb a answerNeed || ltb h historyNeed || ltb w workNeed || ltb o outNeed || ltb d 6
+
+-- six numbers over the front of done: items, rows made, links cut, records written, history bytes, bytes in out
+abbrev pub doneOver : (items made cut records bytes written : ℕ) → (done : List ℕ) → List ℕ
+doneOver i m c r b n d = set (set (set (set (set (set d 0 i) 1 m) 2 c) 3 r) 4 b) 5 n
+
+-- ONCE THE RUN IS OVER: its refusal, out as it was and done zero; or the plan written, and its six numbers
+abbrev pub endCode : RunResult → (out : List ℕ) → ℕ
+endCode r o =
+    pick (eqb (r .fault .number) 0) (codeOf (planWritten (r .table) o .fault .number) 0 0)
+    (codeOf (r .fault .number) 2 (r .fault .place))
+
+abbrev pub endOut : RunResult → (out : List ℕ) → List ℕ
+endOut r o = pick (eqb (r .fault .number) 0) (planOut (r .table) o) o
+
+abbrev pub endDone : RunResult → (out done : List ℕ) → List ℕ
+endDone r o d =
+    pick (eqb (r .fault .number) 0)
+    (doneOver (r .items) (r .tally .made) (r .tally .cut) (r .tally .records) (r .bytes) (planWritten (r .table) o .bytes) d)
+    (doneOver 0 0 0 0 0 0 d)
+
+-- a run that is not refused leaves a table that fits
+pub record EndPre (r : RunResult) (done : List ℕ) : Type 0 where
+  pub table : r .fault .number ≡ 0 → fits (r .table) ≡ true
+  pub room : 6 ≤ length done

@@ -1,0 +1,19 @@
+-- A table given as 512 row words and 8 marks. Assumes nothing: these are definitions.
+use mathlib.Core.Path.{_≡_}
+use mathlib.Core.Bool.{Bool, _&&_}
+use mathlib.Core.List.{List}
+use Prim.Native.Nat.{ℕ}
+use lib.Dec.{eqb}
+use lib.ListN.{length}
+use Rattle.model.specs.Limits.{maxRows, documents}
+use Rattle.table.specs.declared.Table.{Table}
+
+abbrev pub isGiven : (rows marks : List ℕ) → Bool
+isGiven ws ms = eqb (length ws) maxRows && eqb (length ms) documents
+
+abbrev pub given : (count : ℕ) → (rows marks : List ℕ) → Table
+given n ws ms = record { count = n; rows = ws; marks = ms }
+
+pub record RawPre (ws ms : List ℕ) : Type 0 where
+  pub rows : length ws ≡ maxRows
+  pub marks : length ms ≡ documents

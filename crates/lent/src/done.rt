@@ -1,0 +1,82 @@
+// The areas lent to a run: whether one is too short, and what they hold once it is over.
+ghost use mathlib.Core.Path.{_≡_};
+ghost use Prim.Native.Nat.{_≤_};
+ghost use lib.ListN.{length, replicate};
+ghost use Rattle.lent.specs.Done.{isLentShort, doneOver, EndPre, endCode, endOut, endDone};
+use crate::answer;
+use plan::write;
+use run::RunResult;
+use run::area;
+use table::Fault;
+
+// The numbers of done.
+const SIX: usize = 6;
+
+// Some area is shorter than its need.
+pub fn is_lent_short(answer: usize, history: usize, work: usize, out: usize, done: usize) -> bool
+    ensures { λ r. ⌜ r ≡ isLentShort answer history work out done ⌝ }
+{
+    (answer < run::ANSWER)
+        | (history < run::HISTORY)
+        | (work < run::WORK)
+        | (out < crate::ROOM)
+        | (done < SIX)
+}
+
+// The six numbers over the front of done.
+pub fn put_done(
+    done: &mut [u64],
+    items: usize,
+    made: usize,
+    cut: usize,
+    records: usize,
+    bytes: usize,
+    written: usize,
+)
+    requires { ⌜ 6 ≤ length (now done) ⌝ }
+    ensures { λ _. ⌜ now (done .exit) ≡ doneOver items made cut records bytes written (now (done .entry)) ⌝ }
+{
+    done[0] = items as u64;
+    done[1] = made as u64;
+    done[2] = cut as u64;
+    done[3] = records as u64;
+    done[4] = bytes as u64;
+    done[5] = written as u64;
+}
+
+// Nothing has run: all areas of the run are zero.
+pub fn clear(answer: &mut [u16], history: &mut [u8], work: &mut [u16])
+    ensures { λ _. ⌜ now (answer .exit) ≡ replicate (length (now (answer .entry))) 0 ⌝ }
+    ensures { λ _. ⌜ now (history .exit) ≡ replicate (length (now (history .entry))) 0 ⌝ }
+    ensures { λ _. ⌜ now (work .exit) ≡ replicate (length (now (work .entry))) 0 ⌝ }
+{
+    area::clear_words(answer);
+    area::clear_bytes(history);
+    area::clear_words(work);
+}
+
+// The run is over: refused, out stays and done is zero; else the plan as it then is stands in out, and done has its six numbers.
+pub fn end(ran: RunResult, out: &mut [u8], done: &mut [u64]) -> u64
+    requires { ⌜ EndPre ran (now done) ⌝ }
+    ensures { λ r. ⌜ r ≡ endCode ran (now (out .entry)) ⌝ }
+    ensures { λ _. ⌜ now (out .exit) ≡ endOut ran (now (out .entry)) ⌝ }
+    ensures { λ _. ⌜ now (done .exit) ≡ endDone ran (now (out .entry)) (now (done .entry)) ⌝ }
+{
+    let refused = ran.fault.number;
+    if refused != 0 {
+        put_done(done, 0, 0, 0, 0, 0, 0);
+        return answer::code(refused, answer::SCRIPT, ran.fault.place);
+    }
+    let tally = ran.tally;
+    let written = write::fitting(ran.table, out);
+    put_done(
+        done,
+        ran.items,
+        tally.made,
+        tally.cut,
+        tally.records,
+        ran.bytes,
+        written.bytes,
+    );
+    answer::code(written.fault.number, answer::AREA, 0)
+}
