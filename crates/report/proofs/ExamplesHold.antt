@@ -8,8 +8,8 @@ use Rattle.model.specs.Step.{isBelowFrom, stepFrom, picked}
 use Rattle.model.specs.Run.{run, loop, cutAll, copyAll, copyEach, copyOf, descendantsFrom}
 use Rattle.model.specs.Paths.{infer, withStep, prefixed, prefixesOf, hasUp}
 use Rattle.model.specs.Meeting.{cell, startCells, stepCells}
-use Rattle.report.specs.Text.{digits}
-use Rattle.report.specs.Orders.{outcome, order}
+use Rattle.format.specs.Text.{digits}
+use Rattle.sequence.specs.Orders.{outcome, order}
 use Rattle.report.specs.Lines.{fileLine, answerLine, orderLine}
 use Rattle.report.specs.Pair.{threeLines, pairText}
 use Rattle.report.specs.Examples.{Examples}

@@ -5,15 +5,11 @@ use Prim.Native.Nat.{ℕ, _≤_}
 use native.Mathlib.Omega.{arith}
 use lib.ListN.{length}
 use Rattle.table.specs.declared.Fault.{Fault}
-use Rattle.report.specs.Text.{ascii, Placed, Number, Field}
+use Rattle.format.specs.Text.{ascii, Placed, Field}
 use Rattle.report.specs.Lines.{newline, fileLine, answerLine, orderLine, NamePre, FileLine, AnswerLine, OrderLine}
-use Rattle.report.specs.declared.orders.Order.{Order}
-use Rattle.report.specs.declared.orders.Order.the-variants.{Stopped, Ended}
-use Rattle.report.proofs.TextLaws.{placed-then}
-
--- a field: a space and a number
-pub field-placed : {o o₁ o₂ : List ℕ} {i n k r : ℕ} → i ≤ length o → Placed o i (ascii " ") o₁ n → Number o₁ n k o₂ r → Field o i k o₂ r
-field-placed h p q = record { text = placed-then h p (q .text); few = omega (arith, p .next, q .few) }
+use Rattle.sequence.specs.declared.orders.Order.{Order}
+use Rattle.sequence.specs.declared.orders.Order.the-variants.{Stopped, Ended}
+use Rattle.format.proofs.TextLaws.{placed-then}
 
 -- a refused file
 pub file-placed : {o w o₁ o₂ o₃ o₄ o₅ : List ℕ} {n m k j r : ℕ} {f : Fault} → NamePre o 0 w → Placed o 0 (ascii "file ") o₁ n →

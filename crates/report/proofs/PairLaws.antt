@@ -17,13 +17,13 @@ use Rattle.table.specs.declared.Written.{Written}
 use Rattle.paths.specs.Analysis.{analysed}
 use Rattle.paths.specs.declared.Analysis.{Analysis}
 use Rattle.paths.specs.declared.Analysis.the-variants.{Refused}
-use Rattle.report.specs.Text.{ascii, Placed}
-use Rattle.report.specs.Orders.{order, swap}
+use Rattle.format.specs.Text.{ascii, Placed}
+use Rattle.sequence.specs.Orders.{order, swap}
 use Rattle.report.specs.Lines.{fileLine, answerLine, orderLine}
 use Rattle.report.specs.Pair.{threeLines, textBy, planText, pairText, Counted, pairWritten, pairOut}
-use Rattle.report.specs.declared.orders.Order.{Order}
-use Rattle.report.proofs.TextLaws.{placed-then}
-use Rattle.report.proofs.OrderLaws.{pick-fine, pick-refused}
+use Rattle.sequence.specs.declared.orders.Order.{Order}
+use Rattle.format.proofs.TextLaws.{placed-then}
+use Rattle.sequence.proofs.OrderLaws.{pick-fine, pick-refused}
 
 -- THREE LINES
 pub three-placed : (t : Table) (w b c : List ℕ) {o o₁ o₂ o₃ : List ℕ} {n m r : ℕ} {x y z : Order} → x ≡ order t b c → y ≡ order t c b →

@@ -3,7 +3,7 @@ use mathlib.Core.Path.{_≡_}
 use mathlib.Core.List.{List, [], _∷_}
 use Prim.Native.Nat.{ℕ}
 use Rattle.model.specs.Cases.{bytesA, bytesB}
-use Rattle.report.specs.Text.{ascii}
+use Rattle.format.specs.Text.{ascii}
 use Rattle.report.specs.Pair.{pairText}
 
 abbrev pub bytesP : List ℕ

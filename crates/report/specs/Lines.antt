@@ -3,9 +3,9 @@ use mathlib.Core.List.{List, [], _∷_, _++_}
 use Prim.Native.Nat.{ℕ, _+_, _≤_}
 use lib.ListN.{length}
 use Rattle.table.specs.declared.Fault.{Fault}
-use Rattle.report.specs.Text.{ascii, field, Placed}
-use Rattle.report.specs.declared.orders.Order.{Order}
-use Rattle.report.specs.declared.orders.Order.the-variants.{Stopped, Ended}
+use Rattle.format.specs.Text.{ascii, field, Placed}
+use Rattle.sequence.specs.declared.orders.Order.{Order}
+use Rattle.sequence.specs.declared.orders.Order.the-variants.{Stopped, Ended}
 
 abbrev pub newline : List ℕ
 newline = 0x0A ∷ []

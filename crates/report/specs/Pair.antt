@@ -12,8 +12,8 @@ use Rattle.table.specs.declared.Written.{Written}
 use Rattle.paths.specs.Analysis.{analysed, answerWord}
 use Rattle.paths.specs.declared.Analysis.{Analysis}
 use Rattle.paths.specs.declared.Analysis.the-variants.{Refused, Free, Upward, Meet}
-use Rattle.report.specs.Text.{ascii, Placed}
-use Rattle.report.specs.Orders.{order, swap}
+use Rattle.format.specs.Text.{ascii, Placed}
+use Rattle.sequence.specs.Orders.{order, swap}
 use Rattle.report.specs.Lines.{fileLine, answerLine, orderLine}
 
 -- the bytes that the lines take at most

@@ -3,16 +3,13 @@ ghost use mathlib.Core.Path.{_≡_};
 ghost use Prim.Native.Nat.{_≤_};
 ghost use lib.ListN.{length};
 ghost use Rattle.report.specs.Pair.{Report, Counted, pairWritten, pairOut};
-
-mod lines;
-mod number;
-mod orders;
-mod text;
-
 use paths::Analysis;
+use sequence::orders;
 use table::Fault;
 use table::Table;
 use table::Written;
+
+mod lines;
 
 // The bytes that the lines take at most.
 pub const ROOM: usize = 160;

@@ -1,8 +1,8 @@
 // The lines of the report. Each ends with 0x0A.
 ghost use Rattle.report.specs.Lines.{FileLine, AnswerLine, OrderLine, NamePre};
-use crate::number;
-use crate::orders::Order;
-use crate::text;
+use format::number;
+use format::text;
+use sequence::orders::Order;
 use table::Fault;
 
 // A refused file: its name, number and place. The only line, at the start of the area.

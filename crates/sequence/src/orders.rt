@@ -1,7 +1,7 @@
 // Two scripts run one after the other.
 ghost use mathlib.Core.Path.{_≡_};
 ghost use lib.ListN.{length};
-ghost use Rattle.report.specs.Orders.{outcome, order, swap};
+ghost use Rattle.sequence.specs.Orders.{outcome, order, swap};
 use table::Table;
 
 // How a run ended: the number of its refusal, or 0; the items of its answer; the table after it.

@@ -1,8 +1,8 @@
 use native.Mathlib.Omega.{arith}
-use Rattle.report.proofs.OrderLaws.{run-given}
+use Rattle.sequence.proofs.OrderLaws.{run-given}
 use borrow.Author.Needs.{needs}
-use Rattle.report.proofs.orders.run_alone.Statement.{statement}
-use Rattle.report.proofs.orders.run_alone.Tie as tie
+use Rattle.sequence.proofs.orders.run_alone.Statement.{statement}
+use Rattle.sequence.proofs.orders.run_alone.Tie as tie
 
 answer-area-requires : tie.Need-answer-area-requires
 answer-area-requires c κs = search needs

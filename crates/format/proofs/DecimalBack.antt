@@ -10,8 +10,8 @@ use lib.ListN.{length, getD, length-append, List·getD-append}
 use borrow.Author.Tests.{lt-ltb, le-leb, ltb-true, ltb-false}
 use Rattle.model.specs.Base.{isIn, all}
 use Rattle.model.proofs.BoolLaws.{by-cases, and-left, and-right, and-both}
-use Rattle.report.specs.Text.{digits, valueFrom, DecimalBack}
-use Rattle.report.proofs.TextLaws.{digits-low, digits-high}
+use Rattle.format.specs.Text.{digits, valueFrom, DecimalBack}
+use Rattle.format.proofs.TextLaws.{digits-low, digits-high}
 
 value-last : (v : ℕ) (ds : List ℕ) (d : ℕ) → valueFrom v (ds ++ (d ∷ [])) ≡ 10 * valueFrom v ds + (d - 48)
 unfolding valueFrom

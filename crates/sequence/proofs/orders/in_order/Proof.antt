@@ -1,7 +1,7 @@
-use Rattle.report.proofs.OrderLaws.{leads-refused, follows-refused, both-ended}
+use Rattle.sequence.proofs.OrderLaws.{leads-refused, follows-refused, both-ended}
 use borrow.Author.Needs.{needs}
-use Rattle.report.proofs.orders.in_order.Statement.{statement}
-use Rattle.report.proofs.orders.in_order.Tie as tie
+use Rattle.sequence.proofs.orders.in_order.Statement.{statement}
+use Rattle.sequence.proofs.orders.in_order.Tie as tie
 
 run-alone-requires : tie.Need-run-alone-requires
 run-alone-requires c κs = search needs

@@ -1,15 +1,15 @@
 use Prim.Native.Nat.{_+_}
 use native.Mathlib.Omega.{arith}
-use Rattle.report.proofs.TextLaws.{number-low, number-room, number-high}
+use Rattle.format.proofs.TextLaws.{number-low, number-room, number-high}
 use borrow.Author.Needs.{needs}
 use Prim.Native.Nat.{ℕ, _<_}
 use borrow.Fn.Kinds.{In}
 use borrow.Fn.PlainCycle.{Measures, is, falls, and}
-use Rattle.report.proofs.number.put_number.Reads as put-number
-use Rattle.report.proofs.number.put_number.Kinds as put-number-kinds
-use Rattle.report.proofs.number.+put_number.Lts-put_number as put-number-lts
-use Rattle.report.proofs.number.+put_number.{statement}
-use Rattle.report.proofs.number.+put_number.Tie.{close}
+use Rattle.format.proofs.number.put_number.Reads as put-number
+use Rattle.format.proofs.number.put_number.Kinds as put-number-kinds
+use Rattle.format.proofs.number.+put_number.Lts-put_number as put-number-lts
+use Rattle.format.proofs.number.+put_number.{statement}
+use Rattle.format.proofs.number.+put_number.Tie.{close}
 
 abbrev μ-put-number : Measures 1 put-number-kinds.ps ℕ
 μ-put-number κs a = a .1 .1 .0

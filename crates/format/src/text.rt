@@ -1,7 +1,7 @@
 // Bytes written into an area.
 ghost use Prim.Native.Nat.{_+_, _≤_};
 ghost use lib.ListN.{length};
-ghost use Rattle.report.specs.Text.{Placed};
+ghost use Rattle.format.specs.Text.{Placed};
 
 // Copies a text to a place of the area; the place past it.
 pub fn put(out: &mut [u8], at: usize, text: &[u8]) -> usize

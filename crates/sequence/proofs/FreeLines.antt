@@ -18,11 +18,11 @@ use Rattle.model.proofs.RunsBack.{runsBack}
 use Rattle.model.proofs.StoredBack.{storedBack}
 use Rattle.model.proofs.FreeCommutes.{freeCommutes}
 use Rattle.table.specs.Words.{encode, decode}
-use Rattle.report.specs.Orders.{outcomeBy, outcome, orderThen, orderFrom, order, swap}
-use Rattle.report.specs.Promise.{hasEnded, FreeLines}
-use Rattle.report.specs.declared.orders.Outcome.{Outcome}
-use Rattle.report.specs.declared.orders.Order.{Order}
-use Rattle.report.specs.declared.orders.Order.the-variants.{Stopped, Ended}
+use Rattle.sequence.specs.Orders.{outcomeBy, outcome, orderThen, orderFrom, order, swap}
+use Rattle.sequence.specs.Promise.{hasEnded, FreeLines}
+use Rattle.sequence.specs.declared.orders.Outcome.{Outcome}
+use Rattle.sequence.specs.declared.orders.Order.{Order}
+use Rattle.sequence.specs.declared.orders.Order.the-variants.{Stopped, Ended}
 use Rattle.table.proofs.EncodeLaws.{decode-encode, fits-encode}
 
 -- AN ORDER by the outcomes of its two runs

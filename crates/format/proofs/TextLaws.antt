@@ -11,7 +11,7 @@ use lib.ListN.{length, getD, take, drop, set, length-append}
 use lib.Seq.{append-snoc, drop-append-add, drop-drop, length-take-le, paste, paste-suc, set-split, take-at, take-length}
 use borrow.Author.Tests.{lt-ltb, le-ltb}
 use Rattle.model.proofs.BoolLaws.{by-cases}
-use Rattle.report.specs.Text.{digits, decimal, placed, Placed, Number}
+use Rattle.format.specs.Text.{ascii, digits, decimal, placed, Placed, Number, Field}
 
 -- A COPY, byte by byte
 pub copy-next : (o d s : List ℕ) (i j : ℕ) → o ≡ paste d i s j → i + j < length d → j < length s →
@@ -120,3 +120,7 @@ module _ (o o′ : List ℕ) (i n r : ℕ) (fits : n < 18446744073709551616) (p 
       number-placed
       (subst (λ (s : List ℕ). Placed o i s (set o′ r (48 + n % 10)) (r + 1)) (sym (decimal-high n fits h))
       (placed-then (omega arith) (p .text) (placed-byte o′ r (48 + n % 10) (omega (arith, number-room)))))
+
+-- a field: a space and a number
+pub field-placed : {o o₁ o₂ : List ℕ} {i n k r : ℕ} → i ≤ length o → Placed o i (ascii " ") o₁ n → Number o₁ n k o₂ r → Field o i k o₂ r
+field-placed h p q = record { text = placed-then h p (q .text); few = omega (arith, p .next, q .few) }

@@ -1,7 +1,7 @@
 // Numbers in decimal.
 ghost use Prim.Native.Nat.{_+_, _≤_};
 ghost use lib.ListN.{length};
-ghost use Rattle.report.specs.Text.{Number, Field};
+ghost use Rattle.format.specs.Text.{Number, Field};
 use crate::text;
 
 // Writes a number in decimal, of 20 digits at most, to a place of the area; the place past it.

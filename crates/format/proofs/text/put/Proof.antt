@@ -3,10 +3,10 @@ use mathlib.Core.Path.{_≡_, refl, _∙_}
 use native.Mathlib.Omega.{arith}
 use lib.ListN.{length, getD, length-set}
 use lib.Seq.{paste, paste-zero}
-use Rattle.report.proofs.TextLaws.{copy-next, copy-all}
+use Rattle.format.proofs.TextLaws.{copy-next, copy-all}
 use borrow.Author.Needs.{needs}
-use Rattle.report.proofs.text.put.Statement.{statement}
-use Rattle.report.proofs.text.put.Tie as tie
+use Rattle.format.proofs.text.put.Statement.{statement}
+use Rattle.format.proofs.text.put.Tie as tie
 
 abbrev Inv-loop : tie.InvT-loop
 Inv-loop out₀ at text i₀ out i = (i ≤ length text) × (length out ≡ length out₀) × (out ≡ paste out₀ at text i)

@@ -1,8 +1,8 @@
 use native.Mathlib.Omega.{arith}
-use Rattle.report.proofs.LineLaws.{field-placed}
+use Rattle.format.proofs.TextLaws.{field-placed}
 use borrow.Author.Needs.{needs}
-use Rattle.report.proofs.number.put_field.Statement.{statement}
-use Rattle.report.proofs.number.put_field.Tie as tie
+use Rattle.format.proofs.number.put_field.Statement.{statement}
+use Rattle.format.proofs.number.put_field.Tie as tie
 
 slice-aggregate-put : tie.Need-slice-aggregate-put
 slice-aggregate-put c = search needs

@@ -1,7 +1,7 @@
-use Rattle.report.proofs.OrderLaws.{swap-first, swap-second, swap-ended}
+use Rattle.sequence.proofs.OrderLaws.{swap-first, swap-second, swap-ended}
 use borrow.Author.Needs.{needs}
-use Rattle.report.proofs.orders.swapped.Statement.{statement}
-use Rattle.report.proofs.orders.swapped.Tie as tie
+use Rattle.sequence.proofs.orders.swapped.Statement.{statement}
+use Rattle.sequence.proofs.orders.swapped.Tie as tie
 
 enum-known-order : tie.Need-enum-known-order
 enum-known-order c = search needs

@@ -20,10 +20,10 @@ use Rattle.table.specs.Words.{encode, decode, fits}
 use Rattle.table.specs.declared.Table.{Table}
 use Rattle.run.specs.Calls.{outcomeOf, ran, runResult}
 use Rattle.run.specs.declared.RunResult.{RunResult}
-use Rattle.report.specs.Orders.{outcomeBy, outcome, orderThen, orderFrom, order, swap}
-use Rattle.report.specs.declared.orders.Outcome.{Outcome}
-use Rattle.report.specs.declared.orders.Order.{Order}
-use Rattle.report.specs.declared.orders.Order.the-variants.{Stopped, Ended}
+use Rattle.sequence.specs.Orders.{outcomeBy, outcome, orderThen, orderFrom, order, swap}
+use Rattle.sequence.specs.declared.orders.Outcome.{Outcome}
+use Rattle.sequence.specs.declared.orders.Order.{Order}
+use Rattle.sequence.specs.declared.orders.Order.the-variants.{Stopped, Ended}
 use Rattle.run.proofs.CallLaws.{areas-fit}
 
 -- A STOP is a refusal: its number is not 0

@@ -1,0 +1,3 @@
+// Texts and decimal numbers, written into an area.
+pub mod number;
+pub mod text;
