@@ -48,7 +48,7 @@ extern "C" {
     ) -> u64;
 
     fn yegnabit_write_table(
-        count: u64,
+        count: usize,
         rows: *const u32,
         rows_length: usize,
         marks: *const u16,
@@ -58,7 +58,7 @@ extern "C" {
     ) -> u64;
 
     fn yegnabit_sweep_table(
-        count: u64,
+        count: usize,
         rows: *mut u32,
         rows_length: usize,
         marks: *mut u16,
@@ -134,7 +134,7 @@ pub fn analyse(first: &[u8], second: &[u8]) -> Answer {
 }
 
 /// Writes a table handed in as words to the start of `out`.
-pub fn write_table(count: u64, rows: &[u32], marks: &[u16], out: &mut [u8]) -> Answer {
+pub fn write_table(count: usize, rows: &[u32], marks: &[u16], out: &mut [u8]) -> Answer {
     // SAFETY: see above.
     Answer(unsafe {
         yegnabit_write_table(
@@ -150,7 +150,7 @@ pub fn write_table(count: u64, rows: &[u32], marks: &[u16], out: &mut [u8]) -> A
 }
 
 /// Sweeps a table handed in as words.
-pub fn sweep_table(count: u64, rows: &mut [u32], marks: &mut [u16]) -> Answer {
+pub fn sweep_table(count: usize, rows: &mut [u32], marks: &mut [u16]) -> Answer {
     // SAFETY: see above.
     Answer(unsafe {
         yegnabit_sweep_table(

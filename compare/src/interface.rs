@@ -226,7 +226,7 @@ pub fn analyse(first: &[u8], second: &[u8]) -> Answer {
 }
 
 /// Writes a table handed in as words.
-pub fn write_table(count: u64, rows: &[u32], marks: &[u16], out: &mut [u8]) -> Answer {
+pub fn write_table(count: usize, rows: &[u32], marks: &[u16], out: &mut [u8]) -> Answer {
     if rows.len() != ROWS || marks.len() != DOCUMENTS {
         return lent();
     }
@@ -240,7 +240,7 @@ pub fn write_table(count: u64, rows: &[u32], marks: &[u16], out: &mut [u8]) -> A
 }
 
 /// Sweeps a table handed in as words.
-pub fn sweep_table(count: u64, rows: &mut [u32], marks: &mut [u16]) -> Answer {
+pub fn sweep_table(count: usize, rows: &mut [u32], marks: &mut [u16]) -> Answer {
     if rows.len() != ROWS || marks.len() != DOCUMENTS {
         return lent();
     }

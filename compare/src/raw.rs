@@ -16,7 +16,7 @@ pub const TAG_UNIT: u32 = LINK_UNIT * LINK_VALUES;
 /// A table in words, of any lengths and content.
 #[derive(Clone, Debug, PartialEq, Eq)]
 pub struct RawTable {
-    pub count: u64,
+    pub count: usize,
     pub rows: Vec<u32>,
     pub marks: Vec<u16>,
 }
@@ -25,7 +25,7 @@ impl RawTable {
     /// The words of a table of at most 512 rows.
     pub fn of(table: &Table) -> RawTable {
         let mut raw = RawTable {
-            count: table.rows.len() as u64,
+            count: table.rows.len(),
             rows: vec![0; ROWS],
             marks: vec![0; DOCUMENTS],
         };
@@ -36,8 +36,10 @@ impl RawTable {
 
 /// The table that words stand for, or none if it is ill formed. `rows` and
 /// `marks` have the right lengths.
-pub fn decode(count: u64, rows: &[u32], marks: &[u16]) -> Option<Table> {
-    let count = usize::try_from(count).ok().filter(|&count| count <= ROWS)?;
+pub fn decode(count: usize, rows: &[u32], marks: &[u16]) -> Option<Table> {
+    if count > ROWS {
+        return None;
+    }
     let (used, unused) = rows.split_at(count);
     if unused.iter().any(|&word| word != 0) {
         return None;
@@ -128,7 +130,7 @@ mod tests {
             raw.rows[ROWS - 1] = word;
             assert!(!is_sound(&raw), "{word:X}");
         }
-        for count in [0, 1, 3, 512, 513, u64::MAX] {
+        for count in [0, 1, 3, 512, 513, usize::MAX] {
             let raw = RawTable { count, ..sound() };
             assert!(!is_sound(&raw), "{count}");
         }

@@ -217,7 +217,7 @@ impl Checker {
             .map_err(|message| told_table(call, raw, &message))?;
         self.tally.count(call, answers.1);
         Ok((answers.1.number() == 0).then(|| RawTable {
-            count: answers.1.place(),
+            count: answers.1.place() as usize,
             rows: self.rows.library().to_vec(),
             marks: self.marks.library().to_vec(),
         }))

@@ -107,15 +107,14 @@ fn changed_marks(checker: &mut Checker, raw: &RawTable) -> Result<(), Difference
 
 /// The count changed, with the words as they were.
 fn changed_counts(checker: &mut Checker, raw: &RawTable) -> Result<(), Difference> {
-    let rows = ROWS as u64;
-    let near = (0..rows + 3).map(|count| (raw.count + count) % (rows + 3));
+    let near = (0..ROWS + 3).map(|count| (raw.count + count) % (ROWS + 3));
     let far = [
-        u64::from(u16::MAX),
+        usize::from(u16::MAX),
         1 << 16,
-        u64::from(u32::MAX),
+        u32::MAX as usize,
         (1 << 32) + raw.count,
         (1 << 63) + raw.count,
-        u64::MAX,
+        usize::MAX,
     ];
     for count in near.chain(far) {
         checker.table(&RawTable {
@@ -130,7 +129,7 @@ fn changed_counts(checker: &mut Checker, raw: &RawTable) -> Result<(), Differenc
 fn areas(checker: &mut Checker, table: &Table) -> Result<(), Difference> {
     let raw = RawTable::of(table);
     let mut too_many = raw.clone();
-    too_many.count = ROWS as u64 + 1;
+    too_many.count = ROWS + 1;
     let mut bad_mark = raw.clone();
     bad_mark.marks[DOCUMENTS - 1] = u16::MAX;
     let stored = stored_length(table);
@@ -180,7 +179,7 @@ fn several_changes(raw: &RawTable, random: &mut Random) -> RawTable {
             1 => {
                 changed.count = changed
                     .count
-                    .wrapping_add(random.word() % 3)
+                    .wrapping_add(random.below(3))
                     .wrapping_sub(1)
             }
             2 => {

@@ -1,7 +1,6 @@
 //! The program `pair`: three files in, lines out.
 
 use super::analysis::analyse_read;
-use super::limits::FILE_BYTES;
 use super::orders::run_order;
 use super::path::Which;
 use super::plan;
@@ -9,16 +8,12 @@ use super::refusal::Refusal;
 use super::run::OwnedAreas;
 use super::script;
 
-/// The output of `pair` for the content of its three files.
+/// The output of `pair` for the content of its three files. It reads them whole: the 4,096
+/// bytes that `pair` reads must be enough to refuse any longer file in the same words.
 pub fn pair(plan: &[u8], first: &[u8], second: &[u8]) -> Vec<u8> {
-    lines(head(plan), head(first), head(second))
+    lines(plan, first, second)
         .unwrap_or_else(|line| line)
         .into_bytes()
-}
-
-/// The part of a file that is read.
-fn head(file: &[u8]) -> &[u8] {
-    &file[..file.len().min(FILE_BYTES)]
 }
 
 /// The lines, or the only line when a file is refused.
