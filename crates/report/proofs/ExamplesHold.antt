@@ -9,11 +9,11 @@ use Rattle.model.specs.Run.{run, loop, cutAll, copyAll, copyEach, copyOf, desce
 use Rattle.model.specs.Paths.{infer, withStep, prefixed, prefixesOf, hasUp}
 use Rattle.model.specs.Meeting.{cell, startCells, stepCells}
 use Rattle.format.specs.Text.{digits}
-use Rattle.sequence.specs.Orders.{outcome, order}
+use Rattle.sequence.specs.Orders.{ending, order}
 use Rattle.report.specs.Lines.{fileLine, answerLine, orderLine}
 use Rattle.report.specs.Pair.{threeLines, pairText}
 use Rattle.report.specs.Examples.{Examples}
 
 pub examples-hold : Examples
-unfolding any all among rowsFit noneTwice readFrom lastMarked parseFrom isBelowFrom stepFrom picked run loop cutAll copyAll copyEach copyOf descendantsFrom infer withStep prefixed prefixesOf hasUp cell startCells stepCells digits outcome order fileLine answerLine orderLine threeLines pairText
+unfolding any all among rowsFit noneTwice readFrom lastMarked parseFrom isBelowFrom stepFrom picked run loop cutAll copyAll copyEach copyOf descendantsFrom infer withStep prefixed prefixesOf hasUp cell startCells stepCells digits ending order fileLine answerLine orderLine threeLines pairText
 examples-hold = (refl, refl, refl, refl)

@@ -18,14 +18,14 @@ use Rattle.model.proofs.RunsBack.{runsBack}
 use Rattle.model.proofs.StoredBack.{storedBack}
 use Rattle.model.proofs.FreeCommutes.{freeCommutes}
 use Rattle.table.specs.Words.{encode, decode}
-use Rattle.sequence.specs.Orders.{outcomeBy, outcome, orderThen, orderFrom, order, swap}
+use Rattle.sequence.specs.Orders.{endingBy, ending, orderThen, orderFrom, order, swap}
 use Rattle.sequence.specs.Promise.{hasEnded, FreeLines}
-use Rattle.sequence.specs.declared.orders.Outcome.{Outcome}
+use Rattle.sequence.specs.declared.orders.Ending.{Ending}
 use Rattle.sequence.specs.declared.orders.Order.{Order}
 use Rattle.sequence.specs.declared.orders.Order.the-variants.{Stopped, Ended}
 use Rattle.table.proofs.EncodeLaws.{decode-encode, fits-encode}
 
--- AN ORDER by the outcomes of its two runs
+-- AN ORDER by the endings of its two runs
 orderBy : (leads follows : Out) → Order
 orderBy (stop f) q = Stopped 1 (f .number)
 orderBy (gives v s) (stop f) = Stopped 2 (f .number)
@@ -33,17 +33,17 @@ orderBy (gives v s) (gives w u) = Ended (length v) (length w) (count (u .plan))
 
 -- a run on the words of a well-formed table is the model's
 module _ (b : List ℕ) (e : Expr) (i n : ℕ) (r : List ℕ) (E : readScript b ≡ parsed e i n r) where
-  outcome-runs : (x : Table) → isWell x ≡ true → outcome (encode x) b ≡ outcomeBy (encode x) (runOn x e)
-  unfolding outcome
-  outcome-runs x well =
-      ap (outcomeBy (encode x))
+  ending-runs : (x : Table) → isWell x ≡ true → ending (encode x) b ≡ endingBy (encode x) (runOn x e)
+  unfolding ending
+  ending-runs x well =
+      ap (endingBy (encode x))
       (ap (λ (z : Bool). pick z (runBy (decode (encode x)) (readScript b)) (stop (linkAt 0))) (fits-encode x well) ∙
       ap (λ (y : Table). runBy y (readScript b)) (decode-encode x well) ∙ ap (runBy x) E)
 
 module _ (b c : List ℕ) (e f : Expr) (i n j m : ℕ) (r q : List ℕ) (E : readScript b ≡ parsed e i n r) (F : readScript c ≡ parsed f j m q)
     (bytes : areBytes b ≡ true) (x : Table) (well : isWell x ≡ true) where
   follows-run : (v : List ℕ) (s : State) (o : Out) → runOn (s .plan) f ≡ o →
-      orderThen (length v) (outcomeBy (encode (s .plan)) o) ≡ orderBy (gives v s) o
+      orderThen (length v) (endingBy (encode (s .plan)) o) ≡ orderBy (gives v s) o
   unfolding orderBy
   follows-run v s (stop z) k =
       ap (λ (y : Bool). pick y (Ended (length v) 0 (count (s .plan))) (Stopped 2 (z .number))) (stop-refuses f (s .plan) z k)
@@ -51,14 +51,14 @@ module _ (b c : List ℕ) (e f : Expr) (i n j m : ℕ) (r q : List ℕ) (E : rea
 
   order-runs : order (encode x) b c ≡ orderBy (runOn x e) (runOn (tableOf (runOn x e)) f)
   unfolding order orderBy
-  order-runs = ap (λ (y : Outcome). orderFrom y c) (outcome-runs b e i n r E x well) ∙ go (runOn x e) refl
+  order-runs = ap (λ (y : Ending). orderFrom y c) (ending-runs b e i n r E x well) ∙ go (runOn x e) refl
     where
-      go : (o : Out) → runOn x e ≡ o → orderFrom (outcomeBy (encode x) o) c ≡ orderBy o (runOn (tableOf o) f)
+      go : (o : Out) → runOn x e ≡ o → orderFrom (endingBy (encode x) o) c ≡ orderBy o (runOn (tableOf o) f)
       go (stop z) k =
-          ap (λ (y : Bool). pick y (orderThen 0 (outcome (encode x) c)) (Stopped 1 (z .number))) (stop-refuses e x z k)
+          ap (λ (y : Bool). pick y (orderThen 0 (ending (encode x) c)) (Stopped 1 (z .number))) (stop-refuses e x z k)
       go (gives v s) k =
           ap (orderThen (length v))
-          (outcome-runs c f j m q F (s .plan) (runsBack e x v s (b, bytes, (i, (n, (r, E)))) well k .0)) ∙
+          (ending-runs c f j m q F (s .plan) (runsBack e x v s (b, bytes, (i, (n, (r, E)))) well k .0)) ∙
           follows-run v s (runOn (s .plan) f) refl
 
 -- it has ended where both runs have

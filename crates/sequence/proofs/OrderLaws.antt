@@ -20,8 +20,8 @@ use Rattle.table.specs.Words.{encode, decode, fits}
 use Rattle.table.specs.declared.Table.{Table}
 use Rattle.run.specs.Calls.{outcomeOf, ran, runResult}
 use Rattle.run.specs.declared.RunResult.{RunResult}
-use Rattle.sequence.specs.Orders.{outcomeBy, outcome, orderThen, orderFrom, order, swap}
-use Rattle.sequence.specs.declared.orders.Outcome.{Outcome}
+use Rattle.sequence.specs.Orders.{endingBy, ending, orderThen, orderFrom, order, swap}
+use Rattle.sequence.specs.declared.orders.Ending.{Ending}
 use Rattle.sequence.specs.declared.orders.Order.{Order}
 use Rattle.sequence.specs.declared.orders.Order.the-variants.{Stopped, Ended}
 use Rattle.run.proofs.CallLaws.{areas-fit}
@@ -45,16 +45,16 @@ either-refuses true x p s f e = run-refuses x p s f e
 either-refuses false x p s f e = let q : f ≡ linkAt 0 = cc in ap isFine q
 
 -- WHAT A RUN GIVES BACK does not depend on the areas, where they suffice
-abbrev given : Table → Ran → Outcome
+abbrev given : Table → Ran → Ending
 given t r = record { number = r .fault .number; items = r .items; table = pick (isFine (r .fault)) (encode (r .plan)) t }
 
-out-given : (t : Table) (a h w : ℕ) (o : Out) → Refuses o → given t (ranBy (decode t) a h w o) ≡ outcomeBy t o
+out-given : (t : Table) (a h w : ℕ) (o : Out) → Refuses o → given t (ranBy (decode t) a h w o) ≡ endingBy t o
 out-given t a h w (stop f) k = ap (λ (z : Bool). record { number = f .number; items = 0; table = pick z (encode (decode t)) t }) (k f refl)
 out-given t a h w (gives v s) k = refl
 
 module _ (t : Table) (b a h w : List ℕ) (i : 512 ≤ length a) (j : 12288 ≤ length h) (k : 32768 ≤ length w) where
-  ran-given : given t (ran t b a h w) ≡ outcome t b
-  unfolding outcome
+  ran-given : given t (ran t b a h w) ≡ ending t b
+  unfolding ending
   ran-given =
       ap
       (λ (z : Bool).
@@ -64,7 +64,7 @@ module _ (t : Table) (b a h w : List ℕ) (i : 512 ≤ length a) (j : 12288 ≤ 
       (either-refuses (fits t) (decode t) (readScript b) (whole-sound (parseFrom 18 1 0 0 0 b) (parse-sound 18 1 0 0 0 b)))
 
   pub run-given : {r : RunResult} → r ≡ runResult t b a h w →
-      record { number = r .fault .number; items = r .items; table = r .table } ≡ outcome t b
+      record { number = r .fault .number; items = r .items; table = r .table } ≡ ending t b
   run-given e =
       ap (λ (q : RunResult). record { number = q .fault .number; items = q .items; table = q .table }) e ∙ ran-given
 
@@ -76,20 +76,20 @@ pub pick-refused : {A : Type 0} {n : ℕ} (x y : A) → (n ≡ 0 → ⊥) → pi
 pick-refused x y h = rw (ne-eqb _ 0 h)
 
 -- AN ORDER by its three ways out
-module _ (t : Table) (b c : List ℕ) {one : Outcome} (e : one ≡ outcome t b) where
+module _ (t : Table) (b c : List ℕ) {one : Ending} (e : one ≡ ending t b) where
   pub leads-refused : (one .number ≡ 0 → ⊥) → Stopped 1 (one .number) ≡ order t b c
   unfolding order
   leads-refused z =
-      sym (pick-refused (orderThen (one .items) (outcome (one .table) c)) (Stopped 1 (one .number)) z) ∙
-      ap (λ (r : Outcome). orderFrom r c) e
+      sym (pick-refused (orderThen (one .items) (ending (one .table) c)) (Stopped 1 (one .number)) z) ∙
+      ap (λ (r : Ending). orderFrom r c) e
 
-  module _ (y : one .number ≡ 0) {two : Outcome} (f : two ≡ outcome (one .table) c) where
+  module _ (y : one .number ≡ 0) {two : Ending} (f : two ≡ ending (one .table) c) where
     then-order : orderThen (one .items) two ≡ order t b c
     unfolding order
     then-order =
         ap (orderThen (one .items)) f ∙
-        sym (pick-fine (orderThen (one .items) (outcome (one .table) c)) (Stopped 1 (one .number)) y) ∙
-        ap (λ (r : Outcome). orderFrom r c) e
+        sym (pick-fine (orderThen (one .items) (ending (one .table) c)) (Stopped 1 (one .number)) y) ∙
+        ap (λ (r : Ending). orderFrom r c) e
 
     pub follows-refused : (two .number ≡ 0 → ⊥) → Stopped 2 (two .number) ≡ order t b c
     follows-refused z = sym (pick-refused (Ended (one .items) (two .items) (two .table .count)) (Stopped 2 (two .number)) z) ∙ then-order

@@ -8,27 +8,27 @@ use Rattle.model.specs.Run.{Out, stop, gives}
 use Rattle.table.specs.Words.{encode}
 use Rattle.table.specs.declared.Table.{Table}
 use Rattle.run.specs.Calls.{outcomeOf}
-use Rattle.sequence.specs.declared.orders.Outcome.{Outcome}
+use Rattle.sequence.specs.declared.orders.Ending.{Ending}
 use Rattle.sequence.specs.declared.orders.Order.{Order}
 use Rattle.sequence.specs.declared.orders.Order.the-variants.{Stopped, Ended}
 
 -- A RUN of a script on a table, as `ran` has it for all areas that suffice: refused, with its number; or its items and the table after it
-abbrev pub outcomeBy : Table → Out → Outcome
-outcomeBy t (stop f) = record { number = f .number; items = 0; table = t }
-outcomeBy t (gives v s) = record { number = 0; items = length v; table = encode (s .plan) }
+abbrev pub endingBy : Table → Out → Ending
+endingBy t (stop f) = record { number = f .number; items = 0; table = t }
+endingBy t (gives v s) = record { number = 0; items = length v; table = encode (s .plan) }
 
-unfoldable pub outcome : Table → (script : List ℕ) → Outcome
-outcome t b = outcomeBy t (outcomeOf t b)
+unfoldable pub ending : Table → (script : List ℕ) → Ending
+ending t b = endingBy t (outcomeOf t b)
 
 -- AN ORDER: the script that follows gets the table as the one that leads left it; after a refusal no script runs
-abbrev pub orderThen : (items : ℕ) → Outcome → Order
+abbrev pub orderThen : (items : ℕ) → Ending → Order
 orderThen i r = pick (eqb (r .number) 0) (Ended i (r .items) (r .table .count)) (Stopped 2 (r .number))
 
-abbrev pub orderFrom : Outcome → (follows : List ℕ) → Order
-orderFrom r c = pick (eqb (r .number) 0) (orderThen (r .items) (outcome (r .table) c)) (Stopped 1 (r .number))
+abbrev pub orderFrom : Ending → (follows : List ℕ) → Order
+orderFrom r c = pick (eqb (r .number) 0) (orderThen (r .items) (ending (r .table) c)) (Stopped 1 (r .number))
 
 unfoldable pub order : Table → (leads follows : List ℕ) → Order
-order t b c = orderFrom (outcome t b) c
+order t b c = orderFrom (ending t b) c
 
 -- 1 is `first` in either order: an order that the second leads, with each script under its own number
 abbrev pub swap : Order → Order

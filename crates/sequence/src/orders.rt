@@ -1,11 +1,11 @@
 // Two scripts run one after the other.
 ghost use mathlib.Core.Path.{_≡_};
 ghost use lib.ListN.{length};
-ghost use Rattle.sequence.specs.Orders.{outcome, order, swap};
+ghost use Rattle.sequence.specs.Orders.{ending, order, swap};
 use table::Table;
 
 // How a run ended: the number of its refusal, or 0; the items of its answer; the table after it.
-struct Outcome {
+struct Ending {
     number: u8,
     items: usize,
     table: Table,
@@ -44,15 +44,15 @@ fn work_area() -> [u16; run::WORK]
 }
 
 // Runs a script in areas of its own.
-fn run_alone(table: Table, script: &[u8]) -> Outcome
-    ensures { λ r. ⌜ r ≡ outcome table (now (script .entry)) ⌝ }
+fn run_alone(table: Table, script: &[u8]) -> Ending
+    ensures { λ r. ⌜ r ≡ ending table (now (script .entry)) ⌝ }
 {
     let mut answer = answer_area();
     let mut history = history_area();
     let mut work = work_area();
     let end = run::run(table, script, &mut answer, &mut history, &mut work);
     let after = end.table;
-    Outcome {
+    Ending {
         number: end.fault.number,
         items: end.items,
         table: after,
