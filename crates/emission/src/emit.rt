@@ -1,8 +1,6 @@
 // Emission: one pass over an accepted script in place numbers the positions of its expressions, operands first.
 ghost use mathlib.Core.Path.{_≡_};
-ghost use Prim.Native.Nat.{_<_};
 ghost use Rattle.model.specs.Paths.{anyBelow};
-ghost use Rattle.script.specs.Walk.{inner};
 ghost use Rattle.emission.specs.Positions.{pushStep, pushUnion, pushDelete, pushInsert};
 ghost use Rattle.meeting.specs.Codes.{stepOf};
 ghost use Rattle.emission.specs.Emitting.{outOf, unaryOf, binaryOf, GrowPre, StepPre, PairedPre, UnaryPre, Grown, BindPre, BindPost};
@@ -210,18 +208,7 @@ fn binary(kind: u8, words: &mut [usize], first: usize, y: Emitted) -> Emitted
     y
 }
 
-// Variables in scope in the second operand.
-fn inner(kind: u8, bound: usize) -> usize
-    requires { ⌜ bound < 9 ⌝ }
-    ensures { λ r. ⌜ r ≡ inner kind bound ⌝ }
-{
-    if kinds::is_binder(kind) {
-        return bound + 1;
-    }
-    bound
-}
-
-// Their positions: a binder's first result is one more.
+// The positions of the variables in the second operand: a binder's first result is one more.
 fn bind(kind: u8, env: [u8; 8], bound: usize, result: usize) -> [u8; 8]
     requires { ⌜ BindPre kind env bound result ⌝ }
     ensures { λ r. ⌜ BindPost kind env bound result r ⌝ }
@@ -262,7 +249,7 @@ pub fn emit(
         bytes,
         first.place,
         left - 1,
-        inner(kind, bound),
+        kinds::inner(kind, bound),
         inside,
         words,
         first.count,

@@ -4,8 +4,7 @@ ghost use mathlib.Core.Bool.{_&&_};
 ghost use lib.Dec.{leb};
 ghost use Rattle.model.specs.Limits.{maxBinders};
 ghost use Rattle.model.specs.Script.{isBinder, testFits};
-ghost use Rattle.script.specs.Walk.{inner};
-ghost use Rattle.script.specs.Reading.{BodyPre, BodyPost, InnerPre, HeadPost, ExpressionPre, ExpressionPost};
+ghost use Rattle.script.specs.Reading.{BodyPre, BodyPost, HeadPost, ExpressionPre, ExpressionPost};
 use crate::kinds;
 use table::Fault;
 use table::Table;
@@ -83,17 +82,6 @@ fn is_ninth(kind: u8, bound: usize) -> bool
     false
 }
 
-// Variables in scope in the second operand.
-fn inner(kind: u8, bound: usize) -> usize
-    requires { ⌜ InnerPre kind bound ⌝ }
-    ensures { λ r. ⌜ r ≡ inner kind bound ⌝ }
-{
-    if kinds::is_binder(kind) {
-        return bound + 1;
-    }
-    bound
-}
-
 // The number of the refusal of the record at the front, or 0.
 fn head(s: &[u8], left: usize, records: usize, bound: usize) -> u8
     ensures { λ r. ⌜ HeadPost (now (s .entry)) left records bound r ⌝ }
@@ -161,7 +149,7 @@ pub fn expression(bytes: &[u8], at: usize, left: usize, records: usize, bound: u
         first.place,
         left - 1,
         first.records,
-        inner(kind, bound),
+        kinds::inner(kind, bound),
     );
     if second.number != 0 {
         return second;
