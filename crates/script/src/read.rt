@@ -8,9 +8,7 @@ ghost use Rattle.script.specs.Reading.{BodyPre, BodyPost, HeadPost, Expr
 use crate::kinds;
 use table::Fault;
 use table::Table;
-
-// Records of a script, at most.
-const RECORDS: usize = 64;
+use table::number;
 
 const AXES: u8 = 4;
 
@@ -24,12 +22,6 @@ pub struct End {
     pub number: u8,
     pub place: usize,
     pub records: usize,
-}
-
-fn index(b: u8) -> usize
-    ensures { λ r. ⌜ r ≡ b ⌝ }
-{
-    b as usize
 }
 
 // Name is 0 unless the test is 3, and then 1 to 255.
@@ -52,10 +44,10 @@ fn body_fits(s: &[u8], bound: usize) -> bool
 {
     let kind = s[0];
     if kind == kinds::DOCUMENT {
-        return index(s[1]) < Table::DOCUMENTS;
+        return number::byte(s[1]) < Table::DOCUMENTS;
     }
     if kind == kinds::VARIABLE {
-        return index(s[1]) < bound;
+        return number::byte(s[1]) < bound;
     }
     if kind == kinds::STEP {
         if AXES <= s[1] {
@@ -96,7 +88,7 @@ fn head(s: &[u8], left: usize, records: usize, bound: usize) -> u8
     if kinds::PICK < kind {
         return Fault::KIND;
     }
-    if RECORDS <= records {
+    if Table::SCRIPT_RECORDS <= records {
         return Fault::SIZE;
     }
     if left == 0 {

@@ -56,11 +56,11 @@ mark-requires c κs = record {
   documents = c .before .before .before .before .before .before .before .before .before .before .pre .held .documents;
 }
 
-shared-slice-read-index : tie.Need-shared-slice-read-index
-shared-slice-read-index c = search needs
+shared-slice-read-byte : tie.Need-shared-slice-read-byte
+shared-slice-read-byte c = search needs
 
-index-requires : tie.Need-index-requires
-index-requires c κs = search needs
+byte-requires : tie.Need-byte-requires
+byte-requires c κs = search needs
 
 add-t13 : tie.Need-add-t13
 add-t13 c = search needs
@@ -83,8 +83,8 @@ returns-4 c = mark-record (c .before .before .before .before .before .before .be
       c .before .before .before .before .before .before
           .before .if4 .left,
     )) (c .before .before .before .before .before .before .before .before .if3 .taken) (c .before .before .before
-    .before .mark .last .1 .1 .0) (c .before .before .before .before .mark .result) (c .index .result) (c .before .before .before .before
-    .mark .ensures) (c .index .ensures .0)
+    .before .mark .last .1 .1 .0) (c .before .before .before .before .mark .result) (c .byte .result) (c .before .before .before .before
+    .mark .ensures) (c .byte .ensures .0)
 
 returns-5 : tie.Need-returns-5
 returns-5 c = record {
@@ -163,8 +163,8 @@ read-record-spec =
     returns-2
     returns-3
     mark-requires
-    shared-slice-read-index
-    index-requires
+    shared-slice-read-byte
+    byte-requires
     add-t13
     same-length
     same-length-2

@@ -33,7 +33,7 @@ index-requires c κs = search needs
 link-here : (c : tie.After-index Inv-loop μ-loop) → c .index .result ≡ getD (c .before .before .before .before .before .before .args
     .marks .now) (c .before .before .before .loop .d) 0
 link-here c =
-    c .index .ensures ∙ ap (λ (l : List ℕ). getD l (c .before .before .before .loop .d) 0) (c .before .before .before .loop .inv .1) ∙
+    c .index .ensures .0 ∙ ap (λ (l : List ℕ). getD l (c .before .before .before .loop .d) 0) (c .before .before .before .loop .inv .1) ∙
     links-at (c .before .before .before .before .before .before .args .numbers .now) (c .before .before .before .before .before .before
     .args .marks .now) (c .before .before .before .loop .d) (omega (
       arith,

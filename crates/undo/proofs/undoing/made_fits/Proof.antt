@@ -92,7 +92,7 @@ returns-4 c =
     c .before .before .before .before .before .before .before .before .if2 .left) (sym
     (c .before .before .before .before .before .same-kind .ensures) ∙ not-false
     (c .before .before .before .before .before .same-kind .result) (c .before .before .before .before .if3 .left)) (λ q. c .if4 .taken
-    (c .before .before .before .tag .ensures ∙ q ∙ sym (c .before .wide .ensures))))
+    (c .before .before .before .tag .ensures ∙ q ∙ sym (c .before .wide .ensures .0))))
 
 link-requires : tie.Need-link-requires
 link-requires c κs = search needs
@@ -129,7 +129,7 @@ returns-5 c =
     (c .before .before .before .before .before .before .before .before .same-kind .result)
     (c .before .before .before .before .before .before .before .if3 .left)) (sym
     (c .before .before .before .before .before .before .tag .ensures) ∙ search (c .before .before .before .if4 .left, needs) ∙
-    c .before .before .before .before .wide .ensures))
+    c .before .before .before .before .wide .ensures .0))
 
 pub made-fits-spec : {M : Type 1} → statement M
 made-fits-spec =
