@@ -1,3 +1,4 @@
+-- `read::read_record` refuses the record at the front or takes it into the table: the kind, then room, length, fields and links.
 use Rattle.plan.proofs.ReadLaws.{mark-record, row-record}
 use Rattle.model.specs.Table
 use Rattle.plan.proofs.ReadLaws.{refused, record-low, record-high, record-mark-short, record-size}

@@ -1,3 +1,4 @@
+-- `write::mark` puts a mark's record over the area, and nothing where there is no mark.
 use Rattle.plan.proofs.WriteLaws.{mark-none, mark-some}
 use Rattle.model.proofs.ListLaws.{over-nil}
 use Rattle.model.specs.Base.{over}
@@ -5,7 +6,7 @@ use Rattle.model.specs.Stored.{wordBytes}
 use lib.ListN.{length}
 use mathlib.Core.List.{List, _∷_}
 use mathlib.Core.Path.{_∙_, sym, ap}
-use Prim.Native.Nat.{ℕ, _-_}
+use Prim.Native.Nat.{ℕ}
 use native.Mathlib.Omega.{arith}
 use borrow.Author.Needs.{needs}
 use Rattle.plan.proofs.write.mark.Statement.{statement}

@@ -1,3 +1,4 @@
+-- `sweep::flag_one` sets the flag of one link, and none for link 0.
 use Rattle.model.proofs.BoolLaws.{pick-true, pick-false}
 use borrow.Author.Tests.{eq-eqb, ne-eqb}
 use lib.ListN.{set}

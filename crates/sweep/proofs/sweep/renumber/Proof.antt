@@ -1,3 +1,4 @@
+-- `sweep::renumber` gives each mark its new link. The loop's invariant: the marks passed have theirs.
 use lib.ListN.{length-set}
 use Prim.Native.Nat.{_<_}
 use Rattle.sweep.proofs.SweepLaws.{links-next, links-at, links-end}
@@ -5,7 +6,7 @@ use Rattle.sweep.specs.Sweeping.{newLinks}
 use lib.ListN.{length, getD, take, drop, set}
 use mathlib.Core.List.{List, _++_}
 use mathlib.Core.Path.{_≡_, refl, _∙_, ap}
-use Prim.Native.Nat.{ℕ, _≤_, _-_, _+_}
+use Prim.Native.Nat.{ℕ, _≤_, _-_}
 use native.Mathlib.Omega.{arith}
 use borrow.Author.Needs.{needs}
 use Rattle.sweep.proofs.sweep.renumber.Statement.{statement}

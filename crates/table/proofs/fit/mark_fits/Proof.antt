@@ -1,3 +1,4 @@
+-- `fit::mark_fits`: the mark is none, or an element without parent.
 use lib.ListN.{getD}
 use lib.Dec.{eqb}
 use mathlib.Core.Path.{_≡_, _∙_, sym, ap}

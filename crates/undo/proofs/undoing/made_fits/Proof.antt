@@ -1,3 +1,4 @@
+-- `undoing::made_fits` is the model's test of a made row's record, by one law of UndoLaws for each way out.
 use Rattle.undo.proofs.UndoLaws.{made-last, made-marked, made-kind, made-tag, made-parent}
 use Rattle.model.specs.Base.{any}
 use Rattle.model.specs.Table.{isThe}

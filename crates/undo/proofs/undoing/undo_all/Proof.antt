@@ -1,3 +1,4 @@
+-- `undoing::undo_all` undoes every record, the last first. The loop's invariant is `Backing`.
 use Rattle.undo.proofs.UndoLawsBack.{Backing, backing-start, backing-end, backing-at, backing-record, backing-refused, backing-again}
 use native.Mathlib.Omega.{arith}
 use borrow.Author.Needs.{needs}

@@ -1,3 +1,4 @@
+-- `insert::copy_items` copies every item. The loop's invariant is `Inserting`.
 use Rattle.updates.proofs.InsertLawsItems.{Inserting, inserting-start, inserting-item, inserting-end}
 use Rattle.updates.proofs.InsertLawsItems.{inserting-refused, inserting-again}
 use lib.ListN.{length}

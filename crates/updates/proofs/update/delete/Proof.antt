@@ -1,3 +1,4 @@
+-- `update::delete` cuts every row of a value. The loop's invariant is `Deleting`.
 use Rattle.updates.proofs.UpdateLaws.{Deleting, delete-end, delete-refused, delete-again}
 use Rattle.updates.proofs.StateLaws.{after-self}
 use lib.ListN.{length}
