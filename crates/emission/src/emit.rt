@@ -1,8 +1,6 @@
 // Emission: one pass over an accepted script in place numbers the positions of its expressions, operands first.
 ghost use mathlib.Core.Path.{_≡_};
-ghost use Prim.Native.Nat.{_<_};
 ghost use Rattle.model.specs.Paths.{anyBelow};
-ghost use Rattle.script.specs.Walk.{inner};
 ghost use Rattle.emission.specs.Positions.{pushStep, pushUnion, pushDelete, pushInsert};
 ghost use Rattle.meeting.specs.Codes.{stepOf};
 ghost use Rattle.emission.specs.Emitting.{outOf, unaryOf, binaryOf, GrowPre, StepPre, PairedPre, UnaryPre, Grown, BindPre, BindPost};
@@ -13,19 +11,14 @@ use crate::positions;
 use crate::positions::Position;
 use meeting::cells::Step;
 use script::kinds;
+use table::Table;
+use table::number;
 
 // After an expression: its position's number, the positions so far, and the place past it.
 pub struct Emitted {
     pub result: usize,
     pub count: usize,
     pub place: usize,
-}
-
-// A byte as a number.
-fn index(b: u8) -> usize
-    ensures { λ r. ⌜ r ≡ b ⌝ }
-{
-    b as usize
 }
 
 // The step to every node below.
@@ -145,7 +138,7 @@ fn nullary(
     bytes: &[u8],
     at: usize,
     next: usize,
-    env: [u8; 8],
+    env: [u8; Table::BINDERS],
     words: &mut [usize],
     count: usize,
 ) -> Emitted
@@ -154,7 +147,7 @@ fn nullary(
 {
     let kind = bytes[at];
     if kind == kinds::DOCUMENT {
-        positions::push(words, count, Position::root(index(bytes[at + 1])));
+        positions::push(words, count, Position::root(number::byte(bytes[at + 1])));
         return Emitted {
             result: count,
             count: count + 1,
@@ -162,9 +155,9 @@ fn nullary(
         };
     }
     if kind == kinds::VARIABLE {
-        let v = index(bytes[at + 1]);
+        let v = number::byte(bytes[at + 1]);
         return Emitted {
-            result: index(env[v]),
+            result: number::byte(env[v]),
             count,
             place: next,
         };
@@ -184,9 +177,9 @@ fn unary(bytes: &[u8], at: usize, words: &mut [usize], x: Emitted) -> Emitted
     let kind = bytes[at];
     if kind == kinds::STEP {
         let s = Step {
-            axis: index(bytes[at + 1]),
-            test: index(bytes[at + 2]),
-            name: index(bytes[at + 3]),
+            axis: number::byte(bytes[at + 1]),
+            test: number::byte(bytes[at + 2]),
+            name: number::byte(bytes[at + 3]),
         };
         return step(words, s, x);
     }
@@ -210,19 +203,8 @@ fn binary(kind: u8, words: &mut [usize], first: usize, y: Emitted) -> Emitted
     y
 }
 
-// Variables in scope in the second operand.
-fn inner(kind: u8, bound: usize) -> usize
-    requires { ⌜ bound < 9 ⌝ }
-    ensures { λ r. ⌜ r ≡ inner kind bound ⌝ }
-{
-    if kinds::is_binder(kind) {
-        return bound + 1;
-    }
-    bound
-}
-
-// Their positions: a binder's first result is one more.
-fn bind(kind: u8, env: [u8; 8], bound: usize, result: usize) -> [u8; 8]
+// The positions of the variables in the second operand: a binder's first result is one more.
+fn bind(kind: u8, env: [u8; Table::BINDERS], bound: usize, result: usize) -> [u8; Table::BINDERS]
     requires { ⌜ BindPre kind env bound result ⌝ }
     ensures { λ r. ⌜ BindPost kind env bound result r ⌝ }
 {
@@ -240,7 +222,7 @@ pub fn emit(
     at: usize,
     left: usize,
     bound: usize,
-    env: [u8; 8],
+    env: [u8; Table::BINDERS],
     words: &mut [usize],
     count: usize,
 ) -> Emitted
@@ -262,7 +244,7 @@ pub fn emit(
         bytes,
         first.place,
         left - 1,
-        inner(kind, bound),
+        kinds::inner(kind, bound),
         inside,
         words,
         first.count,

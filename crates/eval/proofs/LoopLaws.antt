@@ -23,7 +23,8 @@ use Rattle.operators.specs.Evaluating.{EvalPre, EvalPost}
 use Rattle.eval.specs.Loops.{bodyRun, EachPre, EachPost}
 use Rattle.operators.specs.declared.value.Span.{Span}
 use Rattle.operators.specs.declared.record.Evaluated.{Evaluated}
-use Rattle.operators.proofs.ValueLaws.{value-same, value-none, value-one, value-append}
+use Rattle.query.proofs.ValueLaws.{value-none}
+use Rattle.operators.proofs.ValueLaws.{value-same, value-one, value-append}
 use Rattle.operators.proofs.YieldLaws.{yields-as, yields-gives, yields-stop, stop-yields, moved-yields, fine-between, between-then}
 use Rattle.operators.proofs.YieldLaws.{yields-after, limited-yields}
 use Rattle.eval.proofs.OperandLaws.{for-operands}

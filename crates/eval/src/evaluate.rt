@@ -73,7 +73,7 @@ fn binary(
     let q = x.progress;
     let inside = value::bind(kind, scope, bound, top, mid);
     let j = x.place;
-    let n = value::inner(kind, bound);
+    let n = kinds::inner(kind, bound);
     let y = eval(script, j, k, n, inside, marks, rows, history, work, mid, q);
     if y.progress.number != 0 {
         return y;

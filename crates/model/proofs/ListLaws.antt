@@ -4,8 +4,8 @@ use mathlib.Core.List.{List, [], _∷_, _++_, map, append-assoc, append-nil}
 use Prim.Native.Nat.{ℕ, zero, suc, _+_, _-_, _≤_}
 use native.Mathlib.Omega.{arith}
 use native.Mathlib.Nat.{add-zero}
-use lib.ListN.{length, take, drop, set, length-append, length-drop, take-append-drop}
-use lib.Seq.{take-at, drop-append-add, drop-drop, length-take-le}
+use lib.ListN.{length, getD, take, drop, set, length-append, length-drop, take-append-drop}
+use lib.Seq.{take-at, take-all, drop-append-add, drop-drop, getD-drop, length-take-le}
 use Rattle.model.specs.Base.{over}
 
 -- an element set, and then mapped
@@ -45,3 +45,10 @@ length-over s B o h = omega (
 -- nothing put
 pub over-nil : (s : ℕ) (o : List ℕ) → over s [] o ≡ o
 over-nil s o = simp (append-nil, add-zero) (take-append-drop s o)
+
+-- what stands from a place on: all of it, and the first of it
+pub drop-all : (b : List ℕ) (i : ℕ) → take (length b - i) (drop i b) ≡ drop i b
+drop-all b i = take-all (length b - i) (drop i b) (omega (arith, length-drop i b))
+
+pub drop-first : (b : List ℕ) (i : ℕ) → getD (drop i b) 0 0 ≡ getD b i 0
+drop-first b i = let e : i + 0 ≡ i = omega arith in getD-drop i b 0 0 ∙ ap (λ (j : ℕ). getD b j 0) e

@@ -3,7 +3,8 @@ ghost use mathlib.Core.Path.{_≡_};
 ghost use Prim.Native.Nat.{_≤_, _<_};
 ghost use lib.ListN.{getD};
 ghost use Rattle.script.specs.Walk.{arity, endAt};
-ghost use Rattle.operators.specs.Evaluating.{endedBy, limitedBy, movedTo, UnaryPre, UnaryPost, BinaryPre, BinaryPost, EvalPre, EvalPost};
+ghost use Rattle.operators.specs.Evaluating.{endedBy, limitedBy, movedTo, UnaryPre, UnaryPost, BinaryPre, BinaryPost};
+ghost use Rattle.operators.specs.Evaluating.{EvalPre, EvalPost};
 use crate::value;
 use crate::value::Span;
 use query::pick;
@@ -14,6 +15,7 @@ use script::walk;
 use table::Fault;
 use table::NameNumber;
 use table::Table;
+use table::number;
 use updates::insert;
 use updates::state::Progress;
 use updates::update;
@@ -24,13 +26,6 @@ pub struct Evaluated {
     pub place: usize,
     pub end: usize,
     pub env: [Span; Table::BINDERS],
-}
-
-fn index(b: u8) -> usize
-    ensures { λ r. ⌜ r ≡ b ⌝ }
-    ensures { λ r. ⌜ r ≤ 255 ⌝ }
-{
-    b as usize
 }
 
 fn name(b: u8) -> u16
@@ -112,11 +107,11 @@ pub fn nullary(
     }
     let b = script[at + 1];
     if kind == kinds::DOCUMENT {
-        let end = value::document(marks, index(b), work, top);
+        let end = value::document(marks, number::byte(b), work, top);
         return ended(p, at, at + 2, end, env);
     }
     if kind == kinds::VARIABLE {
-        let v = index(b);
+        let v = number::byte(b);
         let s = env[v];
         let from = s.start;
         let to = from + s.len;

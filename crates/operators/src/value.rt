@@ -1,9 +1,7 @@
 // Values in the work area: a value stands from a place up to another, a bound variable's is a start and a length.
-ghost use mathlib.Core.Path.{_≡_};
-ghost use Prim.Native.Nat.{_≤_, _<_};
+ghost use Prim.Native.Nat.{_<_};
 ghost use lib.ListN.{length, getD};
 ghost use Rattle.model.specs.Run.{marked};
-ghost use Rattle.script.specs.Walk.{inner};
 ghost use Rattle.table.specs.Words.{linked};
 ghost use Rattle.query.specs.Values.{Appended, valueAt};
 ghost use Rattle.operators.specs.Evaluating.{CopyPre, BindPre, BindPost, madeValue, PutPre};
@@ -78,14 +76,4 @@ pub fn bind(
         return inside;
     }
     inside
-}
-
-pub fn inner(kind: u8, bound: usize) -> usize
-    requires { ⌜ bound ≤ 8 ⌝ }
-    ensures { λ r. ⌜ r ≡ inner kind bound ⌝ }
-{
-    if kinds::is_binder(kind) {
-        return bound + 1;
-    }
-    bound
 }

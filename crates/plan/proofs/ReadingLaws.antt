@@ -5,11 +5,12 @@ use Prim.Native.Nat.{ℕ, zero, suc, _+_, _-_, _/_, _≤_, _<_}
 use native.Mathlib.Omega.{arith}
 use lib.Dec.{eqb}
 use lib.ListN.{length, length-drop, take, drop, drop-of-length-le}
-use lib.Seq.{take-all, drop-drop}
+use lib.Seq.{drop-drop}
 use borrow.Author.Tests.{eq-eqb, ne-eqb}
 use Rattle.model.specs.Refusal.{fault, fine, isFine, faultAt}
 use Rattle.model.specs.Table as model
 use Rattle.model.specs.Stored.{lastMarked, recordFault, recorded, readFrom, readPlan, bad, got}
+use Rattle.model.proofs.ListLaws.{drop-all}
 use Rattle.model.proofs.BoolLaws.{pick-true, pick-false}
 use Rattle.model.proofs.StoredLaws.{readFrom-end, readFrom-fine, readFrom-refused}
 use Rattle.table.specs.Words.{linked, decodeParts, encode}
@@ -35,9 +36,6 @@ read-end k x i = readFrom-end (suc k) x i [] refl
 -- reading goes on from what is held, at a place
 module _ (b ws ms : List ℕ) (n at : ℕ) (h : at < length b)
     (held : readFrom (length b + 1 - at / 4) (decodeParts n ws ms) at (drop at b) ≡ readPlan b) where
-  rest : take (length b - at) (drop at b) ≡ drop at b
-  rest = take-all (length b - at) (drop at b) (omega (arith, length-drop at b))
-
   more : 0 < length (drop at b)
   more = omega (arith, length-drop at b)
 
@@ -46,7 +44,7 @@ module _ (b ws ms : List ℕ) (n at : ℕ) (h : at < length b)
 
   module _ (ws′ ms′ : List ℕ) (r : RecordRead) (post : RecordPost (take (length b - at) (drop at b)) ws ms n ws′ ms′ r) where
     faults : recordFault (decodeParts n ws ms) at (drop at b) ≡ faultAt (r .number) at
-    faults = ap (recordFault (decodeParts n ws ms) at) (sym rest) ∙ post .fault at
+    faults = ap (recordFault (decodeParts n ws ms) at) (sym (drop-all b at)) ∙ post .fault at
 
     pub reading-refused : (r .number ≡ 0 → ⊥) → bad (fault (r .number) at) ≡ readPlan b
     reading-refused z = go (r .number) z faults
@@ -61,10 +59,10 @@ module _ (b ws ms : List ℕ) (n at : ℕ) (h : at < length b)
         (readFrom (length b + 1 - (at + 4) / 4) (decodeParts (r .count) ws′ ms′) (at + 4) (drop (at + 4) b) ≡ readPlan b)
     reading-on z =
         let w : 4 ≤ length (take (length b - at) (drop at b)) = post .fine z .whole in (
-          omega (arith, ap length rest, length-drop at b),
+          omega (arith, ap length (drop-all b at), length-drop at b),
           ap (λ (j : ℕ). readFrom j (decodeParts (r .count) ws′ ms′) (at + 4) (drop (at + 4) b)) falls ∙
               ap (λ (x : model.Table). readFrom (length b - at / 4) x (at + 4) (drop (at + 4) b)) (post .fine z .table ∙ ap (recorded
-              (decodeParts n ws ms)) rest) ∙
+              (decodeParts n ws ms)) (drop-all b at)) ∙
               ap (readFrom (length b - at / 4) (recorded (decodeParts n ws ms) (drop at b)) (at + 4)) (sym (drop-drop 4 at b)) ∙
               sym (read-fine (length b - at / 4) (decodeParts n ws ms) at (drop at b) more (faults ∙ rw z)) ∙
               ap (λ (j : ℕ). readFrom j (decodeParts n ws ms) at (drop at b)) (sym fuel) ∙ held,

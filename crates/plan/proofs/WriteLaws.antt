@@ -63,7 +63,8 @@ module _ (ws : List ℕ) (n i : ℕ) (within : n ≤ length ws) (h : i < n) wher
       let g : 0 + length (rowsBytes (take i (rowsOf n ws))) ≤ length o = omega arith in
       ap (λ (j : ℕ). over j (rowBytes (rowOf (getD ws i 0))) (over 0 (rowsBytes (take i (rowsOf n ws))) o)) e ∙
       over-over 0 (rowsBytes (take i (rowsOf n ws))) (rowBytes (rowOf (getD ws i 0))) o g ∙
-      ap (λ (b : List ℕ). over 0 b o) (sym (ap rowsBytes (rows-next ws n i within h) ∙ rowsBytes-snoc (take i (rowsOf n ws)) (rowOf (getD ws i 0))))
+      ap (λ (b : List ℕ). over 0 b o)
+      (sym (ap rowsBytes (rows-next ws n i within h) ∙ rowsBytes-snoc (take i (rowsOf n ws)) (rowOf (getD ws i 0))))
 
 -- MARKS, one more
 marksBytes-snoc : (from : ℕ) (ms : List (Option ℕ)) (m : Option ℕ) → marksBytes from (ms ++ (m ∷ [])) ≡ marksBytes from ms ++ markBytes

@@ -8,6 +8,7 @@ use table::Written;
 use table::fit;
 
 mod read;
+mod stored;
 pub mod write;
 
 // Reads a stored plan; refused, the table is the empty one.

@@ -1,23 +1,12 @@
 // Reads a stored plan, record by record: per record 1, 5, 2, 4, 6.
-ghost use mathlib.Core.Path.{_≡_};
 ghost use Prim.Native.Nat.{_+_, _<_};
-ghost use lib.ListN.{length};
-ghost use Rattle.model.specs.Stored.{wordAt};
 ghost use Rattle.plan.specs.Reading.{RowPre, RowPost, MarkPre, MarkPost, RecordPre, RecordPost, ReadPre, ReadPost};
+use crate::stored;
 use table::Fault;
 use table::Table;
 use table::marks;
+use table::number;
 use table::words;
-
-const ELEMENT: u8 = 0x11;
-
-const LEAF: u8 = 0x12;
-
-const MARK: u8 = 0x13;
-
-const NONE: usize = 0xFFFF;
-
-const SIZE: usize = 4;
 
 // After a record: its refusal's number, or 0; rows so far; one more than the last document that marks a row.
 pub struct RecordRead {
@@ -33,29 +22,6 @@ pub struct PlanEnd {
     pub count: usize,
 }
 
-fn index(b: u8) -> usize
-    ensures { λ r. ⌜ r ≡ b ⌝ }
-    ensures { λ r. ⌜ r < 256 ⌝ }
-{
-    b as usize
-}
-
-fn wide(b: u8) -> u32
-    ensures { λ r. ⌜ r ≡ b ⌝ }
-    ensures { λ r. ⌜ r < 256 ⌝ }
-{
-    b as u32
-}
-
-// The two-byte number at a place of the record.
-fn number_at(s: &[u8], at: usize) -> usize
-    requires { ⌜ at + 1 < length (now s) ⌝ }
-    ensures { λ r. ⌜ r ≡ wordAt (now (s .entry)) at ⌝ }
-    ensures { λ r. ⌜ r < 65536 ⌝ }
-{
-    index(s[at]) + 256 * index(s[at + 1])
-}
-
 // The row at the front of s: its refusal's number, or 0 and the table has it.
 fn row(s: &[u8], rows: &mut [u32], count: usize, last: usize) -> u8
     requires { ⌜ RowPre (now s) (now rows) count ⌝ }
@@ -63,7 +29,7 @@ fn row(s: &[u8], rows: &mut [u32], count: usize, last: usize) -> u8
 {
     let kind = s[0];
     let tag = s[1];
-    if kind == ELEMENT {
+    if kind == stored::ELEMENT {
         if tag == 0 {
             return Fault::FIELD;
         }
@@ -71,9 +37,9 @@ fn row(s: &[u8], rows: &mut [u32], count: usize, last: usize) -> u8
     if last != 0 {
         return Fault::LINK;
     }
-    let parent = number_at(s, 2);
-    if parent == NONE {
-        rows[count] = words::word(wide(kind) - 16, 0, wide(tag));
+    let parent = number::number_at(s, 2);
+    if parent == number::NONE {
+        rows[count] = words::word(number::wide(kind) - 16, 0, number::wide(tag));
         return 0;
     }
     if count <= parent {
@@ -82,7 +48,11 @@ fn row(s: &[u8], rows: &mut [u32], count: usize, last: usize) -> u8
     if words::kind(rows[parent]) == words::LEAF {
         return Fault::LINK;
     }
-    rows[count] = words::word(wide(kind) - 16, (parent + 1) as u32, wide(tag));
+    rows[count] = words::word(
+        number::wide(kind) - 16,
+        (parent + 1) as u32,
+        number::wide(tag),
+    );
     0
 }
 
@@ -91,14 +61,14 @@ fn mark(s: &[u8], rows: &[u32], marks: &mut [u16], count: usize, last: usize) ->
     requires { ⌜ MarkPre (now s) (now rows) (now marks) count ⌝ }
     ensures { λ r. ⌜ MarkPost (now (s .entry)) (now (rows .entry)) (now (marks .entry)) count last (now (marks .exit)) r ⌝ }
 {
-    let document = index(s[1]);
+    let document = number::byte(s[1]);
     if Table::DOCUMENTS <= document {
         return Fault::FIELD;
     }
     if document < last {
         return Fault::LINK;
     }
-    let row = number_at(s, 2);
+    let row = number::number_at(s, 2);
     if count <= row {
         return Fault::LINK;
     }
@@ -129,22 +99,22 @@ fn read_record(
     ensures { λ r. ⌜ RecordPost (now (s .entry)) (now (rows .entry)) (now (marks .entry)) count (now (rows .exit)) (now (marks .exit)) r ⌝ }
 {
     let kind = s[0];
-    if kind < ELEMENT {
+    if kind < stored::ELEMENT {
         return RecordRead {
             number: Fault::KIND,
             count,
             last,
         };
     }
-    if MARK < kind {
+    if stored::MARK < kind {
         return RecordRead {
             number: Fault::KIND,
             count,
             last,
         };
     }
-    if kind == MARK {
-        if s.len() < SIZE {
+    if kind == stored::MARK {
+        if s.len() < stored::SIZE {
             return RecordRead {
                 number: Fault::SHORT,
                 count,
@@ -152,7 +122,7 @@ fn read_record(
             };
         }
         let number = mark(s, rows, marks, count, last);
-        let document = index(s[1]);
+        let document = number::byte(s[1]);
         return RecordRead {
             number,
             count,
@@ -166,7 +136,7 @@ fn read_record(
             last,
         };
     }
-    if s.len() < SIZE {
+    if s.len() < stored::SIZE {
         return RecordRead {
             number: Fault::SHORT,
             count,
@@ -200,7 +170,7 @@ pub fn records(bytes: &[u8], rows: &mut [u32], marks: &mut [u16]) -> PlanEnd
         }
         count = read.count;
         last = read.last;
-        at += SIZE;
+        at += stored::SIZE;
     }
     PlanEnd {
         number: 0,

@@ -3,33 +3,18 @@ ghost use mathlib.Core.Path.{_≡_};
 ghost use mathlib.Core.List.{_∷_, map};
 ghost use Prim.Native.Nat.{ℕ, _+_, _*_, _≤_, _<_};
 ghost use lib.ListN.{length};
-ghost use Rattle.model.specs.Stored.{wordBytes, parentBytes, rowBytes, rowsBytes, markBytes, marksBytes};
+ghost use Rattle.model.specs.Stored.{wordBytes, rowBytes, rowsBytes, markBytes, marksBytes};
 ghost use mathlib.Core.Bool.{true};
 ghost use Rattle.plan.specs.Calls.{planWritten, planOut};
 ghost use Rattle.table.specs.Words.{linked, rowOf, rowsOf, fits};
 ghost use Rattle.plan.specs.Writing.{RowsPre, MarksPre};
 ghost use Rattle.model.specs.Base.{over};
+use crate::stored;
 use table::Fault;
 use table::Table;
 use table::Written;
+use table::number;
 use table::words;
-
-const ELEMENT: u8 = 0x11;
-
-const LEAF: u8 = 0x12;
-
-const MARK: u8 = 0x13;
-
-const NONE: usize = 0xFFFF;
-
-const SIZE: usize = 4;
-
-fn number(link: u16) -> usize
-    ensures { λ r. ⌜ r ≡ link ⌝ }
-    ensures { λ r. ⌜ r < 65536 ⌝ }
-{
-    link as usize
-}
 
 // A record at a place: its kind, its first field, and a two-byte number.
 fn put(out: &mut [u8], at: usize, kind: u8, field: u8, number: usize)
@@ -43,31 +28,19 @@ fn put(out: &mut [u8], at: usize, kind: u8, field: u8, number: usize)
     out[at + 3] = (number / 256) as u8;
 }
 
-// The stored number of the parent with this link.
-fn parent(link: usize) -> usize
-    requires { ⌜ link < 1024 ⌝ }
-    ensures { λ r. ⌜ wordBytes r ≡ parentBytes (linked link) ⌝ }
-    ensures { λ r. ⌜ r < 65536 ⌝ }
-{
-    if link == 0 {
-        return NONE;
-    }
-    link - 1
-}
-
 // One row's record at a place.
 fn row(out: &mut [u8], at: usize, w: u32)
     requires { ⌜ at + 4 ≤ length (now out) ⌝ }
     requires { ⌜ w < 1048576 ⌝ }
     ensures { λ r. ⌜ now (out .exit) ≡ over at (rowBytes (rowOf w)) (now (out .entry)) ⌝ }
 {
-    let number = parent(words::link(w));
+    let number = number::parent(words::link(w));
     let field = words::tag(w) as u8;
     if words::kind(w) == words::LEAF {
-        put(out, at, LEAF, field, number);
+        put(out, at, stored::LEAF, field, number);
         return;
     }
-    put(out, at, ELEMENT, field, number);
+    put(out, at, stored::ELEMENT, field, number);
 }
 
 // The rows below the count, from the area's start on.
@@ -77,7 +50,7 @@ pub fn rows(out: &mut [u8], rows: &[u32], count: usize)
 {
     let mut i = 0;
     while i < count {
-        row(out, SIZE * i, rows[i]);
+        row(out, stored::SIZE * i, rows[i]);
         i += 1;
     }
 }
@@ -89,7 +62,7 @@ fn mark_length(link: u16) -> usize
     if link == 0 {
         return 0;
     }
-    SIZE
+    stored::SIZE
 }
 
 // One mark's record at a place, if there is a mark.
@@ -100,7 +73,7 @@ fn mark(out: &mut [u8], at: usize, document: u8, link: u16)
     if link == 0 {
         return;
     }
-    put(out, at, MARK, document, number(link - 1));
+    put(out, at, stored::MARK, document, number::index(link - 1));
 }
 
 // The marks, from a place on.
@@ -122,7 +95,7 @@ pub fn stored_length(count: usize, marks: &[u16]) -> usize
     requires { ⌜ (count ≤ 512) × (length (now marks) ≡ 8) ⌝ }
     ensures { λ r. ⌜ r ≡ 4 * count + length (marksBytes 0 (map linked (now (marks .entry)))) ⌝ }
 {
-    let mut n = SIZE * count;
+    let mut n = stored::SIZE * count;
     let mut d = 0;
     while d < marks.len() {
         n += mark_length(marks[d]);
@@ -149,7 +122,7 @@ pub fn fitting(table: Table, out: &mut [u8]) -> Written
         };
     }
     rows(out, &table.rows, count);
-    marks(out, &table.marks, SIZE * count);
+    marks(out, &table.marks, stored::SIZE * count);
     Written {
         fault: Fault {
             number: 0,

@@ -12,7 +12,7 @@ use Rattle.model.specs.Step.{relates, isPicked, picked}
 use Rattle.table.specs.Words.{decodeParts}
 use Rattle.table.proofs.WordLaws.{rowAt-decode}
 use Rattle.query.specs.Values.{valueAt, Appended, filtered, pickedRow}
-use Rattle.query.proofs.ValueLaws.{appended-none, appended-if}
+use Rattle.query.proofs.ValueLaws.{value-none, appended-none, appended-if}
 
 -- the value up to one place more
 pub value-next : (w : List ℕ) (from k : ℕ) → from ≤ k → k < length w → valueAt w from (k + 1) ≡ valueAt w from k ++ (getD w k 0 ∷ [])
@@ -22,9 +22,6 @@ value-next w from k l h =
     let g : k - from < length (drop from w) = omega (arith, length-drop from w) in
     ap (λ (j : ℕ). take j (drop from w)) e ∙ take-suc (drop from w) (k - from) 0 g ∙
     ap (λ (a : ℕ). take (k - from) (drop from w) ++ (a ∷ [])) (getD-drop from w (k - from) 0 ∙ ap (λ (j : ℕ). getD w j 0) f)
-
-pub value-none : (w : List ℕ) (from : ℕ) → valueAt w from from ≡ []
-value-none w from = let e : from - from ≡ 0 = omega arith in ap (λ (j : ℕ). take j (drop from w)) e
 
 filtered-next : (f : ℕ → Bool) (v : List ℕ) (i : ℕ) → filtered f (v ++ (i ∷ [])) ≡ filtered f v ++ pick (f i) (i ∷ []) []
 unfolding filtered

@@ -2,20 +2,20 @@
 use mathlib.Core.Path.{_≡_, refl, ap, sym, _∙_, subst}
 use mathlib.Core.Bool.{Bool, true, false, _||_, or-false, or-true, or-assoc}
 use mathlib.Core.List.{List, [], _∷_, _++_}
-use mathlib.Core.Option.{none}
-use Prim.Native.Nat.{ℕ, _+_, _-_, _/_, _%_, _≤_, _<_}
+use Prim.Native.Nat.{ℕ, _+_, _/_, _%_, _≤_, _<_}
 use native.Mathlib.Omega.{arith}
 use native.Mathlib.Numerals.{add-one}
 use lib.Dec.{eqb}
-use lib.ListN.{length, getD, take, set, replicate, length-set, getD-replicate}
-use lib.Seq.{take-suc, take-all, getD-set-same, getD-set-other}
-use borrow.Author.Tests.{ne-eqb, eqb-true, eqb-false}
+use lib.ListN.{length, getD, take, set, replicate}
+use lib.Seq.{take-suc, take-all}
+use borrow.Author.Tests.{eq-eqb, ne-eqb}
 use Rattle.model.specs.Base.{among}
 use Rattle.model.specs.Script.{stepBy}
 use Rattle.model.specs.Step.{leafLetter, named, letterOf, admits}
 use Rattle.model.proofs.BoolLaws.{by-cases}
 use Rattle.table.specs.Words.{rowOf}
-use Rattle.query.specs.Stepping.{bit, Flagged}
+use Rattle.table.proofs.FlagLaws.{flags-none, flags-more}
+use Rattle.query.specs.Stepping.{Flagged}
 
 -- TESTS
 module _ (w t n : ℕ) where
@@ -57,33 +57,17 @@ among-next v d k h =
 
 pub flagged-none : (fs v : List ℕ) → fs ≡ replicate 513 0 → Flagged (take 0 v) fs
 unfolding among
-flagged-none fs v e =
-    record {
-      size = ap length e;
-      none = ap (λ (l : List ℕ). getD l 0 0) e;
-      flags = λ k h. ap (λ (l : List ℕ). getD l (k + 1) 0) e ∙ getD-replicate 513 (k + 1) 0 0 (omega arith);
-    }
+flagged-none fs v e = flags-none (λ (k : ℕ). among k (take 0 v)) fs e (λ k. refl)
 
 pub flagged-next : (fs v : List ℕ) (d : ℕ) → d < length v → getD v d 0 < 512 → Flagged (take d v) fs →
     Flagged (take (d + 1) v) (set fs (getD v d 0 + 1) 1)
-flagged-next fs v d h low f =
-    record {
-      size = length-set fs (getD v d 0 + 1) 1 ∙ f .size;
-      none = getD-set-other fs (getD v d 0 + 1) 0 1 0 (λ q. omega arith) ∙ f .none;
-      flags = λ k l. by-cases (eqb k (getD v d 0)) (λ e. here k e) (λ e. there k l e);
-    }
+flagged-next fs v d h low =
+    flags-more (λ (k : ℕ). among k (take d v)) (λ (k : ℕ). among k (take (d + 1) v)) fs (getD v d 0 + 1) (omega arith) (omega arith)
+    (λ k e. next k (eq-eqb k (getD v d 0) (omega arith)) ∙ or-true (among k (take d v)))
+    (λ k z. next k (ne-eqb k (getD v d 0) (λ q. z (omega arith))) ∙ or-false (among k (take d v)))
   where
-    here : (k : ℕ) → eqb k (getD v d 0) ≡ true → getD (set fs (getD v d 0 + 1) 1) (k + 1) 0 ≡ bit (among k (take (d + 1) v))
-    here k e =
-        ap (λ (j : ℕ). getD (set fs (getD v d 0 + 1) 1) (j + 1) 0) (eqb-true k (getD v d 0) e) ∙
-        getD-set-same fs (getD v d 0 + 1) 1 0 (omega (arith, f .size)) ∙
-        ap bit (sym (among-next v d k h ∙ ap (λ (t : Bool). among k (take d v) || t) e ∙ or-true (among k (take d v))))
-
-    there : (k : ℕ) → k < 512 → eqb k (getD v d 0) ≡ false → getD (set fs (getD v d 0 + 1) 1) (k + 1) 0 ≡ bit (among k (take (d + 1) v))
-    there k l e =
-        let z : k ≡ getD v d 0 → ⊥ = eqb-false k (getD v d 0) e in
-        getD-set-other fs (getD v d 0 + 1) (k + 1) 1 0 (λ q. z (omega arith)) ∙ f .flags k l ∙
-        ap bit (sym (among-next v d k h ∙ ap (λ (t : Bool). among k (take d v) || t) e ∙ or-false (among k (take d v))))
+    next : (k : ℕ) {t : Bool} → eqb k (getD v d 0) ≡ t → among k (take (d + 1) v) ≡ (among k (take d v) || t)
+    next k e = among-next v d k h ∙ ap (λ (u : Bool). among k (take d v) || u) e
 
 pub flagged-all : (fs v : List ℕ) (d : ℕ) → length v ≤ d → Flagged (take d v) fs → Flagged v fs
 flagged-all fs v d h f = subst (λ (l : List ℕ). Flagged l fs) (take-all d v h) f

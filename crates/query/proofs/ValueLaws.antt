@@ -7,7 +7,7 @@ use native.Mathlib.Omega.{arith}
 use native.Mathlib.Nat.{add-zero, zero-add}
 use native.Mathlib.Numerals.{add-one}
 use lib.Dec.{eqb}
-use lib.ListN.{length, getD, take, set, length-append}
+use lib.ListN.{length, getD, take, drop, set, length-append}
 use lib.Seq.{take-suc-set}
 use Rattle.model.specs.Base.{pick, any}
 use Rattle.model.specs.Table as model
@@ -17,8 +17,12 @@ use Rattle.model.proofs.Collect.{collect, step-collect}
 use Rattle.table.specs.Words.{rowOf, decodeParts}
 use Rattle.table.proofs.WordLaws.{count-decode, rowAt-decode}
 use Rattle.query.specs.Stepping.{Flagged, Reached}
-use Rattle.query.specs.Values.{Appended, kept, keptRows}
+use Rattle.query.specs.Values.{valueAt, Appended, kept, keptRows}
 use Rattle.query.proofs.PassLaws.{not-zero}
+
+-- NONE
+pub value-none : (w : List ℕ) (i : ℕ) → valueAt w i i ≡ []
+value-none w i = let e : i - i ≡ 0 = omega arith in ap (λ (k : ℕ). take k (drop i w)) e
 
 -- GROWN
 pub appended-none : (w : List ℕ) (from : ℕ) → Appended [] w from w from

@@ -9,6 +9,7 @@ use lib.ListN.{length, getD, set, replicate}
 use Rattle.model.specs.Base.{pick, any, among}
 use Rattle.model.specs.Table as model
 use Rattle.model.specs.Step.{reaches, parentIs}
+use Rattle.table.specs.Flags.{Flags}
 use Rattle.table.specs.Words.{decodeParts}
 
 abbrev pub bit : Bool → ℕ
@@ -19,10 +20,8 @@ pub record FlagPre (fs v : List ℕ) : Type 0 where
   pub clear : fs ≡ replicate 513 0
   pub low : (k : ℕ) → k < length v → getD v k 0 < 512
 
-pub record Flagged (v fs : List ℕ) : Type 0 where
-  pub size : length fs ≡ 513
-  pub none : getD fs 0 0 ≡ 0
-  pub flags : (k : ℕ) → k < 512 → getD fs (k + 1) 0 ≡ bit (among k v)
+abbrev pub Flagged : (value flags : List ℕ) → Type 0
+Flagged v fs = Flags (λ (k : ℕ). among k v) fs
 
 -- ONE ROW of a pass
 abbrev pub counted : (item reached : ℕ) → (deep : Bool) → Bool

@@ -6,15 +6,8 @@ ghost use Rattle.model.specs.Step.{signedKey, relates};
 ghost use Rattle.table.specs.Words.{rowOf};
 ghost use Rattle.query.specs.Values.{PickPre, PickPost};
 use crate::step;
-
-const LEAF: u32 = 2;
-
-fn byte(x: u8) -> u32
-    ensures { λ r. ⌜ r ≡ x ⌝ }
-    ensures { λ r. ⌜ r < 256 ⌝ }
-{
-    x as u32
-}
+use table::number;
+use table::words;
 
 // A value's rank among signed bytes.
 fn signed_key(v: u32) -> u32
@@ -46,10 +39,10 @@ fn is_related(relation: u8, constant: u32, value: u32) -> bool
 fn is_picked(w: u32, relation: u8, constant: u8) -> bool
     ensures { λ r. ⌜ r ≡ (rowOf w .isLeaf && relates relation constant (rowOf w .tag)) ⌝ }
 {
-    if w % 4 != LEAF {
+    if words::kind(w) != words::LEAF {
         return false;
     }
-    is_related(relation, byte(constant), w / 4096)
+    is_related(relation, constant as u32, words::tag(w))
 }
 
 // Picks from the value at a place, which the kept items then take; the place past them.
@@ -68,7 +61,7 @@ pub fn picked(
     let mut k = from;
     while k < to {
         let item = work[k];
-        let keep = is_picked(rows[step::index(item)], relation, constant);
+        let keep = is_picked(rows[number::index(item)], relation, constant);
         at = step::append_if(keep, item, work, at);
         k += 1;
     }

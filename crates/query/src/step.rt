@@ -1,7 +1,7 @@
 // The rows that a step reaches from a value.
 // A row's flag stands at its number and one; position 0 is for no row.
 ghost use mathlib.Core.Path.{_≡_};
-ghost use Prim.Native.Nat.{_+_, _/_, _%_, _<_};
+ghost use Prim.Native.Nat.{_+_, _/_, _<_};
 ghost use lib.ListN.{length, getD, set};
 ghost use Rattle.model.specs.Base.{pick};
 ghost use Rattle.model.specs.Script.{stepBy};
@@ -11,8 +11,9 @@ ghost use Rattle.query.specs.Stepping.{bit, FlagPre, Flagged, counted, O
 ghost use Rattle.query.specs.Values.{kept, keptRows, CollectPre, Appended, StepPre, StepPost};
 use table::NameNumber;
 use table::RowNumber;
-
-const LEAF: u32 = 2;
+use table::Table;
+use table::number;
+use table::words;
 
 // A script's step: axis 0 child, 1 descendant, 2 parent, 3 ancestor; test 0 any node, 1 element, 2 leaf, 3 the named element.
 pub struct StepBy {
@@ -21,42 +22,17 @@ pub struct StepBy {
     pub name: NameNumber,
 }
 
-pub fn index(x: u16) -> usize
-    ensures { λ r. ⌜ r ≡ x ⌝ }
-    ensures { λ r. ⌜ r < 65536 ⌝ }
-{
-    x as usize
-}
-
-fn link(w: u32) -> usize
-    ensures { λ r. ⌜ r ≡ w / 4 % 1024 ⌝ }
-{
-    (w / 4 % 1024) as usize
-}
-
-fn name_of(w: u32) -> u32
-    ensures { λ r. ⌜ r ≡ w / 4096 ⌝ }
-{
-    w / 4096
-}
-
-fn wide(x: u16) -> u32
-    ensures { λ r. ⌜ r ≡ x ⌝ }
-{
-    x as u32
-}
-
 // The row's letter passes the test.
 fn passes(rows: &[u32], row: RowNumber, test: u8, name: NameNumber) -> bool
     requires { ⌜ row .0 < length (now rows) ⌝ }
     ensures { λ r. ⌜ r ≡ admits (stepBy 0 test (name .0)) (letterOf (rowOf (getD (now (rows .entry)) (row .0) 0))) ⌝ }
 {
-    let at = index(row.0);
+    let at = number::index(row.0);
     let w = rows[at];
     if test == 0 {
         return true;
     }
-    if w % 4 == LEAF {
+    if words::kind(w) == words::LEAF {
         return test == 2;
     }
     if test == 1 {
@@ -65,7 +41,7 @@ fn passes(rows: &[u32], row: RowNumber, test: u8, name: NameNumber) -> bool
     if test == 2 {
         return false;
     }
-    name_of(w) == wide(name.0)
+    words::tag(w) == name.0 as u32
 }
 
 // Flags each item of a value.
@@ -75,7 +51,7 @@ fn flag(flags: &mut [u8], items: &[u16])
 {
     let mut k = 0;
     while k < items.len() {
-        let at = index(items[k]);
+        let at = number::index(items[k]);
         flags[at + 1] = 1;
         k += 1;
     }
@@ -99,7 +75,7 @@ fn descend_one(w: u32, j: usize, deep: bool, flags: &[u8], reached: &mut [u8])
     requires { ⌜ OnePre w j (now flags) (now reached) ⌝ }
     ensures { λ r. ⌜ now (reached .exit) ≡ descended w j deep (now (flags .entry)) (now (reached .entry)) ⌝ }
 {
-    let l = link(w);
+    let l = words::link(w);
     if !counts(flags[l], reached[l], deep) {
         return;
     }
@@ -126,7 +102,7 @@ fn climb_one(w: u32, j: usize, deep: bool, flags: &[u8], reached: &mut [u8])
     if !counts(flags[j + 1], reached[j + 1], deep) {
         return;
     }
-    reached[link(w)] = 1;
+    reached[words::link(w)] = 1;
 }
 
 // The rows above the items: parents, or ancestors along a deep axis.
@@ -224,8 +200,8 @@ pub fn stepped(
     ensures { λ r. ⌜ StepPost (now (rows .entry)) count (by .axis) (by .test) (by .name .0) (now (work .entry)) from to
         (now (work .exit)) r ⌝ }
 {
-    let mut flags = [0u8; 513];
-    let mut reached = [0u8; 513];
+    let mut flags = [0u8; Table::LINKS];
+    let mut reached = [0u8; Table::LINKS];
     flag(&mut flags, &work[from..to]);
     reach(rows, count, by.axis, &flags, &mut reached);
     let test = by.test;

@@ -1,10 +1,10 @@
--- For an evaluator: an accepted expression in place and, kind by kind, its operands.
+-- For a walk of an accepted script: an accepted expression in place and, kind by kind, its operands.
 -- It starts from `script-accepted` of ScriptLaws; the ranges of fields are in FieldLaws.
 use mathlib.Core.Path.{_≡_, refl, ap, sym, subst, _∙_}
 use mathlib.Core.List.{List}
-use Prim.Native.Nat.{ℕ, suc, _+_, _-_, _≤_, _<_}
+use Prim.Native.Nat.{ℕ, suc, _+_, _-_, _<_}
 use native.Mathlib.Omega.{arith}
-use lib.ListN.{length, getD}
+use lib.ListN.{getD}
 use Rattle.model.specs.Script.{Expr, nil, document, var, step, both, letIn, forIn, ifIn, element, leaf, delete, insert, choose, stepBy}
 use Rattle.model.specs.Script.{nilKind, documentKind, varKind, stepKind, bothKind, letKind, forKind, ifKind}
 use Rattle.model.specs.Script.{newElementKind, newLeafKind, deleteKind, insertKind, pickKind, parsed}
@@ -23,9 +23,6 @@ module _ {b : List ℕ} {at left v : ℕ} (a : Accepted b at left v) where
 
   pub accepted-record : RecordFits b at left v
   accepted-record = accepted-fits b at left (a .records) v (a .read)
-
-  pub accepted-within : endAt b at ≤ length b
-  accepted-within = omega (arith, reading .within, reads-end reading)
 
   pub accepted-past : (p : ℕ) → past (suc p) b at ≡ past p b (endAt b at)
   accepted-past p = reading .ends p ∙ ap (past p b) (reads-end reading)

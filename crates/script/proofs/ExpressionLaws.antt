@@ -4,10 +4,10 @@ use mathlib.Core.Bool.{true}
 use mathlib.Core.List.{List}
 use Prim.Native.Nat.{ℕ, suc, _+_, _-_, _≤_, _<_}
 use native.Mathlib.Omega.{arith}
-use lib.ListN.{length, length-drop, getD, take, drop}
-use lib.Seq.{take-all}
+use lib.ListN.{length, getD, take, drop}
 use Rattle.model.specs.Refusal.{isFine, faultAt}
 use Rattle.model.specs.Script.{Expr, nil, Parsed, ill, parsed, thenParse, exprFault}
+use Rattle.model.proofs.ListLaws.{drop-all}
 use Rattle.script.specs.Walk.{arity, inner, firstAt, secondAt, thirdAt, exprOf, exprAt}
 use Rattle.script.specs.Reading.{parseAt, endOf, expressionRead, HeadPost, ExpressionPre, ExpressionPost}
 use Rattle.script.specs.Accepted.{RecordFits}
@@ -45,7 +45,7 @@ then-last (parsed e j m c) next make r h g = h ∙ sym (ap endOf (g e j m c))
 head-fault : (b : List ℕ) (i left n v r : ℕ) → i ≤ length b → HeadPost (take (length b - i) (drop i b)) left n v r →
     exprFault i n (17 - left) v (drop i b) ≡ faultAt r i
 head-fault b i left n v r h p =
-    ap (exprFault i n (17 - left) v) (sym (take-all (length b - i) (drop i b) (omega (arith, length-drop i b)))) ∙ p .fault i
+    ap (exprFault i n (17 - left) v) (sym (drop-all b i)) ∙ p .fault i
 
 pub record-refused : {b : List ℕ} {i left n v r : ℕ} → ExpressionPre b i left → HeadPost (take (length b - i) (drop i b)) left n v r →
     (r ≡ 0 → ⊥) → ExpressionPost b i left n v (record { number = r; place = i; records = 0 })

@@ -1,4 +1,4 @@
--- For an evaluator: the fields of an accepted record are in range.
+-- The fields of an accepted record are in range.
 use mathlib.Core.Path.{_≡_}
 use mathlib.Core.Bool.{true, _&&_}
 use mathlib.Core.List.{List}
@@ -8,21 +8,21 @@ use lib.ListN.{getD}
 use lib.Seq.{getD-drop}
 use borrow.Author.Tests.{ltb-true, leb-true}
 use Rattle.model.specs.Base.{isIn}
-use Rattle.model.specs.Script.{documentKind, varKind, stepKind, newElementKind, pickKind, testFits}
+use Rattle.model.specs.Script.{documentKind, varKind, stepKind, newElementKind, testFits}
+use Rattle.model.proofs.ListLaws.{drop-first}
 use Rattle.model.proofs.BoolLaws.{and-left, and-right}
 use Rattle.script.specs.Accepted.{RecordFits}
-use Rattle.script.proofs.HeadLaws.{kind-at}
 
 module _ {b : List ℕ} {at left v : ℕ} (f : RecordFits b at left v) where
   pub document-number : getD b at 0 ≡ documentKind → getD b (at + 1) 0 < 8
   document-number e =
-      ltb-true (getD b (at + 1) 0) 8 (rw (kind-at b at, e, getD-drop at b 1 0) at (f .fields))
+      ltb-true (getD b (at + 1) 0) 8 (rw (drop-first b at, e, getD-drop at b 1 0) at (f .fields))
 
   pub variable-number : getD b at 0 ≡ varKind → getD b (at + 1) 0 < v
-  variable-number e = ltb-true (getD b (at + 1) 0) v (rw (kind-at b at, e, getD-drop at b 1 0) at (f .fields))
+  variable-number e = ltb-true (getD b (at + 1) 0) v (rw (drop-first b at, e, getD-drop at b 1 0) at (f .fields))
 
   step-fields : getD b at 0 ≡ stepKind → (ltb (getD b (at + 1) 0) 4 && testFits (getD b (at + 2) 0) (getD b (at + 3) 0)) ≡ true
-  step-fields e = rw (kind-at b at, e, getD-drop at b 1 0, getD-drop at b 2 0, getD-drop at b 3 0) at (f .fields)
+  step-fields e = rw (drop-first b at, e, getD-drop at b 1 0, getD-drop at b 2 0, getD-drop at b 3 0) at (f .fields)
 
   pub step-axis : getD b at 0 ≡ stepKind → getD b (at + 1) 0 < 4
   step-axis e =
@@ -33,13 +33,10 @@ module _ {b : List ℕ} {at left v : ℕ} (f : RecordFits b at left v) where
   step-test e = and-right (ltb (getD b (at + 1) 0) 4) (testFits (getD b (at + 2) 0) (getD b (at + 3) 0)) (step-fields e)
 
   name-fits : getD b at 0 ≡ newElementKind → isIn 1 255 (getD b (at + 1) 0) ≡ true
-  name-fits e = rw (kind-at b at, e, getD-drop at b 1 0) at (f .fields)
+  name-fits e = rw (drop-first b at, e, getD-drop at b 1 0) at (f .fields)
 
   pub element-name : getD b at 0 ≡ newElementKind → (1 ≤ getD b (at + 1) 0) × (getD b (at + 1) 0 ≤ 255)
   element-name e = (
     leb-true 1 (getD b (at + 1) 0) (and-left (leb 1 (getD b (at + 1) 0)) (leb (getD b (at + 1) 0) 255) (name-fits e)),
     leb-true (getD b (at + 1) 0) 255 (and-right (leb 1 (getD b (at + 1) 0)) (leb (getD b (at + 1) 0) 255) (name-fits e)),
   )
-
-  pub pick-relation : getD b at 0 ≡ pickKind → getD b (at + 1) 0 < 3
-  pick-relation e = ltb-true (getD b (at + 1) 0) 3 (rw (kind-at b at, e, getD-drop at b 1 0) at (f .fields))

@@ -6,11 +6,11 @@ use Prim.Native.Nat.{ℕ, _+_, _-_, _≤_, _<_}
 use native.Mathlib.Omega.{arith}
 use lib.Dec.{ltb, leb, eqb}
 use lib.ListN.{length, length-drop, getD, drop}
-use lib.Seq.{getD-drop}
 use borrow.Author.Tests.{lt-ltb, le-ltb, le-leb, lt-leb, ne-eqb, ltb-true, leb-true, leb-false, not-true}
 use Rattle.model.specs.Base.{isIn}
 use Rattle.model.specs.Refusal.{isFine, orElse, unless, kindAt, shortAt, fieldAt, sizeAt}
 use Rattle.model.specs.Script.{bodySize, bodyFits, testFits, isBinder, exprFault}
+use Rattle.model.proofs.ListLaws.{drop-first}
 use Rattle.model.proofs.BoolLaws.{by-cases, and-left, and-right}
 use Rattle.script.specs.Accepted.{RecordFits}
 use Rattle.script.specs.Reading.{BodyPre, BodyPost, HeadPost}
@@ -157,9 +157,6 @@ tests true true false s t i e = absurd (false≢true e)
 tests true false r s t i e = absurd (false≢true e)
 tests false q r s t i e = absurd (false≢true e)
 
-pub kind-at : (b : List ℕ) (i : ℕ) → getD (drop i b) 0 0 ≡ getD b i 0
-kind-at b i = let e : i + 0 ≡ i = omega arith in getD-drop i b 0 0 ∙ ap (λ (j : ℕ). getD b j 0) e
-
 module _ (b : List ℕ) (at left n v i : ℕ) (e : isFine (exprFault i n (17 - left) v (drop at b)) ≡ true) where
   passed : (ltb 0 (length (drop at b)) ≡ true) × (isIn 1 13 (getD (drop at b) 0 0) ≡ true) ×
       ((ltb n 64 && leb (17 - left) 16 && not (isBinder (getD (drop at b) 0 0) && leb 8 v)) ≡ true) ×
@@ -180,7 +177,7 @@ module _ (b : List ℕ) (at left n v i : ℕ) (e : isFine (exprFault i n (17 - l
 
   in-scope : isBinder (getD b at 0) ≡ true → v < 8
   in-scope h =
-      let g : isBinder (getD (drop at b) 0 0) ≡ true = ap (λ (k : ℕ). isBinder k) (kind-at b at) ∙ h in
+      let g : isBinder (getD (drop at b) 0 0) ≡ true = ap (λ (k : ℕ). isBinder k) (drop-first b at) ∙ h in
       leb-false 8 v (sym (ap (λ (z : Bool). z && leb 8 v) g) ∙ sizes .2)
 
   pub fine-records : n < 64
@@ -191,15 +188,15 @@ module _ (b : List ℕ) (at left n v i : ℕ) (e : isFine (exprFault i n (17 - l
       record {
         low =
             let h = and-left (leb 1 (getD (drop at b) 0 0)) (leb (getD (drop at b) 0 0) 13) (passed .1) in
-            omega (arith, kind-at b at, leb-true 1 (getD (drop at b) 0 0) h);
+            omega (arith, drop-first b at, leb-true 1 (getD (drop at b) 0 0) h);
         high =
             let h = and-right (leb 1 (getD (drop at b) 0 0)) (leb (getD (drop at b) 0 0) 13) (passed .1) in
-            omega (arith, kind-at b at, leb-true (getD (drop at b) 0 0) 13 h);
+            omega (arith, drop-first b at, leb-true (getD (drop at b) 0 0) 13 h);
         depth = omega (arith, leb-true (17 - left) 16 (sizes .1));
         scope = in-scope;
         whole = omega (
           arith,
-          ap (λ (k : ℕ). bodySize k) (kind-at b at),
+          ap (λ (k : ℕ). bodySize k) (drop-first b at),
           length-drop at b,
           ltb-true 0 (length (drop at b)) (passed .0),
           leb-true (1 + bodySize (getD (drop at b) 0 0)) (length (drop at b)) (passed .3),

@@ -11,11 +11,12 @@ use borrow.Author.Tests.{ne-eqb, eqb-true, eqb-false}
 use Rattle.model.specs.Base.{pick}
 use Rattle.model.specs.Refusal.{Fault, fault, isFine, faultAt}
 use Rattle.model.specs.Script.{Expr, Parsed, ill, parsed, thenParse, operands, parseFrom, exprFault, bodySize}
+use Rattle.model.proofs.ListLaws.{drop-first}
 use Rattle.model.proofs.BoolLaws.{by-cases}
 use Rattle.script.specs.Walk.{arity, inner, firstAt, secondAt, thirdAt, exprOf, exprAt}
 use Rattle.script.specs.Reading.{parseAt}
 use Rattle.script.specs.Accepted.{RecordFits}
-use Rattle.script.proofs.HeadLaws.{kind-at, fine-fits}
+use Rattle.script.proofs.HeadLaws.{fine-fits}
 
 -- a kind is one of thirteen
 pub below : {P : Type 0} (k m : ℕ) → k ≤ suc m → (k ≡ suc m → P) → (k ≤ m → P) → P
@@ -80,19 +81,19 @@ operands-by : (k : ℕ) (b : List ℕ) (i j m v : ℕ) (c : List ℕ) → 1 ≤ 
 unfolding arity inner exprOf
 operands-by k b i j m v c low high =
     by-kind (getD b i 0) low high
-    (λ e. rw (kind-at b i, e))
-    (λ e. rw (kind-at b i, getD-drop i b 1 0, e))
-    (λ e. rw (kind-at b i, getD-drop i b 1 0, e))
-    (λ e. rw (kind-at b i, getD-drop i b 1 0, getD-drop i b 2 0, getD-drop i b 3 0, e))
-    (λ e. rw (kind-at b i, e))
-    (λ e. rw (kind-at b i, e))
-    (λ e. rw (kind-at b i, e))
-    (λ e. rw (kind-at b i, e))
-    (λ e. rw (kind-at b i, getD-drop i b 1 0, e))
-    (λ e. rw (kind-at b i, getD-drop i b 1 0, e))
-    (λ e. rw (kind-at b i, e))
-    (λ e. rw (kind-at b i, e))
-    (λ e. rw (kind-at b i, getD-drop i b 1 0, getD-drop i b 2 0, e))
+    (λ e. rw (drop-first b i, e))
+    (λ e. rw (drop-first b i, getD-drop i b 1 0, e))
+    (λ e. rw (drop-first b i, getD-drop i b 1 0, e))
+    (λ e. rw (drop-first b i, getD-drop i b 1 0, getD-drop i b 2 0, getD-drop i b 3 0, e))
+    (λ e. rw (drop-first b i, e))
+    (λ e. rw (drop-first b i, e))
+    (λ e. rw (drop-first b i, e))
+    (λ e. rw (drop-first b i, e))
+    (λ e. rw (drop-first b i, getD-drop i b 1 0, e))
+    (λ e. rw (drop-first b i, getD-drop i b 1 0, e))
+    (λ e. rw (drop-first b i, e))
+    (λ e. rw (drop-first b i, e))
+    (λ e. rw (drop-first b i, getD-drop i b 1 0, getD-drop i b 2 0, e))
 
 -- THE RECORD at a place: refused, or its operands are read
 pub parse-refused : (b : List ℕ) (i left n v r : ℕ) → (r ≡ 0 → ⊥) → exprFault i n (17 - left) v (drop i b) ≡ faultAt r i →
@@ -118,7 +119,7 @@ parse-operands b i k n v shallow e =
     parse-fine (suc (suc k)) (17 - suc k) i n v (drop i b) e ∙
     deeper k i (i + (1 + bodySize (getD (drop i b) 0 0))) (n + 1) v (drop i b) (drop (1 + bodySize (getD (drop i b) 0 0)) (drop i b))
     shallow ∙
-    ap (λ (q : ℕ). operands (reader k) i (i + (1 + bodySize q)) (n + 1) v (drop i b) (drop (1 + bodySize q) (drop i b))) (kind-at b i) ∙
+    ap (λ (q : ℕ). operands (reader k) i (i + (1 + bodySize q)) (n + 1) v (drop i b) (drop (1 + bodySize q) (drop i b))) (drop-first b i) ∙
     ap (operands (reader k) i (firstAt b i) (n + 1) v (drop i b)) (drop-drop (1 + bodySize (getD b i 0)) i b) ∙
     operands-by k b i (firstAt b i) (n + 1) v (drop (firstAt b i) b) (f .low) (f .high)
 

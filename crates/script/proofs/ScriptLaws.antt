@@ -106,11 +106,3 @@ script-ill b h = go (readScript b) h
     go : (x : Parsed) → (faultBy x .number ≡ 0 → ⊥) → x ≡ ill (refusal.fault (faultBy x .number) (faultBy x .place))
     go (ill f) g = refl
     go (parsed e j m c) g = absurd (g refl)
-
--- what is read as an expression is accepted, and is the expression at place 0
-module _ (b : List ℕ) {e : Expr} {j m : ℕ} {c : List ℕ} (h : readScript b ≡ parsed e j m c) where
-  pub script-number : scriptRead b .number ≡ 0
-  script-number = ap (λ (x : Parsed). faultBy x .number) h
-
-  pub script-expr : e ≡ exprAt maxDepth b 0
-  script-expr = let r = sym h ∙ script-parsed b script-number .1 in cc r

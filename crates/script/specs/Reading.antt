@@ -1,12 +1,12 @@
 -- What reading a script answers, and the contracts of the reader's parts. Assumes nothing: these are definitions.
 use mathlib.Core.Path.{_≡_}
-use mathlib.Core.Bool.{Bool, true}
+use mathlib.Core.Bool.{Bool}
 use mathlib.Core.List.{List}
-use Prim.Native.Nat.{ℕ, suc, _+_, _-_, _≤_, _<_}
+use Prim.Native.Nat.{ℕ, suc, _+_, _-_, _≤_}
 use lib.ListN.{length, getD, drop}
-use Rattle.model.specs.Limits.{maxDepth, maxBinders}
+use Rattle.model.specs.Limits.{maxDepth}
 use Rattle.model.specs.Refusal as refusal
-use Rattle.model.specs.Script.{Parsed, ill, parsed, parseFrom, readScript, exprFault, bodySize, bodyFits, isBinder}
+use Rattle.model.specs.Script.{Parsed, ill, parsed, parseFrom, readScript, exprFault, bodySize, bodyFits}
 use Rattle.model.specs.Cases.{faultBy}
 use Rattle.table.specs.Results.{faultOf}
 use Rattle.table.specs.declared.Fault.{Fault}
@@ -33,9 +33,6 @@ pub record BodyPre (s : List ℕ) : Type 0 where
 
 pub record BodyPost (s : List ℕ) (bound : ℕ) (r : Bool) : Type 0 where
   pub fits : r ≡ bodyFits bound s
-
-pub record InnerPre (kind bound : ℕ) : Type 0 where
-  pub room : isBinder kind ≡ true → bound < maxBinders
 
 pub record ExpressionPre (b : List ℕ) (at left : ℕ) : Type 0 where
   pub within : at ≤ length b

@@ -1,8 +1,10 @@
 // The kinds of a script's records: their numbers, and for each the bytes of its body and its operands.
 ghost use mathlib.Core.Path.{_≡_};
-ghost use Prim.Native.Nat.{_<_};
+ghost use mathlib.Core.Bool.{true};
+ghost use Prim.Native.Nat.{_≤_, _<_};
+ghost use Rattle.model.specs.Limits.{maxBinders};
 ghost use Rattle.model.specs.Script.{bodySize, isBinder};
-ghost use Rattle.script.specs.Walk.{arity};
+ghost use Rattle.script.specs.Walk.{arity, inner};
 
 pub const NIL: u8 = 0x01;
 
@@ -96,4 +98,15 @@ pub fn is_binder(kind: u8) -> bool
         return true;
     }
     kind == FOR
+}
+
+// Variables in scope in the second operand.
+pub fn inner(kind: u8, bound: usize) -> usize
+    requires { ⌜ (isBinder kind ≡ true → bound ≤ maxBinders) ⌝ }
+    ensures { λ r. ⌜ r ≡ inner kind bound ⌝ }
+{
+    if is_binder(kind) {
+        return bound + 1;
+    }
+    bound
 }

@@ -4,14 +4,11 @@ ghost use mathlib.Core.Bool.{_&&_};
 ghost use lib.Dec.{leb};
 ghost use Rattle.model.specs.Limits.{maxBinders};
 ghost use Rattle.model.specs.Script.{isBinder, testFits};
-ghost use Rattle.script.specs.Walk.{inner};
-ghost use Rattle.script.specs.Reading.{BodyPre, BodyPost, InnerPre, HeadPost, ExpressionPre, ExpressionPost};
+ghost use Rattle.script.specs.Reading.{BodyPre, BodyPost, HeadPost, ExpressionPre, ExpressionPost};
 use crate::kinds;
 use table::Fault;
 use table::Table;
-
-// Records of a script, at most.
-const RECORDS: usize = 64;
+use table::number;
 
 const AXES: u8 = 4;
 
@@ -25,12 +22,6 @@ pub struct End {
     pub number: u8,
     pub place: usize,
     pub records: usize,
-}
-
-fn index(b: u8) -> usize
-    ensures { λ r. ⌜ r ≡ b ⌝ }
-{
-    b as usize
 }
 
 // Name is 0 unless the test is 3, and then 1 to 255.
@@ -53,10 +44,10 @@ fn body_fits(s: &[u8], bound: usize) -> bool
 {
     let kind = s[0];
     if kind == kinds::DOCUMENT {
-        return index(s[1]) < Table::DOCUMENTS;
+        return number::byte(s[1]) < Table::DOCUMENTS;
     }
     if kind == kinds::VARIABLE {
-        return index(s[1]) < bound;
+        return number::byte(s[1]) < bound;
     }
     if kind == kinds::STEP {
         if AXES <= s[1] {
@@ -83,17 +74,6 @@ fn is_ninth(kind: u8, bound: usize) -> bool
     false
 }
 
-// Variables in scope in the second operand.
-fn inner(kind: u8, bound: usize) -> usize
-    requires { ⌜ InnerPre kind bound ⌝ }
-    ensures { λ r. ⌜ r ≡ inner kind bound ⌝ }
-{
-    if kinds::is_binder(kind) {
-        return bound + 1;
-    }
-    bound
-}
-
 // The number of the refusal of the record at the front, or 0.
 fn head(s: &[u8], left: usize, records: usize, bound: usize) -> u8
     ensures { λ r. ⌜ HeadPost (now (s .entry)) left records bound r ⌝ }
@@ -108,7 +88,7 @@ fn head(s: &[u8], left: usize, records: usize, bound: usize) -> u8
     if kinds::PICK < kind {
         return Fault::KIND;
     }
-    if RECORDS <= records {
+    if Table::SCRIPT_RECORDS <= records {
         return Fault::SIZE;
     }
     if left == 0 {
@@ -161,7 +141,7 @@ pub fn expression(bytes: &[u8], at: usize, left: usize, records: usize, bound: u
         first.place,
         left - 1,
         first.records,
-        inner(kind, bound),
+        kinds::inner(kind, bound),
     );
     if second.number != 0 {
         return second;

@@ -7,29 +7,17 @@ use Prim.Native.Nat.{ℕ, _+_, _-_, _≤_, _<_}
 use native.Mathlib.Omega.{arith}
 use native.Mathlib.Numerals.{add-one}
 use lib.Dec.{eqb}
-use lib.ListN.{length, getD, take, set, replicate, length-set, getD-replicate}
-use lib.Seq.{take-suc, take-all, getD-set-same, getD-set-other}
+use lib.ListN.{length, getD, take, set, replicate}
+use lib.Seq.{take-suc, take-all}
 use borrow.Author.Tests.{eq-eqb, ne-eqb, eqb-true, eqb-false}
 use Rattle.model.specs.Base.{pick, any}
 use Rattle.model.specs.Table as model
 use Rattle.model.proofs.BoolLaws.{by-cases, pick-true, pick-false}
 use Rattle.table.specs.Words.{linked}
-use Rattle.sweep.specs.Sweeping.{flagOf, Flagged}
+use Rattle.sweep.specs.Sweeping.{Flagged}
 use Rattle.table.proofs.WordLaws.{map-append}
 use Rattle.table.proofs.DecodeLaws.{isThe-linked}
-
--- FLAGS: none at first, and one mark more
-flags-none : (k : ℕ) → k < 512 → getD (replicate {A = ℕ} 513 0) (k + 1) 0 ≡ 0
-flags-none k h = getD-replicate 513 (k + 1) 0 0 (omega arith)
-
-pub flagged-none : (ns ms : List ℕ) → ns ≡ replicate 513 0 → Flagged (take 0 ms) ns
-unfolding any
-flagged-none ns ms e =
-    record {
-      size = ap length e;
-      none = ap (λ (l : List ℕ). getD l 0 0) e;
-      flags = λ k h. ap (λ (l : List ℕ). getD l (k + 1) 0) e ∙ flags-none k h;
-    }
+use Rattle.table.proofs.FlagLaws.{flags-none, flags-more}
 
 any-append : (f : Option ℕ → Bool) (xs ys : List (Option ℕ)) → any f (xs ++ ys) ≡ (any f xs || any f ys)
 unfolding any
@@ -53,18 +41,10 @@ marked-next ms d k h =
         let e : k ≡ k + 1 - 1 = omega arith in
         ap (λ (j : ℕ). model.isThe j (linked (getD ms d 0))) e ∙ isThe-linked (k + 1) (getD ms d 0) (omega arith)
 
--- a row's flag after one mark more
-flag-other : (ms : List ℕ) (d k : ℕ) → d < length ms → (getD ms d 0 ≡ k + 1 → ⊥) → flagOf (take d ms) k ≡ flagOf (take (d + 1) ms) k
-flag-other ms d k h z =
-    ap (λ (t : Bool). pick t 1 0) (sym (marked-next ms d k h ∙
-    ap (λ (t : Bool). any (model.isThe k) (map linked (take d ms)) || t) (ne-eqb (getD ms d 0) (k + 1) z) ∙
-    or-false (any (model.isThe k) (map linked (take d ms)))))
-
-flag-same : (ms : List ℕ) (d k : ℕ) → d < length ms → getD ms d 0 ≡ k + 1 → 1 ≡ flagOf (take (d + 1) ms) k
-flag-same ms d k h e =
-    ap (λ (t : Bool). pick t 1 0) (sym (marked-next ms d k h ∙
-    ap (λ (t : Bool). any (model.isThe k) (map linked (take d ms)) || t) (eq-eqb (getD ms d 0) (k + 1) e) ∙
-    or-true (any (model.isThe k) (map linked (take d ms)))))
+-- the flags: none at first, and one mark more
+pub flagged-none : (ns ms : List ℕ) → ns ≡ replicate 513 0 → Flagged (take 0 ms) ns
+unfolding any
+flagged-none ns ms e = flags-none (λ (k : ℕ). any (model.isThe k) (map linked (take 0 ms))) ns e (λ k. refl)
 
 pub flagged-next : (ns ms : List ℕ) (d : ℕ) → d < length ms → getD ms d 0 < 513 → Flagged (take d ms) ns →
     Flagged (take (d + 1) ms) (pick (eqb (getD ms d 0) 0) ns (set ns (getD ms d 0) 1))
@@ -75,26 +55,27 @@ flagged-next ns ms d h low f =
     (λ e. subst (Flagged (take (d + 1) ms)) (sym (pick-false (eqb (getD ms d 0) 0) ns (set ns (getD ms d 0) 1) e)) (more (eqb-false (getD
     ms d 0) 0 e)))
   where
+    next : (k : ℕ) {t : Bool} → eqb (getD ms d 0) (k + 1) ≡ t →
+        any (model.isThe k) (map linked (take (d + 1) ms)) ≡ (any (model.isThe k) (map linked (take d ms)) || t)
+    next k e = marked-next ms d k h ∙ ap (λ (u : Bool). any (model.isThe k) (map linked (take d ms)) || u) e
+
+    other : (k : ℕ) → (getD ms d 0 ≡ k + 1 → ⊥) →
+        any (model.isThe k) (map linked (take (d + 1) ms)) ≡ any (model.isThe k) (map linked (take d ms))
+    other k z = next k (ne-eqb (getD ms d 0) (k + 1) z) ∙ or-false (any (model.isThe k) (map linked (take d ms)))
+
     same : getD ms d 0 ≡ 0 → Flagged (take (d + 1) ms) ns
-    same z = record { size = f .size; none = f .none; flags = λ k l. f .flags k l ∙ flag-other ms d k h (λ q. omega arith) }
+    same z =
+        record {
+          size = f .size;
+          none = f .none;
+          flags = λ k l. f .flags k l ∙ ap (λ (t : Bool). pick t 1 0) (sym (other k (λ q. omega arith)));
+        }
 
     more : (getD ms d 0 ≡ 0 → ⊥) → Flagged (take (d + 1) ms) (set ns (getD ms d 0) 1)
     more z =
-        record {
-          size = length-set ns (getD ms d 0) 1 ∙ f .size;
-          none = getD-set-other ns (getD ms d 0) 0 1 0 (λ q. z (sym q)) ∙ f .none;
-          flags = λ k l.
-              by-cases (eqb (getD ms d 0) (k + 1)) (λ e. here k (eqb-true (getD ms d 0) (k + 1) e))
-              (λ e. there k l (eqb-false (getD ms d 0) (k + 1) e));
-        }
-      where
-        here : (k : ℕ) → getD ms d 0 ≡ k + 1 → getD (set ns (getD ms d 0) 1) (k + 1) 0 ≡ flagOf (take (d + 1) ms) k
-        here k e =
-            ap (λ (j : ℕ). getD (set ns (getD ms d 0) 1) j 0) (sym e) ∙
-            getD-set-same ns (getD ms d 0) 1 0 (omega (arith, f .size)) ∙ flag-same ms d k h e
-
-        there : (k : ℕ) → k < 512 → (getD ms d 0 ≡ k + 1 → ⊥) → getD (set ns (getD ms d 0) 1) (k + 1) 0 ≡ flagOf (take (d + 1) ms) k
-        there k l z = getD-set-other ns (getD ms d 0) (k + 1) 1 0 (λ q. z (sym q)) ∙ f .flags k l ∙ flag-other ms d k h z
+        flags-more (λ (k : ℕ). any (model.isThe k) (map linked (take d ms))) (λ (k : ℕ). any (model.isThe k) (map linked (take (d + 1) ms)))
+        ns (getD ms d 0) (omega (arith, z)) low
+        (λ k e. next k (eq-eqb (getD ms d 0) (k + 1) e) ∙ or-true (any (model.isThe k) (map linked (take d ms)))) other f
 
 pub flagged-all : (ns ms : List ℕ) (d : ℕ) → length ms ≤ d → Flagged (take d ms) ns → Flagged ms ns
 flagged-all ns ms d h f = subst (λ (v : List ℕ). Flagged v ns) (take-all d ms h) f

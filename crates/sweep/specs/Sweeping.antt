@@ -1,4 +1,5 @@
--- What a sweep answers, for every input, and the contracts of its parts: a row's entry among the numbers stands at its link. Assumes nothing: these are definitions.
+-- What a sweep answers, for every input, and the contracts of its parts: a row's entry among the numbers stands at its link.
+-- Assumes nothing: these are definitions.
 use mathlib.Core.Path.{_≡_}
 use mathlib.Core.Bool.{Bool, true, _||_, not}
 use mathlib.Core.List.{List, map}
@@ -9,6 +10,7 @@ use Rattle.model.specs.Base.{pick, any}
 use Rattle.model.specs.Table as model
 use Rattle.model.specs.Refusal as refusal
 use Rattle.model.specs.Sweep.{swept, isKept, newNumber, sweptRows}
+use Rattle.table.specs.Flags.{Flags}
 use Rattle.table.specs.Words.{linked, wordsOf, decode, partsFit, fits}
 use Rattle.table.specs.Results.{result, asItWas}
 use Rattle.table.specs.declared.Table.{Table}
@@ -18,10 +20,7 @@ use Rattle.table.specs.declared.TableResult.{TableResult}
 abbrev pub planSwept : Table → TableResult
 planSwept t = pick (fits t) (result refusal.fine (swept (decode t))) (asItWas (refusal.linkAt 0) t)
 
--- FLAGS: 1 for a marked row, else 0
-abbrev pub flagOf : (marks : List ℕ) → (row : ℕ) → ℕ
-flagOf ms k = pick (any (model.isThe k) (map linked ms)) 1 0
-
+-- FLAGS of marked rows
 pub record LinksPre (ns ms : List ℕ) : Type 0 where
   pub size : length ns ≡ 513
   pub links : (d : ℕ) → getD ms d 0 < 513
@@ -30,10 +29,8 @@ pub record FlagPre (ns ms : List ℕ) : Type 0 where
   pub zero : ns ≡ replicate 513 0
   pub links : (d : ℕ) → getD ms d 0 < 513
 
-pub record Flagged (ms ns : List ℕ) : Type 0 where
-  pub size : length ns ≡ 513
-  pub none : getD ns 0 0 ≡ 0
-  pub flags : (k : ℕ) → k < 512 → getD ns (k + 1) 0 ≡ flagOf ms k
+abbrev pub Flagged : (marks numbers : List ℕ) → Type 0
+Flagged ms ns = Flags (λ (k : ℕ). any (model.isThe k) (map linked ms)) ns
 
 -- ONE ROW, from its flag and its parent's entry
 abbrev pub keeps : (flag parent : ℕ) → Bool

@@ -22,7 +22,7 @@ pub fn sweep_table(table: Table) -> TableResult
             table,
         };
     }
-    let mut numbers = [0u16; 513];
+    let mut numbers = [0u16; Table::LINKS];
     let mut rows = [0u32; Table::ROWS];
     let kept = sweep::rows(&table.rows, &table.marks, count, &mut numbers, &mut rows);
     let mut marks = table.marks;

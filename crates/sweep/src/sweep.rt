@@ -7,26 +7,15 @@ ghost use lib.ListN.{length, set};
 ghost use Rattle.model.specs.Base.{pick};
 ghost use Rattle.sweep.specs.Sweeping.{FlagPre, Flagged, keeps, RowPre, RowPost, RowsPre, Sweeping, LinksPre, newLinks};
 ghost use Rattle.table.specs.Words.{decodeParts};
+use table::number;
 use table::words;
-
-fn index(link: u16) -> usize
-    ensures { λ r. ⌜ r ≡ link ⌝ }
-{
-    link as usize
-}
-
-fn wide(link: u16) -> u32
-    ensures { λ r. ⌜ r ≡ link ⌝ }
-{
-    link as u32
-}
 
 // Flags the row with this link, if there is one.
 fn flag_one(numbers: &mut [u16], link: u16)
     requires { ⌜ link < length (now numbers) ⌝ }
     ensures { λ r. ⌜ now (numbers .exit) ≡ pick (eqb link 0) (now (numbers .entry)) (set (now (numbers .entry)) link 1) ⌝ }
 {
-    let at = index(link);
+    let at = number::index(link);
     if at == 0 {
         return;
     }
@@ -65,7 +54,7 @@ fn row(w: u32, i: usize, next: usize, numbers: &mut [u16], out: &mut [u32]) -> u
         return next;
     }
     numbers[i + 1] = (next + 1) as u16;
-    out[next] = words::word(words::kind(w), wide(parent), words::tag(w));
+    out[next] = words::word(words::kind(w), parent as u32, words::tag(w));
     next + 1
 }
 
@@ -98,7 +87,7 @@ pub fn renumber(marks: &mut [u16], numbers: &[u16])
 {
     let mut d = 0;
     while d < marks.len() {
-        marks[d] = numbers[index(marks[d])];
+        marks[d] = numbers[number::index(marks[d])];
         d += 1;
     }
 }

@@ -3,3 +3,4 @@ pub mod DecodeLaws
 pub mod FitLaws
 pub mod FitsLaws
 pub mod EncodeLaws
+pub mod FlagLaws

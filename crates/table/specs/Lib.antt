@@ -1,3 +1,4 @@
 pub mod Words
 pub mod Results
 pub mod Fitting
+pub mod Flags

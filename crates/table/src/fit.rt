@@ -7,6 +7,7 @@ ghost use Rattle.table.specs.Words.{isZero, partsFit};
 ghost use Rattle.table.specs.Fitting.{Words, tagFits, linkFits, rowFits, rowsFit, markFits, marksFit};
 use crate::Table;
 use crate::marks;
+use crate::number;
 use crate::words;
 
 // A word holds a row with its name or value in range.
@@ -79,18 +80,12 @@ fn rest_zero(rows: &[u32], count: usize) -> bool
     true
 }
 
-fn index(link: u16) -> usize
-    ensures { λ r. ⌜ r ≡ link ⌝ }
-{
-    link as usize
-}
-
 // A mark fits: none, or an element without parent.
 fn mark_fits(rows: &[u32], count: usize, link: u16) -> bool
     requires { ⌜ count ≤ length (now rows) ⌝ }
     ensures { λ r. ⌜ r ≡ markFits (now (rows .entry)) count link ⌝ }
 {
-    let at = index(link);
+    let at = number::index(link);
     if at == 0 {
         return true;
     }

@@ -5,6 +5,7 @@ ghost use Rattle.table.specs.Words.{encode};
 
 pub mod fit;
 pub mod marks;
+pub mod number;
 pub mod words;
 
 // A row's number and an element's name: one never stands where the other is meant.
@@ -30,6 +31,13 @@ impl Table {
     pub const DEPTH: usize = 16;
 
     pub const BINDERS: usize = 8;
+
+    pub const SCRIPT_RECORDS: usize = 64;
+
+    pub const HISTORY_RECORDS: usize = 2048;
+
+    // A row's link is its number and one; 0 links to no row.
+    pub const LINKS: usize = Table::ROWS + 1;
 
     // The table without rows.
     pub fn empty() -> Table

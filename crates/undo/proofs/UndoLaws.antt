@@ -8,7 +8,7 @@ use native.Mathlib.Numerals.{add-one}
 use native.Mathlib.Omega.{arith}
 use lib.Dec.{eqb}
 use lib.ListN.{length, getD, take, drop, set, length-set, length-drop, drop-of-length-le}
-use lib.Seq.{getD-set-same, getD-set-other, take-all, drop-drop, getD-drop}
+use lib.Seq.{getD-set-same, getD-set-other, drop-drop}
 use borrow.Author.Tests.{lt-ltb, le-ltb, le-leb, lt-leb, eq-eqb, ne-eqb, eqb-true, eqb-false}
 use Rattle.model.specs.Base.{pick, isIn, any}
 use Rattle.model.specs.Refusal.{fault, fine, isFine, faultAt}
@@ -16,6 +16,7 @@ use Rattle.model.specs.Table as model
 use Rattle.model.specs.Stored.{wordAt, parentIn}
 use Rattle.model.specs.Undo.{historySize, recordIn, Placed, Formed, broken, formed, formFault, withPlaced, formFrom, sameBool, sameParent}
 use Rattle.model.specs.Undo.{madeFits, oldParentFits, cutFits, Undo, refused, undoAll, backwards, undo}
+use Rattle.model.proofs.ListLaws.{drop-all, drop-first}
 use Rattle.model.proofs.BoolLaws.{by-cases, pick-true, pick-false}
 use Rattle.table.specs.Words.{linked, decodeParts}
 use Rattle.table.proofs.WordLaws.{count-decode, rowAt-decode}
@@ -150,9 +151,6 @@ module _ {b m : List ℕ} {at n : ℕ} (c : Forming b m at n) where
       }
 
   module _ (more : at < length b) {r : ℕ} (post : FormPost (take (length b - at) (drop at b)) n r) where
-    rest-all : take (length b - at) (drop at b) ≡ drop at b
-    rest-all = take-all (length b - at) (drop at b) (omega (arith, length-drop at b))
-
     fuel : length b + 1 - n ≡ suc (length b - n)
     fuel = omega (arith, c .low)
 
@@ -160,7 +158,7 @@ module _ {b m : List ℕ} {at n : ℕ} (c : Forming b m at n) where
     there q = omega (arith, length-drop at b)
 
     faults : formFault at n (drop at b) ≡ faultAt r at
-    faults = ap (formFault at n) (sym rest-all) ∙ post .fault at
+    faults = ap (formFault at n) (sym (drop-all b at)) ∙ post .fault at
 
     pub forming-refused : (r ≡ 0 → ⊥) → PlacesPost b m (record { number = r; place = at; records = n })
     unfolding formFrom
@@ -185,15 +183,12 @@ module _ {b m : List ℕ} {at n : ℕ} (c : Forming b m at n) where
       abbrev step : ℕ
       step = historySize (getD b at 0)
 
-      first : getD (drop at b) 0 0 ≡ getD b at 0
-      first = let e : at + 0 ≡ at = omega arith in getD-drop at b 0 0 ∙ ap (λ (j : ℕ). getD b j 0) e
-
       whole-here : historySize (getD (drop at b) 0 0) ≤ length (drop at b)
-      whole-here = subst (λ (d : List ℕ). historySize (getD d 0 0) ≤ length d) rest-all (post .whole z)
+      whole-here = subst (λ (d : List ℕ). historySize (getD d 0 0) ≤ length d) (drop-all b at) (post .whole z)
 
       pub forming-room : at + step ≤ length b
       forming-room =
-          let e : historySize (getD (drop at b) 0 0) ≡ step = ap historySize first in
+          let e : historySize (getD (drop at b) 0 0) ≡ step = ap historySize (drop-first b at) in
           omega (arith, whole-here, length-drop at b)
 
       pub forming-few : n < 2048
@@ -250,7 +245,7 @@ module _ {b m : List ℕ} {at n : ℕ} (c : Forming b m at n) where
               ap (λ (d : List ℕ). undoFrom x (entry ∷ undoing b m n) (formFrom (length b - n) (at + step) (n + 1) d)) (sym (drop-drop step
               at b)) ∙
               ap (λ (k : ℕ). undoFrom x (entry ∷ undoing b m n) (formFrom (length b - n) (at + historySize k) (n + 1) (drop (historySize
-              k) (drop at b)))) (sym first) ∙
+              k) (drop at b)))) (sym (drop-first b at)) ∙
               sym (undoFrom-placed x (undoing b m n) entry
               (formFrom (length b - n) (at + historySize (getD (drop at b) 0 0)) (n + 1) (drop (historySize (getD (drop at b) 0 0)) (drop
               at b)))) ∙

@@ -1,4 +1,4 @@
--- Undo's parts: a record undone on the words, all of them back to front, and the call.
+-- Undo's parts: a record undone on the words, and all of them back to front.
 use mathlib.Core.Path.{_≡_, refl, ap, sym, _∙_, subst}
 use mathlib.Core.Bool.{Bool, true, false, not}
 use mathlib.Core.List.{List, [], _∷_, _++_, map}
@@ -6,7 +6,7 @@ use mathlib.Core.Option.{none, some}
 use Prim.Native.Nat.{ℕ, suc, _+_, _*_, _-_, _/_, _%_, _≤_, _<_}
 use native.Mathlib.Omega.{arith}
 use lib.Dec.{ltb, eqb}
-use lib.ListN.{length, getD, take, drop, set, replicate, length-drop, length-map, getD-replicate}
+use lib.ListN.{length, getD, take, drop, set, replicate, length-map, getD-replicate}
 use lib.Seq.{set-set, set-getD, take-set-le, take-suc, take-all, getD-append-add}
 use borrow.Author.Tests.{eq-eqb, ne-eqb, ltb-true, eqb-true}
 use Rattle.model.specs.Base.{pick}
@@ -15,6 +15,7 @@ use Rattle.model.specs.Table as model
 use Rattle.model.specs.Stored.{wordAt, parentIn}
 use Rattle.model.specs.Undo.{historySize, recordIn, madeFits, oldParentFits, cutFits, undoFits, undone, refused}
 use Rattle.model.specs.Undo.{undoAll}
+use Rattle.model.proofs.ListLaws.{drop-all}
 use Rattle.model.proofs.BoolLaws.{true-false, and-left, pick-true, pick-false}
 use Rattle.model.proofs.TestLaws.{and-four, and-five}
 use Rattle.table.specs.Words.{linked, wordOf, rowOf, rowsOf, wordsOf, isRowWord, decodeParts}
@@ -237,16 +238,13 @@ module _ {ws₀ : List ℕ} {n₀ : ℕ} {b m : List ℕ} {k₀ : ℕ} (pre : Al
       pub backing-at : at ≤ length b
       backing-at = whole .0
 
-      slice : take (length b - at) (drop at b) ≡ drop at b
-      slice = take-all (length b - at) (drop at b) (omega (arith, length-drop at b))
-
       pub backing-record : BackPre ws n (take (length b - at) (drop at b))
       backing-record =
           record {
             rows = c .rows;
             few = c .few;
             canonical = c .canonical;
-            whole = subst (λ (d : List ℕ). historySize (getD d 0 0) ≤ length d) (sym slice) (whole .1);
+            whole = subst (λ (d : List ℕ). historySize (getD d 0 0) ≤ length d) (sym (drop-all b at)) (whole .1);
           }
 
       module _ {ws′ : List ℕ} {r : BackEnd} (post : BackPost ws ms n (take (length b - at) (drop at b)) ws′ r) where
@@ -259,7 +257,7 @@ module _ {ws₀ : List ℕ} {n₀ : ℕ} {b m : List ℕ} {k₀ : ℕ} (pre : Al
         turn =
             let e : k ≡ suc (k - 1) = omega arith in
             ap (λ (t : Bool). pick t (undoAll (undone y (recordIn (drop at b))) (undoing b m (k - 1))) (refused (linkAt at)))
-            (sym (post .fit) ∙ ap (λ (d : List ℕ). undoFits y (recordIn d)) slice) ∙
+            (sym (post .fit) ∙ ap (λ (d : List ℕ). undoFits y (recordIn d)) (drop-all b at)) ∙
             ap (λ (j : ℕ). undoAll y (record { at = j; entry = recordIn (drop j b) } ∷ undoing b m (k - 1))) place ∙
             ap (λ (j : ℕ). undoAll y (undoing b m j)) (sym e) ∙ c .rest
 
@@ -286,7 +284,7 @@ module _ {ws₀ : List ℕ} {n₀ : ℕ} {b m : List ℕ} {k₀ : ℕ} (pre : Al
               left = omega (arith, c .left);
               rest =
                   ap (λ (t : model.Table). undoAll t (undoing b m (k - 1)))
-                  (post .table z ∙ ap (λ (d : List ℕ). undone y (recordIn d)) slice) ∙
+                  (post .table z ∙ ap (λ (d : List ℕ). undone y (recordIn d)) (drop-all b at)) ∙
                   sym (pick-true (eqb (r .number) 0) (undoAll (undone y (recordIn (drop at b))) (undoing b m (k - 1))) (refused (linkAt at))
                   (eq-eqb (r .number) 0 z)) ∙
                   turn;

@@ -12,16 +12,14 @@ use Rattle.model.specs.History.{Record, cutKind}
 use Rattle.model.specs.Undo.{historySize, recordIn, Placed, formFault, undoFits, undone, Undo, refused, back, undoAll, undo}
 use Rattle.table.specs.Words.{rowsOf, wordsOf, decode, decodeParts, fits}
 use Rattle.model.specs.Refusal.{faultAt}
-use Rattle.table.specs.Results.{faultOf, result}
+use Rattle.table.specs.Results.{result}
+pub use Rattle.table.specs.Results.{asItWas}
 use Rattle.table.specs.declared.Table.{Table}
 use Rattle.table.specs.declared.TableResult.{TableResult}
 use Rattle.undo.specs.declared.undoing.FormEnd.{FormEnd}
 use Rattle.undo.specs.declared.undoing.BackEnd.{BackEnd}
 
 -- UNDO of a table handed in: 6 where it is ill formed; refused, the table is as it was
-abbrev pub asItWas : refusal.Fault → Table → TableResult
-asItWas f t = record { fault = faultOf f; table = t }
-
 abbrev pub undoneBy : Table → Undo → TableResult
 undoneBy t (refused f) = asItWas f t
 undoneBy t (back x) = result refusal.fine x

@@ -5,7 +5,6 @@ use table::Fault;
 use table::Table;
 use table::TableResult;
 use table::fit;
-use updates::history;
 
 mod undoing;
 
@@ -23,7 +22,7 @@ pub fn undo(table: Table, history: &[u8]) -> TableResult
             table,
         };
     }
-    let mut places = [0u16; history::RECORDS];
+    let mut places = [0u16; Table::HISTORY_RECORDS];
     let form = undoing::form(history, &mut places);
     if form.number != 0 {
         return TableResult {

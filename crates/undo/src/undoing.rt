@@ -3,17 +3,17 @@ ghost use mathlib.Core.Path.{_≡_};
 ghost use Prim.Native.Nat.{_+_, _%_, _<_, _≤_};
 ghost use lib.Dec.{eqb};
 ghost use lib.ListN.{length};
-ghost use Rattle.model.specs.Stored.{wordAt, parentIn};
+ghost use Rattle.model.specs.Stored.{parentIn};
 ghost use Rattle.model.specs.Undo.{historySize, sameBool, sameParent, madeFits, cutFits};
 ghost use Rattle.table.specs.Words.{linked, decodeParts};
 ghost use Rattle.undo.specs.Undoing.{madeIn, cutIn, FormPost, PlacesPost, FitPre, BackPre, BackPost, AllPre, AllPost};
 use table::Fault;
+use table::Table;
 use table::marks;
+use table::number;
 use table::words;
 use updates::history;
 use updates::update;
-
-const NONE: usize = 0xFFFF;
 
 // The form's end: the refusal's number, or 0, and place; the records found.
 pub struct FormEnd {
@@ -27,34 +27,6 @@ pub struct BackEnd {
     pub number: u8,
     pub place: usize,
     pub count: usize,
-}
-
-fn index(b: u8) -> usize
-    ensures { λ r. ⌜ r ≡ b ⌝ }
-    ensures { λ r. ⌜ r < 256 ⌝ }
-{
-    b as usize
-}
-
-fn wide(b: u8) -> u32
-    ensures { λ r. ⌜ r ≡ b ⌝ }
-{
-    b as u32
-}
-
-fn place(at: u16) -> usize
-    ensures { λ r. ⌜ r ≡ at ⌝ }
-{
-    at as usize
-}
-
-// The two-byte number at a place of the record.
-fn number_at(s: &[u8], at: usize) -> usize
-    requires { ⌜ at + 1 < length (now s) ⌝ }
-    ensures { λ r. ⌜ r ≡ wordAt (now (s .entry)) at ⌝ }
-    ensures { λ r. ⌜ r < 65536 ⌝ }
-{
-    index(s[at]) + 256 * index(s[at + 1])
 }
 
 // The bytes of a record of this kind.
@@ -81,7 +53,7 @@ fn form_fault(s: &[u8], records: usize) -> u8
     if history::CUT < kind {
         return Fault::KIND;
     }
-    if history::RECORDS <= records {
+    if Table::HISTORY_RECORDS <= records {
         return Fault::SIZE;
     }
     if s.len() < size(kind) {
@@ -137,7 +109,7 @@ fn same_parent(link: usize, number: usize) -> bool
     requires { ⌜ number < 65536 ⌝ }
     ensures { λ r. ⌜ r ≡ sameParent (linked link) (parentIn number) ⌝ }
 {
-    if number == NONE {
+    if number == number::NONE {
         return link == 0;
     }
     link == number + 1
@@ -148,7 +120,7 @@ fn made_fits(rows: &[u32], marks: &[u16], count: usize, s: &[u8]) -> bool
     requires { ⌜ FitPre (now rows) count (now s) 6 ⌝ }
     ensures { λ r. ⌜ r ≡ madeFits (decodeParts count (now (rows .entry)) (now (marks .entry))) (madeIn (now (s .entry))) ⌝ }
 {
-    let row = number_at(s, 1);
+    let row = number::number_at(s, 1);
     if row + 1 != count {
         return false;
     }
@@ -159,10 +131,10 @@ fn made_fits(rows: &[u32], marks: &[u16], count: usize, s: &[u8]) -> bool
     if !same_kind(w, s[0]) {
         return false;
     }
-    if words::tag(w) != wide(s[3]) {
+    if words::tag(w) != number::wide(s[3]) {
         return false;
     }
-    same_parent(words::link(w), number_at(s, 4))
+    same_parent(words::link(w), number::number_at(s, 4))
 }
 
 // The row cut by the record s has no parent and no mark, and its old parent is a lower element.
@@ -170,7 +142,7 @@ fn cut_fits(rows: &[u32], marks: &[u16], count: usize, s: &[u8]) -> bool
     requires { ⌜ FitPre (now rows) count (now s) 5 ⌝ }
     ensures { λ r. ⌜ r ≡ cutFits (decodeParts count (now (rows .entry)) (now (marks .entry))) (cutIn (now (s .entry))) ⌝ }
 {
-    let row = number_at(s, 1);
+    let row = number::number_at(s, 1);
     if count <= row {
         return false;
     }
@@ -180,8 +152,8 @@ fn cut_fits(rows: &[u32], marks: &[u16], count: usize, s: &[u8]) -> bool
     if marks::is_marked(marks, (row + 1) as u16) {
         return false;
     }
-    let parent = number_at(s, 3);
-    if parent == NONE {
+    let parent = number::number_at(s, 3);
+    if parent == number::NONE {
         return false;
     }
     if row <= parent {
@@ -203,8 +175,8 @@ fn undo_record(rows: &mut [u32], marks: &[u16], count: usize, s: &[u8]) -> BackE
                 count,
             };
         }
-        let row = number_at(s, 1);
-        let parent = number_at(s, 3);
+        let row = number::number_at(s, 1);
+        let parent = number::number_at(s, 3);
         rows[row] = update::relinked(rows[row], parent + 1);
         return BackEnd {
             number: 0,
@@ -244,7 +216,7 @@ pub fn undo_all(
     let mut k = records;
     while 0 < k {
         k -= 1;
-        let at = place(places[k]);
+        let at = number::index(places[k]);
         let step = undo_record(rows, marks, left, &bytes[at..]);
         if step.number != 0 {
             return BackEnd {

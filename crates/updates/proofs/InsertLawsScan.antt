@@ -81,14 +81,6 @@ copiedIn-set m t (suc n) j v h =
     let e : getD (set m j v) (t + n) 0 ≡ getD m (t + n) 0 = getD-set-other m j (t + n) v 0 (λ q. omega arith) in
     rw (e, copiedIn-set m t n j v (omega arith))
 
-copyOf-past : (m : List ℕ) (t n q : ℕ) → t + n ≤ q → copyOf q (copiedIn m t n) ≡ none
-unfolding copyOf copiedIn
-copyOf-past m t zero q h = refl
-copyOf-past m t (suc n) q h =
-    let e : t + n ≡ q → ⊥ = λ z. omega arith in
-    let k = copyOf-past m t n q (omega arith) in
-    by-cases (eqb (getD m (t + n) 0) 65535) (λ z. rw z k) (λ z. rw (z, ne-eqb (t + n) q e) k)
-
 copyOf-copied : (m : List ℕ) (t n q : ℕ) → t ≤ q → q < t + n → (getD m q 0 ≡ 65535 → ⊥) → copyOf q (copiedIn m t n) ≡ some (getD m q 0)
 unfolding copyOf copiedIn
 copyOf-copied m t zero q h l f = absurd (omega arith)

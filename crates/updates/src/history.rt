@@ -2,12 +2,12 @@
 ghost use mathlib.Core.Path.{_≡_};
 ghost use Prim.Native.Nat.{_+_, _/_, _%_, _≤_, _<_};
 ghost use lib.ListN.{length};
-ghost use Rattle.model.specs.Stored.{wordBytes, parentBytes};
 ghost use Rattle.model.specs.History.{recordBytes};
 ghost use Rattle.model.specs.Run.{made, cutRecord};
-ghost use Rattle.table.specs.Words.{linked, rowOf};
+ghost use Rattle.table.specs.Words.{rowOf};
 ghost use Rattle.model.specs.Base.{over};
 ghost use Rattle.updates.specs.Updating.{madeKind, sixBytes};
+use table::number;
 use table::words;
 
 pub const ELEMENT: u8 = 0x41;
@@ -16,15 +16,10 @@ pub const LEAF: u8 = 0x42;
 
 pub const CUT: u8 = 0x43;
 
-const NONE: usize = 0xFFFF;
-
 // Bytes of a made row's record, and of a cut link's.
 pub const MADE_SIZE: usize = 6;
 
 pub const CUT_SIZE: usize = 5;
-
-// Records of a history.
-pub const RECORDS: usize = 2048;
 
 // The kind of the record of a row made.
 fn made_kind(w: u32) -> u8
@@ -34,18 +29,6 @@ fn made_kind(w: u32) -> u8
         return LEAF;
     }
     ELEMENT
-}
-
-// The number written for the parent with this link.
-fn parent(link: usize) -> usize
-    requires { ⌜ link < 1024 ⌝ }
-    ensures { λ r. ⌜ wordBytes r ≡ parentBytes (linked link) ⌝ }
-    ensures { λ r. ⌜ r < 65536 ⌝ }
-{
-    if link == 0 {
-        return NONE;
-    }
-    link - 1
 }
 
 // A made row's record at a place, field by field.
@@ -70,7 +53,7 @@ pub fn put_made(history: &mut [u8], at: usize, row: usize, w: u32)
     requires { ⌜ w / 4096 < 256 ⌝ }
     ensures { λ r. ⌜ now (history .exit) ≡ over at (recordBytes (made (rowOf w) row)) (now (history .entry)) ⌝ }
 {
-    let number = parent(words::link(w));
+    let number = number::parent(words::link(w));
     let tag = words::tag(w) as u8;
     put_six(history, at, made_kind(w), row, tag, number);
 }

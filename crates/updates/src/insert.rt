@@ -8,17 +8,11 @@ use crate::state::Progress;
 use crate::update;
 use table::Fault;
 use table::Table;
+use table::number;
 use table::words;
 
 // A row that has no copy.
-const NONE: u16 = 0xFFFF;
-
-fn index(row: u16) -> usize
-    ensures { λ r. ⌜ r ≡ row ⌝ }
-    ensures { λ r. ⌜ r < 65536 ⌝ }
-{
-    row as usize
-}
+const NO_COPY: u16 = 0xFFFF;
 
 // The link to the copy of the parent with this link, 0 where it has none since top.
 fn copy_link(map: &[u16], top: usize, link: usize) -> usize
@@ -31,10 +25,10 @@ fn copy_link(map: &[u16], top: usize, link: usize) -> usize
     if link - 1 < top {
         return 0;
     }
-    if map[link - 1] == NONE {
+    if map[link - 1] == NO_COPY {
         return 0;
     }
-    index(map[link - 1]) + 1
+    number::index(map[link - 1]) + 1
 }
 
 // Row j of the scan from top: a copy under its parent's copy, if there is one.
@@ -53,7 +47,7 @@ fn copy_next(
     let w = rows[j];
     let link = copy_link(map, top, words::link(w));
     if link == 0 {
-        map[j] = NONE;
+        map[j] = NO_COPY;
         return p;
     }
     let count = p.count;
@@ -126,7 +120,15 @@ fn copy_items(
     let mut now = p;
     let mut k = 0;
     while k < items.len() {
-        now = copy_item(rows, history, map, now, old, index(items[k]), target);
+        now = copy_item(
+            rows,
+            history,
+            map,
+            now,
+            old,
+            number::index(items[k]),
+            target,
+        );
         if now.number != 0 {
             return now;
         }
@@ -150,7 +152,7 @@ pub fn insert(
     if targets.len() != 1 {
         return p.refused(Fault::TARGET);
     }
-    let target = index(targets[0]);
+    let target = number::index(targets[0]);
     if words::kind(rows[target]) == words::LEAF {
         return p.refused(Fault::TARGET);
     }

@@ -10,6 +10,7 @@ use crate::state::Progress;
 use table::Fault;
 use table::NameNumber;
 use table::Table;
+use table::number;
 use table::words;
 
 // Row w more, with its record: 10 when the table is full, then 9 when the history is.
@@ -22,7 +23,7 @@ pub fn new_row(rows: &mut [u32], history: &mut [u8], p: Progress, w: u32) -> Pro
     if Table::ROWS <= count {
         return p.refused(Fault::TABLE);
     }
-    if history::RECORDS <= p.made + p.cut {
+    if Table::HISTORY_RECORDS <= p.made + p.cut {
         return p.refused(Fault::HISTORY);
     }
     rows[count] = w;
@@ -53,12 +54,6 @@ pub fn new_leaf(rows: &mut [u32], history: &mut [u8], p: Progress, value: u8) ->
     new_row(rows, history, p, words::word(words::LEAF, 0, value as u32))
 }
 
-fn index(row: u16) -> usize
-    ensures { λ r. ⌜ r ≡ row ⌝ }
-{
-    row as usize
-}
-
 // A row's word with another link to its parent.
 pub fn relinked(w: u32, link: usize) -> u32
     requires { ⌜ link < 1024 ⌝ }
@@ -85,7 +80,7 @@ fn cut_row(rows: &mut [u32], history: &mut [u8], p: Progress, i: usize) -> Progr
     if link == 0 {
         return p;
     }
-    if history::RECORDS <= p.made + p.cut {
+    if Table::HISTORY_RECORDS <= p.made + p.cut {
         return p.refused(Fault::HISTORY);
     }
     rows[i] = unlinked(w);
@@ -108,7 +103,7 @@ pub fn delete(rows: &mut [u32], history: &mut [u8], p: Progress, items: &[u16]) 
     let mut now = p;
     let mut k = 0;
     while k < items.len() {
-        now = cut_row(rows, history, now, index(items[k]));
+        now = cut_row(rows, history, now, number::index(items[k]));
         if now.number != 0 {
             return now;
         }

@@ -1,3 +1,4 @@
+-- `read_plan` answers the plan read, or its refusal and the empty table.
 use Rattle.plan.proofs.ReadingLaws.{plan-refused, plan-read}
 use mathlib.Core.Path.{refl}
 use borrow.Author.Needs.{needs}

@@ -1,3 +1,4 @@
+-- `write_plan` refuses an ill-formed table with 6, and writes any other.
 use mathlib.Core.Path.{_∙_, sym}
 use borrow.Author.Tests.{not-true, not-false}
 use borrow.Author.Needs.{needs}

@@ -1,3 +1,4 @@
+-- `undo` refuses an ill-formed table with 6, and takes any other back as the model does.
 use Rattle.undo.proofs.UndoLawsCall.{undo-ill, undo-broken, undo-pre, undo-refused, undo-done}
 use Rattle.table.specs.Fitting.{Words}
 use Rattle.table.specs.Words.{fits}

@@ -16,7 +16,7 @@ use Rattle.emission.proofs.emit.emit.Kinds as emit-kinds
 use Rattle.emission.proofs.emit.+emit.Lts-emit as emit-lts
 use Rattle.emission.proofs.emit.binary.Reads as binary-reads
 use Rattle.emission.proofs.emit.bind.Reads as bind-reads
-use Rattle.emission.proofs.emit.inner.Reads as inner-reads
+use Rattle.script.proofs.kinds.inner.Reads as inner-reads
 use Rattle.emission.proofs.emit.nullary.Reads as nullary-reads
 use Rattle.emission.proofs.emit.unary.Reads as unary-reads
 use Rattle.emission.proofs.emit.union.Reads as union-reads
@@ -164,7 +164,7 @@ emit-sub-emit-2 t c =
 emit-inner-requires : (t : ℕ) → emit-lts.Need-inner-requires (emit-claims t) (emit-at t) emit.Post
 emit-inner-requires t c κs =
     let c12 = c .before .before .before .before .before .before .before .before .before .before .before .before in
-    omega (arith, c12 .pre .1 .scope)
+    λ _. omega (arith, c12 .pre .1 .scope)
 
 emit-emit-requires-2 : (t : ℕ) → emit-lts.Need-emit-requires-2 (emit-claims t) (emit-at t) emit.Post
 emit-emit-requires-2 t c κs =

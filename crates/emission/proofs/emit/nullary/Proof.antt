@@ -11,16 +11,16 @@ use Rattle.emission.proofs.emit.nullary.Tie as tie
 shared-slice-read-kind : tie.Need-shared-slice-read-kind
 shared-slice-read-kind c = search needs
 
-add-index : tie.Need-add-index
-add-index c = search needs
+add-byte : tie.Need-add-byte
+add-byte c = search needs
 
-shared-slice-read-index : tie.Need-shared-slice-read-index
-shared-slice-read-index c =
+shared-slice-read-byte : tie.Need-shared-slice-read-byte
+shared-slice-read-byte c =
     let c6 = c .before .before .before .before .before .before in
     omega (arith, c6 .pre .whole, ap (λ (k : ℕ). bodySize k) (c .before .before .if1 .taken))
 
-index-requires : tie.Need-index-requires
-index-requires c κs = search needs
+byte-requires : tie.Need-byte-requires
+byte-requires c κs = search needs
 
 root-requires : tie.Need-root-requires
 root-requires c κs = search needs
@@ -31,8 +31,8 @@ push-requires c κs =
     let c8 = c4 .before .before .before .before in
     record {
       room = omega (arith, c8 .pre .size, c8 .pre .room);
-      fits = root-fits (c .root .result) (c .before .index .result) (c .root .ensures)
-          (omega (arith, c .before .index .ensures, c8 .pre .document (c4 .if1 .taken)));
+      fits = root-fits (c .root .result) (c .before .byte .result) (c .root .ensures)
+          (omega (arith, c .before .byte .ensures .0, c8 .pre .document (c4 .if1 .taken)));
     }
 
 add-t17 : tie.Need-add-t17
@@ -49,35 +49,35 @@ returns c =
     let c7 = c4 .before .before .before in
     let c11 = c7 .before .before .before .before in
     nullary-document (c11 .args .bytes .now) (c11 .args .at) (c11 .args .next) (c11 .args .t4) (c11 .args .words .now) (c11 .args .count)
-    (c11 .pre) (c7 .if1 .taken) (c3 .root .result) (c4 .index .result) (c2 .push .last .0) (c3 .root .ensures) (c4 .index .ensures)
+    (c11 .pre) (c7 .if1 .taken) (c3 .root .result) (c4 .byte .result) (c2 .push .last .0) (c3 .root .ensures) (c4 .byte .ensures .0)
     (c2 .push .ensures)
 
-add-index-2 : tie.Need-add-index-2
-add-index-2 c = search needs
+add-byte-2 : tie.Need-add-byte-2
+add-byte-2 c = search needs
 
-shared-slice-read-index-2 : tie.Need-shared-slice-read-index-2
-shared-slice-read-index-2 c =
+shared-slice-read-byte-2 : tie.Need-shared-slice-read-byte-2
+shared-slice-read-byte-2 c =
     let c6 = c .before .before .before .before .before .before in
     omega (arith, c6 .pre .whole, ap (λ (k : ℕ). bodySize k) (c .before .if2 .taken))
 
-index-requires-2 : tie.Need-index-requires-2
-index-requires-2 c κs = search needs
+byte-requires-2 : tie.Need-byte-requires-2
+byte-requires-2 c κs = search needs
 
-array-read-index : tie.Need-array-read-index
-array-read-index c =
+array-read-byte : tie.Need-array-read-byte
+array-read-byte c =
     let c2 = c .before .before in
     let c7 = c2 .before .before .before .before .before in
-    omega (arith, c .index2 .ensures, c7 .pre .variable (c2 .if2 .taken))
+    omega (arith, c .byte2 .ensures .0, c7 .pre .variable (c2 .if2 .taken))
 
-index-requires-3 : tie.Need-index-requires-3
-index-requires-3 c κs = search needs
+byte-requires-3 : tie.Need-byte-requires-3
+byte-requires-3 c κs = search needs
 
 returns-2 : tie.Need-returns-2
 returns-2 c =
     let c3 = c .before .before .before in
     let c8 = c3 .before .before .before .before .before in
     nullary-variable (c8 .args .bytes .now) (c8 .args .at) (c8 .args .next) (c8 .args .t4) (c8 .args .words .now) (c8 .args .count)
-    (c8 .pre) (c3 .if2 .taken) (c .before .index2 .result) (c .index3 .result) (c .before .index2 .ensures) (c .index3 .ensures)
+    (c8 .pre) (c3 .if2 .taken) (c .before .byte2 .result) (c .byte3 .result) (c .before .byte2 .ensures .0) (c .byte3 .ensures .0)
 
 returns-3 : tie.Need-returns-3
 returns-3 c =
@@ -90,18 +90,18 @@ nullary-spec =
     tie.close
     (tie.spec
     shared-slice-read-kind
-    add-index
-    shared-slice-read-index
-    index-requires
+    add-byte
+    shared-slice-read-byte
+    byte-requires
     root-requires
     push-requires
     add-t17
     same-length
     returns
-    add-index-2
-    shared-slice-read-index-2
-    index-requires-2
-    array-read-index
-    index-requires-3
+    add-byte-2
+    shared-slice-read-byte-2
+    byte-requires-2
+    array-read-byte
+    byte-requires-3
     returns-2
     returns-3)

@@ -12,40 +12,40 @@ use Rattle.emission.proofs.emit.unary.Tie as tie
 shared-slice-read-kind : tie.Need-shared-slice-read-kind
 shared-slice-read-kind c = search needs
 
-add-index : tie.Need-add-index
-add-index c = search needs
+add-byte : tie.Need-add-byte
+add-byte c = search needs
 
-shared-slice-read-index : tie.Need-shared-slice-read-index
-shared-slice-read-index c =
+shared-slice-read-byte : tie.Need-shared-slice-read-byte
+shared-slice-read-byte c =
     let c5 = c .before .before .before .before .before in
     omega (arith, c5 .pre .whole, ap (λ (k : ℕ). bodySize k) (c .before .if1 .taken))
 
-index-requires : tie.Need-index-requires
-index-requires c κs = search needs
+byte-requires : tie.Need-byte-requires
+byte-requires c κs = search needs
 
-add-index-2 : tie.Need-add-index-2
-add-index-2 c = search needs
+add-byte-2 : tie.Need-add-byte-2
+add-byte-2 c = search needs
 
-shared-slice-read-index-2 : tie.Need-shared-slice-read-index-2
-shared-slice-read-index-2 c =
+shared-slice-read-byte-2 : tie.Need-shared-slice-read-byte-2
+shared-slice-read-byte-2 c =
     let c3 = c .before .before .before in
     let c7 = c3 .before .before .before .before in
     omega (arith, c7 .pre .whole, ap (λ (k : ℕ). bodySize k) (c3 .if1 .taken))
 
-index-requires-2 : tie.Need-index-requires-2
-index-requires-2 c κs = search needs
+byte-requires-2 : tie.Need-byte-requires-2
+byte-requires-2 c κs = search needs
 
-add-index-3 : tie.Need-add-index-3
-add-index-3 c = search needs
+add-byte-3 : tie.Need-add-byte-3
+add-byte-3 c = search needs
 
-shared-slice-read-index-3 : tie.Need-shared-slice-read-index-3
-shared-slice-read-index-3 c =
+shared-slice-read-byte-3 : tie.Need-shared-slice-read-byte-3
+shared-slice-read-byte-3 c =
     let c5 = c .before .before .before .before .before in
     let c9 = c5 .before .before .before .before in
     omega (arith, c9 .pre .whole, ap (λ (k : ℕ). bodySize k) (c5 .if1 .taken))
 
-index-requires-3 : tie.Need-index-requires-3
-index-requires-3 c κs = search needs
+byte-requires-3 : tie.Need-byte-requires-3
+byte-requires-3 c κs = search needs
 
 step-requires : tie.Need-step-requires
 step-requires c κs =
@@ -55,9 +55,9 @@ step-requires c κs =
     let c11 = c7 .before .before .before .before in
     record {
       grow = c11 .pre .grow;
-      axis = omega (arith, c5 .index .ensures, c11 .pre .axis (c7 .if1 .taken));
-      test = omega (arith, c3 .index2 .ensures, c11 .pre .test (c7 .if1 .taken));
-      name = omega (arith, c .before .index3 .ensures, c .before .before .shared-slice-known5 .given (c11 .args .at + 3));
+      axis = omega (arith, c5 .byte .ensures .0, c11 .pre .axis (c7 .if1 .taken));
+      test = omega (arith, c3 .byte2 .ensures .0, c11 .pre .test (c7 .if1 .taken));
+      name = omega (arith, c .before .byte3 .ensures .0, c .before .before .shared-slice-known5 .given (c11 .args .at + 3));
     }
 
 same-length : tie.Need-same-length
@@ -72,8 +72,8 @@ returns c =
     let c10 = c8 .before .before in
     let c14 = c10 .before .before .before .before in
     unary-step (c14 .args .bytes .now) (c14 .args .at) (outOf (c14 .args .words .now) (c14 .args .x)) (c14 .args .x) (c2 .step .last .0)
-    (c2 .step .result) (c10 .if1 .taken) (record { axis = c8 .index .result; test = c6 .index2 .result; name = c4 .index3 .result })
-    (c8 .index .ensures) (c6 .index2 .ensures) (c4 .index3 .ensures) (c2 .step .ensures)
+    (c2 .step .result) (c10 .if1 .taken) (record { axis = c8 .byte .result; test = c6 .byte2 .result; name = c4 .byte3 .result })
+    (c8 .byte .ensures .0) (c6 .byte2 .ensures .0) (c4 .byte3 .ensures .0) (c2 .step .ensures)
 
 delete-requires : tie.Need-delete-requires
 delete-requires c κs = search needs
@@ -100,15 +100,15 @@ unary-spec =
     tie.close
     (tie.spec
     shared-slice-read-kind
-    add-index
-    shared-slice-read-index
-    index-requires
-    add-index-2
-    shared-slice-read-index-2
-    index-requires-2
-    add-index-3
-    shared-slice-read-index-3
-    index-requires-3
+    add-byte
+    shared-slice-read-byte
+    byte-requires
+    add-byte-2
+    shared-slice-read-byte-2
+    byte-requires-2
+    add-byte-3
+    shared-slice-read-byte-3
+    byte-requires-3
     step-requires
     same-length
     returns

@@ -5,7 +5,8 @@ use mathlib.Core.Path.{refl}
 use native.Mathlib.Omega.{arith}
 use Rattle.script.proofs.AcceptedLaws.{accepted-record}
 use Rattle.script.proofs.FieldLaws.{document-number, variable-number, element-name}
-use Rattle.operators.proofs.NullaryLaws.{nullary-room, nullary-body, nil-yields, document-yields, variable-yields, element-yields, leaf-yields}
+use Rattle.operators.proofs.NullaryLaws.{nullary-room, nullary-body, nil-yields, document-yields, variable-yields}
+use Rattle.operators.proofs.NullaryLaws.{element-yields, leaf-yields}
 use Rattle.operators.proofs.NullaryLaws.{variable-asks, variable-below, last-kind}
 
 shared-slice-read-kind : tie.Need-shared-slice-read-kind
@@ -39,8 +40,8 @@ shared-slice-read-b c =
     let c8 = c .before .before .before .before .before .before .before .before in
     nullary-body (c8 .pre .0) (c8 .pre .1) (c .before .if1 .left)
 
-index-requires : tie.Need-index-requires
-index-requires c κs = search needs
+byte-requires : tie.Need-byte-requires
+byte-requires c κs = search needs
 
 document-requires : tie.Need-document-requires
 document-requires c κs =
@@ -48,7 +49,7 @@ document-requires c κs =
     let d = document-number (accepted-record (c11 .pre .0 .accepted)) (c .before .before .if2 .taken) in
     let m = c11 .pre .0 .marks .size in
     let r = nullary-room (c11 .pre .0) in
-    (omega (arith, d, m, c .before .index .ensures .0), omega (arith, r))
+    (omega (arith, d, m, c .before .byte .ensures .0), omega (arith, r))
 
 add-ended-2 : tie.Need-add-ended-2
 add-ended-2 c =
@@ -69,27 +70,27 @@ returns-2 c =
     let c5 = c3 .before .before in
     let c6 = c5 .before in
     let c15 = c6 .before .before .before .before .before .before .before .before .before in
-    document-yields (c15 .pre .0) (c3 .document .kept .1 .1 .0) (c6 .if2 .taken) (c5 .index .ensures .0) (c3 .document .ensures) (c
+    document-yields (c15 .pre .0) (c3 .document .kept .1 .1 .0) (c6 .if2 .taken) (c5 .byte .ensures .0) (c3 .document .ensures) (c
     .ended2 .ensures)
 
-index-requires-2 : tie.Need-index-requires-2
-index-requires-2 c κs = search needs
+byte-requires-2 : tie.Need-byte-requires-2
+byte-requires-2 c κs = search needs
 
 mul-s : tie.Need-mul-s
-mul-s c = let a = c .index2 .ensures .1 in omega (arith, a)
+mul-s c = let a = c .byte2 .ensures .1 in omega (arith, a)
 
 array-copy-out-s : tie.Need-array-copy-out-s
 array-copy-out-s c =
     let c11 = c .before .before .before .before .before .before .before .before .before .before .before in
     let a = variable-number (accepted-record (c11 .pre .0 .accepted)) (c .before .if3 .taken) in
     let e = c11 .pre .0 .scope .few in
-    omega (arith, a, e, c .index2 .ensures .0)
+    omega (arith, a, e, c .byte2 .ensures .0)
 
 add-to : tie.Need-add-to
 add-to c =
     let c3 = c .before .before .before in
     let c13 = c3 .before .before .before .before .before .before .before .before .before .before in
-    let a = variable-below (c13 .pre .0) (c3 .if3 .taken) (c .before .before .index2 .ensures .0) in
+    let a = variable-below (c13 .pre .0) (c3 .if3 .taken) (c .before .before .byte2 .ensures .0) in
     omega (arith, a, c13 .fits .top)
 
 copied-requires : tie.Need-copied-requires
@@ -97,7 +98,7 @@ copied-requires c κs =
     let c3 = c .before .before .before in
     let c4 = c3 .before in
     let c14 = c4 .before .before .before .before .before .before .before .before .before .before in
-    variable-asks (c14 .pre .0) (c4 .if3 .taken) (c3 .index2 .ensures .0) refl
+    variable-asks (c14 .pre .0) (c4 .if3 .taken) (c3 .byte2 .ensures .0) refl
 
 add-ended-3 : tie.Need-add-ended-3
 add-ended-3 c =
@@ -118,7 +119,7 @@ returns-3 c =
     let c7 = c3 .before .before .before .before in
     let c8 = c7 .before in
     let c18 = c8 .before .before .before .before .before .before .before .before .before .before in
-    variable-yields (c18 .pre .0) (c3 .copied .kept .0) (c8 .if3 .taken) (c7 .index2 .ensures .0) refl (c3 .copied .ensures) (c
+    variable-yields (c18 .pre .0) (c3 .copied .kept .0) (c8 .if3 .taken) (c7 .byte2 .ensures .0) refl (c3 .copied .ensures) (c
     .ended3 .ensures)
 
 name-requires : tie.Need-name-requires
@@ -224,13 +225,13 @@ nullary-spec =
     returns
     add-b
     shared-slice-read-b
-    index-requires
+    byte-requires
     document-requires
     add-ended-2
     ended-requires-2
     same-length
     returns-2
-    index-requires-2
+    byte-requires-2
     mul-s
     array-copy-out-s
     add-to

@@ -1,3 +1,4 @@
+-- `read::mark` refuses the mark at the front or sets it in the table, by one law of ReadLaws for each way out.
 use Rattle.plan.proofs.ReadLaws.{refused}
 use Rattle.plan.proofs.ReadLaws.{mark-field, mark-order, mark-high, mark-leaf, mark-child, mark-by}
 use Rattle.table.specs.Words.{linked}
@@ -14,14 +15,14 @@ use borrow.Author.Needs.{needs}
 use Rattle.plan.proofs.read.mark.Statement.{statement}
 use Rattle.plan.proofs.read.mark.Tie as tie
 
-shared-slice-read-index : tie.Need-shared-slice-read-index
-shared-slice-read-index c = search needs
+shared-slice-read-byte : tie.Need-shared-slice-read-byte
+shared-slice-read-byte c = search needs
 
-index-requires : tie.Need-index-requires
-index-requires c κs = search needs
+byte-requires : tie.Need-byte-requires
+byte-requires c κs = search needs
 
 known : (c : tie.Else1) → getD (c .before .before .before .before .before .before .args .s .now) 1 0 < 8
-known c = omega (arith, c .before .index .ensures .0, c .if1 .left)
+known c = omega (arith, c .before .byte .ensures .0, c .if1 .left)
 
 there : (c : tie.Else3) → wordAt (c .before .before .before .before .before .before .before .before .before .args .s .now) 2 < c .before
     .before .before .before .before .before .before .before .before .args .count
@@ -59,7 +60,7 @@ returns c = record {
       .before .before .before .before .before .args .count) i (c .before .before .before .before .before .before .pre) (omega (
         arith,
         c
-            .before .index .ensures .0,
+            .before .byte .ensures .0,
         c .if1 .taken,
       ));
   marks = refl;
@@ -72,7 +73,7 @@ returns-2 c = record {
   fault = λ i e. mark-order (c .before .before .before .before .before .before .before .args .s .now) (c .before
       .before .before .before .before .before .before .args .rows .now) (c .before .before .before .before .before .before .before .args
       .marks .now) (c .before .before .before .before .before .before .before .args .count) i (c .before .before .before .before .before
-      .before .before .pre) (known (c .before)) (omega (arith, e, c .before .before .index .ensures .0, c .if2 .taken));
+      .before .before .pre) (known (c .before)) (omega (arith, e, c .before .before .byte .ensures .0, c .if2 .taken));
   marks = refl;
   document = λ z. refused _ z;
   order = λ z. refused _ z;
@@ -87,7 +88,7 @@ returns-3 c = record {
       (c .before .before .before .before .before .before .before .before .before .args .rows .now) (c .before .before .before .before
       .before .before .before .before .before .args .marks .now) (c .before .before .before .before .before .before .before .before .before
       .args .count) i (c .before .before .before .before .before .before .before .before .before .pre) (known (c .before .before .before))
-      (omega (arith, e, c .before .before .before .before .index .ensures .0, c .before .before .if2 .left)) (omega (
+      (omega (arith, e, c .before .before .before .before .byte .ensures .0, c .before .before .if2 .left)) (omega (
         arith,
         c .before
             .number-at .ensures .0,
@@ -117,7 +118,7 @@ returns-4 c = record {
       .before .before .before)) (omega (
         arith,
         e,
-        c .before .before .before .before .before .before .before .index .ensures .0,
+        c .before .before .before .before .before .before .before .byte .ensures .0,
         c .before
             .before .before .before .before .if2 .left,
       )) (there (c .before .before .before)) (row-kind (c .before) ∙ c .if4 .taken);
@@ -141,7 +142,7 @@ returns-5 c = record {
         arith,
         e,
         c
-            .before .before .before .before .before .before .before .before .before .index .ensures .0,
+            .before .before .before .before .before .before .before .before .before .byte .ensures .0,
         c .before .before .before .before .before
             .before .before .if2 .left,
       )) (there (c .before .before .before .before .before)) (λ z. c .before .before .if4 .left (sym (row-kind (c
@@ -176,7 +177,7 @@ returns-6 c = record {
         arith,
         e,
         c
-            .before .before .before .before .before .before .before .before .before .before .before .before .index .ensures .0,
+            .before .before .before .before .before .before .before .before .before .before .before .before .byte .ensures .0,
         c .before .before
             .before .before .before .before .before .before .before .before .if2 .left,
       )) (there (c .before .before .before .before .before
@@ -209,7 +210,7 @@ returns-7 c = record {
         arith,
         e,
         c
-            .before .before .before .before .before .before .before .before .before .before .before .before .index .ensures .0,
+            .before .before .before .before .before .before .before .before .before .before .before .before .byte .ensures .0,
         c .before .before
             .before .before .before .before .before .before .before .before .if2 .left,
       )) (there (c .before .before .before .before .before
@@ -219,7 +220,7 @@ returns-7 c = record {
   marks = ap (λ (d : ℕ). set (c .before .before .before .before .before .before .before .before
       .before .before .before .before .before .before .before .before .before .args .marks .now) d (c .before .before .before .before
       .before .before .before .before .before .number-at .result + 1)) (c .before .before .before .before .before .before .before .before
-      .before .before .before .before .index .ensures .0) ∙ ap (λ (j : ℕ). set (c .before .before .before .before .before .before .before
+      .before .before .before .before .byte .ensures .0) ∙ ap (λ (j : ℕ). set (c .before .before .before .before .before .before .before
       .before .before .before .before .before .before .before .before .before .before .args .marks .now) (getD (c .before .before .before
       .before .before .before .before .before .before .before .before .before .before .before .before .before .before .args .s .now) 1 0)
       (j + 1)) (c .before .before .before .before .before .before .before .before .before .number-at .ensures .0);
@@ -228,7 +229,7 @@ returns-7 c = record {
   order = λ z. omega (
     arith,
     c .before
-        .before .before .before .before .before .before .before .before .before .before .before .index .ensures .0,
+        .before .before .before .before .before .before .before .before .before .before .before .byte .ensures .0,
     c .before .before .before
         .before .before .before .before .before .before .before .if2 .left,
   );
@@ -238,8 +239,8 @@ pub mark-spec : {M : Type 1} → statement M
 mark-spec =
     tie.close
     (tie.spec
-    shared-slice-read-index
-    index-requires
+    shared-slice-read-byte
+    byte-requires
     returns
     returns-2
     number-at-requires

@@ -1,3 +1,4 @@
+-- `read::read_record` refuses the record at the front or takes it into the table: the kind, then room, length, fields and links.
 use Rattle.plan.proofs.ReadLaws.{mark-record, row-record}
 use Rattle.model.specs.Table
 use Rattle.plan.proofs.ReadLaws.{refused, record-low, record-high, record-mark-short, record-size}
@@ -56,11 +57,11 @@ mark-requires c κs = record {
   documents = c .before .before .before .before .before .before .before .before .before .before .pre .held .documents;
 }
 
-shared-slice-read-index : tie.Need-shared-slice-read-index
-shared-slice-read-index c = search needs
+shared-slice-read-byte : tie.Need-shared-slice-read-byte
+shared-slice-read-byte c = search needs
 
-index-requires : tie.Need-index-requires
-index-requires c κs = search needs
+byte-requires : tie.Need-byte-requires
+byte-requires c κs = search needs
 
 add-t13 : tie.Need-add-t13
 add-t13 c = search needs
@@ -83,8 +84,8 @@ returns-4 c = mark-record (c .before .before .before .before .before .before .be
       c .before .before .before .before .before .before
           .before .if4 .left,
     )) (c .before .before .before .before .before .before .before .before .if3 .taken) (c .before .before .before
-    .before .mark .last .1 .1 .0) (c .before .before .before .before .mark .result) (c .index .result) (c .before .before .before .before
-    .mark .ensures) (c .index .ensures .0)
+    .before .mark .last .1 .1 .0) (c .before .before .before .before .mark .result) (c .byte .result) (c .before .before .before .before
+    .mark .ensures) (c .byte .ensures .0)
 
 returns-5 : tie.Need-returns-5
 returns-5 c = record {
@@ -163,8 +164,8 @@ read-record-spec =
     returns-2
     returns-3
     mark-requires
-    shared-slice-read-index
-    index-requires
+    shared-slice-read-byte
+    byte-requires
     add-t13
     same-length
     same-length-2

@@ -1,3 +1,4 @@
+-- `read::row` refuses the row at the front or adds it to the table, by one law of ReadLaws for each way out.
 use Rattle.plan.proofs.ReadLaws.{refused}
 use mathlib.Core.List.{List}
 use Rattle.plan.specs.Reading.{lastOf}

@@ -1,3 +1,4 @@
+-- `write::fitting` writes a table that fits at the area's start, or refuses with 11 where that is too short.
 use mathlib.Core.Path.{_≡_, _∙_, sym, ap}
 use mathlib.Core.List.{map}
 use Prim.Native.Nat.{_*_, _≤_}

@@ -1,3 +1,4 @@
+-- `write::mark` puts a mark's record over the area, and nothing where there is no mark.
 use Rattle.plan.proofs.WriteLaws.{mark-none, mark-some}
 use Rattle.model.proofs.ListLaws.{over-nil}
 use Rattle.model.specs.Base.{over}
@@ -5,7 +6,7 @@ use Rattle.model.specs.Stored.{wordBytes}
 use lib.ListN.{length}
 use mathlib.Core.List.{List, _∷_}
 use mathlib.Core.Path.{_∙_, sym, ap}
-use Prim.Native.Nat.{ℕ, _-_}
+use Prim.Native.Nat.{ℕ}
 use native.Mathlib.Omega.{arith}
 use borrow.Author.Needs.{needs}
 use Rattle.plan.proofs.write.mark.Statement.{statement}
@@ -16,11 +17,11 @@ returns c = sym (ap (λ (b : List ℕ). over (c .before .before .args .at) b (c 
     .before .args .document) (c .before .before .args .link) (c .if1 .taken)) ∙ over-nil (c .before .before .args .at) (c .before .before
     .args .out .now))
 
-sub-number : tie.Need-sub-number
-sub-number c = search needs
+sub-index : tie.Need-sub-index
+sub-index c = search needs
 
-number-requires : tie.Need-number-requires
-number-requires c κs = search needs
+index-requires : tie.Need-index-requires
+index-requires c κs = search needs
 
 put-requires : tie.Need-put-requires
 put-requires c κs = (
@@ -30,7 +31,7 @@ put-requires c κs = (
         .before .args .link) (c .before .before .if1 .left)),
     c .before .before .before .before .pre,
   ),
-  c .number .ensures .1,
+  c .index .ensures .1,
 )
 
 same-length : tie.Need-same-length
@@ -39,11 +40,11 @@ same-length c = search needs
 returns-2 : tie.Need-returns-2
 returns-2 c = c .before .before .put .ensures ∙ ap (λ (n : ℕ). over (c .before .before .before .before .before .before .before .args .at)
     (19 ∷ c .before .before .before .before .before .before .before .args .document ∷ wordBytes n) (c .before .before .before .before
-    .before .before .before .args .out .now)) (c .before .before .before .number .ensures .0) ∙ sym (ap (λ (b : List ℕ). over (c .before
+    .before .before .before .args .out .now)) (c .before .before .before .index .ensures .0) ∙ sym (ap (λ (b : List ℕ). over (c .before
     .before .before .before .before .before .before .args .at) b (c .before .before .before .before .before .before .before .args .out
     .now)) (mark-some (c .before .before .before .before .before .before .before .args .document) (c .before .before .before .before
     .before .before .before .args .link) (c .before .before .before .before .before .if1 .left)))
 
 pub mark-spec : {M : Type 1} → statement M
 mark-spec =
-    tie.close (tie.spec returns sub-number number-requires put-requires same-length returns-2)
+    tie.close (tie.spec returns sub-index index-requires put-requires same-length returns-2)

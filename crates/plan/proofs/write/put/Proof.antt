@@ -1,3 +1,4 @@
+-- `write::put` puts a record over the area, byte by byte.
 use Rattle.plan.proofs.WriteLaws.{put-four}
 use lib.ListN.{length-set}
 use Prim.Native.Nat.{_/_, _%_}

@@ -1,3 +1,4 @@
+-- `write::row` puts a row's record over the area.
 use Rattle.plan.proofs.WriteLaws.{row-leaf, row-element, row-bytes}
 use Rattle.model.specs.Base.{over}
 use Rattle.table.specs.Words.{linked}

@@ -1,3 +1,4 @@
+-- `write::rows` puts the rows over the area. The loop's invariant: those passed stand there.
 use Rattle.plan.proofs.WriteLaws.{rows-start, rows-grown, rows-all}
 use Rattle.model.specs.Base.{over}
 use Rattle.table.specs.Words.{rowOf, rowsOf}

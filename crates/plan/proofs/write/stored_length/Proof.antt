@@ -1,3 +1,4 @@
+-- `write::stored_length` is the length of the stored form. The loop's invariant: the marks passed are counted.
 use Rattle.plan.proofs.WriteLaws.{mark-small}
 use Rattle.plan.proofs.WriteLaws.{length-marks, marks-start}
 use Rattle.table.specs.Words.{linked}

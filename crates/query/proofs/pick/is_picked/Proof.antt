@@ -1,25 +1,31 @@
-use Prim.Native.Nat.{_%_}
+-- `pick::is_picked` keeps a leaf whose value stands in the relation.
 use Rattle.model.specs.Step.{relates}
 use borrow.Author.Tests.{ne-eqb}
-use Prim.Native.Nat.{ℕ, _/_}
-use mathlib.Core.Path.{_≡_, _∙_, ap}
+use Prim.Native.Nat.{_%_}
+use mathlib.Core.Path.{_≡_, _∙_, sym, ap}
 use borrow.Author.Needs.{needs}
+use native.Mathlib.Omega.{arith}
 use Rattle.query.proofs.pick.is_picked.Statement.{statement}
 use Rattle.query.proofs.pick.is_picked.Tie as tie
 
-returns : tie.Need-returns
-returns c = rw (ne-eqb (c .before .args .w % 4) 2 (c .if1 .taken))
+kind-requires : tie.Need-kind-requires
+kind-requires c κs = search needs
 
-byte-requires : tie.Need-byte-requires
-byte-requires c κs = search needs
+returns : tie.Need-returns
+returns c = rw (ne-eqb (c .before .before .args .w % 4) 2 (λ q. c .if1 .taken (c .before .kind .ensures ∙ q)))
+
+tag-requires : tie.Need-tag-requires
+tag-requires c κs = search needs
 
 is-related-requires : tie.Need-is-related-requires
-is-related-requires c κs = search needs
+is-related-requires c κs = let f = c .before .before .before .fits in (omega (arith, f .constant), omega (arith, f .w, c .tag .ensures))
 
 returns-2 : tie.Need-returns-2
-returns-2 c = let h : c .before .before .before .args .w % 4 ≡ 2 = search (c .before .before .if1 .left, needs) in rw h (c .is-related
-    .ensures ∙ ap (λ (a : ℕ). relates (c .before .before .before .args .relation) a (c .before .before .before .args .w / 4096)) (c
-    .before .byte .ensures .0))
+returns-2 c =
+    let a = c .before .before .before .before .args in
+    let h : a .w % 4 ≡ 2 = sym (c .before .before .before .kind .ensures) ∙ search (c .before .before .if1 .left, needs) in
+    rw h (c .is-related .ensures ∙ ap (relates (a .relation) (a .constant)) (c .before .tag .ensures))
 
 pub is-picked-spec : {M : Type 1} → statement M
-is-picked-spec = tie.close (tie.spec returns byte-requires is-related-requires returns-2)
+is-picked-spec =
+    tie.close (tie.spec kind-requires returns tag-requires is-related-requires returns-2)

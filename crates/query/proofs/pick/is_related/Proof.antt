@@ -1,3 +1,4 @@
+-- `pick::is_related` is the model's relation of two signed bytes.
 use Rattle.model.specs.Step.{signedKey}
 use borrow.Author.Tests.{ne-eqb}
 use lib.Dec.{ltb}

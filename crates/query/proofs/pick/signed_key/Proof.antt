@@ -1,3 +1,4 @@
+-- `pick::signed_key` is the model's rank of a signed byte.
 use borrow.Author.Tests.{lt-ltb, le-ltb}
 use native.Mathlib.Omega.{arith}
 use borrow.Author.Needs.{needs}

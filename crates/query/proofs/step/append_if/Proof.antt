@@ -1,3 +1,4 @@
+-- `step::append_if` appends an item to a value where it is to be kept.
 use Rattle.model.proofs.BoolLaws.{pick-true, pick-false}
 use borrow.Author.Tests.{not-true, not-false}
 use lib.ListN.{set}

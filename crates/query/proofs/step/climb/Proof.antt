@@ -1,3 +1,4 @@
+-- `step::climb` flags the rows above the items. The loop's invariant is `Climbing`.
 use Rattle.query.proofs.PassLaws.{link-low, climbing-none, climbing-next, climbed-all}
 use Rattle.query.specs.Stepping.{Climbing}
 use lib.ListN.{length}

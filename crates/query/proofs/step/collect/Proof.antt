@@ -1,3 +1,4 @@
+-- `step::collect` appends the rows kept. The loop's invariant: those passed are appended.
 use Rattle.query.proofs.ValueLaws.{length-collect, collected-none, collected-by}
 use Rattle.query.specs.Values.{Appended, kept, keptRows}
 use lib.ListN.{length, getD}

@@ -1,3 +1,4 @@
+-- `step::counts`: the row is an item, or the axis is deep and the row is reached.
 use borrow.Author.Tests.{eq-eqb, ne-eqb}
 use borrow.Author.Needs.{needs}
 use Rattle.query.proofs.step.counts.Statement.{statement}

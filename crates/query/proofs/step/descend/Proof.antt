@@ -1,3 +1,4 @@
+-- `step::descend` flags the rows below the items. The loop's invariant is `Descending`.
 use Rattle.query.proofs.PassLaws.{link-low, descending-none, descending-next, descended-all}
 use Rattle.query.specs.Stepping.{Descending}
 use lib.ListN.{length}

@@ -1,3 +1,4 @@
+-- `step::descend_one` flags a row where its parent counts.
 use Rattle.query.specs.Stepping.{counted}
 use Rattle.model.proofs.BoolLaws.{pick-true, pick-false}
 use borrow.Author.Tests.{not-true, not-false}

@@ -1,3 +1,4 @@
+-- `step::flag` flags the items of a value. The loop's invariant: the flags are those of the items passed.
 use Rattle.query.proofs.StepLaws.{flagged-none, flagged-next, flagged-all}
 use Rattle.query.specs.Stepping.{Flagged}
 use lib.ListN.{length, take, set}

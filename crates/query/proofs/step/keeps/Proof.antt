@@ -1,3 +1,4 @@
+-- `step::keeps`: the row is reached and passes the test.
 use borrow.Author.Tests.{eq-eqb, ne-eqb}
 use borrow.Author.Needs.{needs}
 use Rattle.query.proofs.step.keeps.Statement.{statement}

@@ -1,3 +1,4 @@
+-- `step::passes` tests a row by its letter: a leaf, or an element with its name.
 use Rattle.query.proofs.StepLaws.{pass-any, pass-leaf, pass-element, pass-no-leaf, pass-named}
 use lib.ListN.{getD}
 use lib.Dec.{eqb}
@@ -16,48 +17,55 @@ mul-w c = search needs
 shared-slice-read-w : tie.Need-shared-slice-read-w
 shared-slice-read-w c = search needs
 
-same : (c : tie.After-index) → getD (c .before .before .args .rows .now) (c .before .before .args .row .0) 0 ≡ getD (c .before .before
-    .args .rows .now) (c .index .result) 0
+same : (c : tie.After-index) → let a = c .before .before .args in
+    getD (a .rows .now) (a .row .0) 0 ≡ getD (a .rows .now) (c .index .result) 0
 same c = ap (λ (j : ℕ). getD (c .before .before .args .rows .now) j 0) (sym (c .index .ensures .0))
 
+kind-is : (c : tie.After-kind) → let a = c .before .before .before .before .before .args in
+    c .kind .result ≡ getD (a .rows .now) (a .row .0) 0 % 4
+kind-is c = c .kind .ensures ∙ ap (λ (j : ℕ). j % 4) (sym (same (c .before .before .before)))
+
 returns : tie.Need-returns
-returns c = sym (pass-any (getD (c .before .before .before .before .args .rows .now) (c .before .before .before .before .args .row .0) 0)
-    (c .before .before .before .before .args .test) (c .before .before .before .before .args .name .0) (c .if1 .taken))
+returns c = let a = c .before .before .before .before .args in
+    sym (pass-any (getD (a .rows .now) (a .row .0) 0) (a .test) (a .name .0) (c .if1 .taken))
+
+kind-requires : tie.Need-kind-requires
+kind-requires c κs = search needs
 
 returns-2 : tie.Need-returns-2
-returns-2 c = sym (pass-leaf (getD (c .before .before .before .before .before .args .rows .now) (c .before .before .before .before
-    .before .args .row .0) 0) (c .before .before .before .before .before .args .test) (c .before .before .before .before .before .args
-    .name .0) (c .before .if1 .left) (ap (λ (j : ℕ). j % 4) (same (c .before .before .before)) ∙ c .if2 .taken))
+returns-2 c =
+    let a = c .before .before .before .before .before .before .args in
+    sym (pass-leaf (getD (a .rows .now) (a .row .0) 0) (a .test) (a .name .0) (c .before .before .if1 .left)
+    (sym (kind-is (c .before)) ∙ c .if2 .taken))
 
 returns-3 : tie.Need-returns-3
-returns-3 c = sym (pass-element (getD (c .before .before .before .before .before .before .args .rows .now) (c .before .before .before
-    .before .before .before .args .row .0) 0) (c .before .before .before .before .before .before .args .test) (c .before .before .before
-    .before .before .before .args .name .0) (c .before .before .if1 .left) (λ q. c .before .if2 .left (ap (λ (j : ℕ). j % 4) (sym (same
-    (c .before .before .before .before))) ∙ q)) (c .if3 .taken))
+returns-3 c =
+    let a = c .before .before .before .before .before .before .before .args in
+    sym (pass-element (getD (a .rows .now) (a .row .0) 0) (a .test) (a .name .0) (c .before .before .before .if1 .left)
+    (λ q. c .before .if2 .left (kind-is (c .before .before) ∙ q)) (c .if3 .taken))
 
 returns-4 : tie.Need-returns-4
-returns-4 c = sym (pass-no-leaf (getD (c .before .before .before .before .before .before .before .args .rows .now) (c .before .before
-    .before .before .before .before .before .args .row .0) 0) (c .before .before .before .before .before .before .before .args .test) (c
-    .before .before .before .before .before .before .before .args .name .0) (c .before .before .before .if1 .left) (λ q. c .before
-    .before .if2 .left (ap (λ (j : ℕ). j % 4) (sym (same (c .before .before .before .before .before))) ∙ q)) (c .before .if3 .left) (c
-    .if4 .taken))
+returns-4 c =
+    let a = c .before .before .before .before .before .before .before .before .args in
+    sym (pass-no-leaf (getD (a .rows .now) (a .row .0) 0) (a .test) (a .name .0) (c .before .before .before .before .if1 .left)
+    (λ q. c .before .before .if2 .left (kind-is (c .before .before .before) ∙ q)) (c .before .if3 .left) (c .if4 .taken))
 
-name-of-requires : tie.Need-name-of-requires
-name-of-requires c κs = search needs
+tag-requires : tie.Need-tag-requires
+tag-requires c κs = search needs
 
-wide-requires : tie.Need-wide-requires
-wide-requires c κs = search needs
+cast-result : tie.Need-cast-result
+cast-result c = search needs
 
 returns-5 : tie.Need-returns-5
-returns-5 c = ap (λ (j : ℕ). eqb j (c .wide .result)) (c .before .name-of .ensures ∙ ap (λ (j : ℕ). j / 4096) (sym (same (c .before
-    .before .before .before .before .before .before)))) ∙ ap (eqb (getD (c .before .before .before .before .before .before .before
-    .before .before .args .rows .now) (c .before .before .before .before .before .before .before .before .before .args .row .0) 0 /
-    4096)) (c .wide .ensures) ∙ sym (pass-named (getD (c .before .before .before .before .before .before .before .before .before .args
-    .rows .now) (c .before .before .before .before .before .before .before .before .before .args .row .0) 0) (c .before .before .before
-    .before .before .before .before .before .before .args .test) (c .before .before .before .before .before .before .before .before
-    .before .args .name .0) (c .before .before .before .before .before .if1 .left) (λ q. c .before .before .before .before .if2 .left (ap
-    (λ (j : ℕ). j % 4) (sym (same (c .before .before .before .before .before .before .before))) ∙ q)) (c .before .before .before .if3
-    .left) (c .before .before .if4 .left))
+returns-5 c =
+    let a = c .before .before .before .before .before .before .before .before .before .before .args in
+    let w = getD (a .rows .now) (a .row .0) 0 in
+    let here = same (c .before .before .before .before .before .before .before .before) in
+    let kind = kind-is (c .before .before .before .before .before) in
+    ap (λ (j : ℕ). eqb j (a .name .0)) (c .before .tag .ensures ∙ ap (λ (j : ℕ). j / 4096) (sym here)) ∙
+    sym (pass-named w (a .test) (a .name .0) (c .before .before .before .before .before .before .if1 .left) (λ q.
+    c .before .before .before .before .if2 .left (kind ∙ q))
+    (c .before .before .before .if3 .left) (c .before .before .if4 .left))
 
 pub passes-spec : {M : Type 1} → statement M
 passes-spec =
@@ -67,9 +75,10 @@ passes-spec =
     mul-w
     shared-slice-read-w
     returns
+    kind-requires
     returns-2
     returns-3
     returns-4
-    name-of-requires
-    wide-requires
+    tag-requires
+    cast-result
     returns-5)

@@ -1,3 +1,4 @@
+-- `step::reach` flags what each of the four axes reaches.
 use Rattle.query.specs.Stepping.{Reached}
 use Prim.Native.Nat.{ℕ}
 use mathlib.Core.Path.{_≡_, sym, subst}

@@ -1,3 +1,4 @@
+-- `step::stepped` leaves the model's step from a value where the value stood.
 use Rattle.query.proofs.ValueLaws.{step-rows}
 use Rattle.query.specs.Values.{Appended, valueAt}
 use lib.Seq.{length-take-le}

@@ -15,7 +15,7 @@ use Rattle.script.proofs.read.+expression.Lts-expression as expression-
 use Rattle.script.proofs.kinds.arity.Reads as arity-reads
 use Rattle.script.proofs.kinds.body_size.Reads as body-size-reads
 use Rattle.script.proofs.read.head.Reads as head-reads
-use Rattle.script.proofs.read.inner.Reads as inner-reads
+use Rattle.script.proofs.kinds.inner.Reads as inner-reads
 use Rattle.script.proofs.read.+expression.{statement}
 use Rattle.script.proofs.read.+expression.Tie.{close}
 
@@ -136,7 +136,7 @@ expression-sub-expression-2 t c = record-fits (headed-at t (c .before .before .b
 
 expression-inner-requires : (t : ℕ) → expression-lts.Need-inner-requires (expression-claims t) (expression-at t) expression.Post
 expression-inner-requires t c κs =
-    let h = headed-at t (c .before .before .before .before .before .before .before .before) in record { room = record-fits h .scope }
+    let h = headed-at t (c .before .before .before .before .before .before .before .before) in λ b. omega (arith, record-fits h .scope b)
 
 expression-expression-requires-2 : (t : ℕ) →
     expression-lts.Need-expression-requires-2 (expression-claims t) (expression-at t) expression.Post

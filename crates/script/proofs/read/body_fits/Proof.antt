@@ -9,23 +9,23 @@ use Rattle.script.proofs.read.body_fits.Tie as tie
 shared-slice-read-kind : tie.Need-shared-slice-read-kind
 shared-slice-read-kind c = omega arith
 
-shared-slice-read-index : tie.Need-shared-slice-read-index
-shared-slice-read-index c = body-whole (c .before .before .before .before .pre) (c .before .if1 .taken) 1 (omega arith)
+shared-slice-read-byte : tie.Need-shared-slice-read-byte
+shared-slice-read-byte c = body-whole (c .before .before .before .before .pre) (c .before .if1 .taken) 1 (omega arith)
 
-index-requires : tie.Need-index-requires
-index-requires c κs = search needs
+byte-requires : tie.Need-byte-requires
+byte-requires c κs = search needs
 
 returns : tie.Need-returns
-returns c = body-document (c .before .before .if1 .taken) (c .index .ensures)
+returns c = body-document (c .before .before .if1 .taken) (c .byte .ensures .0)
 
-shared-slice-read-index-2 : tie.Need-shared-slice-read-index-2
-shared-slice-read-index-2 c = body-whole (c .before .before .before .before .before .pre) (c .before .if2 .taken) 1 (omega arith)
+shared-slice-read-byte-2 : tie.Need-shared-slice-read-byte-2
+shared-slice-read-byte-2 c = body-whole (c .before .before .before .before .before .pre) (c .before .if2 .taken) 1 (omega arith)
 
-index-requires-2 : tie.Need-index-requires-2
-index-requires-2 c κs = search needs
+byte-requires-2 : tie.Need-byte-requires-2
+byte-requires-2 c κs = search needs
 
 returns-2 : tie.Need-returns-2
-returns-2 c = body-variable (c .before .before .if2 .taken) (c .index2 .ensures)
+returns-2 c = body-variable (c .before .before .if2 .taken) (c .byte2 .ensures .0)
 
 shared-slice-read-if4 : tie.Need-shared-slice-read-if4
 shared-slice-read-if4 c = body-whole (c .before .before .before .before .before .before .pre) (c .before .if3 .taken) 1 (omega arith)
@@ -73,11 +73,11 @@ body-fits-spec =
     tie.close
     (tie.spec
     shared-slice-read-kind
-    shared-slice-read-index
-    index-requires
+    shared-slice-read-byte
+    byte-requires
     returns
-    shared-slice-read-index-2
-    index-requires-2
+    shared-slice-read-byte-2
+    byte-requires-2
     returns-2
     shared-slice-read-if4
     returns-3

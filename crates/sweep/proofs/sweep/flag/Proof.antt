@@ -1,3 +1,4 @@
+-- `sweep::flag` flags the marked rows. The loop's invariant: the flags are those of the marks passed.
 use Rattle.sweep.proofs.FlagLaws.{flagged-none, flagged-next, flagged-all}
 use Rattle.sweep.specs.Sweeping.{Flagged}
 use lib.ListN.{length, take}

@@ -1,3 +1,4 @@
+-- `sweep::flag_one` sets the flag of one link, and none for link 0.
 use Rattle.model.proofs.BoolLaws.{pick-true, pick-false}
 use borrow.Author.Tests.{eq-eqb, ne-eqb}
 use lib.ListN.{set}
@@ -14,7 +15,7 @@ index-requires c κs = search needs
 returns : tie.Need-returns
 returns c = sym (pick-true (eqb (c .before .before .before .args .link) 0) (c .before .before .before .args .numbers .now) (set (c
     .before .before .before .args .numbers .now) (c .before .before .before .args .link) 1) (eq-eqb (c .before .before .before .args
-    .link) 0 (sym (c .before .index .ensures) ∙ c .if1 .taken)))
+    .link) 0 (sym (c .before .index .ensures .0) ∙ c .if1 .taken)))
 
 mul-numbers : tie.Need-mul-numbers
 mul-numbers c = search needs
@@ -26,10 +27,10 @@ same-length : tie.Need-same-length
 same-length c = search needs
 
 returns-2 : tie.Need-returns-2
-returns-2 c = ap (λ (j : ℕ). set (c .before .before .before .args .numbers .now) j 1) (c .before .index .ensures) ∙ sym (pick-false (eqb
+returns-2 c = ap (λ (j : ℕ). set (c .before .before .before .args .numbers .now) j 1) (c .before .index .ensures .0) ∙ sym (pick-false (eqb
     (c .before .before .before .args .link) 0) (c .before .before .before .args .numbers .now) (set (c .before .before .before .args
     .numbers .now) (c .before .before .before .args .link) 1) (ne-eqb (c .before .before .before .args .link) 0 (λ q. c .if1 .left (c
-    .before .index .ensures ∙ q))))
+    .before .index .ensures .0 ∙ q))))
 
 pub flag-one-spec : {M : Type 1} → statement M
 flag-one-spec =

@@ -1,3 +1,4 @@
+-- `sweep::is_kept`: the row is marked, or its parent is kept.
 use borrow.Author.Tests.{eq-eqb, ne-eqb}
 use borrow.Author.Needs.{needs}
 use Rattle.sweep.proofs.sweep.is_kept.Statement.{statement}

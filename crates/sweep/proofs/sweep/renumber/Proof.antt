@@ -1,3 +1,4 @@
+-- `sweep::renumber` gives each mark its new link. The loop's invariant: the marks passed have theirs.
 use lib.ListN.{length-set}
 use Prim.Native.Nat.{_<_}
 use Rattle.sweep.proofs.SweepLaws.{links-next, links-at, links-end}
@@ -5,7 +6,7 @@ use Rattle.sweep.specs.Sweeping.{newLinks}
 use lib.ListN.{length, getD, take, drop, set}
 use mathlib.Core.List.{List, _++_}
 use mathlib.Core.Path.{_≡_, refl, _∙_, ap}
-use Prim.Native.Nat.{ℕ, _≤_, _-_, _+_}
+use Prim.Native.Nat.{ℕ, _≤_, _-_}
 use native.Mathlib.Omega.{arith}
 use borrow.Author.Needs.{needs}
 use Rattle.sweep.proofs.sweep.renumber.Statement.{statement}
@@ -33,7 +34,7 @@ index-requires c κs = search needs
 link-here : (c : tie.After-index Inv-loop μ-loop) → c .index .result ≡ getD (c .before .before .before .before .before .before .args
     .marks .now) (c .before .before .before .loop .d) 0
 link-here c =
-    c .index .ensures ∙ ap (λ (l : List ℕ). getD l (c .before .before .before .loop .d) 0) (c .before .before .before .loop .inv .1) ∙
+    c .index .ensures .0 ∙ ap (λ (l : List ℕ). getD l (c .before .before .before .loop .d) 0) (c .before .before .before .loop .inv .1) ∙
     links-at (c .before .before .before .before .before .before .args .numbers .now) (c .before .before .before .before .before .before
     .args .marks .now) (c .before .before .before .loop .d) (omega (
       arith,

@@ -1,9 +1,10 @@
+-- `sweep::row` takes the next number for a row that is kept, and leaves the others out.
 use Rattle.model.proofs.BoolLaws.{pick-true, pick-false}
 use Rattle.sweep.specs.Sweeping.{keeps, keepsRow, newWord}
 use borrow.Author.Tests.{not-true, not-false}
 use lib.ListN.{getD, set}
 use mathlib.Core.Path.{_≡_, _∙_, sym, ap}
-use Prim.Native.Nat.{ℕ, _-_, _+_, _/_, _%_}
+use Prim.Native.Nat.{ℕ, _+_, _/_, _%_}
 use native.Mathlib.Omega.{arith}
 use borrow.Author.Needs.{needs}
 use Rattle.sweep.proofs.sweep.row.Statement.{statement}
@@ -30,33 +31,23 @@ slice-read-is-kept c = search needs
 is-kept-requires : tie.Need-is-kept-requires
 is-kept-requires c κs = search needs
 
-kept : (c : tie.After-is-kept) → keepsRow (c .before .before .before .before .before .before .args .w) (c .before .before .before .before
-    .before .before .args .i) (c .before .before .before .before .before .before .args .numbers .now) ≡ c .is-kept .result
+kept : (c : tie.After-is-kept) → let a = c .before .before .before .before .before .before .args in
+    keepsRow (a .w) (a .i) (a .numbers .now) ≡ c .is-kept .result
 kept c =
-    sym (c .is-kept .ensures ∙ ap (λ (j : ℕ). keeps (getD (c .before .before .before .before .before .before .args .numbers .now) (c
-    .before .before .before .before .before .before .args .i + 1) 0) (getD (c .before .before .before .before .before .before .args
-    .numbers .now) j 0)) (c .before .before .before .link .ensures))
+    let a = c .before .before .before .before .before .before .args in
+    sym (c .is-kept .ensures ∙ ap (λ (j : ℕ). keeps (getD (a .numbers .now) (a .i + 1) 0) (getD (a .numbers .now) j 0))
+    (c .before .before .before .link .ensures))
 
 returns : tie.Need-returns
-returns c = record {
-  numbers = sym (pick-false (keepsRow (c .before .before .before .before .before .before .before .args .w) (c .before
-      .before .before .before .before .before .before .args .i) (c .before .before .before .before .before .before .before .args .numbers
-      .now)) (set (c .before .before .before .before .before .before .before .args .numbers .now) (c .before .before .before .before
-      .before .before .before .args .i + 1) (c .before .before .before .before .before .before .before .args .next + 1)) (c .before .before
-      .before .before .before .before .before .args .numbers .now) (kept (c .before) ∙ not-true (c .before .is-kept .result) (c .if1
-      .taken)));
-  rows = sym (pick-false (keepsRow (c .before .before .before .before .before .before .before .args .w) (c .before .before
-      .before .before .before .before .before .args .i) (c .before .before .before .before .before .before .before .args .numbers .now))
-      (set (c .before .before .before .before .before .before .before .args .out .now) (c .before .before .before .before .before .before
-      .before .args .next) (newWord (c .before .before .before .before .before .before .before .args .w) (c .before .before .before .before
-      .before .before .before .args .numbers .now))) (c .before .before .before .before .before .before .before .args .out .now) (kept (c
-      .before) ∙ not-true (c .before .is-kept .result) (c .if1 .taken)));
-  result = sym (pick-false (keepsRow (c .before .before .before
-      .before .before .before .before .args .w) (c .before .before .before .before .before .before .before .args .i) (c .before .before
-      .before .before .before .before .before .args .numbers .now)) (c .before .before .before .before .before .before .before .args .next
-      + 1) (c .before .before .before .before .before .before .before .args .next) (kept (c .before) ∙ not-true (c .before .is-kept
-      .result) (c .if1 .taken)));
-}
+returns c =
+    let a = c .before .before .before .before .before .before .before .args in
+    let t = keepsRow (a .w) (a .i) (a .numbers .now) in
+    let e = kept (c .before) ∙ not-true (c .before .is-kept .result) (c .if1 .taken) in
+    record {
+      numbers = sym (pick-false t (set (a .numbers .now) (a .i + 1) (a .next + 1)) (a .numbers .now) e);
+      rows = sym (pick-false t (set (a .out .now) (a .next) (newWord (a .w) (a .numbers .now))) (a .out .now) e);
+      result = sym (pick-false t (a .next + 1) (a .next) e);
+    }
 
 add-numbers : tie.Need-add-numbers
 add-numbers c = search needs
@@ -76,33 +67,24 @@ slice-write-numbers c = search needs
 kind-requires : tie.Need-kind-requires
 kind-requires c κs = search needs
 
-wide-requires : tie.Need-wide-requires
-wide-requires c κs = search needs
+cast-word : tie.Need-cast-word
+cast-word c = let l = c .before .before .before .before .before .link .result in
+    omega (arith, c .before .before .before .before .slice-known3 .given l)
 
 tag-requires : tie.Need-tag-requires
 tag-requires c κs = search needs
 
 word-requires : tie.Need-word-requires
-word-requires c κs = (
-  omega (arith, c .before .before .kind .ensures),
-  (
-    omega (
-      arith,
-      c .before .wide .ensures,
-      c .before .before .before
-          .before .before .before .before .before .before .before .pre .parent,
-      ap (λ (j : ℕ). getD (c .before .before .before .before .before
-          .before .before .before .before .before .args .numbers .now) j 0) (c .before .before .before .before .before .before .before .link
-          .ensures),
-    ),
-    omega (
-      arith,
-      c .tag .ensures,
-      c .before .before .before .before .before .before .before .before .before .before .pre
-          .word,
-    ),
-  ),
-)
+word-requires c κs =
+    let p = c .before .before .before .before .before .before .before .before .before .pre in
+    let ns = c .before .before .before .before .before .before .before .before .before .args .numbers .now in (
+      omega (arith, c .before .kind .ensures),
+      (
+        omega (arith, p .parent, ap (λ (j : ℕ). getD ns j 0) (c .before .before .before .before .before .before .link .ensures)),
+        omega
+            (arith, c .tag .ensures, p .word),
+      ),
+    )
 
 mul-out : tie.Need-mul-out
 mul-out c = search needs
@@ -119,46 +101,28 @@ same-length c = search needs
 same-length-2 : tie.Need-same-length-2
 same-length-2 c = search needs
 
-built : (c : tie.After-word) → c .word .result ≡ newWord (c .before .before .before .before .before .before .before .before .before
-    .before .before .args .w) (c .before .before .before .before .before .before .before .before .before .before .before .args .numbers
-    .now)
+built : (c : tie.After-word) → let a = c .before .before .before .before .before .before .before .before .before .before .args in
+    c .word .result ≡ newWord (a .w) (a .numbers .now)
 built c =
-    let e : getD (c .before .before .before .before .before .before .before .before .before .before .before .args .numbers .now) (c
-    .before .before .before .before .before .before .before .before .link .result) 0 ≡ getD (c .before .before .before .before
-    .before .before .before .before .before .before .before .args .numbers .now) (c .before .before .before .before .before .before
-    .before .before .before .before .before .args .w / 4 % 1024) 0 =
-    ap (λ (j : ℕ). getD (c .before .before .before .before .before .before .before .before .before .before .before .args .numbers .now) j
-    0) (c .before .before .before .before .before .before .before .before .link .ensures) in
-    omega (arith, c .word .ensures, c .before .before .before .kind .ensures, c .before .before .wide .ensures, c .before .tag .ensures)
+    let a = c .before .before .before .before .before .before .before .before .before .before .args in
+    let e : getD (a .numbers .now) (c .before .before .before .before .before .before .before .link .result) 0 ≡ getD (a .numbers .now)
+    (a .w / 4 % 1024) 0 =
+    ap (λ (j : ℕ). getD (a .numbers .now) j 0) (c .before .before .before .before .before .before .before .link .ensures) in
+    omega (arith, c .word .ensures, c .before .before .kind .ensures, c .before .tag .ensures)
 
 returns-2 : tie.Need-returns-2
-returns-2 c = record {
-  numbers = sym (pick-true (keepsRow (c .before .before .before .before .before .before .before .before .before
-      .before .before .args .w) (c .before .before .before .before .before .before .before .before .before .before .before .args .i) (c
-      .before .before .before .before .before .before .before .before .before .before .before .args .numbers .now)) (set (c .before .before
-      .before .before .before .before .before .before .before .before .before .args .numbers .now) (c .before .before .before .before
-      .before .before .before .before .before .before .before .args .i + 1) (c .before .before .before .before .before .before .before
-      .before .before .before .before .args .next + 1)) (c .before .before .before .before .before .before .before .before .before .before
-      .before .args .numbers .now) (kept (c .before .before .before .before .before) ∙ not-false (c .before .before .before .before .before
-      .is-kept .result) (c .before .before .before .before .if1 .left)));
-  rows = ap (set (c .before .before .before .before .before .before
-      .before .before .before .before .before .args .out .now) (c .before .before .before .before .before .before .before .before .before
-      .before .before .args .next)) (built c) ∙ sym (pick-true (keepsRow (c .before .before .before .before .before .before .before .before
-      .before .before .before .args .w) (c .before .before .before .before .before .before .before .before .before .before .before .args
-      .i) (c .before .before .before .before .before .before .before .before .before .before .before .args .numbers .now)) (set (c .before
-      .before .before .before .before .before .before .before .before .before .before .args .out .now) (c .before .before .before .before
-      .before .before .before .before .before .before .before .args .next) (newWord (c .before .before .before .before .before .before
-      .before .before .before .before .before .args .w) (c .before .before .before .before .before .before .before .before .before .before
-      .before .args .numbers .now))) (c .before .before .before .before .before .before .before .before .before .before .before .args .out
-      .now) (kept (c .before .before .before .before .before) ∙ not-false (c .before .before .before .before .before .is-kept .result) (c
-      .before .before .before .before .if1 .left)));
-  result = sym (pick-true (keepsRow (c .before .before .before .before .before .before
-      .before .before .before .before .before .args .w) (c .before .before .before .before .before .before .before .before .before .before
-      .before .args .i) (c .before .before .before .before .before .before .before .before .before .before .before .args .numbers .now)) (c
-      .before .before .before .before .before .before .before .before .before .before .before .args .next + 1) (c .before .before .before
-      .before .before .before .before .before .before .before .before .args .next) (kept (c .before .before .before .before .before) ∙
-      not-false (c .before .before .before .before .before .is-kept .result) (c .before .before .before .before .if1 .left)));
-}
+returns-2 c =
+    let a = c .before .before .before .before .before .before .before .before .before .before .args in
+    let t = keepsRow (a .w) (a .i) (a .numbers .now) in
+    let e = kept (c .before .before .before .before) ∙ not-false (c .before .before .before .before .is-kept .result)
+    (c .before .before .before .if1 .left) in
+    record {
+      numbers = sym (pick-true t (set (a .numbers .now) (a .i + 1) (a .next + 1)) (a .numbers .now) e);
+      rows =
+          ap (set (a .out .now) (a .next)) (built c) ∙
+          sym (pick-true t (set (a .out .now) (a .next) (newWord (a .w) (a .numbers .now))) (a .out .now) e);
+      result = sym (pick-true t (a .next + 1) (a .next) e);
+    }
 
 pub row-spec : {M : Type 1} → statement M
 row-spec =
@@ -178,7 +142,7 @@ row-spec =
     mul-numbers
     slice-write-numbers
     kind-requires
-    wide-requires
+    cast-word
     tag-requires
     word-requires
     mul-out

@@ -1,3 +1,4 @@
+-- `sweep::rows` keeps and renumbers row by row. The loop's invariant is `Sweeping`.
 use Rattle.sweep.proofs.SweepLaws.{sweeping-none, sweeping-next, next-low, link-low, entry-low}
 use Rattle.table.proofs.FitsLaws.{Fits, fits-at, fits-tag, fits-mark}
 use Rattle.sweep.specs.Sweeping.{Sweeping}

@@ -1,3 +1,4 @@
+-- `fit::fits` is the model's rule: few rows, each fitting, zeros past them, and the marks fitting.
 use Rattle.table.proofs.FitLaws.{parts-fit}
 use Rattle.table.specs.Fitting.{marksFit}
 use Rattle.table.specs.Words.{isZero}
@@ -6,7 +7,6 @@ use lib.ListN.{drop}
 use borrow.Author.Tests.{not-true, not-false, lt-leb}
 use mathlib.Core.Bool.{Bool, _&&_}
 use mathlib.Core.Path.{_∙_, sym, ap}
-use Prim.Native.Nat.{_-_}
 use native.Mathlib.Omega.{arith}
 use borrow.Author.Needs.{needs}
 use Rattle.table.proofs.fit.fits.Statement.{statement}

@@ -1,3 +1,4 @@
+-- `fit::mark_fits`: the mark is none, or an element without parent.
 use lib.ListN.{getD}
 use lib.Dec.{eqb}
 use mathlib.Core.Path.{_≡_, _∙_, sym, ap}
@@ -12,12 +13,12 @@ index-requires : tie.Need-index-requires
 index-requires c κs = search needs
 
 returns : tie.Need-returns
-returns c = let k : c .before .before .before .args .link ≡ 0 = sym (c .before .index .ensures) ∙ c .if1 .taken in rw k
+returns c = let k : c .before .before .before .args .link ≡ 0 = sym (c .before .index .ensures .0) ∙ c .if1 .taken in rw k
 
 returns-2 : tie.Need-returns-2
 returns-2 c = let z : c .before .before .before .before .args .link ≡ 0 → ⊥ = λ q. c .before .if1 .left (c .before .before .index
-    .ensures ∙ q) in let k : c .before .before .before .before .args .count < c .before .before .before .before .args .link = omega
-    (arith, c .before .before .index .ensures, c .if2 .taken) in rw (
+    .ensures .0 ∙ q) in let k : c .before .before .before .before .args .count < c .before .before .before .before .args .link = omega
+    (arith, c .before .before .index .ensures .0, c .if2 .taken) in rw (
       ne-eqb (c .before .before .before .before .args .link) 0 z,
       lt-leb
           (c .before .before .before .before .args .link) (c .before .before .before .before .args .count) k,
@@ -37,16 +38,16 @@ kind-requires c κs = search needs
 
 returns-3 : tie.Need-returns-3
 returns-3 c = let z : c .before .before .before .before .before .before .before .args .link ≡ 0 → ⊥ = λ q. c .before .before .before
-    .before .if1 .left (c .before .before .before .before .before .index .ensures ∙ q) in let k : c .before .before .before .before
+    .before .if1 .left (c .before .before .before .before .before .index .ensures .0 ∙ q) in let k : c .before .before .before .before
     .before .before .before .args .link ≤ c .before .before .before .before .before .before .before .args .count = omega (
       arith,
       c
-          .before .before .before .before .before .index .ensures,
+          .before .before .before .before .before .index .ensures .0,
       c .before .before .before .if2 .left,
     ) in let e : getD (c .before .before
     .before .before .before .before .before .args .rows .now) (c .before .before .before .before .before .before .before .args .link - 1)
     0 % 4 ≡ 2 = ap (λ (j : ℕ). getD (c .before .before .before .before .before .before .before .args .rows .now) (j - 1) 0 % 4) (sym (c
-    .before .before .before .before .before .index .ensures)) ∙ sym (c .before .kind .ensures) ∙ c .if3 .taken in rw (
+    .before .before .before .before .before .index .ensures .0)) ∙ sym (c .before .kind .ensures) ∙ c .if3 .taken in rw (
       ne-eqb (c .before
           .before .before .before .before .before .before .args .link) 0 z,
       le-leb (c .before .before .before .before .before .before .before
@@ -59,17 +60,17 @@ link-requires c κs = search needs
 
 returns-4 : tie.Need-returns-4
 returns-4 c = let z : c .before .before .before .before .before .before .before .before .args .link ≡ 0 → ⊥ = λ q. c .before .before
-    .before .before .before .if1 .left (c .before .before .before .before .before .before .index .ensures ∙ q) in let k : c .before
+    .before .before .before .if1 .left (c .before .before .before .before .before .before .index .ensures .0 ∙ q) in let k : c .before
     .before .before .before .before .before .before .before .args .link ≤ c .before .before .before .before .before .before .before
     .before .args .count = omega (
       arith,
-      c .before .before .before .before .before .before .index .ensures,
+      c .before .before .before .before .before .before .index .ensures .0,
       c .before .before .before
           .before .if2 .left,
     ) in let e : getD (c .before .before .before .before .before .before .before .before .args .rows .now) (c .before
     .before .before .before .before .before .before .before .args .link - 1) 0 % 4 ≡ 2 → ⊥ = λ q. c .before .if3 .left (c .before .before
     .kind .ensures ∙ ap (λ (j : ℕ). getD (c .before .before .before .before .before .before .before .before .args .rows .now) (j - 1) 0 %
-    4) (c .before .before .before .before .before .before .index .ensures) ∙ q) in rw (
+    4) (c .before .before .before .before .before .before .index .ensures .0) ∙ q) in rw (
       ne-eqb (c .before .before .before .before .before
           .before .before .before .args .link) 0 z,
       le-leb (c .before .before .before .before .before .before .before .before .args .link) (c
@@ -79,7 +80,7 @@ returns-4 c = let z : c .before .before .before .before .before .before .before 
           .link - 1)
           0 % 4) 2 e,
     ) (ap (λ (j : ℕ). eqb j 0) (c .link .ensures ∙ ap (λ (j : ℕ). getD (c .before .before .before .before .before .before
-    .before .before .args .rows .now) (j - 1) 0 / 4 % 1024) (c .before .before .before .before .before .before .index .ensures)))
+    .before .before .args .rows .now) (j - 1) 0 / 4 % 1024) (c .before .before .before .before .before .before .index .ensures .0)))
 
 pub mark-fits-spec : {M : Type 1} → statement M
 mark-fits-spec =

@@ -1,3 +1,4 @@
+-- `fit::marks_fit`: every mark fits and none stands again behind it. The loop's invariant: the check from here on decides.
 use Rattle.table.proofs.FitLaws.{marks-turn, marks-end, marks-go, repeated-none, repeated-some}
 use Rattle.table.specs.Fitting.{isRepeated, marksFit}
 use Rattle.table.specs.Words.{linked}

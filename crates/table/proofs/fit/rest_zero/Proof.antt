@@ -1,3 +1,4 @@
+-- `fit::rest_zero`: the words past the count are zero. The loop's invariant: the words from here on decide.
 use Rattle.table.proofs.FitLaws.{all-turn, all-end}
 use Rattle.table.specs.Words.{isZero}
 use Rattle.model.specs.Base.{all}

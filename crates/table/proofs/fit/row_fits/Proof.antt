@@ -1,3 +1,4 @@
+-- `fit::row_fits`: the row's tag and its parent's link fit.
 use mathlib.Core.Bool.{Bool, _&&_}
 use Rattle.table.specs.Fitting.{linkFits}
 use lib.ListN.{getD}

@@ -1,6 +1,7 @@
+-- `fit::tag_fits`: the word holds an element with a name from 1 to 255, or a leaf with a value up to 255.
 use lib.Dec.{ltb, eqb}
 use mathlib.Core.Path.{_∙_, sym, ap}
-use Prim.Native.Nat.{ℕ, _≤_, _<_, _-_, _/_, _%_}
+use Prim.Native.Nat.{ℕ, _≤_, _<_, _/_, _%_}
 use native.Mathlib.Omega.{arith}
 use borrow.Author.Tests.{le-leb, lt-leb, eq-eqb, ne-eqb}
 use borrow.Author.Needs.{needs}

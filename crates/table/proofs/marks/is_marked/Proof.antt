@@ -1,3 +1,4 @@
+-- `marks::is_marked` finds a link among the marks. The loop's invariant: the marks from here on decide.
 use Rattle.table.proofs.DecodeLaws.{marked-turn, marked-none}
 use Rattle.table.specs.Words.{linked}
 use Rattle.model.specs.Table.{isThe}

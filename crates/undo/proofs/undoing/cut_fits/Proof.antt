@@ -1,3 +1,4 @@
+-- `undoing::cut_fits` is the model's test of a cut link's record, by one law of UndoLaws for each way out.
 use Rattle.undo.proofs.UndoLaws.{cut-high, cut-child, cut-marked, cut-none, cut-order, cut-element}
 use Rattle.model.specs.Base.{any}
 use Rattle.model.specs.Table.{isThe}

@@ -1,3 +1,4 @@
+-- `undoing::form` finds the records' places, or the first refusal. The loop's invariant is `Forming`.
 use Rattle.undo.proofs.UndoLaws.{Forming, forming-start, forming-end, forming-refused, forming-few, forming-again}
 use lib.ListN.{length, length-take, length-drop}
 use mathlib.Core.Path.{_≡_, ap}

@@ -1,3 +1,4 @@
+-- `undoing::form_fault` is the refusal of the record at the front: 1, 5, 2, 4.
 use Rattle.undo.proofs.UndoLaws.{form-low, form-high, form-size, form-short, form-field, form-named, form-other}
 use native.Mathlib.Omega.{arith}
 use borrow.Author.Needs.{needs}

@@ -1,3 +1,4 @@
+-- `undoing::made_fits` is the model's test of a made row's record, by one law of UndoLaws for each way out.
 use Rattle.undo.proofs.UndoLaws.{made-last, made-marked, made-kind, made-tag, made-parent}
 use Rattle.model.specs.Base.{any}
 use Rattle.model.specs.Table.{isThe}
@@ -92,7 +93,7 @@ returns-4 c =
     c .before .before .before .before .before .before .before .before .if2 .left) (sym
     (c .before .before .before .before .before .same-kind .ensures) ∙ not-false
     (c .before .before .before .before .before .same-kind .result) (c .before .before .before .before .if3 .left)) (λ q. c .if4 .taken
-    (c .before .before .before .tag .ensures ∙ q ∙ sym (c .before .wide .ensures))))
+    (c .before .before .before .tag .ensures ∙ q ∙ sym (c .before .wide .ensures .0))))
 
 link-requires : tie.Need-link-requires
 link-requires c κs = search needs
@@ -129,7 +130,7 @@ returns-5 c =
     (c .before .before .before .before .before .before .before .before .same-kind .result)
     (c .before .before .before .before .before .before .before .if3 .left)) (sym
     (c .before .before .before .before .before .before .tag .ensures) ∙ search (c .before .before .before .if4 .left, needs) ∙
-    c .before .before .before .before .wide .ensures))
+    c .before .before .before .before .wide .ensures .0))
 
 pub made-fits-spec : {M : Type 1} → statement M
 made-fits-spec =

@@ -1,3 +1,4 @@
+-- `undoing::same_parent`: the link and the number stored for a parent say the same.
 use Rattle.undo.proofs.UndoLaws.{parent-none, parent-some}
 use borrow.Author.Needs.{needs}
 use Rattle.undo.proofs.undoing.same_parent.Statement.{statement}

@@ -1,3 +1,4 @@
+-- `undoing::size` is the length of a history record.
 use borrow.Author.Tests.{eq-eqb, ne-eqb}
 use native.Mathlib.Omega.{arith}
 use Rattle.undo.proofs.undoing.size.Statement.{statement}

@@ -1,3 +1,4 @@
+-- `undoing::undo_all` undoes every record, the last first. The loop's invariant is `Backing`.
 use Rattle.undo.proofs.UndoLawsBack.{Backing, backing-start, backing-end, backing-at, backing-record, backing-refused, backing-again}
 use native.Mathlib.Omega.{arith}
 use borrow.Author.Needs.{needs}
@@ -16,11 +17,11 @@ loop-holds c = backing-start (c .before .before .before .before .pre) (c .before
 sub-k : tie.Need-sub-k Inv-loop μ-loop
 sub-k c = search needs
 
-mul-place : tie.Need-mul-place Inv-loop μ-loop
-mul-place c = search needs
+mul-index : tie.Need-mul-index Inv-loop μ-loop
+mul-index c = search needs
 
-shared-slice-read-place : tie.Need-shared-slice-read-place Inv-loop μ-loop
-shared-slice-read-place c =
+shared-slice-read-index : tie.Need-shared-slice-read-index Inv-loop μ-loop
+shared-slice-read-index c =
     omega (
       arith,
       c .before .before .loop .inv .left,
@@ -28,20 +29,20 @@ shared-slice-read-place c =
       c .before .before .before .before .before .before .before .pre .records,
     )
 
-place-requires : tie.Need-place-requires Inv-loop μ-loop
-place-requires c κs = search needs
+index-requires : tie.Need-index-requires Inv-loop μ-loop
+index-requires c κs = search needs
 
 sub-undo-record : tie.Need-sub-undo-record Inv-loop μ-loop
 sub-undo-record c =
     backing-at (c .before .before .before .before .before .before .before .before .before .pre)
     (c .before .before .before .before .before .before .before .before .before .args .marks .now)
-    (c .before .before .before .before .loop .inv) (c .before .before .before .loop-test .taken) (c .before .place .ensures)
+    (c .before .before .before .before .loop .inv) (c .before .before .before .loop-test .taken) (c .before .index .ensures .0)
 
 part-undo-record-start : tie.Need-part-undo-record-start Inv-loop μ-loop
 part-undo-record-start c =
     backing-at (c .before .before .before .before .before .before .before .before .before .pre)
     (c .before .before .before .before .before .before .before .before .before .args .marks .now)
-    (c .before .before .before .before .loop .inv) (c .before .before .before .loop-test .taken) (c .before .place .ensures)
+    (c .before .before .before .before .loop .inv) (c .before .before .before .loop-test .taken) (c .before .index .ensures .0)
 
 part-undo-record-end : tie.Need-part-undo-record-end Inv-loop μ-loop
 part-undo-record-end c = search needs
@@ -51,7 +52,7 @@ undo-record-requires c κs =
     backing-record (c .before .before .before .before .before .before .before .before .before .before .pre)
     (c .before .before .before .before .before .before .before .before .before .before .args .marks .now)
     (c .before .before .before .before .before .loop .inv) (c .before .before .before .before .loop-test .taken)
-    (c .before .before .place .ensures)
+    (c .before .before .index .ensures .0)
 
 same-length : tie.Need-same-length Inv-loop μ-loop
 same-length c = search needs
@@ -64,7 +65,7 @@ returns c =
     .marks .now)
     (c .before .before .before .before .before .before .before .before .before .before .loop .inv)
     (c .before .before .before .before .before .before .before .before .before .loop-test .taken)
-    (c .before .before .before .before .before .before .before .place .ensures) (c .before .before .before .before .undo-record .ensures)
+    (c .before .before .before .before .before .before .before .index .ensures .0) (c .before .before .before .before .undo-record .ensures)
     (c .if1 .taken)
 
 loop-less : tie.Need-loop-less Inv-loop μ-loop
@@ -78,7 +79,7 @@ loop-again c =
     .marks .now)
     (c .before .before .before .before .before .before .before .before .before .before .loop .inv)
     (c .before .before .before .before .before .before .before .before .before .loop-test .taken)
-    (c .before .before .before .before .before .before .before .place .ensures) (c .before .before .before .before .undo-record .ensures)
+    (c .before .before .before .before .before .before .before .index .ensures .0) (c .before .before .before .before .undo-record .ensures)
     (search (c .if1 .left, needs)) (c .before .before .before .before .undo-record .kept .0)
 
 same-length-2 : tie.Need-same-length-2 Inv-loop μ-loop
@@ -97,9 +98,9 @@ undo-all-spec =
     μ-loop
     loop-holds
     sub-k
-    mul-place
-    shared-slice-read-place
-    place-requires
+    mul-index
+    shared-slice-read-index
+    index-requires
     sub-undo-record
     part-undo-record-start
     part-undo-record-end

@@ -1,3 +1,4 @@
+-- `undoing::undo_record` puts a link back or takes the last row away, where the record fits.
 use Rattle.undo.proofs.UndoLaws.{size-low}
 use Rattle.undo.proofs.UndoLawsBack.{cut-pre, cut-refused, cut-row-low, cut-parent-low, cut-back, made-pre, made-refused, made-some}
 use Rattle.undo.proofs.UndoLawsBack.{made-back}

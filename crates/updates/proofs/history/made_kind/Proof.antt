@@ -1,3 +1,4 @@
+-- `history::made_kind` is the kind of the record of a row made.
 use borrow.Author.Tests.{eq-eqb, ne-eqb}
 use mathlib.Core.Path.{sym, _∙_}
 use Prim.Native.Nat.{_%_}

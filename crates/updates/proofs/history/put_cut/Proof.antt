@@ -1,3 +1,4 @@
+-- `history::put_cut` puts the record of a cut link over the history, byte by byte.
 use Rattle.updates.proofs.HistoryLaws.{put-five}
 use lib.ListN.{length-set}
 use Prim.Native.Nat.{_/_, _%_}

@@ -1,3 +1,4 @@
+-- `history::put_made` puts the record of a row made over the history.
 use Rattle.model.specs.Stored.{parentBytes}
 use Rattle.table.specs.Words.{linked}
 use Rattle.updates.proofs.HistoryLaws.{made-six}

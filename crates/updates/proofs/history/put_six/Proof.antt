@@ -1,3 +1,4 @@
+-- `history::put_six` puts the six bytes of a made row's record over the history.
 use Rattle.updates.proofs.HistoryLaws.{put-six}
 use lib.ListN.{length-set}
 use Prim.Native.Nat.{_/_, _%_}

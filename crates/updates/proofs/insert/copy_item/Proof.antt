@@ -1,3 +1,4 @@
+-- `insert::copy_item` copies an item under the target and then its descendants, by the laws of InsertLawsItems.
 use lib.ListN.{length-set}
 use Rattle.updates.proofs.InsertLawsItems.{item-target, item-pre, item-refused, item-rest, item-done}
 use mathlib.Core.Path.{_∙_}

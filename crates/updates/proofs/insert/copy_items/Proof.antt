@@ -1,4 +1,6 @@
-use Rattle.updates.proofs.InsertLawsItems.{Inserting, inserting-start, inserting-item, inserting-end, inserting-refused, inserting-again}
+-- `insert::copy_items` copies every item. The loop's invariant is `Inserting`.
+use Rattle.updates.proofs.InsertLawsItems.{Inserting, inserting-start, inserting-item, inserting-end}
+use Rattle.updates.proofs.InsertLawsItems.{inserting-refused, inserting-again}
 use lib.ListN.{length}
 use mathlib.Core.Path.{_∙_}
 use Prim.Native.Nat.{_-_}

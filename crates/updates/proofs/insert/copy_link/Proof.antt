@@ -1,3 +1,4 @@
+-- `insert::copy_link` is the link to the parent's copy, 0 where it has none.
 use Rattle.updates.proofs.InsertLawsScan.{link-none, link-low, link-out, link-in}
 use mathlib.Core.Path.{sym, _∙_, ap}
 use Prim.Native.Nat.{ℕ, _+_}

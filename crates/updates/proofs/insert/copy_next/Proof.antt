@@ -1,3 +1,4 @@
+-- `insert::copy_next` copies a row under its parent's copy, if there is one.
 use Rattle.updates.specs.Inserting.{copyLink, nextLink}
 use lib.ListN.{getD}
 use Prim.Native.Nat.{_*_, _/_, _%_}

@@ -1,3 +1,4 @@
+-- `insert::copy_rest` copies the descendants of the top. The loop's invariant is `Copying`.
 use Rattle.updates.proofs.InsertLawsRest.{Copying, copying-start, copying-next, copying-end, copying-refused, copying-again}
 use Prim.Native.Nat.{_-_}
 use native.Mathlib.Omega.{arith}

@@ -1,3 +1,4 @@
+-- `insert::insert` refuses a target that is not one element with 7, and else copies every item.
 use lib.ListN.{getD}
 use Prim.Native.Nat.{_%_}
 use Rattle.updates.proofs.InsertLawsItems.{insert-many, insert-low, insert-leaf, insert-items, insert-done}

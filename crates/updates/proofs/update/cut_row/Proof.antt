@@ -1,3 +1,4 @@
+-- `update::cut_row` cuts a row from its parent, with its record, by the laws of UpdateLaws.
 use Rattle.updates.proofs.UpdateLaws.{cut-root, cut-low, cut-full, cut-done}
 use lib.ListN.{getD}
 use mathlib.Core.Path.{_≡_, sym, _∙_}

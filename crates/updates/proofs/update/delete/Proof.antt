@@ -1,3 +1,4 @@
+-- `update::delete` cuts every row of a value. The loop's invariant is `Deleting`.
 use Rattle.updates.proofs.UpdateLaws.{Deleting, delete-end, delete-refused, delete-again}
 use Rattle.updates.proofs.StateLaws.{after-self}
 use lib.ListN.{length}
@@ -32,7 +33,7 @@ cut-row-requires c κs =
       held = c .before .before .before .before .before .loop .inv .after .held;
       row = omega (
         arith,
-        c .index .ensures,
+        c .index .ensures .0,
         c .before .before .before .before .before .before .before .before .before .pre .items
             (c .before .before .before .before .before .loop .k) (c .before .before .before .before .loop-test .taken),
         c .before .before .before .before .before .loop .inv .after .rows,
@@ -49,7 +50,7 @@ returns : tie.Need-returns Inv-loop μ-loop
 returns c =
     delete-refused (c .before .before .before .before .before .before .before .before .before .before .before .before .loop .inv)
     (c .before .before .before .before .before .before .before .before .before .before .before .loop-test .taken)
-    (c .before .before .before .before .before .before .before .index .ensures)
+    (c .before .before .before .before .before .before .before .index .ensures .0)
     (c .before .before .before .before .before .before .cut-row .ensures) (c .if1 .taken)
 
 add-k : tie.Need-add-k Inv-loop μ-loop
@@ -63,7 +64,7 @@ loop-again c =
     let n : c .before .before .before .before .before .before .cut-row .result .number ≡ 0 = search (c .if1 .left, needs) in
     let g = delete-again (c .before .before .before .before .before .before .before .before .before .before .before .before .loop .inv)
     (c .before .before .before .before .before .before .before .before .before .before .before .loop-test .taken)
-    (c .before .before .before .before .before .before .before .index .ensures)
+    (c .before .before .before .before .before .before .before .index .ensures .0)
     (c .before .before .before .before .before .before .cut-row .ensures) n in
     record { after = g .0; within = omega arith; rest = g .1 }
 

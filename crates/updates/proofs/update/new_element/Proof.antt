@@ -1,3 +1,4 @@
+-- `update::new_element` adds an element without parent.
 use Rattle.updates.proofs.UpdateLaws.{loose-pre, loose-made}
 use Rattle.model.proofs.TestLaws.{isIn-by}
 use mathlib.Core.Bool.{false}

@@ -1,3 +1,4 @@
+-- `update::new_leaf` adds a leaf without parent.
 use Rattle.updates.proofs.UpdateLaws.{loose-pre, loose-made}
 use mathlib.Core.Bool.{true}
 use borrow.Author.Tests.{le-leb}

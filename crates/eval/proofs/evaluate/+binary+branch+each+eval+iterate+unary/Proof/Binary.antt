@@ -49,7 +49,7 @@ pub binary-inner-requires : (t : ℕ) → binary-lts.Need-inner-requires (binary
 binary-inner-requires t c κs =
     let c10 = c .before .before .before .before .before .before .before .before .before .before in
     let c21 = c10 .before .before .before .before .before .before .before .before .before .before .before in
-    c21 .pre .1 .0 .scope .few
+    λ _. c21 .pre .1 .0 .scope .few
 
 pub binary-eval-requires-2 : (t : ℕ) → binary-lts.Need-eval-requires-2 (binary-claims t) (binary-at t) binary.Post
 binary-eval-requires-2 t c κs =

@@ -1,9 +1,9 @@
+-- `number::parent` gives the number stored for a parent: 0xFFFF for none.
 use Rattle.table.proofs.DecodeLaws.{parent-none, parent-some}
-use Prim.Native.Nat.{_-_}
 use native.Mathlib.Omega.{arith}
 use borrow.Author.Needs.{needs}
-use Rattle.plan.proofs.write.parent.Statement.{statement}
-use Rattle.plan.proofs.write.parent.Tie as tie
+use Rattle.table.proofs.number.parent.Statement.{statement}
+use Rattle.table.proofs.number.parent.Tie as tie
 
 returns : tie.Need-returns
 returns c = (parent-none (c .before .args .link) (c .if1 .taken), omega arith)

@@ -1,11 +1,11 @@
--- `read::inner` meets its contract: a binder binds one variable more, and there is room for it.
+-- `kinds::inner` meets its contract: a binder binds one variable more, and there is room for it.
 use borrow.Author.Needs.{needs}
-use Prim.Native.Nat.{_<_}
+use Prim.Native.Nat.{_≤_}
 use native.Mathlib.Omega.{arith}
 use mathlib.Core.Path.{sym, _∙_}
 use Rattle.script.specs.Walk.{inner}
-use Rattle.script.proofs.read.inner.Statement.{statement}
-use Rattle.script.proofs.read.inner.Tie as tie
+use Rattle.script.proofs.kinds.inner.Statement.{statement}
+use Rattle.script.proofs.kinds.inner.Tie as tie
 
 is-binder-requires : tie.Need-is-binder-requires
 is-binder-requires c κs = search needs
@@ -13,7 +13,7 @@ is-binder-requires c κs = search needs
 add-result : tie.Need-add-result
 add-result c =
     let s = c .before .before in
-    let h : s .args .bound < 8 = s .pre .room (sym (c .before .is-binder .ensures) ∙ c .if1 .taken) in
+    let h : s .args .bound ≤ 8 = s .pre (sym (c .before .is-binder .ensures) ∙ c .if1 .taken) in
     omega arith
 
 returns : tie.Need-returns

@@ -1,0 +1,51 @@
+// Numbers of one byte and of two: widened, read from a record, and stored for a parent.
+ghost use mathlib.Core.Path.{_≡_};
+ghost use Prim.Native.Nat.{_+_, _<_};
+ghost use lib.ListN.{length};
+ghost use Rattle.model.specs.Stored.{wordAt, wordBytes, parentBytes};
+ghost use Rattle.table.specs.Words.{linked};
+
+// Stored for the parent where there is none.
+pub const NONE: usize = 0xFFFF;
+
+pub fn byte(b: u8) -> usize
+    ensures { λ r. ⌜ r ≡ b ⌝ }
+    ensures { λ r. ⌜ r < 256 ⌝ }
+{
+    b as usize
+}
+
+pub fn wide(b: u8) -> u32
+    ensures { λ r. ⌜ r ≡ b ⌝ }
+    ensures { λ r. ⌜ r < 256 ⌝ }
+{
+    b as u32
+}
+
+pub fn index(n: u16) -> usize
+    ensures { λ r. ⌜ r ≡ n ⌝ }
+    ensures { λ r. ⌜ r < 65536 ⌝ }
+{
+    n as usize
+}
+
+// The two-byte number at a place of a record.
+pub fn number_at(s: &[u8], at: usize) -> usize
+    requires { ⌜ at + 1 < length (now s) ⌝ }
+    ensures { λ r. ⌜ r ≡ wordAt (now (s .entry)) at ⌝ }
+    ensures { λ r. ⌜ r < 65536 ⌝ }
+{
+    byte(s[at]) + 256 * byte(s[at + 1])
+}
+
+// The number stored for the parent with this link.
+pub fn parent(link: usize) -> usize
+    requires { ⌜ link < 1024 ⌝ }
+    ensures { λ r. ⌜ wordBytes r ≡ parentBytes (linked link) ⌝ }
+    ensures { λ r. ⌜ r < 65536 ⌝ }
+{
+    if link == 0 {
+        return NONE;
+    }
+    link - 1
+}
