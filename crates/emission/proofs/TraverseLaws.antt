@@ -1,7 +1,7 @@
 -- Every prefix of an accessed path that starts at a document is accessed itself; so a test that fails on the script's own places finds
 -- among the traversed paths what it finds among the accessed ones that start at a document.
 use mathlib.Core.Path.{_≡_, refl, ap, sym, _∙_}
-use mathlib.Core.Bool.{Bool, true, false, _||_, false≢true}
+use mathlib.Core.Bool.{Bool, true, false, _||_, false≢true, or-false, or-assoc}
 use mathlib.Core.Logic.{_⊎_, inl, inr, ⊎-elim}
 use mathlib.Core.List.{List, [], _∷_, _++_, append-assoc}
 use Prim.Native.Nat.{ℕ, zero, suc}
@@ -11,31 +11,10 @@ use Rattle.model.specs.Base.{pick, any}
 use Rattle.model.specs.Script.{Step, Expr, nil, document, var, step, both, letIn, forIn, ifIn, element, leaf, delete, insert, choose}
 use Rattle.model.specs.Paths.{Path, start, _▸_, place, withStep, anyBelow, Paths, infer, pathsOf, prefixesOf, prefixed}
 use Rattle.model.specs.Paths.{traversed, joinPaths, binding, modifiedPlace}
-use Rattle.model.proofs.BoolLaws.{or-left, or-right, or-cases, bool-iff, by-cases}
+use Rattle.model.proofs.BoolLaws.{or-swap, or-left, or-cases, bool-iff, by-cases}
 use Rattle.model.proofs.All.{All, nothing, also, all-append}
-use Rattle.meeting.proofs.CellLaws.{or-false, or-assoc, or-swap}
+use Rattle.model.proofs.ListLaws.{any-append, any-left, any-right, any-either}
 use Rattle.emission.proofs.DocumentLaws.{origin, isDocument, documents}
-
--- ANY of lists
-module _ {A : Type 0} (f : A → Bool) where
-  pub any-append : (k l : List A) → any f (k ++ l) ≡ (any f k || any f l)
-  unfolding any
-  any-append [] l = refl
-  any-append (x ∷ k) l = ap (λ (t : Bool). f x || t) (any-append k l) ∙ sym (or-assoc (f x) (any f k) (any f l))
-
-  pub any-left : (k l : List A) → any f k ≡ true → any f (k ++ l) ≡ true
-  any-left k l h = any-append k l ∙ or-left (any f k) (any f l) h
-
-  pub any-right : (k l : List A) → any f l ≡ true → any f (k ++ l) ≡ true
-  any-right k l h = any-append k l ∙ or-right (any f k) (any f l) h
-
-  pub any-either : {G : Type 0} (k l : List A) → (any f k ≡ true → G) → (any f l ≡ true → G) → any f (k ++ l) ≡ true → G
-  any-either k l g h e = ⊎-elim g h (or-cases (any f k) (any f l) (sym (any-append k l) ∙ e))
-
-pub any-same : {A : Type 0} (f g : A → Bool) (l : List A) → All (λ (a : A). f a ≡ g a) l → any f l ≡ any g l
-unfolding any
-any-same f g [] nothing = refl
-any-same f g (x ∷ l) (also e a) = ap (λ (t : Bool). t || any f l) e ∙ ap (λ (t : Bool). g x || t) (any-same f g l a)
 
 -- PREFIXES
 prefixed-append : (ps qs : List Path) → prefixed (ps ++ qs) ≡ prefixed ps ++ prefixed qs

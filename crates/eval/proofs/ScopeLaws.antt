@@ -1,7 +1,7 @@
 -- The variables in scope: kept while the area below top is kept, and one more inside a binder.
 use mathlib.Core.Path.{_≡_, refl, ap, sym, subst, _∙_}
 use mathlib.Core.Bool.{Bool, true, false}
-use mathlib.Core.List.{List, [], _∷_, _++_, map}
+use mathlib.Core.List.{List, [], _∷_, _++_, map, map-append}
 use Prim.Native.Nat.{ℕ, zero, suc, _+_, _-_, _≤_, _<_}
 use native.Mathlib.Omega.{arith}
 use lib.Dec.{eqb}
@@ -62,10 +62,6 @@ module _ {w : List ℕ} {n : ℕ} {env : List Span} {top c : ℕ} (scope : InSco
       }
 
 -- INSIDE A BINDER
-map-snoc : (w : List ℕ) (ss : List Span) (s : Span) → map (spanValue w) (ss ++ (s ∷ [])) ≡ map (spanValue w) ss ++ (spanValue w s ∷ [])
-map-snoc w [] s = refl
-map-snoc w (x ∷ xs) s = ap (λ (r : List (List ℕ)). spanValue w x ∷ r) (map-snoc w xs s)
-
 module _ {w : List ℕ} {n : ℕ} {env : List Span} {top i j c : ℕ} (scope : InScope w n env top c) {k : ℕ} {inside : List Span}
     (post : BindPost k env n i j inside) where
   -- the values there
@@ -74,7 +70,7 @@ module _ {w : List ℕ} {n : ℕ} {env : List Span} {top i j c : ℕ} (scope : I
     where
       go : (t : Bool) → map (spanValue w) (pick t (take n env ++ (spanOf i j ∷ [])) (take n env)) ≡
           pick t (boundValues w n env ++ (valueAt w i j ∷ [])) (boundValues w n env)
-      go true = map-snoc w (take n env) (spanOf i j)
+      go true = map-append (spanValue w) (take n env) (spanOf i j ∷ [])
       go false = refl
 
   front-size : length (take n env) ≡ n

@@ -3,8 +3,7 @@
 use mathlib.Core.Path.{_≡_, refl, sym, ap, _∙_, subst}
 use mathlib.Core.Bool.{Bool, true, false, _&&_, _||_}
 use mathlib.Core.Logic.{_⊎_, inl, inr}
-use mathlib.Core.List.{List}
-use mathlib.Core.List.{List·Memᴰ as In}
+use mathlib.Core.List.{List, List·Memᴰ as In}
 use mathlib.Core.Option.{none, some}
 use Prim.Native.Nat.{ℕ, _<_}
 use native.Mathlib.Omega.{arith}
@@ -20,12 +19,12 @@ use Rattle.model.proofs.TestLaws.{and-parts}
 use Rattle.model.proofs.TableLaws.{isThe-at, Tree, isTree-at, isTree-by}
 use Rattle.model.proofs.ScriptLaws.{isScript-fields}
 use Rattle.model.proofs.All.{All, all-in}
-use Rattle.model.proofs.Reach.{any-in, in-any}
+use Rattle.model.proofs.ListLaws.{any-in, in-any, among-in, in-among}
 use Rattle.model.proofs.Words.{first, same}
 use Rattle.model.proofs.WordsMeet.{meets-apart}
 use Rattle.model.proofs.PathLaws.{PathFits, starts, steps, pathsOf-fits}
 use Rattle.model.proofs.Spells.{placeOf, Spells}
-use Rattle.model.proofs.RowsOn.{among-in, in-among, label-once, label-proper, row-spelled, spells-on}
+use Rattle.model.proofs.RowsOn.{label-once, label-proper, row-spelled, spells-on}
 use Rattle.model.proofs.CellsFound.{Meets, meets-found}
 use Rattle.model.proofs.Chain.{chain, count-chain, chain-tree, byMarks, byMarks-places, spells-row}
 
