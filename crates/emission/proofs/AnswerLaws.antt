@@ -8,12 +8,12 @@ use native.Mathlib.Omega.{arith}
 use lib.ListN.{length, take}
 use lib.Seq.{take-suc, take-all}
 use borrow.Author.Tests.{ne-eqb}
-use Rattle.model.specs.Base.{pick, any}
+use Rattle.model.specs.Base.{pick, any, All, nothing, also}
 use Rattle.model.specs.Script.{Expr}
-use Rattle.model.specs.Paths.{Path, start, place, pathsOf, traversed, hasUp}
+use Rattle.model.specs.Paths.{placeOf, Path, start, place, pathsOf, traversed, hasUp}
 use Rattle.model.specs.Meeting.{isMet, meets, anyMeet, pathsMeet, free, upward, meet, answer}
 use Rattle.model.proofs.BoolLaws.{or-swap}
-use Rattle.model.proofs.All.{All, nothing, also, all-in}
+use Rattle.model.proofs.All.{all-in}
 use Rattle.model.proofs.ListLaws.{any-append, any-same}
 use Rattle.emission.specs.Positions.{Entry, plain, nowhere, entryAt, AreLower, emit, entriesBefore, entriesOf, pathsFrom, pathsOn}
 use Rattle.meeting.specs.Cells.{between}
@@ -21,7 +21,7 @@ use Rattle.emission.specs.Sources.{anyUpTo, isTested, positionsMeet, ans
 use Rattle.meeting.proofs.CellLaws.{isMet-between, isMet-join, between-second}
 use Rattle.meeting.proofs.MirrorLaws.{anyMeet-mirror}
 use Rattle.emission.proofs.PositionLaws.{pathsOn-split}
-use Rattle.emission.proofs.DocumentLaws.{origin, documents, owners-apart}
+use Rattle.emission.proofs.DocumentLaws.{documents, owners-apart}
 use Rattle.emission.proofs.EmitLaws.{markedFrom, marked, isAccessed, isModified, marked-push, Ready, Right, none, emits}
 use Rattle.emission.proofs.TraverseLaws.{any-traversed, Own, modified-own, accessed-own, any-documents, documents-are}
 
@@ -123,22 +123,22 @@ module _ (es fs : List Entry) where
 
 -- TWO SCRIPTS: what one modifies and the other traverses
 module _ (o o′ : ℕ) (first : o ≡ 0 → ⊥) (second : o′ ≡ 0 → ⊥) (other : o ≡ o′ → ⊥) where
-  own-apart : (p : Path) → Own o p → (q : Path) → origin q .owner ≡ o′ → meets p q ≡ false
-  own-apart p (inl e) q f = owners-apart p q (ne-eqb (origin p .owner) (origin q .owner) (λ g. second (sym f ∙ sym g ∙ e)))
-  own-apart p (inr e) q f = owners-apart p q (ne-eqb (origin p .owner) (origin q .owner) (λ g. other (sym e ∙ g ∙ f)))
+  own-apart : (p : Path) → Own o p → (q : Path) → placeOf q .owner ≡ o′ → meets p q ≡ false
+  own-apart p (inl e) q f = owners-apart p q (ne-eqb (placeOf p .owner) (placeOf q .owner) (λ g. second (sym f ∙ sym g ∙ e)))
+  own-apart p (inr e) q f = owners-apart p q (ne-eqb (placeOf p .owner) (placeOf q .owner) (λ g. other (sym e ∙ g ∙ f)))
 
   traversed-met : (p : Path) → Own o p →
       (f : Expr) → any (meets p) (traversed (pathsOf o′ f)) ≡ any (meets p) (documents (pathsOf o′ f .accessed))
-  unfolding origin
+  unfolding placeOf
   traversed-met p h f =
       any-traversed (meets p) o′ (λ z. own-apart p h (start (place o′ z)) refl) f ∙
       any-documents (meets p) o′ (own-apart p h) (pathsOf o′ f .accessed) (accessed-own o′ f)
 
-  any-false : (p : Path) → origin p .owner ≡ o → {qs : List Path} → All (λ (q : Path). origin q .owner ≡ 0) qs → any (meets p) qs ≡ false
+  any-false : (p : Path) → placeOf p .owner ≡ o → {qs : List Path} → All (λ (q : Path). placeOf q .owner ≡ 0) qs → any (meets p) qs ≡ false
   unfolding any
   any-false p e nothing = refl
   any-false p e (also {a} {l} h all) =
-      ap (λ (t : Bool). t || any (meets p) l) (owners-apart p a (ne-eqb (origin p .owner) (origin a .owner) (λ g. first (sym e ∙ g ∙ h)))) ∙
+      ap (λ (t : Bool). t || any (meets p) l) (owners-apart p a (ne-eqb (placeOf p .owner) (placeOf a .owner) (λ g. first (sym e ∙ g ∙ h)))) ∙
       any-false p e all
 
   pub scripts-meet : (e f : Expr) → anyMeet (pathsOf o e .modified) (traversed (pathsOf o′ f)) ≡

@@ -6,9 +6,9 @@ use Prim.Native.Nat.{ℕ, _+_, _-_, _<_}
 use native.Mathlib.Omega.{arith}
 use lib.ListN.{getD}
 use Rattle.model.specs.Script.{isBinder}
-use Rattle.model.specs.Run.{State, Out, andThen, loop, run}
-use Rattle.model.proofs.ValueLaws.{AreRows, areRows-more}
-use Rattle.script.specs.Walk.{arity, inner, endAt, firstAt, secondAt, exprAt}
+use Rattle.model.specs.Run.{State, Out, andThen, loop, run, AreRows}
+use Rattle.model.proofs.ValueLaws.{areRows-more}
+use Rattle.script.specs.Walk.{withBound, arity, inner, endAt, firstAt, secondAt, exprAt}
 use Rattle.script.specs.Accepted.{Accepted, RecordFits}
 use Rattle.script.proofs.AcceptedLaws.{accepted-record, accepted-at}
 use Rattle.script.proofs.FieldLaws.{step-axis}
@@ -16,8 +16,7 @@ use Rattle.script.proofs.KindLaws.{two-left}
 use Rattle.updates.specs.State.{stateOf}
 use Rattle.query.specs.Values.{valueAt}
 use Rattle.updates.specs.declared.state.Progress.{Progress}
-use Rattle.operators.specs.Evaluating.{boundValues, valuesIn, BindPre, BindPost, Fine, unaryOf, binaryOf, ValuePre}
-use Rattle.operators.specs.Evaluating.{UnaryPre}
+use Rattle.operators.specs.Evaluating.{boundValues, BindPre, BindPost, Fine, unaryOf, binaryOf, ValuePre, UnaryPre}
 use Rattle.operators.specs.Evaluating.{UnaryPost, BinaryPre, BinaryPost, IsBinary, EvalPre, EvalPost}
 use Rattle.operators.specs.declared.value.Span.{Span}
 use Rattle.operators.specs.declared.record.Evaluated.{Evaluated}
@@ -125,7 +124,7 @@ module _ {b : List ℕ} {at left n : ℕ} {env : List Span} {ms ws h w : List �
     -- the rest of the run, from the first value on
     abbrev rest-run : List ℕ → State → Out
     rest-run v u =
-        andThen (run (exprAt (left - 1) b (secondAt b at)) (valuesIn (getD b at 0) (boundValues w n env) v) u)
+        andThen (run (exprAt (left - 1) b (secondAt b at)) (withBound (getD b at 0) (boundValues w n env) v) u)
         (λ (w : List ℕ) (q : State). binaryOf (getD b at 0) at v w q)
 
     whole-run : run (exprAt left b at) (boundValues w n env) (stateOf ws ms h p) ≡ andThen first-run rest-run
@@ -172,16 +171,16 @@ module _ {b : List ℕ} {at left n : ℕ} {env : List Span} {ms ws h w : List �
             })
 
         -- the second operand's run
-        values : boundValues w₁ (inner (getD b at 0) n) inside ≡ valuesIn (getD b at 0) (boundValues w n env) (valueAt w₁ top (x .end))
+        values : boundValues w₁ (inner (getD b at 0) n) inside ≡ withBound (getD b at 0) (boundValues w n env) (valueAt w₁ top (x .end))
         values =
             bound-inside (next-asks (at + 1) ran k (at + 1) (binary-first .accepted) .scope) bound ∙
-            ap (λ (vs : List (List ℕ)). valuesIn (getD b at 0) vs (valueAt w₁ top (x .end))) (same-bound (at + 1) ran k)
+            ap (λ (vs : List (List ℕ)). withBound (getD b at 0) vs (valueAt w₁ top (x .end))) (same-bound (at + 1) ran k)
 
-        second-is : run (exprAt (left - 1) b (secondAt b at)) (valuesIn (getD b at 0) (boundValues w n env) (valueAt w₁ top (x .end)))
+        second-is : run (exprAt (left - 1) b (secondAt b at)) (withBound (getD b at 0) (boundValues w n env) (valueAt w₁ top (x .end)))
             (stateOf ws₁ ms h₁ (x .progress)) ≡
             run (exprAt (left - 1) b (x .place)) (boundValues w₁ (inner (getD b at 0) n) inside) (stateOf ws₁ ms h₁ (x .progress))
         second-is =
-            ap (λ (i : ℕ). run (exprAt (left - 1) b i) (valuesIn (getD b at 0) (boundValues w n env) (valueAt w₁ top (x .end)))
+            ap (λ (i : ℕ). run (exprAt (left - 1) b i) (withBound (getD b at 0) (boundValues w n env) (valueAt w₁ top (x .end)))
             (stateOf ws₁ ms h₁ (x .progress))) (sym second-at) ∙
             ap (λ (vs : List (List ℕ)). run (exprAt (left - 1) b (x .place)) vs (stateOf ws₁ ms h₁ (x .progress))) (sym values)
 

@@ -6,12 +6,13 @@ use Prim.Native.Nat.{ℕ, _+_, _-_, _/_, _≤_, _<_}
 use native.Mathlib.Omega.{arith}
 use lib.Dec.{ltb}
 use lib.ListN.{length, getD, take}
-use Rattle.model.specs.Base.{pick}
+use Rattle.model.specs.Base.{pick, nothing}
 use Rattle.model.specs.Limits.{maxItems}
 use Rattle.model.specs.Refusal.{itemsAt}
 use Rattle.model.specs.Script.{isBinder}
-use Rattle.model.specs.Run.{State, Out, stop, gives, andThen, joinItems, joinFor, loop, run}
-use Rattle.model.proofs.ValueLaws.{AreRows, noRows, moreRows, areRows-more}
+use Rattle.model.specs.Run.{State, Out, stop, gives, andThen, joinItems, joinFor, loop, run, AreRows}
+use Rattle.model.proofs.ValueLaws.{areRows-more}
+use Rattle.model.proofs.All.{all-front, all-back}
 use Rattle.script.specs.Walk.{inner, endAt, firstAt, secondAt, exprAt}
 use Rattle.script.proofs.AcceptedLaws.{accepted-record, accepted-at}
 use Rattle.updates.specs.State.{stateOf}
@@ -63,15 +64,6 @@ loop-split z f (i ∷ is) js v s = go (loop-split z f is js) (f i s)
         andThen (joinFor z v o (λ (w : List ℕ) (t : State). loop z f is w t)) (λ (w : List ℕ) (t : State). loop z f js w t)
     go h (stop x) = refl
     go h (gives w t) = more (ltb maxItems (length v + length w)) (v ++ w) t (h (v ++ w) t)
-
--- rows of a part
-rows-front : {n : ℕ} (u v : List ℕ) → AreRows n (u ++ v) → AreRows n u
-rows-front [] v a = noRows
-rows-front (i ∷ u) v (moreRows l a) = moreRows l (rows-front u v a)
-
-rows-back : {n : ℕ} (u v : List ℕ) → AreRows n (u ++ v) → AreRows n v
-rows-back [] v a = a
-rows-back (i ∷ u) v (moreRows l a) = rows-back u v a
 
 -- A FOR
 module _ {b : List ℕ} {at left n : ℕ} {env : List Span} {ms ws h w : List ℕ} {top : ℕ} {p : Progress}
@@ -133,7 +125,7 @@ module _ {b : List ℕ} {at left n : ℕ} {env : List Span} {ms ws h w : List �
               rows = fine .rows;
               order = omega arith;
               short = omega arith;
-              sofar = subst (AreRows (x .progress .count)) (sym (value-none w₁ (x .end))) noRows;
+              sofar = subst (AreRows (x .progress .count)) (sym (value-none w₁ (x .end))) nothing;
               room = omega (arith, pre .room, accepted-record (pre .accepted) .depth, fine .size, fine .short);
             }
 
@@ -301,7 +293,7 @@ module _ {b : List ℕ} {at left n : ℕ} {env : List Span} {ms ws h w : List �
           some = cut .0;
           items = omega (arith, cut .1, pre .items);
           many = omega (arith, cut .1, pre .many);
-          rows = rows-front (valueAt w from half) (valueAt w half to) (subst (AreRows (p .count)) (sym parts) (pre .rows));
+          rows = all-front (valueAt w from half) (valueAt w half to) (subst (AreRows (p .count)) (sym parts) (pre .rows));
           order = pre .order;
           short = pre .short;
           sofar = pre .sofar;
@@ -343,7 +335,7 @@ module _ {b : List ℕ} {at left n : ℕ} {env : List Span} {ms ws h w : List �
                 many = omega (arith, cut .0, pre .many);
                 rows = subst (AreRows (x .progress .count)) (sym items-kept)
                     (areRows-more (half-fine .after .rows)
-                    (rows-back (valueAt w from half) (valueAt w half to) (subst (AreRows (p .count)) (sym parts) (pre .rows))));
+                    (all-back (valueAt w from half) (valueAt w half to) (subst (AreRows (p .count)) (sym parts) (pre .rows))));
                 order = half-fine .order;
                 short = half-fine .short;
                 sofar = half-fine .rows;

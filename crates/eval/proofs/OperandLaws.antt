@@ -7,12 +7,12 @@ use lib.ListN.{length, getD}
 use Rattle.model.specs.Base.{pick}
 use Rattle.model.specs.Script.{Expr, step, both, letIn, delete, insert, choose, stepBy}
 use Rattle.model.specs.Run.{State, Out, stop, gives, andThen, loop, run}
-use Rattle.script.specs.Walk.{arity, inner, endAt, firstAt, secondAt, thirdAt, exprAt}
+use Rattle.script.specs.Walk.{withBound, arity, inner, endAt, firstAt, secondAt, thirdAt, exprAt}
 use Rattle.script.specs.Accepted.{Accepted, RecordFits, Unary, Binary}
 use Rattle.script.proofs.KindLaws.{unary-kind, binary-kind}
 use Rattle.script.proofs.AcceptedLaws.{accepted-record, accepted-step, accepted-delete, accepted-pick, accepted-join, accepted-let}
 use Rattle.script.proofs.AcceptedLaws.{accepted-for, accepted-insert, accepted-if}
-use Rattle.operators.specs.Evaluating.{valuesIn, unaryOf, binaryOf, IsBinary}
+use Rattle.operators.specs.Evaluating.{unaryOf, binaryOf, IsBinary}
 use Rattle.eval.specs.Loops.{bodyRun}
 
 -- an outcome that goes on with its own value
@@ -62,7 +62,7 @@ module _ {b : List ℕ} {at left n : ℕ} (a : Accepted b at left n) where
   abbrev runTwo : (kind : ℕ) → (first second : Expr) → (bound : List (List ℕ)) → State → Out
   runTwo k x y vs s =
       andThen (run x vs s)
-      (λ (v : List ℕ) (u : State). andThen (run y (valuesIn k vs v) u) (λ (w : List ℕ) (q : State). binaryOf k at v w q))
+      (λ (v : List ℕ) (u : State). andThen (run y (withBound k vs v) u) (λ (w : List ℕ) (q : State). binaryOf k at v w q))
 
   pub record Two : Type 0 where
     pub first : Accepted b (firstAt b at) (left - 1) n

@@ -7,13 +7,12 @@ use Prim.Native.Nat.{ℕ, zero, suc, _+_}
 use native.Mathlib.Omega.{arith}
 use lib.ListN.{length}
 use Rattle.model.specs.Script.{Step}
-use Rattle.model.specs.Paths.{Place, Path, start, _▸_}
+use Rattle.model.specs.Paths.{Place, Path, start, _▸_, placeOf}
 use Rattle.model.specs.Meeting.{admitsElement, shareElement, shareLeaf, isDeep, Cell, samePlace, isConstructor, isParent, onStep}
 use Rattle.model.specs.Meeting.{downStep, upStep, joinCell, startCells, stepCells, cell, meets}
 use Rattle.model.specs.Document03Paths as P
 use Rattle.model.proofs.BoolLaws.{and-left, and-both, or-left, or-right, or-cases, bool-iff}
 use Rattle.model.proofs.TestLaws.{and-parts}
-use Rattle.model.proofs.Spells.{placeOf}
 use Rattle.model.proofs.Document03Paths.{along, oursPath, Known, Tested, none, more, tested-before}
 use Rattle.model.proofs.Document03Search.{agree-share, agreeElement-share, last, both, passOne, passTwo, goes-by, goes-meet}
 use Rattle.model.proofs.Document03Search.{fuel-enough}

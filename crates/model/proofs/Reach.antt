@@ -5,9 +5,6 @@ use mathlib.Core.Logic.{_⊎_, inl, inr}
 use mathlib.Core.List.{List, [], _∷_, List·Memᴰ as In}
 use mathlib.Core.Option.{some}
 use Prim.Native.Nat.{ℕ, zero, suc, _<_}
-use native.Mathlib.Omega.{arith}
-use native.Mathlib.Decide.{ℕ-discrete}
-use borrow.Author.Tests.{leb-false}
 use Rattle.model.specs.Base.{pick, any}
 use Rattle.model.specs.Table.{Table, rowAt}
 use Rattle.model.specs.Script.{Step}
@@ -15,6 +12,7 @@ use Rattle.model.specs.Step.{Letter, leafLetter, named, letterOf, admits
 use Rattle.model.specs.Run.{descendantsFrom}
 use Rattle.model.specs.Paths.{anyBelow, isUp}
 use Rattle.model.proofs.BoolLaws.{and-left, and-right, and-both}
+use Rattle.model.proofs.PathLaws.{down-axis}
 use Rattle.model.proofs.ListLaws.{any-in, in-any}
 use Rattle.model.proofs.TableLaws.{isThe-at, isThe-by}
 use Rattle.model.proofs.Below.{Below, under, further, below-is, is-below}
@@ -23,13 +21,6 @@ use Rattle.model.proofs.Below.{Below, under, further, below-is, is-belo
 pub data Reach (x : Table) (s : Step) (v : List ℕ) (j : ℕ) : Type 0 where
   byChild : {i : ℕ} → In i v → s .axis ≡ 0 → rowAt x j .parent ≡ some i → admits s (letterOf (rowAt x j)) ≡ true → Reach x s v j
   byDeep : {i : ℕ} → In i v → s .axis ≡ 1 → Below x i j → admits s (letterOf (rowAt x j)) ≡ true → Reach x s v j
-
-down-axis : (s : Step) → isUp s ≡ false → (s .axis ≡ 0) ⊎ (s .axis ≡ 1)
-down-axis s e = go (ℕ-discrete (s .axis) 0)
-  where
-    go : Dec (s .axis ≡ 0) → (s .axis ≡ 0) ⊎ (s .axis ≡ 1)
-    go (yes h) = inl h
-    go (no h) = inr (omega (arith, leb-false 2 (s .axis) e))
 
 pub reach-is : (x : Table) (s : Step) (v : List ℕ) (j : ℕ) → isUp s ≡ false → isReached x s v j ≡ true → Reach x s v j
 reach-is x s v j u e = go (any-in (λ i. reaches x (s .axis) i j) v (and-right (admits s (letterOf (rowAt x j))) _ e))

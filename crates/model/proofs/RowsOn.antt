@@ -9,20 +9,20 @@ use lib.Dec.{eqb}
 use lib.ListN.{getD}
 use borrow.Author.Tests.{eqb-true, eqb-false}
 use Rattle.model.specs.Base.{pick}
-use Rattle.model.specs.Table.{Table, rowAt, count}
+use Rattle.model.specs.Table.{Table, rowAt, count, Tree}
 use Rattle.model.specs.Script.{Step}
-use Rattle.model.specs.Step.{Letter, leafLetter, named, letterOf, isReached}
-use Rattle.model.specs.Paths.{Place, Path, start, _▸_}
+use Rattle.model.specs.Step.{Letter, leafLetter, named, letterOf, isReached, collect}
+use Rattle.model.specs.Paths.{Place, Path, start, _▸_, placeOf}
 use Rattle.model.specs.Promise.{Places, ArePlaces, rowsAt, rowsOn}
 use Rattle.model.proofs.BoolLaws.{pick-false, true-false}
-use Rattle.model.proofs.TableLaws.{Tree, hasParent-none}
+use Rattle.model.proofs.TableLaws.{hasParent-none}
 use Rattle.model.proofs.All.{all-in}
-use Rattle.model.proofs.Collect.{collect, step-collect, collect-all}
+use Rattle.model.proofs.Collect.{step-collect, collect-all}
 use Rattle.model.proofs.Words.{Word, first, Grown, same, more, areElements, isProper, On, at, child as onChild, deep as onDeep}
 use Rattle.model.proofs.Below.{Below, under, further}
 use Rattle.model.proofs.Reach.{Reach, byChild, byDeep, reach-is}
 use Rattle.model.proofs.PathLaws.{PathFits, starts, steps}
-use Rattle.model.proofs.Spells.{placeOf, Spells, spelled, child, deep}
+use Rattle.model.proofs.Spells.{Spells, spelled, child, deep}
 
 -- THE ROWS at a place, or that a step reaches
 pub collect-in : (f : ℕ → Bool) (n i : ℕ) → In i (collect f 0 n) → (i < n) × (f i ≡ true)

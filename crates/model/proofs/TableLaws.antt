@@ -12,7 +12,7 @@ use lib.ListN.{length, getD, List·getD-eq-default}
 use borrow.Author.Tests.{ltb-true, leb-true, ltb-false, eqb-true, not-true, lt-ltb, le-leb, eq-eqb}
 use Rattle.model.specs.Base.{all, any}
 use Rattle.model.specs.Limits.{maxRows, documents}
-use Rattle.model.specs.Table.{Row, Table, empty, noRow, rowAt, count, isElement, hasParent, isThe, tagFits, parentFits, rowsFit}
+use Rattle.model.specs.Table.{ParentLower, IsRoot, Tree, Row, Table, empty, noRow, rowAt, count, isElement, hasParent, isThe, tagFits, parentFits, rowsFit}
 use Rattle.model.specs.Table.{markFits, noneTwice, isTree, isWell}
 use Rattle.model.proofs.BoolLaws.{and-left, and-right, and-both, or-cases, or-left, or-right, true-false}
 use Rattle.model.proofs.ListLaws.{all-getD, getD-all}
@@ -121,20 +121,6 @@ parentFits-at x i p h = (ltb-true p i (and-left _ (isElement x p) h), and-right 
 pub hasParent-none : (p : Option ℕ) → not (hasParent p) ≡ true → p ≡ none
 hasParent-none none h = refl
 hasParent-none (some p) h = absurd (true-false false h refl)
-
--- A parent is an element with a lower number than its child; a root is an element without parent
-abbrev pub ParentLower : Table → ℕ → Row → Type 0
-ParentLower x i r = (p : ℕ) → r .parent ≡ some p → (p < i) × (rowAt x p .isLeaf ≡ false)
-
-abbrev pub IsRoot : Table → ℕ → Type 0
-IsRoot x i = (i < count x) × (rowAt x i .isLeaf ≡ false) × (rowAt x i .parent ≡ none)
-
--- A TREE, rule by rule: tags in range, parents lower, marked rows are roots, no row is marked twice
-pub record Tree (x : Table) : Type 0 where
-  pub tags : (i : ℕ) → i < count x → tagFits (rowAt x i) ≡ true
-  pub parents : (i : ℕ) → ParentLower x i (rowAt x i)
-  pub roots : (d i : ℕ) → getD (x .marks) d none ≡ some i → IsRoot x i
-  pub once : (d e i : ℕ) → getD (x .marks) d none ≡ some i → getD (x .marks) e none ≡ some i → d ≡ e
 
 tree-at : (x : Table) → rowsFit x 0 (x .rows) ≡ true → all (markFits x) (x .marks) ≡ true → noneTwice (x .marks) ≡ true → Tree x
 tree-at x f a n =

@@ -14,7 +14,8 @@ use Rattle.model.specs.Table as model
 use Rattle.model.proofs.BoolLaws.{and-left, and-right, by-cases}
 use Rattle.model.proofs.ListLaws.{all-getD}
 use Rattle.model.proofs.TableLaws.{Well, isWell-at}
-use Rattle.table.specs.Words.{linked, rowOf, isRowWord, isZero, decodeParts, partsFit, fits}
+use Rattle.table.specs.Words.{linked, rowOf, isRowWord, isZero, decode, decodeParts, partsFit, fits}
+use Rattle.table.specs.declared.Table.{Table}
 use Rattle.table.proofs.WordLaws.{count-decode, rowAt-decode, Canonical, canonical-words}
 
 -- WHAT FITS: the count, the words in use and past it, and the table decoded
@@ -23,6 +24,12 @@ pub record Fits (n : ℕ) (ws ms : List ℕ) : Type 0 where
   pub kinds : (k : ℕ) → k < n → n ≤ length ws → isRowWord (getD ws k 0) ≡ true
   pub canonical : length ws ≡ 512 → Canonical n ws
   pub well : Well (decodeParts n ws ms)
+
+-- what fits stands for a well-formed table
+pub well-decode : (t : Table) → fits t ≡ true → model.isWell (decode t) ≡ true
+well-decode t e =
+    and-right (leb (t .count) 512 && all isRowWord (take (t .count) (t .rows)) && all isZero (drop (t .count) (t .rows)))
+    (model.isWell (decode t)) e
 
 pub fits-at : (n : ℕ) (ws ms : List ℕ) → partsFit n ws ms ≡ true → Fits n ws ms
 fits-at n ws ms h =

@@ -6,12 +6,10 @@ use lib.Dec.{eqb}
 use lib.ListN.{length, getD, take, drop}
 use Rattle.model.specs.Base.{pick}
 use Rattle.model.specs.Refusal.{fault}
-use Rattle.model.specs.History.{Record, historyBytes}
+use Rattle.model.specs.History.{Record, historyBytes, AllInRange, times, isCut}
 use Rattle.model.specs.Run.{State, state, Out, stop, gives}
 use Rattle.model.specs.Undo.{historySize, recordIn}
-use Rattle.model.proofs.TableLaws.{Tree}
-use Rattle.model.proofs.FormLaws.{AllInRange}
-use Rattle.model.proofs.HistoryLaws.{times, isCut}
+use Rattle.model.specs.Table.{Tree}
 use Rattle.table.specs.Words.{rowsOf, wordsOf, decodeParts}
 use Rattle.updates.specs.declared.state.Progress.{Progress}
 
