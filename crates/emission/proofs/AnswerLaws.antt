@@ -1,4 +1,4 @@
--- THE THEOREM: the answer by positions is the model's answer, for every two expressions.
+-- The answer by positions is the model's answer, for every two expressions.
 use mathlib.Core.Path.{_≡_, refl, ap, sym, _∙_}
 use mathlib.Core.Bool.{Bool, true, false, _&&_, _||_, and-or-distrib-left}
 use mathlib.Core.Logic.{inl, inr}
@@ -138,7 +138,8 @@ module _ (o o′ : ℕ) (first : o ≡ 0 → ⊥) (second : o′ ≡ 0 → ⊥) 
   unfolding any
   any-false p e nothing = refl
   any-false p e (also {a} {l} h all) =
-      ap (λ (t : Bool). t || any (meets p) l) (owners-apart p a (ne-eqb (placeOf p .owner) (placeOf a .owner) (λ g. first (sym e ∙ g ∙ h)))) ∙
+      ap (λ (t : Bool). t || any (meets p) l)
+      (owners-apart p a (ne-eqb (placeOf p .owner) (placeOf a .owner) (λ g. first (sym e ∙ g ∙ h)))) ∙
       any-false p e all
 
   pub scripts-meet : (e f : Expr) → anyMeet (pathsOf o e .modified) (traversed (pathsOf o′ f)) ≡

@@ -113,13 +113,33 @@ module _ {b : List ℕ} {at left n : ℕ} {env : List Span} {ms ws h w : List �
   pub unary-first : arity (getD b at 0) ≡ 1 → (f : ℕ) → f ≡ firstAt b at → EvalPre b f (left - 1) n env ms ws h w top p
   unary-first z f e = operand-asks f (accepted-at e (one-operand (pre .accepted) z .first))
 
+  -- TWO VALUES, the second behind the first
+  module _ {next : ℕ} {ws₁ h₁ w₁ : List ℕ} {x : Evaluated} (ok : Fine next n env ws h w top p ws₁ h₁ w₁ x) {last m : ℕ}
+      {inside : List Span} {ws₂ h₂ w₂ : List ℕ} {y : Evaluated}
+      (ok₂ : Fine last m inside ws₁ h₁ w₁ (x .end) (x .progress) ws₂ h₂ w₂ y) where
+    first-kept : valueAt w₂ top (x .end) ≡ valueAt w₁ top (x .end)
+    first-kept = value-same w₁ w₂ (x .end) top (x .end) (ok₂ .below) (ok .order) (omega arith)
+
+    pub pair-asks : BinaryPre ws₂ h₂ w₂ top (x .end) y
+    pair-asks =
+        record {
+          value = record {
+            held = ok₂ .after .held;
+            order = ok₂ .order;
+            short = ok₂ .short;
+            room = omega (arith, pre .room, deep, ok .size, ok .short, ok₂ .size);
+            rows = ok₂ .rows;
+            spans = ok₂ .spans;
+          };
+          order = ok .order;
+          short = ok .short;
+          rows = subst (AreRows (y .progress .count)) (sym first-kept) (areRows-more (ok₂ .after .rows) (ok .rows));
+        }
+
   -- BINARY
   module _ (z : IsBinary (getD b at 0)) where
     binary-scope : isBinder (getD b at 0) ≡ true → n < 8
     binary-scope = fits .scope
-
-    abbrev first-run : Out
-    first-run = run (exprAt (left - 1) b (firstAt b at)) (boundValues w n env) (stateOf ws ms h p)
 
     -- the rest of the run, from the first value on
     abbrev rest-run : List ℕ → State → Out
@@ -127,22 +147,17 @@ module _ {b : List ℕ} {at left n : ℕ} {env : List Span} {ms ws h w : List �
         andThen (run (exprAt (left - 1) b (secondAt b at)) (withBound (getD b at 0) (boundValues w n env) v) u)
         (λ (w : List ℕ) (q : State). binaryOf (getD b at 0) at v w q)
 
-    whole-run : run (exprAt left b at) (boundValues w n env) (stateOf ws ms h p) ≡ andThen first-run rest-run
+    whole-run : run (exprAt left b at) (boundValues w n env) (stateOf ws ms h p) ≡
+        andThen (run (exprAt (left - 1) b (at + 1)) (boundValues w n env) (stateOf ws ms h p)) rest-run
     whole-run = two-operands (pre .accepted) z .runs (boundValues w n env) (stateOf ws ms h p)
 
-    start : firstAt b at ≡ at + 1
-    start = two-operands (pre .accepted) z .start
-
-    first-is : first-run ≡ run (exprAt (left - 1) b (at + 1)) (boundValues w n env) (stateOf ws ms h p)
-    first-is = ap (λ (i : ℕ). run (exprAt (left - 1) b i) (boundValues w n env) (stateOf ws ms h p)) start
-
     pub binary-first : EvalPre b (at + 1) (left - 1) n env ms ws h w top p
-    binary-first = operand-asks (at + 1) (accepted-at (sym start) (two-operands (pre .accepted) z .first))
+    binary-first = operand-asks (at + 1) (two-operands (pre .accepted) z .first)
 
     pub binary-stops : {ws₁ h₁ w₁ : List ℕ} {x : Evaluated} → EvalPost b (at + 1) (left - 1) n env ms ws h w top p ws₁ h₁ w₁ x →
         (x .progress .number ≡ 0 → ⊥) → EvalPost b at left n env ms ws h w top p ws₁ h₁ w₁ x
     binary-stops ran k =
-        stop-yields k (whole-run ∙ ap (λ (q : Out). andThen q rest-run) (first-is ∙ yields-stop ran k))
+        stop-yields k (whole-run ∙ ap (λ (q : Out). andThen q rest-run) (yields-stop ran k))
 
     module _ {ws₁ h₁ w₁ : List ℕ} {x : Evaluated} (ran : EvalPost b (at + 1) (left - 1) n env ms ws h w top p ws₁ h₁ w₁ x)
         (k : x .progress .number ≡ 0) where
@@ -153,7 +168,7 @@ module _ {b : List ℕ} {at left n : ℕ} {env : List Span} {ms ws h w : List �
       bind-asks = record { size = ok .spans; scope = binary-scope; order = ok .order }
 
       second-at : x .place ≡ secondAt b at
-      second-at = ok .place ∙ ap (endAt b) (sym start)
+      second-at = ok .place ∙ two-operands (pre .accepted) z .next-at
 
       module _ {inside : List Span} (bound : BindPost (getD b at 0) (x .env) n top (x .end) inside) where
         pub second-asks : {m : ℕ} → m ≡ inner (getD b at 0) n →
@@ -188,7 +203,7 @@ module _ {b : List ℕ} {at left n : ℕ} {env : List Span} {ms ws h w : List �
             andThen (run (exprAt (left - 1) b (x .place)) (boundValues w₁ (inner (getD b at 0) n) inside) (stateOf ws₁ ms h₁ (x .progress)))
             (λ (u : List ℕ) (q : State). binaryOf (getD b at 0) at (valueAt w₁ top (x .end)) u q)
         run-from =
-            whole-run ∙ ap (λ (q : Out). andThen q rest-run) (first-is ∙ yields-gives ran k) ∙
+            whole-run ∙ ap (λ (q : Out). andThen q rest-run) (yields-gives ran k) ∙
             ap (λ (q : Out). andThen q (λ (u : List ℕ) (q : State). binaryOf (getD b at 0) at (valueAt w₁ top (x .end)) u q)) second-is
 
         module _ {m : ℕ} (e : m ≡ inner (getD b at 0) n) {ws₂ h₂ w₂ : List ℕ} {y : Evaluated}
@@ -208,24 +223,8 @@ module _ {b : List ℕ} {at left n : ℕ} {env : List Span} {ms ws h w : List �
             fine₂ : Fine (endAt b (x .place)) (inner (getD b at 0) n) inside ws₁ h₁ w₁ (x .end) (x .progress) ws₂ h₂ w₂ y
             fine₂ = second .fine l
 
-            first-kept : valueAt w₂ top (x .end) ≡ valueAt w₁ top (x .end)
-            first-kept = value-same w₁ w₂ (x .end) top (x .end) (fine₂ .below) (ok .order) (omega arith)
-
             pub combine-asks : BinaryPre ws₂ h₂ w₂ top (x .end) y
-            combine-asks =
-                record {
-                  value = record {
-                    held = fine₂ .after .held;
-                    order = fine₂ .order;
-                    short = fine₂ .short;
-                    room = omega (arith, pre .room, deep, ok .size, ok .short, fine₂ .size);
-                    rows = fine₂ .rows;
-                    spans = fine₂ .spans;
-                  };
-                  order = ok .order;
-                  short = ok .short;
-                  rows = subst (AreRows (y .progress .count)) (sym first-kept) (areRows-more (fine₂ .after .rows) (ok .rows));
-                }
+            combine-asks = pair-asks ok fine₂
 
             pub combine-yields : {ws′ h′ w′ : List ℕ} {r : Evaluated} →
                 BinaryPost (getD b at 0) at ws₂ h₂ w₂ top (x .end) y ws′ h′ w′ r → EvalPost b at left n env ms ws h w top p ws′ h′ w′ r
@@ -236,5 +235,5 @@ module _ {b : List ℕ} {at left n : ℕ} {env : List Span} {ms ws h w : List �
                 ap (λ (q : Out). andThen q (λ (u : List ℕ) (q : State). binaryOf (getD b at 0) at (valueAt w₁ top (x .end)) u q))
                 (yields-gives second l) ∙
                 ap (λ (v : List ℕ). binaryOf (getD b at 0) at v (valueAt w₂ (x .end) (y .end)) (stateOf ws₂ ms h₂ (y .progress)))
-                (sym first-kept))
+                (sym (first-kept ok fine₂)))
                 (bound-back (next-asks (at + 1) ran k (at + 1) (binary-first .accepted) .scope) bound (y .env) (fine₂ .scope) ∙ ok .scope)

@@ -1,5 +1,5 @@
--- What free means. 'upward': a script climbs. 'free': no row of any plan is on a path that one script modifies and on one that the other
--- traverses. 'meet': some plan has such a row.
+-- What free means. 'upward': a script has an upward step. 'free': no row of any plan is on a path that one script modifies and on one
+-- that the other traverses. 'meet': some plan has such a row.
 use mathlib.Core.Path.{_≡_, refl, sym, ap, _∙_, subst}
 use mathlib.Core.Bool.{Bool, true, false, _&&_, _||_}
 use mathlib.Core.Logic.{_⊎_, inl, inr}

@@ -1,4 +1,4 @@
--- The paths of a script that never climbs: every step leads down and names 1 to 255, and every place is a document's or the script's own.
+-- The paths of a script without upward steps: each step leads down and names 1 to 255, each place is a document's or the script's own.
 use mathlib.Core.Path.{_≡_, refl}
 use mathlib.Core.Bool.{Bool, true, false, _&&_, _||_, not, false≢true}
 use mathlib.Core.Logic.{_⊎_, inl, inr}

@@ -1,4 +1,4 @@
--- THE SIMULATION: in a world, the two runs of any expression without upward steps have outcomes alike.
+-- In a world, the two runs of any expression without upward steps have outcomes alike.
 use mathlib.Core.Path.{_≡_, refl, sym, subst}
 use mathlib.Core.Bool.{Bool, true, false, _||_}
 use mathlib.Core.List.{List, [], _∷_, _++_, map, map-append, Memᴰ·append-left, Memᴰ·append-right, List·Memᴰ as In, List·Memᴰ·head as here}

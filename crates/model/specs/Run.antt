@@ -74,7 +74,7 @@ cutAll z [] s = gives [] s
 cutAll z (i ∷ is) s = cutBy z i s (rowAt (s .plan) i .parent) (λ (t : State). cutAll z is t)
 
 -- INSERT copies each item in order, the item first and then its descendants in rising number, as the table was before the insert;
--- tops hang under the target. The rows copied so far, and their copies, newest first
+-- the copy of an item is a child of the target. The rows copied so far, and their copies, newest first
 pub record Copied : Type 0 where
   pub old : ℕ
   pub new : ℕ

@@ -80,7 +80,8 @@ endedBy p i j e ss = record { progress = p; place = pick (eqb (p .number) 0) j i
 -- 8, past the limit of items
 abbrev pub limitedBy : Evaluated → (top at : ℕ) → Evaluated
 limitedBy x t i =
-    pick (ltb maxItems (x .end - t)) (record { progress = stopped (x .progress) (itemsAt i .number); place = i; end = x .end; env = x .env }) x
+    pick (ltb maxItems (x .end - t))
+    (record { progress = stopped (x .progress) (itemsAt i .number); place = i; end = x .end; env = x .env }) x
 
 abbrev pub movedTo : (place : ℕ) → Evaluated → Evaluated
 movedTo i x = record { progress = x .progress; place = i; end = x .end; env = x .env }

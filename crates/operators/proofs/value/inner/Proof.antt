@@ -1,3 +1,4 @@
+-- `inner`: a binder has one variable more in its second operand.
 use borrow.Author.Needs.{needs}
 use Rattle.operators.proofs.value.inner.Statement.{statement}
 use Rattle.operators.proofs.value.inner.Tie as tie
