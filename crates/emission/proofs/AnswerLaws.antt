@@ -1,6 +1,6 @@
--- THE THEOREM: the answer by positions is the model's answer, for every two expressions.
+-- The answer by positions is the model's answer, for every two expressions.
 use mathlib.Core.Path.{_≡_, refl, ap, sym, _∙_}
-use mathlib.Core.Bool.{Bool, true, false, _&&_, _||_}
+use mathlib.Core.Bool.{Bool, true, false, _&&_, _||_, and-or-distrib-left}
 use mathlib.Core.Logic.{inl, inr}
 use mathlib.Core.List.{List, [], _∷_, _++_}
 use Prim.Native.Nat.{ℕ, zero, suc, _<_, _≤_}
@@ -8,21 +8,22 @@ use native.Mathlib.Omega.{arith}
 use lib.ListN.{length, take}
 use lib.Seq.{take-suc, take-all}
 use borrow.Author.Tests.{ne-eqb}
-use Rattle.model.specs.Base.{pick, any}
+use Rattle.model.specs.Base.{pick, any, All, nothing, also}
 use Rattle.model.specs.Script.{Expr}
-use Rattle.model.specs.Paths.{Path, start, place, pathsOf, traversed, hasUp}
+use Rattle.model.specs.Paths.{placeOf, Path, start, place, pathsOf, traversed, hasUp}
 use Rattle.model.specs.Meeting.{isMet, meets, anyMeet, pathsMeet, free, upward, meet, answer}
-use Rattle.model.proofs.All.{All, nothing, also, all-imp}
+use Rattle.model.proofs.BoolLaws.{or-swap}
+use Rattle.model.proofs.All.{all-in}
+use Rattle.model.proofs.ListLaws.{any-append, any-same}
 use Rattle.emission.specs.Positions.{Entry, plain, nowhere, entryAt, AreLower, emit, entriesBefore, entriesOf, pathsFrom, pathsOn}
 use Rattle.meeting.specs.Cells.{between}
 use Rattle.emission.specs.Sources.{anyUpTo, isTested, positionsMeet, answerBy}
-use Rattle.meeting.proofs.CellLaws.{or-swap, and-or, isMet-between, isMet-join, between-second}
+use Rattle.meeting.proofs.CellLaws.{isMet-between, isMet-join, between-second}
 use Rattle.meeting.proofs.MirrorLaws.{anyMeet-mirror}
 use Rattle.emission.proofs.PositionLaws.{pathsOn-split}
-use Rattle.emission.proofs.DocumentLaws.{origin, documents, owners-apart}
+use Rattle.emission.proofs.DocumentLaws.{documents, owners-apart}
 use Rattle.emission.proofs.EmitLaws.{markedFrom, marked, isAccessed, isModified, marked-push, Ready, Right, none, emits}
-use Rattle.emission.proofs.TraverseLaws.{any-append, any-same, any-traversed, Own, modified-own, accessed-own, any-documents}
-use Rattle.emission.proofs.TraverseLaws.{documents-are}
+use Rattle.emission.proofs.TraverseLaws.{any-traversed, Own, modified-own, accessed-own, any-documents, documents-are}
 
 -- UP TO a number
 pub anyUpTo-same : (f g : ℕ → Bool) (n : ℕ) → ((k : ℕ) → f k ≡ g k) → anyUpTo f n ≡ anyUpTo g n
@@ -40,7 +41,7 @@ anyUpTo-and : (a : Bool) (f : ℕ → Bool) (n : ℕ) → (a && anyUpTo f n) ≡
 unfolding anyUpTo
 anyUpTo-and true f zero = refl
 anyUpTo-and false f zero = refl
-anyUpTo-and a f (suc n) = and-or a (anyUpTo f n) (f n) ∙ ap (λ (t : Bool). t || (a && f n)) (anyUpTo-and a f n)
+anyUpTo-and a f (suc n) = and-or-distrib-left a (anyUpTo f n) (f n) ∙ ap (λ (t : Bool). t || (a && f n)) (anyUpTo-and a f n)
 
 -- MARKED POSITIONS: a test of lists of paths, that of a joined list being either's, at each marked position
 module _ (h : List Path → Bool) (none : h [] ≡ false) (append : (ps qs : List Path) → h (ps ++ qs) ≡ (h ps || h qs)) (f : Entry → Bool)
@@ -122,29 +123,30 @@ module _ (es fs : List Entry) where
 
 -- TWO SCRIPTS: what one modifies and the other traverses
 module _ (o o′ : ℕ) (first : o ≡ 0 → ⊥) (second : o′ ≡ 0 → ⊥) (other : o ≡ o′ → ⊥) where
-  own-apart : (p : Path) → Own o p → (q : Path) → origin q .owner ≡ o′ → meets p q ≡ false
-  own-apart p (inl e) q f = owners-apart p q (ne-eqb (origin p .owner) (origin q .owner) (λ g. second (sym f ∙ sym g ∙ e)))
-  own-apart p (inr e) q f = owners-apart p q (ne-eqb (origin p .owner) (origin q .owner) (λ g. other (sym e ∙ g ∙ f)))
+  own-apart : (p : Path) → Own o p → (q : Path) → placeOf q .owner ≡ o′ → meets p q ≡ false
+  own-apart p (inl e) q f = owners-apart p q (ne-eqb (placeOf p .owner) (placeOf q .owner) (λ g. second (sym f ∙ sym g ∙ e)))
+  own-apart p (inr e) q f = owners-apart p q (ne-eqb (placeOf p .owner) (placeOf q .owner) (λ g. other (sym e ∙ g ∙ f)))
 
   traversed-met : (p : Path) → Own o p →
       (f : Expr) → any (meets p) (traversed (pathsOf o′ f)) ≡ any (meets p) (documents (pathsOf o′ f .accessed))
-  unfolding origin
+  unfolding placeOf
   traversed-met p h f =
       any-traversed (meets p) o′ (λ z. own-apart p h (start (place o′ z)) refl) f ∙
       any-documents (meets p) o′ (own-apart p h) (pathsOf o′ f .accessed) (accessed-own o′ f)
 
-  any-false : (p : Path) → origin p .owner ≡ o → {qs : List Path} → All (λ (q : Path). origin q .owner ≡ 0) qs → any (meets p) qs ≡ false
+  any-false : (p : Path) → placeOf p .owner ≡ o → {qs : List Path} → All (λ (q : Path). placeOf q .owner ≡ 0) qs → any (meets p) qs ≡ false
   unfolding any
   any-false p e nothing = refl
   any-false p e (also {a} {l} h all) =
-      ap (λ (t : Bool). t || any (meets p) l) (owners-apart p a (ne-eqb (origin p .owner) (origin a .owner) (λ g. first (sym e ∙ g ∙ h)))) ∙
+      ap (λ (t : Bool). t || any (meets p) l)
+      (owners-apart p a (ne-eqb (placeOf p .owner) (placeOf a .owner) (λ g. first (sym e ∙ g ∙ h)))) ∙
       any-false p e all
 
   pub scripts-meet : (e f : Expr) → anyMeet (pathsOf o e .modified) (traversed (pathsOf o′ f)) ≡
       anyMeet (documents (pathsOf o e .modified)) (documents (pathsOf o′ f .accessed))
   scripts-meet e f =
       any-same (λ (p : Path). any (meets p) (traversed (pathsOf o′ f))) (λ (p : Path). any (meets p) (documents (pathsOf o′ f .accessed)))
-      (pathsOf o e .modified) (all-imp (λ p h. traversed-met p h f) (modified-own o e)) ∙
+      (pathsOf o e .modified) (λ p i. traversed-met p (all-in (modified-own o e) i) f) ∙
       any-documents (λ (p : Path). any (meets p) (documents (pathsOf o′ f .accessed))) o
       (λ p h. any-false p h (documents-are (pathsOf o′ f .accessed)))
       (pathsOf o e .modified) (modified-own o e)

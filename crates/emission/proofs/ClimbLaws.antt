@@ -1,6 +1,6 @@
 -- A script holds a step that leads up when one of its positions is such a step.
 use mathlib.Core.Path.{_≡_, refl, ap, sym, _∙_}
-use mathlib.Core.Bool.{Bool, true, false, _&&_, _||_, not, true≢false}
+use mathlib.Core.Bool.{Bool, true, false, _&&_, _||_, not, true≢false, or-false, or-assoc, or-comm}
 use mathlib.Core.List.{List, [], _∷_, _++_}
 use Prim.Native.Nat.{ℕ, zero, suc, _<_, _≤_}
 use native.Mathlib.Omega.{arith}
@@ -13,16 +13,14 @@ use Rattle.model.specs.Script.{Step, stepBy, Expr, nil, document, var, step, bo
 use Rattle.model.specs.Script.{insert, choose}
 use Rattle.model.specs.Paths.{anyBelow, isUp, hasUp}
 use Rattle.model.proofs.BoolLaws.{by-cases, and-right}
+use Rattle.model.proofs.ListLaws.{any-append}
 use Rattle.emission.specs.Positions as positions
 use Rattle.emission.specs.Positions.{nowhere, root, over, union, Entry, plain, accessing, modifying, entryAt, isClimb, Emitted}
 use Rattle.emission.specs.Positions.{pushStep, pushUnion, pushDelete, pushBelow, emit, entriesBefore, entriesOf}
 use Rattle.emission.specs.Sources.{anyUpTo}
-use Rattle.emission.specs.Words.{positionBy, fieldsOf, entryOf}
-use Rattle.emission.specs.Words.{entriesBy, climbAt, climbing}
+use Rattle.emission.specs.Words.{positionBy, fieldsOf, entryOf, entriesBy, climbAt, climbing}
 use Rattle.emission.specs.declared.positions.Position.{Position}
-use Rattle.meeting.proofs.CellLaws.{or-false, or-assoc}
 use Rattle.emission.proofs.EmitLaws.{picked}
-use Rattle.emission.proofs.TraverseLaws.{any-append}
 
 -- ONE POSITION, by its fields
 pub climb-is : (p : Position) (t : Bool) → t ≡ (eqb (p .kind) 2 && leb 2 (p .axis)) → t ≡ isClimb (positionBy p)
@@ -112,14 +110,8 @@ emit-climbs (nil z) ns es = sym (or-false (any climbs es))
 emit-climbs (document z d) ns es = any-push es _
 emit-climbs (var z v) ns es = sym (or-false (any climbs es))
 emit-climbs (step z s e) ns es =
-    step-climbs s (emit e ns es) ∙ ap (λ (t : Bool). t || isUp s) (emit-climbs e ns es) ∙ swap (any climbs es) (hasUp e) (isUp s)
-  where
-    swap : (a b c : Bool) → (a || b || c) ≡ (a || (c || b))
-    swap true b c = refl
-    swap false true true = refl
-    swap false true false = refl
-    swap false false true = refl
-    swap false false false = refl
+    step-climbs s (emit e ns es) ∙ ap (λ (t : Bool). t || isUp s) (emit-climbs e ns es) ∙ or-assoc (any climbs es) (hasUp e) (isUp s) ∙
+    ap (λ (t : Bool). any climbs es || t) (or-comm (hasUp e) (isUp s))
 emit-climbs (both z e f) ns es =
     union-climbs (emit e ns es .result) (emit f ns (emit e ns es .entries)) ∙
     twice e f ns ns es (emit-climbs e ns es) (emit-climbs f ns (emit e ns es .entries))

@@ -5,19 +5,14 @@ use mathlib.Core.List.{List, [], _∷_, _++_}
 use lib.Dec.{eqb}
 use Rattle.model.specs.Base.{pick}
 use Rattle.model.specs.Script.{Step}
-use Rattle.model.specs.Paths.{Place, Path, start, _▸_, withStep}
+use Rattle.model.specs.Paths.{placeOf, Place, Path, start, _▸_, withStep}
 use Rattle.model.specs.Meeting.{Cell, onCell, joinCell, samePlace, isConstructor, onStep, downStep, upStep, startCells, stepCells, cell}
 use Rattle.model.specs.Meeting.{isMet, meets}
 use Rattle.meeting.specs.Cells.{noCell}
 use Rattle.meeting.proofs.CellLaws.{on-respects, down-respects, up-respects}
 
--- the place a path starts at
-unfoldable pub origin : Path → Place
-origin (start p) = p
-origin (p ▸ s) = origin p
-
 abbrev pub isDocument : Path → Bool
-isDocument p = eqb (origin p .owner) 0
+isDocument p = eqb (placeOf p .owner) 0
 
 -- those of a list that start at a document
 unfoldable pub documents : List Path → List Path
@@ -36,7 +31,7 @@ documents-append (p ∷ ps) qs =
     go false = refl
 
 pub documents-step : (s : Step) (ps : List Path) → documents (withStep s ps) ≡ withStep s (documents ps)
-unfolding documents withStep origin
+unfolding documents withStep placeOf
 documents-step s [] = refl
 documents-step s (p ∷ ps) =
     ap (λ (l : List Path). pick (isDocument p) ((p ▸ s) ∷ l) l) (documents-step s ps) ∙ go (isDocument p)
@@ -47,13 +42,13 @@ documents-step s (p ∷ ps) =
     go false = refl
 
 -- APART: paths from different places have nothing in common
-start-apart : (p : Place) (q : Path) → samePlace p (origin q) ≡ false → cell (start p) q ≡ noCell
-unfolding cell startCells origin
+start-apart : (p : Place) (q : Path) → samePlace p (placeOf q) ≡ false → cell (start p) q ≡ noCell
+unfolding cell startCells placeOf
 start-apart p (start q) e = ap (λ (t : Bool). onCell t (t && isConstructor p)) e
 start-apart p (q ▸ t) e = ap (upStep t) (start-apart p q e) ∙ up-respects t .none
 
-step-apart : (s : Step) (p q : Path) → ((r : Path) → origin r ≡ origin q → cell p r ≡ noCell) → cell (p ▸ s) q ≡ noCell
-unfolding cell stepCells origin
+step-apart : (s : Step) (p q : Path) → ((r : Path) → placeOf r ≡ placeOf q → cell p r ≡ noCell) → cell (p ▸ s) q ≡ noCell
+unfolding cell stepCells placeOf
 step-apart s p (start q) h = ap (downStep s) (h (start q) refl) ∙ down-respects s .none
 step-apart s p (q ▸ t) h =
     ap (λ (c : Cell). joinCell (onStep s t c) (joinCell (downStep s (cell p (q ▸ t))) (upStep t (cell (p ▸ s) q)))) (h q refl) ∙
@@ -62,10 +57,10 @@ step-apart s p (q ▸ t) h =
     ap (λ (c : Cell). joinCell c (upStep t (cell (p ▸ s) q))) (down-respects s .none) ∙
     ap (upStep t) (step-apart s p q h) ∙ up-respects t .none
 
-pub cell-apart : (p q : Path) → samePlace (origin p) (origin q) ≡ false → cell p q ≡ noCell
-unfolding origin
+pub cell-apart : (p q : Path) → samePlace (placeOf p) (placeOf q) ≡ false → cell p q ≡ noCell
+unfolding placeOf
 cell-apart (start p) q e = start-apart p q e
-cell-apart (p ▸ s) q e = step-apart s p q (λ r f. cell-apart p r (ap (samePlace (origin p)) f ∙ e))
+cell-apart (p ▸ s) q e = step-apart s p q (λ r f. cell-apart p r (ap (samePlace (placeOf p)) f ∙ e))
 
-pub owners-apart : (p q : Path) → eqb (origin p .owner) (origin q .owner) ≡ false → meets p q ≡ false
-owners-apart p q e = ap isMet (cell-apart p q (ap (λ (t : Bool). t && eqb (origin p .number) (origin q .number)) e))
+pub owners-apart : (p q : Path) → eqb (placeOf p .owner) (placeOf q .owner) ≡ false → meets p q ≡ false
+owners-apart p q e = ap isMet (cell-apart p q (ap (λ (t : Bool). t && eqb (placeOf p .number) (placeOf q .number)) e))

@@ -11,13 +11,13 @@ use lib.Seq.{getD-at}
 use borrow.Author.Tests.{ne-eqb, eqb-true, eqb-false}
 use Rattle.model.specs.Base.{pick}
 use Rattle.model.specs.Script.{Step, Expr, nil, document, var, step, both, letIn, forIn, ifIn, element, leaf, delete, insert, choose}
-use Rattle.model.specs.Paths.{Path, start, place, withStep, anyBelow, infer, isUp}
+use Rattle.model.specs.Paths.{placeOf, Path, start, place, withStep, anyBelow, infer, isUp}
 use Rattle.model.proofs.BoolLaws.{by-cases, and-left}
 use Rattle.emission.specs.Positions.{Position, over, union, Entry, plain, accessing, modifying, entryAt, IsLower, AreLower}
 use Rattle.emission.specs.Positions.{Emitted, emitted, push, pushStep, pushUnion, pushDelete, pushBelow, pushInsert, emit}
 use Rattle.emission.specs.Positions.{pathsAt, pathsFrom, pathsBy, pathsOn}
 use Rattle.emission.proofs.PositionLaws.{pathsOn-keeps, pathsOn-next}
-use Rattle.emission.proofs.DocumentLaws.{origin, documents, documents-append, documents-step}
+use Rattle.emission.proofs.DocumentLaws.{documents, documents-append, documents-step}
 
 -- the paths of the positions with a mark, in order
 unfoldable pub markedFrom : (Entry → Bool) → (lower : List (List Path)) → List Entry → List Path
@@ -352,7 +352,7 @@ module _ (o : ℕ) (own : o ≡ 0 → ⊥) where
       (ap (λ (v : List Path). v ++ withStep anyBelow r′) (append-nil (m ++ m′))) written
 
   constructed : (es : List Entry) → Ready es → (n : ℕ) → Right es (start (place o n) ∷ []) [] (start (place o n) ∷ []) (emitted 0 es)
-  unfolding documents origin
+  unfolding documents placeOf
   constructed es z n =
       let w : documents (start (place o n) ∷ []) ≡ [] = rw (ne-eqb o 0 own) in
       let h = known es z 0 [] (z .some) (z .zero) in
@@ -367,7 +367,7 @@ module _ (o : ℕ) (own : o ≡ 0 → ⊥) where
       }
 
   pub emits : (e : Expr) → Emits e
-  unfolding emit infer documents origin
+  unfolding emit infer documents placeOf
   emits (nil z) ns rs es y b = known es y 0 [] (y .some) (y .zero)
   emits (document z d) ns rs es y b =
       pushed es [] [] [] (emitted 0 es) (known es y 0 [] (y .some) (y .zero)) (accessing _) _ _ [] tt refl refl refl

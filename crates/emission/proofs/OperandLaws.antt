@@ -8,14 +8,14 @@ use lib.ListN.{getD}
 use borrow.Author.Tests.{eqb-true, eqb-false}
 use Rattle.model.specs.Script.{Expr, nil, document, var, step, both, letIn, forIn, element, leaf, delete, insert, choose, stepBy}
 use Rattle.model.proofs.BoolLaws.{by-cases}
-use Rattle.script.specs.Walk.{arity, inner, endAt, firstAt, secondAt, thirdAt, exprAt}
+use Rattle.script.specs.Walk.{withBound, arity, inner, endAt, firstAt, secondAt, thirdAt, exprAt}
 use Rattle.script.specs.Accepted.{Accepted, RecordFits, Nullary, Unary, Binary}
 use Rattle.script.proofs.KindLaws.{nullary-kind, unary-kind, binary-kind, two-left}
 use Rattle.script.proofs.AcceptedLaws.{accepted-record, accepted-nil, accepted-document, accepted-variable, accepted-element, accepted-leaf}
 use Rattle.script.proofs.AcceptedLaws.{accepted-step, accepted-delete, accepted-pick, accepted-join, accepted-let, accepted-for}
 use Rattle.script.proofs.AcceptedLaws.{accepted-insert, accepted-if}
 use Rattle.emission.specs.Positions.{Entry, emit, pushUnion}
-use Rattle.emission.specs.Emitting.{recordsOf, nullaryOf, unaryOf, binaryOf, within}
+use Rattle.emission.specs.Emitting.{recordsOf, nullaryOf, unaryOf, binaryOf}
 
 module _ (b : List ℕ) (at left v : ℕ) (a : Accepted b at left v) where
   abbrev one : Expr
@@ -86,7 +86,7 @@ module _ (b : List ℕ) (at left v : ℕ) (a : Accepted b at left v) where
     pub second : Accepted b (secondAt b at) (left - 1) (inner (getD b at 0) v)
     pub emits : (ns : List ℕ) (es : List Entry) → emit (exprAt left b at) ns es ≡
         binaryOf (getD b at 0) (emit (exprAt (left - 1) b (firstAt b at)) ns es .result)
-        (emit (exprAt (left - 1) b (secondAt b at)) (within (getD b at 0) ns (emit (exprAt (left - 1) b (firstAt b at)) ns es .result))
+        (emit (exprAt (left - 1) b (secondAt b at)) (withBound (getD b at 0) ns (emit (exprAt (left - 1) b (firstAt b at)) ns es .result))
         (emit (exprAt (left - 1) b (firstAt b at)) ns es .entries))
     pub ends : endAt b at ≡ thirdAt b at
     pub size : recordsOf (exprAt left b at) ≡ 1 + recordsOf (exprAt (left - 1) b (firstAt b at)) + recordsOf
@@ -94,7 +94,7 @@ module _ (b : List ℕ) (at left v : ℕ) (a : Accepted b at left v) where
 
   two-of : (w : ℕ) (make : Expr → Expr → Expr) → Binary b at left v w make → w ≡ inner (getD b at 0) v →
       ((x y : Expr) (ns : List ℕ) (es : List Entry) → emit (make x y) ns es ≡
-      binaryOf (getD b at 0) (emit x ns es .result) (emit y (within (getD b at 0) ns (emit x ns es .result)) (emit x ns es .entries))) →
+      binaryOf (getD b at 0) (emit x ns es .result) (emit y (withBound (getD b at 0) ns (emit x ns es .result)) (emit x ns es .entries))) →
       ((x y : Expr) → recordsOf (make x y) ≡ 1 + recordsOf x + recordsOf y) → Two
   two-of w make u scope f s =
       record {
@@ -120,7 +120,7 @@ module _ (b : List ℕ) (at left v : ℕ) (a : Accepted b at left v) where
     pub second : Accepted b (secondAt b at) (left - 1) (inner (getD b at 0) v)
     pub third : Accepted b (thirdAt b at) (left - 1) v
     pub scope : inner (getD b at 0) v ≡ v
-    pub same : (ns : List ℕ) (r : ℕ) → within (getD b at 0) ns r ≡ ns
+    pub same : (ns : List ℕ) (r : ℕ) → withBound (getD b at 0) ns r ≡ ns
     pub emits : (ns : List ℕ) (es : List Entry) → emit (exprAt left b at) ns es ≡
         pushUnion (emit (exprAt (left - 1) b (secondAt b at)) ns (emit (exprAt (left - 1) b (firstAt b at)) ns es .entries) .result)
         (emit (exprAt (left - 1) b (thirdAt b at)) ns

@@ -1,41 +1,20 @@
 -- Every prefix of an accessed path that starts at a document is accessed itself; so a test that fails on the script's own places finds
 -- among the traversed paths what it finds among the accessed ones that start at a document.
 use mathlib.Core.Path.{_≡_, refl, ap, sym, _∙_}
-use mathlib.Core.Bool.{Bool, true, false, _||_, false≢true}
+use mathlib.Core.Bool.{Bool, true, false, _||_, false≢true, or-false, or-assoc}
 use mathlib.Core.Logic.{_⊎_, inl, inr, ⊎-elim}
 use mathlib.Core.List.{List, [], _∷_, _++_, append-assoc}
 use Prim.Native.Nat.{ℕ, zero, suc}
 use lib.ListN.{getD}
 use borrow.Author.Tests.{eqb-true, eqb-false}
-use Rattle.model.specs.Base.{pick, any}
+use Rattle.model.specs.Base.{pick, any, All, nothing, also}
 use Rattle.model.specs.Script.{Step, Expr, nil, document, var, step, both, letIn, forIn, ifIn, element, leaf, delete, insert, choose}
-use Rattle.model.specs.Paths.{Path, start, _▸_, place, withStep, anyBelow, Paths, infer, pathsOf, prefixesOf, prefixed}
+use Rattle.model.specs.Paths.{placeOf, Path, start, _▸_, place, withStep, anyBelow, Paths, infer, pathsOf, prefixesOf, prefixed}
 use Rattle.model.specs.Paths.{traversed, joinPaths, binding, modifiedPlace}
-use Rattle.model.proofs.BoolLaws.{or-left, or-right, or-cases, bool-iff, by-cases}
-use Rattle.model.proofs.All.{All, nothing, also, all-append}
-use Rattle.meeting.proofs.CellLaws.{or-false, or-assoc, or-swap}
-use Rattle.emission.proofs.DocumentLaws.{origin, isDocument, documents}
-
--- ANY of lists
-module _ {A : Type 0} (f : A → Bool) where
-  pub any-append : (k l : List A) → any f (k ++ l) ≡ (any f k || any f l)
-  unfolding any
-  any-append [] l = refl
-  any-append (x ∷ k) l = ap (λ (t : Bool). f x || t) (any-append k l) ∙ sym (or-assoc (f x) (any f k) (any f l))
-
-  pub any-left : (k l : List A) → any f k ≡ true → any f (k ++ l) ≡ true
-  any-left k l h = any-append k l ∙ or-left (any f k) (any f l) h
-
-  pub any-right : (k l : List A) → any f l ≡ true → any f (k ++ l) ≡ true
-  any-right k l h = any-append k l ∙ or-right (any f k) (any f l) h
-
-  pub any-either : {G : Type 0} (k l : List A) → (any f k ≡ true → G) → (any f l ≡ true → G) → any f (k ++ l) ≡ true → G
-  any-either k l g h e = ⊎-elim g h (or-cases (any f k) (any f l) (sym (any-append k l) ∙ e))
-
-pub any-same : {A : Type 0} (f g : A → Bool) (l : List A) → All (λ (a : A). f a ≡ g a) l → any f l ≡ any g l
-unfolding any
-any-same f g [] nothing = refl
-any-same f g (x ∷ l) (also e a) = ap (λ (t : Bool). t || any f l) e ∙ ap (λ (t : Bool). g x || t) (any-same f g l a)
+use Rattle.model.proofs.BoolLaws.{or-swap, or-left, or-cases, bool-iff, by-cases}
+use Rattle.model.proofs.All.{all-read, all-append}
+use Rattle.model.proofs.ListLaws.{any-append, any-left, any-right, any-either}
+use Rattle.emission.proofs.DocumentLaws.{isDocument, documents}
 
 -- PREFIXES
 prefixed-append : (ps qs : List Path) → prefixed (ps ++ qs) ≡ prefixed ps ++ prefixed qs
@@ -180,7 +159,7 @@ module _ (f : Path → Bool) where
 
 -- ORIGINS: every path of a script starts at a document or at the script's own place
 abbrev pub Own : (owner : ℕ) → Path → Type 0
-Own o p = (origin p .owner ≡ 0) ⊎ (origin p .owner ≡ o)
+Own o p = (placeOf p .owner ≡ 0) ⊎ (placeOf p .owner ≡ o)
 
 record Owned (o : ℕ) (x : Paths) : Type 0 where
   result : All (Own o) (x .result)
@@ -188,24 +167,19 @@ record Owned (o : ℕ) (x : Paths) : Type 0 where
   modified : All (Own o) (x .modified)
 
 own-step : {o : ℕ} (s : Step) {ps : List Path} → All (Own o) ps → All (Own o) (withStep s ps)
-unfolding withStep origin
+unfolding withStep placeOf
 own-step s nothing = nothing
 own-step s (also h a) = also h (own-step s a)
-
-own-at : {o : ℕ} {rs : List (List Path)} → All (All (Own o)) rs → (v : ℕ) → All (Own o) (getD rs v [])
-own-at nothing v = nothing
-own-at (also h a) zero = h
-own-at (also h a) (suc v) = own-at a v
 
 own-after : {o : ℕ} {x y : Paths} {r : List Path} → Owned o x → Owned o y → All (Own o) r → Owned o (joinPaths x y r)
 own-after h i g =
     record { result = g; accessed = all-append (h .accessed) (i .accessed); modified = all-append (h .modified) (i .modified) }
 
 owned : (o : ℕ) (e : Expr) (rs : List (List Path)) → All (All (Own o)) rs → Owned o (infer o e rs)
-unfolding infer origin
+unfolding infer placeOf
 owned o (nil z) rs k = record { result = nothing; accessed = nothing; modified = nothing }
 owned o (document z d) rs k = record { result = also (inl refl) nothing; accessed = also (inl refl) nothing; modified = nothing }
-owned o (var z v) rs k = record { result = own-at k v; accessed = nothing; modified = nothing }
+owned o (var z v) rs k = record { result = all-read [] nothing k v; accessed = nothing; modified = nothing }
 owned o (step z s e) rs k =
     let h = owned o e rs k in
     record {
@@ -256,7 +230,7 @@ pub accessed-own : (o : ℕ) (e : Expr) → All (Own o) (pathsOf o e .accessed)
 accessed-own o e = owned o e [] nothing .accessed
 
 -- a test that fails on the script's own places finds those that start at a document only
-pub any-documents : (f : Path → Bool) (o : ℕ) → ((p : Path) → origin p .owner ≡ o → f p ≡ false) → (ps : List Path) → All (Own o) ps →
+pub any-documents : (f : Path → Bool) (o : ℕ) → ((p : Path) → placeOf p .owner ≡ o → f p ≡ false) → (ps : List Path) → All (Own o) ps →
     any f ps ≡ any f (documents ps)
 unfolding any documents
 any-documents f o own [] nothing = refl
@@ -266,19 +240,19 @@ any-documents f o own (p ∷ ps) (also h a) = go (any-documents f o own ps a)
     kept rest t = ap (λ (u : Bool). f p || u) rest ∙ sym (ap (λ (u : Bool). any f (pick u (p ∷ documents ps) (documents ps))) t)
 
     dropped : any f ps ≡ any f (documents ps) → isDocument p ≡ false → Own o p → any f (p ∷ ps) ≡ any f (documents (p ∷ ps))
-    dropped rest t (inl e) = absurd (eqb-false (origin p .owner) 0 t e)
+    dropped rest t (inl e) = absurd (eqb-false (placeOf p .owner) 0 t e)
     dropped rest t (inr e) =
         ap (λ (u : Bool). u || any f ps) (own p e) ∙ rest ∙ sym (ap (λ (u : Bool). any f (pick u (p ∷ documents ps) (documents ps))) t)
 
     go : any f ps ≡ any f (documents ps) → any f (p ∷ ps) ≡ any f (documents (p ∷ ps))
     go rest = by-cases (isDocument p) (kept rest) (λ t. dropped rest t h)
 
-pub documents-are : (ps : List Path) → All (λ (p : Path). origin p .owner ≡ 0) (documents ps)
+pub documents-are : (ps : List Path) → All (λ (p : Path). placeOf p .owner ≡ 0) (documents ps)
 unfolding documents
 documents-are [] = nothing
 documents-are (p ∷ ps) = go (documents-are ps) (isDocument p) refl
   where
-    go : All (λ (q : Path). origin q .owner ≡ 0) (documents ps) → (t : Bool) → isDocument p ≡ t →
-        All (λ (q : Path). origin q .owner ≡ 0) (pick t (p ∷ documents ps) (documents ps))
-    go a true e = also (eqb-true (origin p .owner) 0 e) a
+    go : All (λ (q : Path). placeOf q .owner ≡ 0) (documents ps) → (t : Bool) → isDocument p ≡ t →
+        All (λ (q : Path). placeOf q .owner ≡ 0) (pick t (p ∷ documents ps) (documents ps))
+    go a true e = also (eqb-true (placeOf p .owner) 0 e) a
     go a false e = a

@@ -11,14 +11,14 @@ use borrow.Author.Tests.{eqb-true, eqb-false, ltb-true}
 use Rattle.model.specs.Base.{pick, isIn}
 use Rattle.model.specs.Script.{testFits, varKind, isBinder}
 use Rattle.model.proofs.BoolLaws.{by-cases, and-left}
-use Rattle.script.specs.Walk.{arity, inner, firstAt, secondAt, thirdAt, exprAt}
+use Rattle.script.specs.Walk.{withBound, arity, inner, firstAt, secondAt, thirdAt, exprAt}
 use Rattle.script.specs.Accepted.{Accepted, RecordFits}
 use Rattle.script.proofs.AcceptedLaws.{accepted-record}
 use Rattle.script.proofs.FieldLaws.{document-number, variable-number, step-axis, step-test}
 use Rattle.emission.specs.Positions.{emit}
 use Rattle.emission.specs.Positions as positions
 use Rattle.emission.specs.Words.{entriesIn}
-use Rattle.emission.specs.Emitting.{recordsOf, outOf, nullaryOf, unaryOf, binaryOf, within, PairedPre, UnaryPre, Grown}
+use Rattle.emission.specs.Emitting.{recordsOf, outOf, nullaryOf, unaryOf, binaryOf, PairedPre, UnaryPre, Grown}
 use Rattle.emission.specs.Emitting.{NullaryPre, NullaryPost, BindPre, BindPost, EmitPre, EmitPost}
 use Rattle.emission.specs.declared.emit.Emitted.{Emitted}
 use Rattle.emission.proofs.OperandLaws.{no-operand, one-operand, two-operands, Three, three-operands}
@@ -185,14 +185,14 @@ module _ {b : List ℕ} {at left v : ℕ} {env ws : List ℕ} {n : ℕ} (pre : E
             (subst (λ (q : ℕ). EmitPost b q (left - 1) w env′ ws₁ (r₁ .count) ws₂ r₂) (first .place) post₂)
 
         second-is : outOf ws₂ r₂ ≡ emit (exprAt (left - 1) b (secondAt b at))
-            (within (getD b at 0) (take v env) (emit (exprAt (left - 1) b (firstAt b at)) (take v env) (entriesIn ws n) .result))
+            (withBound (getD b at 0) (take v env) (emit (exprAt (left - 1) b (firstAt b at)) (take v env) (entriesIn ws n) .result))
             (emit (exprAt (left - 1) b (firstAt b at)) (take v env) (entriesIn ws n) .entries)
         second-is =
             second .is ∙ ap (λ (ns : List ℕ). emit (exprAt (left - 1) b (secondAt b at)) ns (entriesIn ws₁ (r₁ .count))) (bound .is) ∙
-            ap (λ (r : ℕ). emit (exprAt (left - 1) b (secondAt b at)) (within (getD b at 0) (take v env) r) (entriesIn ws₁ (r₁ .count)))
+            ap (λ (r : ℕ). emit (exprAt (left - 1) b (secondAt b at)) (withBound (getD b at 0) (take v env) r) (entriesIn ws₁ (r₁ .count)))
             result-is ∙
             ap (emit (exprAt (left - 1) b (secondAt b at))
-            (within (getD b at 0) (take v env) (emit (exprAt (left - 1) b (firstAt b at)) (take v env) (entriesIn ws n) .result)))
+            (withBound (getD b at 0) (take v env) (emit (exprAt (left - 1) b (firstAt b at)) (take v env) (entriesIn ws n) .result)))
             entries-are
 
         -- TWO OPERANDS

@@ -1,14 +1,15 @@
 -- Emission from a script's bytes, in place: what each part asks and leaves. Assumes nothing: these are definitions.
 use mathlib.Core.Path.{_≡_}
 use mathlib.Core.Bool.{true}
-use mathlib.Core.List.{List, [], _∷_, _++_}
+use mathlib.Core.List.{List}
 use Prim.Native.Nat.{ℕ, _+_, _*_, _≤_, _<_}
 use lib.Dec.{eqb}
 use lib.ListN.{length, getD, take}
 use Rattle.model.specs.Base.{pick}
+use Rattle.model.specs.Limits.{maxBinders}
 use Rattle.model.specs.Script.{Expr, nil, document, var, step, both, letIn, forIn, ifIn, element, leaf, delete, insert, choose, stepBy}
 use Rattle.model.specs.Script.{documentKind, varKind, stepKind, bothKind, deleteKind, insertKind, isBinder, bodySize}
-use Rattle.script.specs.Walk.{inner, endAt, exprAt}
+use Rattle.script.specs.Walk.{withBound, inner, endAt, exprAt}
 use Rattle.script.specs.Accepted.{Accepted}
 use Rattle.emission.specs.Positions as positions
 use Rattle.emission.specs.Words.{entriesIn}
@@ -50,10 +51,6 @@ unaryOf b i x =
 abbrev pub binaryOf : (kind first : ℕ) → positions.Emitted → positions.Emitted
 binaryOf k r y =
     pick (eqb k bothKind) (positions.pushUnion r y) (pick (eqb k insertKind) (positions.pushInsert r y) y)
-
--- the variables of the second operand: a binder's first result is one more
-abbrev pub within : (kind : ℕ) → (bound : List ℕ) → (result : ℕ) → List ℕ
-within k ns r = pick (isBinder k) (ns ++ (r ∷ [])) ns
 
 -- room for the entries of one record more
 pub record GrowPre (ws : List ℕ) (y : Emitted) : Type 0 where
@@ -121,21 +118,21 @@ pub record Grown (goal : positions.Emitted) (y : Emitted) (ws′ : List ℕ) (r 
 
 -- THE VARIABLES of a second operand
 pub record BindPre (kind : ℕ) (env : List ℕ) (bound result : ℕ) : Type 0 where
-  pub size : length env ≡ 8
+  pub size : length env ≡ maxBinders
   pub few : result < 256
-  pub scope : isBinder kind ≡ true → bound < 8
+  pub scope : isBinder kind ≡ true → bound < maxBinders
 
 pub record BindPost (kind : ℕ) (env : List ℕ) (bound result : ℕ) (env′ : List ℕ) : Type 0 where
-  pub size : length env′ ≡ 8
-  pub is : take (inner kind bound) env′ ≡ within kind (take bound env) result
+  pub size : length env′ ≡ maxBinders
+  pub is : take (inner kind bound) env′ ≡ withBound kind (take bound env) result
   pub low : (n : ℕ) → result < n → ((v : ℕ) → v < bound → getD env v 0 < n) → (v : ℕ) → v < inner kind bound → getD env′ v 0 < n
 
 -- AN EXPRESSION, with the positions of the variables bound around it, behind the first n entries
 pub record EmitPre (b : List ℕ) (at left bound : ℕ) (env ws : List ℕ) (n : ℕ) : Type 0 where
   pub accepted : Accepted b at left bound
-  pub scope : bound ≤ 8
+  pub scope : bound ≤ maxBinders
   pub size : length ws ≡ maxPositions
-  pub variables : length env ≡ 8
+  pub variables : length env ≡ maxBinders
   pub some : 0 < n
   pub room : n + 2 * recordsOf (exprAt left b at) ≤ maxPositions + 1
   pub low : (v : ℕ) → v < bound → getD env v 0 < n

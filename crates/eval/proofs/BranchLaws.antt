@@ -9,7 +9,7 @@ use borrow.Author.Tests.{eq-eqb, ne-eqb}
 use Rattle.model.specs.Base.{pick}
 use Rattle.model.specs.Run.{State, Out, andThen, run}
 use Rattle.model.proofs.BoolLaws.{pick-true, pick-false}
-use Rattle.script.specs.Walk.{endAt, firstAt, secondAt, thirdAt, exprAt}
+use Rattle.script.specs.Walk.{endAt, secondAt, thirdAt, exprAt}
 use Rattle.script.proofs.AcceptedLaws.{accepted-at}
 use Rattle.updates.specs.State.{stateOf}
 use Rattle.query.specs.Values.{valueAt}
@@ -30,17 +30,12 @@ module _ {b : List ℕ} {at left n : ℕ} {env : List Span} {ms ws h w : List �
       pick (eqb (length v) 0) (run (exprAt (left - 1) b (thirdAt b at)) (boundValues w n env) u)
       (run (exprAt (left - 1) b (secondAt b at)) (boundValues w n env) u)
 
-  start : firstAt b at ≡ at + 1
-  start = if-operands (pre .accepted) kind .start
-
   whole-run : run (exprAt left b at) (boundValues w n env) (stateOf ws ms h p) ≡
       andThen (run (exprAt (left - 1) b (at + 1)) (boundValues w n env) (stateOf ws ms h p)) branches
-  whole-run =
-      if-operands (pre .accepted) kind .runs (boundValues w n env) (stateOf ws ms h p) ∙
-      ap (λ (i : ℕ). andThen (run (exprAt (left - 1) b i) (boundValues w n env) (stateOf ws ms h p)) branches) start
+  whole-run = if-operands (pre .accepted) kind .runs (boundValues w n env) (stateOf ws ms h p)
 
   pub branch-first : EvalPre b (at + 1) (left - 1) n env ms ws h w top p
-  branch-first = operand-asks pre (at + 1) (accepted-at (sym start) (if-operands (pre .accepted) kind .first))
+  branch-first = operand-asks pre (at + 1) (if-operands (pre .accepted) kind .first)
 
   module _ {ws₁ h₁ w₁ : List ℕ} {x : Evaluated} (ran : EvalPost b (at + 1) (left - 1) n env ms ws h w top p ws₁ h₁ w₁ x) where
     pub branch-stops : (x .progress .number ≡ 0 → ⊥) → EvalPost b at left n env ms ws h w top p ws₁ h₁ w₁ x
@@ -51,7 +46,7 @@ module _ {b : List ℕ} {at left n : ℕ} {env : List Span} {ms ws h w : List �
       fine = good pre (at + 1) ran k
 
       second-at : x .place ≡ secondAt b at
-      second-at = fine .place ∙ ap (endAt b) (sym start)
+      second-at = fine .place ∙ if-operands (pre .accepted) kind .next-at
 
       run-from : run (exprAt left b at) (boundValues w n env) (stateOf ws ms h p) ≡
           branches (valueAt w₁ top (x .end)) (stateOf ws₁ ms h₁ (x .progress))

@@ -6,9 +6,9 @@ use Prim.Native.Nat.{ℕ, _+_, _-_, _<_}
 use native.Mathlib.Omega.{arith}
 use lib.ListN.{getD}
 use Rattle.model.specs.Script.{isBinder}
-use Rattle.model.specs.Run.{State, Out, andThen, loop, run}
-use Rattle.model.proofs.ValueLaws.{AreRows, areRows-more}
-use Rattle.script.specs.Walk.{arity, inner, endAt, firstAt, secondAt, exprAt}
+use Rattle.model.specs.Run.{State, Out, andThen, loop, run, AreRows}
+use Rattle.model.proofs.ValueLaws.{areRows-more}
+use Rattle.script.specs.Walk.{withBound, arity, inner, endAt, firstAt, secondAt, exprAt}
 use Rattle.script.specs.Accepted.{Accepted, RecordFits}
 use Rattle.script.proofs.AcceptedLaws.{accepted-record, accepted-at}
 use Rattle.script.proofs.FieldLaws.{step-axis}
@@ -16,8 +16,7 @@ use Rattle.script.proofs.KindLaws.{two-left}
 use Rattle.updates.specs.State.{stateOf}
 use Rattle.query.specs.Values.{valueAt}
 use Rattle.updates.specs.declared.state.Progress.{Progress}
-use Rattle.operators.specs.Evaluating.{boundValues, valuesIn, BindPre, BindPost, Fine, unaryOf, binaryOf, ValuePre}
-use Rattle.operators.specs.Evaluating.{UnaryPre}
+use Rattle.operators.specs.Evaluating.{boundValues, BindPre, BindPost, Fine, unaryOf, binaryOf, ValuePre, UnaryPre}
 use Rattle.operators.specs.Evaluating.{UnaryPost, BinaryPre, BinaryPost, IsBinary, EvalPre, EvalPost}
 use Rattle.operators.specs.declared.value.Span.{Span}
 use Rattle.operators.specs.declared.record.Evaluated.{Evaluated}
@@ -114,36 +113,51 @@ module _ {b : List ℕ} {at left n : ℕ} {env : List Span} {ms ws h w : List �
   pub unary-first : arity (getD b at 0) ≡ 1 → (f : ℕ) → f ≡ firstAt b at → EvalPre b f (left - 1) n env ms ws h w top p
   unary-first z f e = operand-asks f (accepted-at e (one-operand (pre .accepted) z .first))
 
+  -- TWO VALUES, the second behind the first
+  module _ {next : ℕ} {ws₁ h₁ w₁ : List ℕ} {x : Evaluated} (ok : Fine next n env ws h w top p ws₁ h₁ w₁ x) {last m : ℕ}
+      {inside : List Span} {ws₂ h₂ w₂ : List ℕ} {y : Evaluated}
+      (ok₂ : Fine last m inside ws₁ h₁ w₁ (x .end) (x .progress) ws₂ h₂ w₂ y) where
+    first-kept : valueAt w₂ top (x .end) ≡ valueAt w₁ top (x .end)
+    first-kept = value-same w₁ w₂ (x .end) top (x .end) (ok₂ .below) (ok .order) (omega arith)
+
+    pub pair-asks : BinaryPre ws₂ h₂ w₂ top (x .end) y
+    pair-asks =
+        record {
+          value = record {
+            held = ok₂ .after .held;
+            order = ok₂ .order;
+            short = ok₂ .short;
+            room = omega (arith, pre .room, deep, ok .size, ok .short, ok₂ .size);
+            rows = ok₂ .rows;
+            spans = ok₂ .spans;
+          };
+          order = ok .order;
+          short = ok .short;
+          rows = subst (AreRows (y .progress .count)) (sym first-kept) (areRows-more (ok₂ .after .rows) (ok .rows));
+        }
+
   -- BINARY
   module _ (z : IsBinary (getD b at 0)) where
     binary-scope : isBinder (getD b at 0) ≡ true → n < 8
     binary-scope = fits .scope
 
-    abbrev first-run : Out
-    first-run = run (exprAt (left - 1) b (firstAt b at)) (boundValues w n env) (stateOf ws ms h p)
-
     -- the rest of the run, from the first value on
     abbrev rest-run : List ℕ → State → Out
     rest-run v u =
-        andThen (run (exprAt (left - 1) b (secondAt b at)) (valuesIn (getD b at 0) (boundValues w n env) v) u)
+        andThen (run (exprAt (left - 1) b (secondAt b at)) (withBound (getD b at 0) (boundValues w n env) v) u)
         (λ (w : List ℕ) (q : State). binaryOf (getD b at 0) at v w q)
 
-    whole-run : run (exprAt left b at) (boundValues w n env) (stateOf ws ms h p) ≡ andThen first-run rest-run
+    whole-run : run (exprAt left b at) (boundValues w n env) (stateOf ws ms h p) ≡
+        andThen (run (exprAt (left - 1) b (at + 1)) (boundValues w n env) (stateOf ws ms h p)) rest-run
     whole-run = two-operands (pre .accepted) z .runs (boundValues w n env) (stateOf ws ms h p)
 
-    start : firstAt b at ≡ at + 1
-    start = two-operands (pre .accepted) z .start
-
-    first-is : first-run ≡ run (exprAt (left - 1) b (at + 1)) (boundValues w n env) (stateOf ws ms h p)
-    first-is = ap (λ (i : ℕ). run (exprAt (left - 1) b i) (boundValues w n env) (stateOf ws ms h p)) start
-
     pub binary-first : EvalPre b (at + 1) (left - 1) n env ms ws h w top p
-    binary-first = operand-asks (at + 1) (accepted-at (sym start) (two-operands (pre .accepted) z .first))
+    binary-first = operand-asks (at + 1) (two-operands (pre .accepted) z .first)
 
     pub binary-stops : {ws₁ h₁ w₁ : List ℕ} {x : Evaluated} → EvalPost b (at + 1) (left - 1) n env ms ws h w top p ws₁ h₁ w₁ x →
         (x .progress .number ≡ 0 → ⊥) → EvalPost b at left n env ms ws h w top p ws₁ h₁ w₁ x
     binary-stops ran k =
-        stop-yields k (whole-run ∙ ap (λ (q : Out). andThen q rest-run) (first-is ∙ yields-stop ran k))
+        stop-yields k (whole-run ∙ ap (λ (q : Out). andThen q rest-run) (yields-stop ran k))
 
     module _ {ws₁ h₁ w₁ : List ℕ} {x : Evaluated} (ran : EvalPost b (at + 1) (left - 1) n env ms ws h w top p ws₁ h₁ w₁ x)
         (k : x .progress .number ≡ 0) where
@@ -154,7 +168,7 @@ module _ {b : List ℕ} {at left n : ℕ} {env : List Span} {ms ws h w : List �
       bind-asks = record { size = ok .spans; scope = binary-scope; order = ok .order }
 
       second-at : x .place ≡ secondAt b at
-      second-at = ok .place ∙ ap (endAt b) (sym start)
+      second-at = ok .place ∙ two-operands (pre .accepted) z .next-at
 
       module _ {inside : List Span} (bound : BindPost (getD b at 0) (x .env) n top (x .end) inside) where
         pub second-asks : {m : ℕ} → m ≡ inner (getD b at 0) n →
@@ -172,16 +186,16 @@ module _ {b : List ℕ} {at left n : ℕ} {env : List Span} {ms ws h w : List �
             })
 
         -- the second operand's run
-        values : boundValues w₁ (inner (getD b at 0) n) inside ≡ valuesIn (getD b at 0) (boundValues w n env) (valueAt w₁ top (x .end))
+        values : boundValues w₁ (inner (getD b at 0) n) inside ≡ withBound (getD b at 0) (boundValues w n env) (valueAt w₁ top (x .end))
         values =
             bound-inside (next-asks (at + 1) ran k (at + 1) (binary-first .accepted) .scope) bound ∙
-            ap (λ (vs : List (List ℕ)). valuesIn (getD b at 0) vs (valueAt w₁ top (x .end))) (same-bound (at + 1) ran k)
+            ap (λ (vs : List (List ℕ)). withBound (getD b at 0) vs (valueAt w₁ top (x .end))) (same-bound (at + 1) ran k)
 
-        second-is : run (exprAt (left - 1) b (secondAt b at)) (valuesIn (getD b at 0) (boundValues w n env) (valueAt w₁ top (x .end)))
+        second-is : run (exprAt (left - 1) b (secondAt b at)) (withBound (getD b at 0) (boundValues w n env) (valueAt w₁ top (x .end)))
             (stateOf ws₁ ms h₁ (x .progress)) ≡
             run (exprAt (left - 1) b (x .place)) (boundValues w₁ (inner (getD b at 0) n) inside) (stateOf ws₁ ms h₁ (x .progress))
         second-is =
-            ap (λ (i : ℕ). run (exprAt (left - 1) b i) (valuesIn (getD b at 0) (boundValues w n env) (valueAt w₁ top (x .end)))
+            ap (λ (i : ℕ). run (exprAt (left - 1) b i) (withBound (getD b at 0) (boundValues w n env) (valueAt w₁ top (x .end)))
             (stateOf ws₁ ms h₁ (x .progress))) (sym second-at) ∙
             ap (λ (vs : List (List ℕ)). run (exprAt (left - 1) b (x .place)) vs (stateOf ws₁ ms h₁ (x .progress))) (sym values)
 
@@ -189,7 +203,7 @@ module _ {b : List ℕ} {at left n : ℕ} {env : List Span} {ms ws h w : List �
             andThen (run (exprAt (left - 1) b (x .place)) (boundValues w₁ (inner (getD b at 0) n) inside) (stateOf ws₁ ms h₁ (x .progress)))
             (λ (u : List ℕ) (q : State). binaryOf (getD b at 0) at (valueAt w₁ top (x .end)) u q)
         run-from =
-            whole-run ∙ ap (λ (q : Out). andThen q rest-run) (first-is ∙ yields-gives ran k) ∙
+            whole-run ∙ ap (λ (q : Out). andThen q rest-run) (yields-gives ran k) ∙
             ap (λ (q : Out). andThen q (λ (u : List ℕ) (q : State). binaryOf (getD b at 0) at (valueAt w₁ top (x .end)) u q)) second-is
 
         module _ {m : ℕ} (e : m ≡ inner (getD b at 0) n) {ws₂ h₂ w₂ : List ℕ} {y : Evaluated}
@@ -209,24 +223,8 @@ module _ {b : List ℕ} {at left n : ℕ} {env : List Span} {ms ws h w : List �
             fine₂ : Fine (endAt b (x .place)) (inner (getD b at 0) n) inside ws₁ h₁ w₁ (x .end) (x .progress) ws₂ h₂ w₂ y
             fine₂ = second .fine l
 
-            first-kept : valueAt w₂ top (x .end) ≡ valueAt w₁ top (x .end)
-            first-kept = value-same w₁ w₂ (x .end) top (x .end) (fine₂ .below) (ok .order) (omega arith)
-
             pub combine-asks : BinaryPre ws₂ h₂ w₂ top (x .end) y
-            combine-asks =
-                record {
-                  value = record {
-                    held = fine₂ .after .held;
-                    order = fine₂ .order;
-                    short = fine₂ .short;
-                    room = omega (arith, pre .room, deep, ok .size, ok .short, fine₂ .size);
-                    rows = fine₂ .rows;
-                    spans = fine₂ .spans;
-                  };
-                  order = ok .order;
-                  short = ok .short;
-                  rows = subst (AreRows (y .progress .count)) (sym first-kept) (areRows-more (fine₂ .after .rows) (ok .rows));
-                }
+            combine-asks = pair-asks ok fine₂
 
             pub combine-yields : {ws′ h′ w′ : List ℕ} {r : Evaluated} →
                 BinaryPost (getD b at 0) at ws₂ h₂ w₂ top (x .end) y ws′ h′ w′ r → EvalPost b at left n env ms ws h w top p ws′ h′ w′ r
@@ -237,5 +235,5 @@ module _ {b : List ℕ} {at left n : ℕ} {env : List Span} {ms ws h w : List �
                 ap (λ (q : Out). andThen q (λ (u : List ℕ) (q : State). binaryOf (getD b at 0) at (valueAt w₁ top (x .end)) u q))
                 (yields-gives second l) ∙
                 ap (λ (v : List ℕ). binaryOf (getD b at 0) at v (valueAt w₂ (x .end) (y .end)) (stateOf ws₂ ms h₂ (y .progress)))
-                (sym first-kept))
+                (sym (first-kept ok fine₂)))
                 (bound-back (next-asks (at + 1) ran k (at + 1) (binary-first .accepted) .scope) bound (y .env) (fine₂ .scope) ∙ ok .scope)

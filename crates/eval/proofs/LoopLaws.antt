@@ -6,13 +6,14 @@ use Prim.Native.Nat.{ℕ, _+_, _-_, _/_, _≤_, _<_}
 use native.Mathlib.Omega.{arith}
 use lib.Dec.{ltb}
 use lib.ListN.{length, getD, take}
-use Rattle.model.specs.Base.{pick}
+use Rattle.model.specs.Base.{pick, nothing}
 use Rattle.model.specs.Limits.{maxItems}
 use Rattle.model.specs.Refusal.{itemsAt}
 use Rattle.model.specs.Script.{isBinder}
-use Rattle.model.specs.Run.{State, Out, stop, gives, andThen, joinItems, joinFor, loop, run}
-use Rattle.model.proofs.ValueLaws.{AreRows, noRows, moreRows, areRows-more}
-use Rattle.script.specs.Walk.{inner, endAt, firstAt, secondAt, exprAt}
+use Rattle.model.specs.Run.{State, Out, stop, gives, andThen, joinItems, joinFor, loop, run, AreRows}
+use Rattle.model.proofs.ValueLaws.{areRows-more}
+use Rattle.model.proofs.All.{all-front, all-back}
+use Rattle.script.specs.Walk.{inner, endAt, secondAt, exprAt}
 use Rattle.script.proofs.AcceptedLaws.{accepted-record, accepted-at}
 use Rattle.updates.specs.State.{stateOf}
 use Rattle.query.specs.Values.{valueAt}
@@ -29,7 +30,7 @@ use Rattle.operators.proofs.YieldLaws.{yields-as, yields-gives, yields-stop, st
 use Rattle.operators.proofs.YieldLaws.{yields-after, limited-yields}
 use Rattle.eval.proofs.OperandLaws.{for-operands}
 use Rattle.eval.proofs.ScopeLaws.{marks-more, bound-kept, scope-kept, bound-inside, bound-back, scope-inside}
-use Rattle.eval.proofs.EvalLaws.{operand-asks, good, same-bound}
+use Rattle.eval.proofs.EvalLaws.{pair-asks, operand-asks, good, same-bound}
 
 -- THE LOOP of the model: no item, one, and one part after another
 loop-none : (z : ℕ) (f : ℕ → State → Out) (v : List ℕ) (s : State) → loop z f [] v s ≡ gives v s
@@ -65,32 +66,18 @@ loop-split z f (i ∷ is) js v s = go (loop-split z f is js) (f i s)
     go h (stop x) = refl
     go h (gives w t) = more (ltb maxItems (length v + length w)) (v ++ w) t (h (v ++ w) t)
 
--- rows of a part
-rows-front : {n : ℕ} (u v : List ℕ) → AreRows n (u ++ v) → AreRows n u
-rows-front [] v a = noRows
-rows-front (i ∷ u) v (moreRows l a) = moreRows l (rows-front u v a)
-
-rows-back : {n : ℕ} (u v : List ℕ) → AreRows n (u ++ v) → AreRows n v
-rows-back [] v a = a
-rows-back (i ∷ u) v (moreRows l a) = rows-back u v a
-
 -- A FOR
 module _ {b : List ℕ} {at left n : ℕ} {env : List Span} {ms ws h w : List ℕ} {top : ℕ} {p : Progress}
     (pre : EvalPre b at left n env ms ws h w top p) (kind : getD b at 0 ≡ 7) where
   abbrev looped : List ℕ → State → Out
   looped v u = loop at (bodyRun b (secondAt b at) (left - 1) (boundValues w n env)) v [] u
 
-  start : firstAt b at ≡ at + 1
-  start = for-operands (pre .accepted) kind .start
-
   whole-run : run (exprAt left b at) (boundValues w n env) (stateOf ws ms h p) ≡
       andThen (run (exprAt (left - 1) b (at + 1)) (boundValues w n env) (stateOf ws ms h p)) looped
-  whole-run =
-      for-operands (pre .accepted) kind .runs (boundValues w n env) (stateOf ws ms h p) ∙
-      ap (λ (i : ℕ). andThen (run (exprAt (left - 1) b i) (boundValues w n env) (stateOf ws ms h p)) looped) start
+  whole-run = for-operands (pre .accepted) kind .runs (boundValues w n env) (stateOf ws ms h p)
 
   pub for-first : EvalPre b (at + 1) (left - 1) n env ms ws h w top p
-  for-first = operand-asks pre (at + 1) (accepted-at (sym start) (for-operands (pre .accepted) kind .first))
+  for-first = operand-asks pre (at + 1) (for-operands (pre .accepted) kind .first)
 
   module _ {ws₁ h₁ w₁ : List ℕ} {x : Evaluated} (ran : EvalPost b (at + 1) (left - 1) n env ms ws h w top p ws₁ h₁ w₁ x) where
     pub for-stops : (x .progress .number ≡ 0 → ⊥) → EvalPost b at left n env ms ws h w top p ws₁ h₁ w₁ x
@@ -101,7 +88,7 @@ module _ {b : List ℕ} {at left n : ℕ} {env : List Span} {ms ws h w : List �
       fine = good pre (at + 1) ran k
 
       second-at : x .place ≡ secondAt b at
-      second-at = fine .place ∙ ap (endAt b) (sym start)
+      second-at = fine .place ∙ for-operands (pre .accepted) kind .next-at
 
       run-from : run (exprAt left b at) (boundValues w n env) (stateOf ws ms h p) ≡
           looped (valueAt w₁ top (x .end)) (stateOf ws₁ ms h₁ (x .progress))
@@ -134,7 +121,7 @@ module _ {b : List ℕ} {at left n : ℕ} {env : List Span} {ms ws h w : List �
               rows = fine .rows;
               order = omega arith;
               short = omega arith;
-              sofar = subst (AreRows (x .progress .count)) (sym (value-none w₁ (x .end))) noRows;
+              sofar = subst (AreRows (x .progress .count)) (sym (value-none w₁ (x .end))) nothing;
               room = omega (arith, pre .room, accepted-record (pre .accepted) .depth, fine .size, fine .short);
             }
 
@@ -159,25 +146,8 @@ module _ {b : List ℕ} {at left n : ℕ} {env : List Span} {ms ws h w : List �
             fine₂ : Fine (endAt b (x .place)) n (x .env) ws₁ h₁ w₁ (x .end) (x .progress) ws₂ h₂ w₂ y
             fine₂ = ran₂ .fine l
 
-            first-kept : valueAt w₂ top (x .end) ≡ valueAt w₁ top (x .end)
-            first-kept = value-same w₁ w₂ (x .end) top (x .end) (fine₂ .below) (fine .order) (omega arith)
-
             pub close-asks : BinaryPre ws₂ h₂ w₂ top (x .end) y
-            close-asks =
-                record {
-                  value = record {
-                    held = fine₂ .after .held;
-                    order = fine₂ .order;
-                    short = fine₂ .short;
-                    room = omega
-                        (arith, pre .room, accepted-record (pre .accepted) .depth, fine .size, fine .short, fine₂ .size);
-                    rows = fine₂ .rows;
-                    spans = fine₂ .spans;
-                  };
-                  order = fine .order;
-                  short = fine .short;
-                  rows = subst (AreRows (y .progress .count)) (sym first-kept) (areRows-more (fine₂ .after .rows) (fine .rows));
-                }
+            close-asks = pair-asks pre fine fine₂
 
             pub close-yields : {ws′ h′ w′ : List ℕ} {r : Evaluated} → BinaryPost 7 at ws₂ h₂ w₂ top (x .end) y ws′ h′ w′ r →
                 EvalPost b at left n env ms ws h w top p ws′ h′ w′ r
@@ -302,7 +272,7 @@ module _ {b : List ℕ} {at left n : ℕ} {env : List Span} {ms ws h w : List �
           some = cut .0;
           items = omega (arith, cut .1, pre .items);
           many = omega (arith, cut .1, pre .many);
-          rows = rows-front (valueAt w from half) (valueAt w half to) (subst (AreRows (p .count)) (sym parts) (pre .rows));
+          rows = all-front (valueAt w from half) (valueAt w half to) (subst (AreRows (p .count)) (sym parts) (pre .rows));
           order = pre .order;
           short = pre .short;
           sofar = pre .sofar;
@@ -344,7 +314,7 @@ module _ {b : List ℕ} {at left n : ℕ} {env : List Span} {ms ws h w : List �
                 many = omega (arith, cut .0, pre .many);
                 rows = subst (AreRows (x .progress .count)) (sym items-kept)
                     (areRows-more (half-fine .after .rows)
-                    (rows-back (valueAt w from half) (valueAt w half to) (subst (AreRows (p .count)) (sym parts) (pre .rows))));
+                    (all-back (valueAt w from half) (valueAt w half to) (subst (AreRows (p .count)) (sym parts) (pre .rows))));
                 order = half-fine .order;
                 short = half-fine .short;
                 sofar = half-fine .rows;

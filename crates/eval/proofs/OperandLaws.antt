@@ -7,12 +7,12 @@ use lib.ListN.{length, getD}
 use Rattle.model.specs.Base.{pick}
 use Rattle.model.specs.Script.{Expr, step, both, letIn, delete, insert, choose, stepBy}
 use Rattle.model.specs.Run.{State, Out, stop, gives, andThen, loop, run}
-use Rattle.script.specs.Walk.{arity, inner, endAt, firstAt, secondAt, thirdAt, exprAt}
+use Rattle.script.specs.Walk.{withBound, arity, inner, endAt, firstAt, secondAt, thirdAt, exprAt}
 use Rattle.script.specs.Accepted.{Accepted, RecordFits, Unary, Binary}
 use Rattle.script.proofs.KindLaws.{unary-kind, binary-kind}
 use Rattle.script.proofs.AcceptedLaws.{accepted-record, accepted-step, accepted-delete, accepted-pick, accepted-join, accepted-let}
-use Rattle.script.proofs.AcceptedLaws.{accepted-for, accepted-insert, accepted-if}
-use Rattle.operators.specs.Evaluating.{valuesIn, unaryOf, binaryOf, IsBinary}
+use Rattle.script.proofs.AcceptedLaws.{accepted-at, accepted-for, accepted-insert, accepted-if}
+use Rattle.operators.specs.Evaluating.{unaryOf, binaryOf, IsBinary}
 use Rattle.eval.specs.Loops.{bodyRun}
 
 -- an outcome that goes on with its own value
@@ -30,6 +30,14 @@ module _ {b : List ℕ} {at left n : ℕ} (a : Accepted b at left n) where
 
   abbrev one : Expr
   one = exprAt (left - 1) b (firstAt b at)
+
+  -- where the body is empty: the same, behind the kind
+  abbrev next : Expr
+  next = exprAt (left - 1) b (at + 1)
+
+  first-next : (vs : List (List ℕ)) (s : State) (rest : List ℕ → State → Out) → firstAt b at ≡ at + 1 →
+      andThen (run one vs s) rest ≡ andThen (run next vs s) rest
+  first-next vs s rest e = ap (λ (i : ℕ). andThen (run (exprAt (left - 1) b i) vs s) rest) e
 
   abbrev two : Expr
   two = exprAt (left - 1) b (secondAt b at)
@@ -62,24 +70,24 @@ module _ {b : List ℕ} {at left n : ℕ} (a : Accepted b at left n) where
   abbrev runTwo : (kind : ℕ) → (first second : Expr) → (bound : List (List ℕ)) → State → Out
   runTwo k x y vs s =
       andThen (run x vs s)
-      (λ (v : List ℕ) (u : State). andThen (run y (valuesIn k vs v) u) (λ (w : List ℕ) (q : State). binaryOf k at v w q))
+      (λ (v : List ℕ) (u : State). andThen (run y (withBound k vs v) u) (λ (w : List ℕ) (q : State). binaryOf k at v w q))
 
   pub record Two : Type 0 where
-    pub first : Accepted b (firstAt b at) (left - 1) n
+    pub first : Accepted b (at + 1) (left - 1) n
     pub second : Accepted b (secondAt b at) (left - 1) (inner (getD b at 0) n)
-    pub runs : (vs : List (List ℕ)) (s : State) → run (exprAt left b at) vs s ≡ runTwo (getD b at 0) one two vs s
+    pub runs : (vs : List (List ℕ)) (s : State) → run (exprAt left b at) vs s ≡ runTwo (getD b at 0) next two vs s
     pub ends : endAt b at ≡ thirdAt b at
-    pub start : firstAt b at ≡ at + 1
+    pub next-at : endAt b (at + 1) ≡ secondAt b at
 
   two-of : (m : ℕ) (make : Expr → Expr → Expr) → Binary b at left n m make → m ≡ inner (getD b at 0) n → firstAt b at ≡ at + 1 →
       ((x y : Expr) (vs : List (List ℕ)) (s : State) → run (make x y) vs s ≡ runTwo (getD b at 0) x y vs s) → Two
   two-of m make u scope start f =
       record {
-        first = u .first;
+        first = accepted-at (sym start) (u .first);
         second = subst (Accepted b (secondAt b at) (left - 1)) scope (u .second);
-        runs = λ vs s. ap (λ (x : Expr). run x vs s) (u .expr) ∙ f one two vs s;
+        runs = λ vs s. ap (λ (x : Expr). run x vs s) (u .expr) ∙ f one two vs s ∙ first-next vs s _ start;
         ends = u .ends;
-        start = start;
+        next-at = ap (endAt b) (sym start);
       }
 
   pub two-operands : IsBinary (getD b at 0) → Two
@@ -96,44 +104,47 @@ module _ {b : List ℕ} {at left n : ℕ} (a : Accepted b at left n) where
 
   -- A FOR
   pub record For : Type 0 where
-    pub first : Accepted b (firstAt b at) (left - 1) n
+    pub first : Accepted b (at + 1) (left - 1) n
     pub body : Accepted b (secondAt b at) (left - 1) (n + 1)
     pub runs : (vs : List (List ℕ)) (s : State) → run (exprAt left b at) vs s ≡
-        andThen (run one vs s) (λ (v : List ℕ) (u : State). loop at (bodyRun b (secondAt b at) (left - 1) vs) v [] u)
+        andThen (run next vs s) (λ (v : List ℕ) (u : State). loop at (bodyRun b (secondAt b at) (left - 1) vs) v [] u)
     pub ends : endAt b at ≡ thirdAt b at
-    pub start : firstAt b at ≡ at + 1
+    pub next-at : endAt b (at + 1) ≡ secondAt b at
 
   pub for-operands : getD b at 0 ≡ 7 → For
   unfolding run
   for-operands e =
       let u = accepted-for a e in
+      let start : firstAt b at ≡ at + 1 = rw e in
       record {
-        first = u .first;
+        first = accepted-at (sym start) (u .first);
         body = u .second;
-        runs = λ vs s. ap (λ (x : Expr). run x vs s) (u .expr);
+        runs = λ vs s. ap (λ (x : Expr). run x vs s) (u .expr) ∙ first-next vs s _ start;
         ends = u .ends;
-        start = rw e;
+        next-at = ap (endAt b) (sym start);
       }
 
   -- AN IF
   pub record If : Type 0 where
-    pub first : Accepted b (firstAt b at) (left - 1) n
+    pub first : Accepted b (at + 1) (left - 1) n
     pub second : Accepted b (secondAt b at) (left - 1) n
     pub third : Accepted b (thirdAt b at) (left - 1) n
     pub runs : (vs : List (List ℕ)) (s : State) → run (exprAt left b at) vs s ≡
-        andThen (run one vs s) (λ (v : List ℕ) (u : State). pick (eqb (length v) 0) (run three vs u) (run two vs u))
+        andThen (run next vs s) (λ (v : List ℕ) (u : State). pick (eqb (length v) 0) (run three vs u) (run two vs u))
     pub ends : endAt b at ≡ endAt b (thirdAt b at)
-    pub start : firstAt b at ≡ at + 1
+    pub next-at : endAt b (at + 1) ≡ secondAt b at
 
   pub if-operands : getD b at 0 ≡ 8 → If
   unfolding run
   if-operands e =
       let u = accepted-if a e in
+      let start : firstAt b at ≡ at + 1 = rw e in
       record {
-        first = u .first;
+        first = accepted-at (sym start) (u .first);
         second = u .second;
         third = u .third;
-        runs = λ vs s. ap (λ (x : Expr). run x vs s) (u .expr);
+        runs = λ vs s. ap (λ (x : Expr). run x vs s) (u .expr) ∙
+            first-next vs s (λ (v : List ℕ) (u : State). pick (eqb (length v) 0) (run three vs u) (run two vs u)) start;
         ends = u .ends;
-        start = rw e;
+        next-at = ap (endAt b) (sym start);
       }

@@ -1,7 +1,7 @@
 -- The variables in scope: kept while the area below top is kept, and one more inside a binder.
 use mathlib.Core.Path.{_≡_, refl, ap, sym, subst, _∙_}
 use mathlib.Core.Bool.{Bool, true, false}
-use mathlib.Core.List.{List, [], _∷_, _++_, map}
+use mathlib.Core.List.{List, [], _∷_, _++_, map, map-append}
 use Prim.Native.Nat.{ℕ, zero, suc, _+_, _-_, _≤_, _<_}
 use native.Mathlib.Omega.{arith}
 use lib.Dec.{eqb}
@@ -11,10 +11,12 @@ use borrow.Author.Tests.{eqb-true, eqb-false}
 use Rattle.model.specs.Base.{pick}
 use Rattle.model.specs.Script.{isBinder}
 use Rattle.model.proofs.BoolLaws.{by-cases}
-use Rattle.model.proofs.ValueLaws.{AreRows, AreValues, areValues-snoc, areValues-more}
-use Rattle.script.specs.Walk.{inner}
+use Rattle.model.proofs.ValueLaws.{areValues-more}
+use Rattle.model.proofs.All.{all-snoc}
+use Rattle.model.specs.Run.{AreRows, AreValues}
+use Rattle.script.specs.Walk.{withBound, inner}
 use Rattle.query.specs.Values.{valueAt}
-use Rattle.operators.specs.Evaluating.{noSpan, spanOf, spanValue, boundValues, SpanFits, InScope, spansIn, valuesIn, BindPost, MarksHeld}
+use Rattle.operators.specs.Evaluating.{noSpan, spanOf, spanValue, boundValues, SpanFits, InScope, BindPost, MarksHeld}
 use Rattle.operators.specs.declared.value.Span.{Span}
 use Rattle.operators.proofs.ValueLaws.{value-same}
 use Rattle.operators.proofs.RecordLaws.{inner-more, inner-same}
@@ -62,19 +64,15 @@ module _ {w : List ℕ} {n : ℕ} {env : List Span} {top c : ℕ} (scope : InSco
       }
 
 -- INSIDE A BINDER
-map-snoc : (w : List ℕ) (ss : List Span) (s : Span) → map (spanValue w) (ss ++ (s ∷ [])) ≡ map (spanValue w) ss ++ (spanValue w s ∷ [])
-map-snoc w [] s = refl
-map-snoc w (x ∷ xs) s = ap (λ (r : List (List ℕ)). spanValue w x ∷ r) (map-snoc w xs s)
-
 module _ {w : List ℕ} {n : ℕ} {env : List Span} {top i j c : ℕ} (scope : InScope w n env top c) {k : ℕ} {inside : List Span}
     (post : BindPost k env n i j inside) where
   -- the values there
-  pub bound-inside : boundValues w (inner k n) inside ≡ valuesIn k (boundValues w n env) (valueAt w i j)
+  pub bound-inside : boundValues w (inner k n) inside ≡ withBound k (boundValues w n env) (valueAt w i j)
   bound-inside = ap (map (spanValue w)) (post .is) ∙ go (isBinder k)
     where
       go : (t : Bool) → map (spanValue w) (pick t (take n env ++ (spanOf i j ∷ [])) (take n env)) ≡
           pick t (boundValues w n env ++ (valueAt w i j ∷ [])) (boundValues w n env)
-      go true = map-snoc w (take n env) (spanOf i j)
+      go true = map-append (spanValue w) (take n env) (spanOf i j ∷ [])
       go false = refl
 
   front-size : length (take n env) ≡ n
@@ -100,7 +98,7 @@ module _ {w : List ℕ} {n : ℕ} {env : List Span} {top i j c : ℕ} (scope : I
       InScope w (inner k n) inside mid c
   scope-inside mid room l m u o rows = by-cases (isBinder k) more same
     where
-      read : (v : ℕ) → v < inner k n → getD inside v noSpan ≡ getD (spansIn k (take n env) i j) v noSpan
+      read : (v : ℕ) → v < inner k n → getD inside v noSpan ≡ getD (withBound k (take n env) (spanOf i j)) v noSpan
       read v q = sym (getD-take (inner k n) inside v noSpan q) ∙ ap (λ (x : List Span). getD x v noSpan) (post .is)
 
       old : (v : ℕ) → v < n → SpanFits mid (getD env v noSpan)
@@ -113,10 +111,10 @@ module _ {w : List ℕ} {n : ℕ} {env : List Span} {top i j c : ℕ} (scope : I
             size = post .size;
             spans = λ v q. subst (SpanFits mid) (sym (read v q ∙ pick-more v)) (each v (omega (arith, inner-more k n t)));
             values = subst (AreValues c) (sym (bound-inside ∙ ap (λ (b : Bool). pick b (boundValues w n env ++ (valueAt w i j ∷ []))
-                (boundValues w n env)) t)) (areValues-snoc (scope .values) rows);
+                (boundValues w n env)) t)) (all-snoc (scope .values) rows);
           }
         where
-          pick-more : (v : ℕ) → getD (spansIn k (take n env) i j) v noSpan ≡ getD (take n env ++ (spanOf i j ∷ [])) v noSpan
+          pick-more : (v : ℕ) → getD (withBound k (take n env) (spanOf i j)) v noSpan ≡ getD (take n env ++ (spanOf i j ∷ [])) v noSpan
           pick-more v = ap (λ (b : Bool). getD (pick b (take n env ++ (spanOf i j ∷ [])) (take n env)) v noSpan) t
 
           each : (v : ℕ) → v < n + 1 → SpanFits mid (getD (take n env ++ (spanOf i j ∷ [])) v noSpan)

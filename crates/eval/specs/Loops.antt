@@ -3,8 +3,7 @@ use mathlib.Core.List.{List, [], _∷_, _++_}
 use Prim.Native.Nat.{ℕ, _+_, _≤_, _<_}
 use lib.ListN.{length}
 use Rattle.model.specs.Limits.{maxItems, maxBinders}
-use Rattle.model.specs.Run.{State, Out, loop, run}
-use Rattle.model.proofs.ValueLaws.{AreRows}
+use Rattle.model.specs.Run.{State, Out, loop, run, AreRows}
 use Rattle.script.specs.Walk.{endAt, exprAt}
 use Rattle.script.specs.Accepted.{Accepted}
 use Rattle.updates.specs.State.{stateOf, Held}

@@ -6,28 +6,18 @@ use native.Mathlib.Omega.{arith}
 use lib.Dec.{eqb}
 use lib.Bits.{bitOr, or-step, or-shr}
 use Rattle.model.specs.Base.{pick}
-use Rattle.model.specs.Meeting.{onCell, downCell, upCell, joinCell}
+use Rattle.model.specs.Meeting.{Cell, joinCell}
 use Rattle.meeting.specs.Codes.{cellBits}
 use Rattle.meeting.proofs.CellLaws.{cell-equal}
 
--- CELLS from two tests
-pub on-bits : (e l : Bool) (a b : ℕ) → a ≡ pick e 1 0 → b ≡ pick l 1 0 → cellBits (21 * a + 42 * b) ≡ onCell e l
-on-bits true true a b p q = rw (p, q)
-on-bits true false a b p q = rw (p, q)
-on-bits false true a b p q = rw (p, q)
-on-bits false false a b p q = rw (p, q)
-
-pub down-bits : (e l : Bool) (a b : ℕ) → a ≡ pick e 1 0 → b ≡ pick l 1 0 → cellBits (4 * a + 8 * b) ≡ downCell e l
-down-bits true true a b p q = rw (p, q)
-down-bits true false a b p q = rw (p, q)
-down-bits false true a b p q = rw (p, q)
-down-bits false false a b p q = rw (p, q)
-
-pub up-bits : (e l : Bool) (a b : ℕ) → a ≡ pick e 1 0 → b ≡ pick l 1 0 → cellBits (16 * a + 32 * b) ≡ upCell e l
-up-bits true true a b p q = rw (p, q)
-up-bits true false a b p q = rw (p, q)
-up-bits false true a b p q = rw (p, q)
-up-bits false false a b p q = rw (p, q)
+-- A CELL from two tests, by the weights of their bits
+pub two-bits : (m n : ℕ) (make : Bool → Bool → Cell) → cellBits (m * 1 + n * 1) ≡ make true true →
+    cellBits (m * 1 + n * 0) ≡ make true false → cellBits (m * 0 + n * 1) ≡ make false true → cellBits (m * 0 + n * 0) ≡ make false false →
+    (e l : Bool) (a b : ℕ) → a ≡ pick e 1 0 → b ≡ pick l 1 0 → cellBits (m * a + n * b) ≡ make e l
+two-bits m n make f g h k true true a b p q = rw (p, q) f
+two-bits m n make f g h k true false a b p q = rw (p, q) g
+two-bits m n make f g h k false true a b p q = rw (p, q) h
+two-bits m n make f g h k false false a b p q = rw (p, q) k
 
 -- JOINED
 either : (x y : ℕ) → x < 2 → y < 2 → eqb (max x y) 1 ≡ (eqb x 1 || eqb y 1)

@@ -1,7 +1,7 @@
 -- Cells join as a commutative monoid, and every step between cells respects that; so the cells of two lists of paths obey the
 -- equations of the cells of two paths.
 use mathlib.Core.Path.{_≡_, refl, ap, sym, _∙_}
-use mathlib.Core.Bool.{Bool, true, false, _&&_, _||_}
+use mathlib.Core.Bool.{Bool, false, _&&_, _||_, and-false, or-false, or-assoc, and-or-distrib-left, and-or-distrib-right}
 use mathlib.Core.List.{List, [], _∷_, _++_}
 use Prim.Native.Nat.{ℕ}
 use lib.Dec.{eqb}
@@ -10,38 +10,8 @@ use Rattle.model.specs.Script.{Step}
 use Rattle.model.specs.Paths.{Place, Path, start, _▸_, withStep, documentPlace}
 use Rattle.model.specs.Meeting.{Cell, onCell, joinCell, isDeep, isParent, admitsElement, admitsLeaf, shareElement, shareLeaf}
 use Rattle.model.specs.Meeting.{onStep, downStep, upStep, startCell, startCells, stepCells, cell, isMet, meets, anyMeet}
-use Rattle.model.proofs.BoolLaws.{or-neither}
+use Rattle.model.proofs.BoolLaws.{or-neither, or-swap}
 use Rattle.meeting.specs.Cells.{noCell, sum, between}
-
--- TESTS
-pub or-false : (a : Bool) → (a || false) ≡ a
-or-false true = refl
-or-false false = refl
-
-pub or-swap : (a b c d : Bool) → ((a || b) || (c || d)) ≡ ((a || c) || (b || d))
-or-swap true b c d = refl
-or-swap false true true d = refl
-or-swap false true false d = refl
-or-swap false false c d = refl
-
-pub and-or : (a b c : Bool) → (a && (b || c)) ≡ ((a && b) || (a && c))
-and-or true b c = refl
-and-or false b c = refl
-
-pub or-and : (a b c : Bool) → ((a || b) && c) ≡ ((a && c) || (b && c))
-or-and true true true = refl
-or-and true true false = refl
-or-and true false true = refl
-or-and true false false = refl
-or-and false b c = refl
-
-pub or-assoc : (a b c : Bool) → ((a || b) || c) ≡ (a || (b || c))
-or-assoc true b c = refl
-or-assoc false b c = refl
-
-and-false : (a : Bool) → (a && false) ≡ false
-and-false true = refl
-and-false false = refl
 
 -- CELLS are equal when their tests are
 abbrev cellWith : (a b c d e f : Bool) → Cell
@@ -113,10 +83,10 @@ past-none : (t : Bool) → past t false false ≡ false
 past-none t = and-false t
 
 past-join : (t a b c d : Bool) → past t (a || b) (c || d) ≡ (past t a c || past t b d)
-past-join t a b c d = ap (λ (x : Bool). (a || b) || x) (and-or t c d) ∙ or-swap a b (t && c) (t && d)
+past-join t a b c d = ap (λ (x : Bool). (a || b) || x) (and-or-distrib-left t c d) ∙ or-swap a b (t && c) (t && d)
 
 admit-join : (e t a b c d : Bool) → (e && past t (a || b) (c || d)) ≡ ((e && past t a c) || (e && past t b d))
-admit-join e t a b c d = ap (λ (x : Bool). e && x) (past-join t a b c d) ∙ and-or e (past t a c) (past t b d)
+admit-join e t a b c d = ap (λ (x : Bool). e && x) (past-join t a b c d) ∙ and-or-distrib-left e (past t a c) (past t b d)
 
 admit-none : (e t : Bool) → (e && past t false false) ≡ false
 admit-none e t = ap (λ (x : Bool). e && x) (past-none t) ∙ and-false e
@@ -152,7 +122,7 @@ parent-none : (s t : Step) → isParent s t noCell ≡ false
 parent-none s t = ap (λ (x : Bool). x || (isDeep s && false)) (past-none (isDeep t)) ∙ past-none (isDeep s)
 
 share-join : (s t : Step) (e : Bool) (c d : Cell) → (isParent s t (joinCell c d) && e) ≡ ((isParent s t c && e) || (isParent s t d && e))
-share-join s t e c d = ap (λ (x : Bool). x && e) (parent-join s t c d) ∙ or-and (isParent s t c) (isParent s t d) e
+share-join s t e c d = ap (λ (x : Bool). x && e) (parent-join s t c d) ∙ and-or-distrib-right (isParent s t c) (isParent s t d) e
 
 pub on-respects : (s t : Step) → Respects (onStep s t)
 on-respects s t =

@@ -1,14 +1,10 @@
 -- Every item of a list has a property.
 use mathlib.Core.Path.{sym, subst}
-use mathlib.Core.List.{List, [], _∷_, _++_, map}
-use mathlib.Core.List.{List·Memᴰ as In, List·Memᴰ·head as here, List·Memᴰ·tail as there}
+use mathlib.Core.List.{List, [], _∷_, _++_, map, List·Memᴰ as In, List·Memᴰ·head as here, List·Memᴰ·tail as there}
 use Prim.Native.Nat.{ℕ, zero, suc, _<_}
 use native.Mathlib.Nat.{not-suc-le-zero, le-of-suc-le-suc}
 use lib.ListN.{length, getD}
-
-pub data All {A : Type 0} (P : A → Type 0) : List A → Type 0 where
-  nothing : All P []
-  also : {a : A} {l : List A} → P a → All P l → All P (a ∷ l)
+use Rattle.model.specs.Base.{All, nothing, also}
 
 module _ {A : Type 0} where
   pub all-append : {P : A → Type 0} {k l : List A} → All P k → All P l → All P (k ++ l)
@@ -32,3 +28,22 @@ module _ {A : Type 0} where
   all-at d i nothing h = absurd (not-suc-le-zero h)
   all-at d zero (also p a) h = p
   all-at d (suc i) (also p a) h = all-at d i a (le-of-suc-le-suc h)
+
+  -- one more
+  pub all-snoc : {P : A → Type 0} {l : List A} {a : A} → All P l → P a → All P (l ++ (a ∷ []))
+  all-snoc h p = all-append h (also p nothing)
+
+  -- parts
+  pub all-front : {P : A → Type 0} (k l : List A) → All P (k ++ l) → All P k
+  all-front [] l a = nothing
+  all-front (x ∷ k) l (also p a) = also p (all-front k l a)
+
+  pub all-back : {P : A → Type 0} (k l : List A) → All P (k ++ l) → All P l
+  all-back [] l a = a
+  all-back (x ∷ k) l (also p a) = all-back k l a
+
+  -- what is read at any place, where the default has the property too
+  pub all-read : {P : A → Type 0} {l : List A} (d : A) → P d → All P l → (k : ℕ) → P (getD l k d)
+  all-read d p nothing k = p
+  all-read d p (also q a) zero = q
+  all-read d p (also q a) (suc k) = all-read d p a k

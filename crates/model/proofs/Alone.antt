@@ -1,8 +1,7 @@
 -- The start of any world is a twin. And the world of a script alone: a plan beside itself, nothing hidden.
 use mathlib.Core.Path.{_≡_, refl, sym, _∙_, ap, subst}
 use mathlib.Core.Logic.{inl}
-use mathlib.Core.List.{List, [], append-nil}
-use mathlib.Core.List.{List·Memᴰ as In}
+use mathlib.Core.List.{List, [], append-nil, List·Memᴰ as In}
 use mathlib.Core.Option.{Option}
 use Prim.Native.Nat.{ℕ, _<_}
 use native.Mathlib.Nat.{add-zero}
@@ -13,7 +12,7 @@ use Rattle.model.specs.Run.{state}
 use Rattle.model.specs.Paths.{pathsOf}
 use Rattle.model.proofs.Words.{first-made}
 use Rattle.model.proofs.Labels.{Label, Fit}
-use Rattle.model.proofs.All.{nothing}
+use Rattle.model.specs.Base.{nothing}
 use Rattle.model.proofs.Shift.{shift-low, shift-row-low}
 use Rattle.model.proofs.Twin.{Side, Script, SideFits, World, Good, φ, Twin, φRow}
 use Rattle.model.proofs.Start.{Labelled}

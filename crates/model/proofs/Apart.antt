@@ -2,8 +2,7 @@
 use mathlib.Core.Path.{_≡_, refl, subst}
 use mathlib.Core.Bool.{Bool, true, false, _||_}
 use mathlib.Core.Logic.{_⊎_, inl, inr}
-use mathlib.Core.List.{List, Memᴰ·append-left, Memᴰ·append-right}
-use mathlib.Core.List.{List·Memᴰ as In, List·Memᴰ·head as here, List·Memᴰ·tail as there}
+use mathlib.Core.List.{List, Memᴰ·append-left, Memᴰ·append-right, List·Memᴰ as In, List·Memᴰ·head as here, List·Memᴰ·tail as there}
 use Prim.Native.Nat.{ℕ}
 use native.Mathlib.Omega.{arith}
 use Rattle.model.specs.Base.{pick, any}
@@ -11,7 +10,7 @@ use Rattle.model.specs.Script.{Expr}
 use Rattle.model.specs.Paths.{Path, start, _▸_, Paths, pathsOf, prefixesOf, prefixed, traversed, hasUp}
 use Rattle.model.specs.Meeting.{meets, anyMeet, pathsMeet, free, upward, meet, answer}
 use Rattle.model.proofs.BoolLaws.{or-neither, bool-cases, true-false}
-use Rattle.model.proofs.Reach.{in-any}
+use Rattle.model.proofs.ListLaws.{in-any}
 
 -- ACCESSED paths are traversed
 in-prefixes : (p : Path) → In p (prefixesOf p)

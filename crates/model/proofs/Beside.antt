@@ -20,7 +20,8 @@ use Rattle.model.proofs.Words.{first, made, first-made, made-injective,
 use Rattle.model.proofs.WordsMeet.{meets-apart}
 use Rattle.model.proofs.Labels.{Label, label, labelAt, Fit, fit-proper}
 use Rattle.model.proofs.Below.{OnPath}
-use Rattle.model.proofs.All.{All, all-at}
+use Rattle.model.proofs.All.{all-at}
+use Rattle.model.specs.Base.{All}
 use Rattle.model.proofs.Shift.{shiftRow, shift-low, shift-row-low}
 use Rattle.model.proofs.Twin.{Side, Script, SideFits, World, Touched, Kept, Good, Twin}
 use Rattle.model.proofs.TwinLaws.{touched-grow, label-high, label-side, one-count}

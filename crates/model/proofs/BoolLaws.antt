@@ -61,3 +61,10 @@ pub bool-iff : (a b : Bool) → (a ≡ true → b ≡ true) → (b ≡ true → 
 bool-iff true b f g = sym (f refl)
 bool-iff false true f g = g refl
 bool-iff false false f g = refl
+
+-- four tests, the middle two exchanged
+pub or-swap : (a b c d : Bool) → ((a || b) || (c || d)) ≡ ((a || c) || (b || d))
+or-swap true b c d = refl
+or-swap false true true d = refl
+or-swap false true false d = refl
+or-swap false false c d = refl

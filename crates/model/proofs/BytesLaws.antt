@@ -11,7 +11,7 @@ use lib.ListN.{length, getD, take, drop, set}
 use borrow.Author.Tests.{leb-true, leb-false, eqb-true, eqb-false, ne-eqb}
 use Rattle.model.specs.Base.{pick, areBytes}
 use Rattle.model.specs.Table.{Row}
-use Rattle.model.specs.Stored.{wordBytes, parentBytes, rowBytes, rowsBytes, markBytes, marksBytes, wordAt, parentIn, rowIn}
+use Rattle.model.specs.Stored.{IsWord, wordBytes, parentBytes, rowBytes, rowsBytes, markBytes, marksBytes, wordAt, parentIn, rowIn}
 use Rattle.model.specs.Stored.{lastMarked, elementKind, leafKind}
 use Rattle.model.proofs.BoolLaws.{and-left, and-right}
 
@@ -44,10 +44,6 @@ wordBytes-back a b h l =
     let p : (a + 256 * b) % 256 ≡ a = omega arith in
     let q : (a + 256 * b) / 256 ≡ b = omega arith in
     cc
-
--- 0xFFFF means none, so a parent is below it
-abbrev pub IsWord : Option ℕ → Type 0
-IsWord p = (i : ℕ) → p ≡ some i → i < 65535
 
 pub parentIn-back : (p : Option ℕ) → IsWord p → (c : List ℕ) → parentIn (wordAt (parentBytes p ++ c) 0) ≡ p
 parentIn-back none h c = refl

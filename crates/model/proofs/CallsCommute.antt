@@ -1,6 +1,6 @@
 -- Demand 3 on what callers see: the results of the public run in both orders, from bytes, a table and lent areas.
 use mathlib.Core.Path.{_≡_, refl, ap, sym, _∙_, subst}
-use mathlib.Core.Bool.{Bool, true, false, _&&_, false≢true}
+use mathlib.Core.Bool.{Bool, true, _&&_, false≢true}
 use mathlib.Core.List.{List, [], _∷_}
 use Prim.Native.Nat.{ℕ, suc, _+_, _-_}
 use native.Mathlib.Omega.{arith}
@@ -11,7 +11,7 @@ use Rattle.model.specs.Base.{pick, areBytes}
 use Rattle.model.specs.Refusal.{isFine}
 use Rattle.model.specs.Table.{Table, count, isWell}
 use Rattle.model.specs.Script.{Expr, Parsed, ill, parsed, readScript}
-use Rattle.model.specs.History.{Record, historyBytes, replayAll}
+use Rattle.model.specs.History.{times, Record, historyBytes, replayAll}
 use Rattle.model.specs.Run.{State, Out, stop, gives, runOn}
 use Rattle.model.specs.Meeting.{free, answer}
 use Rattle.model.specs.Promise.{IsScript, ends, tableOf, orderEnds, matchedAll, matchedHistory}
@@ -23,7 +23,7 @@ use Rattle.model.proofs.RunsBack.{runsBack}
 use Rattle.model.proofs.FreeCommutes.{OrdersBy, freeCommutes}
 
 -- UNDER THE MATCHING lengths and kinds stay
-length-matchedAll : (n a b : ℕ) (v : List ℕ) → length (matchedAll n a b v) ≡ length v
+pub length-matchedAll : (n a b : ℕ) (v : List ℕ) → length (matchedAll n a b v) ≡ length v
 unfolding matchedAll
 length-matchedAll n a b [] = refl
 length-matchedAll n a b (i ∷ v) = ap suc (length-matchedAll n a b v)
@@ -34,7 +34,7 @@ length-matchedHistory n a b [] = refl
 length-matchedHistory n a b (r ∷ h) = ap suc (length-matchedHistory n a b h)
 
 countKind-matched : (low high n a b : ℕ) (h : List Record) → countKind low high (matchedHistory n a b h) ≡ countKind low high h
-unfolding countKind matchedHistory
+unfolding times matchedHistory
 countKind-matched low high n a b [] = refl
 countKind-matched low high n a b (r ∷ h) =
     ap (λ (k : ℕ). pick (leb low (r .kind) && leb (r .kind) high) 1 0 + k) (countKind-matched low high n a b h)

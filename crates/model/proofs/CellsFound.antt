@@ -9,14 +9,14 @@ use lib.Dec.{eqb}
 use borrow.Author.Tests.{eqb-true}
 use Rattle.model.specs.Base.{pick}
 use Rattle.model.specs.Script.{Step}
-use Rattle.model.specs.Paths.{Place, Path, start, _▸_}
+use Rattle.model.specs.Paths.{Place, Path, start, _▸_, placeOf}
 use Rattle.model.specs.Meeting.{admitsElement, admitsLeaf, shareElement, shareLeaf, isDeep, Cell, samePlace, isConstructor}
 use Rattle.model.specs.Meeting.{isParent, onStep, downStep, upStep, joinCell, startCells, stepCells, cell, meets}
 use Rattle.model.proofs.BoolLaws.{or-cases, true-false}
 use Rattle.model.proofs.TestLaws.{and-parts}
 use Rattle.model.proofs.Words.{Word, Grown, same, more}
 use Rattle.model.proofs.PathLaws.{StepFits, PathFits, starts, steps}
-use Rattle.model.proofs.Spells.{placeOf, Spells, spelled, deep, spells-child, root, Good, toElement, good-elements, admitsKind}
+use Rattle.model.proofs.Spells.{Spells, spelled, deep, spells-child, root, Good, toElement, good-elements, admitsKind}
 use Rattle.model.proofs.Spells.{shareKind, LetterForBoth, letter-for, letter-for-both}
 
 -- a word of kind z that both paths spell; and one that p spells, at or below a word that q spells

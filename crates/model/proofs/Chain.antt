@@ -2,8 +2,7 @@
 -- word has that part's row on it.
 use mathlib.Core.Path.{_≡_, refl, sym, ap, _∙_, subst}
 use mathlib.Core.Bool.{Bool, true, false, false≢true}
-use mathlib.Core.List.{List, [], _∷_}
-use mathlib.Core.List.{List·Memᴰ as In}
+use mathlib.Core.List.{List, [], _∷_, List·Memᴰ as In}
 use mathlib.Core.Option.{Option, none, some, Option·none-ne-some}
 use Prim.Native.Nat.{ℕ, zero, suc, _≤_, _<_}
 use native.Mathlib.Omega.{arith}
@@ -11,18 +10,18 @@ use lib.Dec.{eqb}
 use lib.ListN.{length, getD}
 use borrow.Author.Tests.{eqb-true, lt-ltb}
 use Rattle.model.specs.Base.{pick}
-use Rattle.model.specs.Table.{Row, Table, table, rowAt, count, isThe, hasParent, withRow, tagFits, parentFits}
+use Rattle.model.specs.Table.{Row, Table, table, rowAt, count, isThe, hasParent, withRow, tagFits, parentFits, Tree}
 use Rattle.model.specs.Script.{Step}
 use Rattle.model.specs.Step.{Letter, leafLetter, named, letterOf, admits, isReached}
-use Rattle.model.specs.Paths.{Place, documentPlace, Path, _▸_}
+use Rattle.model.specs.Paths.{Place, documentPlace, Path, _▸_, placeOf}
 use Rattle.model.specs.Promise.{Places, ArePlaces, rowsOn}
 use Rattle.model.proofs.BoolLaws.{and-both}
-use Rattle.model.proofs.TableLaws.{isThe-at, isThe-by, isElement-by, Tree}
+use Rattle.model.proofs.TableLaws.{isThe-at, isThe-by, isElement-by}
 use Rattle.model.proofs.GrowLaws.{count-withRow, rowAt-withRow-old, rowAt-withRow-new, tree-withRow}
 use Rattle.model.proofs.Words.{Word, Grown, same, more, grown-trans}
 use Rattle.model.proofs.Below.{Below, under, further}
 use Rattle.model.proofs.Reach.{Reach, byChild, byDeep, is-reach}
-use Rattle.model.proofs.Spells.{placeOf, Spells, spelled, child, deep, Elements, root, below, Good, toElement, toLeaf}
+use Rattle.model.proofs.Spells.{Spells, spelled, child, deep, Elements, root, below, Good, toElement, toLeaf}
 use Rattle.model.proofs.RowsOn.{in-collect, start-rows, step-rows}
 
 -- THE MARK: document d alone, on row 0

@@ -5,16 +5,11 @@ use mathlib.Core.List.{List, [], _∷_, _++_, map, append-nil, map-append}
 use Prim.Native.Nat.{ℕ, zero, suc, _+_, _<_, _≤_}
 use native.Mathlib.Nat.{zero-add, suc-add, add-zero, add-suc}
 use native.Mathlib.Omega.{arith}
-use Rattle.model.specs.Base.{pick}
+use Rattle.model.specs.Base.{pick, All, nothing, also}
 use Rattle.model.specs.Table.{Table}
 use Rattle.model.specs.Script.{Step}
-use Rattle.model.specs.Step.{isReached, stepFrom}
-use Rattle.model.proofs.All.{All, nothing, also}
+use Rattle.model.specs.Step.{collect, isReached, stepFrom}
 use Rattle.model.proofs.Shift.{shift, shift-low, shift-high}
-
-unfoldable pub collect : (ℕ → Bool) → (row : ℕ) → ℕ → List ℕ
-collect f i zero = []
-collect f i (suc n) = pick (f i) (i ∷ collect f (suc i) n) (collect f (suc i) n)
 
 pub step-collect : (x : Table) (s : Step) (v : List ℕ) (i n : ℕ) → stepFrom x s v i n ≡ collect (isReached x s v) i n
 unfolding collect stepFrom

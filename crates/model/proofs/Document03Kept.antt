@@ -9,8 +9,7 @@ use lib.Dec.{ltb, leb, eqb}
 use lib.ListN.{length, getD, take, drop, set}
 use Rattle.model.specs.Base.{pick, any, isIn}
 use Rattle.model.specs.Refusal.{Fault, fault, fine, isFine, orElse}
-use Rattle.model.specs.Table.{Row, Table, table, empty, rowAt, count, isElement}
-use Rattle.model.specs.Table.{hasParent, isThe, isMarked, withRow, tagFits}
+use Rattle.model.specs.Table.{Row, Table, table, empty, rowAt, count, isElement, hasParent, isThe, isMarked, withRow, tagFits}
 use Rattle.model.specs.Stored.{Read, bad, got, wordAt, rowIn, isMark, lastMarked, rowLinks, recorded}
 use Rattle.model.specs.Step.{relates}
 use Rattle.model.specs.Script.{testFits}
@@ -225,6 +224,9 @@ readFrom-same : (n : ℕ) (x : Table) (i : ℕ) (b : List ℕ) → readFrom n x 
 unfolding readFrom S.readFrom
 readFrom-same zero x i b = refl
 readFrom-same (suc n) x i b = rw (readFrom-same n (recorded x b) (i + 4) (drop 4 b))
+
+readPlan-same : (b : List ℕ) → readPlan b ≡ S.readPlan b
+readPlan-same b = readFrom-same (length b + 1) empty 0 b
 
 keptFrom-same : (n : ℕ) (x : Table) (i : ℕ) → keptFrom n x i ≡ W.keptFrom n x i
 unfolding keptFrom W.keptFrom

@@ -7,35 +7,24 @@ use Prim.Native.Nat.{ℕ, zero, suc, _+_}
 use native.Mathlib.Omega.{arith}
 use lib.ListN.{length}
 use Rattle.model.specs.Script.{Step}
-use Rattle.model.specs.Paths.{Place, Path, start, _▸_}
+use Rattle.model.specs.Paths.{Place, Path, start, _▸_, placeOf}
 use Rattle.model.specs.Meeting.{admitsElement, shareElement, shareLeaf, isDeep, Cell, samePlace, isConstructor, isParent, onStep}
 use Rattle.model.specs.Meeting.{downStep, upStep, joinCell, startCells, stepCells, cell, meets}
 use Rattle.model.specs.Document03Paths as P
 use Rattle.model.proofs.BoolLaws.{and-left, and-both, or-left, or-right, or-cases, bool-iff}
 use Rattle.model.proofs.TestLaws.{and-parts}
-use Rattle.model.proofs.Spells.{placeOf}
 use Rattle.model.proofs.Document03Paths.{along, oursPath, Known, Tested, none, more, tested-before}
 use Rattle.model.proofs.Document03Search.{agree-share, agreeElement-share, last, both, passOne, passTwo, goes-by, goes-meet}
 use Rattle.model.proofs.Document03Search.{fuel-enough}
 
 -- FROM THE SEARCH TO THE CELLS. A step more, at the cells
-on-up : (p q : Path) → cell p q .onElement ≡ true → cell p q .upElement ≡ true
+on-both : (p q : Path) → cell p q .onElement ≡ true → (cell p q .upElement ≡ true) × (cell p q .downElement ≡ true)
 unfolding cell startCells stepCells
-on-up (start p) (start q) e = e
-on-up (start p) (q ▸ t) e = absurd (false≢true e)
-on-up (p ▸ s) (start q) e = absurd (false≢true e)
-on-up (p ▸ s) (q ▸ t) e = elim (or-cases (isParent s t (cell p q) && shareElement s t) (false || false) e) [
-  | inl k ↦ or-left _ _ k
-  | inr k ↦ absurd (false≢true k)
-]
-
-on-down : (p q : Path) → cell p q .onElement ≡ true → cell p q .downElement ≡ true
-unfolding cell startCells stepCells
-on-down (start p) (start q) e = e
-on-down (start p) (q ▸ t) e = absurd (false≢true e)
-on-down (p ▸ s) (start q) e = absurd (false≢true e)
-on-down (p ▸ s) (q ▸ t) e = elim (or-cases (isParent s t (cell p q) && shareElement s t) (false || false) e) [
-  | inl k ↦ or-left _ _ k
+on-both (start p) (start q) e = (e, e)
+on-both (start p) (q ▸ t) e = absurd (false≢true e)
+on-both (p ▸ s) (start q) e = absurd (false≢true e)
+on-both (p ▸ s) (q ▸ t) e = elim (or-cases (isParent s t (cell p q) && shareElement s t) (false || false) e) [
+  | inl k ↦ (or-left _ _ k, or-left _ _ k)
   | inr k ↦ absurd (false≢true k)
 ]
 
@@ -82,14 +71,14 @@ stands-parent {p} {q} {s} {t} (down d e) =
 
 stands-up : {p q : Path} {s t : Step} {ss ts : List Step} → Stands p q (s ∷ ss) (t ∷ ts) →
     (cell p q .upElement || (isDeep t && cell p q .downElement)) ≡ true
-stands-up {p} {q} {t} (on e) = or-left (cell p q .upElement) (isDeep t && cell p q .downElement) (on-up p q e)
+stands-up {p} {q} {t} (on e) = or-left (cell p q .upElement) (isDeep t && cell p q .downElement) (on-both p q e .0)
 stands-up {p} {q} {t} (up d e) = or-left (cell p q .upElement) (isDeep t && cell p q .downElement) e
 stands-up {p} {q} {t} (down d e) =
     or-right (cell p q .upElement) (isDeep t && cell p q .downElement) (and-both (isDeep t) (cell p q .downElement) d e)
 
 stands-down : {p q : Path} {s t : Step} {ss ts : List Step} → Stands p q (s ∷ ss) (t ∷ ts) →
     (cell p q .downElement || (isDeep s && cell p q .upElement)) ≡ true
-stands-down {p} {q} {s} (on e) = or-left (cell p q .downElement) (isDeep s && cell p q .upElement) (on-down p q e)
+stands-down {p} {q} {s} (on e) = or-left (cell p q .downElement) (isDeep s && cell p q .upElement) (on-both p q e .1)
 stands-down {p} {q} {s} (down d e) = or-left (cell p q .downElement) (isDeep s && cell p q .upElement) e
 stands-down {p} {q} {s} (up d e) =
     or-right (cell p q .downElement) (isDeep s && cell p q .upElement) (and-both (isDeep s) (cell p q .upElement) d e)

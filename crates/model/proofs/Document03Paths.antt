@@ -16,6 +16,7 @@ use Rattle.model.specs.Document03Script as D
 use Rattle.model.specs.Document03Paths as P
 use Rattle.model.specs.Document03 as T
 use Rattle.model.proofs.BoolLaws.{and-left}
+use Rattle.model.proofs.ListLaws.{any-append}
 use Rattle.model.proofs.ScriptLaws.{FieldsFit}
 use Rattle.model.proofs.Document03Script.{ours}
 use Rattle.model.proofs.Document03Run.{stepped-same}
@@ -159,10 +160,6 @@ or-later true true c = refl
 or-later true false c = refl
 or-later false b c = refl
 
-or-assoc : (a b c : Bool) → ((a || b) || c) ≡ (a || (b || c))
-or-assoc true b c = refl
-or-assoc false b c = refl
-
 -- all prefixes but the path itself
 unfoldable before : Path → List Path
 before (start p) = []
@@ -172,11 +169,6 @@ any-prefixes : (g : Path → Bool) (p : Path) → any g (prefixesOf p) ≡ (g p 
 unfolding any prefixesOf before
 any-prefixes g (start p) = refl
 any-prefixes g (p ▸ s) = refl
-
-any-append : {A : Type 0} (g : A → Bool) (ps qs : List A) → any g (ps ++ qs) ≡ (any g ps || any g qs)
-unfolding any
-any-append g [] qs = refl
-any-append g (p ∷ ps) qs = rw (any-append g ps qs) (sym (or-assoc (g p) (any g ps) (any g qs)))
 
 module _ (f : P.Path → Bool) (g : Path → Bool) (same : (p : P.Path) → Tested (oursPath p) → f p ≡ g (oursPath p)) where
   pub any-alike : {ps : List P.Path} {qs : List Path} → Alike ps qs → any f ps ≡ any g qs

@@ -45,49 +45,31 @@ elementBy s t n = not (eqb s 2) && not (eqb t 2) && (not (namedBy s && namedBy t
 abbrev leafBy : (s t : ℕ) → Bool
 leafBy s t = (eqb s 0 || eqb s 2) && (eqb t 0 || eqb t 2)
 
-agree-by : {s t : ℕ} (n : Bool) → Test s → Test t → agreeBy s t n ≡ (elementBy s t n || leafBy s t)
-agree-by n anyNode anyNode = refl
-agree-by n anyNode anyElement = refl
-agree-by n anyNode anyLeaf = refl
-agree-by n anyNode theNamed = refl
-agree-by n anyElement anyNode = refl
-agree-by n anyElement anyElement = refl
-agree-by n anyElement anyLeaf = refl
-agree-by n anyElement theNamed = refl
-agree-by n anyLeaf anyNode = refl
-agree-by n anyLeaf anyElement = refl
-agree-by n anyLeaf anyLeaf = refl
-agree-by n anyLeaf theNamed = refl
-agree-by n theNamed anyNode = refl
-agree-by n theNamed anyElement = refl
-agree-by n theNamed anyLeaf = refl
-agree-by true theNamed theNamed = refl
-agree-by false theNamed theNamed = refl
-
-element-by : {s t : ℕ} (n : Bool) → Test s → Test t → (agreeBy s t n && not (eqb s 2) && not (eqb t 2)) ≡ elementBy s t n
-element-by n anyNode anyNode = refl
-element-by n anyNode anyElement = refl
-element-by n anyNode anyLeaf = refl
-element-by n anyNode theNamed = refl
-element-by n anyElement anyNode = refl
-element-by n anyElement anyElement = refl
-element-by n anyElement anyLeaf = refl
-element-by n anyElement theNamed = refl
-element-by n anyLeaf anyNode = refl
-element-by n anyLeaf anyElement = refl
-element-by n anyLeaf anyLeaf = refl
-element-by n anyLeaf theNamed = refl
-element-by n theNamed anyNode = refl
-element-by n theNamed anyElement = refl
-element-by n theNamed anyLeaf = refl
-element-by true theNamed theNamed = refl
-element-by false theNamed theNamed = refl
+tests-by : {s t : ℕ} (n : Bool) → Test s → Test t →
+    (agreeBy s t n ≡ (elementBy s t n || leafBy s t)) × ((agreeBy s t n && not (eqb s 2) && not (eqb t 2)) ≡ elementBy s t n)
+tests-by n anyNode anyNode = (refl, refl)
+tests-by n anyNode anyElement = (refl, refl)
+tests-by n anyNode anyLeaf = (refl, refl)
+tests-by n anyNode theNamed = (refl, refl)
+tests-by n anyElement anyNode = (refl, refl)
+tests-by n anyElement anyElement = (refl, refl)
+tests-by n anyElement anyLeaf = (refl, refl)
+tests-by n anyElement theNamed = (refl, refl)
+tests-by n anyLeaf anyNode = (refl, refl)
+tests-by n anyLeaf anyElement = (refl, refl)
+tests-by n anyLeaf anyLeaf = (refl, refl)
+tests-by n anyLeaf theNamed = (refl, refl)
+tests-by n theNamed anyNode = (refl, refl)
+tests-by n theNamed anyElement = (refl, refl)
+tests-by n theNamed anyLeaf = (refl, refl)
+tests-by true theNamed theNamed = (refl, refl)
+tests-by false theNamed theNamed = (refl, refl)
 
 pub agree-share : (s t : Step) → Known s → Known t → P.agree s t ≡ (shareElement s t || shareLeaf s t)
-agree-share s t h k = agree-by (eqb (s .name) (t .name)) (test-of (s .test) h) (test-of (t .test) k)
+agree-share s t h k = tests-by (eqb (s .name) (t .name)) (test-of (s .test) h) (test-of (t .test) k) .0
 
 pub agreeElement-share : (s t : Step) → Known s → Known t → P.agreeElement s t ≡ shareElement s t
-agreeElement-share s t h k = element-by (eqb (s .name) (t .name)) (test-of (s .test) h) (test-of (t .test) k)
+agreeElement-share s t h k = tests-by (eqb (s .name) (t .name)) (test-of (s .test) h) (test-of (t .test) k) .1
 
 -- A NODE MORE: how a search goes on from two steps
 pub data Goes (s t : Step) (ss ts : List Step) (next : List Step → List Step → Bool) : Type 0 where

@@ -8,22 +8,15 @@ use lib.Dec.{ltb, leb, eqb}
 use lib.ListN.{length, getD, length-append}
 use lib.Seq.{drop-at}
 use borrow.Author.Tests.{eqb-true, lt-ltb, le-leb, ne-eqb}
-use Rattle.model.specs.Base.{isIn}
+use Rattle.model.specs.Base.{isIn, also}
 use Rattle.model.specs.Limits.{maxHistory}
 use Rattle.model.specs.Refusal.{isFine}
 use Rattle.model.specs.Stored.{wordAt, parentIn, parentBytes}
-use Rattle.model.specs.History.{Record, madeElementKind, cutKind, recordBytes, historyBytes}
+use Rattle.model.specs.History.{IsInRange, AllInRange, Record, madeElementKind, cutKind, recordBytes, historyBytes}
 use Rattle.model.specs.Undo.{historySize, recordIn, Placed, formed, formFault, withPlaced, formFrom}
 use Rattle.model.proofs.BoolLaws.{and-both, or-right}
 use Rattle.model.proofs.RefusalLaws.{isFine-unless, isFine-check}
-use Rattle.model.proofs.BytesLaws.{IsWord, word-back, parentIn-back, length-parentBytes}
-
--- A RECORD IN RANGE: one of the three kinds; an element's name is 1 to 255; a cut has no tag
-pub record IsInRange (r : Record) : Type 0 where
-  pub kindIn : isIn madeElementKind cutKind (r .kind) ≡ true
-  pub nameIn : r .kind ≡ madeElementKind → isIn 1 255 (r .tag) ≡ true
-  pub noTag : r .kind ≡ cutKind → r .tag ≡ 0
-  pub parentWord : IsWord (r .parent)
+use Rattle.model.proofs.BytesLaws.{word-back, parentIn-back, length-parentBytes}
 
 pub length-recordBytes : (r : Record) → length (recordBytes r) ≡ historySize (r .kind)
 length-recordBytes r = go (eqb (r .kind) cutKind) refl
@@ -73,14 +66,6 @@ unfoldable pub placed : (place : ℕ) → List Record → List Placed
 placed i [] = []
 placed i (r ∷ rs) = record { at = i; entry = r } ∷ placed (i + historySize (r .kind)) rs
 
-pub data AllInRange : List Record → Type 0 where
-  noneYet : AllInRange []
-  andAlso : {r : Record} {rs : List Record} → IsInRange r → AllInRange rs → AllInRange (r ∷ rs)
-
-pub allInRange-snoc : {rs : List Record} {r : Record} → AllInRange rs → IsInRange r → AllInRange (rs ++ (r ∷ []))
-allInRange-snoc noneYet f = andAlso f noneYet
-allInRange-snoc (andAlso g a) f = andAlso g (allInRange-snoc a f)
-
 formFrom-step : (k i n : ℕ) (r : Record) (c : List ℕ) → IsInRange r → n < maxHistory →
     formFrom (suc k) i n (recordBytes r ++ c) ≡
     withPlaced (record { at = i; entry = r }) (formFrom k (i + historySize (r .kind)) (n + 1) c)
@@ -99,7 +84,7 @@ unfolding formFrom historyBytes placed
 formFrom-placed zero i n [] a l h = refl
 formFrom-placed (suc k) i n [] a l h = refl
 formFrom-placed zero i n (r ∷ rs) a l h = absurd (omega arith)
-formFrom-placed (suc k) i n (r ∷ rs) (andAlso f a) l h =
+formFrom-placed (suc k) i n (r ∷ rs) (also f a) l h =
     formFrom-step k i n r (historyBytes rs) f (omega arith) ∙
     ap (withPlaced (record { at = i; entry = r }))
     (formFrom-placed k (i + historySize (r .kind)) (n + 1) rs a (omega arith)

@@ -17,7 +17,8 @@ use Rattle.model.specs.Promise.{tableOf, answerOf, historyOf, ends, newR
 use Rattle.model.specs.Promise.{FreeCommutes}
 use Rattle.model.proofs.TableLaws.{isWell-at}
 use Rattle.model.proofs.Labels.{Label}
-use Rattle.model.proofs.All.{All, all-imp}
+use Rattle.model.proofs.All.{all-imp}
+use Rattle.model.specs.Base.{All}
 use Rattle.model.proofs.Shift.{shift, shiftRecord}
 use Rattle.model.proofs.Twin.{World, Touched, Named, Good, φ, Twin, Vals, stopped, passed, Sim, both, alike, full}
 use Rattle.model.proofs.TwinLaws.{one-count, two-count}

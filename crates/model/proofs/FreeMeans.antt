@@ -1,31 +1,30 @@
--- What free means. 'upward': a script climbs. 'free': no row of any plan is on a path that one script modifies and on one that the other
--- traverses. 'meet': some plan has such a row.
+-- What free means. 'upward': a script has an upward step. 'free': no row of any plan is on a path that one script modifies and on one
+-- that the other traverses. 'meet': some plan has such a row.
 use mathlib.Core.Path.{_≡_, refl, sym, ap, _∙_, subst}
 use mathlib.Core.Bool.{Bool, true, false, _&&_, _||_}
 use mathlib.Core.Logic.{_⊎_, inl, inr}
-use mathlib.Core.List.{List}
-use mathlib.Core.List.{List·Memᴰ as In}
+use mathlib.Core.List.{List, List·Memᴰ as In}
 use mathlib.Core.Option.{none, some}
 use Prim.Native.Nat.{ℕ, _<_}
 use native.Mathlib.Omega.{arith}
 use lib.ListN.{length, getD}
-use Rattle.model.specs.Base.{pick, any, among}
-use Rattle.model.specs.Table.{Table, count, isTree}
+use Rattle.model.specs.Base.{pick, any, among, All}
+use Rattle.model.specs.Table.{Table, count, isTree, Tree}
 use Rattle.model.specs.Script.{Expr}
-use Rattle.model.specs.Paths.{Place, documentPlace, Path, pathsOf, traversed, hasUp}
+use Rattle.model.specs.Paths.{Place, documentPlace, Path, pathsOf, traversed, hasUp, placeOf}
 use Rattle.model.specs.Meeting.{meets, anyMeet, free, upward, meet, answer}
 use Rattle.model.specs.Promise.{IsScript, Places, ArePlaces, rowsOn, isOn, isTouched, FreeMeans}
 use Rattle.model.proofs.BoolLaws.{and-both, or-cases, or-left, or-right, or-neither, true-false}
 use Rattle.model.proofs.TestLaws.{and-parts}
-use Rattle.model.proofs.TableLaws.{isThe-at, Tree, isTree-at, isTree-by}
+use Rattle.model.proofs.TableLaws.{isThe-at, isTree-at, isTree-by}
 use Rattle.model.proofs.ScriptLaws.{isScript-fields}
-use Rattle.model.proofs.All.{All, all-in}
-use Rattle.model.proofs.Reach.{any-in, in-any}
+use Rattle.model.proofs.All.{all-in}
+use Rattle.model.proofs.ListLaws.{any-in, in-any, among-in, in-among}
 use Rattle.model.proofs.Words.{first, same}
 use Rattle.model.proofs.WordsMeet.{meets-apart}
 use Rattle.model.proofs.PathLaws.{PathFits, starts, steps, pathsOf-fits}
-use Rattle.model.proofs.Spells.{placeOf, Spells}
-use Rattle.model.proofs.RowsOn.{among-in, in-among, label-once, label-proper, row-spelled, spells-on}
+use Rattle.model.proofs.Spells.{Spells}
+use Rattle.model.proofs.RowsOn.{label-once, label-proper, row-spelled, spells-on}
 use Rattle.model.proofs.CellsFound.{Meets, meets-found}
 use Rattle.model.proofs.Chain.{chain, count-chain, chain-tree, byMarks, byMarks-places, spells-row}
 

@@ -13,7 +13,8 @@ use borrow.Author.Tests.{ltb-true, ltb-false, eqb-true, eqb-false}
 use Rattle.model.specs.Limits.{maxRows}
 use Rattle.model.specs.Table.{Row, Table, noRow, rowAt, count, isMarked, withRow, withParent, linked, withMark, tagFits, parentFits}
 use Rattle.model.proofs.BoolLaws.{true-false}
-use Rattle.model.proofs.TableLaws.{any-by, parentFits-at, isElement-at, parent-count, ParentLower, IsRoot, Tree, Well}
+use Rattle.model.proofs.TableLaws.{any-by, parentFits-at, isElement-at, parent-count, Well}
+use Rattle.model.specs.Table.{ParentLower, IsRoot, Tree}
 
 -- A ROW MORE
 pub count-withRow : (x : Table) (r : Row) → count (withRow x r) ≡ suc (count x)

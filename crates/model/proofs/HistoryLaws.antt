@@ -11,7 +11,7 @@ use lib.ListN.{length, getD, set, length-append}
 use borrow.Author.Tests.{ltb-true, ltb-false, eqb-true, eqb-false, ne-eqb}
 use Rattle.model.specs.Base.{pick}
 use Rattle.model.specs.Table.{Row, Table, noRow, rowAt, count, hasParent, withRow, withParent, linked}
-use Rattle.model.specs.History.{Record, madeElementKind, madeLeafKind, cutKind}
+use Rattle.model.specs.History.{times, isCut, Record, madeElementKind, madeLeafKind, cutKind}
 use Rattle.model.specs.Run.{State, made, cutRecord}
 use Rattle.model.proofs.TableLaws.{parent-count, Well}
 use Rattle.model.proofs.GrowLaws.{count-withRow, rowAt-withRow-old, count-linked, rowAt-linked-same, rowAt-linked-other}
@@ -25,17 +25,10 @@ one-le : (t : Bool) → one t ≤ 1
 one-le true = omega arith
 one-le false = omega arith
 
-unfoldable pub times : (Record → Bool) → List Record → ℕ
-times f [] = 0
-times f (r ∷ rs) = one (f r) + times f rs
-
 pub times-snoc : (f : Record → Bool) (rs : List Record) (r : Record) → times f (rs ++ (r ∷ [])) ≡ times f rs + one (f r)
 unfolding times
 times-snoc f [] r = omega arith
 times-snoc f (q ∷ rs) r = omega (arith, times-snoc f rs r)
-
-abbrev pub isCut : Record → Bool
-isCut r = eqb (r .kind) cutKind
 
 abbrev pub cutsRow : ℕ → Record → Bool
 cutsRow i r = isCut r && eqb (r .row) i

@@ -1,12 +1,17 @@
--- Lists and areas: what is set, and what is put over an area.
+-- Lists and areas: what is set, what is put over an area, tests of their items.
 use mathlib.Core.Path.{_≡_, refl, ap, sym, _∙_}
-use mathlib.Core.List.{List, [], _∷_, _++_, map, append-assoc, append-nil}
-use Prim.Native.Nat.{ℕ, zero, suc, _+_, _-_, _≤_}
+use mathlib.Core.Bool.{Bool, true, _||_, false≢true, or-assoc}
+use mathlib.Core.Logic.{_⊎_, inl, inr, ⊎-elim}
+use mathlib.Core.List.{List, [], _∷_, _++_, map, append-assoc, append-nil, List·Memᴰ as In, List·Memᴰ·head as here, List·Memᴰ·tail as there}
+use Prim.Native.Nat.{ℕ, zero, suc, _+_, _-_, _≤_, _<_}
 use native.Mathlib.Omega.{arith}
 use native.Mathlib.Nat.{add-zero}
+use lib.Dec.{eqb}
 use lib.ListN.{length, getD, take, drop, set, length-append, length-drop, take-append-drop}
 use lib.Seq.{take-at, take-all, drop-append-add, drop-drop, getD-drop, length-take-le}
-use Rattle.model.specs.Base.{over}
+use borrow.Author.Tests.{eqb-true, eq-eqb}
+use Rattle.model.specs.Base.{over, all, any, among}
+use Rattle.model.proofs.BoolLaws.{and-left, and-right, and-both, or-left, or-right, or-cases}
 
 -- an element set, and then mapped
 pub map-set : {A B : Type 0} (f : A → B) (l : List A) (i : ℕ) (a : A) → map f (set l i a) ≡ set (map f l) i (f a)
@@ -52,3 +57,63 @@ drop-all b i = take-all (length b - i) (drop i b) (omega (arith, length-drop i b
 
 pub drop-first : (b : List ℕ) (i : ℕ) → getD (drop i b) 0 0 ≡ getD b i 0
 drop-first b i = let e : i + 0 ≡ i = omega arith in getD-drop i b 0 0 ∙ ap (λ (j : ℕ). getD b j 0) e
+
+-- SOME ITEM of a list passes a test: in either of two lists, by its place in the list
+module _ {A : Type 0} (f : A → Bool) where
+  pub any-append : (k l : List A) → any f (k ++ l) ≡ (any f k || any f l)
+  unfolding any
+  any-append [] l = refl
+  any-append (x ∷ k) l = ap (λ (t : Bool). f x || t) (any-append k l) ∙ sym (or-assoc (f x) (any f k) (any f l))
+
+  pub any-left : (k l : List A) → any f k ≡ true → any f (k ++ l) ≡ true
+  any-left k l h = any-append k l ∙ or-left (any f k) (any f l) h
+
+  pub any-right : (k l : List A) → any f l ≡ true → any f (k ++ l) ≡ true
+  any-right k l h = any-append k l ∙ or-right (any f k) (any f l) h
+
+  pub any-either : {G : Type 0} (k l : List A) → (any f k ≡ true → G) → (any f l ≡ true → G) → any f (k ++ l) ≡ true → G
+  any-either k l g h e = ⊎-elim g h (or-cases (any f k) (any f l) (sym (any-append k l) ∙ e))
+
+pub any-same : {A : Type 0} (f g : A → Bool) (l : List A) → ((a : A) → In a l → f a ≡ g a) → any f l ≡ any g l
+unfolding any
+any-same f g [] h = refl
+any-same f g (x ∷ l) h =
+    ap (λ (t : Bool). t || any f l) (h x (here refl)) ∙ ap (λ (t : Bool). g x || t) (any-same f g l (λ a i. h a (there i)))
+
+pub any-in : {A : Type 0} (f : A → Bool) (l : List A) → any f l ≡ true → (a : A) × In a l × (f a ≡ true)
+unfolding any
+any-in f [] e = absurd (false≢true e)
+any-in {A} f (b ∷ l) e = go (or-cases (f b) (any f l) e) (λ h. any-in f l h)
+  where
+    go : (f b ≡ true) ⊎ (any f l ≡ true) → (any f l ≡ true → (a : A) × In a l × (f a ≡ true)) → (a : A) × In a (b ∷ l) × (f a ≡ true)
+    go (inl h) k = (b, here refl, h)
+    go (inr h) k =
+        let (a, i, g) = k h in
+        (a, there i, g)
+
+pub in-any : {A : Type 0} (f : A → Bool) {l : List A} {a : A} → In a l → f a ≡ true → any f l ≡ true
+unfolding any
+in-any f (here {x = b} {xs = l} e) h = or-left (f b) (any f l) (ap f (sym e) ∙ h)
+in-any f (there {x = b} {xs = l} i) h = or-right (f b) (any f l) (in-any f i h)
+
+pub among-in : (i : ℕ) (l : List ℕ) → among i l ≡ true → In i l
+unfolding among
+among-in i [] e = absurd (false≢true e)
+among-in i (j ∷ l) e = elim (or-cases (eqb i j) (among i l) e) [ inl k ↦ here (eqb-true i j k) | inr k ↦ there (among-in i l k) ]
+
+pub in-among : {i : ℕ} {l : List ℕ} → In i l → among i l ≡ true
+unfolding among
+in-among {i} (here {x = j} {xs = l} e) = or-left (eqb i j) (among i l) (eq-eqb i j e)
+in-among {i} (there {x = j} {xs = l} h) = or-right (eqb i j) (among i l) (in-among h)
+
+-- EVERY ITEM passes a test
+pub all-getD : {A : Type 0} (f : A → Bool) (l : List A) (d : A) → all f l ≡ true → (k : ℕ) → k < length l → f (getD l k d) ≡ true
+unfolding all
+all-getD f [] d h k b = absurd (omega arith)
+all-getD f (a ∷ l) d h zero b = and-left (f a) (all f l) h
+all-getD f (a ∷ l) d h (suc k) b = all-getD f l d (and-right (f a) (all f l) h) k (omega arith)
+
+pub getD-all : {A : Type 0} (f : A → Bool) (l : List A) (d : A) → ((k : ℕ) → k < length l → f (getD l k d) ≡ true) → all f l ≡ true
+unfolding all
+getD-all f [] d h = refl
+getD-all f (a ∷ l) d h = and-both _ _ (h zero (omega arith)) (getD-all f l d (λ k b. h (suc k) (omega arith)))

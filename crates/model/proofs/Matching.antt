@@ -10,7 +10,7 @@ use borrow.Author.Tests.{lt-ltb, le-ltb}
 use Rattle.model.specs.Table.{Row, withParent}
 use Rattle.model.specs.History.{Record}
 use Rattle.model.specs.Promise.{matched, matchedParent, matchedAll, matchedHistory, matchedRow}
-use Rattle.model.proofs.All.{All, nothing, also}
+use Rattle.model.specs.Base.{All, nothing, also}
 use Rattle.model.proofs.Shift.{shift, shiftParent, shiftRow, shiftRecord, shift-low, shift-high}
 use Rattle.model.proofs.Twin.{Named}
 

@@ -1,14 +1,14 @@
--- The paths of a script that never climbs: every step leads down and names 1 to 255, and every place is a document's or the script's own.
+-- The paths of a script without upward steps: each step leads down and names 1 to 255, each place is a document's or the script's own.
 use mathlib.Core.Path.{_≡_, refl}
 use mathlib.Core.Bool.{Bool, true, false, _&&_, _||_, not, false≢true}
 use mathlib.Core.Logic.{_⊎_, inl, inr}
 use mathlib.Core.List.{List, [], _∷_, _++_}
-use Prim.Native.Nat.{ℕ, zero, suc}
+use Prim.Native.Nat.{ℕ}
 use native.Mathlib.Omega.{arith}
+use native.Mathlib.Decide.{ℕ-discrete}
 use lib.Dec.{ltb, eqb}
-use lib.ListN.{getD}
-use borrow.Author.Tests.{ltb-true, eqb-false, not-true}
-use Rattle.model.specs.Base.{pick, isIn}
+use borrow.Author.Tests.{leb-false, ltb-true, eqb-false, not-true}
+use Rattle.model.specs.Base.{pick, isIn, All, nothing, also}
 use Rattle.model.specs.Script.{Step, testFits, Expr, nil, document, var, step, both, letIn, forIn, ifIn, element, leaf, delete}
 use Rattle.model.specs.Script.{insert, choose}
 use Rattle.model.specs.Paths.{Place, Path, start, _▸_, withStep, anyBelow, Paths, infer, prefixesOf, prefixed, traversed, isUp}
@@ -16,8 +16,16 @@ use Rattle.model.specs.Paths.{hasUp, pathsOf}
 use Rattle.model.specs.Meeting.{isNamed}
 use Rattle.model.proofs.BoolLaws.{and-left, or-neither}
 use Rattle.model.proofs.TestLaws.{and-three}
-use Rattle.model.proofs.All.{All, nothing, also, all-append}
+use Rattle.model.proofs.All.{all-read, all-append}
 use Rattle.model.proofs.ScriptLaws.{FieldsFit}
+
+-- A STEP that does not lead up leads to children or to descendants
+pub down-axis : (s : Step) → isUp s ≡ false → (s .axis ≡ 0) ⊎ (s .axis ≡ 1)
+down-axis s e = go (ℕ-discrete (s .axis) 0)
+  where
+    go : Dec (s .axis ≡ 0) → (s .axis ≡ 0) ⊎ (s .axis ≡ 1)
+    go (yes h) = inl h
+    go (no h) = inr (omega (arith, leb-false 2 (s .axis) e))
 
 -- A STEP down whose name, where its test has one, is in range
 pub record StepFits (s : Step) : Type 0 where
@@ -56,18 +64,13 @@ unfolding withStep
 withStep-fits f nothing = nothing
 withStep-fits f (also h a) = also (steps h f) (withStep-fits f a)
 
-all-getD : {o : ℕ} {b : List (List Path)} → All (All (PathFits o)) b → (k : ℕ) → All (PathFits o) (getD b k [])
-all-getD nothing k = nothing
-all-getD (also h a) zero = h
-all-getD (also h a) (suc k) = all-getD a k
-
 pub infer-fits : (o : ℕ) (e : Expr) (b : List (List Path)) → FieldsFit e → hasUp e ≡ false → All (All (PathFits o)) b →
     PathsFit o (infer o e b)
 unfolding infer FieldsFit hasUp
 infer-fits o (nil z) b f u a = record { results = nothing; accesses = nothing; changes = nothing }
 infer-fits o (document z d) b f u a =
     record { results = also (starts (inl refl)) nothing; accesses = also (starts (inl refl)) nothing; changes = nothing }
-infer-fits o (var z v) b f u a = record { results = all-getD a v; accesses = nothing; changes = nothing }
+infer-fits o (var z v) b f u a = record { results = all-read [] nothing a v; accesses = nothing; changes = nothing }
 infer-fits o (step z s e) b f u a =
     let k = or-neither (isUp s) (hasUp e) u in
     let h = infer-fits o e b (f .1) (k .1) a in

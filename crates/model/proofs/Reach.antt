@@ -1,52 +1,26 @@
 -- Which rows a step down reaches from a value, link by link; carried over from one table to another in which the rows have their like.
 use mathlib.Core.Path.{_≡_, refl, sym, _∙_, ap, ap₂, subst}
-use mathlib.Core.Bool.{Bool, true, false, false≢true, or-false}
+use mathlib.Core.Bool.{true, false, or-false}
 use mathlib.Core.Logic.{_⊎_, inl, inr}
-use mathlib.Core.List.{List, [], _∷_}
-use mathlib.Core.List.{List·Memᴰ as In, List·Memᴰ·head as here, List·Memᴰ·tail as there}
+use mathlib.Core.List.{List, [], _∷_, List·Memᴰ as In}
 use mathlib.Core.Option.{some}
 use Prim.Native.Nat.{ℕ, zero, suc, _<_}
-use native.Mathlib.Omega.{arith}
-use native.Mathlib.Decide.{ℕ-discrete}
-use borrow.Author.Tests.{leb-false}
 use Rattle.model.specs.Base.{pick, any}
 use Rattle.model.specs.Table.{Table, rowAt}
 use Rattle.model.specs.Script.{Step}
 use Rattle.model.specs.Step.{Letter, leafLetter, named, letterOf, admits, isBelow, reaches, isReached, stepFrom}
 use Rattle.model.specs.Run.{descendantsFrom}
 use Rattle.model.specs.Paths.{anyBelow, isUp}
-use Rattle.model.proofs.BoolLaws.{and-left, and-right, and-both, or-left, or-right, or-cases}
+use Rattle.model.proofs.BoolLaws.{and-left, and-right, and-both}
+use Rattle.model.proofs.PathLaws.{down-axis}
+use Rattle.model.proofs.ListLaws.{any-in, in-any}
 use Rattle.model.proofs.TableLaws.{isThe-at, isThe-by}
 use Rattle.model.proofs.Below.{Below, under, further, below-is, is-below}
-
--- SOME ITEM of a list passes a test
-pub any-in : {A : Type 0} (f : A → Bool) (l : List A) → any f l ≡ true → (a : A) × In a l × (f a ≡ true)
-unfolding any
-any-in f [] e = absurd (false≢true e)
-any-in {A} f (b ∷ l) e = go (or-cases (f b) (any f l) e) (λ h. any-in f l h)
-  where
-    go : (f b ≡ true) ⊎ (any f l ≡ true) → (any f l ≡ true → (a : A) × In a l × (f a ≡ true)) → (a : A) × In a (b ∷ l) × (f a ≡ true)
-    go (inl h) k = (b, here refl, h)
-    go (inr h) k =
-        let (a, i, g) = k h in
-        (a, there i, g)
-
-pub in-any : {A : Type 0} (f : A → Bool) {l : List A} {a : A} → In a l → f a ≡ true → any f l ≡ true
-unfolding any
-in-any f (here {x = b} {xs = l} e) h = or-left (f b) (any f l) (ap f (sym e) ∙ h)
-in-any f (there {x = b} {xs = l} i) h = or-right (f b) (any f l) (in-any f i h)
 
 -- REACH
 pub data Reach (x : Table) (s : Step) (v : List ℕ) (j : ℕ) : Type 0 where
   byChild : {i : ℕ} → In i v → s .axis ≡ 0 → rowAt x j .parent ≡ some i → admits s (letterOf (rowAt x j)) ≡ true → Reach x s v j
   byDeep : {i : ℕ} → In i v → s .axis ≡ 1 → Below x i j → admits s (letterOf (rowAt x j)) ≡ true → Reach x s v j
-
-down-axis : (s : Step) → isUp s ≡ false → (s .axis ≡ 0) ⊎ (s .axis ≡ 1)
-down-axis s e = go (ℕ-discrete (s .axis) 0)
-  where
-    go : Dec (s .axis ≡ 0) → (s .axis ≡ 0) ⊎ (s .axis ≡ 1)
-    go (yes h) = inl h
-    go (no h) = inr (omega (arith, leb-false 2 (s .axis) e))
 
 pub reach-is : (x : Table) (s : Step) (v : List ℕ) (j : ℕ) → isUp s ≡ false → isReached x s v j ≡ true → Reach x s v j
 reach-is x s v j u e = go (any-in (λ i. reaches x (s .axis) i j) v (and-right (admits s (letterOf (rowAt x j))) _ e))

@@ -1,43 +1,30 @@
 -- Rows on a path: a row's root and its word, link by link; a row on a path has a root at the path's place and a word that its steps spell.
 use mathlib.Core.Path.{_≡_, refl, sym, ap, _∙_, subst}
-use mathlib.Core.Bool.{Bool, true, false, not, false≢true}
-use mathlib.Core.Logic.{inl, inr}
-use mathlib.Core.List.{List, [], _∷_}
-use mathlib.Core.List.{List·Memᴰ as In, List·Memᴰ·head as here, List·Memᴰ·tail as there}
+use mathlib.Core.Bool.{Bool, true, false, not}
+use mathlib.Core.List.{List, [], _∷_, List·Memᴰ as In, List·Memᴰ·head as here, List·Memᴰ·tail as there}
 use mathlib.Core.Option.{Option, none, some, Option·none-ne-some}
 use Prim.Native.Nat.{ℕ, zero, suc, _+_, _≤_, _<_}
 use native.Mathlib.Omega.{arith}
 use lib.Dec.{eqb}
 use lib.ListN.{getD}
-use borrow.Author.Tests.{eqb-true, eqb-false, eq-eqb}
-use Rattle.model.specs.Base.{pick, among}
-use Rattle.model.specs.Table.{Table, rowAt, count}
+use borrow.Author.Tests.{eqb-true, eqb-false}
+use Rattle.model.specs.Base.{pick}
+use Rattle.model.specs.Table.{Table, rowAt, count, Tree}
 use Rattle.model.specs.Script.{Step}
-use Rattle.model.specs.Step.{Letter, leafLetter, named, letterOf, isReached}
-use Rattle.model.specs.Paths.{Place, Path, start, _▸_}
+use Rattle.model.specs.Step.{Letter, leafLetter, named, letterOf, isReached, collect}
+use Rattle.model.specs.Paths.{Place, Path, start, _▸_, placeOf}
 use Rattle.model.specs.Promise.{Places, ArePlaces, rowsAt, rowsOn}
-use Rattle.model.proofs.BoolLaws.{or-cases, or-left, or-right, pick-false, true-false}
-use Rattle.model.proofs.TableLaws.{Tree, hasParent-none}
+use Rattle.model.proofs.BoolLaws.{pick-false, true-false}
+use Rattle.model.proofs.TableLaws.{hasParent-none}
 use Rattle.model.proofs.All.{all-in}
-use Rattle.model.proofs.Collect.{collect, step-collect, collect-all}
-use Rattle.model.proofs.Words.{Word, first, Grown, same, more, areElements, isProper, On, at}
-use Rattle.model.proofs.Words.{child as onChild, deep as onDeep}
+use Rattle.model.proofs.Collect.{step-collect, collect-all}
+use Rattle.model.proofs.Words.{Word, first, Grown, same, more, areElements, isProper, On, at, child as onChild, deep as onDeep}
 use Rattle.model.proofs.Below.{Below, under, further}
 use Rattle.model.proofs.Reach.{Reach, byChild, byDeep, reach-is}
 use Rattle.model.proofs.PathLaws.{PathFits, starts, steps}
-use Rattle.model.proofs.Spells.{placeOf, Spells, spelled, child, deep}
+use Rattle.model.proofs.Spells.{Spells, spelled, child, deep}
 
--- AMONG the items of a list; and among the rows at a place, or that a step reaches
-pub among-in : (i : ℕ) (l : List ℕ) → among i l ≡ true → In i l
-unfolding among
-among-in i [] e = absurd (false≢true e)
-among-in i (j ∷ l) e = elim (or-cases (eqb i j) (among i l) e) [ inl k ↦ here (eqb-true i j k) | inr k ↦ there (among-in i l k) ]
-
-pub in-among : {i : ℕ} {l : List ℕ} → In i l → among i l ≡ true
-unfolding among
-in-among {i} (here {x = j} {xs = l} e) = or-left (eqb i j) (among i l) (eq-eqb i j e)
-in-among {i} (there {x = j} {xs = l} h) = or-right (eqb i j) (among i l) (in-among h)
-
+-- THE ROWS at a place, or that a step reaches
 pub collect-in : (f : ℕ → Bool) (n i : ℕ) → In i (collect f 0 n) → (i < n) × (f i ≡ true)
 collect-in f n i h = all-in (collect-all {P = λ (j : ℕ). (j < n) × (f j ≡ true)} f 0 n (λ j l e. (omega arith, e))) h
 

@@ -8,22 +8,22 @@ use native.Mathlib.Omega.{arith}
 use lib.Dec.{ltb, eqb}
 use lib.ListN.{length, getD}
 use borrow.Author.Tests.{ltb-true, eqb-true, lt-ltb}
-use Rattle.model.specs.Base.{pick}
+use Rattle.model.specs.Base.{pick, nothing, also}
 use Rattle.model.specs.Limits.{maxRows, maxItems, maxHistory}
 use Rattle.model.specs.Refusal.{isFine, historyAt, unless}
-use Rattle.model.specs.Table.{Row, Table, rowAt, count, isElement, withRow, linked, tagFits, parentFits}
+use Rattle.model.specs.Table.{Row, Table, rowAt, count, isElement, withRow, linked, tagFits, parentFits, Tree}
 use Rattle.model.specs.Script.{Expr, nil, document, var, step, both, letIn, forIn, ifIn, element, leaf, delete, insert, choose}
 use Rattle.model.specs.Run.{State, state, Out, stop, gives, andThen, joinItems, withMade, roomFault, newRow, loose, cutRow, cutBy}
 use Rattle.model.specs.Run.{cutAll, Copied, copyOf, copyParent, copyRow, subtree, thenRow, copyEach, copyAll, inserted, joinFor}
-use Rattle.model.specs.Run.{loop, run, runOn}
+use Rattle.model.specs.Run.{loop, run, runOn, AreRows, AreValues}
 use Rattle.model.proofs.BoolLaws.{and-left, and-right, and-both}
 use Rattle.model.proofs.RefusalLaws.{isFine-check}
-use Rattle.model.proofs.TableLaws.{isElement-at, isElement-by, parent-count, Tree, Well}
+use Rattle.model.proofs.TableLaws.{isElement-at, isElement-by, parent-count, Well}
 use Rattle.model.proofs.GrowLaws.{count-withRow, rowAt-withRow-old, rowAt-withRow-new, count-linked, isLeaf-linked}
 use Rattle.model.proofs.RanLaws.{Ran, begun, rowMade, linkCut, ran-well}
 use Rattle.model.proofs.ScriptLaws.{FieldsFit}
-use Rattle.model.proofs.ValueLaws.{AreRows, noRows, moreRows, areRows-append, areRows-more, AreValues, noValues, areValues-snoc}
-use Rattle.model.proofs.ValueLaws.{areValues-more, areValues-at, stepFrom-rows, picked-rows, descendantsFrom-rows, marked-rows}
+use Rattle.model.proofs.ValueLaws.{areRows-more, areValues-more, stepFrom-rows, picked-rows, descendantsFrom-rows, marked-rows}
+use Rattle.model.proofs.All.{all-append, all-snoc, all-read}
 
 -- A TABLE ENLARGED: no row goes, and none changes its kind
 pub record Enlarged (y z : Table) : Type 0 where
@@ -96,13 +96,13 @@ newRow-keeps x z r s q f g =
     pick-keeps x (s .plan) (isFine (roomFault z s)) _ _
     (λ e.
     let l : count (s .plan) < count (withRow (s .plan) r) = omega (arith, count-withRow (s .plan) r) in
-    (rowMade s r q (roomFault-room z s e) f g, moreRows l noRows, enlarged-withRow (s .plan) r))
+    (rowMade s r q (roomFault-room z s e) f g, also l nothing, enlarged-withRow (s .plan) r))
     (λ e. tt)
 
 -- DELETE
 cutAll-keeps : (x : Table) (z : ℕ) (is : List ℕ) (s : State) → Ran x s → Keeps x (s .plan) (cutAll z is s)
 unfolding cutAll
-cutAll-keeps x z [] s r = gives-keeps x [] s r noRows
+cutAll-keeps x z [] s r = gives-keeps x [] s r nothing
 cutAll-keeps x z (i ∷ is) s r = go (rowAt (s .plan) i .parent) refl (λ t q. cutAll-keeps x z is t q)
   where
     go : (p : Option ℕ) → rowAt (s .plan) i .parent ≡ p → ((t : State) → Ran x t → Keeps x (t .plan) (cutAll z is t)) →
@@ -159,8 +159,8 @@ module _ (x y : Table) (ty : Tree y) (place t g : ℕ) where
   copyEach-keeps : {is : List ℕ} → AreRows (count y) is → (cs : List Copied) (s : State) → Ran x s → CopiesWell y (s .plan) cs →
       isElement (s .plan) g ≡ true → Keeps x (s .plan) (copyEach place y t g is cs s)
   unfolding copyEach
-  copyEach-keeps noRows cs s r c h = gives-keeps x [] s r noRows
-  copyEach-keeps (moreRows {i} {is} l a) cs s r c h = go (isFine (roomFault place s)) refl (copyEach-keeps a)
+  copyEach-keeps nothing cs s r c h = gives-keeps x [] s r nothing
+  copyEach-keeps (also {a = i} {l = is} l a) cs s r c h = go (isFine (roomFault place s)) refl (copyEach-keeps a)
     where
       w : Row
       w = copyRow y t g i cs
@@ -185,10 +185,10 @@ module _ (x y : Table) (ty : Tree y) (place t g : ℕ) where
 copyAll-keeps : (x y : Table) → Tree y → (place g : ℕ) {is : List ℕ} → AreRows (count y) is → (s : State) → Ran x s →
     isElement (s .plan) g ≡ true → Keeps x (s .plan) (copyAll place y is g s)
 unfolding copyAll
-copyAll-keeps x y ty place g noRows s r h = gives-keeps x [] s r noRows
-copyAll-keeps x y ty place g (moreRows {i} {is} l a) s r h =
+copyAll-keeps x y ty place g nothing s r h = gives-keeps x [] s r nothing
+copyAll-keeps x y ty place g (also {a = i} {l = is} l a) s r h =
     thenRow-keeps x (s .plan) (copyEach place y i g (subtree y i) [] s) _
-    (copyEach-keeps x y ty place i g (moreRows l (descendantsFrom-rows y i 0 (count y) (count y) (omega arith))) [] s r
+    (copyEach-keeps x y ty place i g (also l (descendantsFrom-rows y i 0 (count y) (count y) (omega arith))) [] s r
     (copies-none y (s .plan)) h)
     (λ u q f. copyAll-keeps x y ty place g a u q (enlarged-element g f h))
 
@@ -202,7 +202,7 @@ inserted-keeps x well place v w s r a =
 joinItems-keeps : (x : Table) (z : ℕ) (v w : List ℕ) (s : State) → Ran x s → AreRows (count (s .plan)) v → AreRows (count (s .plan)) w →
     Keeps x (s .plan) (joinItems z v w s)
 joinItems-keeps x z v w s r a b =
-    pick-keeps x (s .plan) (ltb maxItems (length v + length w)) _ _ (λ e. tt) (λ e. gives-keeps x (v ++ w) s r (areRows-append a b))
+    pick-keeps x (s .plan) (ltb maxItems (length v + length w)) _ _ (λ e. tt) (λ e. gives-keeps x (v ++ w) s r (all-append a b))
 
 loop-keeps : (x y : Table) (z : ℕ) (f : ℕ → State → Out) →
     ((i : ℕ) (u : State) → Ran x u → Enlarged y (u .plan) → i < count (u .plan) → Keeps x (u .plan) (f i u)) →
@@ -210,7 +210,7 @@ loop-keeps : (x y : Table) (z : ℕ) (f : ℕ → State → Out) →
     Keeps x (s .plan) (loop z f is v s)
 unfolding loop
 loop-keeps x y z f h [] v s a b r g = gives-keeps x v s r b
-loop-keeps x y z f h (i ∷ is) v s (moreRows l a) b r g = joined (f i s) (h i s r g l) (loop-keeps x y z f h is)
+loop-keeps x y z f h (i ∷ is) v s (also l a) b r g = joined (f i s) (h i s r g l) (loop-keeps x y z f h is)
   where
     joined : (o : Out) → Keeps x (s .plan) o →
         ((w : List ℕ) (u : State) → AreRows (count (u .plan)) is → AreRows (count (u .plan)) w → Ran x u → Enlarged y (u .plan) →
@@ -221,7 +221,7 @@ loop-keeps x y z f h (i ∷ is) v s (moreRows l a) b r g = joined (f i s) (h i s
         pick-keeps x (s .plan) (ltb maxItems (length v + length w)) _ _ (λ e. tt)
         (λ e.
         keeps-from x (s .plan) (u .plan) (loop z f is (v ++ w) u) (k .2)
-        (next (v ++ w) u (areRows-more (k .2 .more) a) (areRows-append (areRows-more (k .2 .more) b) (k .1)) (k .0)
+        (next (v ++ w) u (areRows-more (k .2 .more) a) (all-append (areRows-more (k .2 .more) b) (k .1)) (k .0)
         (enlarged-then g (k .2))))
 
 -- EVALUATION, over the expression
@@ -229,9 +229,9 @@ module _ (x : Table) (well : Well x) where
   pub run-keeps : (e : Expr) → FieldsFit e → (b : List (List ℕ)) (s : State) → Ran x s → AreValues (count (s .plan)) b →
       Keeps x (s .plan) (run e b s)
   unfolding run FieldsFit
-  run-keeps (nil z) t b s r a = gives-keeps x [] s r noRows
+  run-keeps (nil z) t b s r a = gives-keeps x [] s r nothing
   run-keeps (document z d) t b s r a = gives-keeps x _ s r (marked-rows (s .plan) (ran-well x well r .tree) d)
-  run-keeps (var z v) t b s r a = gives-keeps x _ s r (areValues-at a v)
+  run-keeps (var z v) t b s r a = gives-keeps x _ s r (all-read [] nothing a v)
   run-keeps (step z q e) t b s r a =
       andThen-keeps x (s .plan) (run e b s) _ (run-keeps e (t .1) b s r a)
       (λ v u w c g. gives-keeps x _ u w (stepFrom-rows (u .plan) q v 0 (count (u .plan)) (count (u .plan)) (omega arith)))
@@ -242,13 +242,13 @@ module _ (x : Table) (well : Well x) where
       (λ v′ u′ w′ c′ g′. joinItems-keeps x z v v′ u′ w′ (areRows-more (g′ .more) c) c′))
   run-keeps (letIn z e f) t b s r a =
       andThen-keeps x (s .plan) (run e b s) _ (run-keeps e (t .0) b s r a)
-      (λ v u w c g. run-keeps f (t .1) (b ++ (v ∷ [])) u w (areValues-snoc (areValues-more (g .more) a) c))
+      (λ v u w c g. run-keeps f (t .1) (b ++ (v ∷ [])) u w (all-snoc (areValues-more (g .more) a) c))
   run-keeps (forIn z e f) t b s r a =
       andThen-keeps x (s .plan) (run e b s) _ (run-keeps e (t .0) b s r a)
       (λ v u w c g.
       loop-keeps x (s .plan) z _
-      (λ i u′ w′ g′ l. run-keeps f (t .1) (b ++ ((i ∷ []) ∷ [])) u′ w′ (areValues-snoc (areValues-more (g′ .more) a) (moreRows l noRows)))
-      v [] u c noRows w g)
+      (λ i u′ w′ g′ l. run-keeps f (t .1) (b ++ ((i ∷ []) ∷ [])) u′ w′ (all-snoc (areValues-more (g′ .more) a) (also l nothing)))
+      v [] u c nothing w g)
   run-keeps (ifIn z e f g) t b s r a =
       andThen-keeps x (s .plan) (run e b s) _ (run-keeps e (t .0) b s r a)
       (λ v u w c h.
@@ -267,4 +267,4 @@ module _ (x : Table) (well : Well x) where
       andThen-keeps x (s .plan) (run e b s) _ (run-keeps e t b s r a) (λ v u w d g. gives-keeps x _ u w (picked-rows (u .plan) q c d))
 
   pub runOn-keeps : (e : Expr) → FieldsFit e → Keeps x x (runOn x e)
-  runOn-keeps e t = run-keeps e t [] (state x []) begun noValues
+  runOn-keeps e t = run-keeps e t [] (state x []) begun nothing

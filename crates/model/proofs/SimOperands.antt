@@ -2,14 +2,13 @@
 use mathlib.Core.Path.{_≡_, refl, sym, _∙_, ap, ap₂, subst, subst₂}
 use mathlib.Core.Bool.{Bool, true, false, _&&_, true≢false, false≢true}
 use mathlib.Core.Logic.{inl, inr}
-use mathlib.Core.List.{List, [], _∷_, _++_, map, map-append}
-use mathlib.Core.List.{List·Memᴰ as In, List·Memᴰ·head as here}
+use mathlib.Core.List.{List, [], _∷_, _++_, map, map-append, List·Memᴰ as In, List·Memᴰ·head as here}
 use mathlib.Core.Option.{Option, none, some, Option·none-ne-some}
 use Prim.Native.Nat.{ℕ, _+_, _<_}
 use native.Mathlib.Omega.{arith}
 use lib.Dec.{ltb}
 use lib.ListN.{length, getD, length-map}
-use Rattle.model.specs.Base.{pick}
+use Rattle.model.specs.Base.{pick, nothing, also}
 use Rattle.model.specs.Limits.{maxItems}
 use Rattle.model.specs.Refusal.{itemsAt}
 use Rattle.model.specs.Table.{rowAt, count}
@@ -21,7 +20,7 @@ use Rattle.model.proofs.Words.{first, made, at}
 use Rattle.model.proofs.GrowLaws.{count-withRow}
 use Rattle.model.proofs.Labels.{Label, label, labelAt}
 use Rattle.model.proofs.Below.{OnPath}
-use Rattle.model.proofs.All.{nothing, also, all-append}
+use Rattle.model.proofs.All.{all-append}
 use Rattle.model.proofs.Grows.{Grows, grows-gives, grows-loop}
 use Rattle.model.proofs.Shift.{shift-low}
 use Rattle.model.proofs.Twin.{World, φ, ones, Twin, Valued, Vals, Full, stopped, passed, Sim, both, alike, full, φRow}

@@ -1,12 +1,11 @@
--- THE SIMULATION: in a world, the two runs of any expression without upward steps have outcomes alike.
+-- In a world, the two runs of any expression without upward steps have outcomes alike.
 use mathlib.Core.Path.{_≡_, refl, sym, subst}
 use mathlib.Core.Bool.{Bool, true, false, _||_}
-use mathlib.Core.List.{List, [], _∷_, _++_, map, map-append, Memᴰ·append-left, Memᴰ·append-right}
-use mathlib.Core.List.{List·Memᴰ as In, List·Memᴰ·head as here}
+use mathlib.Core.List.{List, [], _∷_, _++_, map, map-append, Memᴰ·append-left, Memᴰ·append-right, List·Memᴰ as In, List·Memᴰ·head as here}
 use Prim.Native.Nat.{ℕ, zero, suc}
 use lib.Dec.{eqb}
 use lib.ListN.{length, getD, length-map, List·getD-map}
-use Rattle.model.specs.Base.{pick}
+use Rattle.model.specs.Base.{pick, nothing, also}
 use Rattle.model.specs.Script.{Step, Expr, nil, document, var, step, both, letIn, forIn, ifIn, element, leaf, delete, insert, choose}
 use Rattle.model.specs.Step.{stepped, picked}
 use Rattle.model.specs.Run.{State, Out, gives, andThen, joinItems, inserted, loop, cutAll, run}
@@ -14,7 +13,7 @@ use Rattle.model.specs.Paths.{Path, start, _▸_, withStep, anyBelow, do
 use Rattle.model.specs.Paths.{isUp, hasUp}
 use Rattle.model.proofs.BoolLaws.{or-neither}
 use Rattle.model.proofs.Labels.{Label}
-use Rattle.model.proofs.All.{nothing, also, all-append}
+use Rattle.model.proofs.All.{all-append}
 use Rattle.model.proofs.Grows.{grows-gives, grows-then, grows-pick, grows-join, grows-cut, grows-insert, grows-loop, run-grows}
 use Rattle.model.proofs.Twin.{World, φ, Twin, Vals, Sim}
 use Rattle.model.proofs.TwinLaws.{in-step}

@@ -1,12 +1,11 @@
 -- Words spelled by a path's steps, wherever its place is; and the letters that a step, or two steps at once, let through.
 use mathlib.Core.Path.{_≡_, refl}
 use mathlib.Core.Bool.{Bool, true, false, _&&_, _||_, not}
-use mathlib.Core.Logic.{_⊎_, inl, inr}
+use mathlib.Core.Logic.{inl, inr}
 use mathlib.Core.List.{[], _∷_}
 use Prim.Native.Nat.{ℕ}
-use native.Mathlib.Omega.{arith}
 use lib.Dec.{eqb}
-use borrow.Author.Tests.{leb-false, eqb-true, eqb-false, eq-eqb}
+use borrow.Author.Tests.{eqb-true, eq-eqb}
 use Rattle.model.specs.Base.{pick, isIn}
 use Rattle.model.specs.Script.{Step}
 use Rattle.model.specs.Step.{Letter, leafLetter, named, admits}
@@ -15,11 +14,7 @@ use Rattle.model.specs.Meeting.{admitsElement, admitsLeaf, isNamed, shar
 use Rattle.model.proofs.BoolLaws.{and-left, and-right, true-false}
 use Rattle.model.proofs.TestLaws.{and-three}
 use Rattle.model.proofs.Words.{Word, Grown, same}
-use Rattle.model.proofs.PathLaws.{StepFits}
-
-unfoldable pub placeOf : Path → Place
-placeOf (start p) = p
-placeOf (p ▸ s) = placeOf p
+use Rattle.model.proofs.PathLaws.{down-axis, StepFits}
 
 -- SPELLED: a child step adds one letter that passes its test; a descendant step adds one or more, of which the last passes
 pub data Spells : Path → Word → Type 0 where
@@ -28,16 +23,9 @@ pub data Spells : Path → Word → Type 0 where
   deep : {p : Path} {s : Step} {a : Letter} {u w : Word} → Spells p u → Grown u w → s .axis ≡ 1 → admits s a ≡ true →
       Spells (p ▸ s) (a ∷ w)
 
-pub down-cases : (s : Step) → StepFits s → (s .axis ≡ 0) ⊎ (s .axis ≡ 1)
-down-cases s f = go (eqb (s .axis) 0) refl
-  where
-    go : (t : Bool) → eqb (s .axis) 0 ≡ t → (s .axis ≡ 0) ⊎ (s .axis ≡ 1)
-    go true e = inl (eqb-true _ _ e)
-    go false e = inr (omega (arith, leb-false 2 (s .axis) (f .down), eqb-false (s .axis) 0 e))
-
 -- either step leads to a child
 pub spells-child : {p : Path} {s : Step} {a : Letter} {w : Word} → Spells p w → StepFits s → admits s a ≡ true → Spells (p ▸ s) (a ∷ w)
-spells-child {p} {s} h f e = elim (down-cases s f) [ inl k ↦ child h k e | inr k ↦ deep h same k e ]
+spells-child {p} {s} h f e = elim (down-axis s (f .down)) [ inl k ↦ child h k e | inr k ↦ deep h same k e ]
 
 -- GOOD WORDS: elements with a name in range, and perhaps a leaf at the end
 pub data Elements : Word → Type 0 where

@@ -9,9 +9,9 @@ use native.Mathlib.Omega.{arith}
 use lib.ListN.{length, getD, List·getD-append}
 use lib.Seq.{append-snoc, getD-append-seam}
 use Rattle.model.specs.Limits.{maxRows}
-use Rattle.model.specs.Table.{Row, Table, table, noRow, rowAt, count, withRow}
+use Rattle.model.specs.Table.{Row, Table, table, noRow, rowAt, count, withRow, Tree}
 use Rattle.model.specs.Step.{Letter, letterOf}
-use Rattle.model.proofs.TableLaws.{Tree, Well}
+use Rattle.model.proofs.TableLaws.{Well}
 use Rattle.model.proofs.GrowLaws.{withRow-cases}
 use Rattle.model.proofs.Words.{first}
 use Rattle.model.proofs.Labels.{Label, label, grow, labelAt, EndsIn, Fit, fit-elements, NewFit, label-old, label-new, fit-row}

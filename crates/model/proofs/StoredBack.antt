@@ -16,14 +16,13 @@ use Rattle.model.specs.Limits.{documents}
 use Rattle.model.specs.Refusal.{isFine}
 use Rattle.model.specs.Table.{Row, Table, table, empty, noRow, rowAt, count, withRow, withMark, isMarked, tagFits, parentFits}
 use Rattle.model.specs.Stored.{elementKind, leafKind, Read, got, stored, parentBytes, rowBytes, rowsBytes, markBytes, marksBytes}
-use Rattle.model.specs.Stored.{rowIn, wordAt}
-use Rattle.model.specs.Stored.{recordFault, recorded, readFrom, readPlan}
+use Rattle.model.specs.Stored.{rowIn, wordAt, recordFault, recorded, readFrom, readPlan, IsWord}
 use Rattle.model.specs.Promise.{StoredBack}
 use Rattle.model.proofs.BoolLaws.{and-both}
 use Rattle.model.proofs.TableLaws.{any-at, isElement-by, Well, isWell-at, isWell-by, well-empty}
 use Rattle.model.proofs.StoredLaws.{readFrom-end, readFrom-fine, readFrom-refused, readFrom-fuel, IsRowRecord, IsMarkRecord}
 use Rattle.model.proofs.StoredLaws.{record-cases, recorded-row, recorded-mark, row-fine, mark-fine, well-recorded}
-use Rattle.model.proofs.BytesLaws.{IsWord, length-parentBytes, areBytes-at, areBytes-drop, word-back, take-four, wordBytes-back}
+use Rattle.model.proofs.BytesLaws.{length-parentBytes, areBytes-at, areBytes-drop, word-back, take-four, wordBytes-back}
 use Rattle.model.proofs.BytesLaws.{rowBytes-back, rowIn-back, rowsBytes-snoc, lastMarked-at, lastMarked-by, marksBytes-none}
 use Rattle.model.proofs.BytesLaws.{marksBytes-set}
 

@@ -12,13 +12,13 @@ use borrow.Author.Tests.{ltb-true, leb-true, eqb-true, eqb-false, not-true, lt-l
 use Rattle.model.specs.Base.{pick, isIn}
 use Rattle.model.specs.Limits.{maxRows, documents}
 use Rattle.model.specs.Refusal.{Fault, isFine, unless, orElse, fieldAt, linkAt}
-use Rattle.model.specs.Table.{Table, rowAt, count, isElement, isMarked, hasParent, withRow, withMark, tagFits, parentFits}
+use Rattle.model.specs.Table.{Table, rowAt, count, isElement, isMarked, hasParent, withRow, withMark, tagFits, parentFits, IsRoot}
 use Rattle.model.specs.Stored.{bad, got, wordAt, rowIn, isMark, lastMarked, rowLinks, markLinks, recordFault, recorded, readFrom}
 use Rattle.model.specs.Stored.{elementKind, leafKind, markKind}
 use Rattle.model.proofs.BoolLaws.{and-both, or-left, or-right}
 use Rattle.model.proofs.TestLaws.{and-parts, and-four, isIn-at, isIn-by}
 use Rattle.model.proofs.RefusalLaws.{isFine-unless, isFine-check}
-use Rattle.model.proofs.TableLaws.{isElement-at, isElement-by, hasParent-none, IsRoot, Well}
+use Rattle.model.proofs.TableLaws.{isElement-at, isElement-by, hasParent-none, Well}
 use Rattle.model.proofs.GrowLaws.{well-withRow, well-withMark}
 
 -- THE STEP of reading, at a record that is fine and at one that is refused

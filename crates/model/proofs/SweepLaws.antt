@@ -12,10 +12,10 @@ use lib.Dec.{ltb, leb}
 use lib.ListN.{length, getD}
 use borrow.Author.Tests.{ltb-true, ltb-false, leb-true, leb-false}
 use Rattle.model.specs.Base.{pick}
-use Rattle.model.specs.Table.{Row, Table, noRow, rowAt, isMarked, withParent}
+use Rattle.model.specs.Table.{Row, Table, noRow, rowAt, isMarked, withParent, Tree}
 use Rattle.model.specs.Sweep.{through, keptFrom, isKept, keptBefore, newNumber, renumbered, sweptRows, sweptMarks}
 use Rattle.model.proofs.BoolLaws.{or-left, or-right, or-cases, true-false}
-use Rattle.model.proofs.TableLaws.{any-at, Tree}
+use Rattle.model.proofs.TableLaws.{any-at}
 
 -- KEPT: marked, or the parent is kept. Parents are lower, so any fuel above the row's number serves
 pub keptFrom-fuel : (x : Table) → Tree x → (n m i : ℕ) → i < n → i < m → keptFrom n x i ≡ keptFrom m x i

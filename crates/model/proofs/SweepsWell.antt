@@ -7,10 +7,10 @@ use Prim.Native.Nat.{ℕ, zero, suc, _<_}
 use native.Mathlib.Nat.{not-suc-le-zero, zero-add}
 use native.Mathlib.Omega.{arith}
 use lib.ListN.{getD}
-use Rattle.model.specs.Table.{Row, Table, table, rowAt, count, tagFits}
+use Rattle.model.specs.Table.{Row, Table, table, rowAt, count, tagFits, ParentLower, IsRoot, Tree}
 use Rattle.model.specs.Sweep.{isKept, newNumber, renumbered, swept}
 use Rattle.model.specs.Promise.{SweepsWell, SweepKeeps}
-use Rattle.model.proofs.TableLaws.{any-at, any-by, parent-count, ParentLower, IsRoot, Tree, Well, isWell-at, isWell-by}
+use Rattle.model.proofs.TableLaws.{any-at, any-by, parent-count, Well, isWell-at, isWell-by}
 use Rattle.model.proofs.SweepLaws.{isKept-unrolled, isKept-marked, isKept-below, isKept-cases, isKept-parent, newNumber-le}
 use Rattle.model.proofs.SweepLaws.{newNumber-strict, newNumber-once, newNumber-all, sweptRow, length-sweptRows, sweptRows-at}
 use Rattle.model.proofs.SweepLaws.{sweptRows-from, sweptMarks-at, length-sweptMarks, renumbered-some, sweptRows-same}

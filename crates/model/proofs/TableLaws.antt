@@ -12,9 +12,11 @@ use lib.ListN.{length, getD, List·getD-eq-default}
 use borrow.Author.Tests.{ltb-true, leb-true, ltb-false, eqb-true, not-true, lt-ltb, le-leb, eq-eqb}
 use Rattle.model.specs.Base.{all, any}
 use Rattle.model.specs.Limits.{maxRows, documents}
-use Rattle.model.specs.Table.{Row, Table, empty, noRow, rowAt, count, isElement, hasParent, isThe, tagFits, parentFits, rowsFit}
+use Rattle.model.specs.Table.{ParentLower, IsRoot, Tree, Row, Table, empty, noRow, rowAt, count, isElement, hasParent, isThe, tagFits}
+use Rattle.model.specs.Table.{parentFits, rowsFit}
 use Rattle.model.specs.Table.{markFits, noneTwice, isTree, isWell}
 use Rattle.model.proofs.BoolLaws.{and-left, and-right, and-both, or-cases, or-left, or-right, true-false}
+use Rattle.model.proofs.ListLaws.{all-getD, getD-all}
 use Rattle.model.proofs.TestLaws.{and-three, and-five}
 
 -- A ROW FITS at its number: its tag is in range, its parent a lower element
@@ -41,18 +43,6 @@ rowsFit-by x i (r ∷ rs) h =
     let f : RowFits x i r = subst (λ (m : ℕ). RowFits x m r) (add-zero i) (h zero (omega arith)) in
     and-both _ _ (and-both _ _ (f .tagIn) (f .parentIn))
     (rowsFit-by x (suc i) rs (λ k l. subst (λ (m : ℕ). RowFits x m (getD rs k noRow)) (omega arith) (h (suc k) (omega arith))))
-
--- EVERY MARK, by its document
-pub all-at : (f : Option ℕ → Bool) (ms : List (Option ℕ)) → all f ms ≡ true → (d : ℕ) → d < length ms → f (getD ms d none) ≡ true
-unfolding all
-all-at f [] h d l = absurd (not-suc-le-zero l)
-all-at f (m ∷ ms) h zero l = and-left (f m) _ h
-all-at f (m ∷ ms) h (suc d) l = all-at f ms (and-right (f m) _ h) d (omega arith)
-
-pub all-by : (f : Option ℕ → Bool) (ms : List (Option ℕ)) → ((d : ℕ) → d < length ms → f (getD ms d none) ≡ true) → all f ms ≡ true
-unfolding all
-all-by f [] h = refl
-all-by f (m ∷ ms) h = and-both _ _ (h zero (omega arith)) (all-by f ms (λ d l. h (suc d) (omega arith)))
 
 -- a mark is in the list
 pub isThe-at : (i : ℕ) (m : Option ℕ) → isThe i m ≡ true → m ≡ some i
@@ -133,20 +123,6 @@ pub hasParent-none : (p : Option ℕ) → not (hasParent p) ≡ true → p ≡ n
 hasParent-none none h = refl
 hasParent-none (some p) h = absurd (true-false false h refl)
 
--- A parent is an element with a lower number than its child; a root is an element without parent
-abbrev pub ParentLower : Table → ℕ → Row → Type 0
-ParentLower x i r = (p : ℕ) → r .parent ≡ some p → (p < i) × (rowAt x p .isLeaf ≡ false)
-
-abbrev pub IsRoot : Table → ℕ → Type 0
-IsRoot x i = (i < count x) × (rowAt x i .isLeaf ≡ false) × (rowAt x i .parent ≡ none)
-
--- A TREE, rule by rule: tags in range, parents lower, marked rows are roots, no row is marked twice
-pub record Tree (x : Table) : Type 0 where
-  pub tags : (i : ℕ) → i < count x → tagFits (rowAt x i) ≡ true
-  pub parents : (i : ℕ) → ParentLower x i (rowAt x i)
-  pub roots : (d i : ℕ) → getD (x .marks) d none ≡ some i → IsRoot x i
-  pub once : (d e i : ℕ) → getD (x .marks) d none ≡ some i → getD (x .marks) e none ≡ some i → d ≡ e
-
 tree-at : (x : Table) → rowsFit x 0 (x .rows) ≡ true → all (markFits x) (x .marks) ≡ true → noneTwice (x .marks) ≡ true → Tree x
 tree-at x f a n =
     record { tags = λ i l. rowsFit-at x 0 (x .rows) f i l .tagIn; parents = parent; roots = root; once = noneTwice-at (x .marks) n }
@@ -160,14 +136,14 @@ tree-at x f a n =
     root : (d i : ℕ) → getD (x .marks) d none ≡ some i → IsRoot x i
     root d i e =
         let h : markFits x (some i) ≡ true =
-        subst (λ (m : Option ℕ). markFits x m ≡ true) e (all-at (markFits x) (x .marks) a d (getD-some (x .marks) d i e)) in
+        subst (λ (m : Option ℕ). markFits x m ≡ true) e (all-getD (markFits x) (x .marks) none a d (getD-some (x .marks) d i e)) in
         let k = isElement-at x i (and-left _ (not (hasParent (rowAt x i .parent))) h) in
         (k .0, k .1, hasParent-none _ (and-right (isElement x i) _ h))
 
 tree-by : (x : Table) → Tree x → (rowsFit x 0 (x .rows) ≡ true) × (all (markFits x) (x .marks) ≡ true) × (noneTwice (x .marks) ≡ true)
 tree-by x t = (
   rowsFit-by x 0 (x .rows) fits,
-  all-by (markFits x) (x .marks) (λ d l. mark (getD (x .marks) d none) (t .roots d)),
+  getD-all (markFits x) (x .marks) none (λ d l. mark (getD (x .marks) d none) (t .roots d)),
   noneTwice-by (x .marks) (t .once),
 )
   where

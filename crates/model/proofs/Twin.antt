@@ -2,8 +2,7 @@
 -- values and outcomes are related.
 use mathlib.Core.Path.{_≡_}
 use mathlib.Core.Logic.{_⊎_}
-use mathlib.Core.List.{List, [], _++_, map}
-use mathlib.Core.List.{List·Memᴰ as In}
+use mathlib.Core.List.{List, [], _++_, map, List·Memᴰ as In}
 use mathlib.Core.Option.{Option, none, some}
 use Prim.Native.Nat.{ℕ, _+_, _<_, _≤_}
 use lib.ListN.{length, getD}
@@ -16,7 +15,7 @@ use Rattle.model.specs.Paths.{Path}
 use Rattle.model.proofs.Words.{Word, first, made, Grown, On}
 use Rattle.model.proofs.Labels.{Label, label, labelAt, Fit}
 use Rattle.model.proofs.Below.{OnPath}
-use Rattle.model.proofs.All.{All}
+use Rattle.model.specs.Base.{All}
 use Rattle.model.proofs.Shift.{shift, shiftParent, shiftRow, shiftRecord}
 
 -- ONE SIDE: the table before the run, its labels, and the rows hidden from the script

@@ -2,15 +2,14 @@
 use mathlib.Core.Path.{_≡_, refl, sym, _∙_, ap, ap₂, subst, subst₂}
 use mathlib.Core.Bool.{Bool, true, false, _&&_, not}
 use mathlib.Core.Logic.{inl, inr}
-use mathlib.Core.List.{List, [], _∷_, _++_, map}
-use mathlib.Core.List.{List·Memᴰ as In}
+use mathlib.Core.List.{List, [], _∷_, _++_, map, List·Memᴰ as In}
 use mathlib.Core.Option.{Option, none, some, Option·none-ne-some, Option·some-injective}
 use Prim.Native.Nat.{ℕ, suc}
 use native.Mathlib.Omega.{arith}
 use lib.Dec.{ltb, eqb}
 use lib.ListN.{length}
 use borrow.Author.Tests.{eqb-true, eq-eqb, lt-ltb, ne-eqb, not-true}
-use Rattle.model.specs.Base.{pick}
+use Rattle.model.specs.Base.{pick, All, nothing, also}
 use Rattle.model.specs.Refusal.{targetAt}
 use Rattle.model.specs.Table.{Row, Table, rowAt, count, isElement, withParent}
 use Rattle.model.specs.Step.{Letter, letterOf}
@@ -19,7 +18,7 @@ use Rattle.model.specs.Run.{copyAll, inserted}
 use Rattle.model.specs.Paths.{Path, _▸_, anyBelow}
 use Rattle.model.proofs.BoolLaws.{and-right, bool-iff}
 use Rattle.model.proofs.Labels.{Label, grow, labelAt}
-use Rattle.model.proofs.All.{All, nothing, also, all-imp}
+use Rattle.model.proofs.All.{all-imp}
 use Rattle.model.proofs.Grows.{Grows, grows-row, grows-each, grows-copy}
 use Rattle.model.proofs.Shift.{shift-injective}
 use Rattle.model.proofs.Twin.{World, Item, Touched, φ, ones, Twin, Valued, Vals, Sim, alike, φRow, φParent}

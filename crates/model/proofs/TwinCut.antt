@@ -2,14 +2,13 @@
 use mathlib.Core.Path.{_≡_, refl, sym, _∙_, ap, subst, subst₂}
 use mathlib.Core.Bool.{Bool, true, false}
 use mathlib.Core.Logic.{inl, inr}
-use mathlib.Core.List.{List, [], _∷_, _++_, map, map-append}
-use mathlib.Core.List.{List·Memᴰ as In}
+use mathlib.Core.List.{List, [], _∷_, _++_, map, map-append, List·Memᴰ as In}
 use mathlib.Core.Option.{Option, none, some, Option·none-ne-some}
 use Prim.Native.Nat.{ℕ, _<_}
 use native.Mathlib.Omega.{arith}
 use lib.Dec.{ltb}
 use lib.ListN.{length}
-use Rattle.model.specs.Base.{pick}
+use Rattle.model.specs.Base.{pick, nothing, also}
 use Rattle.model.specs.Limits.{maxHistory}
 use Rattle.model.specs.Refusal.{historyAt}
 use Rattle.model.specs.Table.{rowAt, count, linked, withParent}
@@ -22,7 +21,7 @@ use Rattle.model.proofs.Words.{same, more, grown-trans, deep}
 use Rattle.model.proofs.Labels.{Label, grow, labelAt, fit-cut}
 use Rattle.model.proofs.Below.{OnPath}
 use Rattle.model.proofs.Reach.{any-admits}
-use Rattle.model.proofs.All.{nothing, also, all-append, all-imp}
+use Rattle.model.proofs.All.{all-append, all-imp}
 use Rattle.model.proofs.Shift.{shift-injective}
 use Rattle.model.proofs.Twin.{Side, Script, SideFits, World, Changed, Item, Kept, Named, Good, φ, Twin, Valued, Vals, Sim, alike}
 use Rattle.model.proofs.Twin.{φRow, φParent, φRecord}

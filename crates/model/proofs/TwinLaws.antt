@@ -1,8 +1,7 @@
 -- What follows from a twin: counts, labels, and that rows which are not hidden have their like in the other state.
 use mathlib.Core.Path.{_≡_, refl, sym, _∙_, ap, ap₂, subst}
 use mathlib.Core.Logic.{_⊎_, inl, inr}
-use mathlib.Core.List.{List, [], _∷_, _++_, map, append-assoc}
-use mathlib.Core.List.{List·Memᴰ as In, List·Memᴰ·head as here, List·Memᴰ·tail as there}
+use mathlib.Core.List.{List, [], _∷_, _++_, map, append-assoc, List·Memᴰ as In, List·Memᴰ·head as here, List·Memᴰ·tail as there}
 use mathlib.Core.Option.{Option, none, some, Option·none-ne-some, Option·some-injective}
 use Prim.Native.Nat.{ℕ, _+_, _-_, _<_, _≤_}
 use native.Mathlib.Omega.{arith}
@@ -18,7 +17,8 @@ use Rattle.model.proofs.Words.{Word, first, Grown, same, more, grown-tr
 use Rattle.model.proofs.Labels.{Label, label, grow, labelAt, label-new}
 use Rattle.model.proofs.Below.{below-label, OnPath, on-child, on-below}
 use Rattle.model.proofs.Reach.{Reach, byChild, byDeep}
-use Rattle.model.proofs.All.{All, all-map, all-in}
+use Rattle.model.proofs.All.{all-map, all-in}
+use Rattle.model.specs.Base.{All}
 use Rattle.model.proofs.Shift.{shift-low, shift-high, shift-cases}
 use Rattle.model.proofs.Twin.{Side, Script, SideFits, World, Touched, Item, Good, φ, ones, twos, Twin, Valued, Vals, alike, φRow}
 use Rattle.model.proofs.Twin.{φParent, φRecord}

@@ -20,11 +20,11 @@ use Rattle.model.proofs.BoolLaws.{bool-cases, pick-true, pick-false}
 use Rattle.model.proofs.TableLaws.{parent-count}
 use Rattle.model.proofs.GrowLaws.{withRow-cases, count-withRow, rowAt-withRow-new, rowAt-withRow-old}
 use Rattle.model.proofs.Labels.{Label, grow, labelAt, Fit, NewFit, fit-row}
-use Rattle.model.proofs.All.{nothing, also, all-append, all-imp}
+use Rattle.model.proofs.All.{all-append, all-imp}
+use Rattle.model.specs.Base.{nothing, also}
 use Rattle.model.proofs.Grows.{Grows}
 use Rattle.model.proofs.Twin.{Side, Script, SideFits, World, Touched, Kept, Named, Good, φ, ones, twos, Twin, Full, stopped, Sim}
-use Rattle.model.proofs.Twin.{φRow, φParent, φRecord}
-use Rattle.model.proofs.Twin.{alike, full}
+use Rattle.model.proofs.Twin.{φRow, φParent, φRecord, alike, full}
 use Rattle.model.proofs.TwinLaws.{label-across, Alike, one-count, two-count, count-across, row-bound, same-length, clear-two}
 use Rattle.model.proofs.TwinLaws.{alike-row}
 use Rattle.model.proofs.SimLaws.{full-grows}

@@ -2,21 +2,21 @@
 use mathlib.Core.Path.{_≡_, refl, sym, _∙_, ap, subst}
 use mathlib.Core.Bool.{true, false}
 use mathlib.Core.Logic.{_⊎_, inl, inr}
-use mathlib.Core.List.{List, [], _∷_, map, Memᴰ·map, Memᴰ·of-map}
-use mathlib.Core.List.{List·Memᴰ as In}
+use mathlib.Core.List.{List, [], _∷_, map, Memᴰ·map, Memᴰ·of-map, List·Memᴰ as In}
 use Prim.Native.Nat.{ℕ, _+_, _<_, _≤_}
 use native.Mathlib.Omega.{arith}
 use lib.ListN.{length}
 use Rattle.model.specs.Table.{count}
 use Rattle.model.specs.Script.{Step}
-use Rattle.model.specs.Step.{isReached, stepped}
+use Rattle.model.specs.Step.{isReached, stepped, collect}
 use Rattle.model.specs.Run.{State, subtree}
 use Rattle.model.specs.Paths.{Path, _▸_, withStep, anyBelow, isUp}
 use Rattle.model.proofs.BoolLaws.{bool-cases, bool-iff}
 use Rattle.model.proofs.Labels.{Label, labelAt}
-use Rattle.model.proofs.Collect.{collect, step-collect, collect-all, collect-shift}
+use Rattle.model.proofs.Collect.{step-collect, collect-all, collect-shift}
 use Rattle.model.proofs.Reach.{Reach, reach-is, is-reach, descendants-stepped, reach-across}
-use Rattle.model.proofs.All.{All, nothing, also, all-imp, all-in}
+use Rattle.model.proofs.All.{all-imp, all-in}
+use Rattle.model.specs.Base.{All, nothing, also}
 use Rattle.model.proofs.Shift.{shift-injective}
 use Rattle.model.proofs.Twin.{World, Item, φ, ones, Twin, Valued, Vals}
 use Rattle.model.proofs.TwinLaws.{item-clear, reach-item, vals-two, Alike, one-count, two-count, row-bound, valued-alike, like-of}

@@ -12,14 +12,14 @@ use borrow.Author.Tests.{ltb-true, eqb-true, eqb-false, not-true}
 use Rattle.model.specs.Base.{pick}
 use Rattle.model.specs.Refusal.{linkAt}
 use Rattle.model.specs.Table.{Row, Table, table, noRow, rowAt, count, isElement}
-use Rattle.model.specs.Table.{isMarked, hasParent, linked, withParent, tagFits, isWell}
+use Rattle.model.specs.Table.{isMarked, hasParent, linked, withParent, tagFits, isWell, ParentLower}
 use Rattle.model.specs.History.{Record, cutKind}
 use Rattle.model.specs.Undo.{Placed, Formed, broken, formed, formFrom, madeFits, oldParentFits, cutFits}
 use Rattle.model.specs.Undo.{undoFits, undone, refused, back, undoAll, backwards, undoFormed}
 use Rattle.model.specs.Promise.{UndoKeeps}
 use Rattle.model.proofs.BoolLaws.{by-cases, true-false, and-left, and-right}
 use Rattle.model.proofs.TestLaws.{and-four, and-five}
-use Rattle.model.proofs.TableLaws.{Well, ParentLower, isWell-at, isWell-by, isElement-at, any-by, parent-count}
+use Rattle.model.proofs.TableLaws.{Well, isWell-at, isWell-by, isElement-at, any-by, parent-count}
 use Rattle.model.proofs.GrowLaws.{well-linked}
 
 -- A LINK BACK: the row is there and unmarked, its old parent a lower element

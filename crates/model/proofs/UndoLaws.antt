@@ -9,11 +9,11 @@ use lib.Dec.{leb, eqb}
 use lib.ListN.{length, getD, take, set}
 use lib.Seq.{take-append-seam, set-set, set-getD}
 use borrow.Author.Tests.{lt-ltb, eq-eqb}
-use Rattle.model.specs.Base.{pick, isIn}
+use Rattle.model.specs.Base.{pick, isIn, nothing}
 use Rattle.model.specs.Limits.{maxRows}
 use Rattle.model.specs.Table.{Row, Table, table, noRow, rowAt, count, isMarked, hasParent, withRow, withParent, linked, tagFits}
 use Rattle.model.specs.Table.{parentFits}
-use Rattle.model.specs.History.{Record, madeElementKind, madeLeafKind, cutKind, historyBytes}
+use Rattle.model.specs.History.{Record, madeElementKind, madeLeafKind, cutKind, historyBytes, IsInRange, AllInRange}
 use Rattle.model.specs.Run.{State, made, cutRecord}
 use Rattle.model.specs.Undo.{Placed, historySize, sameParent, sameBool, undoFits, undone, back, undoAll, backwards, undo, undoFormed}
 use Rattle.model.proofs.BoolLaws.{and-both, true-false}
@@ -21,7 +21,8 @@ use Rattle.model.proofs.TableLaws.{any-at, isElement-by, parentFits-at,
 use Rattle.model.proofs.GrowLaws.{count-withRow, rowAt-withRow-new, count-linked, rowAt-linked-same, isLeaf-linked}
 use Rattle.model.proofs.RanLaws.{Ran, begun, rowMade, linkCut, ran-well}
 use Rattle.model.proofs.HistoryLaws.{isCut-made, ran-length}
-use Rattle.model.proofs.FormLaws.{IsInRange, AllInRange, noneYet, allInRange-snoc, placed, formFrom-placed}
+use Rattle.model.proofs.FormLaws.{placed, formFrom-placed}
+use Rattle.model.proofs.All.{all-snoc}
 
 -- ONE RECORD UNDONE. A row that no document marks is not marked
 isMarked-not : (x : Table) (i : ℕ) → ((d : ℕ) → getD (x .marks) d none ≡ some i → ⊥) → isMarked x i ≡ false
@@ -147,9 +148,9 @@ made-inRange x r l f g = record {
     name false h e = h
 
 pub ran-inRange : (x : Table) → Well x → {s : State} → Ran x s → AllInRange (s .history)
-ran-inRange x w begun = noneYet
-ran-inRange x w (rowMade s r q c f g) = allInRange-snoc (ran-inRange x w q) (made-inRange (s .plan) r c f g)
-ran-inRange x w (linkCut s i p q e) = allInRange-snoc (ran-inRange x w q) cut
+ran-inRange x w begun = nothing
+ran-inRange x w (rowMade s r q c f g) = all-snoc (ran-inRange x w q) (made-inRange (s .plan) r c f g)
+ran-inRange x w (linkCut s i p q e) = all-snoc (ran-inRange x w q) cut
   where
     cut : IsInRange (cutRecord i p)
     cut = record {

@@ -128,34 +128,18 @@ module _ (marks : List (Option ℕ)) (once : (d e i : ℕ) → getD marks d none
       cell p q .onElement ≡ true
   on-element {p} {q} k r w f g e = rw (elements-end w e) at (k .on r w f g (elements-proper w e))
 
-  -- STRICTLY BELOW: a node on q ▸ t below a node on p, from what holds of p and q; and the mirror image
-  up-below : {p q : Path} {t : Step} {r : Root} {a : Letter} {w u : Word} → Sound p q → On marks (q ▸ t) r (a ∷ w) → On marks p r u →
-      Grown u w → areElements w ≡ true →
-      ((cell p q .upElement || (isDeep t && cell p q .downElement)) ≡ true) × (admits t a ≡ true)
-  up-below {p} {q} {t} k (child f x z) g h e =
-      (or-left (cell p q .upElement) (isDeep t && cell p q .downElement) (up-element k _ _ _ f g h e), z)
-  up-below {p} {q} {t} {r} {u} k (deep {u = v} f y x z) g h e = (go (grown-compare h y), z)
+  -- STRICTLY BELOW: a node on q ▸ t below a node on p, by what holds of nodes on q below p (near) and on p below q (far)
+  strictly-below : {p q : Path} {t : Step} {r : Root} {a : Letter} {w u : Word} (near far : Bool) →
+      ((r : Root) (w u : Word) → On marks q r w → On marks p r u → Grown u w → areElements w ≡ true → near ≡ true) →
+      ((r : Root) (w u : Word) → On marks p r w → On marks q r u → Grown u w → areElements w ≡ true → far ≡ true) →
+      On marks (q ▸ t) r (a ∷ w) → On marks p r u → Grown u w → areElements w ≡ true →
+      ((near || (isDeep t && far)) ≡ true) × (admits t a ≡ true)
+  strictly-below {t} near far n k (child f x z) g h e = (or-left near (isDeep t && far) (n _ _ _ f g h e), z)
+  strictly-below {t} {r} {u} near far n k (deep {u = v} f y x z) g h e = (go (grown-compare h y), z)
     where
-      go : Grown u v ⊎ Grown v u → (cell p q .upElement || (isDeep t && cell p q .downElement)) ≡ true
-      go (inl b) =
-          or-left (cell p q .upElement) (isDeep t && cell p q .downElement) (up-element k r v u f g b (elements-grown y e))
-      go (inr b) =
-          or-right (cell p q .upElement) (isDeep t && cell p q .downElement)
-          (and-both (isDeep t) (cell p q .downElement) (eq-eqb (t .axis) 1 x) (down-element k r u v g f b (elements-grown h e)))
-
-  down-below : {p q : Path} {s : Step} {r : Root} {a : Letter} {w u : Word} → Sound p q → On marks (p ▸ s) r (a ∷ w) → On marks q r u →
-      Grown u w → areElements w ≡ true →
-      ((cell p q .downElement || (isDeep s && cell p q .upElement)) ≡ true) × (admits s a ≡ true)
-  down-below {p} {q} {s} k (child f x z) g h e =
-      (or-left (cell p q .downElement) (isDeep s && cell p q .upElement) (down-element k _ _ _ f g h e), z)
-  down-below {p} {q} {s} {r} {u} k (deep {u = v} f y x z) g h e = (go (grown-compare h y), z)
-    where
-      go : Grown u v ⊎ Grown v u → (cell p q .downElement || (isDeep s && cell p q .upElement)) ≡ true
-      go (inl b) =
-          or-left (cell p q .downElement) (isDeep s && cell p q .upElement) (down-element k r v u f g b (elements-grown y e))
-      go (inr b) =
-          or-right (cell p q .downElement) (isDeep s && cell p q .upElement)
-          (and-both (isDeep s) (cell p q .upElement) (eq-eqb (s .axis) 1 x) (up-element k r u v g f b (elements-grown h e)))
+      go : Grown u v ⊎ Grown v u → (near || (isDeep t && far)) ≡ true
+      go (inl b) = or-left near (isDeep t && far) (n r v u f g b (elements-grown y e))
+      go (inr b) = or-right near (isDeep t && far) (and-both (isDeep t) far (eq-eqb (t .axis) 1 x) (k r u v g f b (elements-grown h e)))
 
   -- ON BOTH: the parent of a node on p ▸ s and on q ▸ t
   isParent-by : (on down up : Bool) → (on ≡ true) ⊎ ((down ≡ true) ⊎ (up ≡ true)) → (on || down || up) ≡ true
@@ -250,7 +234,7 @@ module _ (marks : List (Option ℕ)) (once : (d e i : ℕ) → getD marks d none
       up r (a ∷ w) u f g same e = absurd (start-word g)
       up r (a ∷ w) u f g (more h) e =
           let b : ((cell (start p) q .upElement || (isDeep t && cell (start p) q .downElement)) ≡ true) × (admits t a ≡ true) =
-          up-below k f g h e in
+          strictly-below _ _ (up-element k) (down-element k) f g h e in
           step-up t a w (cell (start p) q) (b .0) (b .1)
 
   step-start : (p : Path) (s : Step) (q : Place) → Sound p (start q) → Sound (p ▸ s) (start q)
@@ -268,7 +252,7 @@ module _ (marks : List (Option ℕ)) (once : (d e i : ℕ) → getD marks d none
       down r (a ∷ w) u f g same e = absurd (start-word g)
       down r (a ∷ w) u f g (more h) e =
           let b : ((cell p (start q) .downElement || (isDeep s && cell p (start q) .upElement)) ≡ true) × (admits s a ≡ true) =
-          down-below k f g h e in
+          strictly-below _ _ (down-element k) (up-element k) f g h e in
           step-down s a w (cell p (start q)) (b .0) (b .1)
 
       up : (r : Root) (w u : Word) → On marks (start q) r w → On marks (p ▸ s) r u → Grown u w → isProper w ≡ true →
@@ -310,7 +294,7 @@ module _ (marks : List (Option ℕ)) (once : (d e i : ℕ) → getD marks d none
           (met r a w f g z)
       down r (a ∷ w) u f g (more h) z =
           let b : ((cell p (q ▸ t) .downElement || (isDeep s && cell p (q ▸ t) .upElement)) ≡ true) × (admits s a ≡ true) =
-          down-below l f g h z in
+          strictly-below _ _ (down-element l) (up-element l) f g h z in
           pick-or-right (isLeafLetter a) (c .downElement) (c .downLeaf) (joinCell d e .downElement) (joinCell d e .downLeaf)
           (pick-or-left (isLeafLetter a) (d .downElement) (d .downLeaf) (e .downElement) (e .downLeaf)
           (step-down s a w (cell p (q ▸ t)) (b .0) (b .1)))
@@ -322,7 +306,7 @@ module _ (marks : List (Option ℕ)) (once : (d e i : ℕ) → getD marks d none
           pick-or-left (isLeafLetter a) (c .upElement) (c .upLeaf) (joinCell d e .upElement) (joinCell d e .upLeaf) (met r a w g f z)
       up r (a ∷ w) u f g (more h) z =
           let b : ((cell (p ▸ s) q .upElement || (isDeep t && cell (p ▸ s) q .downElement)) ≡ true) × (admits t a ≡ true) =
-          up-below n f g h z in
+          strictly-below _ _ (up-element n) (down-element n) f g h z in
           pick-or-right (isLeafLetter a) (c .upElement) (c .upLeaf) (joinCell d e .upElement) (joinCell d e .upLeaf)
           (pick-or-right (isLeafLetter a) (d .upElement) (d .upLeaf) (e .upElement) (e .upLeaf)
           (step-up t a w (cell (p ▸ s) q) (b .0) (b .1)))

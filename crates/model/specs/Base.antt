@@ -1,4 +1,4 @@
--- Choices by a test, quantifiers over lists, and areas, computed. Assumes nothing: these are definitions.
+-- Choices by a test, properties and tests of all items or some, and areas, computed. Assumes nothing: these are definitions.
 use mathlib.Core.Bool.{Bool, true, false, _&&_, _||_}
 use mathlib.Core.List.{List, [], _∷_, _++_}
 use Prim.Native.Nat.{ℕ, _+_}
@@ -13,6 +13,11 @@ pick false x y = y
 -- low ≤ x ≤ high
 abbrev pub isIn : (low high x : ℕ) → Bool
 isIn a b x = leb a x && leb x b
+
+-- every item has a property
+pub data All {A : Type 0} (P : A → Type 0) : List A → Type 0 where
+  nothing : All P []
+  also : {a : A} {l : List A} → P a → All P l → All P (a ∷ l)
 
 unfoldable pub all : {A : Type 0} → (A → Bool) → List A → Bool
 all f [] = true

@@ -1,16 +1,16 @@
 -- The calls on what callers see: bytes, a table and lent areas. Assumes nothing: these are definitions.
 use mathlib.Core.Path.{_≡_}
 use mathlib.Core.Bool.{Bool, true, false, _&&_}
-use mathlib.Core.List.{List, [], _∷_, _++_}
+use mathlib.Core.List.{List, _++_}
 use Prim.Native.Nat.{ℕ, _+_, _-_}
 use lib.Dec.{leb}
 use lib.ListN.{length, take, replicate}
-use Rattle.model.specs.Base.{pick, areBytes}
+use Rattle.model.specs.Base.{isIn, pick, areBytes}
 use Rattle.model.specs.Limits.{answerNeed, historyNeed, workNeed}
 use Rattle.model.specs.Refusal.{Fault, fine, isFine, linkAt, lentShort}
 use Rattle.model.specs.Table.{Table, count, isWell}
 use Rattle.model.specs.Script.{Expr, Parsed, ill, parsed, readScript}
-use Rattle.model.specs.History.{Record, madeElementKind, madeLeafKind, cutKind, historyBytes, replayAll}
+use Rattle.model.specs.History.{times, Record, madeElementKind, madeLeafKind, cutKind, historyBytes, replayAll}
 use Rattle.model.specs.Run.{Out, stop, gives, runOn}
 use Rattle.model.specs.Meeting.{Answer, free, answer}
 use Rattle.model.specs.Promise.{matchedAll, matchedHistory, PlansEqual}
@@ -53,9 +53,8 @@ pub record Ran : Type 0 where
 abbrev pub filled : (size : ℕ) → List ℕ → List ℕ
 filled n xs = xs ++ replicate (n - length xs) 0
 
-unfoldable pub countKind : (low high : ℕ) → List Record → ℕ
-countKind a b [] = 0
-countKind a b (r ∷ rs) = pick (leb a (r .kind) && leb (r .kind) b) 1 0 + countKind a b rs
+abbrev pub countKind : (low high : ℕ) → List Record → ℕ
+countKind a b = times (λ (r : Record). isIn a b (r .kind))
 
 -- A refused run restores the table and zeroes answer and history; all of the work area is zero
 abbrev pub refusedRun : Fault → Table → (answer history work : List ℕ) → Ran
@@ -98,7 +97,7 @@ runCall x b a h w =
     pick (areasFit a h w) (ranBy x (length a) (length h) (length w) (pick (isWell x) (runBy x (readScript b)) (stop (linkAt 0))))
     (refusedRun lentShort x a h w)
 
--- DEMAND 2 on the call: a refused run leaves the table as it was
+-- DEMAND 1 on the call: a refused run leaves the table as it was
 abbrev pub RefusedKeeps : Type 0
 RefusedKeeps =
     (x : Table) (b a h w : List ℕ) → isFine (runCall x b a h w .fault) ≡ false → runCall x b a h w .plan ≡ x

@@ -4,10 +4,10 @@ use mathlib.Core.Bool.{true, false}
 use mathlib.Core.List.{List, [], _∷_, _++_}
 use mathlib.Core.Option.{Option, none, some}
 use Prim.Native.Nat.{ℕ}
-use Rattle.model.specs.Refusal.{Fault, fine, shortAt}
+use Rattle.model.specs.Refusal.{fine, shortAt}
 use Rattle.model.specs.Table.{Row, Table, empty, rowAt, count}
 use Rattle.model.specs.Stored.{Read, bad, got, readPlan}
-use Rattle.model.specs.Script.{Expr, nil, Parsed, ill, parsed, readScript}
+use Rattle.model.specs.Script.{Expr, nil, Parsed, ill, parsed, readScript, faultBy}
 use Rattle.model.specs.Run.{runOn}
 use Rattle.model.specs.Meeting.{answer, free, meet}
 use Rattle.model.specs.Promise.{tableOf, answerOf, historyOf, ends}
@@ -19,10 +19,6 @@ tableBy (got x) = x
 abbrev pub exprBy : Parsed → Expr
 exprBy (ill f) = nil 0
 exprBy (parsed e i n c) = e
-
-abbrev pub faultBy : Parsed → Fault
-faultBy (ill f) = f
-faultBy (parsed e i n c) = fine
 
 abbrev pub script : List ℕ → Expr
 script b = exprBy (readScript b)

@@ -1,11 +1,13 @@
 -- Document 01, 'The history': its records, as bytes, and replayed. Assumes nothing: these are definitions.
+use mathlib.Core.Path.{_≡_}
+use mathlib.Core.Bool.{Bool, true}
 use mathlib.Core.List.{List, [], _∷_, _++_}
 use mathlib.Core.Option.{Option, none}
-use Prim.Native.Nat.{ℕ}
+use Prim.Native.Nat.{ℕ, _+_}
 use lib.Dec.{eqb}
-use Rattle.model.specs.Base.{pick}
+use Rattle.model.specs.Base.{pick, isIn, All}
 use Rattle.model.specs.Table.{Table, linked, withRow}
-use Rattle.model.specs.Stored.{wordBytes, parentBytes}
+use Rattle.model.specs.Stored.{IsWord, wordBytes, parentBytes}
 
 -- KINDS: element made, leaf made (body: row, name or value, parent), link cut (body: row, old parent)
 abbrev pub madeElementKind : ℕ
@@ -23,6 +25,24 @@ pub record Record : Type 0 where
   pub row : ℕ
   pub tag : ℕ
   pub parent : Option ℕ
+
+abbrev pub isCut : Record → Bool
+isCut r = eqb (r .kind) cutKind
+
+-- how many pass a test
+unfoldable pub times : (Record → Bool) → List Record → ℕ
+times f [] = 0
+times f (r ∷ rs) = pick (f r) 1 0 + times f rs
+
+-- A RECORD IN RANGE: one of the three kinds; an element's name is 1 to 255; a cut has no tag
+pub record IsInRange (r : Record) : Type 0 where
+  pub kindIn : isIn madeElementKind cutKind (r .kind) ≡ true
+  pub nameIn : r .kind ≡ madeElementKind → isIn 1 255 (r .tag) ≡ true
+  pub noTag : r .kind ≡ cutKind → r .tag ≡ 0
+  pub parentWord : IsWord (r .parent)
+
+abbrev pub AllInRange : List Record → Type 0
+AllInRange = All IsInRange
 
 -- WRITTEN
 abbrev pub recordBytes : Record → List ℕ

@@ -24,6 +24,11 @@ pub data Path : Type 0 where
   start : Place → Path
   _▸_ : Path → Step → Path
 
+-- the place a path starts at
+unfoldable pub placeOf : Path → Place
+placeOf (start p) = p
+placeOf (p ▸ s) = placeOf p
+
 unfoldable pub withStep : Step → List Path → List Path
 withStep s [] = []
 withStep s (p ∷ ps) = (p ▸ s) ∷ withStep s ps

@@ -2,10 +2,10 @@
 use mathlib.Core.Bool.{Bool, true, false, _&&_}
 use mathlib.Core.List.{List, [], _∷_, _++_}
 use mathlib.Core.Option.{Option, none, some}
-use Prim.Native.Nat.{ℕ, zero, suc, _+_}
+use Prim.Native.Nat.{ℕ, zero, suc, _+_, _<_}
 use lib.Dec.{ltb, eqb}
 use lib.ListN.{length, getD}
-use Rattle.model.specs.Base.{pick}
+use Rattle.model.specs.Base.{pick, All}
 use Rattle.model.specs.Limits.{maxRows, maxItems, maxHistory}
 use Rattle.model.specs.Refusal.{Fault, isFine, orElse, unless, targetAt, itemsAt, historyAt, tableAt}
 use Rattle.model.specs.Table.{Row, Table, rowAt, count, isElement, withRow, withParent, linked}
@@ -25,6 +25,13 @@ state x h = record { plan = x; history = h }
 pub data Out : Type 0 where
   stop : Fault → Out
   gives : (items : List ℕ) → State → Out
+
+-- VALUES of a table of so many rows; and the variables' values
+abbrev pub AreRows : (rows : ℕ) → List ℕ → Type 0
+AreRows n = All (λ (i : ℕ). i < n)
+
+abbrev pub AreValues : (rows : ℕ) → List (List ℕ) → Type 0
+AreValues n = All (AreRows n)
 
 abbrev pub andThen : Out → (List ℕ → State → Out) → Out
 andThen (stop x) next = stop x
@@ -67,7 +74,7 @@ cutAll z [] s = gives [] s
 cutAll z (i ∷ is) s = cutBy z i s (rowAt (s .plan) i .parent) (λ (t : State). cutAll z is t)
 
 -- INSERT copies each item in order, the item first and then its descendants in rising number, as the table was before the insert;
--- tops hang under the target. The rows copied so far, and their copies, newest first
+-- the copy of an item is a child of the target. The rows copied so far, and their copies, newest first
 pub record Copied : Type 0 where
   pub old : ℕ
   pub new : ℕ

@@ -6,7 +6,7 @@ use lib.Dec.{ltb, leb, eqb}
 use lib.ListN.{length, getD, drop}
 use Rattle.model.specs.Base.{pick, isIn}
 use Rattle.model.specs.Limits.{documents, maxRecords, maxDepth, maxBinders}
-use Rattle.model.specs.Refusal.{Fault, isFine, orElse, unless, kindAt, shortAt, tailAt, fieldAt, sizeAt}
+use Rattle.model.specs.Refusal.{Fault, fine, isFine, orElse, unless, kindAt, shortAt, tailAt, fieldAt, sizeAt}
 
 -- Axis: 0 child, 1 descendant, 2 parent, 3 ancestor. Test: 0 any node, 1 any element, 2 any leaf, 3 the named element
 pub record Step : Type 0 where
@@ -157,3 +157,8 @@ whole (parsed e i n b) = pick (eqb (length b) 0) (parsed e i n b) (ill (tailAt i
 
 abbrev pub readScript : (bytes : List ℕ) → Parsed
 readScript b = whole (parseFrom (maxDepth + 2) 1 0 0 0 b)
+
+-- its refusal, or none
+abbrev pub faultBy : Parsed → Fault
+faultBy (ill f) = f
+faultBy (parsed e i n c) = fine

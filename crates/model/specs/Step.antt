@@ -21,6 +21,11 @@ abbrev pub admits : Step → Letter → Bool
 admits s leafLetter = eqb (s .test) 0 || eqb (s .test) 2
 admits s (named n) = eqb (s .test) 0 || eqb (s .test) 1 || (not (eqb (s .test) 2) && eqb n (s .name))
 
+-- the rows that pass a test, of so many from a row on, in rising number
+unfoldable pub collect : (ℕ → Bool) → (row : ℕ) → ℕ → List ℕ
+collect f i zero = []
+collect f i (suc n) = pick (f i) (i ∷ collect f (suc i) n) (collect f (suc i) n)
+
 -- AXES: parent, and ancestor
 abbrev pub parentIs : Table → (parent row : ℕ) → Bool
 parentIs x p i = isThe p (rowAt x i .parent)

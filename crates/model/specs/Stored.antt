@@ -1,8 +1,9 @@
 -- Document 01, 'Stored plan': written, and read with number and place of a refusal. Assumes nothing: these are definitions.
+use mathlib.Core.Path.{_≡_}
 use mathlib.Core.Bool.{Bool, _&&_, _||_, not}
 use mathlib.Core.List.{List, [], _∷_, _++_}
 use mathlib.Core.Option.{Option, none, some}
-use Prim.Native.Nat.{ℕ, zero, suc, _+_, _*_, _/_, _%_}
+use Prim.Native.Nat.{ℕ, zero, suc, _+_, _*_, _/_, _%_, _<_}
 use lib.Dec.{ltb, leb, eqb}
 use lib.ListN.{length, getD, drop}
 use Rattle.model.specs.Base.{pick, isIn}
@@ -58,6 +59,10 @@ pub data Read : Type 0 where
 
 abbrev pub wordAt : (bytes : List ℕ) → (place : ℕ) → ℕ
 wordAt b i = getD b i 0 + 256 * getD b (i + 1) 0
+
+-- 0xFFFF means none, so a parent is below it
+abbrev pub IsWord : Option ℕ → Type 0
+IsWord p = (i : ℕ) → p ≡ some i → i < 65535
 
 abbrev pub parentIn : (word : ℕ) → Option ℕ
 parentIn w = pick (eqb w 65535) none (some w)

@@ -1,8 +1,9 @@
 -- Document 01, 'The table': rows, marks, and when a table is well formed. Assumes nothing: these are definitions.
+use mathlib.Core.Path.{_≡_}
 use mathlib.Core.Bool.{Bool, true, false, _&&_, not}
 use mathlib.Core.List.{List, [], _∷_, _++_}
 use mathlib.Core.Option.{Option, none, some}
-use Prim.Native.Nat.{ℕ, suc}
+use Prim.Native.Nat.{ℕ, suc, _<_}
 use lib.Dec.{ltb, leb, eqb}
 use lib.ListN.{length, getD, set, replicate}
 use Rattle.model.specs.Base.{pick, isIn, all, any}
@@ -67,9 +68,12 @@ abbrev pub tagFits : Row → Bool
 tagFits r = pick (r .isLeaf) (leb (r .tag) 255) (isIn 1 255 (r .tag))
 
 -- every parent is an element with a lower number than its child
+abbrev pub isLowerElement : Table → (number parent : ℕ) → Bool
+isLowerElement x i p = ltb p i && isElement x p
+
 abbrev pub parentFits : Table → (number : ℕ) → Option ℕ → Bool
 parentFits x i none = true
-parentFits x i (some p) = ltb p i && isElement x p
+parentFits x i (some p) = isLowerElement x i p
 
 unfoldable pub rowsFit : Table → (number : ℕ) → List Row → Bool
 rowsFit x i [] = true
@@ -94,3 +98,17 @@ abbrev pub isWell : Table → Bool
 isWell x =
     leb (count x) maxRows && rowsFit x 0 (x .rows) && eqb (length (x .marks)) documents && all (markFits x) (x .marks) &&
     noneTwice (x .marks)
+
+-- A parent is an element with a lower number than its child; a root is an element without parent
+abbrev pub ParentLower : Table → ℕ → Row → Type 0
+ParentLower x i r = (p : ℕ) → r .parent ≡ some p → (p < i) × (rowAt x p .isLeaf ≡ false)
+
+abbrev pub IsRoot : Table → ℕ → Type 0
+IsRoot x i = (i < count x) × (rowAt x i .isLeaf ≡ false) × (rowAt x i .parent ≡ none)
+
+-- A TREE, rule by rule: tags in range, parents lower, marked rows are roots, no row is marked twice
+pub record Tree (x : Table) : Type 0 where
+  pub tags : (i : ℕ) → i < count x → tagFits (rowAt x i) ≡ true
+  pub parents : (i : ℕ) → ParentLower x i (rowAt x i)
+  pub roots : (d i : ℕ) → getD (x .marks) d none ≡ some i → IsRoot x i
+  pub once : (d e i : ℕ) → getD (x .marks) d none ≡ some i → getD (x .marks) e none ≡ some i → d ≡ e

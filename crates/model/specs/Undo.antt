@@ -9,7 +9,7 @@ use lib.ListN.{length, getD, take, drop}
 use Rattle.model.specs.Base.{pick, isIn}
 use Rattle.model.specs.Limits.{maxHistory}
 use Rattle.model.specs.Refusal.{Fault, isFine, orElse, unless, kindAt, shortAt, fieldAt, sizeAt, linkAt}
-use Rattle.model.specs.Table.{Table, table, rowAt, count, isElement, isMarked, hasParent, linked}
+use Rattle.model.specs.Table.{Table, table, rowAt, count, isLowerElement, isMarked, hasParent, linked}
 use Rattle.model.specs.Stored.{wordAt, parentIn}
 use Rattle.model.specs.History.{Record, madeElementKind, madeLeafKind, cutKind}
 
@@ -71,7 +71,7 @@ madeFits x r =
 -- a cut row must exist, have no parent and no mark, and its old parent must be a lower element
 abbrev pub oldParentFits : Table → (row : ℕ) → Option ℕ → Bool
 oldParentFits x i none = false
-oldParentFits x i (some p) = ltb p i && isElement x p
+oldParentFits x i (some p) = isLowerElement x i p
 
 abbrev pub cutFits : Table → Record → Bool
 cutFits x r =

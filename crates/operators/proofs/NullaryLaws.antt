@@ -12,10 +12,11 @@ use borrow.Author.Tests.{eq-eqb, eqb-false}
 use Rattle.model.specs.Refusal.{isFine}
 use Rattle.model.specs.Table as model
 use Rattle.model.specs.Script.{Expr, nil, document, var, element, leaf, bodySize}
-use Rattle.model.specs.Run.{Out, stop, gives, marked, roomFault, newRow, loose, run}
+use Rattle.model.specs.Run.{Out, stop, gives, marked, roomFault, newRow, loose, run, AreRows}
 use Rattle.model.proofs.BoolLaws.{by-cases, pick-true, pick-false}
 use Rattle.model.proofs.GrowLaws.{count-withRow}
-use Rattle.model.proofs.ValueLaws.{AreRows, noRows, moreRows, areValues-at}
+use Rattle.model.proofs.All.{all-read}
+use Rattle.model.specs.Base.{nothing, also}
 use Rattle.script.specs.Walk.{arity}
 use Rattle.script.specs.Accepted.{RecordFits, Nullary}
 use Rattle.script.proofs.KindLaws.{nullary-kind}
@@ -60,10 +61,10 @@ made-count {ws} {h} {p} {ws′} {h′} {q} {v} r held up k =
 marked-held : (m c : ℕ) → m ≤ c → AreRows c (marked (linked m))
 marked-held m c l =
     by-cases (eqb m 0)
-    (λ t. subst (λ (o : Option ℕ). AreRows c (marked o)) (sym (pick-true (eqb m 0) _ _ t)) noRows)
+    (λ t. subst (λ (o : Option ℕ). AreRows c (marked o)) (sym (pick-true (eqb m 0) _ _ t)) nothing)
     (λ t.
     let g : m - 1 < c = omega (arith, eqb-false m 0 t) in
-    subst (λ (o : Option ℕ). AreRows c (marked o)) (sym (pick-false (eqb m 0) _ _ t)) (moreRows g noRows))
+    subst (λ (o : Option ℕ). AreRows c (marked o)) (sym (pick-false (eqb m 0) _ _ t)) (also g nothing))
 
 marked-few : (o : Option ℕ) → length (marked o) ≤ 1
 marked-few none = omega arith
@@ -107,7 +108,7 @@ module _ {b : List ℕ} {at left n : ℕ} {env : List Span} {ms ws h w : List �
   nil-yields k eq =
       from-record (nil at) 1 k (accepted-nil (pre .accepted) k)
       (yields-updated (updated-none (pre .held)) (appended-none w top) (λ q. refl) refl (omega (arith, nullary-room)) (omega arith)
-      (λ q. noRows) (pre .scope .size) eq)
+      (λ q. nothing) (pre .scope .size) eq)
 
   module _ {w′ : List ℕ} {e : ℕ} (size : length w′ ≡ length w) where
     pub document-yields : getD b at 0 ≡ 2 → {d : ℕ} → d ≡ getD b (at + 1) 0 → Appended (marked (linked (getD ms d 0))) w top w′ e →
@@ -130,7 +131,7 @@ module _ {b : List ℕ} {at left n : ℕ} {env : List Span} {ms ws h w : List �
         from-record (var at (getD b (at + 1) 0)) 3 k (accepted-variable (pre .accepted) k)
         (yields-as (ap (λ (x : List ℕ). gives x (stateOf ws ms h p)) is) refl
         (yields-updated (updated-none (pre .held)) a (λ q. refl) size (omega (arith, nullary-room)) few
-        (λ q. subst (AreRows (p .count)) (sym is) (areValues-at (pre .scope .values) (getD b (at + 1) 0)))
+        (λ q. subst (AreRows (p .count)) (sym is) (all-read [] nothing (pre .scope .values) (getD b (at + 1) 0)))
         (pre .scope .size) eq))
       where
         low : getD b (at + 1) 0 < n
@@ -172,7 +173,7 @@ module _ {b : List ℕ} {at left n : ℕ} {env : List Span} {ms ws h w : List �
         rows : q .number ≡ 0 → AreRows (q .count) (madeValue q (p .count))
         rows z =
             let l : p .count < q .count = made-count (loose t tag) (pre .held) up z in
-            subst (AreRows (q .count)) (sym (made z)) (moreRows l noRows)
+            subst (AreRows (q .count)) (sym (made z)) (also l nothing)
 
     pub element-yields : getD b at 0 ≡ 9 → {tag : ℕ} → tag ≡ getD b (at + 1) 0 → LoosePost ws h p false tag ws′ h′ q →
         {r : Evaluated} → r ≡ endedBy q at (at + 2) e env → EvalPost b at left n env ms ws h w top p ws′ h′ w′ r

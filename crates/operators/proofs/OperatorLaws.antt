@@ -7,13 +7,13 @@ use Prim.Native.Nat.{ℕ, suc, _+_, _-_, _≤_, _<_}
 use native.Mathlib.Omega.{arith}
 use lib.ListN.{length, getD}
 use borrow.Author.Tests.{ne-eqb}
-use Rattle.model.specs.Base.{pick}
+use Rattle.model.specs.Base.{pick, nothing}
 use Rattle.model.specs.Table as model
 use Rattle.model.specs.Script.{stepBy, bodySize}
 use Rattle.model.specs.Step.{isReached, isPicked, stepped, picked}
 use Rattle.model.specs.Run.{gives}
 use Rattle.model.proofs.Collect.{step-collect}
-use Rattle.model.proofs.ValueLaws.{noRows, stepFrom-rows, picked-rows}
+use Rattle.model.proofs.ValueLaws.{stepFrom-rows, picked-rows}
 use Rattle.script.proofs.KindLaws.{unary-kind}
 use Rattle.table.specs.Words.{decodeParts}
 use Rattle.updates.specs.State.{stateOf, Held}
@@ -23,8 +23,7 @@ use Rattle.query.specs.Values.{valueAt, Appended, StepPre, StepPost, PickPre, P
 use Rattle.updates.proofs.StateLaws.{held-count}
 use Rattle.query.proofs.ValueLaws.{appended-none, length-collect}
 use Rattle.updates.specs.declared.state.Progress.{Progress}
-use Rattle.operators.specs.Evaluating.{CopyPre, endedBy, limitedBy, ValuePre, UnaryPre, UnaryPost, BinaryPre}
-use Rattle.operators.specs.Evaluating.{BinaryPost}
+use Rattle.operators.specs.Evaluating.{CopyPre, endedBy, limitedBy, ValuePre, UnaryPre, UnaryPost, BinaryPre, BinaryPost}
 use Rattle.operators.specs.declared.record.Evaluated.{Evaluated}
 use Rattle.operators.proofs.ValueLaws.{length-value, rows-within}
 use Rattle.operators.proofs.YieldLaws.{yields-updated, updated-none, yields-as, limited-yields}
@@ -107,7 +106,7 @@ module _ {b : List ℕ} {at : ℕ} {ws h w : List ℕ} {top : ℕ} {x : Evaluate
       {r : Evaluated} → r ≡ endedBy q at (x .place) top (x .env) → UnaryPost b at ws h w top x ws′ h′ w r
   delete-yields e up eq n ms =
       yields-as (rw e) refl
-      (yields-updated up (appended-none w top) (λ q. refl) refl (omega (arith, pre .value .room)) (omega arith) (λ q. noRows)
+      (yields-updated up (appended-none w top) (λ q. refl) refl (omega (arith, pre .value .room)) (omega arith) (λ q. nothing)
       (pre .value .spans) eq)
 
   module _ {w′ : List ℕ} {e : ℕ} (size : length w′ ≡ length w) {r : Evaluated} (eq : r ≡ endedBy (x .progress) at (x .place) e (x .env))
@@ -165,7 +164,7 @@ module _ {ws h w : List ℕ} {top mid : ℕ} {y : Evaluated} (pre : BinaryPre ws
       {r : Evaluated} → r ≡ endedBy q at (y .place) top (y .env) → BinaryPost k at ws h w top mid y ws′ h′ w r
   insert-yields k at e up eq n ms =
       yields-as (rw e) refl
-      (yields-updated up (appended-none w top) (λ q. refl) refl (omega (arith, pre .order, pre .value .room)) (omega arith) (λ q. noRows)
+      (yields-updated up (appended-none w top) (λ q. refl) refl (omega (arith, pre .order, pre .value .room)) (omega arith) (λ q. nothing)
       (pre .value .spans) eq)
 
   pub body-yields : (k at : ℕ) → (k ≡ 5 → ⊥) → (k ≡ 12 → ⊥) → {w′ : List ℕ} {e : ℕ} → length w′ ≡ length w →

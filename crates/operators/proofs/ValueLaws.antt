@@ -11,7 +11,8 @@ use lib.Seq.{take-nil, take-take, take-add, take-at, drop-at, drop-drop, drop-co
 use lib.Seq.{getD-set-same, getD-set-other, getD-take, getD-drop, getD-append-add, ext-getD}
 use borrow.Author.Tests.{ltb-true, ltb-false, eqb-true, eqb-false}
 use Rattle.model.proofs.BoolLaws.{by-cases}
-use Rattle.model.proofs.ValueLaws.{AreRows, noRows, moreRows}
+use Rattle.model.specs.Run.{AreRows}
+use Rattle.model.proofs.All.{all-at}
 use Rattle.updates.specs.Updating.{Within}
 use Rattle.query.specs.Values.{valueAt, Appended}
 use Rattle.operators.specs.Evaluating.{CopyPre, Copying}
@@ -71,9 +72,7 @@ module _ {v w : List ℕ} {from : ℕ} {w′ : List ℕ} {r : ℕ} (a : Appended
 
 -- ROWS, at each index
 pub rows-within : {n : ℕ} {v : List ℕ} → AreRows n v → Within v n
-rows-within noRows k l = absurd (omega arith)
-rows-within (moreRows h a) zero l = h
-rows-within (moreRows h a) (suc k) l = rows-within a k (omega arith)
+rows-within a k = all-at 0 k a
 
 -- COPIED item by item
 pub copying-start : {w : List ℕ} {from to top : ℕ} → CopyPre w from to top → Copying w from to top w from top

@@ -7,9 +7,9 @@ use lib.Dec.{ltb, eqb}
 use lib.ListN.{length, take}
 use borrow.Author.Tests.{eq-eqb, ne-eqb, eqb-true, eqb-false, lt-ltb, le-ltb, ltb-true, ltb-false}
 use Rattle.model.specs.Refusal.{fault}
-use Rattle.model.specs.Run.{State, Out, stop, gives, joinItems}
+use Rattle.model.specs.Run.{State, Out, stop, gives, joinItems, AreRows}
 use Rattle.model.proofs.BoolLaws.{by-cases, pick-true, pick-false}
-use Rattle.model.proofs.ValueLaws.{AreRows, areRows-append}
+use Rattle.model.proofs.All.{all-append}
 use Rattle.updates.specs.State.{stateOf, outcome, Held, After, Updated}
 use Rattle.query.specs.Values.{valueAt, Appended}
 use Rattle.updates.proofs.StateLaws.{after-self, after-then, outcome-gives, outcome-stop}
@@ -187,7 +187,7 @@ module _ {ws h w : List ℕ} {top mid : ℕ} {y : Evaluated} (pre : BinaryPre ws
               below = refl;
               order = omega (arith, pre .order, pre .value .order);
               short = omega arith;
-              rows = subst (AreRows (y .progress .count)) j (areRows-append (pre .rows) (pre .value .rows));
+              rows = subst (AreRows (y .progress .count)) j (all-append (pre .rows) (pre .value .rows));
               place = refl;
               spans = pre .value .spans;
               scope = refl;

@@ -3,19 +3,17 @@
 use mathlib.Core.Path.{_≡_}
 use mathlib.Core.Bool.{true}
 use mathlib.Core.Logic.{_⊎_}
-use mathlib.Core.List.{List, [], _∷_, _++_, map}
+use mathlib.Core.List.{List, [], _∷_, map}
 use Prim.Native.Nat.{ℕ, _+_, _*_, _-_, _≤_, _<_}
 use lib.Dec.{ltb, eqb}
 use lib.ListN.{length, getD, take, drop}
 use Rattle.model.specs.Base.{pick}
 use Rattle.model.specs.Limits.{maxItems, maxBinders, documents}
 use Rattle.model.specs.Refusal.{itemsAt}
-use Rattle.model.specs.Script.{stepBy, nilKind, stepKind, deleteKind, bothKind, insertKind, forKind, pickKind}
-use Rattle.model.specs.Script.{isBinder, bodySize}
+use Rattle.model.specs.Script.{stepBy, nilKind, stepKind, deleteKind, bothKind, insertKind, forKind, pickKind, isBinder, bodySize}
 use Rattle.model.specs.Step.{stepped, picked}
-use Rattle.model.specs.Run.{State, Out, gives, cutAll, joinItems, inserted, loop, run}
-use Rattle.model.proofs.ValueLaws.{AreRows, AreValues}
-use Rattle.script.specs.Walk.{arity, inner, endAt, exprAt}
+use Rattle.model.specs.Run.{State, Out, gives, cutAll, joinItems, inserted, loop, run, AreRows, AreValues}
+use Rattle.script.specs.Walk.{arity, inner, withBound, endAt, exprAt}
 use Rattle.script.specs.Accepted.{Accepted}
 use Rattle.updates.specs.State.{stopped, stateOf, outcome, Held, After}
 use Rattle.query.specs.Values.{valueAt}
@@ -49,12 +47,6 @@ pub record InScope (w : List ℕ) (n : ℕ) (env : List Span) (top count : ℕ) 
   pub values : AreValues count (boundValues w n env)
 
 -- a binder's first value is one variable more in its second operand
-abbrev pub spansIn : (kind : ℕ) → List Span → (start end : ℕ) → List Span
-spansIn k ss i j = pick (isBinder k) (ss ++ (spanOf i j ∷ [])) ss
-
-abbrev pub valuesIn : (kind : ℕ) → (bound : List (List ℕ)) → (value : List ℕ) → List (List ℕ)
-valuesIn k b v = pick (isBinder k) (b ++ (v ∷ [])) b
-
 pub record BindPre (kind : ℕ) (env : List Span) (n start end : ℕ) : Type 0 where
   pub size : length env ≡ maxBinders
   pub scope : isBinder kind ≡ true → n < maxBinders
@@ -62,7 +54,7 @@ pub record BindPre (kind : ℕ) (env : List Span) (n start end : ℕ) : Type 0 w
 
 pub record BindPost (kind : ℕ) (env : List Span) (n start end : ℕ) (r : List Span) : Type 0 where
   pub size : length r ≡ maxBinders
-  pub is : take (inner kind n) r ≡ spansIn kind (take n env) start end
+  pub is : take (inner kind n) r ≡ withBound kind (take n env) (spanOf start end)
 
 -- COPYING a value to a place
 pub record CopyPre (w : List ℕ) (from to top : ℕ) : Type 0 where

@@ -1,6 +1,6 @@
 -- The table of pairs, filled cell by cell: one law for each way out of the code that makes a cell, and one for each loop.
 use mathlib.Core.Path.{_≡_, refl, ap, sym, _∙_, subst}
-use mathlib.Core.Bool.{Bool, true, false, _&&_, _||_}
+use mathlib.Core.Bool.{Bool, true, false, _&&_, _||_, and-false}
 use mathlib.Core.List.{List, [], _∷_}
 use Prim.Native.Nat.{ℕ, zero, suc, _+_, _≤_, _<_}
 use native.Mathlib.Omega.{arith}
@@ -18,10 +18,9 @@ use Rattle.meeting.specs.Cells.{noCell, sum, between, Cells}
 use Rattle.emission.specs.Sources.{Source, fromRoot, fromStep, sourcesOf, rootsCell, sourceCell}
 use Rattle.emission.specs.Sources.{sourcesCell, cellTo, cellBy, Filled, anyUpTo, isTested, meetAt, rowMeets}
 use Rattle.meeting.specs.Codes.{cellOf}
-use Rattle.emission.specs.Words.{stepIn, positionBy, entryBy, fieldsOf, entryOf}
+use Rattle.emission.specs.Words.{stepIn, positionBy, entryBy, fieldsOf, entryOf, entriesBy}
 use Rattle.meeting.specs.Pairs.{marks, HasRows, ClearPost, PairPre, MarkPost}
 use Rattle.paths.specs.Filling.{PositionsPre, CellPre, MeetPre, MeetPost}
-use Rattle.emission.specs.Words.{entriesBy}
 use Rattle.emission.specs.declared.positions.Position.{Position}
 use Rattle.meeting.specs.declared.cells.Cell as declared
 use Rattle.meeting.proofs.CellLaws.{between-none, join-nothing, on-respects, down-respects, up-respects}
@@ -335,10 +334,6 @@ plain-row ws us k p e m n = sym (any-false (meetAt (entriesBy ws) (entriesBy us)
         (plain (positions.entryAt (entriesBy us) l))
 
 -- NOTHING at 0: its pairs are clear and do not meet
-and-false : (t : Bool) → (t && false) ≡ false
-and-false true = refl
-and-false false = refl
-
 module _ (es fs : List positions.Entry) where
   pub second-nothing : positions.pathsOn fs 0 ≡ [] → (k : ℕ) → meetAt es fs k 0 ≡ false
   second-nothing n k =

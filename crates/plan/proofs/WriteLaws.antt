@@ -1,6 +1,6 @@
 -- What the writer puts: a record over an area, and the stored form grown row by row and mark by mark.
 use mathlib.Core.Path.{_≡_, refl, ap, sym, _∙_}
-use mathlib.Core.List.{List, [], _∷_, _++_, map, append-assoc, append-nil}
+use mathlib.Core.List.{List, [], _∷_, _++_, map, map-append, append-assoc, append-nil}
 use mathlib.Core.Option.{Option}
 use Prim.Native.Nat.{ℕ, zero, suc, _+_, _*_, _-_, _/_, _%_, _≤_, _<_}
 use native.Mathlib.Omega.{arith}
@@ -16,7 +16,7 @@ use Rattle.model.proofs.BoolLaws.{by-cases}
 use Rattle.model.proofs.BytesLaws.{length-parentBytes, rowsBytes-snoc}
 use Rattle.table.specs.Words.{linked, rowOf, rowsOf}
 use Rattle.model.specs.Base.{over}
-use Rattle.table.proofs.WordLaws.{map-append, count-decode}
+use Rattle.table.proofs.WordLaws.{count-decode}
 use Rattle.table.proofs.DecodeLaws.{rows-next}
 use Rattle.model.proofs.ListLaws.{over-over, over-nil}
 

@@ -1,42 +1,24 @@
 -- What a step reaches, row by row: going down from a row's parent, going up from a row's children.
 use mathlib.Core.Path.{_≡_, refl, ap, sym, _∙_, subst}
 use mathlib.Core.Bool.{Bool, true, false, _&&_, _||_, or-false}
-use mathlib.Core.List.{List, [], _∷_}
+use mathlib.Core.List.{List, [], _∷_, List·Memᴰ as In}
 use mathlib.Core.Option.{Option, none, some}
 use mathlib.Core.Logic.{_⊎_, inl, inr}
 use Prim.Native.Nat.{ℕ, zero, suc, _+_, _-_, _≤_, _<_}
 use native.Mathlib.Omega.{arith}
 use lib.Dec.{eqb}
-use borrow.Author.Tests.{eq-eqb, eqb-true, eqb-false}
+use borrow.Author.Tests.{eqb-true, eqb-false}
 use Rattle.model.specs.Base.{any, among}
 use Rattle.model.specs.Table.{Table, rowAt, count, isThe}
 use Rattle.model.specs.Sweep.{through}
 use Rattle.model.specs.Step.{parentIs, isBelow, reaches}
-use Rattle.model.proofs.BoolLaws.{by-cases, bool-iff, or-left, or-right, or-cases, and-left, and-right, and-both, true-false}
+use Rattle.model.proofs.BoolLaws.{or-swap, by-cases, bool-iff, or-left, or-right, or-cases, and-left, and-right, and-both, true-false}
+use Rattle.model.proofs.ListLaws.{any-same, any-in, in-any, among-in, in-among}
 use Rattle.model.proofs.TableLaws.{isThe-at, isThe-by, parent-count}
 use Rattle.model.proofs.Below.{Below, under, further, below-is, is-below}
 use Rattle.query.specs.Stepping.{bit, anyFrom, upTo, childCounts}
 
 -- SOME ITEM, SOME ROW
-pub any-elim : (f : ℕ → Bool) (v : List ℕ) → any f v ≡ true → (i : ℕ) × (among i v ≡ true) × (f i ≡ true)
-unfolding any among
-any-elim f [] h = absurd (true-false false h refl)
-any-elim f (x ∷ v) h = go (or-cases (f x) (any f v) h) (λ k. any-elim f v k)
-  where
-    go : (f x ≡ true) ⊎ (any f v ≡ true) → (any f v ≡ true → (i : ℕ) × (among i v ≡ true) × (f i ≡ true)) →
-        (i : ℕ) × ((eqb i x || among i v) ≡ true) × (f i ≡ true)
-    go (inl e) r = (x, or-left (eqb x x) (among x v) (eq-eqb x x refl), e)
-    go (inr e) r = let q = r e in (q .0, or-right (eqb (q .0) x) (among (q .0) v) (q .1), q .2)
-
-pub any-intro : (f : ℕ → Bool) (v : List ℕ) (i : ℕ) → among i v ≡ true → f i ≡ true → any f v ≡ true
-unfolding any among
-any-intro f [] i h e = absurd (true-false false h refl)
-any-intro f (x ∷ v) i h e = go (or-cases (eqb i x) (among i v) h) (λ k. any-intro f v i k e)
-  where
-    go : (eqb i x ≡ true) ⊎ (among i v ≡ true) → (among i v ≡ true → any f v ≡ true) → (f x || any f v) ≡ true
-    go (inl q) r = or-left (f x) (any f v) (ap f (sym (eqb-true i x q)) ∙ e)
-    go (inr q) r = or-right (f x) (any f v) (r q)
-
 any-from : (f : ℕ → Bool) (i n : ℕ) → anyFrom f i n ≡ true → (k : ℕ) × (i ≤ k) × (f k ≡ true)
 unfolding anyFrom
 any-from f i zero h = absurd (true-false false h refl)
@@ -55,21 +37,10 @@ from-any f i (suc n) k a b e =
     (λ q. let z : i < k = omega (arith, eqb-false i k q) in
     or-right (f i) (anyFrom f (suc i) n) (from-any f (suc i) n k z (omega arith) e))
 
-any-ext : (f g : ℕ → Bool) (v : List ℕ) → ((i : ℕ) → f i ≡ g i) → any f v ≡ any g v
-unfolding any
-any-ext f g [] h = refl
-any-ext f g (x ∷ v) h = ap (λ (t : Bool). t || any f v) (h x) ∙ ap (λ (t : Bool). g x || t) (any-ext f g v h)
-
 any-or : (f g : ℕ → Bool) (v : List ℕ) → any (λ (i : ℕ). f i || g i) v ≡ (any f v || any g v)
 unfolding any
 any-or f g [] = refl
-any-or f g (x ∷ v) = ap (λ (t : Bool). f x || g x || t) (any-or f g v) ∙ swap (f x) (g x) (any f v) (any g v)
-  where
-    swap : (a b c d : Bool) → (a || b || (c || d)) ≡ (a || c || (b || d))
-    swap true b c d = refl
-    swap false true true d = refl
-    swap false true false d = refl
-    swap false false c d = refl
+any-or f g (x ∷ v) = ap (λ (t : Bool). f x || g x || t) (any-or f g v) ∙ or-swap (f x) (g x) (any f v) (any g v)
 
 any-none : (v : List ℕ) → any (λ (i : ℕ). false) v ≡ false
 unfolding any
@@ -130,8 +101,8 @@ module _ (x : Table) (lower : (i p : ℕ) → rowAt x i .parent ≡ some p → p
       plain none = refl
       plain (some p) = sym (or-false (among p v))
   down-parent true v j =
-      any-ext (λ (i : ℕ). isBelow x i j) (λ (i : ℕ). parentIs x i j || through (isBelow x i) (rowAt x j .parent)) v (λ i. below-unrolled
-      i j) ∙
+      any-same (λ (i : ℕ). isBelow x i j) (λ (i : ℕ). parentIs x i j || through (isBelow x i) (rowAt x j .parent)) v
+      (λ i m. below-unrolled i j) ∙
       any-or (λ (i : ℕ). parentIs x i j) (λ (i : ℕ). through (isBelow x i) (rowAt x j .parent)) v ∙
       ap (λ (t : Bool). t || any (λ (i : ℕ). through (isBelow x i) (rowAt x j .parent)) v) (any-isThe (rowAt x j .parent) v) ∙
       ap (λ (t : Bool). through (λ (p : ℕ). among p v) (rowAt x j .parent) || t) (any-through (λ (i : ℕ). isBelow x i) v (rowAt x j
@@ -169,38 +140,38 @@ module _ (x : Table) (lower : (i p : ℕ) → rowAt x i .parent ≡ some p → p
   -- a row is reached where a child counts; children are above it, so any start up to the next row serves
   pub up-children : (d : Bool) (v : List ℕ) (j t : ℕ) → t ≤ j + 1 → upTo x d v j ≡ anyFrom (childCounts x d v j) t (count x - t)
   up-children false v j t low =
-      bool-iff (upTo x false v j) (anyFrom (childCounts x false v j) t (count x - t)) (λ e. there (any-elim (λ (i : ℕ). parentIs x j i) v
+      bool-iff (upTo x false v j) (anyFrom (childCounts x false v j) t (count x - t)) (λ e. there (any-in (λ (i : ℕ). parentIs x j i) v
       e))
       (λ e. back (any-from (childCounts x false v j) t (count x - t) e))
     where
-      there : (i : ℕ) × (among i v ≡ true) × (parentIs x j i ≡ true) → anyFrom (childCounts x false v j) t (count x - t) ≡ true
-      there (i, m, e) = child-there false v j t i low (isThe-at j (rowAt x i .parent) e) (or-left (among i v) false m)
+      there : (i : ℕ) × In i v × (parentIs x j i ≡ true) → anyFrom (childCounts x false v j) t (count x - t) ≡ true
+      there (i, m, e) = child-there false v j t i low (isThe-at j (rowAt x i .parent) e) (or-left (among i v) false (in-among m))
 
       back : (k : ℕ) × (t ≤ k) × (childCounts x false v j k ≡ true) → upTo x false v j ≡ true
       back (k, l, h) = go (child-parts false v j k h)
         where
           go : (rowAt x k .parent ≡ some j) × ((among k v ≡ true) ⊎ (false ≡ true)) → upTo x false v j ≡ true
-          go (e, inl m) = any-intro (λ (i : ℕ). parentIs x j i) v k m (isThe-by j (rowAt x k .parent) e)
+          go (e, inl m) = in-any (λ (i : ℕ). parentIs x j i) (among-in k v m) (isThe-by j (rowAt x k .parent) e)
           go (e, inr m) = absurd (true-false false m refl)
   up-children true v j t low =
-      bool-iff (upTo x true v j) (anyFrom (childCounts x true v j) t (count x - t)) (λ e. there (any-elim (λ (i : ℕ). isBelow x j i) v e))
+      bool-iff (upTo x true v j) (anyFrom (childCounts x true v j) t (count x - t)) (λ e. there (any-in (λ (i : ℕ). isBelow x j i) v e))
       (λ e. back (any-from (childCounts x true v j) t (count x - t) e))
     where
-      there : (i : ℕ) × (among i v ≡ true) × (isBelow x j i ≡ true) → anyFrom (childCounts x true v j) t (count x - t) ≡ true
+      there : (i : ℕ) × In i v × (isBelow x j i ≡ true) → anyFrom (childCounts x true v j) t (count x - t) ≡ true
       there (i, m, e) = go (first-child j i (below-is x j i e))
         where
           go : (c : ℕ) × (rowAt x c .parent ≡ some j) × ((c ≡ i) ⊎ Below x c i) → anyFrom (childCounts x true v j) t (count x - t) ≡ true
-          go (c, f, inl q) = child-there true v j t c low f (or-left (among c v) (upTo x true v c) (ap (λ (a : ℕ). among a v) q ∙ m))
+          go (c, f, inl q) = child-there true v j t c low f (or-left (among c v) (upTo x true v c) (ap (λ (a : ℕ). among a v) q ∙ in-among m))
           go (c, f, inr q) =
               child-there true v j t c low f
-              (or-right (among c v) (upTo x true v c) (any-intro (λ (a : ℕ). isBelow x c a) v i m (is-below x lower c i q)))
+              (or-right (among c v) (upTo x true v c) (in-any (λ (a : ℕ). isBelow x c a) m (is-below x lower c i q)))
 
       back : (k : ℕ) × (t ≤ k) × (childCounts x true v j k ≡ true) → upTo x true v j ≡ true
       back (k, l, h) = go (child-parts true v j k h)
         where
-          deeper : rowAt x k .parent ≡ some j → (i : ℕ) × (among i v ≡ true) × (isBelow x k i ≡ true) → upTo x true v j ≡ true
-          deeper e (i, m, b) = any-intro (λ (a : ℕ). isBelow x j a) v i m (is-below x lower j i (below-child j k i e (below-is x k i b)))
+          deeper : rowAt x k .parent ≡ some j → (i : ℕ) × In i v × (isBelow x k i ≡ true) → upTo x true v j ≡ true
+          deeper e (i, m, b) = in-any (λ (a : ℕ). isBelow x j a) m (is-below x lower j i (below-child j k i e (below-is x k i b)))
 
           go : (rowAt x k .parent ≡ some j) × ((among k v ≡ true) ⊎ (upTo x true v k ≡ true)) → upTo x true v j ≡ true
-          go (e, inl m) = any-intro (λ (a : ℕ). isBelow x j a) v k m (is-below x lower j k (under e))
-          go (e, inr m) = deeper e (any-elim (λ (a : ℕ). isBelow x k a) v m)
+          go (e, inl m) = in-any (λ (a : ℕ). isBelow x j a) (among-in k v m) (is-below x lower j k (under e))
+          go (e, inr m) = deeper e (any-in (λ (a : ℕ). isBelow x k a) v m)

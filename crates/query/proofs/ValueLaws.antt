@@ -12,8 +12,8 @@ use lib.Seq.{take-suc-set}
 use Rattle.model.specs.Base.{pick, any}
 use Rattle.model.specs.Table as model
 use Rattle.model.specs.Script.{stepBy}
-use Rattle.model.specs.Step.{Letter, leafLetter, named, isReached, reaches, admits, letterOf, stepped, stepFrom}
-use Rattle.model.proofs.Collect.{collect, step-collect}
+use Rattle.model.specs.Step.{Letter, leafLetter, named, isReached, reaches, admits, letterOf, stepped, stepFrom, collect}
+use Rattle.model.proofs.Collect.{step-collect}
 use Rattle.table.specs.Words.{rowOf, decodeParts}
 use Rattle.table.proofs.WordLaws.{count-decode, rowAt-decode}
 use Rattle.query.specs.Stepping.{Flagged, Reached}

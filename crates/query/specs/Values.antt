@@ -8,8 +8,7 @@ use lib.Dec.{eqb}
 use lib.ListN.{length, getD, take, drop}
 use Rattle.model.specs.Base.{pick}
 use Rattle.model.specs.Script.{stepBy}
-use Rattle.model.specs.Step.{admits, letterOf, stepped, picked, relates}
-use Rattle.model.proofs.Collect.{collect}
+use Rattle.model.specs.Step.{admits, letterOf, stepped, picked, relates, collect}
 use Rattle.table.specs.Words.{rowOf, decodeParts}
 use Rattle.query.specs.Stepping.{RowsHeld}
 

@@ -9,16 +9,13 @@ use lib.Dec.{leb, eqb}
 use lib.ListN.{length, getD, take, drop, replicate, length-replicate, List·getD-map, take-append-drop}
 use lib.Seq.{length-take-le}
 use borrow.Author.Tests.{ne-eqb, eqb-true, eqb-false, le-leb, lt-leb, leb-true}
-use Rattle.model.specs.Base.{pick}
+use Rattle.model.specs.Base.{pick, nothing, also}
 use Rattle.model.specs.Refusal as refusal
 use Rattle.model.specs.Script.{readScript}
-use Rattle.model.specs.History.{Record, historyBytes}
+use Rattle.model.specs.History.{Record, historyBytes, AllInRange, times, isCut}
 use Rattle.model.specs.Run.{Out, stop, gives, run}
 use Rattle.model.specs.Call.{Ran, filled, countKind, areasFit, ranBy, refusedRun, runBy}
 use Rattle.model.proofs.BoolLaws.{by-cases, pick-true, pick-false, and-left, and-right, and-both}
-use Rattle.model.proofs.FormLaws.{AllInRange, noneYet, andAlso}
-use Rattle.model.proofs.HistoryLaws.{times, isCut}
-use Rattle.model.proofs.ValueLaws.{noValues}
 use Rattle.script.specs.Walk.{endAt, exprAt}
 use Rattle.script.specs.Reading.{scriptRead}
 use Rattle.script.proofs.ScriptLaws.{script-accepted, script-parsed, script-ill}
@@ -51,7 +48,7 @@ outside a b k f = go (leb a k) (leb k b) refl refl
     go true true p q = absurd (f p q)
 
 cut-count : (rs : List Record) → countKind 67 67 rs ≡ times isCut rs
-unfolding countKind times
+unfolding times
 cut-count [] = refl
 cut-count (r ∷ rs) =
     ap (λ (t : Bool). pick t 1 0 + countKind 67 67 rs) kind ∙ ap (λ (n : ℕ). pick (eqb (r .kind) 67) 1 0 + n) (cut-count rs)
@@ -68,9 +65,9 @@ abbrev oneIf : Bool → ℕ
 oneIf t = pick t 1 0
 
 made-count : {rs : List Record} → AllInRange rs → countKind 65 66 rs + times isCut rs ≡ length rs
-unfolding countKind times
-made-count noneYet = refl
-made-count (andAlso {r} {rs} f a) =
+unfolding times
+made-count nothing = refl
+made-count (also {a = r} {l = rs} f a) =
     let l = leb-true 65 (r .kind) (and-left (leb 65 (r .kind)) (leb (r .kind) 67) (f .kindIn)) in
     let m = leb-true (r .kind) 67 (and-right (leb 65 (r .kind)) (leb (r .kind) 67) (f .kindIn)) in
     by-cases (eqb (r .kind) 67)
@@ -170,7 +167,7 @@ module _ (t : Table) (b : List ℕ) (e : fits t ≡ true) where
             accepted = script-accepted b k;
             held = held-start (t .count) (t .rows) (t .marks) h e rows lh;
             marks = record { size = marks; rows = marks-fit (omega (arith, fit .few)) };
-            scope = record { few = omega arith; size = size; spans = λ v l. absurd (omega arith); values = noValues };
+            scope = record { few = omega arith; size = size; spans = λ v l. absurd (omega arith); values = nothing };
             room = omega arith;
           })
 

@@ -1,36 +1,31 @@
 -- What the call `run` gives back and leaves, in the model's words: RunsAsCalled, RunsOn, RefusedGivesBack, RunsCommute.
 use mathlib.Core.Path.{_≡_, refl, ap, sym, subst, _∙_}
-use mathlib.Core.Bool.{Bool, true, false, _&&_}
+use mathlib.Core.Bool.{Bool, true, false}
 use mathlib.Core.List.{List}
 use Prim.Native.Nat.{ℕ}
-use lib.Dec.{leb}
-use lib.ListN.{length, take, drop}
+use lib.ListN.{length}
 use borrow.Author.Tests.{ne-eqb}
-use Rattle.model.specs.Base.{pick, all, areBytes}
+use Rattle.model.specs.Base.{pick, areBytes}
 use Rattle.model.specs.Refusal as refusal
 use Rattle.model.specs.Table as model
 use Rattle.model.specs.Script.{Parsed, ill, parsed, readScript}
 use Rattle.model.specs.Run.{State, Out, stop, gives}
 use Rattle.model.specs.Call.{Ran, areasFit, ranBy, refusedRun, runBy, runCall}
-use Rattle.model.proofs.BoolLaws.{by-cases, pick-true, pick-false, and-right}
+use Rattle.model.proofs.BoolLaws.{by-cases, pick-true, pick-false}
 use Rattle.model.proofs.RunsBack.{runsBack}
 use Rattle.model.proofs.CallsCommute.{callsCommute}
-use Rattle.table.specs.Words.{encode, decode, fits, isRowWord, isZero}
+use Rattle.table.specs.Words.{encode, decode, fits}
 use Rattle.table.specs.declared.Table.{Table}
+use Rattle.table.proofs.FitsLaws.{well-decode}
 use Rattle.table.proofs.EncodeLaws.{decode-encode, fits-encode}
 use Rattle.run.specs.Calls.{outcomeOf, ran, resultOf, runResult}
 use Rattle.run.specs.Promise.{RunsAsCalled, RunsOn, RefusedGivesBack, EitherEnd, RunsCommute}
-
-well : (t : Table) → fits t ≡ true → model.isWell (decode t) ≡ true
-well t e =
-    and-right (leb (t .count) 512 && all isRowWord (take (t .count) (t .rows)) && all isZero (drop (t .count) (t .rows)))
-    (model.isWell (decode t)) e
 
 pub runsAsCalled : RunsAsCalled
 runsAsCalled t b a h w e =
     ap (λ (z : Bool). pick (areasFit a h w) (ranBy (decode t) (length a) (length h) (length w)
     (pick z (runBy (decode t) (readScript b)) (stop (refusal.linkAt 0)))) (refusedRun refusal.lentShort (decode t) a h w))
-    (e ∙ sym (well t e))
+    (e ∙ sym (well-decode t e))
 
 -- THE TABLE GIVEN BACK fits and stands for the plan
 abbrev Stands : Table → (given : Table) → (plan : model.Table) → Type 0
@@ -45,7 +40,7 @@ module _ (t : Table) (e : fits t ≡ true) where
   outcome-stands k m n (stop f) g =
       by-cases (refusal.isFine f)
       (λ z. subst (λ (u : Table). Stands t u (decode t)) (sym (pick-true (refusal.isFine f) (encode (decode t)) t z))
-      (encoded t (decode t) (well t e)))
+      (encoded t (decode t) (well-decode t e)))
       (λ z. subst (λ (u : Table). Stands t u (decode t)) (sym (pick-false (refusal.isFine f) (encode (decode t)) t z)) (e, refl))
   outcome-stands k m n (gives v s) g = encoded t (s .plan) (g v s refl)
 
@@ -55,7 +50,7 @@ module _ (t : Table) (e : fits t ≡ true) where
     where
       go : (p : Parsed) → readScript b ≡ p → runBy (decode t) p ≡ gives v s → model.isWell (s .plan) ≡ true
       go (ill f) E q = let y : stop f ≡ gives v s = q in cc
-      go (parsed x i n r) E q = runsBack x (decode t) v s (b, bytes, (i, (n, (r, E)))) (well t e) q .0
+      go (parsed x i n r) E q = runsBack x (decode t) v s (b, bytes, (i, (n, (r, E)))) (well-decode t e) q .0
 
   ran-stands : (b a h w : List ℕ) → areBytes b ≡ true → Stands t (runResult t b a h w .table) (ran t b a h w .plan)
   ran-stands b a h w bytes = go (areasFit a h w)
@@ -96,4 +91,4 @@ either-as t {r} {r′} {s} {s′} {u} {u′} {v} {v′} e e′ f f′ m =
 pub runsCommute : RunsCommute
 runsCommute b c t a h w a′ h′ w′ bytes bytes′ is e fit fit′ =
     either-as t (runsAsCalled t b a h w e) (then-called t e b c a h w a′ h′ w′ bytes) (runsAsCalled t c a′ h′ w′ e)
-    (then-called t e c b a′ h′ w′ a h w bytes′) (callsCommute b c (decode t) a h w a′ h′ w′ bytes bytes′ is (well t e) fit fit′)
+    (then-called t e c b a′ h′ w′ a h w bytes′) (callsCommute b c (decode t) a h w a′ h′ w′ bytes bytes′ is (well-decode t e) fit fit′)

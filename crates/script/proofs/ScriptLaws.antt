@@ -9,8 +9,7 @@ use lib.ListN.{length, length-drop, drop-of-length-le}
 use borrow.Author.Tests.{eq-eqb, ne-eqb, eqb-true}
 use Rattle.model.specs.Limits.{maxDepth}
 use Rattle.model.specs.Refusal as refusal
-use Rattle.model.specs.Script.{Expr, Parsed, ill, parsed, whole, readScript}
-use Rattle.model.specs.Cases.{faultBy}
+use Rattle.model.specs.Script.{Expr, Parsed, ill, parsed, whole, readScript, faultBy}
 use Rattle.model.proofs.BoolLaws.{by-cases}
 use Rattle.table.specs.Results.{faultOf}
 use Rattle.table.specs.declared.Fault.{Fault}

@@ -6,8 +6,7 @@ use Prim.Native.Nat.{ℕ, suc, _+_, _-_, _≤_}
 use lib.ListN.{length, getD, drop}
 use Rattle.model.specs.Limits.{maxDepth}
 use Rattle.model.specs.Refusal as refusal
-use Rattle.model.specs.Script.{Parsed, ill, parsed, parseFrom, readScript, exprFault, bodySize, bodyFits}
-use Rattle.model.specs.Cases.{faultBy}
+use Rattle.model.specs.Script.{Parsed, ill, parsed, parseFrom, readScript, exprFault, bodySize, bodyFits, faultBy}
 use Rattle.table.specs.Results.{faultOf}
 use Rattle.table.specs.declared.Fault.{Fault}
 use Rattle.script.specs.declared.read.End.{End}

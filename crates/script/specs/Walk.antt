@@ -1,6 +1,6 @@
 -- A script walked in place: where an expression and its operands stand, and which it is. Assumes nothing: these are definitions.
 use mathlib.Core.Bool.{_||_}
-use mathlib.Core.List.{List, [], _∷_}
+use mathlib.Core.List.{List, [], _∷_, _++_}
 use Prim.Native.Nat.{ℕ, zero, suc, _+_, _-_}
 use lib.Dec.{eqb}
 use lib.ListN.{getD, drop}
@@ -19,6 +19,10 @@ arity k =
 -- A binder binds in its second operand only: the variables in scope there
 unfoldable pub inner : (kind bound : ℕ) → ℕ
 inner k v = pick (isBinder k) (v + 1) v
+
+-- and what they stand for there: a binder's own is one more, behind those bound around it
+abbrev pub withBound : {A : Type 0} → (kind : ℕ) → (bound : List A) → A → List A
+withBound k xs x = pick (isBinder k) (xs ++ (x ∷ [])) xs
 
 -- PLACES. The bytes that the next expressions take, so many pending, behind what is left of a body; all of them where they are cut off
 unfoldable pub span : (pending body : ℕ) → (bytes : List ℕ) → ℕ

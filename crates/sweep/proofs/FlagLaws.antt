@@ -1,8 +1,8 @@
 -- The flags of marked rows, one mark at a time.
-use mathlib.Core.Path.{_≡_, refl, ap, sym, _∙_, subst}
-use mathlib.Core.Bool.{Bool, false, _||_, or-false, or-true, or-assoc}
-use mathlib.Core.List.{List, [], _∷_, _++_, map}
-use mathlib.Core.Option.{Option, none}
+use mathlib.Core.Path.{_≡_, ap, sym, _∙_, subst}
+use mathlib.Core.Bool.{Bool, false, _||_, or-false, or-true}
+use mathlib.Core.List.{List, [], _∷_, map, map-append}
+use mathlib.Core.Option.{none}
 use Prim.Native.Nat.{ℕ, _+_, _-_, _≤_, _<_}
 use native.Mathlib.Omega.{arith}
 use native.Mathlib.Numerals.{add-one}
@@ -13,16 +13,11 @@ use borrow.Author.Tests.{eq-eqb, ne-eqb, eqb-true, eqb-false}
 use Rattle.model.specs.Base.{pick, any}
 use Rattle.model.specs.Table as model
 use Rattle.model.proofs.BoolLaws.{by-cases, pick-true, pick-false}
+use Rattle.model.proofs.ListLaws.{any-append}
 use Rattle.table.specs.Words.{linked}
 use Rattle.sweep.specs.Sweeping.{Flagged}
-use Rattle.table.proofs.WordLaws.{map-append}
 use Rattle.table.proofs.DecodeLaws.{isThe-linked}
 use Rattle.table.proofs.FlagLaws.{flags-none, flags-more}
-
-any-append : (f : Option ℕ → Bool) (xs ys : List (Option ℕ)) → any f (xs ++ ys) ≡ (any f xs || any f ys)
-unfolding any
-any-append f [] ys = refl
-any-append f (x ∷ xs) ys = ap (λ (t : Bool). f x || t) (any-append f xs ys) ∙ sym (or-assoc (f x) (any f xs) (any f ys))
 
 marked-next : (ms : List ℕ) (d k : ℕ) → d < length ms →
     any (model.isThe k) (map linked (take (d + 1) ms)) ≡ (any (model.isThe k) (map linked (take d ms)) || eqb (getD ms d 0) (k + 1))

@@ -1,7 +1,7 @@
 -- The sweep over words, one mark and one row at a time, is the model's sweep.
 use mathlib.Core.Path.{_≡_, refl, ap, sym, _∙_}
 use mathlib.Core.Bool.{Bool, true, false, _||_, not}
-use mathlib.Core.List.{List, [], _∷_, _++_, map, append-nil}
+use mathlib.Core.List.{List, [], _∷_, _++_, map, map-append, append-nil}
 use mathlib.Core.Option.{Option, none, some}
 use Prim.Native.Nat.{ℕ, suc, _+_, _*_, _-_, _/_, _%_, _≤_, _<_}
 use native.Mathlib.Omega.{arith}
@@ -19,7 +19,7 @@ use Rattle.table.specs.Words.{linkOf, linked, wordOf, rowOf, rowsOf, wordsOf, i
 use Rattle.table.specs.Words as words
 use Rattle.sweep.specs.Sweeping.{planSwept, Flagged, keepsRow, RowPost, numberOf, Sweeping, newLinks}
 use Rattle.table.specs.declared.Table.{Table}
-use Rattle.table.proofs.WordLaws.{map-append, wordsOf-snoc, count-decode, rowAt-decode}
+use Rattle.table.proofs.WordLaws.{wordsOf-snoc, count-decode, rowAt-decode}
 use Rattle.table.proofs.DecodeLaws.{rows-next}
 use Rattle.table.proofs.FitsLaws.{Fits}
 use Rattle.model.proofs.SweepLaws.{newNumber-zero, newNumber-suc, isKept-unrolled, newNumber-le, isKept-marked}

@@ -1,9 +1,9 @@
 -- What a table that fits has: few rows, words that hold rows, zeros past them, tags and marks in range.
 use mathlib.Core.Path.{_≡_, ap, sym, _∙_}
-use mathlib.Core.Bool.{Bool, true, false, _&&_}
-use mathlib.Core.List.{List, [], _∷_, map}
+use mathlib.Core.Bool.{true, false, _&&_}
+use mathlib.Core.List.{List, map}
 use mathlib.Core.Option.{none, some}
-use Prim.Native.Nat.{ℕ, zero, suc, _-_, _/_, _%_, _≤_, _<_}
+use Prim.Native.Nat.{ℕ, _-_, _/_, _%_, _≤_, _<_}
 use native.Mathlib.Omega.{arith}
 use lib.Dec.{leb, eqb}
 use lib.ListN.{length, getD, take, drop, List·getD-map}
@@ -12,8 +12,10 @@ use borrow.Author.Tests.{leb-true, eqb-true, eqb-false}
 use Rattle.model.specs.Base.{all}
 use Rattle.model.specs.Table as model
 use Rattle.model.proofs.BoolLaws.{and-left, and-right, by-cases}
+use Rattle.model.proofs.ListLaws.{all-getD}
 use Rattle.model.proofs.TableLaws.{Well, isWell-at}
-use Rattle.table.specs.Words.{linked, rowOf, isRowWord, isZero, decodeParts, partsFit, fits}
+use Rattle.table.specs.Words.{linked, rowOf, isRowWord, isZero, decode, decodeParts, partsFit, fits}
+use Rattle.table.specs.declared.Table.{Table}
 use Rattle.table.proofs.WordLaws.{count-decode, rowAt-decode, Canonical, canonical-words}
 
 -- WHAT FITS: the count, the words in use and past it, and the table decoded
@@ -23,11 +25,11 @@ pub record Fits (n : ℕ) (ws ms : List ℕ) : Type 0 where
   pub canonical : length ws ≡ 512 → Canonical n ws
   pub well : Well (decodeParts n ws ms)
 
-all-getD : (f : ℕ → Bool) (l : List ℕ) → all f l ≡ true → (k : ℕ) → k < length l → f (getD l k 0) ≡ true
-unfolding all
-all-getD f [] h k b = absurd (omega arith)
-all-getD f (a ∷ l) h zero b = and-left (f a) (all f l) h
-all-getD f (a ∷ l) h (suc k) b = all-getD f l (and-right (f a) (all f l) h) k (omega arith)
+-- what fits stands for a well-formed table
+pub well-decode : (t : Table) → fits t ≡ true → model.isWell (decode t) ≡ true
+well-decode t e =
+    and-right (leb (t .count) 512 && all isRowWord (take (t .count) (t .rows)) && all isZero (drop (t .count) (t .rows)))
+    (model.isWell (decode t)) e
 
 pub fits-at : (n : ℕ) (ws ms : List ℕ) → partsFit n ws ms ≡ true → Fits n ws ms
 fits-at n ws ms h =
@@ -41,7 +43,7 @@ fits-at n ws ms h =
     record {
       few = g;
       kinds = λ k l w.
-          ap isRowWord (sym (getD-take n ws k 0 l)) ∙ all-getD isRowWord (take n ws) (and-right a b f) k (omega (
+          ap isRowWord (sym (getD-take n ws k 0 l)) ∙ all-getD isRowWord (take n ws) 0 (and-right a b f) k (omega (
             arith,
             length-take-le n
                 ws w,

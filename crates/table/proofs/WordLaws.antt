@@ -1,7 +1,7 @@
 -- A row survives its word, and a word that holds a row survives decoding; so do tables. Words are read, set and pushed as rows are.
 use mathlib.Core.Path.{_≡_, refl, ap, sym, _∙_}
 use mathlib.Core.Bool.{Bool, true, false}
-use mathlib.Core.List.{List, [], _∷_, _++_, map}
+use mathlib.Core.List.{List, [], _∷_, _++_, map, map-append}
 use mathlib.Core.Option.{Option, none, some}
 use mathlib.Core.Logic.{⊎-elim}
 use Prim.Native.Nat.{ℕ, zero, suc, _+_, _*_, _-_, _/_, _%_, _≤_, _<_}
@@ -75,10 +75,6 @@ module _ (n : ℕ) (ws ms : List ℕ) (within : n ≤ length ws) where
   rowAt-decode p h = List·getD-map rowOf (take n ws) p 0 ∙ ap rowOf (getD-take n ws p 0 h)
 
 -- a row more is a word more
-pub map-append : {A B : Type 0} (f : A → B) (xs ys : List A) → map f (xs ++ ys) ≡ map f xs ++ map f ys
-map-append f [] ys = refl
-map-append f (x ∷ xs) ys = ap (λ (l : List _). f x ∷ l) (map-append f xs ys)
-
 pub rowsOf-push : (n : ℕ) (ws : List ℕ) (r : model.Row) → n < length ws → linkOf (r .parent) < 1024 → rowsOf (n + 1) (set ws n (wordOf
     r)) ≡ rowsOf n ws ++ (r ∷ [])
 rowsOf-push n ws r h f =

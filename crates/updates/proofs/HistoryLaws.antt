@@ -7,14 +7,15 @@ use native.Mathlib.Omega.{arith}
 use lib.ListN.{length, take, drop, set, length-append}
 use lib.Seq.{drop-at, take-at, drop-drop, sets-eq, length-take-le}
 use borrow.Author.Tests.{ne-eqb}
-use Rattle.model.specs.Base.{pick, over}
+use Rattle.model.specs.Base.{pick, over, also}
 use Rattle.model.specs.Table as model
 use Rattle.model.specs.Stored.{wordBytes, parentBytes}
-use Rattle.model.specs.History.{Record, recordBytes, historyBytes}
+use Rattle.model.specs.History.{Record, recordBytes, historyBytes, IsInRange, AllInRange, times, isCut}
 use Rattle.model.specs.Run.{made}
 use Rattle.model.specs.Undo.{historySize}
-use Rattle.model.proofs.FormLaws.{IsInRange, AllInRange, andAlso, allInRange-snoc, length-recordBytes, recordIn-back}
-use Rattle.model.proofs.HistoryLaws.{times, times-snoc, isCut, isCut-made}
+use Rattle.model.proofs.FormLaws.{length-recordBytes, recordIn-back}
+use Rattle.model.proofs.All.{all-snoc}
+use Rattle.model.proofs.HistoryLaws.{times-snoc, isCut-made}
 use Rattle.table.specs.Words.{linked, rowOf}
 use Rattle.updates.specs.State.{recordsFrom, recordsIn, Recorded}
 use Rattle.updates.specs.Updating.{madeKind, sixBytes}
@@ -64,7 +65,7 @@ unfolding recordsFrom historyBytes
 recordsFrom-bytes zero [] a h = refl
 recordsFrom-bytes (suc k) [] a h = refl
 recordsFrom-bytes zero (r ∷ rs) a h = absurd (omega arith)
-recordsFrom-bytes (suc k) (r ∷ rs) (andAlso f a) h =
+recordsFrom-bytes (suc k) (r ∷ rs) (also f a) h =
     recordsFrom-step k r (historyBytes rs) f ∙
     ap (λ (qs : List Record). r ∷ qs) (recordsFrom-bytes k rs a (omega (arith, length-append (recordBytes r) (historyBytes rs))))
 
@@ -83,12 +84,12 @@ module _ (b : List ℕ) (n c : ℕ) (h : Recorded b n c) (r : Record) (f : IsInR
   grown-bytes = sym (historyBytes-snoc (recordsIn b) r ∙ ap (λ (l : List ℕ). l ++ recordBytes r) (h .bytes))
 
   pub recordsIn-push : recordsIn (b ++ recordBytes r) ≡ recordsIn b ++ (r ∷ [])
-  recordsIn-push = ap recordsIn grown-bytes ∙ recordsIn-bytes (recordsIn b ++ (r ∷ [])) (allInRange-snoc (h .ranges) f)
+  recordsIn-push = ap recordsIn grown-bytes ∙ recordsIn-bytes (recordsIn b ++ (r ∷ [])) (all-snoc (h .ranges) f)
 
   recorded-more : (m d : ℕ) → m + d ≡ n + c + 1 → c + pick (isCut r) 1 0 ≡ d → n + c < 2048 → Recorded (b ++ recordBytes r) m d
   recorded-more m d e g l =
       record {
-        ranges = rw recordsIn-push (allInRange-snoc (h .ranges) f);
+        ranges = rw recordsIn-push (all-snoc (h .ranges) f);
         bytes = ap historyBytes recordsIn-push ∙ sym grown-bytes;
         records = ap length recordsIn-push ∙ omega (arith, length-append (recordsIn b) (r ∷ []), h .records);
         cuts = ap (times isCut) recordsIn-push ∙ omega (arith, times-snoc isCut (recordsIn b) r, h .cuts);

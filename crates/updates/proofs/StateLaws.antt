@@ -11,14 +11,12 @@ use lib.Seq.{set-append-left, take-set-lt}
 use borrow.Author.Tests.{eq-eqb, ne-eqb, eqb-true}
 use Rattle.model.specs.Refusal.{fault}
 use Rattle.model.specs.Table as model
-use Rattle.model.specs.History.{Record, recordBytes, historyBytes}
+use Rattle.model.specs.History.{Record, recordBytes, historyBytes, IsInRange, times}
 use Rattle.model.specs.Run.{State, state, Out, stop, gives}
 use Rattle.model.proofs.BoolLaws.{pick-true, pick-false, by-cases}
-use Rattle.model.proofs.TableLaws.{Tree}
-use Rattle.model.proofs.FormLaws.{IsInRange, noneYet}
-use Rattle.model.proofs.HistoryLaws.{times}
+use Rattle.model.specs.Table.{Tree}
+use Rattle.model.specs.Base.{nothing, over}
 use Rattle.table.specs.Words.{linkOf, linked, wordOf, rowOf, rowsOf, wordsOf, isRowWord, decodeParts, partsFit}
-use Rattle.model.specs.Base.{over}
 use Rattle.table.proofs.WordLaws.{wordOf-rowOf, count-decode, rowAt-decode, Canonical}
 use Rattle.model.proofs.ListLaws.{map-set, length-over}
 use Rattle.table.proofs.FitsLaws.{fits-at}
@@ -111,7 +109,7 @@ held-start n ws ms h f l a =
       canonical = k .canonical l;
       tree = tree-rows n ws ms (k .well .tree);
       size = omega arith;
-      history = record { ranges = noneYet; bytes = refl; records = refl; cuts = refl; limit = omega arith };
+      history = record { ranges = nothing; bytes = refl; records = refl; cuts = refl; limit = omega arith };
     }
 
 pub state-start : (n : ℕ) (ws ms h : List ℕ) → stateOf ws ms h (started n) ≡ state (decodeParts n ws ms) []

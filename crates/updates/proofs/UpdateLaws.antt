@@ -13,12 +13,12 @@ use borrow.Author.Tests.{lt-ltb, le-ltb, ne-eqb, leb-true}
 use Rattle.model.specs.Base.{isIn, over}
 use Rattle.model.specs.Refusal.{fault}
 use Rattle.model.specs.Table as model
-use Rattle.model.specs.History.{Record, recordBytes}
+use Rattle.model.specs.History.{Record, recordBytes, IsInRange}
 use Rattle.model.specs.Run.{State, state, Out, stop, gives, newRow, loose, withMade, made, cutRecord, cutRow, cutBy, cutAll, thenRow}
 use Rattle.model.proofs.BoolLaws.{and-right, by-cases}
-use Rattle.model.proofs.TableLaws.{Tree}
+use Rattle.model.specs.Table.{Tree}
 use Rattle.model.proofs.GrowLaws.{tree-withRow, tree-linked}
-use Rattle.model.proofs.FormLaws.{IsInRange, length-recordBytes}
+use Rattle.model.proofs.FormLaws.{length-recordBytes}
 use Rattle.model.proofs.HistoryLaws.{isCut-made}
 use Rattle.model.proofs.UndoLaws.{made-inRange}
 use Rattle.table.specs.Words.{linkOf, linked, rowOf, wordOf, rowsOf, wordsOf, isRowWord, decodeParts}

@@ -7,6 +7,7 @@ use Prim.Native.Nat.{ℕ, zero, suc, _+_, _-_, _/_, _%_, _≤_, _<_}
 use lib.Dec.{ltb, eqb}
 use lib.ListN.{length, getD, take, set}
 use Rattle.model.specs.Base.{pick}
+use Rattle.model.specs.Limits.{maxRows}
 use Rattle.model.specs.Table as model
 use Rattle.model.specs.Run.{State, Out, gives, newRow, thenRow, Copied, copyEach, descendantsFrom, subtree, copyAll, inserted}
 use Rattle.table.specs.Words.{linked, rowOf, rowsOf, decodeParts}
@@ -45,7 +46,7 @@ copyBy z r l s = pick (eqb l 0) (gives [] s) (thenRow (newRow z (model.withParen
 
 pub record NextPre (ws h m : List ℕ) (p : Progress) (t j : ℕ) : Type 0 where
   pub held : Held ws h p
-  pub size : length m ≡ 512
+  pub size : length m ≡ maxRows
   pub row : j < p .count
   pub mapped : Mapped ws m (p .count) t j
 
@@ -56,7 +57,7 @@ pub record NextPost (ws h m : List ℕ) (p : Progress) (t j : ℕ) (ws′ h′ m
 -- THE SCAN past top
 pub record RestPre (ws h m : List ℕ) (p : Progress) (old t : ℕ) : Type 0 where
   pub held : Held ws h p
-  pub size : length m ≡ 512
+  pub size : length m ≡ maxRows
   pub top : t < old
   pub room : old ≤ p .count
   pub mapped : IsCopy ws (p .count) t (getD m t 0)
@@ -71,7 +72,7 @@ pub record RestPost (ws h m : List ℕ) (p : Progress) (old t : ℕ) (ws′ h′
 -- AN ITEM with its descendants
 pub record ItemPre (ws h m : List ℕ) (p : Progress) (old t g : ℕ) : Type 0 where
   pub held : Held ws h p
-  pub size : length m ≡ 512
+  pub size : length m ≡ maxRows
   pub top : t < old
   pub room : old ≤ p .count
   pub target : model.isElement (decodeParts (p .count) ws []) g ≡ true
@@ -83,7 +84,7 @@ pub record ItemPost (ws h : List ℕ) (p : Progress) (old t g : ℕ) (ws′ h′
 -- ALL ITEMS
 pub record ItemsPre (ws h m : List ℕ) (p : Progress) (v : List ℕ) (g : ℕ) : Type 0 where
   pub held : Held ws h p
-  pub size : length m ≡ 512
+  pub size : length m ≡ maxRows
   pub items : Within v (p .count)
   pub target : model.isElement (decodeParts (p .count) ws []) g ≡ true
 

@@ -5,13 +5,12 @@ use Prim.Native.Nat.{ℕ, zero, suc, _+_, _*_, _≤_}
 use lib.Dec.{eqb}
 use lib.ListN.{length, getD, take, drop}
 use Rattle.model.specs.Base.{pick}
+use Rattle.model.specs.Limits.{maxRows, maxHistory, historyNeed}
 use Rattle.model.specs.Refusal.{fault}
-use Rattle.model.specs.History.{Record, historyBytes}
+use Rattle.model.specs.History.{Record, historyBytes, AllInRange, times, isCut}
 use Rattle.model.specs.Run.{State, state, Out, stop, gives}
 use Rattle.model.specs.Undo.{historySize, recordIn}
-use Rattle.model.proofs.TableLaws.{Tree}
-use Rattle.model.proofs.FormLaws.{AllInRange}
-use Rattle.model.proofs.HistoryLaws.{times, isCut}
+use Rattle.model.specs.Table.{Tree}
 use Rattle.table.specs.Words.{rowsOf, wordsOf, decodeParts}
 use Rattle.updates.specs.declared.state.Progress.{Progress}
 
@@ -44,14 +43,14 @@ pub record Recorded (b : List ℕ) (made cut : ℕ) : Type 0 where
   pub bytes : historyBytes (recordsIn b) ≡ b
   pub records : length (recordsIn b) ≡ made + cut
   pub cuts : times isCut (recordsIn b) ≡ cut
-  pub limit : made + cut ≤ 2048
+  pub limit : made + cut ≤ maxHistory
 
 -- the areas have their sizes, the rows their form; the marks are not in question
 pub record Held (ws h : List ℕ) (p : Progress) : Type 0 where
   pub fine : p .number ≡ 0
-  pub rows : length ws ≡ 512
-  pub area : 12288 ≤ length h
-  pub few : p .count ≤ 512
+  pub rows : length ws ≡ maxRows
+  pub area : historyNeed ≤ length h
+  pub few : p .count ≤ maxRows
   pub canonical : wordsOf (rowsOf (p .count) ws) ≡ ws
   pub tree : Tree (decodeParts (p .count) ws [])
   pub size : p .bytes ≤ 6 * (p .made + p .cut)

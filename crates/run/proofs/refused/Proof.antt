@@ -1,3 +1,4 @@
+-- `refused`: the table as it was, and a tally of zeros.
 use borrow.Author.Needs.{needs}
 use Rattle.run.proofs.refused.Statement.{statement}
 use Rattle.run.proofs.refused.Tie as tie

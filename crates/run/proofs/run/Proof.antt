@@ -1,3 +1,4 @@
+-- `run`: 11 where an area is too short, else the run in cleared areas.
 use borrow.Author.Needs.{needs}
 use Rattle.run.proofs.run.Statement.{statement}
 use Rattle.run.proofs.run.Tie as tie

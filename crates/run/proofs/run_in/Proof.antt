@@ -1,3 +1,4 @@
+-- `run_in`: the run in areas that fit, one law of CallLaws for what each call asks and for each way out.
 use borrow.Author.Needs.{needs}
 use Rattle.run.proofs.run_in.Statement.{statement}
 use Rattle.run.proofs.run_in.Tie as tie
@@ -7,7 +8,8 @@ use native.Mathlib.Omega.{arith}
 use lib.ListN.{length, replicate}
 use borrow.Author.Tests.{not-true, not-false}
 use Rattle.table.specs.Fitting.{Words}
-use Rattle.run.proofs.CallLaws.{refused-post, ill-formed, refuses-by, accepted-by, eval-asks, run-stops, run-post, put-asks, limit, few}
+use Rattle.run.proofs.CallLaws.{refused-post, ill-formed, refuses-by, accepted-by, eval-asks, run-stops, run-post, put-asks, limit}
+use Rattle.run.proofs.CallLaws.{few}
 
 size : (c : tie.Start) → Words (c .args .t1 .rows) (c .args .t1 .marks)
 size c = search needs

@@ -1,3 +1,4 @@
+-- `applied`: a record with one operand, one law of OperatorLaws for what each call asks and for each way out.
 use borrow.Author.Needs.{needs}
 use Rattle.operators.proofs.record.applied.Statement.{statement}
 use Rattle.operators.proofs.record.applied.Tie as tie

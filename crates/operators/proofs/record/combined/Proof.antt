@@ -1,3 +1,4 @@
+-- `combined`: a record with two operands, one law of OperatorLaws for what each call asks and for each way out.
 use borrow.Author.Needs.{needs}
 use Rattle.operators.proofs.record.combined.Statement.{statement}
 use Rattle.operators.proofs.record.combined.Tie as tie

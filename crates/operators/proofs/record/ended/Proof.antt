@@ -1,3 +1,4 @@
+-- `ended`: past the record where nothing is refused, else at its place.
 use Rattle.operators.proofs.record.ended.Statement.{statement}
 use Rattle.operators.proofs.record.ended.Tie as tie
 use Rattle.operators.proofs.RecordLaws.{ended-refused, ended-past}

@@ -1,3 +1,4 @@
+-- `limited`: 8 where the value has passed the limit, else as it was.
 use borrow.Author.Needs.{needs}
 use Rattle.operators.proofs.record.limited.Statement.{statement}
 use Rattle.operators.proofs.record.limited.Tie as tie

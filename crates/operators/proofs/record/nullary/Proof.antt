@@ -1,3 +1,4 @@
+-- `nullary`: a record without operands, one law of NullaryLaws for each way out.
 use borrow.Author.Needs.{needs}
 use Rattle.operators.proofs.record.nullary.Statement.{statement}
 use Rattle.operators.proofs.record.nullary.Tie as tie

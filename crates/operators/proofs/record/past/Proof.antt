@@ -1,3 +1,4 @@
+-- `past`: the same outcome, past the expression behind it.
 use borrow.Author.Needs.{needs}
 use Rattle.operators.proofs.record.past.Statement.{statement}
 use Rattle.operators.proofs.record.past.Tie as tie

@@ -1,3 +1,4 @@
+-- `bind`: a binder's first value stands behind the variables around it; any other record adds none.
 use borrow.Author.Needs.{needs}
 use Rattle.operators.proofs.value.bind.Statement.{statement}
 use Rattle.operators.proofs.value.bind.Tie as tie

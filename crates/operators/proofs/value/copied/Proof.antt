@@ -1,3 +1,4 @@
+-- `copied`: the loop copies item by item; what it has not reached is as it was.
 use borrow.Author.Needs.{needs}
 use Rattle.operators.proofs.value.copied.Statement.{statement}
 use Rattle.operators.proofs.value.copied.Tie as tie

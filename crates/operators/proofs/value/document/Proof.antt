@@ -1,3 +1,4 @@
+-- `document`: nothing where the document marks no row, else its row, from top on.
 use borrow.Author.Needs.{needs}
 use Rattle.operators.proofs.value.document.Statement.{statement}
 use Rattle.operators.proofs.value.document.Tie as tie

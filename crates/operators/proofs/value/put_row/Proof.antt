@@ -1,3 +1,4 @@
+-- `put_row`: a new row's number from top on, where nothing is refused.
 use borrow.Author.Needs.{needs}
 use Rattle.operators.proofs.value.put_row.Statement.{statement}
 use Rattle.operators.proofs.value.put_row.Tie as tie

@@ -1,3 +1,4 @@
+-- `clear_bytes`: the loop makes every byte zero.
 use borrow.Author.Needs.{needs}
 use Rattle.run.proofs.area.clear_bytes.Statement.{statement}
 use Rattle.run.proofs.area.clear_bytes.Tie as tie

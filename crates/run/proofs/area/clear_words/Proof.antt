@@ -1,3 +1,4 @@
+-- `clear_words`: the loop makes every number zero.
 use borrow.Author.Needs.{needs}
 use Rattle.run.proofs.area.clear_words.Statement.{statement}
 use Rattle.run.proofs.area.clear_words.Tie as tie

@@ -1,3 +1,4 @@
+-- `put`: the loop puts the value at the front, item by item; what is behind it stays.
 use borrow.Author.Needs.{needs}
 use Rattle.run.proofs.area.put.Statement.{statement}
 use Rattle.run.proofs.area.put.Tie as tie

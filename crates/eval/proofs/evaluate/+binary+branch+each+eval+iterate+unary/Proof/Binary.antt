@@ -1,6 +1,6 @@
 -- `binary`, a join, an insert or a let: each call asks what is there, and each way out is the run of the expression; one law for each.
 use mathlib.Core.Path.{_∙_}
-use Prim.Native.Nat.{ℕ, _-_}
+use Prim.Native.Nat.{ℕ}
 use native.Mathlib.Omega.{arith}
 use Rattle.script.proofs.AcceptedLaws.{accepted-record}
 use Rattle.eval.proofs.EvalLaws.{deep, binary-first, binary-stops}
@@ -9,50 +9,50 @@ use Rattle.eval.proofs.evaluate.binary.Reads as binary
 use Rattle.eval.proofs.evaluate.+binary+branch+each+eval+iterate+unary.Lts-binary as binary-lts
 use Rattle.eval.proofs.evaluate.+binary+branch+each+eval+iterate+unary.Proof.Measure.{binary-claims, binary-at}
 
-pub binary-shared-slice-read-kind : (t : ℕ) → binary-lts.Need-shared-slice-read-kind (binary-claims t) (binary-at t) binary.Post
-binary-shared-slice-read-kind t c =
+pub shared-slice-read-kind : (t : ℕ) → binary-lts.Need-shared-slice-read-kind (binary-claims t) (binary-at t) binary.Post
+shared-slice-read-kind t c =
     let c6 = c .before .before .before .before .before .before in
     let a = accepted-record (c6 .pre .1 .0 .accepted) .whole in
     omega (arith, a)
 
-pub binary-add-i : (t : ℕ) → binary-lts.Need-add-i (binary-claims t) (binary-at t) binary.Post
-binary-add-i t c =
+pub add-i : (t : ℕ) → binary-lts.Need-add-i (binary-claims t) (binary-at t) binary.Post
+add-i t c =
     let c6 = c .before .before .before .before .before .before in
     let a = accepted-record (c6 .pre .1 .0 .accepted) .whole in
     omega (arith, a)
 
-pub binary-sub-k : (t : ℕ) → binary-lts.Need-sub-k (binary-claims t) (binary-at t) binary.Post
-binary-sub-k t c =
+pub sub-k : (t : ℕ) → binary-lts.Need-sub-k (binary-claims t) (binary-at t) binary.Post
+sub-k t c =
     let c6 = c .before .before .before .before .before .before in
     deep (c6 .pre .1 .0)
 
-pub binary-eval-requires : (t : ℕ) → binary-lts.Need-eval-requires (binary-claims t) (binary-at t) binary.Post
-binary-eval-requires t c κs =
+pub eval-requires : (t : ℕ) → binary-lts.Need-eval-requires (binary-claims t) (binary-at t) binary.Post
+eval-requires t c κs =
     let c9 = c .before .before .before .before .before .before .before .before .before in
     let d = deep (c9 .pre .1 .0) in
     let m = c9 .pre .0 in
     (omega (arith, d, m), binary-first (c9 .pre .1 .0) (c9 .pre .1 .1))
 
-pub binary-returns : (t : ℕ) → binary-lts.Need-returns (binary-claims t) (binary-at t) binary.Post
-binary-returns t c =
+pub returns : (t : ℕ) → binary-lts.Need-returns (binary-claims t) (binary-at t) binary.Post
+returns t c =
     let c8 = c .before .before .before .before .before .before .before .before in
     let c18 = c8 .before .before .before .before .before .before .before .before .before .before in
     binary-stops (c18 .pre .1 .0) (c18 .pre .1 .1) (c8 .eval .ensures) (c .if1 .taken)
 
-pub binary-bind-requires : (t : ℕ) → binary-lts.Need-bind-requires (binary-claims t) (binary-at t) binary.Post
-binary-bind-requires t c κs =
+pub bind-requires : (t : ℕ) → binary-lts.Need-bind-requires (binary-claims t) (binary-at t) binary.Post
+bind-requires t c κs =
     let c10 = c .before .before .before .before .before .before .before .before .before .before in
     let c20 = c10 .before .before .before .before .before .before .before .before .before .before in
     bind-asks (c20 .pre .1 .0) (c20 .pre .1 .1) (c10 .eval .ensures) (c .before .before .if1 .left)
 
-pub binary-inner-requires : (t : ℕ) → binary-lts.Need-inner-requires (binary-claims t) (binary-at t) binary.Post
-binary-inner-requires t c κs =
+pub inner-requires : (t : ℕ) → binary-lts.Need-inner-requires (binary-claims t) (binary-at t) binary.Post
+inner-requires t c κs =
     let c10 = c .before .before .before .before .before .before .before .before .before .before in
     let c21 = c10 .before .before .before .before .before .before .before .before .before .before .before in
     λ _. c21 .pre .1 .0 .scope .few
 
-pub binary-eval-requires-2 : (t : ℕ) → binary-lts.Need-eval-requires-2 (binary-claims t) (binary-at t) binary.Post
-binary-eval-requires-2 t c κs =
+pub eval-requires-2 : (t : ℕ) → binary-lts.Need-eval-requires-2 (binary-claims t) (binary-at t) binary.Post
+eval-requires-2 t c κs =
     let c3 = c .before .before .before in
     let c4 = c3 .before in
     let c7 = c4 .before .before .before in
@@ -65,29 +65,29 @@ binary-eval-requires-2 t c κs =
           .inner .ensures),
     )
 
-pub binary-same-length-4 : (t : ℕ) → binary-lts.Need-same-length-4 (binary-claims t) (binary-at t) binary.Post
-binary-same-length-4 t c =
+pub same-length-4 : (t : ℕ) → binary-lts.Need-same-length-4 (binary-claims t) (binary-at t) binary.Post
+same-length-4 t c =
     let c8 = c .before .before .before .before .before .before .before .before in
     let c18 = c8 .before .before .before .before .before .before .before .before .before .before in
     let c24 = c18 .before .before .before .before .before .before in
     c8 .eval2 .kept .1 .1 .1 .1 .1 .1 .0 ∙ c24 .eval .kept .1 .1 .1 .1 .1 .1 .0
 
-pub binary-same-length-5 : (t : ℕ) → binary-lts.Need-same-length-5 (binary-claims t) (binary-at t) binary.Post
-binary-same-length-5 t c =
+pub same-length-5 : (t : ℕ) → binary-lts.Need-same-length-5 (binary-claims t) (binary-at t) binary.Post
+same-length-5 t c =
     let c8 = c .before .before .before .before .before .before .before .before in
     let c18 = c8 .before .before .before .before .before .before .before .before .before .before in
     let c24 = c18 .before .before .before .before .before .before in
     c8 .eval2 .kept .1 .1 .1 .1 .1 .1 .1 .0 ∙ c24 .eval .kept .1 .1 .1 .1 .1 .1 .1 .0
 
-pub binary-same-length-6 : (t : ℕ) → binary-lts.Need-same-length-6 (binary-claims t) (binary-at t) binary.Post
-binary-same-length-6 t c =
+pub same-length-6 : (t : ℕ) → binary-lts.Need-same-length-6 (binary-claims t) (binary-at t) binary.Post
+same-length-6 t c =
     let c8 = c .before .before .before .before .before .before .before .before in
     let c18 = c8 .before .before .before .before .before .before .before .before .before .before in
     let c24 = c18 .before .before .before .before .before .before in
     c8 .eval2 .kept .1 .1 .1 .1 .1 .1 .1 .1 .0 ∙ c24 .eval .kept .1 .1 .1 .1 .1 .1 .1 .1 .0
 
-pub binary-returns-2 : (t : ℕ) → binary-lts.Need-returns-2 (binary-claims t) (binary-at t) binary.Post
-binary-returns-2 t c =
+pub returns-2 : (t : ℕ) → binary-lts.Need-returns-2 (binary-claims t) (binary-at t) binary.Post
+returns-2 t c =
     let c8 = c .before .before .before .before .before .before .before .before in
     let c12 = c8 .before .before .before .before in
     let c13 = c12 .before in
@@ -97,8 +97,8 @@ binary-returns-2 t c =
     second-stops (c34 .pre .1 .0) (c34 .pre .1 .1) (c24 .eval .ensures) (c16 .if1 .left) (c13 .bind .ensures) (c12 .inner .ensures)
     (c8 .eval2 .ensures) (c .if2 .taken)
 
-pub binary-combined-requires : (t : ℕ) → binary-lts.Need-combined-requires (binary-claims t) (binary-at t) binary.Post
-binary-combined-requires t c κs =
+pub combined-requires : (t : ℕ) → binary-lts.Need-combined-requires (binary-claims t) (binary-at t) binary.Post
+combined-requires t c κs =
     let c3 = c .before .before .before in
     let c11 = c3 .before .before .before .before .before .before .before .before in
     let c15 = c11 .before .before .before .before in
@@ -109,32 +109,32 @@ binary-combined-requires t c κs =
     combine-asks (c37 .pre .1 .0) (c37 .pre .1 .1) (c27 .eval .ensures) (c19 .if1 .left) (c16 .bind .ensures) (c15 .inner .ensures)
     (c11 .eval2 .ensures) (c3 .if2 .left)
 
-pub binary-same-length-7 : (t : ℕ) → binary-lts.Need-same-length-7 (binary-claims t) (binary-at t) binary.Post
-binary-same-length-7 t c =
+pub same-length-7 : (t : ℕ) → binary-lts.Need-same-length-7 (binary-claims t) (binary-at t) binary.Post
+same-length-7 t c =
     let c6 = c .before .before .before .before .before .before in
     let c18 = c6 .before .before .before .before .before .before .before .before .before .before .before .before in
     let c28 = c18 .before .before .before .before .before .before .before .before .before .before in
     let c34 = c28 .before .before .before .before .before .before in
     c6 .combined .kept .1 .1 .0 ∙ c18 .eval2 .kept .1 .1 .1 .1 .1 .1 .0 ∙ c34 .eval .kept .1 .1 .1 .1 .1 .1 .0
 
-pub binary-same-length-8 : (t : ℕ) → binary-lts.Need-same-length-8 (binary-claims t) (binary-at t) binary.Post
-binary-same-length-8 t c =
+pub same-length-8 : (t : ℕ) → binary-lts.Need-same-length-8 (binary-claims t) (binary-at t) binary.Post
+same-length-8 t c =
     let c6 = c .before .before .before .before .before .before in
     let c18 = c6 .before .before .before .before .before .before .before .before .before .before .before .before in
     let c28 = c18 .before .before .before .before .before .before .before .before .before .before in
     let c34 = c28 .before .before .before .before .before .before in
     c6 .combined .kept .1 .1 .1 .0 ∙ c18 .eval2 .kept .1 .1 .1 .1 .1 .1 .1 .0 ∙ c34 .eval .kept .1 .1 .1 .1 .1 .1 .1 .0
 
-pub binary-same-length-9 : (t : ℕ) → binary-lts.Need-same-length-9 (binary-claims t) (binary-at t) binary.Post
-binary-same-length-9 t c =
+pub same-length-9 : (t : ℕ) → binary-lts.Need-same-length-9 (binary-claims t) (binary-at t) binary.Post
+same-length-9 t c =
     let c6 = c .before .before .before .before .before .before in
     let c18 = c6 .before .before .before .before .before .before .before .before .before .before .before .before in
     let c28 = c18 .before .before .before .before .before .before .before .before .before .before in
     let c34 = c28 .before .before .before .before .before .before in
     c6 .combined .kept .1 .1 .1 .1 .0 ∙ c18 .eval2 .kept .1 .1 .1 .1 .1 .1 .1 .1 .0 ∙ c34 .eval .kept .1 .1 .1 .1 .1 .1 .1 .1 .0
 
-pub binary-returns-3 : (t : ℕ) → binary-lts.Need-returns-3 (binary-claims t) (binary-at t) binary.Post
-binary-returns-3 t c =
+pub returns-3 : (t : ℕ) → binary-lts.Need-returns-3 (binary-claims t) (binary-at t) binary.Post
+returns-3 t c =
     let c6 = c .before .before .before .before .before .before in
     let c10 = c6 .before .before .before .before in
     let c18 = c10 .before .before .before .before .before .before .before .before in

@@ -1,7 +1,7 @@
 -- `eval`, an expression, by its arity: each call asks what is there, and each way out is the run of the expression; one law for each.
 use borrow.Author.Needs.{needs}
 use mathlib.Core.Path.{sym, _∙_}
-use Prim.Native.Nat.{ℕ, _-_}
+use Prim.Native.Nat.{ℕ}
 use native.Mathlib.Omega.{arith}
 use Rattle.script.proofs.AcceptedLaws.{accepted-record}
 use Rattle.eval.proofs.EvalLaws.{is-binary}
@@ -9,66 +9,66 @@ use Rattle.eval.proofs.evaluate.eval.Reads as eval
 use Rattle.eval.proofs.evaluate.+binary+branch+each+eval+iterate+unary.Lts-eval as eval-lts
 use Rattle.eval.proofs.evaluate.+binary+branch+each+eval+iterate+unary.Proof.Measure.{eval-claims, eval-at}
 
-pub eval-shared-slice-read-kind : (t : ℕ) → eval-lts.Need-shared-slice-read-kind (eval-claims t) (eval-at t) eval.Post
-eval-shared-slice-read-kind t c =
+pub shared-slice-read-kind : (t : ℕ) → eval-lts.Need-shared-slice-read-kind (eval-claims t) (eval-at t) eval.Post
+shared-slice-read-kind t c =
     let c6 = c .before .before .before .before .before .before in
     let a = accepted-record (c6 .pre .1 .accepted) .whole in
     omega (arith, a)
 
-pub eval-arity-requires : (t : ℕ) → eval-lts.Need-arity-requires (eval-claims t) (eval-at t) eval.Post
-eval-arity-requires t c κs = search needs
+pub arity-requires : (t : ℕ) → eval-lts.Need-arity-requires (eval-claims t) (eval-at t) eval.Post
+arity-requires t c κs = search needs
 
-pub eval-nullary-requires : (t : ℕ) → eval-lts.Need-nullary-requires (eval-claims t) (eval-at t) eval.Post
-eval-nullary-requires t c κs =
+pub nullary-requires : (t : ℕ) → eval-lts.Need-nullary-requires (eval-claims t) (eval-at t) eval.Post
+nullary-requires t c κs =
     let c3 = c .before .before .before in
     let c4 = c3 .before in
     let c11 = c4 .before .before .before .before .before .before .before in
     (c11 .pre .1, sym (c4 .arity .ensures .0) ∙ c3 .if1 .taken)
 
-pub eval-returns : (t : ℕ) → eval-lts.Need-returns (eval-claims t) (eval-at t) eval.Post
-eval-returns t c =
+pub returns : (t : ℕ) → eval-lts.Need-returns (eval-claims t) (eval-at t) eval.Post
+returns t c =
     let c6 = c .before .before .before .before .before .before in
     c6 .nullary .ensures
 
-pub eval-unary-requires : (t : ℕ) → eval-lts.Need-unary-requires (eval-claims t) (eval-at t) eval.Post
-eval-unary-requires t c κs =
+pub unary-requires : (t : ℕ) → eval-lts.Need-unary-requires (eval-claims t) (eval-at t) eval.Post
+unary-requires t c κs =
     let c3 = c .before .before .before in
     let c5 = c3 .before .before in
     let c12 = c5 .before .before .before .before .before .before .before in
     let m = c12 .pre .0 in
     (omega (arith, m), (c12 .pre .1, sym (c5 .arity .ensures .0) ∙ c3 .if2 .taken))
 
-pub eval-returns-2 : (t : ℕ) → eval-lts.Need-returns-2 (eval-claims t) (eval-at t) eval.Post
-eval-returns-2 t c =
+pub returns-2 : (t : ℕ) → eval-lts.Need-returns-2 (eval-claims t) (eval-at t) eval.Post
+returns-2 t c =
     let c6 = c .before .before .before .before .before .before in
     c6 .unary .ensures
 
-pub eval-branch-requires : (t : ℕ) → eval-lts.Need-branch-requires (eval-claims t) (eval-at t) eval.Post
-eval-branch-requires t c κs =
+pub branch-requires : (t : ℕ) → eval-lts.Need-branch-requires (eval-claims t) (eval-at t) eval.Post
+branch-requires t c κs =
     let c3 = c .before .before .before in
     let c13 = c3 .before .before .before .before .before .before .before .before .before .before in
     let m = c13 .pre .0 in
     (omega (arith, m), (c13 .pre .1, c3 .if3 .taken))
 
-pub eval-returns-3 : (t : ℕ) → eval-lts.Need-returns-3 (eval-claims t) (eval-at t) eval.Post
-eval-returns-3 t c =
+pub returns-3 : (t : ℕ) → eval-lts.Need-returns-3 (eval-claims t) (eval-at t) eval.Post
+returns-3 t c =
     let c6 = c .before .before .before .before .before .before in
     c6 .branch .ensures
 
-pub eval-iterate-requires : (t : ℕ) → eval-lts.Need-iterate-requires (eval-claims t) (eval-at t) eval.Post
-eval-iterate-requires t c κs =
+pub iterate-requires : (t : ℕ) → eval-lts.Need-iterate-requires (eval-claims t) (eval-at t) eval.Post
+iterate-requires t c κs =
     let c3 = c .before .before .before in
     let c14 = c3 .before .before .before .before .before .before .before .before .before .before .before in
     let m = c14 .pre .0 in
     (omega (arith, m), (c14 .pre .1, c3 .if4 .taken))
 
-pub eval-returns-4 : (t : ℕ) → eval-lts.Need-returns-4 (eval-claims t) (eval-at t) eval.Post
-eval-returns-4 t c =
+pub returns-4 : (t : ℕ) → eval-lts.Need-returns-4 (eval-claims t) (eval-at t) eval.Post
+returns-4 t c =
     let c6 = c .before .before .before .before .before .before in
     c6 .iterate .ensures
 
-pub eval-binary-requires : (t : ℕ) → eval-lts.Need-binary-requires (eval-claims t) (eval-at t) eval.Post
-eval-binary-requires t c κs =
+pub binary-requires : (t : ℕ) → eval-lts.Need-binary-requires (eval-claims t) (eval-at t) eval.Post
+binary-requires t c κs =
     let c3 = c .before .before .before in
     let c4 = c3 .before in
     let c5 = c4 .before in
@@ -80,7 +80,7 @@ eval-binary-requires t c κs =
     e)) (c4 .if3 .left) (c3 .if4 .left) in
     (omega (arith, m), (c14 .pre .1, z))
 
-pub eval-returns-5 : (t : ℕ) → eval-lts.Need-returns-5 (eval-claims t) (eval-at t) eval.Post
-eval-returns-5 t c =
+pub returns-5 : (t : ℕ) → eval-lts.Need-returns-5 (eval-claims t) (eval-at t) eval.Post
+returns-5 t c =
     let c6 = c .before .before .before .before .before .before in
     c6 .binary .ensures
