@@ -1,29 +1,30 @@
 -- The tables that the C calls write fit: read, swept or undone. So the writer need not look at them again.
 use mathlib.Core.Path.{_≡_, refl, ap, _∙_}
-use mathlib.Core.Bool.{Bool, true, _&&_}
+use mathlib.Core.Bool.{Bool, true}
 use mathlib.Core.List.{List, [], _∷_}
 use Prim.Native.Nat.{ℕ, suc, _<_}
 use native.Mathlib.Omega.{arith}
 use lib.Dec.{leb}
-use lib.ListN.{getD, take, drop}
+use lib.ListN.{getD}
 use borrow.Author.Tests.{le-leb}
-use Rattle.model.specs.Base.{pick, all, areBytes}
+use Rattle.model.specs.Base.{pick, areBytes}
 use Rattle.model.specs.Refusal as refusal
 use Rattle.model.specs.Stored.{Read, bad, got, readPlan}
 use Rattle.model.specs.Sweep.{swept}
 use Rattle.model.specs.Table as model
 use Rattle.model.specs.Undo.{Undo, refused, back, undo}
-use Rattle.model.proofs.BoolLaws.{and-both, and-right}
+use Rattle.model.proofs.BoolLaws.{and-both}
 use Rattle.model.proofs.StoredBack.{storedBack}
 use Rattle.model.proofs.SweepsWell.{sweepsWell}
 use Rattle.model.proofs.TableLaws.{isWell-by, well-empty}
 use Rattle.model.proofs.UndoKeeps.{undoKeeps}
-use Rattle.table.specs.Words.{decode, fits, isRowWord, isZero}
+use Rattle.table.specs.Words.{decode, fits}
 use Rattle.plan.specs.Calls as library
 use Rattle.table.specs.Results as results
 use Rattle.sweep.specs.Sweeping as sweeping
 use Rattle.table.specs.declared.Table.{Table}
 use Rattle.table.proofs.EncodeLaws.{fits-encode}
+use Rattle.table.proofs.FitsLaws.{well-decode}
 use Rattle.undo.specs.Undoing.{planUndone, undoneBy, asItWas}
 
 -- the elements of a slice of bytes are bytes
@@ -31,12 +32,6 @@ pub bytes-known : (l : List ℕ) → ((i : ℕ) → getD l i 0 < 256) → areByt
 unfolding areBytes
 bytes-known [] h = refl
 bytes-known (b ∷ l) h = and-both (leb b 255) (areBytes l) (le-leb b 255 (omega (arith, h 0))) (bytes-known l (λ i. h (suc i)))
-
--- what fits stands for a well-formed table
-well-decode : (t : Table) → fits t ≡ true → model.isWell (decode t) ≡ true
-well-decode t f =
-    and-right (leb (t .count) 512 && all isRowWord (take (t .count) (t .rows)) && all isZero (drop (t .count) (t .rows)))
-    (model.isWell (decode t)) f
 
 pub read-fits : (p : List ℕ) → areBytes p ≡ true → fits (library.planRead p .table) ≡ true
 read-fits p b = go (readPlan p) refl

@@ -1,17 +1,19 @@
 -- A text placed in an area: byte by byte, one text after another, a number digit by digit.
 use mathlib.Core.Path.{_≡_, refl, ap, sym, subst, _∙_}
 use mathlib.Core.Bool.{true, false}
-use mathlib.Core.List.{List, [], _∷_, _++_, append-assoc}
+use mathlib.Core.List.{List, [], _∷_, _++_}
 use Prim.Native.Nat.{ℕ, zero, suc, _+_, _/_, _%_, _^_, _≤_, _<_}
 use native.Mathlib.Nat.{pow-suc}
 use native.Mathlib.Numerals.{add-one}
 use native.Mathlib.Omega.{arith}
 use lib.Dec.{ltb}
 use lib.ListN.{length, getD, take, drop, set, length-append}
-use lib.Seq.{append-snoc, drop-append-add, drop-drop, length-take-le, paste, paste-suc, set-split, take-at, take-length}
+use lib.Seq.{append-snoc, paste, paste-suc, set-split, take-length}
 use borrow.Author.Tests.{lt-ltb, le-ltb}
+use Rattle.model.specs.Base.{over}
 use Rattle.model.proofs.BoolLaws.{by-cases}
-use Rattle.format.specs.Text.{ascii, digits, decimal, placed, Placed, Number, Field}
+use Rattle.model.proofs.ListLaws.{over-over}
+use Rattle.format.specs.Text.{ascii, digits, decimal, Placed, Number, Field}
 
 -- A COPY, byte by byte
 pub copy-next : (o d s : List ℕ) (i j : ℕ) → o ≡ paste d i s j → i + j < length d → j < length s →
@@ -37,28 +39,11 @@ placed-byte o i x h =
     }
 
 -- ONE TEXT AFTER ANOTHER
-module _ (o : List ℕ) (i : ℕ) (s t : List ℕ) (h : i ≤ length o) where
-  head-length : length (take i o ++ s) ≡ i + length s
-  head-length = length-append (take i o) s ∙ ap (λ (n : ℕ). n + length s) (length-take-le i o h)
-
-  then-area : placed (placed o i s) (i + length s) t ≡ placed o i (s ++ t)
-  then-area =
-      ap (λ (x : List ℕ). x ++ t ++ drop (i + length s + length t) (placed o i s))
-      (take-at (take i o ++ s) (drop (i + length s) o) (i + length s) head-length) ∙
-      ap (λ (x : List ℕ). take i o ++ s ++ t ++ x)
-      (ap (λ (n : ℕ). drop (n + length t) (placed o i s)) (sym head-length) ∙
-      drop-append-add (take i o ++ s) (drop (i + length s) o) (length t) ∙ drop-drop (length t) (i + length s) o ∙
-      ap (λ (n : ℕ). drop n o) (sym past)) ∙
-      ap (λ (x : List ℕ). x ++ drop (i + length (s ++ t)) o) (append-assoc (take i o) s t)
-    where
-      past : i + length (s ++ t) ≡ i + length s + length t
-      past = omega (arith, length-append s t)
-
 pub placed-then : {o s t o′ o″ : List ℕ} {i r q : ℕ} → i ≤ length o → Placed o i s o′ r → Placed o′ r t o″ q → Placed o i (s ++ t) o″ q
 placed-then {o} {s} {t} {i = i} {r = r} h a b =
     record {
       area =
-          b .area ∙ ap (λ (x : List ℕ). placed x r t) (a .area) ∙ ap (λ (n : ℕ). placed (placed o i s) n t) (a .next) ∙ then-area o i s t h;
+          b .area ∙ ap (over r t) (a .area) ∙ ap (λ (n : ℕ). over n t (over i s o)) (a .next) ∙ over-over i s t o h;
       next = omega (arith, length-append s t, a .next, b .next);
     }
 

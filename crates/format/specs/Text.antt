@@ -6,8 +6,8 @@ use Prim.Native.Nat.{ℕ, zero, suc, _+_, _-_, _*_, _/_, _%_, _≤_, _<_}
 use Prim.Native.Char.{code}
 use Prim.Native.String.{String, len, charAt}
 use lib.Dec.{ltb}
-use lib.ListN.{length, getD, take, drop}
-use Rattle.model.specs.Base.{pick, isIn, all}
+use lib.ListN.{length, getD}
+use Rattle.model.specs.Base.{pick, isIn, all, over}
 
 -- THE BYTES of a fixed word
 abbrev pub codesFrom : (count at : ℕ) → String → List ℕ
@@ -30,13 +30,9 @@ decimal n = digits 20 n
 abbrev pub field : (n : ℕ) → List ℕ
 field n = ascii " " ++ decimal n
 
--- A TEXT PLACED in an area; the bytes around it stay
-abbrev pub placed : (area : List ℕ) → (at : ℕ) → (text : List ℕ) → List ℕ
-placed o i s = take i o ++ s ++ drop (i + length s) o
-
--- the area after it, and the place past it
+-- A TEXT PLACED in an area, the bytes around it as they were: the area after it, and the place past it
 pub record Placed (o : List ℕ) (i : ℕ) (s o′ : List ℕ) (r : ℕ) : Type 0 where
-  pub area : o′ ≡ placed o i s
+  pub area : o′ ≡ over i s o
   pub next : r ≡ i + length s
 
 -- THE PARTS: what each leaves

@@ -26,10 +26,9 @@ over-grown A B o k h =
     ap (λ (l : List ℕ). A ++ B ++ l)
     (ap (λ (j : ℕ). drop (j + length B) (A ++ drop k o)) (sym h) ∙ drop-append-add A (drop k o) (length B) ∙ drop-drop (length B) k o)
 
-pub over-over : (s : ℕ) (B C o : List ℕ) → s + length B ≤ length o → over (s + length B) C (over s B o) ≡ over s (B ++ C) o
+pub over-over : (s : ℕ) (B C o : List ℕ) → s ≤ length o → over (s + length B) C (over s B o) ≡ over s (B ++ C) o
 over-over s B C o h =
-    let l : length (take s o ++ B) ≡ s + length B = length-append (take s o) B ∙ ap (λ (j : ℕ). j + length B) (length-take-le s o (omega
-    arith)) in
+    let l : length (take s o ++ B) ≡ s + length B = length-append (take s o) B ∙ ap (λ (j : ℕ). j + length B) (length-take-le s o h) in
     over-grown (take s o ++ B) C o (s + length B) l ∙
     ap (λ (v : List ℕ). v ++ drop (s + length B + length C) o) (append-assoc (take s o) B C) ∙
     ap (λ (j : ℕ). take s o ++ (B ++ C) ++ drop j o) total

@@ -60,9 +60,8 @@ module _ (ws : List ℕ) (n i : ℕ) (within : n ≤ length ws) (h : i < n) wher
       (rowsOf n ws))) o
   rows-grown o room =
       let e : 4 * i ≡ 0 + length (rowsBytes (take i (rowsOf n ws))) = omega (arith, length-rows) in
-      let g : 0 + length (rowsBytes (take i (rowsOf n ws))) ≤ length o = omega arith in
       ap (λ (j : ℕ). over j (rowBytes (rowOf (getD ws i 0))) (over 0 (rowsBytes (take i (rowsOf n ws))) o)) e ∙
-      over-over 0 (rowsBytes (take i (rowsOf n ws))) (rowBytes (rowOf (getD ws i 0))) o g ∙
+      over-over 0 (rowsBytes (take i (rowsOf n ws))) (rowBytes (rowOf (getD ws i 0))) o (omega arith) ∙
       ap (λ (b : List ℕ). over 0 b o)
       (sym (ap rowsBytes (rows-next ws n i within h) ∙ rowsBytes-snoc (take i (rowsOf n ws)) (rowOf (getD ws i 0))))
 
@@ -96,7 +95,7 @@ module _ (ms : List ℕ) (d : ℕ) (h : d < length ms) where
       over (start + length (marksBytes 0 (map linked (take d ms)))) (markBytes d (linked (getD ms d 0)))
       (over start (marksBytes 0 (map linked (take d ms))) o) ≡ over start (marksBytes 0 (map linked (take (d + 1) ms))) o
   marks-grown o start g =
-      over-over start (marksBytes 0 (map linked (take d ms))) (markBytes d (linked (getD ms d 0))) o g ∙
+      over-over start (marksBytes 0 (map linked (take d ms))) (markBytes d (linked (getD ms d 0))) o (omega arith) ∙
       ap (λ (b : List ℕ). over start b o) (sym marks-next)
 
 -- a mark's record

@@ -63,9 +63,8 @@ module _ (n : ℕ) (ws ms : List ℕ) (within : n ≤ length ws) where
       stored (decodeParts n ws ms) ++ drop (length (stored (decodeParts n ws ms))) o
   stored-over o h =
       let l : 4 * n ≡ 0 + length (rowsBytes (rowsOf n ws)) = omega (arith, length-rowsBytes (rowsOf n ws), count-decode n ws ms within) in
-      let g : 0 + length (rowsBytes (rowsOf n ws)) ≤ length o = omega arith in
       ap (λ (j : ℕ). over j (marksBytes 0 (map linked ms)) (over 0 (rowsBytes (rowsOf n ws)) o)) l ∙
-      over-over 0 (rowsBytes (rowsOf n ws)) (marksBytes 0 (map linked ms)) o g ∙
+      over-over 0 (rowsBytes (rowsOf n ws)) (marksBytes 0 (map linked ms)) o (omega arith) ∙
       ap (λ (j : ℕ). stored (decodeParts n ws ms) ++ drop j o) (zero-add (length (stored (decodeParts n ws ms))))
 
 -- THE LENGTH: four bytes for each row and each mark

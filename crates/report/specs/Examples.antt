@@ -2,14 +2,9 @@
 use mathlib.Core.Path.{_≡_}
 use mathlib.Core.List.{List, [], _∷_}
 use Prim.Native.Nat.{ℕ}
-use Rattle.model.specs.Cases.{bytesA, bytesB}
+use Rattle.model.specs.Cases.{bytesP, bytesA, bytesB}
 use Rattle.format.specs.Text.{ascii}
 use Rattle.report.specs.Pair.{pairText}
-
-abbrev pub bytesP : List ℕ
-bytesP =
-    0x11 ∷ 0x01 ∷ 0xFF ∷ 0xFF ∷ 0x11 ∷ 0x02 ∷ 0x00 ∷ 0x00 ∷ 0x12 ∷ 0xFE ∷ 0x01 ∷ 0x00 ∷ 0x11 ∷ 0x03 ∷ 0x00 ∷ 0x00 ∷ 0x13 ∷ 0x00 ∷ 0x00 ∷
-    0x00 ∷ []
 
 -- an insert whose target is the empty value: 7
 abbrev pub bytesNoTarget : List ℕ

@@ -1,8 +1,8 @@
 -- After `answer free` the lines of both orders have the same numbers, or both say refused.
 use mathlib.Core.Path.{_≡_, refl, ap, sym, _∙_}
 use mathlib.Core.Bool.{Bool, true, _&&_, false≢true}
-use mathlib.Core.List.{List, [], _∷_}
-use Prim.Native.Nat.{ℕ, suc}
+use mathlib.Core.List.{List}
+use Prim.Native.Nat.{ℕ}
 use native.Mathlib.Omega.{arith}
 use lib.ListN.{length}
 use Rattle.model.specs.Base.{pick, areBytes}
@@ -12,10 +12,11 @@ use Rattle.model.specs.Script.{Expr, Parsed, ill, parsed, readScript}
 use Rattle.model.specs.Run.{State, Out, stop, gives, runOn}
 use Rattle.model.specs.Meeting.{answer, free}
 use Rattle.model.specs.Call.{answered, firstBy, runBy}
-use Rattle.model.specs.Promise.{ends, tableOf, answerOf, orderEnds, matchedAll}
+use Rattle.model.specs.Promise.{ends, tableOf, answerOf, orderEnds}
 use Rattle.model.proofs.StopLaws.{stop-refuses}
 use Rattle.model.proofs.RunsBack.{runsBack}
 use Rattle.model.proofs.StoredBack.{storedBack}
+use Rattle.model.proofs.CallsCommute.{length-matchedAll}
 use Rattle.model.proofs.FreeCommutes.{freeCommutes}
 use Rattle.table.specs.Words.{encode, decode}
 use Rattle.sequence.specs.Orders.{endingBy, ending, orderThen, orderFrom, order, swap}
@@ -72,12 +73,6 @@ ended-swap : (y : Order) → hasEnded (swap y) ≡ hasEnded y
 ended-swap (Stopped s n) = refl
 ended-swap (Ended i j r) = refl
 
--- equal numbers make equal orders
-length-matched : (n a b : ℕ) (v : List ℕ) → length (matchedAll n a b v) ≡ length v
-unfolding matchedAll
-length-matched n a b [] = refl
-length-matched n a b (i ∷ v) = ap suc (length-matched n a b v)
-
 alike : (o o₂ q q₂ : Out) → (ends o && ends o₂) ≡ true → (ends q && ends q₂) ≡ true → length (answerOf q₂) ≡ length (answerOf o) →
     length (answerOf q) ≡ length (answerOf o₂) → count (tableOf o₂) ≡ count (tableOf q₂) → orderBy o o₂ ≡ swap (orderBy q q₂)
 unfolding orderBy
@@ -116,7 +111,7 @@ freeLines p b c x bytes bytesB bytesC read says = go (readScript b) (readScript 
               let O = C .1 g in
               one ∙
               alike (runOn x e) (runOn (tableOf (runOn x e)) f) (runOn x f) (runOn (tableOf (runOn x f)) e) g (sym (C .0) ∙ g)
-              (ap length (O .2) ∙ length-matched _ _ _ _) (ap length (O .3) ∙ length-matched _ _ _ _) (O .6 .0) ∙
+              (ap length (O .2) ∙ length-matchedAll _ _ _ _) (ap length (O .3) ∙ length-matchedAll _ _ _ _) (O .6 .0) ∙
               sym (ap swap two),
         )
 
