@@ -18,7 +18,8 @@ flags-none f fs e n =
       size = ap length e;
       none = ap (λ (l : List ℕ). getD l 0 0) e;
       flags = λ k h.
-          ap (λ (l : List ℕ). getD l (k + 1) 0) e ∙ getD-replicate 513 (k + 1) 0 0 (omega arith) ∙ ap (λ (t : Bool). pick t 1 0) (sym (n k));
+          ap (λ (l : List ℕ). getD l (k + 1) 0) e ∙ getD-replicate 513 (k + 1) 0 0 (omega arith) ∙
+          ap (λ (t : Bool). pick t 1 0) (sym (n k));
     }
 
 pub flags-more : (f g : ℕ → Bool) (fs : List ℕ) (link : ℕ) → 0 < link → link < 513 → ((k : ℕ) → link ≡ k + 1 → g k ≡ true) →
