@@ -23,7 +23,8 @@ use Rattle.table.proofs.WordLaws.{linked-linkOf, count-decode, rowAt-decode, Ca
 use Rattle.undo.specs.Undoing.{cutIn, madeIn, undoing, FitPre, BackPre, BackPost, AllPre, AllPost}
 use Rattle.undo.specs.declared.undoing.BackEnd.{BackEnd}
 use Rattle.updates.proofs.StateLaws.{row-word, rowsOf-set, canonical-set}
-use Rattle.updates.proofs.InsertLaws.{relinked-row, relinked-word, rows-take}
+use Rattle.updates.proofs.InsertLaws.{rows-take}
+use Rattle.updates.proofs.UpdateLaws.{relinked-row, relinked-word}
 
 -- THE RECORD at the front, by its kind
 module _ (x : model.Table) (s : List ℕ) where

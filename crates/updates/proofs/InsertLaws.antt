@@ -11,7 +11,7 @@ use lib.Dec.{ltb, eqb}
 use lib.ListN.{length, getD, take, set}
 use lib.Seq.{getD-set-same, getD-set-other, ext-getD, take-take}
 use borrow.Author.Tests.{lt-ltb, eq-eqb, ne-eqb, ltb-true, ltb-false, eqb-true, eqb-false}
-use Rattle.model.specs.Base.{pick, isIn}
+use Rattle.model.specs.Base.{pick}
 use Rattle.model.specs.Table as model
 use Rattle.model.specs.Run.{State, Out, stop, gives, newRow, withMade, thenRow}
 use Rattle.model.proofs.BoolLaws.{by-cases, pick-true, pick-false, and-both}
@@ -24,27 +24,8 @@ use Rattle.updates.specs.Updating.{NewPre}
 use Rattle.updates.specs.Inserting.{before, nextLink, copyBy, IsCopy, Mapped, NextPre, NextPost}
 use Rattle.updates.specs.declared.state.Progress.{Progress}
 use Rattle.updates.proofs.StateLaws.{row-word, held-count, after-self, outcome-gives}
-use Rattle.updates.proofs.UpdateLaws.{newRow-full, newRow-over, newRow-room}
+use Rattle.updates.proofs.UpdateLaws.{relinked-row, relinked-word, newRow-full, newRow-over, newRow-room}
 use Rattle.updates.proofs.InsertLawsScan.{linked-at}
-
--- A WORD with another link is the row with another parent
-module _ (w l : ℕ) (small : l < 1024) where
-  abbrev other : ℕ
-  other = w % 4 + 4 * l + 4096 * (w / 4096)
-
-  other-kind : other % 4 ≡ w % 4
-  other-kind = omega arith
-
-  pub relinked-row : rowOf other ≡ model.withParent (rowOf w) (linked l)
-  relinked-row =
-      let b : other / 4096 ≡ w / 4096 = omega arith in
-      let d : other / 4 ≡ l + 1024 * (w / 4096) = omega arith in
-      let e : (l + 1024 * (w / 4096)) % 1024 ≡ l = omega arith in
-      let c : other / 4 % 1024 ≡ l = ap (λ (j : ℕ). j % 1024) d ∙ e in
-      λ i. record { isLeaf = eqb (other-kind i) 2; tag = b i; parent = linked (c i) }
-
-  pub relinked-word : isRowWord w ≡ true → isRowWord other ≡ true
-  relinked-word h = ap (isIn 1 2) other-kind ∙ h
 
 -- STATES after a new row
 pub then-state : (o : Out) (u : State) → gives [] u ≡ thenRow o (λ (t : State). gives [] t) → (v : List ℕ) × (o ≡ gives v u)

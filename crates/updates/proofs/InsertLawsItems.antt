@@ -24,8 +24,8 @@ use Rattle.updates.specs.Inserting.{before, copiedIn, IsCopy, RestPre, R
 use Rattle.updates.specs.declared.state.Progress.{Progress}
 use Rattle.updates.proofs.StateLaws.{row-word, held-count, after-self, after-then, outcome-gives, outcome-stop, updated-stopped}
 use Rattle.updates.proofs.InsertLawsScan.{descendants-past}
-use Rattle.updates.proofs.InsertLaws.{relinked-row, relinked-word, made-state, made-count, made-old, made-new, before-decode}
-use Rattle.updates.proofs.InsertLaws.{row-before, rows-kept}
+use Rattle.updates.proofs.InsertLaws.{made-state, made-count, made-old, made-new, before-decode, row-before, rows-kept}
+use Rattle.updates.proofs.UpdateLaws.{relinked-row, relinked-word}
 use Rattle.updates.proofs.InsertLawsRest.{lower-before}
 
 -- THE TOP FIRST, then the rows past it

@@ -194,19 +194,26 @@ module _ (z i : ℕ) (is : List ℕ) (s : State) where
     unfolding cutAll
     cut-room h = rw (e, lt-ltb (length (s .history)) 2048 h)
 
--- A LINK CUT. A row's word without its link is the row without parent
-unlinked-row : (w : ℕ) → rowOf (w % 4 + 4096 * (w / 4096)) ≡ model.withParent (rowOf w) none
-unlinked-row w =
-    let a : (w % 4 + 4096 * (w / 4096)) % 4 ≡ w % 4 = omega arith in
-    let b : (w % 4 + 4096 * (w / 4096)) / 4096 ≡ w / 4096 = omega arith in
-    let d : (w % 4 + 4096 * (w / 4096)) / 4 ≡ 1024 * (w / 4096) = omega arith in
-    let e : 1024 * (w / 4096) % 1024 ≡ 0 = omega arith in
-    let c : (w % 4 + 4096 * (w / 4096)) / 4 % 1024 ≡ 0 = ap (λ (j : ℕ). j % 1024) d ∙ e in
-    λ i. record { isLeaf = eqb (a i) 2; tag = b i; parent = linked (c i) }
+-- A WORD with another link is the row with another parent
+module _ (w l : ℕ) (small : l < 1024) where
+  abbrev other : ℕ
+  other = w % 4 + 4 * l + 4096 * (w / 4096)
 
-unlinked-word : (w : ℕ) → isRowWord w ≡ true → isRowWord (w % 4 + 4096 * (w / 4096)) ≡ true
-unlinked-word w h = let a : (w % 4 + 4096 * (w / 4096)) % 4 ≡ w % 4 = omega arith in ap (isIn 1 2) a ∙ h
+  other-kind : other % 4 ≡ w % 4
+  other-kind = omega arith
 
+  pub relinked-row : rowOf other ≡ model.withParent (rowOf w) (linked l)
+  relinked-row =
+      let b : other / 4096 ≡ w / 4096 = omega arith in
+      let d : other / 4 ≡ l + 1024 * (w / 4096) = omega arith in
+      let e : (l + 1024 * (w / 4096)) % 1024 ≡ l = omega arith in
+      let c : other / 4 % 1024 ≡ l = ap (λ (j : ℕ). j % 1024) d ∙ e in
+      λ i. record { isLeaf = eqb (other-kind i) 2; tag = b i; parent = linked (c i) }
+
+  pub relinked-word : isRowWord w ≡ true → isRowWord other ≡ true
+  relinked-word h = ap (isIn 1 2) other-kind ∙ h
+
+-- A LINK CUT
 module _ {ws h : List ℕ} {p : Progress} {i : ℕ} (pre : CutPre ws h p i) where
   abbrev word : ℕ
   word = getD ws i 0
@@ -246,7 +253,7 @@ module _ {ws h : List ℕ} {p : Progress} {i : ℕ} (pre : CutPre ws h p i) wher
       cutEntry = cutRecord i (link - 1)
 
       abbrev cutWord : ℕ
-      cutWord = word % 4 + 4096 * (word / 4096)
+      cutWord = word % 4 + 4 * 0 + 4096 * (word / 4096)
 
       abbrev cutRows : List ℕ
       cutRows = set ws i cutWord
@@ -271,7 +278,7 @@ module _ {ws h : List ℕ} {p : Progress} {i : ℕ} (pre : CutPre ws h p i) wher
           ap (λ (rs : List model.Row). model.table rs (map linked ms))
           (rowsOf-set (p .count) ws (pre .held .canonical) cut-within i (pre .row) cutWord ∙
           ap (set (rowsOf (p .count) ws) i)
-          (unlinked-row word ∙
+          (relinked-row word 0 (omega arith) ∙
           ap (λ (r : model.Row). model.withParent r none) (sym (rowAt-decode (p .count) ws ms cut-within i (pre .row)))))
 
       state-cut : (ms : List ℕ) → stateOf cutRows ms cutHistory cutAfter ≡ cutRow (stateOf ws ms h p) i (link - 1)
@@ -295,7 +302,7 @@ module _ {ws h : List ℕ} {p : Progress} {i : ℕ} (pre : CutPre ws h p i) wher
             few = pre .held .few;
             canonical =
                 canonical-set (p .count) ws (pre .held .canonical) cut-within i (pre .row) cutWord
-                (unlinked-word word (row-word (p .count) ws (pre .held .canonical) cut-within i (pre .row)));
+                (relinked-word word 0 (omega arith) (row-word (p .count) ws (pre .held .canonical) cut-within i (pre .row)));
             tree = tree-cut;
             size = omega (arith, pre .held .size);
             history =

@@ -62,13 +62,6 @@ pub fn relinked(w: u32, link: usize) -> u32
     w % 4 + 4 * (link as u32) + 4096 * (w / 4096)
 }
 
-// A row's word without its parent.
-fn unlinked(w: u32) -> u32
-    ensures { λ r. ⌜ r ≡ w % 4 + 4096 * (w / 4096) ⌝ }
-{
-    w % 4 + 4096 * (w / 4096)
-}
-
 // Row i cut from its parent, if it has one, with a record: 9 when the history is full.
 fn cut_row(rows: &mut [u32], history: &mut [u8], p: Progress, i: usize) -> Progress
     requires { ⌜ CutPre (now rows) (now history) p i ⌝ }
@@ -83,7 +76,7 @@ fn cut_row(rows: &mut [u32], history: &mut [u8], p: Progress, i: usize) -> Progr
     if Table::HISTORY_RECORDS <= p.made + p.cut {
         return p.refused(Fault::HISTORY);
     }
-    rows[i] = unlinked(w);
+    rows[i] = relinked(w, 0);
     history::put_cut(history, at, i, link - 1);
     Progress {
         number: 0,

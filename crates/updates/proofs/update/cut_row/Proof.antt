@@ -35,8 +35,8 @@ returns-2 c =
     cut-full (c .before .before .before .before .before .before .before .before .pre) (has-parent (c .before .before .before))
     (c .before .if2 .taken) (c .refused .ensures)
 
-unlinked-requires : tie.Need-unlinked-requires
-unlinked-requires c κs = search needs
+relinked-requires : tie.Need-relinked-requires
+relinked-requires c κs = search needs
 
 mul-rows : tie.Need-mul-rows
 mul-rows c = search needs
@@ -97,7 +97,7 @@ returns-3 c =
     (c .before .before .before .before .before .before .before .before)) (omega (
       arith,
       c .before .before .before .before .before .before .if2 .left,
-    )) (c .before .before .before .before .before .unlinked .ensures)
+    )) (c .before .before .before .before .before .relinked .ensures)
     (c .before .before .before .before .before .before .before .before .before .link .ensures)
     (c .before .before .before .put-cut .ensures)
 
@@ -112,7 +112,7 @@ cut-row-spec =
     add-if2
     refused-requires
     returns-2
-    unlinked-requires
+    relinked-requires
     mul-rows
     slice-write-rows
     sub-put-cut
