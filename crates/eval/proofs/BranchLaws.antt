@@ -13,11 +13,12 @@ use Rattle.script.specs.Walk.{endAt, secondAt, thirdAt, exprAt}
 use Rattle.script.proofs.AcceptedLaws.{accepted-at}
 use Rattle.updates.specs.State.{stateOf}
 use Rattle.query.specs.Values.{valueAt}
+use Rattle.query.proofs.PickLaws.{value-none}
 use Rattle.updates.specs.declared.state.Progress.{Progress}
 use Rattle.operators.specs.Evaluating.{boundValues, movedTo, Fine, EvalPre, EvalPost}
 use Rattle.operators.specs.declared.value.Span.{Span}
 use Rattle.operators.specs.declared.record.Evaluated.{Evaluated}
-use Rattle.operators.proofs.ValueLaws.{value-none, length-value}
+use Rattle.operators.proofs.ValueLaws.{length-value}
 use Rattle.operators.proofs.YieldLaws.{yields-as, yields-gives, yields-stop, stop-yields, moved-yields, fine-between, yields-after}
 use Rattle.eval.proofs.OperandLaws.{if-operands}
 use Rattle.eval.proofs.EvalLaws.{operand-asks, good, same-bound, next-asks}

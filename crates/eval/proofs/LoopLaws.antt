@@ -17,6 +17,7 @@ use Rattle.script.specs.Walk.{inner, endAt, secondAt, exprAt}
 use Rattle.script.proofs.AcceptedLaws.{accepted-record, accepted-at}
 use Rattle.updates.specs.State.{stateOf}
 use Rattle.query.specs.Values.{valueAt}
+use Rattle.query.proofs.PickLaws.{value-none}
 use Rattle.updates.specs.declared.state.Progress.{Progress}
 use Rattle.updates.proofs.StateLaws.{after-self}
 use Rattle.operators.specs.Evaluating.{boundValues, InScope, BindPre, BindPost, limitedBy, movedTo, Fine, BinaryPre, BinaryPost}
@@ -24,7 +25,7 @@ use Rattle.operators.specs.Evaluating.{EvalPre, EvalPost}
 use Rattle.eval.specs.Loops.{bodyRun, EachPre, EachPost}
 use Rattle.operators.specs.declared.value.Span.{Span}
 use Rattle.operators.specs.declared.record.Evaluated.{Evaluated}
-use Rattle.operators.proofs.ValueLaws.{value-same, value-none, value-one, value-append}
+use Rattle.operators.proofs.ValueLaws.{value-same, value-one, value-append}
 use Rattle.operators.proofs.YieldLaws.{yields-as, yields-gives, yields-stop, stop-yields, moved-yields, fine-between, between-then}
 use Rattle.operators.proofs.YieldLaws.{yields-after, limited-yields}
 use Rattle.eval.proofs.OperandLaws.{for-operands}

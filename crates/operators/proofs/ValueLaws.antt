@@ -42,14 +42,11 @@ take-few zero v = omega arith
 take-few (suc k) [] = omega arith
 take-few (suc k) (x ∷ xs) = let l = take-few k xs in omega (arith, l)
 
--- the length, none, one, two one behind the other
+-- the length, one, two one behind the other
 pub length-value : (w : List ℕ) (i j : ℕ) → i ≤ j → j ≤ length w → length (valueAt w i j) ≡ j - i
 length-value w i j l m =
     let k : j - i ≤ length (drop i w) = omega (arith, length-drop i w) in
     length-take-le (j - i) (drop i w) k
-
-pub value-none : (w : List ℕ) (i : ℕ) → valueAt w i i ≡ []
-value-none w i = let e : i - i ≡ 0 = omega arith in ap (λ (k : ℕ). take k (drop i w)) e
 
 pub value-one : (w : List ℕ) (i j : ℕ) → j - i ≡ 1 → i < length w → valueAt w i j ≡ getD w i 0 ∷ []
 value-one w i j e l = ap (λ (k : ℕ). take k (drop i w)) e ∙ ap (take 1) (drop-cons w i 0 l)

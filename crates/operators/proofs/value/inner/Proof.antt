@@ -3,7 +3,7 @@ use borrow.Author.Needs.{needs}
 use Rattle.operators.proofs.value.inner.Statement.{statement}
 use Rattle.operators.proofs.value.inner.Tie as tie
 use mathlib.Core.Path.{sym, _∙_}
-use Rattle.operators.proofs.RecordLaws.{inner-more, inner-same}
+use Rattle.script.proofs.BindLaws.{inner-more, inner-same}
 
 is-binder-requires : tie.Need-is-binder-requires
 is-binder-requires c κs = search needs
