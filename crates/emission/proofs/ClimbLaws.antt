@@ -7,13 +7,13 @@ use native.Mathlib.Omega.{arith}
 use lib.Dec.{leb, eqb}
 use lib.ListN.{length, getD, take, length-map, List·getD-map}
 use lib.Seq.{take-suc, take-all}
-use borrow.Author.Tests.{eqb-true}
+use borrow.Author.Tests.{eqb-true, not-true}
 use Rattle.model.specs.Base.{pick, any}
 use Rattle.model.specs.Script.{Step, stepBy, Expr, nil, document, var, step, both, letIn, forIn, ifIn, element, leaf, delete}
 use Rattle.model.specs.Script.{insert, choose}
 use Rattle.model.specs.Paths.{anyBelow, isUp, hasUp}
 use Rattle.model.proofs.BoolLaws.{by-cases, and-right}
-use Rattle.model.proofs.ListLaws.{any-append}
+use Rattle.model.proofs.ListLaws.{any-snoc}
 use Rattle.emission.specs.Positions as positions
 use Rattle.emission.specs.Positions.{nowhere, root, over, union, Entry, plain, accessing, modifying, entryAt, isClimb, Emitted}
 use Rattle.emission.specs.Positions.{pushStep, pushUnion, pushDelete, pushBelow, emit, entriesBefore, entriesOf}
@@ -55,20 +55,15 @@ any-upto es zero h = refl
 any-upto es (suc n) h =
     let l : n < length es = omega arith in
     ap (λ (t : Bool). t || climbs (entryAt es n)) (any-upto es n (omega arith)) ∙
-    sym (ap (any climbs) (take-suc es n (plain nowhere) l) ∙ any-append climbs (take n es) (entryAt es n ∷ []) ∙
-    ap (λ (t : Bool). any climbs (take n es) || t) (or-false (climbs (entryAt es n))))
+    sym (ap (any climbs) (take-suc es n (plain nowhere) l) ∙ any-snoc climbs (take n es) (entryAt es n))
 
 climbing-any : (ws : List ℕ) → climbing ws ≡ any climbs (entriesBy ws)
 climbing-any ws =
     ap (anyUpTo (climbAt ws)) (sym (length-map ws entryOf)) ∙ any-upto (entriesBy ws) (length (entriesBy ws)) (omega arith) ∙
     ap (any climbs) (take-all (length (entriesBy ws)) (entriesBy ws) (omega arith))
 
-any-push : (es : List Entry) (x : Entry) → any climbs (es ++ (x ∷ [])) ≡ (any climbs es || climbs x)
-unfolding any
-any-push es x = any-append climbs es (x ∷ []) ∙ ap (λ (t : Bool). any climbs es || t) (or-false (climbs x))
-
 any-plain : (es : List Entry) (x : Entry) → climbs x ≡ false → any climbs (es ++ (x ∷ [])) ≡ any climbs es
-any-plain es x e = any-push es x ∙ ap (λ (t : Bool). any climbs es || t) e ∙ or-false (any climbs es)
+any-plain es x e = any-snoc climbs es x ∙ ap (λ (t : Bool). any climbs es || t) e ∙ or-false (any climbs es)
 
 -- RECORDS: a step's entry leads up where the step does, and no other record's does
 step-climbs : (s : Step) (x : Emitted) → any climbs (pushStep s x .entries) ≡ (any climbs (x .entries) || isUp s)
@@ -76,11 +71,7 @@ step-climbs s x =
     picked (eqb (x .result) 0 && not (isUp s)) (λ (y : Emitted). any climbs (y .entries) ≡ (any climbs (x .entries) || isUp s)) _ _
     (λ e. sym (ap (λ (t : Bool). any climbs (x .entries) || t) (not-true (isUp s) (and-right (eqb (x .result) 0) (not (isUp s)) e)) ∙
     or-false (any climbs (x .entries))))
-    (λ e. any-push (x .entries) _)
-  where
-    not-true : (t : Bool) → not t ≡ true → t ≡ false
-    not-true true e = sym e
-    not-true false e = refl
+    (λ e. any-snoc climbs (x .entries) _)
 
 union-climbs : (r : ℕ) (y : Emitted) → any climbs (pushUnion r y .entries) ≡ any climbs (y .entries)
 union-climbs r y =
@@ -107,7 +98,7 @@ twice e f ns ms es h g = g ∙ ap (λ (t : Bool). t || hasUp f) h ∙ or-assoc (
 emit-climbs : (e : Expr) (ns : List ℕ) (es : List Entry) → any climbs (emit e ns es .entries) ≡ (any climbs es || hasUp e)
 unfolding emit hasUp
 emit-climbs (nil z) ns es = sym (or-false (any climbs es))
-emit-climbs (document z d) ns es = any-push es _
+emit-climbs (document z d) ns es = any-snoc climbs es _
 emit-climbs (var z v) ns es = sym (or-false (any climbs es))
 emit-climbs (step z s e) ns es =
     step-climbs s (emit e ns es) ∙ ap (λ (t : Bool). t || isUp s) (emit-climbs e ns es) ∙ or-assoc (any climbs es) (hasUp e) (isUp s) ∙

@@ -4,13 +4,13 @@ use mathlib.Core.Bool.{true, false}
 use mathlib.Core.List.{List}
 use Prim.Native.Nat.{ℕ, _+_, _<_}
 use native.Mathlib.Omega.{arith}
-use native.Mathlib.Numerals.{add-one}
 use lib.Dec.{eqb}
-use lib.ListN.{getD, take, set, length-set}
-use lib.Seq.{take-suc-set, getD-set-same, getD-set-other}
+use lib.ListN.{getD, set, length-set}
+use lib.Seq.{getD-set-same, getD-set-other}
 use borrow.Author.Tests.{ne-eqb, eqb-true, eqb-false}
 use Rattle.model.specs.Script as model
 use Rattle.model.proofs.BoolLaws.{by-cases}
+use Rattle.script.proofs.BindLaws.{withBound-set, withBound-same}
 use Rattle.script.specs.Walk.{inner}
 use Rattle.emission.specs.Positions.{accessing, root}
 use Rattle.emission.specs.Positions as positions
@@ -108,7 +108,7 @@ module _ (k : ℕ) (env : List ℕ) (v r : ℕ) (pre : BindPre k env v r) where
   bind-one t =
       record {
         size = length-set env v r ∙ pre .size;
-        is = rw t (ap (λ (n : ℕ). take n (set env v r)) (add-one v) ∙ take-suc-set env v r (omega (arith, pre .size, pre .scope t)));
+        is = withBound-set k env v r t (omega (arith, pre .size, pre .scope t));
         low = λ n h g u l. by-cases (eqb u v)
             (λ q. here n h u (eqb-true u v q)) (λ q. other n g u (eqb-false u v q) (rw t at l));
       }
@@ -126,4 +126,4 @@ module _ (k : ℕ) (env : List ℕ) (v r : ℕ) (pre : BindPre k env v r) where
 
   pub bind-none : model.isBinder k ≡ false → BindPost k env v r env
   unfolding inner
-  bind-none t = record { size = pre .size; is = rw t; low = λ n h g u l. g u (rw t at l) }
+  bind-none t = record { size = pre .size; is = withBound-same k env v r t; low = λ n h g u l. g u (rw t at l) }

@@ -19,7 +19,7 @@ use Rattle.query.specs.Values.{valueAt}
 use Rattle.operators.specs.Evaluating.{noSpan, spanOf, spanValue, boundValues, SpanFits, InScope, BindPost, MarksHeld}
 use Rattle.operators.specs.declared.value.Span.{Span}
 use Rattle.operators.proofs.ValueLaws.{value-same}
-use Rattle.operators.proofs.RecordLaws.{inner-more, inner-same}
+use Rattle.script.proofs.BindLaws.{inner-more, inner-same}
 
 -- MARKS stay within a table that grows
 pub marks-more : {ms : List ℕ} {c d : ℕ} → MarksHeld ms c → c ≤ d → MarksHeld ms d

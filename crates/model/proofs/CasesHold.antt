@@ -10,7 +10,8 @@ use Rattle.model.specs.Meeting.{cell, startCells, stepCells}
 use Rattle.model.specs.Cases.{Cases}
 
 pub casesHold : Cases
-unfolding any all among readFrom lastMarked parseFrom isBelowFrom stepFrom picked run loop cutAll copyAll copyEach copyOf descendantsFrom infer withStep prefixed prefixesOf hasUp cell startCells stepCells
+unfolding any all among readFrom lastMarked parseFrom isBelowFrom stepFrom picked run loop cutAll copyAll copyEach copyOf
+    descendantsFrom infer withStep prefixed prefixesOf hasUp cell startCells stepCells
 casesHold = (
   (refl, refl, refl, refl, refl, refl, refl, refl, refl),
   refl,

@@ -1,6 +1,6 @@
 -- The paths that document 03 infers, with their steps in order, are ours; so are their prefixes, up to order, and the rows on them.
 use mathlib.Core.Path.{_≡_, refl, sym, ap, _∙_}
-use mathlib.Core.Bool.{Bool, true, false, _&&_, _||_}
+use mathlib.Core.Bool.{Bool, true, false, _&&_, _||_, or-comm, or-false, or-assoc}
 use mathlib.Core.List.{List, [], _∷_, _++_}
 use Prim.Native.Nat.{ℕ, zero, suc}
 use lib.Dec.{ltb, leb, eqb}
@@ -150,15 +150,10 @@ infer-alike o (D.choose z r c e) f a = infer-alike o e f a
 
 -- ANY over lists alike, and over their prefixes
 or-turned : (a b : Bool) → (a || b) ≡ (b || (a || false))
-or-turned true true = refl
-or-turned true false = refl
-or-turned false true = refl
-or-turned false false = refl
+or-turned a b = or-comm a b ∙ ap (λ (t : Bool). b || t) (sym (or-false a))
 
 or-later : (a b c : Bool) → ((a || b) || c) ≡ (b || (a || c))
-or-later true true c = refl
-or-later true false c = refl
-or-later false b c = refl
+or-later a b c = ap (λ (t : Bool). t || c) (or-comm a b) ∙ or-assoc b a c
 
 -- all prefixes but the path itself
 unfoldable before : Path → List Path

@@ -13,18 +13,12 @@ use Rattle.model.specs.Base.{pick}
 use Rattle.model.specs.Table.{Row, Table, noRow, rowAt, count, hasParent, withRow, withParent, linked}
 use Rattle.model.specs.History.{times, isCut, Record, madeElementKind, madeLeafKind, cutKind}
 use Rattle.model.specs.Run.{State, made, cutRecord}
+use Rattle.model.proofs.BoolLaws.{one, one-le}
 use Rattle.model.proofs.TableLaws.{parent-count, Well}
 use Rattle.model.proofs.GrowLaws.{count-withRow, rowAt-withRow-old, count-linked, rowAt-linked-same, rowAt-linked-other}
 use Rattle.model.proofs.RanLaws.{Ran, begun, rowMade, linkCut, ran-well}
 
 -- RECORDS counted by a test
-abbrev one : Bool → ℕ
-one t = pick t 1 0
-
-one-le : (t : Bool) → one t ≤ 1
-one-le true = omega arith
-one-le false = omega arith
-
 pub times-snoc : (f : Record → Bool) (rs : List Record) (r : Record) → times f (rs ++ (r ∷ [])) ≡ times f rs + one (f r)
 unfolding times
 times-snoc f [] r = omega arith

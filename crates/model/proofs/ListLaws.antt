@@ -1,6 +1,6 @@
 -- Lists and areas: what is set, what is put over an area, tests of their items.
 use mathlib.Core.Path.{_≡_, refl, ap, sym, _∙_}
-use mathlib.Core.Bool.{Bool, true, _||_, false≢true, or-assoc}
+use mathlib.Core.Bool.{Bool, true, _||_, false≢true, or-false, or-assoc}
 use mathlib.Core.Logic.{_⊎_, inl, inr, ⊎-elim}
 use mathlib.Core.List.{List, [], _∷_, _++_, map, append-assoc, append-nil, List·Memᴰ as In, List·Memᴰ·head as here, List·Memᴰ·tail as there}
 use Prim.Native.Nat.{ℕ, zero, suc, _+_, _-_, _≤_, _<_}
@@ -63,6 +63,10 @@ module _ {A : Type 0} (f : A → Bool) where
   unfolding any
   any-append [] l = refl
   any-append (x ∷ k) l = ap (λ (t : Bool). f x || t) (any-append k l) ∙ sym (or-assoc (f x) (any f k) (any f l))
+
+  pub any-snoc : (l : List A) (x : A) → any f (l ++ (x ∷ [])) ≡ (any f l || f x)
+  unfolding any
+  any-snoc l x = any-append l (x ∷ []) ∙ ap (λ (t : Bool). any f l || t) (or-false (f x))
 
   pub any-left : (k l : List A) → any f k ≡ true → any f (k ++ l) ≡ true
   any-left k l h = any-append k l ∙ or-left (any f k) (any f l) h

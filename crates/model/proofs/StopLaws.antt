@@ -6,6 +6,7 @@ use mathlib.Core.Option.{Option, none, some}
 use Prim.Native.Nat.{ℕ, _+_}
 use lib.Dec.{ltb, eqb}
 use lib.ListN.{length, getD}
+use borrow.Author.Tests.{not-true}
 use Rattle.model.specs.Base.{pick}
 use Rattle.model.specs.Limits.{maxItems, maxHistory}
 use Rattle.model.specs.Refusal.{Fault, isFine, itemsAt, historyAt, targetAt}
@@ -93,8 +94,4 @@ run-refuses (insert z e f) b s =
 run-refuses (choose z r c e) b s = then-refuses (run e b s) _ (run-refuses e b s) (λ v u. refl)
 
 pub stop-refuses : (e : Expr) (x : Table) (f : Fault) → runOn x e ≡ stop f → isFine f ≡ false
-stop-refuses e x f h = go (isFine f) (ap refuses (sym h) ∙ run-refuses e [] _)
-  where
-    go : (t : Bool) → not t ≡ true → t ≡ false
-    go true k = sym k
-    go false k = refl
+stop-refuses e x f h = not-true (isFine f) (ap refuses (sym h) ∙ run-refuses e [] _)

@@ -14,7 +14,7 @@ use borrow.Author.Tests.{ltb-true, ltb-false, leb-true, leb-false}
 use Rattle.model.specs.Base.{pick}
 use Rattle.model.specs.Table.{Row, Table, noRow, rowAt, isMarked, withParent, Tree}
 use Rattle.model.specs.Sweep.{through, keptFrom, isKept, keptBefore, newNumber, renumbered, sweptRows, sweptMarks}
-use Rattle.model.proofs.BoolLaws.{or-left, or-right, or-cases, true-false}
+use Rattle.model.proofs.BoolLaws.{one, one-le, or-left, or-right, or-cases, true-false}
 use Rattle.model.proofs.TableLaws.{any-at}
 
 -- KEPT: marked, or the parent is kept. Parents are lower, so any fuel above the row's number serves
@@ -65,9 +65,6 @@ module _ (x : Table) (t : Tree x) where
   ]
 
 -- NUMBERS: kept rows are counted
-abbrev one : Bool → ℕ
-one t = pick t 1 0
-
 keptBefore-last : (x : Table) (i n : ℕ) → keptBefore x i (suc n) ≡ keptBefore x i n + one (isKept x (i + n))
 unfolding keptBefore
 keptBefore-last x i zero = rw (add-zero i) (omega arith)
@@ -88,10 +85,6 @@ newNumber-kept x i h = newNumber-suc x i ∙ rw h (omega arith)
 pub newNumber-le : (x : Table) (i : ℕ) → newNumber x i ≤ i
 newNumber-le x zero = omega (arith, newNumber-zero x)
 newNumber-le x (suc i) = omega (arith, newNumber-le x i, newNumber-suc x i, one-le (isKept x i))
-  where
-    one-le : (t : Bool) → one t ≤ 1
-    one-le true = omega arith
-    one-le false = omega arith
 
 -- rising, and strictly so on kept rows
 pub newNumber-rises : (x : Table) (i j : ℕ) → i ≤ j → newNumber x i ≤ newNumber x j

@@ -13,8 +13,7 @@ use borrow.Author.Tests.{ltb-true, leb-true, ltb-false, eqb-true, not-true, lt-l
 use Rattle.model.specs.Base.{all, any}
 use Rattle.model.specs.Limits.{maxRows, documents}
 use Rattle.model.specs.Table.{ParentLower, IsRoot, Tree, Row, Table, empty, noRow, rowAt, count, isElement, hasParent, isThe, tagFits}
-use Rattle.model.specs.Table.{parentFits, rowsFit}
-use Rattle.model.specs.Table.{markFits, noneTwice, isTree, isWell}
+use Rattle.model.specs.Table.{parentFits, rowsFit, markFits, noneTwice, isTree, isWell}
 use Rattle.model.proofs.BoolLaws.{and-left, and-right, and-both, or-cases, or-left, or-right, true-false}
 use Rattle.model.proofs.ListLaws.{all-getD, getD-all}
 use Rattle.model.proofs.TestLaws.{and-three, and-five}

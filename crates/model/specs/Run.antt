@@ -26,7 +26,7 @@ pub data Out : Type 0 where
   stop : Fault → Out
   gives : (items : List ℕ) → State → Out
 
--- VALUES of a table of so many rows; and the variables' values
+-- VALUES: rows of a table that has so many; and the values of variables
 abbrev pub AreRows : (rows : ℕ) → List ℕ → Type 0
 AreRows n = All (λ (i : ℕ). i < n)
 

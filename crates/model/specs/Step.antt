@@ -21,11 +21,6 @@ abbrev pub admits : Step → Letter → Bool
 admits s leafLetter = eqb (s .test) 0 || eqb (s .test) 2
 admits s (named n) = eqb (s .test) 0 || eqb (s .test) 1 || (not (eqb (s .test) 2) && eqb n (s .name))
 
--- the rows that pass a test, of so many from a row on, in rising number
-unfoldable pub collect : (ℕ → Bool) → (row : ℕ) → ℕ → List ℕ
-collect f i zero = []
-collect f i (suc n) = pick (f i) (i ∷ collect f (suc i) n) (collect f (suc i) n)
-
 -- AXES: parent, and ancestor
 abbrev pub parentIs : Table → (parent row : ℕ) → Bool
 parentIs x p i = isThe p (rowAt x i .parent)
@@ -42,6 +37,11 @@ isBelow x t i = isBelowFrom (suc i) x t i
 abbrev pub reaches : Table → (axis from to : ℕ) → Bool
 reaches x a i j =
     pick (eqb a 0) (parentIs x i j) (pick (eqb a 1) (isBelow x i j) (pick (eqb a 2) (parentIs x j i) (isBelow x j i)))
+
+-- the rows that pass a test, of so many from a row on, in rising number
+unfoldable pub collect : (ℕ → Bool) → (row : ℕ) → ℕ → List ℕ
+collect f i zero = []
+collect f i (suc n) = pick (f i) (i ∷ collect f (suc i) n) (collect f (suc i) n)
 
 -- A step answers its rows in rising number, each once
 abbrev pub isReached : Table → Step → (items : List ℕ) → (row : ℕ) → Bool

@@ -1,20 +1,17 @@
 -- The small parts of an answer: past a record or refused at it, one item written, a variable bound.
 use mathlib.Core.Path.{_≡_, ap, sym, subst, _∙_}
-use mathlib.Core.Bool.{Bool, true, false}
+use mathlib.Core.Bool.{true, false}
 use mathlib.Core.Option.{Option, none, some}
-use mathlib.Core.List.{List, [], _∷_, _++_}
+use mathlib.Core.List.{List, [], _∷_}
 use Prim.Native.Nat.{ℕ, _+_, _-_, _≤_, _<_}
 use native.Mathlib.Omega.{arith}
-use native.Mathlib.Numerals.{add-one}
 use lib.Dec.{ltb, eqb}
-use lib.ListN.{length, take, set, length-set}
-use lib.Seq.{take-suc-set}
+use lib.ListN.{length, set, length-set}
 use borrow.Author.Tests.{eq-eqb, ne-eqb, lt-ltb, le-ltb}
-use Rattle.model.specs.Base.{pick}
 use Rattle.model.specs.Script.{isBinder}
 use Rattle.model.specs.Run.{marked}
 use Rattle.model.proofs.BoolLaws.{pick-true, pick-false}
-use Rattle.script.specs.Walk.{inner}
+use Rattle.script.proofs.BindLaws.{withBound-set, withBound-same}
 use Rattle.table.specs.Words.{linked}
 use Rattle.updates.specs.State.{stopped}
 use Rattle.query.specs.Values.{Appended}
@@ -72,32 +69,13 @@ module _ (w : List ℕ) (top : ℕ) where
       (sym (pick-true (eqb (q .number) 0) (row ∷ []) [] (eq-eqb (q .number) 0 h))) (appended-one w top row l)
 
 -- BOUND: a binder's first value is one variable more
-inner-by : (t : Bool) (k n : ℕ) → isBinder k ≡ t → inner k n ≡ pick t (n + 1) n
-unfolding inner
-inner-by t k n e = ap (λ (b : Bool). pick b (n + 1) n) e
-
 module _ (k : ℕ) (env : List Span) (n i j : ℕ) (p : BindPre k env n i j) where
   pub bound-more : isBinder k ≡ true → BindPost k env n i j (set env n (spanOf i j))
   bound-more e =
       record {
         size = length-set env n (spanOf i j) ∙ p .size;
-        is =
-            ap (λ (m : ℕ). take m (set env n (spanOf i j))) (inner-by true k n e ∙ add-one n) ∙
-            take-suc-set env n (spanOf i j) (omega (arith, p .scope e, p .size)) ∙
-            sym (ap (λ (b : Bool). pick b (take n env ++ (spanOf i j ∷ [])) (take n env)) e);
+        is = withBound-set k env n (spanOf i j) e (omega (arith, p .scope e, p .size));
       }
 
   pub bound-same : isBinder k ≡ false → BindPost k env n i j env
-  bound-same e =
-      record {
-        size = p .size;
-        is =
-            ap (λ (m : ℕ). take m env) (inner-by false k n e) ∙
-            sym (ap (λ (b : Bool). pick b (take n env ++ (spanOf i j ∷ [])) (take n env)) e);
-      }
-
-pub inner-more : (k n : ℕ) → isBinder k ≡ true → n + 1 ≡ inner k n
-inner-more k n e = sym (inner-by true k n e)
-
-pub inner-same : (k n : ℕ) → isBinder k ≡ false → n ≡ inner k n
-inner-same k n e = sym (inner-by false k n e)
+  bound-same e = record { size = p .size; is = withBound-same k env n (spanOf i j) e }

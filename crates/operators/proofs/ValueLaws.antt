@@ -42,7 +42,7 @@ take-few zero v = omega arith
 take-few (suc k) [] = omega arith
 take-few (suc k) (x ∷ xs) = let l = take-few k xs in omega (arith, l)
 
--- the length, none, one, two one behind the other
+-- the length, one, two one behind the other
 pub length-value : (w : List ℕ) (i j : ℕ) → i ≤ j → j ≤ length w → length (valueAt w i j) ≡ j - i
 length-value w i j l m =
     let k : j - i ≤ length (drop i w) = omega (arith, length-drop i w) in

@@ -1,6 +1,6 @@
 -- The table of pairs, filled cell by cell: one law for each way out of the code that makes a cell, and one for each loop.
 use mathlib.Core.Path.{_≡_, refl, ap, sym, _∙_, subst}
-use mathlib.Core.Bool.{Bool, true, false, _&&_, _||_, and-false}
+use mathlib.Core.Bool.{Bool, true, false, _&&_, _||_, and-false, or-true}
 use mathlib.Core.List.{List, [], _∷_}
 use Prim.Native.Nat.{ℕ, zero, suc, _+_, _≤_, _<_}
 use native.Mathlib.Omega.{arith}
@@ -296,10 +296,6 @@ any-found f k zero h e = absurd (omega arith)
 any-found f k (suc n) h e =
     by-cases (eqb k n) (λ s. sym (ap (λ (x : Bool). anyUpTo f n || x) (ap f (sym (eqb-true k n s)) ∙ e) ∙ or-true (anyUpTo f n)))
     (λ s. ap (λ (x : Bool). x || f n) (any-found f k n (omega (arith, eqb-false k n s)) e))
-  where
-    or-true : (x : Bool) → (x || true) ≡ true
-    or-true true = refl
-    or-true false = refl
 
 pub row-filled : (ws us t : List ℕ) (k l : ℕ) → length us ≡ l → Filled (entriesBy ws) (entriesBy us) k l (marks t) →
     Filled (entriesBy ws) (entriesBy us) (k + 1) 0 (marks t)

@@ -15,7 +15,7 @@ use Rattle.model.specs.Script.{readScript}
 use Rattle.model.specs.History.{Record, historyBytes, AllInRange, times, isCut}
 use Rattle.model.specs.Run.{Out, stop, gives, run}
 use Rattle.model.specs.Call.{Ran, filled, countKind, areasFit, ranBy, refusedRun, runBy}
-use Rattle.model.proofs.BoolLaws.{by-cases, pick-true, pick-false, and-left, and-right, and-both}
+use Rattle.model.proofs.BoolLaws.{one, by-cases, pick-true, pick-false, and-left, and-right, and-both}
 use Rattle.script.specs.Walk.{endAt, exprAt}
 use Rattle.script.specs.Reading.{scriptRead}
 use Rattle.script.proofs.ScriptLaws.{script-accepted, script-parsed, script-ill}
@@ -61,9 +61,6 @@ cut-count (r ∷ rs) =
         (λ e. outside 67 67 (r .kind)
         (λ p q. eqb-false (r .kind) 67 e (omega (arith, leb-true 67 (r .kind) p, leb-true (r .kind) 67 q))) ∙ sym e)
 
-abbrev oneIf : Bool → ℕ
-oneIf t = pick t 1 0
-
 made-count : {rs : List Record} → AllInRange rs → countKind 65 66 rs + times isCut rs ≡ length rs
 unfolding times
 made-count nothing = refl
@@ -74,11 +71,11 @@ made-count (also {a = r} {l = rs} f a) =
     (λ e.
     let k : (leb 65 (r .kind) && leb (r .kind) 66) ≡ false =
     outside 65 66 (r .kind) (λ p q. omega (arith, leb-true (r .kind) 66 q, eqb-true (r .kind) 67 e)) in
-    omega (arith, made-count a, ap oneIf k, ap oneIf e))
+    omega (arith, made-count a, ap one k, ap one e))
     (λ e.
     let u : r .kind ≤ 66 = omega (arith, m, eqb-false (r .kind) 67 e) in
     let k : (leb 65 (r .kind) && leb (r .kind) 66) ≡ true = and-both _ _ (le-leb 65 (r .kind) l) (le-leb (r .kind) 66 u) in
-    omega (arith, made-count a, ap oneIf k, ap oneIf e))
+    omega (arith, made-count a, ap one k, ap one e))
 
 -- a cleared area behind what is written
 drop-zeros : (k n z : ℕ) → drop k (replicate n z) ≡ replicate (n - k) z

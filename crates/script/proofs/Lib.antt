@@ -8,3 +8,4 @@ pub mod ScriptLaws
 pub mod AcceptedLaws
 pub mod FieldLaws
 pub mod KindLaws
+pub mod BindLaws

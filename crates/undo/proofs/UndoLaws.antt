@@ -1,6 +1,6 @@
 -- Undo's parts, from the tests on each way out: the form of a record, the places of all, whether a record fits, and a record undone.
 use mathlib.Core.Path.{_≡_, refl, ap, sym, _∙_, subst}
-use mathlib.Core.Bool.{Bool, true, false, _&&_, _||_, not}
+use mathlib.Core.Bool.{true, false, _&&_, _||_, not, or-true}
 use mathlib.Core.List.{List, [], _∷_, map}
 use mathlib.Core.Option.{some}
 use Prim.Native.Nat.{ℕ, zero, suc, _+_, _*_, _-_, _/_, _%_, _≤_, _<_}
@@ -79,10 +79,6 @@ module _ (s : List ℕ) (n : ℕ) where
         form-named t b =
             let k : 1 ≤ getD s 3 0 = omega (arith, t) in
             form-by (rw (le-leb 1 (getD s 3 0) k, le-leb (getD s 3 0) 255 b) (or-true (not (eqb (getD s 0 0) 65))))
-          where
-            or-true : (t : Bool) → (t || true) ≡ true
-            or-true true = refl
-            or-true false = refl
 
         pub form-other : (getD s 0 0 ≡ 65 → ⊥) → FormPost s n 0
         form-other k = form-by (rw (ne-eqb (getD s 0 0) 65 k))

@@ -6,9 +6,8 @@ use mathlib.Core.Path.{refl}
 use native.Mathlib.Omega.{arith}
 use Rattle.script.proofs.AcceptedLaws.{accepted-record}
 use Rattle.script.proofs.FieldLaws.{document-number, variable-number, element-name}
-use Rattle.operators.proofs.NullaryLaws.{nullary-room, nullary-body, nil-yields, document-yields, variable-yields}
-use Rattle.operators.proofs.NullaryLaws.{element-yields, leaf-yields}
-use Rattle.operators.proofs.NullaryLaws.{variable-asks, variable-below, last-kind}
+use Rattle.operators.proofs.NullaryLaws.{nullary-room, nullary-body, nil-yields, document-yields, variable-yields, element-yields}
+use Rattle.operators.proofs.NullaryLaws.{leaf-yields, variable-asks, variable-below, last-kind}
 
 shared-slice-read-kind : tie.Need-shared-slice-read-kind
 shared-slice-read-kind c =
