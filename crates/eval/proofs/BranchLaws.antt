@@ -13,7 +13,6 @@ use Rattle.script.specs.Walk.{endAt, secondAt, thirdAt, exprAt}
 use Rattle.script.proofs.AcceptedLaws.{accepted-at}
 use Rattle.updates.specs.State.{stateOf}
 use Rattle.query.specs.Values.{valueAt}
-use Rattle.query.proofs.PickLaws.{value-none}
 use Rattle.updates.specs.declared.state.Progress.{Progress}
 use Rattle.operators.specs.Evaluating.{boundValues, movedTo, Fine, EvalPre, EvalPost}
 use Rattle.operators.specs.declared.value.Span.{Span}

@@ -17,7 +17,6 @@ use Rattle.script.specs.Walk.{inner, endAt, secondAt, exprAt}
 use Rattle.script.proofs.AcceptedLaws.{accepted-record, accepted-at}
 use Rattle.updates.specs.State.{stateOf}
 use Rattle.query.specs.Values.{valueAt}
-use Rattle.query.proofs.PickLaws.{value-none}
 use Rattle.updates.specs.declared.state.Progress.{Progress}
 use Rattle.updates.proofs.StateLaws.{after-self}
 use Rattle.operators.specs.Evaluating.{boundValues, InScope, BindPre, BindPost, limitedBy, movedTo, Fine, BinaryPre, BinaryPost}
