@@ -1,7 +1,9 @@
 -- A run that is over, by its two ways out: refused, or its plan written.
 use mathlib.Core.Path.{_≡_, ap, _∙_}
+use mathlib.Core.Bool.{true, false}
 use mathlib.Core.List.{List}
 use Prim.Native.Nat.{ℕ}
+use lib.Dec.{eqb}
 use borrow.Author.Tests.{eq-eqb, ne-eqb}
 use Rattle.plan.specs.Calls.{planWritten, planOut}
 use Rattle.table.specs.declared.Written.{Written}
@@ -16,16 +18,16 @@ Ends r o d c o′ d′ = (c ≡ endCode r o) × ((o′ ≡ endOut r o) × (d′ 
 module _ (r : RunResult) (o d : List ℕ) where
   pub end-refused : (c : ℕ) (d′ : List ℕ) → (r .fault .number ≡ 0 → ⊥) → c ≡ codeOf (r .fault .number) 2 (r .fault .place) →
       d′ ≡ doneOver 0 0 0 0 0 0 d → Ends r o d c o d′
-  end-refused c d′ z e f = (e ∙ rw (ne-eqb (r .fault .number) 0 z), (rw (ne-eqb (r .fault .number) 0 z), f ∙ rw (ne-eqb (r .fault .number) 0 z)))
+  end-refused c d′ z e f =
+      let k : eqb (r .fault .number) 0 ≡ false = ne-eqb (r .fault .number) 0 z in
+      (e ∙ rw k, (rw k, f ∙ rw k))
 
-  pub end-written : (c : ℕ) (w : Written) (o′ d′ : List ℕ) → r .fault .number ≡ 0 → w ≡ planWritten (r .table) o → o′ ≡ planOut (r .table) o →
-      c ≡ codeOf (w .fault .number) 0 0 →
+  pub end-written : (c : ℕ) (w : Written) (o′ d′ : List ℕ) → r .fault .number ≡ 0 → w ≡ planWritten (r .table) o →
+      o′ ≡ planOut (r .table) o → c ≡ codeOf (w .fault .number) 0 0 →
       d′ ≡ doneOver (r .items) (r .tally .made) (r .tally .cut) (r .tally .records) (r .bytes) (w .bytes) d → Ends r o d c o′ d′
-  end-written c w o′ d′ z e f g h = (
-    g ∙ ap (λ (t : Written). codeOf (t .fault .number) 0 0) e ∙ rw (eq-eqb (r .fault .number) 0 z),
-    (
-      f ∙ rw (eq-eqb (r .fault .number) 0 z),
-      h ∙ ap (λ (t : Written). doneOver (r .items) (r .tally .made) (r .tally .cut) (r .tally .records) (r .bytes) (t .bytes) d) e ∙
-          rw (eq-eqb (r .fault .number) 0 z),
-    ),
-  )
+  end-written c w o′ d′ z e f g h =
+      let k : eqb (r .fault .number) 0 ≡ true = eq-eqb (r .fault .number) 0 z in
+      (g ∙ ap (λ (t : Written). codeOf (t .fault .number) 0 0) e ∙ rw k, (f ∙ rw k, h ∙ ap told e ∙ rw k))
+    where
+      told : Written → List ℕ
+      told t = doneOver (r .items) (r .tally .made) (r .tally .cut) (r .tally .records) (r .bytes) (t .bytes) d

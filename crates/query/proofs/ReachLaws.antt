@@ -161,7 +161,8 @@ module _ (x : Table) (lower : (i p : ℕ) → rowAt x i .parent ≡ some p → p
       there (i, m, e) = go (first-child j i (below-is x j i e))
         where
           go : (c : ℕ) × (rowAt x c .parent ≡ some j) × ((c ≡ i) ⊎ Below x c i) → anyFrom (childCounts x true v j) t (count x - t) ≡ true
-          go (c, f, inl q) = child-there true v j t c low f (or-left (among c v) (upTo x true v c) (ap (λ (a : ℕ). among a v) q ∙ in-among m))
+          go (c, f, inl q) =
+              child-there true v j t c low f (or-left (among c v) (upTo x true v c) (ap (λ (a : ℕ). among a v) q ∙ in-among m))
           go (c, f, inr q) =
               child-there true v j t c low f
               (or-right (among c v) (upTo x true v c) (in-any (λ (a : ℕ). isBelow x c a) m (is-below x lower c i q)))

@@ -1,3 +1,4 @@
+-- `yegnabit_analyse` answers the code of the analysis, case by case.
 use Rattle.ffi.proofs.CallLaws.{analysis-told}
 use borrow.Author.Needs.{needs}
 use Rattle.ffi.proofs.yegnabit_analyse.Statement.{statement}

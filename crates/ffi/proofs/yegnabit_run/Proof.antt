@@ -1,3 +1,4 @@
+-- `yegnabit_run` answers and leaves what `runCalled` says, by its three ways out: an area too short, the plan refused, the run over.
 use mathlib.Core.Path.{_∙_, ap}
 use Rattle.ffi.proofs.FittingLaws.{bytes-known, read-fits}
 use Rattle.table.specs.Words.{fits}
@@ -18,9 +19,11 @@ code-requires c κs = search needs
 
 returns : tie.Need-returns
 returns c =
-    let x = c .before .before .before .before .before .before .before .before .before .before .args in
+    let c10 = c .before .before .before .before .before .before .before .before .before .before in
+    let x = c10 .args in
     call-short (x .plan .now) (x .script .now) (x .answer .now) (x .history .now) (x .work .now) (x .out .now) (x .done .now)
-    (c .before .before .is-lent-short .result) (c .before .before .is-lent-short .ensures) (c .code .result) (c .code .ensures) (c .before .if1 .taken)
+    (c .before .before .is-lent-short .result) (c .before .before .is-lent-short .ensures) (c .code .result) (c .code .ensures) (c .before
+    .if1 .taken)
 
 read-plan-requires : tie.Need-read-plan-requires
 read-plan-requires c κs = search needs
@@ -30,9 +33,13 @@ clear-requires c κs = search needs
 
 put-done-requires : tie.Need-put-done-requires
 put-done-requires c κs =
-    let x = c .before .before .before .before .before .before .before .before .before .before .before .before .before .before .before .before .before .before .before .before .before .before .args in
-    six-fit (c .before .before .before .before .before .before .before .before .before .before .before .before .before .before .is-lent-short .result) (length (x .answer .now)) (length (x .history .now)) (length (x .work .now)) (length (x .out .now))
-    (length (x .done .now)) (c .before .before .before .before .before .before .before .before .before .before .before .before .before .before .is-lent-short .ensures) (c .before .before .before .before .before .before .before .before .before .before .before .before .before .if1 .left)
+    let c13 = c .before .before .before .before .before .before .before .before .before .before .before .before .before in
+    let c14 = c13 .before in
+    let c22 = c14 .before .before .before .before .before .before .before .before in
+    let x = c22 .args in
+    six-fit (c14 .is-lent-short .result) (length (x .answer .now)) (length (x .history .now)) (length (x .work .now)) (length (x .out
+    .now))
+    (length (x .done .now)) (c14 .is-lent-short .ensures) (c13 .if1 .left)
 
 code-requires-2 : tie.Need-code-requires-2
 code-requires-2 c κs = search needs
@@ -51,28 +58,43 @@ same-length-4 c = search needs
 
 returns-2 : tie.Need-returns-2
 returns-2 c =
-    let x = c .before .before .before .before .before .before .before .before .before .before .before .before .before .before .before .before .before .before .before .before .before .before .before .before .before .before .args in
+    let c3 = c .before .before .before in
+    let c11 = c3 .before .before .before .before .before .before .before .before in
+    let c15 = c11 .before .before .before .before in
+    let c16 = c15 .before in
+    let c17 = c16 .before in
+    let c18 = c17 .before in
+    let c26 = c18 .before .before .before .before .before .before .before .before in
+    let x = c26 .args in
     call-plan-refused (x .plan .now) (x .script .now) (x .answer .now) (x .history .now) (x .work .now) (x .out .now) (x .done .now)
-    (c .before .before .before .before .before .before .before .before .before .before .before .before .before .before .before .before .before .before .is-lent-short .result) (c .before .before .before .before .before .before .before .before .before .before .before .before .before .before .before .before .before .before .is-lent-short .ensures) (c .before .before .before .before .before .before .before .before .before .before .before .before .before .before .before .before .before .if1 .left) (c .before .before .before .before .before .before .before .before .before .before .before .before .before .before .before .before .read-plan .result) (c .before .before .before .before .before .before .before .before .before .before .before .before .before .before .before .before .read-plan .ensures)
-    (c .code2 .result) _ _ _ _ (c .before .before .before .before .before .before .before .before .before .before .before .before .before .before .before .if2 .taken) (c .code2 .ensures) (c .before .before .before .before .before .before .before .before .before .before .before .clear .ensures .0) (c .before .before .before .before .before .before .before .before .before .before .before .clear .ensures .1 .0) (c .before .before .before .before .before .before .before .before .before .before .before .clear .ensures .1 .1)
-    (c .before .before .before .put-done .ensures)
+    (c18 .is-lent-short .result) (c18 .is-lent-short .ensures) (c17 .if1 .left) (c16 .read-plan .result) (c16 .read-plan .ensures)
+    (c .code2 .result) _ _ _ _ (c15 .if2 .taken) (c .code2 .ensures) (c11 .clear .ensures .0) (c11 .clear .ensures .1 .0) (c11 .clear
+    .ensures .1 .1)
+    (c3 .put-done .ensures)
 
 run-requires : tie.Need-run-requires
 run-requires c κs = search needs
 
 end-requires : tie.Need-end-requires
 end-requires c κs =
-    let x = c .before .before .before .before .before .before .before .before .before .before .before .before .before .before .before .before .before .before .before .before .before .before .before .before .args in
+    let c8 = c .before .before .before .before .before .before .before .before in
+    let c14 = c8 .before .before .before .before .before .before in
+    let c15 = c14 .before in
+    let c16 = c15 .before in
+    let c22 = c16 .before .before .before .before .before .before in
+    let c23 = c22 .before in
+    let c24 = c23 .before in
+    let x = c24 .args in
     record {
       table = λ _.
-          ap (λ (r : RunResult). fits (r .table)) (c .before .before .before .before .before .before .before .before .run .ensures .0) ∙
-          runsOn (c .before .before .before .before .before .before .before .before .before .before .before .before .before .before .read-plan .result .table) (x .script .now) (x .answer .now) (x .history .now) (x .work .now)
-          (bytes-known (x .script .now) (λ i. c .before .before .before .before .before .before .before .before .before .before .before .before .before .before .before .before .before .before .before .before .before .before .shared-slice-known2 .given i .fits))
-          (ap (λ (q : TableResult). fits (q .table)) (c .before .before .before .before .before .before .before .before .before .before .before .before .before .before .read-plan .ensures) ∙
-          read-fits (x .plan .now) (bytes-known (x .plan .now) (λ i. c .before .before .before .before .before .before .before .before .before .before .before .before .before .before .before .before .before .before .before .before .before .before .before .shared-slice-known .given i .fits))) .0;
+          ap (λ (r : RunResult). fits (r .table)) (c8 .run .ensures .0) ∙
+          runsOn (c14 .read-plan .result .table) (x .script .now) (x .answer .now) (x .history .now) (x .work .now)
+          (bytes-known (x .script .now) (λ i. c22 .shared-slice-known2 .given i .fits))
+          (ap (λ (q : TableResult). fits (q .table)) (c14 .read-plan .ensures) ∙
+          read-fits (x .plan .now) (bytes-known (x .plan .now) (λ i. c23 .shared-slice-known .given i .fits))) .0;
       room =
-          six-fit (c .before .before .before .before .before .before .before .before .before .before .before .before .before .before .before .before .is-lent-short .result) (length (x .answer .now)) (length (x .history .now)) (length (x .work .now))
-          (length (x .out .now)) (length (x .done .now)) (c .before .before .before .before .before .before .before .before .before .before .before .before .before .before .before .before .is-lent-short .ensures) (c .before .before .before .before .before .before .before .before .before .before .before .before .before .before .before .if1 .left);
+          six-fit (c16 .is-lent-short .result) (length (x .answer .now)) (length (x .history .now)) (length (x .work .now))
+          (length (x .out .now)) (length (x .done .now)) (c16 .is-lent-short .ensures) (c15 .if1 .left);
     }
 
 same-length-5 : tie.Need-same-length-5
@@ -92,11 +114,19 @@ same-length-9 c = search needs
 
 returns-3 : tie.Need-returns-3
 returns-3 c =
-    let x = c .before .before .before .before .before .before .before .before .before .before .before .before .before .before .before .before .before .before .before .before .before .before .before .before .before .before .before .before .before .args in
+    let c4 = c .before .before .before .before in
+    let c13 = c4 .before .before .before .before .before .before .before .before .before in
+    let c18 = c13 .before .before .before .before .before in
+    let c19 = c18 .before in
+    let c20 = c19 .before in
+    let c21 = c20 .before in
+    let c29 = c21 .before .before .before .before .before .before .before .before in
+    let x = c29 .args in
     call-ended (x .plan .now) (x .script .now) (x .answer .now) (x .history .now) (x .work .now) (x .out .now) (x .done .now)
-    (c .before .before .before .before .before .before .before .before .before .before .before .before .before .before .before .before .before .before .before .before .before .is-lent-short .result) (c .before .before .before .before .before .before .before .before .before .before .before .before .before .before .before .before .before .before .before .before .before .is-lent-short .ensures) (c .before .before .before .before .before .before .before .before .before .before .before .before .before .before .before .before .before .before .before .before .if1 .left) (c .before .before .before .before .before .before .before .before .before .before .before .before .before .before .before .before .before .before .before .read-plan .result) (c .before .before .before .before .before .before .before .before .before .before .before .before .before .before .before .before .before .before .before .read-plan .ensures) (c .before .before .before .before .before .before .before .before .before .before .before .before .before .before .before .before .before .before .if2 .left)
-    (c .before .before .before .before .before .before .before .before .before .before .before .before .before .run .result) _ _ _ (c .before .before .before .before .before .before .before .before .before .before .before .before .before .run .ensures .0) (c .before .before .before .before .before .before .before .before .before .before .before .before .before .run .ensures .1 .0) (c .before .before .before .before .before .before .before .before .before .before .before .before .before .run .ensures .1 .1 .0) (c .before .before .before .before .before .before .before .before .before .before .before .before .before .run .ensures .1 .1 .1)
-    (c .before .before .before .before .end .result) _ _ (c .before .before .before .before .end .ensures .0) (c .before .before .before .before .end .ensures .1 .0) (c .before .before .before .before .end .ensures .1 .1)
+    (c21 .is-lent-short .result) (c21 .is-lent-short .ensures) (c20 .if1 .left) (c19 .read-plan .result) (c19 .read-plan .ensures) (c18
+    .if2 .left)
+    (c13 .run .result) _ _ _ (c13 .run .ensures .0) (c13 .run .ensures .1 .0) (c13 .run .ensures .1 .1 .0) (c13 .run .ensures .1 .1 .1)
+    (c4 .end .result) _ _ (c4 .end .ensures .0) (c4 .end .ensures .1 .0) (c4 .end .ensures .1 .1)
 
 pub yegnabit-run-spec : {M : Type 1} → statement M
 yegnabit-run-spec =

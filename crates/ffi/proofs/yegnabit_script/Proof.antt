@@ -1,3 +1,4 @@
+-- `yegnabit_script` answers the code of the reader's refusal, or 0.
 use Rattle.ffi.proofs.CallLaws.{script-read, script-refused}
 use borrow.Author.Needs.{needs}
 use Rattle.ffi.proofs.yegnabit_script.Statement.{statement}

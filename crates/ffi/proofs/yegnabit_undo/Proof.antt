@@ -1,3 +1,4 @@
+-- `yegnabit_undo` answers and leaves what reading, undoing and writing owe, by its four ways out.
 use Rattle.ffi.proofs.FittingLaws.{bytes-known, read-fits, undone-fits}
 use Rattle.table.specs.Words.{fits}
 use Rattle.ffi.proofs.CallLaws.{area-short, plan-refused, plan-done, undo-refused, undo-done}

@@ -1,3 +1,4 @@
+-- `pair` answers and leaves what `pairText` says: an area too short, a refused file, or three lines.
 use native.Mathlib.Omega.{arith}
 use Rattle.report.proofs.PairLaws.{area-short, plan-refused, plan-read, first-named, second-named}
 use borrow.Author.Needs.{needs}

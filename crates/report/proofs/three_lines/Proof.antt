@@ -1,3 +1,4 @@
+-- `three_lines` places the answer and both orders.
 use native.Mathlib.Omega.{arith}
 use Rattle.report.proofs.PairLaws.{three-placed}
 use borrow.Author.Needs.{needs}

@@ -1,3 +1,4 @@
+-- `number::put_number` places the digits of a number; n falls with each call.
 use Prim.Native.Nat.{_+_}
 use native.Mathlib.Omega.{arith}
 use Rattle.format.proofs.TextLaws.{number-low, number-room, number-high}

@@ -1,3 +1,4 @@
+-- `number::put_field` places a space and a number.
 use native.Mathlib.Omega.{arith}
 use Rattle.format.proofs.TextLaws.{field-placed}
 use borrow.Author.Needs.{needs}

@@ -1,3 +1,4 @@
+-- `text::put` places a text. The invariant: its bytes below i stand in the area.
 use Prim.Native.Nat.{_+_, _≤_, _-_}
 use mathlib.Core.Path.{_≡_, refl, _∙_}
 use native.Mathlib.Omega.{arith}

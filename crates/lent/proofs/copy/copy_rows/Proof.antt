@@ -1,3 +1,4 @@
+-- `copy::copy_rows` leaves the words copied. The invariant: those below i are copied.
 use Rattle.lent.proofs.CopyLaws.{copy-next, copy-all}
 use lib.ListN.{length, take, getD, length-set}
 use Prim.Native.Nat.{_≤_, _-_}

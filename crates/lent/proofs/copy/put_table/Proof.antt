@@ -18,7 +18,9 @@ same-length-2 : tie.Need-same-length-2
 same-length-2 c = search needs
 
 returns : tie.Need-returns
-returns c = (c .before .before .before .before .before .before .before .before .before .copy-rows .ensures, c .before .before .put .ensures ∙ put-all _ _ (search needs))
+returns c =
+    let c9 = c .before .before .before .before .before .before .before .before .before in
+    (c9 .copy-rows .ensures, c .before .before .put .ensures ∙ put-all _ _ (search needs))
 
 pub put-table-spec : {M : Type 1} → statement M
 put-table-spec =

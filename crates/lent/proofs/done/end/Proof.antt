@@ -14,10 +14,16 @@ same-length : tie.Need-same-length
 same-length c = search needs
 
 returns : tie.Need-returns
-returns c = end-refused (c .before .before .before .before .before .before .before .before .args .ran) (c .before .before .before .before .before .before .before .before .args .out .now) (c .before .before .before .before .before .before .before .before .args .done .now) _ _ (c .before .before .before .before .before .if1 .taken) (c .code .ensures) (c .before .before .before .put-done .ensures)
+returns c =
+    let c3 = c .before .before .before in
+    let c5 = c3 .before .before in
+    let c8 = c5 .before .before .before in
+    end-refused (c8 .args .ran) (c8 .args .out .now) (c8 .args .done .now) _ _ (c5 .if1 .taken) (c .code .ensures) (c3 .put-done .ensures)
 
 fitting-requires : tie.Need-fitting-requires
-fitting-requires c κs = c .before .before .before .before .before .pre .table (c .before .before .if1 .left)
+fitting-requires c κs =
+    let c5 = c .before .before .before .before .before in
+    c5 .pre .table (c .before .before .if1 .left)
 
 put-done-requires-2 : tie.Need-put-done-requires-2
 put-done-requires-2 c κs = search needs
@@ -33,8 +39,13 @@ same-length-3 c = search needs
 
 returns-2 : tie.Need-returns-2
 returns-2 c =
-    end-written (c .before .before .before .before .before .before .before .before .before .before .before .before .before .args .ran) (c .before .before .before .before .before .before .before .before .before .before .before .before .before .args .out .now) (c .before .before .before .before .before .before .before .before .before .before .before .before .before .args .done .now) _ (c .before .before .before .before .before .before .before .fitting .result) _ _ (c .before .before .before .before .before .before .before .before .before .before .if1 .left) (c .before .before .before .before .before .before .before .fitting .ensures .0)
-    (c .before .before .before .before .before .before .before .fitting .ensures .1) (c .code2 .ensures) (c .before .before .before .put-done2 .ensures)
+    let c3 = c .before .before .before in
+    let c7 = c3 .before .before .before .before in
+    let c10 = c7 .before .before .before in
+    let c13 = c10 .before .before .before in
+    end-written (c13 .args .ran) (c13 .args .out .now) (c13 .args .done .now) _ (c7 .fitting .result) _ _ (c10 .if1 .left) (c7 .fitting
+    .ensures .0)
+    (c7 .fitting .ensures .1) (c .code2 .ensures) (c3 .put-done2 .ensures)
 
 pub end-spec : {M : Type 1} → statement M
 end-spec =

@@ -1,3 +1,4 @@
+-- `done::put_done` leaves the six numbers over the front of done.
 use lib.ListN.{length-set}
 use native.Mathlib.Omega.{arith}
 use borrow.Author.Needs.{needs}

@@ -1,3 +1,4 @@
+-- `lines::put_answer` places the line of the answer.
 use Rattle.report.proofs.LineLaws.{answer-placed}
 use borrow.Author.Needs.{needs}
 use Rattle.report.proofs.lines.put_answer.Statement.{statement}

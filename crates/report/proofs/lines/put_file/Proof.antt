@@ -1,3 +1,4 @@
+-- `lines::put_file` places the line of a refused file.
 use Rattle.report.proofs.LineLaws.{file-placed}
 use borrow.Author.Needs.{needs}
 use Rattle.report.proofs.lines.put_file.Statement.{statement}

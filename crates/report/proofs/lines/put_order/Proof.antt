@@ -1,3 +1,4 @@
+-- `lines::put_order` places the line of an order, ended or refused.
 use Rattle.report.proofs.LineLaws.{stopped-placed, ended-placed}
 use borrow.Author.Needs.{needs}
 use Rattle.report.proofs.lines.put_order.Statement.{statement}

@@ -1,3 +1,4 @@
+-- `orders::in_order` is how two scripts end, one after the other.
 use Rattle.sequence.proofs.OrderLaws.{leads-refused, follows-refused, both-ended}
 use borrow.Author.Needs.{needs}
 use Rattle.sequence.proofs.orders.in_order.Statement.{statement}

@@ -1,3 +1,4 @@
+-- `orders::run_alone` is how a script ends, in areas of its own.
 use native.Mathlib.Omega.{arith}
 use Rattle.sequence.proofs.OrderLaws.{run-given}
 use borrow.Author.Needs.{needs}

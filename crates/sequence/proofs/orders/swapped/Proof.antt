@@ -1,3 +1,4 @@
+-- `orders::swapped` puts each script under its own number.
 use Rattle.sequence.proofs.OrderLaws.{swap-first, swap-second, swap-ended}
 use borrow.Author.Needs.{needs}
 use Rattle.sequence.proofs.orders.swapped.Statement.{statement}
