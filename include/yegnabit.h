@@ -85,7 +85,7 @@ uint64_t yegnabit_analyse(const uint8_t *first, size_t first_length, const uint8
 /* Reads a script: its refusal, which 2, or 0. */
 uint64_t yegnabit_script(const uint8_t *script, size_t script_length);
 
-/* The same calls on a table of 512 row words and 8 marks, well formed or not. A row's word is its kind (1 element, 2 leaf) + 4 * (its
+/* Writing and sweeping, on a table of 512 row words and 8 marks, well formed or not. A row's word is its kind (1 element, 2 leaf) + 4 * (its
  * parent's number and one, 0 for none) + 4096 * its name or value byte; words past `count` are 0. A mark is its row's number and one, or 0.
  * An array of another length is 11, an ill-formed table 6 with which 1. */
 

@@ -7,7 +7,6 @@ use crate::answer;
 use plan::write;
 use run::RunResult;
 use run::area;
-use table::Fault;
 
 // The numbers of done.
 const SIX: usize = 6;

@@ -28,6 +28,7 @@ pub struct Evaluated {
     pub env: [Span; Table::BINDERS],
 }
 
+// A byte as an element's name.
 fn name(b: u8) -> u16
     ensures { λ r. ⌜ r ≡ b ⌝ }
 {

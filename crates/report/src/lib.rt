@@ -14,6 +14,7 @@ mod lines;
 // The bytes that the lines take at most.
 pub const ROOM: usize = 160;
 
+// So many bytes are written, and nothing is refused.
 fn written(bytes: usize) -> Written
     ensures { λ r. ⌜ r ≡ record { fault = record { number = 0; place = 0 }; bytes = bytes } ⌝ }
 {

@@ -11,15 +11,19 @@ code-requires : tie.Need-code-requires
 code-requires c κs = search needs
 
 returns : tie.Need-returns
-returns c = script-read (c .before .before .before .before .args .bytes .now) (c .before .before .read-script .result) (c .code .result)
+returns c =
+    let c4 = c .before .before .before .before in
+    script-read (c4 .args .bytes .now) (c .before .before .read-script .result) (c .code .result)
     (c .before .before .read-script .ensures) (c .before .if1 .taken) (c .code .ensures)
 
 code-requires-2 : tie.Need-code-requires-2
 code-requires-2 c κs = search needs
 
 returns-2 : tie.Need-returns-2
-returns-2 c = script-refused (c .before .before .before .before .args .bytes .now) (c .before .before .read-script .result) (c .code2
-    .result) (c .before .before .read-script .ensures) (c .before .if1 .left) (c .code2 .ensures)
+returns-2 c =
+    let c4 = c .before .before .before .before in
+    script-refused (c4 .args .bytes .now) (c .before .before .read-script .result) (c .code2 .result)
+    (c .before .before .read-script .ensures) (c .before .if1 .left) (c .code2 .ensures)
 
 pub yegnabit-script-spec : {M : Type 1} → statement M
 yegnabit-script-spec =

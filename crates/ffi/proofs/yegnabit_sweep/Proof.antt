@@ -17,10 +17,11 @@ code-requires : tie.Need-code-requires
 code-requires c κs = search needs
 
 returns : tie.Need-returns
-returns c = area-short (c .before .before .before .before .args .out .now) (library.planOut (sweptPlan (c .before .before .before .before
-    .args .plan .now)) (c .before .before .before .before .args .out .now)) (writtenCode (library.planWritten (sweptPlan (c .before
-    .before .before .before .args .plan .now)) (c .before .before .before .before .args .out .now))) (library.planRead (c .before .before
-    .before .before .args .plan .now)) (c .code .result) (c .code .ensures) (c .before .if1 .taken)
+returns c =
+    let c4 = c .before .before .before .before in
+    area-short (c4 .args .out .now) (library.planOut (sweptPlan (c4 .args .plan .now)) (c4 .args .out .now))
+    (writtenCode (library.planWritten (sweptPlan (c4 .args .plan .now)) (c4 .args .out .now))) (library.planRead (c4 .args .plan .now))
+    (c .code .result) (c .code .ensures) (c .before .if1 .taken)
 
 read-plan-requires : tie.Need-read-plan-requires
 read-plan-requires c κs = search needs
@@ -29,12 +30,13 @@ code-requires-2 : tie.Need-code-requires-2
 code-requires-2 c κs = search needs
 
 returns-2 : tie.Need-returns-2
-returns-2 c = plan-refused (c .before .before .before .before .before .before .args .out .now) (library.planOut (sweptPlan (c .before
-    .before .before .before .before .before .args .plan .now)) (c .before .before .before .before .before .before .args .out .now))
-    (writtenCode (library.planWritten (sweptPlan (c .before .before .before .before .before .before .args .plan .now)) (c .before .before
-    .before .before .before .before .args .out .now))) (library.planRead (c .before .before .before .before .before .before .args .plan
-    .now)) (omega (arith, c .before .before .before .if1 .left)) (c .before .before .read-plan .result) (c .before .before .read-plan
-    .ensures) (c .code2 .result) (c .code2 .ensures) (c .before .if2 .taken)
+returns-2 c =
+    let c3 = c .before .before .before in
+    let c6 = c3 .before .before .before in
+    plan-refused (c6 .args .out .now) (library.planOut (sweptPlan (c6 .args .plan .now)) (c6 .args .out .now))
+    (writtenCode (library.planWritten (sweptPlan (c6 .args .plan .now)) (c6 .args .out .now))) (library.planRead (c6 .args .plan .now))
+    (omega (arith, c3 .if1 .left)) (c .before .before .read-plan .result) (c .before .before .read-plan .ensures) (c .code2 .result)
+    (c .code2 .ensures) (c .before .if2 .taken)
 
 sweep-table-requires : tie.Need-sweep-table-requires
 sweep-table-requires c κs = search needs

@@ -16,11 +16,11 @@ code-requires : tie.Need-code-requires
 code-requires c κs = search needs
 
 returns : tie.Need-returns
-returns c = area-short (c .before .before .before .before .before .args .out .now) (backOut (undonePlan (c .before .before .before
-    .before .before .args .plan .now) (c .before .before .before .before .before .args .history .now)) (c .before .before .before .before
-    .before .args .out .now)) (backCode (undonePlan (c .before .before .before .before .before .args .plan .now) (c .before .before
-    .before .before .before .args .history .now)) (c .before .before .before .before .before .args .out .now)) (library.planRead (c
-    .before .before .before .before .before .args .plan .now)) (c .code .result) (c .code .ensures) (c .before .if1 .taken)
+returns c =
+    let c5 = c .before .before .before .before .before in
+    area-short (c5 .args .out .now) (backOut (undonePlan (c5 .args .plan .now) (c5 .args .history .now)) (c5 .args .out .now))
+    (backCode (undonePlan (c5 .args .plan .now) (c5 .args .history .now)) (c5 .args .out .now)) (library.planRead (c5 .args .plan .now))
+    (c .code .result) (c .code .ensures) (c .before .if1 .taken)
 
 read-plan-requires : tie.Need-read-plan-requires
 read-plan-requires c κs = search needs
@@ -29,13 +29,13 @@ code-requires-2 : tie.Need-code-requires-2
 code-requires-2 c κs = search needs
 
 returns-2 : tie.Need-returns-2
-returns-2 c = plan-refused (c .before .before .before .before .before .before .before .args .out .now) (backOut (undonePlan (c .before
-    .before .before .before .before .before .before .args .plan .now) (c .before .before .before .before .before .before .before .args
-    .history .now)) (c .before .before .before .before .before .before .before .args .out .now)) (backCode (undonePlan (c .before .before
-    .before .before .before .before .before .args .plan .now) (c .before .before .before .before .before .before .before .args .history
-    .now)) (c .before .before .before .before .before .before .before .args .out .now)) (library.planRead (c .before .before .before
-    .before .before .before .before .args .plan .now)) (omega (arith, c .before .before .before .if1 .left)) (c .before .before
-    .read-plan .result) (c .before .before .read-plan .ensures) (c .code2 .result) (c .code2 .ensures) (c .before .if2 .taken)
+returns-2 c =
+    let c3 = c .before .before .before in
+    let c7 = c3 .before .before .before .before in
+    plan-refused (c7 .args .out .now) (backOut (undonePlan (c7 .args .plan .now) (c7 .args .history .now)) (c7 .args .out .now))
+    (backCode (undonePlan (c7 .args .plan .now) (c7 .args .history .now)) (c7 .args .out .now)) (library.planRead (c7 .args .plan .now))
+    (omega (arith, c3 .if1 .left)) (c .before .before .read-plan .result) (c .before .before .read-plan .ensures) (c .code2 .result)
+    (c .code2 .ensures) (c .before .if2 .taken)
 
 undo-requires : tie.Need-undo-requires
 undo-requires c κs = search needs

@@ -22,10 +22,10 @@ returns-2 c =
     let c6 = c .before .before .before .before .before .before in
     write-not (c6 .args .count) (c6 .args .rows .now) (c6 .args .marks .now) (c6 .args .out .now) (c .code2 .result) (c .code2 .ensures)
     (marks-not-given (c6 .args .rows .now) (c6 .args .marks .now) (search (
-  c .before .before .if1
-      .left,
-  needs,
-)) (c .before .if2 .taken))
+      c .before .before .if1
+          .left,
+      needs,
+    )) (c .before .if2 .taken))
 
 table-of-requires : tie.Need-table-of-requires
 table-of-requires c κs = search needs

@@ -18,15 +18,18 @@ empty-requires : tie.Need-empty-requires
 empty-requires c κs = search needs
 
 returns : tie.Need-returns
-returns c = plan-refused (c .before .before .before .before .before .before .before .before .before .args .bytes .now) (c .before .before
-    .before .before .before .records .last .1 .0) (c .before .before .before .before .before .records .last .1 .1 .0) (c .before .before
-    .before .before .before .records .result) (c .before .before .before .before .before .records .ensures) (c .empty .result) (c .before
-    .if1 .taken) (c .empty .ensures)
+returns c =
+    let c5 = c .before .before .before .before .before in
+    let c9 = c5 .before .before .before .before in
+    plan-refused (c9 .args .bytes .now) (c5 .records .last .1 .0) (c5 .records .last .1 .1 .0) (c5 .records .result)
+    (c5 .records .ensures) (c .empty .result) (c .before .if1 .taken) (c .empty .ensures)
 
 returns-2 : tie.Need-returns-2
-returns-2 c = plan-read (c .before .before .before .before .before .before .before .before .args .bytes .now) (c .before .before .before
-    .before .records .last .1 .0) (c .before .before .before .before .records .last .1 .1 .0) (c .before .before .before .before .records
-    .result) (c .before .before .before .before .records .ensures) (search (c .if1 .left, needs))
+returns-2 c =
+    let c4 = c .before .before .before .before in
+    let c8 = c4 .before .before .before .before in
+    plan-read (c8 .args .bytes .now) (c4 .records .last .1 .0) (c4 .records .last .1 .1 .0) (c4 .records .result) (c4 .records .ensures)
+    (search (c .if1 .left, needs))
 
 pub read-plan-spec : {M : Type 1} → statement M
 read-plan-spec =

@@ -10,9 +10,10 @@ fits-requires : tie.Need-fits-requires
 fits-requires c κs = search needs
 
 returns : tie.Need-returns
-returns c = write-ill (c .before .before .before .before .before .before .before .before .args .t1) (c .before .before .before .before
-    .before .before .before .before .args .out .now) (sym (c .before .fits2 .ensures) ∙ not-true (c .before .fits2 .result) (c .if1
-    .taken))
+returns c =
+    let c8 = c .before .before .before .before .before .before .before .before in
+    write-ill (c8 .args .t1) (c8 .args .out .now)
+    (sym (c .before .fits2 .ensures) ∙ not-true (c .before .fits2 .result) (c .if1 .taken))
 
 fitting-requires : tie.Need-fitting-requires
 fitting-requires c κs = sym (c .before .before .fits2 .ensures) ∙ not-false (c .before .before .fits2 .result) (c .before .if1 .left)

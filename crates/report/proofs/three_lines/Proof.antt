@@ -33,28 +33,26 @@ same-length : tie.Need-same-length
 same-length c = search needs
 
 returns : tie.Need-returns
-returns c = record {
-  text =
-      three-placed (c .before .before .before .before .before .before .before .before .before .before .before .before .before .before
-      .before .before .before .before .before .before .before .args .table) (c .before .before .before .before .before .before .before
-      .before .before .before .before .before .before .before .before .before .before .before .before .before .before .args .word .now)
-      (c .before .before .before .before .before .before .before .before .before .before .before .before .before .before .before .before
-      .before .before .before .before .before .args .first .now) (c .before .before .before .before .before .before .before .before
-      .before .before .before .before .before .before .before .before .before .before .before .before .before .args .second .now) (c
-      .before .before .before .before .before .before .before .before .before .before .before .before .in-order .ensures) (c .before
-      .before .before .before .before .before .in-order2 .ensures)
-      (c .before .before .before .swapped .ensures) (c .before .before .before .before .before .before .before .before .before .before
-      .before .before .before .before .before .put-answer .ensures .text) (c .before .before .before .before .before .before .before
-      .before .before .put-order .ensures .text) (c .before .before .put-order2 .ensures .text);
-  few = omega (
-    arith,
-    c .before .before .before .before .before .before .before .before .before .before .before .before .before .before
-        .before .put-answer .ensures .few,
-    c .before .before .before .before .before .before .before .before .before .put-order .ensures
-        .few,
-    c .before .before .put-order2 .ensures .few,
-  );
-}
+returns c =
+    let c3 = c .before .before .before in
+    let c6 = c3 .before .before .before in
+    let c9 = c6 .before .before .before in
+    let c12 = c9 .before .before .before in
+    let c15 = c12 .before .before .before in
+    let c21 = c15 .before .before .before .before .before .before in
+    record {
+      text =
+          three-placed (c21 .args .table) (c21 .args .word .now)
+          (c21 .args .first .now) (c21 .args .second .now) (c12 .in-order .ensures) (c6 .in-order2 .ensures)
+          (c3 .swapped .ensures) (c15 .put-answer .ensures .text) (c9 .put-order .ensures .text) (c .before .before .put-order2 .ensures .text);
+      few = omega (
+        arith,
+        c15 .put-answer .ensures .few,
+        c9 .put-order .ensures
+            .few,
+        c .before .before .put-order2 .ensures .few,
+      );
+    }
 
 pub three-lines-spec : {M : Type 1} → statement M
 three-lines-spec =

@@ -22,8 +22,9 @@ fitting c = fits-at (c .before .before .before .before .before .before .before .
     .fits2 .ensures) ∙ not-false (c .before .fits2 .result) (c .if1 .left))
 
 returns : tie.Need-returns
-returns c = sweep-ill (c .before .before .before .before .before .before .before .args .t1) (sym (c .before .fits2 .ensures) ∙ not-true
-    (c .before .fits2 .result) (c .if1 .taken))
+returns c =
+    let c7 = c .before .before .before .before .before .before .before in
+    sweep-ill (c7 .args .t1) (sym (c .before .fits2 .ensures) ∙ not-true (c .before .fits2 .result) (c .if1 .taken))
 
 slice-aggregate-rows : tie.Need-slice-aggregate-rows
 slice-aggregate-rows c = search needs
@@ -32,15 +33,17 @@ slice-aggregate-rows-2 : tie.Need-slice-aggregate-rows-2
 slice-aggregate-rows-2 c = search needs
 
 rows-requires : tie.Need-rows-requires
-rows-requires c κs = record {
-  size = size (c .before .before .before .before .before .before .before .before .before .before .before
-      .before .before .before) .rows;
-  fits = sym (c .before .before .before .before .before .before .before .before .fits2 .ensures) ∙
-      not-false (c .before .before .before .before .before .before .before .before .fits2 .result) (c .before .before .before .before
-      .before .before .before .if1 .left);
-  numbers = refl;
-  rows = refl;
-}
+rows-requires c κs =
+    let c7 = c .before .before .before .before .before .before .before in
+    let c8 = c7 .before in
+    let c14 = c8 .before .before .before .before .before .before in
+    record {
+      size = size (c14) .rows;
+      fits = sym (c8 .fits2 .ensures) ∙
+          not-false (c8 .fits2 .result) (c7 .if1 .left);
+      numbers = refl;
+      rows = refl;
+    }
 
 slice-aggregate-renumber : tie.Need-slice-aggregate-renumber
 slice-aggregate-renumber c = search needs
@@ -49,40 +52,32 @@ slice-aggregate-renumber-2 : tie.Need-slice-aggregate-renumber-2
 slice-aggregate-renumber-2 c = search needs
 
 renumber-requires : tie.Need-renumber-requires
-renumber-requires c κs = record {
-  size = c .before .before .before .before .before .rows2 .ensures .size;
-  links = λ d. fits-mark (c
-      .before .before .before .before .before .before .before .before .before .before .before .before .before .before .before .before
-      .before .before .before .before .args .t1 .count) (c .before .before .before .before .before .before .before .before .before .before
-      .before .before .before .before .before .before .before .before .before .before .args .t1 .rows) (c .before .before .before .before
-      .before .before .before .before .before .before .before .before .before .before .before .before .before .before .before .before .args
-      .t1 .marks) (fitting (c .before .before .before .before .before .before .before .before .before .before .before .before .before))
-      (omega (
-        arith,
-        fitting (c .before .before .before .before .before .before .before .before .before .before .before .before .before)
-            .few,
-        size (c .before .before .before .before .before .before .before .before .before .before .before .before .before .before .before
-            .before .before .before .before .before) .rows,
-      )) d;
-}
+renumber-requires c κs =
+    let c5 = c .before .before .before .before .before in
+    let c13 = c5 .before .before .before .before .before .before .before .before in
+    let c20 = c13 .before .before .before .before .before .before .before in
+    record {
+      size = c5 .rows2 .ensures .size;
+      links = λ d. fits-mark (c20 .args .t1 .count) (c20 .args .t1 .rows) (c20 .args
+          .t1 .marks) (fitting (c13))
+          (omega (
+            arith,
+            fitting (c13)
+                .few,
+            size (c20) .rows,
+          )) d;
+    }
 
 returns-2 : tie.Need-returns-2
-returns-2 c = sweep-done (c .before .before .before .before .before .before .before .before .before .before .before .before .before
-    .before .before .before .before .before .before .before .before .before .args .t1) _ (sym (c .before .before .before .before .before
-    .before .before .before .before .before .before .before .before .before .before .before .fits2 .ensures) ∙ not-false (c .before
-    .before .before .before .before .before .before .before .before .before .before .before .before .before .before .before .fits2
-    .result) (c .before .before .before .before .before .before .before .before .before .before .before .before .before .before .before
-    .if1 .left)) (encode-swept (c .before .before .before .before .before .before .before .before .before .before .before .before .before
-    .before .before .before .before .before .before .before .before .before .args .t1 .rows) (c .before .before .before .before .before
-    .before .before .before .before .before .before .before .before .before .before .before .before .before .before .before .before
-    .before .args .t1 .marks) (c .before .before .before .before .before .before .before .before .before .before .before .before .before
-    .before .before .before .before .before .before .before .before .before .args .t1 .count) (fitting (c .before .before .before .before
-    .before .before .before .before .before .before .before .before .before .before .before)) (size (c .before .before .before .before
-    .before .before .before .before .before .before .before .before .before .before .before .before .before .before .before .before
-    .before .before) .rows) (c .before .before .before .before .before .before .before .rows2 .result) (c .before .before .before .before
-    .before .before .before .rows2 .last .1 .1 .1 .0) (c .before .before .before .before .before .before .before .rows2 .last .1 .1 .1 .1
-    .0) (c .before .before .before .before .before .before .before .rows2 .ensures) (c .before .renumber .last .0) (c .before .renumber
-    .ensures))
+returns-2 c =
+    let c7 = c .before .before .before .before .before .before .before in
+    let c15 = c7 .before .before .before .before .before .before .before .before in
+    let c16 = c15 .before in
+    let c22 = c16 .before .before .before .before .before .before in
+    sweep-done (c22 .args .t1) _ (sym (c16 .fits2 .ensures) ∙ not-false (c16 .fits2 .result) (c15 .if1 .left))
+    (encode-swept (c22 .args .t1 .rows) (c22 .args .t1 .marks) (c22 .args .t1 .count) (fitting (c15)) (size (c22) .rows) (c7 .rows2
+    .result) (c7 .rows2 .last .1 .1 .1 .0) (c7 .rows2 .last .1 .1 .1 .1 .0) (c7 .rows2 .ensures) (c .before .renumber .last .0) (c
+    .before .renumber .ensures))
 
 pub sweep-table-spec : {M : Type 1} → statement M
 sweep-table-spec =

@@ -23,9 +23,9 @@ fits-requires c κs = search needs
 
 returns : tie.Need-returns
 returns c =
-    undo-ill (c .before .before .before .before .before .before .before .before .args .t1)
-    (c .before .before .before .before .before .before .before .before .args .history .now) (sym (c .before .fits2 .ensures) ∙ not-true
-    (c .before .fits2 .result) (c .if1 .taken))
+    let c8 = c .before .before .before .before .before .before .before .before in
+    undo-ill (c8 .args .t1) (c8 .args .history .now)
+    (sym (c .before .fits2 .ensures) ∙ not-true (c .before .fits2 .result) (c .if1 .taken))
 
 slice-aggregate-form : tie.Need-slice-aggregate-form
 slice-aggregate-form c = search needs
@@ -35,9 +35,10 @@ form-requires c κs = search needs
 
 returns-2 : tie.Need-returns-2
 returns-2 c =
-    undo-broken (c .before .before .before .before .before .before .before .before .before .before .before .before .before .args .t1)
-    (c .before .before .before .before .before .before .before .before .before .before .before .before .before .args .history .now)
-    (fitting (c .before .before .before .before .before)) (c .before .before .before .form .ensures) (c .if2 .taken)
+    let c3 = c .before .before .before in
+    let c5 = c3 .before .before in
+    let c13 = c5 .before .before .before .before .before .before .before .before in
+    undo-broken (c13 .args .t1) (c13 .args .history .now) (fitting (c5)) (c3 .form .ensures) (c .if2 .taken)
 
 slice-aggregate-undo-all : tie.Need-slice-aggregate-undo-all
 slice-aggregate-undo-all c = search needs
@@ -47,45 +48,32 @@ slice-aggregate-undo-all-2 c = search needs
 
 undo-all-requires : tie.Need-undo-all-requires
 undo-all-requires c κs =
-    undo-pre
-    (c .before .before .before .before .before .before .before .before .before .before .before .before .before .before .before .before
-    .before .before .before .args .t1)
-    (c .before .before .before .before .before .before .before .before .before .before .before .before .before .before .before .before
-    .before .before .before .args .history .now)
-    (fitting (c .before .before .before .before .before .before .before .before .before .before .before))
-    (c .before .before .before .before .before .before .before .before .before .form .ensures) (is-formed
-    (c .before .before .before .before .before .before)) (size
-    (c .before .before .before .before .before .before .before .before .before .before .before .before .before .before .before .before
-    .before .before .before) .rows)
-    (c .before .before .before .before .before .before .before .before .before .form .kept .1 .0)
+    let c6 = c .before .before .before .before .before .before in
+    let c9 = c6 .before .before .before in
+    let c11 = c9 .before .before in
+    let c19 = c11 .before .before .before .before .before .before .before .before in
+    undo-pre (c19 .args .t1) (c19 .args .history .now) (fitting (c11)) (c9 .form .ensures) (is-formed (c6)) (size (c19) .rows)
+    (c9 .form .kept .1 .0)
 
 returns-3 : tie.Need-returns-3
 returns-3 c =
-    undo-refused
-    (c .before .before .before .before .before .before .before .before .before .before .before .before .before .before .before .before
-    .before .before .before .before .before .before .before .args .t1)
-    (c .before .before .before .before .before .before .before .before .before .before .before .before .before .before .before .before
-    .before .before .before .before .before .before .before .args .history .now)
-    (fitting (c .before .before .before .before .before .before .before .before .before .before .before .before .before .before .before))
-    (c .before .before .before .before .before .before .before .before .before .before .before .before .before .form .ensures) (is-formed
-    (c .before .before .before .before .before .before .before .before .before .before)) (c .before .before .before .undo-all .ensures)
-    (c .if3 .taken)
+    let c3 = c .before .before .before in
+    let c10 = c3 .before .before .before .before .before .before .before in
+    let c13 = c10 .before .before .before in
+    let c15 = c13 .before .before in
+    let c23 = c15 .before .before .before .before .before .before .before .before in
+    undo-refused (c23 .args .t1) (c23 .args .history .now) (fitting (c15)) (c13 .form .ensures) (is-formed (c10))
+    (c3 .undo-all .ensures) (c .if3 .taken)
 
 returns-4 : tie.Need-returns-4
 returns-4 c =
-    undo-done
-    (c .before .before .before .before .before .before .before .before .before .before .before .before .before .before .before .before
-    .before .before .before .before .before .before .before .before .args .t1)
-    (c .before .before .before .before .before .before .before .before .before .before .before .before .before .before .before .before
-    .before .before .before .before .before .before .before .before .args .history .now)
-    (fitting
-    (c .before .before .before .before .before .before .before .before .before .before .before .before .before .before .before .before))
-    (c .before .before .before .before .before .before .before .before .before .before .before .before .before .before .form .ensures)
-    (is-formed (c .before .before .before .before .before .before .before .before .before .before .before))
-    (c .before .before .before .before .undo-all .ensures) (search (c .before .if3 .left, needs))
-    (c .before .before .before .before .undo-all .kept .0 ∙ size
-    (c .before .before .before .before .before .before .before .before .before .before .before .before .before .before .before .before
-    .before .before .before .before .before .before .before .before) .rows)
+    let c4 = c .before .before .before .before in
+    let c11 = c4 .before .before .before .before .before .before .before in
+    let c14 = c11 .before .before .before in
+    let c16 = c14 .before .before in
+    let c24 = c16 .before .before .before .before .before .before .before .before in
+    undo-done (c24 .args .t1) (c24 .args .history .now) (fitting (c16)) (c14 .form .ensures) (is-formed (c11)) (c4 .undo-all .ensures)
+    (search (c .before .if3 .left, needs)) (c4 .undo-all .kept .0 ∙ size (c24) .rows)
 
 pub undo-spec : {M : Type 1} → statement M
 undo-spec =

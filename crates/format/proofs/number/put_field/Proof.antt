@@ -18,8 +18,10 @@ same-length : tie.Need-same-length
 same-length c = search needs
 
 returns : tie.Need-returns
-returns c = field-placed (omega (arith, c .before .before .before .before .before .before .before .before .before .before .pre)) (c
-    .before .before .before .before .before .before .put .ensures) (c .before .before .put-number .ensures)
+returns c =
+    let c6 = c .before .before .before .before .before .before in
+    let c10 = c6 .before .before .before .before in
+    field-placed (omega (arith, c10 .pre)) (c6 .put .ensures) (c .before .before .put-number .ensures)
 
 pub put-field-spec : {M : Type 1} → statement M
 put-field-spec =

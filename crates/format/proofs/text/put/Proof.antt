@@ -34,17 +34,15 @@ loop-less : tie.Need-loop-less Inv-loop μ-loop
 loop-less c = search needs
 
 loop-again : tie.Need-loop-again Inv-loop μ-loop
-loop-again c = (
-  omega arith,
-  length-set (c .before .before .loop .out) (c .before .before .before .args .at + c .before .before .loop .i) (getD (c .before .before
-      .before .args .text .now) (c .before .before .loop .i) 0) ∙ c .before .before .loop .inv .1,
-  copy-next (c .before .before .loop .out) (c .before .before .before .args .out .now) (c .before .before .before .args .text .now) (c
-      .before .before .before .args .at) (c .before .before .loop .i) (c .before .before .loop .inv .2) (omega (
-        arith,
-        c .before .before
-            .before .pre,
-      )) (c .before .loop-test .taken),
-)
+loop-again c =
+    let c3 = c .before .before .before in (
+      omega arith,
+      length-set (c .before .before .loop .out) (c3 .args .at + c .before .before .loop .i) (getD (c3 .args .text .now) (c
+          .before .before .loop .i) 0) ∙ c .before .before .loop .inv .1,
+      copy-next (c .before .before .loop .out) (c3 .args .out .now) (c3
+          .args .text .now) (c3 .args .at) (c .before .before .loop .i) (c .before .before .loop .inv .2) (omega (arith, c3 .pre)) (c .before
+          .loop-test .taken),
+    )
 
 add-result : tie.Need-add-result Inv-loop μ-loop
 add-result c = search needs

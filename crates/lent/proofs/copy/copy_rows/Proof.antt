@@ -36,14 +36,14 @@ loop-less : tie.Need-loop-less Inv-loop μ-loop
 loop-less c = omega arith
 
 loop-again : tie.Need-loop-again Inv-loop μ-loop
-loop-again c = (
-  omega arith,
-  length-set (c .before .before .loop .to) (c .before .before .loop .i) (getD (c .before .before .before .args
-      .from .now) (c .before .before .loop .i) 0) ∙ c .before .before .loop .inv .1,
-  copy-next (c .before .before .loop .to) (c .before
-      .before .before .args .from .now) (c .before .before .loop .i) (c .before .before .loop .inv .1) (c .before .loop-test .taken) (c
-      .before .before .loop .inv .2),
-)
+loop-again c =
+    let c3 = c .before .before .before in (
+      omega arith,
+      length-set (c .before .before .loop .to) (c .before .before .loop .i) (getD (c3 .args .from .now) (c .before .before
+          .loop .i) 0) ∙ c .before .before .loop .inv .1,
+      copy-next (c .before .before .loop .to) (c3 .args .from .now) (c .before .before
+          .loop .i) (c .before .before .loop .inv .1) (c .before .loop-test .taken) (c .before .before .loop .inv .2),
+    )
 
 same-length : tie.Need-same-length Inv-loop μ-loop
 same-length c = search needs

@@ -22,8 +22,10 @@ put-requires c κs = search needs
 
 returns : tie.Need-returns
 returns c =
-    let x = c .before .before .before .before .before .before .before .before in
-    ap (λ (l : List ℕ). given (x .args .count) l (c .before .put .last .0)) (c .before .before .before .before .copy-rows .ensures) ∙
+    let c4 = c .before .before .before .before in
+    let c8 = c4 .before .before .before .before in
+    let x = c8 in
+    ap (λ (l : List ℕ). given (x .args .count) l (c .before .put .last .0)) (c4 .copy-rows .ensures) ∙
     ap (given (x .args .count) (x .args .rows .now)) (c .before .put .ensures ∙ put-all (x .args .marks .now) _ (sym (x .pre .marks)))
 
 pub table-of-spec : {M : Type 1} → statement M

@@ -92,7 +92,10 @@ pair-requires c κs =
     }
 
 same-length-2 : tie.Need-same-length-2 Inv-loop μ-loop
-same-length-2 c = c .before .before .before .pair .kept .1 .1 .0 ∙ c .before .before .before .before .before .before .loop .inv .1
+same-length-2 c =
+    let c3 = c .before .before .before in
+    let c6 = c3 .before .before .before in
+    c3 .pair .kept .1 .1 .0 ∙ c6 .loop .inv .1
 
 returns-2 : tie.Need-returns-2 Inv-loop μ-loop
 returns-2 c =

@@ -54,50 +54,52 @@ marked-by c =
     .before .before .before .before .before .before .before .before .before .args .marks .now))) h)
 
 returns : tie.Need-returns
-returns c = record {
-  fault = λ i e. mark-field (c .before .before .before .before .before .before .args .s .now) (c .before .before
-      .before .before .before .before .args .rows .now) (c .before .before .before .before .before .before .args .marks .now) (c .before
-      .before .before .before .before .before .args .count) i (c .before .before .before .before .before .before .pre) (omega (
+returns c =
+    let c6 = c .before .before .before .before .before .before in
+    record {
+      fault = λ i e. mark-field (c6 .args .s .now) (c6 .args .rows .now) (c6 .args .marks .now) (c6 .args .count) i (c6 .pre) (omega (
         arith,
-        c
-            .before .byte .ensures .0,
+        c .before .byte .ensures .0,
         c .if1 .taken,
       ));
-  marks = refl;
-  document = λ z. refused _ z;
-  order = λ z. refused _ z;
-}
+      marks = refl;
+      document = λ z. refused _ z;
+      order = λ z. refused _ z;
+    }
 
 returns-2 : tie.Need-returns-2
-returns-2 c = record {
-  fault = λ i e. mark-order (c .before .before .before .before .before .before .before .args .s .now) (c .before
-      .before .before .before .before .before .before .args .rows .now) (c .before .before .before .before .before .before .before .args
-      .marks .now) (c .before .before .before .before .before .before .before .args .count) i (c .before .before .before .before .before
-      .before .before .pre) (known (c .before)) (omega (arith, e, c .before .before .byte .ensures .0, c .if2 .taken));
-  marks = refl;
-  document = λ z. refused _ z;
-  order = λ z. refused _ z;
-}
+returns-2 c =
+    let c7 = c .before .before .before .before .before .before .before in
+    record {
+      fault = λ i e. mark-order (c7 .args .s .now) (c7 .args .rows .now) (c7 .args
+          .marks .now) (c7 .args .count) i (c7 .pre) (known (c .before)) (omega (arith, e, c .before .before .byte .ensures .0, c .if2 .taken));
+      marks = refl;
+      document = λ z. refused _ z;
+      order = λ z. refused _ z;
+    }
 
 number-at-requires : tie.Need-number-at-requires
 number-at-requires c κs = search needs
 
 returns-3 : tie.Need-returns-3
-returns-3 c = record {
-  fault = λ i e. mark-high (c .before .before .before .before .before .before .before .before .before .args .s .now)
-      (c .before .before .before .before .before .before .before .before .before .args .rows .now) (c .before .before .before .before
-      .before .before .before .before .before .args .marks .now) (c .before .before .before .before .before .before .before .before .before
-      .args .count) i (c .before .before .before .before .before .before .before .before .before .pre) (known (c .before .before .before))
-      (omega (arith, e, c .before .before .before .before .byte .ensures .0, c .before .before .if2 .left)) (omega (
-        arith,
-        c .before
-            .number-at .ensures .0,
-        c .if3 .taken,
-      ));
-  marks = refl;
-  document = λ z. refused _ z;
-  order = λ z. refused _ z;
-}
+returns-3 c =
+    let c3 = c .before .before .before in
+    let c4 = c3 .before in
+    let c9 = c4 .before .before .before .before .before in
+    record {
+      fault = λ i e. mark-high (c9 .args .s .now)
+          (c9 .args .rows .now) (c9 .args .marks .now) (c9
+          .args .count) i (c9 .pre) (known (c3))
+          (omega (arith, e, c4 .byte .ensures .0, c .before .before .if2 .left)) (omega (
+            arith,
+            c .before
+                .number-at .ensures .0,
+            c .if3 .taken,
+          ));
+      marks = refl;
+      document = λ z. refused _ z;
+      order = λ z. refused _ z;
+    }
 
 mul-w : tie.Need-mul-w
 mul-w c = search needs
@@ -109,24 +111,26 @@ kind-requires : tie.Need-kind-requires
 kind-requires c κs = search needs
 
 returns-4 : tie.Need-returns-4
-returns-4 c = record {
-  fault = λ i e. mark-leaf (c .before .before .before .before .before .before .before .before .before .before
-      .before .before .args .s .now) (c .before .before .before .before .before .before .before .before .before .before .before .before
-      .args .rows .now) (c .before .before .before .before .before .before .before .before .before .before .before .before .args .marks
-      .now) (c .before .before .before .before .before .before .before .before .before .before .before .before .args .count) i (c .before
-      .before .before .before .before .before .before .before .before .before .before .before .pre) (known (c .before .before .before
-      .before .before .before)) (omega (
-        arith,
-        e,
-        c .before .before .before .before .before .before .before .byte .ensures .0,
-        c .before
-            .before .before .before .before .if2 .left,
-      )) (there (c .before .before .before)) (row-kind (c .before) ∙ c .if4 .taken);
-  marks =
-      refl;
-  document = λ z. refused _ z;
-  order = λ z. refused _ z;
-}
+returns-4 c =
+    let c3 = c .before .before .before in
+    let c5 = c3 .before .before in
+    let c6 = c5 .before in
+    let c7 = c6 .before in
+    let c12 = c7 .before .before .before .before .before in
+    record {
+      fault = λ i e. mark-leaf (c12 .args .s .now) (c12
+          .args .rows .now) (c12 .args .marks
+          .now) (c12 .args .count) i (c12 .pre) (known (c6)) (omega (
+            arith,
+            e,
+            c7 .byte .ensures .0,
+            c5 .if2 .left,
+          )) (there (c3)) (row-kind (c .before) ∙ c .if4 .taken);
+      marks =
+          refl;
+      document = λ z. refused _ z;
+      order = λ z. refused _ z;
+    }
 
 link-requires : tie.Need-link-requires
 link-requires c κs = search needs
@@ -166,28 +170,29 @@ same-length : tie.Need-same-length
 same-length c = search needs
 
 returns-6 : tie.Need-returns-6
-returns-6 c = record {
-  fault = λ i e. mark-by (c .before .before .before .before .before .before .before .before .before .before .before
-      .before .before .before .before .before .before .args .s .now) (c .before .before .before .before .before .before .before .before
-      .before .before .before .before .before .before .before .before .before .args .rows .now) (c .before .before .before .before .before
-      .before .before .before .before .before .before .before .before .before .before .before .before .args .marks .now) (c .before .before
-      .before .before .before .before .before .before .before .before .before .before .before .before .before .before .before .args .count)
-      i (c .before .before .before .before .before .before .before .before .before .before .before .before .before .before .before .before
-      .before .pre) (known (c .before .before .before .before .before .before .before .before .before .before .before)) (omega (
-        arith,
-        e,
-        c
-            .before .before .before .before .before .before .before .before .before .before .before .before .byte .ensures .0,
-        c .before .before
-            .before .before .before .before .before .before .before .before .if2 .left,
-      )) (there (c .before .before .before .before .before
-      .before .before .before)) (λ z. c .before .before .before .before .before .if4 .left (sym (row-kind (c .before .before .before
-      .before .before .before)) ∙ z)) (sym (row-link (c .before .before .before .before)) ∙ link-zero (c .before .before .before)) true
-      (marked-by (c .before) ∙ c .if6 .taken);
-  marks = refl;
-  document = λ z. refused _ z;
-  order = λ z. refused _ z;
-}
+returns-6 c =
+    let c3 = c .before .before .before in
+    let c4 = c3 .before in
+    let c5 = c4 .before in
+    let c6 = c5 .before in
+    let c8 = c6 .before .before in
+    let c10 = c8 .before .before in
+    let c11 = c10 .before in
+    let c12 = c11 .before in
+    let c17 = c12 .before .before .before .before .before in
+    record {
+      fault = λ i e. mark-by (c17 .args .s .now) (c17 .args .rows .now) (c17 .args .marks .now) (c17 .args .count)
+          i (c17 .pre) (known (c11)) (omega (
+            arith,
+            e,
+            c12 .byte .ensures .0,
+            c10 .if2 .left,
+          )) (there (c8)) (λ z. c5 .if4 .left (sym (row-kind (c6)) ∙ z)) (sym (row-link (c4)) ∙ link-zero (c3)) true
+          (marked-by (c .before) ∙ c .if6 .taken);
+      marks = refl;
+      document = λ z. refused _ z;
+      order = λ z. refused _ z;
+    }
 
 mul-marks : tie.Need-mul-marks
 mul-marks c = search needs

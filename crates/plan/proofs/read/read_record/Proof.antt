@@ -24,12 +24,12 @@ count-known c = count-decode (c .args .count) (c .args .rows .now) (c .args .mar
 ))
 
 returns : tie.Need-returns
-returns c = record {
-  fault = λ i. record-low (decodeParts (c .before .before .before .before .before .args .count) (c .before .before
-      .before .before .before .args .rows .now) (c .before .before .before .before .before .args .marks .now)) i (c .before .before .before
-      .before .before .args .s .now) (c .if1 .taken);
-  fine = λ z. refused 0 z;
-}
+returns c =
+    let c5 = c .before .before .before .before .before in
+    record {
+      fault = λ i. record-low (decodeParts (c5 .args .count) (c5 .args .rows .now) (c5 .args .marks .now)) i (c5 .args .s .now) (c .if1 .taken);
+      fine = λ z. refused 0 z;
+    }
 
 returns-2 : tie.Need-returns-2
 returns-2 c = record {
@@ -40,22 +40,24 @@ returns-2 c = record {
 }
 
 returns-3 : tie.Need-returns-3
-returns-3 c = record {
-  fault = λ i. record-mark-short (decodeParts (c .before .before .before .before .before .before .before .before
-      .args .count) (c .before .before .before .before .before .before .before .before .args .rows .now) (c .before .before .before .before
-      .before .before .before .before .args .marks .now)) i (c .before .before .before .before .before .before .before .before .args .s
-      .now) (c .before .if3 .taken) (c .if4 .taken);
-  fine = λ z. refused 1 z;
-}
+returns-3 c =
+    let c8 = c .before .before .before .before .before .before .before .before in
+    record {
+      fault = λ i. record-mark-short (decodeParts (c8
+          .args .count) (c8 .args .rows .now) (c8 .args .marks .now)) i (c8 .args .s
+          .now) (c .before .if3 .taken) (c .if4 .taken);
+      fine = λ z. refused 1 z;
+    }
 
 mark-requires : tie.Need-mark-requires
-mark-requires c κs = record {
-  whole = omega arith;
-  room = c .before .before .before .before .before .before .before .before .before
-      .before .pre .held .room;
-  size = c .before .before .before .before .before .before .before .before .before .before .pre .held .size;
-  documents = c .before .before .before .before .before .before .before .before .before .before .pre .held .documents;
-}
+mark-requires c κs =
+    let c10 = c .before .before .before .before .before .before .before .before .before .before in
+    record {
+      whole = omega arith;
+      room = c10 .pre .held .room;
+      size = c10 .pre .held .size;
+      documents = c10 .pre .held .documents;
+    }
 
 shared-slice-read-byte : tie.Need-shared-slice-read-byte
 shared-slice-read-byte c = search needs
@@ -73,30 +75,27 @@ same-length-2 : tie.Need-same-length-2
 same-length-2 c = search needs
 
 returns-4 : tie.Need-returns-4
-returns-4 c = mark-record (c .before .before .before .before .before .before .before .before .before .before .before .before .before
-    .before .before .args .s .now) (c .before .before .before .before .before .before .before .before .before .before .before .before
-    .before .before .before .args .rows .now) (c .before .before .before .before .before .before .before .before .before .before .before
-    .before .before .before .before .args .marks .now) (c .before .before .before .before .before .before .before .before .before .before
-    .before .before .before .before .before .args .count) (c .before .before .before .before .before .before .before .before .before
-    .before .before .before .before .before .before .args .last) (c .before .before .before .before .before .before .before .before
-    .before .before .before .before .before .before .before .pre) (omega (
-      arith,
-      c .before .before .before .before .before .before
-          .before .if4 .left,
-    )) (c .before .before .before .before .before .before .before .before .if3 .taken) (c .before .before .before
-    .before .mark .last .1 .1 .0) (c .before .before .before .before .mark .result) (c .byte .result) (c .before .before .before .before
-    .mark .ensures) (c .byte .ensures .0)
+returns-4 c =
+    let c4 = c .before .before .before .before in
+    let c7 = c4 .before .before .before in
+    let c8 = c7 .before in
+    let c15 = c8 .before .before .before .before .before .before .before in
+    mark-record (c15 .args .s .now) (c15 .args .rows .now) (c15 .args .marks .now) (c15 .args .count) (c15 .args .last) (c15 .pre)
+    (omega (arith, c7 .if4 .left)) (c8 .if3 .taken) (c4 .mark .last .1 .1 .0) (c4 .mark .result) (c .byte .result) (c4 .mark .ensures)
+    (c .byte .ensures .0)
 
 returns-5 : tie.Need-returns-5
-returns-5 c = record {
-  fault = λ i. record-size (decodeParts (c .before .before .before .before .before .before .before .before .args
-      .count) (c .before .before .before .before .before .before .before .before .args .rows .now) (c .before .before .before .before
-      .before .before .before .before .args .marks .now)) i (c .before .before .before .before .before .before .before .before .args .s
-      .now) (omega (arith, c .before .before .before .if1 .left)) (omega (arith, c .before .before .if2 .left, c .before .if3 .left))
-      (omega (arith, count-known (c .before .before .before .before .before .before .before .before), c .if5 .taken));
-  fine = λ z. refused
-      4 z;
-}
+returns-5 c =
+    let c3 = c .before .before .before in
+    let c8 = c3 .before .before .before .before .before in
+    record {
+      fault = λ i. record-size (decodeParts (c8 .args
+          .count) (c8 .args .rows .now) (c8 .args .marks .now)) i (c8 .args .s
+          .now) (omega (arith, c3 .if1 .left)) (omega (arith, c .before .before .if2 .left, c .before .if3 .left))
+          (omega (arith, count-known (c8), c .if5 .taken));
+      fine = λ z. refused
+          4 z;
+    }
 
 returns-6 : tie.Need-returns-6
 returns-6 c = record {
@@ -118,18 +117,23 @@ returns-6 c = record {
 }
 
 row-requires : tie.Need-row-requires
-row-requires c κs = record {
-  whole = omega arith;
-  low = omega (arith, c .before .before .before .before .before .if1 .left);
-  high = omega
-      (arith, c .before .before .before .before .if2 .left, c .before .before .before .if3 .left);
-  room = omega (
-    arith,
-    c .before .before
-        .if5 .left,
-  );
-  size = c .before .before .before .before .before .before .before .before .before .before .pre .held .size;
-}
+row-requires c κs =
+    let c3 = c .before .before .before in
+    let c4 = c3 .before in
+    let c5 = c4 .before in
+    let c10 = c5 .before .before .before .before .before in
+    record {
+      whole = omega arith;
+      low = omega (arith, c5 .if1 .left);
+      high = omega
+          (arith, c4 .if2 .left, c3 .if3 .left);
+      room = omega (
+        arith,
+        c .before .before
+            .if5 .left,
+      );
+      size = c10 .pre .held .size;
+    }
 
 add-t21 : tie.Need-add-t21
 add-t21 c = search needs
@@ -138,22 +142,17 @@ same-length-3 : tie.Need-same-length-3
 same-length-3 c = search needs
 
 returns-7 : tie.Need-returns-7
-returns-7 c = row-record (c .before .before .before .before .before .before .before .before .before .before .before .before .before .args
-    .s .now) (c .before .before .before .before .before .before .before .before .before .before .before .before .before .args .rows .now)
-    (c .before .before .before .before .before .before .before .before .before .before .before .before .before .args .marks .now) (c
-    .before .before .before .before .before .before .before .before .before .before .before .before .before .args .count) (c .before
-    .before .before .before .before .before .before .before .before .before .before .before .before .args .last) (c .before .before
-    .before .before .before .before .before .before .before .before .before .before .before .pre) (omega (
-      arith,
-      c .before .before
-          .before .before .if6 .left,
-    )) (omega (arith, c .before .before .before .before .before .before .before .before .if1 .left)) (omega (
-      arith,
-      c .before .before .before .before .before .before .before .if2 .left,
-      c .before .before .before .before .before .before .if3
-          .left,
-    )) (omega (arith, c .before .before .before .before .before .if5 .left)) (c .before .before .row .last .1 .0) (c .before .before
-    .row .result) (c .before .before .row .ensures)
+returns-7 c =
+    let c4 = c .before .before .before .before in
+    let c5 = c4 .before in
+    let c6 = c5 .before in
+    let c7 = c6 .before in
+    let c8 = c7 .before in
+    let c13 = c8 .before .before .before .before .before in
+    row-record (c13 .args .s .now) (c13 .args .rows .now) (c13 .args .marks .now) (c13 .args .count) (c13 .args .last) (c13 .pre)
+    (omega (arith, c4 .if6 .left)) (omega (arith, c8 .if1 .left)) (omega (arith, c7 .if2 .left, c6 .if3 .left))
+    (omega (arith, c5 .if5 .left)) (c .before .before .row .last .1 .0) (c .before .before .row .result)
+    (c .before .before .row .ensures)
 
 pub read-record-spec : {M : Type 1} → statement M
 read-record-spec =

@@ -24,13 +24,13 @@ abbrev μ-loop : tie.MeasureT-loop
 μ-loop bytes rows₀ marks₀ at₀ count₀ last₀ rows marks at count last = length bytes - at
 
 loop-holds : tie.Need-loop-holds Inv-loop μ-loop
-loop-holds c = (
-  held-empty (c .before .before .before .args .rows .now) (c .before .before .before .args .marks .now) (c .before .before
-      .before .pre),
-  omega arith,
-  reading-all (c .before .before .before .args .rows .now) (c .before .before .before .args .marks .now) (c
-      .before .before .before .pre) (c .before .before .before .args .bytes .now),
-)
+loop-holds c =
+    let c3 = c .before .before .before in (
+      held-empty (c3 .args .rows .now) (c3 .args .marks .now) (c3 .pre),
+      omega arith,
+      reading-all (c3 .args .rows .now) (c3 .args .marks
+          .now) (c3 .pre) (c3 .args .bytes .now),
+    )
 
 sub-read-record : tie.Need-sub-read-record Inv-loop μ-loop
 sub-read-record c = search needs
@@ -49,18 +49,14 @@ read-record-requires c κs = record {
 }
 
 same-length : tie.Need-same-length Inv-loop μ-loop
-same-length c = search (
-  ap length (c .before .before .before .before .before .before .before .before .before .before .before .before
-      .before .before .before .pre .rows),
-  needs,
-)
+same-length c =
+    let c15 = c .before .before .before .before .before .before .before .before .before .before .before .before .before .before .before in
+    search (ap length (c15 .pre .rows), needs)
 
 same-length-2 : tie.Need-same-length-2 Inv-loop μ-loop
-same-length-2 c = search (
-  ap length (c .before .before .before .before .before .before .before .before .before .before .before .before
-      .before .before .before .pre .marks),
-  needs,
-)
+same-length-2 c =
+    let c15 = c .before .before .before .before .before .before .before .before .before .before .before .before .before .before .before in
+    search (ap length (c15 .pre .marks), needs)
 
 returns : tie.Need-returns Inv-loop μ-loop
 returns c = record {
@@ -87,17 +83,17 @@ loop-less : tie.Need-loop-less Inv-loop μ-loop
 loop-less c = search needs
 
 loop-again : tie.Need-loop-again Inv-loop μ-loop
-loop-again c = let h : c .before .before .before .before .before .before .read-record .result .number ≡ 0 = search (c .if1 .left, needs)
-    in let g = reading-on (c .before .before .before .before .before .before .before .before .before .before .before .before .before
-    .before .before .args .bytes .now) (c .before .before .before .before .before .before .before .before .before .before .before .loop
-    .rows) (c .before .before .before .before .before .before .before .before .before .before .before .loop .marks) (c .before .before
-    .before .before .before .before .before .before .before .before .before .loop .count) (c .before .before .before .before .before
-    .before .before .before .before .before .before .loop .at) (c .before .before .before .before .before .before .before .before .before
-    .before .loop-test .taken) (c .before .before .before .before .before .before .before .before .before .before .before .loop .inv .2)
-    (c .before .before .before .before .before .before .read-record .last .1 .0) (c .before .before .before .before .before .before
-    .read-record .last .1 .1 .0) (c .before .before .before .before .before .before .read-record .result) (c .before .before .before
-    .before .before .before .read-record .ensures) h in (
-      c .before .before .before .before .before .before .read-record .ensures .fine h
+loop-again c =
+    let c6 = c .before .before .before .before .before .before in
+    let c10 = c6 .before .before .before .before in
+    let c11 = c10 .before in
+    let c15 = c11 .before .before .before .before in
+    let h : c6 .read-record .result .number ≡ 0 = search (c .if1 .left, needs)
+    in let g = reading-on (c15 .args .bytes .now) (c11 .loop
+    .rows) (c11 .loop .marks) (c11 .loop .count) (c11 .loop .at) (c10 .loop-test .taken) (c11 .loop .inv .2)
+    (c6 .read-record .last .1 .0) (c6
+    .read-record .last .1 .1 .0) (c6 .read-record .result) (c6 .read-record .ensures) h in (
+      c6 .read-record .ensures .fine h
           .held,
       g .0,
       g .1,

@@ -55,19 +55,17 @@ wide-requires : tie.Need-wide-requires
 wide-requires c κs = search needs
 
 sub-word : tie.Need-sub-word
-sub-word c = omega (arith, c .wide .ensures .0, c .before .before .before .before .before .before .before .before .before .pre .low)
+sub-word c =
+    let c9 = c .before .before .before .before .before .before .before .before .before in
+    omega (arith, c .wide .ensures .0, c9 .pre .low)
 
 wide-requires-2 : tie.Need-wide-requires-2
 wide-requires-2 c κs = search needs
 
 word-requires : tie.Need-word-requires
-word-requires c κs = omega (
-  arith,
-  c .before .wide .ensures .0,
-  c .wide2 .ensures .1,
-  c .before .before .before .before .before .before
-      .before .before .before .before .pre .high,
-)
+word-requires c κs =
+    let c10 = c .before .before .before .before .before .before .before .before .before .before in
+    omega (arith, c .before .wide .ensures .0, c .wide2 .ensures .1, c10 .pre .high)
 
 mul-rows : tie.Need-mul-rows
 mul-rows c = search needs
@@ -136,32 +134,32 @@ parent-kind c = sym (c .kind .ensures ∙ ap (λ (j : ℕ). getD (c .before .bef
     .before .before .args .rows .now) j 0 % 4) (c .before .before .before .before .number-at .ensures .0))
 
 returns-5 : tie.Need-returns-5
-returns-5 c = record {
-  fault = λ ms i e. row-leaf (c .before .before .before .before .before .before .before .before .before .before
-      .before .before .args .s .now) (c .before .before .before .before .before .before .before .before .before .before .before .before
-      .args .rows .now) ms (c .before .before .before .before .before .before .before .before .before .before .before .before .args .count)
-      i (c .before .before .before .before .before .before .before .before .before .before .before .before .pre) (tag (c .before .before
-      .before .before .before .before .before)) (byte (c .before .before .before .before .before .before .before)) (last-zero (c .before
-      .before .before .before .before .before) ms e) (parent-known (c .before .before .before .before)) (omega (
-        arith,
-        c .before .before
-            .before .before .before .number-at .ensures .0,
-        c .before .before .before .if5 .left,
-      )) (parent-kind (c .before) ∙ c .if6 .taken);
-  rows = refl;
-  link = λ z. refused _ z;
-}
+returns-5 c =
+    let c3 = c .before .before .before in
+    let c4 = c3 .before in
+    let c5 = c4 .before in
+    let c6 = c5 .before in
+    let c7 = c6 .before in
+    let c12 = c7 .before .before .before .before .before in
+    record {
+      fault = λ ms i e. row-leaf (c12 .args .s .now) (c12
+          .args .rows .now) ms (c12 .args .count)
+          i (c12 .pre) (tag (c7)) (byte (c7)) (last-zero (c6) ms e) (parent-known (c4)) (omega (
+            arith,
+            c5 .number-at .ensures .0,
+            c3 .if5 .left,
+          )) (parent-kind (c .before) ∙ c .if6 .taken);
+      rows = refl;
+      link = λ z. refused _ z;
+    }
 
 wide-requires-3 : tie.Need-wide-requires-3
 wide-requires-3 c κs = search needs
 
 sub-word-2 : tie.Need-sub-word-2
-sub-word-2 c = omega (
-  arith,
-  c .wide3 .ensures .0,
-  c .before .before .before .before .before .before .before .before .before .before
-      .before .before .before .pre .low,
-)
+sub-word-2 c =
+    let c13 = c .before .before .before .before .before .before .before .before .before .before .before .before .before in
+    omega (arith, c .wide3 .ensures .0, c13 .pre .low)
 
 add-word : tie.Need-add-word
 add-word c = search needs
@@ -173,16 +171,10 @@ wide-requires-4 : tie.Need-wide-requires-4
 wide-requires-4 c κs = search needs
 
 word-requires-2 : tie.Need-word-requires-2
-word-requires-2 c κs = omega (
-  arith,
-  c .before .wide3 .ensures .0,
-  c .wide4 .ensures .1,
-  c .before .before .before .before .before
-      .before .before .before .before .before .before .before .before .before .pre .high,
-  c .before .before .before .before .before .before
-      .before .before .before .before .before .before .before .before .pre .room,
-  c .before .before .before .before .before .if5 .left,
-)
+word-requires-2 c κs =
+    let c5 = c .before .before .before .before .before in
+    let c14 = c5 .before .before .before .before .before .before .before .before .before in
+    omega (arith, c .before .wide3 .ensures .0, c .wide4 .ensures .1, c14 .pre .high, c14 .pre .room, c5 .if5 .left)
 
 mul-rows-2 : tie.Need-mul-rows-2
 mul-rows-2 c = search needs

@@ -33,22 +33,25 @@ long c = c .stored-length .ensures ∙ sym (length-stored (c .before .before .be
     .before .before .before)))
 
 stored-length-requires : tie.Need-stored-length-requires
-stored-length-requires c κs = (fit (c .before .before .before .before) .few, size (c .before .before .before .before) .marks)
+stored-length-requires c κs =
+    let c4 = c .before .before .before .before in
+    (fit (c4) .few, size (c4) .marks)
 
 returns : tie.Need-returns
-returns c = write-short (c .before .before .before .before .before .before .args .t1) (c .before .before .before .before .before .before
-    .args .out .now) (c .before .before .before .before .before .before .pre) (omega (arith, long (c .before), c .if1 .taken))
+returns c =
+    let c6 = c .before .before .before .before .before .before in
+    write-short (c6 .args .t1) (c6 .args .out .now) (c6 .pre) (omega (arith, long (c .before), c .if1 .taken))
 
 rows-requires : tie.Need-rows-requires
 rows-requires c κs =
+    let c4 = c .before .before .before .before in
+    let c5 = c4 .before in
+    let c10 = c5 .before .before .before .before .before in
     record {
-      rows = within (c .before .before .before .before .before .before .before .before .before .before);
-      few = fit (c .before .before .before .before .before .before .before .before .before .before) .few;
-      tags = fits-tag (c .before .before .before .before .before .before .before .before .before .before .args .t1 .count) (c .before
-          .before .before .before .before .before .before .before .before .before .args .t1 .rows) (c .before .before .before .before
-          .before .before .before .before .before .before .args .t1 .marks) (fit (c .before .before .before .before .before .before
-          .before .before .before .before)) (within (c .before .before .before .before .before .before .before .before .before .before));
-      room = omega (arith, c .before .before .before .before .before .stored-length .ensures, c .before .before .before .before .if1 .left);
+      rows = within (c10);
+      few = fit (c10) .few;
+      tags = fits-tag (c10 .args .t1 .count) (c10 .args .t1 .rows) (c10 .args .t1 .marks) (fit (c10)) (within (c10));
+      room = omega (arith, c5 .stored-length .ensures, c4 .if1 .left);
     }
 
 mul-marks : tie.Need-mul-marks
@@ -75,16 +78,17 @@ wrote c =
 
 marks-requires : tie.Need-marks-requires
 marks-requires c κs =
+    let c6 = c .before .before .before .before .before .before in
+    let c11 = c6 .before .before .before .before .before in
+    let c12 = c11 .before in
+    let c17 = c12 .before .before .before .before .before in
     record {
-      documents = size (c .before .before .before .before .before .before .before .before .before .before .before .before .before
-          .before .before .before .before) .marks;
+      documents = size (c17) .marks;
       room = omega (
         arith,
-        c .before .before .before .before .before .before .before .before
-            .before .before .before .before .stored-length .ensures,
-        c .before .before .before .before .before .before .before .before
-            .before .before .before .if1 .left,
-        wrote (c .before .before .before .before .before .before),
+        c12 .stored-length .ensures,
+        c11 .if1 .left,
+        wrote (c6),
       );
     }
 
@@ -93,48 +97,28 @@ same-length c = search needs
 
 returns-2 : tie.Need-returns-2
 returns-2 c =
-    let h = long (c .before .before .before .before .before .before .before .before .before .before .before .before .before .before
-    .before) in (
-      write-fine (c .before .before .before .before .before .before .before .before .before .before .before .before .before .before
-          .before .before .before .before .before .before .args .t1) (c .before .before .before .before .before .before .before .before
-          .before .before .before .before .before .before .before .before .before .before .before .before .args .out .now) (c .before
-          .before .before .before .before .before .before .before .before .before .before .before .before .before .before .before .before
-          .before .before .before .pre) (c .before .before .before .before .before .before .before .before .before .before .before
-          .before .before .before .before .stored-length .result) (omega (
-            arith,
-            h,
-            c .before .before .before .before .before .before
-                .before .before .before .before .before .before .before .before .if1 .left,
-          )) h,
-      c .before .before .marks .ensures ∙ ap (over (4 * c .before .before .before .before .before .before .before .before .before .before
-          .before .before .before .before .before .before .before .before .before .before .args .t1 .count) (marksBytes 0 (map linked (c
-          .before .before .before .before .before .before .before .before .before .before .before .before .before .before .before .before
-          .before .before .before .before .args .t1 .marks)))) (c .before .before .before .before .before .before .before .before .before
+    let c9 = c .before .before .before .before .before .before .before .before .before in
+    let c14 = c9 .before .before .before .before .before in
+    let c15 = c14 .before in
+    let c20 = c15 .before .before .before .before .before in
+    let h = long (c15) in (
+      write-fine (c20 .args .t1) (c20 .args .out .now) (c20 .pre) (c15 .stored-length .result) (omega (
+        arith,
+        h,
+        c14 .if1 .left,
+      )) h,
+      c .before .before .marks .ensures ∙ ap (over (4 * c20 .args .t1 .count) (marksBytes 0 (map linked (c20 .args .t1 .marks)))) (c9
           .rows .ensures) ∙
-          stored-over (c .before .before .before .before .before .before .before .before .before .before .before .before .before .before
-          .before .before .before .before .before .before .args .t1 .count) (c .before .before .before .before .before .before .before
-          .before .before .before .before .before .before .before .before .before .before .before .before .before .args .t1 .rows) (c
-          .before .before .before .before .before .before .before .before .before .before .before .before .before .before .before .before
-          .before .before .before .before .args .t1 .marks) (within (c .before .before .before .before .before .before .before .before
-          .before .before .before .before .before .before .before .before .before .before .before .before)) (c .before .before .before
-          .before .before .before .before .before .before .before .before .before .before .before .before .before .before .before .before
-          .before .args .out .now)
+          stored-over (c20 .args .t1 .count) (c20 .args .t1 .rows) (c20 .args .t1 .marks) (within (c20)) (c20 .args .out .now)
           (omega (
             arith,
-            c .before .before .before .before .before .before .before .before .before .before .before .before .before .before
-                .before .stored-length .ensures,
-            c .before .before .before .before .before .before .before .before .before .before .before
-                .before .before .before .if1 .left,
+            c15 .stored-length .ensures,
+            c14 .if1 .left,
           )) ∙
-          sym (write-out (c .before .before .before .before .before .before .before .before .before .before .before .before .before .before
-          .before .before .before .before .before .before .args .t1) (c .before .before .before .before .before .before .before .before
-          .before .before .before .before .before .before .before .before .before .before .before .before .args .out .now) (c .before
-          .before .before .before .before .before .before .before .before .before .before .before .before .before .before .before .before
-          .before .before .before .pre) (omega (
+          sym (write-out (c20 .args .t1) (c20 .args .out .now) (c20 .pre) (omega (
             arith,
             h,
-            c .before .before .before .before .before .before .before .before .before
-                .before .before .before .before .before .if1 .left,
+            c14 .if1 .left,
           ))),
     )
 

@@ -24,15 +24,12 @@ index-requires : tie.Need-index-requires
 index-requires c κs = search needs
 
 put-requires : tie.Need-put-requires
-put-requires c κs = (
-  omega (
-    arith,
-    ap length (mark-some (c .before .before .before .before .args .document) (c .before .before .before
-        .before .args .link) (c .before .before .if1 .left)),
-    c .before .before .before .before .pre,
-  ),
-  c .index .ensures .1,
-)
+put-requires c κs =
+    let c4 = c .before .before .before .before in (
+      omega (arith, ap length (mark-some (c4 .args .document) (c4 .args .link) (c .before .before .if1 .left)), c4 .pre),
+      c .index
+          .ensures .1,
+    )
 
 same-length : tie.Need-same-length
 same-length c = search needs

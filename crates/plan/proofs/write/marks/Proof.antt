@@ -66,14 +66,16 @@ mark-length-requires : tie.Need-mark-length-requires Inv-loop μ-loop
 mark-length-requires c κs = search needs
 
 add-at : tie.Need-add-at Inv-loop μ-loop
-add-at c = record {
-  fits = omega (
-    arith,
-    room (c .before .before .before .before .before .before .before),
-    c .mark-length .ensures (c
-        .before .before .before .before .before .before .before .before .loop .d),
-  );
-}
+add-at c =
+    let c7 = c .before .before .before .before .before .before .before in
+    let c8 = c7 .before in
+    record {
+      fits = omega (
+        arith,
+        room (c7),
+        c .mark-length .ensures (c8 .loop .d),
+      );
+    }
 
 add-d : tie.Need-add-d Inv-loop μ-loop
 add-d c = search needs
@@ -124,8 +126,10 @@ same-length : tie.Need-same-length Inv-loop μ-loop
 same-length c = search needs
 
 returns : tie.Need-returns Inv-loop μ-loop
-returns c = c .before .loop .inv .2 ∙ ap (λ (l : List ℕ). over (c .before .before .before .before .args .start) (marksBytes 0 (map linked
-    l)) (c .before .before .before .before .args .out .now)) (take-all (c .before .loop .d) (c .before .before .before .before .args
+returns c =
+    let c4 = c .before .before .before .before in
+    c .before .loop .inv .2 ∙ ap (λ (l : List ℕ). over (c4 .args .start) (marksBytes 0 (map linked
+    l)) (c4 .args .out .now)) (take-all (c .before .loop .d) (c4 .args
     .marks .now) (omega arith))
 
 pub marks-spec : {M : Type 1} → statement M

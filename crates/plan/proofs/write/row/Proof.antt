@@ -32,14 +32,17 @@ same-length : tie.Need-same-length
 same-length c = search needs
 
 returns : tie.Need-returns
-returns c = c .before .before .put .ensures ∙ ap (λ (b : List ℕ). over (c .before .before .before .before .before .before .before .before
-    .before .before .args .at) b (c .before .before .before .before .before .before .before .before .before .before .args .out .now))
-    (row-bytes (c .before .before .before .before .before .before .before .before .before .before .args .w) 18 (c .before .before .before
-    .before .before .before .tag .result) (c .before .before .before .before .before .before .before .parent .result) (c .before .before
-    .before .before .before .before .tag .ensures) (c .before .before .before .before .before .before .before .parent .ensures .0 ∙ ap (λ
-    (l : ℕ). parentBytes (linked l)) (c .before .before .before .before .before .before .before .before .link .ensures)) ∙ sym (row-leaf
-    (c .before .before .before .before .before .before .before .before .before .before .args .w) (sym (c .before .before .before .before
-    .before .kind .ensures) ∙ c .before .before .before .before .if1 .taken)))
+returns c =
+    let c4 = c .before .before .before .before in
+    let c5 = c4 .before in
+    let c6 = c5 .before in
+    let c7 = c6 .before in
+    let c8 = c7 .before in
+    let c10 = c8 .before .before in
+    c .before .before .put .ensures ∙ ap (λ (b : List ℕ). over (c10 .args .at) b (c10 .args .out .now))
+    (row-bytes (c10 .args .w) 18 (c6 .tag .result) (c7 .parent .result) (c6 .tag .ensures) (c7 .parent .ensures .0 ∙ ap (λ
+    (l : ℕ). parentBytes (linked l)) (c8 .link .ensures)) ∙ sym (row-leaf
+    (c10 .args .w) (sym (c5 .kind .ensures) ∙ c4 .if1 .taken)))
 
 put-requires-2 : tie.Need-put-requires-2
 put-requires-2 c κs = search needs
@@ -48,14 +51,17 @@ same-length-2 : tie.Need-same-length-2
 same-length-2 c = search needs
 
 returns-2 : tie.Need-returns-2
-returns-2 c = c .before .before .put2 .ensures ∙ ap (λ (b : List ℕ). over (c .before .before .before .before .before .before .before
-    .before .before .before .args .at) b (c .before .before .before .before .before .before .before .before .before .before .args .out
-    .now)) (row-bytes (c .before .before .before .before .before .before .before .before .before .before .args .w) 17 (c .before .before
-    .before .before .before .before .tag .result) (c .before .before .before .before .before .before .before .parent .result) (c .before
-    .before .before .before .before .before .tag .ensures) (c .before .before .before .before .before .before .before .parent .ensures .0
-    ∙ ap (λ (l : ℕ). parentBytes (linked l)) (c .before .before .before .before .before .before .before .before .link .ensures)) ∙ sym
-    (row-element (c .before .before .before .before .before .before .before .before .before .before .args .w) (λ q. c .before .before
-    .before .before .if1 .left (c .before .before .before .before .before .kind .ensures ∙ q))))
+returns-2 c =
+    let c4 = c .before .before .before .before in
+    let c5 = c4 .before in
+    let c6 = c5 .before in
+    let c7 = c6 .before in
+    let c8 = c7 .before in
+    let c10 = c8 .before .before in
+    c .before .before .put2 .ensures ∙ ap (λ (b : List ℕ). over (c10 .args .at) b (c10 .args .out
+    .now)) (row-bytes (c10 .args .w) 17 (c6 .tag .result) (c7 .parent .result) (c6 .tag .ensures) (c7 .parent .ensures .0
+    ∙ ap (λ (l : ℕ). parentBytes (linked l)) (c8 .link .ensures)) ∙ sym
+    (row-element (c10 .args .w) (λ q. c4 .if1 .left (c5 .kind .ensures ∙ q))))
 
 pub row-spec : {M : Type 1} → statement M
 row-spec =

@@ -36,16 +36,10 @@ shared-slice-read-row : tie.Need-shared-slice-read-row Inv-loop μ-loop
 shared-slice-read-row c = search needs
 
 row-requires : tie.Need-row-requires Inv-loop μ-loop
-row-requires c κs = (
-  omega (
-    arith,
-    c .before .before .before .loop .inv .2,
-    c .before .before .before .before .before .before .pre
-        .room,
-  ),
-  c .before .before .before .before .before .before .pre .tags (c .before .before .before .loop .i) (c .before .before
-      .loop-test .taken),
-)
+row-requires c κs =
+    let c3 = c .before .before .before in
+    let c6 = c3 .before .before .before in
+    (omega (arith, c3 .loop .inv .2, c6 .pre .room), c6 .pre .tags (c3 .loop .i) (c .before .before .loop-test .taken))
 
 add-i : tie.Need-add-i Inv-loop μ-loop
 add-i c = search needs
@@ -54,29 +48,25 @@ loop-less : tie.Need-loop-less Inv-loop μ-loop
 loop-less c = omega arith
 
 loop-again : tie.Need-loop-again Inv-loop μ-loop
-loop-again c = (
-  omega arith,
-  c .before .before .row .ensures ∙ ap (over (4 * c .before .before .before .before .before .before .loop .i)
-      (rowBytes (rowOf (getD (c .before .before .before .before .before .before .before .before .before .args .rows .now) (c .before
-      .before .before .before .before .before .loop .i) 0)))) (c .before .before .before .before .before .before .loop .inv .1) ∙
-      rows-grown (c .before .before .before .before .before .before .before .before .before .args .rows .now) (c .before .before .before
-      .before .before .before .before .before .before .args .count) (c .before .before .before .before .before .before .loop .i) (c .before
-      .before .before .before .before .before .before .before .before .pre .rows) (c .before .before .before .before .before .loop-test
-      .taken) (c .before .before .before .before .before .before .before .before .before .args .out .now) (c .before .before .before
-      .before .before .before .before .before .before .pre .room),
-  search (
-    c .before .before .before .before .before .before .loop .inv .2,
-    needs,
-  ),
-)
+loop-again c =
+    let c5 = c .before .before .before .before .before in
+    let c6 = c5 .before in
+    let c9 = c6 .before .before .before in (
+      omega arith,
+      c .before .before .row .ensures ∙ ap (over (4 * c6 .loop .i) (rowBytes (rowOf (getD (c9 .args .rows .now) (c6 .loop
+          .i) 0)))) (c6 .loop .inv .1) ∙ rows-grown (c9 .args .rows .now) (c9 .args .count) (c6 .loop .i) (c9 .pre .rows) (c5 .loop-test
+          .taken) (c9 .args .out .now) (c9 .pre .room),
+      search (c6 .loop .inv .2, needs),
+    )
 
 same-length : tie.Need-same-length Inv-loop μ-loop
 same-length c = search needs
 
 returns : tie.Need-returns Inv-loop μ-loop
-returns c = c .before .loop .inv .1 ∙ ap (λ (b : List ℕ). over 0 b (c .before .before .before .before .args .out .now)) (rows-all (c
-    .before .before .before .before .args .rows .now) (c .before .before .before .before .args .count) (c .before .loop .i) (c .before
-    .before .before .before .pre .rows) (omega arith))
+returns c =
+    let c4 = c .before .before .before .before in
+    c .before .loop .inv .1 ∙ ap (λ (b : List ℕ). over 0 b (c4 .args .out .now))
+    (rows-all (c4 .args .rows .now) (c4 .args .count) (c .before .loop .i) (c4 .pre .rows) (omega arith))
 
 pub rows-spec : {M : Type 1} → statement M
 rows-spec =

@@ -36,17 +36,19 @@ mark-length-requires : tie.Need-mark-length-requires Inv-loop μ-loop
 mark-length-requires c κs = search needs
 
 add-n : tie.Need-add-n Inv-loop μ-loop
-add-n c = record {
-  fits = omega (
-    arith,
-    c .before .before .before .loop .inv .1,
-    c .before .before .before .before .before .pre .1,
-    c
-        .mark-length .ensures (c .before .before .before .loop .d),
-    mark-small (c .before .before .before .loop .d) (getD (c .before .before
-        .before .before .before .args .marks .now) (c .before .before .before .loop .d) 0),
-  );
-}
+add-n c =
+    let c3 = c .before .before .before in
+    let c5 = c3 .before .before in
+    record {
+      fits = omega (
+        arith,
+        c3 .loop .inv .1,
+        c5 .pre .1,
+        c
+            .mark-length .ensures (c3 .loop .d),
+        mark-small (c3 .loop .d) (getD (c5 .args .marks .now) (c3 .loop .d) 0),
+      );
+    }
 
 add-d : tie.Need-add-d Inv-loop μ-loop
 add-d c = search needs
@@ -55,29 +57,31 @@ loop-less : tie.Need-loop-less Inv-loop μ-loop
 loop-less c = omega arith
 
 loop-again : tie.Need-loop-again Inv-loop μ-loop
-loop-again c = (
-  omega arith,
-  omega (
-    arith,
-    c .before .before .before .loop .inv .1,
-    c .mark-length .ensures (c .before .before .before
-        .loop .d),
-    mark-small (c .before .before .before .loop .d) (getD (c .before .before .before .before .before .args .marks .now) (c
-        .before .before .before .loop .d) 0),
-  ),
-  omega (
-    arith,
-    c .before .before .before .loop .inv .2,
-    length-marks (c .before .before .before
-        .before .before .args .marks .now) (c .before .before .before .loop .d) (c .before .before .loop-test .taken),
-    c .mark-length
-        .ensures (c .before .before .before .loop .d),
-  ),
-)
+loop-again c =
+    let c3 = c .before .before .before in
+    let c5 = c3 .before .before in (
+      omega arith,
+      omega (
+        arith,
+        c3 .loop .inv .1,
+        c .mark-length .ensures (c3 .loop .d),
+        mark-small (c3 .loop .d) (getD (c5 .args .marks
+            .now) (c3 .loop .d) 0),
+      ),
+      omega (
+        arith,
+        c3 .loop .inv .2,
+        length-marks (c5 .args .marks .now) (c3 .loop .d) (c .before .before
+            .loop-test .taken),
+        c .mark-length .ensures (c3 .loop .d),
+      ),
+    )
 
 returns : tie.Need-returns Inv-loop μ-loop
-returns c = c .before .loop .inv .2 ∙ ap (λ (l : List ℕ). 4 * c .before .before .before .args .count + length (marksBytes 0 (map linked
-    l))) (take-all (c .before .loop .d) (c .before .before .before .args .marks .now) (omega arith))
+returns c =
+    let c3 = c .before .before .before in
+    c .before .loop .inv .2 ∙ ap (λ (l : List ℕ). 4 * c3 .args .count + length (marksBytes 0 (map linked
+    l))) (take-all (c .before .loop .d) (c3 .args .marks .now) (omega arith))
 
 pub stored-length-spec : {M : Type 1} → statement M
 stored-length-spec =

@@ -22,8 +22,10 @@ is-related-requires c κs = let f = c .before .before .before .fits in (omega (a
 
 returns-2 : tie.Need-returns-2
 returns-2 c =
-    let a = c .before .before .before .before .args in
-    let h : a .w % 4 ≡ 2 = sym (c .before .before .before .kind .ensures) ∙ search (c .before .before .if1 .left, needs) in
+    let c3 = c .before .before .before in
+    let c4 = c3 .before in
+    let a = c4 .args in
+    let h : a .w % 4 ≡ 2 = sym (c3 .kind .ensures) ∙ search (c .before .before .if1 .left, needs) in
     rw h (c .is-related .ensures ∙ ap (relates (a .relation) (a .constant)) (c .before .tag .ensures))
 
 pub is-picked-spec : {M : Type 1} → statement M

@@ -28,12 +28,14 @@ signed-key-requires-4 : tie.Need-signed-key-requires-4
 signed-key-requires-4 c κs = search needs
 
 returns-3 : tie.Need-returns-3
-returns-3 c = rw (
-  ne-eqb (c .before .before .before .before .args .relation) 0 (c .before .before .before .if1 .left),
-  ne-eqb (c .before
-      .before .before .before .args .relation) 1 (c .before .before .if2 .left),
-) (ap (λ (a : ℕ). ltb a (c .signed-key4 .result)) (c .before
-    .signed-key3 .ensures) ∙ ap (ltb (signedKey (c .before .before .before .before .args .constant))) (c .signed-key4 .ensures))
+returns-3 c =
+    let c3 = c .before .before .before in
+    let c4 = c3 .before in
+    rw (
+      ne-eqb (c4 .args .relation) 0 (c3 .if1 .left),
+      ne-eqb (c4 .args .relation) 1 (c .before .before .if2 .left),
+    ) (ap (λ (a : ℕ). ltb a (c .signed-key4 .result)) (c .before
+    .signed-key3 .ensures) ∙ ap (ltb (signedKey (c4 .args .constant))) (c .signed-key4 .ensures))
 
 pub is-related-spec : {M : Type 1} → statement M
 is-related-spec =

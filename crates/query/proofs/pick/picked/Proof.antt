@@ -34,13 +34,9 @@ mul-item : tie.Need-mul-item Inv-loop μ-loop
 mul-item c = search needs
 
 slice-read-item : tie.Need-slice-read-item Inv-loop μ-loop
-slice-read-item c = omega (
-  arith,
-  c .before .before .loop .inv .1,
-  c .before .before .loop .inv .5,
-  c .before .before .before .before
-      .before .pre .within,
-)
+slice-read-item c =
+    let c5 = c .before .before .before .before .before in
+    omega (arith, c .before .before .loop .inv .1, c .before .before .loop .inv .5, c5 .pre .within)
 
 index-requires : tie.Need-index-requires Inv-loop μ-loop
 index-requires c κs = search needs
@@ -78,19 +74,18 @@ item-low c =
     )
 
 shared-slice-read-is-picked : tie.Need-shared-slice-read-is-picked Inv-loop μ-loop
-shared-slice-read-is-picked c = omega (arith, item-low (c .before), c .before .before .before .before .before .before .before .pre .rows)
+shared-slice-read-is-picked c =
+    let c7 = c .before .before .before .before .before .before .before in
+    omega (arith, item-low (c .before), c7 .pre .rows)
 
 is-picked-requires : tie.Need-is-picked-requires Inv-loop μ-loop
 is-picked-requires c κs = search needs
 
 append-if-requires : tie.Need-append-if-requires Inv-loop μ-loop
-append-if-requires c κs = omega (
-  arith,
-  c .before .before .before .before .before .before .loop .inv .2,
-  c .before .before .before
-      .before .before .before .loop .inv .5,
-  c .before .before .before .before .before .before .before .before .before .pre .within,
-)
+append-if-requires c κs =
+    let c6 = c .before .before .before .before .before .before in
+    let c9 = c6 .before .before .before in
+    omega (arith, c6 .loop .inv .2, c6 .loop .inv .5, c9 .pre .within)
 
 add-k : tie.Need-add-k Inv-loop μ-loop
 add-k c = search needs
@@ -109,57 +104,27 @@ past-low c = omega (
 )
 
 loop-again : tie.Need-loop-again Inv-loop μ-loop
-loop-again c = (
-  omega (arith, c .before .before .before .before .before .before .before .before .before .loop .inv .0),
-  omega arith,
-  past-low (c .before .before),
-  filtered-by (pickedRow (c .before .before .before .before .before .before .before .before .before
-      .before .before .before .args .rows .now) (c .before .before .before .before .before .before .before .before .before .before .before
-      .before .args .relation) (c .before .before .before .before .before .before .before .before .before .before .before .before .args
-      .constant)) (c .before .before .before .before .before .before .before .before .before .before .before .before .args .work .now) (c
-      .before .before .before .before .before .before .before .before .before .loop .work) (c .before .before .before .before .before
-      .before .before .before .before .before .before .before .args .from) (c .before .before .before .before .before .before .before
-      .before .before .loop .k) (c .before .before .before .before .before .before .before .before .before .loop .at) (c .before .before
-      .before .before .before .before .before .before .before .loop .inv .0) (omega (
-        arith,
-        c .before .before .before .before .before
-            .before .before .before .before .before .before .before .pre .within,
-      )) (omega (
-        arith,
-        c .before .before .before .before .before
-            .before .before .before .before .loop .inv .2,
-        c .before .before .before .before .before .before .before .before .before .loop .inv
-            .5,
-        c .before .before .before .before .before .before .before .before .before .before .before .before .pre .within,
-      )) (c .before
-      .before .before .before .before .before .before .before .before .loop .inv .3) (c .before .before .before .before .is-picked .result)
-      (getD (c .before .before .before .before .before .before .before .before .before .loop .work) (c .before .before .before .before
-      .before .before .before .before .before .loop .k) 0) (c .before .before .append-if .last .1 .1 .0) (c .before .before .append-if
-      .result) (rest-at (c .before .before .before .before .before .before .before .before .before .before .before .before .args .work
-      .now) (c .before .before .before .before .before .before .before .before .before .loop .work) (c .before .before .before .before
-      .before .before .before .before .before .loop .k) (c .before .before .before .before .before .before .before .before .before .loop
-      .inv .4)) (c .before .before .before .before .is-picked .ensures ∙ ap (pickedRow (c .before .before .before .before .before .before
-      .before .before .before .before .before .before .args .rows .now) (c .before .before .before .before .before .before .before .before
-      .before .before .before .before .args .relation) (c .before .before .before .before .before .before .before .before .before .before
-      .before .before .args .constant)) (c .before .before .before .before .before .before .index .ensures .0 ∙ rest-at (c .before .before
-      .before .before .before .before .before .before .before .before .before .before .args .work .now) (c .before .before .before .before
-      .before .before .before .before .before .loop .work) (c .before .before .before .before .before .before .before .before .before .loop
-      .k) (c .before .before .before .before .before .before .before .before .before .loop .inv .4))) (c .before .before .append-if
-      .ensures .0) (c .before .before .append-if .ensures .1),
-  ap (drop (c .before .before .before .before .before .before .before .before
-      .before .loop .k + 1)) (c .before .before .append-if .ensures .0) ∙ rest-kept (c .before .before .before .before .is-picked .result)
-      (c .before .before .before .before .before .before .before .before .before .before .before .before .args .work .now) (c .before
-      .before .before .before .before .before .before .before .before .loop .work) (c .before .before .before .before .before .before
-      .before .before .before .loop .k) (c .before .before .before .before .before .before .before .before .before .loop .at) (getD (c
-      .before .before .before .before .before .before .before .before .before .loop .work) (c .before .before .before .before .before
-      .before .before .before .before .loop .k) 0) (c .before .before .before .before .before .before .before .before .before .loop .inv
-      .2) (c .before .before .before .before .before .before .before .before .before .loop .inv .4),
-  search (
-    c .before .before .before
-        .before .before .before .before .before .before .loop .inv .5,
-    needs,
-  ),
-)
+loop-again c =
+    let c4 = c .before .before .before .before in
+    let c6 = c4 .before .before in
+    let c9 = c6 .before .before .before in
+    let c12 = c9 .before .before .before in (
+      omega (arith, c9 .loop .inv .0),
+      omega arith,
+      past-low (c .before .before),
+      filtered-by (pickedRow (c12 .args .rows .now) (c12
+          .args .relation) (c12 .args .constant)) (c12 .args .work .now) (c9 .loop .work) (c12 .args .from) (c9 .loop .k) (c9 .loop .at) (c9
+          .loop .inv .0) (omega (arith, c12 .pre .within)) (omega (arith, c9 .loop .inv .2, c9 .loop .inv .5, c12 .pre .within)) (c9 .loop
+          .inv .3) (c4 .is-picked .result) (getD (c9 .loop .work) (c9 .loop .k) 0) (c .before .before .append-if .last .1 .1 .0) (c .before
+          .before .append-if .result) (rest-at (c12 .args .work .now) (c9 .loop .work) (c9 .loop .k) (c9 .loop .inv .4)) (c4 .is-picked
+          .ensures ∙ ap (pickedRow (c12 .args .rows .now) (c12 .args .relation) (c12 .args .constant)) (c6 .index .ensures .0 ∙ rest-at (c12
+          .args .work .now) (c9 .loop .work) (c9 .loop .k) (c9 .loop .inv .4))) (c .before .before .append-if .ensures .0) (c .before .before
+          .append-if .ensures .1),
+      ap (drop (c9 .loop .k + 1)) (c .before .before .append-if .ensures .0) ∙ rest-kept (c4 .is-picked .result)
+          (c12 .args .work .now) (c9 .loop .work) (c9 .loop .k) (c9 .loop .at) (getD (c9 .loop .work) (c9 .loop .k) 0) (c9 .loop .inv .2) (c9
+          .loop .inv .4),
+      search (c9 .loop .inv .5, needs),
+    )
 
 same-length : tie.Need-same-length Inv-loop μ-loop
 same-length c = search (c .before .loop .inv .5, needs)

@@ -16,12 +16,12 @@ abbrev μ-loop : tie.MeasureT-loop
 μ-loop rows count deep flags reached₀ j₀ reached j = j
 
 loop-holds : tie.Need-loop-holds Inv-loop μ-loop
-loop-holds c = (
-  omega arith,
-  climbing-none (c .before .before .before .args .rows .now) (c .before .before .before .args .count) (c
-      .before .before .before .pre .held) (c .before .before .before .args .deep) (c .before .before .before .args .flags .now) (c .before
-      .before .before .args .reached .now) (c .before .before .before .pre .clear),
-)
+loop-holds c =
+    let c3 = c .before .before .before in (
+      omega arith,
+      climbing-none (c3 .args .rows .now) (c3 .args .count) (c3 .pre .held) (c3 .args .deep) (c3 .args .flags .now) (c3
+          .args .reached .now) (c3 .pre .clear),
+    )
 
 sub-j : tie.Need-sub-j Inv-loop μ-loop
 sub-j c = search needs
@@ -30,24 +30,22 @@ mul-climb-one : tie.Need-mul-climb-one Inv-loop μ-loop
 mul-climb-one c = search needs
 
 shared-slice-read-climb-one : tie.Need-shared-slice-read-climb-one Inv-loop μ-loop
-shared-slice-read-climb-one c = omega (
-  arith,
-  c .before .before .before .before .before .before .pre .held .rows,
-  c .before .before
-      .before .before .before .before .pre .held .few,
-)
+shared-slice-read-climb-one c =
+    let c6 = c .before .before .before .before .before .before in
+    omega (arith, c6 .pre .held .rows, c6 .pre .held .few)
 
 climb-one-requires : tie.Need-climb-one-requires Inv-loop μ-loop
-climb-one-requires c κs = record {
-  low = omega (arith, c .before .before .before .before .before .before .before .pre .held .few);
-  link =
-      link-low (c .before .before .before .before .before .before .before .args .rows .now) (c .before .before .before .before .before
-      .before .before .args .count) (c .before .before .before .before .before .before .before .pre .held) (c .before .before .before .loop
-      .j - 1) (omega arith);
-  flags = c .before .before .before .before .before .before .before .pre .flags;
-  reached = c .before .before
-      .before .loop .inv .1 .size;
-}
+climb-one-requires c κs =
+    let c3 = c .before .before .before in
+    let c7 = c3 .before .before .before .before in
+    record {
+      low = omega (arith, c7 .pre .held .few);
+      link =
+          link-low (c7 .args .rows .now) (c7 .args .count) (c7 .pre .held) (c3 .loop
+          .j - 1) (omega arith);
+      flags = c7 .pre .flags;
+      reached = c3 .loop .inv .1 .size;
+    }
 
 loop-less : tie.Need-loop-less Inv-loop μ-loop
 loop-less c = omega arith

@@ -25,11 +25,11 @@ counts-requires : tie.Need-counts-requires
 counts-requires c κs = search needs
 
 returns : tie.Need-returns
-returns c = sym (pick-false (counted (getD (c .before .before .before .before .before .before .args .flags .now) (c .before .before
-    .before .before .before .before .args .j + 1) 0) (getD (c .before .before .before .before .before .before .args .reached .now) (c
-    .before .before .before .before .before .before .args .j + 1) 0) (c .before .before .before .before .before .before .args .deep))
-    (set (c .before .before .before .before .before .before .args .reached .now) (c .before .before .before .before .before .before .args
-    .w / 4 % 1024) 1) (c .before .before .before .before .before .before .args .reached .now) (sym (c .before .counts .ensures) ∙
+returns c =
+    let c6 = c .before .before .before .before .before .before in
+    sym
+    (pick-false (counted (getD (c6 .args .flags .now) (c6 .args .j + 1) 0) (getD (c6 .args .reached .now) (c6 .args .j + 1) 0) (c6 .args
+    .deep)) (set (c6 .args .reached .now) (c6 .args .w / 4 % 1024) 1) (c6 .args .reached .now) (sym (c .before .counts .ensures) ∙
     not-true (c .before .counts .result) (c .if1 .taken)))
 
 link-requires : tie.Need-link-requires
@@ -42,12 +42,11 @@ same-length : tie.Need-same-length
 same-length c = search needs
 
 returns-2 : tie.Need-returns-2
-returns-2 c = ap (λ (l : ℕ). set (c .before .before .before .before .before .before .before .args .reached .now) l 1) (c .link .ensures)
-    ∙ sym (pick-true (counted (getD (c .before .before .before .before .before .before .before .args .flags .now) (c .before .before
-    .before .before .before .before .before .args .j + 1) 0) (getD (c .before .before .before .before .before .before .before .args
-    .reached .now) (c .before .before .before .before .before .before .before .args .j + 1) 0) (c .before .before .before .before .before
-    .before .before .args .deep)) (set (c .before .before .before .before .before .before .before .args .reached .now) (c .before .before
-    .before .before .before .before .before .args .w / 4 % 1024) 1) (c .before .before .before .before .before .before .before .args
+returns-2 c =
+    let c7 = c .before .before .before .before .before .before .before in
+    ap (λ (l : ℕ). set (c7 .args .reached .now) l 1) (c .link .ensures)
+    ∙ sym (pick-true (counted (getD (c7 .args .flags .now) (c7 .args .j + 1) 0) (getD (c7 .args
+    .reached .now) (c7 .args .j + 1) 0) (c7 .args .deep)) (set (c7 .args .reached .now) (c7 .args .w / 4 % 1024) 1) (c7 .args
     .reached .now) (sym (c .before .before .counts .ensures) ∙ not-false (c .before .before .counts .result) (c .before .if1 .left)))
 
 pub climb-one-spec : {M : Type 1} → statement M

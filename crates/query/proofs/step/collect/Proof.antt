@@ -54,21 +54,21 @@ loop-less : tie.Need-loop-less Inv-loop μ-loop
 loop-less c = omega arith
 
 loop-again : tie.Need-loop-again Inv-loop μ-loop
-loop-again c = (
-  omega arith,
-  collected-by (λ (i : ℕ). kept (c .before .before .before .before .before .before .before .before .before
-      .before .before .args .rows .now) i (getD (c .before .before .before .before .before .before .before .before .before .before .before
-      .args .reached .now) (i + 1) 0) (c .before .before .before .before .before .before .before .before .before .before .before .args
-      .test) (c .before .before .before .before .before .before .before .before .before .before .before .args .name .0)) (c .before .before
-      .before .before .before .before .before .loop .j) (c .before .before .before .before .before .before .before .before .before .before
-      .before .args .work .now) (c .before .before .before .before .before .before .before .loop .work) (c .before .before .before .before
-      .before .before .before .before .before .before .before .args .from) (c .before .before .before .before .before .before .before .loop
-      .at) (room (c .before .before .before .before .before .before)) (c .before .before .before .before .before .before .before .loop .inv
-      .1) (c .before .before .before .before .keeps .result) (c .before .before .append-if .last .1 .1 .0) (c .before .before .append-if
-      .result) (c .before .before .before .before .keeps .ensures) (c .before .before .append-if .ensures .0) (c .before .before .append-if
-      .ensures .1),
-  search (c .before .before .before .before .before .before .before .loop .inv .2, needs),
-)
+loop-again c =
+    let c4 = c .before .before .before .before in
+    let c6 = c4 .before .before in
+    let c7 = c6 .before in
+    let c11 = c7 .before .before .before .before in (
+      omega arith,
+      collected-by (λ (i : ℕ). kept (c11 .args .rows .now) i (getD (c11
+          .args .reached .now) (i + 1) 0) (c11 .args
+          .test) (c11 .args .name .0)) (c7 .loop .j) (c11 .args .work .now) (c7 .loop .work) (c11 .args .from) (c7 .loop
+          .at) (room (c6)) (c7 .loop .inv
+          .1) (c4 .keeps .result) (c .before .before .append-if .last .1 .1 .0) (c .before .before .append-if
+          .result) (c4 .keeps .ensures) (c .before .before .append-if .ensures .0) (c .before .before .append-if
+          .ensures .1),
+      search (c7 .loop .inv .2, needs),
+    )
 
 same-length : tie.Need-same-length Inv-loop μ-loop
 same-length c = search needs

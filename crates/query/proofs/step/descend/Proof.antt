@@ -16,35 +16,33 @@ abbrev μ-loop : tie.MeasureT-loop
 μ-loop rows count deep flags reached₀ j₀ reached j = count - j
 
 loop-holds : tie.Need-loop-holds Inv-loop μ-loop
-loop-holds c = (
-  omega arith,
-  descending-none (c .before .before .before .args .rows .now) (c .before .before .before .args .count) (c
-      .before .before .before .pre .held) (c .before .before .before .args .deep) (c .before .before .before .args .flags .now) (c .before
-      .before .before .args .reached .now) (c .before .before .before .pre .clear),
-)
+loop-holds c =
+    let c3 = c .before .before .before in (
+      omega arith,
+      descending-none (c3 .args .rows .now) (c3 .args .count) (c3 .pre .held) (c3 .args .deep) (c3 .args .flags .now) (c3
+          .args .reached .now) (c3 .pre .clear),
+    )
 
 mul-descend-one : tie.Need-mul-descend-one Inv-loop μ-loop
 mul-descend-one c = search needs
 
 shared-slice-read-descend-one : tie.Need-shared-slice-read-descend-one Inv-loop μ-loop
-shared-slice-read-descend-one c = omega (
-  arith,
-  c .before .before .before .before .before .before .pre .held .rows,
-  c .before .before
-      .before .before .before .before .pre .held .few,
-)
+shared-slice-read-descend-one c =
+    let c6 = c .before .before .before .before .before .before in
+    omega (arith, c6 .pre .held .rows, c6 .pre .held .few)
 
 descend-one-requires : tie.Need-descend-one-requires Inv-loop μ-loop
-descend-one-requires c κs = record {
-  low = omega (arith, c .before .before .before .before .before .before .before .pre .held .few);
-  link
-      = link-low (c .before .before .before .before .before .before .before .args .rows .now) (c .before .before .before .before .before
-      .before .before .args .count) (c .before .before .before .before .before .before .before .pre .held) (c .before .before .before .loop
-      .j) (c .before .before .loop-test .taken);
-  flags = c .before .before .before .before .before .before .before .pre .flags;
-  reached = c
-      .before .before .before .loop .inv .1 .size;
-}
+descend-one-requires c κs =
+    let c3 = c .before .before .before in
+    let c7 = c3 .before .before .before .before in
+    record {
+      low = omega (arith, c7 .pre .held .few);
+      link
+          = link-low (c7 .args .rows .now) (c7 .args .count) (c7 .pre .held) (c3 .loop
+          .j) (c .before .before .loop-test .taken);
+      flags = c7 .pre .flags;
+      reached = c3 .loop .inv .1 .size;
+    }
 
 add-j : tie.Need-add-j Inv-loop μ-loop
 add-j c = search needs
@@ -53,29 +51,24 @@ loop-less : tie.Need-loop-less Inv-loop μ-loop
 loop-less c = omega arith
 
 loop-again : tie.Need-loop-again Inv-loop μ-loop
-loop-again c = (
-  omega arith,
-  subst (Descending (c .before .before .before .before .before .before .before .before .before .before .args
-      .rows .now) (c .before .before .before .before .before .before .before .before .before .before .args .count) (c .before .before
-      .before .before .before .before .before .before .before .before .args .deep) (c .before .before .before .before .before .before
-      .before .before .before .before .args .flags .now) (c .before .before .before .before .before .before .loop .j + 1)) (sym (c .before
-      .before .descend-one .ensures)) (descending-next (c .before .before .before .before .before .before .before .before .before .before
-      .args .rows .now) (c .before .before .before .before .before .before .before .before .before .before .args .count) (c .before .before
-      .before .before .before .before .before .before .before .before .pre .held) (c .before .before .before .before .before .before
-      .before .before .before .before .args .deep) (c .before .before .before .before .before .before .before .before .before .before .args
-      .flags .now) (c .before .before .before .before .before .before .loop .j) (c .before .before .before .before .before .loop-test
-      .taken) (c .before .before .before .before .before .before .loop .reached) (c .before .before .before .before .before .before .loop
-      .inv .1)),
-)
+loop-again c =
+    let c5 = c .before .before .before .before .before in
+    let c6 = c5 .before in
+    let c10 = c6 .before .before .before .before in (
+      omega arith,
+      subst (Descending (c10 .args .rows .now) (c10 .args .count) (c10 .args .deep) (c10 .args .flags .now) (c6 .loop .j +
+          1)) (sym (c .before .before .descend-one .ensures)) (descending-next (c10 .args .rows .now) (c10 .args .count) (c10 .pre .held) (c10
+          .args .deep) (c10 .args .flags .now) (c6 .loop .j) (c5 .loop-test .taken) (c6 .loop .reached) (c6 .loop .inv .1)),
+    )
 
 same-length : tie.Need-same-length Inv-loop μ-loop
 same-length c = search (c .before .loop .inv .1 .size, ap length (c .before .before .before .before .before .pre .clear), needs)
 
 returns : tie.Need-returns Inv-loop μ-loop
-returns c = descended-all (c .before .before .before .before .before .args .rows .now) (c .before .before .before .before .before .args
-    .count) (c .before .before .before .before .before .pre .held) (c .before .before .before .before .before .args .deep) (c .before
-    .before .before .before .before .args .flags .now) (c .before .loop .j) (c .before .loop .reached) (omega arith) (c .before .loop
-    .inv .1)
+returns c =
+    let c5 = c .before .before .before .before .before in
+    descended-all (c5 .args .rows .now) (c5 .args .count) (c5 .pre .held) (c5 .args .deep) (c5 .args .flags .now) (c .before .loop .j)
+    (c .before .loop .reached) (omega arith) (c .before .loop .inv .1)
 
 pub descend-spec : {M : Type 1} → statement M
 descend-spec =

@@ -30,12 +30,12 @@ same c = ap (λ (l : ℕ). counted (getD (c .before .before .before .before .bef
     .before .before .before .link .ensures)) ∙ sym (c .counts .ensures)
 
 returns : tie.Need-returns
-returns c = sym (pick-false (counted (getD (c .before .before .before .before .before .before .before .args .flags .now) (c .before
-    .before .before .before .before .before .before .args .w / 4 % 1024) 0) (getD (c .before .before .before .before .before .before
-    .before .args .reached .now) (c .before .before .before .before .before .before .before .args .w / 4 % 1024) 0) (c .before .before
-    .before .before .before .before .before .args .deep)) (set (c .before .before .before .before .before .before .before .args .reached
-    .now) (c .before .before .before .before .before .before .before .args .j + 1) 1) (c .before .before .before .before .before .before
-    .before .args .reached .now) (same (c .before) ∙ not-true (c .before .counts .result) (c .if1 .taken)))
+returns c =
+    let c7 = c .before .before .before .before .before .before .before in
+    sym
+    (pick-false (counted (getD (c7 .args .flags .now) (c7 .args .w / 4 % 1024) 0) (getD (c7 .args .reached .now) (c7 .args .w / 4 %
+    1024) 0) (c7 .args .deep)) (set (c7 .args .reached .now) (c7 .args .j + 1) 1) (c7 .args .reached .now) (same (c .before) ∙ not-true
+    (c .before .counts .result) (c .if1 .taken)))
 
 add-reached : tie.Need-add-reached
 add-reached c = search needs
@@ -47,12 +47,12 @@ same-length : tie.Need-same-length
 same-length c = search needs
 
 returns-2 : tie.Need-returns-2
-returns-2 c = sym (pick-true (counted (getD (c .before .before .before .before .before .before .before .args .flags .now) (c .before
-    .before .before .before .before .before .before .args .w / 4 % 1024) 0) (getD (c .before .before .before .before .before .before
-    .before .args .reached .now) (c .before .before .before .before .before .before .before .args .w / 4 % 1024) 0) (c .before .before
-    .before .before .before .before .before .args .deep)) (set (c .before .before .before .before .before .before .before .args .reached
-    .now) (c .before .before .before .before .before .before .before .args .j + 1) 1) (c .before .before .before .before .before .before
-    .before .args .reached .now) (same (c .before) ∙ not-false (c .before .counts .result) (c .if1 .left)))
+returns-2 c =
+    let c7 = c .before .before .before .before .before .before .before in
+    sym
+    (pick-true (counted (getD (c7 .args .flags .now) (c7 .args .w / 4 % 1024) 0) (getD (c7 .args .reached .now) (c7 .args .w / 4 % 1024)
+    0) (c7 .args .deep)) (set (c7 .args .reached .now) (c7 .args .j + 1) 1) (c7 .args .reached .now) (same (c .before) ∙ not-false (c
+    .before .counts .result) (c .if1 .left)))
 
 pub descend-one-spec : {M : Type 1} → statement M
 descend-one-spec =

@@ -35,13 +35,10 @@ add-flags : tie.Need-add-flags Inv-loop μ-loop
 add-flags c = search needs
 
 slice-write-flags : tie.Need-slice-write-flags Inv-loop μ-loop
-slice-write-flags c = omega (
-  arith,
-  c .before .before .before .loop .inv .1 .size,
-  c .index .ensures .0,
-  c .before .before .before
-      .before .before .before .pre .low (c .before .before .before .loop .k) (c .before .before .loop-test .taken),
-)
+slice-write-flags c =
+    let c3 = c .before .before .before in
+    let c6 = c3 .before .before .before in
+    omega (arith, c3 .loop .inv .1 .size, c .index .ensures .0, c6 .pre .low (c3 .loop .k) (c .before .before .loop-test .taken))
 
 add-k : tie.Need-add-k Inv-loop μ-loop
 add-k c = search needs
@@ -50,14 +47,14 @@ loop-less : tie.Need-loop-less Inv-loop μ-loop
 loop-less c = omega arith
 
 loop-again : tie.Need-loop-again Inv-loop μ-loop
-loop-again c = (
-  omega arith,
-  subst (λ (j : ℕ). Flagged (take (c .before .before .before .loop .k + 1) (c .before .before .before .before
-      .before .before .args .items .now)) (set (c .before .before .before .loop .flags) (j + 1) 1)) (sym (c .index .ensures .0))
-      (flagged-next (c .before .before .before .loop .flags) (c .before .before .before .before .before .before .args .items .now) (c
-      .before .before .before .loop .k) (c .before .before .loop-test .taken) (c .before .before .before .before .before .before .pre .low
-      (c .before .before .before .loop .k) (c .before .before .loop-test .taken)) (c .before .before .before .loop .inv .1)),
-)
+loop-again c =
+    let c3 = c .before .before .before in
+    let c6 = c3 .before .before .before in (
+      omega arith,
+      subst (λ (j : ℕ). Flagged (take (c3 .loop .k + 1) (c6 .args .items .now)) (set (c3 .loop .flags) (j + 1) 1)) (sym (c .index .ensures .0))
+          (flagged-next (c3 .loop .flags) (c6 .args .items .now) (c3 .loop .k) (c .before .before .loop-test .taken) (c6 .pre .low
+          (c3 .loop .k) (c .before .before .loop-test .taken)) (c3 .loop .inv .1)),
+    )
 
 same-length : tie.Need-same-length Inv-loop μ-loop
 same-length c = search (c .before .loop .inv .1 .size, ap length (c .before .before .before .before .pre .clear), needs)

@@ -34,21 +34,27 @@ kind-requires c κs = search needs
 
 returns-2 : tie.Need-returns-2
 returns-2 c =
-    let a = c .before .before .before .before .before .before .args in
+    let c6 = c .before .before .before .before .before .before in
+    let a = c6 .args in
     sym (pass-leaf (getD (a .rows .now) (a .row .0) 0) (a .test) (a .name .0) (c .before .before .if1 .left)
     (sym (kind-is (c .before)) ∙ c .if2 .taken))
 
 returns-3 : tie.Need-returns-3
 returns-3 c =
-    let a = c .before .before .before .before .before .before .before .args in
-    sym (pass-element (getD (a .rows .now) (a .row .0) 0) (a .test) (a .name .0) (c .before .before .before .if1 .left)
+    let c3 = c .before .before .before in
+    let c7 = c3 .before .before .before .before in
+    let a = c7 .args in
+    sym (pass-element (getD (a .rows .now) (a .row .0) 0) (a .test) (a .name .0) (c3 .if1 .left)
     (λ q. c .before .if2 .left (kind-is (c .before .before) ∙ q)) (c .if3 .taken))
 
 returns-4 : tie.Need-returns-4
 returns-4 c =
-    let a = c .before .before .before .before .before .before .before .before .args in
-    sym (pass-no-leaf (getD (a .rows .now) (a .row .0) 0) (a .test) (a .name .0) (c .before .before .before .before .if1 .left)
-    (λ q. c .before .before .if2 .left (kind-is (c .before .before .before) ∙ q)) (c .before .if3 .left) (c .if4 .taken))
+    let c3 = c .before .before .before in
+    let c4 = c3 .before in
+    let c8 = c4 .before .before .before .before in
+    let a = c8 .args in
+    sym (pass-no-leaf (getD (a .rows .now) (a .row .0) 0) (a .test) (a .name .0) (c4 .if1 .left)
+    (λ q. c .before .before .if2 .left (kind-is (c3) ∙ q)) (c .before .if3 .left) (c .if4 .taken))
 
 tag-requires : tie.Need-tag-requires
 tag-requires c κs = search needs
@@ -58,14 +64,20 @@ cast-result c = search needs
 
 returns-5 : tie.Need-returns-5
 returns-5 c =
-    let a = c .before .before .before .before .before .before .before .before .before .before .args in
+    let c3 = c .before .before .before in
+    let c4 = c3 .before in
+    let c5 = c4 .before in
+    let c6 = c5 .before in
+    let c8 = c6 .before .before in
+    let c10 = c8 .before .before in
+    let a = c10 .args in
     let w = getD (a .rows .now) (a .row .0) 0 in
-    let here = same (c .before .before .before .before .before .before .before .before) in
-    let kind = kind-is (c .before .before .before .before .before) in
+    let here = same (c8) in
+    let kind = kind-is (c5) in
     ap (λ (j : ℕ). eqb j (a .name .0)) (c .before .tag .ensures ∙ ap (λ (j : ℕ). j / 4096) (sym here)) ∙
-    sym (pass-named w (a .test) (a .name .0) (c .before .before .before .before .before .before .if1 .left) (λ q.
-    c .before .before .before .before .if2 .left (kind ∙ q))
-    (c .before .before .before .if3 .left) (c .before .before .if4 .left))
+    sym (pass-named w (a .test) (a .name .0) (c6 .if1 .left) (λ q.
+    c4 .if2 .left (kind ∙ q))
+    (c3 .if3 .left) (c .before .before .if4 .left))
 
 pub passes-spec : {M : Type 1} → statement M
 passes-spec =

@@ -26,10 +26,12 @@ same-length-2 : tie.Need-same-length-2
 same-length-2 c = search needs
 
 returns-2 : tie.Need-returns-2
-returns-2 c = subst (λ (a : ℕ). Reached (c .before .before .before .before .before .before .before .before .before .args .rows .now) (c
-    .before .before .before .before .before .before .before .before .before .args .count) a (c .before .before .before .before .before
-    .before .before .before .before .args .flags .now) (c .before .before .descend2 .last .1 .1 .1 .1 .0)) (sym (c .before .before
-    .before .before .if2 .taken)) (c .before .before .descend2 .ensures)
+returns-2 c =
+    let c4 = c .before .before .before .before in
+    let c9 = c4 .before .before .before .before .before in
+    subst
+    (λ (a : ℕ). Reached (c9 .args .rows .now) (c9 .args .count) a (c9 .args .flags .now) (c .before .before .descend2 .last .1 .1 .1 .1 .0))
+    (sym (c4 .if2 .taken)) (c .before .before .descend2 .ensures)
 
 climb-requires : tie.Need-climb-requires
 climb-requires c κs = search needs

@@ -27,27 +27,27 @@ part-flag-end : tie.Need-part-flag-end
 part-flag-end c = search needs
 
 flag-requires : tie.Need-flag-requires
-flag-requires c κs = record {
-  clear = refl;
-  low = λ k h. omega (
-    arith,
-    c .before .before .before .before .before .pre .held .few,
-    c
-        .before .before .before .before .before .pre .low k (omega (
+flag-requires c κs =
+    let c5 = c .before .before .before .before .before in
+    record {
+      clear = refl;
+      low = λ k h. omega (
+        arith,
+        c5 .pre .held .few,
+        c5 .pre .low k (omega (
           arith,
           h,
-          length-take-le (c .before .before .before .before .before .args
-              .to - c .before .before .before .before .before .args .from) (drop (c .before .before .before .before .before .args .from)
-              (c .before
-              .before .before .before .before .args .work .now)) (omega (
+          length-take-le (c5 .args
+              .to - c5 .args .from) (drop (c5 .args .from)
+              (c5 .args .work .now)) (omega (
                 arith,
-                c .before .before .before .before .before .pre .within,
+                c5 .pre .within,
                 length-drop
-                    (c .before .before .before .before .before .args .from) (c .before .before .before .before .before .args .work .now),
+                    (c5 .args .from) (c5 .args .work .now),
               )),
         )),
-  );
-}
+      );
+    }
 
 slice-aggregate-reach : tie.Need-slice-aggregate-reach
 slice-aggregate-reach c = search needs

@@ -23,9 +23,11 @@ same-length : tie.Need-same-length
 same-length c = search needs
 
 returns : tie.Need-returns
-returns c = answer-placed (c .before .before .before .before .before .before .before .before .before .before .before .before .before
-    .before .before .before .pre) (c .before .before .before .before .before .before .before .before .before .before .before .put
-    .ensures) (c .before .before .before .before .before .before .before .put2 .ensures) (c .before .before .put3 .ensures)
+returns c =
+    let c7 = c .before .before .before .before .before .before .before in
+    let c11 = c7 .before .before .before .before in
+    let c16 = c11 .before .before .before .before .before in
+    answer-placed (c16 .pre) (c11 .put .ensures) (c7 .put2 .ensures) (c .before .before .put3 .ensures)
 
 pub put-answer-spec : {M : Type 1} → statement M
 put-answer-spec =

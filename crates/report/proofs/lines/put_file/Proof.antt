@@ -32,13 +32,14 @@ same-length : tie.Need-same-length
 same-length c = search needs
 
 returns : tie.Need-returns
-returns c = file-placed (c .before .before .before .before .before .before .before .before .before .before .before .before .before
-    .before .before .before .before .before .before .before .before .before .before .before .before .pre) (c .before .before .before
-    .before .before .before .before .before .before .before .before .before .before .before .before .before .before .before .before
-    .before .put .ensures) (c .before .before .before .before .before .before .before .before .before .before .before .before .before
-    .before .before .before .put2 .ensures) (c .before .before .before .before .before .before .before .before .before .before .before
-    .put-field .ensures) (c .before .before .before .before .before .before .before .put-field2 .ensures) (c .before .before .put3
-    .ensures)
+returns c =
+    let c7 = c .before .before .before .before .before .before .before in
+    let c11 = c7 .before .before .before .before in
+    let c16 = c11 .before .before .before .before .before in
+    let c20 = c16 .before .before .before .before in
+    let c25 = c20 .before .before .before .before .before in
+    file-placed (c25 .pre) (c20 .put .ensures) (c16 .put2 .ensures) (c11 .put-field .ensures) (c7 .put-field2 .ensures)
+    (c .before .before .put3 .ensures)
 
 pub put-file-spec : {M : Type 1} → statement M
 put-file-spec =

@@ -56,27 +56,29 @@ same-length : tie.Need-same-length
 same-length c = search needs
 
 returns : tie.Need-returns
-returns c = stopped-placed (c .before .before .before .before .before .before .before .before .before .before .before .before .before
-    .before .before .before .before .before .before .before .before .before .before .before .before .before .before .pre) (c .before
-    .before .before .before .before .before .before .before .before .before .before .before .before .before .before .before .before
-    .before .before .order .given .1) (c .before .before .before .before .before .before .before .before .before .before .before
-    .before .before .before .before .before .before .before .before .before .before .before .before .put .ensures) (c .before .before
-    .before .before .before .before .before .before .before .before .before .before .before .before .before .put2 .ensures) (c .before
-    .before .before .before .before .before .before .before .before .before .before .put-field .ensures) (c .before .before .before
-    .before .before .before .before .put-field2 .ensures) (c .before .before .put3 .ensures)
+returns c =
+    let c7 = c .before .before .before .before .before .before .before in
+    let c11 = c7 .before .before .before .before in
+    let c15 = c11 .before .before .before .before in
+    let c19 = c15 .before .before .before .before in
+    let c23 = c19 .before .before .before .before in
+    let c27 = c23 .before .before .before .before in
+    stopped-placed (c27 .pre) (c19 .order .given .1) (c23 .put .ensures) (c15 .put2 .ensures) (c11 .put-field .ensures)
+    (c7 .put-field2 .ensures) (c .before .before .put3 .ensures)
 
 same-length-2 : tie.Need-same-length-2
 same-length-2 c = search needs
 
 returns-2 : tie.Need-returns-2
-returns-2 c = ended-placed (c .before .before .before .before .before .before .before .before .before .before .before .before .before
-    .before .before .before .before .before .before .before .before .before .before .before .before .before .pre) (c .before .before
-    .before .before .before .before .before .before .before .before .before .before .before .before .before .before .before .before
-    .order2 .given .1) (c .before .before .before .before .before .before .before .before .before .before .before .before .before
-    .before .before .before .before .before .before .before .before .before .put .ensures) (c .before .before .before .before .before
-    .before .before .before .before .before .before .before .before .before .before .put-field3 .ensures) (c .before .before .before
-    .before .before .before .before .before .before .before .before .put-field4 .ensures) (c .before .before .before .before .before
-    .before .before .put-field5 .ensures) (c .before .before .put4 .ensures)
+returns-2 c =
+    let c7 = c .before .before .before .before .before .before .before in
+    let c11 = c7 .before .before .before .before in
+    let c15 = c11 .before .before .before .before in
+    let c18 = c15 .before .before .before in
+    let c22 = c18 .before .before .before .before in
+    let c26 = c22 .before .before .before .before in
+    ended-placed (c26 .pre) (c18 .order2 .given .1) (c22 .put .ensures) (c15 .put-field3 .ensures) (c11 .put-field4 .ensures)
+    (c7 .put-field5 .ensures) (c .before .before .put4 .ensures)
 
 pub put-order-spec : {M : Type 1} → statement M
 put-order-spec =

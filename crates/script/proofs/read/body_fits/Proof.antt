@@ -35,13 +35,15 @@ returns-3 c = body-axis (c .before .before .if3 .taken) (c .if4 .taken)
 
 shared-slice-read-test-fits : tie.Need-shared-slice-read-test-fits
 shared-slice-read-test-fits c =
-    body-whole (c .before .before .before .before .before .before .before .before .pre)
-    (c .before .before .before .if3 .taken) 2 (omega arith)
+    let c3 = c .before .before .before in
+    let c8 = c3 .before .before .before .before .before in
+    body-whole (c8 .pre) (c3 .if3 .taken) 2 (omega arith)
 
 shared-slice-read-test-fits-2 : tie.Need-shared-slice-read-test-fits-2
 shared-slice-read-test-fits-2 c =
-    body-whole (c .before .before .before .before .before .before .before .before .before .pre)
-    (c .before .before .before .before .if3 .taken) 3 (omega arith)
+    let c4 = c .before .before .before .before in
+    let c9 = c4 .before .before .before .before .before in
+    body-whole (c9 .pre) (c4 .if3 .taken) 3 (omega arith)
 
 test-fits-requires : tie.Need-test-fits-requires
 test-fits-requires c κs = search needs
@@ -51,22 +53,25 @@ returns-4 c = body-step (c .before .before .before .before .before .if3 .taken) 
 
 shared-slice-read-result : tie.Need-shared-slice-read-result
 shared-slice-read-result c =
-    body-whole (c .before .before .before .before .before .before .before .pre) (c .before .if5 .taken) 1 (omega arith)
+    let c7 = c .before .before .before .before .before .before .before in
+    body-whole (c7 .pre) (c .before .if5 .taken) 1 (omega arith)
 
 returns-5 : tie.Need-returns-5
 returns-5 c = body-element (c .before .if5 .taken) (omega (arith, c .shared-slice-known8 .given 1))
 
 shared-slice-read-result-2 : tie.Need-shared-slice-read-result-2
 shared-slice-read-result-2 c =
-    body-whole (c .before .before .before .before .before .before .before .before .pre) (c .before .if6 .taken) 1 (omega arith)
+    let c8 = c .before .before .before .before .before .before .before .before in
+    body-whole (c8 .pre) (c .before .if6 .taken) 1 (omega arith)
 
 returns-6 : tie.Need-returns-6
 returns-6 c = body-pick (c .before .if6 .taken)
 
 returns-7 : tie.Need-returns-7
 returns-7 c =
-    body-none (c .before .before .before .before .if1 .left) (c .before .before .before .if2 .left) (c .before .before .if3 .left)
-    (c .before .if5 .left) (c .if6 .left)
+    let c3 = c .before .before .before in
+    let c4 = c3 .before in
+    body-none (c4 .if1 .left) (c3 .if2 .left) (c .before .before .if3 .left) (c .before .if5 .left) (c .if6 .left)
 
 pub body-fits-spec : {M : Type 1} → statement M
 body-fits-spec =

@@ -48,16 +48,22 @@ body-fits-requires c κs = record { whole = omega (arith, c .before .body-size .
 
 returns-8 : tie.Need-returns-8
 returns-8 c =
-    let n = sym (c .before .before .before .before .before .is-ninth .ensures) ∙ c .before .before .before .before .if6 .left in
+    let c3 = c .before .before .before in
+    let c4 = c3 .before in
+    let c5 = c4 .before in
+    let n = sym (c5 .is-ninth .ensures) ∙ c4 .if6 .left in
     head-fine (omega arith) (omega arith) (omega arith) (omega arith) (omega arith) n
-    (omega (arith, c .before .before .before .body-size .ensures .0, c .before .before .if7 .left))
+    (omega (arith, c3 .body-size .ensures .0, c .before .before .if7 .left))
     (c .before .body-fits .ensures) (c .if8 .taken)
 
 returns-9 : tie.Need-returns-9
 returns-9 c =
-    let n = sym (c .before .before .before .before .before .is-ninth .ensures) ∙ c .before .before .before .before .if6 .left in
+    let c3 = c .before .before .before in
+    let c4 = c3 .before in
+    let c5 = c4 .before in
+    let n = sym (c5 .is-ninth .ensures) ∙ c4 .if6 .left in
     head-field (omega arith) (omega arith) (omega arith) (omega arith) (omega arith) n
-    (omega (arith, c .before .before .before .body-size .ensures .0, c .before .before .if7 .left))
+    (omega (arith, c3 .body-size .ensures .0, c .before .before .if7 .left))
     (c .before .body-fits .ensures) (c .if8 .left)
 
 pub head-spec : {M : Type 1} → statement M

@@ -40,9 +40,8 @@ add-if2 c = search needs
 
 returns-2 : tie.Need-returns-2 Inv-loop μ-loop
 returns-2 c =
-    walk-short (c .before .before .before .before .before .loop .inv) (omega arith)
-    (c .before .before .body-size .ensures .0) (c .before .arity .ensures .0)
-    (c .if2 .taken)
+    let c5 = c .before .before .before .before .before in
+    walk-short (c5 .loop .inv) (omega arith) (c .before .before .body-size .ensures .0) (c .before .arity .ensures .0) (c .if2 .taken)
 
 add-next : tie.Need-add-next Inv-loop μ-loop
 add-next c = search needs
@@ -61,9 +60,8 @@ loop-less c = search needs
 
 loop-again : tie.Need-loop-again Inv-loop μ-loop
 loop-again c =
-    walk-on (c .before .before .before .before .before .loop .inv) (omega arith)
-    (c .before .before .body-size .ensures .0) (c .before .arity .ensures .0)
-    (omega arith)
+    let c5 = c .before .before .before .before .before in
+    walk-on (c5 .loop .inv) (omega arith) (c .before .before .body-size .ensures .0) (c .before .arity .ensures .0) (omega arith)
 
 returns-3 : tie.Need-returns-3 Inv-loop μ-loop
 returns-3 c = walk-ends (c .before .loop .inv) (omega arith)

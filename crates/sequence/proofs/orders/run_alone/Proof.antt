@@ -27,17 +27,15 @@ run-requires : tie.Need-run-requires
 run-requires c κs = search needs
 
 returns : tie.Need-returns
-returns c = run-given (c .before .before .before .before .before .before .before .before .before .before .before .before .args .table)
-    (c .before .before .before .before .before .before .before .before .before .before .before .before .args .script .now) (c .before
-    .before .before .before .before .before .before .before .before .before .answer-area .result) (c .before .before .before .before
-    .before .before .before .before .before .history-area .result) (c .before .before .before .before .before .before .before .before
-    .work-area .result)
-    (omega (arith, c .before .before .before .before .before .before .before .before .before .before .answer-area .ensures)) (omega
-    (arith, c .before .before .before .before .before .before .before .before .before .history-area .ensures)) (omega (
-      arith,
-      c .before
-          .before .before .before .before .before .before .before .work-area .ensures,
-    )) (c .before .before .before .before .run .ensures .0)
+returns c =
+    let c4 = c .before .before .before .before in
+    let c8 = c4 .before .before .before .before in
+    let c9 = c8 .before in
+    let c10 = c9 .before in
+    let c12 = c10 .before .before in
+    run-given (c12 .args .table) (c12 .args .script .now) (c10 .answer-area .result) (c9 .history-area .result) (c8 .work-area .result)
+    (omega (arith, c10 .answer-area .ensures)) (omega (arith, c9 .history-area .ensures)) (omega (arith, c8 .work-area .ensures))
+    (c4 .run .ensures .0)
 
 pub run-alone-spec : {M : Type 1} → statement M
 run-alone-spec =

@@ -29,12 +29,10 @@ shared-slice-read-flag-one : tie.Need-shared-slice-read-flag-one Inv-loop μ-loo
 shared-slice-read-flag-one c = search needs
 
 flag-one-requires : tie.Need-flag-one-requires Inv-loop μ-loop
-flag-one-requires c κs = omega (
-  arith,
-  c .before .before .before .loop .inv .1 .size,
-  c .before .before .before .before .before .before
-      .pre .links (c .before .before .before .loop .d),
-)
+flag-one-requires c κs =
+    let c3 = c .before .before .before in
+    let c6 = c3 .before .before .before in
+    omega (arith, c3 .loop .inv .1 .size, c6 .pre .links (c3 .loop .d))
 
 add-d : tie.Need-add-d Inv-loop μ-loop
 add-d c = search needs
@@ -43,15 +41,15 @@ loop-less : tie.Need-loop-less Inv-loop μ-loop
 loop-less c = omega arith
 
 loop-again : tie.Need-loop-again Inv-loop μ-loop
-loop-again c = (
-  omega arith,
-  subst (Flagged (take (c .before .before .before .before .before .before .loop .d + 1) (c .before .before
-      .before .before .before .before .before .before .before .args .marks .now))) (sym (c .before .before .flag-one .ensures))
-      (flagged-next (c .before .before .before .before .before .before .loop .numbers) (c .before .before .before .before .before .before
-      .before .before .before .args .marks .now) (c .before .before .before .before .before .before .loop .d) (c .before .before .before
-      .before .before .loop-test .taken) (c .before .before .before .before .before .before .before .before .before .pre .links (c .before
-      .before .before .before .before .before .loop .d)) (c .before .before .before .before .before .before .loop .inv .1)),
-)
+loop-again c =
+    let c5 = c .before .before .before .before .before in
+    let c6 = c5 .before in
+    let c9 = c6 .before .before .before in (
+      omega arith,
+      subst (Flagged (take (c6 .loop .d + 1) (c9 .args .marks .now))) (sym (c .before .before .flag-one .ensures))
+          (flagged-next (c6 .loop .numbers) (c9 .args .marks .now) (c6 .loop .d) (c5 .loop-test .taken) (c9 .pre .links (c6 .loop .d)) (c6
+          .loop .inv .1)),
+    )
 
 same-length : tie.Need-same-length Inv-loop μ-loop
 same-length c = search (c .before .loop .inv .1 .size, ap length (c .before .before .before .before .pre .zero), needs)

@@ -13,8 +13,10 @@ index-requires : tie.Need-index-requires
 index-requires c κs = search needs
 
 returns : tie.Need-returns
-returns c = sym (pick-true (eqb (c .before .before .before .args .link) 0) (c .before .before .before .args .numbers .now) (set (c
-    .before .before .before .args .numbers .now) (c .before .before .before .args .link) 1) (eq-eqb (c .before .before .before .args
+returns c =
+    let c3 = c .before .before .before in
+    sym
+    (pick-true (eqb (c3 .args .link) 0) (c3 .args .numbers .now) (set (c3 .args .numbers .now) (c3 .args .link) 1) (eq-eqb (c3 .args
     .link) 0 (sym (c .before .index .ensures .0) ∙ c .if1 .taken)))
 
 mul-numbers : tie.Need-mul-numbers
@@ -27,10 +29,11 @@ same-length : tie.Need-same-length
 same-length c = search needs
 
 returns-2 : tie.Need-returns-2
-returns-2 c = ap (λ (j : ℕ). set (c .before .before .before .args .numbers .now) j 1) (c .before .index .ensures .0) ∙ sym (pick-false (eqb
-    (c .before .before .before .args .link) 0) (c .before .before .before .args .numbers .now) (set (c .before .before .before .args
-    .numbers .now) (c .before .before .before .args .link) 1) (ne-eqb (c .before .before .before .args .link) 0 (λ q. c .if1 .left (c
-    .before .index .ensures .0 ∙ q))))
+returns-2 c =
+    let c3 = c .before .before .before in
+    ap (λ (j : ℕ). set (c3 .args .numbers .now) j 1) (c .before .index .ensures .0) ∙ sym (pick-false (eqb
+    (c3 .args .link) 0) (c3 .args .numbers .now) (set (c3 .args
+    .numbers .now) (c3 .args .link) 1) (ne-eqb (c3 .args .link) 0 (λ q. c .if1 .left (c .before .index .ensures .0 ∙ q))))
 
 pub flag-one-spec : {M : Type 1} → statement M
 flag-one-spec =

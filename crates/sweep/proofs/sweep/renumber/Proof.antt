@@ -50,7 +50,9 @@ mul-marks : tie.Need-mul-marks Inv-loop μ-loop
 mul-marks c = record { fits = omega (arith, low (c)) }
 
 shared-slice-read-marks : tie.Need-shared-slice-read-marks Inv-loop μ-loop
-shared-slice-read-marks c = omega (arith, low (c .before), c .before .before .before .before .before .before .before .pre .size)
+shared-slice-read-marks c =
+    let c7 = c .before .before .before .before .before .before .before in
+    omega (arith, low (c .before), c7 .pre .size)
 
 mul-marks-2 : tie.Need-mul-marks-2 Inv-loop μ-loop
 mul-marks-2 c = search needs
@@ -85,8 +87,10 @@ same-length : tie.Need-same-length Inv-loop μ-loop
 same-length c = search needs
 
 returns : tie.Need-returns Inv-loop μ-loop
-returns c = c .before .loop .inv .1 ∙ links-end (c .before .before .before .before .args .numbers .now) (c .before .before .before
-    .before .args .marks .now) (c .before .loop .d) (omega (arith, c .before .loop .inv .2))
+returns c =
+    let c4 = c .before .before .before .before in
+    c .before .loop .inv .1 ∙ links-end (c4 .args .numbers .now) (c4 .args .marks .now) (c .before .loop .d)
+    (omega (arith, c .before .loop .inv .2))
 
 pub renumber-spec : {M : Type 1} → statement M
 renumber-spec =

@@ -40,7 +40,8 @@ kept c =
 
 returns : tie.Need-returns
 returns c =
-    let a = c .before .before .before .before .before .before .before .args in
+    let c7 = c .before .before .before .before .before .before .before in
+    let a = c7 .args in
     let t = keepsRow (a .w) (a .i) (a .numbers .now) in
     let e = kept (c .before) ∙ not-true (c .before .is-kept .result) (c .if1 .taken) in
     record {
@@ -68,19 +69,24 @@ kind-requires : tie.Need-kind-requires
 kind-requires c κs = search needs
 
 cast-word : tie.Need-cast-word
-cast-word c = let l = c .before .before .before .before .before .link .result in
-    omega (arith, c .before .before .before .before .slice-known3 .given l)
+cast-word c =
+    let c4 = c .before .before .before .before in
+    let c5 = c4 .before in
+    let l = c5 .link .result in
+    omega (arith, c4 .slice-known3 .given l)
 
 tag-requires : tie.Need-tag-requires
 tag-requires c κs = search needs
 
 word-requires : tie.Need-word-requires
 word-requires c κs =
-    let p = c .before .before .before .before .before .before .before .before .before .pre in
-    let ns = c .before .before .before .before .before .before .before .before .before .args .numbers .now in (
+    let c6 = c .before .before .before .before .before .before in
+    let c9 = c6 .before .before .before in
+    let p = c9 .pre in
+    let ns = c9 .args .numbers .now in (
       omega (arith, c .before .kind .ensures),
       (
-        omega (arith, p .parent, ap (λ (j : ℕ). getD ns j 0) (c .before .before .before .before .before .before .link .ensures)),
+        omega (arith, p .parent, ap (λ (j : ℕ). getD ns j 0) (c6 .link .ensures)),
         omega
             (arith, c .tag .ensures, p .word),
       ),
@@ -112,10 +118,13 @@ built c =
 
 returns-2 : tie.Need-returns-2
 returns-2 c =
-    let a = c .before .before .before .before .before .before .before .before .before .before .args in
+    let c3 = c .before .before .before in
+    let c4 = c3 .before in
+    let c10 = c4 .before .before .before .before .before .before in
+    let a = c10 .args in
     let t = keepsRow (a .w) (a .i) (a .numbers .now) in
-    let e = kept (c .before .before .before .before) ∙ not-false (c .before .before .before .before .is-kept .result)
-    (c .before .before .before .if1 .left) in
+    let e = kept (c4) ∙ not-false (c4 .is-kept .result)
+    (c3 .if1 .left) in
     record {
       numbers = sym (pick-true t (set (a .numbers .now) (a .i + 1) (a .next + 1)) (a .numbers .now) e);
       rows =

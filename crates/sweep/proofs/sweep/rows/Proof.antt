@@ -25,84 +25,63 @@ within : (c : tie.Start Inv-loop μ-loop) → c .args .count ≤ length (c .args
 within c = omega (arith, fitting c .few, c .pre .size)
 
 flag-requires : tie.Need-flag-requires Inv-loop μ-loop
-flag-requires c κs = record {
-  zero = c .before .before .before .before .before .pre .numbers;
-  links = λ d. fits-mark (c .before .before
-      .before .before .before .args .count) (c .before .before .before .before .before .args .rows .now) (c .before .before .before .before
-      .before .args .marks .now) (fitting (c .before .before .before .before .before)) (within (c .before .before .before .before .before))
-      d;
-}
+flag-requires c κs =
+    let c5 = c .before .before .before .before .before in
+    record {
+      zero = c5 .pre .numbers;
+      links = λ d. fits-mark (c5 .args .count) (c5 .args .rows .now) (c5 .args .marks .now) (fitting (c5)) (within (c5))
+          d;
+    }
 
 loop-holds : tie.Need-loop-holds Inv-loop μ-loop
-loop-holds c = (
-  omega arith,
-  sweeping-none (c .before .before .before .before .before .before .before .before .args .rows .now) (c
-      .before .before .before .before .before .before .before .before .args .marks .now) (c .before .before .flag .last .0) (c .before
-      .before .before .before .before .before .before .before .args .out .now) (c .before .before .before .before .before .before .before
-      .before .args .count) (c .before .before .flag .ensures) (c .before .before .before .before .before .before .before .before .pre
-      .rows),
-  ap length (c .before .before .before .before .before .before .before .before .pre .rows),
-)
+loop-holds c =
+    let c8 = c .before .before .before .before .before .before .before .before in (
+      omega arith,
+      sweeping-none (c8 .args .rows .now) (c8 .args .marks .now) (c .before .before .flag .last .0) (c8 .args .out .now) (c8
+          .args .count) (c .before .before .flag .ensures) (c8 .pre .rows),
+      ap length (c8 .pre .rows),
+    )
 
 mul-row : tie.Need-mul-row Inv-loop μ-loop
-mul-row c = record {
-  fits = omega (
-    arith,
-    fitting (c .before .before .before .before .before .before .before .before .before .before)
-        .few,
-    c .loop-test .taken,
-  );
-}
+mul-row c =
+    let c10 = c .before .before .before .before .before .before .before .before .before .before in
+    record {
+      fits = omega (
+        arith,
+        fitting (c10)
+            .few,
+        c .loop-test .taken,
+      );
+    }
 
 shared-slice-read-row : tie.Need-shared-slice-read-row Inv-loop μ-loop
-shared-slice-read-row c = omega (
-  arith,
-  within (c .before .before .before .before .before .before .before .before .before .before
-      .before),
-  c .before .loop-test .taken,
-)
+shared-slice-read-row c =
+    let c11 = c .before .before .before .before .before .before .before .before .before .before .before in
+    omega (arith, within (c11), c .before .loop-test .taken)
 
 row-requires : tie.Need-row-requires Inv-loop μ-loop
-row-requires c κs = record {
-  word = fits-tag (c .before .before .before .before .before .before .before .before .before .before .before
-      .before .before .args .count) (c .before .before .before .before .before .before .before .before .before .before .before .before
-      .before .args .rows .now) (c .before .before .before .before .before .before .before .before .before .before .before .before .before
-      .args .marks .now) (fitting (c .before .before .before .before .before .before .before .before .before .before .before .before
-      .before)) (within (c .before .before .before .before .before .before .before .before .before .before .before .before .before)) (c
-      .before .before .before .before .loop .i) (c .before .before .before .loop-test .taken);
-  low = omega (
-    arith,
-    fitting (c .before
-        .before .before .before .before .before .before .before .before .before .before .before .before) .few,
-  );
-  link = link-low (c .before
-      .before .before .before .before .before .before .before .before .before .before .before .before .args .rows .now) (c .before .before
-      .before .before .before .before .before .before .before .before .before .before .before .args .marks .now) (c .before .before .before
-      .before .before .before .before .before .before .before .before .before .before .args .count) (c .before .before .before .before
-      .loop .i) (fitting (c .before .before .before .before .before .before .before .before .before .before .before .before .before)) (c
-      .before .before .before .before .before .before .before .before .before .before .before .before .before .pre .size) (c .before
-      .before .before .loop-test .taken) (c .before .before .before .before .loop .next) (c .before .before .before .before .loop .numbers)
-      (c .before .before .before .before .loop .out) (c .before .before .before .before .loop .inv .1);
-  below = next-low (c .before .before
-      .before .before .before .before .before .before .before .before .before .before .before .args .rows .now) (c .before .before .before
-      .before .before .before .before .before .before .before .before .before .before .args .marks .now) (c .before .before .before .before
-      .before .before .before .before .before .before .before .before .before .args .count) (c .before .before .before .before .loop .i)
-      (fitting (c .before .before .before .before .before .before .before .before .before .before .before .before .before)) (c .before
-      .before .before .before .before .before .before .before .before .before .before .before .before .pre .size) (c .before .before
-      .before .loop-test .taken) (c .before .before .before .before .loop .next) (c .before .before .before .before .loop .numbers) (c
-      .before .before .before .before .loop .out) (c .before .before .before .before .loop .inv .1);
-  numbers = c .before .before .before
-      .before .loop .inv .1 .size;
-  rows = c .before .before .before .before .loop .inv .2;
-  parent = entry-low (c .before .before .before
-      .before .before .before .before .before .before .before .before .before .before .args .rows .now) (c .before .before .before .before
-      .before .before .before .before .before .before .before .before .before .args .marks .now) (c .before .before .before .before .before
-      .before .before .before .before .before .before .before .before .args .count) (c .before .before .before .before .loop .i) (fitting
-      (c .before .before .before .before .before .before .before .before .before .before .before .before .before)) (c .before .before
-      .before .before .before .before .before .before .before .before .before .before .before .pre .size) (c .before .before .before
-      .loop-test .taken) (c .before .before .before .before .loop .next) (c .before .before .before .before .loop .numbers) (c .before
-      .before .before .before .loop .out) (c .before .before .before .before .loop .inv .1);
-}
+row-requires c κs =
+    let c3 = c .before .before .before in
+    let c4 = c3 .before in
+    let c13 = c4 .before .before .before .before .before .before .before .before .before in
+    record {
+      word = fits-tag (c13 .args .count) (c13 .args .rows .now) (c13
+          .args .marks .now) (fitting (c13)) (within (c13)) (c4 .loop .i) (c3 .loop-test .taken);
+      low = omega (
+        arith,
+        fitting (c13) .few,
+      );
+      link = link-low (c13 .args .rows .now) (c13 .args .marks .now) (c13 .args .count) (c4
+          .loop .i) (fitting (c13)) (c13 .pre .size) (c3 .loop-test .taken) (c4 .loop .next) (c4 .loop .numbers)
+          (c4 .loop .out) (c4 .loop .inv .1);
+      below = next-low (c13 .args .rows .now) (c13 .args .marks .now) (c13 .args .count) (c4 .loop .i)
+          (fitting (c13)) (c13 .pre .size) (c3 .loop-test .taken) (c4 .loop .next) (c4 .loop .numbers) (c4 .loop .out) (c4 .loop .inv .1);
+      numbers = c4 .loop .inv .1 .size;
+      rows = c4 .loop .inv .2;
+      parent = entry-low (c13 .args .rows .now) (c13 .args .marks .now) (c13 .args .count) (c4 .loop .i) (fitting
+          (c13)) (c13 .pre .size) (c3
+          .loop-test .taken) (c4 .loop .next) (c4 .loop .numbers) (c4 .loop .out) (c4 .loop .inv .1);
+    }
 
 add-i : tie.Need-add-i Inv-loop μ-loop
 add-i c = search needs
@@ -111,45 +90,34 @@ loop-less : tie.Need-loop-less Inv-loop μ-loop
 loop-less c = omega arith
 
 loop-again : tie.Need-loop-again Inv-loop μ-loop
-loop-again c = (
-  omega arith,
-  sweeping-next (c .before .before .before .before .before .before .before .before .before .before .before
-      .before .before .before .before .before .before .before .args .rows .now) (c .before .before .before .before .before .before .before
-      .before .before .before .before .before .before .before .before .before .before .before .args .marks .now) (c .before .before .before
-      .before .before .before .before .before .before .before .before .before .before .before .before .before .before .before .args .count)
-      (c .before .before .before .before .before .before .before .before .before .loop .i) (fitting (c .before .before .before .before
-      .before .before .before .before .before .before .before .before .before .before .before .before .before .before)) (c .before .before
-      .before .before .before .before .before .before .before .before .before .before .before .before .before .before .before .before .pre
-      .size) (c .before .before .before .before .before .before .before .before .loop-test .taken) (c .before .before .before .before
-      .before .before .before .before .before .loop .next) (c .before .before .before .before .before .before .before .before .before .loop
-      .numbers) (c .before .before .before .before .before .before .before .before .before .loop .out) (c .before .before .before .before
-      .before .before .before .before .before .loop .inv .1) (c .before .before .before .before .row .last .1 .1 .1 .0) (c .before .before
-      .before .before .row .last .1 .1 .1 .1 .0) (c .before .before .before .before .row .result) (c .before .before .before .before .row
-      .ensures),
-  search (c .before .before .before .before .before .before .before .before .before .loop .inv .2, needs),
-)
+loop-again c =
+    let c4 = c .before .before .before .before in
+    let c8 = c4 .before .before .before .before in
+    let c9 = c8 .before in
+    let c18 = c9 .before .before .before .before .before .before .before .before .before in (
+      omega arith,
+      sweeping-next (c18 .args .rows .now) (c18 .args .marks .now) (c18 .args .count) (c9 .loop .i) (fitting (c18)) (c18
+          .pre .size) (c8 .loop-test .taken) (c9 .loop .next) (c9 .loop .numbers) (c9 .loop .out) (c9 .loop .inv .1) (c4 .row .last .1 .1 .1
+          .0) (c4 .row .last .1 .1 .1 .1 .0) (c4 .row .result) (c4 .row .ensures),
+      search (c9 .loop .inv .2, needs),
+    )
 
 same-length : tie.Need-same-length Inv-loop μ-loop
-same-length c = search (
-  c .before .loop .inv .1 .size,
-  ap length (c .before .before .before .before .before .before .before .before
-      .before .before .pre .numbers),
-  needs,
-)
+same-length c =
+    let c10 = c .before .before .before .before .before .before .before .before .before .before in
+    search (c .before .loop .inv .1 .size, ap length (c10 .pre .numbers), needs)
 
 same-length-2 : tie.Need-same-length-2 Inv-loop μ-loop
-same-length-2 c = search (
-  c .before .loop .inv .2,
-  ap length (c .before .before .before .before .before .before .before .before .before
-      .before .pre .rows),
-  needs,
-)
+same-length-2 c =
+    let c10 = c .before .before .before .before .before .before .before .before .before .before in
+    search (c .before .loop .inv .2, ap length (c10 .pre .rows), needs)
 
 returns : tie.Need-returns Inv-loop μ-loop
-returns c = let e : c .before .loop .i ≡ c .before .before .before .before .before .before .before .before .before .before .args .count =
-    omega (arith, c .before .loop .inv .0) in subst (λ (j : ℕ). Sweeping (decodeParts (c .before .before .before .before .before .before
-    .before .before .before .before .args .count) (c .before .before .before .before .before .before .before .before .before .before
-    .args .rows .now) (c .before .before .before .before .before .before .before .before .before .before .args .marks .now)) j (c .before
+returns c =
+    let c10 = c .before .before .before .before .before .before .before .before .before .before in
+    let e : c .before .loop .i ≡ c10 .args .count =
+    omega (arith, c .before .loop .inv .0) in subst (λ (j : ℕ). Sweeping (decodeParts (c10 .args .count) (c10
+    .args .rows .now) (c10 .args .marks .now)) j (c .before
     .loop .next) (c .before .loop .numbers) (c .before .loop .out)) e (c .before .loop .inv .1)
 
 pub rows-spec : {M : Type 1} → statement M

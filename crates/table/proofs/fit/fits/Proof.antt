@@ -19,11 +19,13 @@ rows-fit-requires : tie.Need-rows-fit-requires
 rows-fit-requires c κs = omega (arith, c .before .before .before .pre .rows, c .if1 .left)
 
 returns-2 : tie.Need-returns-2
-returns-2 c = sym (parts-fit (c .before .before .before .before .before .args .count) (c .before .before .before .before .before .args
-    .rows .now) (c .before .before .before .before .before .args .marks .now) (c .before .before .before .before .before .pre) (omega
-    (arith, c .before .before .if1 .left)) ∙ ap (λ (t : Bool). t && all isZero (drop (c .before .before .before .before .before .args
-    .count) (c .before .before .before .before .before .args .rows .now)) && marksFit (c .before .before .before .before .before .args
-    .rows .now) (c .before .before .before .before .before .args .count) (c .before .before .before .before .before .args .marks .now))
+returns-2 c =
+    let c5 = c .before .before .before .before .before in
+    sym (parts-fit (c5 .args .count) (c5 .args
+    .rows .now) (c5 .args .marks .now) (c5 .pre) (omega
+    (arith, c .before .before .if1 .left)) ∙ ap (λ (t : Bool). t && all isZero (drop (c5 .args
+    .count) (c5 .args .rows .now)) && marksFit (c5 .args
+    .rows .now) (c5 .args .count) (c5 .args .marks .now))
     (sym (c .before .rows-fit .ensures) ∙ not-true (c .before .rows-fit .result) (c .if2 .taken)))
 
 rest-zero-requires : tie.Need-rest-zero-requires
@@ -42,12 +44,10 @@ returns-3 c = sym (parts-fit (c .before .before .before .before .before .before 
     .before .before .args .marks .now)) (sym (c .before .rest-zero .ensures) ∙ not-true (c .before .rest-zero .result) (c .if3 .taken)))
 
 marks-fit-requires : tie.Need-marks-fit-requires
-marks-fit-requires c κs = omega (
-  arith,
-  c .before .before .before .before .before .before .before .pre .rows,
-  c .before .before .before
-      .before .if1 .left,
-)
+marks-fit-requires c κs =
+    let c4 = c .before .before .before .before in
+    let c7 = c4 .before .before .before in
+    omega (arith, c7 .pre .rows, c4 .if1 .left)
 
 returns-4 : tie.Need-returns-4
 returns-4 c = c .marks-fit .ensures ∙ sym (parts-fit (c .before .before .before .before .before .before .before .before .args .count) (c

@@ -28,15 +28,11 @@ kind-requires : tie.Need-kind-requires
 kind-requires c κs = search needs
 
 returns-3 : tie.Need-returns-3
-returns-3 c = rw (
-  ne-eqb (c .before .before .before .before .before .args .link) 0 (c .before .before .before .if1 .left),
-  le-leb (c
-      .before .before .before .before .before .args .link) (c .before .before .before .before .before .args .i) (omega (
-        arith,
-        c .before
-            .before .if2 .left,
-      )),
-) (ap (λ (j : ℕ). not (eqb j 2)) (c .kind .ensures))
+returns-3 c =
+    let c3 = c .before .before .before in
+    let c5 = c3 .before .before in
+    rw (ne-eqb (c5 .args .link) 0 (c3 .if1 .left), le-leb (c5 .args .link) (c5 .args .i) (omega (arith, c .before .before .if2 .left)))
+    (ap (λ (j : ℕ). not (eqb j 2)) (c .kind .ensures))
 
 pub link-fits-spec : {M : Type 1} → statement M
 link-fits-spec =

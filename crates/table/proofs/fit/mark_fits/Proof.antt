@@ -16,12 +16,14 @@ returns : tie.Need-returns
 returns c = let k : c .before .before .before .args .link ≡ 0 = sym (c .before .index .ensures .0) ∙ c .if1 .taken in rw k
 
 returns-2 : tie.Need-returns-2
-returns-2 c = let z : c .before .before .before .before .args .link ≡ 0 → ⊥ = λ q. c .before .if1 .left (c .before .before .index
-    .ensures .0 ∙ q) in let k : c .before .before .before .before .args .count < c .before .before .before .before .args .link = omega
+returns-2 c =
+    let c4 = c .before .before .before .before in
+    let z : c4 .args .link ≡ 0 → ⊥ = λ q. c .before .if1 .left (c .before .before .index
+    .ensures .0 ∙ q) in let k : c4 .args .count < c4 .args .link = omega
     (arith, c .before .before .index .ensures .0, c .if2 .taken) in rw (
-      ne-eqb (c .before .before .before .before .args .link) 0 z,
+      ne-eqb (c4 .args .link) 0 z,
       lt-leb
-          (c .before .before .before .before .args .link) (c .before .before .before .before .args .count) k,
+          (c4 .args .link) (c4 .args .count) k,
     )
 
 sub-w : tie.Need-sub-w
@@ -59,28 +61,24 @@ link-requires : tie.Need-link-requires
 link-requires c κs = search needs
 
 returns-4 : tie.Need-returns-4
-returns-4 c = let z : c .before .before .before .before .before .before .before .before .args .link ≡ 0 → ⊥ = λ q. c .before .before
-    .before .before .before .if1 .left (c .before .before .before .before .before .before .index .ensures .0 ∙ q) in let k : c .before
-    .before .before .before .before .before .before .before .args .link ≤ c .before .before .before .before .before .before .before
-    .before .args .count = omega (
+returns-4 c =
+    let c4 = c .before .before .before .before in
+    let c5 = c4 .before in
+    let c6 = c5 .before in
+    let c8 = c6 .before .before in
+    let z : c8 .args .link ≡ 0 → ⊥ = λ q. c5 .if1 .left (c6 .index .ensures .0 ∙ q) in let k : c8 .args .link ≤ c8 .args .count = omega (
       arith,
-      c .before .before .before .before .before .before .index .ensures .0,
-      c .before .before .before
-          .before .if2 .left,
-    ) in let e : getD (c .before .before .before .before .before .before .before .before .args .rows .now) (c .before
-    .before .before .before .before .before .before .before .args .link - 1) 0 % 4 ≡ 2 → ⊥ = λ q. c .before .if3 .left (c .before .before
-    .kind .ensures ∙ ap (λ (j : ℕ). getD (c .before .before .before .before .before .before .before .before .args .rows .now) (j - 1) 0 %
-    4) (c .before .before .before .before .before .before .index .ensures .0) ∙ q) in rw (
-      ne-eqb (c .before .before .before .before .before
-          .before .before .before .args .link) 0 z,
-      le-leb (c .before .before .before .before .before .before .before .before .args .link) (c
-          .before .before .before .before .before .before .before .before .args .count) k,
-      ne-eqb (getD (c .before .before .before .before
-          .before .before .before .before .args .rows .now) (c .before .before .before .before .before .before .before .before .args
+      c6 .index .ensures .0,
+      c4 .if2 .left,
+    ) in let e : getD (c8 .args .rows .now) (c8 .args .link - 1) 0 % 4 ≡ 2 → ⊥ = λ q. c .before .if3 .left (c .before .before
+    .kind .ensures ∙ ap (λ (j : ℕ). getD (c8 .args .rows .now) (j - 1) 0 %
+    4) (c6 .index .ensures .0) ∙ q) in rw (
+      ne-eqb (c8 .args .link) 0 z,
+      le-leb (c8 .args .link) (c8 .args .count) k,
+      ne-eqb (getD (c8 .args .rows .now) (c8 .args
           .link - 1)
           0 % 4) 2 e,
-    ) (ap (λ (j : ℕ). eqb j 0) (c .link .ensures ∙ ap (λ (j : ℕ). getD (c .before .before .before .before .before .before
-    .before .before .args .rows .now) (j - 1) 0 / 4 % 1024) (c .before .before .before .before .before .before .index .ensures .0)))
+    ) (ap (λ (j : ℕ). eqb j 0) (c .link .ensures ∙ ap (λ (j : ℕ). getD (c8 .args .rows .now) (j - 1) 0 / 4 % 1024) (c6 .index .ensures .0)))
 
 pub mark-fits-spec : {M : Type 1} → statement M
 mark-fits-spec =

@@ -83,47 +83,55 @@ again c =
     ))))
 
 returns-2 : tie.Need-returns-2 Inv-loop μ-loop
-returns-2 c = sym (c .before .before .before .before .before .before .before .before .loop .inv .1 ∙ marks-go (c .before .before .before
-    .before .before .before .before .before .before .before .before .args .rows .now) (c .before .before .before .before .before .before
-    .before .before .before .before .before .args .count) (c .before .before .before .before .before .before .before .before .before
-    .before .before .args .marks .now) (c .before .before .before .before .before .before .before .before .loop .d) true (c .before
-    .before .before .before .before .before .before .loop-test .taken) (sym (c .before .before .before .before .before .mark-fits
-    .ensures) ∙ not-false (c .before .before .before .before .before .mark-fits .result) (c .before .before .before .before .if1 .left))
-    (again (c .before) ∙ c .if3 .taken))
+returns-2 c =
+    let c4 = c .before .before .before .before in
+    let c5 = c4 .before in
+    let c7 = c5 .before .before in
+    let c8 = c7 .before in
+    let c11 = c8 .before .before .before in
+    sym
+    (c8 .loop .inv .1 ∙ marks-go (c11 .args .rows .now) (c11 .args .count) (c11 .args .marks .now) (c8 .loop .d) true (c7 .loop-test
+    .taken) (sym (c5 .mark-fits .ensures) ∙ not-false (c5 .mark-fits .result) (c4 .if1 .left)) (again (c .before) ∙ c .if3 .taken))
 
 loop-less : tie.Need-loop-less Inv-loop μ-loop
 loop-less c = omega arith
 
 loop-again : tie.Need-loop-again Inv-loop μ-loop
-loop-again c = (
-  omega arith,
-  c .before .before .before .before .before .before .before .before .loop .inv .1 ∙ marks-go (c .before
-      .before .before .before .before .before .before .before .before .before .before .args .rows .now) (c .before .before .before .before
-      .before .before .before .before .before .before .before .args .count) (c .before .before .before .before .before .before .before
-      .before .before .before .before .args .marks .now) (c .before .before .before .before .before .before .before .before .loop .d) false
-      (c .before .before .before .before .before .before .before .loop-test .taken) (sym (c .before .before .before .before .before
-      .mark-fits .ensures) ∙ not-false (c .before .before .before .before .before .mark-fits .result) (c .before .before .before .before
-      .if1 .left)) (again (c .before) ∙ c .if3 .left),
-)
+loop-again c =
+    let c4 = c .before .before .before .before in
+    let c5 = c4 .before in
+    let c7 = c5 .before .before in
+    let c8 = c7 .before in
+    let c11 = c8 .before .before .before in (
+      omega arith,
+      c8 .loop .inv .1 ∙ marks-go (c11 .args .rows .now) (c11 .args .count) (c11 .args .marks .now) (c8 .loop .d) false (c7
+          .loop-test .taken) (sym (c5 .mark-fits .ensures) ∙ not-false (c5 .mark-fits .result) (c4 .if1 .left)) (again (c .before) ∙ c .if3
+          .left),
+    )
 
 loop-less-2 : tie.Need-loop-less-2 Inv-loop μ-loop
 loop-less-2 c = omega arith
 
 loop-again-2 : tie.Need-loop-again-2 Inv-loop μ-loop
-loop-again-2 c = (
-  omega arith,
-  c .before .before .before .before .before .loop .inv .1 ∙ marks-go (c .before .before .before .before
-      .before .before .before .before .args .rows .now) (c .before .before .before .before .before .before .before .before .args .count) (c
-      .before .before .before .before .before .before .before .before .args .marks .now) (c .before .before .before .before .before .loop
-      .d) false (c .before .before .before .before .loop-test .taken) (sym (c .before .before .mark-fits .ensures) ∙ not-false (c .before
-      .before .mark-fits .result) (c .before .if1 .left)) (repeated-none (getD (c .before .before .before .before .before .before .before
-      .before .args .marks .now) (c .before .before .before .before .before .loop .d) 0) (drop (c .before .before .before .before .before
-      .loop .d + 1) (c .before .before .before .before .before .before .before .before .args .marks .now)) (search (c .if2 .left, needs))),
-)
+loop-again-2 c =
+    let c4 = c .before .before .before .before in
+    let c5 = c4 .before in
+    let c8 = c5 .before .before .before in (
+      omega arith,
+      c5 .loop .inv .1 ∙ marks-go (c8 .args .rows .now) (c8 .args .count) (c8 .args .marks .now) (c5 .loop .d) false (c4
+          .loop-test .taken) (sym (c .before .before .mark-fits .ensures) ∙ not-false (c .before .before .mark-fits .result) (c .before .if1
+          .left)) (repeated-none (getD (c8 .args .marks .now) (c5 .loop .d) 0) (drop (c5 .loop .d + 1) (c8 .args .marks .now)) (search (
+            c .if2
+                .left,
+            needs,
+          ))),
+    )
 
 returns-3 : tie.Need-returns-3 Inv-loop μ-loop
-returns-3 c = sym (c .before .loop .inv .1 ∙ marks-end (c .before .before .before .before .args .rows .now) (c .before .before .before
-    .before .args .count) (c .before .before .before .before .args .marks .now) (c .before .loop .d) (omega arith))
+returns-3 c =
+    let c4 = c .before .before .before .before in
+    sym
+    (c .before .loop .inv .1 ∙ marks-end (c4 .args .rows .now) (c4 .args .count) (c4 .args .marks .now) (c .before .loop .d) (omega arith))
 
 pub marks-fit-spec : {M : Type 1} → statement M
 marks-fit-spec =

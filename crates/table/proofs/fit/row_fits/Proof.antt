@@ -19,8 +19,10 @@ tag-fits-requires : tie.Need-tag-fits-requires
 tag-fits-requires c κs = search needs
 
 returns : tie.Need-returns
-returns c = sym (ap (λ (z : Bool). z && linkFits (c .before .before .before .before .args .rows .now) (c .before .before .before .before
-    .args .i) (getD (c .before .before .before .before .args .rows .now) (c .before .before .before .before .args .i) 0 / 4 % 1024)) (sym
+returns c =
+    let c4 = c .before .before .before .before in
+    sym (ap (λ (z : Bool). z && linkFits (c4 .args .rows .now) (c4
+    .args .i) (getD (c4 .args .rows .now) (c4 .args .i) 0 / 4 % 1024)) (sym
     (c .before .tag-fits .ensures) ∙ not-true (c .before .tag-fits .result) (c .if1 .taken)))
 
 link-requires : tie.Need-link-requires

@@ -40,18 +40,21 @@ loop-less : tie.Need-loop-less Inv-loop μ-loop
 loop-less c = omega arith
 
 loop-again : tie.Need-loop-again Inv-loop μ-loop
-loop-again c = (
-  omega arith,
-  c .before .before .before .loop .inv .1 ∙ rows-turn (c .before .before .before .before .before .args .rows
-      .now) (c .before .before .before .loop .i) (c .before .before .before .before .before .args .count) (c .before .before .loop-test
-      .taken) ∙ ap (λ (z : Bool). z && rowsFit (c .before .before .before .before .before .args .rows .now) (c .before .before .before
-      .loop .i + 1) (c .before .before .before .before .before .args .count - (c .before .before .before .loop .i + 1))) (sym (c .before
-      .row-fits .ensures) ∙ not-false (c .before .row-fits .result) (c .if1 .left)),
-)
+loop-again c =
+    let c3 = c .before .before .before in
+    let c5 = c3 .before .before in (
+      omega arith,
+      c3 .loop .inv .1 ∙ rows-turn (c5 .args .rows
+          .now) (c3 .loop .i) (c5 .args .count) (c .before .before .loop-test
+          .taken) ∙ ap (λ (z : Bool). z && rowsFit (c5 .args .rows .now) (c3
+          .loop .i + 1) (c5 .args .count - (c3 .loop .i + 1))) (sym (c .before
+          .row-fits .ensures) ∙ not-false (c .before .row-fits .result) (c .if1 .left)),
+    )
 
 returns-2 : tie.Need-returns-2 Inv-loop μ-loop
-returns-2 c = sym (c .before .loop .inv .1 ∙ rows-end (c .before .before .before .args .rows .now) (c .before .loop .i) (c .before
-    .before .before .args .count) (omega arith))
+returns-2 c =
+    let c3 = c .before .before .before in
+    sym (c .before .loop .inv .1 ∙ rows-end (c3 .args .rows .now) (c .before .loop .i) (c3 .args .count) (omega arith))
 
 pub rows-fit-spec : {M : Type 1} → statement M
 rows-fit-spec =

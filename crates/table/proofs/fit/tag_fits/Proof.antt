@@ -19,28 +19,34 @@ returns c = let k : 255 < c .before .before .before .args .w / 4096 = omega (ari
     (c .before .before .before .args .w / 4096) 255 k)
 
 returns-2 : tie.Need-returns-2
-returns-2 c = let k : c .before .before .before .before .args .w / 4096 ≤ 255 = omega (
-  arith,
-  c .before .before .tag .ensures,
-  c .before
-      .if1 .left,
-) in rw (
-  le-leb (c .before .before .before .before .args .w / 4096) 255 k,
-  eq-eqb (c .before .before .before .before .args
-      .w % 4) 1 (sym (c .before .before .before .kind .ensures) ∙ c .if2 .taken),
-) (ap (ltb 0) (c .before .before .tag .ensures))
+returns-2 c =
+    let c3 = c .before .before .before in
+    let c4 = c3 .before in
+    let k : c4 .args .w / 4096 ≤ 255 = omega (
+      arith,
+      c .before .before .tag .ensures,
+      c .before
+          .if1 .left,
+    ) in rw (
+      le-leb (c4 .args .w / 4096) 255 k,
+      eq-eqb (c4 .args
+          .w % 4) 1 (sym (c3 .kind .ensures) ∙ c .if2 .taken),
+    ) (ap (ltb 0) (c .before .before .tag .ensures))
 
 returns-3 : tie.Need-returns-3
-returns-3 c = let k : c .before .before .before .before .args .w / 4096 ≤ 255 = omega (
-  arith,
-  c .before .before .tag .ensures,
-  c .before
-      .if1 .left,
-) in rw (
-  le-leb (c .before .before .before .before .args .w / 4096) 255 k,
-  ne-eqb (c .before .before .before .before .args
-      .w % 4) 1 (λ q. c .if2 .left (c .before .before .before .kind .ensures ∙ q)),
-) (ap (λ (j : ℕ). eqb j 2) (c .before .before .before
+returns-3 c =
+    let c3 = c .before .before .before in
+    let c4 = c3 .before in
+    let k : c4 .args .w / 4096 ≤ 255 = omega (
+      arith,
+      c .before .before .tag .ensures,
+      c .before
+          .if1 .left,
+    ) in rw (
+      le-leb (c4 .args .w / 4096) 255 k,
+      ne-eqb (c4 .args
+          .w % 4) 1 (λ q. c .if2 .left (c3 .kind .ensures ∙ q)),
+    ) (ap (λ (j : ℕ). eqb j 2) (c3
     .kind .ensures))
 
 pub tag-fits-spec : {M : Type 1} → statement M

@@ -30,10 +30,12 @@ shared-slice-read-if1 : tie.Need-shared-slice-read-if1 Inv-loop μ-loop
 shared-slice-read-if1 c = search needs
 
 returns : tie.Need-returns Inv-loop μ-loop
-returns c = sym (c .before .before .before .loop .inv .1 ∙ marked-turn (c .before .before .before .before .args .marks .now) (c .before
-    .before .before .loop .d) (c .before .before .before .before .args .link) (c .before .before .loop-test .taken) (c .before .before
-    .before .before .pre) ∙ rw (eq-eqb (getD (c .before .before .before .before .args .marks .now) (c .before .before .before .loop .d)
-    0) (c .before .before .before .before .args .link) (c .if1 .taken)))
+returns c =
+    let c3 = c .before .before .before in
+    let c4 = c3 .before in
+    sym
+    (c3 .loop .inv .1 ∙ marked-turn (c4 .args .marks .now) (c3 .loop .d) (c4 .args .link) (c .before .before .loop-test .taken) (c4
+    .pre) ∙ rw (eq-eqb (getD (c4 .args .marks .now) (c3 .loop .d) 0) (c4 .args .link) (c .if1 .taken)))
 
 add-d : tie.Need-add-d Inv-loop μ-loop
 add-d c = search needs
@@ -42,13 +44,13 @@ loop-less : tie.Need-loop-less Inv-loop μ-loop
 loop-less c = omega arith
 
 loop-again : tie.Need-loop-again Inv-loop μ-loop
-loop-again c = (
-  omega arith,
-  c .before .before .before .loop .inv .1 ∙ marked-turn (c .before .before .before .before .args .marks .now)
-      (c .before .before .before .loop .d) (c .before .before .before .before .args .link) (c .before .before .loop-test .taken) (c .before
-      .before .before .before .pre) ∙ rw (ne-eqb (getD (c .before .before .before .before .args .marks .now) (c .before .before .before
-      .loop .d) 0) (c .before .before .before .before .args .link) (c .if1 .left)),
-)
+loop-again c =
+    let c3 = c .before .before .before in
+    let c4 = c3 .before in (
+      omega arith,
+      c3 .loop .inv .1 ∙ marked-turn (c4 .args .marks .now) (c3 .loop .d) (c4 .args .link) (c .before .before .loop-test
+          .taken) (c4 .pre) ∙ rw (ne-eqb (getD (c4 .args .marks .now) (c3 .loop .d) 0) (c4 .args .link) (c .if1 .left)),
+    )
 
 returns-2 : tie.Need-returns-2 Inv-loop μ-loop
 returns-2 c = sym (c .before .loop .inv .1 ∙ marked-none (c .before .before .args .marks .now) (c .before .loop .d) (c .before .before

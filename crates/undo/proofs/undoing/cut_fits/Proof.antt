@@ -31,32 +31,28 @@ number-at-requires c κs = omega (arith, c .before .before .before .pre .whole)
 
 returns : tie.Need-returns
 returns c =
-    sym (cut-high (c .before .before .before .before .before .pre) (c .before .before .before .before .before .args .marks .now)
-    (c .before .number-at .ensures .0) (c .if1 .taken))
+    let c5 = c .before .before .before .before .before in
+    sym (cut-high (c5 .pre) (c5 .args .marks .now) (c .before .number-at .ensures .0) (c .if1 .taken))
 
 mul-link : tie.Need-mul-link
 mul-link c = search needs
 
 shared-slice-read-link : tie.Need-shared-slice-read-link
 shared-slice-read-link c =
-    omega (
-      arith,
-      c .before .if1 .left,
-      c .before .before .before .before .before .before .pre .rows,
-      c .before .before .before .before .before .before .pre .few,
-    )
+    let c6 = c .before .before .before .before .before .before in
+    omega (arith, c .before .if1 .left, c6 .pre .rows, c6 .pre .few)
 
 link-requires : tie.Need-link-requires
 link-requires c κs = search needs
 
 returns-2 : tie.Need-returns-2
 returns-2 c =
-    sym (cut-child (c .before .before .before .before .before .before .before .before .pre)
-    (c .before .before .before .before .before .before .before .before .args .marks .now)
-    (c .before .before .before .before .number-at .ensures .0) (omega (
-      arith,
-      c .before .before .before .if1 .left,
-    )) (λ q. c .if2 .taken (c .before .link .ensures ∙ q)))
+    let c3 = c .before .before .before in
+    let c4 = c3 .before in
+    let c8 = c4 .before .before .before .before in
+    sym
+    (cut-child (c8 .pre) (c8 .args .marks .now) (c4 .number-at .ensures .0) (omega (arith, c3 .if1 .left)) (λ q. c .if2 .taken (c
+    .before .link .ensures ∙ q)))
 
 add-is-marked : tie.Need-add-is-marked
 add-is-marked c = search needs
@@ -69,67 +65,73 @@ is-marked-requires c κs = search needs
 
 returns-3 : tie.Need-returns-3
 returns-3 c =
-    sym (cut-marked (c .before .before .before .before .before .before .before .before .before .before .pre)
-    (c .before .before .before .before .before .before .before .before .before .before .args .marks .now)
-    (c .before .before .before .before .before .before .number-at .ensures .0) (omega (
-      arith,
-      c .before .before .before .before .before .if1 .left,
-    )) (is-root (c .before .before)) (marked-by (c .before) ∙ c .if3 .taken))
+    let c5 = c .before .before .before .before .before in
+    let c6 = c5 .before in
+    let c10 = c6 .before .before .before .before in
+    sym
+    (cut-marked (c10 .pre) (c10 .args .marks .now) (c6 .number-at .ensures .0) (omega (arith, c5 .if1 .left)) (is-root (c .before
+    .before)) (marked-by (c .before) ∙ c .if3 .taken))
 
 number-at-requires-2 : tie.Need-number-at-requires-2
-number-at-requires-2 c κs = omega (arith, c .before .before .before .before .before .before .before .before .before .before .pre .whole)
+number-at-requires-2 c κs =
+    let c10 = c .before .before .before .before .before .before .before .before .before .before in
+    omega (arith, c10 .pre .whole)
 
 returns-4 : tie.Need-returns-4
 returns-4 c =
-    sym (cut-none (c .before .before .before .before .before .before .before .before .before .before .before .before .pre)
-    (c .before .before .before .before .before .before .before .before .before .before .before .before .args .marks .now)
-    (c .before .before .before .before .before .before .before .before .number-at .ensures .0) (omega (
-      arith,
-      c .before .before .before .before .before .before .before .if1 .left,
-    )) (is-root (c .before .before .before .before)) (marked-by
-    (c .before .before .before) ∙ c .before .before .if3 .left) (c .before .number-at2 .ensures .0)
-    (c .if4 .taken))
+    let c3 = c .before .before .before in
+    let c4 = c3 .before in
+    let c7 = c4 .before .before .before in
+    let c8 = c7 .before in
+    let c12 = c8 .before .before .before .before in
+    sym
+    (cut-none (c12 .pre) (c12 .args .marks .now) (c8 .number-at .ensures .0) (omega (arith, c7 .if1 .left)) (is-root (c4)) (marked-by
+    (c3) ∙ c .before .before .if3 .left) (c .before .number-at2 .ensures .0) (c .if4 .taken))
 
 returns-5 : tie.Need-returns-5
 returns-5 c =
-    sym (cut-order (c .before .before .before .before .before .before .before .before .before .before .before .before .before .pre)
-    (c .before .before .before .before .before .before .before .before .before .before .before .before .before .args .marks .now)
-    (c .before .before .before .before .before .before .before .before .before .number-at .ensures .0) (omega (
-      arith,
-      c .before .before .before .before .before .before .before .before .if1 .left,
-    )) (is-root (c .before .before .before .before .before))
-    (marked-by (c .before .before .before .before) ∙ c .before .before .before .if3 .left) (c .before .before .number-at2 .ensures .0) (c
-    .before .if4 .left) (c .if5 .taken))
+    let c3 = c .before .before .before in
+    let c4 = c3 .before in
+    let c5 = c4 .before in
+    let c8 = c5 .before .before .before in
+    let c9 = c8 .before in
+    let c13 = c9 .before .before .before .before in
+    sym
+    (cut-order (c13 .pre) (c13 .args .marks .now) (c9 .number-at .ensures .0) (omega (arith, c8 .if1 .left)) (is-root (c5)) (marked-by
+    (c4) ∙ c3 .if3 .left) (c .before .before .number-at2 .ensures .0) (c .before .if4 .left) (c .if5 .taken))
 
 mul-kind : tie.Need-mul-kind
 mul-kind c = search needs
 
 shared-slice-read-kind : tie.Need-shared-slice-read-kind
 shared-slice-read-kind c =
-    omega (
-      arith,
-      c .before .if5 .left,
-      c .before .before .before .before .before .before .before .before .before .if1 .left,
-      c .before .before .before .before .before .before .before .before .before .before .before .before .before .before .pre .rows,
-      c .before .before .before .before .before .before .before .before .before .before .before .before .before .before .pre .few,
-    )
+    let c9 = c .before .before .before .before .before .before .before .before .before in
+    let c14 = c9 .before .before .before .before .before in
+    omega (arith, c .before .if5 .left, c9 .if1 .left, c14 .pre .rows, c14 .pre .few)
 
 kind-requires : tie.Need-kind-requires
 kind-requires c κs = search needs
 
 returns-6 : tie.Need-returns-6
 returns-6 c =
+    let c3 = c .before .before .before in
+    let c4 = c3 .before in
+    let c5 = c4 .before in
+    let c6 = c5 .before in
+    let c7 = c6 .before in
+    let c10 = c7 .before .before .before in
+    let c11 = c10 .before in
+    let c15 = c11 .before .before .before .before in
     ap (λ (j : ℕ). not (eqb j 2)) (c .kind .ensures) ∙ sym (cut-element
-    (c .before .before .before .before .before .before .before .before .before .before .before .before .before .before .before .pre)
-    (c .before .before .before .before .before .before .before .before .before .before .before .before .before .before .before .args
+    (c15 .pre)
+    (c15 .args
     .marks .now)
-    (c .before .before .before .before .before .before .before .before .before .before .before .number-at .ensures .0) (omega (
+    (c11 .number-at .ensures .0) (omega (
       arith,
-      c .before .before .before .before .before .before .before .before .before .before .if1 .left,
+      c10 .if1 .left,
     )) (is-root
-    (c .before .before .before .before .before .before .before)) (marked-by (c .before .before .before .before .before .before) ∙
-    c .before .before .before .before .before .if3 .left) (c .before .before .before .before .number-at2 .ensures .0) (c .before .before
-    .before .if4 .left) (omega (
+    (c7)) (marked-by (c6) ∙
+    c5 .if3 .left) (c4 .number-at2 .ensures .0) (c3 .if4 .left) (omega (
       arith,
       c .before .before .if5 .left,
     )))

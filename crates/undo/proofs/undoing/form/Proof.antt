@@ -37,23 +37,24 @@ same-length c = search needs
 
 returns : tie.Need-returns Inv-loop μ-loop
 returns c =
-    forming-refused (c .before .before .before .before .loop .inv) (c .before .before .before .loop-test .taken)
-    (c .before .form-fault .ensures) (c .if1 .taken)
+    let c3 = c .before .before .before in
+    let c4 = c3 .before in
+    forming-refused (c4 .loop .inv) (c3 .loop-test .taken) (c .before .form-fault .ensures) (c .if1 .taken)
 
 cast-places : tie.Need-cast-places Inv-loop μ-loop
-cast-places c = omega (arith, c .before .before .before .before .loop .inv .high, c .before .before .before .before .loop .inv .few)
+cast-places c =
+    let c4 = c .before .before .before .before in
+    omega (arith, c4 .loop .inv .high, c4 .loop .inv .few)
 
 mul-places : tie.Need-mul-places Inv-loop μ-loop
 mul-places c = omega (arith, c .before .before .before .before .loop .inv .few)
 
 slice-write-places : tie.Need-slice-write-places Inv-loop μ-loop
 slice-write-places c =
-    omega (
-      arith,
-      c .before .before .before .before .loop .inv .size,
-      forming-few (c .before .before .before .before .loop .inv)
-          (c .before .before .before .loop-test .taken) (c .before .form-fault .ensures) (is-fine (c)),
-    )
+    let c3 = c .before .before .before in
+    let c4 = c3 .before in
+    omega
+    (arith, c4 .loop .inv .size, forming-few (c4 .loop .inv) (c3 .loop-test .taken) (c .before .form-fault .ensures) (is-fine (c)))
 
 add-records : tie.Need-add-records Inv-loop μ-loop
 add-records c = omega (arith, c .before .before .before .before .loop .inv .few)
@@ -66,21 +67,20 @@ size-requires c κs = search needs
 
 add-at : tie.Need-add-at Inv-loop μ-loop
 add-at c =
-    omega (
-      arith,
-      c .before .before .before .before .before .before .loop .inv .high,
-      c .before .before .before .before .before .before .loop .inv .few,
-      c .size .ensures .1 .0,
-    )
+    let c6 = c .before .before .before .before .before .before in
+    omega (arith, c6 .loop .inv .high, c6 .loop .inv .few, c .size .ensures .1 .0)
 
 loop-less : tie.Need-loop-less Inv-loop μ-loop
 loop-less c = omega (arith, c .before .before .before .before .before .loop-test .taken, c .size .ensures .1 .1)
 
 loop-again : tie.Need-loop-again Inv-loop μ-loop
 loop-again c =
-    forming-again (c .before .before .before .before .before .before .loop .inv)
-    (c .before .before .before .before .before .loop-test .taken) (c .before .before .before .form-fault .ensures) (is-fine
-    (c .before .before)) (ap (λ (k : ℕ). c .before .before .before .before .before .before .loop .at + k) (c .size .ensures .0)) (omega
+    let c3 = c .before .before .before in
+    let c5 = c3 .before .before in
+    let c6 = c5 .before in
+    forming-again (c6 .loop .inv)
+    (c5 .loop-test .taken) (c3 .form-fault .ensures) (is-fine
+    (c .before .before)) (ap (λ (k : ℕ). c6 .loop .at + k) (c .size .ensures .0)) (omega
     (arith, c .size .ensures .0, c .size .ensures .1 .1)) (omega (arith, c .size .ensures .0, c .size .ensures .1 .0))
 
 same-length-2 : tie.Need-same-length-2 Inv-loop μ-loop

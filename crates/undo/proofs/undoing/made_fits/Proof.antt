@@ -33,8 +33,8 @@ add-if1 c = search needs
 
 returns : tie.Need-returns
 returns c =
-    sym (made-last (c .before .before .before .before .before .pre) (c .before .before .before .before .before .args .marks .now)
-    (c .before .number-at .ensures .0) (c .if1 .taken))
+    let c5 = c .before .before .before .before .before in
+    sym (made-last (c5 .pre) (c5 .args .marks .now) (c .before .number-at .ensures .0) (c .if1 .taken))
 
 add-is-marked : tie.Need-add-is-marked
 add-is-marked c = search needs
@@ -47,9 +47,11 @@ is-marked-requires c κs = search needs
 
 returns-2 : tie.Need-returns-2
 returns-2 c =
-    sym (made-marked (c .before .before .before .before .before .before .before .pre)
-    (c .before .before .before .before .before .before .before .args .marks .now) (c .before .before .before .number-at .ensures .0)
-    (is-last (c .before .before)) (marked-by (c .before) ∙ c .if2 .taken))
+    let c3 = c .before .before .before in
+    let c7 = c3 .before .before .before .before in
+    sym
+    (made-marked (c7 .pre) (c7 .args .marks .now) (c3 .number-at .ensures .0) (is-last (c .before .before)) (marked-by (c .before) ∙ c
+    .if2 .taken))
 
 mul-w : tie.Need-mul-w
 mul-w c = search needs
@@ -65,12 +67,14 @@ same-kind-requires c κs = search needs
 
 returns-3 : tie.Need-returns-3
 returns-3 c =
-    sym (made-kind (c .before .before .before .before .before .before .before .before .before .before .before .pre)
-    (c .before .before .before .before .before .before .before .before .before .before .before .args .marks .now)
-    (c .before .before .before .before .before .before .before .number-at .ensures .0) (is-last
-    (c .before .before .before .before .before .before)) (marked-by (c .before .before .before .before .before) ∙
-    c .before .before .before .before .if2 .left) (sym (c .before .same-kind .ensures) ∙ not-true (c .before .same-kind .result)
-    (c .if3 .taken)))
+    let c4 = c .before .before .before .before in
+    let c5 = c4 .before in
+    let c6 = c5 .before in
+    let c7 = c6 .before in
+    let c11 = c7 .before .before .before .before in
+    sym
+    (made-kind (c11 .pre) (c11 .args .marks .now) (c7 .number-at .ensures .0) (is-last (c6)) (marked-by (c5) ∙ c4 .if2 .left) (sym (c
+    .before .same-kind .ensures) ∙ not-true (c .before .same-kind .result) (c .if3 .taken)))
 
 tag-requires : tie.Need-tag-requires
 tag-requires c κs = search needs
@@ -83,17 +87,25 @@ wide-requires c κs = search needs
 
 returns-4 : tie.Need-returns-4
 returns-4 c =
+    let c3 = c .before .before .before in
+    let c4 = c3 .before in
+    let c5 = c4 .before in
+    let c8 = c5 .before .before .before in
+    let c9 = c8 .before in
+    let c10 = c9 .before in
+    let c11 = c10 .before in
+    let c15 = c11 .before .before .before .before in
     sym (made-tag
-    (c .before .before .before .before .before .before .before .before .before .before .before .before .before .before .before .pre)
-    (c .before .before .before .before .before .before .before .before .before .before .before .before .before .before .before .args
+    (c15 .pre)
+    (c15 .args
     .marks .now)
-    (c .before .before .before .before .before .before .before .before .before .before .before .number-at .ensures .0) (is-last
-    (c .before .before .before .before .before .before .before .before .before .before)) (marked-by
-    (c .before .before .before .before .before .before .before .before .before) ∙
-    c .before .before .before .before .before .before .before .before .if2 .left) (sym
-    (c .before .before .before .before .before .same-kind .ensures) ∙ not-false
-    (c .before .before .before .before .before .same-kind .result) (c .before .before .before .before .if3 .left)) (λ q. c .if4 .taken
-    (c .before .before .before .tag .ensures ∙ q ∙ sym (c .before .wide .ensures .0))))
+    (c11 .number-at .ensures .0) (is-last
+    (c10)) (marked-by
+    (c9) ∙
+    c8 .if2 .left) (sym
+    (c5 .same-kind .ensures) ∙ not-false
+    (c5 .same-kind .result) (c4 .if3 .left)) (λ q. c .if4 .taken
+    (c3 .tag .ensures ∙ q ∙ sym (c .before .wide .ensures .0))))
 
 link-requires : tie.Need-link-requires
 link-requires c κs = search needs
@@ -111,26 +123,33 @@ same-parent-requires c κs = search needs
 
 returns-5 : tie.Need-returns-5
 returns-5 c =
+    let c3 = c .before .before .before in
+    let c4 = c3 .before in
+    let c6 = c4 .before .before in
+    let c7 = c6 .before in
+    let c8 = c7 .before in
+    let c11 = c8 .before .before .before in
+    let c12 = c11 .before in
+    let c13 = c12 .before in
+    let c14 = c13 .before in
+    let c18 = c14 .before .before .before .before in
     c .same-parent .ensures ∙ ap (λ (j : ℕ). sameParent (linked j) (parentIn (c .before .number-at2 .result)))
     (c .before .before .link .ensures) ∙ ap (λ (j : ℕ). sameParent (linked (getD
-    (c .before .before .before .before .before .before .before .before .before .before .before .before .before .before .before .before
-    .before .before .args .rows .now)
-    (c .before .before .before .before .before .before .before .before .before .before .before .before .before .before .number-at .result)
+    (c18 .args .rows .now)
+    (c14 .number-at .result)
     0 / 4 % 1024)) (parentIn j)) (c .before .number-at2 .ensures .0) ∙ sym (made-parent
-    (c .before .before .before .before .before .before .before .before .before .before .before .before .before .before .before .before
-    .before .before .pre)
-    (c .before .before .before .before .before .before .before .before .before .before .before .before .before .before .before .before
-    .before .before .args .marks .now)
-    (c .before .before .before .before .before .before .before .before .before .before .before .before .before .before .number-at
+    (c18 .pre)
+    (c18 .args .marks .now)
+    (c14 .number-at
     .ensures .0)
-    (is-last (c .before .before .before .before .before .before .before .before .before .before .before .before .before)) (marked-by
-    (c .before .before .before .before .before .before .before .before .before .before .before .before) ∙
-    c .before .before .before .before .before .before .before .before .before .before .before .if2 .left) (sym
-    (c .before .before .before .before .before .before .before .before .same-kind .ensures) ∙ not-false
-    (c .before .before .before .before .before .before .before .before .same-kind .result)
-    (c .before .before .before .before .before .before .before .if3 .left)) (sym
-    (c .before .before .before .before .before .before .tag .ensures) ∙ search (c .before .before .before .if4 .left, needs) ∙
-    c .before .before .before .before .wide .ensures .0))
+    (is-last (c13)) (marked-by
+    (c12) ∙
+    c11 .if2 .left) (sym
+    (c8 .same-kind .ensures) ∙ not-false
+    (c8 .same-kind .result)
+    (c7 .if3 .left)) (sym
+    (c6 .tag .ensures) ∙ search (c3 .if4 .left, needs) ∙
+    c4 .wide .ensures .0))
 
 pub made-fits-spec : {M : Type 1} → statement M
 made-fits-spec =

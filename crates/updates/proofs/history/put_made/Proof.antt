@@ -33,15 +33,20 @@ same-length c = search needs
 
 returns : tie.Need-returns
 returns c =
+    let c3 = c .before .before .before in
+    let c5 = c3 .before .before in
+    let c6 = c5 .before in
+    let c7 = c6 .before in
+    let c9 = c7 .before .before in
     c .before .before .put-six .ensures ∙ ap (λ (b : List ℕ). over
-    (c .before .before .before .before .before .before .before .before .before .args .at) b
-    (c .before .before .before .before .before .before .before .before .before .args .history .now)) (made-six
-    (c .before .before .before .before .before .before .before .before .before .args .w)
-    (c .before .before .before .before .before .before .before .before .before .args .row) (c .before .before .before .made-kind .result)
-    (c .before .before .before .before .before .tag .result) (c .before .before .before .before .before .before .parent .result)
-    (c .before .before .before .made-kind .ensures) (c .before .before .before .before .before .tag .ensures)
-    (c .before .before .before .before .before .before .parent .ensures .0 ∙ ap (λ (j : ℕ). parentBytes (linked j))
-    (c .before .before .before .before .before .before .before .link .ensures)))
+    (c9 .args .at) b
+    (c9 .args .history .now)) (made-six
+    (c9 .args .w)
+    (c9 .args .row) (c3 .made-kind .result)
+    (c5 .tag .result) (c6 .parent .result)
+    (c3 .made-kind .ensures) (c5 .tag .ensures)
+    (c6 .parent .ensures .0 ∙ ap (λ (j : ℕ). parentBytes (linked j))
+    (c7 .link .ensures)))
 
 pub put-made-spec : {M : Type 1} → statement M
 put-made-spec =

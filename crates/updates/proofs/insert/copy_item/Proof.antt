@@ -15,37 +15,31 @@ mul-map c = search needs
 
 slice-write-map : tie.Need-slice-write-map
 slice-write-map c =
-    omega (
-      arith,
-      c .before .before .before .pre .size,
-      c .before .before .before .pre .top,
-      c .before .before .before .pre .room,
-      c .before .before .before .pre .held .few,
-    )
+    let c3 = c .before .before .before in
+    omega (arith, c3 .pre .size, c3 .pre .top, c3 .pre .room, c3 .pre .held .few)
 
 mul-relinked : tie.Need-mul-relinked
 mul-relinked c = search needs
 
 slice-read-relinked : tie.Need-slice-read-relinked
 slice-read-relinked c =
-    omega (
-      arith,
-      c .before .before .before .before .pre .held .rows,
-      c .before .before .before .before .pre .top,
-      c .before .before .before .before .pre .room,
-      c .before .before .before .before .pre .held .few,
-    )
+    let c4 = c .before .before .before .before in
+    omega (arith, c4 .pre .held .rows, c4 .pre .top, c4 .pre .room, c4 .pre .held .few)
 
 add-relinked : tie.Need-add-relinked
-add-relinked c = omega (arith, item-target (c .before .before .before .before .pre), c .before .before .before .before .pre .held .few)
+add-relinked c =
+    let c4 = c .before .before .before .before in
+    omega (arith, item-target (c4 .pre), c4 .pre .held .few)
 
 relinked-requires : tie.Need-relinked-requires
 relinked-requires c κs =
-    omega (arith, item-target (c .before .before .before .before .pre), c .before .before .before .before .pre .held .few)
+    let c4 = c .before .before .before .before in
+    omega (arith, item-target (c4 .pre), c4 .pre .held .few)
 
 new-row-requires : tie.Need-new-row-requires
 new-row-requires c κs =
-    item-pre (c .before .before .before .before .before .before .before .pre) (c .before .before .relinked .ensures)
+    let c7 = c .before .before .before .before .before .before .before in
+    item-pre (c7 .pre) (c .before .before .relinked .ensures)
 
 same-length : tie.Need-same-length
 same-length c = search needs
@@ -58,18 +52,18 @@ same-length-3 c = search needs
 
 returns : tie.Need-returns
 returns c =
-    item-refused (c .before .before .before .before .before .before .before .before .before .before .before .before .before .before .pre)
-    (c .before .before .before .before .before .before .before .before .before .relinked .ensures)
-    (c .before .before .before .before .before .before .new-row .ensures) (c .if1 .taken)
+    let c6 = c .before .before .before .before .before .before in
+    let c9 = c6 .before .before .before in
+    let c14 = c9 .before .before .before .before .before in
+    item-refused (c14 .pre) (c9 .relinked .ensures) (c6 .new-row .ensures) (c .if1 .taken)
 
 copy-rest-requires : tie.Need-copy-rest-requires
 copy-rest-requires c κs =
-    item-rest
-    (c .before .before .before .before .before .before .before .before .before .before .before .before .before .before .before .before
-    .before .pre)
-    (c .before .before .before .before .before .before .before .before .before .before .before .before .relinked .ensures)
-    (c .before .before .before .before .before .before .before .before .before .new-row .ensures) (search
-    (c .before .before .before .if1 .left, needs))
+    let c3 = c .before .before .before in
+    let c9 = c3 .before .before .before .before .before .before in
+    let c12 = c9 .before .before .before in
+    let c17 = c12 .before .before .before .before .before in
+    item-rest (c17 .pre) (c12 .relinked .ensures) (c9 .new-row .ensures) (search (c3 .if1 .left, needs))
 
 same-length-4 : tie.Need-same-length-4
 same-length-4 c = search needs
@@ -82,15 +76,12 @@ same-length-6 c = c .before .before .before .before .before .before .copy-rest .
 
 returns-2 : tie.Need-returns-2
 returns-2 c =
-    item-done
-    (c .before .before .before .before .before .before .before .before .before .before .before .before .before .before .before .before
-    .before .before .before .before .before .before .before .before .pre)
-    (c .before .before .before .before .before .before .before .before .before .before .before .before .before .before .before .before
-    .before .before .before .relinked .ensures)
-    (c .before .before .before .before .before .before .before .before .before .before .before .before .before .before .before .before
-    .new-row .ensures)
-    (search (c .before .before .before .before .before .before .before .before .before .before .if1 .left, needs))
-    (c .before .before .before .before .before .before .copy-rest .ensures)
+    let c6 = c .before .before .before .before .before .before in
+    let c10 = c6 .before .before .before .before in
+    let c16 = c10 .before .before .before .before .before .before in
+    let c19 = c16 .before .before .before in
+    let c24 = c19 .before .before .before .before .before in
+    item-done (c24 .pre) (c19 .relinked .ensures) (c16 .new-row .ensures) (search (c10 .if1 .left, needs)) (c6 .copy-rest .ensures)
 
 pub copy-item-spec : {M : Type 1} → statement M
 copy-item-spec =

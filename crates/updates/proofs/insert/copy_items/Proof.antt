@@ -30,9 +30,10 @@ index-requires c κs = search needs
 
 copy-item-requires : tie.Need-copy-item-requires Inv-loop μ-loop
 copy-item-requires c κs =
-    inserting-item (c .before .before .before .before .before .before .before .before .before .before .before .pre)
-    (c .before .before .before .before .before .before .loop .inv) (c .before .before .before .before .before .loop-test .taken)
-    (c .index .ensures .0)
+    let c5 = c .before .before .before .before .before in
+    let c6 = c5 .before in
+    let c11 = c6 .before .before .before .before .before in
+    inserting-item (c11 .pre) (c6 .loop .inv) (c5 .loop-test .taken) (c .index .ensures .0)
 
 same-length : tie.Need-same-length Inv-loop μ-loop
 same-length c = search needs
@@ -45,38 +46,32 @@ same-length-3 c = search needs
 
 returns : tie.Need-returns Inv-loop μ-loop
 returns c =
-    inserting-refused
-    (c .before .before .before .before .before .before .before .before .before .before .before .before .before .before .before .before
-    .before .before .before .before .pre)
-    (c .before .before .before .before .before .before .before .before .before .before .before .before .before .before .before .loop .inv)
-    (c .before .before .before .before .before .before .before .before .before .before .before .before .before .before .loop-test .taken)
-    (c .before .before .before .before .before .before .before .before .before .index .ensures .0)
-    (c .before .before .before .before .before .before .before .before .copy-item .ensures) (c .if1 .taken)
+    let c8 = c .before .before .before .before .before .before .before .before in
+    let c9 = c8 .before in
+    let c14 = c9 .before .before .before .before .before in
+    let c15 = c14 .before in
+    let c20 = c15 .before .before .before .before .before in
+    inserting-refused (c20 .pre) (c15 .loop .inv) (c14 .loop-test .taken) (c9 .index .ensures .0) (c8 .copy-item .ensures)
+    (c .if1 .taken)
 
 add-k : tie.Need-add-k Inv-loop μ-loop
 add-k c =
-    omega (
-      arith,
-      c .before .before .before .before .before .before .before .before .before .before .before .before .before .before .loop-test .taken,
-      c .before .before .before .before .before .before .before .before .before .before .before .before .before .before .before .before
-          .before .before .before .before .good,
-    )
+    let c14 = c .before .before .before .before .before .before .before .before .before .before .before .before .before .before in
+    let c20 = c14 .before .before .before .before .before .before in
+    omega (arith, c14 .loop-test .taken, c20 .good)
 
 loop-less : tie.Need-loop-less Inv-loop μ-loop
 loop-less c = search needs
 
 loop-again : tie.Need-loop-again Inv-loop μ-loop
 loop-again c =
-    inserting-again
-    (c .before .before .before .before .before .before .before .before .before .before .before .before .before .before .before .before
-    .before .before .before .before .pre)
-    (c .before .before .before .before .before .before .before .before .before .before .before .before .before .before .before .loop .inv)
-    (c .before .before .before .before .before .before .before .before .before .before .before .before .before .before .loop-test .taken)
-    (c .before .before .before .before .before .before .before .before .before .index .ensures .0)
-    (c .before .before .before .before .before .before .before .before .copy-item .ensures) (search (c .if1 .left, needs))
-    (c .before .before .before .before .before .before .before .before .copy-item .kept .1 .1 .0 ∙
-    c .before .before .before .before .before .before .before .before .before .before .before .before .before .before .before .loop .inv
-    .size)
+    let c8 = c .before .before .before .before .before .before .before .before in
+    let c9 = c8 .before in
+    let c14 = c9 .before .before .before .before .before in
+    let c15 = c14 .before in
+    let c20 = c15 .before .before .before .before .before in
+    inserting-again (c20 .pre) (c15 .loop .inv) (c14 .loop-test .taken) (c9 .index .ensures .0) (c8 .copy-item .ensures)
+    (search (c .if1 .left, needs)) (c8 .copy-item .kept .1 .1 .0 ∙ c15 .loop .inv .size)
 
 same-length-4 : tie.Need-same-length-4 Inv-loop μ-loop
 same-length-4 c = search needs

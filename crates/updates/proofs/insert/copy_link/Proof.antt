@@ -16,8 +16,8 @@ sub-if2 c = search needs
 
 returns-2 : tie.Need-returns-2
 returns-2 c =
-    sym (link-low (c .before .before .before .args .map .now) (c .before .before .before .args .top)
-    (c .before .before .before .args .link) (c .before .if1 .left) (c .if2 .taken))
+    let c3 = c .before .before .before in
+    sym (link-low (c3 .args .map .now) (c3 .args .top) (c3 .args .link) (c .before .if1 .left) (c .if2 .taken))
 
 sub-if3 : tie.Need-sub-if3
 sub-if3 c = search needs
@@ -30,11 +30,11 @@ shared-slice-read-if3 c = search needs
 
 returns-3 : tie.Need-returns-3
 returns-3 c =
-    sym (link-out (c .before .before .before .before .before .args .map .now) (c .before .before .before .before .before .args .top)
-    (c .before .before .before .before .before .args .link) (c .before .before .before .if1 .left) (omega (
-      arith,
-      c .before .before .if2 .left,
-    )) (c .if3 .taken))
+    let c3 = c .before .before .before in
+    let c5 = c3 .before .before in
+    sym
+    (link-out (c5 .args .map .now) (c5 .args .top) (c5 .args .link) (c3 .if1 .left) (omega (arith, c .before .before .if2 .left)) (c
+    .if3 .taken))
 
 sub-index : tie.Need-sub-index
 sub-index c = search needs
@@ -53,11 +53,14 @@ add-result c = search needs
 
 returns-4 : tie.Need-returns-4
 returns-4 c =
+    let c4 = c .before .before .before .before in
+    let c5 = c4 .before in
+    let c7 = c5 .before .before in
     ap (λ (j : ℕ). j + 1) (c .index .ensures .0) ∙ sym (link-in
-    (c .before .before .before .before .before .before .before .args .map .now)
-    (c .before .before .before .before .before .before .before .args .top)
-    (c .before .before .before .before .before .before .before .args .link) (c .before .before .before .before .before .if1 .left) (omega
-    (arith, c .before .before .before .before .if2 .left)) (c .before .before .if3 .left))
+    (c7 .args .map .now)
+    (c7 .args .top)
+    (c7 .args .link) (c5 .if1 .left) (omega
+    (arith, c4 .if2 .left)) (c .before .before .if3 .left))
 
 pub copy-link-spec : {M : Type 1} → statement M
 copy-link-spec =

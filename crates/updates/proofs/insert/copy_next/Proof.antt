@@ -64,7 +64,9 @@ same-length : tie.Need-same-length
 same-length c = search needs
 
 returns : tie.Need-returns
-returns c = next-none (c .before .before .before .before .before .before .before .before .pre) (sym (is-link (c .before)) ∙ c .if1 .taken)
+returns c =
+    let c8 = c .before .before .before .before .before .before .before .before in
+    next-none (c8 .pre) (sym (is-link (c .before)) ∙ c .if1 .taken)
 
 cast-map : tie.Need-cast-map
 cast-map c = search needs
@@ -77,17 +79,15 @@ slice-write-map-2 c = search needs
 
 relinked-requires : tie.Need-relinked-requires
 relinked-requires c κs =
-    omega (
-      arith,
-      next-small (c .before .before .before .before .before .before .before .before .before .before .pre) (has-link
-          (c .before .before)),
-      is-link (c .before .before .before),
-    )
+    let c3 = c .before .before .before in
+    let c10 = c3 .before .before .before .before .before .before .before in
+    omega (arith, next-small (c10 .pre) (has-link (c .before .before)), is-link (c3))
 
 new-row-requires : tie.Need-new-row-requires
 new-row-requires c κs =
-    next-pre (c .before .before .before .before .before .before .before .before .before .before .before .pre) (has-link
-    (c .before .before .before)) (copied-word (c))
+    let c3 = c .before .before .before in
+    let c11 = c3 .before .before .before .before .before .before .before .before in
+    next-pre (c11 .pre) (has-link (c3)) (copied-word (c))
 
 same-length-2 : tie.Need-same-length-2
 same-length-2 c = search needs
@@ -100,11 +100,11 @@ same-length-4 c = search needs
 
 returns-2 : tie.Need-returns-2
 returns-2 c =
-    next-made
-    (c .before .before .before .before .before .before .before .before .before .before .before .before .before .before .before .before .pre)
-    (has-link (c .before .before .before .before .before .before .before .before))
-    (copied-word (c .before .before .before .before .before))
-    (c .before .before .before .before .new-row .ensures)
+    let c4 = c .before .before .before .before in
+    let c5 = c4 .before in
+    let c8 = c5 .before .before .before in
+    let c16 = c8 .before .before .before .before .before .before .before .before in
+    next-made (c16 .pre) (has-link (c8)) (copied-word (c5)) (c4 .new-row .ensures)
 
 pub copy-next-spec : {M : Type 1} → statement M
 copy-next-spec =

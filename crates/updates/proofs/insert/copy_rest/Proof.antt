@@ -20,8 +20,10 @@ loop-holds c = copying-start (c .before .before .before .pre)
 
 copy-next-requires : tie.Need-copy-next-requires Inv-loop μ-loop
 copy-next-requires c κs =
-    copying-next (c .before .before .before .before .before .before .before .before .pre) (c .before .before .before .before .loop .inv)
-    (c .before .before .before .loop-test .taken)
+    let c3 = c .before .before .before in
+    let c4 = c3 .before in
+    let c8 = c4 .before .before .before .before in
+    copying-next (c8 .pre) (c4 .loop .inv) (c3 .loop-test .taken)
 
 same-length : tie.Need-same-length Inv-loop μ-loop
 same-length c = search needs
@@ -34,12 +36,11 @@ same-length-3 c = search needs
 
 returns : tie.Need-returns Inv-loop μ-loop
 returns c =
-    copying-refused
-    (c .before .before .before .before .before .before .before .before .before .before .before .before .before .before .before .before
-    .before .pre)
-    (c .before .before .before .before .before .before .before .before .before .before .before .before .before .loop .inv)
-    (c .before .before .before .before .before .before .before .before .before .before .before .before .loop-test .taken)
-    (c .before .before .before .before .before .before .before .before .copy-next .ensures) (c .if1 .taken)
+    let c8 = c .before .before .before .before .before .before .before .before in
+    let c12 = c8 .before .before .before .before in
+    let c13 = c12 .before in
+    let c17 = c13 .before .before .before .before in
+    copying-refused (c17 .pre) (c13 .loop .inv) (c12 .loop-test .taken) (c8 .copy-next .ensures) (c .if1 .taken)
 
 add-j-2 : tie.Need-add-j-2 Inv-loop μ-loop
 add-j-2 c = search needs
@@ -49,12 +50,11 @@ loop-less c = search needs
 
 loop-again : tie.Need-loop-again Inv-loop μ-loop
 loop-again c =
-    copying-again
-    (c .before .before .before .before .before .before .before .before .before .before .before .before .before .before .before .before
-    .before .pre)
-    (c .before .before .before .before .before .before .before .before .before .before .before .before .before .loop .inv)
-    (c .before .before .before .before .before .before .before .before .before .before .before .before .loop-test .taken)
-    (c .before .before .before .before .before .before .before .before .copy-next .ensures) (search (c .if1 .left, needs))
+    let c8 = c .before .before .before .before .before .before .before .before in
+    let c12 = c8 .before .before .before .before in
+    let c13 = c12 .before in
+    let c17 = c13 .before .before .before .before in
+    copying-again (c17 .pre) (c13 .loop .inv) (c12 .loop-test .taken) (c8 .copy-next .ensures) (search (c .if1 .left, needs))
 
 same-length-4 : tie.Need-same-length-4 Inv-loop μ-loop
 same-length-4 c = search needs

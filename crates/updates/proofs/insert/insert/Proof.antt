@@ -33,13 +33,9 @@ mul-kind c = search needs
 
 slice-read-kind : tie.Need-slice-read-kind
 slice-read-kind c =
-    omega (
-      arith,
-      insert-low (c .before .before .before .before .before .before .before .before .pre) (one-target
-          (c .before .before .before)) (c .before .index .ensures .0),
-      c .before .before .before .before .before .before .before .before .pre .held .few,
-      c .before .before .before .before .before .before .before .before .pre .held .rows,
-    )
+    let c3 = c .before .before .before in
+    let c8 = c3 .before .before .before .before .before in
+    omega (arith, insert-low (c8 .pre) (one-target (c3)) (c .before .index .ensures .0), c8 .pre .held .few, c8 .pre .held .rows)
 
 kind-requires : tie.Need-kind-requires
 kind-requires c κs = search needs
@@ -49,9 +45,10 @@ refused-requires-2 c κs = search needs
 
 returns-2 : tie.Need-returns-2
 returns-2 c =
-    insert-leaf (c .before .before .before .before .before .before .before .before .before .before .before .pre) (one-target
-    (c .before .before .before .before .before .before)) (c .before .before .before .before .index .ensures .0) (sym (target-kind (c
-    .before .before)) ∙ c .before .if2 .taken)
+    let c4 = c .before .before .before .before in
+    let c6 = c4 .before .before in
+    let c11 = c6 .before .before .before .before .before in
+    insert-leaf (c11 .pre) (one-target (c6)) (c4 .index .ensures .0) (sym (target-kind (c .before .before)) ∙ c .before .if2 .taken)
     (c .refused2 .ensures)
 
 slice-aggregate-copy-items : tie.Need-slice-aggregate-copy-items
@@ -59,10 +56,15 @@ slice-aggregate-copy-items c = search needs
 
 copy-items-requires : tie.Need-copy-items-requires
 copy-items-requires c κs =
-    insert-items (c .before .before .before .before .before .before .before .before .before .before .before .before .before .pre)
-    (one-target (c .before .before .before .before .before .before .before .before))
-    (c .before .before .before .before .before .before .index .ensures .0) (λ q. c .before .before .before .if2 .left (target-kind
-    (c .before .before .before .before) ∙ q)) refl
+    let c3 = c .before .before .before in
+    let c4 = c3 .before in
+    let c6 = c4 .before .before in
+    let c8 = c6 .before .before in
+    let c13 = c8 .before .before .before .before .before in
+    insert-items (c13 .pre)
+    (one-target (c8))
+    (c6 .index .ensures .0) (λ q. c3 .if2 .left (target-kind
+    (c4) ∙ q)) refl
 
 same-length : tie.Need-same-length
 same-length c = search needs
@@ -72,14 +74,19 @@ same-length-2 c = search needs
 
 returns-3 : tie.Need-returns-3
 returns-3 c =
+    let c5 = c .before .before .before .before .before in
+    let c9 = c5 .before .before .before .before in
+    let c10 = c9 .before in
+    let c12 = c10 .before .before in
+    let c14 = c12 .before .before in
+    let c19 = c14 .before .before .before .before .before in
     insert-done
-    (c .before .before .before .before .before .before .before .before .before .before .before .before .before .before .before .before
-    .before .before .before .pre)
-    (one-target (c .before .before .before .before .before .before .before .before .before .before .before .before .before .before))
-    (c .before .before .before .before .before .before .before .before .before .before .before .before .index .ensures .0) (λ q.
-    c .before .before .before .before .before .before .before .before .before .if2 .left (target-kind
-    (c .before .before .before .before .before .before .before .before .before .before) ∙ q))
-    (c .before .before .before .before .before .copy-items .ensures)
+    (c19 .pre)
+    (one-target (c14))
+    (c12 .index .ensures .0) (λ q.
+    c9 .if2 .left (target-kind
+    (c10) ∙ q))
+    (c5 .copy-items .ensures)
 
 pub insert-spec : {M : Type 1} → statement M
 insert-spec =

@@ -32,8 +32,9 @@ refused-requires c κs = search needs
 
 returns-2 : tie.Need-returns-2
 returns-2 c =
-    cut-full (c .before .before .before .before .before .before .before .before .pre) (has-parent (c .before .before .before))
-    (c .before .if2 .taken) (c .refused .ensures)
+    let c3 = c .before .before .before in
+    let c8 = c3 .before .before .before .before .before in
+    cut-full (c8 .pre) (has-parent (c3)) (c .before .if2 .taken) (c .refused .ensures)
 
 relinked-requires : tie.Need-relinked-requires
 relinked-requires c κs = search needs
@@ -48,42 +49,31 @@ sub-put-cut : tie.Need-sub-put-cut
 sub-put-cut c = search needs
 
 put-cut-requires : tie.Need-put-cut-requires
-put-cut-requires c κs = (
-  omega (
-    arith,
-    c .before .before .before .before .before .before .before .before .before .pre .held .size,
-    c .before .before .before .before .before .before .before .before .before .pre .held .area,
-    c .before .before .if2 .left,
-  ),
-  (
-    omega (
-      arith,
-      c .before .before .before .before .before .before .before .before .before .pre .row,
-      c .before .before .before .before .before .before .before .before .before .pre .held .few,
-    ),
-    omega (
-      arith,
-      c .before .before .before .before .before .link .ensures,
-      cut-low
-          (c .before .before .before .before .before .before .before .before .before .pre) (has-parent (c .before .before .before .before)),
-    ),
-  ),
-)
+put-cut-requires c κs =
+    let c4 = c .before .before .before .before in
+    let c5 = c4 .before in
+    let c9 = c5 .before .before .before .before in (
+      omega (arith, c9 .pre .held .size, c9 .pre .held .area, c .before .before .if2 .left),
+      (
+        omega (
+          arith,
+          c9 .pre .row,
+          c9 .pre .held
+              .few,
+        ),
+        omega (arith, c5 .link .ensures, cut-low (c9 .pre) (has-parent (c4))),
+      ),
+    )
 
 add-t8 : tie.Need-add-t8
 add-t8 c =
-    omega (
-      arith,
-      c .before .before .before .before .before .before .before .before .before .before .before .before .pre .held .size,
-      c .before .before .before .before .before .before .before .before .before .before .before .before .pre .held .history .limit,
-    )
+    let c12 = c .before .before .before .before .before .before .before .before .before .before .before .before in
+    omega (arith, c12 .pre .held .size, c12 .pre .held .history .limit)
 
 add-t16 : tie.Need-add-t16
 add-t16 c =
-    omega (
-      arith,
-      c .before .before .before .before .before .before .before .before .before .before .before .before .before .pre .held .history .limit,
-    )
+    let c13 = c .before .before .before .before .before .before .before .before .before .before .before .before .before in
+    omega (arith, c13 .pre .held .history .limit)
 
 same-length : tie.Need-same-length
 same-length c = search needs
@@ -93,13 +83,14 @@ same-length-2 c = search needs
 
 returns-3 : tie.Need-returns-3
 returns-3 c =
-    cut-done (c .before .before .before .before .before .before .before .before .before .before .before .before .before .pre) (has-parent
-    (c .before .before .before .before .before .before .before .before)) (omega (
-      arith,
-      c .before .before .before .before .before .before .if2 .left,
-    )) (c .before .before .before .before .before .relinked .ensures)
-    (c .before .before .before .before .before .before .before .before .before .link .ensures)
-    (c .before .before .before .put-cut .ensures)
+    let c3 = c .before .before .before in
+    let c5 = c3 .before .before in
+    let c6 = c5 .before in
+    let c8 = c6 .before .before in
+    let c9 = c8 .before in
+    let c13 = c9 .before .before .before .before in
+    cut-done (c13 .pre) (has-parent (c8)) (omega (arith, c6 .if2 .left)) (c5 .relinked .ensures) (c9 .link .ensures)
+    (c3 .put-cut .ensures)
 
 pub cut-row-spec : {M : Type 1} → statement M
 cut-row-spec =

@@ -29,14 +29,17 @@ index-requires c κs = search needs
 
 cut-row-requires : tie.Need-cut-row-requires Inv-loop μ-loop
 cut-row-requires c κs =
+    let c4 = c .before .before .before .before in
+    let c5 = c4 .before in
+    let c9 = c5 .before .before .before .before in
     record {
-      held = c .before .before .before .before .before .loop .inv .after .held;
+      held = c5 .loop .inv .after .held;
       row = omega (
         arith,
         c .index .ensures .0,
-        c .before .before .before .before .before .before .before .before .before .pre .items
-            (c .before .before .before .before .before .loop .k) (c .before .before .before .before .loop-test .taken),
-        c .before .before .before .before .before .loop .inv .after .rows,
+        c9 .pre .items
+            (c5 .loop .k) (c4 .loop-test .taken),
+        c5 .loop .inv .after .rows,
       );
     }
 
@@ -48,10 +51,11 @@ same-length-2 c = search needs
 
 returns : tie.Need-returns Inv-loop μ-loop
 returns c =
-    delete-refused (c .before .before .before .before .before .before .before .before .before .before .before .before .loop .inv)
-    (c .before .before .before .before .before .before .before .before .before .before .before .loop-test .taken)
-    (c .before .before .before .before .before .before .before .index .ensures .0)
-    (c .before .before .before .before .before .before .cut-row .ensures) (c .if1 .taken)
+    let c6 = c .before .before .before .before .before .before in
+    let c7 = c6 .before in
+    let c11 = c7 .before .before .before .before in
+    let c12 = c11 .before in
+    delete-refused (c12 .loop .inv) (c11 .loop-test .taken) (c7 .index .ensures .0) (c6 .cut-row .ensures) (c .if1 .taken)
 
 add-k : tie.Need-add-k Inv-loop μ-loop
 add-k c = search needs
@@ -61,11 +65,15 @@ loop-less c = search needs
 
 loop-again : tie.Need-loop-again Inv-loop μ-loop
 loop-again c =
-    let n : c .before .before .before .before .before .before .cut-row .result .number ≡ 0 = search (c .if1 .left, needs) in
-    let g = delete-again (c .before .before .before .before .before .before .before .before .before .before .before .before .loop .inv)
-    (c .before .before .before .before .before .before .before .before .before .before .before .loop-test .taken)
-    (c .before .before .before .before .before .before .before .index .ensures .0)
-    (c .before .before .before .before .before .before .cut-row .ensures) n in
+    let c6 = c .before .before .before .before .before .before in
+    let c7 = c6 .before in
+    let c11 = c7 .before .before .before .before in
+    let c12 = c11 .before in
+    let n : c6 .cut-row .result .number ≡ 0 = search (c .if1 .left, needs) in
+    let g = delete-again (c12 .loop .inv)
+    (c11 .loop-test .taken)
+    (c7 .index .ensures .0)
+    (c6 .cut-row .ensures) n in
     record { after = g .0; within = omega arith; rest = g .1 }
 
 same-length-3 : tie.Need-same-length-3 Inv-loop μ-loop

@@ -14,9 +14,9 @@ word-requires c κs = search needs
 
 new-row-requires : tie.Need-new-row-requires
 new-row-requires c κs =
-    loose-pre false (c .before .before .before .before .before .args .name .0) (c .word .ensures)
-    (c .before .before .before .before .before .pre .held) (isIn-by 1 255 (c .before .before .before .before .before .args .name .0)
-    (c .before .before .before .before .before .pre .low) (c .before .before .before .before .before .pre .high))
+    let c5 = c .before .before .before .before .before in
+    loose-pre false (c5 .args .name .0) (c .word .ensures) (c5 .pre .held)
+    (isIn-by 1 255 (c5 .args .name .0) (c5 .pre .low) (c5 .pre .high))
 
 same-length : tie.Need-same-length
 same-length c = search needs
@@ -26,8 +26,10 @@ same-length-2 c = search needs
 
 returns : tie.Need-returns
 returns c =
-    loose-made false (c .before .before .before .before .before .before .before .before .before .before .args .name .0)
-    (c .before .before .before .before .before .word .ensures) (c .before .before .before .before .new-row .ensures)
+    let c4 = c .before .before .before .before in
+    let c5 = c4 .before in
+    let c10 = c5 .before .before .before .before .before in
+    loose-made false (c10 .args .name .0) (c5 .word .ensures) (c4 .new-row .ensures)
 
 pub new-element-spec : {M : Type 1} → statement M
 new-element-spec =

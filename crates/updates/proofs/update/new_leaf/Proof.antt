@@ -12,11 +12,8 @@ word-requires c κs = search needs
 
 new-row-requires : tie.Need-new-row-requires
 new-row-requires c κs =
-    loose-pre true (c .before .before .before .before .before .args .value) (c .word .ensures)
-    (c .before .before .before .before .before .pre) (le-leb (c .before .before .before .before .before .args .value) 255 (omega (
-      arith,
-      c .before .before .before .before .before .fits .value,
-    )))
+    let c5 = c .before .before .before .before .before in
+    loose-pre true (c5 .args .value) (c .word .ensures) (c5 .pre) (le-leb (c5 .args .value) 255 (omega (arith, c5 .fits .value)))
 
 same-length : tie.Need-same-length
 same-length c = search needs
@@ -26,8 +23,10 @@ same-length-2 c = search needs
 
 returns : tie.Need-returns
 returns c =
-    loose-made true (c .before .before .before .before .before .before .before .before .before .before .args .value)
-    (c .before .before .before .before .before .word .ensures) (c .before .before .before .before .new-row .ensures)
+    let c4 = c .before .before .before .before in
+    let c5 = c4 .before in
+    let c10 = c5 .before .before .before .before .before in
+    loose-made true (c10 .args .value) (c5 .word .ensures) (c4 .new-row .ensures)
 
 pub new-leaf-spec : {M : Type 1} → statement M
 new-leaf-spec =

@@ -19,8 +19,9 @@ refused-requires-2 c κs = search needs
 
 returns-2 : tie.Need-returns-2
 returns-2 c =
-    new-over (c .before .before .before .before .before .before .pre) (omega (arith, c .before .before .before .if1 .left))
-    (c .before .if2 .taken) (c .refused2 .ensures)
+    let c3 = c .before .before .before in
+    let c6 = c3 .before .before .before in
+    new-over (c6 .pre) (omega (arith, c3 .if1 .left)) (c .before .if2 .taken) (c .refused2 .ensures)
 
 mul-rows : tie.Need-mul-rows
 mul-rows c = search needs
@@ -29,36 +30,29 @@ slice-write-rows : tie.Need-slice-write-rows
 slice-write-rows c = search needs
 
 put-made-requires : tie.Need-put-made-requires
-put-made-requires c κs = (
-  omega (
-    arith,
-    c .before .before .before .before .before .before .pre .held .size,
-    c .before .before .before .before .before .before .pre .held .area,
-    c .before .if2 .left,
-  ),
-  (
-    omega (
-      arith,
-      c .before .before .before .if1 .left,
-    ),
-    tag-byte (c .before .before .before .before .before .before .args .w)
-        (c .before .before .before .before .before .before .pre .tag),
-  ),
-)
+put-made-requires c κs =
+    let c3 = c .before .before .before in
+    let c6 = c3 .before .before .before in (
+      omega (arith, c6 .pre .held .size, c6 .pre .held .area, c .before .if2 .left),
+      (
+        omega (arith, c3 .if1 .left),
+        tag-byte (c6 .args
+            .w) (c6 .pre .tag),
+      ),
+    )
 
 add-t8 : tie.Need-add-t8
 add-t8 c = omega (arith, c .before .before .before .before .before .before .if1 .left)
 
 add-t13 : tie.Need-add-t13
 add-t13 c =
-    omega (
-      arith,
-      c .before .before .before .before .before .before .before .before .before .pre .held .size,
-      c .before .before .before .before .before .before .before .before .before .pre .held .history .limit,
-    )
+    let c9 = c .before .before .before .before .before .before .before .before .before in
+    omega (arith, c9 .pre .held .size, c9 .pre .held .history .limit)
 
 add-t14 : tie.Need-add-t14
-add-t14 c = omega (arith, c .before .before .before .before .before .before .before .before .before .before .pre .held .history .limit)
+add-t14 c =
+    let c10 = c .before .before .before .before .before .before .before .before .before .before in
+    omega (arith, c10 .pre .held .history .limit)
 
 same-length : tie.Need-same-length
 same-length c = search needs
@@ -68,13 +62,11 @@ same-length-2 c = search needs
 
 returns-3 : tie.Need-returns-3
 returns-3 c =
-    new-made (c .before .before .before .before .before .before .before .before .before .before .pre) (omega (
-      arith,
-      c .before .before .before .before .before .before .before .if1 .left,
-    )) (omega (
-      arith,
-      c .before .before .before .before .before .if2 .left,
-    )) (c .before .before .before .put-made .ensures)
+    let c3 = c .before .before .before in
+    let c5 = c3 .before .before in
+    let c7 = c5 .before .before in
+    let c10 = c7 .before .before .before in
+    new-made (c10 .pre) (omega (arith, c7 .if1 .left)) (omega (arith, c5 .if2 .left)) (c3 .put-made .ensures)
 
 pub new-row-spec : {M : Type 1} → statement M
 new-row-spec =
