@@ -2,7 +2,7 @@
 ghost use mathlib.Core.Path.{_≡_};
 ghost use lib.ListN.{length};
 ghost use Rattle.lent.specs.Raw.{RawPre, given};
-use run::area;
+use areas::area;
 use table::Table;
 
 // Row words over a slice as long.

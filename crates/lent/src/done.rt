@@ -4,9 +4,9 @@ ghost use Prim.Native.Nat.{_≤_};
 ghost use lib.ListN.{length, replicate};
 ghost use Rattle.lent.specs.Done.{isLentShort, doneOver, EndPre, endCode, endOut, endDone};
 use crate::answer;
+use areas::area;
 use plan::write;
 use run::RunResult;
-use run::area;
 
 // The numbers of done.
 const SIX: usize = 6;

@@ -28,12 +28,12 @@ use Rattle.updates.specs.State.{recordsIn, started, stateOf, Held}
 use Rattle.query.specs.Values.{valueAt}
 use Rattle.updates.proofs.StateLaws.{held-start, state-start}
 use Rattle.updates.specs.declared.state.Progress.{Progress}
-use Rattle.run.specs.Tallying.{tallyFor}
+use Rattle.areas.specs.Tallying.{tallyFor}
 use Rattle.run.specs.Calls.{outcomeOf, ran, resultOf, runResult, refusedResult, RunPre, RunPost}
 use Rattle.operators.specs.Evaluating.{boundValues, Fine, EvalPre, EvalPost}
 use Rattle.operators.specs.declared.value.Span.{Span}
 use Rattle.operators.specs.declared.record.Evaluated.{Evaluated}
-use Rattle.run.specs.declared.tally.Tally.{Tally}
+use Rattle.areas.specs.declared.tally.Tally.{Tally}
 use Rattle.run.specs.declared.RunResult.{RunResult}
 use Rattle.operators.proofs.ValueLaws.{take-few, length-value}
 use Rattle.operators.proofs.YieldLaws.{yields-gives, yields-stop}

@@ -1,4 +1,2 @@
-pub mod AreaLaws
-pub mod Raising
 pub mod CallLaws
 pub mod Promised

@@ -12,8 +12,8 @@ use Rattle.model.specs.Call.{Ran, areasFit, ranBy, refusedRun, runBy}
 use Rattle.table.specs.Words.{encode, decode, fits}
 use Rattle.table.specs.Results.{faultOf}
 use Rattle.table.specs.declared.Table.{Table}
-use Rattle.run.specs.Tallying.{noneYet}
-use Rattle.run.specs.declared.tally.Tally.{Tally}
+use Rattle.areas.specs.Tallying.{noneYet}
+use Rattle.areas.specs.declared.tally.Tally.{Tally}
 use Rattle.run.specs.declared.RunResult.{RunResult}
 
 -- THE RUN on a table handed in: 6 at place 0; then the script's own refusal; then the run's

@@ -1,3 +1,2 @@
-pub mod Tallying
 pub mod Calls
 pub mod Promise

@@ -1,17 +1,15 @@
 // Runs a script on a plan.
 ghost use mathlib.Core.Path.{_≡_};
 ghost use Rattle.run.specs.Calls.{ran, runResult, refusedResult, RunPre, RunPost};
+use areas::area;
+use areas::tally;
+use areas::tally::Tally;
 use eval::evaluate;
 use operators::value::Span;
 use table::Fault;
 use table::Table;
 use table::fit;
 use updates::state::Progress;
-
-pub mod area;
-mod tally;
-
-pub use tally::Tally;
 
 // What a run needs of each lent area.
 pub const ANSWER: usize = 512;

@@ -3,7 +3,7 @@ use borrow.Author.Needs.{needs}
 use Rattle.run.proofs.refused.Statement.{statement}
 use Rattle.run.proofs.refused.Tie as tie
 use mathlib.Core.Path.{ap}
-use Rattle.run.specs.declared.tally.Tally.{Tally}
+use Rattle.areas.specs.declared.tally.Tally.{Tally}
 
 none-requires : tie.Need-none-requires
 none-requires c κs = search needs

@@ -1,6 +1,6 @@
 -- The tally of a run: document 01's "One tally follows a run: rows made, links cut, records written".
 use Prim.Native.Nat.{ℕ, _+_}
-use Rattle.run.specs.declared.tally.Tally.{Tally}
+use Rattle.areas.specs.declared.tally.Tally.{Tally}
 
 abbrev pub noneYet : Tally
 noneYet = record { made = 0; cut = 0; records = 0 }

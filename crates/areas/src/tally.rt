@@ -2,7 +2,7 @@
 // value; the two that raise it are lent it by &mut, and their proofs are walks by hand.
 ghost use mathlib.Core.Path.{_≡_};
 ghost use Prim.Native.Nat.{_<_, _≤_, _+_, _^_};
-ghost use Rattle.run.specs.Tallying.{noneYet, withMade, withCut, tallyFor};
+ghost use Rattle.areas.specs.Tallying.{noneYet, withMade, withCut, tallyFor};
 
 pub struct Tally {
     pub made: usize,

@@ -45,26 +45,26 @@ use denote.Triple.Spec.{Meets, tripleOf}
 use denote.Triple.Table.{entered, cited}
 use denote.Triple.Walked.{says, needs, Stays, stay-none, walkOf, goes-none, Walks, ends-at, walked, walk-meets}
 use denote.Exit.{yes}
-use Rattle.run.specs.declared.tally.Tally.{Tally}
-use Rattle.run.specs.Tallying.{noneYet, withMade, withCut, tallyFor}
-use Rattle.run.proofs.tally.Tally as T
-use Rattle.run.proofs.tally.Tally.Laws as T′
-use Rattle.run.proofs.tally.none as none
-use Rattle.run.proofs.tally.none.Symbol as none-def
-use Rattle.run.proofs.tally.none.Symbol.{name as #none}
-use Rattle.run.proofs.tally.none.Met as none-thm
-use Rattle.run.proofs.tally.add_made as add-made
-use Rattle.run.proofs.tally.add_made.Symbol as add-made-def
-use Rattle.run.proofs.tally.add_made.Symbol.{name as #add-made}
-use Rattle.run.proofs.tally.add_made.Met as add-made-thm
-use Rattle.run.proofs.tally.add_cut as add-cut
-use Rattle.run.proofs.tally.add_cut.Symbol as add-cut-def
-use Rattle.run.proofs.tally.add_cut.Symbol.{name as #add-cut}
-use Rattle.run.proofs.tally.add_cut.Met as add-cut-thm
-use Rattle.run.proofs.tally.tallied.Key.{name as #tallied}
-use Rattle.run.proofs.tally.tallied as f
-use Rattle.run.proofs.tally.tallied.Statement as stated
-use Rattle.run.proofs.tally.tallied.Code as code
+use Rattle.areas.specs.declared.tally.Tally.{Tally}
+use Rattle.areas.specs.Tallying.{noneYet, withMade, withCut, tallyFor}
+use Rattle.areas.proofs.tally.Tally as T
+use Rattle.areas.proofs.tally.Tally.Laws as T′
+use Rattle.areas.proofs.tally.none as none
+use Rattle.areas.proofs.tally.none.Symbol as none-def
+use Rattle.areas.proofs.tally.none.Symbol.{name as #none}
+use Rattle.areas.proofs.tally.none.Met as none-thm
+use Rattle.areas.proofs.tally.add_made as add-made
+use Rattle.areas.proofs.tally.add_made.Symbol as add-made-def
+use Rattle.areas.proofs.tally.add_made.Symbol.{name as #add-made}
+use Rattle.areas.proofs.tally.add_made.Met as add-made-thm
+use Rattle.areas.proofs.tally.add_cut as add-cut
+use Rattle.areas.proofs.tally.add_cut.Symbol as add-cut-def
+use Rattle.areas.proofs.tally.add_cut.Symbol.{name as #add-cut}
+use Rattle.areas.proofs.tally.add_cut.Met as add-cut-thm
+use Rattle.areas.proofs.tally.tallied.Key.{name as #tallied}
+use Rattle.areas.proofs.tally.tallied as f
+use Rattle.areas.proofs.tally.tallied.Statement as stated
+use Rattle.areas.proofs.tally.tallied.Code as code
 
 abbrev stayed : Stays (f.ended .signature .params) (f.ended .kept)
 stayed = (stay-none (λ _. usize) yes, (stay-none (λ _. usize) yes, tt))
@@ -285,8 +285,8 @@ tallied-spec 𝓤 H 𝓜 𝓖 𝓡 =
     entered 𝓤 H (tripleOf 𝓤 H (𝓖 .A) f.signature (f.spec 𝓤 H (𝓖 .A) (𝓜 .mem) (𝓡 .run)))
     (tables 𝓤 H 𝓜 𝓡 code.env .C) (tables 𝓤 H 𝓜 𝓡 code.env .Λ) #tallied code.function (code.unfolded 𝓤 H 𝓜 𝓡)
     (meets 𝓤 H (𝓖 .A) (givenOf 𝓤 H 𝓜 𝓖) (𝓜 .mem) (𝓡 .run) (tablesOf 𝓤 H 𝓜 (tables 𝓤 H 𝓜 𝓡 code.env))
-    (cited 𝓤 H (None 𝓤 H (𝓖 .A) (𝓜 .mem) (𝓡 .run)) 𝓜 𝓡 code.env #none none-def.routine code.calls-run·tally·none (none-thm.met 𝓤 H 𝓜 𝓖 𝓡))
-    (cited 𝓤 H (AddMade 𝓤 H (𝓖 .A) (𝓜 .mem) (𝓡 .run)) 𝓜 𝓡 code.env #add-made add-made-def.routine code.calls-run·tally·add-made
+    (cited 𝓤 H (None 𝓤 H (𝓖 .A) (𝓜 .mem) (𝓡 .run)) 𝓜 𝓡 code.env #none none-def.routine code.calls-areas·tally·none (none-thm.met 𝓤 H 𝓜 𝓖 𝓡))
+    (cited 𝓤 H (AddMade 𝓤 H (𝓖 .A) (𝓜 .mem) (𝓡 .run)) 𝓜 𝓡 code.env #add-made add-made-def.routine code.calls-areas·tally·add-made
     (add-made-thm.met 𝓤 H 𝓜 𝓖 𝓡))
-    (cited 𝓤 H (AddCut 𝓤 H (𝓖 .A) (𝓜 .mem) (𝓡 .run)) 𝓜 𝓡 code.env #add-cut add-cut-def.routine code.calls-run·tally·add-cut
+    (cited 𝓤 H (AddCut 𝓤 H (𝓖 .A) (𝓜 .mem) (𝓡 .run)) 𝓜 𝓡 code.env #add-cut add-cut-def.routine code.calls-areas·tally·add-cut
     (add-cut-thm.met 𝓤 H 𝓜 𝓖 𝓡)))

@@ -41,9 +41,9 @@ use denote.Triple.Entry.{onEntry}
 use denote.Triple.Spec.{Meets, tripleOf}
 use denote.Triple.Walked.{says, needs, Stays, stay-ref, stay-none, walkOf, goes-none, goes-ref, Walks, ends-at, walked, walk-meets}
 use denote.Exit.{yes}
-use Rattle.run.specs.declared.tally.Tally.{Tally}
-use Rattle.run.proofs.tally.Tally as T
-use Rattle.run.proofs.tally.Tally.Laws as T′
+use Rattle.areas.specs.declared.tally.Tally.{Tally}
+use Rattle.areas.proofs.tally.Tally as T
+use Rattle.areas.proofs.tally.Tally.Laws as T′
 
 abbrev pub raises : Name → Fn
 raises g = record {

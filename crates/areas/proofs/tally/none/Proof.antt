@@ -1,7 +1,7 @@
 -- `tally::none` is the tally before anything is written.
 use mathlib.Core.Path.{refl}
-use Rattle.run.proofs.tally.none.Statement.{statement}
-use Rattle.run.proofs.tally.none.Tie as tie
+use Rattle.areas.proofs.tally.none.Statement.{statement}
+use Rattle.areas.proofs.tally.none.Tie as tie
 
 returns : tie.Need-returns
 returns c = refl

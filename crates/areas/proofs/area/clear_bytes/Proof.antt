@@ -1,12 +1,12 @@
--- `clear_words`: the loop makes every number zero.
+-- `clear_bytes`: the loop makes every byte zero.
 use borrow.Author.Needs.{needs}
-use Rattle.run.proofs.area.clear_words.Statement.{statement}
-use Rattle.run.proofs.area.clear_words.Tie as tie
+use Rattle.areas.proofs.area.clear_bytes.Statement.{statement}
+use Rattle.areas.proofs.area.clear_bytes.Tie as tie
 use mathlib.Core.Path.{_≡_, _∙_}
 use Prim.Native.Nat.{_≤_, _-_}
 use native.Mathlib.Omega.{arith}
 use lib.ListN.{length, length-set}
-use Rattle.run.proofs.AreaLaws.{clearedTo, cleared-next, cleared-all}
+use Rattle.areas.proofs.AreaLaws.{clearedTo, cleared-next, cleared-all}
 
 abbrev Inv-loop : tie.InvT-loop
 Inv-loop area₀ k₀ area k = (k ≤ length area₀) × (length area ≡ length area₀) × (area ≡ clearedTo k area₀)
@@ -17,14 +17,11 @@ abbrev μ-loop : tie.MeasureT-loop
 loop-holds : tie.Need-loop-holds Inv-loop μ-loop
 loop-holds c = search needs
 
-mul-area : tie.Need-mul-area Inv-loop μ-loop
-mul-area c = search needs
-
 slice-write-area : tie.Need-slice-write-area Inv-loop μ-loop
 slice-write-area c = search needs
 
-add-k : tie.Need-add-k Inv-loop μ-loop
-add-k c = search needs
+add-i : tie.Need-add-i Inv-loop μ-loop
+add-i c = search needs
 
 loop-less : tie.Need-loop-less Inv-loop μ-loop
 loop-less c = search needs
@@ -33,9 +30,9 @@ loop-again : tie.Need-loop-again Inv-loop μ-loop
 loop-again c =
     let l = c .before .loop .inv .1 in (
       omega arith,
-      length-set (c .before .loop .area) (c .before .loop .k) 0 ∙ l,
+      length-set (c .before .loop .area) (c .before .loop .i) 0 ∙ l,
       cleared-next (c
-          .before .before .args .area .now) (c .before .loop .area) (c .before .loop .k) (omega arith) (c .before .loop .inv .2),
+          .before .before .args .area .now) (c .before .loop .area) (c .before .loop .i) (omega arith) (c .before .loop .inv .2),
     )
 
 same-length : tie.Need-same-length Inv-loop μ-loop
@@ -43,19 +40,18 @@ same-length c = search needs
 
 returns : tie.Need-returns Inv-loop μ-loop
 returns c =
-    let l = c .before .loop .inv .1 in cleared-all (c .before .before .args .area .now) (c .before .loop .area) (c .before .loop .k)
+    let l = c .before .loop .inv .1 in cleared-all (c .before .before .args .area .now) (c .before .loop .area) (c .before .loop .i)
     (omega arith) (c .before .loop .inv .0) (c .before .loop .inv .2)
 
-pub clear-words-spec : {M : Type 1} → statement M
-clear-words-spec =
+pub clear-bytes-spec : {M : Type 1} → statement M
+clear-bytes-spec =
     tie.close
     (tie.spec
     Inv-loop
     μ-loop
     loop-holds
-    mul-area
     slice-write-area
-    add-k
+    add-i
     loop-less
     loop-again
     same-length

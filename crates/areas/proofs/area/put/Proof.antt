@@ -1,12 +1,12 @@
 -- `put`: the loop puts the value at the front, item by item; what is behind it stays.
 use borrow.Author.Needs.{needs}
-use Rattle.run.proofs.area.put.Statement.{statement}
-use Rattle.run.proofs.area.put.Tie as tie
+use Rattle.areas.proofs.area.put.Statement.{statement}
+use Rattle.areas.proofs.area.put.Tie as tie
 use mathlib.Core.Path.{_≡_, refl, _∙_}
 use Prim.Native.Nat.{_≤_, _-_}
 use native.Mathlib.Omega.{arith}
 use lib.ListN.{length, getD, length-set}
-use Rattle.run.proofs.AreaLaws.{putTo, put-next, put-all}
+use Rattle.areas.proofs.AreaLaws.{putTo, put-next, put-all}
 
 abbrev Inv-loop : tie.InvT-loop
 Inv-loop area₀ value k₀ area k = (k ≤ length value) × (length area ≡ length area₀) × (area ≡ putTo k value area₀)
