@@ -82,20 +82,6 @@ uint64_t yegnabit_undo(const uint8_t *plan, size_t plan_length, const uint8_t *h
  * yegnabit_answer. */
 uint64_t yegnabit_analyse(const uint8_t *first, size_t first_length, const uint8_t *second, size_t second_length);
 
-/* Reads a script: its refusal, which 2, or 0. */
-uint64_t yegnabit_script(const uint8_t *script, size_t script_length);
-
-/* Writing and sweeping, on a table of 512 row words and 8 marks, well formed or not. A row's word is its kind (1 element, 2 leaf) + 4 * (its
- * parent's number and one, 0 for none) + 4096 * its name or value byte; words past `count` are 0. A mark is its row's number and one, or 0.
- * An array of another length is 11, an ill-formed table 6 with which 1. */
-
-/* Writes the table; place: the bytes written. `out` needs the plan's stored length. */
-uint64_t yegnabit_write_table(size_t count, const uint32_t *rows, size_t rows_length, const uint16_t *marks, size_t marks_length,
-                              uint8_t *out, size_t out_length);
-
-/* Sweeps the table in place; place: the rows kept. */
-uint64_t yegnabit_sweep_table(size_t count, uint32_t *rows, size_t rows_length, uint16_t *marks, size_t marks_length);
-
 #ifdef __cplusplus
 }
 #endif

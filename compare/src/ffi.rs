@@ -12,8 +12,6 @@ extern "C" {
 
     fn yegnabit_sweep(plan: *const u8, plan_length: usize, out: *mut u8, out_length: usize) -> u64;
 
-    fn yegnabit_script(script: *const u8, script_length: usize) -> u64;
-
     fn yegnabit_undo(
         plan: *const u8,
         plan_length: usize,
@@ -46,6 +44,12 @@ extern "C" {
         second: *const u8,
         second_length: usize,
     ) -> u64;
+}
+
+// Calls for tests: crates/probe, not in the header.
+#[link(name = "probe", kind = "static")]
+extern "C" {
+    fn yegnabit_script(script: *const u8, script_length: usize) -> u64;
 
     fn yegnabit_write_table(
         count: usize,

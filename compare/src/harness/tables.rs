@@ -176,12 +176,7 @@ fn several_changes(raw: &RawTable, random: &mut Random) -> RawTable {
                 let document = random.below(DOCUMENTS);
                 changed.marks[document] = random.below(near + 1) as u16;
             }
-            1 => {
-                changed.count = changed
-                    .count
-                    .wrapping_add(random.below(3))
-                    .wrapping_sub(1)
-            }
+            1 => changed.count = changed.count.wrapping_add(random.below(3)).wrapping_sub(1),
             2 => {
                 let (from, to) = (random.below(near), random.below(near));
                 changed.rows.swap(from, to);

@@ -10,15 +10,15 @@ use borrow.Author.Tests.{eq-eqb, ne-eqb}
 use Rattle.model.specs.Base.{pick}
 use Rattle.model.specs.Script as model
 use Rattle.model.specs.Paths.{anyBelow, isUp}
-use Rattle.emission.specs.Positions.{Entry, plain, accessing, modifying, over, union}
-use Rattle.emission.specs.Positions as positions
+use Rattle.positions.specs.Positions.{Entry, plain, accessing, modifying, over, union}
+use Rattle.positions.specs.Positions as positions
 use Rattle.meeting.specs.Codes.{stepOf}
-use Rattle.emission.specs.Words.{entryBy, overBy, unionBy, PositionFits, entriesIn, PushPost}
+use Rattle.positions.specs.Words.{entryBy, overBy, unionBy, PositionFits, entriesIn, PushPost}
 use Rattle.emission.specs.Emitting.{outOf, GrowPre, Grown, markedBy, BelowPre, BelowPost}
-use Rattle.emission.specs.declared.positions.Position.{Position}
+use Rattle.positions.specs.declared.packed.Position.{Position}
 use Rattle.meeting.specs.declared.cells.Step.{Step}
 use Rattle.emission.specs.declared.emit.Emitted.{Emitted}
-use Rattle.emission.proofs.WordLaws.{entriesIn-length}
+use Rattle.positions.proofs.WordLaws.{entriesIn-length}
 
 -- FIELDS in range
 fits-same : (p q : Position) → p ≡ q → PositionFits q → PositionFits p

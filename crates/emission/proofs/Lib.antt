@@ -1,12 +1,5 @@
-pub mod PositionLaws
-pub mod DocumentLaws
-pub mod EmitLaws
-pub mod TraverseLaws
-pub mod AnswerLaws
-pub mod WordLaws
 pub mod GrowLaws
 pub mod RecordLaws
 pub mod OperandLaws
 pub mod WalkLaws
 pub mod SizeLaws
-pub mod ClimbLaws

@@ -8,13 +8,13 @@ use lib.ListN.{getD}
 use borrow.Author.Tests.{eqb-true, eqb-false}
 use Rattle.model.specs.Script.{Expr, nil, document, var, step, both, letIn, forIn, element, leaf, delete, insert, choose, stepBy}
 use Rattle.model.proofs.BoolLaws.{by-cases}
-use Rattle.script.specs.Walk.{withBound, arity, inner, endAt, firstAt, secondAt, thirdAt, exprAt}
+use Rattle.records.specs.Walk.{withBound, arity, inner, endAt, firstAt, secondAt, thirdAt, exprAt}
 use Rattle.script.specs.Accepted.{Accepted, RecordFits, Nullary, Unary, Binary}
 use Rattle.script.proofs.KindLaws.{nullary-kind, unary-kind, binary-kind, two-left}
 use Rattle.script.proofs.AcceptedLaws.{accepted-record, accepted-nil, accepted-document, accepted-variable, accepted-element, accepted-leaf}
 use Rattle.script.proofs.AcceptedLaws.{accepted-step, accepted-delete, accepted-pick, accepted-join, accepted-let, accepted-for}
 use Rattle.script.proofs.AcceptedLaws.{accepted-insert, accepted-if}
-use Rattle.emission.specs.Positions.{Entry, emit, pushUnion}
+use Rattle.positions.specs.Positions.{Entry, emit, pushUnion}
 use Rattle.emission.specs.Emitting.{recordsOf, nullaryOf, unaryOf, binaryOf}
 
 module _ (b : List ℕ) (at left v : ℕ) (a : Accepted b at left v) where

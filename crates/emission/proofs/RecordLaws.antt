@@ -10,15 +10,15 @@ use lib.Seq.{getD-set-same, getD-set-other}
 use borrow.Author.Tests.{ne-eqb, eqb-true, eqb-false}
 use Rattle.model.specs.Script as model
 use Rattle.model.proofs.BoolLaws.{by-cases}
-use Rattle.script.proofs.BindLaws.{withBound-set, withBound-same}
-use Rattle.script.specs.Walk.{inner}
-use Rattle.emission.specs.Positions.{accessing, root}
-use Rattle.emission.specs.Positions as positions
+use Rattle.records.proofs.BindLaws.{withBound-set, withBound-same}
+use Rattle.records.specs.Walk.{inner}
+use Rattle.positions.specs.Positions.{accessing, root}
+use Rattle.positions.specs.Positions as positions
 use Rattle.meeting.specs.Codes.{stepOf}
-use Rattle.emission.specs.Words.{entryBy, rootBy, PositionFits, entriesIn, PushPost}
+use Rattle.positions.specs.Words.{entryBy, rootBy, PositionFits, entriesIn, PushPost}
 use Rattle.emission.specs.Emitting.{outOf, nullaryOf, unaryOf, binaryOf, GrowPre, Grown, NullaryPre, NullaryPost, BindPre}
 use Rattle.emission.specs.Emitting.{BindPost}
-use Rattle.emission.specs.declared.positions.Position.{Position}
+use Rattle.positions.specs.declared.packed.Position.{Position}
 use Rattle.meeting.specs.declared.cells.Step.{Step}
 use Rattle.emission.specs.declared.emit.Emitted.{Emitted}
 use Rattle.emission.proofs.GrowLaws.{pushed-is}

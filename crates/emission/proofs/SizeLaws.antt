@@ -16,7 +16,7 @@ use Rattle.model.specs.Script.{newLeafKind, deleteKind, insertKind, pickKind, i
 use Rattle.model.specs.Script.{Parsed, ill, parsed, thenParse, one, two, three, operands, parseFrom, whole}
 use Rattle.model.proofs.BoolLaws.{and-left}
 use Rattle.model.proofs.RefusalLaws.{isFine-check, isFine-rest}
-use Rattle.script.specs.Walk.{exprAt}
+use Rattle.records.specs.Walk.{exprAt}
 use Rattle.script.specs.Reading.{scriptRead}
 use Rattle.script.proofs.ScriptLaws.{script-parsed}
 use Rattle.emission.specs.Emitting.{recordsOf}

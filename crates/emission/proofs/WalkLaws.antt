@@ -11,13 +11,13 @@ use borrow.Author.Tests.{eqb-true, eqb-false, ltb-true}
 use Rattle.model.specs.Base.{pick, isIn}
 use Rattle.model.specs.Script.{testFits, varKind, isBinder}
 use Rattle.model.proofs.BoolLaws.{by-cases, and-left}
-use Rattle.script.specs.Walk.{withBound, arity, inner, firstAt, secondAt, thirdAt, exprAt}
+use Rattle.records.specs.Walk.{withBound, arity, inner, firstAt, secondAt, thirdAt, exprAt}
 use Rattle.script.specs.Accepted.{Accepted, RecordFits}
 use Rattle.script.proofs.AcceptedLaws.{accepted-record}
 use Rattle.script.proofs.FieldLaws.{document-number, variable-number, step-axis, step-test}
-use Rattle.emission.specs.Positions.{emit}
-use Rattle.emission.specs.Positions as positions
-use Rattle.emission.specs.Words.{entriesIn}
+use Rattle.positions.specs.Positions.{emit}
+use Rattle.positions.specs.Positions as positions
+use Rattle.positions.specs.Words.{entriesIn}
 use Rattle.emission.specs.Emitting.{recordsOf, outOf, nullaryOf, unaryOf, binaryOf, PairedPre, UnaryPre, Grown}
 use Rattle.emission.specs.Emitting.{NullaryPre, NullaryPost, BindPre, BindPost, EmitPre, EmitPost}
 use Rattle.emission.specs.declared.emit.Emitted.{Emitted}

@@ -9,10 +9,10 @@ use Rattle.model.specs.Base.{pick}
 use Rattle.model.specs.Limits.{maxBinders}
 use Rattle.model.specs.Script.{Expr, nil, document, var, step, both, letIn, forIn, ifIn, element, leaf, delete, insert, choose, stepBy}
 use Rattle.model.specs.Script.{documentKind, varKind, stepKind, bothKind, deleteKind, insertKind, isBinder, bodySize}
-use Rattle.script.specs.Walk.{withBound, inner, endAt, exprAt}
+use Rattle.records.specs.Walk.{withBound, inner, endAt, exprAt}
 use Rattle.script.specs.Accepted.{Accepted}
-use Rattle.emission.specs.Positions as positions
-use Rattle.emission.specs.Words.{entriesIn}
+use Rattle.positions.specs.Positions as positions
+use Rattle.positions.specs.Words.{entriesIn}
 use Rattle.meeting.specs.Pairs.{maxPositions}
 use Rattle.meeting.specs.declared.cells.Step.{Step}
 use Rattle.emission.specs.declared.emit.Emitted.{Emitted}

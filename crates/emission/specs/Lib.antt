@@ -1,4 +1,1 @@
-pub mod Positions
-pub mod Sources
-pub mod Words
 pub mod Emitting

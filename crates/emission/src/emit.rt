@@ -1,16 +1,14 @@
 // Emission: one pass over an accepted script in place numbers the positions of its expressions, operands first.
 ghost use mathlib.Core.Path.{_≡_};
 ghost use Rattle.model.specs.Paths.{anyBelow};
-ghost use Rattle.emission.specs.Positions.{pushStep, pushUnion, pushDelete, pushInsert};
+ghost use Rattle.positions.specs.Positions.{pushStep, pushUnion, pushDelete, pushInsert};
 ghost use Rattle.meeting.specs.Codes.{stepOf};
 ghost use Rattle.emission.specs.Emitting.{outOf, unaryOf, binaryOf, GrowPre, StepPre, PairedPre, UnaryPre, Grown, BindPre, BindPost};
-ghost use Rattle.emission.specs.Emitting.{BelowPre, BelowPost};
-ghost use Rattle.emission.specs.Emitting.{NullaryPre, NullaryPost};
-ghost use Rattle.emission.specs.Emitting.{EmitPre, EmitPost};
-use crate::positions;
-use crate::positions::Position;
+ghost use Rattle.emission.specs.Emitting.{BelowPre, BelowPost, NullaryPre, NullaryPost, EmitPre, EmitPost};
 use meeting::cells::Step;
-use script::kinds;
+use positions::packed;
+use positions::packed::Position;
+use records::kinds;
 use table::Table;
 use table::number;
 
@@ -41,11 +39,7 @@ fn step(words: &mut [usize], s: Step, x: Emitted) -> Emitted
         return x;
     }
     let count = x.count;
-    positions::push(
-        words,
-        count,
-        Position::over(positions::ACCESSED, s, x.result),
-    );
+    packed::push(words, count, Position::over(packed::ACCESSED, s, x.result));
     Emitted {
         result: count,
         count: count + 1,
@@ -69,10 +63,10 @@ fn union(words: &mut [usize], first: usize, y: Emitted) -> Emitted
             place: y.place,
         };
     }
-    positions::push(
+    packed::push(
         words,
         count,
-        Position::union(positions::PLAIN, first, y.result),
+        Position::union(packed::PLAIN, first, y.result),
     );
     Emitted {
         result: count,
@@ -90,15 +84,15 @@ fn delete(words: &mut [usize], x: Emitted) -> Emitted
         return x;
     }
     let count = x.count;
-    positions::push(
+    packed::push(
         words,
         count,
-        Position::over(positions::PLAIN, any_below(), x.result),
+        Position::over(packed::PLAIN, any_below(), x.result),
     );
-    positions::push(
+    packed::push(
         words,
         count + 1,
-        Position::union(positions::MODIFIED, x.result, count),
+        Position::union(packed::MODIFIED, x.result, count),
     );
     Emitted {
         result: 0,
@@ -115,7 +109,7 @@ fn below(words: &mut [usize], count: usize, mark: usize, operand: usize) -> usiz
     if operand == 0 {
         return count;
     }
-    positions::push(words, count, Position::over(mark, any_below(), operand));
+    packed::push(words, count, Position::over(mark, any_below(), operand));
     count + 1
 }
 
@@ -124,8 +118,8 @@ fn insert(words: &mut [usize], first: usize, y: Emitted) -> Emitted
     requires { ⌜ PairedPre (now words) first y ⌝ }
     ensures { λ r. ⌜ Grown (pushInsert first (outOf (now (words .entry)) y)) y (now (words .exit)) r ⌝ }
 {
-    let read = below(words, y.count, positions::ACCESSED, first);
-    let count = below(words, read, positions::MODIFIED, y.result);
+    let read = below(words, y.count, packed::ACCESSED, first);
+    let count = below(words, read, packed::MODIFIED, y.result);
     Emitted {
         result: 0,
         count,
@@ -147,7 +141,7 @@ fn nullary(
 {
     let kind = bytes[at];
     if kind == kinds::DOCUMENT {
-        positions::push(words, count, Position::root(number::byte(bytes[at + 1])));
+        packed::push(words, count, Position::root(number::byte(bytes[at + 1])));
         return Emitted {
             result: count,
             count: count + 1,

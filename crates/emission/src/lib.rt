@@ -1,3 +1,2 @@
-// Positions: the paths that a script accesses and modifies, numbered in one pass over its bytes.
+// The positions that a script accesses and modifies, emitted in one pass over its bytes.
 pub mod emit;
-pub mod positions;

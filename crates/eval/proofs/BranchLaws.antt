@@ -9,7 +9,7 @@ use borrow.Author.Tests.{eq-eqb, ne-eqb}
 use Rattle.model.specs.Base.{pick}
 use Rattle.model.specs.Run.{State, Out, andThen, run}
 use Rattle.model.proofs.BoolLaws.{pick-true, pick-false}
-use Rattle.script.specs.Walk.{endAt, secondAt, thirdAt, exprAt}
+use Rattle.records.specs.Walk.{endAt, secondAt, thirdAt, exprAt}
 use Rattle.script.proofs.AcceptedLaws.{accepted-at}
 use Rattle.updates.specs.State.{stateOf}
 use Rattle.query.specs.Values.{valueAt}

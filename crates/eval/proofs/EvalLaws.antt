@@ -8,7 +8,7 @@ use lib.ListN.{getD}
 use Rattle.model.specs.Script.{isBinder}
 use Rattle.model.specs.Run.{State, Out, andThen, loop, run, AreRows}
 use Rattle.model.proofs.ValueLaws.{areRows-more}
-use Rattle.script.specs.Walk.{withBound, arity, inner, endAt, firstAt, secondAt, exprAt}
+use Rattle.records.specs.Walk.{withBound, arity, inner, endAt, firstAt, secondAt, exprAt}
 use Rattle.script.specs.Accepted.{Accepted, RecordFits}
 use Rattle.script.proofs.AcceptedLaws.{accepted-record, accepted-at}
 use Rattle.script.proofs.FieldLaws.{step-axis}

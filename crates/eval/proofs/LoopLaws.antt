@@ -13,7 +13,7 @@ use Rattle.model.specs.Script.{isBinder}
 use Rattle.model.specs.Run.{State, Out, stop, gives, andThen, joinItems, joinFor, loop, run, AreRows}
 use Rattle.model.proofs.ValueLaws.{areRows-more}
 use Rattle.model.proofs.All.{all-front, all-back}
-use Rattle.script.specs.Walk.{inner, endAt, secondAt, exprAt}
+use Rattle.records.specs.Walk.{inner, endAt, secondAt, exprAt}
 use Rattle.script.proofs.AcceptedLaws.{accepted-record, accepted-at}
 use Rattle.updates.specs.State.{stateOf}
 use Rattle.query.specs.Values.{valueAt}

@@ -7,7 +7,7 @@ use lib.ListN.{length, getD}
 use Rattle.model.specs.Base.{pick}
 use Rattle.model.specs.Script.{Expr, step, both, letIn, delete, insert, choose, stepBy}
 use Rattle.model.specs.Run.{State, Out, stop, gives, andThen, loop, run}
-use Rattle.script.specs.Walk.{withBound, arity, inner, endAt, firstAt, secondAt, thirdAt, exprAt}
+use Rattle.records.specs.Walk.{withBound, arity, inner, endAt, firstAt, secondAt, thirdAt, exprAt}
 use Rattle.script.specs.Accepted.{Accepted, RecordFits, Unary, Binary}
 use Rattle.script.proofs.KindLaws.{unary-kind, binary-kind}
 use Rattle.script.proofs.AcceptedLaws.{accepted-record, accepted-step, accepted-delete, accepted-pick, accepted-join, accepted-let}

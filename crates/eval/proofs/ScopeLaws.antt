@@ -14,12 +14,12 @@ use Rattle.model.proofs.BoolLaws.{by-cases}
 use Rattle.model.proofs.ValueLaws.{areValues-more}
 use Rattle.model.proofs.All.{all-snoc}
 use Rattle.model.specs.Run.{AreRows, AreValues}
-use Rattle.script.specs.Walk.{withBound, inner}
+use Rattle.records.specs.Walk.{withBound, inner}
 use Rattle.query.specs.Values.{valueAt}
 use Rattle.operators.specs.Evaluating.{noSpan, spanOf, spanValue, boundValues, SpanFits, InScope, BindPost, MarksHeld}
 use Rattle.operators.specs.declared.value.Span.{Span}
 use Rattle.operators.proofs.ValueLaws.{value-same}
-use Rattle.script.proofs.BindLaws.{inner-more, inner-same}
+use Rattle.records.proofs.BindLaws.{inner-more, inner-same}
 
 -- MARKS stay within a table that grows
 pub marks-more : {ms : List ℕ} {c d : ℕ} → MarksHeld ms c → c ≤ d → MarksHeld ms d

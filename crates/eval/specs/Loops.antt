@@ -4,7 +4,7 @@ use Prim.Native.Nat.{ℕ, _+_, _≤_, _<_}
 use lib.ListN.{length}
 use Rattle.model.specs.Limits.{maxItems, maxBinders}
 use Rattle.model.specs.Run.{State, Out, loop, run, AreRows}
-use Rattle.script.specs.Walk.{endAt, exprAt}
+use Rattle.records.specs.Walk.{endAt, exprAt}
 use Rattle.script.specs.Accepted.{Accepted}
 use Rattle.updates.specs.State.{stateOf, Held}
 use Rattle.query.specs.Values.{valueAt}

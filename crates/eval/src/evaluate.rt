@@ -2,15 +2,15 @@
 ghost use mathlib.Core.Path.{_≡_};
 ghost use lib.ListN.{getD};
 ghost use Rattle.model.specs.Script.{ifKind, forKind};
-ghost use Rattle.script.specs.Walk.{arity};
+ghost use Rattle.records.specs.Walk.{arity};
 ghost use Rattle.operators.specs.Evaluating.{IsBinary, EvalPre, EvalPost};
 ghost use Rattle.eval.specs.Loops.{EachPre, EachPost};
 use operators::record;
 use operators::record::Evaluated;
 use operators::value;
 use operators::value::Span;
-use script::kinds;
-use script::walk;
+use records::kinds;
+use records::walk;
 use table::Table;
 use updates::state::Progress;
 

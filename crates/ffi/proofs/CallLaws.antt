@@ -7,11 +7,9 @@ use lib.Dec.{ltb, eqb}
 use lib.ListN.{length}
 use borrow.Author.Tests.{lt-ltb, le-ltb, eq-eqb, ne-eqb}
 use Rattle.model.specs.Base.{pick}
-use Rattle.script.specs.Reading.{scriptRead}
-use Rattle.table.specs.declared.Fault.{Fault}
 use Rattle.table.specs.declared.TableResult.{TableResult}
-use Rattle.ffi.specs.Calls.{readCode, readOut, writtenCode, scriptCode, undonePlan, backCode, backOut, analysisCode}
-use Rattle.lent.specs.Codes.{codeOf, lentCode}
+use Rattle.ffi.specs.Calls.{readCode, readOut, undonePlan, backCode, backOut, analysisCode}
+use Rattle.lent.specs.Codes.{codeOf, lentCode, writtenCode}
 use Rattle.paths.specs.declared.Analysis.{Analysis}
 use Rattle.plan.specs.Calls as library
 use Rattle.table.specs.declared.Written.{Written}
@@ -44,16 +42,6 @@ module _ (o b : List ℕ) (n : ℕ) (q : TableResult) where
       where
         y : q .fault .number ≡ 0
         y = ap (λ (t : TableResult). t .fault .number) (sym e) ∙ z
-
--- a script's refusal, or none
-pub script-read : (b : List ℕ) (f : Fault) (c : ℕ) → f ≡ scriptRead b → f .number ≡ 0 → c ≡ codeOf 0 0 0 → c ≡ scriptCode b
-script-read b f c e z g = g ∙ rw (sym (ap (λ (t : Fault). t .number) e) ∙ z)
-
-pub script-refused : (b : List ℕ) (f : Fault) (c : ℕ) → f ≡ scriptRead b → (f .number ≡ 0 → ⊥) → c ≡ codeOf (f .number) 2 (f .place) → c
-    ≡ scriptCode b
-script-refused b f c e z g =
-    let y : scriptRead b .number ≡ 0 → ⊥ = λ q. z (ap (λ (t : Fault). t .number) e ∙ q) in
-    g ∙ ap (λ (t : Fault). codeOf (t .number) 2 (t .place)) e ∙ rw (ne-eqb (scriptRead b .number) 0 y)
 
 -- a history's refusal, or the table taken back and written
 back-refused : (r : TableResult) (o : List ℕ) → (r .fault .number ≡ 0 → ⊥) → codeOf (r .fault .number) 2 (r .fault .place) ≡ backCode r o

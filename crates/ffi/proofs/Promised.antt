@@ -34,8 +34,8 @@ use Rattle.sweep.specs.Sweeping as sweeping
 use Rattle.table.specs.declared.TableResult.{TableResult}
 use Rattle.undo.specs.Undoing.{planUndone, undoneBy, asItWas}
 use Rattle.run.specs.Calls.{ran, resultOf}
-use Rattle.ffi.specs.Calls.{readCode, readOut, writtenCode, backCode, backOut}
-use Rattle.lent.specs.Codes.{codeOf, lentCode}
+use Rattle.ffi.specs.Calls.{readCode, readOut, backCode, backOut}
+use Rattle.lent.specs.Codes.{codeOf, lentCode, writtenCode}
 use Rattle.ffi.specs.Running.{refusedCall, ranCall, readCall, runCalled}
 use Rattle.lent.specs.Done.{isLentShort, doneOver}
 use Rattle.ffi.specs.Promise.{atFront, PlanBack, SweptBack, UndoneBack, RunDone, RunRefused}

@@ -1,28 +1,21 @@
 -- What the C calls answer and leave, for every input, from what the calls of the library answer. Assumes nothing: these are definitions.
-use mathlib.Core.Bool.{_&&_}
 use mathlib.Core.List.{List}
 use Prim.Native.Nat.{ℕ}
 use lib.Dec.{ltb, eqb}
 use lib.ListN.{length}
 use Rattle.model.specs.Base.{pick}
 use Rattle.plan.specs.Calls as library
-use Rattle.lent.specs.Codes.{codeOf, lentCode, outNeed}
-use Rattle.lent.specs.Raw.{isGiven, given}
+use Rattle.lent.specs.Codes.{codeOf, lentCode, outNeed, writtenCode}
 use Rattle.sweep.specs.Sweeping as sweeping
 use Rattle.paths.specs.Analysis.{analysed, valuesOf}
 use Rattle.paths.specs.declared.Analysis.{Analysis}
 use Rattle.undo.specs.Undoing.{planUndone}
-use Rattle.script.specs.Reading.{scriptRead}
 use Rattle.table.specs.declared.Table.{Table}
 use Rattle.table.specs.declared.TableResult.{TableResult}
-use Rattle.table.specs.declared.Written.{Written}
 
 -- the plan's own refusal, or the code of what is written
 abbrev pub readCode : TableResult → (written : ℕ) → ℕ
 readCode r n = pick (eqb (r .fault .number) 0) n (codeOf (r .fault .number) 1 (r .fault .place))
-
-abbrev pub writtenCode : Written → ℕ
-writtenCode w = codeOf (w .fault .number) 0 (w .bytes)
 
 abbrev pub readOut : TableResult → (written out : List ℕ) → List ℕ
 readOut r b o = pick (eqb (r .fault .number) 0) b o
@@ -61,38 +54,6 @@ undoCode p h o = pick (ltb (length o) outNeed) lentCode (readCode (library.planR
 
 abbrev pub undoOut : (plan history out : List ℕ) → List ℕ
 undoOut p h o = pick (ltb (length o) outNeed) o (readOut (library.planRead p) (backOut (undonePlan p h) o) o)
-
--- A TABLE GIVEN as 512 row words and 8 marks, written: an ill-formed table is the plan's refusal
-abbrev pub writeCode : (count : ℕ) → (rows marks out : List ℕ) → ℕ
-writeCode n ws ms o =
-    pick (isGiven ws ms)
-    (pick (eqb (library.planWritten (given n ws ms) o .fault .number) 6) (codeOf 6 1 0) (writtenCode (library.planWritten (given n ws ms)
-    o)))
-    lentCode
-
-abbrev pub writeOut : (count : ℕ) → (rows marks out : List ℕ) → List ℕ
-writeOut n ws ms o = pick (isGiven ws ms) (library.planOut (given n ws ms) o) o
-
--- swept in place
-abbrev pub sweptTable : (count : ℕ) → (rows marks : List ℕ) → TableResult
-sweptTable n ws ms = sweeping.planSwept (given n ws ms)
-
-abbrev pub sweptCode : (count : ℕ) → (rows marks : List ℕ) → ℕ
-sweptCode n ws ms =
-    pick (isGiven ws ms)
-    (pick (eqb (sweptTable n ws ms .fault .number) 0) (codeOf 0 0 (sweptTable n ws ms .table .count)) (codeOf (sweptTable n ws ms .fault
-    .number) 1 0))
-    lentCode
-
-abbrev pub sweptRows : (count : ℕ) → (rows marks : List ℕ) → List ℕ
-sweptRows n ws ms = pick (isGiven ws ms && eqb (sweptTable n ws ms .fault .number) 0) (sweptTable n ws ms .table .rows) ws
-
-abbrev pub sweptMarks : (count : ℕ) → (rows marks : List ℕ) → List ℕ
-sweptMarks n ws ms = pick (isGiven ws ms && eqb (sweptTable n ws ms .fault .number) 0) (sweptTable n ws ms .table .marks) ms
-
--- A SCRIPT read
-abbrev pub scriptCode : (script : List ℕ) → ℕ
-scriptCode b = pick (eqb (scriptRead b .number) 0) (codeOf 0 0 0) (codeOf (scriptRead b .number) 2 (scriptRead b .place))
 
 -- TWO SCRIPTS ANALYSED: the first refused, or 0 free, 1 upward, 2 meet as `which`
 abbrev pub analysisCode : Analysis → ℕ

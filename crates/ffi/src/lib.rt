@@ -2,20 +2,17 @@
 // number 0 where nothing is refused; which says whose refusal it is: 0 a lent area's, 1 the plan's,
 // 2 the script's, the run's or the history's.
 ghost use mathlib.Core.Path.{_≡_};
-ghost use Rattle.ffi.specs.Calls.{planCode, planOut, sweepCode, sweepOut, writeCode, writeOut};
-ghost use Rattle.ffi.specs.Calls.{sweptCode, sweptRows, sweptMarks, scriptCode, undoCode, undoOut, analyseCode};
+ghost use Rattle.ffi.specs.Calls.{planCode, planOut, sweepCode, sweepOut, undoCode, undoOut, analyseCode};
 ghost use Rattle.ffi.specs.Running.{runCalled};
 use lent::ROOM;
 use lent::answer;
 use lent::answer::AREA;
 use lent::answer::PLAN;
 use lent::answer::SCRIPT;
-use lent::copy;
 use lent::done;
 use paths::Analysis;
 use plan::write;
 use table::Fault;
-use table::Table;
 
 // Reads a plan and writes it back to out, which needs room for any plan.
 #[no_mangle]
@@ -131,70 +128,6 @@ pub extern "C" fn yegnabit_run(
     let t = read.table;
     let ran = run::run(t, script, answer, history, work);
     done::end(ran, out, done)
-}
-
-// Writes a table given as 512 row words and 8 marks: the call of the library on any table, well formed or not.
-#[no_mangle]
-pub extern "C" fn yegnabit_write_table(
-    count: usize,
-    rows: &[u32],
-    marks: &[u16],
-    out: &mut [u8],
-) -> u64
-    ensures { λ r. ⌜ r ≡ writeCode count (now (rows .entry)) (now (marks .entry)) (now (out .entry)) ⌝ }
-    ensures { λ r. ⌜ now (out .exit) ≡ writeOut count (now (rows .entry)) (now (marks .entry)) (now (out .entry)) ⌝ }
-{
-    if rows.len() != Table::ROWS {
-        return answer::code(Fault::LENT, AREA, 0);
-    }
-    if marks.len() != Table::DOCUMENTS {
-        return answer::code(Fault::LENT, AREA, 0);
-    }
-    let t = copy::table_of(count, rows, marks);
-    let written = plan::write_plan(t, out);
-    let number = written.fault.number;
-    if number == Fault::LINK {
-        return answer::code(number, PLAN, 0);
-    }
-    answer::code(number, AREA, written.bytes)
-}
-
-// Sweeps a table given as 512 row words and 8 marks, in place.
-#[no_mangle]
-pub extern "C" fn yegnabit_sweep_table(count: usize, rows: &mut [u32], marks: &mut [u16]) -> u64
-    ensures { λ r. ⌜ r ≡ sweptCode count (now (rows .entry)) (now (marks .entry)) ⌝ }
-    ensures { λ r. ⌜ now (rows .exit) ≡ sweptRows count (now (rows .entry)) (now (marks .entry)) ⌝ }
-    ensures { λ r. ⌜ now (marks .exit) ≡ sweptMarks count (now (rows .entry)) (now (marks .entry)) ⌝ }
-{
-    if rows.len() != Table::ROWS {
-        return answer::code(Fault::LENT, AREA, 0);
-    }
-    if marks.len() != Table::DOCUMENTS {
-        return answer::code(Fault::LENT, AREA, 0);
-    }
-    let t = copy::table_of(count, rows, marks);
-    let swept = sweep::sweep_table(t);
-    let number = swept.fault.number;
-    if number != 0 {
-        return answer::code(number, PLAN, 0);
-    }
-    let new_count = swept.table.count;
-    copy::put_table(swept.table, rows, marks);
-    answer::code(0, AREA, new_count)
-}
-
-// Reads a script: its refusal, or 0.
-#[no_mangle]
-pub extern "C" fn yegnabit_script(bytes: &[u8]) -> u64
-    ensures { λ r. ⌜ r ≡ scriptCode (now (bytes .entry)) ⌝ }
-{
-    let fault = script::read_script(bytes);
-    let number = fault.number;
-    let place = fault.place;
-    if number == 0 {
-        return answer::code(0, AREA, 0);
-    }
-    answer::code(number, SCRIPT, place)
 }
 
 // Analyses two scripts: a refusal is the first's, which 1, or the second's, which 2; else which is the answer: 0 free, 1 upward, 2 meet.

@@ -17,7 +17,7 @@ use Rattle.model.proofs.BoolLaws.{by-cases, pick-true, pick-false}
 use Rattle.model.proofs.GrowLaws.{count-withRow}
 use Rattle.model.proofs.All.{all-read}
 use Rattle.model.specs.Base.{nothing, also}
-use Rattle.script.specs.Walk.{arity}
+use Rattle.records.specs.Walk.{arity}
 use Rattle.script.specs.Accepted.{RecordFits, Nullary}
 use Rattle.script.proofs.KindLaws.{nullary-kind}
 use Rattle.script.proofs.AcceptedLaws.{accepted-record, accepted-nil, accepted-document, accepted-variable, accepted-element, accepted-leaf}

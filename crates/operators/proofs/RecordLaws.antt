@@ -11,7 +11,7 @@ use borrow.Author.Tests.{eq-eqb, ne-eqb, lt-ltb, le-ltb}
 use Rattle.model.specs.Script.{isBinder}
 use Rattle.model.specs.Run.{marked}
 use Rattle.model.proofs.BoolLaws.{pick-true, pick-false}
-use Rattle.script.proofs.BindLaws.{withBound-set, withBound-same}
+use Rattle.records.proofs.BindLaws.{withBound-set, withBound-same}
 use Rattle.table.specs.Words.{linked}
 use Rattle.updates.specs.State.{stopped}
 use Rattle.query.specs.Values.{Appended}

@@ -13,7 +13,7 @@ use Rattle.model.specs.Refusal.{itemsAt}
 use Rattle.model.specs.Script.{stepBy, nilKind, stepKind, deleteKind, bothKind, insertKind, forKind, pickKind, isBinder, bodySize}
 use Rattle.model.specs.Step.{stepped, picked}
 use Rattle.model.specs.Run.{State, Out, gives, cutAll, joinItems, inserted, loop, run, AreRows, AreValues}
-use Rattle.script.specs.Walk.{arity, inner, withBound, endAt, exprAt}
+use Rattle.records.specs.Walk.{arity, inner, withBound, endAt, exprAt}
 use Rattle.script.specs.Accepted.{Accepted}
 use Rattle.updates.specs.State.{stopped, stateOf, outcome, Held, After}
 use Rattle.query.specs.Values.{valueAt}

@@ -5,7 +5,7 @@ ghost use Rattle.model.specs.Run.{marked};
 ghost use Rattle.table.specs.Words.{linked};
 ghost use Rattle.query.specs.Values.{Appended, valueAt};
 ghost use Rattle.operators.specs.Evaluating.{CopyPre, BindPre, BindPost, madeValue, PutPre};
-use script::kinds;
+use records::kinds;
 use table::Table;
 use updates::state::Progress;
 

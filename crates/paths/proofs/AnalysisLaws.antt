@@ -12,23 +12,23 @@ use Rattle.model.specs.Paths.{hasUp}
 use Rattle.model.specs.Meeting.{free, upward, meet, answer}
 use Rattle.model.specs.Call.{firstBy, secondBy}
 use Rattle.table.specs.declared.Fault.{Fault}
-use Rattle.script.specs.Walk.{exprAt}
+use Rattle.records.specs.Walk.{exprAt}
 use Rattle.script.specs.Reading.{scriptRead}
 use Rattle.script.proofs.ScriptLaws.{script-accepted, script-parsed, script-ill}
-use Rattle.emission.specs.Positions.{Entry, Emitted, emit, AreLower, entriesBefore, entriesOf, pathsFrom, pathsOn}
-use Rattle.emission.specs.Sources.{positionsMeet}
-use Rattle.emission.specs.Words.{entryOf, entriesIn}
+use Rattle.positions.specs.Positions.{Entry, Emitted, emit, AreLower, entriesBefore, entriesOf, pathsFrom, pathsOn}
+use Rattle.positions.specs.Sources.{positionsMeet}
+use Rattle.positions.specs.Words.{entryOf, entriesIn}
 use Rattle.meeting.specs.Pairs.{HasRows}
 use Rattle.paths.specs.Filling.{TablePre}
-use Rattle.emission.specs.Words.{entriesBy, climbing}
+use Rattle.positions.specs.Words.{entriesBy, climbing}
 use Rattle.emission.specs.Emitting.{EmitPre, EmitPost}
 use Rattle.paths.specs.Analysis.{byAnswer, analysisOf, analysed, ScriptPre, ScriptPost, AnswerPre, AnswerPost}
 use Rattle.paths.specs.declared.Analysis.{Analysis}
 use Rattle.paths.specs.declared.Analysis.the-variants.{Refused, Free, Upward, Meet}
 use Rattle.emission.specs.declared.emit.Emitted as code
-use Rattle.emission.proofs.AnswerLaws.{emitted-right, answer-by}
-use Rattle.emission.proofs.ClimbLaws.{climbing-is}
-use Rattle.emission.proofs.WordLaws.{entriesIn-length}
+use Rattle.positions.proofs.AnswerLaws.{emitted-right, answer-by}
+use Rattle.positions.proofs.ClimbLaws.{climbing-is}
+use Rattle.positions.proofs.WordLaws.{entriesIn-length}
 use Rattle.emission.proofs.SizeLaws.{script-records}
 
 -- THE POSITIONS of an accepted script

@@ -13,19 +13,19 @@ use Rattle.model.specs.Script.{Step}
 use Rattle.model.specs.Paths.{Path}
 use Rattle.model.specs.Meeting.{Cell, joinCell, onStep, downStep, upStep, isMet}
 use Rattle.model.proofs.BoolLaws.{by-cases}
-use Rattle.emission.specs.Positions as positions
+use Rattle.positions.specs.Positions as positions
 use Rattle.meeting.specs.Cells.{noCell, sum, between, Cells}
-use Rattle.emission.specs.Sources.{Source, fromRoot, fromStep, sourcesOf, rootsCell, sourceCell}
-use Rattle.emission.specs.Sources.{sourcesCell, cellTo, cellBy, Filled, anyUpTo, isTested, meetAt, rowMeets}
+use Rattle.positions.specs.Sources.{Source, fromRoot, fromStep, sourcesOf, rootsCell, sourceCell}
+use Rattle.positions.specs.Sources.{sourcesCell, cellTo, cellBy, Filled, anyUpTo, isTested, meetAt, rowMeets}
 use Rattle.meeting.specs.Codes.{cellOf}
-use Rattle.emission.specs.Words.{stepIn, positionBy, entryBy, fieldsOf, entryOf, entriesBy}
+use Rattle.positions.specs.Words.{stepIn, positionBy, entryBy, fieldsOf, entryOf, entriesBy}
 use Rattle.meeting.specs.Pairs.{marks, HasRows, ClearPost, PairPre, MarkPost}
 use Rattle.paths.specs.Filling.{PositionsPre, CellPre, MeetPre, MeetPost}
-use Rattle.emission.specs.declared.positions.Position.{Position}
+use Rattle.positions.specs.declared.packed.Position.{Position}
 use Rattle.meeting.specs.declared.cells.Cell as declared
 use Rattle.meeting.proofs.CellLaws.{between-none, join-nothing, on-respects, down-respects, up-respects}
 use Rattle.meeting.proofs.PairLaws.{fewer-rows}
-use Rattle.emission.proofs.PositionLaws.{one-source, no-source, cell-by}
+use Rattle.positions.proofs.PositionLaws.{one-source, no-source, cell-by}
 
 -- THE KIND of a position
 module _ (p : Position) where

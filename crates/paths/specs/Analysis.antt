@@ -8,10 +8,10 @@ use Rattle.model.specs.Script.{Expr}
 use Rattle.model.specs.Meeting.{Answer, free, upward, meet, answer}
 use Rattle.model.specs.Call as model
 use Rattle.table.specs.Results.{faultOf}
-use Rattle.script.specs.Walk.{exprAt}
+use Rattle.records.specs.Walk.{exprAt}
 use Rattle.script.specs.Reading.{scriptRead}
-use Rattle.emission.specs.Positions.{entriesOf, AreLower, pathsOn}
-use Rattle.emission.specs.Words.{entriesIn}
+use Rattle.positions.specs.Positions.{entriesOf, AreLower, pathsOn}
+use Rattle.positions.specs.Words.{entriesIn}
 use Rattle.meeting.specs.Pairs.{maxPositions, HasRows}
 use Rattle.paths.specs.declared.Analysis.{Analysis}
 use Rattle.paths.specs.declared.Analysis.the-variants.{Refused, Free, Upward, Meet}

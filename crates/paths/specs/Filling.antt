@@ -4,11 +4,11 @@ use mathlib.Core.Bool.{Bool, false}
 use mathlib.Core.List.{List, []}
 use Prim.Native.Nat.{ℕ, _+_, _≤_, _<_}
 use lib.ListN.{length, getD}
-use Rattle.emission.specs.Positions.{IsLower, AreLower, pathsOn}
-use Rattle.emission.specs.Sources.{Filled, meetAt, rowMeets}
-use Rattle.emission.specs.Words.{positionBy, fieldsOf, entriesBy}
+use Rattle.positions.specs.Positions.{IsLower, AreLower, pathsOn}
+use Rattle.positions.specs.Sources.{Filled, meetAt, rowMeets}
+use Rattle.positions.specs.Words.{positionBy, fieldsOf, entriesBy}
 use Rattle.meeting.specs.Pairs.{maxPositions, marks, HasRows}
-use Rattle.emission.specs.declared.positions.Position.{Position}
+use Rattle.positions.specs.declared.packed.Position.{Position}
 
 -- few enough positions, each over lower ones; position 0 is nothing
 pub record PositionsPre (ws : List ℕ) : Type 0 where

@@ -1,20 +1,17 @@
 // Whether the positions of two scripts meet: fills the table of pairs row by row, each cell from those of lower pairs.
 ghost use mathlib.Core.Path.{_≡_};
-ghost use Rattle.emission.specs.Sources.{sourcesOf, sourcesCell, cellBy, isTested, positionsMeet};
+ghost use Rattle.positions.specs.Sources.{sourcesOf, sourcesCell, cellBy, isTested, positionsMeet};
 ghost use Rattle.meeting.specs.Codes.{stepOf, cellOf};
-ghost use Rattle.emission.specs.Words.{positionBy, entryBy, stepIn, rootSource, stepSource};
+ghost use Rattle.positions.specs.Words.{positionBy, entryBy, stepIn, rootSource, stepSource, entriesBy, climbing};
 ghost use mathlib.Core.List.{[], _∷_};
 ghost use Rattle.meeting.specs.Pairs.{marks};
-ghost use Rattle.paths.specs.Filling.{CellPre, FromStepPre, MeetPre, MeetPost, RowPre, RowPost, TablePre};
-ghost use Rattle.emission.specs.Words.{entriesBy};
-ghost use Rattle.paths.specs.Filling.{UnionRowPre, UnionRowPost};
-ghost use Rattle.emission.specs.Words.{climbing};
-use emission::positions;
-use emission::positions::Position;
+ghost use Rattle.paths.specs.Filling.{CellPre, FromStepPre, MeetPre, MeetPost, RowPre, RowPost, TablePre, UnionRowPre, UnionRowPost};
 use meeting::cells::Cell;
 use meeting::cells::Step;
 use meeting::pairs;
 use meeting::pairs::Marks;
+use positions::packed;
+use positions::packed::Position;
 
 // Some position leads up.
 pub fn climbs(words: &[usize]) -> bool
@@ -46,10 +43,10 @@ fn from_root(table: &[Marks], k: usize, l: usize, p: Position, q: Position) -> C
     requires { ⌜ CellPre (now table) k l p q ⌝ }
     ensures { λ r. ⌜ cellOf r ≡ sourcesCell k l (marks (now (table .entry))) (rootSource p ∷ []) (sourcesOf (positionBy q)) ⌝ }
 {
-    if q.kind == positions::ROOT {
+    if q.kind == packed::ROOT {
         return Cell::roots(p.name, q.name);
     }
-    if q.kind == positions::OVER {
+    if q.kind == packed::OVER {
         return pairs::marked(table, k, q.first).up_step(step_of(q));
     }
     Cell::none()
@@ -60,10 +57,10 @@ fn from_step(table: &[Marks], k: usize, l: usize, p: Position, q: Position) -> C
     requires { ⌜ FromStepPre (now table) k l p q ⌝ }
     ensures { λ r. ⌜ cellOf r ≡ sourcesCell k l (marks (now (table .entry))) (stepSource p ∷ []) (sourcesOf (positionBy q)) ⌝ }
 {
-    if q.kind == positions::ROOT {
+    if q.kind == packed::ROOT {
         return pairs::marked(table, p.first, l).down_step(step_of(p));
     }
-    if q.kind == positions::OVER {
+    if q.kind == packed::OVER {
         let both = pairs::marked(table, p.first, q.first);
         let first = pairs::marked(table, p.first, l);
         let second = pairs::marked(table, k, q.first);
@@ -83,16 +80,16 @@ fn cell(table: &[Marks], k: usize, l: usize, p: Position, q: Position) -> Cell
     requires { ⌜ CellPre (now table) k l p q ⌝ }
     ensures { λ r. ⌜ cellOf r ≡ cellBy k l (marks (now (table .entry))) (positionBy p) (positionBy q) ⌝ }
 {
-    if p.kind == positions::UNION {
+    if p.kind == packed::UNION {
         return pairs::marked(table, p.first, l).join(pairs::marked(table, p.second, l));
     }
-    if q.kind == positions::UNION {
+    if q.kind == packed::UNION {
         return pairs::marked(table, k, q.first).join(pairs::marked(table, k, q.second));
     }
-    if p.kind == positions::ROOT {
+    if p.kind == packed::ROOT {
         return from_root(table, k, l, p, q);
     }
-    if p.kind == positions::OVER {
+    if p.kind == packed::OVER {
         return from_step(table, k, l, p, q);
     }
     Cell::none()
@@ -102,8 +99,8 @@ fn cell(table: &[Marks], k: usize, l: usize, p: Position, q: Position) -> Cell
 fn is_tested(p: Position, q: Position) -> bool
     ensures { λ r. ⌜ r ≡ isTested (entryBy p) (entryBy q) ⌝ }
 {
-    ((p.mark == positions::MODIFIED) & (q.mark == positions::ACCESSED))
-        | ((p.mark == positions::ACCESSED) & (q.mark == positions::MODIFIED))
+    ((p.mark == packed::MODIFIED) & (q.mark == packed::ACCESSED))
+        | ((p.mark == packed::ACCESSED) & (q.mark == packed::MODIFIED))
 }
 
 // Fills in the pair k, l, p being position k, and says whether it meets.
@@ -144,7 +141,7 @@ fn row(first: &[usize], second: &[usize], table: &mut [Marks], k: usize) -> bool
     ensures { λ r. ⌜ RowPost (now (first .entry)) (now (second .entry)) k (now (table .exit)) r ⌝ }
 {
     let p = Position::unpacked(first[k]);
-    if (p.kind == positions::UNION) & (p.mark == positions::PLAIN) {
+    if (p.kind == packed::UNION) & (p.mark == packed::PLAIN) {
         union_row(first, second, table, k, p);
         return false;
     }

@@ -16,7 +16,7 @@ use Rattle.model.specs.History.{Record, historyBytes, AllInRange, times, isCut}
 use Rattle.model.specs.Run.{Out, stop, gives, run}
 use Rattle.model.specs.Call.{Ran, filled, countKind, areasFit, ranBy, refusedRun, runBy}
 use Rattle.model.proofs.BoolLaws.{one, by-cases, pick-true, pick-false, and-left, and-right, and-both}
-use Rattle.script.specs.Walk.{endAt, exprAt}
+use Rattle.records.specs.Walk.{endAt, exprAt}
 use Rattle.script.specs.Reading.{scriptRead}
 use Rattle.script.proofs.ScriptLaws.{script-accepted, script-parsed, script-ill}
 use Rattle.table.specs.Words.{linked, encode, decode, decodeParts, fits}

@@ -8,10 +8,10 @@ use lib.ListN.{getD}
 use Rattle.model.specs.Script.{Expr, nil, document, var, step, both, letIn, forIn, ifIn, element, leaf, delete, insert, choose, stepBy}
 use Rattle.model.specs.Script.{nilKind, documentKind, varKind, stepKind, bothKind, letKind, forKind, ifKind}
 use Rattle.model.specs.Script.{newElementKind, newLeafKind, deleteKind, insertKind, pickKind, parsed}
-use Rattle.script.specs.Walk.{arity, inner, past, endAt, firstAt, secondAt, thirdAt, exprOf, exprAt}
+use Rattle.records.specs.Walk.{arity, inner, past, endAt, firstAt, secondAt, thirdAt, exprOf, exprAt}
 use Rattle.script.specs.Reading.{parseAt}
 use Rattle.script.specs.Accepted.{Accepted, RecordFits, Nullary, Unary, Binary, Ternary}
-use Rattle.script.proofs.WalkLaws.{past-none}
+use Rattle.records.proofs.WalkLaws.{past-none}
 use Rattle.script.proofs.ParseLaws.{afterFirst, afterSecond, Then}
 use Rattle.script.proofs.PlaceLaws.{Reads, Known, reads, reads-end, accepted-fits, pending}
 use Rattle.script.proofs.PlaceLaws.{first-operand, first-reads, second-operand, second-reads, third-operand}

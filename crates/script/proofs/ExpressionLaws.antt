@@ -8,7 +8,7 @@ use lib.ListN.{length, getD, take, drop}
 use Rattle.model.specs.Refusal.{isFine, faultAt}
 use Rattle.model.specs.Script.{Expr, nil, Parsed, ill, parsed, thenParse, exprFault}
 use Rattle.model.proofs.ListLaws.{drop-all}
-use Rattle.script.specs.Walk.{arity, inner, firstAt, secondAt, thirdAt, exprOf, exprAt}
+use Rattle.records.specs.Walk.{arity, inner, firstAt, secondAt, thirdAt, exprOf, exprAt}
 use Rattle.script.specs.Reading.{parseAt, endOf, expressionRead, HeadPost, ExpressionPre, ExpressionPost}
 use Rattle.script.specs.Accepted.{RecordFits}
 use Rattle.script.specs.declared.read.End.{End}

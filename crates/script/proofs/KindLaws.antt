@@ -2,7 +2,7 @@
 use mathlib.Core.Path.{_≡_, ap, refl, sym, _∙_}
 use Prim.Native.Nat.{ℕ, _≤_}
 use native.Mathlib.Omega.{arith}
-use Rattle.script.specs.Walk.{arity}
+use Rattle.records.specs.Walk.{arity}
 use Rattle.script.proofs.ParseLaws.{by-kind}
 
 -- by arity: the operands of m are q, not n

@@ -1,4 +1,3 @@
-pub mod WalkLaws
 pub mod HeadLaws
 pub mod ParseLaws
 pub mod PlaceLaws
@@ -8,4 +7,3 @@ pub mod ScriptLaws
 pub mod AcceptedLaws
 pub mod FieldLaws
 pub mod KindLaws
-pub mod BindLaws

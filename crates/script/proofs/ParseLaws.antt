@@ -13,7 +13,7 @@ use Rattle.model.specs.Refusal.{Fault, fault, isFine, faultAt}
 use Rattle.model.specs.Script.{Expr, Parsed, ill, parsed, thenParse, operands, parseFrom, exprFault, bodySize}
 use Rattle.model.proofs.ListLaws.{drop-first}
 use Rattle.model.proofs.BoolLaws.{by-cases}
-use Rattle.script.specs.Walk.{arity, inner, firstAt, secondAt, thirdAt, exprOf, exprAt}
+use Rattle.records.specs.Walk.{arity, inner, firstAt, secondAt, thirdAt, exprOf, exprAt}
 use Rattle.script.specs.Reading.{parseAt}
 use Rattle.script.specs.Accepted.{RecordFits}
 use Rattle.script.proofs.HeadLaws.{fine-fits}

@@ -11,10 +11,10 @@ use Rattle.model.specs.Base.{pick}
 use Rattle.model.specs.Script.{stepKind, bothKind, letKind, forKind, ifKind, deleteKind, insertKind, pickKind}
 use Rattle.model.specs.Script.{Expr, parsed, thenParse, bodySize}
 use Rattle.model.proofs.BoolLaws.{by-cases}
-use Rattle.script.specs.Walk.{arity, inner, past, endAt, firstAt, secondAt, thirdAt, exprOf, exprAt}
+use Rattle.records.specs.Walk.{arity, inner, past, endAt, firstAt, secondAt, thirdAt, exprOf, exprAt}
 use Rattle.script.specs.Reading.{parseAt}
 use Rattle.script.specs.Accepted.{RecordFits}
-use Rattle.script.proofs.WalkLaws.{past-record, past-none}
+use Rattle.records.proofs.WalkLaws.{past-record, past-none}
 use Rattle.script.proofs.HeadLaws.{fine-fits}
 use Rattle.script.proofs.ParseLaws.{below, reader, afterRecord, afterFirst, afterSecond, afterThird}
 use Rattle.script.proofs.ParseLaws.{after-none, after-record, after-one, after-first, after-two, after-second}

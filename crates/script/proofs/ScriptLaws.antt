@@ -13,7 +13,7 @@ use Rattle.model.specs.Script.{Expr, Parsed, ill, parsed, whole, readScript, fa
 use Rattle.model.proofs.BoolLaws.{by-cases}
 use Rattle.table.specs.Results.{faultOf}
 use Rattle.table.specs.declared.Fault.{Fault}
-use Rattle.script.specs.Walk.{exprAt}
+use Rattle.records.specs.Walk.{exprAt}
 use Rattle.script.specs.Reading.{scriptRead, parseAt, endOf, ExpressionPost}
 use Rattle.script.specs.Accepted.{Accepted}
 use Rattle.script.specs.declared.read.End.{End}

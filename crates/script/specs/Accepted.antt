@@ -6,7 +6,7 @@ use Prim.Native.Nat.{ℕ, _+_, _-_, _≤_, _<_}
 use lib.ListN.{length, getD, drop}
 use Rattle.model.specs.Limits.{maxDepth, maxBinders}
 use Rattle.model.specs.Script.{Expr, parsed, nilKind, pickKind, bodySize, bodyFits, isBinder}
-use Rattle.script.specs.Walk.{endAt, firstAt, secondAt, thirdAt, exprAt}
+use Rattle.records.specs.Walk.{endAt, firstAt, secondAt, thirdAt, exprAt}
 use Rattle.script.specs.Reading.{parseAt}
 
 -- the expression at a place is accepted, `left` deep at most, with so many variables bound; `records` stand before it

@@ -4,9 +4,7 @@ ghost use Rattle.script.specs.Reading.{scriptRead};
 use table::Fault;
 use table::Table;
 
-pub mod kinds;
 mod read;
-pub mod walk;
 
 // The refusal of a script, or number and place 0 where it is accepted: 3, bytes after the whole, comes last.
 pub fn read_script(bytes: &[u8]) -> Fault

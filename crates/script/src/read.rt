@@ -5,7 +5,7 @@ ghost use lib.Dec.{leb};
 ghost use Rattle.model.specs.Limits.{maxBinders};
 ghost use Rattle.model.specs.Script.{isBinder, testFits};
 ghost use Rattle.script.specs.Reading.{BodyPre, BodyPost, HeadPost, ExpressionPre, ExpressionPost};
-use crate::kinds;
+use records::kinds;
 use table::Fault;
 use table::Table;
 use table::number;

@@ -2,7 +2,7 @@
 use Rattle.ffi.proofs.FittingLaws.{bytes-known, read-fits}
 use Rattle.table.specs.Words.{fits}
 use Rattle.ffi.proofs.CallLaws.{area-short, plan-refused, plan-done}
-use Rattle.ffi.specs.Calls.{writtenCode}
+use Rattle.lent.specs.Codes.{writtenCode}
 use Rattle.table.specs.declared.TableResult.{TableResult}
 use Rattle.plan.specs.Calls as library
 use mathlib.Core.Path.{_∙_, ap}

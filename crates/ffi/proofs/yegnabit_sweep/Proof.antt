@@ -2,7 +2,8 @@
 use Rattle.ffi.proofs.FittingLaws.{bytes-known, read-fits, swept-fits}
 use Rattle.table.specs.Words.{fits}
 use Rattle.ffi.proofs.CallLaws.{area-short, plan-refused, plan-done}
-use Rattle.ffi.specs.Calls.{writtenCode, sweptPlan}
+use Rattle.ffi.specs.Calls.{sweptPlan}
+use Rattle.lent.specs.Codes.{writtenCode}
 use Rattle.table.specs.declared.TableResult.{TableResult}
 use Rattle.table.specs.declared.Table.{Table}
 use Rattle.plan.specs.Calls as library

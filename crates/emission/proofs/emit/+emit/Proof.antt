@@ -2,7 +2,7 @@
 use mathlib.Core.Path.{ap, sym, _∙_}
 use native.Mathlib.Omega.{arith}
 use lib.ListN.{getD}
-use Rattle.script.specs.Walk.{arity}
+use Rattle.records.specs.Walk.{arity}
 use Rattle.script.proofs.AcceptedLaws.{accepted-record}
 use Rattle.emission.proofs.WalkLaws.{nullary-asks, nullary-emits, first-asks, unary-asks, unary-emits, bind-asks, second-asks}
 use Rattle.emission.proofs.WalkLaws.{binary-asks}
@@ -16,12 +16,12 @@ use Rattle.emission.proofs.emit.emit.Kinds as emit-kinds
 use Rattle.emission.proofs.emit.+emit.Lts-emit as emit-lts
 use Rattle.emission.proofs.emit.binary.Reads as binary-reads
 use Rattle.emission.proofs.emit.bind.Reads as bind-reads
-use Rattle.script.proofs.kinds.inner.Reads as inner-reads
+use Rattle.records.proofs.kinds.inner.Reads as inner-reads
 use Rattle.emission.proofs.emit.nullary.Reads as nullary-reads
 use Rattle.emission.proofs.emit.unary.Reads as unary-reads
 use Rattle.emission.proofs.emit.union.Reads as union-reads
-use Rattle.script.proofs.kinds.arity.Reads as arity-reads
-use Rattle.script.proofs.kinds.body_size.Reads as body-size-reads
+use Rattle.records.proofs.kinds.arity.Reads as arity-reads
+use Rattle.records.proofs.kinds.body_size.Reads as body-size-reads
 use Rattle.emission.proofs.emit.+emit.{statement}
 use Rattle.emission.proofs.emit.+emit.Tie.{close}
 

@@ -4,9 +4,9 @@ use mathlib.Core.Bool.{false}
 use Prim.Native.Nat.{_-_, _≤_}
 use native.Mathlib.Omega.{arith}
 use lib.ListN.{length}
-use Rattle.emission.specs.Sources.{anyUpTo}
-use Rattle.emission.specs.Words.{climbAt}
-use Rattle.emission.proofs.ClimbLaws.{climb-at}
+use Rattle.positions.specs.Sources.{anyUpTo}
+use Rattle.positions.specs.Words.{climbAt}
+use Rattle.positions.proofs.ClimbLaws.{climb-at}
 use Rattle.paths.proofs.FillLaws.{any-none, any-next, any-found}
 use borrow.Author.Needs.{needs}
 use Rattle.paths.proofs.meet.climbs.Statement.{statement}

@@ -1,5 +1,5 @@
 -- `meet::from_root` by the second position's kind: one law of FillLaws for each way out.
-use Rattle.emission.specs.Sources.{fromRoot}
+use Rattle.positions.specs.Sources.{fromRoot}
 use Rattle.meeting.specs.Codes.{stepOf, cellOf}
 use Rattle.meeting.specs.Pairs.{marks}
 use Rattle.paths.proofs.FillLaws.{over-lower, row-asks, root-root, root-step, to-nothing}

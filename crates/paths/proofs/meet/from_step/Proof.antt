@@ -1,8 +1,8 @@
 -- `meet::from_step` by the second position's kind: one law of FillLaws for each way out.
 use native.Mathlib.Omega.{arith}
-use Rattle.emission.specs.Sources.{fromStep}
+use Rattle.positions.specs.Sources.{fromStep}
 use Rattle.meeting.specs.Codes.{stepOf, cellOf}
-use Rattle.emission.specs.Words.{stepIn}
+use Rattle.positions.specs.Words.{stepIn}
 use Rattle.meeting.specs.Pairs.{marks}
 use Rattle.paths.proofs.FillLaws.{over-lower, row-asks, lower-asks, step-root, step-step, step-none, to-nothing}
 use borrow.Author.Needs.{needs}

@@ -5,10 +5,10 @@ use mathlib.Core.List.{List}
 use Prim.Native.Nat.{ℕ, _-_, _≤_}
 use native.Mathlib.Omega.{arith}
 use lib.ListN.{length, length-map}
-use Rattle.emission.specs.Sources.{Filled, rowMeets, anyUpTo}
-use Rattle.emission.specs.Words.{entryOf}
+use Rattle.positions.specs.Sources.{Filled, rowMeets, anyUpTo}
+use Rattle.positions.specs.Words.{entryOf}
 use Rattle.meeting.specs.Pairs.{marks, HasRows}
-use Rattle.emission.specs.Words.{entriesBy}
+use Rattle.positions.specs.Words.{entriesBy}
 use Rattle.paths.proofs.FillLaws.{any-one, any-next, any-found, first-nothing, none-filled}
 use borrow.Author.Needs.{needs}
 use Rattle.paths.proofs.meet.positions_meet.Statement.{statement}

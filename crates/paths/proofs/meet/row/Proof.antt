@@ -7,10 +7,10 @@ use lib.Dec.{eqb}
 use lib.ListN.{length, length-map}
 use borrow.Author.Tests.{eqb-true}
 use Rattle.model.proofs.BoolLaws.{and-left, and-right}
-use Rattle.emission.specs.Sources.{Filled, meetAt, rowMeets}
-use Rattle.emission.specs.Words.{entryOf}
+use Rattle.positions.specs.Sources.{Filled, meetAt, rowMeets}
+use Rattle.positions.specs.Words.{entryOf}
 use Rattle.meeting.specs.Pairs.{marks, HasRows}
-use Rattle.emission.specs.Words.{entriesBy}
+use Rattle.positions.specs.Words.{entriesBy}
 use Rattle.paths.proofs.FillLaws.{any-one, any-next, any-found, plain-row, second-nothing, row-started, row-filled}
 use borrow.Author.Needs.{needs}
 use Rattle.paths.proofs.meet.row.Statement.{statement}

@@ -3,10 +3,10 @@ use mathlib.Core.Path.{_≡_, refl, _∙_}
 use Prim.Native.Nat.{_-_, _≤_}
 use native.Mathlib.Omega.{arith}
 use lib.ListN.{length}
-use Rattle.emission.specs.Sources.{Filled}
+use Rattle.positions.specs.Sources.{Filled}
 use Rattle.meeting.specs.Codes.{cellOf}
 use Rattle.meeting.specs.Pairs.{marks, HasRows}
-use Rattle.emission.specs.Words.{entriesBy}
+use Rattle.positions.specs.Words.{entriesBy}
 use Rattle.paths.proofs.FillLaws.{part-asks, union-asks, union-filled, row-started, row-filled}
 use borrow.Author.Needs.{needs}
 use Rattle.paths.proofs.meet.union_row.Statement.{statement}

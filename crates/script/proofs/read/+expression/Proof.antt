@@ -12,10 +12,10 @@ use borrow.Fn.PlainCycle.{Measures, is, falls, and}
 use Rattle.script.proofs.read.expression.Reads as expression
 use Rattle.script.proofs.read.expression.Kinds as expression-kinds
 use Rattle.script.proofs.read.+expression.Lts-expression as expression-lts
-use Rattle.script.proofs.kinds.arity.Reads as arity-reads
-use Rattle.script.proofs.kinds.body_size.Reads as body-size-reads
+use Rattle.records.proofs.kinds.arity.Reads as arity-reads
+use Rattle.records.proofs.kinds.body_size.Reads as body-size-reads
 use Rattle.script.proofs.read.head.Reads as head-reads
-use Rattle.script.proofs.kinds.inner.Reads as inner-reads
+use Rattle.records.proofs.kinds.inner.Reads as inner-reads
 use Rattle.script.proofs.read.+expression.{statement}
 use Rattle.script.proofs.read.+expression.Tie.{close}
 

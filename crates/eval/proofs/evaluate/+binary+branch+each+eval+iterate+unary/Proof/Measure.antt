@@ -26,10 +26,10 @@ use Rattle.operators.proofs.record.limited.Reads as limited-reads
 use Rattle.operators.proofs.record.nullary.Reads as nullary-reads
 use Rattle.operators.proofs.record.past.Reads as past-reads
 use Rattle.operators.proofs.value.bind.Reads as bind-reads
-use Rattle.script.proofs.kinds.arity.Reads as arity-reads
-use Rattle.script.proofs.kinds.body_size.Reads as body-size-reads
-use Rattle.script.proofs.kinds.inner.Reads as inner-reads
-use Rattle.script.proofs.walk.end_at.Reads as end-at-reads
+use Rattle.records.proofs.kinds.arity.Reads as arity-reads
+use Rattle.records.proofs.kinds.body_size.Reads as body-size-reads
+use Rattle.records.proofs.kinds.inner.Reads as inner-reads
+use Rattle.records.proofs.walk.end_at.Reads as end-at-reads
 
 abbrev pub μ-binary : Measures 5 binary-kinds.ps ℕ
 μ-binary κs a = 2048 * a .1 .1 .0

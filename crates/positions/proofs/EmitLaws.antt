@@ -1,0 +1,398 @@
+-- Emission is exact: an expression's position has its result's paths that start at a document, and the positions marked accessed and
+-- modified have, in order, its accessed and its modified ones.
+use mathlib.Core.Path.{_≡_, refl, ap, sym, _∙_, subst}
+use mathlib.Core.Bool.{Bool, true, false, _&&_, not}
+use mathlib.Core.List.{List, [], _∷_, _++_, append-assoc, append-nil}
+use Prim.Native.Nat.{ℕ, zero, suc, _<_, _≤_}
+use native.Mathlib.Omega.{arith}
+use lib.Dec.{eqb}
+use lib.ListN.{length, getD, length-append, List·getD-append}
+use lib.Seq.{getD-at}
+use borrow.Author.Tests.{ne-eqb, eqb-true, eqb-false}
+use Rattle.model.specs.Base.{pick}
+use Rattle.model.specs.Script.{Step, Expr, nil, document, var, step, both, letIn, forIn, ifIn, element, leaf, delete, insert, choose}
+use Rattle.model.specs.Paths.{placeOf, Path, start, place, withStep, anyBelow, infer, isUp}
+use Rattle.model.proofs.BoolLaws.{by-cases, and-left}
+use Rattle.positions.specs.Positions.{Position, over, union, Entry, plain, accessing, modifying, entryAt, IsLower, AreLower}
+use Rattle.positions.specs.Positions.{Emitted, emitted, push, pushStep, pushUnion, pushDelete, pushBelow, pushInsert, emit}
+use Rattle.positions.specs.Positions.{pathsAt, pathsFrom, pathsBy, pathsOn}
+use Rattle.positions.proofs.PositionLaws.{pathsOn-keeps, pathsOn-next}
+use Rattle.positions.proofs.DocumentLaws.{documents, documents-append, documents-step}
+
+-- the paths of the positions with a mark, in order
+unfoldable pub markedFrom : (Entry → Bool) → (lower : List (List Path)) → List Entry → List Path
+markedFrom f ps [] = []
+markedFrom f ps (x ∷ xs) = pick (f x) (pathsAt ps (x .position)) [] ++ markedFrom f (ps ++ (pathsAt ps (x .position) ∷ [])) xs
+
+abbrev pub marked : (Entry → Bool) → List Entry → List Path
+marked f es = markedFrom f [] es
+
+abbrev pub isAccessed : Entry → Bool
+isAccessed x = x .accessed
+
+abbrev pub isModified : Entry → Bool
+isModified x = x .modified
+
+markedFrom-append : (f : Entry → Bool) (ps : List (List Path)) (es fs : List Entry) →
+    markedFrom f ps (es ++ fs) ≡ markedFrom f ps es ++ markedFrom f (pathsFrom ps es) fs
+unfolding markedFrom pathsFrom
+markedFrom-append f ps [] fs = refl
+markedFrom-append f ps (x ∷ es) fs =
+    ap (λ (l : List Path). pick (f x) (pathsAt ps (x .position)) [] ++ l)
+    (markedFrom-append f (ps ++ (pathsAt ps (x .position) ∷ [])) es fs) ∙
+    sym (append-assoc (pick (f x) (pathsAt ps (x .position)) []) (markedFrom f (ps ++ (pathsAt ps (x .position) ∷ [])) es) _)
+
+pub marked-push : (f : Entry → Bool) (es : List Entry) (x : Entry) →
+    marked f (es ++ (x ∷ [])) ≡ marked f es ++ pick (f x) (pathsAt (pathsBy es) (x .position)) []
+unfolding markedFrom
+marked-push f es x =
+    markedFrom-append f [] es (x ∷ []) ∙ ap (λ (l : List Path). marked f es ++ l)
+    (append-nil (pick (f x) (pathsAt (pathsBy es) (x .position)) []))
+
+-- ENTRIES that positions may be emitted after: position 0 is nothing
+pub record Ready (es : List Entry) : Type 0 where
+  pub some : 0 < length es
+  pub zero : pathsOn es 0 ≡ []
+  pub lower : AreLower es
+
+-- EMITTED RIGHT: from the entries before, an expression with these paths
+pub record Right (es : List Entry) (result accesses changes : List Path) (y : Emitted) : Type 0 where
+  pub low : y .result < length (y .entries)
+  pub more : length es ≤ length (y .entries)
+  pub keeps : (k : ℕ) → k < length es → pathsOn (y .entries) k ≡ pathsOn es k
+  pub lower : AreLower (y .entries)
+  pub is : pathsOn (y .entries) (y .result) ≡ documents result
+  pub accessed : marked isAccessed (y .entries) ≡ marked isAccessed es ++ documents accesses
+  pub modified : marked isModified (y .entries) ≡ marked isModified es ++ documents changes
+
+ready : (es : List Entry) → Ready es → (r a m : List Path) (y : Emitted) → Right es r a m y → Ready (y .entries)
+ready es z r a m y h =
+    record { some = omega (arith, z .some, h .more); zero = h .keeps 0 (z .some) ∙ z .zero; lower = h .lower }
+
+-- nothing is emitted
+known : (es : List Entry) → Ready es → (n : ℕ) (r : List Path) → n < length es → pathsOn es n ≡ documents r →
+    Right es r [] [] (emitted n es)
+unfolding documents
+known es z n r h e =
+    record {
+      low = h;
+      more = omega arith;
+      keeps = λ k l. refl;
+      lower = z .lower;
+      is = e;
+      accessed = sym (append-nil (marked isAccessed es));
+      modified = sym (append-nil (marked isModified es));
+    }
+
+-- the result is nothing
+discarded : (es : List Entry) → Ready es → (r a m : List Path) (y : Emitted) → Right es r a m y → Right es [] a m (emitted 0 (y .entries))
+unfolding documents
+discarded es z r a m y h =
+    record {
+      low = omega (arith, z .some, h .more);
+      more = h .more;
+      keeps = h .keeps;
+      lower = h .lower;
+      is = h .keeps 0 (z .some) ∙ z .zero;
+      accessed = h .accessed;
+      modified = h .modified;
+    }
+
+-- one expression after another: the second's result
+joined-marks : (before x y a b : List Path) → x ≡ before ++ documents a → y ≡ x ++ documents b →
+    y ≡ before ++ documents (a ++ b)
+joined-marks before x y a b e f =
+    f ∙ ap (λ (l : List Path). l ++ documents b) e ∙ append-assoc before (documents a) (documents b) ∙
+    ap (λ (l : List Path). before ++ l) (sym (documents-append a b))
+
+thenRight : (es : List Entry) (r a m r′ a′ m′ : List Path) (y y′ : Emitted) → Right es r a m y → Right (y .entries) r′ a′ m′ y′ →
+    Right es r′ (a ++ a′) (m ++ m′) y′
+thenRight es r a m r′ a′ m′ y y′ h g =
+    record {
+      low = g .low;
+      more = omega (arith, h .more, g .more);
+      keeps = λ k l. g .keeps k (omega (arith, h .more)) ∙ h .keeps k l;
+      lower = g .lower;
+      is = g .is;
+      accessed = joined-marks (marked isAccessed es) _ _ a a′ (h .accessed) (g .accessed);
+      modified = joined-marks (marked isModified es) _ _ m m′ (h .modified) (g .modified);
+    }
+
+-- one entry more, whose paths are these
+lower-push : (es : List Entry) (x : Entry) → AreLower es → IsLower (length es) (x .position) → AreLower (es ++ (x ∷ []))
+lower-push es x h l k low =
+    by-cases (eqb k (length es))
+    (λ t. let e : k ≡ length es = eqb-true k (length es) t in
+    subst (λ (p : ℕ). IsLower p (entryAt (es ++ (x ∷ [])) p .position)) (sym e)
+    (subst (λ (q : Entry). IsLower (length es) (q .position)) (sym (getD-at es x [] _ (length es) refl)) l))
+    (λ t. let j : k < length es = omega (arith, eqb-false k (length es) t, length-append es (x ∷ [])) in
+    subst (λ (q : Entry). IsLower k (q .position)) (sym (List·getD-append es (x ∷ []) _ k j)) (h k j))
+
+pushed : (es : List Entry) (r a m : List Path) (y : Emitted) → Right es r a m y → (w : Entry) (r′ a′ m′ : List Path) →
+    IsLower (length (y .entries)) (w .position) → pathsAt (pathsBy (y .entries)) (w .position) ≡ documents r′ →
+    pick (w .accessed) (documents r′) [] ≡ documents a′ → pick (w .modified) (documents r′) [] ≡ documents m′ →
+    Right es r′ (a ++ a′) (m ++ m′) (push (y .entries) w)
+pushed es r a m y h w r′ a′ m′ l e f g =
+    record {
+      low = omega (arith, length-append (y .entries) (w ∷ []));
+      more = omega (arith, h .more, length-append (y .entries) (w ∷ []));
+      keeps = λ k j. pathsOn-keeps (y .entries) (w ∷ []) k (omega (arith, h .more)) ∙ h .keeps k j;
+      lower = lower-push (y .entries) w (h .lower) l;
+      is = pathsOn-next (y .entries) w [] (length (y .entries)) refl ∙ e;
+      accessed = joined-marks (marked isAccessed es) _ _ a a′ (h .accessed)
+          (marked-push isAccessed (y .entries) w ∙
+          ap (λ (v : List Path). marked isAccessed (y .entries) ++ v) (ap (λ (v : List Path). pick (w .accessed) v []) e ∙ f));
+      modified = joined-marks (marked isModified es) _ _ m m′ (h .modified)
+          (marked-push isModified (y .entries) w ∙
+          ap (λ (v : List Path). marked isModified (y .entries) ++ v) (ap (λ (v : List Path). pick (w .modified) v []) e ∙ g));
+    }
+
+-- lists that are alike
+alike : (es : List Entry) (r a m a′ m′ : List Path) (y : Emitted) → a ≡ a′ → m ≡ m′ → Right es r a m y → Right es r a′ m′ y
+alike es r a m a′ m′ y e f h = subst (λ (v : List Path). Right es r a′ v y) f (subst (λ (v : List Path). Right es r v m y) e h)
+
+-- a choice between two emissions
+pub picked : {A : Type 0} (t : Bool) (P : A → Type 0) (x y : A) → (t ≡ true → P x) → (t ≡ false → P y) → P (pick t x y)
+picked true P x y f g = f refl
+picked false P x y f g = g refl
+
+-- NOTHING: position 0 has no paths, so a result there has none that start at a document
+no-documents : (es : List Entry) → Ready es → (r a m : List Path) (y : Emitted) → Right es r a m y → y .result ≡ 0 → documents r ≡ []
+no-documents es z r a m y h e = sym (h .is) ∙ ap (pathsOn (y .entries)) e ∙ h .keeps 0 (z .some) ∙ z .zero
+
+-- no entry more, for paths of which none starts at a document
+nothing-more : (es : List Entry) (r a m : List Path) (y : Emitted) → Right es r a m y → (r′ a′ m′ : List Path) →
+    documents r ≡ documents r′ → documents a′ ≡ [] → documents m′ ≡ [] → Right es r′ (a ++ a′) (m ++ m′) y
+nothing-more es r a m y h r′ a′ m′ e f g =
+    record {
+      low = h .low;
+      more = h .more;
+      keeps = h .keeps;
+      lower = h .lower;
+      is = h .is ∙ e;
+      accessed = joined-marks (marked isAccessed es) _ _ a a′ (h .accessed) (none (marked isAccessed (y .entries)) a′ f);
+      modified = joined-marks (marked isModified es) _ _ m m′ (h .modified) (none (marked isModified (y .entries)) m′ g);
+    }
+  where
+    none : (x ps : List Path) → documents ps ≡ [] → x ≡ x ++ documents ps
+    none x ps q = sym (ap (λ (v : List Path). x ++ v) q ∙ append-nil x)
+
+no-step : (s : Step) (r : List Path) → documents r ≡ [] → documents (withStep s r) ≡ []
+unfolding withStep
+no-step s r e = documents-step s r ∙ ap (withStep s) e
+
+-- BOUND VARIABLES: each position has the paths of its variable
+pub data Bound (es : List Entry) : List ℕ → List (List Path) → Type 0 where
+  none : Bound es [] []
+  bind : {n : ℕ} {ns : List ℕ} {r : List Path} {rs : List (List Path)} → n < length es → pathsOn es n ≡ documents r → Bound es ns rs →
+      Bound es (n ∷ ns) (r ∷ rs)
+
+bound-at : (es : List Entry) → Ready es → {ns : List ℕ} {rs : List (List Path)} → Bound es ns rs → (v : ℕ) →
+    (getD ns v 0 < length es) × (pathsOn es (getD ns v 0) ≡ documents (getD rs v []))
+unfolding documents
+bound-at es z none v = (z .some, z .zero)
+bound-at es z (bind h e b) zero = (h, e)
+bound-at es z (bind h e b) (suc v) = bound-at es z b v
+
+bound-later : (es : List Entry) (r a m : List Path) (y : Emitted) → Right es r a m y → {ns : List ℕ} {rs : List (List Path)} →
+    Bound es ns rs → Bound (y .entries) ns rs
+bound-later es r a m y g none = none
+bound-later es r a m y g (bind {n} h e b) =
+    let l : n < length (y .entries) = omega (arith, g .more) in bind l (g .keeps n h ∙ e) (bound-later es r a m y g b)
+
+bound-more : {es : List Entry} {ns : List ℕ} {rs : List (List Path)} → Bound es ns rs → (n : ℕ) (r : List Path) → n < length es →
+    pathsOn es n ≡ documents r → Bound es (ns ++ (n ∷ [])) (rs ++ (r ∷ []))
+bound-more none n r h e = bind h e none
+bound-more (bind g f b) n r h e = bind g f (bound-more b n r h e)
+
+-- THE EMISSION of an expression
+module _ (o : ℕ) (own : o ≡ 0 → ⊥) where
+  abbrev Emits : Expr → Type 0
+  Emits e = (ns : List ℕ) (rs : List (List Path)) (es : List Entry) → Ready es → Bound es ns rs →
+      Right es (infer o e rs .result) (infer o e rs .accessed) (infer o e rs .modified) (emit e ns es)
+
+  emits-bound : (e f : Expr) → Emits e → Emits f → (ns : List ℕ) (rs : List (List Path)) (es : List Entry) → Ready es → Bound es ns rs →
+      Right es (infer o f (rs ++ (infer o e rs .result ∷ [])) .result)
+      (infer o e rs .accessed ++ infer o f (rs ++ (infer o e rs .result ∷ [])) .accessed)
+      (infer o e rs .modified ++ infer o f (rs ++ (infer o e rs .result ∷ [])) .modified)
+      (emit f (ns ++ (emit e ns es .result ∷ [])) (emit e ns es .entries))
+  emits-bound e f E F ns rs es z b =
+      let h = E ns rs es z b in
+      thenRight es _ _ _ _ _ _ (emit e ns es) (emit f (ns ++ (emit e ns es .result ∷ [])) (emit e ns es .entries)) h
+      (F (ns ++ (emit e ns es .result ∷ [])) (rs ++ (infer o e rs .result ∷ [])) (emit e ns es .entries) (ready es z _ _ _ _ h)
+      (bound-more (bound-later es _ _ _ _ h b) (emit e ns es .result) (infer o e rs .result) (h .low) (h .is)))
+
+  -- both results, after the second
+  module _ (es : List Entry) (z : Ready es) (r a m r′ a′ m′ : List Path) (y y′ : Emitted) (h : Right es r a m y)
+      (g : Right (y .entries) r′ a′ m′ y′) where
+    two : Right es r′ (a ++ a′) (m ++ m′) y′
+    two = thenRight es r a m r′ a′ m′ y y′ h g
+
+    no-first : y .result ≡ 0 → documents r ≡ []
+    no-first = no-documents es z r a m y h
+
+    no-second : y′ .result ≡ 0 → documents r′ ≡ []
+    no-second = no-documents es z r′ (a ++ a′) (m ++ m′) y′ two
+
+    emits-union : Right es (r ++ r′) (a ++ a′) (m ++ m′) (pushUnion (y .result) y′)
+    unfolding documents
+    emits-union =
+        alike es (r ++ r′) (a ++ a′ ++ []) (m ++ m′ ++ []) (a ++ a′) (m ++ m′) _ (append-nil (a ++ a′)) (append-nil (m ++ m′))
+        (picked (eqb (y .result) 0) (Right es (r ++ r′) (a ++ a′ ++ []) (m ++ m′ ++ [])) _ _
+        (λ e. nothing-more es r′ (a ++ a′) (m ++ m′) y′ two (r ++ r′) [] []
+        (sym (documents-append r r′ ∙ ap (λ (v : List Path). v ++ documents r′) (no-first (eqb-true (y .result) 0 e)))) refl refl)
+        (λ n. picked (eqb (y′ .result) 0) (Right es (r ++ r′) (a ++ a′ ++ []) (m ++ m′ ++ [])) _ _
+        (λ e. nothing-more es r (a ++ a′) (m ++ m′) (emitted (y .result) (y′ .entries)) first (r ++ r′) [] []
+        (sym (documents-append r r′ ∙ ap (λ (v : List Path). documents r ++ v) (no-second (eqb-true (y′ .result) 0 e)) ∙
+        append-nil (documents r))) refl refl)
+        (λ k. pushed es r′ (a ++ a′) (m ++ m′) y′ two (plain (union (y .result) (y′ .result))) (r ++ r′) [] []
+        (omega (arith, h .low, g .more), g .low)
+        (ap (λ (v : List Path). v ++ pathsOn (y′ .entries) (y′ .result)) (g .keeps (y .result) (h .low) ∙ h .is) ∙
+        ap (λ (v : List Path). documents r ++ v) (g .is) ∙ sym (documents-append r r′))
+        refl refl)))
+      where
+        -- the first result, with the second's entries
+        first : Right es r (a ++ a′) (m ++ m′) (emitted (y .result) (y′ .entries))
+        first =
+            record {
+              low = omega (arith, h .low, g .more);
+              more = two .more;
+              keeps = two .keeps;
+              lower = two .lower;
+              is = g .keeps (y .result) (h .low) ∙ h .is;
+              accessed = two .accessed;
+              modified = two .modified;
+            }
+
+  emits-step : (es : List Entry) → Ready es → (s : Step) (r a m : List Path) (y : Emitted) → Right es r a m y →
+      Right es (withStep s r) (a ++ withStep s r) (m ++ []) (pushStep s y)
+  unfolding documents
+  emits-step es z s r a m y h =
+      picked (eqb (y .result) 0 && not (isUp s)) (Right es (withStep s r) (a ++ withStep s r) (m ++ [])) _ _
+      (λ e. let n = no-documents es z r a m y h (eqb-true (y .result) 0 (and-left (eqb (y .result) 0) _ e)) in
+      nothing-more es r a m y h (withStep s r) (withStep s r) [] (n ∙ sym (no-step s r n)) (no-step s r n) refl)
+      (λ e. pushed es r a m y h (accessing (over s (y .result))) (withStep s r) (withStep s r) [] (h .low)
+      (ap (withStep s) (h .is) ∙ sym (documents-step s r)) refl refl)
+
+  emits-delete : (es : List Entry) → Ready es → (r a m : List Path) (y : Emitted) → Right es r a m y →
+      Right es [] (a ++ []) (m ++ (r ++ withStep anyBelow r)) (pushDelete y)
+  unfolding documents
+  emits-delete es z r a m y h =
+      picked (eqb (y .result) 0) (Right es [] (a ++ []) (m ++ (r ++ withStep anyBelow r))) _ _
+      (λ e. let n = no-documents es z r a m y h (eqb-true (y .result) 0 e) in
+      nothing-more es r a m y h [] [] (r ++ withStep anyBelow r) n refl
+      (documents-append r (withStep anyBelow r) ∙ ap (λ (v : List Path). v ++ documents (withStep anyBelow r)) n ∙ no-step anyBelow r n))
+      (λ e. all)
+    where
+      below : Right es (withStep anyBelow r) (a ++ []) (m ++ []) (push (y .entries) (plain (over anyBelow (y .result))))
+      below =
+          pushed es r a m y h (plain (over anyBelow (y .result))) (withStep anyBelow r) [] [] (h .low)
+          (ap (withStep anyBelow) (h .is) ∙ sym (documents-step anyBelow r)) refl refl
+
+      all : Right es [] (a ++ []) (m ++ (r ++ withStep anyBelow r))
+          (emitted 0
+          (y .entries ++ (plain (over anyBelow (y .result)) ∷ []) ++ (modifying (union (y .result) (length (y .entries))) ∷ [])))
+      all =
+          alike es [] (a ++ [] ++ []) (m ++ [] ++ (r ++ withStep anyBelow r)) (a ++ []) (m ++ (r ++ withStep anyBelow r)) _
+          (append-nil (a ++ [])) (ap (λ (v : List Path). v ++ (r ++ withStep anyBelow r)) (append-nil m))
+          (discarded es z _ _ _ _
+          (pushed es (withStep anyBelow r) (a ++ []) (m ++ []) (push (y .entries) (plain (over anyBelow (y .result)))) below
+          (modifying (union (y .result) (length (y .entries)))) (r ++ withStep anyBelow r) [] (r ++ withStep anyBelow r)
+          (omega (arith, h .low, length-append (y .entries) (plain (over anyBelow (y .result)) ∷ [])), below .low)
+          (ap (λ (v : List Path). v ++ pathsOn (y .entries ++ (plain (over anyBelow (y .result)) ∷ [])) (length (y .entries)))
+          (pathsOn-keeps (y .entries) (plain (over anyBelow (y .result)) ∷ []) (y .result) (h .low) ∙ h .is) ∙
+          ap (λ (v : List Path). documents r ++ v) (below .is) ∙ sym (documents-append r (withStep anyBelow r)))
+          refl refl))
+
+  -- all below a position n, whose paths are q, so marked
+  module _ (es : List Entry) (z : Ready es) (r a m : List Path) (y : Emitted) (h : Right es r a m y) (n : ℕ) (q : List Path)
+      (low : n < length (y .entries)) (is : pathsOn (y .entries) n ≡ documents q) where
+    none-below : n ≡ 0 → documents (withStep anyBelow q) ≡ []
+    none-below e = no-step anyBelow q (sym is ∙ ap (pathsOn (y .entries)) e ∙ h .keeps 0 (z .some) ∙ z .zero)
+
+    emits-below : (f : Position → Entry) → (f (over anyBelow n) .position ≡ over anyBelow n) → (a′ m′ : List Path) →
+        pick (f (over anyBelow n) .accessed) (documents (withStep anyBelow q)) [] ≡ documents a′ →
+        pick (f (over anyBelow n) .modified) (documents (withStep anyBelow q)) [] ≡ documents m′ →
+        Right es [] (a ++ a′) (m ++ m′) (emitted 0 (pushBelow f n (y .entries)))
+    unfolding documents
+    emits-below f p a′ m′ i j =
+        picked (eqb n 0) (λ (x : List Entry). Right es [] (a ++ a′) (m ++ m′) (emitted 0 x)) _ _
+        (λ e. let w = none-below (eqb-true n 0 e) in
+        nothing-more es [] a m (emitted 0 (y .entries)) (discarded es z r a m y h) [] a′ m′ refl
+        (sym i ∙ either (f (over anyBelow n) .accessed) w) (sym j ∙ either (f (over anyBelow n) .modified) w))
+        (λ e. discarded es z _ _ _ _
+        (pushed es r a m y h (f (over anyBelow n)) (withStep anyBelow q) a′ m′
+        (subst (IsLower (length (y .entries))) (sym p) low)
+        (ap (pathsAt (pathsBy (y .entries))) p ∙ ap (withStep anyBelow) is ∙ sym (documents-step anyBelow q)) i j))
+      where
+        either : (t : Bool) → documents (withStep anyBelow q) ≡ [] → pick t (documents (withStep anyBelow q)) [] ≡ []
+        either true w = w
+        either false w = refl
+
+  below-keeps : (f : Position → Entry) (n : ℕ) (es : List Entry) (k : ℕ) → k < length es →
+      (k < length (pushBelow f n es)) × (pathsOn (pushBelow f n es) k ≡ pathsOn es k)
+  below-keeps f n es k l =
+      picked (eqb n 0) (λ (x : List Entry). (k < length x) × (pathsOn x k ≡ pathsOn es k)) _ _ (λ e. (l, refl))
+      (λ e. (omega (arith, length-append es (f (over anyBelow n) ∷ [])), pathsOn-keeps es (f (over anyBelow n) ∷ []) k l))
+
+  emits-insert : (es : List Entry) → Ready es → (r a m r′ a′ m′ : List Path) (y y′ : Emitted) → Right es r a m y →
+      Right (y .entries) r′ a′ m′ y′ →
+      Right es [] (a ++ a′ ++ withStep anyBelow r) (m ++ m′ ++ withStep anyBelow r′) (pushInsert (y .result) y′)
+  unfolding documents
+  emits-insert es z r a m r′ a′ m′ y y′ h g =
+      let low : y .result < length (y′ .entries) = omega (arith, h .low, g .more) in
+      let read = emits-below es z r′ (a ++ a′) (m ++ m′) y′ (thenRight es r a m r′ a′ m′ y y′ h g) (y .result) r low
+      (g .keeps (y .result) (h .low) ∙ h .is) accessing refl (withStep anyBelow r) [] refl refl in
+      let kept = below-keeps accessing (y .result) (y′ .entries) (y′ .result) (g .low) in
+      let written = emits-below es z [] (a ++ a′ ++ withStep anyBelow r) (m ++ m′ ++ [])
+      (emitted 0 (pushBelow accessing (y .result) (y′ .entries))) read (y′ .result) r′ (kept .0) (kept .1 ∙ g .is) modifying refl []
+      (withStep anyBelow r′) refl refl in
+      alike es [] (a ++ a′ ++ withStep anyBelow r ++ []) (m ++ m′ ++ [] ++ withStep anyBelow r′) (a ++ a′ ++ withStep anyBelow r)
+      (m ++ m′ ++ withStep anyBelow r′) _ (append-nil (a ++ a′ ++ withStep anyBelow r))
+      (ap (λ (v : List Path). v ++ withStep anyBelow r′) (append-nil (m ++ m′))) written
+
+  constructed : (es : List Entry) → Ready es → (n : ℕ) → Right es (start (place o n) ∷ []) [] (start (place o n) ∷ []) (emitted 0 es)
+  unfolding documents placeOf
+  constructed es z n =
+      let w : documents (start (place o n) ∷ []) ≡ [] = rw (ne-eqb o 0 own) in
+      let h = known es z 0 [] (z .some) (z .zero) in
+      record {
+        low = h .low;
+        more = h .more;
+        keeps = h .keeps;
+        lower = h .lower;
+        is = h .is ∙ sym w;
+        accessed = h .accessed;
+        modified = h .modified ∙ ap (λ (v : List Path). marked isModified es ++ v) (sym w);
+      }
+
+  pub emits : (e : Expr) → Emits e
+  unfolding emit infer documents placeOf
+  emits (nil z) ns rs es y b = known es y 0 [] (y .some) (y .zero)
+  emits (document z d) ns rs es y b =
+      pushed es [] [] [] (emitted 0 es) (known es y 0 [] (y .some) (y .zero)) (accessing _) _ _ [] tt refl refl refl
+  emits (var z v) ns rs es y b = let k = bound-at es y b v in known es y (getD ns v 0) (getD rs v []) (k .0) (k .1)
+  emits (step z s e) ns rs es y b = emits-step es y s _ _ _ (emit e ns es) (emits e ns rs es y b)
+  emits (both z e f) ns rs es y b =
+      let h = emits e ns rs es y b in
+      emits-union es y _ _ _ _ _ _ (emit e ns es) (emit f ns (emit e ns es .entries)) h
+      (emits f ns rs (emit e ns es .entries) (ready es y _ _ _ _ h) (bound-later es _ _ _ _ h b))
+  emits (letIn z e f) ns rs es y b = emits-bound e f (emits e) (emits f) ns rs es y b
+  emits (forIn z e f) ns rs es y b = emits-bound e f (emits e) (emits f) ns rs es y b
+  emits (ifIn z e f g) ns rs es y b =
+      let h = emits e ns rs es y b in
+      let y1 = ready es y _ _ _ _ h in
+      let b1 = bound-later es _ _ _ _ h b in
+      let i = emits f ns rs (emit e ns es .entries) y1 b1 in
+      thenRight es _ _ _ _ _ _ (emit e ns es) _ h
+      (emits-union (emit e ns es .entries) y1 _ _ _ _ _ _ (emit f ns (emit e ns es .entries))
+      (emit g ns (emit f ns (emit e ns es .entries) .entries)) i
+      (emits g ns rs (emit f ns (emit e ns es .entries) .entries) (ready _ y1 _ _ _ _ i) (bound-later _ _ _ _ _ i b1)))
+  emits (element z n) ns rs es y b = constructed es y z
+  emits (leaf z v) ns rs es y b = constructed es y z
+  emits (delete z e) ns rs es y b = emits-delete es y _ _ _ (emit e ns es) (emits e ns rs es y b)
+  emits (insert z e f) ns rs es y b =
+      let h = emits e ns rs es y b in
+      emits-insert es y _ _ _ _ _ _ (emit e ns es) (emit f ns (emit e ns es .entries)) h
+      (emits f ns rs (emit e ns es .entries) (ready es y _ _ _ _ h) (bound-later es _ _ _ _ h b))
+  emits (choose z r c e) ns rs es y b = emits e ns rs es y b

@@ -1,0 +1,7 @@
+pub mod PositionLaws
+pub mod DocumentLaws
+pub mod EmitLaws
+pub mod TraverseLaws
+pub mod AnswerLaws
+pub mod WordLaws
+pub mod ClimbLaws

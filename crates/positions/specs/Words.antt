@@ -1,0 +1,102 @@
+-- A position packed into a word, and what a list of words says. Assumes nothing: these are definitions.
+use mathlib.Core.Path.{_≡_}
+use mathlib.Core.Bool.{Bool}
+use mathlib.Core.List.{List, [], _∷_, _++_, map}
+use Prim.Native.Nat.{ℕ, _+_, _*_, _/_, _%_, _<_}
+use lib.Dec.{eqb}
+use lib.ListN.{length, take}
+use Rattle.model.specs.Base.{pick}
+use Rattle.model.specs.Script as model
+use Rattle.model.specs.Script.{stepBy}
+use Rattle.positions.specs.Positions as positions
+use Rattle.positions.specs.Sources.{Source, fromRoot, fromStep, anyUpTo}
+use Rattle.positions.specs.declared.packed.Position.{Position}
+use Rattle.meeting.specs.declared.cells.Step.{Step}
+
+-- the step of a position
+abbrev pub stepIn : Position → model.Step
+stepIn p = stepBy (p .axis) (p .test) (p .name)
+
+-- KINDS: 0 nowhere, 1 root, whose document stands for the name, 2 over, 3 union. MARKS: 0 none, 1 accessed, 2 modified
+abbrev pub positionBy : Position → positions.Position
+positionBy p =
+    pick (eqb (p .kind) 0) positions.nowhere
+    (pick (eqb (p .kind) 1) (positions.root (p .name))
+    (pick (eqb (p .kind) 2) (positions.over (stepIn p) (p .first)) (positions.union (p .first) (p .second))))
+
+-- the source of a document, and of a step
+abbrev pub rootSource : Position → Source
+rootSource p = fromRoot (p .name)
+
+abbrev pub stepSource : Position → Source
+stepSource p = fromStep (stepIn p) (p .first)
+
+-- a position with its marks
+abbrev pub entryBy : Position → positions.Entry
+entryBy p = record { position = positionBy p; accessed = eqb (p .mark) 1; modified = eqb (p .mark) 2 }
+
+-- the fields of a document's root, accessed; of a step over a position, and of two positions, so marked
+abbrev pub rootBy : (document : ℕ) → Position
+rootBy d = record { kind = 1; mark = 1; axis = 0; test = 0; name = d; first = 0; second = 0 }
+
+abbrev pub overBy : (mark : ℕ) → Step → (operand : ℕ) → Position
+overBy m s i = record { kind = 2; mark = m; axis = s .axis; test = s .test; name = s .name; first = i; second = 0 }
+
+abbrev pub unionBy : (mark first second : ℕ) → Position
+unionBy m i j = record { kind = 3; mark = m; axis = 0; test = 0; name = 0; first = i; second = j }
+
+-- WORDS: each field in its bits
+abbrev pub wordOf : Position → ℕ
+wordOf p =
+    p .kind + 4 * p .mark + 16 * p .axis + 64 * p .test + 256 * p .name + 65536 * p .first + 16777216 * p .second
+
+-- and taken out again
+abbrev pub fieldsOf : (word : ℕ) → Position
+fieldsOf w =
+    record {
+      kind = w % 4;
+      mark = w / 4 % 4;
+      axis = w / 16 % 4;
+      test = w / 64 % 4;
+      name = w / 256 % 256;
+      first = w / 65536 % 128;
+      second = w / 16777216 % 128;
+    }
+
+-- fields that fit their bits
+pub record PositionFits (p : Position) : Type 0 where
+  pub kind : p .kind < 4
+  pub mark : p .mark < 4
+  pub axis : p .axis < 4
+  pub test : p .test < 4
+  pub name : p .name < 256
+  pub first : p .first < 128
+  pub second : p .second < 128
+
+-- the entry that a word is
+abbrev pub entryOf : (word : ℕ) → positions.Entry
+entryOf w = entryBy (fieldsOf w)
+
+-- the entries that the first words are
+abbrev pub entriesIn : (words : List ℕ) → (count : ℕ) → List positions.Entry
+entriesIn ws n = map entryOf (take n ws)
+
+-- one word more
+pub record PushPre (ws : List ℕ) (n : ℕ) (p : Position) : Type 0 where
+  pub room : n < length ws
+  pub fits : PositionFits p
+
+pub record PushPost (ws : List ℕ) (n : ℕ) (p : Position) (ws′ : List ℕ) : Type 0 where
+  pub size : length ws′ ≡ length ws
+  pub entries : entriesIn ws′ (n + 1) ≡ entriesIn ws n ++ (entryBy p ∷ [])
+
+-- the entries that words are
+abbrev pub entriesBy : (words : List ℕ) → List positions.Entry
+entriesBy ws = map entryOf ws
+
+-- UPWARD: some position among them leads up
+abbrev pub climbAt : (words : List ℕ) → (number : ℕ) → Bool
+climbAt ws k = positions.isClimb (positions.entryAt (entriesBy ws) k .position)
+
+abbrev pub climbing : (words : List ℕ) → Bool
+climbing ws = anyUpTo (climbAt ws) (length ws)

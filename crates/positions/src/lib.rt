@@ -1,0 +1,2 @@
+// Positions: the paths of a script's expressions, numbered and packed into words.
+pub mod packed;

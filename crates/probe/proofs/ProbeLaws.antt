@@ -1,0 +1,95 @@
+-- The calls for tests, by their ways out.
+use mathlib.Core.Path.{_≡_, ap, sym, _∙_}
+use mathlib.Core.Bool.{true, false}
+use mathlib.Core.List.{List}
+use Prim.Native.Nat.{ℕ}
+use lib.Dec.{eqb}
+use lib.ListN.{length}
+use borrow.Author.Tests.{eq-eqb, ne-eqb}
+use Rattle.plan.specs.Calls as library
+use Rattle.sweep.specs.Sweeping as sweeping
+use Rattle.script.specs.Reading.{scriptRead}
+use Rattle.table.specs.declared.Fault.{Fault}
+use Rattle.table.specs.declared.Table.{Table}
+use Rattle.table.specs.declared.TableResult.{TableResult}
+use Rattle.table.specs.declared.Written.{Written}
+use Rattle.probe.specs.Probes.{writeCode, writeOut, sweptTable, sweptCode, sweptRows, sweptMarks, scriptCode}
+use Rattle.probe.specs.Raw.{isGiven, given}
+use Rattle.lent.specs.Codes.{codeOf, lentCode, writtenCode}
+
+-- a script's refusal, or none
+pub script-read : (b : List ℕ) (f : Fault) (c : ℕ) → f ≡ scriptRead b → f .number ≡ 0 → c ≡ codeOf 0 0 0 → c ≡ scriptCode b
+script-read b f c e z g = g ∙ rw (sym (ap (λ (t : Fault). t .number) e) ∙ z)
+
+pub script-refused : (b : List ℕ) (f : Fault) (c : ℕ) → f ≡ scriptRead b → (f .number ≡ 0 → ⊥) → c ≡ codeOf (f .number) 2 (f .place) → c
+    ≡ scriptCode b
+script-refused b f c e z g =
+    let y : scriptRead b .number ≡ 0 → ⊥ = λ q. z (ap (λ (t : Fault). t .number) e ∙ q) in
+    g ∙ ap (λ (t : Fault). codeOf (t .number) 2 (t .place)) e ∙ rw (ne-eqb (scriptRead b .number) 0 y)
+
+-- a table given as raw words
+pub rows-not-given : (ws ms : List ℕ) → (length ws ≡ 512 → ⊥) → isGiven ws ms ≡ false
+rows-not-given ws ms z = rw (ne-eqb (length ws) 512 z)
+
+pub marks-not-given : (ws ms : List ℕ) → length ws ≡ 512 → (length ms ≡ 8 → ⊥) → isGiven ws ms ≡ false
+marks-not-given ws ms e z = rw (eq-eqb (length ws) 512 e, ne-eqb (length ms) 8 z)
+
+pub is-given : (ws ms : List ℕ) → length ws ≡ 512 → length ms ≡ 8 → isGiven ws ms ≡ true
+is-given ws ms e f = rw (eq-eqb (length ws) 512 e, eq-eqb (length ms) 8 f)
+
+module _ (n : ℕ) (ws ms : List ℕ) where
+  module _ (o : List ℕ) where
+    pub write-not : (c : ℕ) → c ≡ lentCode → isGiven ws ms ≡ false → (c ≡ writeCode n ws ms o) × (o ≡ writeOut n ws ms o)
+    write-not c e z = (e ∙ rw z, rw z)
+
+    module _ (t : Table) (same : t ≡ given n ws ms) (w : Written) (o′ : List ℕ) (h : isGiven ws ms ≡ true)
+        (written : w ≡ library.planWritten t o) (left : o′ ≡ library.planOut t o) where
+      as-given : w ≡ library.planWritten (given n ws ms) o
+      as-given = written ∙ ap (λ (u : Table). library.planWritten u o) same
+
+      out-given : o′ ≡ writeOut n ws ms o
+      out-given = left ∙ ap (λ (u : Table). library.planOut u o) same ∙ rw h
+
+      pub write-link : (c : ℕ) → c ≡ codeOf (w .fault .number) 1 0 → w .fault .number ≡ 6 → (c ≡ writeCode n ws ms o) × (o′ ≡ writeOut n
+          ws ms o)
+      write-link c e z =
+          let k : library.planWritten (given n ws ms) o .fault .number ≡ 6 = sym (ap (λ (v : Written). v .fault .number) as-given) ∙ z in
+          (e ∙ ap (λ (j : ℕ). codeOf j 1 0) z ∙ rw (h, k), out-given)
+
+      pub write-rest : (c : ℕ) → c ≡ writtenCode w → (w .fault .number ≡ 6 → ⊥) → (c ≡ writeCode n ws ms o) × (o′ ≡ writeOut n ws ms o)
+      write-rest c e z =
+          let k : library.planWritten (given n ws ms) o .fault .number ≡ 6 → ⊥ = λ q. z (ap (λ (v : Written). v .fault .number) as-given
+          ∙ q) in
+          (e ∙ ap writtenCode as-given ∙ rw (h, ne-eqb (library.planWritten (given n ws ms) o .fault .number) 6 k), out-given)
+
+  -- sweeping in place
+  abbrev Left : (code : ℕ) → (rows marks : List ℕ) → Type 0
+  Left c vs us = (c ≡ sweptCode n ws ms) × ((vs ≡ sweptRows n ws ms) × (us ≡ sweptMarks n ws ms))
+
+  pub sweep-not : (c : ℕ) → c ≡ lentCode → isGiven ws ms ≡ false → Left c ws ms
+  sweep-not c e z = (e ∙ rw z, (rw z, rw z))
+
+  module _ (t : Table) (same : t ≡ given n ws ms) (r : TableResult) (h : isGiven ws ms ≡ true) (swept : r ≡ sweeping.planSwept t) where
+    result : r ≡ sweptTable n ws ms
+    result = swept ∙ ap sweeping.planSwept same
+
+    pub sweep-refused : (c : ℕ) → c ≡ codeOf (r .fault .number) 1 0 → (r .fault .number ≡ 0 → ⊥) → Left c ws ms
+    sweep-refused c e z =
+        let k : sweptTable n ws ms .fault .number ≡ 0 → ⊥ = λ q. z (ap (λ (v : TableResult). v .fault .number) result ∙ q) in
+        let f : eqb (sweptTable n ws ms .fault .number) 0 ≡ false = ne-eqb (sweptTable n ws ms .fault .number) 0 k in
+        (e ∙ ap (λ (v : TableResult). codeOf (v .fault .number) 1 0) result ∙ rw (h, f), (rw (h, f), rw (h, f)))
+
+    pub sweep-done : (c : ℕ) (vs us : List ℕ) → c ≡ codeOf 0 0 (r .table .count) → vs ≡ r .table .rows → us ≡ r .table .marks →
+        r .fault .number ≡ 0 → Left c vs us
+    sweep-done c vs us e p q z =
+        let k : eqb (sweptTable n ws ms .fault .number) 0 ≡ true =
+        eq-eqb (sweptTable n ws ms .fault .number) 0 (sym (ap (λ (v : TableResult). v .fault .number) result) ∙ z) in (
+          e ∙ ap (λ (v : TableResult). codeOf 0 0 (v .table .count)) result ∙ rw (h, k),
+          (
+            p ∙ ap (λ (v : TableResult). v .table .rows) result ∙ rw (h, k),
+            q ∙ ap (λ (v : TableResult). v .table .marks) result ∙ rw (
+              h,
+              k,
+            ),
+          ),
+        )

@@ -1,0 +1,76 @@
+// C calls that tests need and a site does not: a script read alone, and writing and sweeping on any table, well formed or not.
+// Answers are numbers as in the C interface (crates/ffi).
+ghost use mathlib.Core.Path.{_≡_};
+ghost use Rattle.probe.specs.Probes.{writeCode, writeOut, sweptCode, sweptRows, sweptMarks, scriptCode};
+use lent::answer;
+use lent::answer::AREA;
+use lent::answer::PLAN;
+use lent::answer::SCRIPT;
+use table::Fault;
+use table::Table;
+
+mod copy;
+
+// Writes a table given as 512 row words and 8 marks: the call of the library on any table, well formed or not.
+#[no_mangle]
+pub extern "C" fn yegnabit_write_table(
+    count: usize,
+    rows: &[u32],
+    marks: &[u16],
+    out: &mut [u8],
+) -> u64
+    ensures { λ r. ⌜ r ≡ writeCode count (now (rows .entry)) (now (marks .entry)) (now (out .entry)) ⌝ }
+    ensures { λ r. ⌜ now (out .exit) ≡ writeOut count (now (rows .entry)) (now (marks .entry)) (now (out .entry)) ⌝ }
+{
+    if rows.len() != Table::ROWS {
+        return answer::code(Fault::LENT, AREA, 0);
+    }
+    if marks.len() != Table::DOCUMENTS {
+        return answer::code(Fault::LENT, AREA, 0);
+    }
+    let t = copy::table_of(count, rows, marks);
+    let written = plan::write_plan(t, out);
+    let number = written.fault.number;
+    if number == Fault::LINK {
+        return answer::code(number, PLAN, 0);
+    }
+    answer::code(number, AREA, written.bytes)
+}
+
+// Sweeps a table given as 512 row words and 8 marks, in place.
+#[no_mangle]
+pub extern "C" fn yegnabit_sweep_table(count: usize, rows: &mut [u32], marks: &mut [u16]) -> u64
+    ensures { λ r. ⌜ r ≡ sweptCode count (now (rows .entry)) (now (marks .entry)) ⌝ }
+    ensures { λ r. ⌜ now (rows .exit) ≡ sweptRows count (now (rows .entry)) (now (marks .entry)) ⌝ }
+    ensures { λ r. ⌜ now (marks .exit) ≡ sweptMarks count (now (rows .entry)) (now (marks .entry)) ⌝ }
+{
+    if rows.len() != Table::ROWS {
+        return answer::code(Fault::LENT, AREA, 0);
+    }
+    if marks.len() != Table::DOCUMENTS {
+        return answer::code(Fault::LENT, AREA, 0);
+    }
+    let t = copy::table_of(count, rows, marks);
+    let swept = sweep::sweep_table(t);
+    let number = swept.fault.number;
+    if number != 0 {
+        return answer::code(number, PLAN, 0);
+    }
+    let new_count = swept.table.count;
+    copy::put_table(swept.table, rows, marks);
+    answer::code(0, AREA, new_count)
+}
+
+// Reads a script: its refusal, or 0.
+#[no_mangle]
+pub extern "C" fn yegnabit_script(bytes: &[u8]) -> u64
+    ensures { λ r. ⌜ r ≡ scriptCode (now (bytes .entry)) ⌝ }
+{
+    let fault = script::read_script(bytes);
+    let number = fault.number;
+    let place = fault.place;
+    if number == 0 {
+        return answer::code(0, AREA, 0);
+    }
+    answer::code(number, SCRIPT, place)
+}

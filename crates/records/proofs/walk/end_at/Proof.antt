@@ -1,0 +1,90 @@
+-- `walk::end_at` meets its contract. The loop's invariant is `Walked`; the measure is what is left of the bytes.
+use mathlib.Core.Path.{sym}
+use Prim.Native.Nat.{_-_}
+use native.Mathlib.Omega.{arith}
+use lib.ListN.{length}
+use borrow.Author.Needs.{needs}
+use Rattle.records.proofs.WalkLaws.{past-empty, Walked, walk-starts, walk-ends, walk-short, walk-on}
+use Rattle.records.proofs.walk.end_at.Statement.{statement}
+use Rattle.records.proofs.walk.end_at.Tie as tie
+
+abbrev Inv-loop : tie.InvT-loop
+Inv-loop bytes at next₀ pending₀ next pending = Walked bytes at next pending
+
+abbrev μ-loop : tie.MeasureT-loop
+μ-loop bytes at next₀ pending₀ next pending = length bytes - next
+
+returns : tie.Need-returns Inv-loop μ-loop
+returns c = sym (past-empty (c .before .before .args .bytes .now) (c .before .before .args .at) (c .if1 .taken))
+
+loop-holds : tie.Need-loop-holds Inv-loop μ-loop
+loop-holds c = walk-starts (omega arith)
+
+shared-slice-read-kind : tie.Need-shared-slice-read-kind Inv-loop μ-loop
+shared-slice-read-kind c = search needs
+
+body-size-requires : tie.Need-body-size-requires Inv-loop μ-loop
+body-size-requires c κs = search needs
+
+arity-requires : tie.Need-arity-requires Inv-loop μ-loop
+arity-requires c κs = search needs
+
+sub-if2 : tie.Need-sub-if2 Inv-loop μ-loop
+sub-if2 c = search needs
+
+sub-if2-2 : tie.Need-sub-if2-2 Inv-loop μ-loop
+sub-if2-2 c = search needs
+
+add-if2 : tie.Need-add-if2 Inv-loop μ-loop
+add-if2 c = search needs
+
+returns-2 : tie.Need-returns-2 Inv-loop μ-loop
+returns-2 c =
+    let c5 = c .before .before .before .before .before in
+    walk-short (c5 .loop .inv) (omega arith) (c .before .before .body-size .ensures .0) (c .before .arity .ensures .0) (c .if2 .taken)
+
+add-next : tie.Need-add-next Inv-loop μ-loop
+add-next c = search needs
+
+add-next-2 : tie.Need-add-next-2 Inv-loop μ-loop
+add-next-2 c = search needs
+
+sub-pending : tie.Need-sub-pending Inv-loop μ-loop
+sub-pending c = search needs
+
+add-pending : tie.Need-add-pending Inv-loop μ-loop
+add-pending c = search needs
+
+loop-less : tie.Need-loop-less Inv-loop μ-loop
+loop-less c = search needs
+
+loop-again : tie.Need-loop-again Inv-loop μ-loop
+loop-again c =
+    let c5 = c .before .before .before .before .before in
+    walk-on (c5 .loop .inv) (omega arith) (c .before .before .body-size .ensures .0) (c .before .arity .ensures .0) (omega arith)
+
+returns-3 : tie.Need-returns-3 Inv-loop μ-loop
+returns-3 c = walk-ends (c .before .loop .inv) (omega arith)
+
+pub end-at-spec : {M : Type 1} → statement M
+end-at-spec =
+    tie.close
+    (tie.spec
+    Inv-loop
+    μ-loop
+    returns
+    loop-holds
+    shared-slice-read-kind
+    body-size-requires
+    arity-requires
+    sub-if2
+    sub-if2-2
+    add-if2
+    returns-2
+    add-next
+    add-next-2
+    sub-pending
+    add-pending
+    loop-less
+    loop-again
+    returns-3)
