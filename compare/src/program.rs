@@ -6,6 +6,7 @@ use std::fs;
 use std::path::{Path, PathBuf};
 use std::process::Command;
 
+use compare::generate::document01::{PLAN_P, SCRIPT_A, SCRIPT_B};
 use compare::generate::random::Random;
 use compare::generate::{damage, pairs, plans};
 use compare::reference::limits::{FILE_BYTES, ROWS};
@@ -101,6 +102,9 @@ impl Program {
             .current_dir(&self.folder)
             .output()?;
         fs::remove_dir_all(&self.folder)?;
+        if !output.status.success() || !output.stderr.is_empty() {
+            return Err(std::io::Error::other(format!("{output:?}")));
+        }
         Ok(output.stdout)
     }
 
@@ -124,26 +128,23 @@ fn kind_of_line(line: &str) -> String {
     words[..kept].join(" ")
 }
 
-/// Lines that the folders have to bring about.
-const DUE: [&str; 17] = [
-    "file plan 1",
-    "file plan 6",
-    "file first 2",
-    "file second 4",
-    "answer free",
-    "answer upward",
-    "answer meet",
-    "one-two",
-    "two-one",
-    "one-two refused 1 7",
-    "one-two refused 2 7",
-    "one-two refused 1 8",
-    "one-two refused 2 10",
-    "two-one refused 1 7",
-    "two-one refused 2 7",
-    "two-one refused 2 8",
-    "two-one refused 1 10",
-];
+/// Every kind of line that there can be: the folders have to bring all about.
+fn due() -> BTreeSet<String> {
+    let mut due: BTreeSet<String> = ["free", "upward", "meet"]
+        .map(|word| format!("answer {word}"))
+        .into();
+    due.extend([1, 2, 4, 5, 6].map(|number| format!("file plan {number}")));
+    for name in ["first", "second"] {
+        due.extend((1..=5).map(|number| format!("file {name} {number}")));
+    }
+    for order in ["one-two", "two-one"] {
+        due.insert(order.to_string());
+        for script in [1, 2] {
+            due.extend([7, 8, 10].map(|number| format!("{order} refused {script} {number}")));
+        }
+    }
+    due
+}
 
 /// Runs all comparisons and answers a summary, or the first difference.
 pub fn test() -> Result<String, String> {
@@ -155,8 +156,9 @@ pub fn test() -> Result<String, String> {
         program.compare(&random_entries(&mut random))?;
     }
     let seen = &program.seen;
-    if let Some(due) = DUE.iter().find(|&&due| !seen.contains(due)) {
-        return Err(format!("no folder brought about a line '{due}': {seen:?}"));
+    let due = due();
+    if *seen != due {
+        return Err(format!("lines brought about: {seen:?}; due: {due:?}"));
     }
     Ok(format!(
         "pair: {RANDOM_FOLDERS} random folders, {} kinds of line, no difference\n",
@@ -166,22 +168,17 @@ pub fn test() -> Result<String, String> {
 
 /// What document 01 itself says that the program prints.
 fn documents_own(program: &mut Program) -> Result<(), String> {
-    let plan = [
-        0x11, 0x01, 0xFF, 0xFF, 0x11, 0x02, 0x00, 0x00, 0x12, 0xFE, 0x01, 0x00, 0x11, 0x03, 0x00,
-        0x00, 0x13, 0x00, 0x00, 0x00,
-    ];
-    let a = [
-        0x0D, 0x01, 0x00, 0x04, 0x00, 0x02, 0x00, 0x04, 0x00, 0x03, 0x02, 0x02, 0x00,
-    ];
-    let b = [0x0C, 0x09, 0x04, 0x04, 0x00, 0x03, 0x03, 0x02, 0x00];
     let file = |bytes: &[u8]| Entry::File(bytes.to_vec());
     program.check(
-        &[file(&plan), file(&a), file(&b)],
+        &[file(&PLAN_P), file(&SCRIPT_A), file(&SCRIPT_B)],
         b"answer free\none-two 1 0 6\ntwo-one 1 0 6\n",
     )?;
-    program.check(&[file(&plan), file(&[]), file(&b)], b"file first 2 0\n")?;
     program.check(
-        &[file(&plan), Entry::Missing, file(&b)],
+        &[file(&PLAN_P), file(&[]), file(&SCRIPT_B)],
+        b"file first 2 0\n",
+    )?;
+    program.check(
+        &[file(&PLAN_P), Entry::Missing, file(&SCRIPT_B)],
         b"file first 2 0\n",
     )
 }

@@ -5,7 +5,7 @@ mod runs;
 use std::hint::black_box;
 use std::time::{Duration, Instant};
 
-use compare::generate::histories::{self, Told};
+use compare::generate::histories::{self, Recorded};
 use compare::generate::pairs::{most_deletes, most_paths, most_steps};
 use compare::generate::plans::full_table;
 use compare::generate::random::Random;
@@ -76,7 +76,7 @@ pub fn run() {
 /// A history that makes some 500 rows and cuts some links, taken back whole;
 /// the same with the first of its records, checked last, made wrong.
 fn undo(random: &mut Random) {
-    let Told { after, history, .. } = histories::long(random);
+    let Recorded { after, history, .. } = histories::long(random);
     let after = to_vec(&after);
     let mut misfit = history.clone();
     misfit[3] ^= 0x80;
@@ -111,13 +111,13 @@ fn analysis() {
     let to_elements = Operation::Step(Axis::Child, Test::AnyElement);
     // The same paths from other documents: apart only where they start.
     let [here, there] = [0, 1].map(|document| most_paths(document, &steps, &[delete]));
-    let [roads, roads_there] = [0, 1].map(|document| most_steps(document, &steps, &[delete]));
+    let [chains, chains_there] = [0, 1].map(|document| most_steps(document, &steps, &[delete]));
     let [cuts, cuts_there] = [0, 1].map(most_deletes);
     // The same paths to rows of another kind: apart only where they end.
     let cut_leaves = most_paths(0, &steps, &[delete, to_leaves]);
     let read_elements = most_paths(0, &steps, &[to_elements]);
-    let cut_roads = most_steps(0, &steps, &[delete, to_leaves]);
-    let read_roads = most_steps(0, &steps, &[to_elements]);
+    let cut_chains = most_steps(0, &steps, &[delete, to_leaves]);
+    let read_chains = most_steps(0, &steps, &[to_elements]);
     let typical: [&[u8]; 2] = [
         // The leaves below zero under the children named 2.
         &[13, 1, 0, 4, 0, 2, 0, 4, 0, 3, 2, 2, 0],
@@ -136,14 +136,14 @@ fn analysis() {
         (
             "analysis, 48 steps, apart at start",
             0,
-            [&roads, &roads_there],
+            [&chains, &chains_there],
         ),
         (
             "analysis, 48 steps, apart at end",
             0,
-            [&cut_roads, &read_roads],
+            [&cut_chains, &read_chains],
         ),
-        ("analysis, 48 steps, met", 0, [&roads, &roads]),
+        ("analysis, 48 steps, met", 0, [&chains, &chains]),
         (
             "analysis, 55 deletes, apart at start",
             0,

@@ -18,7 +18,7 @@ const SUBTREE: usize = 250;
 const ROOT: [u8; 2] = [kind::DOCUMENT, 0];
 
 pub fn measure_runs() {
-    let (road, fan) = (to_vec(&road()), to_vec(&fan()));
+    let (chain, fan) = (to_vec(&chain()), to_vec(&fan()));
     let below = [&[kind::STEP, 1, 0, 0][..], &ROOT].concat();
     let children = [&[kind::STEP, 0, 0, 0][..], &ROOT].concat();
     let pick = [kind::PICK, 2, 0x80];
@@ -35,13 +35,13 @@ pub fn measure_runs() {
     measure(run_case(
         "run, empty value on 512 rows",
         0,
-        &road,
+        &chain,
         &[kind::EMPTY],
     ));
     measure(run_case(
         "run, descendant step over 512 rows, in a row",
         0,
-        &road,
+        &chain,
         &below,
     ));
     measure(run_case(
@@ -63,7 +63,7 @@ pub fn measure_runs() {
     measure(run_case(
         "run, for over 511 items with a step",
         0,
-        &road,
+        &chain,
         &each,
     ));
     measure(run_case("run, delete of 511 rows", 0, &fan, &delete));
@@ -113,7 +113,7 @@ fn run_case<'a>(name: &'static str, number: u64, plan: &'a [u8], script: &'a [u8
 }
 
 /// Each row below the one before it.
-fn road() -> Table {
+fn chain() -> Table {
     let mut table = Table::default();
     table.rows.push(Row::element(1, None));
     for number in 1..ROWS as u16 {

@@ -169,8 +169,7 @@ pub fn scripts() -> Vec<Vec<u8>> {
     for records in SCRIPT_RECORDS - 1..=SCRIPT_RECORDS + 1 {
         // A balanced tree of joins of `records` records or one fewer, with a
         // last record that is whole or cut off.
-        let mut script = Vec::new();
-        joins(records.div_ceil(2), &mut script);
+        let mut script = joins(records.div_ceil(2));
         scripts.push(script.clone());
         script.pop();
         for last in [&[][..], &[kind::STEP], &[kind::ELEMENT, 0], &[0x0E]] {
@@ -180,13 +179,11 @@ pub fn scripts() -> Vec<Vec<u8>> {
     scripts
 }
 
-/// Joins with this many empty values at their ends.
-fn joins(ends: usize, script: &mut Vec<u8>) {
+/// Joins, balanced, with this many empty values: twice as many records less
+/// one.
+pub fn joins(ends: usize) -> Vec<u8> {
     if ends == 1 {
-        script.push(kind::EMPTY);
-    } else {
-        script.push(kind::JOIN);
-        joins(ends / 2, script);
-        joins(ends - ends / 2, script);
+        return vec![kind::EMPTY];
     }
+    [vec![kind::JOIN], joins(ends / 2), joins(ends - ends / 2)].concat()
 }

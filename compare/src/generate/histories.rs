@@ -1,9 +1,9 @@
 //! Histories, with the tables before and after them.
 
-use super::pairs::{retold, Taste};
+use super::chains;
+use super::pairs::{with_bodies, Bodies};
 use super::plans::{self, Shape};
 use super::random::Random;
-use super::roads;
 use super::scripts::{script, Wanted};
 use crate::reference::history::{Record, MADE_BYTES};
 use crate::reference::limits::ROWS;
@@ -16,32 +16,32 @@ const TRIES: usize = 12;
 
 /// A history and the tables it leads from and to.
 #[derive(Clone, Debug)]
-pub struct Told {
+pub struct Recorded {
     pub before: Table,
     pub after: Table,
     pub history: Vec<u8>,
 }
 
 /// The history of a run of a random script on a random table.
-pub fn of_run(random: &mut Random, areas: &mut OwnedAreas) -> Told {
+pub fn of_run(random: &mut Random, areas: &mut OwnedAreas) -> Recorded {
     let before = table(random);
-    let mut told = Told {
+    let mut recorded = Recorded {
         after: before.clone(),
         before,
         history: Vec::new(),
     };
     for _ in 0..TRIES {
-        let script = lively(random);
-        let mut after = told.before.clone();
+        let script = coherent(random);
+        let mut after = recorded.before.clone();
         if let Ok(ran) = run(&mut after, &script, areas.lend()) {
-            told.after = after;
-            told.history = areas.history[..ran.history_length].to_vec();
+            recorded.after = after;
+            recorded.history = areas.history[..ran.history_length].to_vec();
             if ran.tally.records_written > 1 {
                 break;
             }
         }
     }
-    told
+    recorded
 }
 
 /// A well-formed table, with some rows left for a run, and a document 0 if
@@ -57,7 +57,7 @@ fn table(random: &mut Random) -> Table {
 }
 
 /// A script that often changes something.
-fn lively(random: &mut Random) -> Vec<u8> {
+fn coherent(random: &mut Random) -> Vec<u8> {
     match random.below(4) {
         0 => {
             let wanted = Wanted {
@@ -66,7 +66,7 @@ fn lively(random: &mut Random) -> Vec<u8> {
                 ..Wanted::small(random)
             };
             let bytes = script(random, wanted);
-            let taste = Taste {
+            let bodies = Bodies {
                 updates: 100,
                 descendants: 50,
                 named: 20,
@@ -74,22 +74,22 @@ fn lively(random: &mut Random) -> Vec<u8> {
                 documents: (0, 2),
                 upward: 20,
             };
-            retold(random, &bytes, taste)
+            with_bodies(random, &bytes, bodies)
         }
         1 => {
-            // For each row of a road: an update of document 0, or a delete of it.
-            let road = roads::road(random, 1);
+            // For each row of a chain: an update of document 0, or a delete of it.
+            let chain = chains::chain(random, 1);
             let update = match random.below(2) {
-                0 => roads::update(random, 1),
+                0 => chains::update(random, 1),
                 _ => vec![kind::DELETE, kind::VARIABLE, 0],
             };
-            [&[kind::FOR][..], &road, &update].concat()
+            [&[kind::FOR][..], &chain, &update].concat()
         }
         _ => {
             let parts = random.between(1, 4);
             let mut bytes = vec![kind::JOIN; parts];
             for _ in 0..=parts {
-                bytes.extend(roads::update(random, 2));
+                bytes.extend(chains::update(random, 2));
             }
             bytes
         }
@@ -97,7 +97,7 @@ fn lively(random: &mut Random) -> Vec<u8> {
 }
 
 /// A history of random changes, made on a random table.
-pub fn of_changes(random: &mut Random) -> Told {
+pub fn of_changes(random: &mut Random) -> Recorded {
     let changes = random.choose(&[1, 2, 3, 5, 12, 40]);
     let cuts = random.choose(&[10, 50, 90]);
     let before = table(random);
@@ -105,7 +105,7 @@ pub fn of_changes(random: &mut Random) -> Told {
 }
 
 /// A history that fills a table of a few rows, with some cuts.
-pub fn long(random: &mut Random) -> Told {
+pub fn long(random: &mut Random) -> Recorded {
     let shape = Shape {
         leaves: 30,
         marked: 100,
@@ -116,30 +116,30 @@ pub fn long(random: &mut Random) -> Told {
 }
 
 /// Applies random changes, of which so many percent are cuts.
-fn changed(random: &mut Random, before: Table, changes: usize, cuts: usize) -> Told {
-    let mut told = Told {
+fn changed(random: &mut Random, before: Table, changes: usize, cuts: usize) -> Recorded {
+    let mut recorded = Recorded {
         after: before.clone(),
         before,
         history: Vec::new(),
     };
     for _ in 0..changes {
-        let rows = told.after.rows.len();
+        let rows = recorded.after.rows.len();
         if random.chance(cuts) && rows > 0 {
             let number = random.below(rows) as u16;
-            let row = &mut told.after.rows[usize::from(number)];
+            let row = &mut recorded.after.rows[usize::from(number)];
             if let Some(old) = row.parent() {
                 *row = row.with_parent(None);
                 let old = Some(old);
-                append(&mut told.history, Record::Cut { number, old });
+                append(&mut recorded.history, Record::Cut { number, old });
             }
         } else if rows < ROWS {
-            let row = new_row(random, &told.after);
-            told.after.rows.push(row);
+            let row = new_row(random, &recorded.after);
+            recorded.after.rows.push(row);
             let number = rows as u16;
-            append(&mut told.history, Record::Made { number, row });
+            append(&mut recorded.history, Record::Made { number, row });
         }
     }
-    told
+    recorded
 }
 
 fn new_row(random: &mut Random, table: &Table) -> Row {

@@ -1,12 +1,13 @@
 //! Inputs for comparisons: random and hand-made, sound and damaged.
 
+pub mod chains;
+pub mod coherent;
 pub mod damage;
+pub mod document01;
 pub mod edges;
 pub mod histories;
-pub mod lively;
 pub mod pairs;
 pub mod plans;
 pub mod random;
-pub mod roads;
 pub mod runs;
 pub mod scripts;

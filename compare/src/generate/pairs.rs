@@ -1,14 +1,14 @@
 //! Pairs of scripts of which neither few nor most are free.
 
+use super::chains;
 use super::random::Random;
-use super::roads;
 use super::scripts::{script, Wanted};
 use crate::reference::limits::DOCUMENTS;
 use crate::reference::script::{kind, read, Axis, Operation, Relation, Test};
 
 /// What the records of a script are about, in percent.
 #[derive(Clone, Copy, Debug)]
-pub struct Taste {
+pub struct Bodies {
     /// Deletes and inserts that stay; the others only read.
     pub updates: usize,
     /// Steps to descendants.
@@ -23,9 +23,9 @@ pub struct Taste {
     pub upward: usize,
 }
 
-impl Taste {
-    fn random(random: &mut Random) -> Taste {
-        Taste {
+impl Bodies {
+    fn random(random: &mut Random) -> Bodies {
+        Bodies {
             updates: random.choose(&[10, 40, 80, 100]),
             descendants: random.choose(&[0, 10, 40]),
             named: random.choose(&[20, 60, 95]),
@@ -36,14 +36,14 @@ impl Taste {
     }
 
     /// Documents 0 and 1, names 1 and 2, downward only.
-    pub fn small(random: &mut Random) -> Taste {
-        Taste {
+    pub fn small(random: &mut Random) -> Bodies {
+        Bodies {
             updates: random.choose(&[30, 60, 100]),
             descendants: random.choose(&[0, 10, 40]),
             names: 2,
             documents: random.choose(&[(0, 1), (0, 2)]),
             upward: 0,
-            ..Taste::random(random)
+            ..Bodies::random(random)
         }
     }
 }
@@ -51,7 +51,7 @@ impl Taste {
 /// Two scripts, of any size; some are just past a limit and refused.
 pub fn pair(random: &mut Random) -> [Vec<u8>; 2] {
     if random.chance(15) {
-        return [(); 2].map(|()| roads::script(random, 4));
+        return [(); 2].map(|()| chains::script(random, 4));
     }
     let near_limits = random.chance(20);
     [(); 2].map(|()| {
@@ -63,13 +63,13 @@ pub fn pair(random: &mut Random) -> [Vec<u8>; 2] {
         } else {
             middle(random)
         };
-        let mut taste = Taste::random(random);
+        let mut bodies = Bodies::random(random);
         if near_limits {
             // Many records are about as likely to meet with few updates.
-            taste.updates = random.choose(&[0, 2, 5, 15]);
+            bodies.updates = random.choose(&[0, 2, 5, 15]);
         }
         let bytes = script(random, wanted);
-        retold(random, &bytes, taste)
+        with_bodies(random, &bytes, bodies)
     })
 }
 
@@ -78,12 +78,12 @@ pub fn pair(random: &mut Random) -> [Vec<u8>; 2] {
 pub fn small(random: &mut Random) -> Vec<u8> {
     if random.chance(70) {
         let steps = random.between(1, 3);
-        return roads::script(random, steps);
+        return chains::script(random, steps);
     }
     let wanted = Wanted::small(random);
     let bytes = script(random, wanted);
-    let taste = Taste::small(random);
-    retold(random, &bytes, taste)
+    let bodies = Bodies::small(random);
+    with_bodies(random, &bytes, bodies)
 }
 
 fn middle(random: &mut Random) -> Wanted {
@@ -97,37 +97,37 @@ fn middle(random: &mut Random) -> Wanted {
 
 /// A script with the records of another, but other bodies. What is refused is
 /// left as it is.
-pub fn retold(random: &mut Random, bytes: &[u8], taste: Taste) -> Vec<u8> {
+pub fn with_bodies(random: &mut Random, bytes: &[u8], bodies: Bodies) -> Vec<u8> {
     let Ok(script) = read(bytes) else {
         return bytes.to_vec();
     };
-    let mut told = Vec::with_capacity(bytes.len());
-    let mut upward = random.chance(taste.upward);
+    let mut changed = Vec::with_capacity(bytes.len());
+    let mut upward = random.chance(bodies.upward);
     for record in &script.records {
         let operation = match record.operation {
             Operation::Document(_) => {
-                let (first, count) = taste.documents;
+                let (first, count) = bodies.documents;
                 Operation::Document((first + random.below(count.into()) as u8) % DOCUMENTS as u8)
             }
-            Operation::Step(..) => step(random, taste, std::mem::take(&mut upward)),
-            Operation::Delete if !random.chance(taste.updates) => step(random, taste, false),
-            Operation::Insert if !random.chance(taste.updates) => Operation::Join,
+            Operation::Step(..) => step(random, bodies, std::mem::take(&mut upward)),
+            Operation::Delete if !random.chance(bodies.updates) => step(random, bodies, false),
+            Operation::Insert if !random.chance(bodies.updates) => Operation::Join,
             operation => operation,
         };
-        encode(operation, &mut told);
+        encode(operation, &mut changed);
     }
-    told
+    changed
 }
 
-fn step(random: &mut Random, taste: Taste, upward: bool) -> Operation {
-    let axis = match (upward, random.chance(taste.descendants)) {
+fn step(random: &mut Random, bodies: Bodies, upward: bool) -> Operation {
+    let axis = match (upward, random.chance(bodies.descendants)) {
         (false, false) => Axis::Child,
         (false, true) => Axis::Descendant,
         (true, false) => Axis::Parent,
         (true, true) => Axis::Ancestor,
     };
-    let test = if random.chance(taste.named) {
-        Test::Named(random.between(1, taste.names.into()) as u8)
+    let test = if random.chance(bodies.named) {
+        Test::Named(random.between(1, bodies.names.into()) as u8)
     } else {
         random.choose(&[Test::AnyNode, Test::AnyElement, Test::AnyLeaf])
     };
@@ -273,22 +273,26 @@ pub fn most_paths(document: u8, steps: &[(Axis, Test)], end: &[Operation]) -> Ve
     bytes
 }
 
-/// A script of 64 records with very many steps: eight roads of six steps each,
+/// A script of 64 records with very many steps: eight chains of six steps each,
 /// joined below records with one operand, each but the first in place of a step
-/// of the last road. The steps are used in turn.
+/// of the last chain. The steps are used in turn.
 pub fn most_steps(document: u8, steps: &[(Axis, Test)], last: &[Operation]) -> Vec<u8> {
     let mut bytes = Vec::new();
     let mut steps = steps.iter().cycle();
     for &operation in last {
         encode(operation, &mut bytes);
     }
-    for road in 0..8u32 {
-        // The joins above the roads are a balanced tree.
-        let joins = if road == 0 { 3 } else { road.trailing_zeros() };
+    for chain in 0..8u32 {
+        // The joins above the chains are a balanced tree.
+        let joins = if chain == 0 {
+            3
+        } else {
+            chain.trailing_zeros()
+        };
         for _ in 0..joins {
             encode(Operation::Join, &mut bytes);
         }
-        let fewer = if road == 7 { last.len() - 1 } else { 0 };
+        let fewer = if chain == 7 { last.len() - 1 } else { 0 };
         for _ in fewer..6 {
             let &(axis, test) = steps.next().expect("there are steps");
             encode(Operation::Step(axis, test), &mut bytes);

@@ -118,3 +118,15 @@ pub fn full_table(random: &mut Random) -> Table {
     }
     table
 }
+
+/// A root with leaves, of which row 1 has the value 1 and the others 0;
+/// document 0 marks it.
+pub fn star(rows: usize) -> Table {
+    let mut table = Table::default();
+    table.rows.push(Row::element(1, None));
+    for number in 1..rows {
+        table.rows.push(Row::leaf(i8::from(number == 1), Some(0)));
+    }
+    table.marks[0] = Some(0);
+    table
+}

@@ -2,7 +2,7 @@
 //! delete, copies of copies, new elements with content, loops that update what
 //! they walk, tables that become full and values that grow too long.
 
-use super::lively::lively;
+use super::coherent::coherent;
 use super::plans::{self, Shape};
 use super::random::Random;
 use super::scripts::{self, Wanted};
@@ -35,7 +35,7 @@ pub fn case(random: &mut Random) -> Case {
     let plan = plan(random);
     let script = match random.below(10) {
         0 => any_script(random, plan.rows.len()),
-        _ => lively(random, plan.rows.len()),
+        _ => coherent(random, plan.rows.len()),
     };
     Case { plan, script }
 }

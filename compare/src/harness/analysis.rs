@@ -2,7 +2,7 @@
 
 use compare::generate::damage::{self, Values};
 use compare::generate::edges;
-use compare::generate::pairs::{self, Taste};
+use compare::generate::pairs::{self, Bodies};
 use compare::generate::random::Random;
 use compare::generate::scripts::{script, Wanted};
 use compare::interface::Answer;
@@ -11,7 +11,7 @@ use compare::reference::path::{count_at_most, infer, Which};
 use compare::reference::script::{kind, read, Axis, Operation, Test};
 use compare::reference::small_trees::{Seen, SmallTrees};
 
-use super::checker::{told, Checker};
+use super::checker::{difference, Checker};
 use super::tally::Call;
 use super::{Difference, Volume};
 use crate::ffi;
@@ -73,7 +73,7 @@ fn worked(checker: &mut Checker) -> Result<(), Difference> {
         for [one, two] in [[first, second], [second, first]] {
             if checker.analyse(one, two)? != Answer::analysed(answer) {
                 let message = format!("document 01 says {}", answer.word());
-                return Err(told(Call::Analyse, &[one, two], &message));
+                return Err(difference(Call::Analyse, &[one, two], &message));
             }
         }
     }
@@ -90,7 +90,7 @@ fn both_ways(checker: &mut Checker, first: &[u8], second: &[u8]) -> Result<(), D
     }
     if swapped != answer {
         let message = "law broken: the answer depends on the order";
-        return Err(told(Call::Analyse, &[first, second], message));
+        return Err(difference(Call::Analyse, &[first, second], message));
     }
     listed(answer, first, second)
 }
@@ -107,7 +107,7 @@ fn listed(answer: Answer, first: &[u8], second: &[u8]) -> Result<(), Difference>
     let listed = analyse_read(&one, &two);
     if Answer::analysed(listed) != answer {
         let message = format!("the sets of paths say {}, not {answer:?}", listed.word());
-        return Err(told(Call::Analyse, &[first, second], &message));
+        return Err(difference(Call::Analyse, &[first, second], &message));
     }
     Ok(())
 }
@@ -165,12 +165,12 @@ fn limits(checker: &mut Checker, random: &mut Random, volume: Volume) -> Result<
         for _ in 0..volume.of(40) {
             let [one, two] = [(); 2].map(|()| {
                 let bytes = script(random, wanted);
-                let taste = Taste {
+                let bodies = Bodies {
                     updates: random.choose(&[0, 2, 5]),
                     upward: 10,
-                    ..Taste::small(random)
+                    ..Bodies::small(random)
                 };
-                pairs::retold(random, &bytes, taste)
+                pairs::with_bodies(random, &bytes, bodies)
             });
             both_ways(checker, &one, &two)?;
         }
@@ -207,7 +207,7 @@ fn small_stack(checker: &mut Checker) -> Result<(), Difference> {
             });
             if small != usual {
                 let message = "another answer on a small stack";
-                return Err(told(Call::Analyse, &[first, second], message));
+                return Err(difference(Call::Analyse, &[first, second], message));
             }
         }
     }
@@ -349,7 +349,7 @@ fn tried(
     let expected = if found { Meet } else { Free };
     if (found || enough) && answer != Answer::analysed(expected) {
         let message = format!("small trees say {}, not {answer:?}", expected.word());
-        return Err(told(
+        return Err(difference(
             Call::Analyse,
             &[&first.bytes, &second.bytes],
             &message,

@@ -57,7 +57,7 @@ impl Checker {
             let written = &self.out.library()[..answer.place() as usize];
             if written != plan {
                 let message = "law broken: an accepted plan is written back otherwise";
-                return Err(told(Call::Plan, &[plan], message));
+                return Err(difference(Call::Plan, &[plan], message));
             }
         }
         let answer = self.stored(Call::Sweep, plan, out_length)?;
@@ -67,7 +67,7 @@ impl Checker {
             let twice = &self.out.library()[..again.place() as usize];
             if again.number() != 0 || twice != once {
                 let message = "law broken: a second sweep changes something";
-                return Err(told(Call::Sweep, &[plan], message));
+                return Err(difference(Call::Sweep, &[plan], message));
             }
         }
         Ok(())
@@ -85,7 +85,7 @@ impl Checker {
         });
         compare(answers)
             .and(areas)
-            .map_err(|message| told(call, &[plan], &message))?;
+            .map_err(|message| difference(call, &[plan], &message))?;
         self.tally.count(call, answers.1);
         Ok(answers.1)
     }
@@ -93,7 +93,7 @@ impl Checker {
     /// Compares `yegnabit_script`.
     pub fn script(&mut self, script: &[u8]) -> Result<(), Difference> {
         let answers = (ffi::script(script), interface::script(script));
-        compare(answers).map_err(|message| told(Call::Script, &[script], &message))?;
+        compare(answers).map_err(|message| difference(Call::Script, &[script], &message))?;
         self.tally.count(Call::Script, answers.1);
         Ok(())
     }
@@ -120,7 +120,7 @@ impl Checker {
         });
         compare(answers)
             .and(areas)
-            .map_err(|message| told(call, &[plan, history], &message))?;
+            .map_err(|message| difference(call, &[plan, history], &message))?;
         self.tally.count(call, answers.1);
         Ok(answers.1)
     }
@@ -137,7 +137,7 @@ impl Checker {
         let written = &self.out.library()[..answer.place() as usize];
         if answer.number() != 0 || written != before {
             let message = "law broken: a run is not taken back by its history";
-            return Err(told(Call::Undo, &[after, history], message));
+            return Err(difference(Call::Undo, &[after, history], message));
         }
         Ok(())
     }
@@ -148,7 +148,8 @@ impl Checker {
             ffi::analyse(first, second),
             interface::analyse(first, second),
         );
-        compare(answers).map_err(|message| told(Call::Analyse, &[first, second], &message))?;
+        compare(answers)
+            .map_err(|message| difference(Call::Analyse, &[first, second], &message))?;
         self.tally.count(Call::Analyse, answers.1);
         Ok(answers.1)
     }
@@ -242,8 +243,8 @@ pub fn compare((library, reference): (Answer, Answer)) -> Result<(), Difference>
 }
 
 /// A message with the inputs in base 16.
-pub fn told(call: Call, inputs: &[&[u8]], message: &str) -> Difference {
-    let mut told = format!("{}: {message}", call.name());
+pub fn difference(call: Call, inputs: &[&[u8]], message: &str) -> Difference {
+    let mut text = format!("{}: {message}", call.name());
     for input in inputs {
         let shown: Vec<String> = input
             .iter()
@@ -251,13 +252,13 @@ pub fn told(call: Call, inputs: &[&[u8]], message: &str) -> Difference {
             .map(|byte| format!("{byte:02X}"))
             .collect();
         let more = if input.len() > SHOWN { " .." } else { "" };
-        told += &format!(
+        text += &format!(
             "\ninput of {} bytes: {}{more}",
             input.len(),
             shown.join(" ")
         );
     }
-    told
+    text
 }
 
 fn told_table(call: Call, raw: &RawTable, message: &str) -> Difference {

@@ -1,7 +1,7 @@
 //! Undo: `yegnabit_undo`.
 
 use compare::generate::damage::{self, Values};
-use compare::generate::histories::{append, long, of_changes, of_run, Told};
+use compare::generate::histories::{append, long, of_changes, of_run, Recorded};
 use compare::generate::plans;
 use compare::generate::random::Random;
 use compare::reference::history::{
@@ -20,7 +20,7 @@ const SEED: u64 = 0x41;
 const SMALL: usize = 40;
 /// Histories up to this length are damaged with many values of each byte.
 const MIDDLE: usize = 200;
-/// Random bytes without any plan are at most this long.
+/// Histories of random bytes are at most this long.
 const NOISE: usize = 40;
 
 pub fn test(checker: &mut Checker, volume: Volume) -> Result<(), Difference> {
@@ -29,23 +29,23 @@ pub fn test(checker: &mut Checker, volume: Volume) -> Result<(), Difference> {
     limits(checker)?;
     let mut areas = OwnedAreas::default();
     for round in 0..volume.of(6000) {
-        let told = match round % 2 {
+        let difference = match round % 2 {
             0 => of_run(&mut random, &mut areas),
             _ => of_changes(&mut random),
         };
-        fits(checker, &mut random, &told)?;
+        fits(checker, &mut random, &difference)?;
     }
     for round in 0..volume.of(300) {
-        let told = match round % 2 {
+        let difference = match round % 2 {
             0 => of_run(&mut random, &mut areas),
             _ => of_changes(&mut random),
         };
-        damaged(checker, &mut random, &told)?;
+        damaged(checker, &mut random, &difference)?;
     }
     for _ in 0..volume.of(3) {
-        let told = long(&mut random);
-        fits(checker, &mut random, &told)?;
-        damaged(checker, &mut random, &told)?;
+        let difference = long(&mut random);
+        fits(checker, &mut random, &difference)?;
+        damaged(checker, &mut random, &difference)?;
     }
     for _ in 0..volume.of(200) {
         lengths(checker, &mut random, &mut areas)?;
@@ -58,36 +58,44 @@ pub fn test(checker: &mut Checker, volume: Volume) -> Result<(), Difference> {
 }
 
 /// A history on the plan it left, and then each time with one thing wrong.
-fn fits(checker: &mut Checker, random: &mut Random, told: &Told) -> Result<(), Difference> {
-    let (before, after) = (to_vec(&told.before), to_vec(&told.after));
-    checker.taken_back(&before, &after, &told.history)?;
-    checker.undo(&before, &told.history)?;
+fn fits(
+    checker: &mut Checker,
+    random: &mut Random,
+    difference: &Recorded,
+) -> Result<(), Difference> {
+    let (before, after) = (to_vec(&difference.before), to_vec(&difference.after));
+    checker.taken_back(&before, &after, &difference.history)?;
+    checker.undo(&before, &difference.history)?;
     let other = to_vec(&plans::any_table(random));
-    checker.undo(&other, &told.history)?;
-    checker.undo(&after, &damage::appended(&told.history, random))?;
-    let several = damage::several(&told.history, random);
+    checker.undo(&other, &difference.history)?;
+    checker.undo(&after, &damage::appended(&difference.history, random))?;
+    let several = damage::several(&difference.history, random);
     checker.undo(&after, &several)?;
     let broken = damage::several(&after, random);
-    checker.undo(&broken, &told.history)?;
+    checker.undo(&broken, &difference.history)?;
     checker.undo(&broken, &several)?;
-    checker.undo(&after, &told.history.repeat(2))?;
+    checker.undo(&after, &difference.history.repeat(2))?;
     checker.undo(&after, &other)?;
-    checker.undo(&told.history, &after)?;
+    checker.undo(&difference.history, &after)?;
 
-    let mut more = told.after.clone();
+    let mut more = difference.after.clone();
     more.rows.push(Row::element(1, None));
-    checker.undo(&to_vec(&more), &told.history)?;
-    wrong_marks(checker, random, told)?;
-    wrong_cuts(checker, random, told)
+    checker.undo(&to_vec(&more), &difference.history)?;
+    wrong_marks(checker, random, difference)?;
+    wrong_cuts(checker, random, difference)
 }
 
 /// A document marks a row of the plan that was made or cut, or any other.
-fn wrong_marks(checker: &mut Checker, random: &mut Random, told: &Told) -> Result<(), Difference> {
-    let mut marked = told.after.clone();
+fn wrong_marks(
+    checker: &mut Checker,
+    random: &mut Random,
+    difference: &Recorded,
+) -> Result<(), Difference> {
+    let mut marked = difference.after.clone();
     let rows = marked.rows.len();
-    let (old, document) = (told.before.rows.len(), random.below(DOCUMENTS));
+    let (old, document) = (difference.before.rows.len(), random.below(DOCUMENTS));
     let free = (0..rows as u16).filter(|&number| {
-        let cut = told
+        let cut = difference
             .before
             .row(number)
             .is_some_and(|row| row.parent().is_some());
@@ -96,16 +104,20 @@ fn wrong_marks(checker: &mut Checker, random: &mut Random, told: &Told) -> Resul
     let free: Vec<u16> = free.collect();
     if !free.is_empty() {
         marked.marks[document] = Some(random.choose(&free));
-        checker.undo(&to_vec(&marked), &told.history)?;
+        checker.undo(&to_vec(&marked), &difference.history)?;
     }
     Ok(())
 }
 
 /// One more cut, of any row, from no parent, a leaf, itself, a higher row, an
 /// element or no row at all; in front of the history, inside, or after it.
-fn wrong_cuts(checker: &mut Checker, random: &mut Random, told: &Told) -> Result<(), Difference> {
-    let after = to_vec(&told.after);
-    let rows = told.after.rows.len();
+fn wrong_cuts(
+    checker: &mut Checker,
+    random: &mut Random,
+    difference: &Recorded,
+) -> Result<(), Difference> {
+    let after = to_vec(&difference.after);
+    let rows = difference.after.rows.len();
     let number = random.below(rows + 2) as u16;
     let others = [
         NO_PARENT,
@@ -126,12 +138,12 @@ fn wrong_cuts(checker: &mut Checker, random: &mut Random, told: &Told) -> Result
                 old: Some(old),
             },
         );
-        checker.undo(&after, &[&told.history[..], &cut].concat())?;
-        checker.undo(&after, &[&cut[..], &told.history].concat())?;
+        checker.undo(&after, &[&difference.history[..], &cut].concat())?;
+        checker.undo(&after, &[&cut[..], &difference.history].concat())?;
     }
     // The old parents of the history's own cuts.
-    if let Some(start) = some_cut(random, &told.history) {
-        let mut changed = told.history.clone();
+    if let Some(start) = some_cut(random, &difference.history) {
+        let mut changed = difference.history.clone();
         for old in others {
             changed[start + 3..start + CUT_BYTES].copy_from_slice(&old.to_le_bytes());
             checker.undo(&after, &changed)?;
@@ -153,14 +165,18 @@ fn some_cut(random: &mut Random, history: &[u8]) -> Option<usize> {
 }
 
 /// A history with each byte changed, cut at each length, and its plan damaged.
-fn damaged(checker: &mut Checker, random: &mut Random, told: &Told) -> Result<(), Difference> {
-    let after = to_vec(&told.after);
+fn damaged(
+    checker: &mut Checker,
+    random: &mut Random,
+    difference: &Recorded,
+) -> Result<(), Difference> {
+    let after = to_vec(&difference.after);
     let values = |length: usize| match length {
         0..=SMALL => Values::All,
         0..=MIDDLE => Values::Likely,
         _ => Values::Few,
     };
-    let history = &told.history;
+    let history = &difference.history;
     let mut check = |plan: &[u8], history: &[u8]| checker.undo(plan, history).map(|_| ());
     damage::each_byte(history, values(history.len()), random, |damaged| {
         check(&after, damaged)
@@ -181,11 +197,11 @@ fn lengths(
     random: &mut Random,
     areas: &mut OwnedAreas,
 ) -> Result<(), Difference> {
-    let told = of_run(random, areas);
-    let after = to_vec(&told.after);
+    let difference = of_run(random, areas);
+    let after = to_vec(&difference.after);
     let broken = damage::several(&after, random);
-    let misfit = damage::several(&told.history, random);
-    let stored = to_vec(&told.before).len();
+    let misfit = damage::several(&difference.history, random);
+    let stored = to_vec(&difference.before).len();
     for length in [
         0,
         1,
@@ -198,9 +214,9 @@ fn lengths(
         PLAN_BYTES + 1,
         2 * PLAN_BYTES,
     ] {
-        checker.undo_in(&after, &told.history, length)?;
+        checker.undo_in(&after, &difference.history, length)?;
         checker.undo_in(&after, &misfit, length)?;
-        checker.undo_in(&broken, &told.history, length)?;
+        checker.undo_in(&broken, &difference.history, length)?;
         checker.undo_in(&broken, &misfit, length)?;
     }
     Ok(())
@@ -321,7 +337,7 @@ fn limits(checker: &mut Checker) -> Result<(), Difference> {
     Ok(())
 }
 
-/// Bytes without any plan, but mostly of kinds and small numbers.
+/// A history of random bytes, mostly kinds and small numbers.
 fn noise(random: &mut Random) -> Vec<u8> {
     let length = random.between(0, NOISE);
     let mut history = Vec::with_capacity(length + MADE_BYTES);

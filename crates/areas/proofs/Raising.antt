@@ -1,10 +1,8 @@
 -- A tally lent by &mut and raised by a function that takes it by value: the walk that `tally::add_made` and `tally::add_cut` share.
 --     raises g     the MIR of both: the record is read out and handed to g, and what g returns is stored
---     raise-meets  it meets the contract "at exit the tally is `up` of what it was", where g meets the contract "the result is `up` of
--- the tally"
+--     raise-meets  at exit the tally is `up` of what it was, where g meets the contract that its result is `up` of the tally
 -- The borrow is opened, g is called, and the borrow is closed at the record that g returned. All that is known of g is that it meets its
--- contract.
--- Assumes nothing.
+-- contract. Assumes nothing.
 use mathlib.Core.Path.{_≡_, refl}
 use Prim.Native.Nat.{ℕ, _<_, _^_}
 use mathlib.Core.List.{[], _∷_, List}

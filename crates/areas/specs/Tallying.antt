@@ -1,4 +1,5 @@
--- The tally of a run: document 01's "One tally follows a run: rows made, links cut, records written".
+-- The tally of a run: document 01's "One tally follows a run: rows made, links cut, records written". Assumes nothing: these are
+-- definitions.
 use Prim.Native.Nat.{ℕ, _+_}
 use Rattle.areas.specs.declared.tally.Tally.{Tally}
 

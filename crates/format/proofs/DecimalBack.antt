@@ -72,4 +72,9 @@ first-digit (suc k) n p h =
     (first-digit k (n / 10) (omega (arith, high n l)) (omega (arith, h, pow-suc 10 (suc k))))))
 
 pub decimalBack : DecimalBack
-decimalBack n h = (value-digits 19 n (omega arith), all-digits 20 n, λ l. first-digit 19 n (omega arith) (omega arith))
+decimalBack n h = (
+  value-digits 19 n (omega arith),
+  all-digits 20 n,
+  λ l. ap length (digits-low 19 n (lt-ltb n 10 l)),
+  λ l. first-digit 19 n (omega arith) (omega arith),
+)

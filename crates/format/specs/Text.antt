@@ -49,8 +49,10 @@ unfoldable pub valueFrom : (before : ℕ) → (digits : List ℕ) → ℕ
 valueFrom v [] = v
 valueFrom v (d ∷ ds) = valueFrom (10 * v + (d - 48)) ds
 
--- A number of 64 bits is read back from its digits, each of which is one of `0` to `9`; no zero stands in front of others
+-- A number of 64 bits is read back from its digits, each of which is one of `0` to `9`; one below 10 has one digit, and no zero stands in
+-- front of others
 abbrev pub DecimalBack : Type 0
 DecimalBack =
     (n : ℕ) → n < 18446744073709551616 →
-    (valueFrom 0 (decimal n) ≡ n) × (all (isIn 48 57) (decimal n) ≡ true) × (10 ≤ n → 48 < getD (decimal n) 0 0)
+    (valueFrom 0 (decimal n) ≡ n) × (all (isIn 48 57) (decimal n) ≡ true) × (n < 10 → length (decimal n) ≡ 1) ×
+    (10 ≤ n → 48 < getD (decimal n) 0 0)

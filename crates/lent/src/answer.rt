@@ -9,9 +9,12 @@ pub const PLAN: u8 = 1;
 
 pub const SCRIPT: u8 = 2;
 
+// A place takes 48 bits: more than any memory has bytes.
+const PLACES: u64 = 0x1_0000_0000_0000;
+
 // number + 256 × which + 65,536 × place.
 pub fn code(number: u8, which: u8, place: usize) -> u64
     ensures { λ r. ⌜ r ≡ codeOf number which place ⌝ }
 {
-    (number as u64) + 256 * (which as u64) + 65536 * (place as u64 % 281474976710656)
+    (number as u64) + 256 * (which as u64) + 65536 * (place as u64 % PLACES)
 }

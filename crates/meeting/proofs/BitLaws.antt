@@ -4,11 +4,17 @@ use mathlib.Core.Bool.{Bool, true, false, _||_}
 use Prim.Native.Nat.{ℕ, zero, suc, _+_, _*_, _/_, _%_, _^_, _<_, max}
 use native.Mathlib.Omega.{arith}
 use lib.Dec.{eqb}
+use borrow.Author.Tests.{eqb-true}
 use lib.Bits.{bitOr, or-step, or-shr}
 use Rattle.model.specs.Base.{pick}
 use Rattle.model.specs.Meeting.{Cell, joinCell}
+use Rattle.meeting.specs.Cells.{noCell}
 use Rattle.meeting.specs.Codes.{cellBits}
 use Rattle.meeting.proofs.CellLaws.{cell-equal}
+
+-- NO BIT SET: nothing in common
+pub no-bits : (b : ℕ) → eqb b 0 ≡ true → cellBits b ≡ noCell
+no-bits b e = ap cellBits (eqb-true b 0 e)
 
 -- A CELL from two tests, by the weights of their bits
 pub two-bits : (m n : ℕ) (make : Bool → Bool → Cell) → cellBits (m * 1 + n * 1) ≡ make true true →

@@ -1,6 +1,6 @@
 // What two positions can have in common, and how steps lead from one such cell to the next.
 ghost use mathlib.Core.Path.{_≡_};
-ghost use mathlib.Core.Bool.{true};
+ghost use lib.Dec.{eqb};
 ghost use Prim.Native.Nat.{_<_};
 ghost use Rattle.model.specs.Base.{pick};
 ghost use Rattle.model.specs.Meeting.{onCell, downCell, upCell};
@@ -103,7 +103,7 @@ impl Cell {
 
     // Nothing in common, as a test.
     pub fn is_none(self) -> bool
-        ensures { λ r. ⌜ (r ≡ true → cellOf self ≡ noCell) ⌝ }
+        ensures { λ r. ⌜ r ≡ eqb (self .bits) 0 ⌝ }
     {
         self.bits == 0
     }

@@ -50,7 +50,7 @@ isThe i (some p) = eqb p i
 abbrev pub isMarked : Table → (row : ℕ) → Bool
 isMarked x i = any (isThe i) (x .marks)
 
--- a row more, a row without its parent, a mark more
+-- a row more, a row with another parent, a mark more
 abbrev pub withRow : Table → Row → Table
 withRow x r = table (x .rows ++ (r ∷ [])) (x .marks)
 

@@ -1,3 +1,3 @@
 pub mod FillLaws
 pub mod AnalysisLaws
-pub mod SaidLaws
+pub mod Promised

@@ -13,8 +13,7 @@ use Rattle.positions.specs.Positions.{Position, nowhere, root, over, uni
 use Rattle.meeting.specs.Cells.{noCell, sum, between, Cells}
 
 -- THE SOURCES of a position: what leads down to its nodes last, a document's root, or a step from the nodes of a lower position. A document
--- and a step have one source, themselves. A union has none of its own: its cells are those of its parts. With upward steps a position would
--- have several: a source for each way down to the nodes climbed to
+-- and a step have one source, themselves. A union has none of its own: its cells are those of its parts
 pub data Source : Type 0 where
   fromRoot : (document : ℕ) → Source
   fromStep : Step → (operand : ℕ) → Source
@@ -25,7 +24,7 @@ sourcesOf (root d) = fromRoot d ∷ []
 sourcesOf (over s i) = fromStep s i ∷ []
 sourcesOf (union a b) = []
 
--- the roots of two documents: an element, if the documents are one. A test on the root, where steps climb back to it, belongs here
+-- the roots of two documents: an element, if the documents are one
 abbrev pub rootsCell : (first second : ℕ) → Cell
 rootsCell d e = startCell (documentPlace d) (documentPlace e)
 

@@ -8,6 +8,7 @@ ghost use Rattle.table.specs.Words.{linked};
 // Stored for the parent where there is none.
 pub const NONE: usize = 0xFFFF;
 
+// A byte as a size.
 pub fn byte(b: u8) -> usize
     ensures { λ r. ⌜ r ≡ b ⌝ }
     ensures { λ r. ⌜ r < 256 ⌝ }
@@ -15,6 +16,7 @@ pub fn byte(b: u8) -> usize
     b as usize
 }
 
+// A byte as part of a row's word.
 pub fn wide(b: u8) -> u32
     ensures { λ r. ⌜ r ≡ b ⌝ }
     ensures { λ r. ⌜ r < 256 ⌝ }
@@ -22,6 +24,7 @@ pub fn wide(b: u8) -> u32
     b as u32
 }
 
+// A two-byte number as a size.
 pub fn index(n: u16) -> usize
     ensures { λ r. ⌜ r ≡ n ⌝ }
     ensures { λ r. ⌜ r < 65536 ⌝ }

@@ -6,7 +6,7 @@ use compare::reference::limits::{ANSWER_NUMBERS, HISTORY_BYTES, PLAN_BYTES, WORK
 use super::shares::Shares;
 use crate::ffi;
 use crate::harness::area::Twin;
-use crate::harness::checker::{compare, told, Checker};
+use crate::harness::checker::{compare, difference, Checker};
 use crate::harness::tally::Call;
 use crate::harness::Difference;
 
@@ -109,14 +109,14 @@ impl Runs<'_> {
             .and_then(|()| self.work.compare().map_err(named("work")))
             .and_then(|()| self.out.compare().map_err(named("out")))
             .and_then(|()| self.done.compare().map_err(named("done")))
-            .map_err(|message| told(Call::Run, &[plan, script], &message))?;
+            .map_err(|message| difference(Call::Run, &[plan, script], &message))?;
         self.checker.tally.count(Call::Run, library);
         if lengths.done >= DONE_NUMBERS {
             let done = &self.done.library()[..DONE_NUMBERS];
             self.shares.count(script, library, done);
             if library.number() == 0 && done[1] + done[2] != done[3] {
                 let message = "law broken: the tally does not add up";
-                return Err(told(Call::Run, &[plan, script], message));
+                return Err(difference(Call::Run, &[plan, script], message));
             }
         }
         Ok(library)

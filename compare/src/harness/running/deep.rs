@@ -1,15 +1,15 @@
 //! Runs on a small stack: the deepest nesting, with full loops.
 
+use compare::generate::plans::star;
 use compare::generate::random::Random;
 use compare::generate::scripts::{script, Wanted};
 use compare::interface::{self, Answer, Areas};
 use compare::reference::limits::{BINDERS, DEPTH, ROWS, SCRIPT_RECORDS};
 use compare::reference::plan::to_vec;
 use compare::reference::script::{kind, read};
-use compare::reference::table::{Row, Table};
 
 use crate::ffi;
-use crate::harness::checker::{compare, told};
+use crate::harness::checker::{compare, difference};
 use crate::harness::tally::Call;
 use crate::harness::{Difference, Volume};
 
@@ -51,10 +51,10 @@ pub fn test(random: &mut Random, volume: Volume) -> Result<(), Difference> {
         let mut expected = Areas::holding(7);
         let reference = interface::run(plan, script, expected.lend());
         compare((answer, reference))
-            .map_err(|message| told(Call::Run, &[plan, script], &message))?;
+            .map_err(|message| difference(Call::Run, &[plan, script], &message))?;
         if areas != expected {
             let message = "the areas of a run on a small stack differ";
-            return Err(told(Call::Run, &[plan, script], message));
+            return Err(difference(Call::Run, &[plan, script], message));
         }
     }
     Ok(())
@@ -79,15 +79,6 @@ fn on_small_stack(cases: &[(&[u8], Vec<u8>)]) -> Result<Vec<(Answer, Areas)>, Di
             .join()
             .map_err(|_| "a run failed on a small stack".to_string())
     })
-}
-
-/// A root with leaves; document 0 marks it.
-fn star(rows: usize) -> Table {
-    let mut table = Table::default();
-    table.rows.push(Row::element(1, None));
-    table.rows.resize(rows, Row::leaf(0, Some(0)));
-    table.marks[0] = Some(0);
-    table
 }
 
 /// Eight binders, and below them records of one kind down to depth 16. Where

@@ -7,6 +7,7 @@ mod shares;
 mod worked;
 
 use compare::generate::damage::{self, Values};
+use compare::generate::document01::PLAN_P;
 use compare::generate::random::Random;
 use compare::generate::runs::{case, plan, Case};
 use compare::reference::limits::ROWS;
@@ -161,7 +162,7 @@ fn small_scripts(runs: &mut Runs<'_>) -> Result<(), Difference> {
                 script.extend(&alphabet[code % alphabet.len()]);
                 code /= alphabet.len();
             }
-            runs.run(&worked::PLAN_P, &script)?;
+            runs.run(&PLAN_P, &script)?;
             if random.chance(10) {
                 runs.run(&other, &script)?;
             }

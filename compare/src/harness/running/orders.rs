@@ -1,11 +1,11 @@
 //! Demand 3 as a test: free scripts run in both orders.
 
-use compare::generate::lively::lively;
+use compare::generate::chains;
+use compare::generate::coherent::coherent;
 use compare::generate::pairs;
 use compare::generate::plans::{self, Shape};
 use compare::generate::random::Random;
-use compare::generate::roads;
-use compare::interface::{self, Answer};
+use compare::interface::Answer;
 use compare::reference::analysis;
 use compare::reference::history;
 use compare::reference::limits::ROWS;
@@ -15,7 +15,7 @@ use compare::reference::script::{self, Operation};
 use compare::reference::table::Table;
 
 use super::check::{Left, Runs};
-use crate::harness::checker::told;
+use crate::harness::checker::difference;
 use crate::harness::tally::Call;
 use crate::harness::{Difference, Volume};
 
@@ -43,7 +43,7 @@ pub fn test(
         let plan = plan(random);
         let [first, second] = pair(random, plan.rows.len());
         let free = Answer::analysed(analysis::Answer::Free);
-        if interface::analyse(&first, &second) == free {
+        if runs.checker.analyse(&first, &second)? == free {
             both_orders(runs, &plan, &first, &second, &mut counts)?;
         }
     }
@@ -80,8 +80,8 @@ fn plan(random: &mut Random) -> Table {
 fn pair(random: &mut Random, rows: usize) -> [Vec<u8>; 2] {
     loop {
         let scripts = match random.below(4) {
-            0 => [(); 2].map(|()| lively(random, rows)),
-            1 => [(); 2].map(|()| roads::script(random, 3)),
+            0 => [(); 2].map(|()| coherent(random, rows)),
+            1 => [(); 2].map(|()| chains::script(random, 3)),
             _ => pairs::pair(random),
         };
         if scripts
@@ -131,7 +131,7 @@ fn both_orders(
     };
     if !equal {
         let message = "demand 3 broken: free scripts, and the orders differ";
-        return Err(told(Call::Run, &[&plan, first, second], message));
+        return Err(difference(Call::Run, &[&plan, first, second], message));
     }
     Ok(())
 }

@@ -1,6 +1,8 @@
 //! Document 01's own cases on plan P, and those at its limits, with what it
 //! says of each.
 
+use compare::generate::document01::{PLAN_P, SCRIPT_A, SCRIPT_B};
+use compare::generate::plans::star;
 use compare::generate::random::Random;
 use compare::generate::scripts::{script, Wanted};
 use compare::interface::Answer;
@@ -8,17 +10,12 @@ use compare::reference::limits::{BINDERS, DEPTH, ITEMS, ROWS, SCRIPT_RECORDS};
 use compare::reference::plan::to_vec;
 use compare::reference::refusal::Number;
 use compare::reference::script::kind;
-use compare::reference::table::{Row, Table};
 
 use super::check::Runs;
-use crate::harness::checker::told;
+use crate::harness::checker::difference;
 use crate::harness::tally::Call;
 use crate::harness::Difference;
 
-pub const PLAN_P: [u8; 20] = [
-    0x11, 0x01, 0xFF, 0xFF, 0x11, 0x02, 0x00, 0x00, 0x12, 0xFE, 0x01, 0x00, 0x11, 0x03, 0x00, 0x00,
-    0x13, 0x00, 0x00, 0x00,
-];
 const WHICH_SCRIPT: u64 = 2;
 
 pub fn test(runs: &mut Runs<'_>) -> Result<(), Difference> {
@@ -28,8 +25,8 @@ pub fn test(runs: &mut Runs<'_>) -> Result<(), Difference> {
     limits_of_scripts(runs)
 }
 
-/// Runs a script that document 01 accepts, and compares its answer and the
-/// rows that it adds to the stored plan.
+/// Runs a script that document 01 accepts, and compares its answer, the rows
+/// that it adds to the stored plan, and its history: a record for each of them.
 fn gives(
     runs: &mut Runs<'_>,
     plan: &[u8],
@@ -44,9 +41,20 @@ fn gives(
         .position(|&byte| byte == 0x13)
         .unwrap_or(plan.len());
     let after = [&plan[..before], &rows.concat(), &plan[before..]].concat();
-    if answer != Answer::accepted(0) || left.answer != items || left.plan != after {
+    let history: Vec<u8> = (before / 4..)
+        .zip(rows)
+        .flat_map(|(number, &[kind, tag, low, high])| {
+            let [number_low, number_high] = (number as u16).to_le_bytes();
+            [kind - 0x11 + 0x41, number_low, number_high, tag, low, high]
+        })
+        .collect();
+    if answer != Answer::accepted(0)
+        || left.answer != items
+        || left.plan != after
+        || left.history != history
+    {
         let message = format!("document 01 says otherwise: {answer:?}, {left:?}");
-        return Err(told(Call::Run, &[plan, script], &message));
+        return Err(difference(Call::Run, &[plan, script], &message));
     }
     Ok(())
 }
@@ -62,7 +70,7 @@ fn refuses(
     let answer = runs.run(plan, script)?;
     if answer != Answer::refused(WHICH_SCRIPT, number.at(place)) {
         let message = format!("document 01 says otherwise: {answer:?}");
-        return Err(told(Call::Run, &[plan, script], &message));
+        return Err(difference(Call::Run, &[plan, script], &message));
     }
     Ok(())
 }
@@ -72,12 +80,16 @@ fn on_plan_p(runs: &mut Runs<'_>) -> Result<(), Difference> {
     let named_2: &[u8] = &[0x04, 0x00, 0x03, 0x02, 0x02, 0x00];
     let named_3: &[u8] = &[0x04, 0x00, 0x03, 0x03, 0x02, 0x00];
     let leaves_under: &[u8] = &[0x04, 0x00, 0x02, 0x00];
-    let a = [&[0x0D, 0x01, 0x00][..], leaves_under, named_2].concat();
     let twin = [&[0x0D, 0x02, 0x00][..], leaves_under, named_2].concat();
-    gives(runs, p, &a, &[2], &[])?;
+    gives(runs, p, &SCRIPT_A, &[2], &[])?;
     gives(runs, p, &twin, &[], &[])?;
-    let b = [&[0x0C, 0x09, 0x04][..], named_3].concat();
-    gives(runs, p, &b, &[], &[[0x11, 4, 0xFF, 0xFF], [0x11, 4, 3, 0]])?;
+    gives(
+        runs,
+        p,
+        &SCRIPT_B,
+        &[],
+        &[[0x11, 4, 0xFF, 0xFF], [0x11, 4, 3, 0]],
+    )?;
     gives(runs, p, &[0x0B, 0x02, 0x00], &[], &[])?;
     let twice = [&[0x0C, 0x05][..], named_2, named_2, named_3].concat();
     let copies = [
@@ -99,7 +111,7 @@ fn on_plan_p(runs: &mut Runs<'_>) -> Result<(), Difference> {
     cut[6..8].fill(0xFF);
     if left.answer != [2] || left.plan != cut || left.history != [0x43, 1, 0, 0, 0] {
         let message = format!("document 01 says otherwise: {left:?}");
-        return Err(told(Call::Run, &[p, &script], &message));
+        return Err(difference(Call::Run, &[p, &script], &message));
     }
     Ok(())
 }
@@ -142,17 +154,6 @@ fn full_tables(runs: &mut Runs<'_>) -> Result<(), Difference> {
         Number::Target,
         0,
     )
-}
-
-/// A root with leaves, of which row 1 has the value 1 and the others 0.
-fn star(rows: usize) -> Table {
-    let mut table = Table::default();
-    table.rows.push(Row::element(1, None));
-    for number in 1..rows {
-        table.rows.push(Row::leaf(i8::from(number == 1), Some(0)));
-    }
-    table.marks[0] = Some(0);
-    table
 }
 
 /// 512 items pass in a join and in a 'for', 513 are 8 at that record.
@@ -205,7 +206,11 @@ fn limits_of_scripts(runs: &mut Runs<'_>) -> Result<(), Difference> {
     let answer = runs.run(&PLAN_P, &refused)?;
     let last = refused.len() - 1;
     if answer != Answer::refused(WHICH_SCRIPT, Number::Size.at(last)) {
-        return Err(told(Call::Run, &[&refused], "65 records are accepted"));
+        return Err(difference(
+            Call::Run,
+            &[&refused],
+            "65 records are accepted",
+        ));
     }
     let deep = joins(2 * DEPTH - 1);
     gives(runs, &PLAN_P, &deep, &[], &[])?;

@@ -74,9 +74,9 @@ fn scripts_with_most_paths_are_at_the_limit() {
     let step = Operation::Step(Axis::Child, Test::AnyElement);
     let paths = most_paths(0, &steps, &[Operation::Delete]);
     let two_at_the_end = most_paths(0, &steps, &[Operation::Delete, step]);
-    let roads = most_steps(0, &steps, &[Operation::Delete]);
+    let chains = most_steps(0, &steps, &[Operation::Delete]);
     let cuts = most_deletes(0);
-    for bytes in [&paths, &two_at_the_end, &roads, &cuts] {
+    for bytes in [&paths, &two_at_the_end, &chains, &cuts] {
         let script = read(bytes).expect("within the limits");
         assert_eq!(script.records.len(), SCRIPT_RECORDS);
         assert_eq!(positions::analyse(bytes, bytes), Ok(Answer::Meet));

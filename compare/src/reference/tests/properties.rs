@@ -1,9 +1,9 @@
 //! Laws on random inputs.
 
 use super::*;
+use crate::generate::chains;
 use crate::generate::plans::{any_table, table, Shape};
 use crate::generate::random::Random;
-use crate::generate::roads;
 use crate::generate::scripts::{script, Wanted};
 use crate::reference::analysis::{analyse, smallest_meeting, Answer};
 use crate::reference::brute::finds_meeting;
@@ -104,7 +104,7 @@ fn brute_force_agrees_with_the_analysis() {
         let size = if by_road { 4 } else { 3 };
         let mut next = || {
             let bytes = if by_road {
-                roads::script(&mut random, 2)
+                chains::script(&mut random, 2)
             } else {
                 let wanted = Wanted::small(&mut random);
                 script(&mut random, wanted)
@@ -138,7 +138,7 @@ fn brute_force_agrees_with_the_analysis() {
 fn small_pair(random: &mut Random, round: usize) -> (Vec<u8>, Vec<u8>, Table) {
     let mut next = || {
         if round.is_multiple_of(2) {
-            return roads::script(random, 3);
+            return chains::script(random, 3);
         }
         let wanted = Wanted {
             records: random.between(2, 14),

@@ -1,6 +1,7 @@
 //! The cases of 'Worked on plan P', and the program `pair`.
 
 use super::*;
+use crate::generate::edges::joins;
 use crate::reference::analysis::{analyse, Answer};
 use crate::reference::evaluate::Tally;
 use crate::reference::history::Record;
@@ -162,14 +163,6 @@ fn a_full_table() {
         run_on(&table, &[0x05, 0x09, 0x01, 0x09, 0x01]).unwrap_err(),
         Number::Table.at(3)
     );
-}
-
-/// Joins, balanced, with `ends` empty values: 2 * ends - 1 records.
-fn joins(ends: usize) -> Vec<u8> {
-    if ends == 1 {
-        return vec![0x01];
-    }
-    [vec![0x05], joins(ends / 2), joins(ends - ends / 2)].concat()
 }
 
 #[test]

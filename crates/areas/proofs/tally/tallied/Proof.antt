@@ -1,9 +1,6 @@
 -- `tally::tallied` meets its contract: a walk of its MIR, by hand. The zero tally lies in a local, which is lent to `add_made` for a
--- lifetime that is
--- made for the call, and comes back at the record that the callee left; then the same with `add_cut`. All that is known of the three
--- callees is that each
--- meets its contract.
--- Assumes nothing.
+-- lifetime that is made for the call, and comes back at the record that the callee left; then the same with `add_cut`. All that is known
+-- of the three callees is that each meets its contract. Assumes nothing.
 use mathlib.Core.Path.{_≡_, refl, sym, ap, subst, _∙_}
 use Prim.Native.Nat.{ℕ, _<_, _≤_, _+_, _^_}
 use native.Mathlib.Omega.{arith}

@@ -1,9 +1,11 @@
 -- `meet::from_step` by the second position's kind: one law of FillLaws for each way out.
+use mathlib.Core.Path.{sym, _∙_}
 use native.Mathlib.Omega.{arith}
 use Rattle.positions.specs.Sources.{fromStep}
 use Rattle.meeting.specs.Codes.{stepOf, cellOf}
 use Rattle.positions.specs.Words.{stepIn}
 use Rattle.meeting.specs.Pairs.{marks}
+use Rattle.meeting.proofs.BitLaws.{no-bits}
 use Rattle.paths.proofs.FillLaws.{over-lower, row-asks, lower-asks, step-root, step-step, step-none, to-nothing}
 use borrow.Author.Needs.{needs}
 use Rattle.paths.proofs.meet.from_step.Statement.{statement}
@@ -78,7 +80,8 @@ returns-2 c =
     step-none (marks (c13 .args .table .now)) (c13 .args .k) (c13 .args .l) (c13 .args .q) (cellOf (c .none .result))
     (stepIn (c13 .args .p)) (c13 .args .p .first) (c8 .if2 .taken) (cellOf (c7 .marked2 .result)) (cellOf (c6 .marked3 .result))
     (cellOf (c5 .marked4 .result)) (c7 .marked2 .ensures) (c6 .marked3 .ensures) (c5 .marked4 .ensures) (cellOf (c4 .join .result))
-    (cellOf (c3 .join2 .result)) (c4 .join .ensures) (c3 .join2 .ensures) (c2 .is-none .ensures (c .before .if3 .taken))
+    (cellOf (c3 .join2 .result)) (c4 .join .ensures) (c3 .join2 .ensures) (no-bits (c3 .join2 .result .bits)
+    (sym (c2 .is-none .ensures) ∙ c .before .if3 .taken))
     (c .none .ensures)
 
 step-of-requires-2 : tie.Need-step-of-requires-2

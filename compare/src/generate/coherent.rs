@@ -6,7 +6,7 @@ use crate::reference::limits::{BINDERS, DEPTH, SCRIPT_RECORDS};
 use crate::reference::script::kind;
 
 /// A script made for what its parts are to be.
-pub fn lively(random: &mut Random, rows: usize) -> Vec<u8> {
+pub fn coherent(random: &mut Random, rows: usize) -> Vec<u8> {
     let mut writer = Writer {
         spare: random.choose(&[6, 12, 24, 40, SCRIPT_RECORDS - 1]),
         loops: most_loops(rows),
@@ -268,11 +268,11 @@ mod tests {
     use crate::reference::script::read;
 
     #[test]
-    fn lively_scripts_are_accepted() {
+    fn coherent_scripts_are_accepted() {
         let mut random = Random::new(1);
         for rows in [0, 5, 50, 500] {
             for _ in 0..2000 {
-                let bytes = lively(&mut random, rows);
+                let bytes = coherent(&mut random, rows);
                 assert!(read(&bytes).is_ok(), "{bytes:?}");
             }
         }

@@ -8,7 +8,7 @@ const NAMES: usize = 2;
 const DOCUMENT_0: [u8; 2] = [kind::DOCUMENT, 0];
 
 /// Some downward steps from document 0's root.
-pub fn road(random: &mut Random, steps: usize) -> Vec<u8> {
+pub fn chain(random: &mut Random, steps: usize) -> Vec<u8> {
     let mut script = Vec::new();
     for _ in 0..steps {
         let test = random.choose(&[0, 1, 2, 3, 3, 3]);
@@ -23,11 +23,11 @@ pub fn road(random: &mut Random, steps: usize) -> Vec<u8> {
     script
 }
 
-/// A delete or insert on roads of at most this many steps.
+/// A delete or insert on chains of at most this many steps.
 pub fn update(random: &mut Random, most_steps: usize) -> Vec<u8> {
     let mut next = |least: usize| {
         let steps = random.between(least, most_steps);
-        road(random, steps)
+        chain(random, steps)
     };
     let (one, two) = (next(1), next(0));
     match random.below(4) {
@@ -46,7 +46,7 @@ pub fn script(random: &mut Random, most_steps: usize) -> Vec<u8> {
         }
         1 | 2 => {
             let steps = random.between(0, most_steps);
-            road(random, steps)
+            chain(random, steps)
         }
         _ => update(random, most_steps),
     }
