@@ -19,8 +19,8 @@ use Rattle.paths.specs.declared.Analysis.{Analysis}
 use Rattle.paths.specs.declared.Analysis.the-variants.{Refused}
 use Rattle.format.specs.Text.{ascii, Placed}
 use Rattle.sequence.specs.Orders.{order, swap}
-use Rattle.report.specs.Lines.{fileLine, answerLine, orderLine}
-use Rattle.report.specs.Pair.{threeLines, textBy, planText, pairText, Counted, pairWritten, pairOut}
+use Rattle.report.specs.Lines.{fileLine, answerLine, orderLine, FileLine}
+use Rattle.report.specs.Pair.{threeLines, textBy, planText, pairText, Report, Counted, pairWritten, pairOut}
 use Rattle.sequence.specs.declared.orders.Order.{Order}
 use Rattle.format.proofs.TextLaws.{placed-then}
 use Rattle.sequence.proofs.OrderLaws.{pick-fine, pick-refused}
@@ -37,14 +37,21 @@ three-placed t w b c e f g p q s =
 unfoldable named : (z : Bool) → Fault → List ℕ
 named z f = fileLine (pick z (ascii "first") (ascii "second")) f
 
-module _ {o o′ : List ℕ} {n : ℕ} (t : Table) (b c : List ℕ) (s : ℕ) (f : Fault) where
-  pub first-named : s ≡ 1 → Placed o 0 (fileLine (ascii "first") f) o′ n → Placed o 0 (textBy (Refused s f) t b c) o′ n
+module _ {o o′ : List ℕ} {n : ℕ} (t : Table) (b c : List ℕ) {s : ℕ} {f : Fault} where
+  pub first-named : s ≡ 1 → FileLine o (ascii "first") f o′ n → Report (textBy (Refused s f) t b c) o o′ n
   unfolding named
-  first-named e q = subst (λ (z : Bool). Placed o 0 (named z f) o′ n) (sym (eq-eqb s 1 e)) q
+  first-named e q =
+      record { placed = subst (λ (z : Bool). Placed o 0 (named z f) o′ n) (sym (eq-eqb s 1 e)) (q .text); few = omega (arith, q .few) }
 
-  pub second-named : (s ≡ 1 → ⊥) → Placed o 0 (fileLine (ascii "second") f) o′ n → Placed o 0 (textBy (Refused s f) t b c) o′ n
+  pub second-named : (s ≡ 1 → ⊥) → FileLine o (ascii "second") f o′ n → Report (textBy (Refused s f) t b c) o o′ n
   unfolding named
-  second-named e q = subst (λ (z : Bool). Placed o 0 (named z f) o′ n) (sym (ne-eqb s 1 e)) q
+  second-named e q =
+      record { placed = subst (λ (z : Bool). Placed o 0 (named z f) o′ n) (sym (ne-eqb s 1 e)) (q .text); few = omega (arith, q .few) }
+
+-- the text of an analysis told by its variant
+pub as-told : (t : Table) (b c : List ℕ) {o o′ : List ℕ} {n : ℕ} {a v : Analysis} → a ≡ v → Report (textBy v t b c) o o′ n →
+    Report (textBy a t b c) o o′ n
+as-told t b c {o} {o′} {n} e q = subst (λ (v : Analysis). Report (textBy v t b c) o o′ n) (sym e) q
 
 -- what is written for the text placed at the start of the area
 abbrev wrote : (bytes : ℕ) → Written
@@ -80,14 +87,13 @@ module _ (p b c : List ℕ) {o : List ℕ} where
               sym (pick-refused (textBy (analysed b c) (r .table) b c) (fileLine (ascii "plan") (r .fault)) z) ∙
               ap (λ (s : TableResult). planText s b c) e
 
-      pub plan-read : r .fault .number ≡ 0 → {a v : Analysis} → a ≡ analysed b c → a ≡ v → Placed o 0 (textBy v (r .table) b c) o′ n →
-          n ≤ 160 →
+      pub plan-read : r .fault .number ≡ 0 → {a : Analysis} → a ≡ analysed b c → Report (textBy a (r .table) b c) o o′ n →
           (x ≡ pairWritten p b c o) × ((o′ ≡ pairOut p b c o) × Counted (x .bytes) o′)
       unfolding pairText
-      plan-read z {v = v} f g q k = placed-written (subst (λ (v : List ℕ). Placed o 0 v o′ n) same q) k
+      plan-read z {a} f q = placed-written (subst (λ (v : List ℕ). Placed o 0 v o′ n) same (q .placed)) (q .few)
         where
-          same : textBy v (r .table) b c ≡ pairText p b c
+          same : textBy a (r .table) b c ≡ pairText p b c
           same =
-              ap (λ (x : Analysis). textBy x (r .table) b c) (sym g ∙ f) ∙
+              ap (λ (x : Analysis). textBy x (r .table) b c) f ∙
               sym (pick-fine (textBy (analysed b c) (r .table) b c) (fileLine (ascii "plan") (r .fault)) z) ∙
               ap (λ (s : TableResult). planText s b c) e

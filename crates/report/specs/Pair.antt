@@ -54,7 +54,7 @@ pairOut p b c o = pick (ltb (length o) room) o (pairText p b c ++ drop (length (
 abbrev pub Counted : (bytes : ℕ) → (area : List ℕ) → Type 0
 Counted n o = (n ≤ length o) × (n ≡ length (take n o))
 
--- what the three lines leave
-pub record Report (t : Table) (w b c o o′ : List ℕ) (r : ℕ) : Type 0 where
-  pub text : Placed o 0 (threeLines t w b c) o′ r
+-- what lines leave that are placed at the start
+pub record Report (text o o′ : List ℕ) (r : ℕ) : Type 0 where
+  pub placed : Placed o 0 text o′ r
   pub few : r ≤ room

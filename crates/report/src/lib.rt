@@ -2,7 +2,7 @@
 ghost use mathlib.Core.Path.{_≡_};
 ghost use Prim.Native.Nat.{_≤_};
 ghost use lib.ListN.{length};
-ghost use Rattle.report.specs.Pair.{Report, Counted, pairWritten, pairOut};
+ghost use Rattle.report.specs.Pair.{room, threeLines, textBy, Report, Counted, pairWritten, pairOut};
 use paths::Analysis;
 use sequence::orders;
 use table::Fault;
@@ -29,14 +29,39 @@ fn written(bytes: usize) -> Written
 
 // The answer and both orders, each from the table given.
 fn three_lines(out: &mut [u8], word: &[u8], table: Table, first: &[u8], second: &[u8]) -> usize
-    requires { ⌜ (160 ≤ length (now out)) × (length (now word) ≤ 7) ⌝ }
-    ensures { λ r. ⌜ Report table (now (word .entry)) (now (first .entry)) (now (second .entry)) (now (out .entry)) (now (out .exit)) r ⌝ }
+    requires { ⌜ (room ≤ length (now out)) × (length (now word) ≤ 7) ⌝ }
+    ensures { λ r. ⌜ Report (threeLines table (now (word .entry)) (now (first .entry)) (now (second .entry)))
+        (now (out .entry)) (now (out .exit)) r ⌝ }
 {
     let n = lines::put_answer(out, word);
     let one_two = orders::in_order(table, first, second);
     let m = lines::put_order(out, n, b"one-two", one_two);
     let two_one = orders::in_order(table, second, first);
     lines::put_order(out, m, b"two-one", orders::swapped(two_one))
+}
+
+// The lines once the plan is read: of a refused script the only one, else the answer and both orders.
+fn answer_lines(
+    out: &mut [u8],
+    analysis: Analysis,
+    table: Table,
+    first: &[u8],
+    second: &[u8],
+) -> usize
+    requires { ⌜ room ≤ length (now out) ⌝ }
+    ensures { λ r. ⌜ Report (textBy analysis table (now (first .entry)) (now (second .entry))) (now (out .entry)) (now (out .exit)) r ⌝ }
+{
+    match analysis {
+        Analysis::Refused { script, fault } => {
+            if script == 1 {
+                return lines::put_file(out, b"first", fault);
+            }
+            lines::put_file(out, b"second", fault)
+        }
+        Analysis::Free => three_lines(out, b"free", table, first, second),
+        Analysis::Upward => three_lines(out, b"upward", table, first, second),
+        Analysis::Meet => three_lines(out, b"meet", table, first, second),
+    }
 }
 
 // Writes the lines for a plan and two scripts to the start of out, which needs 160 bytes; the rest of it stays.
@@ -59,17 +84,6 @@ pub fn pair(plan: &[u8], first: &[u8], second: &[u8], out: &mut [u8]) -> Written
     if fault.number != 0 {
         return written(lines::put_file(out, b"plan", fault));
     }
-    let t = read.table;
     let analysis = paths::analyse(first, second);
-    match analysis {
-        Analysis::Refused { script, fault } => {
-            if script == 1 {
-                return written(lines::put_file(out, b"first", fault));
-            }
-            written(lines::put_file(out, b"second", fault))
-        }
-        Analysis::Free => written(three_lines(out, b"free", t, first, second)),
-        Analysis::Upward => written(three_lines(out, b"upward", t, first, second)),
-        Analysis::Meet => written(three_lines(out, b"meet", t, first, second)),
-    }
+    written(answer_lines(out, analysis, read.table, first, second))
 }

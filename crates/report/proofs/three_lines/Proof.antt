@@ -41,7 +41,7 @@ returns c =
     let c15 = c12 .before .before .before in
     let c21 = c15 .before .before .before .before .before .before in
     record {
-      text =
+      placed =
           three-placed (c21 .args .table) (c21 .args .word .now)
           (c21 .args .first .now) (c21 .args .second .now) (c12 .in-order .ensures) (c6 .in-order2 .ensures)
           (c3 .swapped .ensures) (c15 .put-answer .ensures .text) (c9 .put-order .ensures .text) (c .before .before .put-order2 .ensures .text);
