@@ -6,18 +6,21 @@ use mathlib.Core.List.{List, [], _∷_, _++_}
 use mathlib.Core.Option.{Option, none, some}
 use Prim.Native.Nat.{ℕ, zero, suc, _+_, _-_, _<_}
 use lib.Dec.{ltb, leb, eqb}
-use lib.ListN.{length, getD, take, drop, set}
-use Rattle.model.specs.Base.{pick, any, isIn}
+use lib.ListN.{length, getD, take, drop, set, replicate}
+use Rattle.model.specs.Base.{pick, all, any, isIn}
 use Rattle.model.specs.Refusal.{Fault, fault, fine, isFine, orElse}
-use Rattle.model.specs.Table.{Row, Table, table, empty, rowAt, count, isElement, hasParent, isThe, isMarked, withRow, tagFits}
-use Rattle.model.specs.Stored.{Read, bad, got, wordAt, rowIn, isMark, lastMarked, rowLinks, recorded}
-use Rattle.model.specs.Step.{relates}
+use Rattle.model.specs.Table.{Row, Table, table, rowAt, count, isElement, hasParent, isThe, isMarked, withRow, tagFits, rowsFit}
+use Rattle.model.specs.Table.{markFits, noneTwice}
+use Rattle.model.specs.Stored.{Read, bad, got, wordAt, parentIn, wordBytes as wordOf, parentBytes as parentWord, lastMarked, rowLinks}
+use Rattle.model.specs.Stored.{recorded}
+use Rattle.model.specs.Step.{signedKey}
 use Rattle.model.specs.Script.{testFits}
 use Rattle.model.specs.History.{Record}
-use Rattle.model.specs.Run.{State, state, Out, stop, gives, withMade, cutRecord, Copied, copyParent, descendantsFrom, thenRow}
-use Rattle.model.specs.Undo.{oldParentFits}
+use Rattle.model.specs.Run.{State, state, Out, stop, gives, withMade, Copied, copyParent, descendantsFrom, thenRow}
 use Rattle.model.specs.Paths.{Place, place}
 use Rattle.model.specs.Promise.{Places, matched, matchedParent}
+use Rattle.model.specs.Refusal as F
+use Rattle.model.specs.Table as B
 use Rattle.model.specs.Stored as S
 use Rattle.model.specs.Sweep as W
 use Rattle.model.specs.Step as T
@@ -29,6 +32,27 @@ use Rattle.model.specs.Script as C
 
 abbrev unless : Bool → (number place : ℕ) → Fault
 unless z n i = pick z fine (fault n i)
+
+abbrev empty : Table
+empty = table [] (replicate 8 none)
+
+abbrev parentFits : Table → (number : ℕ) → Option ℕ → Bool
+parentFits x i none = true
+parentFits x i (some p) = ltb p i && isElement x p
+
+abbrev isWell : Table → Bool
+isWell x =
+    leb (count x) 512 && rowsFit x 0 (x .rows) && eqb (length (x .marks)) 8 && all (markFits x) (x .marks) && noneTwice (x .marks)
+
+abbrev markBytes : (document : ℕ) → Option ℕ → List ℕ
+markBytes d none = []
+markBytes d (some i) = 19 ∷ d ∷ wordOf i
+
+abbrev rowIn : (bytes : List ℕ) → Row
+rowIn b = record { isLeaf = eqb (getD b 0 0) 18; tag = getD b 1 0; parent = parentIn (wordAt b 2) }
+
+abbrev isMark : (bytes : List ℕ) → Bool
+isMark b = eqb (getD b 0 0) 19
 
 abbrev markLinks : Table → (document row : ℕ) → Bool
 markLinks x d i =
@@ -86,16 +110,26 @@ sweptMarks x (m ∷ ms) = renumbered x m ∷ sweptMarks x ms
 abbrev swept : Table → Table
 swept x = table (sweptRows x 0 (x .rows)) (sweptMarks x (x .marks))
 
+abbrev relates : (relation value given : ℕ) → Bool
+relates r c v =
+    pick (eqb r 0) (eqb v c) (pick (eqb r 1) (ltb (signedKey v) (signedKey c)) (ltb (signedKey c) (signedKey v)))
+
 unfoldable chosen : Table → (relation value : ℕ) → (items : List ℕ) → List ℕ
 chosen x r c [] = []
 chosen x r c (i ∷ is) =
     pick (rowAt x i .isLeaf && relates r c (rowAt x i .tag)) (i ∷ chosen x r c is) (chosen x r c is)
+
+abbrev made : Row → (row : ℕ) → Record
+made r i = record { kind = pick (r .isLeaf) 66 65; row = i; tag = r .tag; parent = r .parent }
 
 abbrev roomFault : (place : ℕ) → State → Fault
 roomFault z s = orElse (unless (ltb (count (s .plan)) 512) 10 z) (unless (ltb (length (s .history)) 2048) 9 z)
 
 abbrev newRow : (place : ℕ) → Row → State → Out
 newRow z r s = pick (isFine (roomFault z s)) (gives (count (s .plan) ∷ []) (withMade s r)) (stop (roomFault z s))
+
+abbrev cutRecord : (row parent : ℕ) → Record
+cutRecord i p = record { kind = 67; row = i; tag = 0; parent = some p }
 
 abbrev cutRow : State → (row parent : ℕ) → State
 cutRow s i p =
@@ -145,6 +179,10 @@ unfoldable loop : (place : ℕ) → (ℕ → State → Out) → (items sofar : L
 loop z f [] v s = gives v s
 loop z f (i ∷ is) v s = joinFor z v (f i s) (λ (w : List ℕ) (t : State). loop z f is w t)
 
+abbrev recordBytes : Record → List ℕ
+recordBytes r =
+    (r .kind ∷ wordOf (r .row)) ++ pick (eqb (r .kind) 67) (parentWord (r .parent)) (r .tag ∷ parentWord (r .parent))
+
 abbrev replayed : Table → Record → Table
 replayed x r =
     pick (eqb (r .kind) 67)
@@ -158,6 +196,11 @@ replayAll x (r ∷ rs) = replayAll (replayed x r) rs
 abbrev recordSize : (kind : ℕ) → ℕ
 recordSize k = pick (eqb k 67) 5 6
 
+abbrev recordIn : (bytes : List ℕ) → Record
+recordIn b =
+    pick (eqb (getD b 0 0) 67) (record { kind = 67; row = wordAt b 1; tag = 0; parent = parentIn (wordAt b 3) })
+    (record { kind = getD b 0 0; row = wordAt b 1; tag = getD b 3 0; parent = parentIn (wordAt b 4) })
+
 abbrev formFault : (place records : ℕ) → (bytes : List ℕ) → Fault
 formFault i n b =
     orElse (unless (isIn 65 67 (getD b 0 0)) 1 i)
@@ -170,6 +213,10 @@ undone x r =
     (table (set (x .rows) (r .row) (record { isLeaf = rowAt x (r .row) .isLeaf; tag = rowAt x (r .row) .tag; parent = r .parent })) (x
     .marks))
     (table (take (count x - 1) (x .rows)) (x .marks))
+
+abbrev oldParentFits : Table → (row : ℕ) → Option ℕ → Bool
+oldParentFits x i none = false
+oldParentFits x i (some p) = ltb p i && isElement x p
 
 abbrev cutFits : Table → Record → Bool
 cutFits x r =
@@ -217,9 +264,38 @@ exprFault i n d v b =
     (orElse (unless (ltb n 64 && leb d 16 && not (isBinder (getD b 0 0) && leb 8 v)) 5 i)
     (orElse (unless (leb (1 + bodySize (getD b 0 0)) (length b)) 2 i) (unless (bodyFits v b) 4 i))))
 
-recordFault-same : recordFault ≡ S.recordFault
-recordFault-same = refl
+-- EQUAL BY COMPUTING, of document 03's specs/Plan, specs/Script, specs/Run and specs/Promise
+plan-same : ((z : Bool) (n i : ℕ) → unless z n i ≡ F.unless z (fault n i)) × (empty ≡ B.empty) × (parentFits ≡ B.parentFits) ×
+    (isWell ≡ B.isWell) × (markBytes ≡ S.markBytes) × (rowIn ≡ S.rowIn) × (isMark ≡ S.isMark) × (markLinks ≡ S.markLinks) ×
+    (recordFault ≡ S.recordFault) × (parentKept ≡ W.through)
+plan-same = (λ z n i. refl, refl, refl, refl, refl, refl, refl, refl, refl, refl)
 
+script-same : (bodySize ≡ C.bodySize) × (bodyFits ≡ C.bodyFits) × (isBinder ≡ C.isBinder) × (exprFault ≡ C.exprFault)
+script-same = (refl, refl, refl, refl)
+
+run-same : (relates ≡ T.relates) × (joinItems ≡ R.joinItems) × (made ≡ R.made) × (roomFault ≡ R.roomFault) × (newRow ≡ R.newRow) ×
+    (cutRecord ≡ R.cutRecord) × (cutRow ≡ R.cutRow) × (cutBy ≡ R.cutBy) × (copyRow ≡ R.copyRow) × (joinFor ≡ R.joinFor) ×
+    (recordBytes ≡ H.recordBytes) × (replayed ≡ H.replayed) × (recordSize ≡ U.historySize) × (recordIn ≡ U.recordIn) ×
+    (formFault ≡ U.formFault) × (oldParentFits ≡ U.oldParentFits) × (cutFits ≡ U.cutFits) × (undone ≡ U.undone)
+run-same =
+    (refl, refl, refl, refl, refl, refl, refl, refl, refl, refl, refl, refl, refl, refl, refl, refl, refl, refl)
+
+matchedRow-same : matchedRow ≡ P.matchedRow
+matchedRow-same = refl
+
+arePlaces-to : (x : Table) (h : Places) → ArePlaces x h → P.ArePlaces x h
+arePlaces-to x h a = a
+
+arePlaces-from : (x : Table) (h : Places) → P.ArePlaces x h → ArePlaces x h
+arePlaces-from x h a = a
+
+plansEqual-to : (n a b : ℕ) (x y : Table) → PlansEqual n a b x y → P.PlansEqual n a b x y
+plansEqual-to n a b x y h = h
+
+plansEqual-from : (n a b : ℕ) (x y : Table) → P.PlansEqual n a b x y → PlansEqual n a b x y
+plansEqual-from n a b x y h = h
+
+-- EQUAL STEP BY STEP
 readFrom-same : (n : ℕ) (x : Table) (i : ℕ) (b : List ℕ) → readFrom n x i b ≡ S.readFrom n x i b
 unfolding readFrom S.readFrom
 readFrom-same zero x i b = refl
@@ -237,19 +313,25 @@ keptFrom-same (suc n) x i = ap (λ (b : Bool). isMarked x i || b) (go (rowAt x i
     go none h = refl
     go (some p) h = h p
 
+isKept-same : (x : Table) (i : ℕ) → isKept x i ≡ W.isKept x i
+isKept-same x i = keptFrom-same (suc i) x i
+
 keptBefore-same : (x : Table) (i n : ℕ) → keptBefore x i n ≡ W.keptBefore x i n
 unfolding keptBefore W.keptBefore
 keptBefore-same x i zero = refl
-keptBefore-same x i (suc n) = rw (keptFrom-same (suc i) x i, keptBefore-same x (suc i) n)
+keptBefore-same x i (suc n) = rw (isKept-same x i, keptBefore-same x (suc i) n)
+
+newNumber-same : (x : Table) (i : ℕ) → newNumber x i ≡ W.newNumber x i
+newNumber-same x i = keptBefore-same x 0 i
 
 renumbered-same : (x : Table) (p : Option ℕ) → renumbered x p ≡ W.renumbered x p
 renumbered-same x none = refl
-renumbered-same x (some i) = ap some (keptBefore-same x 0 i)
+renumbered-same x (some i) = ap some (newNumber-same x i)
 
 sweptRows-same : (x : Table) (i : ℕ) (rs : List Row) → sweptRows x i rs ≡ W.sweptRows x i rs
 unfolding sweptRows W.sweptRows
 sweptRows-same x i [] = refl
-sweptRows-same x i (r ∷ rs) = rw (keptFrom-same (suc i) x i, renumbered-same x (r .parent), sweptRows-same x (suc i) rs)
+sweptRows-same x i (r ∷ rs) = rw (isKept-same x i, renumbered-same x (r .parent), sweptRows-same x (suc i) rs)
 
 sweptMarks-same : (x : Table) (ms : List (Option ℕ)) → sweptMarks x ms ≡ W.sweptMarks x ms
 unfolding sweptMarks W.sweptMarks
@@ -264,12 +346,6 @@ unfolding chosen T.picked
 chosen-same x r c [] = refl
 chosen-same x r c (i ∷ v) = rw (chosen-same x r c v)
 
-newRow-same : newRow ≡ R.newRow
-newRow-same = refl
-
-cutRow-same : cutRow ≡ R.cutRow
-cutRow-same = refl
-
 cutBy-next : (z i : ℕ) (s : State) (p : Option ℕ) (f g : State → Out) → ((t : State) → f t ≡ g t) → cutBy z i s p f ≡ R.cutBy z i s p g
 cutBy-next z i s none f g h = h s
 cutBy-next z i s (some p) f g h = rw (h (R.cutRow s i p))
@@ -278,9 +354,6 @@ cutAll-same : (z : ℕ) (v : List ℕ) (s : State) → cutAll z v s ≡ R.cutAll
 unfolding cutAll R.cutAll
 cutAll-same z [] s = refl
 cutAll-same z (i ∷ v) s = cutBy-next z i s (rowAt (s .plan) i .parent) _ _ (λ t. cutAll-same z v t)
-
-copyRow-same : copyRow ≡ R.copyRow
-copyRow-same = refl
 
 row-next : (o p : Out) (f g : State → Out) → o ≡ p → ((t : State) → f t ≡ g t) → thenRow o f ≡ thenRow p g
 row-next o p f g e h = go o ∙ ap (λ (q : Out). thenRow q g) e
@@ -306,9 +379,6 @@ copyAll-same z x (i ∷ v) g s = row-next _ _ _ _ (copyEach-same z x i g (R.subt
 inserted-same : (z : ℕ) (v w : List ℕ) (s : State) → inserted z v w s ≡ R.inserted z v w s
 inserted-same z v w s = rw (copyAll-same z (s .plan) v (getD w 0 0) s)
 
-joinItems-same : joinItems ≡ R.joinItems
-joinItems-same = refl
-
 for-next : (z : ℕ) (v : List ℕ) (o : Out) (f g : List ℕ → State → Out) → ((w : List ℕ) (t : State) → f w t ≡ g w t) → joinFor z v o f ≡
     R.joinFor z v o g
 for-next z v (stop x) f g h = refl
@@ -324,28 +394,7 @@ unfolding replayAll H.replayAll
 replayAll-same x [] = refl
 replayAll-same x (r ∷ rs) = replayAll-same (H.replayed x r) rs
 
-formFault-same : formFault ≡ U.formFault
-formFault-same = refl
-
-undone-same : undone ≡ U.undone
-undone-same = refl
-
-cutFits-same : cutFits ≡ U.cutFits
-cutFits-same = refl
-
-arePlaces-to : (x : Table) (h : Places) → ArePlaces x h → P.ArePlaces x h
-arePlaces-to x h a = a
-
-arePlaces-from : (x : Table) (h : Places) → P.ArePlaces x h → ArePlaces x h
-arePlaces-from x h a = a
-
 matchedHistory-same : (n a b : ℕ) (rs : List Record) → matchedHistory n a b rs ≡ P.matchedHistory n a b rs
 unfolding matchedHistory P.matchedHistory
 matchedHistory-same n a b [] = refl
 matchedHistory-same n a b (r ∷ rs) = rw (matchedHistory-same n a b rs)
-
-plansEqual-from : (n a b : ℕ) (x y : Table) → P.PlansEqual n a b x y → PlansEqual n a b x y
-plansEqual-from n a b x y h = h
-
-exprFault-same : exprFault ≡ C.exprFault
-exprFault-same = refl

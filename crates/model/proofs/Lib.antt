@@ -61,3 +61,4 @@ pub mod Document03Search
 pub mod Document03Meeting
 pub mod Document03Kept
 pub mod Document03
+pub mod Document03Entry

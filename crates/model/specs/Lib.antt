@@ -18,3 +18,4 @@ pub mod Document03Script
 pub mod Document03Run
 pub mod Document03Paths
 pub mod Document03
+pub mod Document03Entry
