@@ -10,6 +10,7 @@ use Rattle.model.proofs.FreeMeans.{freeMeans}
 use Rattle.model.proofs.CallsCommute.{callsCommute}
 use Rattle.paths.specs.Analysis.{byAnswer, analysisOf, analysed}
 use Rattle.paths.specs.Promise.{ReadAs, AnalysedMeans, AnalysedCommute}
+use Rattle.paths.specs.declared.Analysis.the-variants.{Free}
 
 -- each case stands for one answer
 answer-told : (a b : Answer) → byAnswer a ≡ byAnswer b → a ≡ b
@@ -29,6 +30,9 @@ analysis-told (refusedBy s x) upward e = let z : _≡_ {A = ℕ} 0 1 = cc in abs
 analysis-told (refusedBy s x) meet e = let z : _≡_ {A = ℕ} 0 1 = cc in absurd (omega arith)
 analysis-told (answered b) a e = ap answered (answer-told b a e)
 
+pub free-told : (b c : List ℕ) → analysed b c ≡ Free → analyse b c ≡ answered free
+free-told b c = analysis-told (analyse b c) free
+
 -- of two accepted scripts the call says the model's answer
 module _ (b c : List ℕ) (e f : Expr) (E : ReadAs b e) (F : ReadAs c f) where
   said : analysed b c ≡ byAnswer (answer e f)
@@ -47,4 +51,4 @@ analysedMeans b c e f bytes bytes′ E F =
     )
 
 pub analysedCommute : AnalysedCommute
-analysedCommute b c x a h w a′ h′ w′ bytes bytes′ s = callsCommute b c x a h w a′ h′ w′ bytes bytes′ (analysis-told (analyse b c) free s)
+analysedCommute b c x a h w a′ h′ w′ bytes bytes′ s = callsCommute b c x a h w a′ h′ w′ bytes bytes′ (free-told b c s)
