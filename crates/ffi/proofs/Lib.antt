@@ -2,3 +2,4 @@ pub mod CallLaws
 pub mod FittingLaws
 pub mod RunLaws
 pub mod Promised
+pub mod RunUndone

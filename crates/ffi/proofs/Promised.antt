@@ -1,32 +1,27 @@
 -- The C calls in the model's words: a plan that is read, swept, undone or run on is well formed, so writing it is never refused.
-use mathlib.Core.Path.{_≡_, refl, ap, sym, subst, _∙_}
+use mathlib.Core.Path.{_≡_, ap, _∙_}
 use mathlib.Core.Bool.{Bool, true, false, _||_, _&&_}
 use mathlib.Core.List.{List}
 use Prim.Native.Nat.{ℕ, _≤_}
-use lib.Dec.{T, ltb, leb, eqb}
+use lib.Dec.{ltb, leb}
 use native.Mathlib.Omega.{arith}
 use lib.ListN.{length, replicate}
-use borrow.Author.Tests.{le-ltb, le-leb, ltb-false, ne-eqb}
-use Rattle.model.specs.Base.{pick, areBytes}
+use borrow.Author.Tests.{le-ltb, le-leb, ltb-false}
+use Rattle.model.specs.Base.{pick}
 use Rattle.model.specs.Call.{Ran, areasFit, ranBy, refusedRun, runBy}
 use Rattle.model.specs.Limits.{answerNeed, historyNeed, workNeed}
-use Rattle.model.specs.Promise.{ends}
 use Rattle.model.specs.Refusal as refusal
-use Rattle.model.specs.Run.{State, Out, gives, stop}
-use Rattle.model.specs.Script.{Parsed, ill, parsed, whole, readScript}
+use Rattle.model.specs.Run.{Out, gives, stop}
+use Rattle.model.specs.Script.{readScript}
 use Rattle.model.specs.Stored.{stored, got, readPlan}
 use Rattle.model.specs.Sweep.{swept}
 use Rattle.model.specs.Table.{isWell}
 use Rattle.model.specs.Table as model
-use Rattle.model.specs.Undo.{undo}
+use Rattle.model.specs.Undo.{back, undo}
 use Rattle.model.proofs.BoolLaws.{and-both, or-neither}
-use Rattle.model.proofs.RunsBack.{runsBack}
-use Rattle.model.proofs.StopLaws.{stop-refuses}
 use Rattle.model.proofs.StoredBack.{storedBack}
 use Rattle.model.proofs.SweepsWell.{sweepsWell}
 use Rattle.model.proofs.UndoKeeps.{undoKeeps}
-use Rattle.script.proofs.ParseLaws.{ill-parsed}
-use Rattle.script.proofs.RefusalLaws.{Sound, parse-sound}
 use Rattle.table.specs.Words.{encode, decode, fits}
 use Rattle.plan.specs.Calls as library
 use Rattle.table.specs.Results as results
@@ -34,13 +29,17 @@ use Rattle.sweep.specs.Sweeping as sweeping
 use Rattle.table.specs.declared.TableResult.{TableResult}
 use Rattle.undo.specs.Undoing.{planUndone, undoneBy, asItWas}
 use Rattle.run.specs.Calls.{ran, resultOf}
-use Rattle.ffi.specs.Calls.{readCode, readOut, backCode, backOut}
+use Rattle.ffi.specs.Calls.{readCode, readOut, undoCode, undoOut, backCode, backOut}
 use Rattle.lent.specs.Codes.{codeOf, lentCode, writtenCode}
 use Rattle.ffi.specs.Running.{refusedCall, ranCall, readCall, runCalled}
 use Rattle.lent.specs.Done.{isLentShort, doneOver}
-use Rattle.ffi.specs.Promise.{atFront, PlanBack, SweptBack, UndoneBack, RunDone, RunRefused}
+use Rattle.ffi.specs.Promise.{atFront, PlanBack, SweptBack, UndoneBack, RunDone, RunRefused, FreeRunsCommute}
 use Rattle.table.proofs.EncodeLaws.{decode-encode, fits-encode}
 use Rattle.plan.proofs.WritingLaws.{well-written, well-out}
+use Rattle.plan.proofs.Promised.{read-short, read-back}
+use Rattle.paths.proofs.Promised.{free-told}
+use Rattle.run.proofs.OutcomeLaws.{refuses-fine, run-refuses, run-back}
+use Rattle.run.proofs.Promised.{runsCommute}
 
 -- A PLAN READ is the table in its words; the call then answers n and leaves b
 module _ (p o : List ℕ) (x : model.Table) (read : readPlan p ≡ got x) (room : 2080 ≤ length o) where
@@ -66,10 +65,9 @@ written-code y w o room = ap writtenCode (well-written y w o room)
 
 pub planBack : PlanBack
 planBack p o x b e room =
-    let s = storedBack .1 p x b e in (
-      code-then p o x e room (λ q. writtenCode (library.planWritten (q .table) o)) ∙ written-code x (s .0) o room ∙
-          ap (λ (l : List ℕ). codeOf 0 0 (length l)) (s .1),
-      out-then p o x e room (λ q. library.planOut (q .table) o) ∙ well-out x (s .0) o room ∙ ap (λ (l : List ℕ). atFront l o) (s .1),
+    let r = read-back p x b e o (omega (arith, read-short p x b e)) in (
+      code-then p o x e room (λ q. writtenCode (library.planWritten (q .table) o)) ∙ ap writtenCode (r .0),
+      out-then p o x e room (λ q. library.planOut (q .table) o) ∙ r .1,
     )
 
 pub sweptBack : SweptBack
@@ -89,9 +87,10 @@ sweptBack p o x b e room =
           ap (λ (r : TableResult). library.planOut (r .table) o) t ∙ well-out (swept x) y o room,
     )
 
-pub undoneBack : UndoneBack
-undoneBack p h o x y b e u room =
-    let w = storedBack .1 p x b e .0 in
+-- a well-formed table undone
+pub undone-back : (p h o : List ℕ) (x y : model.Table) → isWell x ≡ true → readPlan p ≡ got x → undo x h ≡ back y → 2080 ≤ length o →
+    (undoCode p h o ≡ codeOf 0 0 (length (stored y))) × (undoOut p h o ≡ atFront (stored y) o)
+undone-back p h o x y w e u room =
     let v : isWell y ≡ true = undoKeeps x y h w u in
     let t : planUndone (encode x) h ≡ results.result refusal.fine y =
     ap (λ (z : Bool). pick z (undoneBy (encode x) (undo (decode (encode x)) h)) (asItWas (refusal.linkAt 0) (encode x))) (fits-encode x
@@ -102,14 +101,8 @@ undoneBack p h o x y b e u room =
       out-then p o x e room (λ q. backOut (planUndone (q .table) h) o) ∙ ap (λ (r : TableResult). backOut r o) t ∙ well-out y v o room,
     )
 
--- A RUN that ends leaves a well-formed table
-run-well : (s : List ℕ) → areBytes s ≡ true → (x : model.Table) → isWell x ≡ true → (v : List ℕ) (t : State) →
-    runBy x (readScript s) ≡ gives v t → isWell (t .plan) ≡ true
-run-well s b x w v t e = go (readScript s) refl
-  where
-    go : (q : Parsed) → readScript s ≡ q → isWell (t .plan) ≡ true
-    go (ill f) k = absurd (subst T (sym (ap ends (sym (ap (runBy x) k) ∙ e))) tt)
-    go (parsed g i n c) k = runsBack g x v t (s, b, (i, (n, (c, k)))) w (sym (ap (runBy x) k) ∙ e) .0
+pub undoneBack : UndoneBack
+undoneBack p h o x y b e = undone-back p h o x y (storedBack .1 p x b e .0) e
 
 -- no area is too short: each has its need
 module _ (a h w o d : List ℕ) (long : isLentShort (length a) (length h) (length w) (length o) (length d) ≡ false) where
@@ -153,7 +146,7 @@ call-of p s a h w o d x t well e g long fit =
 pub runDone : RunDone
 runDone p s a h w o d x v t b c e g long =
     let well = storedBack .1 p x b e .0 in
-    let after : isWell (t .plan) ≡ true = run-well s c x well v t g in
+    let after : isWell (t .plan) ≡ true = run-back s c x well v t g .0 in
     let ok = needs a h w o d long in
     let L = ranBy x (length a) (length h) (length w) (gives v t) in
     call-of p s a h w o d x (gives v t) well e g long (ok .0) ∙
@@ -166,33 +159,17 @@ runDone p s a h w o d x v t b c e g long =
       done = doneOver (L .items) (L .made) (L .cut) (L .records) (L .bytes) (well-written (t .plan) after o (ok .1) i .bytes) d;
     })
 
--- A REFUSAL has a number other than 0
-whole-numbered : (q : Parsed) → Sound q → (f : refusal.Fault) → whole q ≡ ill f → f .number ≡ 0 → ⊥
-whole-numbered (ill g) s f k z = s .numbered f k z
-whole-numbered (parsed g i n c) s f k z = go (eqb (length c) 0) k
-  where
-    go : (t : Bool) → pick t (parsed g i n c) (ill (refusal.tailAt i)) ≡ ill f → ⊥
-    go true k = ill-parsed (sym k)
-    go false k = let q : 3 ≡ f .number = cc in omega (arith, q, z)
-
-stop-numbered : (s : List ℕ) (x : model.Table) (f : refusal.Fault) → runBy x (readScript s) ≡ stop f → refusal.isFine f ≡ false
-stop-numbered s x f e = go (readScript s) refl
-  where
-    go : (q : Parsed) → readScript s ≡ q → refusal.isFine f ≡ false
-    go (ill g) k =
-        let y : stop g ≡ stop f = sym (ap (runBy x) k) ∙ e in
-        let u : g .number ≡ f .number = cc in
-        ne-eqb (f .number) 0 (λ z. whole-numbered _ (parse-sound _ _ _ _ _ s) g k (u ∙ z))
-    go (parsed g i n c) k = stop-refuses g x f (sym (ap (runBy x) k) ∙ e)
+-- a refusal has a number other than 0
+refused-called : (x : model.Table) (a h w : ℕ) (f : refusal.Fault) (o d : List ℕ) → refusal.isFine f ≡ false →
+    ranCall (resultOf (encode x) (ranBy x a h w (stop f))) (ranBy x a h w (stop f)) o d ≡
+    refusedCall (codeOf (f .number) 2 (f .place)) (replicate a 0) (replicate h 0) (replicate w 0) o d
+refused-called x a h w f o d k = rw k
 
 pub runRefused : RunRefused
 runRefused p s a h w o d x f b e g long =
-    let well = storedBack .1 p x b e .0 in
-    let ok = needs a h w o d long in
-    call-of p s a h w o d x (stop f) well e g long (ok .0) ∙ the-refusal (stop-numbered s x f g)
-  where
-    the-refusal : refusal.isFine f ≡ false →
-        ranCall (resultOf (encode x) (ranBy x (length a) (length h) (length w) (stop f))) (ranBy x (length a) (length h) (length w) (stop
-        f)) o d ≡
-        refusedCall (codeOf (f .number) 2 (f .place)) (replicate (length a) 0) (replicate (length h) 0) (replicate (length w) 0) o d
-    the-refusal k = rw k
+    call-of p s a h w o d x (stop f) (storedBack .1 p x b e .0) e g long (needs a h w o d long .0) ∙
+    refused-called x (length a) (length h) (length w) f o d (refuses-fine (run-refuses x s) f g)
+
+-- THE TWO CALLS of the library, in either order
+pub freeRunsCommute : FreeRunsCommute
+freeRunsCommute b c t a h w a′ h′ w′ bytes bytes′ s = runsCommute b c t a h w a′ h′ w′ bytes bytes′ (free-told b c s)

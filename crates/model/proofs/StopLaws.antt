@@ -1,25 +1,26 @@
--- A run that stops does so with a refusal: its number is never 0.
+-- A run that stops does so with a refusal of its own: its number is from 7 to 10, so never 0.
 use mathlib.Core.Path.{_≡_, refl, ap, sym, _∙_}
-use mathlib.Core.Bool.{Bool, true, false, _&&_, not}
+use mathlib.Core.Bool.{Bool, true, false, _&&_}
 use mathlib.Core.List.{List, [], _∷_, _++_}
 use mathlib.Core.Option.{Option, none, some}
 use Prim.Native.Nat.{ℕ, _+_}
+use native.Mathlib.Omega.{arith}
 use lib.Dec.{ltb, eqb}
 use lib.ListN.{length, getD}
-use borrow.Author.Tests.{not-true}
-use Rattle.model.specs.Base.{pick}
-use Rattle.model.specs.Limits.{maxItems, maxHistory}
-use Rattle.model.specs.Refusal.{Fault, isFine, itemsAt, historyAt, targetAt}
-use Rattle.model.specs.Table.{Table, Row, rowAt, isElement}
+use borrow.Author.Tests.{ne-eqb}
+use Rattle.model.specs.Base.{pick, isIn}
+use Rattle.model.specs.Limits.{maxRows, maxItems, maxHistory}
+use Rattle.model.specs.Refusal.{Fault, isFine, orElse, unless, itemsAt, historyAt, tableAt, targetAt}
+use Rattle.model.specs.Table.{Table, Row, count, rowAt, isElement}
 use Rattle.model.specs.Script.{Expr, nil, document, var, step, both, letIn, forIn, ifIn, element, leaf, delete, insert, choose}
 use Rattle.model.specs.Run.{State, Out, stop, gives, andThen, thenRow, newRow}
-use Rattle.model.specs.Run.{roomFault, cutBy, cutRow, cutAll, Copied, copyEach, copyAll}
+use Rattle.model.specs.Run.{withMade, cutBy, cutRow, cutAll, Copied, copyEach, copyAll}
 use Rattle.model.specs.Run.{joinFor, loop, run, runOn}
-use Rattle.model.proofs.BoolLaws.{by-cases}
+use Rattle.model.proofs.TestLaws.{isIn-at}
 
 -- a refusal, or no stop at all
 abbrev refuses : Out → Bool
-refuses (stop f) = not (isFine f)
+refuses (stop f) = isIn 7 10 (f .number)
 refuses (gives v s) = true
 
 then-refuses : (o : Out) (next : List ℕ → State → Out) → refuses o ≡ true → ((v : List ℕ) (s : State) → refuses (next v s) ≡ true) →
@@ -36,7 +37,14 @@ pick-refuses true o q h k = h
 pick-refuses false o q h k = k
 
 new-refuses : (z : ℕ) (r : Row) (s : State) → refuses (newRow z r s) ≡ true
-new-refuses z r s = by-cases (isFine (roomFault z s)) (λ e. rw e) (λ e. rw e (rw e))
+new-refuses z r s = go (ltb (count (s .plan)) maxRows) (ltb (length (s .history)) maxHistory)
+  where
+    go : (a b : Bool) →
+        refuses (pick (isFine (orElse (unless a (tableAt z)) (unless b (historyAt z)))) (gives (count (s .plan) ∷ []) (withMade s r))
+        (stop (orElse (unless a (tableAt z)) (unless b (historyAt z))))) ≡ true
+    go true true = refl
+    go true false = refl
+    go false b = refl
 
 cut-refuses : (z : ℕ) (is : List ℕ) (s : State) → refuses (cutAll z is s) ≡ true
 unfolding cutAll
@@ -93,5 +101,8 @@ run-refuses (insert z e f) b s =
     (copy-refuses z (q .plan) v (getD w 0 0) q) refl))
 run-refuses (choose z r c e) b s = then-refuses (run e b s) _ (run-refuses e b s) (λ v u. refl)
 
+pub stop-number : (e : Expr) (x : Table) (f : Fault) → runOn x e ≡ stop f → isIn 7 10 (f .number) ≡ true
+stop-number e x f h = ap refuses (sym h) ∙ run-refuses e [] _
+
 pub stop-refuses : (e : Expr) (x : Table) (f : Fault) → runOn x e ≡ stop f → isFine f ≡ false
-stop-refuses e x f h = not-true (isFine f) (ap refuses (sym h) ∙ run-refuses e [] _)
+stop-refuses e x f h = ne-eqb (f .number) 0 (λ z. omega (arith, isIn-at 7 10 (f .number) (stop-number e x f h)))

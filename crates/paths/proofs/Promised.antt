@@ -5,7 +5,7 @@ use Prim.Native.Nat.{ℕ}
 use native.Mathlib.Omega.{arith}
 use Rattle.model.specs.Script.{Expr, Parsed, ill, parsed, readScript}
 use Rattle.model.specs.Meeting.{Answer, free, upward, meet, answer}
-use Rattle.model.specs.Call.{answered, firstBy, secondBy}
+use Rattle.model.specs.Call.{answered, analyse, firstBy, secondBy}
 use Rattle.model.proofs.FreeMeans.{freeMeans}
 use Rattle.model.proofs.CallsCommute.{callsCommute}
 use Rattle.paths.specs.Analysis.{Values, values, valuesOf, byAnswer, analysisOf, analysed}
@@ -27,10 +27,13 @@ answer-told meet upward e = absurd (omega (arith, which-same e))
 answer-told meet meet e = refl
 
 -- 0 as `which` is free: a refusal names script 1 or 2
-pub free-told : (p q : Parsed) → valuesOf (analysisOf (firstBy p q)) ≡ values 0 0 0 → firstBy p q ≡ answered free
-free-told (ill x) q e = absurd (omega (arith, which-same e))
-free-told (parsed e i n b) (ill x) z = absurd (omega (arith, which-same z))
-free-told (parsed e i n b) (parsed f j m c) z = ap answered (answer-told (answer e f) free z)
+free-by : (p q : Parsed) → valuesOf (analysisOf (firstBy p q)) ≡ values 0 0 0 → firstBy p q ≡ answered free
+free-by (ill x) q e = absurd (omega (arith, which-same e))
+free-by (parsed e i n b) (ill x) z = absurd (omega (arith, which-same z))
+free-by (parsed e i n b) (parsed f j m c) z = ap answered (answer-told (answer e f) free z)
+
+pub free-told : (b c : List ℕ) → valuesOf (analysed b c) ≡ values 0 0 0 → analyse b c ≡ answered free
+free-told b c = free-by (readScript b) (readScript c)
 
 -- of two accepted scripts the call says the model's answer
 module _ (b c : List ℕ) (e f : Expr) (E : ReadAs b e) (F : ReadAs c f) where
@@ -54,4 +57,4 @@ analysedMeans b c e f bytes bytes′ E F =
 
 pub analysedCommute : AnalysedCommute
 analysedCommute b c x a h w a′ h′ w′ bytes bytes′ s =
-    callsCommute b c x a h w a′ h′ w′ bytes bytes′ (free-told (readScript b) (readScript c) s)
+    callsCommute b c x a h w a′ h′ w′ bytes bytes′ (free-told b c s)

@@ -89,17 +89,28 @@ stored-fits x h =
       w .eight,
     )
 
--- WRITING a well-formed table is never refused
-module _ (x : model.Table) (h : model.isWell x ≡ true) (o : List ℕ) (room : 2080 ≤ length o) where
+-- WRITING a well-formed table is refused only for room
+module _ (x : model.Table) (h : model.isWell x ≡ true) (o : List ℕ) (room : length (stored x) ≤ length o) where
   fits-room : length (stored (decode (encode x))) ≤ length o
-  fits-room = subst (λ (y : model.Table). length (stored y) ≤ length o) (sym (decode-encode x h)) (omega (arith, stored-fits x h))
+  fits-room = subst (λ (y : model.Table). length (stored y) ≤ length o) (sym (decode-encode x h)) room
 
-  pub well-written : planWritten (encode x) o ≡ record { fault = record { number = 0; place = 0 }; bytes = length (stored x) }
-  well-written =
+  pub stored-written : planWritten (encode x) o ≡ record { fault = record { number = 0; place = 0 }; bytes = length (stored x) }
+  stored-written =
       sym (write-fine (encode x) o (fits-encode x h) (length (stored x)) fits-room (ap (λ (y : model.Table). length (stored y)) (sym
       (decode-encode x h))))
 
-  pub well-out : planOut (encode x) o ≡ stored x ++ drop (length (stored x)) o
-  well-out =
+  pub stored-out : planOut (encode x) o ≡ stored x ++ drop (length (stored x)) o
+  stored-out =
       write-out (encode x) o (fits-encode x h) fits-room ∙
       ap (λ (y : model.Table). stored y ++ drop (length (stored y)) o) (decode-encode x h)
+
+-- and 2,080 bytes are enough
+module _ (x : model.Table) (h : model.isWell x ≡ true) (o : List ℕ) (room : 2080 ≤ length o) where
+  stored-room : length (stored x) ≤ length o
+  stored-room = omega (arith, stored-fits x h)
+
+  pub well-written : planWritten (encode x) o ≡ record { fault = record { number = 0; place = 0 }; bytes = length (stored x) }
+  well-written = stored-written x h o stored-room
+
+  pub well-out : planOut (encode x) o ≡ stored x ++ drop (length (stored x)) o
+  well-out = stored-out x h o stored-room

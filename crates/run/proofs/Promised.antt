@@ -1,25 +1,27 @@
--- What the call `run` gives back and leaves, in the model's words: RunsAsCalled, RunsOn, RefusedGivesBack, RunsCommute.
+-- What the call `run` gives back and leaves, in the model's words: RunsAsCalled, RunsOn, RefusedGivesBack, RefusedLeaves, RunsCommute.
 use mathlib.Core.Path.{_≡_, refl, ap, sym, subst, _∙_}
 use mathlib.Core.Bool.{Bool, true, false}
 use mathlib.Core.List.{List}
 use Prim.Native.Nat.{ℕ}
-use lib.ListN.{length}
+use lib.ListN.{length, replicate}
 use borrow.Author.Tests.{ne-eqb}
-use Rattle.model.specs.Base.{pick, areBytes}
+use Rattle.model.specs.Base.{pick, isIn, areBytes}
 use Rattle.model.specs.Refusal as refusal
 use Rattle.model.specs.Table as model
-use Rattle.model.specs.Script.{Parsed, ill, parsed, readScript}
+use Rattle.model.specs.Script.{readScript}
 use Rattle.model.specs.Run.{State, Out, stop, gives}
 use Rattle.model.specs.Call.{Ran, areasFit, ranBy, refusedRun, runBy, runCall}
 use Rattle.model.proofs.BoolLaws.{by-cases, pick-true, pick-false}
-use Rattle.model.proofs.RunsBack.{runsBack}
 use Rattle.model.proofs.CallsCommute.{callsCommute}
+use Rattle.table.specs.Results.{faultOf}
 use Rattle.table.specs.Words.{encode, decode, fits}
 use Rattle.table.specs.declared.Table.{Table}
 use Rattle.table.proofs.FitsLaws.{well-decode}
 use Rattle.table.proofs.EncodeLaws.{decode-encode, fits-encode}
 use Rattle.run.specs.Calls.{outcomeOf, ran, resultOf, runResult}
-use Rattle.run.specs.Promise.{RunsAsCalled, RunsOn, RefusedGivesBack, EitherEnd, RunsCommute}
+use Rattle.run.specs.Promise.{RunsAsCalled, RunsOn, RefusedGivesBack, RefusedLeaves, EitherEnd, RunsCommute}
+use Rattle.run.specs.declared.RunResult.{RunResult}
+use Rattle.run.proofs.OutcomeLaws.{Refuses, outcome-refuses, run-back}
 
 pub runsAsCalled : RunsAsCalled
 runsAsCalled t b a h w e =
@@ -46,11 +48,7 @@ module _ (t : Table) (e : fits t ≡ true) where
 
   -- a run that is not refused leaves a well-formed table
   run-well : (b : List ℕ) → areBytes b ≡ true → (v : List ℕ) (s : State) → outcomeOf t b ≡ gives v s → model.isWell (s .plan) ≡ true
-  run-well b bytes v s k = go (readScript b) refl (sym (pick-true (fits t) _ _ e) ∙ k)
-    where
-      go : (p : Parsed) → readScript b ≡ p → runBy (decode t) p ≡ gives v s → model.isWell (s .plan) ≡ true
-      go (ill f) E q = let y : stop f ≡ gives v s = q in cc
-      go (parsed x i n r) E q = runsBack x (decode t) v s (b, bytes, (i, (n, (r, E)))) (well-decode t e) q .0
+  run-well b bytes v s k = run-back b bytes (decode t) (well-decode t e) v s (sym (pick-true (fits t) _ _ e) ∙ k) .0
 
   ran-stands : (b a h w : List ℕ) → areBytes b ≡ true → Stands t (runResult t b a h w .table) (ran t b a h w .plan)
   ran-stands b a h w bytes = go (areasFit a h w)
@@ -73,6 +71,32 @@ runsOn t b a h w bytes e =
 pub refusedGivesBack : RefusedGivesBack
 refusedGivesBack t b a h w k =
     pick-false (refusal.isFine (ran t b a h w .fault)) (encode (ran t b a h w .plan)) t (ne-eqb (ran t b a h w .fault .number) 0 k)
+
+-- the areas, by what the run comes to
+module _ (t : Table) (a h w : List ℕ) where
+  abbrev Zeroed : RunResult → Ran → Type 0
+  Zeroed q r =
+      (isIn 1 10 (q .fault .number) ≡ true) × (r .answer ≡ replicate (length a) 0) × (r .history ≡ replicate (length h) 0) ×
+      (r .work ≡ replicate (length w) 0)
+
+  outcome-zeroed : (o : Out) → Refuses o → (ranBy (decode t) (length a) (length h) (length w) o .fault .number ≡ 0 → ⊥) →
+      Zeroed (resultOf t (ranBy (decode t) (length a) (length h) (length w) o)) (ranBy (decode t) (length a) (length h) (length w) o)
+  outcome-zeroed (stop f) r k = (r f refl, refl, refl, refl)
+  outcome-zeroed (gives v s) r k = absurd (k refl)
+
+pub refusedLeaves : RefusedLeaves
+refusedLeaves t b a h w = (
+  λ e. let r : ran t b a h w ≡ refusedRun refusal.lentShort (decode t) a h w = pick-false (areasFit a h w) _ _ e in (
+    ap (λ (q : Ran). faultOf (q .fault)) r,
+    ap (λ (q : Ran). q .answer) r,
+    ap (λ (q : Ran). q .history) r,
+    ap (λ (q : Ran). q .work) r,
+  ),
+  λ e k.
+      let r : ran t b a h w ≡ ranBy (decode t) (length a) (length h) (length w) (outcomeOf t b) = pick-true (areasFit a h w) _ _ e in
+      subst (λ (q : Ran). Zeroed t a h w (resultOf t q) q) (sym r)
+      (outcome-zeroed t a h w (outcomeOf t b) (outcome-refuses t b) (λ z. k (ap (λ (q : Ran). q .fault .number) r ∙ z))),
+)
 
 -- EITHER ORDER
 module _ (t : Table) (e : fits t ≡ true) where

@@ -1,11 +1,14 @@
 -- The demands on what the call `run` gives back and leaves. Each is a type; its proof is in proofs/Promised. Assumes nothing.
 use mathlib.Core.Path.{_≡_}
-use mathlib.Core.Bool.{true}
+use mathlib.Core.Bool.{true, false}
 use mathlib.Core.List.{List}
 use Prim.Native.Nat.{ℕ}
-use Rattle.model.specs.Base.{areBytes}
+use lib.ListN.{length, replicate}
+use Rattle.model.specs.Base.{isIn, areBytes}
 use Rattle.model.specs.Meeting.{free}
+use Rattle.model.specs.Refusal.{lentShort}
 use Rattle.model.specs.Call.{Ran, answered, analyse, areasFit, runCall, callsEnd, CallsEqual}
+use Rattle.table.specs.Results.{faultOf}
 use Rattle.table.specs.Words.{decode, fits}
 use Rattle.table.specs.declared.Table.{Table}
 use Rattle.run.specs.Calls.{ran, runResult}
@@ -23,6 +26,19 @@ RunsOn =
 -- DEMAND 1: refused, the table is as it was handed in, well formed or not
 abbrev pub RefusedGivesBack : Type 0
 RefusedGivesBack = (t : Table) (b a h w : List ℕ) → (runResult t b a h w .fault .number ≡ 0 → ⊥) → runResult t b a h w .table ≡ t
+
+-- in areas of which one is too short, the refusal is 11 at place 0 and the areas are as they were; else answer, history and work are zero,
+-- and the refusal is another one of the table, 1 to 10
+abbrev pub RefusedLeaves : Type 0
+RefusedLeaves =
+    (t : Table) (b a h w : List ℕ) →
+    (areasFit a h w ≡ false →
+    (runResult t b a h w .fault ≡ faultOf lentShort) ×
+    (ran t b a h w .answer ≡ a) × (ran t b a h w .history ≡ h) × (ran t b a h w .work ≡ w)) ×
+    (areasFit a h w ≡ true → (runResult t b a h w .fault .number ≡ 0 → ⊥) →
+    (isIn 1 10 (runResult t b a h w .fault .number) ≡ true) ×
+    (ran t b a h w .answer ≡ replicate (length a) 0) × (ran t b a h w .history ≡ replicate (length h) 0) ×
+    (ran t b a h w .work ≡ replicate (length w) 0))
 
 -- DEMAND 3: two scripts of which the analysis says free, run one after the other on the table that the first gave back
 abbrev pub EitherEnd : Table → (one oneThen two twoThen : Ran) → Type 0

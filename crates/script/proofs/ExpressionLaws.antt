@@ -16,7 +16,7 @@ use Rattle.script.proofs.HeadLaws.{fine-fits, fine-records}
 use Rattle.script.proofs.ParseLaws.{reader, afterRecord, afterFirst, afterSecond, afterThird, parse-refused, parse-operands}
 use Rattle.script.proofs.ParseLaws.{after-none, after-record, after-one, after-first, after-two, after-second}
 use Rattle.script.proofs.PlaceLaws.{Reads, reads}
-use Rattle.script.proofs.RefusalLaws.{Sound, parse-sound}
+use Rattle.script.proofs.RefusalLaws.{Sound, sound-numbered, parse-sound}
 
 -- THE END of what is read first, and of the whole
 pub record Ended (x : Parsed) (r : End) : Type 0 where
@@ -25,7 +25,7 @@ pub record Ended (x : Parsed) (r : End) : Type 0 where
   pub is : x ≡ parsed expr (r .place) (r .records) bytes
 
 pub ended : (x : Parsed) (r : End) → Sound x → r ≡ endOf x → r .number ≡ 0 → Ended x r
-ended (ill f) r s h z = absurd (s .numbered f refl (sym (ap (λ (q : End). q .number) h) ∙ z))
+ended (ill f) r s h z = absurd (sound-numbered s f refl (sym (ap (λ (q : End). q .number) h) ∙ z))
 ended (parsed e j m c) r s h z =
     let p : r .place ≡ j = ap (λ (q : End). q .place) h in
     let n : r .records ≡ m = ap (λ (q : End). q .records) h in

@@ -18,7 +18,7 @@ use Rattle.script.specs.Reading.{scriptRead, parseAt, endOf, ExpressionP
 use Rattle.script.specs.Accepted.{Accepted}
 use Rattle.script.specs.declared.read.End.{End}
 use Rattle.script.proofs.PlaceLaws.{reads}
-use Rattle.script.proofs.RefusalLaws.{Sound, parse-sound}
+use Rattle.script.proofs.RefusalLaws.{Sound, sound-numbered, parse-sound}
 use Rattle.script.proofs.ExpressionLaws.{Ended, ended}
 
 -- WAYS OUT of the reader of a script, from what it found of the expression at its start
@@ -60,7 +60,7 @@ record Whole (x : Parsed) : Type 0 where
   empty : length bytes ≡ 0
 
 whole-fine : (x : Parsed) → Sound x → faultBy (whole x) .number ≡ 0 → Whole x
-whole-fine (ill f) s h = absurd (s .numbered f refl h)
+whole-fine (ill f) s h = absurd (sound-numbered s f refl h)
 whole-fine (parsed e j m c) s h =
     by-cases (eqb (length c) 0)
     (λ q. record { expr = e; place = j; records = m; bytes = c; is = refl; empty = eqb-true (length c) 0 q })

@@ -1,22 +1,16 @@
 -- A run in areas that suffice, and two runs one after the other.
 use mathlib.Core.Path.{_≡_, refl, ap, sym, _∙_}
-use mathlib.Core.Bool.{Bool, true, false}
+use mathlib.Core.Bool.{Bool}
 use mathlib.Core.List.{List}
 use Prim.Native.Nat.{ℕ, _≤_}
-use native.Mathlib.Omega.{arith}
 use lib.Dec.{eqb}
 use lib.ListN.{length}
 use borrow.Author.Tests.{eq-eqb, ne-eqb}
 use Rattle.model.specs.Base.{pick}
-use Rattle.model.specs.Refusal.{Fault, isFine, linkAt, lentShort}
-use Rattle.model.specs.Script.{Parsed, ill, parsed, parseFrom, whole, readScript}
+use Rattle.model.specs.Refusal.{isFine, lentShort}
 use Rattle.model.specs.Run.{Out, stop, gives}
-use Rattle.model.specs.Call.{Ran, ranBy, refusedRun, runBy}
-use Rattle.model.specs.Table as model
-use Rattle.model.proofs.BoolLaws.{by-cases}
-use Rattle.model.proofs.StopLaws.{stop-refuses}
-use Rattle.script.proofs.RefusalLaws.{Sound, parse-sound}
-use Rattle.table.specs.Words.{encode, decode, fits}
+use Rattle.model.specs.Call.{Ran, ranBy, refusedRun}
+use Rattle.table.specs.Words.{encode, decode}
 use Rattle.table.specs.declared.Table.{Table}
 use Rattle.run.specs.Calls.{outcomeOf, ran, runResult}
 use Rattle.run.specs.declared.RunResult.{RunResult}
@@ -25,31 +19,15 @@ use Rattle.sequence.specs.declared.orders.Ending.{Ending}
 use Rattle.sequence.specs.declared.orders.Order.{Order}
 use Rattle.sequence.specs.declared.orders.Order.the-variants.{Stopped, Ended}
 use Rattle.run.proofs.CallLaws.{areas-fit}
-
--- A STOP is a refusal: its number is not 0
-abbrev Refuses : Out → Type 0
-Refuses o = (f : Fault) → o ≡ stop f → isFine f ≡ false
-
-run-refuses : (x : model.Table) (p : Parsed) → Sound p → Refuses (runBy x p)
-run-refuses x (ill g) s f e = ne-eqb (f .number) 0 (λ q. s .numbered f (cc) q)
-run-refuses x (parsed d i n b) s f e = stop-refuses d x f e
-
-whole-sound : (p : Parsed) → Sound p → Sound (whole p)
-whole-sound (ill f) s = s
-whole-sound (parsed e i n b) s =
-    by-cases (eqb (length b) 0) (λ h. rw h s)
-    (λ h. rw h (record { numbered = λ f q z. let y : f .number ≡ 3 = cc in omega arith }))
-
-either-refuses : (z : Bool) (x : model.Table) (p : Parsed) → Sound p → Refuses (pick z (runBy x p) (stop (linkAt 0)))
-either-refuses true x p s f e = run-refuses x p s f e
-either-refuses false x p s f e = let q : f ≡ linkAt 0 = cc in ap isFine q
+use Rattle.run.proofs.OutcomeLaws.{Refuses, refuses-fine, outcome-refuses}
 
 -- WHAT A RUN GIVES BACK does not depend on the areas, where they suffice
 abbrev given : Table → Ran → Ending
 given t r = record { number = r .fault .number; items = r .items; table = pick (isFine (r .fault)) (encode (r .plan)) t }
 
 out-given : (t : Table) (a h w : ℕ) (o : Out) → Refuses o → given t (ranBy (decode t) a h w o) ≡ endingBy t o
-out-given t a h w (stop f) k = ap (λ (z : Bool). record { number = f .number; items = 0; table = pick z (encode (decode t)) t }) (k f refl)
+out-given t a h w (stop f) k =
+    ap (λ (z : Bool). record { number = f .number; items = 0; table = pick z (encode (decode t)) t }) (refuses-fine k f refl)
 out-given t a h w (gives v s) k = refl
 
 module _ (t : Table) (b a h w : List ℕ) (i : 512 ≤ length a) (j : 12288 ≤ length h) (k : 32768 ≤ length w) where
@@ -60,8 +38,7 @@ module _ (t : Table) (b a h w : List ℕ) (i : 512 ≤ length a) (j : 12288 ≤ 
       (λ (z : Bool).
       given t (pick z (ranBy (decode t) (length a) (length h) (length w) (outcomeOf t b)) (refusedRun lentShort (decode t) a h w)))
       (areas-fit a h w i j k) ∙
-      out-given t (length a) (length h) (length w) (outcomeOf t b)
-      (either-refuses (fits t) (decode t) (readScript b) (whole-sound (parseFrom 18 1 0 0 0 b) (parse-sound 18 1 0 0 0 b)))
+      out-given t (length a) (length h) (length w) (outcomeOf t b) (outcome-refuses t b)
 
   pub run-given : {r : RunResult} → r ≡ runResult t b a h w →
       record { number = r .fault .number; items = r .items; table = r .table } ≡ ending t b

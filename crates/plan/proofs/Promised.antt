@@ -1,0 +1,75 @@
+-- What is written is read back, and what is read is written back: TableBack, BytesBack.
+use mathlib.Core.Path.{_≡_, refl, ap, sym, _∙_}
+use mathlib.Core.Bool.{true}
+use mathlib.Core.List.{List, _++_}
+use Prim.Native.Nat.{ℕ, _+_, _≤_}
+use native.Mathlib.Omega.{arith}
+use lib.ListN.{length, take, drop}
+use lib.Seq.{take-at}
+use borrow.Author.Tests.{eqb-false}
+use Rattle.model.specs.Base.{areBytes}
+use Rattle.model.specs.Refusal.{fine}
+use Rattle.model.specs.Stored.{Read, bad, got, stored, readPlan}
+use Rattle.model.specs.Table as model
+use Rattle.model.proofs.StoredBack.{storedBack}
+use Rattle.model.proofs.StoredLaws.{readFrom-numbered}
+use Rattle.table.specs.Results.{faultOf}
+use Rattle.table.specs.Words.{encode, decode, fits}
+use Rattle.table.specs.declared.Table.{Table}
+use Rattle.table.specs.declared.Written.{Written}
+use Rattle.table.proofs.FitsLaws.{well-decode, fits-at}
+use Rattle.table.proofs.WordLaws.{encode-decode}
+use Rattle.plan.specs.Calls.{readBy, planRead, planWritten, planOut}
+use Rattle.plan.specs.Promise.{TableBack, BytesBack}
+use Rattle.plan.proofs.WritingLaws.{write-fine, write-out, stored-fits, stored-written, stored-out}
+
+-- TABLE TO BYTES TO TABLE: the words of a table that fits are those of the table that it stands for
+words-back : (t : Table) → length (t .rows) ≡ 512 → fits t ≡ true → encode (decode t) ≡ t
+words-back t l e =
+    let f = fits-at (t .count) (t .rows) (t .marks) e in
+    encode-decode (t .count) (t .rows) (t .marks) (omega (arith, f .few)) (f .canonical l)
+
+pub tableBack : TableBack
+tableBack t o l e room =
+    let s = stored (decode t) in
+    let w : planWritten t o ≡ record { fault = faultOf fine; bytes = length s } = sym (write-fine t o e (length s) room refl) in (
+      w,
+      ap (λ (r : Written). planRead (take (r .bytes) (planOut t o))) w ∙
+          ap (λ (b : List ℕ). planRead (take (length s) b)) (write-out t o e room) ∙
+          ap planRead (take-at s (drop (length s) o) (length s) refl) ∙
+          ap readBy (storedBack .0 (decode t) (well-decode t e)) ∙
+          ap (λ (u : Table). record { fault = faultOf fine; table = u }) (words-back t l e),
+    )
+
+-- BYTES TO TABLE TO BYTES: a table read from bytes is stored as those bytes, 2,080 at most
+module _ (b : List ℕ) (x : model.Table) (bytes : areBytes b ≡ true) (read : readPlan b ≡ got x) where
+  pub read-short : length b ≤ 2080
+  read-short = let s = storedBack .1 b x bytes read in omega (arith, stored-fits x (s .0), ap length (s .1))
+
+  module _ (o : List ℕ) (room : length b ≤ length o) where
+    pub read-back : (planWritten (encode x) o ≡ record { fault = faultOf fine; bytes = length b }) ×
+        (planOut (encode x) o ≡ b ++ drop (length b) o)
+    read-back =
+        let s = storedBack .1 b x bytes read in
+        let l : length (stored x) ≤ length o = omega (arith, ap length (s .1)) in (
+          stored-written x (s .0) o l ∙ ap (λ (c : List ℕ). record { fault = faultOf fine; bytes = length c }) (s .1),
+          stored-out x (s .0) o l ∙ ap (λ (c : List ℕ). c ++ drop (length c) o) (s .1),
+        )
+
+-- what is not refused is read
+pub read-got : (b : List ℕ) → planRead b .fault .number ≡ 0 → (x : model.Table) × (readPlan b ≡ got x)
+read-got b e = go (readPlan b) refl
+  where
+    go : (q : Read) → readPlan b ≡ q → (x : model.Table) × (readPlan b ≡ got x)
+    go (bad f) k =
+        let z : f .number ≡ 0 = sym (ap (λ (q : Read). readBy q .fault .number) k) ∙ e in
+        absurd (eqb-false (f .number) 0 (readFrom-numbered (length b + 1) model.empty 0 b f k) z)
+    go (got x) k = (x, k)
+
+pub bytesBack : BytesBack
+bytesBack b o bytes e room =
+    let g = read-got b e in
+    let r = read-back b (g .0) bytes (g .1) o room in (
+      ap (λ (q : Read). planWritten (readBy q .table) o) (g .1) ∙ r .0,
+      ap (λ (q : Read). planOut (readBy q .table) o) (g .1) ∙ r .1,
+    )

@@ -1,0 +1,59 @@
+-- What a run of a script's bytes comes to. It stops with a refusal of the table, by the script's reader (1 to 5), for the plan (6) or by
+-- the run (7 to 10); or it ends, and its history leads from plan to plan and back.
+use mathlib.Core.Path.{_≡_, refl, ap, sym}
+use mathlib.Core.Bool.{Bool, true, false}
+use mathlib.Core.List.{List}
+use Prim.Native.Nat.{ℕ, _≤_}
+use native.Mathlib.Omega.{arith}
+use borrow.Author.Tests.{ne-eqb}
+use Rattle.model.specs.Base.{pick, isIn, areBytes}
+use Rattle.model.specs.Refusal.{Fault, isFine, linkAt}
+use Rattle.model.specs.Script.{Parsed, ill, parsed, readScript}
+use Rattle.model.specs.History.{historyBytes, replayAll}
+use Rattle.model.specs.Run.{State, Out, stop, gives}
+use Rattle.model.specs.Call.{runBy}
+use Rattle.model.specs.Table as model
+use Rattle.model.specs.Undo.{back, undo}
+use Rattle.model.proofs.RunsBack.{runsBack}
+use Rattle.model.proofs.StopLaws.{stop-number}
+use Rattle.model.proofs.TestLaws.{isIn-at, isIn-by}
+use Rattle.script.proofs.RefusalLaws.{Sound, script-sound}
+use Rattle.table.specs.Words.{decode, fits}
+use Rattle.table.specs.declared.Table.{Table}
+use Rattle.run.specs.Calls.{outcomeOf}
+
+-- STOPPED
+abbrev pub Refuses : Out → Type 0
+Refuses o = (f : Fault) → o ≡ stop f → isIn 1 10 (f .number) ≡ true
+
+-- its number is not 0
+pub refuses-fine : {o : Out} → Refuses o → (f : Fault) → o ≡ stop f → isFine f ≡ false
+refuses-fine r f e = ne-eqb (f .number) 0 (λ z. omega (arith, isIn-at 1 10 (f .number) (r f e)))
+
+within : (low high n : ℕ) → 1 ≤ low → high ≤ 10 → isIn low high n ≡ true → isIn 1 10 n ≡ true
+within a b n h k e = let r = isIn-at a b n e in isIn-by 1 10 n (omega arith) (omega arith)
+
+parsed-refuses : (x : model.Table) (p : Parsed) → Sound p → Refuses (runBy x p)
+parsed-refuses x (ill g) s f e = within 1 5 (f .number) (omega arith) (omega arith) (s .ranged f (cc))
+parsed-refuses x (parsed d i n b) s f e = within 7 10 (f .number) (omega arith) (omega arith) (stop-number d x f e)
+
+pub run-refuses : (x : model.Table) (b : List ℕ) → Refuses (runBy x (readScript b))
+run-refuses x b = parsed-refuses x (readScript b) (script-sound b)
+
+pub outcome-refuses : (t : Table) (b : List ℕ) → Refuses (outcomeOf t b)
+outcome-refuses t b = go (fits t)
+  where
+    go : (z : Bool) → Refuses (pick z (runBy (decode t) (readScript b)) (stop (linkAt 0)))
+    go true f e = run-refuses (decode t) b f e
+    go false f e = let q : 6 ≡ f .number = cc in ap (isIn 1 10) (sym q)
+
+-- ENDED
+pub run-back : (b : List ℕ) → areBytes b ≡ true → (x : model.Table) → model.isWell x ≡ true → (v : List ℕ) (s : State) →
+    runBy x (readScript b) ≡ gives v s →
+    (model.isWell (s .plan) ≡ true) × (replayAll x (s .history) ≡ s .plan) × (undo (s .plan) (historyBytes (s .history)) ≡ back x)
+run-back b bytes x well v s e = go (readScript b) refl e
+  where
+    go : (p : Parsed) → readScript b ≡ p → runBy x p ≡ gives v s →
+        (model.isWell (s .plan) ≡ true) × (replayAll x (s .history) ≡ s .plan) × (undo (s .plan) (historyBytes (s .history)) ≡ back x)
+    go (ill f) E q = let y : stop f ≡ gives v s = q in let z : _≡_ {A = ℕ} 0 1 = cc in absurd (omega arith)
+    go (parsed d i n r) E q = runsBack d x v s (b, bytes, (i, (n, (r, E)))) well q
