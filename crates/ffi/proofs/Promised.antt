@@ -29,8 +29,8 @@ use Rattle.sweep.specs.Sweeping as sweeping
 use Rattle.table.specs.declared.TableResult.{TableResult}
 use Rattle.undo.specs.Undoing.{planUndone, undoneBy, asItWas}
 use Rattle.run.specs.Calls.{ran, resultOf}
-use Rattle.ffi.specs.Calls.{readCode, readOut, undoCode, undoOut, backCode, backOut}
-use Rattle.lent.specs.Codes.{codeOf, lentCode, writtenCode}
+use Rattle.ffi.specs.Calls.{readCode, readOut, undoCode, undoOut}
+use Rattle.lent.specs.Codes.{codeOf, lentCode, writtenCode, finishedCode, finishedOut}
 use Rattle.ffi.specs.Running.{refusedCall, ranCall, readCall, runCalled}
 use Rattle.lent.specs.Done.{isLentShort, doneOver}
 use Rattle.ffi.specs.Promise.{atFront, PlanBack, SweptBack, UndoneBack, RunDone, RunRefused, FreeRunsCommute}
@@ -81,10 +81,10 @@ sweptBack p o x b e room =
       table = encode x;
     })) (fits-encode x w) ∙
     ap (λ (u : model.Table). results.result refusal.fine (swept u)) (decode-encode x w) in (
-      code-then p o x e room (λ q. writtenCode (library.planWritten (sweeping.planSwept (q .table) .table) o)) ∙
-          ap (λ (r : TableResult). writtenCode (library.planWritten (r .table) o)) t ∙ written-code (swept x) y o room,
-      out-then p o x e room (λ q. library.planOut (sweeping.planSwept (q .table) .table) o) ∙
-          ap (λ (r : TableResult). library.planOut (r .table) o) t ∙ well-out (swept x) y o room,
+      code-then p o x e room (λ q. finishedCode (sweeping.planSwept (q .table)) 1 o) ∙
+          ap (λ (r : TableResult). finishedCode r 1 o) t ∙ written-code (swept x) y o room,
+      out-then p o x e room (λ q. finishedOut (sweeping.planSwept (q .table)) o) ∙
+          ap (λ (r : TableResult). finishedOut r o) t ∙ well-out (swept x) y o room,
     )
 
 -- a well-formed table undone
@@ -96,9 +96,9 @@ undone-back p h o x y w e u room =
     ap (λ (z : Bool). pick z (undoneBy (encode x) (undo (decode (encode x)) h)) (asItWas (refusal.linkAt 0) (encode x))) (fits-encode x
     w) ∙
     ap (λ (q : model.Table). undoneBy (encode x) (undo q h)) (decode-encode x w) ∙ ap (undoneBy (encode x)) u in (
-      code-then p o x e room (λ q. backCode (planUndone (q .table) h) o) ∙ ap (λ (r : TableResult). backCode r o) t ∙ written-code y v o
+      code-then p o x e room (λ q. finishedCode (planUndone (q .table) h) 2 o) ∙ ap (λ (r : TableResult). finishedCode r 2 o) t ∙ written-code y v o
           room,
-      out-then p o x e room (λ q. backOut (planUndone (q .table) h) o) ∙ ap (λ (r : TableResult). backOut r o) t ∙ well-out y v o room,
+      out-then p o x e room (λ q. finishedOut (planUndone (q .table) h) o) ∙ ap (λ (r : TableResult). finishedOut r o) t ∙ well-out y v o room,
     )
 
 pub undoneBack : UndoneBack

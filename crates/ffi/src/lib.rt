@@ -11,7 +11,6 @@ use lent::answer::PLAN;
 use lent::answer::SCRIPT;
 use lent::done;
 use paths::Analysis;
-use plan::write;
 use table::Fault;
 
 // Reads a plan and writes it back to out, which needs room for any plan.
@@ -24,14 +23,7 @@ pub extern "C" fn yegnabit_plan(plan: &[u8], out: &mut [u8]) -> u64
         return answer::code(Fault::LENT, AREA, 0);
     }
     let read = plan::read_plan(plan);
-    let number = read.fault.number;
-    let place = read.fault.place;
-    if number != 0 {
-        return answer::code(number, PLAN, place);
-    }
-    let t = read.table;
-    let written = write::fitting(t, out);
-    answer::code(written.fault.number, AREA, written.bytes)
+    answer::finish(read, PLAN, out)
 }
 
 // Reads a plan, sweeps it, and writes it to out.
@@ -45,15 +37,11 @@ pub extern "C" fn yegnabit_sweep(plan: &[u8], out: &mut [u8]) -> u64
     }
     let read = plan::read_plan(plan);
     let number = read.fault.number;
-    let place = read.fault.place;
     if number != 0 {
-        return answer::code(number, PLAN, place);
+        return answer::code(number, PLAN, read.fault.place);
     }
-    let t = read.table;
-    let swept = sweep::sweep_table(t);
-    let u = swept.table;
-    let written = write::fitting(u, out);
-    answer::code(written.fault.number, AREA, written.bytes)
+    let swept = sweep::sweep_table(read.table);
+    answer::finish(swept, PLAN, out)
 }
 
 // Reads a plan, takes a run back by its history, and writes it to out.
@@ -67,20 +55,11 @@ pub extern "C" fn yegnabit_undo(plan: &[u8], history: &[u8], out: &mut [u8]) -> 
     }
     let read = plan::read_plan(plan);
     let number = read.fault.number;
-    let place = read.fault.place;
     if number != 0 {
-        return answer::code(number, PLAN, place);
+        return answer::code(number, PLAN, read.fault.place);
     }
-    let t = read.table;
-    let back = undo::undo(t, history);
-    let refused = back.fault.number;
-    let at = back.fault.place;
-    if refused != 0 {
-        return answer::code(refused, SCRIPT, at);
-    }
-    let u = back.table;
-    let written = write::fitting(u, out);
-    answer::code(written.fault.number, AREA, written.bytes)
+    let undone = undo::undo(read.table, history);
+    answer::finish(undone, SCRIPT, out)
 }
 
 // Reads a plan, runs a script on it in the lent areas, and writes the plan as it then is to out. done takes six numbers: items of the

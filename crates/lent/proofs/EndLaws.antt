@@ -1,4 +1,4 @@
--- A run that is over, by its two ways out: refused, or its plan written.
+-- The end of a call by its two ways out: refused, or its plan written. Of any call that gives a table, and of a run.
 use mathlib.Core.Path.{_≡_, ap, _∙_}
 use mathlib.Core.Bool.{true, false}
 use mathlib.Core.List.{List}
@@ -8,10 +8,24 @@ use borrow.Author.Tests.{eq-eqb, ne-eqb}
 use Rattle.plan.specs.Calls.{planWritten, planOut}
 use Rattle.table.specs.declared.Written.{Written}
 use Rattle.run.specs.declared.RunResult.{RunResult}
-use Rattle.lent.specs.Codes.{codeOf}
+use Rattle.table.specs.declared.TableResult.{TableResult}
+use Rattle.lent.specs.Codes.{codeOf, writtenCode, finishedCode, finishedOut}
 use Rattle.lent.specs.Done.{doneOver, endCode, endOut, endDone}
 
--- the answer and both areas
+module _ (r : TableResult) (w : ℕ) (o : List ℕ) where
+  pub finish-refused : (c : ℕ) → (r .fault .number ≡ 0 → ⊥) → c ≡ codeOf (r .fault .number) w (r .fault .place) →
+      (c ≡ finishedCode r w o) × (o ≡ finishedOut r o)
+  finish-refused c z e =
+      let k : eqb (r .fault .number) 0 ≡ false = ne-eqb (r .fault .number) 0 z in
+      (e ∙ rw k, rw k)
+
+  pub finish-written : (c : ℕ) (x : Written) (o′ : List ℕ) → r .fault .number ≡ 0 → x ≡ planWritten (r .table) o →
+      o′ ≡ planOut (r .table) o → c ≡ writtenCode x → (c ≡ finishedCode r w o) × (o′ ≡ finishedOut r o)
+  finish-written c x o′ z e f g =
+      let k : eqb (r .fault .number) 0 ≡ true = eq-eqb (r .fault .number) 0 z in
+      (g ∙ ap writtenCode e ∙ rw k, f ∙ rw k)
+
+-- the answer and both areas of a run
 abbrev Ends : RunResult → (out done : List ℕ) → (code : ℕ) → (out′ done′ : List ℕ) → Type 0
 Ends r o d c o′ d′ = (c ≡ endCode r o) × ((o′ ≡ endOut r o) × (d′ ≡ endDone r o d))
 

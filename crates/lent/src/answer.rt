@@ -1,6 +1,10 @@
 // The number that a C call answers.
 ghost use mathlib.Core.Path.{_≡_};
-ghost use Rattle.lent.specs.Codes.{codeOf};
+ghost use mathlib.Core.Bool.{true};
+ghost use Rattle.table.specs.Words.{fits};
+ghost use Rattle.lent.specs.Codes.{codeOf, finishedCode, finishedOut};
+use plan::write;
+use table::TableResult;
 
 // Whose refusal it is: a lent area's; the plan's; the script's, the run's or the history's.
 pub const AREA: u8 = 0;
@@ -17,4 +21,18 @@ pub fn code(number: u8, which: u8, place: usize) -> u64
     ensures { λ r. ⌜ r ≡ codeOf number which place ⌝ }
 {
     (number as u64) + 256 * (which as u64) + 65536 * (place as u64 % PLACES)
+}
+
+// The end of a call that gives a table: its refusal, of which which says whose it is; or the table written, and how many bytes.
+pub fn finish(result: TableResult, which: u8, out: &mut [u8]) -> u64
+    requires { ⌜ (result .fault .number ≡ 0 → fits (result .table) ≡ true) ⌝ }
+    ensures { λ r. ⌜ r ≡ finishedCode result which (now (out .entry)) ⌝ }
+    ensures { λ r. ⌜ now (out .exit) ≡ finishedOut result (now (out .entry)) ⌝ }
+{
+    let number = result.fault.number;
+    if number != 0 {
+        return code(number, which, result.fault.place);
+    }
+    let written = write::fitting(result.table, out);
+    code(written.fault.number, AREA, written.bytes)
 }

@@ -32,16 +32,24 @@ code-requires-4 : tie.Need-code-requires-4
 code-requires-4 c κs = search needs
 
 returns : tie.Need-returns
-returns c = analysis-told (c .before .before .before .before .analyse .ensures) (c .before .before .analysis .given .1) (c .code .ensures)
+returns c =
+    let c4 = c .before .before .before .before in
+    analysis-told (c4 .analyse .ensures) (c .before .before .analysis .given .1) (c .code .ensures)
 
 returns-2 : tie.Need-returns-2
-returns-2 c = analysis-told (c .before .before .before .analyse .ensures) (c .before .enum-told .given .1) (c .code2 .ensures)
+returns-2 c =
+    let c3 = c .before .before .before in
+    analysis-told (c3 .analyse .ensures) (c .before .enum-told .given .1) (c .code2 .ensures)
 
 returns-3 : tie.Need-returns-3
-returns-3 c = analysis-told (c .before .before .before .analyse .ensures) (c .before .enum-told2 .given .1) (c .code3 .ensures)
+returns-3 c =
+    let c3 = c .before .before .before in
+    analysis-told (c3 .analyse .ensures) (c .before .enum-told2 .given .1) (c .code3 .ensures)
 
 returns-4 : tie.Need-returns-4
-returns-4 c = analysis-told (c .before .before .before .analyse .ensures) (c .before .enum-told3 .given .1) (c .code4 .ensures)
+returns-4 c =
+    let c3 = c .before .before .before in
+    analysis-told (c3 .analyse .ensures) (c .before .enum-told3 .given .1) (c .code4 .ensures)
 
 pub yegnabit-analyse-spec : {M : Type 1} → statement M
 yegnabit-analyse-spec =

@@ -1,10 +1,9 @@
--- `yegnabit_plan` answers and leaves what reading and writing back owe, by its three ways out.
+-- `yegnabit_plan` answers and leaves what reading and writing back owe, by its two ways out.
 use Rattle.ffi.proofs.FittingLaws.{bytes-known, read-fits}
+use Rattle.ffi.proofs.CallLaws.{area-short, area-fits}
+use Rattle.lent.specs.Codes.{finishedCode, finishedOut}
 use Rattle.table.specs.Words.{fits}
-use Rattle.ffi.proofs.CallLaws.{area-short, plan-refused, plan-done}
-use Rattle.lent.specs.Codes.{writtenCode}
 use Rattle.table.specs.declared.TableResult.{TableResult}
-use Rattle.plan.specs.Calls as library
 use mathlib.Core.Path.{_∙_, ap}
 use native.Mathlib.Omega.{arith}
 use borrow.Author.Needs.{needs}
@@ -17,65 +16,31 @@ code-requires c κs = search needs
 returns : tie.Need-returns
 returns c =
     let c4 = c .before .before .before .before in
-    area-short (c4 .args .out .now) (library.planOut (library.planRead (c4 .args .plan .now) .table) (c4 .args .out .now))
-    (writtenCode (library.planWritten (library.planRead (c4 .args .plan .now) .table) (c4 .args .out .now)))
-    (library.planRead (c4 .args .plan .now)) (c .code .result) (c .code .ensures) (c .before .if1 .taken)
+    area-short (c4 .args .out .now) _ _ (c .code .ensures) (c .before .if1 .taken)
 
 read-plan-requires : tie.Need-read-plan-requires
 read-plan-requires c κs = search needs
 
-code-requires-2 : tie.Need-code-requires-2
-code-requires-2 c κs = search needs
-
-returns-2 : tie.Need-returns-2
-returns-2 c =
-    let c3 = c .before .before .before in
-    let c6 = c3 .before .before .before in
-    plan-refused (c6 .args .out .now) (library.planOut (library.planRead (c6 .args .plan .now) .table) (c6 .args .out .now))
-    (writtenCode (library.planWritten (library.planRead (c6 .args .plan .now) .table) (c6 .args .out .now)))
-    (library.planRead (c6 .args .plan .now)) (omega (arith, c3 .if1 .left)) (c .before .before .read-plan .result)
-    (c .before .before .read-plan .ensures) (c .code2 .result) (c .code2 .ensures) (c .before .if2 .taken)
-
-fitting-requires : tie.Need-fitting-requires
-fitting-requires c κs =
-    let c3 = c .before .before .before in
-    let c6 = c3 .before .before .before in
-    let c7 = c6 .before in
-    ap (λ (q : TableResult). fits (q .table)) (c3 .read-plan .ensures) ∙ read-fits (c7 .args .plan .now)
-    (bytes-known (c7 .args .plan .now) (λ i. c6 .shared-slice-known .given i .fits))
-
-code-requires-3 : tie.Need-code-requires-3
-code-requires-3 c κs = search needs
+finish-requires : tie.Need-finish-requires
+finish-requires c κs =
+    let c4 = c .before .before .before .before in
+    let c5 = c4 .before in
+    λ z.
+    ap (λ (q : TableResult). fits (q .table)) (c .before .read-plan .ensures) ∙
+    read-fits (c5 .args .plan .now) (bytes-known (c5 .args .plan .now) (λ i. c4 .shared-slice-known .given i .fits))
 
 same-length : tie.Need-same-length
 same-length c = search needs
 
-returns-3 : tie.Need-returns-3
-returns-3 c = plan-done (c .before .before .before .before .before .before .before .before .before .before .before .args .out .now)
-    (library.planOut (library.planRead (c .before .before .before .before .before .before .before .before .before .before .before .args
-    .plan .now) .table) (c .before .before .before .before .before .before .before .before .before .before .before .args .out .now))
-    (writtenCode (library.planWritten (library.planRead (c .before .before .before .before .before .before .before .before .before
-    .before .before .args .plan .now) .table) (c .before .before .before .before .before .before .before .before .before .before .before
-    .args .out .now))) (library.planRead (c .before .before .before .before .before .before .before .before .before .before .before .args
-    .plan .now)) (omega (arith, c .before .before .before .before .before .before .before .before .if1 .left)) (c .before .before .before
-    .before .before .before .before .read-plan .result) (c .before .before .before .before .before .before .before .read-plan .ensures)
-    (c .code3 .result) (c .code3 .ensures ∙ ap writtenCode (c .before .before .before .fitting .ensures .0 ∙ ap (λ (t : TableResult).
-    library.planWritten (t .table) (c .before .before .before .before .before .before .before .before .before .before .before .args .out
-    .now)) (c .before .before .before .before .before .before .before .read-plan .ensures))) (c .before .before .before .fitting .last
-    .1 .0) (c .before .before .before .fitting .ensures .1 ∙ ap (λ (t : TableResult). library.planOut (t .table) (c .before .before
-    .before .before .before .before .before .before .before .before .before .args .out .now)) (c .before .before .before .before .before
-    .before .before .read-plan .ensures)) (search (c .before .before .before .before .before .before .if2 .left, needs))
+returns-2 : tie.Need-returns-2
+returns-2 c =
+    let c4 = c .before .before .before .before in
+    let c5 = c4 .before in
+    let c8 = c5 .before .before .before in
+    area-fits (c8 .args .out .now) _ _ (omega (arith, c5 .if1 .left))
+    (c .before .before .finish .ensures .0 ∙ ap (λ (q : TableResult). finishedCode q 1 (c8 .args .out .now)) (c4 .read-plan .ensures))
+    (c .before .before .finish .ensures .1 ∙ ap (λ (q : TableResult). finishedOut q (c8 .args .out .now)) (c4 .read-plan .ensures))
 
 pub yegnabit-plan-spec : {M : Type 1} → statement M
 yegnabit-plan-spec =
-    tie.close
-    (tie.spec
-    code-requires
-    returns
-    read-plan-requires
-    code-requires-2
-    returns-2
-    fitting-requires
-    code-requires-3
-    same-length
-    returns-3)
+    tie.close (tie.spec code-requires returns read-plan-requires finish-requires same-length returns-2)

@@ -1,14 +1,11 @@
 -- `yegnabit_sweep` answers and leaves what reading, sweeping and writing owe, by its three ways out.
 use Rattle.ffi.proofs.FittingLaws.{bytes-known, read-fits, swept-fits}
-use Rattle.table.specs.Words.{fits}
 use Rattle.ffi.proofs.CallLaws.{area-short, plan-refused, plan-done}
-use Rattle.ffi.specs.Calls.{sweptPlan}
-use Rattle.lent.specs.Codes.{writtenCode}
+use Rattle.lent.specs.Codes.{finishedCode, finishedOut}
+use Rattle.sweep.specs.Sweeping.{planSwept}
+use Rattle.table.specs.Words.{fits}
 use Rattle.table.specs.declared.TableResult.{TableResult}
-use Rattle.table.specs.declared.Table.{Table}
-use Rattle.plan.specs.Calls as library
-use Rattle.sweep.specs.Sweeping as sweeping
-use mathlib.Core.Path.{_≡_, _∙_, ap}
+use mathlib.Core.Path.{_∙_, ap}
 use native.Mathlib.Omega.{arith}
 use borrow.Author.Needs.{needs}
 use Rattle.ffi.proofs.yegnabit_sweep.Statement.{statement}
@@ -20,9 +17,7 @@ code-requires c κs = search needs
 returns : tie.Need-returns
 returns c =
     let c4 = c .before .before .before .before in
-    area-short (c4 .args .out .now) (library.planOut (sweptPlan (c4 .args .plan .now)) (c4 .args .out .now))
-    (writtenCode (library.planWritten (sweptPlan (c4 .args .plan .now)) (c4 .args .out .now))) (library.planRead (c4 .args .plan .now))
-    (c .code .result) (c .code .ensures) (c .before .if1 .taken)
+    area-short (c4 .args .out .now) _ _ (c .code .ensures) (c .before .if1 .taken)
 
 read-plan-requires : tie.Need-read-plan-requires
 read-plan-requires c κs = search needs
@@ -34,67 +29,41 @@ returns-2 : tie.Need-returns-2
 returns-2 c =
     let c3 = c .before .before .before in
     let c6 = c3 .before .before .before in
-    plan-refused (c6 .args .out .now) (library.planOut (sweptPlan (c6 .args .plan .now)) (c6 .args .out .now))
-    (writtenCode (library.planWritten (sweptPlan (c6 .args .plan .now)) (c6 .args .out .now))) (library.planRead (c6 .args .plan .now))
-    (omega (arith, c3 .if1 .left)) (c .before .before .read-plan .result) (c .before .before .read-plan .ensures) (c .code2 .result)
-    (c .code2 .ensures) (c .before .if2 .taken)
+    plan-refused (c6 .args .out .now) _ _ (omega (arith, c3 .if1 .left)) (c .before .before .read-plan .ensures) (c .code2 .ensures)
+    (c .before .if2 .taken)
 
 sweep-table-requires : tie.Need-sweep-table-requires
 sweep-table-requires c κs = search needs
 
-fitting-requires : tie.Need-fitting-requires
-fitting-requires c κs = ap (λ (q : TableResult). fits (q .table)) (c .before .before .sweep-table .ensures) ∙ swept-fits (c .before
-    .before .before .before .before .read-plan .result .table) (ap (λ (q : TableResult). fits (q .table)) (c .before .before .before
-    .before .before .read-plan .ensures) ∙ read-fits (c .before .before .before .before .before .before .before .before .before .args
-    .plan .now) (bytes-known (c .before .before .before .before .before .before .before .before .before .args .plan .now) (λ i. c .before
-    .before .before .before .before .before .before .before .shared-slice-known .given i .fits)))
-
-code-requires-3 : tie.Need-code-requires-3
-code-requires-3 c κs = search needs
+finish-requires : tie.Need-finish-requires
+finish-requires c κs =
+    let c3 = c .before .before .before in
+    let c6 = c3 .before .before .before in
+    let c7 = c6 .before in
+    λ z.
+    ap (λ (q : TableResult). fits (q .table)) (c .before .sweep-table .ensures) ∙ swept-fits (c3 .read-plan .result .table)
+    (ap (λ (q : TableResult). fits (q .table)) (c3 .read-plan .ensures) ∙
+    read-fits (c7 .args .plan .now) (bytes-known (c7 .args .plan .now) (λ i. c6 .shared-slice-known .given i .fits)))
 
 same-length : tie.Need-same-length
 same-length c = search needs
 
-swept : (c : tie.After-code3) → c .before .before .before .before .before .before .sweep-table .result .table ≡ sweptPlan (c .before
-    .before .before .before .before .before .before .before .before .before .before .before .before .args .plan .now)
-swept c =
-    ap (λ (t : TableResult). t .table) (c .before .before .before .before .before .before .sweep-table .ensures) ∙
-    ap (λ (t : TableResult). sweeping.planSwept (t .table) .table) (c .before .before .before .before .before .before .before .before
-    .before .read-plan .ensures)
-
 returns-3 : tie.Need-returns-3
-returns-3 c = plan-done (c .before .before .before .before .before .before .before .before .before .before .before .before .before .args
-    .out .now) (library.planOut (sweptPlan (c .before .before .before .before .before .before .before .before .before .before .before
-    .before .before .args .plan .now)) (c .before .before .before .before .before .before .before .before .before .before .before .before
-    .before .args .out .now)) (writtenCode (library.planWritten (sweptPlan (c .before .before .before .before .before .before .before
-    .before .before .before .before .before .before .args .plan .now)) (c .before .before .before .before .before .before .before .before
-    .before .before .before .before .before .args .out .now))) (library.planRead (c .before .before .before .before .before .before
-    .before .before .before .before .before .before .before .args .plan .now)) (omega (
-      arith,
-      c .before .before .before .before .before
-          .before .before .before .before .before .if1 .left,
-    )) (c .before .before .before .before .before .before .before .before .before
-    .read-plan .result) (c .before .before .before .before .before .before .before .before .before .read-plan .ensures) (c .code3
-    .result) (c .code3 .ensures ∙ ap writtenCode (c .before .before .before .fitting .ensures .0 ∙ ap (λ (t : Table).
-    library.planWritten t (c .before .before .before .before .before .before .before .before .before .before .before .before .before
-    .args .out .now)) (swept c))) (c .before .before .before .fitting .last .1 .0) (c .before .before .before .fitting .ensures .1
-    ∙ ap (λ (t : Table). library.planOut t (c .before .before .before .before .before .before .before .before .before .before .before
-    .before .before .args .out .now)) (swept c)) (search (
-      c .before .before .before .before .before .before .before .before .if2 .left,
-      needs,
-    ))
+returns-3 c =
+    let c4 = c .before .before .before .before in
+    let c5 = c4 .before in
+    let c6 = c5 .before in
+    let c7 = c6 .before in
+    let c10 = c7 .before .before .before in
+    plan-done (c10 .args .out .now) _ _ (omega (arith, c7 .if1 .left)) (c6 .read-plan .ensures)
+    (c .before .before .finish .ensures .0 ∙ ap (λ (r : TableResult). finishedCode r 1 (c10 .args .out .now)) (c4 .sweep-table .ensures) ∙
+    ap (λ (q : TableResult). finishedCode (planSwept (q .table)) 1 (c10 .args .out .now)) (c6 .read-plan .ensures))
+    (c .before .before .finish .ensures .1 ∙ ap (λ (r : TableResult). finishedOut r (c10 .args .out .now)) (c4 .sweep-table .ensures) ∙
+    ap (λ (q : TableResult). finishedOut (planSwept (q .table)) (c10 .args .out .now)) (c6 .read-plan .ensures))
+    (search (c5 .if2 .left, needs))
 
 pub yegnabit-sweep-spec : {M : Type 1} → statement M
 yegnabit-sweep-spec =
     tie.close
-    (tie.spec
-    code-requires
-    returns
-    read-plan-requires
-    code-requires-2
-    returns-2
-    sweep-table-requires
-    fitting-requires
-    code-requires-3
-    same-length
+    (tie.spec code-requires returns read-plan-requires code-requires-2 returns-2 sweep-table-requires finish-requires same-length
     returns-3)

@@ -22,7 +22,8 @@ returns c =
     let c7 = c5 .before .before in
     let c12 = c7 .before .before .before .before .before in
     as-told (c12 .args .table) (c12 .args .first .now) (c12 .args .second .now) (c7 .analysis .given .1)
-    (first-named (c12 .args .table) (c12 .args .first .now) (c12 .args .second .now) (c5 .if1 .taken) (c .before .before .put-file .ensures))
+    (first-named (c12 .args .table) (c12 .args .first .now) (c12 .args .second .now) (c5 .if1 .taken)
+    (c .before .before .put-file .ensures))
 
 slice-aggregate-put-file-2 : tie.Need-slice-aggregate-put-file-2
 slice-aggregate-put-file-2 c = search needs
@@ -66,7 +67,8 @@ returns-2 c =
     let c7 = c5 .before .before in
     let c12 = c7 .before .before .before .before .before in
     as-told (c12 .args .table) (c12 .args .first .now) (c12 .args .second .now) (c7 .analysis .given .1)
-    (second-named (c12 .args .table) (c12 .args .first .now) (c12 .args .second .now) (c5 .if1 .left) (c .before .before .put-file2 .ensures))
+    (second-named (c12 .args .table) (c12 .args .first .now) (c12 .args .second .now) (c5 .if1 .left)
+    (c .before .before .put-file2 .ensures))
 
 same-length-3 : tie.Need-same-length-3
 same-length-3 c = search needs
@@ -75,7 +77,8 @@ returns-3 : tie.Need-returns-3
 returns-3 c =
     let c5 = c .before .before .before .before .before in
     let c10 = c5 .before .before .before .before .before in
-    as-told (c10 .args .table) (c10 .args .first .now) (c10 .args .second .now) (c5 .enum-told .given .1) (c .before .before .three-lines .ensures)
+    as-told (c10 .args .table) (c10 .args .first .now) (c10 .args .second .now) (c5 .enum-told .given .1)
+    (c .before .before .three-lines .ensures)
 
 same-length-4 : tie.Need-same-length-4
 same-length-4 c = search needs
@@ -84,7 +87,8 @@ returns-4 : tie.Need-returns-4
 returns-4 c =
     let c5 = c .before .before .before .before .before in
     let c10 = c5 .before .before .before .before .before in
-    as-told (c10 .args .table) (c10 .args .first .now) (c10 .args .second .now) (c5 .enum-told2 .given .1) (c .before .before .three-lines2 .ensures)
+    as-told (c10 .args .table) (c10 .args .first .now) (c10 .args .second .now) (c5 .enum-told2 .given .1)
+    (c .before .before .three-lines2 .ensures)
 
 same-length-5 : tie.Need-same-length-5
 same-length-5 c = search needs
@@ -93,7 +97,8 @@ returns-5 : tie.Need-returns-5
 returns-5 c =
     let c5 = c .before .before .before .before .before in
     let c10 = c5 .before .before .before .before .before in
-    as-told (c10 .args .table) (c10 .args .first .now) (c10 .args .second .now) (c5 .enum-told3 .given .1) (c .before .before .three-lines3 .ensures)
+    as-told (c10 .args .table) (c10 .args .first .now) (c10 .args .second .now) (c5 .enum-told3 .given .1)
+    (c .before .before .three-lines3 .ensures)
 
 pub answer-lines-spec : {M : Type 1} → statement M
 answer-lines-spec =

@@ -44,7 +44,8 @@ returns c =
       placed =
           three-placed (c21 .args .table) (c21 .args .word .now)
           (c21 .args .first .now) (c21 .args .second .now) (c12 .in-order .ensures) (c6 .in-order2 .ensures)
-          (c3 .swapped .ensures) (c15 .put-answer .ensures .text) (c9 .put-order .ensures .text) (c .before .before .put-order2 .ensures .text);
+          (c3 .swapped .ensures) (c15 .put-answer .ensures .text) (c9 .put-order .ensures .text)
+          (c .before .before .put-order2 .ensures .text);
       few = omega (
         arith,
         c15 .put-answer .ensures .few,
