@@ -16,8 +16,7 @@ use Rattle.model.proofs.BoolLaws.{by-cases}
 use Rattle.model.proofs.BytesLaws.{length-parentBytes, rowsBytes-snoc}
 use Rattle.table.specs.Words.{linked, rowOf, rowsOf}
 use Rattle.model.specs.Base.{over}
-use Rattle.table.proofs.WordLaws.{count-decode}
-use Rattle.table.proofs.DecodeLaws.{rows-next}
+use Rattle.table.proofs.WordLaws.{count-decode, take-next}
 use Rattle.model.proofs.ListLaws.{over-over, over-nil}
 
 -- ONE RECORD
@@ -63,7 +62,7 @@ module _ (ws : List ℕ) (n i : ℕ) (within : n ≤ length ws) (h : i < n) wher
       ap (λ (j : ℕ). over j (rowBytes (rowOf (getD ws i 0))) (over 0 (rowsBytes (take i (rowsOf n ws))) o)) e ∙
       over-over 0 (rowsBytes (take i (rowsOf n ws))) (rowBytes (rowOf (getD ws i 0))) o (omega arith) ∙
       ap (λ (b : List ℕ). over 0 b o)
-      (sym (ap rowsBytes (rows-next ws n i within h) ∙ rowsBytes-snoc (take i (rowsOf n ws)) (rowOf (getD ws i 0))))
+      (sym (ap rowsBytes (take-next i n ws within h) ∙ rowsBytes-snoc (take i (rowsOf n ws)) (rowOf (getD ws i 0))))
 
 -- MARKS, one more
 marksBytes-snoc : (from : ℕ) (ms : List (Option ℕ)) (m : Option ℕ) → marksBytes from (ms ++ (m ∷ [])) ≡ marksBytes from ms ++ markBytes
