@@ -30,9 +30,10 @@ use Rattle.script.proofs.RefusalLaws.{Sound, parse-sound}
 use Rattle.table.specs.Words.{encode, decode, fits}
 use Rattle.plan.specs.Calls as library
 use Rattle.table.specs.Results as results
+use Rattle.table.specs.Results.{asItWas}
 use Rattle.sweep.specs.Sweeping as sweeping
 use Rattle.table.specs.declared.TableResult.{TableResult}
-use Rattle.undo.specs.Undoing.{planUndone, undoneBy, asItWas}
+use Rattle.undo.specs.Undoing.{planUndone, undoneBy}
 use Rattle.run.specs.Calls.{ran, resultOf}
 use Rattle.ffi.specs.Calls.{readCode, readOut, backCode, backOut}
 use Rattle.lent.specs.Codes.{codeOf, lentCode, writtenCode}

@@ -12,8 +12,7 @@ use Rattle.model.specs.History.{Record, cutKind}
 use Rattle.model.specs.Undo.{historySize, recordIn, Placed, formFault, undoFits, undone, Undo, refused, back, undoAll, undo}
 use Rattle.table.specs.Words.{decode, decodeParts, Canonical, fits}
 use Rattle.model.specs.Refusal.{faultAt}
-use Rattle.table.specs.Results.{result}
-pub use Rattle.table.specs.Results.{asItWas}
+use Rattle.table.specs.Results.{result, asItWas}
 use Rattle.table.specs.declared.Table.{Table}
 use Rattle.table.specs.declared.TableResult.{TableResult}
 use Rattle.undo.specs.declared.undoing.FormEnd.{FormEnd}
