@@ -1,9 +1,8 @@
 -- What the model says of the record at the front, from the tests that the reader makes: one law for each way out.
-use mathlib.Core.Path.{_≡_, refl, ap, sym, _∙_}
+use mathlib.Core.Path.{_≡_, ap, sym, _∙_}
 use mathlib.Core.Bool.{Bool, true, false}
 use mathlib.Core.List.{List, [], _∷_, map}
 use mathlib.Core.Option.{Option, none, some}
-use mathlib.Core.Logic.{_⊎_, inl, inr, ⊎-elim}
 use Prim.Native.Nat.{ℕ, zero, suc, _+_, _*_, _-_, _/_, _%_, _≤_, _<_}
 use native.Mathlib.Omega.{arith}
 use lib.Dec.{leb, eqb}
@@ -14,6 +13,7 @@ use Rattle.model.specs.Refusal.{fault, fine}
 use Rattle.model.specs.Table as model
 use Rattle.model.specs.Stored.{wordAt, rowIn, parentIn, rowFault, markFault, lastMarked, recordFault, recorded}
 use Rattle.model.proofs.BoolLaws.{by-cases, pick-true}
+use Rattle.model.proofs.BytesLaws.{lastMarked-above}
 use Rattle.table.specs.Words.{linkOf, linked, wordOf, rowsOf, wordsOf, decodeParts}
 use Rattle.plan.specs.Reading.{lastOf, RowPre, RowPost, MarkPre, MarkPost, RecordPre, RecordPost, Recorded}
 use Rattle.table.specs.declared.Table.{Table}
@@ -195,39 +195,30 @@ module _ (x : model.Table) (i : ℕ) (s : List ℕ) where
     recorded-row = rw no-mark
 
 -- the last marked document after a mark past the others
-last-range : (ms : List (Option ℕ)) (from : ℕ) → (lastMarked from ms ≡ 0) ⊎ (from < lastMarked from ms)
-unfolding lastMarked
-last-range [] from = inl refl
-last-range (none ∷ ms) from = ⊎-elim (λ e. inl e) (λ h. inr (omega arith)) (last-range ms (suc from))
-last-range (some j ∷ ms) from =
-    inr (by-cases (eqb (lastMarked (suc from) ms) 0) (λ e. rw e (omega arith))
-    (λ e. rw e (⊎-elim (λ z. absurd (eqb-false (lastMarked (suc from) ms) 0 e z)) (λ h. omega arith) (last-range ms (suc from)))))
+last-none : (from : ℕ) (ms : List (Option ℕ)) → lastMarked from ms ≤ from → lastMarked from ms ≡ 0
+last-none from ms h =
+    by-cases (eqb (lastMarked from ms) 0) (λ e. eqb-true (lastMarked from ms) 0 e)
+    (λ e. absurd (omega (arith, lastMarked-above from ms (eqb-false (lastMarked from ms) 0 e))))
 
-pub last-set : (ms : List (Option ℕ)) (from d i : ℕ) → d < length ms → lastMarked from ms ≤ from + d → lastMarked from (set ms d (some
-    i)) ≡ from + d + 1
+last-rest : (m : Option ℕ) (ms : List (Option ℕ)) (from n : ℕ) → lastMarked from (m ∷ ms) ≤ n → lastMarked (suc from) ms ≤ n
+unfolding lastMarked
+last-rest none ms from n l = l
+last-rest (some j) ms from n l =
+    by-cases (eqb (lastMarked (suc from) ms) 0) (λ e. omega (arith, eqb-true (lastMarked (suc from) ms) 0 e)) (λ e. rw e at l)
+
+last-set : (ms : List (Option ℕ)) (from d i : ℕ) → d < length ms → lastMarked from ms ≤ from + d →
+    lastMarked from (set ms d (some i)) ≡ from + d + 1
 unfolding lastMarked
 last-set [] from d i h l = absurd (omega arith)
-last-set (none ∷ ms) from zero i h l =
-    ⊎-elim (λ e. rw e (omega arith)) (λ g. absurd (omega arith)) (last-range ms (suc from))
-last-set (some j ∷ ms) from zero i h l =
-    ⊎-elim (λ e. rw e (omega arith)) (λ g. absurd (go g)) (last-range ms (suc from))
+last-set (m ∷ ms) from zero i h l =
+    rw (last-none (suc from) ms (omega (arith, last-rest m ms from (from + 0) l))) (omega arith)
+last-set (m ∷ ms) from (suc d) i h l =
+    go m (last-set ms (suc from) d i (omega arith) (omega (arith, last-rest m ms from (from + suc d) l)))
   where
-    go : suc from < lastMarked (suc from) ms → ⊥
-    go g = let e : lastMarked (suc from) ms ≡ 0 → ⊥ = λ q. omega arith in omega (arith, rw (ne-eqb (lastMarked (suc from) ms) 0 e) at l)
-last-set (none ∷ ms) from (suc d) i h l =
-    let e : lastMarked (suc from) (set ms d (some i)) ≡ suc from + d + 1 = last-set ms (suc from) d i (omega arith) (omega arith) in
-    e ∙ omega arith
-last-set (some j ∷ ms) from (suc d) i h l = go (last-set ms (suc from) d i (omega arith) low)
-  where
-    low : lastMarked (suc from) ms ≤ suc from + d
-    low = by-cases (eqb (lastMarked (suc from) ms) 0) (λ e. omega (arith, eqb-true (lastMarked (suc from) ms) 0 e)) (λ e. omega (
-      arith,
-      rw e at l,
-    ))
-
-    go : lastMarked (suc from) (set ms d (some i)) ≡ suc from + d + 1 →
-        pick (eqb (lastMarked (suc from) (set ms d (some i))) 0) (suc from) (lastMarked (suc from) (set ms d (some i))) ≡ from + suc d + 1
-    go e = rw e (let k : suc from + d + 1 ≡ 0 → ⊥ = λ q. omega arith in rw (ne-eqb (suc from + d + 1) 0 k) (omega arith))
+    go : (m : Option ℕ) → lastMarked (suc from) (set ms d (some i)) ≡ suc from + d + 1 →
+        lastMarked from (m ∷ set ms d (some i)) ≡ from + suc d + 1
+    go none e = e ∙ omega arith
+    go (some j) e = rw e (let k : suc from + d + 1 ≡ 0 → ⊥ = λ q. omega arith in rw (ne-eqb (suc from + d + 1) 0 k) (omega arith))
 
 pub lastOf-set : (ms : List ℕ) (d i : ℕ) → d < length ms → lastOf ms ≤ d → lastOf (set ms d (i + 1)) ≡ d + 1
 lastOf-set ms d i h l =

@@ -108,8 +108,7 @@ same-length-4 c = search needs
 returns-2 : tie.Need-returns-2 Inv-loop μ-loop
 returns-2 c = record {
   result = reading-end (c .before .before .before .before .before .args .bytes .now) (c .before .loop .rows) (c
-      .before .loop .marks) (c .before .loop .count) (c .before .loop .at) (omega arith) (c .before .loop .inv .2) (c .before .loop .inv
-      .1);
+      .before .loop .marks) (c .before .loop .count) (c .before .loop .at) (omega arith) (c .before .loop .inv .2);
   canonical = λ z. c .before .loop .inv .0 .canonical;
   room = λ z. omega (
     arith,
