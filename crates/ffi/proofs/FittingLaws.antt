@@ -25,7 +25,7 @@ use Rattle.table.specs.Results.{asItWas}
 use Rattle.sweep.specs.Sweeping as sweeping
 use Rattle.table.specs.declared.Table.{Table}
 use Rattle.table.proofs.EncodeLaws.{fits-encode}
-use Rattle.table.proofs.FitsLaws.{well-decode}
+use Rattle.table.proofs.FittedLaws.{well-decode}
 use Rattle.undo.specs.Undoing.{planUndone, undoneBy}
 
 -- the elements of a slice of bytes are bytes

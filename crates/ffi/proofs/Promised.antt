@@ -41,7 +41,7 @@ use Rattle.ffi.specs.Running.{refusedCall, ranCall, readCall, runCalled}
 use Rattle.lent.specs.Done.{isLentShort, doneOver}
 use Rattle.ffi.specs.Promise.{atFront, PlanBack, SweptBack, UndoneBack, RunDone, RunRefused}
 use Rattle.table.proofs.EncodeLaws.{decode-encode, fits-encode}
-use Rattle.plan.proofs.WritingLaws.{well-written, well-out}
+use Rattle.plan.proofs.WritePlanLaws.{well-written, well-out}
 
 -- A PLAN READ is the table in its words; the call then answers n and leaves b
 module _ (p o : List ℕ) (x : model.Table) (read : readPlan p ≡ got x) (room : 2080 ≤ length o) where

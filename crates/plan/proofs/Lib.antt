@@ -1,4 +1,4 @@
-pub mod ReadLaws
-pub mod ReadingLaws
-pub mod WriteLaws
-pub mod WritingLaws
+pub mod ReadRecordLaws
+pub mod ReadPlanLaws
+pub mod WriteRecordLaws
+pub mod WritePlanLaws

@@ -21,7 +21,7 @@ use Rattle.sweep.specs.Sweeping.{planSwept, Flagged, keepsRow, newWord, 
 use Rattle.table.specs.declared.Table.{Table}
 use Rattle.table.proofs.WordLaws.{linked-linkOf, withLink-wordOf, wordsOf-snoc, count-decode, rowAt-decode, take-next}
 use Rattle.table.proofs.DecodeLaws.{link-low}
-use Rattle.table.proofs.FitsLaws.{Fits}
+use Rattle.table.proofs.FittedLaws.{Fits}
 use Rattle.model.proofs.SweepLaws.{newNumber-zero, newNumber-suc, isKept-unrolled, newNumber-le, isKept-marked}
 use Rattle.model.proofs.SweepLaws.{isKept-parent, length-sweptRows, length-sweptMarks, sweptMarks-at}
 use Rattle.model.proofs.TableLaws.{any-by}

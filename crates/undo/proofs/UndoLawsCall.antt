@@ -12,7 +12,7 @@ use Rattle.table.specs.Words.{decode, fits}
 use Rattle.table.specs.Results.{asItWas}
 use Rattle.table.specs.declared.Table.{Table}
 use Rattle.table.proofs.WordLaws.{encode-decode}
-use Rattle.table.proofs.FitsLaws.{fits-at}
+use Rattle.table.proofs.FittedLaws.{fits-at}
 use Rattle.undo.specs.Undoing.{undoneBy, planUndone, PlacesPost, AllPre, AllPost}
 use Rattle.undo.specs.declared.undoing.FormEnd.{FormEnd}
 use Rattle.undo.specs.declared.undoing.BackEnd.{BackEnd}

@@ -18,7 +18,7 @@ use Rattle.model.specs.Base.{nothing, over}
 use Rattle.table.specs.Words.{decodeParts, partsFit}
 use Rattle.table.proofs.WordLaws.{count-decode}
 use Rattle.model.proofs.ListLaws.{length-over}
-use Rattle.table.proofs.FitsLaws.{fits-at}
+use Rattle.table.proofs.FittedLaws.{fits-at}
 use Rattle.updates.specs.State.{recordsFrom, recordsIn, started, stopped, stateOf, outcome, Held, After, Updated}
 use Rattle.updates.specs.declared.state.Progress.{Progress}
 use Rattle.updates.proofs.HistoryLaws.{recordsIn-push, take-over, drop-over}

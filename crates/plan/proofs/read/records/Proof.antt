@@ -1,6 +1,6 @@
 -- `read::records` reads every record. The loop's invariant is `Held`: reading on from the table so far gives the whole reading.
 use lib.ListN.{length-take}
-use Rattle.plan.proofs.ReadingLaws.{held-empty, reading-all, reading-on, reading-refused, reading-end}
+use Rattle.plan.proofs.ReadPlanLaws.{held-empty, reading-all, reading-on, reading-refused, reading-end}
 use Rattle.plan.specs.Reading.{Held}
 use Rattle.table.specs.Words.{decodeParts}
 use Rattle.model.proofs.BoolLaws.{pick-false}

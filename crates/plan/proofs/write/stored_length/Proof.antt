@@ -1,5 +1,5 @@
 -- `write::stored_length` is the length of the stored form. The loop's invariant: the marks passed are counted.
-use Rattle.plan.proofs.WriteLaws.{length-mark, length-marks, marks-start}
+use Rattle.plan.proofs.WriteRecordLaws.{length-mark, length-marks, marks-start}
 use Rattle.table.specs.Words.{linked}
 use Rattle.model.specs.Stored.{marksBytes}
 use lib.Seq.{take-all}

@@ -1,6 +1,6 @@
 -- `sweep::rows` keeps and renumbers row by row. The loop's invariant is `Sweeping`.
 use Rattle.sweep.proofs.SweepLaws.{sweeping-none, sweeping-next, next-low, link-in, entry-low}
-use Rattle.table.proofs.FitsLaws.{Fits, fits-at, fits-mark}
+use Rattle.table.proofs.FittedLaws.{Fits, fits-at, fits-mark}
 use Rattle.sweep.specs.Sweeping.{Sweeping}
 use Rattle.table.specs.Words.{decodeParts}
 use lib.ListN.{length}

@@ -18,7 +18,7 @@ use Rattle.table.specs.Words.{linked, rowsOf, decodeParts, decode, fits, encode
 use Rattle.model.specs.Base.{over}
 use Rattle.plan.specs.Calls.{planWritten, planOut}
 use Rattle.table.proofs.WordLaws.{count-decode}
-use Rattle.plan.proofs.WriteLaws.{length-rowsBytes, length-mark}
+use Rattle.plan.proofs.WriteRecordLaws.{length-rowsBytes, length-mark}
 use Rattle.model.proofs.ListLaws.{over-over}
 use Rattle.table.proofs.EncodeLaws.{decode-encode, fits-encode}
 
