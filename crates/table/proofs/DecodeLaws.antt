@@ -1,4 +1,4 @@
--- What the table decoded from words has: its elements and its marks; one mark or one row more.
+-- What the table decoded from words has: its elements, parents and marks; one mark or one row more.
 use mathlib.Core.Path.{_≡_, ap, sym, _∙_}
 use mathlib.Core.Bool.{true, false, _||_, not}
 use mathlib.Core.List.{List, map}

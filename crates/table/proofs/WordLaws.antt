@@ -1,4 +1,5 @@
--- A row survives its word, and a word that holds a row survives decoding; so do tables. Words are read, set and pushed as rows are.
+-- A row survives its word, and a word that holds a row survives decoding; so do tables. Words are read, relinked, set, pushed and popped
+-- as rows are.
 use mathlib.Core.Path.{_≡_, refl, ap, sym, _∙_}
 use mathlib.Core.Bool.{Bool, true, false}
 use mathlib.Core.List.{List, [], _∷_, _++_, map, map-append}
@@ -8,8 +9,9 @@ use native.Mathlib.Omega.{arith}
 use native.Mathlib.Numerals.{add-one}
 use lib.Dec.{eqb}
 use lib.ListN.{length, getD, take, drop, set, replicate, length-map, length-append, length-drop, length-set}
-use lib.ListN.{take-append-drop, List·getD-map, List·getD-append}
-use lib.Seq.{append-snoc, set-at, set-append-left, getD-take, take-suc, take-take, take-suc-set, take-set-lt, length-take-le}
+use lib.ListN.{take-append-drop, List·getD-map, List·getD-append, getD-replicate}
+use lib.Seq.{append-snoc, set-at, set-append-left, set-set, set-getD, getD-take, getD-append-add}
+use lib.Seq.{take-suc, take-take, take-suc-set, take-set-lt, take-set-le, length-take-le}
 use borrow.Author.Tests.{eq-eqb, ne-eqb, leb-true, eqb-true, eqb-false}
 use Rattle.model.specs.Base.{pick, isIn, all}
 use Rattle.model.specs.Table as model
@@ -187,6 +189,46 @@ canonical-push n ws r h l f e =
     ap wordsOf (rowsOf-push n ws r k f) ∙ wordsOf-snoc (rowsOf n ws) r g ∙
     ap (λ (i : ℕ). set (wordsOf (rowsOf n ws)) i (wordOf r)) m ∙ ap (λ (v : List ℕ). set v n (wordOf r)) e
 
+-- the last row gone, its word is zero
+module _ (n : ℕ) (ws : List ℕ) (canonical : Canonical n ws) (size : length ws ≡ 512) (few : n ≤ 512) (some-row : 0 < n) where
+  abbrev less : List model.Row
+  less = rowsOf (n - 1) ws
+
+  rows-less : rowsOf (n - 1) (set ws (n - 1) 0) ≡ less
+  rows-less = ap (map rowOf) (take-set-le (n - 1) ws (n - 1) 0 (omega arith))
+
+  counted-less : length less ≡ n - 1
+  counted-less = count-decode (n - 1) ws [] (omega arith)
+
+  rows-last : rowsOf n ws ≡ less ++ (rowOf (getD ws (n - 1) 0) ∷ [])
+  rows-last =
+      let e : n ≡ n - 1 + 1 = omega arith in
+      ap (λ (j : ℕ). rowsOf j ws) e ∙ rows-next (n - 1) ws (omega arith)
+
+  zero-there : getD (wordsOf less) (n - 1) 0 ≡ 0
+  zero-there =
+      let m : length (map wordOf less) + 0 ≡ n - 1 = omega (arith, length-map less wordOf, counted-less) in
+      ap (λ (j : ℕ). getD (wordsOf less) j 0) (sym m) ∙ getD-append-add (map wordOf less) (replicate (512 - length less) 0) 0 0 ∙
+      getD-replicate (512 - length less) 0 0 0 (omega (arith, counted-less))
+
+  put-back : set (wordsOf less) (n - 1) (wordOf (rowOf (getD ws (n - 1) 0))) ≡ ws
+  put-back =
+      ap (λ (j : ℕ). set (wordsOf less) j (wordOf (rowOf (getD ws (n - 1) 0)))) (sym counted-less) ∙
+      sym (wordsOf-snoc less (rowOf (getD ws (n - 1) 0)) (omega (arith, counted-less))) ∙ ap wordsOf (sym rows-last) ∙ canonical
+
+  pub canonical-pop : Canonical (n - 1) (set ws (n - 1) 0)
+  canonical-pop =
+      ap wordsOf rows-less ∙ sym (set-getD (wordsOf less) (n - 1) 0) ∙ ap (set (wordsOf less) (n - 1)) zero-there ∙
+      sym (set-set (wordsOf less) (n - 1) (wordOf (rowOf (getD ws (n - 1) 0))) 0) ∙ ap (λ (v : List ℕ). set v (n - 1) 0) put-back
+
+  pub decode-pop : (ms : List ℕ) →
+      decodeParts (n - 1) (set ws (n - 1) 0) ms ≡ model.table (take (model.count (decodeParts n ws ms) - 1) (rowsOf n ws)) (map linked ms)
+  decode-pop ms =
+      let e : model.count (decodeParts n ws ms) - 1 ≡ n - 1 = omega (arith, count-decode n ws ms (omega arith)) in
+      ap (λ (rs : List model.Row). model.table rs (map linked ms))
+      (rows-less ∙ sym (ap (λ (j : ℕ). take j (rowsOf n ws)) e ∙ rows-take (n - 1) n ws (omega arith)))
+
+-- words of rows with zeros behind them are canonical
 words-rows : (ws : List ℕ) → all isRowWord ws ≡ true → map wordOf (map rowOf ws) ≡ ws
 unfolding all
 words-rows [] h = refl
