@@ -11,8 +11,8 @@ use borrow.Author.Tests.{lt-ltb, le-ltb, le-leb, lt-leb, eq-eqb, ne-eqb, eqb-tru
 use Rattle.model.specs.Base.{pick, any}
 use Rattle.model.specs.Refusal.{fault, fine}
 use Rattle.model.specs.Table as model
-use Rattle.model.specs.Stored.{wordAt, rowIn, parentIn, rowFault, markFault, lastMarked, recordFault, recorded}
-use Rattle.model.proofs.BoolLaws.{by-cases, pick-true}
+use Rattle.model.specs.Stored.{wordAt, rowIn, parentIn, rowFault, markFault, lastMarked, recordFault}
+use Rattle.model.proofs.BoolLaws.{by-cases, pick-true, pick-false}
 use Rattle.model.proofs.BytesLaws.{lastMarked-above}
 use Rattle.table.specs.Words.{linkOf, linked, wordOf, rowsOf, wordsOf, decodeParts}
 use Rattle.plan.specs.Reading.{lastOf, RowPre, RowPost, MarkPre, MarkPost, RecordPre, RecordPost, Recorded}
@@ -169,9 +169,6 @@ module _ (x : model.Table) (i : ℕ) (s : List ℕ) where
     pub record-mark : 4 ≤ length s → recordFault x i s ≡ markFault x i s
     record-mark h = rw (mark, le-leb 4 (length s) h)
 
-    pub recorded-mark : recorded x s ≡ model.withMark x (getD s 1 0) (wordAt s 2)
-    recorded-mark = rw mark
-
   module _ (low : 17 ≤ getD s 0 0) (high : getD s 0 0 ≤ 18) where
     no-mark : eqb (getD s 0 0) 19 ≡ false
     no-mark = ne-eqb (getD s 0 0) 19 (λ q. omega arith)
@@ -190,9 +187,6 @@ module _ (x : model.Table) (i : ℕ) (s : List ℕ) where
       pub record-row : 4 ≤ length s → recordFault x i s ≡ rowFault x i s
       record-row h =
           rw (le-leb 17 (getD s 0 0) low, within-kinds, no-mark, lt-ltb (model.count x) 512 room, le-leb 4 (length s) h)
-
-    pub recorded-row : recorded x s ≡ model.withRow x (rowIn s)
-    recorded-row = rw no-mark
 
 -- the last marked document after a mark past the others
 last-none : (from : ℕ) (ms : List (Option ℕ)) → lastMarked from ms ≤ from → lastMarked from ms ≡ 0
@@ -242,8 +236,8 @@ module _ (s ws ms : List ℕ) (n last : ℕ) (pre : RecordPre s ws ms n last) (w
           record {
             whole = whole;
             table =
-                ap (decodeParts n ws) e ∙ decode-mark n (getD s 1 0) (wordAt s 2) ws ms ∙ sym (recorded-mark (decodeParts n ws ms) 0 s
-                kind);
+                ap (decodeParts n ws) e ∙ decode-mark n (getD s 1 0) (wordAt s 2) ws ms ∙
+                sym (pick-true (eqb (getD s 0 0) 19) _ _ (eq-eqb (getD s 0 0) 19 kind));
             held =
                 record {
                   room = pre .held .room;
@@ -272,7 +266,7 @@ module _ (s ws ms : List ℕ) (n last : ℕ) (pre : RecordPre s ws ms n last) (w
             whole = whole;
             table =
                 ap (λ (v : List ℕ). decodeParts (n + 1) v ms) e ∙ decode-row n (rowIn s) ws ms h (post .link z) ∙
-                sym (recorded-row (decodeParts n ws ms) 0 s low high);
+                sym (pick-false (eqb (getD s 0 0) 19) _ _ (ne-eqb (getD s 0 0) 19 (λ q. omega arith)));
             held =
                 record {
                   room = omega arith;
