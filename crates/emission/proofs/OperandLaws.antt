@@ -10,7 +10,7 @@ use Rattle.model.specs.Script.{Expr, nil, document, var, step, both, letIn, for
 use Rattle.model.proofs.BoolLaws.{by-cases}
 use Rattle.records.specs.Walk.{withBound, arity, inner, endAt, firstAt, secondAt, thirdAt, exprAt}
 use Rattle.script.specs.Accepted.{Accepted, RecordFits, Nullary, Unary, Binary}
-use Rattle.script.proofs.KindLaws.{nullary-kind, unary-kind, binary-kind, two-left}
+use Rattle.records.proofs.KindLaws.{nullary-kind, unary-kind, binary-kind, two-left}
 use Rattle.script.proofs.AcceptedLaws.{accepted-record, accepted-nil, accepted-document, accepted-variable, accepted-element, accepted-leaf}
 use Rattle.script.proofs.AcceptedLaws.{accepted-step, accepted-delete, accepted-pick, accepted-join, accepted-let, accepted-for}
 use Rattle.script.proofs.AcceptedLaws.{accepted-insert, accepted-if}

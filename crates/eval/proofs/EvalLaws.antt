@@ -12,7 +12,7 @@ use Rattle.records.specs.Walk.{withBound, arity, inner, endAt, firstAt, secondA
 use Rattle.script.specs.Accepted.{Accepted, RecordFits}
 use Rattle.script.proofs.AcceptedLaws.{accepted-record, accepted-at}
 use Rattle.script.proofs.FieldLaws.{step-axis}
-use Rattle.script.proofs.KindLaws.{two-left}
+use Rattle.records.proofs.KindLaws.{two-left}
 use Rattle.updates.specs.State.{stateOf}
 use Rattle.query.specs.Values.{valueAt}
 use Rattle.updates.specs.declared.state.Progress.{Progress}

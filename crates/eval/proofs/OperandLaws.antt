@@ -9,7 +9,7 @@ use Rattle.model.specs.Script.{Expr, step, both, letIn, delete, insert, choose,
 use Rattle.model.specs.Run.{State, Out, stop, gives, andThen, loop, run}
 use Rattle.records.specs.Walk.{withBound, arity, inner, endAt, firstAt, secondAt, thirdAt, exprAt}
 use Rattle.script.specs.Accepted.{Accepted, RecordFits, Unary, Binary}
-use Rattle.script.proofs.KindLaws.{unary-kind, binary-kind}
+use Rattle.records.proofs.KindLaws.{unary-kind, binary-kind}
 use Rattle.script.proofs.AcceptedLaws.{accepted-record, accepted-step, accepted-delete, accepted-pick, accepted-join, accepted-let}
 use Rattle.script.proofs.AcceptedLaws.{accepted-at, accepted-for, accepted-insert, accepted-if}
 use Rattle.operators.specs.Evaluating.{unaryOf, binaryOf, IsBinary}

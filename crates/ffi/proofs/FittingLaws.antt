@@ -21,11 +21,12 @@ use Rattle.model.proofs.UndoKeeps.{undoKeeps}
 use Rattle.table.specs.Words.{decode, fits}
 use Rattle.plan.specs.Calls as library
 use Rattle.table.specs.Results as results
+use Rattle.table.specs.Results.{asItWas}
 use Rattle.sweep.specs.Sweeping as sweeping
 use Rattle.table.specs.declared.Table.{Table}
 use Rattle.table.proofs.EncodeLaws.{fits-encode}
-use Rattle.table.proofs.FitsLaws.{well-decode}
-use Rattle.undo.specs.Undoing.{planUndone, undoneBy, asItWas}
+use Rattle.table.proofs.FittedLaws.{well-decode}
+use Rattle.undo.specs.Undoing.{planUndone, undoneBy}
 
 -- the elements of a slice of bytes are bytes
 pub bytes-known : (l : List ℕ) → ((i : ℕ) → getD l i 0 < 256) → areBytes l ≡ true

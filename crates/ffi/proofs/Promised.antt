@@ -25,9 +25,10 @@ use Rattle.model.proofs.UndoKeeps.{undoKeeps}
 use Rattle.table.specs.Words.{encode, decode, fits}
 use Rattle.plan.specs.Calls as library
 use Rattle.table.specs.Results as results
+use Rattle.table.specs.Results.{asItWas}
 use Rattle.sweep.specs.Sweeping as sweeping
 use Rattle.table.specs.declared.TableResult.{TableResult}
-use Rattle.undo.specs.Undoing.{planUndone, undoneBy, asItWas}
+use Rattle.undo.specs.Undoing.{planUndone, undoneBy}
 use Rattle.run.specs.Calls.{ran, resultOf}
 use Rattle.ffi.specs.Calls.{readCode, readOut, undoCode, undoOut}
 use Rattle.lent.specs.Codes.{codeOf, lentCode, writtenCode, finishedCode, finishedOut}
@@ -35,7 +36,7 @@ use Rattle.ffi.specs.Running.{refusedCall, ranCall, readCall, runCalled}
 use Rattle.lent.specs.Done.{isLentShort, doneOver}
 use Rattle.ffi.specs.Promise.{atFront, PlanBack, SweptBack, UndoneBack, RunDone, RunRefused, FreeRunsCommute}
 use Rattle.table.proofs.EncodeLaws.{decode-encode, fits-encode}
-use Rattle.plan.proofs.WritingLaws.{well-written, well-out}
+use Rattle.plan.proofs.WritePlanLaws.{well-written, well-out}
 use Rattle.plan.proofs.Promised.{read-short, read-back}
 use Rattle.paths.proofs.Promised.{free-told}
 use Rattle.run.proofs.OutcomeLaws.{refuses-fine, run-refuses, run-back}

@@ -19,7 +19,7 @@ use Rattle.model.proofs.All.{all-read}
 use Rattle.model.specs.Base.{nothing, also}
 use Rattle.records.specs.Walk.{arity}
 use Rattle.script.specs.Accepted.{RecordFits, Nullary}
-use Rattle.script.proofs.KindLaws.{nullary-kind}
+use Rattle.records.proofs.KindLaws.{nullary-kind}
 use Rattle.script.proofs.AcceptedLaws.{accepted-record, accepted-nil, accepted-document, accepted-variable, accepted-element, accepted-leaf}
 use Rattle.script.proofs.FieldLaws.{variable-number}
 use Rattle.table.specs.Words.{linked, decodeParts}

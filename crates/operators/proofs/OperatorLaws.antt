@@ -14,7 +14,7 @@ use Rattle.model.specs.Step.{isReached, isPicked, stepped, picked}
 use Rattle.model.specs.Run.{gives}
 use Rattle.model.proofs.Collect.{step-collect}
 use Rattle.model.proofs.ValueLaws.{stepFrom-rows, picked-rows}
-use Rattle.script.proofs.KindLaws.{unary-kind}
+use Rattle.records.proofs.KindLaws.{unary-kind}
 use Rattle.table.specs.Words.{decodeParts}
 use Rattle.updates.specs.State.{stateOf, Held}
 use Rattle.updates.specs.Updating.{DeletePre, DeletePost}

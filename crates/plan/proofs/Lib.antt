@@ -1,5 +1,5 @@
-pub mod ReadLaws
-pub mod ReadingLaws
-pub mod WriteLaws
-pub mod WritingLaws
+pub mod ReadRecordLaws
+pub mod ReadPlanLaws
+pub mod WriteRecordLaws
+pub mod WritePlanLaws
 pub mod Promised

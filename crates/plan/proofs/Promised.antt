@@ -17,11 +17,11 @@ use Rattle.table.specs.Results.{faultOf}
 use Rattle.table.specs.Words.{encode, decode, fits}
 use Rattle.table.specs.declared.Table.{Table}
 use Rattle.table.specs.declared.Written.{Written}
-use Rattle.table.proofs.FitsLaws.{well-decode, fits-at}
+use Rattle.table.proofs.FittedLaws.{well-decode, fits-at}
 use Rattle.table.proofs.WordLaws.{encode-decode}
 use Rattle.plan.specs.Calls.{readBy, planRead, planWritten, planOut}
 use Rattle.plan.specs.Promise.{TableBack, BytesBack}
-use Rattle.plan.proofs.WritingLaws.{write-fine, write-out, stored-fits, stored-written, stored-out}
+use Rattle.plan.proofs.WritePlanLaws.{write-fine, write-out, stored-fits, stored-written, stored-out}
 
 -- TABLE TO BYTES TO TABLE: the words of a table that fits are those of the table that it stands for
 words-back : (t : Table) → length (t .rows) ≡ 512 → fits t ≡ true → encode (decode t) ≡ t

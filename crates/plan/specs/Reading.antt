@@ -7,7 +7,7 @@ use lib.ListN.{length, getD, set, replicate}
 use Rattle.model.specs.Base.{pick}
 use Rattle.model.specs.Refusal.{fault, faultAt}
 use Rattle.model.specs.Stored.{Read, bad, got, readPlan, wordAt, rowIn, lastMarked, rowFault, markFault, recordFault, recorded}
-use Rattle.table.specs.Words.{linkOf, linked, wordOf, rowsOf, wordsOf, decodeParts}
+use Rattle.table.specs.Words.{linkOf, linked, wordOf, decodeParts, Canonical}
 use Rattle.plan.specs.declared.read.RecordRead.{RecordRead}
 use Rattle.plan.specs.declared.read.PlanEnd.{PlanEnd}
 
@@ -44,7 +44,7 @@ pub record Held (ws ms : List ℕ) (n last : ℕ) : Type 0 where
   pub room : n ≤ 512
   pub size : length ws ≡ 512
   pub documents : length ms ≡ 8
-  pub canonical : wordsOf (rowsOf n ws) ≡ ws
+  pub canonical : Canonical n ws
   pub latest : last ≡ lastOf ms
 
 pub record RecordPre (s ws ms : List ℕ) (n last : ℕ) : Type 0 where
@@ -70,5 +70,5 @@ readEnd ws ms r = pick (eqb (r .number) 0) (got (decodeParts (r .count) ws ms)) 
 
 pub record ReadPost (b ws ms : List ℕ) (r : PlanEnd) : Type 0 where
   pub result : readEnd ws ms r ≡ readPlan b
-  pub canonical : r .number ≡ 0 → wordsOf (rowsOf (r .count) ws) ≡ ws
+  pub canonical : r .number ≡ 0 → Canonical (r .count) ws
   pub room : r .number ≡ 0 → r .count ≤ length ws

@@ -9,15 +9,15 @@ use native.Mathlib.Numerals.{add-one}
 use lib.Dec.{eqb}
 use lib.ListN.{length, getD, set, replicate, length-set, getD-replicate}
 use lib.Seq.{getD-set-same, getD-set-other}
-use borrow.Author.Tests.{ne-eqb, eqb-true, eqb-false}
+use borrow.Author.Tests.{eqb-true, eqb-false}
 use Rattle.model.specs.Base.{among}
 use Rattle.model.specs.Table as model
 use Rattle.model.specs.Sweep.{through}
 use Rattle.model.specs.Step.{parentIs}
 use Rattle.model.proofs.BoolLaws.{by-cases, pick-true, pick-false}
 use Rattle.table.specs.Words.{linked, decodeParts}
-use Rattle.table.proofs.WordLaws.{count-decode, rowAt-decode}
-use Rattle.table.proofs.DecodeLaws.{isThe-linked}
+use Rattle.table.proofs.WordLaws.{count-decode}
+use Rattle.table.proofs.DecodeLaws.{parent-linked, link-low, isThe-linked}
 use Rattle.query.specs.Stepping.{bit, Flagged, counted, descended, climbed, RowsHeld}
 use Rattle.query.specs.Stepping.{Reached, Descending, Climbing, anyFrom, upTo, childCounts}
 use Rattle.query.proofs.ReachLaws.{downTo, down-parent, up-children}
@@ -33,17 +33,12 @@ module _ (ws : List ℕ) (n : ℕ) (held : RowsHeld ws n) where
   within : n ≤ length ws
   within = omega (arith, held .rows, held .few)
 
-  -- the parent of a row below the count, by the link in its word
-  parent-linked : (ms : List ℕ) (j : ℕ) → j < n → model.rowAt (decodeParts n ws ms) j .parent ≡ linked (getD ws j 0 / 4 % 1024)
-  parent-linked ms j h = ap (λ (r : model.Row). r .parent) (rowAt-decode n ws ms within j h)
+  -- the link in the word of a row below the count
+  link-below : (j : ℕ) → j < n → getD ws j 0 / 4 % 1024 ≤ j
+  link-below j h = link-low n ws [] within j h (held .lower j)
 
-  link-parent : (j : ℕ) → j < n → (getD ws j 0 / 4 % 1024 ≡ 0 → ⊥) → getD ws j 0 / 4 % 1024 - 1 < j
-  link-parent j h z = held .lower j (getD ws j 0 / 4 % 1024 - 1) (parent-linked [] j h ∙ rw (ne-eqb (getD ws j 0 / 4 % 1024) 0 z))
-
-  pub link-low : (j : ℕ) → j < n → getD ws j 0 / 4 % 1024 < 513
-  link-low j h =
-      by-cases (eqb (getD ws j 0 / 4 % 1024) 0) (λ e. omega (arith, eqb-true (getD ws j 0 / 4 % 1024) 0 e))
-      (λ e. omega (arith, link-parent j h (eqb-false (getD ws j 0 / 4 % 1024) 0 e), held .few))
+  pub link-in : (j : ℕ) → j < n → getD ws j 0 / 4 % 1024 < 513
+  link-in j h = omega (arith, link-below j h, held .few)
 
   -- DOWN
   module _ (d : Bool) (fs : List ℕ) where
@@ -69,7 +64,8 @@ module _ (ws : List ℕ) (n : ℕ) (held : RowsHeld ws n) where
               through (λ (p : ℕ). among p v || (d && downTo (decodeParts n ws ms) (held .lower) d v p)) q
           by-parent q e =
               down-parent (decodeParts n ws ms) (held .lower) d v j ∙
-              ap (through (λ (p : ℕ). among p v || (d && downTo (decodeParts n ws ms) (held .lower) d v p))) (parent-linked ms j h ∙ e)
+              ap (through (λ (p : ℕ). among p v || (d && downTo (decodeParts n ws ms) (held .lower) d v p)))
+              (parent-linked n ws ms within j h ∙ e)
 
           no-parent : eqb (getD ws j 0 / 4 % 1024) 0 ≡ true → getD ws j 0 / 4 % 1024 ≡ 0 →
               counted (getD fs (getD ws j 0 / 4 % 1024) 0) (getD rs (getD ws j 0 / 4 % 1024) 0) d ≡ downTo (decodeParts n ws ms) (held
@@ -83,7 +79,7 @@ module _ (ws : List ℕ) (n : ℕ) (held : RowsHeld ws n) where
               .lower) d v j
           a-parent e z =
               let p = getD ws j 0 / 4 % 1024 - 1 in
-              let l : p < j = link-parent j h z in
+              let l : p < j = omega (arith, link-below j h, z) in
               let k : getD ws j 0 / 4 % 1024 ≡ p + 1 = omega (arith, z) in
               ap (λ (a : ℕ). counted (getD fs a 0) (getD rs a 0) d) k ∙
               ap (λ (a : ℕ). counted a (getD rs (p + 1) 0) d) (f .flags p (omega (arith, held .few))) ∙
@@ -165,7 +161,7 @@ module _ (ws : List ℕ) (n : ℕ) (held : RowsHeld ws n) where
       parent-is : (ms : List ℕ) (j : ℕ) → parentIs (decodeParts n ws ms) j k ≡ eqb (getD ws k 0 / 4 % 1024) (j + 1)
       parent-is ms j =
           let e : j ≡ j + 1 - 1 = omega arith in
-          ap (model.isThe j) (parent-linked ms k h) ∙ ap (λ (a : ℕ). model.isThe a (linked (getD ws k 0 / 4 % 1024))) e ∙
+          ap (model.isThe j) (parent-linked n ws ms within k h) ∙ ap (λ (a : ℕ). model.isThe a (linked (getD ws k 0 / 4 % 1024))) e ∙
           isThe-linked (j + 1) (getD ws k 0 / 4 % 1024) (omega arith)
 
       one-more : (ms v : List ℕ) (j : ℕ) → anyFrom (childCounts (decodeParts n ws ms) d v j) k (n - k) ≡
@@ -205,7 +201,7 @@ module _ (ws : List ℕ) (n : ℕ) (held : RowsHeld ws n) where
                   getD (set rs l 1) (j + 1) 0 ≡ bit (anyFrom (childCounts (decodeParts n ws ms) d v j) k (n - k))
               here ms v f j q =
                   ap (λ (a : ℕ). getD (set rs l 1) a 0) (sym (eqb-true l (j + 1) q)) ∙
-                  getD-set-same rs l 1 0 (omega (arith, s .size, link-low k h)) ∙
+                  getD-set-same rs l 1 0 (omega (arith, s .size, link-in k h)) ∙
                   ap bit (sym (one-more ms v j ∙
                   ap (λ (t : Bool). t || anyFrom (childCounts (decodeParts n ws ms) d v j) (k + 1) (n - (k + 1))) (child ms v f j true e
                   ∙ ap (λ (a : Bool). a && true) q)))

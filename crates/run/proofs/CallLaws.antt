@@ -23,7 +23,7 @@ use Rattle.table.specs.Words.{linked, encode, decode, decodeParts, fits}
 use Rattle.table.specs.declared.Table.{Table}
 use Rattle.table.specs.declared.Fault.{Fault}
 use Rattle.table.proofs.WordLaws.{encode-decode, count-decode}
-use Rattle.table.proofs.FitsLaws.{Fits, fits-at}
+use Rattle.table.proofs.FittedLaws.{Fits, fits-at}
 use Rattle.updates.specs.State.{recordsIn, started, stateOf, Held}
 use Rattle.query.specs.Values.{valueAt}
 use Rattle.updates.proofs.StateLaws.{held-start, state-start}

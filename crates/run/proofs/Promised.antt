@@ -16,7 +16,7 @@ use Rattle.model.proofs.CallsCommute.{callsCommute}
 use Rattle.table.specs.Results.{faultOf}
 use Rattle.table.specs.Words.{encode, decode, fits}
 use Rattle.table.specs.declared.Table.{Table}
-use Rattle.table.proofs.FitsLaws.{well-decode}
+use Rattle.table.proofs.FittedLaws.{well-decode}
 use Rattle.table.proofs.EncodeLaws.{decode-encode, fits-encode}
 use Rattle.run.specs.Calls.{outcomeOf, ran, resultOf, runResult}
 use Rattle.run.specs.Promise.{RunsAsCalled, RunsOn, RefusedGivesBack, RefusedLeaves, EitherEnd, RunsCommute}

@@ -3,14 +3,14 @@ use mathlib.Core.Path.{_≡_}
 use mathlib.Core.Bool.{true, _&&_}
 use mathlib.Core.List.{List}
 use Prim.Native.Nat.{ℕ, _+_, _≤_, _<_}
-use lib.Dec.{ltb, leb}
+use lib.Dec.{ltb}
 use lib.ListN.{getD}
 use lib.Seq.{getD-drop}
-use borrow.Author.Tests.{ltb-true, leb-true}
-use Rattle.model.specs.Base.{isIn}
+use borrow.Author.Tests.{ltb-true}
 use Rattle.model.specs.Script.{documentKind, varKind, stepKind, newElementKind, testFits}
 use Rattle.model.proofs.ListLaws.{drop-first}
 use Rattle.model.proofs.BoolLaws.{and-left, and-right}
+use Rattle.model.proofs.TestLaws.{isIn-at}
 use Rattle.script.specs.Accepted.{RecordFits}
 
 module _ {b : List ℕ} {at left v : ℕ} (f : RecordFits b at left v) where
@@ -32,11 +32,5 @@ module _ {b : List ℕ} {at left v : ℕ} (f : RecordFits b at left v) where
   pub step-test : getD b at 0 ≡ stepKind → testFits (getD b (at + 2) 0) (getD b (at + 3) 0) ≡ true
   step-test e = and-right (ltb (getD b (at + 1) 0) 4) (testFits (getD b (at + 2) 0) (getD b (at + 3) 0)) (step-fields e)
 
-  name-fits : getD b at 0 ≡ newElementKind → isIn 1 255 (getD b (at + 1) 0) ≡ true
-  name-fits e = rw (drop-first b at, e, getD-drop at b 1 0) at (f .fields)
-
   pub element-name : getD b at 0 ≡ newElementKind → (1 ≤ getD b (at + 1) 0) × (getD b (at + 1) 0 ≤ 255)
-  element-name e = (
-    leb-true 1 (getD b (at + 1) 0) (and-left (leb 1 (getD b (at + 1) 0)) (leb (getD b (at + 1) 0) 255) (name-fits e)),
-    leb-true (getD b (at + 1) 0) 255 (and-right (leb 1 (getD b (at + 1) 0)) (leb (getD b (at + 1) 0) 255) (name-fits e)),
-  )
+  element-name e = isIn-at 1 255 (getD b (at + 1) 0) (rw (drop-first b at, e, getD-drop at b 1 0) at (f .fields))

@@ -12,6 +12,7 @@ use Rattle.model.specs.Refusal.{isFine, orElse, unless, kindAt, shortAt, fieldA
 use Rattle.model.specs.Script.{bodySize, bodyFits, testFits, isBinder, exprFault}
 use Rattle.model.proofs.ListLaws.{drop-first}
 use Rattle.model.proofs.BoolLaws.{by-cases, and-left, and-right}
+use Rattle.model.proofs.TestLaws.{isIn-at}
 use Rattle.script.specs.Accepted.{RecordFits}
 use Rattle.script.specs.Reading.{BodyPre, BodyPost, HeadPost}
 
@@ -186,12 +187,8 @@ module _ (b : List ℕ) (at left n v i : ℕ) (e : isFine (exprFault i n (17 - l
   pub fine-fits : RecordFits b at left v
   fine-fits =
       record {
-        low =
-            let h = and-left (leb 1 (getD (drop at b) 0 0)) (leb (getD (drop at b) 0 0) 13) (passed .1) in
-            omega (arith, drop-first b at, leb-true 1 (getD (drop at b) 0 0) h);
-        high =
-            let h = and-right (leb 1 (getD (drop at b) 0 0)) (leb (getD (drop at b) 0 0) 13) (passed .1) in
-            omega (arith, drop-first b at, leb-true (getD (drop at b) 0 0) 13 h);
+        low = omega (arith, drop-first b at, isIn-at 1 13 (getD (drop at b) 0 0) (passed .1));
+        high = omega (arith, drop-first b at, isIn-at 1 13 (getD (drop at b) 0 0) (passed .1));
         depth = omega (arith, leb-true (17 - left) 16 (sizes .1));
         scope = in-scope;
         whole = omega (

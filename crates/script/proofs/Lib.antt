@@ -6,4 +6,3 @@ pub mod ExpressionLaws
 pub mod ScriptLaws
 pub mod AcceptedLaws
 pub mod FieldLaws
-pub mod KindLaws

@@ -7,27 +7,17 @@ use native.Mathlib.Omega.{arith}
 use lib.Dec.{eqb}
 use lib.ListN.{getD, drop}
 use lib.Seq.{getD-drop, drop-drop}
-use borrow.Author.Tests.{ne-eqb, eqb-true, eqb-false}
+use borrow.Author.Tests.{ne-eqb}
 use Rattle.model.specs.Base.{pick}
 use Rattle.model.specs.Refusal.{Fault, fault, isFine, faultAt}
 use Rattle.model.specs.Script.{Expr, Parsed, ill, parsed, thenParse, operands, parseFrom, exprFault, bodySize}
 use Rattle.model.proofs.ListLaws.{drop-first}
 use Rattle.model.proofs.BoolLaws.{by-cases}
 use Rattle.records.specs.Walk.{arity, inner, firstAt, secondAt, thirdAt, exprOf, exprAt}
+use Rattle.records.proofs.KindLaws.{by-kind}
 use Rattle.script.specs.Reading.{parseAt}
 use Rattle.script.specs.Accepted.{RecordFits}
 use Rattle.script.proofs.HeadLaws.{fine-fits}
-
--- a kind is one of thirteen
-pub below : {P : Type 0} (k m : ℕ) → k ≤ suc m → (k ≡ suc m → P) → (k ≤ m → P) → P
-below k m h f g = by-cases (eqb k (suc m)) (λ e. f (eqb-true k (suc m) e)) (λ e. g (omega (arith, eqb-false k (suc m) e)))
-
-pub by-kind : {P : Type 0} (k : ℕ) → 1 ≤ k → k ≤ 13 → (k ≡ 1 → P) → (k ≡ 2 → P) → (k ≡ 3 → P) → (k ≡ 4 → P) → (k ≡ 5 → P) → (k ≡ 6 → P) →
-    (k ≡ 7 → P) → (k ≡ 8 → P) → (k ≡ 9 → P) → (k ≡ 10 → P) → (k ≡ 11 → P) → (k ≡ 12 → P) → (k ≡ 13 → P) → P
-by-kind k l h f1 f2 f3 f4 f5 f6 f7 f8 f9 f10 f11 f12 f13 =
-    below k 12 h f13 (λ h. below k 11 h f12 (λ h. below k 10 h f11 (λ h. below k 9 h f10 (λ h. below k 8 h f9
-    (λ h. below k 7 h f8 (λ h. below k 6 h f7 (λ h. below k 5 h f6 (λ h. below k 4 h f5 (λ h. below k 3 h f4
-    (λ h. below k 2 h f3 (λ h. below k 1 h f2 (λ h. below k 0 h f1 (λ h. absurd (omega arith))))))))))))))
 
 -- OPERANDS BY ARITY: what is read after the record of a kind at a place, and after its first, its second and its third operand.
 -- For an operand that the record does not have stands what is at its place

@@ -16,7 +16,8 @@ use Rattle.script.specs.Reading.{parseAt}
 use Rattle.script.specs.Accepted.{RecordFits}
 use Rattle.records.proofs.WalkLaws.{past-record, past-none}
 use Rattle.script.proofs.HeadLaws.{fine-fits}
-use Rattle.script.proofs.ParseLaws.{below, reader, afterRecord, afterFirst, afterSecond, afterThird}
+use Rattle.records.proofs.KindLaws.{below}
+use Rattle.script.proofs.ParseLaws.{reader, afterRecord, afterFirst, afterSecond, afterThird}
 use Rattle.script.proofs.ParseLaws.{after-none, after-record, after-one, after-first, after-two, after-second}
 use Rattle.script.proofs.ParseLaws.{parse-operands, parsed-fine, Then, then-parsed}
 

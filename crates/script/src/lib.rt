@@ -1,4 +1,4 @@
-// Scripts: reads one from any bytes, and walks an accepted one in place.
+// Reads a script from any bytes.
 ghost use mathlib.Core.Path.{_≡_};
 ghost use Rattle.script.specs.Reading.{scriptRead};
 use table::Fault;

@@ -3,25 +3,25 @@ use mathlib.Core.Path.{_≡_, refl, ap, sym, _∙_}
 use mathlib.Core.Bool.{Bool, true, false, _||_, not}
 use mathlib.Core.List.{List, [], _∷_, _++_, map, map-append, append-nil}
 use mathlib.Core.Option.{Option, none, some}
-use Prim.Native.Nat.{ℕ, suc, _+_, _*_, _-_, _/_, _%_, _≤_, _<_}
+use Prim.Native.Nat.{ℕ, suc, _+_, _-_, _/_, _%_, _≤_, _<_}
 use native.Mathlib.Omega.{arith}
 use native.Mathlib.Nat.{add-zero}
 use native.Mathlib.Numerals.{add-one}
-use lib.Dec.{leb, eqb}
+use lib.Dec.{eqb}
 use lib.ListN.{length, getD, take, drop, set, replicate, length-map, List·getD-map, length-set, drop-of-length-le}
 use lib.Seq.{drop-cons, set-at, getD-at, append-snoc, take-suc, take-all, ext-getD, length-take-le, getD-set-same, getD-set-other}
-use borrow.Author.Tests.{ne-eqb, eqb-true, eqb-false, leb-true}
+use borrow.Author.Tests.{ne-eqb, eqb-true, eqb-false}
 use Rattle.model.specs.Base.{pick}
 use Rattle.model.specs.Table as model
 use Rattle.model.specs.Sweep.{isKept, newNumber, keptBefore, renumbered, sweptRows, sweptMarks, swept, through}
-use Rattle.model.proofs.BoolLaws.{by-cases, pick-true, pick-false, and-left, and-right, or-neither}
-use Rattle.table.specs.Words.{linkOf, linked, wordOf, rowOf, rowsOf, wordsOf, isRowWord, decodeParts, decode, encode}
+use Rattle.model.proofs.BoolLaws.{by-cases, pick-true, pick-false, or-neither}
+use Rattle.table.specs.Words.{linkOf, linked, wordOf, rowOf, rowsOf, wordsOf, decodeParts, decode, encode}
 use Rattle.table.specs.Words as words
-use Rattle.sweep.specs.Sweeping.{planSwept, Flagged, keepsRow, RowPost, numberOf, Sweeping, newLinks}
+use Rattle.sweep.specs.Sweeping.{planSwept, Flagged, keepsRow, newWord, RowPost, numberOf, Sweeping, newLinks}
 use Rattle.table.specs.declared.Table.{Table}
-use Rattle.table.proofs.WordLaws.{wordsOf-snoc, count-decode, rowAt-decode}
-use Rattle.table.proofs.DecodeLaws.{rows-next}
-use Rattle.table.proofs.FitsLaws.{Fits}
+use Rattle.table.proofs.WordLaws.{linked-linkOf, withLink-wordOf, wordsOf-snoc, count-decode, rowAt-decode, take-next}
+use Rattle.table.proofs.DecodeLaws.{link-low}
+use Rattle.table.proofs.FittedLaws.{Fits}
 use Rattle.model.proofs.SweepLaws.{newNumber-zero, newNumber-suc, isKept-unrolled, newNumber-le, isKept-marked}
 use Rattle.model.proofs.SweepLaws.{isKept-parent, length-sweptRows, length-sweptMarks, sweptMarks-at}
 use Rattle.model.proofs.TableLaws.{any-by}
@@ -69,24 +69,6 @@ sweptRows-snoc x i (q ∷ rs) r = go (isKept x i) (sweptRows-snoc x (suc i) rs r
     go true e = ap (λ (l : List model.Row). model.withParent q (renumbered x (q .parent)) ∷ l) e
     go false e = e
 
--- the word of a kept row with its parent's new link
-word-linked : (w l : ℕ) (p : Option ℕ) → isRowWord w ≡ true → l ≡ linkOf p → w % 4 + 4 * l + 4096 * (w / 4096) ≡ wordOf (model.withParent
-    (rowOf w) p)
-word-linked w l p h e =
-    by-cases (eqb (w % 4) 2) (λ t. rw t (omega (arith, e, eqb-true (w % 4) 2 t))) (λ t. rw t (omega (
-      arith,
-      e,
-      eqb-false (w % 4) 2 t,
-      low,
-      high,
-    )))
-  where
-    low : 1 ≤ w % 4
-    low = leb-true 1 (w % 4) (and-left (leb 1 (w % 4)) (leb (w % 4) 2) h)
-
-    high : w % 4 ≤ 2
-    high = leb-true (w % 4) 2 (and-right (leb 1 (w % 4)) (leb (w % 4) 2) h)
-
 module _ (ws ms : List ℕ) (n i : ℕ) (fits : Fits n ws ms) (size : length ws ≡ 512) (low : i < n) (next : ℕ) (ns out : List ℕ)
     (s : Sweeping (decodeParts n ws ms) i next ns out) where
   within : n ≤ length ws
@@ -103,6 +85,29 @@ module _ (ws ms : List ℕ) (n i : ℕ) (fits : Fits n ws ms) (size : length ws 
       let b : l - 1 < i = fits .well .tree .parents i (l - 1) p .0 in
       let k : l ≡ l - 1 + 1 = omega (arith, z) in
       (b, ap (λ (j : ℕ). getD ns j 0) k ∙ s .done (l - 1) b)
+
+  -- the parent's link and its entry are in range
+  parent-lower : (p : ℕ) → model.rowAt (decodeParts n ws ms) i .parent ≡ some p → p < i
+  parent-lower p e = fits .well .tree .parents i p e .0
+
+  pub link-in : getD ws i 0 / 4 % 1024 < 513
+  link-in = omega (arith, link-low n ws ms within i low parent-lower, fits .few)
+
+  pub entry-low : getD ns (getD ws i 0 / 4 % 1024) 0 < 1024
+  entry-low =
+      by-cases (eqb (getD ws i 0 / 4 % 1024) 0)
+      (λ t. omega (arith, ap (λ (j : ℕ). getD ns j 0) (eqb-true (getD ws i 0 / 4 % 1024) 0 t), s .none))
+      (λ t. some-low (eqb-false (getD ws i 0 / 4 % 1024) 0 t))
+    where
+      number-low : (k : ℕ) → numberOf (decodeParts n ws ms) k ≤ k + 1
+      number-low k =
+          by-cases (isKept (decodeParts n ws ms) k) (λ t. rw t (omega (arith, newNumber-le (decodeParts n ws ms) k))) (λ t. rw t (omega
+          arith))
+
+      some-low : (getD ws i 0 / 4 % 1024 ≡ 0 → ⊥) → getD ns (getD ws i 0 / 4 % 1024) 0 < 1024
+      some-low z =
+          let e = entry (getD ws i 0 / 4 % 1024) (sym (ap (λ (q : model.Row). q .parent) here)) z in
+          omega (arith, e .0, e .1, number-low (getD ws i 0 / 4 % 1024 - 1), fits .few)
 
   parent-kept : (l : ℕ) → linked l ≡ model.rowAt (decodeParts n ws ms) i .parent →
       not (eqb (getD ns l 0) 0) ≡ through (isKept (decodeParts n ws ms)) (linked l)
@@ -149,7 +154,7 @@ module _ (ws ms : List ℕ) (n i : ℕ) (fits : Fits n ws ms) (size : length ws 
   rows-kept =
       let l : length (take i (rowsOf n ws)) ≡ i = length-take-le i (rowsOf n ws) (omega (arith, count-decode n ws ms within)) in
       let k : 0 + length (take i (rowsOf n ws)) ≡ i = omega arith in
-      ap (sweptRows (decodeParts n ws ms) 0) (rows-next ws n i within low) ∙
+      ap (sweptRows (decodeParts n ws ms) 0) (take-next i n ws within low) ∙
       sweptRows-snoc (decodeParts n ws ms) 0 (take i (rowsOf n ws)) (rowOf (getD ws i 0)) ∙
       ap (λ (j : ℕ). sweptRows (decodeParts n ws ms) 0 (take i (rowsOf n ws)) ++
       pick (isKept (decodeParts n ws ms) j)
@@ -169,13 +174,11 @@ module _ (ws ms : List ℕ) (n i : ℕ) (fits : Fits n ws ms) (size : length ws 
       by-cases (isKept (decodeParts n ws ms) i)
       (λ k. kept k
       (post .numbers ∙ pick-true (keepsRow (getD ws i 0) i ns) (set ns (i + 1) (next + 1)) ns (keeps-kept ∙ k))
-      (post .rows ∙ pick-true (keepsRow (getD ws i 0) i ns)
-      (set out next (getD ws i 0 % 4 + 4 * getD ns (getD ws i 0 / 4 % 1024) 0 + 4096 * (getD ws i 0 / 4096))) out (keeps-kept ∙ k))
+      (post .rows ∙ pick-true (keepsRow (getD ws i 0) i ns) (set out next (newWord (getD ws i 0) ns)) out (keeps-kept ∙ k))
       (post .result ∙ pick-true (keepsRow (getD ws i 0) i ns) (next + 1) next (keeps-kept ∙ k)))
       (λ k. dropped k
       (post .numbers ∙ pick-false (keepsRow (getD ws i 0) i ns) (set ns (i + 1) (next + 1)) ns (keeps-kept ∙ k))
-      (post .rows ∙ pick-false (keepsRow (getD ws i 0) i ns)
-      (set out next (getD ws i 0 % 4 + 4 * getD ns (getD ws i 0 / 4 % 1024) 0 + 4096 * (getD ws i 0 / 4096))) out (keeps-kept ∙ k))
+      (post .rows ∙ pick-false (keepsRow (getD ws i 0) i ns) (set out next (newWord (getD ws i 0) ns)) out (keeps-kept ∙ k))
       (post .result ∙ pick-false (keepsRow (getD ws i 0) i ns) (next + 1) next (keeps-kept ∙ k)))
     where
       counted : (t : Bool) → isKept (decodeParts n ws ms) i ≡ t → newNumber (decodeParts n ws ms) (i + 1) ≡ next + pick t 1 0
@@ -184,8 +187,7 @@ module _ (ws ms : List ℕ) (n i : ℕ) (fits : Fits n ws ms) (size : length ws 
           ap (λ (u : Bool). newNumber (decodeParts n ws ms) i + pick u 1 0) e ∙ ap (λ (j : ℕ). j + pick t 1 0) (sym (s .kept))
 
       kept : isKept (decodeParts n ws ms) i ≡ true → ns′ ≡ set ns (i + 1) (next + 1) →
-          out′ ≡ set out next (getD ws i 0 % 4 + 4 * getD ns (getD ws i 0 / 4 % 1024) 0 + 4096 * (getD ws i 0 / 4096)) → r ≡ next + 1 →
-          Sweeping (decodeParts n ws ms) (i + 1) r ns′ out′
+          out′ ≡ set out next (newWord (getD ws i 0) ns) → r ≡ next + 1 → Sweeping (decodeParts n ws ms) (i + 1) r ns′ out′
       kept k e f g =
           record {
             size = ap length e ∙ length-set ns (i + 1) (next + 1) ∙ s .size;
@@ -197,15 +199,17 @@ module _ (ws ms : List ℕ) (n i : ℕ) (fits : Fits n ws ms) (size : length ws 
             kept = g ∙ sym (counted true k);
             rows = f ∙ ap (λ (v : List ℕ). set v next word) (s .rows) ∙
                 ap (λ (j : ℕ). set (wordsOf before) j word) (sym swept-length) ∙
-                ap (set (wordsOf before) (length before)) (word-linked (getD ws i 0) (getD ns (getD ws i 0 / 4 % 1024) 0)
-                (renumbered (decodeParts n ws ms) (linked (getD ws i 0 / 4 % 1024))) (fits .kinds i low within)
-                (new-link k (getD ws i 0 / 4 % 1024) (sym (ap (λ (q : model.Row). q .parent) here)))) ∙
+                ap (set (wordsOf before) (length before))
+                (withLink-wordOf (getD ws i 0) (getD ns (getD ws i 0 / 4 % 1024) 0) entry-low (fits .kinds i low within) ∙
+                ap (λ (p : Option ℕ). wordOf (model.withParent (rowOf (getD ws i 0)) p))
+                (ap linked (new-link k (getD ws i 0 / 4 % 1024) (sym (ap (λ (q : model.Row). q .parent) here))) ∙
+                linked-linkOf (renumbered (decodeParts n ws ms) (linked (getD ws i 0 / 4 % 1024))))) ∙
                 sym (wordsOf-snoc before row (omega (arith, swept-length, next-low, fits .few))) ∙
                 ap (λ (t : Bool). wordsOf (before ++ pick t (row ∷ []) [])) (sym k) ∙ ap wordsOf (sym rows-kept);
           }
         where
           word : ℕ
-          word = getD ws i 0 % 4 + 4 * getD ns (getD ws i 0 / 4 % 1024) 0 + 4096 * (getD ws i 0 / 4096)
+          word = newWord (getD ws i 0) ns
 
           before : List model.Row
           before = sweptRows (decodeParts n ws ms) 0 (take i (rowsOf n ws))
@@ -257,32 +261,6 @@ module _ (ws ms : List ℕ) (n i : ℕ) (fits : Fits n ws ms) (size : length ws 
           entry-done j l false q =
               let z : j ≡ i → ⊥ = eqb-false j i q in
               s .done j (omega (arith, z))
-
-  -- the parent's link and its entry are in range
-  pub link-low : getD ws i 0 / 4 % 1024 < 513
-  link-low =
-      by-cases (eqb (getD ws i 0 / 4 % 1024) 0) (λ t. omega (arith, eqb-true (getD ws i 0 / 4 % 1024) 0 t))
-      (λ t. omega (
-        arith,
-        fits .few,
-        entry (getD ws i 0 / 4 % 1024) (sym (ap (λ (q : model.Row). q .parent) here)) (eqb-false (getD ws i 0 / 4 % 1024) 0 t) .0,
-      ))
-
-  pub entry-low : getD ns (getD ws i 0 / 4 % 1024) 0 < 1024
-  entry-low =
-      by-cases (eqb (getD ws i 0 / 4 % 1024) 0)
-      (λ t. omega (arith, ap (λ (j : ℕ). getD ns j 0) (eqb-true (getD ws i 0 / 4 % 1024) 0 t), s .none))
-      (λ t. some-low (eqb-false (getD ws i 0 / 4 % 1024) 0 t))
-    where
-      number-low : (k : ℕ) → numberOf (decodeParts n ws ms) k ≤ k + 1
-      number-low k =
-          by-cases (isKept (decodeParts n ws ms) k) (λ t. rw t (omega (arith, newNumber-le (decodeParts n ws ms) k))) (λ t. rw t (omega
-          arith))
-
-      some-low : (getD ws i 0 / 4 % 1024 ≡ 0 → ⊥) → getD ns (getD ws i 0 / 4 % 1024) 0 < 1024
-      some-low z =
-          let e = entry (getD ws i 0 / 4 % 1024) (sym (ap (λ (q : model.Row). q .parent) here)) z in
-          omega (arith, e .0, e .1, number-low (getD ws i 0 / 4 % 1024 - 1), fits .few)
 
 -- MARKS: one link more
 pub links-next : (ns ms : List ℕ) (d : ℕ) → d < length ms →

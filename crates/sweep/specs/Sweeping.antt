@@ -3,7 +3,7 @@
 use mathlib.Core.Path.{_≡_}
 use mathlib.Core.Bool.{Bool, true, _||_, not}
 use mathlib.Core.List.{List, map}
-use Prim.Native.Nat.{ℕ, _+_, _*_, _/_, _%_, _≤_, _<_}
+use Prim.Native.Nat.{ℕ, _+_, _/_, _%_, _≤_, _<_}
 use lib.Dec.{eqb}
 use lib.ListN.{length, getD, set, take, replicate}
 use Rattle.model.specs.Base.{pick, any}
@@ -11,7 +11,7 @@ use Rattle.model.specs.Table as model
 use Rattle.model.specs.Refusal as refusal
 use Rattle.model.specs.Sweep.{swept, isKept, newNumber, sweptRows}
 use Rattle.table.specs.Flags.{Flags}
-use Rattle.table.specs.Words.{linked, wordsOf, decode, partsFit, fits}
+use Rattle.table.specs.Words.{linked, withLink, wordsOf, decode, partsFit, fits}
 use Rattle.table.specs.Results.{result, asItWas}
 use Rattle.table.specs.declared.Table.{Table}
 use Rattle.table.specs.declared.TableResult.{TableResult}
@@ -40,10 +40,9 @@ abbrev pub keepsRow : (word row : ℕ) → (numbers : List ℕ) → Bool
 keepsRow w i ns = keeps (getD ns (i + 1) 0) (getD ns (w / 4 % 1024) 0)
 
 abbrev pub newWord : (word : ℕ) → (numbers : List ℕ) → ℕ
-newWord w ns = w % 4 + 4 * getD ns (w / 4 % 1024) 0 + 4096 * (w / 4096)
+newWord w ns = withLink w (getD ns (w / 4 % 1024) 0)
 
 pub record RowPre (w i next : ℕ) (ns out : List ℕ) : Type 0 where
-  pub word : w < 1048576
   pub low : i < 512
   pub link : w / 4 % 1024 < 513
   pub below : next ≤ i

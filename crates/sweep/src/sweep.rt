@@ -54,7 +54,7 @@ fn row(w: u32, i: usize, next: usize, numbers: &mut [u16], out: &mut [u32]) -> u
         return next;
     }
     numbers[i + 1] = (next + 1) as u16;
-    out[next] = words::word(words::kind(w), parent as u32, words::tag(w));
+    out[next] = words::relinked(w, number::index(parent));
     next + 1
 }
 

@@ -1,20 +1,20 @@
--- What the table decoded from words has: its elements and its marks; one mark or one row more.
+-- What the table decoded from words has: its elements, parents and marks; one mark or one row more.
 use mathlib.Core.Path.{_≡_, ap, sym, _∙_}
 use mathlib.Core.Bool.{true, false, _||_, not}
-use mathlib.Core.List.{List, [], _∷_, map, _++_}
+use mathlib.Core.List.{List, map}
 use mathlib.Core.Option.{some}
-use Prim.Native.Nat.{ℕ, _+_, _-_, _%_, _≤_, _<_}
+use Prim.Native.Nat.{ℕ, _+_, _-_, _/_, _%_, _≤_, _<_}
 use native.Mathlib.Omega.{arith}
 use lib.Dec.{eqb}
-use lib.ListN.{length, getD, set, drop, drop-of-length-le, take}
-use lib.Seq.{drop-cons, take-suc}
+use lib.ListN.{length, getD, set, drop, drop-of-length-le}
+use lib.Seq.{drop-cons}
 use native.Mathlib.Numerals.{add-one}
 use borrow.Author.Tests.{lt-ltb, le-ltb, eq-eqb, ne-eqb, eqb-true, eqb-false}
 use Rattle.model.specs.Base.{any}
 use Rattle.model.specs.Table as model
 use Rattle.model.specs.Stored.{wordBytes, parentBytes}
 use Rattle.model.proofs.BoolLaws.{by-cases}
-use Rattle.table.specs.Words.{linkOf, linked, wordOf, rowsOf, decodeParts, rowOf}
+use Rattle.table.specs.Words.{linkOf, linked, wordOf, rowsOf, decodeParts}
 use Rattle.table.proofs.WordLaws.{linked-linkOf, count-decode, rowAt-decode, rowsOf-push}
 use Rattle.model.proofs.ListLaws.{map-set}
 
@@ -29,6 +29,20 @@ module _ (n : ℕ) (ws ms : List ℕ) (within : n ≤ length ws) (p : ℕ) where
   element-kind h =
       let k : p < model.count (decodeParts n ws ms) = omega (arith, count-decode n ws ms within) in
       rw (lt-ltb p (model.count (decodeParts n ws ms)) k, rowAt-decode n ws ms within p h)
+
+-- a row's parent, from the link in its word
+module _ (n : ℕ) (ws ms : List ℕ) (within : n ≤ length ws) (i : ℕ) (h : i < n) where
+  pub parent-linked : model.rowAt (decodeParts n ws ms) i .parent ≡ linked (getD ws i 0 / 4 % 1024)
+  parent-linked = ap (λ (r : model.Row). r .parent) (rowAt-decode n ws ms within i h)
+
+  pub parent-at : (getD ws i 0 / 4 % 1024 ≡ 0 → ⊥) → model.rowAt (decodeParts n ws ms) i .parent ≡ some (getD ws i 0 / 4 % 1024 - 1)
+  parent-at z = parent-linked ∙ rw (ne-eqb (getD ws i 0 / 4 % 1024) 0 z)
+
+  -- a lower parent's link is at most the row's number
+  pub link-low : ((p : ℕ) → model.rowAt (decodeParts n ws ms) i .parent ≡ some p → p < i) → getD ws i 0 / 4 % 1024 ≤ i
+  link-low lower =
+      by-cases (eqb (getD ws i 0 / 4 % 1024) 0) (λ e. omega (arith, eqb-true (getD ws i 0 / 4 % 1024) 0 e))
+      (λ e. omega (arith, lower (getD ws i 0 / 4 % 1024 - 1) (parent-at (eqb-false (getD ws i 0 / 4 % 1024) 0 e))))
 
 -- whether a row is marked, one mark after another
 pub isThe-linked : (link m : ℕ) → 0 < link → model.isThe (link - 1) (linked m) ≡ eqb m link
@@ -62,14 +76,6 @@ decode-mark n d i ws ms =
 pub decode-row : (n : ℕ) (r : model.Row) (ws ms : List ℕ) → n < length ws → linkOf (r .parent) < 1024 →
     decodeParts (n + 1) (set ws n (wordOf r)) ms ≡ model.withRow (decodeParts n ws ms) r
 decode-row n r ws ms h f = ap (λ (rs : List model.Row). model.table rs (map linked ms)) (rowsOf-push n ws r h f)
-
--- the rows below the next number
-module _ (ws : List ℕ) (n i : ℕ) (within : n ≤ length ws) (h : i < n) where
-  pub rows-next : take (i + 1) (rowsOf n ws) ≡ take i (rowsOf n ws) ++ (rowOf (getD ws i 0) ∷ [])
-  rows-next =
-      let k : i < length (rowsOf n ws) = omega (arith, count-decode n ws [] within) in
-      ap (λ (j : ℕ). take j (rowsOf n ws)) (add-one i) ∙ take-suc (rowsOf n ws) i model.noRow k ∙
-      ap (λ (r : model.Row). take i (rowsOf n ws) ++ (r ∷ [])) (rowAt-decode n ws [] within i h)
 
 -- the number stored for the parent with a link
 pub parent-none : (l : ℕ) → l ≡ 0 → wordBytes 65535 ≡ parentBytes (linked l)

@@ -1,20 +1,19 @@
 -- A well-formed table survives its words: encoded it fits, and decoded it is itself.
 use mathlib.Core.Path.{_≡_, refl, ap, _∙_}
-use mathlib.Core.Bool.{Bool, true, false}
+use mathlib.Core.Bool.{true}
 use mathlib.Core.List.{List, [], _∷_, map}
 use mathlib.Core.Option.{Option, none, some}
-use Prim.Native.Nat.{ℕ, zero, suc, _+_, _*_, _-_, _%_, _≤_, _<_}
+use Prim.Native.Nat.{ℕ, zero, suc, _-_, _<_}
 use native.Mathlib.Omega.{arith}
-use lib.Dec.{leb}
 use lib.ListN.{length, getD, take, drop, replicate, length-map}
 use lib.Seq.{take-at, drop-at}
 use borrow.Author.Tests.{le-leb}
-use Rattle.model.specs.Base.{pick, all}
+use Rattle.model.specs.Base.{all}
 use Rattle.model.specs.Table as model
 use Rattle.model.proofs.BoolLaws.{and-both}
 use Rattle.model.proofs.TableLaws.{Well, isWell-at, parent-count}
 use Rattle.table.specs.Words.{linkOf, linked, wordOf, rowOf, isRowWord, isZero, wordsOf, encode, decode, fits}
-use Rattle.table.proofs.WordLaws.{linked-linkOf, rowOf-wordOf}
+use Rattle.table.proofs.WordLaws.{linked-linkOf, rowOf-wordOf, isRowWord-wordOf}
 
 -- every parent's link fits its 10 bits
 abbrev Links : List model.Row → Type 0
@@ -52,20 +51,10 @@ decode-encode x h =
     ap (model.table (x .rows)) (marks-back (x .marks))
 
 -- WORDS of rows are words of rows, and the rest is zero
-in-range : (n : ℕ) → 1 ≤ n % 4 → n % 4 ≤ 2 → isRowWord n ≡ true
-in-range n low high = and-both (leb 1 (n % 4)) (leb (n % 4) 2) (le-leb 1 (n % 4) low) (le-leb (n % 4) 2 high)
-
-row-word : (r : model.Row) → isRowWord (wordOf r) ≡ true
-row-word r = go (r .isLeaf)
-  where
-    go : (z : Bool) → isRowWord (pick z 2 1 + 4 * linkOf (r .parent) + 4096 * r .tag) ≡ true
-    go true = in-range (2 + 4 * linkOf (r .parent) + 4096 * r .tag) (omega arith) (omega arith)
-    go false = in-range (1 + 4 * linkOf (r .parent) + 4096 * r .tag) (omega arith) (omega arith)
-
 rows-words : (rs : List model.Row) → all isRowWord (map wordOf rs) ≡ true
 unfolding all
 rows-words [] = refl
-rows-words (r ∷ rs) = and-both _ _ (row-word r) (rows-words rs)
+rows-words (r ∷ rs) = and-both _ _ (isRowWord-wordOf r) (rows-words rs)
 
 zeros : (n : ℕ) → all isZero (replicate n 0) ≡ true
 unfolding all

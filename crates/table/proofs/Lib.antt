@@ -1,6 +1,6 @@
 pub mod WordLaws
 pub mod DecodeLaws
-pub mod FitLaws
-pub mod FitsLaws
+pub mod FitCheckLaws
+pub mod FittedLaws
 pub mod EncodeLaws
 pub mod FlagLaws

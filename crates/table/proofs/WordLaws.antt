@@ -1,20 +1,25 @@
--- A row survives its word, and a word that holds a row survives decoding; so do tables. Words are read, set and pushed as rows are.
+-- A row survives its word, and a word that holds a row survives decoding; so do tables. Words are read, relinked, set, pushed and popped
+-- as rows are.
 use mathlib.Core.Path.{_≡_, refl, ap, sym, _∙_}
 use mathlib.Core.Bool.{Bool, true, false}
 use mathlib.Core.List.{List, [], _∷_, _++_, map, map-append}
 use mathlib.Core.Option.{Option, none, some}
-use mathlib.Core.Logic.{⊎-elim}
 use Prim.Native.Nat.{ℕ, zero, suc, _+_, _*_, _-_, _/_, _%_, _≤_, _<_}
 use native.Mathlib.Omega.{arith}
 use native.Mathlib.Numerals.{add-one}
-use lib.Dec.{leb, eqb}
-use lib.ListN.{length, getD, take, drop, set, replicate, length-map, length-append, length-drop, take-append-drop, List·getD-map}
-use lib.Seq.{append-snoc, set-at, getD-take, take-suc-set, length-take-le}
+use lib.Dec.{eqb}
+use lib.ListN.{length, getD, take, drop, set, replicate, length-map, length-append, length-drop, length-set}
+use lib.ListN.{take-append-drop, List·getD-map, List·getD-append, getD-replicate}
+use lib.Seq.{append-snoc, set-at, set-append-left, set-set, set-getD, getD-take, getD-append-add}
+use lib.Seq.{take-suc, take-take, take-suc-set, take-set-lt, take-set-le, length-take-le}
 use borrow.Author.Tests.{eq-eqb, ne-eqb, leb-true, eqb-true, eqb-false}
-use Rattle.model.specs.Base.{pick, all}
+use Rattle.model.specs.Base.{pick, isIn, all}
 use Rattle.model.specs.Table as model
-use Rattle.model.proofs.BoolLaws.{and-left, and-right, bool-cases}
-use Rattle.table.specs.Words.{linkOf, linked, wordOf, rowOf, isRowWord, isZero, rowsOf, decodeParts, wordsOf, encode}
+use Rattle.model.proofs.BoolLaws.{and-left, and-right, by-cases}
+use Rattle.model.proofs.TestLaws.{isIn-at, isIn-by}
+use Rattle.model.proofs.ListLaws.{map-set}
+use Rattle.table.specs.Words.{linkOf, linked, wordOf, rowOf, isRowWord, withLink, isZero, rowsOf, decodeParts, wordsOf}
+use Rattle.table.specs.Words.{encode, Canonical}
 
 -- LINKS
 pub linked-linkOf : (p : Option ℕ) → linked (linkOf p) ≡ p
@@ -57,14 +62,43 @@ rowOf-wordOf r f =
 pub wordOf-rowOf : (w : ℕ) → isRowWord w ≡ true → wordOf (rowOf w) ≡ w
 wordOf-rowOf w h =
     ap (λ (n : ℕ). pick (eqb (w % 4) 2) 2 1 + 4 * n + 4096 * (w / 4096)) (linkOf-linked (w / 4 % 1024)) ∙
-    ⊎-elim (λ e. rw e (omega (arith, eqb-true (w % 4) 2 e))) (λ e. rw e (omega (arith, eqb-false (w % 4) 2 e, low, high))) (bool-cases
-    (eqb (w % 4) 2))
-  where
-    low : 1 ≤ w % 4
-    low = leb-true 1 (w % 4) (and-left (leb 1 (w % 4)) (leb (w % 4) 2) h)
+    by-cases (eqb (w % 4) 2) (λ e. rw e (omega (arith, eqb-true (w % 4) 2 e)))
+    (λ e. rw e (omega (arith, eqb-false (w % 4) 2 e, isIn-at 1 2 (w % 4) h)))
 
-    high : w % 4 ≤ 2
-    high = leb-true (w % 4) 2 (and-right (leb 1 (w % 4)) (leb (w % 4) 2) h)
+pub isRowWord-wordOf : (r : model.Row) → isRowWord (wordOf r) ≡ true
+isRowWord-wordOf r = go (r .isLeaf)
+  where
+    go : (z : Bool) → isRowWord (pick z 2 1 + 4 * linkOf (r .parent) + 4096 * r .tag) ≡ true
+    go true = isIn-by 1 2 ((2 + 4 * linkOf (r .parent) + 4096 * r .tag) % 4) (omega arith) (omega arith)
+    go false = isIn-by 1 2 ((1 + 4 * linkOf (r .parent) + 4096 * r .tag) % 4) (omega arith) (omega arith)
+
+-- a tag that fits is a byte
+pub tag-byte : (w : ℕ) → model.tagFits (rowOf w) ≡ true → w / 4096 < 256
+tag-byte w h =
+    omega (
+      arith,
+      by-cases (eqb (w % 4) 2) (λ e. leb-true (w / 4096) 255 (rw e at h)) (λ e. isIn-at 1 255 (w / 4096) (rw e at h) .1),
+    )
+
+-- another link is another parent
+module _ (w l : ℕ) (small : l < 1024) where
+  kind-withLink : withLink w l % 4 ≡ w % 4
+  kind-withLink = omega arith
+
+  pub rowOf-withLink : rowOf (withLink w l) ≡ model.withParent (rowOf w) (linked l)
+  rowOf-withLink =
+      let b : withLink w l / 4096 ≡ w / 4096 = omega arith in
+      let d : withLink w l / 4 ≡ l + 1024 * (w / 4096) = omega arith in
+      let e : (l + 1024 * (w / 4096)) % 1024 ≡ l = omega arith in
+      let c : withLink w l / 4 % 1024 ≡ l = ap (λ (j : ℕ). j % 1024) d ∙ e in
+      λ i. record { isLeaf = eqb (kind-withLink i) 2; tag = b i; parent = linked (c i) }
+
+  module _ (word : isRowWord w ≡ true) where
+    pub isRowWord-withLink : isRowWord (withLink w l) ≡ true
+    isRowWord-withLink = ap (isIn 1 2) kind-withLink ∙ word
+
+    pub withLink-wordOf : withLink w l ≡ wordOf (model.withParent (rowOf w) (linked l))
+    withLink-wordOf = sym (wordOf-rowOf (withLink w l) isRowWord-withLink) ∙ ap wordOf rowOf-withLink
 
 -- TABLES: rows are counted and read off the words
 module _ (n : ℕ) (ws ms : List ℕ) (within : n ≤ length ws) where
@@ -74,6 +108,24 @@ module _ (n : ℕ) (ws ms : List ℕ) (within : n ≤ length ws) where
   pub rowAt-decode : (p : ℕ) → p < n → model.rowAt (decodeParts n ws ms) p ≡ rowOf (getD ws p 0)
   rowAt-decode p h = List·getD-map rowOf (take n ws) p 0 ∙ ap rowOf (getD-take n ws p 0 h)
 
+-- rows below a count, and the next one
+take-map : {A B : Type 0} (f : A → B) (n : ℕ) (l : List A) → take n (map f l) ≡ map f (take n l)
+take-map f zero l = refl
+take-map f (suc n) [] = refl
+take-map f (suc n) (x ∷ l) = ap (λ (t : List _). f x ∷ t) (take-map f n l)
+
+pub rows-take : (i n : ℕ) (ws : List ℕ) → i ≤ n → take i (rowsOf n ws) ≡ rowsOf i ws
+rows-take i n ws l = take-map rowOf i (take n ws) ∙ ap (map rowOf) (take-take i n ws l)
+
+pub rows-next : (i : ℕ) (ws : List ℕ) → i < length ws → rowsOf (i + 1) ws ≡ rowsOf i ws ++ (rowOf (getD ws i 0) ∷ [])
+rows-next i ws h = rw (add-one, take-suc ws i 0) (map-append rowOf (take i ws) (getD ws i 0 ∷ []))
+
+pub take-next : (i n : ℕ) (ws : List ℕ) → n ≤ length ws → i < n →
+    take (i + 1) (rowsOf n ws) ≡ take i (rowsOf n ws) ++ (rowOf (getD ws i 0) ∷ [])
+take-next i n ws w h =
+    rows-take (i + 1) n ws (omega arith) ∙ rows-next i ws (omega arith) ∙
+    ap (λ (rs : List model.Row). rs ++ (rowOf (getD ws i 0) ∷ [])) (sym (rows-take i n ws (omega arith)))
+
 -- a row more is a word more
 pub rowsOf-push : (n : ℕ) (ws : List ℕ) (r : model.Row) → n < length ws → linkOf (r .parent) < 1024 → rowsOf (n + 1) (set ws n (wordOf
     r)) ≡ rowsOf n ws ++ (r ∷ [])
@@ -81,10 +133,7 @@ rowsOf-push n ws r h f =
     rw (add-one, take-suc-set ws n (wordOf r)) (map-append rowOf (take n ws) (wordOf r ∷ []) ∙ ap (λ (q : model.Row). rowsOf n ws ++ (q ∷
     [])) (rowOf-wordOf r f))
 
--- CANONICAL: words that encode the rows that they decode to
-abbrev pub Canonical : (count : ℕ) → (words : List ℕ) → Type 0
-Canonical n ws = wordsOf (rowsOf n ws) ≡ ws
-
+-- CANONICAL words
 replicate-less : (m n : ℕ) → n < m → replicate {A = ℕ} (m - n) 0 ≡ 0 ∷ replicate (m - (n + 1)) 0
 replicate-less m n h = let e : m - n ≡ suc (m - (n + 1)) = omega arith in rw e
 
@@ -97,6 +146,40 @@ wordsOf-snoc rs r h =
     sym (ap (λ (l : List ℕ). set (map wordOf rs ++ l) (length rs) (wordOf r)) (replicate-less 512 (length rs) h) ∙
     set-at (map wordOf rs) 0 (replicate (512 - (length rs + 1)) 0) (wordOf r) (length rs) (length-map rs wordOf))
 
+-- each word in use is a row's
+module _ (n : ℕ) (ws : List ℕ) (canonical : Canonical n ws) (within : n ≤ length ws) (i : ℕ) (l : i < n) where
+  word-back : wordOf (rowOf (getD ws i 0)) ≡ getD ws i 0
+  word-back =
+      let k : length (rowsOf n ws) ≡ n = count-decode n ws [] within in
+      let m : length (map wordOf (rowsOf n ws)) ≡ n = length-map (rowsOf n ws) wordOf ∙ k in
+      sym (ap (λ (v : List ℕ). getD v i 0) (sym canonical) ∙
+      List·getD-append (map wordOf (rowsOf n ws)) (replicate (512 - length (rowsOf n ws)) 0) 0 i (omega arith) ∙
+      getD-word (rowsOf n ws) i (omega arith) ∙ ap wordOf (rowAt-decode n ws [] within i l))
+    where
+      getD-word : (rs : List model.Row) (j : ℕ) → j < length rs → getD (map wordOf rs) j 0 ≡ wordOf (getD rs j model.noRow)
+      getD-word [] j h = absurd (omega arith)
+      getD-word (r ∷ rs) zero h = refl
+      getD-word (r ∷ rs) (suc j) h = getD-word rs j (omega arith)
+
+  pub row-word : isRowWord (getD ws i 0) ≡ true
+  row-word = ap isRowWord (sym word-back) ∙ isRowWord-wordOf (rowOf (getD ws i 0))
+
+  -- a word set is a row set
+  module _ (w : ℕ) where
+    pub rowsOf-set : rowsOf n (set ws i w) ≡ set (rowsOf n ws) i (rowOf w)
+    rowsOf-set = ap (map rowOf) (take-set-lt n ws i w l) ∙ map-set rowOf (take n ws) i w
+
+    pub canonical-set : isRowWord w ≡ true → Canonical n (set ws i w)
+    canonical-set h =
+        let k : length (rowsOf n ws) ≡ n = count-decode n ws [] within in
+        let m : length (map wordOf (rowsOf n ws)) ≡ n = length-map (rowsOf n ws) wordOf ∙ k in
+        ap wordsOf rowsOf-set ∙
+        ap (λ (v : List ℕ). v ++ replicate (512 - length (set (rowsOf n ws) i (rowOf w))) 0)
+        (map-set wordOf (rowsOf n ws) i (rowOf w) ∙ ap (set (map wordOf (rowsOf n ws)) i) (wordOf-rowOf w h)) ∙
+        ap (λ (j : ℕ). set (map wordOf (rowsOf n ws)) i w ++ replicate (512 - j) 0) (length-set (rowsOf n ws) i (rowOf w)) ∙
+        sym (set-append-left (map wordOf (rowsOf n ws)) (replicate (512 - length (rowsOf n ws)) 0) i w (omega arith)) ∙
+        ap (λ (v : List ℕ). set v i w) canonical
+
 pub canonical-push : (n : ℕ) (ws : List ℕ) (r : model.Row) → n < 512 → length ws ≡ 512 → linkOf (r .parent) < 1024 → Canonical n ws →
     Canonical (n + 1) (set ws n (wordOf r))
 canonical-push n ws r h l f e =
@@ -106,6 +189,46 @@ canonical-push n ws r h l f e =
     ap wordsOf (rowsOf-push n ws r k f) ∙ wordsOf-snoc (rowsOf n ws) r g ∙
     ap (λ (i : ℕ). set (wordsOf (rowsOf n ws)) i (wordOf r)) m ∙ ap (λ (v : List ℕ). set v n (wordOf r)) e
 
+-- the last row gone, its word is zero
+module _ (n : ℕ) (ws : List ℕ) (canonical : Canonical n ws) (size : length ws ≡ 512) (few : n ≤ 512) (some-row : 0 < n) where
+  abbrev less : List model.Row
+  less = rowsOf (n - 1) ws
+
+  rows-less : rowsOf (n - 1) (set ws (n - 1) 0) ≡ less
+  rows-less = ap (map rowOf) (take-set-le (n - 1) ws (n - 1) 0 (omega arith))
+
+  counted-less : length less ≡ n - 1
+  counted-less = count-decode (n - 1) ws [] (omega arith)
+
+  rows-last : rowsOf n ws ≡ less ++ (rowOf (getD ws (n - 1) 0) ∷ [])
+  rows-last =
+      let e : n ≡ n - 1 + 1 = omega arith in
+      ap (λ (j : ℕ). rowsOf j ws) e ∙ rows-next (n - 1) ws (omega arith)
+
+  zero-there : getD (wordsOf less) (n - 1) 0 ≡ 0
+  zero-there =
+      let m : length (map wordOf less) + 0 ≡ n - 1 = omega (arith, length-map less wordOf, counted-less) in
+      ap (λ (j : ℕ). getD (wordsOf less) j 0) (sym m) ∙ getD-append-add (map wordOf less) (replicate (512 - length less) 0) 0 0 ∙
+      getD-replicate (512 - length less) 0 0 0 (omega (arith, counted-less))
+
+  put-back : set (wordsOf less) (n - 1) (wordOf (rowOf (getD ws (n - 1) 0))) ≡ ws
+  put-back =
+      ap (λ (j : ℕ). set (wordsOf less) j (wordOf (rowOf (getD ws (n - 1) 0)))) (sym counted-less) ∙
+      sym (wordsOf-snoc less (rowOf (getD ws (n - 1) 0)) (omega (arith, counted-less))) ∙ ap wordsOf (sym rows-last) ∙ canonical
+
+  pub canonical-pop : Canonical (n - 1) (set ws (n - 1) 0)
+  canonical-pop =
+      ap wordsOf rows-less ∙ sym (set-getD (wordsOf less) (n - 1) 0) ∙ ap (set (wordsOf less) (n - 1)) zero-there ∙
+      sym (set-set (wordsOf less) (n - 1) (wordOf (rowOf (getD ws (n - 1) 0))) 0) ∙ ap (λ (v : List ℕ). set v (n - 1) 0) put-back
+
+  pub decode-pop : (ms : List ℕ) →
+      decodeParts (n - 1) (set ws (n - 1) 0) ms ≡ model.table (take (model.count (decodeParts n ws ms) - 1) (rowsOf n ws)) (map linked ms)
+  decode-pop ms =
+      let e : model.count (decodeParts n ws ms) - 1 ≡ n - 1 = omega (arith, count-decode n ws ms (omega arith)) in
+      ap (λ (rs : List model.Row). model.table rs (map linked ms))
+      (rows-less ∙ sym (ap (λ (j : ℕ). take j (rowsOf n ws)) e ∙ rows-take (n - 1) n ws (omega arith)))
+
+-- words of rows with zeros behind them are canonical
 words-rows : (ws : List ℕ) → all isRowWord ws ≡ true → map wordOf (map rowOf ws) ≡ ws
 unfolding all
 words-rows [] h = refl

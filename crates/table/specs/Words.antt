@@ -1,4 +1,5 @@
 -- How a table of the model stands in the type Table: rows packed into words, marks into numbers. Assumes nothing: these are definitions.
+use mathlib.Core.Path.{_≡_}
 use mathlib.Core.Bool.{Bool, _&&_}
 use mathlib.Core.List.{List, _++_, map}
 use mathlib.Core.Option.{Option, none, some}
@@ -34,6 +35,10 @@ rowOf w = record { isLeaf = eqb (w % 4) leafWord; tag = w / 4096; parent = linke
 abbrev pub isRowWord : ℕ → Bool
 isRowWord w = isIn elementWord leafWord (w % 4)
 
+-- the word with another link to the parent
+abbrev pub withLink : (word link : ℕ) → ℕ
+withLink w l = w % 4 + 4 * l + 4096 * (w / 4096)
+
 -- ENCODED: rows past the count are zero
 abbrev pub wordsOf : List model.Row → List ℕ
 wordsOf rs = map wordOf rs ++ replicate (maxRows - lib.ListN.length rs) 0
@@ -50,6 +55,10 @@ decodeParts n ws ms = model.table (rowsOf n ws) (map linked ms)
 
 abbrev pub decode : Table → model.Table
 decode t = decodeParts (t .count) (t .rows) (t .marks)
+
+-- CANONICAL: words that encode the rows that they decode to
+abbrev pub Canonical : (count : ℕ) → (words : List ℕ) → Type 0
+Canonical n ws = wordsOf (rowsOf n ws) ≡ ws
 
 -- WELL FORMED as it is handed in: the words in use are rows, words past the count are zero, and the table is well formed
 abbrev pub isZero : ℕ → Bool

@@ -1,6 +1,7 @@
 // A row in a word: kind in 2 bits, the parent's number and one or 0 in 10, name or value above.
 ghost use mathlib.Core.Path.{_≡_};
 ghost use Prim.Native.Nat.{_+_, _*_, _/_, _%_, _<_};
+ghost use Rattle.table.specs.Words.{withLink};
 
 pub const ELEMENT: u32 = 1;
 
@@ -31,4 +32,12 @@ pub fn word(kind: u32, link: u32, tag: u32) -> u32
     ensures { λ r. ⌜ r ≡ kind + 4 * link + 4096 * tag ⌝ }
 {
     kind + 4 * link + 4096 * tag
+}
+
+// The word with another link to the parent.
+pub fn relinked(w: u32, link: usize) -> u32
+    requires { ⌜ link < 1024 ⌝ }
+    ensures { λ r. ⌜ r ≡ withLink w link ⌝ }
+{
+    w % 4 + 4 * (link as u32) + 4096 * (w / 4096)
 }

@@ -1,13 +1,12 @@
 -- Undo's parts: a record undone on the words, and all of them back to front.
 use mathlib.Core.Path.{_≡_, refl, ap, sym, _∙_, subst}
 use mathlib.Core.Bool.{Bool, true, false, not}
-use mathlib.Core.List.{List, [], _∷_, _++_, map}
+use mathlib.Core.List.{List, _∷_, map}
 use mathlib.Core.Option.{none, some}
-use Prim.Native.Nat.{ℕ, suc, _+_, _*_, _-_, _/_, _%_, _≤_, _<_}
+use Prim.Native.Nat.{ℕ, suc, _+_, _-_, _≤_, _<_}
 use native.Mathlib.Omega.{arith}
 use lib.Dec.{ltb, eqb}
-use lib.ListN.{length, getD, take, drop, set, replicate, length-map, getD-replicate}
-use lib.Seq.{set-set, set-getD, take-set-le, take-suc, take-all, getD-append-add}
+use lib.ListN.{length, getD, take, drop, set}
 use borrow.Author.Tests.{eq-eqb, ne-eqb, ltb-true, eqb-true}
 use Rattle.model.specs.Base.{pick}
 use Rattle.model.specs.Refusal.{fault, fine, linkAt}
@@ -18,13 +17,11 @@ use Rattle.model.specs.Undo.{undoAll}
 use Rattle.model.proofs.ListLaws.{drop-all}
 use Rattle.model.proofs.BoolLaws.{true-false, and-left, pick-true, pick-false}
 use Rattle.model.proofs.TestLaws.{and-four, and-five}
-use Rattle.table.specs.Words.{linked, wordOf, rowOf, rowsOf, wordsOf, isRowWord, decodeParts}
-use Rattle.table.proofs.WordLaws.{linked-linkOf, count-decode, rowAt-decode, Canonical, wordsOf-snoc}
+use Rattle.table.specs.Words.{linked, rowOf, rowsOf, isRowWord, withLink, decodeParts, Canonical}
+use Rattle.table.proofs.WordLaws.{linked-linkOf, count-decode, rowAt-decode}
+use Rattle.table.proofs.WordLaws.{rowOf-withLink, isRowWord-withLink, row-word, rowsOf-set, canonical-set, canonical-pop, decode-pop}
 use Rattle.undo.specs.Undoing.{cutIn, madeIn, undoing, FitPre, BackPre, BackPost, AllPre, AllPost}
 use Rattle.undo.specs.declared.undoing.BackEnd.{BackEnd}
-use Rattle.updates.proofs.StateLaws.{row-word, rowsOf-set, canonical-set}
-use Rattle.updates.proofs.InsertLaws.{rows-take}
-use Rattle.updates.proofs.UpdateLaws.{relinked-row, relinked-word}
 
 -- THE RECORD at the front, by its kind
 module _ (x : model.Table) (s : List ℕ) where
@@ -47,49 +44,6 @@ module _ (x : model.Table) (s : List ℕ) where
 
     undone-made : undone x (recordIn s) ≡ model.table (take (model.count x - 1) (x .rows)) (x .marks)
     undone-made = ap (undone x) record-made ∙ pick-false (eqb (getD s 0 0) 67) _ _ (ne-eqb (getD s 0 0) 67 kind)
-
--- THE LAST ROW gone: its word is zero
-module _ (n : ℕ) (ws : List ℕ) (canonical : Canonical n ws) (size : length ws ≡ 512) (few : n ≤ 512) (some-row : 0 < n) where
-  abbrev less : List model.Row
-  less = rowsOf (n - 1) ws
-
-  rows-less : rowsOf (n - 1) (set ws (n - 1) 0) ≡ less
-  rows-less = ap (map rowOf) (take-set-le (n - 1) ws (n - 1) 0 (omega arith))
-
-  counted-less : length less ≡ n - 1
-  counted-less = count-decode (n - 1) ws [] (omega arith)
-
-  rows-last : rowsOf n ws ≡ less ++ (rowOf (getD ws (n - 1) 0) ∷ [])
-  rows-last =
-      let e : n ≡ suc (n - 1) = omega arith in
-      let k : n - 1 < length (rowsOf n ws) = omega (arith, count-decode n ws [] (omega arith)) in
-      sym (take-all n (rowsOf n ws) (omega (arith, count-decode n ws [] (omega arith)))) ∙ ap (λ (j : ℕ). take j (rowsOf n ws)) e ∙
-      take-suc (rowsOf n ws) (n - 1) model.noRow k ∙
-      ap (λ (rs : List model.Row). rs ++ (getD (rowsOf n ws) (n - 1) model.noRow ∷ [])) (rows-take (n - 1) n ws (omega arith)) ∙
-      ap (λ (r : model.Row). less ++ (r ∷ [])) (rowAt-decode n ws [] (omega arith) (n - 1) (omega arith))
-
-  zero-there : getD (wordsOf less) (n - 1) 0 ≡ 0
-  zero-there =
-      let m : length (map wordOf less) + 0 ≡ n - 1 = omega (arith, length-map less wordOf, counted-less) in
-      ap (λ (j : ℕ). getD (wordsOf less) j 0) (sym m) ∙ getD-append-add (map wordOf less) (replicate (512 - length less) 0) 0 0 ∙
-      getD-replicate (512 - length less) 0 0 0 (omega (arith, counted-less))
-
-  put-back : set (wordsOf less) (n - 1) (wordOf (rowOf (getD ws (n - 1) 0))) ≡ ws
-  put-back =
-      ap (λ (j : ℕ). set (wordsOf less) j (wordOf (rowOf (getD ws (n - 1) 0)))) (sym counted-less) ∙
-      sym (wordsOf-snoc less (rowOf (getD ws (n - 1) 0)) (omega (arith, counted-less))) ∙ ap wordsOf (sym rows-last) ∙ canonical
-
-  pub canonical-pop : Canonical (n - 1) (set ws (n - 1) 0)
-  canonical-pop =
-      ap wordsOf rows-less ∙ sym (set-getD (wordsOf less) (n - 1) 0) ∙ ap (set (wordsOf less) (n - 1)) zero-there ∙
-      sym (set-set (wordsOf less) (n - 1) (wordOf (rowOf (getD ws (n - 1) 0))) 0) ∙ ap (λ (v : List ℕ). set v (n - 1) 0) put-back
-
-  pub table-pop : (ms : List ℕ) →
-      decodeParts (n - 1) (set ws (n - 1) 0) ms ≡ model.table (take (model.count (decodeParts n ws ms) - 1) (rowsOf n ws)) (map linked ms)
-  table-pop ms =
-      let e : model.count (decodeParts n ws ms) - 1 ≡ n - 1 = omega (arith, count-decode n ws ms (omega arith)) in
-      ap (λ (rs : List model.Row). model.table rs (map linked ms))
-      (rows-less ∙ sym (ap (λ (j : ℕ). take j (rowsOf n ws)) e ∙ rows-take (n - 1) n ws (omega arith)))
 
 -- ONE RECORD UNDONE
 module _ {ws : List ℕ} {n : ℕ} {s : List ℕ} (pre : BackPre ws n s) (ms : List ℕ) where
@@ -145,7 +99,7 @@ module _ {ws : List ℕ} {n : ℕ} {s : List ℕ} (pre : BackPre ws n s) (ms : L
       abbrev w : ℕ
       w = getD ws (wordAt s 1) 0
 
-      linked-back : (w′ : ℕ) → w′ ≡ w % 4 + 4 * (wordAt s 3 + 1) + 4096 * (w / 4096) →
+      linked-back : (w′ : ℕ) → w′ ≡ withLink w (wordAt s 3 + 1) →
           BackPost ws ms n s (set ws (wordAt s 1) w′) (record { number = 0; place = 0; count = n })
       linked-back w′ word =
           let small : wordAt s 3 + 1 < 1024 = omega (arith, cut-parent-low, cut-row-low, pre .few) in
@@ -156,7 +110,7 @@ module _ {ws : List ℕ} {n : ℕ} {s : List ℕ} (pre : BackPre ws n s) (ms : L
                 ap (λ (rs : List model.Row). model.table rs (map linked ms))
                 (rowsOf-set n ws (pre .canonical) within (wordAt s 1) cut-row-low w′ ∙
                 ap (set (rowsOf n ws) (wordAt s 1))
-                (ap rowOf word ∙ relinked-row w (wordAt s 3 + 1) small ∙
+                (ap rowOf word ∙ rowOf-withLink w (wordAt s 3 + 1) small ∙
                 ap (model.withParent (rowOf w)) (linked-linkOf (some (wordAt s 3)) ∙ sym parent-is) ∙
                 ap (λ (r : model.Row). model.withParent r (parentIn (wordAt s 3))) (sym (rowAt-decode n ws ms within (wordAt s 1)
                 cut-row-low)))) ∙
@@ -164,19 +118,18 @@ module _ {ws : List ℕ} {n : ℕ} {s : List ℕ} (pre : BackPre ws n s) (ms : L
             few = λ f. pre .few;
             canonical = λ f.
                 canonical-set n ws (pre .canonical) within (wordAt s 1) cut-row-low w′
-                (ap isRowWord word ∙ relinked-word w (wordAt s 3 + 1) small (row-word n ws (pre .canonical) within (wordAt s 1)
+                (ap isRowWord word ∙ isRowWord-withLink w (wordAt s 3 + 1) small (row-word n ws (pre .canonical) within (wordAt s 1)
                 cut-row-low));
           }
 
       -- at the numbers read
       pub cut-back : {i q : ℕ} → i ≡ wordAt s 1 → q ≡ wordAt s 3 → {w′ : ℕ} →
-          w′ ≡ getD ws i 0 % 4 + 4 * (q + 1) + 4096 * (getD ws i 0 / 4096) →
+          w′ ≡ withLink (getD ws i 0) (q + 1) →
           BackPost ws ms n s (set ws i w′) (record { number = 0; place = 0; count = n })
       cut-back {i} {q} a b {w′} f =
           subst (λ (j : ℕ). BackPost ws ms n s (set ws j w′) (record { number = 0; place = 0; count = n })) (sym a)
           (linked-back w′
-          (f ∙ ap (λ (j : ℕ). getD ws j 0 % 4 + 4 * (q + 1) + 4096 * (getD ws j 0 / 4096)) a ∙
-          ap (λ (j : ℕ). w % 4 + 4 * (j + 1) + 4096 * (w / 4096)) b))
+          (f ∙ ap (λ (j : ℕ). withLink (getD ws j 0) (q + 1)) a ∙ ap (λ (j : ℕ). withLink w (j + 1)) b))
 
   module _ (kind : getD s 0 0 ≡ 67 → ⊥) where
     pub made-pre : FitPre ws n s 6
@@ -202,7 +155,7 @@ module _ {ws : List ℕ} {n : ℕ} {s : List ℕ} (pre : BackPre ws n s) (ms : L
           record {
             fit = fits-made x s kind ∙ fit;
             link = λ f. absurd (f refl);
-            table = λ f. table-pop n ws (pre .canonical) (pre .rows) (pre .few) made-some ms ∙ sym (undone-made x s kind);
+            table = λ f. decode-pop n ws (pre .canonical) (pre .rows) (pre .few) made-some ms ∙ sym (undone-made x s kind);
             few = λ f. omega (arith, pre .few);
             canonical = λ f. canonical-pop n ws (pre .canonical) (pre .rows) (pre .few) made-some;
           }
@@ -211,7 +164,7 @@ module _ {ws : List ℕ} {n : ℕ} {s : List ℕ} (pre : BackPre ws n s) (ms : L
 pub record Backing (ws₀ ms : List ℕ) (n₀ : ℕ) (b m : List ℕ) (k₀ : ℕ) (ws : List ℕ) (n k : ℕ) : Type 0 where
   pub rows : length ws ≡ 512
   pub few : n ≤ 512
-  pub canonical : wordsOf (rowsOf n ws) ≡ ws
+  pub canonical : Canonical n ws
   pub left : k ≤ k₀
   pub rest : undoAll (decodeParts n ws ms) (undoing b m k) ≡ undoAll (decodeParts n₀ ws₀ ms) (undoing b m k₀)
 

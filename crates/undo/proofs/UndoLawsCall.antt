@@ -9,10 +9,11 @@ use Rattle.model.specs.Refusal.{fine, linkAt}
 use Rattle.model.specs.Undo.{Undo, undo}
 use Rattle.model.proofs.BoolLaws.{pick-true, pick-false}
 use Rattle.table.specs.Words.{decode, fits}
+use Rattle.table.specs.Results.{asItWas}
 use Rattle.table.specs.declared.Table.{Table}
 use Rattle.table.proofs.WordLaws.{encode-decode}
-use Rattle.table.proofs.FitsLaws.{fits-at}
-use Rattle.undo.specs.Undoing.{asItWas, undoneBy, planUndone, PlacesPost, AllPre, AllPost}
+use Rattle.table.proofs.FittedLaws.{fits-at}
+use Rattle.undo.specs.Undoing.{undoneBy, planUndone, PlacesPost, AllPre, AllPost}
 use Rattle.undo.specs.declared.undoing.FormEnd.{FormEnd}
 use Rattle.undo.specs.declared.undoing.BackEnd.{BackEnd}
 

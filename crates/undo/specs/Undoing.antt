@@ -10,10 +10,9 @@ use Rattle.model.specs.Table as model
 use Rattle.model.specs.Stored.{wordAt, parentIn}
 use Rattle.model.specs.History.{Record, cutKind}
 use Rattle.model.specs.Undo.{historySize, recordIn, Placed, formFault, undoFits, undone, Undo, refused, back, undoAll, undo}
-use Rattle.table.specs.Words.{rowsOf, wordsOf, decode, decodeParts, fits}
+use Rattle.table.specs.Words.{decode, decodeParts, Canonical, fits}
 use Rattle.model.specs.Refusal.{faultAt}
-use Rattle.table.specs.Results.{result}
-pub use Rattle.table.specs.Results.{asItWas}
+use Rattle.table.specs.Results.{result, asItWas}
 use Rattle.table.specs.declared.Table.{Table}
 use Rattle.table.specs.declared.TableResult.{TableResult}
 use Rattle.undo.specs.declared.undoing.FormEnd.{FormEnd}
@@ -66,7 +65,7 @@ pub record FitPre (ws : List ℕ) (n : ℕ) (s : List ℕ) (k : ℕ) : Type 0 wh
 pub record BackPre (ws : List ℕ) (n : ℕ) (s : List ℕ) : Type 0 where
   pub rows : length ws ≡ 512
   pub few : n ≤ 512
-  pub canonical : wordsOf (rowsOf n ws) ≡ ws
+  pub canonical : Canonical n ws
   pub whole : historySize (getD s 0 0) ≤ length s
 
 pub record BackPost (ws ms : List ℕ) (n : ℕ) (s ws′ : List ℕ) (r : BackEnd) : Type 0 where
@@ -74,13 +73,13 @@ pub record BackPost (ws ms : List ℕ) (n : ℕ) (s ws′ : List ℕ) (r : BackE
   pub link : (r .number ≡ 0 → ⊥) → r .number ≡ 6
   pub table : r .number ≡ 0 → decodeParts (r .count) ws′ ms ≡ undone (decodeParts n ws ms) (recordIn s)
   pub few : r .number ≡ 0 → r .count ≤ 512
-  pub canonical : r .number ≡ 0 → wordsOf (rowsOf (r .count) ws′) ≡ ws′
+  pub canonical : r .number ≡ 0 → Canonical (r .count) ws′
 
 -- and all of them
 pub record AllPre (ws : List ℕ) (n : ℕ) (b m : List ℕ) (k : ℕ) : Type 0 where
   pub rows : length ws ≡ 512
   pub few : n ≤ 512
-  pub canonical : wordsOf (rowsOf n ws) ≡ ws
+  pub canonical : Canonical n ws
   pub places : length m ≡ 2048
   pub records : k ≤ 2048
   pub whole : Whole b m k
@@ -89,4 +88,4 @@ pub record AllPost (ws ms : List ℕ) (n : ℕ) (b m : List ℕ) (k : ℕ) (ws�
   pub fine : r .number ≡ 0 → back (decodeParts (r .count) ws′ ms) ≡ undoAll (decodeParts n ws ms) (undoing b m k)
   pub stop : (r .number ≡ 0 → ⊥) → refused (refusal.fault (r .number) (r .place)) ≡ undoAll (decodeParts n ws ms) (undoing b m k)
   pub few : r .number ≡ 0 → r .count ≤ 512
-  pub canonical : r .number ≡ 0 → wordsOf (rowsOf (r .count) ws′) ≡ ws′
+  pub canonical : r .number ≡ 0 → Canonical (r .count) ws′

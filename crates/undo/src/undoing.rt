@@ -13,7 +13,6 @@ use table::marks;
 use table::number;
 use table::words;
 use updates::history;
-use updates::update;
 
 // The form's end: the refusal's number, or 0, and place; the records found.
 pub struct FormEnd {
@@ -177,7 +176,7 @@ fn undo_record(rows: &mut [u32], marks: &[u16], count: usize, s: &[u8]) -> BackE
         }
         let row = number::number_at(s, 1);
         let parent = number::number_at(s, 3);
-        rows[row] = update::relinked(rows[row], parent + 1);
+        rows[row] = words::relinked(rows[row], parent + 1);
         return BackEnd {
             number: 0,
             place: 0,

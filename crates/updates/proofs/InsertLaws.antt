@@ -1,15 +1,15 @@
 -- Insert's parts, from the tests on each way out: one row of the scan, and the scan past the top.
-use mathlib.Core.Path.{_≡_, refl, ap, sym, _∙_, subst}
+use mathlib.Core.Path.{_≡_, ap, sym, _∙_, subst}
 use mathlib.Core.Bool.{true, false}
 use mathlib.Core.Logic.{_⊎_, inl, inr, ⊎-elim}
 use mathlib.Core.List.{List, [], _∷_, map}
 use mathlib.Core.Option.{some}
-use Prim.Native.Nat.{ℕ, zero, suc, _+_, _*_, _-_, _/_, _%_, _≤_, _<_}
+use Prim.Native.Nat.{ℕ, _+_, _-_, _/_, _%_, _≤_, _<_}
 use native.Mathlib.Omega.{arith}
 use native.Mathlib.Numerals.{add-one}
 use lib.Dec.{ltb, eqb}
-use lib.ListN.{length, getD, take, set}
-use lib.Seq.{getD-set-same, getD-set-other, ext-getD, take-take}
+use lib.ListN.{length, getD, set}
+use lib.Seq.{getD-set-same, getD-set-other, ext-getD}
 use borrow.Author.Tests.{lt-ltb, eq-eqb, ne-eqb, ltb-true, ltb-false, eqb-true, eqb-false}
 use Rattle.model.specs.Base.{pick}
 use Rattle.model.specs.Table as model
@@ -17,14 +17,15 @@ use Rattle.model.specs.Run.{State, Out, stop, gives, newRow, withMade, thenRow}
 use Rattle.model.proofs.BoolLaws.{by-cases, pick-true, pick-false, and-both}
 use Rattle.model.proofs.TableLaws.{isElement-by}
 use Rattle.model.proofs.GrowLaws.{count-withRow, rowAt-withRow-old, rowAt-withRow-new}
-use Rattle.table.specs.Words.{linked, rowOf, rowsOf, isRowWord, decodeParts}
-use Rattle.table.proofs.WordLaws.{count-decode, rowAt-decode}
+use Rattle.table.specs.Words.{linked, rowOf, rowsOf, isRowWord, withLink, decodeParts}
+use Rattle.table.proofs.WordLaws.{count-decode, rowAt-decode, rows-take, row-word, rowOf-withLink, isRowWord-withLink}
+use Rattle.table.proofs.DecodeLaws.{parent-at, link-low}
 use Rattle.updates.specs.State.{stateOf, outcome, Held, Updated}
 use Rattle.updates.specs.Updating.{NewPre}
 use Rattle.updates.specs.Inserting.{before, nextLink, copyBy, IsCopy, Mapped, NextPre, NextPost}
 use Rattle.updates.specs.declared.state.Progress.{Progress}
-use Rattle.updates.proofs.StateLaws.{row-word, held-count, after-self, outcome-gives}
-use Rattle.updates.proofs.UpdateLaws.{relinked-row, relinked-word, newRow-full, newRow-over, newRow-room}
+use Rattle.updates.proofs.StateLaws.{held-count, after-self, outcome-gives}
+use Rattle.updates.proofs.UpdateLaws.{newRow-full, newRow-over, newRow-room}
 use Rattle.updates.proofs.InsertLawsScan.{linked-at}
 
 -- STATES after a new row
@@ -51,14 +52,6 @@ outcome-then : (z : ℕ) (v ws ms h : List ℕ) (p : Progress) → outcome z [] 
 outcome-then z v ws ms h p = by-cases (eqb (p .number) 0) (λ e. rw e) (λ e. rw e)
 
 -- ROWS BELOW a count that were there before
-take-map : {A B : Type 0} (f : A → B) (n : ℕ) (l : List A) → take n (map f l) ≡ map f (take n l)
-take-map f zero l = refl
-take-map f (suc n) [] = refl
-take-map f (suc n) (x ∷ l) = ap (λ (t : List _). f x ∷ t) (take-map f n l)
-
-pub rows-take : (old n : ℕ) (ws : List ℕ) → old ≤ n → take old (rowsOf n ws) ≡ rowsOf old ws
-rows-take old n ws l = take-map rowOf old (take n ws) ∙ ap (map rowOf) (take-take old n ws l)
-
 pub before-decode : (old : ℕ) (ws ms h : List ℕ) (p : Progress) → old ≤ p .count → before old (stateOf ws ms h p) ≡ decodeParts old ws ms
 before-decode old ws ms h p l =
     ap (λ (rs : List model.Row). model.table rs (map linked ms)) (rows-take old (p .count) ws l)
@@ -120,12 +113,17 @@ module _ {ws h m : List ℕ} {p : Progress} {t j : ℕ} (pre : NextPre ws h m p 
   row-here = rowAt-decode (p .count) ws [] fits j (pre .row)
 
   parent-here : (l ≡ 0 → ⊥) → (l - 1 < j) × (model.rowAt (decodeParts (p .count) ws []) (l - 1) .isLeaf ≡ false)
-  parent-here f = pre .held .tree .parents j (l - 1) (ap (λ (r : model.Row). r .parent) row-here ∙ rw (ne-eqb l 0 f))
+  parent-here f = pre .held .tree .parents j (l - 1) (parent-at (p .count) ws [] fits j (pre .row) f)
 
   pub next-bound : l ≤ length m
   next-bound =
-      by-cases (eqb l 0) (λ e. omega (arith, eqb-true l 0 e))
-      (λ e. omega (arith, parent-here (eqb-false l 0 e) .0, pre .size, pre .held .few, pre .row))
+      omega (
+        arith,
+        link-low (p .count) ws [] fits j (pre .row) (λ q e. pre .held .tree .parents j q e .0),
+        pre .size,
+        pre .held .few,
+        pre .row,
+      )
 
   pub next-none : link ≡ 0 → NextPost ws h m p t j ws h (set m j 65535) p
   next-none e =
@@ -160,9 +158,9 @@ module _ {ws h m : List ℕ} {p : Progress} {t j : ℕ} (pre : NextPre ws h m p 
         (isElement-by (decodeParts (p .count) ws []) c (omega (arith, copy-is .0, held-count (pre .held) []))
         (copy-is .1 ∙ parent-here (k .parent) .1))
 
-    module _ {v : ℕ} (word : v ≡ w % 4 + 4 * link + 4096 * (w / 4096)) where
+    module _ {v : ℕ} (word : v ≡ withLink w link) where
       row-copy : rowOf v ≡ model.withParent (rowOf w) (linked link)
-      row-copy = ap rowOf word ∙ relinked-row w link (omega (arith, next-small))
+      row-copy = ap rowOf word ∙ rowOf-withLink w link (omega (arith, next-small))
 
       pub next-pre : NewPre ws h p v
       next-pre =
@@ -170,7 +168,7 @@ module _ {ws h m : List ℕ} {p : Progress} {t j : ℕ} (pre : NextPre ws h m p 
             held = pre .held;
             word =
                 ap isRowWord word ∙
-                relinked-word w link (omega (arith, next-small)) (row-word (p .count) ws (pre .held .canonical) fits j (pre .row));
+                isRowWord-withLink w link (omega (arith, next-small)) (row-word (p .count) ws (pre .held .canonical) fits j (pre .row));
             tag =
                 ap model.tagFits row-copy ∙ ap model.tagFits (sym row-here) ∙
                 pre .held .tree .tags j (omega (arith, pre .row, held-count (pre .held) []));

@@ -3,7 +3,7 @@ use mathlib.Core.Path.{_≡_, refl, ap, sym, _∙_, subst}
 use mathlib.Core.Bool.{Bool, true, false, _&&_, not}
 use mathlib.Core.List.{List, [], _∷_, map}
 use mathlib.Core.Option.{some}
-use Prim.Native.Nat.{ℕ, _+_, _*_, _-_, _/_, _%_, _≤_, _<_}
+use Prim.Native.Nat.{ℕ, _+_, _-_, _%_, _≤_, _<_}
 use native.Mathlib.Numerals.{add-one}
 use native.Mathlib.Omega.{arith}
 use lib.Dec.{ltb, eqb}
@@ -15,17 +15,16 @@ use Rattle.model.specs.Run.{State, Out, newRow, withMade, thenRow, Copied, copy
 use Rattle.model.specs.Run.{descendantsFrom, subtree, copyAll, inserted}
 use Rattle.model.proofs.BoolLaws.{and-both, pick-true}
 use Rattle.model.proofs.TableLaws.{isElement-at, isElement-by}
-use Rattle.table.specs.Words.{linked, rowOf, rowsOf, isRowWord, decodeParts}
-use Rattle.table.proofs.WordLaws.{linked-linkOf, count-decode, rowAt-decode}
+use Rattle.table.specs.Words.{linked, rowOf, rowsOf, isRowWord, withLink, decodeParts}
+use Rattle.table.proofs.WordLaws.{linked-linkOf, count-decode, rowAt-decode, row-word, rowOf-withLink, isRowWord-withLink}
 use Rattle.table.proofs.DecodeLaws.{element-kind}
 use Rattle.updates.specs.State.{stateOf, outcome, After, Updated, stopped}
 use Rattle.updates.specs.Updating.{NewPre}
 use Rattle.updates.specs.Inserting.{before, copiedIn, IsCopy, RestPre, RestPost, ItemPre, ItemPost, ItemsPre, ItemsPost, InsertPre}
 use Rattle.updates.specs.declared.state.Progress.{Progress}
-use Rattle.updates.proofs.StateLaws.{row-word, held-count, after-self, after-then, outcome-gives, outcome-stop, updated-stopped}
+use Rattle.updates.proofs.StateLaws.{held-count, after-self, after-then, outcome-gives, outcome-stop, updated-stopped}
 use Rattle.updates.proofs.InsertLawsScan.{descendants-past}
 use Rattle.updates.proofs.InsertLaws.{made-state, made-count, made-old, made-new, before-decode, row-before, rows-kept}
-use Rattle.updates.proofs.UpdateLaws.{relinked-row, relinked-word}
 use Rattle.updates.proofs.InsertLawsRest.{lower-before}
 
 -- THE TOP FIRST, then the rows past it
@@ -64,13 +63,13 @@ module _ {ws h m : List ℕ} {p : Progress} {old t g : ℕ} (pre : ItemPre ws h 
   row-top : model.rowAt (decodeParts (p .count) ws []) t ≡ rowOf (getD ws t 0)
   row-top = rowAt-decode (p .count) ws [] fits t (omega (arith, pre .top, pre .room))
 
-  module _ {v : ℕ} (word : v ≡ getD ws t 0 % 4 + 4 * (g + 1) + 4096 * (getD ws t 0 / 4096)) where
+  module _ {v : ℕ} (word : v ≡ withLink (getD ws t 0) (g + 1)) where
     small : g + 1 < 1024
     small = omega (arith, item-target, pre .held .few)
 
     row-copy : rowOf v ≡ model.withParent (rowOf (getD ws t 0)) (some g)
     row-copy =
-        ap rowOf word ∙ relinked-row (getD ws t 0) (g + 1) small ∙
+        ap rowOf word ∙ rowOf-withLink (getD ws t 0) (g + 1) small ∙
         ap (model.withParent (rowOf (getD ws t 0))) (linked-linkOf (some g))
 
     pub item-pre : NewPre ws h p v
@@ -78,7 +77,9 @@ module _ {ws h m : List ℕ} {p : Progress} {old t g : ℕ} (pre : ItemPre ws h 
         let k : t < p .count = omega (arith, pre .top, pre .room) in
         record {
           held = pre .held;
-          word = ap isRowWord word ∙ relinked-word (getD ws t 0) (g + 1) small (row-word (p .count) ws (pre .held .canonical) fits t k);
+          word =
+              ap isRowWord word ∙
+              isRowWord-withLink (getD ws t 0) (g + 1) small (row-word (p .count) ws (pre .held .canonical) fits t k);
           tag =
               ap model.tagFits row-copy ∙ ap model.tagFits (sym row-top) ∙
               pre .held .tree .tags t (omega (arith, held-count (pre .held) []));

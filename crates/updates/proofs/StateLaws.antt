@@ -1,68 +1,27 @@
--- What is held, and how it goes on: the start, a record appended, a word set; updates one after the other, and refused.
+-- What is held, and how it goes on: the start, a record appended; updates one after the other, and refused.
 use mathlib.Core.Path.{_≡_, refl, ap, sym, _∙_}
 use mathlib.Core.Bool.{true}
-use mathlib.Core.List.{List, [], _∷_, _++_, map}
+use mathlib.Core.List.{List, [], _∷_, _++_}
 use mathlib.Core.Option.{Option·none-ne-some}
-use Prim.Native.Nat.{ℕ, zero, suc, _+_, _*_, _-_, _/_, _%_, _≤_, _<_}
+use Prim.Native.Nat.{ℕ, suc, _+_, _≤_, _<_}
 use native.Mathlib.Omega.{arith}
 use lib.Dec.{eqb}
-use lib.ListN.{length, getD, take, drop, set, replicate, length-map, length-set, List·getD-append}
-use lib.Seq.{set-append-left, take-set-lt}
-use borrow.Author.Tests.{eq-eqb, ne-eqb, eqb-true}
+use lib.ListN.{length, take, drop}
+use borrow.Author.Tests.{eq-eqb, ne-eqb}
 use Rattle.model.specs.Refusal.{fault}
 use Rattle.model.specs.Table as model
 use Rattle.model.specs.History.{Record, recordBytes, historyBytes, IsInRange, times}
 use Rattle.model.specs.Run.{State, state, Out, stop, gives}
-use Rattle.model.proofs.BoolLaws.{pick-true, pick-false, by-cases}
+use Rattle.model.proofs.BoolLaws.{pick-true, pick-false}
 use Rattle.model.specs.Table.{Tree}
 use Rattle.model.specs.Base.{nothing, over}
-use Rattle.table.specs.Words.{linkOf, linked, wordOf, rowOf, rowsOf, wordsOf, isRowWord, decodeParts, partsFit}
-use Rattle.table.proofs.WordLaws.{wordOf-rowOf, count-decode, rowAt-decode, Canonical}
-use Rattle.model.proofs.ListLaws.{map-set, length-over}
-use Rattle.table.proofs.FitsLaws.{fits-at}
+use Rattle.table.specs.Words.{decodeParts, partsFit}
+use Rattle.table.proofs.WordLaws.{count-decode}
+use Rattle.model.proofs.ListLaws.{length-over}
+use Rattle.table.proofs.FittedLaws.{fits-at}
 use Rattle.updates.specs.State.{recordsFrom, recordsIn, started, stopped, stateOf, outcome, Held, After, Updated}
 use Rattle.updates.specs.declared.state.Progress.{Progress}
 use Rattle.updates.proofs.HistoryLaws.{recordsIn-push, take-over, drop-over}
-
--- WORDS: each word in use is a row's
-module _ (n : ℕ) (ws : List ℕ) (canonical : Canonical n ws) (within : n ≤ length ws) (i : ℕ) (l : i < n) where
-  word-back : wordOf (rowOf (getD ws i 0)) ≡ getD ws i 0
-  word-back =
-      let k : length (rowsOf n ws) ≡ n = count-decode n ws [] within in
-      let m : length (map wordOf (rowsOf n ws)) ≡ n = length-map (rowsOf n ws) wordOf ∙ k in
-      sym (ap (λ (v : List ℕ). getD v i 0) (sym canonical) ∙
-      List·getD-append (map wordOf (rowsOf n ws)) (replicate (512 - length (rowsOf n ws)) 0) 0 i (omega arith) ∙
-      getD-word (rowsOf n ws) i (omega arith) ∙ ap wordOf (rowAt-decode n ws [] within i l))
-    where
-      getD-word : (rs : List model.Row) (j : ℕ) → j < length rs → getD (map wordOf rs) j 0 ≡ wordOf (getD rs j model.noRow)
-      getD-word [] j h = absurd (omega arith)
-      getD-word (r ∷ rs) zero h = refl
-      getD-word (r ∷ rs) (suc j) h = getD-word rs j (omega arith)
-
-  pub row-word : isRowWord (getD ws i 0) ≡ true
-  row-word = by-cases (eqb (getD ws i 0 % 4) 2) (λ e. kind (eqb-true (getD ws i 0 % 4) 2 e)) (λ e. kind′ (rw e at word-back))
-    where
-      kind : getD ws i 0 % 4 ≡ 2 → isRowWord (getD ws i 0) ≡ true
-      kind e = rw e
-
-      kind′ : 1 + 4 * linkOf (linked (getD ws i 0 / 4 % 1024)) + 4096 * (getD ws i 0 / 4096) ≡ getD ws i 0 → isRowWord (getD ws i 0) ≡ true
-      kind′ e = let k : getD ws i 0 % 4 ≡ 1 = omega arith in rw k
-
-  -- a word set is a row set
-  module _ (w : ℕ) where
-    pub rowsOf-set : rowsOf n (set ws i w) ≡ set (rowsOf n ws) i (rowOf w)
-    rowsOf-set = ap (map rowOf) (take-set-lt n ws i w l) ∙ map-set rowOf (take n ws) i w
-
-    pub canonical-set : isRowWord w ≡ true → Canonical n (set ws i w)
-    canonical-set h =
-        let k : length (rowsOf n ws) ≡ n = count-decode n ws [] within in
-        let m : length (map wordOf (rowsOf n ws)) ≡ n = length-map (rowsOf n ws) wordOf ∙ k in
-        ap wordsOf rowsOf-set ∙
-        ap (λ (v : List ℕ). v ++ replicate (512 - length (set (rowsOf n ws) i (rowOf w))) 0)
-        (map-set wordOf (rowsOf n ws) i (rowOf w) ∙ ap (set (map wordOf (rowsOf n ws)) i) (wordOf-rowOf w h)) ∙
-        ap (λ (j : ℕ). set (map wordOf (rowsOf n ws)) i w ++ replicate (512 - j) 0) (length-set (rowsOf n ws) i (rowOf w)) ∙
-        sym (set-append-left (map wordOf (rowsOf n ws)) (replicate (512 - length (rowsOf n ws)) 0) i w (omega arith)) ∙
-        ap (λ (v : List ℕ). set v i w) canonical
 
 -- A RECORD APPENDED to what is held
 module _ {ws h : List ℕ} {p : Progress} (held : Held ws h p) (r : Record) (n : ℕ) (size : length (recordBytes r) ≡ n) (small : n ≤ 6)

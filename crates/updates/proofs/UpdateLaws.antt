@@ -1,35 +1,36 @@
 -- A new row and a cut link, from the tests on each way out: the model's update, and what is held after it.
 use mathlib.Core.Path.{_≡_, refl, ap, sym, _∙_, subst}
-use mathlib.Core.Bool.{Bool, true, false}
+use mathlib.Core.Bool.{Bool, true}
 use mathlib.Core.List.{List, [], _∷_, _++_, map}
 use mathlib.Core.Option.{Option, none, some, Option·none-ne-some}
-use Prim.Native.Nat.{ℕ, _+_, _*_, _-_, _/_, _%_, _≤_, _<_}
+use Prim.Native.Nat.{ℕ, _+_, _-_, _/_, _%_, _≤_, _<_}
 use native.Mathlib.Omega.{arith}
-use lib.Dec.{ltb, leb, eqb}
+use lib.Dec.{ltb}
 use native.Mathlib.Numerals.{add-one}
 use lib.ListN.{length, getD, take, drop, set, length-set, drop-of-length-le}
 use lib.Seq.{drop-cons}
-use borrow.Author.Tests.{lt-ltb, le-ltb, ne-eqb, leb-true}
-use Rattle.model.specs.Base.{isIn, over}
+use borrow.Author.Tests.{lt-ltb, le-ltb}
+use Rattle.model.specs.Base.{over}
 use Rattle.model.specs.Refusal.{fault}
 use Rattle.model.specs.Table as model
 use Rattle.model.specs.History.{Record, recordBytes, IsInRange}
 use Rattle.model.specs.Run.{State, state, Out, stop, gives, newRow, loose, withMade, made, cutRecord, cutRow, cutBy, cutAll, thenRow}
-use Rattle.model.proofs.BoolLaws.{and-right, by-cases}
+use Rattle.model.proofs.BoolLaws.{by-cases}
 use Rattle.model.specs.Table.{Tree}
 use Rattle.model.proofs.GrowLaws.{tree-withRow, tree-linked}
 use Rattle.model.proofs.FormLaws.{length-recordBytes}
 use Rattle.model.proofs.HistoryLaws.{isCut-made}
 use Rattle.model.proofs.UndoLaws.{made-inRange}
-use Rattle.table.specs.Words.{linkOf, linked, rowOf, wordOf, rowsOf, wordsOf, isRowWord, decodeParts}
-use Rattle.table.proofs.WordLaws.{linkOf-linked, rowOf-wordOf, wordOf-rowOf, rowAt-decode, canonical-push}
-use Rattle.table.proofs.DecodeLaws.{decode-row}
+use Rattle.table.specs.Words.{linkOf, linked, rowOf, wordOf, rowsOf, wordsOf, isRowWord, withLink, decodeParts}
+use Rattle.table.proofs.WordLaws.{linkOf-linked, rowOf-wordOf, wordOf-rowOf, isRowWord-wordOf, rowAt-decode, canonical-push}
+use Rattle.table.proofs.WordLaws.{rowOf-withLink, isRowWord-withLink, row-word, rowsOf-set, canonical-set}
+use Rattle.table.proofs.DecodeLaws.{decode-row, parent-linked, parent-at}
 use Rattle.updates.specs.State.{recordsIn, stateOf, outcome, Recorded, Held, After, Updated, stopped}
 use Rattle.updates.specs.Updating.{NewPre, CutPre}
 use Rattle.updates.specs.declared.state.Progress.{Progress}
 use Rattle.updates.proofs.HistoryLaws.{recorded-made, recorded-cut}
 use Rattle.updates.proofs.StateLaws.{append-area, append-rest, append-written, append-records, held-count, updated-stopped}
-use Rattle.updates.proofs.StateLaws.{row-word, rowsOf-set, canonical-set, after-self, after-then, outcome-gives, outcome-stop}
+use Rattle.updates.proofs.StateLaws.{after-self, after-then, outcome-gives, outcome-stop}
 
 -- NEW ROWS in the model
 module _ (z : ℕ) (r : model.Row) (s : State) where
@@ -42,15 +43,6 @@ module _ (z : ℕ) (r : model.Row) (s : State) where
   pub newRow-room : model.count (s .plan) < 512 → length (s .history) < 2048 →
       newRow z r s ≡ gives (model.count (s .plan) ∷ []) (withMade s r)
   newRow-room h l = rw (lt-ltb (model.count (s .plan)) 512 h, lt-ltb (length (s .history)) 2048 l)
-
--- a row's tag is a byte
-pub tag-byte : (w : ℕ) → model.tagFits (rowOf w) ≡ true → w / 4096 < 256
-tag-byte w h =
-    omega (
-      arith,
-      by-cases (eqb (w % 4) 2) (λ e. leb-true (w / 4096) 255 (rw e at h))
-          (λ e. leb-true (w / 4096) 255 (and-right (leb 1 (w / 4096)) (leb (w / 4096) 255) (rw e at h))),
-    )
 
 -- A ROW MADE
 module _ {ws h : List ℕ} {p : Progress} {w : ℕ} (pre : NewPre ws h p w) where
@@ -160,11 +152,7 @@ module _ (b : Bool) (t : ℕ) {w : ℕ} (e : w ≡ wordOf (loose b t)) where
   loose-row = ap rowOf e ∙ rowOf-wordOf (loose b t) (omega arith)
 
   loose-word : isRowWord w ≡ true
-  loose-word = ap isRowWord e ∙ go b
-    where
-      go : (z : Bool) → isRowWord (wordOf (loose z t)) ≡ true
-      go true = let k : (2 + 4 * 0 + 4096 * t) % 4 ≡ 2 = omega arith in rw k
-      go false = let k : (1 + 4 * 0 + 4096 * t) % 4 ≡ 1 = omega arith in rw k
+  loose-word = ap isRowWord e ∙ isRowWord-wordOf (loose b t)
 
   pub loose-pre : {ws h : List ℕ} {p : Progress} → Held ws h p → model.tagFits (loose b t) ≡ true → NewPre ws h p w
   loose-pre {ws} {h} {p} held f =
@@ -194,25 +182,6 @@ module _ (z i : ℕ) (is : List ℕ) (s : State) where
     unfolding cutAll
     cut-room h = rw (e, lt-ltb (length (s .history)) 2048 h)
 
--- A WORD with another link is the row with another parent
-module _ (w l : ℕ) (small : l < 1024) where
-  abbrev other : ℕ
-  other = w % 4 + 4 * l + 4096 * (w / 4096)
-
-  other-kind : other % 4 ≡ w % 4
-  other-kind = omega arith
-
-  pub relinked-row : rowOf other ≡ model.withParent (rowOf w) (linked l)
-  relinked-row =
-      let b : other / 4096 ≡ w / 4096 = omega arith in
-      let d : other / 4 ≡ l + 1024 * (w / 4096) = omega arith in
-      let e : (l + 1024 * (w / 4096)) % 1024 ≡ l = omega arith in
-      let c : other / 4 % 1024 ≡ l = ap (λ (j : ℕ). j % 1024) d ∙ e in
-      λ i. record { isLeaf = eqb (other-kind i) 2; tag = b i; parent = linked (c i) }
-
-  pub relinked-word : isRowWord w ≡ true → isRowWord other ≡ true
-  relinked-word h = ap (isIn 1 2) other-kind ∙ h
-
 -- A LINK CUT
 module _ {ws h : List ℕ} {p : Progress} {i : ℕ} (pre : CutPre ws h p i) where
   abbrev word : ℕ
@@ -224,20 +193,19 @@ module _ {ws h : List ℕ} {p : Progress} {i : ℕ} (pre : CutPre ws h p i) wher
   cut-within : p .count ≤ length ws
   cut-within = omega (arith, pre .held .few, pre .held .rows)
 
-  row-here : (ms : List ℕ) → model.rowAt (decodeParts (p .count) ws ms) i .parent ≡ linked link
-  row-here ms = ap (λ (r : model.Row). r .parent) (rowAt-decode (p .count) ws ms cut-within i (pre .row))
-
   pub cut-root : link ≡ 0 → Updated (λ z s. cutAll z (i ∷ []) s) [] ws h p ws h p
   unfolding cutAll
   cut-root e =
       record {
-        same = λ z ms. outcome-gives z [] ws ms h p (pre .held .fine) ∙ sym (cut-none z i [] (stateOf ws ms h p) (row-here ms ∙ rw e));
+        same = λ z ms.
+            outcome-gives z [] ws ms h p (pre .held .fine) ∙
+            sym (cut-none z i [] (stateOf ws ms h p) (parent-linked (p .count) ws ms cut-within i (pre .row) ∙ rw e));
         after = λ q. after-self (pre .held);
       }
 
   module _ (n : link ≡ 0 → ⊥) where
     parent-here : (ms : List ℕ) → model.rowAt (decodeParts (p .count) ws ms) i .parent ≡ some (link - 1)
-    parent-here ms = row-here ms ∙ rw (ne-eqb link 0 n)
+    parent-here ms = parent-at (p .count) ws ms cut-within i (pre .row) n
 
     pub cut-low : link - 1 < 512
     cut-low = omega (arith, pre .held .tree .parents i (link - 1) (parent-here []) .0, pre .row, pre .held .few)
@@ -253,7 +221,7 @@ module _ {ws h : List ℕ} {p : Progress} {i : ℕ} (pre : CutPre ws h p i) wher
       cutEntry = cutRecord i (link - 1)
 
       abbrev cutWord : ℕ
-      cutWord = word % 4 + 4 * 0 + 4096 * (word / 4096)
+      cutWord = withLink word 0
 
       abbrev cutRows : List ℕ
       cutRows = set ws i cutWord
@@ -278,7 +246,7 @@ module _ {ws h : List ℕ} {p : Progress} {i : ℕ} (pre : CutPre ws h p i) wher
           ap (λ (rs : List model.Row). model.table rs (map linked ms))
           (rowsOf-set (p .count) ws (pre .held .canonical) cut-within i (pre .row) cutWord ∙
           ap (set (rowsOf (p .count) ws) i)
-          (relinked-row word 0 (omega arith) ∙
+          (rowOf-withLink word 0 (omega arith) ∙
           ap (λ (r : model.Row). model.withParent r none) (sym (rowAt-decode (p .count) ws ms cut-within i (pre .row)))))
 
       state-cut : (ms : List ℕ) → stateOf cutRows ms cutHistory cutAfter ≡ cutRow (stateOf ws ms h p) i (link - 1)
@@ -302,7 +270,7 @@ module _ {ws h : List ℕ} {p : Progress} {i : ℕ} (pre : CutPre ws h p i) wher
             few = pre .held .few;
             canonical =
                 canonical-set (p .count) ws (pre .held .canonical) cut-within i (pre .row) cutWord
-                (relinked-word word 0 (omega arith) (row-word (p .count) ws (pre .held .canonical) cut-within i (pre .row)));
+                (isRowWord-withLink word 0 (omega arith) (row-word (p .count) ws (pre .held .canonical) cut-within i (pre .row)));
             tree = tree-cut;
             size = omega (arith, pre .held .size);
             history =

@@ -11,7 +11,7 @@ use Rattle.model.specs.History.{Record, historyBytes, AllInRange, times, isCut}
 use Rattle.model.specs.Run.{State, state, Out, stop, gives}
 use Rattle.model.specs.Undo.{historySize, recordIn}
 use Rattle.model.specs.Table.{Tree}
-use Rattle.table.specs.Words.{rowsOf, wordsOf, decodeParts}
+use Rattle.table.specs.Words.{decodeParts, Canonical}
 use Rattle.updates.specs.declared.state.Progress.{Progress}
 
 -- RECORDS read off bytes, one after the other; fuel: as many as there are bytes
@@ -51,7 +51,7 @@ pub record Held (ws h : List ℕ) (p : Progress) : Type 0 where
   pub rows : length ws ≡ maxRows
   pub area : historyNeed ≤ length h
   pub few : p .count ≤ maxRows
-  pub canonical : wordsOf (rowsOf (p .count) ws) ≡ ws
+  pub canonical : Canonical (p .count) ws
   pub tree : Tree (decodeParts (p .count) ws [])
   pub size : p .bytes ≤ 6 * (p .made + p .cut)
   pub history : Recorded (take (p .bytes) h) (p .made) (p .cut)

@@ -52,7 +52,7 @@ fn copy_next(
     }
     let count = p.count;
     map[j] = count as u16;
-    update::new_row(rows, history, p, update::relinked(w, link))
+    update::new_row(rows, history, p, words::relinked(w, link))
 }
 
 // The rows past top and below old, each under its parent's copy.
@@ -95,7 +95,7 @@ fn copy_item(
 {
     let count = p.count;
     map[top] = count as u16;
-    let w = update::relinked(rows[top], target + 1);
+    let w = words::relinked(rows[top], target + 1);
     let next = update::new_row(rows, history, p, w);
     if next.number != 0 {
         return next;

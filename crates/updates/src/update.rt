@@ -1,7 +1,6 @@
 // The updates of single rows: a new row, and delete.
-ghost use mathlib.Core.Path.{_≡_};
 ghost use mathlib.Core.List.{[], _∷_};
-ghost use Prim.Native.Nat.{_+_, _*_, _/_, _%_, _<_};
+ghost use Prim.Native.Nat.{_+_, _<_};
 ghost use mathlib.Core.Bool.{true, false};
 ghost use Rattle.updates.specs.State.{Held};
 ghost use Rattle.updates.specs.Updating.{NewPre, NewPost, ElementPre, LoosePost, CutPre, DeletePre, DeletePost};
@@ -54,14 +53,6 @@ pub fn new_leaf(rows: &mut [u32], history: &mut [u8], p: Progress, value: u8) ->
     new_row(rows, history, p, words::word(words::LEAF, 0, value as u32))
 }
 
-// A row's word with another link to its parent.
-pub fn relinked(w: u32, link: usize) -> u32
-    requires { ⌜ link < 1024 ⌝ }
-    ensures { λ r. ⌜ r ≡ w % 4 + 4 * link + 4096 * (w / 4096) ⌝ }
-{
-    w % 4 + 4 * (link as u32) + 4096 * (w / 4096)
-}
-
 // Row i cut from its parent, if it has one, with a record: 9 when the history is full.
 fn cut_row(rows: &mut [u32], history: &mut [u8], p: Progress, i: usize) -> Progress
     requires { ⌜ CutPre (now rows) (now history) p i ⌝ }
@@ -76,7 +67,7 @@ fn cut_row(rows: &mut [u32], history: &mut [u8], p: Progress, i: usize) -> Progr
     if Table::HISTORY_RECORDS <= p.made + p.cut {
         return p.refused(Fault::HISTORY);
     }
-    rows[i] = relinked(w, 0);
+    rows[i] = words::relinked(w, 0);
     history::put_cut(history, at, i, link - 1);
     Progress {
         number: 0,

@@ -1,5 +1,5 @@
 -- `read_plan` answers the plan read, or its refusal and the empty table.
-use Rattle.plan.proofs.ReadingLaws.{plan-refused, plan-read}
+use Rattle.plan.proofs.ReadPlanLaws.{plan-refused, plan-read}
 use mathlib.Core.Path.{refl}
 use borrow.Author.Needs.{needs}
 use Rattle.plan.proofs.read_plan.Statement.{statement}

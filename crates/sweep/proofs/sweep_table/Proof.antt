@@ -1,6 +1,6 @@
 -- `sweep_table` refuses an ill-formed table with 6, and sweeps any other as the model does.
 use Rattle.sweep.proofs.SweepLaws.{encode-swept, sweep-ill, sweep-done}
-use Rattle.table.proofs.FitsLaws.{Fits, fits-at, fits-mark}
+use Rattle.table.proofs.FittedLaws.{Fits, fits-at, fits-mark}
 use Rattle.table.specs.Fitting.{Words}
 use borrow.Author.Tests.{not-true, not-false}
 use native.Mathlib.Omega.{arith}

@@ -1,6 +1,6 @@
--- `read::mark` refuses the mark at the front or sets it in the table, by one law of ReadLaws for each way out.
-use Rattle.plan.proofs.ReadLaws.{refused}
-use Rattle.plan.proofs.ReadLaws.{mark-field, mark-order, mark-high, mark-leaf, mark-child, mark-by}
+-- `read::mark` refuses the mark at the front or sets it in the table, by one law of ReadRecordLaws for each way out.
+use Rattle.plan.proofs.ReadRecordLaws.{refused}
+use Rattle.plan.proofs.ReadRecordLaws.{mark-field, mark-order, mark-high, mark-leaf, mark-child, mark-by}
 use Rattle.table.specs.Words.{linked}
 use Rattle.model.specs.Stored.{wordAt}
 use Rattle.model.specs.Table.{isThe}

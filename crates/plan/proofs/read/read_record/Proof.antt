@@ -1,8 +1,8 @@
 -- `read::read_record` refuses the record at the front or takes it into the table: the kind, then room, length, fields and links.
-use Rattle.plan.proofs.ReadLaws.{mark-record, row-record}
+use Rattle.plan.proofs.ReadRecordLaws.{mark-record, row-record}
 use Rattle.model.specs.Table
-use Rattle.plan.proofs.ReadLaws.{refused, record-low, record-high, record-mark-short, record-size}
-use Rattle.plan.proofs.ReadLaws.{record-row-short}
+use Rattle.plan.proofs.ReadRecordLaws.{refused, record-low, record-high, record-mark-short, record-size}
+use Rattle.plan.proofs.ReadRecordLaws.{record-row-short}
 use Rattle.table.proofs.WordLaws.{count-decode}
 use Rattle.table.specs.Words.{decodeParts}
 use mathlib.Core.Path.{_≡_}

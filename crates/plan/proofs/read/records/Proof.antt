@@ -1,6 +1,6 @@
 -- `read::records` reads every record. The loop's invariant is `Held`: reading on from the table so far gives the whole reading.
 use lib.ListN.{length-take}
-use Rattle.plan.proofs.ReadingLaws.{held-empty, reading-all, reading-on, reading-refused, reading-end}
+use Rattle.plan.proofs.ReadPlanLaws.{held-empty, reading-all, reading-on, reading-refused, reading-end}
 use Rattle.plan.specs.Reading.{Held}
 use Rattle.table.specs.Words.{decodeParts}
 use Rattle.model.proofs.BoolLaws.{pick-false}
@@ -108,8 +108,7 @@ same-length-4 c = search needs
 returns-2 : tie.Need-returns-2 Inv-loop μ-loop
 returns-2 c = record {
   result = reading-end (c .before .before .before .before .before .args .bytes .now) (c .before .loop .rows) (c
-      .before .loop .marks) (c .before .loop .count) (c .before .loop .at) (omega arith) (c .before .loop .inv .2) (c .before .loop .inv
-      .1);
+      .before .loop .marks) (c .before .loop .count) (c .before .loop .at) (omega arith) (c .before .loop .inv .2);
   canonical = λ z. c .before .loop .inv .0 .canonical;
   room = λ z. omega (
     arith,

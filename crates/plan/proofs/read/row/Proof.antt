@@ -1,18 +1,18 @@
--- `read::row` refuses the row at the front or adds it to the table, by one law of ReadLaws for each way out.
-use Rattle.plan.proofs.ReadLaws.{refused}
+-- `read::row` refuses the row at the front or adds it to the table, by one law of ReadRecordLaws for each way out.
+use Rattle.plan.proofs.ReadRecordLaws.{refused}
 use mathlib.Core.List.{List}
 use Rattle.plan.specs.Reading.{lastOf}
 use Rattle.table.specs.Words.{wordOf}
 use Rattle.model.specs.Stored.{rowIn, wordAt}
-use Rattle.plan.proofs.ReadLaws.{row-word-none, row-word-some}
+use Rattle.plan.proofs.ReadRecordLaws.{row-word-none, row-word-some}
 use Prim.Native.Nat.{ℕ, _≤_, _+_, _*_, _-_, _%_}
-use Rattle.plan.proofs.ReadLaws.{row-field, row-order, row-none, row-high, row-leaf, row-child}
+use Rattle.plan.proofs.ReadRecordLaws.{row-field, row-order, row-none, row-high, row-leaf, row-child}
 use lib.ListN.{getD, set}
 use mathlib.Core.Logic.{⊎-elim}
 use mathlib.Core.Path.{refl, _≡_, ap, _∙_, sym}
 use native.Mathlib.Omega.{arith}
 use borrow.Author.Needs.{needs}
-use Rattle.plan.proofs.ReadLaws.{link-none, link-some}
+use Rattle.plan.proofs.ReadRecordLaws.{link-none, link-some}
 use Rattle.plan.proofs.read.row.Statement.{statement}
 use Rattle.plan.proofs.read.row.Tie as tie
 

@@ -9,10 +9,10 @@ use Rattle.model.specs.Stored.{stored, rowsBytes, marksBytes}
 use Rattle.table.specs.Fitting.{Words}
 use Rattle.table.specs.Words.{linked, rowsOf, decode}
 use Rattle.model.specs.Base.{over}
-use Rattle.plan.proofs.WritingLaws.{write-short, write-fine, write-out, length-stored, stored-over}
-use Rattle.table.proofs.FitsLaws.{Fits, fits-at, fits-tag}
+use Rattle.plan.proofs.WritePlanLaws.{write-short, write-fine, write-out, length-stored, stored-over}
+use Rattle.table.proofs.FittedLaws.{Fits, fits-at, fits-tag}
 use Rattle.table.proofs.WordLaws.{count-decode}
-use Rattle.plan.proofs.WriteLaws.{length-rowsBytes}
+use Rattle.plan.proofs.WriteRecordLaws.{length-rowsBytes}
 use Rattle.model.proofs.ListLaws.{length-over}
 use Rattle.plan.proofs.write.fitting.Statement.{statement}
 use Rattle.plan.proofs.write.fitting.Tie as tie

@@ -1,5 +1,5 @@
 -- `write::mark` puts a mark's record over the area, and nothing where there is no mark.
-use Rattle.plan.proofs.WriteLaws.{mark-none, mark-some}
+use Rattle.plan.proofs.WriteRecordLaws.{mark-none, mark-some}
 use Rattle.model.proofs.ListLaws.{over-nil}
 use Rattle.model.specs.Base.{over}
 use Rattle.model.specs.Stored.{wordBytes}

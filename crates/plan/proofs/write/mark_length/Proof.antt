@@ -1,5 +1,5 @@
 -- `write::mark_length` is the length of a mark's record, 0 where there is no mark.
-use Rattle.plan.proofs.WriteLaws.{mark-none, mark-some}
+use Rattle.plan.proofs.WriteRecordLaws.{mark-none, mark-some}
 use lib.ListN.{length}
 use mathlib.Core.Path.{sym, ap}
 use Rattle.plan.proofs.write.mark_length.Statement.{statement}

@@ -1,5 +1,5 @@
 -- `write::marks` puts the marks over the area. The loop's invariant: those passed stand there.
-use Rattle.plan.proofs.WriteLaws.{length-marks, marks-start, marks-front, marks-grown}
+use Rattle.plan.proofs.WriteRecordLaws.{length-marks, marks-start, marks-front, marks-grown}
 use Rattle.model.proofs.ListLaws.{over-nil}
 use Rattle.model.specs.Base.{over}
 use Rattle.table.specs.Words.{linked}

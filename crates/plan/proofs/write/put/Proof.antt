@@ -1,5 +1,5 @@
 -- `write::put` puts a record over the area, byte by byte.
-use Rattle.plan.proofs.WriteLaws.{put-four}
+use Rattle.plan.proofs.WriteRecordLaws.{put-four}
 use lib.ListN.{length-set}
 use Prim.Native.Nat.{_/_, _%_}
 use native.Mathlib.Omega.{arith}

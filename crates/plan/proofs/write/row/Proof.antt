@@ -1,5 +1,5 @@
 -- `write::row` puts a row's record over the area.
-use Rattle.plan.proofs.WriteLaws.{row-leaf, row-element, row-bytes}
+use Rattle.plan.proofs.WriteRecordLaws.{row-leaf, row-element, row-bytes}
 use Rattle.model.specs.Base.{over}
 use Rattle.table.specs.Words.{linked}
 use Rattle.model.specs.Stored.{parentBytes}

@@ -1,5 +1,5 @@
 -- `write::rows` puts the rows over the area. The loop's invariant: those passed stand there.
-use Rattle.plan.proofs.WriteLaws.{rows-start, rows-grown, rows-all}
+use Rattle.plan.proofs.WriteRecordLaws.{rows-start, rows-grown, rows-all}
 use Rattle.model.specs.Base.{over}
 use Rattle.table.specs.Words.{rowOf, rowsOf}
 use Rattle.model.specs.Stored.{rowBytes, rowsBytes}

@@ -1,6 +1,5 @@
 -- `write::stored_length` is the length of the stored form. The loop's invariant: the marks passed are counted.
-use Rattle.plan.proofs.WriteLaws.{mark-small}
-use Rattle.plan.proofs.WriteLaws.{length-marks, marks-start}
+use Rattle.plan.proofs.WriteRecordLaws.{length-mark, length-marks, marks-start}
 use Rattle.table.specs.Words.{linked}
 use Rattle.model.specs.Stored.{marksBytes}
 use lib.Seq.{take-all}
@@ -46,7 +45,7 @@ add-n c =
         c5 .pre .1,
         c
             .mark-length .ensures (c3 .loop .d),
-        mark-small (c3 .loop .d) (getD (c5 .args .marks .now) (c3 .loop .d) 0),
+        length-mark (c3 .loop .d) (linked (getD (c5 .args .marks .now) (c3 .loop .d) 0)),
       );
     }
 
@@ -65,8 +64,7 @@ loop-again c =
         arith,
         c3 .loop .inv .1,
         c .mark-length .ensures (c3 .loop .d),
-        mark-small (c3 .loop .d) (getD (c5 .args .marks
-            .now) (c3 .loop .d) 0),
+        length-mark (c3 .loop .d) (linked (getD (c5 .args .marks .now) (c3 .loop .d) 0)),
       ),
       omega (
         arith,

@@ -1,5 +1,5 @@
 -- `step::climb` flags the rows above the items. The loop's invariant is `Climbing`.
-use Rattle.query.proofs.PassLaws.{link-low, climbing-none, climbing-next, climbed-all}
+use Rattle.query.proofs.PassLaws.{link-in, climbing-none, climbing-next, climbed-all}
 use Rattle.query.specs.Stepping.{Climbing}
 use lib.ListN.{length}
 use mathlib.Core.Path.{_≡_, sym, ap, subst}
@@ -41,7 +41,7 @@ climb-one-requires c κs =
     record {
       low = omega (arith, c7 .pre .held .few);
       link =
-          link-low (c7 .args .rows .now) (c7 .args .count) (c7 .pre .held) (c3 .loop
+          link-in (c7 .args .rows .now) (c7 .args .count) (c7 .pre .held) (c3 .loop
           .j - 1) (omega arith);
       flags = c7 .pre .flags;
       reached = c3 .loop .inv .1 .size;

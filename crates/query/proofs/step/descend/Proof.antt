@@ -1,5 +1,5 @@
 -- `step::descend` flags the rows below the items. The loop's invariant is `Descending`.
-use Rattle.query.proofs.PassLaws.{link-low, descending-none, descending-next, descended-all}
+use Rattle.query.proofs.PassLaws.{link-in, descending-none, descending-next, descended-all}
 use Rattle.query.specs.Stepping.{Descending}
 use lib.ListN.{length}
 use mathlib.Core.Path.{sym, ap, subst}
@@ -38,7 +38,7 @@ descend-one-requires c κs =
     record {
       low = omega (arith, c7 .pre .held .few);
       link
-          = link-low (c7 .args .rows .now) (c7 .args .count) (c7 .pre .held) (c3 .loop
+          = link-in (c7 .args .rows .now) (c7 .args .count) (c7 .pre .held) (c3 .loop
           .j) (c .before .before .loop-test .taken);
       flags = c7 .pre .flags;
       reached = c3 .loop .inv .1 .size;

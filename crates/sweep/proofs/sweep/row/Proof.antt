@@ -1,10 +1,11 @@
 -- `sweep::row` takes the next number for a row that is kept, and leaves the others out.
 use Rattle.model.proofs.BoolLaws.{pick-true, pick-false}
 use Rattle.sweep.specs.Sweeping.{keeps, keepsRow, newWord}
+use Rattle.table.specs.Words.{withLink}
 use borrow.Author.Tests.{not-true, not-false}
 use lib.ListN.{getD, set}
 use mathlib.Core.Path.{_≡_, _∙_, sym, ap}
-use Prim.Native.Nat.{ℕ, _+_, _/_, _%_}
+use Prim.Native.Nat.{ℕ, _+_}
 use native.Mathlib.Omega.{arith}
 use borrow.Author.Needs.{needs}
 use Rattle.sweep.proofs.sweep.row.Statement.{statement}
@@ -65,32 +66,14 @@ mul-numbers c = search needs
 slice-write-numbers : tie.Need-slice-write-numbers
 slice-write-numbers c = search needs
 
-kind-requires : tie.Need-kind-requires
-kind-requires c κs = search needs
+index-requires : tie.Need-index-requires
+index-requires c κs = search needs
 
-cast-word : tie.Need-cast-word
-cast-word c =
-    let c4 = c .before .before .before .before in
-    let c5 = c4 .before in
-    let l = c5 .link .result in
-    omega (arith, c4 .slice-known3 .given l)
-
-tag-requires : tie.Need-tag-requires
-tag-requires c κs = search needs
-
-word-requires : tie.Need-word-requires
-word-requires c κs =
-    let c6 = c .before .before .before .before .before .before in
-    let c9 = c6 .before .before .before in
-    let p = c9 .pre in
-    let ns = c9 .args .numbers .now in (
-      omega (arith, c .before .kind .ensures),
-      (
-        omega (arith, p .parent, ap (λ (j : ℕ). getD ns j 0) (c6 .link .ensures)),
-        omega
-            (arith, c .tag .ensures, p .word),
-      ),
-    )
+relinked-requires : tie.Need-relinked-requires
+relinked-requires c κs =
+    let c5 = c .before .before .before .before .before in
+    let c8 = c5 .before .before .before in
+    omega (arith, c .index .ensures .0, c8 .pre .parent, ap (λ (j : ℕ). getD (c8 .args .numbers .now) j 0) (c5 .link .ensures))
 
 mul-out : tie.Need-mul-out
 mul-out c = search needs
@@ -107,24 +90,21 @@ same-length c = search needs
 same-length-2 : tie.Need-same-length-2
 same-length-2 c = search needs
 
-built : (c : tie.After-word) → let a = c .before .before .before .before .before .before .before .before .before .before .args in
-    c .word .result ≡ newWord (a .w) (a .numbers .now)
+built : (c : tie.After-relinked) → let a = c .before .before .before .before .before .before .before .before .before .args in
+    c .relinked .result ≡ newWord (a .w) (a .numbers .now)
 built c =
-    let a = c .before .before .before .before .before .before .before .before .before .before .args in
-    let e : getD (a .numbers .now) (c .before .before .before .before .before .before .before .link .result) 0 ≡ getD (a .numbers .now)
-    (a .w / 4 % 1024) 0 =
-    ap (λ (j : ℕ). getD (a .numbers .now) j 0) (c .before .before .before .before .before .before .before .link .ensures) in
-    omega (arith, c .word .ensures, c .before .before .kind .ensures, c .before .tag .ensures)
+    let c6 = c .before .before .before .before .before .before in
+    let a = c6 .before .before .before .args in
+    c .relinked .ensures ∙
+    ap (withLink (a .w)) (c .before .index .ensures .0 ∙ ap (λ (j : ℕ). getD (a .numbers .now) j 0) (c6 .link .ensures))
 
 returns-2 : tie.Need-returns-2
 returns-2 c =
-    let c3 = c .before .before .before in
-    let c4 = c3 .before in
-    let c10 = c4 .before .before .before .before .before .before in
-    let a = c10 .args in
+    let c2 = c .before .before in
+    let c3 = c2 .before in
+    let a = c3 .before .before .before .before .before .before .args in
     let t = keepsRow (a .w) (a .i) (a .numbers .now) in
-    let e = kept (c4) ∙ not-false (c4 .is-kept .result)
-    (c3 .if1 .left) in
+    let e = kept (c3) ∙ not-false (c3 .is-kept .result) (c2 .if1 .left) in
     record {
       numbers = sym (pick-true t (set (a .numbers .now) (a .i + 1) (a .next + 1)) (a .numbers .now) e);
       rows =
@@ -150,10 +130,8 @@ row-spec =
     add-numbers-2
     mul-numbers
     slice-write-numbers
-    kind-requires
-    cast-word
-    tag-requires
-    word-requires
+    index-requires
+    relinked-requires
     mul-out
     slice-write-out
     add-result

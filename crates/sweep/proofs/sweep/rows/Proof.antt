@@ -1,6 +1,6 @@
 -- `sweep::rows` keeps and renumbers row by row. The loop's invariant is `Sweeping`.
-use Rattle.sweep.proofs.SweepLaws.{sweeping-none, sweeping-next, next-low, link-low, entry-low}
-use Rattle.table.proofs.FitsLaws.{Fits, fits-at, fits-tag, fits-mark}
+use Rattle.sweep.proofs.SweepLaws.{sweeping-none, sweeping-next, next-low, link-in, entry-low}
+use Rattle.table.proofs.FittedLaws.{Fits, fits-at, fits-mark}
 use Rattle.sweep.specs.Sweeping.{Sweeping}
 use Rattle.table.specs.Words.{decodeParts}
 use lib.ListN.{length}
@@ -65,13 +65,11 @@ row-requires c κs =
     let c4 = c3 .before in
     let c13 = c4 .before .before .before .before .before .before .before .before .before in
     record {
-      word = fits-tag (c13 .args .count) (c13 .args .rows .now) (c13
-          .args .marks .now) (fitting (c13)) (within (c13)) (c4 .loop .i) (c3 .loop-test .taken);
       low = omega (
         arith,
         fitting (c13) .few,
       );
-      link = link-low (c13 .args .rows .now) (c13 .args .marks .now) (c13 .args .count) (c4
+      link = link-in (c13 .args .rows .now) (c13 .args .marks .now) (c13 .args .count) (c4
           .loop .i) (fitting (c13)) (c13 .pre .size) (c3 .loop-test .taken) (c4 .loop .next) (c4 .loop .numbers)
           (c4 .loop .out) (c4 .loop .inv .1);
       below = next-low (c13 .args .rows .now) (c13 .args .marks .now) (c13 .args .count) (c4 .loop .i)

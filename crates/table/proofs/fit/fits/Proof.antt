@@ -1,5 +1,5 @@
 -- `fit::fits` is the model's rule: few rows, each fitting, zeros past them, and the marks fitting.
-use Rattle.table.proofs.FitLaws.{parts-fit}
+use Rattle.table.proofs.FitCheckLaws.{parts-fit}
 use Rattle.table.specs.Fitting.{marksFit}
 use Rattle.table.specs.Words.{isZero}
 use Rattle.model.specs.Base.{all}

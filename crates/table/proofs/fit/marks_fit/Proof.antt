@@ -1,5 +1,5 @@
 -- `fit::marks_fit`: every mark fits and none stands again behind it. The loop's invariant: the check from here on decides.
-use Rattle.table.proofs.FitLaws.{marks-turn, marks-end, marks-go, repeated-none, repeated-some}
+use Rattle.table.proofs.FitCheckLaws.{marks-turn, marks-end, marks-go, repeated-none, repeated-some}
 use Rattle.table.specs.Fitting.{isRepeated, marksFit}
 use Rattle.table.specs.Words.{linked}
 use Rattle.model.specs.Table.{isThe}

@@ -1,5 +1,5 @@
 -- `fit::rest_zero`: the words past the count are zero. The loop's invariant: the words from here on decide.
-use Rattle.table.proofs.FitLaws.{all-turn, all-end}
+use Rattle.table.proofs.FitCheckLaws.{all-turn, all-end}
 use Rattle.table.specs.Words.{isZero}
 use Rattle.model.specs.Base.{all}
 use lib.ListN.{getD, drop, length}

@@ -1,6 +1,6 @@
 -- `fit::rows_fit`: every row below the count fits. The loop's invariant: the rows from here on decide.
 use borrow.Author.Tests.{not-true, not-false}
-use Rattle.table.proofs.FitLaws.{rows-turn, rows-end}
+use Rattle.table.proofs.FitCheckLaws.{rows-turn, rows-end}
 use Rattle.table.specs.Fitting.{rowsFit}
 use mathlib.Core.Bool.{Bool, _&&_}
 use mathlib.Core.Path.{_≡_, _∙_, sym, ap}

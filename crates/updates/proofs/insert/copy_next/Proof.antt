@@ -1,10 +1,9 @@
 -- `insert::copy_next` copies a row under its parent's copy, if there is one.
 use Rattle.updates.specs.Inserting.{copyLink, nextLink}
+use Rattle.table.specs.Words.{withLink}
 use lib.ListN.{getD}
-use Prim.Native.Nat.{_*_, _/_, _%_}
 use Rattle.updates.proofs.InsertLaws.{next-bound, next-none, next-small, next-pre, next-made}
 use mathlib.Core.Path.{_≡_, sym, _∙_, ap}
-use Prim.Native.Nat.{ℕ, _+_}
 use native.Mathlib.Omega.{arith}
 use borrow.Author.Needs.{needs}
 use Rattle.updates.proofs.insert.copy_next.Statement.{statement}
@@ -25,22 +24,12 @@ has-link : (c : tie.Else1) → nextLink (c .before .before .before .before .befo
     (c .before .before .before .before .before .before .before .before .args .j) ≡ 0 → ⊥
 has-link c q = c .if1 .left (is-link (c .before) ∙ q)
 
-copied-word : (c : tie.After-relinked) → c .relinked .result ≡ getD
-    (c .before .before .before .before .before .before .before .before .before .before .before .args .rows .now)
-    (c .before .before .before .before .before .before .before .before .before .before .before .args .j) 0 % 4 + 4 * nextLink
-    (c .before .before .before .before .before .before .before .before .before .before .before .args .rows .now)
-    (c .before .before .before .before .before .before .before .before .before .before .before .args .map .now)
-    (c .before .before .before .before .before .before .before .before .before .before .before .args .top)
-    (c .before .before .before .before .before .before .before .before .before .before .before .args .j) + 4096 * (getD
-    (c .before .before .before .before .before .before .before .before .before .before .before .args .rows .now)
-    (c .before .before .before .before .before .before .before .before .before .before .before .args .j) 0 / 4096)
+copied-word : (c : tie.After-relinked) →
+    let a = c .before .before .before .before .before .before .before .before .before .before .before .args in
+    c .relinked .result ≡ withLink (getD (a .rows .now) (a .j) 0) (nextLink (a .rows .now) (a .map .now) (a .top) (a .j))
 copied-word c =
-    c .relinked .ensures ∙ ap (λ (l : ℕ). getD
-    (c .before .before .before .before .before .before .before .before .before .before .before .args .rows .now)
-    (c .before .before .before .before .before .before .before .before .before .before .before .args .j) 0 % 4 + 4 * l + 4096 * (getD
-    (c .before .before .before .before .before .before .before .before .before .before .before .args .rows .now)
-    (c .before .before .before .before .before .before .before .before .before .before .before .args .j) 0 / 4096)) (is-link
-    (c .before .before .before .before))
+    let a = c .before .before .before .before .before .before .before .before .before .before .before .args in
+    c .relinked .ensures ∙ ap (withLink (getD (a .rows .now) (a .j) 0)) (is-link (c .before .before .before .before))
 
 mul-w : tie.Need-mul-w
 mul-w c = search needs

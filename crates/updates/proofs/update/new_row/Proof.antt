@@ -1,5 +1,6 @@
 -- `update::new_row` adds a row with its record, or refuses: 10 before 9.
-use Rattle.updates.proofs.UpdateLaws.{new-full, new-over, new-made, tag-byte}
+use Rattle.updates.proofs.UpdateLaws.{new-full, new-over, new-made}
+use Rattle.table.proofs.WordLaws.{tag-byte}
 use native.Mathlib.Omega.{arith}
 use borrow.Author.Needs.{needs}
 use Rattle.updates.proofs.update.new_row.Statement.{statement}

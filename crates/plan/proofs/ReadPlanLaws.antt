@@ -1,10 +1,10 @@
 -- Reading a plan, record by record: each turn, the start, the end, and the call.
-use mathlib.Core.Path.{_≡_, refl, ap, sym, _∙_}
+use mathlib.Core.Path.{_≡_, ap, sym, _∙_}
 use mathlib.Core.List.{List, [], map}
-use Prim.Native.Nat.{ℕ, zero, suc, _+_, _-_, _/_, _≤_, _<_}
+use Prim.Native.Nat.{ℕ, suc, _+_, _-_, _/_, _≤_, _<_}
 use native.Mathlib.Omega.{arith}
 use lib.Dec.{eqb}
-use lib.ListN.{length, length-drop, take, drop, drop-of-length-le}
+use lib.ListN.{length, length-drop, take, drop}
 use lib.Seq.{drop-drop}
 use borrow.Author.Tests.{eq-eqb, ne-eqb}
 use Rattle.model.specs.Refusal.{fault, fine, isFine, faultAt}
@@ -21,18 +21,6 @@ use Rattle.plan.specs.declared.read.PlanEnd.{PlanEnd}
 use Rattle.plan.specs.declared.read.RecordRead.{RecordRead}
 use Rattle.table.proofs.WordLaws.{encode-decode}
 
--- READING: one turn, and the end
-module _ (k : ℕ) (x : model.Table) (i : ℕ) (b : List ℕ) where
-  read-fine : 0 < length b → recordFault x i b ≡ fine → readFrom (suc k) x i b ≡ readFrom k (recorded x b) (i + 4) (drop 4 b)
-  read-fine h e = readFrom-fine k x i b h (ap isFine e)
-
-  read-refused : (n : ℕ) → 0 < length b → recordFault x i b ≡ fault (suc n) i → readFrom (suc k) x i b ≡ bad (fault (suc n) i)
-  read-refused n h e =
-      let y : suc n ≡ 0 → ⊥ = λ q. omega arith in readFrom-refused k x i b h (ap isFine e ∙ ne-eqb (suc n) 0 y) ∙ ap bad e
-
-read-end : (k : ℕ) (x : model.Table) (i : ℕ) → readFrom (suc k) x i [] ≡ got x
-read-end k x i = readFrom-end (suc k) x i [] refl
-
 -- reading goes on from what is held, at a place
 module _ (b ws ms : List ℕ) (n at : ℕ) (h : at < length b)
     (held : readFrom (length b + 1 - at / 4) (decodeParts n ws ms) at (drop at b) ≡ readPlan b) where
@@ -47,24 +35,23 @@ module _ (b ws ms : List ℕ) (n at : ℕ) (h : at < length b)
     faults = ap (recordFault (decodeParts n ws ms) at) (sym (drop-all b at)) ∙ post .fault at
 
     pub reading-refused : (r .number ≡ 0 → ⊥) → bad (fault (r .number) at) ≡ readPlan b
-    reading-refused z = go (r .number) z faults
-      where
-        go : (k : ℕ) → (k ≡ 0 → ⊥) → recordFault (decodeParts n ws ms) at (drop at b) ≡ faultAt k at → bad (fault k at) ≡ readPlan b
-        go zero y e = absurd (y refl)
-        go (suc k) y e =
-            sym (read-refused (length b - at / 4) (decodeParts n ws ms) at (drop at b) k more (e ∙ rw (ne-eqb (suc k) 0 y))) ∙
-            ap (λ (j : ℕ). readFrom j (decodeParts n ws ms) at (drop at b)) (sym fuel) ∙ held
+    reading-refused z =
+        let e : recordFault (decodeParts n ws ms) at (drop at b) ≡ fault (r .number) at = faults ∙ rw (ne-eqb (r .number) 0 z) in
+        sym (readFrom-refused (length b - at / 4) (decodeParts n ws ms) at (drop at b) more (ap isFine e ∙ ne-eqb (r .number) 0 z) ∙
+        ap bad e) ∙
+        ap (λ (j : ℕ). readFrom j (decodeParts n ws ms) at (drop at b)) (sym fuel) ∙ held
 
     pub reading-on : r .number ≡ 0 → (at + 4 ≤ length b) ×
         (readFrom (length b + 1 - (at + 4) / 4) (decodeParts (r .count) ws′ ms′) (at + 4) (drop (at + 4) b) ≡ readPlan b)
     reading-on z =
-        let w : 4 ≤ length (take (length b - at) (drop at b)) = post .fine z .whole in (
+        let w : 4 ≤ length (take (length b - at) (drop at b)) = post .fine z .whole in
+        let e : recordFault (decodeParts n ws ms) at (drop at b) ≡ fine = faults ∙ rw z in (
           omega (arith, ap length (drop-all b at), length-drop at b),
           ap (λ (j : ℕ). readFrom j (decodeParts (r .count) ws′ ms′) (at + 4) (drop (at + 4) b)) falls ∙
               ap (λ (x : model.Table). readFrom (length b - at / 4) x (at + 4) (drop (at + 4) b)) (post .fine z .table ∙ ap (recorded
               (decodeParts n ws ms)) (drop-all b at)) ∙
               ap (readFrom (length b - at / 4) (recorded (decodeParts n ws ms) (drop at b)) (at + 4)) (sym (drop-drop 4 at b)) ∙
-              sym (read-fine (length b - at / 4) (decodeParts n ws ms) at (drop at b) more (faults ∙ rw z)) ∙
+              sym (readFrom-fine (length b - at / 4) (decodeParts n ws ms) at (drop at b) more (ap isFine e)) ∙
               ap (λ (j : ℕ). readFrom j (decodeParts n ws ms) at (drop at b)) (sym fuel) ∙ held,
         )
       where
@@ -92,13 +79,9 @@ module _ (ws ms : List ℕ) (pre : ReadPre ws ms) where
 
 -- the end
 pub reading-end : (b ws ms : List ℕ) (n at : ℕ) → length b ≤ at →
-    readFrom (length b + 1 - at / 4) (decodeParts n ws ms) at (drop at b) ≡ readPlan b → at ≤ length b → got (decodeParts n ws ms) ≡
-    readPlan b
-reading-end b ws ms n at h held l =
-    let fuel : length b + 1 - at / 4 ≡ suc (length b - at / 4) = omega arith in
-    sym (read-end (length b - at / 4) (decodeParts n ws ms) at) ∙
-    ap (λ (j : ℕ). readFrom j (decodeParts n ws ms) at []) (sym fuel) ∙
-    ap (readFrom (length b + 1 - at / 4) (decodeParts n ws ms) at) (sym (drop-of-length-le b h)) ∙ held
+    readFrom (length b + 1 - at / 4) (decodeParts n ws ms) at (drop at b) ≡ readPlan b → got (decodeParts n ws ms) ≡ readPlan b
+reading-end b ws ms n at h held =
+    sym (readFrom-end (length b + 1 - at / 4) (decodeParts n ws ms) at (drop at b) (omega (arith, length-drop at b))) ∙ held
 
 -- the call, from what the records leave
 module _ (b ws ms : List ℕ) (r : PlanEnd) (post : ReadPost b ws ms r) where

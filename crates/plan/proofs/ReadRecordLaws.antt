@@ -1,9 +1,8 @@
 -- What the model says of the record at the front, from the tests that the reader makes: one law for each way out.
-use mathlib.Core.Path.{_≡_, refl, ap, sym, _∙_}
+use mathlib.Core.Path.{_≡_, ap, sym, _∙_}
 use mathlib.Core.Bool.{Bool, true, false}
 use mathlib.Core.List.{List, [], _∷_, map}
 use mathlib.Core.Option.{Option, none, some}
-use mathlib.Core.Logic.{_⊎_, inl, inr, ⊎-elim}
 use Prim.Native.Nat.{ℕ, zero, suc, _+_, _*_, _-_, _/_, _%_, _≤_, _<_}
 use native.Mathlib.Omega.{arith}
 use lib.Dec.{leb, eqb}
@@ -12,8 +11,9 @@ use borrow.Author.Tests.{lt-ltb, le-ltb, le-leb, lt-leb, eq-eqb, ne-eqb, eqb-tru
 use Rattle.model.specs.Base.{pick, any}
 use Rattle.model.specs.Refusal.{fault, fine}
 use Rattle.model.specs.Table as model
-use Rattle.model.specs.Stored.{wordAt, rowIn, parentIn, rowFault, markFault, lastMarked, recordFault, recorded}
-use Rattle.model.proofs.BoolLaws.{by-cases, pick-true}
+use Rattle.model.specs.Stored.{wordAt, rowIn, parentIn, rowFault, markFault, lastMarked, recordFault}
+use Rattle.model.proofs.BoolLaws.{by-cases, pick-true, pick-false}
+use Rattle.model.proofs.BytesLaws.{lastMarked-above}
 use Rattle.table.specs.Words.{linkOf, linked, wordOf, rowsOf, wordsOf, decodeParts}
 use Rattle.plan.specs.Reading.{lastOf, RowPre, RowPost, MarkPre, MarkPost, RecordPre, RecordPost, Recorded}
 use Rattle.table.specs.declared.Table.{Table}
@@ -169,9 +169,6 @@ module _ (x : model.Table) (i : ℕ) (s : List ℕ) where
     pub record-mark : 4 ≤ length s → recordFault x i s ≡ markFault x i s
     record-mark h = rw (mark, le-leb 4 (length s) h)
 
-    pub recorded-mark : recorded x s ≡ model.withMark x (getD s 1 0) (wordAt s 2)
-    recorded-mark = rw mark
-
   module _ (low : 17 ≤ getD s 0 0) (high : getD s 0 0 ≤ 18) where
     no-mark : eqb (getD s 0 0) 19 ≡ false
     no-mark = ne-eqb (getD s 0 0) 19 (λ q. omega arith)
@@ -191,43 +188,31 @@ module _ (x : model.Table) (i : ℕ) (s : List ℕ) where
       record-row h =
           rw (le-leb 17 (getD s 0 0) low, within-kinds, no-mark, lt-ltb (model.count x) 512 room, le-leb 4 (length s) h)
 
-    pub recorded-row : recorded x s ≡ model.withRow x (rowIn s)
-    recorded-row = rw no-mark
-
 -- the last marked document after a mark past the others
-last-range : (ms : List (Option ℕ)) (from : ℕ) → (lastMarked from ms ≡ 0) ⊎ (from < lastMarked from ms)
-unfolding lastMarked
-last-range [] from = inl refl
-last-range (none ∷ ms) from = ⊎-elim (λ e. inl e) (λ h. inr (omega arith)) (last-range ms (suc from))
-last-range (some j ∷ ms) from =
-    inr (by-cases (eqb (lastMarked (suc from) ms) 0) (λ e. rw e (omega arith))
-    (λ e. rw e (⊎-elim (λ z. absurd (eqb-false (lastMarked (suc from) ms) 0 e z)) (λ h. omega arith) (last-range ms (suc from)))))
+last-none : (from : ℕ) (ms : List (Option ℕ)) → lastMarked from ms ≤ from → lastMarked from ms ≡ 0
+last-none from ms h =
+    by-cases (eqb (lastMarked from ms) 0) (λ e. eqb-true (lastMarked from ms) 0 e)
+    (λ e. absurd (omega (arith, lastMarked-above from ms (eqb-false (lastMarked from ms) 0 e))))
 
-pub last-set : (ms : List (Option ℕ)) (from d i : ℕ) → d < length ms → lastMarked from ms ≤ from + d → lastMarked from (set ms d (some
-    i)) ≡ from + d + 1
+last-rest : (m : Option ℕ) (ms : List (Option ℕ)) (from n : ℕ) → lastMarked from (m ∷ ms) ≤ n → lastMarked (suc from) ms ≤ n
+unfolding lastMarked
+last-rest none ms from n l = l
+last-rest (some j) ms from n l =
+    by-cases (eqb (lastMarked (suc from) ms) 0) (λ e. omega (arith, eqb-true (lastMarked (suc from) ms) 0 e)) (λ e. rw e at l)
+
+last-set : (ms : List (Option ℕ)) (from d i : ℕ) → d < length ms → lastMarked from ms ≤ from + d →
+    lastMarked from (set ms d (some i)) ≡ from + d + 1
 unfolding lastMarked
 last-set [] from d i h l = absurd (omega arith)
-last-set (none ∷ ms) from zero i h l =
-    ⊎-elim (λ e. rw e (omega arith)) (λ g. absurd (omega arith)) (last-range ms (suc from))
-last-set (some j ∷ ms) from zero i h l =
-    ⊎-elim (λ e. rw e (omega arith)) (λ g. absurd (go g)) (last-range ms (suc from))
+last-set (m ∷ ms) from zero i h l =
+    rw (last-none (suc from) ms (omega (arith, last-rest m ms from (from + 0) l))) (omega arith)
+last-set (m ∷ ms) from (suc d) i h l =
+    go m (last-set ms (suc from) d i (omega arith) (omega (arith, last-rest m ms from (from + suc d) l)))
   where
-    go : suc from < lastMarked (suc from) ms → ⊥
-    go g = let e : lastMarked (suc from) ms ≡ 0 → ⊥ = λ q. omega arith in omega (arith, rw (ne-eqb (lastMarked (suc from) ms) 0 e) at l)
-last-set (none ∷ ms) from (suc d) i h l =
-    let e : lastMarked (suc from) (set ms d (some i)) ≡ suc from + d + 1 = last-set ms (suc from) d i (omega arith) (omega arith) in
-    e ∙ omega arith
-last-set (some j ∷ ms) from (suc d) i h l = go (last-set ms (suc from) d i (omega arith) low)
-  where
-    low : lastMarked (suc from) ms ≤ suc from + d
-    low = by-cases (eqb (lastMarked (suc from) ms) 0) (λ e. omega (arith, eqb-true (lastMarked (suc from) ms) 0 e)) (λ e. omega (
-      arith,
-      rw e at l,
-    ))
-
-    go : lastMarked (suc from) (set ms d (some i)) ≡ suc from + d + 1 →
-        pick (eqb (lastMarked (suc from) (set ms d (some i))) 0) (suc from) (lastMarked (suc from) (set ms d (some i))) ≡ from + suc d + 1
-    go e = rw e (let k : suc from + d + 1 ≡ 0 → ⊥ = λ q. omega arith in rw (ne-eqb (suc from + d + 1) 0 k) (omega arith))
+    go : (m : Option ℕ) → lastMarked (suc from) (set ms d (some i)) ≡ suc from + d + 1 →
+        lastMarked from (m ∷ set ms d (some i)) ≡ from + suc d + 1
+    go none e = e ∙ omega arith
+    go (some j) e = rw e (let k : suc from + d + 1 ≡ 0 → ⊥ = λ q. omega arith in rw (ne-eqb (suc from + d + 1) 0 k) (omega arith))
 
 pub lastOf-set : (ms : List ℕ) (d i : ℕ) → d < length ms → lastOf ms ≤ d → lastOf (set ms d (i + 1)) ≡ d + 1
 lastOf-set ms d i h l =
@@ -251,8 +236,8 @@ module _ (s ws ms : List ℕ) (n last : ℕ) (pre : RecordPre s ws ms n last) (w
           record {
             whole = whole;
             table =
-                ap (decodeParts n ws) e ∙ decode-mark n (getD s 1 0) (wordAt s 2) ws ms ∙ sym (recorded-mark (decodeParts n ws ms) 0 s
-                kind);
+                ap (decodeParts n ws) e ∙ decode-mark n (getD s 1 0) (wordAt s 2) ws ms ∙
+                sym (pick-true (eqb (getD s 0 0) 19) _ _ (eq-eqb (getD s 0 0) 19 kind));
             held =
                 record {
                   room = pre .held .room;
@@ -281,7 +266,7 @@ module _ (s ws ms : List ℕ) (n last : ℕ) (pre : RecordPre s ws ms n last) (w
             whole = whole;
             table =
                 ap (λ (v : List ℕ). decodeParts (n + 1) v ms) e ∙ decode-row n (rowIn s) ws ms h (post .link z) ∙
-                sym (recorded-row (decodeParts n ws ms) 0 s low high);
+                sym (pick-false (eqb (getD s 0 0) 19) _ _ (ne-eqb (getD s 0 0) 19 (λ q. omega arith)));
             held =
                 record {
                   room = omega arith;

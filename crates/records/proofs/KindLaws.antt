@@ -1,9 +1,22 @@
--- The kinds of each arity.
+-- The kinds, one by one, and those of each arity.
 use mathlib.Core.Path.{_≡_, ap, refl, sym, _∙_}
-use Prim.Native.Nat.{ℕ, _≤_}
+use Prim.Native.Nat.{ℕ, suc, _≤_}
 use native.Mathlib.Omega.{arith}
+use lib.Dec.{eqb}
+use borrow.Author.Tests.{eqb-true, eqb-false}
+use Rattle.model.proofs.BoolLaws.{by-cases}
 use Rattle.records.specs.Walk.{arity}
-use Rattle.script.proofs.ParseLaws.{by-kind}
+
+-- a kind is one of thirteen
+pub below : {P : Type 0} (k m : ℕ) → k ≤ suc m → (k ≡ suc m → P) → (k ≤ m → P) → P
+below k m h f g = by-cases (eqb k (suc m)) (λ e. f (eqb-true k (suc m) e)) (λ e. g (omega (arith, eqb-false k (suc m) e)))
+
+pub by-kind : {P : Type 0} (k : ℕ) → 1 ≤ k → k ≤ 13 → (k ≡ 1 → P) → (k ≡ 2 → P) → (k ≡ 3 → P) → (k ≡ 4 → P) → (k ≡ 5 → P) → (k ≡ 6 → P) →
+    (k ≡ 7 → P) → (k ≡ 8 → P) → (k ≡ 9 → P) → (k ≡ 10 → P) → (k ≡ 11 → P) → (k ≡ 12 → P) → (k ≡ 13 → P) → P
+by-kind k l h f1 f2 f3 f4 f5 f6 f7 f8 f9 f10 f11 f12 f13 =
+    below k 12 h f13 (λ h. below k 11 h f12 (λ h. below k 10 h f11 (λ h. below k 9 h f10 (λ h. below k 8 h f9
+    (λ h. below k 7 h f8 (λ h. below k 6 h f7 (λ h. below k 5 h f6 (λ h. below k 4 h f5 (λ h. below k 3 h f4
+    (λ h. below k 2 h f3 (λ h. below k 1 h f2 (λ h. below k 0 h f1 (λ h. absurd (omega arith))))))))))))))
 
 -- by arity: the operands of m are q, not n
 module _ {P : Type 0} (k : ℕ) (l : 1 ≤ k) (h : k ≤ 13) where

@@ -1,23 +1,20 @@
 -- What the writer puts: a record over an area, and the stored form grown row by row and mark by mark.
 use mathlib.Core.Path.{_≡_, refl, ap, sym, _∙_}
 use mathlib.Core.List.{List, [], _∷_, _++_, map, map-append, append-assoc, append-nil}
-use mathlib.Core.Option.{Option}
+use mathlib.Core.Option.{Option, none, some}
 use Prim.Native.Nat.{ℕ, zero, suc, _+_, _*_, _-_, _/_, _%_, _≤_, _<_}
 use native.Mathlib.Omega.{arith}
 use native.Mathlib.Nat.{add-zero}
 use native.Mathlib.Numerals.{add-one}
-use lib.Dec.{eqb}
 use lib.ListN.{length, getD, take, set, length-append, length-map}
 use lib.Seq.{sets-eq, take-suc, take-all, length-take-le}
 use borrow.Author.Tests.{ne-eqb}
 use Rattle.model.specs.Table as model
 use Rattle.model.specs.Stored.{wordBytes, parentBytes, rowBytes, rowsBytes, markBytes, marksBytes}
-use Rattle.model.proofs.BoolLaws.{by-cases}
 use Rattle.model.proofs.BytesLaws.{length-parentBytes, rowsBytes-snoc}
 use Rattle.table.specs.Words.{linked, rowOf, rowsOf}
 use Rattle.model.specs.Base.{over}
-use Rattle.table.proofs.WordLaws.{count-decode}
-use Rattle.table.proofs.DecodeLaws.{rows-next}
+use Rattle.table.proofs.WordLaws.{count-decode, take-next}
 use Rattle.model.proofs.ListLaws.{over-over, over-nil}
 
 -- ONE RECORD
@@ -63,7 +60,7 @@ module _ (ws : List ℕ) (n i : ℕ) (within : n ≤ length ws) (h : i < n) wher
       ap (λ (j : ℕ). over j (rowBytes (rowOf (getD ws i 0))) (over 0 (rowsBytes (take i (rowsOf n ws))) o)) e ∙
       over-over 0 (rowsBytes (take i (rowsOf n ws))) (rowBytes (rowOf (getD ws i 0))) o (omega arith) ∙
       ap (λ (b : List ℕ). over 0 b o)
-      (sym (ap rowsBytes (rows-next ws n i within h) ∙ rowsBytes-snoc (take i (rowsOf n ws)) (rowOf (getD ws i 0))))
+      (sym (ap rowsBytes (take-next i n ws within h) ∙ rowsBytes-snoc (take i (rowsOf n ws)) (rowOf (getD ws i 0))))
 
 -- MARKS, one more
 marksBytes-snoc : (from : ℕ) (ms : List (Option ℕ)) (m : Option ℕ) → marksBytes from (ms ++ (m ∷ [])) ≡ marksBytes from ms ++ markBytes
@@ -105,6 +102,10 @@ mark-none d l e = rw e
 pub mark-some : (d l : ℕ) → (l ≡ 0 → ⊥) → markBytes d (linked l) ≡ 19 ∷ d ∷ wordBytes (l - 1)
 mark-some d l z = rw (ne-eqb l 0 z)
 
+pub length-mark : (d : ℕ) (m : Option ℕ) → length (markBytes d m) ≤ 4
+length-mark d none = omega arith
+length-mark d (some i) = omega arith
+
 -- the marks so far are a front of all marks
 pub marks-front : (from k : ℕ) (ms : List ℕ) → length (marksBytes from (map linked (take k ms))) ≤ length (marksBytes from (map linked ms))
 unfolding marksBytes
@@ -129,6 +130,3 @@ rows-all ws n i within h = ap rowsBytes (take-all i (rowsOf n ws) (omega (arith,
 pub marks-start : (ms : List ℕ) → marksBytes 0 (map linked (take 0 ms)) ≡ []
 unfolding marksBytes
 marks-start ms = refl
-
-pub mark-small : (d l : ℕ) → length (markBytes d (linked l)) ≤ 4
-mark-small d l = by-cases (eqb l 0) (λ e. rw e (omega arith)) (λ e. rw e (omega arith))

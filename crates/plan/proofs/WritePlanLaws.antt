@@ -3,8 +3,8 @@
 use mathlib.Core.Path.{_≡_, ap, sym, _∙_, subst}
 use mathlib.Core.Bool.{true, false}
 use mathlib.Core.List.{List, [], _∷_, _++_, map}
-use mathlib.Core.Option.{none, some, Option}
-use Prim.Native.Nat.{ℕ, suc, _+_, _*_, _-_, _≤_, _<_}
+use mathlib.Core.Option.{Option}
+use Prim.Native.Nat.{ℕ, suc, _+_, _*_, _≤_, _<_}
 use native.Mathlib.Omega.{arith}
 use native.Mathlib.Nat.{zero-add}
 use lib.Dec.{leb}
@@ -18,7 +18,7 @@ use Rattle.table.specs.Words.{linked, rowsOf, decodeParts, decode, fits, encode
 use Rattle.model.specs.Base.{over}
 use Rattle.plan.specs.Calls.{planWritten, planOut}
 use Rattle.table.proofs.WordLaws.{count-decode}
-use Rattle.plan.proofs.WriteLaws.{length-rowsBytes}
+use Rattle.plan.proofs.WriteRecordLaws.{length-rowsBytes, length-mark}
 use Rattle.model.proofs.ListLaws.{over-over}
 use Rattle.table.proofs.EncodeLaws.{decode-encode, fits-encode}
 
@@ -68,10 +68,6 @@ module _ (n : ℕ) (ws ms : List ℕ) (within : n ≤ length ws) where
       ap (λ (j : ℕ). stored (decodeParts n ws ms) ++ drop j o) (zero-add (length (stored (decodeParts n ws ms))))
 
 -- THE LENGTH: four bytes for each row and each mark
-length-mark : (d : ℕ) (m : Option ℕ) → length (markBytes d m) ≤ 4
-length-mark d none = omega arith
-length-mark d (some i) = omega arith
-
 length-marks : (d : ℕ) (ms : List (Option ℕ)) → length (marksBytes d ms) ≤ 4 * length ms
 unfolding marksBytes
 length-marks d [] = omega arith

@@ -3,7 +3,7 @@ use mathlib.Core.Path.{_≡_, ap, sym, _∙_}
 use mathlib.Core.Bool.{true, false, _&&_}
 use mathlib.Core.List.{List, map}
 use mathlib.Core.Option.{none, some}
-use Prim.Native.Nat.{ℕ, _-_, _/_, _%_, _≤_, _<_}
+use Prim.Native.Nat.{ℕ, _-_, _≤_, _<_}
 use native.Mathlib.Omega.{arith}
 use lib.Dec.{leb, eqb}
 use lib.ListN.{length, getD, take, drop, List·getD-map}
@@ -14,9 +14,9 @@ use Rattle.model.specs.Table as model
 use Rattle.model.proofs.BoolLaws.{and-left, and-right, by-cases}
 use Rattle.model.proofs.ListLaws.{all-getD}
 use Rattle.model.proofs.TableLaws.{Well, isWell-at}
-use Rattle.table.specs.Words.{linked, rowOf, isRowWord, isZero, decode, decodeParts, partsFit, fits}
+use Rattle.table.specs.Words.{linked, isRowWord, isZero, decode, decodeParts, Canonical, partsFit, fits}
 use Rattle.table.specs.declared.Table.{Table}
-use Rattle.table.proofs.WordLaws.{count-decode, rowAt-decode, Canonical, canonical-words}
+use Rattle.table.proofs.WordLaws.{count-decode, rowAt-decode, tag-byte, canonical-words}
 
 -- WHAT FITS: the count, the words in use and past it, and the table decoded
 pub record Fits (n : ℕ) (ws ms : List ℕ) : Type 0 where
@@ -55,12 +55,10 @@ fits-at n ws ms h =
 -- tags are bytes
 pub fits-tag : (n : ℕ) (ws ms : List ℕ) → Fits n ws ms → n ≤ length ws → (k : ℕ) → k < n → getD ws k 0 < 1048576
 fits-tag n ws ms f w k h =
-    let t : model.tagFits (rowOf (getD ws k 0)) ≡ true =
-    ap model.tagFits (sym (rowAt-decode n ws ms w k h)) ∙ f .well .tree .tags k (omega (arith, count-decode n ws ms w)) in
     omega (
       arith,
-      by-cases (eqb (getD ws k 0 % 4) 2) (λ e. leb-true (getD ws k 0 / 4096) 255 (rw e at t))
-          (λ e. leb-true (getD ws k 0 / 4096) 255 (and-right (leb 1 (getD ws k 0 / 4096)) (leb (getD ws k 0 / 4096) 255) (rw e at t))),
+      tag-byte (getD ws k 0)
+          (ap model.tagFits (sym (rowAt-decode n ws ms w k h)) ∙ f .well .tree .tags k (omega (arith, count-decode n ws ms w))),
     )
 
 -- a mark's link is below 513
