@@ -17,8 +17,9 @@ size c = search needs
 
 fitting : (c : tie.Else1) → Fits (c .before .before .before .before .before .before .before .args .t1 .count) (c .before .before .before
     .before .before .before .before .args .t1 .rows) (c .before .before .before .before .before .before .before .args .t1 .marks)
-fitting c = fits-at (c .before .before .before .before .before .before .before .args .t1 .count) (c .before .before .before .before
-    .before .before .before .args .t1 .rows) (c .before .before .before .before .before .before .before .args .t1 .marks) (sym (c .before
+fitting c =
+    let c7 = c .before .before .before .before .before .before .before in
+    fits-at (c7 .args .t1 .count) (c7 .args .t1 .rows) (c7 .args .t1 .marks) (sym (c .before
     .fits2 .ensures) ∙ not-false (c .before .fits2 .result) (c .if1 .left))
 
 returns : tie.Need-returns

@@ -27,7 +27,9 @@ abbrev μ-loop : tie.MeasureT-loop
 μ-loop first second table₀ k₀ table k = length first - k
 
 clear-requires : tie.Need-clear-requires Inv-loop μ-loop
-clear-requires c κs = c .before .before .before .before .pre .room
+clear-requires c κs =
+    let c4 = c .before .before .before .before in
+    c4 .pre .room
 
 loop-holds : tie.Need-loop-holds Inv-loop μ-loop
 loop-holds c =
@@ -46,15 +48,14 @@ loop-holds c =
 
 row-requires : tie.Need-row-requires Inv-loop μ-loop
 row-requires c κs =
-    let c2 = c .before .before in
-    let c10 = c2 .before .before .before .before .before .before .before .before in
+    let c10 = c .before .before .before .before .before .before .before .before .before .before in
     record {
       first = c10 .pre .first;
       second = c10 .pre .second;
-      room = c2 .loop .inv .2;
+      room = c .before .before .loop .inv .2;
       row = c .before .loop-test .taken;
       filled =
-          c2 .loop .inv .3;
+          c .before .before .loop .inv .3;
     }
 
 same-length : tie.Need-same-length Inv-loop μ-loop
@@ -92,7 +93,9 @@ loop-again c =
     )
 
 same-length-2 : tie.Need-same-length-2 Inv-loop μ-loop
-same-length-2 c = c .before .loop .inv .1 ∙ c .before .before .before .before .clear .kept .0
+same-length-2 c =
+    let c4 = c .before .before .before .before in
+    c .before .loop .inv .1 ∙ c4 .clear .kept .0
 
 returns-2 : tie.Need-returns-2 Inv-loop μ-loop
 returns-2 c =

@@ -31,14 +31,18 @@ there c = omega (arith, c .before .number-at .ensures .0, c .if3 .left)
 row-kind : (c : tie.After-kind) → getD (c .before .before .before .before .before .before .before .before .before .before .before .args
     .rows .now) (wordAt (c .before .before .before .before .before .before .before .before .before .before .before .args .s .now) 2) 0 %
     4 ≡ c .kind .result
-row-kind c = sym (c .kind .ensures ∙ ap (λ (j : ℕ). getD (c .before .before .before .before .before .before .before .before .before
-    .before .before .args .rows .now) j 0 % 4) (c .before .before .before .number-at .ensures .0))
+row-kind c =
+    let c3 = c .before .before .before in
+    let c11 = c3 .before .before .before .before .before .before .before .before in
+    sym (c .kind .ensures ∙ ap (λ (j : ℕ). getD (c11 .args .rows .now) j 0 % 4) (c3 .number-at .ensures .0))
 
 row-link : (c : tie.After-link) → c .link .result ≡ getD (c .before .before .before .before .before .before .before .before .before
     .before .before .before .before .args .rows .now) (wordAt (c .before .before .before .before .before .before .before .before .before
     .before .before .before .before .args .s .now) 2) 0 / 4 % 1024
-row-link c = c .link .ensures ∙ ap (λ (j : ℕ). getD (c .before .before .before .before .before .before .before .before .before .before
-    .before .before .before .args .rows .now) j 0 / 4 % 1024) (c .before .before .before .before .before .number-at .ensures .0)
+row-link c =
+    let c5 = c .before .before .before .before .before in
+    let c13 = c5 .before .before .before .before .before .before .before .before in
+    c .link .ensures ∙ ap (λ (j : ℕ). getD (c13 .args .rows .now) j 0 / 4 % 1024) (c5 .number-at .ensures .0)
 
 link-zero : (c : tie.Else5) → c .before .link .result ≡ 0
 link-zero c = search (c .if5 .left, needs)
@@ -47,11 +51,11 @@ marked-by : (c : tie.After-is-marked) → any (isThe (wordAt (c .before .before 
     .before .before .before .before .before .before .before .args .s .now) 2)) (map linked (c .before .before .before .before .before
     .before .before .before .before .before .before .before .before .before .before .before .args .marks .now)) ≡ c .is-marked .result
 marked-by c =
-    let h : c .before .before .before .before .before .before .before .before .number-at .result + 1 - 1 ≡ wordAt (c .before .before
-    .before .before .before .before .before .before .before .before .before .before .before .before .before .before .args .s .now) 2
-    = omega (arith, c .before .before .before .before .before .before .before .before .number-at .ensures .0) in
-    sym (c .is-marked .ensures ∙ ap (λ (j : ℕ). any (isThe j) (map linked (c .before .before .before .before .before .before .before
-    .before .before .before .before .before .before .before .before .before .args .marks .now))) h)
+    let c8 = c .before .before .before .before .before .before .before .before in
+    let c16 = c8 .before .before .before .before .before .before .before .before in
+    let h : c8 .number-at .result + 1 - 1 ≡ wordAt (c16 .args .s .now) 2
+    = omega (arith, c8 .number-at .ensures .0) in
+    sym (c .is-marked .ensures ∙ ap (λ (j : ℕ). any (isThe j) (map linked (c16 .args .marks .now))) h)
 
 returns : tie.Need-returns
 returns c =
@@ -72,7 +76,8 @@ returns-2 c =
     let c7 = c .before .before .before .before .before .before .before in
     record {
       fault = λ i e. mark-order (c7 .args .s .now) (c7 .args .rows .now) (c7 .args
-          .marks .now) (c7 .args .count) i (c7 .pre) (known (c .before)) (omega (arith, e, c .before .before .byte .ensures .0, c .if2 .taken));
+          .marks .now) (c7 .args .count) i (c7 .pre) (known (c .before))
+          (omega (arith, e, c .before .before .byte .ensures .0, c .if2 .taken));
       marks = refl;
       document = λ z. refused _ z;
       order = λ z. refused _ z;
@@ -136,26 +141,26 @@ link-requires : tie.Need-link-requires
 link-requires c κs = search needs
 
 returns-5 : tie.Need-returns-5
-returns-5 c = record {
-  fault = λ i e. mark-child (c .before .before .before .before .before .before .before .before .before .before
-      .before .before .before .before .args .s .now) (c .before .before .before .before .before .before .before .before .before .before
-      .before .before .before .before .args .rows .now) (c .before .before .before .before .before .before .before .before .before .before
-      .before .before .before .before .args .marks .now) (c .before .before .before .before .before .before .before .before .before .before
-      .before .before .before .before .args .count) i (c .before .before .before .before .before .before .before .before .before .before
-      .before .before .before .before .pre) (known (c .before .before .before .before .before .before .before .before)) (omega (
-        arith,
-        e,
-        c
-            .before .before .before .before .before .before .before .before .before .byte .ensures .0,
-        c .before .before .before .before .before
-            .before .before .if2 .left,
-      )) (there (c .before .before .before .before .before)) (λ z. c .before .before .if4 .left (sym (row-kind (c
-      .before .before .before)) ∙ z)) (λ z. c .if5 .taken (row-link (c .before) ∙ z));
-  marks = refl;
-  document = λ z. refused _ z;
-  order = λ
-      z. refused _ z;
-}
+returns-5 c =
+    let c3 = c .before .before .before in
+    let c5 = c3 .before .before in
+    let c7 = c5 .before .before in
+    let c8 = c7 .before in
+    let c9 = c8 .before in
+    let c14 = c9 .before .before .before .before .before in
+    record {
+      fault = λ i e. mark-child (c14 .args .s .now) (c14 .args .rows .now) (c14 .args .marks .now) (c14 .args .count) i (c14 .pre)
+          (known (c8)) (omega (
+            arith,
+            e,
+            c9 .byte .ensures .0,
+            c7 .if2 .left,
+          )) (there (c5)) (λ z. c .before .before .if4 .left (sym (row-kind (c3)) ∙ z)) (λ z. c .if5 .taken (row-link (c .before) ∙ z));
+      marks = refl;
+      document = λ z. refused _ z;
+      order = λ
+          z. refused _ z;
+    }
 
 add-link : tie.Need-add-link
 add-link c = search needs
@@ -204,41 +209,36 @@ same-length-2 : tie.Need-same-length-2
 same-length-2 c = search needs
 
 returns-7 : tie.Need-returns-7
-returns-7 c = record {
-  fault = λ i e. mark-by (c .before .before .before .before .before .before .before .before .before .before .before
-      .before .before .before .before .before .before .args .s .now) (c .before .before .before .before .before .before .before .before
-      .before .before .before .before .before .before .before .before .before .args .rows .now) (c .before .before .before .before .before
-      .before .before .before .before .before .before .before .before .before .before .before .before .args .marks .now) (c .before .before
-      .before .before .before .before .before .before .before .before .before .before .before .before .before .before .before .args .count)
-      i (c .before .before .before .before .before .before .before .before .before .before .before .before .before .before .before .before
-      .before .pre) (known (c .before .before .before .before .before .before .before .before .before .before .before)) (omega (
+returns-7 c =
+    let c3 = c .before .before .before in
+    let c4 = c3 .before in
+    let c5 = c4 .before in
+    let c6 = c5 .before in
+    let c8 = c6 .before .before in
+    let c9 = c8 .before in
+    let c10 = c9 .before in
+    let c11 = c10 .before in
+    let c12 = c11 .before in
+    let c17 = c12 .before .before .before .before .before in
+    record {
+      fault = λ i e. mark-by (c17 .args .s .now) (c17 .args .rows .now) (c17 .args .marks .now) (c17 .args .count)
+          i (c17 .pre) (known (c11)) (omega (
+            arith,
+            e,
+            c12 .byte .ensures .0,
+            c10 .if2 .left,
+          )) (there (c8)) (λ z. c5 .if4 .left (sym (row-kind (c6)) ∙ z)) (sym (row-link (c4)) ∙ link-zero (c3)) false
+          (marked-by (c .before) ∙ c .if6 .left);
+      marks = ap (λ (d : ℕ). set (c17 .args .marks .now) d (c9 .number-at .result + 1)) (c12 .byte .ensures .0) ∙ ap
+          (λ (j : ℕ). set (c17 .args .marks .now) (getD (c17 .args .s .now) 1 0)
+          (j + 1)) (c9 .number-at .ensures .0);
+      document = λ z. known (c11);
+      order = λ z. omega (
         arith,
-        e,
-        c
-            .before .before .before .before .before .before .before .before .before .before .before .before .byte .ensures .0,
-        c .before .before
-            .before .before .before .before .before .before .before .before .if2 .left,
-      )) (there (c .before .before .before .before .before
-      .before .before .before)) (λ z. c .before .before .before .before .before .if4 .left (sym (row-kind (c .before .before .before
-      .before .before .before)) ∙ z)) (sym (row-link (c .before .before .before .before)) ∙ link-zero (c .before .before .before)) false
-      (marked-by (c .before) ∙ c .if6 .left);
-  marks = ap (λ (d : ℕ). set (c .before .before .before .before .before .before .before .before
-      .before .before .before .before .before .before .before .before .before .args .marks .now) d (c .before .before .before .before
-      .before .before .before .before .before .number-at .result + 1)) (c .before .before .before .before .before .before .before .before
-      .before .before .before .before .byte .ensures .0) ∙ ap (λ (j : ℕ). set (c .before .before .before .before .before .before .before
-      .before .before .before .before .before .before .before .before .before .before .args .marks .now) (getD (c .before .before .before
-      .before .before .before .before .before .before .before .before .before .before .before .before .before .before .args .s .now) 1 0)
-      (j + 1)) (c .before .before .before .before .before .before .before .before .before .number-at .ensures .0);
-  document = λ z. known (c
-      .before .before .before .before .before .before .before .before .before .before .before);
-  order = λ z. omega (
-    arith,
-    c .before
-        .before .before .before .before .before .before .before .before .before .before .before .byte .ensures .0,
-    c .before .before .before
-        .before .before .before .before .before .before .before .if2 .left,
-  );
-}
+        c12 .byte .ensures .0,
+        c10 .if2 .left,
+      );
+    }
 
 pub mark-spec : {M : Type 1} → statement M
 mark-spec =

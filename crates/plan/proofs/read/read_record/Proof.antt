@@ -27,17 +27,19 @@ returns : tie.Need-returns
 returns c =
     let c5 = c .before .before .before .before .before in
     record {
-      fault = λ i. record-low (decodeParts (c5 .args .count) (c5 .args .rows .now) (c5 .args .marks .now)) i (c5 .args .s .now) (c .if1 .taken);
+      fault = λ i. record-low (decodeParts (c5 .args .count) (c5 .args .rows .now) (c5 .args .marks .now)) i (c5 .args .s .now)
+          (c .if1 .taken);
       fine = λ z. refused 0 z;
     }
 
 returns-2 : tie.Need-returns-2
-returns-2 c = record {
-  fault = λ i. record-high (decodeParts (c .before .before .before .before .before .before .args .count) (c .before
-      .before .before .before .before .before .args .rows .now) (c .before .before .before .before .before .before .args .marks .now)) i (c
-      .before .before .before .before .before .before .args .s .now) (c .if2 .taken);
-  fine = λ z. refused 0 z;
-}
+returns-2 c =
+    let c6 = c .before .before .before .before .before .before in
+    record {
+      fault = λ i. record-high (decodeParts (c6 .args .count) (c6 .args .rows .now) (c6 .args .marks .now)) i (c6 .args .s .now)
+          (c .if2 .taken);
+      fine = λ z. refused 0 z;
+    }
 
 returns-3 : tie.Need-returns-3
 returns-3 c =
@@ -98,23 +100,23 @@ returns-5 c =
     }
 
 returns-6 : tie.Need-returns-6
-returns-6 c = record {
-  fault = λ i. record-row-short (decodeParts (c .before .before .before .before .before .before .before .before
-      .before .args .count) (c .before .before .before .before .before .before .before .before .before .args .rows .now) (c .before .before
-      .before .before .before .before .before .before .before .args .marks .now)) i (c .before .before .before .before .before .before
-      .before .before .before .args .s .now) (omega (arith, c .before .before .before .before .if1 .left)) (omega (
-        arith,
-        c .before .before
-            .before .if2 .left,
-        c .before .before .if3 .left,
-      )) (omega (
-        arith,
-        count-known (c .before .before .before .before .before .before
-            .before .before .before),
-        c .before .if5 .left,
-      )) (c .if6 .taken);
-  fine = λ z. refused 1 z;
-}
+returns-6 c =
+    let c3 = c .before .before .before in
+    let c4 = c3 .before in
+    let c9 = c4 .before .before .before .before .before in
+    record {
+      fault = λ i. record-row-short (decodeParts (c9 .args .count) (c9 .args .rows .now) (c9 .args .marks .now)) i (c9 .args .s .now)
+          (omega (arith, c4 .if1 .left)) (omega (
+            arith,
+            c3 .if2 .left,
+            c .before .before .if3 .left,
+          )) (omega (
+            arith,
+            count-known (c9),
+            c .before .if5 .left,
+          )) (c .if6 .taken);
+      fine = λ z. refused 1 z;
+    }
 
 row-requires : tie.Need-row-requires
 row-requires c κs =
@@ -143,7 +145,8 @@ same-length-3 c = search needs
 
 returns-7 : tie.Need-returns-7
 returns-7 c =
-    let c4 = c .before .before .before .before in
+    let c2 = c .before .before in
+    let c4 = c2 .before .before in
     let c5 = c4 .before in
     let c6 = c5 .before in
     let c7 = c6 .before in
@@ -151,8 +154,8 @@ returns-7 c =
     let c13 = c8 .before .before .before .before .before in
     row-record (c13 .args .s .now) (c13 .args .rows .now) (c13 .args .marks .now) (c13 .args .count) (c13 .args .last) (c13 .pre)
     (omega (arith, c4 .if6 .left)) (omega (arith, c8 .if1 .left)) (omega (arith, c7 .if2 .left, c6 .if3 .left))
-    (omega (arith, c5 .if5 .left)) (c .before .before .row .last .1 .0) (c .before .before .row .result)
-    (c .before .before .row .ensures)
+    (omega (arith, c5 .if5 .left)) (c2 .row .last .1 .0) (c2 .row .result)
+    (c2 .row .ensures)
 
 pub read-record-spec : {M : Type 1} → statement M
 read-record-spec =

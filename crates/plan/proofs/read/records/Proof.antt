@@ -42,11 +42,13 @@ part-read-record-end : tie.Need-part-read-record-end Inv-loop μ-loop
 part-read-record-end c = search needs
 
 read-record-requires : tie.Need-read-record-requires Inv-loop μ-loop
-read-record-requires c κs = record {
-  nonempty = simp (length-take, length-drop) (omega arith);
-  held = c .before .before .before .before
-      .loop .inv .0;
-}
+read-record-requires c κs =
+    let c4 = c .before .before .before .before in
+    record {
+      nonempty = simp (length-take, length-drop) (omega arith);
+      held = c4
+          .loop .inv .0;
+    }
 
 same-length : tie.Need-same-length Inv-loop μ-loop
 same-length c =
@@ -59,22 +61,20 @@ same-length-2 c =
     search (ap length (c15 .pre .marks), needs)
 
 returns : tie.Need-returns Inv-loop μ-loop
-returns c = record {
-  result = pick-false (eqb (c .before .before .before .before .before .before .read-record .result .number) 0) _ (bad
-      (fault (c .before .before .before .before .before .before .read-record .result .number) (c .before .before .before .before .before
-      .before .before .before .before .before .before .loop .at))) (ne-eqb (c .before .before .before .before .before .before .read-record
-      .result .number) 0 (c .if1 .taken)) ∙ reading-refused (c .before .before .before .before .before .before .before .before .before
-      .before .before .before .before .before .before .args .bytes .now) (c .before .before .before .before .before .before .before .before
-      .before .before .before .loop .rows) (c .before .before .before .before .before .before .before .before .before .before .before .loop
-      .marks) (c .before .before .before .before .before .before .before .before .before .before .before .loop .count) (c .before .before
-      .before .before .before .before .before .before .before .before .before .loop .at) (c .before .before .before .before .before .before
-      .before .before .before .before .loop-test .taken) (c .before .before .before .before .before .before .before .before .before .before
-      .before .loop .inv .2) (c .before .before .before .before .before .before .read-record .last .1 .0) (c .before .before .before
-      .before .before .before .read-record .last .1 .1 .0) (c .before .before .before .before .before .before .read-record .result) (c
-      .before .before .before .before .before .before .read-record .ensures) (c .if1 .taken);
-  canonical = λ z. absurd (c .if1 .taken z);
-  room = λ z. absurd (c .if1 .taken z);
-}
+returns c =
+    let c6 = c .before .before .before .before .before .before in
+    let c10 = c6 .before .before .before .before in
+    let c11 = c10 .before in
+    let c15 = c11 .before .before .before .before in
+    record {
+      result = pick-false (eqb (c6 .read-record .result .number) 0) _ (bad
+          (fault (c6 .read-record .result .number) (c11 .loop .at))) (ne-eqb (c6 .read-record
+          .result .number) 0 (c .if1 .taken)) ∙ reading-refused (c15 .args .bytes .now) (c11 .loop .rows) (c11 .loop
+          .marks) (c11 .loop .count) (c11 .loop .at) (c10 .loop-test .taken) (c11 .loop .inv .2) (c6 .read-record .last .1 .0)
+          (c6 .read-record .last .1 .1 .0) (c6 .read-record .result) (c6 .read-record .ensures) (c .if1 .taken);
+      canonical = λ z. absurd (c .if1 .taken z);
+      room = λ z. absurd (c .if1 .taken z);
+    }
 
 add-at : tie.Need-add-at Inv-loop μ-loop
 add-at c = search needs
@@ -106,17 +106,19 @@ same-length-4 : tie.Need-same-length-4 Inv-loop μ-loop
 same-length-4 c = search needs
 
 returns-2 : tie.Need-returns-2 Inv-loop μ-loop
-returns-2 c = record {
-  result = reading-end (c .before .before .before .before .before .args .bytes .now) (c .before .loop .rows) (c
-      .before .loop .marks) (c .before .loop .count) (c .before .loop .at) (omega arith) (c .before .loop .inv .2);
-  canonical = λ z. c .before .loop .inv .0 .canonical;
-  room = λ z. omega (
-    arith,
-    c .before .loop .inv .0 .room,
-    c .before .loop
-        .inv .0 .size,
-  );
-}
+returns-2 c =
+    let c5 = c .before .before .before .before .before in
+    record {
+      result = reading-end (c5 .args .bytes .now) (c .before .loop .rows) (c
+          .before .loop .marks) (c .before .loop .count) (c .before .loop .at) (omega arith) (c .before .loop .inv .2);
+      canonical = λ z. c .before .loop .inv .0 .canonical;
+      room = λ z. omega (
+        arith,
+        c .before .loop .inv .0 .room,
+        c .before .loop
+            .inv .0 .size,
+      );
+    }
 
 pub records-spec : {M : Type 1} → statement M
 records-spec =

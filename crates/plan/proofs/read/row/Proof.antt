@@ -30,23 +30,25 @@ tag : (c : tie.Joined1) → getD (c .before .before .before .before .before .arg
 tag c k t = ⊎-elim (λ w. omega arith) (λ w. omega arith) (c .if1 .came)
 
 returns : tie.Need-returns
-returns c = record {
-  fault = λ ms i e. row-field (c .before .before .before .before .before .before .args .s .now) (c .before .before
-      .before .before .before .before .args .rows .now) ms (c .before .before .before .before .before .before .args .count) i (c .before
-      .before .before .before .before .before .pre) (c .before .if1 .taken) (c .if2 .taken);
-  rows = refl;
-  link = λ z. refused _ z;
-}
+returns c =
+    let c6 = c .before .before .before .before .before .before in
+    record {
+      fault = λ ms i e. row-field (c6 .args .s .now) (c6 .args .rows .now) ms (c6 .args .count) i (c6 .pre) (c .before .if1 .taken)
+          (c .if2 .taken);
+      rows = refl;
+      link = λ z. refused _ z;
+    }
 
 returns-2 : tie.Need-returns-2
-returns-2 c = record {
-  fault = λ ms i e. row-order (c .before .before .before .before .before .before .args .s .now) (c .before .before
-      .before .before .before .before .args .rows .now) ms (c .before .before .before .before .before .before .args .count) i (c .before
-      .before .before .before .before .before .pre) (tag (c .before)) (byte (c .before)) (λ z. c .if3 .taken (e ∙ z));
-  rows = refl;
-  link =
-      λ z. refused _ z;
-}
+returns-2 c =
+    let c6 = c .before .before .before .before .before .before in
+    record {
+      fault = λ ms i e. row-order (c6 .args .s .now) (c6 .args .rows .now) ms (c6 .args .count) i (c6 .pre) (tag (c .before))
+          (byte (c .before)) (λ z. c .if3 .taken (e ∙ z));
+      rows = refl;
+      link =
+          λ z. refused _ z;
+    }
 
 number-at-requires : tie.Need-number-at-requires
 number-at-requires c κs = search needs
@@ -81,42 +83,45 @@ last-zero c ms e = sym e ∙ search (c .if3 .left, needs)
 
 stored-none : (c : tie.After-word) → c .word .result ≡ wordOf (rowIn (c .before .before .before .before .before .before .before .before
     .before .before .before .args .s .now))
-stored-none c = let h : c .word .result ≡ getD (c .before .before .before .before .before .before .before .before .before .before .before
-    .args .s .now) 0 0 - 16 + 4 * 0 + 4096 * getD (c .before .before .before .before .before .before .before .before .before .before
-    .before .args .s .now) 1 0 = omega (arith, c .word .ensures, c .before .before .wide .ensures .0, c .before .wide2 .ensures .0) in h
-    ∙ row-word-none (c .before .before .before .before .before .before .before .before .before .before .before .args .s .now) (c .before
-    .before .before .before .before .before .before .before .before .before .before .pre .low) (c .before .before .before .before .before
-    .before .before .before .before .before .before .pre .high) (sym (c .before .before .before .before .number-at .ensures .0) ∙ c
-    .before .before .before .if4 .taken)
+stored-none c =
+    let c3 = c .before .before .before in
+    let c4 = c3 .before in
+    let c11 = c4 .before .before .before .before .before .before .before in
+    let h : c .word .result ≡ getD (c11
+    .args .s .now) 0 0 - 16 + 4 * 0 + 4096 * getD (c11 .args .s .now) 1 0 = omega
+    (arith, c .word .ensures, c .before .before .wide .ensures .0, c .before .wide2 .ensures .0) in h
+    ∙ row-word-none (c11 .args .s .now) (c11 .pre .low) (c11 .pre .high) (sym (c4 .number-at .ensures .0) ∙ c3 .if4 .taken)
 
 returns-3 : tie.Need-returns-3
-returns-3 c = record {
-  fault = λ ms i e. row-none (c .before .before .before .before .before .before .before .before .before .before .before .args .s .now) (c
-      .before .before .before .before .before .before .before .before .before .before .before .args .rows .now) ms (c .before .before
-      .before .before .before .before .before .before .before .before .before .args .count) i (c .before .before .before .before .before
-      .before .before .before .before .before .before .pre) (tag (c .before .before .before .before .before .before)) (byte (c .before
-      .before .before .before .before .before)) (last-zero (c .before .before .before .before .before) ms e) (sym (c .before .before
-      .before .before .number-at .ensures .0) ∙ c .before .before .before .if4 .taken);
-  rows = ap (set (c .before .before .before .before .before .before .before .before .before .before .before .args .rows .now) (c .before
-      .before .before .before .before .before .before .before .before .before .before .args .count)) (stored-none c);
-  link = λ z. link-none (c .before .before .before .before .before .before .before .before .before .before .before .args .s .now) (sym (c
-      .before .before .before .before .number-at .ensures .0) ∙ c .before .before .before .if4 .taken);
-}
+returns-3 c =
+    let c3 = c .before .before .before in
+    let c4 = c3 .before in
+    let c5 = c4 .before in
+    let c6 = c5 .before in
+    let c11 = c6 .before .before .before .before .before in
+    record {
+      fault = λ ms i e. row-none (c11 .args .s .now) (c11 .args .rows .now) ms (c11 .args .count) i (c11 .pre) (tag (c6)) (byte (c6))
+          (last-zero (c5) ms e) (sym (c4 .number-at .ensures .0) ∙ c3 .if4 .taken);
+      rows = ap (set (c11 .args .rows .now) (c11 .args .count)) (stored-none c);
+      link = λ z. link-none (c11 .args .s .now) (sym (c4 .number-at .ensures .0) ∙ c3 .if4 .taken);
+    }
 
 parent-known : (c : tie.Else4) → wordAt (c .before .before .before .before .before .before .before .before .args .s .now) 2 ≡ 65535 → ⊥
 parent-known c h = c .if4 .left (c .before .number-at .ensures .0 ∙ h)
 
 returns-4 : tie.Need-returns-4
-returns-4 c = record {
-  fault = λ ms i e. row-high (c .before .before .before .before .before .before .before .before .before .args .s
-      .now) (c .before .before .before .before .before .before .before .before .before .args .rows .now) ms (c .before .before .before
-      .before .before .before .before .before .before .args .count) i (c .before .before .before .before .before .before .before .before
-      .before .pre) (tag (c .before .before .before .before)) (byte (c .before .before .before .before)) (last-zero (c .before .before
-      .before) ms e) (parent-known (c .before)) (omega (arith, c .before .before .number-at .ensures .0, c .if5 .taken));
-  rows = refl;
-  link
-      = λ z. refused _ z;
-}
+returns-4 c =
+    let c3 = c .before .before .before in
+    let c4 = c3 .before in
+    let c9 = c4 .before .before .before .before .before in
+    record {
+      fault = λ ms i e. row-high (c9 .args .s
+          .now) (c9 .args .rows .now) ms (c9 .args .count) i (c9 .pre) (tag (c4)) (byte (c4)) (last-zero (c3) ms e)
+          (parent-known (c .before)) (omega (arith, c .before .before .number-at .ensures .0, c .if5 .taken));
+      rows = refl;
+      link
+          = λ z. refused _ z;
+    }
 
 mul-kind : tie.Need-mul-kind
 mul-kind c = search needs
@@ -130,8 +135,10 @@ kind-requires c κs = search needs
 parent-kind : (c : tie.After-kind) → getD (c .before .before .before .before .before .before .before .before .before .before .before
     .args .rows .now) (wordAt (c .before .before .before .before .before .before .before .before .before .before .before .args .s .now)
     2) 0 % 4 ≡ c .kind .result
-parent-kind c = sym (c .kind .ensures ∙ ap (λ (j : ℕ). getD (c .before .before .before .before .before .before .before .before .before
-    .before .before .args .rows .now) j 0 % 4) (c .before .before .before .before .number-at .ensures .0))
+parent-kind c =
+    let c4 = c .before .before .before .before in
+    let c11 = c4 .before .before .before .before .before .before .before in
+    sym (c .kind .ensures ∙ ap (λ (j : ℕ). getD (c11 .args .rows .now) j 0 % 4) (c4 .number-at .ensures .0))
 
 returns-5 : tie.Need-returns-5
 returns-5 c =
@@ -188,52 +195,47 @@ same-length-2 c = search needs
 stored-some : (c : tie.After-word2) → c .word2 .result ≡ wordOf (rowIn (c .before .before .before .before .before .before .before .before
     .before .before .before .before .before .before .before .args .s .now))
 stored-some c =
-    let h : c .word2 .result ≡ getD (c .before .before .before .before .before .before .before .before .before .before .before .before
-    .before .before .before .args .s .now) 0 0 - 16 + 4 * (wordAt (c .before .before .before .before .before .before .before .before
-    .before .before .before .before .before .before .before .args .s .now) 2 + 1) + 4096 * getD (c .before .before .before .before
-    .before .before .before .before .before .before .before .before .before .before .before .args .s .now) 1 0 = omega (
+    let c7 = c .before .before .before .before .before .before .before in
+    let c8 = c7 .before in
+    let c15 = c8 .before .before .before .before .before .before .before in
+    let h : c .word2 .result ≡ getD (c15 .args .s .now) 0 0 - 16 + 4 * (wordAt (c15 .args .s .now) 2 + 1) + 4096 * getD
+    (c15 .args .s .now) 1 0 = omega (
       arith,
       c
           .word2 .ensures,
-      c .before .before .before .before .before .before .before .before .number-at .ensures .0,
+      c8 .number-at .ensures .0,
       c .before .before
           .wide3 .ensures .0,
       c .before .wide4 .ensures .0,
     ) in
-    h ∙ row-word-some (c .before .before .before .before .before .before .before .before .before .before .before .before .before .before
-    .before .args .s .now) (c .before .before .before .before .before .before .before .before .before .before .before .before .before
-    .before .before .pre .low) (c .before .before .before .before .before .before .before .before .before .before .before .before
-    .before .before .before .pre .high) (parent-known (c .before .before .before .before .before .before .before))
+    h ∙ row-word-some (c15 .args .s .now) (c15 .pre .low) (c15 .pre .high) (parent-known (c7))
 
 returns-6 : tie.Need-returns-6
-returns-6 c = record {
-  fault = λ ms i e. row-child (c .before .before .before .before .before .before .before .before .before .before .before .before .before
-      .before .before .args .s .now) (c .before .before .before .before .before .before .before .before .before .before .before .before
-      .before .before .before .args .rows .now) ms (c .before .before .before .before .before .before .before .before .before .before
-      .before .before .before .before .before .args .count) i (c .before .before .before .before .before .before .before .before .before
-      .before .before .before .before .before .before .pre) (tag (c .before .before .before .before .before .before .before .before
-      .before .before)) (byte (c .before .before .before .before .before .before .before .before .before .before)) (last-zero (c .before
-      .before .before .before .before .before .before .before .before) ms e) (parent-known (c .before .before .before .before .before
-      .before .before)) (omega (
+returns-6 c =
+    let c3 = c .before .before .before in
+    let c4 = c3 .before in
+    let c6 = c4 .before .before in
+    let c7 = c6 .before in
+    let c8 = c7 .before in
+    let c9 = c8 .before in
+    let c10 = c9 .before in
+    let c15 = c10 .before .before .before .before .before in
+    record {
+      fault = λ ms i e. row-child (c15 .args .s .now) (c15 .args .rows .now) ms (c15 .args .count) i (c15 .pre) (tag (c10)) (byte (c10))
+          (last-zero (c9) ms e) (parent-known (c7)) (omega (
+            arith,
+            c8 .number-at .ensures .0,
+            c6 .if5 .left,
+          )) (λ z. c3 .if6 .left (sym (parent-kind (c4)) ∙ z));
+      rows = ap (set (c15 .args .rows .now) (c15 .args .count)) (stored-some c);
+      link = λ z. link-some (c15 .args .s .now) (omega (
         arith,
-        c .before .before .before .before .before .before .before .before .number-at .ensures .0,
-        c
-            .before .before .before .before .before .before .if5 .left,
-      )) (λ z. c .before .before .before .if6 .left (sym (parent-kind (c
-      .before .before .before .before)) ∙ z));
-  rows = ap (set (c .before .before .before .before .before .before .before .before .before .before .before .before .before .before
-      .before .args .rows .now) (c .before .before .before .before .before .before .before .before .before .before .before .before
-      .before .before .before .args .count)) (stored-some c);
-  link = λ z. link-some (c .before .before .before .before .before .before .before .before .before .before .before .before .before
-      .before .before .args .s .now) (omega (
-        arith,
-        c .before .before .before .before .before .before .before .before .number-at .ensures
+        c8 .number-at .ensures
             .0,
-        c .before .before .before .before .before .before .if5 .left,
-        c .before .before .before .before .before .before .before .before
-            .before .before .before .before .before .before .before .pre .room,
+        c6 .if5 .left,
+        c15 .pre .room,
       ));
-}
+    }
 
 pub row-spec : {M : Type 1} → statement M
 row-spec =

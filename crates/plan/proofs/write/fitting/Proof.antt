@@ -28,9 +28,9 @@ within c = omega (arith, fit c .few, size c .rows)
 
 long : (c : tie.After-stored-length) → c .stored-length .result ≡ length (stored (decode (c .before .before .before .before .before .args
     .t1)))
-long c = c .stored-length .ensures ∙ sym (length-stored (c .before .before .before .before .before .args .t1 .count) (c .before .before
-    .before .before .before .args .t1 .rows) (c .before .before .before .before .before .args .t1 .marks) (within (c .before .before
-    .before .before .before)))
+long c =
+    let c5 = c .before .before .before .before .before in
+    c .stored-length .ensures ∙ sym (length-stored (c5 .args .t1 .count) (c5 .args .t1 .rows) (c5 .args .t1 .marks) (within (c5)))
 
 stored-length-requires : tie.Need-stored-length-requires
 stored-length-requires c κs =
@@ -60,20 +60,19 @@ mul-marks c = search needs
 wrote : (c : tie.After-rows) → length (c .rows .last .0) ≡ length (c .before .before .before .before .before .before .before .before
     .before .before .before .args .out .now)
 wrote c =
+    let c5 = c .before .before .before .before .before in
+    let c6 = c5 .before in
+    let c11 = c6 .before .before .before .before .before in
     ap length (c .rows .ensures) ∙
-    length-over 0 (rowsBytes (rowsOf (c .before .before .before .before .before .before .before .before .before .before .before .args .t1
-    .count) (c .before .before .before .before .before .before .before .before .before .before .before .args .t1 .rows))) (c .before
-    .before .before .before .before .before .before .before .before .before .before .args .out .now)
+    length-over 0 (rowsBytes (rowsOf (c11 .args .t1
+    .count) (c11 .args .t1 .rows))) (c11 .args .out .now)
     (omega (
       arith,
-      c .before .before .before .before .before .before .stored-length .ensures,
-      c .before .before .before .before .before .if1 .left,
-      length-rowsBytes (rowsOf (c .before .before .before .before .before .before .before .before .before .before .before .args .t1
-          .count) (c .before .before .before .before .before .before .before .before .before .before .before .args .t1 .rows)),
-      count-decode (c .before .before .before .before .before .before .before .before .before .before .before .args .t1 .count) (c
-          .before .before .before .before .before .before .before .before .before .before .before .args .t1 .rows) (c .before .before
-          .before .before .before .before .before .before .before .before .before .args .t1 .marks) (within (c .before .before .before
-          .before .before .before .before .before .before .before .before)),
+      c6 .stored-length .ensures,
+      c5 .if1 .left,
+      length-rowsBytes (rowsOf (c11 .args .t1
+          .count) (c11 .args .t1 .rows)),
+      count-decode (c11 .args .t1 .count) (c11 .args .t1 .rows) (c11 .args .t1 .marks) (within (c11)),
     ))
 
 marks-requires : tie.Need-marks-requires

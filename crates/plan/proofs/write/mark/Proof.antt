@@ -13,8 +13,10 @@ use Rattle.plan.proofs.write.mark.Statement.{statement}
 use Rattle.plan.proofs.write.mark.Tie as tie
 
 returns : tie.Need-returns
-returns c = sym (ap (λ (b : List ℕ). over (c .before .before .args .at) b (c .before .before .args .out .now)) (mark-none (c .before
-    .before .args .document) (c .before .before .args .link) (c .if1 .taken)) ∙ over-nil (c .before .before .args .at) (c .before .before
+returns c =
+    let c2 = c .before .before in
+    sym (ap (λ (b : List ℕ). over (c2 .args .at) b (c2 .args .out .now))
+    (mark-none (c2 .args .document) (c2 .args .link) (c .if1 .taken)) ∙ over-nil (c2 .args .at) (c2
     .args .out .now))
 
 sub-index : tie.Need-sub-index
@@ -35,12 +37,14 @@ same-length : tie.Need-same-length
 same-length c = search needs
 
 returns-2 : tie.Need-returns-2
-returns-2 c = c .before .before .put .ensures ∙ ap (λ (n : ℕ). over (c .before .before .before .before .before .before .before .args .at)
-    (19 ∷ c .before .before .before .before .before .before .before .args .document ∷ wordBytes n) (c .before .before .before .before
-    .before .before .before .args .out .now)) (c .before .before .before .index .ensures .0) ∙ sym (ap (λ (b : List ℕ). over (c .before
-    .before .before .before .before .before .before .args .at) b (c .before .before .before .before .before .before .before .args .out
-    .now)) (mark-some (c .before .before .before .before .before .before .before .args .document) (c .before .before .before .before
-    .before .before .before .args .link) (c .before .before .before .before .before .if1 .left)))
+returns-2 c =
+    let c3 = c .before .before .before in
+    let c5 = c3 .before .before in
+    let c7 = c5 .before .before in
+    c .before .before .put .ensures ∙ ap (λ (n : ℕ). over (c7 .args .at)
+    (19 ∷ c7 .args .document ∷ wordBytes n) (c7 .args .out .now)) (c3 .index .ensures .0) ∙ sym
+    (ap (λ (b : List ℕ). over (c7 .args .at) b (c7 .args .out
+    .now)) (mark-some (c7 .args .document) (c7 .args .link) (c5 .if1 .left)))
 
 pub mark-spec : {M : Type 1} → statement M
 mark-spec =

@@ -22,14 +22,15 @@ abbrev μ-loop : tie.MeasureT-loop
 μ-loop out₀ marks start d₀ at₀ out d at = length marks - d
 
 loop-holds : tie.Need-loop-holds Inv-loop μ-loop
-loop-holds c = (
-  omega arith,
-  omega (arith, ap length (marks-start (c .before .before .args .marks .now))),
-  sym (ap (λ (b : List ℕ). over
-      (c .before .before .args .start) b (c .before .before .args .out .now)) (marks-start (c .before .before .args .marks .now)) ∙
-      over-nil (c .before .before .args .start) (c .before .before .args .out .now)),
-  refl,
-)
+loop-holds c =
+    let c2 = c .before .before in (
+      omega arith,
+      omega (arith, ap length (marks-start (c2 .args .marks .now))),
+      sym (ap (λ (b : List ℕ). over
+          (c2 .args .start) b (c2 .args .out .now)) (marks-start (c2 .args .marks .now)) ∙
+          over-nil (c2 .args .start) (c2 .args .out .now)),
+      refl,
+    )
 
 cast-mark : tie.Need-cast-mark Inv-loop μ-loop
 cast-mark c = search needs
@@ -43,18 +44,20 @@ shared-slice-read-mark c = search needs
 room : (c : tie.In-loop Inv-loop μ-loop) → c .before .loop .at + length (markBytes (c .before .loop .d) (linked (getD (c .before .before
     .before .before .args .marks .now) (c .before .loop .d) 0))) ≤ length (c .before .before .before .before .args .out .now)
 room c =
+    let c4 = c .before .before .before .before in
     omega (
       arith,
       c .before .loop .inv .1,
-      c .before .before .before .before .pre .room,
-      length-marks (c .before .before .before .before
+      c4 .pre .room,
+      length-marks (c4
           .args .marks .now) (c .before .loop .d) (c .loop-test .taken),
-      marks-front 0 (c .before .loop .d + 1) (c .before .before .before
-          .before .args .marks .now),
+      marks-front 0 (c .before .loop .d + 1) (c4 .args .marks .now),
     )
 
 mark-requires : tie.Need-mark-requires Inv-loop μ-loop
-mark-requires c κs = omega (arith, room (c .before .before), c .before .before .before .loop .inv .3)
+mark-requires c κs =
+    let c3 = c .before .before .before in
+    omega (arith, room (c .before .before), c3 .loop .inv .3)
 
 mul-mark-length : tie.Need-mul-mark-length Inv-loop μ-loop
 mul-mark-length c = search needs
@@ -84,43 +87,37 @@ loop-less : tie.Need-loop-less Inv-loop μ-loop
 loop-less c = omega arith
 
 loop-again : tie.Need-loop-again Inv-loop μ-loop
-loop-again c = (
-  omega arith,
-  omega (
-    arith,
-    c .before .before .before .before .before .before .before .before .loop .inv .1,
-    length-marks
-        (c .before .before .before .before .before .before .before .before .before .before .before .args .marks .now) (c .before .before
-        .before .before .before .before .before .before .loop .d) (c .before .before .before .before .before .before .before .loop-test
-        .taken),
-    c .mark-length .ensures (c .before .before .before .before .before .before .before .before .loop .d),
-  ),
-  c .before .before
-      .before .before .mark .ensures ∙ ap (λ (i : ℕ). over i (markBytes (c .before .before .before .before .before .before .before .before
-      .loop .d) (linked (getD (c .before .before .before .before .before .before .before .before .before .before .before .args .marks .now)
-      (c .before .before .before .before .before .before .before .before .loop .d) 0))) (c .before .before .before .before .before .before
-      .before .before .loop .out)) (c .before .before .before .before .before .before .before .before .loop .inv .1) ∙ ap (over (c .before
-      .before .before .before .before .before .before .before .before .before .before .args .start + length (marksBytes 0 (map linked (take
-      (c .before .before .before .before .before .before .before .before .loop .d) (c .before .before .before .before .before .before
-      .before .before .before .before .before .args .marks .now))))) (markBytes (c .before .before .before .before .before .before .before
-      .before .loop .d) (linked (getD (c .before .before .before .before .before .before .before .before .before .before .before .args
-      .marks .now) (c .before .before .before .before .before .before .before .before .loop .d) 0)))) (c .before .before .before .before
-      .before .before .before .before .loop .inv .2) ∙ marks-grown (c .before .before .before .before .before .before .before .before
-      .before .before .before .args .marks .now) (c .before .before .before .before .before .before .before .before .loop .d) (c .before
-      .before .before .before .before .before .before .loop-test .taken) (c .before .before .before .before .before .before .before .before
-      .before .before .before .args .out .now) (c .before .before .before .before .before .before .before .before .before .before .before
-      .args .start) (omega (
+loop-again c =
+    let c4 = c .before .before .before .before in
+    let c7 = c4 .before .before .before in
+    let c8 = c7 .before in
+    let c11 = c8 .before .before .before in (
+      omega arith,
+      omega (
         arith,
-        room (c .before .before .before .before .before .before .before),
-        c .before .before .before .before
-            .before .before .before .before .loop .inv .1,
-      )),
-  search (
-    c .before .before .before .before .before .before .before .before .loop .inv
-        .3,
-    needs,
-  ),
-)
+        c8 .loop .inv .1,
+        length-marks
+            (c11 .args .marks .now) (c8 .loop .d) (c7 .loop-test
+            .taken),
+        c .mark-length .ensures (c8 .loop .d),
+      ),
+      c4 .mark .ensures ∙ ap (λ (i : ℕ). over i (markBytes (c8
+          .loop .d) (linked (getD (c11 .args .marks .now)
+          (c8 .loop .d) 0))) (c8 .loop .out)) (c8 .loop .inv .1) ∙ ap (over (c11 .args .start + length (marksBytes 0 (map linked (take
+          (c8 .loop .d) (c11 .args .marks .now))))) (markBytes (c8 .loop .d) (linked (getD (c11 .args
+          .marks .now) (c8 .loop .d) 0)))) (c8 .loop .inv .2) ∙ marks-grown (c11 .args .marks .now) (c8 .loop .d) (c7 .loop-test .taken)
+          (c11 .args .out .now) (c11
+          .args .start) (omega (
+            arith,
+            room (c7),
+            c8 .loop .inv .1,
+          )),
+      search (
+        c8 .loop .inv
+            .3,
+        needs,
+      ),
+    )
 
 same-length : tie.Need-same-length Inv-loop μ-loop
 same-length c = search needs

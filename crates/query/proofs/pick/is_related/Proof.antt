@@ -18,8 +18,10 @@ signed-key-requires-2 : tie.Need-signed-key-requires-2
 signed-key-requires-2 c κs = search needs
 
 returns-2 : tie.Need-returns-2
-returns-2 c = rw (c .before .before .if2 .taken) (ap (λ (a : ℕ). ltb a (c .signed-key2 .result)) (c .before .signed-key .ensures) ∙ ap
-    (ltb (signedKey (c .before .before .before .before .args .value))) (c .signed-key2 .ensures))
+returns-2 c =
+    let c4 = c .before .before .before .before in
+    rw (c .before .before .if2 .taken) (ap (λ (a : ℕ). ltb a (c .signed-key2 .result)) (c .before .signed-key .ensures) ∙ ap
+    (ltb (signedKey (c4 .args .value))) (c .signed-key2 .ensures))
 
 signed-key-requires-3 : tie.Need-signed-key-requires-3
 signed-key-requires-3 c κs = search needs

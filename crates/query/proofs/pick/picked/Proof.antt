@@ -19,16 +19,16 @@ abbrev μ-loop : tie.MeasureT-loop
 μ-loop rows relation constant work₀ from to at₀ k₀ work at k = to - k
 
 loop-holds : tie.Need-loop-holds Inv-loop μ-loop
-loop-holds c = (
-  omega arith,
-  c .before .before .pre .order,
-  omega arith,
-  filtered-none (pickedRow (c .before .before .args .rows .now) (c
-      .before .before .args .relation) (c .before .before .args .constant)) (c .before .before .args .work .now) (c .before .before .args
-      .from),
-  refl,
-  refl,
-)
+loop-holds c =
+    let c2 = c .before .before in (
+      omega arith,
+      c2 .pre .order,
+      omega arith,
+      filtered-none (pickedRow (c2 .args .rows .now) (c2 .args .relation) (c2 .args .constant)) (c2 .args .work .now) (c2 .args
+          .from),
+      refl,
+      refl,
+    )
 
 mul-item : tie.Need-mul-item Inv-loop μ-loop
 mul-item c = search needs
@@ -46,31 +46,28 @@ mul-is-picked c = search needs
 
 item-low : (c : tie.After-index Inv-loop μ-loop) → c .index .result < 512
 item-low c =
-    let k : c .before .before .before .loop .k - c .before .before .before .before .before .before .args .from < c .before .before
-    .before .before .before .before .args .to - c .before .before .before .before .before .before .args .from = omega (
+    let c3 = c .before .before .before in
+    let c6 = c3 .before .before .before in
+    let k : c3 .loop .k - c6 .args .from < c6 .args .to - c6 .args .from = omega (
       arith,
-      c
-          .before .before .before .loop .inv .0,
+      c3 .loop .inv .0,
     ) in
-    let e : c .before .before .before .before .before .before .args .from + (c .before .before .before .loop .k - c .before .before
-    .before .before .before .before .args .from) ≡ c .before .before .before .loop .k = omega (
+    let e : c6 .args .from + (c3 .loop .k - c6 .args .from) ≡ c3 .loop .k = omega (
       arith,
-      c .before .before .before .loop
+      c3 .loop
           .inv .0,
     ) in
     omega (
       arith,
       c .index .ensures .0,
-      rest-at (c .before .before .before .before .before .before .args .work .now) (c .before .before .before .loop .work) (c .before
-          .before .before .loop .k) (c .before .before .before .loop .inv .4),
-      c .before .before .before .before .before .before .pre .low (c .before .before .before .loop .k - c .before .before .before .before
-          .before .before .args .from) k,
-      getD-take (c .before .before .before .before .before .before .args .to - c .before .before .before .before .before .before .args
-          .from) (drop (c .before .before .before .before .before .before .args .from) (c .before .before .before .before .before .before
-          .args .work .now)) (c .before .before .before .loop .k - c .before .before .before .before .before .before .args .from) 0 k,
-      getD-drop (c .before .before .before .before .before .before .args .from) (c .before .before .before .before .before .before .args
-          .work .now) (c .before .before .before .loop .k - c .before .before .before .before .before .before .args .from) 0 ∙ ap (λ (j :
-          ℕ). getD (c .before .before .before .before .before .before .args .work .now) j 0) e,
+      rest-at (c6 .args .work .now) (c3 .loop .work) (c3 .loop .k) (c3 .loop .inv .4),
+      c6 .pre .low (c3 .loop .k - c6 .args .from) k,
+      getD-take (c6 .args .to - c6 .args
+          .from) (drop (c6 .args .from) (c6
+          .args .work .now)) (c3 .loop .k - c6 .args .from) 0 k,
+      getD-drop (c6 .args .from) (c6 .args
+          .work .now) (c3 .loop .k - c6 .args .from) 0 ∙ ap (λ (j :
+          ℕ). getD (c6 .args .work .now) j 0) e,
     )
 
 shared-slice-read-is-picked : tie.Need-shared-slice-read-is-picked Inv-loop μ-loop
@@ -95,33 +92,36 @@ loop-less c = omega arith
 
 past-low : (c : tie.After-append-if Inv-loop μ-loop) → c .append-if .result ≤ c .before .before .before .before .before .before .before
     .loop .k + 1
-past-low c = omega (
-  arith,
-  c .append-if .ensures .1,
-  pick-low (c .before .before .is-picked .result) (c .before .before .before .before
-      .before .before .before .loop .at),
-  c .before .before .before .before .before .before .before .loop .inv .2,
-)
+past-low c =
+    let c7 = c .before .before .before .before .before .before .before in
+    omega (
+      arith,
+      c .append-if .ensures .1,
+      pick-low (c .before .before .is-picked .result) (c7 .loop .at),
+      c7 .loop .inv .2,
+    )
 
 loop-again : tie.Need-loop-again Inv-loop μ-loop
 loop-again c =
-    let c4 = c .before .before .before .before in
+    let c2 = c .before .before in
+    let c4 = c2 .before .before in
     let c6 = c4 .before .before in
     let c9 = c6 .before .before .before in
     let c12 = c9 .before .before .before in (
       omega (arith, c9 .loop .inv .0),
       omega arith,
-      past-low (c .before .before),
+      past-low (c2),
       filtered-by (pickedRow (c12 .args .rows .now) (c12
           .args .relation) (c12 .args .constant)) (c12 .args .work .now) (c9 .loop .work) (c12 .args .from) (c9 .loop .k) (c9 .loop .at) (c9
           .loop .inv .0) (omega (arith, c12 .pre .within)) (omega (arith, c9 .loop .inv .2, c9 .loop .inv .5, c12 .pre .within)) (c9 .loop
-          .inv .3) (c4 .is-picked .result) (getD (c9 .loop .work) (c9 .loop .k) 0) (c .before .before .append-if .last .1 .1 .0) (c .before
-          .before .append-if .result) (rest-at (c12 .args .work .now) (c9 .loop .work) (c9 .loop .k) (c9 .loop .inv .4)) (c4 .is-picked
+          .inv .3) (c4 .is-picked .result) (getD (c9 .loop .work) (c9 .loop .k) 0) (c2 .append-if .last .1 .1 .0) (c2 .append-if .result)
+          (rest-at (c12 .args .work .now) (c9 .loop .work) (c9 .loop .k) (c9 .loop .inv .4)) (c4 .is-picked
           .ensures ∙ ap (pickedRow (c12 .args .rows .now) (c12 .args .relation) (c12 .args .constant)) (c6 .index .ensures .0 ∙ rest-at (c12
-          .args .work .now) (c9 .loop .work) (c9 .loop .k) (c9 .loop .inv .4))) (c .before .before .append-if .ensures .0) (c .before .before
+          .args .work .now) (c9 .loop .work) (c9 .loop .k) (c9 .loop .inv .4))) (c2 .append-if .ensures .0) (c2
           .append-if .ensures .1),
-      ap (drop (c9 .loop .k + 1)) (c .before .before .append-if .ensures .0) ∙ rest-kept (c4 .is-picked .result)
-          (c12 .args .work .now) (c9 .loop .work) (c9 .loop .k) (c9 .loop .at) (getD (c9 .loop .work) (c9 .loop .k) 0) (c9 .loop .inv .2) (c9
+      ap (drop (c9 .loop .k + 1)) (c2 .append-if .ensures .0) ∙ rest-kept (c4 .is-picked .result)
+          (c12 .args .work .now) (c9 .loop .work) (c9 .loop .k) (c9 .loop .at) (getD (c9 .loop .work) (c9 .loop .k) 0) (c9 .loop .inv .2)
+          (c9
           .loop .inv .4),
       search (c9 .loop .inv .5, needs),
     )
@@ -130,31 +130,27 @@ same-length : tie.Need-same-length Inv-loop μ-loop
 same-length c = search (c .before .loop .inv .5, needs)
 
 returns : tie.Need-returns Inv-loop μ-loop
-returns c = record {
-  value = λ n ms few low. let e : c .before .loop .k ≡ c .before .before .before .before .args .to = omega (
-    arith,
-    c
-        .before .loop .inv .1,
-  ) in let l : length (valueAt (c .before .before .before .before .args .work .now) (c .before .before .before
-      .before .args .from) (c .before .before .before .before .args .to)) ≡ c .before .before .before .before .args .to - c .before .before
-      .before .before .args .from = length-take-le (c .before .before .before .before .args .to - c .before .before .before .before .args
-      .from) (drop (c .before .before .before .before .args .from) (c .before .before .before .before .args .work .now)) (omega (
+returns c =
+    let c4 = c .before .before .before .before in
+    record {
+      value = λ n ms few low. let e : c .before .loop .k ≡ c4 .args .to = omega (
         arith,
         c
-            .before .before .before .before .pre .within,
-        c .before .before .before .before .pre .order,
-        length-drop (c .before .before .before
-            .before .args .from) (c .before .before .before .before .args .work .now),
-      )) in subst (λ (v : List ℕ). Appended v (c .before .before
-      .before .before .args .work .now) (c .before .before .before .before .args .from) (c .before .loop .work) (c .before .loop .at))
-      (picked-rows (c .before .before .before .before .args .rows .now) n (c .before .before .before .before .args .relation) (c .before
-      .before .before .before .args .constant) (valueAt (c .before .before .before .before .args .work .now) (c .before .before .before
-      .before .args .from) (c .before .before .before .before .args .to)) ms (omega (arith, c .before .before .before .before .pre .rows))
-      (λ k b. low k (omega arith))) (subst (λ (j : ℕ). Appended (filtered (pickedRow (c .before .before .before .before .args .rows .now)
-      (c .before .before .before .before .args .relation) (c .before .before .before .before .args .constant)) (valueAt (c .before .before
-      .before .before .args .work .now) (c .before .before .before .before .args .from) j)) (c .before .before .before .before .args .work
-      .now) (c .before .before .before .before .args .from) (c .before .loop .work) (c .before .loop .at)) e (c .before .loop .inv .3));
-}
+            .before .loop .inv .1,
+      ) in let l : length (valueAt (c4 .args .work .now) (c4 .args .from) (c4 .args .to)) ≡ c4 .args .to - c4 .args .from = length-take-le
+          (c4 .args .to - c4 .args
+          .from) (drop (c4 .args .from) (c4 .args .work .now)) (omega (
+            arith,
+            c4 .pre .within,
+            c4 .pre .order,
+            length-drop (c4 .args .from) (c4 .args .work .now),
+          )) in subst (λ (v : List ℕ). Appended v (c4 .args .work .now) (c4 .args .from) (c .before .loop .work) (c .before .loop .at))
+          (picked-rows (c4 .args .rows .now) n (c4 .args .relation) (c4 .args .constant)
+          (valueAt (c4 .args .work .now) (c4 .args .from) (c4 .args .to)) ms (omega (arith, c4 .pre .rows))
+          (λ k b. low k (omega arith))) (subst (λ (j : ℕ). Appended (filtered (pickedRow (c4 .args .rows .now)
+          (c4 .args .relation) (c4 .args .constant)) (valueAt (c4 .args .work .now) (c4 .args .from) j)) (c4 .args .work
+          .now) (c4 .args .from) (c .before .loop .work) (c .before .loop .at)) e (c .before .loop .inv .3));
+    }
 
 pub picked-spec : {M : Type 1} → statement M
 picked-spec =

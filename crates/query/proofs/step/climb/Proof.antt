@@ -51,34 +51,32 @@ loop-less : tie.Need-loop-less Inv-loop μ-loop
 loop-less c = omega arith
 
 loop-again : tie.Need-loop-again Inv-loop μ-loop
-loop-again c = (
-  omega arith,
-  subst (Climbing (c .before .before .before .before .before .before .before .before .before .before .args
-      .rows .now) (c .before .before .before .before .before .before .before .before .before .before .args .count) (c .before .before
-      .before .before .before .before .before .before .before .before .args .deep) (c .before .before .before .before .before .before
-      .before .before .before .before .args .flags .now) (c .before .before .before .before .before .before .loop .j - 1)) (sym (c .before
-      .before .climb-one .ensures)) (climbing-next (c .before .before .before .before .before .before .before .before .before .before .args
-      .rows .now) (c .before .before .before .before .before .before .before .before .before .before .args .count) (c .before .before
-      .before .before .before .before .before .before .before .before .pre .held) (c .before .before .before .before .before .before
-      .before .before .before .before .args .deep) (c .before .before .before .before .before .before .before .before .before .before .args
-      .flags .now) (c .before .before .before .before .before .before .loop .j - 1) (omega arith) (c .before .before .before .before
-      .before .before .loop .reached) (let e : c .before .before .before .before .before .before .loop .j ≡ c .before .before .before
-      .before .before .before .loop .j - 1 + 1 = omega arith in subst (λ (t : ℕ). Climbing (c .before .before .before .before .before
-      .before .before .before .before .before .args .rows .now) (c .before .before .before .before .before .before .before .before .before
-      .before .args .count) (c .before .before .before .before .before .before .before .before .before .before .args .deep) (c .before
-      .before .before .before .before .before .before .before .before .before .args .flags .now) t (c .before .before .before .before
-      .before .before .loop .reached)) e (c .before .before .before .before .before .before .loop .inv .1))),
-)
+loop-again c =
+    let c6 = c .before .before .before .before .before .before in
+    let c10 = c6 .before .before .before .before in (
+      omega arith,
+      subst (Climbing (c10 .args
+          .rows .now) (c10 .args .count) (c10 .args .deep) (c10 .args .flags .now) (c6 .loop .j - 1)) (sym (c .before
+          .before .climb-one .ensures)) (climbing-next (c10 .args
+          .rows .now) (c10 .args .count) (c10 .pre .held) (c10 .args .deep) (c10 .args
+          .flags .now) (c6 .loop .j - 1) (omega arith) (c6 .loop .reached)
+          (let e : c6 .loop .j ≡ c6 .loop .j - 1 + 1 = omega arith in subst
+          (λ (t : ℕ). Climbing (c10 .args .rows .now) (c10 .args .count) (c10 .args .deep) (c10 .args .flags .now) t
+          (c6 .loop .reached)) e (c6 .loop .inv .1))),
+    )
 
 same-length : tie.Need-same-length Inv-loop μ-loop
-same-length c = search (c .before .loop .inv .1 .size, ap length (c .before .before .before .before .before .pre .clear), needs)
+same-length c =
+    let c5 = c .before .before .before .before .before in
+    search (c .before .loop .inv .1 .size, ap length (c5 .pre .clear), needs)
 
 returns : tie.Need-returns Inv-loop μ-loop
-returns c = let e : c .before .loop .j ≡ 0 = omega arith in climbed-all (c .before .before .before .before .before .args .rows .now) (c
-    .before .before .before .before .before .args .count) (c .before .before .before .before .before .pre .held) (c .before .before
-    .before .before .before .args .deep) (c .before .before .before .before .before .args .flags .now) (c .before .loop .reached) (subst
-    (λ (t : ℕ). Climbing (c .before .before .before .before .before .args .rows .now) (c .before .before .before .before .before .args
-    .count) (c .before .before .before .before .before .args .deep) (c .before .before .before .before .before .args .flags .now) t (c
+returns c =
+    let c5 = c .before .before .before .before .before in
+    let e : c .before .loop .j ≡ 0 = omega arith in climbed-all (c5 .args .rows .now) (c5 .args .count) (c5 .pre .held) (c5 .args .deep)
+    (c5 .args .flags .now) (c .before .loop .reached) (subst
+    (λ (t : ℕ). Climbing (c5 .args .rows .now) (c5 .args
+    .count) (c5 .args .deep) (c5 .args .flags .now) t (c
     .before .loop .reached)) e (c .before .loop .inv .1))
 
 pub climb-spec : {M : Type 1} → statement M

@@ -17,7 +17,9 @@ abbrev μ-loop : tie.MeasureT-loop
 μ-loop rows count reached test name work₀ from at₀ j₀ work at j = count - j
 
 loop-holds : tie.Need-loop-holds Inv-loop μ-loop
-loop-holds c = (omega arith, collected-none (c .before .before .before .args .work .now) (c .before .before .before .args .from) _, refl)
+loop-holds c =
+    let c3 = c .before .before .before in
+    (omega arith, collected-none (c3 .args .work .now) (c3 .args .from) _, refl)
 
 cast-row : tie.Need-cast-row Inv-loop μ-loop
 cast-row c = search needs
@@ -32,20 +34,22 @@ keeps-requires : tie.Need-keeps-requires Inv-loop μ-loop
 keeps-requires c κs = search needs
 
 room : (c : tie.In-loop Inv-loop μ-loop) → c .before .loop .at < length (c .before .loop .work)
-room c = omega (
-  arith,
-  c .before .loop .inv .1 .end,
-  length-collect (λ (i : ℕ). kept (c .before .before .before .before .before .args
-      .rows .now) i (getD (c .before .before .before .before .before .args .reached .now) (i + 1) 0) (c .before .before .before .before
-      .before .args .test) (c .before .before .before .before .before .args .name .0)) 0 (c .before .loop .j),
-  c .before .before .before
-      .before .before .pre .room,
-  c .before .before .before .before .before .pre .few,
-  c .before .loop .inv .2,
-)
+room c =
+    let c5 = c .before .before .before .before .before in
+    omega (
+      arith,
+      c .before .loop .inv .1 .end,
+      length-collect (λ (i : ℕ). kept (c5 .args
+          .rows .now) i (getD (c5 .args .reached .now) (i + 1) 0) (c5 .args .test) (c5 .args .name .0)) 0 (c .before .loop .j),
+      c5 .pre .room,
+      c5 .pre .few,
+      c .before .loop .inv .2,
+    )
 
 append-if-requires : tie.Need-append-if-requires Inv-loop μ-loop
-append-if-requires c κs = room (c .before .before .before)
+append-if-requires c κs =
+    let c3 = c .before .before .before in
+    room (c3)
 
 add-j : tie.Need-add-j Inv-loop μ-loop
 add-j c = search needs
@@ -55,7 +59,8 @@ loop-less c = omega arith
 
 loop-again : tie.Need-loop-again Inv-loop μ-loop
 loop-again c =
-    let c4 = c .before .before .before .before in
+    let c2 = c .before .before in
+    let c4 = c2 .before .before in
     let c6 = c4 .before .before in
     let c7 = c6 .before in
     let c11 = c7 .before .before .before .before in (
@@ -64,8 +69,8 @@ loop-again c =
           .args .reached .now) (i + 1) 0) (c11 .args
           .test) (c11 .args .name .0)) (c7 .loop .j) (c11 .args .work .now) (c7 .loop .work) (c11 .args .from) (c7 .loop
           .at) (room (c6)) (c7 .loop .inv
-          .1) (c4 .keeps .result) (c .before .before .append-if .last .1 .1 .0) (c .before .before .append-if
-          .result) (c4 .keeps .ensures) (c .before .before .append-if .ensures .0) (c .before .before .append-if
+          .1) (c4 .keeps .result) (c2 .append-if .last .1 .1 .0) (c2 .append-if
+          .result) (c4 .keeps .ensures) (c2 .append-if .ensures .0) (c2 .append-if
           .ensures .1),
       search (c7 .loop .inv .2, needs),
     )
@@ -74,10 +79,11 @@ same-length : tie.Need-same-length Inv-loop μ-loop
 same-length c = search needs
 
 returns : tie.Need-returns Inv-loop μ-loop
-returns c = let e : c .before .loop .j ≡ c .before .before .before .before .before .args .count = omega (arith, c .before .loop .inv .0)
-    in subst (λ (k : ℕ). Appended (keptRows (c .before .before .before .before .before .args .rows .now) (c .before .before .before
-    .before .before .args .reached .now) (c .before .before .before .before .before .args .test) (c .before .before .before .before
-    .before .args .name .0) k) (c .before .before .before .before .before .args .work .now) (c .before .before .before .before .before
+returns c =
+    let c5 = c .before .before .before .before .before in
+    let e : c .before .loop .j ≡ c5 .args .count = omega (arith, c .before .loop .inv .0)
+    in subst (λ (k : ℕ). Appended (keptRows (c5 .args .rows .now) (c5 .args .reached .now) (c5 .args .test) (c5 .args .name .0) k)
+    (c5 .args .work .now) (c5
     .args .from) (c .before .loop .work) (c .before .loop .at)) e (c .before .loop .inv .1)
 
 pub collect-spec : {M : Type 1} → statement M

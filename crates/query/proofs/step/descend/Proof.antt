@@ -57,12 +57,15 @@ loop-again c =
     let c10 = c6 .before .before .before .before in (
       omega arith,
       subst (Descending (c10 .args .rows .now) (c10 .args .count) (c10 .args .deep) (c10 .args .flags .now) (c6 .loop .j +
-          1)) (sym (c .before .before .descend-one .ensures)) (descending-next (c10 .args .rows .now) (c10 .args .count) (c10 .pre .held) (c10
+          1)) (sym (c .before .before .descend-one .ensures))
+          (descending-next (c10 .args .rows .now) (c10 .args .count) (c10 .pre .held) (c10
           .args .deep) (c10 .args .flags .now) (c6 .loop .j) (c5 .loop-test .taken) (c6 .loop .reached) (c6 .loop .inv .1)),
     )
 
 same-length : tie.Need-same-length Inv-loop μ-loop
-same-length c = search (c .before .loop .inv .1 .size, ap length (c .before .before .before .before .before .pre .clear), needs)
+same-length c =
+    let c5 = c .before .before .before .before .before in
+    search (c .before .loop .inv .1 .size, ap length (c5 .pre .clear), needs)
 
 returns : tie.Need-returns Inv-loop μ-loop
 returns c =

@@ -25,9 +25,11 @@ same : (c : tie.After-counts) → counted (getD (c .before .before .before .befo
     .before .before .before .before .args .w / 4 % 1024) 0) (getD (c .before .before .before .before .before .before .args .reached .now)
     (c .before .before .before .before .before .before .args .w / 4 % 1024) 0) (c .before .before .before .before .before .before .args
     .deep) ≡ c .counts .result
-same c = ap (λ (l : ℕ). counted (getD (c .before .before .before .before .before .before .args .flags .now) l 0) (getD (c .before .before
-    .before .before .before .before .args .reached .now) l 0) (c .before .before .before .before .before .before .args .deep)) (sym (c
-    .before .before .before .link .ensures)) ∙ sym (c .counts .ensures)
+same c =
+    let c3 = c .before .before .before in
+    let c6 = c3 .before .before .before in
+    ap (λ (l : ℕ). counted (getD (c6 .args .flags .now) l 0) (getD (c6 .args .reached .now) l 0) (c6 .args .deep))
+    (sym (c3 .link .ensures)) ∙ sym (c .counts .ensures)
 
 returns : tie.Need-returns
 returns c =

@@ -16,11 +16,12 @@ abbrev μ-loop : tie.MeasureT-loop
 μ-loop flags₀ items k₀ flags k = length items - k
 
 loop-holds : tie.Need-loop-holds Inv-loop μ-loop
-loop-holds c = (
-  omega arith,
-  flagged-none (c .before .before .args .flags .now) (c .before .before .args .items .now) (c .before .before
-      .pre .clear),
-)
+loop-holds c =
+    let c2 = c .before .before in (
+      omega arith,
+      flagged-none (c2 .args .flags .now) (c2 .args .items .now) (c2
+          .pre .clear),
+    )
 
 mul-index : tie.Need-mul-index Inv-loop μ-loop
 mul-index c = search needs
@@ -51,16 +52,21 @@ loop-again c =
     let c3 = c .before .before .before in
     let c6 = c3 .before .before .before in (
       omega arith,
-      subst (λ (j : ℕ). Flagged (take (c3 .loop .k + 1) (c6 .args .items .now)) (set (c3 .loop .flags) (j + 1) 1)) (sym (c .index .ensures .0))
+      subst (λ (j : ℕ). Flagged (take (c3 .loop .k + 1) (c6 .args .items .now)) (set (c3 .loop .flags) (j + 1) 1))
+          (sym (c .index .ensures .0))
           (flagged-next (c3 .loop .flags) (c6 .args .items .now) (c3 .loop .k) (c .before .before .loop-test .taken) (c6 .pre .low
           (c3 .loop .k) (c .before .before .loop-test .taken)) (c3 .loop .inv .1)),
     )
 
 same-length : tie.Need-same-length Inv-loop μ-loop
-same-length c = search (c .before .loop .inv .1 .size, ap length (c .before .before .before .before .pre .clear), needs)
+same-length c =
+    let c4 = c .before .before .before .before in
+    search (c .before .loop .inv .1 .size, ap length (c4 .pre .clear), needs)
 
 returns : tie.Need-returns Inv-loop μ-loop
-returns c = flagged-all (c .before .loop .flags) (c .before .before .before .before .args .items .now) (c .before .loop .k) (omega arith)
+returns c =
+    let c4 = c .before .before .before .before in
+    flagged-all (c .before .loop .flags) (c4 .args .items .now) (c .before .loop .k) (omega arith)
     (c .before .loop .inv .1)
 
 pub flag-spec : {M : Type 1} → statement M

@@ -23,10 +23,14 @@ same c = ap (λ (j : ℕ). getD (c .before .before .args .rows .now) j 0) (sym (
 
 kind-is : (c : tie.After-kind) → let a = c .before .before .before .before .before .args in
     c .kind .result ≡ getD (a .rows .now) (a .row .0) 0 % 4
-kind-is c = c .kind .ensures ∙ ap (λ (j : ℕ). j % 4) (sym (same (c .before .before .before)))
+kind-is c =
+    let c3 = c .before .before .before in
+    c .kind .ensures ∙ ap (λ (j : ℕ). j % 4) (sym (same (c3)))
 
 returns : tie.Need-returns
-returns c = let a = c .before .before .before .before .args in
+returns c =
+    let c4 = c .before .before .before .before in
+    let a = c4 .args in
     sym (pass-any (getD (a .rows .now) (a .row .0) 0) (a .test) (a .name .0) (c .if1 .taken))
 
 kind-requires : tie.Need-kind-requires

@@ -14,9 +14,11 @@ same-length : tie.Need-same-length
 same-length c = search needs
 
 returns : tie.Need-returns
-returns c = subst (λ (a : ℕ). Reached (c .before .before .before .before .before .before .before .before .args .rows .now) (c .before
-    .before .before .before .before .before .before .before .args .count) a (c .before .before .before .before .before .before .before
-    .before .args .flags .now) (c .before .before .descend .last .1 .1 .1 .1 .0)) (sym (c .before .before .before .before .if1 .taken))
+returns c =
+    let c4 = c .before .before .before .before in
+    let c8 = c4 .before .before .before .before in
+    subst (λ (a : ℕ). Reached (c8 .args .rows .now) (c8 .args .count) a (c8 .args .flags .now)
+    (c .before .before .descend .last .1 .1 .1 .1 .0)) (sym (c4 .if1 .taken))
     (c .before .before .descend .ensures)
 
 descend-requires-2 : tie.Need-descend-requires-2
@@ -40,10 +42,12 @@ same-length-3 : tie.Need-same-length-3
 same-length-3 c = search needs
 
 returns-3 : tie.Need-returns-3
-returns-3 c = subst (λ (a : ℕ). Reached (c .before .before .before .before .before .before .before .before .before .before .args .rows
-    .now) (c .before .before .before .before .before .before .before .before .before .before .args .count) a (c .before .before .before
-    .before .before .before .before .before .before .before .args .flags .now) (c .before .before .climb .last .1 .1 .1 .1 .0)) (sym (c
-    .before .before .before .before .if3 .taken)) (c .before .before .climb .ensures)
+returns-3 c =
+    let c4 = c .before .before .before .before in
+    let c10 = c4 .before .before .before .before .before .before in
+    subst (λ (a : ℕ). Reached (c10 .args .rows
+    .now) (c10 .args .count) a (c10 .args .flags .now) (c .before .before .climb .last .1 .1 .1 .1 .0)) (sym (c4 .if3 .taken))
+    (c .before .before .climb .ensures)
 
 climb-requires-2 : tie.Need-climb-requires-2
 climb-requires-2 c κs = search needs
@@ -52,18 +56,20 @@ same-length-4 : tie.Need-same-length-4
 same-length-4 c = search needs
 
 returns-4 : tie.Need-returns-4
-returns-4 c = let e : 3 ≡ c .before .before .before .before .before .before .before .before .before .before .args .axis = omega (
-  arith,
-  c
-      .before .before .before .before .before .before .before .before .before .before .pre .0,
-  c .before .before .before .before .before
-      .before .if1 .left,
-  c .before .before .before .before .before .if2 .left,
-  c .before .before .before .before .if3 .left,
-) in subst (λ
-    (a : ℕ). Reached (c .before .before .before .before .before .before .before .before .before .before .args .rows .now) (c .before
-    .before .before .before .before .before .before .before .before .before .args .count) a (c .before .before .before .before .before
-    .before .before .before .before .before .args .flags .now) (c .before .before .climb2 .last .1 .1 .1 .1 .0)) e (c .before .before
+returns-4 c =
+    let c4 = c .before .before .before .before in
+    let c5 = c4 .before in
+    let c6 = c5 .before in
+    let c10 = c6 .before .before .before .before in
+    let e : 3 ≡ c10 .args .axis = omega (
+      arith,
+      c10 .pre .0,
+      c6 .if1 .left,
+      c5 .if2 .left,
+      c4 .if3 .left,
+    ) in subst (λ
+    (a : ℕ). Reached (c10 .args .rows .now) (c10 .args .count) a (c10 .args .flags .now)
+    (c .before .before .climb2 .last .1 .1 .1 .1 .0)) e (c .before .before
     .climb2 .ensures)
 
 pub reach-spec : {M : Type 1} → statement M

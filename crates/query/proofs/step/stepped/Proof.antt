@@ -68,32 +68,24 @@ same-length : tie.Need-same-length
 same-length c = search needs
 
 returns : tie.Need-returns
-returns c = record {
-  value = λ ms. subst (λ (v : List ℕ). Appended v (c .before .before .before .before .before .before .before .before
-      .before .before .before .before .before .before .before .before .before .args .work .now) (c .before .before .before .before .before
-      .before .before .before .before .before .before .before .before .before .before .before .before .args .from) (c .before .before
-      .collect .last .1 .1 .1 .1 .1 .0) (c .before .before .collect .result)) (step-rows (c .before .before .before .before .before .before
-      .before .before .before .before .before .before .before .before .before .before .before .args .rows .now) (c .before .before .before
-      .before .before .before .before .before .before .before .before .before .before .before .before .before .before .args .count) (c
-      .before .before .before .before .before .before .before .before .before .before .before .before .before .before .before .before
-      .before .args .by .axis) (c .before .before .before .before .before .before .before .before .before .before .before .before .before
-      .before .before .before .before .args .by .test) (c .before .before .before .before .before .before .before .before .before .before
-      .before .before .before .before .before .before .before .args .by .name .0) (c .before .before .before .before .before .before
-      .before .before .before .before .before .flag .last .0) (c .before .before .before .before .before .before .before .reach .last .1 .1
-      .1 .1 .0) (valueAt (c .before .before .before .before .before .before .before .before .before .before .before .before .before .before
-      .before .before .before .args .work .now) (c .before .before .before .before .before .before .before .before .before .before .before
-      .before .before .before .before .before .before .args .from) (c .before .before .before .before .before .before .before .before
-      .before .before .before .before .before .before .before .before .before .args .to)) ms (omega (
-        arith,
-        c .before .before .before
-            .before .before .before .before .before .before .before .before .before .before .before .before .before .before .pre .held
-            .rows,
-        c
-            .before .before .before .before .before .before .before .before .before .before .before .before .before .before .before .before
-            .before .pre .held .few,
-      )) (c .before .before .before .before .before .before .before .before .before .before .before .flag .ensures)
-      (c .before .before .before .before .before .before .before .reach .ensures)) (c .before .before .collect .ensures);
-}
+returns c =
+    let c2 = c .before .before in
+    let c7 = c2 .before .before .before .before .before in
+    let c11 = c7 .before .before .before .before in
+    let c17 = c11 .before .before .before .before .before .before in
+    record {
+      value = λ ms. subst (λ (v : List ℕ). Appended v (c17 .args .work .now) (c17 .args .from) (c2
+          .collect .last .1 .1 .1 .1 .1 .0) (c2 .collect .result))
+          (step-rows (c17 .args .rows .now) (c17 .args .count) (c17 .args .by .axis) (c17 .args .by .test) (c17 .args .by .name .0)
+          (c11 .flag .last .0) (c7 .reach .last .1 .1
+          .1 .1 .0) (valueAt (c17 .args .work .now) (c17 .args .from) (c17 .args .to)) ms (omega (
+            arith,
+            c17 .pre .held
+                .rows,
+            c17 .pre .held .few,
+          )) (c11 .flag .ensures)
+          (c7 .reach .ensures)) (c2 .collect .ensures);
+    }
 
 pub stepped-spec : {M : Type 1} → statement M
 stepped-spec =

@@ -10,7 +10,9 @@ shared-slice-read-kind : tie.Need-shared-slice-read-kind
 shared-slice-read-kind c = omega arith
 
 shared-slice-read-byte : tie.Need-shared-slice-read-byte
-shared-slice-read-byte c = body-whole (c .before .before .before .before .pre) (c .before .if1 .taken) 1 (omega arith)
+shared-slice-read-byte c =
+    let c4 = c .before .before .before .before in
+    body-whole (c4 .pre) (c .before .if1 .taken) 1 (omega arith)
 
 byte-requires : tie.Need-byte-requires
 byte-requires c κs = search needs
@@ -19,7 +21,9 @@ returns : tie.Need-returns
 returns c = body-document (c .before .before .if1 .taken) (c .byte .ensures .0)
 
 shared-slice-read-byte-2 : tie.Need-shared-slice-read-byte-2
-shared-slice-read-byte-2 c = body-whole (c .before .before .before .before .before .pre) (c .before .if2 .taken) 1 (omega arith)
+shared-slice-read-byte-2 c =
+    let c5 = c .before .before .before .before .before in
+    body-whole (c5 .pre) (c .before .if2 .taken) 1 (omega arith)
 
 byte-requires-2 : tie.Need-byte-requires-2
 byte-requires-2 c κs = search needs
@@ -28,7 +32,9 @@ returns-2 : tie.Need-returns-2
 returns-2 c = body-variable (c .before .before .if2 .taken) (c .byte2 .ensures .0)
 
 shared-slice-read-if4 : tie.Need-shared-slice-read-if4
-shared-slice-read-if4 c = body-whole (c .before .before .before .before .before .before .pre) (c .before .if3 .taken) 1 (omega arith)
+shared-slice-read-if4 c =
+    let c6 = c .before .before .before .before .before .before in
+    body-whole (c6 .pre) (c .before .if3 .taken) 1 (omega arith)
 
 returns-3 : tie.Need-returns-3
 returns-3 c = body-axis (c .before .before .if3 .taken) (c .if4 .taken)
@@ -49,7 +55,9 @@ test-fits-requires : tie.Need-test-fits-requires
 test-fits-requires c κs = search needs
 
 returns-4 : tie.Need-returns-4
-returns-4 c = body-step (c .before .before .before .before .before .if3 .taken) (omega arith) (c .test-fits .ensures)
+returns-4 c =
+    let c5 = c .before .before .before .before .before in
+    body-step (c5 .if3 .taken) (omega arith) (c .test-fits .ensures)
 
 shared-slice-read-result : tie.Need-shared-slice-read-result
 shared-slice-read-result c =

@@ -16,11 +16,11 @@ abbrev μ-loop : tie.MeasureT-loop
 μ-loop numbers₀ marks d₀ numbers d = length marks - d
 
 loop-holds : tie.Need-loop-holds Inv-loop μ-loop
-loop-holds c = (
-  omega arith,
-  flagged-none (c .before .before .args .numbers .now) (c .before .before .args .marks .now) (c .before
-      .before .pre .zero),
-)
+loop-holds c =
+    let c2 = c .before .before in (
+      omega arith,
+      flagged-none (c2 .args .numbers .now) (c2 .args .marks .now) (c2 .pre .zero),
+    )
 
 mul-flag-one : tie.Need-mul-flag-one Inv-loop μ-loop
 mul-flag-one c = search needs
@@ -52,10 +52,14 @@ loop-again c =
     )
 
 same-length : tie.Need-same-length Inv-loop μ-loop
-same-length c = search (c .before .loop .inv .1 .size, ap length (c .before .before .before .before .pre .zero), needs)
+same-length c =
+    let c4 = c .before .before .before .before in
+    search (c .before .loop .inv .1 .size, ap length (c4 .pre .zero), needs)
 
 returns : tie.Need-returns Inv-loop μ-loop
-returns c = flagged-all (c .before .loop .numbers) (c .before .before .before .before .args .marks .now) (c .before .loop .d) (omega
+returns c =
+    let c4 = c .before .before .before .before in
+    flagged-all (c .before .loop .numbers) (c4 .args .marks .now) (c .before .loop .d) (omega
     arith) (c .before .loop .inv .1)
 
 pub flag-spec : {M : Type 1} → statement M

@@ -34,17 +34,21 @@ index-requires c κs = search needs
 link-here : (c : tie.After-index Inv-loop μ-loop) → c .index .result ≡ getD (c .before .before .before .before .before .before .args
     .marks .now) (c .before .before .before .loop .d) 0
 link-here c =
-    c .index .ensures .0 ∙ ap (λ (l : List ℕ). getD l (c .before .before .before .loop .d) 0) (c .before .before .before .loop .inv .1) ∙
-    links-at (c .before .before .before .before .before .before .args .numbers .now) (c .before .before .before .before .before .before
-    .args .marks .now) (c .before .before .before .loop .d) (omega (
+    let c3 = c .before .before .before in
+    let c6 = c3 .before .before .before in
+    c .index .ensures .0 ∙ ap (λ (l : List ℕ). getD l (c3 .loop .d) 0) (c3 .loop .inv .1) ∙
+    links-at (c6 .args .numbers .now) (c6
+    .args .marks .now) (c3 .loop .d) (omega (
       arith,
       c .before .before .loop-test .taken,
-      c .before .before
-          .before .loop .inv .2,
+      c3 .loop .inv .2,
     ))
 
 low : (c : tie.After-index Inv-loop μ-loop) → c .index .result < 513
-low c = omega (arith, link-here c, c .before .before .before .before .before .before .pre .links (c .before .before .before .loop .d))
+low c =
+    let c3 = c .before .before .before in
+    let c6 = c3 .before .before .before in
+    omega (arith, link-here c, c6 .pre .links (c3 .loop .d))
 
 mul-marks : tie.Need-mul-marks Inv-loop μ-loop
 mul-marks c = record { fits = omega (arith, low (c)) }
@@ -67,21 +71,19 @@ loop-less : tie.Need-loop-less Inv-loop μ-loop
 loop-less c = search needs
 
 loop-again : tie.Need-loop-again Inv-loop μ-loop
-loop-again c = (
-  omega (arith, c .before .before .before .before .loop .inv .2),
-  ap (λ (v : List ℕ). set v (c .before .before .before
-      .before .loop .d) (getD (c .before .before .before .before .before .before .before .args .numbers .now) (c .before .index .result)
-      0)) (c .before .before .before .before .loop .inv .1) ∙ ap (λ (j : ℕ). set (newLinks (c .before .before .before .before .before
-      .before .before .args .numbers .now) (take (c .before .before .before .before .loop .d) (c .before .before .before .before .before
-      .before .before .args .marks .now)) ++ drop (c .before .before .before .before .loop .d) (c .before .before .before .before .before
-      .before .before .args .marks .now)) (c .before .before .before .before .loop .d) (getD (c .before .before .before .before .before
-      .before .before .args .numbers .now) j 0)) (link-here (c .before)) ∙ links-next (c .before .before .before .before .before .before
-      .before .args .numbers .now) (c .before .before .before .before .before .before .before .args .marks .now) (c .before .before .before
-      .before .loop .d) (omega (arith, c .before .before .before .loop-test .taken, c .before .before .before .before .loop .inv .2)),
-  length-set (c .before .before .before .before .loop .marks) (c .before .before .before .before .loop .d) (getD (c .before .before
-      .before .before .before .before .before .args .numbers .now) (c .before .index .result) 0) ∙ c .before .before .before .before .loop
-      .inv .2,
-)
+loop-again c =
+    let c3 = c .before .before .before in
+    let c4 = c3 .before in
+    let c7 = c4 .before .before .before in (
+      omega (arith, c4 .loop .inv .2),
+      ap (λ (v : List ℕ). set v (c4 .loop .d) (getD (c7 .args .numbers .now) (c .before .index .result)
+          0)) (c4 .loop .inv .1) ∙ ap
+          (λ (j : ℕ). set (newLinks (c7 .args .numbers .now) (take (c4 .loop .d) (c7 .args .marks .now)) ++ drop (c4 .loop .d)
+          (c7 .args .marks .now)) (c4 .loop .d) (getD (c7 .args .numbers .now) j 0)) (link-here (c .before)) ∙ links-next
+          (c7 .args .numbers .now) (c7 .args .marks .now) (c4 .loop .d) (omega (arith, c3 .loop-test .taken, c4 .loop .inv .2)),
+      length-set (c4 .loop .marks) (c4 .loop .d) (getD (c7 .args .numbers .now) (c .before .index .result) 0) ∙ c4 .loop
+          .inv .2,
+    )
 
 same-length : tie.Need-same-length Inv-loop μ-loop
 same-length c = search needs

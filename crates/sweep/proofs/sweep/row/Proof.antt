@@ -35,9 +35,11 @@ is-kept-requires c κs = search needs
 kept : (c : tie.After-is-kept) → let a = c .before .before .before .before .before .before .args in
     keepsRow (a .w) (a .i) (a .numbers .now) ≡ c .is-kept .result
 kept c =
-    let a = c .before .before .before .before .before .before .args in
+    let c3 = c .before .before .before in
+    let c6 = c3 .before .before .before in
+    let a = c6 .args in
     sym (c .is-kept .ensures ∙ ap (λ (j : ℕ). keeps (getD (a .numbers .now) (a .i + 1) 0) (getD (a .numbers .now) j 0))
-    (c .before .before .before .link .ensures))
+    (c3 .link .ensures))
 
 returns : tie.Need-returns
 returns c =
@@ -94,17 +96,18 @@ built : (c : tie.After-relinked) → let a = c .before .before .before .before .
     c .relinked .result ≡ newWord (a .w) (a .numbers .now)
 built c =
     let c6 = c .before .before .before .before .before .before in
-    let a = c6 .before .before .before .args in
+    let c9 = c6 .before .before .before in
+    let a = c9 .args in
     c .relinked .ensures ∙
     ap (withLink (a .w)) (c .before .index .ensures .0 ∙ ap (λ (j : ℕ). getD (a .numbers .now) j 0) (c6 .link .ensures))
 
 returns-2 : tie.Need-returns-2
 returns-2 c =
-    let c2 = c .before .before in
-    let c3 = c2 .before in
-    let a = c3 .before .before .before .before .before .before .args in
+    let c3 = c .before .before .before in
+    let c9 = c3 .before .before .before .before .before .before in
+    let a = c9 .args in
     let t = keepsRow (a .w) (a .i) (a .numbers .now) in
-    let e = kept (c3) ∙ not-false (c3 .is-kept .result) (c2 .if1 .left) in
+    let e = kept (c3) ∙ not-false (c3 .is-kept .result) (c .before .before .if1 .left) in
     record {
       numbers = sym (pick-true t (set (a .numbers .now) (a .i + 1) (a .next + 1)) (a .numbers .now) e);
       rows =

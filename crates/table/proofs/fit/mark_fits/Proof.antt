@@ -13,7 +13,9 @@ index-requires : tie.Need-index-requires
 index-requires c κs = search needs
 
 returns : tie.Need-returns
-returns c = let k : c .before .before .before .args .link ≡ 0 = sym (c .before .index .ensures .0) ∙ c .if1 .taken in rw k
+returns c =
+    let c3 = c .before .before .before in
+    let k : c3 .args .link ≡ 0 = sym (c .before .index .ensures .0) ∙ c .if1 .taken in rw k
 
 returns-2 : tie.Need-returns-2
 returns-2 c =
@@ -39,21 +41,21 @@ kind-requires : tie.Need-kind-requires
 kind-requires c κs = search needs
 
 returns-3 : tie.Need-returns-3
-returns-3 c = let z : c .before .before .before .before .before .before .before .args .link ≡ 0 → ⊥ = λ q. c .before .before .before
-    .before .if1 .left (c .before .before .before .before .before .index .ensures .0 ∙ q) in let k : c .before .before .before .before
-    .before .before .before .args .link ≤ c .before .before .before .before .before .before .before .args .count = omega (
+returns-3 c =
+    let c3 = c .before .before .before in
+    let c4 = c3 .before in
+    let c5 = c4 .before in
+    let c7 = c5 .before .before in
+    let z : c7 .args .link ≡ 0 → ⊥ = λ q. c4 .if1 .left (c5 .index .ensures .0 ∙ q) in let k : c7 .args .link ≤ c7 .args .count = omega (
       arith,
-      c
-          .before .before .before .before .before .index .ensures .0,
-      c .before .before .before .if2 .left,
-    ) in let e : getD (c .before .before
-    .before .before .before .before .before .args .rows .now) (c .before .before .before .before .before .before .before .args .link - 1)
-    0 % 4 ≡ 2 = ap (λ (j : ℕ). getD (c .before .before .before .before .before .before .before .args .rows .now) (j - 1) 0 % 4) (sym (c
-    .before .before .before .before .before .index .ensures .0)) ∙ sym (c .before .kind .ensures) ∙ c .if3 .taken in rw (
-      ne-eqb (c .before
-          .before .before .before .before .before .before .args .link) 0 z,
-      le-leb (c .before .before .before .before .before .before .before
-          .args .link) (c .before .before .before .before .before .before .before .args .count) k,
+      c5 .index .ensures .0,
+      c3 .if2 .left,
+    ) in let e : getD (c7 .args .rows .now) (c7 .args .link - 1)
+    0 % 4 ≡ 2 = ap (λ (j : ℕ). getD (c7 .args .rows .now) (j - 1) 0 % 4) (sym (c5 .index .ensures .0)) ∙ sym (c .before .kind .ensures) ∙
+    c .if3 .taken in rw (
+      ne-eqb (c7 .args .link) 0 z,
+      le-leb (c7
+          .args .link) (c7 .args .count) k,
       e,
     )
 

@@ -35,14 +35,15 @@ mark-fits-requires : tie.Need-mark-fits-requires Inv-loop μ-loop
 mark-fits-requires c κs = search needs
 
 returns : tie.Need-returns Inv-loop μ-loop
-returns c = sym (c .before .before .before .before .loop .inv .1 ∙ marks-turn (c .before .before .before .before .before .before .before
-    .args .rows .now) (c .before .before .before .before .before .before .before .args .count) (c .before .before .before .before .before
-    .before .before .args .marks .now) (c .before .before .before .before .loop .d) (c .before .before .before .loop-test .taken) ∙ ap (λ
-    (t : Bool). t && not (isRepeated (getD (c .before .before .before .before .before .before .before .args .marks .now) (c .before
-    .before .before .before .loop .d) 0) (drop (c .before .before .before .before .loop .d + 1) (c .before .before .before .before
-    .before .before .before .args .marks .now))) && marksFit (c .before .before .before .before .before .before .before .args .rows .now)
-    (c .before .before .before .before .before .before .before .args .count) (drop (c .before .before .before .before .loop .d + 1) (c
-    .before .before .before .before .before .before .before .args .marks .now))) (sym (c .before .mark-fits .ensures) ∙ not-true (c
+returns c =
+    let c3 = c .before .before .before in
+    let c4 = c3 .before in
+    let c7 = c4 .before .before .before in
+    sym (c4 .loop .inv .1 ∙ marks-turn (c7
+    .args .rows .now) (c7 .args .count) (c7 .args .marks .now) (c4 .loop .d) (c3 .loop-test .taken) ∙ ap (λ
+    (t : Bool). t && not (isRepeated (getD (c7 .args .marks .now) (c4 .loop .d) 0)
+    (drop (c4 .loop .d + 1) (c7 .args .marks .now))) && marksFit (c7 .args .rows .now)
+    (c7 .args .count) (drop (c4 .loop .d + 1) (c7 .args .marks .now))) (sym (c .before .mark-fits .ensures) ∙ not-true (c
     .before .mark-fits .result) (c .if1 .taken)))
 
 add-d : tie.Need-add-d Inv-loop μ-loop
@@ -68,18 +69,16 @@ again : (c : tie.After-is-marked Inv-loop μ-loop) → isRepeated (getD (c .befo
     .before .before .before .before .before .loop .d + 1) (c .before .before .before .before .before .before .before .before .before
     .before .args .marks .now)) ≡ c .is-marked .result
 again c =
-    repeated-some (getD (c .before .before .before .before .before .before .before .before .before .before .args .marks .now) (c .before
-    .before .before .before .before .before .before .loop .d) 0) (drop (c .before .before .before .before .before .before .before
-    .loop .d + 1) (c .before .before .before .before .before .before .before .before .before .before .args .marks .now)) (c .before
+    let c7 = c .before .before .before .before .before .before .before in
+    let c10 = c7 .before .before .before in
+    repeated-some (getD (c10 .args .marks .now) (c7 .loop .d) 0) (drop (c7
+    .loop .d + 1) (c10 .args .marks .now)) (c .before
     .before .if2 .taken) ∙
-    sym (c .is-marked .ensures ∙ ap (λ (l : List ℕ). any (isThe (getD (c .before .before .before .before .before .before .before .before
-    .before .before .args .marks .now) (c .before .before .before .before .before .before .before .loop .d) 0 - 1)) (map linked l))
-    (take-all (length (c .before .before .before .before .before .before .before .before .before .before .args .marks .now) - (c .before
-    .before .before .before .before .before .before .loop .d + 1)) (drop (c .before .before .before .before .before .before .before
-    .loop .d + 1) (c .before .before .before .before .before .before .before .before .before .before .args .marks .now)) (omega (
+    sym (c .is-marked .ensures ∙ ap (λ (l : List ℕ). any (isThe (getD (c10 .args .marks .now) (c7 .loop .d) 0 - 1)) (map linked l))
+    (take-all (length (c10 .args .marks .now) - (c7 .loop .d + 1)) (drop (c7
+    .loop .d + 1) (c10 .args .marks .now)) (omega (
       arith,
-      length-drop (c .before .before .before .before .before .before .before .loop .d + 1) (c .before .before .before .before
-          .before .before .before .before .before .before .args .marks .now),
+      length-drop (c7 .loop .d + 1) (c10 .args .marks .now),
     ))))
 
 returns-2 : tie.Need-returns-2 Inv-loop μ-loop

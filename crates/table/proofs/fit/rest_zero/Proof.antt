@@ -28,10 +28,13 @@ shared-slice-read-if1 : tie.Need-shared-slice-read-if1 Inv-loop μ-loop
 shared-slice-read-if1 c = search needs
 
 returns : tie.Need-returns Inv-loop μ-loop
-returns c = sym (c .before .before .before .loop .inv ∙ all-turn isZero (c .before .before .before .before .args .rows .now) (c .before
-    .before .before .loop .i) (c .before .before .loop-test .taken) ∙ ap (λ (z : Bool). z && all isZero (drop (c .before .before .before
-    .loop .i + 1) (c .before .before .before .before .args .rows .now))) (ne-eqb (getD (c .before .before .before .before .args .rows
-    .now) (c .before .before .before .loop .i) 0) 0 (c .if1 .taken)))
+returns c =
+    let c3 = c .before .before .before in
+    let c4 = c3 .before in
+    sym (c3 .loop .inv ∙ all-turn isZero (c4 .args .rows .now) (c3 .loop .i) (c .before .before .loop-test .taken) ∙ ap
+    (λ (z : Bool). z && all isZero (drop (c3
+    .loop .i + 1) (c4 .args .rows .now))) (ne-eqb (getD (c4 .args .rows
+    .now) (c3 .loop .i) 0) 0 (c .if1 .taken)))
 
 add-i : tie.Need-add-i Inv-loop μ-loop
 add-i c = search needs
@@ -40,10 +43,13 @@ loop-less : tie.Need-loop-less Inv-loop μ-loop
 loop-less c = omega arith
 
 loop-again : tie.Need-loop-again Inv-loop μ-loop
-loop-again c = c .before .before .before .loop .inv ∙ all-turn isZero (c .before .before .before .before .args .rows .now) (c .before
-    .before .before .loop .i) (c .before .before .loop-test .taken) ∙ ap (λ (z : Bool). z && all isZero (drop (c .before .before .before
-    .loop .i + 1) (c .before .before .before .before .args .rows .now))) (eq-eqb (getD (c .before .before .before .before .args .rows
-    .now) (c .before .before .before .loop .i) 0) 0 (search (c .if1 .left, needs)))
+loop-again c =
+    let c3 = c .before .before .before in
+    let c4 = c3 .before in
+    c3 .loop .inv ∙ all-turn isZero (c4 .args .rows .now) (c3 .loop .i) (c .before .before .loop-test .taken) ∙ ap
+    (λ (z : Bool). z && all isZero (drop (c3
+    .loop .i + 1) (c4 .args .rows .now))) (eq-eqb (getD (c4 .args .rows
+    .now) (c3 .loop .i) 0) 0 (search (c .if1 .left, needs)))
 
 returns-2 : tie.Need-returns-2 Inv-loop μ-loop
 returns-2 c = sym (c .before .loop .inv ∙ all-end isZero (c .before .before .args .rows .now) (c .before .loop .i) (omega arith))

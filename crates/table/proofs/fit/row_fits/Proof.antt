@@ -32,11 +32,12 @@ link-fits-requires : tie.Need-link-fits-requires
 link-fits-requires c κs = search needs
 
 returns-2 : tie.Need-returns-2
-returns-2 c = c .link-fits .ensures ∙ ap (linkFits (c .before .before .before .before .before .before .args .rows .now) (c .before
-    .before .before .before .before .before .args .i)) (c .before .link .ensures) ∙ sym (ap (λ (z : Bool). z && linkFits (c .before
-    .before .before .before .before .before .args .rows .now) (c .before .before .before .before .before .before .args .i) (getD (c
-    .before .before .before .before .before .before .args .rows .now) (c .before .before .before .before .before .before .args .i) 0 / 4
-    % 1024)) (sym (c .before .before .before .tag-fits .ensures) ∙ not-false (c .before .before .before .tag-fits .result) (c .before
+returns-2 c =
+    let c3 = c .before .before .before in
+    let c6 = c3 .before .before .before in
+    c .link-fits .ensures ∙ ap (linkFits (c6 .args .rows .now) (c6 .args .i)) (c .before .link .ensures) ∙ sym
+    (ap (λ (z : Bool). z && linkFits (c6 .args .rows .now) (c6 .args .i) (getD (c6 .args .rows .now) (c6 .args .i) 0 / 4
+    % 1024)) (sym (c3 .tag-fits .ensures) ∙ not-false (c3 .tag-fits .result) (c .before
     .before .if1 .left)))
 
 pub row-fits-spec : {M : Type 1} → statement M

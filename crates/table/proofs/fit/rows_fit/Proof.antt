@@ -27,10 +27,12 @@ row-fits-requires : tie.Need-row-fits-requires Inv-loop μ-loop
 row-fits-requires c κs = search needs
 
 returns : tie.Need-returns Inv-loop μ-loop
-returns c = sym (c .before .before .before .loop .inv .1 ∙ rows-turn (c .before .before .before .before .before .args .rows .now) (c
-    .before .before .before .loop .i) (c .before .before .before .before .before .args .count) (c .before .before .loop-test .taken) ∙ ap
-    (λ (z : Bool). z && rowsFit (c .before .before .before .before .before .args .rows .now) (c .before .before .before .loop .i + 1) (c
-    .before .before .before .before .before .args .count - (c .before .before .before .loop .i + 1))) (sym (c .before .row-fits .ensures)
+returns c =
+    let c3 = c .before .before .before in
+    let c5 = c3 .before .before in
+    sym (c3 .loop .inv .1 ∙ rows-turn (c5 .args .rows .now) (c3 .loop .i) (c5 .args .count) (c .before .before .loop-test .taken) ∙ ap
+    (λ (z : Bool). z && rowsFit (c5 .args .rows .now) (c3 .loop .i + 1) (c5 .args .count - (c3 .loop .i + 1)))
+    (sym (c .before .row-fits .ensures)
     ∙ not-true (c .before .row-fits .result) (c .if1 .taken)))
 
 add-i : tie.Need-add-i Inv-loop μ-loop

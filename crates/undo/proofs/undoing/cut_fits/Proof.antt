@@ -21,13 +21,17 @@ is-root c = sym (c .before .link .ensures) ∙ search (c .if2 .left, needs)
 marked-by : (c : tie.After-is-marked) → any (isThe (c .before .before .before .before .before .number-at .result)) (map linked
     (c .before .before .before .before .before .before .before .before .before .args .marks .now)) ≡ c .is-marked .result
 marked-by c =
-    let h : c .before .before .before .before .before .number-at .result + 1 - 1 ≡
-    c .before .before .before .before .before .number-at .result = omega arith in
+    let c5 = c .before .before .before .before .before in
+    let c9 = c5 .before .before .before .before in
+    let h : c5 .number-at .result + 1 - 1 ≡
+    c5 .number-at .result = omega arith in
     sym (c .is-marked .ensures ∙ ap (λ (j : ℕ). any (isThe j) (map linked
-    (c .before .before .before .before .before .before .before .before .before .args .marks .now))) h)
+    (c9 .args .marks .now))) h)
 
 number-at-requires : tie.Need-number-at-requires
-number-at-requires c κs = omega (arith, c .before .before .before .pre .whole)
+number-at-requires c κs =
+    let c3 = c .before .before .before in
+    omega (arith, c3 .pre .whole)
 
 returns : tie.Need-returns
 returns c =

@@ -47,7 +47,9 @@ cast-places c =
     omega (arith, c4 .loop .inv .high, c4 .loop .inv .few)
 
 mul-places : tie.Need-mul-places Inv-loop μ-loop
-mul-places c = omega (arith, c .before .before .before .before .loop .inv .few)
+mul-places c =
+    let c4 = c .before .before .before .before in
+    omega (arith, c4 .loop .inv .few)
 
 slice-write-places : tie.Need-slice-write-places Inv-loop μ-loop
 slice-write-places c =
@@ -57,7 +59,9 @@ slice-write-places c =
     (arith, c4 .loop .inv .size, forming-few (c4 .loop .inv) (c3 .loop-test .taken) (c .before .form-fault .ensures) (is-fine (c)))
 
 add-records : tie.Need-add-records Inv-loop μ-loop
-add-records c = omega (arith, c .before .before .before .before .loop .inv .few)
+add-records c =
+    let c4 = c .before .before .before .before in
+    omega (arith, c4 .loop .inv .few)
 
 shared-slice-read-size : tie.Need-shared-slice-read-size Inv-loop μ-loop
 shared-slice-read-size c = search needs
@@ -71,7 +75,9 @@ add-at c =
     omega (arith, c6 .loop .inv .high, c6 .loop .inv .few, c .size .ensures .1 .0)
 
 loop-less : tie.Need-loop-less Inv-loop μ-loop
-loop-less c = omega (arith, c .before .before .before .before .before .loop-test .taken, c .size .ensures .1 .1)
+loop-less c =
+    let c5 = c .before .before .before .before .before in
+    omega (arith, c5 .loop-test .taken, c .size .ensures .1 .1)
 
 loop-again : tie.Need-loop-again Inv-loop μ-loop
 loop-again c =

@@ -21,12 +21,15 @@ is-last c = search (c .if1 .left, needs)
 marked-by : (c : tie.After-is-marked) → any (isThe (c .before .before .number-at .result)) (map linked
     (c .before .before .before .before .before .before .args .marks .now)) ≡ c .is-marked .result
 marked-by c =
+    let c6 = c .before .before .before .before .before .before in
     let h : c .before .before .number-at .result + 1 - 1 ≡ c .before .before .number-at .result = omega arith in
     sym (c .is-marked .ensures ∙ ap (λ (j : ℕ). any (isThe j) (map linked
-    (c .before .before .before .before .before .before .args .marks .now))) h)
+    (c6 .args .marks .now))) h)
 
 number-at-requires : tie.Need-number-at-requires
-number-at-requires c κs = omega (arith, c .before .before .before .pre .whole)
+number-at-requires c κs =
+    let c3 = c .before .before .before in
+    omega (arith, c3 .pre .whole)
 
 add-if1 : tie.Need-add-if1
 add-if1 c = search needs
@@ -112,9 +115,10 @@ link-requires c κs = search needs
 
 number-at-requires-2 : tie.Need-number-at-requires-2
 number-at-requires-2 c κs =
+    let c16 = c .before .before .before .before .before .before .before .before .before .before .before .before .before .before .before .before in
     omega (
       arith,
-      c .before .before .before .before .before .before .before .before .before .before .before .before .before .before .before .before
+      c16
           .pre .whole,
     )
 

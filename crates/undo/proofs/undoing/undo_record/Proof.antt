@@ -93,7 +93,9 @@ relinked-requires c κs =
     )
 
 mul-rows : tie.Need-mul-rows
-mul-rows c = omega (arith, c .before .before .before .number-at .ensures .1)
+mul-rows c =
+    let c3 = c .before .before .before in
+    omega (arith, c3 .number-at .ensures .1)
 
 slice-write-rows : tie.Need-slice-write-rows
 slice-write-rows c =

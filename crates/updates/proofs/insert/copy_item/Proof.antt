@@ -8,7 +8,9 @@ use Rattle.updates.proofs.insert.copy_item.Statement.{statement}
 use Rattle.updates.proofs.insert.copy_item.Tie as tie
 
 cast-map : tie.Need-cast-map
-cast-map c = omega (arith, c .before .before .before .pre .held .few)
+cast-map c =
+    let c3 = c .before .before .before in
+    omega (arith, c3 .pre .held .few)
 
 mul-map : tie.Need-mul-map
 mul-map c = search needs
@@ -72,7 +74,9 @@ same-length-5 : tie.Need-same-length-5
 same-length-5 c = search needs
 
 same-length-6 : tie.Need-same-length-6
-same-length-6 c = c .before .before .before .before .before .before .copy-rest .kept .1 .1 .0 ∙ simp length-set
+same-length-6 c =
+    let c6 = c .before .before .before .before .before .before in
+    c6 .copy-rest .kept .1 .1 .0 ∙ simp length-set
 
 returns-2 : tie.Need-returns-2
 returns-2 c =

@@ -17,7 +17,9 @@ abbrev μ-loop : tie.MeasureT-loop
 μ-loop rows₀ history₀ map₀ items target old now₀ k₀ rows history map now k = length items - k
 
 loop-holds : tie.Need-loop-holds Inv-loop μ-loop
-loop-holds c = inserting-start (c .before .before .before .before .pre)
+loop-holds c =
+    let c4 = c .before .before .before .before in
+    inserting-start (c4 .pre)
 
 mul-index : tie.Need-mul-index Inv-loop μ-loop
 mul-index c = search needs
@@ -84,7 +86,8 @@ same-length-6 c = search needs
 
 returns-2 : tie.Need-returns-2 Inv-loop μ-loop
 returns-2 c =
-    inserting-end (c .before .before .before .before .before .before .pre) (c .before .loop .inv) (omega (arith, c .loop-test .left))
+    let c6 = c .before .before .before .before .before .before in
+    inserting-end (c6 .pre) (c .before .loop .inv) (omega (arith, c .loop-test .left))
 
 pub copy-items-spec : {M : Type 1} → statement M
 copy-items-spec =

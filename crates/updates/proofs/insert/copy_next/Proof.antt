@@ -15,8 +15,9 @@ is-link : (c : tie.After-copy-link) → c .copy-link .result ≡ nextLink
     (c .before .before .before .before .before .before .before .args .top)
     (c .before .before .before .before .before .before .before .args .j)
 is-link c =
-    c .copy-link .ensures ∙ ap (copyLink (c .before .before .before .before .before .before .before .args .map .now)
-    (c .before .before .before .before .before .before .before .args .top)) (c .before .link .ensures)
+    let c7 = c .before .before .before .before .before .before .before in
+    c .copy-link .ensures ∙ ap (copyLink (c7 .args .map .now)
+    (c7 .args .top)) (c .before .link .ensures)
 
 has-link : (c : tie.Else1) → nextLink (c .before .before .before .before .before .before .before .before .args .rows .now)
     (c .before .before .before .before .before .before .before .before .args .map .now)
@@ -28,8 +29,10 @@ copied-word : (c : tie.After-relinked) →
     let a = c .before .before .before .before .before .before .before .before .before .before .before .args in
     c .relinked .result ≡ withLink (getD (a .rows .now) (a .j) 0) (nextLink (a .rows .now) (a .map .now) (a .top) (a .j))
 copied-word c =
-    let a = c .before .before .before .before .before .before .before .before .before .before .before .args in
-    c .relinked .ensures ∙ ap (withLink (getD (a .rows .now) (a .j) 0)) (is-link (c .before .before .before .before))
+    let c4 = c .before .before .before .before in
+    let c11 = c4 .before .before .before .before .before .before .before in
+    let a = c11 .args in
+    c .relinked .ensures ∙ ap (withLink (getD (a .rows .now) (a .j) 0)) (is-link (c4))
 
 mul-w : tie.Need-mul-w
 mul-w c = search needs
@@ -41,7 +44,9 @@ link-requires : tie.Need-link-requires
 link-requires c κs = search needs
 
 copy-link-requires : tie.Need-copy-link-requires
-copy-link-requires c κs = omega (arith, next-bound (c .before .before .before .before .before .before .pre), c .link .ensures)
+copy-link-requires c κs =
+    let c6 = c .before .before .before .before .before .before in
+    omega (arith, next-bound (c6 .pre), c .link .ensures)
 
 mul-map : tie.Need-mul-map
 mul-map c = search needs

@@ -13,10 +13,14 @@ abbrev μ-loop : tie.MeasureT-loop
 μ-loop rows₀ history₀ map₀ old top now₀ j₀ rows history map now j = old - j
 
 add-j : tie.Need-add-j Inv-loop μ-loop
-add-j c = omega (arith, c .before .before .before .pre .top)
+add-j c =
+    let c3 = c .before .before .before in
+    omega (arith, c3 .pre .top)
 
 loop-holds : tie.Need-loop-holds Inv-loop μ-loop
-loop-holds c = copying-start (c .before .before .before .pre)
+loop-holds c =
+    let c3 = c .before .before .before in
+    copying-start (c3 .pre)
 
 copy-next-requires : tie.Need-copy-next-requires Inv-loop μ-loop
 copy-next-requires c κs =
@@ -66,7 +70,9 @@ same-length-6 : tie.Need-same-length-6 Inv-loop μ-loop
 same-length-6 c = search needs
 
 returns-2 : tie.Need-returns-2 Inv-loop μ-loop
-returns-2 c = copying-end (c .before .before .before .before .before .pre) (c .before .loop .inv) (omega (arith, c .loop-test .left))
+returns-2 c =
+    let c5 = c .before .before .before .before .before in
+    copying-end (c5 .pre) (c .before .loop .inv) (omega (arith, c .loop-test .left))
 
 pub copy-rest-spec : {M : Type 1} → statement M
 copy-rest-spec =

@@ -20,7 +20,9 @@ refused-requires : tie.Need-refused-requires
 refused-requires c κs = search needs
 
 returns : tie.Need-returns
-returns c = insert-many (c .before .before .before .before .before .before .pre) (c .before .if1 .taken) (c .refused .ensures)
+returns c =
+    let c6 = c .before .before .before .before .before .before in
+    insert-many (c6 .pre) (c .before .if1 .taken) (c .refused .ensures)
 
 shared-slice-read-index : tie.Need-shared-slice-read-index
 shared-slice-read-index c = search needs

@@ -22,10 +22,14 @@ link-requires : tie.Need-link-requires
 link-requires c κs = search needs
 
 returns : tie.Need-returns
-returns c = cut-root (c .before .before .before .before .before .pre) (sym (c .before .link .ensures) ∙ c .if1 .taken)
+returns c =
+    let c5 = c .before .before .before .before .before in
+    cut-root (c5 .pre) (sym (c .before .link .ensures) ∙ c .if1 .taken)
 
 add-if2 : tie.Need-add-if2
-add-if2 c = omega (arith, c .before .before .before .before .before .before .pre .held .history .limit)
+add-if2 c =
+    let c6 = c .before .before .before .before .before .before in
+    omega (arith, c6 .pre .held .history .limit)
 
 refused-requires : tie.Need-refused-requires
 refused-requires c κs = search needs

@@ -10,10 +10,14 @@ refused-requires : tie.Need-refused-requires
 refused-requires c κs = search needs
 
 returns : tie.Need-returns
-returns c = new-full (c .before .before .before .before .pre) (c .before .if1 .taken) (c .refused .ensures)
+returns c =
+    let c4 = c .before .before .before .before in
+    new-full (c4 .pre) (c .before .if1 .taken) (c .refused .ensures)
 
 add-if2 : tie.Need-add-if2
-add-if2 c = omega (arith, c .before .before .before .before .pre .held .history .limit)
+add-if2 c =
+    let c4 = c .before .before .before .before in
+    omega (arith, c4 .pre .held .history .limit)
 
 refused-requires-2 : tie.Need-refused-requires-2
 refused-requires-2 c κs = search needs
@@ -43,7 +47,9 @@ put-made-requires c κs =
     )
 
 add-t8 : tie.Need-add-t8
-add-t8 c = omega (arith, c .before .before .before .before .before .before .if1 .left)
+add-t8 c =
+    let c6 = c .before .before .before .before .before .before in
+    omega (arith, c6 .if1 .left)
 
 add-t13 : tie.Need-add-t13
 add-t13 c =
