@@ -97,9 +97,11 @@ undone-back p h o x y w e u room =
     ap (λ (z : Bool). pick z (undoneBy (encode x) (undo (decode (encode x)) h)) (asItWas (refusal.linkAt 0) (encode x))) (fits-encode x
     w) ∙
     ap (λ (q : model.Table). undoneBy (encode x) (undo q h)) (decode-encode x w) ∙ ap (undoneBy (encode x)) u in (
-      code-then p o x e room (λ q. finishedCode (planUndone (q .table) h) 2 o) ∙ ap (λ (r : TableResult). finishedCode r 2 o) t ∙ written-code y v o
+      code-then p o x e room (λ q. finishedCode (planUndone (q .table) h) 2 o) ∙ ap (λ (r : TableResult). finishedCode r 2 o) t ∙
+          written-code y v o
           room,
-      out-then p o x e room (λ q. finishedOut (planUndone (q .table) h) o) ∙ ap (λ (r : TableResult). finishedOut r o) t ∙ well-out y v o room,
+      out-then p o x e room (λ q. finishedOut (planUndone (q .table) h) o) ∙ ap (λ (r : TableResult). finishedOut r o) t ∙
+          well-out y v o room,
     )
 
 pub undoneBack : UndoneBack

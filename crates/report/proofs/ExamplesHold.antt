@@ -15,5 +15,7 @@ use Rattle.report.specs.Pair.{threeLines, pairText}
 use Rattle.report.specs.Examples.{Examples}
 
 pub examples-hold : Examples
-unfolding any all among rowsFit noneTwice readFrom lastMarked parseFrom isBelowFrom stepFrom picked run loop cutAll copyAll copyEach copyOf descendantsFrom infer withStep prefixed prefixesOf hasUp cell startCells stepCells digits ending order fileLine answerLine orderLine threeLines pairText
+unfolding any all among rowsFit noneTwice readFrom lastMarked parseFrom isBelowFrom stepFrom picked run loop cutAll copyAll copyEach
+    copyOf descendantsFrom infer withStep prefixed prefixesOf hasUp cell startCells stepCells digits ending order fileLine answerLine
+    orderLine threeLines pairText
 examples-hold = (refl, refl, refl, refl)

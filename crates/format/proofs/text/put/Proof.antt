@@ -40,7 +40,8 @@ loop-again c =
       length-set (c .before .before .loop .out) (c3 .args .at + c .before .before .loop .i) (getD (c3 .args .text .now) (c
           .before .before .loop .i) 0) ∙ c .before .before .loop .inv .1,
       copy-next (c .before .before .loop .out) (c3 .args .out .now) (c3
-          .args .text .now) (c3 .args .at) (c .before .before .loop .i) (c .before .before .loop .inv .2) (omega (arith, c3 .pre)) (c .before
+          .args .text .now) (c3 .args .at) (c .before .before .loop .i) (c .before .before .loop .inv .2) (omega (arith, c3 .pre))
+          (c .before
           .loop-test .taken),
     )
 
