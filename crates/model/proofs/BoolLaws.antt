@@ -2,9 +2,9 @@
 use mathlib.Core.Path.{_≡_, refl, sym}
 use mathlib.Core.Bool.{Bool, true, false, _&&_, _||_, true≢false, false≢true}
 use mathlib.Core.Logic.{_⊎_, inl, inr}
-use Prim.Native.Nat.{ℕ, _≤_}
+use Prim.Native.Nat.{_≤_}
 use native.Mathlib.Omega.{arith}
-use Rattle.model.specs.Base.{pick}
+use Rattle.model.specs.Base.{pick, bit}
 
 pub and-left : (a b : Bool) → (a && b) ≡ true → a ≡ true
 and-left true b e = refl
@@ -71,10 +71,7 @@ or-swap false true true d = refl
 or-swap false true false d = refl
 or-swap false false c d = refl
 
--- a test counted
-abbrev pub one : Bool → ℕ
-one t = pick t 1 0
-
-pub one-le : (t : Bool) → one t ≤ 1
-one-le true = omega arith
-one-le false = omega arith
+-- a test as a number
+pub bit-le : (t : Bool) → bit t ≤ 1
+bit-le true = omega arith
+bit-le false = omega arith

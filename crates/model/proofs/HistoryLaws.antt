@@ -9,17 +9,17 @@ use native.Mathlib.Omega.{arith}
 use lib.Dec.{ltb, eqb}
 use lib.ListN.{length, getD, set, length-append}
 use borrow.Author.Tests.{ltb-true, ltb-false, eqb-true, eqb-false, ne-eqb}
-use Rattle.model.specs.Base.{pick}
+use Rattle.model.specs.Base.{pick, bit}
 use Rattle.model.specs.Table.{Row, Table, noRow, rowAt, count, hasParent, withRow, withParent, linked}
 use Rattle.model.specs.History.{times, isCut, Record, madeElementKind, madeLeafKind, cutKind}
 use Rattle.model.specs.Run.{State, made, cutRecord}
-use Rattle.model.proofs.BoolLaws.{one, one-le}
+use Rattle.model.proofs.BoolLaws.{bit-le}
 use Rattle.model.proofs.TableLaws.{parent-count, Well}
 use Rattle.model.proofs.GrowLaws.{count-withRow, rowAt-withRow-old, count-linked, rowAt-linked-same, rowAt-linked-other}
 use Rattle.model.proofs.RanLaws.{Ran, begun, rowMade, linkCut, ran-well}
 
 -- RECORDS counted by a test
-pub times-snoc : (f : Record → Bool) (rs : List Record) (r : Record) → times f (rs ++ (r ∷ [])) ≡ times f rs + one (f r)
+pub times-snoc : (f : Record → Bool) (rs : List Record) (r : Record) → times f (rs ++ (r ∷ [])) ≡ times f rs + bit (f r)
 unfolding times
 times-snoc f [] r = omega arith
 times-snoc f (q ∷ rs) r = omega (arith, times-snoc f rs r)
@@ -43,55 +43,55 @@ unfolding times
 ran-cut-within x begun i l = refl
 ran-cut-within x (rowMade s r q c f g) i l =
     let z = made r (count (s .plan)) in
-    let k : one (cutsRow i z) ≡ 0 = ap (λ (t : Bool). one (t && eqb (count (s .plan)) i)) (isCut-made r (count (s .plan))) in
+    let k : bit (cutsRow i z) ≡ 0 = ap (λ (t : Bool). bit (t && eqb (count (s .plan)) i)) (isCut-made r (count (s .plan))) in
     omega (arith, ran-cut-within x q i (omega (arith, count-withRow (s .plan) r)), times-snoc (cutsRow i) (s .history) z)
 ran-cut-within x (linkCut s j p q e) i l =
     let m = count-linked (s .plan) j none in
     let n = parent-count (s .plan) j p e in
-    let k : one (eqb j i) ≡ 0 = ap one (ne-eqb j i (λ (h : j ≡ i). omega arith)) in
+    let k : bit (eqb j i) ≡ 0 = ap bit (ne-eqb j i (λ (h : j ≡ i). omega arith)) in
     omega (arith, ran-cut-within x q i (omega arith), times-snoc (cutsRow i) (s .history) (cutRecord j p))
 
 ran-cut-parent : (x : Table) {s : State} → Ran x s → (i : ℕ) →
-    times (cutsRow i) (s .history) + one (hasParent (rowAt (s .plan) i .parent)) ≤ 1
+    times (cutsRow i) (s .history) + bit (hasParent (rowAt (s .plan) i .parent)) ≤ 1
 unfolding times
-ran-cut-parent x begun i = omega (arith, one-le (hasParent (rowAt x i .parent)))
+ran-cut-parent x begun i = omega (arith, bit-le (hasParent (rowAt x i .parent)))
 ran-cut-parent x (rowMade s r q c f g) i = go (ltb i (count (s .plan))) refl (ran-cut-parent x q i)
   where
     z : Record
     z = made r (count (s .plan))
 
-    k : one (cutsRow i z) ≡ 0
-    k = ap (λ (t : Bool). one (t && eqb (count (s .plan)) i)) (isCut-made r (count (s .plan)))
+    k : bit (cutsRow i z) ≡ 0
+    k = ap (λ (t : Bool). bit (t && eqb (count (s .plan)) i)) (isCut-made r (count (s .plan)))
 
-    h : times (cutsRow i) (s .history ++ (z ∷ [])) ≡ times (cutsRow i) (s .history) + one (cutsRow i z)
+    h : times (cutsRow i) (s .history ++ (z ∷ [])) ≡ times (cutsRow i) (s .history) + bit (cutsRow i z)
     h = times-snoc (cutsRow i) (s .history) z
 
-    go : (t : Bool) → ltb i (count (s .plan)) ≡ t → times (cutsRow i) (s .history) + one (hasParent (rowAt (s .plan) i .parent)) ≤ 1 →
-        times (cutsRow i) (s .history ++ (z ∷ [])) + one (hasParent (rowAt (withRow (s .plan) r) i .parent)) ≤ 1
+    go : (t : Bool) → ltb i (count (s .plan)) ≡ t → times (cutsRow i) (s .history) + bit (hasParent (rowAt (s .plan) i .parent)) ≤ 1 →
+        times (cutsRow i) (s .history ++ (z ∷ [])) + bit (hasParent (rowAt (withRow (s .plan) r) i .parent)) ≤ 1
     go true e v = rw (rowAt-withRow-old (s .plan) r i (ltb-true _ _ e)) (omega (arith, h, k))
     go false e v =
-        omega (arith, h, k, ran-cut-within x q i (ltb-false _ _ e), one-le (hasParent (rowAt (withRow (s .plan) r) i .parent)))
+        omega (arith, h, k, ran-cut-within x q i (ltb-false _ _ e), bit-le (hasParent (rowAt (withRow (s .plan) r) i .parent)))
 ran-cut-parent x (linkCut s j p q e) i = go (eqb j i) refl (ran-cut-parent x q i)
   where
-    h : times (cutsRow i) (s .history ++ (cutRecord j p ∷ [])) ≡ times (cutsRow i) (s .history) + one (eqb j i)
+    h : times (cutsRow i) (s .history ++ (cutRecord j p ∷ [])) ≡ times (cutsRow i) (s .history) + bit (eqb j i)
     h = times-snoc (cutsRow i) (s .history) (cutRecord j p)
 
-    go : (t : Bool) → eqb j i ≡ t → times (cutsRow i) (s .history) + one (hasParent (rowAt (s .plan) i .parent)) ≤ 1 →
-        times (cutsRow i) (s .history ++ (cutRecord j p ∷ [])) + one (hasParent (rowAt (linked (s .plan) j none) i .parent)) ≤ 1
+    go : (t : Bool) → eqb j i ≡ t → times (cutsRow i) (s .history) + bit (hasParent (rowAt (s .plan) i .parent)) ≤ 1 →
+        times (cutsRow i) (s .history ++ (cutRecord j p ∷ [])) + bit (hasParent (rowAt (linked (s .plan) j none) i .parent)) ≤ 1
     go true d v =
         let m : j ≡ i = eqb-true j i d in
-        let a : one (hasParent (rowAt (s .plan) i .parent)) ≡ 1 =
-        ap (λ (n : ℕ). one (hasParent (rowAt (s .plan) n .parent))) (sym m) ∙ ap (λ (o : Option ℕ). one (hasParent o)) e in
-        let b : one (hasParent (rowAt (linked (s .plan) j none) i .parent)) ≡ 0 =
-        ap (λ (n : ℕ). one (hasParent (rowAt (linked (s .plan) j none) n .parent))) (sym m) ∙
-        ap (λ (w : Row). one (hasParent (w .parent))) (rowAt-linked-same (s .plan) j none (parent-count (s .plan) j p e)) in
-        let c : one (eqb j i) ≡ 1 = ap one d in
+        let a : bit (hasParent (rowAt (s .plan) i .parent)) ≡ 1 =
+        ap (λ (n : ℕ). bit (hasParent (rowAt (s .plan) n .parent))) (sym m) ∙ ap (λ (o : Option ℕ). bit (hasParent o)) e in
+        let b : bit (hasParent (rowAt (linked (s .plan) j none) i .parent)) ≡ 0 =
+        ap (λ (n : ℕ). bit (hasParent (rowAt (linked (s .plan) j none) n .parent))) (sym m) ∙
+        ap (λ (w : Row). bit (hasParent (w .parent))) (rowAt-linked-same (s .plan) j none (parent-count (s .plan) j p e)) in
+        let c : bit (eqb j i) ≡ 1 = ap bit d in
         omega (arith, h)
     go false d v =
         let m : i ≢ j = λ (n : i ≡ j). eqb-false j i d (sym n) in
-        let a : one (hasParent (rowAt (linked (s .plan) j none) i .parent)) ≡ one (hasParent (rowAt (s .plan) i .parent)) =
-        ap (λ (w : Row). one (hasParent (w .parent))) (rowAt-linked-other (s .plan) j none i m) in
-        let c : one (eqb j i) ≡ 0 = ap one d in
+        let a : bit (hasParent (rowAt (linked (s .plan) j none) i .parent)) ≡ bit (hasParent (rowAt (s .plan) i .parent)) =
+        ap (λ (w : Row). bit (hasParent (w .parent))) (rowAt-linked-other (s .plan) j none i m) in
+        let c : bit (eqb j i) ≡ 0 = ap bit d in
         omega (arith, h)
 
 -- no row is cut twice
@@ -105,9 +105,9 @@ ran-made-within x begun i l = refl
 ran-made-within x (rowMade s r q c f g) i l =
     let z = made r (count (s .plan)) in
     let n = count-withRow (s .plan) r in
-    let k : one (makesRow i z) ≡ 0 =
-    ap (λ (t : Bool). one (not t && eqb (count (s .plan)) i)) (isCut-made r (count (s .plan))) ∙
-    ap one (ne-eqb (count (s .plan)) i (λ (h : count (s .plan) ≡ i). omega arith)) in
+    let k : bit (makesRow i z) ≡ 0 =
+    ap (λ (t : Bool). bit (not t && eqb (count (s .plan)) i)) (isCut-made r (count (s .plan))) ∙
+    ap bit (ne-eqb (count (s .plan)) i (λ (h : count (s .plan) ≡ i). omega arith)) in
     omega (arith, ran-made-within x q i (omega arith), times-snoc (makesRow i) (s .history) z)
 ran-made-within x (linkCut s j p q e) i l =
     omega
@@ -121,31 +121,31 @@ ran-made-once x (rowMade s r q c f g) i = go (eqb (count (s .plan)) i) refl (ran
     z : Record
     z = made r (count (s .plan))
 
-    k : one (makesRow i z) ≡ one (eqb (count (s .plan)) i)
-    k = ap (λ (t : Bool). one (not t && eqb (count (s .plan)) i)) (isCut-made r (count (s .plan)))
+    k : bit (makesRow i z) ≡ bit (eqb (count (s .plan)) i)
+    k = ap (λ (t : Bool). bit (not t && eqb (count (s .plan)) i)) (isCut-made r (count (s .plan)))
 
     go : (t : Bool) → eqb (count (s .plan)) i ≡ t → times (makesRow i) (s .history) ≤ 1 → times (makesRow i) (s .history ++ (z ∷ [])) ≤ 1
     go true e v =
         let m = eqb-true (count (s .plan)) i e in
-        omega (arith, k, one-le (eqb (count (s .plan)) i), ran-made-within x q i (omega arith), times-snoc (makesRow i) (s .history) z)
+        omega (arith, k, bit-le (eqb (count (s .plan)) i), ran-made-within x q i (omega arith), times-snoc (makesRow i) (s .history) z)
     go false e v =
-        let c : one (eqb (count (s .plan)) i) ≡ 0 = ap one e in
+        let c : bit (eqb (count (s .plan)) i) ≡ 0 = ap bit e in
         omega (arith, k, times-snoc (makesRow i) (s .history) z)
 ran-made-once x (linkCut s j p q e) i = omega (arith, ran-made-once x q i, times-snoc (makesRow i) (s .history) (cutRecord j p))
 
 -- BOUNDS. Each record makes a row or cuts a link. Rows with a parent
 unfoldable pub parented : List Row → ℕ
 parented [] = 0
-parented (r ∷ rs) = one (hasParent (r .parent)) + parented rs
+parented (r ∷ rs) = bit (hasParent (r .parent)) + parented rs
 
 parented-le : (rs : List Row) → parented rs ≤ length rs
 unfolding parented
 parented-le [] = omega arith
-parented-le (r ∷ rs) = omega (arith, parented-le rs, one-le (hasParent (r .parent)))
+parented-le (r ∷ rs) = omega (arith, parented-le rs, bit-le (hasParent (r .parent)))
 
 parented-snoc : (rs : List Row) (r : Row) → parented (rs ++ (r ∷ [])) ≤ suc (parented rs)
 unfolding parented
-parented-snoc [] r = omega (arith, one-le (hasParent (r .parent)))
+parented-snoc [] r = omega (arith, bit-le (hasParent (r .parent)))
 parented-snoc (q ∷ rs) r = omega (arith, parented-snoc rs r)
 
 parented-cut : (rs : List Row) (i p : ℕ) → getD rs i noRow .parent ≡ some p →
@@ -160,7 +160,7 @@ unfolding times
 ran-rows x begun = omega arith
 ran-rows x (rowMade s r q c f g) =
     let z = made r (count (s .plan)) in
-    let k : one (isCut z) ≡ 0 = ap one (isCut-made r (count (s .plan))) in
+    let k : bit (isCut z) ≡ 0 = ap bit (isCut-made r (count (s .plan))) in
     omega (arith, ran-rows x q, count-withRow (s .plan) r, length-append (s .history) (z ∷ []), times-snoc isCut (s .history) z)
 ran-rows x (linkCut s i p q e) =
     let z = cutRecord i p in
@@ -171,7 +171,7 @@ unfolding times
 ran-cuts x begun = omega (arith, parented-le (x .rows))
 ran-cuts x (rowMade s r q c f g) =
     let z = made r (count (s .plan)) in
-    let k : one (isCut z) ≡ 0 = ap one (isCut-made r (count (s .plan))) in
+    let k : bit (isCut z) ≡ 0 = ap bit (isCut-made r (count (s .plan))) in
     omega (arith, ran-cuts x q, count-withRow (s .plan) r, parented-snoc (s .plan .rows) r, times-snoc isCut (s .history) z)
 ran-cuts x (linkCut s i p q e) =
     let z = cutRecord i p in

@@ -11,10 +11,10 @@ use native.Mathlib.Omega.{arith}
 use lib.Dec.{ltb, leb}
 use lib.ListN.{length, getD}
 use borrow.Author.Tests.{ltb-true, ltb-false, leb-true, leb-false}
-use Rattle.model.specs.Base.{pick}
+use Rattle.model.specs.Base.{pick, bit}
 use Rattle.model.specs.Table.{Row, Table, noRow, rowAt, isMarked, withParent, Tree}
 use Rattle.model.specs.Sweep.{through, keptFrom, isKept, keptBefore, newNumber, renumbered, sweptRows, sweptMarks}
-use Rattle.model.proofs.BoolLaws.{one, one-le, or-left, or-right, or-cases, true-false}
+use Rattle.model.proofs.BoolLaws.{bit-le, or-left, or-right, or-cases, true-false}
 use Rattle.model.proofs.TableLaws.{any-at}
 
 -- KEPT: marked, or the parent is kept. Parents are lower, so any fuel above the row's number serves
@@ -65,11 +65,11 @@ module _ (x : Table) (t : Tree x) where
   ]
 
 -- NUMBERS: kept rows are counted
-keptBefore-last : (x : Table) (i n : ℕ) → keptBefore x i (suc n) ≡ keptBefore x i n + one (isKept x (i + n))
+keptBefore-last : (x : Table) (i n : ℕ) → keptBefore x i (suc n) ≡ keptBefore x i n + bit (isKept x (i + n))
 unfolding keptBefore
 keptBefore-last x i zero = rw (add-zero i) (omega arith)
 keptBefore-last x i (suc n) =
-    let e : one (isKept x (suc i + n)) ≡ one (isKept x (i + suc n)) = ap (λ (k : ℕ). one (isKept x k)) (omega arith) in
+    let e : bit (isKept x (suc i + n)) ≡ bit (isKept x (i + suc n)) = ap (λ (k : ℕ). bit (isKept x k)) (omega arith) in
     omega (arith, keptBefore-last x (suc i) n)
 
 pub newNumber-zero : (x : Table) → newNumber x 0 ≡ 0
@@ -77,14 +77,14 @@ unfolding keptBefore
 newNumber-zero x = refl
 
 pub newNumber-suc : (x : Table) (i : ℕ) → newNumber x (suc i) ≡ newNumber x i + pick (isKept x i) 1 0
-newNumber-suc x i = keptBefore-last x 0 i ∙ ap (λ (k : ℕ). newNumber x i + one (isKept x k)) (zero-add i)
+newNumber-suc x i = keptBefore-last x 0 i ∙ ap (λ (k : ℕ). newNumber x i + bit (isKept x k)) (zero-add i)
 
 pub newNumber-kept : (x : Table) (i : ℕ) → isKept x i ≡ true → newNumber x (suc i) ≡ suc (newNumber x i)
 newNumber-kept x i h = newNumber-suc x i ∙ rw h (omega arith)
 
 pub newNumber-le : (x : Table) (i : ℕ) → newNumber x i ≤ i
 newNumber-le x zero = omega (arith, newNumber-zero x)
-newNumber-le x (suc i) = omega (arith, newNumber-le x i, newNumber-suc x i, one-le (isKept x i))
+newNumber-le x (suc i) = omega (arith, newNumber-le x i, newNumber-suc x i, bit-le (isKept x i))
 
 -- rising, and strictly so on kept rows
 pub newNumber-rises : (x : Table) (i j : ℕ) → i ≤ j → newNumber x i ≤ newNumber x j
@@ -149,7 +149,7 @@ pub record Origin (x : Table) (i : ℕ) (rs : List Row) (j : ℕ) : Type 0 where
   pub kept : isKept x (i + row) ≡ true
   pub counted : keptBefore x i row ≡ j
 
-origin-later : (x : Table) (i : ℕ) (r : Row) (rs : List Row) (j m : ℕ) → one (isKept x i) + j ≡ m → Origin x (suc i) rs j →
+origin-later : (x : Table) (i : ℕ) (r : Row) (rs : List Row) (j m : ℕ) → bit (isKept x i) + j ≡ m → Origin x (suc i) rs j →
     Origin x i (r ∷ rs) m
 unfolding keptBefore
 origin-later x i r rs j m e o = record {

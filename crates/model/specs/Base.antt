@@ -32,6 +32,10 @@ unfoldable pub among : ℕ → List ℕ → Bool
 among x [] = false
 among x (y ∷ ys) = eqb x y || among x ys
 
+-- a test as a number
+abbrev pub bit : Bool → ℕ
+bit t = pick t 1 0
+
 -- every number is a byte
 unfoldable pub areBytes : List ℕ → Bool
 areBytes [] = true

@@ -5,7 +5,7 @@ use mathlib.Core.List.{List, [], _∷_, _++_}
 use mathlib.Core.Option.{Option, none}
 use Prim.Native.Nat.{ℕ, _+_}
 use lib.Dec.{eqb}
-use Rattle.model.specs.Base.{pick, isIn, All}
+use Rattle.model.specs.Base.{pick, isIn, All, bit}
 use Rattle.model.specs.Table.{Table, linked, withRow}
 use Rattle.model.specs.Stored.{IsWord, wordBytes, parentBytes}
 
@@ -32,7 +32,7 @@ isCut r = eqb (r .kind) cutKind
 -- how many pass a test
 unfoldable pub times : (Record → Bool) → List Record → ℕ
 times f [] = 0
-times f (r ∷ rs) = pick (f r) 1 0 + times f rs
+times f (r ∷ rs) = bit (f r) + times f rs
 
 -- A RECORD IN RANGE: one of the three kinds; an element's name is 1 to 255; a cut has no tag
 pub record IsInRange (r : Record) : Type 0 where

@@ -4,7 +4,7 @@ use mathlib.Core.Bool.{Bool, false, _||_}
 use mathlib.Core.List.{List, [], _∷_}
 use mathlib.Core.Option.{Option, none, some}
 use Prim.Native.Nat.{ℕ, zero, suc, _+_}
-use Rattle.model.specs.Base.{pick}
+use Rattle.model.specs.Base.{pick, bit}
 use Rattle.model.specs.Table.{Row, Table, table, rowAt, isMarked, withParent}
 
 abbrev pub through : (ℕ → Bool) → Option ℕ → Bool
@@ -22,7 +22,7 @@ isKept x i = keptFrom (suc i) x i
 -- kept rows among the next ones
 unfoldable pub keptBefore : Table → (from : ℕ) → ℕ → ℕ
 keptBefore x i zero = 0
-keptBefore x i (suc n) = pick (isKept x i) 1 0 + keptBefore x (suc i) n
+keptBefore x i (suc n) = bit (isKept x i) + keptBefore x (suc i) n
 
 -- The others are renumbered in rising order
 abbrev pub newNumber : Table → (row : ℕ) → ℕ

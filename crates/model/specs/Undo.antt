@@ -17,10 +17,15 @@ use Rattle.model.specs.History.{Record, madeElementKind, madeLeafKind, c
 abbrev pub historySize : (kind : ℕ) → ℕ
 historySize k = pick (eqb k cutKind) 5 6
 
+-- the record at the front: of a link cut, or of a row made
+abbrev pub cutIn : (bytes : List ℕ) → Record
+cutIn b = record { kind = cutKind; row = wordAt b 1; tag = 0; parent = parentIn (wordAt b 3) }
+
+abbrev pub madeIn : (bytes : List ℕ) → Record
+madeIn b = record { kind = getD b 0 0; row = wordAt b 1; tag = getD b 3 0; parent = parentIn (wordAt b 4) }
+
 abbrev pub recordIn : (bytes : List ℕ) → Record
-recordIn b =
-    pick (eqb (getD b 0 0) cutKind) (record { kind = cutKind; row = wordAt b 1; tag = 0; parent = parentIn (wordAt b 3) })
-    (record { kind = getD b 0 0; row = wordAt b 1; tag = getD b 3 0; parent = parentIn (wordAt b 4) })
+recordIn b = pick (eqb (getD b 0 0) cutKind) (cutIn b) (madeIn b)
 
 pub record Placed : Type 0 where
   pub at : ℕ

@@ -1,6 +1,6 @@
 // What a record does with the values of its operands.
 ghost use mathlib.Core.Path.{_≡_};
-ghost use Prim.Native.Nat.{_≤_, _<_};
+ghost use Prim.Native.Nat.{_≤_};
 ghost use lib.ListN.{getD};
 ghost use Rattle.records.specs.Walk.{arity, endAt};
 ghost use Rattle.operators.specs.Evaluating.{endedBy, limitedBy, movedTo, UnaryPre, UnaryPost, BinaryPre, BinaryPost};

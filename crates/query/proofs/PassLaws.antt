@@ -10,7 +10,7 @@ use lib.Dec.{eqb}
 use lib.ListN.{length, getD, set, replicate, length-set, getD-replicate}
 use lib.Seq.{getD-set-same, getD-set-other}
 use borrow.Author.Tests.{eqb-true, eqb-false}
-use Rattle.model.specs.Base.{among}
+use Rattle.model.specs.Base.{among, bit}
 use Rattle.model.specs.Table as model
 use Rattle.model.specs.Sweep.{through}
 use Rattle.model.specs.Step.{parentIs}
@@ -18,7 +18,7 @@ use Rattle.model.proofs.BoolLaws.{by-cases, pick-true, pick-false}
 use Rattle.table.specs.Words.{linked, decodeParts}
 use Rattle.table.proofs.WordLaws.{count-decode}
 use Rattle.table.proofs.DecodeLaws.{parent-linked, link-low, isThe-linked}
-use Rattle.query.specs.Stepping.{bit, Flagged, counted, descended, climbed, RowsHeld}
+use Rattle.query.specs.Stepping.{Flagged, counted, descended, climbed, RowsHeld}
 use Rattle.query.specs.Stepping.{Reached, Descending, Climbing, anyFrom, upTo, childCounts}
 use Rattle.query.proofs.ReachLaws.{downTo, down-parent, up-children}
 

@@ -8,7 +8,7 @@ use Prim.Native.Nat.{ℕ, zero, suc, _+_, _-_, _≤_, _<_}
 use native.Mathlib.Omega.{arith}
 use lib.Dec.{eqb}
 use borrow.Author.Tests.{eqb-true, eqb-false}
-use Rattle.model.specs.Base.{any, among}
+use Rattle.model.specs.Base.{any, among, bit}
 use Rattle.model.specs.Table.{Table, rowAt, count, isThe}
 use Rattle.model.specs.Sweep.{through}
 use Rattle.model.specs.Step.{parentIs, isBelow, reaches}
@@ -16,7 +16,7 @@ use Rattle.model.proofs.BoolLaws.{or-swap, by-cases, bool-iff, or-left, or-righ
 use Rattle.model.proofs.ListLaws.{any-same, any-in, in-any, among-in, in-among}
 use Rattle.model.proofs.TableLaws.{isThe-at, isThe-by, parent-count}
 use Rattle.model.proofs.Below.{Below, under, further, below-is, is-below}
-use Rattle.query.specs.Stepping.{bit, anyFrom, upTo, childCounts}
+use Rattle.query.specs.Stepping.{anyFrom, upTo, childCounts}
 
 -- SOME ITEM, SOME ROW
 any-from : (f : ℕ → Bool) (i n : ℕ) → anyFrom f i n ≡ true → (k : ℕ) × (i ≤ k) × (f k ≡ true)

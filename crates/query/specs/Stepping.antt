@@ -6,14 +6,11 @@ use mathlib.Core.Option.{some}
 use Prim.Native.Nat.{ℕ, zero, suc, _+_, _-_, _/_, _%_, _≤_, _<_}
 use lib.Dec.{eqb}
 use lib.ListN.{length, getD, set, replicate}
-use Rattle.model.specs.Base.{pick, any, among}
+use Rattle.model.specs.Base.{pick, any, among, bit}
 use Rattle.model.specs.Table as model
 use Rattle.model.specs.Step.{reaches, parentIs}
 use Rattle.table.specs.Flags.{Flags}
 use Rattle.table.specs.Words.{decodeParts}
-
-abbrev pub bit : Bool → ℕ
-bit t = pick t 1 0
 
 -- ITEMS flagged
 pub record FlagPre (fs v : List ℕ) : Type 0 where

@@ -3,11 +3,11 @@
 ghost use mathlib.Core.Path.{_≡_};
 ghost use Prim.Native.Nat.{_+_, _<_};
 ghost use lib.ListN.{length, getD, set};
-ghost use Rattle.model.specs.Base.{pick};
+ghost use Rattle.model.specs.Base.{pick, bit};
 ghost use Rattle.model.specs.Script.{stepBy};
 ghost use Rattle.model.specs.Step.{admits, letterOf};
 ghost use Rattle.table.specs.Words.{rowOf};
-ghost use Rattle.query.specs.Stepping.{bit, FlagPre, Flagged, counted, OnePre, descended, climbed, PassPre, Reached};
+ghost use Rattle.query.specs.Stepping.{FlagPre, Flagged, counted, OnePre, descended, climbed, PassPre, Reached};
 ghost use Rattle.query.specs.Values.{kept, keptRows, CollectPre, Appended, StepPre, StepPost};
 use table::NameNumber;
 use table::RowNumber;

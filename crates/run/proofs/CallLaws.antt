@@ -9,13 +9,13 @@ use lib.Dec.{leb, eqb}
 use lib.ListN.{length, getD, take, drop, replicate, length-replicate, List·getD-map, take-append-drop}
 use lib.Seq.{length-take-le}
 use borrow.Author.Tests.{ne-eqb, eqb-true, eqb-false, le-leb, lt-leb, leb-true}
-use Rattle.model.specs.Base.{pick, nothing, also}
+use Rattle.model.specs.Base.{pick, nothing, also, bit}
 use Rattle.model.specs.Refusal as refusal
 use Rattle.model.specs.Script.{readScript}
 use Rattle.model.specs.History.{Record, historyBytes, AllInRange, times, isCut}
 use Rattle.model.specs.Run.{Out, stop, gives, run}
 use Rattle.model.specs.Call.{Ran, filled, countKind, areasFit, ranBy, refusedRun, runBy}
-use Rattle.model.proofs.BoolLaws.{one, by-cases, pick-true, pick-false, and-left, and-right, and-both}
+use Rattle.model.proofs.BoolLaws.{by-cases, pick-true, pick-false, and-left, and-right, and-both}
 use Rattle.records.specs.Walk.{endAt, exprAt}
 use Rattle.script.specs.Reading.{scriptRead}
 use Rattle.script.proofs.ScriptLaws.{script-accepted, script-parsed, script-ill}
@@ -71,11 +71,11 @@ made-count (also {a = r} {l = rs} f a) =
     (λ e.
     let k : (leb 65 (r .kind) && leb (r .kind) 66) ≡ false =
     outside 65 66 (r .kind) (λ p q. omega (arith, leb-true (r .kind) 66 q, eqb-true (r .kind) 67 e)) in
-    omega (arith, made-count a, ap one k, ap one e))
+    omega (arith, made-count a, ap bit k, ap bit e))
     (λ e.
     let u : r .kind ≤ 66 = omega (arith, m, eqb-false (r .kind) 67 e) in
     let k : (leb 65 (r .kind) && leb (r .kind) 66) ≡ true = and-both _ _ (le-leb 65 (r .kind) l) (le-leb (r .kind) 66 u) in
-    omega (arith, made-count a, ap one k, ap one e))
+    omega (arith, made-count a, ap bit k, ap bit e))
 
 -- a cleared area behind what is written
 drop-zeros : (k n z : ℕ) → drop k (replicate n z) ≡ replicate (n - k) z

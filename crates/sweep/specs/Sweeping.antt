@@ -6,7 +6,7 @@ use mathlib.Core.List.{List, map}
 use Prim.Native.Nat.{ℕ, _+_, _/_, _%_, _≤_, _<_}
 use lib.Dec.{eqb}
 use lib.ListN.{length, getD, set, take, replicate}
-use Rattle.model.specs.Base.{pick, any}
+use Rattle.model.specs.Base.{pick, any, bit}
 use Rattle.model.specs.Table as model
 use Rattle.model.specs.Refusal as refusal
 use Rattle.model.specs.Sweep.{swept, isKept, newNumber, sweptRows}
@@ -63,7 +63,7 @@ pub record Sweeping (x : model.Table) (i next : ℕ) (ns out : List ℕ) : Type 
   pub size : length ns ≡ 513
   pub none : getD ns 0 0 ≡ 0
   pub done : (k : ℕ) → k < i → getD ns (k + 1) 0 ≡ numberOf x k
-  pub flags : (k : ℕ) → i ≤ k → k < 512 → getD ns (k + 1) 0 ≡ pick (model.isMarked x k) 1 0
+  pub flags : (k : ℕ) → i ≤ k → k < 512 → getD ns (k + 1) 0 ≡ bit (model.isMarked x k)
   pub kept : next ≡ newNumber x i
   pub rows : out ≡ wordsOf (sweptRows x 0 (take i (x .rows)))
 

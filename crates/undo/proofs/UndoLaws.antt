@@ -15,13 +15,13 @@ use Rattle.model.specs.Refusal.{fault, fine, isFine, faultAt}
 use Rattle.model.specs.Table as model
 use Rattle.model.specs.Stored.{wordAt, parentIn}
 use Rattle.model.specs.Undo.{historySize, recordIn, Placed, Formed, broken, formed, formFault, withPlaced, formFrom, sameBool, sameParent}
-use Rattle.model.specs.Undo.{madeFits, oldParentFits, cutFits, Undo, refused, undoAll, backwards, undo}
+use Rattle.model.specs.Undo.{cutIn, madeIn, madeFits, oldParentFits, cutFits, Undo, refused, undoAll, backwards, undo}
 use Rattle.model.proofs.ListLaws.{drop-all, drop-first}
 use Rattle.model.proofs.BoolLaws.{by-cases, pick-true, pick-false}
 use Rattle.table.specs.Words.{linked, decodeParts}
 use Rattle.table.proofs.WordLaws.{count-decode, rowAt-decode}
 use Rattle.table.proofs.DecodeLaws.{element-kind}
-use Rattle.undo.specs.Undoing.{cutIn, madeIn, FormPost, undoing, Whole, PlacesPost, FitPre}
+use Rattle.undo.specs.Undoing.{FormPost, undoing, Whole, PlacesPost, FitPre}
 
 pub size-low : (k : ℕ) → 5 ≤ historySize k
 size-low k = by-cases (eqb k 67) (λ e. rw e (omega arith)) (λ e. rw e (omega arith))

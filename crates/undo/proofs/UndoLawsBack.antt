@@ -13,14 +13,14 @@ use Rattle.model.specs.Refusal.{fault, fine, linkAt}
 use Rattle.model.specs.Table as model
 use Rattle.model.specs.Stored.{wordAt, parentIn}
 use Rattle.model.specs.Undo.{historySize, recordIn, madeFits, oldParentFits, cutFits, undoFits, undone, refused}
-use Rattle.model.specs.Undo.{undoAll}
+use Rattle.model.specs.Undo.{cutIn, madeIn, undoAll}
 use Rattle.model.proofs.ListLaws.{drop-all}
 use Rattle.model.proofs.BoolLaws.{true-false, and-left, pick-true, pick-false}
 use Rattle.model.proofs.TestLaws.{and-four, and-five}
 use Rattle.table.specs.Words.{linked, rowOf, rowsOf, isRowWord, withLink, decodeParts, Canonical}
 use Rattle.table.proofs.WordLaws.{linked-linkOf, count-decode, rowAt-decode}
 use Rattle.table.proofs.WordLaws.{rowOf-withLink, isRowWord-withLink, row-word, rowsOf-set, canonical-set, canonical-pop, decode-pop}
-use Rattle.undo.specs.Undoing.{cutIn, madeIn, undoing, FitPre, BackPre, BackPost, AllPre, AllPost}
+use Rattle.undo.specs.Undoing.{undoing, FitPre, BackPre, BackPost, AllPre, AllPost}
 use Rattle.undo.specs.declared.undoing.BackEnd.{BackEnd}
 
 -- THE RECORD at the front, by its kind

@@ -7,8 +7,6 @@ use lib.ListN.{length, getD, drop}
 use Rattle.model.specs.Base.{pick}
 use Rattle.model.specs.Refusal as refusal
 use Rattle.model.specs.Table as model
-use Rattle.model.specs.Stored.{wordAt, parentIn}
-use Rattle.model.specs.History.{Record, cutKind}
 use Rattle.model.specs.Undo.{historySize, recordIn, Placed, formFault, undoFits, undone, Undo, refused, back, undoAll, undo}
 use Rattle.table.specs.Words.{decode, decodeParts, Canonical, fits}
 use Rattle.model.specs.Refusal.{faultAt}
@@ -25,13 +23,6 @@ undoneBy t (back x) = result refusal.fine x
 
 abbrev pub planUndone : Table → (history : List ℕ) → TableResult
 planUndone t b = pick (fits t) (undoneBy t (undo (decode t) b)) (asItWas (refusal.linkAt 0) t)
-
--- THE RECORD at the front, of a link cut and of a row made
-abbrev pub cutIn : (bytes : List ℕ) → Record
-cutIn b = record { kind = cutKind; row = wordAt b 1; tag = 0; parent = parentIn (wordAt b 3) }
-
-abbrev pub madeIn : (bytes : List ℕ) → Record
-madeIn b = record { kind = getD b 0 0; row = wordAt b 1; tag = getD b 3 0; parent = parentIn (wordAt b 4) }
 
 -- THE FORM of one record
 pub record FormPost (s : List ℕ) (n r : ℕ) : Type 0 where

@@ -2,9 +2,8 @@
 use Rattle.undo.proofs.UndoLaws.{size-low}
 use Rattle.undo.proofs.UndoLawsBack.{cut-pre, cut-refused, cut-row-low, cut-parent-low, cut-back, made-pre, made-refused, made-some}
 use Rattle.undo.proofs.UndoLawsBack.{made-back}
-use Rattle.model.specs.Undo.{cutFits, madeFits}
+use Rattle.model.specs.Undo.{cutIn, madeIn, cutFits, madeFits}
 use Rattle.table.specs.Words.{decodeParts}
-use Rattle.undo.specs.Undoing.{cutIn, madeIn}
 use borrow.Author.Tests.{not-true, not-false}
 use lib.ListN.{getD}
 use mathlib.Core.Bool.{true}
