@@ -2,6 +2,7 @@
 // value; the two that raise it are lent it by &mut, and their proofs are walks by hand.
 ghost use mathlib.Core.Path.{_≡_};
 ghost use Prim.Native.Nat.{_<_, _≤_, _+_, _^_};
+ghost use Rattle.model.specs.Limits.{maxHistory};
 ghost use Rattle.areas.specs.Tallying.{noneYet, withMade, withCut, tallyFor};
 
 pub struct Tally {
@@ -63,7 +64,7 @@ fn add_cut(tally: &mut Tally, n: usize)
 
 // The tally of a run that made so many rows and cut so many links.
 pub fn tallied(made: usize, cut: usize) -> Tally
-    requires { ⌜ made + cut ≤ 2048 ⌝ }
+    requires { ⌜ made + cut ≤ maxHistory ⌝ }
     ensures { λ r. ⌜ r ≡ tallyFor made cut ⌝ }
 {
     let mut tally = none();

@@ -3,6 +3,7 @@ use mathlib.Core.List.{List}
 use Prim.Native.Nat.{ℕ, _+_, _*_, _%_}
 use lib.Dec.{eqb}
 use Rattle.model.specs.Base.{pick}
+use Rattle.model.specs.Limits.{maxRows, documents}
 use Rattle.plan.specs.Calls.{planWritten, planOut}
 use Rattle.table.specs.declared.TableResult.{TableResult}
 use Rattle.table.specs.declared.Written.{Written}
@@ -15,9 +16,9 @@ codeOf n w i = n + 256 * w + 65536 * (i % 281474976710656)
 abbrev pub lentCode : ℕ
 lentCode = codeOf 11 0 0
 
--- what out needs: the bytes of 512 rows and 8 marks
+-- what out needs, 2,080: four bytes for each row and mark of the longest plan
 abbrev pub outNeed : ℕ
-outNeed = 2080
+outNeed = 4 * (maxRows + documents)
 
 -- a plan written: its bytes as the place, or the refusal of the area
 abbrev pub writtenCode : Written → ℕ

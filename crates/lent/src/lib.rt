@@ -1,6 +1,8 @@
 // What the C calls share: the number that one answers and the areas lent to a run.
+use table::Table;
+
 pub mod answer;
 pub mod done;
 
-// The bytes that a plan takes at most: 512 rows and 8 marks.
-pub const ROOM: usize = 2080;
+// The bytes that a plan takes at most: four for each row and mark.
+pub const ROOM: usize = 4 * (Table::ROWS + Table::DOCUMENTS);

@@ -5,6 +5,10 @@ use Prim.Native.Nat.{ℕ}
 abbrev pub maxRows : ℕ
 maxRows = 512
 
+-- links to a row: none, or its number and one
+abbrev pub maxLinks : ℕ
+maxLinks = 513
+
 -- documents, numbered from 0
 abbrev pub documents : ℕ
 documents = 8

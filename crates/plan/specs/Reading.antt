@@ -4,6 +4,7 @@ use mathlib.Core.List.{List, map}
 use Prim.Native.Nat.{ℕ, _+_, _≤_, _<_}
 use lib.Dec.{eqb}
 use lib.ListN.{length, getD, set, replicate}
+use Rattle.model.specs.Limits.{maxRows}
 use Rattle.model.specs.Base.{pick}
 use Rattle.model.specs.Refusal.{fault, faultAt}
 use Rattle.model.specs.Stored.{Read, bad, got, readPlan, wordAt, rowIn, lastMarked, rowFault, markFault, recordFault, recorded}
@@ -19,8 +20,8 @@ pub record RowPre (s ws : List ℕ) (n : ℕ) : Type 0 where
   pub whole : 4 ≤ length s
   pub low : 17 ≤ getD s 0 0
   pub high : getD s 0 0 ≤ 18
-  pub room : n < 512
-  pub size : length ws ≡ 512
+  pub room : n < maxRows
+  pub size : length ws ≡ maxRows
 
 pub record RowPost (s ws : List ℕ) (n last : ℕ) (ws′ : List ℕ) (r : ℕ) : Type 0 where
   pub fault : (ms : List ℕ) (i : ℕ) → last ≡ lastOf ms → rowFault (decodeParts n ws ms) i s ≡ faultAt r i
@@ -29,8 +30,8 @@ pub record RowPost (s ws : List ℕ) (n last : ℕ) (ws′ : List ℕ) (r : ℕ)
 
 pub record MarkPre (s ws ms : List ℕ) (n : ℕ) : Type 0 where
   pub whole : 4 ≤ length s
-  pub room : n ≤ 512
-  pub size : length ws ≡ 512
+  pub room : n ≤ maxRows
+  pub size : length ws ≡ maxRows
   pub documents : length ms ≡ 8
 
 pub record MarkPost (s ws ms : List ℕ) (n last : ℕ) (ms′ : List ℕ) (r : ℕ) : Type 0 where
@@ -41,8 +42,8 @@ pub record MarkPost (s ws ms : List ℕ) (n last : ℕ) (ms′ : List ℕ) (r : 
 
 -- the table so far, in its words and marks: `last` is one more than the last document that marks a row
 pub record Held (ws ms : List ℕ) (n last : ℕ) : Type 0 where
-  pub room : n ≤ 512
-  pub size : length ws ≡ 512
+  pub room : n ≤ maxRows
+  pub size : length ws ≡ maxRows
   pub documents : length ms ≡ 8
   pub canonical : Canonical n ws
   pub latest : last ≡ lastOf ms
@@ -62,7 +63,7 @@ pub record RecordPost (s ws ms : List ℕ) (n : ℕ) (ws′ ms′ : List ℕ) (r
   pub fine : r .number ≡ 0 → Recorded s ws ms n ws′ ms′ (r .count) (r .last)
 
 pub record ReadPre (ws ms : List ℕ) : Type 0 where
-  pub rows : ws ≡ replicate 512 0
+  pub rows : ws ≡ replicate maxRows 0
   pub marks : ms ≡ replicate 8 0
 
 abbrev pub readEnd : (ws ms : List ℕ) → PlanEnd → Read

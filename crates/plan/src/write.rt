@@ -5,6 +5,7 @@ ghost use Prim.Native.Nat.{ℕ, _+_, _*_, _≤_, _<_};
 ghost use lib.ListN.{length};
 ghost use Rattle.model.specs.Stored.{wordBytes, rowBytes, rowsBytes, markBytes, marksBytes};
 ghost use mathlib.Core.Bool.{true};
+ghost use Rattle.model.specs.Limits.{maxRows, documents};
 ghost use Rattle.plan.specs.Calls.{planWritten, planOut};
 ghost use Rattle.table.specs.Words.{linked, rowOf, rowsOf, fits};
 ghost use Rattle.plan.specs.Writing.{RowsPre, MarksPre};
@@ -92,7 +93,7 @@ pub fn marks(out: &mut [u8], marks: &[u16], start: usize)
 
 // The bytes that a table's rows and marks take.
 pub fn stored_length(count: usize, marks: &[u16]) -> usize
-    requires { ⌜ (count ≤ 512) × (length (now marks) ≡ 8) ⌝ }
+    requires { ⌜ (count ≤ maxRows) × (length (now marks) ≡ documents) ⌝ }
     ensures { λ r. ⌜ r ≡ 4 * count + length (marksBytes 0 (map linked (now (marks .entry)))) ⌝ }
 {
     let mut n = stored::SIZE * count;

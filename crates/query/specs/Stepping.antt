@@ -6,6 +6,7 @@ use mathlib.Core.Option.{some}
 use Prim.Native.Nat.{ℕ, zero, suc, _+_, _-_, _/_, _%_, _≤_, _<_}
 use lib.Dec.{eqb}
 use lib.ListN.{length, getD, set, replicate}
+use Rattle.model.specs.Limits.{maxLinks, maxRows}
 use Rattle.model.specs.Base.{pick, any, among, bit}
 use Rattle.model.specs.Table as model
 use Rattle.model.specs.Step.{reaches, parentIs}
@@ -14,8 +15,8 @@ use Rattle.table.specs.Words.{decodeParts}
 
 -- ITEMS flagged
 pub record FlagPre (fs v : List ℕ) : Type 0 where
-  pub clear : fs ≡ replicate 513 0
-  pub low : (k : ℕ) → k < length v → getD v k 0 < 512
+  pub clear : fs ≡ replicate maxLinks 0
+  pub low : (k : ℕ) → k < length v → getD v k 0 < maxRows
 
 abbrev pub Flagged : (value flags : List ℕ) → Type 0
 Flagged v fs = Flags (λ (k : ℕ). among k v) fs
@@ -25,10 +26,10 @@ abbrev pub counted : (item reached : ℕ) → (deep : Bool) → Bool
 counted i r d = not (eqb i 0) || (d && not (eqb r 0))
 
 pub record OnePre (w j : ℕ) (fs rs : List ℕ) : Type 0 where
-  pub low : j < 512
-  pub link : w / 4 % 1024 < 513
-  pub flags : length fs ≡ 513
-  pub reached : length rs ≡ 513
+  pub low : j < maxRows
+  pub link : w / 4 % 1024 < maxLinks
+  pub flags : length fs ≡ maxLinks
+  pub reached : length rs ≡ maxLinks
 
 abbrev pub descended : (word row : ℕ) → (deep : Bool) → (flags reached : List ℕ) → List ℕ
 descended w j d fs rs = pick (counted (getD fs (w / 4 % 1024) 0) (getD rs (w / 4 % 1024) 0) d) (set rs (j + 1) 1) rs
@@ -38,18 +39,18 @@ climbed w j d fs rs = pick (counted (getD fs (j + 1) 0) (getD rs (j + 1) 0) d) (
 
 -- A PASS over the rows below the count, whose parents are lower
 pub record RowsHeld (ws : List ℕ) (n : ℕ) : Type 0 where
-  pub rows : length ws ≡ 512
-  pub few : n ≤ 512
+  pub rows : length ws ≡ maxRows
+  pub few : n ≤ maxRows
   pub lower : (i p : ℕ) → model.rowAt (decodeParts n ws []) i .parent ≡ some p → p < i
 
 pub record PassPre (ws : List ℕ) (n : ℕ) (fs rs : List ℕ) : Type 0 where
   pub held : RowsHeld ws n
-  pub flags : length fs ≡ 513
-  pub clear : rs ≡ replicate 513 0
+  pub flags : length fs ≡ maxLinks
+  pub clear : rs ≡ replicate maxLinks 0
 
 -- after it each row below the count has the flag of what the axis reaches from the items
 pub record Reached (ws : List ℕ) (n axis : ℕ) (fs rs : List ℕ) : Type 0 where
-  pub size : length rs ≡ 513
+  pub size : length rs ≡ maxLinks
   pub flags : (ms v : List ℕ) → Flagged v fs → (j : ℕ) → j < n →
       getD rs (j + 1) 0 ≡ bit (any (λ (i : ℕ). reaches (decodeParts n ws ms) axis i j) v)
 
@@ -67,13 +68,13 @@ childCounts x d v j k = parentIs x j k && (among k v || (d && upTo x d v k))
 
 -- THE PASSES so far: down to a row, and up from one
 pub record Descending (ws : List ℕ) (n : ℕ) (d : Bool) (fs : List ℕ) (j : ℕ) (rs : List ℕ) : Type 0 where
-  pub size : length rs ≡ 513
+  pub size : length rs ≡ maxLinks
   pub none : getD rs 0 0 ≡ 0
   pub done : (ms v : List ℕ) → Flagged v fs → (k : ℕ) → k < j →
       getD rs (k + 1) 0 ≡ bit (any (λ (i : ℕ). reaches (decodeParts n ws ms) (bit d) i k) v)
-  pub rest : (k : ℕ) → j ≤ k → k < 512 → getD rs (k + 1) 0 ≡ 0
+  pub rest : (k : ℕ) → j ≤ k → k < maxRows → getD rs (k + 1) 0 ≡ 0
 
 pub record Climbing (ws : List ℕ) (n : ℕ) (d : Bool) (fs : List ℕ) (t : ℕ) (rs : List ℕ) : Type 0 where
-  pub size : length rs ≡ 513
-  pub flags : (ms v : List ℕ) → Flagged v fs → (j : ℕ) → j < 512 →
+  pub size : length rs ≡ maxLinks
+  pub flags : (ms v : List ℕ) → Flagged v fs → (j : ℕ) → j < maxRows →
       getD rs (j + 1) 0 ≡ bit (anyFrom (childCounts (decodeParts n ws ms) d v j) t (n - t))

@@ -6,6 +6,7 @@ use mathlib.Core.List.{List, [], _∷_, _++_}
 use Prim.Native.Nat.{ℕ, _+_, _-_, _≤_, _<_}
 use lib.Dec.{eqb}
 use lib.ListN.{length, getD, take, drop}
+use Rattle.model.specs.Limits.{maxItems, maxLinks, maxRows}
 use Rattle.model.specs.Base.{pick}
 use Rattle.model.specs.Script.{stepBy}
 use Rattle.model.specs.Step.{admits, letterOf, stepped, picked, relates, collect}
@@ -29,10 +30,10 @@ abbrev pub keptRows : (rows reached : List ℕ) → (test name count : ℕ) → 
 keptRows ws rs t n k = collect (λ (j : ℕ). kept ws j (getD rs (j + 1) 0) t n) 0 k
 
 pub record CollectPre (ws : List ℕ) (n : ℕ) (rs w : List ℕ) (from : ℕ) : Type 0 where
-  pub rows : length ws ≡ 512
-  pub few : n ≤ 512
-  pub reached : length rs ≡ 513
-  pub room : from + 512 ≤ length w
+  pub rows : length ws ≡ maxRows
+  pub few : n ≤ maxRows
+  pub reached : length rs ≡ maxLinks
+  pub room : from + maxItems ≤ length w
 
 -- A STEP from the value at a place: its items are rows, and there is room for 512
 pub record StepPre (ws : List ℕ) (n axis : ℕ) (w : List ℕ) (from to : ℕ) : Type 0 where
@@ -40,7 +41,7 @@ pub record StepPre (ws : List ℕ) (n axis : ℕ) (w : List ℕ) (from to : ℕ)
   pub axes : axis < 4
   pub order : from ≤ to
   pub within : to ≤ length w
-  pub room : from + 512 ≤ length w
+  pub room : from + maxItems ≤ length w
   pub low : (k : ℕ) → k < to - from → getD (valueAt w from to) k 0 < n
 
 pub record StepPost (ws : List ℕ) (n axis test name : ℕ) (w : List ℕ) (from to : ℕ) (w′ : List ℕ) (r : ℕ) : Type 0 where
@@ -56,11 +57,11 @@ pickedRow ws r c i = rowOf (getD ws i 0) .isLeaf && relates r c (rowOf (getD ws 
 
 -- PICK from the value at a place: what it keeps for every count of rows above the items
 pub record PickPre (ws w : List ℕ) (from to : ℕ) : Type 0 where
-  pub rows : length ws ≡ 512
+  pub rows : length ws ≡ maxRows
   pub order : from ≤ to
   pub within : to ≤ length w
-  pub low : (k : ℕ) → k < to - from → getD (valueAt w from to) k 0 < 512
+  pub low : (k : ℕ) → k < to - from → getD (valueAt w from to) k 0 < maxRows
 
 pub record PickPost (ws : List ℕ) (relation constant : ℕ) (w : List ℕ) (from to : ℕ) (w′ : List ℕ) (r : ℕ) : Type 0 where
-  pub value : (n : ℕ) (ms : List ℕ) → n ≤ 512 → ((k : ℕ) → k < to - from → getD (valueAt w from to) k 0 < n) →
+  pub value : (n : ℕ) (ms : List ℕ) → n ≤ maxRows → ((k : ℕ) → k < to - from → getD (valueAt w from to) k 0 < n) →
       Appended (picked (decodeParts n ws ms) relation constant (valueAt w from to)) w from w′ r

@@ -12,7 +12,7 @@ use table::fit;
 use updates::state::Progress;
 
 // What a run needs of each lent area.
-pub const ANSWER: usize = 512;
+pub const ANSWER: usize = Table::ITEMS;
 
 pub const HISTORY: usize = 12288;
 

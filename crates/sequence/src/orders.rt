@@ -1,6 +1,7 @@
 // Two scripts run one after the other.
 ghost use mathlib.Core.Path.{_≡_};
 ghost use lib.ListN.{length};
+ghost use Rattle.model.specs.Limits.{answerNeed, historyNeed, workNeed};
 ghost use Rattle.sequence.specs.Orders.{ending, order, swap};
 use table::Table;
 
@@ -26,19 +27,19 @@ pub enum Order {
 
 // The areas of a run, of the lengths that it needs.
 fn answer_area() -> [u16; run::ANSWER]
-    ensures { λ r. ⌜ length r ≡ 512 ⌝ }
+    ensures { λ r. ⌜ length r ≡ answerNeed ⌝ }
 {
     [0; run::ANSWER]
 }
 
 fn history_area() -> [u8; run::HISTORY]
-    ensures { λ r. ⌜ length r ≡ 12288 ⌝ }
+    ensures { λ r. ⌜ length r ≡ historyNeed ⌝ }
 {
     [0; run::HISTORY]
 }
 
 fn work_area() -> [u16; run::WORK]
-    ensures { λ r. ⌜ length r ≡ 32768 ⌝ }
+    ensures { λ r. ⌜ length r ≡ workNeed ⌝ }
 {
     [0; run::WORK]
 }

@@ -6,6 +6,7 @@ use mathlib.Core.List.{List, map}
 use Prim.Native.Nat.{ℕ, _+_, _/_, _%_, _≤_, _<_}
 use lib.Dec.{eqb}
 use lib.ListN.{length, getD, set, take, replicate}
+use Rattle.model.specs.Limits.{maxLinks, maxRows}
 use Rattle.model.specs.Base.{pick, any, bit}
 use Rattle.model.specs.Table as model
 use Rattle.model.specs.Refusal as refusal
@@ -22,12 +23,12 @@ planSwept t = pick (fits t) (result refusal.fine (swept (decode t))) (asItWas (r
 
 -- FLAGS of marked rows
 pub record LinksPre (ns ms : List ℕ) : Type 0 where
-  pub size : length ns ≡ 513
-  pub links : (d : ℕ) → getD ms d 0 < 513
+  pub size : length ns ≡ maxLinks
+  pub links : (d : ℕ) → getD ms d 0 < maxLinks
 
 pub record FlagPre (ns ms : List ℕ) : Type 0 where
-  pub zero : ns ≡ replicate 513 0
-  pub links : (d : ℕ) → getD ms d 0 < 513
+  pub zero : ns ≡ replicate maxLinks 0
+  pub links : (d : ℕ) → getD ms d 0 < maxLinks
 
 abbrev pub Flagged : (marks numbers : List ℕ) → Type 0
 Flagged ms ns = Flags (λ (k : ℕ). any (model.isThe k) (map linked ms)) ns
@@ -43,11 +44,11 @@ abbrev pub newWord : (word : ℕ) → (numbers : List ℕ) → ℕ
 newWord w ns = withLink w (getD ns (w / 4 % 1024) 0)
 
 pub record RowPre (w i next : ℕ) (ns out : List ℕ) : Type 0 where
-  pub low : i < 512
-  pub link : w / 4 % 1024 < 513
+  pub low : i < maxRows
+  pub link : w / 4 % 1024 < maxLinks
   pub below : next ≤ i
-  pub numbers : length ns ≡ 513
-  pub rows : length out ≡ 512
+  pub numbers : length ns ≡ maxLinks
+  pub rows : length out ≡ maxRows
   pub parent : getD ns (w / 4 % 1024) 0 < 1024
 
 pub record RowPost (w i next : ℕ) (ns out ns′ out′ : List ℕ) (r : ℕ) : Type 0 where
@@ -60,18 +61,18 @@ abbrev pub numberOf : model.Table → (row : ℕ) → ℕ
 numberOf x k = pick (isKept x k) (newNumber x k + 1) 0
 
 pub record Sweeping (x : model.Table) (i next : ℕ) (ns out : List ℕ) : Type 0 where
-  pub size : length ns ≡ 513
+  pub size : length ns ≡ maxLinks
   pub none : getD ns 0 0 ≡ 0
   pub done : (k : ℕ) → k < i → getD ns (k + 1) 0 ≡ numberOf x k
-  pub flags : (k : ℕ) → i ≤ k → k < 512 → getD ns (k + 1) 0 ≡ bit (model.isMarked x k)
+  pub flags : (k : ℕ) → i ≤ k → k < maxRows → getD ns (k + 1) 0 ≡ bit (model.isMarked x k)
   pub kept : next ≡ newNumber x i
   pub rows : out ≡ wordsOf (sweptRows x 0 (take i (x .rows)))
 
 pub record RowsPre (ws ms : List ℕ) (n : ℕ) (ns out : List ℕ) : Type 0 where
-  pub size : length ws ≡ 512
+  pub size : length ws ≡ maxRows
   pub fits : partsFit n ws ms ≡ true
-  pub numbers : ns ≡ replicate 513 0
-  pub rows : out ≡ replicate 512 0
+  pub numbers : ns ≡ replicate maxLinks 0
+  pub rows : out ≡ replicate maxRows 0
 
 -- MARKS: each link's new one
 abbrev pub newLinks : (numbers marks : List ℕ) → List ℕ

@@ -4,10 +4,11 @@ use mathlib.Core.Bool.{Bool}
 use mathlib.Core.List.{List}
 use Prim.Native.Nat.{ℕ, _+_, _<_}
 use lib.ListN.{length, getD}
+use Rattle.model.specs.Limits.{maxLinks, maxRows}
 use Rattle.model.specs.Base.{bit}
 
 -- 1 for each row of which f holds, else 0
 pub record Flags (f : ℕ → Bool) (fs : List ℕ) : Type 0 where
-  pub size : length fs ≡ 513
+  pub size : length fs ≡ maxLinks
   pub none : getD fs 0 0 ≡ 0
-  pub flags : (k : ℕ) → k < 512 → getD fs (k + 1) 0 ≡ bit (f k)
+  pub flags : (k : ℕ) → k < maxRows → getD fs (k + 1) 0 ≡ bit (f k)

@@ -4,6 +4,7 @@ use mathlib.Core.List.{List, [], _∷_}
 use Prim.Native.Nat.{ℕ, zero, suc, _≤_, _<_}
 use lib.Dec.{eqb}
 use lib.ListN.{length, getD, drop}
+use Rattle.model.specs.Limits.{maxHistory, maxRows}
 use Rattle.model.specs.Base.{pick}
 use Rattle.model.specs.Refusal as refusal
 use Rattle.model.specs.Table as model
@@ -28,7 +29,7 @@ planUndone t b = pick (fits t) (undoneBy t (undo (decode t) b)) (asItWas (refusa
 pub record FormPost (s : List ℕ) (n r : ℕ) : Type 0 where
   pub fault : (i : ℕ) → formFault i n s ≡ faultAt r i
   pub whole : r ≡ 0 → historySize (getD s 0 0) ≤ length s
-  pub few : r ≡ 0 → n < 2048
+  pub few : r ≡ 0 → n < maxHistory
 
 -- the first n records by their places, in the order in which they are undone
 unfoldable pub undoing : (bytes places : List ℕ) → ℕ → List Placed
@@ -44,18 +45,18 @@ pub record PlacesPost (b m : List ℕ) (r : FormEnd) : Type 0 where
   pub fine : r .number ≡ 0 → (x : model.Table) → undoAll x (undoing b m (r .records)) ≡ undo x b
   pub stop : (r .number ≡ 0 → ⊥) → (x : model.Table) → refused (refusal.fault (r .number) (r .place)) ≡ undo x b
   pub whole : r .number ≡ 0 → Whole b m (r .records)
-  pub few : r .number ≡ 0 → r .records ≤ 2048
+  pub few : r .number ≡ 0 → r .records ≤ maxHistory
 
 -- THE FIT of one record of k bytes
 pub record FitPre (ws : List ℕ) (n : ℕ) (s : List ℕ) (k : ℕ) : Type 0 where
-  pub rows : length ws ≡ 512
-  pub few : n ≤ 512
+  pub rows : length ws ≡ maxRows
+  pub few : n ≤ maxRows
   pub whole : k ≤ length s
 
 -- UNDONE: one record
 pub record BackPre (ws : List ℕ) (n : ℕ) (s : List ℕ) : Type 0 where
-  pub rows : length ws ≡ 512
-  pub few : n ≤ 512
+  pub rows : length ws ≡ maxRows
+  pub few : n ≤ maxRows
   pub canonical : Canonical n ws
   pub whole : historySize (getD s 0 0) ≤ length s
 
@@ -63,20 +64,20 @@ pub record BackPost (ws ms : List ℕ) (n : ℕ) (s ws′ : List ℕ) (r : BackE
   pub fit : undoFits (decodeParts n ws ms) (recordIn s) ≡ eqb (r .number) 0
   pub link : (r .number ≡ 0 → ⊥) → r .number ≡ 6
   pub table : r .number ≡ 0 → decodeParts (r .count) ws′ ms ≡ undone (decodeParts n ws ms) (recordIn s)
-  pub few : r .number ≡ 0 → r .count ≤ 512
+  pub few : r .number ≡ 0 → r .count ≤ maxRows
   pub canonical : r .number ≡ 0 → Canonical (r .count) ws′
 
 -- and all of them
 pub record AllPre (ws : List ℕ) (n : ℕ) (b m : List ℕ) (k : ℕ) : Type 0 where
-  pub rows : length ws ≡ 512
-  pub few : n ≤ 512
+  pub rows : length ws ≡ maxRows
+  pub few : n ≤ maxRows
   pub canonical : Canonical n ws
-  pub places : length m ≡ 2048
-  pub records : k ≤ 2048
+  pub places : length m ≡ maxHistory
+  pub records : k ≤ maxHistory
   pub whole : Whole b m k
 
 pub record AllPost (ws ms : List ℕ) (n : ℕ) (b m : List ℕ) (k : ℕ) (ws′ : List ℕ) (r : BackEnd) : Type 0 where
   pub fine : r .number ≡ 0 → back (decodeParts (r .count) ws′ ms) ≡ undoAll (decodeParts n ws ms) (undoing b m k)
   pub stop : (r .number ≡ 0 → ⊥) → refused (refusal.fault (r .number) (r .place)) ≡ undoAll (decodeParts n ws ms) (undoing b m k)
-  pub few : r .number ≡ 0 → r .count ≤ 512
+  pub few : r .number ≡ 0 → r .count ≤ maxRows
   pub canonical : r .number ≡ 0 → Canonical (r .count) ws′

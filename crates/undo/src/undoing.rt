@@ -3,6 +3,7 @@ ghost use mathlib.Core.Path.{_≡_};
 ghost use Prim.Native.Nat.{_+_, _%_, _<_, _≤_};
 ghost use lib.Dec.{eqb};
 ghost use lib.ListN.{length};
+ghost use Rattle.model.specs.Limits.{maxHistory};
 ghost use Rattle.model.specs.Stored.{parentIn};
 ghost use Rattle.model.specs.Undo.{historySize, sameBool, sameParent, madeFits, cutFits, cutIn, madeIn};
 ghost use Rattle.table.specs.Words.{linked, decodeParts};
@@ -68,7 +69,7 @@ fn form_fault(s: &[u8], records: usize) -> u8
 
 // The form of the whole history; the places of its records.
 pub fn form(bytes: &[u8], places: &mut [u16]) -> FormEnd
-    requires { ⌜ length (now places) ≡ 2048 ⌝ }
+    requires { ⌜ length (now places) ≡ maxHistory ⌝ }
     ensures { λ r. ⌜ PlacesPost (now (bytes .entry)) (now (places .exit)) r ⌝ }
 {
     let mut at = 0;

@@ -2,6 +2,7 @@
 ghost use mathlib.Core.Path.{_≡_};
 ghost use Prim.Native.Nat.{_+_, _/_, _%_, _≤_, _<_};
 ghost use lib.ListN.{length};
+ghost use Rattle.model.specs.Limits.{maxRows};
 ghost use Rattle.model.specs.History.{recordBytes};
 ghost use Rattle.model.specs.Run.{made, cutRecord};
 ghost use Rattle.table.specs.Words.{rowOf};
@@ -49,7 +50,7 @@ fn put_six(history: &mut [u8], at: usize, kind: u8, row: usize, tag: u8, parent:
 // The record of row w made, at a place.
 pub fn put_made(history: &mut [u8], at: usize, row: usize, w: u32)
     requires { ⌜ at + 6 ≤ length (now history) ⌝ }
-    requires { ⌜ row < 512 ⌝ }
+    requires { ⌜ row < maxRows ⌝ }
     requires { ⌜ w / 4096 < 256 ⌝ }
     ensures { λ r. ⌜ now (history .exit) ≡ over at (recordBytes (made (rowOf w) row)) (now (history .entry)) ⌝ }
 {
@@ -61,8 +62,8 @@ pub fn put_made(history: &mut [u8], at: usize, row: usize, w: u32)
 // The record of a row cut from its parent, at a place.
 pub fn put_cut(history: &mut [u8], at: usize, row: usize, parent: usize)
     requires { ⌜ at + 5 ≤ length (now history) ⌝ }
-    requires { ⌜ row < 512 ⌝ }
-    requires { ⌜ parent < 512 ⌝ }
+    requires { ⌜ row < maxRows ⌝ }
+    requires { ⌜ parent < maxRows ⌝ }
     ensures { λ r. ⌜ now (history .exit) ≡ over at (recordBytes (cutRecord row parent)) (now (history .entry)) ⌝ }
 {
     history[at] = CUT;
