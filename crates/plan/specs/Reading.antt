@@ -7,7 +7,7 @@ use lib.ListN.{length, getD, set, replicate}
 use Rattle.model.specs.Limits.{maxRows}
 use Rattle.model.specs.Base.{pick}
 use Rattle.model.specs.Refusal.{fault, faultAt}
-use Rattle.model.specs.Stored.{Read, bad, got, readPlan, wordAt, rowIn, lastMarked, rowFault, markFault, recordFault, recorded}
+use Rattle.model.specs.Stored.{elementKind, leafKind, Read, bad, got, readPlan, wordAt, rowIn, lastMarked, rowFault, markFault, recordFault, recorded}
 use Rattle.table.specs.Words.{linkOf, linked, wordOf, decodeParts, Canonical}
 use Rattle.plan.specs.declared.read.RecordRead.{RecordRead}
 use Rattle.plan.specs.declared.read.PlanEnd.{PlanEnd}
@@ -18,8 +18,8 @@ lastOf ms = lastMarked 0 (map linked ms)
 
 pub record RowPre (s ws : List ℕ) (n : ℕ) : Type 0 where
   pub whole : 4 ≤ length s
-  pub low : 17 ≤ getD s 0 0
-  pub high : getD s 0 0 ≤ 18
+  pub low : elementKind ≤ getD s 0 0
+  pub high : getD s 0 0 ≤ leafKind
   pub room : n < maxRows
   pub size : length ws ≡ maxRows
 

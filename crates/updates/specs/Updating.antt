@@ -8,13 +8,14 @@ use lib.ListN.{length, getD}
 use Rattle.model.specs.Base.{pick}
 use Rattle.model.specs.Table.{tagFits, parentFits}
 use Rattle.model.specs.Run.{newRow, loose, cutAll}
+use Rattle.model.specs.History.{madeElementKind, madeLeafKind}
 use Rattle.table.specs.Words.{isRowWord, rowOf, decodeParts}
 use Rattle.updates.specs.State.{Held, Updated}
 use Rattle.updates.specs.declared.state.Progress.{Progress}
 
 -- RECORDS as bytes
 abbrev pub madeKind : (word : ℕ) → ℕ
-madeKind w = pick (eqb (w % 4) 2) 0x42 0x41
+madeKind w = pick (eqb (w % 4) 2) madeLeafKind madeElementKind
 
 abbrev pub sixBytes : (kind row tag parent : ℕ) → List ℕ
 sixBytes k i t p = k ∷ i % 256 ∷ i / 256 ∷ t ∷ p % 256 ∷ p / 256 ∷ []
