@@ -1,12 +1,12 @@
 -- What is read as a script has its fields in range: names 1 to 255, values of one byte, and steps with a fitting test.
-use mathlib.Core.Path.{_≡_, refl, sym, _∙_, subst}
-use mathlib.Core.Bool.{Bool, true, false, _&&_, not}
+use mathlib.Core.Path.{_≡_, sym, _∙_, subst}
+use mathlib.Core.Bool.{true, false, _&&_, not}
 use mathlib.Core.List.{List}
 use Prim.Native.Nat.{ℕ, zero, suc, _+_}
 use lib.Dec.{ltb, leb, eqb}
 use lib.ListN.{length, getD}
 use borrow.Author.Tests.{eqb-true, le-leb}
-use Rattle.model.specs.Base.{pick, isIn, areBytes}
+use Rattle.model.specs.Base.{isIn, areBytes}
 use Rattle.model.specs.Limits.{maxRecords, maxDepth, maxBinders}
 use Rattle.model.specs.Refusal.{isFine}
 use Rattle.model.specs.Table.{tagFits}
@@ -17,7 +17,7 @@ use Rattle.model.specs.Script.{Parsed, ill}
 use Rattle.model.specs.Script.{parsed, thenParse, one, two, three, operands, parseFrom, whole}
 use Rattle.model.specs.Run.{loose}
 use Rattle.model.specs.Promise.{IsScript}
-use Rattle.model.proofs.BoolLaws.{and-right}
+use Rattle.model.proofs.BoolLaws.{and-right, pick-cases}
 use Rattle.model.proofs.RefusalLaws.{isFine-unless, isFine-rest}
 use Rattle.model.proofs.BytesLaws.{areBytes-at, areBytes-drop}
 
@@ -48,10 +48,6 @@ Reader = ℕ → ℕ → ℕ → List ℕ → Parsed
 abbrev ReaderWell : Reader → Type 0
 ReaderWell f = (i n v : ℕ) (b : List ℕ) → areBytes b ≡ true → ReadsWell (f i n v b)
 
-pick-well : (t : Bool) (p q : Parsed) → (t ≡ true → ReadsWell p) → (t ≡ false → ReadsWell q) → ReadsWell (pick t p q)
-pick-well true p q h k = h refl
-pick-well false p q h k = k refl
-
 thenParse-well : (p : Parsed) (next : Expr → ℕ → ℕ → List ℕ → Parsed) → ReadsWell p →
     ((e : Expr) (i n : ℕ) (c : List ℕ) → FieldsFit e → areBytes c ≡ true → ReadsWell (next e i n c)) → ReadsWell (thenParse p next)
 thenParse-well (ill x) next h k = tt
@@ -77,18 +73,18 @@ module _ (f : Reader) (r : ReaderWell f) where
       ReadsWell (operands f z i n v b c)
   unfolding FieldsFit
   operands-well z i n v b c h a g =
-      pick-well (eqb (getD b 0 0) nilKind) _ _ (λ e. (tt, a)) λ e1.
-      pick-well (eqb (getD b 0 0) documentKind) _ _ (λ e. (tt, a)) λ e2.
-      pick-well (eqb (getD b 0 0) varKind) _ _ (λ e. (tt, a)) λ e3.
-      pick-well (eqb (getD b 0 0) stepKind) _ _ (λ e. one-well i n v c _ (λ q t. (test e, t)) a) λ e4.
-      pick-well (eqb (getD b 0 0) bothKind) _ _ (λ e. two-well i n v v c (both z) (λ q p t u. (t, u)) a) λ e5.
-      pick-well (eqb (getD b 0 0) letKind) _ _ (λ e. two-well i n v (v + 1) c (letIn z) (λ q p t u. (t, u)) a) λ e6.
-      pick-well (eqb (getD b 0 0) forKind) _ _ (λ e. two-well i n v (v + 1) c (forIn z) (λ q p t u. (t, u)) a) λ e7.
-      pick-well (eqb (getD b 0 0) ifKind) _ _ (λ e. three-well i n v c (ifIn z) (λ q p o t u y. (t, u, y)) a) λ e8.
-      pick-well (eqb (getD b 0 0) newElementKind) _ _ (λ e. (name e, a)) λ e9.
-      pick-well (eqb (getD b 0 0) newLeafKind) _ _ (λ e. (le-leb _ _ (areBytes-at b h 1), a)) λ e10.
-      pick-well (eqb (getD b 0 0) deleteKind) _ _ (λ e. one-well i n v c (delete z) (λ q t. t) a) λ e11.
-      pick-well (eqb (getD b 0 0) insertKind) _ _ (λ e. two-well i n v v c (insert z) (λ q p t u. (t, u)) a) λ e12.
+      pick-cases ReadsWell (eqb (getD b 0 0) nilKind) (λ e. (tt, a)) λ e1.
+      pick-cases ReadsWell (eqb (getD b 0 0) documentKind) (λ e. (tt, a)) λ e2.
+      pick-cases ReadsWell (eqb (getD b 0 0) varKind) (λ e. (tt, a)) λ e3.
+      pick-cases ReadsWell (eqb (getD b 0 0) stepKind) (λ e. one-well i n v c _ (λ q t. (test e, t)) a) λ e4.
+      pick-cases ReadsWell (eqb (getD b 0 0) bothKind) (λ e. two-well i n v v c (both z) (λ q p t u. (t, u)) a) λ e5.
+      pick-cases ReadsWell (eqb (getD b 0 0) letKind) (λ e. two-well i n v (v + 1) c (letIn z) (λ q p t u. (t, u)) a) λ e6.
+      pick-cases ReadsWell (eqb (getD b 0 0) forKind) (λ e. two-well i n v (v + 1) c (forIn z) (λ q p t u. (t, u)) a) λ e7.
+      pick-cases ReadsWell (eqb (getD b 0 0) ifKind) (λ e. three-well i n v c (ifIn z) (λ q p o t u y. (t, u, y)) a) λ e8.
+      pick-cases ReadsWell (eqb (getD b 0 0) newElementKind) (λ e. (name e, a)) λ e9.
+      pick-cases ReadsWell (eqb (getD b 0 0) newLeafKind) (λ e. (le-leb _ _ (areBytes-at b h 1), a)) λ e10.
+      pick-cases ReadsWell (eqb (getD b 0 0) deleteKind) (λ e. one-well i n v c (delete z) (λ q t. t) a) λ e11.
+      pick-cases ReadsWell (eqb (getD b 0 0) insertKind) (λ e. two-well i n v v c (insert z) (λ q p t u. (t, u)) a) λ e12.
       one-well i n v c _ (λ q t. t) a
     where
       test : eqb (getD b 0 0) stepKind ≡ true → testFits (getD b 2 0) (getD b 3 0) ≡ true
@@ -108,7 +104,7 @@ parseFrom-well : (k d : ℕ) → ReaderWell (parseFrom k d)
 unfolding parseFrom
 parseFrom-well zero d i n v b h = tt
 parseFrom-well (suc k) d i n v b h =
-    pick-well (isFine (exprFault i n d v b)) _ _
+    pick-cases ReadsWell (isFine (exprFault i n d v b))
     (λ e.
     operands-well (parseFrom k (d + 1)) (parseFrom-well k (d + 1)) i _ (n + 1) v b _ h
     (areBytes-drop (1 + bodySize (getD b 0 0)) b h) (bodyFits-fine i n d v b e))
@@ -116,7 +112,7 @@ parseFrom-well (suc k) d i n v b h =
 
 whole-well : (p : Parsed) → ReadsWell p → ReadsWell (whole p)
 whole-well (ill x) h = tt
-whole-well (parsed e i n c) h = pick-well (eqb (length c) 0) _ _ (λ q. h) (λ q. tt)
+whole-well (parsed e i n c) h = pick-cases ReadsWell (eqb (length c) 0) (λ q. h) (λ q. tt)
 
 pub isScript-fields : (e : Expr) → IsScript e → FieldsFit e
 isScript-fields e (b, a, (i, (n, (c, q)))) =
