@@ -21,12 +21,12 @@ use Rattle.model.specs.Table as model
 use Rattle.model.specs.Undo.{undo}
 use Rattle.model.proofs.BoolLaws.{and-both, or-neither}
 use Rattle.model.proofs.RunsBack.{runsBack}
+use Rattle.model.proofs.ScriptLaws.{Sound, parse-sound}
 use Rattle.model.proofs.StopLaws.{stop-refuses}
 use Rattle.model.proofs.StoredBack.{storedBack}
 use Rattle.model.proofs.SweepsWell.{sweepsWell}
 use Rattle.model.proofs.UndoKeeps.{undoKeeps}
 use Rattle.script.proofs.ParseLaws.{ill-parsed}
-use Rattle.script.proofs.RefusalLaws.{Sound, parse-sound}
 use Rattle.table.specs.Words.{encode, decode, fits}
 use Rattle.plan.specs.Calls as library
 use Rattle.table.specs.Results as results

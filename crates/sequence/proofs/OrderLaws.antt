@@ -3,19 +3,17 @@ use mathlib.Core.Path.{_≡_, refl, ap, sym, _∙_}
 use mathlib.Core.Bool.{Bool, true, false}
 use mathlib.Core.List.{List}
 use Prim.Native.Nat.{ℕ, _≤_}
-use native.Mathlib.Omega.{arith}
-use lib.Dec.{eqb}
 use lib.ListN.{length}
 use borrow.Author.Tests.{eq-eqb, ne-eqb}
 use Rattle.model.specs.Base.{pick}
 use Rattle.model.specs.Refusal.{Fault, isFine, linkAt, lentShort}
-use Rattle.model.specs.Script.{Parsed, ill, parsed, parseFrom, whole, readScript}
+use Rattle.model.specs.Script.{Parsed, ill, parsed, readScript}
 use Rattle.model.specs.Run.{Out, stop, gives}
 use Rattle.model.specs.Call.{Ran, ranBy, refusedRun, runBy}
 use Rattle.model.specs.Table as model
-use Rattle.model.proofs.BoolLaws.{by-cases, pick-eq, pick-ne}
+use Rattle.model.proofs.BoolLaws.{pick-eq, pick-ne}
+use Rattle.model.proofs.ScriptLaws.{Sound, readScript-sound}
 use Rattle.model.proofs.StopLaws.{stop-refuses}
-use Rattle.script.proofs.RefusalLaws.{Sound, parse-sound}
 use Rattle.table.specs.Words.{encode, decode, fits}
 use Rattle.table.specs.declared.Table.{Table}
 use Rattle.run.specs.Calls.{outcomeOf, ran, runResult}
@@ -33,12 +31,6 @@ Refuses o = (f : Fault) → o ≡ stop f → isFine f ≡ false
 run-refuses : (x : model.Table) (p : Parsed) → Sound p → Refuses (runBy x p)
 run-refuses x (ill g) s f e = ne-eqb (f .number) 0 (λ q. s .numbered f (cc) q)
 run-refuses x (parsed d i n b) s f e = stop-refuses d x f e
-
-whole-sound : (p : Parsed) → Sound p → Sound (whole p)
-whole-sound (ill f) s = s
-whole-sound (parsed e i n b) s =
-    by-cases (eqb (length b) 0) (λ h. rw h s)
-    (λ h. rw h (record { numbered = λ f q z. let y : f .number ≡ 3 = cc in omega arith }))
 
 either-refuses : (z : Bool) (x : model.Table) (p : Parsed) → Sound p → Refuses (pick z (runBy x p) (stop (linkAt 0)))
 either-refuses true x p s f e = run-refuses x p s f e
@@ -61,7 +53,7 @@ module _ (t : Table) (b a h w : List ℕ) (i : 512 ≤ length a) (j : 12288 ≤ 
       given t (pick z (ranBy (decode t) (length a) (length h) (length w) (outcomeOf t b)) (refusedRun lentShort (decode t) a h w)))
       (areas-fit a h w i j k) ∙
       out-given t (length a) (length h) (length w) (outcomeOf t b)
-      (either-refuses (fits t) (decode t) (readScript b) (whole-sound (parseFrom 18 1 0 0 0 b) (parse-sound 18 1 0 0 0 b)))
+      (either-refuses (fits t) (decode t) (readScript b) (readScript-sound b))
 
   pub run-given : {r : RunResult} → r ≡ runResult t b a h w →
       record { number = r .fault .number; items = r .items; table = r .table } ≡ ending t b
