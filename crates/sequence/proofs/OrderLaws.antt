@@ -1,19 +1,18 @@
 -- A run in areas that suffice, and two runs one after the other.
 use mathlib.Core.Path.{_≡_, refl, ap, sym, _∙_}
-use mathlib.Core.Bool.{Bool, true, false}
+use mathlib.Core.Bool.{Bool, false}
 use mathlib.Core.List.{List}
 use Prim.Native.Nat.{ℕ, _≤_}
 use lib.ListN.{length}
 use borrow.Author.Tests.{eq-eqb, ne-eqb}
 use Rattle.model.specs.Base.{pick}
 use Rattle.model.specs.Refusal.{Fault, isFine, linkAt, lentShort}
-use Rattle.model.specs.Script.{Parsed, ill, parsed, readScript}
+use Rattle.model.specs.Script.{readScript}
 use Rattle.model.specs.Run.{Out, stop, gives}
 use Rattle.model.specs.Call.{Ran, ranBy, refusedRun, runBy}
 use Rattle.model.specs.Table as model
-use Rattle.model.proofs.BoolLaws.{pick-eq, pick-ne}
-use Rattle.model.proofs.ScriptLaws.{Sound, readScript-sound}
-use Rattle.model.proofs.StopLaws.{stop-refuses}
+use Rattle.model.proofs.BoolLaws.{pick-cases, pick-eq, pick-ne}
+use Rattle.model.proofs.RefusedKeeps.{runBy-refuses}
 use Rattle.table.specs.Words.{encode, decode, fits}
 use Rattle.table.specs.declared.Table.{Table}
 use Rattle.run.specs.Calls.{outcomeOf, ran, runResult}
@@ -28,13 +27,8 @@ use Rattle.run.proofs.CallLaws.{areas-fit}
 abbrev Refuses : Out → Type 0
 Refuses o = (f : Fault) → o ≡ stop f → isFine f ≡ false
 
-run-refuses : (x : model.Table) (p : Parsed) → Sound p → Refuses (runBy x p)
-run-refuses x (ill g) s f e = ne-eqb (f .number) 0 (λ q. s .numbered f (cc) q)
-run-refuses x (parsed d i n b) s f e = stop-refuses d x f e
-
-either-refuses : (z : Bool) (x : model.Table) (p : Parsed) → Sound p → Refuses (pick z (runBy x p) (stop (linkAt 0)))
-either-refuses true x p s f e = run-refuses x p s f e
-either-refuses false x p s f e = let q : f ≡ linkAt 0 = cc in ap isFine q
+either-refuses : (z : Bool) (x : model.Table) (b : List ℕ) → Refuses (pick z (runBy x (readScript b)) (stop (linkAt 0)))
+either-refuses z x b = pick-cases Refuses z (λ h. runBy-refuses x b) (λ h f e. let q : f ≡ linkAt 0 = cc in ap isFine q)
 
 -- WHAT A RUN GIVES BACK does not depend on the areas, where they suffice
 abbrev given : Table → Ran → Ending
@@ -53,7 +47,7 @@ module _ (t : Table) (b a h w : List ℕ) (i : 512 ≤ length a) (j : 12288 ≤ 
       given t (pick z (ranBy (decode t) (length a) (length h) (length w) (outcomeOf t b)) (refusedRun lentShort (decode t) a h w)))
       (areas-fit a h w i j k) ∙
       out-given t (length a) (length h) (length w) (outcomeOf t b)
-      (either-refuses (fits t) (decode t) (readScript b) (readScript-sound b))
+      (either-refuses (fits t) (decode t) b)
 
   pub run-given : {r : RunResult} → r ≡ runResult t b a h w →
       record { number = r .fault .number; items = r .items; table = r .table } ≡ ending t b
