@@ -7,6 +7,7 @@ use lib.Dec.{eqb}
 use lib.ListN.{getD}
 use borrow.Author.Tests.{eqb-true, eqb-false}
 use Rattle.model.specs.Script.{Expr, nil, document, var, step, both, letIn, forIn, element, leaf, delete, insert, choose, stepBy}
+use Rattle.model.specs.Script.{recordsOf}
 use Rattle.model.proofs.BoolLaws.{by-cases}
 use Rattle.records.specs.Walk.{withBound, arity, inner, endAt, firstAt, secondAt, thirdAt, exprAt}
 use Rattle.script.specs.Accepted.{Accepted, RecordFits, Nullary, Unary, Binary}
@@ -15,7 +16,7 @@ use Rattle.script.proofs.AcceptedLaws.{accepted-record, accepted-nil, accepted-
 use Rattle.script.proofs.AcceptedLaws.{accepted-step, accepted-delete, accepted-pick, accepted-join, accepted-let, accepted-for}
 use Rattle.script.proofs.AcceptedLaws.{accepted-insert, accepted-if}
 use Rattle.positions.specs.Positions.{Entry, emit, pushUnion}
-use Rattle.emission.specs.Emitting.{recordsOf, nullaryOf, unaryOf, binaryOf}
+use Rattle.emission.specs.Emitting.{nullaryOf, unaryOf, binaryOf}
 
 module _ (b : List ℕ) (at left v : ℕ) (a : Accepted b at left v) where
   abbrev one : Expr

@@ -9,7 +9,7 @@ use lib.ListN.{getD, take}
 use lib.Seq.{getD-take}
 use borrow.Author.Tests.{eqb-true, eqb-false, ltb-true}
 use Rattle.model.specs.Base.{pick, isIn}
-use Rattle.model.specs.Script.{testFits, varKind, isBinder}
+use Rattle.model.specs.Script.{testFits, varKind, isBinder, recordsOf}
 use Rattle.model.proofs.BoolLaws.{by-cases, and-left}
 use Rattle.records.specs.Walk.{withBound, arity, inner, firstAt, secondAt, thirdAt, exprAt}
 use Rattle.script.specs.Accepted.{Accepted, RecordFits}
@@ -18,7 +18,7 @@ use Rattle.script.proofs.FieldLaws.{document-number, variable-number, step-axis
 use Rattle.positions.specs.Positions.{emit}
 use Rattle.positions.specs.Positions as positions
 use Rattle.positions.specs.Words.{entriesIn}
-use Rattle.emission.specs.Emitting.{recordsOf, outOf, nullaryOf, unaryOf, binaryOf, PairedPre, UnaryPre, Grown}
+use Rattle.emission.specs.Emitting.{outOf, nullaryOf, unaryOf, binaryOf, PairedPre, UnaryPre, Grown}
 use Rattle.emission.specs.Emitting.{NullaryPre, NullaryPost, BindPre, BindPost, EmitPre, EmitPost}
 use Rattle.emission.specs.declared.emit.Emitted.{Emitted}
 use Rattle.emission.proofs.OperandLaws.{no-operand, one-operand, two-operands, Three, three-operands}

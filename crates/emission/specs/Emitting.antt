@@ -7,8 +7,7 @@ use lib.Dec.{eqb}
 use lib.ListN.{length, getD, take}
 use Rattle.model.specs.Base.{pick}
 use Rattle.model.specs.Limits.{maxBinders}
-use Rattle.model.specs.Script.{Expr, nil, document, var, step, both, letIn, forIn, ifIn, element, leaf, delete, insert, choose, stepBy}
-use Rattle.model.specs.Script.{documentKind, varKind, stepKind, bothKind, deleteKind, insertKind, isBinder, bodySize}
+use Rattle.model.specs.Script.{documentKind, varKind, stepKind, bothKind, deleteKind, insertKind, stepBy, recordsOf, isBinder, bodySize}
 use Rattle.records.specs.Walk.{withBound, inner, endAt, exprAt}
 use Rattle.script.specs.Accepted.{Accepted}
 use Rattle.positions.specs.Positions as positions
@@ -16,22 +15,6 @@ use Rattle.positions.specs.Words.{entriesIn}
 use Rattle.meeting.specs.Pairs.{maxPositions}
 use Rattle.meeting.specs.declared.cells.Step.{Step}
 use Rattle.emission.specs.declared.emit.Emitted.{Emitted}
-
--- RECORDS of an expression
-unfoldable pub recordsOf : Expr → ℕ
-recordsOf (nil z) = 1
-recordsOf (document z d) = 1
-recordsOf (var z v) = 1
-recordsOf (step z s e) = 1 + recordsOf e
-recordsOf (both z e f) = 1 + recordsOf e + recordsOf f
-recordsOf (letIn z e f) = 1 + recordsOf e + recordsOf f
-recordsOf (forIn z e f) = 1 + recordsOf e + recordsOf f
-recordsOf (ifIn z e f g) = 1 + recordsOf e + recordsOf f + recordsOf g
-recordsOf (element z n) = 1
-recordsOf (leaf z v) = 1
-recordsOf (delete z e) = 1 + recordsOf e
-recordsOf (insert z e f) = 1 + recordsOf e + recordsOf f
-recordsOf (choose z r c e) = 1 + recordsOf e
 
 -- what words and the code's answer say together
 abbrev pub outOf : (words : List ℕ) → Emitted → positions.Emitted

@@ -5,10 +5,9 @@ use Prim.Native.Nat.{ℕ, _+_, _-_, _≤_}
 use native.Mathlib.Omega.{arith}
 use lib.Dec.{eqb}
 use lib.ListN.{length, getD}
-use borrow.Author.Tests.{eq-eqb, ne-eqb}
 use Rattle.model.specs.Base.{pick}
 use Rattle.model.specs.Run.{State, Out, andThen, run}
-use Rattle.model.proofs.BoolLaws.{pick-true, pick-false}
+use Rattle.model.proofs.BoolLaws.{pick-eq, pick-ne}
 use Rattle.records.specs.Walk.{endAt, secondAt, thirdAt, exprAt}
 use Rattle.script.proofs.AcceptedLaws.{accepted-at}
 use Rattle.updates.specs.State.{stateOf}
@@ -77,7 +76,7 @@ module _ {b : List ℕ} {at left n : ℕ} {env : List Span} {ms ws h w : List �
         else-yields post =
             yields-after (fine-between fine)
             (yields-as refl (ap (endAt b) third-at ∙ sym (if-operands (pre .accepted) kind .ends)) post)
-            (run-from ∙ pick-true (eqb (length (valueAt w₁ top (x .end))) 0) _ _ (eq-eqb (length (valueAt w₁ top (x .end))) 0 empty) ∙
+            (run-from ∙ pick-eq _ _ empty ∙
             branch-is (thirdAt b at) third third-at) (fine .scope)
 
       -- THE SECOND, where it is not
@@ -94,7 +93,7 @@ module _ {b : List ℕ} {at left n : ℕ} {env : List Span} {ms ws h w : List �
         then-run : run (exprAt left b at) (boundValues w n env) (stateOf ws ms h p) ≡
             run (exprAt (left - 1) b (x .place)) (boundValues w₁ n (x .env)) (stateOf ws₁ ms h₁ (x .progress))
         then-run =
-            run-from ∙ pick-false (eqb (length (valueAt w₁ top (x .end))) 0) _ _ (ne-eqb (length (valueAt w₁ top (x .end))) 0 many) ∙
+            run-from ∙ pick-ne _ _ many ∙
             branch-is (secondAt b at) (x .place) second-at
 
         module _ {ws₂ h₂ w₂ : List ℕ} {y : Evaluated}

@@ -19,6 +19,7 @@ use Rattle.model.specs.Table.{isWell}
 use Rattle.model.specs.Table as model
 use Rattle.model.specs.Undo.{back, undo}
 use Rattle.model.proofs.BoolLaws.{and-both, or-neither}
+use Rattle.model.proofs.RunsBack.{runBy-back}
 use Rattle.model.proofs.StoredBack.{storedBack}
 use Rattle.model.proofs.SweepsWell.{sweepsWell}
 use Rattle.model.proofs.UndoKeeps.{undoKeeps}
@@ -39,7 +40,7 @@ use Rattle.table.proofs.EncodeLaws.{decode-encode, fits-encode}
 use Rattle.plan.proofs.WritePlanLaws.{well-written, well-out}
 use Rattle.plan.proofs.Promised.{read-short, read-back}
 use Rattle.paths.proofs.Promised.{free-told}
-use Rattle.run.proofs.OutcomeLaws.{refuses-fine, run-refuses, run-back}
+use Rattle.run.proofs.OutcomeLaws.{refuses-fine, run-refuses}
 use Rattle.run.proofs.Promised.{runsCommute}
 
 -- A PLAN READ is the table in its words; the call then answers n and leaves b
@@ -149,7 +150,7 @@ call-of p s a h w o d x t well e g long fit =
 pub runDone : RunDone
 runDone p s a h w o d x v t b c e g long =
     let well = storedBack .1 p x b e .0 in
-    let after : isWell (t .plan) ≡ true = run-back s c x well v t g .0 in
+    let after : isWell (t .plan) ≡ true = runBy-back x s c well v t g .0 in
     let ok = needs a h w o d long in
     let L = ranBy x (length a) (length h) (length w) (gives v t) in
     call-of p s a h w o d x (gives v t) well e g long (ok .0) ∙

@@ -21,7 +21,7 @@ use Rattle.lent.specs.Codes.{codeOf, lentCode}
 use Rattle.lent.specs.Done.{isLentShort, doneOver}
 use Rattle.plan.specs.Calls as library
 use Rattle.plan.proofs.Promised.{read-got}
-use Rattle.run.proofs.OutcomeLaws.{run-back}
+use Rattle.model.proofs.RunsBack.{runBy-back}
 use Rattle.ffi.specs.Calls.{undoCode, undoOut}
 use Rattle.ffi.specs.Running.{Called, runCalled}
 use Rattle.ffi.specs.Promise.{atFront, planLeft, historyLeft, RunUndone}
@@ -85,7 +85,7 @@ runUndone p s a h w o d o′ bytes bytes′ answers room =
     (done-bytes _ _ _ _ (length (historyBytes (t .history))) _ d six) ∙
     take-at (historyBytes (t .history)) _ (length (historyBytes (t .history))) refl in
     let before = storedBack .1 p x bytes (g .1) in
-    let after = run-back s bytes′ x (before .0) (k .0) t (k .1 .1) in
+    let after = runBy-back x s bytes′ (before .0) (k .0) t (k .1 .1) in
     let u =
     undone-back (stored (t .plan)) (historyBytes (t .history)) o′ (t .plan) x (after .0) (storedBack .0 (t .plan) (after .0))
     (after .2) room in (

@@ -2,8 +2,10 @@
 use mathlib.Core.Path.{_≡_, refl, sym}
 use mathlib.Core.Bool.{Bool, true, false, _&&_, _||_, true≢false, false≢true}
 use mathlib.Core.Logic.{_⊎_, inl, inr}
-use Prim.Native.Nat.{_≤_}
+use Prim.Native.Nat.{ℕ, _≤_}
 use native.Mathlib.Omega.{arith}
+use lib.Dec.{eqb}
+use borrow.Author.Tests.{eq-eqb, ne-eqb}
 use Rattle.model.specs.Base.{pick, bit}
 
 pub and-left : (a b : Bool) → (a && b) ≡ true → a ≡ true
@@ -52,6 +54,18 @@ pick-true t x y e = rw e
 
 pub pick-false : {A : Type 0} (t : Bool) (x y : A) → t ≡ false → pick t x y ≡ y
 pick-false t x y e = rw e
+
+-- a choice by two numbers
+pub pick-eq : {A : Type 0} {m n : ℕ} (x y : A) → m ≡ n → pick (eqb m n) x y ≡ x
+pick-eq x y e = rw (eq-eqb _ _ e)
+
+pub pick-ne : {A : Type 0} {m n : ℕ} (x y : A) → (m ≡ n → ⊥) → pick (eqb m n) x y ≡ y
+pick-ne x y h = rw (ne-eqb _ _ h)
+
+-- a property of a choice, from that of each side
+pub pick-cases : {A : Type 0} (P : A → Type 0) (t : Bool) {x y : A} → (t ≡ true → P x) → (t ≡ false → P y) → P (pick t x y)
+pick-cases P true f g = f refl
+pick-cases P false f g = g refl
 
 -- a proof by cases on a test
 pub by-cases : {P : Type 0} (t : Bool) → (t ≡ true → P) → (t ≡ false → P) → P

@@ -9,6 +9,7 @@ use Rattle.model.specs.Base.{pick, All, nothing, also}
 use Rattle.model.specs.Table.{Table}
 use Rattle.model.specs.Script.{Step}
 use Rattle.model.specs.Step.{collect, isReached, stepFrom}
+use Rattle.model.proofs.BoolLaws.{pick-cases}
 use Rattle.model.proofs.Shift.{shift, shift-low, shift-high}
 
 pub step-collect : (x : Table) (s : Step) (v : List ℕ) (i n : ℕ) → stepFrom x s v i n ≡ collect (isReached x s v) i n
@@ -21,11 +22,8 @@ pub collect-all : {P : ℕ → Type 0} (f : ℕ → Bool) (i n : ℕ) → ((j : 
 unfolding collect
 collect-all f i zero h = nothing
 collect-all {P} f i (suc n) h =
-    go (f i) refl (collect-all f (suc i) n (λ j k e. h j (omega arith) e))
-  where
-    go : (z : Bool) → f i ≡ z → All P (collect f (suc i) n) → All P (pick z (i ∷ collect f (suc i) n) (collect f (suc i) n))
-    go true e a = also (h i (omega arith) e) a
-    go false e a = a
+    let a = collect-all f (suc i) n (λ j k e. h j (omega arith) e) in
+    pick-cases (All P) (f i) (λ e. also (h i (omega arith) e) a) (λ e. a)
 
 -- JOINED
 pick-append : (z : Bool) (i : ℕ) (k l : List ℕ) → pick z (i ∷ (k ++ l)) (k ++ l) ≡ pick z (i ∷ k) k ++ l

@@ -29,7 +29,7 @@ use Rattle.model.proofs.TestLaws.{and-parts, and-three, and-five}
 use Rattle.model.proofs.TableLaws.{Well, isWell-at}
 use Rattle.model.proofs.StoredBack.{storedBack}
 use Rattle.model.proofs.SweepsWell.{sweepsWell}
-use Rattle.model.proofs.RunsBack.{runsBack}
+use Rattle.model.proofs.RunsBack.{runBy-back}
 use Rattle.model.proofs.UndoKeeps.{undoKeeps}
 use Rattle.model.proofs.Document03Script.{ours, oursRead, read-same}
 use Rattle.model.proofs.Document03Run.{stored-same, runOn-same, takenBack-same}
@@ -225,14 +225,6 @@ script-runs x s = go (D.readScript s) ∙ ap (runBy x) (read-same s)
     go (D.ill f) = refl
     go (D.parsed e i n b) = runOn-same x e
 
-run-well : (x : Table) (b : List ℕ) → areBytes b ≡ true → isWell x ≡ true → (v : List ℕ) (s : State) → runBy x (readScript b) ≡ gives v s →
-    isWell (s .plan) ≡ true
-run-well x b a w v s = go (readScript b) refl
-  where
-    go : (p : Parsed) → readScript b ≡ p → runBy x p ≡ gives v s → isWell (s .plan) ≡ true
-    go (ill f) e k = let z : _≡_ {A = ℕ} 0 1 = cc in absurd (omega arith)
-    go (parsed e i n c) q k = runsBack e x v s (b, a, (i, (n, (c, q)))) w k .0
-
 -- our call, whether the table fits or not
 abbrev call : (fits : Bool) → Table → (script answer history work : List ℕ) → Ran
 call y x s a h w = called (areasFit a h w) y x a h w (runBy x (readScript s))
@@ -247,7 +239,7 @@ module _ (g : E.Grid) (s a h w : List ℕ) where
   grid-as x b k =
       let q = script-runs (E.tableIn g) s ∙ ap (λ (y : Table). runBy y (readScript s)) (k .1) in
       subst (λ (o : Out). E.Holds (E.ranGrid g (lent (areasFit a h w) (E.gridFits g) o)) (call (E.gridFits g) x s a h w .plan)) (sym q)
-      (grid-by (areasFit a h w) (E.gridFits g) g x a h w _ k (run-well x s b (gridBack .1 g x k .0)))
+      (grid-by (areasFit a h w) (E.gridFits g) g x a h w _ k (λ v t q. runBy-back x s b (gridBack .1 g x k .0) v t q .0))
 
 pub runsSame : E.RunsSame
 runsSame g x s a h w b (f, e) =

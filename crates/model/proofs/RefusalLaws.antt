@@ -1,10 +1,9 @@
 -- When a chain of checks refuses nothing: every check in it holds.
-use mathlib.Core.Path.{_≡_, refl, sym, ap, _∙_}
+use mathlib.Core.Path.{_≡_, refl, ap, _∙_}
 use mathlib.Core.Bool.{Bool, true, false, _&&_}
 use Prim.Native.Nat.{ℕ, suc}
 use lib.Dec.{eqb·suc-zero}
 use Rattle.model.specs.Refusal.{Fault, fault, isFine, orElse, unless}
-use Rattle.model.proofs.BoolLaws.{and-right}
 
 pub isFine-orElse : (x y : Fault) → isFine (orElse x y) ≡ (isFine x && isFine y)
 isFine-orElse x y = go (isFine x) refl
@@ -21,6 +20,3 @@ isFine-unless false n i = eqb·suc-zero n
 -- a check before the others
 pub isFine-check : (z : Bool) (n i : ℕ) (y : Fault) → isFine (orElse (unless z (fault (suc n) i)) y) ≡ (z && isFine y)
 isFine-check z n i y = isFine-orElse (unless z (fault (suc n) i)) y ∙ ap (λ (t : Bool). t && isFine y) (isFine-unless z n i)
-
-pub isFine-rest : (z : Bool) (n i : ℕ) (y : Fault) → isFine (orElse (unless z (fault (suc n) i)) y) ≡ true → isFine y ≡ true
-isFine-rest z n i y h = and-right z (isFine y) (sym (isFine-check z n i y) ∙ h)

@@ -1,15 +1,16 @@
 -- A refused run leaves the table as it was.
 use mathlib.Core.Path.{_≡_, refl}
-use mathlib.Core.Bool.{Bool, true, false}
+use mathlib.Core.Bool.{false}
 use Prim.Native.Nat.{ℕ}
 use lib.ListN.{length}
 use native.Mathlib.Omega.{arith}
 use Rattle.model.specs.Base.{pick}
-use Rattle.model.specs.Refusal.{isFine, linkAt, lentShort}
+use Rattle.model.specs.Refusal.{isFine, linkAt}
 use Rattle.model.specs.Table.{Table, isWell}
 use Rattle.model.specs.Script.{readScript}
 use Rattle.model.specs.Run.{Out, stop, gives}
-use Rattle.model.specs.Call.{Ran, refusedRun, runBy, ranBy, areasFit, RefusedKeeps}
+use Rattle.model.specs.Call.{Ran, runBy, ranBy, areasFit, RefusedKeeps}
+use Rattle.model.proofs.BoolLaws.{pick-cases}
 
 -- what a call gives back is the table x, if it is refused
 abbrev Kept : Table → Ran → Type 0
@@ -19,12 +20,7 @@ run-kept : (x : Table) (a h w : ℕ) (o : Out) → Kept x (ranBy x a h w o)
 run-kept x a h w (stop f) k = refl
 run-kept x a h w (gives v s) k = let y : _≡_ {A = ℕ} 0 1 = cc in absurd (omega arith)
 
-either-kept : (x : Table) (c : Bool) (r s : Ran) → Kept x r → Kept x s → Kept x (pick c r s)
-either-kept x true r s f g = f
-either-kept x false r s f g = g
-
 pub refusedKeeps : RefusedKeeps
 refusedKeeps x b a h w =
     let o = pick (isWell x) (runBy x (readScript b)) (stop (linkAt 0)) in
-    either-kept x (areasFit a h w) (ranBy x (length a) (length h) (length w) o) (refusedRun lentShort x a h w)
-    (run-kept x (length a) (length h) (length w) o) (λ k. refl)
+    pick-cases (Kept x) (areasFit a h w) (λ e. run-kept x (length a) (length h) (length w) o) (λ e k. refl)

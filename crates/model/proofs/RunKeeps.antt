@@ -16,7 +16,7 @@ use Rattle.model.specs.Script.{Expr, nil, document, var, step, both, let
 use Rattle.model.specs.Run.{State, state, Out, stop, gives, andThen, joinItems, withMade, roomFault, newRow, loose, cutRow, cutBy}
 use Rattle.model.specs.Run.{cutAll, Copied, copyOf, copyParent, copyRow, subtree, thenRow, copyEach, copyAll, inserted, joinFor}
 use Rattle.model.specs.Run.{loop, run, runOn, AreRows, AreValues}
-use Rattle.model.proofs.BoolLaws.{and-left, and-right, and-both}
+use Rattle.model.proofs.BoolLaws.{and-left, and-right, and-both, pick-cases}
 use Rattle.model.proofs.RefusalLaws.{isFine-check}
 use Rattle.model.proofs.TableLaws.{isElement-at, isElement-by, parent-count, Well}
 use Rattle.model.proofs.GrowLaws.{count-withRow, rowAt-withRow-old, rowAt-withRow-new, count-linked, isLeaf-linked}
@@ -76,10 +76,6 @@ thenRow-keeps : (x y : Table) (o : Out) (next : State → Out) → Keeps x y o �
 thenRow-keeps x y (stop f) next k h = tt
 thenRow-keeps x y (gives v u) next k h = keeps-from x y (u .plan) (next u) (k .2) (h u (k .0) (k .2))
 
-pick-keeps : (x y : Table) (t : Bool) (o q : Out) → (t ≡ true → Keeps x y o) → (t ≡ false → Keeps x y q) → Keeps x y (pick t o q)
-pick-keeps x y true o q h k = h refl
-pick-keeps x y false o q h k = k refl
-
 gives-keeps : (x : Table) (v : List ℕ) (s : State) → Ran x s → AreRows (count (s .plan)) v → Keeps x (s .plan) (gives v s)
 gives-keeps x v s r a = (r, a, enlarged-self (s .plan))
 
@@ -93,7 +89,7 @@ roomFault-room z s h =
 newRow-keeps : (x : Table) (z : ℕ) (r : Row) (s : State) → Ran x s → tagFits r ≡ true →
     parentFits (s .plan) (count (s .plan)) (r .parent) ≡ true → Keeps x (s .plan) (newRow z r s)
 newRow-keeps x z r s q f g =
-    pick-keeps x (s .plan) (isFine (roomFault z s)) _ _
+    pick-cases (Keeps x (s .plan)) (isFine (roomFault z s))
     (λ e.
     let l : count (s .plan) < count (withRow (s .plan) r) = omega (arith, count-withRow (s .plan) r) in
     (rowMade s r q (roomFault-room z s e) f g, also l nothing, enlarged-withRow (s .plan) r))
@@ -109,7 +105,7 @@ cutAll-keeps x z (i ∷ is) s r = go (rowAt (s .plan) i .parent) refl (λ t q. c
         Keeps x (s .plan) (cutBy z i s p (λ (t : State). cutAll z is t))
     go none e h = h s r
     go (some p) e h =
-        pick-keeps x (s .plan) (ltb (length (s .history)) maxHistory) _ _
+        pick-cases (Keeps x (s .plan)) (ltb (length (s .history)) maxHistory)
         (λ q.
         keeps-from x (s .plan) (linked (s .plan) i none) (cutAll z is (cutRow s i p)) (enlarged-cut (s .plan) i p e)
         (h (cutRow s i p) (linkCut s i p r e)))
@@ -195,14 +191,14 @@ copyAll-keeps x y ty place g (also {a = i} {l = is} l a) s r h =
 inserted-keeps : (x : Table) → Well x → (place : ℕ) (v w : List ℕ) (s : State) → Ran x s → AreRows (count (s .plan)) v →
     Keeps x (s .plan) (inserted place v w s)
 inserted-keeps x well place v w s r a =
-    pick-keeps x (s .plan) (eqb (length w) 1 && isElement (s .plan) (getD w 0 0)) _ _
+    pick-cases (Keeps x (s .plan)) (eqb (length w) 1 && isElement (s .plan) (getD w 0 0))
     (λ e. copyAll-keeps x (s .plan) (ran-well x well r .tree) place (getD w 0 0) a s r (and-right (eqb (length w) 1) _ e)) (λ e. tt)
 
 -- JOIN AND FOR
 joinItems-keeps : (x : Table) (z : ℕ) (v w : List ℕ) (s : State) → Ran x s → AreRows (count (s .plan)) v → AreRows (count (s .plan)) w →
     Keeps x (s .plan) (joinItems z v w s)
 joinItems-keeps x z v w s r a b =
-    pick-keeps x (s .plan) (ltb maxItems (length v + length w)) _ _ (λ e. tt) (λ e. gives-keeps x (v ++ w) s r (all-append a b))
+    pick-cases (Keeps x (s .plan)) (ltb maxItems (length v + length w)) (λ e. tt) (λ e. gives-keeps x (v ++ w) s r (all-append a b))
 
 loop-keeps : (x y : Table) (z : ℕ) (f : ℕ → State → Out) →
     ((i : ℕ) (u : State) → Ran x u → Enlarged y (u .plan) → i < count (u .plan) → Keeps x (u .plan) (f i u)) →
@@ -218,7 +214,7 @@ loop-keeps x y z f h (i ∷ is) v s (also l a) b r g = joined (f i s) (h i s r g
         Keeps x (s .plan) (joinFor z v o (λ (w : List ℕ) (u : State). loop z f is w u))
     joined (stop q) k next = tt
     joined (gives w u) k next =
-        pick-keeps x (s .plan) (ltb maxItems (length v + length w)) _ _ (λ e. tt)
+        pick-cases (Keeps x (s .plan)) (ltb maxItems (length v + length w)) (λ e. tt)
         (λ e.
         keeps-from x (s .plan) (u .plan) (loop z f is (v ++ w) u) (k .2)
         (next (v ++ w) u (areRows-more (k .2 .more) a) (all-append (areRows-more (k .2 .more) b) (k .1)) (k .0)
@@ -252,7 +248,7 @@ module _ (x : Table) (well : Well x) where
   run-keeps (ifIn z e f g) t b s r a =
       andThen-keeps x (s .plan) (run e b s) _ (run-keeps e (t .0) b s r a)
       (λ v u w c h.
-      pick-keeps x (u .plan) (eqb (length v) 0) _ _ (λ q. run-keeps g (t .2) b u w (areValues-more (h .more) a))
+      pick-cases (Keeps x (u .plan)) (eqb (length v) 0) (λ q. run-keeps g (t .2) b u w (areValues-more (h .more) a))
       (λ q. run-keeps f (t .1) b u w (areValues-more (h .more) a)))
   run-keeps (element z n) t b s r a = newRow-keeps x z (loose false n) s r t refl
   run-keeps (leaf z v) t b s r a = newRow-keeps x z (loose true v) s r t refl

@@ -1,24 +1,24 @@
--- What is read as a script has its fields in range: names 1 to 255, values of one byte, and steps with a fitting test.
-use mathlib.Core.Path.{_≡_, refl, sym, _∙_, subst}
-use mathlib.Core.Bool.{Bool, true, false, _&&_, not}
+-- A script that is read has its fields in range and at most 64 records, all counted; one that is not is refused by a number from 1 to 5.
+use mathlib.Core.Path.{_≡_, refl, _∙_, subst}
+use mathlib.Core.Bool.{Bool, true, false, _&&_, not, true≢false, false≢true}
 use mathlib.Core.List.{List}
-use Prim.Native.Nat.{ℕ, zero, suc, _+_}
+use Prim.Native.Nat.{ℕ, zero, suc, _+_, _≤_, _<_}
+use native.Mathlib.Omega.{arith}
 use lib.Dec.{ltb, leb, eqb}
 use lib.ListN.{length, getD}
-use borrow.Author.Tests.{eqb-true, le-leb}
+use borrow.Author.Tests.{eqb-true, le-leb, leb-true, ltb-true, not-true}
 use Rattle.model.specs.Base.{pick, isIn, areBytes}
 use Rattle.model.specs.Limits.{maxRecords, maxDepth, maxBinders}
-use Rattle.model.specs.Refusal.{isFine}
+use Rattle.model.specs.Refusal.{Fault, isFine, orElse, unless, kindAt, shortAt, fieldAt, sizeAt}
 use Rattle.model.specs.Table.{tagFits}
 use Rattle.model.specs.Script.{Expr, nil, document, var, step, both, letIn, forIn, ifIn, element, leaf, delete, insert, choose}
 use Rattle.model.specs.Script.{nilKind, documentKind, varKind, stepKind, bothKind, letKind, forKind, ifKind, newElementKind}
 use Rattle.model.specs.Script.{newLeafKind, deleteKind, insertKind, pickKind, bodySize, testFits, bodyFits, isBinder, exprFault}
-use Rattle.model.specs.Script.{Parsed, ill}
-use Rattle.model.specs.Script.{parsed, thenParse, one, two, three, operands, parseFrom, whole}
+use Rattle.model.specs.Script.{recordsOf, Parsed, ill, parsed, thenParse, one, two, three, operands, parseFrom, whole, readScript}
 use Rattle.model.specs.Run.{loose}
 use Rattle.model.specs.Promise.{IsScript}
-use Rattle.model.proofs.BoolLaws.{and-right}
-use Rattle.model.proofs.RefusalLaws.{isFine-unless, isFine-rest}
+use Rattle.model.proofs.BoolLaws.{and-left, and-right, pick-cases}
+use Rattle.model.proofs.TestLaws.{isIn-at}
 use Rattle.model.proofs.BytesLaws.{areBytes-at, areBytes-drop}
 
 -- every constructor's tag and every step's test fits
@@ -37,87 +37,182 @@ FieldsFit (delete z e) = FieldsFit e
 FieldsFit (insert z e f) = FieldsFit e × FieldsFit f
 FieldsFit (choose z r c e) = FieldsFit e
 
--- OF WHAT IS READ: the fields fit, and what is left are bytes
-abbrev ReadsWell : Parsed → Type 0
-ReadsWell (ill x) = Unit
-ReadsWell (parsed e i n c) = FieldsFit e × (areBytes c ≡ true)
+-- WHAT IS READ of b, n records before it, leaves c and m records: all are counted, at most 64; where b are bytes, the fields fit and c are
+pub record ExprRead (n : ℕ) (b : List ℕ) (e : Expr) (m : ℕ) (c : List ℕ) : Type 0 where
+  pub counted : m ≡ n + recordsOf e
+  pub few : m ≤ maxRecords
+  pub fields : areBytes b ≡ true → FieldsFit e
+  pub rest : areBytes b ≡ true → areBytes c ≡ true
+
+-- or it is refused by a number of the reader's
+abbrev pub ReadsWell : (records : ℕ) → (bytes : List ℕ) → Parsed → Type 0
+ReadsWell n b (ill f) = isIn 1 5 (f .number) ≡ true
+ReadsWell n b (parsed e i m c) = ExprRead n b e m c
 
 abbrev Reader : Type 0
 Reader = ℕ → ℕ → ℕ → List ℕ → Parsed
 
 abbrev ReaderWell : Reader → Type 0
-ReaderWell f = (i n v : ℕ) (b : List ℕ) → areBytes b ≡ true → ReadsWell (f i n v b)
+ReaderWell f = (i n v : ℕ) (b : List ℕ) → ReadsWell n b (f i n v b)
 
-pick-well : (t : Bool) (p q : Parsed) → (t ≡ true → ReadsWell p) → (t ≡ false → ReadsWell q) → ReadsWell (pick t p q)
-pick-well true p q h k = h refl
-pick-well false p q h k = k refl
-
-thenParse-well : (p : Parsed) (next : Expr → ℕ → ℕ → List ℕ → Parsed) → ReadsWell p →
-    ((e : Expr) (i n : ℕ) (c : List ℕ) → FieldsFit e → areBytes c ≡ true → ReadsWell (next e i n c)) → ReadsWell (thenParse p next)
-thenParse-well (ill x) next h k = tt
-thenParse-well (parsed e i n c) next h k = k e i n c (h .0) (h .1)
-
-module _ (f : Reader) (r : ReaderWell f) where
-  one-well : (i n v : ℕ) (b : List ℕ) (make : Expr → Expr) → ((e : Expr) → FieldsFit e → FieldsFit (make e)) → areBytes b ≡ true →
-      ReadsWell (one f i n v b make)
-  one-well i n v b make m h = thenParse-well (f i n v b) _ (r i n v b h) (λ e j k c t a. (m e t, a))
-
-  two-well : (i n v w : ℕ) (b : List ℕ) (make : Expr → Expr → Expr) → ((e g : Expr) → FieldsFit e → FieldsFit g → FieldsFit (make e g)) →
-      areBytes b ≡ true → ReadsWell (two f i n v w b make)
-  two-well i n v w b make m h =
-      thenParse-well (f i n v b) _ (r i n v b h) (λ e j k c t a. one-well j k w c (make e) (λ g u. m e g t u) a)
-
-  three-well : (i n v : ℕ) (b : List ℕ) (make : Expr → Expr → Expr → Expr) →
-      ((e g q : Expr) → FieldsFit e → FieldsFit g → FieldsFit q → FieldsFit (make e g q)) → areBytes b ≡ true →
-      ReadsWell (three f i n v b make)
-  three-well i n v b make m h =
-      thenParse-well (f i n v b) _ (r i n v b h) (λ e j k c t a. two-well j k v v c (make e) (λ g q u y. m e g q t u y) a)
-
-  operands-well : (z i n v : ℕ) (b c : List ℕ) → areBytes b ≡ true → areBytes c ≡ true → bodyFits v b ≡ true →
-      ReadsWell (operands f z i n v b c)
-  unfolding FieldsFit
-  operands-well z i n v b c h a g =
-      pick-well (eqb (getD b 0 0) nilKind) _ _ (λ e. (tt, a)) λ e1.
-      pick-well (eqb (getD b 0 0) documentKind) _ _ (λ e. (tt, a)) λ e2.
-      pick-well (eqb (getD b 0 0) varKind) _ _ (λ e. (tt, a)) λ e3.
-      pick-well (eqb (getD b 0 0) stepKind) _ _ (λ e. one-well i n v c _ (λ q t. (test e, t)) a) λ e4.
-      pick-well (eqb (getD b 0 0) bothKind) _ _ (λ e. two-well i n v v c (both z) (λ q p t u. (t, u)) a) λ e5.
-      pick-well (eqb (getD b 0 0) letKind) _ _ (λ e. two-well i n v (v + 1) c (letIn z) (λ q p t u. (t, u)) a) λ e6.
-      pick-well (eqb (getD b 0 0) forKind) _ _ (λ e. two-well i n v (v + 1) c (forIn z) (λ q p t u. (t, u)) a) λ e7.
-      pick-well (eqb (getD b 0 0) ifKind) _ _ (λ e. three-well i n v c (ifIn z) (λ q p o t u y. (t, u, y)) a) λ e8.
-      pick-well (eqb (getD b 0 0) newElementKind) _ _ (λ e. (name e, a)) λ e9.
-      pick-well (eqb (getD b 0 0) newLeafKind) _ _ (λ e. (le-leb _ _ (areBytes-at b h 1), a)) λ e10.
-      pick-well (eqb (getD b 0 0) deleteKind) _ _ (λ e. one-well i n v c (delete z) (λ q t. t) a) λ e11.
-      pick-well (eqb (getD b 0 0) insertKind) _ _ (λ e. two-well i n v v c (insert z) (λ q p t u. (t, u)) a) λ e12.
-      one-well i n v c _ (λ q t. t) a
+-- OPERANDS of the record at the front of b, in the bytes c behind m records
+module _ (f : Reader) (r : ReaderWell f) (n : ℕ) (b : List ℕ) where
+  then-well : (i m v : ℕ) (c : List ℕ) (next : Expr → ℕ → ℕ → List ℕ → Parsed) →
+      ((e : Expr) (j k : ℕ) (d : List ℕ) → ExprRead m c e k d → ReadsWell n b (next e j k d)) → ReadsWell n b (thenParse (f i m v c) next)
+  then-well i m v c next h = go (f i m v c) (r i m v c)
     where
+      go : (p : Parsed) → ReadsWell m c p → ReadsWell n b (thenParse p next)
+      go (ill x) k = k
+      go (parsed e j k d) l = h e j k d l
+
+  one-well : (i m v : ℕ) (c : List ℕ) (make : Expr → Expr) → (areBytes b ≡ true → areBytes c ≡ true) →
+      ((e : Expr) → m + recordsOf e ≡ n + recordsOf (make e)) → (areBytes b ≡ true → (e : Expr) → FieldsFit e → FieldsFit (make e)) →
+      ReadsWell n b (one f i m v c make)
+  one-well i m v c make a s t =
+      then-well i m v c _ λ e j k d h.
+      record { counted = h .counted ∙ s e; few = h .few; fields = λ y. t y e (h .fields (a y)); rest = λ y. h .rest (a y) }
+
+  two-well : (i m v w : ℕ) (c : List ℕ) (make : Expr → Expr → Expr) → (areBytes b ≡ true → areBytes c ≡ true) →
+      ((e g : Expr) → m + recordsOf e + recordsOf g ≡ n + recordsOf (make e g)) →
+      (areBytes b ≡ true → (e g : Expr) → FieldsFit e → FieldsFit g → FieldsFit (make e g)) → ReadsWell n b (two f i m v w c make)
+  two-well i m v w c make a s t =
+      then-well i m v c _ λ e j k d h.
+      one-well j k w d (make e) (λ y. h .rest (a y)) (λ g. omega (arith, s e g, h .counted)) (λ y g. t y e g (h .fields (a y)))
+
+  three-well : (i m v : ℕ) (c : List ℕ) (make : Expr → Expr → Expr → Expr) → (areBytes b ≡ true → areBytes c ≡ true) →
+      ((e g q : Expr) → m + recordsOf e + recordsOf g + recordsOf q ≡ n + recordsOf (make e g q)) →
+      (areBytes b ≡ true → (e g q : Expr) → FieldsFit e → FieldsFit g → FieldsFit q → FieldsFit (make e g q)) →
+      ReadsWell n b (three f i m v c make)
+  three-well i m v c make a s t =
+      then-well i m v c _ λ e j k d h.
+      two-well j k v v d (make e) (λ y. h .rest (a y)) (λ g q. omega (arith, s e g q, h .counted))
+      (λ y g q. t y e g q (h .fields (a y)))
+
+  operands-well : (z i v : ℕ) (c : List ℕ) → (areBytes b ≡ true → areBytes c ≡ true) → n < maxRecords → bodyFits v b ≡ true →
+      ReadsWell n b (operands f z i (n + 1) v b c)
+  unfolding FieldsFit recordsOf
+  operands-well z i v c a l g =
+      kind nilKind _ _ (λ q. none (nil z) (omega arith) (λ y. tt))
+      (kind documentKind _ _ (λ q. none (document z _) (omega arith) (λ y. tt))
+      (kind varKind _ _ (λ q. none (var z _) (omega arith) (λ y. tt))
+      (kind stepKind _ _ (λ q. one-well i (n + 1) v c _ a (λ e. omega arith) (λ y e t. (test q, t)))
+      (kind bothKind _ _ (λ q. two-well i (n + 1) v v c (both z) a (λ e e′. omega arith) (λ y e e′ t u. (t, u)))
+      (kind letKind _ _ (λ q. two-well i (n + 1) v (v + 1) c (letIn z) a (λ e e′. omega arith) (λ y e e′ t u. (t, u)))
+      (kind forKind _ _ (λ q. two-well i (n + 1) v (v + 1) c (forIn z) a (λ e e′. omega arith) (λ y e e′ t u. (t, u)))
+      (kind ifKind _ _ (λ q. three-well i (n + 1) v c (ifIn z) a (λ e e′ e″. omega arith) (λ y e e′ e″ t u w. (t, u, w)))
+      (kind newElementKind _ _ (λ q. none (element z _) (omega arith) (λ y. name q))
+      (kind newLeafKind _ _ (λ q. none (leaf z _) (omega arith) (λ y. le-leb _ _ (areBytes-at b y 1)))
+      (kind deleteKind _ _ (λ q. one-well i (n + 1) v c (delete z) a (λ e. omega arith) (λ y e t. t))
+      (kind insertKind _ _ (λ q. two-well i (n + 1) v v c (insert z) a (λ e e′. omega arith) (λ y e e′ t u. (t, u)))
+      (one-well i (n + 1) v c _ a (λ e. omega arith) (λ y e t. t)))))))))))))
+    where
+      kind : (k : ℕ) (p p′ : Parsed) → (eqb (getD b 0 0) k ≡ true → ReadsWell n b p) → ReadsWell n b p′ →
+          ReadsWell n b (pick (eqb (getD b 0 0) k) p p′)
+      kind k p p′ h h′ = pick-cases (ReadsWell n b) (eqb (getD b 0 0) k) h (λ q. h′)
+
+      none : (e : Expr) → recordsOf e ≡ 1 → (areBytes b ≡ true → FieldsFit e) → ReadsWell n b (parsed e i (n + 1) c)
+      none e s t = record { counted = omega arith; few = omega arith; fields = t; rest = a }
+
       test : eqb (getD b 0 0) stepKind ≡ true → testFits (getD b 2 0) (getD b 3 0) ≡ true
       test e = and-right (ltb (getD b 1 0) 4) _ (rw (eqb-true (getD b 0 0) stepKind e) at g)
 
       name : eqb (getD b 0 0) newElementKind ≡ true → isIn 1 255 (getD b 1 0) ≡ true
       name e = rw (eqb-true (getD b 0 0) newElementKind e) at g
 
-bodyFits-fine : (i n d v : ℕ) (b : List ℕ) → isFine (exprFault i n d v b) ≡ true → bodyFits v b ≡ true
-bodyFits-fine i n d v b h =
-    sym (isFine-unless (bodyFits v b) 3 i) ∙
-    isFine-rest (leb (1 + bodySize (getD b 0 0)) (length b)) 1 i _
-    (isFine-rest (ltb n maxRecords && leb d maxDepth && not (isBinder (getD b 0 0) && leb maxBinders v)) 4 i _
-    (isFine-rest (isIn nilKind pickKind (getD b 0 0)) 0 i _ (isFine-rest (ltb 0 (length b)) 1 i _ h)))
+-- THE FIVE TESTS of the record at the front: all hold, or it is refused with one of the five numbers
+abbrev firstOf : Bool → Bool → Bool → Bool → Bool → (place : ℕ) → Fault
+firstOf p q r s t i =
+    orElse (unless p (shortAt i))
+    (orElse (unless q (kindAt i)) (orElse (unless r (sizeAt i)) (orElse (unless s (shortAt i)) (unless t (fieldAt i)))))
 
+tests-hold : (p q r s t : Bool) (i : ℕ) → isFine (firstOf p q r s t i) ≡ true →
+    (p ≡ true) × (q ≡ true) × (r ≡ true) × (s ≡ true) × (t ≡ true)
+tests-hold true true true true true i e = (refl, refl, refl, refl, refl)
+tests-hold true true true true false i e = absurd (false≢true e)
+tests-hold true true true false t i e = absurd (false≢true e)
+tests-hold true true false s t i e = absurd (false≢true e)
+tests-hold true false r s t i e = absurd (false≢true e)
+tests-hold false q r s t i e = absurd (false≢true e)
+
+tests-refuse : (p q r s t : Bool) (i : ℕ) → isFine (firstOf p q r s t i) ≡ false → isIn 1 5 (firstOf p q r s t i .number) ≡ true
+tests-refuse true true true true true i e = absurd (true≢false e)
+tests-refuse true true true true false i e = refl
+tests-refuse true true true false t i e = refl
+tests-refuse true true false s t i e = refl
+tests-refuse true false r s t i e = refl
+tests-refuse false q r s t i e = refl
+
+pub record Passed (n d v : ℕ) (b : List ℕ) : Type 0 where
+  pub some : 0 < length b
+  pub low : 1 ≤ getD b 0 0
+  pub high : getD b 0 0 ≤ 13
+  pub few : n < maxRecords
+  pub deep : d ≤ maxDepth
+  pub scope : (isBinder (getD b 0 0) && leb maxBinders v) ≡ false
+  pub whole : 1 + bodySize (getD b 0 0) ≤ length b
+  pub fits : bodyFits v b ≡ true
+
+module _ (i n d v : ℕ) (b : List ℕ) where
+  abbrev isKind : Bool
+  isKind = isIn nilKind pickKind (getD b 0 0)
+
+  abbrev hasRoom : Bool
+  hasRoom = ltb n maxRecords && leb d maxDepth && not (isBinder (getD b 0 0) && leb maxBinders v)
+
+  pub passed : isFine (exprFault i n d v b) ≡ true → Passed n d v b
+  passed e =
+      let t = tests-hold (ltb 0 (length b)) isKind hasRoom (leb (1 + bodySize (getD b 0 0)) (length b)) (bodyFits v b) i e in
+      let room = and-left (ltb n maxRecords && leb d maxDepth) _ (t .2) in
+      record {
+        some = ltb-true 0 (length b) (t .0);
+        low = leb-true 1 (getD b 0 0) (and-left _ _ (t .1));
+        high = leb-true (getD b 0 0) 13 (and-right (leb 1 (getD b 0 0)) _ (t .1));
+        few = ltb-true n maxRecords (and-left _ (leb d maxDepth) room);
+        deep = leb-true d maxDepth (and-right (ltb n maxRecords) _ room);
+        scope = not-true _ (and-right (ltb n maxRecords && leb d maxDepth) _ (t .2));
+        whole = leb-true (1 + bodySize (getD b 0 0)) (length b) (t .3);
+        fits = t .4;
+      }
+
+  refused : isFine (exprFault i n d v b) ≡ false → isIn 1 5 (exprFault i n d v b .number) ≡ true
+  refused = tests-refuse (ltb 0 (length b)) isKind hasRoom (leb (1 + bodySize (getD b 0 0)) (length b)) (bodyFits v b) i
+
+-- THE READER
 parseFrom-well : (k d : ℕ) → ReaderWell (parseFrom k d)
 unfolding parseFrom
-parseFrom-well zero d i n v b h = tt
-parseFrom-well (suc k) d i n v b h =
-    pick-well (isFine (exprFault i n d v b)) _ _
+parseFrom-well zero d i n v b = refl
+parseFrom-well (suc k) d i n v b =
+    pick-cases (ReadsWell n b) (isFine (exprFault i n d v b))
     (λ e.
-    operands-well (parseFrom k (d + 1)) (parseFrom-well k (d + 1)) i _ (n + 1) v b _ h
-    (areBytes-drop (1 + bodySize (getD b 0 0)) b h) (bodyFits-fine i n d v b e))
-    (λ e. tt)
+    operands-well (parseFrom k (d + 1)) (parseFrom-well k (d + 1)) n b i _ v _ (areBytes-drop (1 + bodySize (getD b 0 0)) b)
+    (passed i n d v b e .few) (passed i n d v b e .fits))
+    (refused i n d v b)
 
-whole-well : (p : Parsed) → ReadsWell p → ReadsWell (whole p)
-whole-well (ill x) h = tt
-whole-well (parsed e i n c) h = pick-well (eqb (length c) 0) _ _ (λ q. h) (λ q. tt)
+pub readScript-well : (b : List ℕ) → ReadsWell 0 b (readScript b)
+readScript-well b = go (parseFrom (maxDepth + 2) 1 0 0 0 b) (parseFrom-well (maxDepth + 2) 1 0 0 0 b)
+  where
+    go : (p : Parsed) → ReadsWell 0 b p → ReadsWell 0 b (whole p)
+    go (ill x) h = h
+    go (parsed e i n c) h = pick-cases (ReadsWell 0 b) (eqb (length c) 0) (λ q. h) (λ q. refl)
 
 pub isScript-fields : (e : Expr) → IsScript e → FieldsFit e
-isScript-fields e (b, a, (i, (n, (c, q)))) =
-    subst ReadsWell q (whole-well (parseFrom (maxDepth + 2) 1 0 0 0 b) (parseFrom-well (maxDepth + 2) 1 0 0 0 b a)) .0
+isScript-fields e (b, a, (i, (n, (c, q)))) = subst (ReadsWell 0 b) q (readScript-well b) .fields a
+
+pub readScript-refuses : (b : List ℕ) (f : Fault) → readScript b ≡ ill f → isIn 1 5 (f .number) ≡ true
+readScript-refuses b f e = subst (ReadsWell 0 b) e (readScript-well b)
+
+-- A REFUSAL has a number from 1 to 5, so not 0
+pub record Sound (x : Parsed) : Type 0 where
+  pub ranged : (f : Fault) → x ≡ ill f → isIn 1 5 (f .number) ≡ true
+
+pub sound-numbered : {x : Parsed} → Sound x → (f : Fault) → x ≡ ill f → f .number ≡ 0 → ⊥
+sound-numbered s f e z = omega (arith, isIn-at 1 5 (f .number) (s .ranged f e))
+
+well-sound : (n : ℕ) (b : List ℕ) (x : Parsed) → ReadsWell n b x → Sound x
+well-sound n b x h = record { ranged = λ f e. subst (ReadsWell n b) e h }
+
+pub parse-sound : (k d i n v : ℕ) (b : List ℕ) → Sound (parseFrom k d i n v b)
+parse-sound k d i n v b = well-sound n b (parseFrom k d i n v b) (parseFrom-well k d i n v b)
+
+pub readScript-sound : (b : List ℕ) → Sound (readScript b)
+readScript-sound b = well-sound 0 b (readScript b) (readScript-well b)

@@ -1,17 +1,17 @@
 -- Values are lists of rows: in a table of more rows, and answered by steps, picks and documents.
 use mathlib.Core.Path.{_≡_, refl}
-use mathlib.Core.Bool.{Bool, true, false}
 use mathlib.Core.List.{List, [], _∷_}
 use mathlib.Core.Option.{Option, none, some}
 use Prim.Native.Nat.{ℕ, _+_, _≤_, _<_}
 use native.Mathlib.Omega.{arith}
 use lib.ListN.{getD}
-use Rattle.model.specs.Base.{pick, nothing, also}
+use Rattle.model.specs.Base.{nothing, also}
 use Rattle.model.specs.Table.{Table, count, Tree}
 use Rattle.model.specs.Script.{Step}
 use Rattle.model.specs.Step.{isReached, stepFrom, isPicked, picked}
 use Rattle.model.specs.Run.{descendantsFrom, marked, AreRows, AreValues}
 use Rattle.model.specs.Paths.{anyBelow}
+use Rattle.model.proofs.BoolLaws.{pick-cases}
 use Rattle.model.proofs.All.{all-imp}
 use Rattle.model.proofs.Collect.{step-collect, collect-all}
 use Rattle.model.proofs.Reach.{descendants-stepped}
@@ -30,11 +30,9 @@ stepFrom-rows x t v j k n l = rw step-collect (collect-all (isReached x t v) j k
 pub picked-rows : (x : Table) (r c : ℕ) {n : ℕ} {v : List ℕ} → AreRows n v → AreRows n (picked x r c v)
 unfolding picked
 picked-rows x r c nothing = nothing
-picked-rows x r c {n} (also {a = i} {l = is} h a) = go (isPicked x r c i) (picked-rows x r c a)
-  where
-    go : (q : Bool) → AreRows n (picked x r c is) → AreRows n (pick q (i ∷ picked x r c is) (picked x r c is))
-    go true b = also h b
-    go false b = b
+picked-rows x r c {n} (also {a = i} h a) =
+    let b = picked-rows x r c a in
+    pick-cases (AreRows n) (isPicked x r c i) (λ e. also h b) (λ e. b)
 
 pub descendantsFrom-rows : (x : Table) (t j k n : ℕ) → j + k ≤ n → AreRows n (descendantsFrom x t j k)
 descendantsFrom-rows x t j k n l = rw descendants-stepped (stepFrom-rows x anyBelow (t ∷ []) j k n l)

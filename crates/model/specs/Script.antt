@@ -33,6 +33,22 @@ pub data Expr : Type 0 where
   insert : (place : ℕ) → Expr → Expr → Expr
   choose : (place relation value : ℕ) → Expr → Expr
 
+-- RECORDS of an expression
+unfoldable pub recordsOf : Expr → ℕ
+recordsOf (nil z) = 1
+recordsOf (document z d) = 1
+recordsOf (var z v) = 1
+recordsOf (step z s e) = 1 + recordsOf e
+recordsOf (both z e f) = 1 + recordsOf e + recordsOf f
+recordsOf (letIn z e f) = 1 + recordsOf e + recordsOf f
+recordsOf (forIn z e f) = 1 + recordsOf e + recordsOf f
+recordsOf (ifIn z e f g) = 1 + recordsOf e + recordsOf f + recordsOf g
+recordsOf (element z n) = 1
+recordsOf (leaf z v) = 1
+recordsOf (delete z e) = 1 + recordsOf e
+recordsOf (insert z e f) = 1 + recordsOf e + recordsOf f
+recordsOf (choose z r c e) = 1 + recordsOf e
+
 -- KINDS, 1 to 13 in the order of the constructors
 abbrev pub nilKind : ℕ
 nilKind = 0x01

@@ -8,12 +8,12 @@ use Prim.Native.Nat.{ℕ, zero, suc, _+_, _-_, _≤_, _<_}
 use native.Mathlib.Omega.{arith}
 use lib.Dec.{eqb}
 use lib.ListN.{length, getD, take, drop, List·getD-map}
-use borrow.Author.Tests.{eq-eqb, eqb-false}
+use borrow.Author.Tests.{eqb-false}
 use Rattle.model.specs.Refusal.{isFine}
 use Rattle.model.specs.Table as model
 use Rattle.model.specs.Script.{Expr, nil, document, var, element, leaf, bodySize}
 use Rattle.model.specs.Run.{Out, stop, gives, marked, roomFault, newRow, loose, run, AreRows}
-use Rattle.model.proofs.BoolLaws.{by-cases, pick-true, pick-false}
+use Rattle.model.proofs.BoolLaws.{by-cases, pick-true, pick-false, pick-eq, pick-cases}
 use Rattle.model.proofs.GrowLaws.{count-withRow}
 use Rattle.model.proofs.All.{all-read}
 use Rattle.model.specs.Base.{nothing, also}
@@ -60,11 +60,8 @@ made-count {ws} {h} {p} {ws′} {h′} {q} {v} r held up k =
 -- a document's row is a row
 marked-held : (m c : ℕ) → m ≤ c → AreRows c (marked (linked m))
 marked-held m c l =
-    by-cases (eqb m 0)
-    (λ t. subst (λ (o : Option ℕ). AreRows c (marked o)) (sym (pick-true (eqb m 0) _ _ t)) nothing)
-    (λ t.
-    let g : m - 1 < c = omega (arith, eqb-false m 0 t) in
-    subst (λ (o : Option ℕ). AreRows c (marked o)) (sym (pick-false (eqb m 0) _ _ t)) (also g nothing))
+    pick-cases (λ (o : Option ℕ). AreRows c (marked o)) (eqb m 0) (λ t. nothing)
+    (λ t. let g : m - 1 < c = omega (arith, eqb-false m 0 t) in also g nothing)
 
 marked-few : (o : Option ℕ) → length (marked o) ≤ 1
 marked-few none = omega arith
@@ -162,13 +159,10 @@ module _ {b : List ℕ} {at left n : ℕ} {env : List Span} {ms ws h w : List �
         (yields-updated up a made size (omega (arith, nullary-room)) few rows (pre .scope .size) eq))
       where
         made : q .number ≡ 0 → madeValue q (p .count) ≡ p .count ∷ []
-        made z = pick-true (eqb (q .number) 0) _ _ (eq-eqb (q .number) 0 z)
+        made z = pick-eq _ _ z
 
         few : length (madeValue q (p .count)) ≤ 512
-        few =
-            by-cases (eqb (q .number) 0)
-            (λ z. omega (arith, ap length (pick-true (eqb (q .number) 0) (p .count ∷ []) [] z)))
-            (λ z. omega (arith, ap length (pick-false (eqb (q .number) 0) (p .count ∷ []) [] z)))
+        few = pick-cases (λ (v : List ℕ). length v ≤ 512) (eqb (q .number) 0) (λ z. omega arith) (λ z. omega arith)
 
         rows : q .number ≡ 0 → AreRows (q .count) (madeValue q (p .count))
         rows z =

@@ -1,17 +1,17 @@
 -- Records with one or two operands, on their values: each call's needs, and what each way out yields.
 use mathlib.Core.Path.{_≡_, refl, ap, subst, _∙_}
-use mathlib.Core.Bool.{Bool, true, false}
 use mathlib.Core.Logic.{inl}
 use mathlib.Core.List.{List, [], _∷_}
 use Prim.Native.Nat.{ℕ, suc, _+_, _-_, _≤_, _<_}
 use native.Mathlib.Omega.{arith}
 use lib.ListN.{length, getD}
 use borrow.Author.Tests.{ne-eqb}
-use Rattle.model.specs.Base.{pick, nothing}
+use Rattle.model.specs.Base.{nothing}
 use Rattle.model.specs.Table as model
 use Rattle.model.specs.Script.{stepBy, bodySize}
 use Rattle.model.specs.Step.{isReached, isPicked, stepped, picked}
 use Rattle.model.specs.Run.{gives}
+use Rattle.model.proofs.BoolLaws.{pick-cases}
 use Rattle.model.proofs.Collect.{step-collect}
 use Rattle.model.proofs.ValueLaws.{stepFrom-rows, picked-rows}
 use Rattle.records.proofs.KindLaws.{unary-kind}
@@ -32,11 +32,9 @@ use Rattle.operators.proofs.YieldLaws.{yields-updated, updated-none, yi
 picked-few : (x : model.Table) (r c : ℕ) (v : List ℕ) → length (picked x r c v) ≤ length v
 unfolding picked
 picked-few x r c [] = omega arith
-picked-few x r c (i ∷ is) = go (isPicked x r c i) (picked-few x r c is)
-  where
-    go : (t : Bool) → length (picked x r c is) ≤ length is → length (pick t (i ∷ picked x r c is) (picked x r c is)) ≤ suc (length is)
-    go true l = omega arith
-    go false l = omega arith
+picked-few x r c (i ∷ is) =
+    let l = picked-few x r c is in
+    pick-cases (λ (v : List ℕ). length v ≤ suc (length is)) (isPicked x r c i) (λ e. omega arith) (λ e. omega arith)
 
 stepped-few : {ws h : List ℕ} {p : Progress} → Held ws h p → (ms v : List ℕ) (a t n : ℕ) →
     length (stepped (decodeParts (p .count) ws ms) (stepBy a t n) v) ≤ 512

@@ -5,12 +5,12 @@ use mathlib.Core.Option.{Option, none, some}
 use mathlib.Core.List.{List, [], _∷_}
 use Prim.Native.Nat.{ℕ, _+_, _-_, _≤_, _<_}
 use native.Mathlib.Omega.{arith}
-use lib.Dec.{ltb, eqb}
+use lib.Dec.{ltb}
 use lib.ListN.{length, set, length-set}
-use borrow.Author.Tests.{eq-eqb, ne-eqb, lt-ltb, le-ltb}
+use borrow.Author.Tests.{lt-ltb, le-ltb}
 use Rattle.model.specs.Script.{isBinder}
 use Rattle.model.specs.Run.{marked}
-use Rattle.model.proofs.BoolLaws.{pick-true, pick-false}
+use Rattle.model.proofs.BoolLaws.{pick-true, pick-false, pick-eq, pick-ne}
 use Rattle.records.proofs.BindLaws.{withBound-set, withBound-same}
 use Rattle.table.specs.Words.{linked}
 use Rattle.updates.specs.State.{stopped}
@@ -27,10 +27,10 @@ module _ (p : Progress) (at next end : ℕ) (env : List Span) where
   placed i = record { progress = p; place = i; end = end; env = env }
 
   pub ended-refused : (p .number ≡ 0 → ⊥) → placed at ≡ endedBy p at next end env
-  ended-refused h = ap placed (sym (pick-false (eqb (p .number) 0) next at (ne-eqb (p .number) 0 h)))
+  ended-refused h = ap placed (sym (pick-ne next at h))
 
   pub ended-past : p .number ≡ 0 → placed next ≡ endedBy p at next end env
-  ended-past h = ap placed (sym (pick-true (eqb (p .number) 0) next at (eq-eqb (p .number) 0 h)))
+  ended-past h = ap placed (sym (pick-eq next at h))
 
 -- LIMITED to 512 items
 module _ (x : Evaluated) (top at : ℕ) where
@@ -50,23 +50,20 @@ appended-one w top a l = appended-if true a [] w w top top l (appended-none w to
 module _ (w : List ℕ) (top : ℕ) where
   pub document-none : (m : ℕ) → m ≡ 0 → Appended (marked (linked m)) w top w top
   document-none m h =
-      subst (λ (o : Option ℕ). Appended (marked o) w top w top) (sym (pick-true (eqb m 0) none (some (m - 1)) (eq-eqb m 0 h)))
-      (appended-none w top)
+      subst (λ (o : Option ℕ). Appended (marked o) w top w top) (sym (pick-eq none (some (m - 1)) h)) (appended-none w top)
 
   pub document-some : (m : ℕ) → (m ≡ 0 → ⊥) → top < length w → Appended (marked (linked m)) w top (set w top (m - 1)) (top + 1)
   document-some m h l =
       subst (λ (o : Option ℕ). Appended (marked o) w top (set w top (m - 1)) (top + 1))
-      (sym (pick-false (eqb m 0) none (some (m - 1)) (ne-eqb m 0 h))) (appended-one w top (m - 1) l)
+      (sym (pick-ne none (some (m - 1)) h)) (appended-one w top (m - 1) l)
 
   pub made-none : (q : Progress) (row : ℕ) → (q .number ≡ 0 → ⊥) → Appended (madeValue q row) w top w top
   made-none q row h =
-      subst (λ (v : List ℕ). Appended v w top w top) (sym (pick-false (eqb (q .number) 0) (row ∷ []) [] (ne-eqb (q .number) 0 h)))
-      (appended-none w top)
+      subst (λ (v : List ℕ). Appended v w top w top) (sym (pick-ne (row ∷ []) [] h)) (appended-none w top)
 
   pub made-one : (q : Progress) (row : ℕ) → q .number ≡ 0 → top < length w → Appended (madeValue q row) w top (set w top row) (top + 1)
   made-one q row h l =
-      subst (λ (v : List ℕ). Appended v w top (set w top row) (top + 1))
-      (sym (pick-true (eqb (q .number) 0) (row ∷ []) [] (eq-eqb (q .number) 0 h))) (appended-one w top row l)
+      subst (λ (v : List ℕ). Appended v w top (set w top row) (top + 1)) (sym (pick-eq (row ∷ []) [] h)) (appended-one w top row l)
 
 -- BOUND: a binder's first value is one variable more
 module _ (k : ℕ) (env : List Span) (n i j : ℕ) (p : BindPre k env n i j) where

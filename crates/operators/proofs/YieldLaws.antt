@@ -5,10 +5,10 @@ use Prim.Native.Nat.{ℕ, _+_, _-_, _≤_, _<_}
 use native.Mathlib.Omega.{arith}
 use lib.Dec.{ltb, eqb}
 use lib.ListN.{length, take}
-use borrow.Author.Tests.{eq-eqb, ne-eqb, eqb-true, eqb-false, lt-ltb, le-ltb, ltb-true, ltb-false}
+use borrow.Author.Tests.{eqb-true, eqb-false, lt-ltb, le-ltb, ltb-true, ltb-false}
 use Rattle.model.specs.Refusal.{fault}
 use Rattle.model.specs.Run.{State, Out, stop, gives, joinItems, AreRows}
-use Rattle.model.proofs.BoolLaws.{by-cases, pick-true, pick-false}
+use Rattle.model.proofs.BoolLaws.{by-cases, pick-true, pick-false, pick-eq, pick-ne}
 use Rattle.model.proofs.All.{all-append}
 use Rattle.updates.specs.State.{stateOf, outcome, Held, After, Updated}
 use Rattle.query.specs.Values.{valueAt, Appended}
@@ -37,7 +37,7 @@ module _ {f : ℕ → State → Out} {v u ws h : List ℕ} {p : Progress} {ws′
           order = omega (arith, a .end);
           short = omega (arith, a .end, few);
           rows = subst (AreRows (q .count)) (sym (appended-value a room)) (rows k);
-          place = pick-true (eqb (q .number) 0) next at (eq-eqb (q .number) 0 k);
+          place = pick-eq next at k;
           spans = spans;
           scope = refl;
         };
@@ -52,7 +52,7 @@ module _ {f : ℕ → State → Out} {v u ws h : List ℕ} {p : Progress} {ws′
       bad : (q .number ≡ 0 → ⊥) → outcome (endedBy q at next e env .place) (valueAt w′ top e) ws′ ms h′ q ≡ f at (stateOf ws ms h p)
       bad k =
           outcome-stop (endedBy q at next e env .place) (valueAt w′ top e) ws′ ms h′ q k ∙
-          ap (λ (z : ℕ). stop (fault (q .number) z)) (pick-false (eqb (q .number) 0) next at (ne-eqb (q .number) 0 k)) ∙
+          ap (λ (z : ℕ). stop (fault (q .number) z)) (pick-ne next at k) ∙
           sym (outcome-stop at v ws′ ms h′ q k) ∙ up .same at ms
 
 -- no update at all

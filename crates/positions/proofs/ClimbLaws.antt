@@ -12,7 +12,7 @@ use Rattle.model.specs.Base.{pick, any}
 use Rattle.model.specs.Script.{Step, stepBy, Expr, nil, document, var, step, both, letIn, forIn, ifIn, element, leaf, delete}
 use Rattle.model.specs.Script.{insert, choose}
 use Rattle.model.specs.Paths.{anyBelow, isUp, hasUp}
-use Rattle.model.proofs.BoolLaws.{by-cases, and-right}
+use Rattle.model.proofs.BoolLaws.{by-cases, and-right, pick-cases}
 use Rattle.model.proofs.ListLaws.{any-snoc}
 use Rattle.positions.specs.Positions as positions
 use Rattle.positions.specs.Positions.{nowhere, root, over, union, Entry, plain, accessing, modifying, entryAt, isClimb, Emitted}
@@ -20,7 +20,6 @@ use Rattle.positions.specs.Positions.{pushStep, pushUnion, pushDelete, p
 use Rattle.positions.specs.Sources.{anyUpTo}
 use Rattle.positions.specs.Words.{positionBy, fieldsOf, entryOf, entriesBy, climbAt, climbing}
 use Rattle.positions.specs.declared.packed.Position.{Position}
-use Rattle.positions.proofs.EmitLaws.{picked}
 
 -- ONE POSITION, by its fields
 pub climb-is : (p : Position) (t : Bool) → t ≡ (eqb (p .kind) 2 && leb 2 (p .axis)) → t ≡ isClimb (positionBy p)
@@ -68,26 +67,26 @@ any-plain es x e = any-snoc climbs es x ∙ ap (λ (t : Bool). any climbs es || 
 -- RECORDS: a step's entry leads up where the step does, and no other record's does
 step-climbs : (s : Step) (x : Emitted) → any climbs (pushStep s x .entries) ≡ (any climbs (x .entries) || isUp s)
 step-climbs s x =
-    picked (eqb (x .result) 0 && not (isUp s)) (λ (y : Emitted). any climbs (y .entries) ≡ (any climbs (x .entries) || isUp s)) _ _
+    pick-cases (λ (y : Emitted). any climbs (y .entries) ≡ (any climbs (x .entries) || isUp s)) (eqb (x .result) 0 && not (isUp s))
     (λ e. sym (ap (λ (t : Bool). any climbs (x .entries) || t) (not-true (isUp s) (and-right (eqb (x .result) 0) (not (isUp s)) e)) ∙
     or-false (any climbs (x .entries))))
     (λ e. any-snoc climbs (x .entries) _)
 
 union-climbs : (r : ℕ) (y : Emitted) → any climbs (pushUnion r y .entries) ≡ any climbs (y .entries)
 union-climbs r y =
-    picked (eqb r 0) (λ (z : Emitted). any climbs (z .entries) ≡ any climbs (y .entries)) _ _ (λ e. refl)
-    (λ e. picked (eqb (y .result) 0) (λ (z : Emitted). any climbs (z .entries) ≡ any climbs (y .entries)) _ _ (λ f. refl)
+    pick-cases (λ (z : Emitted). any climbs (z .entries) ≡ any climbs (y .entries)) (eqb r 0) (λ e. refl)
+    (λ e. pick-cases (λ (z : Emitted). any climbs (z .entries) ≡ any climbs (y .entries)) (eqb (y .result) 0) (λ f. refl)
     (λ f. any-plain (y .entries) _ refl))
 
 delete-climbs : (x : Emitted) → any climbs (pushDelete x .entries) ≡ any climbs (x .entries)
 delete-climbs x =
-    picked (eqb (x .result) 0) (λ (z : Emitted). any climbs (z .entries) ≡ any climbs (x .entries)) _ _ (λ e. refl)
+    pick-cases (λ (z : Emitted). any climbs (z .entries) ≡ any climbs (x .entries)) (eqb (x .result) 0) (λ e. refl)
     (λ e. any-plain _ _ refl ∙ any-plain (x .entries) _ refl)
 
 below-climbs : (f : positions.Position → Entry) (n : ℕ) → climbs (f (over anyBelow n)) ≡ false → (es : List Entry) →
     any climbs (pushBelow f n es) ≡ any climbs es
 below-climbs f n h es =
-    picked (eqb n 0) (λ (v : List Entry). any climbs v ≡ any climbs es) _ _ (λ e. refl) (λ e. any-plain es _ h)
+    pick-cases (λ (v : List Entry). any climbs v ≡ any climbs es) (eqb n 0) (λ e. refl) (λ e. any-plain es _ h)
 
 twice : (e f : Expr) (ns ms : List ℕ) (es : List Entry) → any climbs (emit e ns es .entries) ≡ (any climbs es || hasUp e) →
     any climbs (emit f ms (emit e ns es .entries) .entries) ≡ (any climbs (emit e ns es .entries) || hasUp f) →

@@ -12,7 +12,7 @@ use borrow.Author.Tests.{ne-eqb, eqb-true, eqb-false}
 use Rattle.model.specs.Base.{pick}
 use Rattle.model.specs.Script.{Step, Expr, nil, document, var, step, both, letIn, forIn, ifIn, element, leaf, delete, insert, choose}
 use Rattle.model.specs.Paths.{placeOf, Path, start, place, withStep, anyBelow, infer, isUp}
-use Rattle.model.proofs.BoolLaws.{by-cases, and-left}
+use Rattle.model.proofs.BoolLaws.{by-cases, and-left, pick-cases}
 use Rattle.positions.specs.Positions.{Position, over, union, Entry, plain, accessing, modifying, entryAt, IsLower, AreLower}
 use Rattle.positions.specs.Positions.{Emitted, emitted, push, pushStep, pushUnion, pushDelete, pushBelow, pushInsert, emit}
 use Rattle.positions.specs.Positions.{pathsAt, pathsFrom, pathsBy, pathsOn}
@@ -151,11 +151,6 @@ pushed es r a m y h w r′ a′ m′ l e f g =
 alike : (es : List Entry) (r a m a′ m′ : List Path) (y : Emitted) → a ≡ a′ → m ≡ m′ → Right es r a m y → Right es r a′ m′ y
 alike es r a m a′ m′ y e f h = subst (λ (v : List Path). Right es r a′ v y) f (subst (λ (v : List Path). Right es r v m y) e h)
 
--- a choice between two emissions
-pub picked : {A : Type 0} (t : Bool) (P : A → Type 0) (x y : A) → (t ≡ true → P x) → (t ≡ false → P y) → P (pick t x y)
-picked true P x y f g = f refl
-picked false P x y f g = g refl
-
 -- NOTHING: position 0 has no paths, so a result there has none that start at a document
 no-documents : (es : List Entry) → Ready es → (r a m : List Path) (y : Emitted) → Right es r a m y → y .result ≡ 0 → documents r ≡ []
 no-documents es z r a m y h e = sym (h .is) ∙ ap (pathsOn (y .entries)) e ∙ h .keeps 0 (z .some) ∙ z .zero
@@ -238,10 +233,10 @@ module _ (o : ℕ) (own : o ≡ 0 → ⊥) where
     unfolding documents
     emits-union =
         alike es (r ++ r′) (a ++ a′ ++ []) (m ++ m′ ++ []) (a ++ a′) (m ++ m′) _ (append-nil (a ++ a′)) (append-nil (m ++ m′))
-        (picked (eqb (y .result) 0) (Right es (r ++ r′) (a ++ a′ ++ []) (m ++ m′ ++ [])) _ _
+        (pick-cases (Right es (r ++ r′) (a ++ a′ ++ []) (m ++ m′ ++ [])) (eqb (y .result) 0)
         (λ e. nothing-more es r′ (a ++ a′) (m ++ m′) y′ two (r ++ r′) [] []
         (sym (documents-append r r′ ∙ ap (λ (v : List Path). v ++ documents r′) (no-first (eqb-true (y .result) 0 e)))) refl refl)
-        (λ n. picked (eqb (y′ .result) 0) (Right es (r ++ r′) (a ++ a′ ++ []) (m ++ m′ ++ [])) _ _
+        (λ n. pick-cases (Right es (r ++ r′) (a ++ a′ ++ []) (m ++ m′ ++ [])) (eqb (y′ .result) 0)
         (λ e. nothing-more es r (a ++ a′) (m ++ m′) (emitted (y .result) (y′ .entries)) first (r ++ r′) [] []
         (sym (documents-append r r′ ∙ ap (λ (v : List Path). documents r ++ v) (no-second (eqb-true (y′ .result) 0 e)) ∙
         append-nil (documents r))) refl refl)
@@ -268,7 +263,7 @@ module _ (o : ℕ) (own : o ≡ 0 → ⊥) where
       Right es (withStep s r) (a ++ withStep s r) (m ++ []) (pushStep s y)
   unfolding documents
   emits-step es z s r a m y h =
-      picked (eqb (y .result) 0 && not (isUp s)) (Right es (withStep s r) (a ++ withStep s r) (m ++ [])) _ _
+      pick-cases (Right es (withStep s r) (a ++ withStep s r) (m ++ [])) (eqb (y .result) 0 && not (isUp s))
       (λ e. let n = no-documents es z r a m y h (eqb-true (y .result) 0 (and-left (eqb (y .result) 0) _ e)) in
       nothing-more es r a m y h (withStep s r) (withStep s r) [] (n ∙ sym (no-step s r n)) (no-step s r n) refl)
       (λ e. pushed es r a m y h (accessing (over s (y .result))) (withStep s r) (withStep s r) [] (h .low)
@@ -278,7 +273,7 @@ module _ (o : ℕ) (own : o ≡ 0 → ⊥) where
       Right es [] (a ++ []) (m ++ (r ++ withStep anyBelow r)) (pushDelete y)
   unfolding documents
   emits-delete es z r a m y h =
-      picked (eqb (y .result) 0) (Right es [] (a ++ []) (m ++ (r ++ withStep anyBelow r))) _ _
+      pick-cases (Right es [] (a ++ []) (m ++ (r ++ withStep anyBelow r))) (eqb (y .result) 0)
       (λ e. let n = no-documents es z r a m y h (eqb-true (y .result) 0 e) in
       nothing-more es r a m y h [] [] (r ++ withStep anyBelow r) n refl
       (documents-append r (withStep anyBelow r) ∙ ap (λ (v : List Path). v ++ documents (withStep anyBelow r)) n ∙ no-step anyBelow r n))
@@ -316,7 +311,7 @@ module _ (o : ℕ) (own : o ≡ 0 → ⊥) where
         Right es [] (a ++ a′) (m ++ m′) (emitted 0 (pushBelow f n (y .entries)))
     unfolding documents
     emits-below f p a′ m′ i j =
-        picked (eqb n 0) (λ (x : List Entry). Right es [] (a ++ a′) (m ++ m′) (emitted 0 x)) _ _
+        pick-cases (λ (x : List Entry). Right es [] (a ++ a′) (m ++ m′) (emitted 0 x)) (eqb n 0)
         (λ e. let w = none-below (eqb-true n 0 e) in
         nothing-more es [] a m (emitted 0 (y .entries)) (discarded es z r a m y h) [] a′ m′ refl
         (sym i ∙ either (f (over anyBelow n) .accessed) w) (sym j ∙ either (f (over anyBelow n) .modified) w))
@@ -332,7 +327,7 @@ module _ (o : ℕ) (own : o ≡ 0 → ⊥) where
   below-keeps : (f : Position → Entry) (n : ℕ) (es : List Entry) (k : ℕ) → k < length es →
       (k < length (pushBelow f n es)) × (pathsOn (pushBelow f n es) k ≡ pathsOn es k)
   below-keeps f n es k l =
-      picked (eqb n 0) (λ (x : List Entry). (k < length x) × (pathsOn x k ≡ pathsOn es k)) _ _ (λ e. (l, refl))
+      pick-cases (λ (x : List Entry). (k < length x) × (pathsOn x k ≡ pathsOn es k)) (eqb n 0) (λ e. (l, refl))
       (λ e. (omega (arith, length-append es (f (over anyBelow n) ∷ [])), pathsOn-keeps es (f (over anyBelow n) ∷ []) k l))
 
   emits-insert : (es : List Entry) → Ready es → (r a m r′ a′ m′ : List Path) (y y′ : Emitted) → Right es r a m y →

@@ -11,7 +11,7 @@ use Rattle.model.specs.Base.{pick, any, All, nothing, also}
 use Rattle.model.specs.Script.{Step, Expr, nil, document, var, step, both, letIn, forIn, ifIn, element, leaf, delete, insert, choose}
 use Rattle.model.specs.Paths.{placeOf, Path, start, _▸_, place, withStep, anyBelow, Paths, infer, pathsOf, prefixesOf, prefixed}
 use Rattle.model.specs.Paths.{traversed, joinPaths, binding, modifiedPlace}
-use Rattle.model.proofs.BoolLaws.{or-swap, or-left, or-cases, bool-iff, by-cases}
+use Rattle.model.proofs.BoolLaws.{or-swap, or-left, or-cases, bool-iff, by-cases, pick-cases}
 use Rattle.model.proofs.All.{all-read, all-append}
 use Rattle.model.proofs.ListLaws.{any-append, any-left, any-right, any-either}
 use Rattle.positions.proofs.DocumentLaws.{isDocument, documents}
@@ -250,9 +250,6 @@ any-documents f o own (p ∷ ps) (also h a) = go (any-documents f o own ps a)
 pub documents-are : (ps : List Path) → All (λ (p : Path). placeOf p .owner ≡ 0) (documents ps)
 unfolding documents
 documents-are [] = nothing
-documents-are (p ∷ ps) = go (documents-are ps) (isDocument p) refl
-  where
-    go : All (λ (q : Path). placeOf q .owner ≡ 0) (documents ps) → (t : Bool) → isDocument p ≡ t →
-        All (λ (q : Path). placeOf q .owner ≡ 0) (pick t (p ∷ documents ps) (documents ps))
-    go a true e = also (eqb-true (placeOf p .owner) 0 e) a
-    go a false e = a
+documents-are (p ∷ ps) =
+    let a = documents-are ps in
+    pick-cases (All (λ (q : Path). placeOf q .owner ≡ 0)) (isDocument p) (λ e. also (eqb-true (placeOf p .owner) 0 e) a) (λ e. a)

@@ -9,6 +9,7 @@ use lib.ListN.{length, drop}
 use lib.Seq.{length-take-le}
 use borrow.Author.Tests.{lt-ltb, le-ltb, eq-eqb, ne-eqb}
 use Rattle.model.specs.Base.{pick}
+use Rattle.model.proofs.BoolLaws.{pick-eq, pick-ne}
 use Rattle.plan.specs.Calls.{planRead}
 use Rattle.table.specs.declared.Fault.{Fault}
 use Rattle.table.specs.declared.Table.{Table}
@@ -23,7 +24,6 @@ use Rattle.report.specs.Lines.{fileLine, answerLine, orderLine, FileLine
 use Rattle.report.specs.Pair.{threeLines, textBy, planText, pairText, Report, Counted, pairWritten, pairOut}
 use Rattle.sequence.specs.declared.orders.Order.{Order}
 use Rattle.format.proofs.TextLaws.{placed-then}
-use Rattle.sequence.proofs.OrderLaws.{pick-fine, pick-refused}
 
 -- THREE LINES
 pub three-placed : (t : Table) (w b c : List ℕ) {o o₁ o₂ o₃ : List ℕ} {n m r : ℕ} {x y z : Order} → x ≡ order t b c → y ≡ order t c b →
@@ -84,7 +84,7 @@ module _ (p b c : List ℕ) {o : List ℕ} where
         where
           same : fileLine (ascii "plan") (r .fault) ≡ pairText p b c
           same =
-              sym (pick-refused (textBy (analysed b c) (r .table) b c) (fileLine (ascii "plan") (r .fault)) z) ∙
+              sym (pick-ne (textBy (analysed b c) (r .table) b c) (fileLine (ascii "plan") (r .fault)) z) ∙
               ap (λ (s : TableResult). planText s b c) e
 
       pub plan-read : r .fault .number ≡ 0 → {a : Analysis} → a ≡ analysed b c → Report (textBy a (r .table) b c) o o′ n →
@@ -95,5 +95,5 @@ module _ (p b c : List ℕ) {o : List ℕ} where
           same : textBy a (r .table) b c ≡ pairText p b c
           same =
               ap (λ (x : Analysis). textBy x (r .table) b c) f ∙
-              sym (pick-fine (textBy (analysed b c) (r .table) b c) (fileLine (ascii "plan") (r .fault)) z) ∙
+              sym (pick-eq (textBy (analysed b c) (r .table) b c) (fileLine (ascii "plan") (r .fault)) z) ∙
               ap (λ (s : TableResult). planText s b c) e

@@ -1,23 +1,20 @@
--- What a run of a script's bytes comes to. It stops with a refusal of the table, by the script's reader (1 to 5), for the plan (6) or by
--- the run (7 to 10); or it ends, and its history leads from plan to plan and back.
-use mathlib.Core.Path.{_≡_, refl, ap, sym}
+-- A run of a script's bytes that stops does so with a refusal of the table: by the script's reader (1 to 5), for the plan (6) or by the
+-- run (7 to 10).
+use mathlib.Core.Path.{_≡_, ap, sym}
 use mathlib.Core.Bool.{Bool, true, false}
 use mathlib.Core.List.{List}
 use Prim.Native.Nat.{ℕ, _≤_}
 use native.Mathlib.Omega.{arith}
 use borrow.Author.Tests.{ne-eqb}
-use Rattle.model.specs.Base.{pick, isIn, areBytes}
+use Rattle.model.specs.Base.{pick, isIn}
 use Rattle.model.specs.Refusal.{Fault, isFine, linkAt}
 use Rattle.model.specs.Script.{Parsed, ill, parsed, readScript}
-use Rattle.model.specs.History.{historyBytes, replayAll}
-use Rattle.model.specs.Run.{State, Out, stop, gives}
+use Rattle.model.specs.Run.{Out, stop}
 use Rattle.model.specs.Call.{runBy}
 use Rattle.model.specs.Table as model
-use Rattle.model.specs.Undo.{back, undo}
-use Rattle.model.proofs.RunsBack.{runsBack}
 use Rattle.model.proofs.StopLaws.{stop-number}
 use Rattle.model.proofs.TestLaws.{isIn-at, isIn-by}
-use Rattle.script.proofs.RefusalLaws.{Sound, script-sound}
+use Rattle.model.proofs.ScriptLaws.{Sound, readScript-sound}
 use Rattle.table.specs.Words.{decode, fits}
 use Rattle.table.specs.declared.Table.{Table}
 use Rattle.run.specs.Calls.{outcomeOf}
@@ -38,7 +35,7 @@ parsed-refuses x (ill g) s f e = within 1 5 (f .number) (omega arith) (omega ari
 parsed-refuses x (parsed d i n b) s f e = within 7 10 (f .number) (omega arith) (omega arith) (stop-number d x f e)
 
 pub run-refuses : (x : model.Table) (b : List ℕ) → Refuses (runBy x (readScript b))
-run-refuses x b = parsed-refuses x (readScript b) (script-sound b)
+run-refuses x b = parsed-refuses x (readScript b) (readScript-sound b)
 
 pub outcome-refuses : (t : Table) (b : List ℕ) → Refuses (outcomeOf t b)
 outcome-refuses t b = go (fits t)
@@ -46,14 +43,3 @@ outcome-refuses t b = go (fits t)
     go : (z : Bool) → Refuses (pick z (runBy (decode t) (readScript b)) (stop (linkAt 0)))
     go true f e = run-refuses (decode t) b f e
     go false f e = let q : 6 ≡ f .number = cc in ap (isIn 1 10) (sym q)
-
--- ENDED
-pub run-back : (b : List ℕ) → areBytes b ≡ true → (x : model.Table) → model.isWell x ≡ true → (v : List ℕ) (s : State) →
-    runBy x (readScript b) ≡ gives v s →
-    (model.isWell (s .plan) ≡ true) × (replayAll x (s .history) ≡ s .plan) × (undo (s .plan) (historyBytes (s .history)) ≡ back x)
-run-back b bytes x well v s e = go (readScript b) refl e
-  where
-    go : (p : Parsed) → readScript b ≡ p → runBy x p ≡ gives v s →
-        (model.isWell (s .plan) ≡ true) × (replayAll x (s .history) ≡ s .plan) × (undo (s .plan) (historyBytes (s .history)) ≡ back x)
-    go (ill f) E q = let y : stop f ≡ gives v s = q in let z : _≡_ {A = ℕ} 0 1 = cc in absurd (omega arith)
-    go (parsed d i n r) E q = runsBack d x v s (b, bytes, (i, (n, (r, E)))) well q

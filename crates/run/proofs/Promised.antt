@@ -21,7 +21,8 @@ use Rattle.table.proofs.EncodeLaws.{decode-encode, fits-encode}
 use Rattle.run.specs.Calls.{outcomeOf, ran, resultOf, runResult}
 use Rattle.run.specs.Promise.{RunsAsCalled, RunsOn, RefusedGivesBack, RefusedLeaves, EitherEnd, RunsCommute}
 use Rattle.run.specs.declared.RunResult.{RunResult}
-use Rattle.run.proofs.OutcomeLaws.{Refuses, outcome-refuses, run-back}
+use Rattle.run.proofs.OutcomeLaws.{Refuses, outcome-refuses}
+use Rattle.model.proofs.RunsBack.{runBy-back}
 
 pub runsAsCalled : RunsAsCalled
 runsAsCalled t b a h w e =
@@ -48,7 +49,7 @@ module _ (t : Table) (e : fits t ≡ true) where
 
   -- a run that is not refused leaves a well-formed table
   run-well : (b : List ℕ) → areBytes b ≡ true → (v : List ℕ) (s : State) → outcomeOf t b ≡ gives v s → model.isWell (s .plan) ≡ true
-  run-well b bytes v s k = run-back b bytes (decode t) (well-decode t e) v s (sym (pick-true (fits t) _ _ e) ∙ k) .0
+  run-well b bytes v s k = runBy-back (decode t) b bytes (well-decode t e) v s (sym (pick-true (fits t) _ _ e) ∙ k) .0
 
   ran-stands : (b a h w : List ℕ) → areBytes b ≡ true → Stands t (runResult t b a h w .table) (ran t b a h w .plan)
   ran-stands b a h w bytes = go (areasFit a h w)

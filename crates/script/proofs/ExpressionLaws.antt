@@ -8,6 +8,7 @@ use lib.ListN.{length, getD, take, drop}
 use Rattle.model.specs.Refusal.{isFine, faultAt}
 use Rattle.model.specs.Script.{Expr, nil, Parsed, ill, parsed, thenParse, exprFault}
 use Rattle.model.proofs.ListLaws.{drop-all}
+use Rattle.model.proofs.ScriptLaws.{Sound, sound-numbered, parse-sound}
 use Rattle.records.specs.Walk.{arity, inner, firstAt, secondAt, thirdAt, exprOf, exprAt}
 use Rattle.script.specs.Reading.{parseAt, endOf, expressionRead, HeadPost, ExpressionPre, ExpressionPost}
 use Rattle.script.specs.Accepted.{RecordFits}
@@ -16,7 +17,6 @@ use Rattle.script.proofs.HeadLaws.{fine-fits, fine-records}
 use Rattle.script.proofs.ParseLaws.{reader, afterRecord, afterFirst, afterSecond, afterThird, parse-refused, parse-operands}
 use Rattle.script.proofs.ParseLaws.{after-none, after-record, after-one, after-first, after-two, after-second}
 use Rattle.script.proofs.PlaceLaws.{Reads, reads}
-use Rattle.script.proofs.RefusalLaws.{Sound, sound-numbered, parse-sound}
 
 -- THE END of what is read first, and of the whole
 pub record Ended (x : Parsed) (r : End) : Type 0 where

@@ -1,18 +1,17 @@
 -- The record at the front: what the model says of it from the tests that the reader makes, and what an accepted record fulfils.
-use mathlib.Core.Path.{_≡_, refl, ap, sym, _∙_}
-use mathlib.Core.Bool.{Bool, true, false, _&&_, not, false≢true}
+use mathlib.Core.Path.{_≡_, ap, sym, _∙_}
+use mathlib.Core.Bool.{Bool, true, false, _&&_}
 use mathlib.Core.List.{List}
 use Prim.Native.Nat.{ℕ, _+_, _-_, _≤_, _<_}
 use native.Mathlib.Omega.{arith}
 use lib.Dec.{ltb, leb, eqb}
 use lib.ListN.{length, length-drop, getD, drop}
-use borrow.Author.Tests.{lt-ltb, le-ltb, le-leb, lt-leb, ne-eqb, ltb-true, leb-true, leb-false, not-true}
-use Rattle.model.specs.Base.{isIn}
-use Rattle.model.specs.Refusal.{isFine, orElse, unless, kindAt, shortAt, fieldAt, sizeAt}
+use borrow.Author.Tests.{lt-ltb, le-ltb, le-leb, lt-leb, ne-eqb, leb-false}
+use Rattle.model.specs.Refusal.{isFine, unless, fieldAt}
 use Rattle.model.specs.Script.{bodySize, bodyFits, testFits, isBinder, exprFault}
 use Rattle.model.proofs.ListLaws.{drop-first}
-use Rattle.model.proofs.BoolLaws.{by-cases, and-left, and-right}
-use Rattle.model.proofs.TestLaws.{isIn-at}
+use Rattle.model.proofs.ScriptLaws.{Passed, passed}
+use Rattle.model.proofs.BoolLaws.{by-cases}
 use Rattle.script.specs.Accepted.{RecordFits}
 use Rattle.script.specs.Reading.{BodyPre, BodyPost, HeadPost}
 
@@ -147,56 +146,25 @@ module _ {s : List ℕ} {left n v : ℕ} where
                 }
 
 -- AN ACCEPTED RECORD passed every test
-tests : (p q r s t : Bool) (i : ℕ) →
-    isFine (orElse (unless p (shortAt i)) (orElse (unless q (kindAt i)) (orElse (unless r (sizeAt i))
-    (orElse (unless s (shortAt i)) (unless t (fieldAt i)))))) ≡ true →
-    (p ≡ true) × (q ≡ true) × (r ≡ true) × (s ≡ true) × (t ≡ true)
-tests true true true true true i e = (refl, refl, refl, refl, refl)
-tests true true true true false i e = absurd (false≢true e)
-tests true true true false t i e = absurd (false≢true e)
-tests true true false s t i e = absurd (false≢true e)
-tests true false r s t i e = absurd (false≢true e)
-tests false q r s t i e = absurd (false≢true e)
-
 module _ (b : List ℕ) (at left n v i : ℕ) (e : isFine (exprFault i n (17 - left) v (drop at b)) ≡ true) where
-  passed : (ltb 0 (length (drop at b)) ≡ true) × (isIn 1 13 (getD (drop at b) 0 0) ≡ true) ×
-      ((ltb n 64 && leb (17 - left) 16 && not (isBinder (getD (drop at b) 0 0) && leb 8 v)) ≡ true) ×
-      (leb (1 + bodySize (getD (drop at b) 0 0)) (length (drop at b)) ≡ true) × (bodyFits v (drop at b) ≡ true)
-  passed =
-      tests (ltb 0 (length (drop at b))) (isIn 1 13 (getD (drop at b) 0 0))
-      (ltb n 64 && leb (17 - left) 16 && not (isBinder (getD (drop at b) 0 0) && leb 8 v))
-      (leb (1 + bodySize (getD (drop at b) 0 0)) (length (drop at b))) (bodyFits v (drop at b)) i e
-
-  sizes : (ltb n 64 ≡ true) × (leb (17 - left) 16 ≡ true) × ((isBinder (getD (drop at b) 0 0) && leb 8 v) ≡ false)
-  sizes =
-      let s = and-left (ltb n 64 && leb (17 - left) 16) (not (isBinder (getD (drop at b) 0 0) && leb 8 v)) (passed .2) in (
-        and-left (ltb n 64) (leb (17 - left) 16) s,
-        and-right (ltb n 64) (leb (17 - left) 16) s,
-        not-true (isBinder (getD (drop at b) 0 0) && leb 8 v)
-            (and-right (ltb n 64 && leb (17 - left) 16) (not (isBinder (getD (drop at b) 0 0) && leb 8 v)) (passed .2)),
-      )
+  tests : Passed n (17 - left) v (drop at b)
+  tests = passed i n (17 - left) v (drop at b) e
 
   in-scope : isBinder (getD b at 0) ≡ true → v < 8
   in-scope h =
       let g : isBinder (getD (drop at b) 0 0) ≡ true = ap (λ (k : ℕ). isBinder k) (drop-first b at) ∙ h in
-      leb-false 8 v (sym (ap (λ (z : Bool). z && leb 8 v) g) ∙ sizes .2)
+      leb-false 8 v (sym (ap (λ (z : Bool). z && leb 8 v) g) ∙ tests .scope)
 
   pub fine-records : n < 64
-  fine-records = ltb-true n 64 (sizes .0)
+  fine-records = tests .few
 
   pub fine-fits : RecordFits b at left v
   fine-fits =
       record {
-        low = omega (arith, drop-first b at, isIn-at 1 13 (getD (drop at b) 0 0) (passed .1));
-        high = omega (arith, drop-first b at, isIn-at 1 13 (getD (drop at b) 0 0) (passed .1));
-        depth = omega (arith, leb-true (17 - left) 16 (sizes .1));
+        low = omega (arith, drop-first b at, tests .low);
+        high = omega (arith, drop-first b at, tests .high);
+        depth = omega (arith, tests .deep);
         scope = in-scope;
-        whole = omega (
-          arith,
-          ap (λ (k : ℕ). bodySize k) (drop-first b at),
-          length-drop at b,
-          ltb-true 0 (length (drop at b)) (passed .0),
-          leb-true (1 + bodySize (getD (drop at b) 0 0)) (length (drop at b)) (passed .3),
-        );
-        fields = passed .4;
+        whole = omega (arith, ap (λ (k : ℕ). bodySize k) (drop-first b at), length-drop at b, tests .some, tests .whole);
+        fields = tests .fits;
       }

@@ -1,7 +1,6 @@
 pub mod HeadLaws
 pub mod ParseLaws
 pub mod PlaceLaws
-pub mod RefusalLaws
 pub mod ExpressionLaws
 pub mod ScriptLaws
 pub mod AcceptedLaws

@@ -11,6 +11,7 @@ use Rattle.model.specs.Limits.{maxDepth}
 use Rattle.model.specs.Refusal as refusal
 use Rattle.model.specs.Script.{Expr, Parsed, ill, parsed, whole, readScript, faultBy}
 use Rattle.model.proofs.BoolLaws.{by-cases}
+use Rattle.model.proofs.ScriptLaws.{Sound, sound-numbered, parse-sound}
 use Rattle.table.specs.Results.{faultOf}
 use Rattle.table.specs.declared.Fault.{Fault}
 use Rattle.records.specs.Walk.{exprAt}
@@ -18,7 +19,6 @@ use Rattle.script.specs.Reading.{scriptRead, parseAt, endOf, ExpressionP
 use Rattle.script.specs.Accepted.{Accepted}
 use Rattle.script.specs.declared.read.End.{End}
 use Rattle.script.proofs.PlaceLaws.{reads}
-use Rattle.script.proofs.RefusalLaws.{Sound, sound-numbered, parse-sound}
 use Rattle.script.proofs.ExpressionLaws.{Ended, ended}
 
 -- WAYS OUT of the reader of a script, from what it found of the expression at its start

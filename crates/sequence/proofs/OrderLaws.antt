@@ -3,7 +3,6 @@ use mathlib.Core.Path.{_≡_, refl, ap, sym, _∙_}
 use mathlib.Core.Bool.{Bool}
 use mathlib.Core.List.{List}
 use Prim.Native.Nat.{ℕ, _≤_}
-use lib.Dec.{eqb}
 use lib.ListN.{length}
 use borrow.Author.Tests.{eq-eqb, ne-eqb}
 use Rattle.model.specs.Base.{pick}
@@ -45,19 +44,12 @@ module _ (t : Table) (b a h w : List ℕ) (i : 512 ≤ length a) (j : 12288 ≤ 
   run-given e =
       ap (λ (q : RunResult). record { number = q .fault .number; items = q .items; table = q .table }) e ∙ ran-given
 
--- A CHOICE by a refusal's number
-pub pick-fine : {A : Type 0} {n : ℕ} (x y : A) → n ≡ 0 → pick (eqb n 0) x y ≡ x
-pick-fine x y h = rw (eq-eqb _ 0 h)
-
-pub pick-refused : {A : Type 0} {n : ℕ} (x y : A) → (n ≡ 0 → ⊥) → pick (eqb n 0) x y ≡ y
-pick-refused x y h = rw (ne-eqb _ 0 h)
-
 -- AN ORDER by its three ways out
 module _ (t : Table) (b c : List ℕ) {one : Ending} (e : one ≡ ending t b) where
   pub leads-refused : (one .number ≡ 0 → ⊥) → Stopped 1 (one .number) ≡ order t b c
   unfolding order
   leads-refused z =
-      sym (pick-refused (orderThen (one .items) (ending (one .table) c)) (Stopped 1 (one .number)) z) ∙
+      sym (pick-ne (orderThen (one .items) (ending (one .table) c)) (Stopped 1 (one .number)) z) ∙
       ap (λ (r : Ending). orderFrom r c) e
 
   module _ (y : one .number ≡ 0) {two : Ending} (f : two ≡ ending (one .table) c) where
@@ -65,14 +57,14 @@ module _ (t : Table) (b c : List ℕ) {one : Ending} (e : one ≡ ending t b) wh
     unfolding order
     then-order =
         ap (orderThen (one .items)) f ∙
-        sym (pick-fine (orderThen (one .items) (ending (one .table) c)) (Stopped 1 (one .number)) y) ∙
+        sym (pick-eq (orderThen (one .items) (ending (one .table) c)) (Stopped 1 (one .number)) y) ∙
         ap (λ (r : Ending). orderFrom r c) e
 
     pub follows-refused : (two .number ≡ 0 → ⊥) → Stopped 2 (two .number) ≡ order t b c
-    follows-refused z = sym (pick-refused (Ended (one .items) (two .items) (two .table .count)) (Stopped 2 (two .number)) z) ∙ then-order
+    follows-refused z = sym (pick-ne (Ended (one .items) (two .items) (two .table .count)) (Stopped 2 (two .number)) z) ∙ then-order
 
     pub both-ended : two .number ≡ 0 → Ended (one .items) (two .items) (two .table .count) ≡ order t b c
-    both-ended z = sym (pick-fine (Ended (one .items) (two .items) (two .table .count)) (Stopped 2 (two .number)) z) ∙ then-order
+    both-ended z = sym (pick-eq (Ended (one .items) (two .items) (two .table .count)) (Stopped 2 (two .number)) z) ∙ then-order
 
 -- EACH SCRIPT under its own number
 pub swap-first : {o : Order} {s n : ℕ} → o ≡ Stopped s n → s ≡ 1 → Stopped 2 n ≡ swap o
