@@ -55,7 +55,7 @@ module _ {b : List ℕ} {at left n : ℕ} {env : List Span} {ms ws h w : List �
     good = ran .fine k
 
     -- its value
-    pub value-asks : ValuePre ws₁ h₁ w₁ top x
+    value-asks : ValuePre ws₁ h₁ w₁ top x
     value-asks =
         record {
           held = good .after .held;

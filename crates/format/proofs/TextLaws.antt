@@ -30,7 +30,7 @@ copy-all o d s i j e h k =
     }
 
 -- ONE BYTE
-pub placed-byte : (o : List ℕ) (i x : ℕ) → i < length o → Placed o i (x ∷ []) (set o i x) (i + 1)
+placed-byte : (o : List ℕ) (i x : ℕ) → i < length o → Placed o i (x ∷ []) (set o i x) (i + 1)
 placed-byte o i x h =
     record {
       area =
@@ -76,20 +76,20 @@ digits-fuel (suc k) n h =
     sym (digits-high (suc (suc k)) n high))
 
 -- NUMBERS of 64 bits
-pub decimal-low : (n : ℕ) → n < 10 → decimal n ≡ (48 + n) ∷ []
+decimal-low : (n : ℕ) → n < 10 → decimal n ≡ (48 + n) ∷ []
 decimal-low n h = digits-low 19 n (lt-ltb n 10 h)
 
 module _ (n : ℕ) (fits : n < 18446744073709551616) where
   shorter : digits 19 (n / 10) ≡ decimal (n / 10)
   shorter = digits-fuel 18 (n / 10) (omega arith)
 
-  pub decimal-high : 10 ≤ n → decimal n ≡ decimal (n / 10) ++ ((48 + n % 10) ∷ [])
+  decimal-high : 10 ≤ n → decimal n ≡ decimal (n / 10) ++ ((48 + n % 10) ∷ [])
   decimal-high h = digits-high 19 n (le-ltb n 10 h) ∙ ap (λ (x : List ℕ). x ++ ((48 + n % 10) ∷ [])) shorter
 
-  pub decimal-shorter : length (decimal (n / 10)) ≤ 19
+  decimal-shorter : length (decimal (n / 10)) ≤ 19
   decimal-shorter = omega (arith, length-digits 19 (n / 10), ap length shorter)
 
-pub number-placed : {o o′ : List ℕ} {i n r : ℕ} → Placed o i (decimal n) o′ r → Number o i n o′ r
+number-placed : {o o′ : List ℕ} {i n r : ℕ} → Placed o i (decimal n) o′ r → Number o i n o′ r
 number-placed {n = n} p = record { text = p; few = omega (arith, length-digits 20 n, p .next) }
 
 pub number-low : (o : List ℕ) (i n : ℕ) → n < 10 → i < length o → Number o i n (set o i (48 + n)) (i + 1)

@@ -50,7 +50,7 @@ join-nothing c d e =
       cell-equal d noCell (a .1) (b .1) (f .1) (g .1) (h .1) (i .1),
     )
 
-pub join-assoc : (c d e : Cell) → joinCell (joinCell c d) e ≡ joinCell c (joinCell d e)
+join-assoc : (c d e : Cell) → joinCell (joinCell c d) e ≡ joinCell c (joinCell d e)
 join-assoc c d e =
     cell-equal (joinCell (joinCell c d) e) (joinCell c (joinCell d e))
     (or-assoc (c .onElement) (d .onElement) (e .onElement))
@@ -60,7 +60,7 @@ join-assoc c d e =
     (or-assoc (c .upElement) (d .upElement) (e .upElement))
     (or-assoc (c .upLeaf) (d .upLeaf) (e .upLeaf))
 
-pub join-swap : (a b c d : Cell) → joinCell (joinCell a b) (joinCell c d) ≡ joinCell (joinCell a c) (joinCell b d)
+join-swap : (a b c d : Cell) → joinCell (joinCell a b) (joinCell c d) ≡ joinCell (joinCell a c) (joinCell b d)
 join-swap a b c d =
     cell-equal (joinCell (joinCell a b) (joinCell c d)) (joinCell (joinCell a c) (joinCell b d))
     (or-swap (a .onElement) (b .onElement) (c .onElement) (d .onElement))
@@ -140,7 +140,7 @@ module _ {A : Type 0} where
   sum-same f g h [] = refl
   sum-same f g h (x ∷ xs) = ap (λ (c : Cell). joinCell c (sum f xs)) (h x) ∙ ap (joinCell (g x)) (sum-same f g h xs)
 
-  pub sum-append : (f : A → Cell) (k l : List A) → sum f (k ++ l) ≡ joinCell (sum f k) (sum f l)
+  sum-append : (f : A → Cell) (k l : List A) → sum f (k ++ l) ≡ joinCell (sum f k) (sum f l)
   unfolding sum
   sum-append f [] l = refl
   sum-append f (x ∷ k) l = ap (joinCell (f x)) (sum-append f k l) ∙ sym (join-assoc (f x) (sum f k) (sum f l))
@@ -161,7 +161,7 @@ module _ {A : Type 0} where
   sum-none [] = refl
   sum-none (x ∷ xs) = sum-none xs
 
-pub sum-steps : (f : Path → Cell) (s : Step) (ps : List Path) → sum f (withStep s ps) ≡ sum (λ (p : Path). f (p ▸ s)) ps
+sum-steps : (f : Path → Cell) (s : Step) (ps : List Path) → sum f (withStep s ps) ≡ sum (λ (p : Path). f (p ▸ s)) ps
 unfolding sum withStep
 sum-steps f s [] = refl
 sum-steps f s (p ∷ ps) = ap (joinCell (f (p ▸ s))) (sum-steps f s ps)

@@ -30,7 +30,7 @@ or-last : (a b c : Bool) → (a || b || c) ≡ (a || c || b)
 or-last true b c = refl
 or-last false b c = or-comm b c
 
-pub eqb-comm : (m n : ℕ) → eqb m n ≡ eqb n m
+eqb-comm : (m n : ℕ) → eqb m n ≡ eqb n m
 eqb-comm m n =
     bool-iff (eqb m n) (eqb n m) (λ e. eq-eqb n m (sym (eqb-true m n e))) (λ e. eq-eqb m n (sym (eqb-true n m e)))
 
@@ -41,7 +41,7 @@ join-comm c d =
     (or-comm (c .upLeaf) (d .upLeaf))
 
 -- PLACES
-pub samePlace-comm : (p q : Place) → samePlace p q ≡ samePlace q p
+samePlace-comm : (p q : Place) → samePlace p q ≡ samePlace q p
 samePlace-comm p q =
     ap (λ (t : Bool). t && eqb (p .number) (q .number)) (eqb-comm (p .owner) (q .owner)) ∙
     ap (λ (t : Bool). eqb (q .owner) (p .owner) && t) (eqb-comm (p .number) (q .number))

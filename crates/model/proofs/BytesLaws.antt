@@ -50,7 +50,7 @@ parentIn-back none h c = refl
 parentIn-back (some i) h c =
     rw (word-back i, ne-eqb i 65535 (λ (e : i ≡ 65535). omega (arith, h i refl)))
 
-pub parentBytes-back : (low high : ℕ) → low ≤ 255 → high ≤ 255 → parentBytes (parentIn (low + 256 * high)) ≡ low ∷ high ∷ []
+parentBytes-back : (low high : ℕ) → low ≤ 255 → high ≤ 255 → parentBytes (parentIn (low + 256 * high)) ≡ low ∷ high ∷ []
 parentBytes-back a b h l = go (eqb (a + 256 * b) 65535) refl
   where
     go : (t : Bool) → eqb (a + 256 * b) 65535 ≡ t → parentBytes (parentIn (a + 256 * b)) ≡ a ∷ b ∷ []

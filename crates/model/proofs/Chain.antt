@@ -29,12 +29,12 @@ unfoldable pub markedBy : ℕ → List (Option ℕ)
 markedBy zero = some 0 ∷ []
 markedBy (suc d) = none ∷ markedBy d
 
-pub markedBy-at : (d : ℕ) → getD (markedBy d) d none ≡ some 0
+markedBy-at : (d : ℕ) → getD (markedBy d) d none ≡ some 0
 unfolding markedBy
 markedBy-at zero = refl
 markedBy-at (suc d) = markedBy-at d
 
-pub markedBy-only : (d e i : ℕ) → getD (markedBy d) e none ≡ some i → (e ≡ d) × (i ≡ 0)
+markedBy-only : (d e i : ℕ) → getD (markedBy d) e none ≡ some i → (e ≡ d) × (i ≡ 0)
 unfolding markedBy
 markedBy-only zero zero i h = (refl, cc)
 markedBy-only zero (suc e) i h = absurd (Option·none-ne-some i h)
@@ -46,7 +46,7 @@ abbrev pub rowOf : Letter → Option ℕ → Row
 rowOf leafLetter p = record { isLeaf = true; tag = 0; parent = p }
 rowOf (named n) p = record { isLeaf = false; tag = n; parent = p }
 
-pub letterOf-rowOf : (a : Letter) (p : Option ℕ) → letterOf (rowOf a p) ≡ a
+letterOf-rowOf : (a : Letter) (p : Option ℕ) → letterOf (rowOf a p) ≡ a
 letterOf-rowOf leafLetter p = refl
 letterOf-rowOf (named n) p = refl
 
@@ -64,7 +64,7 @@ unfolding chain
 count-chain d [] = refl
 count-chain d (a ∷ w) = count-withRow (chain d w) (rowOf a (some (length w))) ∙ ap suc (count-chain d w)
 
-pub marks-chain : (d : ℕ) (w : Word) → chain d w .marks ≡ markedBy d
+marks-chain : (d : ℕ) (w : Word) → chain d w .marks ≡ markedBy d
 unfolding chain
 marks-chain d [] = refl
 marks-chain d (a ∷ w) = marks-chain d w
@@ -77,7 +77,7 @@ grown-length : {u w : Word} → Grown u w → length u ≤ length w
 grown-length same = omega arith
 grown-length (more g) = omega (arith, grown-length g)
 
-pub chain-row : (d : ℕ) (a : Letter) (u : Word) {w : Word} → Grown (a ∷ u) w →
+chain-row : (d : ℕ) (a : Letter) (u : Word) {w : Word} → Grown (a ∷ u) w →
     rowAt (chain d w) (suc (length u)) ≡ rowOf a (some (length u))
 unfolding chain
 chain-row d a u same =
@@ -133,7 +133,7 @@ chain-tree d (toLeaf {w} e) = tree-withRow (chain d w) (rowOf leafLetter (some (
 abbrev pub byMarks : List (Option ℕ) → Places
 byMarks ms p i = pick (eqb (p .owner) 0) (isThe i (getD ms (p .number) none)) false
 
-pub byMarks-at : (ms : List (Option ℕ)) (p : Place) (i : ℕ) → byMarks ms p i ≡ true → (p .owner ≡ 0) × (getD ms (p .number) none ≡ some i)
+byMarks-at : (ms : List (Option ℕ)) (p : Place) (i : ℕ) → byMarks ms p i ≡ true → (p .owner ≡ 0) × (getD ms (p .number) none ≡ some i)
 byMarks-at ms p i h = go (eqb (p .owner) 0) refl h
   where
     go : (t : Bool) → eqb (p .owner) 0 ≡ t → pick t (isThe i (getD ms (p .number) none)) false ≡ true →

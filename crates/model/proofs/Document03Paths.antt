@@ -29,7 +29,7 @@ along p (s ∷ ss) = along (p ▸ s) ss
 abbrev pub oursPath : P.Path → Path
 oursPath p = along (start (p .from)) (p .steps)
 
-pub along-more : (p : Path) (ss : List Step) (s : Step) → along p (ss ++ (s ∷ [])) ≡ along p ss ▸ s
+along-more : (p : Path) (ss : List Step) (s : Step) → along p (ss ++ (s ∷ [])) ≡ along p ss ▸ s
 unfolding along
 along-more p [] s = refl
 along-more p (t ∷ ss) s = along-more (p ▸ t) ss s

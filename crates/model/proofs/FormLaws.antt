@@ -40,7 +40,7 @@ recordIn-back r f c = go (eqb (r .kind) cutKind) refl
         rw e (λ i. record { kind = sym k i; row = w i; tag = sym (f .noTag k) i; parent = p i })
     go false e = rw e (λ i. record { kind = r .kind; row = w i; tag = r .tag; parent = p i })
 
-pub formFault-fine : (r : Record) → IsInRange r → (i n : ℕ) (c : List ℕ) → n < maxHistory →
+formFault-fine : (r : Record) → IsInRange r → (i n : ℕ) (c : List ℕ) → n < maxHistory →
     isFine (formFault i n (recordBytes r ++ c)) ≡ true
 formFault-fine r f i n c l =
     isFine-check (isIn madeElementKind cutKind (r .kind)) 0 i _ ∙

@@ -66,7 +66,7 @@ module _ (x : Table) (r : Row) (t : Tree x) (f : tagFits r ≡ true) (g : parent
   well-withRow w l = record { few = omega (arith, count-withRow x r); eight = w .eight; tree = tree-withRow }
 
 -- A MARK MORE
-pub getD-set-cases : (ms : List (Option ℕ)) (d e i j : ℕ) → d < length ms → getD (set ms d (some i)) e none ≡ some j →
+getD-set-cases : (ms : List (Option ℕ)) (d e i j : ℕ) → d < length ms → getD (set ms d (some i)) e none ≡ some j →
     ((e ≡ d) × (j ≡ i)) ⊎ ((e ≢ d) × (getD ms e none ≡ some j))
 getD-set-cases ms d e i j l q = go (eqb e d) refl
   where
@@ -100,7 +100,7 @@ module _ (x : Table) (d i : ℕ) (t : Tree x) (k : IsRoot x i) (l : d < length (
     ]
   ]
 
-  pub tree-withMark : Tree (withMark x d i)
+  tree-withMark : Tree (withMark x d i)
   tree-withMark = record { tags = t .tags; parents = t .parents; roots = withMark-root; once = withMark-once }
 
   pub well-withMark : Well x → Well (withMark x d i)

@@ -21,7 +21,7 @@ pub data Grows (c : ℕ) : Out → Type 0 where
   stops : {z : Fault} → Grows c (stop z)
   keeps : {v : List ℕ} {s : State} → c ≤ count (s .plan) → Grows c (gives v s)
 
-pub grows-less : {b c : ℕ} {o : Out} → b ≤ c → Grows c o → Grows b o
+grows-less : {b c : ℕ} {o : Out} → b ≤ c → Grows c o → Grows b o
 grows-less h stops = stops
 grows-less h (keeps k) =
     let l : _ ≤ _ = le-trans h k in
@@ -56,7 +56,7 @@ pub grows-pick : {c : ℕ} {o p : Out} (t : Bool) → Grows c o → Grows c p �
 grows-pick true a b = a
 grows-pick false a b = b
 
-pub grows-new : (z : ℕ) (r : Row) (s : State) → Grows (count (s .plan)) (newRow z r s)
+grows-new : (z : ℕ) (r : Row) (s : State) → Grows (count (s .plan)) (newRow z r s)
 grows-new z r s =
     let k : count (s .plan) ≤ count (withMade s r .plan) = omega (arith, count-withRow (s .plan) r) in
     grows-pick (isFine (roomFault z s)) (keeps k) stops

@@ -166,7 +166,7 @@ ran-rows x (linkCut s i p q e) =
     let z = cutRecord i p in
     omega (arith, ran-rows x q, count-linked (s .plan) i none, length-append (s .history) (z ∷ []), times-snoc isCut (s .history) z)
 
-pub ran-cuts : (x : Table) {s : State} → Ran x s → times isCut (s .history) + parented (s .plan .rows) ≤ count (s .plan)
+ran-cuts : (x : Table) {s : State} → Ran x s → times isCut (s .history) + parented (s .plan .rows) ≤ count (s .plan)
 unfolding times
 ran-cuts x begun = omega (arith, parented-le (x .rows))
 ran-cuts x (rowMade s r q c f g) =

@@ -20,7 +20,7 @@ map-set f (x ∷ l) zero a = refl
 map-set f (x ∷ l) (suc i) a = ap (λ (t : List _). f x ∷ t) (map-set f l i a)
 
 -- AN AREA that begins with A, and goes on with B
-pub over-grown : (A B o : List ℕ) (k : ℕ) → length A ≡ k → over k B (A ++ drop k o) ≡ A ++ B ++ drop (k + length B) o
+over-grown : (A B o : List ℕ) (k : ℕ) → length A ≡ k → over k B (A ++ drop k o) ≡ A ++ B ++ drop (k + length B) o
 over-grown A B o k h =
     ap (λ (l : List ℕ). l ++ B ++ drop (k + length B) (A ++ drop k o)) (take-at A (drop k o) k h) ∙
     ap (λ (l : List ℕ). A ++ B ++ l)

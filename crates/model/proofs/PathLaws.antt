@@ -32,7 +32,7 @@ pub record StepFits (s : Step) : Type 0 where
   pub down : isUp s ≡ false
   pub nameIn : isNamed s ≡ true → isIn 1 255 (s .name) ≡ true
 
-pub step-fits : (s : Step) → testFits (s .test) (s .name) ≡ true → isUp s ≡ false → StepFits s
+step-fits : (s : Step) → testFits (s .test) (s .name) ≡ true → isUp s ≡ false → StepFits s
 step-fits s f u = record { down = u; nameIn = λ n. go (eqb (s .test) 3) refl n f }
   where
     go : (t : Bool) → eqb (s .test) 3 ≡ t → isNamed s ≡ true →
@@ -46,7 +46,7 @@ step-fits s f u = record { down = u; nameIn = λ n. go (eqb (s .test) 3) refl n 
         let c = eqb-false (s .test) 2 (not-true _ (k .2)) in
         absurd (omega arith)
 
-pub anyBelow-fits : StepFits anyBelow
+anyBelow-fits : StepFits anyBelow
 anyBelow-fits = record { down = refl; nameIn = λ e. absurd (false≢true e) }
 
 -- A PATH of such steps from a place of the documents or of the owner
@@ -64,7 +64,7 @@ unfolding withStep
 withStep-fits f nothing = nothing
 withStep-fits f (also h a) = also (steps h f) (withStep-fits f a)
 
-pub infer-fits : (o : ℕ) (e : Expr) (b : List (List Path)) → FieldsFit e → hasUp e ≡ false → All (All (PathFits o)) b →
+infer-fits : (o : ℕ) (e : Expr) (b : List (List Path)) → FieldsFit e → hasUp e ≡ false → All (All (PathFits o)) b →
     PathsFit o (infer o e b)
 unfolding infer FieldsFit hasUp
 infer-fits o (nil z) b f u a = record { results = nothing; accesses = nothing; changes = nothing }

@@ -19,7 +19,7 @@ pub data Ran (x : Table) : State → Type 0 where
   linkCut : (s : State) (i p : ℕ) → Ran x s → rowAt (s .plan) i .parent ≡ some p → Ran x (cutRow s i p)
 
 -- a cut keeps the table well formed
-pub well-cut : (x : Table) (i p : ℕ) → Well x → rowAt x i .parent ≡ some p → Well (linked x i none)
+well-cut : (x : Table) (i p : ℕ) → Well x → rowAt x i .parent ≡ some p → Well (linked x i none)
 well-cut x i p w e =
     well-linked x i none (w .tree) (parent-count x i p e) (λ q h. absurd (Option·none-ne-some q h)) (λ d h. refl) w
 
@@ -29,12 +29,12 @@ ran-well x w (rowMade s r q c f g) = let v = ran-well x w q in well-withRow (s .
 ran-well x w (linkCut s i p q e) = well-cut (s .plan) i p (ran-well x w q) e
 
 -- REPLAYED: the history on the earlier table gives the later one
-pub replayAll-snoc : (x : Table) (rs : List Record) (r : Record) → replayAll x (rs ++ (r ∷ [])) ≡ replayed (replayAll x rs) r
+replayAll-snoc : (x : Table) (rs : List Record) (r : Record) → replayAll x (rs ++ (r ∷ [])) ≡ replayed (replayAll x rs) r
 unfolding replayAll
 replayAll-snoc x [] r = refl
 replayAll-snoc x (q ∷ rs) r = replayAll-snoc (replayed x q) rs r
 
-pub replayed-made : (x : Table) (r : Row) (i : ℕ) → replayed x (made r i) ≡ withRow x r
+replayed-made : (x : Table) (r : Row) (i : ℕ) → replayed x (made r i) ≡ withRow x r
 replayed-made x r i = go (r .isLeaf)
   where
     go : (t : Bool) →

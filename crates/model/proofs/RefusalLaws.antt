@@ -5,7 +5,7 @@ use Prim.Native.Nat.{ℕ, suc}
 use lib.Dec.{eqb·suc-zero}
 use Rattle.model.specs.Refusal.{Fault, fault, isFine, orElse, unless}
 
-pub isFine-orElse : (x y : Fault) → isFine (orElse x y) ≡ (isFine x && isFine y)
+isFine-orElse : (x y : Fault) → isFine (orElse x y) ≡ (isFine x && isFine y)
 isFine-orElse x y = go (isFine x) refl
   where
     go : (t : Bool) → isFine x ≡ t → isFine (orElse x y) ≡ (isFine x && isFine y)

@@ -25,7 +25,7 @@ use Rattle.model.proofs.PathLaws.{PathFits, starts, steps}
 use Rattle.model.proofs.Spells.{Spells, spelled, child, deep}
 
 -- THE ROWS at a place, or that a step reaches
-pub collect-in : (f : ℕ → Bool) (n i : ℕ) → In i (collect f 0 n) → (i < n) × (f i ≡ true)
+collect-in : (f : ℕ → Bool) (n i : ℕ) → In i (collect f 0 n) → (i < n) × (f i ≡ true)
 collect-in f n i h = all-in (collect-all {P = λ (j : ℕ). (j < n) × (f j ≡ true)} f 0 n (λ j l e. (omega arith, e))) h
 
 in-collect-from : (f : ℕ → Bool) (i j n : ℕ) → j ≤ i → i < j + n → f i ≡ true → In i (collect f j n)
@@ -73,13 +73,13 @@ label-once {x} {i} (linked {p} e k) (linked {p = q} {r = s} {w = v} f l) =
     (m .0, ap (λ (u : Word). letterOf (rowAt x i) ∷ u) (m .1))
 
 -- a row below another has the same root and a word grown from the other's
-pub label-below : {x : Table} {t i r : ℕ} {u : Word} → Below x t i → LabelOf x t r u →
+label-below : {x : Table} {t i r : ℕ} {u : Word} → Below x t i → LabelOf x t r u →
     (w : Word) × LabelOf x i r (letterOf (rowAt x i) ∷ w) × Grown u w
 label-below {u} (under e) l = (u, linked e l, same)
 label-below {x} (further {p} e b) l = let k = label-below b l in (letterOf (rowAt x p) ∷ k .0, linked e (k .1), more (k .2))
 
 -- all letters but the row's own are elements'
-pub label-elements : {x : Table} {i r : ℕ} {w : Word} → Tree x → LabelOf x i r w → rowAt x i .isLeaf ≡ false → areElements w ≡ true
+label-elements : {x : Table} {i r : ℕ} {w : Word} → Tree x → LabelOf x i r w → rowAt x i .isLeaf ≡ false → areElements w ≡ true
 unfolding areElements
 label-elements t (top e) f = refl
 label-elements {x} t (linked {i} {p} {w} e l) f =

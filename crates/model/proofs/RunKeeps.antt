@@ -222,7 +222,7 @@ loop-keeps x y z f h (i ∷ is) v s (also l a) b r g = joined (f i s) (h i s r g
 
 -- EVALUATION, over the expression
 module _ (x : Table) (well : Well x) where
-  pub run-keeps : (e : Expr) → FieldsFit e → (b : List (List ℕ)) (s : State) → Ran x s → AreValues (count (s .plan)) b →
+  run-keeps : (e : Expr) → FieldsFit e → (b : List (List ℕ)) (s : State) → Ran x s → AreValues (count (s .plan)) b →
       Keeps x (s .plan) (run e b s)
   unfolding run FieldsFit
   run-keeps (nil z) t b s r a = gives-keeps x [] s r nothing

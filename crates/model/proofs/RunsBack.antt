@@ -19,7 +19,7 @@ use Rattle.model.proofs.ScriptLaws.{isScript-fields}
 use Rattle.model.proofs.RunKeeps.{Keeps, runOn-keeps}
 
 -- what a script's run does is making rows and cutting links
-pub runOn-ran : (e : Expr) (x : Table) (v : List ℕ) (s : State) → IsScript e → Well x → runOn x e ≡ gives v s → Ran x s
+runOn-ran : (e : Expr) (x : Table) (v : List ℕ) (s : State) → IsScript e → Well x → runOn x e ≡ gives v s → Ran x s
 runOn-ran e x v s i w q = subst (Keeps x x) q (runOn-keeps x w e (isScript-fields e i)) .0
 
 pub runsBack : RunsBack

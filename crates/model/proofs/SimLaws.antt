@@ -28,7 +28,7 @@ module _ (W : World) where
   length-more : (news more : List Label) → length (ones W news) ≤ length (ones W (news ++ more))
   length-more news more = omega (arith, ap length (ones-more news more), length-append (ones W news) more)
 
-  pub valued-more : (r : List Path) (news more : List Label) (i : ℕ) → Valued W r news i → Valued W r (news ++ more) i
+  valued-more : (r : List Path) (news more : List Label) (i : ℕ) → Valued W r news i → Valued W r (news ++ more) i
   valued-more r news more i k =
       (omega (arith, k .0, length-more news more), subst (λ l. Item (W .script) r l) (sym (label-more news more i (k .0))) (k .1))
 
@@ -36,7 +36,7 @@ module _ (W : World) where
   vals-more r news more a = all-imp (valued-more r news more) a
 
   -- MORE PATHS
-  pub valued-paths : (q r : List Path) → ((p : Path) → In p q → In p r) → (news : List Label) (i : ℕ) → Valued W q news i →
+  valued-paths : (q r : List Path) → ((p : Path) → In p q → In p r) → (news : List Label) (i : ℕ) → Valued W q news i →
       Valued W r news i
   valued-paths q r h news i (b, k) = (b, go k)
     where

@@ -149,7 +149,7 @@ module _ (x : Table) (w : Well x) (done rest : List Row) (r : Row) (e : done ++ 
       ap (λ (y : Table). readAll y (i + 4) c)
       (recorded-row (table done ms) (rowBytes r ++ c) f ∙ ap (λ (s : Row). withRow (table done ms) s) (rowIn-back r next-word c))
 
-pub read-rows : (x : Table) → Well x → (done rest : List Row) (ms : List (Option ℕ)) (i : ℕ) (c : List ℕ) → done ++ rest ≡ x .rows →
+read-rows : (x : Table) → Well x → (done rest : List Row) (ms : List (Option ℕ)) (i : ℕ) (c : List ℕ) → done ++ rest ≡ x .rows →
     ((k : ℕ) → getD ms k none ≡ none) →
     readAll (table done ms) i (rowsBytes rest ++ c) ≡ readAll (table (x .rows) ms) (i + 4 * length rest) c
 unfolding rowsBytes
@@ -227,7 +227,7 @@ module _ (x : Table) (w : Well x) (done rest : List (Option ℕ)) (j : ℕ) (e :
           set-append-seam done none (replicate (length rest) none) (some j) ∙
           sym (append-assoc done (some j ∷ []) (replicate (length rest) none))
 
-pub read-marks : (x : Table) → Well x → (done rest : List (Option ℕ)) (i : ℕ) → done ++ rest ≡ x .marks →
+read-marks : (x : Table) → Well x → (done rest : List (Option ℕ)) (i : ℕ) → done ++ rest ≡ x .marks →
     readAll (markedSoFar x done rest) i (marksBytes (length done) rest) ≡ got x
 unfolding marksBytes
 read-marks x w done [] i e = readFrom-end 0 _ i [] refl ∙ ap (λ (ms : List (Option ℕ)). got (table (x .rows) ms)) e

@@ -99,7 +99,7 @@ recordFine x b =
     isIn elementKind markKind (getD b 0 0) &&
     ((isMark b || ltb (count x) maxRows) && (leb 4 (length b) && pick (isMark b) (markFine x b) (rowFine x b)))
 
-pub isFine-record : (x : Table) (i : ℕ) (b : List ℕ) → isFine (recordFault x i b) ≡ recordFine x b
+isFine-record : (x : Table) (i : ℕ) (b : List ℕ) → isFine (recordFault x i b) ≡ recordFine x b
 isFine-record x i b =
     isFine-check (isIn elementKind markKind (getD b 0 0)) 0 i _ ∙
     ap (λ (t : Bool). isIn elementKind markKind (getD b 0 0) && t)
@@ -162,10 +162,10 @@ record-cases x i b h = go (isMark b) refl
     go true e = inr (mark-record x b e (sym (isFine-record x i b) ∙ h))
     go false e = inl (row-record x b e (sym (isFine-record x i b) ∙ h))
 
-pub isMark-row : (x : Table) (b : List ℕ) → IsRowRecord x b → isMark b ≡ false
+isMark-row : (x : Table) (b : List ℕ) → IsRowRecord x b → isMark b ≡ false
 isMark-row x b r = ne-eqb (getD b 0 0) markKind (λ e. omega (arith, r .kind))
 
-pub isMark-mark : (x : Table) (b : List ℕ) → IsMarkRecord x b → isMark b ≡ true
+isMark-mark : (x : Table) (b : List ℕ) → IsMarkRecord x b → isMark b ≡ true
 isMark-mark x b m = eq-eqb _ _ (m .kind)
 
 pub row-fine : (x : Table) (i : ℕ) (b : List ℕ) → IsRowRecord x b → isFine (recordFault x i b) ≡ true

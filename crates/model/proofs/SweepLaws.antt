@@ -18,7 +18,7 @@ use Rattle.model.proofs.BoolLaws.{bit-le, or-left, or-right, or-cases, 
 use Rattle.model.proofs.TableLaws.{any-at}
 
 -- KEPT: marked, or the parent is kept. Parents are lower, so any fuel above the row's number serves
-pub keptFrom-fuel : (x : Table) → Tree x → (n m i : ℕ) → i < n → i < m → keptFrom n x i ≡ keptFrom m x i
+keptFrom-fuel : (x : Table) → Tree x → (n m i : ℕ) → i < n → i < m → keptFrom n x i ≡ keptFrom m x i
 unfolding keptFrom
 keptFrom-fuel x t zero m i h k = absurd (not-suc-le-zero h)
 keptFrom-fuel x t (suc n) zero i h k = absurd (not-suc-le-zero k)
@@ -79,7 +79,7 @@ newNumber-zero x = refl
 pub newNumber-suc : (x : Table) (i : ℕ) → newNumber x (suc i) ≡ newNumber x i + pick (isKept x i) 1 0
 newNumber-suc x i = keptBefore-last x 0 i ∙ ap (λ (k : ℕ). newNumber x i + bit (isKept x k)) (zero-add i)
 
-pub newNumber-kept : (x : Table) (i : ℕ) → isKept x i ≡ true → newNumber x (suc i) ≡ suc (newNumber x i)
+newNumber-kept : (x : Table) (i : ℕ) → isKept x i ≡ true → newNumber x (suc i) ≡ suc (newNumber x i)
 newNumber-kept x i h = newNumber-suc x i ∙ rw h (omega arith)
 
 pub newNumber-le : (x : Table) (i : ℕ) → newNumber x i ≤ i
@@ -87,7 +87,7 @@ newNumber-le x zero = omega (arith, newNumber-zero x)
 newNumber-le x (suc i) = omega (arith, newNumber-le x i, newNumber-suc x i, bit-le (isKept x i))
 
 -- rising, and strictly so on kept rows
-pub newNumber-rises : (x : Table) (i j : ℕ) → i ≤ j → newNumber x i ≤ newNumber x j
+newNumber-rises : (x : Table) (i j : ℕ) → i ≤ j → newNumber x i ≤ newNumber x j
 newNumber-rises x i zero l = let e : newNumber x i ≡ newNumber x 0 = ap (newNumber x) (omega arith) in omega arith
 newNumber-rises x i (suc j) l = go (leb i j) refl (newNumber-rises x i j)
   where

@@ -23,7 +23,7 @@ pub record RowFits (x : Table) (i : ℕ) (r : Row) : Type 0 where
   pub tagIn : tagFits r ≡ true
   pub parentIn : parentFits x i (r .parent) ≡ true
 
-pub rowsFit-at : (x : Table) (i : ℕ) (rs : List Row) → rowsFit x i rs ≡ true → (k : ℕ) → k < length rs → RowFits x (i + k) (getD rs k noRow)
+rowsFit-at : (x : Table) (i : ℕ) (rs : List Row) → rowsFit x i rs ≡ true → (k : ℕ) → k < length rs → RowFits x (i + k) (getD rs k noRow)
 unfolding rowsFit
 rowsFit-at x i [] h k l = absurd (not-suc-le-zero l)
 rowsFit-at x i (r ∷ rs) h zero l =
@@ -34,7 +34,7 @@ rowsFit-at x i (r ∷ rs) h (suc k) l =
     subst (λ (m : ℕ). RowFits x m (getD rs k noRow)) (omega arith)
     (rowsFit-at x (suc i) rs (and-right (tagFits r && parentFits x i (r .parent)) _ h) k (omega arith))
 
-pub rowsFit-by : (x : Table) (i : ℕ) (rs : List Row) → ((k : ℕ) → k < length rs → RowFits x (i + k) (getD rs k noRow)) →
+rowsFit-by : (x : Table) (i : ℕ) (rs : List Row) → ((k : ℕ) → k < length rs → RowFits x (i + k) (getD rs k noRow)) →
     rowsFit x i rs ≡ true
 unfolding rowsFit
 rowsFit-by x i [] h = refl
@@ -51,7 +51,7 @@ isThe-at i (some p) h = ap {B = Option ℕ} some (eqb-true p i h)
 pub isThe-by : (i : ℕ) (m : Option ℕ) → m ≡ some i → isThe i m ≡ true
 isThe-by i m e = rw e (eq-eqb i i refl)
 
-pub getD-some : (ms : List (Option ℕ)) (d i : ℕ) → getD ms d none ≡ some i → d < length ms
+getD-some : (ms : List (Option ℕ)) (d i : ℕ) → getD ms d none ≡ some i → d < length ms
 getD-some [] d i e = absurd (Option·none-ne-some i e)
 getD-some (m ∷ ms) zero i e = omega arith
 getD-some (m ∷ ms) (suc d) i e = omega (arith, getD-some ms d i e)
@@ -74,7 +74,7 @@ any-by i (m ∷ ms) (suc d) e = or-right (isThe i m) _ (any-by i ms d e)
 twice-never : (ms : List (Option ℕ)) (i j d : ℕ) → not (any (isThe j) ms) ≡ true → some j ≡ some i → getD ms d none ≡ some i → ⊥
 twice-never ms i j d h p q = true-false _ (any-by j ms d (cc)) (not-true _ h)
 
-pub noneTwice-at : (ms : List (Option ℕ)) → noneTwice ms ≡ true → (d e i : ℕ) → getD ms d none ≡ some i → getD ms e none ≡ some i → d ≡ e
+noneTwice-at : (ms : List (Option ℕ)) → noneTwice ms ≡ true → (d e i : ℕ) → getD ms d none ≡ some i → getD ms e none ≡ some i → d ≡ e
 unfolding noneTwice
 noneTwice-at [] h d e i p q = absurd (Option·none-ne-some i p)
 noneTwice-at (none ∷ ms) h zero e i p q = absurd (Option·none-ne-some i p)
@@ -86,7 +86,7 @@ noneTwice-at (some j ∷ ms) h (suc d) zero i p q = absurd (twice-never ms i j d
 noneTwice-at (some j ∷ ms) h (suc d) (suc e) i p q =
     ap suc (noneTwice-at ms (and-right (not (any (isThe j) ms)) _ h) d e i p q)
 
-pub noneTwice-by : (ms : List (Option ℕ)) → ((d e i : ℕ) → getD ms d none ≡ some i → getD ms e none ≡ some i → d ≡ e) → noneTwice ms ≡ true
+noneTwice-by : (ms : List (Option ℕ)) → ((d e i : ℕ) → getD ms d none ≡ some i → getD ms e none ≡ some i → d ≡ e) → noneTwice ms ≡ true
 unfolding noneTwice
 noneTwice-by [] h = refl
 noneTwice-by (none ∷ ms) h = noneTwice-by ms (λ d e i p q. omega (arith, h (suc d) (suc e) i p q))
@@ -105,7 +105,7 @@ pub isElement-by : (x : Table) (i : ℕ) → i < count x → rowAt x i .isLeaf �
 isElement-by x i l e = and-both _ _ (lt-ltb _ _ l) (rw e)
 
 -- A row past the count is no row
-pub rowAt-past : (x : Table) (i : ℕ) → count x ≤ i → rowAt x i ≡ noRow
+rowAt-past : (x : Table) (i : ℕ) → count x ≤ i → rowAt x i ≡ noRow
 rowAt-past x i l = List·getD-eq-default (x .rows) noRow l
 
 pub parent-count : (x : Table) (i p : ℕ) → rowAt x i .parent ≡ some p → i < count x

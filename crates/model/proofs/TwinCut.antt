@@ -29,7 +29,7 @@ use Rattle.model.proofs.TwinLaws.{label-side, label-across, Alike, row-
 use Rattle.model.proofs.SimLaws.{sim-gives}
 
 -- CHANGED: a row on p is changed with all below it where p and what is below p are modified; rows below it where the latter is
-pub changed-at : (c : Script) (l : Label) (p : Path) → OnPath (c .marks) p l → c .modified p → c .modified (p ▸ anyBelow) → Changed c l
+changed-at : (c : Script) (l : Label) (p : Path) → OnPath (c .marks) p l → c .modified p → c .modified (p ▸ anyBelow) → Changed c l
 changed-at c l p o a b w same = (p, a, o)
 changed-at c l p o a b w (more {a = d} g) = (p ▸ anyBelow, b, deep o g refl (any-admits d))
 

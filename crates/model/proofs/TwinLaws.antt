@@ -72,7 +72,7 @@ module _ (W : World) where
   pub ones-length : (news : List Label) → length (ones W news) ≡ W .n + length news
   ones-length news = omega (arith, length-append (W .one .labels) news, W .oneFits .fit .size, W .oneCount)
 
-  pub twos-length : (news : List Label) → length (twos W news) ≡ W .n + W .m + length news
+  twos-length : (news : List Label) → length (twos W news) ≡ W .n + W .m + length news
   twos-length news = omega (arith, length-append (W .two .labels) news, W .twoFits .fit .size, W .twoCount)
 
   -- labels of rows that are not hidden

@@ -114,7 +114,7 @@ undo-last x y rs r f h =
     ap (λ (ps : List Placed). undoAll x (backwards ps [])) (w .1) ∙
     ap (undoAll x) (backwards-snoc (placed 0 rs) [] (record { at = w .0; entry = r })) ∙ rw f h
 
-pub ran-undone : (x : Table) → Well x → {s : State} → Ran x s → undoAll (s .plan) (backwards (placed 0 (s .history)) []) ≡ back x
+ran-undone : (x : Table) → Well x → {s : State} → Ran x s → undoAll (s .plan) (backwards (placed 0 (s .history)) []) ≡ back x
 unfolding undoAll placed backwards
 ran-undone x w begun = refl
 ran-undone x w (rowMade s r q c f g) =
@@ -147,7 +147,7 @@ made-inRange x r l f g = record {
     name true h e = absurd (omega arith)
     name false h e = h
 
-pub ran-inRange : (x : Table) → Well x → {s : State} → Ran x s → AllInRange (s .history)
+ran-inRange : (x : Table) → Well x → {s : State} → Ran x s → AllInRange (s .history)
 ran-inRange x w begun = nothing
 ran-inRange x w (rowMade s r q c f g) = all-snoc (ran-inRange x w q) (made-inRange (s .plan) r c f g)
 ran-inRange x w (linkCut s i p q e) = all-snoc (ran-inRange x w q) cut

@@ -67,7 +67,7 @@ elements-end [] e = refl
 elements-end (leafLetter ∷ w) e = absurd (false≢true e)
 elements-end (named n ∷ w) e = refl
 
-pub elements-tail : (a : Letter) (w : Word) → areElements (a ∷ w) ≡ true → areElements w ≡ true
+elements-tail : (a : Letter) (w : Word) → areElements (a ∷ w) ≡ true → areElements w ≡ true
 unfolding areElements
 elements-tail leafLetter w e = absurd (false≢true e)
 elements-tail (named n) w e = e

@@ -44,7 +44,7 @@ module _ (x : Evaluated) (top at : ℕ) where
   limited-many h = pick-true (ltb 512 (x .end - top)) over x (lt-ltb 512 (x .end - top) h)
 
 -- ONE ITEM written, or none
-pub appended-one : (w : List ℕ) (top a : ℕ) → top < length w → Appended (a ∷ []) w top (set w top a) (top + 1)
+appended-one : (w : List ℕ) (top a : ℕ) → top < length w → Appended (a ∷ []) w top (set w top a) (top + 1)
 appended-one w top a l = appended-if true a [] w w top top l (appended-none w top)
 
 module _ (w : List ℕ) (top : ℕ) where

@@ -23,7 +23,7 @@ take-drop zero k w = ap (λ (j : ℕ). take j w) (sym (zero-add k))
 take-drop (suc i) k [] = take-nil k ∙ sym (ap (drop (suc i)) (take-nil (suc i + k)))
 take-drop (suc i) k (x ∷ xs) = take-drop i k xs ∙ sym (ap (λ (j : ℕ). drop (suc i) (take j (x ∷ xs))) (suc-add i k))
 
-pub value-front : (w : List ℕ) (i j : ℕ) → i ≤ j → valueAt w i j ≡ drop i (take j w)
+value-front : (w : List ℕ) (i j : ℕ) → i ≤ j → valueAt w i j ≡ drop i (take j w)
 value-front w i j l =
     let e : i + (j - i) ≡ j = omega arith in
     take-drop i (j - i) w ∙ ap (λ (k : ℕ). drop i (take k w)) e

@@ -166,7 +166,7 @@ module _ (x : model.Table) (i : ℕ) (s : List ℕ) where
     pub record-mark-short : length s < 4 → recordFault x i s ≡ fault 2 i
     record-mark-short h = rw (mark, lt-leb 4 (length s) h)
 
-    pub record-mark : 4 ≤ length s → recordFault x i s ≡ markFault x i s
+    record-mark : 4 ≤ length s → recordFault x i s ≡ markFault x i s
     record-mark h = rw (mark, le-leb 4 (length s) h)
 
   module _ (low : 17 ≤ getD s 0 0) (high : getD s 0 0 ≤ 18) where
@@ -184,7 +184,7 @@ module _ (x : model.Table) (i : ℕ) (s : List ℕ) where
       record-row-short h =
           rw (le-leb 17 (getD s 0 0) low, within-kinds, no-mark, lt-ltb (model.count x) 512 room, lt-leb 4 (length s) h)
 
-      pub record-row : 4 ≤ length s → recordFault x i s ≡ rowFault x i s
+      record-row : 4 ≤ length s → recordFault x i s ≡ rowFault x i s
       record-row h =
           rw (le-leb 17 (getD s 0 0) low, within-kinds, no-mark, lt-ltb (model.count x) 512 room, le-leb 4 (length s) h)
 
@@ -214,7 +214,7 @@ last-set (m ∷ ms) from (suc d) i h l =
     go none e = e ∙ omega arith
     go (some j) e = rw e (let k : suc from + d + 1 ≡ 0 → ⊥ = λ q. omega arith in rw (ne-eqb (suc from + d + 1) 0 k) (omega arith))
 
-pub lastOf-set : (ms : List ℕ) (d i : ℕ) → d < length ms → lastOf ms ≤ d → lastOf (set ms d (i + 1)) ≡ d + 1
+lastOf-set : (ms : List ℕ) (d i : ℕ) → d < length ms → lastOf ms ≤ d → lastOf (set ms d (i + 1)) ≡ d + 1
 lastOf-set ms d i h l =
     ap (lastMarked 0) (map-set linked ms d (i + 1) ∙ ap (set (map linked ms) d) (linked-linkOf (some i))) ∙
     last-set (map linked ms) 0 d i (omega (arith, length-map ms linked)) (omega arith) ∙ omega arith

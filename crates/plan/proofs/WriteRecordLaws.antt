@@ -47,7 +47,7 @@ length-rowsBytes [] = refl
 length-rowsBytes (r ∷ rs) = length-append (rowBytes r) (rowsBytes rs) ∙ omega (arith, length-rowBytes r, length-rowsBytes rs)
 
 module _ (ws : List ℕ) (n i : ℕ) (within : n ≤ length ws) (h : i < n) where
-  pub length-rows : length (rowsBytes (take i (rowsOf n ws))) ≡ 4 * i
+  length-rows : length (rowsBytes (take i (rowsOf n ws))) ≡ 4 * i
   length-rows =
       let k : i ≤ length (rowsOf n ws) = omega (arith, count-decode n ws [] within) in
       length-rowsBytes (take i (rowsOf n ws)) ∙ ap (λ (j : ℕ). 4 * j) (length-take-le i (rowsOf n ws) k)

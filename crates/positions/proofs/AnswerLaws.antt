@@ -26,7 +26,7 @@ use Rattle.positions.proofs.EmitLaws.{markedFrom, marked, isAccessed, i
 use Rattle.positions.proofs.TraverseLaws.{any-traversed, Own, modified-own, accessed-own, any-documents, documents-are}
 
 -- UP TO a number
-pub anyUpTo-same : (f g : ℕ → Bool) (n : ℕ) → ((k : ℕ) → f k ≡ g k) → anyUpTo f n ≡ anyUpTo g n
+anyUpTo-same : (f g : ℕ → Bool) (n : ℕ) → ((k : ℕ) → f k ≡ g k) → anyUpTo f n ≡ anyUpTo g n
 unfolding anyUpTo
 anyUpTo-same f g zero h = refl
 anyUpTo-same f g (suc n) h = ap (λ (t : Bool). t || f n) (anyUpTo-same f g n h) ∙ ap (λ (t : Bool). anyUpTo g n || t) (h n)
@@ -142,7 +142,7 @@ module _ (o o′ : ℕ) (first : o ≡ 0 → ⊥) (second : o′ ≡ 0 → ⊥) 
       (owners-apart p a (ne-eqb (placeOf p .owner) (placeOf a .owner) (λ g. first (sym e ∙ g ∙ h)))) ∙
       any-false p e all
 
-  pub scripts-meet : (e f : Expr) → anyMeet (pathsOf o e .modified) (traversed (pathsOf o′ f)) ≡
+  scripts-meet : (e f : Expr) → anyMeet (pathsOf o e .modified) (traversed (pathsOf o′ f)) ≡
       anyMeet (documents (pathsOf o e .modified)) (documents (pathsOf o′ f .accessed))
   scripts-meet e f =
       any-same (λ (p : Path). any (meets p) (traversed (pathsOf o′ f))) (λ (p : Path). any (meets p) (documents (pathsOf o′ f .accessed)))
@@ -172,7 +172,7 @@ modified-are : (o : ℕ) → (o ≡ 0 → ⊥) → (e : Expr) → marked isModif
 unfolding markedFrom
 modified-are o own e = emitted-right o own e .modified
 
-pub paths-meet : (e f : Expr) → pathsMeet (pathsOf 1 e) (pathsOf 2 f) ≡ positionsMeet (entriesOf e) (entriesOf f)
+paths-meet : (e f : Expr) → pathsMeet (pathsOf 1 e) (pathsOf 2 f) ≡ positionsMeet (entriesOf e) (entriesOf f)
 paths-meet e f =
     ap (λ (t : Bool). t || anyMeet (pathsOf 2 f .modified) (traversed (pathsOf 1 e)))
     (scripts-meet 1 2 one two (λ q. omega arith) e f ∙ both 1 2 one two e f) ∙

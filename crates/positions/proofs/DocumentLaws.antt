@@ -57,7 +57,7 @@ step-apart s p (q ▸ t) h =
     ap (λ (c : Cell). joinCell c (upStep t (cell (p ▸ s) q))) (down-respects s .none) ∙
     ap (upStep t) (step-apart s p q h) ∙ up-respects t .none
 
-pub cell-apart : (p q : Path) → samePlace (placeOf p) (placeOf q) ≡ false → cell p q ≡ noCell
+cell-apart : (p q : Path) → samePlace (placeOf p) (placeOf q) ≡ false → cell p q ≡ noCell
 unfolding placeOf
 cell-apart (start p) q e = start-apart p q e
 cell-apart (p ▸ s) q e = step-apart s p q (λ r f. cell-apart p r (ap (samePlace (placeOf p)) f ∙ e))

@@ -17,7 +17,7 @@ use Rattle.meeting.proofs.CellLaws.{between-none, between-first, between-second
 use Rattle.meeting.proofs.CellLaws.{between-steps, join-none}
 
 -- PATHS of more positions
-pub pathsFrom-append : (ps : List (List Path)) (es fs : List Entry) → pathsFrom ps (es ++ fs) ≡ pathsFrom (pathsFrom ps es) fs
+pathsFrom-append : (ps : List (List Path)) (es fs : List Entry) → pathsFrom ps (es ++ fs) ≡ pathsFrom (pathsFrom ps es) fs
 unfolding pathsFrom
 pathsFrom-append ps [] fs = refl
 pathsFrom-append ps (x ∷ es) fs = pathsFrom-append (ps ++ (pathsAt ps (x .position) ∷ [])) es fs
@@ -25,20 +25,20 @@ pathsFrom-append ps (x ∷ es) fs = pathsFrom-append (ps ++ (pathsAt ps (x .posi
 length-snoc : {A : Type 0} (l : List A) (a : A) → length (l ++ (a ∷ [])) ≡ suc (length l)
 length-snoc l a = length-append l (a ∷ []) ∙ omega arith
 
-pub pathsFrom-length : (ps : List (List Path)) (es : List Entry) → length (pathsFrom ps es) ≡ length ps + length es
+pathsFrom-length : (ps : List (List Path)) (es : List Entry) → length (pathsFrom ps es) ≡ length ps + length es
 unfolding pathsFrom
 pathsFrom-length ps [] = omega arith
 pathsFrom-length ps (x ∷ es) =
     pathsFrom-length (ps ++ (pathsAt ps (x .position) ∷ [])) es ∙ omega (arith, length-snoc ps (pathsAt ps (x .position)))
 
-pub pathsFrom-keeps : (ps : List (List Path)) (es : List Entry) (k : ℕ) → k < length ps → getD (pathsFrom ps es) k [] ≡ getD ps k []
+pathsFrom-keeps : (ps : List (List Path)) (es : List Entry) (k : ℕ) → k < length ps → getD (pathsFrom ps es) k [] ≡ getD ps k []
 unfolding pathsFrom
 pathsFrom-keeps ps [] k h = refl
 pathsFrom-keeps ps (x ∷ es) k h =
     pathsFrom-keeps (ps ++ (pathsAt ps (x .position) ∷ [])) es k (omega (arith, length-snoc ps (pathsAt ps (x .position)))) ∙
     List·getD-append ps (pathsAt ps (x .position) ∷ []) [] k h
 
-pub pathsBy-length : (es : List Entry) → length (pathsBy es) ≡ length es
+pathsBy-length : (es : List Entry) → length (pathsBy es) ≡ length es
 pathsBy-length es = pathsFrom-length [] es ∙ omega arith
 
 pub pathsOn-keeps : (es fs : List Entry) (k : ℕ) → k < length es → pathsOn (es ++ fs) k ≡ pathsOn es k
@@ -70,7 +70,7 @@ pathsOn-split es k h =
     ap (λ (l : List Entry). pathsOn l k) (split-at es k (plain nowhere) h) ∙
     pathsOn-next (take k es) (entryAt es k) (drop (suc k) es) k (length-take-le k es (omega arith))
 
-pub pathsOn-at : (es : List Entry) → AreLower es → (k : ℕ) → k < length es → pathsOn es k ≡ pathsAt (pathsBy es) (entryAt es k .position)
+pathsOn-at : (es : List Entry) → AreLower es → (k : ℕ) → k < length es → pathsOn es k ≡ pathsAt (pathsBy es) (entryAt es k .position)
 pathsOn-at es lower k h =
     pathsOn-split es k h ∙
     pathsAt-same (entryAt es k .position) k (pathsBy (take k es)) (pathsBy es) (lower k h)

@@ -45,7 +45,7 @@ digit-top : (l x : ℕ) → l < 16777216 → x < 128 → (l + 16777216 * x) / 16
 digit-top l x g h = omega arith
 
 module _ (p : Position) (f : PositionFits p) where
-  pub fields-word : fieldsOf (wordOf p) ≡ p
+  fields-word : fieldsOf (wordOf p) ≡ p
   fields-word =
       let low4 : p .kind + 4 * p .mark < 16 = omega (arith, f .kind, f .mark) in
       let low64 : p .kind + 4 * p .mark + 16 * p .axis < 64 = omega (arith, low4, f .axis) in

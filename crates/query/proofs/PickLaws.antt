@@ -15,7 +15,7 @@ use Rattle.query.specs.Values.{valueAt, Appended, filtered, pickedRow}
 use Rattle.query.proofs.ValueLaws.{value-none, appended-none, appended-if}
 
 -- the value up to one place more
-pub value-next : (w : List ℕ) (from k : ℕ) → from ≤ k → k < length w → valueAt w from (k + 1) ≡ valueAt w from k ++ (getD w k 0 ∷ [])
+value-next : (w : List ℕ) (from k : ℕ) → from ≤ k → k < length w → valueAt w from (k + 1) ≡ valueAt w from k ++ (getD w k 0 ∷ [])
 value-next w from k l h =
     let e : k + 1 - from ≡ suc (k - from) = omega arith in
     let f : from + (k - from) ≡ k = omega arith in

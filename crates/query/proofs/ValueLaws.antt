@@ -62,7 +62,7 @@ collect-last f i (suc n) = go (f i) (collect-last f (suc i) n ∙ ap (λ (j : �
     go true e = ap (λ (l : List ℕ). i ∷ l) e
     go false e = e
 
-pub collect-next : (f : ℕ → Bool) (n : ℕ) → collect f 0 (n + 1) ≡ collect f 0 n ++ pick (f n) (n ∷ []) []
+collect-next : (f : ℕ → Bool) (n : ℕ) → collect f 0 (n + 1) ≡ collect f 0 n ++ pick (f n) (n ∷ []) []
 collect-next f n =
     ap (collect f 0) (add-one n) ∙ collect-last f 0 n ∙ ap (λ (j : ℕ). collect f 0 n ++ pick (f j) (j ∷ []) []) (zero-add n)
 
@@ -114,7 +114,7 @@ pub collected-none : (w : List ℕ) (from : ℕ) (f : ℕ → Bool) → Appended
 unfolding collect
 collected-none w from f = appended-none w from
 
-pub collected-next : (f : ℕ → Bool) (n : ℕ) (w w′ : List ℕ) (from r : ℕ) → r < length w′ → Appended (collect f 0 n) w from w′ r →
+collected-next : (f : ℕ → Bool) (n : ℕ) (w w′ : List ℕ) (from r : ℕ) → r < length w′ → Appended (collect f 0 n) w from w′ r →
     Appended (collect f 0 (n + 1)) w from (pick (f n) (set w′ r n) w′) (pick (f n) (r + 1) r)
 collected-next f n w w′ from r h s =
     subst (λ (v : List ℕ). Appended v w from (pick (f n) (set w′ r n) w′) (pick (f n) (r + 1) r)) (sym (collect-next f n))

@@ -61,7 +61,7 @@ module _ (b : List ℕ) (p at : ℕ) (pending : 0 < p) (here : at < length b) wh
         ap (span (p - 1 + arity (getD b at 0)) 0) (drop-drop (bodySize (getD b at 0)) (suc at) b ∙ ap (λ (j : ℕ). drop j b) i),
       )
 
-  pub past-short : length b < at + p + (bodySize (getD b at 0) + arity (getD b at 0)) → past p b at ≡ length b
+  past-short : length b < at + p + (bodySize (getD b at 0) + arity (getD b at 0)) → past p b at ≡ length b
   past-short h =
       let l : length (drop (suc at) b) < p - 1 + arity (getD b at 0) + bodySize (getD b at 0) = omega (arith, length-drop (suc at) b) in
       omega (

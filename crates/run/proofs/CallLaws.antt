@@ -91,7 +91,7 @@ module _ (t : Table) (b : List ℕ) (a h w : ℕ) (n i : ℕ) (some : n ≡ 0 �
       w 0)
   leaves = ap (ranBy (decode t) a h w) is
 
-  pub refused-result : refusedResult n i t ≡ resultOf t (ranBy (decode t) a h w (outcomeOf t b))
+  refused-result : refusedResult n i t ≡ resultOf t (ranBy (decode t) a h w (outcomeOf t b))
   refused-result =
       ap (λ (u : Table). record {
         fault = record { number = n; place = i };
@@ -101,10 +101,10 @@ module _ (t : Table) (b : List ℕ) (a h w : ℕ) (n i : ℕ) (some : n ≡ 0 �
         tally = record { made = 0; cut = 0; records = 0 };
       }) (sym (pick-false (eqb n 0) (encode (decode t)) t (ne-eqb n 0 some))) ∙ ap (resultOf t) (sym leaves)
 
-  pub refused-answer : replicate a 0 ≡ ranBy (decode t) a h w (outcomeOf t b) .answer
+  refused-answer : replicate a 0 ≡ ranBy (decode t) a h w (outcomeOf t b) .answer
   refused-answer = ap (λ (r : Ran). r .answer) (sym leaves)
 
-  pub refused-history : replicate h 0 ≡ ranBy (decode t) a h w (outcomeOf t b) .history
+  refused-history : replicate h 0 ≡ ranBy (decode t) a h w (outcomeOf t b) .history
   refused-history = ap (λ (r : Ran). r .history) (sym leaves)
 
   -- in areas cleared before
@@ -329,7 +329,7 @@ areas-fit a h w la lh lw =
     and-both _ _ (and-both _ _ (le-leb 512 (length a) la) (le-leb 12288 (length h) lh)) (le-leb 32768 (length w) lw)
 
 module _ (t : Table) (b a h w : List ℕ) where
-  pub short-leaves : areasFit a h w ≡ false → ran t b a h w ≡ refusedRun refusal.lentShort (decode t) a h w
+  short-leaves : areasFit a h w ≡ false → ran t b a h w ≡ refusedRun refusal.lentShort (decode t) a h w
   short-leaves e = pick-false (areasFit a h w) _ _ e
 
   pub short-result : areasFit a h w ≡ false → {r : RunResult} → r ≡ refusedResult 11 0 t →

@@ -24,7 +24,7 @@ module _ {b : List ℕ} {at left v : ℕ} (a : Accepted b at left v) where
   pub accepted-record : RecordFits b at left v
   accepted-record = accepted-fits b at left (a .records) v (a .read)
 
-  pub accepted-past : (p : ℕ) → past (suc p) b at ≡ past p b (endAt b at)
+  accepted-past : (p : ℕ) → past (suc p) b at ≡ past p b (endAt b at)
   accepted-past p = reading .ends p ∙ ap (past p b) (reads-end reading)
 
   level : left ≡ suc (left - 1)

@@ -120,7 +120,7 @@ module _ {b : List ℕ} {i left n v : ℕ} {r : End} (f : FirstRead b i left n v
       }
 
   module _ (z : r .number ≡ 0) where
-    pub first-ended : Ended (parseAt b (firstAt b i) (left - 1) (n + 1) v) r
+    first-ended : Ended (parseAt b (firstAt b i) (left - 1) (n + 1) v) r
     first-ended =
         ended (parseAt b (firstAt b i) (left - 1) (n + 1) v) r
         (parse-sound (suc (suc (left - 1))) (17 - (left - 1)) (firstAt b i) (n + 1) v (drop (firstAt b i) b)) (f .read) z

@@ -114,7 +114,7 @@ parse-operands b i k n v shallow e =
     operands-by k b i (firstAt b i) (n + 1) v (drop (firstAt b i) b) (f .low) (f .high)
 
 -- ACCEPTED: the record passed its tests, and what was read first was accepted
-pub ill-parsed : {f : Fault} {e : Expr} {j m : ℕ} {c : List ℕ} → ill f ≡ parsed e j m c → ⊥
+ill-parsed : {f : Fault} {e : Expr} {j m : ℕ} {c : List ℕ} → ill f ≡ parsed e j m c → ⊥
 ill-parsed h = let z : _≡_ {A = ℕ} 0 1 = cc in omega arith
 
 pub parsed-fine : (k d i n v : ℕ) (s : List ℕ) {e : Expr} {j m : ℕ} {c : List ℕ} → parseFrom (suc k) d i n v s ≡ parsed e j m c →

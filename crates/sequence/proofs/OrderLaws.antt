@@ -9,6 +9,7 @@ use Rattle.model.specs.Base.{pick}
 use Rattle.model.specs.Refusal.{isFine, lentShort}
 use Rattle.model.specs.Run.{Out, stop, gives}
 use Rattle.model.specs.Call.{Ran, ranBy, refusedRun}
+use Rattle.model.proofs.BoolLaws.{pick-eq, pick-ne}
 use Rattle.table.specs.Words.{encode, decode}
 use Rattle.table.specs.declared.Table.{Table}
 use Rattle.run.specs.Calls.{outcomeOf, ran, runResult}

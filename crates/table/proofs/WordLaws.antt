@@ -117,7 +117,7 @@ take-map f (suc n) (x ∷ l) = ap (λ (t : List _). f x ∷ t) (take-map f n l)
 pub rows-take : (i n : ℕ) (ws : List ℕ) → i ≤ n → take i (rowsOf n ws) ≡ rowsOf i ws
 rows-take i n ws l = take-map rowOf i (take n ws) ∙ ap (map rowOf) (take-take i n ws l)
 
-pub rows-next : (i : ℕ) (ws : List ℕ) → i < length ws → rowsOf (i + 1) ws ≡ rowsOf i ws ++ (rowOf (getD ws i 0) ∷ [])
+rows-next : (i : ℕ) (ws : List ℕ) → i < length ws → rowsOf (i + 1) ws ≡ rowsOf i ws ++ (rowOf (getD ws i 0) ∷ [])
 rows-next i ws h = rw (add-one, take-suc ws i 0) (map-append rowOf (take i ws) (getD ws i 0 ∷ []))
 
 pub take-next : (i n : ℕ) (ws : List ℕ) → n ≤ length ws → i < n →

@@ -182,7 +182,7 @@ module _ {b m : List ℕ} {at n : ℕ} (c : Forming b m at n) where
       whole-here : historySize (getD (drop at b) 0 0) ≤ length (drop at b)
       whole-here = subst (λ (d : List ℕ). historySize (getD d 0 0) ≤ length d) (drop-all b at) (post .whole z)
 
-      pub forming-room : at + step ≤ length b
+      forming-room : at + step ≤ length b
       forming-room =
           let e : historySize (getD (drop at b) 0 0) ≡ step = ap historySize (drop-first b at) in
           omega (arith, whole-here, length-drop at b)

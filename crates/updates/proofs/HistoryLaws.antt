@@ -69,7 +69,7 @@ recordsFrom-bytes (suc k) (r ∷ rs) (also f a) h =
     recordsFrom-step k r (historyBytes rs) f ∙
     ap (λ (qs : List Record). r ∷ qs) (recordsFrom-bytes k rs a (omega (arith, length-append (recordBytes r) (historyBytes rs))))
 
-pub recordsIn-bytes : (rs : List Record) → AllInRange rs → recordsIn (historyBytes rs) ≡ rs
+recordsIn-bytes : (rs : List Record) → AllInRange rs → recordsIn (historyBytes rs) ≡ rs
 recordsIn-bytes rs a = recordsFrom-bytes (length (historyBytes rs)) rs a (omega arith)
 
 historyBytes-snoc : (rs : List Record) (r : Record) → historyBytes (rs ++ (r ∷ [])) ≡ historyBytes rs ++ recordBytes r

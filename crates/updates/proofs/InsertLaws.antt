@@ -29,7 +29,7 @@ use Rattle.updates.proofs.UpdateLaws.{newRow-full, newRow-over, newRow-
 use Rattle.updates.proofs.InsertLawsScan.{linked-at}
 
 -- STATES after a new row
-pub then-state : (o : Out) (u : State) → gives [] u ≡ thenRow o (λ (t : State). gives [] t) → (v : List ℕ) × (o ≡ gives v u)
+then-state : (o : Out) (u : State) → gives [] u ≡ thenRow o (λ (t : State). gives [] t) → (v : List ℕ) × (o ≡ gives v u)
 then-state (stop x) u e = absurd (let z : _≡_ {A = ℕ} 0 1 = cc in omega arith)
 then-state (gives v s) u e = (v, (cc))
 

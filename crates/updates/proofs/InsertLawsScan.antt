@@ -21,7 +21,7 @@ use Rattle.model.proofs.Below.{Below, under, further, below-is}
 use Rattle.table.specs.Words.{linked}
 use Rattle.updates.specs.Inserting.{copiedIn, copyLink, copyBy}
 
-pub thenRow-gives : (o : Out) (f : State → Out) → thenRow (thenRow o (λ (u : State). gives [] u)) f ≡ thenRow o f
+thenRow-gives : (o : Out) (f : State → Out) → thenRow (thenRow o (λ (u : State). gives [] u)) f ≡ thenRow o f
 thenRow-gives (stop x) f = refl
 thenRow-gives (gives v s) f = refl
 
@@ -74,7 +74,7 @@ module _ (x : model.Table) (lower : (i p : ℕ) → model.rowAt x i .parent ≡ 
       descendants-low (t + 1) (n - (t + 1)) 0 n (omega arith) (omega arith) ∙ ap (λ (j : ℕ). descendantsFrom x t j (n - (t + 1))) f
 
 -- THE ROWS COPIED, read off the map
-pub copiedIn-set : (m : List ℕ) (t n j v : ℕ) → t + n ≤ j → copiedIn (set m j v) t n ≡ copiedIn m t n
+copiedIn-set : (m : List ℕ) (t n j v : ℕ) → t + n ≤ j → copiedIn (set m j v) t n ≡ copiedIn m t n
 unfolding copiedIn
 copiedIn-set m t zero j v h = refl
 copiedIn-set m t (suc n) j v h =
@@ -117,7 +117,7 @@ pub record Linked (m : List ℕ) (t l : ℕ) : Type 0 where
   pub copied : getD m (l - 1) 0 ≡ 65535 → ⊥
   pub is : copyLink m t l ≡ getD m (l - 1) 0 + 1
 
-pub link-cases : {P : Type 0} (m : List ℕ) (t l : ℕ) →
+link-cases : {P : Type 0} (m : List ℕ) (t l : ℕ) →
     (l ≡ 0 → P) → ((l ≡ 0 → ⊥) → l - 1 < t → P) → ((l ≡ 0 → ⊥) → t ≤ l - 1 → getD m (l - 1) 0 ≡ 65535 → P) → (Linked m t l → P) → P
 link-cases m t l a b c d =
     by-cases (eqb l 0) (λ e. a (eqb-true l 0 e))
@@ -143,7 +143,7 @@ module _ (x : model.Table) (lower : (i p : ℕ) → model.rowAt x i .parent ≡ 
   parent-some : (l ≡ 0 → ⊥) → model.rowAt x j .parent ≡ some (l - 1)
   parent-some f = here ∙ rw (ne-eqb l 0 f)
 
-  pub below-link : isBelow x t j ≡ not (eqb (copyLink m t l) 0)
+  below-link : isBelow x t j ≡ not (eqb (copyLink m t l) 0)
   below-link =
       link-cases m t l (λ e. below-root x lower t j (here ∙ rw e) ∙ sym (ap (λ (n : ℕ). not (eqb n 0)) (link-none m t l e)))
       (λ f h.

@@ -26,7 +26,7 @@ use Rattle.updates.proofs.HistoryLaws.{recordsIn-push, take-over, drop-
 -- A RECORD APPENDED to what is held
 module _ {ws h : List ℕ} {p : Progress} (held : Held ws h p) (r : Record) (n : ℕ) (size : length (recordBytes r) ≡ n) (small : n ≤ 6)
     (m : p .made + p .cut < 2048) where
-  pub append-room : p .bytes + n ≤ length h
+  append-room : p .bytes + n ≤ length h
   append-room = omega (arith, held .size, held .area)
 
   room : p .bytes + length (recordBytes r) ≤ length h

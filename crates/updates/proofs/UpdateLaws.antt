@@ -174,11 +174,11 @@ module _ (z i : ℕ) (is : List ℕ) (s : State) where
   cut-none e = rw e
 
   module _ (q : ℕ) (e : model.rowAt (s .plan) i .parent ≡ some q) where
-    pub cut-over : 2048 ≤ length (s .history) → cutAll z (i ∷ is) s ≡ stop (fault 9 z)
+    cut-over : 2048 ≤ length (s .history) → cutAll z (i ∷ is) s ≡ stop (fault 9 z)
     unfolding cutAll
     cut-over h = rw (e, le-ltb (length (s .history)) 2048 h)
 
-    pub cut-room : length (s .history) < 2048 → cutAll z (i ∷ is) s ≡ cutAll z is (cutRow s i q)
+    cut-room : length (s .history) < 2048 → cutAll z (i ∷ is) s ≡ cutAll z is (cutRow s i q)
     unfolding cutAll
     cut-room h = rw (e, lt-ltb (length (s .history)) 2048 h)
 
