@@ -31,7 +31,7 @@ pub fn of_run(random: &mut Random, areas: &mut OwnedAreas) -> Recorded {
         history: Vec::new(),
     };
     for _ in 0..TRIES {
-        let script = coherent(random);
+        let script = changing(random);
         let mut after = recorded.before.clone();
         if let Ok(ran) = run(&mut after, &script, areas.lend()) {
             recorded.after = after;
@@ -57,7 +57,7 @@ fn table(random: &mut Random) -> Table {
 }
 
 /// A script that often changes something.
-fn coherent(random: &mut Random) -> Vec<u8> {
+fn changing(random: &mut Random) -> Vec<u8> {
     match random.below(4) {
         0 => {
             let wanted = Wanted {

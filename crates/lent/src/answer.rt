@@ -1,4 +1,4 @@
-// The number that a C call answers.
+// The number that a C call answers, and the end of one that gives a table.
 ghost use mathlib.Core.Path.{_≡_};
 ghost use mathlib.Core.Bool.{true};
 ghost use Rattle.table.specs.Words.{fits};

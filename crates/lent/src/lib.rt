@@ -1,4 +1,4 @@
-// What the C calls share: the number that one answers and the areas lent to a run.
+// What the C calls share: the number that one answers, the end of one that gives a table, and the areas lent to a run.
 use table::Table;
 
 pub mod answer;

@@ -198,9 +198,6 @@ readScript-well b = go (parseFrom (maxDepth + 2) 1 0 0 0 b) (parseFrom-well (max
 pub isScript-fields : (e : Expr) → IsScript e → FieldsFit e
 isScript-fields e (b, a, (i, (n, (c, q)))) = subst (ReadsWell 0 b) q (readScript-well b) .fields a
 
-pub readScript-refuses : (b : List ℕ) (f : Fault) → readScript b ≡ ill f → isIn 1 5 (f .number) ≡ true
-readScript-refuses b f e = subst (ReadsWell 0 b) e (readScript-well b)
-
 -- A REFUSAL has a number from 1 to 5, so not 0
 pub record Sound (x : Parsed) : Type 0 where
   pub ranged : (f : Fault) → x ≡ ill f → isIn 1 5 (f .number) ≡ true

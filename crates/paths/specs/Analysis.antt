@@ -4,6 +4,7 @@ use mathlib.Core.List.{List, []}
 use Prim.Native.String.{String}
 use Prim.Native.Nat.{ℕ, _≤_, _<_}
 use lib.ListN.{length, getD}
+use Rattle.model.specs.Limits.{maxDepth}
 use Rattle.model.specs.Script.{Expr}
 use Rattle.model.specs.Meeting.{Answer, free, upward, meet, answer}
 use Rattle.model.specs.Call as model
@@ -62,7 +63,7 @@ pub record ScriptPre (b ws : List ℕ) : Type 0 where
 pub record ScriptPost (b ws′ : List ℕ) (n : ℕ) : Type 0 where
   pub size : length ws′ ≡ maxPositions
   pub few : n ≤ maxPositions
-  pub entries : entriesIn ws′ n ≡ entriesOf (exprAt 16 b 0)
+  pub entries : entriesIn ws′ n ≡ entriesOf (exprAt maxDepth b 0)
 
 -- THE ANSWER from the positions of two expressions
 pub record AnswerPre (ws : List ℕ) (n : ℕ) (us : List ℕ) (m : ℕ) (t : List ℕ) : Type 0 where

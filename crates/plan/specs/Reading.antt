@@ -4,10 +4,11 @@ use mathlib.Core.List.{List, map}
 use Prim.Native.Nat.{ℕ, _+_, _≤_, _<_}
 use lib.Dec.{eqb}
 use lib.ListN.{length, getD, set, replicate}
-use Rattle.model.specs.Limits.{maxRows}
+use Rattle.model.specs.Limits.{maxRows, documents}
 use Rattle.model.specs.Base.{pick}
 use Rattle.model.specs.Refusal.{fault, faultAt}
-use Rattle.model.specs.Stored.{elementKind, leafKind, Read, bad, got, readPlan, wordAt, rowIn, lastMarked, rowFault, markFault, recordFault, recorded}
+use Rattle.model.specs.Stored.{elementKind, leafKind, Read, bad, got, readPlan, wordAt, rowIn, lastMarked}
+use Rattle.model.specs.Stored.{rowFault, markFault, recordFault, recorded}
 use Rattle.table.specs.Words.{linkOf, linked, wordOf, decodeParts, Canonical}
 use Rattle.plan.specs.declared.read.RecordRead.{RecordRead}
 use Rattle.plan.specs.declared.read.PlanEnd.{PlanEnd}
@@ -32,19 +33,19 @@ pub record MarkPre (s ws ms : List ℕ) (n : ℕ) : Type 0 where
   pub whole : 4 ≤ length s
   pub room : n ≤ maxRows
   pub size : length ws ≡ maxRows
-  pub documents : length ms ≡ 8
+  pub documents : length ms ≡ documents
 
 pub record MarkPost (s ws ms : List ℕ) (n last : ℕ) (ms′ : List ℕ) (r : ℕ) : Type 0 where
   pub fault : (i : ℕ) → last ≡ lastOf ms → markFault (decodeParts n ws ms) i s ≡ faultAt r i
   pub marks : ms′ ≡ pick (eqb r 0) (set ms (getD s 1 0) (wordAt s 2 + 1)) ms
-  pub document : r ≡ 0 → getD s 1 0 < 8
+  pub document : r ≡ 0 → getD s 1 0 < documents
   pub order : r ≡ 0 → last ≤ getD s 1 0
 
 -- the table so far, in its words and marks: `last` is one more than the last document that marks a row
 pub record Held (ws ms : List ℕ) (n last : ℕ) : Type 0 where
   pub room : n ≤ maxRows
   pub size : length ws ≡ maxRows
-  pub documents : length ms ≡ 8
+  pub documents : length ms ≡ documents
   pub canonical : Canonical n ws
   pub latest : last ≡ lastOf ms
 
@@ -64,7 +65,7 @@ pub record RecordPost (s ws ms : List ℕ) (n : ℕ) (ws′ ms′ : List ℕ) (r
 
 pub record ReadPre (ws ms : List ℕ) : Type 0 where
   pub rows : ws ≡ replicate maxRows 0
-  pub marks : ms ≡ replicate 8 0
+  pub marks : ms ≡ replicate documents 0
 
 abbrev pub readEnd : (ws ms : List ℕ) → PlanEnd → Read
 readEnd ws ms r = pick (eqb (r .number) 0) (got (decodeParts (r .count) ws ms)) (bad (fault (r .number) (r .place)))

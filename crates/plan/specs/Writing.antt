@@ -3,7 +3,7 @@ use mathlib.Core.Path.{_≡_}
 use mathlib.Core.List.{List, map}
 use Prim.Native.Nat.{ℕ, _+_, _*_, _≤_, _<_}
 use lib.ListN.{length, getD}
-use Rattle.model.specs.Limits.{maxRows}
+use Rattle.model.specs.Limits.{maxRows, documents}
 use Rattle.model.specs.Stored.{marksBytes}
 use Rattle.table.specs.Words.{linked}
 
@@ -16,5 +16,5 @@ pub record RowsPre (ws o : List ℕ) (n : ℕ) : Type 0 where
 
 -- room for the marks from a place on
 pub record MarksPre (ms o : List ℕ) (start : ℕ) : Type 0 where
-  pub documents : length ms ≡ 8
+  pub documents : length ms ≡ documents
   pub room : start + length (marksBytes 0 (map linked ms)) ≤ length o

@@ -11,6 +11,7 @@ use Rattle.model.specs.Script.{stepBy}
 use Rattle.positions.specs.Positions as positions
 use Rattle.positions.specs.Sources.{Source, fromRoot, fromStep, anyUpTo}
 use Rattle.positions.specs.declared.packed.Position.{Position}
+use Rattle.meeting.specs.Pairs.{maxPositions}
 use Rattle.meeting.specs.declared.cells.Step.{Step}
 
 -- the step of a position
@@ -59,8 +60,8 @@ fieldsOf w =
       axis = w / 16 % 4;
       test = w / 64 % 4;
       name = w / 256 % 256;
-      first = w / 65536 % 128;
-      second = w / 16777216 % 128;
+      first = w / 65536 % maxPositions;
+      second = w / 16777216 % maxPositions;
     }
 
 -- fields that fit their bits
@@ -70,8 +71,8 @@ pub record PositionFits (p : Position) : Type 0 where
   pub axis : p .axis < 4
   pub test : p .test < 4
   pub name : p .name < 256
-  pub first : p .first < 128
-  pub second : p .second < 128
+  pub first : p .first < maxPositions
+  pub second : p .second < maxPositions
 
 -- the entry that a word is
 abbrev pub entryOf : (word : ℕ) → positions.Entry

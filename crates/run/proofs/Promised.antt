@@ -19,7 +19,7 @@ use Rattle.table.specs.declared.Table.{Table}
 use Rattle.table.proofs.FittedLaws.{well-decode}
 use Rattle.table.proofs.EncodeLaws.{decode-encode, fits-encode}
 use Rattle.run.specs.Calls.{outcomeOf, ran, resultOf, runResult}
-use Rattle.run.specs.Promise.{RunsAsCalled, RunsOn, RefusedGivesBack, RefusedLeaves, EitherEnd, RunsCommute}
+use Rattle.run.specs.Promise.{RunsAsCalled, RunsUnfit, RunsOn, RefusedGivesBack, RefusedLeaves, EitherEnd, RunsCommute}
 use Rattle.run.specs.declared.RunResult.{RunResult}
 use Rattle.run.proofs.OutcomeLaws.{Refuses, outcome-refuses}
 use Rattle.model.proofs.RunsBack.{runBy-back}
@@ -29,6 +29,11 @@ runsAsCalled t b a h w e =
     ap (λ (z : Bool). pick (areasFit a h w) (ranBy (decode t) (length a) (length h) (length w)
     (pick z (runBy (decode t) (readScript b)) (stop (refusal.linkAt 0)))) (refusedRun refusal.lentShort (decode t) a h w))
     (e ∙ sym (well-decode t e))
+
+pub runsUnfit : RunsUnfit
+runsUnfit t b a h w e =
+    ap (λ (z : Bool). pick (areasFit a h w) (ranBy (decode t) (length a) (length h) (length w)
+    (pick z (runBy (decode t) (readScript b)) (stop (refusal.linkAt 0)))) (refusedRun refusal.lentShort (decode t) a h w)) e
 
 -- THE TABLE GIVEN BACK fits and stands for the plan
 abbrev Stands : Table → (given : Table) → (plan : model.Table) → Type 0

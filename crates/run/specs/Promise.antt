@@ -9,6 +9,7 @@ use Rattle.model.specs.Meeting.{free}
 use Rattle.model.specs.Refusal.{lentShort}
 use Rattle.model.specs.Call.{Ran, answered, analyse, areasFit, runCall, callsEnd, CallsEqual}
 use Rattle.table.specs.Results.{faultOf}
+use Rattle.model.specs.Document03Entry.{unfitRun}
 use Rattle.table.specs.Words.{decode, fits}
 use Rattle.table.specs.declared.Table.{Table}
 use Rattle.run.specs.Calls.{ran, runResult}
@@ -16,6 +17,10 @@ use Rattle.run.specs.Calls.{ran, runResult}
 -- DEMAND 2: on a table that fits, what the call leaves is the model's call on the table that it stands for
 abbrev pub RunsAsCalled : Type 0
 RunsAsCalled = (t : Table) (b a h w : List ℕ) → fits t ≡ true → ran t b a h w ≡ runCall (decode t) b a h w
+
+-- a table that does not fit: 11 first, then 6 at place 0, as document 03 has it of a grid
+abbrev pub RunsUnfit : Type 0
+RunsUnfit = (t : Table) (b a h w : List ℕ) → fits t ≡ false → ran t b a h w ≡ unfitRun (decode t) a h w
 
 -- and the table given back fits and stands for the model's
 abbrev pub RunsOn : Type 0

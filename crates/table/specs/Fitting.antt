@@ -5,7 +5,7 @@ use mathlib.Core.List.{List, [], _∷_, map}
 use Prim.Native.Nat.{ℕ, zero, suc, _-_, _/_, _%_}
 use lib.Dec.{ltb, leb, eqb}
 use lib.ListN.{length, getD}
-use Rattle.model.specs.Limits.{maxRows}
+use Rattle.model.specs.Limits.{maxRows, documents}
 use Rattle.model.specs.Base.{pick, any}
 use Rattle.model.specs.Table.{isThe}
 use Rattle.table.specs.Words.{linked}
@@ -13,7 +13,7 @@ use Rattle.table.specs.Words.{linked}
 -- rows and marks as they stand in a table
 pub record Words (ws ms : List ℕ) : Type 0 where
   pub rows : length ws ≡ maxRows
-  pub marks : length ms ≡ 8
+  pub marks : length ms ≡ documents
 
 -- the word at i holds a row whose tag fits, without parent or under a lower element
 abbrev pub tagFits : (word : ℕ) → Bool

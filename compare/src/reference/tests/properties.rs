@@ -99,11 +99,11 @@ fn brute_force_agrees_with_the_analysis() {
     let mut random = Random::new(4);
     let (mut found, mut larger, mut none) = (0, 0, 0);
     for round in 0..400 {
-        // Roads need more rows; other scripts have more places.
-        let by_road = round % 2 == 0;
-        let size = if by_road { 4 } else { 3 };
+        // Chains of steps need more rows; other scripts have more places.
+        let by_chain = round % 2 == 0;
+        let size = if by_chain { 4 } else { 3 };
         let mut next = || {
-            let bytes = if by_road {
+            let bytes = if by_chain {
                 chains::script(&mut random, 2)
             } else {
                 let wanted = Wanted::small(&mut random);

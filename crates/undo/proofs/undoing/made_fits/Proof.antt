@@ -115,7 +115,8 @@ link-requires c κs = search needs
 
 number-at-requires-2 : tie.Need-number-at-requires-2
 number-at-requires-2 c κs =
-    let c16 = c .before .before .before .before .before .before .before .before .before .before .before .before .before .before .before .before in
+    let c8 = c .before .before .before .before .before .before .before .before in
+    let c16 = c8 .before .before .before .before .before .before .before .before in
     omega (
       arith,
       c16
