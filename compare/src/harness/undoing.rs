@@ -29,23 +29,23 @@ pub fn test(checker: &mut Checker, volume: Volume) -> Result<(), Difference> {
     limits(checker)?;
     let mut areas = OwnedAreas::default();
     for round in 0..volume.of(6000) {
-        let difference = match round % 2 {
+        let recorded = match round % 2 {
             0 => of_run(&mut random, &mut areas),
             _ => of_changes(&mut random),
         };
-        fits(checker, &mut random, &difference)?;
+        fits(checker, &mut random, &recorded)?;
     }
     for round in 0..volume.of(300) {
-        let difference = match round % 2 {
+        let recorded = match round % 2 {
             0 => of_run(&mut random, &mut areas),
             _ => of_changes(&mut random),
         };
-        damaged(checker, &mut random, &difference)?;
+        damaged(checker, &mut random, &recorded)?;
     }
     for _ in 0..volume.of(3) {
-        let difference = long(&mut random);
-        fits(checker, &mut random, &difference)?;
-        damaged(checker, &mut random, &difference)?;
+        let recorded = long(&mut random);
+        fits(checker, &mut random, &recorded)?;
+        damaged(checker, &mut random, &recorded)?;
     }
     for _ in 0..volume.of(200) {
         lengths(checker, &mut random, &mut areas)?;
@@ -58,44 +58,40 @@ pub fn test(checker: &mut Checker, volume: Volume) -> Result<(), Difference> {
 }
 
 /// A history on the plan it left, and then each time with one thing wrong.
-fn fits(
-    checker: &mut Checker,
-    random: &mut Random,
-    difference: &Recorded,
-) -> Result<(), Difference> {
-    let (before, after) = (to_vec(&difference.before), to_vec(&difference.after));
-    checker.taken_back(&before, &after, &difference.history)?;
-    checker.undo(&before, &difference.history)?;
+fn fits(checker: &mut Checker, random: &mut Random, recorded: &Recorded) -> Result<(), Difference> {
+    let (before, after) = (to_vec(&recorded.before), to_vec(&recorded.after));
+    checker.taken_back(&before, &after, &recorded.history)?;
+    checker.undo(&before, &recorded.history)?;
     let other = to_vec(&plans::any_table(random));
-    checker.undo(&other, &difference.history)?;
-    checker.undo(&after, &damage::appended(&difference.history, random))?;
-    let several = damage::several(&difference.history, random);
+    checker.undo(&other, &recorded.history)?;
+    checker.undo(&after, &damage::appended(&recorded.history, random))?;
+    let several = damage::several(&recorded.history, random);
     checker.undo(&after, &several)?;
     let broken = damage::several(&after, random);
-    checker.undo(&broken, &difference.history)?;
+    checker.undo(&broken, &recorded.history)?;
     checker.undo(&broken, &several)?;
-    checker.undo(&after, &difference.history.repeat(2))?;
+    checker.undo(&after, &recorded.history.repeat(2))?;
     checker.undo(&after, &other)?;
-    checker.undo(&difference.history, &after)?;
+    checker.undo(&recorded.history, &after)?;
 
-    let mut more = difference.after.clone();
+    let mut more = recorded.after.clone();
     more.rows.push(Row::element(1, None));
-    checker.undo(&to_vec(&more), &difference.history)?;
-    wrong_marks(checker, random, difference)?;
-    wrong_cuts(checker, random, difference)
+    checker.undo(&to_vec(&more), &recorded.history)?;
+    wrong_marks(checker, random, recorded)?;
+    wrong_cuts(checker, random, recorded)
 }
 
 /// A document marks a row of the plan that was made or cut, or any other.
 fn wrong_marks(
     checker: &mut Checker,
     random: &mut Random,
-    difference: &Recorded,
+    recorded: &Recorded,
 ) -> Result<(), Difference> {
-    let mut marked = difference.after.clone();
+    let mut marked = recorded.after.clone();
     let rows = marked.rows.len();
-    let (old, document) = (difference.before.rows.len(), random.below(DOCUMENTS));
+    let (old, document) = (recorded.before.rows.len(), random.below(DOCUMENTS));
     let free = (0..rows as u16).filter(|&number| {
-        let cut = difference
+        let cut = recorded
             .before
             .row(number)
             .is_some_and(|row| row.parent().is_some());
@@ -104,7 +100,7 @@ fn wrong_marks(
     let free: Vec<u16> = free.collect();
     if !free.is_empty() {
         marked.marks[document] = Some(random.choose(&free));
-        checker.undo(&to_vec(&marked), &difference.history)?;
+        checker.undo(&to_vec(&marked), &recorded.history)?;
     }
     Ok(())
 }
@@ -114,10 +110,10 @@ fn wrong_marks(
 fn wrong_cuts(
     checker: &mut Checker,
     random: &mut Random,
-    difference: &Recorded,
+    recorded: &Recorded,
 ) -> Result<(), Difference> {
-    let after = to_vec(&difference.after);
-    let rows = difference.after.rows.len();
+    let after = to_vec(&recorded.after);
+    let rows = recorded.after.rows.len();
     let number = random.below(rows + 2) as u16;
     let others = [
         NO_PARENT,
@@ -138,12 +134,12 @@ fn wrong_cuts(
                 old: Some(old),
             },
         );
-        checker.undo(&after, &[&difference.history[..], &cut].concat())?;
-        checker.undo(&after, &[&cut[..], &difference.history].concat())?;
+        checker.undo(&after, &[&recorded.history[..], &cut].concat())?;
+        checker.undo(&after, &[&cut[..], &recorded.history].concat())?;
     }
     // The old parents of the history's own cuts.
-    if let Some(start) = some_cut(random, &difference.history) {
-        let mut changed = difference.history.clone();
+    if let Some(start) = some_cut(random, &recorded.history) {
+        let mut changed = recorded.history.clone();
         for old in others {
             changed[start + 3..start + CUT_BYTES].copy_from_slice(&old.to_le_bytes());
             checker.undo(&after, &changed)?;
@@ -168,15 +164,15 @@ fn some_cut(random: &mut Random, history: &[u8]) -> Option<usize> {
 fn damaged(
     checker: &mut Checker,
     random: &mut Random,
-    difference: &Recorded,
+    recorded: &Recorded,
 ) -> Result<(), Difference> {
-    let after = to_vec(&difference.after);
+    let after = to_vec(&recorded.after);
     let values = |length: usize| match length {
         0..=SMALL => Values::All,
         0..=MIDDLE => Values::Likely,
         _ => Values::Few,
     };
-    let history = &difference.history;
+    let history = &recorded.history;
     let mut check = |plan: &[u8], history: &[u8]| checker.undo(plan, history).map(|_| ());
     damage::each_byte(history, values(history.len()), random, |damaged| {
         check(&after, damaged)
@@ -197,11 +193,11 @@ fn lengths(
     random: &mut Random,
     areas: &mut OwnedAreas,
 ) -> Result<(), Difference> {
-    let difference = of_run(random, areas);
-    let after = to_vec(&difference.after);
+    let recorded = of_run(random, areas);
+    let after = to_vec(&recorded.after);
     let broken = damage::several(&after, random);
-    let misfit = damage::several(&difference.history, random);
-    let stored = to_vec(&difference.before).len();
+    let misfit = damage::several(&recorded.history, random);
+    let stored = to_vec(&recorded.before).len();
     for length in [
         0,
         1,
@@ -214,9 +210,9 @@ fn lengths(
         PLAN_BYTES + 1,
         2 * PLAN_BYTES,
     ] {
-        checker.undo_in(&after, &difference.history, length)?;
+        checker.undo_in(&after, &recorded.history, length)?;
         checker.undo_in(&after, &misfit, length)?;
-        checker.undo_in(&broken, &difference.history, length)?;
+        checker.undo_in(&broken, &recorded.history, length)?;
         checker.undo_in(&broken, &misfit, length)?;
     }
     Ok(())

@@ -3,12 +3,10 @@ use mathlib.Core.Path.{_≡_, refl, ap, sym, _∙_, subst}
 use mathlib.Core.List.{List}
 use Prim.Native.Nat.{ℕ, _+_, _-_, _<_}
 use native.Mathlib.Omega.{arith}
-use lib.Dec.{eqb}
 use lib.ListN.{getD}
-use borrow.Author.Tests.{eqb-true, eqb-false}
 use Rattle.model.specs.Script.{Expr, nil, document, var, step, both, letIn, forIn, element, leaf, delete, insert, choose, stepBy}
 use Rattle.model.specs.Script.{recordsOf}
-use Rattle.model.proofs.BoolLaws.{by-cases}
+use Rattle.model.proofs.BoolLaws.{eq-cases}
 use Rattle.records.specs.Walk.{withBound, arity, inner, endAt, firstAt, secondAt, thirdAt, exprAt}
 use Rattle.script.specs.Accepted.{Accepted, RecordFits, Nullary, Unary, Binary}
 use Rattle.records.proofs.KindLaws.{nullary-kind, unary-kind, binary-kind, two-left}
@@ -149,7 +147,7 @@ module _ (b : List ℕ) (at left v : ℕ) (a : Accepted b at left v) where
 
   pub three-operands : 2 < arity (getD b at 0) → Three
   three-operands z =
-      by-cases (eqb (getD b at 0) 8) (λ e. three-of (eqb-true (getD b at 0) 8 e))
+      eq-cases (getD b at 0) 8 three-of
       (λ e. absurd
       (omega
-      (arith, two-left (getD b at 0) (fits .low) (fits .high) (λ q. omega arith) (λ q. omega arith) (eqb-false (getD b at 0) 8 e))))
+      (arith, two-left (getD b at 0) (fits .low) (fits .high) (λ q. omega arith) (λ q. omega arith) e)))

@@ -4,12 +4,11 @@ use mathlib.Core.Bool.{true, false}
 use mathlib.Core.List.{List}
 use Prim.Native.Nat.{ℕ, _+_, _<_}
 use native.Mathlib.Omega.{arith}
-use lib.Dec.{eqb}
 use lib.ListN.{getD, set, length-set}
 use lib.Seq.{getD-set-same, getD-set-other}
-use borrow.Author.Tests.{ne-eqb, eqb-true, eqb-false}
+use borrow.Author.Tests.{ne-eqb}
 use Rattle.model.specs.Script as model
-use Rattle.model.proofs.BoolLaws.{by-cases}
+use Rattle.model.proofs.BoolLaws.{eq-cases}
 use Rattle.records.proofs.BindLaws.{withBound-set, withBound-same}
 use Rattle.records.specs.Walk.{inner}
 use Rattle.positions.specs.Positions.{accessing, root}
@@ -109,8 +108,8 @@ module _ (k : ℕ) (env : List ℕ) (v r : ℕ) (pre : BindPre k env v r) where
       record {
         size = length-set env v r ∙ pre .size;
         is = withBound-set k env v r t (omega (arith, pre .size, pre .scope t));
-        low = λ n h g u l. by-cases (eqb u v)
-            (λ q. here n h u (eqb-true u v q)) (λ q. other n g u (eqb-false u v q) (rw t at l));
+        low = λ n h g u l. eq-cases u v
+            (λ q. here n h u q) (λ q. other n g u q (rw t at l));
       }
     where
       here : (n : ℕ) → r < n → (u : ℕ) → u ≡ v → getD (set env v r) u 0 < n

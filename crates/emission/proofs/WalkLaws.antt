@@ -7,10 +7,10 @@ use native.Mathlib.Omega.{arith}
 use lib.Dec.{ltb, eqb}
 use lib.ListN.{getD, take}
 use lib.Seq.{getD-take}
-use borrow.Author.Tests.{eqb-true, eqb-false, ltb-true}
+use borrow.Author.Tests.{eqb-true, ltb-true}
 use Rattle.model.specs.Base.{pick, isIn}
 use Rattle.model.specs.Script.{testFits, varKind, isBinder, recordsOf}
-use Rattle.model.proofs.BoolLaws.{by-cases, and-left}
+use Rattle.model.proofs.BoolLaws.{by-cases, and-left, eq-cases}
 use Rattle.records.specs.Walk.{withBound, arity, inner, firstAt, secondAt, thirdAt, exprAt}
 use Rattle.script.specs.Accepted.{Accepted, RecordFits}
 use Rattle.script.proofs.AcceptedLaws.{accepted-record}
@@ -76,9 +76,9 @@ module _ {b : List ℕ} {at left v : ℕ} {env ws : List ℕ} {n : ℕ} (pre : E
   by-arity : {P : Type 0} → 0 < arity (getD b at 0) → (arity (getD b at 0) ≡ 1 → P) → (arity (getD b at 0) ≡ 2 → P) →
       (2 < arity (getD b at 0) → P) → P
   by-arity h f g i =
-      by-cases (eqb (arity (getD b at 0)) 1) (λ t. f (eqb-true (arity (getD b at 0)) 1 t))
-      (λ t. by-cases (eqb (arity (getD b at 0)) 2) (λ u. g (eqb-true (arity (getD b at 0)) 2 u))
-      (λ u. i (omega (arith, eqb-false (arity (getD b at 0)) 1 t, eqb-false (arity (getD b at 0)) 2 u))))
+      eq-cases (arity (getD b at 0)) 1 f
+      (λ t. eq-cases (arity (getD b at 0)) 2 g
+      (λ u. i (omega (arith, t, u))))
 
   some : 0 < arity (getD b at 0) → Some
   some h =

@@ -13,13 +13,13 @@ use Rattle.model.specs.Script.{isBinder}
 use Rattle.model.specs.Run.{State, Out, stop, gives, andThen, joinItems, joinFor, loop, run, AreRows}
 use Rattle.model.proofs.ValueLaws.{areRows-more}
 use Rattle.model.proofs.All.{all-front, all-back}
-use Rattle.records.specs.Walk.{inner, endAt, secondAt, exprAt}
+use Rattle.records.specs.Walk.{inner, endAt, exprAt}
 use Rattle.script.proofs.AcceptedLaws.{accepted-record, accepted-at}
 use Rattle.updates.specs.State.{stateOf}
 use Rattle.query.specs.Values.{valueAt}
 use Rattle.updates.specs.declared.state.Progress.{Progress}
 use Rattle.updates.proofs.StateLaws.{after-self}
-use Rattle.operators.specs.Evaluating.{boundValues, InScope, BindPre, BindPost, limitedBy, movedTo, Fine, BinaryPre, BinaryPost}
+use Rattle.operators.specs.Evaluating.{boundValues, InScope, BindPre, BindPost, limitedBy, movedTo, BinaryPre, BinaryPost}
 use Rattle.operators.specs.Evaluating.{EvalPre, EvalPost}
 use Rattle.eval.specs.Loops.{bodyRun, EachPre, EachPost}
 use Rattle.operators.specs.declared.value.Span.{Span}
@@ -30,7 +30,7 @@ use Rattle.operators.proofs.YieldLaws.{yields-as, yields-gives, yields-stop, st
 use Rattle.operators.proofs.YieldLaws.{yields-after, limited-yields}
 use Rattle.eval.proofs.OperandLaws.{for-operands}
 use Rattle.eval.proofs.ScopeLaws.{marks-more, bound-kept, scope-kept, bound-inside, bound-back, scope-inside}
-use Rattle.eval.proofs.EvalLaws.{pair-asks, operand-asks, good, same-bound}
+use Rattle.eval.proofs.EvalLaws.{first-kept, pair-asks, deep, first-asks, first-stops, run-from}
 
 -- THE LOOP of the model: no item, one, and one part after another
 loop-none : (z : ℕ) (f : ℕ → State → Out) (v : List ℕ) (s : State) → loop z f [] v s ≡ gives v s
@@ -69,60 +69,46 @@ loop-split z f (i ∷ is) js v s = go (loop-split z f is js) (f i s)
 -- A FOR
 module _ {b : List ℕ} {at left n : ℕ} {env : List Span} {ms ws h w : List ℕ} {top : ℕ} {p : Progress}
     (pre : EvalPre b at left n env ms ws h w top p) (kind : getD b at 0 ≡ 7) where
-  abbrev looped : List ℕ → State → Out
-  looped v u = loop at (bodyRun b (secondAt b at) (left - 1) (boundValues w n env)) v [] u
-
-  whole-run : run (exprAt left b at) (boundValues w n env) (stateOf ws ms h p) ≡
-      andThen (run (exprAt (left - 1) b (at + 1)) (boundValues w n env) (stateOf ws ms h p)) looped
-  whole-run = for-operands (pre .accepted) kind .runs (boundValues w n env) (stateOf ws ms h p)
-
   pub for-first : EvalPre b (at + 1) (left - 1) n env ms ws h w top p
-  for-first = operand-asks pre (at + 1) (for-operands (pre .accepted) kind .first)
+  for-first = first-asks pre (for-operands (pre .accepted) kind .first)
 
   module _ {ws₁ h₁ w₁ : List ℕ} {x : Evaluated} (ran : EvalPost b (at + 1) (left - 1) n env ms ws h w top p ws₁ h₁ w₁ x) where
     pub for-stops : (x .progress .number ≡ 0 → ⊥) → EvalPost b at left n env ms ws h w top p ws₁ h₁ w₁ x
-    for-stops k = stop-yields k (whole-run ∙ ap (λ (q : Out). andThen q looped) (yields-stop ran k))
+    for-stops = first-stops pre (for-operands (pre .accepted) kind .first) ran
 
     module _ (k : x .progress .number ≡ 0) where
-      fine : Fine (endAt b (at + 1)) n env ws h w top p ws₁ h₁ w₁ x
-      fine = good pre (at + 1) ran k
-
-      second-at : x .place ≡ secondAt b at
-      second-at = fine .place ∙ for-operands (pre .accepted) kind .next-at
-
-      run-from : run (exprAt left b at) (boundValues w n env) (stateOf ws ms h p) ≡
-          looped (valueAt w₁ top (x .end)) (stateOf ws₁ ms h₁ (x .progress))
-      run-from = whole-run ∙ ap (λ (q : Out). andThen q looped) (yields-gives ran k)
-
       -- no items
       pub for-none : x .end ≡ top → {r : Evaluated} → r ≡ movedTo (endAt b (x .place)) x →
           EvalPost b at left n env ms ws h w top p ws₁ h₁ w₁ r
       for-none e eq =
+          let o = for-operands (pre .accepted) kind in
           let v : valueAt w₁ top (x .end) ≡ [] = ap (valueAt w₁ top) e ∙ value-none w₁ top in
+          let f = bodyRun b (x .place) (left - 1) (boundValues w₁ n (x .env)) in
           yields-as
           (yields-gives ran k ∙
-          sym (run-from ∙ ap (λ (u : List ℕ). looped u (stateOf ws₁ ms h₁ (x .progress))) v ∙
-          loop-none at (bodyRun b (secondAt b at) (left - 1) (boundValues w n env)) [] (stateOf ws₁ ms h₁ (x .progress)) ∙
+          sym (run-from pre (o .first) ran k ∙ ap (λ (u : List ℕ). loop at f u [] (stateOf ws₁ ms h₁ (x .progress))) v ∙
+          loop-none at f [] (stateOf ws₁ ms h₁ (x .progress)) ∙
           ap (λ (u : List ℕ). gives u (stateOf ws₁ ms h₁ (x .progress))) (sym v)))
-          (ap (endAt b) second-at ∙ sym (for-operands (pre .accepted) kind .ends)) (moved-yields (endAt b (x .place)) ran k eq)
+          (ap (endAt b) (ran .fine k .place) ∙ sym (o .ends)) (moved-yields (endAt b (x .place)) ran k eq)
 
       module _ (some : x .end ≡ top → ⊥) where
         pub each-asks : EachPre b (x .place) (left - 1) n (x .env) ms ws₁ h₁ w₁ top (x .end) (x .end) (x .end) (x .progress)
         each-asks =
+            let ok = ran .fine k in
             record {
-              accepted = accepted-at second-at (for-operands (pre .accepted) kind .body);
-              held = fine .after .held;
-              marks = marks-more (pre .marks) (fine .after .rows);
-              scope = scope-kept (pre .scope) w₁ (x .env) (fine .below) (fine .scope) (fine .spans) (fine .order) (fine .after .rows);
+              accepted = accepted-at (ok .place) (for-operands (pre .accepted) kind .second);
+              held = ok .after .held;
+              marks = marks-more (pre .marks) (ok .after .rows);
+              scope = scope-kept (pre .scope) w₁ (x .env) (ok .below) (ok .scope) (ok .spans) (ok .order) (ok .after .rows);
               binder = accepted-record (pre .accepted) .scope (ap isBinder kind);
-              some = omega (arith, fine .order, some);
+              some = omega (arith, ok .order, some);
               items = omega arith;
-              many = fine .short;
-              rows = fine .rows;
+              many = ok .short;
+              rows = ok .rows;
               order = omega arith;
               short = omega arith;
               sofar = subst (AreRows (x .progress .count)) (sym (value-none w₁ (x .end))) nothing;
-              room = omega (arith, pre .room, accepted-record (pre .accepted) .depth, fine .size, fine .short);
+              room = omega (arith, pre .room, deep pre, ok .size, ok .short);
             }
 
         module _ {ws₂ h₂ w₂ : List ℕ} {y : Evaluated} (ran₂ :
@@ -131,11 +117,7 @@ module _ {b : List ℕ} {at left n : ℕ} {env : List Span} {ms ws h w : List �
               loop at (bodyRun b (x .place) (left - 1) (boundValues w₁ n (x .env))) (valueAt w₁ top (x .end))
               (valueAt w₁ (x .end) (x .end)) (stateOf ws₁ ms h₁ (x .progress))
           loop-is =
-              run-from ∙
-              ap (λ (i : ℕ). loop at (bodyRun b i (left - 1) (boundValues w n env)) (valueAt w₁ top (x .end)) []
-              (stateOf ws₁ ms h₁ (x .progress))) (sym second-at) ∙
-              ap (λ (vs : List (List ℕ)). loop at (bodyRun b (x .place) (left - 1) vs) (valueAt w₁ top (x .end)) []
-              (stateOf ws₁ ms h₁ (x .progress))) (sym (same-bound pre (at + 1) ran k)) ∙
+              run-from pre (for-operands (pre .accepted) kind .first) ran k ∙
               ap (λ (v : List ℕ). loop at (bodyRun b (x .place) (left - 1) (boundValues w₁ n (x .env))) (valueAt w₁ top (x .end)) v
               (stateOf ws₁ ms h₁ (x .progress))) (sym (value-none w₁ (x .end)))
 
@@ -143,18 +125,19 @@ module _ {b : List ℕ} {at left n : ℕ} {env : List Span} {ms ws h w : List �
           items-stop l = stop-yields l (loop-is ∙ yields-stop ran₂ l)
 
           module _ (l : y .progress .number ≡ 0) where
-            fine₂ : Fine (endAt b (x .place)) n (x .env) ws₁ h₁ w₁ (x .end) (x .progress) ws₂ h₂ w₂ y
-            fine₂ = ran₂ .fine l
-
             pub close-asks : BinaryPre ws₂ h₂ w₂ top (x .end) y
-            close-asks = pair-asks pre fine fine₂
+            close-asks =
+                let ok = ran .fine k in
+                pair-asks (ran₂ .fine l) top (ok .order) (ok .short) (ok .rows) (omega (arith, pre .room, deep pre, ok .size, ok .short))
 
             pub close-yields : {ws′ h′ w′ : List ℕ} {r : Evaluated} → BinaryPost 7 at ws₂ h₂ w₂ top (x .end) y ws′ h′ w′ r →
                 EvalPost b at left n env ms ws h w top p ws′ h′ w′ r
             close-yields post =
-                yields-after (between-then (fine-between fine) (fine-between fine₂) (fine .order))
-                (yields-as refl (fine₂ .place ∙ ap (endAt b) second-at ∙ sym (for-operands (pre .accepted) kind .ends)) (post n ms))
-                (loop-is ∙ yields-gives ran₂ l) (fine₂ .scope ∙ fine .scope)
+                let ok = ran .fine k in
+                let ok₂ = ran₂ .fine l in
+                yields-after (between-then (fine-between ok) (fine-between ok₂) (ok .order))
+                (yields-as refl (ok₂ .place ∙ ap (endAt b) (ok .place) ∙ sym (for-operands (pre .accepted) kind .ends)) (post n ms))
+                (loop-is ∙ yields-gives ran₂ l) (ok₂ .scope ∙ ok .scope)
 
 -- THE REMAINING ITEMS
 module _ {b : List ℕ} {at left n : ℕ} {env : List Span} {ms ws h w : List ℕ} {from to top end : ℕ} {p : Progress}
@@ -208,47 +191,26 @@ module _ {b : List ℕ} {at left n : ℕ} {env : List Span} {ms ws h w : List �
           ap (λ (q : Out). andThen q (λ (u : List ℕ) (t : State). joinItems z (valueAt w top end) u t)) (yields-stop ran k))
 
       module _ (k : y .progress .number ≡ 0) where
-        fine₁ : Fine (endAt b at) (n + 1) inside ws h w end p ws₁ h₁ w₁ y
-        fine₁ = ran .fine k
-
-        sofar-kept : valueAt w₁ top end ≡ valueAt w top end
-        sofar-kept = value-same w w₁ end top end (fine₁ .below) (pre .order) (omega arith)
-
         pub limit-asks : top ≤ y .end
-        limit-asks = omega (arith, pre .order, fine₁ .order)
-
-        join-asks : BinaryPre ws₁ h₁ w₁ top end y
-        join-asks =
-            record {
-              value = record {
-                held = fine₁ .after .held;
-                order = fine₁ .order;
-                short = fine₁ .short;
-                room = omega (arith, pre .room, pre .short, fine₁ .size);
-                rows = fine₁ .rows;
-                spans = fine₁ .spans;
-              };
-              order = pre .order;
-              short = pre .short;
-              rows = subst (AreRows (y .progress .count)) (sym sofar-kept) (areRows-more (fine₁ .after .rows) (pre .sofar));
-            }
+        limit-asks = omega (arith, pre .order, ran .fine k .order)
 
         back : take n (y .env) ≡ take n env
         back =
             bound-back (pre .scope) bound (y .env)
-            (ap (λ (m : ℕ). take m (y .env)) inner-for ∙ fine₁ .scope ∙ ap (λ (m : ℕ). take m inside) (sym inner-for))
+            (ap (λ (m : ℕ). take m (y .env)) inner-for ∙ ran .fine k .scope ∙ ap (λ (m : ℕ). take m inside) (sym inner-for))
 
         pub item-yields : (z : ℕ) {r : Evaluated} → r ≡ limitedBy y top z →
             EachPost b z at left n env ms ws h w from to top end p ws₁ h₁ w₁ r
         item-yields z eq =
+            let ok = ran .fine k in
+            let pair = pair-asks ok top (pre .order) (pre .short) (pre .sofar) (omega (arith, pre .room, pre .short)) in
             yields-after
-            (between-then
-            (record { after = after-self (pre .held); size = refl; below = refl }) (fine-between fine₁) (pre .order))
-            (yields-as refl (fine₁ .place)
-            (limited-yields join-asks (omega (arith, fine₁ .short, pre .short, pre .room, fine₁ .size)) z eq))
+            (between-then (record { after = after-self (pre .held); size = refl; below = refl }) (fine-between ok) (pre .order))
+            (yields-as refl (ok .place) (limited-yields pair (omega (arith, ok .short, pre .short, pre .room, ok .size)) z eq))
             (item-is z ∙
             ap (λ (q : Out). andThen q (λ (u : List ℕ) (t : State). joinItems z (valueAt w top end) u t)) (yields-gives ran k) ∙
-            ap (λ (v : List ℕ). joinItems z v (valueAt w₁ end (y .end)) (stateOf ws₁ ms h₁ (y .progress))) (sym sofar-kept)) back
+            ap (λ (v : List ℕ). joinItems z v (valueAt w₁ end (y .end)) (stateOf ws₁ ms h₁ (y .progress)))
+            (sym (first-kept ok top (pre .order)))) back
 
   -- one half after the other
   module _ (many : to - from ≡ 1 → ⊥) where
@@ -294,42 +256,40 @@ module _ {b : List ℕ} {at left n : ℕ} {env : List Span} {ms ws h w : List �
             (halves ∙ ap (λ (q : Out). andThen q (λ (v : List ℕ) (t : State). loop z body (valueAt w half to) v t)) (yields-stop ran k))
 
         module _ (k : x .progress .number ≡ 0) where
-          half-fine : Fine (endAt b at) n env ws h w top p ws₁ h₁ w₁ x
-          half-fine = ran .fine k
-
           items-kept : valueAt w₁ half to ≡ valueAt w half to
-          items-kept = value-same w w₁ top half to (half-fine .below) (omega (arith, cut .1)) (pre .items)
+          items-kept = value-same w w₁ top half to (ran .fine k .below) (omega (arith, cut .1)) (pre .items)
 
           pub rest-asks : EachPre b at left n (x .env) ms ws₁ h₁ w₁ half to top (x .end) (x .progress)
           rest-asks =
+              let ok = ran .fine k in
               record {
                 accepted = pre .accepted;
-                held = half-fine .after .held;
-                marks = marks-more (pre .marks) (half-fine .after .rows);
-                scope = scope-kept (pre .scope) w₁ (x .env) (half-fine .below) (half-fine .scope) (half-fine .spans) (omega arith)
-                    (half-fine .after .rows);
+                held = ok .after .held;
+                marks = marks-more (pre .marks) (ok .after .rows);
+                scope = scope-kept (pre .scope) w₁ (x .env) (ok .below) (ok .scope) (ok .spans) (omega arith) (ok .after .rows);
                 binder = pre .binder;
                 some = cut .1;
                 items = pre .items;
                 many = omega (arith, cut .0, pre .many);
                 rows = subst (AreRows (x .progress .count)) (sym items-kept)
-                    (areRows-more (half-fine .after .rows)
+                    (areRows-more (ok .after .rows)
                     (all-back (valueAt w from half) (valueAt w half to) (subst (AreRows (p .count)) (sym parts) (pre .rows))));
-                order = half-fine .order;
-                short = half-fine .short;
-                sofar = half-fine .rows;
-                room = omega (arith, pre .room, half-fine .size);
+                order = ok .order;
+                short = ok .short;
+                sofar = ok .rows;
+                room = omega (arith, pre .room, ok .size);
               }
 
           pub rest-yields : {ws′ h′ w′ : List ℕ} {r : Evaluated} →
               EachPost b z at left n (x .env) ms ws₁ h₁ w₁ half to top (x .end) (x .progress) ws′ h′ w′ r →
               EachPost b z at left n env ms ws h w from to top end p ws′ h′ w′ r
           rest-yields post =
-              yields-after (fine-between half-fine) post
+              let ok = ran .fine k in
+              yields-after (fine-between ok) post
               (halves ∙
               ap (λ (q : Out). andThen q (λ (v : List ℕ) (t : State). loop z body (valueAt w half to) v t)) (yields-gives ran k) ∙
               ap (λ (is : List ℕ). loop z body is (valueAt w₁ top (x .end)) (stateOf ws₁ ms h₁ (x .progress))) (sym items-kept) ∙
               ap (λ (vs : List (List ℕ)). loop z (bodyRun b at left vs) (valueAt w₁ half to) (valueAt w₁ top (x .end))
               (stateOf ws₁ ms h₁ (x .progress)))
-              (sym (bound-kept (pre .scope) w₁ (x .env) (half-fine .below) (half-fine .scope))))
-              (half-fine .scope)
+              (sym (bound-kept (pre .scope) w₁ (x .env) (ok .below) (ok .scope))))
+              (ok .scope)

@@ -1,29 +1,27 @@
 -- The tables that the C calls write fit: read, swept or undone. So the writer need not look at them again.
 use mathlib.Core.Path.{_≡_, refl, ap, _∙_}
-use mathlib.Core.Bool.{Bool, true}
+use mathlib.Core.Bool.{true}
 use mathlib.Core.List.{List, [], _∷_}
 use Prim.Native.Nat.{ℕ, suc, _<_}
 use native.Mathlib.Omega.{arith}
 use lib.Dec.{leb}
 use lib.ListN.{getD}
 use borrow.Author.Tests.{le-leb}
-use Rattle.model.specs.Base.{pick, areBytes}
-use Rattle.model.specs.Refusal as refusal
+use Rattle.model.specs.Base.{areBytes}
 use Rattle.model.specs.Stored.{Read, bad, got, readPlan}
 use Rattle.model.specs.Sweep.{swept}
 use Rattle.model.specs.Table as model
 use Rattle.model.specs.Undo.{Undo, refused, back, undo}
-use Rattle.model.proofs.BoolLaws.{and-both}
+use Rattle.model.proofs.BoolLaws.{and-both, pick-true}
 use Rattle.model.proofs.StoredBack.{storedBack}
 use Rattle.model.proofs.SweepsWell.{sweepsWell}
 use Rattle.model.proofs.TableLaws.{isWell-by, well-empty}
 use Rattle.model.proofs.UndoKeeps.{undoKeeps}
 use Rattle.table.specs.Words.{decode, fits}
 use Rattle.plan.specs.Calls as library
-use Rattle.table.specs.Results as results
-use Rattle.table.specs.Results.{asItWas}
 use Rattle.sweep.specs.Sweeping as sweeping
 use Rattle.table.specs.declared.Table.{Table}
+use Rattle.table.specs.declared.TableResult.{TableResult}
 use Rattle.table.proofs.EncodeLaws.{fits-encode}
 use Rattle.table.proofs.FittedLaws.{well-decode}
 use Rattle.undo.specs.Undoing.{planUndone, undoneBy}
@@ -43,15 +41,11 @@ read-fits p b = go (readPlan p) refl
 
 pub swept-fits : (t : Table) → fits t ≡ true → fits (sweeping.planSwept t .table) ≡ true
 swept-fits t f =
-    ap (λ (z : Bool). fits (pick z (results.result refusal.fine (swept (decode t))) (record {
-      fault = results.faultOf (refusal.linkAt 0);
-      table = t;
-    }) .table)) f ∙
-    fits-encode (swept (decode t)) (sweepsWell (decode t) (well-decode t f) .0)
+    ap (λ (r : TableResult). fits (r .table)) (pick-true (fits t) _ _ f) ∙ fits-encode (swept (decode t)) (sweepsWell (decode t)
+    (well-decode t f) .0)
 
 pub undone-fits : (t : Table) (h : List ℕ) → fits t ≡ true → fits (planUndone t h .table) ≡ true
-undone-fits t h f =
-    ap (λ (z : Bool). fits (pick z (undoneBy t (undo (decode t) h)) (asItWas (refusal.linkAt 0) t) .table)) f ∙ go (undo (decode t) h) refl
+undone-fits t h f = ap (λ (r : TableResult). fits (r .table)) (pick-true (fits t) _ _ f) ∙ go (undo (decode t) h) refl
   where
     go : (q : Undo) → undo (decode t) h ≡ q → fits (undoneBy t (undo (decode t) h) .table) ≡ true
     go (refused g) e = ap (λ (q : Undo). fits (undoneBy t q .table)) e ∙ f

@@ -18,7 +18,7 @@ use Rattle.model.specs.Sweep.{swept}
 use Rattle.model.specs.Table.{isWell}
 use Rattle.model.specs.Table as model
 use Rattle.model.specs.Undo.{back, undo}
-use Rattle.model.proofs.BoolLaws.{and-both, or-neither}
+use Rattle.model.proofs.BoolLaws.{and-both, or-neither, pick-true}
 use Rattle.model.proofs.RunsBack.{runBy-back}
 use Rattle.model.proofs.StoredBack.{storedBack}
 use Rattle.model.proofs.SweepsWell.{sweepsWell}
@@ -26,7 +26,6 @@ use Rattle.model.proofs.UndoKeeps.{undoKeeps}
 use Rattle.table.specs.Words.{encode, decode, fits}
 use Rattle.plan.specs.Calls as library
 use Rattle.table.specs.Results as results
-use Rattle.table.specs.Results.{asItWas}
 use Rattle.sweep.specs.Sweeping as sweeping
 use Rattle.table.specs.declared.TableResult.{TableResult}
 use Rattle.undo.specs.Undoing.{planUndone, undoneBy}
@@ -77,12 +76,7 @@ sweptBack p o x b e room =
     let w = storedBack .1 p x b e .0 in
     let y : isWell (swept x) ≡ true = sweepsWell x w .0 in
     let t : sweeping.planSwept (encode x) ≡ results.result refusal.fine (swept x) =
-    ap (λ (z : Bool). pick z (results.result refusal.fine (swept (decode (encode x)))) (record {
-      fault = results.faultOf (refusal.linkAt
-          0);
-      table = encode x;
-    })) (fits-encode x w) ∙
-    ap (λ (u : model.Table). results.result refusal.fine (swept u)) (decode-encode x w) in (
+    pick-true (fits (encode x)) _ _ (fits-encode x w) ∙ ap (λ (u : model.Table). results.result refusal.fine (swept u)) (decode-encode x w) in (
       code-then p o x e room (λ q. finishedCode (sweeping.planSwept (q .table)) 1 o) ∙
           ap (λ (r : TableResult). finishedCode r 1 o) t ∙ written-code (swept x) y o room,
       out-then p o x e room (λ q. finishedOut (sweeping.planSwept (q .table)) o) ∙
@@ -95,8 +89,7 @@ pub undone-back : (p h o : List ℕ) (x y : model.Table) → isWell x ≡ true �
 undone-back p h o x y w e u room =
     let v : isWell y ≡ true = undoKeeps x y h w u in
     let t : planUndone (encode x) h ≡ results.result refusal.fine y =
-    ap (λ (z : Bool). pick z (undoneBy (encode x) (undo (decode (encode x)) h)) (asItWas (refusal.linkAt 0) (encode x))) (fits-encode x
-    w) ∙
+    pick-true (fits (encode x)) _ _ (fits-encode x w) ∙
     ap (λ (q : model.Table). undoneBy (encode x) (undo q h)) (decode-encode x w) ∙ ap (undoneBy (encode x)) u in (
       code-then p o x e room (λ q. finishedCode (planUndone (q .table) h) 2 o) ∙ ap (λ (r : TableResult). finishedCode r 2 o) t ∙
           written-code y v o

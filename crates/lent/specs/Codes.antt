@@ -20,6 +20,10 @@ lentCode = codeOf 11 0 0
 abbrev pub outNeed : ℕ
 outNeed = 4 * (maxRows + documents)
 
+-- what done needs: six numbers
+abbrev pub doneNeed : ℕ
+doneNeed = 6
+
 -- a plan written: its bytes as the place, or the refusal of the area
 abbrev pub writtenCode : Written → ℕ
 writtenCode w = codeOf (w .fault .number) 0 (w .bytes)

@@ -7,14 +7,14 @@ use lib.Dec.{ltb, eqb}
 use lib.ListN.{length, set}
 use Rattle.model.specs.Base.{pick}
 use Rattle.model.specs.Limits.{answerNeed, historyNeed, workNeed}
-use Rattle.plan.specs.Calls.{planWritten, planOut}
+use Rattle.plan.specs.Calls.{planWritten}
 use Rattle.table.specs.Words.{fits}
 use Rattle.run.specs.declared.RunResult.{RunResult}
-use Rattle.lent.specs.Codes.{codeOf, outNeed}
+use Rattle.lent.specs.Codes.{codeOf, outNeed, doneNeed, finishedOut}
 
 -- an area shorter than its need: out takes the longest plan, 2,080 bytes, and done six numbers
 abbrev pub isLentShort : (answer history work out done : ℕ) → Bool
-isLentShort a h w o d = ltb a answerNeed || ltb h historyNeed || ltb w workNeed || ltb o outNeed || ltb d 6
+isLentShort a h w o d = ltb a answerNeed || ltb h historyNeed || ltb w workNeed || ltb o outNeed || ltb d doneNeed
 
 -- six numbers over the front of done: items, rows made, links cut, records written, history bytes, bytes in out
 abbrev pub doneOver : (items made cut records bytes written : ℕ) → (done : List ℕ) → List ℕ
@@ -27,7 +27,7 @@ endCode r o =
     (codeOf (r .fault .number) 2 (r .fault .place))
 
 abbrev pub endOut : RunResult → (out : List ℕ) → List ℕ
-endOut r o = pick (eqb (r .fault .number) 0) (planOut (r .table) o) o
+endOut r o = finishedOut (record { fault = r .fault; table = r .table }) o
 
 abbrev pub endDone : RunResult → (out done : List ℕ) → List ℕ
 endDone r o d =
@@ -38,4 +38,4 @@ endDone r o d =
 -- a run that is not refused leaves a table that fits
 pub record EndPre (r : RunResult) (done : List ℕ) : Type 0 where
   pub table : r .fault .number ≡ 0 → fits (r .table) ≡ true
-  pub room : 6 ≤ length done
+  pub room : doneNeed ≤ length done

@@ -2,6 +2,7 @@
 ghost use mathlib.Core.Path.{_≡_};
 ghost use Prim.Native.Nat.{_≤_};
 ghost use lib.ListN.{length, replicate};
+ghost use Rattle.lent.specs.Codes.{doneNeed};
 ghost use Rattle.lent.specs.Done.{isLentShort, doneOver, EndPre, endCode, endOut, endDone};
 use crate::answer;
 use areas::area;
@@ -32,7 +33,7 @@ pub fn put_done(
     bytes: usize,
     written: usize,
 )
-    requires { ⌜ 6 ≤ length (now done) ⌝ }
+    requires { ⌜ doneNeed ≤ length (now done) ⌝ }
     ensures { λ _. ⌜ now (done .exit) ≡ doneOver items made cut records bytes written (now (done .entry)) ⌝ }
 {
     done[0] = items as u64;

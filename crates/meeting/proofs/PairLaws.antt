@@ -4,11 +4,9 @@ use mathlib.Core.List.{List}
 use Prim.Native.Nat.{ℕ, _+_, _*_, _≤_, _<_}
 use native.Mathlib.Omega.{arith}
 use lib.Bits.{bitOr}
-use lib.Dec.{eqb}
 use lib.ListN.{length, getD, set, length-set}
 use lib.Seq.{getD-set-same, getD-set-other}
-use borrow.Author.Tests.{eqb-true, eqb-false}
-use Rattle.model.proofs.BoolLaws.{by-cases}
+use Rattle.model.proofs.BoolLaws.{eq-cases}
 use Rattle.meeting.specs.Codes.{cellBits}
 use Rattle.meeting.specs.Pairs.{marks, HasRows, ClearPost, PairPre, MarkPost}
 use Rattle.meeting.specs.declared.cells.Cell.{Cell}
@@ -39,9 +37,9 @@ cleared t n t′ e h =
 
 pub zeroed : (t : List ℕ) (i : ℕ) → i < length t → ((j : ℕ) → j < i → getD t j 0 ≡ 0) → (j : ℕ) → j < i + 1 → getD (set t i 0) j 0 ≡ 0
 zeroed t i h z j l =
-    by-cases (eqb j i)
-    (λ e. ap (λ (k : ℕ). getD (set t i 0) k 0) (eqb-true j i e) ∙ getD-set-same t i 0 0 h)
-    (λ e. getD-set-other t i j 0 0 (eqb-false j i e) ∙ z j (omega (arith, eqb-false j i e)))
+    eq-cases j i
+    (λ e. ap (λ (k : ℕ). getD (set t i 0) k 0) e ∙ getD-set-same t i 0 0 h)
+    (λ e. getD-set-other t i j 0 0 e ∙ z j (omega (arith, e)))
 
 -- MARK
 pub pair-place : (t : List ℕ) (k l : ℕ) → PairPre t k l → 128 * k + l < length t

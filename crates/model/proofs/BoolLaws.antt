@@ -5,7 +5,7 @@ use mathlib.Core.Logic.{_⊎_, inl, inr}
 use Prim.Native.Nat.{ℕ, _≤_}
 use native.Mathlib.Omega.{arith}
 use lib.Dec.{eqb}
-use borrow.Author.Tests.{eq-eqb, ne-eqb}
+use borrow.Author.Tests.{eq-eqb, ne-eqb, eqb-true, eqb-false}
 use Rattle.model.specs.Base.{pick, bit}
 
 pub and-left : (a b : Bool) → (a && b) ≡ true → a ≡ true
@@ -71,6 +71,10 @@ pick-cases P false f g = g refl
 pub by-cases : {P : Type 0} (t : Bool) → (t ≡ true → P) → (t ≡ false → P) → P
 by-cases true f g = f refl
 by-cases false f g = g refl
+
+-- on two numbers
+pub eq-cases : {P : Type 0} (m n : ℕ) → (m ≡ n → P) → ((m ≡ n → ⊥) → P) → P
+eq-cases m n f g = by-cases (eqb m n) (λ e. f (eqb-true m n e)) (λ e. g (eqb-false m n e))
 
 -- two tests that follow from one another are equal
 pub bool-iff : (a b : Bool) → (a ≡ true → b ≡ true) → (b ≡ true → a ≡ true) → a ≡ b

@@ -15,7 +15,7 @@ use Rattle.model.specs.History.{times, Record, historyBytes, replayAll}
 use Rattle.model.specs.Run.{State, Out, stop, gives, runOn}
 use Rattle.model.specs.Meeting.{free, answer}
 use Rattle.model.specs.Promise.{IsScript, ends, tableOf, orderEnds, matchedAll, matchedHistory}
-use Rattle.model.specs.Call.{answered, firstBy, Ran, filled, countKind, runBy}
+use Rattle.model.specs.Call.{answered, analyse, firstBy, Ran, filled, countKind, runBy}
 use Rattle.model.specs.Call.{ranBy, areasFit, runCall, callsEnd, CallsMatch, CallsEqual, EitherOrder, CallsCommute}
 use Rattle.model.proofs.BoolLaws.{pick-true, and-left}
 use Rattle.model.proofs.StopLaws.{stop-refuses}
@@ -166,8 +166,18 @@ well-after e i x w g = go (runOn x e) refl
     go (stop f) k = absurd (false≢true (sym (ap ends k) ∙ g))
     go (gives v s) k = ap (λ (t : Out). isWell (tableOf t)) k ∙ runsBack e x v s i w k .0
 
+-- THE ANALYSIS says free of two scripts that are read
+pub free-scripts : {P : Type 0} (b c : List ℕ) → analyse b c ≡ answered free →
+    ((e f : Expr) (i n j m : ℕ) (r q : List ℕ) → readScript b ≡ parsed e i n r → readScript c ≡ parsed f j m q → answer e f ≡ free → P) → P
+free-scripts {P} b c h k = go (readScript b) (readScript c) refl refl h
+  where
+    go : (p q : Parsed) → readScript b ≡ p → readScript c ≡ q → firstBy p q ≡ answered free → P
+    go (ill z) q E F a = let y : _≡_ {A = ℕ} 0 1 = cc in absurd (omega arith)
+    go (parsed e i n r) (ill z) E F a = let y : _≡_ {A = ℕ} 0 1 = cc in absurd (omega arith)
+    go (parsed e i n r) (parsed f j m q) E F a = let y : answer e f ≡ free = cc in k e f i n j m r q E F y
+
 pub callsCommute : CallsCommute
-callsCommute b c x a h w a′ h′ w′ bytes bytes′ an well fits fits′ = go (readScript b) (readScript c) refl refl an
+callsCommute b c x a h w a′ h′ w′ bytes bytes′ an well fits fits′ = free-scripts b c an scripts
   where
     Claim : Type 0
     Claim = EitherOrder b c x a h w a′ h′ w′
@@ -197,8 +207,3 @@ callsCommute b c x a h w a′ h′ w′ bytes bytes′ an well fits fits′ = go
               (and-left (ends (runOn x f)) _ g′))
               (runOn (tableOf (runOn x f)) e) refl)),
         )
-
-    go : (p q : Parsed) → readScript b ≡ p → readScript c ≡ q → firstBy p q ≡ answered free → Claim
-    go (ill z) q E F k = let y : _≡_ {A = ℕ} 0 1 = cc in absurd (omega arith)
-    go (parsed e i n r) (ill z) E F k = let y : _≡_ {A = ℕ} 0 1 = cc in absurd (omega arith)
-    go (parsed e i n r) (parsed f j m q) E F k = let y : answer e f ≡ free = cc in scripts e f i n j m r q E F y

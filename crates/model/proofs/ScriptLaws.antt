@@ -18,7 +18,7 @@ use Rattle.model.specs.Script.{recordsOf, Parsed, ill, parsed, thenParse
 use Rattle.model.specs.Run.{loose}
 use Rattle.model.specs.Promise.{IsScript}
 use Rattle.model.proofs.BoolLaws.{and-left, and-right, pick-cases}
-use Rattle.model.proofs.TestLaws.{isIn-at}
+use Rattle.model.proofs.TestLaws.{isIn-some}
 use Rattle.model.proofs.BytesLaws.{areBytes-at, areBytes-drop}
 
 -- every constructor's tag and every step's test fits
@@ -203,7 +203,7 @@ pub record Sound (x : Parsed) : Type 0 where
   pub ranged : (f : Fault) → x ≡ ill f → isIn 1 5 (f .number) ≡ true
 
 pub sound-numbered : {x : Parsed} → Sound x → (f : Fault) → x ≡ ill f → f .number ≡ 0 → ⊥
-sound-numbered s f e z = omega (arith, isIn-at 1 5 (f .number) (s .ranged f e))
+sound-numbered s f e = isIn-some 0 5 (f .number) (s .ranged f e)
 
 well-sound : (n : ℕ) (b : List ℕ) (x : Parsed) → ReadsWell n b x → Sound x
 well-sound n b x h = record { ranged = λ f e. subst (ReadsWell n b) e h }

@@ -4,7 +4,6 @@ use mathlib.Core.Bool.{Bool, true, false, _&&_}
 use mathlib.Core.List.{List, [], _∷_, _++_}
 use mathlib.Core.Option.{Option, none, some}
 use Prim.Native.Nat.{ℕ, _+_}
-use native.Mathlib.Omega.{arith}
 use lib.Dec.{ltb, eqb}
 use lib.ListN.{length, getD}
 use borrow.Author.Tests.{ne-eqb}
@@ -16,7 +15,8 @@ use Rattle.model.specs.Script.{Expr, nil, document, var, step, both, let
 use Rattle.model.specs.Run.{State, Out, stop, gives, andThen, thenRow, newRow}
 use Rattle.model.specs.Run.{withMade, cutBy, cutRow, cutAll, Copied, copyEach, copyAll}
 use Rattle.model.specs.Run.{joinFor, loop, run, runOn}
-use Rattle.model.proofs.TestLaws.{isIn-at}
+use Rattle.model.proofs.BoolLaws.{pick-cases}
+use Rattle.model.proofs.TestLaws.{isIn-some}
 
 -- a refusal, or no stop at all
 abbrev refuses : Out → Bool
@@ -33,8 +33,7 @@ row-refuses (stop f) next h k = h
 row-refuses (gives v s) next h k = k s
 
 pick-refuses : (t : Bool) (o q : Out) → refuses o ≡ true → refuses q ≡ true → refuses (pick t o q) ≡ true
-pick-refuses true o q h k = h
-pick-refuses false o q h k = k
+pick-refuses t o q h k = pick-cases (λ (p : Out). refuses p ≡ true) t (λ e. h) (λ e. k)
 
 new-refuses : (z : ℕ) (r : Row) (s : State) → refuses (newRow z r s) ≡ true
 new-refuses z r s = go (ltb (count (s .plan)) maxRows) (ltb (length (s .history)) maxHistory)
@@ -105,4 +104,4 @@ pub stop-number : (e : Expr) (x : Table) (f : Fault) → runOn x e ≡ stop f �
 stop-number e x f h = ap refuses (sym h) ∙ run-refuses e [] _
 
 pub stop-refuses : (e : Expr) (x : Table) (f : Fault) → runOn x e ≡ stop f → isFine f ≡ false
-stop-refuses e x f h = ne-eqb (f .number) 0 (λ z. omega (arith, isIn-at 7 10 (f .number) (stop-number e x f h)))
+stop-refuses e x f h = ne-eqb (f .number) 0 (isIn-some 6 10 (f .number) (stop-number e x f h))

@@ -5,12 +5,12 @@ use mathlib.Core.List.{List, [], _∷_, _++_}
 use Prim.Native.Nat.{ℕ, zero, suc, _+_, _-_, _≤_, _<_}
 use native.Mathlib.Omega.{arith}
 use native.Mathlib.Nat.{zero-add, suc-add}
-use lib.Dec.{ltb, eqb}
+use lib.Dec.{ltb}
 use lib.ListN.{length, getD, take, drop, set, length-drop, length-set, length-append, List·getD-append}
 use lib.Seq.{take-nil, take-take, take-add, take-at, drop-at, drop-drop, drop-cons, length-take-le}
 use lib.Seq.{getD-set-same, getD-set-other, getD-take, getD-drop, getD-append-add, ext-getD}
-use borrow.Author.Tests.{ltb-true, ltb-false, eqb-true, eqb-false}
-use Rattle.model.proofs.BoolLaws.{by-cases}
+use borrow.Author.Tests.{ltb-true, ltb-false}
+use Rattle.model.proofs.BoolLaws.{by-cases, eq-cases}
 use Rattle.model.specs.Run.{AreRows}
 use Rattle.model.proofs.All.{all-at}
 use Rattle.updates.specs.Updating.{Within}
@@ -116,7 +116,7 @@ module _ {w : List ℕ} {from to top : ℕ} (p : CopyPre w from to top) {w′ : 
       here = omega (arith, p .room, p .within, c .place, c .size)
 
       done′ : (i : ℕ) → top ≤ i → i < at + 1 → getD (set w′ at (getD w′ k 0)) i 0 ≡ getD w (from + (i - top)) 0
-      done′ i m n = by-cases (eqb i at) (λ e. new (eqb-true i at e)) (λ e. old (eqb-false i at e))
+      done′ i m n = eq-cases i at new old
         where
           new : i ≡ at → getD (set w′ at (getD w′ k 0)) i 0 ≡ getD w (from + (i - top)) 0
           new e =

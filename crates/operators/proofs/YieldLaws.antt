@@ -3,12 +3,12 @@ use mathlib.Core.Path.{_≡_, refl, ap, sym, subst, _∙_}
 use mathlib.Core.List.{List}
 use Prim.Native.Nat.{ℕ, _+_, _-_, _≤_, _<_}
 use native.Mathlib.Omega.{arith}
-use lib.Dec.{ltb, eqb}
+use lib.Dec.{ltb}
 use lib.ListN.{length, take}
-use borrow.Author.Tests.{eqb-true, eqb-false, lt-ltb, le-ltb, ltb-true, ltb-false}
+use borrow.Author.Tests.{lt-ltb, le-ltb, ltb-true, ltb-false}
 use Rattle.model.specs.Refusal.{fault}
 use Rattle.model.specs.Run.{State, Out, stop, gives, joinItems, AreRows}
-use Rattle.model.proofs.BoolLaws.{by-cases, pick-true, pick-false, pick-eq, pick-ne}
+use Rattle.model.proofs.BoolLaws.{by-cases, pick-true, pick-false, pick-eq, pick-ne, eq-cases}
 use Rattle.model.proofs.All.{all-append}
 use Rattle.updates.specs.State.{stateOf, outcome, Held, After, Updated}
 use Rattle.query.specs.Values.{valueAt, Appended}
@@ -29,7 +29,7 @@ module _ {f : ℕ → State → Out} {v u ws h : List ℕ} {p : Progress} {ws′
   yields-updated {at} {next} {n} {env} {ms} {r} spans eq =
       subst (λ (x : Evaluated). Yields (f at (stateOf ws ms h p)) next n env ms ws h w top p ws′ h′ w′ x) (sym eq)
       (record {
-        same = by-cases (eqb (q .number) 0) (λ t. good (eqb-true (q .number) 0 t)) (λ t. bad (eqb-false (q .number) 0 t));
+        same = eq-cases (q .number) 0 good bad;
         fine = λ k. record {
           after = up .after k;
           size = size;

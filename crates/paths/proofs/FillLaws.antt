@@ -7,12 +7,12 @@ use native.Mathlib.Omega.{arith}
 use native.Mathlib.Numerals.{add-one}
 use lib.Dec.{eqb}
 use lib.ListN.{length, getD, length-map, List·getD-map}
-use borrow.Author.Tests.{ne-eqb, eqb-true, eqb-false}
+use borrow.Author.Tests.{ne-eqb}
 use Rattle.model.specs.Base.{pick}
 use Rattle.model.specs.Script.{Step}
 use Rattle.model.specs.Paths.{Path}
 use Rattle.model.specs.Meeting.{Cell, joinCell, onStep, downStep, upStep, isMet}
-use Rattle.model.proofs.BoolLaws.{by-cases}
+use Rattle.model.proofs.BoolLaws.{eq-cases}
 use Rattle.positions.specs.Positions as positions
 use Rattle.meeting.specs.Cells.{noCell, sum, between, Cells}
 use Rattle.positions.specs.Sources.{Source, fromRoot, fromStep, sourcesOf, rootsCell, sourceCell}
@@ -45,9 +45,9 @@ module _ (p : Position) where
   not-union : (P : positions.Position → Type 0) → p .kind < 4 → (p .kind ≡ 3 → ⊥) → P positions.nowhere →
       ((d : ℕ) → P (positions.root d)) → ((s : Step) (i : ℕ) → P (positions.over s i)) → P (positionBy p)
   not-union P l h a b c =
-      by-cases (eqb (p .kind) 1) (λ e. subst P (sym (kind-root (eqb-true (p .kind) 1 e))) (b (p .name)))
-      (λ e. by-cases (eqb (p .kind) 2) (λ f. subst P (sym (kind-over (eqb-true (p .kind) 2 f))) (c (stepIn p) (p .first)))
-      (λ f. subst P (sym (kind-nowhere l (eqb-false (p .kind) 1 e) (eqb-false (p .kind) 2 f) h)) a))
+      eq-cases (p .kind) 1 (λ e. subst P (sym (kind-root e)) (b (p .name)))
+      (λ e. eq-cases (p .kind) 2 (λ f. subst P (sym (kind-over f)) (c (stepIn p) (p .first)))
+      (λ f. subst P (sym (kind-nowhere l e f h)) a))
 
   -- its operands are lower
   pub over-lower : (k : ℕ) → positions.IsLower k (positionBy p) → p .kind ≡ 2 → p .first < k
@@ -232,9 +232,9 @@ module _ (ws us t : List ℕ) (k l : ℕ) (p q : Position) (pre : MeetPre ws us 
             room = post .room (length ws) (pre .room);
             filled = record {
               rows = λ i j a b. stays i j b (λ m n. omega arith) ∙ pre .filled .rows i j a b;
-              row = λ j b. by-cases (eqb j l) (λ s. here j (eqb-true j l s))
-                  (λ s. stays k j (omega (arith, pre .column, length-map us entryOf, eqb-false j l s)) (λ a. eqb-false j l s) ∙
-                  pre .filled .row j (omega (arith, eqb-false j l s)));
+              row = λ j b. eq-cases j l (λ s. here j s)
+                  (λ s. stays k j (omega (arith, pre .column, length-map us entryOf, s)) (λ a. s) ∙
+                  pre .filled .row j (omega (arith, s)));
               rest = λ i j a b m e. stays i j e (λ x y. omega (arith, m x)) ∙
                   pre .filled .rest i j a b (λ x. omega (arith, m x)) e;
             };
@@ -294,15 +294,15 @@ pub any-found : (f : ℕ → Bool) (k n : ℕ) → k < n → f k ≡ true → tr
 unfolding anyUpTo
 any-found f k zero h e = absurd (omega arith)
 any-found f k (suc n) h e =
-    by-cases (eqb k n) (λ s. sym (ap (λ (x : Bool). anyUpTo f n || x) (ap f (sym (eqb-true k n s)) ∙ e) ∙ or-true (anyUpTo f n)))
-    (λ s. ap (λ (x : Bool). x || f n) (any-found f k n (omega (arith, eqb-false k n s)) e))
+    eq-cases k n (λ s. sym (ap (λ (x : Bool). anyUpTo f n || x) (ap f (sym s) ∙ e) ∙ or-true (anyUpTo f n)))
+    (λ s. ap (λ (x : Bool). x || f n) (any-found f k n (omega (arith, s)) e))
 
 pub row-filled : (ws us t : List ℕ) (k l : ℕ) → length us ≡ l → Filled (entriesBy ws) (entriesBy us) k l (marks t) →
     Filled (entriesBy ws) (entriesBy us) (k + 1) 0 (marks t)
 row-filled ws us t k l e f =
     record {
-      rows = λ i j a b. by-cases (eqb i k)
-          (λ s. last i j (eqb-true i k s) b) (λ s. f .rows i j (omega (arith, eqb-false i k s)) b);
+      rows = λ i j a b. eq-cases i k
+          (λ s. last i j s b) (λ s. f .rows i j (omega (arith, s)) b);
       row = λ j a. absurd (omega arith);
       rest = λ i j a b m c. f .rest i j (omega arith) b (λ x. absurd (omega arith)) c;
     }

@@ -12,7 +12,7 @@ use Rattle.model.specs.Base.{pick, any}
 use Rattle.model.specs.Refusal.{fault, fine}
 use Rattle.model.specs.Table as model
 use Rattle.model.specs.Stored.{wordAt, rowIn, parentIn, rowFault, markFault, lastMarked, recordFault}
-use Rattle.model.proofs.BoolLaws.{by-cases, pick-true, pick-false}
+use Rattle.model.proofs.BoolLaws.{by-cases, pick-true, pick-false, eq-cases}
 use Rattle.model.proofs.BytesLaws.{lastMarked-above}
 use Rattle.table.specs.Words.{linkOf, linked, wordOf, rowsOf, wordsOf, decodeParts}
 use Rattle.plan.specs.Reading.{lastOf, RowPre, RowPost, MarkPre, MarkPost, RecordPre, RecordPost, Recorded}
@@ -191,8 +191,8 @@ module _ (x : model.Table) (i : ℕ) (s : List ℕ) where
 -- the last marked document after a mark past the others
 last-none : (from : ℕ) (ms : List (Option ℕ)) → lastMarked from ms ≤ from → lastMarked from ms ≡ 0
 last-none from ms h =
-    by-cases (eqb (lastMarked from ms) 0) (λ e. eqb-true (lastMarked from ms) 0 e)
-    (λ e. absurd (omega (arith, lastMarked-above from ms (eqb-false (lastMarked from ms) 0 e))))
+    eq-cases (lastMarked from ms) 0 (λ e. e)
+    (λ e. absurd (omega (arith, lastMarked-above from ms e)))
 
 last-rest : (m : Option ℕ) (ms : List (Option ℕ)) (from n : ℕ) → lastMarked from (m ∷ ms) ≤ n → lastMarked (suc from) ms ≤ n
 unfolding lastMarked

@@ -8,11 +8,11 @@ use native.Mathlib.Omega.{arith}
 use lib.Dec.{eqb}
 use lib.ListN.{length, getD, length-append, List·getD-append}
 use lib.Seq.{getD-at}
-use borrow.Author.Tests.{ne-eqb, eqb-true, eqb-false}
+use borrow.Author.Tests.{ne-eqb, eqb-true}
 use Rattle.model.specs.Base.{pick}
 use Rattle.model.specs.Script.{Step, Expr, nil, document, var, step, both, letIn, forIn, ifIn, element, leaf, delete, insert, choose}
 use Rattle.model.specs.Paths.{placeOf, Path, start, place, withStep, anyBelow, infer, isUp}
-use Rattle.model.proofs.BoolLaws.{by-cases, and-left, pick-cases}
+use Rattle.model.proofs.BoolLaws.{and-left, pick-cases, eq-cases}
 use Rattle.positions.specs.Positions.{Position, over, union, Entry, plain, accessing, modifying, entryAt, IsLower, AreLower}
 use Rattle.positions.specs.Positions.{Emitted, emitted, push, pushStep, pushUnion, pushDelete, pushBelow, pushInsert, emit}
 use Rattle.positions.specs.Positions.{pathsAt, pathsFrom, pathsBy, pathsOn}
@@ -121,11 +121,11 @@ thenRight es r a m r′ a′ m′ y y′ h g =
 -- one entry more, whose paths are these
 lower-push : (es : List Entry) (x : Entry) → AreLower es → IsLower (length es) (x .position) → AreLower (es ++ (x ∷ []))
 lower-push es x h l k low =
-    by-cases (eqb k (length es))
-    (λ t. let e : k ≡ length es = eqb-true k (length es) t in
+    eq-cases k (length es)
+    (λ e.
     subst (λ (p : ℕ). IsLower p (entryAt (es ++ (x ∷ [])) p .position)) (sym e)
     (subst (λ (q : Entry). IsLower (length es) (q .position)) (sym (getD-at es x [] _ (length es) refl)) l))
-    (λ t. let j : k < length es = omega (arith, eqb-false k (length es) t, length-append es (x ∷ [])) in
+    (λ t. let j : k < length es = omega (arith, t, length-append es (x ∷ [])) in
     subst (λ (q : Entry). IsLower k (q .position)) (sym (List·getD-append es (x ∷ []) _ k j)) (h k j))
 
 pushed : (es : List Entry) (r a m : List Path) (y : Emitted) → Right es r a m y → (w : Entry) (r′ a′ m′ : List Path) →

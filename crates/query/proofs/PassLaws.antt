@@ -14,7 +14,7 @@ use Rattle.model.specs.Base.{among, bit}
 use Rattle.model.specs.Table as model
 use Rattle.model.specs.Sweep.{through}
 use Rattle.model.specs.Step.{parentIs}
-use Rattle.model.proofs.BoolLaws.{by-cases, pick-true, pick-false}
+use Rattle.model.proofs.BoolLaws.{by-cases, pick-true, pick-false, eq-cases}
 use Rattle.table.specs.Words.{linked, decodeParts}
 use Rattle.table.proofs.WordLaws.{count-decode}
 use Rattle.table.proofs.DecodeLaws.{parent-linked, link-low, isThe-linked}
@@ -103,12 +103,12 @@ module _ (ws : List ℕ) (n : ℕ) (held : RowsHeld ws n) where
                 size = length-set rs (j + 1) 1 ∙ s .size;
                 none = getD-set-other rs (j + 1) 0 1 0 (λ q. omega arith) ∙ s .none;
                 done = λ ms v f k l.
-                    by-cases (eqb k j)
-                    (λ q. ap (λ (a : ℕ). getD (set rs (j + 1) 1) (a + 1) 0) (eqb-true k j q) ∙
+                    eq-cases k j
+                    (λ q. ap (λ (a : ℕ). getD (set rs (j + 1) 1) (a + 1) 0) q ∙
                     getD-set-same rs (j + 1) 1 0 (omega (arith, s .size, held .few)) ∙ ap bit (sym e ∙ counts-down ms v f) ∙
-                    ap (λ (a : ℕ). bit (downTo (decodeParts n ws ms) (held .lower) d v a)) (sym (eqb-true k j q)))
-                    (λ q. getD-set-other rs (j + 1) (k + 1) 1 0 (λ y. eqb-false k j q (omega arith)) ∙ s .done ms v f k (last k l
-                    (eqb-false k j q)));
+                    ap (λ (a : ℕ). bit (downTo (decodeParts n ws ms) (held .lower) d v a)) (sym q))
+                    (λ q. getD-set-other rs (j + 1) (k + 1) 1 0 (λ y. q (omega arith)) ∙ s .done ms v f k (last k l
+                    q));
                 rest = λ k l u. getD-set-other rs (j + 1) (k + 1) 1 0 (λ y. omega arith) ∙ s .rest k (omega arith) u;
               }
 
@@ -118,11 +118,11 @@ module _ (ws : List ℕ) (n : ℕ) (held : RowsHeld ws n) where
                 size = s .size;
                 none = s .none;
                 done = λ ms v f k l.
-                    by-cases (eqb k j)
-                    (λ q. ap (λ (a : ℕ). getD rs (a + 1) 0) (eqb-true k j q) ∙ s .rest j (omega arith) (omega (arith, held .few)) ∙
+                    eq-cases k j
+                    (λ q. ap (λ (a : ℕ). getD rs (a + 1) 0) q ∙ s .rest j (omega arith) (omega (arith, held .few)) ∙
                     ap bit (sym e ∙ counts-down ms v f) ∙ ap (λ (a : ℕ). bit (downTo (decodeParts n ws ms) (held .lower) d v a)) (sym
-                    (eqb-true k j q)))
-                    (λ q. s .done ms v f k (last k l (eqb-false k j q)));
+                    q))
+                    (λ q. s .done ms v f k (last k l q));
                 rest = λ k l u. s .rest k (omega arith) u;
               }
 

@@ -7,12 +7,11 @@ use mathlib.Core.Logic.{_⊎_, inl, inr}
 use Prim.Native.Nat.{ℕ, zero, suc, _+_, _-_, _≤_, _<_}
 use native.Mathlib.Omega.{arith}
 use lib.Dec.{eqb}
-use borrow.Author.Tests.{eqb-true, eqb-false}
 use Rattle.model.specs.Base.{any, among, bit}
 use Rattle.model.specs.Table.{Table, rowAt, count, isThe}
 use Rattle.model.specs.Sweep.{through}
 use Rattle.model.specs.Step.{parentIs, isBelow, reaches}
-use Rattle.model.proofs.BoolLaws.{or-swap, by-cases, bool-iff, or-left, or-right, or-cases, and-left, and-right, and-both, true-false}
+use Rattle.model.proofs.BoolLaws.{or-swap, bool-iff, or-left, or-right, or-cases, and-left, and-right, and-both, true-false, eq-cases}
 use Rattle.model.proofs.ListLaws.{any-same, any-in, in-any, among-in, in-among}
 use Rattle.model.proofs.TableLaws.{isThe-at, isThe-by, parent-count}
 use Rattle.model.proofs.Below.{Below, under, further, below-is, is-below}
@@ -33,8 +32,8 @@ from-any : (f : ℕ → Bool) (i n k : ℕ) → i ≤ k → k < i + n → f k �
 unfolding anyFrom
 from-any f i zero k a b e = absurd (omega arith)
 from-any f i (suc n) k a b e =
-    by-cases (eqb i k) (λ q. or-left (f i) (anyFrom f (suc i) n) (ap f (eqb-true i k q) ∙ e))
-    (λ q. let z : i < k = omega (arith, eqb-false i k q) in
+    eq-cases i k (λ q. or-left (f i) (anyFrom f (suc i) n) (ap f q ∙ e))
+    (λ q. let z : i < k = omega (arith, q) in
     or-right (f i) (anyFrom f (suc i) n) (from-any f (suc i) n k z (omega arith) e))
 
 any-or : (f g : ℕ → Bool) (v : List ℕ) → any (λ (i : ℕ). f i || g i) v ≡ (any f v || any g v)

@@ -1,13 +1,13 @@
 -- A step's tests and flags, by the ways out of the code that makes them.
-use mathlib.Core.Path.{_≡_, refl, ap, sym, _∙_, subst}
+use mathlib.Core.Path.{_≡_, refl, ap, sym, _∙_}
 use mathlib.Core.Bool.{Bool, true, false, _||_, or-false, or-true, or-assoc}
 use mathlib.Core.List.{List, [], _∷_, _++_}
-use Prim.Native.Nat.{ℕ, _+_, _/_, _%_, _≤_, _<_}
+use Prim.Native.Nat.{ℕ, _+_, _/_, _%_, _<_}
 use native.Mathlib.Omega.{arith}
 use native.Mathlib.Numerals.{add-one}
 use lib.Dec.{eqb}
 use lib.ListN.{length, getD, take, set, replicate}
-use lib.Seq.{take-suc, take-all}
+use lib.Seq.{take-suc}
 use borrow.Author.Tests.{eq-eqb, ne-eqb}
 use Rattle.model.specs.Base.{among}
 use Rattle.model.specs.Script.{stepBy}
@@ -68,6 +68,3 @@ flagged-next fs v d h low =
   where
     next : (k : ℕ) {t : Bool} → eqb k (getD v d 0) ≡ t → among k (take (d + 1) v) ≡ (among k (take d v) || t)
     next k e = among-next v d k h ∙ ap (λ (u : Bool). among k (take d v) || u) e
-
-pub flagged-all : (fs v : List ℕ) (d : ℕ) → length v ≤ d → Flagged (take d v) fs → Flagged v fs
-flagged-all fs v d h f = subst (λ (l : List ℕ). Flagged l fs) (take-all d v h) f

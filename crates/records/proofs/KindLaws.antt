@@ -2,14 +2,12 @@
 use mathlib.Core.Path.{_≡_, ap, refl, sym, _∙_}
 use Prim.Native.Nat.{ℕ, suc, _≤_}
 use native.Mathlib.Omega.{arith}
-use lib.Dec.{eqb}
-use borrow.Author.Tests.{eqb-true, eqb-false}
-use Rattle.model.proofs.BoolLaws.{by-cases}
+use Rattle.model.proofs.BoolLaws.{eq-cases}
 use Rattle.records.specs.Walk.{arity}
 
 -- a kind is one of thirteen
 pub below : {P : Type 0} (k m : ℕ) → k ≤ suc m → (k ≡ suc m → P) → (k ≤ m → P) → P
-below k m h f g = by-cases (eqb k (suc m)) (λ e. f (eqb-true k (suc m) e)) (λ e. g (omega (arith, eqb-false k (suc m) e)))
+below k m h f g = eq-cases k (suc m) f (λ e. g (omega (arith, e)))
 
 pub by-kind : {P : Type 0} (k : ℕ) → 1 ≤ k → k ≤ 13 → (k ≡ 1 → P) → (k ≡ 2 → P) → (k ≡ 3 → P) → (k ≡ 4 → P) → (k ≡ 5 → P) → (k ≡ 6 → P) →
     (k ≡ 7 → P) → (k ≡ 8 → P) → (k ≡ 9 → P) → (k ≡ 10 → P) → (k ≡ 11 → P) → (k ≡ 12 → P) → (k ≡ 13 → P) → P

@@ -13,7 +13,7 @@ use Rattle.model.specs.Run.{Out, stop}
 use Rattle.model.specs.Call.{runBy}
 use Rattle.model.specs.Table as model
 use Rattle.model.proofs.StopLaws.{stop-number}
-use Rattle.model.proofs.TestLaws.{isIn-at, isIn-by}
+use Rattle.model.proofs.TestLaws.{isIn-at, isIn-by, isIn-some}
 use Rattle.model.proofs.ScriptLaws.{Sound, readScript-sound}
 use Rattle.table.specs.Words.{decode, fits}
 use Rattle.table.specs.declared.Table.{Table}
@@ -25,7 +25,7 @@ Refuses o = (f : Fault) → o ≡ stop f → isIn 1 10 (f .number) ≡ true
 
 -- its number is not 0
 pub refuses-fine : {o : Out} → Refuses o → (f : Fault) → o ≡ stop f → isFine f ≡ false
-refuses-fine r f e = ne-eqb (f .number) 0 (λ z. omega (arith, isIn-at 1 10 (f .number) (r f e)))
+refuses-fine r f e = ne-eqb (f .number) 0 (isIn-some 0 10 (f .number) (r f e))
 
 within : (low high n : ℕ) → 1 ≤ low → high ≤ 10 → isIn low high n ≡ true → isIn 1 10 n ≡ true
 within a b n h k e = let r = isIn-at a b n e in isIn-by 1 10 n (omega arith) (omega arith)

@@ -6,11 +6,10 @@ use Prim.Native.Nat.{ℕ, zero, suc, _+_, _-_, _≤_, _<_}
 use native.Mathlib.Omega.{arith}
 use lib.Dec.{eqb}
 use lib.ListN.{length, getD, drop}
-use borrow.Author.Tests.{eqb-true, eqb-false}
 use Rattle.model.specs.Base.{pick}
 use Rattle.model.specs.Script.{stepKind, bothKind, letKind, forKind, ifKind, deleteKind, insertKind, pickKind}
 use Rattle.model.specs.Script.{Expr, parsed, thenParse, bodySize}
-use Rattle.model.proofs.BoolLaws.{by-cases}
+use Rattle.model.proofs.BoolLaws.{eq-cases}
 use Rattle.records.specs.Walk.{arity, inner, past, endAt, firstAt, secondAt, thirdAt, exprOf, exprAt}
 use Rattle.script.specs.Reading.{parseAt}
 use Rattle.script.specs.Accepted.{RecordFits}
@@ -192,13 +191,13 @@ module _ (b : List ℕ) (i k n v : ℕ) (shallow : k < 16) (known : Known b k) {
 
   read-some : 0 < arity (getD b i 0) → Reads b i (suc k) e j c
   read-some a =
-      by-cases (eqb (arity (getD b i 0)) 1) (λ q. read-one (first-operand a) (eqb-true (arity (getD b i 0)) 1 q))
-      (λ q. read-more (first-operand a) (omega (arith, eqb-false (arity (getD b i 0)) 1 q)))
+      eq-cases (arity (getD b i 0)) 1 (λ q. read-one (first-operand a) q)
+      (λ q. read-more (first-operand a) (omega (arith, q)))
 
   read-all : Reads b i (suc k) e j c
   read-all =
-      by-cases (eqb (arity (getD b i 0)) 0) (λ q. read-none (eqb-true (arity (getD b i 0)) 0 q))
-      (λ q. read-some (omega (arith, eqb-false (arity (getD b i 0)) 0 q)))
+      eq-cases (arity (getD b i 0)) 0 read-none
+      (λ q. read-some (omega (arith, q)))
 
 pub reads : (b : List ℕ) (left : ℕ) → left ≤ 16 → Known b left
 reads b zero s i n v e j m c h = let d : 0 < 0 = accepted-fits b i 0 n v h .depth in absurd (omega arith)

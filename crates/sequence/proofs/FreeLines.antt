@@ -3,20 +3,19 @@ use mathlib.Core.Path.{_≡_, refl, ap, sym, _∙_}
 use mathlib.Core.Bool.{Bool, true, _&&_, false≢true}
 use mathlib.Core.List.{List}
 use Prim.Native.Nat.{ℕ}
-use native.Mathlib.Omega.{arith}
 use lib.ListN.{length}
 use Rattle.model.specs.Base.{pick, areBytes}
 use Rattle.model.specs.Refusal.{linkAt}
 use Rattle.model.specs.Table.{Table, count, isWell}
-use Rattle.model.specs.Script.{Expr, Parsed, ill, parsed, readScript}
+use Rattle.model.specs.Script.{Expr, parsed, readScript}
 use Rattle.model.specs.Run.{State, Out, stop, gives, runOn}
 use Rattle.model.specs.Meeting.{answer, free}
-use Rattle.model.specs.Call.{answered, firstBy, runBy}
+use Rattle.model.specs.Call.{runBy}
 use Rattle.model.specs.Promise.{ends, tableOf, answerOf, orderEnds}
 use Rattle.model.proofs.StopLaws.{stop-refuses}
 use Rattle.model.proofs.RunsBack.{runsBack}
 use Rattle.model.proofs.StoredBack.{storedBack}
-use Rattle.model.proofs.CallsCommute.{length-matchedAll}
+use Rattle.model.proofs.CallsCommute.{length-matchedAll, free-scripts}
 use Rattle.model.proofs.FreeCommutes.{freeCommutes}
 use Rattle.table.specs.Words.{encode, decode}
 use Rattle.sequence.specs.Orders.{endingBy, ending, orderThen, orderFrom, order, swap}
@@ -85,7 +84,7 @@ alike (gives v s) (gives w u) (gives v′ s′) (gives w′ u′) g h i j k =
     ap (Ended (length w′) (length v′)) k
 
 pub freeLines : FreeLines
-freeLines p b c x bytes bytesB bytesC read says = go (readScript b) (readScript c) refl refl says
+freeLines p b c x bytes bytesB bytesC read says = free-scripts b c says both
   where
     well : isWell x ≡ true
     well = storedBack .1 p x bytes read .0
@@ -114,8 +113,3 @@ freeLines p b c x bytes bytesB bytesC read says = go (readScript b) (readScript 
               (ap length (O .2) ∙ length-matchedAll _ _ _ _) (ap length (O .3) ∙ length-matchedAll _ _ _ _) (O .6 .0) ∙
               sym (ap swap two),
         )
-
-    go : (P Q : Parsed) → readScript b ≡ P → readScript c ≡ Q → firstBy P Q ≡ answered free → Claim
-    go (ill z) Q E F h = let y : _≡_ {A = ℕ} 0 1 = cc in absurd (omega arith)
-    go (parsed e i n r) (ill z) E F h = let y : _≡_ {A = ℕ} 0 1 = cc in absurd (omega arith)
-    go (parsed e i n r) (parsed f j m q) E F h = let y : answer e f ≡ free = cc in both e f i n j m r q E F y

@@ -3,12 +3,12 @@ use mathlib.Core.Path.{_≡_, refl, ap, sym, _∙_, subst}
 use mathlib.Core.Bool.{Bool, false, _||_, or-false, or-true}
 use mathlib.Core.List.{List, [], _∷_, map, map-append}
 use mathlib.Core.Option.{none}
-use Prim.Native.Nat.{ℕ, _+_, _-_, _≤_, _<_}
+use Prim.Native.Nat.{ℕ, _+_, _-_, _<_}
 use native.Mathlib.Omega.{arith}
 use native.Mathlib.Numerals.{add-one}
 use lib.Dec.{eqb}
 use lib.ListN.{length, getD, take, set, replicate}
-use lib.Seq.{take-suc, take-all}
+use lib.Seq.{take-suc}
 use borrow.Author.Tests.{eq-eqb, ne-eqb, eqb-true, eqb-false}
 use Rattle.model.specs.Base.{pick, any}
 use Rattle.model.specs.Table as model
@@ -71,6 +71,3 @@ flagged-next ns ms d h low f =
         flags-more (λ (k : ℕ). any (model.isThe k) (map linked (take d ms))) (λ (k : ℕ). any (model.isThe k) (map linked (take (d + 1) ms)))
         ns (getD ms d 0) (omega (arith, z)) low
         (λ k e. next k (eq-eqb (getD ms d 0) (k + 1) e) ∙ or-true (any (model.isThe k) (map linked (take d ms)))) other f
-
-pub flagged-all : (ns ms : List ℕ) (d : ℕ) → length ms ≤ d → Flagged (take d ms) ns → Flagged ms ns
-flagged-all ns ms d h f = subst (λ (v : List ℕ). Flagged v ns) (take-all d ms h) f

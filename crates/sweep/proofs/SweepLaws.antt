@@ -14,7 +14,7 @@ use borrow.Author.Tests.{ne-eqb, eqb-true, eqb-false}
 use Rattle.model.specs.Base.{pick}
 use Rattle.model.specs.Table as model
 use Rattle.model.specs.Sweep.{isKept, newNumber, keptBefore, renumbered, sweptRows, sweptMarks, swept, through}
-use Rattle.model.proofs.BoolLaws.{by-cases, pick-true, pick-false, or-neither}
+use Rattle.model.proofs.BoolLaws.{by-cases, pick-true, pick-false, or-neither, eq-cases}
 use Rattle.table.specs.Words.{linkOf, linked, wordOf, rowOf, rowsOf, wordsOf, decodeParts, decode, encode}
 use Rattle.table.specs.Words as words
 use Rattle.sweep.specs.Sweeping.{planSwept, Flagged, keepsRow, newWord, RowPost, numberOf, Sweeping, newLinks}
@@ -95,9 +95,9 @@ module _ (ws ms : List ℕ) (n i : ℕ) (fits : Fits n ws ms) (size : length ws 
 
   pub entry-low : getD ns (getD ws i 0 / 4 % 1024) 0 < 1024
   entry-low =
-      by-cases (eqb (getD ws i 0 / 4 % 1024) 0)
-      (λ t. omega (arith, ap (λ (j : ℕ). getD ns j 0) (eqb-true (getD ws i 0 / 4 % 1024) 0 t), s .none))
-      (λ t. some-low (eqb-false (getD ws i 0 / 4 % 1024) 0 t))
+      eq-cases (getD ws i 0 / 4 % 1024) 0
+      (λ t. omega (arith, ap (λ (j : ℕ). getD ns j 0) t, s .none))
+      some-low
     where
       number-low : (k : ℕ) → numberOf (decodeParts n ws ms) k ≤ k + 1
       number-low k =

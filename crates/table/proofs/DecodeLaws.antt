@@ -13,7 +13,7 @@ use borrow.Author.Tests.{lt-ltb, le-ltb, eq-eqb, ne-eqb, eqb-true, eqb-false}
 use Rattle.model.specs.Base.{any}
 use Rattle.model.specs.Table as model
 use Rattle.model.specs.Stored.{wordBytes, parentBytes}
-use Rattle.model.proofs.BoolLaws.{by-cases}
+use Rattle.model.proofs.BoolLaws.{by-cases, eq-cases}
 use Rattle.table.specs.Words.{linkOf, linked, wordOf, rowsOf, decodeParts}
 use Rattle.table.proofs.WordLaws.{linked-linkOf, count-decode, rowAt-decode, rowsOf-push}
 use Rattle.model.proofs.ListLaws.{map-set}
@@ -41,8 +41,8 @@ module _ (n : ℕ) (ws ms : List ℕ) (within : n ≤ length ws) (i : ℕ) (h : 
   -- a lower parent's link is at most the row's number
   pub link-low : ((p : ℕ) → model.rowAt (decodeParts n ws ms) i .parent ≡ some p → p < i) → getD ws i 0 / 4 % 1024 ≤ i
   link-low lower =
-      by-cases (eqb (getD ws i 0 / 4 % 1024) 0) (λ e. omega (arith, eqb-true (getD ws i 0 / 4 % 1024) 0 e))
-      (λ e. omega (arith, lower (getD ws i 0 / 4 % 1024 - 1) (parent-at (eqb-false (getD ws i 0 / 4 % 1024) 0 e))))
+      eq-cases (getD ws i 0 / 4 % 1024) 0 (λ e. omega (arith, e))
+      (λ e. omega (arith, lower (getD ws i 0 / 4 % 1024 - 1) (parent-at e)))
 
 -- whether a row is marked, one mark after another
 pub isThe-linked : (link m : ℕ) → 0 < link → model.isThe (link - 1) (linked m) ≡ eqb m link

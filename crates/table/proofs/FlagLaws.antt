@@ -1,15 +1,13 @@
--- Flags of rows: none at first, and one row more.
-use mathlib.Core.Path.{_≡_, ap, sym, _∙_}
+-- Flags of rows: none at first, one row more, and all.
+use mathlib.Core.Path.{_≡_, ap, sym, subst, _∙_}
 use mathlib.Core.Bool.{Bool, true, false}
 use mathlib.Core.List.{List}
-use Prim.Native.Nat.{ℕ, _+_, _<_}
+use Prim.Native.Nat.{ℕ, _+_, _≤_, _<_}
 use native.Mathlib.Omega.{arith}
-use lib.Dec.{eqb}
-use lib.ListN.{length, getD, set, replicate, length-set, getD-replicate}
-use lib.Seq.{getD-set-same, getD-set-other}
-use borrow.Author.Tests.{eqb-true, eqb-false}
+use lib.ListN.{length, getD, take, set, replicate, length-set, getD-replicate}
+use lib.Seq.{getD-set-same, getD-set-other, take-all}
 use Rattle.model.specs.Base.{pick}
-use Rattle.model.proofs.BoolLaws.{by-cases}
+use Rattle.model.proofs.BoolLaws.{eq-cases}
 use Rattle.table.specs.Flags.{Flags}
 
 pub flags-none : (f : ℕ → Bool) (fs : List ℕ) → fs ≡ replicate 513 0 → ((k : ℕ) → f k ≡ false) → Flags f fs
@@ -29,7 +27,7 @@ flags-more f g fs link some low here there x =
       size = length-set fs link 1 ∙ x .size;
       none = getD-set-other fs link 0 1 0 (λ q. omega arith) ∙ x .none;
       flags = λ k h.
-          by-cases (eqb link (k + 1)) (λ e. set-here k (eqb-true link (k + 1) e)) (λ e. set-there k h (eqb-false link (k + 1) e));
+          eq-cases link (k + 1) (λ e. set-here k e) (λ e. set-there k h e);
     }
   where
     set-here : (k : ℕ) → link ≡ k + 1 → getD (set fs link 1) (k + 1) 0 ≡ pick (g k) 1 0
@@ -40,3 +38,7 @@ flags-more f g fs link some low here there x =
     set-there : (k : ℕ) → k < 512 → (link ≡ k + 1 → ⊥) → getD (set fs link 1) (k + 1) 0 ≡ pick (g k) 1 0
     set-there k h z =
         getD-set-other fs link (k + 1) 1 0 (λ q. z (sym q)) ∙ x .flags k h ∙ ap (λ (t : Bool). pick t 1 0) (sym (there k z))
+
+-- what is flagged of a list, once all of it is passed
+pub flags-all : (f : List ℕ → ℕ → Bool) (fs v : List ℕ) (d : ℕ) → length v ≤ d → Flags (f (take d v)) fs → Flags (f v) fs
+flags-all f fs v d h x = subst (λ (l : List ℕ). Flags (f l) fs) (take-all d v h) x

@@ -17,7 +17,7 @@ use Rattle.model.specs.Stored.{wordAt, parentIn}
 use Rattle.model.specs.Undo.{historySize, recordIn, Placed, Formed, broken, formed, formFault, withPlaced, formFrom, sameBool, sameParent}
 use Rattle.model.specs.Undo.{cutIn, madeIn, madeFits, oldParentFits, cutFits, Undo, refused, undoAll, backwards, undo}
 use Rattle.model.proofs.ListLaws.{drop-all, drop-first}
-use Rattle.model.proofs.BoolLaws.{by-cases, pick-true, pick-false}
+use Rattle.model.proofs.BoolLaws.{by-cases, pick-true, pick-false, eq-cases}
 use Rattle.table.specs.Words.{linked, decodeParts}
 use Rattle.table.proofs.WordLaws.{count-decode, rowAt-decode}
 use Rattle.table.proofs.DecodeLaws.{element-kind}
@@ -200,12 +200,12 @@ module _ {b m : List ℕ} {at n : ℕ} (c : Forming b m at n) where
             few = omega (arith, forming-few);
             size = length-set m n at ∙ c .size;
             whole = λ k g.
-                by-cases (eqb k n)
+                eq-cases k n
                 (λ q.
-                let y : getD (set m n at) k 0 ≡ at = ap (λ (j : ℕ). getD (set m n at) j 0) (eqb-true k n q) ∙ here in
+                let y : getD (set m n at) k 0 ≡ at = ap (λ (j : ℕ). getD (set m n at) j 0) q ∙ here in
                 subst (λ (j : ℕ). (j ≤ length b) × (historySize (getD (drop j b) 0 0) ≤ length (drop j b))) (sym y) (c .within, whole-here))
                 (λ q.
-                let f = eqb-false k n q in
+                let f = q in
                 subst (λ (j : ℕ). (j ≤ length b) × (historySize (getD (drop j b) 0 0) ≤ length (drop j b)))
                 (sym (getD-set-other m n k at 0 f)) (c .whole k (omega (arith, f))));
             rest = go;

@@ -10,11 +10,11 @@ use native.Mathlib.Numerals.{add-one}
 use lib.Dec.{ltb, eqb}
 use lib.ListN.{length, getD, set}
 use lib.Seq.{getD-set-same, getD-set-other, ext-getD}
-use borrow.Author.Tests.{lt-ltb, eq-eqb, ne-eqb, ltb-true, ltb-false, eqb-true, eqb-false}
+use borrow.Author.Tests.{lt-ltb, eq-eqb, ne-eqb, ltb-true, ltb-false, eqb-false}
 use Rattle.model.specs.Base.{pick}
 use Rattle.model.specs.Table as model
 use Rattle.model.specs.Run.{State, Out, stop, gives, newRow, withMade, thenRow}
-use Rattle.model.proofs.BoolLaws.{by-cases, pick-true, pick-false, and-both}
+use Rattle.model.proofs.BoolLaws.{by-cases, pick-true, pick-false, and-both, eq-cases}
 use Rattle.model.proofs.TableLaws.{isElement-by}
 use Rattle.model.proofs.GrowLaws.{count-withRow, rowAt-withRow-old, rowAt-withRow-new}
 use Rattle.table.specs.Words.{linked, rowOf, rowsOf, isRowWord, withLink, decodeParts}
@@ -211,8 +211,8 @@ module _ {ws h m : List ℕ} {p : Progress} {t j : ℕ} (pre : NextPre ws h m p 
 
     pub next-old : (c : ℕ) → c < p .count → model.rowAt (decodeParts (r .count) ws′ []) c ≡ model.rowAt (decodeParts (p .count) ws []) c
     next-old c a =
-        by-cases (eqb link 0) (λ e. ap (λ (s : State). model.rowAt (s .plan) c) (state-same (eqb-true link 0 e)))
-        (λ e. made-old (pre .held) held′ (model.withParent (rowOf w) (linked link)) (state-copy (eqb-false link 0 e)) c a)
+        eq-cases link 0 (λ e. ap (λ (s : State). model.rowAt (s .plan) c) (state-same e))
+        (λ e. made-old (pre .held) held′ (model.withParent (rowOf w) (linked link)) (state-copy e) c a)
 
     next-new : (link ≡ 0 → ⊥) → IsCopy ws′ (r .count) j (p .count)
     next-new n = (
@@ -222,7 +222,7 @@ module _ {ws h m : List ℕ} {p : Progress} {t j : ℕ} (pre : NextPre ws h m p 
     )
 
     pub next-mapped : Mapped ws′ m′ (r .count) t (j + 1)
-    next-mapped k a b = by-cases (eqb k j) (λ e. at (eqb-true k j e)) (λ e. old (eqb-false k j e))
+    next-mapped k a b = eq-cases k j at old
       where
         grown : p .count ≤ r .count
         grown = post .updated .after fine .rows

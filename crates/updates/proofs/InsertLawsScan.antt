@@ -16,7 +16,7 @@ use Rattle.model.specs.Table as model
 use Rattle.model.specs.Sweep.{through}
 use Rattle.model.specs.Step.{parentIs, isBelowFrom, isBelow}
 use Rattle.model.specs.Run.{State, Out, stop, gives, newRow, thenRow, Copied, copyOf, copyParent, copyRow, copyEach, descendantsFrom}
-use Rattle.model.proofs.BoolLaws.{by-cases, pick-true, pick-false}
+use Rattle.model.proofs.BoolLaws.{by-cases, pick-true, pick-false, eq-cases}
 use Rattle.model.proofs.Below.{Below, under, further, below-is}
 use Rattle.table.specs.Words.{linked}
 use Rattle.updates.specs.Inserting.{copiedIn, copyLink, copyBy}
@@ -120,16 +120,13 @@ pub record Linked (m : List ℕ) (t l : ℕ) : Type 0 where
 link-cases : {P : Type 0} (m : List ℕ) (t l : ℕ) →
     (l ≡ 0 → P) → ((l ≡ 0 → ⊥) → l - 1 < t → P) → ((l ≡ 0 → ⊥) → t ≤ l - 1 → getD m (l - 1) 0 ≡ 65535 → P) → (Linked m t l → P) → P
 link-cases m t l a b c d =
-    by-cases (eqb l 0) (λ e. a (eqb-true l 0 e))
-    (λ e.
-    let f = eqb-false l 0 e in
+    eq-cases l 0 a
+    (λ f.
     by-cases (ltb (l - 1) t) (λ g. b f (ltb-true (l - 1) t g))
     (λ g.
     let h = ltb-false (l - 1) t g in
-    by-cases (eqb (getD m (l - 1) 0) 65535) (λ k. c f h (eqb-true (getD m (l - 1) 0) 65535 k))
-    (λ k.
-    let y = eqb-false (getD m (l - 1) 0) 65535 k in
-    d (record { parent = f; low = h; copied = y; is = link-in m t l f h y }))))
+    eq-cases (getD m (l - 1) 0) 65535 (c f h)
+    (λ y. d (record { parent = f; low = h; copied = y; is = link-in m t l f h y }))))
 
 pub linked-at : (m : List ℕ) (t l : ℕ) → (copyLink m t l ≡ 0 → ⊥) → Linked m t l
 linked-at m t l n =
@@ -211,7 +208,7 @@ module _ (x : model.Table) (lower : (i p : ℕ) → model.rowAt x i .parent ≡ 
 
     -- known of one row more
     pub known-next : (k : ℕ) → t ≤ k → k < j + 1 → eqb (getD map′ k 0) 65535 ≡ not (eqb k t || isBelow x t k)
-    known-next k a b = by-cases (eqb k j) (λ e. at (eqb-true k j e)) (λ e. old (eqb-false k j e))
+    known-next k a b = eq-cases k j at old
       where
         old : (k ≡ j → ⊥) → eqb (getD map′ k 0) 65535 ≡ not (eqb k t || isBelow x t k)
         old f =

@@ -1,5 +1,9 @@
 -- `step::flag` flags the items of a value. The loop's invariant: the flags are those of the items passed.
-use Rattle.query.proofs.StepLaws.{flagged-none, flagged-next, flagged-all}
+use Rattle.query.proofs.StepLaws.{flagged-none, flagged-next}
+use Rattle.table.proofs.FlagLaws.{flags-all}
+use Rattle.model.specs.Base.{among}
+use mathlib.Core.List.{List}
+use Prim.Native.Nat.{ℕ}
 use Rattle.query.specs.Stepping.{Flagged}
 use lib.ListN.{length, take, set}
 use mathlib.Core.Path.{sym, ap, subst}
@@ -66,7 +70,7 @@ same-length c =
 returns : tie.Need-returns Inv-loop μ-loop
 returns c =
     let c4 = c .before .before .before .before in
-    flagged-all (c .before .loop .flags) (c4 .args .items .now) (c .before .loop .k) (omega arith)
+    flags-all (λ (v : List ℕ) (k : ℕ). among k v) (c .before .loop .flags) (c4 .args .items .now) (c .before .loop .k) (omega arith)
     (c .before .loop .inv .1)
 
 pub flag-spec : {M : Type 1} → statement M

@@ -1,9 +1,14 @@
 -- `sweep::flag` flags the marked rows. The loop's invariant: the flags are those of the marks passed.
-use Rattle.sweep.proofs.FlagLaws.{flagged-none, flagged-next, flagged-all}
+use Rattle.sweep.proofs.FlagLaws.{flagged-none, flagged-next}
+use Rattle.table.proofs.FlagLaws.{flags-all}
+use Rattle.table.specs.Words.{linked}
+use Rattle.model.specs.Base.{any}
+use Rattle.model.specs.Table as model
+use mathlib.Core.List.{List, map}
 use Rattle.sweep.specs.Sweeping.{Flagged}
 use lib.ListN.{length, take}
 use mathlib.Core.Path.{sym, ap, subst}
-use Prim.Native.Nat.{_≤_, _-_, _+_}
+use Prim.Native.Nat.{ℕ, _≤_, _-_, _+_}
 use native.Mathlib.Omega.{arith}
 use borrow.Author.Needs.{needs}
 use Rattle.sweep.proofs.sweep.flag.Statement.{statement}
@@ -59,7 +64,7 @@ same-length c =
 returns : tie.Need-returns Inv-loop μ-loop
 returns c =
     let c4 = c .before .before .before .before in
-    flagged-all (c .before .loop .numbers) (c4 .args .marks .now) (c .before .loop .d) (omega
+    flags-all (λ (v : List ℕ) (k : ℕ). any (model.isThe k) (map linked v)) (c .before .loop .numbers) (c4 .args .marks .now) (c .before .loop .d) (omega
     arith) (c .before .loop .inv .1)
 
 pub flag-spec : {M : Type 1} → statement M

@@ -1,10 +1,10 @@
 -- `iterate`, a for: each call asks what is there, and each way out is the run of the expression; one law for each.
 use borrow.Author.Needs.{needs}
 use mathlib.Core.Path.{_∙_}
-use Prim.Native.Nat.{ℕ, _+_}
+use Prim.Native.Nat.{ℕ}
 use native.Mathlib.Omega.{arith}
 use Rattle.script.proofs.AcceptedLaws.{accepted-record}
-use Rattle.eval.proofs.EvalLaws.{deep, good}
+use Rattle.eval.proofs.EvalLaws.{deep}
 use Rattle.eval.proofs.LoopLaws.{for-first, for-stops, for-none, each-asks, items-stop, close-asks, close-yields}
 use Rattle.eval.proofs.evaluate.iterate.Reads as iterate
 use Rattle.eval.proofs.evaluate.+binary+branch+each+eval+iterate+unary.Lts-iterate as iterate-lts
@@ -52,7 +52,7 @@ each-requires t c κs =
     let c23 = c14 .before .before .before .before .before .before .before .before .before in
     let d = deep (c23 .pre .1 .0) in
     let m = c23 .pre .0 in
-    let s = good (c23 .pre .1 .0) (c23 .args .at + 1) (c14 .eval .ensures) (c6 .if1 .left) .short in
+    let s = c14 .eval .ensures .fine (c6 .if1 .left) .short in
     (omega (arith, d, m, s), each-asks (c23 .pre .1 .0) (c23 .pre .1 .1) (c14 .eval .ensures) (c6 .if1 .left) (c3 .if2 .left))
 
 pub same-length-7 : (t : ℕ) → iterate-lts.Need-same-length-7 (iterate-claims t) (iterate-at t) iterate.Post

@@ -39,8 +39,7 @@ eval-requires t c κs =
     let d = deep (c10 .pre .1 .0) in
     let m = c10 .pre .0 in (
       omega (arith, d, m),
-      unary-first (c10 .pre .1 .0) (c10 .pre .1 .1) (c10 .args .at + (1 + c3 .body-size .result)) (ap (λ (s :
-          ℕ). c10 .args .at + (1 + s)) (c3 .body-size .ensures .0)),
+      unary-first (c10 .pre .1 .0) (ap (λ (s : ℕ). c10 .args .at + (1 + s)) (c3 .body-size .ensures .0)) (c10 .pre .1 .1),
     )
 
 pub returns : (t : ℕ) → unary-lts.Need-returns (unary-claims t) (unary-at t) unary.Post
@@ -48,8 +47,8 @@ returns t c =
     let c8 = c .before .before .before .before .before .before .before .before in
     let c12 = c8 .before .before .before .before in
     let c19 = c12 .before .before .before .before .before .before .before in
-    unary-stops (c19 .pre .1 .0) (c19 .args .at + (1 + c12 .body-size .result)) (ap (λ (s : ℕ). c19 .args .at + (1 + s)) (c12
-    .body-size .ensures .0)) (c19 .pre .1 .1) (c8 .eval .ensures) (c .if1 .taken)
+    unary-stops (c19 .pre .1 .0) (ap (λ (s : ℕ). c19 .args .at + (1 + s)) (c12 .body-size .ensures .0)) (c19 .pre .1 .1)
+    (c8 .eval .ensures) (c .if1 .taken)
 
 pub applied-requires : (t : ℕ) → unary-lts.Need-applied-requires (unary-claims t) (unary-at t) unary.Post
 applied-requires t c κs =
@@ -57,8 +56,8 @@ applied-requires t c κs =
     let c11 = c3 .before .before .before .before .before .before .before .before in
     let c15 = c11 .before .before .before .before in
     let c22 = c15 .before .before .before .before .before .before .before in
-    unary-asks (c22 .pre .1 .0) (c22 .args .at + (1 + c15 .body-size .result)) (c11 .eval .ensures) (c3 .if1 .left) (ap (λ (s : ℕ).
-    c22 .args .at + (1 + s)) (c15 .body-size .ensures .0)) (c22 .pre .1 .1)
+    unary-asks (c22 .pre .1 .0) (ap (λ (s : ℕ). c22 .args .at + (1 + s)) (c15 .body-size .ensures .0)) (c22 .pre .1 .1)
+    (c11 .eval .ensures) (c3 .if1 .left)
 
 pub same-length-4 : (t : ℕ) → unary-lts.Need-same-length-4 (unary-claims t) (unary-at t) unary.Post
 same-length-4 t c =
@@ -85,5 +84,5 @@ returns-2 t c =
     let c18 = c10 .before .before .before .before .before .before .before .before in
     let c22 = c18 .before .before .before .before in
     let c29 = c22 .before .before .before .before .before .before .before in
-    unary-yields (c29 .pre .1 .0) (c29 .args .at + (1 + c22 .body-size .result)) (c18 .eval .ensures) (c10 .if1 .left) (ap (λ (s :
-    ℕ). c29 .args .at + (1 + s)) (c22 .body-size .ensures .0)) (c29 .pre .1 .1) (c6 .applied .ensures)
+    unary-yields (c29 .pre .1 .0) (ap (λ (s : ℕ). c29 .args .at + (1 + s)) (c22 .body-size .ensures .0)) (c29 .pre .1 .1)
+    (c18 .eval .ensures) (c10 .if1 .left) (c6 .applied .ensures)
