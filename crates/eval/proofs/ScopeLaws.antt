@@ -4,13 +4,11 @@ use mathlib.Core.Bool.{Bool, true, false}
 use mathlib.Core.List.{List, [], _∷_, _++_, map, map-append}
 use Prim.Native.Nat.{ℕ, zero, suc, _+_, _-_, _≤_, _<_}
 use native.Mathlib.Omega.{arith}
-use lib.Dec.{eqb}
 use lib.ListN.{length, getD, take, drop, List·getD-append}
 use lib.Seq.{getD-take, getD-append-seam, take-at, take-take, length-take-le}
-use borrow.Author.Tests.{eqb-true, eqb-false}
 use Rattle.model.specs.Base.{pick}
 use Rattle.model.specs.Script.{isBinder}
-use Rattle.model.proofs.BoolLaws.{by-cases}
+use Rattle.model.proofs.BoolLaws.{by-cases, eq-cases}
 use Rattle.model.proofs.ValueLaws.{areValues-more}
 use Rattle.model.proofs.All.{all-snoc}
 use Rattle.model.specs.Run.{AreRows, AreValues}
@@ -118,7 +116,7 @@ module _ {w : List ℕ} {n : ℕ} {env : List Span} {top i j c : ℕ} (scope : I
           pick-more v = ap (λ (b : Bool). getD (pick b (take n env ++ (spanOf i j ∷ [])) (take n env)) v noSpan) t
 
           each : (v : ℕ) → v < n + 1 → SpanFits mid (getD (take n env ++ (spanOf i j ∷ [])) v noSpan)
-          each v q = by-cases (eqb v n) (λ e. last (eqb-true v n e)) (λ e. before (eqb-false v n e))
+          each v q = eq-cases v n last before
             where
               last : v ≡ n → SpanFits mid (getD (take n env ++ (spanOf i j ∷ [])) v noSpan)
               last e =

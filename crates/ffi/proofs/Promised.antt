@@ -1,6 +1,6 @@
 -- The C calls in the model's words: a plan that is read, swept, undone or run on is well formed, so writing it is never refused.
 use mathlib.Core.Path.{_≡_, ap, _∙_}
-use mathlib.Core.Bool.{Bool, true, false, _||_, _&&_}
+use mathlib.Core.Bool.{true, false, _||_, _&&_}
 use mathlib.Core.List.{List}
 use Prim.Native.Nat.{ℕ, _≤_}
 use lib.Dec.{ltb, leb}
@@ -8,7 +8,7 @@ use native.Mathlib.Omega.{arith}
 use lib.ListN.{length, replicate}
 use borrow.Author.Tests.{le-ltb, le-leb, ltb-false}
 use Rattle.model.specs.Base.{pick}
-use Rattle.model.specs.Call.{Ran, areasFit, ranBy, refusedRun, runBy}
+use Rattle.model.specs.Call.{Ran, areasFit, ranBy, runBy}
 use Rattle.model.specs.Limits.{answerNeed, historyNeed, workNeed}
 use Rattle.model.specs.Refusal as refusal
 use Rattle.model.specs.Run.{Out, gives, stop}
@@ -18,18 +18,18 @@ use Rattle.model.specs.Sweep.{swept}
 use Rattle.model.specs.Table.{isWell}
 use Rattle.model.specs.Table as model
 use Rattle.model.specs.Undo.{back, undo}
-use Rattle.model.proofs.BoolLaws.{and-both, or-neither, pick-true}
+use Rattle.model.proofs.BoolLaws.{and-both, or-neither, pick-true, pick-false}
 use Rattle.model.proofs.RunsBack.{runBy-back}
 use Rattle.model.proofs.StoredBack.{storedBack}
 use Rattle.model.proofs.SweepsWell.{sweepsWell}
 use Rattle.model.proofs.UndoKeeps.{undoKeeps}
-use Rattle.table.specs.Words.{encode, decode, fits}
+use Rattle.table.specs.Words.{encode, fits}
 use Rattle.plan.specs.Calls as library
 use Rattle.table.specs.Results as results
 use Rattle.sweep.specs.Sweeping as sweeping
 use Rattle.table.specs.declared.TableResult.{TableResult}
 use Rattle.undo.specs.Undoing.{planUndone, undoneBy}
-use Rattle.run.specs.Calls.{ran, resultOf}
+use Rattle.run.specs.Calls.{ran, resultOf, outcomeOf}
 use Rattle.ffi.specs.Calls.{readCode, readOut, undoCode, undoOut}
 use Rattle.lent.specs.Codes.{codeOf, lentCode, writtenCode, finishedCode, finishedOut}
 use Rattle.ffi.specs.Running.{refusedCall, ranCall, readCall, runCalled}
@@ -39,7 +39,7 @@ use Rattle.table.proofs.EncodeLaws.{decode-encode, fits-encode}
 use Rattle.plan.proofs.WritePlanLaws.{well-written, well-out}
 use Rattle.plan.proofs.Promised.{read-short, read-back}
 use Rattle.paths.proofs.Promised.{free-told}
-use Rattle.run.proofs.OutcomeLaws.{refuses-fine, run-refuses}
+use Rattle.run.proofs.OutcomeLaws.{refuses-fine, run-refuses, outcome-well}
 use Rattle.run.proofs.Promised.{runsCommute}
 
 -- A PLAN READ is the table in its words; the call then answers n and leaves b
@@ -51,13 +51,13 @@ module _ (p o : List ℕ) (x : model.Table) (read : readPlan p ≡ got x) (room 
       n (results.result refusal.fine x)
   code-then n =
       ap (λ (q : TableResult). pick (ltb (length o) 2080) lentCode (readCode q (n q))) the-plan ∙
-      ap (λ (z : Bool). pick z lentCode (n (results.result refusal.fine x))) (le-ltb (length o) 2080 room)
+      pick-false _ lentCode _ (le-ltb (length o) 2080 room)
 
   out-then : (b : TableResult → List ℕ) → pick (ltb (length o) 2080) o (readOut (library.planRead p) (b (library.planRead p)) o) ≡
       b (results.result refusal.fine x)
   out-then b =
       ap (λ (q : TableResult). pick (ltb (length o) 2080) o (readOut q (b q) o)) the-plan ∙
-      ap (λ (z : Bool). pick z o (b (results.result refusal.fine x))) (le-ltb (length o) 2080 room)
+      pick-false _ o _ (le-ltb (length o) 2080 room)
 
 -- a well-formed table written
 written-code : (y : model.Table) → isWell y ≡ true → (o : List ℕ) → 2080 ≤ length o →
@@ -76,7 +76,8 @@ sweptBack p o x b e room =
     let w = storedBack .1 p x b e .0 in
     let y : isWell (swept x) ≡ true = sweepsWell x w .0 in
     let t : sweeping.planSwept (encode x) ≡ results.result refusal.fine (swept x) =
-    pick-true (fits (encode x)) _ _ (fits-encode x w) ∙ ap (λ (u : model.Table). results.result refusal.fine (swept u)) (decode-encode x w) in (
+    pick-true (fits (encode x)) _ _ (fits-encode x w) ∙
+    ap (λ (u : model.Table). results.result refusal.fine (swept u)) (decode-encode x w) in (
       code-then p o x e room (λ q. finishedCode (sweeping.planSwept (q .table)) 1 o) ∙
           ap (λ (r : TableResult). finishedCode r 1 o) t ∙ written-code (swept x) y o room,
       out-then p o x e room (λ q. finishedOut (sweeping.planSwept (q .table)) o) ∙
@@ -92,8 +93,7 @@ undone-back p h o x y w e u room =
     pick-true (fits (encode x)) _ _ (fits-encode x w) ∙
     ap (λ (q : model.Table). undoneBy (encode x) (undo q h)) (decode-encode x w) ∙ ap (undoneBy (encode x)) u in (
       code-then p o x e room (λ q. finishedCode (planUndone (q .table) h) 2 o) ∙ ap (λ (r : TableResult). finishedCode r 2 o) t ∙
-          written-code y v o
-          room,
+          written-code y v o room,
       out-then p o x e room (λ q. finishedOut (planUndone (q .table) h) o) ∙ ap (λ (r : TableResult). finishedOut r o) t ∙
           well-out y v o room,
     )
@@ -128,15 +128,10 @@ call-of : (p s a h w o d : List ℕ) (x : model.Table) (t : Out) → isWell x �
     ranCall (resultOf (encode x) (ranBy x (length a) (length h) (length w) t)) (ranBy x (length a) (length h) (length w) t) o d
 call-of p s a h w o d x t well e g long fit =
     let left : ran (encode x) s a h w ≡ ranBy x (length a) (length h) (length w) t =
-    ap (λ (z : Bool). pick z (ranBy (decode (encode x)) (length a) (length h) (length w)
-    (pick (fits (encode x)) (runBy (decode (encode x)) (readScript s)) (stop (refusal.linkAt 0))))
-    (refusedRun refusal.lentShort (decode (encode x)) a h w)) fit ∙
-    ap (λ (z : Bool). ranBy (decode (encode x)) (length a) (length h) (length w)
-    (pick z (runBy (decode (encode x)) (readScript s)) (stop (refusal.linkAt 0)))) (fits-encode x well) ∙
-    ap (λ (y : model.Table). ranBy y (length a) (length h) (length w) (runBy y (readScript s))) (decode-encode x well) ∙
-    ap (ranBy x (length a) (length h) (length w)) g in
-    ap (λ (z : Bool). pick z (record { code = lentCode; answer = a; history = h; work = w; out = o; done = d })
-    (readCall (library.planRead p) s a h w o d)) long ∙
+    pick-true (areasFit a h w) _ _ fit ∙
+    ap (λ (y : model.Table). ranBy y (length a) (length h) (length w) (outcomeOf (encode x) s)) (decode-encode x well) ∙
+    ap (ranBy x (length a) (length h) (length w)) (outcome-well x well s ∙ g) in
+    pick-false _ _ (readCall (library.planRead p) s a h w o d) long ∙
     ap (λ (q : TableResult). readCall q s a h w o d) (ap library.readBy e) ∙
     ap (λ (l : Ran). ranCall (resultOf (encode x) l) l o d) left
 

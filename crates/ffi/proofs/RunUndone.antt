@@ -4,10 +4,8 @@ use mathlib.Core.Bool.{true, false}
 use mathlib.Core.List.{List}
 use Prim.Native.Nat.{ℕ, _≤_}
 use native.Mathlib.Omega.{arith}
-use lib.Dec.{eqb}
 use lib.ListN.{length, getD, take, set, length-set}
 use lib.Seq.{take-at, getD-set-same, getD-set-other}
-use borrow.Author.Tests.{eqb-true, eqb-false}
 use Rattle.model.specs.Base.{areBytes}
 use Rattle.model.specs.Call.{filled, runBy}
 use Rattle.model.specs.History.{historyBytes}
@@ -15,7 +13,7 @@ use Rattle.model.specs.Run.{State, Out, gives, stop}
 use Rattle.model.specs.Script.{readScript}
 use Rattle.model.specs.Stored.{stored, got, readPlan}
 use Rattle.model.specs.Table.{Table}
-use Rattle.model.proofs.BoolLaws.{by-cases}
+use Rattle.model.proofs.BoolLaws.{by-cases, eq-cases}
 use Rattle.model.proofs.StoredBack.{storedBack}
 use Rattle.lent.specs.Codes.{codeOf, lentCode}
 use Rattle.lent.specs.Done.{isLentShort, doneOver}
@@ -37,7 +35,7 @@ module _ (p s a h w o d : List ℕ) (answers : runCalled p s a h w o d .code ≡
       short z = omega (arith, call-short p s a h w o d true (sym z) lentCode refl refl .0 ∙ answers)
 
   call-read : (x : Table) × (readPlan p ≡ got x)
-  call-read = read-got p (by-cases (eqb (library.planRead p .fault .number) 0) (eqb-true _ 0) (λ z. absurd (refused (eqb-false _ 0 z))))
+  call-read = read-got p (eq-cases (library.planRead p .fault .number) 0 (λ z. z) (λ z. absurd (refused z)))
     where
       refused : (library.planRead p .fault .number ≡ 0 → ⊥) → ⊥
       refused z =

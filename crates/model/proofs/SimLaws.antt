@@ -21,7 +21,8 @@ module _ (W : World) where
   ones-more : (news more : List Label) → ones W (news ++ more) ≡ ones W news ++ more
   ones-more news more = sym (append-assoc (W .one .labels) news more)
 
-  pub label-more : (news more : List Label) (i : ℕ) → i < length (ones W news) → labelAt (ones W (news ++ more)) i ≡ labelAt (ones W news) i
+  pub label-more : (news more : List Label) (i : ℕ) → i < length (ones W news) →
+      labelAt (ones W (news ++ more)) i ≡ labelAt (ones W news) i
   label-more news more i h =
       ap (λ l. labelAt l i) (ones-more news more) ∙ List·getD-append (ones W news) more (label (first 0) []) i h
 

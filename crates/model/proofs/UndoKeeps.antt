@@ -8,7 +8,7 @@ use native.Mathlib.Omega.{arith}
 use lib.Dec.{ltb, eqb}
 use lib.ListN.{length, getD, take}
 use lib.Seq.{length-take-le, getD-take}
-use borrow.Author.Tests.{ltb-true, eqb-true, eqb-false, not-true}
+use borrow.Author.Tests.{ltb-true, eqb-true, not-true}
 use Rattle.model.specs.Base.{pick}
 use Rattle.model.specs.Refusal.{linkAt}
 use Rattle.model.specs.Table.{Row, Table, table, noRow, rowAt, count, isElement}
@@ -17,7 +17,7 @@ use Rattle.model.specs.History.{Record, cutKind}
 use Rattle.model.specs.Undo.{Placed, Formed, broken, formed, formFrom, madeFits, oldParentFits, cutFits}
 use Rattle.model.specs.Undo.{undoFits, undone, refused, back, undoAll, backwards, undoFormed}
 use Rattle.model.specs.Promise.{UndoKeeps}
-use Rattle.model.proofs.BoolLaws.{by-cases, true-false, and-left, and-right}
+use Rattle.model.proofs.BoolLaws.{true-false, and-left, and-right, eq-cases}
 use Rattle.model.proofs.TestLaws.{and-four, and-five}
 use Rattle.model.proofs.TableLaws.{Well, isWell-at, isWell-by, isElement-at, any-by, parent-count}
 use Rattle.model.proofs.GrowLaws.{well-linked}
@@ -56,11 +56,8 @@ module _ (x : Table) (w : Well x) (i : ℕ) (last : i + 1 ≡ count x) (m : isMa
 
   root-below : (d j : ℕ) → getD (x .marks) d none ≡ some j → j < i
   root-below d j e =
-      by-cases (eqb j i) (λ q. absurd (true-false (isMarked x i) (any-by i (x .marks) d (e ∙ ap some (eqb-true j i q))) m))
-      (λ q. below q)
-    where
-      below : eqb j i ≡ false → j < i
-      below q = omega (arith, w .tree .roots d j e .0, eqb-false j i q)
+      eq-cases j i (λ q. absurd (true-false (isMarked x i) (any-by i (x .marks) d (e ∙ ap some q)) m))
+      (λ q. omega (arith, w .tree .roots d j e .0, q))
 
   well-less : Well less
   well-less =

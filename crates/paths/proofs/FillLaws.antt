@@ -341,7 +341,8 @@ module _ (es fs : List positions.Entry) where
   unfolding sum
   first-nothing h n =
       any-false (meetAt es fs 0)
-      (λ l. ap (λ (v : List Path). isTested (positions.entryAt es 0) (positions.entryAt fs l) && isMet (between v (positions.pathsOn fs l)))
+      (λ l.
+      ap (λ (v : List Path). isTested (positions.entryAt es 0) (positions.entryAt fs l) && isMet (between v (positions.pathsOn fs l)))
       h ∙
       and-false (isTested (positions.entryAt es 0) (positions.entryAt fs l))) n
 

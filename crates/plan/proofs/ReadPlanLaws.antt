@@ -3,15 +3,14 @@ use mathlib.Core.Path.{_≡_, ap, sym, _∙_}
 use mathlib.Core.List.{List, [], map}
 use Prim.Native.Nat.{ℕ, suc, _+_, _-_, _/_, _≤_, _<_}
 use native.Mathlib.Omega.{arith}
-use lib.Dec.{eqb}
 use lib.ListN.{length, length-drop, take, drop}
 use lib.Seq.{drop-drop}
-use borrow.Author.Tests.{eq-eqb, ne-eqb}
+use borrow.Author.Tests.{ne-eqb}
 use Rattle.model.specs.Refusal.{fault, fine, isFine, faultAt}
 use Rattle.model.specs.Table as model
 use Rattle.model.specs.Stored.{lastMarked, recordFault, recorded, readFrom, readPlan, bad, got}
 use Rattle.model.proofs.ListLaws.{drop-all}
-use Rattle.model.proofs.BoolLaws.{pick-true, pick-false}
+use Rattle.model.proofs.BoolLaws.{pick-eq, pick-ne}
 use Rattle.model.proofs.StoredLaws.{readFrom-end, readFrom-fine, readFrom-refused}
 use Rattle.table.specs.Words.{linked, decodeParts, encode}
 use Rattle.plan.specs.Reading.{lastOf, RecordPost, Held, ReadPre, ReadPost}
@@ -90,8 +89,7 @@ module _ (b ws ms : List ℕ) (r : PlanEnd) (post : ReadPost b ws ms r) where
   plan-refused t z e =
       ap (λ (u : Table). record { fault = record { number = r .number; place = r .place }; table = u }) e ∙
       ap readBy
-      (sym (pick-false (eqb (r .number) 0) (got (decodeParts (r .count) ws ms)) (bad (fault (r .number) (r .place)))
-      (ne-eqb (r .number) 0 z)) ∙ post .result)
+      (sym (pick-ne (got (decodeParts (r .count) ws ms)) (bad (fault (r .number) (r .place))) z) ∙ post .result)
 
   pub plan-read : r .number ≡ 0 →
       record { fault = record { number = 0; place = 0 }; table = record { count = r .count; rows = ws; marks = ms } } ≡ planRead b
@@ -99,5 +97,4 @@ module _ (b ws ms : List ℕ) (r : PlanEnd) (post : ReadPost b ws ms r) where
       ap (λ (u : Table). record { fault = record { number = 0; place = 0 }; table = u })
       (sym (encode-decode (r .count) ws ms (post .room z) (post .canonical z))) ∙
       ap readBy
-      (sym (pick-true (eqb (r .number) 0) (got (decodeParts (r .count) ws ms)) (bad (fault (r .number) (r .place)))
-      (eq-eqb (r .number) 0 z)) ∙ post .result)
+      (sym (pick-eq (got (decodeParts (r .count) ws ms)) (bad (fault (r .number) (r .place))) z) ∙ post .result)

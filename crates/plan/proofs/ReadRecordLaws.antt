@@ -12,11 +12,10 @@ use Rattle.model.specs.Base.{pick, any}
 use Rattle.model.specs.Refusal.{fault, fine}
 use Rattle.model.specs.Table as model
 use Rattle.model.specs.Stored.{wordAt, rowIn, parentIn, rowFault, markFault, lastMarked, recordFault}
-use Rattle.model.proofs.BoolLaws.{by-cases, pick-true, pick-false, eq-cases}
+use Rattle.model.proofs.BoolLaws.{by-cases, eq-cases, pick-eq, pick-ne}
 use Rattle.model.proofs.BytesLaws.{lastMarked-above}
 use Rattle.table.specs.Words.{linkOf, linked, wordOf, rowsOf, wordsOf, decodeParts}
 use Rattle.plan.specs.Reading.{lastOf, RowPre, RowPost, MarkPre, MarkPost, RecordPre, RecordPost, Recorded}
-use Rattle.table.specs.declared.Table.{Table}
 use Rattle.table.proofs.WordLaws.{linked-linkOf, count-decode, rowAt-decode, canonical-push}
 use Rattle.table.proofs.DecodeLaws.{element-high, element-kind, decode-mark, decode-row}
 use Rattle.model.proofs.ListLaws.{map-set}
@@ -226,7 +225,7 @@ module _ (s ws ms : List ℕ) (n last : ℕ) (pre : RecordPre s ws ms n last) (w
   mark-record kind ms′ r d post same =
       record {
         fault = λ i. record-mark (decodeParts n ws ms) i s kind whole ∙ post .fault i (pre .held .latest);
-        fine = λ z. held z (post .marks ∙ pick-true (eqb r 0) (set ms (getD s 1 0) (wordAt s 2 + 1)) ms (eq-eqb r 0 z));
+        fine = λ z. held z (post .marks ∙ pick-eq (set ms (getD s 1 0) (wordAt s 2 + 1)) ms z);
       }
     where
       held : r ≡ 0 → ms′ ≡ set ms (getD s 1 0) (wordAt s 2 + 1) → Recorded s ws ms n ws ms′ n (d + 1)
@@ -237,7 +236,7 @@ module _ (s ws ms : List ℕ) (n last : ℕ) (pre : RecordPre s ws ms n last) (w
             whole = whole;
             table =
                 ap (decodeParts n ws) e ∙ decode-mark n (getD s 1 0) (wordAt s 2) ws ms ∙
-                sym (pick-true (eqb (getD s 0 0) 19) _ _ (eq-eqb (getD s 0 0) 19 kind));
+                sym (pick-eq _ _ kind);
             held =
                 record {
                   room = pre .held .room;
@@ -253,7 +252,7 @@ module _ (s ws ms : List ℕ) (n last : ℕ) (pre : RecordPre s ws ms n last) (w
   row-record low high room ws′ r post =
       record {
         fault = λ i. record-row (decodeParts n ws ms) i s low high counted whole ∙ post .fault ms i (pre .held .latest);
-        fine = λ z. held z (post .rows ∙ pick-true (eqb r 0) (set ws n (wordOf (rowIn s))) ws (eq-eqb r 0 z));
+        fine = λ z. held z (post .rows ∙ pick-eq (set ws n (wordOf (rowIn s))) ws z);
       }
     where
       counted : model.count (decodeParts n ws ms) < 512
@@ -266,7 +265,7 @@ module _ (s ws ms : List ℕ) (n last : ℕ) (pre : RecordPre s ws ms n last) (w
             whole = whole;
             table =
                 ap (λ (v : List ℕ). decodeParts (n + 1) v ms) e ∙ decode-row n (rowIn s) ws ms h (post .link z) ∙
-                sym (pick-false (eqb (getD s 0 0) 19) _ _ (ne-eqb (getD s 0 0) 19 (λ q. omega arith)));
+                sym (pick-ne {m = getD s 0 0} _ _ (λ q. omega arith));
             held =
                 record {
                   room = omega arith;

@@ -1,29 +1,29 @@
 -- The public run: from the check's answer, the reader's and the evaluator's to what the call owes.
 use mathlib.Core.Path.{_≡_, refl, ap, sym, subst, _∙_}
 use mathlib.Core.Bool.{Bool, true, false, _&&_}
-use mathlib.Core.List.{List, [], _∷_, _++_, map}
-use mathlib.Core.Option.{none, some}
+use mathlib.Core.List.{List, [], _∷_, _++_}
+use mathlib.Core.Option.{some}
 use Prim.Native.Nat.{ℕ, zero, suc, _+_, _-_, _≤_, _<_}
 use native.Mathlib.Omega.{arith}
 use lib.Dec.{leb, eqb}
-use lib.ListN.{length, getD, take, drop, replicate, length-replicate, List·getD-map, take-append-drop}
+use lib.ListN.{length, take, drop, replicate, length-replicate, take-append-drop}
 use lib.Seq.{length-take-le}
-use borrow.Author.Tests.{ne-eqb, eqb-true, eqb-false, le-leb, lt-leb, leb-true}
+use borrow.Author.Tests.{eqb-true, eqb-false, le-leb, lt-leb, leb-true}
 use Rattle.model.specs.Base.{pick, nothing, also, bit}
 use Rattle.model.specs.Refusal as refusal
 use Rattle.model.specs.Script.{readScript}
 use Rattle.model.specs.History.{Record, historyBytes, AllInRange, times, isCut}
 use Rattle.model.specs.Run.{Out, stop, gives, run}
 use Rattle.model.specs.Call.{Ran, filled, countKind, areasFit, ranBy, refusedRun, runBy}
-use Rattle.model.proofs.BoolLaws.{by-cases, pick-true, pick-false, and-left, and-right, and-both}
+use Rattle.model.proofs.BoolLaws.{by-cases, pick-true, pick-false, and-left, and-right, and-both, pick-ne}
 use Rattle.records.specs.Walk.{endAt, exprAt}
 use Rattle.script.specs.Reading.{scriptRead}
 use Rattle.script.proofs.ScriptLaws.{script-accepted, script-parsed, script-ill}
-use Rattle.table.specs.Words.{linked, encode, decode, decodeParts, fits}
+use Rattle.table.specs.Words.{encode, decode, decodeParts, fits}
 use Rattle.table.specs.declared.Table.{Table}
 use Rattle.table.specs.declared.Fault.{Fault}
-use Rattle.table.proofs.WordLaws.{encode-decode, count-decode}
-use Rattle.table.proofs.FittedLaws.{Fits, fits-at}
+use Rattle.table.proofs.WordLaws.{encode-decode}
+use Rattle.table.proofs.FittedLaws.{Fits, fits-at, fits-mark}
 use Rattle.updates.specs.State.{recordsIn, started, stateOf, Held}
 use Rattle.query.specs.Values.{valueAt}
 use Rattle.updates.proofs.StateLaws.{held-start, state-start}
@@ -99,7 +99,7 @@ module _ (t : Table) (b : List ℕ) (a h w : ℕ) (n i : ℕ) (some : n ≡ 0 �
         items = 0;
         bytes = 0;
         tally = record { made = 0; cut = 0; records = 0 };
-      }) (sym (pick-false (eqb n 0) (encode (decode t)) t (ne-eqb n 0 some))) ∙ ap (resultOf t) (sym leaves)
+      }) (sym (pick-ne (encode (decode t)) t some)) ∙ ap (resultOf t) (sym leaves)
 
   refused-answer : replicate a 0 ≡ ranBy (decode t) a h w (outcomeOf t b) .answer
   refused-answer = ap (λ (r : Ran). r .answer) (sym leaves)
@@ -147,14 +147,6 @@ module _ (t : Table) (b : List ℕ) (e : fits t ≡ true) where
     fit : Fits (t .count) (t .rows) (t .marks)
     fit = fits-at (t .count) (t .rows) (t .marks) e
 
-    marks-fit : t .count ≤ length (t .rows) → (d : ℕ) → getD (t .marks) d 0 ≤ t .count
-    marks-fit l d =
-        by-cases (eqb (getD (t .marks) d 0) 0) (λ z. omega (arith, eqb-true (getD (t .marks) d 0) 0 z))
-        (λ z.
-        let m : getD (map linked (t .marks)) d none ≡ some (getD (t .marks) d 0 - 1) =
-        List·getD-map linked (t .marks) d 0 ∙ pick-false (eqb (getD (t .marks) d 0) 0) none _ z in
-        omega (arith, fit .well .tree .roots d (getD (t .marks) d 0 - 1) m .0, count-decode (t .count) (t .rows) (t .marks) l))
-
     module _ (rows : length (t .rows) ≡ 512) (marks : length (t .marks) ≡ 8) {h w : List ℕ} {env : List Span} where
       pub eval-asks : 12288 ≤ length h → 32768 ≤ length w → length env ≡ 8 → {p : Progress} → p ≡ started (t .count) →
           EvalPre b 0 16 0 env (t .marks) (t .rows) h w 0 p
@@ -163,7 +155,7 @@ module _ (t : Table) (b : List ℕ) (e : fits t ≡ true) where
           (record {
             accepted = script-accepted b k;
             held = held-start (t .count) (t .rows) (t .marks) h e rows lh;
-            marks = record { size = marks; rows = marks-fit (omega (arith, fit .few)) };
+            marks = record { size = marks; rows = fits-mark (t .count) (t .rows) (t .marks) fit (omega (arith, fit .few)) };
             scope = record { few = omega arith; size = size; spans = λ v l. absurd (omega arith); values = nothing };
             room = omega arith;
           })

@@ -1,6 +1,6 @@
--- A run of a script's bytes that stops does so with a refusal of the table: by the script's reader (1 to 5), for the plan (6) or by the
--- run (7 to 10).
-use mathlib.Core.Path.{_≡_, ap, sym}
+-- What a run of a script's bytes comes to: on a well-formed table, what the model's does; where it stops, a refusal of the table, by the
+-- script's reader (1 to 5), for the plan (6) or by the run (7 to 10).
+use mathlib.Core.Path.{_≡_, ap, sym, _∙_}
 use mathlib.Core.Bool.{Bool, true, false}
 use mathlib.Core.List.{List}
 use Prim.Native.Nat.{ℕ, _≤_}
@@ -15,9 +15,16 @@ use Rattle.model.specs.Table as model
 use Rattle.model.proofs.StopLaws.{stop-number}
 use Rattle.model.proofs.TestLaws.{isIn-at, isIn-by, isIn-some}
 use Rattle.model.proofs.ScriptLaws.{Sound, readScript-sound}
-use Rattle.table.specs.Words.{decode, fits}
+use Rattle.table.specs.Words.{decode, fits, encode}
 use Rattle.table.specs.declared.Table.{Table}
 use Rattle.run.specs.Calls.{outcomeOf}
+use Rattle.model.proofs.BoolLaws.{pick-true}
+use Rattle.table.proofs.EncodeLaws.{fits-encode, decode-encode}
+
+-- on the words of a well-formed table it is the model's
+pub outcome-well : (x : model.Table) → model.isWell x ≡ true → (b : List ℕ) → outcomeOf (encode x) b ≡ runBy x (readScript b)
+outcome-well x w b =
+    pick-true (fits (encode x)) _ _ (fits-encode x w) ∙ ap (λ (y : model.Table). runBy y (readScript b)) (decode-encode x w)
 
 -- STOPPED
 abbrev pub Refuses : Out → Type 0

@@ -1,11 +1,11 @@
 -- After `answer free` the lines of both orders have the same numbers, or both say refused.
 use mathlib.Core.Path.{_≡_, refl, ap, sym, _∙_}
-use mathlib.Core.Bool.{Bool, true, _&&_, false≢true}
+use mathlib.Core.Bool.{true, _&&_, false≢true}
 use mathlib.Core.List.{List}
 use Prim.Native.Nat.{ℕ}
 use lib.ListN.{length}
-use Rattle.model.specs.Base.{pick, areBytes}
-use Rattle.model.specs.Refusal.{linkAt}
+use Rattle.model.specs.Base.{areBytes}
+use Rattle.model.specs.Refusal.{isFine}
 use Rattle.model.specs.Table.{Table, count, isWell}
 use Rattle.model.specs.Script.{Expr, parsed, readScript}
 use Rattle.model.specs.Run.{State, Out, stop, gives, runOn}
@@ -17,13 +17,14 @@ use Rattle.model.proofs.RunsBack.{runsBack}
 use Rattle.model.proofs.StoredBack.{storedBack}
 use Rattle.model.proofs.CallsCommute.{length-matchedAll, free-scripts}
 use Rattle.model.proofs.FreeCommutes.{freeCommutes}
-use Rattle.table.specs.Words.{encode, decode}
+use Rattle.table.specs.Words.{encode}
 use Rattle.sequence.specs.Orders.{endingBy, ending, orderThen, orderFrom, order, swap}
 use Rattle.sequence.specs.Promise.{hasEnded, FreeLines}
 use Rattle.sequence.specs.declared.orders.Ending.{Ending}
 use Rattle.sequence.specs.declared.orders.Order.{Order}
 use Rattle.sequence.specs.declared.orders.Order.the-variants.{Stopped, Ended}
-use Rattle.table.proofs.EncodeLaws.{decode-encode, fits-encode}
+use Rattle.run.proofs.OutcomeLaws.{outcome-well}
+use Rattle.model.proofs.BoolLaws.{pick-false}
 
 -- AN ORDER by the endings of its two runs
 orderBy : (leads follows : Out) → Order
@@ -35,18 +36,14 @@ orderBy (gives v s) (gives w u) = Ended (length v) (length w) (count (u .plan))
 module _ (b : List ℕ) (e : Expr) (i n : ℕ) (r : List ℕ) (E : readScript b ≡ parsed e i n r) where
   ending-runs : (x : Table) → isWell x ≡ true → ending (encode x) b ≡ endingBy (encode x) (runOn x e)
   unfolding ending
-  ending-runs x well =
-      ap (endingBy (encode x))
-      (ap (λ (z : Bool). pick z (runBy (decode (encode x)) (readScript b)) (stop (linkAt 0))) (fits-encode x well) ∙
-      ap (λ (y : Table). runBy y (readScript b)) (decode-encode x well) ∙ ap (runBy x) E)
+  ending-runs x well = ap (endingBy (encode x)) (outcome-well x well b ∙ ap (runBy x) E)
 
 module _ (b c : List ℕ) (e f : Expr) (i n j m : ℕ) (r q : List ℕ) (E : readScript b ≡ parsed e i n r) (F : readScript c ≡ parsed f j m q)
     (bytes : areBytes b ≡ true) (x : Table) (well : isWell x ≡ true) where
   follows-run : (v : List ℕ) (s : State) (o : Out) → runOn (s .plan) f ≡ o →
       orderThen (length v) (endingBy (encode (s .plan)) o) ≡ orderBy (gives v s) o
   unfolding orderBy
-  follows-run v s (stop z) k =
-      ap (λ (y : Bool). pick y (Ended (length v) 0 (count (s .plan))) (Stopped 2 (z .number))) (stop-refuses f (s .plan) z k)
+  follows-run v s (stop z) k = pick-false (isFine z) _ (Stopped 2 (z .number)) (stop-refuses f (s .plan) z k)
   follows-run v s (gives w u) k = refl
 
   order-runs : order (encode x) b c ≡ orderBy (runOn x e) (runOn (tableOf (runOn x e)) f)
@@ -54,8 +51,7 @@ module _ (b c : List ℕ) (e f : Expr) (i n j m : ℕ) (r q : List ℕ) (E : rea
   order-runs = ap (λ (y : Ending). orderFrom y c) (ending-runs b e i n r E x well) ∙ go (runOn x e) refl
     where
       go : (o : Out) → runOn x e ≡ o → orderFrom (endingBy (encode x) o) c ≡ orderBy o (runOn (tableOf o) f)
-      go (stop z) k =
-          ap (λ (y : Bool). pick y (orderThen 0 (ending (encode x) c)) (Stopped 1 (z .number))) (stop-refuses e x z k)
+      go (stop z) k = pick-false (isFine z) _ (Stopped 1 (z .number)) (stop-refuses e x z k)
       go (gives v s) k =
           ap (orderThen (length v))
           (ending-runs c f j m q F (s .plan) (runsBack e x v s (b, bytes, (i, (n, (r, E)))) well k .0)) ∙

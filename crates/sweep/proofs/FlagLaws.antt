@@ -9,10 +9,10 @@ use native.Mathlib.Numerals.{add-one}
 use lib.Dec.{eqb}
 use lib.ListN.{length, getD, take, set, replicate}
 use lib.Seq.{take-suc}
-use borrow.Author.Tests.{eq-eqb, ne-eqb, eqb-true, eqb-false}
+use borrow.Author.Tests.{eq-eqb, ne-eqb}
 use Rattle.model.specs.Base.{pick, any}
 use Rattle.model.specs.Table as model
-use Rattle.model.proofs.BoolLaws.{by-cases, pick-true, pick-false}
+use Rattle.model.proofs.BoolLaws.{pick-eq, pick-ne, eq-cases}
 use Rattle.model.proofs.ListLaws.{any-append}
 use Rattle.table.specs.Words.{linked}
 use Rattle.sweep.specs.Sweeping.{Flagged}
@@ -44,11 +44,9 @@ flagged-none ns ms e = flags-none (λ (k : ℕ). any (model.isThe k) (map linked
 pub flagged-next : (ns ms : List ℕ) (d : ℕ) → d < length ms → getD ms d 0 < 513 → Flagged (take d ms) ns →
     Flagged (take (d + 1) ms) (pick (eqb (getD ms d 0) 0) ns (set ns (getD ms d 0) 1))
 flagged-next ns ms d h low f =
-    by-cases (eqb (getD ms d 0) 0)
-    (λ e. subst (Flagged (take (d + 1) ms)) (sym (pick-true (eqb (getD ms d 0) 0) ns (set ns (getD ms d 0) 1) e)) (same (eqb-true (getD
-    ms d 0) 0 e)))
-    (λ e. subst (Flagged (take (d + 1) ms)) (sym (pick-false (eqb (getD ms d 0) 0) ns (set ns (getD ms d 0) 1) e)) (more (eqb-false (getD
-    ms d 0) 0 e)))
+    eq-cases (getD ms d 0) 0
+    (λ e. subst (Flagged (take (d + 1) ms)) (sym (pick-eq ns (set ns (getD ms d 0) 1) e)) (same e))
+    (λ e. subst (Flagged (take (d + 1) ms)) (sym (pick-ne ns (set ns (getD ms d 0) 1) e)) (more e))
   where
     next : (k : ℕ) {t : Bool} → eqb (getD ms d 0) (k + 1) ≡ t →
         any (model.isThe k) (map linked (take (d + 1) ms)) ≡ (any (model.isThe k) (map linked (take d ms)) || t)

@@ -10,8 +10,8 @@ use native.Mathlib.Numerals.{add-one}
 use lib.Dec.{eqb}
 use lib.ListN.{length, getD, take, drop, set, replicate, length-map, List·getD-map, length-set, drop-of-length-le}
 use lib.Seq.{drop-cons, set-at, getD-at, append-snoc, take-suc, take-all, ext-getD, length-take-le, getD-set-same, getD-set-other}
-use borrow.Author.Tests.{ne-eqb, eqb-true, eqb-false}
-use Rattle.model.specs.Base.{pick}
+use borrow.Author.Tests.{ne-eqb}
+use Rattle.model.specs.Base.{pick, bit}
 use Rattle.model.specs.Table as model
 use Rattle.model.specs.Sweep.{isKept, newNumber, keptBefore, renumbered, sweptRows, sweptMarks, swept, through}
 use Rattle.model.proofs.BoolLaws.{by-cases, pick-true, pick-false, or-neither, eq-cases}
@@ -19,9 +19,9 @@ use Rattle.table.specs.Words.{linkOf, linked, wordOf, rowOf, rowsOf, wordsOf, d
 use Rattle.table.specs.Words as words
 use Rattle.sweep.specs.Sweeping.{planSwept, Flagged, keepsRow, newWord, RowPost, numberOf, Sweeping, newLinks}
 use Rattle.table.specs.declared.Table.{Table}
-use Rattle.table.proofs.WordLaws.{linked-linkOf, withLink-wordOf, wordsOf-snoc, count-decode, rowAt-decode, take-next}
-use Rattle.table.proofs.DecodeLaws.{link-low}
-use Rattle.table.proofs.FittedLaws.{Fits}
+use Rattle.table.proofs.WordLaws.{linked-linkOf, withLink-wordOf, wordsOf-snoc, count-decode, take-next, linked-some}
+use Rattle.table.proofs.DecodeLaws.{link-low, parent-linked, parent-at, mark-row}
+use Rattle.table.proofs.FittedLaws.{Fits, fits-mark}
 use Rattle.model.proofs.SweepLaws.{newNumber-zero, newNumber-suc, isKept-unrolled, newNumber-le, isKept-marked}
 use Rattle.model.proofs.SweepLaws.{isKept-parent, length-sweptRows, length-sweptMarks, sweptMarks-at}
 use Rattle.model.proofs.TableLaws.{any-by}
@@ -69,198 +69,168 @@ sweptRows-snoc x i (q ∷ rs) r = go (isKept x i) (sweptRows-snoc x (suc i) rs r
     go true e = ap (λ (l : List model.Row). model.withParent q (renumbered x (q .parent)) ∷ l) e
     go false e = e
 
+-- a link's entry, where its row is done
+module _ {x : model.Table} {i next : ℕ} {ns out : List ℕ} (s : Sweeping x i next ns out) where
+  entry-at : (l : ℕ) → (l ≡ 0 → ⊥) → l - 1 < i → getD ns l 0 ≡ numberOf x (l - 1)
+  entry-at l z h =
+      let k : l ≡ l - 1 + 1 = omega (arith, z) in
+      ap (λ (j : ℕ). getD ns j 0) k ∙ s .done (l - 1) h
+
+  -- of a kept row it is the new link
+  link-new : (l : ℕ) → ((l ≡ 0 → ⊥) → (l - 1 < i) × (isKept x (l - 1) ≡ true)) → getD ns l 0 ≡ linkOf (renumbered x (linked l))
+  link-new l f =
+      eq-cases l 0
+      (λ z. ap (λ (j : ℕ). getD ns j 0) z ∙ s .none ∙ sym (ap (λ (j : ℕ). linkOf (renumbered x (linked j))) z))
+      (λ z.
+      entry-at l z (f z .0) ∙ pick-true (isKept x (l - 1)) _ 0 (f z .1) ∙
+      sym (ap (λ (p : Option ℕ). linkOf (renumbered x p)) (linked-some l z)))
+
 module _ (ws ms : List ℕ) (n i : ℕ) (fits : Fits n ws ms) (size : length ws ≡ 512) (low : i < n) (next : ℕ) (ns out : List ℕ)
     (s : Sweeping (decodeParts n ws ms) i next ns out) where
+  abbrev x : model.Table
+  x = decodeParts n ws ms
+
+  -- the parent's link
+  abbrev link : ℕ
+  link = getD ws i 0 / 4 % 1024
+
   within : n ≤ length ws
   within = omega (arith, size, fits .few)
 
-  here : model.rowAt (decodeParts n ws ms) i ≡ rowOf (getD ws i 0)
-  here = rowAt-decode n ws ms within i low
+  parent-some : (link ≡ 0 → ⊥) → model.rowAt x i .parent ≡ some (link - 1)
+  parent-some = parent-at n ws ms within i low
 
-  -- the parent's entry, by its link
-  entry : (l : ℕ) → linked l ≡ model.rowAt (decodeParts n ws ms) i .parent → (l ≡ 0 → ⊥) →
-      (l - 1 < i) × (getD ns l 0 ≡ numberOf (decodeParts n ws ms) (l - 1))
-  entry l e z =
-      let p : model.rowAt (decodeParts n ws ms) i .parent ≡ some (l - 1) = sym e ∙ rw (ne-eqb l 0 z) in
-      let b : l - 1 < i = fits .well .tree .parents i (l - 1) p .0 in
-      let k : l ≡ l - 1 + 1 = omega (arith, z) in
-      (b, ap (λ (j : ℕ). getD ns j 0) k ∙ s .done (l - 1) b)
-
-  -- the parent's link and its entry are in range
-  parent-lower : (p : ℕ) → model.rowAt (decodeParts n ws ms) i .parent ≡ some p → p < i
+  parent-lower : (p : ℕ) → model.rowAt x i .parent ≡ some p → p < i
   parent-lower p e = fits .well .tree .parents i p e .0
 
-  pub link-in : getD ws i 0 / 4 % 1024 < 513
+  -- the parent's link and its entry are in range
+  pub link-in : link < 513
   link-in = omega (arith, link-low n ws ms within i low parent-lower, fits .few)
 
-  pub entry-low : getD ns (getD ws i 0 / 4 % 1024) 0 < 1024
-  entry-low =
-      eq-cases (getD ws i 0 / 4 % 1024) 0
-      (λ t. omega (arith, ap (λ (j : ℕ). getD ns j 0) t, s .none))
-      some-low
+  pub entry-low : getD ns link 0 < 1024
+  entry-low = eq-cases link 0 (λ z. omega (arith, ap (λ (j : ℕ). getD ns j 0) z, s .none)) some-low
     where
-      number-low : (k : ℕ) → numberOf (decodeParts n ws ms) k ≤ k + 1
-      number-low k =
-          by-cases (isKept (decodeParts n ws ms) k) (λ t. rw t (omega (arith, newNumber-le (decodeParts n ws ms) k))) (λ t. rw t (omega
-          arith))
+      number-low : (k : ℕ) → numberOf x k ≤ k + 1
+      number-low k = by-cases (isKept x k) (λ t. rw t (omega (arith, newNumber-le x k))) (λ t. rw t (omega arith))
 
-      some-low : (getD ws i 0 / 4 % 1024 ≡ 0 → ⊥) → getD ns (getD ws i 0 / 4 % 1024) 0 < 1024
+      some-low : (link ≡ 0 → ⊥) → getD ns link 0 < 1024
       some-low z =
-          let e = entry (getD ws i 0 / 4 % 1024) (sym (ap (λ (q : model.Row). q .parent) here)) z in
-          omega (arith, e .0, e .1, number-low (getD ws i 0 / 4 % 1024 - 1), fits .few)
+          let b = parent-lower (link - 1) (parent-some z) in
+          omega (arith, entry-at s link z b, number-low (link - 1), fits .few)
 
-  parent-kept : (l : ℕ) → linked l ≡ model.rowAt (decodeParts n ws ms) i .parent →
-      not (eqb (getD ns l 0) 0) ≡ through (isKept (decodeParts n ws ms)) (linked l)
-  parent-kept l e =
-      by-cases (eqb l 0)
-      (λ t. ap (λ (j : ℕ). not (eqb (getD ns j 0) 0)) (eqb-true l 0 t) ∙ ap (λ (j : ℕ). not (eqb j 0)) (s .none) ∙
-      sym (ap (λ (u : Bool). through (isKept (decodeParts n ws ms)) (pick u none (some (l - 1)))) t))
-      (λ t. ap (λ (j : ℕ). not (eqb j 0)) (entry l e (eqb-false l 0 t) .1) ∙
-      keeps-flag (isKept (decodeParts n ws ms) (l - 1)) (newNumber (decodeParts n ws ms) (l - 1)) ∙
-      sym (ap (λ (u : Bool). through (isKept (decodeParts n ws ms)) (pick u none (some (l - 1)))) t))
+  -- what the parent's entry says of it
+  parent-kept : not (eqb (getD ns link 0) 0) ≡ through (isKept x) (linked link)
+  parent-kept =
+      eq-cases link 0
+      (λ z. ap (λ (j : ℕ). not (eqb (getD ns j 0) 0)) z ∙ ap (λ (j : ℕ). not (eqb j 0)) (s .none) ∙
+      sym (ap (λ (j : ℕ). through (isKept x) (linked j)) z))
+      (λ z.
+      ap (λ (j : ℕ). not (eqb j 0)) (entry-at s link z (parent-lower (link - 1) (parent-some z))) ∙
+      keeps-flag (isKept x (link - 1)) (newNumber x (link - 1)) ∙ sym (ap (through (isKept x)) (linked-some link z)))
 
-  keeps-kept : keepsRow (getD ws i 0) i ns ≡ isKept (decodeParts n ws ms) i
+  keeps-kept : keepsRow (getD ws i 0) i ns ≡ isKept x i
   keeps-kept =
-      ap (λ (j : ℕ). not (eqb j 0) || not (eqb (getD ns (getD ws i 0 / 4 % 1024) 0) 0)) (s .flags i (omega arith) (omega (
-        arith,
-        fits
-            .few,
-      ))) ∙
-      ap (λ (u : Bool). u || not (eqb (getD ns (getD ws i 0 / 4 % 1024) 0) 0)) (keeps-flag (model.isMarked (decodeParts n ws ms) i) 0) ∙
-      ap (λ (u : Bool). model.isMarked (decodeParts n ws ms) i || u) (parent-kept (getD ws i 0 / 4 % 1024) (sym (ap (λ (r : model.Row). r
-      .parent) here))) ∙
-      ap (λ (p : Option ℕ). model.isMarked (decodeParts n ws ms) i || through (isKept (decodeParts n ws ms)) p) (sym (ap (λ (r :
-      model.Row). r .parent) here)) ∙
-      sym (isKept-unrolled (decodeParts n ws ms) (fits .well .tree) i)
+      ap (λ (j : ℕ). not (eqb j 0) || not (eqb (getD ns link 0) 0)) (s .flags i (omega arith) (omega (arith, fits .few))) ∙
+      ap (λ (u : Bool). u || not (eqb (getD ns link 0) 0)) (keeps-flag (model.isMarked x i) 0) ∙
+      ap (λ (u : Bool). model.isMarked x i || u) parent-kept ∙
+      ap (λ (p : Option ℕ). model.isMarked x i || through (isKept x) p) (sym (parent-linked n ws ms within i low)) ∙
+      sym (isKept-unrolled x (fits .well .tree) i)
 
   -- a kept row's parent has its new link
-  new-link : isKept (decodeParts n ws ms) i ≡ true → (l : ℕ) → linked l ≡ model.rowAt (decodeParts n ws ms) i .parent →
-      getD ns l 0 ≡ linkOf (renumbered (decodeParts n ws ms) (linked l))
-  new-link k l e =
-      by-cases (eqb l 0)
-      (λ t. ap (λ (j : ℕ). getD ns j 0) (eqb-true l 0 t) ∙ s .none ∙
-      sym (ap (λ (u : Bool). linkOf (renumbered (decodeParts n ws ms) (pick u none (some (l - 1))))) t))
-      (λ t.
-      let p : model.rowAt (decodeParts n ws ms) i .parent ≡ some (l - 1) = sym e ∙ rw t in
-      entry l e (eqb-false l 0 t) .1 ∙
-      ap (λ (u : Bool). pick u (newNumber (decodeParts n ws ms) (l - 1) + 1) 0) (isKept-parent (decodeParts n ws ms) (fits .well .tree) i
-      (l - 1) p k) ∙
-      sym (ap (λ (u : Bool). linkOf (renumbered (decodeParts n ws ms) (pick u none (some (l - 1))))) t))
+  parent-new : isKept x i ≡ true → getD ns link 0 ≡ linkOf (renumbered x (linked link))
+  parent-new k =
+      link-new s link
+      (λ z. let p = parent-some z in (parent-lower (link - 1) p, isKept-parent x (fits .well .tree) i (link - 1) p k))
 
-  rows-kept : sweptRows (decodeParts n ws ms) 0 (take (i + 1) (rowsOf n ws)) ≡
-      sweptRows (decodeParts n ws ms) 0 (take i (rowsOf n ws)) ++
-      pick (isKept (decodeParts n ws ms) i)
-      (model.withParent (rowOf (getD ws i 0)) (renumbered (decodeParts n ws ms) (linked (getD ws i 0 / 4 % 1024))) ∷ []) []
+  abbrev before : List model.Row
+  before = sweptRows x 0 (take i (rowsOf n ws))
+
+  abbrev row : model.Row
+  row = model.withParent (rowOf (getD ws i 0)) (renumbered x (linked link))
+
+  length-before : length (take i (rowsOf n ws)) ≡ i
+  length-before = length-take-le i (rowsOf n ws) (omega (arith, count-decode n ws ms within))
+
+  rows-kept : sweptRows x 0 (take (i + 1) (rowsOf n ws)) ≡ before ++ pick (isKept x i) (row ∷ []) []
   rows-kept =
-      let l : length (take i (rowsOf n ws)) ≡ i = length-take-le i (rowsOf n ws) (omega (arith, count-decode n ws ms within)) in
-      let k : 0 + length (take i (rowsOf n ws)) ≡ i = omega arith in
-      ap (sweptRows (decodeParts n ws ms) 0) (take-next i n ws within low) ∙
-      sweptRows-snoc (decodeParts n ws ms) 0 (take i (rowsOf n ws)) (rowOf (getD ws i 0)) ∙
-      ap (λ (j : ℕ). sweptRows (decodeParts n ws ms) 0 (take i (rowsOf n ws)) ++
-      pick (isKept (decodeParts n ws ms) j)
-      (model.withParent (rowOf (getD ws i 0)) (renumbered (decodeParts n ws ms) (linked (getD ws i 0 / 4 % 1024))) ∷ []) []) k
+      let k : 0 + length (take i (rowsOf n ws)) ≡ i = omega (arith, length-before) in
+      ap (sweptRows x 0) (take-next i n ws within low) ∙ sweptRows-snoc x 0 (take i (rowsOf n ws)) (rowOf (getD ws i 0)) ∙
+      ap (λ (j : ℕ). before ++ pick (isKept x j) (row ∷ []) []) k
 
-  swept-length : length (sweptRows (decodeParts n ws ms) 0 (take i (rowsOf n ws))) ≡ next
-  swept-length =
-      let l : length (take i (rowsOf n ws)) ≡ i = length-take-le i (rowsOf n ws) (omega (arith, count-decode n ws ms within)) in
-      length-sweptRows (decodeParts n ws ms) 0 (take i (rowsOf n ws)) ∙ ap (keptBefore (decodeParts n ws ms) 0) l ∙ sym (s .kept)
+  swept-length : length before ≡ next
+  swept-length = length-sweptRows x 0 (take i (rowsOf n ws)) ∙ ap (keptBefore x 0) length-before ∙ sym (s .kept)
 
   pub next-low : next ≤ i
-  next-low = omega (arith, s .kept, newNumber-le (decodeParts n ws ms) i)
+  next-low = omega (arith, s .kept, newNumber-le x i)
 
-  pub sweeping-next : (ns′ out′ : List ℕ) (r : ℕ) → RowPost (getD ws i 0) i next ns out ns′ out′ r → Sweeping (decodeParts n ws ms) (i +
-      1) r ns′ out′
+  pub sweeping-next : (ns′ out′ : List ℕ) (r : ℕ) → RowPost (getD ws i 0) i next ns out ns′ out′ r → Sweeping x (i + 1) r ns′ out′
   sweeping-next ns′ out′ r post =
-      by-cases (isKept (decodeParts n ws ms) i)
-      (λ k. kept k
-      (post .numbers ∙ pick-true (keepsRow (getD ws i 0) i ns) (set ns (i + 1) (next + 1)) ns (keeps-kept ∙ k))
-      (post .rows ∙ pick-true (keepsRow (getD ws i 0) i ns) (set out next (newWord (getD ws i 0) ns)) out (keeps-kept ∙ k))
-      (post .result ∙ pick-true (keepsRow (getD ws i 0) i ns) (next + 1) next (keeps-kept ∙ k)))
-      (λ k. dropped k
-      (post .numbers ∙ pick-false (keepsRow (getD ws i 0) i ns) (set ns (i + 1) (next + 1)) ns (keeps-kept ∙ k))
-      (post .rows ∙ pick-false (keepsRow (getD ws i 0) i ns) (set out next (newWord (getD ws i 0) ns)) out (keeps-kept ∙ k))
-      (post .result ∙ pick-false (keepsRow (getD ws i 0) i ns) (next + 1) next (keeps-kept ∙ k)))
+      by-cases (isKept x i)
+      (λ k. let t = keeps-kept ∙ k in
+      kept k (post .numbers ∙ pick-true _ _ _ t) (post .rows ∙ pick-true _ _ _ t) (post .result ∙ pick-true _ _ _ t))
+      (λ k. let t = keeps-kept ∙ k in
+      dropped k (post .numbers ∙ pick-false _ _ _ t) (post .rows ∙ pick-false _ _ _ t) (post .result ∙ pick-false _ _ _ t))
     where
-      counted : (t : Bool) → isKept (decodeParts n ws ms) i ≡ t → newNumber (decodeParts n ws ms) (i + 1) ≡ next + pick t 1 0
+      counted : (t : Bool) → isKept x i ≡ t → newNumber x (i + 1) ≡ next + pick t 1 0
       counted t e =
-          ap (newNumber (decodeParts n ws ms)) (add-one i) ∙ newNumber-suc (decodeParts n ws ms) i ∙
-          ap (λ (u : Bool). newNumber (decodeParts n ws ms) i + pick u 1 0) e ∙ ap (λ (j : ℕ). j + pick t 1 0) (sym (s .kept))
+          ap (newNumber x) (add-one i) ∙ newNumber-suc x i ∙ ap (λ (u : Bool). newNumber x i + pick u 1 0) e ∙
+          ap (λ (j : ℕ). j + pick t 1 0) (sym (s .kept))
 
-      kept : isKept (decodeParts n ws ms) i ≡ true → ns′ ≡ set ns (i + 1) (next + 1) →
-          out′ ≡ set out next (newWord (getD ws i 0) ns) → r ≡ next + 1 → Sweeping (decodeParts n ws ms) (i + 1) r ns′ out′
+      rows-are : {v : List ℕ} (t : Bool) → isKept x i ≡ t → v ≡ wordsOf (before ++ pick t (row ∷ []) []) →
+          v ≡ wordsOf (sweptRows x 0 (take (i + 1) (rowsOf n ws)))
+      rows-are t k e = e ∙ ap (λ (t : Bool). wordsOf (before ++ pick t (row ∷ []) [])) (sym k) ∙ ap wordsOf (sym rows-kept)
+
+      kept : isKept x i ≡ true → ns′ ≡ set ns (i + 1) (next + 1) → out′ ≡ set out next (newWord (getD ws i 0) ns) → r ≡ next + 1 →
+          Sweeping x (i + 1) r ns′ out′
       kept k e f g =
           record {
             size = ap length e ∙ length-set ns (i + 1) (next + 1) ∙ s .size;
             none = ap (λ (v : List ℕ). getD v 0 0) e ∙ getD-set-other ns (i + 1) 0 (next + 1) 0 (λ q. omega arith) ∙ s .none;
-            done = λ j l. ap (λ (v : List ℕ). getD v (j + 1) 0) e ∙ entry-done j l (eqb j i) refl;
+            done = λ j l. ap (λ (v : List ℕ). getD v (j + 1) 0) e ∙ eq-cases j i (new j) (old j l);
             flags = λ j l u.
                 ap (λ (v : List ℕ). getD v (j + 1) 0) e ∙ getD-set-other ns (i + 1) (j + 1) (next + 1) 0 (λ q. omega arith) ∙
                 s .flags j (omega arith) u;
             kept = g ∙ sym (counted true k);
-            rows = f ∙ ap (λ (v : List ℕ). set v next word) (s .rows) ∙
+            rows = rows-are true k
+                (f ∙ ap (λ (v : List ℕ). set v next word) (s .rows) ∙
                 ap (λ (j : ℕ). set (wordsOf before) j word) (sym swept-length) ∙
                 ap (set (wordsOf before) (length before))
-                (withLink-wordOf (getD ws i 0) (getD ns (getD ws i 0 / 4 % 1024) 0) entry-low (fits .kinds i low within) ∙
+                (withLink-wordOf (getD ws i 0) (getD ns link 0) entry-low (fits .kinds i low within) ∙
                 ap (λ (p : Option ℕ). wordOf (model.withParent (rowOf (getD ws i 0)) p))
-                (ap linked (new-link k (getD ws i 0 / 4 % 1024) (sym (ap (λ (q : model.Row). q .parent) here))) ∙
-                linked-linkOf (renumbered (decodeParts n ws ms) (linked (getD ws i 0 / 4 % 1024))))) ∙
-                sym (wordsOf-snoc before row (omega (arith, swept-length, next-low, fits .few))) ∙
-                ap (λ (t : Bool). wordsOf (before ++ pick t (row ∷ []) [])) (sym k) ∙ ap wordsOf (sym rows-kept);
+                (ap linked (parent-new k) ∙ linked-linkOf (renumbered x (linked link)))) ∙
+                sym (wordsOf-snoc before row (omega (arith, swept-length, next-low, fits .few))));
           }
         where
           word : ℕ
           word = newWord (getD ws i 0) ns
 
-          before : List model.Row
-          before = sweptRows (decodeParts n ws ms) 0 (take i (rowsOf n ws))
-
-          row : model.Row
-          row = model.withParent (rowOf (getD ws i 0)) (renumbered (decodeParts n ws ms) (linked (getD ws i 0 / 4 % 1024)))
-
-          entry-done : (j : ℕ) → j < i + 1 → (t : Bool) → eqb j i ≡ t → getD (set ns (i + 1) (next + 1)) (j + 1) 0 ≡ numberOf
-              (decodeParts n ws ms) j
-          entry-done j l true q =
-              let m : j ≡ i = eqb-true j i q in
+          new : (j : ℕ) → j ≡ i → getD (set ns (i + 1) (next + 1)) (j + 1) 0 ≡ numberOf x j
+          new j m =
               ap (λ (a : ℕ). getD (set ns (i + 1) (next + 1)) (a + 1) 0) m ∙
               getD-set-same ns (i + 1) (next + 1) 0 (omega (arith, s .size, fits .few)) ∙ ap (λ (a : ℕ). a + 1) (s .kept) ∙
-              ap (λ (t : Bool). pick t (newNumber (decodeParts n ws ms) i + 1) 0) (sym k) ∙ ap (numberOf (decodeParts n ws ms)) (sym m)
-          entry-done j l false q =
-              let z : j ≡ i → ⊥ = eqb-false j i q in
-              getD-set-other ns (i + 1) (j + 1) (next + 1) 0 (λ y. z (omega arith)) ∙ s .done j (omega (arith, z))
+              sym (pick-true (isKept x i) (newNumber x i + 1) 0 k) ∙ ap (numberOf x) (sym m)
 
-      dropped : isKept (decodeParts n ws ms) i ≡ false → ns′ ≡ ns → out′ ≡ out → r ≡ next → Sweeping (decodeParts n ws ms) (i + 1) r ns′
-          out′
+          old : (j : ℕ) → j < i + 1 → (j ≡ i → ⊥) → getD (set ns (i + 1) (next + 1)) (j + 1) 0 ≡ numberOf x j
+          old j l z = getD-set-other ns (i + 1) (j + 1) (next + 1) 0 (λ y. z (omega arith)) ∙ s .done j (omega (arith, z))
+
+      dropped : isKept x i ≡ false → ns′ ≡ ns → out′ ≡ out → r ≡ next → Sweeping x (i + 1) r ns′ out′
       dropped k e f g =
           record {
             size = ap length e ∙ s .size;
             none = ap (λ (v : List ℕ). getD v 0 0) e ∙ s .none;
-            done = λ j l. ap (λ (v : List ℕ). getD v (j + 1) 0) e ∙ entry-done j l (eqb j i) refl;
+            done = λ j l. ap (λ (v : List ℕ). getD v (j + 1) 0) e ∙ eq-cases j i (new j) (λ z. s .done j (omega (arith, z)));
             flags = λ j l u. ap (λ (v : List ℕ). getD v (j + 1) 0) e ∙ s .flags j (omega arith) u;
             kept = g ∙ sym (counted false k ∙ add-zero next);
-            rows = f ∙ s .rows ∙ ap wordsOf (sym (append-nil before)) ∙ ap (λ (t : Bool). wordsOf (before ++ pick t (row ∷ []) [])) (sym
-                k) ∙
-                ap wordsOf (sym rows-kept);
+            rows = rows-are false k (f ∙ s .rows ∙ ap wordsOf (sym (append-nil before)));
           }
         where
-          before : List model.Row
-          before = sweptRows (decodeParts n ws ms) 0 (take i (rowsOf n ws))
+          unmarked : model.isMarked x i ≡ false
+          unmarked = or-neither (model.isMarked x i) _ (sym (isKept-unrolled x (fits .well .tree) i) ∙ k) .0
 
-          row : model.Row
-          row = model.withParent (rowOf (getD ws i 0)) (renumbered (decodeParts n ws ms) (linked (getD ws i 0 / 4 % 1024)))
-
-          unmarked : model.isMarked (decodeParts n ws ms) i ≡ false
-          unmarked = or-neither (model.isMarked (decodeParts n ws ms) i) _ (sym (isKept-unrolled (decodeParts n ws ms) (fits .well .tree)
-              i) ∙ k) .0
-
-          entry-done : (j : ℕ) → j < i + 1 → (t : Bool) → eqb j i ≡ t → getD ns (j + 1) 0 ≡ numberOf (decodeParts n ws ms) j
-          entry-done j l true q =
-              let m : j ≡ i = eqb-true j i q in
-              ap (λ (a : ℕ). getD ns (a + 1) 0) m ∙ s .flags i (omega arith) (omega (arith, fits .few)) ∙
-              ap (λ (t : Bool). pick t 1 0) unmarked ∙
-              ap (λ (t : Bool). pick t (newNumber (decodeParts n ws ms) i + 1) 0) (sym k) ∙ ap (numberOf (decodeParts n ws ms)) (sym m)
-          entry-done j l false q =
-              let z : j ≡ i → ⊥ = eqb-false j i q in
-              s .done j (omega (arith, z))
+          new : (j : ℕ) → j ≡ i → getD ns (j + 1) 0 ≡ numberOf x j
+          new j m =
+              ap (λ (a : ℕ). getD ns (a + 1) 0) m ∙ s .flags i (omega arith) (omega (arith, fits .few)) ∙ ap bit unmarked ∙
+              sym (pick-false (isKept x i) (newNumber x i + 1) 0 k) ∙ ap (numberOf x) (sym m)
 
 -- MARKS: one link more
 pub links-next : (ns ms : List ℕ) (d : ℕ) → d < length ms →
@@ -288,62 +258,49 @@ links-end ns ms d h =
 -- THE CALL: the rows, the marks and the count are those of the swept table
 module _ (ws ms : List ℕ) (n : ℕ) (fits : Fits n ws ms) (size : length ws ≡ 512) (next : ℕ) (ns out : List ℕ)
     (s : Sweeping (decodeParts n ws ms) n next ns out) where
+  abbrev plan : model.Table
+  plan = decodeParts n ws ms
+
   all-within : n ≤ length ws
   all-within = omega (arith, size, fits .few)
 
-  link-new : (d : ℕ) → getD ns (getD ms d 0) 0 ≡ linkOf (renumbered (decodeParts n ws ms) (linked (getD ms d 0)))
-  link-new d =
-      by-cases (eqb (getD ms d 0) 0)
-      (λ t. ap (λ (j : ℕ). getD ns j 0) (eqb-true (getD ms d 0) 0 t) ∙ s .none ∙
-      sym (ap (λ (u : Bool). linkOf (renumbered (decodeParts n ws ms) (pick u none (some (getD ms d 0 - 1))))) t))
-      (λ t. marked t (eqb-false (getD ms d 0) 0 t))
-    where
-      marked : eqb (getD ms d 0) 0 ≡ false → (getD ms d 0 ≡ 0 → ⊥) →
-          getD ns (getD ms d 0) 0 ≡ linkOf (renumbered (decodeParts n ws ms) (linked (getD ms d 0)))
-      marked t z =
-          let m : getD (map linked ms) d none ≡ some (getD ms d 0 - 1) = List·getD-map linked ms d 0 ∙ rw t in
-          let b : getD ms d 0 - 1 < n = omega (arith, fits .well .tree .roots d (getD ms d 0 - 1) m .0, count-decode n ws ms all-within) in
-          let e : getD ms d 0 ≡ getD ms d 0 - 1 + 1 = omega (arith, z) in
-          let k : isKept (decodeParts n ws ms) (getD ms d 0 - 1) ≡ true =
-          isKept-marked (decodeParts n ws ms) (fits .well .tree) (getD ms d 0 - 1) (any-by (getD ms d 0 - 1) (map linked ms) d m) in
-          ap (λ (j : ℕ). getD ns j 0) e ∙ s .done (getD ms d 0 - 1) b ∙
-          ap (λ (u : Bool). pick u (newNumber (decodeParts n ws ms) (getD ms d 0 - 1) + 1) 0) k ∙
-          sym (ap (λ (u : Bool). linkOf (renumbered (decodeParts n ws ms) (pick u none (some (getD ms d 0 - 1))))) t)
+  mark-new : (d : ℕ) → getD ns (getD ms d 0) 0 ≡ linkOf (renumbered plan (linked (getD ms d 0)))
+  mark-new d =
+      link-new s (getD ms d 0)
+      (λ z. (
+        omega (arith, fits-mark n ws ms fits all-within d, z),
+        isKept-marked plan (fits .well .tree) (getD ms d 0 - 1) (any-by (getD ms d 0 - 1) (map linked ms) d (mark-row ms d z)),
+      ))
 
-  links-swept : newLinks ns ms ≡ map linkOf (sweptMarks (decodeParts n ws ms) (map linked ms))
-  links-swept = ext-getD 0 (newLinks ns ms) (map linkOf (sweptMarks (decodeParts n ws ms) (map linked ms))) same-length same-at
+  links-swept : newLinks ns ms ≡ map linkOf (sweptMarks plan (map linked ms))
+  links-swept = ext-getD 0 (newLinks ns ms) (map linkOf (sweptMarks plan (map linked ms))) same-length same-at
     where
-      same-length : length (newLinks ns ms) ≡ length (map linkOf (sweptMarks (decodeParts n ws ms) (map linked ms)))
+      same-length : length (newLinks ns ms) ≡ length (map linkOf (sweptMarks plan (map linked ms)))
       same-length =
           length-map ms (λ (m : ℕ). getD ns m 0) ∙
-          sym (length-map (sweptMarks (decodeParts n ws ms) (map linked ms)) linkOf ∙
-          length-sweptMarks (decodeParts n ws ms) (map linked ms) ∙ length-map ms linked)
+          sym (length-map (sweptMarks plan (map linked ms)) linkOf ∙ length-sweptMarks plan (map linked ms) ∙ length-map ms linked)
 
-      same-at : (d : ℕ) → d < length (newLinks ns ms) →
-          getD (newLinks ns ms) d 0 ≡ getD (map linkOf (sweptMarks (decodeParts n ws ms) (map linked ms))) d 0
+      same-at : (d : ℕ) → d < length (newLinks ns ms) → getD (newLinks ns ms) d 0 ≡ getD (map linkOf (sweptMarks plan (map linked ms))) d 0
       same-at d h =
-          ap (getD (newLinks ns ms) d) (sym (s .none)) ∙ List·getD-map (λ (m : ℕ). getD ns m 0) ms d 0 ∙ link-new d ∙
-          sym (List·getD-map linkOf (sweptMarks (decodeParts n ws ms) (map linked ms)) d none ∙
-          ap linkOf (sweptMarks-at (decodeParts n ws ms) (map linked ms) d ∙ ap (renumbered (decodeParts n ws ms)) (List·getD-map linked
-          ms d 0)))
+          ap (getD (newLinks ns ms) d) (sym (s .none)) ∙ List·getD-map (λ (m : ℕ). getD ns m 0) ms d 0 ∙ mark-new d ∙
+          sym (List·getD-map linkOf (sweptMarks plan (map linked ms)) d none ∙
+          ap linkOf (sweptMarks-at plan (map linked ms) d ∙ ap (renumbered plan) (List·getD-map linked ms d 0)))
 
-  rows-all : sweptRows (decodeParts n ws ms) 0 (take n (rowsOf n ws)) ≡ sweptRows (decodeParts n ws ms) 0 (rowsOf n ws)
-  rows-all = ap (sweptRows (decodeParts n ws ms) 0) (take-all n (rowsOf n ws) (omega (arith, count-decode n ws ms all-within)))
+  rows-all : sweptRows plan 0 (take n (rowsOf n ws)) ≡ sweptRows plan 0 (rowsOf n ws)
+  rows-all = ap (sweptRows plan 0) (take-all n (rowsOf n ws) (omega (arith, count-decode n ws ms all-within)))
 
-  kept-count : next ≡ length (sweptRows (decodeParts n ws ms) 0 (rowsOf n ws))
+  kept-count : next ≡ length (sweptRows plan 0 (rowsOf n ws))
   kept-count =
-      s .kept ∙ sym (length-sweptRows (decodeParts n ws ms) 0 (rowsOf n ws) ∙ ap (keptBefore (decodeParts n ws ms) 0) (count-decode n ws
-      ms all-within))
+      s .kept ∙ sym (length-sweptRows plan 0 (rowsOf n ws) ∙ ap (keptBefore plan 0) (count-decode n ws ms all-within))
 
-  pub encode-swept : (ms′ : List ℕ) → ms′ ≡ newLinks ns ms → record { count = next; rows = out; marks = ms′ } ≡ encode (swept
-      (decodeParts n ws ms))
+  pub encode-swept : (ms′ : List ℕ) → ms′ ≡ newLinks ns ms → record { count = next; rows = out; marks = ms′ } ≡ encode (swept plan)
   encode-swept ms′ e =
       ap (λ (k : ℕ). record { count = k; rows = out; marks = ms′ }) kept-count ∙
-      ap (λ (v : List ℕ). record { count = length (sweptRows (decodeParts n ws ms) 0 (rowsOf n ws)); rows = v; marks = ms′ }) (s .rows ∙
-      ap wordsOf rows-all) ∙
+      ap (λ (v : List ℕ). record { count = length (sweptRows plan 0 (rowsOf n ws)); rows = v; marks = ms′ }) (s .rows ∙ ap wordsOf
+      rows-all) ∙
       ap (λ (v : List ℕ). record {
-        count = length (sweptRows (decodeParts n ws ms) 0 (rowsOf n ws));
-        rows = wordsOf (sweptRows (decodeParts n ws ms) 0 (rowsOf n ws));
+        count = length (sweptRows plan 0 (rowsOf n ws));
+        rows = wordsOf (sweptRows plan 0 (rowsOf n ws));
         marks = v;
       }) (e ∙ links-swept)
 

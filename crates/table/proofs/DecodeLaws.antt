@@ -2,11 +2,11 @@
 use mathlib.Core.Path.{_≡_, ap, sym, _∙_}
 use mathlib.Core.Bool.{true, false, _||_, not}
 use mathlib.Core.List.{List, map}
-use mathlib.Core.Option.{some}
+use mathlib.Core.Option.{some, none}
 use Prim.Native.Nat.{ℕ, _+_, _-_, _/_, _%_, _≤_, _<_}
 use native.Mathlib.Omega.{arith}
 use lib.Dec.{eqb}
-use lib.ListN.{length, getD, set, drop, drop-of-length-le}
+use lib.ListN.{length, getD, set, drop, drop-of-length-le, List·getD-map}
 use lib.Seq.{drop-cons}
 use native.Mathlib.Numerals.{add-one}
 use borrow.Author.Tests.{lt-ltb, le-ltb, eq-eqb, ne-eqb, eqb-true, eqb-false}
@@ -15,7 +15,7 @@ use Rattle.model.specs.Table as model
 use Rattle.model.specs.Stored.{wordBytes, parentBytes}
 use Rattle.model.proofs.BoolLaws.{by-cases, eq-cases}
 use Rattle.table.specs.Words.{linkOf, linked, wordOf, rowsOf, decodeParts}
-use Rattle.table.proofs.WordLaws.{linked-linkOf, count-decode, rowAt-decode, rowsOf-push}
+use Rattle.table.proofs.WordLaws.{linked-linkOf, count-decode, rowAt-decode, rowsOf-push, linked-some}
 use Rattle.model.proofs.ListLaws.{map-set}
 
 -- whether a row of the table is an element, from its word
@@ -36,13 +36,17 @@ module _ (n : ℕ) (ws ms : List ℕ) (within : n ≤ length ws) (i : ℕ) (h : 
   parent-linked = ap (λ (r : model.Row). r .parent) (rowAt-decode n ws ms within i h)
 
   pub parent-at : (getD ws i 0 / 4 % 1024 ≡ 0 → ⊥) → model.rowAt (decodeParts n ws ms) i .parent ≡ some (getD ws i 0 / 4 % 1024 - 1)
-  parent-at z = parent-linked ∙ rw (ne-eqb (getD ws i 0 / 4 % 1024) 0 z)
+  parent-at z = parent-linked ∙ linked-some (getD ws i 0 / 4 % 1024) z
 
   -- a lower parent's link is at most the row's number
   pub link-low : ((p : ℕ) → model.rowAt (decodeParts n ws ms) i .parent ≡ some p → p < i) → getD ws i 0 / 4 % 1024 ≤ i
   link-low lower =
       eq-cases (getD ws i 0 / 4 % 1024) 0 (λ e. omega (arith, e))
       (λ e. omega (arith, lower (getD ws i 0 / 4 % 1024 - 1) (parent-at e)))
+
+-- the row that a document marks
+pub mark-row : (ms : List ℕ) (d : ℕ) → (getD ms d 0 ≡ 0 → ⊥) → getD (map linked ms) d none ≡ some (getD ms d 0 - 1)
+mark-row ms d z = List·getD-map linked ms d 0 ∙ linked-some (getD ms d 0) z
 
 -- whether a row is marked, one mark after another
 pub isThe-linked : (link m : ℕ) → 0 < link → model.isThe (link - 1) (linked m) ≡ eqb m link

@@ -1,22 +1,22 @@
 -- What a table that fits has: few rows, words that hold rows, zeros past them, tags and marks in range.
 use mathlib.Core.Path.{_≡_, ap, sym, _∙_}
-use mathlib.Core.Bool.{true, false, _&&_}
-use mathlib.Core.List.{List, map}
-use mathlib.Core.Option.{none, some}
+use mathlib.Core.Bool.{true, _&&_}
+use mathlib.Core.List.{List}
 use Prim.Native.Nat.{ℕ, _-_, _≤_, _<_}
 use native.Mathlib.Omega.{arith}
-use lib.Dec.{leb, eqb}
-use lib.ListN.{length, getD, take, drop, List·getD-map}
+use lib.Dec.{leb}
+use lib.ListN.{length, getD, take, drop}
 use lib.Seq.{getD-take, length-take-le}
-use borrow.Author.Tests.{leb-true, eqb-true, eqb-false}
+use borrow.Author.Tests.{leb-true}
 use Rattle.model.specs.Base.{all}
 use Rattle.model.specs.Table as model
-use Rattle.model.proofs.BoolLaws.{and-left, and-right, by-cases}
+use Rattle.model.proofs.BoolLaws.{and-left, and-right, eq-cases}
 use Rattle.model.proofs.ListLaws.{all-getD}
 use Rattle.model.proofs.TableLaws.{Well, isWell-at}
-use Rattle.table.specs.Words.{linked, isRowWord, isZero, decode, decodeParts, Canonical, partsFit, fits}
+use Rattle.table.specs.Words.{isRowWord, isZero, decode, decodeParts, Canonical, partsFit, fits}
 use Rattle.table.specs.declared.Table.{Table}
 use Rattle.table.proofs.WordLaws.{count-decode, rowAt-decode, tag-byte, canonical-words}
+use Rattle.table.proofs.DecodeLaws.{mark-row}
 
 -- WHAT FITS: the count, the words in use and past it, and the table decoded
 pub record Fits (n : ℕ) (ws ms : List ℕ) : Type 0 where
@@ -61,12 +61,8 @@ fits-tag n ws ms f w k h =
           (ap model.tagFits (sym (rowAt-decode n ws ms w k h)) ∙ f .well .tree .tags k (omega (arith, count-decode n ws ms w))),
     )
 
--- a mark's link is below 513
-pub fits-mark : (n : ℕ) (ws ms : List ℕ) → Fits n ws ms → n ≤ length ws → (d : ℕ) → getD ms d 0 < 513
+-- a mark's link is at most the count
+pub fits-mark : (n : ℕ) (ws ms : List ℕ) → Fits n ws ms → n ≤ length ws → (d : ℕ) → getD ms d 0 ≤ n
 fits-mark n ws ms f w d =
-    by-cases (eqb (getD ms d 0) 0) (λ e. omega (arith, eqb-true (getD ms d 0) 0 e)) (λ e. some-mark e (eqb-false (getD ms d 0) 0 e))
-  where
-    some-mark : eqb (getD ms d 0) 0 ≡ false → (getD ms d 0 ≡ 0 → ⊥) → getD ms d 0 < 513
-    some-mark e z =
-        let m : getD (map linked ms) d none ≡ some (getD ms d 0 - 1) = List·getD-map linked ms d 0 ∙ rw e in
-        omega (arith, f .well .tree .roots d (getD ms d 0 - 1) m .0, count-decode n ws ms w, f .few)
+    eq-cases (getD ms d 0) 0 (λ z. omega (arith, z))
+    (λ z. omega (arith, f .well .tree .roots d (getD ms d 0 - 1) (mark-row ms d z) .0, count-decode n ws ms w))

@@ -15,7 +15,7 @@ use lib.Seq.{take-suc, take-take, take-suc-set, take-set-lt, take-set-le, length
 use borrow.Author.Tests.{eq-eqb, ne-eqb, leb-true, eqb-true, eqb-false}
 use Rattle.model.specs.Base.{pick, isIn, all}
 use Rattle.model.specs.Table as model
-use Rattle.model.proofs.BoolLaws.{and-left, and-right, by-cases}
+use Rattle.model.proofs.BoolLaws.{and-left, and-right, by-cases, pick-ne}
 use Rattle.model.proofs.TestLaws.{isIn-at, isIn-by}
 use Rattle.model.proofs.ListLaws.{map-set}
 use Rattle.table.specs.Words.{linkOf, linked, wordOf, rowOf, isRowWord, withLink, isZero, rowsOf, decodeParts, wordsOf}
@@ -29,6 +29,9 @@ linked-linkOf (some p) = rw (ne-eqb (p + 1) 0 (λ e. omega arith)) (ap some (ome
 pub linkOf-linked : (n : ℕ) → linkOf (linked n) ≡ n
 linkOf-linked zero = refl
 linkOf-linked (suc n) = rw (ne-eqb (suc n) 0 (λ e. omega arith)) (omega arith)
+
+pub linked-some : (l : ℕ) → (l ≡ 0 → ⊥) → linked l ≡ some (l - 1)
+linked-some l z = pick-ne none (some (l - 1)) z
 
 -- A ROW AND ITS WORD, where the parent's link fits its 10 bits
 

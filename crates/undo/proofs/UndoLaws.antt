@@ -17,7 +17,7 @@ use Rattle.model.specs.Stored.{wordAt, parentIn}
 use Rattle.model.specs.Undo.{historySize, recordIn, Placed, Formed, broken, formed, formFault, withPlaced, formFrom, sameBool, sameParent}
 use Rattle.model.specs.Undo.{cutIn, madeIn, madeFits, oldParentFits, cutFits, Undo, refused, undoAll, backwards, undo}
 use Rattle.model.proofs.ListLaws.{drop-all, drop-first}
-use Rattle.model.proofs.BoolLaws.{by-cases, pick-true, pick-false, eq-cases}
+use Rattle.model.proofs.BoolLaws.{by-cases, pick-true, eq-cases, pick-eq, pick-ne}
 use Rattle.table.specs.Words.{linked, decodeParts}
 use Rattle.table.proofs.WordLaws.{count-decode, rowAt-decode}
 use Rattle.table.proofs.DecodeLaws.{element-kind}
@@ -31,7 +31,7 @@ module _ (s : List ℕ) (n : ℕ) where
   refused-form : (k : ℕ) → ((i : ℕ) → formFault i n s ≡ fault (suc k) i) → FormPost s n (suc k)
   refused-form k f =
       record {
-        fault = λ i. f i ∙ sym (pick-false (eqb (suc k) 0) fine (fault (suc k) i) (ne-eqb (suc k) 0 (λ q. omega arith)));
+        fault = λ i. f i ∙ sym (pick-ne {m = suc k} fine (fault (suc k) i) (λ q. omega arith));
         whole = λ e. absurd (omega arith);
         few = λ e. absurd (omega arith);
       }
@@ -161,7 +161,7 @@ module _ {b m : List ℕ} {at n : ℕ} (c : Forming b m at n) where
     forming-refused z =
         record {
           fine = λ e. absurd (z e);
-          stop = λ e x. stopped (faults ∙ pick-false (eqb r 0) fine (fault r at) (ne-eqb r 0 z)) x;
+          stop = λ e x. stopped (faults ∙ pick-ne fine (fault r at) z) x;
           whole = λ e. absurd (z e);
           few = λ e. absurd (z e);
         }
@@ -221,8 +221,7 @@ module _ {b m : List ℕ} {at n : ℕ} (c : Forming b m at n) where
               withPlaced entry (formFrom (length b - n) (at + historySize (getD (drop at b) 0 0)) (n + 1) (drop (historySize (getD (drop
               at b) 0 0)) (drop at b)))
           turn =
-              let y : isFine (formFault at n (drop at b)) ≡ true = ap isFine (faults ∙ pick-true (eqb r 0) fine (fault r at) (eq-eqb r 0
-              z)) in
+              let y : isFine (formFault at n (drop at b)) ≡ true = ap isFine (faults ∙ pick-eq fine (fault r at) z) in
               rw (ne-eqb (length (drop at b)) 0 there, y)
 
           grown : undoing b (set m n at) (n + 1) ≡ entry ∷ undoing b m n

@@ -7,7 +7,7 @@ use Prim.Native.Nat.{ℕ, suc, _+_, _-_, _≤_, _<_}
 use native.Mathlib.Omega.{arith}
 use lib.Dec.{ltb, eqb}
 use lib.ListN.{length, getD, take, drop, set}
-use borrow.Author.Tests.{eq-eqb, ne-eqb, ltb-true, eqb-true}
+use borrow.Author.Tests.{ltb-true, eqb-true}
 use Rattle.model.specs.Base.{pick}
 use Rattle.model.specs.Refusal.{fault, fine, linkAt}
 use Rattle.model.specs.Table as model
@@ -15,7 +15,7 @@ use Rattle.model.specs.Stored.{wordAt, parentIn}
 use Rattle.model.specs.Undo.{historySize, recordIn, madeFits, oldParentFits, cutFits, undoFits, undone, refused}
 use Rattle.model.specs.Undo.{cutIn, madeIn, undoAll}
 use Rattle.model.proofs.ListLaws.{drop-all}
-use Rattle.model.proofs.BoolLaws.{true-false, and-left, pick-true, pick-false}
+use Rattle.model.proofs.BoolLaws.{true-false, and-left, pick-eq, pick-ne}
 use Rattle.model.proofs.TestLaws.{and-four, and-five}
 use Rattle.table.specs.Words.{linked, rowOf, rowsOf, isRowWord, withLink, decodeParts, Canonical}
 use Rattle.table.proofs.WordLaws.{linked-linkOf, count-decode, rowAt-decode}
@@ -27,7 +27,7 @@ use Rattle.undo.specs.declared.undoing.BackEnd.{BackEnd}
 module _ (x : model.Table) (s : List ℕ) where
   module _ (kind : getD s 0 0 ≡ 67) where
     record-cut : recordIn s ≡ cutIn s
-    record-cut = pick-true (eqb (getD s 0 0) 67) (cutIn s) (madeIn s) (eq-eqb (getD s 0 0) 67 kind)
+    record-cut = pick-eq (cutIn s) (madeIn s) kind
 
     fits-cut : undoFits x (recordIn s) ≡ cutFits x (cutIn s)
     fits-cut = ap (undoFits x) record-cut
@@ -37,13 +37,13 @@ module _ (x : model.Table) (s : List ℕ) where
 
   module _ (kind : getD s 0 0 ≡ 67 → ⊥) where
     record-made : recordIn s ≡ madeIn s
-    record-made = pick-false (eqb (getD s 0 0) 67) (cutIn s) (madeIn s) (ne-eqb (getD s 0 0) 67 kind)
+    record-made = pick-ne (cutIn s) (madeIn s) kind
 
     fits-made : undoFits x (recordIn s) ≡ madeFits x (madeIn s)
-    fits-made = ap (undoFits x) record-made ∙ pick-false (eqb (getD s 0 0) 67) _ _ (ne-eqb (getD s 0 0) 67 kind)
+    fits-made = ap (undoFits x) record-made ∙ pick-ne _ _ kind
 
     undone-made : undone x (recordIn s) ≡ model.table (take (model.count x - 1) (x .rows)) (x .marks)
-    undone-made = ap (undone x) record-made ∙ pick-false (eqb (getD s 0 0) 67) _ _ (ne-eqb (getD s 0 0) 67 kind)
+    undone-made = ap (undone x) record-made ∙ pick-ne _ _ kind
 
 -- ONE RECORD UNDONE
 module _ {ws : List ℕ} {n : ℕ} {s : List ℕ} (pre : BackPre ws n s) (ms : List ℕ) where
@@ -85,10 +85,10 @@ module _ {ws : List ℕ} {n : ℕ} {s : List ℕ} (pre : BackPre ws n s) (ms : L
       parent-some : wordAt s 3 ≡ 65535 → ⊥
       parent-some e =
           true-false (oldParentFits x (wordAt s 1) (parentIn (wordAt s 3))) (tests .3)
-          (ap (oldParentFits x (wordAt s 1)) (pick-true (eqb (wordAt s 3) 65535) none (some (wordAt s 3)) (eq-eqb (wordAt s 3) 65535 e)))
+          (ap (oldParentFits x (wordAt s 1)) (pick-eq none (some (wordAt s 3)) e))
 
       parent-is : parentIn (wordAt s 3) ≡ some (wordAt s 3)
-      parent-is = pick-false (eqb (wordAt s 3) 65535) none (some (wordAt s 3)) (ne-eqb (wordAt s 3) 65535 parent-some)
+      parent-is = pick-ne none (some (wordAt s 3)) parent-some
 
       pub cut-parent-low : wordAt s 3 < wordAt s 1
       cut-parent-low =
@@ -134,7 +134,7 @@ module _ {ws : List ℕ} {n : ℕ} {s : List ℕ} (pre : BackPre ws n s) (ms : L
   module _ (kind : getD s 0 0 ≡ 67 → ⊥) where
     pub made-pre : FitPre ws n s 6
     made-pre =
-        let e : historySize (getD s 0 0) ≡ 6 = pick-false (eqb (getD s 0 0) 67) 5 6 (ne-eqb (getD s 0 0) 67 kind) in
+        let e : historySize (getD s 0 0) ≡ 6 = pick-ne 5 6 kind in
         record { rows = pre .rows; few = pre .few; whole = omega (arith, pre .whole) }
 
     pub made-refused : madeFits x (madeIn s) ≡ false → BackPost ws ms n s ws (record { number = 6; place = 0; count = n })
@@ -221,9 +221,8 @@ module _ {ws₀ : List ℕ} {n₀ : ℕ} {b m : List ℕ} {k₀ : ℕ} (pre : Al
               fine = λ f. absurd (z f);
               stop = λ f.
                   ap (λ (j : ℕ). refused (fault j at)) (post .link z) ∙
-                  sym (pick-false (eqb (r .number) 0) (undoAll (undone y (recordIn (drop at b))) (undoing b m (k - 1))) (refused (linkAt
-                  at))
-                  (ne-eqb (r .number) 0 z)) ∙
+                  sym (pick-ne (undoAll (undone y (recordIn (drop at b))) (undoing b m (k - 1))) (refused (linkAt
+                  at)) z) ∙
                   turn;
               few = λ f. absurd (z f);
               canonical = λ f. absurd (z f);
@@ -239,7 +238,6 @@ module _ {ws₀ : List ℕ} {n₀ : ℕ} {b m : List ℕ} {k₀ : ℕ} (pre : Al
               rest =
                   ap (λ (t : model.Table). undoAll t (undoing b m (k - 1)))
                   (post .table z ∙ ap (λ (d : List ℕ). undone y (recordIn d)) (drop-all b at)) ∙
-                  sym (pick-true (eqb (r .number) 0) (undoAll (undone y (recordIn (drop at b))) (undoing b m (k - 1))) (refused (linkAt at))
-                  (eq-eqb (r .number) 0 z)) ∙
+                  sym (pick-eq (undoAll (undone y (recordIn (drop at b))) (undoing b m (k - 1))) (refused (linkAt at)) z) ∙
                   turn;
             }

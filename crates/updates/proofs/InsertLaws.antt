@@ -10,11 +10,11 @@ use native.Mathlib.Numerals.{add-one}
 use lib.Dec.{ltb, eqb}
 use lib.ListN.{length, getD, set}
 use lib.Seq.{getD-set-same, getD-set-other, ext-getD}
-use borrow.Author.Tests.{lt-ltb, eq-eqb, ne-eqb, ltb-true, ltb-false, eqb-false}
+use borrow.Author.Tests.{lt-ltb, ne-eqb, ltb-true, ltb-false}
 use Rattle.model.specs.Base.{pick}
 use Rattle.model.specs.Table as model
 use Rattle.model.specs.Run.{State, Out, stop, gives, newRow, withMade, thenRow}
-use Rattle.model.proofs.BoolLaws.{by-cases, pick-true, pick-false, and-both, eq-cases}
+use Rattle.model.proofs.BoolLaws.{by-cases, and-both, eq-cases, pick-eq, pick-ne}
 use Rattle.model.proofs.TableLaws.{isElement-by}
 use Rattle.model.proofs.GrowLaws.{count-withRow, rowAt-withRow-old, rowAt-withRow-new}
 use Rattle.table.specs.Words.{linked, rowOf, rowsOf, isRowWord, withLink, decodeParts}
@@ -131,11 +131,10 @@ module _ {ws h m : List ℕ} {p : Progress} {t j : ℕ} (pre : NextPre ws h m p 
         updated =
             record {
               same = λ z ms.
-                  outcome-gives z [] ws ms h p (pre .held .fine) ∙ sym (pick-true (eqb link 0) (gives [] (stateOf ws ms h p)) _ (eq-eqb
-                  link 0 e));
+                  outcome-gives z [] ws ms h p (pre .held .fine) ∙ sym (pick-eq (gives [] (stateOf ws ms h p)) _ e);
               after = λ q. after-self (pre .held);
             };
-        map = ap (set m j) (sym (pick-true (eqb link 0) 65535 (p .count) (eq-eqb link 0 e)));
+        map = ap (set m j) (sym (pick-eq 65535 (p .count) e));
       }
 
   module _ (n : link ≡ 0 → ⊥) where
@@ -185,10 +184,10 @@ module _ {ws h m : List ℕ} {p : Progress} {t j : ℕ} (pre : NextPre ws h m p 
                       outcome-then z (p .count ∷ []) ws′ ms h′ r ∙
                       ap (λ (o : Out). thenRow o (λ (q : State). gives [] q))
                       (u .same z ms ∙ ap (λ (q : model.Row). newRow z q (stateOf ws ms h p)) row-copy) ∙
-                      sym (pick-false (eqb link 0) (gives [] (stateOf ws ms h p)) _ (ne-eqb link 0 n));
+                      sym (pick-ne (gives [] (stateOf ws ms h p)) _ n);
                   after = u .after;
                 };
-            map = ap (set m j) (sym (pick-false (eqb link 0) 65535 (p .count) (ne-eqb link 0 n)));
+            map = ap (set m j) (sym (pick-ne 65535 (p .count) n));
           }
 
   -- the rows after it: those that were there, and the copy
@@ -197,13 +196,13 @@ module _ {ws h m : List ℕ} {p : Progress} {t j : ℕ} (pre : NextPre ws h m p 
     gives-state = sym (outcome-gives 0 [] ws′ [] h′ r fine) ∙ post .updated .same 0 []
 
     state-same : link ≡ 0 → stateOf ws′ [] h′ r ≡ stateOf ws [] h p
-    state-same e = let q = gives-state ∙ pick-true (eqb link 0) (gives [] (stateOf ws [] h p)) _ (eq-eqb link 0 e) in (cc)
+    state-same e = let q = gives-state ∙ pick-eq (gives [] (stateOf ws [] h p)) _ e in (cc)
 
     state-copy : (link ≡ 0 → ⊥) → stateOf ws′ [] h′ r ≡ withMade (stateOf ws [] h p) (model.withParent (rowOf w) (linked link))
     state-copy n =
         let row = model.withParent (rowOf w) (linked link) in
         let q = then-state (newRow 0 row (stateOf ws [] h p)) (stateOf ws′ [] h′ r)
-        (gives-state ∙ pick-false (eqb link 0) (gives [] (stateOf ws [] h p)) _ (ne-eqb link 0 n)) in
+        (gives-state ∙ pick-ne (gives [] (stateOf ws [] h p)) _ n) in
         made-state 0 row (stateOf ws [] h p) (stateOf ws′ [] h′ r) (q .0) (q .1)
 
     held′ : Held ws′ h′ r
@@ -250,8 +249,8 @@ module _ {ws h m : List ℕ} {p : Progress} {t j : ℕ} (pre : NextPre ws h m p 
 
         at : k ≡ j → (getD m′ k 0 ≡ 65535) ⊎ IsCopy ws′ (r .count) k (getD m′ k 0)
         at f =
-            by-cases (eqb link 0)
-            (λ e. inl (ap (λ (i : ℕ). getD m′ i 0) f ∙ here ∙ pick-true (eqb link 0) 65535 (p .count) e))
+            eq-cases link 0
+            (λ e. inl (ap (λ (i : ℕ). getD m′ i 0) f ∙ here ∙ pick-eq 65535 (p .count) e))
             (λ e.
-            moved (ap (λ (i : ℕ). getD m′ i 0) f ∙ here ∙ pick-false (eqb link 0) 65535 (p .count) e)
-            (inr (subst (λ (i : ℕ). IsCopy ws′ (r .count) i (p .count)) (sym f) (next-new (eqb-false link 0 e)))))
+            moved (ap (λ (i : ℕ). getD m′ i 0) f ∙ here ∙ pick-ne 65535 (p .count) e)
+            (inr (subst (λ (i : ℕ). IsCopy ws′ (r .count) i (p .count)) (sym f) (next-new e))))

@@ -5,14 +5,12 @@ use mathlib.Core.List.{List, [], _∷_, _++_}
 use mathlib.Core.Option.{Option·none-ne-some}
 use Prim.Native.Nat.{ℕ, suc, _+_, _≤_, _<_}
 use native.Mathlib.Omega.{arith}
-use lib.Dec.{eqb}
 use lib.ListN.{length, take, drop}
-use borrow.Author.Tests.{eq-eqb, ne-eqb}
 use Rattle.model.specs.Refusal.{fault}
 use Rattle.model.specs.Table as model
 use Rattle.model.specs.History.{Record, recordBytes, historyBytes, IsInRange, times}
 use Rattle.model.specs.Run.{State, state, Out, stop, gives}
-use Rattle.model.proofs.BoolLaws.{pick-true, pick-false}
+use Rattle.model.proofs.BoolLaws.{pick-eq, pick-ne}
 use Rattle.model.specs.Table.{Tree}
 use Rattle.model.specs.Base.{nothing, over}
 use Rattle.table.specs.Words.{decodeParts, partsFit}
@@ -97,10 +95,10 @@ held-count {ws} {h} {p} held ms = count-decode (p .count) ws ms (omega (arith, h
 
 -- WHAT AN OUTCOME IS: a value and a state, or a refusal
 pub outcome-gives : (z : ℕ) (v ws ms h : List ℕ) (p : Progress) → p .number ≡ 0 → outcome z v ws ms h p ≡ gives v (stateOf ws ms h p)
-outcome-gives z v ws ms h p e = pick-true (eqb (p .number) 0) _ _ (eq-eqb (p .number) 0 e)
+outcome-gives z v ws ms h p e = pick-eq _ _ e
 
 pub outcome-stop : (z : ℕ) (v ws ms h : List ℕ) (p : Progress) → (p .number ≡ 0 → ⊥) → outcome z v ws ms h p ≡ stop (fault (p .number) z)
-outcome-stop z v ws ms h p e = pick-false (eqb (p .number) 0) _ _ (ne-eqb (p .number) 0 e)
+outcome-stop z v ws ms h p e = pick-ne _ _ e
 
 -- REFUSED, the areas may be anything
 module _ {f : ℕ → State → Out} {v ws h : List ℕ} {p : Progress} {ws′ h′ : List ℕ} {r : Progress} where

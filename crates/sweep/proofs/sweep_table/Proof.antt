@@ -8,6 +8,8 @@ use mathlib.Core.Path.{refl, _∙_, sym}
 use borrow.Author.Needs.{needs}
 use Rattle.sweep.proofs.sweep_table.Statement.{statement}
 use Rattle.sweep.proofs.sweep_table.Tie as tie
+use Prim.Native.Nat.{_≤_}
+use lib.ListN.{length}
 
 fits-requires : tie.Need-fits-requires
 fits-requires c κs = search needs
@@ -59,14 +61,9 @@ renumber-requires c κs =
     let c20 = c13 .before .before .before .before .before .before .before in
     record {
       size = c5 .rows2 .ensures .size;
-      links = λ d. fits-mark (c20 .args .t1 .count) (c20 .args .t1 .rows) (c20 .args
-          .t1 .marks) (fitting (c13))
-          (omega (
-            arith,
-            fitting (c13)
-                .few,
-            size (c20) .rows,
-          )) d;
+      links = λ d.
+          let w : c20 .args .t1 .count ≤ length (c20 .args .t1 .rows) = omega (arith, fitting c13 .few, size c20 .rows) in
+          omega (arith, fits-mark (c20 .args .t1 .count) (c20 .args .t1 .rows) (c20 .args .t1 .marks) (fitting c13) w d, fitting c13 .few);
     }
 
 returns-2 : tie.Need-returns-2

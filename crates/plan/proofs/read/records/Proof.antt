@@ -3,11 +3,9 @@ use lib.ListN.{length-take}
 use Rattle.plan.proofs.ReadPlanLaws.{held-empty, reading-all, reading-on, reading-refused, reading-end}
 use Rattle.plan.specs.Reading.{Held}
 use Rattle.table.specs.Words.{decodeParts}
-use Rattle.model.proofs.BoolLaws.{pick-false}
+use Rattle.model.proofs.BoolLaws.{pick-ne}
 use Rattle.model.specs.Stored.{readFrom, readPlan, bad}
 use Rattle.model.specs.Refusal.{fault}
-use borrow.Author.Tests.{ne-eqb}
-use lib.Dec.{eqb}
 use lib.ListN.{length, drop, length-drop}
 use mathlib.Core.Path.{_≡_, _∙_, ap}
 use Prim.Native.Nat.{_≤_, _+_, _-_, _/_}
@@ -67,9 +65,8 @@ returns c =
     let c11 = c10 .before in
     let c15 = c11 .before .before .before .before in
     record {
-      result = pick-false (eqb (c6 .read-record .result .number) 0) _ (bad
-          (fault (c6 .read-record .result .number) (c11 .loop .at))) (ne-eqb (c6 .read-record
-          .result .number) 0 (c .if1 .taken)) ∙ reading-refused (c15 .args .bytes .now) (c11 .loop .rows) (c11 .loop
+      result = pick-ne _ (bad
+          (fault (c6 .read-record .result .number) (c11 .loop .at))) (c .if1 .taken) ∙ reading-refused (c15 .args .bytes .now) (c11 .loop .rows) (c11 .loop
           .marks) (c11 .loop .count) (c11 .loop .at) (c10 .loop-test .taken) (c11 .loop .inv .2) (c6 .read-record .last .1 .0)
           (c6 .read-record .last .1 .1 .0) (c6 .read-record .result) (c6 .read-record .ensures) (c .if1 .taken);
       canonical = λ z. absurd (c .if1 .taken z);

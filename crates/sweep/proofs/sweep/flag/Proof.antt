@@ -64,8 +64,8 @@ same-length c =
 returns : tie.Need-returns Inv-loop μ-loop
 returns c =
     let c4 = c .before .before .before .before in
-    flags-all (λ (v : List ℕ) (k : ℕ). any (model.isThe k) (map linked v)) (c .before .loop .numbers) (c4 .args .marks .now) (c .before .loop .d) (omega
-    arith) (c .before .loop .inv .1)
+    flags-all (λ (v : List ℕ) (k : ℕ). any (model.isThe k) (map linked v)) (c .before .loop .numbers) (c4 .args .marks .now)
+    (c .before .loop .d) (omega arith) (c .before .loop .inv .1)
 
 pub flag-spec : {M : Type 1} → statement M
 flag-spec =

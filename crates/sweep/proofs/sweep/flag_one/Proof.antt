@@ -1,8 +1,6 @@
 -- `sweep::flag_one` sets the flag of one link, and none for link 0.
-use Rattle.model.proofs.BoolLaws.{pick-true, pick-false}
-use borrow.Author.Tests.{eq-eqb, ne-eqb}
+use Rattle.model.proofs.BoolLaws.{pick-eq, pick-ne}
 use lib.ListN.{set}
-use lib.Dec.{eqb}
 use Prim.Native.Nat.{ℕ}
 use mathlib.Core.Path.{_∙_, sym, ap}
 use borrow.Author.Needs.{needs}
@@ -16,8 +14,7 @@ returns : tie.Need-returns
 returns c =
     let c3 = c .before .before .before in
     sym
-    (pick-true (eqb (c3 .args .link) 0) (c3 .args .numbers .now) (set (c3 .args .numbers .now) (c3 .args .link) 1) (eq-eqb (c3 .args
-    .link) 0 (sym (c .before .index .ensures .0) ∙ c .if1 .taken)))
+    (pick-eq (c3 .args .numbers .now) (set (c3 .args .numbers .now) (c3 .args .link) 1) (sym (c .before .index .ensures .0) ∙ c .if1 .taken))
 
 mul-numbers : tie.Need-mul-numbers
 mul-numbers c = search needs
@@ -31,9 +28,8 @@ same-length c = search needs
 returns-2 : tie.Need-returns-2
 returns-2 c =
     let c3 = c .before .before .before in
-    ap (λ (j : ℕ). set (c3 .args .numbers .now) j 1) (c .before .index .ensures .0) ∙ sym (pick-false (eqb
-    (c3 .args .link) 0) (c3 .args .numbers .now) (set (c3 .args
-    .numbers .now) (c3 .args .link) 1) (ne-eqb (c3 .args .link) 0 (λ q. c .if1 .left (c .before .index .ensures .0 ∙ q))))
+    ap (λ (j : ℕ). set (c3 .args .numbers .now) j 1) (c .before .index .ensures .0) ∙ sym (pick-ne (c3 .args .numbers .now) (set (c3 .args
+    .numbers .now) (c3 .args .link) 1) (λ q. c .if1 .left (c .before .index .ensures .0 ∙ q)))
 
 pub flag-one-spec : {M : Type 1} → statement M
 flag-one-spec =

@@ -29,8 +29,8 @@ flag-requires c κs =
     let c5 = c .before .before .before .before .before in
     record {
       zero = c5 .pre .numbers;
-      links = λ d. fits-mark (c5 .args .count) (c5 .args .rows .now) (c5 .args .marks .now) (fitting (c5)) (within (c5))
-          d;
+      links = λ d. omega
+          (arith, fits-mark (c5 .args .count) (c5 .args .rows .now) (c5 .args .marks .now) (fitting c5) (within c5) d, fitting c5 .few);
     }
 
 loop-holds : tie.Need-loop-holds Inv-loop μ-loop
