@@ -1,8 +1,8 @@
 // Lent areas: cleared, and filled with a value.
 ghost use mathlib.Core.Path.{_≡_};
 ghost use Prim.Native.Nat.{_≤_};
-ghost use mathlib.Core.List.{_++_};
-ghost use lib.ListN.{length, drop, replicate};
+ghost use lib.ListN.{length, replicate};
+ghost use Rattle.model.specs.Base.{atFront};
 
 // All numbers zero.
 pub fn clear_words(area: &mut [u16])
@@ -29,7 +29,7 @@ pub fn clear_bytes(area: &mut [u8])
 // A value at the front; what is behind it stays.
 pub fn put(area: &mut [u16], value: &[u16])
     requires { ⌜ length (now value) ≤ length (now area) ⌝ }
-    ensures { λ r. ⌜ now (area .exit) ≡ now (value .entry) ++ drop (length (now (value .entry))) (now (area .entry)) ⌝ }
+    ensures { λ r. ⌜ now (area .exit) ≡ atFront (now (value .entry)) (now (area .entry)) ⌝ }
 {
     let mut j = 0;
     while j < value.len() {

@@ -5,6 +5,7 @@ ghost use Rattle.positions.specs.Positions.{pushStep, pushUnion, pushDelete, pu
 ghost use Rattle.meeting.specs.Codes.{stepOf};
 ghost use Rattle.emission.specs.Emitting.{outOf, unaryOf, binaryOf, GrowPre, StepPre, PairedPre, UnaryPre, Grown, BindPre, BindPost};
 ghost use Rattle.emission.specs.Emitting.{BelowPre, BelowPost, NullaryPre, NullaryPost, EmitPre, EmitPost};
+use meeting::cells;
 use meeting::cells::Step;
 use positions::packed;
 use positions::packed::Position;
@@ -24,8 +25,8 @@ fn any_below() -> Step
     ensures { λ r. ⌜ stepOf r ≡ anyBelow ⌝ }
 {
     Step {
-        axis: 1,
-        test: 0,
+        axis: cells::DESCENDANT,
+        test: cells::ANY_NODE,
         name: 0,
     }
 }

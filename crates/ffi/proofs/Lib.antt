@@ -3,3 +3,4 @@ pub mod FittingLaws
 pub mod RunLaws
 pub mod Promised
 pub mod RunUndone
+pub mod FreeCalls

@@ -1,5 +1,5 @@
 -- The C calls in the model's words: a plan that is read, swept, undone or run on is well formed, so writing it is never refused.
-use mathlib.Core.Path.{_≡_, ap, _∙_}
+use mathlib.Core.Path.{_≡_, ap, _∙_, refl}
 use mathlib.Core.Bool.{true, false, _||_, _&&_}
 use mathlib.Core.List.{List}
 use Prim.Native.Nat.{ℕ, _≤_}
@@ -7,11 +7,11 @@ use lib.Dec.{ltb, leb}
 use native.Mathlib.Omega.{arith}
 use lib.ListN.{length, replicate}
 use borrow.Author.Tests.{le-ltb, le-leb, ltb-false}
-use Rattle.model.specs.Base.{pick}
-use Rattle.model.specs.Call.{Ran, areasFit, ranBy, runBy}
+use Rattle.model.specs.Base.{pick, atFront, areBytes}
+use Rattle.model.specs.Call.{Ran, areasFit, ranBy, runBy, countKind, filled}
 use Rattle.model.specs.Limits.{answerNeed, historyNeed, workNeed}
 use Rattle.model.specs.Refusal as refusal
-use Rattle.model.specs.Run.{Out, gives, stop}
+use Rattle.model.specs.Run.{Out, gives, stop, State}
 use Rattle.model.specs.Script.{readScript}
 use Rattle.model.specs.Stored.{stored, got, readPlan}
 use Rattle.model.specs.Sweep.{swept}
@@ -34,13 +34,16 @@ use Rattle.ffi.specs.Calls.{readCode, readOut, undoCode, undoOut}
 use Rattle.lent.specs.Codes.{codeOf, lentCode, writtenCode, finishedCode, finishedOut}
 use Rattle.ffi.specs.Running.{refusedCall, ranCall, readCall, runCalled}
 use Rattle.lent.specs.Done.{isLentShort, doneOver}
-use Rattle.ffi.specs.Promise.{atFront, PlanBack, SweptBack, UndoneBack, RunDone, RunRefused, FreeRunsCommute}
+use Rattle.ffi.specs.Promise.{PlanBack, SweptBack, UndoneBack, RunDone, RunRefused, FreeRunsCommute}
+use Rattle.ffi.specs.Promise.{planLeft, historyLeft}
 use Rattle.table.proofs.EncodeLaws.{decode-encode, fits-encode}
 use Rattle.plan.proofs.WritePlanLaws.{well-written, well-out}
 use Rattle.plan.proofs.Promised.{read-short, read-back}
 use Rattle.paths.proofs.Promised.{free-told}
 use Rattle.run.proofs.OutcomeLaws.{refuses-fine, run-refuses, outcome-well}
 use Rattle.run.proofs.Promised.{runsCommute}
+use lib.Seq.{take-at}
+use Rattle.model.specs.History.{madeElementKind, madeLeafKind, cutKind, historyBytes}
 
 -- A PLAN READ is the table in its words; the call then answers n and leaves b
 module _ (p o : List ℕ) (x : model.Table) (read : readPlan p ≡ got x) (room : 2080 ≤ length o) where
@@ -68,7 +71,7 @@ pub planBack : PlanBack
 planBack p o x b e room =
     let r = read-back p x b e o (omega (arith, read-short p x b e)) in (
       code-then p o x e room (λ q. writtenCode (library.planWritten (q .table) o)) ∙ ap writtenCode (r .0),
-      out-then p o x e room (λ q. library.planOut (q .table) o) ∙ r .1,
+      out-then p o x e room (λ q. library.writtenOut (q .table) o) ∙ r .1,
     )
 
 pub sweptBack : SweptBack
@@ -103,7 +106,7 @@ undoneBack p h o x y b e = undone-back p h o x y (storedBack .1 p x b e .0) e
 
 -- no area is too short: each has its need
 module _ (a h w o d : List ℕ) (long : isLentShort (length a) (length h) (length w) (length o) (length d) ≡ false) where
-  needs : (areasFit a h w ≡ true) × (2080 ≤ length o)
+  pub needs : (areasFit a h w ≡ true) × (2080 ≤ length o)
   needs =
       let A = ltb (length a) answerNeed in
       let H = ltb (length h) historyNeed in
@@ -135,32 +138,58 @@ call-of p s a h w o d x t well e g long fit =
     ap (λ (q : TableResult). readCall q s a h w o d) (ap library.readBy e) ∙
     ap (λ (l : Ran). ranCall (resultOf (encode x) l) l o d) left
 
-pub runDone : RunDone
-runDone p s a h w o d x v t b c e g long =
-    let well = storedBack .1 p x b e .0 in
-    let after : isWell (t .plan) ≡ true = runBy-back x s c well v t g .0 in
-    let ok = needs a h w o d long in
-    let L = ranBy x (length a) (length h) (length w) (gives v t) in
-    call-of p s a h w o d x (gives v t) well e g long (ok .0) ∙
-    (λ i. record {
-      code = codeOf (well-written (t .plan) after o (ok .1) i .fault .number) 0 0;
-      answer = L .answer;
-      history = L .history;
-      work = L .work;
-      out = well-out (t .plan) after o (ok .1) i;
-      done = doneOver (L .items) (L .made) (L .cut) (L .records) (L .bytes) (well-written (t .plan) after o (ok .1) i .bytes) d;
-    })
-
--- a refusal has a number other than 0
+-- a run that is refused
 refused-called : (x : model.Table) (a h w : ℕ) (f : refusal.Fault) (o d : List ℕ) → refusal.isFine f ≡ false →
     ranCall (resultOf (encode x) (ranBy x a h w (stop f))) (ranBy x a h w (stop f)) o d ≡
     refusedCall (codeOf (f .number) 2 (f .place)) (replicate a 0) (replicate h 0) (replicate w 0) o d
 refused-called x a h w f o d k = rw k
 
+-- done: the areas, and the plan and the history that are left
+module _ (p s a h w o d : List ℕ) (x : model.Table) (well : isWell x ≡ true) (read : readPlan p ≡ got x)
+    (long : isLentShort (length a) (length h) (length w) (length o) (length d) ≡ false) where
+  module _ (bytes : areBytes s ≡ true) (v : List ℕ) (t : State) (ends : runBy x (readScript s) ≡ gives v t) where
+    pub run-done : runCalled p s a h w o d ≡ record {
+      code = codeOf 0 0 0;
+      answer = filled (length a) v;
+      history = filled (length h) (historyBytes (t .history));
+      work = replicate (length w) 0;
+      out = atFront (stored (t .plan)) o;
+      done = doneOver (length v) (countKind madeElementKind madeLeafKind (t .history)) (countKind cutKind cutKind (t .history))
+          (length (t .history)) (length (historyBytes (t .history))) (length (stored (t .plan))) d;
+    }
+    run-done =
+        let after : isWell (t .plan) ≡ true = runBy-back x s bytes well v t ends .0 in
+        let ok = needs a h w o d long in
+        let L = ranBy x (length a) (length h) (length w) (gives v t) in
+        call-of p s a h w o d x (gives v t) well read ends long (ok .0) ∙
+        (λ i. record {
+          code = codeOf (well-written (t .plan) after o (ok .1) i .fault .number) 0 0;
+          answer = L .answer;
+          history = L .history;
+          work = L .work;
+          out = well-out (t .plan) after o (ok .1) i;
+          done = doneOver (L .items) (L .made) (L .cut) (L .records) (L .bytes) (well-written (t .plan) after o (ok .1) i .bytes) d;
+        })
+
+    pub plan-left : planLeft (runCalled p s a h w o d) ≡ stored (t .plan)
+    plan-left = ap planLeft run-done ∙ take-at (stored (t .plan)) _ (length (stored (t .plan))) refl
+
+    pub history-left : historyLeft (runCalled p s a h w o d) ≡ historyBytes (t .history)
+    history-left = ap historyLeft run-done ∙ take-at (historyBytes (t .history)) _ (length (historyBytes (t .history))) refl
+
+  -- refused: a number other than 0
+  pub run-refused : (f : refusal.Fault) → runBy x (readScript s) ≡ stop f →
+      runCalled p s a h w o d ≡
+      refusedCall (codeOf (f .number) 2 (f .place)) (replicate (length a) 0) (replicate (length h) 0) (replicate (length w) 0) o d
+  run-refused f stops =
+      call-of p s a h w o d x (stop f) well read stops long (needs a h w o d long .0) ∙
+      refused-called x (length a) (length h) (length w) f o d (refuses-fine (run-refuses x s) f stops)
+
+pub runDone : RunDone
+runDone p s a h w o d x v t b c e g long = run-done p s a h w o d x (storedBack .1 p x b e .0) e long c v t g
+
 pub runRefused : RunRefused
-runRefused p s a h w o d x f b e g long =
-    call-of p s a h w o d x (stop f) (storedBack .1 p x b e .0) e g long (needs a h w o d long .0) ∙
-    refused-called x (length a) (length h) (length w) f o d (refuses-fine (run-refuses x s) f g)
+runRefused p s a h w o d x f b e g long = run-refused p s a h w o d x (storedBack .1 p x b e .0) e long f g
 
 -- THE TWO CALLS of the library, in either order
 pub freeRunsCommute : FreeRunsCommute

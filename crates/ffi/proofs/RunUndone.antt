@@ -2,12 +2,11 @@
 use mathlib.Core.Path.{_≡_, refl, ap, sym, _∙_}
 use mathlib.Core.Bool.{true, false}
 use mathlib.Core.List.{List}
-use Prim.Native.Nat.{ℕ, _≤_}
+use Prim.Native.Nat.{ℕ}
 use native.Mathlib.Omega.{arith}
-use lib.ListN.{length, getD, take, set, length-set}
-use lib.Seq.{take-at, getD-set-same, getD-set-other}
-use Rattle.model.specs.Base.{areBytes}
-use Rattle.model.specs.Call.{filled, runBy}
+use lib.ListN.{length}
+use Rattle.model.specs.Base.{areBytes, atFront}
+use Rattle.model.specs.Call.{runBy}
 use Rattle.model.specs.History.{historyBytes}
 use Rattle.model.specs.Run.{State, Out, gives, stop}
 use Rattle.model.specs.Script.{readScript}
@@ -16,15 +15,15 @@ use Rattle.model.specs.Table.{Table}
 use Rattle.model.proofs.BoolLaws.{by-cases, eq-cases}
 use Rattle.model.proofs.StoredBack.{storedBack}
 use Rattle.lent.specs.Codes.{codeOf, lentCode}
-use Rattle.lent.specs.Done.{isLentShort, doneOver}
+use Rattle.lent.specs.Done.{isLentShort}
 use Rattle.plan.specs.Calls as library
 use Rattle.plan.proofs.Promised.{read-got}
 use Rattle.model.proofs.RunsBack.{runBy-back}
 use Rattle.ffi.specs.Calls.{undoCode, undoOut}
 use Rattle.ffi.specs.Running.{Called, runCalled}
-use Rattle.ffi.specs.Promise.{atFront, planLeft, historyLeft, RunUndone}
-use Rattle.ffi.proofs.RunLaws.{six-fit, call-short, call-plan-refused}
-use Rattle.ffi.proofs.Promised.{undone-back, runDone, runRefused}
+use Rattle.ffi.specs.Promise.{historyLeft, RunUndone}
+use Rattle.ffi.proofs.RunLaws.{call-short, call-plan-refused}
+use Rattle.ffi.proofs.Promised.{undone-back, runRefused, plan-left, history-left}
 
 -- THE ANSWER 0: no area is too short, the plan is read, and the run ends
 module _ (p s a h w o d : List ℕ) (answers : runCalled p s a h w o d .code ≡ codeOf 0 0 0) where
@@ -55,35 +54,18 @@ module _ (p s a h w o d : List ℕ) (answers : runCalled p s a h w o d .code ≡
           absurd (omega arith)
       go (gives v t) g = (v, (t, g))
 
--- THE SIX NUMBERS: the last is the bytes in out, the one before the history's bytes
-module _ (i m c r b n : ℕ) (d : List ℕ) (six : 6 ≤ length d) where
-  done-written : getD (doneOver i m c r b n d) 5 0 ≡ n
-  done-written = getD-set-same (set (set (set (set (set d 0 i) 1 m) 2 c) 3 r) 4 b) 5 n 0 (simp length-set (omega arith))
-
-  done-bytes : getD (doneOver i m c r b n d) 4 0 ≡ b
-  done-bytes =
-      getD-set-other (set (set (set (set (set d 0 i) 1 m) 2 c) 3 r) 4 b) 5 4 n 0 (λ e. omega arith) ∙
-      getD-set-same (set (set (set (set d 0 i) 1 m) 2 c) 3 r) 4 b 0 (simp length-set (omega arith))
-
 pub runUndone : RunUndone
 runUndone p s a h w o d o′ bytes bytes′ answers room =
     let long = call-long p s a h w o d answers in
     let g = call-read p s a h w o d answers in
-    let k = call-ends p s a h w o d answers bytes (g .0) (g .1) in
     let x = g .0 in
+    let k = call-ends p s a h w o d answers bytes x (g .1) in
+    let v = k .0 in
     let t = k .1 .0 in
-    let R = runDone p s a h w o d x (k .0) t bytes bytes′ (g .1) (k .1 .1) long in
-    let six = six-fit _ (length a) (length h) (length w) (length o) (length d) refl long in
-    let P : planLeft (runCalled p s a h w o d) ≡ stored (t .plan) =
-    ap planLeft R ∙ ap (λ (n : ℕ). take n (atFront (stored (t .plan)) o)) (done-written _ _ _ _ _ (length (stored (t .plan))) d six) ∙
-    take-at (stored (t .plan)) _ (length (stored (t .plan))) refl in
-    let H : historyLeft (runCalled p s a h w o d) ≡ historyBytes (t .history) =
-    ap historyLeft R ∙
-    ap (λ (n : ℕ). take n (filled (length h) (historyBytes (t .history))))
-    (done-bytes _ _ _ _ (length (historyBytes (t .history))) _ d six) ∙
-    take-at (historyBytes (t .history)) _ (length (historyBytes (t .history))) refl in
     let before = storedBack .1 p x bytes (g .1) in
-    let after = runBy-back x s bytes′ (before .0) (k .0) t (k .1 .1) in
+    let P = plan-left p s a h w o d x (before .0) (g .1) long bytes′ v t (k .1 .1) in
+    let H = history-left p s a h w o d x (before .0) (g .1) long bytes′ v t (k .1 .1) in
+    let after = runBy-back x s bytes′ (before .0) v t (k .1 .1) in
     let u =
     undone-back (stored (t .plan)) (historyBytes (t .history)) o′ (t .plan) x (after .0) (storedBack .0 (t .plan) (after .0))
     (after .2) room in (

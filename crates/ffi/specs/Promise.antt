@@ -1,22 +1,23 @@
 -- What the C calls leave, in the model's own words: the plan is read, and what is written is the stored form of the table that the rules
--- give. At the end, what the library's `analyse` and `run` do together. Each promise is a type; a term of it in proofs/ is its proof.
--- Assumes nothing.
+-- give. At the end demand 3, of the library's `analyse` and `run` and of the C calls. Each promise is a type; a term of it in proofs/ is
+-- its proof. Assumes nothing.
 use mathlib.Core.Path.{_≡_}
 use mathlib.Core.Bool.{true, false}
-use mathlib.Core.List.{List, _++_}
+use mathlib.Core.List.{List}
+use mathlib.Core.Logic.{_↔_}
 use Prim.Native.Nat.{ℕ, _≤_}
-use lib.ListN.{length, getD, take, drop, replicate}
-use Rattle.model.specs.Base.{areBytes}
-use Rattle.model.specs.Call.{areasFit, countKind, filled, runBy}
+use lib.ListN.{length, getD, take, replicate}
+use Rattle.model.specs.Base.{areBytes, atFront}
+use Rattle.model.specs.Call.{areasFit, countKind, filled, runBy, Ran, CallsEqual}
 use Rattle.model.specs.History.{madeElementKind, madeLeafKind, cutKind, historyBytes}
-use Rattle.model.specs.Refusal.{Fault}
+use Rattle.model.specs.Refusal.{Fault, fine}
 use Rattle.model.specs.Run.{State, gives, stop}
 use Rattle.model.specs.Script.{readScript}
 use Rattle.model.specs.Stored.{stored, got, readPlan}
 use Rattle.model.specs.Sweep.{swept}
 use Rattle.model.specs.Table.{Table}
 use Rattle.model.specs.Undo.{back, undo}
-use Rattle.ffi.specs.Calls.{planCode, planOut, sweepCode, sweepOut, undoCode, undoOut}
+use Rattle.ffi.specs.Calls.{planCode, planOut, sweepCode, sweepOut, undoCode, undoOut, analyseCode}
 use Rattle.lent.specs.Codes.{outNeed, codeOf}
 use Rattle.ffi.specs.Running.{Called, refusedCall, runCalled}
 use Rattle.lent.specs.Done.{isLentShort, doneOver}
@@ -25,10 +26,6 @@ use Rattle.run.specs.Calls.{ran, runResult}
 use Rattle.run.specs.Promise.{EitherEnd}
 use Rattle.table.specs.Words.{fits}
 use Rattle.table.specs.declared.Table as declared
-
--- a plan at the start of out, the rest as it was
-abbrev pub atFront : (bytes out : List ℕ) → List ℕ
-atFront b o = b ++ drop (length b) o
 
 -- READ AND WRITTEN BACK: the bytes that were read
 abbrev pub PlanBack : Type 0
@@ -92,3 +89,59 @@ FreeRunsCommute =
     valuesOf (analysed b c) ≡ values 0 0 0 → fits t ≡ true → areasFit a h w ≡ true → areasFit a′ h′ w′ ≡ true →
     EitherEnd t (ran t b a h w) (ran (runResult t b a h w .table) c a′ h′ w′) (ran t c a′ h′ w′)
     (ran (runResult t c a′ h′ w′ .table) b a h w)
+
+-- AND THROUGH C: a script and the areas lent to its run
+pub record Lent : Type 0 where
+  pub script : List ℕ
+  pub answer : List ℕ
+  pub history : List ℕ
+  pub work : List ℕ
+  pub out : List ℕ
+  pub done : List ℕ
+
+-- the script is bytes, and no area is too short
+abbrev pub Suffices : Lent → Type 0
+Suffices l =
+    (areBytes (l .script) ≡ true) ×
+    (isLentShort (length (l .answer)) (length (l .history)) (length (l .work)) (length (l .out)) (length (l .done)) ≡ false)
+
+-- a script's run on a plan, and on the plan that another's left
+abbrev pub runLent : (plan : List ℕ) → Lent → Called
+runLent p l = runCalled p (l .script) (l .answer) (l .history) (l .work) (l .out) (l .done)
+
+abbrev pub runAfter : (plan : List ℕ) → (leads follows : Lent) → Called
+runAfter p l m = runLent (planLeft (runLent p l)) m
+
+-- both calls of an order answer 0
+abbrev pub OrderAnswers : (plan : List ℕ) → (leads follows : Lent) → Type 0
+OrderAnswers p l m = (runLent p l .code ≡ codeOf 0 0 0) × (runAfter p l m .code ≡ codeOf 0 0 0)
+
+-- what a call that answered 0 tells of its run: the numbers of done, the areas, and the table that its plan is read as
+abbrev pub told : Called → Table → Ran
+told c y =
+    record {
+      fault = fine;
+      plan = y;
+      items = getD (c .done) 0 0;
+      made = getD (c .done) 1 0;
+      cut = getD (c .done) 2 0;
+      records = getD (c .done) 3 0;
+      bytes = getD (c .done) 4 0;
+      answer = c .answer;
+      history = c .history;
+      work = c .work;
+    }
+
+-- the plans that the calls of both orders left are read, and what the calls tell is equal once new rows are matched
+abbrev pub CalledEqual : Table → (one oneThen two twoThen : Called) → Type 0
+CalledEqual x r r′ s s′ =
+    (y : Table) × ((y′ : Table) × ((z : Table) × ((z′ : Table) ×
+    ((readPlan (planLeft r) ≡ got y) × (readPlan (planLeft r′) ≡ got y′) × (readPlan (planLeft s) ≡ got z) ×
+    (readPlan (planLeft s′) ≡ got z′) × CallsEqual x (told r y) (told r′ y′) (told s z) (told s′ z′)))))
+
+abbrev pub FreeCallsCommute : Type 0
+FreeCallsCommute =
+    (p : List ℕ) (x : Table) (l m : Lent) → areBytes p ≡ true → readPlan p ≡ got x → Suffices l → Suffices m →
+    analyseCode (l .script) (m .script) ≡ codeOf 0 0 0 →
+    (OrderAnswers p l m ↔ OrderAnswers p m l) ×
+    (OrderAnswers p l m → CalledEqual x (runLent p l) (runAfter p l m) (runLent p m) (runAfter p m l))

@@ -4,7 +4,7 @@
 ghost use mathlib.Core.Path.{_≡_};
 ghost use Rattle.ffi.specs.Calls.{planCode, planOut, sweepCode, sweepOut, undoCode, undoOut, analyseCode};
 ghost use Rattle.ffi.specs.Running.{runCalled};
-use lent::ROOM;
+use lent::OUT;
 use lent::answer;
 use lent::answer::AREA;
 use lent::answer::PLAN;
@@ -19,7 +19,7 @@ pub extern "C" fn yegnabit_plan(plan: &[u8], out: &mut [u8]) -> u64
     ensures { λ r. ⌜ r ≡ planCode (now (plan .entry)) (now (out .entry)) ⌝ }
     ensures { λ r. ⌜ now (out .exit) ≡ planOut (now (plan .entry)) (now (out .entry)) ⌝ }
 {
-    if out.len() < ROOM {
+    if out.len() < OUT {
         return answer::code(Fault::LENT, AREA, 0);
     }
     let read = plan::read_plan(plan);
@@ -32,7 +32,7 @@ pub extern "C" fn yegnabit_sweep(plan: &[u8], out: &mut [u8]) -> u64
     ensures { λ r. ⌜ r ≡ sweepCode (now (plan .entry)) (now (out .entry)) ⌝ }
     ensures { λ r. ⌜ now (out .exit) ≡ sweepOut (now (plan .entry)) (now (out .entry)) ⌝ }
 {
-    if out.len() < ROOM {
+    if out.len() < OUT {
         return answer::code(Fault::LENT, AREA, 0);
     }
     let read = plan::read_plan(plan);
@@ -50,7 +50,7 @@ pub extern "C" fn yegnabit_undo(plan: &[u8], history: &[u8], out: &mut [u8]) -> 
     ensures { λ r. ⌜ r ≡ undoCode (now (plan .entry)) (now (history .entry)) (now (out .entry)) ⌝ }
     ensures { λ r. ⌜ now (out .exit) ≡ undoOut (now (plan .entry)) (now (history .entry)) (now (out .entry)) ⌝ }
 {
-    if out.len() < ROOM {
+    if out.len() < OUT {
         return answer::code(Fault::LENT, AREA, 0);
     }
     let read = plan::read_plan(plan);

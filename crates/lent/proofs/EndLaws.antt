@@ -5,7 +5,7 @@ use mathlib.Core.List.{List}
 use Prim.Native.Nat.{ℕ}
 use lib.Dec.{eqb}
 use borrow.Author.Tests.{eq-eqb, ne-eqb}
-use Rattle.plan.specs.Calls.{planWritten, planOut}
+use Rattle.plan.specs.Calls.{planWritten, writtenOut}
 use Rattle.table.specs.declared.Written.{Written}
 use Rattle.run.specs.declared.RunResult.{RunResult}
 use Rattle.table.specs.declared.TableResult.{TableResult}
@@ -20,7 +20,7 @@ module _ (r : TableResult) (w : ℕ) (o : List ℕ) where
       (e ∙ rw k, rw k)
 
   pub finish-written : (c : ℕ) (x : Written) (o′ : List ℕ) → r .fault .number ≡ 0 → x ≡ planWritten (r .table) o →
-      o′ ≡ planOut (r .table) o → c ≡ writtenCode x → (c ≡ finishedCode r w o) × (o′ ≡ finishedOut r o)
+      o′ ≡ writtenOut (r .table) o → c ≡ writtenCode x → (c ≡ finishedCode r w o) × (o′ ≡ finishedOut r o)
   finish-written c x o′ z e f g =
       let k : eqb (r .fault .number) 0 ≡ true = eq-eqb (r .fault .number) 0 z in
       (g ∙ ap writtenCode e ∙ rw k, f ∙ rw k)
@@ -37,7 +37,7 @@ module _ (r : RunResult) (o d : List ℕ) where
       (e ∙ rw k, (rw k, f ∙ rw k))
 
   pub end-written : (c : ℕ) (w : Written) (o′ d′ : List ℕ) → r .fault .number ≡ 0 → w ≡ planWritten (r .table) o →
-      o′ ≡ planOut (r .table) o → c ≡ codeOf (w .fault .number) 0 0 →
+      o′ ≡ writtenOut (r .table) o → c ≡ codeOf (w .fault .number) 0 0 →
       d′ ≡ doneOver (r .items) (r .tally .made) (r .tally .cut) (r .tally .records) (r .bytes) (w .bytes) d → Ends r o d c o′ d′
   end-written c w o′ d′ z e f g h =
       let k : eqb (r .fault .number) 0 ≡ true = eq-eqb (r .fault .number) 0 z in

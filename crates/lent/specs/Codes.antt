@@ -4,7 +4,7 @@ use Prim.Native.Nat.{ℕ, _+_, _*_, _%_}
 use lib.Dec.{eqb}
 use Rattle.model.specs.Base.{pick}
 use Rattle.model.specs.Limits.{maxRows, documents}
-use Rattle.plan.specs.Calls.{planWritten, planOut}
+use Rattle.plan.specs.Calls.{planWritten, writtenOut}
 use Rattle.table.specs.declared.TableResult.{TableResult}
 use Rattle.table.specs.declared.Written.{Written}
 
@@ -34,4 +34,4 @@ finishedCode r w o =
     pick (eqb (r .fault .number) 0) (writtenCode (planWritten (r .table) o)) (codeOf (r .fault .number) w (r .fault .place))
 
 abbrev pub finishedOut : TableResult → (out : List ℕ) → List ℕ
-finishedOut r o = pick (eqb (r .fault .number) 0) (planOut (r .table) o) o
+finishedOut r o = pick (eqb (r .fault .number) 0) (writtenOut (r .table) o) o

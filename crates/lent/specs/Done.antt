@@ -1,11 +1,11 @@
 -- The areas lent to a run through C, and what they hold once it is over. Assumes nothing: these are definitions.
 use mathlib.Core.Path.{_≡_}
 use mathlib.Core.Bool.{Bool, true, _||_}
-use mathlib.Core.List.{List}
+use mathlib.Core.List.{List, [], _∷_}
 use Prim.Native.Nat.{ℕ, _≤_}
 use lib.Dec.{ltb, eqb}
-use lib.ListN.{length, set}
-use Rattle.model.specs.Base.{pick}
+use lib.ListN.{length}
+use Rattle.model.specs.Base.{pick, atFront}
 use Rattle.model.specs.Limits.{answerNeed, historyNeed, workNeed}
 use Rattle.plan.specs.Calls.{planWritten}
 use Rattle.table.specs.Words.{fits}
@@ -18,7 +18,7 @@ isLentShort a h w o d = ltb a answerNeed || ltb h historyNeed || ltb w workNeed 
 
 -- six numbers over the front of done: items, rows made, links cut, records written, history bytes, bytes in out
 abbrev pub doneOver : (items made cut records bytes written : ℕ) → (done : List ℕ) → List ℕ
-doneOver i m c r b n d = set (set (set (set (set (set d 0 i) 1 m) 2 c) 3 r) 4 b) 5 n
+doneOver i m c r b n d = atFront (i ∷ m ∷ c ∷ r ∷ b ∷ n ∷ []) d
 
 -- ONCE THE RUN IS OVER: its refusal, out as it was and done zero; or the plan written, and its six numbers
 abbrev pub endCode : RunResult → (out : List ℕ) → ℕ

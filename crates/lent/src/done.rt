@@ -9,8 +9,8 @@ use areas::area;
 use plan::write;
 use run::RunResult;
 
-// The numbers of done.
-const SIX: usize = 6;
+// The numbers that done needs.
+const DONE: usize = 6;
 
 // Some area is shorter than its need.
 pub fn is_lent_short(answer: usize, history: usize, work: usize, out: usize, done: usize) -> bool
@@ -19,8 +19,8 @@ pub fn is_lent_short(answer: usize, history: usize, work: usize, out: usize, don
     (answer < run::ANSWER)
         | (history < run::HISTORY)
         | (work < run::WORK)
-        | (out < crate::ROOM)
-        | (done < SIX)
+        | (out < crate::OUT)
+        | (done < DONE)
 }
 
 // The six numbers over the front of done.

@@ -4,5 +4,5 @@ use table::Table;
 pub mod answer;
 pub mod done;
 
-// The bytes that a plan takes at most: four for each row and mark.
-pub const ROOM: usize = 4 * (Table::ROWS + Table::DOCUMENTS);
+// The bytes that out needs: four for each row and mark of the longest plan.
+pub const OUT: usize = 4 * (Table::ROWS + Table::DOCUMENTS);

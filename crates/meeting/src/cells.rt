@@ -11,15 +11,15 @@ ghost use Rattle.meeting.specs.Cells.{noCell};
 ghost use Rattle.meeting.specs.Codes.{stepOf, cellOf};
 
 // The descendant axis.
-const DESCENDANT: usize = 1;
+pub const DESCENDANT: usize = 1;
 
 // The first of the two axes that lead up.
 pub const PARENT: usize = 2;
 
 // Tests; any other is for the named element.
-const ANY_NODE: usize = 0;
+pub const ANY_NODE: usize = 0;
 
-const ANY_ELEMENT: usize = 1;
+pub const ANY_ELEMENT: usize = 1;
 
 const ANY_LEAF: usize = 2;
 

@@ -53,6 +53,7 @@ pub mod Matching
 pub mod Orders
 pub mod FreeCommutes
 pub mod StopLaws
+pub mod RefusedByTable
 pub mod CallsCommute
 pub mod Document03Script
 pub mod Document03Run

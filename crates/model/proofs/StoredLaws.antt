@@ -56,19 +56,20 @@ readFrom-fuel (suc n) (suc m) x i b h k =
         let l : 0 < length b = omega (arith, eqb-false (length b) 0 e) in
         readFrom-refused n x i b l f ∙ sym (readFrom-refused m x i b l f)
 
--- A REFUSAL of a record has a number other than 0
-pub readFrom-numbered : (n : ℕ) (x : Table) (i : ℕ) (b : List ℕ) (f : Fault) → readFrom n x i b ≡ bad f → isFine f ≡ false
+-- A REFUSED READING is refused by one of its records
+pub readFrom-refuses : (P : Fault → Type 0) →
+    ((x : Table) (i : ℕ) (b : List ℕ) → isFine (recordFault x i b) ≡ false → P (recordFault x i b)) →
+    (n : ℕ) (x : Table) (i : ℕ) (b : List ℕ) (f : Fault) → readFrom n x i b ≡ bad f → P f
 unfolding readFrom
-readFrom-numbered zero x i b f e = let z : _≡_ {A = ℕ} 0 1 = cc in absurd (omega arith)
-readFrom-numbered (suc n) x i b f e =
-    go (eqb (length b) 0) (isFine (recordFault x i b)) refl (readFrom-numbered n (recorded x b) (i + 4) (drop 4 b) f) e
+readFrom-refuses P h zero x i b f e = let z : _≡_ {A = ℕ} 0 1 = cc in absurd (omega arith)
+readFrom-refuses P h (suc n) x i b f e =
+    go (eqb (length b) 0) (isFine (recordFault x i b)) refl (readFrom-refuses P h n (recorded x b) (i + 4) (drop 4 b) f) e
   where
-    go : (t u : Bool) → isFine (recordFault x i b) ≡ u →
-        (readFrom n (recorded x b) (i + 4) (drop 4 b) ≡ bad f → isFine f ≡ false) →
-        pick t (got x) (pick u (readFrom n (recorded x b) (i + 4) (drop 4 b)) (bad (recordFault x i b))) ≡ bad f → isFine f ≡ false
+    go : (t u : Bool) → isFine (recordFault x i b) ≡ u → (readFrom n (recorded x b) (i + 4) (drop 4 b) ≡ bad f → P f) →
+        pick t (got x) (pick u (readFrom n (recorded x b) (i + 4) (drop 4 b)) (bad (recordFault x i b))) ≡ bad f → P f
     go true u k r q = let y : got x ≡ bad f = q in let z : _≡_ {A = ℕ} 0 1 = cc in absurd (omega arith)
     go false true k r q = r q
-    go false false k r q = let y : recordFault x i b ≡ f = cc in ap isFine (sym y) ∙ k
+    go false false k r q = let y : recordFault x i b ≡ f = cc in subst P y (h x i b k)
 
 -- A FINE RECORD is a row with room and a fitting parent, before any mark, or a mark on a root, with rising document
 pub record IsRowRecord (x : Table) (b : List ℕ) : Type 0 where

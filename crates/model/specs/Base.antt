@@ -41,6 +41,10 @@ unfoldable pub areBytes : List ℕ → Bool
 areBytes [] = true
 areBytes (b ∷ bs) = leb b 255 && areBytes bs
 
+-- an area with these items at its front
+abbrev pub atFront : (items area : List ℕ) → List ℕ
+atFront v o = v ++ drop (length v) o
+
 -- an area with these bytes from a place on
 abbrev pub over : (place : ℕ) → (bytes area : List ℕ) → List ℕ
 over i b o = take i o ++ b ++ drop (i + length b) o

@@ -14,6 +14,8 @@ use Rattle.model.specs.History.{times, Record, madeElementKind, madeLeaf
 use Rattle.model.specs.Run.{Out, stop, gives, runOn}
 use Rattle.model.specs.Meeting.{Answer, free, answer}
 use Rattle.model.specs.Promise.{matchedAll, matchedHistory, PlansEqual}
+use Rattle.model.specs.Stored.{bad, readPlan}
+use Rattle.model.specs.Undo.{refused, undo}
 
 -- ANALYSIS of two scripts' bytes: the first refused one, 1 or 2, with its refusal, or the answer
 pub data Analysis : Type 0 where
@@ -56,7 +58,7 @@ filled n xs = xs ++ replicate (n - length xs) 0
 abbrev pub countKind : (low high : ℕ) → List Record → ℕ
 countKind a b = times (λ (r : Record). isIn a b (r .kind))
 
--- A refused run restores the table and zeroes answer and history; all of the work area is zero
+-- refused: the table as it was, and the areas as given here
 abbrev pub refusedRun : Fault → Table → (answer history work : List ℕ) → Ran
 refusedRun f x a h w =
     record {
@@ -72,6 +74,7 @@ refusedRun f x a h w =
       work = w;
     }
 
+-- A refused run restores the table and zeroes answer and history; all of the work area is zero
 abbrev pub ranBy : Table → (answer history work : ℕ) → Out → Ran
 ranBy x a h w (stop f) = refusedRun f x (replicate a 0) (replicate h 0) (replicate w 0)
 ranBy x a h w (gives v s) =
@@ -97,7 +100,15 @@ runCall x b a h w =
     pick (areasFit a h w) (ranBy x (length a) (length h) (length w) (pick (isWell x) (runBy x (readScript b)) (stop (linkAt 0))))
     (refusedRun lentShort x a h w)
 
--- DEMAND 1 on the call: a refused run leaves the table as it was
+-- DEMAND 1: a refusal has a number of the table, each reader and the run its own
+abbrev pub RefusedByTable : Type 0
+RefusedByTable =
+    ((b : List ℕ) (f : Fault) → readPlan b ≡ bad f → isIn 1 6 (f .number) ≡ true) ×
+    ((b : List ℕ) (f : Fault) → readScript b ≡ ill f → isIn 1 5 (f .number) ≡ true) ×
+    ((x : Table) (b : List ℕ) (f : Fault) → undo x b ≡ refused f → isIn 1 6 (f .number) ≡ true) ×
+    ((x : Table) (e : Expr) (f : Fault) → runOn x e ≡ stop f → isIn 7 10 (f .number) ≡ true)
+
+-- and on the call: a refused run leaves the table as it was
 abbrev pub RefusedKeeps : Type 0
 RefusedKeeps =
     (x : Table) (b a h w : List ℕ) → isFine (runCall x b a h w .fault) ≡ false → runCall x b a h w .plan ≡ x

@@ -15,25 +15,28 @@ which-same : {v w : Values} → v ≡ w → v .which ≡ w .which
 which-same e = ap (λ (v : Values). v .which) e
 
 -- the number of an answer tells it
-answer-told : (a b : Answer) → valuesOf (byAnswer a) ≡ valuesOf (byAnswer b) → a ≡ b
+answer-told : (a b : Answer) → valuesOf (byAnswer a) .which ≡ valuesOf (byAnswer b) .which → a ≡ b
 answer-told free free e = refl
-answer-told free upward e = absurd (omega (arith, which-same e))
-answer-told free meet e = absurd (omega (arith, which-same e))
-answer-told upward free e = absurd (omega (arith, which-same e))
+answer-told free upward e = absurd (omega arith)
+answer-told free meet e = absurd (omega arith)
+answer-told upward free e = absurd (omega arith)
 answer-told upward upward e = refl
-answer-told upward meet e = absurd (omega (arith, which-same e))
-answer-told meet free e = absurd (omega (arith, which-same e))
-answer-told meet upward e = absurd (omega (arith, which-same e))
+answer-told upward meet e = absurd (omega arith)
+answer-told meet free e = absurd (omega arith)
+answer-told meet upward e = absurd (omega arith)
 answer-told meet meet e = refl
 
 -- 0 as `which` is free: a refusal names script 1 or 2
-free-by : (p q : Parsed) → valuesOf (analysisOf (firstBy p q)) ≡ values 0 0 0 → firstBy p q ≡ answered free
-free-by (ill x) q e = absurd (omega (arith, which-same e))
-free-by (parsed e i n b) (ill x) z = absurd (omega (arith, which-same z))
+free-by : (p q : Parsed) → valuesOf (analysisOf (firstBy p q)) .which ≡ 0 → firstBy p q ≡ answered free
+free-by (ill x) q e = absurd (omega arith)
+free-by (parsed e i n b) (ill x) z = absurd (omega arith)
 free-by (parsed e i n b) (parsed f j m c) z = ap answered (answer-told (answer e f) free z)
 
+pub free-which : (b c : List ℕ) → valuesOf (analysed b c) .which ≡ 0 → analyse b c ≡ answered free
+free-which b c = free-by (readScript b) (readScript c)
+
 pub free-told : (b c : List ℕ) → valuesOf (analysed b c) ≡ values 0 0 0 → analyse b c ≡ answered free
-free-told b c = free-by (readScript b) (readScript c)
+free-told b c e = free-which b c (which-same e)
 
 -- of two accepted scripts the call says the model's answer
 module _ (b c : List ℕ) (e f : Expr) (E : ReadAs b e) (F : ReadAs c f) where
@@ -42,7 +45,7 @@ module _ (b c : List ℕ) (e f : Expr) (E : ReadAs b e) (F : ReadAs c f) where
       ap (λ (p : Parsed). analysisOf (secondBy e p)) (F .1 .1 .1)
 
   answer-is : (a : Answer) → valuesOf (analysed b c) ≡ valuesOf (byAnswer a) → answer e f ≡ a
-  answer-is a h = answer-told (answer e f) a (ap valuesOf (sym said) ∙ h)
+  answer-is a h = answer-told (answer e f) a (which-same (ap valuesOf (sym said) ∙ h))
 
 pub analysedMeans : AnalysedMeans
 analysedMeans b c e f bytes bytes′ E F =

@@ -6,20 +6,20 @@ use Prim.Native.Nat.{ℕ, _+_, _≤_}
 use native.Mathlib.Omega.{arith}
 use lib.ListN.{length, take, drop}
 use lib.Seq.{take-at}
-use borrow.Author.Tests.{eqb-false}
 use Rattle.model.specs.Base.{areBytes}
 use Rattle.model.specs.Refusal.{fine}
 use Rattle.model.specs.Stored.{Read, bad, got, stored, readPlan}
 use Rattle.model.specs.Table as model
 use Rattle.model.proofs.StoredBack.{storedBack}
-use Rattle.model.proofs.StoredLaws.{readFrom-numbered}
+use Rattle.model.proofs.TestLaws.{isIn-some}
+use Rattle.model.proofs.RefusedByTable.{refusedByTable}
 use Rattle.table.specs.Results.{faultOf}
 use Rattle.table.specs.Words.{encode, decode, fits}
 use Rattle.table.specs.declared.Table.{Table}
 use Rattle.table.specs.declared.Written.{Written}
 use Rattle.table.proofs.FittedLaws.{well-decode, fits-at}
 use Rattle.table.proofs.WordLaws.{encode-decode}
-use Rattle.plan.specs.Calls.{readBy, planRead, planWritten, planOut}
+use Rattle.plan.specs.Calls.{readBy, planRead, planWritten, writtenOut}
 use Rattle.plan.specs.Promise.{TableBack, BytesBack}
 use Rattle.plan.proofs.WritePlanLaws.{write-fine, write-out, stored-fits, stored-written, stored-out}
 
@@ -34,7 +34,7 @@ tableBack t o l e room =
     let s = stored (decode t) in
     let w : planWritten t o ≡ record { fault = faultOf fine; bytes = length s } = sym (write-fine t o e (length s) room refl) in (
       w,
-      ap (λ (r : Written). planRead (take (r .bytes) (planOut t o))) w ∙
+      ap (λ (r : Written). planRead (take (r .bytes) (writtenOut t o))) w ∙
           ap (λ (b : List ℕ). planRead (take (length s) b)) (write-out t o e room) ∙
           ap planRead (take-at s (drop (length s) o) (length s) refl) ∙
           ap readBy (storedBack .0 (decode t) (well-decode t e)) ∙
@@ -48,7 +48,7 @@ module _ (b : List ℕ) (x : model.Table) (bytes : areBytes b ≡ true) (read : 
 
   module _ (o : List ℕ) (room : length b ≤ length o) where
     pub read-back : (planWritten (encode x) o ≡ record { fault = faultOf fine; bytes = length b }) ×
-        (planOut (encode x) o ≡ b ++ drop (length b) o)
+        (writtenOut (encode x) o ≡ b ++ drop (length b) o)
     read-back =
         let s = storedBack .1 b x bytes read in
         let l : length (stored x) ≤ length o = omega (arith, ap length (s .1)) in (
@@ -63,7 +63,7 @@ read-got b e = go (readPlan b) refl
     go : (q : Read) → readPlan b ≡ q → (x : model.Table) × (readPlan b ≡ got x)
     go (bad f) k =
         let z : f .number ≡ 0 = sym (ap (λ (q : Read). readBy q .fault .number) k) ∙ e in
-        absurd (eqb-false (f .number) 0 (readFrom-numbered (length b + 1) model.empty 0 b f k) z)
+        absurd (isIn-some 0 6 (f .number) (refusedByTable .0 b f k) z)
     go (got x) k = (x, k)
 
 pub bytesBack : BytesBack
@@ -71,5 +71,5 @@ bytesBack b o bytes e room =
     let g = read-got b e in
     let r = read-back b (g .0) bytes (g .1) o room in (
       ap (λ (q : Read). planWritten (readBy q .table) o) (g .1) ∙ r .0,
-      ap (λ (q : Read). planOut (readBy q .table) o) (g .1) ∙ r .1,
+      ap (λ (q : Read). writtenOut (readBy q .table) o) (g .1) ∙ r .1,
     )

@@ -16,7 +16,7 @@ use Rattle.model.proofs.TableLaws.{isWell-at}
 use Rattle.table.specs.declared.Table.{Table}
 use Rattle.table.specs.Words.{linked, rowsOf, decodeParts, decode, fits, encode}
 use Rattle.model.specs.Base.{over}
-use Rattle.plan.specs.Calls.{planWritten, planOut}
+use Rattle.plan.specs.Calls.{planWritten, writtenOut}
 use Rattle.table.proofs.WordLaws.{count-decode}
 use Rattle.plan.proofs.WriteRecordLaws.{length-rowsBytes, length-mark}
 use Rattle.model.proofs.ListLaws.{over-over}
@@ -25,12 +25,12 @@ use Rattle.table.proofs.EncodeLaws.{decode-encode, fits-encode}
 -- WRITING
 module _ (t : Table) (o : List ℕ) where
   pub write-ill : fits t ≡ false →
-      (record { fault = record { number = 6; place = 0 }; bytes = 0 } ≡ planWritten t o) × (o ≡ planOut t o)
+      (record { fault = record { number = 6; place = 0 }; bytes = 0 } ≡ planWritten t o) × (o ≡ writtenOut t o)
   write-ill e = (rw e, rw e)
 
   module _ (e : fits t ≡ true) where
     pub write-short : length o < length (stored (decode t)) →
-        (record { fault = record { number = 11; place = 0 }; bytes = 0 } ≡ planWritten t o) × (o ≡ planOut t o)
+        (record { fault = record { number = 11; place = 0 }; bytes = 0 } ≡ planWritten t o) × (o ≡ writtenOut t o)
     write-short h =
         let k : leb (length (stored (decode t))) (length o) ≡ false = lt-leb (length (stored (decode t))) (length o) h in
         (rw (e, k), rw (e, k))
@@ -41,7 +41,7 @@ module _ (t : Table) (o : List ℕ) where
         let k : leb (length (stored (decode t))) (length o) ≡ true = le-leb (length (stored (decode t))) (length o) h in
         rw (e, k, l)
 
-    pub write-out : length (stored (decode t)) ≤ length o → planOut t o ≡ stored (decode t) ++ drop (length (stored (decode t))) o
+    pub write-out : length (stored (decode t)) ≤ length o → writtenOut t o ≡ stored (decode t) ++ drop (length (stored (decode t))) o
     write-out h =
         let k : leb (length (stored (decode t))) (length o) ≡ true = le-leb (length (stored (decode t))) (length o) h in
         rw (e, k)
@@ -95,7 +95,7 @@ module _ (x : model.Table) (h : model.isWell x ≡ true) (o : List ℕ) (room : 
       sym (write-fine (encode x) o (fits-encode x h) (length (stored x)) fits-room (ap (λ (y : model.Table). length (stored y)) (sym
       (decode-encode x h))))
 
-  pub stored-out : planOut (encode x) o ≡ stored x ++ drop (length (stored x)) o
+  pub stored-out : writtenOut (encode x) o ≡ stored x ++ drop (length (stored x)) o
   stored-out =
       write-out (encode x) o (fits-encode x h) fits-room ∙
       ap (λ (y : model.Table). stored y ++ drop (length (stored y)) o) (decode-encode x h)
@@ -108,5 +108,5 @@ module _ (x : model.Table) (h : model.isWell x ≡ true) (o : List ℕ) (room : 
   pub well-written : planWritten (encode x) o ≡ record { fault = record { number = 0; place = 0 }; bytes = length (stored x) }
   well-written = stored-written x h o stored-room
 
-  pub well-out : planOut (encode x) o ≡ stored x ++ drop (length (stored x)) o
+  pub well-out : writtenOut (encode x) o ≡ stored x ++ drop (length (stored x)) o
   well-out = stored-out x h o stored-room

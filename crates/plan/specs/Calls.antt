@@ -1,14 +1,13 @@
 -- What reading and writing a plan answer, for every input. Assumes nothing: these are definitions.
-use mathlib.Core.List.{List, _++_}
+use mathlib.Core.List.{List}
 use Prim.Native.Nat.{ℕ}
 use lib.Dec.{leb}
-use lib.ListN.{length, drop}
-use Rattle.model.specs.Base.{pick}
+use lib.ListN.{length}
+use Rattle.model.specs.Base.{pick, atFront}
 use Rattle.model.specs.Refusal as refusal
 use Rattle.model.specs.Table as model
 use Rattle.model.specs.Stored.{Read, bad, got, readPlan, stored}
 use Rattle.table.specs.Words.{decode, fits}
-use Rattle.table.specs.declared.Fault.{Fault}
 use Rattle.table.specs.declared.Table.{Table}
 use Rattle.table.specs.declared.Written.{Written}
 use Rattle.table.specs.declared.TableResult.{TableResult}
@@ -34,5 +33,5 @@ planWritten t o =
       bytes = pick (refusal.isFine (writeFault t (length o))) (length (stored (decode t))) 0;
     }
 
-abbrev pub planOut : Table → (out : List ℕ) → List ℕ
-planOut t o = pick (refusal.isFine (writeFault t (length o))) (stored (decode t) ++ drop (length (stored (decode t))) o) o
+abbrev pub writtenOut : Table → (out : List ℕ) → List ℕ
+writtenOut t o = pick (refusal.isFine (writeFault t (length o))) (atFront (stored (decode t)) o) o

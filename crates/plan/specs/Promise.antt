@@ -2,17 +2,17 @@
 -- nothing.
 use mathlib.Core.Path.{_≡_}
 use mathlib.Core.Bool.{true}
-use mathlib.Core.List.{List, _++_}
+use mathlib.Core.List.{List}
 use Prim.Native.Nat.{ℕ, _≤_}
-use lib.ListN.{length, take, drop}
-use Rattle.model.specs.Base.{areBytes}
+use lib.ListN.{length, take}
+use Rattle.model.specs.Base.{areBytes, atFront}
 use Rattle.model.specs.Limits.{maxRows}
 use Rattle.model.specs.Refusal.{fine}
 use Rattle.model.specs.Stored.{stored}
 use Rattle.table.specs.Results.{faultOf}
 use Rattle.table.specs.Words.{decode, fits}
 use Rattle.table.specs.declared.Table.{Table}
-use Rattle.plan.specs.Calls.{planRead, planWritten, planOut}
+use Rattle.plan.specs.Calls.{planRead, planWritten, writtenOut}
 
 -- DEMAND 2, table to bytes to table: a table that fits, in its 512 words, is written where there is room, and what is written is read as
 -- that table, word for word
@@ -20,11 +20,11 @@ abbrev pub TableBack : Type 0
 TableBack =
     (t : Table) (o : List ℕ) → length (t .rows) ≡ maxRows → fits t ≡ true → length (stored (decode t)) ≤ length o →
     (planWritten t o ≡ record { fault = faultOf fine; bytes = length (stored (decode t)) }) ×
-    (planRead (take (planWritten t o .bytes) (planOut t o)) ≡ record { fault = faultOf fine; table = t })
+    (planRead (take (planWritten t o .bytes) (writtenOut t o)) ≡ record { fault = faultOf fine; table = t })
 
 -- and bytes to table to bytes: the table read from bytes is written as those bytes, the rest of out as it was
 abbrev pub BytesBack : Type 0
 BytesBack =
     (b o : List ℕ) → areBytes b ≡ true → planRead b .fault .number ≡ 0 → length b ≤ length o →
     (planWritten (planRead b .table) o ≡ record { fault = faultOf fine; bytes = length b }) ×
-    (planOut (planRead b .table) o ≡ b ++ drop (length b) o)
+    (writtenOut (planRead b .table) o ≡ atFront b o)

@@ -1,6 +1,6 @@
 // The stored form of a plan: read into a table, and written from one.
 ghost use mathlib.Core.Path.{_≡_};
-ghost use Rattle.plan.specs.Calls.{planRead, planWritten, planOut};
+ghost use Rattle.plan.specs.Calls.{planRead, planWritten, writtenOut};
 use table::Fault;
 use table::Table;
 use table::TableResult;
@@ -43,7 +43,7 @@ pub fn read_plan(bytes: &[u8]) -> TableResult
 // Writes a table in its stored form. 6 before 11; bytes past the stored length stay; refused, nothing is written.
 pub fn write_plan(table: Table, out: &mut [u8]) -> Written
     ensures { λ r. ⌜ r ≡ planWritten table (now (out .entry)) ⌝ }
-    ensures { λ r. ⌜ now (out .exit) ≡ planOut table (now (out .entry)) ⌝ }
+    ensures { λ r. ⌜ now (out .exit) ≡ writtenOut table (now (out .entry)) ⌝ }
 {
     let count = table.count;
     if !fit::fits(count, &table.rows, &table.marks) {

@@ -6,7 +6,7 @@ ghost use lib.ListN.{length};
 ghost use Rattle.model.specs.Stored.{wordBytes, rowBytes, rowsBytes, markBytes, marksBytes};
 ghost use mathlib.Core.Bool.{true};
 ghost use Rattle.model.specs.Limits.{maxRows, documents};
-ghost use Rattle.plan.specs.Calls.{planWritten, planOut};
+ghost use Rattle.plan.specs.Calls.{planWritten, writtenOut};
 ghost use Rattle.table.specs.Words.{linked, rowOf, rowsOf, fits};
 ghost use Rattle.plan.specs.Writing.{RowsPre, MarksPre};
 ghost use Rattle.model.specs.Base.{over};
@@ -109,7 +109,7 @@ pub fn stored_length(count: usize, marks: &[u16]) -> usize
 pub fn fitting(table: Table, out: &mut [u8]) -> Written
     requires { ⌜ fits table ≡ true ⌝ }
     ensures { λ r. ⌜ r ≡ planWritten table (now (out .entry)) ⌝ }
-    ensures { λ r. ⌜ now (out .exit) ≡ planOut table (now (out .entry)) ⌝ }
+    ensures { λ r. ⌜ now (out .exit) ≡ writtenOut table (now (out .entry)) ⌝ }
 {
     let count = table.count;
     let length = stored_length(count, &table.marks);

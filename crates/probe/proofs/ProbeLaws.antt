@@ -13,7 +13,7 @@ use Rattle.table.specs.declared.Fault.{Fault}
 use Rattle.table.specs.declared.Table.{Table}
 use Rattle.table.specs.declared.TableResult.{TableResult}
 use Rattle.table.specs.declared.Written.{Written}
-use Rattle.probe.specs.Probes.{writeCode, writeOut, sweptTable, sweptCode, sweptRows, sweptMarks, scriptCode}
+use Rattle.probe.specs.Probes.{writeCode, writeOut, sweptTable, sweptCode, rowsLeft, marksLeft, scriptCode}
 use Rattle.probe.specs.Raw.{isGiven, given}
 use Rattle.lent.specs.Codes.{codeOf, lentCode, writtenCode}
 
@@ -43,12 +43,12 @@ module _ (n : ℕ) (ws ms : List ℕ) where
     write-not c e z = (e ∙ rw z, rw z)
 
     module _ (t : Table) (same : t ≡ given n ws ms) (w : Written) (o′ : List ℕ) (h : isGiven ws ms ≡ true)
-        (written : w ≡ library.planWritten t o) (left : o′ ≡ library.planOut t o) where
+        (written : w ≡ library.planWritten t o) (left : o′ ≡ library.writtenOut t o) where
       as-given : w ≡ library.planWritten (given n ws ms) o
       as-given = written ∙ ap (λ (u : Table). library.planWritten u o) same
 
       out-given : o′ ≡ writeOut n ws ms o
-      out-given = left ∙ ap (λ (u : Table). library.planOut u o) same ∙ rw h
+      out-given = left ∙ ap (λ (u : Table). library.writtenOut u o) same ∙ rw h
 
       pub write-link : (c : ℕ) → c ≡ codeOf (w .fault .number) 1 0 → w .fault .number ≡ 6 → (c ≡ writeCode n ws ms o) × (o′ ≡ writeOut n
           ws ms o)
@@ -64,7 +64,7 @@ module _ (n : ℕ) (ws ms : List ℕ) where
 
   -- sweeping in place
   abbrev Left : (code : ℕ) → (rows marks : List ℕ) → Type 0
-  Left c vs us = (c ≡ sweptCode n ws ms) × ((vs ≡ sweptRows n ws ms) × (us ≡ sweptMarks n ws ms))
+  Left c vs us = (c ≡ sweptCode n ws ms) × ((vs ≡ rowsLeft n ws ms) × (us ≡ marksLeft n ws ms))
 
   pub sweep-not : (c : ℕ) → c ≡ lentCode → isGiven ws ms ≡ false → Left c ws ms
   sweep-not c e z = (e ∙ rw z, (rw z, rw z))

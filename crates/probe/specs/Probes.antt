@@ -20,7 +20,7 @@ writeCode n ws ms o =
     lentCode
 
 abbrev pub writeOut : (count : ℕ) → (rows marks out : List ℕ) → List ℕ
-writeOut n ws ms o = pick (isGiven ws ms) (library.planOut (given n ws ms) o) o
+writeOut n ws ms o = pick (isGiven ws ms) (library.writtenOut (given n ws ms) o) o
 
 -- swept in place
 abbrev pub sweptTable : (count : ℕ) → (rows marks : List ℕ) → TableResult
@@ -33,11 +33,11 @@ sweptCode n ws ms =
     .number) 1 0))
     lentCode
 
-abbrev pub sweptRows : (count : ℕ) → (rows marks : List ℕ) → List ℕ
-sweptRows n ws ms = pick (isGiven ws ms && eqb (sweptTable n ws ms .fault .number) 0) (sweptTable n ws ms .table .rows) ws
+abbrev pub rowsLeft : (count : ℕ) → (rows marks : List ℕ) → List ℕ
+rowsLeft n ws ms = pick (isGiven ws ms && eqb (sweptTable n ws ms .fault .number) 0) (sweptTable n ws ms .table .rows) ws
 
-abbrev pub sweptMarks : (count : ℕ) → (rows marks : List ℕ) → List ℕ
-sweptMarks n ws ms = pick (isGiven ws ms && eqb (sweptTable n ws ms .fault .number) 0) (sweptTable n ws ms .table .marks) ms
+abbrev pub marksLeft : (count : ℕ) → (rows marks : List ℕ) → List ℕ
+marksLeft n ws ms = pick (isGiven ws ms && eqb (sweptTable n ws ms .fault .number) 0) (sweptTable n ws ms .table .marks) ms
 
 -- A SCRIPT read
 abbrev pub scriptCode : (script : List ℕ) → ℕ

@@ -1,7 +1,7 @@
 // C calls that tests need and a site does not: a script read alone, and writing and sweeping on any table, well formed or not.
 // Answers are numbers as in the C interface (crates/ffi).
 ghost use mathlib.Core.Path.{_≡_};
-ghost use Rattle.probe.specs.Probes.{writeCode, writeOut, sweptCode, sweptRows, sweptMarks, scriptCode};
+ghost use Rattle.probe.specs.Probes.{writeCode, writeOut, sweptCode, rowsLeft, marksLeft, scriptCode};
 use lent::answer;
 use lent::answer::AREA;
 use lent::answer::PLAN;
@@ -41,8 +41,8 @@ pub extern "C" fn yegnabit_write_table(
 #[no_mangle]
 pub extern "C" fn yegnabit_sweep_table(count: usize, rows: &mut [u32], marks: &mut [u16]) -> u64
     ensures { λ r. ⌜ r ≡ sweptCode count (now (rows .entry)) (now (marks .entry)) ⌝ }
-    ensures { λ r. ⌜ now (rows .exit) ≡ sweptRows count (now (rows .entry)) (now (marks .entry)) ⌝ }
-    ensures { λ r. ⌜ now (marks .exit) ≡ sweptMarks count (now (rows .entry)) (now (marks .entry)) ⌝ }
+    ensures { λ r. ⌜ now (rows .exit) ≡ rowsLeft count (now (rows .entry)) (now (marks .entry)) ⌝ }
+    ensures { λ r. ⌜ now (marks .exit) ≡ marksLeft count (now (rows .entry)) (now (marks .entry)) ⌝ }
 {
     if rows.len() != Table::ROWS {
         return answer::code(Fault::LENT, AREA, 0);

@@ -3,8 +3,8 @@ use mathlib.Core.Path.{_≡_}
 use mathlib.Core.List.{List, _++_}
 use Prim.Native.Nat.{ℕ, _≤_}
 use lib.Dec.{ltb, eqb}
-use lib.ListN.{length, take, drop}
-use Rattle.model.specs.Base.{pick}
+use lib.ListN.{length, take}
+use Rattle.model.specs.Base.{pick, atFront}
 use Rattle.plan.specs.Calls.{planRead}
 use Rattle.table.specs.declared.Table.{Table}
 use Rattle.table.specs.declared.TableResult.{TableResult}
@@ -15,6 +15,8 @@ use Rattle.paths.specs.declared.Analysis.the-variants.{Refused, Free, Upward, M
 use Rattle.format.specs.Text.{ascii, Placed}
 use Rattle.sequence.specs.Orders.{order, swap}
 use Rattle.report.specs.Lines.{fileLine, answerLine, orderLine}
+use Rattle.model.specs.Refusal.{fine, lentShort}
+use Rattle.table.specs.Results.{faultOf}
 
 -- the bytes that the lines take at most
 abbrev pub room : ℕ
@@ -44,11 +46,11 @@ pairText p b c = planText (planRead p) b c
 abbrev pub pairWritten : (plan first second out : List ℕ) → Written
 pairWritten p b c o =
     pick (ltb (length o) room)
-    (record { fault = record { number = 11; place = 0 }; bytes = 0 })
-    (record { fault = record { number = 0; place = 0 }; bytes = length (pairText p b c) })
+    (record { fault = faultOf lentShort; bytes = 0 })
+    (record { fault = faultOf fine; bytes = length (pairText p b c) })
 
 abbrev pub pairOut : (plan first second out : List ℕ) → List ℕ
-pairOut p b c o = pick (ltb (length o) room) o (pairText p b c ++ drop (length (pairText p b c)) o)
+pairOut p b c o = pick (ltb (length o) room) o (atFront (pairText p b c) o)
 
 -- so many bytes stand at the front of the area: both parts, so that a caller may lend the front with no proof of its own
 abbrev pub Counted : (bytes : ℕ) → (area : List ℕ) → Type 0

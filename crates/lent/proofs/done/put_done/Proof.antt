@@ -4,6 +4,8 @@ use native.Mathlib.Omega.{arith}
 use borrow.Author.Needs.{needs}
 use Rattle.lent.proofs.done.put_done.Statement.{statement}
 use Rattle.lent.proofs.done.put_done.Tie as tie
+use lib.Seq.{sets-eq}
+use mathlib.Core.List.{[], _∷_}
 
 slice-write-done : tie.Need-slice-write-done
 slice-write-done c = search needs
@@ -27,7 +29,7 @@ same-length : tie.Need-same-length
 same-length c = search needs
 
 returns : tie.Need-returns
-returns c = search needs
+returns c = sets-eq (c .args .items ∷ c .args .made ∷ c .args .cut ∷ c .args .records ∷ c .args .bytes ∷ c .args .written ∷ []) (c .args .done .now) 0 (c .pre)
 
 pub put-done-spec : {M : Type 1} → statement M
 put-done-spec =
