@@ -9,6 +9,11 @@
 
 /* An array and its length. */
 #define ALL(array) (array), sizeof(array) / sizeof((array)[0])
+/* A call's answer, by its parts. */
+#define CODE(number, which, place) ((number) + 256u * (which) + UINT64_C(65536) * (place))
+/* What is not refused, but for an analysis. */
+#define ACCEPTED(place) CODE(0, 0, place)
+#define TOO_SHORT CODE(YEGNABIT_LENT, YEGNABIT_WHICH_AREA, 0)
 
 enum { GUARD = 0xA5, ROW_BYTES = 4, ROWS = 512 };
 
@@ -61,8 +66,6 @@ static void check(int holds, const char *what) {
     }
 }
 
-static uint64_t code(unsigned number, unsigned which, uint64_t place) { return number + 256u * which + 65536u * place; }
-
 /* All bytes of an area from a place on are the same. */
 static int is_all(uint8_t byte, const void *area, size_t from, size_t size) {
     const uint8_t *bytes = area;
@@ -83,34 +86,35 @@ static void check_kept(const uint8_t *out) { check(is_all(GUARD, out, 0, YEGNABI
 static void plans(void) {
     uint8_t out[YEGNABIT_OUT];
     memset(out, GUARD, sizeof out);
-    check(yegnabit_plan(ALL(plan_p), out, sizeof out - 1) == code(YEGNABIT_LENT, 0, 0), "an area too short");
-    check(yegnabit_plan(plan_p, 19, ALL(out)) == code(YEGNABIT_SHORT, 1, 16), "plan P cut off in its mark");
+    check(yegnabit_plan(ALL(plan_p), out, sizeof out - 1) == TOO_SHORT, "an area too short");
+    check(yegnabit_plan(plan_p, 19, ALL(out)) == CODE(YEGNABIT_SHORT, YEGNABIT_WHICH_PLAN, 16), "plan P cut off in its mark");
     check_kept(out);
     check(yegnabit_plan(nothing, 0, ALL(out)) == 0, "the empty plan");
-    check(yegnabit_plan(ALL(plan_p), ALL(out)) == code(0, 0, sizeof plan_p), "plan P");
+    check(yegnabit_plan(ALL(plan_p), ALL(out)) == ACCEPTED(sizeof plan_p), "plan P");
     check_out(out, ALL(plan_p), "plan P written back");
     memset(out, GUARD, sizeof out);
-    check(yegnabit_sweep(ALL(after_b), ALL(out)) == code(0, 0, sizeof swept_b), "P after B, swept");
+    check(yegnabit_sweep(ALL(after_b), ALL(out)) == ACCEPTED(sizeof swept_b), "P after B, swept");
     check_out(out, ALL(swept_b), "P after B, swept");
 }
 
 static void undone(void) {
     uint8_t out[YEGNABIT_OUT];
     memset(out, GUARD, sizeof out);
-    check(yegnabit_undo(ALL(plan_p), ALL(history_b), ALL(out)) == code(YEGNABIT_LINK, 2, 6), "B taken back from P itself");
+    check(yegnabit_undo(ALL(plan_p), ALL(history_b), ALL(out)) == CODE(YEGNABIT_LINK, YEGNABIT_WHICH_HISTORY, 6),
+          "B taken back from P itself");
     check_kept(out);
-    check(yegnabit_undo(ALL(after_b), ALL(history_b), ALL(out)) == code(0, 0, sizeof plan_p), "B taken back");
+    check(yegnabit_undo(ALL(after_b), ALL(history_b), ALL(out)) == ACCEPTED(sizeof plan_p), "B taken back");
     check_out(out, ALL(plan_p), "P after B was taken back");
 }
 
 static void analysed(void) {
-    check(yegnabit_analyse(ALL(script_a), ALL(script_b)) == code(0, YEGNABIT_FREE, 0), "A against B");
-    check(yegnabit_analyse(ALL(delete_twos), ALL(script_a)) == code(0, YEGNABIT_MEET, 0), "delete of children named 2, against A");
-    check(yegnabit_analyse(ALL(delete_twos), ALL(leaves_below)) == code(0, YEGNABIT_MEET, 0), "that delete against descendant leaves");
-    check(yegnabit_analyse(ALL(script_b), ALL(script_b)) == code(0, YEGNABIT_FREE, 0), "B against B");
-    check(yegnabit_analyse(ALL(script_a), ALL(upward)) == code(0, YEGNABIT_UPWARD, 0), "a parent step");
-    check(yegnabit_analyse(nothing, 0, ALL(script_a)) == code(YEGNABIT_SHORT, 1, 0), "an empty first script");
-    check(yegnabit_analyse(ALL(script_a), nothing, 0) == code(YEGNABIT_SHORT, 2, 0), "an empty second script");
+    check(yegnabit_analyse(ALL(script_a), ALL(script_b)) == CODE(0, YEGNABIT_FREE, 0), "A against B");
+    check(yegnabit_analyse(ALL(delete_twos), ALL(script_a)) == CODE(0, YEGNABIT_MEET, 0), "delete of children named 2, against A");
+    check(yegnabit_analyse(ALL(delete_twos), ALL(leaves_below)) == CODE(0, YEGNABIT_MEET, 0), "that delete against descendant leaves");
+    check(yegnabit_analyse(ALL(script_b), ALL(script_b)) == CODE(0, YEGNABIT_FREE, 0), "B against B");
+    check(yegnabit_analyse(ALL(script_a), ALL(upward)) == CODE(0, YEGNABIT_UPWARD, 0), "a parent step");
+    check(yegnabit_analyse(nothing, 0, ALL(script_a)) == CODE(YEGNABIT_SHORT, YEGNABIT_WHICH_FIRST, 0), "an empty first script");
+    check(yegnabit_analyse(ALL(script_a), nothing, 0) == CODE(YEGNABIT_SHORT, YEGNABIT_WHICH_SECOND, 0), "an empty second script");
 }
 
 /* A join of so many empty values, at least one: twice as many records less one. */
@@ -132,17 +136,17 @@ static uint64_t script_read(const uint8_t *script, size_t length) { return yegna
 static void scripts(void) {
     uint8_t deep[17], wide[65];
     check(script_read(ALL(script_a)) == 0, "A read");
-    check(script_read(nothing, 0) == code(YEGNABIT_SHORT, 1, 0), "no bytes");
+    check(script_read(nothing, 0) == CODE(YEGNABIT_SHORT, YEGNABIT_WHICH_FIRST, 0), "no bytes");
 
     wide[0] = wide[1] = 0x0B;
     check(join(wide + 2, 32) == 63, "63 records joined");
     check(script_read(wide + 1, 64) == 0, "64 records");
-    check(script_read(wide, 65) == code(YEGNABIT_SIZE, 1, 64), "65 records");
+    check(script_read(wide, 65) == CODE(YEGNABIT_SIZE, YEGNABIT_WHICH_FIRST, 64), "65 records");
 
     memset(deep, 0x0B, sizeof deep);
     deep[16] = 0x01;
     check(script_read(deep + 1, 16) == 0, "depth 16");
-    check(script_read(deep, 17) == code(YEGNABIT_SIZE, 1, 16), "depth 17");
+    check(script_read(deep, 17) == CODE(YEGNABIT_SIZE, YEGNABIT_WHICH_FIRST, 16), "depth 17");
 }
 
 /* What a run is to leave. */
@@ -194,12 +198,12 @@ static void runs(void) {
         {"let x", ALL(let_x), 0, 1, history_cut, {0, 1, 1, 5}, ALL(after_cut)},
         {"delete of the root", ALL(delete_root), 0, 0, nothing, {0, 0, 0, 0}, ALL(plan_p)},
         {"row 1 twice into row 3", ALL(twice), 0, 0, history_twice, {4, 0, 4, 24}, ALL(after_twice)},
-        {"the empty script", nothing, 0, YEGNABIT_SHORT + 2 * 256, 0, nothing, {0, 0, 0, 0}, nothing, 0},
+        {"the empty script", nothing, 0, CODE(YEGNABIT_SHORT, YEGNABIT_WHICH_SCRIPT, 0), 0, nothing, {0, 0, 0, 0}, nothing, 0},
     };
     static uint8_t full[ROWS * ROW_BYTES + ROW_BYTES];
     static const struct run on_full[] = {
         {"512 rows, nothing inserted", ALL(insert_nothing), 0, 0, nothing, {0, 0, 0, 0}, ALL(full)},
-        {"512 rows, a new one", ALL(new_element), YEGNABIT_TABLE + 2 * 256, 0, nothing, {0, 0, 0, 0}, nothing, 0},
+        {"512 rows, a new one", ALL(new_element), CODE(YEGNABIT_TABLE, YEGNABIT_WHICH_SCRIPT, 0), 0, nothing, {0, 0, 0, 0}, nothing, 0},
     };
     uint8_t out[YEGNABIT_OUT];
     uint64_t done[YEGNABIT_DONE];
@@ -221,7 +225,7 @@ static void runs(void) {
     memset(done, GUARD, sizeof done);
     memset(answer, GUARD, sizeof answer);
     check(yegnabit_run(ALL(plan_p), ALL(script_a), answer, YEGNABIT_ANSWER_AREA - 1, ALL(history), ALL(work), ALL(out), ALL(done)) ==
-              code(YEGNABIT_LENT, 0, 0),
+              TOO_SHORT,
           "an answer area too short");
     check(is_all(GUARD, answer, 0, sizeof answer), "an answer area left alone");
     check(is_all(GUARD, done, 0, sizeof done), "numbers left alone");
@@ -230,7 +234,8 @@ static void runs(void) {
     /* a refused plan zeroes the run's areas and the numbers */
     memset(history, GUARD, sizeof history);
     memset(work, GUARD, sizeof work);
-    check(yegnabit_run(plan_p, 19, ALL(script_a), ALL(answer), ALL(history), ALL(work), ALL(out), ALL(done)) == code(YEGNABIT_SHORT, 1, 16),
+    check(yegnabit_run(plan_p, 19, ALL(script_a), ALL(answer), ALL(history), ALL(work), ALL(out), ALL(done)) ==
+              CODE(YEGNABIT_SHORT, YEGNABIT_WHICH_PLAN, 16),
           "plan P cut off in its mark");
     check(is_all(0, answer, 0, sizeof answer), "an answer area zeroed");
     check(is_all(0, history, 0, sizeof history), "a history area zeroed");

@@ -9,8 +9,8 @@ use crate::reference::refusal::{Number, Refusal};
 use crate::reference::{analysis, plan as stored, positions, script as scripts, sweep as sweeping};
 use crate::reference::{run as running, undo as undoing};
 
-/// Which input a refusal is about.
-pub const WHICH_NONE: u64 = 0;
+/// Whose refusal it is.
+pub const WHICH_AREA: u64 = 0;
 pub const WHICH_PLAN: u64 = 1;
 pub const WHICH_SCRIPT: u64 = 2;
 pub const WHICH_HISTORY: u64 = 2;
@@ -78,7 +78,7 @@ fn answer_for(which: u64, place: Result<usize, Refusal>) -> Answer {
 }
 
 fn lent() -> Answer {
-    Answer::refused(WHICH_NONE, Number::Lent.at(0))
+    Answer::refused(WHICH_AREA, Number::Lent.at(0))
 }
 
 /// Reads a stored plan and writes it back.
@@ -119,7 +119,7 @@ pub fn undo(plan: &[u8], history: &[u8], out: &mut [u8]) -> Answer {
     if let Err(refusal) = undoing::undo(&mut table, history) {
         return Answer::refused(WHICH_HISTORY, refusal);
     }
-    answer_for(WHICH_NONE, stored::encode(&table, out))
+    answer_for(WHICH_AREA, stored::encode(&table, out))
 }
 
 /// The areas lent to a run.
@@ -198,7 +198,7 @@ pub fn run(plan: &[u8], script: &[u8], areas: Lent<'_>) -> Answer {
     };
     let length = match stored::encode(&table, areas.out) {
         Ok(length) => length,
-        Err(refusal) => return Answer::refused(WHICH_NONE, refusal),
+        Err(refusal) => return Answer::refused(WHICH_AREA, refusal),
     };
     let numbers = [
         ran.items,
@@ -230,7 +230,7 @@ pub fn write_table(count: usize, rows: &[u32], marks: &[u16], out: &mut [u8]) ->
     let Some(table) = raw::decode(count, rows, marks) else {
         return Answer::refused(WHICH_PLAN, Number::Link.at(0));
     };
-    answer_for(WHICH_NONE, stored::encode(&table, out))
+    answer_for(WHICH_AREA, stored::encode(&table, out))
 }
 
 /// Sweeps a table handed in as words.
