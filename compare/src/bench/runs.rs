@@ -133,10 +133,9 @@ fn forest() -> Table {
     table.rows.push(Row::element(2, Some(0)));
     for below in 1..SUBTREE as u16 {
         let parent = Some(2 + (below - 1) / 8 * 8);
-        let leaf = !below.is_multiple_of(8);
-        table.rows.push(match leaf {
-            true => Row::leaf(1, parent),
-            false => Row::element(3, parent),
+        table.rows.push(match below % 8 {
+            0 => Row::element(3, parent),
+            _ => Row::leaf(1, parent),
         });
     }
     table.marks[0] = Some(0);

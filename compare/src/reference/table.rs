@@ -77,7 +77,7 @@ impl Table {
 
     /// May the row that comes next have this parent?
     pub fn takes_parent(&self, parent: Option<u16>) -> bool {
-        parent.is_none_or(|number| self.row(number).is_some_and(Row::is_element))
+        parent.map_or(true, |number| self.row(number).is_some_and(Row::is_element))
     }
 
     /// May a document mark this row, the marks set so far being given?
@@ -94,17 +94,16 @@ impl Table {
     fn rows_are_well_formed(&self) -> bool {
         self.rows.iter().enumerate().all(|(number, row)| {
             let named = row.kind == Kind::Leaf || row.tag != 0;
-            let linked = row
-                .parent()
-                .map(usize::from)
-                .is_none_or(|parent| parent < number && self.rows[parent].is_element());
+            let linked = row.parent().map(usize::from).map_or(true, |parent| {
+                parent < number && self.rows[parent].is_element()
+            });
             named && linked
         })
     }
 
     fn marks_are_well_formed(&self) -> bool {
         self.marks.iter().enumerate().all(|(document, mark)| {
-            mark.is_none_or(|number| {
+            mark.map_or(true, |number| {
                 let root = self
                     .row(number)
                     .is_some_and(|row| row.is_element() && row.parent().is_none());
