@@ -86,10 +86,7 @@ fn mark_largest(table: &mut Table) {
             sizes[usize::from(parent)] += sizes[number];
         }
     }
-    let roots = (0..table.rows.len()).filter(|&number| {
-        let row = table.rows[number];
-        row.is_element() && row.parent().is_none()
-    });
+    let roots = (0..table.rows.len()).filter(|&number| table.rows[number].is_root());
     let Some(largest) = roots.max_by_key(|&number| sizes[number]) else {
         return;
     };

@@ -51,6 +51,11 @@ impl Row {
         self.kind == Kind::Element
     }
 
+    /// An element without parent, as documents mark.
+    pub fn is_root(self) -> bool {
+        self.is_element() && self.parent().is_none()
+    }
+
     /// The signed value, for a leaf.
     pub const fn value(self) -> i8 {
         self.tag as i8
@@ -82,9 +87,7 @@ impl Table {
 
     /// May a document mark this row, the marks set so far being given?
     pub fn takes_mark(&self, number: u16) -> bool {
-        self.row(number)
-            .is_some_and(|row| row.is_element() && row.parent().is_none())
-            && !self.is_marked(number)
+        self.row(number).is_some_and(Row::is_root) && !self.is_marked(number)
     }
 
     pub fn is_well_formed(&self) -> bool {
@@ -104,9 +107,7 @@ impl Table {
     fn marks_are_well_formed(&self) -> bool {
         self.marks.iter().enumerate().all(|(document, mark)| {
             mark.map_or(true, |number| {
-                let root = self
-                    .row(number)
-                    .is_some_and(|row| row.is_element() && row.parent().is_none());
+                let root = self.row(number).is_some_and(Row::is_root);
                 root && !self.marks[..document].contains(&Some(number))
             })
         })
