@@ -4,7 +4,7 @@
  * be valid for its length, also where that is 0 (then any aligned pointer but NULL); what a call writes to must overlap nothing else.
  *
  * Each call answers number + 256 * which + 65,536 * place. `number` is a refusal's number, 0 where nothing is refused. `which` says whose
- * refusal it is: 0 a lent area's, 1 the plan's, 2 the script's, the run's or the history's. `place` is the refusal's place.
+ * refusal it is: enum yegnabit_which. `place` is the refusal's place.
  * A refused call leaves `out` as it was. On success the bytes of the plan stand at the start of `out`, and the rest of it stays. */
 
 #ifndef YEGNABIT_H
@@ -30,6 +30,16 @@ enum yegnabit_refusal {
     YEGNABIT_HISTORY = 9,  /* a run needs a 2,049th record */
     YEGNABIT_TABLE = 10,   /* new rows pass 512 */
     YEGNABIT_LENT = 11     /* a lent area is too short for its stated need */
+};
+
+/* Whose refusal it is. */
+enum yegnabit_which {
+    YEGNABIT_WHICH_AREA = 0,    /* a lent area's */
+    YEGNABIT_WHICH_PLAN = 1,    /* the plan's */
+    YEGNABIT_WHICH_SCRIPT = 2,  /* the script's or its run's */
+    YEGNABIT_WHICH_HISTORY = 2, /* the history's */
+    YEGNABIT_WHICH_FIRST = 1,   /* in an analysis: the first script's */
+    YEGNABIT_WHICH_SECOND = 2   /* in an analysis: the second script's */
 };
 
 /* What each lent area needs, in elements. */
@@ -78,8 +88,7 @@ uint64_t yegnabit_run(const uint8_t *plan, size_t plan_length, const uint8_t *sc
 uint64_t yegnabit_undo(const uint8_t *plan, size_t plan_length, const uint8_t *history, size_t history_length,
                        uint8_t *out, size_t out_length);
 
-/* Analyses two scripts. A refusal is the first's, which 1, or the second's, which 2; else number is 0 and `which` is the answer: enum
- * yegnabit_answer. */
+/* Analyses two scripts. A refusal is the first's or the second's; else number is 0 and `which` is the answer: enum yegnabit_answer. */
 uint64_t yegnabit_analyse(const uint8_t *first, size_t first_length, const uint8_t *second, size_t second_length);
 
 #ifdef __cplusplus

@@ -9,8 +9,13 @@
 
 /* An array and its length. */
 #define ALL(array) (array), sizeof(array) / sizeof((array)[0])
+/* A call's answer, by its parts. */
+#define CODE(number, which, place) ((number) + 256u * (which) + UINT64_C(65536) * (place))
+/* What is not refused, but for an analysis. */
+#define ACCEPTED(place) CODE(0, 0, place)
+#define TOO_SHORT CODE(YEGNABIT_LENT, YEGNABIT_WHICH_AREA, 0)
 
-enum { GUARD = 0xA5, ROW_BYTES = 4, ROWS = 512 };
+enum { ROW_BYTES = 4, ROWS = 512 };
 
 static const uint8_t plan_p[] = {0x11, 0x01, 0xFF, 0xFF, 0x11, 0x02, 0x00, 0x00, 0x12, 0xFE, 0x01, 0x00,
                                  0x11, 0x03, 0x00, 0x00, 0x13, 0x00, 0x00, 0x00};
@@ -50,6 +55,15 @@ static const uint8_t history_cut[] = {0x43, 0x01, 0x00, 0x00, 0x00};
 /* P after B, swept: row 4 goes, row 5 becomes row 4 */
 static const uint8_t swept_b[] = {0x11, 0x01, 0xFF, 0xFF, 0x11, 0x02, 0x00, 0x00, 0x12, 0xFE, 0x01, 0x00,
                                   0x11, 0x03, 0x00, 0x00, 0x11, 0x04, 0x03, 0x00, 0x13, 0x00, 0x00, 0x00};
+/* refused: the parent of row 2, at byte 8, is a leaf */
+static const uint8_t leaf_parent[] = {0x11, 0x01, 0xFF, 0xFF, 0x12, 0x05, 0x00, 0x00, 0x12, 0x07, 0x01, 0x00};
+/* refused: no history record has this kind */
+static const uint8_t no_history[] = {0x40};
+
+/* The lent areas; `done` has one number more than it needs. */
+static uint16_t answer[YEGNABIT_ANSWER_AREA], work[YEGNABIT_WORK_AREA];
+static uint8_t history[YEGNABIT_HISTORY_AREA], out[YEGNABIT_OUT];
+static uint64_t done[YEGNABIT_DONE + 1];
 
 static unsigned checks;
 
@@ -61,56 +75,96 @@ static void check(int holds, const char *what) {
     }
 }
 
-static uint64_t code(unsigned number, unsigned which, uint64_t place) { return number + 256u * which + 65536u * place; }
+/* The pattern that areas hold before a call. */
+static uint8_t pattern(size_t place) { return (uint8_t)(0xA5 + 151 * place); }
 
-/* All bytes of an area from a place on are the same. */
-static int is_all(uint8_t byte, const void *area, size_t from, size_t size) {
+static void fill(void *area, size_t size) {
+    uint8_t *bytes = area;
+    while (size-- > 0) bytes[size] = pattern(size);
+}
+
+/* Fills all lent areas with the pattern. */
+static void fill_areas(void) {
+    fill(answer, sizeof answer);
+    fill(history, sizeof history);
+    fill(work, sizeof work);
+    fill(out, sizeof out);
+    fill(done, sizeof done);
+}
+
+/* An area holds the pattern from a byte on. */
+static int is_kept(const void *area, size_t from, size_t size) {
     const uint8_t *bytes = area;
     for (; from < size; from++)
-        if (bytes[from] != byte) return 0;
+        if (bytes[from] != pattern(from)) return 0;
+    return 1;
+}
+
+/* An area is zero from a byte on. */
+static int is_zero(const void *area, size_t from, size_t size) {
+    const uint8_t *bytes = area;
+    for (; from < size; from++)
+        if (bytes[from] != 0) return 0;
     return 1;
 }
 
 /* The plan stands at the start of `out`, and the rest is as it was. */
-static void check_out(const uint8_t *out, const uint8_t *plan, size_t length, const char *what) {
+static void check_out(const uint8_t *plan, size_t length, const char *what) {
     check(memcmp(out, plan, length) == 0, what);
-    check(is_all(GUARD, out, length, YEGNABIT_OUT), what);
+    check(is_kept(out, length, sizeof out), what);
 }
 
 /* `out` is as it was. */
-static void check_kept(const uint8_t *out) { check(is_all(GUARD, out, 0, YEGNABIT_OUT), "an area that a refused call leaves"); }
+static void check_kept(const char *what) { check(is_kept(out, 0, sizeof out), what); }
 
+/* An `out` one byte too short comes before a refused plan or history; then the plan is looked at. */
 static void plans(void) {
-    uint8_t out[YEGNABIT_OUT];
-    memset(out, GUARD, sizeof out);
-    check(yegnabit_plan(ALL(plan_p), out, sizeof out - 1) == code(YEGNABIT_LENT, 0, 0), "an area too short");
-    check(yegnabit_plan(plan_p, 19, ALL(out)) == code(YEGNABIT_SHORT, 1, 16), "plan P cut off in its mark");
-    check_kept(out);
-    check(yegnabit_plan(nothing, 0, ALL(out)) == 0, "the empty plan");
-    check(yegnabit_plan(ALL(plan_p), ALL(out)) == code(0, 0, sizeof plan_p), "plan P");
-    check_out(out, ALL(plan_p), "plan P written back");
-    memset(out, GUARD, sizeof out);
-    check(yegnabit_sweep(ALL(after_b), ALL(out)) == code(0, 0, sizeof swept_b), "P after B, swept");
-    check_out(out, ALL(swept_b), "P after B, swept");
+    uint64_t refused;
+    fill_areas();
+    check(yegnabit_plan(ALL(plan_p), out, sizeof out - 1) == TOO_SHORT, "plan P, an area too short");
+    check(yegnabit_plan(ALL(leaf_parent), out, sizeof out - 1) == TOO_SHORT, "a refused plan, an area too short");
+    check(yegnabit_plan(plan_p, 19, ALL(out)) == CODE(YEGNABIT_SHORT, YEGNABIT_WHICH_PLAN, 16), "plan P cut off in its mark");
+    check_kept("what a refused plan leaves");
+    check(yegnabit_plan(nothing, 0, ALL(out)) == ACCEPTED(0), "the empty plan");
+    check_kept("what the empty plan leaves");
+    check(yegnabit_plan(ALL(plan_p), ALL(out)) == ACCEPTED(sizeof plan_p), "plan P");
+    check_out(ALL(plan_p), "plan P written back");
+
+    fill_areas();
+    check(yegnabit_sweep(ALL(after_b), out, sizeof out - 1) == TOO_SHORT, "a sweep, an area too short");
+    check(yegnabit_sweep(ALL(leaf_parent), out, sizeof out - 1) == TOO_SHORT, "a refused sweep, an area too short");
+    refused = yegnabit_sweep(ALL(leaf_parent), ALL(out));
+    check(refused == CODE(YEGNABIT_LINK, YEGNABIT_WHICH_PLAN, 8), "a refused sweep");
+    check(yegnabit_number(refused) == YEGNABIT_LINK, "its number");
+    check(yegnabit_which(refused) == YEGNABIT_WHICH_PLAN, "whose it is");
+    check(yegnabit_place(refused) == 8, "its place");
+    check_kept("what a refused sweep leaves");
+    check(yegnabit_sweep(ALL(after_b), ALL(out)) == ACCEPTED(sizeof swept_b), "P after B, swept");
+    check_out(ALL(swept_b), "P after B, swept");
 }
 
 static void undone(void) {
-    uint8_t out[YEGNABIT_OUT];
-    memset(out, GUARD, sizeof out);
-    check(yegnabit_undo(ALL(plan_p), ALL(history_b), ALL(out)) == code(YEGNABIT_LINK, 2, 6), "B taken back from P itself");
-    check_kept(out);
-    check(yegnabit_undo(ALL(after_b), ALL(history_b), ALL(out)) == code(0, 0, sizeof plan_p), "B taken back");
-    check_out(out, ALL(plan_p), "P after B was taken back");
+    fill_areas();
+    check(yegnabit_undo(ALL(after_b), ALL(history_b), out, sizeof out - 1) == TOO_SHORT, "B taken back, an area too short");
+    check(yegnabit_undo(ALL(leaf_parent), ALL(no_history), out, sizeof out - 1) == TOO_SHORT, "a refused undo, an area too short");
+    check(yegnabit_undo(ALL(leaf_parent), ALL(no_history), ALL(out)) == CODE(YEGNABIT_LINK, YEGNABIT_WHICH_PLAN, 8),
+          "a refused plan comes before a refused history");
+    check(yegnabit_undo(ALL(after_b), ALL(no_history), ALL(out)) == CODE(YEGNABIT_KIND, YEGNABIT_WHICH_HISTORY, 0), "a refused history");
+    check(yegnabit_undo(ALL(plan_p), ALL(history_b), ALL(out)) == CODE(YEGNABIT_LINK, YEGNABIT_WHICH_HISTORY, 6),
+          "B taken back from P itself");
+    check_kept("what a refused undo leaves");
+    check(yegnabit_undo(ALL(after_b), ALL(history_b), ALL(out)) == ACCEPTED(sizeof plan_p), "B taken back");
+    check_out(ALL(plan_p), "P after B was taken back");
 }
 
 static void analysed(void) {
-    check(yegnabit_analyse(ALL(script_a), ALL(script_b)) == code(0, YEGNABIT_FREE, 0), "A against B");
-    check(yegnabit_analyse(ALL(delete_twos), ALL(script_a)) == code(0, YEGNABIT_MEET, 0), "delete of children named 2, against A");
-    check(yegnabit_analyse(ALL(delete_twos), ALL(leaves_below)) == code(0, YEGNABIT_MEET, 0), "that delete against descendant leaves");
-    check(yegnabit_analyse(ALL(script_b), ALL(script_b)) == code(0, YEGNABIT_FREE, 0), "B against B");
-    check(yegnabit_analyse(ALL(script_a), ALL(upward)) == code(0, YEGNABIT_UPWARD, 0), "a parent step");
-    check(yegnabit_analyse(nothing, 0, ALL(script_a)) == code(YEGNABIT_SHORT, 1, 0), "an empty first script");
-    check(yegnabit_analyse(ALL(script_a), nothing, 0) == code(YEGNABIT_SHORT, 2, 0), "an empty second script");
+    check(yegnabit_analyse(ALL(script_a), ALL(script_b)) == CODE(0, YEGNABIT_FREE, 0), "A against B");
+    check(yegnabit_analyse(ALL(delete_twos), ALL(script_a)) == CODE(0, YEGNABIT_MEET, 0), "delete of children named 2, against A");
+    check(yegnabit_analyse(ALL(delete_twos), ALL(leaves_below)) == CODE(0, YEGNABIT_MEET, 0), "that delete against descendant leaves");
+    check(yegnabit_analyse(ALL(script_b), ALL(script_b)) == CODE(0, YEGNABIT_FREE, 0), "B against B");
+    check(yegnabit_analyse(ALL(script_a), ALL(upward)) == CODE(0, YEGNABIT_UPWARD, 0), "a parent step");
+    check(yegnabit_analyse(nothing, 0, ALL(script_a)) == CODE(YEGNABIT_SHORT, YEGNABIT_WHICH_FIRST, 0), "an empty first script");
+    check(yegnabit_analyse(ALL(script_a), nothing, 0) == CODE(YEGNABIT_SHORT, YEGNABIT_WHICH_SECOND, 0), "an empty second script");
 }
 
 /* A join of so many empty values, at least one: twice as many records less one. */
@@ -132,17 +186,17 @@ static uint64_t script_read(const uint8_t *script, size_t length) { return yegna
 static void scripts(void) {
     uint8_t deep[17], wide[65];
     check(script_read(ALL(script_a)) == 0, "A read");
-    check(script_read(nothing, 0) == code(YEGNABIT_SHORT, 1, 0), "no bytes");
+    check(script_read(nothing, 0) == CODE(YEGNABIT_SHORT, YEGNABIT_WHICH_FIRST, 0), "no bytes");
 
     wide[0] = wide[1] = 0x0B;
     check(join(wide + 2, 32) == 63, "63 records joined");
     check(script_read(wide + 1, 64) == 0, "64 records");
-    check(script_read(wide, 65) == code(YEGNABIT_SIZE, 1, 64), "65 records");
+    check(script_read(wide, 65) == CODE(YEGNABIT_SIZE, YEGNABIT_WHICH_FIRST, 64), "65 records");
 
     memset(deep, 0x0B, sizeof deep);
     deep[16] = 0x01;
     check(script_read(deep + 1, 16) == 0, "depth 16");
-    check(script_read(deep, 17) == code(YEGNABIT_SIZE, 1, 16), "depth 17");
+    check(script_read(deep, 17) == CODE(YEGNABIT_SIZE, YEGNABIT_WHICH_FIRST, 16), "depth 17");
 }
 
 /* What a run is to leave. */
@@ -158,30 +212,40 @@ struct run {
     size_t plan_length;
 };
 
-static uint16_t answer[YEGNABIT_ANSWER_AREA], work[YEGNABIT_WORK_AREA];
-static uint8_t history[YEGNABIT_HISTORY_AREA];
-
+/* A refused plan, script or run leaves the run's areas and the numbers zero. */
 static void check_run(const uint8_t *plan, size_t plan_length, struct run run) {
-    uint8_t out[YEGNABIT_OUT];
-    uint64_t done[YEGNABIT_DONE];
-    memset(out, GUARD, sizeof out);
-    memset(done, GUARD, sizeof done);
-    memset(answer, GUARD, sizeof answer);
-    memset(history, GUARD, sizeof history);
-    memset(work, GUARD, sizeof work);
-
+    fill_areas();
     check(yegnabit_run(plan, plan_length, run.script, run.script_length, ALL(answer), ALL(history), ALL(work), ALL(out), ALL(done)) ==
               run.code,
           run.name);
     check(done[YEGNABIT_DONE_ITEMS] == run.items, run.name);
     check(memcmp(&done[YEGNABIT_DONE_MADE], run.done, sizeof run.done) == 0, run.name);
     check(done[YEGNABIT_DONE_OUT] == run.plan_length, run.name);
-    check_out(out, run.plan, run.plan_length, run.name);
+    check(is_kept(done, YEGNABIT_DONE * sizeof done[0], sizeof done), run.name);
+    check_out(run.plan, run.plan_length, run.name);
     check(run.items == 0 || answer[0] == 2, run.name);
-    check(is_all(0, answer, run.items * sizeof answer[0], sizeof answer), run.name);
+    check(is_zero(answer, run.items * sizeof answer[0], sizeof answer), run.name);
     check(memcmp(history, run.history, run.done[3]) == 0, run.name);
-    check(is_all(0, history, run.done[3], sizeof history), run.name);
-    check(is_all(0, work, 0, sizeof work), run.name);
+    check(is_zero(history, run.done[3], sizeof history), run.name);
+    check(is_zero(work, 0, sizeof work), run.name);
+}
+
+/* One of the five areas is an element too short: that comes before a refused plan or script, and nothing is touched. */
+static void check_too_short(const uint8_t *plan, size_t plan_length, const uint8_t *script, size_t script_length) {
+    size_t i;
+    for (i = 0; i < 5; i++) {
+        size_t lengths[] = {YEGNABIT_ANSWER_AREA, YEGNABIT_HISTORY_AREA, YEGNABIT_WORK_AREA, YEGNABIT_OUT, YEGNABIT_DONE};
+        lengths[i]--;
+        fill_areas();
+        check(yegnabit_run(plan, plan_length, script, script_length, answer, lengths[0], history, lengths[1], work, lengths[2], out,
+                           lengths[3], done, lengths[4]) == TOO_SHORT,
+              "a run, an area too short");
+        check(is_kept(answer, 0, sizeof answer), "an answer area left alone");
+        check(is_kept(history, 0, sizeof history), "a history area left alone");
+        check(is_kept(work, 0, sizeof work), "a work area left alone");
+        check(is_kept(done, 0, sizeof done), "numbers left alone");
+        check_kept("an `out` left alone");
+    }
 }
 
 static void runs(void) {
@@ -194,18 +258,21 @@ static void runs(void) {
         {"let x", ALL(let_x), 0, 1, history_cut, {0, 1, 1, 5}, ALL(after_cut)},
         {"delete of the root", ALL(delete_root), 0, 0, nothing, {0, 0, 0, 0}, ALL(plan_p)},
         {"row 1 twice into row 3", ALL(twice), 0, 0, history_twice, {4, 0, 4, 24}, ALL(after_twice)},
-        {"the empty script", nothing, 0, YEGNABIT_SHORT + 2 * 256, 0, nothing, {0, 0, 0, 0}, nothing, 0},
+        {"the empty script", nothing, 0, CODE(YEGNABIT_SHORT, YEGNABIT_WHICH_SCRIPT, 0), 0, nothing, {0, 0, 0, 0}, nothing, 0},
     };
+    static const struct run on_refused = {
+        "a refused plan", nothing, 0, CODE(YEGNABIT_LINK, YEGNABIT_WHICH_PLAN, 8), 0, nothing, {0, 0, 0, 0}, nothing, 0};
     static uint8_t full[ROWS * ROW_BYTES + ROW_BYTES];
     static const struct run on_full[] = {
         {"512 rows, nothing inserted", ALL(insert_nothing), 0, 0, nothing, {0, 0, 0, 0}, ALL(full)},
-        {"512 rows, a new one", ALL(new_element), YEGNABIT_TABLE + 2 * 256, 0, nothing, {0, 0, 0, 0}, nothing, 0},
+        {"512 rows, a new one", ALL(new_element), CODE(YEGNABIT_TABLE, YEGNABIT_WHICH_SCRIPT, 0), 0, nothing, {0, 0, 0, 0}, nothing, 0},
     };
-    uint8_t out[YEGNABIT_OUT];
-    uint64_t done[YEGNABIT_DONE];
     size_t i;
 
     for (i = 0; i < sizeof on_p / sizeof on_p[0]; i++) check_run(ALL(plan_p), on_p[i]);
+    check_run(ALL(leaf_parent), on_refused);
+    check_too_short(ALL(plan_p), ALL(script_b));
+    check_too_short(ALL(leaf_parent), nothing, 0);
 
     /* 512 rows, all but the first under it, and document 0's mark */
     for (i = 0; i < ROWS; i++) {
@@ -215,28 +282,6 @@ static void runs(void) {
     }
     full[ROW_BYTES * ROWS] = 0x13;
     for (i = 0; i < sizeof on_full / sizeof on_full[0]; i++) check_run(ALL(full), on_full[i]);
-
-    /* an area too short comes first, and nothing is touched */
-    memset(out, GUARD, sizeof out);
-    memset(done, GUARD, sizeof done);
-    memset(answer, GUARD, sizeof answer);
-    check(yegnabit_run(ALL(plan_p), ALL(script_a), answer, YEGNABIT_ANSWER_AREA - 1, ALL(history), ALL(work), ALL(out), ALL(done)) ==
-              code(YEGNABIT_LENT, 0, 0),
-          "an answer area too short");
-    check(is_all(GUARD, answer, 0, sizeof answer), "an answer area left alone");
-    check(is_all(GUARD, done, 0, sizeof done), "numbers left alone");
-    check_kept(out);
-
-    /* a refused plan zeroes the run's areas and the numbers */
-    memset(history, GUARD, sizeof history);
-    memset(work, GUARD, sizeof work);
-    check(yegnabit_run(plan_p, 19, ALL(script_a), ALL(answer), ALL(history), ALL(work), ALL(out), ALL(done)) == code(YEGNABIT_SHORT, 1, 16),
-          "plan P cut off in its mark");
-    check(is_all(0, answer, 0, sizeof answer), "an answer area zeroed");
-    check(is_all(0, history, 0, sizeof history), "a history area zeroed");
-    check(is_all(0, work, 0, sizeof work), "a work area zeroed");
-    check(is_all(0, done, 0, sizeof done), "numbers zeroed");
-    check_kept(out);
 }
 
 int main(void) {

@@ -9,8 +9,8 @@ use crate::reference::refusal::{Number, Refusal};
 use crate::reference::{analysis, plan as stored, positions, script as scripts, sweep as sweeping};
 use crate::reference::{run as running, undo as undoing};
 
-/// Which input a refusal is about.
-pub const WHICH_NONE: u64 = 0;
+/// Whose refusal it is.
+pub const WHICH_AREA: u64 = 0;
 pub const WHICH_PLAN: u64 = 1;
 pub const WHICH_SCRIPT: u64 = 2;
 pub const WHICH_HISTORY: u64 = 2;
@@ -69,8 +69,16 @@ impl std::fmt::Debug for Answer {
     }
 }
 
+/// The answer with a place, or with the refusal of this input.
+fn answer_for(which: u64, place: Result<usize, Refusal>) -> Answer {
+    match place {
+        Ok(place) => Answer::accepted(place),
+        Err(refusal) => Answer::refused(which, refusal),
+    }
+}
+
 fn lent() -> Answer {
-    Answer::refused(WHICH_NONE, Number::Lent.at(0))
+    Answer::refused(WHICH_AREA, Number::Lent.at(0))
 }
 
 /// Reads a stored plan and writes it back.
@@ -78,10 +86,8 @@ pub fn plan(plan: &[u8], out: &mut [u8]) -> Answer {
     if out.len() < PLAN_BYTES {
         return lent();
     }
-    match stored::read(plan).and_then(|table| stored::encode(&table, out)) {
-        Ok(length) => Answer::accepted(length),
-        Err(refusal) => Answer::refused(WHICH_PLAN, refusal),
-    }
+    let written = stored::read(plan).and_then(|table| stored::encode(&table, out));
+    answer_for(WHICH_PLAN, written)
 }
 
 /// Reads a stored plan, sweeps it and writes it back.
@@ -89,22 +95,16 @@ pub fn sweep(plan: &[u8], out: &mut [u8]) -> Answer {
     if out.len() < PLAN_BYTES {
         return lent();
     }
-    let swept = stored::read(plan).and_then(|mut table| {
+    let written = stored::read(plan).and_then(|mut table| {
         sweeping::sweep_well_formed(&mut table);
         stored::encode(&table, out)
     });
-    match swept {
-        Ok(length) => Answer::accepted(length),
-        Err(refusal) => Answer::refused(WHICH_PLAN, refusal),
-    }
+    answer_for(WHICH_PLAN, written)
 }
 
 /// Reads a script.
 pub fn script(script: &[u8]) -> Answer {
-    match scripts::read(script) {
-        Ok(_) => Answer::accepted(0),
-        Err(refusal) => Answer::refused(WHICH_SCRIPT, refusal),
-    }
+    answer_for(WHICH_SCRIPT, scripts::read(script).map(|_| 0))
 }
 
 /// Reads a stored plan, takes a history back and writes the plan back.
@@ -119,10 +119,7 @@ pub fn undo(plan: &[u8], history: &[u8], out: &mut [u8]) -> Answer {
     if let Err(refusal) = undoing::undo(&mut table, history) {
         return Answer::refused(WHICH_HISTORY, refusal);
     }
-    match stored::encode(&table, out) {
-        Ok(length) => Answer::accepted(length),
-        Err(refusal) => Answer::refused(WHICH_NONE, refusal),
-    }
+    answer_for(WHICH_AREA, stored::encode(&table, out))
 }
 
 /// The areas lent to a run.
@@ -201,7 +198,7 @@ pub fn run(plan: &[u8], script: &[u8], areas: Lent<'_>) -> Answer {
     };
     let length = match stored::encode(&table, areas.out) {
         Ok(length) => length,
-        Err(refusal) => return Answer::refused(WHICH_NONE, refusal),
+        Err(refusal) => return Answer::refused(WHICH_AREA, refusal),
     };
     let numbers = [
         ran.items,
@@ -233,10 +230,7 @@ pub fn write_table(count: usize, rows: &[u32], marks: &[u16], out: &mut [u8]) ->
     let Some(table) = raw::decode(count, rows, marks) else {
         return Answer::refused(WHICH_PLAN, Number::Link.at(0));
     };
-    match stored::encode(&table, out) {
-        Ok(length) => Answer::accepted(length),
-        Err(refusal) => Answer::refused(WHICH_NONE, refusal),
-    }
+    answer_for(WHICH_AREA, stored::encode(&table, out))
 }
 
 /// Sweeps a table handed in as words.

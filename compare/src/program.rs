@@ -213,42 +213,16 @@ fn chosen(program: &mut Program) -> Result<(), String> {
             program.compare(&entries)?;
         }
     }
-    // 512 rows: a new row is 10; all nodes below the root joined to themselves, often enough, are 8.
+    // 512 rows: a new row is 10; all rows below the root joined to themselves are 8.
+    let star = to_vec(&plans::star(ROWS));
     let all = [kind::STEP, 1, 0, 0, kind::DOCUMENT, 0];
-    let many = [
-        [kind::JOIN].as_slice(),
-        &[kind::JOIN],
-        &all,
-        &all,
-        &[kind::JOIN],
-        &all,
-        &all,
-    ]
-    .concat();
-    let table = tall();
-    for [first, second] in [
-        [vec![kind::ELEMENT, 4], script().bytes().to_vec()],
-        [script().bytes().to_vec(), vec![kind::ELEMENT, 4]],
-        [many.clone(), script().bytes().to_vec()],
-        [script().bytes().to_vec(), many.clone()],
-    ] {
-        program.compare(&[
-            Entry::File(table.clone()),
-            Entry::File(first),
-            Entry::File(second),
-        ])?;
+    let many = [&[kind::JOIN][..], &all, &all].concat();
+    for refused in [vec![kind::ELEMENT, 4], many] {
+        let refused = || Entry::File(refused.clone());
+        program.compare(&[Entry::File(star.clone()), refused(), script()])?;
+        program.compare(&[Entry::File(star.clone()), script(), refused()])?;
     }
     Ok(())
-}
-
-/// 512 elements, all but the first below it; document 0 marks it.
-fn tall() -> Vec<u8> {
-    let mut plan = vec![0x11, 1, 0xFF, 0xFF];
-    for _ in 1..ROWS {
-        plan.extend([0x11, 2, 0, 0]);
-    }
-    plan.extend([0x13, 0, 0, 0]);
-    plan
 }
 
 fn random_entries(random: &mut Random) -> [Entry; 3] {

@@ -5,6 +5,7 @@ mod runs;
 use std::hint::black_box;
 use std::time::{Duration, Instant};
 
+use compare::generate::document01::{SCRIPT_A, SCRIPT_B};
 use compare::generate::histories::{self, Recorded};
 use compare::generate::pairs::{most_deletes, most_paths, most_steps};
 use compare::generate::plans::full_table;
@@ -12,7 +13,7 @@ use compare::generate::random::Random;
 use compare::generate::scripts::{script, Wanted};
 use compare::interface::{self, Answer};
 use compare::raw::RawTable;
-use compare::reference::limits::{BINDERS, DEPTH, PLAN_BYTES, SCRIPT_RECORDS};
+use compare::reference::limits::PLAN_BYTES;
 use compare::reference::plan::to_vec;
 use compare::reference::script::{Axis, Operation, Test};
 use compare::reference::table::Table;
@@ -118,12 +119,6 @@ fn analysis() {
     let read_elements = most_paths(0, &steps, &[to_elements]);
     let cut_chains = most_steps(0, &steps, &[delete, to_leaves]);
     let read_chains = most_steps(0, &steps, &[to_elements]);
-    let typical: [&[u8]; 2] = [
-        // The leaves below zero under the children named 2.
-        &[13, 1, 0, 4, 0, 2, 0, 4, 0, 3, 2, 2, 0],
-        // An insert of a new element into the children named 3.
-        &[12, 9, 4, 4, 0, 3, 3, 2, 0],
-    ];
     let refused = &there[..there.len() - 1];
     let cases: [(_, _, [&[u8]; 2]); 9] = [
         ("analysis, binders, apart at start", 0, [&here, &there]),
@@ -149,7 +144,7 @@ fn analysis() {
             0,
             [&cuts, &cuts_there],
         ),
-        ("analysis, typical, free", 0, typical),
+        ("analysis, typical, free", 0, [&SCRIPT_A, &SCRIPT_B]),
         ("analysis, second refused at its end", 2, [&here, refused]),
     ];
     for (name, number, [first, second]) in cases {
@@ -209,12 +204,9 @@ fn write_case(name: &'static str, table: &Table) -> Case<'static> {
 /// A script at all limits.
 fn full_script(random: &mut Random) -> Vec<u8> {
     let wanted = Wanted {
-        records: SCRIPT_RECORDS,
-        depth: DEPTH,
-        binders: BINDERS,
-        unbound: 0,
         upward: 20,
         names: 8,
+        ..Wanted::AT_LIMITS
     };
     script(random, wanted)
 }

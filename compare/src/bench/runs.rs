@@ -3,6 +3,7 @@
 
 use std::hint::black_box;
 
+use compare::generate::plans::star;
 use compare::interface::{self, Areas};
 use compare::reference::limits::ROWS;
 use compare::reference::plan::to_vec;
@@ -18,7 +19,7 @@ const SUBTREE: usize = 250;
 const ROOT: [u8; 2] = [kind::DOCUMENT, 0];
 
 pub fn measure_runs() {
-    let (chain, fan) = (to_vec(&chain()), to_vec(&fan()));
+    let (chain, star) = (to_vec(&chain()), to_vec(&star(ROWS)));
     let below = [&[kind::STEP, 1, 0, 0][..], &ROOT].concat();
     let children = [&[kind::STEP, 0, 0, 0][..], &ROOT].concat();
     let pick = [kind::PICK, 2, 0x80];
@@ -47,16 +48,16 @@ pub fn measure_runs() {
     measure(run_case(
         "run, descendant step over 512 rows, side by side",
         0,
-        &fan,
+        &star,
         &below,
     ));
     let picked = [&pick[..], &children].concat();
-    measure(run_case("run, pick over 511 leaves", 0, &fan, &picked));
+    measure(run_case("run, pick over 511 leaves", 0, &star, &picked));
     let often = [&pick.repeat(12)[..], &children].concat();
     measure(run_case(
         "run, twelve picks over 511 leaves",
         0,
-        &fan,
+        &star,
         &often,
     ));
     let each = [&[kind::FOR][..], &below, &step_of_item].concat();
@@ -66,7 +67,7 @@ pub fn measure_runs() {
         &chain,
         &each,
     ));
-    measure(run_case("run, delete of 511 rows", 0, &fan, &delete));
+    measure(run_case("run, delete of 511 rows", 0, &star, &delete));
     let insert = [&[kind::INSERT][..], &subtree, &[kind::DOCUMENT, 1]].concat();
     let forest = to_vec(&forest());
     measure(run_case(
@@ -76,8 +77,8 @@ pub fn measure_runs() {
         &insert,
     ));
     let late = [&[kind::JOIN][..], &delete, &no_target].concat();
-    measure(run_case("run refused after 511 cuts", 7, &fan, &late));
-    undo_of_run(&fan, &delete);
+    measure(run_case("run refused after 511 cuts", 7, &star, &late));
+    undo_of_run(&star, &delete);
 }
 
 /// The history of 511 cuts taken back.
@@ -123,17 +124,6 @@ fn chain() -> Table {
     table
 }
 
-/// All rows leaves below the first.
-fn fan() -> Table {
-    let mut table = Table::default();
-    table.rows.push(Row::element(1, None));
-    for number in 1..ROWS {
-        table.rows.push(Row::leaf(number as i8 | 1, Some(0)));
-    }
-    table.marks[0] = Some(0);
-    table
-}
-
 /// Document 0's root has one child, named 2, with a subtree of 250 rows, of
 /// which every eighth is an element; document 1 marks another root.
 fn forest() -> Table {
@@ -143,10 +133,9 @@ fn forest() -> Table {
     table.rows.push(Row::element(2, Some(0)));
     for below in 1..SUBTREE as u16 {
         let parent = Some(2 + (below - 1) / 8 * 8);
-        let leaf = !below.is_multiple_of(8);
-        table.rows.push(match leaf {
-            true => Row::leaf(1, parent),
-            false => Row::element(3, parent),
+        table.rows.push(match below % 8 {
+            0 => Row::element(3, parent),
+            _ => Row::leaf(1, parent),
         });
     }
     table.marks[0] = Some(0);

@@ -8,6 +8,11 @@ const AWKWARD: [u8; 18] = [
     0x80, 0xFF,
 ];
 
+/// Bytes up to this length are damaged with all values of each.
+const SMALL: usize = 48;
+/// Bytes up to this length are damaged with many values of each.
+const MIDDLE: usize = 200;
+
 /// Which values a byte takes when it is damaged.
 #[derive(Clone, Copy)]
 pub enum Values {
@@ -17,6 +22,19 @@ pub enum Values {
     Likely,
     /// A few.
     Few,
+}
+
+impl Values {
+    /// The longer the bytes, the fewer values of each.
+    pub const fn for_length(length: usize) -> Values {
+        if length <= SMALL {
+            Values::All
+        } else if length <= MIDDLE {
+            Values::Likely
+        } else {
+            Values::Few
+        }
+    }
 }
 
 /// Calls `check` with each byte changed in turn.

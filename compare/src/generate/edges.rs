@@ -12,7 +12,7 @@ fn record(kind: u8, tag: u8, field: u16) -> [u8; 4] {
 }
 
 /// Elements without parent.
-fn roots(count: usize) -> Vec<u8> {
+pub fn roots(count: usize) -> Vec<u8> {
     record(ELEMENT, 1, NO_PARENT).repeat(count)
 }
 
@@ -57,11 +57,26 @@ pub fn plans() -> Vec<Vec<u8>> {
     plans
 }
 
-/// All plans of `length` records from a small alphabet.
-pub fn small_plans<E>(
+/// Calls `check` with all sequences of `length` parts from an alphabet.
+pub fn sequences<E>(
+    alphabet: &[impl AsRef<[u8]>],
     length: usize,
     mut check: impl FnMut(&[u8]) -> Result<(), E>,
 ) -> Result<(), E> {
+    let mut bytes = Vec::new();
+    for mut code in 0..alphabet.len().pow(length as u32) {
+        bytes.clear();
+        for _ in 0..length {
+            bytes.extend_from_slice(alphabet[code % alphabet.len()].as_ref());
+            code /= alphabet.len();
+        }
+        check(&bytes)?;
+    }
+    Ok(())
+}
+
+/// All plans of `length` records from a small alphabet.
+pub fn small_plans<E>(length: usize, check: impl FnMut(&[u8]) -> Result<(), E>) -> Result<(), E> {
     let alphabet: Vec<[u8; 4]> = if length <= 2 {
         let kinds = [0x00, 0x10, ELEMENT, LEAF, MARK, 0x14, 0xFF];
         let tags = [0, 1, 2, 7, 8, 9, 127, 128, 255];
@@ -70,15 +85,7 @@ pub fn small_plans<E>(
     } else {
         product(&[ELEMENT, LEAF, MARK], &[0, 1, 2], &[0, 1, 2, NO_PARENT])
     };
-    let mut plan = vec![0; 4 * length];
-    for mut code in 0..alphabet.len().pow(length as u32) {
-        for record in plan.chunks_exact_mut(4) {
-            record.copy_from_slice(&alphabet[code % alphabet.len()]);
-            code /= alphabet.len();
-        }
-        check(&plan)?;
-    }
-    Ok(())
+    sequences(&alphabet, length, check)
 }
 
 fn product(kinds: &[u8], tags: &[u8], fields: &[u16]) -> Vec<[u8; 4]> {
@@ -92,24 +99,14 @@ fn product(kinds: &[u8], tags: &[u8], fields: &[u16]) -> Vec<[u8; 4]> {
 }
 
 /// All scripts of `length` bytes from a small alphabet.
-pub fn small_scripts<E>(
-    length: usize,
-    mut check: impl FnMut(&[u8]) -> Result<(), E>,
-) -> Result<(), E> {
+pub fn small_scripts<E>(length: usize, check: impl FnMut(&[u8]) -> Result<(), E>) -> Result<(), E> {
     let alphabet: Vec<u8> = match length {
         0..=2 => (0..=u8::MAX).collect(),
         3 => (0..0x20).chain([0x7F, 0x80, 0xFF]).collect(),
         _ => (0..0x0F).chain([0xFF]).collect(),
     };
-    let mut script = vec![0; length];
-    for mut code in 0..alphabet.len().pow(length as u32) {
-        for byte in script.iter_mut() {
-            *byte = alphabet[code % alphabet.len()];
-            code /= alphabet.len();
-        }
-        check(&script)?;
-    }
-    Ok(())
+    let alphabet: Vec<[u8; 1]> = alphabet.into_iter().map(|byte| [byte]).collect();
+    sequences(&alphabet, length, check)
 }
 
 /// Wishes for random scripts around each limit, alone and together.
@@ -122,9 +119,7 @@ pub fn wanted_scripts() -> Vec<Wanted> {
                     records,
                     depth,
                     binders,
-                    unbound: 0,
-                    upward: 10,
-                    names: 3,
+                    ..Wanted::AT_LIMITS
                 });
             }
         }

@@ -22,14 +22,20 @@ pub struct Recorded {
     pub history: Vec<u8>,
 }
 
+impl Recorded {
+    /// No history, and so the same table after it.
+    fn unchanged(table: Table) -> Recorded {
+        Recorded {
+            after: table.clone(),
+            before: table,
+            history: Vec::new(),
+        }
+    }
+}
+
 /// The history of a run of a random script on a random table.
 pub fn of_run(random: &mut Random, areas: &mut OwnedAreas) -> Recorded {
-    let before = table(random);
-    let mut recorded = Recorded {
-        after: before.clone(),
-        before,
-        history: Vec::new(),
-    };
+    let mut recorded = Recorded::unchanged(table(random));
     for _ in 0..TRIES {
         let script = changing(random);
         let mut after = recorded.before.clone();
@@ -117,11 +123,7 @@ pub fn long(random: &mut Random) -> Recorded {
 
 /// Applies random changes, of which so many percent are cuts.
 fn changed(random: &mut Random, before: Table, changes: usize, cuts: usize) -> Recorded {
-    let mut recorded = Recorded {
-        after: before.clone(),
-        before,
-        history: Vec::new(),
-    };
+    let mut recorded = Recorded::unchanged(before);
     for _ in 0..changes {
         let rows = recorded.after.rows.len();
         if random.chance(cuts) && rows > 0 {

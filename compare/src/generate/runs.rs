@@ -86,10 +86,7 @@ fn mark_largest(table: &mut Table) {
             sizes[usize::from(parent)] += sizes[number];
         }
     }
-    let roots = (0..table.rows.len()).filter(|&number| {
-        let row = table.rows[number];
-        row.is_element() && row.parent().is_none()
-    });
+    let roots = (0..table.rows.len()).filter(|&number| table.rows[number].is_root());
     let Some(largest) = roots.max_by_key(|&number| sizes[number]) else {
         return;
     };
@@ -110,13 +107,7 @@ fn any_script(random: &mut Random, rows: usize) -> Vec<u8> {
             ..Wanted::random(random)
         };
         let bytes = scripts::script(random, wanted);
-        let loops = read(&bytes).map_or(0, |script| {
-            let records = script.records.iter();
-            records
-                .filter(|record| record.operation == Operation::For)
-                .count()
-        });
-        if loops <= most_loops(rows) {
+        if loops(&bytes) <= most_loops(rows) {
             return bytes;
         }
     }
@@ -136,11 +127,23 @@ fn growing(random: &mut Random) -> Vec<u8> {
     }
 }
 
+/// How many loops a script holds, none where it is refused.
+pub fn loops(bytes: &[u8]) -> usize {
+    read(bytes).map_or(0, |script| {
+        let records = script.records.iter();
+        records
+            .filter(|record| record.operation == Operation::For)
+            .count()
+    })
+}
+
 /// How many loops may be nested on a plan of so many rows.
 pub fn most_loops(rows: usize) -> usize {
-    match rows {
-        0..=TWO_LOOPS => 3,
-        0..=ONE_LOOP => 2,
-        _ => 1,
+    if rows > ONE_LOOP {
+        1
+    } else if rows > TWO_LOOPS {
+        2
+    } else {
+        3
     }
 }

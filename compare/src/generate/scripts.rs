@@ -21,6 +21,16 @@ pub struct Wanted {
 }
 
 impl Wanted {
+    /// At all limits, with some upward steps and few names.
+    pub const AT_LIMITS: Wanted = Wanted {
+        records: SCRIPT_RECORDS,
+        depth: DEPTH,
+        binders: BINDERS,
+        unbound: 0,
+        upward: 10,
+        names: 3,
+    };
+
     /// Anything, often near or just past a limit.
     pub fn random(random: &mut Random) -> Wanted {
         let near = |random: &mut Random, limit: usize, low: usize| match random.below(4) {
@@ -232,20 +242,11 @@ mod tests {
     use crate::reference::refusal::Number;
     use crate::reference::script::read;
 
-    const AT_LIMITS: Wanted = Wanted {
-        records: SCRIPT_RECORDS,
-        depth: DEPTH,
-        binders: BINDERS,
-        unbound: 0,
-        upward: 10,
-        names: 3,
-    };
-
     #[test]
     fn scripts_at_the_limits_are_accepted() {
         let mut random = Random::new(1);
         for _ in 0..200 {
-            let script = read(&script(&mut random, AT_LIMITS)).expect("within the limits");
+            let script = read(&script(&mut random, Wanted::AT_LIMITS)).expect("within the limits");
             assert_eq!(script.records.len(), SCRIPT_RECORDS);
         }
     }
@@ -256,15 +257,15 @@ mod tests {
         let past = [
             Wanted {
                 records: SCRIPT_RECORDS + 1,
-                ..AT_LIMITS
+                ..Wanted::AT_LIMITS
             },
             Wanted {
                 depth: DEPTH + 1,
-                ..AT_LIMITS
+                ..Wanted::AT_LIMITS
             },
             Wanted {
                 binders: BINDERS + 1,
-                ..AT_LIMITS
+                ..Wanted::AT_LIMITS
             },
         ];
         for wanted in past {

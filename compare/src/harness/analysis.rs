@@ -1,6 +1,7 @@
 //! The path analysis: `yegnabit_analyse`.
 
 use compare::generate::damage::{self, Values};
+use compare::generate::document01::{CHILDREN_NAMED_2, DESCENDANT_LEAVES, SCRIPT_A, SCRIPT_B};
 use compare::generate::edges;
 use compare::generate::pairs::{self, Bodies};
 use compare::generate::random::Random;
@@ -13,7 +14,7 @@ use compare::reference::small_trees::{Seen, SmallTrees};
 
 use super::checker::{difference, Checker};
 use super::tally::Call;
-use super::{Difference, Volume};
+use super::{on_stack, Difference, Volume};
 use crate::ffi;
 
 const SEED: u64 = 0x61;
@@ -58,16 +59,23 @@ pub fn test(checker: &mut Checker, volume: Volume) -> Result<(), Difference> {
 /// Document 01's own pairs, with its answers.
 fn worked(checker: &mut Checker) -> Result<(), Difference> {
     use analysis::Answer::{Free, Meet, Upward};
-    let a: &[u8] = &[13, 1, 0, 4, 0, 2, 0, 4, 0, 3, 2, 2, 0];
-    let b: &[u8] = &[12, 9, 4, 4, 0, 3, 3, 2, 0];
-    let delete: &[u8] = &[11, 4, 0, 3, 2, 2, 0];
-    let leaves: &[u8] = &[4, 1, 2, 0, 2, 0];
-    let never_up: &[u8] = &[8, 1, 4, 2, 0, 0, 1, 1];
+    let (a, b): (&[u8], &[u8]) = (&SCRIPT_A, &SCRIPT_B);
+    let delete = [&[kind::DELETE][..], &CHILDREN_NAMED_2].concat();
+    let never_up: &[u8] = &[
+        kind::IF,
+        kind::EMPTY,
+        kind::STEP,
+        2,
+        0,
+        0,
+        kind::EMPTY,
+        kind::EMPTY,
+    ];
     for (first, second, answer) in [
         (a, b, Free),
         (b, b, Free),
-        (delete, a, Meet),
-        (delete, leaves, Meet),
+        (&delete, a, Meet),
+        (&delete, &DESCENDANT_LEAVES, Meet),
         (never_up, b, Upward),
     ] {
         for [one, two] in [[first, second], [second, first]] {
@@ -197,14 +205,7 @@ fn small_stack(checker: &mut Checker) -> Result<(), Difference> {
     for first in &scripts {
         for second in &scripts {
             let usual = checker.analyse(first, second)?;
-            let small = std::thread::scope(|scope| {
-                std::thread::Builder::new()
-                    .stack_size(STACK)
-                    .spawn_scoped(scope, || ffi::analyse(first, second))
-                    .expect("a thread starts")
-                    .join()
-                    .expect("an analysis does not panic")
-            });
+            let small = on_stack(STACK, || ffi::analyse(first, second));
             if small != usual {
                 let message = "another answer on a small stack";
                 return Err(difference(Call::Analyse, &[first, second], message));

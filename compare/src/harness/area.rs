@@ -1,10 +1,29 @@
 //! Areas to lend, between guards and filled with a pattern, so that each byte
 //! that a call touches is seen.
 
+use compare::reference::limits::PLAN_BYTES;
+
 use super::Difference;
 
 /// Numbers before and after a lent area that nobody may touch.
 const GUARD: usize = 16;
+
+/// Awkward lengths of the area that a plan of a stored length is written to.
+pub fn out_lengths(stored: usize) -> impl Iterator<Item = usize> {
+    let around = |length: usize| {
+        [
+            length / 2,
+            length.saturating_sub(4),
+            length.saturating_sub(1),
+            length,
+            length + 1,
+            length + 4,
+        ]
+    };
+    let others = [0, 1, 3, 4, 5, 2 * PLAN_BYTES];
+    let needed = around(stored).into_iter().chain(around(PLAN_BYTES));
+    needed.chain(others)
+}
 
 /// A twin area: one half for the library and one for the reference.
 pub struct Twin<T> {

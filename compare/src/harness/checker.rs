@@ -79,13 +79,28 @@ impl Checker {
             Call::Plan => (ffi::plan, interface::plan),
             _ => (ffi::sweep, interface::sweep),
         };
-        let pattern = pattern(&self.pattern, &mut self.salt, out_length);
-        let (answers, areas) = self.out.lend(pattern, GUARD_BYTE, |ours, theirs| {
+        let told = |message: &str| difference(call, &[plan], message);
+        self.written(call, out_length, told, |ours, theirs| {
             (library(plan, ours), reference(plan, theirs))
-        });
+        })
+    }
+
+    /// Compares a call that writes a plan to an area of this length. `told`
+    /// makes a message of a difference.
+    fn written(
+        &mut self,
+        call: Call,
+        out_length: usize,
+        told: impl FnOnce(&str) -> Difference,
+        both: impl FnOnce(&mut [u8], &mut [u8]) -> (Answer, Answer),
+    ) -> Result<Answer, Difference> {
+        // Another part of the pattern for each call.
+        self.salt = (self.salt + 1) % 251;
+        let content = self.pattern[self.salt..self.salt + out_length].iter();
+        let (answers, areas) = self.out.lend(content.copied(), GUARD_BYTE, both);
         compare(answers)
             .and(areas)
-            .map_err(|message| difference(call, &[plan], &message))?;
+            .map_err(|message| told(&message))?;
         self.tally.count(call, answers.1);
         Ok(answers.1)
     }
@@ -110,19 +125,13 @@ impl Checker {
         history: &[u8],
         out_length: usize,
     ) -> Result<Answer, Difference> {
-        let call = Call::Undo;
-        let pattern = pattern(&self.pattern, &mut self.salt, out_length);
-        let (answers, areas) = self.out.lend(pattern, GUARD_BYTE, |ours, theirs| {
+        let told = |message: &str| difference(Call::Undo, &[plan, history], message);
+        self.written(Call::Undo, out_length, told, |ours, theirs| {
             (
                 ffi::undo(plan, history, ours),
                 interface::undo(plan, history, theirs),
             )
-        });
-        compare(answers)
-            .and(areas)
-            .map_err(|message| difference(call, &[plan, history], &message))?;
-        self.tally.count(call, answers.1);
-        Ok(answers.1)
+        })
     }
 
     /// Compares `yegnabit_undo` of a history on the plan that it left: the
@@ -162,25 +171,19 @@ impl Checker {
 
     /// Compares `yegnabit_write_table` in an area of any length.
     pub fn write_table(&mut self, raw: &RawTable, out_length: usize) -> Result<(), Difference> {
-        let call = Call::WriteTable;
-        let pattern = pattern(&self.pattern, &mut self.salt, out_length);
-        let (answers, areas) = self.out.lend(pattern, GUARD_BYTE, |ours, theirs| {
+        let told = |message: &str| told_table(Call::WriteTable, raw, message);
+        let answer = self.written(Call::WriteTable, out_length, told, |ours, theirs| {
             (
                 ffi::write_table(raw.count, &raw.rows, &raw.marks, ours),
                 interface::write_table(raw.count, &raw.rows, &raw.marks, theirs),
             )
-        });
-        compare(answers)
-            .and(areas)
-            .map_err(|message| told_table(call, raw, &message))?;
-        self.tally.count(call, answers.1);
-        if answers.1.number() == 0 {
+        })?;
+        if answer.number() == 0 {
             // The reader must accept what the writer wrote.
-            let written = self.out.library()[..answers.1.place() as usize].to_vec();
+            let written = self.out.library()[..answer.place() as usize].to_vec();
             let read = self.stored(Call::Plan, &written, PLAN_BYTES)?;
             if read.number() != 0 {
-                let message = "law broken: the reader refuses what was written";
-                return Err(told_table(call, raw, message));
+                return Err(told("law broken: the reader refuses what was written"));
             }
         }
         Ok(())
@@ -223,16 +226,6 @@ impl Checker {
             marks: self.marks.library().to_vec(),
         }))
     }
-}
-
-/// A part of the pattern, another one for each call.
-fn pattern<'a>(
-    bytes: &'a [u8],
-    salt: &mut usize,
-    length: usize,
-) -> std::iter::Copied<std::slice::Iter<'a, u8>> {
-    *salt = (*salt + 1) % 251;
-    bytes[*salt..*salt + length].iter().copied()
 }
 
 pub fn compare((library, reference): (Answer, Answer)) -> Result<(), Difference> {

@@ -44,6 +44,19 @@ impl Volume {
     }
 }
 
+/// Calls `work` on a thread with a stack of this many bytes. What needs more
+/// ends the program.
+fn on_stack<T: Send>(bytes: usize, work: impl FnOnce() -> T + Send) -> T {
+    std::thread::scope(|scope| {
+        std::thread::Builder::new()
+            .stack_size(bytes)
+            .spawn_scoped(scope, work)
+            .expect("a thread starts")
+            .join()
+            .expect("the library does not panic")
+    })
+}
+
 /// Runs all comparisons and answers a summary, or the first difference.
 pub fn test() -> Result<String, Difference> {
     let volume = Volume::from_environment()?;

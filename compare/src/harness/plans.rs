@@ -3,17 +3,14 @@
 use compare::generate::damage::{self, Values};
 use compare::generate::random::Random;
 use compare::generate::{edges, plans};
-use compare::reference::limits::{PLAN_BYTES, ROWS};
+use compare::reference::limits::ROWS;
 use compare::reference::plan::to_vec;
 
+use super::area::out_lengths;
 use super::checker::Checker;
 use super::{Difference, Volume};
 
 const SEED: u64 = 0x11;
-/// Plans up to this length are damaged with all values of each byte.
-const SMALL: usize = 48;
-/// Plans up to this length are damaged with many values of each byte.
-const MIDDLE: usize = 200;
 /// Random bytes without any plan are at most this long.
 const NOISE: usize = 64;
 
@@ -48,44 +45,19 @@ pub fn test(checker: &mut Checker, volume: Volume) -> Result<(), Difference> {
     for _ in 0..volume.of(20) {
         let plan = to_vec(&plans::any_table(&mut random));
         let broken = damage::several(&plan, &mut random);
-        for length in out_lengths() {
+        for length in out_lengths(plan.len()) {
             checker.plan_in(&plan, length)?;
             checker.plan_in(&broken, length)?;
         }
     }
     let full = to_vec(&plans::full_table(&mut random));
-    out_lengths().try_for_each(|length| checker.plan_in(&full, length))
+    out_lengths(full.len()).try_for_each(|length| checker.plan_in(&full, length))
 }
 
 /// A plan with each byte changed, cut at each length, and with bytes appended.
 fn damaged(checker: &mut Checker, random: &mut Random, plan: &[u8]) -> Result<(), Difference> {
-    let values = if plan.len() <= SMALL {
-        Values::All
-    } else if plan.len() <= MIDDLE {
-        Values::Likely
-    } else {
-        Values::Few
-    };
+    let values = Values::for_length(plan.len());
     damage::each_byte(plan, values, random, |damaged| checker.plan(damaged))?;
     damage::each_cut(plan, |cut| checker.plan(cut))?;
     (0..8).try_for_each(|_| checker.plan(&damage::appended(plan, random)))
-}
-
-/// Awkward lengths of the area to write to.
-fn out_lengths() -> impl Iterator<Item = usize> {
-    [
-        0,
-        1,
-        3,
-        4,
-        5,
-        PLAN_BYTES / 2,
-        PLAN_BYTES - 4,
-        PLAN_BYTES - 1,
-        PLAN_BYTES,
-        PLAN_BYTES + 1,
-        PLAN_BYTES + 100,
-        2 * PLAN_BYTES,
-    ]
-    .into_iter()
 }

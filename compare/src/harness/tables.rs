@@ -7,6 +7,7 @@ use compare::reference::limits::{DOCUMENTS, PLAN_BYTES, ROWS};
 use compare::reference::plan::stored_length;
 use compare::reference::table::Table;
 
+use super::area::out_lengths;
 use super::checker::Checker;
 use super::{Difference, Volume};
 
@@ -133,22 +134,8 @@ fn areas(checker: &mut Checker, table: &Table) -> Result<(), Difference> {
     let mut bad_mark = raw.clone();
     bad_mark.marks[DOCUMENTS - 1] = u16::MAX;
     let stored = stored_length(table);
-    let out_lengths = [
-        0,
-        1,
-        stored / 2,
-        stored.saturating_sub(4),
-        stored.saturating_sub(1),
-        stored,
-        stored + 1,
-        stored + 4,
-        PLAN_BYTES - 1,
-        PLAN_BYTES,
-        PLAN_BYTES + 1,
-        2 * PLAN_BYTES,
-    ];
     for raw in [&raw, &too_many, &bad_mark] {
-        for out_length in out_lengths {
+        for out_length in out_lengths(stored) {
             checker.write_table(raw, out_length)?;
         }
         for rows in [0, 1, table.rows.len(), ROWS - 1, ROWS, ROWS + 1, 2 * ROWS] {
@@ -169,7 +156,7 @@ fn areas(checker: &mut Checker, table: &Table) -> Result<(), Difference> {
 /// A few words, marks and the count changed at once, mostly near the rows.
 fn several_changes(raw: &RawTable, random: &mut Random) -> RawTable {
     let mut changed = raw.clone();
-    let near = (raw.count as usize + 2).min(ROWS);
+    let near = (raw.count + 2).min(ROWS);
     for _ in 0..random.between(1, 3) {
         match random.below(6) {
             0 => {

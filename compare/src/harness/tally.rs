@@ -75,6 +75,11 @@ impl Call {
     }
 }
 
+/// The share of a count in a total.
+pub fn percent(count: u64, total: u64) -> f64 {
+    100.0 * count as f64 / total as f64
+}
+
 #[derive(Default)]
 pub struct Tally {
     counts: [[[u64; NUMBERS]; WHICHES]; CALLS],
@@ -113,8 +118,7 @@ impl Tally {
         if total == 0 {
             return Vec::new();
         }
-        let percent = |count: u64| 100.0 * count as f64 / total as f64;
-        counts.map(percent).to_vec()
+        counts.map(|count| percent(count, total)).to_vec()
     }
 
     /// A line for a call: inputs, and the share of each number.
@@ -127,7 +131,7 @@ impl Tally {
             if count == 0 {
                 continue;
             }
-            let percent = 100.0 * count as f64 / total as f64;
+            let percent = percent(count, total);
             let label = match number {
                 0 => "accepted".to_string(),
                 _ => format!("refusal {number}"),

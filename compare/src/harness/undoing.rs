@@ -7,19 +7,18 @@ use compare::generate::random::Random;
 use compare::reference::history::{
     Record, CUT_BYTES, ELEMENT_MADE, LEAF_MADE, LINK_CUT, MADE_BYTES,
 };
-use compare::reference::limits::{DOCUMENTS, HISTORY_RECORDS, NO_PARENT, PLAN_BYTES, ROWS};
+use compare::reference::limits::{DOCUMENTS, HISTORY_RECORDS, NO_PARENT, ROWS};
 use compare::reference::plan::to_vec;
 use compare::reference::run::OwnedAreas;
 use compare::reference::table::{Row, Table};
 
+use super::area::out_lengths;
 use super::checker::Checker;
 use super::{Difference, Volume};
 
 const SEED: u64 = 0x41;
-/// Histories up to this length are damaged with all values of each byte.
-const SMALL: usize = 40;
-/// Histories up to this length are damaged with many values of each byte.
-const MIDDLE: usize = 200;
+/// Plans up to this length are damaged byte by byte.
+const SMALL_PLAN: usize = 200;
 /// Histories of random bytes are at most this long.
 const NOISE: usize = 40;
 
@@ -29,17 +28,11 @@ pub fn test(checker: &mut Checker, volume: Volume) -> Result<(), Difference> {
     limits(checker)?;
     let mut areas = OwnedAreas::default();
     for round in 0..volume.of(6000) {
-        let recorded = match round % 2 {
-            0 => of_run(&mut random, &mut areas),
-            _ => of_changes(&mut random),
-        };
+        let recorded = recorded(&mut random, &mut areas, round);
         fits(checker, &mut random, &recorded)?;
     }
     for round in 0..volume.of(300) {
-        let recorded = match round % 2 {
-            0 => of_run(&mut random, &mut areas),
-            _ => of_changes(&mut random),
-        };
+        let recorded = recorded(&mut random, &mut areas, round);
         damaged(checker, &mut random, &recorded)?;
     }
     for _ in 0..volume.of(3) {
@@ -55,6 +48,14 @@ pub fn test(checker: &mut Checker, volume: Volume) -> Result<(), Difference> {
         checker.undo(&plan, &noise(&mut random))?;
     }
     Ok(())
+}
+
+/// A history of a run or of changes, in turn.
+fn recorded(random: &mut Random, areas: &mut OwnedAreas, round: usize) -> Recorded {
+    match round % 2 {
+        0 => of_run(random, areas),
+        _ => of_changes(random),
+    }
 }
 
 /// A history on the plan it left, and then each time with one thing wrong.
@@ -167,19 +168,17 @@ fn damaged(
     recorded: &Recorded,
 ) -> Result<(), Difference> {
     let after = to_vec(&recorded.after);
-    let values = |length: usize| match length {
-        0..=SMALL => Values::All,
-        0..=MIDDLE => Values::Likely,
-        _ => Values::Few,
-    };
     let history = &recorded.history;
     let mut check = |plan: &[u8], history: &[u8]| checker.undo(plan, history).map(|_| ());
-    damage::each_byte(history, values(history.len()), random, |damaged| {
-        check(&after, damaged)
-    })?;
+    damage::each_byte(
+        history,
+        Values::for_length(history.len()),
+        random,
+        |damaged| check(&after, damaged),
+    )?;
     damage::each_cut(history, |cut| check(&after, cut))?;
     (0..8).try_for_each(|_| check(&after, &damage::appended(history, random)))?;
-    if after.len() <= MIDDLE {
+    if after.len() <= SMALL_PLAN {
         damage::each_byte(&after, Values::Few, random, |plan| check(plan, history))?;
         damage::each_cut(&after, |plan| check(plan, history))?;
     }
@@ -198,18 +197,7 @@ fn lengths(
     let broken = damage::several(&after, random);
     let misfit = damage::several(&recorded.history, random);
     let stored = to_vec(&recorded.before).len();
-    for length in [
-        0,
-        1,
-        stored.saturating_sub(1),
-        stored,
-        stored + 1,
-        PLAN_BYTES - 4,
-        PLAN_BYTES - 1,
-        PLAN_BYTES,
-        PLAN_BYTES + 1,
-        2 * PLAN_BYTES,
-    ] {
+    for length in out_lengths(stored) {
         checker.undo_in(&after, &recorded.history, length)?;
         checker.undo_in(&after, &misfit, length)?;
         checker.undo_in(&broken, &recorded.history, length)?;

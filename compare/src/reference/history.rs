@@ -91,6 +91,12 @@ pub fn read(bytes: &[u8]) -> Result<Vec<(usize, Record)>, Refusal> {
     Ok(records)
 }
 
+/// The records of a history without their places.
+pub fn records(bytes: &[u8]) -> Result<Vec<Record>, Refusal> {
+    let records = read(bytes)?;
+    Ok(records.into_iter().map(|(_, record)| record).collect())
+}
+
 /// Replays a history on the table that it started from. It must be one that a
 /// run on that table wrote.
 pub fn replay(table: &mut Table, records: &[(usize, Record)]) {

@@ -47,11 +47,8 @@ pub fn run_order(
         let ran =
             run(&mut order.table, script, areas.lend()).map_err(|refusal| (which, refusal))?;
         part.answer = areas.answer[..ran.items].to_vec();
-        part.history = history::read(&areas.history[..ran.history_length])
-            .expect("a run writes records of the right form")
-            .into_iter()
-            .map(|(_, record)| record)
-            .collect();
+        part.history = history::records(&areas.history[..ran.history_length])
+            .expect("a run writes records of the right form");
         part.rows_made = ran.tally.rows_made;
     }
     Ok(order)

@@ -10,28 +10,29 @@ pub const MARK: u8 = 0x13;
 
 /// Reads a stored plan. The checks of a record come in the order 1, 5, 2, 4, 6.
 pub fn read(bytes: &[u8]) -> Result<Table, Refusal> {
-    let (records, cut_off) = bytes.as_chunks::<PLAN_RECORD_BYTES>();
     let mut table = Table {
-        rows: Vec::with_capacity(records.len().min(ROWS)),
+        rows: Vec::with_capacity((bytes.len() / PLAN_RECORD_BYTES).min(ROWS)),
         ..Table::default()
     };
     // Marks come with rising document, after all rows.
     let mut least_document = 0;
-    for (index, record) in records.iter().enumerate() {
+    let mut rest = bytes;
+    while let Some((record, after)) = rest.split_first_chunk() {
         let checked = match record[0] {
             ELEMENT | LEAF => read_row(record, &mut table, least_document),
             MARK => read_mark(record, &mut table, &mut least_document),
             _ => Err(Number::Kind),
         };
-        checked.map_err(|number| number.at(PLAN_RECORD_BYTES * index))?;
+        checked.map_err(|number| number.at(bytes.len() - rest.len()))?;
+        rest = after;
     }
-    if let Some(kind) = cut_off.first() {
+    if let Some(kind) = rest.first() {
         let number = match *kind {
             ELEMENT | LEAF if table.rows.len() == ROWS => Number::Size,
             ELEMENT | LEAF | MARK => Number::Short,
             _ => Number::Kind,
         };
-        return Err(number.at(PLAN_RECORD_BYTES * records.len()));
+        return Err(number.at(bytes.len() - rest.len()));
     }
     Ok(table)
 }

@@ -8,12 +8,12 @@
 //! some plan has a row on a path of both, those they start from first.
 //! Constructors are left out, since the two scripts never share their places.
 
-use super::analysis::Answer;
+use super::analysis::{answer_by, read_both, Answer};
 use super::limits::BINDERS;
 use super::meeting::compatible;
 use super::path::{Which, DESCENDANT_ANY_NODE};
 use super::refusal::Refusal;
-use super::script::{self, Axis, Operation, Script, Test};
+use super::script::{Axis, Operation, Script, Test};
 
 /// A set of positions of one script, one bit for each. There are fewer than
 /// 128: only an insert has two, and it has two operands.
@@ -33,23 +33,17 @@ struct Positions<'a> {
     traversed: Set,
 }
 
-/// Reads the first script, then the second, and analyses them.
+/// Reads two scripts and analyses them.
 pub fn analyse(first: &[u8], second: &[u8]) -> Result<Answer, (Which, Refusal)> {
-    let first = script::read(first).map_err(|refusal| (Which::First, refusal))?;
-    let second = script::read(second).map_err(|refusal| (Which::Second, refusal))?;
+    let (first, second) = read_both(first, second)?;
     Ok(analyse_read(&first, &second))
 }
 
 /// Analyses two scripts that were read.
 pub fn analyse_read(first: &Script, second: &Script) -> Answer {
-    if first.has_upward_step() || second.has_upward_step() {
-        return Answer::Upward;
-    }
-    if meet(&Positions::of(first), &Positions::of(second)) {
-        Answer::Meet
-    } else {
-        Answer::Free
-    }
+    let meet =
+        |first: &Script, second: &Script| meet(&Positions::of(first), &Positions::of(second));
+    answer_by(meet, first, second)
 }
 
 impl Positions<'_> {

@@ -51,6 +51,11 @@ impl Row {
         self.kind == Kind::Element
     }
 
+    /// An element without parent, as documents mark.
+    pub fn is_root(self) -> bool {
+        self.is_element() && self.parent().is_none()
+    }
+
     /// The signed value, for a leaf.
     pub const fn value(self) -> i8 {
         self.tag as i8
@@ -77,14 +82,12 @@ impl Table {
 
     /// May the row that comes next have this parent?
     pub fn takes_parent(&self, parent: Option<u16>) -> bool {
-        parent.is_none_or(|number| self.row(number).is_some_and(Row::is_element))
+        parent.map_or(true, |number| self.row(number).is_some_and(Row::is_element))
     }
 
     /// May a document mark this row, the marks set so far being given?
     pub fn takes_mark(&self, number: u16) -> bool {
-        self.row(number)
-            .is_some_and(|row| row.is_element() && row.parent().is_none())
-            && !self.is_marked(number)
+        self.row(number).is_some_and(Row::is_root) && !self.is_marked(number)
     }
 
     pub fn is_well_formed(&self) -> bool {
@@ -94,20 +97,17 @@ impl Table {
     fn rows_are_well_formed(&self) -> bool {
         self.rows.iter().enumerate().all(|(number, row)| {
             let named = row.kind == Kind::Leaf || row.tag != 0;
-            let linked = row
-                .parent()
-                .map(usize::from)
-                .is_none_or(|parent| parent < number && self.rows[parent].is_element());
+            let linked = row.parent().map(usize::from).map_or(true, |parent| {
+                parent < number && self.rows[parent].is_element()
+            });
             named && linked
         })
     }
 
     fn marks_are_well_formed(&self) -> bool {
         self.marks.iter().enumerate().all(|(document, mark)| {
-            mark.is_none_or(|number| {
-                let root = self
-                    .row(number)
-                    .is_some_and(|row| row.is_element() && row.parent().is_none());
+            mark.map_or(true, |number| {
+                let root = self.row(number).is_some_and(Row::is_root);
                 root && !self.marks[..document].contains(&Some(number))
             })
         })

@@ -32,11 +32,11 @@ pub fn take_back(table: &mut Table, record: Record) -> bool {
             fits
         }
         Record::Cut { number, old } => {
-            let is_root = table.row(number).is_some_and(|row| row.parent().is_none());
+            let is_cut = table.row(number).is_some_and(|row| row.parent().is_none());
             let old_is_lower_element = old.is_some_and(|old| {
                 old < number && table.row(old).is_some_and(|row| row.is_element())
             });
-            let fits = is_root && !table.is_marked(number) && old_is_lower_element;
+            let fits = is_cut && !table.is_marked(number) && old_is_lower_element;
             if fits {
                 let row = &mut table.rows[usize::from(number)];
                 *row = row.with_parent(old);

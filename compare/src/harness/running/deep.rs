@@ -4,14 +4,14 @@ use compare::generate::plans::star;
 use compare::generate::random::Random;
 use compare::generate::scripts::{script, Wanted};
 use compare::interface::{self, Answer, Areas};
-use compare::reference::limits::{BINDERS, DEPTH, ROWS, SCRIPT_RECORDS};
+use compare::reference::limits::{BINDERS, DEPTH, ROWS};
 use compare::reference::plan::to_vec;
 use compare::reference::script::{kind, read};
 
 use crate::ffi;
 use crate::harness::checker::{compare, difference};
 use crate::harness::tally::Call;
-use crate::harness::{Difference, Volume};
+use crate::harness::{on_stack, Difference, Volume};
 
 /// A run needs no more stack than this, in bytes.
 const STACK: usize = 256 * 1024;
@@ -37,16 +37,16 @@ pub fn test(random: &mut Random, volume: Volume) -> Result<(), Difference> {
     let mut cases: Vec<(&[u8], Vec<u8>)> = deepest().map(|script| (&wide[..], script)).collect();
     for _ in 0..volume.of(300) {
         let wanted = Wanted {
-            records: SCRIPT_RECORDS,
-            depth: DEPTH,
-            binders: BINDERS,
-            unbound: 0,
-            upward: 10,
             names: 1,
+            ..Wanted::AT_LIMITS
         };
         cases.push((&few, script(random, wanted)));
     }
-    let ran = on_small_stack(&cases)?;
+    let run_one = |(plan, script): &(&[u8], Vec<u8>)| {
+        let mut areas = Areas::holding(7);
+        (ffi::run(plan, script, areas.lend()), areas)
+    };
+    let ran: Vec<(Answer, Areas)> = on_stack(STACK, || cases.iter().map(run_one).collect());
     for ((plan, script), (answer, areas)) in cases.iter().zip(ran) {
         let mut expected = Areas::holding(7);
         let reference = interface::run(plan, script, expected.lend());
@@ -60,32 +60,12 @@ pub fn test(random: &mut Random, volume: Volume) -> Result<(), Difference> {
     Ok(())
 }
 
-/// Runs the library on a thread with a small stack. A run that needs more
-/// ends the whole test.
-fn on_small_stack(cases: &[(&[u8], Vec<u8>)]) -> Result<Vec<(Answer, Areas)>, Difference> {
-    std::thread::scope(|scope| {
-        let thread = std::thread::Builder::new().stack_size(STACK);
-        let run_all = move || {
-            let run_one = |(plan, script): &(&[u8], Vec<u8>)| {
-                let mut areas = Areas::holding(7);
-                (ffi::run(plan, script, areas.lend()), areas)
-            };
-            cases.iter().map(run_one).collect()
-        };
-        let handle = thread
-            .spawn_scoped(scope, run_all)
-            .map_err(|error| format!("no thread: {error}"))?;
-        handle
-            .join()
-            .map_err(|_| "a run failed on a small stack".to_string())
-    })
-}
-
 /// Eight binders, and below them records of one kind down to depth 16. Where
 /// all loops are full, the innermost insert is refused at the first item;
 /// where one is, the run ends.
 fn deepest() -> impl Iterator<Item = Vec<u8>> {
     let refused: &[u8] = &[kind::INSERT, kind::EMPTY, kind::EMPTY];
+    let ends: &[u8] = &[kind::JOIN, kind::EMPTY, kind::EMPTY];
     let levels = DEPTH - BINDERS - 2;
     let chains: Vec<(Vec<u8>, Vec<u8>)> = [
         // What stands before the next level, and what after it.
@@ -116,14 +96,13 @@ fn deepest() -> impl Iterator<Item = Vec<u8>> {
             for one in 0..BINDERS {
                 let mut firsts: [&[u8]; BINDERS] = [&ONE; BINDERS];
                 firsts[one] = &ALL;
-                let ends: &[u8] = &[kind::JOIN, kind::EMPTY, kind::EMPTY];
                 scripts.push(nest(&firsts, ends));
             }
             // Two full loops, where a turn costs little.
             if before[0] == kind::DELETE {
                 let mut firsts: [&[u8]; BINDERS] = [&ONE; BINDERS];
                 (firsts[0], firsts[BINDERS - 1]) = (&ALL, &ALL);
-                scripts.push(nest(&firsts, &[kind::JOIN, kind::EMPTY, kind::EMPTY]));
+                scripts.push(nest(&firsts, ends));
             }
         }
     }

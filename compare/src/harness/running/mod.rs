@@ -8,6 +8,7 @@ mod worked;
 
 use compare::generate::damage::{self, Values};
 use compare::generate::document01::PLAN_P;
+use compare::generate::edges;
 use compare::generate::random::Random;
 use compare::generate::runs::{case, plan, Case};
 use compare::reference::limits::ROWS;
@@ -66,8 +67,7 @@ fn refused(runs: &mut Runs<'_>, random: &mut Random) -> Result<(), Difference> {
     runs.run(&plan, &damage::appended(&script, random))?;
     runs.run(&script, &plan)?;
     if random.chance(5) {
-        let too_many = [0x11, 1, 0xFF, 0xFF].repeat(ROWS + 1);
-        runs.run(&too_many, &script)?;
+        runs.run(&edges::roots(ROWS + 1), &script)?;
     }
     if runs.run(&plan, &script)?.number() == 0 {
         let left = runs.left();
@@ -155,20 +155,15 @@ fn small_scripts(runs: &mut Runs<'_>) -> Result<(), Difference> {
     let mut random = Random::new(SEED);
     let other = to_vec(&plan(&mut random));
     let alphabet = alphabet();
-    for count in 1..=ALL_RECORDS {
-        for mut code in 0..alphabet.len().pow(count as u32) {
-            let mut script = Vec::new();
-            for _ in 0..count {
-                script.extend(&alphabet[code % alphabet.len()]);
-                code /= alphabet.len();
-            }
-            runs.run(&PLAN_P, &script)?;
+    (1..=ALL_RECORDS).try_for_each(|count| {
+        edges::sequences(&alphabet, count, |script| {
+            runs.run(&PLAN_P, script)?;
             if random.chance(10) {
-                runs.run(&other, &script)?;
+                runs.run(&other, script)?;
             }
-        }
-    }
-    Ok(())
+            Ok(())
+        })
+    })
 }
 
 /// Records of each kind, with some of their bodies.

@@ -5,18 +5,18 @@ use compare::generate::coherent::coherent;
 use compare::generate::pairs;
 use compare::generate::plans::{self, Shape};
 use compare::generate::random::Random;
+use compare::generate::runs::loops;
 use compare::interface::Answer;
 use compare::reference::analysis;
 use compare::reference::history;
 use compare::reference::limits::ROWS;
 use compare::reference::orders::{orders_are_equal, Order, Part};
 use compare::reference::plan::{read, to_vec};
-use compare::reference::script::{self, Operation};
 use compare::reference::table::Table;
 
 use super::check::{Left, Runs};
 use crate::harness::checker::difference;
-use crate::harness::tally::Call;
+use crate::harness::tally::{percent, Call};
 use crate::harness::{Difference, Volume};
 
 /// Of the free pairs in which both scripts change the plan, and of those that
@@ -47,14 +47,14 @@ pub fn test(
             both_orders(runs, &plan, &first, &second, &mut counts)?;
         }
     }
-    let percent = |count: u64| 100.0 * count as f64 / counts.free as f64;
-    let (changed, refused) = (percent(counts.both_changed), percent(counts.refused));
+    let free = counts.free;
+    let [changed, refused] =
+        [counts.both_changed, counts.refused].map(|count| percent(count, free));
     if changed < LEAST_PERCENT || refused < LEAST_PERCENT {
         return Err(format!(
             "free pairs: changed {changed:.1}%, refused {refused:.1}%"
         ));
     }
-    let free = counts.free;
     Ok(format!(
         "of {free} free pairs in both orders, both changed: {changed:.1}%, refused: {refused:.1}%\n"
     ))
@@ -91,15 +91,6 @@ fn pair(random: &mut Random, rows: usize) -> [Vec<u8>; 2] {
             return scripts;
         }
     }
-}
-
-fn loops(bytes: &[u8]) -> usize {
-    script::read(bytes).map_or(0, |script| {
-        let records = script.records.iter();
-        records
-            .filter(|record| record.operation == Operation::For)
-            .count()
-    })
 }
 
 /// Runs a free pair in both orders: one is refused exactly if the other is,
@@ -158,10 +149,10 @@ fn order(
 /// second script, and the plan at the end.
 fn ended(first: &Left, second: &Left, plan: &[u8]) -> Result<Order, Difference> {
     let part = |left: &Left| {
-        let records = history::read(&left.history).map_err(|_| "a history is ill formed")?;
+        let records = history::records(&left.history).map_err(|_| "a history is ill formed")?;
         Ok::<_, Difference>(Part {
             answer: left.answer.clone(),
-            history: records.into_iter().map(|(_, record)| record).collect(),
+            history: records,
             rows_made: left.rows_made,
         })
     };

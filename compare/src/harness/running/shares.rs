@@ -4,6 +4,7 @@ use compare::interface::Answer;
 use compare::reference::script::read;
 use std::fmt::Write;
 
+use crate::harness::tally::percent;
 use crate::harness::Difference;
 
 const KINDS: usize = 13;
@@ -46,31 +47,35 @@ impl Shares {
         self.cut += u64::from(done[2] > 0);
     }
 
-    fn percent(&self, count: u64) -> f64 {
-        100.0 * count as f64 / self.runs as f64
+    /// The share of the runs with each end, and of those that answer or change something.
+    fn of_runs(&self) -> impl Iterator<Item = (&'static str, f64)> {
+        let ends = ENDS.map(|(word, _)| word).into_iter().zip(self.ends);
+        let others = [
+            ("answered", self.answered),
+            ("made", self.made),
+            ("cut", self.cut),
+        ];
+        let runs = self.runs;
+        ends.chain(others)
+            .map(move |(word, count)| (word, percent(count, runs)))
+    }
+
+    /// The share of the scripts that hold each kind of record.
+    fn of_kinds(&self) -> impl Iterator<Item = (usize, f64)> {
+        let runs = self.runs;
+        (1..).zip(self.kinds.map(|count| percent(count, runs)))
     }
 
     /// Refuses a test in which some kind, end or change is rare.
     pub fn require(&self) -> Result<(), Difference> {
-        for (kind, &count) in (1..).zip(&self.kinds) {
-            let percent = self.percent(count);
+        for (kind, percent) in self.of_kinds() {
             if percent < LEAST_OF_A_KIND {
                 return Err(format!(
                     "only {percent:.2}% of the scripts hold kind {kind}"
                 ));
             }
         }
-        let ends = ENDS
-            .iter()
-            .zip(self.ends)
-            .map(|((word, _), count)| (*word, count));
-        let others = [
-            ("answered", self.answered),
-            ("made", self.made),
-            ("cut", self.cut),
-        ];
-        for (word, count) in ends.chain(others) {
-            let percent = self.percent(count);
+        for (word, percent) in self.of_runs() {
             if percent < LEAST_OF_AN_END {
                 return Err(format!("only {percent:.2}% of the runs are '{word}'"));
             }
@@ -81,19 +86,12 @@ impl Shares {
     /// Two lines for the summary.
     pub fn lines(&self) -> String {
         let mut lines = format!("of {} runs that began", self.runs);
-        for ((word, _), count) in ENDS.iter().zip(self.ends) {
-            write!(lines, ", {word}: {:.1}%", self.percent(count)).expect("a string takes all");
-        }
-        for (word, count) in [
-            ("answered", self.answered),
-            ("made", self.made),
-            ("cut", self.cut),
-        ] {
-            write!(lines, ", {word}: {:.1}%", self.percent(count)).expect("a string takes all");
+        for (word, percent) in self.of_runs() {
+            write!(lines, ", {word}: {percent:.1}%").expect("a string takes all");
         }
         lines.push_str("\nscripts run that hold a kind:");
-        for (kind, &count) in (1..).zip(&self.kinds) {
-            write!(lines, " {kind:02X}: {:.0}%", self.percent(count)).expect("a string takes all");
+        for (kind, percent) in self.of_kinds() {
+            write!(lines, " {kind:02X}: {percent:.0}%").expect("a string takes all");
         }
         lines.push('\n');
         lines

@@ -1,11 +1,14 @@
 //! Document 01's own cases on plan P, and those at its limits, with what it
 //! says of each.
 
-use compare::generate::document01::{PLAN_P, SCRIPT_A, SCRIPT_B};
+use compare::generate::document01::{
+    CHILDREN_NAMED_2, CHILDREN_NAMED_3, PLAN_P, SCRIPT_A, SCRIPT_B,
+};
+use compare::generate::edges::joins;
 use compare::generate::plans::star;
 use compare::generate::random::Random;
 use compare::generate::scripts::{script, Wanted};
-use compare::interface::Answer;
+use compare::interface::{Answer, WHICH_SCRIPT};
 use compare::reference::limits::{BINDERS, DEPTH, ITEMS, ROWS, SCRIPT_RECORDS};
 use compare::reference::plan::to_vec;
 use compare::reference::refusal::Number;
@@ -15,8 +18,6 @@ use super::check::Runs;
 use crate::harness::checker::difference;
 use crate::harness::tally::Call;
 use crate::harness::Difference;
-
-const WHICH_SCRIPT: u64 = 2;
 
 pub fn test(runs: &mut Runs<'_>) -> Result<(), Difference> {
     on_plan_p(runs)?;
@@ -77,8 +78,7 @@ fn refuses(
 
 fn on_plan_p(runs: &mut Runs<'_>) -> Result<(), Difference> {
     let p = &PLAN_P;
-    let named_2: &[u8] = &[0x04, 0x00, 0x03, 0x02, 0x02, 0x00];
-    let named_3: &[u8] = &[0x04, 0x00, 0x03, 0x03, 0x02, 0x00];
+    let (named_2, named_3): (&[u8], &[u8]) = (&CHILDREN_NAMED_2, &CHILDREN_NAMED_3);
     let leaves_under: &[u8] = &[0x04, 0x00, 0x02, 0x00];
     let twin = [&[0x0D, 0x02, 0x00][..], leaves_under, named_2].concat();
     gives(runs, p, &SCRIPT_A, &[2], &[])?;
@@ -192,38 +192,20 @@ fn long_values(runs: &mut Runs<'_>) -> Result<(), Difference> {
 
 /// 64 records pass, 65 are 5; depth 16 passes, 17 is 5; so for eight binders.
 fn limits_of_scripts(runs: &mut Runs<'_>) -> Result<(), Difference> {
-    let joins = |records: usize| {
-        let joined = records / 2;
-        [vec![kind::JOIN; joined], vec![kind::EMPTY; joined + 1]].concat()
-    };
-    // Nested on the left, joins would be too deep.
-    let halves = |count: usize| [&[kind::JOIN][..], &flat(count), &flat(count)].concat();
-    assert_eq!(halves(16).len(), SCRIPT_RECORDS - 1);
+    let most = joins(SCRIPT_RECORDS / 2);
+    assert_eq!(most.len(), SCRIPT_RECORDS - 1);
     let pick: &[u8] = &[kind::PICK, 0, 0];
-    let accepted = [pick, &halves(16)].concat();
+    let accepted = [pick, &most].concat();
     gives(runs, &PLAN_P, &accepted, &[], &[])?;
-    let refused = [pick, pick, &halves(16)].concat();
-    let answer = runs.run(&PLAN_P, &refused)?;
-    let last = refused.len() - 1;
-    if answer != Answer::refused(WHICH_SCRIPT, Number::Size.at(last)) {
-        return Err(difference(
-            Call::Run,
-            &[&refused],
-            "65 records are accepted",
-        ));
-    }
-    let deep = joins(2 * DEPTH - 1);
-    gives(runs, &PLAN_P, &deep, &[], &[])?;
-    let deeper = joins(2 * DEPTH + 1);
-    refuses(runs, &PLAN_P, &deeper, Number::Size, DEPTH)?;
+    let refused = [pick, pick, &most].concat();
+    refuses(runs, &PLAN_P, &refused, Number::Size, refused.len() - 1)?;
+    // Joins nested on the left.
+    let nested = |depth: usize| [vec![kind::JOIN; depth - 1], vec![kind::EMPTY; depth]].concat();
+    gives(runs, &PLAN_P, &nested(DEPTH), &[], &[])?;
+    refuses(runs, &PLAN_P, &nested(DEPTH + 1), Number::Size, DEPTH)?;
     let binders = |count: usize| {
-        let mut script = Vec::new();
-        for binder in 0..count {
-            script.extend([kind::LET, kind::DOCUMENT, 0]);
-            assert!(binder < DEPTH);
-        }
-        script.extend([kind::VARIABLE, 0]);
-        script
+        let lets = [kind::LET, kind::DOCUMENT, 0].repeat(count);
+        [&lets[..], &[kind::VARIABLE, 0]].concat()
     };
     gives(runs, &PLAN_P, &binders(BINDERS), &[0], &[])?;
     refuses(
@@ -237,24 +219,12 @@ fn limits_of_scripts(runs: &mut Runs<'_>) -> Result<(), Difference> {
     for records in SCRIPT_RECORDS - 1..=SCRIPT_RECORDS + 1 {
         let wanted = Wanted {
             records,
-            depth: DEPTH,
             binders: 2,
-            unbound: 0,
-            upward: 10,
-            names: 3,
+            ..Wanted::AT_LIMITS
         };
         for _ in 0..50 {
             runs.run(&PLAN_P, &script(&mut random, wanted))?;
         }
     }
     Ok(())
-}
-
-/// So many empty values joined, as flat as it goes: `count` is a power of 2.
-fn flat(count: usize) -> Vec<u8> {
-    if count == 1 {
-        return vec![kind::EMPTY];
-    }
-    let half = flat(count / 2);
-    [&[kind::JOIN][..], &half, &half].concat()
 }

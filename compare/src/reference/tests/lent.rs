@@ -1,6 +1,7 @@
 //! Runs: refusals and the content of the lent areas.
 
 use super::*;
+use crate::generate::plans::star;
 use crate::reference::refusal::Number;
 use crate::reference::run::Areas;
 use crate::reference::table::Row;
@@ -94,13 +95,7 @@ fn areas_are_zero_past_what_is_given_back() {
 
 /// A root, marked, with this many leaves below.
 fn leaves(count: usize) -> Table {
-    let mut table = Table {
-        rows: vec![Row::leaf(0, Some(0)); count + 1],
-        ..Table::default()
-    };
-    table.rows[0] = Row::element(1, None);
-    table.marks[0] = Some(0);
-    table
+    star(count + 1)
 }
 
 const CHILDREN: [u8; 6] = [0x04, 0x00, 0x00, 0x00, 0x02, 0x00];
@@ -217,8 +212,7 @@ fn steps_answer_rising_rows_once() {
     assert_eq!(step(2, 0, 0, &all), [0, 1]);
     assert_eq!(step(3, 0, 0, &all), [0, 1]);
     assert_eq!(step(3, 3, 1, &all), [0]);
-    let leaf = [0x04, 0x01, 0x02, 0x00, 0x02, 0x00];
-    assert_eq!(step(2, 0, 0, &leaf), [1]);
-    assert_eq!(step(3, 1, 0, &leaf), [0, 1]);
-    assert_eq!(step(3, 2, 0, &leaf), []);
+    assert_eq!(step(2, 0, 0, &DESCENDANT_LEAVES), [1]);
+    assert_eq!(step(3, 1, 0, &DESCENDANT_LEAVES), [0, 1]);
+    assert_eq!(step(3, 2, 0, &DESCENDANT_LEAVES), []);
 }

@@ -8,17 +8,14 @@ mod readers;
 mod undoing;
 mod worked;
 
-use crate::generate::document01::{PLAN_P, SCRIPT_A, SCRIPT_B};
+use crate::generate::document01::{
+    CHILDREN_NAMED_2, CHILDREN_NAMED_3, DESCENDANT_LEAVES, PLAN_P, SCRIPT_A, SCRIPT_B,
+};
 
 use super::refusal::Refusal;
 use super::run::{run, OwnedAreas, Ran};
 use super::table::Table;
 use super::{history, plan};
-
-/// The children named 2 of document 0's root.
-const CHILDREN_NAMED_2: [u8; 6] = [0x04, 0x00, 0x03, 0x02, 0x02, 0x00];
-/// The children named 3 of document 0's root.
-const CHILDREN_NAMED_3: [u8; 6] = [0x04, 0x00, 0x03, 0x03, 0x02, 0x00];
 
 /// What a run left.
 #[derive(Debug)]
@@ -31,8 +28,7 @@ struct Left {
 
 impl Left {
     fn records(&self) -> Vec<history::Record> {
-        let records = history::read(&self.history).expect("the form is right");
-        records.into_iter().map(|(_, record)| record).collect()
+        history::records(&self.history).expect("the form is right")
     }
 }
 

@@ -137,7 +137,7 @@ fn brute_force_agrees_with_the_analysis() {
 /// A pair of small scripts and a table to run them on.
 fn small_pair(random: &mut Random, round: usize) -> (Vec<u8>, Vec<u8>, Table) {
     let mut next = || {
-        if round.is_multiple_of(2) {
+        if round % 2 == 0 {
             return chains::script(random, 3);
         }
         let wanted = Wanted {

@@ -2,6 +2,7 @@
 
 use super::*;
 use crate::generate::edges::joins;
+use crate::generate::plans::star;
 use crate::reference::analysis::{analyse, Answer};
 use crate::reference::evaluate::Tally;
 use crate::reference::history::Record;
@@ -71,9 +72,8 @@ fn delete_of_children_meets_a() {
 
 #[test]
 fn delete_of_children_meets_a_read_of_descendant_leaves() {
-    let leaves = [0x04, 0x01, 0x02, 0x00, 0x02, 0x00];
     assert_eq!(
-        analyse(&delete_children_named_2(), &leaves),
+        analyse(&delete_children_named_2(), &DESCENDANT_LEAVES),
         Ok(Answer::Meet)
     );
 }
@@ -146,21 +146,17 @@ fn the_empty_script_and_the_empty_plan() {
 
 #[test]
 fn a_full_table() {
-    let mut table = Table {
-        rows: vec![Row::element(1, None); 512],
-        ..Table::default()
-    };
-    table.marks[0] = Some(0);
-    assert!(run_on(&table, &[0x0C, 0x01, 0x02, 0x00]).is_ok());
+    let full = star(512);
+    assert!(run_on(&full, &[0x0C, 0x01, 0x02, 0x00]).is_ok());
     assert_eq!(
-        run_on(&table, &[0x09, 0x01]).unwrap_err(),
+        run_on(&full, &[0x09, 0x01]).unwrap_err(),
         Number::Table.at(0)
     );
     // One row fewer leaves place for one.
-    table.rows.pop();
-    assert!(run_on(&table, &[0x09, 0x01]).is_ok());
+    let almost = star(511);
+    assert!(run_on(&almost, &[0x09, 0x01]).is_ok());
     assert_eq!(
-        run_on(&table, &[0x05, 0x09, 0x01, 0x09, 0x01]).unwrap_err(),
+        run_on(&almost, &[0x05, 0x09, 0x01, 0x09, 0x01]).unwrap_err(),
         Number::Table.at(3)
     );
 }
