@@ -15,7 +15,7 @@ fn read_file(name: &[u8], buffer: &mut [u8]) -> usize
     count
 }
 
-// 4,096 bytes of each file are enough to refuse any longer one.
+// A buffer has 4,096 bytes, which is enough to refuse any longer file.
 fn main() {
     let mut plan = io::buffer();
     let n = read_file(b"plan", &mut plan);
