@@ -35,8 +35,8 @@ ranCall r l o d =
 abbrev pub readCall : TableResult → (script answer history work out done : List ℕ) → Called
 readCall q s a h w o d =
     pick (eqb (q .fault .number) 0) (ranCall (runResult (q .table) s a h w) (ran (q .table) s a h w) o d)
-    (refusedCall (codeOf (q .fault .number) 1 (q .fault .place)) (replicate (length a) 0) (replicate (length h) 0) (replicate (length w) 0)
-    o d)
+    (refusedCall (codeOf (q .fault .number) 1 (q .fault .place)) (replicate (length a) 0) (replicate (length h) 0)
+    (replicate (length w) 0) o d)
 
 -- READ, RUN AND WRITE: 11 first, nothing touched; then the plan's refusal, then the run's
 abbrev pub runCalled : (plan script answer history work out done : List ℕ) → Called

@@ -15,8 +15,8 @@ use Rattle.probe.specs.Raw.{isGiven, given}
 abbrev pub writeCode : (count : ℕ) → (rows marks out : List ℕ) → ℕ
 writeCode n ws ms o =
     pick (isGiven ws ms)
-    (pick (eqb (library.planWritten (given n ws ms) o .fault .number) 6) (codeOf 6 1 0) (writtenCode (library.planWritten (given n ws ms)
-    o)))
+    (pick (eqb (library.planWritten (given n ws ms) o .fault .number) 6) (codeOf 6 1 0)
+    (writtenCode (library.planWritten (given n ws ms) o)))
     lentCode
 
 abbrev pub writeOut : (count : ℕ) → (rows marks out : List ℕ) → List ℕ
@@ -29,8 +29,8 @@ sweptTable n ws ms = sweeping.planSwept (given n ws ms)
 abbrev pub sweptCode : (count : ℕ) → (rows marks : List ℕ) → ℕ
 sweptCode n ws ms =
     pick (isGiven ws ms)
-    (pick (eqb (sweptTable n ws ms .fault .number) 0) (codeOf 0 0 (sweptTable n ws ms .table .count)) (codeOf (sweptTable n ws ms .fault
-    .number) 1 0))
+    (pick (eqb (sweptTable n ws ms .fault .number) 0) (codeOf 0 0 (sweptTable n ws ms .table .count))
+    (codeOf (sweptTable n ws ms .fault .number) 1 0))
     lentCode
 
 abbrev pub rowsLeft : (count : ℕ) → (rows marks : List ℕ) → List ℕ

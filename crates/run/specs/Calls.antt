@@ -23,8 +23,8 @@ outcomeOf t b = pick (fits t) (runBy (decode t) (readScript b)) (stop (refusal.l
 -- 11 comes first, and nothing is touched
 abbrev pub ran : Table → (script answer history work : List ℕ) → Ran
 ran t b a h w =
-    pick (areasFit a h w) (ranBy (decode t) (length a) (length h) (length w) (outcomeOf t b)) (refusedRun refusal.lentShort (decode t) a
-    h w)
+    pick (areasFit a h w) (ranBy (decode t) (length a) (length h) (length w) (outcomeOf t b))
+    (refusedRun refusal.lentShort (decode t) a h w)
 
 -- what it gives back: refused, the table is as it was handed in and the tally zero
 abbrev pub tallyOf : Ran → Tally
