@@ -6,7 +6,7 @@ use mathlib.Core.Logic.{_⊎_, inl, inr}
 use Prim.Native.Nat.{ℕ}
 use native.Mathlib.Omega.{arith}
 use lib.ListN.{length}
-use Rattle.model.specs.Call.{Ran, runBy, ranBy, runCall, callsEnd, CallsEqual, EitherOrder}
+use Rattle.model.specs.Call.{areasFit, Ran, runBy, ranBy, runCall, callsEnd, CallsEqual, EitherOrder}
 use Rattle.model.specs.Refusal.{isFine}
 use Rattle.model.specs.Run.{Out, gives, stop}
 use Rattle.model.specs.Script.{readScript}
@@ -28,6 +28,9 @@ use Rattle.ffi.proofs.Promised.{needs, run-done, plan-left, run-refused
 abbrev modelRun : Table → Lent → Ran
 modelRun x l = runCall x (l .script) (l .answer) (l .history) (l .work)
 
+areas-fit : (l : Lent) → Suffices l → areasFit (l .answer) (l .history) (l .work) ≡ true
+areas-fit l ok = needs (l .answer) (l .history) (l .work) (l .out) (l .done) (ok .1) .0
+
 -- A CALL on a plan that is read as x tells the model's run, or both refuse
 pub record Tells (p : List ℕ) (x : Table) (l : Lent) : Type 0 where
   pub fine : isFine (modelRun x l .fault) ≡ true
@@ -44,7 +47,7 @@ module _ (p : List ℕ) (x : Table) (well : isWell x ≡ true) (read : readPlan 
   run-is : (q : Out) → runBy x (readScript (l .script)) ≡ q →
       modelRun x l ≡ ranBy x (length (l .answer)) (length (l .history)) (length (l .work)) q
   run-is q e =
-      pick-true _ _ _ (needs (l .answer) (l .history) (l .work) (l .out) (l .done) (ok .1) .0) ∙
+      pick-true _ _ _ (areas-fit l ok) ∙
       ap (ranBy x (length (l .answer)) (length (l .history)) (length (l .work))) (pick-true (isWell x) _ _ well ∙ e)
 
   tells-or : Tells p x l ⊎ Stops p x l
@@ -135,8 +138,7 @@ freeCallsCommute p x l m bytes read ok ok′ says = (
     either : EitherOrder (l .script) (m .script) x (l .answer) (l .history) (l .work) (m .answer) (m .history) (m .work)
     either =
         callsCommute (l .script) (m .script) x (l .answer) (l .history) (l .work) (m .answer) (m .history) (m .work) (ok .0) (ok′ .0)
-        (free-which (l .script) (m .script) (omega (arith, says))) well (needs (l .answer) (l .history) (l .work) (l .out) (l .done) (ok .1) .0)
-        (needs (m .answer) (m .history) (m .work) (m .out) (m .done) (ok′ .1) .0)
+        (free-which (l .script) (m .script) (omega (arith, says))) well (areas-fit l ok) (areas-fit m ok′)
 
     other : OrderAnswers p l m → Both p x well read m l ok′ ok
     other a =
