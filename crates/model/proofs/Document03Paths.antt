@@ -64,7 +64,7 @@ append-alike nothing k = k
 append-alike (also e t h) k = also e t (append-alike h k)
 
 withStep-alike : (s : Step) {ps : List P.Path} {qs : List Path} → Known s → Alike ps qs → Alike (P.withStep s ps) (withStep s qs)
-unfolding P.withStep withStep
+unfolding P.withStep
 withStep-alike s k nothing = nothing
 withStep-alike s k (also {p} e t h) =
     also (along-more (start (p .from)) (p .steps) s ∙ ap (λ (r : Path). r ▸ s) e) (more t k) (withStep-alike s k h)

@@ -16,7 +16,7 @@ use Rattle.model.specs.Paths.{hasUp, pathsOf}
 use Rattle.model.specs.Meeting.{isNamed}
 use Rattle.model.proofs.BoolLaws.{and-left, or-neither}
 use Rattle.model.proofs.TestLaws.{and-three}
-use Rattle.model.proofs.All.{all-read, all-append}
+use Rattle.model.proofs.All.{all-read, all-append, all-map}
 use Rattle.model.proofs.ScriptLaws.{FieldsFit}
 
 -- A STEP that does not lead up leads to children or to descendants
@@ -60,9 +60,7 @@ pub record PathsFit (o : ℕ) (x : Paths) : Type 0 where
   pub changes : All (PathFits o) (x .modified)
 
 withStep-fits : {o : ℕ} {s : Step} {ps : List Path} → StepFits s → All (PathFits o) ps → All (PathFits o) (withStep s ps)
-unfolding withStep
-withStep-fits f nothing = nothing
-withStep-fits f (also h a) = also (steps h f) (withStep-fits f a)
+withStep-fits {s = s} f a = all-map (λ (p : Path). p ▸ s) (λ p h. steps h f) a
 
 infer-fits : (o : ℕ) (e : Expr) (b : List (List Path)) → FieldsFit e → hasUp e ≡ false → All (All (PathFits o)) b →
     PathsFit o (infer o e b)

@@ -31,7 +31,7 @@ documents-append (p ∷ ps) qs =
     go false = refl
 
 pub documents-step : (s : Step) (ps : List Path) → documents (withStep s ps) ≡ withStep s (documents ps)
-unfolding documents withStep placeOf
+unfolding documents placeOf
 documents-step s [] = refl
 documents-step s (p ∷ ps) =
     ap (λ (l : List Path). pick (isDocument p) ((p ▸ s) ∷ l) l) (documents-step s ps) ∙ go (isDocument p)

@@ -173,7 +173,6 @@ nothing-more es r a m y h r′ a′ m′ e f g =
     none x ps q = sym (ap (λ (v : List Path). x ++ v) q ∙ append-nil x)
 
 no-step : (s : Step) (r : List Path) → documents r ≡ [] → documents (withStep s r) ≡ []
-unfolding withStep
 no-step s r e = documents-step s r ∙ ap (withStep s) e
 
 -- BOUND VARIABLES: each position has the paths of its variable

@@ -12,7 +12,7 @@ use Rattle.model.specs.Script.{Step, Expr, nil, document, var, step, both, letI
 use Rattle.model.specs.Paths.{placeOf, Path, start, _▸_, place, withStep, anyBelow, Paths, infer, pathsOf, prefixesOf, prefixed}
 use Rattle.model.specs.Paths.{traversed, joinPaths, binding, modifiedPlace}
 use Rattle.model.proofs.BoolLaws.{or-swap, or-left, or-cases, bool-iff, by-cases, pick-cases}
-use Rattle.model.proofs.All.{all-read, all-append}
+use Rattle.model.proofs.All.{all-read, all-append, all-map}
 use Rattle.model.proofs.ListLaws.{any-append, any-left, any-right, any-either}
 use Rattle.positions.proofs.DocumentLaws.{isDocument, documents}
 
@@ -25,7 +25,7 @@ prefixed-append (p ∷ ps) qs =
 
 module _ (f : Path → Bool) where
   prefixed-step : (s : Step) (ps : List Path) → any f (prefixed (withStep s ps)) ≡ (any f (withStep s ps) || any f (prefixed ps))
-  unfolding any prefixed prefixesOf withStep
+  unfolding any prefixed prefixesOf
   prefixed-step s [] = refl
   prefixed-step s (p ∷ ps) =
       ap (λ (t : Bool). f (p ▸ s) || t) (any-append f (prefixesOf p) (prefixed (withStep s ps)) ∙
@@ -167,9 +167,8 @@ record Owned (o : ℕ) (x : Paths) : Type 0 where
   modified : All (Own o) (x .modified)
 
 own-step : {o : ℕ} (s : Step) {ps : List Path} → All (Own o) ps → All (Own o) (withStep s ps)
-unfolding withStep placeOf
-own-step s nothing = nothing
-own-step s (also h a) = also h (own-step s a)
+unfolding placeOf
+own-step s a = all-map (λ (p : Path). p ▸ s) (λ p h. h) a
 
 own-after : {o : ℕ} {x y : Paths} {r : List Path} → Owned o x → Owned o y → All (Own o) r → Owned o (joinPaths x y r)
 own-after h i g =
