@@ -12,8 +12,9 @@ use Rattle.model.specs.Script.{Step, Expr, nil, document, var, step, both, letI
 use Rattle.model.specs.Paths.{placeOf, Path, start, _▸_, place, withStep, anyBelow, Paths, infer, pathsOf, prefixesOf, prefixed}
 use Rattle.model.specs.Paths.{traversed, joinPaths, binding, modifiedPlace}
 use Rattle.model.proofs.BoolLaws.{or-swap, or-left, or-cases, bool-iff, by-cases, pick-cases}
-use Rattle.model.proofs.All.{all-read, all-append, all-map}
+use Rattle.model.proofs.All.{all-read, all-append, all-snoc, all-map}
 use Rattle.model.proofs.ListLaws.{any-append, any-left, any-right, any-either}
+use Rattle.model.proofs.PathLaws.{PathsAll, after-all, join-all}
 use Rattle.positions.proofs.DocumentLaws.{isDocument, documents}
 
 -- PREFIXES
@@ -161,65 +162,41 @@ module _ (f : Path → Bool) where
 abbrev pub Own : (owner : ℕ) → Path → Type 0
 Own o p = (placeOf p .owner ≡ 0) ⊎ (placeOf p .owner ≡ o)
 
-record Owned (o : ℕ) (x : Paths) : Type 0 where
-  result : All (Own o) (x .result)
-  accessed : All (Own o) (x .accessed)
-  modified : All (Own o) (x .modified)
-
 own-step : {o : ℕ} (s : Step) {ps : List Path} → All (Own o) ps → All (Own o) (withStep s ps)
 unfolding placeOf
 own-step s a = all-map (λ (p : Path). p ▸ s) (λ p h. h) a
 
-own-after : {o : ℕ} {x y : Paths} {r : List Path} → Owned o x → Owned o y → All (Own o) r → Owned o (joinPaths x y r)
-own-after h i g =
-    record { result = g; accessed = all-append (h .accessed) (i .accessed); modified = all-append (h .modified) (i .modified) }
-
-owned : (o : ℕ) (e : Expr) (rs : List (List Path)) → All (All (Own o)) rs → Owned o (infer o e rs)
+owned : (o : ℕ) (e : Expr) (rs : List (List Path)) → All (All (Own o)) rs → PathsAll (Own o) (infer o e rs)
 unfolding infer placeOf
 owned o (nil z) rs k = record { result = nothing; accessed = nothing; modified = nothing }
 owned o (document z d) rs k = record { result = also (inl refl) nothing; accessed = also (inl refl) nothing; modified = nothing }
 owned o (var z v) rs k = record { result = all-read [] nothing k v; accessed = nothing; modified = nothing }
-owned o (step z s e) rs k =
-    let h = owned o e rs k in
-    record {
-      result = own-step s (h .result);
-      accessed = all-append (h .accessed) (own-step s (h .result));
-      modified = all-append
-          (h .modified) nothing;
-    }
+owned o (step z s e) rs k = let h = owned o e rs k in after-all h (own-step s (h .result)) (own-step s (h .result)) nothing
 owned o (both z e e′) rs k =
     let h = owned o e rs k in
     let i = owned o e′ rs k in
-    own-after h i (all-append (h .result) (i .result))
+    join-all h i (all-append (h .result) (i .result))
 owned o (letIn z e e′) rs k =
     let h = owned o e rs k in
-    let i = owned o e′ (rs ++ (infer o e rs .result ∷ [])) (all-append k (also (h .result) nothing)) in
-    own-after h i (i .result)
+    let i = owned o e′ (rs ++ (infer o e rs .result ∷ [])) (all-snoc k (h .result)) in
+    join-all h i (i .result)
 owned o (forIn z e e′) rs k =
     let h = owned o e rs k in
-    let i = owned o e′ (rs ++ (infer o e rs .result ∷ [])) (all-append k (also (h .result) nothing)) in
-    own-after h i (i .result)
+    let i = owned o e′ (rs ++ (infer o e rs .result ∷ [])) (all-snoc k (h .result)) in
+    join-all h i (i .result)
 owned o (ifIn z e e′ e″) rs k =
     let i = owned o e′ rs k in
     let j = owned o e″ rs k in
-    own-after (owned o e rs k) (own-after {r = []} i j nothing) (all-append (i .result) (j .result))
+    join-all (owned o e rs k) (join-all {r = []} i j nothing) (all-append (i .result) (j .result))
 owned o (element z n) rs k = record { result = also (inr refl) nothing; accessed = nothing; modified = also (inr refl) nothing }
 owned o (leaf z v) rs k = record { result = also (inr refl) nothing; accessed = nothing; modified = also (inr refl) nothing }
 owned o (delete z e) rs k =
     let h = owned o e rs k in
-    record {
-      result = nothing;
-      accessed = all-append (h .accessed) nothing;
-      modified = all-append (h .modified) (all-append (h .result) (own-step anyBelow (h .result)));
-    }
+    after-all h nothing nothing (all-append (h .result) (own-step anyBelow (h .result)))
 owned o (insert z e e′) rs k =
     let h = owned o e rs k in
     let i = owned o e′ rs k in
-    record {
-      result = nothing;
-      accessed = all-append (all-append (h .accessed) (i .accessed)) (own-step anyBelow (h .result));
-      modified = all-append (all-append (h .modified) (i .modified)) (own-step anyBelow (i .result));
-    }
+    after-all (join-all {r = []} h i nothing) nothing (own-step anyBelow (h .result)) (own-step anyBelow (i .result))
 owned o (choose z r c e) rs k = owned o e rs k
 
 pub modified-own : (o : ℕ) (e : Expr) → All (Own o) (pathsOf o e .modified)
