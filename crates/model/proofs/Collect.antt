@@ -6,16 +6,9 @@ use Prim.Native.Nat.{ℕ, zero, suc, _+_, _<_, _≤_}
 use native.Mathlib.Nat.{zero-add, suc-add, add-zero, add-suc}
 use native.Mathlib.Omega.{arith}
 use Rattle.model.specs.Base.{pick, All, nothing, also}
-use Rattle.model.specs.Table.{Table}
-use Rattle.model.specs.Script.{Step}
-use Rattle.model.specs.Step.{collect, isReached, stepFrom}
+use Rattle.model.specs.Step.{collect}
 use Rattle.model.proofs.BoolLaws.{pick-cases}
 use Rattle.model.proofs.Shift.{shift, shift-low, shift-high}
-
-pub step-collect : (x : Table) (s : Step) (v : List ℕ) (i n : ℕ) → stepFrom x s v i n ≡ collect (isReached x s v) i n
-unfolding collect stepFrom
-step-collect x s v i zero = refl
-step-collect x s v i (suc n) = ap (λ l. pick (isReached x s v i) (i ∷ l) l) (step-collect x s v (suc i) n)
 
 -- what passes the test
 pub collect-all : {P : ℕ → Type 0} (f : ℕ → Bool) (i n : ℕ) → ((j : ℕ) → j < i + n → f j ≡ true → P j) → All P (collect f i n)

@@ -8,7 +8,7 @@ use Prim.Native.Nat.{ℕ, zero, suc, _<_}
 use Rattle.model.specs.Base.{pick, any}
 use Rattle.model.specs.Table.{Table, rowAt}
 use Rattle.model.specs.Script.{Step}
-use Rattle.model.specs.Step.{Letter, leafLetter, named, letterOf, admits, isBelow, reaches, isReached, stepFrom}
+use Rattle.model.specs.Step.{Letter, leafLetter, named, letterOf, admits, isBelow, reaches, isReached, collect}
 use Rattle.model.specs.Run.{descendantsFrom}
 use Rattle.model.specs.Paths.{anyBelow, isUp}
 use Rattle.model.proofs.BoolLaws.{and-left, and-right, and-both}
@@ -54,8 +54,8 @@ below-reached : (x : Table) (t i : ℕ) → isBelow x t i ≡ isReached x anyBel
 unfolding any
 below-reached x t i = rw (any-admits (letterOf (rowAt x i))) (sym (or-false (isBelow x t i)))
 
-pub descendants-stepped : (x : Table) (t i n : ℕ) → descendantsFrom x t i n ≡ stepFrom x anyBelow (t ∷ []) i n
-unfolding descendantsFrom stepFrom
+pub descendants-stepped : (x : Table) (t i n : ℕ) → descendantsFrom x t i n ≡ collect (isReached x anyBelow (t ∷ [])) i n
+unfolding descendantsFrom collect
 descendants-stepped x t i zero = refl
 descendants-stepped x t i (suc n) =
     ap₂ (λ z l. pick z (i ∷ l) l) (below-reached x t i) (descendants-stepped x t (suc i) n)

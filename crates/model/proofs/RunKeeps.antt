@@ -22,7 +22,7 @@ use Rattle.model.proofs.TableLaws.{isElement-at, isElement-by, parent-c
 use Rattle.model.proofs.GrowLaws.{count-withRow, rowAt-withRow-old, rowAt-withRow-new, count-linked, isLeaf-linked}
 use Rattle.model.proofs.RanLaws.{Ran, begun, rowMade, linkCut, ran-well}
 use Rattle.model.proofs.ScriptLaws.{FieldsFit}
-use Rattle.model.proofs.ValueLaws.{areRows-more, areValues-more, stepFrom-rows, picked-rows, descendantsFrom-rows, marked-rows}
+use Rattle.model.proofs.ValueLaws.{areRows-more, areValues-more, collect-rows, picked-rows, descendantsFrom-rows, marked-rows}
 use Rattle.model.proofs.All.{all-append, all-snoc, all-read}
 
 -- A TABLE ENLARGED: no row goes, and none changes its kind
@@ -230,7 +230,7 @@ module _ (x : Table) (well : Well x) where
   run-keeps (var z v) t b s r a = gives-keeps x _ s r (all-read [] nothing a v)
   run-keeps (step z q e) t b s r a =
       andThen-keeps x (s .plan) (run e b s) _ (run-keeps e (t .1) b s r a)
-      (λ v u w c g. gives-keeps x _ u w (stepFrom-rows (u .plan) q v 0 (count (u .plan)) (count (u .plan)) (omega arith)))
+      (λ v u w c g. gives-keeps x _ u w (collect-rows _ 0 (count (u .plan)) (count (u .plan)) (omega arith)))
   run-keeps (both z e f) t b s r a =
       andThen-keeps x (s .plan) (run e b s) _ (run-keeps e (t .0) b s r a)
       (λ v u w c g.

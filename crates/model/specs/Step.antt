@@ -43,16 +43,12 @@ unfoldable pub collect : (ℕ → Bool) → (row : ℕ) → ℕ → List ℕ
 collect f i zero = []
 collect f i (suc n) = pick (f i) (i ∷ collect f (suc i) n) (collect f (suc i) n)
 
--- A step answers its rows in rising number, each once
 abbrev pub isReached : Table → Step → (items : List ℕ) → (row : ℕ) → Bool
 isReached x s v j = admits s (letterOf (rowAt x j)) && any (λ (i : ℕ). reaches x (s .axis) i j) v
 
-unfoldable pub stepFrom : Table → Step → (items : List ℕ) → (row : ℕ) → ℕ → List ℕ
-stepFrom x s v j zero = []
-stepFrom x s v j (suc k) = pick (isReached x s v j) (j ∷ stepFrom x s v (suc j) k) (stepFrom x s v (suc j) k)
-
+-- A step answers its rows in rising number, each once
 abbrev pub stepped : Table → Step → (items : List ℕ) → List ℕ
-stepped x s v = stepFrom x s v 0 (count x)
+stepped x s v = collect (isReached x s v) 0 (count x)
 
 -- PICK. Relation: 0 equal, 1 less, 2 greater, on signed values: two's complement with its halves in order
 abbrev pub signedKey : (value : ℕ) → ℕ

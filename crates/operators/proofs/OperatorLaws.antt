@@ -12,8 +12,7 @@ use Rattle.model.specs.Script.{stepBy, bodySize}
 use Rattle.model.specs.Step.{isReached, isPicked, stepped, picked}
 use Rattle.model.specs.Run.{gives}
 use Rattle.model.proofs.BoolLaws.{pick-cases}
-use Rattle.model.proofs.Collect.{step-collect}
-use Rattle.model.proofs.ValueLaws.{stepFrom-rows, picked-rows}
+use Rattle.model.proofs.ValueLaws.{collect-rows, picked-rows}
 use Rattle.records.proofs.KindLaws.{unary-kind}
 use Rattle.table.specs.Words.{decodeParts}
 use Rattle.updates.specs.State.{stateOf, Held}
@@ -40,8 +39,7 @@ stepped-few : {ws h : List ℕ} {p : Progress} → Held ws h p → (ms v : List 
     length (stepped (decodeParts (p .count) ws ms) (stepBy a t n) v) ≤ 512
 stepped-few {ws} {h} {p} held ms v a t n =
     let x = decodeParts (p .count) ws ms in
-    let e = ap length (step-collect x (stepBy a t n) v 0 (model.count x)) in
-    omega (arith, e, length-collect (isReached x (stepBy a t n) v) 0 (model.count x), held-count held ms, held .few)
+    omega (arith, length-collect (isReached x (stepBy a t n) v) 0 (model.count x), held-count held ms, held .few)
 
 -- A VALUE from top on
 module _ {ws h w : List ℕ} {top : ℕ} {x : Evaluated} (pre : ValuePre ws h w top x) where
@@ -134,7 +132,7 @@ module _ {b : List ℕ} {at : ℕ} {ws h w : List ℕ} {top : ℕ} {x : Evaluate
           (ap (λ (j : ℕ). gives (stepped t (stepBy (getD b (at + 1) 0) (getD b (at + 2) 0) j) v) (stateOf ws ms h (x .progress))) i ∙ rw k)
           refl
           (yields-updated (updated-none (pre .value .held)) (post .value ms) (λ q. refl) size (omega (arith, pre .value .room)) few
-          (λ q. stepFrom-rows t s v 0 (model.count t) c l) (pre .value .spans) eq)
+          (λ q. collect-rows _ 0 (model.count t) c l) (pre .value .spans) eq)
 
 -- WITH TWO OPERANDS
 module _ {ws h w : List ℕ} {top mid : ℕ} {y : Evaluated} (pre : BinaryPre ws h w top mid y) where

@@ -12,8 +12,7 @@ use lib.Seq.{take-suc-set}
 use Rattle.model.specs.Base.{pick, any}
 use Rattle.model.specs.Table as model
 use Rattle.model.specs.Script.{stepBy}
-use Rattle.model.specs.Step.{Letter, leafLetter, named, isReached, reaches, admits, letterOf, stepped, stepFrom, collect}
-use Rattle.model.proofs.Collect.{step-collect}
+use Rattle.model.specs.Step.{Letter, leafLetter, named, isReached, reaches, admits, letterOf, stepped, collect}
 use Rattle.table.specs.Words.{rowOf, decodeParts}
 use Rattle.table.proofs.WordLaws.{count-decode, rowAt-decode}
 use Rattle.query.specs.Stepping.{Flagged, Reached}
@@ -94,8 +93,7 @@ pub step-rows : (ws : List ℕ) (n axis test name : ℕ) (fs rs v ms : List ℕ)
 step-rows ws n axis test name fs rs v ms within f s =
     collect-same (λ (j : ℕ). kept ws j (getD rs (j + 1) 0) test name) (isReached (decodeParts n ws ms) (stepBy axis test name) v) 0 n (λ
     j h. here j (omega arith)) ∙
-    sym (step-collect (decodeParts n ws ms) (stepBy axis test name) v 0 n) ∙
-    ap (λ (k : ℕ). stepFrom (decodeParts n ws ms) (stepBy axis test name) v 0 k) (sym (count-decode n ws ms within))
+    ap (collect (isReached (decodeParts n ws ms) (stepBy axis test name) v) 0) (sym (count-decode n ws ms within))
   where
     here : (j : ℕ) → j < n → kept ws j (getD rs (j + 1) 0) test name ≡ isReached (decodeParts n ws ms) (stepBy axis test name) v j
     here j h =
