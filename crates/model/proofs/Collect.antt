@@ -18,12 +18,19 @@ collect-all {P} f i (suc n) h =
     let a = collect-all f (suc i) n (λ j k e. h j (omega arith) e) in
     pick-cases (All P) (f i) (λ e. also (h i (omega arith) e) a) (λ e. a)
 
+-- two tests that agree collect the same
+pub collect-same : (f g : ℕ → Bool) (i n : ℕ) → ((j : ℕ) → j < i + n → f j ≡ g j) → collect f i n ≡ collect g i n
+unfolding collect
+collect-same f g i zero h = refl
+collect-same f g i (suc n) h =
+    ap₂ (λ z l. pick z (i ∷ l) l) (h i (omega arith)) (collect-same f g (suc i) n (λ j k. h j (omega arith)))
+
 -- JOINED
-pick-append : (z : Bool) (i : ℕ) (k l : List ℕ) → pick z (i ∷ (k ++ l)) (k ++ l) ≡ pick z (i ∷ k) k ++ l
+pub pick-append : (z : Bool) (i : ℕ) (k l : List ℕ) → pick z (i ∷ (k ++ l)) (k ++ l) ≡ pick z (i ∷ k) k ++ l
 pick-append true i k l = refl
 pick-append false i k l = refl
 
-collect-append : (f : ℕ → Bool) (i a b : ℕ) → collect f i (a + b) ≡ collect f i a ++ collect f (i + a) b
+pub collect-append : (f : ℕ → Bool) (i a b : ℕ) → collect f i (a + b) ≡ collect f i a ++ collect f (i + a) b
 unfolding collect
 collect-append f i zero b = rw (zero-add, add-zero)
 collect-append f i (suc a) b =
@@ -32,7 +39,7 @@ collect-append f i (suc a) b =
     (collect-append f (suc i) a b ∙ ap (λ k. collect f (suc i) a ++ collect f k b) (suc-add i a)) ∙
     pick-append (f i) i (collect f (suc i) a) (collect f (suc (i + a)) b))
 
-collect-none : (f : ℕ → Bool) (i n : ℕ) → ((j : ℕ) → i ≤ j → j < i + n → f j ≡ false) → collect f i n ≡ []
+pub collect-none : (f : ℕ → Bool) (i n : ℕ) → ((j : ℕ) → i ≤ j → j < i + n → f j ≡ false) → collect f i n ≡ []
 unfolding collect
 collect-none f i zero h = refl
 collect-none f i (suc n) h =

@@ -9,6 +9,7 @@ use lib.Seq.{drop-drop, take-suc, getD-drop, drop-set-lt}
 use Rattle.model.specs.Base.{pick}
 use Rattle.model.specs.Table as model
 use Rattle.model.specs.Step.{relates, isPicked, picked}
+use Rattle.model.proofs.Collect.{pick-append}
 use Rattle.table.specs.Words.{decodeParts}
 use Rattle.table.proofs.WordLaws.{rowAt-decode}
 use Rattle.query.specs.Values.{valueAt, Appended, filtered, pickedRow}
@@ -26,13 +27,7 @@ value-next w from k l h =
 filtered-next : (f : ℕ → Bool) (v : List ℕ) (i : ℕ) → filtered f (v ++ (i ∷ [])) ≡ filtered f v ++ pick (f i) (i ∷ []) []
 unfolding filtered
 filtered-next f [] i = refl
-filtered-next f (x ∷ v) i = go (f x) (filtered-next f v i)
-  where
-    go : (t : Bool) → filtered f (v ++ (i ∷ [])) ≡ filtered f v ++ pick (f i) (i ∷ []) [] →
-        pick t (x ∷ filtered f (v ++ (i ∷ []))) (filtered f (v ++ (i ∷ []))) ≡ pick t (x ∷ filtered f v) (filtered f v) ++ pick (f i) (i
-        ∷ []) []
-    go true e = ap (λ (l : List ℕ). x ∷ l) e
-    go false e = e
+filtered-next f (x ∷ v) i = ap (λ (l : List ℕ). pick (f x) (x ∷ l) l) (filtered-next f v i) ∙ pick-append (f x) x (filtered f v) _
 
 pub filtered-none : (f : ℕ → Bool) (w : List ℕ) (from : ℕ) → Appended (filtered f (valueAt w from from)) w from w from
 unfolding filtered
