@@ -22,7 +22,7 @@ use Rattle.model.proofs.TableLaws.{isElement-at, isElement-by, parent-c
 use Rattle.model.proofs.GrowLaws.{count-withRow, rowAt-withRow-old, rowAt-withRow-new, count-linked, isLeaf-linked}
 use Rattle.model.proofs.RanLaws.{Ran, begun, rowMade, linkCut, ran-well}
 use Rattle.model.proofs.ScriptLaws.{FieldsFit}
-use Rattle.model.proofs.ValueLaws.{areRows-more, areValues-more, collect-rows, picked-rows, descendantsFrom-rows, marked-rows}
+use Rattle.model.proofs.ValueLaws.{areRows-more, areValues-more, collect-rows, picked-rows, marked-rows}
 use Rattle.model.proofs.All.{all-append, all-snoc, all-read}
 
 -- A TABLE ENLARGED: no row goes, and none changes its kind
@@ -184,7 +184,7 @@ unfolding copyAll
 copyAll-keeps x y ty place g nothing s r h = gives-keeps x [] s r nothing
 copyAll-keeps x y ty place g (also {a = i} {l = is} l a) s r h =
     thenRow-keeps x (s .plan) (copyEach place y i g (subtree y i) [] s) _
-    (copyEach-keeps x y ty place i g (also l (descendantsFrom-rows y i 0 (count y) (count y) (omega arith))) [] s r
+    (copyEach-keeps x y ty place i g (also l (collect-rows _ 0 (count y) (count y) (omega arith))) [] s r
     (copies-none y (s .plan)) h)
     (λ u q f. copyAll-keeps x y ty place g a u q (enlarged-element g f h))
 

@@ -1,20 +1,18 @@
 -- Values are lists of rows: in a table of more rows, and answered by steps, picks and documents.
 use mathlib.Core.Path.{_≡_, refl}
 use mathlib.Core.Bool.{Bool}
-use mathlib.Core.List.{List, [], _∷_}
+use mathlib.Core.List.{List}
 use mathlib.Core.Option.{Option, none, some}
 use Prim.Native.Nat.{ℕ, _+_, _≤_, _<_}
 use native.Mathlib.Omega.{arith}
 use lib.ListN.{getD}
 use Rattle.model.specs.Base.{nothing, also}
 use Rattle.model.specs.Table.{Table, count, Tree}
-use Rattle.model.specs.Step.{collect, isReached, isPicked, picked}
-use Rattle.model.specs.Run.{descendantsFrom, marked, AreRows, AreValues}
-use Rattle.model.specs.Paths.{anyBelow}
+use Rattle.model.specs.Step.{collect, isPicked, picked}
+use Rattle.model.specs.Run.{marked, AreRows, AreValues}
 use Rattle.model.proofs.BoolLaws.{pick-cases}
 use Rattle.model.proofs.All.{all-imp}
 use Rattle.model.proofs.Collect.{collect-all}
-use Rattle.model.proofs.Reach.{descendants-stepped}
 
 -- more rows
 pub areRows-more : {n m : ℕ} {v : List ℕ} → n ≤ m → AreRows n v → AreRows m v
@@ -33,9 +31,6 @@ picked-rows x r c nothing = nothing
 picked-rows x r c {n} (also {a = i} h a) =
     let b = picked-rows x r c a in
     pick-cases (AreRows n) (isPicked x r c i) (λ e. also h b) (λ e. b)
-
-pub descendantsFrom-rows : (x : Table) (t j k n : ℕ) → j + k ≤ n → AreRows n (descendantsFrom x t j k)
-descendantsFrom-rows x t j k n l = rw descendants-stepped (collect-rows (isReached x anyBelow (t ∷ [])) j k n l)
 
 pub marked-rows : (x : Table) → Tree x → (d : ℕ) → AreRows (count x) (marked (getD (x .marks) d none))
 marked-rows x t d = go (getD (x .marks) d none) refl

@@ -5,7 +5,7 @@ use Rattle.model.specs.Table.{rowsFit, noneTwice}
 use Rattle.model.specs.Stored.{readFrom, lastMarked}
 use Rattle.model.specs.Script.{parseFrom}
 use Rattle.model.specs.Step.{isBelowFrom, collect, picked}
-use Rattle.model.specs.Run.{run, loop, cutAll, copyAll, copyEach, copyOf, descendantsFrom}
+use Rattle.model.specs.Run.{run, loop, cutAll, copyAll, copyEach, copyOf}
 use Rattle.model.specs.Paths.{infer, prefixed, prefixesOf, hasUp}
 use Rattle.model.specs.Meeting.{cell, startCells, stepCells}
 use Rattle.format.specs.Text.{digits}
@@ -16,6 +16,6 @@ use Rattle.report.specs.Examples.{Examples}
 
 pub examples-hold : Examples
 unfolding any all among rowsFit noneTwice readFrom lastMarked parseFrom isBelowFrom collect picked run loop cutAll copyAll copyEach
-    copyOf descendantsFrom infer prefixed prefixesOf hasUp cell startCells stepCells digits ending order fileLine answerLine
+    copyOf infer prefixed prefixesOf hasUp cell startCells stepCells digits ending order fileLine answerLine
     orderLine threeLines pairText
 examples-hold = (refl, refl, refl, refl)
