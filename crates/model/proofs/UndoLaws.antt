@@ -16,7 +16,7 @@ use Rattle.model.specs.Table.{parentFits}
 use Rattle.model.specs.History.{Record, madeElementKind, madeLeafKind, cutKind, historyBytes, IsInRange, AllInRange}
 use Rattle.model.specs.Run.{State, made, cutRecord}
 use Rattle.model.specs.Undo.{Placed, historySize, sameParent, sameBool, undoFits, undone, back, undoAll, backwards, undo, undoFormed}
-use Rattle.model.proofs.BoolLaws.{and-both, true-false}
+use Rattle.model.proofs.BoolLaws.{and-both, true-false, pick-cases}
 use Rattle.model.proofs.TableLaws.{any-at, isElement-by, parentFits-at, parent-count, Well}
 use Rattle.model.proofs.GrowLaws.{count-withRow, rowAt-withRow-new, count-linked, rowAt-linked-same, isLeaf-linked}
 use Rattle.model.proofs.RanLaws.{Ran, begun, rowMade, linkCut, ran-well}
@@ -41,11 +41,7 @@ sameParent-refl none = refl
 sameParent-refl (some i) = eq-eqb i i refl
 
 isLeaf-made : (r : Row) (i : ℕ) → eqb (made r i .kind) madeLeafKind ≡ r .isLeaf
-isLeaf-made r i = go (r .isLeaf)
-  where
-    go : (t : Bool) → eqb (pick t madeLeafKind madeElementKind) madeLeafKind ≡ t
-    go true = refl
-    go false = refl
+isLeaf-made r i = pick-cases (λ (k : ℕ). eqb k madeLeafKind ≡ r .isLeaf) (r .isLeaf) (λ e. sym e) (λ e. sym e)
 
 module _ (x : Table) (w : Well x) (r : Row) where
   made-fits : undoFits (withRow x r) (made r (count x)) ≡ true
