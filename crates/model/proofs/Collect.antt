@@ -1,13 +1,14 @@
 -- The rows that pass a test, in rising number: what a step computes. Two such lists agree where their tests do.
 use mathlib.Core.Path.{_≡_, refl, sym, _∙_, ap, ap₂}
 use mathlib.Core.Bool.{Bool, true, false}
-use mathlib.Core.List.{List, [], _∷_, _++_, map, append-nil, map-append}
+use mathlib.Core.List.{[], _∷_, _++_, map, append-nil, map-append}
 use Prim.Native.Nat.{ℕ, zero, suc, _+_, _<_, _≤_}
 use native.Mathlib.Nat.{zero-add, suc-add, add-zero, add-suc}
 use native.Mathlib.Omega.{arith}
 use Rattle.model.specs.Base.{pick, All, nothing, also}
 use Rattle.model.specs.Step.{collect}
 use Rattle.model.proofs.BoolLaws.{pick-cases}
+use Rattle.model.proofs.ListLaws.{pick-append, pick-map}
 use Rattle.model.proofs.Shift.{shift, shift-low, shift-high}
 
 -- what passes the test
@@ -26,10 +27,6 @@ collect-same f g i (suc n) h =
     ap₂ (λ z l. pick z (i ∷ l) l) (h i (omega arith)) (collect-same f g (suc i) n (λ j k. h j (omega arith)))
 
 -- JOINED
-pub pick-append : (z : Bool) (i : ℕ) (k l : List ℕ) → pick z (i ∷ (k ++ l)) (k ++ l) ≡ pick z (i ∷ k) k ++ l
-pick-append true i k l = refl
-pick-append false i k l = refl
-
 pub collect-append : (f : ℕ → Bool) (i a b : ℕ) → collect f i (a + b) ≡ collect f i a ++ collect f (i + a) b
 unfolding collect
 collect-append f i zero b = rw (zero-add, add-zero)
@@ -47,10 +44,6 @@ collect-none f i (suc n) h =
     (collect-none f (suc i) n (λ j a b. h j (omega arith) (omega arith)))
 
 -- RAISED by c
-pick-map : (h : ℕ → ℕ) (z : Bool) (i : ℕ) (l : List ℕ) → map h (pick z (i ∷ l) l) ≡ pick z (h i ∷ map h l) (map h l)
-pick-map h true i l = refl
-pick-map h false i l = refl
-
 collect-raise : (f g : ℕ → Bool) (h : ℕ → ℕ) (i c n : ℕ) → ((j : ℕ) → i ≤ j → j < i + n → (h j ≡ j + c) × (f j ≡ g (j + c))) →
     map h (collect f i n) ≡ collect g (i + c) n
 unfolding collect

@@ -22,8 +22,8 @@ use Rattle.model.proofs.TableLaws.{isElement-at, isElement-by, parent-c
 use Rattle.model.proofs.GrowLaws.{count-withRow, rowAt-withRow-old, rowAt-withRow-new, count-linked, isLeaf-linked}
 use Rattle.model.proofs.RanLaws.{Ran, begun, rowMade, linkCut, ran-well}
 use Rattle.model.proofs.ScriptLaws.{FieldsFit}
-use Rattle.model.proofs.ValueLaws.{areRows-more, areValues-more, collect-rows, picked-rows, marked-rows}
-use Rattle.model.proofs.All.{all-append, all-snoc, all-read}
+use Rattle.model.proofs.ValueLaws.{areRows-more, areValues-more, collect-rows, marked-rows}
+use Rattle.model.proofs.All.{all-append, all-snoc, all-read, all-filtered}
 
 -- A TABLE ENLARGED: no row goes, and none changes its kind
 pub record Enlarged (y z : Table) : Type 0 where
@@ -260,7 +260,7 @@ module _ (x : Table) (well : Well x) where
       andThen-keeps x (u .plan) (run f b u) _ (run-keeps f (t .1) b u w (areValues-more (g .more) a))
       (λ v′ u′ w′ c′ g′. inserted-keeps x well z v v′ u′ w′ (areRows-more (g′ .more) c)))
   run-keeps (choose z q c e) t b s r a =
-      andThen-keeps x (s .plan) (run e b s) _ (run-keeps e t b s r a) (λ v u w d g. gives-keeps x _ u w (picked-rows (u .plan) q c d))
+      andThen-keeps x (s .plan) (run e b s) _ (run-keeps e t b s r a) (λ v u w d g. gives-keeps x _ u w (all-filtered _ d))
 
   pub runOn-keeps : (e : Expr) → FieldsFit e → Keeps x x (runOn x e)
   runOn-keeps e t = run-keeps e t [] (state x []) begun nothing

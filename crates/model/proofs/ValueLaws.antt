@@ -8,9 +8,8 @@ use native.Mathlib.Omega.{arith}
 use lib.ListN.{getD}
 use Rattle.model.specs.Base.{nothing, also}
 use Rattle.model.specs.Table.{Table, count, Tree}
-use Rattle.model.specs.Step.{collect, isPicked, picked}
+use Rattle.model.specs.Step.{collect}
 use Rattle.model.specs.Run.{marked, AreRows, AreValues}
-use Rattle.model.proofs.BoolLaws.{pick-cases}
 use Rattle.model.proofs.All.{all-imp}
 use Rattle.model.proofs.Collect.{collect-all}
 
@@ -21,16 +20,9 @@ areRows-more l = all-imp (λ i h. omega arith)
 pub areValues-more : {n m : ℕ} {b : List (List ℕ)} → n ≤ m → AreValues n b → AreValues m b
 areValues-more l = all-imp (λ v. areRows-more l)
 
--- steps and picks answer rows
+-- steps answer rows
 pub collect-rows : (f : ℕ → Bool) (j k n : ℕ) → j + k ≤ n → AreRows n (collect f j k)
 collect-rows f j k n l = collect-all f j k (λ i b e. omega arith)
-
-pub picked-rows : (x : Table) (r c : ℕ) {n : ℕ} {v : List ℕ} → AreRows n v → AreRows n (picked x r c v)
-unfolding picked
-picked-rows x r c nothing = nothing
-picked-rows x r c {n} (also {a = i} h a) =
-    let b = picked-rows x r c a in
-    pick-cases (AreRows n) (isPicked x r c i) (λ e. also h b) (λ e. b)
 
 pub marked-rows : (x : Table) → Tree x → (d : ℕ) → AreRows (count x) (marked (getD (x .marks) d none))
 marked-rows x t d = go (getD (x .marks) d none) refl

@@ -3,7 +3,7 @@ use mathlib.Core.Bool.{Bool, false, _&&_, _||_, not}
 use mathlib.Core.List.{List, [], _∷_}
 use Prim.Native.Nat.{ℕ, zero, suc, _+_, _-_}
 use lib.Dec.{ltb, eqb}
-use Rattle.model.specs.Base.{pick, any}
+use Rattle.model.specs.Base.{pick, any, filtered}
 use Rattle.model.specs.Table.{Row, Table, rowAt, count, isThe}
 use Rattle.model.specs.Sweep.{through}
 use Rattle.model.specs.Script.{Step}
@@ -62,6 +62,5 @@ relates r c v =
 abbrev pub isPicked : Table → (relation constant row : ℕ) → Bool
 isPicked x r c i = rowAt x i .isLeaf && relates r c (rowAt x i .tag)
 
-unfoldable pub picked : Table → (relation constant : ℕ) → (items : List ℕ) → List ℕ
-picked x r c [] = []
-picked x r c (i ∷ is) = pick (isPicked x r c i) (i ∷ picked x r c is) (picked x r c is)
+abbrev pub picked : Table → (relation constant : ℕ) → (items : List ℕ) → List ℕ
+picked x r c is = filtered (isPicked x r c) is

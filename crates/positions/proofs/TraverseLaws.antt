@@ -7,7 +7,7 @@ use mathlib.Core.List.{List, [], _∷_, _++_, append-assoc}
 use Prim.Native.Nat.{ℕ, zero, suc}
 use lib.ListN.{getD}
 use borrow.Author.Tests.{eqb-true, eqb-false}
-use Rattle.model.specs.Base.{pick, any, All, nothing, also}
+use Rattle.model.specs.Base.{pick, any, filtered, All, nothing, also}
 use Rattle.model.specs.Script.{Step, Expr, nil, document, var, step, both, letIn, forIn, ifIn, element, leaf, delete, insert, choose}
 use Rattle.model.specs.Paths.{placeOf, Path, start, _▸_, place, withStep, anyBelow, Paths, infer, pathsOf, prefixesOf, prefixed}
 use Rattle.model.specs.Paths.{traversed, joinPaths, binding, modifiedPlace}
@@ -208,7 +208,7 @@ accessed-own o e = owned o e [] nothing .accessed
 -- a test that fails on the script's own places finds those that start at a document only
 pub any-documents : (f : Path → Bool) (o : ℕ) → ((p : Path) → placeOf p .owner ≡ o → f p ≡ false) → (ps : List Path) → All (Own o) ps →
     any f ps ≡ any f (documents ps)
-unfolding any documents
+unfolding any filtered
 any-documents f o own [] nothing = refl
 any-documents f o own (p ∷ ps) (also h a) = go (any-documents f o own ps a)
   where
@@ -224,7 +224,7 @@ any-documents f o own (p ∷ ps) (also h a) = go (any-documents f o own ps a)
     go rest = by-cases (isDocument p) (kept rest) (λ t. dropped rest t h)
 
 pub documents-are : (ps : List Path) → All (λ (p : Path). placeOf p .owner ≡ 0) (documents ps)
-unfolding documents
+unfolding filtered
 documents-are [] = nothing
 documents-are (p ∷ ps) =
     let a = documents-are ps in
