@@ -11,12 +11,12 @@ use lib.ListN.{length, getD, set, length-append}
 use borrow.Author.Tests.{ltb-true, ltb-false, eqb-true, eqb-false}
 use Rattle.model.specs.Base.{bit}
 use Rattle.model.specs.Table.{Row, Table, noRow, rowAt, count, hasParent, withRow, withParent, linked}
-use Rattle.model.specs.History.{times, isCut, Record, cutKind}
+use Rattle.model.specs.History.{times, isCut, Record}
 use Rattle.model.specs.Run.{State, made, cutRecord}
-use Rattle.model.proofs.BoolLaws.{bit-le, and-right, by-cases, pick-cases}
+use Rattle.model.proofs.BoolLaws.{bit-le, and-right, by-cases}
 use Rattle.model.proofs.TableLaws.{parent-count, Well}
 use Rattle.model.proofs.GrowLaws.{count-withRow, rowAt-withRow-old, count-linked, rowAt-linked-same, rowAt-linked-other}
-use Rattle.model.proofs.RanLaws.{Ran, begun, rowMade, linkCut, ran-well}
+use Rattle.model.proofs.RanLaws.{Ran, begun, rowMade, linkCut, ran-well, isCut-made}
 
 -- RECORDS counted by a test
 pub times-snoc : (f : Record → Bool) (rs : List Record) (r : Record) → times f (rs ++ (r ∷ [])) ≡ times f rs + bit (f r)
@@ -29,9 +29,6 @@ cutsRow i r = isCut r && eqb (r .row) i
 
 abbrev pub makesRow : ℕ → Record → Bool
 makesRow i r = not (isCut r) && eqb (r .row) i
-
-pub isCut-made : (r : Row) (i : ℕ) → isCut (made r i) ≡ false
-isCut-made r i = pick-cases (λ (k : ℕ). eqb k cutKind ≡ false) (r .isLeaf) (λ e. refl) (λ e. refl)
 
 -- A ROW THAT IS NOT THERE YET has no record
 ran-within : {x : Table} (f : Record → Bool) (i : ℕ) → ((r : Record) → f r ≡ true → r .row ≡ i) → {s : State} → Ran x s →

@@ -5,7 +5,7 @@ use mathlib.Core.List.{List, [], _∷_, _++_}
 use mathlib.Core.Option.{Option, none, some, Option·some-ne-none}
 use Prim.Native.Nat.{ℕ, _+_, _-_, _<_}
 use native.Mathlib.Omega.{arith}
-use lib.Dec.{leb, eqb}
+use lib.Dec.{leb}
 use lib.ListN.{length, getD, take, set}
 use lib.Seq.{take-append-seam, set-set, set-getD}
 use borrow.Author.Tests.{lt-ltb, eq-eqb}
@@ -16,11 +16,11 @@ use Rattle.model.specs.Table.{parentFits}
 use Rattle.model.specs.History.{Record, madeElementKind, madeLeafKind, cutKind, historyBytes, IsInRange, AllInRange}
 use Rattle.model.specs.Run.{State, made, cutRecord}
 use Rattle.model.specs.Undo.{Placed, historySize, sameParent, sameBool, undoFits, undone, back, undoAll, backwards, undo, undoFormed}
-use Rattle.model.proofs.BoolLaws.{and-both, true-false, pick-cases}
+use Rattle.model.proofs.BoolLaws.{and-both, true-false}
 use Rattle.model.proofs.TableLaws.{any-at, isElement-by, parentFits-at, parent-count, Well}
 use Rattle.model.proofs.GrowLaws.{count-withRow, rowAt-withRow-new, count-linked, rowAt-linked-same, isLeaf-linked}
-use Rattle.model.proofs.RanLaws.{Ran, begun, rowMade, linkCut, ran-well}
-use Rattle.model.proofs.HistoryLaws.{isCut-made, ran-length}
+use Rattle.model.proofs.RanLaws.{Ran, begun, rowMade, linkCut, ran-well, isCut-made, isLeaf-made}
+use Rattle.model.proofs.HistoryLaws.{ran-length}
 use Rattle.model.proofs.FormLaws.{placed, formFrom-placed}
 use Rattle.model.proofs.All.{all-snoc}
 
@@ -39,9 +39,6 @@ sameBool-refl false = refl
 sameParent-refl : (p : Option ℕ) → sameParent p p ≡ true
 sameParent-refl none = refl
 sameParent-refl (some i) = eq-eqb i i refl
-
-isLeaf-made : (r : Row) (i : ℕ) → eqb (made r i .kind) madeLeafKind ≡ r .isLeaf
-isLeaf-made r i = pick-cases (λ (k : ℕ). eqb k madeLeafKind ≡ r .isLeaf) (r .isLeaf) (λ e. sym e) (λ e. sym e)
 
 module _ (x : Table) (w : Well x) (r : Row) where
   made-fits : undoFits (withRow x r) (made r (count x)) ≡ true
