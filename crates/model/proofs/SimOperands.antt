@@ -1,5 +1,5 @@
 -- Outcomes of expressions without operands, and what joins, steps, picks and loops make of the operands' outcomes.
-use mathlib.Core.Path.{_≡_, refl, sym, _∙_, ap, ap₂, subst, subst₂}
+use mathlib.Core.Path.{_≡_, refl, sym, _∙_, ap, subst, subst₂}
 use mathlib.Core.Bool.{Bool, true, false, _&&_}
 use mathlib.Core.Logic.{inl, inr}
 use mathlib.Core.List.{List, [], _∷_, _++_, map, map-append, List·Memᴰ as In, List·Memᴰ·head as here}
@@ -101,23 +101,19 @@ module _ (W : World) where
       ap (λ q. q .isLeaf && relates y c (q .tag)) (sym (alike-row W news s t T i (φ W i) (valued-alike W news s t T r i (all-in a k))))))
       (sim-gives W r news (picked (s .plan) y c v) s t T (all-filtered (isPicked (s .plan) y c) a))
 
-  -- JOIN: as many items in both
-  test-items : (v w : List ℕ) → ltb maxItems (length (map (φ W) v) + length (map (φ W) w)) ≡ ltb maxItems (length v + length w)
-  test-items v w = ap₂ (λ a b. ltb maxItems (a + b)) (length-map v (φ W)) (length-map w (φ W))
+  -- JOIN: as many items in both, so that both are refused, or neither
+  sim-limited : (r : List Path) (z : ℕ) (news : List Label) (v w : List ℕ) {o : Out} (o′ : List ℕ → Out) →
+      Sim W r news o (o′ (map (φ W) (v ++ w))) → Sim W r news (pick (ltb maxItems (length v + length w)) (stop (itemsAt z)) o)
+      (pick (ltb maxItems (length (map (φ W) v) + length (map (φ W) w))) (stop (itemsAt z)) (o′ (map (φ W) v ++ map (φ W) w)))
+  sim-limited r z news v w {o} o′ h = rw (length-map, length-map, ← map-append (φ W) v w) (go (ltb maxItems (length v + length w)))
+    where
+      go : (b : Bool) → Sim W r news (pick b (stop (itemsAt z)) o) (pick b (stop (itemsAt z)) (o′ (map (φ W) (v ++ w))))
+      go true = alike
+      go false = h
 
   pub sim-join : (r : List Path) (z : ℕ) (news : List Label) (v w : List ℕ) (s t : State) → Twin W news s t → Vals W r news (v ++ w) →
       Sim W r news (joinItems z v w s) (joinItems z (map (φ W) v) (map (φ W) w) t)
-  sim-join r z news v w s t T a =
-      subst₂
-      (λ b l.
-      Sim W r news (pick (ltb maxItems (length v + length w)) (stop (itemsAt z)) (gives (v ++ w) s))
-      (pick b (stop (itemsAt z)) (gives l t)))
-      (sym (test-items v w)) (map-append (φ W) v w) (go (ltb maxItems (length v + length w)))
-    where
-      go : (b : Bool) →
-          Sim W r news (pick b (stop (itemsAt z)) (gives (v ++ w) s)) (pick b (stop (itemsAt z)) (gives (map (φ W) (v ++ w)) t))
-      go true = alike
-      go false = sim-gives W r news (v ++ w) s t T a
+  sim-join r z news v w s t T a = sim-limited r z news v w (λ l. gives l t) (sim-gives W r news (v ++ w) s t T a)
 
   -- FOR: one item, and the items after it
   sim-for : (r : List Path) (z : ℕ) (news : List Label) (v : List ℕ) (next next′ : List ℕ → State → Out) {o o′ : Out} → Sim W r news o o′ →
@@ -127,16 +123,7 @@ module _ (W : World) where
       ((w : List ℕ) (s : State) → Grows (count (s .plan)) (next w s)) → Sim W r news (joinFor z v o next) (joinFor z (map (φ W) v) o′ next′)
   sim-for r z news v next next′ (both {v = w} {s} {t} more T a) k h g =
       sim-more W r news more
-      (subst₂
-      (λ b l.
-      Sim W r (news ++ more) (pick (ltb maxItems (length v + length w)) (stop (itemsAt z)) (next (v ++ w) s))
-      (pick b (stop (itemsAt z)) (next′ l t)))
-      (sym (test-items v w)) (map-append (φ W) v w) (go (ltb maxItems (length v + length w))))
-    where
-      go : (b : Bool) →
-          Sim W r (news ++ more) (pick b (stop (itemsAt z)) (next (v ++ w) s)) (pick b (stop (itemsAt z)) (next′ (map (φ W) (v ++ w)) t))
-      go true = alike
-      go false = h more (v ++ w) s t T (all-append (vals-more W r news more k) a)
+      (sim-limited r z (news ++ more) v w (λ l. next′ l t) (h more (v ++ w) s t T (all-append (vals-more W r news more k) a)))
   sim-for r z news v next next′ alike k h g = alike
   sim-for r z news v next next′ (full b stopped) k h g = full b stopped
   sim-for r z news v next next′ (full b (passed {v = w} {s} l)) k h g = full b (go (ltb maxItems (length v + length w)))
