@@ -16,6 +16,7 @@ use Rattle.model.specs.Paths.{Place, Path, start, _▸_}
 use Rattle.model.specs.Meeting.{admitsElement, admitsLeaf, isNamed, shareElement, shareLeaf, isDeep, Cell, joinCell, samePlace}
 use Rattle.model.specs.Meeting.{isParent, onStep, downStep, upStep, startCells, stepCells, cell, meets}
 use Rattle.model.proofs.BoolLaws.{and-left, and-right, and-both, or-left, or-right, true-false}
+use Rattle.model.proofs.TestLaws.{parent-on, parent-down, parent-up}
 use Rattle.model.proofs.Words.{Word, Root, Grown, same, more, grown-compare, isLeafLetter, endsInLeaf, areElements, isProper}
 use Rattle.model.proofs.Words.{elements-end, elements-proper, elements-grown, On, at, child, deep}
 
@@ -150,23 +151,14 @@ module _ (marks : List (Option ℕ)) (once : (d e i : ℕ) → getD marks d none
       On marks (q ▸ t) r (a ∷ w) → areElements w ≡ true → (isParent s t (cell p q) ≡ true) × (admits s a ≡ true) × (admits t a ≡ true)
   both-parent {p} {q} {s} {t} {r} {a} {w} k i j e = (go i j, last-admits i, last-admits j)
     where
-      on : Bool
-      on = cell p q .onElement
+      by-down : t .axis ≡ 1 → cell p q .downElement ≡ true → isParent s t (cell p q) ≡ true
+      by-down x h = parent-down s t (cell p q) (eq-eqb (t .axis) 1 x) h
 
-      down : Bool
-      down = isDeep t && cell p q .downElement
+      by-up : s .axis ≡ 1 → cell p q .upElement ≡ true → isParent s t (cell p q) ≡ true
+      by-up x h = parent-up s t (cell p q) (eq-eqb (s .axis) 1 x) h
 
-      up : Bool
-      up = isDeep s && cell p q .upElement
-
-      by-down : t .axis ≡ 1 → cell p q .downElement ≡ true → (on || down || up) ≡ true
-      by-down x h = or-left (on || down) up (or-right on down (and-both (isDeep t) _ (eq-eqb (t .axis) 1 x) h))
-
-      by-up : s .axis ≡ 1 → cell p q .upElement ≡ true → (on || down || up) ≡ true
-      by-up x h = or-right (on || down) up (and-both (isDeep s) _ (eq-eqb (s .axis) 1 x) h)
-
-      go : On marks (p ▸ s) r (a ∷ w) → On marks (q ▸ t) r (a ∷ w) → (on || down || up) ≡ true
-      go (child f x z) (child g x′ z′) = or-left (on || down) up (or-left on down (on-element k _ _ f g e))
+      go : On marks (p ▸ s) r (a ∷ w) → On marks (q ▸ t) r (a ∷ w) → isParent s t (cell p q) ≡ true
+      go (child f x z) (child g x′ z′) = parent-on s t (cell p q) (on-element k _ _ f g e)
       go (child f x z) (deep g y′ x′ z′) = by-down x′ (down-element k _ _ _ f g y′ e)
       go (deep f y x z) (child g x′ z′) = by-up x (up-element k _ _ _ g f y e)
       go (deep {u = u} f y x z) (deep {u = v} g y′ x′ z′) = elim (grown-compare y y′) [
