@@ -162,7 +162,7 @@ module _ {A : Type 0} where
   sum-none (x ∷ xs) = sum-none xs
 
 sum-steps : (f : Path → Cell) (s : Step) (ps : List Path) → sum f (withStep s ps) ≡ sum (λ (p : Path). f (p ▸ s)) ps
-unfolding sum withStep
+unfolding sum
 sum-steps f s [] = refl
 sum-steps f s (p ∷ ps) = ap (joinCell (f (p ▸ s))) (sum-steps f s ps)
 

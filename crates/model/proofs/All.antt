@@ -1,10 +1,12 @@
 -- Every item of a list has a property.
 use mathlib.Core.Path.{sym, subst}
+use mathlib.Core.Bool.{Bool}
 use mathlib.Core.List.{List, [], _∷_, _++_, map, List·Memᴰ as In, List·Memᴰ·head as here, List·Memᴰ·tail as there}
 use Prim.Native.Nat.{ℕ, zero, suc, _<_}
 use native.Mathlib.Nat.{not-suc-le-zero, le-of-suc-le-suc}
 use lib.ListN.{length, getD}
-use Rattle.model.specs.Base.{All, nothing, also}
+use Rattle.model.specs.Base.{All, nothing, also, filtered}
+use Rattle.model.proofs.BoolLaws.{pick-cases}
 
 module _ {A : Type 0} where
   pub all-append : {P : A → Type 0} {k l : List A} → All P k → All P l → All P (k ++ l)
@@ -19,6 +21,11 @@ module _ {A : Type 0} where
       All Q (map g l)
   all-map g f nothing = nothing
   all-map g f (also p a) = also (f _ p) (all-map g f a)
+
+  pub all-filtered : {P : A → Type 0} {l : List A} (f : A → Bool) → All P l → All P (filtered f l)
+  unfolding filtered
+  all-filtered f nothing = nothing
+  all-filtered {P} f (also {a = x} p a) = let b = all-filtered f a in pick-cases (All P) (f x) (λ e. also p b) (λ e. b)
 
   pub all-in : {P : A → Type 0} {l : List A} {a : A} → All P l → In a l → P a
   all-in {P} (also p b) (here e) = subst P (sym e) p

@@ -1,17 +1,17 @@
 -- The starred cases of 'Worked on plan P' hold, by computing the definitions.
 use mathlib.Core.Path.{refl}
-use Rattle.model.specs.Base.{any, all, among}
+use Rattle.model.specs.Base.{any, all, among, filtered}
 use Rattle.model.specs.Stored.{readFrom, lastMarked}
 use Rattle.model.specs.Script.{parseFrom}
-use Rattle.model.specs.Step.{isBelowFrom, stepFrom, picked}
-use Rattle.model.specs.Run.{run, loop, cutAll, copyAll, copyEach, copyOf, descendantsFrom}
-use Rattle.model.specs.Paths.{infer, withStep, prefixed, prefixesOf, hasUp}
+use Rattle.model.specs.Step.{isBelowFrom, collect}
+use Rattle.model.specs.Run.{run, loop, cutAll, copyAll, copyEach, copyOf}
+use Rattle.model.specs.Paths.{infer, prefixed, prefixesOf, hasUp}
 use Rattle.model.specs.Meeting.{cell, startCells, stepCells}
 use Rattle.model.specs.Cases.{Cases}
 
 pub casesHold : Cases
-unfolding any all among readFrom lastMarked parseFrom isBelowFrom stepFrom picked run loop cutAll copyAll copyEach copyOf
-    descendantsFrom infer withStep prefixed prefixesOf hasUp cell startCells stepCells
+unfolding any all among filtered readFrom lastMarked parseFrom isBelowFrom collect run loop cutAll copyAll copyEach copyOf
+    infer prefixed prefixesOf hasUp cell startCells stepCells
 casesHold = (
   (refl, refl, refl, refl, refl, refl, refl, refl, refl),
   refl,

@@ -13,11 +13,11 @@ use Rattle.model.specs.Paths.{Place, Path, start, _▸_, placeOf}
 use Rattle.model.specs.Meeting.{admitsElement, admitsLeaf, shareElement, shareLeaf, isDeep, Cell, samePlace, isConstructor}
 use Rattle.model.specs.Meeting.{isParent, onStep, downStep, upStep, joinCell, startCells, stepCells, cell, meets}
 use Rattle.model.proofs.BoolLaws.{or-cases, true-false}
-use Rattle.model.proofs.TestLaws.{and-parts}
+use Rattle.model.proofs.TestLaws.{and-parts, parent-cases}
 use Rattle.model.proofs.Words.{Word, Grown, same, more}
 use Rattle.model.proofs.PathLaws.{StepFits, PathFits, starts, steps}
 use Rattle.model.proofs.Spells.{Spells, spelled, deep, spells-child, root, Good, toElement, good-elements, admitsKind}
-use Rattle.model.proofs.Spells.{shareKind, LetterForBoth, letter-for, letter-for-both}
+use Rattle.model.proofs.Spells.{LetterForBoth, letter-for, letter-for-both}
 
 -- a word of kind z that both paths spell; and one that p spells, at or below a word that q spells
 pub record Meets (z : Bool) (p q : Path) : Type 0 where
@@ -147,22 +147,11 @@ pick-after false x a b h = and-parts x b h
 
 meets-step : (z : Bool) (p q : Path) (s t : Step) (c : Cell) → StepFits s → StepFits t → Found p q c →
     pick z (isParent s t c && shareLeaf s t) (isParent s t c && shareElement s t) ≡ true → Meets z (p ▸ s) (q ▸ t)
-meets-step z p q s t c f g h e = go (or-cases (c .onElement || (isDeep t && c .downElement)) (isDeep s && c .upElement) (k .0))
-  where
-    k : (isParent s t c ≡ true) × (shareKind z s t ≡ true)
-    k = pick-after z (isParent s t c) (shareLeaf s t) (shareElement s t) e
-
-    a : LetterForBoth z s t
-    a = letter-for-both z s t f g (k .1)
-
-    go : ((c .onElement || (isDeep t && c .downElement)) ≡ true) ⊎ ((isDeep s && c .upElement) ≡ true) → Meets z (p ▸ s) (q ▸ t)
-    go (inl i) = elim (or-cases (c .onElement) (isDeep t && c .downElement) i) [
-      | inl j ↦ meets-below f g a (h .on false j)
-      | inr j ↦ let b = and-parts (isDeep t) (c .downElement) j in meets-past f (b .0) a (h .down false (b .1))
-    ]
-    go (inr i) =
-        let b = and-parts (isDeep s) (c .upElement) i in
-        meets-turned (meets-past g (b .0) (letter-turned a) (h .up false (b .1)))
+meets-step z p q s t c f g h e =
+    let k = pick-after z (isParent s t c) (shareLeaf s t) (shareElement s t) e in
+    let a = letter-for-both z s t f g (k .1) in
+    parent-cases s t c (k .0) (λ i. meets-below f g a (h .on false i)) (λ d i. meets-past f d a (h .down false i))
+    (λ d i. meets-turned (meets-past g d (letter-turned a) (h .up false i)))
 
 -- two places are the same; a document's holds no leaf
 place-eq : (p q : Place) → samePlace p q ≡ true → p ≡ q

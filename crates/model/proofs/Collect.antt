@@ -1,21 +1,15 @@
 -- The rows that pass a test, in rising number: what a step computes. Two such lists agree where their tests do.
 use mathlib.Core.Path.{_≡_, refl, sym, _∙_, ap, ap₂}
 use mathlib.Core.Bool.{Bool, true, false}
-use mathlib.Core.List.{List, [], _∷_, _++_, map, append-nil, map-append}
+use mathlib.Core.List.{[], _∷_, _++_, map, append-nil, map-append}
 use Prim.Native.Nat.{ℕ, zero, suc, _+_, _<_, _≤_}
 use native.Mathlib.Nat.{zero-add, suc-add, add-zero, add-suc}
 use native.Mathlib.Omega.{arith}
 use Rattle.model.specs.Base.{pick, All, nothing, also}
-use Rattle.model.specs.Table.{Table}
-use Rattle.model.specs.Script.{Step}
-use Rattle.model.specs.Step.{collect, isReached, stepFrom}
+use Rattle.model.specs.Step.{collect}
 use Rattle.model.proofs.BoolLaws.{pick-cases}
+use Rattle.model.proofs.ListLaws.{pick-append, pick-map}
 use Rattle.model.proofs.Shift.{shift, shift-low, shift-high}
-
-pub step-collect : (x : Table) (s : Step) (v : List ℕ) (i n : ℕ) → stepFrom x s v i n ≡ collect (isReached x s v) i n
-unfolding collect stepFrom
-step-collect x s v i zero = refl
-step-collect x s v i (suc n) = ap (λ l. pick (isReached x s v i) (i ∷ l) l) (step-collect x s v (suc i) n)
 
 -- what passes the test
 pub collect-all : {P : ℕ → Type 0} (f : ℕ → Bool) (i n : ℕ) → ((j : ℕ) → j < i + n → f j ≡ true → P j) → All P (collect f i n)
@@ -25,12 +19,15 @@ collect-all {P} f i (suc n) h =
     let a = collect-all f (suc i) n (λ j k e. h j (omega arith) e) in
     pick-cases (All P) (f i) (λ e. also (h i (omega arith) e) a) (λ e. a)
 
--- JOINED
-pick-append : (z : Bool) (i : ℕ) (k l : List ℕ) → pick z (i ∷ (k ++ l)) (k ++ l) ≡ pick z (i ∷ k) k ++ l
-pick-append true i k l = refl
-pick-append false i k l = refl
+-- two tests that agree collect the same
+pub collect-same : (f g : ℕ → Bool) (i n : ℕ) → ((j : ℕ) → j < i + n → f j ≡ g j) → collect f i n ≡ collect g i n
+unfolding collect
+collect-same f g i zero h = refl
+collect-same f g i (suc n) h =
+    ap₂ (λ z l. pick z (i ∷ l) l) (h i (omega arith)) (collect-same f g (suc i) n (λ j k. h j (omega arith)))
 
-collect-append : (f : ℕ → Bool) (i a b : ℕ) → collect f i (a + b) ≡ collect f i a ++ collect f (i + a) b
+-- JOINED
+pub collect-append : (f : ℕ → Bool) (i a b : ℕ) → collect f i (a + b) ≡ collect f i a ++ collect f (i + a) b
 unfolding collect
 collect-append f i zero b = rw (zero-add, add-zero)
 collect-append f i (suc a) b =
@@ -39,7 +36,7 @@ collect-append f i (suc a) b =
     (collect-append f (suc i) a b ∙ ap (λ k. collect f (suc i) a ++ collect f k b) (suc-add i a)) ∙
     pick-append (f i) i (collect f (suc i) a) (collect f (suc (i + a)) b))
 
-collect-none : (f : ℕ → Bool) (i n : ℕ) → ((j : ℕ) → i ≤ j → j < i + n → f j ≡ false) → collect f i n ≡ []
+pub collect-none : (f : ℕ → Bool) (i n : ℕ) → ((j : ℕ) → i ≤ j → j < i + n → f j ≡ false) → collect f i n ≡ []
 unfolding collect
 collect-none f i zero h = refl
 collect-none f i (suc n) h =
@@ -47,10 +44,6 @@ collect-none f i (suc n) h =
     (collect-none f (suc i) n (λ j a b. h j (omega arith) (omega arith)))
 
 -- RAISED by c
-pick-map : (h : ℕ → ℕ) (z : Bool) (i : ℕ) (l : List ℕ) → map h (pick z (i ∷ l) l) ≡ pick z (h i ∷ map h l) (map h l)
-pick-map h true i l = refl
-pick-map h false i l = refl
-
 collect-raise : (f g : ℕ → Bool) (h : ℕ → ℕ) (i c n : ℕ) → ((j : ℕ) → i ≤ j → j < i + n → (h j ≡ j + c) × (f j ≡ g (j + c))) →
     map h (collect f i n) ≡ collect g (i + c) n
 unfolding collect

@@ -3,12 +3,12 @@ use mathlib.Core.Path.{_≡_, refl, sym, ap, _∙_}
 use mathlib.Core.Bool.{Bool, true, false, _&&_, _||_}
 use Prim.Native.Nat.{ℕ}
 use native.Mathlib.Omega.{arith}
-use Rattle.model.specs.Base.{pick, any, all, among}
+use Rattle.model.specs.Base.{pick, any, all, filtered, among}
 use Rattle.model.specs.Table.{Table}
 use Rattle.model.specs.Stored.{readFrom, lastMarked}
-use Rattle.model.specs.Step.{isBelowFrom, picked}
+use Rattle.model.specs.Step.{isBelowFrom, collect}
 use Rattle.model.specs.History.{historyBytes}
-use Rattle.model.specs.Run.{loop, cutAll, copyAll, copyEach, copyOf, descendantsFrom}
+use Rattle.model.specs.Run.{loop, cutAll, copyAll, copyEach, copyOf}
 use Rattle.model.specs.Paths.{pathsOf, traversed, hasUp}
 use Rattle.model.specs.Meeting.{meets, anyMeet, pathsMeet, Answer, free, upward, meet, answer}
 use Rattle.model.specs.Promise.{Places, rowsOn, isOn, isTouched}
@@ -120,7 +120,7 @@ freeCommutes03 e f x i j q h =
 
 -- THE STARRED CASES
 pub cases03 : T.Cases
-unfolding any all readFrom lastMarked isBelowFrom picked loop cutAll copyAll copyEach copyOf descendantsFrom
+unfolding any all readFrom lastMarked filtered isBelowFrom loop cutAll copyAll copyEach copyOf collect
     D.parseFrom R.stepFrom R.run P.infer P.withStep P.prefixed P.prefixesOf P.hasUp P.meetFrom
 cases03 =
     (refl, refl, refl, refl, refl, refl, refl, refl, refl, refl, refl, refl, refl, refl, refl, refl, refl, refl, refl, refl, refl)

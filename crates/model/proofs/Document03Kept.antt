@@ -7,7 +7,7 @@ use mathlib.Core.Option.{Option, none, some}
 use Prim.Native.Nat.{ℕ, zero, suc, _+_, _-_, _<_}
 use lib.Dec.{ltb, leb, eqb}
 use lib.ListN.{length, getD, take, drop, set, replicate}
-use Rattle.model.specs.Base.{pick, all, any, isIn}
+use Rattle.model.specs.Base.{pick, all, any, filtered, isIn}
 use Rattle.model.specs.Refusal.{Fault, fault, fine, isFine, orElse}
 use Rattle.model.specs.Table.{Row, Table, table, rowAt, count, isElement, hasParent, isThe, isMarked, withRow, tagFits, rowsFit}
 use Rattle.model.specs.Table.{markFits, noneTwice}
@@ -342,7 +342,7 @@ swept-same : (x : Table) → swept x ≡ W.swept x
 swept-same x = rw (sweptRows-same x 0 (x .rows), sweptMarks-same x (x .marks))
 
 chosen-same : (x : Table) (r c : ℕ) (v : List ℕ) → chosen x r c v ≡ T.picked x r c v
-unfolding chosen T.picked
+unfolding chosen filtered
 chosen-same x r c [] = refl
 chosen-same x r c (i ∷ v) = rw (chosen-same x r c v)
 

@@ -12,7 +12,7 @@ use Rattle.model.specs.Meeting.{admitsElement, shareElement, shareLeaf, 
 use Rattle.model.specs.Meeting.{downStep, upStep, joinCell, startCells, stepCells, cell, meets}
 use Rattle.model.specs.Document03Paths as P
 use Rattle.model.proofs.BoolLaws.{and-left, and-both, or-left, or-right, or-cases, bool-iff}
-use Rattle.model.proofs.TestLaws.{and-parts}
+use Rattle.model.proofs.TestLaws.{and-parts, parent-on, parent-down, parent-up, parent-cases}
 use Rattle.model.proofs.Document03Paths.{along, oursPath, Known, Tested, none, more, tested-before}
 use Rattle.model.proofs.Document03Search.{agree-share, agreeElement-share, last, both, passOne, passTwo, goes-by, goes-meet}
 use Rattle.model.proofs.Document03Search.{fuel-enough}
@@ -60,14 +60,9 @@ data Stands (p q : Path) : (ss ts : List Step) → Type 0 where
   down : {t : Step} {ss ts : List Step} → isDeep t ≡ true → cell p q .downElement ≡ true → Stands p q ss (t ∷ ts)
 
 stands-parent : {p q : Path} {s t : Step} {ss ts : List Step} → Stands p q (s ∷ ss) (t ∷ ts) → isParent s t (cell p q) ≡ true
-stands-parent {p} {q} {s} {t} (on e) =
-    or-left (cell p q .onElement || (isDeep t && cell p q .downElement)) (isDeep s && cell p q .upElement)
-    (or-left (cell p q .onElement) (isDeep t && cell p q .downElement) e)
-stands-parent {p} {q} {s} {t} (up d e) =
-    or-right (cell p q .onElement || (isDeep t && cell p q .downElement)) (isDeep s && cell p q .upElement) (and-both (isDeep s) _ d e)
-stands-parent {p} {q} {s} {t} (down d e) =
-    or-left (cell p q .onElement || (isDeep t && cell p q .downElement)) (isDeep s && cell p q .upElement)
-    (or-right (cell p q .onElement) (isDeep t && cell p q .downElement) (and-both (isDeep t) _ d e))
+stands-parent {p} {q} {s} {t} (on e) = parent-on s t (cell p q) e
+stands-parent {p} {q} {s} {t} (up d e) = parent-up s t (cell p q) d e
+stands-parent {p} {q} {s} {t} (down d e) = parent-down s t (cell p q) d e
 
 stands-up : {p q : Path} {s t : Step} {ss ts : List Step} → Stands p q (s ∷ ss) (t ∷ ts) →
     (cell p q .upElement || (isDeep t && cell p q .downElement)) ≡ true
@@ -172,13 +167,9 @@ record Searched (p q : Path) (c : Cell) : Type 0 where
 
 module _ {p q : Path} {c : Cell} (h : Searched p q c) where
   parent-met : (s t : Step) (ss ts : List Step) → isParent s t c ≡ true → Meeting (s ∷ ss) (t ∷ ts) → Met p q (s ∷ ss) (t ∷ ts)
-  parent-met s t ss ts e m = elim (or-cases (c .onElement || (isDeep t && c .downElement)) (isDeep s && c .upElement) e) [
-    | inl k ↦ elim (or-cases (c .onElement) (isDeep t && c .downElement) k) [
-      | inl l ↦ h .onBoth l (s ∷ ss) (t ∷ ts) m
-      | inr l ↦ let a = and-parts (isDeep t) (c .downElement) l in h .below (a .1) (s ∷ ss) t ts (a .0) m
-    ]
-    | inr k ↦ let a = and-parts (isDeep s) (c .upElement) k in h .above (a .1) s ss (t ∷ ts) (a .0) m
-  ]
+  parent-met s t ss ts e m =
+      parent-cases s t c e (λ l. h .onBoth l (s ∷ ss) (t ∷ ts) m) (λ d l. h .below l (s ∷ ss) t ts d m)
+      (λ d l. h .above l s ss (t ∷ ts) d m)
 
   above-met : (t s : Step) (ss ts : List Step) → upStep t c .upElement ≡ true → isDeep s ≡ true → Meeting (s ∷ ss) ts →
       Met p q (s ∷ ss) (t ∷ ts)

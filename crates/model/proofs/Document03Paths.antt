@@ -10,7 +10,8 @@ use native.Mathlib.Omega.{arith}
 use Rattle.model.specs.Base.{pick, any, isIn}
 use Rattle.model.specs.Table.{Table}
 use Rattle.model.specs.Script.{Step, stepBy, testFits}
-use Rattle.model.specs.Paths.{Place, Path, start, _▸_, withStep, anyBelow, Paths, infer, prefixesOf, prefixed, hasUp}
+use Rattle.model.specs.Paths.{Place, Path, start, _▸_, withStep, anyBelow, Paths, after, joinPaths, infer, prefixesOf}
+use Rattle.model.specs.Paths.{prefixed, hasUp}
 use Rattle.model.specs.Promise.{Places, rowsOn}
 use Rattle.model.specs.Document03Script as D
 use Rattle.model.specs.Document03Paths as P
@@ -64,7 +65,7 @@ append-alike nothing k = k
 append-alike (also e t h) k = also e t (append-alike h k)
 
 withStep-alike : (s : Step) {ps : List P.Path} {qs : List Path} → Known s → Alike ps qs → Alike (P.withStep s ps) (withStep s qs)
-unfolding P.withStep withStep
+unfolding P.withStep
 withStep-alike s k nothing = nothing
 withStep-alike s k (also {p} e t h) =
     also (along-more (start (p .from)) (p .steps) s ∙ ap (λ (r : Path). r ▸ s) e) (more t k) (withStep-alike s k h)
@@ -91,6 +92,15 @@ pub record PathsAlike (x : P.Paths) (y : Paths) : Type 0 where
   pub accesses : Alike (x .accessed) (y .accessed)
   pub changes : Alike (x .modified) (y .modified)
 
+module _ {x : P.Paths} {y : Paths} {r : List P.Path} {q : List Path} where
+  after-alike : {a m : List P.Path} {b n : List Path} → PathsAlike x y → Alike r q → Alike a b → Alike m n →
+      PathsAlike (P.after x r a m) (after y q b n)
+  after-alike h r a m = record { results = r; accesses = append-alike (h .accesses) a; changes = append-alike (h .changes) m }
+
+  join-alike : {z : P.Paths} {w : Paths} → PathsAlike x y → PathsAlike z w → Alike r q →
+      PathsAlike (P.joinPaths x z r) (joinPaths y w q)
+  join-alike h i r = after-alike h r (i .accesses) (i .changes)
+
 pub infer-alike : (o : ℕ) (e : D.Expr) {b : List (List P.Path)} {c : List (List Path)} → FieldsFit (ours e) → Bound b c →
     PathsAlike (P.infer o e b) (infer o (ours e) c)
 unfolding P.infer infer ours FieldsFit along
@@ -101,51 +111,35 @@ infer-alike o (D.var z v) f a = record { results = bound-at a v; accesses = noth
 infer-alike o (D.step z x t n e) f a =
     let h = infer-alike o e (f .1) a in
     let g = withStep-alike (stepBy x t n) (known-by t n (f .0)) (h .results) in
-    record { results = g; accesses = append-alike (h .accesses) g; changes = append-alike (h .changes) nothing }
+    after-alike h g g nothing
 infer-alike o (D.both z e g) f a =
     let h = infer-alike o e (f .0) a in
     let j = infer-alike o g (f .1) a in
-    record {
-      results = append-alike (h .results) (j .results);
-      accesses = append-alike (h .accesses) (j .accesses);
-      changes = append-alike (h .changes) (j .changes);
-    }
+    join-alike h j (append-alike (h .results) (j .results))
 infer-alike o (D.letIn z e g) f a =
     let h = infer-alike o e (f .0) a in
     let j = infer-alike o g (f .1) (bound-more a (h .results)) in
-    record { results = j .results; accesses = append-alike (h .accesses) (j .accesses); changes = append-alike (h .changes) (j .changes) }
+    join-alike h j (j .results)
 infer-alike o (D.forIn z e g) f a =
     let h = infer-alike o e (f .0) a in
     let j = infer-alike o g (f .1) (bound-more a (h .results)) in
-    record { results = j .results; accesses = append-alike (h .accesses) (j .accesses); changes = append-alike (h .changes) (j .changes) }
+    join-alike h j (j .results)
 infer-alike o (D.ifIn z e g q) f a =
-    let h = infer-alike o e (f .0) a in
     let i = infer-alike o g (f .1) a in
     let j = infer-alike o q (f .2) a in
-    record {
-      results = append-alike (i .results) (j .results);
-      accesses = append-alike (h .accesses) (append-alike (i .accesses) (j .accesses));
-      changes = append-alike (h .changes) (append-alike (i .changes) (j .changes));
-    }
+    join-alike (infer-alike o e (f .0) a) (join-alike {r = []} {q = []} i j nothing) (append-alike (i .results) (j .results))
 infer-alike o (D.element z n) f a =
     record { results = also refl none nothing; accesses = nothing; changes = also refl none nothing }
 infer-alike o (D.leaf z v) f a =
     record { results = also refl none nothing; accesses = nothing; changes = also refl none nothing }
 infer-alike o (D.delete z e) f a =
     let h = infer-alike o e f a in
-    record {
-      results = nothing;
-      accesses = append-alike (h .accesses) nothing;
-      changes = append-alike (h .changes) (append-alike (h .results) (withStep-alike anyBelow refl (h .results)));
-    }
+    after-alike h nothing nothing (append-alike (h .results) (withStep-alike anyBelow refl (h .results)))
 infer-alike o (D.insert z e g) f a =
     let h = infer-alike o e (f .0) a in
     let j = infer-alike o g (f .1) a in
-    record {
-      results = nothing;
-      accesses = append-alike (append-alike (h .accesses) (j .accesses)) (withStep-alike anyBelow refl (h .results));
-      changes = append-alike (append-alike (h .changes) (j .changes)) (withStep-alike anyBelow refl (j .results));
-    }
+    after-alike (join-alike {r = []} {q = []} h j nothing) nothing (withStep-alike anyBelow refl (h .results))
+    (withStep-alike anyBelow refl (j .results))
 infer-alike o (D.choose z r c e) f a = infer-alike o e f a
 
 -- ANY over lists alike, and over their prefixes

@@ -11,7 +11,7 @@ use Rattle.model.specs.Base.{pick, any}
 use Rattle.model.specs.Table.{Row, Table, rowAt, count}
 use Rattle.model.specs.Stored.{parentBytes, rowBytes, rowsBytes, marksBytes, stored}
 use Rattle.model.specs.Script.{stepBy}
-use Rattle.model.specs.Step.{letterOf, admits, stepFrom, stepped}
+use Rattle.model.specs.Step.{letterOf, admits, collect, isReached, stepped}
 use Rattle.model.specs.History.{Record}
 use Rattle.model.specs.Run.{State, Out, stop, gives, andThen, joinFor, loop, run, runOn}
 use Rattle.model.specs.Undo.{historySize, Placed, Formed, broken, formed, formFrom, undoFits, undone}
@@ -58,8 +58,8 @@ test-same a t n r =
     go true = refl
     go false = refl
 
-stepFrom-same : (x : Table) (a t n : ℕ) (v : List ℕ) (j k : ℕ) → R.stepFrom x a t n v j k ≡ stepFrom x (stepBy a t n) v j k
-unfolding R.stepFrom stepFrom
+stepFrom-same : (x : Table) (a t n : ℕ) (v : List ℕ) (j k : ℕ) → R.stepFrom x a t n v j k ≡ collect (isReached x (stepBy a t n) v) j k
+unfolding R.stepFrom collect
 stepFrom-same x a t n v j zero = refl
 stepFrom-same x a t n v j (suc k) =
     rw (test-same a t n (rowAt x j), stepFrom-same x a t n v (suc j) k)

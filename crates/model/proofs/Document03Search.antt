@@ -13,7 +13,7 @@ use Rattle.model.specs.Base.{pick}
 use Rattle.model.specs.Script.{Step}
 use Rattle.model.specs.Meeting.{shareElement, shareLeaf, isDeep}
 use Rattle.model.specs.Document03Paths as P
-use Rattle.model.proofs.BoolLaws.{and-both, or-left, or-right, or-cases}
+use Rattle.model.proofs.BoolLaws.{and-both, or-left, or-right, or-cases, pick-cases}
 use Rattle.model.proofs.TestLaws.{and-parts, and-three}
 use Rattle.model.proofs.Document03Paths.{Known}
 
@@ -81,9 +81,18 @@ pub data Goes (s t : Step) (ss ts : List Step) (next : List Step → List Step �
 suc-zero : (n : ℕ) → eqb (suc n) 0 ≡ false
 suc-zero n = ne-eqb (suc n) 0 (λ e. omega arith)
 
-module _ (s t : Step) where
-  pub goes-by : (ss ts : List Step) (next : List Step → List Step → Bool) → P.meetOn next s t ss ts ≡ true → Goes s t ss ts next
-  goes-by ss ts next e =
+module _ (s t : Step) (ss ts : List Step) (next : List Step → List Step → Bool) where
+  abbrev first : List Step → List Step → Bool
+  first ps qs = pick (eqb (length ps) 0 && eqb (length qs) 0) (P.agree s t) (P.agreeElement s t && next ps qs)
+
+  abbrev one : Bool
+  one = isDeep s && P.canBeElement t && next (s ∷ ss) ts
+
+  abbrev two : Bool
+  two = isDeep t && P.canBeElement s && next ss (t ∷ ts)
+
+  pub goes-by : P.meetOn next s t ss ts ≡ true → Goes s t ss ts next
+  goes-by e =
       elim (or-cases (first ss ts || one) two e) [
         | inl k ↦ elim (or-cases (first ss ts) one k) [
           | inl l ↦ go ss ts l
@@ -92,15 +101,6 @@ module _ (s t : Step) where
         | inr k ↦ let a = and-three (isDeep t) (P.canBeElement s) (next ss (t ∷ ts)) k in passTwo (a .0) (a .1) (a .2)
       ]
     where
-      first : List Step → List Step → Bool
-      first ps qs = pick (eqb (length ps) 0 && eqb (length qs) 0) (P.agree s t) (P.agreeElement s t && next ps qs)
-
-      one : Bool
-      one = isDeep s && P.canBeElement t && next (s ∷ ss) ts
-
-      two : Bool
-      two = isDeep t && P.canBeElement s && next ss (t ∷ ts)
-
       go : (ps qs : List Step) → first ps qs ≡ true → Goes s t ps qs next
       go [] [] l = last refl refl l
       go [] (q ∷ qs) l =
@@ -110,31 +110,16 @@ module _ (s t : Step) where
           let a = and-parts (P.agreeElement s t) (next (p ∷ ps) qs) (rw (suc-zero (length ps)) at l) in
           both (a .0) (a .1)
 
-  pub goes-meet : (ss ts : List Step) (next : List Step → List Step → Bool) → Goes s t ss ts next → P.meetOn next s t ss ts ≡ true
-  goes-meet ss ts next g = go g
-    where
-      first : List Step → List Step → Bool
-      first ps qs = pick (eqb (length ps) 0 && eqb (length qs) 0) (P.agree s t) (P.agreeElement s t && next ps qs)
-
-      one : Bool
-      one = isDeep s && P.canBeElement t && next (s ∷ ss) ts
-
-      two : Bool
-      two = isDeep t && P.canBeElement s && next ss (t ∷ ts)
-
-      choice : (z : Bool) → P.agreeElement s t ≡ true → next ss ts ≡ true →
-          pick z (P.agree s t) (P.agreeElement s t && next ss ts) ≡ true
-      choice true a h = and-three (P.agree s t) (P.canBeElement s) (P.canBeElement t) a .0
-      choice false a h = and-both (P.agreeElement s t) (next ss ts) a h
-
-      go : Goes s t ss ts next → P.meetOn next s t ss ts ≡ true
-      go (last a b h) = or-left (first ss ts || one) two (or-left (first ss ts) one (rw (a, b) h))
-      go (both a h) =
-          or-left (first ss ts || one) two
-          (or-left (first ss ts) one (choice (eqb (length ss) 0 && eqb (length ts) 0) a h))
-      go (passOne d a h) =
-          or-left (first ss ts || one) two (or-right (first ss ts) one (and-both _ (next (s ∷ ss) ts) (and-both (isDeep s) _ d a) h))
-      go (passTwo d a h) = or-right (first ss ts || one) two (and-both _ (next ss (t ∷ ts)) (and-both (isDeep t) _ d a) h)
+  pub goes-meet : Goes s t ss ts next → P.meetOn next s t ss ts ≡ true
+  goes-meet (last a b h) = or-left (first ss ts || one) two (or-left (first ss ts) one (rw (a, b) h))
+  goes-meet (both a h) =
+      or-left (first ss ts || one) two
+      (or-left (first ss ts) one
+      (pick-cases (λ (z : Bool). z ≡ true) (eqb (length ss) 0 && eqb (length ts) 0)
+      (λ e. and-three (P.agree s t) (P.canBeElement s) (P.canBeElement t) a .0) (λ e. and-both (P.agreeElement s t) (next ss ts) a h)))
+  goes-meet (passOne d a h) =
+      or-left (first ss ts || one) two (or-right (first ss ts) one (and-both _ (next (s ∷ ss) ts) (and-both (isDeep s) _ d a) h))
+  goes-meet (passTwo d a h) = or-right (first ss ts || one) two (and-both _ (next ss (t ∷ ts)) (and-both (isDeep t) _ d a) h)
 
 goes-on : {s t : Step} {ss ts : List Step} {f g : List Step → List Step → Bool} → Goes s t ss ts f →
     (f ss ts ≡ true → g ss ts ≡ true) → (f (s ∷ ss) ts ≡ true → g (s ∷ ss) ts ≡ true) → (f ss (t ∷ ts) ≡ true → g ss (t ∷ ts) ≡ true) →

@@ -21,7 +21,6 @@ use Rattle.model.proofs.All.{all-imp}
 use Rattle.model.specs.Base.{All}
 use Rattle.model.proofs.Shift.{shift, shiftRecord}
 use Rattle.model.proofs.Twin.{World, Touched, Named, Good, φ, Twin, Vals, stopped, passed, Sim, both, alike, full}
-use Rattle.model.proofs.TwinLaws.{one-count, two-count}
 use Rattle.model.proofs.Simulation.{script-sim}
 use Rattle.model.proofs.Start.{Labelled, labelled-by}
 use Rattle.model.proofs.Apart.{Away, Apart, free-apart}
@@ -207,23 +206,9 @@ module _ (e f : Expr) (x : Table) (w : Labelled x) (A : Apart e f) where
               subst₂ (OrdersBy x (gives v₁ s₁) (gives v₂ s₂)) (sym k) (sym l) (orders-by m n t q T U b),
         )
         go (inl (t, n, k, T, a)) (inr (l, m, z)) =
-            absurd (omega (
-              arith,
-              left-count one,
-              left-count two,
-              two-count (beside one) n s₂ t T,
-              one-count (beside one) n s₂ t T,
-              T .two .room,
-            ))
+            absurd (omega (arith, left-count two, order-by one n s₂ t T .total, T .two .room))
         go (inr (k, m, z)) (inl (q, n, l, U, b)) =
-            absurd (omega (
-              arith,
-              left-count one,
-              left-count two,
-              two-count (beside two) n s₁ q U,
-              one-count (beside two) n s₁ q U,
-              U .two .room,
-            ))
+            absurd (omega (arith, left-count one, order-by two n s₁ q U .total, U .two .room))
         go (inr (k, m, z)) (inr (l, m′, z′)) =
             (k ∙ sym l, λ y. absurd (true≢false (sym y ∙ k)))
 

@@ -8,15 +8,15 @@ use Prim.Native.Nat.{ℕ, zero, suc, _+_, _≤_}
 use native.Mathlib.Omega.{arith}
 use lib.Dec.{ltb, eqb}
 use lib.ListN.{length, getD, set, length-append}
-use borrow.Author.Tests.{ltb-true, ltb-false, eqb-true, eqb-false, ne-eqb}
-use Rattle.model.specs.Base.{pick, bit}
+use borrow.Author.Tests.{ltb-true, ltb-false, eqb-true, eqb-false}
+use Rattle.model.specs.Base.{bit}
 use Rattle.model.specs.Table.{Row, Table, noRow, rowAt, count, hasParent, withRow, withParent, linked}
-use Rattle.model.specs.History.{times, isCut, Record, madeElementKind, madeLeafKind, cutKind}
+use Rattle.model.specs.History.{times, isCut, Record}
 use Rattle.model.specs.Run.{State, made, cutRecord}
-use Rattle.model.proofs.BoolLaws.{bit-le}
+use Rattle.model.proofs.BoolLaws.{bit-le, and-right, by-cases}
 use Rattle.model.proofs.TableLaws.{parent-count, Well}
 use Rattle.model.proofs.GrowLaws.{count-withRow, rowAt-withRow-old, count-linked, rowAt-linked-same, rowAt-linked-other}
-use Rattle.model.proofs.RanLaws.{Ran, begun, rowMade, linkCut, ran-well}
+use Rattle.model.proofs.RanLaws.{Ran, begun, rowMade, linkCut, ran-well, isCut-made}
 
 -- RECORDS counted by a test
 pub times-snoc : (f : Record → Bool) (rs : List Record) (r : Record) → times f (rs ++ (r ∷ [])) ≡ times f rs + bit (f r)
@@ -30,27 +30,24 @@ cutsRow i r = isCut r && eqb (r .row) i
 abbrev pub makesRow : ℕ → Record → Bool
 makesRow i r = not (isCut r) && eqb (r .row) i
 
-pub isCut-made : (r : Row) (i : ℕ) → isCut (made r i) ≡ false
-isCut-made r i = go (r .isLeaf)
-  where
-    go : (t : Bool) → eqb (pick t madeLeafKind madeElementKind) cutKind ≡ false
-    go true = refl
-    go false = refl
-
--- EACH ROW IS CUT AT MOST ONCE: a row that is cut has no parent any more, and none gets one later
-ran-cut-within : (x : Table) {s : State} → Ran x s → (i : ℕ) → count (s .plan) ≤ i → times (cutsRow i) (s .history) ≡ 0
+-- A ROW THAT IS NOT THERE YET has no record
+ran-within : {x : Table} (f : Record → Bool) (i : ℕ) → ((r : Record) → f r ≡ true → r .row ≡ i) → {s : State} → Ran x s →
+    count (s .plan) ≤ i → times f (s .history) ≡ 0
 unfolding times
-ran-cut-within x begun i l = refl
-ran-cut-within x (rowMade s r q c f g) i l =
+ran-within f i on begun l = refl
+ran-within f i on (rowMade s r q c d g) l =
     let z = made r (count (s .plan)) in
-    let k : bit (cutsRow i z) ≡ 0 = ap (λ (t : Bool). bit (t && eqb (count (s .plan)) i)) (isCut-made r (count (s .plan))) in
-    omega (arith, ran-cut-within x q i (omega (arith, count-withRow (s .plan) r)), times-snoc (cutsRow i) (s .history) z)
-ran-cut-within x (linkCut s j p q e) i l =
+    let n = count-withRow (s .plan) r in
+    let k = by-cases (f z) (λ e. absurd (let h = on z e in omega arith)) (λ e. ap bit e) in
+    omega (arith, ran-within f i on q (omega arith), times-snoc f (s .history) z)
+ran-within f i on (linkCut s j p q e) l =
+    let z = cutRecord j p in
     let m = count-linked (s .plan) j none in
     let n = parent-count (s .plan) j p e in
-    let k : bit (eqb j i) ≡ 0 = ap bit (ne-eqb j i (λ (h : j ≡ i). omega arith)) in
-    omega (arith, ran-cut-within x q i (omega arith), times-snoc (cutsRow i) (s .history) (cutRecord j p))
+    let k = by-cases (f z) (λ e. absurd (let h = on z e in omega arith)) (λ e. ap bit e) in
+    omega (arith, ran-within f i on q (omega arith), times-snoc f (s .history) z)
 
+-- EACH ROW IS CUT AT MOST ONCE: a row that is cut has no parent any more, and none gets one later
 ran-cut-parent : (x : Table) {s : State} → Ran x s → (i : ℕ) →
     times (cutsRow i) (s .history) + bit (hasParent (rowAt (s .plan) i .parent)) ≤ 1
 unfolding times
@@ -70,7 +67,8 @@ ran-cut-parent x (rowMade s r q c f g) i = go (ltb i (count (s .plan))) refl (ra
         times (cutsRow i) (s .history ++ (z ∷ [])) + bit (hasParent (rowAt (withRow (s .plan) r) i .parent)) ≤ 1
     go true e v = rw (rowAt-withRow-old (s .plan) r i (ltb-true _ _ e)) (omega (arith, h, k))
     go false e v =
-        omega (arith, h, k, ran-cut-within x q i (ltb-false _ _ e), bit-le (hasParent (rowAt (withRow (s .plan) r) i .parent)))
+        let n = ran-within (cutsRow i) i (λ r d. eqb-true (r .row) i (and-right (isCut r) _ d)) q (ltb-false _ _ e) in
+        omega (arith, h, k, bit-le (hasParent (rowAt (withRow (s .plan) r) i .parent)))
 ran-cut-parent x (linkCut s j p q e) i = go (eqb j i) refl (ran-cut-parent x q i)
   where
     h : times (cutsRow i) (s .history ++ (cutRecord j p ∷ [])) ≡ times (cutsRow i) (s .history) + bit (eqb j i)
@@ -99,20 +97,6 @@ pub ran-cut-once : (x : Table) {s : State} → Ran x s → (i : ℕ) → times (
 ran-cut-once x r i = omega (arith, ran-cut-parent x r i)
 
 -- EACH ROW IS MADE AT MOST ONCE: a new row takes the next number
-ran-made-within : (x : Table) {s : State} → Ran x s → (i : ℕ) → count (s .plan) ≤ i → times (makesRow i) (s .history) ≡ 0
-unfolding times
-ran-made-within x begun i l = refl
-ran-made-within x (rowMade s r q c f g) i l =
-    let z = made r (count (s .plan)) in
-    let n = count-withRow (s .plan) r in
-    let k : bit (makesRow i z) ≡ 0 =
-    ap (λ (t : Bool). bit (not t && eqb (count (s .plan)) i)) (isCut-made r (count (s .plan))) ∙
-    ap bit (ne-eqb (count (s .plan)) i (λ (h : count (s .plan) ≡ i). omega arith)) in
-    omega (arith, ran-made-within x q i (omega arith), times-snoc (makesRow i) (s .history) z)
-ran-made-within x (linkCut s j p q e) i l =
-    omega
-    (arith, ran-made-within x q i (omega (arith, count-linked (s .plan) j none)), times-snoc (makesRow i) (s .history) (cutRecord j p))
-
 pub ran-made-once : (x : Table) {s : State} → Ran x s → (i : ℕ) → times (makesRow i) (s .history) ≤ 1
 unfolding times
 ran-made-once x begun i = omega arith
@@ -127,7 +111,8 @@ ran-made-once x (rowMade s r q c f g) i = go (eqb (count (s .plan)) i) refl (ran
     go : (t : Bool) → eqb (count (s .plan)) i ≡ t → times (makesRow i) (s .history) ≤ 1 → times (makesRow i) (s .history ++ (z ∷ [])) ≤ 1
     go true e v =
         let m = eqb-true (count (s .plan)) i e in
-        omega (arith, k, bit-le (eqb (count (s .plan)) i), ran-made-within x q i (omega arith), times-snoc (makesRow i) (s .history) z)
+        let n = ran-within (makesRow i) i (λ r d. eqb-true (r .row) i (and-right (not (isCut r)) _ d)) q (omega arith) in
+        omega (arith, k, bit-le (eqb (count (s .plan)) i), times-snoc (makesRow i) (s .history) z)
     go false e v =
         let c : bit (eqb (count (s .plan)) i) ≡ 0 = ap bit e in
         omega (arith, k, times-snoc (makesRow i) (s .history) z)

@@ -12,11 +12,11 @@ use Rattle.model.specs.Base.{pick, isIn, All, nothing, also}
 use Rattle.model.specs.Script.{Step, testFits, Expr, nil, document, var, step, both, letIn, forIn, ifIn, element, leaf, delete}
 use Rattle.model.specs.Script.{insert, choose}
 use Rattle.model.specs.Paths.{Place, Path, start, _▸_, withStep, anyBelow, Paths, infer, prefixesOf, prefixed, traversed, isUp}
-use Rattle.model.specs.Paths.{hasUp, pathsOf}
+use Rattle.model.specs.Paths.{hasUp, pathsOf, after, joinPaths}
 use Rattle.model.specs.Meeting.{isNamed}
 use Rattle.model.proofs.BoolLaws.{and-left, or-neither}
 use Rattle.model.proofs.TestLaws.{and-three}
-use Rattle.model.proofs.All.{all-read, all-append}
+use Rattle.model.proofs.All.{all-read, all-append, all-snoc, all-map}
 use Rattle.model.proofs.ScriptLaws.{FieldsFit}
 
 -- A STEP that does not lead up leads to children or to descendants
@@ -49,83 +49,72 @@ step-fits s f u = record { down = u; nameIn = λ n. go (eqb (s .test) 3) refl n 
 anyBelow-fits : StepFits anyBelow
 anyBelow-fits = record { down = refl; nameIn = λ e. absurd (false≢true e) }
 
+-- A PROPERTY of every path inferred
+pub record PathsAll (P : Path → Type 0) (x : Paths) : Type 0 where
+  pub result : All P (x .result)
+  pub accessed : All P (x .accessed)
+  pub modified : All P (x .modified)
+
+module _ {P : Path → Type 0} {x : Paths} where
+  pub after-all : {r a m : List Path} → PathsAll P x → All P r → All P a → All P m → PathsAll P (after x r a m)
+  after-all h r a m = record { result = r; accessed = all-append (h .accessed) a; modified = all-append (h .modified) m }
+
+  pub join-all : {y : Paths} {r : List Path} → PathsAll P x → PathsAll P y → All P r → PathsAll P (joinPaths x y r)
+  join-all h i r = after-all h r (i .accessed) (i .modified)
+
 -- A PATH of such steps from a place of the documents or of the owner
 pub data PathFits (o : ℕ) : Path → Type 0 where
   starts : {p : Place} → (p .owner ≡ 0) ⊎ (p .owner ≡ o) → PathFits o (start p)
   steps : {p : Path} {s : Step} → PathFits o p → StepFits s → PathFits o (p ▸ s)
 
-pub record PathsFit (o : ℕ) (x : Paths) : Type 0 where
-  pub results : All (PathFits o) (x .result)
-  pub accesses : All (PathFits o) (x .accessed)
-  pub changes : All (PathFits o) (x .modified)
-
 withStep-fits : {o : ℕ} {s : Step} {ps : List Path} → StepFits s → All (PathFits o) ps → All (PathFits o) (withStep s ps)
-unfolding withStep
-withStep-fits f nothing = nothing
-withStep-fits f (also h a) = also (steps h f) (withStep-fits f a)
+withStep-fits {s = s} f a = all-map (λ (p : Path). p ▸ s) (λ p h. steps h f) a
 
 infer-fits : (o : ℕ) (e : Expr) (b : List (List Path)) → FieldsFit e → hasUp e ≡ false → All (All (PathFits o)) b →
-    PathsFit o (infer o e b)
+    PathsAll (PathFits o) (infer o e b)
 unfolding infer FieldsFit hasUp
-infer-fits o (nil z) b f u a = record { results = nothing; accesses = nothing; changes = nothing }
+infer-fits o (nil z) b f u a = record { result = nothing; accessed = nothing; modified = nothing }
 infer-fits o (document z d) b f u a =
-    record { results = also (starts (inl refl)) nothing; accesses = also (starts (inl refl)) nothing; changes = nothing }
-infer-fits o (var z v) b f u a = record { results = all-read [] nothing a v; accesses = nothing; changes = nothing }
+    record { result = also (starts (inl refl)) nothing; accessed = also (starts (inl refl)) nothing; modified = nothing }
+infer-fits o (var z v) b f u a = record { result = all-read [] nothing a v; accessed = nothing; modified = nothing }
 infer-fits o (step z s e) b f u a =
     let k = or-neither (isUp s) (hasUp e) u in
     let h = infer-fits o e b (f .1) (k .1) a in
-    let g = withStep-fits (step-fits s (f .0) (k .0)) (h .results) in
-    record { results = g; accesses = all-append (h .accesses) g; changes = all-append (h .changes) nothing }
+    let g = withStep-fits (step-fits s (f .0) (k .0)) (h .result) in
+    after-all h g g nothing
 infer-fits o (both z e g) b f u a =
     let k = or-neither (hasUp e) (hasUp g) u in
     let h = infer-fits o e b (f .0) (k .0) a in
     let j = infer-fits o g b (f .1) (k .1) a in
-    record {
-      results = all-append (h .results) (j .results);
-      accesses = all-append (h .accesses) (j .accesses);
-      changes = all-append (h .changes) (j .changes);
-    }
+    join-all h j (all-append (h .result) (j .result))
 infer-fits o (letIn z e g) b f u a =
     let k = or-neither (hasUp e) (hasUp g) u in
     let h = infer-fits o e b (f .0) (k .0) a in
-    let j = infer-fits o g (b ++ (infer o e b .result ∷ [])) (f .1) (k .1) (all-append a (also (h .results) nothing)) in
-    record { results = j .results; accesses = all-append (h .accesses) (j .accesses); changes = all-append (h .changes) (j .changes) }
+    let j = infer-fits o g (b ++ (infer o e b .result ∷ [])) (f .1) (k .1) (all-snoc a (h .result)) in
+    join-all h j (j .result)
 infer-fits o (forIn z e g) b f u a =
     let k = or-neither (hasUp e) (hasUp g) u in
     let h = infer-fits o e b (f .0) (k .0) a in
-    let j = infer-fits o g (b ++ (infer o e b .result ∷ [])) (f .1) (k .1) (all-append a (also (h .results) nothing)) in
-    record { results = j .results; accesses = all-append (h .accesses) (j .accesses); changes = all-append (h .changes) (j .changes) }
+    let j = infer-fits o g (b ++ (infer o e b .result ∷ [])) (f .1) (k .1) (all-snoc a (h .result)) in
+    join-all h j (j .result)
 infer-fits o (ifIn z e g q) b f u a =
     let k = or-neither (hasUp e || hasUp g) (hasUp q) u in
     let l = or-neither (hasUp e) (hasUp g) (k .0) in
-    let h = infer-fits o e b (f .0) (l .0) a in
     let i = infer-fits o g b (f .1) (l .1) a in
     let j = infer-fits o q b (f .2) (k .1) a in
-    record {
-      results = all-append (i .results) (j .results);
-      accesses = all-append (h .accesses) (all-append (i .accesses) (j .accesses));
-      changes = all-append (h .changes) (all-append (i .changes) (j .changes));
-    }
+    join-all (infer-fits o e b (f .0) (l .0) a) (join-all {r = []} i j nothing) (all-append (i .result) (j .result))
 infer-fits o (element z n) b f u a =
-    record { results = also (starts (inr refl)) nothing; accesses = nothing; changes = also (starts (inr refl)) nothing }
+    record { result = also (starts (inr refl)) nothing; accessed = nothing; modified = also (starts (inr refl)) nothing }
 infer-fits o (leaf z v) b f u a =
-    record { results = also (starts (inr refl)) nothing; accesses = nothing; changes = also (starts (inr refl)) nothing }
+    record { result = also (starts (inr refl)) nothing; accessed = nothing; modified = also (starts (inr refl)) nothing }
 infer-fits o (delete z e) b f u a =
     let h = infer-fits o e b f u a in
-    record {
-      results = nothing;
-      accesses = all-append (h .accesses) nothing;
-      changes = all-append (h .changes) (all-append (h .results) (withStep-fits anyBelow-fits (h .results)));
-    }
+    after-all h nothing nothing (all-append (h .result) (withStep-fits anyBelow-fits (h .result)))
 infer-fits o (insert z e g) b f u a =
     let k = or-neither (hasUp e) (hasUp g) u in
     let h = infer-fits o e b (f .0) (k .0) a in
     let j = infer-fits o g b (f .1) (k .1) a in
-    record {
-      results = nothing;
-      accesses = all-append (all-append (h .accesses) (j .accesses)) (withStep-fits anyBelow-fits (h .results));
-      changes = all-append (all-append (h .changes) (j .changes)) (withStep-fits anyBelow-fits (j .results));
-    }
+    after-all (join-all {r = []} h j nothing) nothing (withStep-fits anyBelow-fits (h .result)) (withStep-fits anyBelow-fits (j .result))
 infer-fits o (choose z r c e) b f u a = infer-fits o e b f u a
 
 -- TRAVERSED paths fit too
@@ -141,4 +130,4 @@ prefixed-fits (also h a) = all-append (prefixesOf-fits h) (prefixed-fits a)
 
 pub pathsOf-fits : (o : ℕ) (e : Expr) → FieldsFit e → hasUp e ≡ false →
     All (PathFits o) (pathsOf o e .modified) × All (PathFits o) (traversed (pathsOf o e))
-pathsOf-fits o e f u = let h = infer-fits o e [] f u nothing in (h .changes, prefixed-fits (h .accesses))
+pathsOf-fits o e f u = let h = infer-fits o e [] f u nothing in (h .modified, prefixed-fits (h .accessed))

@@ -1,20 +1,21 @@
 -- Which rows a step down reaches from a value, link by link; carried over from one table to another in which the rows have their like.
-use mathlib.Core.Path.{_≡_, refl, sym, _∙_, ap, ap₂, subst}
+use mathlib.Core.Path.{_≡_, refl, sym, _∙_, ap, subst}
 use mathlib.Core.Bool.{true, false, or-false}
 use mathlib.Core.Logic.{_⊎_, inl, inr}
 use mathlib.Core.List.{List, [], _∷_, List·Memᴰ as In}
 use mathlib.Core.Option.{some}
-use Prim.Native.Nat.{ℕ, zero, suc, _<_}
-use Rattle.model.specs.Base.{pick, any}
+use Prim.Native.Nat.{ℕ, _<_}
+use Rattle.model.specs.Base.{any}
 use Rattle.model.specs.Table.{Table, rowAt}
 use Rattle.model.specs.Script.{Step}
-use Rattle.model.specs.Step.{Letter, leafLetter, named, letterOf, admits, isBelow, reaches, isReached, stepFrom}
+use Rattle.model.specs.Step.{Letter, leafLetter, named, letterOf, admits, isBelow, reaches, isReached, collect}
 use Rattle.model.specs.Run.{descendantsFrom}
 use Rattle.model.specs.Paths.{anyBelow, isUp}
 use Rattle.model.proofs.BoolLaws.{and-left, and-right, and-both}
 use Rattle.model.proofs.PathLaws.{down-axis}
 use Rattle.model.proofs.ListLaws.{any-in, in-any}
 use Rattle.model.proofs.TableLaws.{isThe-at, isThe-by}
+use Rattle.model.proofs.Collect.{collect-same}
 use Rattle.model.proofs.Below.{Below, under, further, below-is, is-below}
 
 -- REACH
@@ -54,11 +55,8 @@ below-reached : (x : Table) (t i : ℕ) → isBelow x t i ≡ isReached x anyBel
 unfolding any
 below-reached x t i = rw (any-admits (letterOf (rowAt x i))) (sym (or-false (isBelow x t i)))
 
-pub descendants-stepped : (x : Table) (t i n : ℕ) → descendantsFrom x t i n ≡ stepFrom x anyBelow (t ∷ []) i n
-unfolding descendantsFrom stepFrom
-descendants-stepped x t i zero = refl
-descendants-stepped x t i (suc n) =
-    ap₂ (λ z l. pick z (i ∷ l) l) (below-reached x t i) (descendants-stepped x t (suc i) n)
+pub descendants-stepped : (x : Table) (t i n : ℕ) → descendantsFrom x t i n ≡ collect (isReached x anyBelow (t ∷ [])) i n
+descendants-stepped x t i n = collect-same (isBelow x t) (isReached x anyBelow (t ∷ [])) i n (λ j h. below-reached x t j)
 
 -- ACROSS: R relates rows of x to their like in y; the parent's like is the like's parent
 module _ (x y : Table) (R : ℕ → ℕ → Type 0) (one : (i j k : ℕ) → R i j → R i k → j ≡ k)

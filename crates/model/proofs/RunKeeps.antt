@@ -22,8 +22,8 @@ use Rattle.model.proofs.TableLaws.{isElement-at, isElement-by, parent-c
 use Rattle.model.proofs.GrowLaws.{count-withRow, rowAt-withRow-old, rowAt-withRow-new, count-linked, isLeaf-linked}
 use Rattle.model.proofs.RanLaws.{Ran, begun, rowMade, linkCut, ran-well}
 use Rattle.model.proofs.ScriptLaws.{FieldsFit}
-use Rattle.model.proofs.ValueLaws.{areRows-more, areValues-more, stepFrom-rows, picked-rows, descendantsFrom-rows, marked-rows}
-use Rattle.model.proofs.All.{all-append, all-snoc, all-read}
+use Rattle.model.proofs.ValueLaws.{areRows-more, areValues-more, collect-rows, marked-rows}
+use Rattle.model.proofs.All.{all-append, all-snoc, all-read, all-filtered}
 
 -- A TABLE ENLARGED: no row goes, and none changes its kind
 pub record Enlarged (y z : Table) : Type 0 where
@@ -184,7 +184,7 @@ unfolding copyAll
 copyAll-keeps x y ty place g nothing s r h = gives-keeps x [] s r nothing
 copyAll-keeps x y ty place g (also {a = i} {l = is} l a) s r h =
     thenRow-keeps x (s .plan) (copyEach place y i g (subtree y i) [] s) _
-    (copyEach-keeps x y ty place i g (also l (descendantsFrom-rows y i 0 (count y) (count y) (omega arith))) [] s r
+    (copyEach-keeps x y ty place i g (also l (collect-rows _ 0 (count y) (count y) (omega arith))) [] s r
     (copies-none y (s .plan)) h)
     (λ u q f. copyAll-keeps x y ty place g a u q (enlarged-element g f h))
 
@@ -230,7 +230,7 @@ module _ (x : Table) (well : Well x) where
   run-keeps (var z v) t b s r a = gives-keeps x _ s r (all-read [] nothing a v)
   run-keeps (step z q e) t b s r a =
       andThen-keeps x (s .plan) (run e b s) _ (run-keeps e (t .1) b s r a)
-      (λ v u w c g. gives-keeps x _ u w (stepFrom-rows (u .plan) q v 0 (count (u .plan)) (count (u .plan)) (omega arith)))
+      (λ v u w c g. gives-keeps x _ u w (collect-rows _ 0 (count (u .plan)) (count (u .plan)) (omega arith)))
   run-keeps (both z e f) t b s r a =
       andThen-keeps x (s .plan) (run e b s) _ (run-keeps e (t .0) b s r a)
       (λ v u w c g.
@@ -260,7 +260,7 @@ module _ (x : Table) (well : Well x) where
       andThen-keeps x (u .plan) (run f b u) _ (run-keeps f (t .1) b u w (areValues-more (g .more) a))
       (λ v′ u′ w′ c′ g′. inserted-keeps x well z v v′ u′ w′ (areRows-more (g′ .more) c)))
   run-keeps (choose z q c e) t b s r a =
-      andThen-keeps x (s .plan) (run e b s) _ (run-keeps e t b s r a) (λ v u w d g. gives-keeps x _ u w (picked-rows (u .plan) q c d))
+      andThen-keeps x (s .plan) (run e b s) _ (run-keeps e t b s r a) (λ v u w d g. gives-keeps x _ u w (all-filtered _ d))
 
   pub runOn-keeps : (e : Expr) → FieldsFit e → Keeps x x (runOn x e)
   runOn-keeps e t = run-keeps e t [] (state x []) begun nothing

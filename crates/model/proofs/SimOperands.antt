@@ -1,6 +1,6 @@
 -- Outcomes of expressions without operands, and what joins, steps, picks and loops make of the operands' outcomes.
-use mathlib.Core.Path.{_≡_, refl, sym, _∙_, ap, ap₂, subst, subst₂}
-use mathlib.Core.Bool.{Bool, true, false, _&&_, true≢false, false≢true}
+use mathlib.Core.Path.{_≡_, refl, sym, _∙_, ap, subst, subst₂}
+use mathlib.Core.Bool.{Bool, true, false, _&&_}
 use mathlib.Core.Logic.{inl, inr}
 use mathlib.Core.List.{List, [], _∷_, _++_, map, map-append, List·Memᴰ as In, List·Memᴰ·head as here}
 use mathlib.Core.Option.{Option, none, some, Option·none-ne-some}
@@ -11,7 +11,7 @@ use lib.ListN.{length, getD, length-map}
 use Rattle.model.specs.Base.{pick, nothing, also}
 use Rattle.model.specs.Limits.{maxItems}
 use Rattle.model.specs.Refusal.{itemsAt}
-use Rattle.model.specs.Table.{rowAt, count}
+use Rattle.model.specs.Table.{count}
 use Rattle.model.specs.Script.{Step}
 use Rattle.model.specs.Step.{relates, isPicked, stepped, picked}
 use Rattle.model.specs.Run.{State, Out, stop, gives, joinItems, joinFor, loop, marked, loose, newRow, withMade}
@@ -20,11 +20,12 @@ use Rattle.model.proofs.Words.{first, made, at}
 use Rattle.model.proofs.GrowLaws.{count-withRow}
 use Rattle.model.proofs.Labels.{Label, label, labelAt}
 use Rattle.model.proofs.Below.{OnPath}
-use Rattle.model.proofs.All.{all-append}
+use Rattle.model.proofs.All.{all-append, all-in, all-filtered}
+use Rattle.model.proofs.ListLaws.{filtered-map}
 use Rattle.model.proofs.Grows.{Grows, grows-gives, grows-loop}
 use Rattle.model.proofs.Shift.{shift-low}
-use Rattle.model.proofs.Twin.{World, φ, ones, Twin, Valued, Vals, Full, stopped, passed, Sim, both, alike, full, φRow}
-use Rattle.model.proofs.TwinLaws.{label-side, ones-length, Alike, count-across, label-last, valued-alike}
+use Rattle.model.proofs.Twin.{World, φ, ones, Twin, Valued, Vals, Full, stopped, passed, Sim, both, alike, full}
+use Rattle.model.proofs.TwinLaws.{label-side, ones-length, count-across, label-last, valued-alike, alike-row}
 use Rattle.model.proofs.TwinStep.{step-alike, step-vals}
 use Rattle.model.proofs.TwinRow.{new-sim}
 use Rattle.model.proofs.TwinBase.{Base, new-fit, new-touched}
@@ -91,54 +92,28 @@ module _ (W : World) where
       (sim-gives W (withStep u r) news (stepped (s .plan) u v) s t T (step-vals W news s t T r u d acc v a))
 
   -- PICK: kept in one, kept in the other
-  picked-alike : (r : List Path) (y c : ℕ) (news : List Label) (s t : State) → Twin W news s t → (v : List ℕ) → Vals W r news v →
-      (map (φ W) (picked (s .plan) y c v) ≡ picked (t .plan) y c (map (φ W) v)) × Vals W r news (picked (s .plan) y c v)
-  unfolding picked
-  picked-alike r y c news s t T [] nothing = (refl, nothing)
-  picked-alike r y c news s t T (i ∷ is) (also k a) =
-      go (picked-alike r y c news s t T is a) (isPicked (s .plan) y c i) (isPicked (t .plan) y c (φ W i))
-      (ap₂ (λ b n. b && relates y c n) (ap (λ r. r .isLeaf) same) (ap (λ r. r .tag) same))
-    where
-      l : Alike W s i (φ W i)
-      l = valued-alike W news s t T r i k
-
-      same : rowAt (t .plan) (φ W i) ≡ φRow W (rowAt (s .plan) i)
-      same = T .alike i (l .0) (l .1)
-
-      go : (map (φ W) (picked (s .plan) y c is) ≡ picked (t .plan) y c (map (φ W) is)) × Vals W r news (picked (s .plan) y c is) →
-          (b d : Bool) → d ≡ b →
-          (map (φ W) (pick b (i ∷ picked (s .plan) y c is) (picked (s .plan) y c is)) ≡
-          pick d (φ W i ∷ picked (t .plan) y c (map (φ W) is)) (picked (t .plan) y c (map (φ W) is))) ×
-          Vals W r news (pick b (i ∷ picked (s .plan) y c is) (picked (s .plan) y c is))
-      go (e, h) true true f = (ap (λ l. φ W i ∷ l) e, also k h)
-      go (e, h) false false f = (e, h)
-      go (e, h) true false f = absurd (false≢true f)
-      go (e, h) false true f = absurd (true≢false f)
-
   pub sim-pick : (r : List Path) (y c : ℕ) (news : List Label) (v : List ℕ) (s t : State) → Twin W news s t → Vals W r news v →
       Sim W r news (gives (picked (s .plan) y c v) s) (gives (picked (t .plan) y c (map (φ W) v)) t)
   sim-pick r y c news v s t T a =
-      let (e, k) = picked-alike r y c news s t T v a in
-      subst (λ l. Sim W r news (gives (picked (s .plan) y c v) s) (gives l t)) e
-      (sim-gives W r news (picked (s .plan) y c v) s t T k)
+      subst (λ l. Sim W r news (gives (picked (s .plan) y c v) s) (gives l t))
+      (filtered-map (φ W) (isPicked (s .plan) y c) (isPicked (t .plan) y c) v
+      (λ i k.
+      ap (λ q. q .isLeaf && relates y c (q .tag)) (sym (alike-row W news s t T i (φ W i) (valued-alike W news s t T r i (all-in a k))))))
+      (sim-gives W r news (picked (s .plan) y c v) s t T (all-filtered (isPicked (s .plan) y c) a))
 
-  -- JOIN: as many items in both
-  test-items : (v w : List ℕ) → ltb maxItems (length (map (φ W) v) + length (map (φ W) w)) ≡ ltb maxItems (length v + length w)
-  test-items v w = ap₂ (λ a b. ltb maxItems (a + b)) (length-map v (φ W)) (length-map w (φ W))
+  -- JOIN: as many items in both, so that both are refused, or neither
+  sim-limited : (r : List Path) (z : ℕ) (news : List Label) (v w : List ℕ) {o : Out} (o′ : List ℕ → Out) →
+      Sim W r news o (o′ (map (φ W) (v ++ w))) → Sim W r news (pick (ltb maxItems (length v + length w)) (stop (itemsAt z)) o)
+      (pick (ltb maxItems (length (map (φ W) v) + length (map (φ W) w))) (stop (itemsAt z)) (o′ (map (φ W) v ++ map (φ W) w)))
+  sim-limited r z news v w {o} o′ h = rw (length-map, length-map, ← map-append (φ W) v w) (go (ltb maxItems (length v + length w)))
+    where
+      go : (b : Bool) → Sim W r news (pick b (stop (itemsAt z)) o) (pick b (stop (itemsAt z)) (o′ (map (φ W) (v ++ w))))
+      go true = alike
+      go false = h
 
   pub sim-join : (r : List Path) (z : ℕ) (news : List Label) (v w : List ℕ) (s t : State) → Twin W news s t → Vals W r news (v ++ w) →
       Sim W r news (joinItems z v w s) (joinItems z (map (φ W) v) (map (φ W) w) t)
-  sim-join r z news v w s t T a =
-      subst₂
-      (λ b l.
-      Sim W r news (pick (ltb maxItems (length v + length w)) (stop (itemsAt z)) (gives (v ++ w) s))
-      (pick b (stop (itemsAt z)) (gives l t)))
-      (sym (test-items v w)) (map-append (φ W) v w) (go (ltb maxItems (length v + length w)))
-    where
-      go : (b : Bool) →
-          Sim W r news (pick b (stop (itemsAt z)) (gives (v ++ w) s)) (pick b (stop (itemsAt z)) (gives (map (φ W) (v ++ w)) t))
-      go true = alike
-      go false = sim-gives W r news (v ++ w) s t T a
+  sim-join r z news v w s t T a = sim-limited r z news v w (λ l. gives l t) (sim-gives W r news (v ++ w) s t T a)
 
   -- FOR: one item, and the items after it
   sim-for : (r : List Path) (z : ℕ) (news : List Label) (v : List ℕ) (next next′ : List ℕ → State → Out) {o o′ : Out} → Sim W r news o o′ →
@@ -148,16 +123,7 @@ module _ (W : World) where
       ((w : List ℕ) (s : State) → Grows (count (s .plan)) (next w s)) → Sim W r news (joinFor z v o next) (joinFor z (map (φ W) v) o′ next′)
   sim-for r z news v next next′ (both {v = w} {s} {t} more T a) k h g =
       sim-more W r news more
-      (subst₂
-      (λ b l.
-      Sim W r (news ++ more) (pick (ltb maxItems (length v + length w)) (stop (itemsAt z)) (next (v ++ w) s))
-      (pick b (stop (itemsAt z)) (next′ l t)))
-      (sym (test-items v w)) (map-append (φ W) v w) (go (ltb maxItems (length v + length w))))
-    where
-      go : (b : Bool) →
-          Sim W r (news ++ more) (pick b (stop (itemsAt z)) (next (v ++ w) s)) (pick b (stop (itemsAt z)) (next′ (map (φ W) (v ++ w)) t))
-      go true = alike
-      go false = h more (v ++ w) s t T (all-append (vals-more W r news more k) a)
+      (sim-limited r z (news ++ more) v w (λ l. next′ l t) (h more (v ++ w) s t T (all-append (vals-more W r news more k) a)))
   sim-for r z news v next next′ alike k h g = alike
   sim-for r z news v next next′ (full b stopped) k h g = full b stopped
   sim-for r z news v next next′ (full b (passed {v = w} {s} l)) k h g = full b (go (ltb maxItems (length v + length w)))

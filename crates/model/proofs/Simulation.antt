@@ -6,6 +6,7 @@ use Prim.Native.Nat.{ℕ, zero, suc}
 use lib.Dec.{eqb}
 use lib.ListN.{length, getD, length-map, List·getD-map}
 use Rattle.model.specs.Base.{pick, nothing, also}
+use Rattle.model.specs.Table.{count}
 use Rattle.model.specs.Script.{Step, Expr, nil, document, var, step, both, letIn, forIn, ifIn, element, leaf, delete, insert, choose}
 use Rattle.model.specs.Step.{stepped, picked}
 use Rattle.model.specs.Run.{State, Out, gives, andThen, joinItems, inserted, loop, cutAll, run}
@@ -14,7 +15,8 @@ use Rattle.model.specs.Paths.{isUp, hasUp}
 use Rattle.model.proofs.BoolLaws.{or-neither}
 use Rattle.model.proofs.Labels.{Label}
 use Rattle.model.proofs.All.{all-append}
-use Rattle.model.proofs.Grows.{grows-gives, grows-then, grows-pick, grows-join, grows-cut, grows-insert, grows-loop, run-grows}
+use Rattle.model.proofs.Grows.{Grows, grows-gives, grows-then, grows-pick, grows-join, grows-cut, grows-insert, grows-loop}
+use Rattle.model.proofs.Grows.{run-grows}
 use Rattle.model.proofs.Twin.{World, φ, Twin, Vals, Sim}
 use Rattle.model.proofs.TwinLaws.{in-step}
 use Rattle.model.proofs.TwinCut.{cut-sim}
@@ -112,35 +114,38 @@ module _ (W : World) where
       ups : (isUp c ≡ false) × (hasUp e ≡ false)
       ups = or-neither (isUp c) (hasUp e) u
 
+  -- TWO OPERANDS, and what is done with their values
+  operands-sim : (e f : Expr) → Simulated e → Simulated f → (r : List Path) (act : List ℕ → List ℕ → State → Out) (b : List (List Path))
+      (v : List (List ℕ)) (news : List Label) (s t : State) → (hasUp e || hasUp f) ≡ false →
+      Inside (joinPaths (infer (W .script .owner) e b) (infer (W .script .owner) f b) []) → Env news b v → Twin W news s t →
+      ((news : List Label) (w w′ : List ℕ) (s t : State) → Twin W news s t → Vals W (infer (W .script .owner) e b .result) news w →
+      Vals W (infer (W .script .owner) f b .result) news w′ → Sim W r news (act w w′ s) (act (map (φ W) w) (map (φ W) w′) t)) →
+      ((w w′ : List ℕ) (q : State) → Grows (count (q .plan)) (act w w′ q)) →
+      Sim W r news (andThen (run e v s) (λ w q. andThen (run f v q) (λ w′ q. act w w′ q)))
+      (andThen (run e (φs v) t) (λ w q. andThen (run f (φs v) q) (λ w′ q. act w w′ q)))
+  operands-sim e f E F r act b v news s t u h k T sim grows =
+      let x = infer (W .script .owner) e b in
+      let y = infer (W .script .owner) f b in
+      let ups = or-neither (hasUp e) (hasUp f) u in
+      sim-then W (x .result) r news (λ w q. andThen (run f v q) (λ w′ q. act w w′ q))
+      (λ w q. andThen (run f (φs v) q) (λ w′ q. act w w′ q))
+      (E b v news s t (ups .0) (inside-first x [] (y .accessed) (y .modified) h) k T)
+      (λ more w s t T a.
+      sim-then W (y .result) r (news ++ more) (λ w′ q. act w w′ q) (λ w′ q. act (map (φ W) w) w′ q)
+      (F b v (news ++ more) s t (ups .1) (inside-rest x [] (y .result) (y .accessed) (y .modified) h) (env-more news more k) T)
+      (λ rest w′ s t T a′. sim (news ++ more ++ rest) w w′ s t T (vals-more W (x .result) (news ++ more) rest a) a′)
+      (λ w′ q. grows w w′ q))
+      (λ w q. grows-then (λ w′ q. act w w′ q) (run-grows f v q) (λ w′ q. grows w w′ q))
+
   -- JOIN
   join-simulated : (z : ℕ) (e f : Expr) → Simulated e → Simulated f → Simulated (both z e f)
   unfolding run infer hasUp
   join-simulated z e f E F b v news s t u h k T =
-      sim-then W (x .result) (x .result ++ y .result) news
-      (λ w q. andThen (run f v q) (λ w′ q. joinItems z w w′ q))
-      (λ w q. andThen (run f (φs v) q) (λ w′ q. joinItems z w w′ q))
-      (E b v news s t (ups .0) (inside-first x (x .result ++ y .result) (y .accessed) (y .modified) h) k T)
-      (λ more w s t T a.
-      sim-then W (y .result) (x .result ++ y .result) (news ++ more) (λ w′ q. joinItems z w w′ q)
-      (λ w′ q. joinItems z (map (φ W) w) w′ q)
-      (F b v (news ++ more) s t (ups .1)
-      (inside-rest x (x .result ++ y .result) (y .result) (y .accessed) (y .modified) h) (env-more news more k) T)
-      (λ rest w′ s t T a′.
-      sim-join W (x .result ++ y .result) z (news ++ more ++ rest) w w′ s t T
-      (all-append (vals-left W (x .result) (y .result) (news ++ more ++ rest) (vals-more W (x .result) (news ++ more) rest a))
-      (vals-right W (x .result) (y .result) (news ++ more ++ rest) a′)))
-      (λ w′ q. grows-join z w w′ q))
-      (λ w q.
-      grows-then (λ w′ q. joinItems z w w′ q) (run-grows f v q) (λ w′ q. grows-join z w w′ q))
-    where
-      x : Paths
-      x = infer (W .script .owner) e b
-
-      y : Paths
-      y = infer (W .script .owner) f b
-
-      ups : (hasUp e ≡ false) × (hasUp f ≡ false)
-      ups = or-neither (hasUp e) (hasUp f) u
+      let x = infer (W .script .owner) e b .result in
+      let y = infer (W .script .owner) f b .result in
+      operands-sim e f E F (x ++ y) (λ w w′ q. joinItems z w w′ q) b v news s t u h k T
+      (λ n w w′ s t T a a′. sim-join W (x ++ y) z n w w′ s t T (all-append (vals-left W x y n a) (vals-right W x y n a′)))
+      (λ w w′ q. grows-join z w w′ q)
 
   -- LET
   let-simulated : (z : ℕ) (e f : Expr) → Simulated e → Simulated f → Simulated (letIn z e f)
@@ -271,38 +276,16 @@ module _ (W : World) where
   insert-simulated : (z : ℕ) (e f : Expr) → Simulated e → Simulated f → Simulated (insert z e f)
   unfolding run infer hasUp
   insert-simulated z e f E F b v news s t u h k T =
-      sim-then W (x .result) [] news
-      (λ w q. andThen (run f v q) (λ w′ q. inserted z w w′ q))
-      (λ w q. andThen (run f (φs v) q) (λ w′ q. inserted z w w′ q))
-      (E b v news s t (ups .0) (inside-first x [] (y .accessed) (y .modified) inner) k T)
-      (λ more w s t T a.
-      sim-then W (y .result) [] (news ++ more) (λ w′ q. inserted z w w′ q)
-      (λ w′ q. inserted z (map (φ W) w) w′ q)
-      (F b v (news ++ more) s t (ups .1) (inside-rest x [] (y .result) (y .accessed) (y .modified) inner)
-      (env-more news more k) T)
-      (λ rest w′ s t T a′.
-      insert-sim W (news ++ more ++ rest) s t T (x .result) (y .result)
+      let x = infer (W .script .owner) e b in
+      let y = infer (W .script .owner) f b in
+      let xy = joinPaths x y [] in
+      operands-sim e f E F [] (λ w w′ q. inserted z w w′ q) b v news s t u
+      (inside-first xy [] (withStep anyBelow (x .result)) (withStep anyBelow (y .result)) h) k T
+      (λ n w w′ s t T a a′.
+      insert-sim W n s t T (x .result) (y .result)
       (λ p i. h .0 (p ▸ anyBelow) (Memᴰ·append-right (xy .accessed) (in-step anyBelow i)))
-      (λ p i. h .1 (p ▸ anyBelow) (Memᴰ·append-right (xy .modified) (in-step anyBelow i))) z w w′
-      (vals-more W (x .result) (news ++ more) rest a) a′)
-      (λ w′ q. grows-insert z w w′ q))
-      (λ w q.
-      grows-then (λ w′ q. inserted z w w′ q) (run-grows f v q) (λ w′ q. grows-insert z w w′ q))
-    where
-      x : Paths
-      x = infer (W .script .owner) e b
-
-      y : Paths
-      y = infer (W .script .owner) f b
-
-      xy : Paths
-      xy = joinPaths x y []
-
-      inner : Inside xy
-      inner = inside-first xy [] (withStep anyBelow (x .result)) (withStep anyBelow (y .result)) h
-
-      ups : (hasUp e ≡ false) × (hasUp f ≡ false)
-      ups = or-neither (hasUp e) (hasUp f) u
+      (λ p i. h .1 (p ▸ anyBelow) (Memᴰ·append-right (xy .modified) (in-step anyBelow i))) z w w′ a a′)
+      (λ w w′ q. grows-insert z w w′ q)
 
   -- PICK
   pick-simulated : (z y c : ℕ) (e : Expr) → Simulated e → Simulated (choose z y c e)

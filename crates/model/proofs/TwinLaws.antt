@@ -1,7 +1,7 @@
 -- What follows from a twin: counts, labels, and that rows which are not hidden have their like in the other state.
 use mathlib.Core.Path.{_≡_, refl, sym, _∙_, ap, ap₂, subst}
 use mathlib.Core.Logic.{_⊎_, inl, inr}
-use mathlib.Core.List.{List, [], _∷_, _++_, map, append-assoc, List·Memᴰ as In, List·Memᴰ·head as here, List·Memᴰ·tail as there}
+use mathlib.Core.List.{List, [], _∷_, _++_, map, append-assoc, List·Memᴰ as In, Memᴰ·map}
 use mathlib.Core.Option.{Option, none, some, Option·none-ne-some, Option·some-injective}
 use Prim.Native.Nat.{ℕ, _+_, _-_, _<_, _≤_}
 use native.Mathlib.Omega.{arith}
@@ -24,9 +24,7 @@ use Rattle.model.proofs.Twin.{Side, Script, SideFits, World, Touched, I
 use Rattle.model.proofs.Twin.{φParent, φRecord}
 
 pub in-step : (s : Step) {p : Path} {r : List Path} → In p r → In (p ▸ s) (withStep s r)
-unfolding withStep
-in-step s (here e) = here (ap (λ p. p ▸ s) e)
-in-step s (there i) = there (in-step s i)
+in-step s i = Memᴰ·map (λ (p : Path). p ▸ s) i
 
 -- what is below a touched row is touched
 pub touched-grow : (c : Script) (l : Label) (a : Letter) → Touched c l → Touched c (grow l a)

@@ -30,6 +30,12 @@ use Rattle.model.proofs.TwinLaws.{alike-row}
 use Rattle.model.proofs.SimLaws.{full-grows}
 
 -- ONE STATE
+row-made : (z : ℕ) (r : Row) (s : State) → isFine (roomFault z s) ≡ true → newRow z r s ≡ gives (count (s .plan) ∷ []) (withMade s r)
+row-made z r s e = pick-true (isFine (roomFault z s)) _ _ e
+
+row-refused : (z : ℕ) (r : Row) (s : State) → isFine (roomFault z s) ≡ false → newRow z r s ≡ stop (roomFault z s)
+row-refused z r s e = pick-false (isFine (roomFault z s)) _ _ e
+
 good-row : (c : Script) (d : Side) → SideFits c d → (news : List Label) (s : State) → Good c d news s → (r : Row) (l : Label) →
     NewFit (d .labels ++ news) (s .plan) r l → ((p : ℕ) → r .parent ≡ some p → d .hidden p → ⊥) → count (s .plan) < maxRows →
     Good c d (news ++ (l ∷ [])) (withMade s r)
@@ -175,38 +181,24 @@ module _ (W : World) (news : List Label) (s t : State) (T : Twin W news s t) whe
         Sim W q news (f (newRow z r s)) (f′ (newRow z (φRow W r) t))
     new-sim next g = go (room-cases z)
       where
-        fine : isFine (roomFault z s) ≡ true → newRow z r s ≡ gives (count (s .plan) ∷ []) (withMade s r)
-        fine e = pick-true (isFine (roomFault z s)) (gives (count (s .plan) ∷ []) (withMade s r)) (stop (roomFault z s)) e
-
-        fine′ : isFine (roomFault z t) ≡ true →
-            newRow z (φRow W r) t ≡ gives (count (t .plan) ∷ []) (withMade t (φRow W r))
-        fine′ e =
-            pick-true (isFine (roomFault z t)) (gives (count (t .plan) ∷ []) (withMade t (φRow W r)))
-            (stop (roomFault z t)) e
-
         refused : isFine (roomFault z s) ≡ false → f (newRow z r s) ≡ stop (roomFault z s)
-        refused e =
-            ap f (pick-false (isFine (roomFault z s)) (gives (count (s .plan) ∷ []) (withMade s r)) (stop (roomFault z s)) e) ∙
-            hands (roomFault z s)
+        refused e = ap f (row-refused z r s e) ∙ hands (roomFault z s)
 
         refused′ : isFine (roomFault z t) ≡ false → f′ (newRow z (φRow W r) t) ≡ stop (roomFault z t)
-        refused′ e =
-            ap f′
-            (pick-false (isFine (roomFault z t)) (gives (count (t .plan) ∷ []) (withMade t (φRow W r)))
-            (stop (roomFault z t)) e) ∙
-            hands′ (roomFault z t)
+        refused′ e = ap f′ (row-refused z (φRow W r) t e) ∙ hands′ (roomFault z t)
 
         fills : maxRows ≤ count (s .plan) + W .m → (isFine (roomFault z s) ≡ true) ⊎ (isFine (roomFault z s) ≡ false) →
             Full W (f (newRow z r s))
         fills b (inl e) =
-            subst (Full W) (ap f (sym (fine e)))
+            subst (Full W) (ap f (sym (row-made z r s e)))
             (full-grows W (count (withMade s r .plan)) (f (gives (count (s .plan) ∷ []) (withMade s r)))
             (omega (arith, count-withRow (s .plan) r)) g)
         fills b (inr e) = subst (Full W) (sym (refused e)) stopped
 
         go : Room z → Sim W q news (f (newRow z r s)) (f′ (newRow z (φRow W r) t))
         go (roomy a b c d) =
-            subst₂ (Sim W q news) (ap f (sym (fine a))) (ap f′ (sym (fine′ b))) (next (twin-row r l n clear k c d))
+            subst₂ (Sim W q news) (ap f (sym (row-made z r s a))) (ap f′ (sym (row-made z (φRow W r) t b)))
+            (next (twin-row r l n clear k c d))
         go (filled a b e) = subst₂ (Sim W q news) (sym (refused a)) (sym (refused′ b ∙ ap stop (sym e))) alike
         go (tight a b c) =
             subst (Sim W q news (f (newRow z r s))) (sym (refused′ a)) (full b (fills c (bool-cases (isFine (roomFault z s)))))

@@ -13,7 +13,7 @@ use Rattle.model.specs.Run.{State, subtree}
 use Rattle.model.specs.Paths.{Path, _▸_, withStep, anyBelow, isUp}
 use Rattle.model.proofs.BoolLaws.{bool-cases, bool-iff}
 use Rattle.model.proofs.Labels.{Label, labelAt}
-use Rattle.model.proofs.Collect.{step-collect, collect-all, collect-shift}
+use Rattle.model.proofs.Collect.{collect-all, collect-shift}
 use Rattle.model.proofs.Reach.{Reach, reach-is, is-reach, descendants-stepped, reach-across}
 use Rattle.model.proofs.All.{all-imp, all-in}
 use Rattle.model.specs.Base.{All, nothing, also}
@@ -79,19 +79,15 @@ module _ (W : World) (news : List Label) (s t : State) (T : Twin W news s t) (r 
 
   pub step-alike : map (φ W) (stepped (s .plan) u v) ≡ stepped (t .plan) u (map (φ W) v)
   step-alike =
-      ap (map (φ W)) (step-collect (s .plan) u v 0 (count (s .plan)) ∙ ap (collect (isReached (s .plan) u v) 0) (one-count W news s t T)) ∙
+      ap (map (φ W)) (ap (collect (isReached (s .plan) u v) 0) (one-count W news s t T)) ∙
       collect-shift (isReached (s .plan) u v) (isReached (t .plan) u (map (φ W) v)) (W .n) (W .m) (length news)
       (λ j h. test-same j (omega (arith, one-count W news s t T))) test-none ∙
-      sym
-      (step-collect (t .plan) u (map (φ W) v) 0 (count (t .plan)) ∙
-      ap (collect (isReached (t .plan) u (map (φ W) v)) 0) (two-count W news s t T))
+      ap (collect (isReached (t .plan) u (map (φ W) v)) 0) (sym (two-count W news s t T))
 
   pub step-vals : Vals W (withStep u r) news (stepped (s .plan) u v)
   step-vals =
-      subst (Vals W (withStep u r) news) (sym (step-collect (s .plan) u v 0 (count (s .plan))))
-      (collect-all (isReached (s .plan) u v) 0 (count (s .plan))
-      (λ j h e.
-      (omega (arith, T .one .fit .size), one-item j (reach-is (s .plan) u v j down e))))
+      collect-all (isReached (s .plan) u v) 0 (count (s .plan))
+      (λ j h e. (omega (arith, T .one .fit .size), one-item j (reach-is (s .plan) u v j down e)))
 
 -- SUBTREES: a row, and what the step 'descendant, any node' reaches from it
 module _ (W : World) (news : List Label) (s t : State) (T : Twin W news s t) (r : List Path)

@@ -5,7 +5,7 @@ use mathlib.Core.List.{List, [], _∷_, _++_}
 use mathlib.Core.Option.{Option, none, some, Option·some-ne-none}
 use Prim.Native.Nat.{ℕ, _+_, _-_, _<_}
 use native.Mathlib.Omega.{arith}
-use lib.Dec.{leb, eqb}
+use lib.Dec.{leb}
 use lib.ListN.{length, getD, take, set}
 use lib.Seq.{take-append-seam, set-set, set-getD}
 use borrow.Author.Tests.{lt-ltb, eq-eqb}
@@ -19,8 +19,8 @@ use Rattle.model.specs.Undo.{Placed, historySize, sameParent, sameBool, 
 use Rattle.model.proofs.BoolLaws.{and-both, true-false}
 use Rattle.model.proofs.TableLaws.{any-at, isElement-by, parentFits-at, parent-count, Well}
 use Rattle.model.proofs.GrowLaws.{count-withRow, rowAt-withRow-new, count-linked, rowAt-linked-same, isLeaf-linked}
-use Rattle.model.proofs.RanLaws.{Ran, begun, rowMade, linkCut, ran-well}
-use Rattle.model.proofs.HistoryLaws.{isCut-made, ran-length}
+use Rattle.model.proofs.RanLaws.{Ran, begun, rowMade, linkCut, ran-well, isCut-made, isLeaf-made}
+use Rattle.model.proofs.HistoryLaws.{ran-length}
 use Rattle.model.proofs.FormLaws.{placed, formFrom-placed}
 use Rattle.model.proofs.All.{all-snoc}
 
@@ -39,13 +39,6 @@ sameBool-refl false = refl
 sameParent-refl : (p : Option ℕ) → sameParent p p ≡ true
 sameParent-refl none = refl
 sameParent-refl (some i) = eq-eqb i i refl
-
-isLeaf-made : (r : Row) (i : ℕ) → eqb (made r i .kind) madeLeafKind ≡ r .isLeaf
-isLeaf-made r i = go (r .isLeaf)
-  where
-    go : (t : Bool) → eqb (pick t madeLeafKind madeElementKind) madeLeafKind ≡ t
-    go true = refl
-    go false = refl
 
 module _ (x : Table) (w : Well x) (r : Row) where
   made-fits : undoFits (withRow x r) (made r (count x)) ≡ true

@@ -1,20 +1,17 @@
 -- Values are lists of rows: in a table of more rows, and answered by steps, picks and documents.
 use mathlib.Core.Path.{_≡_, refl}
-use mathlib.Core.List.{List, [], _∷_}
+use mathlib.Core.Bool.{Bool}
+use mathlib.Core.List.{List}
 use mathlib.Core.Option.{Option, none, some}
 use Prim.Native.Nat.{ℕ, _+_, _≤_, _<_}
 use native.Mathlib.Omega.{arith}
 use lib.ListN.{getD}
 use Rattle.model.specs.Base.{nothing, also}
 use Rattle.model.specs.Table.{Table, count, Tree}
-use Rattle.model.specs.Script.{Step}
-use Rattle.model.specs.Step.{isReached, stepFrom, isPicked, picked}
-use Rattle.model.specs.Run.{descendantsFrom, marked, AreRows, AreValues}
-use Rattle.model.specs.Paths.{anyBelow}
-use Rattle.model.proofs.BoolLaws.{pick-cases}
+use Rattle.model.specs.Step.{collect}
+use Rattle.model.specs.Run.{marked, AreRows, AreValues}
 use Rattle.model.proofs.All.{all-imp}
-use Rattle.model.proofs.Collect.{step-collect, collect-all}
-use Rattle.model.proofs.Reach.{descendants-stepped}
+use Rattle.model.proofs.Collect.{collect-all}
 
 -- more rows
 pub areRows-more : {n m : ℕ} {v : List ℕ} → n ≤ m → AreRows n v → AreRows m v
@@ -23,19 +20,9 @@ areRows-more l = all-imp (λ i h. omega arith)
 pub areValues-more : {n m : ℕ} {b : List (List ℕ)} → n ≤ m → AreValues n b → AreValues m b
 areValues-more l = all-imp (λ v. areRows-more l)
 
--- steps and picks answer rows
-pub stepFrom-rows : (x : Table) (t : Step) (v : List ℕ) (j k n : ℕ) → j + k ≤ n → AreRows n (stepFrom x t v j k)
-stepFrom-rows x t v j k n l = rw step-collect (collect-all (isReached x t v) j k (λ i b e. omega arith))
-
-pub picked-rows : (x : Table) (r c : ℕ) {n : ℕ} {v : List ℕ} → AreRows n v → AreRows n (picked x r c v)
-unfolding picked
-picked-rows x r c nothing = nothing
-picked-rows x r c {n} (also {a = i} h a) =
-    let b = picked-rows x r c a in
-    pick-cases (AreRows n) (isPicked x r c i) (λ e. also h b) (λ e. b)
-
-pub descendantsFrom-rows : (x : Table) (t j k n : ℕ) → j + k ≤ n → AreRows n (descendantsFrom x t j k)
-descendantsFrom-rows x t j k n l = rw descendants-stepped (stepFrom-rows x anyBelow (t ∷ []) j k n l)
+-- steps answer rows
+pub collect-rows : (f : ℕ → Bool) (j k n : ℕ) → j + k ≤ n → AreRows n (collect f j k)
+collect-rows f j k n l = collect-all f j k (λ i b e. omega arith)
 
 pub marked-rows : (x : Table) → Tree x → (d : ℕ) → AreRows (count x) (marked (getD (x .marks) d none))
 marked-rows x t d = go (getD (x .marks) d none) refl

@@ -16,6 +16,7 @@ use Rattle.model.specs.Paths.{Place, Path, start, _▸_}
 use Rattle.model.specs.Meeting.{admitsElement, admitsLeaf, isNamed, shareElement, shareLeaf, isDeep, Cell, joinCell, samePlace}
 use Rattle.model.specs.Meeting.{isParent, onStep, downStep, upStep, startCells, stepCells, cell, meets}
 use Rattle.model.proofs.BoolLaws.{and-left, and-right, and-both, or-left, or-right, true-false}
+use Rattle.model.proofs.TestLaws.{parent-on, parent-down, parent-up}
 use Rattle.model.proofs.Words.{Word, Root, Grown, same, more, grown-compare, isLeafLetter, endsInLeaf, areElements, isProper}
 use Rattle.model.proofs.Words.{elements-end, elements-proper, elements-grown, On, at, child, deep}
 
@@ -142,43 +143,28 @@ module _ (marks : List (Option ℕ)) (once : (d e i : ℕ) → getD marks d none
       go (inr b) = or-right near (isDeep t && far) (and-both (isDeep t) far (eq-eqb (t .axis) 1 x) (k r u v g f b (elements-grown h e)))
 
   -- ON BOTH: the parent of a node on p ▸ s and on q ▸ t
-  isParent-by : (on down up : Bool) → (on ≡ true) ⊎ ((down ≡ true) ⊎ (up ≡ true)) → (on || down || up) ≡ true
-  isParent-by a b c (inl e) = or-left (a || b) c (or-left a b e)
-  isParent-by a b c (inr (inl e)) = or-left (a || b) c (or-right a b e)
-  isParent-by a b c (inr (inr e)) = or-right (a || b) c e
+  last-admits : {p : Path} {s : Step} {r : Root} {a : Letter} {w : Word} → On marks (p ▸ s) r (a ∷ w) → admits s a ≡ true
+  last-admits (child f x z) = z
+  last-admits (deep f y x z) = z
 
   both-parent : {p q : Path} {s t : Step} {r : Root} {a : Letter} {w : Word} → Sound p q → On marks (p ▸ s) r (a ∷ w) →
       On marks (q ▸ t) r (a ∷ w) → areElements w ≡ true → (isParent s t (cell p q) ≡ true) × (admits s a ≡ true) × (admits t a ≡ true)
-  both-parent {p} {q} {s} {t} k (child f x z) (child g x′ z′) e = (
-    isParent-by (cell p q .onElement) (isDeep t && cell p q .downElement) (isDeep s && cell p q .upElement)
-        (inl (on-element k _ _ f g e)),
-    z,
-    z′,
-  )
-  both-parent {p} {q} {s} {t} k (child f x z) (deep g y′ x′ z′) e = (
-    isParent-by (cell p q .onElement) (isDeep t && cell p q .downElement) (isDeep s && cell p q .upElement)
-        (inr (inl (and-both (isDeep t) (cell p q .downElement) (eq-eqb (t .axis) 1 x′) (down-element k _ _ _ f g y′ e)))),
-    z,
-    z′,
-  )
-  both-parent {p} {q} {s} {t} k (deep f y x z) (child g x′ z′) e = (
-    isParent-by (cell p q .onElement) (isDeep t && cell p q .downElement) (isDeep s && cell p q .upElement)
-        (inr (inr (and-both (isDeep s) (cell p q .upElement) (eq-eqb (s .axis) 1 x) (up-element k _ _ _ g f y e)))),
-    z,
-    z′,
-  )
-  both-parent {p} {q} {s} {t} {r} k (deep {u = u} f y x z) (deep {u = v} g y′ x′ z′) e = (
-    isParent-by (cell p q .onElement) (isDeep t && cell p q .downElement) (isDeep s && cell p q .upElement)
-        (inr (go (grown-compare y y′))),
-    z,
-    z′,
-  )
+  both-parent {p} {q} {s} {t} {r} {a} {w} k i j e = (go i j, last-admits i, last-admits j)
     where
-      go : Grown u v ⊎ Grown v u → ((isDeep t && cell p q .downElement) ≡ true) ⊎ ((isDeep s && cell p q .upElement) ≡ true)
-      go (inl b) =
-          inr (and-both (isDeep s) (cell p q .upElement) (eq-eqb (s .axis) 1 x) (up-element k r v u g f b (elements-grown y′ e)))
-      go (inr b) =
-          inl (and-both (isDeep t) (cell p q .downElement) (eq-eqb (t .axis) 1 x′) (down-element k r u v f g b (elements-grown y e)))
+      by-down : t .axis ≡ 1 → cell p q .downElement ≡ true → isParent s t (cell p q) ≡ true
+      by-down x h = parent-down s t (cell p q) (eq-eqb (t .axis) 1 x) h
+
+      by-up : s .axis ≡ 1 → cell p q .upElement ≡ true → isParent s t (cell p q) ≡ true
+      by-up x h = parent-up s t (cell p q) (eq-eqb (s .axis) 1 x) h
+
+      go : On marks (p ▸ s) r (a ∷ w) → On marks (q ▸ t) r (a ∷ w) → isParent s t (cell p q) ≡ true
+      go (child f x z) (child g x′ z′) = parent-on s t (cell p q) (on-element k _ _ f g e)
+      go (child f x z) (deep g y′ x′ z′) = by-down x′ (down-element k _ _ _ f g y′ e)
+      go (deep f y x z) (child g x′ z′) = by-up x (up-element k _ _ _ g f y e)
+      go (deep {u = u} f y x z) (deep {u = v} g y′ x′ z′) = elim (grown-compare y y′) [
+        | inl b ↦ by-up x (up-element k r v u g f b (elements-grown y′ e))
+        | inr b ↦ by-down x′ (down-element k r u v f g b (elements-grown y e))
+      ]
 
   -- THE CELLS, as they are computed
   place-same : {p q : Place} {r : Root} → On marks (start p) r [] → On marks (start q) r [] → samePlace p q ≡ true

@@ -27,6 +27,11 @@ unfoldable pub any : {A : Type 0} → (A → Bool) → List A → Bool
 any f [] = false
 any f (x ∷ xs) = f x || any f xs
 
+-- the items that pass a test
+unfoldable pub filtered : {A : Type 0} → (A → Bool) → List A → List A
+filtered f [] = []
+filtered f (x ∷ xs) = pick (f x) (x ∷ filtered f xs) (filtered f xs)
+
 -- x is an element of the list
 unfoldable pub among : ℕ → List ℕ → Bool
 among x [] = false

@@ -1,6 +1,6 @@
 -- Document 01, 'The paths': result, accessed, modified and traversed paths of an expression. Assumes nothing: these are definitions.
 use mathlib.Core.Bool.{Bool, false, _||_}
-use mathlib.Core.List.{List, [], _∷_, _++_}
+use mathlib.Core.List.{List, [], _∷_, _++_, map}
 use Prim.Native.Nat.{ℕ}
 use lib.Dec.{leb}
 use lib.ListN.{getD}
@@ -29,9 +29,8 @@ unfoldable pub placeOf : Path → Place
 placeOf (start p) = p
 placeOf (p ▸ s) = placeOf p
 
-unfoldable pub withStep : Step → List Path → List Path
-withStep s [] = []
-withStep s (p ∷ ps) = (p ▸ s) ∷ withStep s ps
+abbrev pub withStep : Step → List Path → List Path
+withStep s ps = map (λ (p : Path). p ▸ s) ps
 
 -- the step r/descendant any node
 abbrev pub anyBelow : Step

@@ -2,7 +2,7 @@
 use mathlib.Core.Bool.{Bool, true, false, _&&_}
 use mathlib.Core.List.{List, [], _∷_, _++_}
 use mathlib.Core.Option.{Option, none, some}
-use Prim.Native.Nat.{ℕ, zero, suc, _+_, _<_}
+use Prim.Native.Nat.{ℕ, _+_, _<_}
 use lib.Dec.{ltb, eqb}
 use lib.ListN.{length, getD}
 use Rattle.model.specs.Base.{pick, All}
@@ -10,7 +10,7 @@ use Rattle.model.specs.Limits.{maxRows, maxItems, maxHistory}
 use Rattle.model.specs.Refusal.{Fault, isFine, orElse, unless, targetAt, itemsAt, historyAt, tableAt}
 use Rattle.model.specs.Table.{Row, Table, rowAt, count, isElement, withRow, withParent, linked}
 use Rattle.model.specs.Script.{Expr, nil, document, var, step, both, letIn, forIn, ifIn, element, leaf, delete, insert, choose}
-use Rattle.model.specs.Step.{isBelow, stepped, picked}
+use Rattle.model.specs.Step.{isBelow, collect, stepped, picked}
 use Rattle.model.specs.History.{Record, madeElementKind, madeLeafKind, cutKind}
 
 -- a run's state: table and history so far
@@ -91,9 +91,8 @@ copyParent false t (some p) cs = copyOf p cs
 abbrev pub copyRow : Table → (top target row : ℕ) → List Copied → Row
 copyRow x t g i cs = withParent (rowAt x i) (copyParent (eqb i t) g (rowAt x i .parent) cs)
 
-unfoldable pub descendantsFrom : Table → (top row : ℕ) → ℕ → List ℕ
-descendantsFrom x t i zero = []
-descendantsFrom x t i (suc n) = pick (isBelow x t i) (i ∷ descendantsFrom x t (suc i) n) (descendantsFrom x t (suc i) n)
+abbrev pub descendantsFrom : Table → (top row : ℕ) → ℕ → List ℕ
+descendantsFrom x t i n = collect (isBelow x t) i n
 
 abbrev pub subtree : Table → (top : ℕ) → List ℕ
 subtree x t = t ∷ descendantsFrom x t 0 (count x)

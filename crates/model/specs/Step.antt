@@ -3,7 +3,7 @@ use mathlib.Core.Bool.{Bool, false, _&&_, _||_, not}
 use mathlib.Core.List.{List, [], _∷_}
 use Prim.Native.Nat.{ℕ, zero, suc, _+_, _-_}
 use lib.Dec.{ltb, eqb}
-use Rattle.model.specs.Base.{pick, any}
+use Rattle.model.specs.Base.{pick, any, filtered}
 use Rattle.model.specs.Table.{Row, Table, rowAt, count, isThe}
 use Rattle.model.specs.Sweep.{through}
 use Rattle.model.specs.Script.{Step}
@@ -43,16 +43,12 @@ unfoldable pub collect : (ℕ → Bool) → (row : ℕ) → ℕ → List ℕ
 collect f i zero = []
 collect f i (suc n) = pick (f i) (i ∷ collect f (suc i) n) (collect f (suc i) n)
 
--- A step answers its rows in rising number, each once
 abbrev pub isReached : Table → Step → (items : List ℕ) → (row : ℕ) → Bool
 isReached x s v j = admits s (letterOf (rowAt x j)) && any (λ (i : ℕ). reaches x (s .axis) i j) v
 
-unfoldable pub stepFrom : Table → Step → (items : List ℕ) → (row : ℕ) → ℕ → List ℕ
-stepFrom x s v j zero = []
-stepFrom x s v j (suc k) = pick (isReached x s v j) (j ∷ stepFrom x s v (suc j) k) (stepFrom x s v (suc j) k)
-
+-- A step answers its rows in rising number, each once
 abbrev pub stepped : Table → Step → (items : List ℕ) → List ℕ
-stepped x s v = stepFrom x s v 0 (count x)
+stepped x s v = collect (isReached x s v) 0 (count x)
 
 -- PICK. Relation: 0 equal, 1 less, 2 greater, on signed values: two's complement with its halves in order
 abbrev pub signedKey : (value : ℕ) → ℕ
@@ -66,6 +62,5 @@ relates r c v =
 abbrev pub isPicked : Table → (relation constant row : ℕ) → Bool
 isPicked x r c i = rowAt x i .isLeaf && relates r c (rowAt x i .tag)
 
-unfoldable pub picked : Table → (relation constant : ℕ) → (items : List ℕ) → List ℕ
-picked x r c [] = []
-picked x r c (i ∷ is) = pick (isPicked x r c i) (i ∷ picked x r c is) (picked x r c is)
+abbrev pub picked : Table → (relation constant : ℕ) → (items : List ℕ) → List ℕ
+picked x r c is = filtered (isPicked x r c) is

@@ -6,14 +6,14 @@ use Prim.Native.Nat.{ℕ, suc, _+_, _-_, _≤_, _<_}
 use native.Mathlib.Omega.{arith}
 use lib.ListN.{length, getD}
 use borrow.Author.Tests.{ne-eqb}
-use Rattle.model.specs.Base.{nothing}
+use Rattle.model.specs.Base.{nothing, filtered}
 use Rattle.model.specs.Table as model
 use Rattle.model.specs.Script.{stepBy, bodySize}
 use Rattle.model.specs.Step.{isReached, isPicked, stepped, picked}
 use Rattle.model.specs.Run.{gives}
 use Rattle.model.proofs.BoolLaws.{pick-cases}
-use Rattle.model.proofs.Collect.{step-collect}
-use Rattle.model.proofs.ValueLaws.{stepFrom-rows, picked-rows}
+use Rattle.model.proofs.ValueLaws.{collect-rows}
+use Rattle.model.proofs.All.{all-filtered}
 use Rattle.records.proofs.KindLaws.{unary-kind}
 use Rattle.table.specs.Words.{decodeParts}
 use Rattle.updates.specs.State.{stateOf, Held}
@@ -30,7 +30,7 @@ use Rattle.operators.proofs.YieldLaws.{yields-updated, updated-none, yi
 
 -- FEW: neither a pick nor a step passes 512 items
 picked-few : (x : model.Table) (r c : ℕ) (v : List ℕ) → length (picked x r c v) ≤ length v
-unfolding picked
+unfolding filtered
 picked-few x r c [] = omega arith
 picked-few x r c (i ∷ is) =
     let l = picked-few x r c is in
@@ -40,8 +40,7 @@ stepped-few : {ws h : List ℕ} {p : Progress} → Held ws h p → (ms v : List 
     length (stepped (decodeParts (p .count) ws ms) (stepBy a t n) v) ≤ 512
 stepped-few {ws} {h} {p} held ms v a t n =
     let x = decodeParts (p .count) ws ms in
-    let e = ap length (step-collect x (stepBy a t n) v 0 (model.count x)) in
-    omega (arith, e, length-collect (isReached x (stepBy a t n) v) 0 (model.count x), held-count held ms, held .few)
+    omega (arith, length-collect (isReached x (stepBy a t n) v) 0 (model.count x), held-count held ms, held .few)
 
 -- A VALUE from top on
 module _ {ws h w : List ℕ} {top : ℕ} {x : Evaluated} (pre : ValuePre ws h w top x) where
@@ -118,7 +117,7 @@ module _ {b : List ℕ} {at : ℕ} {ws h w : List ℕ} {top : ℕ} {x : Evaluate
           (yields-updated (updated-none (pre .value .held)) (post .value c ms (pre .value .held .few) (value-low (pre .value))) (λ q. refl)
           size (omega (arith, pre .value .room))
           (omega (arith, picked-few (decodeParts c ws ms) (getD b (at + 1) 0) (getD b (at + 2) 0) v, value-few (pre .value)))
-          (λ q. picked-rows (decodeParts c ws ms) (getD b (at + 1) 0) (getD b (at + 2) 0) (pre .value .rows)) (pre .value .spans) eq)
+          (λ q. all-filtered _ (pre .value .rows)) (pre .value .spans) eq)
 
       pub step-yields : getD b at 0 ≡ 4 → {name : ℕ} → name ≡ getD b (at + 3) 0 →
           StepPost ws (x .progress .count) (getD b (at + 1) 0) (getD b (at + 2) 0) name w top (x .end) w′ e →
@@ -134,7 +133,7 @@ module _ {b : List ℕ} {at : ℕ} {ws h w : List ℕ} {top : ℕ} {x : Evaluate
           (ap (λ (j : ℕ). gives (stepped t (stepBy (getD b (at + 1) 0) (getD b (at + 2) 0) j) v) (stateOf ws ms h (x .progress))) i ∙ rw k)
           refl
           (yields-updated (updated-none (pre .value .held)) (post .value ms) (λ q. refl) size (omega (arith, pre .value .room)) few
-          (λ q. stepFrom-rows t s v 0 (model.count t) c l) (pre .value .spans) eq)
+          (λ q. collect-rows _ 0 (model.count t) c l) (pre .value .spans) eq)
 
 -- WITH TWO OPERANDS
 module _ {ws h w : List ℕ} {top mid : ℕ} {y : Evaluated} (pre : BinaryPre ws h w top mid y) where

@@ -1,13 +1,14 @@
 -- Paths that start at a document; those that start at a constructor's place meet no path of the other script.
-use mathlib.Core.Path.{_≡_, refl, ap, _∙_}
-use mathlib.Core.Bool.{Bool, true, false, _&&_}
-use mathlib.Core.List.{List, [], _∷_, _++_}
+use mathlib.Core.Path.{_≡_, refl, ap, sym, _∙_}
+use mathlib.Core.Bool.{Bool, false, _&&_}
+use mathlib.Core.List.{List, _++_}
 use lib.Dec.{eqb}
-use Rattle.model.specs.Base.{pick}
+use Rattle.model.specs.Base.{filtered}
 use Rattle.model.specs.Script.{Step}
 use Rattle.model.specs.Paths.{placeOf, Place, Path, start, _▸_, withStep}
 use Rattle.model.specs.Meeting.{Cell, onCell, joinCell, samePlace, isConstructor, onStep, downStep, upStep, startCells, stepCells, cell}
 use Rattle.model.specs.Meeting.{isMet, meets}
+use Rattle.model.proofs.ListLaws.{filtered-append, filtered-map}
 use Rattle.meeting.specs.Cells.{noCell}
 use Rattle.meeting.proofs.CellLaws.{on-respects, down-respects, up-respects}
 
@@ -15,31 +16,15 @@ abbrev pub isDocument : Path → Bool
 isDocument p = eqb (placeOf p .owner) 0
 
 -- those of a list that start at a document
-unfoldable pub documents : List Path → List Path
-documents [] = []
-documents (p ∷ ps) = pick (isDocument p) (p ∷ documents ps) (documents ps)
+abbrev pub documents : List Path → List Path
+documents ps = filtered isDocument ps
 
 pub documents-append : (ps qs : List Path) → documents (ps ++ qs) ≡ documents ps ++ documents qs
-unfolding documents
-documents-append [] qs = refl
-documents-append (p ∷ ps) qs =
-    ap (λ (l : List Path). pick (isDocument p) (p ∷ l) l) (documents-append ps qs) ∙ go (isDocument p)
-  where
-    go : (t : Bool) → pick t (p ∷ (documents ps ++ documents qs)) (documents ps ++ documents qs) ≡
-        pick t (p ∷ documents ps) (documents ps) ++ documents qs
-    go true = refl
-    go false = refl
+documents-append ps qs = filtered-append isDocument ps qs
 
 pub documents-step : (s : Step) (ps : List Path) → documents (withStep s ps) ≡ withStep s (documents ps)
-unfolding documents withStep placeOf
-documents-step s [] = refl
-documents-step s (p ∷ ps) =
-    ap (λ (l : List Path). pick (isDocument p) ((p ▸ s) ∷ l) l) (documents-step s ps) ∙ go (isDocument p)
-  where
-    go : (t : Bool) → pick t ((p ▸ s) ∷ withStep s (documents ps)) (withStep s (documents ps)) ≡
-        withStep s (pick t (p ∷ documents ps) (documents ps))
-    go true = refl
-    go false = refl
+unfolding placeOf
+documents-step s ps = sym (filtered-map (λ (p : Path). p ▸ s) isDocument isDocument ps (λ p i. refl))
 
 -- APART: paths from different places have nothing in common
 start-apart : (p : Place) (q : Path) → samePlace p (placeOf q) ≡ false → cell (start p) q ≡ noCell

@@ -9,7 +9,7 @@ use lib.Dec.{eqb}
 use lib.ListN.{length, getD, length-append, List·getD-append}
 use lib.Seq.{getD-at}
 use borrow.Author.Tests.{ne-eqb, eqb-true}
-use Rattle.model.specs.Base.{pick}
+use Rattle.model.specs.Base.{pick, filtered}
 use Rattle.model.specs.Script.{Step, Expr, nil, document, var, step, both, letIn, forIn, ifIn, element, leaf, delete, insert, choose}
 use Rattle.model.specs.Paths.{placeOf, Path, start, place, withStep, anyBelow, infer, isUp}
 use Rattle.model.proofs.BoolLaws.{and-left, pick-cases, eq-cases}
@@ -72,7 +72,7 @@ ready es z r a m y h =
 -- nothing is emitted
 known : (es : List Entry) → Ready es → (n : ℕ) (r : List Path) → n < length es → pathsOn es n ≡ documents r →
     Right es r [] [] (emitted n es)
-unfolding documents
+unfolding filtered
 known es z n r h e =
     record {
       low = h;
@@ -86,7 +86,7 @@ known es z n r h e =
 
 -- the result is nothing
 discarded : (es : List Entry) → Ready es → (r a m : List Path) (y : Emitted) → Right es r a m y → Right es [] a m (emitted 0 (y .entries))
-unfolding documents
+unfolding filtered
 discarded es z r a m y h =
     record {
       low = omega (arith, z .some, h .more);
@@ -173,7 +173,6 @@ nothing-more es r a m y h r′ a′ m′ e f g =
     none x ps q = sym (ap (λ (v : List Path). x ++ v) q ∙ append-nil x)
 
 no-step : (s : Step) (r : List Path) → documents r ≡ [] → documents (withStep s r) ≡ []
-unfolding withStep
 no-step s r e = documents-step s r ∙ ap (withStep s) e
 
 -- BOUND VARIABLES: each position has the paths of its variable
@@ -184,7 +183,7 @@ pub data Bound (es : List Entry) : List ℕ → List (List Path) → Type 0 wher
 
 bound-at : (es : List Entry) → Ready es → {ns : List ℕ} {rs : List (List Path)} → Bound es ns rs → (v : ℕ) →
     (getD ns v 0 < length es) × (pathsOn es (getD ns v 0) ≡ documents (getD rs v []))
-unfolding documents
+unfolding filtered
 bound-at es z none v = (z .some, z .zero)
 bound-at es z (bind h e b) zero = (h, e)
 bound-at es z (bind h e b) (suc v) = bound-at es z b v
@@ -230,7 +229,7 @@ module _ (o : ℕ) (own : o ≡ 0 → ⊥) where
     no-second = no-documents es z r′ (a ++ a′) (m ++ m′) y′ two
 
     emits-union : Right es (r ++ r′) (a ++ a′) (m ++ m′) (pushUnion (y .result) y′)
-    unfolding documents
+    unfolding filtered
     emits-union =
         alike es (r ++ r′) (a ++ a′ ++ []) (m ++ m′ ++ []) (a ++ a′) (m ++ m′) _ (append-nil (a ++ a′)) (append-nil (m ++ m′))
         (pick-cases (Right es (r ++ r′) (a ++ a′ ++ []) (m ++ m′ ++ [])) (eqb (y .result) 0)
@@ -261,7 +260,7 @@ module _ (o : ℕ) (own : o ≡ 0 → ⊥) where
 
   emits-step : (es : List Entry) → Ready es → (s : Step) (r a m : List Path) (y : Emitted) → Right es r a m y →
       Right es (withStep s r) (a ++ withStep s r) (m ++ []) (pushStep s y)
-  unfolding documents
+  unfolding filtered
   emits-step es z s r a m y h =
       pick-cases (Right es (withStep s r) (a ++ withStep s r) (m ++ [])) (eqb (y .result) 0 && not (isUp s))
       (λ e. let n = no-documents es z r a m y h (eqb-true (y .result) 0 (and-left (eqb (y .result) 0) _ e)) in
@@ -271,7 +270,7 @@ module _ (o : ℕ) (own : o ≡ 0 → ⊥) where
 
   emits-delete : (es : List Entry) → Ready es → (r a m : List Path) (y : Emitted) → Right es r a m y →
       Right es [] (a ++ []) (m ++ (r ++ withStep anyBelow r)) (pushDelete y)
-  unfolding documents
+  unfolding filtered
   emits-delete es z r a m y h =
       pick-cases (Right es [] (a ++ []) (m ++ (r ++ withStep anyBelow r))) (eqb (y .result) 0)
       (λ e. let n = no-documents es z r a m y h (eqb-true (y .result) 0 e) in
@@ -309,7 +308,7 @@ module _ (o : ℕ) (own : o ≡ 0 → ⊥) where
         pick (f (over anyBelow n) .accessed) (documents (withStep anyBelow q)) [] ≡ documents a′ →
         pick (f (over anyBelow n) .modified) (documents (withStep anyBelow q)) [] ≡ documents m′ →
         Right es [] (a ++ a′) (m ++ m′) (emitted 0 (pushBelow f n (y .entries)))
-    unfolding documents
+    unfolding filtered
     emits-below f p a′ m′ i j =
         pick-cases (λ (x : List Entry). Right es [] (a ++ a′) (m ++ m′) (emitted 0 x)) (eqb n 0)
         (λ e. let w = none-below (eqb-true n 0 e) in
@@ -333,7 +332,7 @@ module _ (o : ℕ) (own : o ≡ 0 → ⊥) where
   emits-insert : (es : List Entry) → Ready es → (r a m r′ a′ m′ : List Path) (y y′ : Emitted) → Right es r a m y →
       Right (y .entries) r′ a′ m′ y′ →
       Right es [] (a ++ a′ ++ withStep anyBelow r) (m ++ m′ ++ withStep anyBelow r′) (pushInsert (y .result) y′)
-  unfolding documents
+  unfolding filtered
   emits-insert es z r a m r′ a′ m′ y y′ h g =
       let low : y .result < length (y′ .entries) = omega (arith, h .low, g .more) in
       let read = emits-below es z r′ (a ++ a′) (m ++ m′) y′ (thenRight es r a m r′ a′ m′ y y′ h g) (y .result) r low
@@ -347,7 +346,7 @@ module _ (o : ℕ) (own : o ≡ 0 → ⊥) where
       (ap (λ (v : List Path). v ++ withStep anyBelow r′) (append-nil (m ++ m′))) written
 
   constructed : (es : List Entry) → Ready es → (n : ℕ) → Right es (start (place o n) ∷ []) [] (start (place o n) ∷ []) (emitted 0 es)
-  unfolding documents placeOf
+  unfolding filtered placeOf
   constructed es z n =
       let w : documents (start (place o n) ∷ []) ≡ [] = rw (ne-eqb o 0 own) in
       let h = known es z 0 [] (z .some) (z .zero) in
@@ -362,7 +361,7 @@ module _ (o : ℕ) (own : o ≡ 0 → ⊥) where
       }
 
   pub emits : (e : Expr) → Emits e
-  unfolding emit infer documents placeOf
+  unfolding emit infer filtered placeOf
   emits (nil z) ns rs es y b = known es y 0 [] (y .some) (y .zero)
   emits (document z d) ns rs es y b =
       pushed es [] [] [] (emitted 0 es) (known es y 0 [] (y .some) (y .zero)) (accessing _) _ _ [] tt refl refl refl

@@ -7,13 +7,14 @@ use mathlib.Core.List.{List, [], _∷_, _++_, append-assoc}
 use Prim.Native.Nat.{ℕ, zero, suc}
 use lib.ListN.{getD}
 use borrow.Author.Tests.{eqb-true, eqb-false}
-use Rattle.model.specs.Base.{pick, any, All, nothing, also}
+use Rattle.model.specs.Base.{pick, any, filtered, All, nothing, also}
 use Rattle.model.specs.Script.{Step, Expr, nil, document, var, step, both, letIn, forIn, ifIn, element, leaf, delete, insert, choose}
 use Rattle.model.specs.Paths.{placeOf, Path, start, _▸_, place, withStep, anyBelow, Paths, infer, pathsOf, prefixesOf, prefixed}
 use Rattle.model.specs.Paths.{traversed, joinPaths, binding, modifiedPlace}
 use Rattle.model.proofs.BoolLaws.{or-swap, or-left, or-cases, bool-iff, by-cases, pick-cases}
-use Rattle.model.proofs.All.{all-read, all-append}
+use Rattle.model.proofs.All.{all-read, all-append, all-snoc, all-map}
 use Rattle.model.proofs.ListLaws.{any-append, any-left, any-right, any-either}
+use Rattle.model.proofs.PathLaws.{PathsAll, after-all, join-all}
 use Rattle.positions.proofs.DocumentLaws.{isDocument, documents}
 
 -- PREFIXES
@@ -25,7 +26,7 @@ prefixed-append (p ∷ ps) qs =
 
 module _ (f : Path → Bool) where
   prefixed-step : (s : Step) (ps : List Path) → any f (prefixed (withStep s ps)) ≡ (any f (withStep s ps) || any f (prefixed ps))
-  unfolding any prefixed prefixesOf withStep
+  unfolding any prefixed prefixesOf
   prefixed-step s [] = refl
   prefixed-step s (p ∷ ps) =
       ap (λ (t : Bool). f (p ▸ s) || t) (any-append f (prefixesOf p) (prefixed (withStep s ps)) ∙
@@ -161,66 +162,41 @@ module _ (f : Path → Bool) where
 abbrev pub Own : (owner : ℕ) → Path → Type 0
 Own o p = (placeOf p .owner ≡ 0) ⊎ (placeOf p .owner ≡ o)
 
-record Owned (o : ℕ) (x : Paths) : Type 0 where
-  result : All (Own o) (x .result)
-  accessed : All (Own o) (x .accessed)
-  modified : All (Own o) (x .modified)
-
 own-step : {o : ℕ} (s : Step) {ps : List Path} → All (Own o) ps → All (Own o) (withStep s ps)
-unfolding withStep placeOf
-own-step s nothing = nothing
-own-step s (also h a) = also h (own-step s a)
+unfolding placeOf
+own-step s a = all-map (λ (p : Path). p ▸ s) (λ p h. h) a
 
-own-after : {o : ℕ} {x y : Paths} {r : List Path} → Owned o x → Owned o y → All (Own o) r → Owned o (joinPaths x y r)
-own-after h i g =
-    record { result = g; accessed = all-append (h .accessed) (i .accessed); modified = all-append (h .modified) (i .modified) }
-
-owned : (o : ℕ) (e : Expr) (rs : List (List Path)) → All (All (Own o)) rs → Owned o (infer o e rs)
+owned : (o : ℕ) (e : Expr) (rs : List (List Path)) → All (All (Own o)) rs → PathsAll (Own o) (infer o e rs)
 unfolding infer placeOf
 owned o (nil z) rs k = record { result = nothing; accessed = nothing; modified = nothing }
 owned o (document z d) rs k = record { result = also (inl refl) nothing; accessed = also (inl refl) nothing; modified = nothing }
 owned o (var z v) rs k = record { result = all-read [] nothing k v; accessed = nothing; modified = nothing }
-owned o (step z s e) rs k =
-    let h = owned o e rs k in
-    record {
-      result = own-step s (h .result);
-      accessed = all-append (h .accessed) (own-step s (h .result));
-      modified = all-append
-          (h .modified) nothing;
-    }
+owned o (step z s e) rs k = let h = owned o e rs k in after-all h (own-step s (h .result)) (own-step s (h .result)) nothing
 owned o (both z e e′) rs k =
     let h = owned o e rs k in
     let i = owned o e′ rs k in
-    own-after h i (all-append (h .result) (i .result))
+    join-all h i (all-append (h .result) (i .result))
 owned o (letIn z e e′) rs k =
     let h = owned o e rs k in
-    let i = owned o e′ (rs ++ (infer o e rs .result ∷ [])) (all-append k (also (h .result) nothing)) in
-    own-after h i (i .result)
+    let i = owned o e′ (rs ++ (infer o e rs .result ∷ [])) (all-snoc k (h .result)) in
+    join-all h i (i .result)
 owned o (forIn z e e′) rs k =
     let h = owned o e rs k in
-    let i = owned o e′ (rs ++ (infer o e rs .result ∷ [])) (all-append k (also (h .result) nothing)) in
-    own-after h i (i .result)
+    let i = owned o e′ (rs ++ (infer o e rs .result ∷ [])) (all-snoc k (h .result)) in
+    join-all h i (i .result)
 owned o (ifIn z e e′ e″) rs k =
     let i = owned o e′ rs k in
     let j = owned o e″ rs k in
-    own-after (owned o e rs k) (own-after {r = []} i j nothing) (all-append (i .result) (j .result))
+    join-all (owned o e rs k) (join-all {r = []} i j nothing) (all-append (i .result) (j .result))
 owned o (element z n) rs k = record { result = also (inr refl) nothing; accessed = nothing; modified = also (inr refl) nothing }
 owned o (leaf z v) rs k = record { result = also (inr refl) nothing; accessed = nothing; modified = also (inr refl) nothing }
 owned o (delete z e) rs k =
     let h = owned o e rs k in
-    record {
-      result = nothing;
-      accessed = all-append (h .accessed) nothing;
-      modified = all-append (h .modified) (all-append (h .result) (own-step anyBelow (h .result)));
-    }
+    after-all h nothing nothing (all-append (h .result) (own-step anyBelow (h .result)))
 owned o (insert z e e′) rs k =
     let h = owned o e rs k in
     let i = owned o e′ rs k in
-    record {
-      result = nothing;
-      accessed = all-append (all-append (h .accessed) (i .accessed)) (own-step anyBelow (h .result));
-      modified = all-append (all-append (h .modified) (i .modified)) (own-step anyBelow (i .result));
-    }
+    after-all (join-all {r = []} h i nothing) nothing (own-step anyBelow (h .result)) (own-step anyBelow (i .result))
 owned o (choose z r c e) rs k = owned o e rs k
 
 pub modified-own : (o : ℕ) (e : Expr) → All (Own o) (pathsOf o e .modified)
@@ -232,7 +208,7 @@ accessed-own o e = owned o e [] nothing .accessed
 -- a test that fails on the script's own places finds those that start at a document only
 pub any-documents : (f : Path → Bool) (o : ℕ) → ((p : Path) → placeOf p .owner ≡ o → f p ≡ false) → (ps : List Path) → All (Own o) ps →
     any f ps ≡ any f (documents ps)
-unfolding any documents
+unfolding any filtered
 any-documents f o own [] nothing = refl
 any-documents f o own (p ∷ ps) (also h a) = go (any-documents f o own ps a)
   where
@@ -248,7 +224,7 @@ any-documents f o own (p ∷ ps) (also h a) = go (any-documents f o own ps a)
     go rest = by-cases (isDocument p) (kept rest) (λ t. dropped rest t h)
 
 pub documents-are : (ps : List Path) → All (λ (p : Path). placeOf p .owner ≡ 0) (documents ps)
-unfolding documents
+unfolding filtered
 documents-are [] = nothing
 documents-are (p ∷ ps) =
     let a = documents-are ps in

@@ -6,12 +6,13 @@ use Prim.Native.Nat.{ℕ, suc, _+_, _-_, _≤_, _<_}
 use native.Mathlib.Omega.{arith}
 use lib.ListN.{length, getD, take, drop, set, length-drop}
 use lib.Seq.{drop-drop, take-suc, getD-drop, drop-set-lt}
-use Rattle.model.specs.Base.{pick}
+use Rattle.model.specs.Base.{pick, filtered}
 use Rattle.model.specs.Table as model
 use Rattle.model.specs.Step.{relates, isPicked, picked}
+use Rattle.model.proofs.ListLaws.{filtered-append}
 use Rattle.table.specs.Words.{decodeParts}
 use Rattle.table.proofs.WordLaws.{rowAt-decode}
-use Rattle.query.specs.Values.{valueAt, Appended, filtered, pickedRow}
+use Rattle.query.specs.Values.{valueAt, Appended, pickedRow}
 use Rattle.query.proofs.ValueLaws.{value-none, appended-none, appended-if}
 
 -- the value up to one place more
@@ -23,17 +24,6 @@ value-next w from k l h =
     ap (λ (j : ℕ). take j (drop from w)) e ∙ take-suc (drop from w) (k - from) 0 g ∙
     ap (λ (a : ℕ). take (k - from) (drop from w) ++ (a ∷ [])) (getD-drop from w (k - from) 0 ∙ ap (λ (j : ℕ). getD w j 0) f)
 
-filtered-next : (f : ℕ → Bool) (v : List ℕ) (i : ℕ) → filtered f (v ++ (i ∷ [])) ≡ filtered f v ++ pick (f i) (i ∷ []) []
-unfolding filtered
-filtered-next f [] i = refl
-filtered-next f (x ∷ v) i = go (f x) (filtered-next f v i)
-  where
-    go : (t : Bool) → filtered f (v ++ (i ∷ [])) ≡ filtered f v ++ pick (f i) (i ∷ []) [] →
-        pick t (x ∷ filtered f (v ++ (i ∷ []))) (filtered f (v ++ (i ∷ []))) ≡ pick t (x ∷ filtered f v) (filtered f v) ++ pick (f i) (i
-        ∷ []) []
-    go true e = ap (λ (l : List ℕ). x ∷ l) e
-    go false e = e
-
 pub filtered-none : (f : ℕ → Bool) (w : List ℕ) (from : ℕ) → Appended (filtered f (valueAt w from from)) w from w from
 unfolding filtered
 filtered-none f w from = subst (λ (v : List ℕ). Appended (filtered f v) w from w from) (sym (value-none w from)) (appended-none w from)
@@ -42,12 +32,13 @@ pub filtered-by : (f : ℕ → Bool) (w w′ : List ℕ) (from k r : ℕ) → fr
     w from k)) w from w′ r →
     (t : Bool) (a : ℕ) (w″ : List ℕ) (r″ : ℕ) → a ≡ getD w k 0 → t ≡ f (getD w k 0) → w″ ≡ pick t (set w′ r a) w′ → r″ ≡ pick t (r + 1) r →
     Appended (filtered f (valueAt w from (k + 1))) w from w″ r″
+unfolding filtered
 filtered-by f w w′ from k r l h b s t a w″ r″ same e p q =
     let here : w″ ≡ pick (f (getD w k 0)) (set w′ r (getD w k 0)) w′ =
     p ∙ ap (λ (u : Bool). pick u (set w′ r a) w′) e ∙ ap (λ (i : ℕ). pick (f (getD w k 0)) (set w′ r i) w′) same in
     let past : r″ ≡ pick (f (getD w k 0)) (r + 1) r = q ∙ ap (λ (u : Bool). pick u (r + 1) r) e in
     let v : filtered f (valueAt w from (k + 1)) ≡ filtered f (valueAt w from k) ++ pick (f (getD w k 0)) (getD w k 0 ∷ []) [] =
-    ap (filtered f) (value-next w from k l h) ∙ filtered-next f (valueAt w from k) (getD w k 0) in
+    ap (filtered f) (value-next w from k l h) ∙ filtered-append f (valueAt w from k) (getD w k 0 ∷ []) in
     subst (λ (m : List ℕ). Appended m w from w″ r″) (sym v)
     (subst (λ (m : List ℕ). Appended (filtered f (valueAt w from k) ++ pick (f (getD w k 0)) (getD w k 0 ∷ []) []) w from m r″) (sym here)
     (subst (λ (j : ℕ). Appended (filtered f (valueAt w from k) ++ pick (f (getD w k 0)) (getD w k 0 ∷ []) []) w from
@@ -73,7 +64,7 @@ rest-at w w′ k e =
 -- the model's pick
 pub picked-rows : (ws : List ℕ) (n r c : ℕ) (v ms : List ℕ) → n ≤ length ws → ((k : ℕ) → k < length v → getD v k 0 < n) →
     filtered (pickedRow ws r c) v ≡ picked (decodeParts n ws ms) r c v
-unfolding filtered picked
+unfolding filtered
 picked-rows ws n r c [] ms w h = refl
 picked-rows ws n r c (i ∷ v) ms w h =
     let e : pickedRow ws r c i ≡ isPicked (decodeParts n ws ms) r c i =

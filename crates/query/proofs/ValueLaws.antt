@@ -12,8 +12,8 @@ use lib.Seq.{take-suc-set}
 use Rattle.model.specs.Base.{pick, any}
 use Rattle.model.specs.Table as model
 use Rattle.model.specs.Script.{stepBy}
-use Rattle.model.specs.Step.{Letter, leafLetter, named, isReached, reaches, admits, letterOf, stepped, stepFrom, collect}
-use Rattle.model.proofs.Collect.{step-collect}
+use Rattle.model.specs.Step.{Letter, leafLetter, named, isReached, reaches, admits, letterOf, stepped, collect}
+use Rattle.model.proofs.Collect.{collect-append, collect-same}
 use Rattle.table.specs.Words.{rowOf, decodeParts}
 use Rattle.table.proofs.WordLaws.{count-decode, rowAt-decode}
 use Rattle.query.specs.Stepping.{Flagged, Reached}
@@ -48,23 +48,9 @@ appended-if false a v w w′ from r h s =
     }
 
 -- COLLECTED, one row more
-collect-last : (f : ℕ → Bool) (i n : ℕ) → collect f i (suc n) ≡ collect f i n ++ pick (f (i + n)) ((i + n) ∷ []) []
-unfolding collect
-collect-last f i zero = ap (λ (j : ℕ). pick (f j) (j ∷ []) []) (sym (add-zero i))
-collect-last f i (suc n) = go (f i) (collect-last f (suc i) n ∙ ap (λ (j : ℕ). collect f (suc i) n ++ pick (f j) (j ∷ []) []) total)
-  where
-    total : suc i + n ≡ i + suc n
-    total = omega arith
-
-    go : (t : Bool) → collect f (suc i) (suc n) ≡ collect f (suc i) n ++ pick (f (i + suc n)) ((i + suc n) ∷ []) [] →
-        pick t (i ∷ collect f (suc i) (suc n)) (collect f (suc i) (suc n)) ≡
-        pick t (i ∷ collect f (suc i) n) (collect f (suc i) n) ++ pick (f (i + suc n)) ((i + suc n) ∷ []) []
-    go true e = ap (λ (l : List ℕ). i ∷ l) e
-    go false e = e
-
 collect-next : (f : ℕ → Bool) (n : ℕ) → collect f 0 (n + 1) ≡ collect f 0 n ++ pick (f n) (n ∷ []) []
-collect-next f n =
-    ap (collect f 0) (add-one n) ∙ collect-last f 0 n ∙ ap (λ (j : ℕ). collect f 0 n ++ pick (f j) (j ∷ []) []) (zero-add n)
+unfolding collect
+collect-next f n = collect-append f 0 n 1 ∙ ap (λ (j : ℕ). collect f 0 n ++ pick (f j) (j ∷ []) []) (zero-add n)
 
 pub length-collect : (f : ℕ → Bool) (i n : ℕ) → length (collect f i n) ≤ n
 unfolding collect
@@ -74,14 +60,6 @@ length-collect f i (suc n) = go (f i) (length-collect f (suc i) n)
     go : (t : Bool) → length (collect f (suc i) n) ≤ n → length (pick t (i ∷ collect f (suc i) n) (collect f (suc i) n)) ≤ suc n
     go true h = omega arith
     go false h = omega arith
-
--- two tests that agree collect the same
-collect-same : (f g : ℕ → Bool) (i n : ℕ) → ((j : ℕ) → j < i + n → f j ≡ g j) → collect f i n ≡ collect g i n
-unfolding collect
-collect-same f g i zero h = refl
-collect-same f g i (suc n) h =
-    ap (λ (t : Bool). pick t (i ∷ collect f (suc i) n) (collect f (suc i) n)) (h i (omega arith)) ∙
-    ap (λ (l : List ℕ). pick (g i) (i ∷ l) l) (collect-same f g (suc i) n (λ j k. h j (omega arith)))
 
 -- a test does not look at the axis
 admits-axis : (a b t n : ℕ) (l : Letter) → admits (stepBy a t n) l ≡ admits (stepBy b t n) l
@@ -94,8 +72,7 @@ pub step-rows : (ws : List ℕ) (n axis test name : ℕ) (fs rs v ms : List ℕ)
 step-rows ws n axis test name fs rs v ms within f s =
     collect-same (λ (j : ℕ). kept ws j (getD rs (j + 1) 0) test name) (isReached (decodeParts n ws ms) (stepBy axis test name) v) 0 n (λ
     j h. here j (omega arith)) ∙
-    sym (step-collect (decodeParts n ws ms) (stepBy axis test name) v 0 n) ∙
-    ap (λ (k : ℕ). stepFrom (decodeParts n ws ms) (stepBy axis test name) v 0 k) (sym (count-decode n ws ms within))
+    ap (collect (isReached (decodeParts n ws ms) (stepBy axis test name) v) 0) (sym (count-decode n ws ms within))
   where
     here : (j : ℕ) → j < n → kept ws j (getD rs (j + 1) 0) test name ≡ isReached (decodeParts n ws ms) (stepBy axis test name) v j
     here j h =

@@ -2,12 +2,11 @@
 -- Assumes nothing: these are definitions.
 use mathlib.Core.Path.{_≡_}
 use mathlib.Core.Bool.{Bool, _&&_, not}
-use mathlib.Core.List.{List, [], _∷_, _++_}
+use mathlib.Core.List.{List, _++_}
 use Prim.Native.Nat.{ℕ, _+_, _-_, _≤_, _<_}
 use lib.Dec.{eqb}
 use lib.ListN.{length, getD, take, drop}
 use Rattle.model.specs.Limits.{maxItems, maxLinks, maxRows}
-use Rattle.model.specs.Base.{pick}
 use Rattle.model.specs.Script.{stepBy}
 use Rattle.model.specs.Step.{admits, letterOf, stepped, picked, relates, collect}
 use Rattle.table.specs.Words.{rowOf, decodeParts}
@@ -46,11 +45,6 @@ pub record StepPre (ws : List ℕ) (n axis : ℕ) (w : List ℕ) (from to : ℕ)
 
 pub record StepPost (ws : List ℕ) (n axis test name : ℕ) (w : List ℕ) (from to : ℕ) (w′ : List ℕ) (r : ℕ) : Type 0 where
   pub value : (ms : List ℕ) → Appended (stepped (decodeParts n ws ms) (stepBy axis test name) (valueAt w from to)) w from w′ r
-
--- the items that pass a test
-unfoldable pub filtered : (ℕ → Bool) → List ℕ → List ℕ
-filtered f [] = []
-filtered f (i ∷ is) = pick (f i) (i ∷ filtered f is) (filtered f is)
 
 abbrev pub pickedRow : (rows : List ℕ) → (relation constant row : ℕ) → Bool
 pickedRow ws r c i = rowOf (getD ws i 0) .isLeaf && relates r c (rowOf (getD ws i 0) .tag)

@@ -1,12 +1,12 @@
 -- Document 01's examples of `pair` hold, by computing the definitions.
 use mathlib.Core.Path.{refl}
-use Rattle.model.specs.Base.{any, all, among}
+use Rattle.model.specs.Base.{any, all, among, filtered}
 use Rattle.model.specs.Table.{rowsFit, noneTwice}
 use Rattle.model.specs.Stored.{readFrom, lastMarked}
 use Rattle.model.specs.Script.{parseFrom}
-use Rattle.model.specs.Step.{isBelowFrom, stepFrom, picked}
-use Rattle.model.specs.Run.{run, loop, cutAll, copyAll, copyEach, copyOf, descendantsFrom}
-use Rattle.model.specs.Paths.{infer, withStep, prefixed, prefixesOf, hasUp}
+use Rattle.model.specs.Step.{isBelowFrom, collect}
+use Rattle.model.specs.Run.{run, loop, cutAll, copyAll, copyEach, copyOf}
+use Rattle.model.specs.Paths.{infer, prefixed, prefixesOf, hasUp}
 use Rattle.model.specs.Meeting.{cell, startCells, stepCells}
 use Rattle.format.specs.Text.{digits}
 use Rattle.sequence.specs.Orders.{ending, order}
@@ -15,7 +15,7 @@ use Rattle.report.specs.Pair.{threeLines, pairText}
 use Rattle.report.specs.Examples.{Examples}
 
 pub examples-hold : Examples
-unfolding any all among rowsFit noneTwice readFrom lastMarked parseFrom isBelowFrom stepFrom picked run loop cutAll copyAll copyEach
-    copyOf descendantsFrom infer withStep prefixed prefixesOf hasUp cell startCells stepCells digits ending order fileLine answerLine
+unfolding any all among filtered rowsFit noneTwice readFrom lastMarked parseFrom isBelowFrom collect run loop cutAll copyAll copyEach
+    copyOf infer prefixed prefixesOf hasUp cell startCells stepCells digits ending order fileLine answerLine
     orderLine threeLines pairText
 examples-hold = (refl, refl, refl, refl)

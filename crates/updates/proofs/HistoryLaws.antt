@@ -15,7 +15,8 @@ use Rattle.model.specs.Run.{made}
 use Rattle.model.specs.Undo.{historySize}
 use Rattle.model.proofs.FormLaws.{length-recordBytes, recordIn-back}
 use Rattle.model.proofs.All.{all-snoc}
-use Rattle.model.proofs.HistoryLaws.{times-snoc, isCut-made}
+use Rattle.model.proofs.HistoryLaws.{times-snoc}
+use Rattle.model.proofs.RanLaws.{isCut-made}
 use Rattle.table.specs.Words.{linked, rowOf}
 use Rattle.updates.specs.State.{recordsFrom, recordsIn, Recorded}
 use Rattle.updates.specs.Updating.{madeKind, sixBytes}

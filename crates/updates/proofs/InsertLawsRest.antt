@@ -10,7 +10,7 @@ use lib.Dec.{eqb}
 use lib.ListN.{length, getD, length-set}
 use borrow.Author.Tests.{eq-eqb, ne-eqb}
 use Rattle.model.specs.Table as model
-use Rattle.model.specs.Step.{isBelow}
+use Rattle.model.specs.Step.{isBelow, collect}
 use Rattle.model.specs.Run.{State, Out, thenRow, copyEach, descendantsFrom}
 use Rattle.model.proofs.TableLaws.{parent-count}
 use Rattle.table.specs.Words.{linked, rowOf, rowsOf, decodeParts}
@@ -71,7 +71,7 @@ module _ {old t : ℕ} {ws₀ h₀ m₀ : List ℕ} {p₀ : Progress} (pre : Res
 
   module _ {ws h m : List ℕ} {p : Progress} {j : ℕ} (c : Copying old t ws₀ h₀ m₀ p₀ ws h m p j) where
     pub copying-end : old ≤ j → RestPost ws₀ h₀ m₀ p₀ old t ws h p
-    unfolding copyEach descendantsFrom
+    unfolding copyEach collect
     copying-end l =
         record {
           updated = λ g.

@@ -4,7 +4,7 @@ use mathlib.Core.Bool.{Bool, true, false, _||_, not}
 use mathlib.Core.List.{List, [], _∷_}
 use mathlib.Core.Option.{Option, none, some}
 use Prim.Native.Nat.{ℕ, zero, suc, _+_, _-_, _≤_, _<_}
-use native.Mathlib.Nat.{not-suc-le-zero}
+use native.Mathlib.Nat.{not-suc-le-zero, zero-add}
 use native.Mathlib.Numerals.{add-one}
 use native.Mathlib.Omega.{arith}
 use lib.Dec.{ltb, eqb}
@@ -14,9 +14,10 @@ use borrow.Author.Tests.{lt-ltb, le-ltb, eq-eqb, ne-eqb, ltb-true, ltb-false, eq
 use Rattle.model.specs.Base.{pick}
 use Rattle.model.specs.Table as model
 use Rattle.model.specs.Sweep.{through}
-use Rattle.model.specs.Step.{parentIs, isBelowFrom, isBelow}
+use Rattle.model.specs.Step.{parentIs, isBelowFrom, isBelow, collect}
 use Rattle.model.specs.Run.{State, Out, stop, gives, newRow, thenRow, Copied, copyOf, copyParent, copyRow, copyEach, descendantsFrom}
 use Rattle.model.proofs.BoolLaws.{by-cases, pick-true, pick-false, eq-cases}
+use Rattle.model.proofs.Collect.{collect-append, collect-none}
 use Rattle.model.proofs.Below.{Below, under, further, below-is}
 use Rattle.table.specs.Words.{linked}
 use Rattle.updates.specs.Inserting.{copiedIn, copyLink, copyBy}
@@ -55,23 +56,11 @@ module _ (x : model.Table) (lower : (i p : ℕ) → model.rowAt x i .parent ≡ 
   below-low : (i : ℕ) → i ≤ t → isBelow x t i ≡ false
   below-low i h = by-cases (isBelow x t i) (λ e. absurd (let k = below-above (below-is x t i e) in omega arith)) (λ e. e)
 
-  descendants-low : (n m i k : ℕ) → k ≡ n + m → i + n ≤ t + 1 → descendantsFrom x t i k ≡ descendantsFrom x t (i + n) m
-  unfolding descendantsFrom
-  descendants-low zero m i k q h =
-      let e : k ≡ m = omega arith in
-      let f : i ≡ i + 0 = omega arith in
-      ap (descendantsFrom x t i) e ∙ ap (λ (j : ℕ). descendantsFrom x t j m) f
-  descendants-low (suc n) m i k q h =
-      let l : i ≤ t = omega arith in
-      let e : k ≡ suc (n + m) = omega arith in
-      let f : suc i + n ≡ i + suc n = omega arith in
-      ap (descendantsFrom x t i) e ∙
-      rw (below-low i l) (descendants-low n m (suc i) (n + m) refl (omega arith) ∙ ap (λ (j : ℕ). descendantsFrom x t j m) f)
-
   pub descendants-past : (n : ℕ) → t < n → descendantsFrom x t 0 n ≡ descendantsFrom x t (t + 1) (n - (t + 1))
   descendants-past n h =
-      let f : 0 + (t + 1) ≡ t + 1 = omega arith in
-      descendants-low (t + 1) (n - (t + 1)) 0 n (omega arith) (omega arith) ∙ ap (λ (j : ℕ). descendantsFrom x t j (n - (t + 1))) f
+      let e : n ≡ t + 1 + (n - (t + 1)) = omega arith in
+      ap (collect (isBelow x t) 0) e ∙ collect-append (isBelow x t) 0 (t + 1) (n - (t + 1)) ∙
+      rw (collect-none (isBelow x t) 0 (t + 1) (λ j a b. below-low j (omega arith)), zero-add (t + 1))
 
 -- THE ROWS COPIED, read off the map
 copiedIn-set : (m : List ℕ) (t n j v : ℕ) → t + n ≤ j → copiedIn (set m j v) t n ≡ copiedIn m t n
@@ -228,7 +217,7 @@ module _ (x : model.Table) (lower : (i p : ℕ) → model.rowAt x i .parent ≡ 
         copyEach z x t g (descendantsFrom x t j (n - j)) (copiedIn m t (j - t)) s ≡
         thenRow (copyBy z (model.rowAt x j) (copyLink m t l) s)
         (λ (u : State). copyEach z x t g (descendantsFrom x t (j + 1) (n - (j + 1))) (copiedIn m′ t (j + 1 - t)) u)
-    unfolding copyEach descendantsFrom
+    unfolding copyEach collect
     copy-turn m′ f z g n s count h =
         let e : n - j ≡ suc (n - (j + 1)) = omega arith in
         ap (λ (i : ℕ). copyEach z x t g (descendantsFrom x t j i) (copiedIn m t (j - t)) s) e ∙

@@ -19,7 +19,7 @@ use Rattle.model.proofs.BoolLaws.{by-cases}
 use Rattle.model.specs.Table.{Tree}
 use Rattle.model.proofs.GrowLaws.{tree-withRow, tree-linked}
 use Rattle.model.proofs.FormLaws.{length-recordBytes}
-use Rattle.model.proofs.HistoryLaws.{isCut-made}
+use Rattle.model.proofs.RanLaws.{isCut-made}
 use Rattle.model.proofs.UndoLaws.{made-inRange}
 use Rattle.table.specs.Words.{linkOf, linked, rowOf, wordOf, rowsOf, wordsOf, isRowWord, withLink, decodeParts}
 use Rattle.table.proofs.WordLaws.{linkOf-linked, rowOf-wordOf, wordOf-rowOf, isRowWord-wordOf, rowAt-decode, canonical-push}

@@ -1,6 +1,7 @@
 -- `pick::picked` leaves the picked items where the value stood. The loop's invariant: those passed are picked, the others still stand.
 use Rattle.query.proofs.PickLaws.{filtered-none, filtered-by, rest-kept, rest-at, picked-rows, pick-low}
-use Rattle.query.specs.Values.{Appended, valueAt, filtered, pickedRow}
+use Rattle.query.specs.Values.{Appended, valueAt, pickedRow}
+use Rattle.model.specs.Base.{filtered}
 use lib.Seq.{length-take-le, getD-take, getD-drop}
 use lib.ListN.{length, getD, drop, length-drop}
 use Prim.Native.Nat.{ℕ, _+_, _-_, _≤_, _<_}
