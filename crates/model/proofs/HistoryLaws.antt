@@ -16,7 +16,7 @@ use Rattle.model.specs.Run.{State, made, cutRecord}
 use Rattle.model.proofs.BoolLaws.{bit-le, and-right, by-cases}
 use Rattle.model.proofs.TableLaws.{parent-count, Well}
 use Rattle.model.proofs.GrowLaws.{count-withRow, rowAt-withRow-old, count-linked, rowAt-linked-same, rowAt-linked-other}
-use Rattle.model.proofs.RanLaws.{Ran, begun, rowMade, linkCut, ran-well, isCut-made}
+use Rattle.model.proofs.RanLaws.{ComesTo, begun, rowMade, linkCut, ran-well, isCut-made}
 
 -- RECORDS counted by a test
 pub times-snoc : (f : Record → Bool) (rs : List Record) (r : Record) → times f (rs ++ (r ∷ [])) ≡ times f rs + bit (f r)
@@ -31,7 +31,7 @@ abbrev pub makesRow : ℕ → Record → Bool
 makesRow i r = not (isCut r) && eqb (r .row) i
 
 -- A ROW THAT IS NOT THERE YET has no record
-ran-within : {x : Table} (f : Record → Bool) (i : ℕ) → ((r : Record) → f r ≡ true → r .row ≡ i) → {s : State} → Ran x s →
+ran-within : {x : Table} (f : Record → Bool) (i : ℕ) → ((r : Record) → f r ≡ true → r .row ≡ i) → {s : State} → ComesTo x s →
     count (s .plan) ≤ i → times f (s .history) ≡ 0
 unfolding times
 ran-within f i on begun l = refl
@@ -48,7 +48,7 @@ ran-within f i on (linkCut s j p q e) l =
     omega (arith, ran-within f i on q (omega arith), times-snoc f (s .history) z)
 
 -- EACH ROW IS CUT AT MOST ONCE: a row that is cut has no parent any more, and none gets one later
-ran-cut-parent : (x : Table) {s : State} → Ran x s → (i : ℕ) →
+ran-cut-parent : (x : Table) {s : State} → ComesTo x s → (i : ℕ) →
     times (cutsRow i) (s .history) + bit (hasParent (rowAt (s .plan) i .parent)) ≤ 1
 unfolding times
 ran-cut-parent x begun i = omega (arith, bit-le (hasParent (rowAt x i .parent)))
@@ -93,11 +93,11 @@ ran-cut-parent x (linkCut s j p q e) i = go (eqb j i) refl (ran-cut-parent x q i
         omega (arith, h)
 
 -- no row is cut twice
-pub ran-cut-once : (x : Table) {s : State} → Ran x s → (i : ℕ) → times (cutsRow i) (s .history) ≤ 1
+pub ran-cut-once : (x : Table) {s : State} → ComesTo x s → (i : ℕ) → times (cutsRow i) (s .history) ≤ 1
 ran-cut-once x r i = omega (arith, ran-cut-parent x r i)
 
 -- EACH ROW IS MADE AT MOST ONCE: a new row takes the next number
-pub ran-made-once : (x : Table) {s : State} → Ran x s → (i : ℕ) → times (makesRow i) (s .history) ≤ 1
+pub ran-made-once : (x : Table) {s : State} → ComesTo x s → (i : ℕ) → times (makesRow i) (s .history) ≤ 1
 unfolding times
 ran-made-once x begun i = omega arith
 ran-made-once x (rowMade s r q c f g) i = go (eqb (count (s .plan)) i) refl (ran-made-once x q i)
@@ -140,7 +140,7 @@ parented-cut [] i p e = absurd (Option·none-ne-some p e)
 parented-cut (r ∷ rs) zero p e = rw e (omega arith)
 parented-cut (r ∷ rs) (suc i) p e = omega (arith, parented-cut rs i p e)
 
-pub ran-rows : (x : Table) {s : State} → Ran x s → count x + length (s .history) ≡ count (s .plan) + times isCut (s .history)
+pub ran-rows : (x : Table) {s : State} → ComesTo x s → count x + length (s .history) ≡ count (s .plan) + times isCut (s .history)
 unfolding times
 ran-rows x begun = omega arith
 ran-rows x (rowMade s r q c f g) =
@@ -151,7 +151,7 @@ ran-rows x (linkCut s i p q e) =
     let z = cutRecord i p in
     omega (arith, ran-rows x q, count-linked (s .plan) i none, length-append (s .history) (z ∷ []), times-snoc isCut (s .history) z)
 
-ran-cuts : (x : Table) {s : State} → Ran x s → times isCut (s .history) + parented (s .plan .rows) ≤ count (s .plan)
+ran-cuts : (x : Table) {s : State} → ComesTo x s → times isCut (s .history) + parented (s .plan .rows) ≤ count (s .plan)
 unfolding times
 ran-cuts x begun = omega (arith, parented-le (x .rows))
 ran-cuts x (rowMade s r q c f g) =
@@ -163,5 +163,5 @@ ran-cuts x (linkCut s i p q e) =
     omega (arith, ran-cuts x q, count-linked (s .plan) i none, parented-cut (s .plan .rows) i p e, times-snoc isCut (s .history) z)
 
 -- so a history has at most 1,024 records
-pub ran-length : (x : Table) → Well x → {s : State} → Ran x s → length (s .history) ≤ 1024
+pub ran-length : (x : Table) → Well x → {s : State} → ComesTo x s → length (s .history) ≤ 1024
 ran-length x w r = omega (arith, ran-rows x r, ran-cuts x r, ran-well x w r .few)

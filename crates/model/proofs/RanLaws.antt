@@ -14,18 +14,18 @@ use Rattle.model.proofs.TableLaws.{parent-count, Well}
 use Rattle.model.proofs.GrowLaws.{well-withRow, well-linked}
 
 -- THE STATES that a run on x can come to
-pub data Ran (x : Table) : State → Type 0 where
-  begun : Ran x (state x [])
-  rowMade : (s : State) (r : Row) → Ran x s → count (s .plan) < maxRows → tagFits r ≡ true →
-      parentFits (s .plan) (count (s .plan)) (r .parent) ≡ true → Ran x (withMade s r)
-  linkCut : (s : State) (i p : ℕ) → Ran x s → rowAt (s .plan) i .parent ≡ some p → Ran x (cutRow s i p)
+pub data ComesTo (x : Table) : State → Type 0 where
+  begun : ComesTo x (state x [])
+  rowMade : (s : State) (r : Row) → ComesTo x s → count (s .plan) < maxRows → tagFits r ≡ true →
+      parentFits (s .plan) (count (s .plan)) (r .parent) ≡ true → ComesTo x (withMade s r)
+  linkCut : (s : State) (i p : ℕ) → ComesTo x s → rowAt (s .plan) i .parent ≡ some p → ComesTo x (cutRow s i p)
 
 -- a cut keeps the table well formed
 well-cut : (x : Table) (i p : ℕ) → Well x → rowAt x i .parent ≡ some p → Well (linked x i none)
 well-cut x i p w e =
     well-linked x i none (w .tree) (parent-count x i p e) (λ q h. absurd (Option·none-ne-some q h)) (λ d h. refl) w
 
-pub ran-well : (x : Table) → Well x → {s : State} → Ran x s → Well (s .plan)
+pub ran-well : (x : Table) → Well x → {s : State} → ComesTo x s → Well (s .plan)
 ran-well x w begun = w
 ran-well x w (rowMade s r q c f g) = let v = ran-well x w q in well-withRow (s .plan) r (v .tree) f g v c
 ran-well x w (linkCut s i p q e) = well-cut (s .plan) i p (ran-well x w q) e
@@ -46,7 +46,7 @@ replayAll-snoc x (q ∷ rs) r = replayAll-snoc (replayed x q) rs r
 replayed-made : (x : Table) (r : Row) (i : ℕ) → replayed x (made r i) ≡ withRow x r
 replayed-made x r i = rw (isCut-made r i, isLeaf-made r i)
 
-pub ran-replay : (x : Table) {s : State} → Ran x s → replayAll x (s .history) ≡ s .plan
+pub ran-replay : (x : Table) {s : State} → ComesTo x s → replayAll x (s .history) ≡ s .plan
 unfolding replayAll
 ran-replay x begun = refl
 ran-replay x (rowMade s r q c f g) =

@@ -42,14 +42,16 @@ record-low x i b =
     (check-low (isMark b || ltb (count x) maxRows) (sizeAt i) _ (omega arith)
     (check-low (leb recordSize (length b)) (shortAt i) _ (omega arith)
     (pick-cases Low (isMark b)
-    (λ e. check-low (ltb (getD b 1 0) documents) (fieldAt i) _ (omega arith) (unless-low (markLinks x (getD b 1 0) (wordAt b 2)) (linkAt i) (omega arith)))
+    (λ e. check-low (ltb (getD b 1 0) documents) (fieldAt i) _ (omega arith)
+    (unless-low (markLinks x (getD b 1 0) (wordAt b 2)) (linkAt i) (omega arith)))
     (λ e. check-low (tagFits (rowIn b)) (fieldAt i) _ (omega arith) (unless-low (rowLinks x (rowIn b)) (linkAt i) (omega arith))))))
 
 form-low : (i n : ℕ) (b : List ℕ) → Low (formFault i n b)
 form-low i n b =
     check-low (isIn madeElementKind cutKind (getD b 0 0)) (kindAt i) _ (omega arith)
     (check-low (ltb n maxHistory) (sizeAt i) _ (omega arith)
-    (check-low (leb (historySize (getD b 0 0)) (length b)) (shortAt i) _ (omega arith) (unless-low (not (eqb (getD b 0 0) madeElementKind) || isIn 1 255 (getD b 3 0)) (fieldAt i) (omega arith))))
+    (check-low (leb (historySize (getD b 0 0)) (length b)) (shortAt i) _ (omega arith)
+    (unless-low (not (eqb (getD b 0 0) madeElementKind) || isIn 1 255 (getD b 3 0)) (fieldAt i) (omega arith))))
 
 known : (f : Fault) → Low f → isFine f ≡ false → isIn 1 6 (f .number) ≡ true
 known f h e = isIn-by 1 6 (f .number) (omega (arith, eqb-false (f .number) 0 e)) (h .low)
@@ -71,7 +73,8 @@ form-known (suc k) i n b f e = go (eqb (length b) 0) (isFine (formFault i n b)) 
     placed (formed ps) h p = let z : _≡_ {A = ℕ} 0 1 = cc in absurd (omega arith)
 
     go : (t u : Bool) → isFine (formFault i n b) ≡ u → (rest ≡ broken f → Known f) →
-        pick t (formed []) (pick u (withPlaced (record { at = i; entry = recordIn b }) rest) (broken (formFault i n b))) ≡ broken f → Known f
+        pick t (formed []) (pick u (withPlaced (record { at = i; entry = recordIn b }) rest) (broken (formFault i n b))) ≡ broken f →
+        Known f
     go true u m h q = let y : formed [] ≡ broken f = q in let z : _≡_ {A = ℕ} 0 1 = cc in absurd (omega arith)
     go false true m h q = placed rest h q
     go false false m h q = let y : formFault i n b ≡ f = cc in subst Known y (known (formFault i n b) (form-low i n b) m)

@@ -20,7 +20,7 @@ use Rattle.model.proofs.BoolLaws.{and-left, and-right, and-both, pick-c
 use Rattle.model.proofs.RefusalLaws.{isFine-check}
 use Rattle.model.proofs.TableLaws.{isElement-at, isElement-by, parent-count, Well}
 use Rattle.model.proofs.GrowLaws.{count-withRow, rowAt-withRow-old, rowAt-withRow-new, count-linked, isLeaf-linked}
-use Rattle.model.proofs.RanLaws.{Ran, begun, rowMade, linkCut, ran-well}
+use Rattle.model.proofs.RanLaws.{ComesTo, begun, rowMade, linkCut, ran-well}
 use Rattle.model.proofs.ScriptLaws.{FieldsFit}
 use Rattle.model.proofs.ValueLaws.{areRows-more, areValues-more, collect-rows, marked-rows}
 use Rattle.model.proofs.All.{all-append, all-snoc, all-read, all-filtered}
@@ -59,24 +59,24 @@ enlarged-element {y} {z} i g h =
 -- AN OUTCOME from a state with table y: a refusal, or rows of an enlarged table that a run on x can come to
 abbrev pub Keeps : (x y : Table) → Out → Type 0
 Keeps x y (stop f) = Unit
-Keeps x y (gives v u) = Ran x u × AreRows (count (u .plan)) v × Enlarged y (u .plan)
+Keeps x y (gives v u) = ComesTo x u × AreRows (count (u .plan)) v × Enlarged y (u .plan)
 
 keeps-from : (x y z : Table) (o : Out) → Enlarged y z → Keeps x z o → Keeps x y o
 keeps-from x y z (stop f) g k = tt
 keeps-from x y z (gives v u) g k = (k .0, k .1, enlarged-then g (k .2))
 
 andThen-keeps : (x y : Table) (o : Out) (next : List ℕ → State → Out) → Keeps x y o →
-    ((v : List ℕ) (u : State) → Ran x u → AreRows (count (u .plan)) v → Enlarged y (u .plan) → Keeps x (u .plan) (next v u)) →
+    ((v : List ℕ) (u : State) → ComesTo x u → AreRows (count (u .plan)) v → Enlarged y (u .plan) → Keeps x (u .plan) (next v u)) →
     Keeps x y (andThen o next)
 andThen-keeps x y (stop f) next k h = tt
 andThen-keeps x y (gives v u) next k h = keeps-from x y (u .plan) (next v u) (k .2) (h v u (k .0) (k .1) (k .2))
 
 thenRow-keeps : (x y : Table) (o : Out) (next : State → Out) → Keeps x y o →
-    ((u : State) → Ran x u → Enlarged y (u .plan) → Keeps x (u .plan) (next u)) → Keeps x y (thenRow o next)
+    ((u : State) → ComesTo x u → Enlarged y (u .plan) → Keeps x (u .plan) (next u)) → Keeps x y (thenRow o next)
 thenRow-keeps x y (stop f) next k h = tt
 thenRow-keeps x y (gives v u) next k h = keeps-from x y (u .plan) (next u) (k .2) (h u (k .0) (k .2))
 
-gives-keeps : (x : Table) (v : List ℕ) (s : State) → Ran x s → AreRows (count (s .plan)) v → Keeps x (s .plan) (gives v s)
+gives-keeps : (x : Table) (v : List ℕ) (s : State) → ComesTo x s → AreRows (count (s .plan)) v → Keeps x (s .plan) (gives v s)
 gives-keeps x v s r a = (r, a, enlarged-self (s .plan))
 
 -- NEW ROWS
@@ -86,7 +86,7 @@ roomFault-room z s h =
     (and-left _ _
     (sym (isFine-check (ltb (count (s .plan)) maxRows) 9 z (unless (ltb (length (s .history)) maxHistory) (historyAt z))) ∙ h))
 
-newRow-keeps : (x : Table) (z : ℕ) (r : Row) (s : State) → Ran x s → tagFits r ≡ true →
+newRow-keeps : (x : Table) (z : ℕ) (r : Row) (s : State) → ComesTo x s → tagFits r ≡ true →
     parentFits (s .plan) (count (s .plan)) (r .parent) ≡ true → Keeps x (s .plan) (newRow z r s)
 newRow-keeps x z r s q f g =
     pick-cases (Keeps x (s .plan)) (isFine (roomFault z s))
@@ -96,12 +96,12 @@ newRow-keeps x z r s q f g =
     (λ e. tt)
 
 -- DELETE
-cutAll-keeps : (x : Table) (z : ℕ) (is : List ℕ) (s : State) → Ran x s → Keeps x (s .plan) (cutAll z is s)
+cutAll-keeps : (x : Table) (z : ℕ) (is : List ℕ) (s : State) → ComesTo x s → Keeps x (s .plan) (cutAll z is s)
 unfolding cutAll
 cutAll-keeps x z [] s r = gives-keeps x [] s r nothing
 cutAll-keeps x z (i ∷ is) s r = go (rowAt (s .plan) i .parent) refl (λ t q. cutAll-keeps x z is t q)
   where
-    go : (p : Option ℕ) → rowAt (s .plan) i .parent ≡ p → ((t : State) → Ran x t → Keeps x (t .plan) (cutAll z is t)) →
+    go : (p : Option ℕ) → rowAt (s .plan) i .parent ≡ p → ((t : State) → ComesTo x t → Keeps x (t .plan) (cutAll z is t)) →
         Keeps x (s .plan) (cutBy z i s p (λ (t : State). cutAll z is t))
     go none e h = h s r
     go (some p) e h =
@@ -152,7 +152,7 @@ module _ (x y : Table) (ty : Tree y) (place t g : ℕ) where
       go false none e = refl
       go false (some p) e = copied p e (copyOf p cs) refl
 
-  copyEach-keeps : {is : List ℕ} → AreRows (count y) is → (cs : List Copied) (s : State) → Ran x s → CopiesWell y (s .plan) cs →
+  copyEach-keeps : {is : List ℕ} → AreRows (count y) is → (cs : List Copied) (s : State) → ComesTo x s → CopiesWell y (s .plan) cs →
       isElement (s .plan) g ≡ true → Keeps x (s .plan) (copyEach place y t g is cs s)
   unfolding copyEach
   copyEach-keeps nothing cs s r c h = gives-keeps x [] s r nothing
@@ -165,7 +165,7 @@ module _ (x y : Table) (ty : Tree y) (place t g : ℕ) where
       ds = record { old = i; new = count (s .plan) } ∷ cs
 
       go : (b : Bool) → isFine (roomFault place s) ≡ b →
-          ((cs : List Copied) (u : State) → Ran x u → CopiesWell y (u .plan) cs → isElement (u .plan) g ≡ true →
+          ((cs : List Copied) (u : State) → ComesTo x u → CopiesWell y (u .plan) cs → isElement (u .plan) g ≡ true →
           Keeps x (u .plan) (copyEach place y t g is cs u)) →
           Keeps x (s .plan)
           (thenRow (pick b (gives (count (s .plan) ∷ []) (withMade s w)) (stop (roomFault place s)))
@@ -178,7 +178,7 @@ module _ (x y : Table) (ty : Tree y) (place t g : ℕ) where
           (copies-more y (s .plan) i w cs refl c) (enlarged-element g f h))
       go false e next = tt
 
-copyAll-keeps : (x y : Table) → Tree y → (place g : ℕ) {is : List ℕ} → AreRows (count y) is → (s : State) → Ran x s →
+copyAll-keeps : (x y : Table) → Tree y → (place g : ℕ) {is : List ℕ} → AreRows (count y) is → (s : State) → ComesTo x s →
     isElement (s .plan) g ≡ true → Keeps x (s .plan) (copyAll place y is g s)
 unfolding copyAll
 copyAll-keeps x y ty place g nothing s r h = gives-keeps x [] s r nothing
@@ -188,28 +188,28 @@ copyAll-keeps x y ty place g (also {a = i} {l = is} l a) s r h =
     (copies-none y (s .plan)) h)
     (λ u q f. copyAll-keeps x y ty place g a u q (enlarged-element g f h))
 
-inserted-keeps : (x : Table) → Well x → (place : ℕ) (v w : List ℕ) (s : State) → Ran x s → AreRows (count (s .plan)) v →
+inserted-keeps : (x : Table) → Well x → (place : ℕ) (v w : List ℕ) (s : State) → ComesTo x s → AreRows (count (s .plan)) v →
     Keeps x (s .plan) (inserted place v w s)
 inserted-keeps x well place v w s r a =
     pick-cases (Keeps x (s .plan)) (eqb (length w) 1 && isElement (s .plan) (getD w 0 0))
     (λ e. copyAll-keeps x (s .plan) (ran-well x well r .tree) place (getD w 0 0) a s r (and-right (eqb (length w) 1) _ e)) (λ e. tt)
 
 -- JOIN AND FOR
-joinItems-keeps : (x : Table) (z : ℕ) (v w : List ℕ) (s : State) → Ran x s → AreRows (count (s .plan)) v → AreRows (count (s .plan)) w →
+joinItems-keeps : (x : Table) (z : ℕ) (v w : List ℕ) (s : State) → ComesTo x s → AreRows (count (s .plan)) v → AreRows (count (s .plan)) w →
     Keeps x (s .plan) (joinItems z v w s)
 joinItems-keeps x z v w s r a b =
     pick-cases (Keeps x (s .plan)) (ltb maxItems (length v + length w)) (λ e. tt) (λ e. gives-keeps x (v ++ w) s r (all-append a b))
 
 loop-keeps : (x y : Table) (z : ℕ) (f : ℕ → State → Out) →
-    ((i : ℕ) (u : State) → Ran x u → Enlarged y (u .plan) → i < count (u .plan) → Keeps x (u .plan) (f i u)) →
-    (is v : List ℕ) (s : State) → AreRows (count (s .plan)) is → AreRows (count (s .plan)) v → Ran x s → Enlarged y (s .plan) →
+    ((i : ℕ) (u : State) → ComesTo x u → Enlarged y (u .plan) → i < count (u .plan) → Keeps x (u .plan) (f i u)) →
+    (is v : List ℕ) (s : State) → AreRows (count (s .plan)) is → AreRows (count (s .plan)) v → ComesTo x s → Enlarged y (s .plan) →
     Keeps x (s .plan) (loop z f is v s)
 unfolding loop
 loop-keeps x y z f h [] v s a b r g = gives-keeps x v s r b
 loop-keeps x y z f h (i ∷ is) v s (also l a) b r g = joined (f i s) (h i s r g l) (loop-keeps x y z f h is)
   where
     joined : (o : Out) → Keeps x (s .plan) o →
-        ((w : List ℕ) (u : State) → AreRows (count (u .plan)) is → AreRows (count (u .plan)) w → Ran x u → Enlarged y (u .plan) →
+        ((w : List ℕ) (u : State) → AreRows (count (u .plan)) is → AreRows (count (u .plan)) w → ComesTo x u → Enlarged y (u .plan) →
         Keeps x (u .plan) (loop z f is w u)) →
         Keeps x (s .plan) (joinFor z v o (λ (w : List ℕ) (u : State). loop z f is w u))
     joined (stop q) k next = tt
@@ -222,7 +222,7 @@ loop-keeps x y z f h (i ∷ is) v s (also l a) b r g = joined (f i s) (h i s r g
 
 -- EVALUATION, over the expression
 module _ (x : Table) (well : Well x) where
-  run-keeps : (e : Expr) → FieldsFit e → (b : List (List ℕ)) (s : State) → Ran x s → AreValues (count (s .plan)) b →
+  run-keeps : (e : Expr) → FieldsFit e → (b : List (List ℕ)) (s : State) → ComesTo x s → AreValues (count (s .plan)) b →
       Keeps x (s .plan) (run e b s)
   unfolding run FieldsFit
   run-keeps (nil z) t b s r a = gives-keeps x [] s r nothing

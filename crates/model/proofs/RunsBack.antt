@@ -13,13 +13,13 @@ use Rattle.model.specs.Undo.{back, undo}
 use Rattle.model.specs.Call.{runBy}
 use Rattle.model.specs.Promise.{IsScript, RunsBack}
 use Rattle.model.proofs.TableLaws.{Well, isWell-at, isWell-by}
-use Rattle.model.proofs.RanLaws.{Ran, ran-well, ran-replay}
+use Rattle.model.proofs.RanLaws.{ComesTo, ran-well, ran-replay}
 use Rattle.model.proofs.UndoLaws.{ran-undo}
 use Rattle.model.proofs.ScriptLaws.{isScript-fields}
 use Rattle.model.proofs.RunKeeps.{Keeps, runOn-keeps}
 
 -- what a script's run does is making rows and cutting links
-runOn-ran : (e : Expr) (x : Table) (v : List ℕ) (s : State) → IsScript e → Well x → runOn x e ≡ gives v s → Ran x s
+runOn-ran : (e : Expr) (x : Table) (v : List ℕ) (s : State) → IsScript e → Well x → runOn x e ≡ gives v s → ComesTo x s
 runOn-ran e x v s i w q = subst (Keeps x x) q (runOn-keeps x w e (isScript-fields e i)) .0
 
 pub runsBack : RunsBack

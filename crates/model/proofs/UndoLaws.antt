@@ -19,7 +19,7 @@ use Rattle.model.specs.Undo.{Placed, historySize, sameParent, sameBool, 
 use Rattle.model.proofs.BoolLaws.{and-both, true-false}
 use Rattle.model.proofs.TableLaws.{any-at, isElement-by, parentFits-at, parent-count, Well}
 use Rattle.model.proofs.GrowLaws.{count-withRow, rowAt-withRow-new, count-linked, rowAt-linked-same, isLeaf-linked}
-use Rattle.model.proofs.RanLaws.{Ran, begun, rowMade, linkCut, ran-well, isCut-made, isLeaf-made}
+use Rattle.model.proofs.RanLaws.{ComesTo, begun, rowMade, linkCut, ran-well, isCut-made, isLeaf-made}
 use Rattle.model.proofs.HistoryLaws.{ran-length}
 use Rattle.model.proofs.FormLaws.{placed, formFrom-placed}
 use Rattle.model.proofs.All.{all-snoc}
@@ -107,7 +107,7 @@ undo-last x y rs r f h =
     ap (λ (ps : List Placed). undoAll x (backwards ps [])) (w .1) ∙
     ap (undoAll x) (backwards-snoc (placed 0 rs) [] (record { at = w .0; entry = r })) ∙ rw f h
 
-ran-undone : (x : Table) → Well x → {s : State} → Ran x s → undoAll (s .plan) (backwards (placed 0 (s .history)) []) ≡ back x
+ran-undone : (x : Table) → Well x → {s : State} → ComesTo x s → undoAll (s .plan) (backwards (placed 0 (s .history)) []) ≡ back x
 unfolding undoAll placed backwards
 ran-undone x w begun = refl
 ran-undone x w (rowMade s r q c f g) =
@@ -140,7 +140,7 @@ made-inRange x r l f g = record {
     name true h e = absurd (omega arith)
     name false h e = h
 
-ran-inRange : (x : Table) → Well x → {s : State} → Ran x s → AllInRange (s .history)
+ran-inRange : (x : Table) → Well x → {s : State} → ComesTo x s → AllInRange (s .history)
 ran-inRange x w begun = nothing
 ran-inRange x w (rowMade s r q c f g) = all-snoc (ran-inRange x w q) (made-inRange (s .plan) r c f g)
 ran-inRange x w (linkCut s i p q e) = all-snoc (ran-inRange x w q) cut
@@ -156,7 +156,7 @@ ran-inRange x w (linkCut s i p q e) = all-snoc (ran-inRange x w q) cut
           omega (arith, v .tree .parents i p e .0, parent-count (s .plan) i p e, v .few);
     }
 
-pub ran-undo : (x : Table) → Well x → {s : State} → Ran x s → undo (s .plan) (historyBytes (s .history)) ≡ back x
+pub ran-undo : (x : Table) → Well x → {s : State} → ComesTo x s → undo (s .plan) (historyBytes (s .history)) ≡ back x
 ran-undo x w {s} r =
     ap (undoFormed (s .plan))
     (formFrom-placed (length (historyBytes (s .history)) + 1) 0 0 (s .history) (ran-inRange x w r)

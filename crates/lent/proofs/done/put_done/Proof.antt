@@ -29,7 +29,9 @@ same-length : tie.Need-same-length
 same-length c = search needs
 
 returns : tie.Need-returns
-returns c = sets-eq (c .args .items ∷ c .args .made ∷ c .args .cut ∷ c .args .records ∷ c .args .bytes ∷ c .args .written ∷ []) (c .args .done .now) 0 (c .pre)
+returns c =
+    let x = c .args in
+    sets-eq (x .items ∷ x .made ∷ x .cut ∷ x .records ∷ x .bytes ∷ x .written ∷ []) (x .done .now) 0 (c .pre)
 
 pub put-done-spec : {M : Type 1} → statement M
 put-done-spec =

@@ -14,7 +14,8 @@ returns : tie.Need-returns
 returns c =
     let c3 = c .before .before .before in
     sym
-    (pick-eq (c3 .args .numbers .now) (set (c3 .args .numbers .now) (c3 .args .link) 1) (sym (c .before .index .ensures .0) ∙ c .if1 .taken))
+    (pick-eq (c3 .args .numbers .now) (set (c3 .args .numbers .now) (c3 .args .link) 1)
+    (sym (c .before .index .ensures .0) ∙ c .if1 .taken))
 
 mul-numbers : tie.Need-mul-numbers
 mul-numbers c = search needs
@@ -28,8 +29,8 @@ same-length c = search needs
 returns-2 : tie.Need-returns-2
 returns-2 c =
     let c3 = c .before .before .before in
-    ap (λ (j : ℕ). set (c3 .args .numbers .now) j 1) (c .before .index .ensures .0) ∙ sym (pick-ne (c3 .args .numbers .now) (set (c3 .args
-    .numbers .now) (c3 .args .link) 1) (λ q. c .if1 .left (c .before .index .ensures .0 ∙ q)))
+    ap (λ (j : ℕ). set (c3 .args .numbers .now) j 1) (c .before .index .ensures .0) ∙
+    sym (pick-ne (c3 .args .numbers .now) (set (c3 .args .numbers .now) (c3 .args .link) 1) (λ q. c .if1 .left (c .before .index .ensures .0 ∙ q)))
 
 pub flag-one-spec : {M : Type 1} → statement M
 flag-one-spec =
