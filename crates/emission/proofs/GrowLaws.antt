@@ -13,8 +13,8 @@ use Rattle.model.specs.Paths.{anyBelow, isUp}
 use Rattle.positions.specs.Positions.{Entry, plain, accessing, modifying, over, union}
 use Rattle.positions.specs.Positions as positions
 use Rattle.meeting.specs.Codes.{stepOf}
-use Rattle.positions.specs.Words.{entryBy, overBy, unionBy, PositionFits, entriesIn, PushPost}
-use Rattle.emission.specs.Emitting.{outOf, GrowPre, Grown, markedBy, BelowPre, BelowPost}
+use Rattle.positions.specs.Words.{markedBy, entryBy, overBy, unionBy, PositionFits, entriesIn, PushPost}
+use Rattle.emission.specs.Emitting.{outOf, GrowPre, Grown, BelowPre, BelowPost}
 use Rattle.positions.specs.declared.packed.Position.{Position}
 use Rattle.meeting.specs.declared.cells.Step.{Step}
 use Rattle.emission.specs.declared.emit.Emitted.{Emitted}
@@ -56,9 +56,8 @@ two-pushed ws ws₁ ws₂ n p q x y one two e f =
 
 -- the code's entries are the model's
 over-entry : (p : Position) (m : ℕ) (s : Step) (i : ℕ) (u : model.Step) → p ≡ overBy m s i → stepOf s ≡ u →
-    entryBy p ≡ record { position = over u i; accessed = eqb m 1; modified = eqb m 2 }
-over-entry p m s i u e f =
-    ap entryBy e ∙ ap (λ (v : model.Step). record { position = over v i; accessed = eqb m 1; modified = eqb m 2 }) f
+    entryBy p ≡ markedBy m (over u i)
+over-entry p m s i u e f = ap entryBy e ∙ ap (λ (v : model.Step). markedBy m (over v i)) f
 
 -- whether a step has an entry
 step-chosen : (ws : List ℕ) (y : Emitted) (s : Step) (up none : Bool) → up ≡ isUp (stepOf s) → (eqb (y .result) 0 && not up) ≡ none →

@@ -11,7 +11,7 @@ use Rattle.model.specs.Script.{documentKind, varKind, stepKind, bothKind, delet
 use Rattle.records.specs.Walk.{withBound, inner, endAt, exprAt}
 use Rattle.script.specs.Accepted.{Accepted}
 use Rattle.positions.specs.Positions as positions
-use Rattle.positions.specs.Words.{entriesIn}
+use Rattle.positions.specs.Words.{markedBy, entriesIn}
 use Rattle.meeting.specs.Pairs.{maxPositions}
 use Rattle.meeting.specs.declared.cells.Step.{Step}
 use Rattle.emission.specs.declared.emit.Emitted.{Emitted}
@@ -52,9 +52,6 @@ pub record PairedPre (ws : List ℕ) (first : ℕ) (y : Emitted) : Type 0 where
   pub low : first < y .count
 
 -- all below a position, with a mark: 1 accessed, 2 modified
-abbrev pub markedBy : (mark : ℕ) → positions.Position → positions.Entry
-markedBy m p = record { position = p; accessed = eqb m 1; modified = eqb m 2 }
-
 pub record BelowPre (ws : List ℕ) (n mark operand : ℕ) : Type 0 where
   pub size : length ws ≡ maxPositions
   pub room : n < maxPositions

@@ -1,4 +1,4 @@
--- A text placed in an area: byte by byte, one text after another, a number digit by digit.
+-- A text placed in an area: one byte, one text after another, a number digit by digit.
 use mathlib.Core.Path.{_≡_, refl, ap, sym, subst, _∙_}
 use mathlib.Core.Bool.{true, false}
 use mathlib.Core.List.{List, [], _∷_, _++_}
@@ -7,27 +7,13 @@ use native.Mathlib.Nat.{pow-suc}
 use native.Mathlib.Numerals.{add-one}
 use native.Mathlib.Omega.{arith}
 use lib.Dec.{ltb}
-use lib.ListN.{length, getD, take, drop, set, length-append}
-use lib.Seq.{append-snoc, paste, paste-suc, set-split, take-length}
+use lib.ListN.{length, take, drop, set, length-append}
+use lib.Seq.{append-snoc, set-split}
 use borrow.Author.Tests.{lt-ltb, le-ltb}
 use Rattle.model.specs.Base.{over}
 use Rattle.model.proofs.BoolLaws.{by-cases}
 use Rattle.model.proofs.ListLaws.{over-over}
 use Rattle.format.specs.Text.{ascii, digits, decimal, Placed, Number, Field}
-
--- A COPY, byte by byte
-pub copy-next : (o d s : List ℕ) (i j : ℕ) → o ≡ paste d i s j → i + j < length d → j < length s →
-    set o (i + j) (getD s j 0) ≡ paste d i s (j + 1)
-copy-next o d s i j e h k =
-    ap (λ (x : List ℕ). set x (i + j) (getD s j 0)) e ∙ paste-suc d i s j 0 h k ∙ ap (paste d i s) (sym (add-one j))
-
-pub copy-all : (o d s : List ℕ) (i j : ℕ) → o ≡ paste d i s j → j ≤ length s → length s ≤ j → Placed d i s o (i + j)
-copy-all o d s i j e h k =
-    let q : j ≡ length s = omega arith in
-    record {
-      area = e ∙ ap (paste d i s) q ∙ ap (λ (x : List ℕ). take i d ++ x ++ drop (i + length s) d) (take-length s);
-      next = ap (λ (n : ℕ). i + n) q;
-    }
 
 -- ONE BYTE
 placed-byte : (o : List ℕ) (i x : ℕ) → i < length o → Placed o i (x ∷ []) (set o i x) (i + 1)

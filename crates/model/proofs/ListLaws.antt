@@ -5,10 +5,11 @@ use mathlib.Core.Logic.{_⊎_, inl, inr, ⊎-elim}
 use mathlib.Core.List.{List, [], _∷_, _++_, map, append-assoc, append-nil, List·Memᴰ as In, List·Memᴰ·head as here, List·Memᴰ·tail as there}
 use Prim.Native.Nat.{ℕ, zero, suc, _+_, _-_, _≤_, _<_}
 use native.Mathlib.Omega.{arith}
-use native.Mathlib.Nat.{add-zero}
+use native.Mathlib.Nat.{add-zero, zero-add}
+use native.Mathlib.Numerals.{add-one}
 use lib.Dec.{eqb}
-use lib.ListN.{length, getD, take, drop, set, length-append, length-drop, take-append-drop}
-use lib.Seq.{take-at, take-all, drop-append-add, drop-drop, getD-drop, length-take-le}
+use lib.ListN.{length, getD, take, drop, set, length-append, length-drop, take-append-drop, drop-of-length-le}
+use lib.Seq.{take-at, take-all, take-length, drop-append-add, drop-drop, getD-drop, length-take-le, paste, paste-suc}
 use borrow.Author.Tests.{eqb-true, eq-eqb}
 use Rattle.model.specs.Base.{pick, over, all, any, filtered, among}
 use Rattle.model.proofs.BoolLaws.{and-left, and-right, and-both, or-left, or-right, or-cases}
@@ -49,6 +50,22 @@ length-over s B o h = omega (
 -- nothing put
 pub over-nil : (s : ℕ) (o : List ℕ) → over s [] o ≡ o
 over-nil s o = simp (append-nil, add-zero) (take-append-drop s o)
+
+-- put element by element: one more; all of them; all of them at the front, and over an area no longer
+module _ {o : List ℕ} (d s : List ℕ) (i j : ℕ) (held : o ≡ paste d i s j) where
+  pub paste-next : (k : ℕ) → k ≡ i + j → k < length d → j < length s → set o k (getD s j 0) ≡ paste d i s (j + 1)
+  paste-next k e h l =
+      ap (λ (v : List ℕ). set v k (getD s j 0)) held ∙ ap (λ (n : ℕ). set (paste d i s j) n (getD s j 0)) e ∙
+      paste-suc d i s j 0 (omega arith) l ∙ ap (paste d i s) (sym (add-one j))
+
+  pub paste-all : j ≡ length s → o ≡ over i s d
+  paste-all e = held ∙ ap (paste d i s) e ∙ ap (λ (l : List ℕ). take i d ++ l ++ drop (i + length s) d) (take-length s)
+
+pub front-all : {o : List ℕ} (d s : List ℕ) (j : ℕ) → o ≡ paste d 0 s j → j ≡ length s → o ≡ s ++ drop (length s) d
+front-all d s j held e = paste-all d s 0 j held e ∙ ap (λ (n : ℕ). s ++ drop n d) (zero-add (length s))
+
+pub front-whole : (s d : List ℕ) → length d ≤ length s → s ++ drop (length s) d ≡ s
+front-whole s d h = ap (λ (l : List ℕ). s ++ l) (drop-of-length-le d h) ∙ append-nil s
 
 -- what stands from a place on: all of it, and the first of it
 pub drop-all : (b : List ℕ) (i : ℕ) → take (length b - i) (drop i b) ≡ drop i b

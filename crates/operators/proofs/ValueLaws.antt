@@ -13,7 +13,7 @@ use borrow.Author.Tests.{ltb-true, ltb-false}
 use Rattle.model.proofs.BoolLaws.{by-cases, eq-cases}
 use Rattle.model.specs.Run.{AreRows}
 use Rattle.model.proofs.All.{all-at}
-use Rattle.updates.specs.Updating.{Within}
+use Rattle.table.specs.Flags.{Within}
 use Rattle.query.specs.Values.{valueAt, Appended}
 use Rattle.operators.specs.Evaluating.{CopyPre, Copying}
 

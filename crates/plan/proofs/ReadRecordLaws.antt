@@ -1,6 +1,6 @@
 -- What the model says of the record at the front, from the tests that the reader makes: one law for each way out.
 use mathlib.Core.Path.{_≡_, ap, sym, _∙_}
-use mathlib.Core.Bool.{Bool, true, false}
+use mathlib.Core.Bool.{Bool, true, false, _&&_, not}
 use mathlib.Core.List.{List, [], _∷_, map}
 use mathlib.Core.Option.{Option, none, some}
 use Prim.Native.Nat.{ℕ, zero, suc, _+_, _*_, _-_, _/_, _%_, _≤_, _<_}
@@ -9,7 +9,7 @@ use lib.Dec.{leb, eqb}
 use lib.ListN.{length, length-map, length-set, getD, set}
 use borrow.Author.Tests.{lt-ltb, le-ltb, le-leb, lt-leb, eq-eqb, ne-eqb, eqb-true, eqb-false}
 use Rattle.model.specs.Base.{pick, any}
-use Rattle.model.specs.Refusal.{fault, fine}
+use Rattle.model.specs.Refusal.{fault, fine, linkAt, unless}
 use Rattle.model.specs.Table as model
 use Rattle.model.specs.Stored.{wordAt, rowIn, parentIn, rowFault, markFault, lastMarked, recordFault}
 use Rattle.model.proofs.BoolLaws.{by-cases, eq-cases, pick-eq, pick-ne}
@@ -121,37 +121,20 @@ module _ (s ws ms : List ℕ) (n i : ℕ) (pre : MarkPre s ws ms n) where
           is-element : model.isElement (decodeParts n ws ms) (wordAt s 2) ≡ true
           is-element = element-kind n ws ms within (wordAt s 2) there ∙ rw (ne-eqb (getD ws (wordAt s 2) 0 % 4) 2 element)
 
-          pub mark-child : (getD ws (wordAt s 2) 0 / 4 % 1024 ≡ 0 → ⊥) → markFault (decodeParts n ws ms) i s ≡ fault 6 i
-          mark-child l =
-              rw (
-                lt-ltb (getD s 1 0) 8 known,
-                le-leb (lastOf ms) (getD s 1 0) rising,
-                is-element,
-                rowAt-decode n ws ms within (wordAt s 2) there,
-                ne-eqb (getD ws (wordAt s 2) 0 / 4 % 1024) 0 l,
-              )
+          mark-tests : markFault (decodeParts n ws ms) i s ≡
+              unless (not (model.hasParent (linked (getD ws (wordAt s 2) 0 / 4 % 1024))) &&
+              not (any (model.isThe (wordAt s 2)) (map linked ms))) (linkAt i)
+          mark-tests =
+              let row = rowAt-decode n ws ms within (wordAt s 2) there in
+              rw (lt-ltb (getD s 1 0) 8 known, le-leb (lastOf ms) (getD s 1 0) rising, is-element, row)
 
-          module _ (root : getD ws (wordAt s 2) 0 / 4 % 1024 ≡ 0) where
-            pub mark-by : (z : Bool) → any (model.isThe (wordAt s 2)) (map linked ms) ≡ z →
-                markFault (decodeParts n ws ms) i s ≡ pick z (fault 6 i) fine
-            mark-by true h =
-                rw (
-                  lt-ltb (getD s 1 0) 8 known,
-                  le-leb (lastOf ms) (getD s 1 0) rising,
-                  is-element,
-                  rowAt-decode n ws ms within (wordAt s 2) there,
-                  root,
-                  h,
-                )
-            mark-by false h =
-                rw (
-                  lt-ltb (getD s 1 0) 8 known,
-                  le-leb (lastOf ms) (getD s 1 0) rising,
-                  is-element,
-                  rowAt-decode n ws ms within (wordAt s 2) there,
-                  root,
-                  h,
-                )
+          pub mark-child : (getD ws (wordAt s 2) 0 / 4 % 1024 ≡ 0 → ⊥) → markFault (decodeParts n ws ms) i s ≡ fault 6 i
+          mark-child l = mark-tests ∙ rw (ne-eqb (getD ws (wordAt s 2) 0 / 4 % 1024) 0 l)
+
+          pub mark-by : getD ws (wordAt s 2) 0 / 4 % 1024 ≡ 0 → (z : Bool) → any (model.isThe (wordAt s 2)) (map linked ms) ≡ z →
+              markFault (decodeParts n ws ms) i s ≡ pick z (fault 6 i) fine
+          mark-by root true h = mark-tests ∙ rw (root, h)
+          mark-by root false h = mark-tests ∙ rw (root, h)
 
 -- THE RECORD at the front, by its kind and size
 module _ (x : model.Table) (i : ℕ) (s : List ℕ) where

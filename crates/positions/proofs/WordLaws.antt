@@ -9,19 +9,6 @@ use lib.Seq.{take-suc-set, length-take-le}
 use Rattle.positions.specs.Words.{entryBy, wordOf, fieldsOf, PositionFits, entryOf, entriesIn, PushPost}
 use Rattle.positions.specs.declared.packed.Position.{Position}
 
--- positions are equal when their fields are
-make : (kind mark axis test name first second : ℕ) → Position
-make k m a t n i j = record { kind = k; mark = m; axis = a; test = t; name = n; first = i; second = j }
-
-alike : (x y : Position) → x .kind ≡ y .kind → x .mark ≡ y .mark → x .axis ≡ y .axis → x .test ≡ y .test → x .name ≡ y .name →
-    x .first ≡ y .first → x .second ≡ y .second → x ≡ y
-unfolding make
-alike x y k m a t n i j = made
-  where
-    made : make (x .kind) (x .mark) (x .axis) (x .test) (x .name) (x .first) (x .second) ≡
-        make (y .kind) (y .mark) (y .axis) (y .test) (y .name) (y .first) (y .second)
-    made = cc
-
 -- A DIGIT of a number, between what is below and what is above it
 digit-1 : (x q : ℕ) → x < 4 → (x + 4 * q) % 4 ≡ x
 digit-1 x q h = omega arith
@@ -80,7 +67,7 @@ module _ (p : Position) (f : PositionFits p) where
       (f .first)) in
       let j : wordOf p / 16777216 % 128 ≡ p .second =
       digit-top (p .kind + 4 * p .mark + 16 * p .axis + 64 * p .test + 256 * p .name + 65536 * p .first) (p .second) low-top (f .second) in
-      alike (fieldsOf (wordOf p)) p k m a t n i j
+      λ z. record { kind = k z; mark = m z; axis = a z; test = t z; name = n z; first = i z; second = j z }
     where
       at : (d : ℕ → ℕ) (w : ℕ) → wordOf p ≡ w → (x : ℕ) → d w ≡ x → d (wordOf p) ≡ x
       at d w e x h = ap d e ∙ h

@@ -33,8 +33,11 @@ abbrev pub stepSource : Position → Source
 stepSource p = fromStep (stepIn p) (p .first)
 
 -- a position with its marks
+abbrev pub markedBy : (mark : ℕ) → positions.Position → positions.Entry
+markedBy m p = record { position = p; accessed = eqb m 1; modified = eqb m 2 }
+
 abbrev pub entryBy : Position → positions.Entry
-entryBy p = record { position = positionBy p; accessed = eqb (p .mark) 1; modified = eqb (p .mark) 2 }
+entryBy p = markedBy (p .mark) (positionBy p)
 
 -- the fields of a document's root, accessed; of a step over a position, and of two positions, so marked
 abbrev pub rootBy : (document : ℕ) → Position

@@ -1,5 +1,4 @@
 -- A table given as 512 row words and 8 marks. Assumes nothing: these are definitions.
-use mathlib.Core.Path.{_≡_}
 use mathlib.Core.Bool.{Bool, _&&_}
 use mathlib.Core.List.{List}
 use Prim.Native.Nat.{ℕ}
@@ -13,7 +12,3 @@ isGiven ws ms = eqb (length ws) maxRows && eqb (length ms) documents
 
 abbrev pub given : (count : ℕ) → (rows marks : List ℕ) → Table
 given n ws ms = record { count = n; rows = ws; marks = ms }
-
-pub record RawPre (ws ms : List ℕ) : Type 0 where
-  pub rows : length ws ≡ maxRows
-  pub marks : length ms ≡ documents

@@ -1,7 +1,8 @@
 // Raw words to a table and back.
 ghost use mathlib.Core.Path.{_≡_};
 ghost use lib.ListN.{length};
-ghost use Rattle.probe.specs.Raw.{RawPre, given};
+ghost use Rattle.table.specs.Fitting.{Words};
+ghost use Rattle.probe.specs.Raw.{given};
 use areas::area;
 use table::Table;
 
@@ -19,7 +20,7 @@ fn copy_rows(to: &mut [u32], from: &[u32])
 
 // The table of 512 row words and 8 marks.
 pub fn table_of(count: usize, rows: &[u32], marks: &[u16]) -> Table
-    requires { ⌜ RawPre (now rows) (now marks) ⌝ }
+    requires { ⌜ Words (now rows) (now marks) ⌝ }
     ensures { λ r. ⌜ r ≡ given count (now (rows .entry)) (now (marks .entry)) ⌝ }
 {
     let mut words = [0u32; Table::ROWS];
@@ -35,7 +36,7 @@ pub fn table_of(count: usize, rows: &[u32], marks: &[u16]) -> Table
 
 // A table's row words and marks over slices of 512 and 8.
 pub fn put_table(table: Table, rows: &mut [u32], marks: &mut [u16])
-    requires { ⌜ RawPre (now rows) (now marks) ⌝ }
+    requires { ⌜ Words (now rows) (now marks) ⌝ }
     ensures { λ r. ⌜ now (rows .exit) ≡ table .rows ⌝ }
     ensures { λ r. ⌜ now (marks .exit) ≡ table .marks ⌝ }
 {

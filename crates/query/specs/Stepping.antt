@@ -10,13 +10,13 @@ use Rattle.model.specs.Limits.{maxLinks, maxRows}
 use Rattle.model.specs.Base.{pick, any, among, bit}
 use Rattle.model.specs.Table as model
 use Rattle.model.specs.Step.{reaches, parentIs}
-use Rattle.table.specs.Flags.{Flags}
+use Rattle.table.specs.Flags.{Within, Flags}
 use Rattle.table.specs.Words.{decodeParts}
 
 -- ITEMS flagged
 pub record FlagPre (fs v : List ℕ) : Type 0 where
   pub clear : fs ≡ replicate maxLinks 0
-  pub low : (k : ℕ) → k < length v → getD v k 0 < maxRows
+  pub low : Within v maxRows
 
 abbrev pub Flagged : (value flags : List ℕ) → Type 0
 Flagged v fs = Flags (λ (k : ℕ). among k v) fs

@@ -221,69 +221,6 @@ module _ (t : Table) (b : List ℕ) (e : fits t ≡ true) where
           table-is = encode-decode (q .count) ws′ (t .marks) (omega (arith, held .few, held .rows)) (held .canonical)
 
           -- what the call gives back
-          done : (a h″ w″ : ℕ) → 32768 ≤ length w → {y : Tally} → y ≡ tallyFor (q .made) (q .cut) →
-              record {
-                fault = record { number = 0; place = 0 };
-                table = record { count = q .count; rows = ws′; marks = t .marks };
-                items = x .end;
-                bytes = q .bytes;
-                tally = y;
-              } ≡ resultOf t (ranBy (decode t) a h″ w″ (outcomeOf t b))
-          done a h″ w″ m {y} ey =
-              ap (λ (z : Tally). record {
-                fault = record { number = 0; place = 0 };
-                table = record { count = q .count; rows = ws′; marks = t .marks };
-                items = x .end;
-                bytes = q .bytes;
-                tally = z;
-              }) ey ∙
-              ap (λ (u : Table). record {
-                fault = record { number = 0; place = 0 };
-                table = u;
-                items = x .end;
-                bytes = q .bytes;
-                tally = tallyFor (q .made) (q .cut);
-              }) (sym table-is) ∙
-              ap (λ (n : ℕ). record {
-                fault = record { number = 0; place = 0 };
-                table = encode (decodeParts (q .count) ws′ (t .marks));
-                items = n;
-                bytes = q .bytes;
-                tally = tallyFor (q .made) (q .cut);
-              }) (sym (value-size m)) ∙
-              ap (λ (n : ℕ). record {
-                fault = record { number = 0; place = 0 };
-                table = encode (decodeParts (q .count) ws′ (t .marks));
-                items = length (valueAt w′ 0 (x .end));
-                bytes = n;
-                tally = tallyFor (q .made) (q .cut);
-              }) (sym size-written) ∙
-              ap (λ (z : Tally). record {
-                fault = record { number = 0; place = 0 };
-                table = encode (decodeParts (q .count) ws′ (t .marks));
-                items = length (valueAt w′ 0 (x .end));
-                bytes = length (historyBytes (recordsIn (take (q .bytes) h′)));
-                tally = z;
-              }) tally-is ∙ ap (λ (o : Out). resultOf t (ranBy (decode t) a h″ w″ o)) (sym gives-it)
-            where
-              tally-is : tallyFor (q .made) (q .cut) ≡ record {
-                made = countKind 65 66 (recordsIn (take (q .bytes) h′));
-                cut = countKind 67 67 (recordsIn (take (q .bytes) h′));
-                records = length (recordsIn (take (q .bytes) h′));
-              }
-              tally-is =
-                  ap (λ (n : ℕ). record { made = n; cut = q .cut; records = q .made + q .cut }) (sym made) ∙
-                  ap (λ (n : ℕ). record {
-                    made = countKind 65 66 (recordsIn (take (q .bytes) h′));
-                    cut = n;
-                    records = q .made + q .cut;
-                  }) (sym cuts) ∙
-                  ap (λ (n : ℕ). record {
-                    made = countKind 65 66 (recordsIn (take (q .bytes) h′));
-                    cut = countKind 67 67 (recordsIn (take (q .bytes) h′));
-                    records = n;
-                  }) (sym (held .history .records))
-
           pub run-post : {a a′ : List ℕ} {y : Tally} {r : RunResult} → RunPre a h w → y ≡ tallyFor (q .made) (q .cut) →
               a′ ≡ valueAt w′ 0 (x .end) ++ drop (length (valueAt w′ 0 (x .end))) a →
               r ≡ record {
@@ -295,13 +232,27 @@ module _ (t : Table) (b : List ℕ) (e : fits t ≡ true) where
               } → RunPost t b a h w a′ h′ r
           run-post {a} {a′} {y} {r} pre ey ea er =
               record {
-                result = er ∙ done (length a) (length h) (length w) (pre .work) ey;
+                result = er ∙
+                    (λ i. record {
+                      fault = record { number = 0; place = 0 };
+                      table = sym table-is i;
+                      items = sym (value-size (pre .work)) i;
+                      bytes = sym size-written i;
+                      tally = (ey ∙ tally-is) i;
+                    }) ∙ ap (λ (o : Out). resultOf t (ranBy (decode t) (length a) (length h) (length w) o)) (sym gives-it);
                 answer = ea ∙ filled-answer ∙
                     ap (λ (o : Out). ranBy (decode t) (length a) (length h) (length w) o .answer) (sym gives-it);
                 history = filled-history ∙
                     ap (λ (o : Out). ranBy (decode t) (length a) (length h) (length w) o .history) (sym gives-it);
               }
             where
+              tally-is : tallyFor (q .made) (q .cut) ≡ record {
+                made = countKind 65 66 (recordsIn (take (q .bytes) h′));
+                cut = countKind 67 67 (recordsIn (take (q .bytes) h′));
+                records = length (recordsIn (take (q .bytes) h′));
+              }
+              tally-is = λ i. record { made = sym made i; cut = sym cuts i; records = sym (held .history .records) i }
+
               filled-answer : valueAt w′ 0 (x .end) ++ drop (length (valueAt w′ 0 (x .end))) a ≡ filled (length a) (valueAt w′ 0 (x .end))
               filled-answer =
                   ap (λ (v : List ℕ). valueAt w′ 0 (x .end) ++ drop (length (valueAt w′ 0 (x .end))) v) (pre .answered) ∙

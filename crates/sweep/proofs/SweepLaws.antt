@@ -294,15 +294,7 @@ module _ (ws ms : List ℕ) (n : ℕ) (fits : Fits n ws ms) (size : length ws �
       s .kept ∙ sym (length-sweptRows plan 0 (rowsOf n ws) ∙ ap (keptBefore plan 0) (count-decode n ws ms all-within))
 
   pub encode-swept : (ms′ : List ℕ) → ms′ ≡ newLinks ns ms → record { count = next; rows = out; marks = ms′ } ≡ encode (swept plan)
-  encode-swept ms′ e =
-      ap (λ (k : ℕ). record { count = k; rows = out; marks = ms′ }) kept-count ∙
-      ap (λ (v : List ℕ). record { count = length (sweptRows plan 0 (rowsOf n ws)); rows = v; marks = ms′ }) (s .rows ∙ ap wordsOf
-      rows-all) ∙
-      ap (λ (v : List ℕ). record {
-        count = length (sweptRows plan 0 (rowsOf n ws));
-        rows = wordsOf (sweptRows plan 0 (rowsOf n ws));
-        marks = v;
-      }) (e ∙ links-swept)
+  encode-swept ms′ e = λ i. record { count = kept-count i; rows = (s .rows ∙ ap wordsOf rows-all) i; marks = (e ∙ links-swept) i }
 
 -- refused, and swept
 pub sweep-ill : (t : Table) → words.fits t ≡ false → record { fault = record { number = 6; place = 0 }; table = t } ≡ planSwept t
@@ -310,4 +302,4 @@ sweep-ill t e = rw e
 
 pub sweep-done : (t : Table) (u : Table) → words.fits t ≡ true → u ≡ encode (swept (decode t)) →
     record { fault = record { number = 0; place = 0 }; table = u } ≡ planSwept t
-sweep-done t u e f = rw e (ap (λ (v : Table). record { fault = record { number = 0; place = 0 }; table = v }) f)
+sweep-done t u e f = rw e (λ i. record { fault = record { number = 0; place = 0 }; table = f i })

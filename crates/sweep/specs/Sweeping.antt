@@ -27,7 +27,7 @@ pub record LinksPre (ns ms : List ℕ) : Type 0 where
   pub links : (d : ℕ) → getD ms d 0 < maxLinks
 
 pub record FlagPre (ns ms : List ℕ) : Type 0 where
-  pub zero : ns ≡ replicate maxLinks 0
+  pub clear : ns ≡ replicate maxLinks 0
   pub links : (d : ℕ) → getD ms d 0 < maxLinks
 
 abbrev pub Flagged : (marks numbers : List ℕ) → Type 0
@@ -71,7 +71,7 @@ pub record Sweeping (x : model.Table) (i next : ℕ) (ns out : List ℕ) : Type 
 pub record RowsPre (ws ms : List ℕ) (n : ℕ) (ns out : List ℕ) : Type 0 where
   pub size : length ws ≡ maxRows
   pub fits : partsFit n ws ms ≡ true
-  pub numbers : ns ≡ replicate maxLinks 0
+  pub clear : ns ≡ replicate maxLinks 0
   pub rows : out ≡ replicate maxRows 0
 
 -- MARKS: each link's new one

@@ -58,9 +58,7 @@ link-word r f = go (r .isLeaf)
 
 pub rowOf-wordOf : (r : model.Row) → linkOf (r .parent) < 1024 → rowOf (wordOf r) ≡ r
 rowOf-wordOf r f =
-    ap (λ (z : Bool). record { isLeaf = z; tag = wordOf r / 4096; parent = linked (wordOf r / 4 % 1024) }) (kind-word r f) ∙
-    ap (λ (n : ℕ). record { isLeaf = r .isLeaf; tag = n; parent = linked (wordOf r / 4 % 1024) }) (tag-word r f) ∙
-    ap (λ (p : Option ℕ). record { isLeaf = r .isLeaf; tag = r .tag; parent = p }) (ap linked (link-word r f) ∙ linked-linkOf (r .parent))
+    λ i. record { isLeaf = kind-word r f i; tag = tag-word r f i; parent = (ap linked (link-word r f) ∙ linked-linkOf (r .parent)) i }
 
 pub wordOf-rowOf : (w : ℕ) → isRowWord w ≡ true → wordOf (rowOf w) ≡ w
 wordOf-rowOf w h =
@@ -258,13 +256,6 @@ marks-links : (ms : List ℕ) → map linkOf (map linked ms) ≡ ms
 marks-links [] = refl
 marks-links (m ∷ ms) = ap (λ (n : ℕ). n ∷ map linkOf (map linked ms)) (linkOf-linked m) ∙ ap (λ (l : List ℕ). m ∷ l) (marks-links ms)
 
-pub encode-decode : (n : ℕ) (ws ms : List ℕ) → n ≤ length ws → Canonical n ws → encode (decodeParts n ws ms) ≡ record {
-  count = n;
-  rows =
-      ws;
-  marks = ms;
-}
-encode-decode n ws ms h e =
-    ap (λ (k : ℕ). record { count = k; rows = wordsOf (rowsOf n ws); marks = map linkOf (map linked ms) }) (count-decode n ws ms h) ∙
-    ap (λ (v : List ℕ). record { count = n; rows = v; marks = map linkOf (map linked ms) }) e ∙
-    ap (λ (v : List ℕ). record { count = n; rows = ws; marks = v }) (marks-links ms)
+pub encode-decode : (n : ℕ) (ws ms : List ℕ) → n ≤ length ws → Canonical n ws →
+    encode (decodeParts n ws ms) ≡ record { count = n; rows = ws; marks = ms }
+encode-decode n ws ms h e = λ i. record { count = count-decode n ws ms h i; rows = e i; marks = marks-links ms i }

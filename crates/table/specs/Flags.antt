@@ -1,4 +1,4 @@
--- Flags of rows: a row's flag stands at its number and one, position 0 is for no row. Assumes nothing: these are definitions.
+-- Rows by their numbers: items that are rows, and flags of rows. Assumes nothing: these are definitions.
 use mathlib.Core.Path.{_≡_}
 use mathlib.Core.Bool.{Bool}
 use mathlib.Core.List.{List}
@@ -7,7 +7,11 @@ use lib.ListN.{length, getD}
 use Rattle.model.specs.Limits.{maxLinks, maxRows}
 use Rattle.model.specs.Base.{bit}
 
--- 1 for each row of which f holds, else 0
+-- ITEMS are rows below a count
+abbrev pub Within : (items : List ℕ) → (count : ℕ) → Type 0
+Within v n = (k : ℕ) → k < length v → getD v k 0 < n
+
+-- FLAGS: 1 for each row of which f holds, else 0; a row's flag stands at its number and one, position 0 is for no row
 pub record Flags (f : ℕ → Bool) (fs : List ℕ) : Type 0 where
   pub size : length fs ≡ maxLinks
   pub none : getD fs 0 0 ≡ 0

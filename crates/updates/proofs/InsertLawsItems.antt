@@ -22,7 +22,7 @@ use Rattle.updates.specs.State.{stateOf, outcome, After, Updated, stoppe
 use Rattle.updates.specs.Updating.{NewPre}
 use Rattle.updates.specs.Inserting.{before, copiedIn, IsCopy, RestPre, RestPost, ItemPre, ItemPost, ItemsPre, ItemsPost, InsertPre}
 use Rattle.updates.specs.declared.state.Progress.{Progress}
-use Rattle.updates.proofs.StateLaws.{held-count, after-self, after-then, outcome-gives, outcome-stop, updated-stopped}
+use Rattle.updates.proofs.StateLaws.{held-count, after-self, after-then, outcome-gives, then-goes, updated-stopped, then-stops}
 use Rattle.updates.proofs.InsertLawsScan.{descendants-past}
 use Rattle.updates.proofs.InsertLaws.{made-state, made-count, made-old, made-new, before-decode, row-before, rows-kept}
 use Rattle.updates.proofs.InsertLawsRest.{lower-before}
@@ -119,13 +119,7 @@ module _ {ws h m : List ℕ} {p : Progress} {old t g : ℕ} (pre : ItemPre ws h 
       pub item-refused : (p₁ .number ≡ 0 → ⊥) → ItemPost ws h p old t g ws₁ h₁ p₁
       item-refused n =
           record {
-            updated =
-                record {
-                  same = λ z ms.
-                      outcome-stop z [] ws₁ ms h₁ p₁ n ∙
-                      sym (ap (λ (o : Out). thenRow o (rest z ms)) (outcome-stop z (p .count ∷ []) ws₁ ms h₁ p₁ n)) ∙ whole z ms;
-                  after = λ q. absurd (n q);
-                };
+            updated = then-stops rest (p .count ∷ []) n whole;
             before = λ q. absurd (n q);
           }
 
@@ -182,7 +176,7 @@ module _ {ws h m : List ℕ} {p : Progress} {old t g : ℕ} (pre : ItemPre ws h 
                           arith,
                           pre .held .few,
                         ))) ∙
-                        sym (ap (λ (o : Out). thenRow o (rest z ms)) (outcome-gives z (p .count ∷ []) ws₁ ms h₁ p₁ n)) ∙ whole z ms;
+                        then-goes (rest z ms) z (p .count ∷ []) ws₁ ms h₁ p₁ n (whole z ms);
                     after = λ q. after-then after₁ (post .updated g .after q);
                   };
               before = λ q. post .before q ∙ rows₁;
@@ -243,14 +237,16 @@ module _ {ws₀ h₀ m₀ : List ℕ} {p₀ : Progress} {v : List ℕ} {g : ℕ}
           }
 
       module _ {ws′ h′ : List ℕ} {r : Progress} (post : ItemPost ws h p (p₀ .count) i g ws′ h′ r) where
+        abbrev next : (z : ℕ) (ms : List ℕ) → State → Out
+        next z ms u = copyAll z (decodeParts (p₀ .count) ws₀ ms) (drop (k + 1) v) g u
+
         turn : (z : ℕ) (ms : List ℕ) →
-            thenRow (outcome z [] ws′ ms h′ r) (λ (u : State). copyAll z (decodeParts (p₀ .count) ws₀ ms) (drop (k + 1) v) g u) ≡
-            copyAll z (decodeParts (p₀ .count) ws₀ ms) v g (stateOf ws₀ ms h₀ p₀)
+            thenRow (outcome z [] ws′ ms h′ r) (next z ms) ≡ copyAll z (decodeParts (p₀ .count) ws₀ ms) v g (stateOf ws₀ ms h₀ p₀)
         unfolding copyAll
         turn z ms =
             let x = decodeParts (p₀ .count) ws₀ ms in
             let s = stateOf ws ms h p in
-            ap (λ (o : Out). thenRow o (λ (u : State). copyAll z x (drop (k + 1) v) g u))
+            ap (λ (o : Out). thenRow o (next z ms))
             (post .updated .same z ms ∙
             ap (λ (y : model.Table). copyEach z y i g (subtree y i) [] s)
             (before-decode (p₀ .count) ws ms h p (c .after .rows) ∙
@@ -261,14 +257,7 @@ module _ {ws₀ h₀ m₀ : List ℕ} {p₀ : Progress} {v : List ℕ} {g : ℕ}
             c .rest z ms
 
         pub inserting-refused : (r .number ≡ 0 → ⊥) → ItemsPost ws₀ h₀ p₀ v g ws′ h′ r
-        inserting-refused n =
-            record {
-              same = λ z ms.
-                  outcome-stop z [] ws′ ms h′ r n ∙
-                  sym (ap (λ (o : Out). thenRow o (λ (u : State). copyAll z (decodeParts (p₀ .count) ws₀ ms) (drop (k + 1) v) g u))
-                  (outcome-stop z [] ws′ ms h′ r n)) ∙ turn z ms;
-              after = λ q. absurd (n q);
-            }
+        inserting-refused n = then-stops next [] n turn
 
         pub inserting-again : r .number ≡ 0 → {m′ : List ℕ} → length m′ ≡ 512 → Inserting ws₀ h₀ p₀ v g ws′ h′ m′ r (k + 1)
         inserting-again n l =
@@ -277,9 +266,7 @@ module _ {ws₀ h₀ m₀ : List ℕ} {p₀ : Progress} {v : List ℕ} {g : ℕ}
               size = l;
               within = omega arith;
               same = post .before n ∙ c .same;
-              rest = λ z ms.
-                  sym (ap (λ (o : Out). thenRow o (λ (u : State). copyAll z (decodeParts (p₀ .count) ws₀ ms) (drop (k + 1) v) g u))
-                  (outcome-gives z [] ws′ ms h′ r n)) ∙ turn z ms;
+              rest = λ z ms. then-goes (next z ms) z [] ws′ ms h′ r n (turn z ms);
             }
 
 -- THE TARGET, by the tests

@@ -18,7 +18,7 @@ use Rattle.table.proofs.WordLaws.{count-decode, rowAt-decode}
 use Rattle.updates.specs.State.{stateOf, outcome, Held, After}
 use Rattle.updates.specs.Inserting.{before, copiedIn, nextLink, copyBy, IsCopy, Mapped, NextPre, NextPost, RestPre, RestPost}
 use Rattle.updates.specs.declared.state.Progress.{Progress}
-use Rattle.updates.proofs.StateLaws.{held-count, after-self, after-then, outcome-gives, outcome-stop}
+use Rattle.updates.proofs.StateLaws.{held-count, after-self, after-then, outcome-gives, then-goes, then-stops}
 use Rattle.updates.proofs.InsertLawsScan.{known-next, copy-turn}
 use Rattle.updates.proofs.InsertLaws.{before-decode, row-before, rows-kept, next-old, next-mapped}
 
@@ -116,17 +116,18 @@ module _ {old t : ℕ} {ws₀ h₀ m₀ : List ℕ} {p₀ : Progress} (pre : Res
       small = omega (arith, c .after .held .few)
 
       module _ {ws′ h′ m′ : List ℕ} {r : Progress} (post : NextPost ws h m p t j ws′ h′ m′ r) where
+        abbrev next : (g z : ℕ) (ms : List ℕ) → State → Out
+        next g z ms u =
+            let x = decodeParts old ws₀ ms in
+            copyEach z x t g (descendantsFrom x t (j + 1) (old - (j + 1))) (copiedIn m′ t (j + 1 - t)) u
+
         turn : (g z : ℕ) (ms : List ℕ) →
-            thenRow (outcome z [] ws′ ms h′ r)
-            (λ (u : State).
-            copyEach z (decodeParts old ws₀ ms) t g (descendantsFrom (decodeParts old ws₀ ms) t (j + 1) (old - (j + 1))) (copiedIn m′ t (j
-            + 1 - t)) u) ≡
+            thenRow (outcome z [] ws′ ms h′ r) (next g z ms) ≡
             copyEach z (decodeParts old ws₀ ms) t g (descendantsFrom (decodeParts old ws₀ ms) t (t + 1) (old - (t + 1))) (copiedIn m₀ t 1)
             (stateOf ws₀ ms h₀ p₀)
         turn g z ms =
             let x = decodeParts old ws₀ ms in
-            ap (λ (o : Out).
-            thenRow o (λ (u : State). copyEach z x t g (descendantsFrom x t (j + 1) (old - (j + 1))) (copiedIn m′ t (j + 1 - t)) u))
+            ap (λ (o : Out). thenRow o (next g z ms))
             (post .updated .same z ms ∙ ap (λ (q : model.Row). copyBy z q (nextLink ws m t j) (stateOf ws ms h p)) (sym (row-x ms))) ∙
             sym (copy-turn x (lower-before (pre .held) old (pre .room) ms) t j (c .low) m (getD ws j 0 / 4 % 1024) (parent-x ms) (c .known
             ms)
@@ -137,20 +138,12 @@ module _ {old t : ℕ} {ws₀ h₀ m₀ : List ℕ} {p₀ : Progress} (pre : Res
         copying-refused n =
             record {
               updated = λ g.
-                  record {
-                    same = λ z ms.
-                        let x = decodeParts old ws₀ ms in
-                        outcome-stop z [] ws′ ms h′ r n ∙
-                        sym (ap (λ (o : Out).
-                        thenRow o (λ (u : State). copyEach z x t g (descendantsFrom x t (j + 1) (old - (j + 1))) (copiedIn m′ t (j + 1 -
-                        t)) u))
-                        (outcome-stop z [] ws′ ms h′ r n)) ∙
-                        turn g z ms ∙
-                        ap (λ (y : model.Table).
-                        copyEach z y t g (descendantsFrom y t (t + 1) (old - (t + 1))) (copiedIn m₀ t 1) (stateOf ws₀ ms h₀ p₀))
-                        (sym (before-decode old ws₀ ms h₀ p₀ (pre .room)));
-                    after = λ q. absurd (n q);
-                  };
+                  then-stops (next g) [] n
+                  (λ z ms.
+                  turn g z ms ∙
+                  ap (λ (y : model.Table).
+                  copyEach z y t g (descendantsFrom y t (t + 1) (old - (t + 1))) (copiedIn m₀ t 1) (stateOf ws₀ ms h₀ p₀))
+                  (sym (before-decode old ws₀ ms h₀ p₀ (pre .room))));
               before = λ q. absurd (n q);
             }
 
@@ -171,10 +164,5 @@ module _ {old t : ℕ} {ws₀ h₀ m₀ : List ℕ} {p₀ : Progress} (pre : Res
                   ap (λ (v : List ℕ). eqb (getD v k 0) 65535) (post .map) ∙
                   known-next (decodeParts old ws₀ ms) (lower-before (pre .held) old (pre .room) ms) t j (c .low) m (getD ws j 0 / 4 % 1024)
                   (parent-x ms) (c .known ms) (p .count) small sized k e f;
-              rest = λ g z ms.
-                  let x = decodeParts old ws₀ ms in
-                  sym (ap (λ (o : Out).
-                  thenRow o (λ (u : State). copyEach z x t g (descendantsFrom x t (j + 1) (old - (j + 1))) (copiedIn m′ t (j + 1 - t)) u))
-                  (outcome-gives z [] ws′ ms h′ r n)) ∙
-                  turn g z ms;
+              rest = λ g z ms. then-goes (next g z ms) z [] ws′ ms h′ r n (turn g z ms);
             }

@@ -9,7 +9,7 @@ use lib.ListN.{length, take, drop}
 use Rattle.model.specs.Refusal.{fault}
 use Rattle.model.specs.Table as model
 use Rattle.model.specs.History.{Record, recordBytes, historyBytes, IsInRange, times}
-use Rattle.model.specs.Run.{State, state, Out, stop, gives}
+use Rattle.model.specs.Run.{State, state, Out, stop, gives, thenRow}
 use Rattle.model.proofs.BoolLaws.{pick-eq, pick-ne}
 use Rattle.model.specs.Table.{Tree}
 use Rattle.model.specs.Base.{nothing, over}
@@ -100,6 +100,11 @@ outcome-gives z v ws ms h p e = pick-eq _ _ e
 pub outcome-stop : (z : ℕ) (v ws ms h : List ℕ) (p : Progress) → (p .number ≡ 0 → ⊥) → outcome z v ws ms h p ≡ stop (fault (p .number) z)
 outcome-stop z v ws ms h p e = pick-ne _ _ e
 
+-- an outcome, and then the rest: as the rest goes on from the state
+pub then-goes : (f : State → Out) (z : ℕ) (v ws ms h : List ℕ) (p : Progress) → p .number ≡ 0 → {y : Out} →
+    thenRow (outcome z v ws ms h p) f ≡ y → f (stateOf ws ms h p) ≡ y
+then-goes f z v ws ms h p n e = sym (ap (λ (o : Out). thenRow o f) (outcome-gives z v ws ms h p n)) ∙ e
+
 -- REFUSED, the areas may be anything
 module _ {f : ℕ → State → Out} {v ws h : List ℕ} {p : Progress} {ws′ h′ : List ℕ} {r : Progress} where
   pub updated-stopped : (n : ℕ) → r ≡ stopped p (suc n) → ((z : ℕ) (ms : List ℕ) → stop (fault (suc n) z) ≡ f z (stateOf ws ms h p)) →
@@ -110,4 +115,14 @@ module _ {f : ℕ → State → Out} {v ws h : List ℕ} {p : Progress} {ws′ h
       record {
         same = λ z ms. outcome-stop z v ws′ ms h′ r y ∙ ap (λ (j : ℕ). stop (fault j z)) k ∙ g z ms;
         after = λ q. absurd (y q);
+      }
+
+  -- then the rest is not reached
+  pub then-stops : (g : ℕ → List ℕ → State → Out) (u : List ℕ) → (r .number ≡ 0 → ⊥) →
+      ((z : ℕ) (ms : List ℕ) → thenRow (outcome z u ws′ ms h′ r) (g z ms) ≡ f z (stateOf ws ms h p)) → Updated f v ws h p ws′ h′ r
+  then-stops g u n e =
+      record {
+        same = λ z ms.
+            outcome-stop z v ws′ ms h′ r n ∙ sym (ap (λ (o : Out). thenRow o (g z ms)) (outcome-stop z u ws′ ms h′ r n)) ∙ e z ms;
+        after = λ q. absurd (n q);
       }

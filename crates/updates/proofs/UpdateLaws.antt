@@ -30,7 +30,7 @@ use Rattle.updates.specs.Updating.{NewPre, CutPre}
 use Rattle.updates.specs.declared.state.Progress.{Progress}
 use Rattle.updates.proofs.HistoryLaws.{recorded-made, recorded-cut}
 use Rattle.updates.proofs.StateLaws.{append-area, append-rest, append-written, append-records, held-count, updated-stopped}
-use Rattle.updates.proofs.StateLaws.{after-self, after-then, outcome-gives, outcome-stop}
+use Rattle.updates.proofs.StateLaws.{after-self, after-then, outcome-gives, then-goes, then-stops}
 
 -- NEW ROWS in the model
 module _ (z : ℕ) (r : model.Row) (s : State) where
@@ -341,20 +341,9 @@ module _ {ws₀ h₀ : List ℕ} {p₀ : Progress} {v ws h : List ℕ} {p : Prog
         (sym (drop-cons v k 0 l ∙ ap (λ (j : ℕ). getD v k 0 ∷ drop j v) (sym (add-one k)))) ∙ d .rest z ms
 
     pub delete-refused : (r .number ≡ 0 → ⊥) → Updated (λ z s. cutAll z v s) [] ws₀ h₀ p₀ ws′ h′ r
-    delete-refused n =
-        record {
-          same = λ z ms.
-              outcome-stop z [] ws′ ms h′ r n ∙
-              sym (ap (λ (o : Out). thenRow o (λ (t : State). cutAll z (drop (k + 1) v) t)) (outcome-stop z [] ws′ ms h′ r n)) ∙
-              delete-turn z ms;
-          after = λ q. absurd (n q);
-        }
+    delete-refused n = then-stops (λ z ms t. cutAll z (drop (k + 1) v) t) [] n delete-turn
 
     pub delete-again : r .number ≡ 0 → After ws₀ h₀ p₀ ws′ h′ r ×
         ((z : ℕ) (ms : List ℕ) → cutAll z (drop (k + 1) v) (stateOf ws′ ms h′ r) ≡ cutAll z v (stateOf ws₀ ms h₀ p₀))
-    delete-again n = (
-      after-then (d .after) (u .after n),
-      λ z ms.
-          sym (ap (λ (o : Out). thenRow o (λ (t : State). cutAll z (drop (k + 1) v) t)) (outcome-gives z [] ws′ ms h′ r n)) ∙ delete-turn
-          z ms,
-    )
+    delete-again n =
+        (after-then (d .after) (u .after n), λ z ms. then-goes (cutAll z (drop (k + 1) v)) z [] ws′ ms h′ r n (delete-turn z ms))

@@ -10,9 +10,9 @@ use Rattle.model.specs.Base.{pick}
 use Rattle.model.specs.Limits.{maxRows}
 use Rattle.model.specs.Table as model
 use Rattle.model.specs.Run.{State, Out, gives, newRow, thenRow, Copied, copyEach, descendantsFrom, subtree, copyAll, inserted}
+use Rattle.table.specs.Flags.{Within}
 use Rattle.table.specs.Words.{linked, rowOf, rowsOf, decodeParts}
 use Rattle.updates.specs.State.{Held, Updated}
-use Rattle.updates.specs.Updating.{Within}
 use Rattle.updates.specs.declared.state.Progress.{Progress}
 
 -- THE TABLE BEFORE: the first rows of a state's table

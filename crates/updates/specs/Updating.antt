@@ -4,11 +4,11 @@ use mathlib.Core.Bool.{Bool, true}
 use mathlib.Core.List.{List, [], _∷_}
 use Prim.Native.Nat.{ℕ, _/_, _%_, _≤_, _<_}
 use lib.Dec.{eqb}
-use lib.ListN.{length, getD}
 use Rattle.model.specs.Base.{pick}
 use Rattle.model.specs.Table.{tagFits, parentFits}
 use Rattle.model.specs.Run.{newRow, loose, cutAll}
 use Rattle.model.specs.History.{madeElementKind, madeLeafKind}
+use Rattle.table.specs.Flags.{Within}
 use Rattle.table.specs.Words.{isRowWord, rowOf, decodeParts}
 use Rattle.updates.specs.State.{Held, Updated}
 use Rattle.updates.specs.declared.state.Progress.{Progress}
@@ -38,10 +38,6 @@ pub record ElementPre (ws h : List ℕ) (p : Progress) (name : ℕ) : Type 0 whe
 
 abbrev pub LoosePost : (ws h : List ℕ) → (p : Progress) → (isLeaf : Bool) → (tag : ℕ) → (ws′ h′ : List ℕ) → (r : Progress) → Type 0
 LoosePost ws h p b t ws′ h′ r = Updated (λ z s. newRow z (loose b t) s) (p .count ∷ []) ws h p ws′ h′ r
-
--- ITEMS: a value's rows are rows of the table
-abbrev pub Within : (items : List ℕ) → (count : ℕ) → Type 0
-Within v n = (k : ℕ) → k < length v → getD v k 0 < n
 
 -- DELETE: one row of the table, and a value
 pub record CutPre (ws h : List ℕ) (p : Progress) (i : ℕ) : Type 0 where

@@ -1,12 +1,25 @@
 -- `analyse` answers what the model does: one law of AnalysisLaws for each way out.
 use mathlib.Core.Path.{_≡_, refl, ap, sym, _∙_}
 use Rattle.table.specs.declared.Fault.{Fault}
+use Rattle.script.specs.Reading.{scriptRead}
 use Rattle.paths.proofs.AnalysisLaws.{answer-asks, first-refused, second-refused, both-accepted}
 use native.Mathlib.Omega.{arith}
 use Rattle.meeting.proofs.PairLaws.{has-rows}
 use borrow.Author.Needs.{needs}
 use Rattle.paths.proofs.analyse.Statement.{statement}
 use Rattle.paths.proofs.analyse.Tie as tie
+
+-- the scripts are accepted
+first-accepted : (c : tie.Else1) → scriptRead (c .before .before .before .before .before .args .first .now) .number ≡ 0
+first-accepted c =
+    let zero : c .before .before .read-script .result .number ≡ 0 = search (c .if1 .left, needs) in
+    sym (ap (λ (x : Fault). x .number) (c .before .before .read-script .ensures)) ∙ zero
+
+second-accepted : (c : tie.Else2) →
+    scriptRead (c .before .before .before .before .before .before .before .before .args .second .now) .number ≡ 0
+second-accepted c =
+    let zero : c .before .before .read-script2 .result .number ≡ 0 = search (c .if2 .left, needs) in
+    sym (ap (λ (x : Fault). x .number) (c .before .before .read-script2 .ensures)) ∙ zero
 
 read-script-requires : tie.Need-read-script-requires
 read-script-requires c κs = search needs
@@ -23,35 +36,23 @@ read-script-requires-2 c κs = search needs
 returns-2 : tie.Need-returns-2
 returns-2 c =
     let c2 = c .before .before in
-    let c3 = c2 .before in
-    let c5 = c3 .before .before in
-    let c8 = c5 .before .before .before in
-    let zero : c5 .read-script .result .number ≡ 0 = search (c3 .if1 .left, needs) in
-    second-refused (c8 .args .first .now) (c8 .args .second .now) (sym (ap (λ (x : Fault). x .number) (c5 .read-script .ensures)) ∙ zero)
-    (c2 .read-script2 .result) (c2 .read-script2 .ensures) (c .if2 .taken)
+    let c8 = c2 .before .before .before .before .before .before in
+    second-refused (c8 .args .first .now) (c8 .args .second .now) (first-accepted (c2 .before)) (c2 .read-script2 .result)
+    (c2 .read-script2 .ensures) (c .if2 .taken)
 
 slice-aggregate-positions-of : tie.Need-slice-aggregate-positions-of
 slice-aggregate-positions-of c = search needs
 
 positions-of-requires : tie.Need-positions-of-requires
 positions-of-requires c κs =
-    let c4 = c .before .before .before .before in
-    let c6 = c4 .before .before in
-    let zero : c6 .read-script .result .number ≡ 0 = search (c4 .if1 .left, needs) in
-    record { accepted = (sym (ap (λ (x : Fault). x .number) (c6 .read-script .ensures)) ∙ zero); size = refl; zero = refl }
+    record { accepted = first-accepted (c .before .before .before .before); size = refl; zero = refl }
 
 slice-aggregate-positions-of-2 : tie.Need-slice-aggregate-positions-of-2
 slice-aggregate-positions-of-2 c = search needs
 
 positions-of-requires-2 : tie.Need-positions-of-requires-2
 positions-of-requires-2 c κs =
-    let c4 = c .before .before .before .before in
-    let c6 = c4 .before .before in
-    let c7 = c6 .before in
-    let c9 = c7 .before .before in
-    let zero : c9 .read-script .result .number ≡ 0 = search (c7 .if1 .left, needs) in
-    let zero2 : c6 .read-script2 .result .number ≡ 0 = search (c4 .if2 .left, needs) in
-    record { accepted = (sym (ap (λ (x : Fault). x .number) (c6 .read-script2 .ensures)) ∙ zero2); size = refl; zero = refl }
+    record { accepted = second-accepted (c .before .before .before .before); size = refl; zero = refl }
 
 slice-aggregate-answer : tie.Need-slice-aggregate-answer
 slice-aggregate-answer c = search needs
@@ -76,15 +77,10 @@ returns-3 c =
     let c7 = c .before .before .before .before .before .before .before in
     let c10 = c7 .before .before .before in
     let c12 = c10 .before .before in
-    let c14 = c12 .before .before in
-    let c15 = c14 .before in
-    let c17 = c15 .before .before in
-    let c20 = c17 .before .before .before in
-    let zero : c17 .read-script .result .number ≡ 0 = search (c15 .if1 .left, needs) in
-    let zero2 : c14 .read-script2 .result .number ≡ 0 = search (c12 .if2 .left, needs) in
-    both-accepted (c20 .args .first .now) (c20 .args .second .now) (sym (ap (λ (x : Fault). x .number) (c17 .read-script .ensures)) ∙
-    zero) (sym (ap (λ (x : Fault). x .number) (c14 .read-script2 .ensures)) ∙ zero2) (c10 .positions-of .ensures)
-    (c7 .positions-of2 .ensures) (c .before .answer .ensures)
+    let c15 = c12 .before .before .before in
+    let c20 = c15 .before .before .before .before .before in
+    both-accepted (c20 .args .first .now) (c20 .args .second .now) (first-accepted c15) (second-accepted c12)
+    (c10 .positions-of .ensures) (c7 .positions-of2 .ensures) (c .before .answer .ensures)
 
 slice-aggregate-answer-4 : tie.Need-slice-aggregate-answer-4
 slice-aggregate-answer-4 c = search needs
@@ -109,15 +105,10 @@ returns-4 c =
     let c8 = c .before .before .before .before .before .before .before .before in
     let c11 = c8 .before .before .before in
     let c13 = c11 .before .before in
-    let c15 = c13 .before .before in
-    let c16 = c15 .before in
-    let c18 = c16 .before .before in
-    let c21 = c18 .before .before .before in
-    let zero : c18 .read-script .result .number ≡ 0 = search (c16 .if1 .left, needs) in
-    let zero2 : c15 .read-script2 .result .number ≡ 0 = search (c13 .if2 .left, needs) in
-    both-accepted (c21 .args .first .now) (c21 .args .second .now) (sym (ap (λ (x : Fault). x .number) (c18 .read-script .ensures)) ∙
-    zero) (sym (ap (λ (x : Fault). x .number) (c15 .read-script2 .ensures)) ∙ zero2) (c11 .positions-of .ensures)
-    (c8 .positions-of2 .ensures) (c .before .answer2 .ensures)
+    let c16 = c13 .before .before .before in
+    let c21 = c16 .before .before .before .before .before in
+    both-accepted (c21 .args .first .now) (c21 .args .second .now) (first-accepted c16) (second-accepted c13)
+    (c11 .positions-of .ensures) (c8 .positions-of2 .ensures) (c .before .answer2 .ensures)
 
 slice-aggregate-answer-7 : tie.Need-slice-aggregate-answer-7
 slice-aggregate-answer-7 c = search needs
@@ -141,15 +132,10 @@ returns-5 c =
     let c8 = c .before .before .before .before .before .before .before .before in
     let c11 = c8 .before .before .before in
     let c13 = c11 .before .before in
-    let c15 = c13 .before .before in
-    let c16 = c15 .before in
-    let c18 = c16 .before .before in
-    let c21 = c18 .before .before .before in
-    let zero : c18 .read-script .result .number ≡ 0 = search (c16 .if1 .left, needs) in
-    let zero2 : c15 .read-script2 .result .number ≡ 0 = search (c13 .if2 .left, needs) in
-    both-accepted (c21 .args .first .now) (c21 .args .second .now) (sym (ap (λ (x : Fault). x .number) (c18 .read-script .ensures)) ∙
-    zero) (sym (ap (λ (x : Fault). x .number) (c15 .read-script2 .ensures)) ∙ zero2) (c11 .positions-of .ensures)
-    (c8 .positions-of2 .ensures) (c .before .answer3 .ensures)
+    let c16 = c13 .before .before .before in
+    let c21 = c16 .before .before .before .before .before in
+    both-accepted (c21 .args .first .now) (c21 .args .second .now) (first-accepted c16) (second-accepted c13)
+    (c11 .positions-of .ensures) (c8 .positions-of2 .ensures) (c .before .answer3 .ensures)
 
 pub analyse-spec : {M : Type 1} → statement M
 analyse-spec =

@@ -44,7 +44,7 @@ rows-requires c κs =
       size = size (c14) .rows;
       fits = sym (c8 .fits2 .ensures) ∙
           not-false (c8 .fits2 .result) (c7 .if1 .left);
-      numbers = refl;
+      clear = refl;
       rows = refl;
     }
 

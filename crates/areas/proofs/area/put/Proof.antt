@@ -6,10 +6,11 @@ use mathlib.Core.Path.{_≡_, refl, _∙_}
 use Prim.Native.Nat.{_≤_, _-_}
 use native.Mathlib.Omega.{arith}
 use lib.ListN.{length, getD, length-set}
-use Rattle.areas.proofs.AreaLaws.{putTo, put-next, put-all}
+use lib.Seq.{paste}
+use Rattle.model.proofs.ListLaws.{paste-next, front-all}
 
 abbrev Inv-loop : tie.InvT-loop
-Inv-loop area₀ value k₀ area k = (k ≤ length value) × (length area ≡ length area₀) × (area ≡ putTo k value area₀)
+Inv-loop area₀ value k₀ area k = (k ≤ length value) × (length area ≡ length area₀) × (area ≡ paste area₀ 0 value k)
 
 abbrev μ-loop : tie.MeasureT-loop
 μ-loop area₀ value k₀ area k = length value - k
@@ -41,13 +42,12 @@ loop-less c = omega arith
 
 loop-again : tie.Need-loop-again Inv-loop μ-loop
 loop-again c =
-    let c3 = c .before .before .before in
-    let l = c .before .before .loop .inv .1 in (
+    let c2 = c .before .before in
+    let x = c2 .before .args in (
       omega arith,
-      length-set (c .before .before .loop .area) (c .before .before .loop .j) (getD (c3 .args .value .now) (c .before
-          .before .loop .j) 0) ∙ l,
-      put-next (c3 .args .value .now) (c3 .args .area .now) (c .before .before .loop .area) (c .before
-          .before .loop .j) (c3 .pre) (c .before .loop-test .taken) (c .before .before .loop .inv .2),
+      length-set (c2 .loop .area) (c2 .loop .j) (getD (x .value .now) (c2 .loop .j) 0) ∙ c2 .loop .inv .1,
+      paste-next (x .area .now) (x .value .now) 0 (c2 .loop .j) (c2 .loop .inv .2) (c2 .loop .j) (omega arith)
+          (omega (arith, c2 .before .pre)) (c .before .loop-test .taken),
     )
 
 same-length : tie.Need-same-length Inv-loop μ-loop
@@ -55,8 +55,8 @@ same-length c = c .before .loop .inv .1
 
 returns : tie.Need-returns Inv-loop μ-loop
 returns c =
-    put-all (c .before .before .args .value .now) (c .before .before .args .area .now) (c .before .loop .area) (c .before .loop .j)
-    (omega arith) (c .before .loop .inv .0) (c .before .loop .inv .2)
+    front-all (c .before .before .args .area .now) (c .before .before .args .value .now) (c .before .loop .j) (c .before .loop .inv .2)
+    (omega arith)
 
 pub put-spec : {M : Type 1} → statement M
 put-spec =

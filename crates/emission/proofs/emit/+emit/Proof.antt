@@ -1,12 +1,11 @@
 -- The cycle of calls {emit}: the measure is how deep the expression may be; each answer cites one law of WalkLaws.
-use mathlib.Core.Path.{ap, sym, _∙_}
+use mathlib.Core.Path.{_≡_, ap, sym, _∙_}
 use native.Mathlib.Omega.{arith}
 use lib.ListN.{getD}
-use Rattle.records.specs.Walk.{arity}
+use Rattle.records.specs.Walk.{arity, firstAt}
 use Rattle.script.proofs.AcceptedLaws.{accepted-record}
 use Rattle.emission.proofs.WalkLaws.{nullary-asks, nullary-emits, first-asks, unary-asks, unary-emits, bind-asks, second-asks}
-use Rattle.emission.proofs.WalkLaws.{binary-asks}
-use Rattle.emission.proofs.WalkLaws.{binary-emits, third-asks, union-asks, union-emits}
+use Rattle.emission.proofs.WalkLaws.{binary-asks, binary-emits, third-asks, union-asks, union-emits}
 use borrow.Author.Needs.{needs}
 use Prim.Native.Nat.{ℕ, _+_, _<_}
 use borrow.Fn.Kinds.{In}
@@ -55,6 +54,32 @@ emit-claims t = (
   union-reads.Asked,
   union-reads.Learnt,
 )
+
+-- where there is an operand: one at least, two, three; and the place of the first
+some-at : (t : ℕ) (c : emit-lts.Else1 (emit-claims t) (emit-at t) emit.Post) →
+    let a = c .before .before .before .before .before .before .args in 0 < arity (getD (a .bytes .now) (a .at) 0)
+some-at t c = omega (arith, c .before .before .arity .ensures .0, c .if1 .left)
+
+more-at : (t : ℕ) (c : emit-lts.Else2 (emit-claims t) (emit-at t) emit.Post) →
+    let a = c .before .before .before .before .before .before .before .before .before .before .before .args in
+    1 < arity (getD (a .bytes .now) (a .at) 0)
+more-at t c =
+    let c5 = c .before .before .before .before .before in
+    omega (arith, c5 .before .before .arity .ensures .0, c5 .if1 .left, c .if2 .left)
+
+most-at : (t : ℕ) (c : emit-lts.Else3 (emit-claims t) (emit-at t) emit.Post) →
+    let c7 = c .before .before .before .before .before .before .before in
+    let a = c7 .before .before .before .before .before .before .before .before .before .before .before .args in
+    2 < arity (getD (a .bytes .now) (a .at) 0)
+most-at t c =
+    let c7 = c .before .before .before .before .before .before .before in
+    let c12 = c7 .before .before .before .before .before in
+    omega (arith, c12 .before .before .arity .ensures .0, c12 .if1 .left, c7 .if2 .left, c .if3 .left)
+
+first-at : (t : ℕ) (c : emit-lts.Else1 (emit-claims t) (emit-at t) emit.Post) →
+    let a = c .before .before .before .before .before .before .args in
+    a .at + (1 + c .before .body-size .result) ≡ firstAt (a .bytes .now) (a .at)
+first-at t c = ap (λ (s : ℕ). c .before .before .before .before .before .before .args .at + (1 + s)) (c .before .body-size .ensures .0)
 
 emit-shared-slice-read-kind : (t : ℕ) → emit-lts.Need-shared-slice-read-kind (emit-claims t) (emit-at t) emit.Post
 emit-shared-slice-read-kind t c =
@@ -105,29 +130,18 @@ emit-sub-emit t c =
 
 emit-emit-requires : (t : ℕ) → emit-lts.Need-emit-requires (emit-claims t) (emit-at t) emit.Post
 emit-emit-requires t c κs =
-    let c3 = c .before .before .before in
-    let c7 = c3 .before .before .before .before in
-    let m : 0 < arity (getD (c7 .args .bytes .now) (c7 .args .at) 0) = omega (arith, c3 .arity .ensures .0, c .before .if1 .left) in
-    let e = (ap (λ (s : ℕ). c7 .args .at + (1 + s)) (c .before .before .body-size .ensures .0)) in (
-      omega (
-        arith,
-        c7 .pre .0,
-        accepted-record
-            (c7 .pre .1 .accepted) .depth,
-      ),
-      first-asks (c7 .pre .1) m e,
+    let c7 = c .before .before .before .before .before .before .before in (
+      omega (arith, c7 .pre .0, accepted-record (c7 .pre .1 .accepted) .depth),
+      first-asks (c7 .pre .1) (some-at t (c .before)) (first-at t (c .before)),
     )
 
 emit-unary-requires : (t : ℕ) → emit-lts.Need-unary-requires (emit-claims t) (emit-at t) emit.Post
 emit-unary-requires t c κs =
     let c4 = c .before .before .before .before in
     let c6 = c4 .before .before in
-    let c7 = c6 .before in
-    let c8 = c7 .before in
+    let c8 = c6 .before .before in
     let c12 = c8 .before .before .before .before in
-    let m : 0 < arity (getD (c12 .args .bytes .now) (c12 .args .at) 0) = omega (arith, c8 .arity .ensures .0, c6 .if1 .left) in
-    let e = (ap (λ (s : ℕ). c12 .args .at + (1 + s)) (c7 .body-size .ensures .0)) in
-    unary-asks (c12 .pre .1) m e (c4 .emit .ensures) (sym (c8 .arity .ensures .0) ∙ c .before .if2 .taken)
+    unary-asks (c12 .pre .1) (some-at t c6) (first-at t c6) (c4 .emit .ensures) (sym (c8 .arity .ensures .0) ∙ c .before .if2 .taken)
 
 emit-same-length-2 : (t : ℕ) → emit-lts.Need-same-length-2 (emit-claims t) (emit-at t) emit.Post
 emit-same-length-2 t c = search needs
@@ -137,24 +151,17 @@ emit-returns-2 t c =
     let c4 = c .before .before .before .before in
     let c7 = c4 .before .before .before in
     let c9 = c7 .before .before in
-    let c10 = c9 .before in
-    let c11 = c10 .before in
+    let c11 = c9 .before .before in
     let c15 = c11 .before .before .before .before in
-    let m : 0 < arity (getD (c15 .args .bytes .now) (c15 .args .at) 0) = omega (arith, c11 .arity .ensures .0, c9 .if1 .left) in
-    let e = (ap (λ (s : ℕ). c15 .args .at + (1 + s)) (c10 .body-size .ensures .0)) in
-    unary-emits (c15 .pre .1) m e (c7 .emit .ensures) (sym (c11 .arity .ensures .0) ∙ c4 .if2 .taken) (c .before .before .unary .ensures)
+    unary-emits (c15 .pre .1) (some-at t c9) (first-at t c9) (c7 .emit .ensures) (sym (c11 .arity .ensures .0) ∙ c4 .if2 .taken)
+    (c .before .before .unary .ensures)
 
 emit-bind-requires : (t : ℕ) → emit-lts.Need-bind-requires (emit-claims t) (emit-at t) emit.Post
 emit-bind-requires t c κs =
     let c3 = c .before .before .before in
     let c5 = c3 .before .before in
-    let c6 = c5 .before in
-    let c7 = c6 .before in
-    let c11 = c7 .before .before .before .before in
-    let m : 0 < arity (getD (c11 .args .bytes .now) (c11 .args .at) 0) = omega (arith, c7 .arity .ensures .0, c5 .if1 .left) in
-    let e = (ap (λ (s : ℕ). c11 .args .at + (1 + s)) (c6 .body-size .ensures .0)) in
-    let h : 1 < arity (getD (c11 .args .bytes .now) (c11 .args .at) 0) =
-    omega (arith, c7 .arity .ensures .0, c5 .if1 .left, c .if2 .left) in bind-asks (c11 .pre .1) m e (c3 .emit .ensures) h
+    let c11 = c5 .before .before .before .before .before .before in
+    bind-asks (c11 .pre .1) (some-at t c5) (first-at t c5) (c3 .emit .ensures) (more-at t c)
 
 emit-sub-emit-2 : (t : ℕ) → emit-lts.Need-sub-emit-2 (emit-claims t) (emit-at t) emit.Post
 emit-sub-emit-2 t c =
@@ -171,21 +178,10 @@ emit-emit-requires-2 t c κs =
     let c3 = c .before .before .before in
     let c6 = c3 .before .before .before in
     let c8 = c6 .before .before in
-    let c9 = c8 .before in
-    let c10 = c9 .before in
-    let c14 = c10 .before .before .before .before in
-    let m : 0 < arity (getD (c14 .args .bytes .now) (c14 .args .at) 0) = omega (arith, c10 .arity .ensures .0, c8 .if1 .left) in
-    let e = (ap (λ (s : ℕ). c14 .args .at + (1 + s)) (c9 .body-size .ensures .0)) in
-    let h : 1 < arity (getD (c14 .args .bytes .now) (c14 .args .at) 0) =
-    omega (arith, c10 .arity .ensures .0, c8 .if1 .left, c3 .if2 .left) in (
-      omega (
-        arith,
-        c14 .pre .0,
-        accepted-record
-            (c14 .pre .1 .accepted) .depth,
-      ),
-      second-asks (c14 .pre .1) m e (c6 .emit .ensures) (c .before .before .bind .ensures)
-          (c .before .inner .ensures) h,
+    let c14 = c8 .before .before .before .before .before .before in (
+      omega (arith, c14 .pre .0, accepted-record (c14 .pre .1 .accepted) .depth),
+      second-asks (c14 .pre .1) (some-at t c8) (first-at t c8) (c6 .emit .ensures) (c .before .before .bind .ensures)
+          (c .before .inner .ensures) (more-at t c3),
     )
 
 emit-binary-requires : (t : ℕ) → emit-lts.Need-binary-requires (emit-claims t) (emit-at t) emit.Post
@@ -196,15 +192,10 @@ emit-binary-requires t c κs =
     let c8 = c7 .before in
     let c11 = c8 .before .before .before in
     let c13 = c11 .before .before in
-    let c14 = c13 .before in
-    let c15 = c14 .before in
+    let c15 = c13 .before .before in
     let c19 = c15 .before .before .before .before in
-    let m : 0 < arity (getD (c19 .args .bytes .now) (c19 .args .at) 0) = omega (arith, c15 .arity .ensures .0, c13 .if1 .left) in
-    let e = (ap (λ (s : ℕ). c19 .args .at + (1 + s)) (c14 .body-size .ensures .0)) in
-    let h : 1 < arity (getD (c19 .args .bytes .now) (c19 .args .at) 0) =
-    omega (arith, c15 .arity .ensures .0, c13 .if1 .left, c8 .if2 .left) in
-    binary-asks (c19 .pre .1) m e (c11 .emit .ensures) (c7 .bind .ensures) (c6 .inner .ensures) h (c4 .emit2 .ensures)
-    (sym (c15 .arity .ensures .0) ∙ c .before .if3 .taken)
+    binary-asks (c19 .pre .1) (some-at t c13) (first-at t c13) (c11 .emit .ensures) (c7 .bind .ensures) (c6 .inner .ensures) (more-at t c8)
+    (c4 .emit2 .ensures) (sym (c15 .arity .ensures .0) ∙ c .before .if3 .taken)
 
 emit-same-length-3 : (t : ℕ) → emit-lts.Need-same-length-3 (emit-claims t) (emit-at t) emit.Post
 emit-same-length-3 t c = search needs
@@ -218,15 +209,10 @@ emit-returns-3 t c =
     let c11 = c10 .before in
     let c14 = c11 .before .before .before in
     let c16 = c14 .before .before in
-    let c17 = c16 .before in
-    let c18 = c17 .before in
+    let c18 = c16 .before .before in
     let c22 = c18 .before .before .before .before in
-    let m : 0 < arity (getD (c22 .args .bytes .now) (c22 .args .at) 0) = omega (arith, c18 .arity .ensures .0, c16 .if1 .left) in
-    let e = (ap (λ (s : ℕ). c22 .args .at + (1 + s)) (c17 .body-size .ensures .0)) in
-    let h : 1 < arity (getD (c22 .args .bytes .now) (c22 .args .at) 0) =
-    omega (arith, c18 .arity .ensures .0, c16 .if1 .left, c11 .if2 .left) in
-    binary-emits (c22 .pre .1) m e (c14 .emit .ensures) (c10 .bind .ensures) (c9 .inner .ensures) h (c7 .emit2 .ensures)
-    (sym (c18 .arity .ensures .0) ∙ c4 .if3 .taken) (c .before .before .binary .ensures)
+    binary-emits (c22 .pre .1) (some-at t c16) (first-at t c16) (c14 .emit .ensures) (c10 .bind .ensures) (c9 .inner .ensures)
+    (more-at t c11) (c7 .emit2 .ensures) (sym (c18 .arity .ensures .0) ∙ c4 .if3 .taken) (c .before .before .binary .ensures)
 
 emit-sub-emit-3 : (t : ℕ) → emit-lts.Need-sub-emit-3 (emit-claims t) (emit-at t) emit.Post
 emit-sub-emit-3 t c =
@@ -243,23 +229,10 @@ emit-emit-requires-3 t c κs =
     let c8 = c7 .before in
     let c11 = c8 .before .before .before in
     let c13 = c11 .before .before in
-    let c14 = c13 .before in
-    let c15 = c14 .before in
-    let c19 = c15 .before .before .before .before in
-    let m : 0 < arity (getD (c19 .args .bytes .now) (c19 .args .at) 0) = omega (arith, c15 .arity .ensures .0, c13 .if1 .left) in
-    let e = (ap (λ (s : ℕ). c19 .args .at + (1 + s)) (c14 .body-size .ensures .0)) in
-    let h : 1 < arity (getD (c19 .args .bytes .now) (c19 .args .at) 0) =
-    omega (arith, c15 .arity .ensures .0, c13 .if1 .left, c8 .if2 .left) in
-    let g : 2 < arity (getD (c19 .args .bytes .now) (c19 .args .at) 0) =
-    omega (arith, c15 .arity .ensures .0, c13 .if1 .left, c8 .if2 .left, c .before .if3 .left) in (
-      omega (
-        arith,
-        c19 .pre .0,
-        accepted-record
-            (c19 .pre .1 .accepted) .depth,
-      ),
-      third-asks (c19 .pre .1) m e (c11 .emit .ensures) (c7 .bind .ensures) (c6 .inner .ensures) h
-          (c4 .emit2 .ensures) g,
+    let c19 = c13 .before .before .before .before .before .before in (
+      omega (arith, c19 .pre .0, accepted-record (c19 .pre .1 .accepted) .depth),
+      third-asks (c19 .pre .1) (some-at t c13) (first-at t c13) (c11 .emit .ensures) (c7 .bind .ensures) (c6 .inner .ensures)
+          (more-at t c8) (c4 .emit2 .ensures) (most-at t (c .before)),
     )
 
 emit-union-requires : (t : ℕ) → emit-lts.Need-union-requires (emit-claims t) (emit-at t) emit.Post
@@ -272,17 +245,9 @@ emit-union-requires t c κs =
     let c12 = c11 .before in
     let c15 = c12 .before .before .before in
     let c17 = c15 .before .before in
-    let c18 = c17 .before in
-    let c19 = c18 .before in
-    let c23 = c19 .before .before .before .before in
-    let m : 0 < arity (getD (c23 .args .bytes .now) (c23 .args .at) 0) = omega (arith, c19 .arity .ensures .0, c17 .if1 .left) in
-    let e = (ap (λ (s : ℕ). c23 .args .at + (1 + s)) (c18 .body-size .ensures .0)) in
-    let h : 1 < arity (getD (c23 .args .bytes .now) (c23 .args .at) 0) =
-    omega (arith, c19 .arity .ensures .0, c17 .if1 .left, c12 .if2 .left) in
-    let g : 2 < arity (getD (c23 .args .bytes .now) (c23 .args .at) 0) =
-    omega (arith, c19 .arity .ensures .0, c17 .if1 .left, c12 .if2 .left, c5 .if3 .left) in
-    union-asks (c23 .pre .1) m e (c15 .emit .ensures) (c11 .bind .ensures) (c10 .inner .ensures) h (c8 .emit2 .ensures) g
-    (c3 .emit3 .ensures)
+    let c23 = c17 .before .before .before .before .before .before in
+    union-asks (c23 .pre .1) (some-at t c17) (first-at t c17) (c15 .emit .ensures) (c11 .bind .ensures) (c10 .inner .ensures)
+    (more-at t c12) (c8 .emit2 .ensures) (most-at t c5) (c3 .emit3 .ensures)
 
 emit-same-length-4 : (t : ℕ) → emit-lts.Need-same-length-4 (emit-claims t) (emit-at t) emit.Post
 emit-same-length-4 t c = search needs
@@ -297,17 +262,9 @@ emit-returns-4 t c =
     let c15 = c14 .before in
     let c18 = c15 .before .before .before in
     let c20 = c18 .before .before in
-    let c21 = c20 .before in
-    let c22 = c21 .before in
-    let c26 = c22 .before .before .before .before in
-    let m : 0 < arity (getD (c26 .args .bytes .now) (c26 .args .at) 0) = omega (arith, c22 .arity .ensures .0, c20 .if1 .left) in
-    let e = (ap (λ (s : ℕ). c26 .args .at + (1 + s)) (c21 .body-size .ensures .0)) in
-    let h : 1 < arity (getD (c26 .args .bytes .now) (c26 .args .at) 0) =
-    omega (arith, c22 .arity .ensures .0, c20 .if1 .left, c15 .if2 .left) in
-    let g : 2 < arity (getD (c26 .args .bytes .now) (c26 .args .at) 0) =
-    omega (arith, c22 .arity .ensures .0, c20 .if1 .left, c15 .if2 .left, c8 .if3 .left) in
-    union-emits (c26 .pre .1) m e (c18 .emit .ensures) (c14 .bind .ensures) (c13 .inner .ensures) h (c11 .emit2 .ensures) g
-    (c6 .emit3 .ensures) (c .before .before .union .ensures)
+    let c26 = c20 .before .before .before .before .before .before in
+    union-emits (c26 .pre .1) (some-at t c20) (first-at t c20) (c18 .emit .ensures) (c14 .bind .ensures) (c13 .inner .ensures)
+    (more-at t c15) (c11 .emit2 .ensures) (most-at t c8) (c6 .emit3 .ensures) (c .before .before .union .ensures)
 
 pub +emit-spec : {M : Type 1} → statement M
 +emit-spec = close μ-emit λ t. emit-lts.spec (emit-claims t)

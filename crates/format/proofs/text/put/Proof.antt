@@ -1,10 +1,10 @@
 -- `text::put` places a text. The invariant: its bytes below i stand in the area.
-use Prim.Native.Nat.{_+_, _≤_, _-_}
-use mathlib.Core.Path.{_≡_, refl, _∙_}
+use Prim.Native.Nat.{ℕ, _+_, _≤_, _-_}
+use mathlib.Core.Path.{_≡_, refl, ap, _∙_}
 use native.Mathlib.Omega.{arith}
 use lib.ListN.{length, getD, length-set}
 use lib.Seq.{paste, paste-zero}
-use Rattle.format.proofs.TextLaws.{copy-next, copy-all}
+use Rattle.model.proofs.ListLaws.{paste-next, paste-all}
 use borrow.Author.Needs.{needs}
 use Rattle.format.proofs.text.put.Statement.{statement}
 use Rattle.format.proofs.text.put.Tie as tie
@@ -35,14 +35,12 @@ loop-less c = search needs
 
 loop-again : tie.Need-loop-again Inv-loop μ-loop
 loop-again c =
-    let c3 = c .before .before .before in (
+    let c2 = c .before .before in
+    let x = c2 .before .args in (
       omega arith,
-      length-set (c .before .before .loop .out) (c3 .args .at + c .before .before .loop .i) (getD (c3 .args .text .now) (c
-          .before .before .loop .i) 0) ∙ c .before .before .loop .inv .1,
-      copy-next (c .before .before .loop .out) (c3 .args .out .now) (c3
-          .args .text .now) (c3 .args .at) (c .before .before .loop .i) (c .before .before .loop .inv .2) (omega (arith, c3 .pre))
-          (c .before
-          .loop-test .taken),
+      length-set (c2 .loop .out) (x .at + c2 .loop .i) (getD (x .text .now) (c2 .loop .i) 0) ∙ c2 .loop .inv .1,
+      paste-next (x .out .now) (x .text .now) (x .at) (c2 .loop .i) (c2 .loop .inv .2) (x .at + c2 .loop .i) refl
+          (omega (arith, c2 .before .pre)) (c .before .loop-test .taken),
     )
 
 add-result : tie.Need-add-result Inv-loop μ-loop
@@ -52,8 +50,13 @@ same-length : tie.Need-same-length Inv-loop μ-loop
 same-length c = search needs
 
 returns : tie.Need-returns Inv-loop μ-loop
-returns c = copy-all (c .before .loop .out) (c .before .before .args .out .now) (c .before .before .args .text .now) (c .before .before
-    .args .at) (c .before .loop .i) (c .before .loop .inv .2) (c .before .loop .inv .0) (omega arith)
+returns c =
+    let x = c .before .before .args in
+    let q : c .before .loop .i ≡ length (x .text .now) = omega (arith, c .before .loop .inv .0) in
+    record {
+      area = paste-all (x .out .now) (x .text .now) (x .at) (c .before .loop .i) (c .before .loop .inv .2) q;
+      next = ap (λ (n : ℕ). x .at + n) q;
+    }
 
 pub put-spec : {M : Type 1} → statement M
 put-spec =

@@ -2,9 +2,8 @@
 use borrow.Author.Needs.{needs}
 use Rattle.operators.proofs.record.limited.Statement.{statement}
 use Rattle.operators.proofs.record.limited.Tie as tie
-use mathlib.Core.Path.{ap, sym, _∙_}
+use mathlib.Core.Path.{sym, _∙_}
 use native.Mathlib.Omega.{arith}
-use Rattle.updates.specs.declared.state.Progress.{Progress}
 use Rattle.operators.proofs.RecordLaws.{limited-few, limited-many}
 
 sub-if1 : tie.Need-sub-if1
@@ -19,8 +18,8 @@ refused-requires c κs = search needs
 returns-2 : tie.Need-returns-2
 returns-2 c =
     let c5 = c .before .before .before .before .before in
-    ap (λ (p : Progress). record { progress = p; place = c5 .args .at; end = c5 .args .x .end; env = c5 .args .x .env }) (c .refused
-    .ensures) ∙ sym (limited-many (c5 .args .x) (c5 .args .top) (c5 .args .at) (omega arith))
+    (λ i. record { progress = c .refused .ensures i; place = c5 .args .at; end = c5 .args .x .end; env = c5 .args .x .env }) ∙
+    sym (limited-many (c5 .args .x) (c5 .args .top) (c5 .args .at) (omega arith))
 
 pub limited-spec : {M : Type 1} → statement M
 limited-spec = tie.close (tie.spec sub-if1 returns refused-requires returns-2)

@@ -2,8 +2,6 @@
 use borrow.Author.Needs.{needs}
 use Rattle.operators.proofs.record.past.Statement.{statement}
 use Rattle.operators.proofs.record.past.Tie as tie
-use mathlib.Core.Path.{ap}
-use Prim.Native.Nat.{ℕ}
 
 end-at-requires : tie.Need-end-at-requires
 end-at-requires c κs = search needs
@@ -11,8 +9,7 @@ end-at-requires c κs = search needs
 returns : tie.Need-returns
 returns c =
     let c4 = c .before .before .before .before in
-    ap (λ (i : ℕ). record { progress = c4 .args .x .progress; place = i; end = c4 .args .x .end; env = c4 .args .x .env }) (c
-    .end-at .ensures)
+    λ i. record { progress = c4 .args .x .progress; place = c .end-at .ensures i; end = c4 .args .x .end; env = c4 .args .x .env }
 
 pub past-spec : {M : Type 1} → statement M
 past-spec = tie.close (tie.spec end-at-requires returns)

@@ -1,15 +1,16 @@
 -- `read::mark` refuses the mark at the front or sets it in the table, by one law of ReadRecordLaws for each way out.
-use Rattle.plan.proofs.ReadRecordLaws.{refused}
-use Rattle.plan.proofs.ReadRecordLaws.{mark-field, mark-order, mark-high, mark-leaf, mark-child, mark-by}
-use Rattle.table.specs.Words.{linked}
-use Rattle.model.specs.Stored.{wordAt}
+use Rattle.plan.specs.Reading.{lastOf}
+use Rattle.plan.proofs.ReadRecordLaws.{refused, mark-field, mark-order, mark-high, mark-leaf, mark-child, mark-by}
+use Rattle.table.specs.Words.{linked, decodeParts}
+use Rattle.model.specs.Refusal.{fault, fine}
+use Rattle.model.specs.Stored.{wordAt, markFault}
 use Rattle.model.specs.Table.{isThe}
-use Rattle.model.specs.Base.{any}
+use Rattle.model.specs.Base.{any, pick}
 use lib.ListN.{getD, set}
 use mathlib.Core.List.{map}
-use mathlib.Core.Bool.{true, false}
+use mathlib.Core.Bool.{Bool, true, false}
 use mathlib.Core.Path.{_≡_, refl, _∙_, sym, ap}
-use Prim.Native.Nat.{ℕ, _<_, _+_, _-_, _/_, _%_}
+use Prim.Native.Nat.{ℕ, _≤_, _<_, _+_, _-_, _/_, _%_}
 use native.Mathlib.Omega.{arith}
 use borrow.Author.Needs.{needs}
 use Rattle.plan.proofs.read.mark.Statement.{statement}
@@ -23,6 +24,11 @@ byte-requires c κs = search needs
 
 known : (c : tie.Else1) → getD (c .before .before .before .before .before .before .args .s .now) 1 0 < 8
 known c = omega (arith, c .before .byte .ensures .0, c .if1 .left)
+
+rising : (c : tie.Else2) →
+    let a = c .before .before .before .before .before .before .before .args in
+    a .last ≡ lastOf (a .marks .now) → lastOf (a .marks .now) ≤ getD (a .s .now) 1 0
+rising c e = omega (arith, e, c .before .before .byte .ensures .0, c .if2 .left)
 
 there : (c : tie.Else3) → wordAt (c .before .before .before .before .before .before .before .before .before .args .s .now) 2 < c .before
     .before .before .before .before .before .before .before .before .args .count
@@ -57,6 +63,22 @@ marked-by c =
     = omega (arith, c8 .number-at .ensures .0) in
     sym (c .is-marked .ensures ∙ ap (λ (j : ℕ). any (isThe j) (map linked (c16 .args .marks .now))) h)
 
+-- the tests passed: by whether it is marked
+by-marked : (c : tie.After-is-marked) (z : Bool) → c .is-marked .result ≡ z → (i : ℕ) →
+    let a = c .before .before .before .before .before .before .before .before .before .before .before .before .before .before .before
+    .before .args in
+    a .last ≡ lastOf (a .marks .now) →
+    markFault (decodeParts (a .count) (a .rows .now) (a .marks .now)) i (a .s .now) ≡ pick z (fault 6 i) fine
+by-marked c z h i e =
+    let c2 = c .before .before in
+    let c4 = c2 .before .before in
+    let c7 = c4 .before .before .before in
+    let c9 = c7 .before .before in
+    let c16 = c9 .before .before .before .before .before .before .before in
+    mark-by (c16 .args .s .now) (c16 .args .rows .now) (c16 .args .marks .now) (c16 .args .count) i (c16 .pre) (known (c9 .before))
+    (rising c9 e) (there c7) (λ q. c4 .if4 .left (sym (row-kind (c4 .before)) ∙ q)) (sym (row-link (c2 .before)) ∙ link-zero c2) z
+    (marked-by c ∙ h)
+
 returns : tie.Need-returns
 returns c =
     let c6 = c .before .before .before .before .before .before in
@@ -89,18 +111,10 @@ number-at-requires c κs = search needs
 returns-3 : tie.Need-returns-3
 returns-3 c =
     let c3 = c .before .before .before in
-    let c4 = c3 .before in
-    let c9 = c4 .before .before .before .before .before in
+    let c9 = c3 .before .before .before .before .before .before in
     record {
-      fault = λ i e. mark-high (c9 .args .s .now)
-          (c9 .args .rows .now) (c9 .args .marks .now) (c9
-          .args .count) i (c9 .pre) (known (c3))
-          (omega (arith, e, c4 .byte .ensures .0, c .before .before .if2 .left)) (omega (
-            arith,
-            c .before
-                .number-at .ensures .0,
-            c .if3 .taken,
-          ));
+      fault = λ i e. mark-high (c9 .args .s .now) (c9 .args .rows .now) (c9 .args .marks .now) (c9 .args .count) i (c9 .pre) (known c3)
+          (rising (c .before .before) e) (omega (arith, c .before .number-at .ensures .0, c .if3 .taken));
       marks = refl;
       document = λ z. refused _ z;
       order = λ z. refused _ z;
@@ -119,20 +133,11 @@ returns-4 : tie.Need-returns-4
 returns-4 c =
     let c3 = c .before .before .before in
     let c5 = c3 .before .before in
-    let c6 = c5 .before in
-    let c7 = c6 .before in
-    let c12 = c7 .before .before .before .before .before in
+    let c12 = c5 .before .before .before .before .before .before .before in
     record {
-      fault = λ i e. mark-leaf (c12 .args .s .now) (c12
-          .args .rows .now) (c12 .args .marks
-          .now) (c12 .args .count) i (c12 .pre) (known (c6)) (omega (
-            arith,
-            e,
-            c7 .byte .ensures .0,
-            c5 .if2 .left,
-          )) (there (c3)) (row-kind (c .before) ∙ c .if4 .taken);
-      marks =
-          refl;
+      fault = λ i e. mark-leaf (c12 .args .s .now) (c12 .args .rows .now) (c12 .args .marks .now) (c12 .args .count) i (c12 .pre)
+          (known (c5 .before)) (rising c5 e) (there c3) (row-kind (c .before) ∙ c .if4 .taken);
+      marks = refl;
       document = λ z. refused _ z;
       order = λ z. refused _ z;
     }
@@ -145,21 +150,14 @@ returns-5 c =
     let c3 = c .before .before .before in
     let c5 = c3 .before .before in
     let c7 = c5 .before .before in
-    let c8 = c7 .before in
-    let c9 = c8 .before in
-    let c14 = c9 .before .before .before .before .before in
+    let c14 = c7 .before .before .before .before .before .before .before in
     record {
       fault = λ i e. mark-child (c14 .args .s .now) (c14 .args .rows .now) (c14 .args .marks .now) (c14 .args .count) i (c14 .pre)
-          (known (c8)) (omega (
-            arith,
-            e,
-            c9 .byte .ensures .0,
-            c7 .if2 .left,
-          )) (there (c5)) (λ z. c .before .before .if4 .left (sym (row-kind (c3)) ∙ z)) (λ z. c .if5 .taken (row-link (c .before) ∙ z));
+          (known (c7 .before)) (rising c7 e) (there c5) (λ z. c .before .before .if4 .left (sym (row-kind c3) ∙ z))
+          (λ z. c .if5 .taken (row-link (c .before) ∙ z));
       marks = refl;
       document = λ z. refused _ z;
-      order = λ
-          z. refused _ z;
+      order = λ z. refused _ z;
     }
 
 add-link : tie.Need-add-link
@@ -176,24 +174,8 @@ same-length c = search needs
 
 returns-6 : tie.Need-returns-6
 returns-6 c =
-    let c3 = c .before .before .before in
-    let c4 = c3 .before in
-    let c5 = c4 .before in
-    let c6 = c5 .before in
-    let c8 = c6 .before .before in
-    let c10 = c8 .before .before in
-    let c11 = c10 .before in
-    let c12 = c11 .before in
-    let c17 = c12 .before .before .before .before .before in
     record {
-      fault = λ i e. mark-by (c17 .args .s .now) (c17 .args .rows .now) (c17 .args .marks .now) (c17 .args .count)
-          i (c17 .pre) (known (c11)) (omega (
-            arith,
-            e,
-            c12 .byte .ensures .0,
-            c10 .if2 .left,
-          )) (there (c8)) (λ z. c5 .if4 .left (sym (row-kind (c6)) ∙ z)) (sym (row-link (c4)) ∙ link-zero (c3)) true
-          (marked-by (c .before) ∙ c .if6 .taken);
+      fault = by-marked (c .before) true (c .if6 .taken);
       marks = refl;
       document = λ z. refused _ z;
       order = λ z. refused _ z;
@@ -210,34 +192,16 @@ same-length-2 c = search needs
 
 returns-7 : tie.Need-returns-7
 returns-7 c =
-    let c3 = c .before .before .before in
-    let c4 = c3 .before in
-    let c5 = c4 .before in
-    let c6 = c5 .before in
-    let c8 = c6 .before .before in
-    let c9 = c8 .before in
+    let c9 = c .before .before .before .before .before .before .before .before .before in
     let c10 = c9 .before in
-    let c11 = c10 .before in
-    let c12 = c11 .before in
+    let c12 = c10 .before .before in
     let c17 = c12 .before .before .before .before .before in
     record {
-      fault = λ i e. mark-by (c17 .args .s .now) (c17 .args .rows .now) (c17 .args .marks .now) (c17 .args .count)
-          i (c17 .pre) (known (c11)) (omega (
-            arith,
-            e,
-            c12 .byte .ensures .0,
-            c10 .if2 .left,
-          )) (there (c8)) (λ z. c5 .if4 .left (sym (row-kind (c6)) ∙ z)) (sym (row-link (c4)) ∙ link-zero (c3)) false
-          (marked-by (c .before) ∙ c .if6 .left);
-      marks = ap (λ (d : ℕ). set (c17 .args .marks .now) d (c9 .number-at .result + 1)) (c12 .byte .ensures .0) ∙ ap
-          (λ (j : ℕ). set (c17 .args .marks .now) (getD (c17 .args .s .now) 1 0)
-          (j + 1)) (c9 .number-at .ensures .0);
-      document = λ z. known (c11);
-      order = λ z. omega (
-        arith,
-        c12 .byte .ensures .0,
-        c10 .if2 .left,
-      );
+      fault = by-marked (c .before) false (c .if6 .left);
+      marks = ap (λ (d : ℕ). set (c17 .args .marks .now) d (c9 .number-at .result + 1)) (c12 .byte .ensures .0) ∙
+          ap (λ (j : ℕ). set (c17 .args .marks .now) (getD (c17 .args .s .now) 1 0) (j + 1)) (c9 .number-at .ensures .0);
+      document = λ z. known (c10 .before);
+      order = λ z. omega (arith, c12 .byte .ensures .0, c10 .if2 .left);
     }
 
 pub mark-spec : {M : Type 1} → statement M

@@ -1,6 +1,7 @@
 -- `copy::copy_rows` leaves the words copied. The invariant: those below i are copied.
-use Rattle.probe.proofs.CopyLaws.{copy-next, copy-all}
-use lib.ListN.{length, take, getD, length-set}
+use Rattle.model.proofs.ListLaws.{paste-next, front-all, front-whole}
+use lib.ListN.{length, getD, length-set}
+use lib.Seq.{paste}
 use Prim.Native.Nat.{_≤_, _-_}
 use mathlib.Core.Path.{_≡_, refl, _∙_}
 use native.Mathlib.Omega.{arith}
@@ -9,7 +10,7 @@ use Rattle.probe.proofs.copy.copy_rows.Statement.{statement}
 use Rattle.probe.proofs.copy.copy_rows.Tie as tie
 
 abbrev Inv-loop : tie.InvT-loop
-Inv-loop to₀ from i₀ to i = (i ≤ length from) × (length to ≡ length from) × (take i to ≡ take i from)
+Inv-loop to₀ from i₀ to i = (i ≤ length from) × (length to ≡ length from) × (to ≡ paste to₀ 0 from i)
 
 abbrev μ-loop : tie.MeasureT-loop
 μ-loop to₀ from i₀ to i = length from - i
@@ -37,20 +38,22 @@ loop-less c = omega arith
 
 loop-again : tie.Need-loop-again Inv-loop μ-loop
 loop-again c =
-    let c3 = c .before .before .before in (
+    let c2 = c .before .before in
+    let x = c2 .before .args in (
       omega arith,
-      length-set (c .before .before .loop .to) (c .before .before .loop .i) (getD (c3 .args .from .now) (c .before .before
-          .loop .i) 0) ∙ c .before .before .loop .inv .1,
-      copy-next (c .before .before .loop .to) (c3 .args .from .now) (c .before .before
-          .loop .i) (c .before .before .loop .inv .1) (c .before .loop-test .taken) (c .before .before .loop .inv .2),
+      length-set (c2 .loop .to) (c2 .loop .i) (getD (x .from .now) (c2 .loop .i) 0) ∙ c2 .loop .inv .1,
+      paste-next (x .to .now) (x .from .now) 0 (c2 .loop .i) (c2 .loop .inv .2) (c2 .loop .i) (omega arith)
+          (omega (arith, c2 .before .pre)) (c .before .loop-test .taken),
     )
 
 same-length : tie.Need-same-length Inv-loop μ-loop
 same-length c = search needs
 
 returns : tie.Need-returns Inv-loop μ-loop
-returns c = copy-all (c .before .loop .to) (c .before .before .args .from .now) (c .before .loop .i) (c .before .loop .inv .1) (omega
-    arith) (c .before .loop .inv .2)
+returns c =
+    let x = c .before .before .args in
+    front-all (x .to .now) (x .from .now) (c .before .loop .i) (c .before .loop .inv .2) (omega arith) ∙
+    front-whole (x .from .now) (x .to .now) (omega (arith, c .before .before .pre))
 
 pub copy-rows-spec : {M : Type 1} → statement M
 copy-rows-spec =

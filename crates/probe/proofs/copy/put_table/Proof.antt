@@ -1,6 +1,6 @@
 -- `copy::put_table` leaves the table's words and marks.
 use mathlib.Core.Path.{_∙_}
-use Rattle.probe.proofs.CopyLaws.{put-all}
+use Rattle.model.proofs.ListLaws.{front-whole}
 use borrow.Author.Needs.{needs}
 use Rattle.probe.proofs.copy.put_table.Statement.{statement}
 use Rattle.probe.proofs.copy.put_table.Tie as tie
@@ -20,7 +20,7 @@ same-length-2 c = search needs
 returns : tie.Need-returns
 returns c =
     let c9 = c .before .before .before .before .before .before .before .before .before in
-    (c9 .copy-rows .ensures, c .before .before .put .ensures ∙ put-all _ _ (search needs))
+    (c9 .copy-rows .ensures, c .before .before .put .ensures ∙ front-whole _ _ (search needs))
 
 pub put-table-spec : {M : Type 1} → statement M
 put-table-spec =

@@ -1,9 +1,7 @@
 -- `copy::table_of` is the table with these words and marks.
-use mathlib.Core.Path.{ap, sym, _∙_}
-use mathlib.Core.List.{List}
-use Prim.Native.Nat.{ℕ}
-use Rattle.probe.specs.Raw.{given}
-use Rattle.probe.proofs.CopyLaws.{put-all}
+use mathlib.Core.Path.{_∙_}
+use native.Mathlib.Omega.{arith}
+use Rattle.model.proofs.ListLaws.{front-whole}
 use borrow.Author.Needs.{needs}
 use Rattle.probe.proofs.copy.table_of.Statement.{statement}
 use Rattle.probe.proofs.copy.table_of.Tie as tie
@@ -23,10 +21,12 @@ put-requires c κs = search needs
 returns : tie.Need-returns
 returns c =
     let c4 = c .before .before .before .before in
-    let c8 = c4 .before .before .before .before in
-    let x = c8 in
-    ap (λ (l : List ℕ). given (x .args .count) l (c .before .put .last .0)) (c4 .copy-rows .ensures) ∙
-    ap (given (x .args .count) (x .args .rows .now)) (c .before .put .ensures ∙ put-all (x .args .marks .now) _ (sym (x .pre .marks)))
+    let x = c4 .before .before .before .before in
+    λ i. record {
+      count = x .args .count;
+      rows = c4 .copy-rows .ensures i;
+      marks = (c .before .put .ensures ∙ front-whole (x .args .marks .now) _ (omega (arith, x .pre .marks))) i;
+    }
 
 pub table-of-spec : {M : Type 1} → statement M
 table-of-spec =

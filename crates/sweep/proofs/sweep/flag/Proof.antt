@@ -24,7 +24,7 @@ loop-holds : tie.Need-loop-holds Inv-loop μ-loop
 loop-holds c =
     let c2 = c .before .before in (
       omega arith,
-      flagged-none (c2 .args .numbers .now) (c2 .args .marks .now) (c2 .pre .zero),
+      flagged-none (c2 .args .numbers .now) (c2 .args .marks .now) (c2 .pre .clear),
     )
 
 mul-flag-one : tie.Need-mul-flag-one Inv-loop μ-loop
@@ -59,7 +59,7 @@ loop-again c =
 same-length : tie.Need-same-length Inv-loop μ-loop
 same-length c =
     let c4 = c .before .before .before .before in
-    search (c .before .loop .inv .1 .size, ap length (c4 .pre .zero), needs)
+    search (c .before .loop .inv .1 .size, ap length (c4 .pre .clear), needs)
 
 returns : tie.Need-returns Inv-loop μ-loop
 returns c =

@@ -28,7 +28,7 @@ flag-requires : tie.Need-flag-requires Inv-loop μ-loop
 flag-requires c κs =
     let c5 = c .before .before .before .before .before in
     record {
-      zero = c5 .pre .numbers;
+      clear = c5 .pre .clear;
       links = λ d. omega
           (arith, fits-mark (c5 .args .count) (c5 .args .rows .now) (c5 .args .marks .now) (fitting c5) (within c5) d, fitting c5 .few);
     }
@@ -103,7 +103,7 @@ loop-again c =
 same-length : tie.Need-same-length Inv-loop μ-loop
 same-length c =
     let c10 = c .before .before .before .before .before .before .before .before .before .before in
-    search (c .before .loop .inv .1 .size, ap length (c10 .pre .numbers), needs)
+    search (c .before .loop .inv .1 .size, ap length (c10 .pre .clear), needs)
 
 same-length-2 : tie.Need-same-length-2 Inv-loop μ-loop
 same-length-2 c =
