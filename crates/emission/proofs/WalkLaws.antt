@@ -9,7 +9,7 @@ use lib.ListN.{getD, take}
 use lib.Seq.{getD-take}
 use borrow.Author.Tests.{eqb-true, ltb-true}
 use Rattle.model.specs.Base.{pick, isIn}
-use Rattle.model.specs.Script.{testFits, varKind, isBinder, recordsOf}
+use Rattle.model.specs.Script.{testFits, variableKind, isBinder, recordsOf}
 use Rattle.model.proofs.BoolLaws.{by-cases, and-left, eq-cases}
 use Rattle.records.specs.Walk.{withBound, arity, inner, firstAt, secondAt, thirdAt, exprAt}
 use Rattle.script.specs.Accepted.{Accepted, RecordFits}
@@ -54,7 +54,7 @@ module _ {b : List ℕ} {at left v : ℕ} {env ws : List ℕ} {n : ℕ} (pre : E
       let o = no-operand b at left v (pre .accepted) z in
       record {
         size = post .size;
-        is = post .is ∙ by-cases (eqb (getD b at 0) varKind) (λ t. variable (eqb-true (getD b at 0) varKind t)) (λ t. rw t) ∙
+        is = post .is ∙ by-cases (eqb (getD b at 0) variableKind) (λ t. variable (eqb-true (getD b at 0) variableKind t)) (λ t. rw t) ∙
             sym (o .emits (take v env) (entriesIn ws n));
         place = post .place ∙ e ∙ sym (o .ends);
         low = post .low;
@@ -62,7 +62,7 @@ module _ {b : List ℕ} {at left v : ℕ} {env ws : List ℕ} {n : ℕ} (pre : E
         few = omega (arith, post .few, o .size);
       }
     where
-      variable : getD b at 0 ≡ varKind → nullaryOf b at env (entriesIn ws n) ≡ nullaryOf b at (take v env) (entriesIn ws n)
+      variable : getD b at 0 ≡ variableKind → nullaryOf b at env (entriesIn ws n) ≡ nullaryOf b at (take v env) (entriesIn ws n)
       variable k =
           rw k
           (ap (λ (x : ℕ). positions.emitted x (entriesIn ws n))

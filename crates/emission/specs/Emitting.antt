@@ -7,7 +7,7 @@ use lib.Dec.{eqb}
 use lib.ListN.{length, getD, take}
 use Rattle.model.specs.Base.{pick}
 use Rattle.model.specs.Limits.{maxBinders}
-use Rattle.model.specs.Script.{documentKind, varKind, stepKind, bothKind, deleteKind, insertKind, stepBy, recordsOf, isBinder, bodySize}
+use Rattle.model.specs.Script.{documentKind, variableKind, stepKind, joinKind, deleteKind, insertKind, stepBy, recordsOf, isBinder, bodySize}
 use Rattle.records.specs.Walk.{withBound, inner, endAt, exprAt}
 use Rattle.script.specs.Accepted.{Accepted}
 use Rattle.positions.specs.Positions as positions
@@ -24,7 +24,7 @@ outOf ws r = positions.emitted (r .result) (entriesIn ws (r .count))
 abbrev pub nullaryOf : (bytes : List ℕ) → (at : ℕ) → (bound : List ℕ) → List positions.Entry → positions.Emitted
 nullaryOf b i ns es =
     pick (eqb (getD b i 0) documentKind) (positions.push es (positions.accessing (positions.root (getD b (i + 1) 0))))
-    (pick (eqb (getD b i 0) varKind) (positions.emitted (getD ns (getD b (i + 1) 0) 0) es) (positions.emitted 0 es))
+    (pick (eqb (getD b i 0) variableKind) (positions.emitted (getD ns (getD b (i + 1) 0) 0) es) (positions.emitted 0 es))
 
 abbrev pub unaryOf : (bytes : List ℕ) → (at : ℕ) → positions.Emitted → positions.Emitted
 unaryOf b i x =
@@ -33,7 +33,7 @@ unaryOf b i x =
 
 abbrev pub binaryOf : (kind first : ℕ) → positions.Emitted → positions.Emitted
 binaryOf k r y =
-    pick (eqb k bothKind) (positions.pushUnion r y) (pick (eqb k insertKind) (positions.pushInsert r y) y)
+    pick (eqb k joinKind) (positions.pushUnion r y) (pick (eqb k insertKind) (positions.pushInsert r y) y)
 
 -- room for the entries of one record more
 pub record GrowPre (ws : List ℕ) (y : Emitted) : Type 0 where
@@ -76,8 +76,8 @@ pub record NullaryPre (b : List ℕ) (at : ℕ) (env ws : List ℕ) (n : ℕ) : 
   pub some : 0 < n
   pub whole : at + bodySize (getD b at 0) < length b
   pub document : getD b at 0 ≡ documentKind → getD b (at + 1) 0 < 256
-  pub variable : getD b at 0 ≡ varKind → getD b (at + 1) 0 < length env
-  pub low : getD b at 0 ≡ varKind → getD env (getD b (at + 1) 0) 0 < n
+  pub variable : getD b at 0 ≡ variableKind → getD b (at + 1) 0 < length env
+  pub low : getD b at 0 ≡ variableKind → getD env (getD b (at + 1) 0) 0 < n
 
 pub record NullaryPost (b : List ℕ) (at next : ℕ) (env ws : List ℕ) (n : ℕ) (ws′ : List ℕ) (r : Emitted) : Type 0 where
   pub size : length ws′ ≡ maxPositions

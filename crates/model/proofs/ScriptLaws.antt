@@ -12,7 +12,7 @@ use Rattle.model.specs.Limits.{maxRecords, maxDepth, maxBinders}
 use Rattle.model.specs.Refusal.{Fault, isFine, orElse, unless, kindAt, shortAt, fieldAt, sizeAt}
 use Rattle.model.specs.Table.{tagFits}
 use Rattle.model.specs.Script.{Expr, nil, document, var, step, both, letIn, forIn, ifIn, element, leaf, delete, insert, choose}
-use Rattle.model.specs.Script.{nilKind, documentKind, varKind, stepKind, bothKind, letKind, forKind, ifKind, newElementKind}
+use Rattle.model.specs.Script.{nilKind, documentKind, variableKind, stepKind, joinKind, letKind, forKind, ifKind, newElementKind}
 use Rattle.model.specs.Script.{newLeafKind, deleteKind, insertKind, pickKind, bodySize, testFits, bodyFits, isBinder, exprFault}
 use Rattle.model.specs.Script.{recordsOf, Parsed, ill, parsed, thenParse, one, two, three, operands, parseFrom, whole, readScript}
 use Rattle.model.specs.Run.{loose}
@@ -94,9 +94,9 @@ module _ (f : Reader) (r : ReaderWell f) (n : ℕ) (b : List ℕ) where
   operands-well z i v c a l g =
       kind nilKind _ _ (λ q. none (nil z) (omega arith) (λ y. tt))
       (kind documentKind _ _ (λ q. none (document z _) (omega arith) (λ y. tt))
-      (kind varKind _ _ (λ q. none (var z _) (omega arith) (λ y. tt))
+      (kind variableKind _ _ (λ q. none (var z _) (omega arith) (λ y. tt))
       (kind stepKind _ _ (λ q. one-well i (n + 1) v c _ a (λ e. omega arith) (λ y e t. (test q, t)))
-      (kind bothKind _ _ (λ q. two-well i (n + 1) v v c (both z) a (λ e e′. omega arith) (λ y e e′ t u. (t, u)))
+      (kind joinKind _ _ (λ q. two-well i (n + 1) v v c (both z) a (λ e e′. omega arith) (λ y e e′ t u. (t, u)))
       (kind letKind _ _ (λ q. two-well i (n + 1) v (v + 1) c (letIn z) a (λ e e′. omega arith) (λ y e e′ t u. (t, u)))
       (kind forKind _ _ (λ q. two-well i (n + 1) v (v + 1) c (forIn z) a (λ e e′. omega arith) (λ y e e′ t u. (t, u)))
       (kind ifKind _ _ (λ q. three-well i (n + 1) v c (ifIn z) a (λ e e′ e″. omega arith) (λ y e e′ e″ t u w. (t, u, w)))

@@ -56,14 +56,14 @@ nilKind = 0x01
 abbrev pub documentKind : ℕ
 documentKind = 0x02
 
-abbrev pub varKind : ℕ
-varKind = 0x03
+abbrev pub variableKind : ℕ
+variableKind = 0x03
 
 abbrev pub stepKind : ℕ
 stepKind = 0x04
 
-abbrev pub bothKind : ℕ
-bothKind = 0x05
+abbrev pub joinKind : ℕ
+joinKind = 0x05
 
 abbrev pub letKind : ℕ
 letKind = 0x06
@@ -94,7 +94,7 @@ abbrev pub bodySize : (kind : ℕ) → ℕ
 bodySize k =
     pick (eqb k stepKind) 3
     (pick (eqb k pickKind) 2
-    (pick (eqb k documentKind || eqb k varKind || eqb k newElementKind || eqb k newLeafKind) 1 0))
+    (pick (eqb k documentKind || eqb k variableKind || eqb k newElementKind || eqb k newLeafKind) 1 0))
 
 -- name is 0 unless the test is 3, and then 1 to 255
 abbrev pub testFits : (test name : ℕ) → Bool
@@ -104,7 +104,7 @@ testFits t n = pick (eqb t 3) (isIn 1 255 n) (ltb t 3 && eqb n 0)
 abbrev pub bodyFits : (bound : ℕ) → (bytes : List ℕ) → Bool
 bodyFits v b =
     pick (eqb (getD b 0 0) documentKind) (ltb (getD b 1 0) documents)
-    (pick (eqb (getD b 0 0) varKind) (ltb (getD b 1 0) v)
+    (pick (eqb (getD b 0 0) variableKind) (ltb (getD b 1 0) v)
     (pick (eqb (getD b 0 0) stepKind) (ltb (getD b 1 0) 4 && testFits (getD b 2 0) (getD b 3 0))
     (pick (eqb (getD b 0 0) newElementKind) (isIn 1 255 (getD b 1 0))
     (pick (eqb (getD b 0 0) pickKind) (ltb (getD b 1 0) 3) true))))
@@ -146,9 +146,9 @@ abbrev pub operands : (ℕ → ℕ → ℕ → List ℕ → Parsed) → (at plac
 operands f z i n v b c =
     pick (eqb (getD b 0 0) nilKind) (parsed (nil z) i n c)
     (pick (eqb (getD b 0 0) documentKind) (parsed (document z (getD b 1 0)) i n c)
-    (pick (eqb (getD b 0 0) varKind) (parsed (var z (getD b 1 0)) i n c)
+    (pick (eqb (getD b 0 0) variableKind) (parsed (var z (getD b 1 0)) i n c)
     (pick (eqb (getD b 0 0) stepKind) (one f i n v c (step z (stepBy (getD b 1 0) (getD b 2 0) (getD b 3 0))))
-    (pick (eqb (getD b 0 0) bothKind) (two f i n v v c (both z))
+    (pick (eqb (getD b 0 0) joinKind) (two f i n v v c (both z))
     (pick (eqb (getD b 0 0) letKind) (two f i n v (v + 1) c (letIn z))
     (pick (eqb (getD b 0 0) forKind) (two f i n v (v + 1) c (forIn z))
     (pick (eqb (getD b 0 0) ifKind) (three f i n v c (ifIn z))

@@ -10,7 +10,7 @@ use lib.ListN.{length, getD, take, drop}
 use Rattle.model.specs.Base.{pick}
 use Rattle.model.specs.Limits.{maxItems, maxBinders, documents}
 use Rattle.model.specs.Refusal.{itemsAt}
-use Rattle.model.specs.Script.{stepBy, nilKind, stepKind, deleteKind, bothKind, insertKind, forKind, pickKind, isBinder, bodySize}
+use Rattle.model.specs.Script.{stepBy, nilKind, stepKind, deleteKind, joinKind, insertKind, forKind, pickKind, isBinder, bodySize}
 use Rattle.model.specs.Step.{stepped, picked}
 use Rattle.model.specs.Run.{State, Out, gives, cutAll, joinItems, inserted, loop, run, AreRows, AreValues}
 use Rattle.records.specs.Walk.{arity, inner, withBound, endAt, exprAt}
@@ -121,7 +121,7 @@ unaryOf b i v s =
     (pick (eqb (getD b i 0) deleteKind) (cutAll i v s) (gives (picked (s .plan) (getD b (i + 1) 0) (getD b (i + 2) 0) v) s))
 
 abbrev pub binaryOf : (kind at : ℕ) → (first second : List ℕ) → State → Out
-binaryOf k i v w s = pick (eqb k bothKind) (joinItems i v w s) (pick (eqb k insertKind) (inserted i v w s) (gives w s))
+binaryOf k i v w s = pick (eqb k joinKind) (joinItems i v w s) (pick (eqb k insertKind) (inserted i v w s) (gives w s))
 
 -- a join, an insert or a let
 pub record IsBinary (kind : ℕ) : Type 0 where

@@ -3,7 +3,7 @@ use mathlib.Core.Path.{_≡_, ap, sym, _∙_}
 use mathlib.Core.Bool.{Bool, true, false, _&&_, not}
 use mathlib.Core.List.{List, [], _∷_, map}
 use mathlib.Core.Option.{Option, none, some}
-use Prim.Native.Nat.{ℕ, zero, suc, _+_, _*_, _-_, _/_, _%_, _≤_, _<_}
+use Prim.Native.Nat.{ℕ, zero, suc, _+_, _*_, _-_, _≤_, _<_}
 use native.Mathlib.Omega.{arith}
 use lib.Dec.{leb, eqb}
 use lib.ListN.{length, length-map, length-set, getD, set}
@@ -14,7 +14,7 @@ use Rattle.model.specs.Table as model
 use Rattle.model.specs.Stored.{wordAt, rowIn, parentIn, rowFault, markFault, lastMarked, recordFault}
 use Rattle.model.proofs.BoolLaws.{by-cases, eq-cases, pick-eq, pick-ne}
 use Rattle.model.proofs.BytesLaws.{lastMarked-above}
-use Rattle.table.specs.Words.{linkOf, linked, wordOf, rowsOf, wordsOf, decodeParts}
+use Rattle.table.specs.Words.{linkOf, linked, wordOf, rowsOf, wordsOf, decodeParts, kindIn, linkIn}
 use Rattle.plan.specs.Reading.{lastOf, RowPre, RowPost, MarkPre, MarkPost, RecordPre, RecordPost, Recorded}
 use Rattle.table.proofs.WordLaws.{linked-linkOf, count-decode, rowAt-decode, canonical-push}
 use Rattle.table.proofs.DecodeLaws.{element-high, element-kind, decode-mark, decode-row}
@@ -81,17 +81,17 @@ module _ (s ws ms : List ℕ) (n i : ℕ) (pre : RowPre s ws n) where
             let k : model.count (decodeParts n ws ms) ≤ wordAt s 2 = omega (arith, count-decode n ws ms within-512) in
             rw (fits, first, ne-eqb (wordAt s 2) 65535 some-parent, le-ltb (wordAt s 2) (model.count (decodeParts n ws ms)) k)
 
-        pub row-leaf : wordAt s 2 < n → getD ws (wordAt s 2) 0 % 4 ≡ 2 → rowFault (decodeParts n ws ms) i s ≡ fault 6 i
+        pub row-leaf : wordAt s 2 < n → kindIn (getD ws (wordAt s 2) 0) ≡ 2 → rowFault (decodeParts n ws ms) i s ≡ fault 6 i
         row-leaf h l =
             let k : wordAt s 2 < model.count (decodeParts n ws ms) = omega (arith, count-decode n ws ms within-512) in
             let e : model.isElement (decodeParts n ws ms) (wordAt s 2) ≡ false = element-kind n ws ms within-512 (wordAt s 2) h ∙ rw l in
             rw (fits, first, ne-eqb (wordAt s 2) 65535 some-parent, e, lt-ltb (wordAt s 2) (model.count (decodeParts n ws ms)) k)
 
-        pub row-child : wordAt s 2 < n → (getD ws (wordAt s 2) 0 % 4 ≡ 2 → ⊥) → rowFault (decodeParts n ws ms) i s ≡ fine
+        pub row-child : wordAt s 2 < n → (kindIn (getD ws (wordAt s 2) 0) ≡ 2 → ⊥) → rowFault (decodeParts n ws ms) i s ≡ fine
         row-child h l =
             let k : wordAt s 2 < model.count (decodeParts n ws ms) = omega (arith, count-decode n ws ms within-512) in
             let e : model.isElement (decodeParts n ws ms) (wordAt s 2) ≡ true = element-kind n ws ms within-512 (wordAt s 2) h ∙ rw
-            (ne-eqb (getD ws (wordAt s 2) 0 % 4) 2 l) in
+            (ne-eqb (kindIn (getD ws (wordAt s 2) 0)) 2 l) in
             rw (fits, first, ne-eqb (wordAt s 2) 65535 some-parent, e, lt-ltb (wordAt s 2) (model.count (decodeParts n ws ms)) k)
 
 -- MARKS: a mark at the front, by the tests on its way out
@@ -112,26 +112,26 @@ module _ (s ws ms : List ℕ) (n i : ℕ) (pre : MarkPre s ws ms n) where
           rw (lt-ltb (getD s 1 0) 8 known, le-leb (lastOf ms) (getD s 1 0) rising, element-high n ws ms within (wordAt s 2) h)
 
       module _ (there : wordAt s 2 < n) where
-        pub mark-leaf : getD ws (wordAt s 2) 0 % 4 ≡ 2 → markFault (decodeParts n ws ms) i s ≡ fault 6 i
+        pub mark-leaf : kindIn (getD ws (wordAt s 2) 0) ≡ 2 → markFault (decodeParts n ws ms) i s ≡ fault 6 i
         mark-leaf l =
             let e : model.isElement (decodeParts n ws ms) (wordAt s 2) ≡ false = element-kind n ws ms within (wordAt s 2) there ∙ rw l in
             rw (lt-ltb (getD s 1 0) 8 known, le-leb (lastOf ms) (getD s 1 0) rising, e)
 
-        module _ (element : getD ws (wordAt s 2) 0 % 4 ≡ 2 → ⊥) where
+        module _ (element : kindIn (getD ws (wordAt s 2) 0) ≡ 2 → ⊥) where
           is-element : model.isElement (decodeParts n ws ms) (wordAt s 2) ≡ true
-          is-element = element-kind n ws ms within (wordAt s 2) there ∙ rw (ne-eqb (getD ws (wordAt s 2) 0 % 4) 2 element)
+          is-element = element-kind n ws ms within (wordAt s 2) there ∙ rw (ne-eqb (kindIn (getD ws (wordAt s 2) 0)) 2 element)
 
           mark-tests : markFault (decodeParts n ws ms) i s ≡
-              unless (not (model.hasParent (linked (getD ws (wordAt s 2) 0 / 4 % 1024))) &&
+              unless (not (model.hasParent (linked (linkIn (getD ws (wordAt s 2) 0)))) &&
               not (any (model.isThe (wordAt s 2)) (map linked ms))) (linkAt i)
           mark-tests =
               let row = rowAt-decode n ws ms within (wordAt s 2) there in
               rw (lt-ltb (getD s 1 0) 8 known, le-leb (lastOf ms) (getD s 1 0) rising, is-element, row)
 
-          pub mark-child : (getD ws (wordAt s 2) 0 / 4 % 1024 ≡ 0 → ⊥) → markFault (decodeParts n ws ms) i s ≡ fault 6 i
-          mark-child l = mark-tests ∙ rw (ne-eqb (getD ws (wordAt s 2) 0 / 4 % 1024) 0 l)
+          pub mark-child : (linkIn (getD ws (wordAt s 2) 0) ≡ 0 → ⊥) → markFault (decodeParts n ws ms) i s ≡ fault 6 i
+          mark-child l = mark-tests ∙ rw (ne-eqb (linkIn (getD ws (wordAt s 2) 0)) 0 l)
 
-          pub mark-by : getD ws (wordAt s 2) 0 / 4 % 1024 ≡ 0 → (z : Bool) → any (model.isThe (wordAt s 2)) (map linked ms) ≡ z →
+          pub mark-by : linkIn (getD ws (wordAt s 2) 0) ≡ 0 → (z : Bool) → any (model.isThe (wordAt s 2)) (map linked ms) ≡ z →
               markFault (decodeParts n ws ms) i s ≡ pick z (fault 6 i) fine
           mark-by root true h = mark-tests ∙ rw (root, h)
           mark-by root false h = mark-tests ∙ rw (root, h)

@@ -2,7 +2,7 @@
 use mathlib.Core.Path.{_≡_, refl, ap, sym, _∙_}
 use mathlib.Core.List.{List, [], _∷_, _++_, map, map-append, append-assoc, append-nil}
 use mathlib.Core.Option.{Option, none, some}
-use Prim.Native.Nat.{ℕ, zero, suc, _+_, _*_, _-_, _/_, _%_, _≤_, _<_}
+use Prim.Native.Nat.{ℕ, zero, suc, _+_, _*_, _-_, _≤_, _<_}
 use native.Mathlib.Omega.{arith}
 use native.Mathlib.Nat.{add-zero}
 use native.Mathlib.Numerals.{add-one}
@@ -12,7 +12,7 @@ use borrow.Author.Tests.{ne-eqb}
 use Rattle.model.specs.Table as model
 use Rattle.model.specs.Stored.{wordBytes, parentBytes, rowBytes, rowsBytes, markBytes, marksBytes}
 use Rattle.model.proofs.BytesLaws.{length-parentBytes, rowsBytes-snoc}
-use Rattle.table.specs.Words.{linked, rowOf, rowsOf}
+use Rattle.table.specs.Words.{linked, rowOf, rowsOf, kindIn, linkIn, tagIn}
 use Rattle.model.specs.Base.{over}
 use Rattle.table.proofs.WordLaws.{count-decode, take-next}
 use Rattle.model.proofs.ListLaws.{over-over, over-nil}
@@ -27,15 +27,15 @@ put-four o i a b c d h =
     rw (e₁, e₂, e₃) (sets-eq (a ∷ b ∷ c ∷ d ∷ []) o i h)
 
 -- the row of a word, as bytes
-pub row-leaf : (w : ℕ) → w % 4 ≡ 2 → rowBytes (rowOf w) ≡ 18 ∷ w / 4096 ∷ parentBytes (linked (w / 4 % 1024))
+pub row-leaf : (w : ℕ) → kindIn w ≡ 2 → rowBytes (rowOf w) ≡ 18 ∷ tagIn w ∷ parentBytes (linked (linkIn w))
 row-leaf w h = rw h
 
-pub row-element : (w : ℕ) → (w % 4 ≡ 2 → ⊥) → rowBytes (rowOf w) ≡ 17 ∷ w / 4096 ∷ parentBytes (linked (w / 4 % 1024))
-row-element w h = rw (ne-eqb (w % 4) 2 h)
+pub row-element : (w : ℕ) → (kindIn w ≡ 2 → ⊥) → rowBytes (rowOf w) ≡ 17 ∷ tagIn w ∷ parentBytes (linked (linkIn w))
+row-element w h = rw (ne-eqb (kindIn w) 2 h)
 
-pub row-bytes : (w k t p : ℕ) → t ≡ w / 4096 → wordBytes p ≡ parentBytes (linked (w / 4 % 1024)) →
-    k ∷ t ∷ wordBytes p ≡ k ∷ w / 4096 ∷ parentBytes (linked (w / 4 % 1024))
-row-bytes w k t p e f = ap (λ (b : List ℕ). k ∷ t ∷ b) f ∙ ap (λ (j : ℕ). k ∷ j ∷ parentBytes (linked (w / 4 % 1024))) e
+pub row-bytes : (w k t p : ℕ) → t ≡ tagIn w → wordBytes p ≡ parentBytes (linked (linkIn w)) →
+    k ∷ t ∷ wordBytes p ≡ k ∷ tagIn w ∷ parentBytes (linked (linkIn w))
+row-bytes w k t p e f = ap (λ (b : List ℕ). k ∷ t ∷ b) f ∙ ap (λ (j : ℕ). k ∷ j ∷ parentBytes (linked (linkIn w))) e
 
 -- ROWS, one more
 length-rowBytes : (r : model.Row) → length (rowBytes r) ≡ 4

@@ -21,7 +21,7 @@ use Rattle.positions.specs.Sources.{anyUpTo, isTested, positionsMeet, an
 use Rattle.meeting.proofs.CellLaws.{isMet-between, isMet-join, between-second}
 use Rattle.meeting.proofs.MirrorLaws.{anyMeet-mirror}
 use Rattle.positions.proofs.PositionLaws.{pathsOn-split}
-use Rattle.positions.proofs.DocumentLaws.{documents, owners-apart}
+use Rattle.positions.proofs.DocumentLaws.{fromDocuments, owners-apart}
 use Rattle.positions.proofs.EmitLaws.{markedFrom, marked, isAccessed, isModified, marked-push, Ready, Right, none, emits}
 use Rattle.positions.proofs.TraverseLaws.{any-traversed, Own, modified-own, accessed-own, any-documents, documents-are}
 
@@ -128,7 +128,7 @@ module _ (o o′ : ℕ) (first : o ≡ 0 → ⊥) (second : o′ ≡ 0 → ⊥) 
   own-apart p (inr e) q f = owners-apart p q (ne-eqb (placeOf p .owner) (placeOf q .owner) (λ g. other (sym e ∙ g ∙ f)))
 
   traversed-met : (p : Path) → Own o p →
-      (f : Expr) → any (meets p) (traversed (pathsOf o′ f)) ≡ any (meets p) (documents (pathsOf o′ f .accessed))
+      (f : Expr) → any (meets p) (traversed (pathsOf o′ f)) ≡ any (meets p) (fromDocuments (pathsOf o′ f .accessed))
   unfolding placeOf
   traversed-met p h f =
       any-traversed (meets p) o′ (λ z. own-apart p h (start (place o′ z)) refl) f ∙
@@ -143,11 +143,11 @@ module _ (o o′ : ℕ) (first : o ≡ 0 → ⊥) (second : o′ ≡ 0 → ⊥) 
       any-false p e all
 
   scripts-meet : (e f : Expr) → anyMeet (pathsOf o e .modified) (traversed (pathsOf o′ f)) ≡
-      anyMeet (documents (pathsOf o e .modified)) (documents (pathsOf o′ f .accessed))
+      anyMeet (fromDocuments (pathsOf o e .modified)) (fromDocuments (pathsOf o′ f .accessed))
   scripts-meet e f =
-      any-same (λ (p : Path). any (meets p) (traversed (pathsOf o′ f))) (λ (p : Path). any (meets p) (documents (pathsOf o′ f .accessed)))
+      any-same (λ (p : Path). any (meets p) (traversed (pathsOf o′ f))) (λ (p : Path). any (meets p) (fromDocuments (pathsOf o′ f .accessed)))
       (pathsOf o e .modified) (λ p i. traversed-met p (all-in (modified-own o e) i) f) ∙
-      any-documents (λ (p : Path). any (meets p) (documents (pathsOf o′ f .accessed))) o
+      any-documents (λ (p : Path). any (meets p) (fromDocuments (pathsOf o′ f .accessed))) o
       (λ p h. any-false p h (documents-are (pathsOf o′ f .accessed)))
       (pathsOf o e .modified) (modified-own o e)
 
@@ -164,11 +164,11 @@ pub emitted-right : (o : ℕ) → (o ≡ 0 → ⊥) → (e : Expr) →
     Right entriesBefore (pathsOf o e .result) (pathsOf o e .accessed) (pathsOf o e .modified) (emit e [] entriesBefore)
 emitted-right o own e = emits o own e [] [] entriesBefore ready-before none
 
-accessed-are : (o : ℕ) → (o ≡ 0 → ⊥) → (e : Expr) → marked isAccessed (entriesOf e) ≡ documents (pathsOf o e .accessed)
+accessed-are : (o : ℕ) → (o ≡ 0 → ⊥) → (e : Expr) → marked isAccessed (entriesOf e) ≡ fromDocuments (pathsOf o e .accessed)
 unfolding markedFrom
 accessed-are o own e = emitted-right o own e .accessed
 
-modified-are : (o : ℕ) → (o ≡ 0 → ⊥) → (e : Expr) → marked isModified (entriesOf e) ≡ documents (pathsOf o e .modified)
+modified-are : (o : ℕ) → (o ≡ 0 → ⊥) → (e : Expr) → marked isModified (entriesOf e) ≡ fromDocuments (pathsOf o e .modified)
 unfolding markedFrom
 modified-are o own e = emitted-right o own e .modified
 
@@ -187,10 +187,10 @@ paths-meet e f =
     two q = omega arith
 
     both : (o o′ : ℕ) → (o ≡ 0 → ⊥) → (o′ ≡ 0 → ⊥) →
-        (e f : Expr) → anyMeet (documents (pathsOf o e .modified)) (documents (pathsOf o′ f .accessed)) ≡
+        (e f : Expr) → anyMeet (fromDocuments (pathsOf o e .modified)) (fromDocuments (pathsOf o′ f .accessed)) ≡
         anyMeet (marked isModified (entriesOf e)) (marked isAccessed (entriesOf f))
     both o o′ g h e f =
-        ap (λ (v : List Path). anyMeet v (documents (pathsOf o′ f .accessed))) (sym (modified-are o g e)) ∙
+        ap (λ (v : List Path). anyMeet v (fromDocuments (pathsOf o′ f .accessed))) (sym (modified-are o g e)) ∙
         ap (anyMeet (marked isModified (entriesOf e))) (sym (accessed-are o′ h f))
 
 pub answer-by : (e f : Expr) → answerBy e f ≡ answer e f

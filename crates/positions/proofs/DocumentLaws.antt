@@ -16,15 +16,15 @@ abbrev pub isDocument : Path → Bool
 isDocument p = eqb (placeOf p .owner) 0
 
 -- those of a list that start at a document
-abbrev pub documents : List Path → List Path
-documents ps = filtered isDocument ps
+abbrev pub fromDocuments : List Path → List Path
+fromDocuments ps = filtered isDocument ps
 
-pub documents-append : (ps qs : List Path) → documents (ps ++ qs) ≡ documents ps ++ documents qs
-documents-append ps qs = filtered-append isDocument ps qs
+pub fromDocuments-append : (ps qs : List Path) → fromDocuments (ps ++ qs) ≡ fromDocuments ps ++ fromDocuments qs
+fromDocuments-append ps qs = filtered-append isDocument ps qs
 
-pub documents-step : (s : Step) (ps : List Path) → documents (withStep s ps) ≡ withStep s (documents ps)
+pub fromDocuments-step : (s : Step) (ps : List Path) → fromDocuments (withStep s ps) ≡ withStep s (fromDocuments ps)
 unfolding placeOf
-documents-step s ps = sym (filtered-map (λ (p : Path). p ▸ s) isDocument isDocument ps (λ p i. refl))
+fromDocuments-step s ps = sym (filtered-map (λ (p : Path). p ▸ s) isDocument isDocument ps (λ p i. refl))
 
 -- APART: paths from different places have nothing in common
 start-apart : (p : Place) (q : Path) → samePlace p (placeOf q) ≡ false → cell (start p) q ≡ noCell

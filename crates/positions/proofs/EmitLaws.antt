@@ -17,7 +17,7 @@ use Rattle.positions.specs.Positions.{Position, over, union, Entry, plai
 use Rattle.positions.specs.Positions.{Emitted, emitted, push, pushStep, pushUnion, pushDelete, pushBelow, pushInsert, emit}
 use Rattle.positions.specs.Positions.{pathsAt, pathsFrom, pathsBy, pathsOn}
 use Rattle.positions.proofs.PositionLaws.{pathsOn-keeps, pathsOn-next}
-use Rattle.positions.proofs.DocumentLaws.{documents, documents-append, documents-step}
+use Rattle.positions.proofs.DocumentLaws.{fromDocuments, fromDocuments-append, fromDocuments-step}
 
 -- the paths of the positions with a mark, in order
 unfoldable pub markedFrom : (Entry → Bool) → (lower : List (List Path)) → List Entry → List Path
@@ -61,16 +61,16 @@ pub record Right (es : List Entry) (result accesses changes : List Path) (y : Em
   pub more : length es ≤ length (y .entries)
   pub keeps : (k : ℕ) → k < length es → pathsOn (y .entries) k ≡ pathsOn es k
   pub lower : AreLower (y .entries)
-  pub is : pathsOn (y .entries) (y .result) ≡ documents result
-  pub accessed : marked isAccessed (y .entries) ≡ marked isAccessed es ++ documents accesses
-  pub modified : marked isModified (y .entries) ≡ marked isModified es ++ documents changes
+  pub is : pathsOn (y .entries) (y .result) ≡ fromDocuments result
+  pub accessed : marked isAccessed (y .entries) ≡ marked isAccessed es ++ fromDocuments accesses
+  pub modified : marked isModified (y .entries) ≡ marked isModified es ++ fromDocuments changes
 
 ready : (es : List Entry) → Ready es → (r a m : List Path) (y : Emitted) → Right es r a m y → Ready (y .entries)
 ready es z r a m y h =
     record { some = omega (arith, z .some, h .more); zero = h .keeps 0 (z .some) ∙ z .zero; lower = h .lower }
 
 -- nothing is emitted
-known : (es : List Entry) → Ready es → (n : ℕ) (r : List Path) → n < length es → pathsOn es n ≡ documents r →
+known : (es : List Entry) → Ready es → (n : ℕ) (r : List Path) → n < length es → pathsOn es n ≡ fromDocuments r →
     Right es r [] [] (emitted n es)
 unfolding filtered
 known es z n r h e =
@@ -99,11 +99,11 @@ discarded es z r a m y h =
     }
 
 -- one expression after another: the second's result
-joined-marks : (before x y a b : List Path) → x ≡ before ++ documents a → y ≡ x ++ documents b →
-    y ≡ before ++ documents (a ++ b)
+joined-marks : (before x y a b : List Path) → x ≡ before ++ fromDocuments a → y ≡ x ++ fromDocuments b →
+    y ≡ before ++ fromDocuments (a ++ b)
 joined-marks before x y a b e f =
-    f ∙ ap (λ (l : List Path). l ++ documents b) e ∙ append-assoc before (documents a) (documents b) ∙
-    ap (λ (l : List Path). before ++ l) (sym (documents-append a b))
+    f ∙ ap (λ (l : List Path). l ++ fromDocuments b) e ∙ append-assoc before (fromDocuments a) (fromDocuments b) ∙
+    ap (λ (l : List Path). before ++ l) (sym (fromDocuments-append a b))
 
 thenRight : (es : List Entry) (r a m r′ a′ m′ : List Path) (y y′ : Emitted) → Right es r a m y → Right (y .entries) r′ a′ m′ y′ →
     Right es r′ (a ++ a′) (m ++ m′) y′
@@ -129,8 +129,8 @@ lower-push es x h l k low =
     subst (λ (q : Entry). IsLower k (q .position)) (sym (List·getD-append es (x ∷ []) _ k j)) (h k j))
 
 pushed : (es : List Entry) (r a m : List Path) (y : Emitted) → Right es r a m y → (w : Entry) (r′ a′ m′ : List Path) →
-    IsLower (length (y .entries)) (w .position) → pathsAt (pathsBy (y .entries)) (w .position) ≡ documents r′ →
-    pick (w .accessed) (documents r′) [] ≡ documents a′ → pick (w .modified) (documents r′) [] ≡ documents m′ →
+    IsLower (length (y .entries)) (w .position) → pathsAt (pathsBy (y .entries)) (w .position) ≡ fromDocuments r′ →
+    pick (w .accessed) (fromDocuments r′) [] ≡ fromDocuments a′ → pick (w .modified) (fromDocuments r′) [] ≡ fromDocuments m′ →
     Right es r′ (a ++ a′) (m ++ m′) (push (y .entries) w)
 pushed es r a m y h w r′ a′ m′ l e f g =
     record {
@@ -152,12 +152,12 @@ alike : (es : List Entry) (r a m a′ m′ : List Path) (y : Emitted) → a ≡ 
 alike es r a m a′ m′ y e f h = subst (λ (v : List Path). Right es r a′ v y) f (subst (λ (v : List Path). Right es r v m y) e h)
 
 -- NOTHING: position 0 has no paths, so a result there has none that start at a document
-no-documents : (es : List Entry) → Ready es → (r a m : List Path) (y : Emitted) → Right es r a m y → y .result ≡ 0 → documents r ≡ []
+no-documents : (es : List Entry) → Ready es → (r a m : List Path) (y : Emitted) → Right es r a m y → y .result ≡ 0 → fromDocuments r ≡ []
 no-documents es z r a m y h e = sym (h .is) ∙ ap (pathsOn (y .entries)) e ∙ h .keeps 0 (z .some) ∙ z .zero
 
 -- no entry more, for paths of which none starts at a document
 nothing-more : (es : List Entry) (r a m : List Path) (y : Emitted) → Right es r a m y → (r′ a′ m′ : List Path) →
-    documents r ≡ documents r′ → documents a′ ≡ [] → documents m′ ≡ [] → Right es r′ (a ++ a′) (m ++ m′) y
+    fromDocuments r ≡ fromDocuments r′ → fromDocuments a′ ≡ [] → fromDocuments m′ ≡ [] → Right es r′ (a ++ a′) (m ++ m′) y
 nothing-more es r a m y h r′ a′ m′ e f g =
     record {
       low = h .low;
@@ -169,20 +169,20 @@ nothing-more es r a m y h r′ a′ m′ e f g =
       modified = joined-marks (marked isModified es) _ _ m m′ (h .modified) (none (marked isModified (y .entries)) m′ g);
     }
   where
-    none : (x ps : List Path) → documents ps ≡ [] → x ≡ x ++ documents ps
+    none : (x ps : List Path) → fromDocuments ps ≡ [] → x ≡ x ++ fromDocuments ps
     none x ps q = sym (ap (λ (v : List Path). x ++ v) q ∙ append-nil x)
 
-no-step : (s : Step) (r : List Path) → documents r ≡ [] → documents (withStep s r) ≡ []
-no-step s r e = documents-step s r ∙ ap (withStep s) e
+no-step : (s : Step) (r : List Path) → fromDocuments r ≡ [] → fromDocuments (withStep s r) ≡ []
+no-step s r e = fromDocuments-step s r ∙ ap (withStep s) e
 
 -- BOUND VARIABLES: each position has the paths of its variable
 pub data Bound (es : List Entry) : List ℕ → List (List Path) → Type 0 where
   none : Bound es [] []
-  bind : {n : ℕ} {ns : List ℕ} {r : List Path} {rs : List (List Path)} → n < length es → pathsOn es n ≡ documents r → Bound es ns rs →
+  bind : {n : ℕ} {ns : List ℕ} {r : List Path} {rs : List (List Path)} → n < length es → pathsOn es n ≡ fromDocuments r → Bound es ns rs →
       Bound es (n ∷ ns) (r ∷ rs)
 
 bound-at : (es : List Entry) → Ready es → {ns : List ℕ} {rs : List (List Path)} → Bound es ns rs → (v : ℕ) →
-    (getD ns v 0 < length es) × (pathsOn es (getD ns v 0) ≡ documents (getD rs v []))
+    (getD ns v 0 < length es) × (pathsOn es (getD ns v 0) ≡ fromDocuments (getD rs v []))
 unfolding filtered
 bound-at es z none v = (z .some, z .zero)
 bound-at es z (bind h e b) zero = (h, e)
@@ -195,7 +195,7 @@ bound-later es r a m y g (bind {n} h e b) =
     let l : n < length (y .entries) = omega (arith, g .more) in bind l (g .keeps n h ∙ e) (bound-later es r a m y g b)
 
 bound-more : {es : List Entry} {ns : List ℕ} {rs : List (List Path)} → Bound es ns rs → (n : ℕ) (r : List Path) → n < length es →
-    pathsOn es n ≡ documents r → Bound es (ns ++ (n ∷ [])) (rs ++ (r ∷ []))
+    pathsOn es n ≡ fromDocuments r → Bound es (ns ++ (n ∷ [])) (rs ++ (r ∷ []))
 bound-more none n r h e = bind h e none
 bound-more (bind g f b) n r h e = bind g f (bound-more b n r h e)
 
@@ -222,10 +222,10 @@ module _ (o : ℕ) (own : o ≡ 0 → ⊥) where
     two : Right es r′ (a ++ a′) (m ++ m′) y′
     two = thenRight es r a m r′ a′ m′ y y′ h g
 
-    no-first : y .result ≡ 0 → documents r ≡ []
+    no-first : y .result ≡ 0 → fromDocuments r ≡ []
     no-first = no-documents es z r a m y h
 
-    no-second : y′ .result ≡ 0 → documents r′ ≡ []
+    no-second : y′ .result ≡ 0 → fromDocuments r′ ≡ []
     no-second = no-documents es z r′ (a ++ a′) (m ++ m′) y′ two
 
     emits-union : Right es (r ++ r′) (a ++ a′) (m ++ m′) (pushUnion (y .result) y′)
@@ -234,15 +234,15 @@ module _ (o : ℕ) (own : o ≡ 0 → ⊥) where
         alike es (r ++ r′) (a ++ a′ ++ []) (m ++ m′ ++ []) (a ++ a′) (m ++ m′) _ (append-nil (a ++ a′)) (append-nil (m ++ m′))
         (pick-cases (Right es (r ++ r′) (a ++ a′ ++ []) (m ++ m′ ++ [])) (eqb (y .result) 0)
         (λ e. nothing-more es r′ (a ++ a′) (m ++ m′) y′ two (r ++ r′) [] []
-        (sym (documents-append r r′ ∙ ap (λ (v : List Path). v ++ documents r′) (no-first (eqb-true (y .result) 0 e)))) refl refl)
+        (sym (fromDocuments-append r r′ ∙ ap (λ (v : List Path). v ++ fromDocuments r′) (no-first (eqb-true (y .result) 0 e)))) refl refl)
         (λ n. pick-cases (Right es (r ++ r′) (a ++ a′ ++ []) (m ++ m′ ++ [])) (eqb (y′ .result) 0)
         (λ e. nothing-more es r (a ++ a′) (m ++ m′) (emitted (y .result) (y′ .entries)) first (r ++ r′) [] []
-        (sym (documents-append r r′ ∙ ap (λ (v : List Path). documents r ++ v) (no-second (eqb-true (y′ .result) 0 e)) ∙
-        append-nil (documents r))) refl refl)
+        (sym (fromDocuments-append r r′ ∙ ap (λ (v : List Path). fromDocuments r ++ v) (no-second (eqb-true (y′ .result) 0 e)) ∙
+        append-nil (fromDocuments r))) refl refl)
         (λ k. pushed es r′ (a ++ a′) (m ++ m′) y′ two (plain (union (y .result) (y′ .result))) (r ++ r′) [] []
         (omega (arith, h .low, g .more), g .low)
         (ap (λ (v : List Path). v ++ pathsOn (y′ .entries) (y′ .result)) (g .keeps (y .result) (h .low) ∙ h .is) ∙
-        ap (λ (v : List Path). documents r ++ v) (g .is) ∙ sym (documents-append r r′))
+        ap (λ (v : List Path). fromDocuments r ++ v) (g .is) ∙ sym (fromDocuments-append r r′))
         refl refl)))
       where
         -- the first result, with the second's entries
@@ -266,7 +266,7 @@ module _ (o : ℕ) (own : o ≡ 0 → ⊥) where
       (λ e. let n = no-documents es z r a m y h (eqb-true (y .result) 0 (and-left (eqb (y .result) 0) _ e)) in
       nothing-more es r a m y h (withStep s r) (withStep s r) [] (n ∙ sym (no-step s r n)) (no-step s r n) refl)
       (λ e. pushed es r a m y h (accessing (over s (y .result))) (withStep s r) (withStep s r) [] (h .low)
-      (ap (withStep s) (h .is) ∙ sym (documents-step s r)) refl refl)
+      (ap (withStep s) (h .is) ∙ sym (fromDocuments-step s r)) refl refl)
 
   emits-delete : (es : List Entry) → Ready es → (r a m : List Path) (y : Emitted) → Right es r a m y →
       Right es [] (a ++ []) (m ++ (r ++ withStep anyBelow r)) (pushDelete y)
@@ -275,13 +275,13 @@ module _ (o : ℕ) (own : o ≡ 0 → ⊥) where
       pick-cases (Right es [] (a ++ []) (m ++ (r ++ withStep anyBelow r))) (eqb (y .result) 0)
       (λ e. let n = no-documents es z r a m y h (eqb-true (y .result) 0 e) in
       nothing-more es r a m y h [] [] (r ++ withStep anyBelow r) n refl
-      (documents-append r (withStep anyBelow r) ∙ ap (λ (v : List Path). v ++ documents (withStep anyBelow r)) n ∙ no-step anyBelow r n))
+      (fromDocuments-append r (withStep anyBelow r) ∙ ap (λ (v : List Path). v ++ fromDocuments (withStep anyBelow r)) n ∙ no-step anyBelow r n))
       (λ e. all)
     where
       below : Right es (withStep anyBelow r) (a ++ []) (m ++ []) (push (y .entries) (plain (over anyBelow (y .result))))
       below =
           pushed es r a m y h (plain (over anyBelow (y .result))) (withStep anyBelow r) [] [] (h .low)
-          (ap (withStep anyBelow) (h .is) ∙ sym (documents-step anyBelow r)) refl refl
+          (ap (withStep anyBelow) (h .is) ∙ sym (fromDocuments-step anyBelow r)) refl refl
 
       all : Right es [] (a ++ []) (m ++ (r ++ withStep anyBelow r))
           (emitted 0
@@ -295,18 +295,18 @@ module _ (o : ℕ) (own : o ≡ 0 → ⊥) where
           (omega (arith, h .low, length-append (y .entries) (plain (over anyBelow (y .result)) ∷ [])), below .low)
           (ap (λ (v : List Path). v ++ pathsOn (y .entries ++ (plain (over anyBelow (y .result)) ∷ [])) (length (y .entries)))
           (pathsOn-keeps (y .entries) (plain (over anyBelow (y .result)) ∷ []) (y .result) (h .low) ∙ h .is) ∙
-          ap (λ (v : List Path). documents r ++ v) (below .is) ∙ sym (documents-append r (withStep anyBelow r)))
+          ap (λ (v : List Path). fromDocuments r ++ v) (below .is) ∙ sym (fromDocuments-append r (withStep anyBelow r)))
           refl refl))
 
   -- all below a position n, whose paths are q, so marked
   module _ (es : List Entry) (z : Ready es) (r a m : List Path) (y : Emitted) (h : Right es r a m y) (n : ℕ) (q : List Path)
-      (low : n < length (y .entries)) (is : pathsOn (y .entries) n ≡ documents q) where
-    none-below : n ≡ 0 → documents (withStep anyBelow q) ≡ []
+      (low : n < length (y .entries)) (is : pathsOn (y .entries) n ≡ fromDocuments q) where
+    none-below : n ≡ 0 → fromDocuments (withStep anyBelow q) ≡ []
     none-below e = no-step anyBelow q (sym is ∙ ap (pathsOn (y .entries)) e ∙ h .keeps 0 (z .some) ∙ z .zero)
 
     emits-below : (f : Position → Entry) → (f (over anyBelow n) .position ≡ over anyBelow n) → (a′ m′ : List Path) →
-        pick (f (over anyBelow n) .accessed) (documents (withStep anyBelow q)) [] ≡ documents a′ →
-        pick (f (over anyBelow n) .modified) (documents (withStep anyBelow q)) [] ≡ documents m′ →
+        pick (f (over anyBelow n) .accessed) (fromDocuments (withStep anyBelow q)) [] ≡ fromDocuments a′ →
+        pick (f (over anyBelow n) .modified) (fromDocuments (withStep anyBelow q)) [] ≡ fromDocuments m′ →
         Right es [] (a ++ a′) (m ++ m′) (emitted 0 (pushBelow f n (y .entries)))
     unfolding filtered
     emits-below f p a′ m′ i j =
@@ -317,9 +317,9 @@ module _ (o : ℕ) (own : o ≡ 0 → ⊥) where
         (λ e. discarded es z _ _ _ _
         (pushed es r a m y h (f (over anyBelow n)) (withStep anyBelow q) a′ m′
         (subst (IsLower (length (y .entries))) (sym p) low)
-        (ap (pathsAt (pathsBy (y .entries))) p ∙ ap (withStep anyBelow) is ∙ sym (documents-step anyBelow q)) i j))
+        (ap (pathsAt (pathsBy (y .entries))) p ∙ ap (withStep anyBelow) is ∙ sym (fromDocuments-step anyBelow q)) i j))
       where
-        either : (t : Bool) → documents (withStep anyBelow q) ≡ [] → pick t (documents (withStep anyBelow q)) [] ≡ []
+        either : (t : Bool) → fromDocuments (withStep anyBelow q) ≡ [] → pick t (fromDocuments (withStep anyBelow q)) [] ≡ []
         either true w = w
         either false w = refl
 
@@ -348,7 +348,7 @@ module _ (o : ℕ) (own : o ≡ 0 → ⊥) where
   constructed : (es : List Entry) → Ready es → (n : ℕ) → Right es (start (place o n) ∷ []) [] (start (place o n) ∷ []) (emitted 0 es)
   unfolding filtered placeOf
   constructed es z n =
-      let w : documents (start (place o n) ∷ []) ≡ [] = rw (ne-eqb o 0 own) in
+      let w : fromDocuments (start (place o n) ∷ []) ≡ [] = rw (ne-eqb o 0 own) in
       let h = known es z 0 [] (z .some) (z .zero) in
       record {
         low = h .low;

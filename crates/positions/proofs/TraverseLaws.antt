@@ -15,7 +15,7 @@ use Rattle.model.proofs.BoolLaws.{or-swap, or-left, or-cases, bool-iff, by-case
 use Rattle.model.proofs.All.{all-read, all-append, all-snoc, all-map}
 use Rattle.model.proofs.ListLaws.{any-append, any-left, any-right, any-either}
 use Rattle.model.proofs.PathLaws.{PathsAll, after-all, join-all}
-use Rattle.positions.proofs.DocumentLaws.{isDocument, documents}
+use Rattle.positions.proofs.DocumentLaws.{isDocument, fromDocuments}
 
 -- PREFIXES
 prefixed-append : (ps qs : List Path) → prefixed (ps ++ qs) ≡ prefixed ps ++ prefixed qs
@@ -207,23 +207,23 @@ accessed-own o e = owned o e [] nothing .accessed
 
 -- a test that fails on the script's own places finds those that start at a document only
 pub any-documents : (f : Path → Bool) (o : ℕ) → ((p : Path) → placeOf p .owner ≡ o → f p ≡ false) → (ps : List Path) → All (Own o) ps →
-    any f ps ≡ any f (documents ps)
+    any f ps ≡ any f (fromDocuments ps)
 unfolding any filtered
 any-documents f o own [] nothing = refl
 any-documents f o own (p ∷ ps) (also h a) = go (any-documents f o own ps a)
   where
-    kept : any f ps ≡ any f (documents ps) → isDocument p ≡ true → any f (p ∷ ps) ≡ any f (documents (p ∷ ps))
-    kept rest t = ap (λ (u : Bool). f p || u) rest ∙ sym (ap (λ (u : Bool). any f (pick u (p ∷ documents ps) (documents ps))) t)
+    kept : any f ps ≡ any f (fromDocuments ps) → isDocument p ≡ true → any f (p ∷ ps) ≡ any f (fromDocuments (p ∷ ps))
+    kept rest t = ap (λ (u : Bool). f p || u) rest ∙ sym (ap (λ (u : Bool). any f (pick u (p ∷ fromDocuments ps) (fromDocuments ps))) t)
 
-    dropped : any f ps ≡ any f (documents ps) → isDocument p ≡ false → Own o p → any f (p ∷ ps) ≡ any f (documents (p ∷ ps))
+    dropped : any f ps ≡ any f (fromDocuments ps) → isDocument p ≡ false → Own o p → any f (p ∷ ps) ≡ any f (fromDocuments (p ∷ ps))
     dropped rest t (inl e) = absurd (eqb-false (placeOf p .owner) 0 t e)
     dropped rest t (inr e) =
-        ap (λ (u : Bool). u || any f ps) (own p e) ∙ rest ∙ sym (ap (λ (u : Bool). any f (pick u (p ∷ documents ps) (documents ps))) t)
+        ap (λ (u : Bool). u || any f ps) (own p e) ∙ rest ∙ sym (ap (λ (u : Bool). any f (pick u (p ∷ fromDocuments ps) (fromDocuments ps))) t)
 
-    go : any f ps ≡ any f (documents ps) → any f (p ∷ ps) ≡ any f (documents (p ∷ ps))
+    go : any f ps ≡ any f (fromDocuments ps) → any f (p ∷ ps) ≡ any f (fromDocuments (p ∷ ps))
     go rest = by-cases (isDocument p) (kept rest) (λ t. dropped rest t h)
 
-pub documents-are : (ps : List Path) → All (λ (p : Path). placeOf p .owner ≡ 0) (documents ps)
+pub documents-are : (ps : List Path) → All (λ (p : Path). placeOf p .owner ≡ 0) (fromDocuments ps)
 unfolding filtered
 documents-are [] = nothing
 documents-are (p ∷ ps) =

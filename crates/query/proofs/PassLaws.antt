@@ -3,7 +3,7 @@ use mathlib.Core.Path.{_≡_, refl, ap, sym, _∙_, subst}
 use mathlib.Core.Bool.{Bool, true, false, _&&_, _||_, not, and-false}
 use mathlib.Core.List.{List, []}
 use mathlib.Core.Option.{Option, none, some}
-use Prim.Native.Nat.{ℕ, suc, _+_, _-_, _/_, _%_, _≤_, _<_}
+use Prim.Native.Nat.{ℕ, suc, _+_, _-_, _≤_, _<_}
 use native.Mathlib.Omega.{arith}
 use native.Mathlib.Numerals.{add-one}
 use lib.Dec.{eqb}
@@ -15,7 +15,7 @@ use Rattle.model.specs.Table as model
 use Rattle.model.specs.Sweep.{through}
 use Rattle.model.specs.Step.{parentIs}
 use Rattle.model.proofs.BoolLaws.{by-cases, pick-true, pick-false, eq-cases}
-use Rattle.table.specs.Words.{linked, decodeParts}
+use Rattle.table.specs.Words.{linked, decodeParts, linkIn}
 use Rattle.table.proofs.WordLaws.{count-decode}
 use Rattle.table.proofs.DecodeLaws.{parent-linked, link-low, isThe-linked}
 use Rattle.query.specs.Stepping.{Flagged, counted, descended, climbed, RowsHeld}
@@ -34,10 +34,10 @@ module _ (ws : List ℕ) (n : ℕ) (held : RowsHeld ws n) where
   within = omega (arith, held .rows, held .few)
 
   -- the link in the word of a row below the count
-  link-below : (j : ℕ) → j < n → getD ws j 0 / 4 % 1024 ≤ j
+  link-below : (j : ℕ) → j < n → linkIn (getD ws j 0) ≤ j
   link-below j h = link-low n ws [] within j h (held .lower j)
 
-  pub link-in : (j : ℕ) → j < n → getD ws j 0 / 4 % 1024 < 513
+  pub link-in : (j : ℕ) → j < n → linkIn (getD ws j 0) < 513
   link-in j h = omega (arith, link-below j h, held .few)
 
   -- DOWN
@@ -53,13 +53,13 @@ module _ (ws : List ℕ) (n : ℕ) (held : RowsHeld ws n) where
 
     module _ (j : ℕ) (h : j < n) (rs : List ℕ) (s : Descending ws n d fs j rs) where
       counts-down : (ms v : List ℕ) → Flagged v fs →
-          counted (getD fs (getD ws j 0 / 4 % 1024) 0) (getD rs (getD ws j 0 / 4 % 1024) 0) d ≡ downTo (decodeParts n ws ms) (held
+          counted (getD fs (linkIn (getD ws j 0)) 0) (getD rs (linkIn (getD ws j 0)) 0) d ≡ downTo (decodeParts n ws ms) (held
           .lower) d v j
       counts-down ms v f =
-          by-cases (eqb (getD ws j 0 / 4 % 1024) 0) (λ e. no-parent e (eqb-true (getD ws j 0 / 4 % 1024) 0 e))
-          (λ e. a-parent e (eqb-false (getD ws j 0 / 4 % 1024) 0 e))
+          by-cases (eqb (linkIn (getD ws j 0)) 0) (λ e. no-parent e (eqb-true (linkIn (getD ws j 0)) 0 e))
+          (λ e. a-parent e (eqb-false (linkIn (getD ws j 0)) 0 e))
         where
-          by-parent : (q : Option ℕ) → linked (getD ws j 0 / 4 % 1024) ≡ q →
+          by-parent : (q : Option ℕ) → linked (linkIn (getD ws j 0)) ≡ q →
               downTo (decodeParts n ws ms) (held .lower) d v j ≡
               through (λ (p : ℕ). among p v || (d && downTo (decodeParts n ws ms) (held .lower) d v p)) q
           by-parent q e =
@@ -67,20 +67,20 @@ module _ (ws : List ℕ) (n : ℕ) (held : RowsHeld ws n) where
               ap (through (λ (p : ℕ). among p v || (d && downTo (decodeParts n ws ms) (held .lower) d v p)))
               (parent-linked n ws ms within j h ∙ e)
 
-          no-parent : eqb (getD ws j 0 / 4 % 1024) 0 ≡ true → getD ws j 0 / 4 % 1024 ≡ 0 →
-              counted (getD fs (getD ws j 0 / 4 % 1024) 0) (getD rs (getD ws j 0 / 4 % 1024) 0) d ≡ downTo (decodeParts n ws ms) (held
+          no-parent : eqb (linkIn (getD ws j 0)) 0 ≡ true → linkIn (getD ws j 0) ≡ 0 →
+              counted (getD fs (linkIn (getD ws j 0)) 0) (getD rs (linkIn (getD ws j 0)) 0) d ≡ downTo (decodeParts n ws ms) (held
               .lower) d v j
           no-parent e z =
               ap (λ (l : ℕ). counted (getD fs l 0) (getD rs l 0) d) z ∙ ap (λ (a : ℕ). counted a (getD rs 0 0) d) (f .none) ∙
               ap (λ (a : ℕ). counted 0 a d) (s .none) ∙ and-false d ∙ sym (by-parent none (rw e))
 
-          a-parent : eqb (getD ws j 0 / 4 % 1024) 0 ≡ false → (getD ws j 0 / 4 % 1024 ≡ 0 → ⊥) →
-              counted (getD fs (getD ws j 0 / 4 % 1024) 0) (getD rs (getD ws j 0 / 4 % 1024) 0) d ≡ downTo (decodeParts n ws ms) (held
+          a-parent : eqb (linkIn (getD ws j 0)) 0 ≡ false → (linkIn (getD ws j 0) ≡ 0 → ⊥) →
+              counted (getD fs (linkIn (getD ws j 0)) 0) (getD rs (linkIn (getD ws j 0)) 0) d ≡ downTo (decodeParts n ws ms) (held
               .lower) d v j
           a-parent e z =
-              let p = getD ws j 0 / 4 % 1024 - 1 in
+              let p = linkIn (getD ws j 0) - 1 in
               let l : p < j = omega (arith, link-below j h, z) in
-              let k : getD ws j 0 / 4 % 1024 ≡ p + 1 = omega (arith, z) in
+              let k : linkIn (getD ws j 0) ≡ p + 1 = omega (arith, z) in
               ap (λ (a : ℕ). counted (getD fs a 0) (getD rs a 0) d) k ∙
               ap (λ (a : ℕ). counted a (getD rs (p + 1) 0) d) (f .flags p (omega (arith, held .few))) ∙
               ap (λ (a : ℕ). counted (bit (among p v)) a d) (s .done ms v f p l) ∙
@@ -92,7 +92,7 @@ module _ (ws : List ℕ) (n : ℕ) (held : RowsHeld ws n) where
           (λ e. subst (Descending ws n d fs (j + 1)) (sym (pick-false test (set rs (j + 1) 1) rs e)) (not-reached e))
         where
           test : Bool
-          test = counted (getD fs (getD ws j 0 / 4 % 1024) 0) (getD rs (getD ws j 0 / 4 % 1024) 0) d
+          test = counted (getD fs (linkIn (getD ws j 0)) 0) (getD rs (linkIn (getD ws j 0)) 0) d
 
           last : (k : ℕ) → k < j + 1 → (k ≡ j → ⊥) → k < j
           last k l z = omega arith
@@ -158,11 +158,11 @@ module _ (ws : List ℕ) (n : ℕ) (held : RowsHeld ws n) where
           1) (omega arith)))) ∙
           counted-bits (among k v) (upTo (decodeParts n ws ms) d v k) d
 
-      parent-is : (ms : List ℕ) (j : ℕ) → parentIs (decodeParts n ws ms) j k ≡ eqb (getD ws k 0 / 4 % 1024) (j + 1)
+      parent-is : (ms : List ℕ) (j : ℕ) → parentIs (decodeParts n ws ms) j k ≡ eqb (linkIn (getD ws k 0)) (j + 1)
       parent-is ms j =
           let e : j ≡ j + 1 - 1 = omega arith in
-          ap (model.isThe j) (parent-linked n ws ms within k h) ∙ ap (λ (a : ℕ). model.isThe a (linked (getD ws k 0 / 4 % 1024))) e ∙
-          isThe-linked (j + 1) (getD ws k 0 / 4 % 1024) (omega arith)
+          ap (model.isThe j) (parent-linked n ws ms within k h) ∙ ap (λ (a : ℕ). model.isThe a (linked (linkIn (getD ws k 0)))) e ∙
+          isThe-linked (j + 1) (linkIn (getD ws k 0)) (omega arith)
 
       one-more : (ms v : List ℕ) (j : ℕ) → anyFrom (childCounts (decodeParts n ws ms) d v j) k (n - k) ≡
           (childCounts (decodeParts n ws ms) d v j k || anyFrom (childCounts (decodeParts n ws ms) d v j) (k + 1) (n - (k + 1)))
@@ -179,7 +179,7 @@ module _ (ws : List ℕ) (n : ℕ) (held : RowsHeld ws n) where
           (λ e. subst (Climbing ws n d fs k) (sym (pick-false test (set rs l 1) rs e)) (not-counting e))
         where
           l : ℕ
-          l = getD ws k 0 / 4 % 1024
+          l = linkIn (getD ws k 0)
 
           test : Bool
           test = counted (getD fs (k + 1) 0) (getD rs (k + 1) 0) d

@@ -2,7 +2,7 @@
 use mathlib.Core.Path.{_≡_, refl, ap, sym, _∙_}
 use mathlib.Core.Bool.{Bool, true, false, _||_, or-false, or-true, or-assoc}
 use mathlib.Core.List.{List, [], _∷_, _++_}
-use Prim.Native.Nat.{ℕ, _+_, _/_, _%_, _<_}
+use Prim.Native.Nat.{ℕ, _+_, _<_}
 use native.Mathlib.Omega.{arith}
 use native.Mathlib.Numerals.{add-one}
 use lib.Dec.{eqb}
@@ -13,26 +13,26 @@ use Rattle.model.specs.Base.{among}
 use Rattle.model.specs.Script.{stepBy}
 use Rattle.model.specs.Step.{leafLetter, named, letterOf, admits}
 use Rattle.model.proofs.BoolLaws.{by-cases}
-use Rattle.table.specs.Words.{rowOf}
+use Rattle.table.specs.Words.{rowOf, kindIn, tagIn}
 use Rattle.table.proofs.FlagLaws.{flags-none, flags-more}
 use Rattle.query.specs.Stepping.{Flagged}
 
 -- TESTS
 module _ (w t n : ℕ) where
-  letter-leaf : w % 4 ≡ 2 → letterOf (rowOf w) ≡ leafLetter
+  letter-leaf : kindIn w ≡ 2 → letterOf (rowOf w) ≡ leafLetter
   letter-leaf h = rw h
 
-  letter-element : (w % 4 ≡ 2 → ⊥) → letterOf (rowOf w) ≡ named (w / 4096)
-  letter-element h = rw (ne-eqb (w % 4) 2 h)
+  letter-element : (kindIn w ≡ 2 → ⊥) → letterOf (rowOf w) ≡ named (tagIn w)
+  letter-element h = rw (ne-eqb (kindIn w) 2 h)
 
   pub pass-any : t ≡ 0 → admits (stepBy 0 t n) (letterOf (rowOf w)) ≡ true
-  pass-any h = by-cases (eqb (w % 4) 2) (λ e. rw (e, h)) (λ e. rw (e, h))
+  pass-any h = by-cases (eqb (kindIn w) 2) (λ e. rw (e, h)) (λ e. rw (e, h))
 
   module _ (some-test : t ≡ 0 → ⊥) where
-    pub pass-leaf : w % 4 ≡ 2 → admits (stepBy 0 t n) (letterOf (rowOf w)) ≡ eqb t 2
+    pub pass-leaf : kindIn w ≡ 2 → admits (stepBy 0 t n) (letterOf (rowOf w)) ≡ eqb t 2
     pass-leaf h = ap (admits (stepBy 0 t n)) (letter-leaf h) ∙ rw (ne-eqb t 0 some-test)
 
-    module _ (element : w % 4 ≡ 2 → ⊥) where
+    module _ (element : kindIn w ≡ 2 → ⊥) where
       pub pass-element : t ≡ 1 → admits (stepBy 0 t n) (letterOf (rowOf w)) ≡ true
       pass-element h = ap (admits (stepBy 0 t n)) (letter-element element) ∙ rw h
 
@@ -40,7 +40,7 @@ module _ (w t n : ℕ) where
         pub pass-no-leaf : t ≡ 2 → admits (stepBy 0 t n) (letterOf (rowOf w)) ≡ false
         pass-no-leaf h = ap (admits (stepBy 0 t n)) (letter-element element) ∙ rw h
 
-        pub pass-named : (t ≡ 2 → ⊥) → admits (stepBy 0 t n) (letterOf (rowOf w)) ≡ eqb (w / 4096) n
+        pub pass-named : (t ≡ 2 → ⊥) → admits (stepBy 0 t n) (letterOf (rowOf w)) ≡ eqb (tagIn w) n
         pass-named h = ap (admits (stepBy 0 t n)) (letter-element element) ∙ rw (ne-eqb t 0 some-test, ne-eqb t 1 no-element, ne-eqb t 2 h)
 
 -- FLAGS: one item more

@@ -3,7 +3,7 @@ use mathlib.Core.Path.{_≡_}
 use mathlib.Core.Bool.{Bool, false, _&&_, _||_, not}
 use mathlib.Core.List.{List, []}
 use mathlib.Core.Option.{some}
-use Prim.Native.Nat.{ℕ, zero, suc, _+_, _-_, _/_, _%_, _≤_, _<_}
+use Prim.Native.Nat.{ℕ, zero, suc, _+_, _-_, _≤_, _<_}
 use lib.Dec.{eqb}
 use lib.ListN.{length, getD, set, replicate}
 use Rattle.model.specs.Limits.{maxLinks, maxRows}
@@ -11,7 +11,7 @@ use Rattle.model.specs.Base.{pick, any, among, bit}
 use Rattle.model.specs.Table as model
 use Rattle.model.specs.Step.{reaches, parentIs}
 use Rattle.table.specs.Flags.{Within, Flags}
-use Rattle.table.specs.Words.{decodeParts}
+use Rattle.table.specs.Words.{decodeParts, linkIn}
 
 -- ITEMS flagged
 pub record FlagPre (fs v : List ℕ) : Type 0 where
@@ -27,15 +27,15 @@ counted i r d = not (eqb i 0) || (d && not (eqb r 0))
 
 pub record OnePre (w j : ℕ) (fs rs : List ℕ) : Type 0 where
   pub low : j < maxRows
-  pub link : w / 4 % 1024 < maxLinks
+  pub link : linkIn w < maxLinks
   pub flags : length fs ≡ maxLinks
   pub reached : length rs ≡ maxLinks
 
 abbrev pub descended : (word row : ℕ) → (deep : Bool) → (flags reached : List ℕ) → List ℕ
-descended w j d fs rs = pick (counted (getD fs (w / 4 % 1024) 0) (getD rs (w / 4 % 1024) 0) d) (set rs (j + 1) 1) rs
+descended w j d fs rs = pick (counted (getD fs (linkIn w) 0) (getD rs (linkIn w) 0) d) (set rs (j + 1) 1) rs
 
 abbrev pub climbed : (word row : ℕ) → (deep : Bool) → (flags reached : List ℕ) → List ℕ
-climbed w j d fs rs = pick (counted (getD fs (j + 1) 0) (getD rs (j + 1) 0) d) (set rs (w / 4 % 1024) 1) rs
+climbed w j d fs rs = pick (counted (getD fs (j + 1) 0) (getD rs (j + 1) 0) d) (set rs (linkIn w) 1) rs
 
 -- A PASS over the rows below the count, whose parents are lower
 pub record RowsHeld (ws : List ℕ) (n : ℕ) : Type 0 where

@@ -6,14 +6,14 @@ use lib.Dec.{eqb}
 use lib.ListN.{getD, drop}
 use Rattle.model.specs.Base.{pick}
 use Rattle.model.specs.Script.{Expr, nil, document, var, step, both, letIn, forIn, ifIn, element, leaf, delete, insert, choose, stepBy}
-use Rattle.model.specs.Script.{nilKind, documentKind, varKind, stepKind, bothKind, letKind, forKind, ifKind}
+use Rattle.model.specs.Script.{nilKind, documentKind, variableKind, stepKind, joinKind, letKind, forKind, ifKind}
 use Rattle.model.specs.Script.{newElementKind, newLeafKind, deleteKind, insertKind, pickKind, bodySize, isBinder}
 
 -- operands of a record; none for a byte that is no kind
 unfoldable pub arity : (kind : ℕ) → ℕ
 arity k =
     pick (eqb k ifKind) 3
-    (pick (eqb k bothKind || eqb k letKind || eqb k forKind || eqb k insertKind) 2
+    (pick (eqb k joinKind || eqb k letKind || eqb k forKind || eqb k insertKind) 2
     (pick (eqb k stepKind || eqb k deleteKind || eqb k pickKind) 1 0))
 
 -- A binder binds in its second operand only: the variables in scope there
@@ -53,9 +53,9 @@ unfoldable pub exprOf : (kind : ℕ) → (bytes : List ℕ) → (at : ℕ) → (
 exprOf k b i x y z =
     pick (eqb k nilKind) (nil i)
     (pick (eqb k documentKind) (document i (getD b (i + 1) 0))
-    (pick (eqb k varKind) (var i (getD b (i + 1) 0))
+    (pick (eqb k variableKind) (var i (getD b (i + 1) 0))
     (pick (eqb k stepKind) (step i (stepBy (getD b (i + 1) 0) (getD b (i + 2) 0) (getD b (i + 3) 0)) x)
-    (pick (eqb k bothKind) (both i x y)
+    (pick (eqb k joinKind) (both i x y)
     (pick (eqb k letKind) (letIn i x y)
     (pick (eqb k forKind) (forIn i x y)
     (pick (eqb k ifKind) (ifIn i x y z)

@@ -6,7 +6,7 @@ use Prim.Native.Nat.{ℕ, suc, _+_, _-_, _<_}
 use native.Mathlib.Omega.{arith}
 use lib.ListN.{getD}
 use Rattle.model.specs.Script.{Expr, nil, document, var, step, both, letIn, forIn, ifIn, element, leaf, delete, insert, choose, stepBy}
-use Rattle.model.specs.Script.{nilKind, documentKind, varKind, stepKind, bothKind, letKind, forKind, ifKind}
+use Rattle.model.specs.Script.{nilKind, documentKind, variableKind, stepKind, joinKind, letKind, forKind, ifKind}
 use Rattle.model.specs.Script.{newElementKind, newLeafKind, deleteKind, insertKind, pickKind, parsed}
 use Rattle.records.specs.Walk.{arity, inner, past, endAt, firstAt, secondAt, thirdAt, exprOf, exprAt}
 use Rattle.script.specs.Reading.{parseAt}
@@ -178,9 +178,9 @@ module _ {b : List ℕ} {at left v : ℕ} (a : Accepted b at left v) where
   unfolding arity exprOf
   accepted-document e = nullary a documentKind e (document at (getD b (at + 1) 0)) refl (λ x y z. refl)
 
-  pub accepted-variable : getD b at 0 ≡ varKind → Nullary b at left (var at (getD b (at + 1) 0))
+  pub accepted-variable : getD b at 0 ≡ variableKind → Nullary b at left (var at (getD b (at + 1) 0))
   unfolding arity exprOf
-  accepted-variable e = nullary a varKind e (var at (getD b (at + 1) 0)) refl (λ x y z. refl)
+  accepted-variable e = nullary a variableKind e (var at (getD b (at + 1) 0)) refl (λ x y z. refl)
 
   pub accepted-element : getD b at 0 ≡ newElementKind → Nullary b at left (element at (getD b (at + 1) 0))
   unfolding arity exprOf
@@ -204,9 +204,9 @@ module _ {b : List ℕ} {at left v : ℕ} (a : Accepted b at left v) where
   unfolding arity exprOf
   accepted-pick e = unary a pickKind e (choose at (getD b (at + 1) 0) (getD b (at + 2) 0)) refl (λ x y z. refl)
 
-  pub accepted-join : getD b at 0 ≡ bothKind → Binary b at left v v (both at)
+  pub accepted-join : getD b at 0 ≡ joinKind → Binary b at left v v (both at)
   unfolding arity inner exprOf
-  accepted-join e = binary a bothKind e v (both at) refl refl (λ x y z. refl)
+  accepted-join e = binary a joinKind e v (both at) refl refl (λ x y z. refl)
 
   pub accepted-let : getD b at 0 ≡ letKind → Binary b at left v (v + 1) (letIn at)
   unfolding arity inner exprOf

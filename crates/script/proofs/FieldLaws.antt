@@ -7,7 +7,7 @@ use lib.Dec.{ltb}
 use lib.ListN.{getD}
 use lib.Seq.{getD-drop}
 use borrow.Author.Tests.{ltb-true}
-use Rattle.model.specs.Script.{documentKind, varKind, stepKind, newElementKind, testFits}
+use Rattle.model.specs.Script.{documentKind, variableKind, stepKind, newElementKind, testFits}
 use Rattle.model.proofs.ListLaws.{drop-first}
 use Rattle.model.proofs.BoolLaws.{and-left, and-right}
 use Rattle.model.proofs.TestLaws.{isIn-at}
@@ -18,7 +18,7 @@ module _ {b : List ℕ} {at left v : ℕ} (f : RecordFits b at left v) where
   document-number e =
       ltb-true (getD b (at + 1) 0) 8 (rw (drop-first b at, e, getD-drop at b 1 0) at (f .fields))
 
-  pub variable-number : getD b at 0 ≡ varKind → getD b (at + 1) 0 < v
+  pub variable-number : getD b at 0 ≡ variableKind → getD b (at + 1) 0 < v
   variable-number e = ltb-true (getD b (at + 1) 0) v (rw (drop-first b at, e, getD-drop at b 1 0) at (f .fields))
 
   step-fields : getD b at 0 ≡ stepKind → (ltb (getD b (at + 1) 0) 4 && testFits (getD b (at + 2) 0) (getD b (at + 3) 0)) ≡ true

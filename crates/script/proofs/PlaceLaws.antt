@@ -7,7 +7,7 @@ use native.Mathlib.Omega.{arith}
 use lib.Dec.{eqb}
 use lib.ListN.{length, getD, drop}
 use Rattle.model.specs.Base.{pick}
-use Rattle.model.specs.Script.{stepKind, bothKind, letKind, forKind, ifKind, deleteKind, insertKind, pickKind}
+use Rattle.model.specs.Script.{stepKind, joinKind, letKind, forKind, ifKind, deleteKind, insertKind, pickKind}
 use Rattle.model.specs.Script.{Expr, parsed, thenParse, bodySize}
 use Rattle.model.proofs.BoolLaws.{eq-cases}
 use Rattle.records.specs.Walk.{arity, inner, past, endAt, firstAt, secondAt, thirdAt, exprOf, exprAt}
@@ -32,7 +32,7 @@ arity-most k =
     (at-most twos 2 (pick ones 1 0) 3 (omega arith) (at-most ones 1 0 3 (omega arith) (omega arith)))
   where
     twos : Bool
-    twos = eqb k bothKind || eqb k letKind || eqb k forKind || eqb k insertKind
+    twos = eqb k joinKind || eqb k letKind || eqb k forKind || eqb k insertKind
 
     ones : Bool
     ones = eqb k stepKind || eqb k deleteKind || eqb k pickKind

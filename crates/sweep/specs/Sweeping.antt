@@ -3,7 +3,7 @@
 use mathlib.Core.Path.{_≡_}
 use mathlib.Core.Bool.{Bool, true, _||_, not}
 use mathlib.Core.List.{List, map}
-use Prim.Native.Nat.{ℕ, _+_, _/_, _%_, _≤_, _<_}
+use Prim.Native.Nat.{ℕ, _+_, _≤_, _<_}
 use lib.Dec.{eqb}
 use lib.ListN.{length, getD, set, take, replicate}
 use Rattle.model.specs.Limits.{maxLinks, maxRows}
@@ -12,7 +12,7 @@ use Rattle.model.specs.Table as model
 use Rattle.model.specs.Refusal as refusal
 use Rattle.model.specs.Sweep.{swept, isKept, newNumber, sweptRows}
 use Rattle.table.specs.Flags.{Flags}
-use Rattle.table.specs.Words.{linked, withLink, wordsOf, decode, partsFit, fits}
+use Rattle.table.specs.Words.{linked, withLink, wordsOf, decode, partsFit, fits, linkIn}
 use Rattle.table.specs.Results.{result, asItWas}
 use Rattle.table.specs.declared.Table.{Table}
 use Rattle.table.specs.declared.TableResult.{TableResult}
@@ -38,18 +38,18 @@ abbrev pub keeps : (flag parent : ℕ) → Bool
 keeps f p = not (eqb f 0) || not (eqb p 0)
 
 abbrev pub keepsRow : (word row : ℕ) → (numbers : List ℕ) → Bool
-keepsRow w i ns = keeps (getD ns (i + 1) 0) (getD ns (w / 4 % 1024) 0)
+keepsRow w i ns = keeps (getD ns (i + 1) 0) (getD ns (linkIn w) 0)
 
 abbrev pub newWord : (word : ℕ) → (numbers : List ℕ) → ℕ
-newWord w ns = withLink w (getD ns (w / 4 % 1024) 0)
+newWord w ns = withLink w (getD ns (linkIn w) 0)
 
 pub record RowPre (w i next : ℕ) (ns out : List ℕ) : Type 0 where
   pub low : i < maxRows
-  pub link : w / 4 % 1024 < maxLinks
+  pub link : linkIn w < maxLinks
   pub below : next ≤ i
   pub numbers : length ns ≡ maxLinks
   pub rows : length out ≡ maxRows
-  pub parent : getD ns (w / 4 % 1024) 0 < 1024
+  pub parent : getD ns (linkIn w) 0 < 1024
 
 pub record RowPost (w i next : ℕ) (ns out ns′ out′ : List ℕ) (r : ℕ) : Type 0 where
   pub numbers : ns′ ≡ pick (keepsRow w i ns) (set ns (i + 1) (next + 1)) ns

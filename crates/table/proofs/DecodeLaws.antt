@@ -3,7 +3,7 @@ use mathlib.Core.Path.{_≡_, ap, sym, _∙_}
 use mathlib.Core.Bool.{true, false, _||_, not}
 use mathlib.Core.List.{List, map}
 use mathlib.Core.Option.{some, none}
-use Prim.Native.Nat.{ℕ, _+_, _-_, _/_, _%_, _≤_, _<_}
+use Prim.Native.Nat.{ℕ, _+_, _-_, _≤_, _<_}
 use native.Mathlib.Omega.{arith}
 use lib.Dec.{eqb}
 use lib.ListN.{length, getD, set, drop, drop-of-length-le, List·getD-map}
@@ -14,7 +14,7 @@ use Rattle.model.specs.Base.{any}
 use Rattle.model.specs.Table as model
 use Rattle.model.specs.Stored.{wordBytes, parentBytes}
 use Rattle.model.proofs.BoolLaws.{by-cases, eq-cases}
-use Rattle.table.specs.Words.{linkOf, linked, wordOf, rowsOf, decodeParts}
+use Rattle.table.specs.Words.{linkOf, linked, wordOf, rowsOf, decodeParts, kindIn, linkIn}
 use Rattle.table.proofs.WordLaws.{linked-linkOf, count-decode, rowAt-decode, rowsOf-push, linked-some}
 use Rattle.model.proofs.ListLaws.{map-set}
 
@@ -25,24 +25,24 @@ module _ (n : ℕ) (ws ms : List ℕ) (within : n ≤ length ws) (p : ℕ) where
       let k : model.count (decodeParts n ws ms) ≤ p = omega (arith, count-decode n ws ms within) in
       rw (le-ltb p (model.count (decodeParts n ws ms)) k)
 
-  pub element-kind : p < n → model.isElement (decodeParts n ws ms) p ≡ not (eqb (getD ws p 0 % 4) 2)
+  pub element-kind : p < n → model.isElement (decodeParts n ws ms) p ≡ not (eqb (kindIn (getD ws p 0)) 2)
   element-kind h =
       let k : p < model.count (decodeParts n ws ms) = omega (arith, count-decode n ws ms within) in
       rw (lt-ltb p (model.count (decodeParts n ws ms)) k, rowAt-decode n ws ms within p h)
 
 -- a row's parent, from the link in its word
 module _ (n : ℕ) (ws ms : List ℕ) (within : n ≤ length ws) (i : ℕ) (h : i < n) where
-  pub parent-linked : model.rowAt (decodeParts n ws ms) i .parent ≡ linked (getD ws i 0 / 4 % 1024)
+  pub parent-linked : model.rowAt (decodeParts n ws ms) i .parent ≡ linked (linkIn (getD ws i 0))
   parent-linked = ap (λ (r : model.Row). r .parent) (rowAt-decode n ws ms within i h)
 
-  pub parent-at : (getD ws i 0 / 4 % 1024 ≡ 0 → ⊥) → model.rowAt (decodeParts n ws ms) i .parent ≡ some (getD ws i 0 / 4 % 1024 - 1)
-  parent-at z = parent-linked ∙ linked-some (getD ws i 0 / 4 % 1024) z
+  pub parent-at : (linkIn (getD ws i 0) ≡ 0 → ⊥) → model.rowAt (decodeParts n ws ms) i .parent ≡ some (linkIn (getD ws i 0) - 1)
+  parent-at z = parent-linked ∙ linked-some (linkIn (getD ws i 0)) z
 
   -- a lower parent's link is at most the row's number
-  pub link-low : ((p : ℕ) → model.rowAt (decodeParts n ws ms) i .parent ≡ some p → p < i) → getD ws i 0 / 4 % 1024 ≤ i
+  pub link-low : ((p : ℕ) → model.rowAt (decodeParts n ws ms) i .parent ≡ some p → p < i) → linkIn (getD ws i 0) ≤ i
   link-low lower =
-      eq-cases (getD ws i 0 / 4 % 1024) 0 (λ e. omega (arith, e))
-      (λ e. omega (arith, lower (getD ws i 0 / 4 % 1024 - 1) (parent-at e)))
+      eq-cases (linkIn (getD ws i 0)) 0 (λ e. omega (arith, e))
+      (λ e. omega (arith, lower (linkIn (getD ws i 0) - 1) (parent-at e)))
 
 -- the row that a document marks
 pub mark-row : (ms : List ℕ) (d : ℕ) → (getD ms d 0 ≡ 0 → ⊥) → getD (map linked ms) d none ≡ some (getD ms d 0 - 1)

@@ -2,7 +2,7 @@
 use mathlib.Core.Path.{_≡_, refl, ap, sym, _∙_}
 use mathlib.Core.Bool.{Bool, true, false, _&&_, not, and-true, and-false, and-comm}
 use mathlib.Core.List.{List, [], _∷_, map}
-use Prim.Native.Nat.{ℕ, zero, suc, _+_, _-_, _/_, _%_, _≤_, _<_}
+use Prim.Native.Nat.{ℕ, zero, suc, _+_, _-_, _≤_, _<_}
 use native.Mathlib.Omega.{arith}
 use native.Mathlib.Numerals.{add-one}
 use lib.Dec.{ltb, leb, eqb}
@@ -11,7 +11,7 @@ use lib.Seq.{drop-cons}
 use borrow.Author.Tests.{lt-ltb, le-ltb, le-leb, eq-eqb, ne-eqb, eqb-false, leb-true, leb-false}
 use Rattle.model.specs.Base.{pick, isIn, all, any}
 use Rattle.model.specs.Table as model
-use Rattle.table.specs.Words.{linked, isRowWord, isZero, rowOf, rowsOf, decodeParts, partsFit}
+use Rattle.table.specs.Words.{linked, isRowWord, isZero, rowOf, rowsOf, decodeParts, partsFit, kindIn, linkIn, tagIn}
 use Rattle.table.specs.Fitting.{Words, tagFits, linkFits, rowFits, rowsFit, markFits, isRepeated, marksFit}
 use Rattle.model.proofs.BoolLaws.{by-cases}
 use Rattle.table.proofs.WordLaws.{count-decode, rowAt-decode}
@@ -71,7 +71,7 @@ tag-kind (suc (suc (suc zero))) t h = sym (and-false (leb t 255))
 tag-kind (suc (suc (suc (suc k)))) t h = absurd (omega arith)
 
 tag-word : (w : ℕ) → (isRowWord w && model.tagFits (rowOf w)) ≡ tagFits w
-tag-word w = tag-kind (w % 4) (w / 4096) (omega arith)
+tag-word w = tag-kind (kindIn w) (tagIn w) (omega arith)
 
 -- the parent, of a row below the count
 module _ (n : ℕ) (ws ms : List ℕ) (within : n ≤ length ws) where
@@ -101,15 +101,15 @@ module _ (n : ℕ) (ws ms : List ℕ) (within : n ≤ length ws) where
       let g : i < length ws = omega arith in
       rw (drop-cons ws i 0 g)
       (shuffle (isRowWord (getD ws i 0)) (all isRowWord (take k (drop (suc i) ws))) (model.tagFits (rowOf (getD ws i 0)))
-      (model.parentFits (decodeParts n ws ms) i (linked (getD ws i 0 / 4 % 1024)))
+      (model.parentFits (decodeParts n ws ms) i (linked (linkIn (getD ws i 0))))
       (model.rowsFit (decodeParts n ws ms) (suc i) (map rowOf (take k (drop (suc i) ws)))) ∙
-      ap (λ (t : Bool). t && model.parentFits (decodeParts n ws ms) i (linked (getD ws i 0 / 4 % 1024)) &&
+      ap (λ (t : Bool). t && model.parentFits (decodeParts n ws ms) i (linked (linkIn (getD ws i 0))) &&
       (all isRowWord (take k (drop (suc i) ws)) && model.rowsFit (decodeParts n ws ms) (suc i) (map rowOf (take k (drop (suc i) ws)))))
       (tag-word (getD ws i 0)) ∙
       ap (λ (t : Bool). tagFits (getD ws i 0) && t &&
       (all isRowWord (take k (drop (suc i) ws)) && model.rowsFit (decodeParts n ws ms) (suc i) (map rowOf (take k (drop (suc i) ws)))))
-      (link-word i (getD ws i 0 / 4 % 1024) h) ∙
-      ap (λ (t : Bool). tagFits (getD ws i 0) && linkFits ws i (getD ws i 0 / 4 % 1024) && t) (rows-words (suc i) k (omega arith)))
+      (link-word i (linkIn (getD ws i 0)) h) ∙
+      ap (λ (t : Bool). tagFits (getD ws i 0) && linkFits ws i (linkIn (getD ws i 0)) && t) (rows-words (suc i) k (omega arith)))
     where
       shuffle : (a b c d e : Bool) → (a && b && (c && d && e)) ≡ (a && c && d && (b && e))
       shuffle true true c d e = refl
@@ -127,7 +127,7 @@ module _ (n : ℕ) (ws ms : List ℕ) (within : n ≤ length ws) where
           let q : m ≤ n = leb-true m n f in
           let k : m - 1 < n = omega (arith, z) in
           rw (e, f, element-kind n ws ms within (m - 1) k, rowAt-decode n ws ms within (m - 1) k)
-          (ap (λ (t : Bool). not (eqb (getD ws (m - 1) 0 % 4) 2) && t) (root (getD ws (m - 1) 0 / 4 % 1024))))
+          (ap (λ (t : Bool). not (eqb (kindIn (getD ws (m - 1) 0)) 2) && t) (root (linkIn (getD ws (m - 1) 0)))))
           (λ f.
           let q : n < m = leb-false m n f in
           let k : n ≤ m - 1 = omega arith in

@@ -19,7 +19,7 @@ use Rattle.model.proofs.BoolLaws.{and-left, and-right, by-cases, pick-ne}
 use Rattle.model.proofs.TestLaws.{isIn-at, isIn-by}
 use Rattle.model.proofs.ListLaws.{map-set}
 use Rattle.table.specs.Words.{linkOf, linked, wordOf, rowOf, isRowWord, withLink, isZero, rowsOf, decodeParts, wordsOf}
-use Rattle.table.specs.Words.{encode, Canonical}
+use Rattle.table.specs.Words.{encode, Canonical, kindIn, linkIn, tagIn}
 
 -- LINKS
 pub linked-linkOf : (p : Option ℕ) → linked (linkOf p) ≡ p
@@ -35,24 +35,24 @@ linked-some l z = pick-ne none (some (l - 1)) z
 
 -- A ROW AND ITS WORD, where the parent's link fits its 10 bits
 
-kind-word : (r : model.Row) → linkOf (r .parent) < 1024 → eqb (wordOf r % 4) 2 ≡ r .isLeaf
+kind-word : (r : model.Row) → linkOf (r .parent) < 1024 → eqb (kindIn (wordOf r)) 2 ≡ r .isLeaf
 kind-word r f = go (r .isLeaf)
   where
-    go : (z : Bool) → eqb ((pick z 2 1 + 4 * linkOf (r .parent) + 4096 * r .tag) % 4) 2 ≡ z
-    go true = eq-eqb ((2 + 4 * linkOf (r .parent) + 4096 * r .tag) % 4) 2 (omega arith)
-    go false = ne-eqb ((1 + 4 * linkOf (r .parent) + 4096 * r .tag) % 4) 2 (λ e. omega arith)
+    go : (z : Bool) → eqb (kindIn (pick z 2 1 + 4 * linkOf (r .parent) + 4096 * r .tag)) 2 ≡ z
+    go true = eq-eqb (kindIn (2 + 4 * linkOf (r .parent) + 4096 * r .tag)) 2 (omega arith)
+    go false = ne-eqb (kindIn (1 + 4 * linkOf (r .parent) + 4096 * r .tag)) 2 (λ e. omega arith)
 
-tag-word : (r : model.Row) → linkOf (r .parent) < 1024 → wordOf r / 4096 ≡ r .tag
+tag-word : (r : model.Row) → linkOf (r .parent) < 1024 → tagIn (wordOf r) ≡ r .tag
 tag-word r f = go (r .isLeaf)
   where
-    go : (z : Bool) → (pick z 2 1 + 4 * linkOf (r .parent) + 4096 * r .tag) / 4096 ≡ r .tag
+    go : (z : Bool) → tagIn (pick z 2 1 + 4 * linkOf (r .parent) + 4096 * r .tag) ≡ r .tag
     go true = omega (arith, f)
     go false = omega (arith, f)
 
-link-word : (r : model.Row) → linkOf (r .parent) < 1024 → wordOf r / 4 % 1024 ≡ linkOf (r .parent)
+link-word : (r : model.Row) → linkOf (r .parent) < 1024 → linkIn (wordOf r) ≡ linkOf (r .parent)
 link-word r f = go (r .isLeaf)
   where
-    go : (z : Bool) → (pick z 2 1 + 4 * linkOf (r .parent) + 4096 * r .tag) / 4 % 1024 ≡ linkOf (r .parent)
+    go : (z : Bool) → linkIn (pick z 2 1 + 4 * linkOf (r .parent) + 4096 * r .tag) ≡ linkOf (r .parent)
     go true = omega (arith, f)
     go false = omega (arith, f)
 
@@ -62,36 +62,36 @@ rowOf-wordOf r f =
 
 pub wordOf-rowOf : (w : ℕ) → isRowWord w ≡ true → wordOf (rowOf w) ≡ w
 wordOf-rowOf w h =
-    ap (λ (n : ℕ). pick (eqb (w % 4) 2) 2 1 + 4 * n + 4096 * (w / 4096)) (linkOf-linked (w / 4 % 1024)) ∙
-    by-cases (eqb (w % 4) 2) (λ e. rw e (omega (arith, eqb-true (w % 4) 2 e)))
-    (λ e. rw e (omega (arith, eqb-false (w % 4) 2 e, isIn-at 1 2 (w % 4) h)))
+    ap (λ (n : ℕ). pick (eqb (kindIn w) 2) 2 1 + 4 * n + 4096 * tagIn w) (linkOf-linked (linkIn w)) ∙
+    by-cases (eqb (kindIn w) 2) (λ e. rw e (omega (arith, eqb-true (kindIn w) 2 e)))
+    (λ e. rw e (omega (arith, eqb-false (kindIn w) 2 e, isIn-at 1 2 (kindIn w) h)))
 
 pub isRowWord-wordOf : (r : model.Row) → isRowWord (wordOf r) ≡ true
 isRowWord-wordOf r = go (r .isLeaf)
   where
     go : (z : Bool) → isRowWord (pick z 2 1 + 4 * linkOf (r .parent) + 4096 * r .tag) ≡ true
-    go true = isIn-by 1 2 ((2 + 4 * linkOf (r .parent) + 4096 * r .tag) % 4) (omega arith) (omega arith)
-    go false = isIn-by 1 2 ((1 + 4 * linkOf (r .parent) + 4096 * r .tag) % 4) (omega arith) (omega arith)
+    go true = isIn-by 1 2 (kindIn (2 + 4 * linkOf (r .parent) + 4096 * r .tag)) (omega arith) (omega arith)
+    go false = isIn-by 1 2 (kindIn (1 + 4 * linkOf (r .parent) + 4096 * r .tag)) (omega arith) (omega arith)
 
 -- a tag that fits is a byte
-pub tag-byte : (w : ℕ) → model.tagFits (rowOf w) ≡ true → w / 4096 < 256
+pub tag-byte : (w : ℕ) → model.tagFits (rowOf w) ≡ true → tagIn w < 256
 tag-byte w h =
     omega (
       arith,
-      by-cases (eqb (w % 4) 2) (λ e. leb-true (w / 4096) 255 (rw e at h)) (λ e. isIn-at 1 255 (w / 4096) (rw e at h) .1),
+      by-cases (eqb (kindIn w) 2) (λ e. leb-true (tagIn w) 255 (rw e at h)) (λ e. isIn-at 1 255 (tagIn w) (rw e at h) .1),
     )
 
 -- another link is another parent
 module _ (w l : ℕ) (small : l < 1024) where
-  kind-withLink : withLink w l % 4 ≡ w % 4
+  kind-withLink : kindIn (withLink w l) ≡ kindIn w
   kind-withLink = omega arith
 
   pub rowOf-withLink : rowOf (withLink w l) ≡ model.withParent (rowOf w) (linked l)
   rowOf-withLink =
-      let b : withLink w l / 4096 ≡ w / 4096 = omega arith in
-      let d : withLink w l / 4 ≡ l + 1024 * (w / 4096) = omega arith in
-      let e : (l + 1024 * (w / 4096)) % 1024 ≡ l = omega arith in
-      let c : withLink w l / 4 % 1024 ≡ l = ap (λ (j : ℕ). j % 1024) d ∙ e in
+      let b : tagIn (withLink w l) ≡ tagIn w = omega arith in
+      let d : withLink w l / 4 ≡ l + 1024 * tagIn w = omega arith in
+      let e : (l + 1024 * tagIn w) % 1024 ≡ l = omega arith in
+      let c : linkIn (withLink w l) ≡ l = ap (λ (j : ℕ). j % 1024) d ∙ e in
       λ i. record { isLeaf = eqb (kind-withLink i) 2; tag = b i; parent = linked (c i) }
 
   module _ (word : isRowWord w ≡ true) where

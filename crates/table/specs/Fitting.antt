@@ -2,13 +2,13 @@
 use mathlib.Core.Path.{_≡_}
 use mathlib.Core.Bool.{Bool, true, _&&_, _||_, not}
 use mathlib.Core.List.{List, [], _∷_, map}
-use Prim.Native.Nat.{ℕ, zero, suc, _-_, _/_, _%_}
+use Prim.Native.Nat.{ℕ, zero, suc, _-_}
 use lib.Dec.{ltb, leb, eqb}
 use lib.ListN.{length, getD}
 use Rattle.model.specs.Limits.{maxRows, documents}
 use Rattle.model.specs.Base.{pick, any}
 use Rattle.model.specs.Table.{isThe}
-use Rattle.table.specs.Words.{linked}
+use Rattle.table.specs.Words.{linked, kindIn, linkIn, tagIn, leafWord, elementWord}
 
 -- rows and marks as they stand in a table
 pub record Words (ws ms : List ℕ) : Type 0 where
@@ -17,13 +17,13 @@ pub record Words (ws ms : List ℕ) : Type 0 where
 
 -- the word at i holds a row whose tag fits, without parent or under a lower element
 abbrev pub tagFits : (word : ℕ) → Bool
-tagFits w = leb (w / 4096) 255 && pick (eqb (w % 4) 1) (ltb 0 (w / 4096)) (eqb (w % 4) 2)
+tagFits w = leb (tagIn w) 255 && pick (eqb (kindIn w) elementWord) (ltb 0 (tagIn w)) (eqb (kindIn w) leafWord)
 
 abbrev pub linkFits : (words : List ℕ) → (row link : ℕ) → Bool
-linkFits ws i l = eqb l 0 || (leb l i && not (eqb (getD ws (l - 1) 0 % 4) 2))
+linkFits ws i l = eqb l 0 || (leb l i && not (eqb (kindIn (getD ws (l - 1) 0)) leafWord))
 
 abbrev pub rowFits : (words : List ℕ) → (row : ℕ) → Bool
-rowFits ws i = tagFits (getD ws i 0) && linkFits ws i (getD ws i 0 / 4 % 1024)
+rowFits ws i = tagFits (getD ws i 0) && linkFits ws i (linkIn (getD ws i 0))
 
 unfoldable pub rowsFit : (words : List ℕ) → (row : ℕ) → ℕ → Bool
 rowsFit ws i zero = true
@@ -31,7 +31,7 @@ rowsFit ws i (suc n) = rowFits ws i && rowsFit ws (suc i) n
 
 -- none, or the link of a row below the count that is an element without parent
 abbrev pub markFits : (words : List ℕ) → (count link : ℕ) → Bool
-markFits ws n l = eqb l 0 || (leb l n && not (eqb (getD ws (l - 1) 0 % 4) 2) && eqb (getD ws (l - 1) 0 / 4 % 1024) 0)
+markFits ws n l = eqb l 0 || (leb l n && not (eqb (kindIn (getD ws (l - 1) 0)) leafWord) && eqb (linkIn (getD ws (l - 1) 0)) 0)
 
 -- every mark fits, and none stands again behind it
 abbrev pub isRepeated : (link : ℕ) → (marks : List ℕ) → Bool

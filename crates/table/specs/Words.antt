@@ -26,18 +26,27 @@ elementWord = 1
 abbrev pub leafWord : ℕ
 leafWord = 2
 
+abbrev pub kindIn : (word : ℕ) → ℕ
+kindIn w = w % 4
+
+abbrev pub linkIn : (word : ℕ) → ℕ
+linkIn w = w / 4 % 1024
+
+abbrev pub tagIn : (word : ℕ) → ℕ
+tagIn w = w / 4096
+
 abbrev pub wordOf : model.Row → ℕ
 wordOf r = pick (r .isLeaf) leafWord elementWord + 4 * linkOf (r .parent) + 4096 * r .tag
 
 abbrev pub rowOf : ℕ → model.Row
-rowOf w = record { isLeaf = eqb (w % 4) leafWord; tag = w / 4096; parent = linked (w / 4 % 1024) }
+rowOf w = record { isLeaf = eqb (kindIn w) leafWord; tag = tagIn w; parent = linked (linkIn w) }
 
 abbrev pub isRowWord : ℕ → Bool
-isRowWord w = isIn elementWord leafWord (w % 4)
+isRowWord w = isIn elementWord leafWord (kindIn w)
 
 -- the word with another link to the parent
 abbrev pub withLink : (word link : ℕ) → ℕ
-withLink w l = w % 4 + 4 * l + 4096 * (w / 4096)
+withLink w l = kindIn w + 4 * l + 4096 * tagIn w
 
 -- ENCODED: rows past the count are zero
 abbrev pub wordsOf : List model.Row → List ℕ

@@ -1,26 +1,26 @@
 // A row in a word: kind in 2 bits, the parent's number and one or 0 in 10, name or value above.
 ghost use mathlib.Core.Path.{_≡_};
 ghost use Prim.Native.Nat.{_+_, _*_, _/_, _%_, _<_};
-ghost use Rattle.table.specs.Words.{withLink};
+ghost use Rattle.table.specs.Words.{kindIn, linkIn, tagIn, withLink};
 
 pub const ELEMENT: u32 = 1;
 
 pub const LEAF: u32 = 2;
 
 pub fn kind(w: u32) -> u32
-    ensures { λ r. ⌜ r ≡ w % 4 ⌝ }
+    ensures { λ r. ⌜ r ≡ kindIn w ⌝ }
 {
     w % 4
 }
 
 pub fn link(w: u32) -> usize
-    ensures { λ r. ⌜ r ≡ w / 4 % 1024 ⌝ }
+    ensures { λ r. ⌜ r ≡ linkIn w ⌝ }
 {
     (w / 4 % 1024) as usize
 }
 
 pub fn tag(w: u32) -> u32
-    ensures { λ r. ⌜ r ≡ w / 4096 ⌝ }
+    ensures { λ r. ⌜ r ≡ tagIn w ⌝ }
 {
     w / 4096
 }

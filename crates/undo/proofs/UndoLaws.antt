@@ -3,7 +3,7 @@ use mathlib.Core.Path.{_≡_, refl, ap, sym, _∙_, subst}
 use mathlib.Core.Bool.{true, false, _&&_, _||_, not, or-true}
 use mathlib.Core.List.{List, [], _∷_, map}
 use mathlib.Core.Option.{some}
-use Prim.Native.Nat.{ℕ, zero, suc, _+_, _*_, _-_, _/_, _%_, _≤_, _<_}
+use Prim.Native.Nat.{ℕ, zero, suc, _+_, _*_, _-_, _≤_, _<_}
 use native.Mathlib.Numerals.{add-one}
 use native.Mathlib.Omega.{arith}
 use lib.Dec.{eqb}
@@ -18,7 +18,7 @@ use Rattle.model.specs.Undo.{historySize, recordIn, Placed, Formed, broken, for
 use Rattle.model.specs.Undo.{cutIn, madeIn, madeFits, oldParentFits, cutFits, Undo, refused, undoAll, backwards, undo}
 use Rattle.model.proofs.ListLaws.{drop-all, drop-first}
 use Rattle.model.proofs.BoolLaws.{by-cases, pick-true, eq-cases, pick-eq, pick-ne}
-use Rattle.table.specs.Words.{linked, decodeParts}
+use Rattle.table.specs.Words.{linked, decodeParts, kindIn, linkIn, tagIn}
 use Rattle.table.proofs.WordLaws.{count-decode, rowAt-decode}
 use Rattle.table.proofs.DecodeLaws.{element-kind}
 use Rattle.undo.specs.Undoing.{FormPost, undoing, Whole, PlacesPost, FitPre}
@@ -248,11 +248,11 @@ module _ {b m : List ℕ} {at n : ℕ} (c : Forming b m at n) where
               ap (λ (k : ℕ). undoFrom x (undoing b m n) (formFrom k at n (drop at b))) (sym fuel) ∙ c .rest x
 
 -- KINDS AND PARENTS say the same
-pub kind-leaf : (w k : ℕ) → w % 4 ≡ 2 → eqb k 66 ≡ sameBool (eqb (w % 4) 2) (eqb k 66)
+pub kind-leaf : (w k : ℕ) → kindIn w ≡ 2 → eqb k 66 ≡ sameBool (eqb (kindIn w) 2) (eqb k 66)
 kind-leaf w k e = rw e
 
-pub kind-element : (w k : ℕ) → (w % 4 ≡ 2 → ⊥) → not (eqb k 66) ≡ sameBool (eqb (w % 4) 2) (eqb k 66)
-kind-element w k e = rw (ne-eqb (w % 4) 2 e)
+pub kind-element : (w k : ℕ) → (kindIn w ≡ 2 → ⊥) → not (eqb k 66) ≡ sameBool (eqb (kindIn w) 2) (eqb k 66)
+kind-element w k e = rw (ne-eqb (kindIn w) 2 e)
 
 pub parent-none : (l v : ℕ) → v ≡ 65535 → eqb l 0 ≡ sameParent (linked l) (parentIn v)
 parent-none l v e = rw (eq-eqb v 65535 e) (by-cases (eqb l 0) (λ z. rw z) (λ z. rw z))
@@ -295,8 +295,8 @@ module _ {ws : List ℕ} {n : ℕ} {s : List ℕ} {size : ℕ} (pre : FitPre ws 
 
   module _ (last : row + 1 ≡ n) where
     made-tests : madeFits x (madeIn s) ≡
-        (not (any (model.isThe row) (map linked ms)) && sameBool (eqb (w % 4) 2) (eqb (getD s 0 0) 66) && eqb (w / 4096) (getD s 3 0) &&
-        sameParent (linked (w / 4 % 1024)) (parentIn (wordAt s 4)))
+        (not (any (model.isThe row) (map linked ms)) && sameBool (eqb (kindIn w) 2) (eqb (getD s 0 0) 66) && eqb (tagIn w) (getD s 3 0) &&
+        sameParent (linked (linkIn w)) (parentIn (wordAt s 4)))
     made-tests =
         let k : row < n = omega arith in
         made-row ∙ rw (eq-eqb (row + 1) (model.count x) (last ∙ sym counted), rowAt-decode n ws ms within row k)
@@ -305,15 +305,15 @@ module _ {ws : List ℕ} {n : ℕ} {s : List ℕ} {size : ℕ} (pre : FitPre ws 
     made-marked e = made-tests ∙ rw e
 
     module _ (free : any (model.isThe row) (map linked ms) ≡ false) where
-      pub made-kind : sameBool (eqb (w % 4) 2) (eqb (getD s 0 0) 66) ≡ false → madeFits x (madeIn s) ≡ false
+      pub made-kind : sameBool (eqb (kindIn w) 2) (eqb (getD s 0 0) 66) ≡ false → madeFits x (madeIn s) ≡ false
       made-kind e = made-tests ∙ rw (free, e)
 
-      module _ (same : sameBool (eqb (w % 4) 2) (eqb (getD s 0 0) 66) ≡ true) where
-        pub made-tag : (w / 4096 ≡ getD s 3 0 → ⊥) → madeFits x (madeIn s) ≡ false
-        made-tag e = made-tests ∙ rw (free, same, ne-eqb (w / 4096) (getD s 3 0) e)
+      module _ (same : sameBool (eqb (kindIn w) 2) (eqb (getD s 0 0) 66) ≡ true) where
+        pub made-tag : (tagIn w ≡ getD s 3 0 → ⊥) → madeFits x (madeIn s) ≡ false
+        made-tag e = made-tests ∙ rw (free, same, ne-eqb (tagIn w) (getD s 3 0) e)
 
-        pub made-parent : w / 4096 ≡ getD s 3 0 → madeFits x (madeIn s) ≡ sameParent (linked (w / 4 % 1024)) (parentIn (wordAt s 4))
-        made-parent e = made-tests ∙ rw (free, same, eq-eqb (w / 4096) (getD s 3 0) e)
+        pub made-parent : tagIn w ≡ getD s 3 0 → madeFits x (madeIn s) ≡ sameParent (linked (linkIn w)) (parentIn (wordAt s 4))
+        made-parent e = made-tests ∙ rw (free, same, eq-eqb (tagIn w) (getD s 3 0) e)
 
   -- A LINK CUT, by the tests
   cut-row : cutFits x (cutIn s) ≡ cutFits x (record { kind = 67; row = row; tag = 0; parent = parentIn (wordAt s 3) })
@@ -324,23 +324,23 @@ module _ {ws : List ℕ} {n : ℕ} {s : List ℕ} {size : ℕ} (pre : FitPre ws 
 
   module _ (low : row < n) where
     cut-tests : cutFits x (cutIn s) ≡
-        (not (model.hasParent (linked (w / 4 % 1024))) && not (any (model.isThe row) (map linked ms)) && oldParentFits x row (parentIn
+        (not (model.hasParent (linked (linkIn w))) && not (any (model.isThe row) (map linked ms)) && oldParentFits x row (parentIn
         (wordAt s 3)))
     cut-tests =
         let k : row < model.count x = omega (arith, counted) in
         cut-row ∙ rw (lt-ltb row (model.count x) k, rowAt-decode n ws ms within row low)
 
-    pub cut-child : (w / 4 % 1024 ≡ 0 → ⊥) → cutFits x (cutIn s) ≡ false
-    cut-child e = cut-tests ∙ rw (ne-eqb (w / 4 % 1024) 0 e)
+    pub cut-child : (linkIn w ≡ 0 → ⊥) → cutFits x (cutIn s) ≡ false
+    cut-child e = cut-tests ∙ rw (ne-eqb (linkIn w) 0 e)
 
-    module _ (root : w / 4 % 1024 ≡ 0) where
+    module _ (root : linkIn w ≡ 0) where
       pub cut-marked : any (model.isThe row) (map linked ms) ≡ true → cutFits x (cutIn s) ≡ false
-      cut-marked e = cut-tests ∙ rw (eq-eqb (w / 4 % 1024) 0 root, e)
+      cut-marked e = cut-tests ∙ rw (eq-eqb (linkIn w) 0 root, e)
 
       module _ (free : any (model.isThe row) (map linked ms) ≡ false) {v : ℕ} (there : v ≡ wordAt s 3) where
         cut-parent : cutFits x (cutIn s) ≡ oldParentFits x row (parentIn v)
         cut-parent =
-            cut-tests ∙ rw (eq-eqb (w / 4 % 1024) 0 root, free) (ap (λ (j : ℕ). oldParentFits x row (parentIn j)) (sym there))
+            cut-tests ∙ rw (eq-eqb (linkIn w) 0 root, free) (ap (λ (j : ℕ). oldParentFits x row (parentIn j)) (sym there))
 
         pub cut-none : v ≡ 65535 → cutFits x (cutIn s) ≡ false
         cut-none e = cut-parent ∙ rw (eq-eqb v 65535 e)
@@ -349,6 +349,6 @@ module _ {ws : List ℕ} {n : ℕ} {s : List ℕ} {size : ℕ} (pre : FitPre ws 
           pub cut-order : row ≤ v → cutFits x (cutIn s) ≡ false
           cut-order h = cut-parent ∙ rw (ne-eqb v 65535 some-parent, le-ltb v row h)
 
-          pub cut-element : v < row → cutFits x (cutIn s) ≡ not (eqb (getD ws v 0 % 4) 2)
+          pub cut-element : v < row → cutFits x (cutIn s) ≡ not (eqb (kindIn (getD ws v 0)) 2)
           cut-element h =
               cut-parent ∙ rw (ne-eqb v 65535 some-parent, lt-ltb v row h) (element-kind n ws ms within v (omega arith))

@@ -1,13 +1,13 @@
 // Undo: a history's form front to back, then its records back to front.
 ghost use mathlib.Core.Path.{_≡_};
-ghost use Prim.Native.Nat.{_+_, _%_, _<_, _≤_};
+ghost use Prim.Native.Nat.{_+_, _<_, _≤_};
 ghost use lib.Dec.{eqb};
 ghost use lib.ListN.{length};
 ghost use Rattle.model.specs.History.{madeLeafKind};
 ghost use Rattle.model.specs.Limits.{maxHistory};
 ghost use Rattle.model.specs.Stored.{parentIn};
 ghost use Rattle.model.specs.Undo.{historySize, sameBool, sameParent, madeFits, cutFits, cutIn, madeIn};
-ghost use Rattle.table.specs.Words.{leafWord, linked, decodeParts};
+ghost use Rattle.table.specs.Words.{kindIn, leafWord, linked, decodeParts};
 ghost use Rattle.undo.specs.Undoing.{FormPost, PlacesPost, FitPre, BackPre, BackPost, AllPre, AllPost};
 use table::Fault;
 use table::Table;
@@ -97,7 +97,7 @@ pub fn form(bytes: &[u8], places: &mut [u16]) -> FormEnd
 
 // A row's word and the kind of a record of a row made say the same.
 fn same_kind(w: u32, kind: u8) -> bool
-    ensures { λ r. ⌜ r ≡ sameBool (eqb (w % 4) leafWord) (eqb kind madeLeafKind) ⌝ }
+    ensures { λ r. ⌜ r ≡ sameBool (eqb (kindIn w) leafWord) (eqb kind madeLeafKind) ⌝ }
 {
     if words::kind(w) == words::LEAF {
         return kind == history::LEAF;

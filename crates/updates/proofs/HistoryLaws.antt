@@ -2,7 +2,7 @@
 use mathlib.Core.Path.{_≡_, refl, ap, sym, _∙_}
 use mathlib.Core.Bool.{true, false}
 use mathlib.Core.List.{List, [], _∷_, _++_, append-nil, append-assoc}
-use Prim.Native.Nat.{ℕ, zero, suc, _+_, _-_, _/_, _%_, _≤_, _<_}
+use Prim.Native.Nat.{ℕ, zero, suc, _+_, _-_, _≤_, _<_}
 use native.Mathlib.Omega.{arith}
 use lib.ListN.{length, take, drop, set, length-append}
 use lib.Seq.{drop-at, take-at, drop-drop, sets-eq, length-take-le}
@@ -17,7 +17,7 @@ use Rattle.model.proofs.FormLaws.{length-recordBytes, recordIn-back}
 use Rattle.model.proofs.All.{all-snoc}
 use Rattle.model.proofs.HistoryLaws.{times-snoc}
 use Rattle.model.proofs.RanLaws.{isCut-made}
-use Rattle.table.specs.Words.{linked, rowOf}
+use Rattle.table.specs.Words.{linked, rowOf, linkIn, tagIn}
 use Rattle.updates.specs.State.{recordsFrom, recordsIn, Recorded}
 use Rattle.updates.specs.Updating.{madeKind, sixBytes}
 
@@ -45,12 +45,12 @@ made-bytes : (r : model.Row) (i : ℕ) →
     recordBytes (made r i) ≡ (pick (r .isLeaf) 66 65 ∷ wordBytes i) ++ (r .tag ∷ parentBytes (r .parent))
 made-bytes r i = rw (isCut-made r i)
 
-pub made-six : (w i k t p : ℕ) → k ≡ madeKind w → t ≡ w / 4096 → wordBytes p ≡ parentBytes (linked (w / 4 % 1024)) →
+pub made-six : (w i k t p : ℕ) → k ≡ madeKind w → t ≡ tagIn w → wordBytes p ≡ parentBytes (linked (linkIn w)) →
     sixBytes k i t p ≡ recordBytes (made (rowOf w) i)
 made-six w i k t p e f g =
     ap (λ (l : List ℕ). (k ∷ wordBytes i) ++ (t ∷ l)) g ∙
-    ap (λ (j : ℕ). (j ∷ wordBytes i) ++ (t ∷ parentBytes (linked (w / 4 % 1024)))) e ∙
-    ap (λ (j : ℕ). (madeKind w ∷ wordBytes i) ++ (j ∷ parentBytes (linked (w / 4 % 1024)))) f ∙ sym (made-bytes (rowOf w) i)
+    ap (λ (j : ℕ). (j ∷ wordBytes i) ++ (t ∷ parentBytes (linked (linkIn w)))) e ∙
+    ap (λ (j : ℕ). (madeKind w ∷ wordBytes i) ++ (j ∷ parentBytes (linked (linkIn w)))) f ∙ sym (made-bytes (rowOf w) i)
 
 -- RECORDS written and read back
 recordsFrom-step : (k : ℕ) (r : Record) (c : List ℕ) → IsInRange r → recordsFrom (suc k) (recordBytes r ++ c) ≡ r ∷ recordsFrom k c

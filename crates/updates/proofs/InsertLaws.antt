@@ -4,7 +4,7 @@ use mathlib.Core.Bool.{true, false}
 use mathlib.Core.Logic.{_⊎_, inl, inr, ⊎-elim}
 use mathlib.Core.List.{List, [], _∷_, map}
 use mathlib.Core.Option.{some}
-use Prim.Native.Nat.{ℕ, _+_, _-_, _/_, _%_, _≤_, _<_}
+use Prim.Native.Nat.{ℕ, _+_, _-_, _≤_, _<_}
 use native.Mathlib.Omega.{arith}
 use native.Mathlib.Numerals.{add-one}
 use lib.Dec.{ltb, eqb}
@@ -17,7 +17,7 @@ use Rattle.model.specs.Run.{State, Out, stop, gives, newRow, withMade, thenRow}
 use Rattle.model.proofs.BoolLaws.{by-cases, and-both, eq-cases, pick-eq, pick-ne}
 use Rattle.model.proofs.TableLaws.{isElement-by}
 use Rattle.model.proofs.GrowLaws.{count-withRow, rowAt-withRow-old, rowAt-withRow-new}
-use Rattle.table.specs.Words.{linked, rowOf, rowsOf, isRowWord, withLink, decodeParts}
+use Rattle.table.specs.Words.{linked, rowOf, rowsOf, isRowWord, withLink, decodeParts, linkIn}
 use Rattle.table.proofs.WordLaws.{count-decode, rowAt-decode, rows-take, row-word, rowOf-withLink, isRowWord-withLink}
 use Rattle.table.proofs.DecodeLaws.{parent-at, link-low}
 use Rattle.updates.specs.State.{stateOf, outcome, Held, Updated}
@@ -101,7 +101,7 @@ module _ {ws h m : List ℕ} {p : Progress} {t j : ℕ} (pre : NextPre ws h m p 
   w = getD ws j 0
 
   abbrev l : ℕ
-  l = w / 4 % 1024
+  l = linkIn w
 
   abbrev link : ℕ
   link = nextLink ws m t j

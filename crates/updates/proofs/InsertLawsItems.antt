@@ -3,7 +3,7 @@ use mathlib.Core.Path.{_≡_, refl, ap, sym, _∙_, subst}
 use mathlib.Core.Bool.{Bool, true, false, _&&_, not}
 use mathlib.Core.List.{List, [], _∷_, map}
 use mathlib.Core.Option.{some}
-use Prim.Native.Nat.{ℕ, _+_, _-_, _%_, _≤_, _<_}
+use Prim.Native.Nat.{ℕ, _+_, _-_, _≤_, _<_}
 use native.Mathlib.Numerals.{add-one}
 use native.Mathlib.Omega.{arith}
 use lib.Dec.{ltb, eqb}
@@ -15,7 +15,7 @@ use Rattle.model.specs.Run.{State, Out, newRow, withMade, thenRow, Copied, copy
 use Rattle.model.specs.Run.{descendantsFrom, subtree, copyAll, inserted}
 use Rattle.model.proofs.BoolLaws.{and-both, pick-true}
 use Rattle.model.proofs.TableLaws.{isElement-at, isElement-by}
-use Rattle.table.specs.Words.{linked, rowOf, rowsOf, isRowWord, withLink, decodeParts}
+use Rattle.table.specs.Words.{linked, rowOf, rowsOf, isRowWord, withLink, decodeParts, kindIn}
 use Rattle.table.proofs.WordLaws.{linked-linkOf, count-decode, rowAt-decode, row-word, rowOf-withLink, isRowWord-withLink}
 use Rattle.table.proofs.DecodeLaws.{element-kind}
 use Rattle.updates.specs.State.{stateOf, outcome, After, Updated, stopped}
@@ -280,25 +280,25 @@ module _ {ws h : List ℕ} {p : Progress} {v w : List ℕ} (pre : InsertPre ws h
     pub insert-low : g < p .count
     insert-low = subst (λ (j : ℕ). j < p .count) (sym e) (pre .targets 0 (omega arith))
 
-    kind : (ms : List ℕ) → model.isElement (decodeParts (p .count) ws ms) (getD w 0 0) ≡ not (eqb (getD ws g 0 % 4) 2)
+    kind : (ms : List ℕ) → model.isElement (decodeParts (p .count) ws ms) (getD w 0 0) ≡ not (eqb (kindIn (getD ws g 0)) 2)
     kind ms =
         ap (model.isElement (decodeParts (p .count) ws ms)) (sym e) ∙
         element-kind (p .count) ws ms (omega (arith, pre .held .few, pre .held .rows)) g insert-low
 
-    pub insert-leaf : getD ws g 0 % 4 ≡ 2 → {ws′ h′ : List ℕ} {r : Progress} → r ≡ stopped p 7 →
+    pub insert-leaf : kindIn (getD ws g 0) ≡ 2 → {ws′ h′ : List ℕ} {r : Progress} → r ≡ stopped p 7 →
         Updated (λ z s. inserted z v w s) [] ws h p ws′ h′ r
     insert-leaf l {ws′} {h′} {r} f =
         updated-stopped 6 f
         (λ z ms. let b : model.isElement (decodeParts (p .count) ws ms) (getD w 0 0) ≡ false = kind ms ∙ rw l in rw (one, b))
 
-    module _ (l : getD ws g 0 % 4 ≡ 2 → ⊥) where
+    module _ (l : kindIn (getD ws g 0) ≡ 2 → ⊥) where
       pub insert-items : {m : List ℕ} → length m ≡ 512 → ItemsPre ws h m p v g
       insert-items q =
           record {
             held = pre .held;
             size = q;
             items = pre .items;
-            target = ap (model.isElement (decodeParts (p .count) ws [])) e ∙ kind [] ∙ rw (ne-eqb (getD ws g 0 % 4) 2 l);
+            target = ap (model.isElement (decodeParts (p .count) ws [])) e ∙ kind [] ∙ rw (ne-eqb (kindIn (getD ws g 0)) 2 l);
           }
 
       pub insert-done : {ws′ h′ : List ℕ} {r : Progress} → ItemsPost ws h p v g ws′ h′ r → Updated (λ z s. inserted z v w s) [] ws h p ws′
@@ -306,7 +306,7 @@ module _ {ws h : List ℕ} {p : Progress} {v w : List ℕ} (pre : InsertPre ws h
       insert-done u =
           record {
             same = λ z ms.
-                let b : model.isElement (decodeParts (p .count) ws ms) (getD w 0 0) ≡ true = kind ms ∙ rw (ne-eqb (getD ws g 0 % 4) 2 l) in
+                let b : model.isElement (decodeParts (p .count) ws ms) (getD w 0 0) ≡ true = kind ms ∙ rw (ne-eqb (kindIn (getD ws g 0)) 2 l) in
                 u .same z ms ∙ ap (λ (j : ℕ). copyAll z (decodeParts (p .count) ws ms) v j (stateOf ws ms h p)) e ∙
                 sym (pick-true (eqb (length w) 1 && model.isElement (decodeParts (p .count) ws ms) (getD w 0 0)) _ _
                 (and-both (eqb (length w) 1) _ (eq-eqb (length w) 1 one) b));

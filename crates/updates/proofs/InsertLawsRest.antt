@@ -2,9 +2,9 @@
 use mathlib.Core.Path.{_≡_, refl, ap, sym, _∙_, subst}
 use mathlib.Core.Bool.{_||_, not}
 use mathlib.Core.Logic.{inr}
-use mathlib.Core.List.{List, [], map}
+use mathlib.Core.List.{List, []}
 use mathlib.Core.Option.{some}
-use Prim.Native.Nat.{ℕ, _+_, _-_, _/_, _%_, _≤_, _<_}
+use Prim.Native.Nat.{ℕ, _+_, _-_, _≤_, _<_}
 use native.Mathlib.Omega.{arith}
 use lib.Dec.{eqb}
 use lib.ListN.{length, getD, length-set}
@@ -13,7 +13,7 @@ use Rattle.model.specs.Table as model
 use Rattle.model.specs.Step.{isBelow, collect}
 use Rattle.model.specs.Run.{State, Out, thenRow, copyEach, descendantsFrom}
 use Rattle.model.proofs.TableLaws.{parent-count}
-use Rattle.table.specs.Words.{linked, rowOf, rowsOf, decodeParts}
+use Rattle.table.specs.Words.{linked, rowOf, rowsOf, decodeParts, linkIn}
 use Rattle.table.proofs.WordLaws.{count-decode, rowAt-decode}
 use Rattle.updates.specs.State.{stateOf, outcome, Held, After}
 use Rattle.updates.specs.Inserting.{before, copiedIn, nextLink, copyBy, IsCopy, Mapped, NextPre, NextPost, RestPre, RestPost}
@@ -106,7 +106,7 @@ module _ {old t : ℕ} {ws₀ h₀ m₀ : List ℕ} {p₀ : Progress} (pre : Res
           let a : old ≤ length ws = omega (arith, pre .room, c .after .rows, c .after .held .few, c .after .held .rows) in
           ap (λ (rs : List model.Row). getD rs j model.noRow) (sym (c .same)) ∙ rowAt-decode old ws [] a j more
 
-      parent-x : (ms : List ℕ) → model.rowAt (decodeParts old ws₀ ms) j .parent ≡ linked (getD ws j 0 / 4 % 1024)
+      parent-x : (ms : List ℕ) → model.rowAt (decodeParts old ws₀ ms) j .parent ≡ linked (linkIn (getD ws j 0))
       parent-x ms = ap (λ (r : model.Row). r .parent) (row-x ms)
 
       sized : j < length m
@@ -129,7 +129,7 @@ module _ {old t : ℕ} {ws₀ h₀ m₀ : List ℕ} {p₀ : Progress} (pre : Res
             let x = decodeParts old ws₀ ms in
             ap (λ (o : Out). thenRow o (next g z ms))
             (post .updated .same z ms ∙ ap (λ (q : model.Row). copyBy z q (nextLink ws m t j) (stateOf ws ms h p)) (sym (row-x ms))) ∙
-            sym (copy-turn x (lower-before (pre .held) old (pre .room) ms) t j (c .low) m (getD ws j 0 / 4 % 1024) (parent-x ms) (c .known
+            sym (copy-turn x (lower-before (pre .held) old (pre .room) ms) t j (c .low) m (linkIn (getD ws j 0)) (parent-x ms) (c .known
             ms)
             (p .count) small sized m′ (post .map) z g old (stateOf ws ms h p) (held-count (c .after .held) ms) more) ∙
             c .rest g z ms
@@ -162,7 +162,7 @@ module _ {old t : ℕ} {ws₀ h₀ m₀ : List ℕ} {p₀ : Progress} (pre : Res
               mapped = next-mapped copying-next post n;
               known = λ ms k e f.
                   ap (λ (v : List ℕ). eqb (getD v k 0) 65535) (post .map) ∙
-                  known-next (decodeParts old ws₀ ms) (lower-before (pre .held) old (pre .room) ms) t j (c .low) m (getD ws j 0 / 4 % 1024)
+                  known-next (decodeParts old ws₀ ms) (lower-before (pre .held) old (pre .room) ms) t j (c .low) m (linkIn (getD ws j 0))
                   (parent-x ms) (c .known ms) (p .count) small sized k e f;
               rest = λ g z ms. then-goes (next g z ms) z [] ws′ ms h′ r n (turn g z ms);
             }

@@ -3,7 +3,7 @@ use mathlib.Core.Path.{_≡_, refl, ap, sym, _∙_, subst}
 use mathlib.Core.Bool.{Bool, true}
 use mathlib.Core.List.{List, [], _∷_, _++_, map}
 use mathlib.Core.Option.{Option, none, some, Option·none-ne-some}
-use Prim.Native.Nat.{ℕ, _+_, _-_, _/_, _%_, _≤_, _<_}
+use Prim.Native.Nat.{ℕ, _+_, _-_, _≤_, _<_}
 use native.Mathlib.Omega.{arith}
 use lib.Dec.{ltb}
 use native.Mathlib.Numerals.{add-one}
@@ -21,7 +21,7 @@ use Rattle.model.proofs.GrowLaws.{tree-withRow, tree-linked}
 use Rattle.model.proofs.FormLaws.{length-recordBytes}
 use Rattle.model.proofs.RanLaws.{isCut-made}
 use Rattle.model.proofs.UndoLaws.{made-inRange}
-use Rattle.table.specs.Words.{linkOf, linked, rowOf, wordOf, rowsOf, wordsOf, isRowWord, withLink, decodeParts}
+use Rattle.table.specs.Words.{linkOf, linked, rowOf, wordOf, rowsOf, wordsOf, isRowWord, withLink, decodeParts, kindIn, linkIn}
 use Rattle.table.proofs.WordLaws.{linkOf-linked, rowOf-wordOf, wordOf-rowOf, isRowWord-wordOf, rowAt-decode, canonical-push}
 use Rattle.table.proofs.WordLaws.{rowOf-withLink, isRowWord-withLink, row-word, rowsOf-set, canonical-set}
 use Rattle.table.proofs.DecodeLaws.{decode-row, parent-linked, parent-at}
@@ -47,7 +47,7 @@ module _ (z : ℕ) (r : model.Row) (s : State) where
 -- A ROW MADE
 module _ {ws h : List ℕ} {p : Progress} {w : ℕ} (pre : NewPre ws h p w) where
   new-link : linkOf (rowOf w .parent) < 1024
-  new-link = omega (arith, linkOf-linked (w / 4 % 1024))
+  new-link = omega (arith, linkOf-linked (linkIn w))
 
   pub new-full : 512 ≤ p .count → {ws′ h′ : List ℕ} {r : Progress} → r ≡ stopped p 10 →
       Updated (λ z s. newRow z (rowOf w) s) (p .count ∷ []) ws h p ws′ h′ r
@@ -188,7 +188,7 @@ module _ {ws h : List ℕ} {p : Progress} {i : ℕ} (pre : CutPre ws h p i) wher
   word = getD ws i 0
 
   abbrev link : ℕ
-  link = word / 4 % 1024
+  link = linkIn word
 
   cut-within : p .count ≤ length ws
   cut-within = omega (arith, pre .held .few, pre .held .rows)

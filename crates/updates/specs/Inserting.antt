@@ -3,7 +3,7 @@ use mathlib.Core.Path.{_≡_}
 use mathlib.Core.Bool.{true}
 use mathlib.Core.Logic.{_⊎_}
 use mathlib.Core.List.{List, [], _∷_}
-use Prim.Native.Nat.{ℕ, zero, suc, _+_, _-_, _/_, _%_, _≤_, _<_}
+use Prim.Native.Nat.{ℕ, zero, suc, _+_, _-_, _≤_, _<_}
 use lib.Dec.{ltb, eqb}
 use lib.ListN.{length, getD, take, set}
 use Rattle.model.specs.Base.{pick}
@@ -11,7 +11,7 @@ use Rattle.model.specs.Limits.{maxRows}
 use Rattle.model.specs.Table as model
 use Rattle.model.specs.Run.{State, Out, gives, newRow, thenRow, Copied, copyEach, descendantsFrom, subtree, copyAll, inserted}
 use Rattle.table.specs.Flags.{Within}
-use Rattle.table.specs.Words.{linked, rowOf, rowsOf, decodeParts}
+use Rattle.table.specs.Words.{linked, rowOf, rowsOf, decodeParts, linkIn}
 use Rattle.updates.specs.State.{Held, Updated}
 use Rattle.updates.specs.declared.state.Progress.{Progress}
 
@@ -39,7 +39,7 @@ Mapped ws m n t j = (k : ℕ) → t ≤ k → k < j → (getD m k 0 ≡ 65535) �
 
 -- ONE ROW of the scan, with the link to its parent's copy
 abbrev pub nextLink : (rows map : List ℕ) → (top row : ℕ) → ℕ
-nextLink ws m t j = copyLink m t (getD ws j 0 / 4 % 1024)
+nextLink ws m t j = copyLink m t (linkIn (getD ws j 0))
 
 abbrev pub copyBy : (place : ℕ) → model.Row → (link : ℕ) → State → Out
 copyBy z r l s = pick (eqb l 0) (gives [] s) (thenRow (newRow z (model.withParent r (linked l)) s) (λ (u : State). gives [] u))

@@ -9,13 +9,13 @@ use Rattle.model.specs.Table.{tagFits, parentFits}
 use Rattle.model.specs.Run.{newRow, loose, cutAll}
 use Rattle.model.specs.History.{madeElementKind, madeLeafKind}
 use Rattle.table.specs.Flags.{Within}
-use Rattle.table.specs.Words.{isRowWord, rowOf, decodeParts}
+use Rattle.table.specs.Words.{isRowWord, rowOf, decodeParts, kindIn, leafWord}
 use Rattle.updates.specs.State.{Held, Updated}
 use Rattle.updates.specs.declared.state.Progress.{Progress}
 
 -- RECORDS as bytes
 abbrev pub madeKind : (word : ℕ) → ℕ
-madeKind w = pick (eqb (w % 4) 2) madeLeafKind madeElementKind
+madeKind w = pick (eqb (kindIn w) leafWord) madeLeafKind madeElementKind
 
 abbrev pub sixBytes : (kind row tag parent : ℕ) → List ℕ
 sixBytes k i t p = k ∷ i % 256 ∷ i / 256 ∷ t ∷ p % 256 ∷ p / 256 ∷ []

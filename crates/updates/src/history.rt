@@ -5,7 +5,7 @@ ghost use lib.ListN.{length};
 ghost use Rattle.model.specs.Limits.{maxRows};
 ghost use Rattle.model.specs.History.{recordBytes};
 ghost use Rattle.model.specs.Run.{made, cutRecord};
-ghost use Rattle.table.specs.Words.{rowOf};
+ghost use Rattle.table.specs.Words.{tagIn, rowOf};
 ghost use Rattle.model.specs.Base.{over};
 ghost use Rattle.updates.specs.Updating.{madeKind, sixBytes};
 use table::number;
@@ -51,7 +51,7 @@ fn put_six(history: &mut [u8], at: usize, kind: u8, row: usize, tag: u8, parent:
 pub fn put_made(history: &mut [u8], at: usize, row: usize, w: u32)
     requires { ⌜ at + 6 ≤ length (now history) ⌝ }
     requires { ⌜ row < maxRows ⌝ }
-    requires { ⌜ w / 4096 < 256 ⌝ }
+    requires { ⌜ tagIn w < 256 ⌝ }
     ensures { λ r. ⌜ now (history .exit) ≡ over at (recordBytes (made (rowOf w) row)) (now (history .entry)) ⌝ }
 {
     let number = number::parent(words::link(w));

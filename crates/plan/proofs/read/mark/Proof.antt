@@ -1,7 +1,7 @@
 -- `read::mark` refuses the mark at the front or sets it in the table, by one law of ReadRecordLaws for each way out.
 use Rattle.plan.specs.Reading.{lastOf}
 use Rattle.plan.proofs.ReadRecordLaws.{refused, mark-field, mark-order, mark-high, mark-leaf, mark-child, mark-by}
-use Rattle.table.specs.Words.{linked, decodeParts}
+use Rattle.table.specs.Words.{linked, decodeParts, kindIn, linkIn}
 use Rattle.model.specs.Refusal.{fault, fine}
 use Rattle.model.specs.Stored.{wordAt, markFault}
 use Rattle.model.specs.Table.{isThe}
@@ -10,7 +10,7 @@ use lib.ListN.{getD, set}
 use mathlib.Core.List.{map}
 use mathlib.Core.Bool.{Bool, true, false}
 use mathlib.Core.Path.{_≡_, refl, _∙_, sym, ap}
-use Prim.Native.Nat.{ℕ, _≤_, _<_, _+_, _-_, _/_, _%_}
+use Prim.Native.Nat.{ℕ, _≤_, _<_, _+_, _-_}
 use native.Mathlib.Omega.{arith}
 use borrow.Author.Needs.{needs}
 use Rattle.plan.proofs.read.mark.Statement.{statement}
@@ -34,21 +34,20 @@ there : (c : tie.Else3) → wordAt (c .before .before .before .before .before .b
     .before .before .before .before .before .before .before .before .args .count
 there c = omega (arith, c .before .number-at .ensures .0, c .if3 .left)
 
-row-kind : (c : tie.After-kind) → getD (c .before .before .before .before .before .before .before .before .before .before .before .args
-    .rows .now) (wordAt (c .before .before .before .before .before .before .before .before .before .before .before .args .s .now) 2) 0 %
-    4 ≡ c .kind .result
+row-kind : (c : tie.After-kind) → kindIn (getD (c .before .before .before .before .before .before .before .before .before .before .before .args
+    .rows .now) (wordAt (c .before .before .before .before .before .before .before .before .before .before .before .args .s .now) 2) 0) ≡ c .kind .result
 row-kind c =
     let c3 = c .before .before .before in
     let c11 = c3 .before .before .before .before .before .before .before .before in
-    sym (c .kind .ensures ∙ ap (λ (j : ℕ). getD (c11 .args .rows .now) j 0 % 4) (c3 .number-at .ensures .0))
+    sym (c .kind .ensures ∙ ap (λ (j : ℕ). kindIn (getD (c11 .args .rows .now) j 0)) (c3 .number-at .ensures .0))
 
-row-link : (c : tie.After-link) → c .link .result ≡ getD (c .before .before .before .before .before .before .before .before .before
+row-link : (c : tie.After-link) → c .link .result ≡ linkIn (getD (c .before .before .before .before .before .before .before .before .before
     .before .before .before .before .args .rows .now) (wordAt (c .before .before .before .before .before .before .before .before .before
-    .before .before .before .before .args .s .now) 2) 0 / 4 % 1024
+    .before .before .before .before .args .s .now) 2) 0)
 row-link c =
     let c5 = c .before .before .before .before .before in
     let c13 = c5 .before .before .before .before .before .before .before .before in
-    c .link .ensures ∙ ap (λ (j : ℕ). getD (c13 .args .rows .now) j 0 / 4 % 1024) (c5 .number-at .ensures .0)
+    c .link .ensures ∙ ap (λ (j : ℕ). linkIn (getD (c13 .args .rows .now) j 0)) (c5 .number-at .ensures .0)
 
 link-zero : (c : tie.Else5) → c .before .link .result ≡ 0
 link-zero c = search (c .if5 .left, needs)

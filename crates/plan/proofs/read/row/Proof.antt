@@ -2,10 +2,10 @@
 use Rattle.plan.proofs.ReadRecordLaws.{refused}
 use mathlib.Core.List.{List}
 use Rattle.plan.specs.Reading.{lastOf}
-use Rattle.table.specs.Words.{wordOf}
+use Rattle.table.specs.Words.{wordOf, kindIn}
 use Rattle.model.specs.Stored.{rowIn, wordAt}
 use Rattle.plan.proofs.ReadRecordLaws.{row-word-none, row-word-some}
-use Prim.Native.Nat.{ℕ, _≤_, _+_, _*_, _-_, _%_}
+use Prim.Native.Nat.{ℕ, _≤_, _+_, _*_, _-_}
 use Rattle.plan.proofs.ReadRecordLaws.{row-field, row-order, row-none, row-high, row-leaf, row-child}
 use lib.ListN.{getD, set}
 use mathlib.Core.Logic.{⊎-elim}
@@ -132,13 +132,13 @@ slice-read-kind c = search needs
 kind-requires : tie.Need-kind-requires
 kind-requires c κs = search needs
 
-parent-kind : (c : tie.After-kind) → getD (c .before .before .before .before .before .before .before .before .before .before .before
+parent-kind : (c : tie.After-kind) → kindIn (getD (c .before .before .before .before .before .before .before .before .before .before .before
     .args .rows .now) (wordAt (c .before .before .before .before .before .before .before .before .before .before .before .args .s .now)
-    2) 0 % 4 ≡ c .kind .result
+    2) 0) ≡ c .kind .result
 parent-kind c =
     let c4 = c .before .before .before .before in
     let c11 = c4 .before .before .before .before .before .before .before in
-    sym (c .kind .ensures ∙ ap (λ (j : ℕ). getD (c11 .args .rows .now) j 0 % 4) (c4 .number-at .ensures .0))
+    sym (c .kind .ensures ∙ ap (λ (j : ℕ). kindIn (getD (c11 .args .rows .now) j 0)) (c4 .number-at .ensures .0))
 
 returns-5 : tie.Need-returns-5
 returns-5 c =

@@ -1,18 +1,18 @@
 -- `pick::is_picked` keeps a leaf whose value stands in the relation.
 use Rattle.model.specs.Step.{relates}
 use borrow.Author.Tests.{ne-eqb}
-use Prim.Native.Nat.{_%_}
 use mathlib.Core.Path.{_≡_, _∙_, sym, ap}
 use borrow.Author.Needs.{needs}
 use native.Mathlib.Omega.{arith}
 use Rattle.query.proofs.pick.is_picked.Statement.{statement}
 use Rattle.query.proofs.pick.is_picked.Tie as tie
+use Rattle.table.specs.Words.{kindIn}
 
 kind-requires : tie.Need-kind-requires
 kind-requires c κs = search needs
 
 returns : tie.Need-returns
-returns c = rw (ne-eqb (c .before .before .args .w % 4) 2 (λ q. c .if1 .taken (c .before .kind .ensures ∙ q)))
+returns c = rw (ne-eqb (kindIn (c .before .before .args .w)) 2 (λ q. c .if1 .taken (c .before .kind .ensures ∙ q)))
 
 tag-requires : tie.Need-tag-requires
 tag-requires c κs = search needs
@@ -25,7 +25,7 @@ returns-2 c =
     let c3 = c .before .before .before in
     let c4 = c3 .before in
     let a = c4 .args in
-    let h : a .w % 4 ≡ 2 = sym (c3 .kind .ensures) ∙ search (c .before .before .if1 .left, needs) in
+    let h : kindIn (a .w) ≡ 2 = sym (c3 .kind .ensures) ∙ search (c .before .before .if1 .left, needs) in
     rw h (c .is-related .ensures ∙ ap (relates (a .relation) (a .constant)) (c .before .tag .ensures))
 
 pub is-picked-spec : {M : Type 1} → statement M

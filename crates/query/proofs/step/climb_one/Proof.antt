@@ -3,11 +3,12 @@ use Rattle.query.specs.Stepping.{counted}
 use Rattle.model.proofs.BoolLaws.{pick-true, pick-false}
 use borrow.Author.Tests.{not-true, not-false}
 use lib.ListN.{getD, set}
-use Prim.Native.Nat.{ℕ, _+_, _/_, _%_}
+use Prim.Native.Nat.{ℕ, _+_}
 use mathlib.Core.Path.{_∙_, sym, ap}
 use borrow.Author.Needs.{needs}
 use Rattle.query.proofs.step.climb_one.Statement.{statement}
 use Rattle.query.proofs.step.climb_one.Tie as tie
+use Rattle.table.specs.Words.{linkIn}
 
 add-counts : tie.Need-add-counts
 add-counts c = search needs
@@ -29,7 +30,7 @@ returns c =
     let c6 = c .before .before .before .before .before .before in
     sym
     (pick-false (counted (getD (c6 .args .flags .now) (c6 .args .j + 1) 0) (getD (c6 .args .reached .now) (c6 .args .j + 1) 0) (c6 .args
-    .deep)) (set (c6 .args .reached .now) (c6 .args .w / 4 % 1024) 1) (c6 .args .reached .now) (sym (c .before .counts .ensures) ∙
+    .deep)) (set (c6 .args .reached .now) (linkIn (c6 .args .w)) 1) (c6 .args .reached .now) (sym (c .before .counts .ensures) ∙
     not-true (c .before .counts .result) (c .if1 .taken)))
 
 link-requires : tie.Need-link-requires
@@ -46,7 +47,7 @@ returns-2 c =
     let c7 = c .before .before .before .before .before .before .before in
     ap (λ (l : ℕ). set (c7 .args .reached .now) l 1) (c .link .ensures)
     ∙ sym (pick-true (counted (getD (c7 .args .flags .now) (c7 .args .j + 1) 0) (getD (c7 .args
-    .reached .now) (c7 .args .j + 1) 0) (c7 .args .deep)) (set (c7 .args .reached .now) (c7 .args .w / 4 % 1024) 1) (c7 .args
+    .reached .now) (c7 .args .j + 1) 0) (c7 .args .deep)) (set (c7 .args .reached .now) (linkIn (c7 .args .w)) 1) (c7 .args
     .reached .now) (sym (c .before .before .counts .ensures) ∙ not-false (c .before .before .counts .result) (c .before .if1 .left)))
 
 pub climb-one-spec : {M : Type 1} → statement M

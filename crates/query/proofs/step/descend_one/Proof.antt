@@ -3,11 +3,12 @@ use Rattle.query.specs.Stepping.{counted}
 use Rattle.model.proofs.BoolLaws.{pick-true, pick-false}
 use borrow.Author.Tests.{not-true, not-false}
 use lib.ListN.{getD, set}
-use Prim.Native.Nat.{ℕ, _+_, _/_, _%_}
+use Prim.Native.Nat.{ℕ, _+_}
 use mathlib.Core.Path.{_≡_, _∙_, sym, ap}
 use borrow.Author.Needs.{needs}
 use Rattle.query.proofs.step.descend_one.Statement.{statement}
 use Rattle.query.proofs.step.descend_one.Tie as tie
+use Rattle.table.specs.Words.{linkIn}
 
 link-requires : tie.Need-link-requires
 link-requires c κs = search needs
@@ -21,9 +22,9 @@ slice-read-counts c = search needs
 counts-requires : tie.Need-counts-requires
 counts-requires c κs = search needs
 
-same : (c : tie.After-counts) → counted (getD (c .before .before .before .before .before .before .args .flags .now) (c .before .before
-    .before .before .before .before .args .w / 4 % 1024) 0) (getD (c .before .before .before .before .before .before .args .reached .now)
-    (c .before .before .before .before .before .before .args .w / 4 % 1024) 0) (c .before .before .before .before .before .before .args
+same : (c : tie.After-counts) → counted (getD (c .before .before .before .before .before .before .args .flags .now) (linkIn (c .before .before
+    .before .before .before .before .args .w)) 0) (getD (c .before .before .before .before .before .before .args .reached .now)
+    (linkIn (c .before .before .before .before .before .before .args .w)) 0) (c .before .before .before .before .before .before .args
     .deep) ≡ c .counts .result
 same c =
     let c3 = c .before .before .before in
@@ -35,8 +36,7 @@ returns : tie.Need-returns
 returns c =
     let c7 = c .before .before .before .before .before .before .before in
     sym
-    (pick-false (counted (getD (c7 .args .flags .now) (c7 .args .w / 4 % 1024) 0) (getD (c7 .args .reached .now) (c7 .args .w / 4 %
-    1024) 0) (c7 .args .deep)) (set (c7 .args .reached .now) (c7 .args .j + 1) 1) (c7 .args .reached .now) (same (c .before) ∙ not-true
+    (pick-false (counted (getD (c7 .args .flags .now) (linkIn (c7 .args .w)) 0) (getD (c7 .args .reached .now) (linkIn (c7 .args .w)) 0) (c7 .args .deep)) (set (c7 .args .reached .now) (c7 .args .j + 1) 1) (c7 .args .reached .now) (same (c .before) ∙ not-true
     (c .before .counts .result) (c .if1 .taken)))
 
 add-reached : tie.Need-add-reached
@@ -52,7 +52,7 @@ returns-2 : tie.Need-returns-2
 returns-2 c =
     let c7 = c .before .before .before .before .before .before .before in
     sym
-    (pick-true (counted (getD (c7 .args .flags .now) (c7 .args .w / 4 % 1024) 0) (getD (c7 .args .reached .now) (c7 .args .w / 4 % 1024)
+    (pick-true (counted (getD (c7 .args .flags .now) (linkIn (c7 .args .w)) 0) (getD (c7 .args .reached .now) (linkIn (c7 .args .w))
     0) (c7 .args .deep)) (set (c7 .args .reached .now) (c7 .args .j + 1) 1) (c7 .args .reached .now) (same (c .before) ∙ not-false (c
     .before .counts .result) (c .if1 .left)))
 

@@ -2,11 +2,12 @@
 use Rattle.query.proofs.StepLaws.{pass-any, pass-leaf, pass-element, pass-no-leaf, pass-named}
 use lib.ListN.{getD}
 use lib.Dec.{eqb}
-use Prim.Native.Nat.{ℕ, _%_, _/_}
+use Prim.Native.Nat.{ℕ}
 use mathlib.Core.Path.{_≡_, _∙_, sym, ap}
 use borrow.Author.Needs.{needs}
 use Rattle.query.proofs.step.passes.Statement.{statement}
 use Rattle.query.proofs.step.passes.Tie as tie
+use Rattle.table.specs.Words.{kindIn, tagIn}
 
 index-requires : tie.Need-index-requires
 index-requires c κs = search needs
@@ -22,10 +23,10 @@ same : (c : tie.After-index) → let a = c .before .before .args in
 same c = ap (λ (j : ℕ). getD (c .before .before .args .rows .now) j 0) (sym (c .index .ensures .0))
 
 kind-is : (c : tie.After-kind) → let a = c .before .before .before .before .before .args in
-    c .kind .result ≡ getD (a .rows .now) (a .row .0) 0 % 4
+    c .kind .result ≡ kindIn (getD (a .rows .now) (a .row .0) 0)
 kind-is c =
     let c3 = c .before .before .before in
-    c .kind .ensures ∙ ap (λ (j : ℕ). j % 4) (sym (same (c3)))
+    c .kind .ensures ∙ ap (λ (j : ℕ). kindIn j) (sym (same (c3)))
 
 returns : tie.Need-returns
 returns c =
@@ -78,7 +79,7 @@ returns-5 c =
     let w = getD (a .rows .now) (a .row .0) 0 in
     let here = same (c8) in
     let kind = kind-is (c5) in
-    ap (λ (j : ℕ). eqb j (a .name .0)) (c .before .tag .ensures ∙ ap (λ (j : ℕ). j / 4096) (sym here)) ∙
+    ap (λ (j : ℕ). eqb j (a .name .0)) (c .before .tag .ensures ∙ ap (λ (j : ℕ). tagIn j) (sym here)) ∙
     sym (pass-named w (a .test) (a .name .0) (c6 .if1 .left) (λ q.
     c4 .if2 .left (kind ∙ q))
     (c3 .if3 .left) (c .before .before .if4 .left))

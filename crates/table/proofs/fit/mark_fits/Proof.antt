@@ -2,12 +2,13 @@
 use lib.ListN.{getD}
 use lib.Dec.{eqb}
 use mathlib.Core.Path.{_≡_, _∙_, sym, ap}
-use Prim.Native.Nat.{ℕ, _≤_, _<_, _-_, _/_, _%_}
+use Prim.Native.Nat.{ℕ, _≤_, _<_, _-_}
 use native.Mathlib.Omega.{arith}
 use borrow.Author.Tests.{le-leb, lt-leb, ne-eqb}
 use borrow.Author.Needs.{needs}
 use Rattle.table.proofs.fit.mark_fits.Statement.{statement}
 use Rattle.table.proofs.fit.mark_fits.Tie as tie
+use Rattle.table.specs.Words.{kindIn, linkIn}
 
 index-requires : tie.Need-index-requires
 index-requires c κs = search needs
@@ -50,8 +51,8 @@ returns-3 c =
       arith,
       c5 .index .ensures .0,
       c3 .if2 .left,
-    ) in let e : getD (c7 .args .rows .now) (c7 .args .link - 1)
-    0 % 4 ≡ 2 = ap (λ (j : ℕ). getD (c7 .args .rows .now) (j - 1) 0 % 4) (sym (c5 .index .ensures .0)) ∙ sym (c .before .kind .ensures) ∙
+    ) in let e : kindIn (getD (c7 .args .rows .now) (c7 .args .link - 1)
+    0) ≡ 2 = ap (λ (j : ℕ). kindIn (getD (c7 .args .rows .now) (j - 1) 0)) (sym (c5 .index .ensures .0)) ∙ sym (c .before .kind .ensures) ∙
     c .if3 .taken in rw (
       ne-eqb (c7 .args .link) 0 z,
       le-leb (c7
@@ -72,15 +73,14 @@ returns-4 c =
       arith,
       c6 .index .ensures .0,
       c4 .if2 .left,
-    ) in let e : getD (c8 .args .rows .now) (c8 .args .link - 1) 0 % 4 ≡ 2 → ⊥ = λ q. c .before .if3 .left (c .before .before
-    .kind .ensures ∙ ap (λ (j : ℕ). getD (c8 .args .rows .now) (j - 1) 0 %
-    4) (c6 .index .ensures .0) ∙ q) in rw (
+    ) in let e : kindIn (getD (c8 .args .rows .now) (c8 .args .link - 1) 0) ≡ 2 → ⊥ = λ q. c .before .if3 .left (c .before .before
+    .kind .ensures ∙ ap (λ (j : ℕ). kindIn (getD (c8 .args .rows .now) (j - 1) 0)) (c6 .index .ensures .0) ∙ q) in rw (
       ne-eqb (c8 .args .link) 0 z,
       le-leb (c8 .args .link) (c8 .args .count) k,
-      ne-eqb (getD (c8 .args .rows .now) (c8 .args
+      ne-eqb (kindIn (getD (c8 .args .rows .now) (c8 .args
           .link - 1)
-          0 % 4) 2 e,
-    ) (ap (λ (j : ℕ). eqb j 0) (c .link .ensures ∙ ap (λ (j : ℕ). getD (c8 .args .rows .now) (j - 1) 0 / 4 % 1024) (c6 .index .ensures .0)))
+          0)) 2 e,
+    ) (ap (λ (j : ℕ). eqb j 0) (c .link .ensures ∙ ap (λ (j : ℕ). linkIn (getD (c8 .args .rows .now) (j - 1) 0)) (c6 .index .ensures .0)))
 
 pub mark-fits-spec : {M : Type 1} → statement M
 mark-fits-spec =

@@ -2,20 +2,20 @@
 use Rattle.undo.proofs.UndoLaws.{cut-high, cut-child, cut-marked, cut-none, cut-order, cut-element}
 use Rattle.model.specs.Base.{any}
 use Rattle.model.specs.Table.{isThe}
-use Rattle.table.specs.Words.{linked}
+use Rattle.table.specs.Words.{linked, linkIn}
 use lib.Dec.{eqb}
 use lib.ListN.{getD}
 use mathlib.Core.Bool.{not}
 use mathlib.Core.List.{map}
 use mathlib.Core.Path.{_≡_, sym, _∙_, ap}
-use Prim.Native.Nat.{ℕ, _+_, _-_, _/_, _%_}
+use Prim.Native.Nat.{ℕ, _+_, _-_}
 use native.Mathlib.Omega.{arith}
 use borrow.Author.Needs.{needs}
 use Rattle.undo.proofs.undoing.cut_fits.Statement.{statement}
 use Rattle.undo.proofs.undoing.cut_fits.Tie as tie
 
-is-root : (c : tie.Else2) → getD (c .before .before .before .before .before .before .before .before .args .rows .now)
-    (c .before .before .before .before .number-at .result) 0 / 4 % 1024 ≡ 0
+is-root : (c : tie.Else2) → linkIn (getD (c .before .before .before .before .before .before .before .before .args .rows .now)
+    (c .before .before .before .before .number-at .result) 0) ≡ 0
 is-root c = sym (c .before .link .ensures) ∙ search (c .if2 .left, needs)
 
 marked-by : (c : tie.After-is-marked) → any (isThe (c .before .before .before .before .before .number-at .result)) (map linked

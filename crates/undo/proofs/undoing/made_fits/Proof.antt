@@ -4,12 +4,12 @@ use Rattle.model.specs.Base.{any}
 use Rattle.model.specs.Table.{isThe}
 use Rattle.model.specs.Stored.{parentIn}
 use Rattle.model.specs.Undo.{sameParent}
-use Rattle.table.specs.Words.{linked}
+use Rattle.table.specs.Words.{linked, linkIn}
 use borrow.Author.Tests.{not-true, not-false}
 use lib.ListN.{getD}
 use mathlib.Core.List.{map}
 use mathlib.Core.Path.{_≡_, sym, _∙_, ap}
-use Prim.Native.Nat.{ℕ, _+_, _-_, _/_, _%_}
+use Prim.Native.Nat.{ℕ, _+_, _-_}
 use native.Mathlib.Omega.{arith}
 use borrow.Author.Needs.{needs}
 use Rattle.undo.proofs.undoing.made_fits.Statement.{statement}
@@ -139,10 +139,10 @@ returns-5 c =
     let c14 = c13 .before in
     let c18 = c14 .before .before .before .before in
     c .same-parent .ensures ∙ ap (λ (j : ℕ). sameParent (linked j) (parentIn (c .before .number-at2 .result)))
-    (c .before .before .link .ensures) ∙ ap (λ (j : ℕ). sameParent (linked (getD
+    (c .before .before .link .ensures) ∙ ap (λ (j : ℕ). sameParent (linked (linkIn (getD
     (c18 .args .rows .now)
     (c14 .number-at .result)
-    0 / 4 % 1024)) (parentIn j)) (c .before .number-at2 .ensures .0) ∙ sym (made-parent
+    0))) (parentIn j)) (c .before .number-at2 .ensures .0) ∙ sym (made-parent
     (c18 .pre)
     (c18 .args .marks .now)
     (c14 .number-at

@@ -1,6 +1,5 @@
 -- `insert::insert` refuses a target that is not one element with 7, and else copies every item.
 use lib.ListN.{getD}
-use Prim.Native.Nat.{_%_}
 use Rattle.updates.proofs.InsertLawsItems.{insert-many, insert-low, insert-leaf, insert-items, insert-done}
 use lib.ListN.{length}
 use mathlib.Core.Path.{_≡_, refl, sym, _∙_}
@@ -8,9 +7,11 @@ use native.Mathlib.Omega.{arith}
 use borrow.Author.Needs.{needs}
 use Rattle.updates.proofs.insert.insert.Statement.{statement}
 use Rattle.updates.proofs.insert.insert.Tie as tie
+use Rattle.table.specs.Words.{kindIn}
 
-target-kind : (c : tie.After-kind) → c .kind .result ≡ getD
-    (c .before .before .before .before .before .before .before .before .before .args .rows .now) (c .before .before .index .result) 0 % 4
+target-kind : (c : tie.After-kind) → c .kind .result ≡
+    kindIn (getD (c .before .before .before .before .before .before .before .before .before .args .rows .now)
+    (c .before .before .index .result) 0)
 target-kind c = c .kind .ensures
 
 one-target : (c : tie.Else1) → length (c .before .before .before .before .before .args .targets .now) ≡ 1

@@ -2,14 +2,14 @@
 use Rattle.updates.proofs.UpdateLaws.{cut-root, cut-low, cut-full, cut-done}
 use lib.ListN.{getD}
 use mathlib.Core.Path.{_≡_, sym, _∙_}
-use Prim.Native.Nat.{_/_, _%_}
 use native.Mathlib.Omega.{arith}
 use borrow.Author.Needs.{needs}
 use Rattle.updates.proofs.update.cut_row.Statement.{statement}
 use Rattle.updates.proofs.update.cut_row.Tie as tie
+use Rattle.table.specs.Words.{linkIn}
 
-has-parent : (c : tie.Else1) → getD (c .before .before .before .before .before .args .rows .now)
-    (c .before .before .before .before .before .args .i) 0 / 4 % 1024 ≡ 0 → ⊥
+has-parent : (c : tie.Else1) → linkIn (getD (c .before .before .before .before .before .args .rows .now)
+    (c .before .before .before .before .before .args .i) 0) ≡ 0 → ⊥
 has-parent c q = c .if1 .left (c .before .link .ensures ∙ q)
 
 mul-w : tie.Need-mul-w
