@@ -24,7 +24,8 @@ use Rattle.positions.proofs.WordLaws.{entriesIn-length}
 fits-same : (p q : Position) → p ≡ q → PositionFits q → PositionFits p
 fits-same p q e f = subst PositionFits (sym e) f
 
-pub over-fits : (p : Position) (m : ℕ) (s : Step) (i : ℕ) → p ≡ overBy m s i → m < 4 → s .axis < 4 → s .test < 4 → s .name < 256 → i < 128 →
+pub over-fits : (p : Position) (m : ℕ) (s : Step) (i : ℕ) → p ≡ overBy m s i → m < 4 → s .axis < 4 → s .test < 4 → s .name < 256 →
+    i < 128 →
     PositionFits p
 over-fits p m s i e a b c d f =
     fits-same p (overBy m s i) e

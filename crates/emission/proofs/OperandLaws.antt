@@ -10,7 +10,8 @@ use Rattle.model.proofs.BoolLaws.{eq-cases}
 use Rattle.records.specs.Walk.{withBound, arity, inner, endAt, firstAt, secondAt, thirdAt, exprAt}
 use Rattle.script.specs.Accepted.{Accepted, RecordFits, Nullary, Unary, Binary}
 use Rattle.records.proofs.KindLaws.{nullary-kind, unary-kind, binary-kind, two-left}
-use Rattle.script.proofs.AcceptedLaws.{accepted-record, accepted-nil, accepted-document, accepted-variable, accepted-element, accepted-leaf}
+use Rattle.script.proofs.AcceptedLaws.{accepted-record, accepted-nil, accepted-document}
+use Rattle.script.proofs.AcceptedLaws.{accepted-variable, accepted-element, accepted-leaf}
 use Rattle.script.proofs.AcceptedLaws.{accepted-step, accepted-delete, accepted-pick, accepted-join, accepted-let, accepted-for}
 use Rattle.script.proofs.AcceptedLaws.{accepted-insert, accepted-if}
 use Rattle.positions.specs.Positions.{Entry, emit, pushUnion}

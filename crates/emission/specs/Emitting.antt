@@ -7,7 +7,8 @@ use lib.Dec.{eqb}
 use lib.ListN.{length, getD, take}
 use Rattle.model.specs.Base.{pick}
 use Rattle.model.specs.Limits.{maxBinders}
-use Rattle.model.specs.Script.{documentKind, variableKind, stepKind, joinKind, deleteKind, insertKind, stepBy, recordsOf, isBinder, bodySize}
+use Rattle.model.specs.Script.{documentKind, variableKind, stepKind, joinKind, deleteKind}
+use Rattle.model.specs.Script.{insertKind, stepBy, recordsOf, isBinder, bodySize}
 use Rattle.records.specs.Walk.{withBound, inner, endAt, exprAt}
 use Rattle.script.specs.Accepted.{Accepted}
 use Rattle.positions.specs.Positions as positions

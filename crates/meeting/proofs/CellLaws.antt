@@ -210,7 +210,8 @@ module _ (s t : Step) where
   unfolding cell stepCells
   row-steps p qs =
       sum-steps (cell (p ▸ s)) t qs ∙
-      sum-join (λ (q : Path). onStep s t (cell p q)) (λ (q : Path). joinCell (downStep s (cell p (q ▸ t))) (upStep t (cell (p ▸ s) q))) qs ∙
+      sum-join (λ (q : Path). onStep s t (cell p q))
+      (λ (q : Path). joinCell (downStep s (cell p (q ▸ t))) (upStep t (cell (p ▸ s) q))) qs ∙
       ap (joinCell (sum (λ (q : Path). onStep s t (cell p q)) qs))
       (sum-join (λ (q : Path). downStep s (cell p (q ▸ t))) (λ (q : Path). upStep t (cell (p ▸ s) q)) qs) ∙
       ap

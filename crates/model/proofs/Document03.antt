@@ -1,4 +1,4 @@
--- Document 03's promises hold, over its own definitions: its answer is the number of ours, and its runs and the rows on its paths are ours.
+-- Document 03's promises hold, over its own definitions: its answer is the number of ours; its runs and the rows on its paths are ours.
 use mathlib.Core.Path.{_≡_, refl, sym, ap, _∙_}
 use mathlib.Core.Bool.{Bool, true, false, _&&_, _||_}
 use Prim.Native.Nat.{ℕ}
@@ -24,7 +24,8 @@ use Rattle.model.proofs.FreeMeans.{freeMeans}
 use Rattle.model.proofs.FreeCommutes.{freeCommutes}
 use Rattle.model.proofs.Document03Script.{ours, isScript-ours}
 use Rattle.model.proofs.Document03Run.{stored-same, runOn-same, takenBack-same}
-use Rattle.model.proofs.Document03Paths.{oursPath, PathsAlike, closed, infer-alike, any-alike, any-prefixed, rowsOn-same, hasUp-same}
+use Rattle.model.proofs.Document03Paths.{oursPath, PathsAlike, closed, infer-alike}
+use Rattle.model.proofs.Document03Paths.{any-alike, any-prefixed, rowsOn-same, hasUp-same}
 use Rattle.model.proofs.Document03Meeting.{meets-same}
 
 -- THE ANSWER's number

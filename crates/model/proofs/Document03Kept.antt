@@ -1,5 +1,5 @@
--- Document 03's text of the definitions for which ours serve, where the two texts differ (kinds, limits, refusals and parts named): each is
--- equal to ours.
+-- Document 03's text of the definitions for which ours serve, where the two texts differ (kinds, limits, refusals and parts named):
+-- each is equal to ours.
 use mathlib.Core.Path.{_≡_, refl, ap, _∙_}
 use mathlib.Core.Bool.{Bool, true, false, _&&_, _||_, not}
 use mathlib.Core.List.{List, [], _∷_, _++_}
@@ -11,7 +11,8 @@ use Rattle.model.specs.Base.{pick, all, any, filtered, isIn}
 use Rattle.model.specs.Refusal.{Fault, fault, fine, isFine, orElse}
 use Rattle.model.specs.Table.{Row, Table, table, rowAt, count, isElement, hasParent, isThe, isMarked, withRow, tagFits, rowsFit}
 use Rattle.model.specs.Table.{markFits, noneTwice}
-use Rattle.model.specs.Stored.{Read, bad, got, wordAt, parentIn, wordBytes as wordOf, parentBytes as parentWord, lastMarked, rowLinks}
+use Rattle.model.specs.Stored.{Read, bad, got, wordAt}
+use Rattle.model.specs.Stored.{parentIn, wordBytes as wordOf, parentBytes as parentWord, lastMarked, rowLinks}
 use Rattle.model.specs.Stored.{recorded}
 use Rattle.model.specs.Step.{signedKey}
 use Rattle.model.specs.Script.{testFits}

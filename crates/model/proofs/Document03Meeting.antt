@@ -162,7 +162,8 @@ Met p q ss ts = (samePlace (placeOf p) (placeOf q) ≡ true) × Meeting (stepsOf
 record Searched (p q : Path) (c : Cell) : Type 0 where
   onBoth : c .onElement ≡ true → (ss ts : List Step) → Meeting ss ts → Met p q ss ts
   atLeaf : c .onLeaf ≡ true → Met p q [] []
-  below : c .downElement ≡ true → (ss : List Step) (t : Step) (ts : List Step) → isDeep t ≡ true → Meeting ss (t ∷ ts) → Met p q ss (t ∷ ts)
+  below : c .downElement ≡ true → (ss : List Step) (t : Step) (ts : List Step) → isDeep t ≡ true → Meeting ss (t ∷ ts) →
+      Met p q ss (t ∷ ts)
   above : c .upElement ≡ true → (s : Step) (ss ts : List Step) → isDeep s ≡ true → Meeting (s ∷ ss) ts → Met p q (s ∷ ss) ts
 
 module _ {p q : Path} {c : Cell} (h : Searched p q c) where

@@ -73,11 +73,13 @@ run-alone o e x w u v s h =
     (λ p i. i) (start-twin (alone o e x w))) v s h)
   where
     go : Ended (alone o e x w) (pathsOf o e .result) (runOn x e) v s →
-        (news : List Label) × Good (scriptOf o e (x .marks)) (aloneSide x (w .labels)) news s × All (Touched (scriptOf o e (x .marks))) news
+        (news : List Label) × Good (scriptOf o e (x .marks)) (aloneSide x (w .labels)) news s ×
+        All (Touched (scriptOf o e (x .marks))) news
     go (inl (t, news, k, T, a)) = (news, T .one, T .touched)
     go (inr (k, l, m)) = absurd (omega arith)
 
-abbrev leftBy : (o q : ℕ) → (o ≡ q → ⊥) → (e f : Expr) → Away (pathsOf o e) (pathsOf q f) → (x : Table) (w : Labelled x) → hasUp e ≡ false →
+abbrev leftBy : (o q : ℕ) → (o ≡ q → ⊥) → (e f : Expr) → Away (pathsOf o e) (pathsOf q f) → (x : Table) (w : Labelled x) →
+    hasUp e ≡ false →
     (v : List ℕ) (s : State) → runOn x e ≡ gives v s → Left
 leftBy o q n e f a x w u v s h =
     record {

@@ -70,7 +70,8 @@ module _ (x : Table) (t : Tree x) (h : Places) (a : ArePlaces x h) where
       let u = row-spelled x h a g i z in
       let k = label-once (v .labelled) (u .labelled) in
       let b : placeOf p ≡ placeOf q =
-      a .2 (placeOf p) (placeOf q) (v .root) (v .within) (v .placed) (subst (λ (r : ℕ). h (placeOf q) r ≡ true) (sym (k .0)) (u .placed)) in
+      a .2 (placeOf p) (placeOf q) (v .root) (v .within) (v .placed)
+      (subst (λ (r : ℕ). h (placeOf q) r ≡ true) (sym (k .0)) (u .placed)) in
       let o : placeOf p .owner ≡ 0 = shared-document d f g b in
       let w : placeOf p ≡ documentPlace (placeOf p .number) = λ j. record { owner = o j; number = placeOf p .number } in
       let m : getD (x .marks) (placeOf p .number) none ≡ some (v .root) =

@@ -27,7 +27,8 @@ pub record Order (x l u t : Table) : Type 0 where
   pub stays : (i : ℕ) → count x ≤ i → i < count l → rowAt t i ≡ rowAt l i
   pub raised : (i : ℕ) → count x ≤ i → i < count u → rowAt t (shift (count x) (made x l) i) ≡ shiftRow (count x) (made x l) (rowAt u i)
 
-pub order-by : (L : Left) (news : List Label) (u t : State) → Twin (beside L) news u t → Order (L .plan) (L .left .plan) (u .plan) (t .plan)
+pub order-by : (L : Left) (news : List Label) (u t : State) → Twin (beside L) news u t →
+    Order (L .plan) (L .left .plan) (u .plan) (t .plan)
 order-by L news u t T =
     record {
       grown = omega (arith, left-count L);
@@ -71,7 +72,8 @@ module _ (x l u s t : Table) (A : Order x l u s) (B : Order x u l t) (lowX : Low
       ap (rowAt t) (matched-low n a b i h) ∙
       go (agree (rowAt x i) (rowAt l i) (rowAt u i) (rowAt s i) (rowAt t i) (A .settled i h) (B .settled i h))
     where
-      go : ((rowAt s i ≡ rowAt x i) × (rowAt t i ≡ rowAt x i)) ⊎ ((rowAt s i ≡ unlinked (rowAt x i)) × (rowAt t i ≡ unlinked (rowAt x i))) →
+      go : ((rowAt s i ≡ rowAt x i) × (rowAt t i ≡ rowAt x i)) ⊎
+          ((rowAt s i ≡ unlinked (rowAt x i)) × (rowAt t i ≡ unlinked (rowAt x i))) →
           rowAt t i ≡ matchedRow n a b (rowAt s i)
       go (inl (e, f)) =
           f ∙

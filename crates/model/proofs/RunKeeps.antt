@@ -195,7 +195,8 @@ inserted-keeps x well place v w s r a =
     (λ e. copyAll-keeps x (s .plan) (ran-well x well r .tree) place (getD w 0 0) a s r (and-right (eqb (length w) 1) _ e)) (λ e. tt)
 
 -- JOIN AND FOR
-joinItems-keeps : (x : Table) (z : ℕ) (v w : List ℕ) (s : State) → ComesTo x s → AreRows (count (s .plan)) v → AreRows (count (s .plan)) w →
+joinItems-keeps : (x : Table) (z : ℕ) (v w : List ℕ) (s : State) → ComesTo x s → AreRows (count (s .plan)) v →
+    AreRows (count (s .plan)) w →
     Keeps x (s .plan) (joinItems z v w s)
 joinItems-keeps x z v w s r a b =
     pick-cases (Keeps x (s .plan)) (ltb maxItems (length v + length w)) (λ e. tt) (λ e. gives-keeps x (v ++ w) s r (all-append a b))

@@ -120,7 +120,8 @@ module _ (W : World) where
       Vals W r news v →
       ((more : List Label) (w : List ℕ) (s t : State) → Twin W (news ++ more) s t → Vals W r (news ++ more) w →
       Sim W r (news ++ more) (next w s) (next′ (map (φ W) w) t)) →
-      ((w : List ℕ) (s : State) → Grows (count (s .plan)) (next w s)) → Sim W r news (joinFor z v o next) (joinFor z (map (φ W) v) o′ next′)
+      ((w : List ℕ) (s : State) → Grows (count (s .plan)) (next w s)) →
+      Sim W r news (joinFor z v o next) (joinFor z (map (φ W) v) o′ next′)
   sim-for r z news v next next′ (both {v = w} {s} {t} more T a) k h g =
       sim-more W r news more
       (sim-limited r z (news ++ more) v w (λ l. next′ l t) (h more (v ++ w) s t T (all-append (vals-more W r news more k) a)))

@@ -34,7 +34,8 @@ stored-row x b h r =
     (rowsBytes-snoc (x .rows) (rowIn b) ∙
     ap (λ (c : List ℕ). rowsBytes (x .rows) ++ c) (rowBytes-back b h (r .long) (r .kind .0) (r .kind .1))))
 
-markBytes-back : (x : Table) (b : List ℕ) → areBytes b ≡ true → IsMarkRecord x b → markBytes (0 + getD b 1 0) (some (wordAt b 2)) ≡ take 4 b
+markBytes-back : (x : Table) (b : List ℕ) → areBytes b ≡ true → IsMarkRecord x b →
+    markBytes (0 + getD b 1 0) (some (wordAt b 2)) ≡ take 4 b
 markBytes-back x b h m =
     let w = wordBytes-back (getD b 2 0) (getD b 3 0) (areBytes-at b h 2) (areBytes-at b h 3) in
     cc (w, zero-add (getD b 1 0), m .kind, take-four b (m .long))

@@ -44,7 +44,8 @@ module _ (x : Table) (t : Tree x) where
   isKept-marked i h = isKept-unrolled x t i ∙ or-left _ _ h
 
   pub isKept-below : (i p : ℕ) → rowAt x i .parent ≡ some p → isKept x p ≡ true → isKept x i ≡ true
-  isKept-below i p e h = isKept-unrolled x t i ∙ or-right (isMarked x i) _ (subst (λ (q : Option ℕ). through (isKept x) q ≡ true) (sym e) h)
+  isKept-below i p e h =
+      isKept-unrolled x t i ∙ or-right (isMarked x i) _ (subst (λ (q : Option ℕ). through (isKept x) q ≡ true) (sym e) h)
 
   pub isKept-cases : (i : ℕ) → isKept x i ≡ true → (isMarked x i ≡ true) ⊎ ((p : ℕ) × ((rowAt x i .parent ≡ some p) × (isKept x p ≡ true)))
   isKept-cases i h = elim (or-cases (isMarked x i) _ (sym (isKept-unrolled x t i) ∙ h)) [
@@ -201,7 +202,8 @@ sweptRows-same x i (r ∷ rs) h =
     (sweptRows-same x (suc i) rs
     (λ j l. let w = h (suc j) (omega arith) in (subst (λ (n : ℕ). isKept x n ≡ true) (omega arith) (w .0), w .1))))
 
-pub sweptMarks-same : (x : Table) (ms : List (Option ℕ)) → ((d : ℕ) → renumbered x (getD ms d none) ≡ getD ms d none) → sweptMarks x ms ≡ ms
+pub sweptMarks-same : (x : Table) (ms : List (Option ℕ)) → ((d : ℕ) → renumbered x (getD ms d none) ≡ getD ms d none) →
+    sweptMarks x ms ≡ ms
 unfolding sweptMarks
 sweptMarks-same x [] h = refl
 sweptMarks-same x (m ∷ ms) h = ap₂ _∷_ (h zero) (sweptMarks-same x ms (λ d. h (suc d)))

@@ -12,7 +12,8 @@ use lib.ListN.{length, getD, List·getD-eq-default}
 use borrow.Author.Tests.{ltb-true, leb-true, ltb-false, eqb-true, not-true, lt-ltb, le-leb, eq-eqb}
 use Rattle.model.specs.Base.{all, any}
 use Rattle.model.specs.Limits.{maxRows, documents}
-use Rattle.model.specs.Table.{ParentLower, IsRoot, Tree, Row, Table, empty, noRow, rowAt, count, isElement, hasParent, isThe, tagFits}
+use Rattle.model.specs.Table.{ParentLower, IsRoot, Tree, Row, Table, empty}
+use Rattle.model.specs.Table.{noRow, rowAt, count, isElement, hasParent, isThe, tagFits}
 use Rattle.model.specs.Table.{parentFits, rowsFit, markFits, noneTwice, isTree, isWell}
 use Rattle.model.proofs.BoolLaws.{and-left, and-right, and-both, or-cases, or-left, or-right, true-false}
 use Rattle.model.proofs.ListLaws.{all-getD, getD-all}

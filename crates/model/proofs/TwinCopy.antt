@@ -137,7 +137,8 @@ module _ (W : World) where
             thenRow
             (thenRow o
             (λ p.
-            copyEach z (t₀ .plan) (φ W t) (φ W g) (map (φ W) is) (record { old = φ W i; new = count (q .plan) } ∷ map shiftCopied cs) p)) k′
+            copyEach z (t₀ .plan) (φ W t) (φ W g) (map (φ W) is)
+            (record { old = φ W i; new = count (q .plan) } ∷ map shiftCopied cs) p)) k′
 
         base : (p : ℕ) → row .parent ≡ some p → Base W news u p
         base p e =

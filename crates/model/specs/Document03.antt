@@ -155,7 +155,8 @@ abbrev pub Cases : Type 0
 Cases =
     (count p ≡ 4) × (answerOf (runOn p scriptA) ≡ 2 ∷ []) × (answerOf (runOn p scriptTwin) ≡ []) × (ends (runOn p scriptTwin) ≡ true) ×
     (count made4 ≡ 6) × parentNow made4 4 none × parentNow made4 5 (some 3) × (judged deleteTwos scriptA ≡ 2) ×
-    (judged deleteTwos leavesBelow ≡ 2) × (judged scriptB scriptB ≡ 0) × (judged scriptA scriptB ≡ 0) × (answerOf (runOn p letX) ≡ 2 ∷ []) ×
+    (judged deleteTwos leavesBelow ≡ 2) × (judged scriptB scriptB ≡ 0) × (judged scriptA scriptB ≡ 0) ×
+    (answerOf (runOn p letX) ≡ 2 ∷ []) ×
     (historyOf (runOn p deleteRoot) ≡ []) × (ends (runOn p deleteRoot) ≡ true) × (count made8 ≡ 8) × parentNow made8 4 (some 3) ×
     parentNow made8 5 (some 4) × parentNow made8 6 (some 3) × parentNow made8 7 (some 6) × (faultBy (readScript []) ≡ fault 2 0) ×
     (readPlan [] ≡ got empty)

@@ -9,7 +9,8 @@ use lib.ListN.{length, getD, drop}
 use Rattle.model.specs.Base.{pick, isIn}
 use Rattle.model.specs.Limits.{maxRows, documents}
 use Rattle.model.specs.Refusal.{Fault, isFine, orElse, unless, kindAt, shortAt, fieldAt, sizeAt, linkAt}
-use Rattle.model.specs.Table.{Row, Table, empty, rowAt, count, isElement, isMarked, hasParent, withRow, withMark, tagFits, parentFits}
+use Rattle.model.specs.Table.{Row, Table, empty, rowAt, count, isElement}
+use Rattle.model.specs.Table.{isMarked, hasParent, withRow, withMark, tagFits, parentFits}
 
 -- KINDS: element and leaf (body: name or value, parent), mark (body: document, row)
 abbrev pub elementKind : ℕ

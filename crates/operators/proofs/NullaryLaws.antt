@@ -20,7 +20,8 @@ use Rattle.model.specs.Base.{nothing, also}
 use Rattle.records.specs.Walk.{arity}
 use Rattle.script.specs.Accepted.{RecordFits, Nullary}
 use Rattle.records.proofs.KindLaws.{nullary-kind}
-use Rattle.script.proofs.AcceptedLaws.{accepted-record, accepted-nil, accepted-document, accepted-variable, accepted-element, accepted-leaf}
+use Rattle.script.proofs.AcceptedLaws.{accepted-record, accepted-nil, accepted-document}
+use Rattle.script.proofs.AcceptedLaws.{accepted-variable, accepted-element, accepted-leaf}
 use Rattle.script.proofs.FieldLaws.{variable-number}
 use Rattle.table.specs.Words.{linked, decodeParts}
 use Rattle.updates.specs.State.{stateOf, Held, Updated}
@@ -100,7 +101,8 @@ module _ {b : List ℕ} {at left n : ℕ} {env : List Span} {ms ws h w : List �
       yields-as (ap (λ (x : Expr). run x (boundValues w n env) (stateOf ws ms h p)) (sym (o .expr)))
       (sym (o .ends ∙ ap (λ (j : ℕ). at + (1 + bodySize j)) is)) y
 
-  pub nil-yields : getD b at 0 ≡ 1 → {r : Evaluated} → r ≡ endedBy p at (at + 1) top env → EvalPost b at left n env ms ws h w top p ws h w r
+  pub nil-yields : getD b at 0 ≡ 1 → {r : Evaluated} → r ≡ endedBy p at (at + 1) top env →
+      EvalPost b at left n env ms ws h w top p ws h w r
   unfolding run
   nil-yields k eq =
       from-record (nil at) 1 k (accepted-nil (pre .accepted) k)

@@ -125,8 +125,8 @@ pub between-then : {ws h w : List ℕ} {top : ℕ} {p : Progress} {ws₁ h₁ w�
 between-then {top = top} {w₁ = w₁} {mid = mid} {w₂ = w₂} a b l =
     record { after = after-then (a .after) (b .after); size = b .size ∙ a .size; below = below-same w₁ w₂ mid top (b .below) l ∙ a .below }
 
-pub yields-after : {goal goal′ : Out} {next n : ℕ} {env env′ : List Span} {ms ws h w : List ℕ} {top : ℕ} {p : Progress} {ws₁ h₁ w₁ : List ℕ}
-    {p₁ : Progress} {ws′ h′ w′ : List ℕ} {r : Evaluated} → Between ws h w top p ws₁ h₁ w₁ p₁ →
+pub yields-after : {goal goal′ : Out} {next n : ℕ} {env env′ : List Span} {ms ws h w : List ℕ} {top : ℕ} {p : Progress}
+    {ws₁ h₁ w₁ : List ℕ} {p₁ : Progress} {ws′ h′ w′ : List ℕ} {r : Evaluated} → Between ws h w top p ws₁ h₁ w₁ p₁ →
     Yields goal′ next n env′ ms ws₁ h₁ w₁ top p₁ ws′ h′ w′ r → goal ≡ goal′ → take n env′ ≡ take n env →
     Yields goal next n env ms ws h w top p ws′ h′ w′ r
 yields-after a y e s =

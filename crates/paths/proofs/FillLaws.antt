@@ -267,7 +267,8 @@ module _ (ws us t : List ℕ) (k l : ℕ) (p : Position) (pre : MeetPre ws us t 
       HasRows t′ (length ws) × Filled (entriesBy ws) (entriesBy us) k (l + 1) (marks t′)
   union-filled g h c t′ e i j post =
       let met = pair-filled ws us t k l p other pre refl c (first-union (marks t) k l p other (cellOf c) kind g h e i j) t′ post
-      (isTested (entryBy p) (entryBy other)) (isMet (cellOf c)) (isTested (entryBy p) (entryBy other) && isMet (cellOf c)) refl refl refl in
+      (isTested (entryBy p) (entryBy other)) (isMet (cellOf c))
+      (isTested (entryBy p) (entryBy other) && isMet (cellOf c)) refl refl refl in
       (met .room, met .filled)
 
 -- LOOPS: one pair, and one row, more

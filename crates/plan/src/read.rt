@@ -96,7 +96,8 @@ fn read_record(
     last: usize,
 ) -> RecordRead
     requires { ⌜ RecordPre (now s) (now rows) (now marks) count last ⌝ }
-    ensures { λ r. ⌜ RecordPost (now (s .entry)) (now (rows .entry)) (now (marks .entry)) count (now (rows .exit)) (now (marks .exit)) r ⌝ }
+    ensures { λ r. ⌜ RecordPost (now (s .entry)) (now (rows .entry)) (now (marks .entry)) count
+        (now (rows .exit)) (now (marks .exit)) r ⌝ }
 {
     let kind = s[0];
     if kind < stored::ELEMENT {

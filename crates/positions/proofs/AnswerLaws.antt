@@ -145,7 +145,8 @@ module _ (o o′ : ℕ) (first : o ≡ 0 → ⊥) (second : o′ ≡ 0 → ⊥) 
   scripts-meet : (e f : Expr) → anyMeet (pathsOf o e .modified) (traversed (pathsOf o′ f)) ≡
       anyMeet (fromDocuments (pathsOf o e .modified)) (fromDocuments (pathsOf o′ f .accessed))
   scripts-meet e f =
-      any-same (λ (p : Path). any (meets p) (traversed (pathsOf o′ f))) (λ (p : Path). any (meets p) (fromDocuments (pathsOf o′ f .accessed)))
+      any-same (λ (p : Path). any (meets p) (traversed (pathsOf o′ f)))
+      (λ (p : Path). any (meets p) (fromDocuments (pathsOf o′ f .accessed)))
       (pathsOf o e .modified) (λ p i. traversed-met p (all-in (modified-own o e) i) f) ∙
       any-documents (λ (p : Path). any (meets p) (fromDocuments (pathsOf o′ f .accessed))) o
       (λ p h. any-false p h (documents-are (pathsOf o′ f .accessed)))

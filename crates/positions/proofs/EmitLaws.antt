@@ -275,7 +275,8 @@ module _ (o : ℕ) (own : o ≡ 0 → ⊥) where
       pick-cases (Right es [] (a ++ []) (m ++ (r ++ withStep anyBelow r))) (eqb (y .result) 0)
       (λ e. let n = no-documents es z r a m y h (eqb-true (y .result) 0 e) in
       nothing-more es r a m y h [] [] (r ++ withStep anyBelow r) n refl
-      (fromDocuments-append r (withStep anyBelow r) ∙ ap (λ (v : List Path). v ++ fromDocuments (withStep anyBelow r)) n ∙ no-step anyBelow r n))
+      (fromDocuments-append r (withStep anyBelow r) ∙ ap (λ (v : List Path). v ++ fromDocuments (withStep anyBelow r)) n ∙
+      no-step anyBelow r n))
       (λ e. all)
     where
       below : Right es (withStep anyBelow r) (a ++ []) (m ++ []) (push (y .entries) (plain (over anyBelow (y .result))))

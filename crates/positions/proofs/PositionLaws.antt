@@ -166,4 +166,5 @@ module _ (es fs : List Entry) (k l : ℕ) (t : Cells) where
   pub cell-by : AreLower es → AreLower fs → k < length es → l < length fs → Filled es fs k l t →
       cellBy k l t (entryAt es k .position) (entryAt fs l .position) ≡ between (pathsOn es k) (pathsOn fs l)
   cell-by e f h low filled =
-      cellBy-is low filled (entryAt es k .position) (entryAt fs l .position) (e k h) (pathsOn-at es e k h) (f l low) (pathsOn-at fs f l low)
+      cellBy-is low filled (entryAt es k .position) (entryAt fs l .position) (e k h) (pathsOn-at es e k h) (f l low)
+      (pathsOn-at fs f l low)

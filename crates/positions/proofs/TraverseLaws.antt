@@ -39,7 +39,8 @@ module _ (f : Path → Bool) where
   unfolding any prefixed prefixesOf
   any-prefixed [] h = h
   any-prefixed (p ∷ ps) h =
-      ⊎-elim (λ e. any-left f (prefixesOf p) (prefixed ps) (itself p e)) (λ e. any-right f (prefixesOf p) (prefixed ps) (any-prefixed ps e))
+      ⊎-elim (λ e. any-left f (prefixesOf p) (prefixed ps) (itself p e))
+      (λ e. any-right f (prefixesOf p) (prefixed ps) (any-prefixed ps e))
       (or-cases (f p) (any f ps) h)
     where
       itself : (q : Path) → f q ≡ true → any f (prefixesOf q) ≡ true
@@ -218,7 +219,8 @@ any-documents f o own (p ∷ ps) (also h a) = go (any-documents f o own ps a)
     dropped : any f ps ≡ any f (fromDocuments ps) → isDocument p ≡ false → Own o p → any f (p ∷ ps) ≡ any f (fromDocuments (p ∷ ps))
     dropped rest t (inl e) = absurd (eqb-false (placeOf p .owner) 0 t e)
     dropped rest t (inr e) =
-        ap (λ (u : Bool). u || any f ps) (own p e) ∙ rest ∙ sym (ap (λ (u : Bool). any f (pick u (p ∷ fromDocuments ps) (fromDocuments ps))) t)
+        ap (λ (u : Bool). u || any f ps) (own p e) ∙ rest ∙
+        sym (ap (λ (u : Bool). any f (pick u (p ∷ fromDocuments ps) (fromDocuments ps))) t)
 
     go : any f ps ≡ any f (fromDocuments ps) → any f (p ∷ ps) ≡ any f (fromDocuments (p ∷ ps))
     go rest = by-cases (isDocument p) (kept rest) (λ t. dropped rest t h)

@@ -12,8 +12,8 @@ use Rattle.model.specs.Meeting.{Answer, free, upward, meet}
 use Rattle.positions.specs.Positions.{Position, nowhere, root, over, union, Entry, entryAt, entriesOf, pathsOn}
 use Rattle.meeting.specs.Cells.{noCell, sum, between, Cells}
 
--- THE SOURCES of a position: what leads down to its nodes last, a document's root, or a step from the nodes of a lower position. A document
--- and a step have one source, themselves. A union has none of its own: its cells are those of its parts
+-- THE SOURCES of a position: what leads down to its nodes last, a document's root, or a step from the nodes of a lower position.
+-- A document and a step have one source, themselves. A union has none of its own: its cells are those of its parts
 pub data Source : Type 0 where
   fromRoot : (document : ℕ) → Source
   fromStep : Step → (operand : ℕ) → Source

@@ -64,7 +64,8 @@ module _ (t : Table) (e : fits t ≡ true) where
           (resultOf t (pick z (ranBy (decode t) (length a) (length h) (length w) (outcomeOf t b)) (refusedRun refusal.lentShort (decode
           t) a h
           w)) .table)
-          (pick z (ranBy (decode t) (length a) (length h) (length w) (outcomeOf t b)) (refusedRun refusal.lentShort (decode t) a h w) .plan)
+          (pick z (ranBy (decode t) (length a) (length h) (length w) (outcomeOf t b))
+          (refusedRun refusal.lentShort (decode t) a h w) .plan)
       go true = outcome-stands (length a) (length h) (length w) (outcomeOf t b) (run-well b bytes)
       go false = (e, refl)
 

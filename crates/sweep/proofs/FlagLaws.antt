@@ -66,6 +66,7 @@ flagged-next ns ms d h low f =
 
     more : (getD ms d 0 ≡ 0 → ⊥) → Flagged (take (d + 1) ms) (set ns (getD ms d 0) 1)
     more z =
-        flags-more (λ (k : ℕ). any (model.isThe k) (map linked (take d ms))) (λ (k : ℕ). any (model.isThe k) (map linked (take (d + 1) ms)))
+        flags-more (λ (k : ℕ). any (model.isThe k) (map linked (take d ms)))
+        (λ (k : ℕ). any (model.isThe k) (map linked (take (d + 1) ms)))
         ns (getD ms d 0) (omega (arith, z)) low
         (λ k e. next k (eq-eqb (getD ms d 0) (k + 1) e) ∙ or-true (any (model.isThe k) (map linked (take d ms)))) other f

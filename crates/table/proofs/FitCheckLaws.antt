@@ -41,7 +41,8 @@ pub marks-turn : (ws : List ℕ) (n : ℕ) (ms : List ℕ) (d : ℕ) → d < len
 unfolding marksFit
 marks-turn ws n ms d h =
     ap (marksFit ws n) (drop-cons ms d 0 h) ∙
-    ap (λ (j : ℕ). markFits ws n (getD ms d 0) && not (isRepeated (getD ms d 0) (drop j ms)) && marksFit ws n (drop j ms)) (sym (add-one d))
+    ap (λ (j : ℕ). markFits ws n (getD ms d 0) && not (isRepeated (getD ms d 0) (drop j ms)) && marksFit ws n (drop j ms))
+    (sym (add-one d))
 
 pub marks-end : (ws : List ℕ) (n : ℕ) (ms : List ℕ) (d : ℕ) → length ms ≤ d → marksFit ws n (drop d ms) ≡ true
 unfolding marksFit

@@ -203,7 +203,8 @@ module _ {b m : List ℕ} {at n : ℕ} (c : Forming b m at n) where
                 eq-cases k n
                 (λ q.
                 let y : getD (set m n at) k 0 ≡ at = ap (λ (j : ℕ). getD (set m n at) j 0) q ∙ here in
-                subst (λ (j : ℕ). (j ≤ length b) × (historySize (getD (drop j b) 0 0) ≤ length (drop j b))) (sym y) (c .within, whole-here))
+                subst (λ (j : ℕ). (j ≤ length b) × (historySize (getD (drop j b) 0 0) ≤ length (drop j b))) (sym y)
+                (c .within, whole-here))
                 (λ q.
                 let f = q in
                 subst (λ (j : ℕ). (j ≤ length b) × (historySize (getD (drop j b) 0 0) ≤ length (drop j b)))

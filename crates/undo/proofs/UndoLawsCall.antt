@@ -26,7 +26,8 @@ module _ (t : Table) (b : List ℕ) where
     by-model u f = ap (undoneBy t) f ∙ sym (pick-true (fits t) (undoneBy t (undo (decode t) b)) (asItWas (linkAt 0) t) e)
 
     module _ {m : List ℕ} {r : FormEnd} (form : PlacesPost b m r) where
-      pub undo-broken : (r .number ≡ 0 → ⊥) → record { fault = record { number = r .number; place = r .place }; table = t } ≡ planUndone t b
+      pub undo-broken : (r .number ≡ 0 → ⊥) →
+          record { fault = record { number = r .number; place = r .place }; table = t } ≡ planUndone t b
       undo-broken z = by-model _ (form .stop z (decode t))
 
       module _ (z : r .number ≡ 0) where

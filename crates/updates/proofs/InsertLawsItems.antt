@@ -306,7 +306,8 @@ module _ {ws h : List ℕ} {p : Progress} {v w : List ℕ} (pre : InsertPre ws h
       insert-done u =
           record {
             same = λ z ms.
-                let b : model.isElement (decodeParts (p .count) ws ms) (getD w 0 0) ≡ true = kind ms ∙ rw (ne-eqb (kindIn (getD ws g 0)) 2 l) in
+                let b : model.isElement (decodeParts (p .count) ws ms) (getD w 0 0) ≡ true =
+                kind ms ∙ rw (ne-eqb (kindIn (getD ws g 0)) 2 l) in
                 u .same z ms ∙ ap (λ (j : ℕ). copyAll z (decodeParts (p .count) ws ms) v j (stateOf ws ms h p)) e ∙
                 sym (pick-true (eqb (length w) 1 && model.isElement (decodeParts (p .count) ws ms) (getD w 0 0)) _ _
                 (and-both (eqb (length w) 1) _ (eq-eqb (length w) 1 one) b));

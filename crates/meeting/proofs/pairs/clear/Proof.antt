@@ -21,7 +21,9 @@ loop-holds : tie.Need-loop-holds Inv-loop μ-loop
 loop-holds c = (omega arith, refl, λ j h. absurd (omega arith))
 
 slice-write-table : tie.Need-slice-write-table Inv-loop μ-loop
-slice-write-table c = omega (arith, rows-fit (c .before .before .args .table .now) (c .before .before .args .rows) (c .before .before .pre))
+slice-write-table c =
+    let c2 = c .before .before in
+    omega (arith, rows-fit (c2 .args .table .now) (c2 .args .rows) (c2 .pre))
 
 add-i : tie.Need-add-i Inv-loop μ-loop
 add-i c = search (rows-fit (c .before .before .args .table .now) (c .before .before .args .rows) (c .before .before .pre), needs)

@@ -13,7 +13,8 @@ add-t5 : tie.Need-add-t5
 add-t5 c = search (pair-place (c .args .table .now) (c .args .k) (c .args .l) (c .pre), needs)
 
 shared-slice-read-t7 : tie.Need-shared-slice-read-t7
-shared-slice-read-t7 c = search (pair-place (c .before .args .table .now) (c .before .args .k) (c .before .args .l) (c .before .pre), needs)
+shared-slice-read-t7 c =
+    search (pair-place (c .before .args .table .now) (c .before .args .k) (c .before .args .l) (c .before .pre), needs)
 
 returns : tie.Need-returns
 unfolding marks

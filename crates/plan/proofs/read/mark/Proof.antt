@@ -34,8 +34,10 @@ there : (c : tie.Else3) → wordAt (c .before .before .before .before .before .b
     .before .before .before .before .before .before .before .before .args .count
 there c = omega (arith, c .before .number-at .ensures .0, c .if3 .left)
 
-row-kind : (c : tie.After-kind) → kindIn (getD (c .before .before .before .before .before .before .before .before .before .before .before .args
-    .rows .now) (wordAt (c .before .before .before .before .before .before .before .before .before .before .before .args .s .now) 2) 0) ≡ c .kind .result
+row-kind : (c : tie.After-kind) →
+    kindIn (getD (c .before .before .before .before .before .before .before .before .before .before .before .args
+    .rows .now) (wordAt (c .before .before .before .before .before .before .before .before .before .before .before .args .s .now) 2) 0) ≡
+    c .kind .result
 row-kind c =
     let c3 = c .before .before .before in
     let c11 = c3 .before .before .before .before .before .before .before .before in

@@ -66,7 +66,8 @@ returns c =
     let c15 = c11 .before .before .before .before in
     record {
       result = pick-ne _ (bad (fault (c6 .read-record .result .number) (c11 .loop .at))) (c .if1 .taken) ∙
-          reading-refused (c15 .args .bytes .now) (c11 .loop .rows) (c11 .loop .marks) (c11 .loop .count) (c11 .loop .at) (c10 .loop-test .taken) (c11 .loop .inv .2) (c6 .read-record .last .1 .0)
+          reading-refused (c15 .args .bytes .now) (c11 .loop .rows) (c11 .loop .marks) (c11 .loop .count) (c11 .loop .at)
+          (c10 .loop-test .taken) (c11 .loop .inv .2) (c6 .read-record .last .1 .0)
           (c6 .read-record .last .1 .1 .0) (c6 .read-record .result) (c6 .read-record .ensures) (c .if1 .taken);
       canonical = λ z. absurd (c .if1 .taken z);
       room = λ z. absurd (c .if1 .taken z);

@@ -132,7 +132,8 @@ slice-read-kind c = search needs
 kind-requires : tie.Need-kind-requires
 kind-requires c κs = search needs
 
-parent-kind : (c : tie.After-kind) → kindIn (getD (c .before .before .before .before .before .before .before .before .before .before .before
+parent-kind : (c : tie.After-kind) →
+    kindIn (getD (c .before .before .before .before .before .before .before .before .before .before .before
     .args .rows .now) (wordAt (c .before .before .before .before .before .before .before .before .before .before .before .args .s .now)
     2) 0) ≡ c .kind .result
 parent-kind c =

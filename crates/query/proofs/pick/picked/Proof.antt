@@ -113,11 +113,13 @@ loop-again c =
       omega arith,
       past-low (c2),
       filtered-by (pickedRow (c12 .args .rows .now) (c12
-          .args .relation) (c12 .args .constant)) (c12 .args .work .now) (c9 .loop .work) (c12 .args .from) (c9 .loop .k) (c9 .loop .at) (c9
+          .args .relation) (c12 .args .constant)) (c12 .args .work .now) (c9 .loop .work) (c12 .args .from) (c9 .loop .k) (c9 .loop .at)
+          (c9
           .loop .inv .0) (omega (arith, c12 .pre .within)) (omega (arith, c9 .loop .inv .2, c9 .loop .inv .5, c12 .pre .within)) (c9 .loop
           .inv .3) (c4 .is-picked .result) (getD (c9 .loop .work) (c9 .loop .k) 0) (c2 .append-if .last .1 .1 .0) (c2 .append-if .result)
           (rest-at (c12 .args .work .now) (c9 .loop .work) (c9 .loop .k) (c9 .loop .inv .4)) (c4 .is-picked
-          .ensures ∙ ap (pickedRow (c12 .args .rows .now) (c12 .args .relation) (c12 .args .constant)) (c6 .index .ensures .0 ∙ rest-at (c12
+          .ensures ∙ ap (pickedRow (c12 .args .rows .now) (c12 .args .relation) (c12 .args .constant))
+          (c6 .index .ensures .0 ∙ rest-at (c12
           .args .work .now) (c9 .loop .work) (c9 .loop .k) (c9 .loop .inv .4))) (c2 .append-if .ensures .0) (c2
           .append-if .ensures .1),
       ap (drop (c9 .loop .k + 1)) (c2 .append-if .ensures .0) ∙ rest-kept (c4 .is-picked .result)

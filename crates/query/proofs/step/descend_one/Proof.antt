@@ -22,7 +22,8 @@ slice-read-counts c = search needs
 counts-requires : tie.Need-counts-requires
 counts-requires c κs = search needs
 
-same : (c : tie.After-counts) → counted (getD (c .before .before .before .before .before .before .args .flags .now) (linkIn (c .before .before
+same : (c : tie.After-counts) →
+    counted (getD (c .before .before .before .before .before .before .args .flags .now) (linkIn (c .before .before
     .before .before .before .before .args .w)) 0) (getD (c .before .before .before .before .before .before .args .reached .now)
     (linkIn (c .before .before .before .before .before .before .args .w)) 0) (c .before .before .before .before .before .before .args
     .deep) ≡ c .counts .result
@@ -36,7 +37,8 @@ returns : tie.Need-returns
 returns c =
     let c7 = c .before .before .before .before .before .before .before in
     sym
-    (pick-false (counted (getD (c7 .args .flags .now) (linkIn (c7 .args .w)) 0) (getD (c7 .args .reached .now) (linkIn (c7 .args .w)) 0) (c7 .args .deep)) (set (c7 .args .reached .now) (c7 .args .j + 1) 1) (c7 .args .reached .now) (same (c .before) ∙ not-true
+    (pick-false (counted (getD (c7 .args .flags .now) (linkIn (c7 .args .w)) 0) (getD (c7 .args .reached .now) (linkIn (c7 .args .w)) 0)
+    (c7 .args .deep)) (set (c7 .args .reached .now) (c7 .args .j + 1) 1) (c7 .args .reached .now) (same (c .before) ∙ not-true
     (c .before .counts .result) (c .if1 .taken)))
 
 add-reached : tie.Need-add-reached

@@ -32,7 +32,8 @@ returns-2 c =
     let c4 = c .before .before .before .before in
     let c9 = c4 .before .before .before .before .before in
     subst
-    (λ (a : ℕ). Reached (c9 .args .rows .now) (c9 .args .count) a (c9 .args .flags .now) (c .before .before .descend2 .last .1 .1 .1 .1 .0))
+    (λ (a : ℕ). Reached (c9 .args .rows .now) (c9 .args .count) a (c9 .args .flags .now)
+    (c .before .before .descend2 .last .1 .1 .1 .1 .0))
     (sym (c4 .if2 .taken)) (c .before .before .descend2 .ensures)
 
 climb-requires : tie.Need-climb-requires

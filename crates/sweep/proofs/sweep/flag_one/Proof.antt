@@ -30,7 +30,8 @@ returns-2 : tie.Need-returns-2
 returns-2 c =
     let c3 = c .before .before .before in
     ap (λ (j : ℕ). set (c3 .args .numbers .now) j 1) (c .before .index .ensures .0) ∙
-    sym (pick-ne (c3 .args .numbers .now) (set (c3 .args .numbers .now) (c3 .args .link) 1) (λ q. c .if1 .left (c .before .index .ensures .0 ∙ q)))
+    sym (pick-ne (c3 .args .numbers .now) (set (c3 .args .numbers .now) (c3 .args .link) 1)
+    (λ q. c .if1 .left (c .before .index .ensures .0 ∙ q)))
 
 pub flag-one-spec : {M : Type 1} → statement M
 flag-one-spec =

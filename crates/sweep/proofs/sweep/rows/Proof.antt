@@ -95,7 +95,8 @@ loop-again c =
     let c18 = c9 .before .before .before .before .before .before .before .before .before in (
       omega arith,
       sweeping-next (c18 .args .rows .now) (c18 .args .marks .now) (c18 .args .count) (c9 .loop .i) (fitting (c18)) (c18
-          .pre .size) (c8 .loop-test .taken) (c9 .loop .next) (c9 .loop .numbers) (c9 .loop .out) (c9 .loop .inv .1) (c4 .row .last .1 .1 .1
+          .pre .size) (c8 .loop-test .taken) (c9 .loop .next) (c9 .loop .numbers) (c9 .loop .out) (c9 .loop .inv .1)
+          (c4 .row .last .1 .1 .1
           .0) (c4 .row .last .1 .1 .1 .1 .0) (c4 .row .result) (c4 .row .ensures),
       search (c9 .loop .inv .2, needs),
     )

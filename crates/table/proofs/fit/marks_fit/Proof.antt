@@ -118,7 +118,8 @@ loop-again-2 c =
     let c8 = c5 .before .before .before in (
       omega arith,
       c5 .loop .inv .1 ∙ marks-go (c8 .args .rows .now) (c8 .args .count) (c8 .args .marks .now) (c5 .loop .d) false (c4
-          .loop-test .taken) (sym (c .before .before .mark-fits .ensures) ∙ not-false (c .before .before .mark-fits .result) (c .before .if1
+          .loop-test .taken) (sym (c .before .before .mark-fits .ensures) ∙ not-false (c .before .before .mark-fits .result)
+          (c .before .if1
           .left)) (repeated-none (getD (c8 .args .marks .now) (c5 .loop .d) 0) (drop (c5 .loop .d + 1) (c8 .args .marks .now)) (search (
             c .if2
                 .left,

@@ -36,7 +36,8 @@ returns-2 c =
     let c3 = c .before .before .before in
     let c6 = c3 .before .before .before in
     c .link-fits .ensures ∙ ap (linkFits (c6 .args .rows .now) (c6 .args .i)) (c .before .link .ensures) ∙ sym
-    (ap (λ (z : Bool). z && linkFits (c6 .args .rows .now) (c6 .args .i) (linkIn (getD (c6 .args .rows .now) (c6 .args .i) 0))) (sym (c3 .tag-fits .ensures) ∙ not-false (c3 .tag-fits .result) (c .before
+    (ap (λ (z : Bool). z && linkFits (c6 .args .rows .now) (c6 .args .i) (linkIn (getD (c6 .args .rows .now) (c6 .args .i) 0)))
+    (sym (c3 .tag-fits .ensures) ∙ not-false (c3 .tag-fits .result) (c .before
     .before .if1 .left)))
 
 pub row-fits-spec : {M : Type 1} → statement M

@@ -1,5 +1,6 @@
 -- `undoing::undo_all` undoes every record, the last first. The loop's invariant is `Backing`.
-use Rattle.undo.proofs.UndoLawsBack.{Backing, backing-start, backing-end, backing-at, backing-record, backing-refused, backing-again}
+use Rattle.undo.proofs.UndoLawsBack.{Backing, backing-start, backing-end}
+use Rattle.undo.proofs.UndoLawsBack.{backing-at, backing-record, backing-refused, backing-again}
 use native.Mathlib.Omega.{arith}
 use borrow.Author.Needs.{needs}
 use Rattle.undo.proofs.undoing.undo_all.Statement.{statement}
