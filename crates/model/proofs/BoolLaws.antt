@@ -67,6 +67,12 @@ pub pick-cases : {A : Type 0} (P : A → Type 0) (t : Bool) {x y : A} → (t ≡
 pick-cases P true f g = f refl
 pick-cases P false f g = g refl
 
+-- two choices by one test are related, from each side
+pub pick-related : {A : Type 0} (R : A → A → Type 0) (t : Bool) {x x′ y y′ : A} → (t ≡ true → R x x′) → (t ≡ false → R y y′) →
+    R (pick t x y) (pick t x′ y′)
+pick-related R true f g = f refl
+pick-related R false f g = g refl
+
 -- a proof by cases on a test
 pub by-cases : {P : Type 0} (t : Bool) → (t ≡ true → P) → (t ≡ false → P) → P
 by-cases true f g = f refl

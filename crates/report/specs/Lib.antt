@@ -1,3 +1,4 @@
 pub mod Lines
 pub mod Pair
 pub mod Examples
+pub mod Promise
