@@ -11,9 +11,8 @@ use Rattle.model.specs.Base.{pick, all, any, filtered, isIn}
 use Rattle.model.specs.Refusal.{Fault, fault, fine, isFine, orElse}
 use Rattle.model.specs.Table.{Row, Table, table, rowAt, count, isElement, hasParent, isThe, isMarked, withRow, tagFits, rowsFit}
 use Rattle.model.specs.Table.{markFits, noneTwice}
-use Rattle.model.specs.Stored.{Read, bad, got, wordAt}
-use Rattle.model.specs.Stored.{parentIn, wordBytes as wordOf, parentBytes as parentWord, lastMarked, rowLinks}
-use Rattle.model.specs.Stored.{recorded}
+use Rattle.model.specs.Stored.{Read, bad, got, wordAt, parentIn, wordBytes as wordOf, parentBytes as parentWord, lastMarked}
+use Rattle.model.specs.Stored.{rowLinks, recorded}
 use Rattle.model.specs.Step.{signedKey}
 use Rattle.model.specs.Script.{testFits}
 use Rattle.model.specs.History.{Record}

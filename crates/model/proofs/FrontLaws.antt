@@ -17,8 +17,8 @@ use Rattle.model.specs.Refusal.{Fault, isFine, tailAt}
 use Rattle.model.specs.Table.{Table, count, empty}
 use Rattle.model.specs.Stored.{Read, bad, got, wordAt, rowIn, lastMarked, recordFault, recorded, readFrom, readPlan}
 use Rattle.model.specs.Script.{Expr, Parsed, ill, parsed, thenParse, one, two, three, operands, bodySize, exprFault, parseFrom}
-use Rattle.model.specs.Script.{whole, both, letIn, forIn, ifIn, delete, insert, nilKind, documentKind, varKind, stepKind}
-use Rattle.model.specs.Script.{pickKind, bothKind, letKind, forKind, ifKind, newElementKind, newLeafKind, deleteKind, insertKind}
+use Rattle.model.specs.Script.{whole, both, letIn, forIn, ifIn, delete, insert, nilKind, documentKind, variableKind, stepKind}
+use Rattle.model.specs.Script.{pickKind, joinKind, letKind, forKind, ifKind, newElementKind, newLeafKind, deleteKind, insertKind}
 use Rattle.model.specs.Call.{ReadByFront, LongerRefused}
 use Rattle.model.proofs.BoolLaws.{bool-iff, by-cases, pick-cases, pick-related}
 use Rattle.model.proofs.TableLaws.{Well, well-empty}
@@ -118,7 +118,7 @@ size b = 1 + bodySize (getD b 0 0)
 
 size-few : (b : List ℕ) → size b ≤ 4
 size-few b =
-    few (eqb k stepKind) (eqb k pickKind) (eqb k documentKind || eqb k varKind || eqb k newElementKind || eqb k newLeafKind)
+    few (eqb k stepKind) (eqb k pickKind) (eqb k documentKind || eqb k variableKind || eqb k newElementKind || eqb k newLeafKind)
   where
     k : ℕ
     k = getD b 0 0
@@ -184,9 +184,9 @@ module _ (l : ℕ) (f : Reader) (r : ReadsAlike l f) where
   operands-alike z i n v a m b h =
       kind nilKind (bothRead h)
       (kind documentKind (bothRead h)
-      (kind varKind (bothRead h)
+      (kind variableKind (bothRead h)
       (kind stepKind (one-alike i n v m b _ h)
-      (kind bothKind (two-alike i n v v m b (both z) h)
+      (kind joinKind (two-alike i n v v m b (both z) h)
       (kind letKind (two-alike i n v (v + 1) m b (letIn z) h)
       (kind forKind (two-alike i n v (v + 1) m b (forIn z) h)
       (kind ifKind (three-alike i n v m b (ifIn z) h)
