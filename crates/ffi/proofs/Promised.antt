@@ -8,7 +8,7 @@ use native.Mathlib.Omega.{arith}
 use lib.ListN.{length, replicate}
 use borrow.Author.Tests.{le-ltb, le-leb, ltb-false}
 use Rattle.model.specs.Base.{pick, atFront, areBytes}
-use Rattle.model.specs.Call.{Ran, areasFit, ranBy, runBy, countKind, filled}
+use Rattle.model.specs.Call.{Ran, areasFit, ranBy, runBy}
 use Rattle.model.specs.Limits.{answerNeed, historyNeed, workNeed}
 use Rattle.model.specs.Refusal as refusal
 use Rattle.model.specs.Run.{Out, gives, stop, State}
@@ -34,7 +34,7 @@ use Rattle.ffi.specs.Calls.{readCode, readOut, undoCode, undoOut}
 use Rattle.lent.specs.Codes.{codeOf, lentCode, writtenCode, finishedCode, finishedOut}
 use Rattle.ffi.specs.Running.{refusedCall, ranCall, readCall, runCalled}
 use Rattle.lent.specs.Done.{isLentShort, doneOver}
-use Rattle.ffi.specs.Promise.{PlanBack, SweptBack, UndoneBack, RunDone, RunRefused, FreeRunsCommute}
+use Rattle.ffi.specs.Promise.{PlanBack, SweptBack, UndoneBack, RunDone, RunRefused, FreeRunsCommute, endedCall}
 use Rattle.ffi.specs.Promise.{planLeft, historyLeft}
 use Rattle.table.proofs.EncodeLaws.{decode-encode, fits-encode}
 use Rattle.plan.proofs.WritePlanLaws.{well-written, well-out}
@@ -43,7 +43,7 @@ use Rattle.paths.proofs.Promised.{free-told}
 use Rattle.run.proofs.OutcomeLaws.{refuses-fine, run-refuses, outcome-well}
 use Rattle.run.proofs.Promised.{runsCommute}
 use lib.Seq.{take-at}
-use Rattle.model.specs.History.{madeElementKind, madeLeafKind, cutKind, historyBytes}
+use Rattle.model.specs.History.{historyBytes}
 
 -- A PLAN READ is the table in its words; the call then answers n and leaves b
 module _ (p o : List ℕ) (x : model.Table) (read : readPlan p ≡ got x) (room : 2080 ≤ length o) where
@@ -148,15 +148,7 @@ refused-called x a h w f o d k = rw k
 module _ (p s a h w o d : List ℕ) (x : model.Table) (well : isWell x ≡ true) (read : readPlan p ≡ got x)
     (long : isLentShort (length a) (length h) (length w) (length o) (length d) ≡ false) where
   module _ (bytes : areBytes s ≡ true) (v : List ℕ) (t : State) (ends : runBy x (readScript s) ≡ gives v t) where
-    pub run-done : runCalled p s a h w o d ≡ record {
-      code = codeOf 0 0 0;
-      answer = filled (length a) v;
-      history = filled (length h) (historyBytes (t .history));
-      work = replicate (length w) 0;
-      out = atFront (stored (t .plan)) o;
-      done = doneOver (length v) (countKind madeElementKind madeLeafKind (t .history)) (countKind cutKind cutKind (t .history))
-          (length (t .history)) (length (historyBytes (t .history))) (length (stored (t .plan))) d;
-    }
+    pub run-done : runCalled p s a h w o d ≡ endedCall v t a h w o d
     run-done =
         let after : isWell (t .plan) ≡ true = runBy-back x s bytes well v t ends .0 in
         let ok = needs a h w o d long in

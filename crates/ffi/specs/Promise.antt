@@ -46,11 +46,9 @@ UndoneBack =
     (undoCode p h o ≡ codeOf 0 0 (length (stored y))) × (undoOut p h o ≡ atFront (stored y) o)
 
 -- RUN: the answer and the history at the front of their areas, the rest and all of the work area zero; the plan as it then is; six numbers
-abbrev pub RunDone : Type 0
-RunDone =
-    (p s a h w o d : List ℕ) (x : Table) (v : List ℕ) (t : State) → areBytes p ≡ true → areBytes s ≡ true → readPlan p ≡ got x →
-    runBy x (readScript s) ≡ gives v t → isLentShort (length a) (length h) (length w) (length o) (length d) ≡ false →
-    runCalled p s a h w o d ≡ record {
+abbrev pub endedCall : (value : List ℕ) → State → (answer history work out done : List ℕ) → Called
+endedCall v t a h w o d =
+    record {
       code = codeOf 0 0 0;
       answer = filled (length a) v;
       history = filled (length h) (historyBytes (t .history));
@@ -59,6 +57,12 @@ RunDone =
       done = doneOver (length v) (countKind madeElementKind madeLeafKind (t .history)) (countKind cutKind cutKind (t .history))
           (length (t .history)) (length (historyBytes (t .history))) (length (stored (t .plan))) d;
     }
+
+abbrev pub RunDone : Type 0
+RunDone =
+    (p s a h w o d : List ℕ) (x : Table) (v : List ℕ) (t : State) → areBytes p ≡ true → areBytes s ≡ true → readPlan p ≡ got x →
+    runBy x (readScript s) ≡ gives v t → isLentShort (length a) (length h) (length w) (length o) (length d) ≡ false →
+    runCalled p s a h w o d ≡ endedCall v t a h w o d
 
 -- refused by the script's reader or by the run: answer, history and work are zero, out is as it was, the six numbers are zero
 abbrev pub RunRefused : Type 0

@@ -2,7 +2,7 @@
 use mathlib.Core.Path.{_≡_, ap, sym, _∙_, subst}
 use mathlib.Core.Bool.{Bool, true, false, _||_}
 use mathlib.Core.List.{List, [], _∷_, map}
-use Prim.Native.Nat.{ℕ, _-_, _≤_, _<_}
+use Prim.Native.Nat.{ℕ, _-_, _≤_}
 use native.Mathlib.Omega.{arith}
 use lib.ListN.{length, take}
 use lib.Seq.{take-suc, length-take-le}
@@ -22,7 +22,7 @@ use Rattle.meeting.specs.Pairs.{HasRows}
 use Rattle.paths.specs.Filling.{TablePre}
 use Rattle.positions.specs.Words.{entriesBy, climbing}
 use Rattle.emission.specs.Emitting.{EmitPre, EmitPost}
-use Rattle.paths.specs.Analysis.{byAnswer, analysisOf, analysed, ScriptPre, ScriptPost, AnswerPre, AnswerPost}
+use Rattle.paths.specs.Analysis.{byAnswer, analysisOf, analysed, ScriptPre, ScriptPost, AnswerPre, AnswerPost, FrontPre}
 use Rattle.paths.specs.declared.Analysis.{Analysis}
 use Rattle.paths.specs.declared.Analysis.the-variants.{Refused, Free, Upward, Meet}
 use Rattle.emission.specs.declared.emit.Emitted as code
@@ -57,33 +57,26 @@ module _ {b ws : List ℕ} (pre : ScriptPre b ws) {env : List ℕ} where
       before =
           ap (map entryOf) (take-suc ws 0 0 (omega (arith, pre .size))) ∙ ap (λ (w : ℕ). entryOf w ∷ []) (pre .zero)
 
-entries-lower : (ws : List ℕ) (n : ℕ) (e : Expr) → entriesIn ws n ≡ entriesOf e → AreLower (entriesIn ws n)
-entries-lower ws n e h = subst AreLower (sym h) (emitted-right 1 (λ q. omega arith) e .lower)
-
-entries-nothing : (ws : List ℕ) (n : ℕ) (e : Expr) → entriesIn ws n ≡ entriesOf e → pathsOn (entriesIn ws n) 0 ≡ []
+-- what the answer asks of them
+front-asks : (b : List ℕ) {ws : List ℕ} {n : ℕ} → ScriptPost b ws n → FrontPre ws n
 unfolding pathsFrom
-entries-nothing ws n e h =
-    ap (λ (es : List Entry). pathsOn es 0) h ∙ emitted-right 1 (λ q. omega arith) e .keeps 0 (omega arith)
-
-entries-some : (ws : List ℕ) (n : ℕ) (e : Expr) → n ≤ length ws → entriesIn ws n ≡ entriesOf e → 0 < n
-entries-some ws n e l h = omega (arith, entriesIn-length ws n l, ap length h, emitted-right 1 (λ q. omega arith) e .more)
+front-asks b {ws} {n} post =
+    let right = emitted-right 1 (λ q. omega arith) (exprAt 16 b 0) in
+    let within : n ≤ length ws = omega (arith, post .size, post .few) in
+    record {
+      size = post .size;
+      few = post .few;
+      positions = record {
+        some = omega (arith, length-take-le n ws within, entriesIn-length ws n within, ap length (post .entries), right .more);
+        few = omega (arith, length-take-le n ws within, post .few);
+        nothing = ap (λ (es : List Entry). pathsOn es 0) (post .entries) ∙ right .keeps 0 (omega arith);
+        lower = subst AreLower (sym (post .entries)) (right .lower);
+      };
+    }
 
 pub answer-asks : (b c : List ℕ) {ws : List ℕ} {n : ℕ} {us : List ℕ} {m : ℕ} → ScriptPost b ws n → ScriptPost c us m → (t : List ℕ) →
     HasRows t n → AnswerPre ws n us m t
-answer-asks b c {ws} {n} {us} {m} one two t room =
-    record {
-      first = one .size;
-      firstSome = entries-some ws n (exprAt 16 b 0) (omega (arith, one .size, one .few)) (one .entries);
-      firstFew = one .few;
-      firstNothing = entries-nothing ws n (exprAt 16 b 0) (one .entries);
-      firstLower = entries-lower ws n (exprAt 16 b 0) (one .entries);
-      second = two .size;
-      secondSome = entries-some us m (exprAt 16 c 0) (omega (arith, two .size, two .few)) (two .entries);
-      secondFew = two .few;
-      secondNothing = entries-nothing us m (exprAt 16 c 0) (two .entries);
-      secondLower = entries-lower us m (exprAt 16 c 0) (two .entries);
-      table = room;
-    }
+answer-asks b c one two t room = record { first = front-asks b one; second = front-asks c two; table = room }
 
 upward-is : (e f : Expr) → (hasUp e || hasUp f) ≡ true → Upward ≡ byAnswer (answer e f)
 upward-is e f h = rw h
@@ -102,23 +95,12 @@ module _ {ws : List ℕ} {n : ℕ} {us : List ℕ} {m : ℕ} {t : List ℕ} (pre
       (subst (λ (y : List ℕ). TablePre (take n ws) y t) (sym (part-is us m)) parts)
     where
       parts : TablePre (take n ws) (take m us) t
-      parts = record {
-        first = record {
-          some = omega (arith, length-take-le n ws (omega (arith, pre .first, pre .firstFew)), pre .firstSome);
-          few = omega (arith, length-take-le n ws (omega (arith, pre .first, pre .firstFew)), pre .firstFew);
-          nothing = pre .firstNothing;
-          lower =
-              pre .firstLower;
-        };
-        second = record {
-          some = omega (arith, length-take-le m us (omega (arith, pre .second, pre .secondFew)), pre .secondSome);
-          few = omega (arith, length-take-le m us (omega (arith, pre .second, pre .secondFew)), pre .secondFew);
-          nothing = pre .secondNothing;
-          lower =
-              pre .secondLower;
-        };
-        room = subst (HasRows t) (sym (length-take-le n ws (omega (arith, pre .first, pre .firstFew)))) (pre .table);
-      }
+      parts =
+          record {
+            first = pre .first .positions;
+            second = pre .second .positions;
+            room = subst (HasRows t) (sym (length-take-le n ws (omega (arith, pre .first .size, pre .first .few)))) (pre .table);
+          }
 
   module _ {x : Bool} (climbs : x ≡ climbing (part ws n)) where
     first-climbs : x ≡ climbing (take n ws)

@@ -1,9 +1,9 @@
 -- What the analysis of two scripts answers, for every input. Assumes nothing: these are definitions.
 use mathlib.Core.Path.{_≡_}
-use mathlib.Core.List.{List, []}
+use mathlib.Core.List.{List}
 use Prim.Native.String.{String}
-use Prim.Native.Nat.{ℕ, _≤_, _<_}
-use lib.ListN.{length, getD}
+use Prim.Native.Nat.{ℕ, _≤_}
+use lib.ListN.{length, getD, take}
 use Rattle.model.specs.Limits.{maxDepth}
 use Rattle.model.specs.Script.{Expr}
 use Rattle.model.specs.Meeting.{Answer, free, upward, meet, answer}
@@ -11,11 +11,12 @@ use Rattle.model.specs.Call as model
 use Rattle.table.specs.Results.{faultOf}
 use Rattle.records.specs.Walk.{exprAt}
 use Rattle.script.specs.Reading.{scriptRead}
-use Rattle.positions.specs.Positions.{entriesOf, AreLower, pathsOn}
+use Rattle.positions.specs.Positions.{entriesOf}
 use Rattle.positions.specs.Words.{entriesIn}
 use Rattle.meeting.specs.Pairs.{maxPositions, HasRows}
 use Rattle.paths.specs.declared.Analysis.{Analysis}
 use Rattle.paths.specs.declared.Analysis.the-variants.{Refused, Free, Upward, Meet}
+use Rattle.paths.specs.Filling.{PositionsPre}
 
 -- the case of each answer
 abbrev pub byAnswer : Answer → Analysis
@@ -65,18 +66,16 @@ pub record ScriptPost (b ws′ : List ℕ) (n : ℕ) : Type 0 where
   pub few : n ≤ maxPositions
   pub entries : entriesIn ws′ n ≡ entriesOf (exprAt maxDepth b 0)
 
+-- positions in the first of the words
+pub record FrontPre (ws : List ℕ) (n : ℕ) : Type 0 where
+  pub size : length ws ≡ maxPositions
+  pub few : n ≤ maxPositions
+  pub positions : PositionsPre (take n ws)
+
 -- THE ANSWER from the positions of two expressions
 pub record AnswerPre (ws : List ℕ) (n : ℕ) (us : List ℕ) (m : ℕ) (t : List ℕ) : Type 0 where
-  pub first : length ws ≡ maxPositions
-  pub firstSome : 0 < n
-  pub firstFew : n ≤ maxPositions
-  pub firstNothing : pathsOn (entriesIn ws n) 0 ≡ []
-  pub firstLower : AreLower (entriesIn ws n)
-  pub second : length us ≡ maxPositions
-  pub secondSome : 0 < m
-  pub secondFew : m ≤ maxPositions
-  pub secondNothing : pathsOn (entriesIn us m) 0 ≡ []
-  pub secondLower : AreLower (entriesIn us m)
+  pub first : FrontPre ws n
+  pub second : FrontPre us m
   pub table : HasRows t n
 
 pub record AnswerPost (ws : List ℕ) (n : ℕ) (us : List ℕ) (m : ℕ) (r : Analysis) : Type 0 where
