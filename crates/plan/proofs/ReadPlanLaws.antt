@@ -19,6 +19,7 @@ use Rattle.table.specs.declared.Table.{Table}
 use Rattle.plan.specs.declared.read.PlanEnd.{PlanEnd}
 use Rattle.plan.specs.declared.read.RecordRead.{RecordRead}
 use Rattle.table.proofs.WordLaws.{encode-decode}
+use Rattle.table.specs.Results.{asItWas}
 
 -- reading goes on from what is held, at a place
 module _ (b ws ms : List ℕ) (n at : ℕ) (h : at < length b)
@@ -84,10 +85,9 @@ reading-end b ws ms n at h held =
 
 -- the call, from what the records leave
 module _ (b ws ms : List ℕ) (r : PlanEnd) (post : ReadPost b ws ms r) where
-  pub plan-refused : (t : Table) → (r .number ≡ 0 → ⊥) → t ≡ encode model.empty →
-      record { fault = record { number = r .number; place = r .place }; table = t } ≡ planRead b
+  pub plan-refused : (t : Table) → (r .number ≡ 0 → ⊥) → t ≡ encode model.empty → asItWas (fault (r .number) (r .place)) t ≡ planRead b
   plan-refused t z e =
-      ap (λ (u : Table). record { fault = record { number = r .number; place = r .place }; table = u }) e ∙
+      ap (asItWas (fault (r .number) (r .place))) e ∙
       ap readBy
       (sym (pick-ne (got (decodeParts (r .count) ws ms)) (bad (fault (r .number) (r .place))) z) ∙ post .result)
 

@@ -19,13 +19,7 @@ pub fn read_plan(bytes: &[u8]) -> TableResult
     let mut marks = [0u16; Table::DOCUMENTS];
     let end = read::records(bytes, &mut rows, &mut marks);
     if end.number != 0 {
-        return TableResult {
-            fault: Fault {
-                number: end.number,
-                place: end.place,
-            },
-            table: Table::empty(),
-        };
+        return fit::refused(end.number, end.place, Table::empty());
     }
     TableResult {
         fault: Fault {

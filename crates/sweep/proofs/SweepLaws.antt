@@ -25,6 +25,8 @@ use Rattle.table.proofs.FittedLaws.{Fits, fits-mark}
 use Rattle.model.proofs.SweepLaws.{newNumber-zero, newNumber-suc, isKept-unrolled, newNumber-le, isKept-marked}
 use Rattle.model.proofs.SweepLaws.{isKept-parent, length-sweptRows, length-sweptMarks, sweptMarks-at}
 use Rattle.model.proofs.TableLaws.{any-by}
+use Rattle.table.specs.Results.{asItWas}
+use Rattle.model.specs.Refusal.{linkAt}
 
 -- ROWS: the start
 pub sweeping-none : (ws ms ns out : List ℕ) (n : ℕ) → Flagged ms ns → out ≡ replicate 512 0 → Sweeping (decodeParts n ws ms) 0 0 ns out
@@ -297,7 +299,7 @@ module _ (ws ms : List ℕ) (n : ℕ) (fits : Fits n ws ms) (size : length ws �
   encode-swept ms′ e = λ i. record { count = kept-count i; rows = (s .rows ∙ ap wordsOf rows-all) i; marks = (e ∙ links-swept) i }
 
 -- refused, and swept
-pub sweep-ill : (t : Table) → words.fits t ≡ false → record { fault = record { number = 6; place = 0 }; table = t } ≡ planSwept t
+pub sweep-ill : (t : Table) → words.fits t ≡ false → asItWas (linkAt 0) t ≡ planSwept t
 sweep-ill t e = rw e
 
 pub sweep-done : (t : Table) (u : Table) → words.fits t ≡ true → u ≡ encode (swept (decode t)) →

@@ -14,13 +14,7 @@ pub fn sweep_table(table: Table) -> TableResult
 {
     let count = table.count;
     if !fit::fits(count, &table.rows, &table.marks) {
-        return TableResult {
-            fault: Fault {
-                number: Fault::LINK,
-                place: 0,
-            },
-            table,
-        };
+        return fit::refused(Fault::LINK, 0, table);
     }
     let mut numbers = [0u16; Table::LINKS];
     let mut rows = [0u32; Table::ROWS];

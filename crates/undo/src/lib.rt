@@ -14,24 +14,12 @@ pub fn undo(table: Table, history: &[u8]) -> TableResult
 {
     let count = table.count;
     if !fit::fits(count, &table.rows, &table.marks) {
-        return TableResult {
-            fault: Fault {
-                number: Fault::LINK,
-                place: 0,
-            },
-            table,
-        };
+        return fit::refused(Fault::LINK, 0, table);
     }
     let mut places = [0u16; Table::HISTORY_RECORDS];
     let form = undoing::form(history, &mut places);
     if form.number != 0 {
-        return TableResult {
-            fault: Fault {
-                number: form.number,
-                place: form.place,
-            },
-            table,
-        };
+        return fit::refused(form.number, form.place, table);
     }
     let mut rows = table.rows;
     let back = undoing::undo_all(
@@ -43,13 +31,7 @@ pub fn undo(table: Table, history: &[u8]) -> TableResult
         form.records,
     );
     if back.number != 0 {
-        return TableResult {
-            fault: Fault {
-                number: back.number,
-                place: back.place,
-            },
-            table,
-        };
+        return fit::refused(back.number, back.place, table);
     }
     let marks = table.marks;
     TableResult {

@@ -1,6 +1,6 @@
 -- `read_plan` answers the plan read, or its refusal and the empty table.
 use Rattle.plan.proofs.ReadPlanLaws.{plan-refused, plan-read}
-use mathlib.Core.Path.{refl}
+use mathlib.Core.Path.{refl, _∙_}
 use borrow.Author.Needs.{needs}
 use Rattle.plan.proofs.read_plan.Statement.{statement}
 use Rattle.plan.proofs.read_plan.Tie as tie
@@ -17,12 +17,17 @@ records-requires c κs = record { rows = refl; marks = refl }
 empty-requires : tie.Need-empty-requires
 empty-requires c κs = search needs
 
+refused-requires : tie.Need-refused-requires
+refused-requires c κs = search needs
+
 returns : tie.Need-returns
 returns c =
-    let c5 = c .before .before .before .before .before in
-    let c9 = c5 .before .before .before .before in
-    plan-refused (c9 .args .bytes .now) (c5 .records .last .1 .0) (c5 .records .last .1 .1 .0) (c5 .records .result)
-    (c5 .records .ensures) (c .empty .result) (c .before .if1 .taken) (c .empty .ensures)
+    let c1 = c .before in
+    let c6 = c1 .before .before .before .before .before in
+    let c10 = c6 .before .before .before .before in
+    c .refused .ensures ∙
+    plan-refused (c10 .args .bytes .now) (c6 .records .last .1 .0) (c6 .records .last .1 .1 .0) (c6 .records .result)
+    (c6 .records .ensures) (c1 .empty .result) (c1 .before .if1 .taken) (c1 .empty .ensures)
 
 returns-2 : tie.Need-returns-2
 returns-2 c =
@@ -39,5 +44,6 @@ read-plan-spec =
     slice-aggregate-records-2
     records-requires
     empty-requires
+    refused-requires
     returns
     returns-2)

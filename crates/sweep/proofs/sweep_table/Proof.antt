@@ -24,10 +24,15 @@ fitting c =
     fits-at (c7 .args .t1 .count) (c7 .args .t1 .rows) (c7 .args .t1 .marks) (sym (c .before
     .fits2 .ensures) ∙ not-false (c .before .fits2 .result) (c .if1 .left))
 
+refused-requires : tie.Need-refused-requires
+refused-requires c κs = search needs
+
 returns : tie.Need-returns
 returns c =
-    let c7 = c .before .before .before .before .before .before .before in
-    sweep-ill (c7 .args .t1) (sym (c .before .fits2 .ensures) ∙ not-true (c .before .fits2 .result) (c .if1 .taken))
+    let c2 = c .before .before in
+    let c8 = c2 .before .before .before .before .before .before in
+    c .refused .ensures ∙
+    sweep-ill (c8 .args .t1) (sym (c2 .fits2 .ensures) ∙ not-true (c2 .fits2 .result) (c .before .if1 .taken))
 
 slice-aggregate-rows : tie.Need-slice-aggregate-rows
 slice-aggregate-rows c = search needs
@@ -82,6 +87,7 @@ sweep-table-spec =
     tie.close
     (tie.spec
     fits-requires
+    refused-requires
     returns
     slice-aggregate-rows
     slice-aggregate-rows-2

@@ -21,11 +21,15 @@ is-formed c = search (c .if2 .left, needs)
 fits-requires : tie.Need-fits-requires
 fits-requires c κs = search needs
 
+refused-requires : tie.Need-refused-requires
+refused-requires c κs = search needs
+
 returns : tie.Need-returns
 returns c =
-    let c8 = c .before .before .before .before .before .before .before .before in
-    undo-ill (c8 .args .t1) (c8 .args .history .now)
-    (sym (c .before .fits2 .ensures) ∙ not-true (c .before .fits2 .result) (c .if1 .taken))
+    let c2 = c .before .before in
+    let c9 = c2 .before .before .before .before .before .before .before in
+    c .refused .ensures ∙
+    undo-ill (c9 .args .t1) (c9 .args .history .now) (sym (c2 .fits2 .ensures) ∙ not-true (c2 .fits2 .result) (c .before .if1 .taken))
 
 slice-aggregate-form : tie.Need-slice-aggregate-form
 slice-aggregate-form c = search needs
@@ -33,12 +37,16 @@ slice-aggregate-form c = search needs
 form-requires : tie.Need-form-requires
 form-requires c κs = search needs
 
+refused-requires-2 : tie.Need-refused-requires-2
+refused-requires-2 c κs = search needs
+
 returns-2 : tie.Need-returns-2
 returns-2 c =
-    let c3 = c .before .before .before in
-    let c5 = c3 .before .before in
-    let c13 = c5 .before .before .before .before .before .before .before .before in
-    undo-broken (c13 .args .t1) (c13 .args .history .now) (fitting (c5)) (c3 .form .ensures) (c .if2 .taken)
+    let c4 = c .before .before .before .before in
+    let c6 = c4 .before .before in
+    let c14 = c6 .before .before .before .before .before .before .before .before in
+    c .refused2 .ensures ∙
+    undo-broken (c14 .args .t1) (c14 .args .history .now) (fitting c6) (c4 .form .ensures) (c .before .if2 .taken)
 
 slice-aggregate-undo-all : tie.Need-slice-aggregate-undo-all
 slice-aggregate-undo-all c = search needs
@@ -55,15 +63,19 @@ undo-all-requires c κs =
     undo-pre (c19 .args .t1) (c19 .args .history .now) (fitting (c11)) (c9 .form .ensures) (is-formed (c6)) (size (c19) .rows)
     (c9 .form .kept .1 .0)
 
+refused-requires-3 : tie.Need-refused-requires-3
+refused-requires-3 c κs = search needs
+
 returns-3 : tie.Need-returns-3
 returns-3 c =
-    let c3 = c .before .before .before in
-    let c10 = c3 .before .before .before .before .before .before .before in
-    let c13 = c10 .before .before .before in
-    let c15 = c13 .before .before in
-    let c23 = c15 .before .before .before .before .before .before .before .before in
-    undo-refused (c23 .args .t1) (c23 .args .history .now) (fitting (c15)) (c13 .form .ensures) (is-formed (c10))
-    (c3 .undo-all .ensures) (c .if3 .taken)
+    let c4 = c .before .before .before .before in
+    let c11 = c4 .before .before .before .before .before .before .before in
+    let c14 = c11 .before .before .before in
+    let c16 = c14 .before .before in
+    let c24 = c16 .before .before .before .before .before .before .before .before in
+    c .refused3 .ensures ∙
+    undo-refused (c24 .args .t1) (c24 .args .history .now) (fitting c16) (c14 .form .ensures) (is-formed c11)
+    (c4 .undo-all .ensures) (c .before .if3 .taken)
 
 returns-4 : tie.Need-returns-4
 returns-4 c =
@@ -80,12 +92,15 @@ undo-spec =
     tie.close
     (tie.spec
     fits-requires
+    refused-requires
     returns
     slice-aggregate-form
     form-requires
+    refused-requires-2
     returns-2
     slice-aggregate-undo-all
     slice-aggregate-undo-all-2
     undo-all-requires
+    refused-requires-3
     returns-3
     returns-4)
