@@ -2,13 +2,12 @@
 use mathlib.Core.Path.{_≡_, refl, ap, sym, transport, _∙_}
 use mathlib.Core.Bool.{true, false, false≢true}
 use mathlib.Core.List.{List}
-use mathlib.Core.Logic.{_⊎_, inl, inr}
 use Prim.Native.Nat.{ℕ}
 use native.Mathlib.Omega.{arith}
 use lib.ListN.{length}
 use Rattle.model.specs.Call.{areasFit, Ran, runBy, ranBy, runCall, callsEnd, CallsEqual, EitherOrder}
 use Rattle.model.specs.Refusal.{isFine}
-use Rattle.model.specs.Run.{Out, gives, stop}
+use Rattle.model.specs.Run.{Out, gives, stop, State}
 use Rattle.model.specs.Script.{readScript}
 use Rattle.model.specs.Stored.{got, readPlan}
 use Rattle.model.specs.Table.{Table, isWell}
@@ -22,16 +21,16 @@ use Rattle.paths.proofs.Promised.{free-which}
 use Rattle.run.proofs.OutcomeLaws.{refuses-fine, run-refuses}
 use Rattle.ffi.specs.Running.{Called}
 use Rattle.ffi.specs.Promise.{planLeft, Lent, Suffices, runLent, runAfter, OrderAnswers, told, FreeCallsCommute}
-use Rattle.ffi.proofs.Promised.{needs, run-done, plan-left, run-refused}
+use Rattle.ffi.proofs.Promised.{needs, run-done, plan-left, call-ends}
 
 -- the model's run
 abbrev modelRun : Table → Lent → Ran
 modelRun x l = runCall x (l .script) (l .answer) (l .history) (l .work)
 
-areas-fit : (l : Lent) → Suffices l → areasFit (l .answer) (l .history) (l .work) ≡ true
-areas-fit l ok = needs (l .answer) (l .history) (l .work) (l .out) (l .done) (ok .1) .0
+lent-fit : (l : Lent) → Suffices l → areasFit (l .answer) (l .history) (l .work) ≡ true
+lent-fit l ok = needs (l .answer) (l .history) (l .work) (l .out) (l .done) (ok .1) .0
 
--- A CALL on a plan that is read as x tells the model's run, or both refuse
+-- A CALL on a plan that is read as x answers 0 and tells the model's run
 pub record Tells (p : List ℕ) (x : Table) (l : Lent) : Type 0 where
   pub fine : isFine (modelRun x l .fault) ≡ true
   pub answers : runLent p l .code ≡ codeOf 0 0 0
@@ -39,51 +38,43 @@ pub record Tells (p : List ℕ) (x : Table) (l : Lent) : Type 0 where
   pub left : readPlan (planLeft (runLent p l)) ≡ got (modelRun x l .plan)
   pub tells : told (runLent p l) (modelRun x l .plan) ≡ modelRun x l
 
-pub record Stops (p : List ℕ) (x : Table) (l : Lent) : Type 0 where
-  pub refused : isFine (modelRun x l .fault) ≡ false
-  pub answers : runLent p l .code ≡ codeOf 0 0 0 → ⊥
-
 module _ (p : List ℕ) (x : Table) (well : isWell x ≡ true) (read : readPlan p ≡ got x) (l : Lent) (ok : Suffices l) where
   run-is : (q : Out) → runBy x (readScript (l .script)) ≡ q →
       modelRun x l ≡ ranBy x (length (l .answer)) (length (l .history)) (length (l .work)) q
   run-is q e =
-      pick-true _ _ _ (areas-fit l ok) ∙
+      pick-true _ _ _ (lent-fit l ok) ∙
       ap (ranBy x (length (l .answer)) (length (l .history)) (length (l .work))) (pick-true (isWell x) _ _ well ∙ e)
 
-  tells-or : Tells p x l ⊎ Stops p x l
-  tells-or = go (runBy x (readScript (l .script))) refl
-    where
-      go : (q : Out) → runBy x (readScript (l .script)) ≡ q → Tells p x l ⊎ Stops p x l
-      go (stop f) e =
-          let c = run-refused p (l .script) (l .answer) (l .history) (l .work) (l .out) (l .done) x well read (ok .1) f e in
-          inr
-          (record {
-            refused = ap (λ (r : Ran). isFine (r .fault)) (run-is (stop f) e) ∙ refuses-fine (run-refuses x (l .script)) f e;
-            answers = λ a.
-                let n : codeOf (f .number) 2 (f .place) ≡ 0 = sym (ap (λ (r : Called). r .code) c) ∙ a in
-                omega arith;
-          })
-      go (gives v t) e =
-          let r = run-is (gives v t) e in
-          let after = runBy-back x (l .script) (ok .0) well v t e .0 in
-          let c = run-done p (l .script) (l .answer) (l .history) (l .work) (l .out) (l .done) x well read (ok .1) (ok .0) v t e in
-          inl
-          (record {
-            fine = ap (λ (r : Ran). isFine (r .fault)) r;
-            answers = ap (λ (r : Called). r .code) c;
-            well = ap (λ (r : Ran). isWell (r .plan)) r ∙ after;
-            left = ap readPlan
-                (plan-left p (l .script) (l .answer) (l .history) (l .work) (l .out) (l .done) x well read (ok .1) (ok .0) v t e) ∙
-                storedBack .0 (t .plan) after ∙ ap (λ (r : Ran). got (r .plan)) (sym r);
-            tells = (λ i. told (c i) (r i .plan)) ∙ sym r;
-          })
+  by-run : (v : List ℕ) (t : State) → runBy x (readScript (l .script)) ≡ gives v t → Tells p x l
+  by-run v t e =
+      let r = run-is (gives v t) e in
+      let after = runBy-back x (l .script) (ok .0) well v t e .0 in
+      let c = run-done p (l .script) (l .answer) (l .history) (l .work) (l .out) (l .done) x well read (ok .1) (ok .0) v t e in
+      record {
+        fine = ap (λ (r : Ran). isFine (r .fault)) r;
+        answers = ap (λ (r : Called). r .code) c;
+        well = ap (λ (r : Ran). isWell (r .plan)) r ∙ after;
+        left = ap readPlan
+            (plan-left p (l .script) (l .answer) (l .history) (l .work) (l .out) (l .done) x well read (ok .1) (ok .0) v t e) ∙
+            storedBack .0 (t .plan) after ∙ ap (λ (r : Ran). got (r .plan)) (sym r);
+        tells = (λ i. told (c i) (r i .plan)) ∙ sym r;
+      }
 
-  -- answered 0, and fine in the model
+  -- answered 0, or fine in the model
   by-answer : runLent p l .code ≡ codeOf 0 0 0 → Tells p x l
-  by-answer a = elim tells-or [ inl t ↦ t | inr s ↦ absurd (s .answers a) ]
+  by-answer a =
+      let k = call-ends p (l .script) (l .answer) (l .history) (l .work) (l .out) (l .done) x well read (ok .1) a in
+      by-run (k .0) (k .1 .0) (k .1 .1)
 
   by-fine : isFine (modelRun x l .fault) ≡ true → Tells p x l
-  by-fine f = elim tells-or [ inl t ↦ t | inr s ↦ absurd (false≢true (sym (s .refused) ∙ f)) ]
+  by-fine f = go (runBy x (readScript (l .script))) refl
+    where
+      go : (q : Out) → runBy x (readScript (l .script)) ≡ q → Tells p x l
+      go (stop g) e =
+          absurd
+          (false≢true
+          (sym (refuses-fine (run-refuses x (l .script)) g e) ∙ sym (ap (λ (r : Ran). isFine (r .fault)) (run-is (stop g) e)) ∙ f))
+      go (gives v t) e = by-run v t e
 
 -- AN ORDER: both calls answer 0 exactly when both runs of the model end
 module _ (p : List ℕ) (x : Table) (well : isWell x ≡ true) (read : readPlan p ≡ got x) (l m : Lent) (ok : Suffices l)
@@ -138,7 +129,7 @@ freeCallsCommute p x l m bytes read ok ok′ says = (
     either : EitherOrder (l .script) (m .script) x (l .answer) (l .history) (l .work) (m .answer) (m .history) (m .work)
     either =
         callsCommute (l .script) (m .script) x (l .answer) (l .history) (l .work) (m .answer) (m .history) (m .work) (ok .0) (ok′ .0)
-        (free-which (l .script) (m .script) (omega (arith, says))) well (areas-fit l ok) (areas-fit m ok′)
+        (free-which (l .script) (m .script) (omega (arith, says))) well (lent-fit l ok) (lent-fit m ok′)
 
     other : OrderAnswers p l m → Both p x well read m l ok′ ok
     other a =

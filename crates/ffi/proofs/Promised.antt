@@ -1,15 +1,14 @@
 -- The C calls in the model's words: a plan that is read, swept, undone or run on is well formed, so writing it is never refused.
-use mathlib.Core.Path.{_≡_, ap, _∙_, refl}
-use mathlib.Core.Bool.{true, false, _||_, _&&_}
+use mathlib.Core.Path.{_≡_, ap, _∙_, refl, sym}
+use mathlib.Core.Bool.{true, false}
 use mathlib.Core.List.{List}
 use Prim.Native.Nat.{ℕ, _≤_}
-use lib.Dec.{ltb, leb}
+use lib.Dec.{ltb}
 use native.Mathlib.Omega.{arith}
 use lib.ListN.{length, replicate}
-use borrow.Author.Tests.{le-ltb, le-leb, ltb-false}
+use borrow.Author.Tests.{le-ltb}
 use Rattle.model.specs.Base.{pick, atFront, areBytes}
 use Rattle.model.specs.Call.{Ran, areasFit, ranBy, runBy}
-use Rattle.model.specs.Limits.{answerNeed, historyNeed, workNeed}
 use Rattle.model.specs.Refusal as refusal
 use Rattle.model.specs.Run.{Out, gives, stop, State}
 use Rattle.model.specs.Script.{readScript}
@@ -18,7 +17,7 @@ use Rattle.model.specs.Sweep.{swept}
 use Rattle.model.specs.Table.{isWell}
 use Rattle.model.specs.Table as model
 use Rattle.model.specs.Undo.{back, undo}
-use Rattle.model.proofs.BoolLaws.{and-both, or-neither, pick-true, pick-false}
+use Rattle.model.proofs.BoolLaws.{pick-true, pick-false}
 use Rattle.model.proofs.RunsBack.{runBy-back}
 use Rattle.model.proofs.StoredBack.{storedBack}
 use Rattle.model.proofs.SweepsWell.{sweepsWell}
@@ -31,8 +30,8 @@ use Rattle.table.specs.declared.TableResult.{TableResult}
 use Rattle.undo.specs.Undoing.{planUndone, undoneBy}
 use Rattle.run.specs.Calls.{ran, resultOf, outcomeOf}
 use Rattle.ffi.specs.Calls.{readCode, readOut, undoCode, undoOut}
-use Rattle.lent.specs.Codes.{codeOf, lentCode, writtenCode, finishedCode, finishedOut}
-use Rattle.ffi.specs.Running.{refusedCall, ranCall, readCall, runCalled}
+use Rattle.lent.specs.Codes.{codeOf, lentCode, writtenCode, finishedCode, finishedOut, outNeed}
+use Rattle.ffi.specs.Running.{refusedCall, ranCall, readCall, runCalled, Called}
 use Rattle.lent.specs.Done.{isLentShort, doneOver}
 use Rattle.ffi.specs.Promise.{PlanBack, SweptBack, UndoneBack, RunDone, RunRefused, FreeRunsCommute, endedCall}
 use Rattle.ffi.specs.Promise.{planLeft, historyLeft}
@@ -44,26 +43,28 @@ use Rattle.run.proofs.OutcomeLaws.{refuses-fine, run-refuses, outcome-well}
 use Rattle.run.proofs.Promised.{runsCommute}
 use lib.Seq.{take-at}
 use Rattle.model.specs.History.{historyBytes}
+use Rattle.lent.proofs.EndLaws.{long-enough}
+use Rattle.run.proofs.CallLaws.{areas-fit}
 
 -- A PLAN READ is the table in its words; the call then answers n and leaves b
-module _ (p o : List ℕ) (x : model.Table) (read : readPlan p ≡ got x) (room : 2080 ≤ length o) where
+module _ (p o : List ℕ) (x : model.Table) (read : readPlan p ≡ got x) (room : outNeed ≤ length o) where
   the-plan : library.planRead p ≡ results.result refusal.fine x
   the-plan = ap library.readBy read
 
-  code-then : (n : TableResult → ℕ) → pick (ltb (length o) 2080) lentCode (readCode (library.planRead p) (n (library.planRead p))) ≡
+  code-then : (n : TableResult → ℕ) → pick (ltb (length o) outNeed) lentCode (readCode (library.planRead p) (n (library.planRead p))) ≡
       n (results.result refusal.fine x)
   code-then n =
-      ap (λ (q : TableResult). pick (ltb (length o) 2080) lentCode (readCode q (n q))) the-plan ∙
-      pick-false _ lentCode _ (le-ltb (length o) 2080 room)
+      ap (λ (q : TableResult). pick (ltb (length o) outNeed) lentCode (readCode q (n q))) the-plan ∙
+      pick-false _ lentCode _ (le-ltb (length o) outNeed room)
 
-  out-then : (b : TableResult → List ℕ) → pick (ltb (length o) 2080) o (readOut (library.planRead p) (b (library.planRead p)) o) ≡
+  out-then : (b : TableResult → List ℕ) → pick (ltb (length o) outNeed) o (readOut (library.planRead p) (b (library.planRead p)) o) ≡
       b (results.result refusal.fine x)
   out-then b =
-      ap (λ (q : TableResult). pick (ltb (length o) 2080) o (readOut q (b q) o)) the-plan ∙
-      pick-false _ o _ (le-ltb (length o) 2080 room)
+      ap (λ (q : TableResult). pick (ltb (length o) outNeed) o (readOut q (b q) o)) the-plan ∙
+      pick-false _ o _ (le-ltb (length o) outNeed room)
 
 -- a well-formed table written
-written-code : (y : model.Table) → isWell y ≡ true → (o : List ℕ) → 2080 ≤ length o →
+written-code : (y : model.Table) → isWell y ≡ true → (o : List ℕ) → outNeed ≤ length o →
     writtenCode (library.planWritten (encode y) o) ≡ codeOf 0 0 (length (stored y))
 written-code y w o room = ap writtenCode (well-written y w o room)
 
@@ -88,7 +89,7 @@ sweptBack p o x b e room =
     )
 
 -- a well-formed table undone
-pub undone-back : (p h o : List ℕ) (x y : model.Table) → isWell x ≡ true → readPlan p ≡ got x → undo x h ≡ back y → 2080 ≤ length o →
+pub undone-back : (p h o : List ℕ) (x y : model.Table) → isWell x ≡ true → readPlan p ≡ got x → undo x h ≡ back y → outNeed ≤ length o →
     (undoCode p h o ≡ codeOf 0 0 (length (stored y))) × (undoOut p h o ≡ atFront (stored y) o)
 undone-back p h o x y w e u room =
     let v : isWell y ≡ true = undoKeeps x y h w u in
@@ -106,23 +107,10 @@ undoneBack p h o x y b e = undone-back p h o x y (storedBack .1 p x b e .0) e
 
 -- no area is too short: each has its need
 module _ (a h w o d : List ℕ) (long : isLentShort (length a) (length h) (length w) (length o) (length d) ≡ false) where
-  pub needs : (areasFit a h w ≡ true) × (2080 ≤ length o)
+  pub needs : (areasFit a h w ≡ true) × (outNeed ≤ length o)
   needs =
-      let A = ltb (length a) answerNeed in
-      let H = ltb (length h) historyNeed in
-      let W = ltb (length w) workNeed in
-      let O = ltb (length o) 2080 in
-      let e₁ = or-neither (A || H || W || O) (ltb (length d) 6) long .0 in
-      let e₂ = or-neither (A || H || W) O e₁ in
-      let e₃ = or-neither (A || H) W (e₂ .0) in
-      let e₄ = or-neither A H (e₃ .0) in
-      let fit : (need n : ℕ) → ltb n need ≡ false → leb need n ≡ true = λ need n e. le-leb need n (ltb-false n need e) in
-      let B = leb answerNeed (length a) in
-      let C = leb historyNeed (length h) in (
-        and-both (B && C) (leb workNeed (length w))
-            (and-both B C (fit answerNeed (length a) (e₄ .0)) (fit historyNeed (length h) (e₄ .1))) (fit workNeed (length w) (e₃ .1)),
-        ltb-false (length o) 2080 (e₂ .1),
-      )
+      let k = long-enough (length a) (length h) (length w) (length o) (length d) long in
+      (areas-fit a h w (k .0) (k .1) (k .2), k .3)
 
 -- the call, from what the run comes to
 call-of : (p s a h w o d : List ℕ) (x : model.Table) (t : Out) → isWell x ≡ true → readPlan p ≡ got x → runBy x (readScript s) ≡ t →
@@ -176,6 +164,16 @@ module _ (p s a h w o d : List ℕ) (x : model.Table) (well : isWell x ≡ true)
   run-refused f stops =
       call-of p s a h w o d x (stop f) well read stops long (needs a h w o d long .0) ∙
       refused-called x (length a) (length h) (length w) f o d (refuses-fine (run-refuses x s) f stops)
+
+  -- answered 0: the run has ended
+  pub call-ends : runCalled p s a h w o d .code ≡ codeOf 0 0 0 → (v : List ℕ) × ((t : State) × (runBy x (readScript s) ≡ gives v t))
+  call-ends answers = go (runBy x (readScript s)) refl
+    where
+      go : (q : Out) → runBy x (readScript s) ≡ q → (v : List ℕ) × ((t : State) × (runBy x (readScript s) ≡ gives v t))
+      go (stop f) g =
+          let c : codeOf (f .number) 2 (f .place) ≡ 0 = sym (ap (λ (q : Called). q .code) (run-refused f g)) ∙ answers in
+          absurd (omega arith)
+      go (gives v t) g = (v, (t, g))
 
 pub runDone : RunDone
 runDone p s a h w o d x v t b c e g long = run-done p s a h w o d x (storedBack .1 p x b e .0) e long c v t g

@@ -1,29 +1,26 @@
 -- The C call for a run, by its three ways out: an area too short, the plan refused, the run over.
 use mathlib.Core.Path.{_≡_, refl, ap, sym, subst, _∙_}
-use mathlib.Core.Bool.{Bool, true, false, _||_}
+use mathlib.Core.Bool.{Bool, true, false}
 use mathlib.Core.List.{List}
 use Prim.Native.Nat.{ℕ, _≤_}
-use lib.Dec.{ltb}
 use lib.ListN.{length, replicate}
-use borrow.Author.Tests.{ltb-false, eq-eqb, ne-eqb}
-use Rattle.model.specs.Limits.{answerNeed, historyNeed, workNeed}
-use Rattle.model.proofs.BoolLaws.{or-neither}
+use borrow.Author.Tests.{eq-eqb, ne-eqb}
 use Rattle.plan.specs.Calls as library
 use Rattle.table.specs.declared.TableResult.{TableResult}
 use Rattle.run.specs.Calls.{ran, runResult}
 use Rattle.run.specs.declared.RunResult.{RunResult}
-use Rattle.lent.specs.Codes.{codeOf, lentCode}
+use Rattle.lent.specs.Codes.{codeOf, lentCode, doneNeed}
 use Rattle.ffi.specs.Running.{Called, refusedCall, ranCall, readCall, runCalled}
 use Rattle.lent.specs.Done.{isLentShort, doneOver, endCode, endOut, endDone}
+use Rattle.lent.proofs.EndLaws.{long-enough}
 
 -- the answer and the five areas are those of a call
 abbrev pub Leaves : (code : ℕ) → (answer history work out done : List ℕ) → Called → Type 0
 Leaves c a h w o d x = (c ≡ x .code) × ((a ≡ x .answer) × ((h ≡ x .history) × ((w ≡ x .work) × ((o ≡ x .out) × (d ≡ x .done)))))
 
 -- where no area is too short, done takes six numbers
-pub six-fit : (b : Bool) (a h w o d : ℕ) → b ≡ isLentShort a h w o d → b ≡ false → 6 ≤ d
-six-fit b a h w o d e f =
-    ltb-false d 6 (or-neither (ltb a answerNeed || ltb h historyNeed || ltb w workNeed || ltb o 2080) (ltb d 6) (sym e ∙ f) .1)
+pub six-fit : (b : Bool) (a h w o d : ℕ) → b ≡ isLentShort a h w o d → b ≡ false → doneNeed ≤ d
+six-fit b a h w o d e f = long-enough a h w o d (sym e ∙ f) .4
 
 module _ (p s a h w o d : List ℕ) (b : Bool) (short : b ≡ isLentShort (length a) (length h) (length w) (length o) (length d)) where
   pub call-short : (c : ℕ) → c ≡ lentCode → b ≡ true → Leaves c a h w o d (runCalled p s a h w o d)

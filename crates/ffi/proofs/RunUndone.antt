@@ -5,11 +5,8 @@ use mathlib.Core.List.{List}
 use Prim.Native.Nat.{ℕ}
 use native.Mathlib.Omega.{arith}
 use lib.ListN.{length}
-use Rattle.model.specs.Base.{areBytes, atFront}
-use Rattle.model.specs.Call.{runBy}
+use Rattle.model.specs.Base.{atFront}
 use Rattle.model.specs.History.{historyBytes}
-use Rattle.model.specs.Run.{State, Out, gives, stop}
-use Rattle.model.specs.Script.{readScript}
 use Rattle.model.specs.Stored.{stored, got, readPlan}
 use Rattle.model.specs.Table.{Table}
 use Rattle.model.proofs.BoolLaws.{by-cases, eq-cases}
@@ -20,12 +17,12 @@ use Rattle.plan.specs.Calls as library
 use Rattle.plan.proofs.Promised.{read-got}
 use Rattle.model.proofs.RunsBack.{runBy-back}
 use Rattle.ffi.specs.Calls.{undoCode, undoOut}
-use Rattle.ffi.specs.Running.{Called, runCalled}
+use Rattle.ffi.specs.Running.{runCalled}
 use Rattle.ffi.specs.Promise.{historyLeft, RunUndone}
 use Rattle.ffi.proofs.RunLaws.{call-short, call-plan-refused}
-use Rattle.ffi.proofs.Promised.{undone-back, runRefused, plan-left, history-left}
+use Rattle.ffi.proofs.Promised.{undone-back, plan-left, history-left, call-ends}
 
--- THE ANSWER 0: no area is too short, the plan is read, and the run ends
+-- THE ANSWER 0: no area is too short, and the plan is read
 module _ (p s a h w o d : List ℕ) (answers : runCalled p s a h w o d .code ≡ codeOf 0 0 0) where
   call-long : isLentShort (length a) (length h) (length w) (length o) (length d) ≡ false
   call-long = by-cases (isLentShort (length a) (length h) (length w) (length o) (length d)) (λ z. absurd (short z)) (λ z. z)
@@ -44,25 +41,15 @@ module _ (p s a h w o d : List ℕ) (answers : runCalled p s a h w o d .code ≡
           refl refl refl .0 ∙ answers in
           omega arith
 
-  call-ends : areBytes p ≡ true → (x : Table) → readPlan p ≡ got x → (v : List ℕ) × ((t : State) × (runBy x (readScript s) ≡ gives v t))
-  call-ends bytes x e = go (runBy x (readScript s)) refl
-    where
-      go : (q : Out) → runBy x (readScript s) ≡ q → (v : List ℕ) × ((t : State) × (runBy x (readScript s) ≡ gives v t))
-      go (stop f) g =
-          let c : codeOf (f .number) 2 (f .place) ≡ 0 =
-          sym (ap (λ (q : Called). q .code) (runRefused p s a h w o d x f bytes e g call-long)) ∙ answers in
-          absurd (omega arith)
-      go (gives v t) g = (v, (t, g))
-
 pub runUndone : RunUndone
 runUndone p s a h w o d o′ bytes bytes′ answers room =
     let long = call-long p s a h w o d answers in
     let g = call-read p s a h w o d answers in
     let x = g .0 in
-    let k = call-ends p s a h w o d answers bytes x (g .1) in
+    let before = storedBack .1 p x bytes (g .1) in
+    let k = call-ends p s a h w o d x (before .0) (g .1) long answers in
     let v = k .0 in
     let t = k .1 .0 in
-    let before = storedBack .1 p x bytes (g .1) in
     let P = plan-left p s a h w o d x (before .0) (g .1) long bytes′ v t (k .1 .1) in
     let H = history-left p s a h w o d x (before .0) (g .1) long bytes′ v t (k .1 .1) in
     let after = runBy-back x s bytes′ (before .0) v t (k .1 .1) in

@@ -1,16 +1,18 @@
 -- The end of a call by its two ways out: refused, or its plan written. Of any call that gives a table, and of a run.
 use mathlib.Core.Path.{_≡_, ap, _∙_}
-use mathlib.Core.Bool.{true, false}
+use mathlib.Core.Bool.{true, false, _||_}
 use mathlib.Core.List.{List}
-use Prim.Native.Nat.{ℕ}
-use lib.Dec.{eqb}
-use borrow.Author.Tests.{eq-eqb, ne-eqb}
+use Prim.Native.Nat.{ℕ, _≤_}
+use lib.Dec.{eqb, ltb}
+use borrow.Author.Tests.{eq-eqb, ne-eqb, ltb-false}
 use Rattle.plan.specs.Calls.{planWritten, writtenOut}
 use Rattle.table.specs.declared.Written.{Written}
 use Rattle.run.specs.declared.RunResult.{RunResult}
 use Rattle.table.specs.declared.TableResult.{TableResult}
-use Rattle.lent.specs.Codes.{codeOf, writtenCode, finishedCode, finishedOut}
-use Rattle.lent.specs.Done.{doneOver, endCode, endOut, endDone}
+use Rattle.lent.specs.Codes.{codeOf, writtenCode, finishedCode, finishedOut, outNeed, doneNeed}
+use Rattle.lent.specs.Done.{doneOver, endCode, endOut, endDone, isLentShort}
+use Rattle.model.specs.Limits.{answerNeed, historyNeed, workNeed}
+use Rattle.model.proofs.BoolLaws.{or-neither}
 
 module _ (r : TableResult) (w : ℕ) (o : List ℕ) where
   pub finish-refused : (c : ℕ) → (r .fault .number ≡ 0 → ⊥) → c ≡ codeOf (r .fault .number) w (r .fault .place) →
@@ -45,3 +47,22 @@ module _ (r : RunResult) (o d : List ℕ) where
     where
       told : Written → List ℕ
       told t = doneOver (r .items) (r .tally .made) (r .tally .cut) (r .tally .records) (r .bytes) (t .bytes) d
+
+-- NO AREA IS TOO SHORT: each has its need
+pub long-enough : (a h w o d : ℕ) → isLentShort a h w o d ≡ false →
+    (answerNeed ≤ a) × (historyNeed ≤ h) × (workNeed ≤ w) × (outNeed ≤ o) × (doneNeed ≤ d)
+long-enough a h w o d e =
+    let A = ltb a answerNeed in
+    let H = ltb h historyNeed in
+    let W = ltb w workNeed in
+    let O = ltb o outNeed in
+    let e₁ = or-neither (A || H || W || O) (ltb d doneNeed) e in
+    let e₂ = or-neither (A || H || W) O (e₁ .0) in
+    let e₃ = or-neither (A || H) W (e₂ .0) in
+    let e₄ = or-neither A H (e₃ .0) in (
+      ltb-false a answerNeed (e₄ .0),
+      ltb-false h historyNeed (e₄ .1),
+      ltb-false w workNeed (e₃ .1),
+      ltb-false o outNeed (e₂ .1),
+      ltb-false d doneNeed (e₁ .1),
+    )

@@ -23,7 +23,7 @@ pub fn code(number: u8, which: u8, place: usize) -> u64
     (number as u64) + 256 * (which as u64) + 65536 * (place as u64 % PLACES)
 }
 
-// The end of a call that gives a table: its refusal, of which which says whose it is; or the table written, and how many bytes.
+// The end of a call that gives a table: its refusal, `which` saying whose it is; or the table written, and how many bytes.
 pub fn finish(result: TableResult, which: u8, out: &mut [u8]) -> u64
     requires { ⌜ (result .fault .number ≡ 0 → fits (result .table) ≡ true) ⌝ }
     ensures { λ r. ⌜ r ≡ finishedCode result which (now (out .entry)) ⌝ }

@@ -1,4 +1,4 @@
--- Document 01, 'Limits': each limit and each lent area's need, named once. Assumes nothing: these are definitions.
+-- Document 01, 'Limits': each limit, and what each area lent to a run needs, named once. Assumes nothing: these are definitions.
 use Prim.Native.Nat.{ℕ}
 
 -- rows of a table

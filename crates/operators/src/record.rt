@@ -69,7 +69,7 @@ pub fn limited(x: Evaluated, top: usize, at: usize) -> Evaluated
     }
 }
 
-// The same, past the expression behind it.
+// What x came to, with its place moved past the expression there, which is not run.
 pub fn past(script: &[u8], x: Evaluated) -> Evaluated
     ensures { λ r. ⌜ r ≡ movedTo (endAt (now (script .entry)) (x .place)) x ⌝ }
 {

@@ -20,16 +20,21 @@ fn signed_key(v: u32) -> u32
     v - 128
 }
 
-// Relation 0 equal, 1 less, 2 greater.
+// Relations; any other is greater.
+const EQUAL: u8 = 0;
+
+const LESS: u8 = 1;
+
+// The value stands in the relation to the constant.
 fn is_related(relation: u8, constant: u32, value: u32) -> bool
     requires { ⌜ constant < 1048576 ⌝ }
     requires { ⌜ value < 1048576 ⌝ }
     ensures { λ r. ⌜ r ≡ relates relation constant value ⌝ }
 {
-    if relation == 0 {
+    if relation == EQUAL {
         return value == constant;
     }
-    if relation == 1 {
+    if relation == LESS {
         return signed_key(value) < signed_key(constant);
     }
     signed_key(constant) < signed_key(value)

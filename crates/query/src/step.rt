@@ -15,7 +15,21 @@ use table::Table;
 use table::number;
 use table::words;
 
-// A script's step: axis 0 child, 1 descendant, 2 parent, 3 ancestor; test 0 any node, 1 element, 2 leaf, 3 the named element.
+// Axes; any other is the ancestors'.
+const CHILD: u8 = 0;
+
+const DESCENDANT: u8 = 1;
+
+const PARENT: u8 = 2;
+
+// Tests; any other is for the named element.
+const ANY_NODE: u8 = 0;
+
+const ANY_ELEMENT: u8 = 1;
+
+const ANY_LEAF: u8 = 2;
+
+// A script's step.
 pub struct StepBy {
     pub axis: u8,
     pub test: u8,
@@ -29,16 +43,16 @@ fn passes(rows: &[u32], row: RowNumber, test: u8, name: NameNumber) -> bool
 {
     let at = number::index(row.0);
     let w = rows[at];
-    if test == 0 {
+    if test == ANY_NODE {
         return true;
     }
     if words::kind(w) == words::LEAF {
-        return test == 2;
+        return test == ANY_LEAF;
     }
-    if test == 1 {
+    if test == ANY_ELEMENT {
         return true;
     }
-    if test == 2 {
+    if test == ANY_LEAF {
         return false;
     }
     words::tag(w) == name.0 as u32
@@ -123,15 +137,15 @@ fn reach(rows: &[u32], count: usize, axis: u8, flags: &[u8], reached: &mut [u8])
     requires { ⌜ PassPre (now rows) count (now flags) (now reached) ⌝ }
     ensures { λ r. ⌜ Reached (now (rows .entry)) count axis (now (flags .entry)) (now (reached .exit)) ⌝ }
 {
-    if axis == 0 {
+    if axis == CHILD {
         descend(rows, count, false, flags, reached);
         return;
     }
-    if axis == 1 {
+    if axis == DESCENDANT {
         descend(rows, count, true, flags, reached);
         return;
     }
-    if axis == 2 {
+    if axis == PARENT {
         climb(rows, count, false, flags, reached);
         return;
     }

@@ -2,6 +2,8 @@
 ghost use mathlib.Core.Path.{_≡_};
 ghost use Prim.Native.Nat.{_≤_};
 ghost use lib.ListN.{length};
+ghost use Rattle.model.specs.Refusal.{fine};
+ghost use Rattle.table.specs.Results.{faultOf};
 ghost use Rattle.report.specs.Pair.{room, threeLines, textBy, Report, Counted, pairWritten, pairOut};
 use paths::Analysis;
 use sequence::orders;
@@ -16,7 +18,7 @@ pub const ROOM: usize = 160;
 
 // So many bytes are written, and nothing is refused.
 fn written(bytes: usize) -> Written
-    ensures { λ r. ⌜ r ≡ record { fault = record { number = 0; place = 0 }; bytes = bytes } ⌝ }
+    ensures { λ r. ⌜ r ≡ record { fault = faultOf fine; bytes = bytes } ⌝ }
 {
     Written {
         fault: Fault {
