@@ -13,7 +13,7 @@ use Rattle.model.specs.Paths.{anyBelow, isUp}
 use Rattle.positions.specs.Positions.{Entry, plain, accessing, modifying, over, union}
 use Rattle.positions.specs.Positions as positions
 use Rattle.meeting.specs.Codes.{stepOf}
-use Rattle.positions.specs.Words.{markedBy, entryBy, overBy, unionBy, PositionFits, entriesIn, PushPost}
+use Rattle.positions.specs.Words.{markedBy, entryBy, rootBy, overBy, unionBy, PositionFits, entriesIn, PushPost}
 use Rattle.emission.specs.Emitting.{outOf, GrowPre, Grown, BelowPre, BelowPost}
 use Rattle.positions.specs.declared.packed.Position.{Position}
 use Rattle.meeting.specs.declared.cells.Step.{Step}
@@ -21,15 +21,18 @@ use Rattle.emission.specs.declared.emit.Emitted.{Emitted}
 use Rattle.positions.proofs.WordLaws.{entriesIn-length}
 
 -- FIELDS in range
-fits-same : (p q : Position) → p ≡ q → PositionFits q → PositionFits p
-fits-same p q e f = subst PositionFits (sym e) f
+fits-by : {p q : Position} → p ≡ q → q .kind < 4 → q .mark < 4 → q .axis < 4 → q .test < 4 → q .name < 256 → q .first < 128 →
+    q .second < 128 → PositionFits p
+fits-by e k m a t n f s =
+    subst PositionFits (sym e) (record { kind = k; mark = m; axis = a; test = t; name = n; first = f; second = s })
+
+pub root-fits : (p : Position) (d : ℕ) → p ≡ rootBy d → d < 256 → PositionFits p
+root-fits p d e h = fits-by e (omega arith) (omega arith) (omega arith) (omega arith) h (omega arith) (omega arith)
 
 pub over-fits : (p : Position) (m : ℕ) (s : Step) (i : ℕ) → p ≡ overBy m s i → m < 4 → s .axis < 4 → s .test < 4 → s .name < 256 →
     i < 128 →
     PositionFits p
-over-fits p m s i e a b c d f =
-    fits-same p (overBy m s i) e
-    (record { kind = omega arith; mark = a; axis = b; test = c; name = d; first = f; second = omega arith })
+over-fits p m s i e a b c d f = fits-by e (omega arith) a b c d f (omega arith)
 
 pub below-fits : (p : Position) (m : ℕ) (s : Step) (i : ℕ) → p ≡ overBy m s i → stepOf s ≡ anyBelow → m < 4 → i < 128 → PositionFits p
 below-fits p m s i e b a f =
@@ -37,9 +40,7 @@ below-fits p m s i e b a f =
     (omega (arith, ap (λ (u : model.Step). u .name) b)) f
 
 pub union-fits : (p : Position) (m i j : ℕ) → p ≡ unionBy m i j → m < 4 → i < 128 → j < 128 → PositionFits p
-union-fits p m i j e a f g =
-    fits-same p (unionBy m i j) e
-    (record { kind = omega arith; mark = a; axis = omega arith; test = omega arith; name = omega arith; first = f; second = g })
+union-fits p m i j e a f g = fits-by e (omega arith) a (omega arith) (omega arith) (omega arith) f g
 
 -- ENTRIES
 pub pushed-is : (ws ws′ : List ℕ) (n : ℕ) (p : Position) (x : Entry) → n ≤ length ws → PushPost ws n p ws′ → entryBy p ≡ x →
@@ -113,32 +114,27 @@ module _ (ws ws′ : List ℕ) (y : Emitted) (pre : GrowPre ws y) where
         }
 
 -- NOTHING more
-module _ (ws : List ℕ) (y : Emitted) (pre : GrowPre ws y) where
-  same : (goal : positions.Emitted) → outOf ws y ≡ goal → Grown goal y ws y
-  same goal is = record { size = pre .size; is = is; place = refl; low = pre .low; more = omega arith; few = omega arith }
+module _ {ws : List ℕ} {y : Emitted} (pre : GrowPre ws y) where
+  chosen : {goal : positions.Emitted} (i : ℕ) → i < y .count → positions.emitted i (entriesIn ws (y .count)) ≡ goal →
+      Grown goal y ws (record { result = i; count = y .count; place = y .place })
+  chosen i low is = record { size = pre .size; is = is; place = refl; low = low; more = omega arith; few = omega arith }
+
+  pub grown-none : {goal : positions.Emitted} → outOf ws y ≡ goal → Grown goal y ws y
+  grown-none = chosen (y .result) (pre .low)
 
   pub step-none : (s : Step) (up : Bool) → up ≡ isUp (stepOf s) → (eqb (y .result) 0 && not up) ≡ true →
       Grown (positions.pushStep (stepOf s) (outOf ws y)) y ws y
-  step-none s up u h =
-      same _ (sym (step-chosen ws y s up _ u h))
+  step-none s up u h = grown-none (sym (step-chosen ws y s up _ u h))
 
   pub delete-none : y .result ≡ 0 → Grown (positions.pushDelete (outOf ws y)) y ws y
-  delete-none e = same _ (rw (eq-eqb (y .result) 0 e))
+  delete-none e = grown-none (rw (eq-eqb (y .result) 0 e))
 
   pub union-first : (first : ℕ) → first ≡ 0 → Grown (positions.pushUnion first (outOf ws y)) y ws y
-  union-first first e = same _ (rw (eq-eqb first 0 e))
+  union-first first e = grown-none (rw (eq-eqb first 0 e))
 
   pub union-second : (first : ℕ) → first < y .count → (first ≡ 0 → ⊥) → y .result ≡ 0 →
       Grown (positions.pushUnion first (outOf ws y)) y ws (record { result = first; count = y .count; place = y .place })
-  union-second first low f e =
-      record {
-        size = pre .size;
-        is = rw (ne-eqb first 0 f, eq-eqb (y .result) 0 e);
-        place = refl;
-        low = low;
-        more = omega arith;
-        few = omega arith;
-      }
+  union-second first low f e = chosen first low (rw (ne-eqb first 0 f, eq-eqb (y .result) 0 e))
 
 -- ALL BELOW a position, and twice that for an insert
 module _ (ws : List ℕ) (n mark operand : ℕ) (pre : BelowPre ws n mark operand) where

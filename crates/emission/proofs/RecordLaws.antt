@@ -1,5 +1,5 @@
 -- A record by its arity and kind: one law for each way out of the code that emits it, and of what binds a variable.
-use mathlib.Core.Path.{_≡_, refl, ap, sym, _∙_, subst}
+use mathlib.Core.Path.{_≡_, refl, ap, _∙_, subst}
 use mathlib.Core.Bool.{true, false}
 use mathlib.Core.List.{List}
 use Prim.Native.Nat.{ℕ, _+_, _<_}
@@ -14,29 +14,15 @@ use Rattle.records.specs.Walk.{inner}
 use Rattle.positions.specs.Positions.{accessing, root}
 use Rattle.positions.specs.Positions as positions
 use Rattle.meeting.specs.Codes.{stepOf}
-use Rattle.positions.specs.Words.{entryBy, rootBy, PositionFits, entriesIn, PushPost}
+use Rattle.positions.specs.Words.{entryBy, rootBy, entriesIn, PushPost}
 use Rattle.emission.specs.Emitting.{outOf, nullaryOf, unaryOf, binaryOf, GrowPre, Grown, NullaryPre, NullaryPost, BindPre}
 use Rattle.emission.specs.Emitting.{BindPost}
 use Rattle.positions.specs.declared.packed.Position.{Position}
 use Rattle.meeting.specs.declared.cells.Step.{Step}
 use Rattle.emission.specs.declared.emit.Emitted.{Emitted}
-use Rattle.emission.proofs.GrowLaws.{pushed-is}
+use Rattle.emission.proofs.GrowLaws.{pushed-is, grown-none}
 
 -- WITHOUT OPERANDS
-pub root-fits : (p : Position) (d : ℕ) → p ≡ rootBy d → d < 256 → PositionFits p
-root-fits p d e h =
-    subst PositionFits (sym e)
-    (record {
-      kind = omega arith;
-      mark = omega arith;
-      axis = omega arith;
-      test = omega arith;
-      name = h;
-      first = omega arith;
-      second =
-          omega arith;
-    })
-
 module _ (b : List ℕ) (at next : ℕ) (env ws : List ℕ) (n : ℕ) (pre : NullaryPre b at env ws n) where
   pub nullary-document : getD b at 0 ≡ 2 → (p : Position) (d : ℕ) (ws′ : List ℕ) → p ≡ rootBy d → d ≡ getD b (at + 1) 0 →
       PushPost ws n p ws′ →
@@ -71,10 +57,6 @@ grown-as : (goal goal′ : positions.Emitted) (y : Emitted) (ws′ : List ℕ) (
     Grown goal′ y ws′ r
 grown-as goal goal′ y ws′ r e g = subst (λ (x : positions.Emitted). Grown x y ws′ r) e g
 
-pub grown-none : (ws : List ℕ) (y : Emitted) → GrowPre ws y → Grown (outOf ws y) y ws y
-grown-none ws y pre =
-    record { size = pre .size; is = refl; place = refl; low = pre .low; more = omega arith; few = omega arith }
-
 module _ (b : List ℕ) (at : ℕ) (x : positions.Emitted) (y : Emitted) (ws′ : List ℕ) (r : Emitted) where
   pub unary-step : getD b at 0 ≡ 4 → (s : Step) → s .axis ≡ getD b (at + 1) 0 → s .test ≡ getD b (at + 2) 0 → s .name ≡ getD b (at + 3) 0 →
       Grown (positions.pushStep (stepOf s) x) y ws′ r → Grown (unaryOf b at x) y ws′ r
@@ -87,8 +69,9 @@ module _ (b : List ℕ) (at : ℕ) (x : positions.Emitted) (y : Emitted) (ws′ 
   pub unary-delete : getD b at 0 ≡ 11 → Grown (positions.pushDelete x) y ws′ r → Grown (unaryOf b at x) y ws′ r
   unary-delete k = grown-as (positions.pushDelete x) (unaryOf b at x) y ws′ r (rw k)
 
-  pub unary-none : (getD b at 0 ≡ 4 → ⊥) → (getD b at 0 ≡ 11 → ⊥) → Grown x y ws′ r → Grown (unaryOf b at x) y ws′ r
-  unary-none f g = grown-as x (unaryOf b at x) y ws′ r (rw (ne-eqb (getD b at 0) 4 f, ne-eqb (getD b at 0) 11 g))
+pub unary-none : (b : List ℕ) (at : ℕ) {ws : List ℕ} {y : Emitted} → GrowPre ws y → (getD b at 0 ≡ 4 → ⊥) → (getD b at 0 ≡ 11 → ⊥) →
+    Grown (unaryOf b at (outOf ws y)) y ws y
+unary-none b at pre f g = grown-none pre (rw (ne-eqb (getD b at 0) 4 f, ne-eqb (getD b at 0) 11 g))
 
 module _ (k first : ℕ) (x : positions.Emitted) (y : Emitted) (ws′ : List ℕ) (r : Emitted) where
   pub binary-join : k ≡ 5 → Grown (positions.pushUnion first x) y ws′ r → Grown (binaryOf k first x) y ws′ r
@@ -97,8 +80,9 @@ module _ (k first : ℕ) (x : positions.Emitted) (y : Emitted) (ws′ : List ℕ
   pub binary-insert : k ≡ 12 → Grown (positions.pushInsert first x) y ws′ r → Grown (binaryOf k first x) y ws′ r
   binary-insert e = grown-as (positions.pushInsert first x) (binaryOf k first x) y ws′ r (rw e)
 
-  pub binary-none : (k ≡ 5 → ⊥) → (k ≡ 12 → ⊥) → Grown x y ws′ r → Grown (binaryOf k first x) y ws′ r
-  binary-none f g = grown-as x (binaryOf k first x) y ws′ r (rw (ne-eqb k 5 f, ne-eqb k 12 g))
+pub binary-none : (k first : ℕ) {ws : List ℕ} {y : Emitted} → GrowPre ws y → (k ≡ 5 → ⊥) → (k ≡ 12 → ⊥) →
+    Grown (binaryOf k first (outOf ws y)) y ws y
+binary-none k first pre f g = grown-none pre (rw (ne-eqb k 5 f, ne-eqb k 12 g))
 
 -- THE VARIABLES of a second operand
 module _ (k : ℕ) (env : List ℕ) (v r : ℕ) (pre : BindPre k env v r) where

@@ -9,7 +9,7 @@ use lib.Seq.{take-suc, length-take-le}
 use Rattle.model.specs.Base.{pick}
 use Rattle.model.specs.Script.{Expr, Parsed, readScript}
 use Rattle.model.specs.Paths.{hasUp}
-use Rattle.model.specs.Meeting.{free, upward, meet, answer}
+use Rattle.model.specs.Meeting.{free, meet, answer}
 use Rattle.model.specs.Call.{firstBy, secondBy}
 use Rattle.table.specs.declared.Fault.{Fault}
 use Rattle.records.specs.Walk.{exprAt}
@@ -24,7 +24,7 @@ use Rattle.positions.specs.Words.{entriesBy, climbing}
 use Rattle.emission.specs.Emitting.{EmitPre, EmitPost}
 use Rattle.paths.specs.Analysis.{byAnswer, analysisOf, analysed, ScriptPre, ScriptPost, AnswerPre, AnswerPost, FrontPre}
 use Rattle.paths.specs.declared.Analysis.{Analysis}
-use Rattle.paths.specs.declared.Analysis.the-variants.{Refused, Free, Upward, Meet}
+use Rattle.paths.specs.declared.Analysis.the-variants.{Refused, Upward}
 use Rattle.emission.specs.declared.emit.Emitted as code
 use Rattle.positions.proofs.AnswerLaws.{emitted-right, answer-by}
 use Rattle.positions.proofs.ClimbLaws.{climbing-is}
@@ -122,23 +122,9 @@ module _ {ws : List ℕ} {n : ℕ} {us : List ℕ} {m : ℕ} {t : List ℕ} (pre
       answer-second h = record { is = λ e f g i. upward-is e f (ups e f g i ∙ h) }
 
       module _ (neither : y ≡ false) {z : Bool} (meets : z ≡ positionsMeet (entriesBy (part ws n)) (entriesBy (part us m))) where
-        answered : (e f : Expr) → entriesIn ws n ≡ entriesOf e → entriesIn us m ≡ entriesOf f →
-            byAnswer (pick z meet free) ≡ byAnswer (answer e f)
-        answered e f g i =
-            sym
-            (ap byAnswer
-            (sym (answer-by e f) ∙ ap (λ (q : Bool). pick q upward (pick (positionsMeet (entriesOf e) (entriesOf f)) meet free))
-            (ups e f g i ∙ neither) ∙
-            ap (λ (q : Bool). pick q meet free)
-            (sym (meets ∙ ap (λ (v : List ℕ). positionsMeet (entriesBy v) (entriesBy (part us m))) (part-is ws n) ∙
-            ap (λ (v : List ℕ). positionsMeet (entriesIn ws n) (entriesBy v)) (part-is us m) ∙
-            ap (λ (es : List Entry). positionsMeet es (entriesIn us m)) g ∙ ap (positionsMeet (entriesOf e)) i))))
-
-        pub answer-meet : z ≡ true → AnswerPost ws n us m Meet
-        answer-meet h = record { is = λ e f g i. sym (ap (λ (q : Bool). byAnswer (pick q meet free)) h) ∙ answered e f g i }
-
-        pub answer-free : z ≡ false → AnswerPost ws n us m Free
-        answer-free h = record { is = λ e f g i. sym (ap (λ (q : Bool). byAnswer (pick q meet free)) h) ∙ answered e f g i }
+        pub answer-last : {q : Bool} → z ≡ q → AnswerPost ws n us m (byAnswer (pick q meet free))
+        answer-last h =
+            record { is = λ e f g i. rw (← answer-by e f, ups e f g i, neither, ← g, ← i, ← part-is ws n, ← part-is us m, ← meets, h) }
 
 -- THE CALL
 module _ (b c : List ℕ) where

@@ -20,7 +20,7 @@ use Rattle.positions.specs.Sources.{sourcesCell, cellTo, cellBy, Filled, anyUpT
 use Rattle.meeting.specs.Codes.{cellOf}
 use Rattle.positions.specs.Words.{stepIn, positionBy, entryBy, fieldsOf, entryOf, entriesBy}
 use Rattle.meeting.specs.Pairs.{marks, HasRows, ClearPost, PairPre, MarkPost}
-use Rattle.paths.specs.Filling.{PositionsPre, CellPre, MeetPre, MeetPost}
+use Rattle.paths.specs.Filling.{PositionsPre, CellPre, MeetPre, MeetPost, RowPre}
 use Rattle.positions.specs.declared.packed.Position.{Position}
 use Rattle.meeting.specs.declared.cells.Cell as declared
 use Rattle.meeting.proofs.CellLaws.{between-none, join-nothing, on-respects, down-respects, up-respects}
@@ -245,8 +245,14 @@ module _ (ws us t : List ℕ) (k l : ℕ) (p q : Position) (pre : MeetPre ws us 
                 (g ∙ ap isMet pair-cell);
           }
 
+-- a row's pair, after those before it
+pub meet-asks : {ws us t₀ t : List ℕ} {k l : ℕ} {p : Position} → RowPre ws us t₀ k → p ≡ fieldsOf (getD ws k 0) → HasRows t (length ws) →
+    l < length us → Filled (entriesBy ws) (entriesBy us) k l (marks t) → MeetPre ws us t k l p
+meet-asks row is room low filled =
+    record { first = row .first; second = row .second; room = room; row = row .row; column = low; position = is; filled = filled }
+
 -- a union's pair, from those of its parts
-module _ (ws us t : List ℕ) (k l : ℕ) (p : Position) (pre : MeetPre ws us t k l p) (kind : p .kind ≡ 3) where
+module _ {ws us t : List ℕ} {k l : ℕ} {p : Position} (pre : MeetPre ws us t k l p) (kind : p .kind ≡ 3) where
   abbrev other : Position
   other = fieldsOf (getD us l 0)
 

@@ -65,9 +65,8 @@ pub record Right (es : List Entry) (result accesses changes : List Path) (y : Em
   pub accessed : marked isAccessed (y .entries) ≡ marked isAccessed es ++ fromDocuments accesses
   pub modified : marked isModified (y .entries) ≡ marked isModified es ++ fromDocuments changes
 
-ready : (es : List Entry) → Ready es → (r a m : List Path) (y : Emitted) → Right es r a m y → Ready (y .entries)
-ready es z r a m y h =
-    record { some = omega (arith, z .some, h .more); zero = h .keeps 0 (z .some) ∙ z .zero; lower = h .lower }
+ready : {es : List Entry} {r a m : List Path} {y : Emitted} → Ready es → Right es r a m y → Ready (y .entries)
+ready z h = record { some = omega (arith, z .some, h .more); zero = h .keeps 0 (z .some) ∙ z .zero; lower = h .lower }
 
 -- nothing is emitted
 known : (es : List Entry) → Ready es → (n : ℕ) (r : List Path) → n < length es → pathsOn es n ≡ fromDocuments r →
@@ -84,19 +83,15 @@ known es z n r h e =
       modified = sym (append-nil (marked isModified es));
     }
 
--- the result is nothing
-discarded : (es : List Entry) → Ready es → (r a m : List Path) (y : Emitted) → Right es r a m y → Right es [] a m (emitted 0 (y .entries))
+-- another result, with the same entries
+answering : {es : List Entry} {r a m : List Path} {y : Emitted} → Right es r a m y → (n : ℕ) (r′ : List Path) → n < length (y .entries) →
+    pathsOn (y .entries) n ≡ fromDocuments r′ → Right es r′ a m (emitted n (y .entries))
+answering h n r′ low is =
+    record { low = low; more = h .more; keeps = h .keeps; lower = h .lower; is = is; accessed = h .accessed; modified = h .modified }
+
+discarded : {es : List Entry} {r a m : List Path} {y : Emitted} → Ready es → Right es r a m y → Right es [] a m (emitted 0 (y .entries))
 unfolding filtered
-discarded es z r a m y h =
-    record {
-      low = omega (arith, z .some, h .more);
-      more = h .more;
-      keeps = h .keeps;
-      lower = h .lower;
-      is = h .keeps 0 (z .some) ∙ z .zero;
-      accessed = h .accessed;
-      modified = h .modified;
-    }
+discarded z h = let q = ready z h in answering h 0 [] (q .some) (q .zero)
 
 -- one expression after another: the second's result
 joined-marks : (before x y a b : List Path) → x ≡ before ++ fromDocuments a → y ≡ x ++ fromDocuments b →
@@ -153,7 +148,7 @@ alike es r a m a′ m′ y e f h = subst (λ (v : List Path). Right es r a′ v 
 
 -- NOTHING: position 0 has no paths, so a result there has none that start at a document
 no-documents : (es : List Entry) → Ready es → (r a m : List Path) (y : Emitted) → Right es r a m y → y .result ≡ 0 → fromDocuments r ≡ []
-no-documents es z r a m y h e = sym (h .is) ∙ ap (pathsOn (y .entries)) e ∙ h .keeps 0 (z .some) ∙ z .zero
+no-documents es z r a m y h e = sym (h .is) ∙ ap (pathsOn (y .entries)) e ∙ ready z h .zero
 
 -- no entry more, for paths of which none starts at a document
 nothing-more : (es : List Entry) (r a m : List Path) (y : Emitted) → Right es r a m y → (r′ a′ m′ : List Path) →
@@ -213,7 +208,7 @@ module _ (o : ℕ) (own : o ≡ 0 → ⊥) where
   emits-bound e f E F ns rs es z b =
       let h = E ns rs es z b in
       thenRight es _ _ _ _ _ _ (emit e ns es) (emit f (ns ++ (emit e ns es .result ∷ [])) (emit e ns es .entries)) h
-      (F (ns ++ (emit e ns es .result ∷ [])) (rs ++ (infer o e rs .result ∷ [])) (emit e ns es .entries) (ready es z _ _ _ _ h)
+      (F (ns ++ (emit e ns es .result ∷ [])) (rs ++ (infer o e rs .result ∷ [])) (emit e ns es .entries) (ready z h)
       (bound-more (bound-later es _ _ _ _ h b) (emit e ns es .result) (infer o e rs .result) (h .low) (h .is)))
 
   -- both results, after the second
@@ -227,6 +222,10 @@ module _ (o : ℕ) (own : o ≡ 0 → ⊥) where
 
     no-second : y′ .result ≡ 0 → fromDocuments r′ ≡ []
     no-second = no-documents es z r′ (a ++ a′) (m ++ m′) y′ two
+
+    -- the first result, with the second's entries
+    first : Right es r (a ++ a′) (m ++ m′) (emitted (y .result) (y′ .entries))
+    first = answering two (y .result) r (omega (arith, h .low, g .more)) (g .keeps (y .result) (h .low) ∙ h .is)
 
     emits-union : Right es (r ++ r′) (a ++ a′) (m ++ m′) (pushUnion (y .result) y′)
     unfolding filtered
@@ -244,19 +243,6 @@ module _ (o : ℕ) (own : o ≡ 0 → ⊥) where
         (ap (λ (v : List Path). v ++ pathsOn (y′ .entries) (y′ .result)) (g .keeps (y .result) (h .low) ∙ h .is) ∙
         ap (λ (v : List Path). fromDocuments r ++ v) (g .is) ∙ sym (fromDocuments-append r r′))
         refl refl)))
-      where
-        -- the first result, with the second's entries
-        first : Right es r (a ++ a′) (m ++ m′) (emitted (y .result) (y′ .entries))
-        first =
-            record {
-              low = omega (arith, h .low, g .more);
-              more = two .more;
-              keeps = two .keeps;
-              lower = two .lower;
-              is = g .keeps (y .result) (h .low) ∙ h .is;
-              accessed = two .accessed;
-              modified = two .modified;
-            }
 
   emits-step : (es : List Entry) → Ready es → (s : Step) (r a m : List Path) (y : Emitted) → Right es r a m y →
       Right es (withStep s r) (a ++ withStep s r) (m ++ []) (pushStep s y)
@@ -290,7 +276,7 @@ module _ (o : ℕ) (own : o ≡ 0 → ⊥) where
       all =
           alike es [] (a ++ [] ++ []) (m ++ [] ++ (r ++ withStep anyBelow r)) (a ++ []) (m ++ (r ++ withStep anyBelow r)) _
           (append-nil (a ++ [])) (ap (λ (v : List Path). v ++ (r ++ withStep anyBelow r)) (append-nil m))
-          (discarded es z _ _ _ _
+          (discarded z
           (pushed es (withStep anyBelow r) (a ++ []) (m ++ []) (push (y .entries) (plain (over anyBelow (y .result)))) below
           (modifying (union (y .result) (length (y .entries)))) (r ++ withStep anyBelow r) [] (r ++ withStep anyBelow r)
           (omega (arith, h .low, length-append (y .entries) (plain (over anyBelow (y .result)) ∷ [])), below .low)
@@ -303,7 +289,7 @@ module _ (o : ℕ) (own : o ≡ 0 → ⊥) where
   module _ (es : List Entry) (z : Ready es) (r a m : List Path) (y : Emitted) (h : Right es r a m y) (n : ℕ) (q : List Path)
       (low : n < length (y .entries)) (is : pathsOn (y .entries) n ≡ fromDocuments q) where
     none-below : n ≡ 0 → fromDocuments (withStep anyBelow q) ≡ []
-    none-below e = no-step anyBelow q (sym is ∙ ap (pathsOn (y .entries)) e ∙ h .keeps 0 (z .some) ∙ z .zero)
+    none-below e = no-step anyBelow q (sym is ∙ ap (pathsOn (y .entries)) e ∙ ready z h .zero)
 
     emits-below : (f : Position → Entry) → (f (over anyBelow n) .position ≡ over anyBelow n) → (a′ m′ : List Path) →
         pick (f (over anyBelow n) .accessed) (fromDocuments (withStep anyBelow q)) [] ≡ fromDocuments a′ →
@@ -313,9 +299,9 @@ module _ (o : ℕ) (own : o ≡ 0 → ⊥) where
     emits-below f p a′ m′ i j =
         pick-cases (λ (x : List Entry). Right es [] (a ++ a′) (m ++ m′) (emitted 0 x)) (eqb n 0)
         (λ e. let w = none-below (eqb-true n 0 e) in
-        nothing-more es [] a m (emitted 0 (y .entries)) (discarded es z r a m y h) [] a′ m′ refl
+        nothing-more es [] a m (emitted 0 (y .entries)) (discarded z h) [] a′ m′ refl
         (sym i ∙ either (f (over anyBelow n) .accessed) w) (sym j ∙ either (f (over anyBelow n) .modified) w))
-        (λ e. discarded es z _ _ _ _
+        (λ e. discarded z
         (pushed es r a m y h (f (over anyBelow n)) (withStep anyBelow q) a′ m′
         (subst (IsLower (length (y .entries))) (sym p) low)
         (ap (pathsAt (pathsBy (y .entries))) p ∙ ap (withStep anyBelow) is ∙ sym (fromDocuments-step anyBelow q)) i j))
@@ -350,16 +336,8 @@ module _ (o : ℕ) (own : o ≡ 0 → ⊥) where
   unfolding filtered placeOf
   constructed es z n =
       let w : fromDocuments (start (place o n) ∷ []) ≡ [] = rw (ne-eqb o 0 own) in
-      let h = known es z 0 [] (z .some) (z .zero) in
-      record {
-        low = h .low;
-        more = h .more;
-        keeps = h .keeps;
-        lower = h .lower;
-        is = h .is ∙ sym w;
-        accessed = h .accessed;
-        modified = h .modified ∙ ap (λ (v : List Path). marked isModified es ++ v) (sym w);
-      }
+      nothing-more es [] [] [] (emitted 0 es) (known es z 0 [] (z .some) (z .zero)) (start (place o n) ∷ []) [] (start (place o n) ∷ [])
+      (sym w) refl w
 
   pub emits : (e : Expr) → Emits e
   unfolding emit infer filtered placeOf
@@ -371,23 +349,23 @@ module _ (o : ℕ) (own : o ≡ 0 → ⊥) where
   emits (both z e f) ns rs es y b =
       let h = emits e ns rs es y b in
       emits-union es y _ _ _ _ _ _ (emit e ns es) (emit f ns (emit e ns es .entries)) h
-      (emits f ns rs (emit e ns es .entries) (ready es y _ _ _ _ h) (bound-later es _ _ _ _ h b))
+      (emits f ns rs (emit e ns es .entries) (ready y h) (bound-later es _ _ _ _ h b))
   emits (letIn z e f) ns rs es y b = emits-bound e f (emits e) (emits f) ns rs es y b
   emits (forIn z e f) ns rs es y b = emits-bound e f (emits e) (emits f) ns rs es y b
   emits (ifIn z e f g) ns rs es y b =
       let h = emits e ns rs es y b in
-      let y1 = ready es y _ _ _ _ h in
+      let y1 = ready y h in
       let b1 = bound-later es _ _ _ _ h b in
       let i = emits f ns rs (emit e ns es .entries) y1 b1 in
       thenRight es _ _ _ _ _ _ (emit e ns es) _ h
       (emits-union (emit e ns es .entries) y1 _ _ _ _ _ _ (emit f ns (emit e ns es .entries))
       (emit g ns (emit f ns (emit e ns es .entries) .entries)) i
-      (emits g ns rs (emit f ns (emit e ns es .entries) .entries) (ready _ y1 _ _ _ _ i) (bound-later _ _ _ _ _ i b1)))
+      (emits g ns rs (emit f ns (emit e ns es .entries) .entries) (ready y1 i) (bound-later _ _ _ _ _ i b1)))
   emits (element z n) ns rs es y b = constructed es y z
   emits (leaf z v) ns rs es y b = constructed es y z
   emits (delete z e) ns rs es y b = emits-delete es y _ _ _ (emit e ns es) (emits e ns rs es y b)
   emits (insert z e f) ns rs es y b =
       let h = emits e ns rs es y b in
       emits-insert es y _ _ _ _ _ _ (emit e ns es) (emit f ns (emit e ns es .entries)) h
-      (emits f ns rs (emit e ns es .entries) (ready es y _ _ _ _ h) (bound-later es _ _ _ _ h b))
+      (emits f ns rs (emit e ns es .entries) (ready y h) (bound-later es _ _ _ _ h b))
   emits (choose z r c e) ns rs es y b = emits e ns rs es y b

@@ -1,5 +1,5 @@
--- `answer` from two lists of positions: one law of AnalysisLaws for each way out.
-use Rattle.paths.proofs.AnalysisLaws.{table-asks, answer-first, answer-second, answer-meet, answer-free}
+-- `answer` from two lists of positions: its ways out by the laws of AnalysisLaws.
+use Rattle.paths.proofs.AnalysisLaws.{table-asks, answer-first, answer-second, answer-last}
 use borrow.Author.Needs.{needs}
 use Rattle.paths.proofs.answer.Statement.{statement}
 use Rattle.paths.proofs.answer.Tie as tie
@@ -74,7 +74,7 @@ returns-3 c =
     let c10 = c8 .before .before in
     let c11 = c10 .before in
     let c16 = c11 .before .before .before .before .before in
-    answer-meet (c16 .pre) (c11 .climbs .ensures) (c10 .if1 .left) (c8 .climbs2 .ensures) (c7 .if2 .left) (c3 .positions-meet .ensures)
+    answer-last (c16 .pre) (c11 .climbs .ensures) (c10 .if1 .left) (c8 .climbs2 .ensures) (c7 .if2 .left) (c3 .positions-meet .ensures)
     (c .if3 .taken)
 
 same-length-2 : tie.Need-same-length-2
@@ -88,7 +88,7 @@ returns-4 c =
     let c10 = c8 .before .before in
     let c11 = c10 .before in
     let c16 = c11 .before .before .before .before .before in
-    answer-free (c16 .pre) (c11 .climbs .ensures) (c10 .if1 .left) (c8 .climbs2 .ensures) (c7 .if2 .left) (c3 .positions-meet .ensures)
+    answer-last (c16 .pre) (c11 .climbs .ensures) (c10 .if1 .left) (c8 .climbs2 .ensures) (c7 .if2 .left) (c3 .positions-meet .ensures)
     (c .if3 .left)
 
 pub answer-spec : {M : Type 1} → statement M

@@ -1,6 +1,6 @@
 -- `emit::binary` by its kind: one law of RecordLaws for each way out.
 use Rattle.emission.specs.Emitting.{outOf}
-use Rattle.emission.proofs.RecordLaws.{binary-join, binary-insert, binary-none, grown-none}
+use Rattle.emission.proofs.RecordLaws.{binary-join, binary-insert, binary-none}
 use borrow.Author.Needs.{needs}
 use Rattle.emission.proofs.emit.binary.Statement.{statement}
 use Rattle.emission.proofs.emit.binary.Tie as tie
@@ -36,8 +36,7 @@ returns-2 c =
 returns-3 : tie.Need-returns-3
 returns-3 c =
     let c3 = c .before .before .before in
-    binary-none (c3 .args .kind) (c3 .args .first) (outOf (c3 .args .words .now) (c3 .args .y)) (c3 .args .y) (c3 .args .words .now)
-    (c3 .args .y) (c .before .if1 .left) (c .if2 .left) (grown-none (c3 .args .words .now) (c3 .args .y) (c3 .pre .grow))
+    binary-none (c3 .args .kind) (c3 .args .first) (c3 .pre .grow) (c .before .if1 .left) (c .if2 .left)
 
 pub binary-spec : {M : Type 1} → statement M
 binary-spec =

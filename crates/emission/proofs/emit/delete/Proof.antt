@@ -8,7 +8,7 @@ use Rattle.emission.proofs.emit.delete.Tie as tie
 returns : tie.Need-returns
 returns c =
     let c3 = c .before .before .before in
-    delete-none (c3 .args .words .now) (c3 .args .x) (c3 .pre) (c .if1 .taken)
+    delete-none (c3 .pre) (c .if1 .taken)
 
 any-below-requires : tie.Need-any-below-requires
 any-below-requires c κs = search needs

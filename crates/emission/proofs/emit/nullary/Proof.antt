@@ -3,7 +3,8 @@ use mathlib.Core.Path.{ap}
 use Prim.Native.Nat.{ℕ}
 use native.Mathlib.Omega.{arith}
 use Rattle.model.specs.Script.{bodySize}
-use Rattle.emission.proofs.RecordLaws.{root-fits, nullary-document, nullary-variable, nullary-none}
+use Rattle.emission.proofs.GrowLaws.{root-fits}
+use Rattle.emission.proofs.RecordLaws.{nullary-document, nullary-variable, nullary-none}
 use borrow.Author.Needs.{needs}
 use Rattle.emission.proofs.emit.nullary.Statement.{statement}
 use Rattle.emission.proofs.emit.nullary.Tie as tie

@@ -11,8 +11,7 @@ is-up-requires c κs = search needs
 returns : tie.Need-returns
 returns c =
     let c4 = c .before .before .before .before in
-    step-none (c4 .args .words .now) (c4 .args .x) (c4 .pre .grow) (c4 .args .s) (c .before .is-up .result)
-    (c .before .is-up .ensures) (c .if1 .taken)
+    step-none (c4 .pre .grow) (c4 .args .s) (c .before .is-up .result) (c .before .is-up .ensures) (c .if1 .taken)
 
 over-requires : tie.Need-over-requires
 over-requires c κs = search needs

@@ -4,7 +4,7 @@ use Prim.Native.Nat.{ℕ, _+_}
 use native.Mathlib.Omega.{arith}
 use Rattle.model.specs.Script.{bodySize}
 use Rattle.emission.specs.Emitting.{outOf}
-use Rattle.emission.proofs.RecordLaws.{unary-step, unary-delete, unary-none, grown-none}
+use Rattle.emission.proofs.RecordLaws.{unary-step, unary-delete, unary-none}
 use borrow.Author.Needs.{needs}
 use Rattle.emission.proofs.emit.unary.Statement.{statement}
 use Rattle.emission.proofs.emit.unary.Tie as tie
@@ -92,8 +92,7 @@ returns-2 c =
 returns-3 : tie.Need-returns-3
 returns-3 c =
     let c5 = c .before .before .before .before .before in
-    unary-none (c5 .args .bytes .now) (c5 .args .at) (outOf (c5 .args .words .now) (c5 .args .x)) (c5 .args .x) (c5 .args .words .now)
-    (c5 .args .x) (c .before .if1 .left) (c .if2 .left) (grown-none (c5 .args .words .now) (c5 .args .x) (c5 .pre .grow))
+    unary-none (c5 .args .bytes .now) (c5 .args .at) (c5 .pre .grow) (c .before .if1 .left) (c .if2 .left)
 
 pub unary-spec : {M : Type 1} → statement M
 unary-spec =

@@ -8,13 +8,13 @@ use Rattle.emission.proofs.emit.union.Tie as tie
 returns : tie.Need-returns
 returns c =
     let c2 = c .before .before in
-    union-first (c2 .args .words .now) (c2 .args .y) (c2 .pre .grow) (c2 .args .first) (c .if1 .taken)
+    union-first (c2 .pre .grow) (c2 .args .first) (c .if1 .taken)
 
 returns-2 : tie.Need-returns-2
 returns-2 c =
     let c2 = c .before .before in
     let c4 = c2 .before .before in
-    union-second (c4 .args .words .now) (c4 .args .y) (c4 .pre .grow) (c4 .args .first) (c4 .pre .low) (c2 .if1 .left) (c .if2 .taken)
+    union-second (c4 .pre .grow) (c4 .args .first) (c4 .pre .low) (c2 .if1 .left) (c .if2 .taken)
 
 union-requires : tie.Need-union-requires
 union-requires c κs = search needs

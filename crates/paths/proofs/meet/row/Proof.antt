@@ -11,7 +11,7 @@ use Rattle.positions.specs.Sources.{Filled, meetAt, rowMeets}
 use Rattle.positions.specs.Words.{entryOf}
 use Rattle.meeting.specs.Pairs.{marks, HasRows}
 use Rattle.positions.specs.Words.{entriesBy}
-use Rattle.paths.proofs.FillLaws.{any-one, any-next, any-found, plain-row, second-nothing, row-started, row-filled}
+use Rattle.paths.proofs.FillLaws.{any-one, any-next, any-found, meet-asks, plain-row, second-nothing, row-started, row-filled}
 use borrow.Author.Needs.{needs}
 use Rattle.paths.proofs.meet.row.Statement.{statement}
 use Rattle.paths.proofs.meet.row.Tie as tie
@@ -80,16 +80,7 @@ pair-requires c κs =
     let c2 = c .before .before in
     let c6 = c2 .before .before .before .before in
     let c11 = c6 .before .before .before .before .before in
-    record {
-      first = c11 .pre .first;
-      second = c11 .pre .second;
-      room = c2 .loop .inv .2;
-      row = c11 .pre .row;
-      column =
-          c .before .loop-test .taken;
-      position = c6 .unpacked .ensures;
-      filled = c2 .loop .inv .3;
-    }
+    meet-asks (c11 .pre) (c6 .unpacked .ensures) (c2 .loop .inv .2) (c .before .loop-test .taken) (c2 .loop .inv .3)
 
 same-length-2 : tie.Need-same-length-2 Inv-loop μ-loop
 same-length-2 c =
