@@ -5,7 +5,7 @@ use mathlib.Core.List.{List, [], _∷_}
 use Prim.Native.Nat.{ℕ, suc, _+_, _-_}
 use native.Mathlib.Omega.{arith}
 use lib.Dec.{leb}
-use lib.ListN.{length, take, replicate}
+use lib.ListN.{length, take, replicate, length-map}
 use lib.Seq.{take-at}
 use Rattle.model.specs.Base.{pick, areBytes}
 use Rattle.model.specs.Refusal.{isFine}
@@ -28,13 +28,8 @@ unfolding matchedAll
 length-matchedAll n a b [] = refl
 length-matchedAll n a b (i ∷ v) = ap suc (length-matchedAll n a b v)
 
-length-matchedHistory : (n a b : ℕ) (h : List Record) → length (matchedHistory n a b h) ≡ length h
-unfolding matchedHistory
-length-matchedHistory n a b [] = refl
-length-matchedHistory n a b (r ∷ h) = ap suc (length-matchedHistory n a b h)
-
 countKind-matched : (low high n a b : ℕ) (h : List Record) → countKind low high (matchedHistory n a b h) ≡ countKind low high h
-unfolding times matchedHistory
+unfolding times
 countKind-matched low high n a b [] = refl
 countKind-matched low high n a b (r ∷ h) =
     ap (λ (k : ℕ). pick (leb low (r .kind) && leb (r .kind) high) 1 0 + k) (countKind-matched low high n a b h)
@@ -47,7 +42,7 @@ calls-match n a b x y k l m k′ l′ m′ v v′ s s′ e f p q = (
   ap length e ∙ length-matchedAll n a b v,
   ap (countKind _ _) f ∙ countKind-matched _ _ n a b (s .history),
   ap (countKind _ _) f ∙ countKind-matched _ _ n a b (s .history),
-  ap length f ∙ length-matchedHistory n a b (s .history),
+  ap length f ∙ length-map (s .history) _,
   front v′ k′ ∙ e ∙ ap (matchedAll n a b) (sym (front v k)),
   (
     s .history,

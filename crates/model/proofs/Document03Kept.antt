@@ -322,7 +322,7 @@ sweptRows-same x i [] = refl
 sweptRows-same x i (r ∷ rs) = rw (isKept-same x i, renumbered-same x (r .parent), sweptRows-same x (suc i) rs)
 
 sweptMarks-same : (x : Table) (ms : List (Option ℕ)) → sweptMarks x ms ≡ W.sweptMarks x ms
-unfolding sweptMarks W.sweptMarks
+unfolding sweptMarks
 sweptMarks-same x [] = refl
 sweptMarks-same x (m ∷ ms) = rw (renumbered-same x m, sweptMarks-same x ms)
 
@@ -383,6 +383,6 @@ replayAll-same x [] = refl
 replayAll-same x (r ∷ rs) = replayAll-same (H.replayed x r) rs
 
 matchedHistory-same : (n a b : ℕ) (rs : List Record) → matchedHistory n a b rs ≡ P.matchedHistory n a b rs
-unfolding matchedHistory P.matchedHistory
+unfolding matchedHistory
 matchedHistory-same n a b [] = refl
 matchedHistory-same n a b (r ∷ rs) = rw (matchedHistory-same n a b rs)
