@@ -40,7 +40,7 @@ module _ {next n : ℕ} {env : List Span} {ws h w : List ℕ} {mid : ℕ} {p : P
   -- behind a first value, from top on
   module _ (top : ℕ) (order : top ≤ mid) where
     pub first-kept : valueAt w₁ top mid ≡ valueAt w top mid
-    first-kept = value-same w w₁ mid top mid (fine .below) order (omega arith)
+    first-kept = value-same w w₁ mid top mid (fine .below) (omega arith)
 
     pub pair-asks : mid ≤ top + 512 → AreRows (p .count) (valueAt w top mid) → mid + 512 ≤ length w → BinaryPre ws₁ h₁ w₁ top mid y
     pair-asks short rows room =

@@ -257,7 +257,7 @@ module _ {b : List ℕ} {at left n : ℕ} {env : List Span} {ms ws h w : List �
 
         module _ (k : x .progress .number ≡ 0) where
           items-kept : valueAt w₁ half to ≡ valueAt w half to
-          items-kept = value-same w w₁ top half to (ran .fine k .below) (omega (arith, cut .1)) (pre .items)
+          items-kept = value-same w w₁ top half to (ran .fine k .below) (pre .items)
 
           pub rest-asks : EachPre b at left n (x .env) ms ws₁ h₁ w₁ half to top (x .end) (x .progress)
           rest-asks =

@@ -28,7 +28,7 @@ span-same : (w w′ : List ℕ) (top : ℕ) (s : Span) → take top w′ ≡ tak
 span-same w w′ top s e f =
     let m : (s .start + s .len) - s .start ≡ s .len = omega arith in
     ap (λ (j : ℕ). take j (drop (s .start) w′)) (sym m) ∙
-    value-same w w′ top (s .start) (s .start + s .len) e (omega arith) (f .0) ∙
+    value-same w w′ top (s .start) (s .start + s .len) e (f .0) ∙
     ap (λ (j : ℕ). take j (drop (s .start) w)) m
 
 values-same : (w w′ : List ℕ) (top n : ℕ) (env : List Span) → take top w′ ≡ take top w →

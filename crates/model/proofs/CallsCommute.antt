@@ -1,11 +1,11 @@
 -- Demand 3 on what callers see: the results of the public run in both orders, from bytes, a table and lent areas.
-use mathlib.Core.Path.{_≡_, refl, ap, sym, _∙_, subst}
+use mathlib.Core.Path.{_≡_, refl, ap, sym, _∙_, transport}
 use mathlib.Core.Bool.{Bool, true, _&&_, false≢true}
 use mathlib.Core.List.{List, [], _∷_}
 use Prim.Native.Nat.{ℕ, suc, _+_, _-_}
 use native.Mathlib.Omega.{arith}
 use lib.Dec.{leb}
-use lib.ListN.{length, take, replicate}
+use lib.ListN.{length, take, replicate, length-map}
 use lib.Seq.{take-at}
 use Rattle.model.specs.Base.{pick, areBytes}
 use Rattle.model.specs.Refusal.{isFine}
@@ -28,13 +28,8 @@ unfolding matchedAll
 length-matchedAll n a b [] = refl
 length-matchedAll n a b (i ∷ v) = ap suc (length-matchedAll n a b v)
 
-length-matchedHistory : (n a b : ℕ) (h : List Record) → length (matchedHistory n a b h) ≡ length h
-unfolding matchedHistory
-length-matchedHistory n a b [] = refl
-length-matchedHistory n a b (r ∷ h) = ap suc (length-matchedHistory n a b h)
-
 countKind-matched : (low high n a b : ℕ) (h : List Record) → countKind low high (matchedHistory n a b h) ≡ countKind low high h
-unfolding times matchedHistory
+unfolding times
 countKind-matched low high n a b [] = refl
 countKind-matched low high n a b (r ∷ h) =
     ap (λ (k : ℕ). pick (leb low (r .kind) && leb (r .kind) high) 1 0 + k) (countKind-matched low high n a b h)
@@ -47,7 +42,7 @@ calls-match n a b x y k l m k′ l′ m′ v v′ s s′ e f p q = (
   ap length e ∙ length-matchedAll n a b v,
   ap (countKind _ _) f ∙ countKind-matched _ _ n a b (s .history),
   ap (countKind _ _) f ∙ countKind-matched _ _ n a b (s .history),
-  ap length f ∙ length-matchedHistory n a b (s .history),
+  ap length f ∙ length-map (s .history) _,
   front v′ k′ ∙ e ∙ ap (matchedAll n a b) (sym (front v k)),
   (
     s .history,
@@ -117,14 +112,6 @@ module _ (e f : Expr) (b c : List ℕ) (i n j m : ℕ) (r q : List ℕ) (E : rea
           call-ends f c j m q F a′ h′ w′ fits′ (s .plan) (P .1) (runOn (s .plan) f) refl ∙
           sym (ap (λ (o : Out). ends o && ends (runOn (tableOf o) f)) k)
 
--- four results, by equal ones
-matching-as : (x : Table) {r r′ s s′ t t′ u u′ : Ran} → r ≡ t → r′ ≡ t′ → s ≡ u → s′ ≡ u′ → CallsEqual x t t′ u u′ → CallsEqual x r r′ s s′
-matching-as x {r} {r′} {s} {s′} {t} {t′} {u} {u′} e e′ f f′ m =
-    subst (λ (k : Ran). CallsEqual x k r′ s s′) (sym e)
-    (subst (λ (k : Ran). CallsEqual x t k s s′) (sym e′) (subst (λ (k : Ran). CallsEqual x t t′ k s′) (sym f) (subst (λ (k : Ran).
-    CallsEqual x
-    t t′ u k) (sym f′) m)))
-
 -- the four outcomes are values, and they match
 module _ (x : Table) (k l m k′ l′ m′ : ℕ) where
   matching-by : (o q o₂ q₂ : Out) → (ends o && ends o₂) ≡ true → (ends q && ends q₂) ≡ true → OrdersBy x o q o₂ q₂ →
@@ -192,10 +179,11 @@ callsCommute b c x a h w a′ h′ w′ bytes bytes′ an well fits fits′ = fr
           λ y.
               let g : orderEnds x e f ≡ true = sym one ∙ y in
               let g′ : orderEnds x f e ≡ true = sym (C .0) ∙ g in
-              matching-as x (call-runs e b i n r E a h w fits x well)
-              (second-runs e f b c i n j m r q E F bytes a h w a′ h′ w′ fits fits′ x well (and-left (ends (runOn x e)) _ g))
-              (call-runs f c j m q F a′ h′ w′ fits′ x well)
-              (second-runs f e c b j m i n q r F E bytes′ a′ h′ w′ a h w fits′ fits x well (and-left (ends (runOn x f)) _ g′))
+              transport (λ k.
+              CallsEqual x (sym (call-runs e b i n r E a h w fits x well) k)
+              (sym (second-runs e f b c i n j m r q E F bytes a h w a′ h′ w′ fits fits′ x well (and-left (ends (runOn x e)) _ g)) k)
+              (sym (call-runs f c j m q F a′ h′ w′ fits′ x well) k)
+              (sym (second-runs f e c b j m i n q r F E bytes′ a′ h′ w′ a h w fits′ fits x well (and-left (ends (runOn x f)) _ g′)) k))
               (matching-by x (length a) (length h) (length w) (length a′) (length h′) (length w′) (runOn x e) (runOn x f)
               (runOn (tableOf (runOn x e)) f) (runOn (tableOf (runOn x f)) e) g g′ (C .1 g) (run-replays e (b, bytes, (i, (n, (r, E)))) x
               well (runOn x e) refl)

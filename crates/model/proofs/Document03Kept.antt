@@ -13,10 +13,10 @@ use Rattle.model.specs.Table.{Row, Table, table, rowAt, count, isElement
 use Rattle.model.specs.Table.{markFits, noneTwice}
 use Rattle.model.specs.Stored.{Read, bad, got, wordAt, parentIn, wordBytes as wordOf, parentBytes as parentWord, lastMarked}
 use Rattle.model.specs.Stored.{rowLinks, recorded}
-use Rattle.model.specs.Step.{signedKey}
+use Rattle.model.specs.Step.{signedKey, isBelow, collect}
 use Rattle.model.specs.Script.{testFits}
 use Rattle.model.specs.History.{Record}
-use Rattle.model.specs.Run.{State, state, Out, stop, gives, withMade, Copied, copyParent, descendantsFrom, thenRow}
+use Rattle.model.specs.Run.{State, state, Out, stop, gives, withMade, Copied, copyParent, thenRow}
 use Rattle.model.specs.Paths.{Place, place}
 use Rattle.model.specs.Promise.{Places, matched, matchedParent}
 use Rattle.model.specs.Refusal as F
@@ -145,13 +145,13 @@ unfoldable cutAll : (place : ℕ) → (items : List ℕ) → State → Out
 cutAll z [] s = gives [] s
 cutAll z (i ∷ is) s = cutBy z i s (rowAt (s .plan) i .parent) (λ (t : State). cutAll z is t)
 
+unfoldable descendantsFrom : Table → (top row : ℕ) → ℕ → List ℕ
+descendantsFrom x t i zero = []
+descendantsFrom x t i (suc n) = pick (isBelow x t i) (i ∷ descendantsFrom x t (suc i) n) (descendantsFrom x t (suc i) n)
+
 abbrev copyRow : Table → (top target row : ℕ) → List Copied → Row
 copyRow x t g i cs =
-    record {
-      isLeaf = rowAt x i .isLeaf;
-      tag = rowAt x i .tag;
-      parent = copyParent (eqb i t) g (rowAt x i .parent) cs;
-    }
+    record { isLeaf = rowAt x i .isLeaf; tag = rowAt x i .tag; parent = copyParent (eqb i t) g (rowAt x i .parent) cs }
 
 unfoldable copyEach : (place : ℕ) → (before : Table) → (top target : ℕ) → (rows : List ℕ) → List Copied → State → Out
 copyEach z x t g [] cs s = gives [] s
@@ -280,20 +280,8 @@ run-same : (relates ≡ T.relates) × (joinItems ≡ R.joinItems) × (made ≡ R
 run-same =
     (refl, refl, refl, refl, refl, refl, refl, refl, refl, refl, refl, refl, refl, refl, refl, refl, refl, refl)
 
-matchedRow-same : matchedRow ≡ P.matchedRow
-matchedRow-same = refl
-
-arePlaces-to : (x : Table) (h : Places) → ArePlaces x h → P.ArePlaces x h
-arePlaces-to x h a = a
-
-arePlaces-from : (x : Table) (h : Places) → P.ArePlaces x h → ArePlaces x h
-arePlaces-from x h a = a
-
-plansEqual-to : (n a b : ℕ) (x y : Table) → PlansEqual n a b x y → P.PlansEqual n a b x y
-plansEqual-to n a b x y h = h
-
-plansEqual-from : (n a b : ℕ) (x y : Table) → P.PlansEqual n a b x y → PlansEqual n a b x y
-plansEqual-from n a b x y h = h
+promise-same : (matchedRow ≡ P.matchedRow) × (ArePlaces ≡ P.ArePlaces) × (PlansEqual ≡ P.PlansEqual)
+promise-same = (refl, refl, refl)
 
 -- EQUAL STEP BY STEP
 readFrom-same : (n : ℕ) (x : Table) (i : ℕ) (b : List ℕ) → readFrom n x i b ≡ S.readFrom n x i b
@@ -334,7 +322,7 @@ sweptRows-same x i [] = refl
 sweptRows-same x i (r ∷ rs) = rw (isKept-same x i, renumbered-same x (r .parent), sweptRows-same x (suc i) rs)
 
 sweptMarks-same : (x : Table) (ms : List (Option ℕ)) → sweptMarks x ms ≡ W.sweptMarks x ms
-unfolding sweptMarks W.sweptMarks
+unfolding sweptMarks
 sweptMarks-same x [] = refl
 sweptMarks-same x (m ∷ ms) = rw (renumbered-same x m, sweptMarks-same x ms)
 
@@ -356,25 +344,25 @@ cutAll-same z [] s = refl
 cutAll-same z (i ∷ v) s = cutBy-next z i s (rowAt (s .plan) i .parent) _ _ (λ t. cutAll-same z v t)
 
 row-next : (o p : Out) (f g : State → Out) → o ≡ p → ((t : State) → f t ≡ g t) → thenRow o f ≡ thenRow p g
-row-next o p f g e h = go o ∙ ap (λ (q : Out). thenRow q g) e
-  where
-    go : (q : Out) → thenRow q f ≡ thenRow q g
-    go (stop x) = refl
-    go (gives v s) = h s
+row-next (stop x) p f g e h = ap (λ (q : Out). thenRow q g) e
+row-next (gives v s) p f g e h = h s ∙ ap (λ (q : Out). thenRow q g) e
+
+descendantsFrom-same : (x : Table) (t i n : ℕ) → descendantsFrom x t i n ≡ R.descendantsFrom x t i n
+unfolding descendantsFrom collect
+descendantsFrom-same x t i zero = refl
+descendantsFrom-same x t i (suc n) = rw (descendantsFrom-same x t (suc i) n)
 
 copyEach-same : (z : ℕ) (x : Table) (t g : ℕ) (v : List ℕ) (cs : List Copied) (s : State) → copyEach z x t g v cs s ≡ R.copyEach z x t g
     v cs s
 unfolding copyEach R.copyEach
 copyEach-same z x t g [] cs s = refl
-copyEach-same z x t g (i ∷ v) cs s = row-next (R.newRow z (R.copyRow x t g i cs) s) _ _ _ refl (λ u. copyEach-same z x t g v (record {
-  old = i;
-  new = count (s .plan);
-} ∷ cs) u)
+copyEach-same z x t g (i ∷ v) cs s = row-next (R.newRow z (R.copyRow x t g i cs) s) _ _ _ refl (λ u. copyEach-same z x t g v _ u)
 
 copyAll-same : (z : ℕ) (x : Table) (v : List ℕ) (g : ℕ) (s : State) → copyAll z x v g s ≡ R.copyAll z x v g s
 unfolding copyAll R.copyAll
 copyAll-same z x [] g s = refl
-copyAll-same z x (i ∷ v) g s = row-next _ _ _ _ (copyEach-same z x i g (R.subtree x i) [] s) (λ u. copyAll-same z x v g u)
+copyAll-same z x (i ∷ v) g s =
+    rw (descendantsFrom-same x i 0 (count x)) (row-next _ _ _ _ (copyEach-same z x i g _ [] s) (λ u. copyAll-same z x v g u))
 
 inserted-same : (z : ℕ) (v w : List ℕ) (s : State) → inserted z v w s ≡ R.inserted z v w s
 inserted-same z v w s = rw (copyAll-same z (s .plan) v (getD w 0 0) s)
@@ -395,6 +383,6 @@ replayAll-same x [] = refl
 replayAll-same x (r ∷ rs) = replayAll-same (H.replayed x r) rs
 
 matchedHistory-same : (n a b : ℕ) (rs : List Record) → matchedHistory n a b rs ≡ P.matchedHistory n a b rs
-unfolding matchedHistory P.matchedHistory
+unfolding matchedHistory
 matchedHistory-same n a b [] = refl
 matchedHistory-same n a b (r ∷ rs) = rw (matchedHistory-same n a b rs)

@@ -5,11 +5,10 @@ use mathlib.Core.Logic.{inl, inr}
 use mathlib.Core.List.{List, [], _∷_}
 use mathlib.Core.Option.{Option, none, some, Option·some-ne-none}
 use Prim.Native.Nat.{ℕ, zero, suc, _+_, _*_, _-_, _≤_, _<_, compare·suc-zero}
-use native.Mathlib.Nat.{zero-sub, suc-sub-suc, sub-zero}
 use native.Mathlib.Omega.{arith}
 use lib.Dec.{leb, eqb}
 use lib.ListN.{length, getD, take, drop, set, length-append, length-take, length-drop}
-use lib.Seq.{getD-take, getD-set-same, take-all, take-nil}
+use lib.Seq.{getD-take, getD-set-same, take-all}
 use borrow.Author.Tests.{leb-true, leb-false, le-leb, eqb-true, ne-eqb}
 use Rattle.model.specs.Base.{pick}
 use Rattle.model.specs.Limits.{maxRows, documents, maxRecords, maxDepth, fileBytes}
@@ -21,6 +20,7 @@ use Rattle.model.specs.Script.{whole, both, letIn, forIn, ifIn, delete, 
 use Rattle.model.specs.Script.{pickKind, joinKind, letKind, forKind, ifKind, newElementKind, newLeafKind, deleteKind, insertKind}
 use Rattle.model.specs.Call.{ReadByFront, LongerRefused}
 use Rattle.model.proofs.BoolLaws.{bool-iff, by-cases, pick-cases, pick-related}
+use Rattle.model.proofs.ListLaws.{drop-take}
 use Rattle.model.proofs.TableLaws.{Well, well-empty}
 use Rattle.model.proofs.BytesLaws.{lastMarked-at}
 use Rattle.model.proofs.StoredLaws.{readFrom-fuel, record-cases, recorded-row, recorded-mark, well-recorded}
@@ -36,12 +36,6 @@ eqb-take : (m : ℕ) (b : List ℕ) → 0 < m → eqb (length (take m b)) 0 ≡ 
 eqb-take zero b h = absurd (omega arith)
 eqb-take (suc m) [] h = refl
 eqb-take (suc m) (a ∷ b) h = simp compare·suc-zero
-
-drop-take : (j m : ℕ) (b : List ℕ) → drop j (take m b) ≡ take (m - j) (drop j b)
-drop-take zero m b = rw sub-zero
-drop-take (suc j) zero b = rw zero-sub
-drop-take (suc j) (suc m) [] = sym (take-nil (suc m - suc j))
-drop-take (suc j) (suc m) (a ∷ b) = rw suc-sub-suc (drop-take j m b)
 
 -- A PLAN: a step of the reader looks at four bytes
 readFrom-step : (n m : ℕ) (x : Table) (i : ℕ) (b : List ℕ) → 4 ≤ m →

@@ -6,11 +6,11 @@ use mathlib.Core.List.{List, [], _∷_, _++_, map}
 use mathlib.Core.List.{append-assoc, append-nil, List·Memᴰ as In, List·Memᴰ·head as here, List·Memᴰ·tail as there}
 use Prim.Native.Nat.{ℕ, zero, suc, _+_, _-_, _≤_, _<_}
 use native.Mathlib.Omega.{arith}
-use native.Mathlib.Nat.{add-zero, zero-add}
+use native.Mathlib.Nat.{add-zero, zero-add, zero-sub, sub-zero, suc-sub-suc}
 use native.Mathlib.Numerals.{add-one}
 use lib.Dec.{eqb}
 use lib.ListN.{length, getD, take, drop, set, length-append, length-drop, take-append-drop, drop-of-length-le}
-use lib.Seq.{take-at, take-all, take-length, drop-append-add, drop-drop, getD-drop, length-take-le, paste, paste-suc}
+use lib.Seq.{take-nil, take-at, take-all, take-length, drop-append-add, drop-drop, getD-drop, length-take-le, paste, paste-suc}
 use borrow.Author.Tests.{eqb-true, eq-eqb}
 use Rattle.model.specs.Base.{pick, over, all, any, filtered, among}
 use Rattle.model.proofs.BoolLaws.{and-left, and-right, and-both, or-left, or-right, or-cases}
@@ -68,7 +68,13 @@ front-all d s j held e = paste-all d s 0 j held e ∙ ap (λ (n : ℕ). s ++ dro
 pub front-whole : (s d : List ℕ) → length d ≤ length s → s ++ drop (length s) d ≡ s
 front-whole s d h = ap (λ (l : List ℕ). s ++ l) (drop-of-length-le d h) ∙ append-nil s
 
--- what stands from a place on: all of it, and the first of it
+-- what stands from a place on: of the first items, all of it, and the first of it
+pub drop-take : {A : Type 0} (j m : ℕ) (b : List A) → drop j (take m b) ≡ take (m - j) (drop j b)
+drop-take zero m b = rw sub-zero
+drop-take (suc j) zero b = rw zero-sub
+drop-take (suc j) (suc m) [] = sym (take-nil (suc m - suc j))
+drop-take (suc j) (suc m) (a ∷ b) = rw suc-sub-suc (drop-take j m b)
+
 pub drop-all : (b : List ℕ) (i : ℕ) → take (length b - i) (drop i b) ≡ drop i b
 drop-all b i = take-all (length b - i) (drop i b) (omega (arith, length-drop i b))
 

@@ -76,14 +76,12 @@ module _ (n a b : ℕ) where
   renumbered r i o = record { kind = r .kind; row = i; tag = r .tag; parent = o }
 
   pub history-first : {h : List Record} → All (Named (n + a)) h → map (shiftRecord n b) h ≡ matchedHistory n a b h
-  unfolding matchedHistory
   history-first nothing = refl
   history-first (also {a = r} k h) =
       ap₂ (λ q l. q ∷ l)
       (ap₂ (renumbered r) (sym (matched-first (r .row) (k .0))) (sym (parent-first (r .parent) (k .1)))) (history-first h)
 
   pub history-second : (h : List Record) → h ≡ matchedHistory n a b (map (shiftRecord n a) h)
-  unfolding matchedHistory
   history-second [] = refl
   history-second (r ∷ h) =
       ap₂ (λ q l. q ∷ l) (ap₂ (renumbered r) (sym (matched-second (r .row))) (sym (parent-second (r .parent))))

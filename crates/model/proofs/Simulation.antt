@@ -147,58 +147,50 @@ module _ (W : World) where
       (λ n w w′ s t T a a′. sim-join W (x ++ y) z n w w′ s t T (all-append (vals-left W x y n a) (vals-right W x y n a′)))
       (λ w w′ q. grows-join z w w′ q)
 
-  -- LET
-  let-simulated : (z : ℕ) (e f : Expr) → Simulated e → Simulated f → Simulated (letIn z e f)
-  unfolding run infer hasUp
-  let-simulated z e f E F b v news s t u h k T =
-      sim-then W (x .result) (y .result) news (λ w q. run f (v ++ (w ∷ [])) q)
-      (λ w q. run f (φs v ++ (w ∷ [])) q)
-      (E b v news s t (ups .0) (inside-first x (y .result) (y .accessed) (y .modified) h) k T)
-      (λ more w s t T a.
-      subst (λ l. Sim W (y .result) (news ++ more) (run f (v ++ (w ∷ [])) s) (run f l t))
-      (map-append (map (φ W)) v (w ∷ []))
-      (F (b ++ (x .result ∷ [])) (v ++ (w ∷ [])) (news ++ more) s t (ups .1)
-      (inside-rest x (y .result) (y .result) (y .accessed) (y .modified) h) (env-last (news ++ more) (env-more news more k) a) T))
-      (λ w q. run-grows f (v ++ (w ∷ [])) q)
-    where
-      x : Paths
-      x = infer (W .script .owner) e b
+  -- LET AND FOR: the paths of both expressions; the body has one more variable, whose values are on the first's paths
+  module _ (z : ℕ) (e f : Expr) (E : Simulated e) (F : Simulated f) where
+    abbrev first : List (List Path) → Paths
+    first b = infer (W .script .owner) e b
 
-      y : Paths
-      y = infer (W .script .owner) f (b ++ (x .result ∷ []))
+    abbrev body : List (List Path) → Paths
+    body b = infer (W .script .owner) f (b ++ (first b .result ∷ []))
 
-      ups : (hasUp e ≡ false) × (hasUp f ≡ false)
-      ups = or-neither (hasUp e) (hasUp f) u
+    module _ (b : List (List Path)) (v : List (List ℕ)) (u : (hasUp e || hasUp f) ≡ false)
+        (h : Inside (after (first b) (body b .result) (body b .accessed) (body b .modified))) where
+      first-sim : (news : List Label) (s t : State) → Env news b v → Twin W news s t →
+          Sim W (first b .result) news (run e v s) (run e (φs v) t)
+      first-sim news s t k T =
+          E b v news s t (or-neither (hasUp e) (hasUp f) u .0)
+          (inside-first (first b) (body b .result) (body b .accessed) (body b .modified) h) k T
 
-  -- FOR
-  for-simulated : (z : ℕ) (e f : Expr) → Simulated e → Simulated f → Simulated (forIn z e f)
-  unfolding run infer hasUp
-  for-simulated z e f E F b v news s t u h k T =
-      sim-then W (x .result) (y .result) news
-      (λ w q. loop z (λ i q. run f (v ++ ((i ∷ []) ∷ [])) q) w [] q)
-      (λ w q. loop z (λ i q. run f (φs v ++ ((i ∷ []) ∷ [])) q) w [] q)
-      (E b v news s t (ups .0) (inside-first x (y .result) (y .accessed) (y .modified) h) k T)
-      (λ more w s t T a.
-      sim-loop W (λ l. Env l b v) (λ l m c. env-more l m c) (x .result) (y .result) z
-      (λ i q. run f (v ++ ((i ∷ []) ∷ [])) q) (λ i q. run f (φs v ++ ((i ∷ []) ∷ [])) q)
-      (λ l i s t c T a.
-      subst (λ m. Sim W (y .result) l (run f (v ++ ((i ∷ []) ∷ [])) s) (run f m t))
-      (map-append (map (φ W)) v ((i ∷ []) ∷ []))
-      (F (b ++ (x .result ∷ [])) (v ++ ((i ∷ []) ∷ [])) l s t (ups .1)
-      (inside-rest x (y .result) (y .result) (y .accessed) (y .modified) h) (env-last l c (also a nothing)) T))
-      (λ i q. run-grows f (v ++ ((i ∷ []) ∷ [])) q) w (news ++ more) [] s t (env-more news more k) T a nothing)
-      (λ w q.
-      grows-loop z (λ i q. run f (v ++ ((i ∷ []) ∷ [])) q)
-      (λ i q. run-grows f (v ++ ((i ∷ []) ∷ [])) q) w [] q)
-    where
-      x : Paths
-      x = infer (W .script .owner) e b
+      body-sim : (news : List Label) (w : List ℕ) (s t : State) → Env news b v → Twin W news s t → Vals W (first b .result) news w →
+          Sim W (body b .result) news (run f (v ++ (w ∷ [])) s) (run f (φs v ++ (map (φ W) w ∷ [])) t)
+      body-sim news w s t k T a =
+          subst (λ l. Sim W (body b .result) news (run f (v ++ (w ∷ [])) s) (run f l t)) (map-append (map (φ W)) v (w ∷ []))
+          (F (b ++ (first b .result ∷ [])) (v ++ (w ∷ [])) news s t (or-neither (hasUp e) (hasUp f) u .1)
+          (inside-rest (first b) (body b .result) (body b .result) (body b .accessed) (body b .modified) h) (env-last news k a) T)
 
-      y : Paths
-      y = infer (W .script .owner) f (b ++ (x .result ∷ []))
+    let-simulated : Simulated (letIn z e f)
+    unfolding run infer hasUp
+    let-simulated b v news s t u h k T =
+        sim-then W (first b .result) (body b .result) news (λ w q. run f (v ++ (w ∷ [])) q) (λ w q. run f (φs v ++ (w ∷ [])) q)
+        (first-sim b v u h news s t k T)
+        (λ more w s t T a. body-sim b v u h (news ++ more) w s t (env-more news more k) T a)
+        (λ w q. run-grows f (v ++ (w ∷ [])) q)
 
-      ups : (hasUp e ≡ false) × (hasUp f ≡ false)
-      ups = or-neither (hasUp e) (hasUp f) u
+    for-simulated : Simulated (forIn z e f)
+    unfolding run infer hasUp
+    for-simulated b v news s t u h k T =
+        sim-then W (first b .result) (body b .result) news (λ w q. loop z (one v) w [] q) (λ w q. loop z (one (φs v)) w [] q)
+        (first-sim b v u h news s t k T)
+        (λ more w s t T a.
+        sim-loop W (λ l. Env l b v) (λ l m c. env-more l m c) (first b .result) (body b .result) z (one v) (one (φs v))
+        (λ l i s t c T a. body-sim b v u h l (i ∷ []) s t c T (also a nothing))
+        (λ i q. run-grows f (v ++ ((i ∷ []) ∷ [])) q) w (news ++ more) [] s t (env-more news more k) T a nothing)
+        (λ w q. grows-loop z (one v) (λ i q. run-grows f (v ++ ((i ∷ []) ∷ [])) q) w [] q)
+      where
+        one : List (List ℕ) → ℕ → State → Out
+        one v i q = run f (v ++ ((i ∷ []) ∷ [])) q
 
   -- IF
   if-simulated : (z : ℕ) (e f g : Expr) → Simulated e → Simulated f → Simulated g → Simulated (ifIn z e f g)

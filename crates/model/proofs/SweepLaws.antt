@@ -13,7 +13,7 @@ use lib.ListN.{length, getD}
 use borrow.Author.Tests.{ltb-true, ltb-false, leb-true, leb-false}
 use Rattle.model.specs.Base.{pick, bit}
 use Rattle.model.specs.Table.{Row, Table, noRow, rowAt, isMarked, withParent, Tree}
-use Rattle.model.specs.Sweep.{through, keptFrom, isKept, keptBefore, newNumber, renumbered, sweptRows, sweptMarks}
+use Rattle.model.specs.Sweep.{through, keptFrom, isKept, keptBefore, newNumber, renumbered, sweptRows}
 use Rattle.model.proofs.BoolLaws.{bit-le, or-left, or-right, or-cases, true-false}
 use Rattle.model.proofs.TableLaws.{any-at}
 
@@ -171,18 +171,7 @@ sweptRows-from x i (r ∷ rs) j l = go (isKept x i) refl j l (sweptRows-from x (
     go true e (suc j) m h = let k = rw e at m in origin-later x i r rs j (suc j) (rw e (one-add j)) (h j (omega arith))
     go false e j m h = origin-later x i r rs j j (rw e (zero-add j)) (h j (rw e at m))
 
--- MARKS are renumbered
-pub sweptMarks-at : (x : Table) (ms : List (Option ℕ)) (d : ℕ) → getD (sweptMarks x ms) d none ≡ renumbered x (getD ms d none)
-unfolding sweptMarks
-sweptMarks-at x [] d = refl
-sweptMarks-at x (m ∷ ms) zero = refl
-sweptMarks-at x (m ∷ ms) (suc d) = sweptMarks-at x ms d
-
-pub length-sweptMarks : (x : Table) (ms : List (Option ℕ)) → length (sweptMarks x ms) ≡ length ms
-unfolding sweptMarks
-length-sweptMarks x [] = refl
-length-sweptMarks x (m ∷ ms) = ap suc (length-sweptMarks x ms)
-
+-- RENUMBERED, from which row
 pub renumbered-some : (x : Table) (q : Option ℕ) (j : ℕ) → renumbered x q ≡ some j → (i : ℕ) × ((q ≡ some i) × (newNumber x i ≡ j))
 renumbered-some x none j e = absurd (Option·none-ne-some j e)
 renumbered-some x (some i) j e = (i, (refl, cc))
@@ -201,9 +190,3 @@ sweptRows-same x i (r ∷ rs) h =
     (ap₂ _∷_ q
     (sweptRows-same x (suc i) rs
     (λ j l. let w = h (suc j) (omega arith) in (subst (λ (n : ℕ). isKept x n ≡ true) (omega arith) (w .0), w .1))))
-
-pub sweptMarks-same : (x : Table) (ms : List (Option ℕ)) → ((d : ℕ) → renumbered x (getD ms d none) ≡ getD ms d none) →
-    sweptMarks x ms ≡ ms
-unfolding sweptMarks
-sweptMarks-same x [] h = refl
-sweptMarks-same x (m ∷ ms) h = ap₂ _∷_ (h zero) (sweptMarks-same x ms (λ d. h (suc d)))

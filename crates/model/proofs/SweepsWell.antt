@@ -6,15 +6,15 @@ use mathlib.Core.Option.{Option, none, some}
 use Prim.Native.Nat.{ℕ, zero, suc, _<_}
 use native.Mathlib.Nat.{not-suc-le-zero, zero-add}
 use native.Mathlib.Omega.{arith}
-use lib.ListN.{getD}
+use lib.ListN.{getD, length-map, List·getD-map}
+use lib.Seq.{ext-getD}
 use Rattle.model.specs.Table.{Row, Table, table, rowAt, count, tagFits, ParentLower, IsRoot, Tree}
 use Rattle.model.specs.Sweep.{isKept, newNumber, renumbered, swept}
 use Rattle.model.specs.Promise.{SweepsWell, SweepKeeps}
 use Rattle.model.proofs.TableLaws.{any-at, any-by, parent-count, Well, isWell-at, isWell-by}
 use Rattle.model.proofs.SweepLaws.{isKept-unrolled, isKept-marked, isKept-below, isKept-cases, isKept-parent, newNumber-le}
 use Rattle.model.proofs.SweepLaws.{newNumber-strict, newNumber-once, newNumber-all, sweptRow, length-sweptRows, sweptRows-at}
-use Rattle.model.proofs.SweepLaws.{sweptRows-from, sweptMarks-at, length-sweptMarks, renumbered-some, sweptRows-same}
-use Rattle.model.proofs.SweepLaws.{sweptMarks-same}
+use Rattle.model.proofs.SweepLaws.{sweptRows-from, renumbered-some, sweptRows-same}
 
 module _ (x : Table) (t : Tree x) where
   -- THE SWEPT TABLE by index
@@ -64,7 +64,7 @@ module _ (x : Table) (t : Tree x) where
   }
     where
       origin : (d j : ℕ) → getD (swept x .marks) d none ≡ some j → (i : ℕ) × ((getD (x .marks) d none ≡ some i) × (newNumber x i ≡ j))
-      origin d j e = renumbered-some x (getD (x .marks) d none) j (sym (sweptMarks-at x (x .marks) d) ∙ e)
+      origin d j e = renumbered-some x (getD (x .marks) d none) j (sym (List·getD-map (renumbered x) (x .marks) d none) ∙ e)
 
       root : (d j : ℕ) → getD (swept x .marks) d none ≡ some j → IsRoot (swept x) j
       root d j e =
@@ -87,7 +87,7 @@ module _ (x : Table) (t : Tree x) where
     | inl k ↦
         let w = any-at i (x .marks) k in
         isKept-marked (swept x) swept-tree (newNumber x i)
-        (any-by (newNumber x i) (swept x .marks) (w .0) (sweptMarks-at x (x .marks) (w .0) ∙ ap (renumbered x) (w .1)))
+        (any-by (newNumber x i) (swept x .marks) (w .0) (List·getD-map (renumbered x) (x .marks) (w .0) none ∙ ap (renumbered x) (w .1)))
     | inr w ↦
         let q = t .parents i (w .0) (w .1 .0) .0 in
         isKept-below (swept x) swept-tree (newNumber x i) (newNumber x (w .0))
@@ -107,7 +107,8 @@ module _ (x : Table) (t : Tree x) where
   swept-twice =
       ap₂ table
       (sweptRows-same (swept x) 0 (swept x .rows) (λ j l. (rw zero-add (swept-all j l), renumbered-same _ (parent j l))))
-      (sweptMarks-same (swept x) (swept x .marks) (λ d. renumbered-same _ (λ p e. swept-tree .roots d p e .0)))
+      (ext-getD none _ _ (length-map (swept x .marks) (renumbered (swept x))) (λ d l.
+      List·getD-map (renumbered (swept x)) (swept x .marks) d none ∙ renumbered-same _ (λ p e. swept-tree .roots d p e .0)))
     where
       parent : (j : ℕ) → j < count (swept x) → (p : ℕ) → rowAt (swept x) j .parent ≡ some p → p < count (swept x)
       parent j l p e = omega (arith, swept-tree .parents j p e .0)
@@ -115,7 +116,7 @@ module _ (x : Table) (t : Tree x) where
   swept-well : Well x → Well (swept x)
   swept-well w = record {
     few = omega (arith, count-swept, newNumber-le x (count x), w .few);
-    eight = length-sweptMarks x (x .marks) ∙ w .eight;
+    eight = length-map (x .marks) (renumbered x) ∙ w .eight;
     tree = swept-tree;
   }
 
@@ -130,7 +131,7 @@ sweepKeeps x h =
       isKept-parent x t,
       from,
       newNumber-strict x,
-      sweptMarks-at x (x .marks),
+      λ d. List·getD-map (renumbered x) (x .marks) d none,
     )
   where
     from : (j : ℕ) → j < count (swept x) → (i : ℕ) × ((i < count x) × (isKept x i ≡ true) × (newNumber x i ≡ j))

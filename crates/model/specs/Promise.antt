@@ -3,7 +3,7 @@
 use mathlib.Core.Path.{_≡_}
 use mathlib.Core.Logic.{_↔_}
 use mathlib.Core.Bool.{Bool, true, false, _&&_, _||_}
-use mathlib.Core.List.{List, [], _∷_}
+use mathlib.Core.List.{List, [], _∷_, map}
 use mathlib.Core.Option.{Option, none, some}
 use Prim.Native.Nat.{ℕ, zero, suc, _+_, _-_, _<_}
 use lib.Dec.{ltb}
@@ -145,9 +145,8 @@ abbrev pub matchedRecord : (n a b : ℕ) → Record → Record
 matchedRecord n a b r =
     record { kind = r .kind; row = matched n a b (r .row); tag = r .tag; parent = matchedParent n a b (r .parent) }
 
-unfoldable pub matchedHistory : (n a b : ℕ) → List Record → List Record
-matchedHistory n a b [] = []
-matchedHistory n a b (r ∷ rs) = matchedRecord n a b r ∷ matchedHistory n a b rs
+abbrev pub matchedHistory : (n a b : ℕ) → List Record → List Record
+matchedHistory n a b rs = map (matchedRecord n a b) rs
 
 abbrev pub matchedRow : (n a b : ℕ) → Row → Row
 matchedRow n a b r = withParent r (matchedParent n a b (r .parent))

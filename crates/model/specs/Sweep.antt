@@ -1,7 +1,7 @@
 -- Document 01, 'Sweep': drops each row that is neither marked nor below a marked row, and renumbers.
 -- Assumes nothing: these are definitions.
 use mathlib.Core.Bool.{Bool, false, _||_}
-use mathlib.Core.List.{List, [], _∷_}
+use mathlib.Core.List.{List, [], _∷_, map}
 use mathlib.Core.Option.{Option, none, some}
 use Prim.Native.Nat.{ℕ, zero, suc, _+_}
 use Rattle.model.specs.Base.{pick, bit}
@@ -37,9 +37,8 @@ sweptRows x i [] = []
 sweptRows x i (r ∷ rs) =
     pick (isKept x i) (withParent r (renumbered x (r .parent)) ∷ sweptRows x (suc i) rs) (sweptRows x (suc i) rs)
 
-unfoldable pub sweptMarks : Table → List (Option ℕ) → List (Option ℕ)
-sweptMarks x [] = []
-sweptMarks x (m ∷ ms) = renumbered x m ∷ sweptMarks x ms
+abbrev pub sweptMarks : Table → List (Option ℕ) → List (Option ℕ)
+sweptMarks x ms = map (renumbered x) ms
 
 abbrev pub swept : Table → Table
 swept x = table (sweptRows x 0 (x .rows)) (sweptMarks x (x .marks))

@@ -7,7 +7,7 @@ use mathlib.Core.List.{List, [], _∷_, map}
 use Prim.Native.Nat.{ℕ, zero, suc, _+_, _-_, _≤_, _<_}
 use native.Mathlib.Omega.{arith}
 use lib.Dec.{eqb}
-use lib.ListN.{length, getD, take, drop, List·getD-map}
+use lib.ListN.{length, getD, take, drop, length-take, List·getD-map}
 use borrow.Author.Tests.{eqb-false}
 use Rattle.model.specs.Refusal.{isFine}
 use Rattle.model.specs.Table as model
@@ -33,7 +33,6 @@ use Rattle.updates.specs.declared.state.Progress.{Progress}
 use Rattle.operators.specs.Evaluating.{noSpan, spanValue, boundValues, CopyPre, endedBy, madeValue, Yields, EvalPre, EvalPost}
 use Rattle.operators.specs.declared.value.Span.{Span}
 use Rattle.operators.specs.declared.record.Evaluated.{Evaluated}
-use Rattle.operators.proofs.ValueLaws.{take-few}
 use Rattle.operators.proofs.YieldLaws.{yields-updated, updated-none, yields-as}
 
 -- A NEW ROW has the number next to the rows so far
@@ -147,7 +146,7 @@ module _ {b : List ℕ} {at left n : ℕ} {env : List Span} {ms ws h w : List �
         few =
             let l : v < n = omega (arith, low) in
             let m : s .len ≤ 512 = subst (λ (x : Span). x .len ≤ 512) (sym g) (pre .scope .spans v l .1) in
-            omega (arith, m, take-few ((s .start + s .len) - s .start) (drop (s .start) w))
+            omega (arith, m, length-take ((s .start + s .len) - s .start) (drop (s .start) w))
 
   -- new rows
   module _ {ws′ h′ w′ : List ℕ} {q : Progress} {e : ℕ} (size : length w′ ≡ length w)

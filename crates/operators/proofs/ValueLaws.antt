@@ -2,45 +2,27 @@
 use mathlib.Core.Path.{_≡_, refl, ap, sym, _∙_}
 use mathlib.Core.Logic.{_⊎_, inl, inr}
 use mathlib.Core.List.{List, [], _∷_, _++_}
-use Prim.Native.Nat.{ℕ, zero, suc, _+_, _-_, _≤_, _<_}
+use Prim.Native.Nat.{ℕ, _+_, _-_, _≤_, _<_}
 use native.Mathlib.Omega.{arith}
-use native.Mathlib.Nat.{zero-add, suc-add}
 use lib.Dec.{ltb}
 use lib.ListN.{length, getD, take, drop, set, length-drop, length-set, length-append, List·getD-append}
-use lib.Seq.{take-nil, take-take, take-add, take-at, drop-at, drop-drop, drop-cons, length-take-le}
+use lib.Seq.{take-take, take-add, take-at, drop-at, drop-drop, drop-cons, length-take-le}
 use lib.Seq.{getD-set-same, getD-set-other, getD-take, getD-drop, getD-append-add, ext-getD}
 use borrow.Author.Tests.{ltb-true, ltb-false}
 use Rattle.model.proofs.BoolLaws.{by-cases, eq-cases}
 use Rattle.model.specs.Run.{AreRows}
 use Rattle.model.proofs.All.{all-at}
+use Rattle.model.proofs.ListLaws.{drop-take}
 use Rattle.table.specs.Flags.{Within}
 use Rattle.query.specs.Values.{valueAt, Appended}
 use Rattle.operators.specs.Evaluating.{CopyPre, Copying}
 
--- CUT from the front part of the area
-take-drop : (i k : ℕ) (w : List ℕ) → take k (drop i w) ≡ drop i (take (i + k) w)
-take-drop zero k w = ap (λ (j : ℕ). take j w) (sym (zero-add k))
-take-drop (suc i) k [] = take-nil k ∙ sym (ap (drop (suc i)) (take-nil (suc i + k)))
-take-drop (suc i) k (x ∷ xs) = take-drop i k xs ∙ sym (ap (λ (j : ℕ). drop (suc i) (take j (x ∷ xs))) (suc-add i k))
-
-value-front : (w : List ℕ) (i j : ℕ) → i ≤ j → valueAt w i j ≡ drop i (take j w)
-value-front w i j l =
-    let e : i + (j - i) ≡ j = omega arith in
-    take-drop i (j - i) w ∙ ap (λ (k : ℕ). drop i (take k w)) e
-
--- a value below a place is kept where the area below it is
-pub value-same : (w w′ : List ℕ) (t i j : ℕ) → take t w′ ≡ take t w → i ≤ j → j ≤ t → valueAt w′ i j ≡ valueAt w i j
-value-same w w′ t i j e l m =
-    value-front w′ i j l ∙ ap (drop i) (sym (take-take j t w′ m)) ∙ ap (λ (v : List ℕ). drop i (take j v)) e ∙
-    ap (drop i) (take-take j t w m) ∙ sym (value-front w i j l)
-
+-- what is below a place, and a value there, is kept where the area below a higher place is
 pub below-same : (w w′ : List ℕ) (t i : ℕ) → take t w′ ≡ take t w → i ≤ t → take i w′ ≡ take i w
 below-same w w′ t i e l = sym (take-take i t w′ l) ∙ ap (take i) e ∙ take-take i t w l
 
-pub take-few : (k : ℕ) (v : List ℕ) → length (take k v) ≤ k
-take-few zero v = omega arith
-take-few (suc k) [] = omega arith
-take-few (suc k) (x ∷ xs) = let l = take-few k xs in omega (arith, l)
+pub value-same : (w w′ : List ℕ) (t i j : ℕ) → take t w′ ≡ take t w → j ≤ t → valueAt w′ i j ≡ valueAt w i j
+value-same w w′ t i j e m = rw (← drop-take i j w′, ← drop-take i j w, below-same w w′ t j e m)
 
 -- the length, one, two one behind the other
 pub length-value : (w : List ℕ) (i j : ℕ) → i ≤ j → j ≤ length w → length (valueAt w i j) ≡ j - i
@@ -62,8 +44,7 @@ value-append w i j k l m =
 module _ {v w : List ℕ} {from : ℕ} {w′ : List ℕ} {r : ℕ} (a : Appended v w from w′ r) (l : from ≤ length w) where
   pub appended-value : valueAt w′ from r ≡ v
   appended-value =
-      let m : from ≤ r = omega (arith, a .end) in
-      value-front w′ from r m ∙ ap (drop from) (a .front) ∙ drop-at (take from w) v from (length-take-le from w l)
+      sym (drop-take from r w′) ∙ ap (drop from) (a .front) ∙ drop-at (take from w) v from (length-take-le from w l)
 
   pub appended-below : take from w′ ≡ take from w
   appended-below =

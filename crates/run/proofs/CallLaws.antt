@@ -6,7 +6,7 @@ use mathlib.Core.Option.{some}
 use Prim.Native.Nat.{ℕ, zero, suc, _+_, _-_, _≤_, _<_}
 use native.Mathlib.Omega.{arith}
 use lib.Dec.{leb, eqb}
-use lib.ListN.{length, take, drop, replicate, length-replicate, take-append-drop}
+use lib.ListN.{length, take, drop, replicate, length-take, length-replicate, take-append-drop}
 use lib.Seq.{length-take-le}
 use borrow.Author.Tests.{eqb-true, eqb-false, le-leb, lt-leb, leb-true}
 use Rattle.model.specs.Base.{pick, nothing, also, bit}
@@ -35,7 +35,7 @@ use Rattle.operators.specs.declared.value.Span.{Span}
 use Rattle.operators.specs.declared.record.Evaluated.{Evaluated}
 use Rattle.areas.specs.declared.tally.Tally.{Tally}
 use Rattle.run.specs.declared.RunResult.{RunResult}
-use Rattle.operators.proofs.ValueLaws.{take-few, length-value}
+use Rattle.operators.proofs.ValueLaws.{length-value}
 use Rattle.operators.proofs.YieldLaws.{yields-gives, yields-stop}
 
 -- THE TALLY counts the history's records by kind
@@ -188,7 +188,7 @@ module _ (t : Table) (b : List ℕ) (e : fits t ≡ true) where
           few = fine .short
 
           pub put-asks : (a : List ℕ) → 512 ≤ length a → length (valueAt w′ 0 (x .end)) ≤ length a
-          put-asks a m = omega (arith, take-few (x .end - 0) (drop 0 w′), few)
+          put-asks a m = omega (arith, length-take (x .end - 0) (drop 0 w′), few)
 
           gives-it : outcomeOf t b ≡ gives (valueAt w′ 0 (x .end)) (stateOf ws′ (t .marks) h′ q)
           gives-it = goes ∙ yields-gives ran l

@@ -1,5 +1,5 @@
 -- What the call `run` gives back and leaves, in the model's words: RunsAsCalled, RunsOn, RefusedGivesBack, RefusedLeaves, RunsCommute.
-use mathlib.Core.Path.{_≡_, refl, ap, sym, subst, _∙_}
+use mathlib.Core.Path.{_≡_, refl, ap, sym, subst, transport, _∙_}
 use mathlib.Core.Bool.{Bool, true, false}
 use mathlib.Core.List.{List}
 use Prim.Native.Nat.{ℕ}
@@ -113,13 +113,9 @@ module _ (t : Table) (e : fits t ≡ true) where
       let s = runsOn t b a h w bytes e in
       runsAsCalled (runResult t b a h w .table) c a′ h′ w′ (s .0) ∙ ap (λ (x : model.Table). runCall x c a′ h′ w′) (s .1)
 
-either-as : (t : Table) {r r′ s s′ u u′ v v′ : Ran} → r ≡ u → r′ ≡ u′ → s ≡ v → s′ ≡ v′ → EitherEnd t u u′ v v′ → EitherEnd t r r′ s s′
-either-as t {r} {r′} {s} {s′} {u} {u′} {v} {v′} e e′ f f′ m =
-    subst (λ (k : Ran). EitherEnd t k r′ s s′) (sym e)
-    (subst (λ (k : Ran). EitherEnd t u k s s′) (sym e′)
-    (subst (λ (k : Ran). EitherEnd t u u′ k s′) (sym f) (subst (λ (k : Ran). EitherEnd t u u′ v k) (sym f′) m)))
-
 pub runsCommute : RunsCommute
 runsCommute b c t a h w a′ h′ w′ bytes bytes′ is e fit fit′ =
-    either-as t (runsAsCalled t b a h w e) (then-called t e b c a h w a′ h′ w′ bytes) (runsAsCalled t c a′ h′ w′ e)
-    (then-called t e c b a′ h′ w′ a h w bytes′) (callsCommute b c (decode t) a h w a′ h′ w′ bytes bytes′ is (well-decode t e) fit fit′)
+    transport (λ i.
+    EitherEnd t (sym (runsAsCalled t b a h w e) i) (sym (then-called t e b c a h w a′ h′ w′ bytes) i)
+    (sym (runsAsCalled t c a′ h′ w′ e) i) (sym (then-called t e c b a′ h′ w′ a h w bytes′) i))
+    (callsCommute b c (decode t) a h w a′ h′ w′ bytes bytes′ is (well-decode t e) fit fit′)

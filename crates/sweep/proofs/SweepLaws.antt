@@ -23,7 +23,7 @@ use Rattle.table.proofs.WordLaws.{linked-linkOf, withLink-wordOf, wordsOf-snoc,
 use Rattle.table.proofs.DecodeLaws.{link-low, parent-linked, parent-at, mark-row}
 use Rattle.table.proofs.FittedLaws.{Fits, fits-mark}
 use Rattle.model.proofs.SweepLaws.{newNumber-zero, newNumber-suc, isKept-unrolled, newNumber-le, isKept-marked}
-use Rattle.model.proofs.SweepLaws.{isKept-parent, length-sweptRows, length-sweptMarks, sweptMarks-at}
+use Rattle.model.proofs.SweepLaws.{isKept-parent, length-sweptRows}
 use Rattle.model.proofs.TableLaws.{any-by}
 use Rattle.table.specs.Results.{asItWas}
 use Rattle.model.specs.Refusal.{linkAt}
@@ -280,13 +280,13 @@ module _ (ws ms : List ℕ) (n : ℕ) (fits : Fits n ws ms) (size : length ws �
       same-length : length (newLinks ns ms) ≡ length (map linkOf (sweptMarks plan (map linked ms)))
       same-length =
           length-map ms (λ (m : ℕ). getD ns m 0) ∙
-          sym (length-map (sweptMarks plan (map linked ms)) linkOf ∙ length-sweptMarks plan (map linked ms) ∙ length-map ms linked)
+          sym (length-map (sweptMarks plan (map linked ms)) linkOf ∙ length-map (map linked ms) (renumbered plan) ∙ length-map ms linked)
 
       same-at : (d : ℕ) → d < length (newLinks ns ms) → getD (newLinks ns ms) d 0 ≡ getD (map linkOf (sweptMarks plan (map linked ms))) d 0
       same-at d h =
           ap (getD (newLinks ns ms) d) (sym (s .none)) ∙ List·getD-map (λ (m : ℕ). getD ns m 0) ms d 0 ∙ mark-new d ∙
           sym (List·getD-map linkOf (sweptMarks plan (map linked ms)) d none ∙
-          ap linkOf (sweptMarks-at plan (map linked ms) d ∙ ap (renumbered plan) (List·getD-map linked ms d 0)))
+          ap linkOf (List·getD-map (renumbered plan) (map linked ms) d none ∙ ap (renumbered plan) (List·getD-map linked ms d 0)))
 
   rows-all : sweptRows plan 0 (take n (rowsOf n ws)) ≡ sweptRows plan 0 (rowsOf n ws)
   rows-all = ap (sweptRows plan 0) (take-all n (rowsOf n ws) (omega (arith, count-decode n ws ms all-within)))
