@@ -31,12 +31,12 @@ lent-fit : (l : Lent) → Suffices l → areasFit (l .answer) (l .history) (l .w
 lent-fit l ok = needs (l .answer) (l .history) (l .work) (l .out) (l .done) (ok .1) .0
 
 -- A CALL on a plan that is read as x answers 0 and tells the model's run
-pub record Tells (p : List ℕ) (x : Table) (l : Lent) : Type 0 where
-  pub fine : isFine (modelRun x l .fault) ≡ true
-  pub answers : runLent p l .code ≡ codeOf 0 0 0
-  pub well : isWell (modelRun x l .plan) ≡ true
-  pub left : readPlan (planLeft (runLent p l)) ≡ got (modelRun x l .plan)
-  pub tells : told (runLent p l) (modelRun x l .plan) ≡ modelRun x l
+record Tells (p : List ℕ) (x : Table) (l : Lent) : Type 0 where
+  fine : isFine (modelRun x l .fault) ≡ true
+  answers : runLent p l .code ≡ codeOf 0 0 0
+  well : isWell (modelRun x l .plan) ≡ true
+  left : readPlan (planLeft (runLent p l)) ≡ got (modelRun x l .plan)
+  tells : told (runLent p l) (modelRun x l .plan) ≡ modelRun x l
 
 module _ (p : List ℕ) (x : Table) (well : isWell x ≡ true) (read : readPlan p ≡ got x) (l : Lent) (ok : Suffices l) where
   run-is : (q : Out) → runBy x (readScript (l .script)) ≡ q →

@@ -54,7 +54,6 @@ pub mod Orders
 pub mod FreeCommutes
 pub mod StopLaws
 pub mod RefusedByTable
-pub mod FrontLaws
 pub mod CallsCommute
 pub mod Document03Script
 pub mod Document03Run

@@ -2,11 +2,11 @@
 use mathlib.Core.Path.{_≡_}
 use mathlib.Core.Bool.{Bool, true, false, _&&_}
 use mathlib.Core.List.{List, _++_}
-use Prim.Native.Nat.{ℕ, _-_, _<_}
+use Prim.Native.Nat.{ℕ, _-_}
 use lib.Dec.{leb}
 use lib.ListN.{length, take, replicate}
 use Rattle.model.specs.Base.{isIn, pick, areBytes}
-use Rattle.model.specs.Limits.{answerNeed, historyNeed, workNeed, fileBytes}
+use Rattle.model.specs.Limits.{answerNeed, historyNeed, workNeed}
 use Rattle.model.specs.Refusal.{Fault, fine, isFine, linkAt, lentShort}
 use Rattle.model.specs.Table.{Table, count, isWell}
 use Rattle.model.specs.Script.{Expr, Parsed, ill, parsed, readScript}
@@ -112,16 +112,6 @@ RefusedByTable =
 abbrev pub RefusedKeeps : Type 0
 RefusedKeeps =
     (x : Table) (b a h w : List ℕ) → isFine (runCall x b a h w .fault) ≡ false → runCall x b a h w .plan ≡ x
-
--- At most 4,096 bytes of each file, which is enough to refuse any longer one: those are read as the whole file is, and a longer is refused
-abbrev pub ReadByFront : Type 0
-ReadByFront =
-    ((b : List ℕ) → readPlan (take fileBytes b) ≡ readPlan b) × ((b : List ℕ) → readScript (take fileBytes b) ≡ readScript b)
-
-abbrev pub LongerRefused : Type 0
-LongerRefused =
-    ((b : List ℕ) → fileBytes < length b → (f : Fault) × (readPlan b ≡ bad f)) ×
-    ((b : List ℕ) → fileBytes < length b → (f : Fault) × (readScript b ≡ ill f))
 
 -- DEMAND 3 on the calls: two scripts that the analysis calls free, a well-formed table, and areas of the stated lengths for each script
 abbrev pub callsEnd : (first second : Ran) → Bool

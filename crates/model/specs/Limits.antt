@@ -42,7 +42,3 @@ historyNeed = 12288
 
 abbrev pub workNeed : ℕ
 workNeed = 32768
-
--- bytes that `pair` reads of each of its files, at most
-abbrev pub fileBytes : ℕ
-fileBytes = 4096

@@ -1,4 +1,5 @@
 pub mod LineLaws
 pub mod PairLaws
 pub mod ExamplesHold
+pub mod FrontLaws
 pub mod FilesByFront

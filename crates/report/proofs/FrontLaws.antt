@@ -10,21 +10,21 @@ use lib.Dec.{leb, eqb}
 use lib.ListN.{length, getD, take, drop, set, length-append, length-take, length-drop}
 use lib.Seq.{getD-take, getD-set-same, take-all}
 use borrow.Author.Tests.{leb-true, leb-false, le-leb, eqb-true, ne-eqb}
 use Rattle.model.specs.Base.{pick}
-use Rattle.model.specs.Limits.{maxRows, documents, maxRecords, maxDepth, fileBytes}
+use Rattle.model.specs.Limits.{maxRows, documents, maxRecords, maxDepth}
 use Rattle.model.specs.Refusal.{Fault, isFine, tailAt}
 use Rattle.model.specs.Table.{Table, count, empty}
 use Rattle.model.specs.Stored.{Read, bad, got, wordAt, rowIn, lastMarked, recordFault, recorded, readFrom, readPlan}
 use Rattle.model.specs.Script.{Expr, Parsed, ill, parsed, thenParse, one, two, three, operands, bodySize, exprFault, parseFrom}
 use Rattle.model.specs.Script.{whole, both, letIn, forIn, ifIn, delete, insert, nilKind, documentKind, variableKind, stepKind}
 use Rattle.model.specs.Script.{pickKind, joinKind, letKind, forKind, ifKind, newElementKind, newLeafKind, deleteKind, insertKind}
-use Rattle.model.specs.Call.{ReadByFront, LongerRefused}
+use Rattle.report.specs.Promise.{fileBytes, ReadByFront, LongerRefused}
 use Rattle.model.proofs.BoolLaws.{bool-iff, by-cases, pick-cases, pick-related}
 use Rattle.model.proofs.ListLaws.{drop-take}
 use Rattle.model.proofs.TableLaws.{Well, well-empty}
 use Rattle.model.proofs.BytesLaws.{lastMarked-at}
 use Rattle.model.proofs.StoredLaws.{readFrom-fuel, record-cases, recorded-row, recorded-mark, well-recorded}
 use Rattle.model.proofs.ScriptLaws.{passed}
 
 -- THE FIRST m BYTES: whether so many are there, and what is left behind some of them
 leb-take : (j m : ℕ) (b : List ℕ) → j ≤ m → leb j (length (take m b)) ≡ leb j (length b)
