@@ -11,9 +11,9 @@ use Rattle.model.specs.Run.{Out, gives, stop, State}
 use Rattle.model.specs.Script.{readScript}
 use Rattle.model.specs.Stored.{got, readPlan}
 use Rattle.model.specs.Table.{Table, isWell}
-use Rattle.model.proofs.BoolLaws.{pick-true, and-both}
+use Rattle.model.proofs.BoolLaws.{and-both}
 use Rattle.model.proofs.TestLaws.{and-parts}
-use Rattle.model.proofs.CallsCommute.{callsCommute}
+use Rattle.model.proofs.CallsCommute.{runCall-by, callsCommute}
 use Rattle.model.proofs.RunsBack.{runBy-back}
 use Rattle.model.proofs.StoredBack.{storedBack}
 use Rattle.lent.specs.Codes.{codeOf}
@@ -41,9 +41,7 @@ record Tells (p : List ℕ) (x : Table) (l : Lent) : Type 0 where
 module _ (p : List ℕ) (x : Table) (well : isWell x ≡ true) (read : readPlan p ≡ got x) (l : Lent) (ok : Suffices l) where
   run-is : (q : Out) → runBy x (readScript (l .script)) ≡ q →
       modelRun x l ≡ ranBy x (length (l .answer)) (length (l .history)) (length (l .work)) q
-  run-is q e =
-      pick-true _ _ _ (lent-fit l ok) ∙
-      ap (ranBy x (length (l .answer)) (length (l .history)) (length (l .work))) (pick-true (isWell x) _ _ well ∙ e)
+  run-is q e = runCall-by x (l .script) (l .answer) (l .history) (l .work) q (lent-fit l ok) well e
 
   by-run : (v : List ℕ) (t : State) → runBy x (readScript (l .script)) ≡ gives v t → Tells p x l
   by-run v t e =

@@ -68,13 +68,16 @@ run-replays : (e : Expr) → IsScript e → (x : Table) → isWell x ≡ true �
 run-replays e i x w (stop f) k = refl
 run-replays e i x w (gives v s) k = runsBack e x v s i w k .1
 
--- A RUN THAT FITS is the model's run
+-- A RUN on a well-formed table, in areas that fit, leaves what it comes to
+pub runCall-by : (x : Table) (b a h w : List ℕ) (q : Out) → areasFit a h w ≡ true → isWell x ≡ true → runBy x (readScript b) ≡ q →
+    runCall x b a h w ≡ ranBy x (length a) (length h) (length w) q
+runCall-by x b a h w q fits well e =
+    pick-true (areasFit a h w) _ _ fits ∙ ap (ranBy x (length a) (length h) (length w)) (pick-true (isWell x) _ _ well ∙ e)
+
 module _ (e : Expr) (b : List ℕ) (i n : ℕ) (r : List ℕ) (E : readScript b ≡ parsed e i n r) (a h w : List ℕ) (fits : areasFit a h w ≡
     true) where
   call-runs : (x : Table) → isWell x ≡ true → runCall x b a h w ≡ ranBy x (length a) (length h) (length w) (runOn x e)
-  call-runs x well =
-      pick-true (areasFit a h w) _ _ fits ∙
-      ap (ranBy x (length a) (length h) (length w)) (pick-true (isWell x) _ _ well ∙ ap (runBy x) E)
+  call-runs x well = runCall-by x b a h w (runOn x e) fits well (ap (runBy x) E)
 
   call-ends : (x : Table) → isWell x ≡ true → (o : Out) → runOn x e ≡ o → isFine (runCall x b a h w .fault) ≡ ends o
   call-ends x well o k = ap (λ (t : Ran). isFine (t .fault)) (call-runs x well ∙ ap (ranBy x (length a) (length h) (length w)) k) ∙ go o k
