@@ -19,7 +19,7 @@ pub const PARENT: usize = 2;
 // Tests; any other is for the named element.
 pub const ANY_NODE: usize = 0;
 
-pub const ANY_ELEMENT: usize = 1;
+const ANY_ELEMENT: usize = 1;
 
 const ANY_LEAF: usize = 2;
 

@@ -55,11 +55,3 @@ pub mod FreeCommutes
 pub mod StopLaws
 pub mod RefusedByTable
 pub mod CallsCommute
-pub mod Document03Script
-pub mod Document03Run
-pub mod Document03Paths
-pub mod Document03Search
-pub mod Document03Meeting
-pub mod Document03Kept
-pub mod Document03
-pub mod Document03Entry

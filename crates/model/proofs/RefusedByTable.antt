@@ -1,4 +1,4 @@
--- What is refused has a number of document 01's table, each reader and the run its own: RefusedByTable.
+-- What is refused has a number of document 01's table: RefusedByTable.
 use mathlib.Core.Path.{_≡_, refl, subst}
 use mathlib.Core.Bool.{Bool, true, false, _||_, not}
 use mathlib.Core.List.{List, [], _∷_}

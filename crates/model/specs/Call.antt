@@ -100,7 +100,12 @@ runCall x b a h w =
     pick (areasFit a h w) (ranBy x (length a) (length h) (length w) (pick (isWell x) (runBy x (readScript b)) (stop (linkAt 0))))
     (refusedRun lentShort x a h w)
 
--- DEMAND 1: a refusal has a number of the table, each reader and the run its own
+-- the run of whatever script on a table handed in ill formed: 11 first, then 6 at place 0
+abbrev pub unfitRun : Table → (answer history work : List ℕ) → Ran
+unfitRun x a h w =
+    pick (areasFit a h w) (ranBy x (length a) (length h) (length w) (stop (linkAt 0))) (refusedRun lentShort x a h w)
+
+-- DEMAND 1: a refusal has a number of the table: of a plan and of a history 1 to 6, of a script 1 to 5, of a run 7 to 10
 abbrev pub RefusedByTable : Type 0
 RefusedByTable =
     ((b : List ℕ) (f : Fault) → readPlan b ≡ bad f → isIn 1 6 (f .number) ≡ true) ×

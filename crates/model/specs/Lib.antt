@@ -14,8 +14,3 @@ pub mod Meeting
 pub mod Promise
 pub mod Cases
 pub mod Call
-pub mod Document03Script
-pub mod Document03Run
-pub mod Document03Paths
-pub mod Document03
-pub mod Document03Entry

@@ -18,7 +18,7 @@ use Rattle.records.proofs.KindLaws.{unary-kind}
 use Rattle.table.specs.Words.{decodeParts}
 use Rattle.updates.specs.State.{stateOf, Held}
 use Rattle.updates.specs.Updating.{DeletePre, DeletePost}
-use Rattle.updates.specs.Inserting.{InsertPre, InsertPost}
+use Rattle.insertion.specs.Inserting.{InsertPre, InsertPost}
 use Rattle.query.specs.Values.{valueAt, Appended, StepPre, StepPost, PickPre, PickPost}
 use Rattle.updates.proofs.StateLaws.{held-count}
 use Rattle.query.proofs.ValueLaws.{appended-none, length-collect}

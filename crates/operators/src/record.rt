@@ -7,6 +7,7 @@ ghost use Rattle.operators.specs.Evaluating.{endedBy, limitedBy, movedTo
 ghost use Rattle.operators.specs.Evaluating.{EvalPre, EvalPost};
 use crate::value;
 use crate::value::Span;
+use insertion::insert;
 use query::pick;
 use query::step;
 use query::step::StepBy;
@@ -16,7 +17,6 @@ use table::Fault;
 use table::NameNumber;
 use table::Table;
 use table::number;
-use updates::insert;
 use updates::state::Progress;
 use updates::update;
 

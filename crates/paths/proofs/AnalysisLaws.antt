@@ -19,7 +19,7 @@ use Rattle.positions.specs.Positions.{Entry, Emitted, emit, AreLower, entriesBe
 use Rattle.positions.specs.Sources.{positionsMeet}
 use Rattle.positions.specs.Words.{entryOf, entriesIn}
 use Rattle.meeting.specs.Pairs.{HasRows}
-use Rattle.paths.specs.Filling.{TablePre}
+use Rattle.filling.specs.Filling.{TablePre}
 use Rattle.positions.specs.Words.{entriesBy, climbing}
 use Rattle.emission.specs.Emitting.{EmitPre, EmitPost}
 use Rattle.paths.specs.Analysis.{byAnswer, analysisOf, analysed, ScriptPre, ScriptPost, AnswerPre, AnswerPost, FrontPre}

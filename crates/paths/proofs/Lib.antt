@@ -1,3 +1,2 @@
-pub mod FillLaws
 pub mod AnalysisLaws
 pub mod Promised

@@ -16,7 +16,7 @@ use Rattle.positions.specs.Words.{entriesIn}
 use Rattle.meeting.specs.Pairs.{maxPositions, HasRows}
 use Rattle.paths.specs.declared.Analysis.{Analysis}
 use Rattle.paths.specs.declared.Analysis.the-variants.{Refused, Free, Upward, Meet}
-use Rattle.paths.specs.Filling.{PositionsPre}
+use Rattle.filling.specs.Filling.{PositionsPre}
 
 -- the case of each answer
 abbrev pub byAnswer : Answer → Analysis

@@ -2,12 +2,11 @@
 ghost use mathlib.Core.Path.{_≡_};
 ghost use Rattle.paths.specs.Analysis.{analysed, ScriptPre, ScriptPost, AnswerPre, AnswerPost};
 use emission::emit;
+use filling::meet;
 use meeting::pairs;
 use meeting::pairs::Marks;
 use table::Fault;
 use table::Table;
-
-mod meet;
 
 // What the analysis answers: the script refused, 1 or 2, with its refusal; or whether the two are free of one another.
 pub enum Analysis {

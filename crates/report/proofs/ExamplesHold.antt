@@ -10,12 +10,12 @@ use Rattle.model.specs.Paths.{infer, prefixed, prefixesOf, hasUp}
 use Rattle.model.specs.Meeting.{cell, startCells, stepCells}
 use Rattle.format.specs.Text.{digits}
 use Rattle.sequence.specs.Orders.{ending, order}
-use Rattle.report.specs.Lines.{fileLine, answerLine, orderLine}
+use Rattle.lines.specs.Lines.{fileLine, answerLine, orderLine}
 use Rattle.report.specs.Pair.{threeLines, pairText}
 use Rattle.report.specs.Examples.{Examples}
 
-pub examples-hold : Examples
+pub examplesHold : Examples
 unfolding any all among filtered rowsFit noneTwice readFrom lastMarked parseFrom isBelowFrom collect run loop cutAll copyAll copyEach
     copyOf infer prefixed prefixesOf hasUp cell startCells stepCells digits ending order fileLine answerLine
     orderLine threeLines pairText
-examples-hold = (refl, refl, refl, refl)
+examplesHold = (refl, refl, refl, refl)

@@ -3,7 +3,7 @@ use mathlib.Core.Path.{_≡_, refl}
 use mathlib.Core.List.{List}
 use Prim.Native.Nat.{ℕ}
 use lib.ListN.{take}
-use Rattle.report.proofs.FrontLaws.{readByFront}
+use Rattle.front.proofs.FrontLaws.{readByFront}
 use Rattle.table.specs.declared.Table.{Table}
 use Rattle.plan.specs.Calls.{planRead}
 use Rattle.paths.specs.Analysis.{analysed}
@@ -11,7 +11,8 @@ use Rattle.paths.specs.declared.Analysis.{Analysis}
 use Rattle.paths.specs.declared.Analysis.the-variants.{Refused, Free, Upward, Meet}
 use Rattle.sequence.specs.Orders.{ending, order}
 use Rattle.report.specs.Pair.{threeLines, textBy, pairText}
-use Rattle.report.specs.Promise.{fileBytes, FilesByFront}
+use Rattle.front.specs.Promise.{fileBytes}
+use Rattle.report.specs.Promise.{FilesByFront}
 
 -- A RUN reads its script
 ending-take : (t : Table) (b : List ℕ) → ending t (take fileBytes b) ≡ ending t b

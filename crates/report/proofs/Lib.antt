@@ -1,5 +1,3 @@
-pub mod LineLaws
 pub mod PairLaws
 pub mod ExamplesHold
-pub mod FrontLaws
 pub mod FilesByFront

@@ -20,7 +20,7 @@ use Rattle.paths.specs.declared.Analysis.{Analysis}
 use Rattle.paths.specs.declared.Analysis.the-variants.{Refused}
 use Rattle.format.specs.Text.{ascii, Placed}
 use Rattle.sequence.specs.Orders.{order, swap}
-use Rattle.report.specs.Lines.{fileLine, answerLine, orderLine, FileLine}
+use Rattle.lines.specs.Lines.{fileLine, answerLine, orderLine, FileLine}
 use Rattle.report.specs.Pair.{threeLines, textBy, planText, pairText, Report, Counted, pairWritten, pairOut}
 use Rattle.sequence.specs.declared.orders.Order.{Order}
 use Rattle.format.proofs.TextLaws.{placed-then}

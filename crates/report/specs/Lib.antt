@@ -1,4 +1,3 @@
-pub mod Lines
 pub mod Pair
 pub mod Examples
 pub mod Promise

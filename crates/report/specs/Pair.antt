@@ -14,7 +14,7 @@ use Rattle.paths.specs.declared.Analysis.{Analysis}
 use Rattle.paths.specs.declared.Analysis.the-variants.{Refused, Free, Upward, Meet}
 use Rattle.format.specs.Text.{ascii, Placed}
 use Rattle.sequence.specs.Orders.{order, swap}
-use Rattle.report.specs.Lines.{fileLine, answerLine, orderLine}
+use Rattle.lines.specs.Lines.{fileLine, answerLine, orderLine}
 use Rattle.model.specs.Refusal.{fine, lentShort}
 use Rattle.table.specs.Results.{faultOf}
 

@@ -5,13 +5,12 @@ ghost use lib.ListN.{length};
 ghost use Rattle.model.specs.Refusal.{fine};
 ghost use Rattle.table.specs.Results.{faultOf};
 ghost use Rattle.report.specs.Pair.{room, threeLines, textBy, Report, Counted, pairWritten, pairOut};
+use lines::line;
 use paths::Analysis;
 use sequence::orders;
 use table::Fault;
 use table::Table;
 use table::Written;
-
-mod lines;
 
 // The bytes that the lines take at most.
 pub const ROOM: usize = 160;
@@ -35,11 +34,11 @@ fn three_lines(out: &mut [u8], word: &[u8], table: Table, first: &[u8], second: 
     ensures { λ r. ⌜ Report (threeLines table (now (word .entry)) (now (first .entry)) (now (second .entry)))
         (now (out .entry)) (now (out .exit)) r ⌝ }
 {
-    let n = lines::put_answer(out, word);
+    let n = line::put_answer(out, word);
     let one_two = orders::in_order(table, first, second);
-    let m = lines::put_order(out, n, b"one-two", one_two);
+    let m = line::put_order(out, n, b"one-two", one_two);
     let two_one = orders::in_order(table, second, first);
-    lines::put_order(out, m, b"two-one", orders::swapped(two_one))
+    line::put_order(out, m, b"two-one", orders::swapped(two_one))
 }
 
 // The lines once the plan is read: of a refused script the only one, else the answer and both orders.
@@ -56,9 +55,9 @@ fn answer_lines(
     match analysis {
         Analysis::Refused { script, fault } => {
             if script == 1 {
-                return lines::put_file(out, b"first", fault);
+                return line::put_file(out, b"first", fault);
             }
-            lines::put_file(out, b"second", fault)
+            line::put_file(out, b"second", fault)
         }
         Analysis::Free => three_lines(out, b"free", table, first, second),
         Analysis::Upward => three_lines(out, b"upward", table, first, second),
@@ -84,7 +83,7 @@ pub fn pair(plan: &[u8], first: &[u8], second: &[u8], out: &mut [u8]) -> Written
     let read = plan::read_plan(plan);
     let fault = read.fault;
     if fault.number != 0 {
-        return written(lines::put_file(out, b"plan", fault));
+        return written(line::put_file(out, b"plan", fault));
     }
     let analysis = paths::analyse(first, second);
     written(answer_lines(out, analysis, read.table, first, second))

@@ -1,4 +1,5 @@
--- What the call `run` gives back and leaves, in the model's words: RunsAsCalled, RunsOn, RefusedGivesBack, RefusedLeaves, RunsCommute.
+-- What the call `run` gives back and leaves, in the model's words: RunsAsCalled, RunsUnfit, RunsOn, RefusedGivesBack, RefusedLeaves,
+-- RunsCommute.
 use mathlib.Core.Path.{_≡_, refl, ap, sym, subst, transport, _∙_}
 use mathlib.Core.Bool.{Bool, true, false}
 use mathlib.Core.List.{List}
@@ -24,48 +25,49 @@ use Rattle.run.specs.declared.RunResult.{RunResult}
 use Rattle.run.proofs.OutcomeLaws.{Refuses, outcome-refuses}
 use Rattle.model.proofs.RunsBack.{runBy-back}
 
+-- WHAT A RUN LEAVES, by whether the areas and the table fit
+abbrev ranIf : Table → (answer history work : List ℕ) → Out → (areas : Bool) → Ran
+ranIf t a h w o z =
+    pick z (ranBy (decode t) (length a) (length h) (length w) o) (refusedRun refusal.lentShort (decode t) a h w)
+
+abbrev outcomeIf : Table → (script : List ℕ) → (table : Bool) → Out
+outcomeIf t b z = pick z (runBy (decode t) (readScript b)) (stop (refusal.linkAt 0))
+
+ran-if : (t : Table) (b a h w : List ℕ) (z : Bool) → fits t ≡ z → ran t b a h w ≡ ranIf t a h w (outcomeIf t b z) (areasFit a h w)
+ran-if t b a h w z e = ap (λ (y : Bool). ranIf t a h w (outcomeIf t b y) (areasFit a h w)) e
+
 pub runsAsCalled : RunsAsCalled
-runsAsCalled t b a h w e =
-    ap (λ (z : Bool). pick (areasFit a h w) (ranBy (decode t) (length a) (length h) (length w)
-    (pick z (runBy (decode t) (readScript b)) (stop (refusal.linkAt 0)))) (refusedRun refusal.lentShort (decode t) a h w))
-    (e ∙ sym (well-decode t e))
+runsAsCalled t b a h w e = ran-if t b a h w (model.isWell (decode t)) (e ∙ sym (well-decode t e))
 
 pub runsUnfit : RunsUnfit
-runsUnfit t b a h w e =
-    ap (λ (z : Bool). pick (areasFit a h w) (ranBy (decode t) (length a) (length h) (length w)
-    (pick z (runBy (decode t) (readScript b)) (stop (refusal.linkAt 0)))) (refusedRun refusal.lentShort (decode t) a h w)) e
+runsUnfit t b a h w e = ran-if t b a h w false e
 
 -- THE TABLE GIVEN BACK fits and stands for the plan
-abbrev Stands : Table → (given : Table) → (plan : model.Table) → Type 0
-Stands t u x = (fits u ≡ true) × (decode u ≡ x)
+abbrev Stands : (given : Table) → (plan : model.Table) → Type 0
+Stands u x = (fits u ≡ true) × (decode u ≡ x)
 
-encoded : (t : Table) (x : model.Table) → model.isWell x ≡ true → Stands t (encode x) x
-encoded t x k = (fits-encode x k, decode-encode x k)
+encoded : (x : model.Table) → model.isWell x ≡ true → Stands (encode x) x
+encoded x k = (fits-encode x k, decode-encode x k)
 
 module _ (t : Table) (e : fits t ≡ true) where
   outcome-stands : (k m n : ℕ) (o : Out) → ((v : List ℕ) (s : State) → o ≡ gives v s → model.isWell (s .plan) ≡ true) →
-      Stands t (resultOf t (ranBy (decode t) k m n o) .table) (ranBy (decode t) k m n o .plan)
+      Stands (resultOf t (ranBy (decode t) k m n o) .table) (ranBy (decode t) k m n o .plan)
   outcome-stands k m n (stop f) g =
       by-cases (refusal.isFine f)
-      (λ z. subst (λ (u : Table). Stands t u (decode t)) (sym (pick-true (refusal.isFine f) (encode (decode t)) t z))
-      (encoded t (decode t) (well-decode t e)))
-      (λ z. subst (λ (u : Table). Stands t u (decode t)) (sym (pick-false (refusal.isFine f) (encode (decode t)) t z)) (e, refl))
-  outcome-stands k m n (gives v s) g = encoded t (s .plan) (g v s refl)
+      (λ z. subst (λ (u : Table). Stands u (decode t)) (sym (pick-true (refusal.isFine f) (encode (decode t)) t z))
+      (encoded (decode t) (well-decode t e)))
+      (λ z. subst (λ (u : Table). Stands u (decode t)) (sym (pick-false (refusal.isFine f) (encode (decode t)) t z)) (e, refl))
+  outcome-stands k m n (gives v s) g = encoded (s .plan) (g v s refl)
 
   -- a run that is not refused leaves a well-formed table
   run-well : (b : List ℕ) → areBytes b ≡ true → (v : List ℕ) (s : State) → outcomeOf t b ≡ gives v s → model.isWell (s .plan) ≡ true
   run-well b bytes v s k = runBy-back (decode t) b bytes (well-decode t e) v s (sym (pick-true (fits t) _ _ e) ∙ k) .0
 
-  ran-stands : (b a h w : List ℕ) → areBytes b ≡ true → Stands t (runResult t b a h w .table) (ran t b a h w .plan)
+  ran-stands : (b a h w : List ℕ) → areBytes b ≡ true → Stands (runResult t b a h w .table) (ran t b a h w .plan)
   ran-stands b a h w bytes = go (areasFit a h w)
     where
       go : (z : Bool) →
-          Stands t
-          (resultOf t (pick z (ranBy (decode t) (length a) (length h) (length w) (outcomeOf t b)) (refusedRun refusal.lentShort (decode
-          t) a h
-          w)) .table)
-          (pick z (ranBy (decode t) (length a) (length h) (length w) (outcomeOf t b))
-          (refusedRun refusal.lentShort (decode t) a h w) .plan)
+          Stands (resultOf t (ranIf t a h w (outcomeOf t b) z) .table) (ranIf t a h w (outcomeOf t b) z .plan)
       go true = outcome-stands (length a) (length h) (length w) (outcomeOf t b) (run-well b bytes)
       go false = (e, refl)
 

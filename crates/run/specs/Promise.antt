@@ -7,9 +7,8 @@ use lib.ListN.{length, replicate}
 use Rattle.model.specs.Base.{isIn, areBytes}
 use Rattle.model.specs.Meeting.{free}
 use Rattle.model.specs.Refusal.{lentShort}
-use Rattle.model.specs.Call.{Ran, answered, analyse, areasFit, runCall, callsEnd, CallsEqual}
+use Rattle.model.specs.Call.{Ran, answered, analyse, areasFit, runCall, unfitRun, callsEnd, CallsEqual}
 use Rattle.table.specs.Results.{faultOf}
-use Rattle.model.specs.Document03Entry.{unfitRun}
 use Rattle.table.specs.Words.{decode, fits}
 use Rattle.table.specs.declared.Table.{Table}
 use Rattle.run.specs.Calls.{ran, runResult}

@@ -1,0 +1,5 @@
+pub mod Script
+pub mod Run
+pub mod Paths
+pub mod Promise
+pub mod Entry

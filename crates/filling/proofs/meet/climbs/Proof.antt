@@ -1,0 +1,83 @@
+-- `meet::climbs`. The invariant: none of the positions below i leads up.
+use mathlib.Core.Path.{_≡_, ap, sym, _∙_}
+use mathlib.Core.Bool.{false}
+use Prim.Native.Nat.{_-_, _≤_}
+use native.Mathlib.Omega.{arith}
+use lib.ListN.{length}
+use Rattle.positions.specs.Sources.{anyUpTo}
+use Rattle.positions.specs.Words.{climbAt}
+use Rattle.positions.proofs.ClimbLaws.{climb-at}
+use Rattle.filling.proofs.FillLaws.{any-none, any-next, any-found}
+use borrow.Author.Needs.{needs}
+use Rattle.filling.proofs.meet.climbs.Statement.{statement}
+use Rattle.filling.proofs.meet.climbs.Tie as tie
+
+abbrev Inv-loop : tie.InvT-loop
+Inv-loop words i₀ i = (i ≤ length words) × (anyUpTo (climbAt words) i ≡ false)
+
+abbrev μ-loop : tie.MeasureT-loop
+μ-loop words i₀ i = length words - i
+
+loop-holds : tie.Need-loop-holds Inv-loop μ-loop
+loop-holds c = (omega arith, any-none (climbAt (c .before .args .words .now)))
+
+mul-unpacked : tie.Need-mul-unpacked Inv-loop μ-loop
+mul-unpacked c = search needs
+
+shared-slice-read-unpacked : tie.Need-shared-slice-read-unpacked Inv-loop μ-loop
+shared-slice-read-unpacked c = search needs
+
+unpacked-requires : tie.Need-unpacked-requires Inv-loop μ-loop
+unpacked-requires c κs = search needs
+
+is-climb-requires : tie.Need-is-climb-requires Inv-loop μ-loop
+is-climb-requires c κs = search needs
+
+returns : tie.Need-returns Inv-loop μ-loop
+returns c =
+    let c2 = c .before .before in
+    let c5 = c2 .before .before .before in
+    let c7 = c5 .before .before in
+    any-found (climbAt (c7 .args .words .now)) (c5 .loop .i) (length (c7 .args .words .now)) (omega arith) (sym (climb-at
+    (c7 .args .words .now) (c5 .loop .i) (c2 .unpacked .result) (c .before .is-climb .result) (c2 .unpacked .ensures)
+    (c .before .is-climb .ensures)) ∙ c .if1 .taken)
+
+add-i : tie.Need-add-i Inv-loop μ-loop
+add-i c = search needs
+
+loop-less : tie.Need-loop-less Inv-loop μ-loop
+loop-less c = search needs
+
+loop-again : tie.Need-loop-again Inv-loop μ-loop
+loop-again c =
+    let c2 = c .before .before in
+    let c5 = c2 .before .before .before in
+    let c7 = c5 .before .before in (
+      omega arith,
+      any-next (climbAt (c7 .args .words .now)) (c5 .loop .i) (c .before .is-climb .result) (c5 .loop .inv .1) (climb-at
+          (c7 .args .words .now) (c5 .loop .i) (c2 .unpacked .result) (c .before .is-climb .result) (c2 .unpacked .ensures)
+          (c .before .is-climb .ensures)) (c .if1 .left),
+    )
+
+returns-2 : tie.Need-returns-2 Inv-loop μ-loop
+returns-2 c =
+    let c3 = c .before .before .before in
+    let e : length (c3 .args .words .now) ≡ c .before .loop .i = omega (arith, c .before .loop .inv .0) in
+    sym (ap (anyUpTo (climbAt (c3 .args .words .now))) e ∙ c .before .loop .inv .1)
+
+pub climbs-spec : {M : Type 1} → statement M
+climbs-spec =
+    tie.close
+    (tie.spec
+    Inv-loop
+    μ-loop
+    loop-holds
+    mul-unpacked
+    shared-slice-read-unpacked
+    unpacked-requires
+    is-climb-requires
+    returns
+    add-i
+    loop-less
+    loop-again
+    returns-2)

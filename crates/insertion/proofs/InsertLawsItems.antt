@@ -1,0 +1,315 @@
+-- Insert's parts: an item with its descendants, all items, and the target's check.
+use mathlib.Core.Path.{_≡_, refl, ap, sym, _∙_, subst}
+use mathlib.Core.Bool.{Bool, true, false, _&&_, not}
+use mathlib.Core.List.{List, [], _∷_, map}
+use mathlib.Core.Option.{some}
+use Prim.Native.Nat.{ℕ, _+_, _-_, _≤_, _<_}
+use native.Mathlib.Numerals.{add-one}
+use native.Mathlib.Omega.{arith}
+use lib.Dec.{ltb, eqb}
+use lib.ListN.{length, getD, drop, set, length-set, drop-of-length-le}
+use lib.Seq.{getD-set-same, drop-cons}
+use borrow.Author.Tests.{lt-ltb, eq-eqb, ne-eqb}
+use Rattle.model.specs.Table as model
+use Rattle.model.specs.Run.{State, Out, newRow, withMade, thenRow, Copied, copyParent, copyEach}
+use Rattle.model.specs.Run.{descendantsFrom, subtree, copyAll, inserted}
+use Rattle.model.proofs.BoolLaws.{and-both, pick-true}
+use Rattle.model.proofs.TableLaws.{isElement-at, isElement-by}
+use Rattle.table.specs.Words.{linked, rowOf, rowsOf, isRowWord, withLink, decodeParts, kindIn}
+use Rattle.table.proofs.WordLaws.{linked-linkOf, count-decode, rowAt-decode, row-word, rowOf-withLink, isRowWord-withLink}
+use Rattle.table.proofs.DecodeLaws.{element-kind}
+use Rattle.updates.specs.State.{stateOf, outcome, After, Updated, stopped}
+use Rattle.updates.specs.Updating.{NewPre}
+use Rattle.insertion.specs.Inserting.{before, copiedIn, IsCopy, RestPre, RestPost, ItemPre, ItemPost, ItemsPre, ItemsPost, InsertPre}
+use Rattle.updates.specs.declared.state.Progress.{Progress}
+use Rattle.updates.proofs.StateLaws.{held-count, after-self, after-then, outcome-gives, then-goes, updated-stopped, then-stops}
+use Rattle.insertion.proofs.InsertLawsScan.{descendants-past}
+use Rattle.insertion.proofs.InsertLaws.{made-state, made-count, made-old, made-new, before-decode, row-before, rows-kept}
+use Rattle.insertion.proofs.InsertLawsRest.{lower-before}
+
+-- THE TOP FIRST, then the rows past it
+copyEach-top : (z : ℕ) (x : model.Table) (t g n : ℕ) (s : State) → model.count x ≡ n → t < n →
+    ((i p : ℕ) → model.rowAt x i .parent ≡ some p → p < i) →
+    copyEach z x t g (subtree x t) [] s ≡
+    thenRow (newRow z (model.withParent (model.rowAt x t) (some g)) s)
+    (λ (u : State). copyEach z x t g (descendantsFrom x t (t + 1) (n - (t + 1))) (record { old = t; new = model.count (s .plan) } ∷ []) u)
+unfolding copyEach
+copyEach-top z x t g n s c h lower =
+    ap (λ (b : Bool).
+    thenRow (newRow z (model.withParent (model.rowAt x t) (copyParent b g (model.rowAt x t .parent) [])) s)
+    (λ (u : State). copyEach z x t g (descendantsFrom x t 0 (model.count x)) (record { old = t; new = model.count (s .plan) } ∷ []) u))
+    (eq-eqb t t refl) ∙
+    ap (λ (is : List ℕ).
+    thenRow (newRow z (model.withParent (model.rowAt x t) (some g)) s)
+    (λ (u : State). copyEach z x t g is (record { old = t; new = model.count (s .plan) } ∷ []) u))
+    (ap (descendantsFrom x t 0) c ∙ descendants-past x lower t n h)
+
+copiedIn-top : (m : List ℕ) (t c : ℕ) → t < length m → c < 65535 → copiedIn (set m t c) t 1 ≡ record { old = t; new = c } ∷ []
+unfolding copiedIn
+copiedIn-top m t c h l =
+    let e : t + 0 ≡ t = omega arith in
+    let f : getD (set m t c) (t + 0) 0 ≡ c = ap (λ (j : ℕ). getD (set m t c) j 0) e ∙ getD-set-same m t c 0 h in
+    let n : c ≡ 65535 → ⊥ = λ q. omega arith in
+    rw (f, ne-eqb c 65535 n) (ap (λ (j : ℕ). record { old = j; new = c } ∷ []) e)
+
+-- AN ITEM
+module _ {ws h m : List ℕ} {p : Progress} {old t g : ℕ} (pre : ItemPre ws h m p old t g) where
+  fits : p .count ≤ length ws
+  fits = omega (arith, pre .held .few, pre .held .rows)
+
+  pub item-target : g < p .count
+  item-target = omega (arith, isElement-at (decodeParts (p .count) ws []) g (pre .target) .0, held-count (pre .held) [])
+
+  row-top : model.rowAt (decodeParts (p .count) ws []) t ≡ rowOf (getD ws t 0)
+  row-top = rowAt-decode (p .count) ws [] fits t (omega (arith, pre .top, pre .room))
+
+  module _ {v : ℕ} (word : v ≡ withLink (getD ws t 0) (g + 1)) where
+    small : g + 1 < 1024
+    small = omega (arith, item-target, pre .held .few)
+
+    row-copy : rowOf v ≡ model.withParent (rowOf (getD ws t 0)) (some g)
+    row-copy =
+        ap rowOf word ∙ rowOf-withLink (getD ws t 0) (g + 1) small ∙
+        ap (model.withParent (rowOf (getD ws t 0))) (linked-linkOf (some g))
+
+    pub item-pre : NewPre ws h p v
+    item-pre =
+        let k : t < p .count = omega (arith, pre .top, pre .room) in
+        record {
+          held = pre .held;
+          word =
+              ap isRowWord word ∙
+              isRowWord-withLink (getD ws t 0) (g + 1) small (row-word (p .count) ws (pre .held .canonical) fits t k);
+          tag =
+              ap model.tagFits row-copy ∙ ap model.tagFits (sym row-top) ∙
+              pre .held .tree .tags t (omega (arith, held-count (pre .held) []));
+          parent =
+              ap (λ (r : model.Row). model.parentFits (decodeParts (p .count) ws []) (p .count) (r .parent)) row-copy ∙
+              and-both (ltb g (p .count)) (model.isElement (decodeParts (p .count) ws []) g) (lt-ltb g (p .count) item-target)
+              (pre .target);
+        }
+
+    module _ {ws₁ h₁ : List ℕ} {p₁ : Progress} (u : Updated (λ z s. newRow z (rowOf v) s) (p .count ∷ []) ws h p ws₁ h₁ p₁) where
+      abbrev rest : (z : ℕ) (ms : List ℕ) → State → Out
+      rest z ms q =
+          copyEach z (decodeParts old ws ms) t g (descendantsFrom (decodeParts old ws ms) t (t + 1) (old - (t + 1)))
+          (record { old = t; new = p .count } ∷ []) q
+
+      -- the whole, from the new row
+      whole : (z : ℕ) (ms : List ℕ) →
+          thenRow (outcome z (p .count ∷ []) ws₁ ms h₁ p₁) (rest z ms) ≡
+          copyEach z (before old (stateOf ws ms h p)) t g (subtree (before old (stateOf ws ms h p)) t) [] (stateOf ws ms h p)
+      whole z ms =
+          let x = decodeParts old ws ms in
+          let s = stateOf ws ms h p in
+          ap (λ (o : Out). thenRow o (rest z ms))
+          (u .same z ms ∙
+          ap (λ (r : model.Row). newRow z r s)
+          (row-copy ∙
+          ap (λ (r : model.Row). model.withParent r (some g)) (sym (rowAt-decode old ws ms (omega (arith, pre .room, fits)) t
+          (pre .top))))) ∙
+          ap (λ (c : ℕ).
+          thenRow (newRow z (model.withParent (model.rowAt x t) (some g)) s)
+          (λ (q : State). copyEach z x t g (descendantsFrom x t (t + 1) (old - (t + 1))) (record { old = t; new = c } ∷ []) q))
+          (sym (held-count (pre .held) ms)) ∙
+          sym (copyEach-top z x t g old s (count-decode old ws ms (omega (arith, pre .room, fits))) (pre .top)
+          (lower-before (pre .held) old (pre .room) ms)) ∙
+          ap (λ (y : model.Table). copyEach z y t g (subtree y t) [] s) (sym (before-decode old ws ms h p (pre .room)))
+
+      pub item-refused : (p₁ .number ≡ 0 → ⊥) → ItemPost ws h p old t g ws₁ h₁ p₁
+      item-refused n =
+          record {
+            updated = then-stops rest (p .count ∷ []) n whole;
+            before = λ q. absurd (n q);
+          }
+
+      module _ (n : p₁ .number ≡ 0) where
+        after₁ : After ws h p ws₁ h₁ p₁
+        after₁ = u .after n
+
+        state₁ : stateOf ws₁ [] h₁ p₁ ≡ withMade (stateOf ws [] h p) (rowOf v)
+        state₁ =
+            made-state 0 (rowOf v) (stateOf ws [] h p) (stateOf ws₁ [] h₁ p₁) (p .count ∷ [])
+            (sym (u .same 0 []) ∙ outcome-gives 0 (p .count ∷ []) ws₁ [] h₁ p₁ n)
+
+        rows₁ : rowsOf old ws₁ ≡ rowsOf old ws
+        rows₁ =
+            rows-kept old (p .count) (p₁ .count) ws ws₁ (pre .room) fits (omega (arith, pre .room, after₁ .rows))
+            (omega (arith, after₁ .held .few, after₁ .held .rows)) (made-old (pre .held) (after₁ .held) (rowOf v) state₁)
+
+        mapped₁ : IsCopy ws₁ (p₁ .count) t (getD (set m t (p .count)) t 0)
+        mapped₁ =
+            let k : t < p .count = omega (arith, pre .top, pre .room) in
+            let a : t < length m = omega (arith, pre .size, pre .held .few) in
+            subst (λ (c : ℕ). IsCopy ws₁ (p₁ .count) t c) (sym (getD-set-same m t (p .count) 0 a)) (
+              omega (arith, made-count (pre .held) (after₁ .held) (rowOf v) state₁),
+              ap (λ (r : model.Row). r .isLeaf) (made-new (pre .held) (after₁ .held) (rowOf v) state₁ ∙ row-copy) ∙
+                  ap (λ (r : model.Row). r .isLeaf) (sym (made-old (pre .held) (after₁ .held) (rowOf v) state₁ t k ∙ row-top)),
+            )
+
+        pub item-rest : RestPre ws₁ h₁ (set m t (p .count)) p₁ old t
+        item-rest =
+            record {
+              held = after₁ .held;
+              size = length-set m t (p .count) ∙ pre .size;
+              top = pre .top;
+              room = omega (arith, pre .room, after₁ .rows);
+              mapped = mapped₁;
+            }
+
+        pub item-done : {ws₂ h₂ : List ℕ} {p₂ : Progress} → RestPost ws₁ h₁ (set m t (p .count)) p₁ old t ws₂ h₂ p₂ →
+            ItemPost ws h p old t g ws₂ h₂ p₂
+        item-done {ws₂} {h₂} {p₂} post =
+            record {
+              updated =
+                  record {
+                    same = λ z ms.
+                        let s₁ = stateOf ws₁ ms h₁ p₁ in
+                        post .updated g .same z ms ∙
+                        ap (λ (x : model.Table).
+                        copyEach z x t g (descendantsFrom x t (t + 1) (old - (t + 1))) (copiedIn (set m t (p .count)) t 1) s₁)
+                        (before-decode old ws₁ ms h₁ p₁ (omega (arith, pre .room, after₁ .rows)) ∙
+                        ap (λ (rs : List model.Row). model.table rs (map linked ms)) rows₁) ∙
+                        ap (λ (cs : List Copied).
+                        copyEach z (decodeParts old ws ms) t g (descendantsFrom (decodeParts old ws ms) t (t + 1) (old - (t + 1))) cs s₁)
+                        (copiedIn-top m t (p .count) (omega (arith, pre .top, pre .room, pre .size, pre .held .few)) (omega (
+                          arith,
+                          pre .held .few,
+                        ))) ∙
+                        then-goes (rest z ms) z (p .count ∷ []) ws₁ ms h₁ p₁ n (whole z ms);
+                    after = λ q. after-then after₁ (post .updated g .after q);
+                  };
+              before = λ q. post .before q ∙ rows₁;
+            }
+
+-- ALL ITEMS: the rest from where it is comes to the whole
+pub record Inserting (ws₀ h₀ : List ℕ) (p₀ : Progress) (v : List ℕ) (g : ℕ) (ws h m : List ℕ) (p : Progress) (k : ℕ) : Type 0 where
+  pub after : After ws₀ h₀ p₀ ws h p
+  pub size : length m ≡ 512
+  pub within : k ≤ length v
+  pub same : rowsOf (p₀ .count) ws ≡ rowsOf (p₀ .count) ws₀
+  pub rest : (z : ℕ) (ms : List ℕ) →
+      copyAll z (decodeParts (p₀ .count) ws₀ ms) (drop k v) g (stateOf ws ms h p) ≡
+      copyAll z (decodeParts (p₀ .count) ws₀ ms) v g (stateOf ws₀ ms h₀ p₀)
+
+module _ {ws₀ h₀ m₀ : List ℕ} {p₀ : Progress} {v : List ℕ} {g : ℕ} (pre : ItemsPre ws₀ h₀ m₀ p₀ v g) where
+  pub inserting-start : Inserting ws₀ h₀ p₀ v g ws₀ h₀ m₀ p₀ 0
+  inserting-start =
+      record {
+        after = after-self (pre .held);
+        size = pre .size;
+        within = omega arith;
+        same = refl;
+        rest = λ z ms. refl;
+      }
+
+  module _ {ws h m : List ℕ} {p : Progress} {k : ℕ} (c : Inserting ws₀ h₀ p₀ v g ws h m p k) where
+    pub inserting-end : length v ≤ k → ItemsPost ws₀ h₀ p₀ v g ws h p
+    unfolding copyAll
+    inserting-end l =
+        record {
+          same = λ z ms.
+              outcome-gives z [] ws ms h p (c .after .held .fine) ∙
+              ap (λ (is : List ℕ). copyAll z (decodeParts (p₀ .count) ws₀ ms) is g (stateOf ws ms h p)) (sym (drop-of-length-le v l)) ∙
+              c .rest z ms;
+          after = λ q. c .after;
+        }
+
+    module _ (more : k < length v) {i : ℕ} (e : i ≡ getD v k 0) where
+      target : model.isElement (decodeParts (p .count) ws []) g ≡ true
+      target =
+          let a = isElement-at (decodeParts (p₀ .count) ws₀ []) g (pre .target) in
+          let b : g < p₀ .count = omega (arith, a .0, held-count (pre .held) []) in
+          let f : p .count ≤ length ws = omega (arith, c .after .held .few, c .after .held .rows) in
+          isElement-by (decodeParts (p .count) ws []) g (omega (arith, c .after .rows, held-count (c .after .held) []))
+          (ap (λ (r : model.Row). r .isLeaf)
+          (sym (row-before ws [] (p₀ .count) (p .count) (c .after .rows) f g b) ∙
+          ap (λ (rs : List model.Row). getD rs g model.noRow) (c .same)) ∙ a .1)
+
+      pub inserting-item : ItemPre ws h m p (p₀ .count) i g
+      inserting-item =
+          record {
+            held = c .after .held;
+            size = c .size;
+            top = subst (λ (j : ℕ). j < p₀ .count) (sym e) (pre .items k more);
+            room = c .after .rows;
+            target = target;
+          }
+
+      module _ {ws′ h′ : List ℕ} {r : Progress} (post : ItemPost ws h p (p₀ .count) i g ws′ h′ r) where
+        abbrev next : (z : ℕ) (ms : List ℕ) → State → Out
+        next z ms u = copyAll z (decodeParts (p₀ .count) ws₀ ms) (drop (k + 1) v) g u
+
+        turn : (z : ℕ) (ms : List ℕ) →
+            thenRow (outcome z [] ws′ ms h′ r) (next z ms) ≡ copyAll z (decodeParts (p₀ .count) ws₀ ms) v g (stateOf ws₀ ms h₀ p₀)
+        unfolding copyAll
+        turn z ms =
+            let x = decodeParts (p₀ .count) ws₀ ms in
+            let s = stateOf ws ms h p in
+            ap (λ (o : Out). thenRow o (next z ms))
+            (post .updated .same z ms ∙
+            ap (λ (y : model.Table). copyEach z y i g (subtree y i) [] s)
+            (before-decode (p₀ .count) ws ms h p (c .after .rows) ∙
+            ap (λ (rs : List model.Row). model.table rs (map linked ms)) (c .same))) ∙
+            ap (λ (j : ℕ). copyAll z x (j ∷ drop (k + 1) v) g s) e ∙
+            ap (λ (is : List ℕ). copyAll z x is g s) (sym (drop-cons v k 0 more ∙ ap (λ (j : ℕ). getD v k 0 ∷ drop j v) (sym (add-one
+            k)))) ∙
+            c .rest z ms
+
+        pub inserting-refused : (r .number ≡ 0 → ⊥) → ItemsPost ws₀ h₀ p₀ v g ws′ h′ r
+        inserting-refused n = then-stops next [] n turn
+
+        pub inserting-again : r .number ≡ 0 → {m′ : List ℕ} → length m′ ≡ 512 → Inserting ws₀ h₀ p₀ v g ws′ h′ m′ r (k + 1)
+        inserting-again n l =
+            record {
+              after = after-then (c .after) (post .updated .after n);
+              size = l;
+              within = omega arith;
+              same = post .before n ∙ c .same;
+              rest = λ z ms. then-goes (next z ms) z [] ws′ ms h′ r n (turn z ms);
+            }
+
+-- THE TARGET, by the tests
+module _ {ws h : List ℕ} {p : Progress} {v w : List ℕ} (pre : InsertPre ws h p v w) where
+  pub insert-many : (length w ≡ 1 → ⊥) → {ws′ h′ : List ℕ} {r : Progress} → r ≡ stopped p 7 →
+      Updated (λ z s. inserted z v w s) [] ws h p ws′ h′ r
+  insert-many n {ws′} {h′} {r} e =
+      updated-stopped 6 e (λ z ms. rw (ne-eqb (length w) 1 n))
+
+  module _ (one : length w ≡ 1) {g : ℕ} (e : g ≡ getD w 0 0) where
+    pub insert-low : g < p .count
+    insert-low = subst (λ (j : ℕ). j < p .count) (sym e) (pre .targets 0 (omega arith))
+
+    kind : (ms : List ℕ) → model.isElement (decodeParts (p .count) ws ms) (getD w 0 0) ≡ not (eqb (kindIn (getD ws g 0)) 2)
+    kind ms =
+        ap (model.isElement (decodeParts (p .count) ws ms)) (sym e) ∙
+        element-kind (p .count) ws ms (omega (arith, pre .held .few, pre .held .rows)) g insert-low
+
+    pub insert-leaf : kindIn (getD ws g 0) ≡ 2 → {ws′ h′ : List ℕ} {r : Progress} → r ≡ stopped p 7 →
+        Updated (λ z s. inserted z v w s) [] ws h p ws′ h′ r
+    insert-leaf l {ws′} {h′} {r} f =
+        updated-stopped 6 f
+        (λ z ms. let b : model.isElement (decodeParts (p .count) ws ms) (getD w 0 0) ≡ false = kind ms ∙ rw l in rw (one, b))
+
+    module _ (l : kindIn (getD ws g 0) ≡ 2 → ⊥) where
+      pub insert-items : {m : List ℕ} → length m ≡ 512 → ItemsPre ws h m p v g
+      insert-items q =
+          record {
+            held = pre .held;
+            size = q;
+            items = pre .items;
+            target = ap (model.isElement (decodeParts (p .count) ws [])) e ∙ kind [] ∙ rw (ne-eqb (kindIn (getD ws g 0)) 2 l);
+          }
+
+      pub insert-done : {ws′ h′ : List ℕ} {r : Progress} → ItemsPost ws h p v g ws′ h′ r → Updated (λ z s. inserted z v w s) [] ws h p ws′
+          h′ r
+      insert-done u =
+          record {
+            same = λ z ms.
+                let b : model.isElement (decodeParts (p .count) ws ms) (getD w 0 0) ≡ true =
+                kind ms ∙ rw (ne-eqb (kindIn (getD ws g 0)) 2 l) in
+                u .same z ms ∙ ap (λ (j : ℕ). copyAll z (decodeParts (p .count) ws ms) v j (stateOf ws ms h p)) e ∙
+                sym (pick-true (eqb (length w) 1 && model.isElement (decodeParts (p .count) ws ms) (getD w 0 0)) _ _
+                (and-both (eqb (length w) 1) _ (eq-eqb (length w) 1 one) b));
+            after = u .after;
+          }

@@ -1,0 +1,4 @@
+pub mod InsertLawsScan
+pub mod InsertLaws
+pub mod InsertLawsRest
+pub mod InsertLawsItems

@@ -1,0 +1,123 @@
+-- `insert::copy_next` copies a row under its parent's copy, if there is one.
+use Rattle.insertion.specs.Inserting.{copyLink, nextLink}
+use Rattle.table.specs.Words.{withLink}
+use lib.ListN.{getD}
+use Rattle.insertion.proofs.InsertLaws.{next-bound, next-none, next-small, next-pre, next-made}
+use mathlib.Core.Path.{_≡_, sym, _∙_, ap}
+use native.Mathlib.Omega.{arith}
+use borrow.Author.Needs.{needs}
+use Rattle.insertion.proofs.insert.copy_next.Statement.{statement}
+use Rattle.insertion.proofs.insert.copy_next.Tie as tie
+
+is-link : (c : tie.After-copy-link) → c .copy-link .result ≡ nextLink
+    (c .before .before .before .before .before .before .before .args .rows .now)
+    (c .before .before .before .before .before .before .before .args .map .now)
+    (c .before .before .before .before .before .before .before .args .top)
+    (c .before .before .before .before .before .before .before .args .j)
+is-link c =
+    let c7 = c .before .before .before .before .before .before .before in
+    c .copy-link .ensures ∙ ap (copyLink (c7 .args .map .now)
+    (c7 .args .top)) (c .before .link .ensures)
+
+has-link : (c : tie.Else1) → nextLink (c .before .before .before .before .before .before .before .before .args .rows .now)
+    (c .before .before .before .before .before .before .before .before .args .map .now)
+    (c .before .before .before .before .before .before .before .before .args .top)
+    (c .before .before .before .before .before .before .before .before .args .j) ≡ 0 → ⊥
+has-link c q = c .if1 .left (is-link (c .before) ∙ q)
+
+copied-word : (c : tie.After-relinked) →
+    let a = c .before .before .before .before .before .before .before .before .before .before .before .args in
+    c .relinked .result ≡ withLink (getD (a .rows .now) (a .j) 0) (nextLink (a .rows .now) (a .map .now) (a .top) (a .j))
+copied-word c =
+    let c4 = c .before .before .before .before in
+    let c11 = c4 .before .before .before .before .before .before .before in
+    let a = c11 .args in
+    c .relinked .ensures ∙ ap (withLink (getD (a .rows .now) (a .j) 0)) (is-link (c4))
+
+mul-w : tie.Need-mul-w
+mul-w c = search needs
+
+slice-read-w : tie.Need-slice-read-w
+slice-read-w c = search needs
+
+link-requires : tie.Need-link-requires
+link-requires c κs = search needs
+
+copy-link-requires : tie.Need-copy-link-requires
+copy-link-requires c κs =
+    let c6 = c .before .before .before .before .before .before in
+    omega (arith, next-bound (c6 .pre), c .link .ensures)
+
+mul-map : tie.Need-mul-map
+mul-map c = search needs
+
+slice-write-map : tie.Need-slice-write-map
+slice-write-map c = search needs
+
+same-length : tie.Need-same-length
+same-length c = search needs
+
+returns : tie.Need-returns
+returns c =
+    let c8 = c .before .before .before .before .before .before .before .before in
+    next-none (c8 .pre) (sym (is-link (c .before)) ∙ c .if1 .taken)
+
+cast-map : tie.Need-cast-map
+cast-map c = search needs
+
+mul-map-2 : tie.Need-mul-map-2
+mul-map-2 c = search needs
+
+slice-write-map-2 : tie.Need-slice-write-map-2
+slice-write-map-2 c = search needs
+
+relinked-requires : tie.Need-relinked-requires
+relinked-requires c κs =
+    let c3 = c .before .before .before in
+    let c10 = c3 .before .before .before .before .before .before .before in
+    omega (arith, next-small (c10 .pre) (has-link (c .before .before)), is-link (c3))
+
+new-row-requires : tie.Need-new-row-requires
+new-row-requires c κs =
+    let c3 = c .before .before .before in
+    let c11 = c3 .before .before .before .before .before .before .before .before in
+    next-pre (c11 .pre) (has-link (c3)) (copied-word (c))
+
+same-length-2 : tie.Need-same-length-2
+same-length-2 c = search needs
+
+same-length-3 : tie.Need-same-length-3
+same-length-3 c = search needs
+
+same-length-4 : tie.Need-same-length-4
+same-length-4 c = search needs
+
+returns-2 : tie.Need-returns-2
+returns-2 c =
+    let c4 = c .before .before .before .before in
+    let c5 = c4 .before in
+    let c8 = c5 .before .before .before in
+    let c16 = c8 .before .before .before .before .before .before .before .before in
+    next-made (c16 .pre) (has-link (c8)) (copied-word (c5)) (c4 .new-row .ensures)
+
+pub copy-next-spec : {M : Type 1} → statement M
+copy-next-spec =
+    tie.close
+    (tie.spec
+    mul-w
+    slice-read-w
+    link-requires
+    copy-link-requires
+    mul-map
+    slice-write-map
+    same-length
+    returns
+    cast-map
+    mul-map-2
+    slice-write-map-2
+    relinked-requires
+    new-row-requires
+    same-length-2
+    same-length-3
+    same-length-4
+    returns-2)

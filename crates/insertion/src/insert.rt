@@ -1,0 +1,161 @@
+// Insert: copies of rows with all their descendants, as the table was before, under a target.
+ghost use mathlib.Core.Path.{_≡_};
+ghost use Prim.Native.Nat.{_≤_, _<_};
+ghost use lib.ListN.{length};
+ghost use Rattle.insertion.specs.Inserting.{copyLink, NextPre, NextPost, RestPre, RestPost, ItemPre, ItemPost};
+ghost use Rattle.insertion.specs.Inserting.{ItemsPre, ItemsPost, InsertPre, InsertPost};
+use table::Fault;
+use table::Table;
+use table::number;
+use table::words;
+use updates::state::Progress;
+use updates::update;
+
+// A row that has no copy.
+const NO_COPY: u16 = 0xFFFF;
+
+// The link to the copy of the parent with this link, 0 where it has none since top.
+fn copy_link(map: &[u16], top: usize, link: usize) -> usize
+    requires { ⌜ link ≤ length (now map) ⌝ }
+    ensures { λ r. ⌜ r ≡ copyLink (now (map .entry)) top link ⌝ }
+{
+    if link == 0 {
+        return 0;
+    }
+    if link - 1 < top {
+        return 0;
+    }
+    if map[link - 1] == NO_COPY {
+        return 0;
+    }
+    number::index(map[link - 1]) + 1
+}
+
+// Row j of the scan from top: a copy under its parent's copy, if there is one.
+fn copy_next(
+    rows: &mut [u32],
+    history: &mut [u8],
+    map: &mut [u16],
+    p: Progress,
+    top: usize,
+    j: usize,
+) -> Progress
+    requires { ⌜ NextPre (now rows) (now history) (now map) p top j ⌝ }
+    ensures { λ r. ⌜ NextPost (now (rows .entry)) (now (history .entry)) (now (map .entry)) p top j
+        (now (rows .exit)) (now (history .exit)) (now (map .exit)) r ⌝ }
+{
+    let w = rows[j];
+    let link = copy_link(map, top, words::link(w));
+    if link == 0 {
+        map[j] = NO_COPY;
+        return p;
+    }
+    let count = p.count;
+    map[j] = count as u16;
+    update::new_row(rows, history, p, words::relinked(w, link))
+}
+
+// The rows past top and below old, each under its parent's copy.
+fn copy_rest(
+    rows: &mut [u32],
+    history: &mut [u8],
+    map: &mut [u16],
+    p: Progress,
+    old: usize,
+    top: usize,
+) -> Progress
+    requires { ⌜ RestPre (now rows) (now history) (now map) p old top ⌝ }
+    ensures { λ r. ⌜ RestPost (now (rows .entry)) (now (history .entry)) (now (map .entry)) p old top
+        (now (rows .exit)) (now (history .exit)) r ⌝ }
+{
+    let mut now = p;
+    let mut j = top + 1;
+    while j < old {
+        now = copy_next(rows, history, map, now, top, j);
+        if now.number != 0 {
+            return now;
+        }
+        j += 1;
+    }
+    now
+}
+
+// The item top under the target, then its descendants below old.
+fn copy_item(
+    rows: &mut [u32],
+    history: &mut [u8],
+    map: &mut [u16],
+    p: Progress,
+    old: usize,
+    top: usize,
+    target: usize,
+) -> Progress
+    requires { ⌜ ItemPre (now rows) (now history) (now map) p old top target ⌝ }
+    ensures { λ r. ⌜ ItemPost (now (rows .entry)) (now (history .entry)) p old top target (now (rows .exit)) (now (history .exit)) r ⌝ }
+{
+    let count = p.count;
+    map[top] = count as u16;
+    let w = words::relinked(rows[top], target + 1);
+    let next = update::new_row(rows, history, p, w);
+    if next.number != 0 {
+        return next;
+    }
+    copy_rest(rows, history, map, next, old, top)
+}
+
+// Each item, as the table was before.
+fn copy_items(
+    rows: &mut [u32],
+    history: &mut [u8],
+    map: &mut [u16],
+    p: Progress,
+    items: &[u16],
+    target: usize,
+) -> Progress
+    requires { ⌜ ItemsPre (now rows) (now history) (now map) p (now items) target ⌝ }
+    ensures { λ r. ⌜ ItemsPost (now (rows .entry)) (now (history .entry)) p (now (items .entry)) target
+        (now (rows .exit)) (now (history .exit)) r ⌝ }
+{
+    let old = p.count;
+    let mut now = p;
+    let mut k = 0;
+    while k < items.len() {
+        now = copy_item(
+            rows,
+            history,
+            map,
+            now,
+            old,
+            number::index(items[k]),
+            target,
+        );
+        if now.number != 0 {
+            return now;
+        }
+        k += 1;
+    }
+    now
+}
+
+// Insert of a value into a target value: 7 where that is not one element, then 10 before 9.
+pub fn insert(
+    rows: &mut [u32],
+    history: &mut [u8],
+    p: Progress,
+    items: &[u16],
+    targets: &[u16],
+) -> Progress
+    requires { ⌜ InsertPre (now rows) (now history) p (now items) (now targets) ⌝ }
+    ensures { λ r. ⌜ InsertPost (now (rows .entry)) (now (history .entry)) p (now (items .entry)) (now (targets .entry))
+        (now (rows .exit)) (now (history .exit)) r ⌝ }
+{
+    if targets.len() != 1 {
+        return p.refused(Fault::TARGET);
+    }
+    let target = number::index(targets[0]);
+    if words::kind(rows[target]) == words::LEAF {
+        return p.refused(Fault::TARGET);
+    }
+    let mut map = [0u16; Table::ROWS];
+    copy_items(rows, history, &mut map, p, items, target)
+}
