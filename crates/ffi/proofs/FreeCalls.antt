@@ -1,6 +1,6 @@
 -- Demand 3 through C: two scripts of which the analysis answers 0, run by yegnabit_run in either order: FreeCallsCommute.
 use mathlib.Core.Path.{_≡_, refl, ap, sym, transport, _∙_}
-use mathlib.Core.Bool.{true, false, false≢true}
+use mathlib.Core.Bool.{true, false≢true}
 use mathlib.Core.List.{List}
 use Prim.Native.Nat.{ℕ}
 use native.Mathlib.Omega.{arith}

@@ -24,6 +24,7 @@ use Rattle.model.proofs.SweepsWell.{sweepsWell}
 use Rattle.model.proofs.UndoKeeps.{undoKeeps}
 use Rattle.table.specs.Words.{encode, fits}
 use Rattle.plan.specs.Calls as library
+use Rattle.writer.specs.Writing.{planWritten, writtenOut}
 use Rattle.table.specs.Results as results
 use Rattle.sweep.specs.Sweeping as sweeping
 use Rattle.table.specs.declared.TableResult.{TableResult}
@@ -36,7 +37,7 @@ use Rattle.lent.specs.Done.{isLentShort, doneOver}
 use Rattle.ffi.specs.Promise.{PlanBack, SweptBack, UndoneBack, RunDone, RunRefused, FreeRunsCommute, endedCall}
 use Rattle.ffi.specs.Promise.{planLeft, historyLeft}
 use Rattle.table.proofs.EncodeLaws.{decode-encode, fits-encode}
-use Rattle.plan.proofs.WritePlanLaws.{well-written, well-out}
+use Rattle.writer.proofs.WritePlanLaws.{well-written, well-out}
 use Rattle.plan.proofs.Promised.{read-short, read-back}
 use Rattle.paths.proofs.Promised.{free-told}
 use Rattle.run.proofs.OutcomeLaws.{refuses-fine, run-refuses, outcome-well}
@@ -65,14 +66,14 @@ module _ (p o : List ℕ) (x : model.Table) (read : readPlan p ≡ got x) (room 
 
 -- a well-formed table written
 written-code : (y : model.Table) → isWell y ≡ true → (o : List ℕ) → outNeed ≤ length o →
-    writtenCode (library.planWritten (encode y) o) ≡ codeOf 0 0 (length (stored y))
+    writtenCode (planWritten (encode y) o) ≡ codeOf 0 0 (length (stored y))
 written-code y w o room = ap writtenCode (well-written y w o room)
 
 pub planBack : PlanBack
 planBack p o x b e room =
     let r = read-back p x b e o (omega (arith, read-short p x b e)) in (
-      code-then p o x e room (λ q. writtenCode (library.planWritten (q .table) o)) ∙ ap writtenCode (r .0),
-      out-then p o x e room (λ q. library.writtenOut (q .table) o) ∙ r .1,
+      code-then p o x e room (λ q. writtenCode (planWritten (q .table) o)) ∙ ap writtenCode (r .0),
+      out-then p o x e room (λ q. writtenOut (q .table) o) ∙ r .1,
     )
 
 pub sweptBack : SweptBack

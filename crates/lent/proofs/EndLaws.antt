@@ -5,7 +5,7 @@ use mathlib.Core.List.{List}
 use Prim.Native.Nat.{ℕ, _≤_}
 use lib.Dec.{eqb, ltb}
 use borrow.Author.Tests.{eq-eqb, ne-eqb, ltb-false}
-use Rattle.plan.specs.Calls.{planWritten, writtenOut}
+use Rattle.writer.specs.Writing.{planWritten, writtenOut}
 use Rattle.table.specs.declared.Written.{Written}
 use Rattle.run.specs.declared.RunResult.{RunResult}
 use Rattle.table.specs.declared.TableResult.{TableResult}

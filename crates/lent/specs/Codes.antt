@@ -4,7 +4,7 @@ use Prim.Native.Nat.{ℕ, _+_, _*_, _%_}
 use lib.Dec.{eqb}
 use Rattle.model.specs.Base.{pick}
 use Rattle.model.specs.Limits.{maxRows, documents}
-use Rattle.plan.specs.Calls.{planWritten, writtenOut}
+use Rattle.writer.specs.Writing.{planWritten, writtenOut}
 use Rattle.table.specs.declared.TableResult.{TableResult}
 use Rattle.table.specs.declared.Written.{Written}
 

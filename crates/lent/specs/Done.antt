@@ -7,7 +7,7 @@ use lib.Dec.{ltb, eqb}
 use lib.ListN.{length}
 use Rattle.model.specs.Base.{pick, atFront}
 use Rattle.model.specs.Limits.{answerNeed, historyNeed, workNeed}
-use Rattle.plan.specs.Calls.{planWritten}
+use Rattle.writer.specs.Writing.{planWritten}
 use Rattle.table.specs.Words.{fits}
 use Rattle.run.specs.declared.RunResult.{RunResult}
 use Rattle.lent.specs.Codes.{codeOf, outNeed, doneNeed, finishedOut}

@@ -3,8 +3,8 @@ ghost use mathlib.Core.Path.{_≡_};
 ghost use mathlib.Core.Bool.{true};
 ghost use Rattle.table.specs.Words.{fits};
 ghost use Rattle.lent.specs.Codes.{codeOf, finishedCode, finishedOut};
-use plan::write;
 use table::TableResult;
+use writer::write;
 
 // Whose refusal it is: a lent area's; the plan's; the script's, the run's or the history's.
 pub const AREA: u8 = 0;

@@ -6,8 +6,8 @@ ghost use Rattle.lent.specs.Codes.{doneNeed};
 ghost use Rattle.lent.specs.Done.{isLentShort, doneOver, EndPre, endCode, endOut, endDone};
 use crate::answer;
 use areas::area;
-use plan::write;
 use run::RunResult;
+use writer::write;
 
 // The numbers that done needs.
 const DONE: usize = 6;

@@ -2,7 +2,7 @@
 use mathlib.Core.Path.{_≡_, refl, ap, sym, _∙_}
 use mathlib.Core.Bool.{true}
 use mathlib.Core.List.{List, _++_}
-use Prim.Native.Nat.{ℕ, _+_, _≤_}
+use Prim.Native.Nat.{ℕ, _≤_}
 use native.Mathlib.Omega.{arith}
 use lib.ListN.{length, take, drop}
 use lib.Seq.{take-at}
@@ -19,9 +19,10 @@ use Rattle.table.specs.declared.Table.{Table}
 use Rattle.table.specs.declared.Written.{Written}
 use Rattle.table.proofs.FittedLaws.{well-decode, fits-at}
 use Rattle.table.proofs.WordLaws.{encode-decode}
-use Rattle.plan.specs.Calls.{readBy, planRead, planWritten, writtenOut}
+use Rattle.writer.specs.Writing.{planWritten, writtenOut}
+use Rattle.plan.specs.Calls.{readBy, planRead}
 use Rattle.plan.specs.Promise.{TableBack, BytesBack}
-use Rattle.plan.proofs.WritePlanLaws.{write-fine, write-out, stored-fits, stored-written, stored-out}
+use Rattle.writer.proofs.WritePlanLaws.{write-fine, write-out, stored-fits, stored-written, stored-out}
 
 -- TABLE TO BYTES TO TABLE: the words of a table that fits are those of the table that it stands for
 words-back : (t : Table) → length (t .rows) ≡ 512 → fits t ≡ true → encode (decode t) ≡ t

@@ -1,4 +1,2 @@
 pub mod Calls
-pub mod Reading
-pub mod Writing
 pub mod Promise

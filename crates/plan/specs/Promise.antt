@@ -12,7 +12,8 @@ use Rattle.model.specs.Stored.{stored}
 use Rattle.table.specs.Results.{faultOf}
 use Rattle.table.specs.Words.{decode, fits}
 use Rattle.table.specs.declared.Table.{Table}
-use Rattle.plan.specs.Calls.{planRead, planWritten, writtenOut}
+use Rattle.writer.specs.Writing.{planWritten, writtenOut}
+use Rattle.plan.specs.Calls.{planRead}
 
 -- DEMAND 2, table to bytes to table: a table that fits, in its 512 words, is written where there is room, and what is written is read as
 -- that table, word for word

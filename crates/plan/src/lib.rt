@@ -1,15 +1,14 @@
 // The stored form of a plan: read into a table, and written from one.
 ghost use mathlib.Core.Path.{_≡_};
-ghost use Rattle.plan.specs.Calls.{planRead, planWritten, writtenOut};
+ghost use Rattle.plan.specs.Calls.{planRead};
+ghost use Rattle.writer.specs.Writing.{planWritten, writtenOut};
+use reader::read;
 use table::Fault;
 use table::Table;
 use table::TableResult;
 use table::Written;
 use table::fit;
-
-mod read;
-mod stored;
-pub mod write;
+use writer::write;
 
 // Reads a stored plan; refused, the table is the empty one.
 pub fn read_plan(bytes: &[u8]) -> TableResult

@@ -6,7 +6,7 @@ use Prim.Native.Nat.{ℕ}
 use lib.Dec.{eqb}
 use lib.ListN.{length}
 use borrow.Author.Tests.{eq-eqb, ne-eqb}
-use Rattle.plan.specs.Calls as library
+use Rattle.writer.specs.Writing as library
 use Rattle.sweep.specs.Sweeping as sweeping
 use Rattle.script.specs.Reading.{scriptRead}
 use Rattle.table.specs.declared.Fault.{Fault}

@@ -5,7 +5,7 @@ use Prim.Native.Nat.{ℕ}
 use lib.Dec.{eqb}
 use Rattle.model.specs.Base.{pick}
 use Rattle.lent.specs.Codes.{codeOf, lentCode, writtenCode}
-use Rattle.plan.specs.Calls as library
+use Rattle.writer.specs.Writing as library
 use Rattle.sweep.specs.Sweeping as sweeping
 use Rattle.script.specs.Reading.{scriptRead}
 use Rattle.table.specs.declared.TableResult.{TableResult}

@@ -1,4 +1,4 @@
-// The plan table: its type with its limits, and the check of a table handed in.
+// The plan table: its type with its limits, the check of a table handed in, the kinds and size of its stored records.
 ghost use mathlib.Core.Path.{_≡_};
 ghost use Rattle.model.specs.Table.{empty};
 ghost use Rattle.table.specs.Words.{encode};
@@ -6,6 +6,7 @@ ghost use Rattle.table.specs.Words.{encode};
 pub mod fit;
 pub mod marks;
 pub mod number;
+pub mod stored;
 pub mod words;
 
 // A row's number and an element's name: one never stands where the other is meant.

@@ -1,0 +1,2 @@
+pub mod ReadRecordLaws
+pub mod ReadingLaws

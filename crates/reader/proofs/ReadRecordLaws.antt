@@ -1,0 +1,262 @@
+-- What the model says of the record at the front, from the tests that the reader makes: one law for each way out.
+use mathlib.Core.Path.{_≡_, ap, sym, _∙_}
+use mathlib.Core.Bool.{Bool, true, false, _&&_, not}
+use mathlib.Core.List.{List, [], _∷_, map}
+use mathlib.Core.Option.{Option, none, some}
+use Prim.Native.Nat.{ℕ, zero, suc, _+_, _*_, _-_, _≤_, _<_}
+use native.Mathlib.Omega.{arith}
+use lib.Dec.{leb, eqb}
+use lib.ListN.{length, length-map, length-set, getD, set}
+use borrow.Author.Tests.{lt-ltb, le-ltb, le-leb, lt-leb, eq-eqb, ne-eqb, eqb-true, eqb-false}
+use Rattle.model.specs.Base.{pick, any}
+use Rattle.model.specs.Refusal.{fault, fine, linkAt, unless}
+use Rattle.model.specs.Table as model
+use Rattle.model.specs.Stored.{wordAt, rowIn, parentIn, rowFault, markFault, lastMarked, recordFault}
+use Rattle.model.proofs.BoolLaws.{by-cases, eq-cases, pick-eq, pick-ne}
+use Rattle.model.proofs.BytesLaws.{lastMarked-above}
+use Rattle.table.specs.Words.{linkOf, linked, wordOf, rowsOf, wordsOf, decodeParts, kindIn, linkIn}
+use Rattle.reader.specs.Reading.{lastOf, RowPre, RowPost, MarkPre, MarkPost, RecordPre, RecordPost, Recorded}
+use Rattle.table.proofs.WordLaws.{linked-linkOf, count-decode, rowAt-decode, canonical-push}
+use Rattle.table.proofs.DecodeLaws.{element-high, element-kind, decode-mark, decode-row}
+use Rattle.model.proofs.ListLaws.{map-set}
+
+-- a refusal is no acceptance
+pub refused : {A : Type 0} (k : ℕ) → suc k ≡ 0 → A
+refused k e = absurd (omega arith)
+
+-- ROWS: the tag
+module _ (s : List ℕ) (low : 17 ≤ getD s 0 0) (high : getD s 0 0 ≤ 18) where
+  tag-fits : (getD s 0 0 ≡ 17 → getD s 1 0 ≡ 0 → ⊥) → getD s 1 0 ≤ 255 → model.tagFits (rowIn s) ≡ true
+  tag-fits f b =
+      by-cases (eqb (getD s 0 0) 18) (λ e. rw e (le-leb (getD s 1 0) 255 b))
+      (λ e. go e (eqb-false (getD s 0 0) 18 e))
+    where
+      go : eqb (getD s 0 0) 18 ≡ false → (getD s 0 0 ≡ 18 → ⊥) → model.tagFits (rowIn s) ≡ true
+      go e g =
+          let m : getD s 0 0 ≡ 17 = omega arith in
+          let k : 1 ≤ getD s 1 0 = omega (arith, f m) in
+          rw (e, le-leb 1 (getD s 1 0) k) (le-leb (getD s 1 0) 255 b)
+
+-- the word of the row at the front
+module _ (s : List ℕ) (low : 17 ≤ getD s 0 0) (high : getD s 0 0 ≤ 18) where
+  row-word : (l : ℕ) → linkOf (parentIn (wordAt s 2)) ≡ l → getD s 0 0 - 16 + 4 * l + 4096 * getD s 1 0 ≡ wordOf (rowIn s)
+  row-word l h =
+      by-cases (eqb (getD s 0 0) 18) (λ e. rw e (omega (arith, h, eqb-true (getD s 0 0) 18 e)))
+      (λ e. rw e (omega (arith, h, eqb-false (getD s 0 0) 18 e)))
+
+  pub row-word-none : wordAt s 2 ≡ 65535 → getD s 0 0 - 16 + 4 * 0 + 4096 * getD s 1 0 ≡ wordOf (rowIn s)
+  row-word-none h = row-word 0 (rw (eq-eqb (wordAt s 2) 65535 h))
+
+  pub row-word-some : (wordAt s 2 ≡ 65535 → ⊥) → getD s 0 0 - 16 + 4 * (wordAt s 2 + 1) + 4096 * getD s 1 0 ≡ wordOf (rowIn s)
+  row-word-some h = row-word (wordAt s 2 + 1) (rw (ne-eqb (wordAt s 2) 65535 h))
+
+pub link-none : (s : List ℕ) → wordAt s 2 ≡ 65535 → linkOf (rowIn s .parent) < 1024
+link-none s h = rw (eq-eqb (wordAt s 2) 65535 h) (omega arith)
+
+pub link-some : (s : List ℕ) → wordAt s 2 < 512 → linkOf (rowIn s .parent) < 1024
+link-some s h = let e : wordAt s 2 ≡ 65535 → ⊥ = λ q. omega arith in rw (ne-eqb (wordAt s 2) 65535 e) (omega arith)
+
+-- a row at the front, by the tests on its way out
+module _ (s ws ms : List ℕ) (n i : ℕ) (pre : RowPre s ws n) where
+  within-512 : n ≤ length ws
+  within-512 = omega (arith, pre .room, pre .size)
+
+  pub row-field : getD s 0 0 ≡ 17 → getD s 1 0 ≡ 0 → rowFault (decodeParts n ws ms) i s ≡ fault 4 i
+  row-field k t = let e : eqb (getD s 0 0) 18 ≡ false = ne-eqb (getD s 0 0) 18 (λ q. omega arith) in rw (e, t)
+
+  module _ (tag : getD s 0 0 ≡ 17 → getD s 1 0 ≡ 0 → ⊥) (byte : getD s 1 0 ≤ 255) where
+    fits : model.tagFits (rowIn s) ≡ true
+    fits = tag-fits s (pre .low) (pre .high) tag byte
+
+    pub row-order : (lastOf ms ≡ 0 → ⊥) → rowFault (decodeParts n ws ms) i s ≡ fault 6 i
+    row-order h = rw (fits, ne-eqb (lastOf ms) 0 h)
+
+    module _ (first : lastOf ms ≡ 0) where
+      pub row-none : wordAt s 2 ≡ 65535 → rowFault (decodeParts n ws ms) i s ≡ fine
+      row-none h = rw (fits, first, eq-eqb (wordAt s 2) 65535 h)
+
+      module _ (some-parent : wordAt s 2 ≡ 65535 → ⊥) where
+        pub row-high : n ≤ wordAt s 2 → rowFault (decodeParts n ws ms) i s ≡ fault 6 i
+        row-high h =
+            let k : model.count (decodeParts n ws ms) ≤ wordAt s 2 = omega (arith, count-decode n ws ms within-512) in
+            rw (fits, first, ne-eqb (wordAt s 2) 65535 some-parent, le-ltb (wordAt s 2) (model.count (decodeParts n ws ms)) k)
+
+        pub row-leaf : wordAt s 2 < n → kindIn (getD ws (wordAt s 2) 0) ≡ 2 → rowFault (decodeParts n ws ms) i s ≡ fault 6 i
+        row-leaf h l =
+            let k : wordAt s 2 < model.count (decodeParts n ws ms) = omega (arith, count-decode n ws ms within-512) in
+            let e : model.isElement (decodeParts n ws ms) (wordAt s 2) ≡ false = element-kind n ws ms within-512 (wordAt s 2) h ∙ rw l in
+            rw (fits, first, ne-eqb (wordAt s 2) 65535 some-parent, e, lt-ltb (wordAt s 2) (model.count (decodeParts n ws ms)) k)
+
+        pub row-child : wordAt s 2 < n → (kindIn (getD ws (wordAt s 2) 0) ≡ 2 → ⊥) → rowFault (decodeParts n ws ms) i s ≡ fine
+        row-child h l =
+            let k : wordAt s 2 < model.count (decodeParts n ws ms) = omega (arith, count-decode n ws ms within-512) in
+            let e : model.isElement (decodeParts n ws ms) (wordAt s 2) ≡ true = element-kind n ws ms within-512 (wordAt s 2) h ∙ rw
+            (ne-eqb (kindIn (getD ws (wordAt s 2) 0)) 2 l) in
+            rw (fits, first, ne-eqb (wordAt s 2) 65535 some-parent, e, lt-ltb (wordAt s 2) (model.count (decodeParts n ws ms)) k)
+
+-- MARKS: a mark at the front, by the tests on its way out
+module _ (s ws ms : List ℕ) (n i : ℕ) (pre : MarkPre s ws ms n) where
+  within : n ≤ length ws
+  within = omega (arith, pre .room, pre .size)
+
+  pub mark-field : 8 ≤ getD s 1 0 → markFault (decodeParts n ws ms) i s ≡ fault 4 i
+  mark-field h = rw (le-ltb (getD s 1 0) 8 h)
+
+  module _ (known : getD s 1 0 < 8) where
+    pub mark-order : getD s 1 0 < lastOf ms → markFault (decodeParts n ws ms) i s ≡ fault 6 i
+    mark-order h = rw (lt-ltb (getD s 1 0) 8 known, lt-leb (lastOf ms) (getD s 1 0) h)
+
+    module _ (rising : lastOf ms ≤ getD s 1 0) where
+      pub mark-high : n ≤ wordAt s 2 → markFault (decodeParts n ws ms) i s ≡ fault 6 i
+      mark-high h =
+          rw (lt-ltb (getD s 1 0) 8 known, le-leb (lastOf ms) (getD s 1 0) rising, element-high n ws ms within (wordAt s 2) h)
+
+      module _ (there : wordAt s 2 < n) where
+        pub mark-leaf : kindIn (getD ws (wordAt s 2) 0) ≡ 2 → markFault (decodeParts n ws ms) i s ≡ fault 6 i
+        mark-leaf l =
+            let e : model.isElement (decodeParts n ws ms) (wordAt s 2) ≡ false = element-kind n ws ms within (wordAt s 2) there ∙ rw l in
+            rw (lt-ltb (getD s 1 0) 8 known, le-leb (lastOf ms) (getD s 1 0) rising, e)
+
+        module _ (element : kindIn (getD ws (wordAt s 2) 0) ≡ 2 → ⊥) where
+          is-element : model.isElement (decodeParts n ws ms) (wordAt s 2) ≡ true
+          is-element = element-kind n ws ms within (wordAt s 2) there ∙ rw (ne-eqb (kindIn (getD ws (wordAt s 2) 0)) 2 element)
+
+          mark-tests : markFault (decodeParts n ws ms) i s ≡
+              unless (not (model.hasParent (linked (linkIn (getD ws (wordAt s 2) 0)))) &&
+              not (any (model.isThe (wordAt s 2)) (map linked ms))) (linkAt i)
+          mark-tests =
+              let row = rowAt-decode n ws ms within (wordAt s 2) there in
+              rw (lt-ltb (getD s 1 0) 8 known, le-leb (lastOf ms) (getD s 1 0) rising, is-element, row)
+
+          pub mark-child : (linkIn (getD ws (wordAt s 2) 0) ≡ 0 → ⊥) → markFault (decodeParts n ws ms) i s ≡ fault 6 i
+          mark-child l = mark-tests ∙ rw (ne-eqb (linkIn (getD ws (wordAt s 2) 0)) 0 l)
+
+          pub mark-by : linkIn (getD ws (wordAt s 2) 0) ≡ 0 → (z : Bool) → any (model.isThe (wordAt s 2)) (map linked ms) ≡ z →
+              markFault (decodeParts n ws ms) i s ≡ pick z (fault 6 i) fine
+          mark-by root true h = mark-tests ∙ rw (root, h)
+          mark-by root false h = mark-tests ∙ rw (root, h)
+
+-- THE RECORD at the front, by its kind and size
+module _ (x : model.Table) (i : ℕ) (s : List ℕ) where
+  pub record-low : getD s 0 0 < 17 → recordFault x i s ≡ fault 1 i
+  record-low h = rw (lt-leb 17 (getD s 0 0) h)
+
+  pub record-high : 19 < getD s 0 0 → recordFault x i s ≡ fault 1 i
+  record-high h = let k : 17 ≤ getD s 0 0 = omega arith in rw (le-leb 17 (getD s 0 0) k, lt-leb (getD s 0 0) 19 h)
+
+  module _ (mark : getD s 0 0 ≡ 19) where
+    pub record-mark-short : length s < 4 → recordFault x i s ≡ fault 2 i
+    record-mark-short h = rw (mark, lt-leb 4 (length s) h)
+
+    record-mark : 4 ≤ length s → recordFault x i s ≡ markFault x i s
+    record-mark h = rw (mark, le-leb 4 (length s) h)
+
+  module _ (low : 17 ≤ getD s 0 0) (high : getD s 0 0 ≤ 18) where
+    no-mark : eqb (getD s 0 0) 19 ≡ false
+    no-mark = ne-eqb (getD s 0 0) 19 (λ q. omega arith)
+
+    within-kinds : leb (getD s 0 0) 19 ≡ true
+    within-kinds = le-leb (getD s 0 0) 19 (omega arith)
+
+    pub record-size : 512 ≤ model.count x → recordFault x i s ≡ fault 5 i
+    record-size h = rw (le-leb 17 (getD s 0 0) low, within-kinds, no-mark, le-ltb (model.count x) 512 h)
+
+    module _ (room : model.count x < 512) where
+      pub record-row-short : length s < 4 → recordFault x i s ≡ fault 2 i
+      record-row-short h =
+          rw (le-leb 17 (getD s 0 0) low, within-kinds, no-mark, lt-ltb (model.count x) 512 room, lt-leb 4 (length s) h)
+
+      record-row : 4 ≤ length s → recordFault x i s ≡ rowFault x i s
+      record-row h =
+          rw (le-leb 17 (getD s 0 0) low, within-kinds, no-mark, lt-ltb (model.count x) 512 room, le-leb 4 (length s) h)
+
+-- the last marked document after a mark past the others
+last-none : (from : ℕ) (ms : List (Option ℕ)) → lastMarked from ms ≤ from → lastMarked from ms ≡ 0
+last-none from ms h =
+    eq-cases (lastMarked from ms) 0 (λ e. e)
+    (λ e. absurd (omega (arith, lastMarked-above from ms e)))
+
+last-rest : (m : Option ℕ) (ms : List (Option ℕ)) (from n : ℕ) → lastMarked from (m ∷ ms) ≤ n → lastMarked (suc from) ms ≤ n
+unfolding lastMarked
+last-rest none ms from n l = l
+last-rest (some j) ms from n l =
+    by-cases (eqb (lastMarked (suc from) ms) 0) (λ e. omega (arith, eqb-true (lastMarked (suc from) ms) 0 e)) (λ e. rw e at l)
+
+last-set : (ms : List (Option ℕ)) (from d i : ℕ) → d < length ms → lastMarked from ms ≤ from + d →
+    lastMarked from (set ms d (some i)) ≡ from + d + 1
+unfolding lastMarked
+last-set [] from d i h l = absurd (omega arith)
+last-set (m ∷ ms) from zero i h l =
+    rw (last-none (suc from) ms (omega (arith, last-rest m ms from (from + 0) l))) (omega arith)
+last-set (m ∷ ms) from (suc d) i h l =
+    go m (last-set ms (suc from) d i (omega arith) (omega (arith, last-rest m ms from (from + suc d) l)))
+  where
+    go : (m : Option ℕ) → lastMarked (suc from) (set ms d (some i)) ≡ suc from + d + 1 →
+        lastMarked from (m ∷ set ms d (some i)) ≡ from + suc d + 1
+    go none e = e ∙ omega arith
+    go (some j) e = rw e (let k : suc from + d + 1 ≡ 0 → ⊥ = λ q. omega arith in rw (ne-eqb (suc from + d + 1) 0 k) (omega arith))
+
+lastOf-set : (ms : List ℕ) (d i : ℕ) → d < length ms → lastOf ms ≤ d → lastOf (set ms d (i + 1)) ≡ d + 1
+lastOf-set ms d i h l =
+    ap (lastMarked 0) (map-set linked ms d (i + 1) ∙ ap (set (map linked ms) d) (linked-linkOf (some i))) ∙
+    last-set (map linked ms) 0 d i (omega (arith, length-map ms linked)) (omega arith) ∙ omega arith
+
+-- what a mark's or a row's reader leaves is what a record's reader owes
+module _ (s ws ms : List ℕ) (n last : ℕ) (pre : RecordPre s ws ms n last) (whole : 4 ≤ length s) where
+  pub mark-record : getD s 0 0 ≡ 19 → (ms′ : List ℕ) (r d : ℕ) → MarkPost s ws ms n last ms′ r → d ≡ getD s 1 0 →
+      RecordPost s ws ms n ws ms′ (record { number = r; count = n; last = d + 1 })
+  mark-record kind ms′ r d post same =
+      record {
+        fault = λ i. record-mark (decodeParts n ws ms) i s kind whole ∙ post .fault i (pre .held .latest);
+        fine = λ z. held z (post .marks ∙ pick-eq (set ms (getD s 1 0) (wordAt s 2 + 1)) ms z);
+      }
+    where
+      held : r ≡ 0 → ms′ ≡ set ms (getD s 1 0) (wordAt s 2 + 1) → Recorded s ws ms n ws ms′ n (d + 1)
+      held z e =
+          let f : getD s 1 0 < length ms = omega (arith, post .document z, pre .held .documents) in
+          let o : lastOf ms ≤ getD s 1 0 = omega (arith, post .order z, pre .held .latest) in
+          record {
+            whole = whole;
+            table =
+                ap (decodeParts n ws) e ∙ decode-mark n (getD s 1 0) (wordAt s 2) ws ms ∙
+                sym (pick-eq _ _ kind);
+            held =
+                record {
+                  room = pre .held .room;
+                  size = pre .held .size;
+                  documents = ap length e ∙ length-set ms (getD s 1 0) (wordAt s 2 + 1) ∙ pre .held .documents;
+                  canonical = pre .held .canonical;
+                  latest = ap (λ (j : ℕ). j + 1) same ∙ sym (ap lastOf e ∙ lastOf-set ms (getD s 1 0) (wordAt s 2) f o);
+                };
+          }
+
+  pub row-record : 17 ≤ getD s 0 0 → getD s 0 0 ≤ 18 → n < 512 → (ws′ : List ℕ) (r : ℕ) → RowPost s ws n last ws′ r →
+      RecordPost s ws ms n ws′ ms (record { number = r; count = n + 1; last = last })
+  row-record low high room ws′ r post =
+      record {
+        fault = λ i. record-row (decodeParts n ws ms) i s low high counted whole ∙ post .fault ms i (pre .held .latest);
+        fine = λ z. held z (post .rows ∙ pick-eq (set ws n (wordOf (rowIn s))) ws z);
+      }
+    where
+      counted : model.count (decodeParts n ws ms) < 512
+      counted = omega (arith, room, count-decode n ws ms (omega (arith, pre .held .room, pre .held .size)))
+
+      held : r ≡ 0 → ws′ ≡ set ws n (wordOf (rowIn s)) → Recorded s ws ms n ws′ ms (n + 1) last
+      held z e =
+          let h : n < length ws = omega (arith, room, pre .held .size) in
+          record {
+            whole = whole;
+            table =
+                ap (λ (v : List ℕ). decodeParts (n + 1) v ms) e ∙ decode-row n (rowIn s) ws ms h (post .link z) ∙
+                sym (pick-ne {m = getD s 0 0} _ _ (λ q. omega arith));
+            held =
+                record {
+                  room = omega arith;
+                  size = ap length e ∙ length-set ws n (wordOf (rowIn s)) ∙ pre .held .size;
+                  documents = pre .held .documents;
+                  canonical =
+                      ap (λ (v : List ℕ). wordsOf (rowsOf (n + 1) v)) e ∙
+                      canonical-push n ws (rowIn s) room (pre .held .size) (post .link z) (pre .held .canonical) ∙ sym e;
+                  latest = pre .held .latest;
+                };
+          }

@@ -1,0 +1,76 @@
+-- Contracts of the reader's parts: what each asks and what it leaves. Assumes nothing: these are definitions.
+use mathlib.Core.Path.{_≡_}
+use mathlib.Core.List.{List, map}
+use Prim.Native.Nat.{ℕ, _+_, _≤_, _<_}
+use lib.Dec.{eqb}
+use lib.ListN.{length, getD, set, replicate}
+use Rattle.model.specs.Limits.{maxRows, documents}
+use Rattle.model.specs.Base.{pick}
+use Rattle.model.specs.Refusal.{fault, faultAt}
+use Rattle.model.specs.Stored.{elementKind, leafKind, Read, bad, got, readPlan, wordAt, rowIn, lastMarked}
+use Rattle.model.specs.Stored.{rowFault, markFault, recordFault, recorded}
+use Rattle.table.specs.Words.{linkOf, linked, wordOf, decodeParts, Canonical}
+use Rattle.reader.specs.declared.read.RecordRead.{RecordRead}
+use Rattle.reader.specs.declared.read.PlanEnd.{PlanEnd}
+
+-- the last document that marks a row, and one
+abbrev pub lastOf : (marks : List ℕ) → ℕ
+lastOf ms = lastMarked 0 (map linked ms)
+
+pub record RowPre (s ws : List ℕ) (n : ℕ) : Type 0 where
+  pub whole : 4 ≤ length s
+  pub low : elementKind ≤ getD s 0 0
+  pub high : getD s 0 0 ≤ leafKind
+  pub room : n < maxRows
+  pub size : length ws ≡ maxRows
+
+pub record RowPost (s ws : List ℕ) (n last : ℕ) (ws′ : List ℕ) (r : ℕ) : Type 0 where
+  pub fault : (ms : List ℕ) (i : ℕ) → last ≡ lastOf ms → rowFault (decodeParts n ws ms) i s ≡ faultAt r i
+  pub rows : ws′ ≡ pick (eqb r 0) (set ws n (wordOf (rowIn s))) ws
+  pub link : r ≡ 0 → linkOf (rowIn s .parent) < 1024
+
+pub record MarkPre (s ws ms : List ℕ) (n : ℕ) : Type 0 where
+  pub whole : 4 ≤ length s
+  pub room : n ≤ maxRows
+  pub size : length ws ≡ maxRows
+  pub documents : length ms ≡ documents
+
+pub record MarkPost (s ws ms : List ℕ) (n last : ℕ) (ms′ : List ℕ) (r : ℕ) : Type 0 where
+  pub fault : (i : ℕ) → last ≡ lastOf ms → markFault (decodeParts n ws ms) i s ≡ faultAt r i
+  pub marks : ms′ ≡ pick (eqb r 0) (set ms (getD s 1 0) (wordAt s 2 + 1)) ms
+  pub document : r ≡ 0 → getD s 1 0 < documents
+  pub order : r ≡ 0 → last ≤ getD s 1 0
+
+-- the table so far, in its words and marks: `last` is one more than the last document that marks a row
+pub record Held (ws ms : List ℕ) (n last : ℕ) : Type 0 where
+  pub room : n ≤ maxRows
+  pub size : length ws ≡ maxRows
+  pub documents : length ms ≡ documents
+  pub canonical : Canonical n ws
+  pub latest : last ≡ lastOf ms
+
+pub record RecordPre (s ws ms : List ℕ) (n last : ℕ) : Type 0 where
+  pub nonempty : 0 < length s
+  pub held : Held ws ms n last
+
+-- the record is whole, and the table has it
+pub record Recorded (s ws ms : List ℕ) (n : ℕ) (ws′ ms′ : List ℕ) (n′ last′ : ℕ) : Type 0 where
+  pub whole : 4 ≤ length s
+  pub table : decodeParts n′ ws′ ms′ ≡ recorded (decodeParts n ws ms) s
+  pub held : Held ws′ ms′ n′ last′
+
+pub record RecordPost (s ws ms : List ℕ) (n : ℕ) (ws′ ms′ : List ℕ) (r : RecordRead) : Type 0 where
+  pub fault : (i : ℕ) → recordFault (decodeParts n ws ms) i s ≡ faultAt (r .number) i
+  pub fine : r .number ≡ 0 → Recorded s ws ms n ws′ ms′ (r .count) (r .last)
+
+pub record ReadPre (ws ms : List ℕ) : Type 0 where
+  pub rows : ws ≡ replicate maxRows 0
+  pub marks : ms ≡ replicate documents 0
+
+abbrev pub readEnd : (ws ms : List ℕ) → PlanEnd → Read
+readEnd ws ms r = pick (eqb (r .number) 0) (got (decodeParts (r .count) ws ms)) (bad (fault (r .number) (r .place)))
+
+pub record ReadPost (b ws ms : List ℕ) (r : PlanEnd) : Type 0 where
+  pub result : readEnd ws ms r ≡ readPlan b
+  pub canonical : r .number ≡ 0 → Canonical (r .count) ws
+  pub room : r .number ≡ 0 → r .count ≤ length ws

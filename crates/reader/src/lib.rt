@@ -1,0 +1,2 @@
+// Reading a stored plan into the words of a table.
+pub mod read;

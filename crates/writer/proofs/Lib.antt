@@ -1,0 +1,2 @@
+pub mod WriteRecordLaws
+pub mod WritePlanLaws

@@ -1,0 +1,41 @@
+-- What writing a plan answers and leaves, for every input; contracts of the writer's parts. Assumes nothing: these are definitions.
+use mathlib.Core.Path.{_≡_}
+use mathlib.Core.List.{List, map}
+use Prim.Native.Nat.{ℕ, _+_, _*_, _≤_, _<_}
+use lib.Dec.{leb}
+use lib.ListN.{length, getD}
+use Rattle.model.specs.Base.{pick, atFront}
+use Rattle.model.specs.Limits.{maxRows, documents}
+use Rattle.model.specs.Refusal as refusal
+use Rattle.model.specs.Stored.{marksBytes, stored}
+use Rattle.table.specs.Results.{faultOf}
+use Rattle.table.specs.Words.{linked, decode, fits}
+use Rattle.table.specs.declared.Table.{Table}
+use Rattle.table.specs.declared.Written.{Written}
+
+-- WRITING: 6 before 11; bytes past the stored length stay; refused, nothing is written
+abbrev pub writeFault : Table → (room : ℕ) → refusal.Fault
+writeFault t n =
+    refusal.orElse (refusal.unless (fits t) (refusal.linkAt 0)) (refusal.unless (leb (length (stored (decode t))) n) refusal.lentShort)
+
+abbrev pub planWritten : Table → (out : List ℕ) → Written
+planWritten t o =
+    record {
+      fault = faultOf (writeFault t (length o));
+      bytes = pick (refusal.isFine (writeFault t (length o))) (length (stored (decode t))) 0;
+    }
+
+abbrev pub writtenOut : Table → (out : List ℕ) → List ℕ
+writtenOut t o = pick (refusal.isFine (writeFault t (length o))) (atFront (stored (decode t)) o) o
+
+-- room for the rows below the count, whose tags are bytes
+pub record RowsPre (ws o : List ℕ) (n : ℕ) : Type 0 where
+  pub rows : n ≤ length ws
+  pub few : n ≤ maxRows
+  pub tags : (k : ℕ) → k < n → getD ws k 0 < 1048576
+  pub room : 4 * n ≤ length o
+
+-- room for the marks from a place on
+pub record MarksPre (ms o : List ℕ) (start : ℕ) : Type 0 where
+  pub documents : length ms ≡ documents
+  pub room : start + length (marksBytes 0 (map linked ms)) ≤ length o

@@ -1,0 +1,2 @@
+// Writing a table that fits in its stored form.
+pub mod write;

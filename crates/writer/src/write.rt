@@ -1,0 +1,133 @@
+// Writes a table in its stored form: rows in number order, then marks with rising document.
+ghost use mathlib.Core.Path.{_≡_};
+ghost use mathlib.Core.List.{_∷_, map};
+ghost use Prim.Native.Nat.{ℕ, _+_, _*_, _≤_, _<_};
+ghost use lib.ListN.{length};
+ghost use Rattle.model.specs.Stored.{wordBytes, rowBytes, rowsBytes, markBytes, marksBytes};
+ghost use mathlib.Core.Bool.{true};
+ghost use Rattle.model.specs.Limits.{maxRows, documents};
+ghost use Rattle.table.specs.Words.{linked, rowOf, rowsOf, fits};
+ghost use Rattle.writer.specs.Writing.{planWritten, writtenOut, RowsPre, MarksPre};
+ghost use Rattle.model.specs.Base.{over};
+use table::Fault;
+use table::Table;
+use table::Written;
+use table::number;
+use table::stored;
+use table::words;
+
+// A record at a place: its kind, its first field, and a two-byte number.
+fn put(out: &mut [u8], at: usize, kind: u8, field: u8, number: usize)
+    requires { ⌜ at + 4 ≤ length (now out) ⌝ }
+    requires { ⌜ number < 65536 ⌝ }
+    ensures { λ r. ⌜ now (out .exit) ≡ over at (kind ∷ field ∷ wordBytes number) (now (out .entry)) ⌝ }
+{
+    out[at] = kind;
+    out[at + 1] = field;
+    out[at + 2] = (number % 256) as u8;
+    out[at + 3] = (number / 256) as u8;
+}
+
+// One row's record at a place.
+fn row(out: &mut [u8], at: usize, w: u32)
+    requires { ⌜ at + 4 ≤ length (now out) ⌝ }
+    requires { ⌜ w < 1048576 ⌝ }
+    ensures { λ r. ⌜ now (out .exit) ≡ over at (rowBytes (rowOf w)) (now (out .entry)) ⌝ }
+{
+    let number = number::parent(words::link(w));
+    let field = words::tag(w) as u8;
+    if words::kind(w) == words::LEAF {
+        put(out, at, stored::LEAF, field, number);
+        return;
+    }
+    put(out, at, stored::ELEMENT, field, number);
+}
+
+// The rows below the count, from the area's start on.
+pub fn rows(out: &mut [u8], rows: &[u32], count: usize)
+    requires { ⌜ RowsPre (now rows) (now out) count ⌝ }
+    ensures { λ r. ⌜ now (out .exit) ≡ over 0 (rowsBytes (rowsOf count (now (rows .entry)))) (now (out .entry)) ⌝ }
+{
+    let mut i = 0;
+    while i < count {
+        row(out, stored::SIZE * i, rows[i]);
+        i += 1;
+    }
+}
+
+// The bytes of a mark's record, none where there is no mark.
+fn mark_length(link: u16) -> usize
+    ensures { λ r. ⌜ ((d : ℕ) → r ≡ length (markBytes d (linked link))) ⌝ }
+{
+    if link == 0 {
+        return 0;
+    }
+    stored::SIZE
+}
+
+// One mark's record at a place, if there is a mark.
+fn mark(out: &mut [u8], at: usize, document: u8, link: u16)
+    requires { ⌜ at + length (markBytes document (linked link)) ≤ length (now out) ⌝ }
+    ensures { λ r. ⌜ now (out .exit) ≡ over at (markBytes document (linked link)) (now (out .entry)) ⌝ }
+{
+    if link == 0 {
+        return;
+    }
+    put(out, at, stored::MARK, document, number::index(link - 1));
+}
+
+// The marks, from a place on.
+pub fn marks(out: &mut [u8], marks: &[u16], start: usize)
+    requires { ⌜ MarksPre (now marks) (now out) start ⌝ }
+    ensures { λ r. ⌜ now (out .exit) ≡ over start (marksBytes 0 (map linked (now (marks .entry)))) (now (out .entry)) ⌝ }
+{
+    let mut d = 0;
+    let mut at = start;
+    while d < marks.len() {
+        mark(out, at, d as u8, marks[d]);
+        at += mark_length(marks[d]);
+        d += 1;
+    }
+}
+
+// The bytes that a table's rows and marks take.
+pub fn stored_length(count: usize, marks: &[u16]) -> usize
+    requires { ⌜ (count ≤ maxRows) × (length (now marks) ≡ documents) ⌝ }
+    ensures { λ r. ⌜ r ≡ 4 * count + length (marksBytes 0 (map linked (now (marks .entry)))) ⌝ }
+{
+    let mut n = stored::SIZE * count;
+    let mut d = 0;
+    while d < marks.len() {
+        n += mark_length(marks[d]);
+        d += 1;
+    }
+    n
+}
+
+// A table that fits, at the start of the area; 11 where that is too short.
+pub fn fitting(table: Table, out: &mut [u8]) -> Written
+    requires { ⌜ fits table ≡ true ⌝ }
+    ensures { λ r. ⌜ r ≡ planWritten table (now (out .entry)) ⌝ }
+    ensures { λ r. ⌜ now (out .exit) ≡ writtenOut table (now (out .entry)) ⌝ }
+{
+    let count = table.count;
+    let length = stored_length(count, &table.marks);
+    if out.len() < length {
+        return Written {
+            fault: Fault {
+                number: Fault::LENT,
+                place: 0,
+            },
+            bytes: 0,
+        };
+    }
+    rows(out, &table.rows, count);
+    marks(out, &table.marks, stored::SIZE * count);
+    Written {
+        fault: Fault {
+            number: 0,
+            place: 0,
+        },
+        bytes: length,
+    }
+}
