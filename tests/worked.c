@@ -11,8 +11,9 @@
 #define ALL(array) (array), sizeof(array) / sizeof((array)[0])
 /* A call's answer, by its parts. */
 #define CODE(number, which, place) ((number) + 256u * (which) + UINT64_C(65536) * (place))
-/* What is not refused, but for an analysis. */
+/* The answer where nothing is refused; not of an analysis, whose `which` is what it answers. */
 #define ACCEPTED(place) CODE(0, 0, place)
+/* The answer where a lent area is too short. */
 #define TOO_SHORT CODE(YEGNABIT_LENT, YEGNABIT_WHICH_AREA, 0)
 
 enum { ROW_BYTES = 4, ROWS = 512 };

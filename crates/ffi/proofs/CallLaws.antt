@@ -9,7 +9,8 @@ use borrow.Author.Tests.{lt-ltb, le-ltb, eq-eqb, ne-eqb}
 use Rattle.model.specs.Base.{pick}
 use Rattle.table.specs.declared.TableResult.{TableResult}
 use Rattle.ffi.specs.Calls.{readCode, readOut, analysisCode}
-use Rattle.lent.specs.Codes.{codeOf, lentCode, outNeed}
+use Rattle.codes.specs.Codes.{codeOf, lentCode}
+use Rattle.lent.specs.Done.{outNeed}
 use Rattle.paths.specs.declared.Analysis.{Analysis}
 
 -- what a call answers and leaves, with n and b where out is long enough

@@ -16,29 +16,29 @@ use Rattle.model.proofs.TestLaws.{and-parts}
 use Rattle.model.proofs.CallsCommute.{runCall-by, callsCommute}
 use Rattle.model.proofs.RunsBack.{runBy-back}
 use Rattle.model.proofs.StoredBack.{storedBack}
-use Rattle.lent.specs.Codes.{codeOf}
+use Rattle.codes.specs.Codes.{codeOf}
 use Rattle.paths.proofs.Promised.{free-which}
 use Rattle.run.proofs.OutcomeLaws.{refuses-fine, run-refuses}
 use Rattle.ffi.specs.Running.{Called}
-use Rattle.ffi.specs.Promise.{planLeft, Lent, Suffices, runLent, runAfter, OrderAnswers, told, FreeCallsCommute}
+use Rattle.ffi.specs.Promise.{planLeft, Request, Suffices, runRequest, runAfter, OrderAnswers, told, FreeCallsCommute}
 use Rattle.ffi.proofs.Promised.{needs, run-done, plan-left, call-ends}
 
 -- the model's run
-abbrev modelRun : Table → Lent → Ran
+abbrev modelRun : Table → Request → Ran
 modelRun x l = runCall x (l .script) (l .answer) (l .history) (l .work)
 
-lent-fit : (l : Lent) → Suffices l → areasFit (l .answer) (l .history) (l .work) ≡ true
+lent-fit : (l : Request) → Suffices l → areasFit (l .answer) (l .history) (l .work) ≡ true
 lent-fit l ok = needs (l .answer) (l .history) (l .work) (l .out) (l .done) (ok .1) .0
 
 -- A CALL on a plan that is read as x answers 0 and tells the model's run
-record Tells (p : List ℕ) (x : Table) (l : Lent) : Type 0 where
+record Tells (p : List ℕ) (x : Table) (l : Request) : Type 0 where
   fine : isFine (modelRun x l .fault) ≡ true
-  answers : runLent p l .code ≡ codeOf 0 0 0
+  answers : runRequest p l .code ≡ codeOf 0 0 0
   well : isWell (modelRun x l .plan) ≡ true
-  left : readPlan (planLeft (runLent p l)) ≡ got (modelRun x l .plan)
-  tells : told (runLent p l) (modelRun x l .plan) ≡ modelRun x l
+  left : readPlan (planLeft (runRequest p l)) ≡ got (modelRun x l .plan)
+  tells : told (runRequest p l) (modelRun x l .plan) ≡ modelRun x l
 
-module _ (p : List ℕ) (x : Table) (well : isWell x ≡ true) (read : readPlan p ≡ got x) (l : Lent) (ok : Suffices l) where
+module _ (p : List ℕ) (x : Table) (well : isWell x ≡ true) (read : readPlan p ≡ got x) (l : Request) (ok : Suffices l) where
   run-is : (q : Out) → runBy x (readScript (l .script)) ≡ q →
       modelRun x l ≡ ranBy x (length (l .answer)) (length (l .history)) (length (l .work)) q
   run-is q e = runCall-by x (l .script) (l .answer) (l .history) (l .work) q (lent-fit l ok) well e
@@ -59,7 +59,7 @@ module _ (p : List ℕ) (x : Table) (well : isWell x ≡ true) (read : readPlan 
       }
 
   -- answered 0, or fine in the model
-  by-answer : runLent p l .code ≡ codeOf 0 0 0 → Tells p x l
+  by-answer : runRequest p l .code ≡ codeOf 0 0 0 → Tells p x l
   by-answer a =
       let k = call-ends p (l .script) (l .answer) (l .history) (l .work) (l .out) (l .done) x well read (ok .1) a in
       by-run (k .0) (k .1 .0) (k .1 .1)
@@ -75,21 +75,21 @@ module _ (p : List ℕ) (x : Table) (well : isWell x ≡ true) (read : readPlan 
       go (gives v t) e = by-run v t e
 
 -- AN ORDER: both calls answer 0 exactly when both runs of the model end
-module _ (p : List ℕ) (x : Table) (well : isWell x ≡ true) (read : readPlan p ≡ got x) (l m : Lent) (ok : Suffices l)
+module _ (p : List ℕ) (x : Table) (well : isWell x ≡ true) (read : readPlan p ≡ got x) (l m : Request) (ok : Suffices l)
     (ok′ : Suffices m) where
   abbrev Both : Type 0
-  Both = Tells p x l × Tells (planLeft (runLent p l)) (modelRun x l .plan) m
+  Both = Tells p x l × Tells (planLeft (runRequest p l)) (modelRun x l .plan) m
 
   order-answers : OrderAnswers p l m → Both
   order-answers a =
       let t = by-answer p x well read l ok (a .0) in
-      (t, by-answer (planLeft (runLent p l)) (modelRun x l .plan) (t .well) (t .left) m ok′ (a .1))
+      (t, by-answer (planLeft (runRequest p l)) (modelRun x l .plan) (t .well) (t .left) m ok′ (a .1))
 
   order-ends : callsEnd (modelRun x l) (modelRun (modelRun x l .plan) m) ≡ true → Both
   order-ends e =
       let k = and-parts (isFine (modelRun x l .fault)) _ e in
       let t = by-fine p x well read l ok (k .0) in
-      (t, by-fine (planLeft (runLent p l)) (modelRun x l .plan) (t .well) (t .left) m ok′ (k .1))
+      (t, by-fine (planLeft (runRequest p l)) (modelRun x l .plan) (t .well) (t .left) m ok′ (k .1))
 
   both-end : Both → callsEnd (modelRun x l) (modelRun (modelRun x l .plan) m) ≡ true
   both-end t = and-both _ _ (t .0 .fine) (t .1 .fine)
@@ -136,6 +136,6 @@ freeCallsCommute p x l m bytes read ok ok′ says = (
 
     equal : Both p x well read l m ok ok′ → Both p x well read m l ok′ ok →
         CallsEqual x (modelRun x l) (modelRun (modelRun x l .plan) m) (modelRun x m) (modelRun (modelRun x m .plan) l) →
-        CallsEqual x (told (runLent p l) (modelRun x l .plan)) (told (runAfter p l m) (modelRun (modelRun x l .plan) m .plan))
-        (told (runLent p m) (modelRun x m .plan)) (told (runAfter p m l) (modelRun (modelRun x m .plan) l .plan))
+        CallsEqual x (told (runRequest p l) (modelRun x l .plan)) (told (runAfter p l m) (modelRun (modelRun x l .plan) m .plan))
+        (told (runRequest p m) (modelRun x m .plan)) (told (runAfter p m l) (modelRun (modelRun x m .plan) l .plan))
     equal t s = transport (λ i. CallsEqual x (sym (t .0 .tells) i) (sym (t .1 .tells) i) (sym (s .0 .tells) i) (sym (s .1 .tells) i))

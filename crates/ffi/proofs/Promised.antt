@@ -31,9 +31,9 @@ use Rattle.table.specs.declared.TableResult.{TableResult}
 use Rattle.undo.specs.Undoing.{planUndone, undoneBy}
 use Rattle.run.specs.Calls.{ran, resultOf, outcomeOf}
 use Rattle.ffi.specs.Calls.{readCode, readOut, undoCode, undoOut}
-use Rattle.lent.specs.Codes.{codeOf, lentCode, writtenCode, finishedCode, finishedOut, outNeed}
+use Rattle.codes.specs.Codes.{codeOf, lentCode, writtenCode, finishedCode, finishedOut}
 use Rattle.ffi.specs.Running.{refusedCall, ranCall, readCall, runCalled, Called}
-use Rattle.lent.specs.Done.{isLentShort, doneOver}
+use Rattle.lent.specs.Done.{outNeed, isLentShort, doneOver}
 use Rattle.ffi.specs.Promise.{PlanBack, SweptBack, UndoneBack, RunDone, RunRefused, FreeRunsCommute, endedCall}
 use Rattle.ffi.specs.Promise.{planLeft, historyLeft}
 use Rattle.table.proofs.EncodeLaws.{decode-encode, fits-encode}

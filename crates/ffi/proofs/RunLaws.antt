@@ -9,9 +9,9 @@ use Rattle.plan.specs.Calls as library
 use Rattle.table.specs.declared.TableResult.{TableResult}
 use Rattle.run.specs.Calls.{ran, runResult}
 use Rattle.run.specs.declared.RunResult.{RunResult}
-use Rattle.lent.specs.Codes.{codeOf, lentCode, doneNeed}
+use Rattle.codes.specs.Codes.{codeOf, lentCode}
 use Rattle.ffi.specs.Running.{Called, refusedCall, ranCall, readCall, runCalled}
-use Rattle.lent.specs.Done.{isLentShort, doneOver, endCode, endOut, endDone}
+use Rattle.lent.specs.Done.{doneNeed, isLentShort, doneOver, endCode, endOut, endDone}
 use Rattle.lent.proofs.EndLaws.{long-enough}
 
 -- the answer and the five areas are those of a call

@@ -11,7 +11,7 @@ use Rattle.model.specs.Stored.{stored, got, readPlan}
 use Rattle.model.specs.Table.{Table}
 use Rattle.model.proofs.BoolLaws.{by-cases, eq-cases}
 use Rattle.model.proofs.StoredBack.{storedBack}
-use Rattle.lent.specs.Codes.{codeOf, lentCode}
+use Rattle.codes.specs.Codes.{codeOf, lentCode}
 use Rattle.lent.specs.Done.{isLentShort}
 use Rattle.plan.specs.Calls as library
 use Rattle.plan.proofs.Promised.{read-got}

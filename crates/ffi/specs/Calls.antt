@@ -5,7 +5,8 @@ use lib.Dec.{ltb, eqb}
 use lib.ListN.{length}
 use Rattle.model.specs.Base.{pick}
 use Rattle.plan.specs.Calls as library
-use Rattle.lent.specs.Codes.{codeOf, lentCode, outNeed, finishedCode, finishedOut}
+use Rattle.codes.specs.Codes.{codeOf, lentCode, finishedCode, finishedOut}
+use Rattle.lent.specs.Done.{outNeed}
 use Rattle.sweep.specs.Sweeping.{planSwept}
 use Rattle.paths.specs.Analysis.{analysed, valuesOf}
 use Rattle.paths.specs.declared.Analysis.{Analysis}

@@ -18,9 +18,9 @@ use Rattle.model.specs.Sweep.{swept}
 use Rattle.model.specs.Table.{Table}
 use Rattle.model.specs.Undo.{back, undo}
 use Rattle.ffi.specs.Calls.{planCode, planOut, sweepCode, sweepOut, undoCode, undoOut, analyseCode}
-use Rattle.lent.specs.Codes.{outNeed, codeOf}
+use Rattle.codes.specs.Codes.{codeOf}
 use Rattle.ffi.specs.Running.{Called, refusedCall, runCalled}
-use Rattle.lent.specs.Done.{isLentShort, doneOver}
+use Rattle.lent.specs.Done.{outNeed, isLentShort, doneOver}
 use Rattle.paths.specs.Analysis.{analysed, values, valuesOf}
 use Rattle.run.specs.Calls.{ran, runResult}
 use Rattle.run.specs.Promise.{EitherEnd}
@@ -95,7 +95,7 @@ FreeRunsCommute =
     (ran (runResult t c a′ h′ w′ .table) b a h w)
 
 -- AND THROUGH C: a script and the areas lent to its run
-pub record Lent : Type 0 where
+pub record Request : Type 0 where
   pub script : List ℕ
   pub answer : List ℕ
   pub history : List ℕ
@@ -104,21 +104,21 @@ pub record Lent : Type 0 where
   pub done : List ℕ
 
 -- the script is bytes, and no area is too short
-abbrev pub Suffices : Lent → Type 0
+abbrev pub Suffices : Request → Type 0
 Suffices l =
     (areBytes (l .script) ≡ true) ×
     (isLentShort (length (l .answer)) (length (l .history)) (length (l .work)) (length (l .out)) (length (l .done)) ≡ false)
 
 -- a script's run on a plan, and on the plan that another's left
-abbrev pub runLent : (plan : List ℕ) → Lent → Called
-runLent p l = runCalled p (l .script) (l .answer) (l .history) (l .work) (l .out) (l .done)
+abbrev pub runRequest : (plan : List ℕ) → Request → Called
+runRequest p l = runCalled p (l .script) (l .answer) (l .history) (l .work) (l .out) (l .done)
 
-abbrev pub runAfter : (plan : List ℕ) → (leads follows : Lent) → Called
-runAfter p l m = runLent (planLeft (runLent p l)) m
+abbrev pub runAfter : (plan : List ℕ) → (leads follows : Request) → Called
+runAfter p l m = runRequest (planLeft (runRequest p l)) m
 
 -- both calls of an order answer 0
-abbrev pub OrderAnswers : (plan : List ℕ) → (leads follows : Lent) → Type 0
-OrderAnswers p l m = (runLent p l .code ≡ codeOf 0 0 0) × (runAfter p l m .code ≡ codeOf 0 0 0)
+abbrev pub OrderAnswers : (plan : List ℕ) → (leads follows : Request) → Type 0
+OrderAnswers p l m = (runRequest p l .code ≡ codeOf 0 0 0) × (runAfter p l m .code ≡ codeOf 0 0 0)
 
 -- what a call that answered 0 tells of its run: the numbers of done, the areas, and the table that its plan is read as
 abbrev pub told : Called → Table → Ran
@@ -145,7 +145,7 @@ CalledEqual x r r′ s s′ =
 
 abbrev pub FreeCallsCommute : Type 0
 FreeCallsCommute =
-    (p : List ℕ) (x : Table) (l m : Lent) → areBytes p ≡ true → readPlan p ≡ got x → Suffices l → Suffices m →
+    (p : List ℕ) (x : Table) (l m : Request) → areBytes p ≡ true → readPlan p ≡ got x → Suffices l → Suffices m →
     analyseCode (l .script) (m .script) ≡ codeOf 0 0 0 →
     (OrderAnswers p l m ↔ OrderAnswers p m l) ×
-    (OrderAnswers p l m → CalledEqual x (runLent p l) (runAfter p l m) (runLent p m) (runAfter p m l))
+    (OrderAnswers p l m → CalledEqual x (runRequest p l) (runAfter p l m) (runRequest p m) (runAfter p m l))

@@ -9,7 +9,7 @@ use Rattle.plan.specs.Calls as library
 use Rattle.table.specs.declared.TableResult.{TableResult}
 use Rattle.run.specs.Calls.{ran, runResult}
 use Rattle.run.specs.declared.RunResult.{RunResult}
-use Rattle.lent.specs.Codes.{codeOf, lentCode}
+use Rattle.codes.specs.Codes.{codeOf, lentCode}
 use Rattle.lent.specs.Done.{isLentShort, doneOver, endCode, endOut, endDone}
 
 -- what the call answers, and the areas after it

@@ -4,11 +4,11 @@
 ghost use mathlib.Core.Path.{_≡_};
 ghost use Rattle.ffi.specs.Calls.{planCode, planOut, sweepCode, sweepOut, undoCode, undoOut, analyseCode};
 ghost use Rattle.ffi.specs.Running.{runCalled};
+use codes::answer;
+use codes::answer::AREA;
+use codes::answer::PLAN;
+use codes::answer::SCRIPT;
 use lent::OUT;
-use lent::answer;
-use lent::answer::AREA;
-use lent::answer::PLAN;
-use lent::answer::SCRIPT;
 use lent::done;
 use paths::Analysis;
 use table::Fault;

@@ -1,4 +1,4 @@
--- The end of a call by its two ways out: refused, or its plan written. Of any call that gives a table, and of a run.
+-- The end of a run by its two ways out: refused, or its plan written. And what it is for no area to be too short.
 use mathlib.Core.Path.{_≡_, ap, _∙_}
 use mathlib.Core.Bool.{true, false, _||_}
 use mathlib.Core.List.{List}
@@ -8,24 +8,10 @@ use borrow.Author.Tests.{eq-eqb, ne-eqb, ltb-false}
 use Rattle.writer.specs.Writing.{planWritten, writtenOut}
 use Rattle.table.specs.declared.Written.{Written}
 use Rattle.run.specs.declared.RunResult.{RunResult}
-use Rattle.table.specs.declared.TableResult.{TableResult}
-use Rattle.lent.specs.Codes.{codeOf, writtenCode, finishedCode, finishedOut, outNeed, doneNeed}
-use Rattle.lent.specs.Done.{doneOver, endCode, endOut, endDone, isLentShort}
+use Rattle.codes.specs.Codes.{codeOf}
+use Rattle.lent.specs.Done.{outNeed, doneNeed, isLentShort, doneOver, endCode, endOut, endDone}
 use Rattle.model.specs.Limits.{answerNeed, historyNeed, workNeed}
 use Rattle.model.proofs.BoolLaws.{or-neither}
-
-module _ (r : TableResult) (w : ℕ) (o : List ℕ) where
-  pub finish-refused : (c : ℕ) → (r .fault .number ≡ 0 → ⊥) → c ≡ codeOf (r .fault .number) w (r .fault .place) →
-      (c ≡ finishedCode r w o) × (o ≡ finishedOut r o)
-  finish-refused c z e =
-      let k : eqb (r .fault .number) 0 ≡ false = ne-eqb (r .fault .number) 0 z in
-      (e ∙ rw k, rw k)
-
-  pub finish-written : (c : ℕ) (x : Written) (o′ : List ℕ) → r .fault .number ≡ 0 → x ≡ planWritten (r .table) o →
-      o′ ≡ writtenOut (r .table) o → c ≡ writtenCode x → (c ≡ finishedCode r w o) × (o′ ≡ finishedOut r o)
-  finish-written c x o′ z e f g =
-      let k : eqb (r .fault .number) 0 ≡ true = eq-eqb (r .fault .number) 0 z in
-      (g ∙ ap writtenCode e ∙ rw k, f ∙ rw k)
 
 -- the answer and both areas of a run
 abbrev Ends : RunResult → (out done : List ℕ) → (code : ℕ) → (out′ done′ : List ℕ) → Type 0

@@ -2,15 +2,23 @@
 use mathlib.Core.Path.{_≡_}
 use mathlib.Core.Bool.{Bool, true, _||_}
 use mathlib.Core.List.{List, [], _∷_}
-use Prim.Native.Nat.{ℕ, _≤_}
+use Prim.Native.Nat.{ℕ, _+_, _*_, _≤_}
 use lib.Dec.{ltb, eqb}
 use lib.ListN.{length}
 use Rattle.model.specs.Base.{pick, atFront}
-use Rattle.model.specs.Limits.{answerNeed, historyNeed, workNeed}
+use Rattle.model.specs.Limits.{maxRows, documents, answerNeed, historyNeed, workNeed}
 use Rattle.writer.specs.Writing.{planWritten}
 use Rattle.table.specs.Words.{fits}
 use Rattle.run.specs.declared.RunResult.{RunResult}
-use Rattle.lent.specs.Codes.{codeOf, outNeed, doneNeed, finishedOut}
+use Rattle.codes.specs.Codes.{codeOf, finishedOut}
+
+-- what out needs, 2,080: four bytes for each row and mark of the longest plan
+abbrev pub outNeed : ℕ
+outNeed = 4 * (maxRows + documents)
+
+-- what done needs: six numbers
+abbrev pub doneNeed : ℕ
+doneNeed = 6
 
 -- an area shorter than its need: out takes the longest plan, 2,080 bytes, and done six numbers
 abbrev pub isLentShort : (answer history work out done : ℕ) → Bool

@@ -2,10 +2,9 @@
 ghost use mathlib.Core.Path.{_≡_};
 ghost use Prim.Native.Nat.{_≤_};
 ghost use lib.ListN.{length, replicate};
-ghost use Rattle.lent.specs.Codes.{doneNeed};
-ghost use Rattle.lent.specs.Done.{isLentShort, doneOver, EndPre, endCode, endOut, endDone};
-use crate::answer;
+ghost use Rattle.lent.specs.Done.{doneNeed, isLentShort, doneOver, EndPre, endCode, endOut, endDone};
 use areas::area;
+use codes::answer;
 use run::RunResult;
 use writer::write;
 

@@ -12,7 +12,7 @@ use lib.Dec.{eqb}
 use lib.ListN.{length, getD, take, drop, set, length-append, length-drop, take-append-drop, drop-of-length-le}
 use lib.Seq.{take-nil, take-at, take-all, take-length, drop-append-add, drop-drop, getD-drop, length-take-le, paste, paste-suc}
 use borrow.Author.Tests.{eqb-true, eq-eqb}
-use Rattle.model.specs.Base.{pick, over, all, any, filtered, among}
+use Rattle.model.specs.Base.{pick, atFront, over, all, any, filtered, among}
 use Rattle.model.proofs.BoolLaws.{and-left, and-right, and-both, or-left, or-right, or-cases}
 
 -- an element set, and then mapped
@@ -62,10 +62,10 @@ module _ {o : List ℕ} (d s : List ℕ) (i j : ℕ) (held : o ≡ paste d i s j
   pub paste-all : j ≡ length s → o ≡ over i s d
   paste-all e = held ∙ ap (paste d i s) e ∙ ap (λ (l : List ℕ). take i d ++ l ++ drop (i + length s) d) (take-length s)
 
-pub front-all : {o : List ℕ} (d s : List ℕ) (j : ℕ) → o ≡ paste d 0 s j → j ≡ length s → o ≡ s ++ drop (length s) d
+pub front-all : {o : List ℕ} (d s : List ℕ) (j : ℕ) → o ≡ paste d 0 s j → j ≡ length s → o ≡ atFront s d
 front-all d s j held e = paste-all d s 0 j held e ∙ ap (λ (n : ℕ). s ++ drop n d) (zero-add (length s))
 
-pub front-whole : (s d : List ℕ) → length d ≤ length s → s ++ drop (length s) d ≡ s
+pub front-whole : (s d : List ℕ) → length d ≤ length s → atFront s d ≡ s
 front-whole s d h = ap (λ (l : List ℕ). s ++ l) (drop-of-length-le d h) ∙ append-nil s
 
 -- what stands from a place on: of the first items, all of it, and the first of it

@@ -1,12 +1,12 @@
 -- What is written is read back, and what is read is written back: TableBack, BytesBack.
 use mathlib.Core.Path.{_≡_, refl, ap, sym, _∙_}
 use mathlib.Core.Bool.{true}
-use mathlib.Core.List.{List, _++_}
+use mathlib.Core.List.{List}
 use Prim.Native.Nat.{ℕ, _≤_}
 use native.Mathlib.Omega.{arith}
 use lib.ListN.{length, take, drop}
 use lib.Seq.{take-at}
-use Rattle.model.specs.Base.{areBytes}
+use Rattle.model.specs.Base.{atFront, areBytes}
 use Rattle.model.specs.Refusal.{fine}
 use Rattle.model.specs.Stored.{Read, bad, got, stored, readPlan}
 use Rattle.model.specs.Table as model
@@ -49,12 +49,12 @@ module _ (b : List ℕ) (x : model.Table) (bytes : areBytes b ≡ true) (read : 
 
   module _ (o : List ℕ) (room : length b ≤ length o) where
     pub read-back : (planWritten (encode x) o ≡ record { fault = faultOf fine; bytes = length b }) ×
-        (writtenOut (encode x) o ≡ b ++ drop (length b) o)
+        (writtenOut (encode x) o ≡ atFront b o)
     read-back =
         let s = storedBack .1 b x bytes read in
         let l : length (stored x) ≤ length o = omega (arith, ap length (s .1)) in (
           stored-written x (s .0) o l ∙ ap (λ (c : List ℕ). record { fault = faultOf fine; bytes = length c }) (s .1),
-          stored-out x (s .0) o l ∙ ap (λ (c : List ℕ). c ++ drop (length c) o) (s .1),
+          stored-out x (s .0) o l ∙ ap (λ (c : List ℕ). atFront c o) (s .1),
         )
 
 -- what is not refused is read

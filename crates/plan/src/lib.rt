@@ -40,13 +40,7 @@ pub fn write_plan(table: Table, out: &mut [u8]) -> Written
 {
     let count = table.count;
     if !fit::fits(count, &table.rows, &table.marks) {
-        return Written {
-            fault: Fault {
-                number: Fault::LINK,
-                place: 0,
-            },
-            bytes: 0,
-        };
+        return Written::by(Fault::LINK, 0);
     }
     write::fitting(table, out)
 }

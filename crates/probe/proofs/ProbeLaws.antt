@@ -15,7 +15,7 @@ use Rattle.table.specs.declared.TableResult.{TableResult}
 use Rattle.table.specs.declared.Written.{Written}
 use Rattle.probe.specs.Probes.{writeCode, writeOut, sweptTable, sweptCode, rowsLeft, marksLeft, scriptCode}
 use Rattle.probe.specs.Raw.{isGiven, given}
-use Rattle.lent.specs.Codes.{codeOf, lentCode, writtenCode}
+use Rattle.codes.specs.Codes.{codeOf, lentCode, writtenCode}
 
 -- a script's refusal, or none
 pub script-read : (b : List ℕ) (f : Fault) (c : ℕ) → f ≡ scriptRead b → f .number ≡ 0 → c ≡ codeOf 0 0 0 → c ≡ scriptCode b

@@ -4,7 +4,7 @@ use mathlib.Core.List.{List}
 use Prim.Native.Nat.{ℕ}
 use lib.Dec.{eqb}
 use Rattle.model.specs.Base.{pick}
-use Rattle.lent.specs.Codes.{codeOf, lentCode, writtenCode}
+use Rattle.codes.specs.Codes.{codeOf, lentCode, writtenCode}
 use Rattle.writer.specs.Writing as library
 use Rattle.sweep.specs.Sweeping as sweeping
 use Rattle.script.specs.Reading.{scriptRead}

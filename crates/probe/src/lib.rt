@@ -2,10 +2,10 @@
 // Answers are numbers as in the C interface (crates/ffi).
 ghost use mathlib.Core.Path.{_≡_};
 ghost use Rattle.probe.specs.Probes.{writeCode, writeOut, sweptCode, rowsLeft, marksLeft, scriptCode};
-use lent::answer;
-use lent::answer::AREA;
-use lent::answer::PLAN;
-use lent::answer::SCRIPT;
+use codes::answer;
+use codes::answer::AREA;
+use codes::answer::PLAN;
+use codes::answer::SCRIPT;
 use table::Fault;
 use table::Table;
 

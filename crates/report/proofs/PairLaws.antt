@@ -11,6 +11,7 @@ use borrow.Author.Tests.{lt-ltb, le-ltb, eq-eqb, ne-eqb}
 use Rattle.model.specs.Base.{pick}
 use Rattle.model.proofs.BoolLaws.{pick-eq, pick-ne}
 use Rattle.plan.specs.Calls.{planRead}
+use Rattle.table.specs.Results.{writtenBy}
 use Rattle.table.specs.declared.Fault.{Fault}
 use Rattle.table.specs.declared.Table.{Table}
 use Rattle.table.specs.declared.TableResult.{TableResult}
@@ -53,23 +54,22 @@ pub as-told : (t : Table) (b c : List ℕ) {o o′ : List ℕ} {n : ℕ} {a v : 
     Report (textBy a t b c) o o′ n
 as-told t b c {o} {o′} {n} e q = subst (λ (v : Analysis). Report (textBy v t b c) o o′ n) (sym e) q
 
--- what is written for the text placed at the start of the area
-abbrev wrote : (bytes : ℕ) → Written
-wrote n = record { fault = record { number = 0; place = 0 }; bytes = n }
-
 counted : (n : ℕ) (o : List ℕ) → n ≤ length o → Counted n o
 counted n o h = (h, sym (length-take-le n o h))
 
 module _ (p b c : List ℕ) {o : List ℕ} where
-  pub area-short : length o < 160 →
-      (record { fault = record { number = 11; place = 0 }; bytes = 0 } ≡ pairWritten p b c o) × ((o ≡ pairOut p b c o) × Counted 0 o)
-  area-short h = (rw (lt-ltb (length o) 160 h), (rw (lt-ltb (length o) 160 h), counted 0 o (omega arith)))
+  pub area-short : length o < 160 → {x : Written} → x ≡ writtenBy 11 0 →
+      (x ≡ pairWritten p b c o) × ((o ≡ pairOut p b c o) × Counted (x .bytes) o)
+  area-short h w = (
+    w ∙ rw (lt-ltb (length o) 160 h),
+    (rw (lt-ltb (length o) 160 h), subst (λ (v : Written). Counted (v .bytes) o) (sym w) (counted 0 o (omega arith))),
+  )
 
-  module _ (h : 160 ≤ length o) {o′ : List ℕ} (l : length o′ ≡ length o) {n : ℕ} {x : Written} (w : x ≡ wrote n) where
+  module _ (h : 160 ≤ length o) {o′ : List ℕ} (l : length o′ ≡ length o) {n : ℕ} {x : Written} (w : x ≡ writtenBy 0 n) where
     placed-written : Placed o 0 (pairText p b c) o′ n → n ≤ 160 →
         (x ≡ pairWritten p b c o) × ((o′ ≡ pairOut p b c o) × Counted (x .bytes) o′)
     placed-written q k = (
-      w ∙ ap wrote (q .next ∙ zero-add (length (pairText p b c))) ∙ rw (le-ltb (length o) 160 h),
+      w ∙ ap (writtenBy 0) (q .next ∙ zero-add (length (pairText p b c))) ∙ rw (le-ltb (length o) 160 h),
       (
         q .area ∙ ap (λ (k : ℕ). pairText p b c ++ drop k o) (zero-add (length (pairText p b c))) ∙ rw (le-ltb (length o) 160 h),
         counted (x .bytes) o′ (omega (arith, ap (λ (v : Written). v .bytes) w)),

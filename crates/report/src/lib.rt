@@ -2,8 +2,6 @@
 ghost use mathlib.Core.Path.{_≡_};
 ghost use Prim.Native.Nat.{_≤_};
 ghost use lib.ListN.{length};
-ghost use Rattle.model.specs.Refusal.{fine};
-ghost use Rattle.table.specs.Results.{faultOf};
 ghost use Rattle.report.specs.Pair.{room, threeLines, textBy, Report, Counted, pairWritten, pairOut};
 use lines::line;
 use paths::Analysis;
@@ -14,19 +12,6 @@ use table::Written;
 
 // The bytes that the lines take at most.
 pub const ROOM: usize = 160;
-
-// So many bytes are written, and nothing is refused.
-fn written(bytes: usize) -> Written
-    ensures { λ r. ⌜ r ≡ record { fault = faultOf fine; bytes = bytes } ⌝ }
-{
-    Written {
-        fault: Fault {
-            number: 0,
-            place: 0,
-        },
-        bytes,
-    }
-}
 
 // The answer and both orders, each from the table given.
 fn three_lines(out: &mut [u8], word: &[u8], table: Table, first: &[u8], second: &[u8]) -> usize
@@ -72,19 +57,13 @@ pub fn pair(plan: &[u8], first: &[u8], second: &[u8], out: &mut [u8]) -> Written
     ensures { λ r. ⌜ Counted (r .bytes) (now (out .exit)) ⌝ }
 {
     if out.len() < ROOM {
-        return Written {
-            fault: Fault {
-                number: Fault::LENT,
-                place: 0,
-            },
-            bytes: 0,
-        };
+        return Written::by(Fault::LENT, 0);
     }
     let read = plan::read_plan(plan);
     let fault = read.fault;
     if fault.number != 0 {
-        return written(line::put_file(out, b"plan", fault));
+        return Written::by(0, line::put_file(out, b"plan", fault));
     }
     let analysis = paths::analyse(first, second);
-    written(answer_lines(out, analysis, read.table, first, second))
+    Written::by(0, answer_lines(out, analysis, read.table, first, second))
 }

@@ -9,7 +9,7 @@ use lib.Dec.{leb, eqb}
 use lib.ListN.{length, take, drop, replicate, length-take, length-replicate, take-append-drop}
 use lib.Seq.{length-take-le}
 use borrow.Author.Tests.{eqb-true, eqb-false, le-leb, lt-leb, leb-true}
-use Rattle.model.specs.Base.{pick, nothing, also, bit}
+use Rattle.model.specs.Base.{pick, atFront, nothing, also, bit}
 use Rattle.model.specs.Refusal as refusal
 use Rattle.model.specs.Script.{readScript}
 use Rattle.model.specs.History.{Record, historyBytes, AllInRange, times, isCut}
@@ -222,7 +222,7 @@ module _ (t : Table) (b : List ℕ) (e : fits t ≡ true) where
 
           -- what the call gives back
           pub run-post : {a a′ : List ℕ} {y : Tally} {r : RunResult} → RunPre a h w → y ≡ tallyFor (q .made) (q .cut) →
-              a′ ≡ valueAt w′ 0 (x .end) ++ drop (length (valueAt w′ 0 (x .end))) a →
+              a′ ≡ atFront (valueAt w′ 0 (x .end)) a →
               r ≡ record {
                 fault = record { number = 0; place = 0 };
                 table = record { count = q .count; rows = ws′; marks = t .marks };
@@ -253,9 +253,9 @@ module _ (t : Table) (b : List ℕ) (e : fits t ≡ true) where
               }
               tally-is = λ i. record { made = sym made i; cut = sym cuts i; records = sym (held .history .records) i }
 
-              filled-answer : valueAt w′ 0 (x .end) ++ drop (length (valueAt w′ 0 (x .end))) a ≡ filled (length a) (valueAt w′ 0 (x .end))
+              filled-answer : atFront (valueAt w′ 0 (x .end)) a ≡ filled (length a) (valueAt w′ 0 (x .end))
               filled-answer =
-                  ap (λ (v : List ℕ). valueAt w′ 0 (x .end) ++ drop (length (valueAt w′ 0 (x .end))) v) (pre .answered) ∙
+                  ap (atFront (valueAt w′ 0 (x .end))) (pre .answered) ∙
                   ap (λ (v : List ℕ). valueAt w′ 0 (x .end) ++ v) (drop-zeros (length (valueAt w′ 0 (x .end))) (length a) 0)
 
               filled-history : h′ ≡ filled (length h) (historyBytes (recordsIn (take (q .bytes) h′)))

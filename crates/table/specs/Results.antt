@@ -1,10 +1,12 @@
 -- Refusals and results of calls, from the model's. Assumes nothing: these are definitions.
+use Prim.Native.Nat.{ℕ}
 use Rattle.model.specs.Refusal as refusal
 use Rattle.model.specs.Table as model
 use Rattle.table.specs.Words.{encode}
 use Rattle.table.specs.declared.Fault.{Fault}
 use Rattle.table.specs.declared.Table.{Table}
 use Rattle.table.specs.declared.TableResult.{TableResult}
+use Rattle.table.specs.declared.Written.{Written}
 
 abbrev pub faultOf : refusal.Fault → Fault
 faultOf x = record { number = x .number; place = x .place }
@@ -12,6 +14,10 @@ faultOf x = record { number = x .number; place = x .place }
 abbrev pub result : refusal.Fault → model.Table → TableResult
 result f x = record { fault = faultOf f; table = encode x }
 
--- refused, the table as it was handed in
+-- refused, the table given back as it is
 abbrev pub asItWas : refusal.Fault → Table → TableResult
 asItWas f t = record { fault = faultOf f; table = t }
+
+-- writing: refused at place 0, or number 0 and the bytes written
+abbrev pub writtenBy : (number bytes : ℕ) → Written
+writtenBy n b = record { fault = record { number = n; place = 0 }; bytes = b }

@@ -141,7 +141,7 @@ pub fn fits<'a>(count: usize, rows: &'a [u32], marks: &'a [u16]) -> bool
     marks_fit(rows, count, marks)
 }
 
-// A refusal, with the table as it was.
+// A refusal, and the table given back with it.
 pub fn refused(number: u8, place: usize, table: Table) -> TableResult
     ensures { λ r. ⌜ r ≡ asItWas (fault number place) table ⌝ }
 {

@@ -14,8 +14,9 @@ use Rattle.model.specs.Table as model
 use Rattle.model.specs.Stored.{rowsBytes, marksBytes, stored, markBytes}
 use Rattle.model.proofs.TableLaws.{isWell-at}
 use Rattle.table.specs.declared.Table.{Table}
+use Rattle.table.specs.Results.{writtenBy}
 use Rattle.table.specs.Words.{linked, rowsOf, decodeParts, decode, fits, encode}
-use Rattle.model.specs.Base.{over}
+use Rattle.model.specs.Base.{atFront, over}
 use Rattle.writer.specs.Writing.{planWritten, writtenOut}
 use Rattle.table.proofs.WordLaws.{count-decode}
 use Rattle.writer.proofs.WriteRecordLaws.{length-rowsBytes, length-mark}
@@ -25,23 +26,23 @@ use Rattle.table.proofs.EncodeLaws.{decode-encode, fits-encode}
 -- WRITING
 module _ (t : Table) (o : List ℕ) where
   pub write-ill : fits t ≡ false →
-      (record { fault = record { number = 6; place = 0 }; bytes = 0 } ≡ planWritten t o) × (o ≡ writtenOut t o)
+      (writtenBy 6 0 ≡ planWritten t o) × (o ≡ writtenOut t o)
   write-ill e = (rw e, rw e)
 
   module _ (e : fits t ≡ true) where
     pub write-short : length o < length (stored (decode t)) →
-        (record { fault = record { number = 11; place = 0 }; bytes = 0 } ≡ planWritten t o) × (o ≡ writtenOut t o)
+        (writtenBy 11 0 ≡ planWritten t o) × (o ≡ writtenOut t o)
     write-short h =
         let k : leb (length (stored (decode t))) (length o) ≡ false = lt-leb (length (stored (decode t))) (length o) h in
         (rw (e, k), rw (e, k))
 
     pub write-fine : (n : ℕ) → length (stored (decode t)) ≤ length o → n ≡ length (stored (decode t)) →
-        record { fault = record { number = 0; place = 0 }; bytes = n } ≡ planWritten t o
+        writtenBy 0 n ≡ planWritten t o
     write-fine n h l =
         let k : leb (length (stored (decode t))) (length o) ≡ true = le-leb (length (stored (decode t))) (length o) h in
         rw (e, k, l)
 
-    pub write-out : length (stored (decode t)) ≤ length o → writtenOut t o ≡ stored (decode t) ++ drop (length (stored (decode t))) o
+    pub write-out : length (stored (decode t)) ≤ length o → writtenOut t o ≡ atFront (stored (decode t)) o
     write-out h =
         let k : leb (length (stored (decode t))) (length o) ≡ true = le-leb (length (stored (decode t))) (length o) h in
         rw (e, k)
@@ -60,7 +61,7 @@ module _ (n : ℕ) (ws ms : List ℕ) (within : n ≤ length ws) where
 
   pub stored-over : (o : List ℕ) → 4 * n ≤ length o →
       over (4 * n) (marksBytes 0 (map linked ms)) (over 0 (rowsBytes (rowsOf n ws)) o) ≡
-      stored (decodeParts n ws ms) ++ drop (length (stored (decodeParts n ws ms))) o
+      atFront (stored (decodeParts n ws ms)) o
   stored-over o h =
       let l : 4 * n ≡ 0 + length (rowsBytes (rowsOf n ws)) = omega (arith, length-rowsBytes (rowsOf n ws), count-decode n ws ms within) in
       ap (λ (j : ℕ). over j (marksBytes 0 (map linked ms)) (over 0 (rowsBytes (rowsOf n ws)) o)) l ∙
@@ -90,23 +91,23 @@ module _ (x : model.Table) (h : model.isWell x ≡ true) (o : List ℕ) (room : 
   fits-room : length (stored (decode (encode x))) ≤ length o
   fits-room = subst (λ (y : model.Table). length (stored y) ≤ length o) (sym (decode-encode x h)) room
 
-  pub stored-written : planWritten (encode x) o ≡ record { fault = record { number = 0; place = 0 }; bytes = length (stored x) }
+  pub stored-written : planWritten (encode x) o ≡ writtenBy 0 (length (stored x))
   stored-written =
       sym (write-fine (encode x) o (fits-encode x h) (length (stored x)) fits-room (ap (λ (y : model.Table). length (stored y)) (sym
       (decode-encode x h))))
 
-  pub stored-out : writtenOut (encode x) o ≡ stored x ++ drop (length (stored x)) o
+  pub stored-out : writtenOut (encode x) o ≡ atFront (stored x) o
   stored-out =
       write-out (encode x) o (fits-encode x h) fits-room ∙
-      ap (λ (y : model.Table). stored y ++ drop (length (stored y)) o) (decode-encode x h)
+      ap (λ (y : model.Table). atFront (stored y) o) (decode-encode x h)
 
 -- and 2,080 bytes are enough
 module _ (x : model.Table) (h : model.isWell x ≡ true) (o : List ℕ) (room : 2080 ≤ length o) where
   stored-room : length (stored x) ≤ length o
   stored-room = omega (arith, stored-fits x h)
 
-  pub well-written : planWritten (encode x) o ≡ record { fault = record { number = 0; place = 0 }; bytes = length (stored x) }
+  pub well-written : planWritten (encode x) o ≡ writtenBy 0 (length (stored x))
   well-written = stored-written x h o stored-room
 
-  pub well-out : writtenOut (encode x) o ≡ stored x ++ drop (length (stored x)) o
+  pub well-out : writtenOut (encode x) o ≡ atFront (stored x) o
   well-out = stored-out x h o stored-room

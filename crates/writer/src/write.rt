@@ -113,21 +113,9 @@ pub fn fitting(table: Table, out: &mut [u8]) -> Written
     let count = table.count;
     let length = stored_length(count, &table.marks);
     if out.len() < length {
-        return Written {
-            fault: Fault {
-                number: Fault::LENT,
-                place: 0,
-            },
-            bytes: 0,
-        };
+        return Written::by(Fault::LENT, 0);
     }
     rows(out, &table.rows, count);
     marks(out, &table.marks, stored::SIZE * count);
-    Written {
-        fault: Fault {
-            number: 0,
-            place: 0,
-        },
-        bytes: length,
-    }
+    Written::by(0, length)
 }

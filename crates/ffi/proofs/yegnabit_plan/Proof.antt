@@ -1,7 +1,7 @@
 -- `yegnabit_plan` answers and leaves what reading and writing back owe, by its two ways out.
 use Rattle.ffi.proofs.FittingLaws.{bytes-known, read-fits}
 use Rattle.ffi.proofs.CallLaws.{area-short, area-fits}
-use Rattle.lent.specs.Codes.{finishedCode, finishedOut}
+use Rattle.codes.specs.Codes.{finishedCode, finishedOut}
 use Rattle.table.specs.Words.{fits}
 use Rattle.table.specs.declared.TableResult.{TableResult}
 use mathlib.Core.Path.{_∙_, ap}

@@ -1,7 +1,7 @@
 -- `yegnabit_sweep` answers and leaves what reading, sweeping and writing owe, by its three ways out.
 use Rattle.ffi.proofs.FittingLaws.{bytes-known, read-fits, swept-fits}
 use Rattle.ffi.proofs.CallLaws.{area-short, plan-refused, plan-done}
-use Rattle.lent.specs.Codes.{finishedCode, finishedOut}
+use Rattle.codes.specs.Codes.{finishedCode, finishedOut}
 use Rattle.sweep.specs.Sweeping.{planSwept}
 use Rattle.table.specs.Words.{fits}
 use Rattle.table.specs.declared.TableResult.{TableResult}

@@ -1,7 +1,7 @@
 -- `yegnabit_undo` answers and leaves what reading, taking back and writing owe, by its three ways out.
 use Rattle.ffi.proofs.FittingLaws.{bytes-known, read-fits, undone-fits}
 use Rattle.ffi.proofs.CallLaws.{area-short, plan-refused, plan-done}
-use Rattle.lent.specs.Codes.{finishedCode, finishedOut}
+use Rattle.codes.specs.Codes.{finishedCode, finishedOut}
 use Rattle.undo.specs.Undoing.{planUndone}
 use Rattle.table.specs.Words.{fits}
 use Rattle.table.specs.declared.TableResult.{TableResult}

@@ -9,11 +9,16 @@ use Rattle.plan.proofs.write_plan.Tie as tie
 fits-requires : tie.Need-fits-requires
 fits-requires c κs = search needs
 
+by-requires : tie.Need-by-requires
+by-requires c κs = search needs
+
 returns : tie.Need-returns
 returns c =
-    let c8 = c .before .before .before .before .before .before .before .before in
-    write-ill (c8 .args .t1) (c8 .args .out .now)
-    (sym (c .before .fits2 .ensures) ∙ not-true (c .before .fits2 .result) (c .if1 .taken))
+    let c2 = c .before .before in
+    let c9 = c2 .before .before .before .before .before .before .before in
+    let ill =
+    write-ill (c9 .args .t1) (c9 .args .out .now) (sym (c2 .fits2 .ensures) ∙ not-true (c2 .fits2 .result) (c .before .if1 .taken)) in
+    (c .by .ensures ∙ ill .0, ill .1)
 
 fitting-requires : tie.Need-fitting-requires
 fitting-requires c κs = sym (c .before .before .fits2 .ensures) ∙ not-false (c .before .before .fits2 .result) (c .before .if1 .left)
@@ -25,4 +30,4 @@ returns-2 : tie.Need-returns-2
 returns-2 c = search needs
 
 pub write-plan-spec : {M : Type 1} → statement M
-write-plan-spec = tie.close (tie.spec fits-requires returns fitting-requires same-length returns-2)
+write-plan-spec = tie.close (tie.spec fits-requires by-requires returns fitting-requires same-length returns-2)

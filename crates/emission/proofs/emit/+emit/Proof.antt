@@ -56,22 +56,22 @@ emit-claims t = (
 )
 
 -- where there is an operand: one at least, two, three; and the place of the first
-some-at : (t : ℕ) (c : emit-lts.Else1 (emit-claims t) (emit-at t) emit.Post) →
+one-at : (t : ℕ) (c : emit-lts.Else1 (emit-claims t) (emit-at t) emit.Post) →
     let a = c .before .before .before .before .before .before .args in 0 < arity (getD (a .bytes .now) (a .at) 0)
-some-at t c = omega (arith, c .before .before .arity .ensures .0, c .if1 .left)
+one-at t c = omega (arith, c .before .before .arity .ensures .0, c .if1 .left)
 
-more-at : (t : ℕ) (c : emit-lts.Else2 (emit-claims t) (emit-at t) emit.Post) →
+two-at : (t : ℕ) (c : emit-lts.Else2 (emit-claims t) (emit-at t) emit.Post) →
     let a = c .before .before .before .before .before .before .before .before .before .before .before .args in
     1 < arity (getD (a .bytes .now) (a .at) 0)
-more-at t c =
+two-at t c =
     let c5 = c .before .before .before .before .before in
     omega (arith, c5 .before .before .arity .ensures .0, c5 .if1 .left, c .if2 .left)
 
-most-at : (t : ℕ) (c : emit-lts.Else3 (emit-claims t) (emit-at t) emit.Post) →
+three-at : (t : ℕ) (c : emit-lts.Else3 (emit-claims t) (emit-at t) emit.Post) →
     let c7 = c .before .before .before .before .before .before .before in
     let a = c7 .before .before .before .before .before .before .before .before .before .before .before .args in
     2 < arity (getD (a .bytes .now) (a .at) 0)
-most-at t c =
+three-at t c =
     let c7 = c .before .before .before .before .before .before .before in
     let c12 = c7 .before .before .before .before .before in
     omega (arith, c12 .before .before .arity .ensures .0, c12 .if1 .left, c7 .if2 .left, c .if3 .left)
@@ -132,7 +132,7 @@ emit-emit-requires : (t : ℕ) → emit-lts.Need-emit-requires (emit-claims t) (
 emit-emit-requires t c κs =
     let c7 = c .before .before .before .before .before .before .before in (
       omega (arith, c7 .pre .0, accepted-record (c7 .pre .1 .accepted) .depth),
-      first-asks (c7 .pre .1) (some-at t (c .before)) (first-at t (c .before)),
+      first-asks (c7 .pre .1) (one-at t (c .before)) (first-at t (c .before)),
     )
 
 emit-unary-requires : (t : ℕ) → emit-lts.Need-unary-requires (emit-claims t) (emit-at t) emit.Post
@@ -141,7 +141,7 @@ emit-unary-requires t c κs =
     let c6 = c4 .before .before in
     let c8 = c6 .before .before in
     let c12 = c8 .before .before .before .before in
-    unary-asks (c12 .pre .1) (some-at t c6) (first-at t c6) (c4 .emit .ensures) (sym (c8 .arity .ensures .0) ∙ c .before .if2 .taken)
+    unary-asks (c12 .pre .1) (one-at t c6) (first-at t c6) (c4 .emit .ensures) (sym (c8 .arity .ensures .0) ∙ c .before .if2 .taken)
 
 emit-same-length-2 : (t : ℕ) → emit-lts.Need-same-length-2 (emit-claims t) (emit-at t) emit.Post
 emit-same-length-2 t c = search needs
@@ -153,7 +153,7 @@ emit-returns-2 t c =
     let c9 = c7 .before .before in
     let c11 = c9 .before .before in
     let c15 = c11 .before .before .before .before in
-    unary-emits (c15 .pre .1) (some-at t c9) (first-at t c9) (c7 .emit .ensures) (sym (c11 .arity .ensures .0) ∙ c4 .if2 .taken)
+    unary-emits (c15 .pre .1) (one-at t c9) (first-at t c9) (c7 .emit .ensures) (sym (c11 .arity .ensures .0) ∙ c4 .if2 .taken)
     (c .before .before .unary .ensures)
 
 emit-bind-requires : (t : ℕ) → emit-lts.Need-bind-requires (emit-claims t) (emit-at t) emit.Post
@@ -161,7 +161,7 @@ emit-bind-requires t c κs =
     let c3 = c .before .before .before in
     let c5 = c3 .before .before in
     let c11 = c5 .before .before .before .before .before .before in
-    bind-asks (c11 .pre .1) (some-at t c5) (first-at t c5) (c3 .emit .ensures) (more-at t c)
+    bind-asks (c11 .pre .1) (one-at t c5) (first-at t c5) (c3 .emit .ensures) (two-at t c)
 
 emit-sub-emit-2 : (t : ℕ) → emit-lts.Need-sub-emit-2 (emit-claims t) (emit-at t) emit.Post
 emit-sub-emit-2 t c =
@@ -180,8 +180,8 @@ emit-emit-requires-2 t c κs =
     let c8 = c6 .before .before in
     let c14 = c8 .before .before .before .before .before .before in (
       omega (arith, c14 .pre .0, accepted-record (c14 .pre .1 .accepted) .depth),
-      second-asks (c14 .pre .1) (some-at t c8) (first-at t c8) (c6 .emit .ensures) (c .before .before .bind .ensures)
-          (c .before .inner .ensures) (more-at t c3),
+      second-asks (c14 .pre .1) (one-at t c8) (first-at t c8) (c6 .emit .ensures) (c .before .before .bind .ensures)
+          (c .before .inner .ensures) (two-at t c3),
     )
 
 emit-binary-requires : (t : ℕ) → emit-lts.Need-binary-requires (emit-claims t) (emit-at t) emit.Post
@@ -194,7 +194,7 @@ emit-binary-requires t c κs =
     let c13 = c11 .before .before in
     let c15 = c13 .before .before in
     let c19 = c15 .before .before .before .before in
-    binary-asks (c19 .pre .1) (some-at t c13) (first-at t c13) (c11 .emit .ensures) (c7 .bind .ensures) (c6 .inner .ensures) (more-at t c8)
+    binary-asks (c19 .pre .1) (one-at t c13) (first-at t c13) (c11 .emit .ensures) (c7 .bind .ensures) (c6 .inner .ensures) (two-at t c8)
     (c4 .emit2 .ensures) (sym (c15 .arity .ensures .0) ∙ c .before .if3 .taken)
 
 emit-same-length-3 : (t : ℕ) → emit-lts.Need-same-length-3 (emit-claims t) (emit-at t) emit.Post
@@ -211,8 +211,8 @@ emit-returns-3 t c =
     let c16 = c14 .before .before in
     let c18 = c16 .before .before in
     let c22 = c18 .before .before .before .before in
-    binary-emits (c22 .pre .1) (some-at t c16) (first-at t c16) (c14 .emit .ensures) (c10 .bind .ensures) (c9 .inner .ensures)
-    (more-at t c11) (c7 .emit2 .ensures) (sym (c18 .arity .ensures .0) ∙ c4 .if3 .taken) (c .before .before .binary .ensures)
+    binary-emits (c22 .pre .1) (one-at t c16) (first-at t c16) (c14 .emit .ensures) (c10 .bind .ensures) (c9 .inner .ensures)
+    (two-at t c11) (c7 .emit2 .ensures) (sym (c18 .arity .ensures .0) ∙ c4 .if3 .taken) (c .before .before .binary .ensures)
 
 emit-sub-emit-3 : (t : ℕ) → emit-lts.Need-sub-emit-3 (emit-claims t) (emit-at t) emit.Post
 emit-sub-emit-3 t c =
@@ -231,8 +231,8 @@ emit-emit-requires-3 t c κs =
     let c13 = c11 .before .before in
     let c19 = c13 .before .before .before .before .before .before in (
       omega (arith, c19 .pre .0, accepted-record (c19 .pre .1 .accepted) .depth),
-      third-asks (c19 .pre .1) (some-at t c13) (first-at t c13) (c11 .emit .ensures) (c7 .bind .ensures) (c6 .inner .ensures)
-          (more-at t c8) (c4 .emit2 .ensures) (most-at t (c .before)),
+      third-asks (c19 .pre .1) (one-at t c13) (first-at t c13) (c11 .emit .ensures) (c7 .bind .ensures) (c6 .inner .ensures)
+          (two-at t c8) (c4 .emit2 .ensures) (three-at t (c .before)),
     )
 
 emit-union-requires : (t : ℕ) → emit-lts.Need-union-requires (emit-claims t) (emit-at t) emit.Post
@@ -246,8 +246,8 @@ emit-union-requires t c κs =
     let c15 = c12 .before .before .before in
     let c17 = c15 .before .before in
     let c23 = c17 .before .before .before .before .before .before in
-    union-asks (c23 .pre .1) (some-at t c17) (first-at t c17) (c15 .emit .ensures) (c11 .bind .ensures) (c10 .inner .ensures)
-    (more-at t c12) (c8 .emit2 .ensures) (most-at t c5) (c3 .emit3 .ensures)
+    union-asks (c23 .pre .1) (one-at t c17) (first-at t c17) (c15 .emit .ensures) (c11 .bind .ensures) (c10 .inner .ensures)
+    (two-at t c12) (c8 .emit2 .ensures) (three-at t c5) (c3 .emit3 .ensures)
 
 emit-same-length-4 : (t : ℕ) → emit-lts.Need-same-length-4 (emit-claims t) (emit-at t) emit.Post
 emit-same-length-4 t c = search needs
@@ -263,8 +263,8 @@ emit-returns-4 t c =
     let c18 = c15 .before .before .before in
     let c20 = c18 .before .before in
     let c26 = c20 .before .before .before .before .before .before in
-    union-emits (c26 .pre .1) (some-at t c20) (first-at t c20) (c18 .emit .ensures) (c14 .bind .ensures) (c13 .inner .ensures)
-    (more-at t c15) (c11 .emit2 .ensures) (most-at t c8) (c6 .emit3 .ensures) (c .before .before .union .ensures)
+    union-emits (c26 .pre .1) (one-at t c20) (first-at t c20) (c18 .emit .ensures) (c14 .bind .ensures) (c13 .inner .ensures)
+    (two-at t c15) (c11 .emit2 .ensures) (three-at t c8) (c6 .emit3 .ensures) (c .before .before .union .ensures)
 
 pub +emit-spec : {M : Type 1} → statement M
 +emit-spec = close μ-emit λ t. emit-lts.spec (emit-claims t)

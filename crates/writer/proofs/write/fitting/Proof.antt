@@ -37,10 +37,15 @@ stored-length-requires c κs =
     let c4 = c .before .before .before .before in
     (fit (c4) .few, size (c4) .marks)
 
+by-requires : tie.Need-by-requires
+by-requires c κs = search needs
+
 returns : tie.Need-returns
 returns c =
-    let c6 = c .before .before .before .before .before .before in
-    write-short (c6 .args .t1) (c6 .args .out .now) (c6 .pre) (omega (arith, long (c .before), c .if1 .taken))
+    let c2 = c .before .before in
+    let c7 = c2 .before .before .before .before .before in
+    let short = write-short (c7 .args .t1) (c7 .args .out .now) (c7 .pre) (omega (arith, long c2, c .before .if1 .taken)) in
+    (c .by .ensures ∙ short .0, short .1)
 
 rows-requires : tie.Need-rows-requires
 rows-requires c κs =
@@ -91,36 +96,50 @@ marks-requires c κs =
       );
     }
 
+by-requires-2 : tie.Need-by-requires-2
+by-requires-2 c κs = search needs
+
 same-length : tie.Need-same-length
 same-length c = search needs
 
 returns-2 : tie.Need-returns-2
 returns-2 c =
-    let c9 = c .before .before .before .before .before .before .before .before .before in
-    let c14 = c9 .before .before .before .before .before in
-    let c15 = c14 .before in
-    let c20 = c15 .before .before .before .before .before in
-    let h = long (c15) in (
-      write-fine (c20 .args .t1) (c20 .args .out .now) (c20 .pre) (c15 .stored-length .result) (omega (
-        arith,
-        h,
-        c14 .if1 .left,
-      )) h,
-      c .before .before .marks .ensures ∙ ap (over (4 * c20 .args .t1 .count) (marksBytes 0 (map linked (c20 .args .t1 .marks)))) (c9
-          .rows .ensures) ∙
-          stored-over (c20 .args .t1 .count) (c20 .args .t1 .rows) (c20 .args .t1 .marks) (within (c20)) (c20 .args .out .now)
-          (omega (
-            arith,
-            c15 .stored-length .ensures,
-            c14 .if1 .left,
-          )) ∙
-          sym (write-out (c20 .args .t1) (c20 .args .out .now) (c20 .pre) (omega (
+    let c10 = c .before .before .before .before .before .before .before .before .before .before in
+    let c15 = c10 .before .before .before .before .before in
+    let c16 = c15 .before in
+    let c21 = c16 .before .before .before .before .before in
+    let h = long (c16) in (
+      c .by2 .ensures ∙
+          write-fine (c21 .args .t1) (c21 .args .out .now) (c21 .pre) (c16 .stored-length .result) (omega (
             arith,
             h,
-            c14 .if1 .left,
+            c15 .if1 .left,
+          )) h,
+      c .before .before .before .marks .ensures ∙
+          ap (over (4 * c21 .args .t1 .count) (marksBytes 0 (map linked (c21 .args .t1 .marks)))) (c10 .rows .ensures) ∙
+          stored-over (c21 .args .t1 .count) (c21 .args .t1 .rows) (c21 .args .t1 .marks) (within (c21)) (c21 .args .out .now)
+          (omega (
+            arith,
+            c16 .stored-length .ensures,
+            c15 .if1 .left,
+          )) ∙
+          sym (write-out (c21 .args .t1) (c21 .args .out .now) (c21 .pre) (omega (
+            arith,
+            h,
+            c15 .if1 .left,
           ))),
     )
 
 pub fitting-spec : {M : Type 1} → statement M
 fitting-spec =
-    tie.close (tie.spec stored-length-requires returns rows-requires mul-marks marks-requires same-length returns-2)
+    tie.close
+    (tie.spec
+    stored-length-requires
+    by-requires
+    returns
+    rows-requires
+    mul-marks
+    marks-requires
+    by-requires-2
+    same-length
+    returns-2)

@@ -3,7 +3,6 @@ use mathlib.Core.List.{List}
 use Prim.Native.Nat.{ℕ, _+_, _*_, _%_}
 use lib.Dec.{eqb}
 use Rattle.model.specs.Base.{pick}
-use Rattle.model.specs.Limits.{maxRows, documents}
 use Rattle.writer.specs.Writing.{planWritten, writtenOut}
 use Rattle.table.specs.declared.TableResult.{TableResult}
 use Rattle.table.specs.declared.Written.{Written}
@@ -15,14 +14,6 @@ codeOf n w i = n + 256 * w + 65536 * (i % 281474976710656)
 -- 11 at place 0 for an area too short
 abbrev pub lentCode : ℕ
 lentCode = codeOf 11 0 0
-
--- what out needs, 2,080: four bytes for each row and mark of the longest plan
-abbrev pub outNeed : ℕ
-outNeed = 4 * (maxRows + documents)
-
--- what done needs: six numbers
-abbrev pub doneNeed : ℕ
-doneNeed = 6
 
 -- a plan written: its bytes as the place, or the refusal of the area
 abbrev pub writtenCode : Written → ℕ

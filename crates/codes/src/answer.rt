@@ -2,7 +2,7 @@
 ghost use mathlib.Core.Path.{_≡_};
 ghost use mathlib.Core.Bool.{true};
 ghost use Rattle.table.specs.Words.{fits};
-ghost use Rattle.lent.specs.Codes.{codeOf, finishedCode, finishedOut};
+ghost use Rattle.codes.specs.Codes.{codeOf, finishedCode, finishedOut};
 use table::TableResult;
 use writer::write;
 

@@ -1,8 +1,8 @@
 -- `answer::finish` answers and leaves what a call that gives a table owes at its end.
-use Rattle.lent.proofs.EndLaws.{finish-refused, finish-written}
+use Rattle.codes.proofs.FinishLaws.{finish-refused, finish-written}
 use borrow.Author.Needs.{needs}
-use Rattle.lent.proofs.answer.finish.Statement.{statement}
-use Rattle.lent.proofs.answer.finish.Tie as tie
+use Rattle.codes.proofs.answer.finish.Statement.{statement}
+use Rattle.codes.proofs.answer.finish.Tie as tie
 
 code-requires : tie.Need-code-requires
 code-requires c κs = search needs
