@@ -7,8 +7,8 @@ use lib.ListN.{length}
 use Rattle.table.specs.declared.Fault.{Fault}
 use Rattle.format.specs.Text.{ascii, Placed, Field}
 use Rattle.lines.specs.Lines.{newline, fileLine, answerLine, orderLine, NamePre, FileLine, AnswerLine, OrderLine}
-use Rattle.sequence.specs.declared.orders.Order.{Order}
-use Rattle.sequence.specs.declared.orders.Order.the-variants.{Stopped, Ended}
+use Rattle.lines.specs.declared.line.Order.{Order}
+use Rattle.lines.specs.declared.line.Order.the-variants.{Stopped, Ended}
 use Rattle.format.proofs.TextLaws.{placed-then}
 
 -- a refused file

@@ -4,8 +4,8 @@ use Prim.Native.Nat.{ℕ, _+_, _≤_}
 use lib.ListN.{length}
 use Rattle.table.specs.declared.Fault.{Fault}
 use Rattle.format.specs.Text.{ascii, field, Placed}
-use Rattle.sequence.specs.declared.orders.Order.{Order}
-use Rattle.sequence.specs.declared.orders.Order.the-variants.{Stopped, Ended}
+use Rattle.lines.specs.declared.line.Order.{Order}
+use Rattle.lines.specs.declared.line.Order.the-variants.{Stopped, Ended}
 
 abbrev pub newline : List ℕ
 newline = 0x0A ∷ []

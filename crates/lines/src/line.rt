@@ -2,8 +2,20 @@
 ghost use Rattle.lines.specs.Lines.{FileLine, AnswerLine, OrderLine, NamePre};
 use format::number;
 use format::text;
-use sequence::orders::Order;
 use table::Fault;
+
+// How an order ended: the script refused, 1 or 2, and the number; or the items of the two answers and the rows at the end.
+pub enum Order {
+    Stopped {
+        script: u8,
+        number: u8,
+    },
+    Ended {
+        first: usize,
+        second: usize,
+        rows: usize,
+    },
+}
 
 // A refused file: its name, number and place. The only line, at the start of the area.
 pub fn put_file(out: &mut [u8], name: &[u8], fault: Fault) -> usize

@@ -8,6 +8,7 @@ use table::Table;
 use table::TableResult;
 use table::Written;
 use table::fit;
+use table::results;
 use writer::write;
 
 // Reads a stored plan; refused, the table is the empty one.
@@ -18,7 +19,7 @@ pub fn read_plan(bytes: &[u8]) -> TableResult
     let mut marks = [0u16; Table::DOCUMENTS];
     let end = read::records(bytes, &mut rows, &mut marks);
     if end.number != 0 {
-        return fit::refused(end.number, end.place, Table::empty());
+        return results::refused(end.number, end.place, Table::empty());
     }
     TableResult {
         fault: Fault {
@@ -40,7 +41,7 @@ pub fn write_plan(table: Table, out: &mut [u8]) -> Written
 {
     let count = table.count;
     if !fit::fits(count, &table.rows, &table.marks) {
-        return Written::by(Fault::LINK, 0);
+        return results::written(Fault::LINK, 0);
     }
     write::fitting(table, out)
 }

@@ -23,7 +23,7 @@ use Rattle.format.specs.Text.{ascii, Placed}
 use Rattle.sequence.specs.Orders.{order, swap}
 use Rattle.lines.specs.Lines.{fileLine, answerLine, orderLine, FileLine}
 use Rattle.report.specs.Pair.{threeLines, textBy, planText, pairText, Report, Counted, pairWritten, pairOut}
-use Rattle.sequence.specs.declared.orders.Order.{Order}
+use Rattle.lines.specs.declared.line.Order.{Order}
 use Rattle.format.proofs.TextLaws.{placed-then}
 
 -- THREE LINES

@@ -9,6 +9,7 @@ use sequence::orders;
 use table::Fault;
 use table::Table;
 use table::Written;
+use table::results;
 
 // The bytes that the lines take at most.
 pub const ROOM: usize = 160;
@@ -57,13 +58,13 @@ pub fn pair(plan: &[u8], first: &[u8], second: &[u8], out: &mut [u8]) -> Written
     ensures { λ r. ⌜ Counted (r .bytes) (now (out .exit)) ⌝ }
 {
     if out.len() < ROOM {
-        return Written::by(Fault::LENT, 0);
+        return results::written(Fault::LENT, 0);
     }
     let read = plan::read_plan(plan);
     let fault = read.fault;
     if fault.number != 0 {
-        return Written::by(0, line::put_file(out, b"plan", fault));
+        return results::written(0, line::put_file(out, b"plan", fault));
     }
     let analysis = paths::analyse(first, second);
-    Written::by(0, answer_lines(out, analysis, read.table, first, second))
+    results::written(0, answer_lines(out, analysis, read.table, first, second))
 }

@@ -21,8 +21,8 @@ use Rattle.table.specs.Words.{encode}
 use Rattle.sequence.specs.Orders.{endingBy, ending, orderThen, orderFrom, order, swap}
 use Rattle.sequence.specs.Promise.{hasEnded, FreeLines}
 use Rattle.sequence.specs.declared.orders.Ending.{Ending}
-use Rattle.sequence.specs.declared.orders.Order.{Order}
-use Rattle.sequence.specs.declared.orders.Order.the-variants.{Stopped, Ended}
+use Rattle.lines.specs.declared.line.Order.{Order}
+use Rattle.lines.specs.declared.line.Order.the-variants.{Stopped, Ended}
 use Rattle.run.proofs.OutcomeLaws.{outcome-well}
 use Rattle.model.proofs.BoolLaws.{pick-false}
 

@@ -16,8 +16,8 @@ use Rattle.run.specs.Calls.{outcomeOf, ran, runResult}
 use Rattle.run.specs.declared.RunResult.{RunResult}
 use Rattle.sequence.specs.Orders.{endingBy, ending, orderThen, orderFrom, order, swap}
 use Rattle.sequence.specs.declared.orders.Ending.{Ending}
-use Rattle.sequence.specs.declared.orders.Order.{Order}
-use Rattle.sequence.specs.declared.orders.Order.the-variants.{Stopped, Ended}
+use Rattle.lines.specs.declared.line.Order.{Order}
+use Rattle.lines.specs.declared.line.Order.the-variants.{Stopped, Ended}
 use Rattle.run.proofs.CallLaws.{areas-fit}
 use Rattle.run.proofs.OutcomeLaws.{Refuses, refuses-fine, outcome-refuses}
 

@@ -9,8 +9,8 @@ use Rattle.table.specs.Words.{encode}
 use Rattle.table.specs.declared.Table.{Table}
 use Rattle.run.specs.Calls.{outcomeOf}
 use Rattle.sequence.specs.declared.orders.Ending.{Ending}
-use Rattle.sequence.specs.declared.orders.Order.{Order}
-use Rattle.sequence.specs.declared.orders.Order.the-variants.{Stopped, Ended}
+use Rattle.lines.specs.declared.line.Order.{Order}
+use Rattle.lines.specs.declared.line.Order.the-variants.{Stopped, Ended}
 
 -- A RUN of a script on a table, as `ran` has it for all areas that suffice: refused, with its number; or its items and the table after it
 abbrev pub endingBy : Table → Out → Ending

@@ -10,8 +10,8 @@ use Rattle.model.specs.Meeting.{free}
 use Rattle.model.specs.Call.{analyse, answered}
 use Rattle.table.specs.Words.{encode}
 use Rattle.sequence.specs.Orders.{order, swap}
-use Rattle.sequence.specs.declared.orders.Order.{Order}
-use Rattle.sequence.specs.declared.orders.Order.the-variants.{Stopped, Ended}
+use Rattle.lines.specs.declared.line.Order.{Order}
+use Rattle.lines.specs.declared.line.Order.the-variants.{Stopped, Ended}
 
 abbrev pub hasEnded : Order → Bool
 hasEnded (Stopped s n) = false

@@ -3,6 +3,7 @@ ghost use mathlib.Core.Path.{_≡_};
 ghost use lib.ListN.{length};
 ghost use Rattle.model.specs.Limits.{answerNeed, historyNeed, workNeed};
 ghost use Rattle.sequence.specs.Orders.{ending, order, swap};
+use lines::line::Order;
 use table::Table;
 
 // How a run ended: the number of its refusal, or 0; the items of its answer; the table after it.
@@ -10,19 +11,6 @@ struct Ending {
     number: u8,
     items: usize,
     table: Table,
-}
-
-// How an order ended: the script refused, 1 or 2, and the number; or the items of the two answers and the rows at the end.
-pub enum Order {
-    Stopped {
-        script: u8,
-        number: u8,
-    },
-    Ended {
-        first: usize,
-        second: usize,
-        rows: usize,
-    },
 }
 
 // The areas of a run, of the lengths that it needs.

@@ -5,6 +5,7 @@ use table::Fault;
 use table::Table;
 use table::TableResult;
 use table::fit;
+use table::results;
 
 mod sweep;
 
@@ -14,7 +15,7 @@ pub fn sweep_table(table: Table) -> TableResult
 {
     let count = table.count;
     if !fit::fits(count, &table.rows, &table.marks) {
-        return fit::refused(Fault::LINK, 0, table);
+        return results::refused(Fault::LINK, 0, table);
     }
     let mut numbers = [0u16; Table::LINKS];
     let mut rows = [0u32; Table::ROWS];

@@ -3,13 +3,9 @@ ghost use mathlib.Core.Path.{_≡_};
 ghost use Prim.Native.Nat.{_≤_, _<_};
 ghost use lib.ListN.{length, drop};
 ghost use Rattle.model.specs.Base.{all};
-ghost use Rattle.model.specs.Refusal.{fault};
-ghost use Rattle.table.specs.Results.{asItWas};
 ghost use Rattle.table.specs.Words.{isZero, partsFit};
 ghost use Rattle.table.specs.Fitting.{Words, tagFits, linkFits, rowFits, rowsFit, markFits, marksFit};
-use crate::Fault;
 use crate::Table;
-use crate::TableResult;
 use crate::marks;
 use crate::number;
 use crate::words;
@@ -139,14 +135,4 @@ pub fn fits<'a>(count: usize, rows: &'a [u32], marks: &'a [u16]) -> bool
         return false;
     }
     marks_fit(rows, count, marks)
-}
-
-// A refusal, and the table given back with it.
-pub fn refused(number: u8, place: usize, table: Table) -> TableResult
-    ensures { λ r. ⌜ r ≡ asItWas (fault number place) table ⌝ }
-{
-    TableResult {
-        fault: Fault { number, place },
-        table,
-    }
 }

@@ -1,12 +1,12 @@
 // The plan table: its type with its limits, the check of a table handed in, the kinds and size of its stored records.
 ghost use mathlib.Core.Path.{_≡_};
 ghost use Rattle.model.specs.Table.{empty};
-ghost use Rattle.table.specs.Results.{writtenBy};
 ghost use Rattle.table.specs.Words.{encode};
 
 pub mod fit;
 pub mod marks;
 pub mod number;
+pub mod results;
 pub mod stored;
 pub mod words;
 
@@ -93,16 +93,4 @@ pub struct TableResult {
 pub struct Written {
     pub fault: Fault,
     pub bytes: usize,
-}
-
-impl Written {
-    // Refused at place 0, or number 0 and so many bytes.
-    pub fn by(number: u8, bytes: usize) -> Written
-        ensures { λ r. ⌜ r ≡ writtenBy number bytes ⌝ }
-    {
-        Written {
-            fault: Fault { number, place: 0 },
-            bytes,
-        }
-    }
 }

@@ -5,6 +5,7 @@ use table::Fault;
 use table::Table;
 use table::TableResult;
 use table::fit;
+use table::results;
 
 mod undoing;
 
@@ -14,12 +15,12 @@ pub fn undo(table: Table, history: &[u8]) -> TableResult
 {
     let count = table.count;
     if !fit::fits(count, &table.rows, &table.marks) {
-        return fit::refused(Fault::LINK, 0, table);
+        return results::refused(Fault::LINK, 0, table);
     }
     let mut places = [0u16; Table::HISTORY_RECORDS];
     let form = undoing::form(history, &mut places);
     if form.number != 0 {
-        return fit::refused(form.number, form.place, table);
+        return results::refused(form.number, form.place, table);
     }
     let mut rows = table.rows;
     let back = undoing::undo_all(
@@ -31,7 +32,7 @@ pub fn undo(table: Table, history: &[u8]) -> TableResult
         form.records,
     );
     if back.number != 0 {
-        return fit::refused(back.number, back.place, table);
+        return results::refused(back.number, back.place, table);
     }
     let marks = table.marks;
     TableResult {

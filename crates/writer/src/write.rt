@@ -13,6 +13,7 @@ use table::Fault;
 use table::Table;
 use table::Written;
 use table::number;
+use table::results;
 use table::stored;
 use table::words;
 
@@ -113,9 +114,9 @@ pub fn fitting(table: Table, out: &mut [u8]) -> Written
     let count = table.count;
     let length = stored_length(count, &table.marks);
     if out.len() < length {
-        return Written::by(Fault::LENT, 0);
+        return results::written(Fault::LENT, 0);
     }
     rows(out, &table.rows, count);
     marks(out, &table.marks, stored::SIZE * count);
-    Written::by(0, length)
+    results::written(0, length)
 }

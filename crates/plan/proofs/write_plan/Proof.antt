@@ -9,8 +9,8 @@ use Rattle.plan.proofs.write_plan.Tie as tie
 fits-requires : tie.Need-fits-requires
 fits-requires c κs = search needs
 
-by-requires : tie.Need-by-requires
-by-requires c κs = search needs
+written-requires : tie.Need-written-requires
+written-requires c κs = search needs
 
 returns : tie.Need-returns
 returns c =
@@ -18,7 +18,7 @@ returns c =
     let c9 = c2 .before .before .before .before .before .before .before in
     let ill =
     write-ill (c9 .args .t1) (c9 .args .out .now) (sym (c2 .fits2 .ensures) ∙ not-true (c2 .fits2 .result) (c .before .if1 .taken)) in
-    (c .by .ensures ∙ ill .0, ill .1)
+    (c .written .ensures ∙ ill .0, ill .1)
 
 fitting-requires : tie.Need-fitting-requires
 fitting-requires c κs = sym (c .before .before .fits2 .ensures) ∙ not-false (c .before .before .fits2 .result) (c .before .if1 .left)
@@ -30,4 +30,4 @@ returns-2 : tie.Need-returns-2
 returns-2 c = search needs
 
 pub write-plan-spec : {M : Type 1} → statement M
-write-plan-spec = tie.close (tie.spec fits-requires by-requires returns fitting-requires same-length returns-2)
+write-plan-spec = tie.close (tie.spec fits-requires written-requires returns fitting-requires same-length returns-2)

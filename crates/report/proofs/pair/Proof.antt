@@ -5,13 +5,13 @@ use borrow.Author.Needs.{needs}
 use Rattle.report.proofs.pair.Statement.{statement}
 use Rattle.report.proofs.pair.Tie as tie
 
-by-requires : tie.Need-by-requires
-by-requires c κs = search needs
+written-requires : tie.Need-written-requires
+written-requires c κs = search needs
 
 returns : tie.Need-returns
 returns c =
     let c6 = c .before .before .before .before .before .before in
-    area-short (c6 .args .plan .now) (c6 .args .first .now) (c6 .args .second .now) (c .before .if1 .taken) (c .by .ensures)
+    area-short (c6 .args .plan .now) (c6 .args .first .now) (c6 .args .second .now) (c .before .if1 .taken) (c .written .ensures)
 
 read-plan-requires : tie.Need-read-plan-requires
 read-plan-requires c κs = search needs
@@ -22,8 +22,8 @@ slice-aggregate-put-file c = search needs
 put-file-requires : tie.Need-put-file-requires
 put-file-requires c κs = search needs
 
-by-requires-2 : tie.Need-by-requires-2
-by-requires-2 c κs = search needs
+written-requires-2 : tie.Need-written-requires-2
+written-requires-2 c κs = search needs
 
 same-length : tie.Need-same-length
 same-length c = search needs
@@ -36,7 +36,7 @@ returns-2 c =
     let c10 = c9 .before in
     let c15 = c10 .before .before .before .before .before in
     plan-refused (c15 .args .plan .now) (c15 .args .first .now) (c15 .args .second .now) (omega (arith, c10 .if1 .left))
-    (c3 .put-file .kept .0) (c .by2 .ensures) (c9 .read-plan .ensures) (c6 .if2 .taken) (c3 .put-file .ensures .text)
+    (c3 .put-file .kept .0) (c .written2 .ensures) (c9 .read-plan .ensures) (c6 .if2 .taken) (c3 .put-file .ensures .text)
     (omega (arith, c3 .put-file .ensures .few))
 
 analyse-requires : tie.Need-analyse-requires
@@ -45,8 +45,8 @@ analyse-requires c κs = search needs
 answer-lines-requires : tie.Need-answer-lines-requires
 answer-lines-requires c κs = search needs
 
-by-requires-3 : tie.Need-by-requires-3
-by-requires-3 c κs = search needs
+written-requires-3 : tie.Need-written-requires-3
+written-requires-3 c κs = search needs
 
 same-length-2 : tie.Need-same-length-2
 same-length-2 c = search needs
@@ -60,23 +60,23 @@ returns-3 c =
     let c10 = c9 .before in
     let c15 = c10 .before .before .before .before .before in
     plan-read (c15 .args .plan .now) (c15 .args .first .now) (c15 .args .second .now) (omega (arith, c10 .if1 .left))
-    (c3 .answer-lines .kept .0) (c .by3 .ensures) (c9 .read-plan .ensures) (search (c6 .if2 .left, needs)) (c5 .analyse .ensures)
+    (c3 .answer-lines .kept .0) (c .written3 .ensures) (c9 .read-plan .ensures) (search (c6 .if2 .left, needs)) (c5 .analyse .ensures)
     (c3 .answer-lines .ensures)
 
 pub pair-spec : {M : Type 1} → statement M
 pair-spec =
     tie.close
     (tie.spec
-    by-requires
+    written-requires
     returns
     read-plan-requires
     slice-aggregate-put-file
     put-file-requires
-    by-requires-2
+    written-requires-2
     same-length
     returns-2
     analyse-requires
     answer-lines-requires
-    by-requires-3
+    written-requires-3
     same-length-2
     returns-3)

@@ -37,15 +37,15 @@ stored-length-requires c κs =
     let c4 = c .before .before .before .before in
     (fit (c4) .few, size (c4) .marks)
 
-by-requires : tie.Need-by-requires
-by-requires c κs = search needs
+written-requires : tie.Need-written-requires
+written-requires c κs = search needs
 
 returns : tie.Need-returns
 returns c =
     let c2 = c .before .before in
     let c7 = c2 .before .before .before .before .before in
     let short = write-short (c7 .args .t1) (c7 .args .out .now) (c7 .pre) (omega (arith, long c2, c .before .if1 .taken)) in
-    (c .by .ensures ∙ short .0, short .1)
+    (c .written .ensures ∙ short .0, short .1)
 
 rows-requires : tie.Need-rows-requires
 rows-requires c κs =
@@ -96,8 +96,8 @@ marks-requires c κs =
       );
     }
 
-by-requires-2 : tie.Need-by-requires-2
-by-requires-2 c κs = search needs
+written-requires-2 : tie.Need-written-requires-2
+written-requires-2 c κs = search needs
 
 same-length : tie.Need-same-length
 same-length c = search needs
@@ -109,7 +109,7 @@ returns-2 c =
     let c16 = c15 .before in
     let c21 = c16 .before .before .before .before .before in
     let h = long (c16) in (
-      c .by2 .ensures ∙
+      c .written2 .ensures ∙
           write-fine (c21 .args .t1) (c21 .args .out .now) (c21 .pre) (c16 .stored-length .result) (omega (
             arith,
             h,
@@ -135,11 +135,11 @@ fitting-spec =
     tie.close
     (tie.spec
     stored-length-requires
-    by-requires
+    written-requires
     returns
     rows-requires
     mul-marks
     marks-requires
-    by-requires-2
+    written-requires-2
     same-length
     returns-2)

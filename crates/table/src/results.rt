@@ -1,0 +1,28 @@
+// What calls answer that give a table back or write.
+ghost use mathlib.Core.Path.{_≡_};
+ghost use Rattle.model.specs.Refusal.{fault};
+ghost use Rattle.table.specs.Results.{asItWas, writtenBy};
+use crate::Fault;
+use crate::Table;
+use crate::TableResult;
+use crate::Written;
+
+// A refusal, and the table given back with it.
+pub fn refused(number: u8, place: usize, table: Table) -> TableResult
+    ensures { λ r. ⌜ r ≡ asItWas (fault number place) table ⌝ }
+{
+    TableResult {
+        fault: Fault { number, place },
+        table,
+    }
+}
+
+// Refused at place 0, or number 0 and the bytes written.
+pub fn written(number: u8, bytes: usize) -> Written
+    ensures { λ r. ⌜ r ≡ writtenBy number bytes ⌝ }
+{
+    Written {
+        fault: Fault { number, place: 0 },
+        bytes,
+    }
+}
