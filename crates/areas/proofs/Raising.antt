@@ -1,4 +1,4 @@
--- A tally lent by &mut and raised by a function that takes it by value: the walk that `tally::add_made` and `tally::add_cut` share.
+-- A tally lent by &mut and raised by a function that takes it by value: the walk that `tally::raise_made` and `tally::raise_cut` share.
 --     raises g     the MIR of both: the record is read out and handed to g, and what g returns is stored
 --     raise-meets  at exit the tally is `up` of what it was, where g meets the contract that its result is `up` of the tally
 -- The borrow is opened, g is called, and the borrow is closed at the record that g returned. All that is known of g is that it meets its
@@ -40,6 +40,7 @@ use denote.Triple.Spec.{Meets, tripleOf}
 use denote.Triple.Walked.{says, needs, Stays, stay-ref, stay-none, walkOf, goes-none, goes-ref, Walks, ends-at, walked, walk-meets}
 use denote.Exit.{yes}
 use Rattle.areas.specs.declared.tally.Tally.{Tally}
+use Rattle.areas.specs.Tallying.{HasRoom}
 use Rattle.areas.proofs.tally.Tally as T
 use Rattle.areas.proofs.tally.Tally.Laws as T′
 
@@ -47,143 +48,133 @@ abbrev pub raises : Name → Fn
 raises g = record {
   lifetimes = 1;
   outlives = [];
-  params = 2;
+  params = 1;
   locals = local tyUnit valueLocal ∷ local (tyRef (named 0) mut (pointee (T.the-row .written))) valueLocal ∷ local
-      (tyInt w64) valueLocal ∷ local T′.mir valueLocal ∷ local T′.mir valueLocal ∷ [];
+      T′.mir valueLocal ∷ local T′.mir valueLocal ∷ [];
   body =
-      seq (assign (place 4 []) (rvOpd (copy (place 1 (deref T′.mir ∷ [])))))
-      (seq (call g (copy (place 4 []) ∷ copy (place 2 []) ∷ []) (place 3 []))
-      (seq (assign (place 1 (deref T′.mir ∷ [])) (rvOpd (copy (place 3 []))))
+      seq (assign (place 3 []) (rvOpd (copy (place 1 (deref T′.mir ∷ [])))))
+      (seq (call g (copy (place 3 []) ∷ []) (place 2 []))
+      (seq (assign (place 1 (deref T′.mir ∷ [])) (rvOpd (copy (place 2 []))))
       (seq (assign (place 0 []) (rvOpd opdUnit)) return)));
 }
 
 -- the two signatures: g's, by value, and that of the function that is lent the tally
-abbrev by-value : Ended
+abbrev pub by-value : Ended
 by-value = record {
-  signature = record {
-    lifetimes = 0;
-    outlives = [];
-    params = plain (λ _. T.the-row) ∷ plain (λ _. usize) ∷ [];
-    result = plain
-        (λ _. T.the-row);
-  };
-  kept = (yes, (yes, tt));
+  signature = record { lifetimes = 0; outlives = []; params = plain (λ _. T.the-row) ∷ []; result = plain (λ _. T.the-row) };
+  kept = (yes, tt);
 }
 
-abbrev lent : Ended
+abbrev pub lent : Ended
 lent = record {
   signature = record {
     lifetimes = 1;
     outlives = [];
-    params = RefMutOf (0 ∷ []) tt (plain (λ _. T.the-row)) (λ _. tt) ∷ plain (λ _. usize) ∷ [];
+    params = RefMutOf (0 ∷ []) tt (plain (λ _. T.the-row)) (λ _. tt) ∷ [];
     result = plain (λ _. unit);
   };
-  kept = (yes, (yes, tt));
+  kept = (yes, tt);
 }
 
 abbrev stayed : Stays (lent .signature .params) (lent .kept)
-stayed = (stay-ref (0 ∷ []) tt (plain (λ _. T.the-row)), (stay-none (λ _. usize) yes, tt))
+stayed = (stay-ref (0 ∷ []) tt (plain (λ _. T.the-row)), tt)
 
-abbrev vals : Tally → List Val
+abbrev pub vals : Tally → List Val
 vals = LL.vals T.the-type T′.the-laws
 
-module _ (up : Tally → ℕ → Tally) (Fits : Tally → ℕ → Type 0) {M : Type 1} (𝓤 : URA M) (H : Heap 𝓤) (A : Atoms 𝓤) where
+module _ (up : Tally → Tally) {M : Type 1} (𝓤 : URA M) (H : Heap 𝓤) (A : Atoms 𝓤) where
   -- and the two contracts
-  abbrev ByValue : Clauses 𝓤 by-value
+  abbrev pub ByValue : Clauses 𝓤 by-value
   ByValue κs a = record {
     ghost = Unit {0};
-    requires = λ _. fact 𝓤 (Fits (a .0) (a .1 .0));
-    ensures = λ _ r _. fact 𝓤
-        (r ≡ up (a .0) (a .1 .0));
+    requires = λ _. fact 𝓤 (HasRoom (a .0));
+    ensures = λ _ r _. fact 𝓤 (r ≡ up (a .0));
   }
 
-  abbrev Lent : Clauses 𝓤 lent
+  abbrev pub Lent : Clauses 𝓤 lent
   Lent κs a = record {
     ghost = Unit {0};
-    requires = λ _. fact 𝓤 (Fits (now (a .0)) (a .1 .0));
-    ensures = λ _ _ e. fact 𝓤
-        (now (e .0) ≡ up (now (a .0)) (a .1 .0));
+    requires = λ _. fact 𝓤 (HasRoom (now (a .0)));
+    ensures = λ _ _ e. fact 𝓤 (now (e .0) ≡ up (now (a .0)));
   }
 
   abbrev pub Called : Contract 𝓤
   Called = tripleOf 𝓤 H A (by-value .signature) (closing 𝓤 H A by-value ByValue)
 
-  called-of : (h : Tally) (n : ℕ) (r : Tally) → ent 𝓤 (ensured 𝓤 H A by-value ByValue tt (h, (n, tt)) tt r) (fact 𝓤 (r ≡ up h n))
-  called-of h n r = exE 𝓤 _ (λ ws. snd∗ 𝓤 (sem 𝓤 H A (lasts by-value tt (h, (n, tt)) ws)) (fact 𝓤 (r ≡ up h n)))
+  called-of : (h r : Tally) → ent 𝓤 (ensured 𝓤 H A by-value ByValue tt (h, tt) tt r) (fact 𝓤 (r ≡ up h))
+  called-of h r = exE 𝓤 _ (λ ws. snd∗ 𝓤 (sem 𝓤 H A (lasts by-value tt (h, tt) ws)) (fact 𝓤 (r ≡ up h)))
 
-  module _ (W : Given 𝓤 H A) (κ : Lft) (q : Share) (b o : ℕ) (γ : GName) (h : Tally) (n : ℕ) (n-fits : n < 2 ^ 64) where
-    abbrev x : RefT Tally × (ℕ × Unit {0})
-    x = (record { ptr = (b, o); name = γ; now = h }, (n, tt))
+  module _ (W : Given 𝓤 H A) (κ : Lft) (q : Share) (b o : ℕ) (γ : GName) (h : Tally) where
+    abbrev x : RefT Tally × Unit {0}
+    x = (record { ptr = (b, o); name = γ; now = h }, tt)
 
-    abbrev at : List Val × (List Val × Unit {0})
-    at = (vptr b o ∷ [], (vint w64 n ∷ [], tt))
+    abbrev at : List Val × Unit {0}
+    at = (vptr b o ∷ [], tt)
 
     abbrev Post : Val → SProp 𝓤
     Post = walkOf 𝓤 H A lent stayed Lent .post (((κ, tt), (q, tt), tt, x, at), tt)
 
-    exits : (r : Tally) → r ≡ up h n
+    exits : (r : Tally) → r ≡ up h
         → ent 𝓤 (sep 𝓤 (A .obs γ (T.the-row .coded .code r)) (sep 𝓤 (A .bor κ (Body (mem T.the-row) b o γ)) (A .lft κ q))) (Post vunit)
     exits r e =
         qed W (‵ (fobs γ (T.the-row .coded .code r)) ∷ ‵ (fbor κ (Body (mem T.the-row) b o γ)) ∷ ‵ (flft κ q) ∷ []) ∵
-        suffices ! _ (ends-at 𝓤 H A lent stayed Lent W (((κ, tt), (q, tt), tt, x, at), tt) vunit tt (r, (tt, tt)) (tt, (tt, tt))) $
+        suffices ! _ (ends-at 𝓤 H A lent stayed Lent W (((κ, tt), (q, tt), tt, x, at), tt) vunit tt (r, tt) (tt, tt)) $
         says ! e $ nothing ! $ move ! (3 ∷ 0 ∷ []) $ join ! $ frame ! $ feqI ! (List Val) (vptr b o ∷ []) (vptr b o ∷ []) refl $ fjoin3 ! $
-        nothing ! $ owned ! usize (Is usize) (uint-makes 𝓤 H A W w64) n _ (refl, n-fits) $ fjoin ! $ move ! (1 ∷ 0 ∷ []) $ fjoin ! $
+        nothing ! $ move ! (1 ∷ 0 ∷ []) $ fjoin ! $
         feqI ! (List Val) (vunit ∷ []) (vunit ∷ []) refl $ move ! (1 ∷ 0 ∷ []) $ done !
 
     -- what g's triple binds outside, and what it asks
     abbrev to-called : Called .Ghost
-    to-called = ((tt, tt, tt, (h, (n, tt)), (vals h, (vint w64 n ∷ [], tt))), tt)
+    to-called = ((tt, tt, tt, (h, tt), (vals h, tt)), tt)
 
-    goes : Fits h n → ent 𝓤 (sem 𝓤 H A (T.the-row .own h (vals h))) (Called .pre to-called)
+    goes : HasRoom h → ent 𝓤 (sem 𝓤 H A (T.the-row .own h (vals h))) (Called .pre to-called)
     goes ok =
-        qed W (‵ (T.the-row .own h (vals h)) ∷ []) ∵ says ! ok $ nothing ! $ frame ! $
-        nothing ! $ owned ! usize (Is usize) (uint-makes 𝓤 H A W w64) n _ (refl, n-fits) $ fjoin ! $ move ! (1 ∷ 0 ∷ []) $ fjoin ! $ done !
+        qed W (‵ (T.the-row .own h (vals h)) ∷ []) ∵ says ! ok $ nothing ! $ frame ! $ nothing ! $ move ! (1 ∷ 0 ∷ []) $ fjoin ! $ done !
 
     module _ (C : Calls 𝓤 H) (Λ : Loops 𝓤 H) (fm : FmC 𝓤 H (W .laws) C) (g : Name) (known : Triple 𝓤 (C g) Called) where
-      walk : Fits h n → ent 𝓤 (onEntry 𝓤 H A (lent .signature) (κ, tt) (q, tt) x at)
-          (WpFn 𝓤 H C Λ (raises g) (vptr b o ∷ vint w64 n ∷ []) Post)
+      walk : HasRoom h → ent 𝓤 (onEntry 𝓤 H A (lent .signature) (κ, tt) (q, tt) x at)
+          (WpFn 𝓤 H C Λ (raises g) (vptr b o ∷ []) Post)
       walk ok =
-          qed W ((‵ (flft κ q) ⊛ ‵ ftrue) ∷ ‵ (owns (MutRef (named 0) κ T.the-row ∷ usize ∷ []) x at) ∷ []) ∵
-          enter ! C Λ (raises g) (vptr b o ∷ vint w64 n ∷ []) _ $
-          alloc1 ! (λ l₀. alloc1 ! (λ l₁. alloc1 ! (λ l₂. alloc1 ! (λ l₃. alloc1 ! (λ l₄. alloc0 ! $
-          params1 ! $ pass1 ! (init ! 6 refl (tt, tt)) $ pass1 ! (init ! 4 refl (tt, record { fits = n-fits })) $ pass0 ! $
-          move ! (11 ∷ []) $ fsplit ! $ fsplit3 ! $ drop ! $ move ! (13 ∷ []) $ split ! $ move ! (2 ∷ 3 ∷ 0 ∷ []) $
+          qed W ((‵ (flft κ q) ⊛ ‵ ftrue) ∷ ‵ (owns (MutRef (named 0) κ T.the-row ∷ []) x at) ∷ []) ∵
+          enter ! C Λ (raises g) (vptr b o ∷ []) _ $
+          alloc1 ! (λ l₀. alloc1 ! (λ l₁. alloc1 ! (λ l₂. alloc1 ! (λ l₃. alloc0 ! $
+          params1 ! $ pass1 ! (init ! 4 refl (tt, tt)) $ pass0 ! $
+          move ! (9 ∷ []) $ fsplit ! $ fsplit3 ! $ drop ! $ move ! (11 ∷ []) $ split ! $ move ! (2 ∷ 3 ∷ 0 ∷ []) $
           opens ! tt T.the-row {h = h} b o (λ vs.
           spelt ! T.the-row (Is T.the-row) (shows 𝓤 H A T.the-row) vals (LL.tells T.the-type T′.the-laws) fullShare h vs b o $
           move ! (1 ∷ []) $ peeks ! T.the-row (Is T.the-row) (shows 𝓤 H A T.the-row) h (vals h) (λ was. move ! (1 ∷ 0 ∷ []) $
-          -- [the struct's cell; what a Tally owns; the open borrow; obs; auth; true; n's; _4; …; _3; …; _2; …; _1; …; room for _0; …]
-          assigns ! (of-opd ! (load ! (from ! (hop ! (look ! 13 refl) (stop !))) (look-raw ! 0 refl))) (from ! (stop !))
+          -- [the struct's cell; what a Tally owns; the open borrow; obs; auth; true; true; _3; …; _2; …; _1; …; room for _0; …]
+          assigns ! (of-opd ! (load ! (from ! (hop ! (look ! 11 refl) (stop !))) (look-raw ! 0 refl))) (from ! (stop !))
           (init ! 7 refl (LL.lawful T.the-type T′.the-laws 𝓤 H A W .typed h _ was .0)) $
           move ! (1 ∷ []) $ use1 W (raw (Called .pre to-called)) (goes ok) $ calls-at ! fm Called known to-called
-          (and-then ! (load ! (from ! (stop !)) (look ! 7 refl)) (and-then ! (load ! (from ! (stop !)) (look ! 11 refl)) (no-more !)))
+          (and-then ! (load ! (from ! (stop !)) (look ! 7 refl)) (no-more !))
           (λ v.
           use1 W (later (some (λ (r : Tally). (‵ ftrue ⊛ ‵ (T.the-row .own r (v ∷ []))) ⊛ raw
-          (ensured 𝓤 H A by-value ByValue tt (h, (n, tt)) tt r))))
+          (ensured 𝓤 H A by-value ByValue tt (h, tt) tt r))))
           (id⊢ 𝓤 _) $ await ! tt $ pick ! (λ r. split ! $ move ! (1 ∷ []) $
-          use1 W (raw (fact 𝓤 (r ≡ up h n))) (called-of h n r) $ heard ! (r ≡ up h n) (λ e. split ! $ drop ! $
-          -- [what the new Tally owns; the struct's cell; the open borrow; obs; auth; true; n's; _4; …]
+          use1 W (raw (fact 𝓤 (r ≡ up h))) (called-of h r) $ heard ! (r ≡ up h) (λ e. split ! $ drop ! $
+          -- [what the new Tally owns; the struct's cell; the open borrow; obs; auth; true; true; _3; …]
           peeks ! T.the-row (Is T.the-row) (shows 𝓤 H A T.the-row) r (v ∷ []) (λ is.
           land ! (from ! (stop !)) (init ! 9 refl (LL.lawful T.the-type T′.the-laws 𝓤 H A W .typed r _ is .0)) $ move ! (1 ∷ 0 ∷ []) $
-          assigns ! (of-opd ! (load ! (from ! (stop !)) (look ! 9 refl))) (from ! (hop ! (look ! 13 refl) (stop !)))
+          assigns ! (of-opd ! (load ! (from ! (stop !)) (look ! 9 refl))) (from ! (hop ! (look ! 11 refl) (stop !)))
           (store-raw ! 0 refl (LL.lawful T.the-type T′.the-laws 𝓤 H A W .typed r _ is .0)) $
-          assigns ! (of-opd ! (unit-lit !)) (from ! (stop !)) (init ! 15 refl (tt, tt)) $ closes ! tt T.the-row r (v ∷ []) b o $
-          returns ! (look ! 13 refl) $ forget ! 5 refl $ forget ! 7 refl $ forget ! 9 refl $ forget ! 11 refl $ forget ! 13 refl $
-          move ! (13 ∷ 14 ∷ []) $ free1 ! $ move ! (11 ∷ 12 ∷ []) $ free1 ! $ move ! (9 ∷ 10 ∷ []) $ free1 ! $ move ! (7 ∷ 8 ∷ []) $
-          free1 ! $
-          move ! (5 ∷ 6 ∷ []) $ free1 ! $ free0 ! $ keep ! (0 ∷ 1 ∷ 2 ∷ []) $ by ! (exits r e))))))))))))
+          assigns ! (of-opd ! (unit-lit !)) (from ! (stop !)) (init ! 13 refl (tt, tt)) $ closes ! tt T.the-row r (v ∷ []) b o $
+          returns ! (look ! 11 refl) $ forget ! 5 refl $ forget ! 7 refl $ forget ! 9 refl $ forget ! 11 refl $
+          move ! (11 ∷ 12 ∷ []) $ free1 ! $ move ! (9 ∷ 10 ∷ []) $ free1 ! $ move ! (7 ∷ 8 ∷ []) $ free1 ! $ move ! (5 ∷ 6 ∷ []) $
+          free1 ! $ free0 ! $ keep ! (0 ∷ 1 ∷ 2 ∷ []) $ by ! (exits r e)))))))))))
 
   module _ (W : Given 𝓤 H A) where
     walks : (C : Calls 𝓤 H) (Λ : Loops 𝓤 H) → FmC 𝓤 H (W .laws) C → (g : Name) → Triple 𝓤 (C g) Called
         → Walks 𝓤 H A lent stayed (WpFn 𝓤 H C Λ (raises g)) Lent
     walks C Λ fm g known =
-        walked 𝓤 H A lent stayed Lent (WpFn 𝓤 H C Λ (raises g)) (λ κs. (ptr-vals, (uint-vals w64, tt)))
-        (λ κs. (mut-tells (named 0) (κs .0) T.the-row, (uint-tells w64, tt)))
+        walked 𝓤 H A lent stayed Lent (WpFn 𝓤 H C Λ (raises g)) (λ κs. (ptr-vals, tt))
+        (λ κs. (mut-tells (named 0) (κs .0) T.the-row, tt))
         (λ κs qs bounds a _ are. needs 𝓤 _ _
-        (walk W (κs .0) (qs .0) (a .0 .ptr .0) (a .0 .ptr .1) (a .0 .name) (a .0 .now) (a .1 .0) (are .1 .0 .1) C Λ fm g known))
+        (walk W (κs .0) (qs .0) (a .0 .ptr .0) (a .0 .ptr .1) (a .0 .name) (a .0 .now) C Λ fm g known))
 
     pub raise-meets : (𝓣 : Tables 𝓤 H) (g : Name) → Triple 𝓤 (𝓣 .C g) Called
         → Meets 𝓤 H A (lent .signature) (WpFn 𝓤 H (𝓣 .C) (𝓣 .Λ) (raises g)) (closing 𝓤 H A lent Lent)
     raise-meets 𝓣 g known =
         walk-meets 𝓤 H A lent stayed W
-        (goes-ref 𝓤 H A W 1 0 tt (plain (λ _. T.the-row)), (goes-none 𝓤 H A W 1 (λ _. usize) yes (λ κs x f. refl), tt)) Lent
+        (goes-ref 𝓤 H A W 1 0 tt (plain (λ _. T.the-row)), tt) Lent
         (WpFn 𝓤 H (𝓣 .C) (𝓣 .Λ) (raises g)) (WpFn-mono 𝓤 H (W .laws) 𝓣 (raises g)) (walks (𝓣 .C) (𝓣 .Λ) (fmOf 𝓤 H (W .laws) 𝓣) g known)

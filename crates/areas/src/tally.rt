@@ -1,9 +1,7 @@
-// The tally that follows a run: rows made, links cut, records written. The two functions that compute the new numbers take it by
-// value; the two that raise it are lent it by &mut, and their proofs are walks by hand.
+// The tally that follows a run: rows made, links cut, records written. The two functions that compute the new numbers take it by value;
+// the two that raise it are lent it by &mut, and the two that callers use lend it to them. The last four are proved by hand.
 ghost use mathlib.Core.Path.{_≡_};
-ghost use Prim.Native.Nat.{_<_, _≤_, _+_, _^_};
-ghost use Rattle.model.specs.Limits.{maxHistory};
-ghost use Rattle.areas.specs.Tallying.{noneYet, withMade, withCut, tallyFor};
+ghost use Rattle.areas.specs.Tallying.{noneYet, HasRoom, plusMade, plusCut};
 
 pub struct Tally {
     pub made: usize,
@@ -22,53 +20,62 @@ pub fn none() -> Tally
     }
 }
 
-// The numbers after n further rows, each with its record.
-fn with_made(tally: Tally, n: usize) -> Tally
-    requires { ⌜ (tally .made + n < 2 ^ 64) × (tally .records + n < 2 ^ 64) ⌝ }
-    ensures { λ r. ⌜ r ≡ withMade tally n ⌝ }
+// The numbers after one more row, with its record.
+fn plus_made(tally: Tally) -> Tally
+    requires { ⌜ HasRoom tally ⌝ }
+    ensures { λ r. ⌜ r ≡ plusMade tally ⌝ }
 {
     Tally {
-        made: tally.made + n,
+        made: tally.made + 1,
         cut: tally.cut,
-        records: tally.records + n,
+        records: tally.records + 1,
     }
 }
 
-// The numbers after n further cuts, each with its record.
-fn with_cut(tally: Tally, n: usize) -> Tally
-    requires { ⌜ (tally .cut + n < 2 ^ 64) × (tally .records + n < 2 ^ 64) ⌝ }
-    ensures { λ r. ⌜ r ≡ withCut tally n ⌝ }
+// The numbers after one more cut, with its record.
+fn plus_cut(tally: Tally) -> Tally
+    requires { ⌜ HasRoom tally ⌝ }
+    ensures { λ r. ⌜ r ≡ plusCut tally ⌝ }
 {
     Tally {
         made: tally.made,
-        cut: tally.cut + n,
-        records: tally.records + n,
+        cut: tally.cut + 1,
+        records: tally.records + 1,
     }
 }
 
-// Raises the tally by n rows made.
-fn add_made(tally: &mut Tally, n: usize)
-    requires { ⌜ (now tally .made + n < 2 ^ 64) × (now tally .records + n < 2 ^ 64) ⌝ }
-    ensures { λ _. ⌜ now (tally .exit) ≡ withMade (now (tally .entry)) n ⌝ }
+// Raises the tally by a row made.
+fn raise_made(tally: &mut Tally)
+    requires { ⌜ HasRoom (now tally) ⌝ }
+    ensures { λ _. ⌜ now (tally .exit) ≡ plusMade (now (tally .entry)) ⌝ }
 {
-    *tally = with_made(*tally, n);
+    *tally = plus_made(*tally);
 }
 
-// Raises the tally by n links cut.
-fn add_cut(tally: &mut Tally, n: usize)
-    requires { ⌜ (now tally .cut + n < 2 ^ 64) × (now tally .records + n < 2 ^ 64) ⌝ }
-    ensures { λ _. ⌜ now (tally .exit) ≡ withCut (now (tally .entry)) n ⌝ }
+// Raises the tally by a link cut.
+fn raise_cut(tally: &mut Tally)
+    requires { ⌜ HasRoom (now tally) ⌝ }
+    ensures { λ _. ⌜ now (tally .exit) ≡ plusCut (now (tally .entry)) ⌝ }
 {
-    *tally = with_cut(*tally, n);
+    *tally = plus_cut(*tally);
 }
 
-// The tally of a run that made so many rows and cut so many links.
-pub fn tallied(made: usize, cut: usize) -> Tally
-    requires { ⌜ made + cut ≤ maxHistory ⌝ }
-    ensures { λ r. ⌜ r ≡ tallyFor made cut ⌝ }
+// The tally once a row is made.
+pub fn count_made(tally: Tally) -> Tally
+    requires { ⌜ HasRoom tally ⌝ }
+    ensures { λ r. ⌜ r ≡ plusMade tally ⌝ }
 {
-    let mut tally = none();
-    add_made(&mut tally, made);
-    add_cut(&mut tally, cut);
-    tally
+    let mut raised = tally;
+    raise_made(&mut raised);
+    raised
+}
+
+// The tally once a link is cut.
+pub fn count_cut(tally: Tally) -> Tally
+    requires { ⌜ HasRoom tally ⌝ }
+    ensures { λ r. ⌜ r ≡ plusCut tally ⌝ }
+{
+    let mut raised = tally;
+    raise_cut(&mut raised);
+    raised
 }

@@ -28,12 +28,10 @@ use Rattle.updates.specs.State.{recordsIn, started, stateOf, Held}
 use Rattle.query.specs.Values.{valueAt}
 use Rattle.updates.proofs.StateLaws.{held-start, state-start}
 use Rattle.updates.specs.declared.state.Progress.{Progress}
-use Rattle.areas.specs.Tallying.{tallyFor}
 use Rattle.run.specs.Calls.{outcomeOf, ran, resultOf, runResult, refusedResult, RunPre, RunPost}
 use Rattle.operators.specs.Evaluating.{boundValues, Fine, EvalPre, EvalPost}
 use Rattle.operators.specs.declared.value.Span.{Span}
 use Rattle.operators.specs.declared.record.Evaluated.{Evaluated}
-use Rattle.areas.specs.declared.tally.Tally.{Tally}
 use Rattle.run.specs.declared.RunResult.{RunResult}
 use Rattle.operators.proofs.ValueLaws.{length-value}
 use Rattle.operators.proofs.YieldLaws.{yields-gives, yields-stop}
@@ -181,9 +179,6 @@ module _ (t : Table) (b : List ℕ) (e : fits t ≡ true) where
           held : Held ws′ h′ q
           held = fine .after .held
 
-          pub limit : q .made + q .cut ≤ 2048
-          limit = held .history .limit
-
           pub few : x .end ≤ 512
           few = fine .short
 
@@ -211,26 +206,26 @@ module _ (t : Table) (b : List ℕ) (e : fits t ≡ true) where
               let o : x .end - 0 ≡ x .end = omega arith in
               length-value w′ 0 (x .end) (omega arith) n ∙ o
 
-          cuts : countKind 67 67 (recordsIn (take (q .bytes) h′)) ≡ q .cut
+          cuts : countKind 67 67 (recordsIn (take (q .bytes) h′)) ≡ q .tally .cut
           cuts = cut-count (recordsIn (take (q .bytes) h′)) ∙ held .history .cuts
 
-          made : countKind 65 66 (recordsIn (take (q .bytes) h′)) ≡ q .made
-          made = omega (arith, made-count (held .history .ranges), held .history .records, held .history .cuts)
+          made : countKind 65 66 (recordsIn (take (q .bytes) h′)) ≡ q .tally .made
+          made = omega (arith, made-count (held .history .ranges), held .history .records, held .history .cuts, held .history .sum)
 
           table-is : encode (decodeParts (q .count) ws′ (t .marks)) ≡ record { count = q .count; rows = ws′; marks = t .marks }
           table-is = encode-decode (q .count) ws′ (t .marks) (omega (arith, held .few, held .rows)) (held .canonical)
 
           -- what the call gives back
-          pub run-post : {a a′ : List ℕ} {y : Tally} {r : RunResult} → RunPre a h w → y ≡ tallyFor (q .made) (q .cut) →
+          pub run-post : {a a′ : List ℕ} {r : RunResult} → RunPre a h w →
               a′ ≡ atFront (valueAt w′ 0 (x .end)) a →
               r ≡ record {
                 fault = record { number = 0; place = 0 };
                 table = record { count = q .count; rows = ws′; marks = t .marks };
                 items = x .end;
                 bytes = q .bytes;
-                tally = y;
+                tally = q .tally;
               } → RunPost t b a h w a′ h′ r
-          run-post {a} {a′} {y} {r} pre ey ea er =
+          run-post {a} {a′} {r} pre ea er =
               record {
                 result = er ∙
                     (λ i. record {
@@ -238,7 +233,7 @@ module _ (t : Table) (b : List ℕ) (e : fits t ≡ true) where
                       table = sym table-is i;
                       items = sym (value-size (pre .work)) i;
                       bytes = sym size-written i;
-                      tally = (ey ∙ tally-is) i;
+                      tally = tally-is i;
                     }) ∙ ap (λ (o : Out). resultOf t (ranBy (decode t) (length a) (length h) (length w) o)) (sym gives-it);
                 answer = ea ∙ filled-answer ∙
                     ap (λ (o : Out). ranBy (decode t) (length a) (length h) (length w) o .answer) (sym gives-it);
@@ -246,7 +241,7 @@ module _ (t : Table) (b : List ℕ) (e : fits t ≡ true) where
                     ap (λ (o : Out). ranBy (decode t) (length a) (length h) (length w) o .history) (sym gives-it);
               }
             where
-              tally-is : tallyFor (q .made) (q .cut) ≡ record {
+              tally-is : q .tally ≡ record {
                 made = countKind 65 66 (recordsIn (take (q .bytes) h′));
                 cut = countKind 67 67 (recordsIn (take (q .bytes) h′));
                 records = length (recordsIn (take (q .bytes) h′));

@@ -83,20 +83,21 @@ fn run_in(
     let items = x.end;
     area::put(answer, &work[0..items]);
     let marks = table.marks;
-    let total = tally::tallied(x.progress.made, x.progress.cut);
+    let p = x.progress;
+    let tally = p.tally;
     RunResult {
         fault: Fault {
             number: 0,
             place: 0,
         },
         table: Table {
-            count: x.progress.count,
+            count: p.count,
             rows,
             marks,
         },
         items,
-        bytes: x.progress.bytes,
-        tally: total,
+        bytes: p.bytes,
+        tally,
     }
 }
 

@@ -18,6 +18,8 @@ use Rattle.model.proofs.All.{all-snoc}
 use Rattle.model.proofs.HistoryLaws.{times-snoc}
 use Rattle.model.proofs.RanLaws.{isCut-made}
 use Rattle.table.specs.Words.{linked, rowOf, linkIn, tagIn}
+use Rattle.areas.specs.Tallying.{plusMade, plusCut}
+use Rattle.areas.specs.declared.tally.Tally.{Tally}
 use Rattle.updates.specs.State.{recordsFrom, recordsIn, Recorded}
 use Rattle.updates.specs.Updating.{madeKind, sixBytes}
 
@@ -80,28 +82,30 @@ historyBytes-snoc (q ∷ rs) r =
     ap (λ (b : List ℕ). recordBytes q ++ b) (historyBytes-snoc rs r) ∙ sym (append-assoc (recordBytes q) (historyBytes rs) (recordBytes r))
 
 -- ONE RECORD MORE
-module _ (b : List ℕ) (n c : ℕ) (h : Recorded b n c) (r : Record) (f : IsInRange r) where
+module _ (b : List ℕ) (t : Tally) (h : Recorded b t) (r : Record) (f : IsInRange r) where
   grown-bytes : b ++ recordBytes r ≡ historyBytes (recordsIn b ++ (r ∷ []))
   grown-bytes = sym (historyBytes-snoc (recordsIn b) r ∙ ap (λ (l : List ℕ). l ++ recordBytes r) (h .bytes))
 
   pub recordsIn-push : recordsIn (b ++ recordBytes r) ≡ recordsIn b ++ (r ∷ [])
   recordsIn-push = ap recordsIn grown-bytes ∙ recordsIn-bytes (recordsIn b ++ (r ∷ [])) (all-snoc (h .ranges) f)
 
-  recorded-more : (m d : ℕ) → m + d ≡ n + c + 1 → c + pick (isCut r) 1 0 ≡ d → n + c < 2048 → Recorded (b ++ recordBytes r) m d
-  recorded-more m d e g l =
+  recorded-more : (u : Tally) → u .records ≡ t .records + 1 → u .made + u .cut ≡ u .records → t .cut + pick (isCut r) 1 0 ≡ u .cut →
+      t .records < 2048 → Recorded (b ++ recordBytes r) u
+  recorded-more u e s g l =
       record {
         ranges = rw recordsIn-push (all-snoc (h .ranges) f);
         bytes = ap historyBytes recordsIn-push ∙ sym grown-bytes;
         records = ap length recordsIn-push ∙ omega (arith, length-append (recordsIn b) (r ∷ []), h .records);
         cuts = ap (times isCut) recordsIn-push ∙ omega (arith, times-snoc isCut (recordsIn b) r, h .cuts);
+        sum = s;
         limit = omega arith;
       }
 
-  pub recorded-made : isCut r ≡ false → n + c < 2048 → Recorded (b ++ recordBytes r) (n + 1) c
-  recorded-made e l = recorded-more (n + 1) c (omega arith) (rw e (omega arith)) l
+  pub recorded-made : isCut r ≡ false → t .records < 2048 → Recorded (b ++ recordBytes r) (plusMade t)
+  recorded-made e l = recorded-more (plusMade t) refl (omega (arith, h .sum)) (rw e (omega arith)) l
 
-  pub recorded-cut : isCut r ≡ true → n + c < 2048 → Recorded (b ++ recordBytes r) n (c + 1)
-  recorded-cut e l = recorded-more n (c + 1) (omega arith) (rw e (omega arith)) l
+  pub recorded-cut : isCut r ≡ true → t .records < 2048 → Recorded (b ++ recordBytes r) (plusCut t)
+  recorded-cut e l = recorded-more (plusCut t) refl (omega (arith, h .sum)) (rw e (omega arith)) l
 
 -- in its area
 module _ (h : List ℕ) (n : ℕ) (b : List ℕ) (room : n + length b ≤ length h) where

@@ -23,7 +23,7 @@ use Rattle.updates.proofs.HistoryLaws.{recordsIn-push, take-over, drop-
 
 -- A RECORD APPENDED to what is held
 module _ {ws h : List ℕ} {p : Progress} (held : Held ws h p) (r : Record) (n : ℕ) (size : length (recordBytes r) ≡ n) (small : n ≤ 6)
-    (m : p .made + p .cut < 2048) where
+    (m : p .tally .records < 2048) where
   append-room : p .bytes + n ≤ length h
   append-room = omega (arith, held .size, held .area)
 
@@ -42,7 +42,7 @@ module _ {ws h : List ℕ} {p : Progress} (held : Held ws h p) (r : Record) (n :
 
   pub append-records : IsInRange r →
       recordsIn (take (p .bytes + n) (over (p .bytes) (recordBytes r) h)) ≡ recordsIn (take (p .bytes) h) ++ (r ∷ [])
-  append-records f = ap recordsIn append-written ∙ recordsIn-push (take (p .bytes) h) (p .made) (p .cut) (held .history) r f
+  append-records f = ap recordsIn append-written ∙ recordsIn-push (take (p .bytes) h) (p .tally) (held .history) r f
 
 -- THE START on a table that fits, with an empty history
 tree-rows : (n : ℕ) (ws ms : List ℕ) → Tree (decodeParts n ws ms) → Tree (decodeParts n ws [])
@@ -66,7 +66,7 @@ held-start n ws ms h f l a =
       canonical = k .canonical l;
       tree = tree-rows n ws ms (k .well .tree);
       size = omega arith;
-      history = record { ranges = nothing; bytes = refl; records = refl; cuts = refl; limit = omega arith };
+      history = record { ranges = nothing; bytes = refl; records = refl; cuts = refl; sum = refl; limit = omega arith };
     }
 
 pub state-start : (n : ℕ) (ws ms h : List ℕ) → stateOf ws ms h (started n) ≡ state (decodeParts n ws ms) []

@@ -1,5 +1,5 @@
 -- A new row and a cut link, from the tests on each way out: the model's update, and what is held after it.
-use mathlib.Core.Path.{_≡_, refl, ap, sym, _∙_, subst}
+use mathlib.Core.Path.{_≡_, refl, ap, sym, _∙_, subst, subst₂}
 use mathlib.Core.Bool.{Bool, true}
 use mathlib.Core.List.{List, [], _∷_, _++_, map}
 use mathlib.Core.Option.{Option, none, some, Option·none-ne-some}
@@ -25,6 +25,8 @@ use Rattle.table.specs.Words.{linkOf, linked, rowOf, wordOf, rowsOf, wordsOf, i
 use Rattle.table.proofs.WordLaws.{linkOf-linked, rowOf-wordOf, wordOf-rowOf, isRowWord-wordOf, rowAt-decode, canonical-push}
 use Rattle.table.proofs.WordLaws.{rowOf-withLink, isRowWord-withLink, row-word, rowsOf-set, canonical-set}
 use Rattle.table.proofs.DecodeLaws.{decode-row, parent-linked, parent-at}
+use Rattle.areas.specs.Tallying.{plusMade, plusCut}
+use Rattle.areas.specs.declared.tally.Tally.{Tally}
 use Rattle.updates.specs.State.{recordsIn, stateOf, outcome, Recorded, Held, After, Updated, stopped}
 use Rattle.updates.specs.Updating.{NewPre, CutPre}
 use Rattle.updates.specs.declared.state.Progress.{Progress}
@@ -55,7 +57,7 @@ module _ {ws h : List ℕ} {p : Progress} {w : ℕ} (pre : NewPre ws h p w) wher
       updated-stopped 9 e
       (λ z ms. sym (newRow-full z (rowOf w) (stateOf ws ms h p) (omega (arith, held-count (pre .held) ms))))
 
-  pub new-over : p .count < 512 → 2048 ≤ p .made + p .cut → {ws′ h′ : List ℕ} {r : Progress} → r ≡ stopped p 9 →
+  pub new-over : p .count < 512 → 2048 ≤ p .tally .records → {ws′ h′ : List ℕ} {r : Progress} → r ≡ stopped p 9 →
       Updated (λ z s. newRow z (rowOf w) s) (p .count ∷ []) ws h p ws′ h′ r
   new-over l m e =
       updated-stopped 8 e
@@ -63,7 +65,7 @@ module _ {ws h : List ℕ} {p : Progress} {w : ℕ} (pre : NewPre ws h p w) wher
       sym (newRow-over z (rowOf w) (stateOf ws ms h p) (omega (arith, held-count (pre .held) ms))
       (omega (arith, pre .held .history .records))))
 
-  module _ (l : p .count < 512) (m : p .made + p .cut < 2048) where
+  module _ (l : p .count < 512) (m : p .tally .records < 2048) where
     abbrev entry : Record
     entry = made (rowOf w) (p .count)
 
@@ -73,8 +75,11 @@ module _ {ws h : List ℕ} {p : Progress} {w : ℕ} (pre : NewPre ws h p w) wher
     abbrev history′ : List ℕ
     history′ = over (p .bytes) (recordBytes entry) h
 
+    abbrev pub madeWith : Tally → Progress
+    madeWith t = record { number = 0; count = p .count + 1; bytes = p .bytes + 6; tally = t }
+
     abbrev after′ : Progress
-    after′ = record { number = 0; count = p .count + 1; bytes = p .bytes + 6; made = p .made + 1; cut = p .cut }
+    after′ = madeWith (plusMade (p .tally))
 
     entry-range : IsInRange entry
     entry-range =
@@ -118,9 +123,9 @@ module _ {ws h : List ℕ} {p : Progress} {w : ℕ} (pre : NewPre ws h p w) wher
               (sym (held-count (pre .held) [])) (pre .parent)));
           size = omega (arith, pre .held .size);
           history =
-              subst (λ (b : List ℕ). Recorded b (p .made + 1) (p .cut)) (sym (append-written (pre .held) entry 6 entry-size (omega arith)
+              subst (λ (b : List ℕ). Recorded b (plusMade (p .tally))) (sym (append-written (pre .held) entry 6 entry-size (omega arith)
               m))
-              (recorded-made (take (p .bytes) h) (p .made) (p .cut) (pre .held .history) entry entry-range (isCut-made (rowOf w)
+              (recorded-made (take (p .bytes) h) (p .tally) (pre .held .history) entry entry-range (isCut-made (rowOf w)
               (p .count)) m);
         }
 
@@ -134,9 +139,10 @@ module _ {ws h : List ℕ} {p : Progress} {w : ℕ} (pre : NewPre ws h p w) wher
           rest = append-rest (pre .held) entry 6 entry-size (omega arith) m;
         }
 
-    pub new-made : {h′ : List ℕ} → h′ ≡ history′ → Updated (λ z s. newRow z (rowOf w) s) (p .count ∷ []) ws h p rows′ h′ after′
-    new-made e =
-        subst (λ (v : List ℕ). Updated (λ z s. newRow z (rowOf w) s) (p .count ∷ []) ws h p rows′ v after′) (sym e)
+    pub new-made : {h′ : List ℕ} {t : Tally} → h′ ≡ history′ → t ≡ plusMade (p .tally) →
+        Updated (λ z s. newRow z (rowOf w) s) (p .count ∷ []) ws h p rows′ h′ (madeWith t)
+    new-made e n =
+        subst₂ (λ (v : List ℕ) (t : Tally). Updated (λ z s. newRow z (rowOf w) s) (p .count ∷ []) ws h p rows′ v (madeWith t)) (sym e) (sym n)
         (record {
           same = λ z ms.
               ap (λ (s : State). gives (p .count ∷ []) s) (state-made ms) ∙
@@ -210,13 +216,13 @@ module _ {ws h : List ℕ} {p : Progress} {i : ℕ} (pre : CutPre ws h p i) wher
     pub cut-low : link - 1 < 512
     cut-low = omega (arith, pre .held .tree .parents i (link - 1) (parent-here []) .0, pre .row, pre .held .few)
 
-    pub cut-full : 2048 ≤ p .made + p .cut → {ws′ h′ : List ℕ} {r : Progress} → r ≡ stopped p 9 →
+    pub cut-full : 2048 ≤ p .tally .records → {ws′ h′ : List ℕ} {r : Progress} → r ≡ stopped p 9 →
         Updated (λ z s. cutAll z (i ∷ []) s) [] ws h p ws′ h′ r
     cut-full m e =
         updated-stopped 8 e
         (λ z ms. sym (cut-over z i [] (stateOf ws ms h p) (link - 1) (parent-here ms) (omega (arith, pre .held .history .records))))
 
-    module _ (m : p .made + p .cut < 2048) where
+    module _ (m : p .tally .records < 2048) where
       abbrev cutEntry : Record
       cutEntry = cutRecord i (link - 1)
 
@@ -229,8 +235,11 @@ module _ {ws h : List ℕ} {p : Progress} {i : ℕ} (pre : CutPre ws h p i) wher
       abbrev cutHistory : List ℕ
       cutHistory = over (p .bytes) (recordBytes cutEntry) h
 
+      abbrev pub cutWith : Tally → Progress
+      cutWith t = record { number = 0; count = p .count; bytes = p .bytes + 5; tally = t }
+
       abbrev cutAfter : Progress
-      cutAfter = record { number = 0; count = p .count; bytes = p .bytes + 5; made = p .made; cut = p .cut + 1 }
+      cutAfter = cutWith (plusCut (p .tally))
 
       cut-range : IsInRange cutEntry
       cut-range =
@@ -274,9 +283,9 @@ module _ {ws h : List ℕ} {p : Progress} {i : ℕ} (pre : CutPre ws h p i) wher
             tree = tree-cut;
             size = omega (arith, pre .held .size);
             history =
-                subst (λ (b : List ℕ). Recorded b (p .made) (p .cut + 1))
+                subst (λ (b : List ℕ). Recorded b (plusCut (p .tally)))
                 (sym (append-written (pre .held) cutEntry 5 refl (omega arith) m))
-                (recorded-cut (take (p .bytes) h) (p .made) (p .cut) (pre .held .history) cutEntry cut-range refl m);
+                (recorded-cut (take (p .bytes) h) (p .tally) (pre .held .history) cutEntry cut-range refl m);
           }
 
       updated-cut : Updated (λ z s. cutAll z (i ∷ []) s) [] ws h p cutRows cutHistory cutAfter
@@ -297,11 +306,11 @@ module _ {ws h : List ℕ} {p : Progress} {i : ℕ} (pre : CutPre ws h p i) wher
           }
 
       pub cut-done : {w′ l : ℕ} → w′ ≡ cutWord → l ≡ link → {h′ : List ℕ} → h′ ≡ over (p .bytes) (recordBytes (cutRecord i (l - 1))) h →
-          Updated (λ z s. cutAll z (i ∷ []) s) [] ws h p (set ws i w′) h′ cutAfter
-      cut-done e f {h′} g =
-          subst (λ (j : ℕ). Updated (λ z s. cutAll z (i ∷ []) s) [] ws h p (set ws i j) h′ cutAfter) (sym e)
-          (subst (λ (v : List ℕ). Updated (λ z s. cutAll z (i ∷ []) s) [] ws h p cutRows v cutAfter)
-          (sym (g ∙ ap (λ (j : ℕ). over (p .bytes) (recordBytes (cutRecord i (j - 1))) h) f)) updated-cut)
+          {t : Tally} → t ≡ plusCut (p .tally) → Updated (λ z s. cutAll z (i ∷ []) s) [] ws h p (set ws i w′) h′ (cutWith t)
+      cut-done e f {h′} g {t} n =
+          subst (λ (j : ℕ). Updated (λ z s. cutAll z (i ∷ []) s) [] ws h p (set ws i j) h′ (cutWith t)) (sym e)
+          (subst₂ (λ (v : List ℕ) (t : Tally). Updated (λ z s. cutAll z (i ∷ []) s) [] ws h p cutRows v (cutWith t))
+          (sym (g ∙ ap (λ (j : ℕ). over (p .bytes) (recordBytes (cutRecord i (j - 1))) h) f)) (sym n) updated-cut)
 
 -- A VALUE, row by row: the rest from where it is comes to the whole from the start
 cutAll-split : (z i : ℕ) (is : List ℕ) (s : State) → cutAll z (i ∷ is) s ≡ thenRow (cutAll z (i ∷ []) s) (λ (t : State). cutAll z is t)

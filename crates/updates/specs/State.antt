@@ -12,6 +12,8 @@ use Rattle.model.specs.Run.{State, state, Out, stop, gives}
 use Rattle.model.specs.Undo.{historySize, recordIn}
 use Rattle.model.specs.Table.{Tree}
 use Rattle.table.specs.Words.{decodeParts, Canonical}
+use Rattle.areas.specs.Tallying.{noneYet}
+use Rattle.areas.specs.declared.tally.Tally.{Tally}
 use Rattle.updates.specs.declared.state.Progress.{Progress}
 
 -- RECORDS read off bytes, one after the other; fuel: as many as there are bytes
@@ -24,10 +26,10 @@ recordsIn b = recordsFrom (length b) b
 
 -- PROGRESS at a run's start, and with a refusal
 abbrev pub started : (count : ℕ) → Progress
-started n = record { number = 0; count = n; bytes = 0; made = 0; cut = 0 }
+started n = record { number = 0; count = n; bytes = 0; tally = noneYet }
 
 abbrev pub stopped : Progress → (number : ℕ) → Progress
-stopped p n = record { number = n; count = p .count; bytes = p .bytes; made = p .made; cut = p .cut }
+stopped p n = record { number = n; count = p .count; bytes = p .bytes; tally = p .tally }
 
 -- THE STATE that rows, marks and history stand for
 abbrev pub stateOf : (rows marks history : List ℕ) → Progress → State
@@ -37,13 +39,14 @@ stateOf ws ms h p = state (decodeParts (p .count) ws ms) (recordsIn (take (p .by
 abbrev pub outcome : (place : ℕ) → (items rows marks history : List ℕ) → Progress → Out
 outcome z v ws ms h p = pick (eqb (p .number) 0) (gives v (stateOf ws ms h p)) (stop (fault (p .number) z))
 
--- WHAT EVERY UPDATE NEEDS AND KEEPS. The bytes written are records in range and nothing else, as many as were made and cut
-pub record Recorded (b : List ℕ) (made cut : ℕ) : Type 0 where
+-- WHAT EVERY UPDATE NEEDS AND KEEPS. The bytes written are records in range and nothing else, as many as the tally says
+pub record Recorded (b : List ℕ) (t : Tally) : Type 0 where
   pub ranges : AllInRange (recordsIn b)
   pub bytes : historyBytes (recordsIn b) ≡ b
-  pub records : length (recordsIn b) ≡ made + cut
-  pub cuts : times isCut (recordsIn b) ≡ cut
-  pub limit : made + cut ≤ maxHistory
+  pub records : length (recordsIn b) ≡ t .records
+  pub cuts : times isCut (recordsIn b) ≡ t .cut
+  pub sum : t .made + t .cut ≡ t .records
+  pub limit : t .records ≤ maxHistory
 
 -- the areas have their sizes, the rows their form; the marks are not in question
 pub record Held (ws h : List ℕ) (p : Progress) : Type 0 where
@@ -53,8 +56,8 @@ pub record Held (ws h : List ℕ) (p : Progress) : Type 0 where
   pub few : p .count ≤ maxRows
   pub canonical : Canonical (p .count) ws
   pub tree : Tree (decodeParts (p .count) ws [])
-  pub size : p .bytes ≤ 6 * (p .made + p .cut)
-  pub history : Recorded (take (p .bytes) h) (p .made) (p .cut)
+  pub size : p .bytes ≤ 6 * p .tally .records
+  pub history : Recorded (take (p .bytes) h) (p .tally)
 
 -- AFTER some updates: rows and records are only added, and the area past the records is as it was
 pub record After (ws h : List ℕ) (p : Progress) (ws′ h′ : List ℕ) (r : Progress) : Type 0 where

@@ -1,14 +1,15 @@
 // How far a run has come: what the updates pass on beside the lent rows and history.
 ghost use mathlib.Core.Path.{_≡_};
 ghost use Rattle.updates.specs.State.{started, stopped};
+use areas::tally;
+use areas::tally::Tally;
 
-// The refusal's number, or 0; rows now; history bytes written; rows made and links cut so far.
+// The refusal's number, or 0; rows now; history bytes written; the tally so far.
 pub struct Progress {
     pub number: u8,
     pub count: usize,
     pub bytes: usize,
-    pub made: usize,
-    pub cut: usize,
+    pub tally: Tally,
 }
 
 impl Progress {
@@ -16,12 +17,12 @@ impl Progress {
     pub fn start(count: usize) -> Progress
         ensures { λ r. ⌜ r ≡ started count ⌝ }
     {
+        let none = tally::none();
         Progress {
             number: 0,
             count,
             bytes: 0,
-            made: 0,
-            cut: 0,
+            tally: none,
         }
     }
 
@@ -29,12 +30,12 @@ impl Progress {
     pub fn refused(self, number: u8) -> Progress
         ensures { λ r. ⌜ r ≡ stopped self number ⌝ }
     {
+        let tally = self.tally;
         Progress {
             number,
             count: self.count,
             bytes: self.bytes,
-            made: self.made,
-            cut: self.cut,
+            tally,
         }
     }
 }

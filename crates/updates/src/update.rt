@@ -6,6 +6,7 @@ ghost use Rattle.updates.specs.State.{Held};
 ghost use Rattle.updates.specs.Updating.{NewPre, NewPost, ElementPre, LoosePost, CutPre, DeletePre, DeletePost};
 use crate::history;
 use crate::state::Progress;
+use areas::tally;
 use table::Fault;
 use table::NameNumber;
 use table::Table;
@@ -19,10 +20,11 @@ pub fn new_row(rows: &mut [u32], history: &mut [u8], p: Progress, w: u32) -> Pro
 {
     let count = p.count;
     let at = p.bytes;
+    let before = p.tally;
     if Table::ROWS <= count {
         return p.refused(Fault::TABLE);
     }
-    if Table::HISTORY_RECORDS <= p.made + p.cut {
+    if Table::HISTORY_RECORDS <= before.records {
         return p.refused(Fault::HISTORY);
     }
     rows[count] = w;
@@ -31,8 +33,7 @@ pub fn new_row(rows: &mut [u32], history: &mut [u8], p: Progress, w: u32) -> Pro
         number: 0,
         count: count + 1,
         bytes: at + history::MADE_SIZE,
-        made: p.made + 1,
-        cut: p.cut,
+        tally: tally::count_made(before),
     }
 }
 
@@ -59,12 +60,13 @@ fn cut_row(rows: &mut [u32], history: &mut [u8], p: Progress, i: usize) -> Progr
     ensures { λ r. ⌜ DeletePost (now (rows .entry)) (now (history .entry)) p (i ∷ []) (now (rows .exit)) (now (history .exit)) r ⌝ }
 {
     let at = p.bytes;
+    let before = p.tally;
     let w = rows[i];
     let link = words::link(w);
     if link == 0 {
         return p;
     }
-    if Table::HISTORY_RECORDS <= p.made + p.cut {
+    if Table::HISTORY_RECORDS <= before.records {
         return p.refused(Fault::HISTORY);
     }
     rows[i] = words::relinked(w, 0);
@@ -73,8 +75,7 @@ fn cut_row(rows: &mut [u32], history: &mut [u8], p: Progress, i: usize) -> Progr
         number: 0,
         count: p.count,
         bytes: at + history::CUT_SIZE,
-        made: p.made,
-        cut: p.cut + 1,
+        tally: tally::count_cut(before),
     }
 }
 

@@ -8,8 +8,7 @@ use native.Mathlib.Omega.{arith}
 use lib.ListN.{length, replicate}
 use borrow.Author.Tests.{not-true, not-false}
 use Rattle.table.specs.Fitting.{Words}
-use Rattle.run.proofs.CallLaws.{refused-post, ill-formed, refuses-by, accepted-by, eval-asks, run-stops, run-post, put-asks, limit}
-use Rattle.run.proofs.CallLaws.{few}
+use Rattle.run.proofs.CallLaws.{refused-post, ill-formed, refuses-by, accepted-by, eval-asks, run-stops, run-post, put-asks, few}
 
 size : (c : tie.Start) → Words (c .args .t1 .rows) (c .args .t1 .marks)
 size c = search needs
@@ -134,51 +133,37 @@ put-requires c κs =
     (accepted-by (c33 .args .script .now) (c21 .read-script .ensures) (c19 .if2 .left)) (size (c33) .rows) (size (c33) .marks) (c11
     .start .ensures) (c10 .eval .ensures) (c3 .if3 .left) (c33 .args .answer .now) (c33 .pre .answer)
 
-tallied-requires : tie.Need-tallied-requires
-tallied-requires c κs =
-    let c7 = c .before .before .before .before .before .before .before in
-    let c14 = c7 .before .before .before .before .before .before .before in
-    let c15 = c14 .before in
-    let c23 = c15 .before .before .before .before .before .before .before .before in
-    let c25 = c23 .before .before in
-    let c26 = c25 .before in
-    let c27 = c26 .before in
-    let c37 = c27 .before .before .before .before .before .before .before .before .before .before in
-    limit (c37 .args .t1) (c37 .args .script .now) (sym (c27 .fits2 .ensures) ∙ not-false (c27 .fits2 .result) (c26 .if1 .left))
-    (accepted-by (c37 .args .script .now) (c25 .read-script .ensures) (c23 .if2 .left)) (size (c37) .rows) (size (c37) .marks) (c15
-    .start .ensures) (c14 .eval .ensures) (c7 .if3 .left)
-
 same-length-3 : tie.Need-same-length-3
 same-length-3 c =
-    let c4 = c .before .before .before .before in
-    c4 .put .kept .0
+    let c5 = c .before .before .before .before .before in
+    c5 .put .kept .0
 
 same-length-4 : tie.Need-same-length-4
 same-length-4 c =
-    let c10 = c .before .before .before .before .before .before .before .before .before .before in
-    let c15 = c10 .before .before .before .before .before in
-    c15 .eval .kept .1 .1 .1 .1 .1 .1 .1 .0
+    let c11 = c .before .before .before .before .before .before .before .before .before .before .before in
+    let c16 = c11 .before .before .before .before .before in
+    c16 .eval .kept .1 .1 .1 .1 .1 .1 .1 .0
 
 same-length-5 : tie.Need-same-length-5
 same-length-5 c =
-    let c10 = c .before .before .before .before .before .before .before .before .before .before in
-    let c15 = c10 .before .before .before .before .before in
-    c15 .eval .kept .1 .1 .1 .1 .1 .1 .1 .1 .0
+    let c11 = c .before .before .before .before .before .before .before .before .before .before .before in
+    let c16 = c11 .before .before .before .before .before in
+    c16 .eval .kept .1 .1 .1 .1 .1 .1 .1 .1 .0
 
 returns-4 : tie.Need-returns-4
 returns-4 c =
-    let c4 = c .before .before .before .before in
-    let c8 = c4 .before .before .before .before in
-    let c15 = c8 .before .before .before .before .before .before .before in
-    let c16 = c15 .before in
-    let c24 = c16 .before .before .before .before .before .before .before .before in
-    let c26 = c24 .before .before in
-    let c27 = c26 .before in
+    let c5 = c .before .before .before .before .before in
+    let c9 = c5 .before .before .before .before in
+    let c16 = c9 .before .before .before .before .before .before .before in
+    let c17 = c16 .before in
+    let c25 = c17 .before .before .before .before .before .before .before .before in
+    let c27 = c25 .before .before in
     let c28 = c27 .before in
-    let c38 = c28 .before .before .before .before .before .before .before .before .before .before in
-    run-post (c38 .args .t1) (c38 .args .script .now) (sym (c28 .fits2 .ensures) ∙ not-false (c28 .fits2 .result) (c27 .if1 .left))
-    (accepted-by (c38 .args .script .now) (c26 .read-script .ensures) (c24 .if2 .left)) (size (c38) .rows) (size (c38) .marks) (c16
-    .start .ensures) (c15 .eval .ensures) (c8 .if3 .left) (c38 .pre) (c .tallied .ensures) (c4 .put .ensures) refl
+    let c29 = c28 .before in
+    let c39 = c29 .before .before .before .before .before .before .before .before .before .before in
+    run-post (c39 .args .t1) (c39 .args .script .now) (sym (c29 .fits2 .ensures) ∙ not-false (c29 .fits2 .result) (c28 .if1 .left))
+    (accepted-by (c39 .args .script .now) (c27 .read-script .ensures) (c25 .if2 .left)) (size (c39) .rows) (size (c39) .marks) (c17
+    .start .ensures) (c16 .eval .ensures) (c9 .if3 .left) (c39 .pre) (c5 .put .ensures) refl
 
 pub run-in-spec : {M : Type 1} → statement M
 run-in-spec =
@@ -202,7 +187,6 @@ run-in-spec =
     part-put-start
     part-put-end
     put-requires
-    tallied-requires
     same-length-3
     same-length-4
     same-length-5

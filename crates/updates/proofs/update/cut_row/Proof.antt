@@ -4,12 +4,12 @@ use lib.ListN.{getD}
 use mathlib.Core.Path.{_≡_, sym, _∙_}
 use native.Mathlib.Omega.{arith}
 use borrow.Author.Needs.{needs}
+use Rattle.table.specs.Words.{linkIn}
 use Rattle.updates.proofs.update.cut_row.Statement.{statement}
 use Rattle.updates.proofs.update.cut_row.Tie as tie
-use Rattle.table.specs.Words.{linkIn}
 
-has-parent : (c : tie.Else1) → linkIn (getD (c .before .before .before .before .before .args .rows .now)
-    (c .before .before .before .before .before .args .i) 0) ≡ 0 → ⊥
+has-parent : (c : tie.Else1) → linkIn (getD (c .before .before .before .before .before .before .args .rows .now)
+    (c .before .before .before .before .before .before .args .i) 0) ≡ 0 → ⊥
 has-parent c q = c .if1 .left (c .before .link .ensures ∙ q)
 
 mul-w : tie.Need-mul-w
@@ -23,13 +23,8 @@ link-requires c κs = search needs
 
 returns : tie.Need-returns
 returns c =
-    let c5 = c .before .before .before .before .before in
-    cut-root (c5 .pre) (sym (c .before .link .ensures) ∙ c .if1 .taken)
-
-add-if2 : tie.Need-add-if2
-add-if2 c =
     let c6 = c .before .before .before .before .before .before in
-    omega (arith, c6 .pre .held .history .limit)
+    cut-root (c6 .pre) (sym (c .before .link .ensures) ∙ c .if1 .taken)
 
 refused-requires : tie.Need-refused-requires
 refused-requires c κs = search needs
@@ -37,8 +32,8 @@ refused-requires c κs = search needs
 returns-2 : tie.Need-returns-2
 returns-2 c =
     let c3 = c .before .before .before in
-    let c8 = c3 .before .before .before .before .before in
-    cut-full (c8 .pre) (has-parent (c3)) (c .before .if2 .taken) (c .refused .ensures)
+    let c9 = c3 .before .before .before .before .before .before in
+    cut-full (c9 .pre) (has-parent (c3)) (c .before .if2 .taken) (c .refused .ensures)
 
 relinked-requires : tie.Need-relinked-requires
 relinked-requires c κs = search needs
@@ -56,28 +51,19 @@ put-cut-requires : tie.Need-put-cut-requires
 put-cut-requires c κs =
     let c4 = c .before .before .before .before in
     let c5 = c4 .before in
-    let c9 = c5 .before .before .before .before in (
-      omega (arith, c9 .pre .held .size, c9 .pre .held .area, c .before .before .if2 .left),
-      (
-        omega (
-          arith,
-          c9 .pre .row,
-          c9 .pre .held
-              .few,
-        ),
-        omega (arith, c5 .link .ensures, cut-low (c9 .pre) (has-parent (c4))),
-      ),
-    )
+    let c10 = c5 .before .before .before .before .before in
+    (omega (arith, c10 .pre .held .size, c10 .pre .held .area, c .before .before .if2 .left), (omega (arith, c10 .pre .row, c10 .pre .held .few), omega (arith, c5 .link .ensures, cut-low (c10 .pre) (has-parent (c4)))))
 
-add-t8 : tie.Need-add-t8
-add-t8 c =
-    let c12 = c .before .before .before .before .before .before .before .before .before .before .before .before in
-    omega (arith, c12 .pre .held .size, c12 .pre .held .history .limit)
-
-add-t16 : tie.Need-add-t16
-add-t16 c =
+add-t9 : tie.Need-add-t9
+add-t9 c =
     let c13 = c .before .before .before .before .before .before .before .before .before .before .before .before .before in
-    omega (arith, c13 .pre .held .history .limit)
+    omega (arith, c13 .pre .held .size, c13 .pre .held .history .limit)
+
+count-cut-requires : tie.Need-count-cut-requires
+count-cut-requires c κs =
+    let c5 = c .before .before .before .before .before in
+    let c13 = c5 .before .before .before .before .before .before .before .before in
+    (c13 .pre .held .history .sum, omega (arith, c5 .if2 .left))
 
 same-length : tie.Need-same-length
 same-length c = search needs
@@ -92,9 +78,8 @@ returns-3 c =
     let c6 = c5 .before in
     let c8 = c6 .before .before in
     let c9 = c8 .before in
-    let c13 = c9 .before .before .before .before in
-    cut-done (c13 .pre) (has-parent (c8)) (omega (arith, c6 .if2 .left)) (c5 .relinked .ensures) (c9 .link .ensures)
-    (c3 .put-cut .ensures)
+    let c14 = c9 .before .before .before .before .before in
+    cut-done (c14 .pre) (has-parent (c8)) (omega (arith, c6 .if2 .left)) (c5 .relinked .ensures) (c9 .link .ensures) (c3 .put-cut .ensures) (c .count-cut .ensures)
 
 pub cut-row-spec : {M : Type 1} → statement M
 cut-row-spec =
@@ -104,7 +89,6 @@ cut-row-spec =
     slice-read-w
     link-requires
     returns
-    add-if2
     refused-requires
     returns-2
     relinked-requires
@@ -112,8 +96,8 @@ cut-row-spec =
     slice-write-rows
     sub-put-cut
     put-cut-requires
-    add-t8
-    add-t16
+    add-t9
+    count-cut-requires
     same-length
     same-length-2
     returns-3)

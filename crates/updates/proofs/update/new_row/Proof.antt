@@ -11,13 +11,8 @@ refused-requires c κs = search needs
 
 returns : tie.Need-returns
 returns c =
-    let c4 = c .before .before .before .before in
-    new-full (c4 .pre) (c .before .if1 .taken) (c .refused .ensures)
-
-add-if2 : tie.Need-add-if2
-add-if2 c =
-    let c4 = c .before .before .before .before in
-    omega (arith, c4 .pre .held .history .limit)
+    let c5 = c .before .before .before .before .before in
+    new-full (c5 .pre) (c .before .if1 .taken) (c .refused .ensures)
 
 refused-requires-2 : tie.Need-refused-requires-2
 refused-requires-2 c κs = search needs
@@ -25,8 +20,8 @@ refused-requires-2 c κs = search needs
 returns-2 : tie.Need-returns-2
 returns-2 c =
     let c3 = c .before .before .before in
-    let c6 = c3 .before .before .before in
-    new-over (c6 .pre) (omega (arith, c3 .if1 .left)) (c .before .if2 .taken) (c .refused2 .ensures)
+    let c7 = c3 .before .before .before .before in
+    new-over (c7 .pre) (omega (arith, c3 .if1 .left)) (c .before .if2 .taken) (c .refused2 .ensures)
 
 mul-rows : tie.Need-mul-rows
 mul-rows c = search needs
@@ -37,29 +32,26 @@ slice-write-rows c = search needs
 put-made-requires : tie.Need-put-made-requires
 put-made-requires c κs =
     let c3 = c .before .before .before in
-    let c6 = c3 .before .before .before in (
-      omega (arith, c6 .pre .held .size, c6 .pre .held .area, c .before .if2 .left),
-      (
-        omega (arith, c3 .if1 .left),
-        tag-byte (c6 .args
-            .w) (c6 .pre .tag),
-      ),
+    let c7 = c3 .before .before .before .before in (
+      omega (arith, c7 .pre .held .size, c7 .pre .held .area, c .before .if2 .left),
+      (omega (arith, c3 .if1 .left), tag-byte (c7 .args .w) (c7 .pre .tag)),
     )
 
-add-t8 : tie.Need-add-t8
-add-t8 c =
+add-t9 : tie.Need-add-t9
+add-t9 c =
     let c6 = c .before .before .before .before .before .before in
     omega (arith, c6 .if1 .left)
-
-add-t13 : tie.Need-add-t13
-add-t13 c =
-    let c9 = c .before .before .before .before .before .before .before .before .before in
-    omega (arith, c9 .pre .held .size, c9 .pre .held .history .limit)
 
 add-t14 : tie.Need-add-t14
 add-t14 c =
     let c10 = c .before .before .before .before .before .before .before .before .before .before in
-    omega (arith, c10 .pre .held .history .limit)
+    omega (arith, c10 .pre .held .size, c10 .pre .held .history .limit)
+
+count-made-requires : tie.Need-count-made-requires
+count-made-requires c κs =
+    let c4 = c .before .before .before .before in
+    let c10 = c4 .before .before .before .before .before .before in
+    (c10 .pre .held .history .sum, omega (arith, c4 .if2 .left))
 
 same-length : tie.Need-same-length
 same-length c = search needs
@@ -72,8 +64,8 @@ returns-3 c =
     let c3 = c .before .before .before in
     let c5 = c3 .before .before in
     let c7 = c5 .before .before in
-    let c10 = c7 .before .before .before in
-    new-made (c10 .pre) (omega (arith, c7 .if1 .left)) (omega (arith, c5 .if2 .left)) (c3 .put-made .ensures)
+    let c11 = c7 .before .before .before .before in
+    new-made (c11 .pre) (omega (arith, c7 .if1 .left)) (omega (arith, c5 .if2 .left)) (c3 .put-made .ensures) (c .count-made .ensures)
 
 pub new-row-spec : {M : Type 1} → statement M
 new-row-spec =
@@ -81,15 +73,14 @@ new-row-spec =
     (tie.spec
     refused-requires
     returns
-    add-if2
     refused-requires-2
     returns-2
     mul-rows
     slice-write-rows
     put-made-requires
-    add-t8
-    add-t13
+    add-t9
     add-t14
+    count-made-requires
     same-length
     same-length-2
     returns-3)
