@@ -4,8 +4,9 @@
  * be valid for its length, also where that is 0 (then any aligned pointer but NULL); what a call writes to must overlap nothing else.
  *
  * Each call answers number + 256 * which + 65,536 * place. `number` is a refusal's number, 0 where nothing is refused. `which` says whose
- * refusal it is: enum yegnabit_which. `place` is the refusal's place.
- * A refused call leaves `out` as it was. On success the bytes of the plan stand at the start of `out`, and the rest of it stays. */
+ * refusal it is: enum yegnabit_which. `place` is the refusal's place, in 48 bits.
+ * An area too short is 11 at place 0, before all else, and nothing is touched; then the plan is read, then the call's own work is done. A
+ * refused call leaves `out` as it was. On success the bytes of the plan stand at the start of `out`, and the rest of it stays. */
 
 #ifndef YEGNABIT_H
 #define YEGNABIT_H
@@ -36,19 +37,19 @@ enum yegnabit_refusal {
 enum yegnabit_which {
     YEGNABIT_WHICH_AREA = 0,    /* a lent area's */
     YEGNABIT_WHICH_PLAN = 1,    /* the plan's */
-    YEGNABIT_WHICH_SCRIPT = 2,  /* the script's or its run's */
-    YEGNABIT_WHICH_HISTORY = 2, /* the history's */
-    YEGNABIT_WHICH_FIRST = 1,   /* in an analysis: the first script's */
-    YEGNABIT_WHICH_SECOND = 2   /* in an analysis: the second script's */
+    YEGNABIT_WHICH_SCRIPT = 2,  /* yegnabit_run: the script's or its run's */
+    YEGNABIT_WHICH_HISTORY = 2, /* yegnabit_undo: the history's */
+    YEGNABIT_WHICH_FIRST = 1,   /* yegnabit_analyse: the first script's */
+    YEGNABIT_WHICH_SECOND = 2   /* yegnabit_analyse: the second script's */
 };
 
 /* What each lent area needs, in elements. */
 enum yegnabit_need {
-    YEGNABIT_OUT = 2080,        /* bytes: 512 rows and 8 marks */
-    YEGNABIT_ANSWER_AREA = 512, /* row numbers */
-    YEGNABIT_HISTORY_AREA = 12288,
-    YEGNABIT_WORK_AREA = 32768,
-    YEGNABIT_DONE = 6
+    YEGNABIT_OUT = 2080,           /* bytes: 512 rows and 8 marks */
+    YEGNABIT_ANSWER_AREA = 512,    /* row numbers */
+    YEGNABIT_HISTORY_AREA = 12288, /* bytes */
+    YEGNABIT_WORK_AREA = 32768,    /* two-byte numbers */
+    YEGNABIT_DONE = 6              /* numbers of 64 bits */
 };
 
 /* What yegnabit_run leaves in `done`. */
@@ -75,10 +76,9 @@ uint64_t yegnabit_plan(const uint8_t *plan, size_t plan_length, uint8_t *out, si
 /* Reads a plan, drops each row that is neither marked nor below a marked row, and writes it; place: the bytes written. */
 uint64_t yegnabit_sweep(const uint8_t *plan, size_t plan_length, uint8_t *out, size_t out_length);
 
-/* Reads a plan, runs a script on it and writes the plan as it then is; place: 0. 11 for any area too short comes before all else, and
- * nothing is touched. After a run the answer's rows and the history stand at the front of their areas, and the rest of these and all of
- * `work` is zero; a refused plan, script or run leaves all of them, and `done`, zero. What `done` holds: enum yegnabit_done; numbers past
- * the sixth stay. */
+/* Reads a plan, runs a script on it and writes the plan as it then is; place: 0. After a run the answer's rows and the history stand at
+ * the front of their areas, and the rest of these and all of `work` is zero; a refused plan, script or run leaves all of them, and `done`,
+ * zero. What `done` holds: enum yegnabit_done; numbers past the sixth stay. */
 uint64_t yegnabit_run(const uint8_t *plan, size_t plan_length, const uint8_t *script, size_t script_length,
                       uint16_t *answer, size_t answer_length, uint8_t *history, size_t history_length,
                       uint16_t *work, size_t work_length, uint8_t *out, size_t out_length,

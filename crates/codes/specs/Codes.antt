@@ -4,6 +4,7 @@ use Prim.Native.Nat.{ℕ, _+_, _*_, _%_}
 use lib.Dec.{eqb}
 use Rattle.model.specs.Base.{pick}
 use Rattle.writer.specs.Writing.{planWritten, writtenOut}
+use Rattle.table.specs.declared.Fault.{Fault}
 use Rattle.table.specs.declared.TableResult.{TableResult}
 use Rattle.table.specs.declared.Written.{Written}
 
@@ -19,10 +20,16 @@ lentCode = codeOf 11 0 0
 abbrev pub writtenCode : Written → ℕ
 writtenCode w = codeOf (w .fault .number) 0 (w .bytes)
 
--- THE END of a call that gives a table: its refusal, of which `which` says whose it is, and out as it was; or the table written
+-- A REFUSAL, of which `which` says whose it is, and an area as it was; or what else is answered and left
+abbrev pub codeUnless : Fault → (which rest : ℕ) → ℕ
+codeUnless f w n = pick (eqb (f .number) 0) n (codeOf (f .number) w (f .place))
+
+abbrev pub areaUnless : Fault → (rest area : List ℕ) → List ℕ
+areaUnless f b o = pick (eqb (f .number) 0) b o
+
+-- THE END of a call that gives a table: its refusal, or the table written
 abbrev pub finishedCode : TableResult → (which : ℕ) → (out : List ℕ) → ℕ
-finishedCode r w o =
-    pick (eqb (r .fault .number) 0) (writtenCode (planWritten (r .table) o)) (codeOf (r .fault .number) w (r .fault .place))
+finishedCode r w o = codeUnless (r .fault) w (writtenCode (planWritten (r .table) o))
 
 abbrev pub finishedOut : TableResult → (out : List ℕ) → List ℕ
-finishedOut r o = pick (eqb (r .fault .number) 0) (writtenOut (r .table) o) o
+finishedOut r o = areaUnless (r .fault) (writtenOut (r .table) o) o

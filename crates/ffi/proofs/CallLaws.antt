@@ -8,8 +8,8 @@ use lib.ListN.{length}
 use borrow.Author.Tests.{lt-ltb, le-ltb, eq-eqb, ne-eqb}
 use Rattle.model.specs.Base.{pick}
 use Rattle.table.specs.declared.TableResult.{TableResult}
-use Rattle.ffi.specs.Calls.{readCode, readOut, analysisCode}
-use Rattle.codes.specs.Codes.{codeOf, lentCode}
+use Rattle.ffi.specs.Calls.{analysisCode}
+use Rattle.codes.specs.Codes.{codeOf, lentCode, codeUnless, areaUnless}
 use Rattle.lent.specs.Done.{outNeed}
 use Rattle.paths.specs.declared.Analysis.{Analysis}
 
@@ -26,7 +26,7 @@ module _ (o : List ℕ) (n : ℕ) (b : List ℕ) where
 
   module _ (h : outNeed ≤ length o) {q r : TableResult} (e : r ≡ q) where
     pub plan-refused : {c : ℕ} → c ≡ codeOf (r .fault .number) 1 (r .fault .place) → (r .fault .number ≡ 0 → ⊥) →
-        Answers o (readCode q n) (readOut q b o) c o
+        Answers o (codeUnless (q .fault) 1 n) (areaUnless (q .fault) b o) c o
     plan-refused f z = (
       f ∙ ap (λ (t : TableResult). codeOf (t .fault .number) 1 (t .fault .place)) e ∙ rw (le-ltb (length o) outNeed h, y),
       rw (le-ltb (length o) outNeed h, y),
@@ -35,7 +35,7 @@ module _ (o : List ℕ) (n : ℕ) (b : List ℕ) where
         y : eqb (q .fault .number) 0 ≡ false
         y = ne-eqb (q .fault .number) 0 (λ k. z (ap (λ (t : TableResult). t .fault .number) e ∙ k))
 
-    pub plan-done : {c : ℕ} {l : List ℕ} → c ≡ n → l ≡ b → r .fault .number ≡ 0 → Answers o (readCode q n) (readOut q b o) c l
+    pub plan-done : {c : ℕ} {l : List ℕ} → c ≡ n → l ≡ b → r .fault .number ≡ 0 → Answers o (codeUnless (q .fault) 1 n) (areaUnless (q .fault) b o) c l
     plan-done f g z = (f ∙ rw (le-ltb (length o) outNeed h, y), g ∙ rw (le-ltb (length o) outNeed h, y))
       where
         y : eqb (q .fault .number) 0 ≡ true

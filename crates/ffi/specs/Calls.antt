@@ -1,11 +1,11 @@
 -- What the C calls answer and leave, for every input, from what the calls of the library answer. Assumes nothing: these are definitions.
 use mathlib.Core.List.{List}
 use Prim.Native.Nat.{ℕ}
-use lib.Dec.{ltb, eqb}
+use lib.Dec.{ltb}
 use lib.ListN.{length}
 use Rattle.model.specs.Base.{pick}
 use Rattle.plan.specs.Calls as library
-use Rattle.codes.specs.Codes.{codeOf, lentCode, finishedCode, finishedOut}
+use Rattle.codes.specs.Codes.{codeOf, lentCode, codeUnless, areaUnless, finishedCode, finishedOut}
 use Rattle.lent.specs.Done.{outNeed}
 use Rattle.sweep.specs.Sweeping.{planSwept}
 use Rattle.paths.specs.Analysis.{analysed, valuesOf}
@@ -20,32 +20,25 @@ planCode p o = pick (ltb (length o) outNeed) lentCode (finishedCode (library.pla
 abbrev pub planOut : (plan out : List ℕ) → List ℕ
 planOut p o = pick (ltb (length o) outNeed) o (finishedOut (library.planRead p) o)
 
--- once the plan is read: its own refusal, and out as it was; or what the rest of a call answers and leaves
-abbrev pub readCode : TableResult → (rest : ℕ) → ℕ
-readCode q n = pick (eqb (q .fault .number) 0) n (codeOf (q .fault .number) 1 (q .fault .place))
-
-abbrev pub readOut : TableResult → (rest out : List ℕ) → List ℕ
-readOut q b o = pick (eqb (q .fault .number) 0) b o
-
--- READ, SWEEP AND WRITE
+-- READ, SWEEP AND WRITE: the plan's own refusal, then the call's
 abbrev pub sweptPlan : (plan : List ℕ) → TableResult
 sweptPlan p = planSwept (library.planRead p .table)
 
 abbrev pub sweepCode : (plan out : List ℕ) → ℕ
-sweepCode p o = pick (ltb (length o) outNeed) lentCode (readCode (library.planRead p) (finishedCode (sweptPlan p) 1 o))
+sweepCode p o = pick (ltb (length o) outNeed) lentCode (codeUnless (library.planRead p .fault) 1 (finishedCode (sweptPlan p) 1 o))
 
 abbrev pub sweepOut : (plan out : List ℕ) → List ℕ
-sweepOut p o = pick (ltb (length o) outNeed) o (readOut (library.planRead p) (finishedOut (sweptPlan p) o) o)
+sweepOut p o = pick (ltb (length o) outNeed) o (areaUnless (library.planRead p .fault) (finishedOut (sweptPlan p) o) o)
 
 -- READ, TAKE A RUN BACK BY ITS HISTORY AND WRITE; a refusal of the history is which 2
 abbrev pub undonePlan : (plan history : List ℕ) → TableResult
 undonePlan p h = planUndone (library.planRead p .table) h
 
 abbrev pub undoCode : (plan history out : List ℕ) → ℕ
-undoCode p h o = pick (ltb (length o) outNeed) lentCode (readCode (library.planRead p) (finishedCode (undonePlan p h) 2 o))
+undoCode p h o = pick (ltb (length o) outNeed) lentCode (codeUnless (library.planRead p .fault) 1 (finishedCode (undonePlan p h) 2 o))
 
 abbrev pub undoOut : (plan history out : List ℕ) → List ℕ
-undoOut p h o = pick (ltb (length o) outNeed) o (readOut (library.planRead p) (finishedOut (undonePlan p h) o) o)
+undoOut p h o = pick (ltb (length o) outNeed) o (areaUnless (library.planRead p .fault) (finishedOut (undonePlan p h) o) o)
 
 -- TWO SCRIPTS ANALYSED: the first refused, or 0 free, 1 upward, 2 meet as `which`
 abbrev pub analysisCode : Analysis → ℕ

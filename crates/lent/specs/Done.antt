@@ -3,14 +3,14 @@ use mathlib.Core.Path.{_≡_}
 use mathlib.Core.Bool.{Bool, true, _||_}
 use mathlib.Core.List.{List, [], _∷_}
 use Prim.Native.Nat.{ℕ, _+_, _*_, _≤_}
-use lib.Dec.{ltb, eqb}
+use lib.Dec.{ltb}
 use lib.ListN.{length}
-use Rattle.model.specs.Base.{pick, atFront}
+use Rattle.model.specs.Base.{atFront}
 use Rattle.model.specs.Limits.{maxRows, documents, answerNeed, historyNeed, workNeed}
-use Rattle.writer.specs.Writing.{planWritten}
+use Rattle.writer.specs.Writing.{planWritten, writtenOut}
 use Rattle.table.specs.Words.{fits}
 use Rattle.run.specs.declared.RunResult.{RunResult}
-use Rattle.codes.specs.Codes.{codeOf, finishedOut}
+use Rattle.codes.specs.Codes.{codeOf, codeUnless, areaUnless}
 
 -- what out needs, 2,080: four bytes for each row and mark of the longest plan
 abbrev pub outNeed : ℕ
@@ -30,16 +30,14 @@ doneOver i m c r b n d = atFront (i ∷ m ∷ c ∷ r ∷ b ∷ n ∷ []) d
 
 -- ONCE THE RUN IS OVER: its refusal, out as it was and done zero; or the plan written, and its six numbers
 abbrev pub endCode : RunResult → (out : List ℕ) → ℕ
-endCode r o =
-    pick (eqb (r .fault .number) 0) (codeOf (planWritten (r .table) o .fault .number) 0 0)
-    (codeOf (r .fault .number) 2 (r .fault .place))
+endCode r o = codeUnless (r .fault) 2 (codeOf (planWritten (r .table) o .fault .number) 0 0)
 
 abbrev pub endOut : RunResult → (out : List ℕ) → List ℕ
-endOut r o = finishedOut (record { fault = r .fault; table = r .table }) o
+endOut r o = areaUnless (r .fault) (writtenOut (r .table) o) o
 
 abbrev pub endDone : RunResult → (out done : List ℕ) → List ℕ
 endDone r o d =
-    pick (eqb (r .fault .number) 0)
+    areaUnless (r .fault)
     (doneOver (r .items) (r .tally .made) (r .tally .cut) (r .tally .records) (r .bytes) (planWritten (r .table) o .bytes) d)
     (doneOver 0 0 0 0 0 0 d)
 

@@ -13,11 +13,12 @@ pub casesHold : Cases
 unfolding any all among filtered readFrom lastMarked parseFrom isBelowFrom collect run loop cutAll copyAll copyEach copyOf
     infer prefixed prefixesOf hasUp cell startCells stepCells
 casesHold = (
-  (refl, refl, refl, refl, refl, refl, refl, refl, refl),
+  (refl, refl, refl, refl, refl, refl, refl, refl, refl, refl, refl),
   refl,
   refl,
   (refl, refl),
   (refl, refl, refl),
+  refl,
   refl,
   refl,
   refl,

@@ -94,16 +94,17 @@ ranBy x a h w (gives v s) =
 abbrev pub areasFit : (answer history work : List ℕ) → Bool
 areasFit a h w = leb answerNeed (length a) && leb historyNeed (length h) && leb workNeed (length w)
 
--- 11 first, nothing touched; then 6 at place 0; then the script's own refusal; then the run's
-abbrev pub runCall : Table → (script answer history work : List ℕ) → Ran
-runCall x b a h w =
-    pick (areasFit a h w) (ranBy x (length a) (length h) (length w) (pick (isWell x) (runBy x (readScript b)) (stop (linkAt 0))))
-    (refusedRun lentShort x a h w)
+-- 11 first, at place 0, and nothing touched; else what a run that came to this outcome leaves
+abbrev pub inAreas : Table → (answer history work : List ℕ) → Out → Ran
+inAreas x a h w o = pick (areasFit a h w) (ranBy x (length a) (length h) (length w) o) (refusedRun lentShort x a h w)
 
--- the run of whatever script on a table handed in ill formed: 11 first, then 6 at place 0
+-- then 6 at place 0; then the script's own refusal; then the run's
+abbrev pub runCall : Table → (script answer history work : List ℕ) → Ran
+runCall x b a h w = inAreas x a h w (pick (isWell x) (runBy x (readScript b)) (stop (linkAt 0)))
+
+-- the run of whatever script on a table handed in ill formed
 abbrev pub unfitRun : Table → (answer history work : List ℕ) → Ran
-unfitRun x a h w =
-    pick (areasFit a h w) (ranBy x (length a) (length h) (length w) (stop (linkAt 0))) (refusedRun lentShort x a h w)
+unfitRun x a h w = inAreas x a h w (stop (linkAt 0))
 
 -- DEMAND 1: a refusal has a number of the table: of a plan and of a history 1 to 6, of a script 1 to 5, of a run 7 to 10
 abbrev pub RefusedByTable : Type 0
@@ -139,14 +140,15 @@ CallsEqual x r r′ s s′ =
     CallsMatch (count x) (count (r .plan) - count x) (count (s .plan) - count x) (r .plan) x r′ s ×
     PlansEqual (count x) (count (r .plan) - count x) (count (s .plan) - count x) (r′ .plan) (s′ .plan)
 
--- both orders of two scripts' calls: one ends without refusal exactly when the other does, and then they are equal
+-- one order ends without refusal exactly when the other does, and then they are equal
+abbrev pub OrdersAgree : Table → (one oneThen two twoThen : Ran) → Type 0
+OrdersAgree x r r′ s s′ = (callsEnd r r′ ≡ callsEnd s s′) × (callsEnd r r′ ≡ true → CallsEqual x r r′ s s′)
+
+-- both orders of two scripts' calls, the second on the table as the first left it
 abbrev pub EitherOrder : (first second : List ℕ) → Table → (a h w a′ h′ w′ : List ℕ) → Type 0
 EitherOrder b c x a h w a′ h′ w′ =
-    (callsEnd (runCall x b a h w) (runCall (runCall x b a h w .plan) c a′ h′ w′) ≡
-    callsEnd (runCall x c a′ h′ w′) (runCall (runCall x c a′ h′ w′ .plan) b a h w)) ×
-    (callsEnd (runCall x b a h w) (runCall (runCall x b a h w .plan) c a′ h′ w′) ≡ true →
-    CallsEqual x (runCall x b a h w) (runCall (runCall x b a h w .plan) c a′ h′ w′) (runCall x c a′ h′ w′)
-    (runCall (runCall x c a′ h′ w′ .plan) b a h w))
+    OrdersAgree x (runCall x b a h w) (runCall (runCall x b a h w .plan) c a′ h′ w′) (runCall x c a′ h′ w′)
+    (runCall (runCall x c a′ h′ w′ .plan) b a h w)
 
 abbrev pub CallsCommute : Type 0
 CallsCommute =

@@ -60,6 +60,13 @@ bytesLeavesBelow = 0x04 ∷ 0x01 ∷ 0x02 ∷ 0x00 ∷ 0x02 ∷ 0x00 ∷ []
 abbrev pub bytesLetX : List ℕ
 bytesLetX = 0x06 ∷ (twos ++ (0x05 ∷ 0x0B ∷ 0x03 ∷ 0x00 ∷ 0x04 ∷ 0x00 ∷ 0x02 ∷ 0x00 ∷ 0x03 ∷ 0x00 ∷ []))
 
+-- a copy of the children named 2, against a delete of the leaves below them
+abbrev pub bytesCopyTwos : List ℕ
+bytesCopyTwos = 0x0C ∷ (twos ++ threes)
+
+abbrev pub bytesDeleteLeaves : List ℕ
+bytesDeleteLeaves = 0x0B ∷ 0x04 ∷ 0x00 ∷ 0x02 ∷ 0x00 ∷ twos
+
 abbrev pub bytesDeleteRoot : List ℕ
 bytesDeleteRoot = 0x0B ∷ 0x02 ∷ 0x00 ∷ []
 
@@ -91,6 +98,12 @@ leavesBelow = script bytesLeavesBelow
 abbrev pub letX : Expr
 letX = script bytesLetX
 
+abbrev pub copyTwos : Expr
+copyTwos = script bytesCopyTwos
+
+abbrev pub deleteLeaves : Expr
+deleteLeaves = script bytesDeleteLeaves
+
 abbrev pub deleteRoot : Expr
 deleteRoot = script bytesDeleteRoot
 
@@ -119,7 +132,7 @@ afterItself = tableOf (runOn planP intoItself)
 abbrev pub AllAccepted : Type 0
 AllAccepted =
     accepted bytesA × accepted bytesTwin × accepted bytesB × accepted bytesDeleteTwos × accepted bytesLeavesBelow × accepted bytesLetX ×
-    accepted bytesDeleteRoot × accepted bytesTwice × accepted bytesIntoItself
+    accepted bytesCopyTwos × accepted bytesDeleteLeaves × accepted bytesDeleteRoot × accepted bytesTwice × accepted bytesIntoItself
 
 abbrev pub Cases : Type 0
 Cases =
@@ -127,8 +140,8 @@ Cases =
     (count planP ≡ 4) × (answerOf (runOn planP scriptA) ≡ 2 ∷ []) ×
     ((answerOf (runOn planP scriptTwin) ≡ []) × (ends (runOn planP scriptTwin) ≡ true)) ×
     ((count afterB ≡ 6) × (rowAt afterB 4 ≡ elementRow 4 none) × (rowAt afterB 5 ≡ elementRow 4 (some 3))) ×
-    (answer deleteTwos scriptA ≡ meet) × (answer deleteTwos leavesBelow ≡ meet) × (answer scriptB scriptB ≡ free) ×
-    (answer scriptA scriptB ≡ free) × (answerOf (runOn planP letX) ≡ 2 ∷ []) ×
+    (answer deleteTwos scriptA ≡ meet) × (answer deleteTwos leavesBelow ≡ meet) × (answer copyTwos deleteLeaves ≡ meet) ×
+    (answer scriptB scriptB ≡ free) × (answer scriptA scriptB ≡ free) × (answerOf (runOn planP letX) ≡ 2 ∷ []) ×
     ((historyOf (runOn planP deleteRoot) ≡ []) × (ends (runOn planP deleteRoot) ≡ true)) ×
     ((count afterTwice ≡ 8) × (parentAt afterTwice 4 ≡ some 3) × (parentAt afterTwice 5 ≡ some 4) × (parentAt afterTwice 6 ≡ some 3) ×
     (parentAt afterTwice 7 ≡ some 6)) ×

@@ -89,13 +89,19 @@ isTouched x h i e f =
     (isOn x h i (pathsOf 1 e .modified) && isOn x h i (traversed (pathsOf 2 f))) ||
     (isOn x h i (pathsOf 2 f .modified) && isOn x h i (traversed (pathsOf 1 e)))
 
+-- no plan has such a row; some plan has one
+abbrev pub NeverTouched : (one two : Expr) → Type 0
+NeverTouched e f = (x : Table) (h : Places) (i : ℕ) → isTree x ≡ true → ArePlaces x h → i < count x → isTouched x h i e f ≡ false
+
+abbrev pub SomewhereTouched : (one two : Expr) → Type 0
+SomewhereTouched e f =
+    (x : Table) × ((h : Places) × ((i : ℕ) × ((isTree x ≡ true) × ArePlaces x h × (i < count x) × (isTouched x h i e f ≡ true))))
+
 abbrev pub FreeMeans : Type 0
 FreeMeans =
     (e f : Expr) → IsScript e → IsScript f →
-    ((answer e f ≡ upward) ↔ ((hasUp e || hasUp f) ≡ true)) ×
-    (answer e f ≡ free → (x : Table) (h : Places) (i : ℕ) → isTree x ≡ true → ArePlaces x h → i < count x → isTouched x h i e f ≡ false) ×
-    (answer e f ≡ meet →
-    (x : Table) × ((h : Places) × ((i : ℕ) × ((isTree x ≡ true) × ArePlaces x h × (i < count x) × (isTouched x h i e f ≡ true)))))
+    ((answer e f ≡ upward) ↔ ((hasUp e || hasUp f) ≡ true)) × (answer e f ≡ free → NeverTouched e f) ×
+    (answer e f ≡ meet → SomewhereTouched e f)
 
 -- DEMAND 3, the two orders: what a run leaves
 abbrev pub tableOf : Out → Table

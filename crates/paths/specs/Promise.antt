@@ -1,15 +1,15 @@
 -- The demands on what the call `analyse` says of two scripts' bytes. Each is a type; its proof is in proofs/Promised. Assumes nothing.
 use mathlib.Core.Path.{_≡_}
 use mathlib.Core.Logic.{_↔_}
-use mathlib.Core.Bool.{true, false, _||_}
+use mathlib.Core.Bool.{true, _||_}
 use mathlib.Core.List.{List}
-use Prim.Native.Nat.{ℕ, _<_}
+use Prim.Native.Nat.{ℕ}
 use Rattle.model.specs.Base.{areBytes}
-use Rattle.model.specs.Table.{Table, count, isTree, isWell}
+use Rattle.model.specs.Table.{Table, isWell}
 use Rattle.model.specs.Script.{Expr, parsed, readScript}
 use Rattle.model.specs.Paths.{hasUp}
 use Rattle.model.specs.Call.{areasFit, EitherOrder}
-use Rattle.model.specs.Promise.{Places, ArePlaces, isTouched}
+use Rattle.model.specs.Promise.{NeverTouched, SomewhereTouched}
 use Rattle.paths.specs.Analysis.{analysed, values, valuesOf}
 
 -- the bytes are accepted, and read as the expression
@@ -22,10 +22,7 @@ abbrev pub AnalysedMeans : Type 0
 AnalysedMeans =
     (b c : List ℕ) (e f : Expr) → areBytes b ≡ true → areBytes c ≡ true → ReadAs b e → ReadAs c f →
     ((valuesOf (analysed b c) ≡ values 0 1 0) ↔ ((hasUp e || hasUp f) ≡ true)) ×
-    (valuesOf (analysed b c) ≡ values 0 0 0 →
-    (x : Table) (h : Places) (i : ℕ) → isTree x ≡ true → ArePlaces x h → i < count x → isTouched x h i e f ≡ false) ×
-    (valuesOf (analysed b c) ≡ values 0 2 0 →
-    (x : Table) × ((h : Places) × ((i : ℕ) × ((isTree x ≡ true) × ArePlaces x h × (i < count x) × (isTouched x h i e f ≡ true)))))
+    (valuesOf (analysed b c) ≡ values 0 0 0 → NeverTouched e f) × (valuesOf (analysed b c) ≡ values 0 2 0 → SomewhereTouched e f)
 
 -- DEMAND 3, the two orders of two scripts of which the call says free, 0
 abbrev pub AnalysedCommute : Type 0

@@ -4,7 +4,7 @@ use mathlib.Core.List.{List}
 use Prim.Native.Nat.{ℕ}
 use lib.Dec.{eqb}
 use Rattle.model.specs.Base.{pick}
-use Rattle.codes.specs.Codes.{codeOf, lentCode, writtenCode}
+use Rattle.codes.specs.Codes.{codeOf, lentCode, codeUnless, writtenCode}
 use Rattle.writer.specs.Writing as library
 use Rattle.sweep.specs.Sweeping as sweeping
 use Rattle.script.specs.Reading.{scriptRead}
@@ -41,4 +41,4 @@ marksLeft n ws ms = pick (isGiven ws ms && eqb (sweptTable n ws ms .fault .numbe
 
 -- A SCRIPT read
 abbrev pub scriptCode : (script : List ℕ) → ℕ
-scriptCode b = pick (eqb (scriptRead b .number) 0) (codeOf 0 0 0) (codeOf (scriptRead b .number) 2 (scriptRead b .place))
+scriptCode b = codeUnless (scriptRead b) 2 (codeOf 0 0 0)

@@ -11,7 +11,7 @@ use Rattle.model.specs.Refusal as refusal
 use Rattle.model.specs.Table as model
 use Rattle.model.specs.Script.{readScript}
 use Rattle.model.specs.Run.{State, Out, stop, gives}
-use Rattle.model.specs.Call.{Ran, areasFit, ranBy, refusedRun, runBy, runCall}
+use Rattle.model.specs.Call.{Ran, areasFit, ranBy, refusedRun, runBy, runCall, OrdersAgree}
 use Rattle.model.proofs.BoolLaws.{by-cases, pick-true, pick-false}
 use Rattle.model.proofs.CallsCommute.{callsCommute}
 use Rattle.table.specs.Results.{faultOf}
@@ -20,7 +20,7 @@ use Rattle.table.specs.declared.Table.{Table}
 use Rattle.table.proofs.FittedLaws.{well-decode}
 use Rattle.table.proofs.EncodeLaws.{decode-encode, fits-encode}
 use Rattle.run.specs.Calls.{outcomeOf, ran, resultOf, runResult}
-use Rattle.run.specs.Promise.{RunsAsCalled, RunsUnfit, RunsOn, RefusedGivesBack, RefusedLeaves, EitherEnd, RunsCommute}
+use Rattle.run.specs.Promise.{RunsAsCalled, RunsUnfit, RunsOn, RefusedGivesBack, RefusedLeaves, RunsCommute}
 use Rattle.run.specs.declared.RunResult.{RunResult}
 use Rattle.run.proofs.OutcomeLaws.{Refuses, outcome-refuses}
 use Rattle.model.proofs.RunsBack.{runBy-back}
@@ -118,6 +118,6 @@ module _ (t : Table) (e : fits t ≡ true) where
 pub runsCommute : RunsCommute
 runsCommute b c t a h w a′ h′ w′ bytes bytes′ is e fit fit′ =
     transport (λ i.
-    EitherEnd t (sym (runsAsCalled t b a h w e) i) (sym (then-called t e b c a h w a′ h′ w′ bytes) i)
+    OrdersAgree (decode t) (sym (runsAsCalled t b a h w e) i) (sym (then-called t e b c a h w a′ h′ w′ bytes) i)
     (sym (runsAsCalled t c a′ h′ w′ e) i) (sym (then-called t e c b a′ h′ w′ a h w bytes′) i))
     (callsCommute b c (decode t) a h w a′ h′ w′ bytes bytes′ is (well-decode t e) fit fit′)

@@ -8,7 +8,7 @@ use Rattle.model.specs.Limits.{answerNeed, historyNeed, workNeed}
 use Rattle.model.specs.Refusal as refusal
 use Rattle.model.specs.Script.{readScript}
 use Rattle.model.specs.Run.{Out, stop}
-use Rattle.model.specs.Call.{Ran, areasFit, ranBy, refusedRun, runBy}
+use Rattle.model.specs.Call.{Ran, ranBy, inAreas, runBy}
 use Rattle.table.specs.Words.{encode, decode, fits}
 use Rattle.table.specs.Results.{faultOf}
 use Rattle.table.specs.declared.Table.{Table}
@@ -22,9 +22,7 @@ outcomeOf t b = pick (fits t) (runBy (decode t) (readScript b)) (stop (refusal.l
 
 -- 11 comes first, and nothing is touched
 abbrev pub ran : Table → (script answer history work : List ℕ) → Ran
-ran t b a h w =
-    pick (areasFit a h w) (ranBy (decode t) (length a) (length h) (length w) (outcomeOf t b))
-    (refusedRun refusal.lentShort (decode t) a h w)
+ran t b a h w = inAreas (decode t) a h w (outcomeOf t b)
 
 -- what it gives back: refused, the table is as it was handed in and the tally zero
 abbrev pub tallyOf : Ran → Tally

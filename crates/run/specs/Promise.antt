@@ -7,7 +7,7 @@ use lib.ListN.{length, replicate}
 use Rattle.model.specs.Base.{isIn, areBytes}
 use Rattle.model.specs.Meeting.{free}
 use Rattle.model.specs.Refusal.{lentShort}
-use Rattle.model.specs.Call.{Ran, answered, analyse, areasFit, runCall, unfitRun, callsEnd, CallsEqual}
+use Rattle.model.specs.Call.{answered, analyse, areasFit, runCall, unfitRun, OrdersAgree}
 use Rattle.table.specs.Results.{faultOf}
 use Rattle.table.specs.Words.{decode, fits}
 use Rattle.table.specs.declared.Table.{Table}
@@ -44,13 +44,14 @@ RefusedLeaves =
     (ran t b a h w .answer ≡ replicate (length a) 0) × (ran t b a h w .history ≡ replicate (length h) 0) ×
     (ran t b a h w .work ≡ replicate (length w) 0))
 
--- DEMAND 3: two scripts of which the analysis says free, run one after the other on the table that the first gave back
-abbrev pub EitherEnd : Table → (one oneThen two twoThen : Ran) → Type 0
-EitherEnd t r r′ s s′ = (callsEnd r r′ ≡ callsEnd s s′) × (callsEnd r r′ ≡ true → CallsEqual (decode t) r r′ s s′)
+-- DEMAND 3: both orders of two scripts' calls, the second on the table that the first gave back
+abbrev pub EitherRun : (first second : List ℕ) → Table → (a h w a′ h′ w′ : List ℕ) → Type 0
+EitherRun b c t a h w a′ h′ w′ =
+    OrdersAgree (decode t) (ran t b a h w) (ran (runResult t b a h w .table) c a′ h′ w′) (ran t c a′ h′ w′)
+    (ran (runResult t c a′ h′ w′ .table) b a h w)
 
+-- of two scripts of which the analysis says free
 abbrev pub RunsCommute : Type 0
 RunsCommute =
     (b c : List ℕ) (t : Table) (a h w a′ h′ w′ : List ℕ) → areBytes b ≡ true → areBytes c ≡ true → analyse b c ≡ answered free →
-    fits t ≡ true → areasFit a h w ≡ true → areasFit a′ h′ w′ ≡ true →
-    EitherEnd t (ran t b a h w) (ran (runResult t b a h w .table) c a′ h′ w′) (ran t c a′ h′ w′)
-    (ran (runResult t c a′ h′ w′ .table) b a h w)
+    fits t ≡ true → areasFit a h w ≡ true → areasFit a′ h′ w′ ≡ true → EitherRun b c t a h w a′ h′ w′

@@ -17,13 +17,12 @@ use Rattle.model.specs.Stored.{stored, got, readPlan}
 use Rattle.model.specs.Sweep.{swept}
 use Rattle.model.specs.Table.{Table}
 use Rattle.model.specs.Undo.{back, undo}
 use Rattle.ffi.specs.Calls.{planCode, planOut, sweepCode, sweepOut, undoCode, undoOut, analyseCode}
 use Rattle.codes.specs.Codes.{codeOf}
 use Rattle.ffi.specs.Running.{Called, refusedCall, runCalled}
 use Rattle.lent.specs.Done.{outNeed, isLentShort, doneOver}
 use Rattle.paths.specs.Analysis.{analysed, values, valuesOf}
-use Rattle.run.specs.Calls.{ran, runResult}
-use Rattle.run.specs.Promise.{EitherEnd}
+use Rattle.run.specs.Promise.{EitherRun}
 use Rattle.table.specs.Words.{fits}
 use Rattle.table.specs.declared.Table as declared
 
@@ -91,8 +90,7 @@ abbrev pub FreeRunsCommute : Type 0
 FreeRunsCommute =
     (b c : List ℕ) (t : declared.Table) (a h w a′ h′ w′ : List ℕ) → areBytes b ≡ true → areBytes c ≡ true →
     valuesOf (analysed b c) ≡ values 0 0 0 → fits t ≡ true → areasFit a h w ≡ true → areasFit a′ h′ w′ ≡ true →
-    EitherEnd t (ran t b a h w) (ran (runResult t b a h w .table) c a′ h′ w′) (ran t c a′ h′ w′)
-    (ran (runResult t c a′ h′ w′ .table) b a h w)
+    EitherRun b c t a h w a′ h′ w′
 
 -- AND THROUGH C: a script and the areas lent to its run
 pub record Request : Type 0 where

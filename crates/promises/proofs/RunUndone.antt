@@ -16,11 +16,11 @@ use Rattle.lent.specs.Done.{isLentShort}
 use Rattle.plan.specs.Calls as library
 use Rattle.plan.proofs.Promised.{read-got}
 use Rattle.model.proofs.RunsBack.{runBy-back}
 use Rattle.ffi.specs.Calls.{undoCode, undoOut}
 use Rattle.ffi.specs.Running.{runCalled}
-use Rattle.ffi.specs.Promise.{historyLeft, RunUndone}
+use Rattle.promises.specs.Promise.{historyLeft, RunUndone}
 use Rattle.ffi.proofs.RunLaws.{call-short, call-plan-refused}
-use Rattle.ffi.proofs.Promised.{undone-back, plan-left, history-left, call-ends}
+use Rattle.promises.proofs.Promised.{undone-back, plan-left, history-left, call-ends}
 
 -- THE ANSWER 0: no area is too short, and the plan is read
 module _ (p s a h w o d : List ℕ) (answers : runCalled p s a h w o d .code ≡ codeOf 0 0 0) where

@@ -30,12 +30,12 @@ use Rattle.sweep.specs.Sweeping as sweeping
 use Rattle.table.specs.declared.TableResult.{TableResult}
 use Rattle.undo.specs.Undoing.{planUndone, undoneBy}
 use Rattle.run.specs.Calls.{ran, resultOf, outcomeOf}
-use Rattle.ffi.specs.Calls.{readCode, readOut, undoCode, undoOut}
-use Rattle.codes.specs.Codes.{codeOf, lentCode, writtenCode, finishedCode, finishedOut}
+use Rattle.ffi.specs.Calls.{undoCode, undoOut}
+use Rattle.codes.specs.Codes.{codeOf, lentCode, codeUnless, areaUnless, writtenCode, finishedCode, finishedOut}
 use Rattle.ffi.specs.Running.{refusedCall, ranCall, readCall, runCalled, Called}
 use Rattle.lent.specs.Done.{outNeed, isLentShort, doneOver}
-use Rattle.ffi.specs.Promise.{PlanBack, SweptBack, UndoneBack, RunDone, RunRefused, FreeRunsCommute, endedCall}
-use Rattle.ffi.specs.Promise.{planLeft, historyLeft}
+use Rattle.promises.specs.Promise.{PlanBack, SweptBack, UndoneBack, RunDone, RunRefused, FreeRunsCommute, endedCall}
+use Rattle.promises.specs.Promise.{planLeft, historyLeft}
 use Rattle.table.proofs.EncodeLaws.{decode-encode, fits-encode}
 use Rattle.writer.proofs.WritePlanLaws.{well-written, well-out}
 use Rattle.plan.proofs.Promised.{read-short, read-back}
@@ -52,16 +52,16 @@ module _ (p o : List ℕ) (x : model.Table) (read : readPlan p ≡ got x) (room 
   the-plan : library.planRead p ≡ results.result refusal.fine x
   the-plan = ap library.readBy read
 
-  code-then : (n : TableResult → ℕ) → pick (ltb (length o) outNeed) lentCode (readCode (library.planRead p) (n (library.planRead p))) ≡
+  code-then : (n : TableResult → ℕ) → pick (ltb (length o) outNeed) lentCode (codeUnless (library.planRead p .fault) 1 (n (library.planRead p))) ≡
       n (results.result refusal.fine x)
   code-then n =
-      ap (λ (q : TableResult). pick (ltb (length o) outNeed) lentCode (readCode q (n q))) the-plan ∙
+      ap (λ (q : TableResult). pick (ltb (length o) outNeed) lentCode (codeUnless (q .fault) 1 (n q))) the-plan ∙
       pick-false _ lentCode _ (le-ltb (length o) outNeed room)
 
-  out-then : (b : TableResult → List ℕ) → pick (ltb (length o) outNeed) o (readOut (library.planRead p) (b (library.planRead p)) o) ≡
+  out-then : (b : TableResult → List ℕ) → pick (ltb (length o) outNeed) o (areaUnless (library.planRead p .fault) (b (library.planRead p)) o) ≡
       b (results.result refusal.fine x)
   out-then b =
-      ap (λ (q : TableResult). pick (ltb (length o) outNeed) o (readOut q (b q) o)) the-plan ∙
+      ap (λ (q : TableResult). pick (ltb (length o) outNeed) o (areaUnless (q .fault) (b q) o)) the-plan ∙
       pick-false _ o _ (le-ltb (length o) outNeed room)
 
 -- a well-formed table written

@@ -19,9 +19,9 @@ use Rattle.model.proofs.StoredBack.{storedBack}
 use Rattle.codes.specs.Codes.{codeOf}
 use Rattle.paths.proofs.Promised.{free-which}
 use Rattle.run.proofs.OutcomeLaws.{refuses-fine, run-refuses}
 use Rattle.ffi.specs.Running.{Called}
-use Rattle.ffi.specs.Promise.{planLeft, Request, Suffices, runRequest, runAfter, OrderAnswers, told, FreeCallsCommute}
-use Rattle.ffi.proofs.Promised.{needs, run-done, plan-left, call-ends}
+use Rattle.promises.specs.Promise.{planLeft, Request, Suffices, runRequest, runAfter, OrderAnswers, told, FreeCallsCommute}
+use Rattle.promises.proofs.Promised.{needs, run-done, plan-left, call-ends}
 
 -- the model's run
 abbrev modelRun : Table → Request → Ran

@@ -1,0 +1,3 @@
+pub mod Promised
+pub mod RunUndone
+pub mod FreeCalls
