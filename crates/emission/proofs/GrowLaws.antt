@@ -13,7 +13,7 @@ use Rattle.model.specs.Paths.{anyBelow, isUp}
 use Rattle.positions.specs.Positions.{Entry, plain, accessing, modifying, over, union}
 use Rattle.positions.specs.Positions as positions
 use Rattle.meeting.specs.Codes.{stepOf}
-use Rattle.positions.specs.Words.{markedBy, entryBy, rootBy, overBy, unionBy, PositionFits, entriesIn, PushPost}
+use Rattle.positions.specs.Words.{withRole, entryBy, rootBy, overBy, unionBy, PositionFits, entriesIn, PushPost}
 use Rattle.emission.specs.Emitting.{outOf, GrowPre, Grown, BelowPre, BelowPost}
 use Rattle.positions.specs.declared.packed.Position.{Position}
 use Rattle.meeting.specs.declared.cells.Step.{Step}
@@ -21,10 +21,10 @@ use Rattle.emission.specs.declared.emit.Emitted.{Emitted}
 use Rattle.positions.proofs.WordLaws.{entriesIn-length}
 
 -- FIELDS in range
-fits-by : {p q : Position} → p ≡ q → q .kind < 4 → q .mark < 4 → q .axis < 4 → q .test < 4 → q .name < 256 → q .first < 128 →
+fits-by : {p q : Position} → p ≡ q → q .kind < 4 → q .role < 4 → q .axis < 4 → q .test < 4 → q .name < 256 → q .first < 128 →
     q .second < 128 → PositionFits p
 fits-by e k m a t n f s =
-    subst PositionFits (sym e) (record { kind = k; mark = m; axis = a; test = t; name = n; first = f; second = s })
+    subst PositionFits (sym e) (record { kind = k; role = m; axis = a; test = t; name = n; first = f; second = s })
 
 pub root-fits : (p : Position) (d : ℕ) → p ≡ rootBy d → d < 256 → PositionFits p
 root-fits p d e h = fits-by e (omega arith) (omega arith) (omega arith) (omega arith) h (omega arith) (omega arith)
@@ -58,8 +58,8 @@ two-pushed ws ws₁ ws₂ n p q x y one two e f =
 
 -- the code's entries are the model's
 over-entry : (p : Position) (m : ℕ) (s : Step) (i : ℕ) (u : model.Step) → p ≡ overBy m s i → stepOf s ≡ u →
-    entryBy p ≡ markedBy m (over u i)
-over-entry p m s i u e f = ap entryBy e ∙ ap (λ (v : model.Step). markedBy m (over v i)) f
+    entryBy p ≡ withRole m (over u i)
+over-entry p m s i u e f = ap entryBy e ∙ ap (λ (v : model.Step). withRole m (over v i)) f
 
 -- whether a step has an entry
 step-chosen : (ws : List ℕ) (y : Emitted) (s : Step) (up none : Bool) → up ≡ isUp (stepOf s) → (eqb (y .result) 0 && not up) ≡ none →
@@ -137,17 +137,17 @@ module _ {ws : List ℕ} {y : Emitted} (pre : GrowPre ws y) where
   union-second first low f e = chosen first low (rw (ne-eqb first 0 f, eq-eqb (y .result) 0 e))
 
 -- ALL BELOW a position, and twice that for an insert
-module _ (ws : List ℕ) (n mark operand : ℕ) (pre : BelowPre ws n mark operand) where
-  pub below-none : operand ≡ 0 → BelowPost ws n mark operand ws n
+module _ (ws : List ℕ) (n role operand : ℕ) (pre : BelowPre ws n role operand) where
+  pub below-none : operand ≡ 0 → BelowPost ws n role operand ws n
   below-none e =
       record { size = pre .size; is = rw (eq-eqb operand 0 e); more = omega arith; few = omega arith }
 
-  pub below-some : (operand ≡ 0 → ⊥) → (ws′ : List ℕ) (p : Position) (s : Step) → stepOf s ≡ anyBelow → p ≡ overBy mark s operand →
-      PushPost ws n p ws′ → BelowPost ws n mark operand ws′ (n + 1)
+  pub below-some : (operand ≡ 0 → ⊥) → (ws′ : List ℕ) (p : Position) (s : Step) → stepOf s ≡ anyBelow → p ≡ overBy role s operand →
+      PushPost ws n p ws′ → BelowPost ws n role operand ws′ (n + 1)
   below-some f ws′ p s b e post =
       record {
         size = post .size ∙ pre .size;
-        is = post .entries ∙ ap (λ (x : Entry). entriesIn ws n ++ (x ∷ [])) (over-entry p mark s operand anyBelow e b) ∙
+        is = post .entries ∙ ap (λ (x : Entry). entriesIn ws n ++ (x ∷ [])) (over-entry p role s operand anyBelow e b) ∙
             rw (ne-eqb operand 0 f);
         more = omega arith;
         few = omega arith;
@@ -159,7 +159,7 @@ pub insert-grown : (ws ws₁ ws₂ : List ℕ) (first : ℕ) (y : Emitted) (m n 
 insert-grown ws ws₁ ws₂ first y m n one two low =
     record {
       size = two .size;
-      is = ap (positions.emitted 0) (two .is ∙ ap (positions.pushBelow (markedBy 2) (y .result)) (one .is));
+      is = ap (positions.emitted 0) (two .is ∙ ap (positions.pushBelow (withRole 2) (y .result)) (one .is));
       place = refl;
       low = omega (arith, one .more, two .more);
       more = omega (arith, one .more, two .more);

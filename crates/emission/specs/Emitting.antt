@@ -12,7 +12,7 @@ use Rattle.model.specs.Script.{insertKind, stepBy, recordsOf, isBinder, bodySiz
 use Rattle.records.specs.Walk.{withBound, inner, endAt, exprAt}
 use Rattle.script.specs.Accepted.{Accepted}
 use Rattle.positions.specs.Positions as positions
-use Rattle.positions.specs.Words.{markedBy, entriesIn}
+use Rattle.positions.specs.Words.{withRole, entriesIn}
 use Rattle.meeting.specs.Pairs.{maxPositions}
 use Rattle.meeting.specs.declared.cells.Step.{Step}
 use Rattle.emission.specs.declared.emit.Emitted.{Emitted}
@@ -52,16 +52,16 @@ pub record PairedPre (ws : List ℕ) (first : ℕ) (y : Emitted) : Type 0 where
   pub grow : GrowPre ws y
   pub low : first < y .count
 
--- all below a position, with a mark: 1 accessed, 2 modified
-pub record BelowPre (ws : List ℕ) (n mark operand : ℕ) : Type 0 where
+-- all below a position, in a role: 1 accessed, 2 modified
+pub record BelowPre (ws : List ℕ) (n role operand : ℕ) : Type 0 where
   pub size : length ws ≡ maxPositions
   pub room : n < maxPositions
-  pub known : mark < 4
+  pub known : role < 4
   pub low : operand < n
 
-pub record BelowPost (ws : List ℕ) (n mark operand : ℕ) (ws′ : List ℕ) (r : ℕ) : Type 0 where
+pub record BelowPost (ws : List ℕ) (n role operand : ℕ) (ws′ : List ℕ) (r : ℕ) : Type 0 where
   pub size : length ws′ ≡ maxPositions
-  pub is : entriesIn ws′ r ≡ positions.pushBelow (markedBy mark) operand (entriesIn ws n)
+  pub is : entriesIn ws′ r ≡ positions.pushBelow (withRole role) operand (entriesIn ws n)
   pub more : n ≤ r
   pub few : r ≤ n + 1
 

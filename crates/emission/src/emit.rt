@@ -102,15 +102,15 @@ fn delete(words: &mut [usize], x: Emitted) -> Emitted
     }
 }
 
-// All below a position, so marked, unless it is nothing; the positions so far.
-fn below(words: &mut [usize], count: usize, mark: usize, operand: usize) -> usize
-    requires { ⌜ BelowPre (now words) count mark operand ⌝ }
-    ensures { λ r. ⌜ BelowPost (now (words .entry)) count mark operand (now (words .exit)) r ⌝ }
+// All below a position, in a role, unless it is nothing; the positions so far.
+fn below(words: &mut [usize], count: usize, role: usize, operand: usize) -> usize
+    requires { ⌜ BelowPre (now words) count role operand ⌝ }
+    ensures { λ r. ⌜ BelowPost (now (words .entry)) count role operand (now (words .exit)) r ⌝ }
 {
     if operand == 0 {
         return count;
     }
-    packed::push(words, count, Position::over(mark, any_below(), operand));
+    packed::push(words, count, Position::over(role, any_below(), operand));
     count + 1
 }
 

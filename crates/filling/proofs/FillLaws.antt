@@ -321,7 +321,7 @@ row-filled ws us t k l e f =
         ap (λ (x : ℕ). between (positions.pathsOn (entriesBy ws) x) (positions.pathsOn (entriesBy us) j)) (sym n)
 
 -- a position without a mark meets none
-pub plain-row : (ws us : List ℕ) (k : ℕ) (p : Position) → p ≡ fieldsOf (getD ws k 0) → p .mark ≡ 0 → (n : ℕ) →
+pub plain-row : (ws us : List ℕ) (k : ℕ) (p : Position) → p ≡ fieldsOf (getD ws k 0) → p .role ≡ 0 → (n : ℕ) →
     false ≡ rowMeets (entriesBy ws) (entriesBy us) k n
 plain-row ws us k p e m n = sym (any-false (meetAt (entriesBy ws) (entriesBy us) k) not-met n)
   where

@@ -100,8 +100,8 @@ fn cell(table: &[Marks], k: usize, l: usize, p: Position, q: Position) -> Cell
 fn is_tested(p: Position, q: Position) -> bool
     ensures { λ r. ⌜ r ≡ isTested (entryBy p) (entryBy q) ⌝ }
 {
-    ((p.mark == packed::MODIFIED) & (q.mark == packed::ACCESSED))
-        | ((p.mark == packed::ACCESSED) & (q.mark == packed::MODIFIED))
+    ((p.role == packed::MODIFIED) & (q.role == packed::ACCESSED))
+        | ((p.role == packed::ACCESSED) & (q.role == packed::MODIFIED))
 }
 
 // Fills in the pair k, l, p being position k, and says whether it meets.
@@ -142,7 +142,7 @@ fn row(first: &[usize], second: &[usize], table: &mut [Marks], k: usize) -> bool
     ensures { λ r. ⌜ RowPost (now (first .entry)) (now (second .entry)) k (now (table .exit)) r ⌝ }
 {
     let p = Position::unpacked(first[k]);
-    if (p.kind == packed::UNION) & (p.mark == packed::PLAIN) {
+    if (p.kind == packed::UNION) & (p.role == packed::PLAIN) {
         union_row(first, second, table, k, p);
         return false;
     }

@@ -22,7 +22,7 @@ use Rattle.meeting.proofs.CellLaws.{isMet-between, isMet-join, between-second}
 use Rattle.meeting.proofs.MirrorLaws.{anyMeet-mirror}
 use Rattle.positions.proofs.PositionLaws.{pathsOn-split}
 use Rattle.positions.proofs.DocumentLaws.{fromDocuments, owners-apart}
-use Rattle.positions.proofs.EmitLaws.{markedFrom, marked, isAccessed, isModified, marked-push, Ready, Right, none, emits}
+use Rattle.positions.proofs.EmitLaws.{pathsWithFrom, pathsWith, isAccessed, isModified, pathsWith-push, Ready, Right, none, emits}
 use Rattle.positions.proofs.TraverseLaws.{any-traversed, Own, modified-own, accessed-own, any-documents, documents-are}
 
 -- UP TO a number
@@ -43,30 +43,30 @@ anyUpTo-and true f zero = refl
 anyUpTo-and false f zero = refl
 anyUpTo-and a f (suc n) = and-or-distrib-left a (anyUpTo f n) (f n) ∙ ap (λ (t : Bool). t || (a && f n)) (anyUpTo-and a f n)
 
--- MARKED POSITIONS: a test of lists of paths, that of a joined list being either's, at each marked position
+-- POSITIONS WITH A ROLE: a test of lists of paths, that of a joined list being either's, at each such position
 module _ (h : List Path → Bool) (none : h [] ≡ false) (append : (ps qs : List Path) → h (ps ++ qs) ≡ (h ps || h qs)) (f : Entry → Bool)
     (es : List Entry) where
-  marked-next : (k : ℕ) → k < length es →
-      h (marked f (take (suc k) es)) ≡ (h (marked f (take k es)) || (f (entryAt es k) && h (pathsOn es k)))
-  marked-next k l =
-      ap (λ (v : List Entry). h (marked f v)) (take-suc es k (plain nowhere) l) ∙ ap h (marked-push f (take k es) (entryAt es k)) ∙
-      append (marked f (take k es)) _ ∙
-      ap (λ (v : List Path). h (marked f (take k es)) || h (pick (f (entryAt es k)) v [])) (sym (pathsOn-split es k l)) ∙
-      ap (λ (t : Bool). h (marked f (take k es)) || t) (chosen (f (entryAt es k)))
+  pathsWith-next : (k : ℕ) → k < length es →
+      h (pathsWith f (take (suc k) es)) ≡ (h (pathsWith f (take k es)) || (f (entryAt es k) && h (pathsOn es k)))
+  pathsWith-next k l =
+      ap (λ (v : List Entry). h (pathsWith f v)) (take-suc es k (plain nowhere) l) ∙ ap h (pathsWith-push f (take k es) (entryAt es k)) ∙
+      append (pathsWith f (take k es)) _ ∙
+      ap (λ (v : List Path). h (pathsWith f (take k es)) || h (pick (f (entryAt es k)) v [])) (sym (pathsOn-split es k l)) ∙
+      ap (λ (t : Bool). h (pathsWith f (take k es)) || t) (chosen (f (entryAt es k)))
     where
       chosen : (t : Bool) → h (pick t (pathsOn es k) []) ≡ (t && h (pathsOn es k))
       chosen true = refl
       chosen false = none
 
-  marked-take : (n : ℕ) → n ≤ length es → h (marked f (take n es)) ≡ anyUpTo (λ (k : ℕ). f (entryAt es k) && h (pathsOn es k)) n
-  unfolding anyUpTo markedFrom
-  marked-take zero l = none
-  marked-take (suc n) l =
-      marked-next n (omega arith) ∙ ap (λ (t : Bool). t || (f (entryAt es n) && h (pathsOn es n))) (marked-take n (omega arith))
+  pathsWith-take : (n : ℕ) → n ≤ length es → h (pathsWith f (take n es)) ≡ anyUpTo (λ (k : ℕ). f (entryAt es k) && h (pathsOn es k)) n
+  unfolding anyUpTo pathsWithFrom
+  pathsWith-take zero l = none
+  pathsWith-take (suc n) l =
+      pathsWith-next n (omega arith) ∙ ap (λ (t : Bool). t || (f (entryAt es n) && h (pathsOn es n))) (pathsWith-take n (omega arith))
 
-  marked-any : h (marked f es) ≡ anyUpTo (λ (k : ℕ). f (entryAt es k) && h (pathsOn es k)) (length es)
-  marked-any =
-      sym (ap (λ (v : List Entry). h (marked f v)) (take-all (length es) es (omega arith))) ∙ marked-take (length es) (omega arith)
+  pathsWith-any : h (pathsWith f es) ≡ anyUpTo (λ (k : ℕ). f (entryAt es k) && h (pathsOn es k)) (length es)
+  pathsWith-any =
+      sym (ap (λ (v : List Entry). h (pathsWith f v)) (take-all (length es) es (omega arith))) ∙ pathsWith-take (length es) (omega arith)
 
 anyMeet-none : (ps : List Path) → anyMeet ps [] ≡ false
 unfolding any
@@ -78,17 +78,17 @@ anyMeet-append ps qs qs′ =
     sym (isMet-between ps (qs ++ qs′)) ∙ ap isMet (between-second ps qs qs′) ∙ isMet-join (between ps qs) (between ps qs′) ∙
     ap (λ (t : Bool). t || isMet (between ps qs′)) (isMet-between ps qs) ∙ ap (λ (t : Bool). anyMeet ps qs || t) (isMet-between ps qs′)
 
--- two marks: some position with one meets some position with the other
+-- two roles: some position with one meets some position with the other
 module _ (es fs : List Entry) where
-  marks-meet : (f g : Entry → Bool) → anyMeet (marked f es) (marked g fs) ≡
+  roles-meet : (f g : Entry → Bool) → anyMeet (pathsWith f es) (pathsWith g fs) ≡
       anyUpTo (λ (k : ℕ). anyUpTo (λ (l : ℕ). f (entryAt es k) && (g (entryAt fs l) && anyMeet (pathsOn es k) (pathsOn fs l))) (length fs))
       (length es)
   unfolding any
-  marks-meet f g =
-      marked-any (λ (ps : List Path). anyMeet ps (marked g fs)) refl (any-append (λ (p : Path). any (meets p) (marked g fs))) f es ∙
+  roles-meet f g =
+      pathsWith-any (λ (ps : List Path). anyMeet ps (pathsWith g fs)) refl (any-append (λ (p : Path). any (meets p) (pathsWith g fs))) f es ∙
       anyUpTo-same _ _ (length es) (λ k.
       ap (λ (t : Bool). f (entryAt es k) && t)
-      (marked-any (anyMeet (pathsOn es k)) (anyMeet-none (pathsOn es k)) (anyMeet-append (pathsOn es k)) g fs) ∙
+      (pathsWith-any (anyMeet (pathsOn es k)) (anyMeet-none (pathsOn es k)) (anyMeet-append (pathsOn es k)) g fs) ∙
       anyUpTo-and (f (entryAt es k)) (λ (l : ℕ). g (entryAt fs l) && anyMeet (pathsOn es k) (pathsOn fs l)) (length fs))
 
   tested : (a b c d t : Bool) → ((a && (b && t)) || (c && (d && t))) ≡ (((a && b) || (c && d)) && t)
@@ -101,12 +101,12 @@ module _ (es fs : List Entry) where
   tested false b true d t = refl
   tested false b false d t = refl
 
-  pub positions-meet : (anyMeet (marked isModified es) (marked isAccessed fs) || anyMeet (marked isModified fs) (marked isAccessed es)) ≡
+  pub positions-meet : (anyMeet (pathsWith isModified es) (pathsWith isAccessed fs) || anyMeet (pathsWith isModified fs) (pathsWith isAccessed es)) ≡
       positionsMeet es fs
   positions-meet =
-      ap (λ (t : Bool). t || anyMeet (marked isModified fs) (marked isAccessed es)) (marks-meet isModified isAccessed) ∙
+      ap (λ (t : Bool). t || anyMeet (pathsWith isModified fs) (pathsWith isAccessed es)) (roles-meet isModified isAccessed) ∙
       ap (λ (t : Bool). anyUpTo (λ (k : ℕ). anyUpTo (one k) (length fs)) (length es) || t)
-      (anyMeet-mirror (marked isAccessed es) (marked isModified fs) ∙ marks-meet isAccessed isModified) ∙
+      (anyMeet-mirror (pathsWith isAccessed es) (pathsWith isModified fs) ∙ roles-meet isAccessed isModified) ∙
       anyUpTo-or (λ (k : ℕ). anyUpTo (one k) (length fs)) (λ (k : ℕ). anyUpTo (two k) (length fs)) (length es) ∙
       anyUpTo-same _ _ (length es) (λ k.
       anyUpTo-or (one k) (two k) (length fs) ∙
@@ -165,19 +165,19 @@ pub emitted-right : (o : ℕ) → (o ≡ 0 → ⊥) → (e : Expr) →
     Right entriesBefore (pathsOf o e .result) (pathsOf o e .accessed) (pathsOf o e .modified) (emit e [] entriesBefore)
 emitted-right o own e = emits o own e [] [] entriesBefore ready-before none
 
-accessed-are : (o : ℕ) → (o ≡ 0 → ⊥) → (e : Expr) → marked isAccessed (entriesOf e) ≡ fromDocuments (pathsOf o e .accessed)
-unfolding markedFrom
+accessed-are : (o : ℕ) → (o ≡ 0 → ⊥) → (e : Expr) → pathsWith isAccessed (entriesOf e) ≡ fromDocuments (pathsOf o e .accessed)
+unfolding pathsWithFrom
 accessed-are o own e = emitted-right o own e .accessed
 
-modified-are : (o : ℕ) → (o ≡ 0 → ⊥) → (e : Expr) → marked isModified (entriesOf e) ≡ fromDocuments (pathsOf o e .modified)
-unfolding markedFrom
+modified-are : (o : ℕ) → (o ≡ 0 → ⊥) → (e : Expr) → pathsWith isModified (entriesOf e) ≡ fromDocuments (pathsOf o e .modified)
+unfolding pathsWithFrom
 modified-are o own e = emitted-right o own e .modified
 
 paths-meet : (e f : Expr) → pathsMeet (pathsOf 1 e) (pathsOf 2 f) ≡ positionsMeet (entriesOf e) (entriesOf f)
 paths-meet e f =
     ap (λ (t : Bool). t || anyMeet (pathsOf 2 f .modified) (traversed (pathsOf 1 e)))
     (scripts-meet 1 2 one two (λ q. omega arith) e f ∙ both 1 2 one two e f) ∙
-    ap (λ (t : Bool). anyMeet (marked isModified (entriesOf e)) (marked isAccessed (entriesOf f)) || t)
+    ap (λ (t : Bool). anyMeet (pathsWith isModified (entriesOf e)) (pathsWith isAccessed (entriesOf f)) || t)
     (scripts-meet 2 1 two one (λ q. omega arith) f e ∙ both 2 1 two one f e) ∙
     positions-meet (entriesOf e) (entriesOf f)
   where
@@ -189,10 +189,10 @@ paths-meet e f =
 
     both : (o o′ : ℕ) → (o ≡ 0 → ⊥) → (o′ ≡ 0 → ⊥) →
         (e f : Expr) → anyMeet (fromDocuments (pathsOf o e .modified)) (fromDocuments (pathsOf o′ f .accessed)) ≡
-        anyMeet (marked isModified (entriesOf e)) (marked isAccessed (entriesOf f))
+        anyMeet (pathsWith isModified (entriesOf e)) (pathsWith isAccessed (entriesOf f))
     both o o′ g h e f =
         ap (λ (v : List Path). anyMeet v (fromDocuments (pathsOf o′ f .accessed))) (sym (modified-are o g e)) ∙
-        ap (anyMeet (marked isModified (entriesOf e))) (sym (accessed-are o′ h f))
+        ap (anyMeet (pathsWith isModified (entriesOf e))) (sym (accessed-are o′ h f))
 
 pub answer-by : (e f : Expr) → answerBy e f ≡ answer e f
 answer-by e f = ap (λ (t : Bool). pick (hasUp e || hasUp f) upward (pick t meet free)) (sym (paths-meet e f))

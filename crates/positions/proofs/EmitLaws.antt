@@ -1,5 +1,5 @@
--- Emission is exact: an expression's position has its result's paths that start at a document, and the positions marked accessed and
--- modified have, in order, its accessed and its modified ones.
+-- Emission is exact: an expression's position has its result's paths that start at a document, and the accessed positions and the
+-- modified ones have, in order, its accessed and its modified paths.
 use mathlib.Core.Path.{_≡_, refl, ap, sym, _∙_, subst}
 use mathlib.Core.Bool.{Bool, true, false, _&&_, not}
 use mathlib.Core.List.{List, [], _∷_, _++_, append-assoc, append-nil}
@@ -19,13 +19,13 @@ use Rattle.positions.specs.Positions.{pathsAt, pathsFrom, pathsBy, paths
 use Rattle.positions.proofs.PositionLaws.{pathsOn-keeps, pathsOn-next}
 use Rattle.positions.proofs.DocumentLaws.{fromDocuments, fromDocuments-append, fromDocuments-step}
 
--- the paths of the positions with a mark, in order
-unfoldable pub markedFrom : (Entry → Bool) → (lower : List (List Path)) → List Entry → List Path
-markedFrom f ps [] = []
-markedFrom f ps (x ∷ xs) = pick (f x) (pathsAt ps (x .position)) [] ++ markedFrom f (ps ++ (pathsAt ps (x .position) ∷ [])) xs
+-- the paths of the positions with a role, in order
+unfoldable pub pathsWithFrom : (Entry → Bool) → (lower : List (List Path)) → List Entry → List Path
+pathsWithFrom f ps [] = []
+pathsWithFrom f ps (x ∷ xs) = pick (f x) (pathsAt ps (x .position)) [] ++ pathsWithFrom f (ps ++ (pathsAt ps (x .position) ∷ [])) xs
 
-abbrev pub marked : (Entry → Bool) → List Entry → List Path
-marked f es = markedFrom f [] es
+abbrev pub pathsWith : (Entry → Bool) → List Entry → List Path
+pathsWith f es = pathsWithFrom f [] es
 
 abbrev pub isAccessed : Entry → Bool
 isAccessed x = x .accessed
@@ -33,20 +33,20 @@ isAccessed x = x .accessed
 abbrev pub isModified : Entry → Bool
 isModified x = x .modified
 
-markedFrom-append : (f : Entry → Bool) (ps : List (List Path)) (es fs : List Entry) →
-    markedFrom f ps (es ++ fs) ≡ markedFrom f ps es ++ markedFrom f (pathsFrom ps es) fs
-unfolding markedFrom pathsFrom
-markedFrom-append f ps [] fs = refl
-markedFrom-append f ps (x ∷ es) fs =
+pathsWithFrom-append : (f : Entry → Bool) (ps : List (List Path)) (es fs : List Entry) →
+    pathsWithFrom f ps (es ++ fs) ≡ pathsWithFrom f ps es ++ pathsWithFrom f (pathsFrom ps es) fs
+unfolding pathsWithFrom pathsFrom
+pathsWithFrom-append f ps [] fs = refl
+pathsWithFrom-append f ps (x ∷ es) fs =
     ap (λ (l : List Path). pick (f x) (pathsAt ps (x .position)) [] ++ l)
-    (markedFrom-append f (ps ++ (pathsAt ps (x .position) ∷ [])) es fs) ∙
-    sym (append-assoc (pick (f x) (pathsAt ps (x .position)) []) (markedFrom f (ps ++ (pathsAt ps (x .position) ∷ [])) es) _)
+    (pathsWithFrom-append f (ps ++ (pathsAt ps (x .position) ∷ [])) es fs) ∙
+    sym (append-assoc (pick (f x) (pathsAt ps (x .position)) []) (pathsWithFrom f (ps ++ (pathsAt ps (x .position) ∷ [])) es) _)
 
-pub marked-push : (f : Entry → Bool) (es : List Entry) (x : Entry) →
-    marked f (es ++ (x ∷ [])) ≡ marked f es ++ pick (f x) (pathsAt (pathsBy es) (x .position)) []
-unfolding markedFrom
-marked-push f es x =
-    markedFrom-append f [] es (x ∷ []) ∙ ap (λ (l : List Path). marked f es ++ l)
+pub pathsWith-push : (f : Entry → Bool) (es : List Entry) (x : Entry) →
+    pathsWith f (es ++ (x ∷ [])) ≡ pathsWith f es ++ pick (f x) (pathsAt (pathsBy es) (x .position)) []
+unfolding pathsWithFrom
+pathsWith-push f es x =
+    pathsWithFrom-append f [] es (x ∷ []) ∙ ap (λ (l : List Path). pathsWith f es ++ l)
     (append-nil (pick (f x) (pathsAt (pathsBy es) (x .position)) []))
 
 -- ENTRIES that positions may be emitted after: position 0 is nothing
@@ -62,8 +62,8 @@ pub record Right (es : List Entry) (result accesses changes : List Path) (y : Em
   pub keeps : (k : ℕ) → k < length es → pathsOn (y .entries) k ≡ pathsOn es k
   pub lower : AreLower (y .entries)
   pub is : pathsOn (y .entries) (y .result) ≡ fromDocuments result
-  pub accessed : marked isAccessed (y .entries) ≡ marked isAccessed es ++ fromDocuments accesses
-  pub modified : marked isModified (y .entries) ≡ marked isModified es ++ fromDocuments changes
+  pub accessed : pathsWith isAccessed (y .entries) ≡ pathsWith isAccessed es ++ fromDocuments accesses
+  pub modified : pathsWith isModified (y .entries) ≡ pathsWith isModified es ++ fromDocuments changes
 
 ready : {es : List Entry} {r a m : List Path} {y : Emitted} → Ready es → Right es r a m y → Ready (y .entries)
 ready z h = record { some = omega (arith, z .some, h .more); zero = h .keeps 0 (z .some) ∙ z .zero; lower = h .lower }
@@ -79,8 +79,8 @@ known es z n r h e =
       keeps = λ k l. refl;
       lower = z .lower;
       is = e;
-      accessed = sym (append-nil (marked isAccessed es));
-      modified = sym (append-nil (marked isModified es));
+      accessed = sym (append-nil (pathsWith isAccessed es));
+      modified = sym (append-nil (pathsWith isModified es));
     }
 
 -- another result, with the same entries
@@ -94,9 +94,9 @@ unfolding filtered
 discarded z h = let q = ready z h in answering h 0 [] (q .some) (q .zero)
 
 -- one expression after another: the second's result
-joined-marks : (before x y a b : List Path) → x ≡ before ++ fromDocuments a → y ≡ x ++ fromDocuments b →
+joined-roles : (before x y a b : List Path) → x ≡ before ++ fromDocuments a → y ≡ x ++ fromDocuments b →
     y ≡ before ++ fromDocuments (a ++ b)
-joined-marks before x y a b e f =
+joined-roles before x y a b e f =
     f ∙ ap (λ (l : List Path). l ++ fromDocuments b) e ∙ append-assoc before (fromDocuments a) (fromDocuments b) ∙
     ap (λ (l : List Path). before ++ l) (sym (fromDocuments-append a b))
 
@@ -109,8 +109,8 @@ thenRight es r a m r′ a′ m′ y y′ h g =
       keeps = λ k l. g .keeps k (omega (arith, h .more)) ∙ h .keeps k l;
       lower = g .lower;
       is = g .is;
-      accessed = joined-marks (marked isAccessed es) _ _ a a′ (h .accessed) (g .accessed);
-      modified = joined-marks (marked isModified es) _ _ m m′ (h .modified) (g .modified);
+      accessed = joined-roles (pathsWith isAccessed es) _ _ a a′ (h .accessed) (g .accessed);
+      modified = joined-roles (pathsWith isModified es) _ _ m m′ (h .modified) (g .modified);
     }
 
 -- one entry more, whose paths are these
@@ -134,12 +134,12 @@ pushed es r a m y h w r′ a′ m′ l e f g =
       keeps = λ k j. pathsOn-keeps (y .entries) (w ∷ []) k (omega (arith, h .more)) ∙ h .keeps k j;
       lower = lower-push (y .entries) w (h .lower) l;
       is = pathsOn-next (y .entries) w [] (length (y .entries)) refl ∙ e;
-      accessed = joined-marks (marked isAccessed es) _ _ a a′ (h .accessed)
-          (marked-push isAccessed (y .entries) w ∙
-          ap (λ (v : List Path). marked isAccessed (y .entries) ++ v) (ap (λ (v : List Path). pick (w .accessed) v []) e ∙ f));
-      modified = joined-marks (marked isModified es) _ _ m m′ (h .modified)
-          (marked-push isModified (y .entries) w ∙
-          ap (λ (v : List Path). marked isModified (y .entries) ++ v) (ap (λ (v : List Path). pick (w .modified) v []) e ∙ g));
+      accessed = joined-roles (pathsWith isAccessed es) _ _ a a′ (h .accessed)
+          (pathsWith-push isAccessed (y .entries) w ∙
+          ap (λ (v : List Path). pathsWith isAccessed (y .entries) ++ v) (ap (λ (v : List Path). pick (w .accessed) v []) e ∙ f));
+      modified = joined-roles (pathsWith isModified es) _ _ m m′ (h .modified)
+          (pathsWith-push isModified (y .entries) w ∙
+          ap (λ (v : List Path). pathsWith isModified (y .entries) ++ v) (ap (λ (v : List Path). pick (w .modified) v []) e ∙ g));
     }
 
 -- lists that are alike
@@ -160,8 +160,8 @@ nothing-more es r a m y h r′ a′ m′ e f g =
       keeps = h .keeps;
       lower = h .lower;
       is = h .is ∙ e;
-      accessed = joined-marks (marked isAccessed es) _ _ a a′ (h .accessed) (none (marked isAccessed (y .entries)) a′ f);
-      modified = joined-marks (marked isModified es) _ _ m m′ (h .modified) (none (marked isModified (y .entries)) m′ g);
+      accessed = joined-roles (pathsWith isAccessed es) _ _ a a′ (h .accessed) (none (pathsWith isAccessed (y .entries)) a′ f);
+      modified = joined-roles (pathsWith isModified es) _ _ m m′ (h .modified) (none (pathsWith isModified (y .entries)) m′ g);
     }
   where
     none : (x ps : List Path) → fromDocuments ps ≡ [] → x ≡ x ++ fromDocuments ps
@@ -285,7 +285,7 @@ module _ (o : ℕ) (own : o ≡ 0 → ⊥) where
           ap (λ (v : List Path). fromDocuments r ++ v) (below .is) ∙ sym (fromDocuments-append r (withStep anyBelow r)))
           refl refl))
 
-  -- all below a position n, whose paths are q, so marked
+  -- all below a position n, whose paths are q, in a role
   module _ (es : List Entry) (z : Ready es) (r a m : List Path) (y : Emitted) (h : Right es r a m y) (n : ℕ) (q : List Path)
       (low : n < length (y .entries)) (is : pathsOn (y .entries) n ≡ fromDocuments q) where
     none-below : n ≡ 0 → fromDocuments (withStep anyBelow q) ≡ []

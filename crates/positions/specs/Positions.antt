@@ -73,8 +73,8 @@ pushDelete x =
     pick (eqb (x .result) 0) x
     (emitted 0 (x .entries ++ (plain (over anyBelow (x .result)) ∷ []) ++ (modifying (union (x .result) (length (x .entries))) ∷ [])))
 
--- all below a position, so marked; below nothing is nothing
-abbrev pub pushBelow : (mark : Position → Entry) → (operand : ℕ) → List Entry → List Entry
+-- all below a position, in a role; below nothing is nothing
+abbrev pub pushBelow : (role : Position → Entry) → (operand : ℕ) → List Entry → List Entry
 pushBelow f i es = pick (eqb i 0) es (es ++ (f (over anyBelow i) ∷ []))
 
 -- Insert: all below r1, accessed, and all below r2, modified

@@ -18,7 +18,7 @@ use Rattle.meeting.specs.declared.cells.Step.{Step}
 abbrev pub stepIn : Position → model.Step
 stepIn p = stepBy (p .axis) (p .test) (p .name)
 
--- KINDS: 0 nowhere, 1 root, whose document stands for the name, 2 over, 3 union. MARKS: 0 none, 1 accessed, 2 modified
+-- KINDS: 0 nowhere, 1 root, whose document stands for the name, 2 over, 3 union. ROLES: 0 none, 1 accessed, 2 modified
 abbrev pub positionBy : Position → positions.Position
 positionBy p =
     pick (eqb (p .kind) 0) positions.nowhere
@@ -32,34 +32,34 @@ rootSource p = fromRoot (p .name)
 abbrev pub stepSource : Position → Source
 stepSource p = fromStep (stepIn p) (p .first)
 
--- a position with its marks
-abbrev pub markedBy : (mark : ℕ) → positions.Position → positions.Entry
-markedBy m p = record { position = p; accessed = eqb m 1; modified = eqb m 2 }
+-- a position with its role
+abbrev pub withRole : (role : ℕ) → positions.Position → positions.Entry
+withRole m p = record { position = p; accessed = eqb m 1; modified = eqb m 2 }
 
 abbrev pub entryBy : Position → positions.Entry
-entryBy p = markedBy (p .mark) (positionBy p)
+entryBy p = withRole (p .role) (positionBy p)
 
--- the fields of a document's root, accessed; of a step over a position, and of two positions, so marked
+-- the fields of a document's root, accessed; of a step over a position, and of two positions, in a role
 abbrev pub rootBy : (document : ℕ) → Position
-rootBy d = record { kind = 1; mark = 1; axis = 0; test = 0; name = d; first = 0; second = 0 }
+rootBy d = record { kind = 1; role = 1; axis = 0; test = 0; name = d; first = 0; second = 0 }
 
-abbrev pub overBy : (mark : ℕ) → Step → (operand : ℕ) → Position
-overBy m s i = record { kind = 2; mark = m; axis = s .axis; test = s .test; name = s .name; first = i; second = 0 }
+abbrev pub overBy : (role : ℕ) → Step → (operand : ℕ) → Position
+overBy m s i = record { kind = 2; role = m; axis = s .axis; test = s .test; name = s .name; first = i; second = 0 }
 
-abbrev pub unionBy : (mark first second : ℕ) → Position
-unionBy m i j = record { kind = 3; mark = m; axis = 0; test = 0; name = 0; first = i; second = j }
+abbrev pub unionBy : (role first second : ℕ) → Position
+unionBy m i j = record { kind = 3; role = m; axis = 0; test = 0; name = 0; first = i; second = j }
 
 -- WORDS: each field in its bits
 abbrev pub wordOf : Position → ℕ
 wordOf p =
-    p .kind + 4 * p .mark + 16 * p .axis + 64 * p .test + 256 * p .name + 65536 * p .first + 16777216 * p .second
+    p .kind + 4 * p .role + 16 * p .axis + 64 * p .test + 256 * p .name + 65536 * p .first + 16777216 * p .second
 
 -- and taken out again
 abbrev pub fieldsOf : (word : ℕ) → Position
 fieldsOf w =
     record {
       kind = w % 4;
-      mark = w / 4 % 4;
+      role = w / 4 % 4;
       axis = w / 16 % 4;
       test = w / 64 % 4;
       name = w / 256 % 256;
@@ -70,7 +70,7 @@ fieldsOf w =
 -- fields that fit their bits
 pub record PositionFits (p : Position) : Type 0 where
   pub kind : p .kind < 4
-  pub mark : p .mark < 4
+  pub role : p .role < 4
   pub axis : p .axis < 4
   pub test : p .test < 4
   pub name : p .name < 256

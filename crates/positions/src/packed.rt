@@ -1,9 +1,10 @@
-// Positions of a script, each packed into a word: kind, mark, axis, test, name or document, first operand, second operand.
+// Positions of a script, each packed into a word: kind, role, axis, test, name or document, first operand, second operand.
 ghost use mathlib.Core.Path.{_≡_};
 ghost use Rattle.positions.specs.Positions.{isClimb};
 ghost use Rattle.positions.specs.Words.{positionBy, rootBy, overBy, unionBy, wordOf, fieldsOf, PositionFits, PushPre, PushPost};
 use meeting::cells;
 use meeting::cells::Step;
+use meeting::pairs;
 
 // Kinds; 0 is nothing.
 pub const ROOT: usize = 1;
@@ -12,7 +13,7 @@ pub const OVER: usize = 2;
 
 pub const UNION: usize = 3;
 
-// Marks: none, accessed, modified.
+// Roles: none, accessed, modified.
 pub const PLAIN: usize = 0;
 
 pub const ACCESSED: usize = 1;
@@ -22,7 +23,7 @@ pub const MODIFIED: usize = 2;
 // The fields of a position; those that its kind does not have are 0.
 pub struct Position {
     pub kind: usize,
-    pub mark: usize,
+    pub role: usize,
     pub axis: usize,
     pub test: usize,
     pub name: usize,
@@ -37,7 +38,7 @@ impl Position {
     {
         Position {
             kind: ROOT,
-            mark: ACCESSED,
+            role: ACCESSED,
             axis: 0,
             test: 0,
             name: document,
@@ -47,12 +48,12 @@ impl Position {
     }
 
     // A step over a position.
-    pub fn over(mark: usize, step: Step, operand: usize) -> Position
-        ensures { λ r. ⌜ r ≡ overBy mark step operand ⌝ }
+    pub fn over(role: usize, step: Step, operand: usize) -> Position
+        ensures { λ r. ⌜ r ≡ overBy role step operand ⌝ }
     {
         Position {
             kind: OVER,
-            mark,
+            role,
             axis: step.axis,
             test: step.test,
             name: step.name,
@@ -62,12 +63,12 @@ impl Position {
     }
 
     // Two positions together.
-    pub fn union(mark: usize, first: usize, second: usize) -> Position
-        ensures { λ r. ⌜ r ≡ unionBy mark first second ⌝ }
+    pub fn union(role: usize, first: usize, second: usize) -> Position
+        ensures { λ r. ⌜ r ≡ unionBy role first second ⌝ }
     {
         Position {
             kind: UNION,
-            mark,
+            role,
             axis: 0,
             test: 0,
             name: 0,
@@ -89,7 +90,7 @@ impl Position {
         ensures { λ r. ⌜ r ≡ wordOf self ⌝ }
     {
         self.kind
-            + 4 * self.mark
+            + 4 * self.role
             + 16 * self.axis
             + 64 * self.test
             + 256 * self.name
@@ -103,12 +104,12 @@ impl Position {
     {
         Position {
             kind: word % 4,
-            mark: word / 4 % 4,
+            role: word / 4 % 4,
             axis: word / 16 % 4,
             test: word / 64 % 4,
             name: word / 256 % 256,
-            first: word / 65536 % 128,
-            second: word / 16777216 % 128,
+            first: word / 65536 % pairs::POSITIONS,
+            second: word / 16777216 % pairs::POSITIONS,
         }
     }
 }

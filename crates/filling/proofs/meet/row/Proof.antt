@@ -58,7 +58,7 @@ returns c =
       filled = λ e. c2 .union-row .ensures .filled;
       met = plain-row
           (c12 .args .first .now) (c12 .args .second .now) (c12 .args .k) (c7 .unpacked .result) (c7 .unpacked .ensures) (eqb-true
-          (c7 .unpacked .result .mark) 0 (and-right (eqb (c7 .unpacked .result .kind) 3) (eqb (c7 .unpacked .result .mark) 0)
+          (c7 .unpacked .result .role) 0 (and-right (eqb (c7 .unpacked .result .kind) 3) (eqb (c7 .unpacked .result .role) 0)
           (c4 .if1 .taken))) (length (entriesBy (c12 .args .second .now)));
     }
 
