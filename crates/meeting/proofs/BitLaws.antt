@@ -10,7 +10,7 @@ use Rattle.model.specs.Base.{pick}
 use Rattle.model.specs.Meeting.{Cell, joinCell}
 use Rattle.meeting.specs.Cells.{noCell}
 use Rattle.meeting.specs.Codes.{cellBits}
-use Rattle.meeting.proofs.CellLaws.{cell-equal}
+use Rattle.model.proofs.MirrorLaws.{cell-equal}
 
 -- NO BIT SET: nothing in common
 pub no-bits : (b : ℕ) → eqb b 0 ≡ true → cellBits b ≡ noCell

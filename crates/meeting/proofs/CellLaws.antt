@@ -11,21 +11,8 @@ use Rattle.model.specs.Paths.{Place, Path, start, _▸_, withStep, documentPlac
 use Rattle.model.specs.Meeting.{Cell, onCell, joinCell, isDeep, isParent, admitsElement, admitsLeaf, shareElement, shareLeaf}
 use Rattle.model.specs.Meeting.{onStep, downStep, upStep, startCell, startCells, stepCells, cell, isMet, meets, anyMeet}
 use Rattle.model.proofs.BoolLaws.{or-neither, or-swap}
+use Rattle.model.proofs.MirrorLaws.{cell-equal}
 use Rattle.meeting.specs.Cells.{noCell, sum, between}
-
--- CELLS are equal when their tests are
-abbrev cellWith : (a b c d e f : Bool) → Cell
-cellWith a b c d e f = record { onElement = a; onLeaf = b; downElement = c; downLeaf = d; upElement = e; upLeaf = f }
-
-pub cell-equal : (c d : Cell) → c .onElement ≡ d .onElement → c .onLeaf ≡ d .onLeaf → c .downElement ≡ d .downElement →
-    c .downLeaf ≡ d .downLeaf → c .upElement ≡ d .upElement → c .upLeaf ≡ d .upLeaf → c ≡ d
-cell-equal x y a b c d e f =
-    ap (λ (t : Bool). cellWith t (x .onLeaf) (x .downElement) (x .downLeaf) (x .upElement) (x .upLeaf)) a ∙
-    ap (λ (t : Bool). cellWith (y .onElement) t (x .downElement) (x .downLeaf) (x .upElement) (x .upLeaf)) b ∙
-    ap (λ (t : Bool). cellWith (y .onElement) (y .onLeaf) t (x .downLeaf) (x .upElement) (x .upLeaf)) c ∙
-    ap (λ (t : Bool). cellWith (y .onElement) (y .onLeaf) (y .downElement) t (x .upElement) (x .upLeaf)) d ∙
-    ap (λ (t : Bool). cellWith (y .onElement) (y .onLeaf) (y .downElement) (y .downLeaf) t (x .upLeaf)) e ∙
-    ap (λ (t : Bool). cellWith (y .onElement) (y .onLeaf) (y .downElement) (y .downLeaf) (y .upElement) t) f
 
 -- DOCUMENTS: their root, if they are one
 pub roots-are : (d e : ℕ) → onCell (eqb d e) false ≡ startCell (documentPlace d) (documentPlace e)

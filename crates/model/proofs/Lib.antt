@@ -30,6 +30,7 @@ pub mod All
 pub mod Shift
 pub mod Collect
 pub mod Words
+pub mod MirrorLaws
 pub mod WordsMeet
 pub mod Labels
 pub mod Below

@@ -1,6 +1,6 @@
 -- Cells are sound: a word on two paths, or on one and below a word on the other, turns their cell on.
 -- So paths that do not meet share no word.
-use mathlib.Core.Path.{_≡_, refl, sym, _∙_, subst}
+use mathlib.Core.Path.{_≡_, refl, sym, ap, _∙_, subst}
 use mathlib.Core.Bool.{Bool, true, false, _&&_, _||_, not, false≢true}
 use mathlib.Core.Logic.{_⊎_, inl, inr}
 use mathlib.Core.List.{List, [], _∷_}
@@ -16,19 +16,17 @@ use Rattle.model.specs.Paths.{Place, Path, start, _▸_}
 use Rattle.model.specs.Meeting.{admitsElement, admitsLeaf, isNamed, shareElement, shareLeaf, isDeep, Cell, joinCell, samePlace}
 use Rattle.model.specs.Meeting.{isParent, onStep, downStep, upStep, startCells, stepCells, cell, meets}
 use Rattle.model.proofs.BoolLaws.{and-left, and-right, and-both, or-left, or-right, true-false}
+use Rattle.model.proofs.MirrorLaws.{cell-mirror}
 use Rattle.model.proofs.TestLaws.{parent-on, parent-down, parent-up}
 use Rattle.model.proofs.Words.{Word, Root, Grown, same, more, grown-compare, isLeafLetter, endsInLeaf, areElements, isProper}
 use Rattle.model.proofs.Words.{elements-end, elements-proper, elements-grown, On, at, child, deep}
 
 -- what a cell says of a word
-abbrev pub onAt : Cell → Word → Bool
+abbrev onAt : Cell → Word → Bool
 onAt c w = pick (endsInLeaf w) (c .onLeaf) (c .onElement)
 
-abbrev pub downAt : Cell → Word → Bool
+abbrev downAt : Cell → Word → Bool
 downAt c w = pick (endsInLeaf w) (c .downLeaf) (c .downElement)
-
-abbrev pub upAt : Cell → Word → Bool
-upAt c w = pick (endsInLeaf w) (c .upLeaf) (c .upElement)
 
 -- TESTS: what follows when a step's test lets a letter through
 test-element : (any element leaf name : Bool) → (leaf ≡ true → (any || element) ≡ true → ⊥) →
@@ -95,11 +93,6 @@ step-down : (s : Step) (a : Letter) (w : Word) (c : Cell) → (c .downElement ||
 step-down s a w c h e =
     pick-and-left (isLeafLetter a) (admitsElement s) (admitsLeaf s) (c .downElement || (isDeep s && c .upElement)) h (admits-kind s a e)
 
-step-up : (t : Step) (a : Letter) (w : Word) (c : Cell) → (c .upElement || (isDeep t && c .downElement)) ≡ true → admits t a ≡ true →
-    upAt (upStep t c) (a ∷ w) ≡ true
-step-up t a w c h e =
-    pick-and-left (isLeafLetter a) (admitsElement t) (admitsLeaf t) (c .upElement || (isDeep t && c .downElement)) h (admits-kind t a e)
-
 -- JOINS
 pick-or-left : (z e l e′ l′ : Bool) → pick z l e ≡ true → pick z (l || l′) (e || e′) ≡ true
 pick-or-left true e l e′ l′ h = or-left l l′ h
@@ -110,11 +103,26 @@ pick-or-right true e l e′ l′ h = or-right l l′ h
 pick-or-right false e l e′ l′ h = or-right e e′ h
 
 module _ (marks : List (Option ℕ)) (once : (d e i : ℕ) → getD marks d none ≡ some i → getD marks e none ≡ some i → d ≡ e) where
-  -- SOUND: what words on p and on q from the same root make of the cell of p and q
-  pub record Sound (p q : Path) : Type 0 where
-    pub on : (r : Root) (w : Word) → On marks p r w → On marks q r w → isProper w ≡ true → onAt (cell p q) w ≡ true
-    pub down : (r : Root) (w u : Word) → On marks p r w → On marks q r u → Grown u w → isProper w ≡ true → downAt (cell p q) w ≡ true
-    pub up : (r : Root) (w u : Word) → On marks q r w → On marks p r u → Grown u w → isProper w ≡ true → upAt (cell p q) w ≡ true
+  -- SOUND: what words on p and on q from the same root make of the cell of p and q: a word on both; one on p at or below one on q; and
+  -- the other way round, of the cell of q and p
+  abbrev OnBoth : Path → Path → Type 0
+  OnBoth p q = (r : Root) (w : Word) → On marks p r w → On marks q r w → isProper w ≡ true → onAt (cell p q) w ≡ true
+
+  abbrev OnBelow : Path → Path → Type 0
+  OnBelow p q = (r : Root) (w u : Word) → On marks p r w → On marks q r u → Grown u w → isProper w ≡ true → downAt (cell p q) w ≡ true
+
+  record Sound (p q : Path) : Type 0 where
+    pub on : OnBoth p q
+    pub down : OnBelow p q
+    pub up : OnBelow q p
+
+  turned : {p q : Path} → Sound p q → Sound q p
+  turned {p} {q} k =
+      record {
+        on = λ r w f g e. subst (λ (c : Cell). onAt c w ≡ true) (sym (cell-mirror p q)) (k .on r w g f e);
+        down = k .up;
+        up = k .down;
+      }
 
   -- a word of elements is one for the element's part of a cell
   down-element : {p q : Path} → Sound p q → (r : Root) (w u : Word) → On marks p r w → On marks q r u → Grown u w → areElements w ≡ true →
@@ -123,7 +131,8 @@ module _ (marks : List (Option ℕ)) (once : (d e i : ℕ) → getD marks d none
 
   up-element : {p q : Path} → Sound p q → (r : Root) (w u : Word) → On marks q r w → On marks p r u → Grown u w → areElements w ≡ true →
       cell p q .upElement ≡ true
-  up-element {p} {q} k r w u f g h e = rw (elements-end w e) at (k .up r w u f g h (elements-proper w e))
+  up-element {p} {q} k r w u f g h e =
+      sym (ap (λ (c : Cell). c .downElement) (cell-mirror p q)) ∙ down-element (turned k) r w u f g h e
 
   on-element : {p q : Path} → Sound p q → (r : Root) (w : Word) → On marks p r w → On marks q r w → areElements w ≡ true →
       cell p q .onElement ≡ true
@@ -181,125 +190,83 @@ module _ (marks : List (Option ℕ)) (once : (d e i : ℕ) → getD marks d none
   shrink-nil : {p : Path} {r : Root} {u : Word} → Grown u [] → On marks p r u → On marks p r []
   shrink-nil same f = f
 
+  start-below : (p q : Place) → OnBelow (start p) (start q)
+  unfolding cell startCells
+  start-below p q r [] u f g h e = place-same f (shrink-nil h g)
+  start-below p q r (a ∷ w) u f g h e = absurd (start-word f)
+
   start-start : (p q : Place) → Sound (start p) (start q)
   unfolding cell startCells
-  start-start p q = record { on = on; down = down; up = up }
+  start-start p q = record { on = on; down = start-below p q; up = start-below q p }
     where
-      on : (r : Root) (w : Word) → On marks (start p) r w → On marks (start q) r w → isProper w ≡ true →
-          onAt (cell (start p) (start q)) w ≡ true
+      on : OnBoth (start p) (start q)
       on r [] f g e = place-same f g
       on r (a ∷ w) f g e = absurd (start-word f)
 
-      down : (r : Root) (w u : Word) → On marks (start p) r w → On marks (start q) r u → Grown u w → isProper w ≡ true →
-          downAt (cell (start p) (start q)) w ≡ true
-      down r [] u f g h e = place-same f (shrink-nil h g)
-      down r (a ∷ w) u f g h e = absurd (start-word f)
-
-      up : (r : Root) (w u : Word) → On marks (start q) r w → On marks (start p) r u → Grown u w → isProper w ≡ true →
-          upAt (cell (start p) (start q)) w ≡ true
-      up r [] u f g h e = place-same (shrink-nil h g) f
-      up r (a ∷ w) u f g h e = absurd (start-word f)
-
-  start-step : (p : Place) (q : Path) (t : Step) → Sound (start p) q → Sound (start p) (q ▸ t)
-  unfolding cell startCells
-  start-step p q t k = record { on = on; down = down; up = up }
-    where
-      on : (r : Root) (w : Word) → On marks (start p) r w → On marks (q ▸ t) r w → isProper w ≡ true →
-          onAt (cell (start p) (q ▸ t)) w ≡ true
-      on r [] f g e = absurd (step-word g)
-      on r (a ∷ w) f g e = absurd (start-word f)
-
-      down : (r : Root) (w u : Word) → On marks (start p) r w → On marks (q ▸ t) r u → Grown u w → isProper w ≡ true →
-          downAt (cell (start p) (q ▸ t)) w ≡ true
-      down r [] u f g h e = absurd (step-word (shrink-nil h g))
-      down r (a ∷ w) u f g h e = absurd (start-word f)
-
-      up : (r : Root) (w u : Word) → On marks (q ▸ t) r w → On marks (start p) r u → Grown u w → isProper w ≡ true →
-          upAt (cell (start p) (q ▸ t)) w ≡ true
-      up r [] u f g h e = absurd (step-word f)
-      up r (a ∷ w) u f g same e = absurd (start-word g)
-      up r (a ∷ w) u f g (more h) e =
-          let b : ((cell (start p) q .upElement || (isDeep t && cell (start p) q .downElement)) ≡ true) × (admits t a ≡ true) =
-          strictly-below _ _ (up-element k) (down-element k) f g h e in
-          step-up t a w (cell (start p) q) (b .0) (b .1)
+  -- a word on p ▸ s at or below one on q: the same word, or a step below
+  step-below : (p : Path) (s : Step) (q : Path) → Sound p q →
+      ((r : Root) (a : Letter) (w : Word) → On marks (p ▸ s) r (a ∷ w) → On marks q r (a ∷ w) → areElements w ≡ true →
+      downAt (cell (p ▸ s) q) (a ∷ w) ≡ true) →
+      ((a : Letter) (w : Word) → downAt (downStep s (cell p q)) (a ∷ w) ≡ true → downAt (cell (p ▸ s) q) (a ∷ w) ≡ true) →
+      OnBelow (p ▸ s) q
+  step-below p s q k met stepped r [] u f g h e = absurd (step-word f)
+  step-below p s q k met stepped r (a ∷ w) u f g same e = met r a w f g e
+  step-below p s q k met stepped r (a ∷ w) u f g (more h) e =
+      let b : ((cell p q .downElement || (isDeep s && cell p q .upElement)) ≡ true) × (admits s a ≡ true) =
+      strictly-below _ _ (down-element k) (up-element k) f g h e in
+      stepped a w (step-down s a w (cell p q) (b .0) (b .1))
 
   step-start : (p : Path) (s : Step) (q : Place) → Sound p (start q) → Sound (p ▸ s) (start q)
   unfolding cell stepCells
-  step-start p s q k = record { on = on; down = down; up = up }
+  step-start p s q k =
+      record { on = on; down = step-below p s (start q) k (λ r a w f g e. absurd (start-word g)) (λ a w x. x); up = up }
     where
-      on : (r : Root) (w : Word) → On marks (p ▸ s) r w → On marks (start q) r w → isProper w ≡ true →
-          onAt (cell (p ▸ s) (start q)) w ≡ true
+      on : OnBoth (p ▸ s) (start q)
       on r [] f g e = absurd (step-word f)
       on r (a ∷ w) f g e = absurd (start-word g)
 
-      down : (r : Root) (w u : Word) → On marks (p ▸ s) r w → On marks (start q) r u → Grown u w → isProper w ≡ true →
-          downAt (cell (p ▸ s) (start q)) w ≡ true
-      down r [] u f g h e = absurd (step-word f)
-      down r (a ∷ w) u f g same e = absurd (start-word g)
-      down r (a ∷ w) u f g (more h) e =
-          let b : ((cell p (start q) .downElement || (isDeep s && cell p (start q) .upElement)) ≡ true) × (admits s a ≡ true) =
-          strictly-below _ _ (down-element k) (up-element k) f g h e in
-          step-down s a w (cell p (start q)) (b .0) (b .1)
-
-      up : (r : Root) (w u : Word) → On marks (start q) r w → On marks (p ▸ s) r u → Grown u w → isProper w ≡ true →
-          upAt (cell (p ▸ s) (start q)) w ≡ true
+      up : OnBelow (start q) (p ▸ s)
       up r [] u f g h e = absurd (step-word (shrink-nil h g))
       up r (a ∷ w) u f g h e = absurd (start-word f)
 
-  -- on both, below the one, below the other: the three parts of the join
+  -- on both, below the one: two parts of the join; below the other is the same turned
+  module _ (p : Path) (s : Step) (q : Path) (t : Step) (k : Sound p q) where
+    abbrev c : Cell
+    c = onStep s t (cell p q)
+
+    abbrev d : Cell
+    d = joinCell (downStep s (cell p (q ▸ t))) (upStep t (cell (p ▸ s) q))
+
+    met : (r : Root) (a : Letter) (w : Word) → On marks (p ▸ s) r (a ∷ w) → On marks (q ▸ t) r (a ∷ w) → areElements w ≡ true →
+        onAt c (a ∷ w) ≡ true
+    met r a w f g z =
+        let b : (isParent s t (cell p q) ≡ true) × (admits s a ≡ true) × (admits t a ≡ true) = both-parent k f g z in
+        step-on s t a w (cell p q) (b .0) (b .1) (b .2)
+
+    both-on : OnBoth (p ▸ s) (q ▸ t)
+    unfolding cell stepCells
+    both-on r [] f g z = absurd (step-word f)
+    both-on r (a ∷ w) f g z =
+        pick-or-left (isLeafLetter a) (c .onElement) (c .onLeaf) (d .onElement) (d .onLeaf) (met r a w f g z)
+
+    both-below : Sound p (q ▸ t) → OnBelow (p ▸ s) (q ▸ t)
+    unfolding cell stepCells
+    both-below l =
+        step-below p s (q ▸ t) l
+        (λ r a w f g z.
+        pick-or-left (isLeafLetter a) (c .downElement) (c .downLeaf) (d .downElement) (d .downLeaf) (met r a w f g z))
+        (λ a w x.
+        pick-or-right (isLeafLetter a) (c .downElement) (c .downLeaf) (d .downElement) (d .downLeaf)
+        (pick-or-left (isLeafLetter a) (downStep s (cell p (q ▸ t)) .downElement) (downStep s (cell p (q ▸ t)) .downLeaf)
+        (upStep t (cell (p ▸ s) q) .downElement) (upStep t (cell (p ▸ s) q) .downLeaf) x))
+
   step-step : (p : Path) (s : Step) (q : Path) (t : Step) → Sound p q → Sound p (q ▸ t) → Sound (p ▸ s) q → Sound (p ▸ s) (q ▸ t)
-  unfolding cell stepCells
-  step-step p s q t k l n = record { on = on; down = down; up = up }
-    where
-      c : Cell
-      c = onStep s t (cell p q)
-
-      d : Cell
-      d = downStep s (cell p (q ▸ t))
-
-      e : Cell
-      e = upStep t (cell (p ▸ s) q)
-
-      met : (r : Root) (a : Letter) (w : Word) → On marks (p ▸ s) r (a ∷ w) → On marks (q ▸ t) r (a ∷ w) → areElements w ≡ true →
-          onAt c (a ∷ w) ≡ true
-      met r a w f g z =
-          let b : (isParent s t (cell p q) ≡ true) × (admits s a ≡ true) × (admits t a ≡ true) = both-parent k f g z in
-          step-on s t a w (cell p q) (b .0) (b .1) (b .2)
-
-      on : (r : Root) (w : Word) → On marks (p ▸ s) r w → On marks (q ▸ t) r w → isProper w ≡ true →
-          onAt (cell (p ▸ s) (q ▸ t)) w ≡ true
-      on r [] f g z = absurd (step-word f)
-      on r (a ∷ w) f g z =
-          pick-or-left (isLeafLetter a) (c .onElement) (c .onLeaf) (joinCell d e .onElement) (joinCell d e .onLeaf) (met r a w f g z)
-
-      down : (r : Root) (w u : Word) → On marks (p ▸ s) r w → On marks (q ▸ t) r u → Grown u w → isProper w ≡ true →
-          downAt (cell (p ▸ s) (q ▸ t)) w ≡ true
-      down r [] u f g h z = absurd (step-word f)
-      down r (a ∷ w) u f g same z =
-          pick-or-left (isLeafLetter a) (c .downElement) (c .downLeaf) (joinCell d e .downElement) (joinCell d e .downLeaf)
-          (met r a w f g z)
-      down r (a ∷ w) u f g (more h) z =
-          let b : ((cell p (q ▸ t) .downElement || (isDeep s && cell p (q ▸ t) .upElement)) ≡ true) × (admits s a ≡ true) =
-          strictly-below _ _ (down-element l) (up-element l) f g h z in
-          pick-or-right (isLeafLetter a) (c .downElement) (c .downLeaf) (joinCell d e .downElement) (joinCell d e .downLeaf)
-          (pick-or-left (isLeafLetter a) (d .downElement) (d .downLeaf) (e .downElement) (e .downLeaf)
-          (step-down s a w (cell p (q ▸ t)) (b .0) (b .1)))
-
-      up : (r : Root) (w u : Word) → On marks (q ▸ t) r w → On marks (p ▸ s) r u → Grown u w → isProper w ≡ true →
-          upAt (cell (p ▸ s) (q ▸ t)) w ≡ true
-      up r [] u f g h z = absurd (step-word f)
-      up r (a ∷ w) u f g same z =
-          pick-or-left (isLeafLetter a) (c .upElement) (c .upLeaf) (joinCell d e .upElement) (joinCell d e .upLeaf) (met r a w g f z)
-      up r (a ∷ w) u f g (more h) z =
-          let b : ((cell (p ▸ s) q .upElement || (isDeep t && cell (p ▸ s) q .downElement)) ≡ true) × (admits t a ≡ true) =
-          strictly-below _ _ (up-element n) (down-element n) f g h z in
-          pick-or-right (isLeafLetter a) (c .upElement) (c .upLeaf) (joinCell d e .upElement) (joinCell d e .upLeaf)
-          (pick-or-right (isLeafLetter a) (d .upElement) (d .upLeaf) (e .upElement) (e .upLeaf)
-          (step-up t a w (cell (p ▸ s) q) (b .0) (b .1)))
+  step-step p s q t k l n =
+      record { on = both-on p s q t k; down = both-below p s q t k l; up = both-below q t p s (turned k) (turned n) }
 
   start-sound : (p : Place) (q : Path) → Sound (start p) q
   start-sound p (start q) = start-start p q
-  start-sound p (q ▸ t) = start-step p q t (start-sound p q)
+  start-sound p (q ▸ t) = turned (step-start q t p (turned (start-sound p q)))
 
   step-sound : (p : Path) (s : Step) → ((q : Path) → Sound p q) → (q : Path) → Sound (p ▸ s) q
   step-sound p s k (start q) = step-start p s q (k (start q))
