@@ -19,7 +19,7 @@ use Rattle.table.specs.Words.{linkOf, linked, wordOf, rowOf, rowsOf, wordsOf, d
 use Rattle.table.specs.Words as words
 use Rattle.sweep.specs.Sweeping.{planSwept, Flagged, keepsRow, newWord, RowPost, numberOf, Sweeping, newLinks}
 use Rattle.table.specs.declared.Table.{Table}
-use Rattle.table.proofs.WordLaws.{linked-linkOf, withLink-wordOf, wordsOf-snoc, count-decode, take-next, linked-some}
+use Rattle.table.proofs.WordLaws.{linked-linkOf, withLink-wordOf, wordsOf-snoc, count-decode, take-rows, linked-some}
 use Rattle.table.proofs.DecodeLaws.{link-low, parent-linked, parent-at, mark-row}
 use Rattle.table.proofs.FittedLaws.{Fits, fits-mark}
 use Rattle.model.proofs.SweepLaws.{newNumber-zero, newNumber-suc, isKept-unrolled, newNumber-le, isKept-marked}
@@ -156,7 +156,7 @@ module _ (ws ms : List ℕ) (n i : ℕ) (fits : Fits n ws ms) (size : length ws 
   rows-kept : sweptRows x 0 (take (i + 1) (rowsOf n ws)) ≡ before ++ pick (isKept x i) (row ∷ []) []
   rows-kept =
       let k : 0 + length (take i (rowsOf n ws)) ≡ i = omega (arith, length-before) in
-      ap (sweptRows x 0) (take-next i n ws within low) ∙ sweptRows-snoc x 0 (take i (rowsOf n ws)) (rowOf (getD ws i 0)) ∙
+      ap (sweptRows x 0) (take-rows i n ws within low) ∙ sweptRows-snoc x 0 (take i (rowsOf n ws)) (rowOf (getD ws i 0)) ∙
       ap (λ (j : ℕ). before ++ pick (isKept x j) (row ∷ []) []) k
 
   swept-length : length before ≡ next

@@ -121,9 +121,9 @@ rows-take i n ws l = take-map rowOf i (take n ws) ∙ ap (map rowOf) (take-take 
 rows-next : (i : ℕ) (ws : List ℕ) → i < length ws → rowsOf (i + 1) ws ≡ rowsOf i ws ++ (rowOf (getD ws i 0) ∷ [])
 rows-next i ws h = rw (add-one, take-suc ws i 0) (map-append rowOf (take i ws) (getD ws i 0 ∷ []))
 
-pub take-next : (i n : ℕ) (ws : List ℕ) → n ≤ length ws → i < n →
+pub take-rows : (i n : ℕ) (ws : List ℕ) → n ≤ length ws → i < n →
     take (i + 1) (rowsOf n ws) ≡ take i (rowsOf n ws) ++ (rowOf (getD ws i 0) ∷ [])
-take-next i n ws w h =
+take-rows i n ws w h =
     rows-take (i + 1) n ws (omega arith) ∙ rows-next i ws (omega arith) ∙
     ap (λ (rs : List model.Row). rs ++ (rowOf (getD ws i 0) ∷ [])) (sym (rows-take i n ws (omega arith)))
 

@@ -5,17 +5,16 @@ use mathlib.Core.Option.{Option, none, some}
 use Prim.Native.Nat.{ℕ, zero, suc, _+_, _*_, _-_, _≤_, _<_}
 use native.Mathlib.Omega.{arith}
 use native.Mathlib.Nat.{add-zero}
-use native.Mathlib.Numerals.{add-one}
 use lib.ListN.{length, getD, take, set, length-append, length-map}
-use lib.Seq.{sets-eq, take-suc, take-all, length-take-le}
+use lib.Seq.{sets-eq, take-all, length-take-le}
 use borrow.Author.Tests.{ne-eqb}
 use Rattle.model.specs.Table as model
 use Rattle.model.specs.Stored.{wordBytes, parentBytes, rowBytes, rowsBytes, markBytes, marksBytes}
 use Rattle.model.proofs.BytesLaws.{length-parentBytes, rowsBytes-snoc}
 use Rattle.table.specs.Words.{linked, rowOf, rowsOf, kindIn, linkIn, tagIn}
 use Rattle.model.specs.Base.{over}
-use Rattle.table.proofs.WordLaws.{count-decode, take-next}
-use Rattle.model.proofs.ListLaws.{over-over, over-nil}
+use Rattle.table.proofs.WordLaws.{count-decode, take-rows}
+use Rattle.model.proofs.ListLaws.{take-next, over-over, over-nil}
 
 -- ONE RECORD
 pub put-four : (o : List ℕ) (i a b c d : ℕ) → i + 4 ≤ length o →
@@ -60,7 +59,7 @@ module _ (ws : List ℕ) (n i : ℕ) (within : n ≤ length ws) (h : i < n) wher
       ap (λ (j : ℕ). over j (rowBytes (rowOf (getD ws i 0))) (over 0 (rowsBytes (take i (rowsOf n ws))) o)) e ∙
       over-over 0 (rowsBytes (take i (rowsOf n ws))) (rowBytes (rowOf (getD ws i 0))) o (omega arith) ∙
       ap (λ (b : List ℕ). over 0 b o)
-      (sym (ap rowsBytes (take-next i n ws within h) ∙ rowsBytes-snoc (take i (rowsOf n ws)) (rowOf (getD ws i 0))))
+      (sym (ap rowsBytes (take-rows i n ws within h) ∙ rowsBytes-snoc (take i (rowsOf n ws)) (rowOf (getD ws i 0))))
 
 -- MARKS, one more
 marksBytes-snoc : (from : ℕ) (ms : List (Option ℕ)) (m : Option ℕ) → marksBytes from (ms ++ (m ∷ [])) ≡ marksBytes from ms ++ markBytes
@@ -79,7 +78,7 @@ module _ (ms : List ℕ) (d : ℕ) (h : d < length ms) where
   marks-next : marksBytes 0 (map linked (take (d + 1) ms)) ≡ marksBytes 0 (map linked (take d ms)) ++ markBytes d (linked (getD ms d 0))
   marks-next =
       let k : 0 + length (map linked (take d ms)) ≡ d = omega (arith, length-map (take d ms) linked, length-take-le d ms (omega arith)) in
-      ap (λ (v : List ℕ). marksBytes 0 (map linked v)) (ap (λ (j : ℕ). take j ms) (add-one d) ∙ take-suc ms d 0 h) ∙
+      ap (λ (v : List ℕ). marksBytes 0 (map linked v)) (take-next ms d 0 h) ∙
       ap (marksBytes 0) (map-append linked (take d ms) (getD ms d 0 ∷ [])) ∙
       marksBytes-snoc 0 (map linked (take d ms)) (linked (getD ms d 0)) ∙
       ap (λ (j : ℕ). marksBytes 0 (map linked (take d ms)) ++ markBytes j (linked (getD ms d 0))) k
