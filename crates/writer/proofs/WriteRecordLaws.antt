@@ -5,8 +5,8 @@ use mathlib.Core.Option.{Option, none, some}
 use Prim.Native.Nat.{ℕ, zero, suc, _+_, _*_, _-_, _≤_, _<_}
 use native.Mathlib.Omega.{arith}
 use native.Mathlib.Nat.{add-zero}
-use lib.ListN.{length, getD, take, set, length-append, length-map}
-use lib.Seq.{sets-eq, take-all, length-take-le}
+use lib.ListN.{length, getD, take, length-append, length-map}
+use lib.Seq.{take-all, length-take-le}
 use borrow.Author.Tests.{ne-eqb}
 use Rattle.model.specs.Table as model
 use Rattle.model.specs.Stored.{wordBytes, parentBytes, rowBytes, rowsBytes, markBytes, marksBytes}
@@ -16,16 +16,7 @@ use Rattle.model.specs.Base.{over}
 use Rattle.table.proofs.WordLaws.{count-decode, take-rows}
 use Rattle.model.proofs.ListLaws.{take-next, over-over, over-nil}
 
--- ONE RECORD
-pub put-four : (o : List ℕ) (i a b c d : ℕ) → i + 4 ≤ length o →
-    set (set (set (set o i a) (i + 1) b) (i + 2) c) (i + 3) d ≡ over i (a ∷ b ∷ c ∷ d ∷ []) o
-put-four o i a b c d h =
-    let e₁ : i + 1 ≡ suc i = omega arith in
-    let e₂ : i + 2 ≡ suc (suc i) = omega arith in
-    let e₃ : i + 3 ≡ suc (suc (suc i)) = omega arith in
-    rw (e₁, e₂, e₃) (sets-eq (a ∷ b ∷ c ∷ d ∷ []) o i h)
-
--- the row of a word, as bytes
+-- ONE ROW of a word, as bytes
 pub row-leaf : (w : ℕ) → kindIn w ≡ 2 → rowBytes (rowOf w) ≡ 18 ∷ tagIn w ∷ parentBytes (linked (linkIn w))
 row-leaf w h = rw h
 
