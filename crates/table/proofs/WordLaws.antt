@@ -95,7 +95,7 @@ module _ (w l : ℕ) (small : l < 1024) where
       λ i. record { isLeaf = eqb (kind-withLink i) 2; tag = b i; parent = linked (c i) }
 
   module _ (word : isRowWord w ≡ true) where
-    pub isRowWord-withLink : isRowWord (withLink w l) ≡ true
+    isRowWord-withLink : isRowWord (withLink w l) ≡ true
     isRowWord-withLink = ap (isIn 1 2) kind-withLink ∙ word
 
     pub withLink-wordOf : withLink w l ≡ wordOf (model.withParent (rowOf w) (linked l))
@@ -162,21 +162,33 @@ module _ (n : ℕ) (ws : List ℕ) (canonical : Canonical n ws) (within : n ≤ 
       getD-word (r ∷ rs) zero h = refl
       getD-word (r ∷ rs) (suc j) h = getD-word rs j (omega arith)
 
-  pub row-word : isRowWord (getD ws i 0) ≡ true
-  row-word = ap isRowWord (sym word-back) ∙ isRowWord-wordOf (rowOf (getD ws i 0))
+  -- with another link it is the row's with another parent
+  module _ (link : ℕ) (small : link < 1024) where
+    abbrev w : ℕ
+    w = withLink (getD ws i 0) link
 
-  -- a word set is a row set
-  module _ (w : ℕ) where
-    pub rowsOf-set : rowsOf n (set ws i w) ≡ set (rowsOf n ws) i (rowOf w)
-    rowsOf-set = ap (map rowOf) (take-set-lt n ws i w l) ∙ map-set rowOf (take n ws) i w
+    pub word-linked : isRowWord w ≡ true
+    word-linked =
+        isRowWord-withLink (getD ws i 0) link small (ap isRowWord (sym word-back) ∙ isRowWord-wordOf (rowOf (getD ws i 0)))
 
-    pub canonical-set : isRowWord w ≡ true → Canonical n (set ws i w)
-    canonical-set h =
+    rowsOf-linked : rowsOf n (set ws i w) ≡ set (rowsOf n ws) i (rowOf w)
+    rowsOf-linked = ap (map rowOf) (take-set-lt n ws i w l) ∙ map-set rowOf (take n ws) i w
+
+    pub decode-linked : (ms : List ℕ) → decodeParts n (set ws i w) ms ≡ model.linked (decodeParts n ws ms) i (linked link)
+    decode-linked ms =
+        ap (λ (rs : List model.Row). model.table rs (map linked ms))
+        (rowsOf-linked ∙
+        ap (set (rowsOf n ws) i)
+        (rowOf-withLink (getD ws i 0) link small ∙
+        ap (λ (r : model.Row). model.withParent r (linked link)) (sym (rowAt-decode n ws ms within i l))))
+
+    pub canonical-linked : Canonical n (set ws i w)
+    canonical-linked =
         let k : length (rowsOf n ws) ≡ n = count-decode n ws [] within in
         let m : length (map wordOf (rowsOf n ws)) ≡ n = length-map (rowsOf n ws) wordOf ∙ k in
-        ap wordsOf rowsOf-set ∙
+        ap wordsOf rowsOf-linked ∙
         ap (λ (v : List ℕ). v ++ replicate (512 - length (set (rowsOf n ws) i (rowOf w))) 0)
-        (map-set wordOf (rowsOf n ws) i (rowOf w) ∙ ap (set (map wordOf (rowsOf n ws)) i) (wordOf-rowOf w h)) ∙
+        (map-set wordOf (rowsOf n ws) i (rowOf w) ∙ ap (set (map wordOf (rowsOf n ws)) i) (wordOf-rowOf w word-linked)) ∙
         ap (λ (j : ℕ). set (map wordOf (rowsOf n ws)) i w ++ replicate (512 - j) 0) (length-set (rowsOf n ws) i (rowOf w)) ∙
         sym (set-append-left (map wordOf (rowsOf n ws)) (replicate (512 - length (rowsOf n ws)) 0) i w (omega arith)) ∙
         ap (λ (v : List ℕ). set v i w) canonical
