@@ -6,18 +6,17 @@ use mathlib.Core.List.{List, [], _∷_, _++_, map, map-append}
 use mathlib.Core.Option.{Option, none, some}
 use Prim.Native.Nat.{ℕ, zero, suc, _+_, _*_, _-_, _/_, _%_, _≤_, _<_}
 use native.Mathlib.Omega.{arith}
-use native.Mathlib.Numerals.{add-one}
 use lib.Dec.{eqb}
 use lib.ListN.{length, getD, take, drop, set, replicate, length-map, length-append, length-drop, length-set}
 use lib.ListN.{take-append-drop, List·getD-map, List·getD-append, getD-replicate}
 use lib.Seq.{append-snoc, set-at, set-append-left, set-set, set-getD, getD-take, getD-append-add}
-use lib.Seq.{take-suc, take-take, take-suc-set, take-set-lt, take-set-le, length-take-le}
+use lib.Seq.{take-take, take-set-lt, take-set-le, length-take-le}
 use borrow.Author.Tests.{eq-eqb, ne-eqb, leb-true, eqb-true, eqb-false}
 use Rattle.model.specs.Base.{pick, isIn, all}
 use Rattle.model.specs.Table as model
 use Rattle.model.proofs.BoolLaws.{and-left, and-right, by-cases, pick-ne}
 use Rattle.model.proofs.TestLaws.{isIn-at, isIn-by}
-use Rattle.model.proofs.ListLaws.{map-set}
+use Rattle.model.proofs.ListLaws.{map-set, take-next, take-set}
 use Rattle.table.specs.Words.{linkOf, linked, wordOf, rowOf, isRowWord, withLink, isZero, rowsOf, decodeParts, wordsOf}
 use Rattle.table.specs.Words.{encode, Canonical, kindIn, linkIn, tagIn}
 
@@ -119,7 +118,7 @@ pub rows-take : (i n : ℕ) (ws : List ℕ) → i ≤ n → take i (rowsOf n ws)
 rows-take i n ws l = take-map rowOf i (take n ws) ∙ ap (map rowOf) (take-take i n ws l)
 
 rows-next : (i : ℕ) (ws : List ℕ) → i < length ws → rowsOf (i + 1) ws ≡ rowsOf i ws ++ (rowOf (getD ws i 0) ∷ [])
-rows-next i ws h = rw (add-one, take-suc ws i 0) (map-append rowOf (take i ws) (getD ws i 0 ∷ []))
+rows-next i ws h = ap (map rowOf) (take-next ws i 0 h) ∙ map-append rowOf (take i ws) (getD ws i 0 ∷ [])
 
 pub take-rows : (i n : ℕ) (ws : List ℕ) → n ≤ length ws → i < n →
     take (i + 1) (rowsOf n ws) ≡ take i (rowsOf n ws) ++ (rowOf (getD ws i 0) ∷ [])
@@ -131,8 +130,8 @@ take-rows i n ws w h =
 pub rowsOf-push : (n : ℕ) (ws : List ℕ) (r : model.Row) → n < length ws → linkOf (r .parent) < 1024 → rowsOf (n + 1) (set ws n (wordOf
     r)) ≡ rowsOf n ws ++ (r ∷ [])
 rowsOf-push n ws r h f =
-    rw (add-one, take-suc-set ws n (wordOf r)) (map-append rowOf (take n ws) (wordOf r ∷ []) ∙ ap (λ (q : model.Row). rowsOf n ws ++ (q ∷
-    [])) (rowOf-wordOf r f))
+    ap (map rowOf) (take-set ws n (wordOf r) h) ∙ map-append rowOf (take n ws) (wordOf r ∷ []) ∙
+    ap (λ (q : model.Row). rowsOf n ws ++ (q ∷ [])) (rowOf-wordOf r f)
 
 -- CANONICAL words
 replicate-less : (m n : ℕ) → n < m → replicate {A = ℕ} (m - n) 0 ≡ 0 ∷ replicate (m - (n + 1)) 0
