@@ -1,4 +1,4 @@
--- Insert's parts, from the tests on each way out: one row of the scan, and the scan past the top.
+-- Insert's parts, from the tests on each way out: a row made, a row copied for a target, and one row of the scan.
 use mathlib.Core.Path.{_≡_, refl, ap, sym, _∙_, subst}
 use mathlib.Core.Bool.{true, false}
 use mathlib.Core.Logic.{_⊎_, inl, inr, ⊎-elim}

@@ -82,7 +82,7 @@ drop-all b i = take-all (length b - i) (drop i b) (omega (arith, length-drop i b
 pub drop-first : (b : List ℕ) (i : ℕ) → getD (drop i b) 0 0 ≡ getD b i 0
 drop-first b i = let e : i + 0 ≡ i = omega arith in getD-drop i b 0 0 ∙ ap (λ (j : ℕ). getD b j 0) e
 
--- one item more of the first, which may just be set, and one less of the rest
+-- one item more of the first, also where it was just set, and one less of the rest
 module _ {A : Type 0} (l : List A) (i : ℕ) (d : A) (h : i < length l) where
   pub take-next : take (i + 1) l ≡ take i l ++ (getD l i d ∷ [])
   take-next = rw add-one (take-suc l i d h)

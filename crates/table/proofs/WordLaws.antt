@@ -1,5 +1,5 @@
--- A row survives its word, and a word that holds a row survives decoding; so do tables. Words are read, relinked, set, pushed and popped
--- as rows are.
+-- A row survives its word, and a word that holds a row survives decoding; so do tables. Words are read, relinked, pushed and popped as
+-- rows are.
 use mathlib.Core.Path.{_≡_, refl, ap, sym, _∙_}
 use mathlib.Core.Bool.{Bool, true, false}
 use mathlib.Core.List.{List, [], _∷_, _++_, map, map-append}

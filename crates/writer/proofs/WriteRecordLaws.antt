@@ -1,4 +1,4 @@
--- What the writer puts: a record over an area, and the stored form grown row by row and mark by mark.
+-- What the writer puts: a row as bytes, and the stored form grown row by row and mark by mark.
 use mathlib.Core.Path.{_≡_, refl, ap, sym, _∙_}
 use mathlib.Core.List.{List, [], _∷_, _++_, map, map-append, append-assoc, append-nil}
 use mathlib.Core.Option.{Option, none, some}

@@ -13,11 +13,11 @@ use borrow.Author.Needs.{needs}
 use Rattle.query.proofs.step.flag.Statement.{statement}
 use Rattle.query.proofs.step.flag.Tie as tie
 
-abbrev Inv-loop : tie.InvT-loop
-Inv-loop flags₀ items k₀ flags k = (k ≤ length items) × Flagged (take k items) flags
-
 abbrev has : (items : List ℕ) → (row : ℕ) → Bool
 has v k = among k v
+
+abbrev Inv-loop : tie.InvT-loop
+Inv-loop flags₀ items k₀ flags k = (k ≤ length items) × Flagged (take k items) flags
 
 abbrev μ-loop : tie.MeasureT-loop
 μ-loop flags₀ items k₀ flags k = length items - k

@@ -15,11 +15,11 @@ use borrow.Author.Needs.{needs}
 use Rattle.sweep.proofs.sweep.flag.Statement.{statement}
 use Rattle.sweep.proofs.sweep.flag.Tie as tie
 
-abbrev Inv-loop : tie.InvT-loop
-Inv-loop numbers₀ marks d₀ numbers d = (d ≤ length marks) × Flagged (take d marks) numbers
-
 abbrev has : (marks : List ℕ) → (row : ℕ) → Bool
 has v k = any (model.isThe k) (map linked v)
+
+abbrev Inv-loop : tie.InvT-loop
+Inv-loop numbers₀ marks d₀ numbers d = (d ≤ length marks) × Flagged (take d marks) numbers
 
 abbrev μ-loop : tie.MeasureT-loop
 μ-loop numbers₀ marks d₀ numbers d = length marks - d
