@@ -74,7 +74,7 @@ module _ {ws h : List ℕ} {p : Progress} {w : ℕ} (pre : NewPre ws h p w) wher
     abbrev history′ : List ℕ
     history′ = over (p .bytes) (recordBytes entry) h
 
-    abbrev pub madeWith : Tally → Progress
+    abbrev madeWith : Tally → Progress
     madeWith t = record { number = 0; count = p .count + 1; bytes = p .bytes + 6; tally = t }
 
     abbrev after′ : Progress
@@ -151,7 +151,7 @@ module _ (b : Bool) (t : ℕ) {w : ℕ} (e : w ≡ wordOf (loose b t)) where
 
 -- DELETE in the model
 module _ (z i : ℕ) (is : List ℕ) (s : State) where
-  pub cut-none : model.rowAt (s .plan) i .parent ≡ none → cutAll z (i ∷ is) s ≡ cutAll z is s
+  cut-none : model.rowAt (s .plan) i .parent ≡ none → cutAll z (i ∷ is) s ≡ cutAll z is s
   unfolding cutAll
   cut-none e = rw e
 
@@ -208,7 +208,7 @@ module _ {ws h : List ℕ} {p : Progress} {i : ℕ} (pre : CutPre ws h p i) wher
       abbrev cutHistory : List ℕ
       cutHistory = over (p .bytes) (recordBytes cutEntry) h
 
-      abbrev pub cutWith : Tally → Progress
+      abbrev cutWith : Tally → Progress
       cutWith t = record { number = 0; count = p .count; bytes = p .bytes + 5; tally = t }
 
       abbrev cutAfter : Progress
