@@ -6,9 +6,9 @@ use mathlib.Core.Logic.{inl, inr}
 use mathlib.Core.List.{List, [], _∷_}
 use Prim.Native.Nat.{ℕ, zero, suc, _+_, _<_}
 use native.Mathlib.Omega.{arith}
-use lib.Dec.{leb, eqb}
+use lib.Dec.{leb, eqb, eqb·suc-zero}
 use lib.ListN.{length}
-use borrow.Author.Tests.{leb-true, ne-eqb}
+use borrow.Author.Tests.{leb-true}
 use Rattle.model.specs.Base.{pick}
 use Rattle.model.specs.Script.{Step}
 use Rattle.model.specs.Meeting.{shareElement, shareLeaf, isDeep}
@@ -78,9 +78,6 @@ pub data Goes (s t : Step) (ss ts : List Step) (next : List Step → List Step �
   passOne : isDeep s ≡ true → P.canBeElement t ≡ true → next (s ∷ ss) ts ≡ true → Goes s t ss ts next
   passTwo : isDeep t ≡ true → P.canBeElement s ≡ true → next ss (t ∷ ts) ≡ true → Goes s t ss ts next
 
-suc-zero : (n : ℕ) → eqb (suc n) 0 ≡ false
-suc-zero n = ne-eqb (suc n) 0 (λ e. omega arith)
-
 module _ (s t : Step) (ss ts : List Step) (next : List Step → List Step → Bool) where
   abbrev first : List Step → List Step → Bool
   first ps qs = pick (eqb (length ps) 0 && eqb (length qs) 0) (P.agree s t) (P.agreeElement s t && next ps qs)
@@ -104,10 +101,10 @@ module _ (s t : Step) (ss ts : List Step) (next : List Step → List Step → Bo
       go : (ps qs : List Step) → first ps qs ≡ true → Goes s t ps qs next
       go [] [] l = last refl refl l
       go [] (q ∷ qs) l =
-          let a = and-parts (P.agreeElement s t) (next [] (q ∷ qs)) (rw (suc-zero (length qs)) at l) in
+          let a = and-parts (P.agreeElement s t) (next [] (q ∷ qs)) (rw (eqb·suc-zero (length qs)) at l) in
           both (a .0) (a .1)
       go (p ∷ ps) qs l =
-          let a = and-parts (P.agreeElement s t) (next (p ∷ ps) qs) (rw (suc-zero (length ps)) at l) in
+          let a = and-parts (P.agreeElement s t) (next (p ∷ ps) qs) (rw (eqb·suc-zero (length ps)) at l) in
           both (a .0) (a .1)
 
   pub goes-meet : Goes s t ss ts next → P.meetOn next s t ss ts ≡ true

@@ -1,8 +1,8 @@
 -- A number in decimal is read back from its digits, and no zero stands in front.
 use mathlib.Core.Path.{_≡_, refl, ap, sym, subst, _∙_}
-use mathlib.Core.Bool.{true, false}
+use mathlib.Core.Bool.{true}
 use mathlib.Core.List.{List, [], _∷_, _++_}
-use Prim.Native.Nat.{ℕ, zero, suc, _+_, _-_, _*_, _/_, _%_, _^_, _≤_, _<_}
+use Prim.Native.Nat.{ℕ, zero, suc, _+_, _-_, _*_, _/_, _%_, _^_, _<_}
 use native.Mathlib.Nat.{pow-suc}
 use native.Mathlib.Omega.{arith}
 use lib.Dec.{ltb}
@@ -21,10 +21,6 @@ value-last v (e ∷ ds) d = value-last (10 * v + (e - 48)) ds d
 value-one : (n : ℕ) → valueFrom 0 ((48 + n) ∷ []) ≡ n
 unfolding valueFrom
 value-one n = omega arith
-
--- a number that is not below 10 has more than one digit
-high : (n : ℕ) → ltb n 10 ≡ false → 10 ≤ n
-high n h = ltb-false n 10 h
 
 value-digits : (k n : ℕ) → n < 10 ^ suc k → valueFrom 0 (digits (suc k) n) ≡ n
 value-digits zero n h = ap (valueFrom 0) (digits-low 0 n (lt-ltb n 10 (omega (arith, h)))) ∙ value-one n
@@ -69,7 +65,7 @@ first-digit (suc k) n p h =
     (λ l.
     subst (λ (ds : List ℕ). 48 < getD ds 0 0) (sym (digits-high (suc k) n l))
     (subst (λ (d : ℕ). 48 < d) (sym (List·getD-append (digits (suc k) (n / 10)) ((48 + n % 10) ∷ []) 0 0 (some-digits k (n / 10))))
-    (first-digit k (n / 10) (omega (arith, high n l)) (omega (arith, h, pow-suc 10 (suc k))))))
+    (first-digit k (n / 10) (omega (arith, ltb-false n 10 l)) (omega (arith, h, pow-suc 10 (suc k))))))
 
 pub decimalBack : DecimalBack
 decimalBack n h = (

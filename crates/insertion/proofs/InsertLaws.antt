@@ -1,5 +1,5 @@
--- Insert's parts, from the tests on each way out: one row of the scan, and the scan past the top.
-use mathlib.Core.Path.{_≡_, ap, sym, _∙_, subst}
+-- Insert's parts, from the tests on each way out: a row made, a row copied for a target, and one row of the scan.
+use mathlib.Core.Path.{_≡_, refl, ap, sym, _∙_, subst}
 use mathlib.Core.Bool.{true, false}
 use mathlib.Core.Logic.{_⊎_, inl, inr, ⊎-elim}
 use mathlib.Core.List.{List, [], _∷_, map}
@@ -10,21 +10,21 @@ use native.Mathlib.Numerals.{add-one}
 use lib.Dec.{ltb, eqb}
 use lib.ListN.{length, getD, set}
 use lib.Seq.{getD-set-same, getD-set-other, ext-getD}
-use borrow.Author.Tests.{lt-ltb, ne-eqb, ltb-true, ltb-false}
+use borrow.Author.Tests.{lt-ltb, ltb-true, ltb-false}
 use Rattle.model.specs.Base.{pick}
 use Rattle.model.specs.Table as model
 use Rattle.model.specs.Run.{State, Out, stop, gives, newRow, withMade, thenRow}
 use Rattle.model.proofs.BoolLaws.{by-cases, and-both, eq-cases, pick-eq, pick-ne}
-use Rattle.model.proofs.TableLaws.{isElement-by}
+use Rattle.model.proofs.TableLaws.{isElement-at, isElement-by}
 use Rattle.model.proofs.GrowLaws.{count-withRow, rowAt-withRow-old, rowAt-withRow-new}
 use Rattle.table.specs.Words.{linked, rowOf, rowsOf, isRowWord, withLink, decodeParts, linkIn}
-use Rattle.table.proofs.WordLaws.{count-decode, rowAt-decode, rows-take, row-word, rowOf-withLink, isRowWord-withLink}
+use Rattle.table.proofs.WordLaws.{linked-linkOf, count-decode, rowAt-decode, rows-take, rowOf-withLink, word-linked}
 use Rattle.table.proofs.DecodeLaws.{parent-at, link-low}
 use Rattle.updates.specs.State.{stateOf, outcome, Held, Updated}
 use Rattle.updates.specs.Updating.{NewPre}
 use Rattle.insertion.specs.Inserting.{before, nextLink, copyBy, IsCopy, Mapped, NextPre, NextPost}
 use Rattle.updates.specs.declared.state.Progress.{Progress}
-use Rattle.updates.proofs.StateLaws.{held-count, after-self, outcome-gives}
+use Rattle.updates.proofs.StateLaws.{held-within, held-count, after-self, outcome-gives}
 use Rattle.updates.proofs.UpdateLaws.{newRow-full, newRow-over, newRow-room}
 use Rattle.insertion.proofs.InsertLawsScan.{linked-at}
 
@@ -77,7 +77,7 @@ module _ {ws h : List ℕ} {p : Progress} (held : Held ws h p) {ws′ h′ : Lis
   made-table : decodeParts (r .count) ws′ [] ≡ model.withRow (decodeParts (p .count) ws []) row
   made-table = ap (λ (s : State). s .plan) e
 
-  pub made-count : r .count ≡ p .count + 1
+  made-count : r .count ≡ p .count + 1
   made-count =
       let k : model.count (decodeParts (r .count) ws′ []) ≡ model.count (decodeParts (p .count) ws []) + 1 =
       ap model.count made-table ∙ count-withRow (decodeParts (p .count) ws []) row ∙
@@ -89,11 +89,48 @@ module _ {ws h : List ℕ} {p : Progress} (held : Held ws h p) {ws′ h′ : Lis
       ap (λ (x : model.Table). model.rowAt x c) made-table ∙
       rowAt-withRow-old (decodeParts (p .count) ws []) row c (omega (arith, held-count held []))
 
-  pub made-new : model.rowAt (decodeParts (r .count) ws′ []) (p .count) ≡ row
+  made-new : model.rowAt (decodeParts (r .count) ws′ []) (p .count) ≡ row
   made-new =
       ap (λ (x : model.Table). model.rowAt x (p .count)) made-table ∙
       ap (model.rowAt (model.withRow (decodeParts (p .count) ws []) row)) (sym (held-count held [])) ∙
       rowAt-withRow-new (decodeParts (p .count) ws []) row
+
+  -- it is a copy of a row of the same kind
+  pub made-copy : (i : ℕ) → i < p .count → row .isLeaf ≡ rowOf (getD ws i 0) .isLeaf → IsCopy ws′ (r .count) i (p .count)
+  made-copy i a k = (
+    omega (arith, made-count),
+    ap (λ (q : model.Row). q .isLeaf) made-new ∙ k ∙
+        ap (λ (q : model.Row). q .isLeaf) (sym (made-old i a ∙ rowAt-decode (p .count) ws [] (held-within held) i a)),
+  )
+
+-- A COPY of a row for a target fits
+pub target-low : {ws h : List ℕ} {p : Progress} → Held ws h p → (g : ℕ) → model.isElement (decodeParts (p .count) ws []) g ≡ true →
+    g < p .count
+target-low {ws} {h} {p} held g e = omega (arith, isElement-at (decodeParts (p .count) ws []) g e .0, held-count held [])
+
+module _ {ws h : List ℕ} {p : Progress} (held : Held ws h p) (i g : ℕ) (row : i < p .count)
+    (target : model.isElement (decodeParts (p .count) ws []) g ≡ true) {v : ℕ} (word : v ≡ withLink (getD ws i 0) (g + 1)) where
+  small : g + 1 < 1024
+  small = omega (arith, target-low held g target, held .few)
+
+  pub copy-row : rowOf v ≡ model.withParent (rowOf (getD ws i 0)) (some g)
+  copy-row =
+      ap rowOf word ∙ rowOf-withLink (getD ws i 0) (g + 1) small ∙
+      ap (model.withParent (rowOf (getD ws i 0))) (linked-linkOf (some g))
+
+  pub copy-pre : NewPre ws h p v
+  copy-pre =
+      record {
+        held = held;
+        word = ap isRowWord word ∙ word-linked (p .count) ws (held .canonical) (held-within held) i row (g + 1) small;
+        tag =
+            ap model.tagFits copy-row ∙ ap model.tagFits (sym (rowAt-decode (p .count) ws [] (held-within held) i row)) ∙
+            held .tree .tags i (omega (arith, row, held-count held []));
+        parent =
+            ap (λ (r : model.Row). model.parentFits (decodeParts (p .count) ws []) (p .count) (r .parent)) copy-row ∙
+            and-both (ltb g (p .count)) (model.isElement (decodeParts (p .count) ws []) g) (lt-ltb g (p .count) (target-low held g target))
+            target;
+      }
 
 -- ONE ROW of the scan
 module _ {ws h m : List ℕ} {p : Progress} {t j : ℕ} (pre : NextPre ws h m p t j) where
@@ -106,20 +143,14 @@ module _ {ws h m : List ℕ} {p : Progress} {t j : ℕ} (pre : NextPre ws h m p 
   abbrev link : ℕ
   link = nextLink ws m t j
 
-  fits : p .count ≤ length ws
-  fits = omega (arith, pre .held .few, pre .held .rows)
-
-  row-here : model.rowAt (decodeParts (p .count) ws []) j ≡ rowOf w
-  row-here = rowAt-decode (p .count) ws [] fits j (pre .row)
-
   parent-here : (l ≡ 0 → ⊥) → (l - 1 < j) × (model.rowAt (decodeParts (p .count) ws []) (l - 1) .isLeaf ≡ false)
-  parent-here f = pre .held .tree .parents j (l - 1) (parent-at (p .count) ws [] fits j (pre .row) f)
+  parent-here f = pre .held .tree .parents j (l - 1) (parent-at (p .count) ws [] (held-within (pre .held)) j (pre .row) f)
 
   pub next-bound : l ≤ length m
   next-bound =
       omega (
         arith,
-        link-low (p .count) ws [] fits j (pre .row) (λ q e. pre .held .tree .parents j q e .0),
+        link-low (p .count) ws [] (held-within (pre .held)) j (pre .row) (λ q e. pre .held .tree .parents j q e .0),
         pre .size,
         pre .held .few,
         pre .row,
@@ -146,33 +177,17 @@ module _ {ws h m : List ℕ} {p : Progress} {t j : ℕ} (pre : NextPre ws h m p 
     pub next-small : link < 513
     next-small = omega (arith, linked-at m t l n .is, copy-is .0, pre .held .few)
 
-    parent-copy : model.parentFits (decodeParts (p .count) ws []) (p .count) (linked link) ≡ true
+    parent-copy : model.isElement (decodeParts (p .count) ws []) (getD m (l - 1) 0) ≡ true
     parent-copy =
-        let k = linked-at m t l n in
-        let c = getD m (l - 1) 0 in
-        let e : link - 1 ≡ c = omega (arith, k .is) in
-        let q : linked link ≡ some c = rw (ne-eqb link 0 n) (ap some e) in
-        ap (model.parentFits (decodeParts (p .count) ws []) (p .count)) q ∙
-        and-both (ltb c (p .count)) (model.isElement (decodeParts (p .count) ws []) c) (lt-ltb c (p .count) (copy-is .0))
-        (isElement-by (decodeParts (p .count) ws []) c (omega (arith, copy-is .0, held-count (pre .held) []))
-        (copy-is .1 ∙ parent-here (k .parent) .1))
+        isElement-by (decodeParts (p .count) ws []) (getD m (l - 1) 0) (omega (arith, copy-is .0, held-count (pre .held) []))
+        (copy-is .1 ∙ parent-here (linked-at m t l n .parent) .1)
 
     module _ {v : ℕ} (word : v ≡ withLink w link) where
       row-copy : rowOf v ≡ model.withParent (rowOf w) (linked link)
       row-copy = ap rowOf word ∙ rowOf-withLink w link (omega (arith, next-small))
 
       pub next-pre : NewPre ws h p v
-      next-pre =
-          record {
-            held = pre .held;
-            word =
-                ap isRowWord word ∙
-                isRowWord-withLink w link (omega (arith, next-small)) (row-word (p .count) ws (pre .held .canonical) fits j (pre .row));
-            tag =
-                ap model.tagFits row-copy ∙ ap model.tagFits (sym row-here) ∙
-                pre .held .tree .tags j (omega (arith, pre .row, held-count (pre .held) []));
-            parent = ap (λ (r : model.Row). model.parentFits (decodeParts (p .count) ws []) (p .count) (r .parent)) row-copy ∙ parent-copy;
-          }
+      next-pre = copy-pre (pre .held) j (getD m (l - 1) 0) (pre .row) parent-copy (word ∙ ap (withLink w) (linked-at m t l n .is))
 
       pub next-made : {ws′ h′ : List ℕ} {r : Progress} → Updated (λ z s. newRow z (rowOf v) s) (p .count ∷ []) ws h p ws′ h′ r →
           NextPost ws h m p t j ws′ h′ (set m j (p .count)) r
@@ -214,11 +229,7 @@ module _ {ws h m : List ℕ} {p : Progress} {t j : ℕ} (pre : NextPre ws h m p 
         (λ e. made-old (pre .held) held′ (model.withParent (rowOf w) (linked link)) (state-copy e) c a)
 
     next-new : (link ≡ 0 → ⊥) → IsCopy ws′ (r .count) j (p .count)
-    next-new n = (
-      omega (arith, made-count (pre .held) held′ (model.withParent (rowOf w) (linked link)) (state-copy n)),
-      ap (λ (q : model.Row). q .isLeaf) (made-new (pre .held) held′ (model.withParent (rowOf w) (linked link)) (state-copy n)) ∙
-          ap (λ (q : model.Row). q .isLeaf) (sym (next-old j (pre .row) ∙ row-here)),
-    )
+    next-new n = made-copy (pre .held) held′ (model.withParent (rowOf w) (linked link)) (state-copy n) j (pre .row) refl
 
     pub next-mapped : Mapped ws′ m′ (r .count) t (j + 1)
     next-mapped k a b = eq-cases k j at old

@@ -4,27 +4,28 @@ use mathlib.Core.Bool.{Bool, true, false, _&&_, not}
 use mathlib.Core.List.{List, [], _∷_, map}
 use mathlib.Core.Option.{some}
 use Prim.Native.Nat.{ℕ, _+_, _-_, _≤_, _<_}
-use native.Mathlib.Numerals.{add-one}
 use native.Mathlib.Omega.{arith}
-use lib.Dec.{ltb, eqb}
+use lib.Dec.{eqb}
 use lib.ListN.{length, getD, drop, set, length-set, drop-of-length-le}
-use lib.Seq.{getD-set-same, drop-cons}
-use borrow.Author.Tests.{lt-ltb, eq-eqb, ne-eqb}
+use lib.Seq.{getD-set-same}
+use borrow.Author.Tests.{eq-eqb, ne-eqb}
 use Rattle.model.specs.Table as model
 use Rattle.model.specs.Run.{State, Out, newRow, withMade, thenRow, Copied, copyParent, copyEach}
 use Rattle.model.specs.Run.{descendantsFrom, subtree, copyAll, inserted}
 use Rattle.model.proofs.BoolLaws.{and-both, pick-true}
+use Rattle.model.proofs.ListLaws.{drop-next}
 use Rattle.model.proofs.TableLaws.{isElement-at, isElement-by}
-use Rattle.table.specs.Words.{linked, rowOf, rowsOf, isRowWord, withLink, decodeParts, kindIn}
-use Rattle.table.proofs.WordLaws.{linked-linkOf, count-decode, rowAt-decode, row-word, rowOf-withLink, isRowWord-withLink}
+use Rattle.table.specs.Words.{linked, rowOf, rowsOf, withLink, decodeParts, kindIn}
+use Rattle.table.proofs.WordLaws.{count-decode, rowAt-decode}
 use Rattle.table.proofs.DecodeLaws.{element-kind}
 use Rattle.updates.specs.State.{stateOf, outcome, After, Updated, stopped}
 use Rattle.updates.specs.Updating.{NewPre}
 use Rattle.insertion.specs.Inserting.{before, copiedIn, IsCopy, RestPre, RestPost, ItemPre, ItemPost, ItemsPre, ItemsPost, InsertPre}
 use Rattle.updates.specs.declared.state.Progress.{Progress}
-use Rattle.updates.proofs.StateLaws.{held-count, after-self, after-then, outcome-gives, then-goes, updated-stopped, then-stops}
+use Rattle.updates.proofs.StateLaws.{held-within, held-count, after-self, after-then, outcome-gives, then-goes, updated-stopped, then-stops}
 use Rattle.insertion.proofs.InsertLawsScan.{descendants-past}
-use Rattle.insertion.proofs.InsertLaws.{made-state, made-count, made-old, made-new, before-decode, row-before, rows-kept}
+use Rattle.insertion.proofs.InsertLaws.{made-state, made-old, made-copy, target-low, copy-row, copy-pre}
+use Rattle.insertion.proofs.InsertLaws.{before-decode, row-before, rows-kept}
 use Rattle.insertion.proofs.InsertLawsRest.{lower-before}
 
 -- THE TOP FIRST, then the rows past it
@@ -54,40 +55,21 @@ copiedIn-top m t c h l =
 
 -- AN ITEM
 module _ {ws h m : List ℕ} {p : Progress} {old t g : ℕ} (pre : ItemPre ws h m p old t g) where
-  fits : p .count ≤ length ws
-  fits = omega (arith, pre .held .few, pre .held .rows)
-
   pub item-target : g < p .count
-  item-target = omega (arith, isElement-at (decodeParts (p .count) ws []) g (pre .target) .0, held-count (pre .held) [])
+  item-target = target-low (pre .held) g (pre .target)
 
-  row-top : model.rowAt (decodeParts (p .count) ws []) t ≡ rowOf (getD ws t 0)
-  row-top = rowAt-decode (p .count) ws [] fits t (omega (arith, pre .top, pre .room))
+  item-top : t < p .count
+  item-top = omega (arith, pre .top, pre .room)
+
+  item-old : old ≤ length ws
+  item-old = omega (arith, pre .room, held-within (pre .held))
 
   module _ {v : ℕ} (word : v ≡ withLink (getD ws t 0) (g + 1)) where
-    small : g + 1 < 1024
-    small = omega (arith, item-target, pre .held .few)
-
     row-copy : rowOf v ≡ model.withParent (rowOf (getD ws t 0)) (some g)
-    row-copy =
-        ap rowOf word ∙ rowOf-withLink (getD ws t 0) (g + 1) small ∙
-        ap (model.withParent (rowOf (getD ws t 0))) (linked-linkOf (some g))
+    row-copy = copy-row (pre .held) t g item-top (pre .target) word
 
     pub item-pre : NewPre ws h p v
-    item-pre =
-        let k : t < p .count = omega (arith, pre .top, pre .room) in
-        record {
-          held = pre .held;
-          word =
-              ap isRowWord word ∙
-              isRowWord-withLink (getD ws t 0) (g + 1) small (row-word (p .count) ws (pre .held .canonical) fits t k);
-          tag =
-              ap model.tagFits row-copy ∙ ap model.tagFits (sym row-top) ∙
-              pre .held .tree .tags t (omega (arith, held-count (pre .held) []));
-          parent =
-              ap (λ (r : model.Row). model.parentFits (decodeParts (p .count) ws []) (p .count) (r .parent)) row-copy ∙
-              and-both (ltb g (p .count)) (model.isElement (decodeParts (p .count) ws []) g) (lt-ltb g (p .count) item-target)
-              (pre .target);
-        }
+    item-pre = copy-pre (pre .held) t g item-top (pre .target) word
 
     module _ {ws₁ h₁ : List ℕ} {p₁ : Progress} (u : Updated (λ z s. newRow z (rowOf v) s) (p .count ∷ []) ws h p ws₁ h₁ p₁) where
       abbrev rest : (z : ℕ) (ms : List ℕ) → State → Out
@@ -106,13 +88,12 @@ module _ {ws h m : List ℕ} {p : Progress} {old t g : ℕ} (pre : ItemPre ws h 
           (u .same z ms ∙
           ap (λ (r : model.Row). newRow z r s)
           (row-copy ∙
-          ap (λ (r : model.Row). model.withParent r (some g)) (sym (rowAt-decode old ws ms (omega (arith, pre .room, fits)) t
-          (pre .top))))) ∙
+          ap (λ (r : model.Row). model.withParent r (some g)) (sym (rowAt-decode old ws ms item-old t (pre .top))))) ∙
           ap (λ (c : ℕ).
           thenRow (newRow z (model.withParent (model.rowAt x t) (some g)) s)
           (λ (q : State). copyEach z x t g (descendantsFrom x t (t + 1) (old - (t + 1))) (record { old = t; new = c } ∷ []) q))
           (sym (held-count (pre .held) ms)) ∙
-          sym (copyEach-top z x t g old s (count-decode old ws ms (omega (arith, pre .room, fits))) (pre .top)
+          sym (copyEach-top z x t g old s (count-decode old ws ms item-old) (pre .top)
           (lower-before (pre .held) old (pre .room) ms)) ∙
           ap (λ (y : model.Table). copyEach z y t g (subtree y t) [] s) (sym (before-decode old ws ms h p (pre .room)))
 
@@ -134,18 +115,14 @@ module _ {ws h m : List ℕ} {p : Progress} {old t g : ℕ} (pre : ItemPre ws h 
 
         rows₁ : rowsOf old ws₁ ≡ rowsOf old ws
         rows₁ =
-            rows-kept old (p .count) (p₁ .count) ws ws₁ (pre .room) fits (omega (arith, pre .room, after₁ .rows))
-            (omega (arith, after₁ .held .few, after₁ .held .rows)) (made-old (pre .held) (after₁ .held) (rowOf v) state₁)
+            rows-kept old (p .count) (p₁ .count) ws ws₁ (pre .room) (held-within (pre .held)) (omega (arith, pre .room, after₁ .rows))
+            (held-within (after₁ .held)) (made-old (pre .held) (after₁ .held) (rowOf v) state₁)
 
         mapped₁ : IsCopy ws₁ (p₁ .count) t (getD (set m t (p .count)) t 0)
         mapped₁ =
-            let k : t < p .count = omega (arith, pre .top, pre .room) in
-            let a : t < length m = omega (arith, pre .size, pre .held .few) in
-            subst (λ (c : ℕ). IsCopy ws₁ (p₁ .count) t c) (sym (getD-set-same m t (p .count) 0 a)) (
-              omega (arith, made-count (pre .held) (after₁ .held) (rowOf v) state₁),
-              ap (λ (r : model.Row). r .isLeaf) (made-new (pre .held) (after₁ .held) (rowOf v) state₁ ∙ row-copy) ∙
-                  ap (λ (r : model.Row). r .isLeaf) (sym (made-old (pre .held) (after₁ .held) (rowOf v) state₁ t k ∙ row-top)),
-            )
+            let a : t < length m = omega (arith, item-top, pre .size, pre .held .few) in
+            subst (λ (c : ℕ). IsCopy ws₁ (p₁ .count) t c) (sym (getD-set-same m t (p .count) 0 a))
+            (made-copy (pre .held) (after₁ .held) (rowOf v) state₁ t item-top (ap (λ (r : model.Row). r .isLeaf) row-copy))
 
         pub item-rest : RestPre ws₁ h₁ (set m t (p .count)) p₁ old t
         item-rest =
@@ -218,13 +195,12 @@ module _ {ws₀ h₀ m₀ : List ℕ} {p₀ : Progress} {v : List ℕ} {g : ℕ}
     module _ (more : k < length v) {i : ℕ} (e : i ≡ getD v k 0) where
       target : model.isElement (decodeParts (p .count) ws []) g ≡ true
       target =
-          let a = isElement-at (decodeParts (p₀ .count) ws₀ []) g (pre .target) in
-          let b : g < p₀ .count = omega (arith, a .0, held-count (pre .held) []) in
-          let f : p .count ≤ length ws = omega (arith, c .after .held .few, c .after .held .rows) in
+          let a : g < p₀ .count = target-low (pre .held) g (pre .target) in
           isElement-by (decodeParts (p .count) ws []) g (omega (arith, c .after .rows, held-count (c .after .held) []))
           (ap (λ (r : model.Row). r .isLeaf)
-          (sym (row-before ws [] (p₀ .count) (p .count) (c .after .rows) f g b) ∙
-          ap (λ (rs : List model.Row). getD rs g model.noRow) (c .same)) ∙ a .1)
+          (sym (row-before ws [] (p₀ .count) (p .count) (c .after .rows) (held-within (c .after .held)) g a) ∙
+          ap (λ (rs : List model.Row). getD rs g model.noRow) (c .same)) ∙
+          isElement-at (decodeParts (p₀ .count) ws₀ []) g (pre .target) .1)
 
       pub inserting-item : ItemPre ws h m p (p₀ .count) i g
       inserting-item =
@@ -252,9 +228,7 @@ module _ {ws₀ h₀ m₀ : List ℕ} {p₀ : Progress} {v : List ℕ} {g : ℕ}
             (before-decode (p₀ .count) ws ms h p (c .after .rows) ∙
             ap (λ (rs : List model.Row). model.table rs (map linked ms)) (c .same))) ∙
             ap (λ (j : ℕ). copyAll z x (j ∷ drop (k + 1) v) g s) e ∙
-            ap (λ (is : List ℕ). copyAll z x is g s) (sym (drop-cons v k 0 more ∙ ap (λ (j : ℕ). getD v k 0 ∷ drop j v) (sym (add-one
-            k)))) ∙
-            c .rest z ms
+            ap (λ (is : List ℕ). copyAll z x is g s) (sym (drop-next v k 0 more)) ∙ c .rest z ms
 
         pub inserting-refused : (r .number ≡ 0 → ⊥) → ItemsPost ws₀ h₀ p₀ v g ws′ h′ r
         inserting-refused n = then-stops next [] n turn
@@ -283,7 +257,7 @@ module _ {ws h : List ℕ} {p : Progress} {v w : List ℕ} (pre : InsertPre ws h
     kind : (ms : List ℕ) → model.isElement (decodeParts (p .count) ws ms) (getD w 0 0) ≡ not (eqb (kindIn (getD ws g 0)) 2)
     kind ms =
         ap (model.isElement (decodeParts (p .count) ws ms)) (sym e) ∙
-        element-kind (p .count) ws ms (omega (arith, pre .held .few, pre .held .rows)) g insert-low
+        element-kind (p .count) ws ms (held-within (pre .held)) g insert-low
 
     pub insert-leaf : kindIn (getD ws g 0) ≡ 2 → {ws′ h′ : List ℕ} {r : Progress} → r ≡ stopped p 7 →
         Updated (λ z s. inserted z v w s) [] ws h p ws′ h′ r

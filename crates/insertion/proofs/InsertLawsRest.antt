@@ -18,7 +18,7 @@ use Rattle.table.proofs.WordLaws.{count-decode, rowAt-decode}
 use Rattle.updates.specs.State.{stateOf, outcome, Held, After}
 use Rattle.insertion.specs.Inserting.{before, copiedIn, nextLink, copyBy, IsCopy, Mapped, NextPre, NextPost, RestPre, RestPost}
 use Rattle.updates.specs.declared.state.Progress.{Progress}
-use Rattle.updates.proofs.StateLaws.{held-count, after-self, after-then, outcome-gives, then-goes, then-stops}
+use Rattle.updates.proofs.StateLaws.{held-within, held-count, after-self, after-then, outcome-gives, then-goes, then-stops}
 use Rattle.insertion.proofs.InsertLawsScan.{known-next, copy-turn}
 use Rattle.insertion.proofs.InsertLaws.{before-decode, row-before, rows-kept, next-old, next-mapped}
 
@@ -41,7 +41,7 @@ pub record Copying (old t : ℕ) (ws₀ h₀ m₀ : List ℕ) (p₀ : Progress) 
 pub lower-before : {ws h : List ℕ} {p : Progress} → Held ws h p → (old : ℕ) → old ≤ p .count → (ms : List ℕ) (i q : ℕ) →
     model.rowAt (decodeParts old ws ms) i .parent ≡ some q → q < i
 lower-before {ws} {h} {p} held old l ms i q e =
-    let f : p .count ≤ length ws = omega (arith, held .few, held .rows) in
+    let f : p .count ≤ length ws = held-within held in
     let k : model.count (decodeParts old ws ms) ≡ old = count-decode old ws ms (omega arith) in
     let g : i < old = omega (arith, parent-count (decodeParts old ws ms) i q e) in
     held .tree .parents i q (ap (λ (r : model.Row). r .parent) (sym (row-before ws ms old (p .count) l f i g)) ∙ e) .0
@@ -103,7 +103,7 @@ module _ {old t : ℕ} {ws₀ h₀ m₀ : List ℕ} {p₀ : Progress} (pre : Res
 
       row-x : (ms : List ℕ) → model.rowAt (decodeParts old ws₀ ms) j ≡ rowOf (getD ws j 0)
       row-x ms =
-          let a : old ≤ length ws = omega (arith, pre .room, c .after .rows, c .after .held .few, c .after .held .rows) in
+          let a : old ≤ length ws = omega (arith, pre .room, c .after .rows, held-within (c .after .held)) in
           ap (λ (rs : List model.Row). getD rs j model.noRow) (sym (c .same)) ∙ rowAt-decode old ws [] a j more
 
       parent-x : (ms : List ℕ) → model.rowAt (decodeParts old ws₀ ms) j .parent ≡ linked (linkIn (getD ws j 0))
@@ -156,9 +156,8 @@ module _ {old t : ℕ} {ws₀ h₀ m₀ : List ℕ} {p₀ : Progress} (pre : Res
               low = omega (arith, c .low);
               high = omega arith;
               same =
-                  rows-kept old (p .count) (r .count) ws ws′ (omega (arith, pre .room, c .after .rows))
-                  (omega (arith, c .after .held .few, c .after .held .rows)) (omega (arith, pre .room, c .after .rows, a .rows))
-                  (omega (arith, a .held .few, a .held .rows)) (next-old copying-next post n) ∙ c .same;
+                  rows-kept old (p .count) (r .count) ws ws′ (omega (arith, pre .room, c .after .rows)) (held-within (c .after .held))
+                  (omega (arith, pre .room, c .after .rows, a .rows)) (held-within (a .held)) (next-old copying-next post n) ∙ c .same;
               mapped = next-mapped copying-next post n;
               known = λ ms k e f.
                   ap (λ (v : List ℕ). eqb (getD v k 0) 65535) (post .map) ∙

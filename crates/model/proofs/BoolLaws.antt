@@ -88,6 +88,11 @@ bool-iff true b f g = sym (f refl)
 bool-iff false true f g = g refl
 bool-iff false false f g = refl
 
+-- so are the tests of two pairs of numbers
+pub eqb-iff : (i j m n : ℕ) → (i ≡ j → m ≡ n) → (m ≡ n → i ≡ j) → eqb i j ≡ eqb m n
+eqb-iff i j m n f g =
+    bool-iff (eqb i j) (eqb m n) (λ e. eq-eqb m n (f (eqb-true i j e))) (λ e. eq-eqb i j (g (eqb-true m n e)))
+
 -- four tests, the middle two exchanged
 pub or-swap : (a b c d : Bool) → ((a || b) || (c || d)) ≡ ((a || c) || (b || d))
 or-swap true b c d = refl

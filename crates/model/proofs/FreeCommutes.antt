@@ -25,7 +25,7 @@ use Rattle.model.proofs.Simulation.{script-sim}
 use Rattle.model.proofs.Start.{Labelled, labelled-by}
 use Rattle.model.proofs.Apart.{Away, Apart, free-apart}
 use Rattle.model.proofs.Alone.{start-twin, scriptOf, aloneSide, alone}
-use Rattle.model.proofs.Matching.{mark-low, all-first, all-second, history-first, history-second}
+use Rattle.model.proofs.Matching.{parent-low, all-first, all-second, history-first, history-second}
 use Rattle.model.proofs.Orders.{Order, order-by, rows-equal}
 use Rattle.model.proofs.Beside.{Left, left-count, beside}
 
@@ -177,7 +177,7 @@ module _ (e f : Expr) (x : Table) (w : Labelled x) (A : Apart e f) where
       marks : (d : ℕ) → getD (t₂₁ .plan .marks) d none ≡ matchedParent (count x) a b (getD (t₁₂ .plan .marks) d none)
       marks d =
           ap (λ ms. getD ms d none) (T₂₁ .two .marked) ∙
-          mark-low (count x) a b (getD (x .marks) d none) (λ p k. w .rooted d p k .0) ∙
+          sym (parent-low (count x) a b (getD (x .marks) d none) (λ p k. w .rooted d p k .0)) ∙
           ap (λ ms. matchedParent (count x) a b (getD ms d none)) (sym (T₁₂ .two .marked))
 
       plans : PlansEqual (count x) a b (t₁₂ .plan) (t₂₁ .plan)

@@ -10,7 +10,8 @@ use native.Mathlib.Nat.{add-zero, zero-add, zero-sub, sub-zero, suc-sub-suc}
 use native.Mathlib.Numerals.{add-one}
 use lib.Dec.{eqb}
 use lib.ListN.{length, getD, take, drop, set, length-append, length-drop, take-append-drop, drop-of-length-le}
-use lib.Seq.{take-nil, take-at, take-all, take-length, drop-append-add, drop-drop, getD-drop, length-take-le, paste, paste-suc}
+use lib.Seq.{take-nil, take-at, take-all, take-suc, take-suc-set, take-length, length-take-le, drop-cons, drop-append-add, drop-drop}
+use lib.Seq.{getD-drop, paste, paste-suc}
 use borrow.Author.Tests.{eqb-true, eq-eqb}
 use Rattle.model.specs.Base.{pick, atFront, over, all, any, filtered, among}
 use Rattle.model.proofs.BoolLaws.{and-left, and-right, and-both, or-left, or-right, or-cases}
@@ -80,6 +81,17 @@ drop-all b i = take-all (length b - i) (drop i b) (omega (arith, length-drop i b
 
 pub drop-first : (b : List ℕ) (i : ℕ) → getD (drop i b) 0 0 ≡ getD b i 0
 drop-first b i = let e : i + 0 ≡ i = omega arith in getD-drop i b 0 0 ∙ ap (λ (j : ℕ). getD b j 0) e
+
+-- one item more of the first, also where it was just set, and one less of the rest
+module _ {A : Type 0} (l : List A) (i : ℕ) (d : A) (h : i < length l) where
+  pub take-next : take (i + 1) l ≡ take i l ++ (getD l i d ∷ [])
+  take-next = rw add-one (take-suc l i d h)
+
+  pub drop-next : drop i l ≡ getD l i d ∷ drop (i + 1) l
+  drop-next = rw add-one (drop-cons l i d h)
+
+pub take-set : {A : Type 0} (l : List A) (i : ℕ) (a : A) → i < length l → take (i + 1) (set l i a) ≡ take i l ++ (a ∷ [])
+take-set l i a h = rw add-one (take-suc-set l i a h)
 
 -- SOME ITEM of a list passes a test: in either of two lists, by its place in the list
 module _ {A : Type 0} (f : A → Bool) where

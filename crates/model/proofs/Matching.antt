@@ -36,7 +36,7 @@ module _ (n a b : ℕ) where
           rw (le-ltb (i + a) n (omega arith), le-ltb (i + a) (n + a) (omega arith)) (omega arith)
 
   -- PARENTS
-  parent-low : (o : Option ℕ) → ((p : ℕ) → o ≡ some p → p < n) → matchedParent n a b o ≡ o
+  pub parent-low : (o : Option ℕ) → ((p : ℕ) → o ≡ some p → p < n) → matchedParent n a b o ≡ o
   parent-low none h = refl
   parent-low (some p) h = ap some (matched-low p (h p refl))
 
@@ -56,9 +56,6 @@ module _ (n a b : ℕ) where
 
   pub row-second : (r : Row) → matchedRow n a b (shiftRow n a r) ≡ r
   row-second r = ap (withParent r) (parent-second (r .parent))
-
-  pub mark-low : (o : Option ℕ) → ((p : ℕ) → o ≡ some p → p < n) → o ≡ matchedParent n a b o
-  mark-low o h = sym (parent-low o h)
 
   -- VALUES
   pub all-first : {v : List ℕ} → All (λ i. i < n + a) v → map (shift n b) v ≡ matchedAll n a b v

@@ -3,12 +3,12 @@ use mathlib.Core.Path.{_≡_, refl, ap, sym, _∙_}
 use mathlib.Core.Bool.{Bool, true, false, _&&_, _||_, not, or-comm, and-comm}
 use Prim.Native.Nat.{ℕ}
 use lib.Dec.{eqb}
-use borrow.Author.Tests.{eqb-true, eq-eqb}
+use borrow.Author.Tests.{eqb-true}
 use Rattle.model.specs.Script.{Step}
 use Rattle.model.specs.Paths.{Place, Path, start, _▸_}
 use Rattle.model.specs.Meeting.{Cell, onCell, joinCell, isDeep, isParent, isNamed, admitsElement, admitsLeaf, shareElement, shareLeaf}
 use Rattle.model.specs.Meeting.{samePlace, isConstructor, startCell, onStep, downStep, upStep, startCells, stepCells, cell}
-use Rattle.model.proofs.BoolLaws.{bool-iff, and-left}
+use Rattle.model.proofs.BoolLaws.{eqb-iff, and-left}
 
 -- cells are equal test by test
 pub cell-equal : (c d : Cell) → c .onElement ≡ d .onElement → c .onLeaf ≡ d .onLeaf → c .downElement ≡ d .downElement →
@@ -34,8 +34,7 @@ or-last true b c = refl
 or-last false b c = or-comm b c
 
 eqb-comm : (m n : ℕ) → eqb m n ≡ eqb n m
-eqb-comm m n =
-    bool-iff (eqb m n) (eqb n m) (λ e. eq-eqb n m (sym (eqb-true m n e))) (λ e. eq-eqb m n (sym (eqb-true n m e)))
+eqb-comm m n = eqb-iff m n n m (λ e. sym e) (λ e. sym e)
 
 join-comm : (c d : Cell) → joinCell c d ≡ joinCell d c
 join-comm c d =

@@ -8,7 +8,7 @@ use Prim.Native.Nat.{ℕ, suc}
 use native.Mathlib.Omega.{arith}
 use lib.Dec.{ltb, eqb}
 use lib.ListN.{length}
-use borrow.Author.Tests.{eqb-true, eq-eqb, lt-ltb, ne-eqb, not-true}
+use borrow.Author.Tests.{eqb-true, lt-ltb, ne-eqb, not-true}
 use Rattle.model.specs.Base.{pick, All, nothing, also}
 use Rattle.model.specs.Refusal.{targetAt}
 use Rattle.model.specs.Table.{Row, Table, rowAt, count, isElement, withParent}
@@ -16,7 +16,7 @@ use Rattle.model.specs.Step.{Letter, letterOf}
 use Rattle.model.specs.Run.{State, Out, stop, thenRow, withMade, newRow, Copied, copyOf, copyParent, copyRow, subtree, copyEach}
 use Rattle.model.specs.Run.{copyAll, inserted}
 use Rattle.model.specs.Paths.{Path, _▸_, anyBelow}
-use Rattle.model.proofs.BoolLaws.{and-right, bool-iff}
+use Rattle.model.proofs.BoolLaws.{and-right, eqb-iff}
 use Rattle.model.proofs.Labels.{Label, grow, labelAt}
 use Rattle.model.proofs.All.{all-imp}
 use Rattle.model.proofs.Grows.{Grows, grows-row, grows-each, grows-copy}
@@ -35,10 +35,7 @@ module _ (W : World) where
   shiftCopied c = record { old = φ W (c .old); new = φ W (c .new) }
 
   test-across : (i j : ℕ) → eqb (φ W i) (φ W j) ≡ eqb i j
-  test-across i j =
-      bool-iff (eqb (φ W i) (φ W j)) (eqb i j)
-      (λ e. eq-eqb i j (shift-injective (W .n) (W .m) i j (eqb-true (φ W i) (φ W j) e)))
-      (λ e. eq-eqb (φ W i) (φ W j) (ap (φ W) (eqb-true i j e)))
+  test-across i j = eqb-iff (φ W i) (φ W j) i j (shift-injective (W .n) (W .m) i j) (λ e. ap (φ W) e)
 
   copy-across : (i : ℕ) (cs : List Copied) → copyOf (φ W i) (map shiftCopied cs) ≡ φParent W (copyOf i cs)
   unfolding copyOf

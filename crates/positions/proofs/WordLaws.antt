@@ -3,10 +3,10 @@ use mathlib.Core.Path.{_≡_, ap, _∙_}
 use mathlib.Core.List.{List, [], _∷_, _++_, map, map-append}
 use Prim.Native.Nat.{ℕ, _+_, _*_, _/_, _%_, _<_, _≤_}
 use native.Mathlib.Omega.{arith}
-use native.Mathlib.Numerals.{add-one}
 use lib.Arith.{digits-div, digits-mod}
 use lib.ListN.{length, take, set, length-set, length-map}
-use lib.Seq.{take-suc-set, length-take-le}
+use lib.Seq.{length-take-le}
+use Rattle.model.proofs.ListLaws.{take-set}
 use Rattle.positions.specs.Words.{entryBy, wordOf, fieldsOf, PositionFits, entryOf, entriesIn, PushPost}
 use Rattle.positions.specs.declared.packed.Position.{Position}
 
@@ -41,9 +41,8 @@ module _ (p : Position) (f : PositionFits p) where
   word-pushed ws n h =
       record {
         size = length-set ws n (wordOf p);
-        entries = ap (λ (k : ℕ). map entryOf (take k (set ws n (wordOf p)))) (add-one n) ∙
-            ap (map entryOf) (take-suc-set ws n (wordOf p) h) ∙
-            map-append entryOf (take n ws) (wordOf p ∷ []) ∙
+        entries =
+            ap (map entryOf) (take-set ws n (wordOf p) h) ∙ map-append entryOf (take n ws) (wordOf p ∷ []) ∙
             ap (λ (q : Position). entriesIn ws n ++ (entryBy q ∷ [])) fields-word;
       }
 

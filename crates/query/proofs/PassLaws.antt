@@ -159,10 +159,7 @@ module _ (ws : List ℕ) (n : ℕ) (held : RowsHeld ws n) where
           counted-bits (among k v) (upTo (decodeParts n ws ms) d v k) d
 
       parent-is : (ms : List ℕ) (j : ℕ) → parentIs (decodeParts n ws ms) j k ≡ eqb (linkIn (getD ws k 0)) (j + 1)
-      parent-is ms j =
-          let e : j ≡ j + 1 - 1 = omega arith in
-          ap (model.isThe j) (parent-linked n ws ms within k h) ∙ ap (λ (a : ℕ). model.isThe a (linked (linkIn (getD ws k 0)))) e ∙
-          isThe-linked (j + 1) (linkIn (getD ws k 0)) (omega arith)
+      parent-is ms j = ap (model.isThe j) (parent-linked n ws ms within k h) ∙ isThe-linked j (linkIn (getD ws k 0))
 
       one-more : (ms v : List ℕ) (j : ℕ) → anyFrom (childCounts (decodeParts n ws ms) d v j) k (n - k) ≡
           (childCounts (decodeParts n ws ms) d v j k || anyFrom (childCounts (decodeParts n ws ms) d v j) (k + 1) (n - (k + 1)))

@@ -51,7 +51,7 @@ any-through : (h : ℕ → ℕ → Bool) (v : List ℕ) (q : Option ℕ) →
 any-through h v none = any-none v
 any-through h v (some p) = refl
 
-among-any : (p : ℕ) (v : List ℕ) → any (λ (i : ℕ). eqb p i) v ≡ among p v
+pub among-any : (p : ℕ) (v : List ℕ) → any (λ (i : ℕ). eqb p i) v ≡ among p v
 unfolding any among
 among-any p [] = refl
 among-any p (x ∷ v) = ap (λ (t : Bool). eqb p x || t) (among-any p v)

@@ -5,14 +5,13 @@ use mathlib.Core.List.{List, [], _∷_, _++_, append-nil, append-assoc}
 use Prim.Native.Nat.{ℕ, zero, suc, _+_, _-_, _≤_, _<_}
 use native.Mathlib.Omega.{arith}
 use native.Mathlib.Nat.{add-zero, zero-add}
-use native.Mathlib.Numerals.{add-one}
 use lib.Dec.{eqb}
 use lib.ListN.{length, getD, take, drop, set, length-append}
-use lib.Seq.{take-suc-set}
 use Rattle.model.specs.Base.{pick, any}
 use Rattle.model.specs.Table as model
 use Rattle.model.specs.Script.{stepBy}
 use Rattle.model.specs.Step.{Letter, leafLetter, named, isReached, reaches, admits, letterOf, stepped, collect}
+use Rattle.model.proofs.ListLaws.{take-set}
 use Rattle.model.proofs.Collect.{collect-append, collect-same}
 use Rattle.table.specs.Words.{rowOf, decodeParts}
 use Rattle.table.proofs.WordLaws.{count-decode, rowAt-decode}
@@ -33,8 +32,7 @@ pub appended-if : (t : Bool) (a : ℕ) (v w w′ : List ℕ) (from r : ℕ) → 
 appended-if true a v w w′ from r h s =
     record {
       front =
-          ap (λ (j : ℕ). take j (set w′ r a)) (add-one r) ∙ take-suc-set w′ r a h ∙ ap (λ (l : List ℕ). l ++ (a ∷ [])) (s .front) ∙
-          append-assoc (take from w) v (a ∷ []);
+          take-set w′ r a h ∙ ap (λ (l : List ℕ). l ++ (a ∷ [])) (s .front) ∙ append-assoc (take from w) v (a ∷ []);
       end = total;
     }
   where

@@ -1,12 +1,11 @@
 -- What is bound in a second operand: a binder's own is set behind the others, any other record leaves them.
-use mathlib.Core.Path.{_≡_, ap, _∙_}
+use mathlib.Core.Path.{_≡_}
 use mathlib.Core.Bool.{true, false}
 use mathlib.Core.List.{List}
 use Prim.Native.Nat.{ℕ, _+_, _<_}
-use native.Mathlib.Numerals.{add-one}
 use lib.ListN.{length, take, set}
-use lib.Seq.{take-suc-set}
 use Rattle.model.specs.Script.{isBinder}
+use Rattle.model.proofs.ListLaws.{take-set}
 use Rattle.records.specs.Walk.{inner, withBound}
 
 -- how many
@@ -22,7 +21,7 @@ inner-same k n e = rw e
 module _ {A : Type 0} (k : ℕ) (env : List A) (n : ℕ) (x : A) where
   pub withBound-set : isBinder k ≡ true → n < length env → take (inner k n) (set env n x) ≡ withBound k (take n env) x
   unfolding inner
-  withBound-set e l = rw e (ap (λ (m : ℕ). take m (set env n x)) (add-one n) ∙ take-suc-set env n x l)
+  withBound-set e l = rw e (take-set env n x l)
 
   pub withBound-same : isBinder k ≡ false → take (inner k n) env ≡ withBound k (take n env) x
   unfolding inner

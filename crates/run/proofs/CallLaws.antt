@@ -26,7 +26,7 @@ use Rattle.table.proofs.WordLaws.{encode-decode}
 use Rattle.table.proofs.FittedLaws.{Fits, fits-at, fits-mark}
 use Rattle.updates.specs.State.{recordsIn, started, stateOf, Held}
 use Rattle.query.specs.Values.{valueAt}
-use Rattle.updates.proofs.StateLaws.{held-start, state-start}
+use Rattle.updates.proofs.StateLaws.{held-start, held-within, state-start}
 use Rattle.updates.specs.declared.state.Progress.{Progress}
 use Rattle.run.specs.Calls.{outcomeOf, ran, resultOf, runResult, refusedResult, RunPre, RunPost}
 use Rattle.operators.specs.Evaluating.{boundValues, Fine, EvalPre, EvalPost}
@@ -213,7 +213,7 @@ module _ (t : Table) (b : List ℕ) (e : fits t ≡ true) where
           made = omega (arith, made-count (held .history .ranges), held .history .records, held .history .cuts, held .history .sum)
 
           table-is : encode (decodeParts (q .count) ws′ (t .marks)) ≡ record { count = q .count; rows = ws′; marks = t .marks }
-          table-is = encode-decode (q .count) ws′ (t .marks) (omega (arith, held .few, held .rows)) (held .canonical)
+          table-is = encode-decode (q .count) ws′ (t .marks) (held-within held) (held .canonical)
 
           -- what the call gives back
           pub run-post : {a a′ : List ℕ} {r : RunResult} → RunPre a h w →

@@ -1,2 +1,1 @@
-pub mod FlagLaws
 pub mod SweepLaws

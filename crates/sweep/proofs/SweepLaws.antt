@@ -9,17 +9,18 @@ use native.Mathlib.Nat.{add-zero}
 use native.Mathlib.Numerals.{add-one}
 use lib.Dec.{eqb}
 use lib.ListN.{length, getD, take, drop, set, replicate, length-map, List·getD-map, length-set, drop-of-length-le}
-use lib.Seq.{drop-cons, set-at, getD-at, append-snoc, take-suc, take-all, ext-getD, length-take-le, getD-set-same, getD-set-other}
+use lib.Seq.{set-at, getD-at, append-snoc, take-all, ext-getD, length-take-le, getD-set-same, getD-set-other}
 use borrow.Author.Tests.{ne-eqb}
 use Rattle.model.specs.Base.{pick, bit}
 use Rattle.model.specs.Table as model
 use Rattle.model.specs.Sweep.{isKept, newNumber, keptBefore, renumbered, sweptRows, sweptMarks, swept, through}
 use Rattle.model.proofs.BoolLaws.{by-cases, pick-true, pick-false, or-neither, eq-cases}
+use Rattle.model.proofs.ListLaws.{take-next, drop-next}
 use Rattle.table.specs.Words.{linkOf, linked, wordOf, rowOf, rowsOf, wordsOf, decodeParts, decode, encode, linkIn}
 use Rattle.table.specs.Words as words
 use Rattle.sweep.specs.Sweeping.{planSwept, Flagged, keepsRow, newWord, RowPost, numberOf, Sweeping, newLinks}
 use Rattle.table.specs.declared.Table.{Table}
-use Rattle.table.proofs.WordLaws.{linked-linkOf, withLink-wordOf, wordsOf-snoc, count-decode, take-next, linked-some}
+use Rattle.table.proofs.WordLaws.{linked-linkOf, withLink-wordOf, wordsOf-snoc, count-decode, take-rows, linked-some}
 use Rattle.table.proofs.DecodeLaws.{link-low, parent-linked, parent-at, mark-row}
 use Rattle.table.proofs.FittedLaws.{Fits, fits-mark}
 use Rattle.model.proofs.SweepLaws.{newNumber-zero, newNumber-suc, isKept-unrolled, newNumber-le, isKept-marked}
@@ -156,7 +157,7 @@ module _ (ws ms : List ℕ) (n i : ℕ) (fits : Fits n ws ms) (size : length ws 
   rows-kept : sweptRows x 0 (take (i + 1) (rowsOf n ws)) ≡ before ++ pick (isKept x i) (row ∷ []) []
   rows-kept =
       let k : 0 + length (take i (rowsOf n ws)) ≡ i = omega (arith, length-before) in
-      ap (sweptRows x 0) (take-next i n ws within low) ∙ sweptRows-snoc x 0 (take i (rowsOf n ws)) (rowOf (getD ws i 0)) ∙
+      ap (sweptRows x 0) (take-rows i n ws within low) ∙ sweptRows-snoc x 0 (take i (rowsOf n ws)) (rowOf (getD ws i 0)) ∙
       ap (λ (j : ℕ). before ++ pick (isKept x j) (row ∷ []) []) k
 
   swept-length : length before ≡ next
@@ -239,18 +240,17 @@ pub links-next : (ns ms : List ℕ) (d : ℕ) → d < length ms →
     set (newLinks ns (take d ms) ++ drop d ms) d (getD ns (getD ms d 0) 0) ≡ newLinks ns (take (d + 1) ms) ++ drop (d + 1) ms
 links-next ns ms d h =
     let l : length (newLinks ns (take d ms)) ≡ d = length-map (take d ms) (λ (m : ℕ). getD ns m 0) ∙ length-take-le d ms (omega arith) in
-    ap (λ (v : List ℕ). set (newLinks ns (take d ms) ++ v) d (getD ns (getD ms d 0) 0)) (drop-cons ms d 0 h) ∙
-    set-at (newLinks ns (take d ms)) (getD ms d 0) (drop (suc d) ms) (getD ns (getD ms d 0) 0) d l ∙
-    sym (append-snoc (newLinks ns (take d ms)) (getD ns (getD ms d 0) 0) (drop (suc d) ms)) ∙
-    ap (λ (v : List ℕ). v ++ drop (suc d) ms) (sym (map-append (λ (m : ℕ). getD ns m 0) (take d ms) (getD ms d 0 ∷ []))) ∙
-    ap (λ (v : List ℕ). newLinks ns v ++ drop (suc d) ms) (sym (take-suc ms d 0 h)) ∙
-    ap (λ (j : ℕ). newLinks ns (take j ms) ++ drop j ms) (sym (add-one d))
+    ap (λ (v : List ℕ). set (newLinks ns (take d ms) ++ v) d (getD ns (getD ms d 0) 0)) (drop-next ms d 0 h) ∙
+    set-at (newLinks ns (take d ms)) (getD ms d 0) (drop (d + 1) ms) (getD ns (getD ms d 0) 0) d l ∙
+    sym (append-snoc (newLinks ns (take d ms)) (getD ns (getD ms d 0) 0) (drop (d + 1) ms)) ∙
+    ap (λ (v : List ℕ). v ++ drop (d + 1) ms) (sym (map-append (λ (m : ℕ). getD ns m 0) (take d ms) (getD ms d 0 ∷ []))) ∙
+    ap (λ (v : List ℕ). newLinks ns v ++ drop (d + 1) ms) (sym (take-next ms d 0 h))
 
 pub links-at : (ns ms : List ℕ) (d : ℕ) → d < length ms → getD (newLinks ns (take d ms) ++ drop d ms) d 0 ≡ getD ms d 0
 links-at ns ms d h =
     let l : length (newLinks ns (take d ms)) ≡ d = length-map (take d ms) (λ (m : ℕ). getD ns m 0) ∙ length-take-le d ms (omega arith) in
-    ap (λ (v : List ℕ). getD (newLinks ns (take d ms) ++ v) d 0) (drop-cons ms d 0 h) ∙
-    getD-at (newLinks ns (take d ms)) (getD ms d 0) (drop (suc d) ms) 0 d l
+    ap (λ (v : List ℕ). getD (newLinks ns (take d ms) ++ v) d 0) (drop-next ms d 0 h) ∙
+    getD-at (newLinks ns (take d ms)) (getD ms d 0) (drop (d + 1) ms) 0 d l
 
 pub links-end : (ns ms : List ℕ) (d : ℕ) → length ms ≤ d → newLinks ns (take d ms) ++ drop d ms ≡ newLinks ns ms
 links-end ns ms d h =

@@ -1,22 +1,20 @@
 -- What the table decoded from words has: its elements, parents and marks; one mark or one row more.
 use mathlib.Core.Path.{_≡_, ap, sym, _∙_}
-use mathlib.Core.Bool.{true, false, _||_, not}
-use mathlib.Core.List.{List, map}
+use mathlib.Core.Bool.{Bool, false, _||_, not}
+use mathlib.Core.List.{List, [], _∷_, _++_, map, map-append}
 use mathlib.Core.Option.{some, none}
 use Prim.Native.Nat.{ℕ, _+_, _-_, _≤_, _<_}
 use native.Mathlib.Omega.{arith}
 use lib.Dec.{eqb}
 use lib.ListN.{length, getD, set, drop, drop-of-length-le, List·getD-map}
-use lib.Seq.{drop-cons}
-use native.Mathlib.Numerals.{add-one}
-use borrow.Author.Tests.{lt-ltb, le-ltb, eq-eqb, ne-eqb, eqb-true, eqb-false}
+use borrow.Author.Tests.{lt-ltb, le-ltb, ne-eqb}
 use Rattle.model.specs.Base.{any}
 use Rattle.model.specs.Table as model
 use Rattle.model.specs.Stored.{wordBytes, parentBytes}
-use Rattle.model.proofs.BoolLaws.{by-cases, eq-cases}
+use Rattle.model.proofs.BoolLaws.{eq-cases, eqb-iff}
 use Rattle.table.specs.Words.{linkOf, linked, wordOf, rowsOf, decodeParts, kindIn, linkIn}
 use Rattle.table.proofs.WordLaws.{linked-linkOf, count-decode, rowAt-decode, rowsOf-push, linked-some}
-use Rattle.model.proofs.ListLaws.{map-set}
+use Rattle.model.proofs.ListLaws.{map-set, any-snoc, drop-next}
 
 -- whether a row of the table is an element, from its word
 module _ (n : ℕ) (ws ms : List ℕ) (within : n ≤ length ws) (p : ℕ) where
@@ -49,28 +47,28 @@ pub mark-row : (ms : List ℕ) (d : ℕ) → (getD ms d 0 ≡ 0 → ⊥) → get
 mark-row ms d z = List·getD-map linked ms d 0 ∙ linked-some (getD ms d 0) z
 
 -- whether a row is marked, one mark after another
-pub isThe-linked : (link m : ℕ) → 0 < link → model.isThe (link - 1) (linked m) ≡ eqb m link
-isThe-linked link m h =
-    by-cases (eqb m 0) (λ e. go-zero e (eqb-true m 0 e)) (λ e. go-some e (eqb-false m 0 e))
-  where
-    go-zero : eqb m 0 ≡ true → m ≡ 0 → model.isThe (link - 1) (linked m) ≡ eqb m link
-    go-zero e z = rw e (sym (ne-eqb m link (λ q. omega arith)))
-
-    go-some : eqb m 0 ≡ false → (m ≡ 0 → ⊥) → model.isThe (link - 1) (linked m) ≡ eqb m link
-    go-some e f =
-        rw e (by-cases (eqb m link) (λ q. let k : m - 1 ≡ link - 1 = omega (arith, eqb-true m link q) in eq-eqb (m - 1) (link - 1) k ∙
-        sym q)
-        (λ q. ne-eqb (m - 1) (link - 1) (λ k. eqb-false m link q (omega (arith, f))) ∙ sym q))
+pub isThe-linked : (k m : ℕ) → model.isThe k (linked m) ≡ eqb m (k + 1)
+isThe-linked k m =
+    eq-cases m 0 (λ e. rw e (sym (ne-eqb 0 (k + 1) (λ q. omega arith))))
+    (λ z. ap (model.isThe k) (linked-some m z) ∙ eqb-iff (m - 1) k m (k + 1) (λ e. omega (arith, z)) (λ e. omega arith))
 
 pub marked-turn : (ms : List ℕ) (d link : ℕ) → d < length ms → 0 < link →
     any (model.isThe (link - 1)) (map linked (drop d ms)) ≡ (eqb (getD ms d 0) link || any (model.isThe (link - 1)) (map linked (drop (d
     + 1) ms)))
 unfolding any
-marked-turn ms d link h l = rw (drop-cons ms d 0 h, isThe-linked link (getD ms d 0) l, add-one)
+marked-turn ms d link h l =
+    let e : link - 1 + 1 ≡ link = omega arith in
+    rw (drop-next ms d 0 h, isThe-linked (link - 1) (getD ms d 0), e)
 
 pub marked-none : (ms : List ℕ) (d link : ℕ) → length ms ≤ d → any (model.isThe (link - 1)) (map linked (drop d ms)) ≡ false
 unfolding any
 marked-none ms d link h = rw (drop-of-length-le ms h)
+
+pub marked-snoc : (ms : List ℕ) (m k : ℕ) →
+    any (model.isThe k) (map linked (ms ++ (m ∷ []))) ≡ (any (model.isThe k) (map linked ms) || eqb m (k + 1))
+marked-snoc ms m k =
+    ap (any (model.isThe k)) (map-append linked ms (m ∷ [])) ∙ any-snoc (model.isThe k) (map linked ms) (linked m) ∙
+    ap (λ (t : Bool). any (model.isThe k) (map linked ms) || t) (isThe-linked k m)
 
 -- the table with a mark more, and with a row more
 pub decode-mark : (n d i : ℕ) (ws ms : List ℕ) → decodeParts n ws (set ms d (i + 1)) ≡ model.withMark (decodeParts n ws ms) d i

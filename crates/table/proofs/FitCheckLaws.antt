@@ -14,6 +14,7 @@ use Rattle.model.specs.Table as model
 use Rattle.table.specs.Words.{linked, isRowWord, isZero, rowOf, rowsOf, decodeParts, partsFit, kindIn, linkIn, tagIn}
 use Rattle.table.specs.Fitting.{Words, tagFits, linkFits, rowFits, rowsFit, markFits, isRepeated, marksFit}
 use Rattle.model.proofs.BoolLaws.{by-cases}
+use Rattle.model.proofs.ListLaws.{drop-next}
 use Rattle.table.proofs.WordLaws.{count-decode, rowAt-decode}
 use Rattle.table.proofs.DecodeLaws.{element-high, element-kind}
 
@@ -29,7 +30,7 @@ rows-end ws i n h = let e : n - i ≡ 0 = omega arith in ap (rowsFit ws i) e
 
 pub all-turn : (f : ℕ → Bool) (ws : List ℕ) (i : ℕ) → i < length ws → all f (drop i ws) ≡ (f (getD ws i 0) && all f (drop (i + 1) ws))
 unfolding all
-all-turn f ws i h = ap (all f) (drop-cons ws i 0 h) ∙ ap (λ (j : ℕ). f (getD ws i 0) && all f (drop j ws)) (sym (add-one i))
+all-turn f ws i h = ap (all f) (drop-next ws i 0 h)
 
 pub all-end : (f : ℕ → Bool) (ws : List ℕ) (i : ℕ) → length ws ≤ i → all f (drop i ws) ≡ true
 unfolding all
@@ -39,10 +40,7 @@ pub marks-turn : (ws : List ℕ) (n : ℕ) (ms : List ℕ) (d : ℕ) → d < len
     marksFit ws n (drop d ms) ≡ (markFits ws n (getD ms d 0) && not (isRepeated (getD ms d 0) (drop (d + 1) ms)) && marksFit ws n (drop
     (d + 1) ms))
 unfolding marksFit
-marks-turn ws n ms d h =
-    ap (marksFit ws n) (drop-cons ms d 0 h) ∙
-    ap (λ (j : ℕ). markFits ws n (getD ms d 0) && not (isRepeated (getD ms d 0) (drop j ms)) && marksFit ws n (drop j ms))
-    (sym (add-one d))
+marks-turn ws n ms d h = ap (marksFit ws n) (drop-next ms d 0 h)
 
 pub marks-end : (ws : List ℕ) (n : ℕ) (ms : List ℕ) (d : ℕ) → length ms ≤ d → marksFit ws n (drop d ms) ≡ true
 unfolding marksFit

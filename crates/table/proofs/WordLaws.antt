@@ -1,23 +1,22 @@
--- A row survives its word, and a word that holds a row survives decoding; so do tables. Words are read, relinked, set, pushed and popped
--- as rows are.
+-- A row survives its word, and a word that holds a row survives decoding; so do tables. Words are read, relinked, pushed and popped as
+-- rows are.
 use mathlib.Core.Path.{_≡_, refl, ap, sym, _∙_}
 use mathlib.Core.Bool.{Bool, true, false}
 use mathlib.Core.List.{List, [], _∷_, _++_, map, map-append}
 use mathlib.Core.Option.{Option, none, some}
 use Prim.Native.Nat.{ℕ, zero, suc, _+_, _*_, _-_, _/_, _%_, _≤_, _<_}
 use native.Mathlib.Omega.{arith}
-use native.Mathlib.Numerals.{add-one}
 use lib.Dec.{eqb}
 use lib.ListN.{length, getD, take, drop, set, replicate, length-map, length-append, length-drop, length-set}
 use lib.ListN.{take-append-drop, List·getD-map, List·getD-append, getD-replicate}
 use lib.Seq.{append-snoc, set-at, set-append-left, set-set, set-getD, getD-take, getD-append-add}
-use lib.Seq.{take-suc, take-take, take-suc-set, take-set-lt, take-set-le, length-take-le}
+use lib.Seq.{take-take, take-set-lt, take-set-le, length-take-le}
 use borrow.Author.Tests.{eq-eqb, ne-eqb, leb-true, eqb-true, eqb-false}
 use Rattle.model.specs.Base.{pick, isIn, all}
 use Rattle.model.specs.Table as model
 use Rattle.model.proofs.BoolLaws.{and-left, and-right, by-cases, pick-ne}
 use Rattle.model.proofs.TestLaws.{isIn-at, isIn-by}
-use Rattle.model.proofs.ListLaws.{map-set}
+use Rattle.model.proofs.ListLaws.{map-set, take-next, take-set}
 use Rattle.table.specs.Words.{linkOf, linked, wordOf, rowOf, isRowWord, withLink, isZero, rowsOf, decodeParts, wordsOf}
 use Rattle.table.specs.Words.{encode, Canonical, kindIn, linkIn, tagIn}
 
@@ -95,7 +94,7 @@ module _ (w l : ℕ) (small : l < 1024) where
       λ i. record { isLeaf = eqb (kind-withLink i) 2; tag = b i; parent = linked (c i) }
 
   module _ (word : isRowWord w ≡ true) where
-    pub isRowWord-withLink : isRowWord (withLink w l) ≡ true
+    isRowWord-withLink : isRowWord (withLink w l) ≡ true
     isRowWord-withLink = ap (isIn 1 2) kind-withLink ∙ word
 
     pub withLink-wordOf : withLink w l ≡ wordOf (model.withParent (rowOf w) (linked l))
@@ -119,11 +118,11 @@ pub rows-take : (i n : ℕ) (ws : List ℕ) → i ≤ n → take i (rowsOf n ws)
 rows-take i n ws l = take-map rowOf i (take n ws) ∙ ap (map rowOf) (take-take i n ws l)
 
 rows-next : (i : ℕ) (ws : List ℕ) → i < length ws → rowsOf (i + 1) ws ≡ rowsOf i ws ++ (rowOf (getD ws i 0) ∷ [])
-rows-next i ws h = rw (add-one, take-suc ws i 0) (map-append rowOf (take i ws) (getD ws i 0 ∷ []))
+rows-next i ws h = ap (map rowOf) (take-next ws i 0 h) ∙ map-append rowOf (take i ws) (getD ws i 0 ∷ [])
 
-pub take-next : (i n : ℕ) (ws : List ℕ) → n ≤ length ws → i < n →
+pub take-rows : (i n : ℕ) (ws : List ℕ) → n ≤ length ws → i < n →
     take (i + 1) (rowsOf n ws) ≡ take i (rowsOf n ws) ++ (rowOf (getD ws i 0) ∷ [])
-take-next i n ws w h =
+take-rows i n ws w h =
     rows-take (i + 1) n ws (omega arith) ∙ rows-next i ws (omega arith) ∙
     ap (λ (rs : List model.Row). rs ++ (rowOf (getD ws i 0) ∷ [])) (sym (rows-take i n ws (omega arith)))
 
@@ -131,8 +130,8 @@ take-next i n ws w h =
 pub rowsOf-push : (n : ℕ) (ws : List ℕ) (r : model.Row) → n < length ws → linkOf (r .parent) < 1024 → rowsOf (n + 1) (set ws n (wordOf
     r)) ≡ rowsOf n ws ++ (r ∷ [])
 rowsOf-push n ws r h f =
-    rw (add-one, take-suc-set ws n (wordOf r)) (map-append rowOf (take n ws) (wordOf r ∷ []) ∙ ap (λ (q : model.Row). rowsOf n ws ++ (q ∷
-    [])) (rowOf-wordOf r f))
+    ap (map rowOf) (take-set ws n (wordOf r) h) ∙ map-append rowOf (take n ws) (wordOf r ∷ []) ∙
+    ap (λ (q : model.Row). rowsOf n ws ++ (q ∷ [])) (rowOf-wordOf r f)
 
 -- CANONICAL words
 replicate-less : (m n : ℕ) → n < m → replicate {A = ℕ} (m - n) 0 ≡ 0 ∷ replicate (m - (n + 1)) 0
@@ -162,21 +161,33 @@ module _ (n : ℕ) (ws : List ℕ) (canonical : Canonical n ws) (within : n ≤ 
       getD-word (r ∷ rs) zero h = refl
       getD-word (r ∷ rs) (suc j) h = getD-word rs j (omega arith)
 
-  pub row-word : isRowWord (getD ws i 0) ≡ true
-  row-word = ap isRowWord (sym word-back) ∙ isRowWord-wordOf (rowOf (getD ws i 0))
+  -- with another link it is the row's with another parent
+  module _ (link : ℕ) (small : link < 1024) where
+    abbrev w : ℕ
+    w = withLink (getD ws i 0) link
 
-  -- a word set is a row set
-  module _ (w : ℕ) where
-    pub rowsOf-set : rowsOf n (set ws i w) ≡ set (rowsOf n ws) i (rowOf w)
-    rowsOf-set = ap (map rowOf) (take-set-lt n ws i w l) ∙ map-set rowOf (take n ws) i w
+    pub word-linked : isRowWord w ≡ true
+    word-linked =
+        isRowWord-withLink (getD ws i 0) link small (ap isRowWord (sym word-back) ∙ isRowWord-wordOf (rowOf (getD ws i 0)))
 
-    pub canonical-set : isRowWord w ≡ true → Canonical n (set ws i w)
-    canonical-set h =
+    rowsOf-linked : rowsOf n (set ws i w) ≡ set (rowsOf n ws) i (rowOf w)
+    rowsOf-linked = ap (map rowOf) (take-set-lt n ws i w l) ∙ map-set rowOf (take n ws) i w
+
+    pub decode-linked : (ms : List ℕ) → decodeParts n (set ws i w) ms ≡ model.linked (decodeParts n ws ms) i (linked link)
+    decode-linked ms =
+        ap (λ (rs : List model.Row). model.table rs (map linked ms))
+        (rowsOf-linked ∙
+        ap (set (rowsOf n ws) i)
+        (rowOf-withLink (getD ws i 0) link small ∙
+        ap (λ (r : model.Row). model.withParent r (linked link)) (sym (rowAt-decode n ws ms within i l))))
+
+    pub canonical-linked : Canonical n (set ws i w)
+    canonical-linked =
         let k : length (rowsOf n ws) ≡ n = count-decode n ws [] within in
         let m : length (map wordOf (rowsOf n ws)) ≡ n = length-map (rowsOf n ws) wordOf ∙ k in
-        ap wordsOf rowsOf-set ∙
+        ap wordsOf rowsOf-linked ∙
         ap (λ (v : List ℕ). v ++ replicate (512 - length (set (rowsOf n ws) i (rowOf w))) 0)
-        (map-set wordOf (rowsOf n ws) i (rowOf w) ∙ ap (set (map wordOf (rowsOf n ws)) i) (wordOf-rowOf w h)) ∙
+        (map-set wordOf (rowsOf n ws) i (rowOf w) ∙ ap (set (map wordOf (rowsOf n ws)) i) (wordOf-rowOf w word-linked)) ∙
         ap (λ (j : ℕ). set (map wordOf (rowsOf n ws)) i w ++ replicate (512 - j) 0) (length-set (rowsOf n ws) i (rowOf w)) ∙
         sym (set-append-left (map wordOf (rowsOf n ws)) (replicate (512 - length (rowsOf n ws)) 0) i w (omega arith)) ∙
         ap (λ (v : List ℕ). set v i w) canonical

@@ -1,7 +1,7 @@
 -- Undo's parts: a record undone on the words, and all of them back to front.
-use mathlib.Core.Path.{_≡_, refl, ap, sym, _∙_, subst}
+use mathlib.Core.Path.{_≡_, refl, ap, sym, _∙_, subst, subst₂}
 use mathlib.Core.Bool.{Bool, true, false, not}
-use mathlib.Core.List.{List, _∷_, map}
+use mathlib.Core.List.{List, _∷_}
 use mathlib.Core.Option.{none, some}
 use Prim.Native.Nat.{ℕ, suc, _+_, _-_, _≤_, _<_}
 use native.Mathlib.Omega.{arith}
@@ -17,9 +17,8 @@ use Rattle.model.specs.Undo.{cutIn, madeIn, undoAll}
 use Rattle.model.proofs.ListLaws.{drop-all}
 use Rattle.model.proofs.BoolLaws.{true-false, and-left, pick-eq, pick-ne}
 use Rattle.model.proofs.TestLaws.{and-four, and-five}
-use Rattle.table.specs.Words.{linked, rowOf, rowsOf, isRowWord, withLink, decodeParts, Canonical}
-use Rattle.table.proofs.WordLaws.{linked-linkOf, count-decode, rowAt-decode}
-use Rattle.table.proofs.WordLaws.{rowOf-withLink, isRowWord-withLink, row-word, rowsOf-set, canonical-set, canonical-pop, decode-pop}
+use Rattle.table.specs.Words.{withLink, decodeParts, Canonical}
+use Rattle.table.proofs.WordLaws.{linked-linkOf, count-decode, decode-linked, canonical-linked, canonical-pop, decode-pop}
 use Rattle.undo.specs.Undoing.{undoing, FitPre, BackPre, BackPost, AllPre, AllPost}
 use Rattle.undo.specs.declared.undoing.BackEnd.{BackEnd}
 
@@ -99,27 +98,17 @@ module _ {ws : List ℕ} {n : ℕ} {s : List ℕ} (pre : BackPre ws n s) (ms : L
       abbrev w : ℕ
       w = getD ws (wordAt s 1) 0
 
-      linked-back : (w′ : ℕ) → w′ ≡ withLink w (wordAt s 3 + 1) →
-          BackPost ws ms n s (set ws (wordAt s 1) w′) (record { number = 0; place = 0; count = n })
-      linked-back w′ word =
+      linked-back : BackPost ws ms n s (set ws (wordAt s 1) (withLink w (wordAt s 3 + 1))) (record { number = 0; place = 0; count = n })
+      linked-back =
           let small : wordAt s 3 + 1 < 1024 = omega (arith, cut-parent-low, cut-row-low, pre .few) in
           record {
             fit = fits-cut x s kind ∙ fit;
             link = λ f. absurd (f refl);
             table = λ f.
-                ap (λ (rs : List model.Row). model.table rs (map linked ms))
-                (rowsOf-set n ws (pre .canonical) within (wordAt s 1) cut-row-low w′ ∙
-                ap (set (rowsOf n ws) (wordAt s 1))
-                (ap rowOf word ∙ rowOf-withLink w (wordAt s 3 + 1) small ∙
-                ap (model.withParent (rowOf w)) (linked-linkOf (some (wordAt s 3)) ∙ sym parent-is) ∙
-                ap (λ (r : model.Row). model.withParent r (parentIn (wordAt s 3))) (sym (rowAt-decode n ws ms within (wordAt s 1)
-                cut-row-low)))) ∙
-                sym (undone-cut x s kind);
+                decode-linked n ws (pre .canonical) within (wordAt s 1) cut-row-low (wordAt s 3 + 1) small ms ∙
+                ap (model.linked x (wordAt s 1)) (linked-linkOf (some (wordAt s 3)) ∙ sym parent-is) ∙ sym (undone-cut x s kind);
             few = λ f. pre .few;
-            canonical = λ f.
-                canonical-set n ws (pre .canonical) within (wordAt s 1) cut-row-low w′
-                (ap isRowWord word ∙ isRowWord-withLink w (wordAt s 3 + 1) small (row-word n ws (pre .canonical) within (wordAt s 1)
-                cut-row-low));
+            canonical = λ f. canonical-linked n ws (pre .canonical) within (wordAt s 1) cut-row-low (wordAt s 3 + 1) small;
           }
 
       -- at the numbers read
@@ -127,9 +116,8 @@ module _ {ws : List ℕ} {n : ℕ} {s : List ℕ} (pre : BackPre ws n s) (ms : L
           w′ ≡ withLink (getD ws i 0) (q + 1) →
           BackPost ws ms n s (set ws i w′) (record { number = 0; place = 0; count = n })
       cut-back {i} {q} a b {w′} f =
-          subst (λ (j : ℕ). BackPost ws ms n s (set ws j w′) (record { number = 0; place = 0; count = n })) (sym a)
-          (linked-back w′
-          (f ∙ ap (λ (j : ℕ). withLink (getD ws j 0) (q + 1)) a ∙ ap (λ (j : ℕ). withLink w (j + 1)) b))
+          subst₂ (λ (j v : ℕ). BackPost ws ms n s (set ws j v) (record { number = 0; place = 0; count = n })) (sym a)
+          (sym (f ∙ ap (λ (j : ℕ). withLink (getD ws j 0) (q + 1)) a ∙ ap (λ (j : ℕ). withLink w (j + 1)) b)) linked-back
 
   module _ (kind : getD s 0 0 ≡ 67 → ⊥) where
     pub made-pre : FitPre ws n s 6

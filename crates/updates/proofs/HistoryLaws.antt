@@ -4,8 +4,8 @@ use mathlib.Core.Bool.{true, false}
 use mathlib.Core.List.{List, [], _∷_, _++_, append-nil, append-assoc}
 use Prim.Native.Nat.{ℕ, zero, suc, _+_, _-_, _≤_, _<_}
 use native.Mathlib.Omega.{arith}
-use lib.ListN.{length, take, drop, set, length-append}
-use lib.Seq.{drop-at, take-at, drop-drop, sets-eq, length-take-le}
+use lib.ListN.{length, take, drop, length-append}
+use lib.Seq.{drop-at, take-at, drop-drop, length-take-le}
 use borrow.Author.Tests.{ne-eqb}
 use Rattle.model.specs.Base.{pick, over, also}
 use Rattle.model.specs.Table as model
@@ -24,25 +24,6 @@ use Rattle.updates.specs.State.{recordsFrom, recordsIn, Recorded}
 use Rattle.updates.specs.Updating.{madeKind, sixBytes}
 
 -- BYTES of a record
-pub put-six : (o : List ℕ) (i a b c d e f : ℕ) → i + 6 ≤ length o →
-    set (set (set (set (set (set o i a) (i + 1) b) (i + 2) c) (i + 3) d) (i + 4) e) (i + 5) f ≡ over i (a ∷ b ∷ c ∷ d ∷ e ∷ f ∷ []) o
-put-six o i a b c d e f h =
-    let e₁ : i + 1 ≡ suc i = omega arith in
-    let e₂ : i + 2 ≡ suc (suc i) = omega arith in
-    let e₃ : i + 3 ≡ suc (suc (suc i)) = omega arith in
-    let e₄ : i + 4 ≡ suc (suc (suc (suc i))) = omega arith in
-    let e₅ : i + 5 ≡ suc (suc (suc (suc (suc i)))) = omega arith in
-    rw (e₁, e₂, e₃, e₄, e₅) (sets-eq (a ∷ b ∷ c ∷ d ∷ e ∷ f ∷ []) o i h)
-
-pub put-five : (o : List ℕ) (i a b c d e : ℕ) → i + 5 ≤ length o →
-    set (set (set (set (set o i a) (i + 1) b) (i + 2) c) (i + 3) d) (i + 4) e ≡ over i (a ∷ b ∷ c ∷ d ∷ e ∷ []) o
-put-five o i a b c d e h =
-    let e₁ : i + 1 ≡ suc i = omega arith in
-    let e₂ : i + 2 ≡ suc (suc i) = omega arith in
-    let e₃ : i + 3 ≡ suc (suc (suc i)) = omega arith in
-    let e₄ : i + 4 ≡ suc (suc (suc (suc i))) = omega arith in
-    rw (e₁, e₂, e₃, e₄) (sets-eq (a ∷ b ∷ c ∷ d ∷ e ∷ []) o i h)
-
 made-bytes : (r : model.Row) (i : ℕ) →
     recordBytes (made r i) ≡ (pick (r .isLeaf) 66 65 ∷ wordBytes i) ++ (r .tag ∷ parentBytes (r .parent))
 made-bytes r i = rw (isCut-made r i)

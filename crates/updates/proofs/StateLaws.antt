@@ -1,5 +1,5 @@
 -- What is held, and how it goes on: the start, a record appended; updates one after the other, and refused.
-use mathlib.Core.Path.{_≡_, refl, ap, sym, _∙_}
+use mathlib.Core.Path.{_≡_, refl, ap, sym, _∙_, subst}
 use mathlib.Core.Bool.{true}
 use mathlib.Core.List.{List, [], _∷_, _++_}
 use mathlib.Core.Option.{Option·none-ne-some}
@@ -13,11 +13,12 @@ use Rattle.model.specs.Run.{State, state, Out, stop, gives, thenRow}
 use Rattle.model.proofs.BoolLaws.{pick-eq, pick-ne}
 use Rattle.model.specs.Table.{Tree}
 use Rattle.model.specs.Base.{nothing, over}
-use Rattle.table.specs.Words.{decodeParts, partsFit}
+use Rattle.table.specs.Words.{decodeParts, partsFit, Canonical}
 use Rattle.table.proofs.WordLaws.{count-decode}
 use Rattle.model.proofs.ListLaws.{length-over}
 use Rattle.table.proofs.FittedLaws.{fits-at}
-use Rattle.updates.specs.State.{recordsFrom, recordsIn, started, stopped, stateOf, outcome, Held, After, Updated}
+use Rattle.areas.specs.declared.tally.Tally.{Tally}
+use Rattle.updates.specs.State.{recordsFrom, recordsIn, started, stopped, stateOf, outcome, Recorded, Held, After, Updated}
 use Rattle.updates.specs.declared.state.Progress.{Progress}
 use Rattle.updates.proofs.HistoryLaws.{recordsIn-push, take-over, drop-over}
 
@@ -30,19 +31,42 @@ module _ {ws h : List ℕ} {p : Progress} (held : Held ws h p) (r : Record) (n :
   room : p .bytes + length (recordBytes r) ≤ length h
   room = omega (arith, append-room, size)
 
-  pub append-area : length (over (p .bytes) (recordBytes r) h) ≡ length h
+  append-area : length (over (p .bytes) (recordBytes r) h) ≡ length h
   append-area = length-over (p .bytes) (recordBytes r) h room
 
-  pub append-rest : (k : ℕ) → p .bytes + n ≤ k → drop k (over (p .bytes) (recordBytes r) h) ≡ drop k h
+  append-rest : (k : ℕ) → p .bytes + n ≤ k → drop k (over (p .bytes) (recordBytes r) h) ≡ drop k h
   append-rest k g = drop-over h (p .bytes) (recordBytes r) room k (omega (arith, size))
 
-  pub append-written : take (p .bytes + n) (over (p .bytes) (recordBytes r) h) ≡ take (p .bytes) h ++ recordBytes r
+  append-written : take (p .bytes + n) (over (p .bytes) (recordBytes r) h) ≡ take (p .bytes) h ++ recordBytes r
   append-written =
       ap (λ (j : ℕ). take (p .bytes + j) (over (p .bytes) (recordBytes r) h)) (sym size) ∙ take-over h (p .bytes) (recordBytes r) room
 
   pub append-records : IsInRange r →
       recordsIn (take (p .bytes + n) (over (p .bytes) (recordBytes r) h)) ≡ recordsIn (take (p .bytes) h) ++ (r ∷ [])
   append-records f = ap recordsIn append-written ∙ recordsIn-push (take (p .bytes) h) (p .tally) (held .history) r f
+
+  -- beside it the rows are others, and no fewer
+  pub append-after : {t : Tally} → Recorded (take (p .bytes) h ++ recordBytes r) t → t .records ≡ p .tally .records + 1 →
+      {ws′ : List ℕ} {c : ℕ} → length ws′ ≡ length ws → p .count ≤ c → c ≤ 512 → Canonical c ws′ → Tree (decodeParts c ws′ []) →
+      After ws h p ws′ (over (p .bytes) (recordBytes r) h) (record { number = 0; count = c; bytes = p .bytes + n; tally = t })
+  append-after {t} recorded more rows grown few canonical tree =
+      record {
+        held =
+            record {
+              fine = refl;
+              rows = rows ∙ held .rows;
+              area = omega (arith, held .area, append-area);
+              few = few;
+              canonical = canonical;
+              tree = tree;
+              size = omega (arith, held .size);
+              history = subst (λ (b : List ℕ). Recorded b t) (sym append-written) recorded;
+            };
+        rows = grown;
+        bytes = omega arith;
+        area = append-area;
+        rest = append-rest;
+      }
 
 -- THE START on a table that fits, with an empty history
 tree-rows : (n : ℕ) (ws ms : List ℕ) → Tree (decodeParts n ws ms) → Tree (decodeParts n ws [])
@@ -89,9 +113,12 @@ after-then {p = p} a b =
       rest = λ k l. let g : p .bytes ≤ k = omega (arith, b .bytes) in b .rest k l ∙ a .rest k g;
     }
 
--- what is held, as a number of the model
+-- the rows that are held: in their area, and as a number of the model
+pub held-within : {ws h : List ℕ} {p : Progress} → Held ws h p → p .count ≤ length ws
+held-within held = omega (arith, held .few, held .rows)
+
 pub held-count : {ws h : List ℕ} {p : Progress} → Held ws h p → (ms : List ℕ) → model.count (decodeParts (p .count) ws ms) ≡ p .count
-held-count {ws} {h} {p} held ms = count-decode (p .count) ws ms (omega (arith, held .few, held .rows))
+held-count {ws} {h} {p} held ms = count-decode (p .count) ws ms (held-within held)
 
 -- WHAT AN OUTCOME IS: a value and a state, or a refusal
 pub outcome-gives : (z : ℕ) (v ws ms h : List ℕ) (p : Progress) → p .number ≡ 0 → outcome z v ws ms h p ≡ gives v (stateOf ws ms h p)

@@ -1,14 +1,12 @@
 -- A new row and a cut link, from the tests on each way out: the model's update, and what is held after it.
-use mathlib.Core.Path.{_≡_, refl, ap, sym, _∙_, subst, subst₂}
+use mathlib.Core.Path.{_≡_, refl, ap, ap₂, sym, _∙_, subst, subst₂}
 use mathlib.Core.Bool.{Bool, true}
-use mathlib.Core.List.{List, [], _∷_, _++_, map}
+use mathlib.Core.List.{List, [], _∷_, _++_}
 use mathlib.Core.Option.{Option, none, some, Option·none-ne-some}
 use Prim.Native.Nat.{ℕ, _+_, _-_, _≤_, _<_}
 use native.Mathlib.Omega.{arith}
 use lib.Dec.{ltb}
-use native.Mathlib.Numerals.{add-one}
 use lib.ListN.{length, getD, take, drop, set, length-set, drop-of-length-le}
-use lib.Seq.{drop-cons}
 use borrow.Author.Tests.{lt-ltb, le-ltb}
 use Rattle.model.specs.Base.{over}
 use Rattle.model.specs.Refusal.{fault}
@@ -16,22 +14,23 @@ use Rattle.model.specs.Table as model
 use Rattle.model.specs.History.{Record, recordBytes, IsInRange}
 use Rattle.model.specs.Run.{State, state, Out, stop, gives, newRow, loose, withMade, made, cutRecord, cutRow, cutBy, cutAll, thenRow}
 use Rattle.model.proofs.BoolLaws.{by-cases}
+use Rattle.model.proofs.ListLaws.{drop-next}
 use Rattle.model.specs.Table.{Tree}
 use Rattle.model.proofs.GrowLaws.{tree-withRow, tree-linked}
 use Rattle.model.proofs.FormLaws.{length-recordBytes}
 use Rattle.model.proofs.RanLaws.{isCut-made}
 use Rattle.model.proofs.UndoLaws.{made-inRange}
-use Rattle.table.specs.Words.{linkOf, linked, rowOf, wordOf, rowsOf, wordsOf, isRowWord, withLink, decodeParts, kindIn, linkIn}
-use Rattle.table.proofs.WordLaws.{linkOf-linked, rowOf-wordOf, wordOf-rowOf, isRowWord-wordOf, rowAt-decode, canonical-push}
-use Rattle.table.proofs.WordLaws.{rowOf-withLink, isRowWord-withLink, row-word, rowsOf-set, canonical-set}
+use Rattle.table.specs.Words.{linkOf, rowOf, wordOf, isRowWord, withLink, decodeParts, Canonical, linkIn}
+use Rattle.table.proofs.WordLaws.{linkOf-linked, rowOf-wordOf, wordOf-rowOf, isRowWord-wordOf, canonical-push}
+use Rattle.table.proofs.WordLaws.{decode-linked, canonical-linked}
 use Rattle.table.proofs.DecodeLaws.{decode-row, parent-linked, parent-at}
 use Rattle.areas.specs.Tallying.{plusMade, plusCut}
 use Rattle.areas.specs.declared.tally.Tally.{Tally}
-use Rattle.updates.specs.State.{recordsIn, stateOf, outcome, Recorded, Held, After, Updated, stopped}
+use Rattle.updates.specs.State.{recordsIn, stateOf, outcome, Held, After, Updated, stopped}
 use Rattle.updates.specs.Updating.{NewPre, CutPre}
 use Rattle.updates.specs.declared.state.Progress.{Progress}
 use Rattle.updates.proofs.HistoryLaws.{recorded-made, recorded-cut}
-use Rattle.updates.proofs.StateLaws.{append-area, append-rest, append-written, append-records, held-count, updated-stopped}
+use Rattle.updates.proofs.StateLaws.{append-records, append-after, held-within, held-count, updated-stopped}
 use Rattle.updates.proofs.StateLaws.{after-self, after-then, outcome-gives, then-goes, then-stops}
 
 -- NEW ROWS in the model
@@ -75,18 +74,21 @@ module _ {ws h : List ℕ} {p : Progress} {w : ℕ} (pre : NewPre ws h p w) wher
     abbrev history′ : List ℕ
     history′ = over (p .bytes) (recordBytes entry) h
 
-    abbrev pub madeWith : Tally → Progress
+    abbrev madeWith : Tally → Progress
     madeWith t = record { number = 0; count = p .count + 1; bytes = p .bytes + 6; tally = t }
 
     abbrev after′ : Progress
     after′ = madeWith (plusMade (p .tally))
 
+    parent-fits : model.parentFits (decodeParts (p .count) ws []) (model.count (decodeParts (p .count) ws [])) (rowOf w .parent) ≡ true
+    parent-fits =
+        ap (λ (j : ℕ). model.parentFits (decodeParts (p .count) ws []) j (rowOf w .parent)) (held-count (pre .held) []) ∙ pre .parent
+
     entry-range : IsInRange entry
     entry-range =
         let e : model.count (decodeParts (p .count) ws []) ≡ p .count = held-count (pre .held) [] in
         subst (λ (j : ℕ). IsInRange (made (rowOf w) j)) e
-        (made-inRange (decodeParts (p .count) ws []) (rowOf w) (omega arith) (pre .tag)
-        (subst (λ (j : ℕ). model.parentFits (decodeParts (p .count) ws []) j (rowOf w .parent) ≡ true) (sym e) (pre .parent)))
+        (made-inRange (decodeParts (p .count) ws []) (rowOf w) (omega arith) (pre .tag) parent-fits)
 
     entry-size : length (recordBytes entry) ≡ 6
     entry-size = length-recordBytes entry ∙ rw (isCut-made (rowOf w) (p .count))
@@ -98,51 +100,25 @@ module _ {ws h : List ℕ} {p : Progress} {w : ℕ} (pre : NewPre ws h p w) wher
 
     state-made : (ms : List ℕ) → stateOf rows′ ms history′ after′ ≡ withMade (stateOf ws ms h p) (rowOf w)
     state-made ms =
-        let e : recordsIn (take (p .bytes + 6) history′) ≡ recordsIn (take (p .bytes) h) ++ (entry ∷ []) =
-        append-records (pre .held) entry 6 entry-size (omega arith) m entry-range in
-        let g : recordsIn (take (p .bytes) h) ++ (entry ∷ []) ≡ withMade (stateOf ws ms h p) (rowOf w) .history =
-        ap (λ (j : ℕ). recordsIn (take (p .bytes) h) ++ (made (rowOf w) j ∷ [])) (sym (held-count (pre .held) ms)) in
-        ap (λ (x : model.Table). state x (recordsIn (take (p .bytes + 6) history′))) (table-made ms) ∙
-        ap (state (model.withRow (decodeParts (p .count) ws ms) (rowOf w))) (e ∙ g)
-
-    held-made : Held rows′ history′ after′
-    held-made =
-        record {
-          fine = refl;
-          rows = length-set ws (p .count) w ∙ pre .held .rows;
-          area = omega (arith, pre .held .area, append-area (pre .held) entry 6 entry-size (omega arith) m);
-          few = omega arith;
-          canonical =
-              ap (λ (j : ℕ). wordsOf (rowsOf (p .count + 1) (set ws (p .count) j))) (sym (wordOf-rowOf w (pre .word))) ∙
-              canonical-push (p .count) ws (rowOf w) l (pre .held .rows) new-link (pre .held .canonical) ∙
-              ap (λ (j : ℕ). set ws (p .count) j) (wordOf-rowOf w (pre .word));
-          tree =
-              subst (λ (x : model.Table). Tree x) (sym (table-made []))
-              (tree-withRow (decodeParts (p .count) ws []) (rowOf w) (pre .held .tree) (pre .tag)
-              (subst (λ (j : ℕ). model.parentFits (decodeParts (p .count) ws []) j (rowOf w .parent) ≡ true)
-              (sym (held-count (pre .held) [])) (pre .parent)));
-          size = omega (arith, pre .held .size);
-          history =
-              subst (λ (b : List ℕ). Recorded b (plusMade (p .tally))) (sym (append-written (pre .held) entry 6 entry-size (omega arith)
-              m))
-              (recorded-made (take (p .bytes) h) (p .tally) (pre .held .history) entry entry-range (isCut-made (rowOf w)
-              (p .count)) m);
-        }
+        ap₂ state (table-made ms)
+        (append-records (pre .held) entry 6 entry-size (omega arith) m entry-range ∙
+        ap (λ (j : ℕ). recordsIn (take (p .bytes) h) ++ (made (rowOf w) j ∷ [])) (sym (held-count (pre .held) ms)))
 
     after-made : After ws h p rows′ history′ after′
     after-made =
-        record {
-          held = held-made;
-          rows = omega arith;
-          bytes = omega arith;
-          area = append-area (pre .held) entry 6 entry-size (omega arith) m;
-          rest = append-rest (pre .held) entry 6 entry-size (omega arith) m;
-        }
+        append-after (pre .held) entry 6 entry-size (omega arith) m
+        (recorded-made (take (p .bytes) h) (p .tally) (pre .held .history) entry entry-range (isCut-made (rowOf w) (p .count)) m) refl
+        (length-set ws (p .count) w) (omega arith) (omega arith)
+        (subst (λ (j : ℕ). Canonical (p .count + 1) (set ws (p .count) j)) (wordOf-rowOf w (pre .word))
+        (canonical-push (p .count) ws (rowOf w) l (pre .held .rows) new-link (pre .held .canonical)))
+        (subst (λ (x : model.Table). Tree x) (sym (table-made []))
+        (tree-withRow (decodeParts (p .count) ws []) (rowOf w) (pre .held .tree) (pre .tag) parent-fits))
 
     pub new-made : {h′ : List ℕ} {t : Tally} → h′ ≡ history′ → t ≡ plusMade (p .tally) →
         Updated (λ z s. newRow z (rowOf w) s) (p .count ∷ []) ws h p rows′ h′ (madeWith t)
     new-made e n =
-        subst₂ (λ (v : List ℕ) (t : Tally). Updated (λ z s. newRow z (rowOf w) s) (p .count ∷ []) ws h p rows′ v (madeWith t)) (sym e) (sym n)
+        subst₂ (λ (v : List ℕ) (u : Tally). Updated (λ z s. newRow z (rowOf w) s) (p .count ∷ []) ws h p rows′ v (madeWith u))
+        (sym e) (sym n)
         (record {
           same = λ z ms.
               ap (λ (s : State). gives (p .count ∷ []) s) (state-made ms) ∙
@@ -175,7 +151,7 @@ module _ (b : Bool) (t : ℕ) {w : ℕ} (e : w ≡ wordOf (loose b t)) where
 
 -- DELETE in the model
 module _ (z i : ℕ) (is : List ℕ) (s : State) where
-  pub cut-none : model.rowAt (s .plan) i .parent ≡ none → cutAll z (i ∷ is) s ≡ cutAll z is s
+  cut-none : model.rowAt (s .plan) i .parent ≡ none → cutAll z (i ∷ is) s ≡ cutAll z is s
   unfolding cutAll
   cut-none e = rw e
 
@@ -196,22 +172,19 @@ module _ {ws h : List ℕ} {p : Progress} {i : ℕ} (pre : CutPre ws h p i) wher
   abbrev link : ℕ
   link = linkIn word
 
-  cut-within : p .count ≤ length ws
-  cut-within = omega (arith, pre .held .few, pre .held .rows)
-
   pub cut-root : link ≡ 0 → Updated (λ z s. cutAll z (i ∷ []) s) [] ws h p ws h p
   unfolding cutAll
   cut-root e =
       record {
         same = λ z ms.
             outcome-gives z [] ws ms h p (pre .held .fine) ∙
-            sym (cut-none z i [] (stateOf ws ms h p) (parent-linked (p .count) ws ms cut-within i (pre .row) ∙ rw e));
+            sym (cut-none z i [] (stateOf ws ms h p) (parent-linked (p .count) ws ms (held-within (pre .held)) i (pre .row) ∙ rw e));
         after = λ q. after-self (pre .held);
       }
 
   module _ (n : link ≡ 0 → ⊥) where
     parent-here : (ms : List ℕ) → model.rowAt (decodeParts (p .count) ws ms) i .parent ≡ some (link - 1)
-    parent-here ms = parent-at (p .count) ws ms cut-within i (pre .row) n
+    parent-here ms = parent-at (p .count) ws ms (held-within (pre .held)) i (pre .row) n
 
     pub cut-low : link - 1 < 512
     cut-low = omega (arith, pre .held .tree .parents i (link - 1) (parent-here []) .0, pre .row, pre .held .few)
@@ -235,7 +208,7 @@ module _ {ws h : List ℕ} {p : Progress} {i : ℕ} (pre : CutPre ws h p i) wher
       abbrev cutHistory : List ℕ
       cutHistory = over (p .bytes) (recordBytes cutEntry) h
 
-      abbrev pub cutWith : Tally → Progress
+      abbrev cutWith : Tally → Progress
       cutWith t = record { number = 0; count = p .count; bytes = p .bytes + 5; tally = t }
 
       abbrev cutAfter : Progress
@@ -251,42 +224,20 @@ module _ {ws h : List ℕ} {p : Progress} {i : ℕ} (pre : CutPre ws h p i) wher
           }
 
       table-cut : (ms : List ℕ) → decodeParts (p .count) cutRows ms ≡ model.linked (decodeParts (p .count) ws ms) i none
-      table-cut ms =
-          ap (λ (rs : List model.Row). model.table rs (map linked ms))
-          (rowsOf-set (p .count) ws (pre .held .canonical) cut-within i (pre .row) cutWord ∙
-          ap (set (rowsOf (p .count) ws) i)
-          (rowOf-withLink word 0 (omega arith) ∙
-          ap (λ (r : model.Row). model.withParent r none) (sym (rowAt-decode (p .count) ws ms cut-within i (pre .row)))))
+      table-cut = decode-linked (p .count) ws (pre .held .canonical) (held-within (pre .held)) i (pre .row) 0 (omega arith)
 
       state-cut : (ms : List ℕ) → stateOf cutRows ms cutHistory cutAfter ≡ cutRow (stateOf ws ms h p) i (link - 1)
-      state-cut ms =
-          ap (λ (x : model.Table). state x (recordsIn (take (p .bytes + 5) cutHistory))) (table-cut ms) ∙
-          ap (state (model.linked (decodeParts (p .count) ws ms) i none))
-          (append-records (pre .held) cutEntry 5 refl (omega arith) m cut-range)
+      state-cut ms = ap₂ state (table-cut ms) (append-records (pre .held) cutEntry 5 refl (omega arith) m cut-range)
 
-      tree-cut : Tree (decodeParts (p .count) cutRows [])
-      tree-cut =
-          subst (λ (x : model.Table). Tree x) (sym (table-cut []))
+      after-cut : After ws h p cutRows cutHistory cutAfter
+      after-cut =
+          append-after (pre .held) cutEntry 5 refl (omega arith) m
+          (recorded-cut (take (p .bytes) h) (p .tally) (pre .held .history) cutEntry cut-range refl m) refl
+          (length-set ws i cutWord) (omega arith) (pre .held .few)
+          (canonical-linked (p .count) ws (pre .held .canonical) (held-within (pre .held)) i (pre .row) 0 (omega arith))
+          (subst (λ (x : model.Table). Tree x) (sym (table-cut []))
           (tree-linked (decodeParts (p .count) ws []) i none (pre .held .tree)
-          (omega (arith, pre .row, held-count (pre .held) [])) (λ q e. absurd (Option·none-ne-some q e)) (λ d e. refl))
-
-      held-cut : Held cutRows cutHistory cutAfter
-      held-cut =
-          record {
-            fine = refl;
-            rows = length-set ws i cutWord ∙ pre .held .rows;
-            area = omega (arith, pre .held .area, append-area (pre .held) cutEntry 5 refl (omega arith) m);
-            few = pre .held .few;
-            canonical =
-                canonical-set (p .count) ws (pre .held .canonical) cut-within i (pre .row) cutWord
-                (isRowWord-withLink word 0 (omega arith) (row-word (p .count) ws (pre .held .canonical) cut-within i (pre .row)));
-            tree = tree-cut;
-            size = omega (arith, pre .held .size);
-            history =
-                subst (λ (b : List ℕ). Recorded b (plusCut (p .tally)))
-                (sym (append-written (pre .held) cutEntry 5 refl (omega arith) m))
-                (recorded-cut (take (p .bytes) h) (p .tally) (pre .held .history) cutEntry cut-range refl m);
-          }
+          (omega (arith, pre .row, held-count (pre .held) [])) (λ q e. absurd (Option·none-ne-some q e)) (λ d e. refl)))
 
       updated-cut : Updated (λ z s. cutAll z (i ∷ []) s) [] ws h p cutRows cutHistory cutAfter
       unfolding cutAll
@@ -295,14 +246,7 @@ module _ {ws h : List ℕ} {p : Progress} {i : ℕ} (pre : CutPre ws h p i) wher
             same = λ z ms.
                 ap (λ (s : State). gives [] s) (state-cut ms) ∙
                 sym (cut-room z i [] (stateOf ws ms h p) (link - 1) (parent-here ms) (omega (arith, pre .held .history .records)));
-            after = λ q.
-                record {
-                  held = held-cut;
-                  rows = omega arith;
-                  bytes = omega arith;
-                  area = append-area (pre .held) cutEntry 5 refl (omega arith) m;
-                  rest = append-rest (pre .held) cutEntry 5 refl (omega arith) m;
-                };
+            after = λ q. after-cut;
           }
 
       pub cut-done : {w′ l : ℕ} → w′ ≡ cutWord → l ≡ link → {h′ : List ℕ} → h′ ≡ over (p .bytes) (recordBytes (cutRecord i (l - 1))) h →
@@ -347,7 +291,7 @@ module _ {ws₀ h₀ : List ℕ} {p₀ : Progress} {v ws h : List ℕ} {p : Prog
         sym (cutAll-split z i (drop (k + 1) v) (stateOf ws ms h p)) ∙
         ap (λ (j : ℕ). cutAll z (j ∷ drop (k + 1) v) (stateOf ws ms h p)) e ∙
         ap (λ (is : List ℕ). cutAll z is (stateOf ws ms h p))
-        (sym (drop-cons v k 0 l ∙ ap (λ (j : ℕ). getD v k 0 ∷ drop j v) (sym (add-one k)))) ∙ d .rest z ms
+        (sym (drop-next v k 0 l)) ∙ d .rest z ms
 
     pub delete-refused : (r .number ≡ 0 → ⊥) → Updated (λ z s. cutAll z v s) [] ws₀ h₀ p₀ ws′ h′ r
     delete-refused n = then-stops (λ z ms t. cutAll z (drop (k + 1) v) t) [] n delete-turn

@@ -1,32 +1,22 @@
--- What the writer puts: a record over an area, and the stored form grown row by row and mark by mark.
+-- What the writer puts: a row as bytes, and the stored form grown row by row and mark by mark.
 use mathlib.Core.Path.{_≡_, refl, ap, sym, _∙_}
 use mathlib.Core.List.{List, [], _∷_, _++_, map, map-append, append-assoc, append-nil}
 use mathlib.Core.Option.{Option, none, some}
 use Prim.Native.Nat.{ℕ, zero, suc, _+_, _*_, _-_, _≤_, _<_}
 use native.Mathlib.Omega.{arith}
 use native.Mathlib.Nat.{add-zero}
-use native.Mathlib.Numerals.{add-one}
-use lib.ListN.{length, getD, take, set, length-append, length-map}
-use lib.Seq.{sets-eq, take-suc, take-all, length-take-le}
+use lib.ListN.{length, getD, take, length-append, length-map}
+use lib.Seq.{take-all, length-take-le}
 use borrow.Author.Tests.{ne-eqb}
 use Rattle.model.specs.Table as model
 use Rattle.model.specs.Stored.{wordBytes, parentBytes, rowBytes, rowsBytes, markBytes, marksBytes}
 use Rattle.model.proofs.BytesLaws.{length-parentBytes, rowsBytes-snoc}
 use Rattle.table.specs.Words.{linked, rowOf, rowsOf, kindIn, linkIn, tagIn}
 use Rattle.model.specs.Base.{over}
-use Rattle.table.proofs.WordLaws.{count-decode, take-next}
-use Rattle.model.proofs.ListLaws.{over-over, over-nil}
+use Rattle.table.proofs.WordLaws.{count-decode, take-rows}
+use Rattle.model.proofs.ListLaws.{take-next, over-over, over-nil}
 
--- ONE RECORD
-pub put-four : (o : List ℕ) (i a b c d : ℕ) → i + 4 ≤ length o →
-    set (set (set (set o i a) (i + 1) b) (i + 2) c) (i + 3) d ≡ over i (a ∷ b ∷ c ∷ d ∷ []) o
-put-four o i a b c d h =
-    let e₁ : i + 1 ≡ suc i = omega arith in
-    let e₂ : i + 2 ≡ suc (suc i) = omega arith in
-    let e₃ : i + 3 ≡ suc (suc (suc i)) = omega arith in
-    rw (e₁, e₂, e₃) (sets-eq (a ∷ b ∷ c ∷ d ∷ []) o i h)
-
--- the row of a word, as bytes
+-- ONE ROW of a word, as bytes
 pub row-leaf : (w : ℕ) → kindIn w ≡ 2 → rowBytes (rowOf w) ≡ 18 ∷ tagIn w ∷ parentBytes (linked (linkIn w))
 row-leaf w h = rw h
 
@@ -60,7 +50,7 @@ module _ (ws : List ℕ) (n i : ℕ) (within : n ≤ length ws) (h : i < n) wher
       ap (λ (j : ℕ). over j (rowBytes (rowOf (getD ws i 0))) (over 0 (rowsBytes (take i (rowsOf n ws))) o)) e ∙
       over-over 0 (rowsBytes (take i (rowsOf n ws))) (rowBytes (rowOf (getD ws i 0))) o (omega arith) ∙
       ap (λ (b : List ℕ). over 0 b o)
-      (sym (ap rowsBytes (take-next i n ws within h) ∙ rowsBytes-snoc (take i (rowsOf n ws)) (rowOf (getD ws i 0))))
+      (sym (ap rowsBytes (take-rows i n ws within h) ∙ rowsBytes-snoc (take i (rowsOf n ws)) (rowOf (getD ws i 0))))
 
 -- MARKS, one more
 marksBytes-snoc : (from : ℕ) (ms : List (Option ℕ)) (m : Option ℕ) → marksBytes from (ms ++ (m ∷ [])) ≡ marksBytes from ms ++ markBytes
@@ -79,7 +69,7 @@ module _ (ms : List ℕ) (d : ℕ) (h : d < length ms) where
   marks-next : marksBytes 0 (map linked (take (d + 1) ms)) ≡ marksBytes 0 (map linked (take d ms)) ++ markBytes d (linked (getD ms d 0))
   marks-next =
       let k : 0 + length (map linked (take d ms)) ≡ d = omega (arith, length-map (take d ms) linked, length-take-le d ms (omega arith)) in
-      ap (λ (v : List ℕ). marksBytes 0 (map linked v)) (ap (λ (j : ℕ). take j ms) (add-one d) ∙ take-suc ms d 0 h) ∙
+      ap (λ (v : List ℕ). marksBytes 0 (map linked v)) (take-next ms d 0 h) ∙
       ap (marksBytes 0) (map-append linked (take d ms) (getD ms d 0 ∷ [])) ∙
       marksBytes-snoc 0 (map linked (take d ms)) (linked (getD ms d 0)) ∙
       ap (λ (j : ℕ). marksBytes 0 (map linked (take d ms)) ++ markBytes j (linked (getD ms d 0))) k

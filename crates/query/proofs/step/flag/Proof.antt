@@ -1,17 +1,20 @@
 -- `step::flag` flags the items of a value. The loop's invariant: the flags are those of the items passed.
-use Rattle.query.proofs.StepLaws.{flagged-none, flagged-next}
-use Rattle.table.proofs.FlagLaws.{flags-all}
+use Rattle.query.proofs.StepLaws.{among-snoc}
+use Rattle.table.proofs.FlagLaws.{flags-none, flags-more, flags-all}
 use Rattle.model.specs.Base.{among}
+use mathlib.Core.Bool.{Bool}
 use mathlib.Core.List.{List}
-use Prim.Native.Nat.{ℕ}
 use Rattle.query.specs.Stepping.{Flagged}
 use lib.ListN.{length, take, set}
-use mathlib.Core.Path.{sym, ap, subst}
+use mathlib.Core.Path.{refl, sym, ap, subst}
 use Prim.Native.Nat.{ℕ, _≤_, _-_, _+_}
 use native.Mathlib.Omega.{arith}
 use borrow.Author.Needs.{needs}
 use Rattle.query.proofs.step.flag.Statement.{statement}
 use Rattle.query.proofs.step.flag.Tie as tie
+
+abbrev has : (items : List ℕ) → (row : ℕ) → Bool
+has v k = among k v
 
 abbrev Inv-loop : tie.InvT-loop
 Inv-loop flags₀ items k₀ flags k = (k ≤ length items) × Flagged (take k items) flags
@@ -20,11 +23,11 @@ abbrev μ-loop : tie.MeasureT-loop
 μ-loop flags₀ items k₀ flags k = length items - k
 
 loop-holds : tie.Need-loop-holds Inv-loop μ-loop
+unfolding among
 loop-holds c =
     let c2 = c .before .before in (
       omega arith,
-      flagged-none (c2 .args .flags .now) (c2 .args .items .now) (c2
-          .pre .clear),
+      flags-none has (c2 .args .flags .now) (c2 .args .items .now) (c2 .pre .clear) (λ k. refl),
     )
 
 mul-index : tie.Need-mul-index Inv-loop μ-loop
@@ -58,8 +61,9 @@ loop-again c =
       omega arith,
       subst (λ (j : ℕ). Flagged (take (c3 .loop .k + 1) (c6 .args .items .now)) (set (c3 .loop .flags) (j + 1) 1))
           (sym (c .index .ensures .0))
-          (flagged-next (c3 .loop .flags) (c6 .args .items .now) (c3 .loop .k) (c .before .before .loop-test .taken) (c6 .pre .low
-          (c3 .loop .k) (c .before .before .loop-test .taken)) (c3 .loop .inv .1)),
+          (flags-more has (c3 .loop .flags) (c6 .args .items .now) (λ (j : ℕ). j + 1) among-snoc (c3 .loop .k)
+          (c .before .before .loop-test .taken) (c3 .loop .inv .1) (λ e. omega arith)
+          (omega (arith, c6 .pre .low (c3 .loop .k) (c .before .before .loop-test .taken)))),
     )
 
 same-length : tie.Need-same-length Inv-loop μ-loop
@@ -70,7 +74,7 @@ same-length c =
 returns : tie.Need-returns Inv-loop μ-loop
 returns c =
     let c4 = c .before .before .before .before in
-    flags-all (λ (v : List ℕ) (k : ℕ). among k v) (c .before .loop .flags) (c4 .args .items .now) (c .before .loop .k) (omega arith)
+    flags-all has (c .before .loop .flags) (c4 .args .items .now) (c .before .loop .k) (omega arith)
     (c .before .loop .inv .1)
 
 pub flag-spec : {M : Type 1} → statement M

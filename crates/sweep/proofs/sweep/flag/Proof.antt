@@ -1,18 +1,22 @@
 -- `sweep::flag` flags the marked rows. The loop's invariant: the flags are those of the marks passed.
-use Rattle.sweep.proofs.FlagLaws.{flagged-none, flagged-next}
-use Rattle.table.proofs.FlagLaws.{flags-all}
+use Rattle.table.proofs.DecodeLaws.{marked-snoc}
+use Rattle.table.proofs.FlagLaws.{flags-none, flags-next, flags-all}
 use Rattle.table.specs.Words.{linked}
 use Rattle.model.specs.Base.{any}
 use Rattle.model.specs.Table as model
+use mathlib.Core.Bool.{Bool}
 use mathlib.Core.List.{List, map}
 use Rattle.sweep.specs.Sweeping.{Flagged}
 use lib.ListN.{length, take}
-use mathlib.Core.Path.{sym, ap, subst}
+use mathlib.Core.Path.{refl, sym, ap, subst}
 use Prim.Native.Nat.{ℕ, _≤_, _-_, _+_}
 use native.Mathlib.Omega.{arith}
 use borrow.Author.Needs.{needs}
 use Rattle.sweep.proofs.sweep.flag.Statement.{statement}
 use Rattle.sweep.proofs.sweep.flag.Tie as tie
+
+abbrev has : (marks : List ℕ) → (row : ℕ) → Bool
+has v k = any (model.isThe k) (map linked v)
 
 abbrev Inv-loop : tie.InvT-loop
 Inv-loop numbers₀ marks d₀ numbers d = (d ≤ length marks) × Flagged (take d marks) numbers
@@ -21,10 +25,11 @@ abbrev μ-loop : tie.MeasureT-loop
 μ-loop numbers₀ marks d₀ numbers d = length marks - d
 
 loop-holds : tie.Need-loop-holds Inv-loop μ-loop
+unfolding any
 loop-holds c =
     let c2 = c .before .before in (
       omega arith,
-      flagged-none (c2 .args .numbers .now) (c2 .args .marks .now) (c2 .pre .clear),
+      flags-none has (c2 .args .numbers .now) (c2 .args .marks .now) (c2 .pre .clear) (λ k. refl),
     )
 
 mul-flag-one : tie.Need-mul-flag-one Inv-loop μ-loop
@@ -52,8 +57,8 @@ loop-again c =
     let c9 = c6 .before .before .before in (
       omega arith,
       subst (Flagged (take (c6 .loop .d + 1) (c9 .args .marks .now))) (sym (c .before .before .flag-one .ensures))
-          (flagged-next (c6 .loop .numbers) (c9 .args .marks .now) (c6 .loop .d) (c5 .loop-test .taken) (c9 .pre .links (c6 .loop .d)) (c6
-          .loop .inv .1)),
+          (flags-next has (c6 .loop .numbers) (c9 .args .marks .now) (λ (m : ℕ). m) marked-snoc (c6 .loop .d) (c5 .loop-test .taken)
+          (c6 .loop .inv .1) (c9 .pre .links (c6 .loop .d))),
     )
 
 same-length : tie.Need-same-length Inv-loop μ-loop
@@ -64,7 +69,7 @@ same-length c =
 returns : tie.Need-returns Inv-loop μ-loop
 returns c =
     let c4 = c .before .before .before .before in
-    flags-all (λ (v : List ℕ) (k : ℕ). any (model.isThe k) (map linked v)) (c .before .loop .numbers) (c4 .args .marks .now)
+    flags-all has (c .before .loop .numbers) (c4 .args .marks .now)
     (c .before .loop .d) (omega arith) (c .before .loop .inv .1)
 
 pub flag-spec : {M : Type 1} → statement M

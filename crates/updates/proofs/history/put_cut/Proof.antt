@@ -1,7 +1,9 @@
 -- `history::put_cut` puts the record of a cut link over the history, byte by byte.
-use Rattle.updates.proofs.HistoryLaws.{put-five}
+use native.Mathlib.Numerals.{add-one, add-two, add-three, add-four}
+use lib.Seq.{sets-eq}
+use Rattle.model.specs.History.{recordBytes}
+use Rattle.model.specs.Run.{cutRecord}
 use lib.ListN.{length-set}
-use Prim.Native.Nat.{_/_, _%_}
 use native.Mathlib.Omega.{arith}
 use borrow.Author.Needs.{needs}
 use Rattle.updates.proofs.history.put_cut.Statement.{statement}
@@ -51,8 +53,8 @@ same-length c = search needs
 
 returns : tie.Need-returns
 returns c =
-    put-five (c .args .history .now) (c .args .at) 67 (c .args .row % 256) (c .args .row / 256) (c .args .parent % 256) (c .args .parent /
-    256) (c .pre .0)
+    rw (add-one, add-two, add-three, add-four)
+    (sets-eq (recordBytes (cutRecord (c .args .row) (c .args .parent))) (c .args .history .now) (c .args .at) (c .pre .0))
 
 pub put-cut-spec : {M : Type 1} → statement M
 put-cut-spec =

@@ -1,7 +1,8 @@
 -- `history::put_six` puts the six bytes of a made row's record over the history.
-use Rattle.updates.proofs.HistoryLaws.{put-six}
+use native.Mathlib.Numerals.{add-one, add-two, add-three, add-four, add-five}
+use lib.Seq.{sets-eq}
+use Rattle.updates.specs.Updating.{sixBytes}
 use lib.ListN.{length-set}
-use Prim.Native.Nat.{_/_, _%_}
 use native.Mathlib.Omega.{arith}
 use borrow.Author.Needs.{needs}
 use Rattle.updates.proofs.history.put_six.Statement.{statement}
@@ -57,8 +58,8 @@ same-length c = search needs
 
 returns : tie.Need-returns
 returns c =
-    put-six (c .args .history .now) (c .args .at) (c .args .kind) (c .args .row % 256) (c .args .row / 256) (c .args .tag)
-    (c .args .parent % 256) (c .args .parent / 256) (c .pre .0)
+    rw (add-one, add-two, add-three, add-four, add-five)
+    (sets-eq (sixBytes (c .args .kind) (c .args .row) (c .args .tag) (c .args .parent)) (c .args .history .now) (c .args .at) (c .pre .0))
 
 pub put-six-spec : {M : Type 1} → statement M
 put-six-spec =

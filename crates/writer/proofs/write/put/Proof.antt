@@ -1,7 +1,9 @@
 -- `write::put` puts a record over the area, byte by byte.
-use Rattle.writer.proofs.WriteRecordLaws.{put-four}
+use mathlib.Core.List.{_∷_}
+use native.Mathlib.Numerals.{add-one, add-two, add-three}
+use lib.Seq.{sets-eq}
+use Rattle.model.specs.Stored.{wordBytes}
 use lib.ListN.{length-set}
-use Prim.Native.Nat.{_/_, _%_}
 use native.Mathlib.Omega.{arith}
 use borrow.Author.Needs.{needs}
 use Rattle.writer.proofs.write.put.Statement.{statement}
@@ -38,8 +40,9 @@ same-length : tie.Need-same-length
 same-length c = search needs
 
 returns : tie.Need-returns
-returns c = put-four (c .args .out .now) (c .args .at) (c .args .kind) (c .args .field) (c .args .number % 256) (c .args .number / 256)
-    (c .pre .0)
+returns c =
+    rw (add-one, add-two, add-three)
+    (sets-eq (c .args .kind ∷ c .args .field ∷ wordBytes (c .args .number)) (c .args .out .now) (c .args .at) (c .pre .0))
 
 pub put-spec : {M : Type 1} → statement M
 put-spec =
