@@ -19,10 +19,12 @@ pub data All {A : Type 0} (P : A → Type 0) : List A → Type 0 where
   nothing : All P []
   also : {a : A} {l : List A} → P a → All P l → All P (a ∷ l)
 
+-- every item passes a test
 unfoldable pub all : {A : Type 0} → (A → Bool) → List A → Bool
 all f [] = true
 all f (x ∷ xs) = f x && all f xs
 
+-- some item passes a test
 unfoldable pub any : {A : Type 0} → (A → Bool) → List A → Bool
 any f [] = false
 any f (x ∷ xs) = f x || any f xs

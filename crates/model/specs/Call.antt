@@ -22,14 +22,17 @@ pub data Analysis : Type 0 where
   refusedBy : (script : ℕ) → Fault → Analysis
   answered : Answer → Analysis
 
+-- the second script, read once the first is accepted
 abbrev pub secondBy : Expr → Parsed → Analysis
 secondBy e (ill x) = refusedBy 2 x
 secondBy e (parsed f i n b) = answered (answer e f)
 
+-- The analysis reads the first script, then the second, and says which is refused
 abbrev pub firstBy : Parsed → Parsed → Analysis
 firstBy (ill x) q = refusedBy 1 x
 firstBy (parsed e i n b) q = secondBy e q
 
+-- of two scripts as bytes
 abbrev pub analyse : (first second : List ℕ) → Analysis
 analyse b c = firstBy (readScript b) (readScript c)
 
@@ -55,6 +58,7 @@ pub record Ran : Type 0 where
 abbrev pub filled : (size : ℕ) → List ℕ → List ℕ
 filled n xs = xs ++ replicate (n - length xs) 0
 
+-- records of a kind between two
 abbrev pub countKind : (low high : ℕ) → List Record → ℕ
 countKind a b = times (λ (r : Record). isIn a b (r .kind))
 
@@ -91,6 +95,7 @@ ranBy x a h w (gives v s) =
       work = replicate w 0;
     }
 
+-- each lent area is as long as its stated need
 abbrev pub areasFit : (answer history work : List ℕ) → Bool
 areasFit a h w = leb answerNeed (length a) && leb historyNeed (length h) && leb workNeed (length w)
 
@@ -150,6 +155,7 @@ EitherOrder b c x a h w a′ h′ w′ =
     OrdersAgree x (runCall x b a h w) (runCall (runCall x b a h w .plan) c a′ h′ w′) (runCall x c a′ h′ w′)
     (runCall (runCall x c a′ h′ w′ .plan) b a h w)
 
+-- free scripts commute as calls
 abbrev pub CallsCommute : Type 0
 CallsCommute =
     (b c : List ℕ) (x : Table) (a h w a′ h′ w′ : List ℕ) → areBytes b ≡ true → areBytes c ≡ true → analyse b c ≡ answered free →

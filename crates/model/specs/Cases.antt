@@ -12,6 +12,7 @@ use Rattle.model.specs.Run.{runOn}
 use Rattle.model.specs.Meeting.{answer, free, meet}
 use Rattle.model.specs.Promise.{tableOf, answerOf, historyOf, ends}
 
+-- what bytes are read as: a plan, a script
 abbrev pub tableBy : Read → Table
 tableBy (bad f) = empty
 tableBy (got x) = x
@@ -77,6 +78,7 @@ bytesTwice = 0x0C ∷ 0x05 ∷ (twos ++ twos ++ threes)
 abbrev pub bytesIntoItself : List ℕ
 bytesIntoItself = 0x0C ∷ 0x05 ∷ (threes ++ threes ++ threes)
 
+-- a script is accepted
 abbrev pub accepted : List ℕ → Type 0
 accepted b = faultBy (readScript b) ≡ fine
 
@@ -113,12 +115,14 @@ twice = script bytesTwice
 abbrev pub intoItself : Expr
 intoItself = script bytesIntoItself
 
+-- an element with a name and a parent
 abbrev pub elementRow : (name : ℕ) → (parent : Option ℕ) → Row
 elementRow n p = record { isLeaf = false; tag = n; parent = p }
 
 abbrev pub parentAt : Table → (row : ℕ) → Option ℕ
 parentAt x i = rowAt x i .parent
 
+-- the plans that the runs leave
 abbrev pub afterB : Table
 afterB = tableOf (runOn planP scriptB)
 
@@ -134,6 +138,7 @@ AllAccepted =
     accepted bytesA × accepted bytesTwin × accepted bytesB × accepted bytesDeleteTwos × accepted bytesLeavesBelow × accepted bytesLetX ×
     accepted bytesCopyTwos × accepted bytesDeleteLeaves × accepted bytesDeleteRoot × accepted bytesTwice × accepted bytesIntoItself
 
+-- the cases, in the order of document 01; three more beside them
 abbrev pub Cases : Type 0
 Cases =
     AllAccepted ×

@@ -26,6 +26,7 @@ pub record Record : Type 0 where
   pub tag : ℕ
   pub parent : Option ℕ
 
+-- a record of a link cut
 abbrev pub isCut : Record → Bool
 isCut r = eqb (r .kind) cutKind
 
@@ -49,6 +50,7 @@ abbrev pub recordBytes : Record → List ℕ
 recordBytes r =
     (r .kind ∷ wordBytes (r .row)) ++ pick (eqb (r .kind) cutKind) (parentBytes (r .parent)) (r .tag ∷ parentBytes (r .parent))
 
+-- record after record
 unfoldable pub historyBytes : List Record → List ℕ
 historyBytes [] = []
 historyBytes (r ∷ rs) = recordBytes r ++ historyBytes rs
@@ -59,6 +61,7 @@ replayed x r =
     pick (eqb (r .kind) cutKind) (linked x (r .row) none)
     (withRow x (record { isLeaf = eqb (r .kind) madeLeafKind; tag = r .tag; parent = r .parent }))
 
+-- record after record, in order
 unfoldable pub replayAll : Table → List Record → Table
 replayAll x [] = x
 replayAll x (r ∷ rs) = replayAll (replayed x r) rs

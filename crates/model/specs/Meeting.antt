@@ -11,18 +11,23 @@ use Rattle.model.specs.Paths.{Place, Path, start, _▸_, Paths, pathsOf,
 abbrev pub admitsElement : Step → Bool
 admitsElement s = not (eqb (s .test) 2)
 
+-- some leaf passes
 abbrev pub admitsLeaf : Step → Bool
 admitsLeaf s = eqb (s .test) 0 || eqb (s .test) 2
 
+-- the test names an element
 abbrev pub isNamed : Step → Bool
 isNamed s = not (eqb (s .test) 0) && not (eqb (s .test) 1) && not (eqb (s .test) 2)
 
+-- some element passes both tests
 abbrev pub shareElement : Step → Step → Bool
 shareElement s t = admitsElement s && admitsElement t && (not (isNamed s && isNamed t) || eqb (s .name) (t .name))
 
+-- some leaf passes both tests
 abbrev pub shareLeaf : Step → Step → Bool
 shareLeaf s t = admitsLeaf s && admitsLeaf t
 
+-- the descendant axis
 abbrev pub isDeep : Step → Bool
 isDeep s = eqb (s .axis) 1
 
@@ -40,13 +45,16 @@ pub record Cell : Type 0 where
 abbrev pub onCell : (element leaf : Bool) → Cell
 onCell e l = record { onElement = e; onLeaf = l; downElement = e; downLeaf = l; upElement = e; upLeaf = l }
 
+-- down alone
 abbrev pub downCell : (element leaf : Bool) → Cell
 downCell e l =
     record { onElement = false; onLeaf = false; downElement = e; downLeaf = l; upElement = false; upLeaf = false }
 
+-- up alone
 abbrev pub upCell : (element leaf : Bool) → Cell
 upCell e l = record { onElement = false; onLeaf = false; downElement = false; downLeaf = false; upElement = e; upLeaf = l }
 
+-- what either has in common
 abbrev pub joinCell : Cell → Cell → Cell
 joinCell c d =
     record {
@@ -62,9 +70,11 @@ joinCell c d =
 abbrev pub samePlace : Place → Place → Bool
 samePlace p q = eqb (p .owner) (q .owner) && eqb (p .number) (q .number)
 
+-- a constructor record's place
 abbrev pub isConstructor : Place → Bool
 isConstructor p = not (eqb (p .owner) 0)
 
+-- of two places: a node at both, if they are one
 abbrev pub startCell : Place → Place → Cell
 startCell p q = onCell (samePlace p q) (samePlace p q && isConstructor p)
 
@@ -73,6 +83,7 @@ startCell p q = onCell (samePlace p q) (samePlace p q && isConstructor p)
 abbrev pub isParent : Step → Step → Cell → Bool
 isParent s t c = c .onElement || (isDeep t && c .downElement) || (isDeep s && c .upElement)
 
+-- and it passes both tests
 abbrev pub onStep : Step → Step → Cell → Cell
 onStep s t c = onCell (isParent s t c && shareElement s t) (isParent s t c && shareLeaf s t)
 
@@ -94,10 +105,12 @@ unfoldable pub startCells : Place → Path → Cell
 startCells p (start q) = startCell p q
 startCells p (q ▸ t) = upStep t (startCells p q)
 
+-- on both, down and up joined
 unfoldable pub stepCells : Step → (Path → Cell) → Path → Cell
 stepCells s f (start q) = downStep s (f (start q))
 stepCells s f (q ▸ t) = joinCell (onStep s t (f q)) (joinCell (downStep s (f (q ▸ t))) (upStep t (stepCells s f q)))
 
+-- the cell of two paths
 unfoldable pub cell : Path → Path → Cell
 cell (start p) = startCells p
 cell (p ▸ s) = stepCells s (cell p)
@@ -106,9 +119,11 @@ cell (p ▸ s) = stepCells s (cell p)
 abbrev pub isMet : Cell → Bool
 isMet c = c .onElement || c .onLeaf
 
+-- of two paths
 abbrev pub meets : Path → Path → Bool
 meets p q = isMet (cell p q)
 
+-- of two unions
 abbrev pub anyMeet : List Path → List Path → Bool
 anyMeet ps qs = any (λ (p : Path). any (meets p) qs) ps
 
@@ -120,5 +135,6 @@ pathsMeet x y = anyMeet (x .modified) (traversed y) || anyMeet (y .modified) (tr
 pub data Answer : Type 0 where
   free upward meet : Answer
 
+-- `upward` where either script holds axis 2 or 3, else `meet` where their paths meet, else `free`
 abbrev pub answer : (first second : Expr) → Answer
 answer e f = pick (hasUp e || hasUp f) upward (pick (pathsMeet (pathsOf 1 e) (pathsOf 2 f)) meet free)

@@ -12,9 +12,11 @@ pub record Place : Type 0 where
   pub owner : ℕ
   pub number : ℕ
 
+-- a place of an owner
 abbrev pub place : (owner number : ℕ) → Place
 place o n = record { owner = o; number = n }
 
+-- the place of a document
 abbrev pub documentPlace : (number : ℕ) → Place
 documentPlace d = place 0 d
 
@@ -29,6 +31,7 @@ unfoldable pub placeOf : Path → Place
 placeOf (start p) = p
 placeOf (p ▸ s) = placeOf p
 
+-- each path with the step
 abbrev pub withStep : Step → List Path → List Path
 withStep s ps = map (λ (p : Path). p ▸ s) ps
 
@@ -49,13 +52,15 @@ paths r a m = record { result = r; accessed = a; modified = m }
 abbrev pub after : Paths → (result accessed modified : List Path) → Paths
 after x r a m = paths r (x .accessed ++ a) (x .modified ++ m)
 
+-- the paths of two operands
 abbrev pub joinPaths : Paths → Paths → (result : List Path) → Paths
 joinPaths x y r = after x r (y .accessed) (y .modified)
 
--- a place that is the result, accessed (document) or modified (constructor)
+-- Document: r is its place, also accessed
 abbrev pub accessedPlace : Place → Paths
 accessedPlace p = paths (start p ∷ []) (start p ∷ []) []
 
+-- Constructor: r is its place, also modified
 abbrev pub modifiedPlace : Place → Paths
 modifiedPlace p = paths (start p ∷ []) [] (start p ∷ [])
 
@@ -75,6 +80,7 @@ inserting x y = after (joinPaths x y []) [] (withStep anyBelow (x .result)) (wit
 abbrev pub binding : Paths → (List Path → Paths) → Paths
 binding x body = joinPaths x (body (x .result)) (body (x .result) .result)
 
+-- THE PATHS of an expression; variables stand for the results of their binders, the outermost first
 unfoldable pub infer : (owner : ℕ) → Expr → (bound : List (List Path)) → Paths
 infer o (nil z) b = paths [] [] []
 infer o (document z d) b = accessedPlace (documentPlace d)
@@ -91,6 +97,7 @@ infer o (delete z e) b = deleting (infer o e b)
 infer o (insert z e f) b = inserting (infer o e b) (infer o f b)
 infer o (choose z r c e) b = infer o e b
 
+-- of a whole script, owner 1 or 2
 abbrev pub pathsOf : (owner : ℕ) → Expr → Paths
 pathsOf o e = infer o e []
 
@@ -99,10 +106,12 @@ unfoldable pub prefixesOf : Path → List Path
 prefixesOf (start p) = start p ∷ []
 prefixesOf (p ▸ s) = (p ▸ s) ∷ prefixesOf p
 
+-- of a union
 unfoldable pub prefixed : List Path → List Path
 prefixed [] = []
 prefixed (p ∷ ps) = prefixesOf p ++ prefixed ps
 
+-- of an expression's paths
 abbrev pub traversed : Paths → List Path
 traversed x = prefixed (x .accessed)
 
@@ -110,6 +119,7 @@ traversed x = prefixed (x .accessed)
 abbrev pub isUp : Step → Bool
 isUp s = leb 2 (s .axis)
 
+-- a script that holds such a step
 unfoldable pub hasUp : Expr → Bool
 hasUp (nil z) = false
 hasUp (document z d) = false

@@ -70,6 +70,7 @@ ArePlaces x h =
     ((p : Place) (i : ℕ) → i < count x → h p i ≡ true → hasParent (rowAt x i .parent) ≡ false) ×
     ((p q : Place) (i : ℕ) → i < count x → h p i ≡ true → h q i ≡ true → p ≡ q)
 
+-- the rows that a place holds, of so many from a row on
 unfoldable pub rowsAt : Table → Places → Place → (row : ℕ) → ℕ → List ℕ
 rowsAt x h p i zero = []
 rowsAt x h p i (suc n) = pick (h p i) (i ∷ rowsAt x h p (suc i) n) (rowsAt x h p (suc i) n)
@@ -89,14 +90,16 @@ isTouched x h i e f =
     (isOn x h i (pathsOf 1 e .modified) && isOn x h i (traversed (pathsOf 2 f))) ||
     (isOn x h i (pathsOf 2 f .modified) && isOn x h i (traversed (pathsOf 1 e)))
 
--- no plan has such a row; some plan has one
+-- no plan has such a row
 abbrev pub NeverTouched : (one two : Expr) → Type 0
 NeverTouched e f = (x : Table) (h : Places) (i : ℕ) → isTree x ≡ true → ArePlaces x h → i < count x → isTouched x h i e f ≡ false
 
+-- some plan has such a row
 abbrev pub SomewhereTouched : (one two : Expr) → Type 0
 SomewhereTouched e f =
     (x : Table) × ((h : Places) × ((i : ℕ) × ((isTree x ≡ true) × ArePlaces x h × (i < count x) × (isTouched x h i e f ≡ true))))
 
+-- `upward` exactly where a script leads up; `free`, and no plan has such a row; `meet`, and some plan has one
 abbrev pub FreeMeans : Type 0
 FreeMeans =
     (e f : Expr) → IsScript e → IsScript f →
@@ -108,22 +111,26 @@ abbrev pub tableOf : Out → Table
 tableOf (stop x) = empty
 tableOf (gives v s) = s .plan
 
+-- its answer
 abbrev pub answerOf : Out → List ℕ
 answerOf (stop x) = []
 answerOf (gives v s) = v
 
+-- its history
 abbrev pub historyOf : Out → List Record
 historyOf (stop x) = []
 historyOf (gives v s) = s .history
 
+-- it is not refused
 abbrev pub ends : Out → Bool
 ends (stop x) = false
 ends (gives v s) = true
 
--- The second run gets the table as the first left it
+-- the first run of an order
 abbrev pub firstRun : Table → Expr → Out
 firstRun x e = runOn x e
 
+-- The second run gets the table as the first left it
 abbrev pub secondRun : Table → (first second : Expr) → Out
 secondRun x e f = runOn (tableOf (firstRun x e)) f
 
@@ -131,6 +138,7 @@ secondRun x e f = runOn (tableOf (firstRun x e)) f
 abbrev pub orderEnds : Table → (first second : Expr) → Bool
 orderEnds x e f = ends (firstRun x e) && ends (secondRun x e f)
 
+-- new rows that a run made
 abbrev pub newRows : (before : Table) → Out → ℕ
 newRows x o = count (tableOf o) - count x
 
@@ -143,17 +151,21 @@ abbrev pub matchedParent : (n a b : ℕ) → Option ℕ → Option ℕ
 matchedParent n a b none = none
 matchedParent n a b (some p) = some (matched n a b p)
 
+-- item for item
 unfoldable pub matchedAll : (n a b : ℕ) → List ℕ → List ℕ
 matchedAll n a b [] = []
 matchedAll n a b (i ∷ is) = matched n a b i ∷ matchedAll n a b is
 
+-- the same kind, the same name or value, matching rows and parents
 abbrev pub matchedRecord : (n a b : ℕ) → Record → Record
 matchedRecord n a b r =
     record { kind = r .kind; row = matched n a b (r .row); tag = r .tag; parent = matchedParent n a b (r .parent) }
 
+-- record for record
 abbrev pub matchedHistory : (n a b : ℕ) → List Record → List Record
 matchedHistory n a b rs = map (matchedRecord n a b) rs
 
+-- the same kind, the same name or value, a matching parent
 abbrev pub matchedRow : (n a b : ℕ) → Row → Row
 matchedRow n a b r = withParent r (matchedParent n a b (r .parent))
 
@@ -163,6 +175,7 @@ PlansEqual n a b x y =
     (count x ≡ count y) × ((i : ℕ) → i < count x → rowAt y (matched n a b i) ≡ matchedRow n a b (rowAt x i)) ×
     ((d : ℕ) → d < documents → getD (y .marks) d none ≡ matchedParent n a b (getD (x .marks) d none))
 
+-- new rows that a script makes when it runs first
 abbrev pub madeBy : Table → Expr → ℕ
 madeBy x e = newRows x (firstRun x e)
 
@@ -177,6 +190,7 @@ OrdersEqual x e f =
     (historyOf (firstRun x f) ≡ matchedHistory (count x) (madeBy x e) (madeBy x f) (historyOf (secondRun x e f))) ×
     PlansEqual (count x) (madeBy x e) (madeBy x f) (tableOf (secondRun x e f)) (tableOf (secondRun x f e))
 
+-- DEMAND 3: for every two free scripts and every well-formed plan
 abbrev pub FreeCommutes : Type 0
 FreeCommutes =
     (e f : Expr) (x : Table) → answer e f ≡ free → isWell x ≡ true →

@@ -9,9 +9,11 @@ pub record Fault : Type 0 where
   pub number : ℕ
   pub place : ℕ
 
+-- a refusal of a number at a place
 abbrev pub fault : (number place : ℕ) → Fault
 fault n i = record { number = n; place = i }
 
+-- nothing is refused
 abbrev pub fine : Fault
 fine = fault 0 0
 
@@ -67,6 +69,7 @@ faultAt n i = pick (eqb n 0) fine (fault n i)
 abbrev pub isFine : Fault → Bool
 isFine x = eqb (x .number) 0
 
+-- the second refusal only where there is no first
 abbrev pub orElse : Fault → Fault → Fault
 orElse x y = pick (isFine x) y x
 

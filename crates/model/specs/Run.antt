@@ -30,9 +30,11 @@ pub data Out : Type 0 where
 abbrev pub AreRows : (rows : ℕ) → List ℕ → Type 0
 AreRows n = All (λ (i : ℕ). i < n)
 
+-- values of variables
 abbrev pub AreValues : (rows : ℕ) → List (List ℕ) → Type 0
 AreValues n = All (AreRows n)
 
+-- what follows a value, unless it is refused
 abbrev pub andThen : Out → (List ℕ → State → Out) → Out
 andThen (stop x) next = stop x
 andThen (gives v s) next = next v s
@@ -41,34 +43,41 @@ andThen (gives v s) next = next v s
 abbrev pub joinItems : (place : ℕ) → (one other : List ℕ) → State → Out
 joinItems z v w s = pick (ltb maxItems (length v + length w)) (stop (itemsAt z)) (gives (v ++ w) s)
 
--- NEW ROWS take the next numbers; 10 before 9
+-- NEW ROWS take the next numbers: the record of a row made
 abbrev pub made : Row → (row : ℕ) → Record
 made r i = record { kind = pick (r .isLeaf) madeLeafKind madeElementKind; row = i; tag = r .tag; parent = r .parent }
 
+-- a row made, with its record
 abbrev pub withMade : State → Row → State
 withMade s r = state (withRow (s .plan) r) (s .history ++ (made r (count (s .plan)) ∷ []))
 
+-- 10 before 9
 abbrev pub roomFault : (place : ℕ) → State → Fault
 roomFault z s =
     orElse (unless (ltb (count (s .plan)) maxRows) (tableAt z)) (unless (ltb (length (s .history)) maxHistory) (historyAt z))
 
+-- its answer is the new row's number
 abbrev pub newRow : (place : ℕ) → Row → State → Out
 newRow z r s = pick (isFine (roomFault z s)) (gives (count (s .plan) ∷ []) (withMade s r)) (stop (roomFault z s))
 
+-- a row without parent
 abbrev pub loose : (isLeaf : Bool) → (tag : ℕ) → Row
 loose z t = record { isLeaf = z; tag = t; parent = none }
 
--- DELETE cuts each row of its value from its parent, and does nothing to a row without one; its answer is empty
+-- DELETE cuts each row of its value from its parent, and does nothing to a row without one: the record of a link cut
 abbrev pub cutRecord : (row parent : ℕ) → Record
 cutRecord i p = record { kind = cutKind; row = i; tag = 0; parent = some p }
 
+-- a link cut, with its record
 abbrev pub cutRow : State → (row parent : ℕ) → State
 cutRow s i p = state (linked (s .plan) i none) (s .history ++ (cutRecord i p ∷ []))
 
+-- what follows the cut of a row with this parent, or without one
 abbrev pub cutBy : (place row : ℕ) → State → Option ℕ → (State → Out) → Out
 cutBy z i s none next = next s
 cutBy z i s (some p) next = pick (ltb (length (s .history)) maxHistory) (next (cutRow s i p)) (stop (historyAt z))
 
+-- row after row; its answer is empty
 unfoldable pub cutAll : (place : ℕ) → (items : List ℕ) → State → Out
 cutAll z [] s = gives [] s
 cutAll z (i ∷ is) s = cutBy z i s (rowAt (s .plan) i .parent) (λ (t : State). cutAll z is t)
@@ -79,34 +88,42 @@ pub record Copied : Type 0 where
   pub old : ℕ
   pub new : ℕ
 
+-- the copy of a row, if it is copied
 unfoldable pub copyOf : (row : ℕ) → List Copied → Option ℕ
 copyOf i [] = none
 copyOf i (c ∷ cs) = pick (eqb (c .old) i) (some (c .new)) (copyOf i cs)
 
+-- the parent of a copy: the target for the top, else the copy of the parent
 abbrev pub copyParent : (isTop : Bool) → (target : ℕ) → Option ℕ → List Copied → Option ℕ
 copyParent true t p cs = some t
 copyParent false t none cs = none
 copyParent false t (some p) cs = copyOf p cs
 
+-- the copy of a row
 abbrev pub copyRow : Table → (top target row : ℕ) → List Copied → Row
 copyRow x t g i cs = withParent (rowAt x i) (copyParent (eqb i t) g (rowAt x i .parent) cs)
 
+-- the rows below a top, of so many from a row on, in rising number
 abbrev pub descendantsFrom : Table → (top row : ℕ) → ℕ → List ℕ
 descendantsFrom x t i n = collect (isBelow x t) i n
 
+-- the item first and then its descendants in rising number
 abbrev pub subtree : Table → (top : ℕ) → List ℕ
 subtree x t = t ∷ descendantsFrom x t 0 (count x)
 
+-- what follows an update, unless it is refused
 abbrev pub thenRow : Out → (State → Out) → Out
 thenRow (stop x) next = stop x
 thenRow (gives v s) next = next s
 
+-- row after row of one item
 unfoldable pub copyEach : (place : ℕ) → (before : Table) → (top target : ℕ) → (rows : List ℕ) → List Copied → State → Out
 copyEach z x t g [] cs s = gives [] s
 copyEach z x t g (i ∷ is) cs s =
     thenRow (newRow z (copyRow x t g i cs) s)
     (λ (u : State). copyEach z x t g is (record { old = i; new = count (s .plan) } ∷ cs) u)
 
+-- item after item, each from the table before the insert
 unfoldable pub copyAll : (place : ℕ) → (before : Table) → (items : List ℕ) → (target : ℕ) → State → Out
 copyAll z x [] g s = gives [] s
 copyAll z x (i ∷ is) g s = thenRow (copyEach z x i g (subtree x i) [] s) (λ (u : State). copyAll z x is g u)
@@ -121,6 +138,7 @@ abbrev pub joinFor : (place : ℕ) → (sofar : List ℕ) → Out → (List ℕ 
 joinFor z v (stop x) next = stop x
 joinFor z v (gives w s) next = pick (ltb maxItems (length v + length w)) (stop (itemsAt z)) (next (v ++ w) s)
 
+-- item after item, with the results so far
 unfoldable pub loop : (place : ℕ) → (ℕ → State → Out) → (items sofar : List ℕ) → State → Out
 loop z f [] v s = gives v s
 loop z f (i ∷ is) v s = joinFor z v (f i s) (λ (w : List ℕ) (t : State). loop z f is w t)

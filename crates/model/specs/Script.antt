@@ -109,6 +109,7 @@ bodyFits v b =
     (pick (eqb (getD b 0 0) newElementKind) (isIn 1 255 (getD b 1 0))
     (pick (eqb (getD b 0 0) pickKind) (ltb (getD b 1 0) 3) true))))
 
+-- let and for bind a variable
 abbrev pub isBinder : (kind : ℕ) → Bool
 isBinder k = eqb k letKind || eqb k forKind
 
@@ -125,6 +126,7 @@ pub data Parsed : Type 0 where
   ill : Fault → Parsed
   parsed : Expr → (place records : ℕ) → (bytes : List ℕ) → Parsed
 
+-- what follows an expression, unless it is refused
 abbrev pub thenParse : Parsed → (Expr → ℕ → ℕ → List ℕ → Parsed) → Parsed
 thenParse (ill x) next = ill x
 thenParse (parsed e i n b) next = next e i n b
@@ -133,10 +135,12 @@ thenParse (parsed e i n b) next = next e i n b
 abbrev pub one : (ℕ → ℕ → ℕ → List ℕ → Parsed) → (place records bound : ℕ) → (bytes : List ℕ) → (Expr → Expr) → Parsed
 one f i n v b make = thenParse (f i n v b) (λ (e : Expr) (j m : ℕ) (c : List ℕ). parsed (make e) j m c)
 
+-- two operands
 abbrev pub two : (ℕ → ℕ → ℕ → List ℕ → Parsed) → (place records first second : ℕ) → (bytes : List ℕ) → (Expr → Expr → Expr) → Parsed
 two f i n v w b make =
     thenParse (f i n v b) (λ (e : Expr) (j m : ℕ) (c : List ℕ). one f j m w c (make e))
 
+-- three operands
 abbrev pub three : (ℕ → ℕ → ℕ → List ℕ → Parsed) → (place records bound : ℕ) → (bytes : List ℕ) → (Expr → Expr → Expr → Expr) → Parsed
 three f i n v b make =
     thenParse (f i n v b) (λ (e : Expr) (j m : ℕ) (c : List ℕ). two f j m v v c (make e))
@@ -171,6 +175,7 @@ abbrev pub whole : Parsed → Parsed
 whole (ill x) = ill x
 whole (parsed e i n b) = pick (eqb (length b) 0) (parsed e i n b) (ill (tailAt i))
 
+-- a whole script: the outermost expression at depth 1
 abbrev pub readScript : (bytes : List ℕ) → Parsed
 readScript b = whole (parseFrom (maxDepth + 2) 1 0 0 0 b)
 

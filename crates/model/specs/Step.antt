@@ -13,6 +13,7 @@ pub data Letter : Type 0 where
   leafLetter : Letter
   named : ℕ → Letter
 
+-- the letter of a row
 abbrev pub letterOf : Row → Letter
 letterOf r = pick (r .isLeaf) leafLetter (named (r .tag))
 
@@ -30,6 +31,7 @@ unfoldable pub isBelowFrom : ℕ → Table → (top row : ℕ) → Bool
 isBelowFrom zero x t i = false
 isBelowFrom (suc n) x t i = parentIs x t i || through (isBelowFrom n x t) (rowAt x i .parent)
 
+-- a row below another
 abbrev pub isBelow : Table → (top row : ℕ) → Bool
 isBelow x t i = isBelowFrom (suc i) x t i
 
@@ -43,6 +45,7 @@ unfoldable pub collect : (ℕ → Bool) → (row : ℕ) → ℕ → List ℕ
 collect f i zero = []
 collect f i (suc n) = pick (f i) (i ∷ collect f (suc i) n) (collect f (suc i) n)
 
+-- a row that passes the test and that the axis reaches from an item
 abbrev pub isReached : Table → Step → (items : List ℕ) → (row : ℕ) → Bool
 isReached x s v j = admits s (letterOf (rowAt x j)) && any (λ (i : ℕ). reaches x (s .axis) i j) v
 
@@ -50,10 +53,11 @@ isReached x s v j = admits s (letterOf (rowAt x j)) && any (λ (i : ℕ). reache
 abbrev pub stepped : Table → Step → (items : List ℕ) → List ℕ
 stepped x s v = collect (isReached x s v) 0 (count x)
 
--- PICK. Relation: 0 equal, 1 less, 2 greater, on signed values: two's complement with its halves in order
+-- PICK: the order of signed values, two's complement with its halves exchanged
 abbrev pub signedKey : (value : ℕ) → ℕ
 signedKey v = pick (ltb v 128) (v + 128) (v - 128)
 
+-- Relation: 0 equal, 1 less, 2 greater
 abbrev pub relates : (relation constant value : ℕ) → Bool
 relates r c v =
     pick (eqb r 0) (eqb v c) (pick (eqb r 1) (ltb (signedKey v) (signedKey c)) (ltb (signedKey c) (signedKey v)))
@@ -62,5 +66,6 @@ relates r c v =
 abbrev pub isPicked : Table → (relation constant row : ℕ) → Bool
 isPicked x r c i = rowAt x i .isLeaf && relates r c (rowAt x i .tag)
 
+-- the items picked, in order
 abbrev pub picked : Table → (relation constant : ℕ) → (items : List ℕ) → List ℕ
 picked x r c is = filtered (isPicked x r c) is

@@ -26,30 +26,35 @@ markKind = 0x13
 abbrev pub recordSize : ℕ
 recordSize = 4
 
--- two-byte numbers have the low byte first; parent 0xFFFF means none
+-- two-byte numbers have the low byte first
 abbrev pub wordBytes : ℕ → List ℕ
 wordBytes n = n % 256 ∷ n / 256 ∷ []
 
+-- Parent 0xFFFF means none
 abbrev pub parentBytes : Option ℕ → List ℕ
 parentBytes none = 255 ∷ 255 ∷ []
 parentBytes (some p) = wordBytes p
 
--- WRITTEN: rows in number order, then marks with rising document
+-- WRITTEN: a row's record
 abbrev pub rowBytes : Row → List ℕ
 rowBytes r = pick (r .isLeaf) leafKind elementKind ∷ r .tag ∷ parentBytes (r .parent)
 
+-- rows in number order
 unfoldable pub rowsBytes : List Row → List ℕ
 rowsBytes [] = []
 rowsBytes (r ∷ rs) = rowBytes r ++ rowsBytes rs
 
+-- a document that marks no row has no record
 abbrev pub markBytes : (document : ℕ) → Option ℕ → List ℕ
 markBytes d none = []
 markBytes d (some i) = markKind ∷ d ∷ wordBytes i
 
+-- marks with rising document
 unfoldable pub marksBytes : (document : ℕ) → List (Option ℕ) → List ℕ
 marksBytes d [] = []
 marksBytes d (m ∷ ms) = markBytes d m ++ marksBytes (suc d) ms
 
+-- a whole plan
 abbrev pub stored : Table → List ℕ
 stored x = rowsBytes (x .rows) ++ marksBytes 0 (x .marks)
 
@@ -58,6 +63,7 @@ pub data Read : Type 0 where
   bad : Fault → Read
   got : Table → Read
 
+-- the two-byte number at a place
 abbrev pub wordAt : (bytes : List ℕ) → (place : ℕ) → ℕ
 wordAt b i = getD b i 0 + 256 * getD b (i + 1) 0
 
@@ -65,6 +71,7 @@ wordAt b i = getD b i 0 + 256 * getD b (i + 1) 0
 abbrev pub IsWord : Option ℕ → Type 0
 IsWord p = (i : ℕ) → p ≡ some i → i < 65535
 
+-- Parent 0xFFFF means none
 abbrev pub parentIn : (word : ℕ) → Option ℕ
 parentIn w = pick (eqb w 65535) none (some w)
 
@@ -72,6 +79,7 @@ parentIn w = pick (eqb w 65535) none (some w)
 abbrev pub rowIn : (bytes : List ℕ) → Row
 rowIn b = record { isLeaf = eqb (getD b 0 0) leafKind; tag = getD b 1 0; parent = parentIn (wordAt b 2) }
 
+-- the record at the front is a mark
 abbrev pub isMark : (bytes : List ℕ) → Bool
 isMark b = eqb (getD b 0 0) markKind
 
@@ -89,10 +97,11 @@ rowLinks x r = eqb (lastMarked 0 (x .marks)) 0 && parentFits x (count x) (r .par
 abbrev pub markLinks : Table → (document row : ℕ) → Bool
 markLinks x d i = leb (lastMarked 0 (x .marks)) d && isElement x i && not (hasParent (rowAt x i .parent)) && not (isMarked x i)
 
--- 4, then 6, of a row and of a mark at the front
+-- of a row at the front: 4, then 6
 abbrev pub rowFault : Table → (place : ℕ) → (bytes : List ℕ) → Fault
 rowFault x i b = orElse (unless (tagFits (rowIn b)) (fieldAt i)) (unless (rowLinks x (rowIn b)) (linkAt i))
 
+-- of a mark at the front: 4, then 6
 abbrev pub markFault : Table → (place : ℕ) → (bytes : List ℕ) → Fault
 markFault x i b =
     orElse (unless (ltb (getD b 1 0) documents) (fieldAt i)) (unless (markLinks x (getD b 1 0) (wordAt b 2)) (linkAt i))

@@ -7,6 +7,7 @@ use Prim.Native.Nat.{ℕ, zero, suc, _+_}
 use Rattle.model.specs.Base.{pick, bit}
 use Rattle.model.specs.Table.{Row, Table, table, rowAt, isMarked, withParent}
 
+-- a property of the parent, false where there is none
 abbrev pub through : (ℕ → Bool) → Option ℕ → Bool
 through f none = false
 through f (some p) = f p
@@ -16,6 +17,7 @@ unfoldable pub keptFrom : ℕ → Table → (row : ℕ) → Bool
 keptFrom zero x i = false
 keptFrom (suc n) x i = isMarked x i || through (keptFrom n x) (rowAt x i .parent)
 
+-- a row that stays
 abbrev pub isKept : Table → (row : ℕ) → Bool
 isKept x i = keptFrom (suc i) x i
 
@@ -28,17 +30,21 @@ keptBefore x i (suc n) = bit (isKept x i) + keptBefore x (suc i) n
 abbrev pub newNumber : Table → (row : ℕ) → ℕ
 newNumber x i = keptBefore x 0 i
 
+-- a parent or a mark at its new number
 abbrev pub renumbered : Table → Option ℕ → Option ℕ
 renumbered x none = none
 renumbered x (some i) = some (newNumber x i)
 
+-- the rows that stay, with their parents renumbered
 unfoldable pub sweptRows : Table → (row : ℕ) → List Row → List Row
 sweptRows x i [] = []
 sweptRows x i (r ∷ rs) =
     pick (isKept x i) (withParent r (renumbered x (r .parent)) ∷ sweptRows x (suc i) rs) (sweptRows x (suc i) rs)
 
+-- the marks, renumbered
 abbrev pub sweptMarks : Table → List (Option ℕ) → List (Option ℕ)
 sweptMarks x ms = map (renumbered x) ms
 
+-- the table swept
 abbrev pub swept : Table → Table
 swept x = table (sweptRows x 0 (x .rows)) (sweptMarks x (x .marks))

@@ -27,39 +27,49 @@ table rs ms = record { rows = rs; marks = ms }
 abbrev pub empty : Table
 empty = table [] (replicate documents none)
 
+-- what stands for a row that is not there
 abbrev pub noRow : Row
 noRow = record { isLeaf = false; tag = 0; parent = none }
 
+-- the row with a number
 abbrev pub rowAt : Table → (number : ℕ) → Row
 rowAt x i = getD (x .rows) i noRow
 
+-- how many rows there are
 abbrev pub count : Table → ℕ
 count x = length (x .rows)
 
+-- a row of the table that is an element
 abbrev pub isElement : Table → (number : ℕ) → Bool
 isElement x i = ltb i (count x) && not (rowAt x i .isLeaf)
 
+-- a parent, not none
 abbrev pub hasParent : Option ℕ → Bool
 hasParent none = false
 hasParent (some p) = true
 
+-- a parent or a mark is this row
 abbrev pub isThe : ℕ → Option ℕ → Bool
 isThe i none = false
 isThe i (some p) = eqb p i
 
+-- some document marks the row
 abbrev pub isMarked : Table → (row : ℕ) → Bool
 isMarked x i = any (isThe i) (x .marks)
 
--- a row more, a row with another parent, a mark more
+-- a table with a row more
 abbrev pub withRow : Table → Row → Table
 withRow x r = table (x .rows ++ (r ∷ [])) (x .marks)
 
+-- a row with another parent
 abbrev pub withParent : Row → Option ℕ → Row
 withParent r p = record { isLeaf = r .isLeaf; tag = r .tag; parent = p }
 
+-- a table with a row linked to another parent
 abbrev pub linked : Table → (row : ℕ) → (parent : Option ℕ) → Table
 linked x i p = table (set (x .rows) i (withParent (rowAt x i) p)) (x .marks)
 
+-- a table with a mark more
 abbrev pub withMark : Table → (document row : ℕ) → Table
 withMark x d i = table (x .rows) (set (x .marks) d (some i))
 
@@ -71,10 +81,12 @@ tagFits r = pick (r .isLeaf) (leb (r .tag) 255) (isIn 1 255 (r .tag))
 abbrev pub isLowerElement : Table → (number parent : ℕ) → Bool
 isLowerElement x i p = ltb p i && isElement x p
 
+-- none fits
 abbrev pub parentFits : Table → (number : ℕ) → Option ℕ → Bool
 parentFits x i none = true
 parentFits x i (some p) = isLowerElement x i p
 
+-- row after row
 unfoldable pub rowsFit : Table → (number : ℕ) → List Row → Bool
 rowsFit x i [] = true
 rowsFit x i (r ∷ rs) = tagFits r && parentFits x i (r .parent) && rowsFit x (suc i) rs
@@ -94,15 +106,17 @@ noneTwice (some i ∷ ms) = not (any (isThe i) ms) && noneTwice ms
 abbrev pub isTree : Table → Bool
 isTree x = rowsFit x 0 (x .rows) && all (markFits x) (x .marks) && noneTwice (x .marks)
 
+-- Well formed: at most 512 rows, eight documents, and the above holds
 abbrev pub isWell : Table → Bool
 isWell x =
     leb (count x) maxRows && rowsFit x 0 (x .rows) && eqb (length (x .marks)) documents && all (markFits x) (x .marks) &&
     noneTwice (x .marks)
 
--- A parent is an element with a lower number than its child; a root is an element without parent
+-- a parent is an element with a lower number than its child
 abbrev pub ParentLower : Table → ℕ → Row → Type 0
 ParentLower x i r = (p : ℕ) → r .parent ≡ some p → (p < i) × (rowAt x p .isLeaf ≡ false)
 
+-- a root is an element without parent
 abbrev pub IsRoot : Table → ℕ → Type 0
 IsRoot x i = (i < count x) × (rowAt x i .isLeaf ≡ false) × (rowAt x i .parent ≡ none)
 

@@ -21,17 +21,11 @@ pub fn read_plan(bytes: &[u8]) -> TableResult
     if end.number != 0 {
         return results::refused(end.number, end.place, Table::empty());
     }
-    TableResult {
-        fault: Fault {
-            number: 0,
-            place: 0,
-        },
-        table: Table {
-            count: end.count,
-            rows,
-            marks,
-        },
-    }
+    results::accepted(Table {
+        count: end.count,
+        rows,
+        marks,
+    })
 }
 
 // Writes a table in its stored form. 6 before 11; bytes past the stored length stay; refused, nothing is written.

@@ -22,15 +22,9 @@ pub fn sweep_table(table: Table) -> TableResult
     let kept = sweep::rows(&table.rows, &table.marks, count, &mut numbers, &mut rows);
     let mut marks = table.marks;
     sweep::renumber(&mut marks, &numbers);
-    TableResult {
-        fault: Fault {
-            number: 0,
-            place: 0,
-        },
-        table: Table {
-            count: kept,
-            rows,
-            marks,
-        },
-    }
+    results::accepted(Table {
+        count: kept,
+        rows,
+        marks,
+    })
 }

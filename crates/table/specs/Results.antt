@@ -14,7 +14,7 @@ faultOf x = record { number = x .number; place = x .place }
 abbrev pub result : refusal.Fault → model.Table → TableResult
 result f x = record { fault = faultOf f; table = encode x }
 
--- refused, the table given back as it is
+-- a refusal or none, and the table given back as it is
 abbrev pub asItWas : refusal.Fault → Table → TableResult
 asItWas f t = record { fault = faultOf f; table = t }
 

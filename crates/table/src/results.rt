@@ -1,6 +1,6 @@
 // What calls answer that give a table back or write.
 ghost use mathlib.Core.Path.{_≡_};
-ghost use Rattle.model.specs.Refusal.{fault};
+ghost use Rattle.model.specs.Refusal.{fine, fault};
 ghost use Rattle.table.specs.Results.{asItWas, writtenBy};
 use crate::Fault;
 use crate::Table;
@@ -13,6 +13,19 @@ pub fn refused(number: u8, place: usize, table: Table) -> TableResult
 {
     TableResult {
         fault: Fault { number, place },
+        table,
+    }
+}
+
+// Nothing refused, and the table that a call gives.
+pub fn accepted(table: Table) -> TableResult
+    ensures { λ r. ⌜ r ≡ asItWas fine table ⌝ }
+{
+    TableResult {
+        fault: Fault {
+            number: 0,
+            place: 0,
+        },
         table,
     }
 }

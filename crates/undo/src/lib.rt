@@ -35,15 +35,9 @@ pub fn undo(table: Table, history: &[u8]) -> TableResult
         return results::refused(back.number, back.place, table);
     }
     let marks = table.marks;
-    TableResult {
-        fault: Fault {
-            number: 0,
-            place: 0,
-        },
-        table: Table {
-            count: back.count,
-            rows,
-            marks,
-        },
-    }
+    results::accepted(Table {
+        count: back.count,
+        rows,
+        marks,
+    })
 }

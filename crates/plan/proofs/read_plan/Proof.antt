@@ -29,12 +29,16 @@ returns c =
     plan-refused (c10 .args .bytes .now) (c6 .records .last .1 .0) (c6 .records .last .1 .1 .0) (c6 .records .result)
     (c6 .records .ensures) (c1 .empty .result) (c1 .before .if1 .taken) (c1 .empty .ensures)
 
+accepted-requires : tie.Need-accepted-requires
+accepted-requires c κs = search needs
+
 returns-2 : tie.Need-returns-2
 returns-2 c =
-    let c4 = c .before .before .before .before in
-    let c8 = c4 .before .before .before .before in
-    plan-read (c8 .args .bytes .now) (c4 .records .last .1 .0) (c4 .records .last .1 .1 .0) (c4 .records .result) (c4 .records .ensures)
-    (search (c .if1 .left, needs))
+    let c5 = c .before .before .before .before .before in
+    let c9 = c5 .before .before .before .before in
+    c .accepted .ensures ∙
+    plan-read (c9 .args .bytes .now) (c5 .records .last .1 .0) (c5 .records .last .1 .1 .0) (c5 .records .result) (c5 .records .ensures)
+    (search (c .before .if1 .left, needs))
 
 pub read-plan-spec : {M : Type 1} → statement M
 read-plan-spec =
@@ -46,4 +50,5 @@ read-plan-spec =
     empty-requires
     refused-requires
     returns
+    accepted-requires
     returns-2)

@@ -71,16 +71,19 @@ renumber-requires c κs =
           omega (arith, fits-mark (c20 .args .t1 .count) (c20 .args .t1 .rows) (c20 .args .t1 .marks) (fitting c13) w d, fitting c13 .few);
     }
 
+accepted-requires : tie.Need-accepted-requires
+accepted-requires c κs = search needs
+
 returns-2 : tie.Need-returns-2
 returns-2 c =
-    let c7 = c .before .before .before .before .before .before .before in
-    let c15 = c7 .before .before .before .before .before .before .before .before in
-    let c16 = c15 .before in
-    let c22 = c16 .before .before .before .before .before .before in
-    sweep-done (c22 .args .t1) _ (sym (c16 .fits2 .ensures) ∙ not-false (c16 .fits2 .result) (c15 .if1 .left))
-    (encode-swept (c22 .args .t1 .rows) (c22 .args .t1 .marks) (c22 .args .t1 .count) (fitting (c15)) (size (c22) .rows) (c7 .rows2
-    .result) (c7 .rows2 .last .1 .1 .1 .0) (c7 .rows2 .last .1 .1 .1 .1 .0) (c7 .rows2 .ensures) (c .before .renumber .last .0) (c
-    .before .renumber .ensures))
+    let c8 = c .before .before .before .before .before .before .before .before in
+    let c16 = c8 .before .before .before .before .before .before .before .before in
+    let c17 = c16 .before in
+    let c23 = c17 .before .before .before .before .before .before in
+    c .accepted .ensures ∙
+    sweep-done (c23 .args .t1) _ (sym (c17 .fits2 .ensures) ∙ not-false (c17 .fits2 .result) (c16 .if1 .left))
+    (encode-swept (c23 .args .t1 .rows) (c23 .args .t1 .marks) (c23 .args .t1 .count) (fitting (c16)) (size (c23) .rows) (c8 .rows2
+    .result) (c8 .rows2 .last .1 .1 .1 .0) (c8 .rows2 .last .1 .1 .1 .1 .0) (c8 .rows2 .ensures) (c .before .before .renumber .last .0) (c .before .before .renumber .ensures))
 
 pub sweep-table-spec : {M : Type 1} → statement M
 sweep-table-spec =
@@ -95,4 +98,5 @@ sweep-table-spec =
     slice-aggregate-renumber
     slice-aggregate-renumber-2
     renumber-requires
+    accepted-requires
     returns-2)

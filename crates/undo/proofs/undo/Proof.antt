@@ -77,15 +77,19 @@ returns-3 c =
     undo-refused (c24 .args .t1) (c24 .args .history .now) (fitting c16) (c14 .form .ensures) (is-formed c11)
     (c4 .undo-all .ensures) (c .before .if3 .taken)
 
+accepted-requires : tie.Need-accepted-requires
+accepted-requires c κs = search needs
+
 returns-4 : tie.Need-returns-4
 returns-4 c =
-    let c4 = c .before .before .before .before in
-    let c11 = c4 .before .before .before .before .before .before .before in
-    let c14 = c11 .before .before .before in
-    let c16 = c14 .before .before in
-    let c24 = c16 .before .before .before .before .before .before .before .before in
-    undo-done (c24 .args .t1) (c24 .args .history .now) (fitting (c16)) (c14 .form .ensures) (is-formed (c11)) (c4 .undo-all .ensures)
-    (search (c .before .if3 .left, needs)) (c4 .undo-all .kept .0 ∙ size (c24) .rows)
+    let c5 = c .before .before .before .before .before in
+    let c12 = c5 .before .before .before .before .before .before .before in
+    let c15 = c12 .before .before .before in
+    let c17 = c15 .before .before in
+    let c25 = c17 .before .before .before .before .before .before .before .before in
+    c .accepted .ensures ∙
+    undo-done (c25 .args .t1) (c25 .args .history .now) (fitting (c17)) (c15 .form .ensures) (is-formed (c12)) (c5 .undo-all .ensures)
+    (search (c .before .before .if3 .left, needs)) (c5 .undo-all .kept .0 ∙ size (c25) .rows)
 
 pub undo-spec : {M : Type 1} → statement M
 undo-spec =
@@ -103,4 +107,5 @@ undo-spec =
     undo-all-requires
     refused-requires-3
     returns-3
+    accepted-requires
     returns-4)
