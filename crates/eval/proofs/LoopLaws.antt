@@ -9,28 +9,24 @@ use lib.ListN.{length, getD, take}
 use Rattle.model.specs.Base.{pick, nothing}
 use Rattle.model.specs.Limits.{maxItems}
 use Rattle.model.specs.Refusal.{itemsAt}
-use Rattle.model.specs.Script.{isBinder}
 use Rattle.model.specs.Run.{State, Out, stop, gives, andThen, joinItems, joinFor, loop, run, AreRows}
 use Rattle.model.proofs.ValueLaws.{areRows-more}
 use Rattle.model.proofs.All.{all-front, all-back}
 use Rattle.records.specs.Walk.{inner, endAt, exprAt}
-use Rattle.script.proofs.AcceptedLaws.{accepted-record, accepted-at}
 use Rattle.updates.specs.State.{stateOf}
 use Rattle.query.specs.Values.{valueAt}
 use Rattle.updates.specs.declared.state.Progress.{Progress}
-use Rattle.updates.proofs.StateLaws.{after-self}
 use Rattle.operators.specs.Evaluating.{boundValues, InScope, BindPre, BindPost, limitedBy, movedTo, BinaryPre, BinaryPost}
 use Rattle.operators.specs.Evaluating.{EvalPre, EvalPost}
 use Rattle.eval.specs.Loops.{bodyRun, EachPre, EachPost}
+use Rattle.eval.specs.Rests.{forRest, RestPre, RestPost}
 use Rattle.operators.specs.declared.value.Span.{Span}
 use Rattle.operators.specs.declared.record.Evaluated.{Evaluated}
 use Rattle.query.proofs.ValueLaws.{value-none}
 use Rattle.operators.proofs.ValueLaws.{value-same, value-one, value-append}
-use Rattle.operators.proofs.YieldLaws.{yields-as, yields-gives, yields-stop, stop-yields, moved-yields, fine-between, between-then}
-use Rattle.operators.proofs.YieldLaws.{yields-after, limited-yields}
-use Rattle.eval.proofs.OperandLaws.{for-operands}
+use Rattle.operators.proofs.YieldLaws.{yields-as, yields-gives, yields-stop, stop-yields, moved-yields, fine-between, yields-after}
+use Rattle.operators.proofs.YieldLaws.{value-yields, first-kept, pair-asks, limited-yields}
 use Rattle.eval.proofs.ScopeLaws.{marks-more, bound-kept, scope-kept, bound-inside, bound-back, scope-inside}
-use Rattle.eval.proofs.EvalLaws.{first-kept, pair-asks, deep, first-asks, first-stops, run-from}
 
 -- THE LOOP of the model: no item, one, and one part after another
 loop-none : (z : ℕ) (f : ℕ → State → Out) (v : List ℕ) (s : State) → loop z f [] v s ≡ gives v s
@@ -66,78 +62,62 @@ loop-split z f (i ∷ is) js v s = go (loop-split z f is js) (f i s)
     go h (stop x) = refl
     go h (gives w t) = more (ltb maxItems (length v + length w)) (v ++ w) t (h (v ++ w) t)
 
--- A FOR
-module _ {b : List ℕ} {at left n : ℕ} {env : List Span} {ms ws h w : List ℕ} {top : ℕ} {p : Progress}
-    (pre : EvalPre b at left n env ms ws h w top p) (kind : getD b at 0 ≡ 7) where
-  pub for-first : EvalPre b (at + 1) (left - 1) n env ms ws h w top p
-  for-first = first-asks pre (for-operands (pre .accepted) kind .first)
+-- A FOR after its first operand
+module _ {b : List ℕ} {left n : ℕ} {ms ws h w : List ℕ} {top : ℕ} {x : Evaluated} (pre : RestPre b 7 left n ms ws h w top x) where
+  -- no items
+  pub for-none : (at : ℕ) → x .end ≡ top → {r : Evaluated} → r ≡ movedTo (endAt b (x .place)) x →
+      RestPost (forRest b at left) (endAt b (x .place)) n ms ws h w top x ws h w r
+  for-none at e eq =
+      let v : valueAt w top (x .end) ≡ [] = ap (valueAt w top) e ∙ value-none w top in
+      let f = bodyRun b (x .place) left (boundValues w n (x .env)) in
+      yields-as
+      (ap (λ (u : List ℕ). gives u (stateOf ws ms h (x .progress))) v ∙
+      sym (ap (λ (u : List ℕ). loop at f u [] (stateOf ws ms h (x .progress))) v ∙ loop-none at f [] (stateOf ws ms h (x .progress))))
+      refl (moved-yields (endAt b (x .place)) (value-yields (pre .value)) (pre .value .held .fine) eq)
 
-  module _ {ws₁ h₁ w₁ : List ℕ} {x : Evaluated} (ran : EvalPost b (at + 1) (left - 1) n env ms ws h w top p ws₁ h₁ w₁ x) where
-    pub for-stops : (x .progress .number ≡ 0 → ⊥) → EvalPost b at left n env ms ws h w top p ws₁ h₁ w₁ x
-    for-stops = first-stops pre (for-operands (pre .accepted) kind .first) ran
+  pub each-asks : (x .end ≡ top → ⊥) → EachPre b (x .place) left n (x .env) ms ws h w top (x .end) (x .end) (x .end) (x .progress)
+  unfolding inner
+  each-asks some =
+      let v = pre .value in
+      record {
+        accepted = pre .accepted;
+        held = v .held;
+        marks = pre .marks;
+        scope = scope-kept (pre .scope) w (x .env) refl refl (v .spans) (v .order) (omega arith);
+        binder = pre .binder refl;
+        some = omega (arith, v .order, some);
+        items = omega arith;
+        many = v .short;
+        rows = v .rows;
+        order = omega arith;
+        short = omega arith;
+        sofar = subst (AreRows (x .progress .count)) (sym (value-none w (x .end))) nothing;
+        room = omega (arith, pre .room, v .short);
+      }
 
-    module _ (k : x .progress .number ≡ 0) where
-      -- no items
-      pub for-none : x .end ≡ top → {r : Evaluated} → r ≡ movedTo (endAt b (x .place)) x →
-          EvalPost b at left n env ms ws h w top p ws₁ h₁ w₁ r
-      for-none e eq =
-          let o = for-operands (pre .accepted) kind in
-          let v : valueAt w₁ top (x .end) ≡ [] = ap (valueAt w₁ top) e ∙ value-none w₁ top in
-          let f = bodyRun b (x .place) (left - 1) (boundValues w₁ n (x .env)) in
-          yields-as
-          (yields-gives ran k ∙
-          sym (run-from pre (o .first) ran k ∙ ap (λ (u : List ℕ). loop at f u [] (stateOf ws₁ ms h₁ (x .progress))) v ∙
-          loop-none at f [] (stateOf ws₁ ms h₁ (x .progress)) ∙
-          ap (λ (u : List ℕ). gives u (stateOf ws₁ ms h₁ (x .progress))) (sym v)))
-          (ap (endAt b) (ran .fine k .place) ∙ sym (o .ends)) (moved-yields (endAt b (x .place)) ran k eq)
+  module _ (at : ℕ) {ws₁ h₁ w₁ : List ℕ} {y : Evaluated}
+      (ran : EachPost b at (x .place) left n (x .env) ms ws h w top (x .end) (x .end) (x .end) (x .progress) ws₁ h₁ w₁ y) where
+    abbrev items : List ℕ → Out
+    items v = loop at (bodyRun b (x .place) left (boundValues w n (x .env))) (valueAt w top (x .end)) v (stateOf ws ms h (x .progress))
 
-      module _ (some : x .end ≡ top → ⊥) where
-        pub each-asks : EachPre b (x .place) (left - 1) n (x .env) ms ws₁ h₁ w₁ top (x .end) (x .end) (x .end) (x .progress)
-        each-asks =
-            let ok = ran .fine k in
-            record {
-              accepted = accepted-at (ok .place) (for-operands (pre .accepted) kind .second);
-              held = ok .after .held;
-              marks = marks-more (pre .marks) (ok .after .rows);
-              scope = scope-kept (pre .scope) w₁ (x .env) (ok .below) (ok .scope) (ok .spans) (ok .order) (ok .after .rows);
-              binder = accepted-record (pre .accepted) .scope (ap isBinder kind);
-              some = omega (arith, ok .order, some);
-              items = omega arith;
-              many = ok .short;
-              rows = ok .rows;
-              order = omega arith;
-              short = omega arith;
-              sofar = subst (AreRows (x .progress .count)) (sym (value-none w₁ (x .end))) nothing;
-              room = omega (arith, pre .room, deep pre, ok .size, ok .short);
-            }
+    begins : items [] ≡ items (valueAt w (x .end) (x .end))
+    begins = ap items (sym (value-none w (x .end)))
 
-        module _ {ws₂ h₂ w₂ : List ℕ} {y : Evaluated} (ran₂ :
-            EachPost b at (x .place) (left - 1) n (x .env) ms ws₁ h₁ w₁ top (x .end) (x .end) (x .end) (x .progress) ws₂ h₂ w₂ y) where
-          loop-is : run (exprAt left b at) (boundValues w n env) (stateOf ws ms h p) ≡
-              loop at (bodyRun b (x .place) (left - 1) (boundValues w₁ n (x .env))) (valueAt w₁ top (x .end))
-              (valueAt w₁ (x .end) (x .end)) (stateOf ws₁ ms h₁ (x .progress))
-          loop-is =
-              run-from pre (for-operands (pre .accepted) kind .first) ran k ∙
-              ap (λ (v : List ℕ). loop at (bodyRun b (x .place) (left - 1) (boundValues w₁ n (x .env))) (valueAt w₁ top (x .end)) v
-              (stateOf ws₁ ms h₁ (x .progress))) (sym (value-none w₁ (x .end)))
+    pub items-stop : (y .progress .number ≡ 0 → ⊥) → RestPost (forRest b at left) (endAt b (x .place)) n ms ws h w top x ws₁ h₁ w₁ y
+    items-stop k = stop-yields k (begins ∙ yields-stop ran k)
 
-          pub items-stop : (y .progress .number ≡ 0 → ⊥) → EvalPost b at left n env ms ws h w top p ws₂ h₂ w₂ y
-          items-stop l = stop-yields l (loop-is ∙ yields-stop ran₂ l)
+    module _ (k : y .progress .number ≡ 0) where
+      pub close-asks : BinaryPre ws₁ h₁ w₁ top (x .end) y
+      close-asks =
+          let v = pre .value in
+          pair-asks (ran .fine k) top (v .order) (v .short) (v .rows) (omega (arith, pre .room, v .short))
 
-          module _ (l : y .progress .number ≡ 0) where
-            pub close-asks : BinaryPre ws₂ h₂ w₂ top (x .end) y
-            close-asks =
-                let ok = ran .fine k in
-                pair-asks (ran₂ .fine l) top (ok .order) (ok .short) (ok .rows) (omega (arith, pre .room, deep pre, ok .size, ok .short))
-
-            pub close-yields : {ws′ h′ w′ : List ℕ} {r : Evaluated} → BinaryPost 7 at ws₂ h₂ w₂ top (x .end) y ws′ h′ w′ r →
-                EvalPost b at left n env ms ws h w top p ws′ h′ w′ r
-            close-yields post =
-                let ok = ran .fine k in
-                let ok₂ = ran₂ .fine l in
-                yields-after (between-then (fine-between ok) (fine-between ok₂) (ok .order))
-                (yields-as refl (ok₂ .place ∙ ap (endAt b) (ok .place) ∙ sym (for-operands (pre .accepted) kind .ends)) (post n ms))
-                (loop-is ∙ yields-gives ran₂ l) (ok₂ .scope ∙ ok .scope)
+      pub close-yields : {ws′ h′ w′ : List ℕ} {r : Evaluated} → BinaryPost 7 at ws₁ h₁ w₁ top (x .end) y ws′ h′ w′ r →
+          RestPost (forRest b at left) (endAt b (x .place)) n ms ws h w top x ws′ h′ w′ r
+      close-yields post =
+          let ok = ran .fine k in
+          yields-after (fine-between (pre .value .order) ok) (yields-as refl (ok .place) (post n ms)) (begins ∙ yields-gives ran k)
+          (ok .scope)
 
 -- THE REMAINING ITEMS
 module _ {b : List ℕ} {at left n : ℕ} {env : List Span} {ms ws h w : List ℕ} {from to top end : ℕ} {p : Progress}
@@ -205,7 +185,7 @@ module _ {b : List ℕ} {at left n : ℕ} {env : List Span} {ms ws h w : List �
             let ok = ran .fine k in
             let pair = pair-asks ok top (pre .order) (pre .short) (pre .sofar) (omega (arith, pre .room, pre .short)) in
             yields-after
-            (between-then (record { after = after-self (pre .held); size = refl; below = refl }) (fine-between ok) (pre .order))
+            (fine-between (pre .order) ok)
             (yields-as refl (ok .place) (limited-yields pair (omega (arith, ok .short, pre .short, pre .room, ok .size)) z eq))
             (item-is z ∙
             ap (λ (q : Out). andThen q (λ (u : List ℕ) (t : State). joinItems z (valueAt w top end) u t)) (yields-gives ran k) ∙
@@ -285,7 +265,7 @@ module _ {b : List ℕ} {at left n : ℕ} {env : List Span} {ms ws h w : List �
               EachPost b z at left n env ms ws h w from to top end p ws′ h′ w′ r
           rest-yields post =
               let ok = ran .fine k in
-              yields-after (fine-between ok) post
+              yields-after (fine-between (omega arith) ok) post
               (halves ∙
               ap (λ (q : Out). andThen q (λ (v : List ℕ) (t : State). loop z body (valueAt w half to) v t)) (yields-gives ran k) ∙
               ap (λ (is : List ℕ). loop z body is (valueAt w₁ top (x .end)) (stateOf ws₁ ms h₁ (x .progress))) (sym items-kept) ∙

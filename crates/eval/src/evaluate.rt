@@ -1,10 +1,10 @@
 // The evaluator: runs an accepted script in place. The work area is a stack of values; what is below top belongs to the callers.
-ghost use mathlib.Core.Path.{_≡_};
-ghost use lib.ListN.{getD};
 ghost use Rattle.model.specs.Script.{ifKind, forKind};
-ghost use Rattle.records.specs.Walk.{arity};
-ghost use Rattle.operators.specs.Evaluating.{IsBinary, EvalPre, EvalPost};
+ghost use Rattle.records.specs.Walk.{endAt};
+ghost use Rattle.script.specs.Accepted.{Accepted};
+ghost use Rattle.operators.specs.Evaluating.{EvalPre, EvalPost};
 ghost use Rattle.eval.specs.Loops.{EachPre, EachPost};
+ghost use Rattle.eval.specs.Rests.{binaryRest, forRest, ifRest, RestPre, RestPost};
 use operators::record;
 use operators::record::Evaluated;
 use operators::value;
@@ -14,98 +14,69 @@ use records::walk;
 use table::Table;
 use updates::state::Progress;
 
-// A record with one operand.
-fn unary(
-    script: &[u8],
-    at: usize,
-    left: usize,
-    bound: usize,
-    env: [Span; Table::BINDERS],
-    marks: &[u16],
-    rows: &mut [u32],
-    history: &mut [u8],
-    work: &mut [u16],
-    top: usize,
-    p: Progress,
-) -> Evaluated
-    requires { ⌜ EvalPre (now script) at left bound env (now marks) (now rows) (now history) (now work) top p ⌝ }
-    requires { ⌜ arity (getD (now script) at 0) ≡ 1 ⌝ }
-    ensures { λ r. ⌜ EvalPost (now (script .entry)) at left bound env (now (marks .entry)) (now (rows .entry)) (now (history .entry))
-        (now (work .entry)) top p (now (rows .exit)) (now (history .exit)) (now (work .exit)) r ⌝ }
-{
-    let i = at + (1 + kinds::body_size(script[at]));
-    let k = left - 1;
-    let x = eval(script, i, k, bound, env, marks, rows, history, work, top, p);
-    if x.progress.number != 0 {
-        return x;
-    }
-    record::applied(script, at, rows, history, work, top, x)
-}
-
-// A join, an insert or a let: the second value stands behind the first.
+// A join, an insert or a let after its first operand, x: the second value stands behind the first.
 fn binary(
     script: &[u8],
+    kind: u8,
     at: usize,
     left: usize,
     bound: usize,
-    env: [Span; Table::BINDERS],
     marks: &[u16],
     rows: &mut [u32],
     history: &mut [u8],
     work: &mut [u16],
     top: usize,
-    p: Progress,
+    x: Evaluated,
 ) -> Evaluated
-    requires { ⌜ EvalPre (now script) at left bound env (now marks) (now rows) (now history) (now work) top p ⌝ }
-    requires { ⌜ IsBinary (getD (now script) at 0) ⌝ }
-    ensures { λ r. ⌜ EvalPost (now (script .entry)) at left bound env (now (marks .entry)) (now (rows .entry)) (now (history .entry))
-        (now (work .entry)) top p (now (rows .exit)) (now (history .exit)) (now (work .exit)) r ⌝ }
+    requires { ⌜ RestPre (now script) kind left bound (now marks) (now rows) (now history) (now work) top x ⌝ }
+    ensures { λ r. ⌜ RestPost (binaryRest (now (script .entry)) kind at left) (endAt (now (script .entry)) (x .place)) bound
+        (now (marks .entry)) (now (rows .entry)) (now (history .entry)) (now (work .entry)) top x
+        (now (rows .exit)) (now (history .exit)) (now (work .exit)) r ⌝ }
 {
-    let kind = script[at];
-    let i = at + 1;
-    let k = left - 1;
-    let x = eval(script, i, k, bound, env, marks, rows, history, work, top, p);
-    if x.progress.number != 0 {
-        return x;
-    }
     let mid = x.end;
     let scope = x.env;
     let q = x.progress;
     let inside = value::bind(kind, scope, bound, top, mid);
     let j = x.place;
     let n = kinds::inner(kind, bound);
-    let y = eval(script, j, k, n, inside, marks, rows, history, work, mid, q);
+    let y = eval(
+        script,
+        j,
+        left,
+        n,
+        inside,
+        marks,
+        rows,
+        history,
+        work,
+        mid,
+        q,
+    );
     if y.progress.number != 0 {
         return y;
     }
     record::combined(kind, at, rows, history, work, top, mid, y)
 }
 
-// An if: the second operand where the first is not empty, else the third.
+// An if after its first operand, x: the second operand where x is not empty, else the third.
 fn branch(
     script: &[u8],
-    at: usize,
     left: usize,
     bound: usize,
-    env: [Span; Table::BINDERS],
     marks: &[u16],
     rows: &mut [u32],
     history: &mut [u8],
     work: &mut [u16],
     top: usize,
-    p: Progress,
+    x: Evaluated,
 ) -> Evaluated
-    requires { ⌜ EvalPre (now script) at left bound env (now marks) (now rows) (now history) (now work) top p ⌝ }
-    requires { ⌜ getD (now script) at 0 ≡ ifKind ⌝ }
-    ensures { λ r. ⌜ EvalPost (now (script .entry)) at left bound env (now (marks .entry)) (now (rows .entry)) (now (history .entry))
-        (now (work .entry)) top p (now (rows .exit)) (now (history .exit)) (now (work .exit)) r ⌝ }
+    requires { ⌜ RestPre (now script) ifKind left bound (now marks) (now rows) (now history) (now work) top x ⌝ }
+    requires { ⌜ Accepted (now script) (endAt (now script) (x .place)) left bound ⌝ }
+    ensures { λ r. ⌜ RestPost (ifRest (now (script .entry)) left)
+        (endAt (now (script .entry)) (endAt (now (script .entry)) (x .place))) bound
+        (now (marks .entry)) (now (rows .entry)) (now (history .entry)) (now (work .entry)) top x
+        (now (rows .exit)) (now (history .exit)) (now (work .exit)) r ⌝ }
 {
-    let i = at + 1;
-    let k = left - 1;
-    let x = eval(script, i, k, bound, env, marks, rows, history, work, top, p);
-    if x.progress.number != 0 {
-        return x;
-    }
     let scope = x.env;
     let q = x.progress;
     if x.end == top {
@@ -113,7 +84,7 @@ fn branch(
         return eval(
             script,
             j,
-            k,
+            left,
             bound,
             scope,
             marks,
@@ -128,7 +99,7 @@ fn branch(
     let y = eval(
         script,
         j,
-        k,
+        left,
         bound,
         scope,
         marks,
@@ -144,31 +115,24 @@ fn branch(
     record::past(script, y)
 }
 
-// A for: its items stand from top on, its results behind them.
+// A for after its first operand, x: its items stand from top on, its results behind them.
 fn iterate(
     script: &[u8],
     at: usize,
     left: usize,
     bound: usize,
-    env: [Span; Table::BINDERS],
     marks: &[u16],
     rows: &mut [u32],
     history: &mut [u8],
     work: &mut [u16],
     top: usize,
-    p: Progress,
+    x: Evaluated,
 ) -> Evaluated
-    requires { ⌜ EvalPre (now script) at left bound env (now marks) (now rows) (now history) (now work) top p ⌝ }
-    requires { ⌜ getD (now script) at 0 ≡ forKind ⌝ }
-    ensures { λ r. ⌜ EvalPost (now (script .entry)) at left bound env (now (marks .entry)) (now (rows .entry)) (now (history .entry))
-        (now (work .entry)) top p (now (rows .exit)) (now (history .exit)) (now (work .exit)) r ⌝ }
+    requires { ⌜ RestPre (now script) forKind left bound (now marks) (now rows) (now history) (now work) top x ⌝ }
+    ensures { λ r. ⌜ RestPost (forRest (now (script .entry)) at left) (endAt (now (script .entry)) (x .place)) bound
+        (now (marks .entry)) (now (rows .entry)) (now (history .entry)) (now (work .entry)) top x
+        (now (rows .exit)) (now (history .exit)) (now (work .exit)) r ⌝ }
 {
-    let i = at + 1;
-    let k = left - 1;
-    let x = eval(script, i, k, bound, env, marks, rows, history, work, top, p);
-    if x.progress.number != 0 {
-        return x;
-    }
     let mid = x.end;
     let scope = x.env;
     let q = x.progress;
@@ -179,7 +143,7 @@ fn iterate(
         script,
         at,
         x.place,
-        k,
+        left,
         bound,
         scope,
         marks,
@@ -319,62 +283,32 @@ pub fn eval(
             p,
         );
     }
+    let i = at + (1 + kinds::body_size(kind));
+    let k = left - 1;
+    let x = eval(script, i, k, bound, env, marks, rows, history, work, top, p);
+    if x.progress.number != 0 {
+        return x;
+    }
     if operands == 1 {
-        return unary(
-            script,
-            at,
-            left,
-            bound,
-            env,
-            marks,
-            rows,
-            history,
-            work,
-            top,
-            p,
-        );
+        return record::applied(script, at, rows, history, work, top, x);
     }
     if kind == kinds::IF {
-        return branch(
-            script,
-            at,
-            left,
-            bound,
-            env,
-            marks,
-            rows,
-            history,
-            work,
-            top,
-            p,
-        );
+        return branch(script, k, bound, marks, rows, history, work, top, x);
     }
     if kind == kinds::FOR {
-        return iterate(
-            script,
-            at,
-            left,
-            bound,
-            env,
-            marks,
-            rows,
-            history,
-            work,
-            top,
-            p,
-        );
+        return iterate(script, at, k, bound, marks, rows, history, work, top, x);
     }
     binary(
         script,
+        kind,
         at,
-        left,
+        k,
         bound,
-        env,
         marks,
         rows,
         history,
         work,
         top,
-        p,
+        x,
     )
 }

@@ -1,4 +1,4 @@
--- What a part of an expression yields: after an update, past the limit, one part after another, and refused.
+-- What a part of an expression yields: after an update, past the limit, one part after another, refused; its value stands for the next.
 use mathlib.Core.Path.{_≡_, refl, ap, sym, subst, _∙_}
 use mathlib.Core.List.{List}
 use Prim.Native.Nat.{ℕ, _+_, _-_, _≤_, _<_}
@@ -9,15 +9,16 @@ use borrow.Author.Tests.{lt-ltb, le-ltb, ltb-true, ltb-false}
 use Rattle.model.specs.Refusal.{fault}
 use Rattle.model.specs.Run.{State, Out, stop, gives, joinItems, AreRows}
 use Rattle.model.proofs.BoolLaws.{by-cases, pick-true, pick-false, pick-eq, pick-ne, eq-cases}
+use Rattle.model.proofs.ValueLaws.{areRows-more}
 use Rattle.model.proofs.All.{all-append}
 use Rattle.updates.specs.State.{stateOf, outcome, Held, After, Updated}
 use Rattle.query.specs.Values.{valueAt, Appended}
 use Rattle.updates.proofs.StateLaws.{after-self, after-then, outcome-gives, outcome-stop}
 use Rattle.updates.specs.declared.state.Progress.{Progress}
-use Rattle.operators.specs.Evaluating.{endedBy, limitedBy, movedTo, Fine, Yields, BinaryPre}
+use Rattle.operators.specs.Evaluating.{endedBy, limitedBy, movedTo, Fine, Yields, ValuePre, BinaryPre}
 use Rattle.operators.specs.declared.value.Span.{Span}
 use Rattle.operators.specs.declared.record.Evaluated.{Evaluated}
-use Rattle.operators.proofs.ValueLaws.{value-append, length-value, below-same, appended-value, appended-below}
+use Rattle.operators.proofs.ValueLaws.{value-same, value-append, length-value, below-same, appended-value, appended-below}
 use Rattle.operators.proofs.RecordLaws.{limited-few, limited-many}
 
 -- AFTER AN UPDATE f, with the value u written from top on
@@ -115,15 +116,10 @@ pub record Between (ws h w : List ℕ) (top : ℕ) (p : Progress) (ws′ h′ w�
   pub size : length w′ ≡ length w
   pub below : take top w′ ≡ take top w
 
-pub fine-between : {next n : ℕ} {env : List Span} {ws h w : List ℕ} {top : ℕ} {p : Progress} {ws′ h′ w′ : List ℕ} {r : Evaluated} →
-    Fine next n env ws h w top p ws′ h′ w′ r → Between ws h w top p ws′ h′ w′ (r .progress)
-fine-between f = record { after = f .after; size = f .size; below = f .below }
-
-pub between-then : {ws h w : List ℕ} {top : ℕ} {p : Progress} {ws₁ h₁ w₁ : List ℕ} {mid : ℕ} {p₁ : Progress} {ws₂ h₂ w₂ : List ℕ}
-    {p₂ : Progress} → Between ws h w top p ws₁ h₁ w₁ p₁ → Between ws₁ h₁ w₁ mid p₁ ws₂ h₂ w₂ p₂ → top ≤ mid →
-    Between ws h w top p ws₂ h₂ w₂ p₂
-between-then {top = top} {w₁ = w₁} {mid = mid} {w₂ = w₂} a b l =
-    record { after = after-then (a .after) (b .after); size = b .size ∙ a .size; below = below-same w₁ w₂ mid top (b .below) l ∙ a .below }
+pub fine-between : {next n : ℕ} {env : List Span} {ws h w : List ℕ} {top mid : ℕ} {p : Progress} {ws′ h′ w′ : List ℕ} {r : Evaluated} →
+    top ≤ mid → Fine next n env ws h w mid p ws′ h′ w′ r → Between ws h w top p ws′ h′ w′ (r .progress)
+fine-between {w = w} {top = top} {mid = mid} {w′ = w′} l f =
+    record { after = f .after; size = f .size; below = below-same w w′ mid top (f .below) l }
 
 pub yields-after : {goal goal′ : Out} {next n : ℕ} {env env′ : List Span} {ms ws h w : List ℕ} {top : ℕ} {p : Progress}
     {ws₁ h₁ w₁ : List ℕ} {p₁ : Progress} {ws′ h′ w′ : List ℕ} {r : Evaluated} → Between ws h w top p ws₁ h₁ w₁ p₁ →
@@ -146,6 +142,53 @@ yields-after a y e s =
             scope = f .scope ∙ s;
           };
     }
+
+-- A VALUE that stands is yielded as it is
+pub value-yields : {n : ℕ} {ms ws h w : List ℕ} {top : ℕ} {x : Evaluated} → ValuePre ws h w top x →
+    Yields (gives (valueAt w top (x .end)) (stateOf ws ms h (x .progress))) (x .place) n (x .env) ms ws h w top (x .progress) ws h w x
+value-yields {ms = ms} {ws = ws} {h = h} {w = w} {top = top} {x = x} pre =
+    record {
+      same = outcome-gives (x .place) (valueAt w top (x .end)) ws ms h (x .progress) (pre .held .fine);
+      fine = λ k. record {
+        after = after-self (pre .held);
+        size = refl;
+        below = refl;
+        order = pre .order;
+        short = pre .short;
+        rows = pre .rows;
+        place = refl;
+        spans = pre .spans;
+        scope = refl;
+      };
+    }
+
+-- and one that was yielded, from mid on, stands
+module _ {next n : ℕ} {env : List Span} {ws h w : List ℕ} {mid : ℕ} {p : Progress} {ws₁ h₁ w₁ : List ℕ} {y : Evaluated}
+    (fine : Fine next n env ws h w mid p ws₁ h₁ w₁ y) where
+  pub value-asks : mid + 512 ≤ length w → ValuePre ws₁ h₁ w₁ mid y
+  value-asks room =
+      record {
+        held = fine .after .held;
+        order = fine .order;
+        short = fine .short;
+        room = omega (arith, room, fine .size);
+        rows = fine .rows;
+        spans = fine .spans;
+      }
+
+  -- behind a first value, from top on
+  module _ (top : ℕ) (order : top ≤ mid) where
+    pub first-kept : valueAt w₁ top mid ≡ valueAt w top mid
+    first-kept = value-same w w₁ mid top mid (fine .below) (omega arith)
+
+    pub pair-asks : mid ≤ top + 512 → AreRows (p .count) (valueAt w top mid) → mid + 512 ≤ length w → BinaryPre ws₁ h₁ w₁ top mid y
+    pair-asks short rows room =
+        record {
+          value = value-asks room;
+          order = order;
+          short = short;
+          rows = subst (AreRows (y .progress .count)) (sym first-kept) (areRows-more (fine .after .rows) rows);
+        }
 
 -- LIMITED: joined where the first value stands from top and the second from mid
 module _ {ws h w : List ℕ} {top mid : ℕ} {y : Evaluated} (pre : BinaryPre ws h w top mid y) (within : y .end ≤ length w) where

@@ -10,9 +10,9 @@ use lib.ListN.{length, getD, take, drop}
 use Rattle.model.specs.Base.{pick}
 use Rattle.model.specs.Limits.{maxItems, maxBinders, documents}
 use Rattle.model.specs.Refusal.{itemsAt}
-use Rattle.model.specs.Script.{stepBy, nilKind, stepKind, deleteKind, joinKind, insertKind, forKind, pickKind, isBinder, bodySize}
+use Rattle.model.specs.Script.{stepBy, nilKind, stepKind, deleteKind, joinKind, insertKind, pickKind, isBinder, bodySize}
 use Rattle.model.specs.Step.{stepped, picked}
-use Rattle.model.specs.Run.{State, Out, gives, cutAll, joinItems, inserted, loop, run, AreRows, AreValues}
+use Rattle.model.specs.Run.{State, Out, gives, cutAll, joinItems, inserted, run, AreRows, AreValues}
 use Rattle.records.specs.Walk.{arity, inner, withBound, endAt, exprAt}
 use Rattle.script.specs.Accepted.{Accepted}
 use Rattle.updates.specs.State.{stopped, stateOf, outcome, Held, After}
@@ -122,11 +122,6 @@ unaryOf b i v s =
 
 abbrev pub binaryOf : (kind at : ℕ) → (first second : List ℕ) → State → Out
 binaryOf k i v w s = pick (eqb k joinKind) (joinItems i v w s) (pick (eqb k insertKind) (inserted i v w s) (gives w s))
-
--- a join, an insert or a let
-pub record IsBinary (kind : ℕ) : Type 0 where
-  pub two : arity kind ≡ 2
-  pub loop : kind ≡ forKind → ⊥
 
 -- a value that stands from top on
 pub record ValuePre (ws h w : List ℕ) (top : ℕ) (x : Evaluated) : Type 0 where

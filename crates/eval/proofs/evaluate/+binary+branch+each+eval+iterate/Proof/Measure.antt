@@ -1,25 +1,24 @@
--- What falls from call to call: the depth left, and in a loop the items left. What each member is given and may ask, at a measure.
+-- What falls from call to call: the records of the expression, and in a loop the items left. What each member is given and may ask.
 use Prim.Native.Nat.{ℕ, _+_, _*_, _-_, _<_}
 use borrow.Fn.Kinds.{In}
 use borrow.Fn.PlainCycle.{Measures, is, falls, and}
+use Rattle.records.specs.Walk.{endAt}
+use Rattle.eval.proofs.OperandLaws.{recordsAt}
 use Rattle.eval.proofs.evaluate.binary.Reads as binary
 use Rattle.eval.proofs.evaluate.binary.Kinds as binary-kinds
-use Rattle.eval.proofs.evaluate.+binary+branch+each+eval+iterate+unary.Lts-binary as binary-lts
+use Rattle.eval.proofs.evaluate.+binary+branch+each+eval+iterate.Lts-binary as binary-lts
 use Rattle.eval.proofs.evaluate.branch.Reads as branch
 use Rattle.eval.proofs.evaluate.branch.Kinds as branch-kinds
-use Rattle.eval.proofs.evaluate.+binary+branch+each+eval+iterate+unary.Lts-branch as branch-lts
+use Rattle.eval.proofs.evaluate.+binary+branch+each+eval+iterate.Lts-branch as branch-lts
 use Rattle.eval.proofs.evaluate.each.Reads as each
 use Rattle.eval.proofs.evaluate.each.Kinds as each-kinds
-use Rattle.eval.proofs.evaluate.+binary+branch+each+eval+iterate+unary.Lts-each as each-lts
+use Rattle.eval.proofs.evaluate.+binary+branch+each+eval+iterate.Lts-each as each-lts
 use Rattle.eval.proofs.evaluate.eval.Reads as eval
 use Rattle.eval.proofs.evaluate.eval.Kinds as eval-kinds
-use Rattle.eval.proofs.evaluate.+binary+branch+each+eval+iterate+unary.Lts-eval as eval-lts
+use Rattle.eval.proofs.evaluate.+binary+branch+each+eval+iterate.Lts-eval as eval-lts
 use Rattle.eval.proofs.evaluate.iterate.Reads as iterate
 use Rattle.eval.proofs.evaluate.iterate.Kinds as iterate-kinds
-use Rattle.eval.proofs.evaluate.+binary+branch+each+eval+iterate+unary.Lts-iterate as iterate-lts
-use Rattle.eval.proofs.evaluate.unary.Reads as unary
-use Rattle.eval.proofs.evaluate.unary.Kinds as unary-kinds
-use Rattle.eval.proofs.evaluate.+binary+branch+each+eval+iterate+unary.Lts-unary as unary-lts
+use Rattle.eval.proofs.evaluate.+binary+branch+each+eval+iterate.Lts-iterate as iterate-lts
 use Rattle.operators.proofs.record.applied.Reads as applied-reads
 use Rattle.operators.proofs.record.combined.Reads as combined-reads
 use Rattle.operators.proofs.record.limited.Reads as limited-reads
@@ -31,78 +30,92 @@ use Rattle.records.proofs.kinds.body_size.Reads as body-size-reads
 use Rattle.records.proofs.kinds.inner.Reads as inner-reads
 use Rattle.records.proofs.walk.end_at.Reads as end-at-reads
 
+-- a record weighs 2048, more than the 512 items of a loop; the rest of a record weighs its other operands
 abbrev pub μ-binary : Measures 5 binary-kinds.ps ℕ
-μ-binary κs a = 2048 * a .1 .1 .0
+μ-binary κs a =
+    let b = a .0 .now in
+    let left = a .1 .1 .1 .0 in
+    let x = a .1 .1 .1 .1 .1 .1 .1 .1 .1 .1 .0 in
+    2048 * recordsAt left b (x .place) + 2
 
 abbrev pub μ-branch : Measures 5 branch-kinds.ps ℕ
-μ-branch κs a = 2048 * a .1 .1 .0
+μ-branch κs a =
+    let b = a .0 .now in
+    let left = a .1 .0 in
+    let x = a .1 .1 .1 .1 .1 .1 .1 .1 .0 in
+    2048 * (recordsAt left b (x .place) + recordsAt left b (endAt b (x .place))) + 2
 
 abbrev pub μ-each : Measures 5 each-kinds.ps ℕ
-μ-each κs a = 2048 * a .1 .1 .1 .0 + 2 + (a .1 .1 .1 .1 .1 .1 .1 .1 .1 .1 .1 .0 - a .1 .1 .1 .1 .1 .1 .1 .1 .1 .1 .0)
+μ-each κs a =
+    let b = a .0 .now in
+    let at = a .1 .1 .0 in
+    let left = a .1 .1 .1 .0 in
+    let from = a .1 .1 .1 .1 .1 .1 .1 .1 .1 .1 .0 in
+    let to = a .1 .1 .1 .1 .1 .1 .1 .1 .1 .1 .1 .0 in
+    2048 * recordsAt left b at + 2 + (to - from)
 
 abbrev pub μ-eval : Measures 5 eval-kinds.ps ℕ
-μ-eval κs a = 2048 * a .1 .1 .0 + 1
+μ-eval κs a =
+    let b = a .0 .now in
+    let at = a .1 .0 in
+    let left = a .1 .1 .0 in
+    2048 * recordsAt left b at + 1
 
 abbrev pub μ-iterate : Measures 5 iterate-kinds.ps ℕ
-μ-iterate κs a = 2048 * a .1 .1 .0
-
-abbrev pub μ-unary : Measures 5 unary-kinds.ps ℕ
-μ-unary κs a = 2048 * a .1 .1 .0
+μ-iterate κs a =
+    let b = a .0 .now in
+    let left = a .1 .1 .0 in
+    let x = a .1 .1 .1 .1 .1 .1 .1 .1 .1 .0 in
+    2048 * recordsAt left b (x .place) + 1024
 
 abbrev pub binary-at : ℕ → In 5 binary-kinds.ps
 binary-at t = and 5 binary-kinds.ps (is 5 binary-kinds.ps μ-binary t) binary.Pre
 
-abbrev pub binary-below : ℕ → In 5 binary-kinds.ps
+abbrev binary-below : ℕ → In 5 binary-kinds.ps
 binary-below t = and 5 binary-kinds.ps (falls 5 binary-kinds.ps _<_ μ-binary t) binary.Pre
 
 abbrev pub branch-at : ℕ → In 5 branch-kinds.ps
 branch-at t = and 5 branch-kinds.ps (is 5 branch-kinds.ps μ-branch t) branch.Pre
 
-abbrev pub branch-below : ℕ → In 5 branch-kinds.ps
+abbrev branch-below : ℕ → In 5 branch-kinds.ps
 branch-below t = and 5 branch-kinds.ps (falls 5 branch-kinds.ps _<_ μ-branch t) branch.Pre
 
 abbrev pub each-at : ℕ → In 5 each-kinds.ps
 each-at t = and 5 each-kinds.ps (is 5 each-kinds.ps μ-each t) each.Pre
 
-abbrev pub each-below : ℕ → In 5 each-kinds.ps
+abbrev each-below : ℕ → In 5 each-kinds.ps
 each-below t = and 5 each-kinds.ps (falls 5 each-kinds.ps _<_ μ-each t) each.Pre
 
 abbrev pub eval-at : ℕ → In 5 eval-kinds.ps
 eval-at t = and 5 eval-kinds.ps (is 5 eval-kinds.ps μ-eval t) eval.Pre
 
-abbrev pub eval-below : ℕ → In 5 eval-kinds.ps
+abbrev eval-below : ℕ → In 5 eval-kinds.ps
 eval-below t = and 5 eval-kinds.ps (falls 5 eval-kinds.ps _<_ μ-eval t) eval.Pre
 
 abbrev pub iterate-at : ℕ → In 5 iterate-kinds.ps
 iterate-at t = and 5 iterate-kinds.ps (is 5 iterate-kinds.ps μ-iterate t) iterate.Pre
 
-abbrev pub iterate-below : ℕ → In 5 iterate-kinds.ps
+abbrev iterate-below : ℕ → In 5 iterate-kinds.ps
 iterate-below t = and 5 iterate-kinds.ps (falls 5 iterate-kinds.ps _<_ μ-iterate t) iterate.Pre
-
-abbrev pub unary-at : ℕ → In 5 unary-kinds.ps
-unary-at t = and 5 unary-kinds.ps (is 5 unary-kinds.ps μ-unary t) unary.Pre
-
-abbrev pub unary-below : ℕ → In 5 unary-kinds.ps
-unary-below t = and 5 unary-kinds.ps (falls 5 unary-kinds.ps _<_ μ-unary t) unary.Pre
 
 abbrev pub binary-claims : ℕ → binary-lts.Claims
 binary-claims t = (
-  eval-below t,
-  eval.Post,
   bind-reads.Asked,
   bind-reads.Learnt,
   inner-reads.Asked,
   inner-reads.Learnt,
+  eval-below t,
+  eval.Post,
   combined-reads.Asked,
   combined-reads.Learnt,
 )
 
 abbrev pub branch-claims : ℕ → branch-lts.Claims
 branch-claims t = (
-  eval-below t,
-  eval.Post,
   end-at-reads.Asked,
   end-at-reads.Learnt,
+  eval-below t,
+  eval.Post,
   past-reads.Asked,
   past-reads.Learnt,
 )
@@ -125,8 +138,12 @@ eval-claims t = (
   arity-reads.Learnt,
   nullary-reads.Asked,
   nullary-reads.Learnt,
-  unary-below t,
-  unary.Post,
+  body-size-reads.Asked,
+  body-size-reads.Learnt,
+  eval-below t,
+  eval.Post,
+  applied-reads.Asked,
+  applied-reads.Learnt,
   branch-below t,
   branch.Post,
   iterate-below t,
@@ -137,22 +154,10 @@ eval-claims t = (
 
 abbrev pub iterate-claims : ℕ → iterate-lts.Claims
 iterate-claims t = (
-  eval-below t,
-  eval.Post,
   past-reads.Asked,
   past-reads.Learnt,
   each-below t,
   each.Post,
   combined-reads.Asked,
   combined-reads.Learnt,
-)
-
-abbrev pub unary-claims : ℕ → unary-lts.Claims
-unary-claims t = (
-  body-size-reads.Asked,
-  body-size-reads.Learnt,
-  eval-below t,
-  eval.Post,
-  applied-reads.Asked,
-  applied-reads.Learnt,
 )

@@ -5,8 +5,8 @@ use native.Mathlib.Omega.{arith}
 use Rattle.eval.proofs.LoopLaws.{item-asks, body-asks}
 use Rattle.eval.proofs.LoopLaws.{item-stops, limit-asks, item-yields, half-asks, half-stops, rest-asks, rest-yields}
 use Rattle.eval.proofs.evaluate.each.Reads as each
-use Rattle.eval.proofs.evaluate.+binary+branch+each+eval+iterate+unary.Lts-each as each-lts
-use Rattle.eval.proofs.evaluate.+binary+branch+each+eval+iterate+unary.Proof.Measure.{each-claims, each-at}
+use Rattle.eval.proofs.evaluate.+binary+branch+each+eval+iterate.Lts-each as each-lts
+use Rattle.eval.proofs.evaluate.+binary+branch+each+eval+iterate.Proof.Measure.{each-claims, each-at}
 
 pub sub-count : (t : ℕ) → each-lts.Need-sub-count (each-claims t) (each-at t) each.Post
 sub-count t c =
