@@ -5,6 +5,7 @@ use Prim.Native.Nat.{ℕ, _+_, _<_}
 use Rattle.model.specs.Limits.{maxHistory}
 use Rattle.areas.specs.declared.tally.Tally.{Tally}
 
+-- nothing is written yet
 abbrev pub noneYet : Tally
 noneYet = record { made = 0; cut = 0; records = 0 }
 

@@ -24,6 +24,7 @@ writtenCode w = codeOf (w .fault .number) 0 (w .bytes)
 abbrev pub codeUnless : Fault → (which rest : ℕ) → ℕ
 codeUnless f w n = pick (eqb (f .number) 0) n (codeOf (f .number) w (f .place))
 
+-- and the area
 abbrev pub areaUnless : Fault → (rest area : List ℕ) → List ℕ
 areaUnless f b o = pick (eqb (f .number) 0) b o
 
@@ -31,5 +32,6 @@ areaUnless f b o = pick (eqb (f .number) 0) b o
 abbrev pub finishedCode : TableResult → (which : ℕ) → (out : List ℕ) → ℕ
 finishedCode r w o = codeUnless (r .fault) w (writtenCode (planWritten (r .table) o))
 
+-- and the area
 abbrev pub finishedOut : TableResult → (out : List ℕ) → List ℕ
 finishedOut r o = areaUnless (r .fault) (writtenOut (r .table) o) o

@@ -17,6 +17,7 @@ use Rattle.table.specs.declared.TableResult.{TableResult}
 abbrev pub planCode : (plan out : List ℕ) → ℕ
 planCode p o = pick (ltb (length o) outNeed) lentCode (finishedCode (library.planRead p) 1 o)
 
+-- the area after it
 abbrev pub planOut : (plan out : List ℕ) → List ℕ
 planOut p o = pick (ltb (length o) outNeed) o (finishedOut (library.planRead p) o)
 
@@ -24,9 +25,11 @@ planOut p o = pick (ltb (length o) outNeed) o (finishedOut (library.planRead p) 
 abbrev pub sweptPlan : (plan : List ℕ) → TableResult
 sweptPlan p = planSwept (library.planRead p .table)
 
+-- the plan's own refusal, then what the sweep ends with
 abbrev pub sweepCode : (plan out : List ℕ) → ℕ
 sweepCode p o = pick (ltb (length o) outNeed) lentCode (codeUnless (library.planRead p .fault) 1 (finishedCode (sweptPlan p) 1 o))
 
+-- the area after it
 abbrev pub sweepOut : (plan out : List ℕ) → List ℕ
 sweepOut p o = pick (ltb (length o) outNeed) o (areaUnless (library.planRead p .fault) (finishedOut (sweptPlan p) o) o)
 
@@ -34,9 +37,11 @@ sweepOut p o = pick (ltb (length o) outNeed) o (areaUnless (library.planRead p .
 abbrev pub undonePlan : (plan history : List ℕ) → TableResult
 undonePlan p h = planUndone (library.planRead p .table) h
 
+-- the plan's own refusal, then the history's
 abbrev pub undoCode : (plan history out : List ℕ) → ℕ
 undoCode p h o = pick (ltb (length o) outNeed) lentCode (codeUnless (library.planRead p .fault) 1 (finishedCode (undonePlan p h) 2 o))
 
+-- the area after it
 abbrev pub undoOut : (plan history out : List ℕ) → List ℕ
 undoOut p h o = pick (ltb (length o) outNeed) o (areaUnless (library.planRead p .fault) (finishedOut (undonePlan p h) o) o)
 
@@ -44,5 +49,6 @@ undoOut p h o = pick (ltb (length o) outNeed) o (areaUnless (library.planRead p 
 abbrev pub analysisCode : Analysis → ℕ
 analysisCode a = codeOf (valuesOf a .number) (valuesOf a .which) (valuesOf a .place)
 
+-- of the bytes of two scripts
 abbrev pub analyseCode : (first second : List ℕ) → ℕ
 analyseCode b c = analysisCode (analysed b c)

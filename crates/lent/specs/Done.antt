@@ -32,9 +32,11 @@ doneOver i m c r b n d = atFront (i ∷ m ∷ c ∷ r ∷ b ∷ n ∷ []) d
 abbrev pub endCode : RunResult → (out : List ℕ) → ℕ
 endCode r o = codeUnless (r .fault) 2 (codeOf (planWritten (r .table) o .fault .number) 0 0)
 
+-- out after it
 abbrev pub endOut : RunResult → (out : List ℕ) → List ℕ
 endOut r o = areaUnless (r .fault) (writtenOut (r .table) o) o
 
+-- done after it
 abbrev pub endDone : RunResult → (out done : List ℕ) → List ℕ
 endDone r o d =
     areaUnless (r .fault)

@@ -7,6 +7,7 @@ use Rattle.format.specs.Text.{ascii, field, Placed}
 use Rattle.lines.specs.declared.line.Order.{Order}
 use Rattle.lines.specs.declared.line.Order.the-variants.{Stopped, Ended}
 
+-- Every line ends with 0x0A
 abbrev pub newline : List ℕ
 newline = 0x0A ∷ []
 

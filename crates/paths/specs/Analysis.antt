@@ -42,6 +42,7 @@ pub record Values : Type 0 where
 abbrev pub values : (number which place : ℕ) → Values
 values n w i = record { number = n; which = w; place = i }
 
+-- each case's numbers
 abbrev pub valuesOf : Analysis → Values
 valuesOf (Refused s f) = values (f .number) s (f .place)
 valuesOf Free = values 0 0 0

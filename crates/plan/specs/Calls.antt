@@ -12,5 +12,6 @@ abbrev pub readBy : Read → TableResult
 readBy (bad f) = result f model.empty
 readBy (got x) = result refusal.fine x
 
+-- what reading answers
 abbrev pub planRead : (bytes : List ℕ) → TableResult
 planRead b = readBy (readPlan b)

@@ -19,6 +19,7 @@ writeCode n ws ms o =
     (writtenCode (library.planWritten (given n ws ms) o)))
     lentCode
 
+-- the area after it
 abbrev pub writeOut : (count : ℕ) → (rows marks out : List ℕ) → List ℕ
 writeOut n ws ms o = pick (isGiven ws ms) (library.writtenOut (given n ws ms) o) o
 
@@ -26,6 +27,7 @@ writeOut n ws ms o = pick (isGiven ws ms) (library.writtenOut (given n ws ms) o)
 abbrev pub sweptTable : (count : ℕ) → (rows marks : List ℕ) → TableResult
 sweptTable n ws ms = sweeping.planSwept (given n ws ms)
 
+-- the rows left, as the place
 abbrev pub sweptCode : (count : ℕ) → (rows marks : List ℕ) → ℕ
 sweptCode n ws ms =
     pick (isGiven ws ms)
@@ -33,9 +35,11 @@ sweptCode n ws ms =
     (codeOf (sweptTable n ws ms .fault .number) 1 0))
     lentCode
 
+-- the words after it
 abbrev pub rowsLeft : (count : ℕ) → (rows marks : List ℕ) → List ℕ
 rowsLeft n ws ms = pick (isGiven ws ms && eqb (sweptTable n ws ms .fault .number) 0) (sweptTable n ws ms .table .rows) ws
 
+-- the marks after it
 abbrev pub marksLeft : (count : ℕ) → (rows marks : List ℕ) → List ℕ
 marksLeft n ws ms = pick (isGiven ws ms && eqb (sweptTable n ws ms .fault .number) 0) (sweptTable n ws ms .table .marks) ms
 

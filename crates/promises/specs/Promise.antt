@@ -57,6 +57,7 @@ endedCall v t a h w o d =
           (length (t .history)) (length (historyBytes (t .history))) (length (stored (t .plan))) d;
     }
 
+-- a run that ends
 abbrev pub RunDone : Type 0
 RunDone =
     (p s a h w o d : List ℕ) (x : Table) (v : List ℕ) (t : State) → areBytes p ≡ true → areBytes s ≡ true → readPlan p ≡ got x →
@@ -75,6 +76,7 @@ RunRefused =
 abbrev pub planLeft : Called → List ℕ
 planLeft c = take (getD (c .done) 5 0) (c .out)
 
+-- and the history
 abbrev pub historyLeft : Called → List ℕ
 historyLeft c = take (getD (c .done) 4 0) (c .history)
 
@@ -111,6 +113,7 @@ Suffices l =
 abbrev pub runRequest : (plan : List ℕ) → Request → Called
 runRequest p l = runCalled p (l .script) (l .answer) (l .history) (l .work) (l .out) (l .done)
 
+-- on the plan that another's run left
 abbrev pub runAfter : (plan : List ℕ) → (leads follows : Request) → Called
 runAfter p l m = runRequest (planLeft (runRequest p l)) m
 

@@ -49,6 +49,7 @@ pairWritten p b c o =
     (record { fault = faultOf lentShort; bytes = 0 })
     (record { fault = faultOf fine; bytes = length (pairText p b c) })
 
+-- the area after it
 abbrev pub pairOut : (plan first second out : List ℕ) → List ℕ
 pairOut p b c o = pick (ltb (length o) room) o (atFront (pairText p b c) o)
 

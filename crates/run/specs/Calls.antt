@@ -28,6 +28,7 @@ ran t b a h w = inAreas (decode t) a h w (outcomeOf t b)
 abbrev pub tallyOf : Ran → Tally
 tallyOf r = record { made = r .made; cut = r .cut; records = r .records }
 
+-- its refusal, table, lengths and tally
 abbrev pub resultOf : Table → Ran → RunResult
 resultOf t r =
     record {
@@ -38,9 +39,11 @@ resultOf t r =
       tally = tallyOf r;
     }
 
+-- what the call answers
 abbrev pub runResult : Table → (script answer history work : List ℕ) → RunResult
 runResult t b a h w = resultOf t (ran t b a h w)
 
+-- refused before or in the run
 abbrev pub refusedResult : (number place : ℕ) → Table → RunResult
 refusedResult n i t = record { fault = record { number = n; place = i }; table = t; items = 0; bytes = 0; tally = noneYet }
 

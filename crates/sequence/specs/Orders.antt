@@ -17,6 +17,7 @@ abbrev pub endingBy : Table → Out → Ending
 endingBy t (stop f) = record { number = f .number; items = 0; table = t }
 endingBy t (gives v s) = record { number = 0; items = length v; table = encode (s .plan) }
 
+-- a script's bytes run on a table
 unfoldable pub ending : Table → (script : List ℕ) → Ending
 ending t b = endingBy t (outcomeOf t b)
 
@@ -24,9 +25,11 @@ ending t b = endingBy t (outcomeOf t b)
 abbrev pub orderThen : (items : ℕ) → Ending → Order
 orderThen i r = pick (eqb (r .number) 0) (Ended i (r .items) (r .table .count)) (Stopped 2 (r .number))
 
+-- the script that follows, unless the one that leads is refused
 abbrev pub orderFrom : Ending → (follows : List ℕ) → Order
 orderFrom r c = pick (eqb (r .number) 0) (orderThen (r .items) (ending (r .table) c)) (Stopped 1 (r .number))
 
+-- both scripts, one after the other
 unfoldable pub order : Table → (leads follows : List ℕ) → Order
 order t b c = orderFrom (ending t b) c
 

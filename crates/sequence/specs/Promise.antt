@@ -13,6 +13,7 @@ use Rattle.sequence.specs.Orders.{order, swap}
 use Rattle.lines.specs.declared.line.Order.{Order}
 use Rattle.lines.specs.declared.line.Order.the-variants.{Stopped, Ended}
 
+-- no script of the order is refused
 abbrev pub hasEnded : Order → Bool
 hasEnded (Stopped s n) = false
 hasEnded (Ended i j r) = true

@@ -8,9 +8,11 @@ use Rattle.table.specs.declared.Table.{Table}
 use Rattle.table.specs.declared.TableResult.{TableResult}
 use Rattle.table.specs.declared.Written.{Written}
 
+-- a refusal as a call answers it
 abbrev pub faultOf : refusal.Fault → Fault
 faultOf x = record { number = x .number; place = x .place }
 
+-- a refusal or none, and a table in its words
 abbrev pub result : refusal.Fault → model.Table → TableResult
 result f x = record { fault = faultOf f; table = encode x }
 

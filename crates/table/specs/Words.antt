@@ -16,6 +16,7 @@ abbrev pub linkOf : Option ℕ → ℕ
 linkOf none = 0
 linkOf (some p) = p + 1
 
+-- the parent or mark of a link
 abbrev pub linked : ℕ → Option ℕ
 linked n = pick (eqb n 0) none (some (n - 1))
 
@@ -23,24 +24,31 @@ linked n = pick (eqb n 0) none (some (n - 1))
 abbrev pub elementWord : ℕ
 elementWord = 1
 
+-- a leaf's kind in a word
 abbrev pub leafWord : ℕ
 leafWord = 2
 
+-- the kind in a word
 abbrev pub kindIn : (word : ℕ) → ℕ
 kindIn w = w % 4
 
+-- the link in a word
 abbrev pub linkIn : (word : ℕ) → ℕ
 linkIn w = w / 4 % 1024
 
+-- the name or value in a word
 abbrev pub tagIn : (word : ℕ) → ℕ
 tagIn w = w / 4096
 
+-- the word of a row
 abbrev pub wordOf : model.Row → ℕ
 wordOf r = pick (r .isLeaf) leafWord elementWord + 4 * linkOf (r .parent) + 4096 * r .tag
 
+-- the row of a word
 abbrev pub rowOf : ℕ → model.Row
 rowOf w = record { isLeaf = eqb (kindIn w) leafWord; tag = tagIn w; parent = linked (linkIn w) }
 
+-- a word of a row, by its kind
 abbrev pub isRowWord : ℕ → Bool
 isRowWord w = isIn elementWord leafWord (kindIn w)
 
@@ -52,6 +60,7 @@ withLink w l = kindIn w + 4 * l + 4096 * tagIn w
 abbrev pub wordsOf : List model.Row → List ℕ
 wordsOf rs = map wordOf rs ++ replicate (maxRows - lib.ListN.length rs) 0
 
+-- a table in its words
 abbrev pub encode : model.Table → Table
 encode x = record { count = model.count x; rows = wordsOf (x .rows); marks = map linkOf (x .marks) }
 
@@ -59,9 +68,11 @@ encode x = record { count = model.count x; rows = wordsOf (x .rows); marks = map
 abbrev pub rowsOf : (count : ℕ) → (words : List ℕ) → List model.Row
 rowsOf n ws = map rowOf (take n ws)
 
+-- the table of a count, words and marks
 abbrev pub decodeParts : (count : ℕ) → (words marks : List ℕ) → model.Table
 decodeParts n ws ms = model.table (rowsOf n ws) (map linked ms)
 
+-- the table that its words stand for
 abbrev pub decode : Table → model.Table
 decode t = decodeParts (t .count) (t .rows) (t .marks)
 
@@ -73,9 +84,11 @@ Canonical n ws = wordsOf (rowsOf n ws) ≡ ws
 abbrev pub isZero : ℕ → Bool
 isZero w = eqb w 0
 
+-- a count, words and marks fit
 abbrev pub partsFit : (count : ℕ) → (words marks : List ℕ) → Bool
 partsFit n ws ms =
     leb n maxRows && all isRowWord (take n ws) && all isZero (drop n ws) && model.isWell (decodeParts n ws ms)
 
+-- a table fits
 abbrev pub fits : Table → Bool
 fits t = partsFit (t .count) (t .rows) (t .marks)

@@ -22,6 +22,7 @@ abbrev pub undoneBy : Table → Undo → TableResult
 undoneBy t (refused f) = asItWas f t
 undoneBy t (back x) = result refusal.fine x
 
+-- 6 at place 0 for a table that does not fit, else taken back
 abbrev pub planUndone : Table → (history : List ℕ) → TableResult
 planUndone t b = pick (fits t) (undoneBy t (undo (decode t) b)) (asItWas (refusal.linkAt 0) t)
 

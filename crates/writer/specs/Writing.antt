@@ -18,6 +18,7 @@ abbrev pub writeFault : Table → (room : ℕ) → refusal.Fault
 writeFault t n =
     refusal.orElse (refusal.unless (fits t) (refusal.linkAt 0)) (refusal.unless (leb (length (stored (decode t))) n) refusal.lentShort)
 
+-- what writing answers: the refusal, or the bytes written
 abbrev pub planWritten : Table → (out : List ℕ) → Written
 planWritten t o =
     record {
@@ -25,6 +26,7 @@ planWritten t o =
       bytes = pick (refusal.isFine (writeFault t (length o))) (length (stored (decode t))) 0;
     }
 
+-- the area after it
 abbrev pub writtenOut : Table → (out : List ℕ) → List ℕ
 writtenOut t o = pick (refusal.isFine (writeFault t (length o))) (atFront (stored (decode t)) o) o
 
