@@ -1,9 +1,12 @@
 -- The proof of the cycle of calls {expression}: the measure is how deep it may be. Each answer cites one law of ExpressionLaws,
 -- from what is known after the record, after the first operand and after the second.
-use mathlib.Core.Path.{ap}
-use Prim.Native.Nat.{ℕ, _+_, _<_}
+use mathlib.Core.Path.{_≡_, ap}
+use mathlib.Core.List.{List}
+use Prim.Native.Nat.{ℕ, _+_, _-_, _≤_, _<_}
+use lib.ListN.{length}
 use native.Mathlib.Omega.{arith}
 use borrow.Author.Needs.{needs}
+use Rattle.script.specs.Reading.{ExpressionPre}
 use Rattle.script.proofs.ExpressionLaws.{record-refused, Headed, headed, record-fits, record-room, ends-none}
 use Rattle.script.proofs.ExpressionLaws.{FirstRead, first-read, first-refused, ends-first, first-within}
 use Rattle.script.proofs.ExpressionLaws.{SecondRead, second-read, second-refused, ends-second, second-within, ends-third}
@@ -48,6 +51,11 @@ expression-claims t = (
 headed-at : (t : ℕ) (c : expression-lts.Else1 (expression-claims t) (expression-at t) expression.Post) →
     let a = c .before .before .before .before .args in Headed (a .bytes .now) (a .at) (a .left) (a .records) (a .bound)
 headed-at t c = headed (c .before .before .before .before .pre .1) (c .before .head .ensures) (search (c .if1 .left, needs))
+
+-- an operand of the record, one level below
+operand-asks : {b : List ℕ} {at left n v p t : ℕ} → Headed b at left n v → left ≡ t → p ≤ length b →
+    (left - 1 < t) × ExpressionPre b p (left - 1)
+operand-asks h e w = (omega (arith, record-fits h .depth), record { within = w; depth = omega (arith, h .deep) })
 
 -- the first operand was read
 first-at : (t : ℕ) (c : expression-lts.After-expression (expression-claims t) (expression-at t) expression.Post) →
@@ -118,10 +126,9 @@ expression-add-expression t c = omega (arith, record-room (headed-at t (c .befor
 
 expression-expression-requires : (t : ℕ) → expression-lts.Need-expression-requires (expression-claims t) (expression-at t) expression.Post
 expression-expression-requires t c κs =
-    let p = c .before .before .before .before .before .before .before .before .pre in
-    let f = record-fits (headed-at t (c .before .before .before .before)) in
-    let s = c .before .body-size .ensures .0 in
-    (omega (arith, p .0, f .depth), record { within = omega (arith, f .whole, s); depth = omega (arith, p .1 .depth) })
+    let c4 = c .before .before .before .before in
+    let h = headed-at t c4 in
+    operand-asks h (c4 .before .before .before .before .pre .0) (omega (arith, record-fits h .whole, c .before .body-size .ensures .0))
 
 expression-returns-3 : (t : ℕ) → expression-lts.Need-returns-3 (expression-claims t) (expression-at t) expression.Post
 expression-returns-3 t c = first-refused (first-at t (c .before .before)) (c .if3 .taken)
@@ -141,10 +148,10 @@ expression-inner-requires t c κs =
 expression-expression-requires-2 : (t : ℕ) →
     expression-lts.Need-expression-requires-2 (expression-claims t) (expression-at t) expression.Post
 expression-expression-requires-2 t c κs =
-    let p = c .before .before .before .before .before .before .before .before .before .before .before .before .before .pre in
-    let f = first-at t (c .before .before .before .before) in
-    let w = first-within f (search (c .before .before .if3 .left, needs)) in
-    (omega (arith, p .0, record-fits (f .head) .depth), record { within = w; depth = omega (arith, p .1 .depth) })
+    let c4 = c .before .before .before .before in
+    let f = first-at t c4 in
+    operand-asks (f .head) (c4 .before .before .before .before .before .before .before .before .before .pre .0)
+    (first-within f (search (c .before .before .if3 .left, needs)))
 
 expression-returns-5 : (t : ℕ) → expression-lts.Need-returns-5 (expression-claims t) (expression-at t) expression.Post
 expression-returns-5 t c = second-refused (second-at t (c .before .before)) (c .if5 .taken)
@@ -160,11 +167,10 @@ expression-sub-expression-3 t c = record-fits (second-at t (c .before .before .b
 expression-expression-requires-3 : (t : ℕ) →
     expression-lts.Need-expression-requires-3 (expression-claims t) (expression-at t) expression.Post
 expression-expression-requires-3 t c κs =
-    let f = c .before .before .before .before .before .before .before .before in
-    let p = f .before .before .before .before .before .before .before .before .before .pre in
+    let c8 = c .before .before .before .before .before .before .before .before in
     let s = second-at t (c .before .before .before) in
-    let w = second-within s (search (c .before .if5 .left, needs)) in
-    (omega (arith, p .0, record-fits (s .first .head) .depth), record { within = w; depth = omega (arith, p .1 .depth) })
+    operand-asks (s .first .head) (c8 .before .before .before .before .before .before .before .before .before .pre .0)
+    (second-within s (search (c .before .if5 .left, needs)))
 
 expression-returns-7 : (t : ℕ) → expression-lts.Need-returns-7 (expression-claims t) (expression-at t) expression.Post
 expression-returns-7 t c =
