@@ -36,6 +36,10 @@ static const uint8_t twice[] = {0x0C, 0x05, 0x04, 0x00, 0x03, 0x02, 0x02, 0x00, 
                                 0x03, 0x02, 0x02, 0x00, 0x04, 0x00, 0x03, 0x03, 0x02, 0x00};
 static const uint8_t insert_nothing[] = {0x0C, 0x01, 0x02, 0x00};
 static const uint8_t new_element[] = {0x09, 0x04};
+/* delete of children named 2, then a new element into nothing: a link is cut and a row made before the insert, at byte 8, is refused */
+static const uint8_t late_target[] = {0x05, 0x0B, 0x04, 0x00, 0x03, 0x02, 0x02, 0x00, 0x0C, 0x09, 0x05, 0x01};
+/* delete of all children, then a new element, at byte 8: with 512 rows 511 links are cut before that is refused */
+static const uint8_t late_full[] = {0x05, 0x0B, 0x04, 0x00, 0x00, 0x00, 0x02, 0x00, 0x09, 0x04};
 /* the parent of document 0's root */
 static const uint8_t upward[] = {0x04, 0x02, 0x00, 0x00, 0x02, 0x00};
 static const uint8_t empty[] = {0x01};
@@ -260,6 +264,7 @@ static void runs(void) {
         {"delete of the root", ALL(delete_root), 0, 0, nothing, {0, 0, 0, 0}, ALL(plan_p)},
         {"row 1 twice into row 3", ALL(twice), 0, 0, history_twice, {4, 0, 4, 24}, ALL(after_twice)},
         {"the empty script", nothing, 0, CODE(YEGNABIT_SHORT, YEGNABIT_WHICH_SCRIPT, 0), 0, nothing, {0, 0, 0, 0}, nothing, 0},
+        {"refused after changes", ALL(late_target), CODE(YEGNABIT_TARGET, YEGNABIT_WHICH_SCRIPT, 8), 0, nothing, {0, 0, 0, 0}, nothing, 0},
     };
     static const struct run on_refused = {
         "a refused plan", nothing, 0, CODE(YEGNABIT_LINK, YEGNABIT_WHICH_PLAN, 8), 0, nothing, {0, 0, 0, 0}, nothing, 0};
@@ -267,6 +272,7 @@ static void runs(void) {
     static const struct run on_full[] = {
         {"512 rows, nothing inserted", ALL(insert_nothing), 0, 0, nothing, {0, 0, 0, 0}, ALL(full)},
         {"512 rows, a new one", ALL(new_element), CODE(YEGNABIT_TABLE, YEGNABIT_WHICH_SCRIPT, 0), 0, nothing, {0, 0, 0, 0}, nothing, 0},
+        {"512 rows, cuts, a new one", ALL(late_full), CODE(YEGNABIT_TABLE, YEGNABIT_WHICH_SCRIPT, 8), 0, nothing, {0, 0, 0, 0}, nothing, 0},
     };
     size_t i;
 

@@ -5,7 +5,9 @@
 //! - [`raw`]: a table as the words that the C interface passes.
 //! - [`interface`]: the reference behind the same calls as the C interface.
 //! - [`generate`]: plans, scripts and tables, sound and damaged.
+//! - [`cases`]: cases with what document 01 says of each, found by hand.
 
+pub mod cases;
 pub mod generate;
 pub mod interface;
 pub mod raw;

@@ -6,13 +6,15 @@ use std::fs;
 use std::path::{Path, PathBuf};
 use std::process::Command;
 
-use compare::generate::document01::{PLAN_P, SCRIPT_A, SCRIPT_B};
+use compare::generate::document01::{CHILDREN_NAMED_3, PLAN_P, SCRIPT_A, SCRIPT_B};
 use compare::generate::random::Random;
+use compare::generate::runs::{case, Case};
 use compare::generate::{damage, pairs, plans};
 use compare::reference::limits::{FILE_BYTES, ROWS};
 use compare::reference::pair::pair;
 use compare::reference::plan::to_vec;
 use compare::reference::script::kind;
+use compare::reference::table::Table;
 
 /// The environment variable that names the program, and where it is otherwise,
 /// from the folder of this crate.
@@ -35,6 +37,11 @@ enum Entry {
     Folder,
 }
 
+/// A file with these bytes.
+fn file(bytes: &[u8]) -> Entry {
+    Entry::File(bytes.to_vec())
+}
+
 impl Entry {
     /// The bytes that the program has of it.
     fn bytes(&self) -> &[u8] {
@@ -49,7 +56,7 @@ impl Entry {
 struct Program {
     path: PathBuf,
     folder: PathBuf,
-    /// The kinds of line seen.
+    /// The kinds of line and of folder seen.
     seen: BTreeSet<String>,
 }
 
@@ -82,6 +89,7 @@ impl Program {
         }
         let text = String::from_utf8_lossy(&printed);
         self.seen.extend(text.lines().map(kind_of_line));
+        self.seen.extend(refused_alone(&text));
         Ok(())
     }
 
@@ -128,7 +136,18 @@ fn kind_of_line(line: &str) -> String {
     words[..kept].join(" ")
 }
 
-/// Every kind of line that there can be: the folders have to bring all about.
+/// The kind of a folder in which one order only is refused.
+fn refused_alone(text: &str) -> Option<String> {
+    let lines = text.lines();
+    let mut refused = lines.filter_map(|line| Some(line.split_once(" refused ")?.0));
+    match (refused.next(), refused.next()) {
+        (Some(order), None) => Some(format!("{order} refused alone")),
+        _ => None,
+    }
+}
+
+/// Every kind of line that there can be, and each order refused alone: the
+/// random folders have to bring all about.
 fn due() -> BTreeSet<String> {
     let mut due: BTreeSet<String> = ["free", "upward", "meet"]
         .map(|word| format!("answer {word}"))
@@ -139,6 +158,7 @@ fn due() -> BTreeSet<String> {
     }
     for order in ["one-two", "two-one"] {
         due.insert(order.to_string());
+        due.insert(format!("{order} refused alone"));
         for script in [1, 2] {
             due.extend([7, 8, 10].map(|number| format!("{order} refused {script} {number}")));
         }
@@ -151,6 +171,7 @@ pub fn test() -> Result<String, String> {
     let mut program = Program::find()?;
     documents_own(&mut program)?;
     chosen(&mut program)?;
+    program.seen.clear();
     let mut random = Random::new(SEED);
     for _ in 0..RANDOM_FOLDERS {
         program.compare(&random_entries(&mut random))?;
@@ -158,17 +179,16 @@ pub fn test() -> Result<String, String> {
     let seen = &program.seen;
     let due = due();
     if *seen != due {
-        return Err(format!("lines brought about: {seen:?}; due: {due:?}"));
+        return Err(format!("brought about: {seen:?}; due: {due:?}"));
     }
     Ok(format!(
-        "pair: {RANDOM_FOLDERS} random folders, {} kinds of line, no difference\n",
+        "pair: {RANDOM_FOLDERS} random folders, {} kinds of line and folder, no difference\n",
         seen.len()
     ))
 }
 
 /// What document 01 itself says that the program prints.
 fn documents_own(program: &mut Program) -> Result<(), String> {
-    let file = |bytes: &[u8]| Entry::File(bytes.to_vec());
     program.check(
         &[file(&PLAN_P), file(&SCRIPT_A), file(&SCRIPT_B)],
         b"answer free\none-two 1 0 6\ntwo-one 1 0 6\n",
@@ -183,9 +203,24 @@ fn documents_own(program: &mut Program) -> Result<(), String> {
     )
 }
 
-/// Files at the limit of what is read, missing files, refusals that are rare.
+/// Files at the limit of what is read, missing files, refusals that are rare,
+/// and one order refused alone.
 fn chosen(program: &mut Program) -> Result<(), String> {
-    let script = || Entry::File(vec![kind::DOCUMENT, 0]);
+    // Run first, the delete cuts row 3 and leaves B no child named 3: 7. Run
+    // second, it comes after B's rows 4 and 5. Both answers are empty. It
+    // modifies the children named 3, which B traverses: meet.
+    let delete = [&[kind::DELETE][..], &CHILDREN_NAMED_3].concat();
+    let (p, cut, b) = (&PLAN_P[..], &delete[..], &SCRIPT_B[..]);
+    program.check(
+        &[file(p), file(cut), file(b)],
+        b"answer meet\none-two refused 2 7\ntwo-one 0 0 6\n",
+    )?;
+    program.check(
+        &[file(p), file(b), file(cut)],
+        b"answer meet\none-two 0 0 6\ntwo-one refused 1 7\n",
+    )?;
+
+    let script = || file(&[kind::DOCUMENT, 0]);
     let mut random = Random::new(SEED);
     let full = to_vec(&plans::full_table(&mut random));
 
@@ -195,7 +230,7 @@ fn chosen(program: &mut Program) -> Result<(), String> {
         [script(), script(), script()],
         [Entry::Missing, script(), Entry::Folder],
         [Entry::Missing, Entry::Folder, Entry::Missing],
-        [Entry::File(full.clone()), script(), script()],
+        [file(&full), script(), script()],
     ] {
         program.compare(&entries)?;
     }
@@ -206,7 +241,7 @@ fn chosen(program: &mut Program) -> Result<(), String> {
         2 * FILE_BYTES + 7,
     ] {
         for place in 0..3 {
-            let mut entries = [Entry::File(full.clone()), script(), script()];
+            let mut entries = [file(&full), script(), script()];
             let mut bytes = entries[place].bytes().to_vec();
             bytes.resize(length, 0x11);
             entries[place] = Entry::File(bytes);
@@ -218,33 +253,48 @@ fn chosen(program: &mut Program) -> Result<(), String> {
     let all = [kind::STEP, 1, 0, 0, kind::DOCUMENT, 0];
     let many = [&[kind::JOIN][..], &all, &all].concat();
     for refused in [vec![kind::ELEMENT, 4], many] {
-        let refused = || Entry::File(refused.clone());
-        program.compare(&[Entry::File(star.clone()), refused(), script()])?;
-        program.compare(&[Entry::File(star.clone()), script(), refused()])?;
+        program.compare(&[file(&star), file(&refused), script()])?;
+        program.compare(&[file(&star), script(), file(&refused)])?;
     }
     Ok(())
 }
 
 fn random_entries(random: &mut Random) -> [Entry; 3] {
     loop {
-        let rows = if random.chance(10) {
-            plans::row_count(random)
-        } else {
-            random.between(0, 30)
+        let (plan, [first, second]) = match random.below(3) {
+            0 => for_runs(random),
+            _ => for_analyses(random),
         };
-        let shape = plans::Shape {
-            marked: random.choose(&[80, 100]),
-            names: 3,
-            ..plans::Shape::random(random)
-        };
-        let plan = to_vec(&plans::table(random, rows, shape));
-        let scripts = pairs::pair(random);
-        if scripts.iter().any(|script| turns(script, rows) > TURNS) {
-            continue;
+        let rows = plan.rows.len();
+        if turns(&first, rows).max(turns(&second, rows)) <= TURNS {
+            return [to_vec(&plan), first, second].map(|bytes| entry(random, bytes));
         }
-        let [first, second] = scripts;
-        return [plan, first, second].map(|bytes| entry(random, bytes));
     }
+}
+
+/// A plan and two scripts that often change it, as runs have them.
+fn for_runs(random: &mut Random) -> (Table, [Vec<u8>; 2]) {
+    let Case { plan, script } = case(random);
+    let other = case(random).script;
+    match random.chance(50) {
+        true => (plan, [script, other]),
+        false => (plan, [other, script]),
+    }
+}
+
+/// A plan, sometimes nearly full, and two scripts as analyses have them.
+fn for_analyses(random: &mut Random) -> (Table, [Vec<u8>; 2]) {
+    let rows = match random.below(10) {
+        0 => plans::row_count(random),
+        1 => random.between(ROWS - 6, ROWS),
+        _ => random.between(0, 30),
+    };
+    let shape = plans::Shape {
+        marked: random.choose(&[80, 100]),
+        names: 3,
+        ..plans::Shape::random(random)
+    };
+    (plans::table(random, rows, shape), pairs::pair(random))
 }
 
 /// At most about so many turns of loops: the rows, once for each byte that

@@ -111,7 +111,7 @@ pub fn several(bytes: &[u8], random: &mut Random) -> Vec<u8> {
     damaged
 }
 
-/// Bytes without any plan, though often of likely values.
+/// Random bytes, often of likely values.
 pub fn noise(random: &mut Random, longest: usize) -> Vec<u8> {
     let likely = random.chance(50);
     let length = random.between(0, longest);

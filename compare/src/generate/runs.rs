@@ -1,6 +1,7 @@
-//! Plans and scripts for runs that do something: variables used after a
-//! delete, copies of copies, new elements with content, loops that update what
-//! they walk, tables that become full and values that grow too long.
+//! Plans and scripts for runs that do something: rows cut that are there,
+//! variables used after a delete, copies of copies, new elements with content,
+//! loops that update what they walk, tables that become full and values that
+//! grow too long.
 
 use super::coherent::coherent;
 use super::plans::{self, Shape};
@@ -26,10 +27,10 @@ pub struct Case {
 
 /// Any case. Most scripts are accepted, and most of these change the plan.
 pub fn case(random: &mut Random) -> Case {
-    if random.chance(15) {
+    if random.chance(40) {
         return Case {
             plan: one_tree(random),
-            script: growing(random),
+            script: on_one_tree(random),
         };
     }
     let plan = plan(random);
@@ -38,6 +39,17 @@ pub fn case(random: &mut Random) -> Case {
         _ => coherent(random, plan.rows.len()),
     };
     Case { plan, script }
+}
+
+/// A script that grows what is below document 0, cuts some of it, or both.
+fn on_one_tree(random: &mut Random) -> Vec<u8> {
+    let (cut, grow) = (cutting(random), growing(random));
+    match random.below(8) {
+        0 | 1 => grow,
+        2 => [&[kind::JOIN][..], &grow, &cut].concat(),
+        3 => [&[kind::JOIN][..], &cut, &grow].concat(),
+        _ => cut,
+    }
 }
 
 /// A plan most of whose rows are below document 0.
@@ -99,7 +111,7 @@ fn mark_largest(table: &mut Table) {
     table.marks[0] = largest;
 }
 
-/// A script without any plan, with loops that the rows allow.
+/// A script whose parts are not made to fit, with loops that the rows allow.
 fn any_script(random: &mut Random, rows: usize) -> Vec<u8> {
     loop {
         let wanted = Wanted {
@@ -124,6 +136,42 @@ fn growing(random: &mut Random) -> Vec<u8> {
         0 => [vec![kind::JOIN; times], insert.repeat(times + 1)].concat(),
         1 => [vec![kind::JOIN; times], below.repeat(times + 1)].concat(),
         _ => [&[kind::FOR][..], &below, &below].concat(),
+    }
+}
+
+/// Rows below a document are cut from their parents: all at once, one by one,
+/// after others, or bound and then used again, copied or walked from.
+fn cutting(random: &mut Random) -> Vec<u8> {
+    let mut below = || {
+        let test = random.choose(&[0, 0, 1, 2, 3]);
+        let name = if test == 3 {
+            random.between(1, NAMES.into())
+        } else {
+            0
+        };
+        let axis = random.below(2) as u8;
+        [kind::STEP, axis, test, name as u8, kind::DOCUMENT, 0]
+    };
+    let (rows, others) = (below(), below());
+    let variable = [kind::VARIABLE, 0];
+    let delete = |what: &[u8]| [&[kind::DELETE][..], what].concat();
+    let children = [&[kind::STEP, 0, 0, 0][..], &variable].concat();
+    // What a binder does with the rows, or with each of them.
+    let body = match random.below(5) {
+        0 => delete(&variable),
+        1 => delete(&children),
+        2 => [&[kind::JOIN][..], &delete(&variable), &children].concat(),
+        3 => [&[kind::JOIN][..], &delete(&variable), &others].concat(),
+        _ => {
+            let copy = [&[kind::INSERT][..], &variable, &[kind::DOCUMENT, 0]].concat();
+            [&[kind::JOIN][..], &delete(&variable), &copy].concat()
+        }
+    };
+    match random.below(4) {
+        0 => delete(&rows),
+        1 => [&[kind::JOIN][..], &delete(&rows), &delete(&others)].concat(),
+        2 => [&[kind::FOR][..], &rows, &body].concat(),
+        _ => [&[kind::LET][..], &rows, &body].concat(),
     }
 }
 

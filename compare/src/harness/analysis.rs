@@ -12,7 +12,7 @@ use compare::reference::path::{count_at_most, infer, Which};
 use compare::reference::script::{kind, read, Axis, Operation, Test};
 use compare::reference::small_trees::{Seen, SmallTrees};
 
-use super::checker::{difference, Checker};
+use super::checker::{difference, document_says, Checker};
 use super::tally::Call;
 use super::{on_stack, Difference, Volume};
 use crate::ffi;
@@ -79,10 +79,13 @@ fn worked(checker: &mut Checker) -> Result<(), Difference> {
         (never_up, b, Upward),
     ] {
         for [one, two] in [[first, second], [second, first]] {
-            if checker.analyse(one, two)? != Answer::analysed(answer) {
-                let message = format!("document 01 says {}", answer.word());
-                return Err(difference(Call::Analyse, &[one, two], &message));
-            }
+            let analysed = checker.analyse(one, two)?;
+            document_says(
+                Answer::analysed(answer),
+                analysed,
+                Call::Analyse,
+                &[one, two],
+            )?;
         }
     }
     Ok(())
@@ -323,12 +326,8 @@ fn random_small_pairs(checker: &mut Checker, random: &mut Random) -> Result<(), 
     }
     for first in &known {
         for second in &known {
-            tried(checker, &trees, first, second)?;
-            listed(
-                checker.analyse(&first.bytes, &second.bytes)?,
-                &first.bytes,
-                &second.bytes,
-            )?;
+            let answer = tried(checker, &trees, first, second)?;
+            listed(answer, &first.bytes, &second.bytes)?;
         }
     }
     Ok(())
@@ -336,13 +335,13 @@ fn random_small_pairs(checker: &mut Checker, random: &mut Random) -> Result<(), 
 
 /// Compares a pair with what all small trees show. A meeting in one of them
 /// must be told; where they are large enough for each meeting there can be,
-/// it must be told only then.
+/// it must be told only then. Hands back what the analysis answered.
 fn tried(
     checker: &mut Checker,
     trees: &SmallTrees,
     first: &Known,
     second: &Known,
-) -> Result<(), Difference> {
+) -> Result<Answer, Difference> {
     use compare::reference::analysis::Answer::{Free, Meet};
     let answer = checker.analyse(&first.bytes, &second.bytes)?;
     let found = trees.find_meeting(&first.seen, &second.seen);
@@ -356,5 +355,5 @@ fn tried(
             &message,
         ));
     }
-    Ok(())
+    Ok(answer)
 }

@@ -1,8 +1,9 @@
 //! One comparison for each call: the answers, every lent area, and the laws.
 
-use compare::interface::{self, Answer};
+use compare::interface::{self, Answer, WHICH_PLAN};
 use compare::raw::RawTable;
 use compare::reference::limits::PLAN_BYTES;
+use compare::reference::refusal::Refusal;
 
 use super::area::Twin;
 use super::tally::{Call, Tally};
@@ -71,6 +72,14 @@ impl Checker {
             }
         }
         Ok(())
+    }
+
+    /// Compares both on a plan of which document 01 says this refusal.
+    pub fn plan_is_refused(&mut self, plan: &[u8], refusal: Refusal) -> Result<(), Difference> {
+        [Call::Plan, Call::Sweep].into_iter().try_for_each(|call| {
+            let answer = self.stored(call, plan, PLAN_BYTES)?;
+            document_says(Answer::refused(WHICH_PLAN, refusal), answer, call, &[plan])
+        })
     }
 
     /// Compares a call that takes a stored plan and answers one.
@@ -233,6 +242,20 @@ pub fn compare((library, reference): (Answer, Answer)) -> Result<(), Difference>
         return Ok(());
     }
     Err(format!("library {library:?}; reference {reference:?}"))
+}
+
+/// Compares an answer with the one that document 01 says.
+pub fn document_says(
+    expected: Answer,
+    answer: Answer,
+    call: Call,
+    inputs: &[&[u8]],
+) -> Result<(), Difference> {
+    if answer == expected {
+        return Ok(());
+    }
+    let message = format!("document 01 says {expected:?}, not {answer:?}");
+    Err(difference(call, inputs, &message))
 }
 
 /// A message with the inputs in base 16.

@@ -1,5 +1,6 @@
 //! Stored plans: `yegnabit_plan` and `yegnabit_sweep`.
 
+use compare::cases;
 use compare::generate::damage::{self, Values};
 use compare::generate::random::Random;
 use compare::generate::{edges, plans};
@@ -11,11 +12,16 @@ use super::checker::Checker;
 use super::{Difference, Volume};
 
 const SEED: u64 = 0x11;
-/// Random bytes without any plan are at most this long.
+/// Plans of random bytes are at most this long.
 const NOISE: usize = 64;
 
 pub fn test(checker: &mut Checker, volume: Volume) -> Result<(), Difference> {
     let mut random = Random::new(SEED);
+    for case in cases::plans() {
+        checker
+            .plan_is_refused(&case.plan, case.refusal)
+            .map_err(|message| format!("{}: {message}", case.rule))?;
+    }
     for plan in edges::plans() {
         checker.plan(&plan)?;
     }

@@ -11,7 +11,7 @@ use super::{Difference, Volume};
 const SEED: u64 = 0x01;
 /// The longest small scripts of which all are tried.
 const ALL_UP_TO: usize = 4;
-/// Random bytes without any plan are at most this long.
+/// Scripts of random bytes are at most this long.
 const NOISE: usize = 80;
 
 pub fn test(checker: &mut Checker, volume: Volume) -> Result<(), Difference> {

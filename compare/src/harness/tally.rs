@@ -75,9 +75,9 @@ impl Call {
     }
 }
 
-/// The share of a count in a total.
+/// The share of a count in a total, which is 0 if that is.
 pub fn percent(count: u64, total: u64) -> f64 {
-    100.0 * count as f64 / total as f64
+    100.0 * count as f64 / total.max(1) as f64
 }
 
 #[derive(Default)]
@@ -112,13 +112,10 @@ impl Tally {
     }
 
     /// The shares of free, upward and meet among the pairs not refused.
-    fn analysed_percents(&self) -> Vec<f64> {
+    fn analysed_percents(&self) -> [f64; WHICHES] {
         let counts = self.counts[Call::Analyse as usize].map(|numbers| numbers[0]);
-        let total: u64 = counts.iter().sum();
-        if total == 0 {
-            return Vec::new();
-        }
-        counts.map(|count| percent(count, total)).to_vec()
+        let total = counts.iter().sum();
+        counts.map(|count| percent(count, total))
     }
 
     /// A line for a call: inputs, and the share of each number.

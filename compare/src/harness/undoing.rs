@@ -1,9 +1,11 @@
 //! Undo: `yegnabit_undo`.
 
+use compare::cases;
 use compare::generate::damage::{self, Values};
 use compare::generate::histories::{append, long, of_changes, of_run, Recorded};
 use compare::generate::plans;
 use compare::generate::random::Random;
+use compare::interface::{Answer, WHICH_HISTORY};
 use compare::reference::history::{
     Record, CUT_BYTES, ELEMENT_MADE, LEAF_MADE, LINK_CUT, MADE_BYTES,
 };
@@ -13,7 +15,8 @@ use compare::reference::run::OwnedAreas;
 use compare::reference::table::{Row, Table};
 
 use super::area::out_lengths;
-use super::checker::Checker;
+use super::checker::{document_says, Checker};
+use super::tally::Call;
 use super::{Difference, Volume};
 
 const SEED: u64 = 0x41;
@@ -24,6 +27,7 @@ const NOISE: usize = 40;
 
 pub fn test(checker: &mut Checker, volume: Volume) -> Result<(), Difference> {
     let mut random = Random::new(SEED);
+    worked(checker)?;
     small_histories(checker)?;
     limits(checker)?;
     let mut areas = OwnedAreas::default();
@@ -46,6 +50,17 @@ pub fn test(checker: &mut Checker, volume: Volume) -> Result<(), Difference> {
     for _ in 0..volume.of(100_000) {
         let plan = to_vec(&plans::any_table(&mut random));
         checker.undo(&plan, &noise(&mut random))?;
+    }
+    Ok(())
+}
+
+/// Histories that document 01 refuses, with what it says.
+fn worked(checker: &mut Checker) -> Result<(), Difference> {
+    for case in cases::undos() {
+        let expected = Answer::refused(WHICH_HISTORY, case.refusal);
+        let answer = checker.undo(&case.plan, &case.history)?;
+        document_says(expected, answer, Call::Undo, &[&case.plan, &case.history])
+            .map_err(|message| format!("{}: {message}", case.rule))?;
     }
     Ok(())
 }

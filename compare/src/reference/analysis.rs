@@ -1,6 +1,6 @@
 //! The path analysis of two scripts.
 
-use super::meeting::{meet, shortest_chain};
+use super::meeting::meet;
 use super::path::{infer, Inferred, Paths, Which};
 use super::refusal::Refusal;
 use super::script::{self, Script};
@@ -71,18 +71,4 @@ pub fn conflicts<'a>(first: &'a Inferred, second: &'a Inferred) -> [(&'a Paths, 
         (&first.modified, second.traversed()),
         (&second.modified, first.traversed()),
     ]
-}
-
-/// The rows of the smallest plan that shows a meeting, if there is one.
-pub fn smallest_meeting(first: &Inferred, second: &Inferred) -> Option<usize> {
-    conflicts(first, second)
-        .iter()
-        .flat_map(|(modified, traversed)| {
-            modified.iter().flat_map(|left| {
-                traversed
-                    .iter()
-                    .filter_map(|right| shortest_chain(left, right))
-            })
-        })
-        .min()
 }

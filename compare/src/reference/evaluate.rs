@@ -46,7 +46,7 @@ impl Environment {
     }
 }
 
-pub struct Evaluator<'a> {
+struct Evaluator<'a> {
     script: &'a Script,
     table: &'a mut Table,
     stack: &'a mut [u16],

@@ -1,9 +1,9 @@
-//! The history: its records, their bytes, and replaying.
+//! The history: its records and their bytes.
 
 use super::limits::HISTORY_RECORDS;
 use super::plan::{field_of_parent, parent_of_field};
 use super::refusal::{Number, Refusal};
-use super::table::{Kind, Row, Table};
+use super::table::{Kind, Row};
 
 pub const ELEMENT_MADE: u8 = 0x41;
 pub const LEAF_MADE: u8 = 0x42;
@@ -95,22 +95,4 @@ pub fn read(bytes: &[u8]) -> Result<Vec<(usize, Record)>, Refusal> {
 pub fn records(bytes: &[u8]) -> Result<Vec<Record>, Refusal> {
     let records = read(bytes)?;
     Ok(records.into_iter().map(|(_, record)| record).collect())
-}
-
-/// Replays a history on the table that it started from. It must be one that a
-/// run on that table wrote.
-pub fn replay(table: &mut Table, records: &[(usize, Record)]) {
-    for &(_, record) in records {
-        match record {
-            Record::Made { number, row } => {
-                assert_eq!(usize::from(number), table.rows.len(), "a new row is last");
-                table.rows.push(row);
-            }
-            Record::Cut { number, old } => {
-                let row = &mut table.rows[usize::from(number)];
-                assert_eq!(row.parent(), old, "the link is the one that was cut");
-                *row = row.with_parent(None);
-            }
-        }
-    }
 }

@@ -1,7 +1,6 @@
 //! Document 01, implemented from its text alone.
 
 pub mod analysis;
-pub mod brute;
 pub mod evaluate;
 pub mod history;
 pub mod limits;

@@ -32,17 +32,17 @@ pub fn test(checker: &mut Checker, volume: Volume) -> Result<(), Difference> {
     let mut runs = Runs::new(checker);
     worked::test(&mut runs)?;
     deep::test(&mut random, volume)?;
-    for _ in 0..volume.of(40_000) {
+    for _ in 0..volume.of(120_000) {
         let Case { plan, script } = case(&mut random);
         runs.run_and_back(&to_vec(&plan), &script)?;
     }
-    for _ in 0..volume.of(2500) {
+    for _ in 0..volume.of(7500) {
         refused(&mut runs, &mut random)?;
     }
-    for _ in 0..volume.of(40) {
+    for _ in 0..volume.of(120) {
         damaged(&mut runs, &mut random)?;
     }
-    for _ in 0..volume.of(60) {
+    for _ in 0..volume.of(180) {
         lengths(&mut runs, &mut random)?;
     }
     small_scripts(&mut runs)?;

@@ -39,7 +39,7 @@ pub fn test(
     volume: Volume,
 ) -> Result<String, Difference> {
     let mut counts = Counts::default();
-    for _ in 0..volume.of(20_000) {
+    for _ in 0..volume.of(60_000) {
         let plan = plan(random);
         let [first, second] = pair(random, plan.rows.len());
         let free = Answer::analysed(analysis::Answer::Free);

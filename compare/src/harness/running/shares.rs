@@ -10,8 +10,10 @@ use crate::harness::Difference;
 const KINDS: usize = 13;
 /// Each kind is in at least so many of the scripts that ran, in percent.
 const LEAST_OF_A_KIND: f64 = 5.0;
-/// Each end of a run, a change and an answer occurs at least so often.
+/// Each end of a run occurs at least so often.
 const LEAST_OF_AN_END: f64 = 2.0;
+/// An answer, a new row and a cut link occur at least so often.
+const LEAST_OF_A_DEED: f64 = 10.0;
 const ENDS: [(&str, u64); 4] = [("ended", 0), ("target", 7), ("items", 8), ("table", 10)];
 
 #[derive(Default)]
@@ -47,17 +49,19 @@ impl Shares {
         self.cut += u64::from(done[2] > 0);
     }
 
-    /// The share of the runs with each end, and of those that answer or change something.
-    fn of_runs(&self) -> impl Iterator<Item = (&'static str, f64)> {
-        let ends = ENDS.map(|(word, _)| word).into_iter().zip(self.ends);
-        let others = [
-            ("answered", self.answered),
-            ("made", self.made),
-            ("cut", self.cut),
+    /// The share of the runs with each end, and of those that answer or change
+    /// something, and the least that each must be.
+    fn of_runs(&self) -> impl Iterator<Item = (&'static str, f64, f64)> {
+        let ends = ENDS.iter().zip(self.ends);
+        let ends = ends.map(|(&(word, _), count)| (word, count, LEAST_OF_AN_END));
+        let deeds = [
+            ("answered", self.answered, LEAST_OF_A_DEED),
+            ("made", self.made, LEAST_OF_A_DEED),
+            ("cut", self.cut, LEAST_OF_A_DEED),
         ];
         let runs = self.runs;
-        ends.chain(others)
-            .map(move |(word, count)| (word, percent(count, runs)))
+        ends.chain(deeds)
+            .map(move |(word, count, least)| (word, percent(count, runs), least))
     }
 
     /// The share of the scripts that hold each kind of record.
@@ -75,8 +79,8 @@ impl Shares {
                 ));
             }
         }
-        for (word, percent) in self.of_runs() {
-            if percent < LEAST_OF_AN_END {
+        for (word, percent, least) in self.of_runs() {
+            if percent < least {
                 return Err(format!("only {percent:.2}% of the runs are '{word}'"));
             }
         }
@@ -86,7 +90,7 @@ impl Shares {
     /// Two lines for the summary.
     pub fn lines(&self) -> String {
         let mut lines = format!("of {} runs that began", self.runs);
-        for (word, percent) in self.of_runs() {
+        for (word, percent, _) in self.of_runs() {
             write!(lines, ", {word}: {percent:.1}%").expect("a string takes all");
         }
         lines.push_str("\nscripts run that hold a kind:");

@@ -2,12 +2,14 @@
 
 use crate::generate::pairs::{most_deletes, most_paths, most_steps, pair, small, small_scripts};
 use crate::generate::random::Random;
-use crate::reference::analysis::{self, smallest_meeting, Answer};
+use crate::reference::analysis::{self, Answer};
 use crate::reference::limits::SCRIPT_RECORDS;
 use crate::reference::path::{count_at_most, infer, Which};
 use crate::reference::positions;
 use crate::reference::script::{read, Axis, Operation, Test};
 use crate::reference::small_trees::SmallTrees;
+
+use super::meetings::Meetings;
 
 /// Scripts whose paths would be too many to list are left out.
 const MOST_PATHS: u64 = 120;
@@ -38,7 +40,7 @@ fn small_trees_agree_with_sets_of_paths() {
     const ROWS: usize = 4;
     let trees = SmallTrees::new(ROWS);
     let mut random = Random::new(2);
-    let (mut found, mut larger, mut none) = (0, 0, 0);
+    let mut meetings = Meetings::default();
     for _ in 0..1500 {
         let scripts = [(); 2].map(|()| read(&small(&mut random)));
         let [Ok(first), Ok(second)] = scripts else {
@@ -49,23 +51,13 @@ fn small_trees_agree_with_sets_of_paths() {
         }
         let first = infer(&first, Which::First);
         let second = infer(&second, Which::Second);
-        let smallest = smallest_meeting(&first, &second);
-        let expected = smallest.is_some_and(|rows| rows <= ROWS);
         let (one, two) = (trees.seen(&first), trees.seen(&second));
-        assert_eq!(trees.find_meeting(&one, &two), expected);
-        match smallest {
-            Some(_) if expected => found += 1,
-            Some(_) => {
-                assert!(!trees.are_enough(&one, &two));
-                larger += 1;
-            }
-            None => none += 1,
+        let found = trees.find_meeting(&one, &two);
+        if meetings.compare([&first, &second], ROWS, found) {
+            assert!(!trees.are_enough(&one, &two));
         }
     }
-    assert!(
-        found > 100 && larger > 0 && none > 100,
-        "{found} found, {larger} larger, {none} none"
-    );
+    meetings.require_more_than(100);
 }
 
 #[test]

@@ -1,6 +1,9 @@
 //! Tests of the reference. Expected values come from document 01 by hand.
 
+mod brute;
+mod cases;
 mod lent;
+mod meetings;
 mod methods;
 mod paths;
 mod properties;

@@ -1,13 +1,14 @@
 //! Laws on random inputs.
 
+use super::brute::finds_meeting;
+use super::meetings::Meetings;
 use super::*;
 use crate::generate::chains;
 use crate::generate::plans::{any_table, table, Shape};
 use crate::generate::random::Random;
 use crate::generate::scripts::{script, Wanted};
-use crate::reference::analysis::{analyse, smallest_meeting, Answer};
-use crate::reference::brute::finds_meeting;
-use crate::reference::history::replay;
+use crate::reference::analysis::{analyse, Answer};
+use crate::reference::history::Record;
 use crate::reference::limits::ROWS;
 use crate::reference::orders::{orders_are_equal, run_order};
 use crate::reference::path::{count_at_most, infer, Which};
@@ -24,6 +25,23 @@ fn random_table(random: &mut Random, most: usize) -> Table {
         ..Shape::random(random)
     };
     table(random, count, shape)
+}
+
+/// Replays the history of a run on the table that it started from.
+fn replay(table: &mut Table, records: &[Record]) {
+    for &record in records {
+        match record {
+            Record::Made { number, row } => {
+                assert_eq!(usize::from(number), table.rows.len(), "a new row is last");
+                table.rows.push(row);
+            }
+            Record::Cut { number, old } => {
+                let row = &mut table.rows[usize::from(number)];
+                assert_eq!(row.parent(), old, "the link is the one that was cut");
+                *row = row.with_parent(None);
+            }
+        }
+    }
 }
 
 #[test]
@@ -43,7 +61,7 @@ fn histories_replay_and_are_taken_back() {
         ran += 1;
         changed += usize::from(left.table != before);
         assert!(left.table.is_well_formed());
-        let records = history::read(&left.history).unwrap();
+        let records = left.records();
         assert_eq!(records.len(), left.ran.tally.records_written);
         let tally = left.ran.tally;
         assert_eq!(tally.rows_made + tally.links_cut, tally.records_written);
@@ -97,7 +115,7 @@ fn plans_pass_through_reader_and_writer() {
 fn brute_force_agrees_with_the_analysis() {
     const NAMES: [u8; 3] = [1, 2, 3];
     let mut random = Random::new(4);
-    let (mut found, mut larger, mut none) = (0, 0, 0);
+    let mut meetings = Meetings::default();
     for round in 0..400 {
         // Chains of steps need more rows; other scripts have more places.
         let by_chain = round % 2 == 0;
@@ -119,19 +137,10 @@ fn brute_force_agrees_with_the_analysis() {
         }
         let first = infer(&first, Which::First);
         let second = infer(&second, Which::Second);
-        let smallest = smallest_meeting(&first, &second);
-        let expected = smallest.is_some_and(|rows| rows <= size);
-        assert_eq!(finds_meeting(&first, &second, size, &NAMES), expected);
-        match smallest {
-            Some(_) if expected => found += 1,
-            Some(_) => larger += 1,
-            None => none += 1,
-        }
+        let found = finds_meeting(&first, &second, size, &NAMES);
+        meetings.compare([&first, &second], size, found);
     }
-    assert!(
-        found > 80 && larger > 0 && none > 80,
-        "{found} found, {larger} larger, {none} none"
-    );
+    meetings.require_more_than(80);
 }
 
 /// A pair of small scripts and a table to run them on.

@@ -1,11 +1,10 @@
-//! The cases of 'Worked on plan P', and the program `pair`.
+//! The cases of 'Worked on plan P' that are not runs, those at the limits, and
+//! the program `pair`.
 
 use super::*;
 use crate::generate::edges::joins;
 use crate::generate::plans::star;
 use crate::reference::analysis::{analyse, Answer};
-use crate::reference::evaluate::Tally;
-use crate::reference::history::Record;
 use crate::reference::pair::pair;
 use crate::reference::refusal::Number;
 use crate::reference::script;
@@ -28,39 +27,6 @@ fn plan_p_is_read() {
     assert_eq!(table.rows, rows);
     assert_eq!(table.marks[0], Some(0));
     assert!(table.marks[1..].iter().all(Option::is_none));
-}
-
-#[test]
-fn a_answers_row_2() {
-    let left = run_on_p(&SCRIPT_A).unwrap();
-    assert_eq!(left.answer, [2]);
-    assert_eq!(left.table, table_p());
-    assert_eq!(left.ran.tally, Tally::default());
-}
-
-#[test]
-fn the_twin_of_a_answers_nothing() {
-    let mut twin = SCRIPT_A;
-    twin[1] = 2;
-    assert_eq!(run_on_p(&twin).unwrap().answer, []);
-}
-
-#[test]
-fn b_makes_two_rows() {
-    let left = run_on_p(&SCRIPT_B).unwrap();
-    assert_eq!(left.answer, []);
-    let new_rows = [Row::element(4, None), Row::element(4, Some(3))];
-    assert_eq!(left.table.rows[4..], new_rows);
-    let history = [
-        0x41, 0x04, 0x00, 0x04, 0xFF, 0xFF, 0x41, 0x05, 0x00, 0x04, 0x03, 0x00,
-    ];
-    assert_eq!(left.history, history);
-    let tally = Tally {
-        rows_made: 2,
-        links_cut: 0,
-        records_written: 2,
-    };
-    assert_eq!(left.ran.tally, tally);
 }
 
 #[test]
@@ -93,49 +59,6 @@ fn an_upward_step_is_upward_even_where_it_never_runs() {
     let never = [0x08, 0x01, 0x04, 0x02, 0x00, 0x00, 0x01, 0x01];
     assert_eq!(analyse(&never, &[0x01]), Ok(Answer::Upward));
     assert_eq!(analyse(&[0x01], &never), Ok(Answer::Upward));
-}
-
-#[test]
-fn what_is_bound_stays_bound_after_a_delete() {
-    for axis in [0, 1] {
-        let body = [0x05, 0x0B, 0x03, 0x00, 0x04, axis, 0x02, 0x00, 0x03, 0x00];
-        let script = [&[0x06][..], &CHILDREN_NAMED_2, &body].concat();
-        let left = run_on_p(&script).unwrap();
-        assert_eq!(left.answer, [2]);
-        let cut = Record::Cut {
-            number: 1,
-            old: Some(0),
-        };
-        assert_eq!(left.records(), [cut]);
-    }
-}
-
-#[test]
-fn delete_of_the_root_writes_no_record() {
-    let left = run_on_p(&[0x0B, 0x02, 0x00]).unwrap();
-    assert_eq!(left.history, []);
-    assert_eq!(left.ran.tally, Tally::default());
-    assert_eq!(left.table, table_p());
-}
-
-#[test]
-fn insert_of_row_1_twice() {
-    let script = [
-        &[0x0C, 0x05][..],
-        &CHILDREN_NAMED_2,
-        &CHILDREN_NAMED_2,
-        &CHILDREN_NAMED_3,
-    ]
-    .concat();
-    let left = run_on_p(&script).unwrap();
-    let new_rows = [
-        Row::element(2, Some(3)),
-        Row::leaf(-2, Some(4)),
-        Row::element(2, Some(3)),
-        Row::leaf(-2, Some(6)),
-    ];
-    assert_eq!(left.table.rows[4..], new_rows);
-    assert_eq!(left.answer, []);
 }
 
 #[test]

@@ -3,10 +3,10 @@
 
 use std::collections::BTreeSet;
 
-use super::analysis::conflicts;
-use super::path::{Inferred, Path, Paths, Place};
-use super::script::Axis;
-use super::table::Row;
+use crate::reference::analysis::conflicts;
+use crate::reference::path::{Inferred, Path, Paths, Place};
+use crate::reference::script::Axis;
+use crate::reference::table::Row;
 
 /// A set of rows of a small plan, one bit for each.
 type Rows = u32;
