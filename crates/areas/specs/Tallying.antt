@@ -1,7 +1,7 @@
 -- The tally of a run: document 01's "One tally follows a run: rows made, links cut, records written". Assumes nothing: these are
 -- definitions.
 use mathlib.Core.Path.{_≡_}
-use Prim.Native.Nat.{ℕ, _+_, _<_}
+use Prim.Native.Nat.{_+_, _<_}
 use Rattle.model.specs.Limits.{maxHistory}
 use Rattle.areas.specs.declared.tally.Tally.{Tally}
 

@@ -20,12 +20,12 @@ lentCode = codeOf 11 0 0
 abbrev pub writtenCode : Written → ℕ
 writtenCode w = codeOf (w .fault .number) 0 (w .bytes)
 
--- A REFUSAL, of which `which` says whose it is, and an area as it was; or what else is answered and left
+-- A REFUSAL, of which `which` says whose it is, or what else is answered
 abbrev pub codeUnless : Fault → (which rest : ℕ) → ℕ
 codeUnless f w n = pick (eqb (f .number) 0) n (codeOf (f .number) w (f .place))
 
--- and the area
-abbrev pub areaUnless : Fault → (rest area : List ℕ) → List ℕ
+-- and what an area is left with: the rest, or where something is refused what is kept
+abbrev pub areaUnless : Fault → (rest kept : List ℕ) → List ℕ
 areaUnless f b o = pick (eqb (f .number) 0) b o
 
 -- THE END of a call that gives a table: its refusal, or the table written

@@ -7,10 +7,10 @@ use lib.Dec.{ltb}
 use lib.ListN.{length}
 use Rattle.model.specs.Base.{atFront}
 use Rattle.model.specs.Limits.{maxRows, documents, answerNeed, historyNeed, workNeed}
-use Rattle.writer.specs.Writing.{planWritten, writtenOut}
+use Rattle.writer.specs.Writing.{planWritten}
 use Rattle.table.specs.Words.{fits}
 use Rattle.run.specs.declared.RunResult.{RunResult}
-use Rattle.codes.specs.Codes.{codeOf, codeUnless, areaUnless}
+use Rattle.codes.specs.Codes.{codeOf, codeUnless, areaUnless, finishedOut}
 
 -- what out needs, 2,080: four bytes for each row and mark of the longest plan
 abbrev pub outNeed : ℕ
@@ -34,7 +34,7 @@ endCode r o = codeUnless (r .fault) 2 (codeOf (planWritten (r .table) o .fault .
 
 -- out after it
 abbrev pub endOut : RunResult → (out : List ℕ) → List ℕ
-endOut r o = areaUnless (r .fault) (writtenOut (r .table) o) o
+endOut r o = finishedOut (record { fault = r .fault; table = r .table }) o
 
 -- done after it
 abbrev pub endDone : RunResult → (out done : List ℕ) → List ℕ

@@ -124,7 +124,7 @@ abbrev pub RefusedKeeps : Type 0
 RefusedKeeps =
     (x : Table) (b a h w : List ℕ) → isFine (runCall x b a h w .fault) ≡ false → runCall x b a h w .plan ≡ x
 
--- DEMAND 3 on the calls: two scripts that the analysis calls free, a well-formed table, and areas of the stated lengths for each script
+-- DEMAND 3 on the calls: both calls of an order are not refused
 abbrev pub callsEnd : (first second : Ran) → Bool
 callsEnd r s = isFine (r .fault) && isFine (s .fault)
 
@@ -155,7 +155,7 @@ EitherOrder b c x a h w a′ h′ w′ =
     OrdersAgree x (runCall x b a h w) (runCall (runCall x b a h w .plan) c a′ h′ w′) (runCall x c a′ h′ w′)
     (runCall (runCall x c a′ h′ w′ .plan) b a h w)
 
--- free scripts commute as calls
+-- two scripts that the analysis calls free, a well-formed table, and areas of the stated lengths for each script
 abbrev pub CallsCommute : Type 0
 CallsCommute =
     (b c : List ℕ) (x : Table) (a h w a′ h′ w′ : List ℕ) → areBytes b ≡ true → areBytes c ≡ true → analyse b c ≡ answered free →

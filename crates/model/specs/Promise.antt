@@ -106,7 +106,7 @@ FreeMeans =
     ((answer e f ≡ upward) ↔ ((hasUp e || hasUp f) ≡ true)) × (answer e f ≡ free → NeverTouched e f) ×
     (answer e f ≡ meet → SomewhereTouched e f)
 
--- DEMAND 3, the two orders: what a run leaves
+-- DEMAND 3, the two orders: what a run leaves if it ends; of a refused one these are empty, and no promise looks at them
 abbrev pub tableOf : Out → Table
 tableOf (stop x) = empty
 tableOf (gives v s) = s .plan

@@ -26,7 +26,7 @@ pub data Out : Type 0 where
   stop : Fault → Out
   gives : (items : List ℕ) → State → Out
 
--- VALUES: rows of a table that has so many; and the values of variables
+-- VALUES: rows of a table that has so many
 abbrev pub AreRows : (rows : ℕ) → List ℕ → Type 0
 AreRows n = All (λ (i : ℕ). i < n)
 
@@ -56,7 +56,7 @@ abbrev pub roomFault : (place : ℕ) → State → Fault
 roomFault z s =
     orElse (unless (ltb (count (s .plan)) maxRows) (tableAt z)) (unless (ltb (length (s .history)) maxHistory) (historyAt z))
 
--- its answer is the new row's number
+-- a new row; the answer is its number
 abbrev pub newRow : (place : ℕ) → Row → State → Out
 newRow z r s = pick (isFine (roomFault z s)) (gives (count (s .plan) ∷ []) (withMade s r)) (stop (roomFault z s))
 

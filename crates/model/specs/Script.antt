@@ -131,11 +131,11 @@ abbrev pub thenParse : Parsed → (Expr → ℕ → ℕ → List ℕ → Parsed)
 thenParse (ill x) next = ill x
 thenParse (parsed e i n b) next = next e i n b
 
--- operands one after another; the second of two may bind one variable more
+-- one operand
 abbrev pub one : (ℕ → ℕ → ℕ → List ℕ → Parsed) → (place records bound : ℕ) → (bytes : List ℕ) → (Expr → Expr) → Parsed
 one f i n v b make = thenParse (f i n v b) (λ (e : Expr) (j m : ℕ) (c : List ℕ). parsed (make e) j m c)
 
--- two operands
+-- two operands, one after the other; the second may bind one variable more
 abbrev pub two : (ℕ → ℕ → ℕ → List ℕ → Parsed) → (place records first second : ℕ) → (bytes : List ℕ) → (Expr → Expr → Expr) → Parsed
 two f i n v w b make =
     thenParse (f i n v b) (λ (e : Expr) (j m : ℕ) (c : List ℕ). one f j m w c (make e))

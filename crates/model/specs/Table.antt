@@ -81,7 +81,7 @@ tagFits r = pick (r .isLeaf) (leb (r .tag) 255) (isIn 1 255 (r .tag))
 abbrev pub isLowerElement : Table → (number parent : ℕ) → Bool
 isLowerElement x i p = ltb p i && isElement x p
 
--- none fits
+-- a parent fits: none, or a lower element
 abbrev pub parentFits : Table → (number : ℕ) → Option ℕ → Bool
 parentFits x i none = true
 parentFits x i (some p) = isLowerElement x i p

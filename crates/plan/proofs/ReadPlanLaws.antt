@@ -12,12 +12,12 @@ use Rattle.plan.specs.Calls.{readBy, planRead}
 use Rattle.table.specs.declared.Table.{Table}
 use Rattle.reader.specs.declared.read.PlanEnd.{PlanEnd}
 use Rattle.table.proofs.WordLaws.{encode-decode}
-use Rattle.table.specs.Results.{asItWas}
+use Rattle.table.specs.Results.{withTable}
 
 module _ (b ws ms : List ℕ) (r : PlanEnd) (post : ReadPost b ws ms r) where
-  pub plan-refused : (t : Table) → (r .number ≡ 0 → ⊥) → t ≡ encode model.empty → asItWas (fault (r .number) (r .place)) t ≡ planRead b
+  pub plan-refused : (t : Table) → (r .number ≡ 0 → ⊥) → t ≡ encode model.empty → withTable (fault (r .number) (r .place)) t ≡ planRead b
   plan-refused t z e =
-      ap (asItWas (fault (r .number) (r .place))) e ∙
+      ap (withTable (fault (r .number) (r .place))) e ∙
       ap readBy
       (sym (pick-ne (got (decodeParts (r .count) ws ms)) (bad (fault (r .number) (r .place))) z) ∙ post .result)
 

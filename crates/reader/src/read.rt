@@ -23,7 +23,7 @@ pub struct PlanEnd {
 }
 
 // A stored row's kind is the kind in its word and this.
-const KINDS: u32 = 0x10;
+const KIND_BASE: u32 = 0x10;
 
 // The row at the front of s: its refusal's number, or 0 and the table has it.
 fn row(s: &[u8], rows: &mut [u32], count: usize, last: usize) -> u8
@@ -42,7 +42,7 @@ fn row(s: &[u8], rows: &mut [u32], count: usize, last: usize) -> u8
     }
     let parent = number::number_at(s, 2);
     if parent == number::NONE {
-        rows[count] = words::word(number::wide(kind) - KINDS, 0, number::wide(tag));
+        rows[count] = words::word(number::wide(kind) - KIND_BASE, 0, number::wide(tag));
         return 0;
     }
     if count <= parent {
@@ -52,7 +52,7 @@ fn row(s: &[u8], rows: &mut [u32], count: usize, last: usize) -> u8
         return Fault::LINK;
     }
     rows[count] = words::word(
-        number::wide(kind) - KINDS,
+        number::wide(kind) - KIND_BASE,
         (parent + 1) as u32,
         number::wide(tag),
     );

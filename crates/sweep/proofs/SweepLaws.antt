@@ -26,7 +26,7 @@ use Rattle.table.proofs.FittedLaws.{Fits, fits-mark}
 use Rattle.model.proofs.SweepLaws.{newNumber-zero, newNumber-suc, isKept-unrolled, newNumber-le, isKept-marked}
 use Rattle.model.proofs.SweepLaws.{isKept-parent, length-sweptRows}
 use Rattle.model.proofs.TableLaws.{any-by}
-use Rattle.table.specs.Results.{asItWas}
+use Rattle.table.specs.Results.{withTable}
 use Rattle.model.specs.Refusal.{linkAt}
 
 -- ROWS: the start
@@ -299,7 +299,7 @@ module _ (ws ms : List ℕ) (n : ℕ) (fits : Fits n ws ms) (size : length ws �
   encode-swept ms′ e = λ i. record { count = kept-count i; rows = (s .rows ∙ ap wordsOf rows-all) i; marks = (e ∙ links-swept) i }
 
 -- refused, and swept
-pub sweep-ill : (t : Table) → words.fits t ≡ false → asItWas (linkAt 0) t ≡ planSwept t
+pub sweep-ill : (t : Table) → words.fits t ≡ false → withTable (linkAt 0) t ≡ planSwept t
 sweep-ill t e = rw e
 
 pub sweep-done : (t : Table) (u : Table) → words.fits t ≡ true → u ≡ encode (swept (decode t)) →

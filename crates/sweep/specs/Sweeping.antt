@@ -13,13 +13,13 @@ use Rattle.model.specs.Refusal as refusal
 use Rattle.model.specs.Sweep.{swept, isKept, newNumber, sweptRows}
 use Rattle.table.specs.Flags.{Flags}
 use Rattle.table.specs.Words.{linked, withLink, wordsOf, decode, partsFit, fits, linkIn}
-use Rattle.table.specs.Results.{result, asItWas}
+use Rattle.table.specs.Results.{result, withTable}
 use Rattle.table.specs.declared.Table.{Table}
 use Rattle.table.specs.declared.TableResult.{TableResult}
 
 -- SWEEPING a table handed in: refused, it is as it was
 abbrev pub planSwept : Table → TableResult
-planSwept t = pick (fits t) (result refusal.fine (swept (decode t))) (asItWas (refusal.linkAt 0) t)
+planSwept t = pick (fits t) (result refusal.fine (swept (decode t))) (withTable (refusal.linkAt 0) t)
 
 -- FLAGS of marked rows
 pub record LinksPre (ns ms : List ℕ) : Type 0 where

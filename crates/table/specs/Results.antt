@@ -12,13 +12,13 @@ use Rattle.table.specs.declared.Written.{Written}
 abbrev pub faultOf : refusal.Fault → Fault
 faultOf x = record { number = x .number; place = x .place }
 
--- a refusal or none, and a table in its words
-abbrev pub result : refusal.Fault → model.Table → TableResult
-result f x = record { fault = faultOf f; table = encode x }
+-- a refusal or none, and the table given back
+abbrev pub withTable : refusal.Fault → Table → TableResult
+withTable f t = record { fault = faultOf f; table = t }
 
--- a refusal or none, and the table given back as it is
-abbrev pub asItWas : refusal.Fault → Table → TableResult
-asItWas f t = record { fault = faultOf f; table = t }
+-- and one of the model's, in its words
+abbrev pub result : refusal.Fault → model.Table → TableResult
+result f x = withTable f (encode x)
 
 -- writing: refused at place 0, or number 0 and the bytes written
 abbrev pub writtenBy : (number bytes : ℕ) → Written

@@ -1,7 +1,7 @@
 // What calls answer that give a table back or write.
 ghost use mathlib.Core.Path.{_≡_};
 ghost use Rattle.model.specs.Refusal.{fine, fault};
-ghost use Rattle.table.specs.Results.{asItWas, writtenBy};
+ghost use Rattle.table.specs.Results.{withTable, writtenBy};
 use crate::Fault;
 use crate::Table;
 use crate::TableResult;
@@ -9,7 +9,7 @@ use crate::Written;
 
 // A refusal, and the table given back with it.
 pub fn refused(number: u8, place: usize, table: Table) -> TableResult
-    ensures { λ r. ⌜ r ≡ asItWas (fault number place) table ⌝ }
+    ensures { λ r. ⌜ r ≡ withTable (fault number place) table ⌝ }
 {
     TableResult {
         fault: Fault { number, place },
@@ -19,7 +19,7 @@ pub fn refused(number: u8, place: usize, table: Table) -> TableResult
 
 // Nothing refused, and the table that a call gives.
 pub fn accepted(table: Table) -> TableResult
-    ensures { λ r. ⌜ r ≡ asItWas fine table ⌝ }
+    ensures { λ r. ⌜ r ≡ withTable fine table ⌝ }
 {
     TableResult {
         fault: Fault {

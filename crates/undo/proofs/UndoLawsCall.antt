@@ -9,7 +9,7 @@ use Rattle.model.specs.Refusal.{fault, linkAt}
 use Rattle.model.specs.Undo.{Undo, undo}
 use Rattle.model.proofs.BoolLaws.{pick-true, pick-false}
 use Rattle.table.specs.Words.{decode, fits}
-use Rattle.table.specs.Results.{asItWas}
+use Rattle.table.specs.Results.{withTable}
 use Rattle.table.specs.declared.Table.{Table}
 use Rattle.table.proofs.WordLaws.{encode-decode}
 use Rattle.table.proofs.FittedLaws.{fits-at}
@@ -18,15 +18,15 @@ use Rattle.undo.specs.declared.undoing.FormEnd.{FormEnd}
 use Rattle.undo.specs.declared.undoing.BackEnd.{BackEnd}
 
 module _ (t : Table) (b : List ℕ) where
-  pub undo-ill : fits t ≡ false → asItWas (linkAt 0) t ≡ planUndone t b
-  undo-ill e = sym (pick-false (fits t) (undoneBy t (undo (decode t) b)) (asItWas (linkAt 0) t) e)
+  pub undo-ill : fits t ≡ false → withTable (linkAt 0) t ≡ planUndone t b
+  undo-ill e = sym (pick-false (fits t) (undoneBy t (undo (decode t) b)) (withTable (linkAt 0) t) e)
 
   module _ (e : fits t ≡ true) where
     by-model : (u : Undo) → u ≡ undo (decode t) b → undoneBy t u ≡ planUndone t b
-    by-model u f = ap (undoneBy t) f ∙ sym (pick-true (fits t) (undoneBy t (undo (decode t) b)) (asItWas (linkAt 0) t) e)
+    by-model u f = ap (undoneBy t) f ∙ sym (pick-true (fits t) (undoneBy t (undo (decode t) b)) (withTable (linkAt 0) t) e)
 
     module _ {m : List ℕ} {r : FormEnd} (form : PlacesPost b m r) where
-      pub undo-broken : (r .number ≡ 0 → ⊥) → asItWas (fault (r .number) (r .place)) t ≡ planUndone t b
+      pub undo-broken : (r .number ≡ 0 → ⊥) → withTable (fault (r .number) (r .place)) t ≡ planUndone t b
       undo-broken z = by-model _ (form .stop z (decode t))
 
       module _ (z : r .number ≡ 0) where
@@ -43,7 +43,7 @@ module _ (t : Table) (b : List ℕ) where
             }
 
         module _ {ws : List ℕ} {q : BackEnd} (post : AllPost (t .rows) (t .marks) (t .count) b m (r .records) ws q) where
-          pub undo-refused : (q .number ≡ 0 → ⊥) → asItWas (fault (q .number) (q .place)) t ≡ planUndone t b
+          pub undo-refused : (q .number ≡ 0 → ⊥) → withTable (fault (q .number) (q .place)) t ≡ planUndone t b
           undo-refused y = by-model _ (post .stop y ∙ form .fine z (decode t))
 
           pub undo-done : q .number ≡ 0 → length ws ≡ 512 →

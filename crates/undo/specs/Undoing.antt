@@ -11,7 +11,7 @@ use Rattle.model.specs.Table as model
 use Rattle.model.specs.Undo.{historySize, recordIn, Placed, formFault, undoFits, undone, Undo, refused, back, undoAll, undo}
 use Rattle.table.specs.Words.{decode, decodeParts, Canonical, fits}
 use Rattle.model.specs.Refusal.{faultAt}
-use Rattle.table.specs.Results.{result, asItWas}
+use Rattle.table.specs.Results.{result, withTable}
 use Rattle.table.specs.declared.Table.{Table}
 use Rattle.table.specs.declared.TableResult.{TableResult}
 use Rattle.undo.specs.declared.undoing.FormEnd.{FormEnd}
@@ -19,12 +19,12 @@ use Rattle.undo.specs.declared.undoing.BackEnd.{BackEnd}
 
 -- UNDO of a table handed in: 6 where it is ill formed; refused, the table is as it was
 abbrev pub undoneBy : Table → Undo → TableResult
-undoneBy t (refused f) = asItWas f t
+undoneBy t (refused f) = withTable f t
 undoneBy t (back x) = result refusal.fine x
 
 -- 6 at place 0 for a table that does not fit, else taken back
 abbrev pub planUndone : Table → (history : List ℕ) → TableResult
-planUndone t b = pick (fits t) (undoneBy t (undo (decode t) b)) (asItWas (refusal.linkAt 0) t)
+planUndone t b = pick (fits t) (undoneBy t (undo (decode t) b)) (withTable (refusal.linkAt 0) t)
 
 -- THE FORM of one record
 pub record FormPost (s : List ℕ) (n r : ℕ) : Type 0 where
