@@ -10,11 +10,11 @@ use Rattle.table.specs.Words.{decodeParts, encode}
 use Rattle.reader.specs.Reading.{ReadPost}
 use Rattle.plan.specs.Calls.{readBy, planRead}
 use Rattle.table.specs.declared.Table.{Table}
-use Rattle.reader.specs.declared.read.PlanEnd.{PlanEnd}
+use Rattle.table.specs.declared.End.{End}
 use Rattle.table.proofs.WordLaws.{encode-decode}
 use Rattle.table.specs.Results.{withTable}
 
-module _ (b ws ms : List ℕ) (r : PlanEnd) (post : ReadPost b ws ms r) where
+module _ (b ws ms : List ℕ) (r : End) (post : ReadPost b ws ms r) where
   pub plan-refused : (t : Table) → (r .number ≡ 0 → ⊥) → t ≡ encode model.empty → withTable (fault (r .number) (r .place)) t ≡ planRead b
   plan-refused t z e =
       ap (withTable (fault (r .number) (r .place))) e ∙

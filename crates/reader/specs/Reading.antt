@@ -11,7 +11,7 @@ use Rattle.model.specs.Stored.{elementKind, leafKind, Read, bad, got, readPlan,
 use Rattle.model.specs.Stored.{rowFault, markFault, recordFault, recorded}
 use Rattle.table.specs.Words.{linkOf, linked, wordOf, decodeParts, Canonical}
 use Rattle.reader.specs.declared.read.RecordRead.{RecordRead}
-use Rattle.reader.specs.declared.read.PlanEnd.{PlanEnd}
+use Rattle.table.specs.declared.End.{End}
 
 -- the last document that marks a row, and one
 abbrev pub lastOf : (marks : List ℕ) → ℕ
@@ -67,10 +67,10 @@ pub record ReadPre (ws ms : List ℕ) : Type 0 where
   pub rows : ws ≡ replicate maxRows 0
   pub marks : ms ≡ replicate documents 0
 
-abbrev pub readEnd : (ws ms : List ℕ) → PlanEnd → Read
+abbrev pub readEnd : (ws ms : List ℕ) → End → Read
 readEnd ws ms r = pick (eqb (r .number) 0) (got (decodeParts (r .count) ws ms)) (bad (fault (r .number) (r .place)))
 
-pub record ReadPost (b ws ms : List ℕ) (r : PlanEnd) : Type 0 where
+pub record ReadPost (b ws ms : List ℕ) (r : End) : Type 0 where
   pub result : readEnd ws ms r ≡ readPlan b
   pub canonical : r .number ≡ 0 → Canonical (r .count) ws
   pub room : r .number ≡ 0 → r .count ≤ length ws

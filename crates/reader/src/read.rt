@@ -1,6 +1,7 @@
 // Reads a stored plan, record by record: per record 1, 5, 2, 4, 6.
 ghost use Prim.Native.Nat.{_+_, _<_};
 ghost use Rattle.reader.specs.Reading.{RowPre, RowPost, MarkPre, MarkPost, RecordPre, RecordPost, ReadPre, ReadPost};
+use table::End;
 use table::Fault;
 use table::Table;
 use table::marks;
@@ -13,13 +14,6 @@ pub struct RecordRead {
     pub number: u8,
     pub count: usize,
     pub last: usize,
-}
-
-// After all records: the refusal's number, or 0, and place; rows.
-pub struct PlanEnd {
-    pub number: u8,
-    pub place: usize,
-    pub count: usize,
 }
 
 // A stored row's kind is the kind in its word and this.
@@ -156,7 +150,7 @@ fn read_record(
 }
 
 // Every record, into an empty table.
-pub fn records(bytes: &[u8], rows: &mut [u32], marks: &mut [u16]) -> PlanEnd
+pub fn records(bytes: &[u8], rows: &mut [u32], marks: &mut [u16]) -> End
     requires { ⌜ ReadPre (now rows) (now marks) ⌝ }
     ensures { λ r. ⌜ ReadPost (now (bytes .entry)) (now (rows .exit)) (now (marks .exit)) r ⌝ }
 {
@@ -166,7 +160,7 @@ pub fn records(bytes: &[u8], rows: &mut [u32], marks: &mut [u16]) -> PlanEnd
     while at < bytes.len() {
         let read = read_record(&bytes[at..], rows, marks, count, last);
         if read.number != 0 {
-            return PlanEnd {
+            return End {
                 number: read.number,
                 place: at,
                 count,
@@ -176,7 +170,7 @@ pub fn records(bytes: &[u8], rows: &mut [u32], marks: &mut [u16]) -> PlanEnd
         last = read.last;
         at += stored::SIZE;
     }
-    PlanEnd {
+    End {
         number: 0,
         place: 0,
         count,

@@ -12,7 +12,7 @@ use Rattle.model.proofs.ScriptLaws.{Sound, sound-numbered, parse-sound}
 use Rattle.records.specs.Walk.{arity, inner, firstAt, secondAt, thirdAt, exprOf, exprAt}
 use Rattle.script.specs.Reading.{parseAt, endOf, expressionRead, HeadPost, ExpressionPre, ExpressionPost}
 use Rattle.script.specs.Accepted.{RecordFits}
-use Rattle.script.specs.declared.read.End.{End}
+use Rattle.table.specs.declared.End.{End}
 use Rattle.script.proofs.HeadLaws.{fine-fits, fine-records}
 use Rattle.script.proofs.ParseLaws.{reader, afterRecord, afterFirst, afterSecond, afterThird, parse-refused, parse-operands}
 use Rattle.script.proofs.ParseLaws.{after-none, after-record, after-one, after-first, after-two, after-second}
@@ -22,13 +22,13 @@ use Rattle.script.proofs.PlaceLaws.{Reads, reads}
 pub record Ended (x : Parsed) (r : End) : Type 0 where
   pub expr : Expr
   pub bytes : List ℕ
-  pub is : x ≡ parsed expr (r .place) (r .records) bytes
+  pub is : x ≡ parsed expr (r .place) (r .count) bytes
 
 pub ended : (x : Parsed) (r : End) → Sound x → r ≡ endOf x → r .number ≡ 0 → Ended x r
 ended (ill f) r s h z = absurd (sound-numbered s f refl (sym (ap (λ (q : End). q .number) h) ∙ z))
 ended (parsed e j m c) r s h z =
     let p : r .place ≡ j = ap (λ (q : End). q .place) h in
-    let n : r .records ≡ m = ap (λ (q : End). q .records) h in
+    let n : r .count ≡ m = ap (λ (q : End). q .count) h in
     record { expr = e; bytes = c; is = cc }
 
 then-refused : (x : Parsed) (next : Expr → ℕ → ℕ → List ℕ → Parsed) (r : End) → r ≡ endOf x → (r .number ≡ 0 → ⊥) →
@@ -48,7 +48,7 @@ head-fault b i left n v r h p =
     ap (exprFault i n (17 - left) v) (sym (drop-all b i)) ∙ p .fault i
 
 pub record-refused : {b : List ℕ} {i left n v r : ℕ} → ExpressionPre b i left → HeadPost (take (length b - i) (drop i b)) left n v r →
-    (r ≡ 0 → ⊥) → ExpressionPost b i left n v (record { number = r; place = i; records = 0 })
+    (r ≡ 0 → ⊥) → ExpressionPost b i left n v (record { number = r; place = i; count = 0 })
 record-refused {b} {i} {left} {n} {v} {r} pre p h =
     record { read = sym (ap endOf (parse-refused b i left n v r h (head-fault b i left n v r (pre .within) p))) }
 
@@ -76,7 +76,7 @@ module _ {b : List ℕ} {i left n v : ℕ} (h : Headed b i left n v) where
       (ap (λ (q : ℕ). isFine (exprFault i n (17 - q) v (drop i b))) (sym e) ∙ h .fine)
 
   pub ends-none : {p : ℕ} → p ≡ firstAt b i → arity (getD b i 0) ≡ 0 →
-      ExpressionPost b i left n v (record { number = 0; place = p; records = n + 1 })
+      ExpressionPost b i left n v (record { number = 0; place = p; count = n + 1 })
   ends-none e a =
       record {
         read =
@@ -127,7 +127,7 @@ module _ {b : List ℕ} {i left n v : ℕ} {r : End} (f : FirstRead b i left n v
 
     first-reads : Reads b (firstAt b i) (left - 1) (first-ended .expr) (r .place) (first-ended .bytes)
     first-reads =
-        reads b (left - 1) (omega (arith, f .head .deep)) (firstAt b i) (n + 1) v (first-ended .expr) (r .place) (r .records)
+        reads b (left - 1) (omega (arith, f .head .deep)) (firstAt b i) (n + 1) v (first-ended .expr) (r .place) (r .count)
         (first-ended .bytes) (first-ended .is)
 
     pub first-within : r .place ≤ length b
@@ -138,24 +138,24 @@ pub record SecondRead (b : List ℕ) (i left n v : ℕ) (r s : End) : Type 0 whe
   pub first : FirstRead b i left n v r
   pub accepted : r .number ≡ 0
   pub more : 1 < arity (getD b i 0)
-  pub read : s ≡ expressionRead b (r .place) (left - 1) (r .records) (inner (getD b i 0) v)
+  pub read : s ≡ expressionRead b (r .place) (left - 1) (r .count) (inner (getD b i 0) v)
 
 pub second-read : {b : List ℕ} {i left n v w : ℕ} {r s : End} → FirstRead b i left n v r → r .number ≡ 0 → 1 < arity (getD b i 0) →
-    w ≡ inner (getD b i 0) v → ExpressionPost b (r .place) (left - 1) (r .records) w s → SecondRead b i left n v r s
+    w ≡ inner (getD b i 0) v → ExpressionPost b (r .place) (left - 1) (r .count) w s → SecondRead b i left n v r s
 second-read {b} {left = left} {r = r} f z a e p =
-    record { first = f; accepted = z; more = a; read = p .read ∙ ap (expressionRead b (r .place) (left - 1) (r .records)) e }
+    record { first = f; accepted = z; more = a; read = p .read ∙ ap (expressionRead b (r .place) (left - 1) (r .count)) e }
 
 module _ {b : List ℕ} {i left n v : ℕ} {r s : End} (f : SecondRead b i left n v r s) where
   abbrev x : Expr
   x = first-ended (f .first) (f .accepted) .expr
 
   after-first-read : parseAt b i left n v ≡
-      thenParse (parseAt b (r .place) (left - 1) (r .records) (inner (getD b i 0) v)) (afterSecond (left - 1) (getD b i 0) b i v x)
+      thenParse (parseAt b (r .place) (left - 1) (r .count) (inner (getD b i 0) v)) (afterSecond (left - 1) (getD b i 0) b i v x)
   after-first-read =
       let e = first-ended (f .first) (f .accepted) in
       after-record-read (f .first) ∙ ap (λ (q : Parsed). thenParse q (afterFirst (left - 1) (getD b i 0) b i v)) (e .is) ∙
-      after-first (left - 1) (getD b i 0) b i v (r .place) (r .records) (e .bytes) x (f .more) ∙
-      ap (λ (c : List ℕ). thenParse (reader (left - 1) (r .place) (r .records) (inner (getD b i 0) v) c)
+      after-first (left - 1) (getD b i 0) b i v (r .place) (r .count) (e .bytes) x (f .more) ∙
+      ap (λ (c : List ℕ). thenParse (reader (left - 1) (r .place) (r .count) (inner (getD b i 0) v) c)
       (afterSecond (left - 1) (getD b i 0) b i v x))
       (first-reads (f .first) (f .accepted) .rest)
 
@@ -163,7 +163,7 @@ module _ {b : List ℕ} {i left n v : ℕ} {r s : End} (f : SecondRead b i left 
   second-refused g =
       record {
         read =
-            then-refused (parseAt b (r .place) (left - 1) (r .records) (inner (getD b i 0) v))
+            then-refused (parseAt b (r .place) (left - 1) (r .count) (inner (getD b i 0) v))
             (afterSecond (left - 1) (getD b i 0) b i v x) s (f .read) g ∙ sym (ap endOf after-first-read);
       }
 
@@ -171,40 +171,40 @@ module _ {b : List ℕ} {i left n v : ℕ} {r s : End} (f : SecondRead b i left 
   ends-second a =
       record {
         read =
-            then-last (parseAt b (r .place) (left - 1) (r .records) (inner (getD b i 0) v)) (afterSecond (left - 1) (getD b i 0) b i v x)
+            then-last (parseAt b (r .place) (left - 1) (r .count) (inner (getD b i 0) v)) (afterSecond (left - 1) (getD b i 0) b i v x)
             (λ (e : Expr). exprOf (getD b i 0) b i x e (exprAt (left - 1) b (thirdAt b i))) s (f .read)
             (λ e j m c. after-two (left - 1) (getD b i 0) b i v j m c x e a) ∙ sym (ap endOf after-first-read);
       }
 
   module _ (z : s .number ≡ 0) where
-    second-ended : Ended (parseAt b (r .place) (left - 1) (r .records) (inner (getD b i 0) v)) s
+    second-ended : Ended (parseAt b (r .place) (left - 1) (r .count) (inner (getD b i 0) v)) s
     second-ended =
-        ended (parseAt b (r .place) (left - 1) (r .records) (inner (getD b i 0) v)) s
-        (parse-sound (suc (suc (left - 1))) (17 - (left - 1)) (r .place) (r .records) (inner (getD b i 0) v) (drop (r .place) b))
+        ended (parseAt b (r .place) (left - 1) (r .count) (inner (getD b i 0) v)) s
+        (parse-sound (suc (suc (left - 1))) (17 - (left - 1)) (r .place) (r .count) (inner (getD b i 0) v) (drop (r .place) b))
         (f .read) z
 
     second-reads : Reads b (r .place) (left - 1) (second-ended .expr) (s .place) (second-ended .bytes)
     second-reads =
-        reads b (left - 1) (omega (arith, f .first .head .deep)) (r .place) (r .records) (inner (getD b i 0) v) (second-ended .expr)
-        (s .place) (s .records) (second-ended .bytes) (second-ended .is)
+        reads b (left - 1) (omega (arith, f .first .head .deep)) (r .place) (r .count) (inner (getD b i 0) v) (second-ended .expr)
+        (s .place) (s .count) (second-ended .bytes) (second-ended .is)
 
     pub second-within : s .place ≤ length b
     second-within = second-reads .within
 
     after-second-read : 2 < arity (getD b i 0) → parseAt b i left n v ≡
-        thenParse (parseAt b (s .place) (left - 1) (s .records) v) (afterThird (getD b i 0) b i x (second-ended .expr))
+        thenParse (parseAt b (s .place) (left - 1) (s .count) v) (afterThird (getD b i 0) b i x (second-ended .expr))
     after-second-read a =
         after-first-read ∙ ap (λ (q : Parsed). thenParse q (afterSecond (left - 1) (getD b i 0) b i v x)) (second-ended .is) ∙
-        after-second (left - 1) (getD b i 0) b i v (s .place) (s .records) (second-ended .bytes) x (second-ended .expr) a ∙
-        ap (λ (c : List ℕ). thenParse (reader (left - 1) (s .place) (s .records) v c) (afterThird (getD b i 0) b i x (second-ended .expr)))
+        after-second (left - 1) (getD b i 0) b i v (s .place) (s .count) (second-ended .bytes) x (second-ended .expr) a ∙
+        ap (λ (c : List ℕ). thenParse (reader (left - 1) (s .place) (s .count) v c) (afterThird (getD b i 0) b i x (second-ended .expr)))
         (second-reads .rest)
 
     -- AFTER THE THIRD
-    pub ends-third : 2 < arity (getD b i 0) → {t : End} → ExpressionPost b (s .place) (left - 1) (s .records) v t →
+    pub ends-third : 2 < arity (getD b i 0) → {t : End} → ExpressionPost b (s .place) (left - 1) (s .count) v t →
         ExpressionPost b i left n v t
     ends-third a {t} p =
         record {
           read =
-              then-last (parseAt b (s .place) (left - 1) (s .records) v) (afterThird (getD b i 0) b i x (second-ended .expr))
+              then-last (parseAt b (s .place) (left - 1) (s .count) v) (afterThird (getD b i 0) b i x (second-ended .expr))
               (exprOf (getD b i 0) b i x (second-ended .expr)) t (p .read) (λ e j m c. refl) ∙ sym (ap endOf (after-second-read a));
         }

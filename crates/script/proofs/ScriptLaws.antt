@@ -17,7 +17,7 @@ use Rattle.table.specs.declared.Fault.{Fault}
 use Rattle.records.specs.Walk.{exprAt}
 use Rattle.script.specs.Reading.{scriptRead, parseAt, endOf, ExpressionPost}
 use Rattle.script.specs.Accepted.{Accepted}
-use Rattle.script.specs.declared.read.End.{End}
+use Rattle.table.specs.declared.End.{End}
 use Rattle.script.proofs.PlaceLaws.{reads}
 use Rattle.script.proofs.ExpressionLaws.{Ended, ended}
 
@@ -37,7 +37,7 @@ module _ {b : List ℕ} {r : End} (found : ExpressionPost b 0 16 0 0 r) where
 
     rest : length (end .bytes) ≡ length b - r .place
     rest =
-        let e = reads b 16 (omega arith) 0 0 0 (end .expr) (r .place) (r .records) (end .bytes) (end .is) in
+        let e = reads b 16 (omega arith) 0 0 0 (end .expr) (r .place) (r .count) (end .bytes) (end .is) in
         ap length (e .rest) ∙ length-drop (r .place) b
 
     pub script-tail : r .place < length b → _≡_ {A = Fault} (record { number = 3; place = r .place }) (scriptRead b)

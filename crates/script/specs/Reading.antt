@@ -9,7 +9,7 @@ use Rattle.model.specs.Refusal as refusal
 use Rattle.model.specs.Script.{Parsed, ill, parsed, parseFrom, readScript, exprFault, bodySize, bodyFits, faultBy}
 use Rattle.table.specs.Results.{faultOf}
 use Rattle.table.specs.declared.Fault.{Fault}
-use Rattle.script.specs.declared.read.End.{End}
+use Rattle.table.specs.declared.End.{End}
 
 -- READING a script: its refusal, or none
 abbrev pub scriptRead : (bytes : List ℕ) → Fault
@@ -20,8 +20,8 @@ abbrev pub parseAt : (bytes : List ℕ) → (at left records bound : ℕ) → Pa
 parseAt b i k n v = parseFrom (suc (suc k)) (maxDepth + 1 - k) i n v (drop i b)
 
 abbrev pub endOf : Parsed → End
-endOf (ill x) = record { number = x .number; place = x .place; records = 0 }
-endOf (parsed e i n b) = record { number = 0; place = i; records = n }
+endOf (ill x) = record { number = x .number; place = x .place; count = 0 }
+endOf (parsed e i n b) = record { number = 0; place = i; count = n }
 
 abbrev pub expressionRead : (bytes : List ℕ) → (at left records bound : ℕ) → End
 expressionRead b i k n v = endOf (parseAt b i k n v)

@@ -6,6 +6,7 @@ ghost use Rattle.model.specs.Limits.{maxBinders};
 ghost use Rattle.model.specs.Script.{isBinder, testFits};
 ghost use Rattle.script.specs.Reading.{BodyPre, BodyPost, HeadPost, ExpressionPre, ExpressionPost};
 use records::kinds;
+use table::End;
 use table::Fault;
 use table::Table;
 use table::number;
@@ -16,13 +17,6 @@ const RELATIONS: u8 = 3;
 
 // The test for the named element.
 const NAMED: u8 = 3;
-
-// After an expression: its refusal's number, or 0, and the refusal's place or the place past it; records so far.
-pub struct End {
-    pub number: u8,
-    pub place: usize,
-    pub records: usize,
-}
 
 // Name is 0 unless the test is 3, and then 1 to 255.
 fn test_fits(test: u8, name: u8) -> bool
@@ -116,7 +110,7 @@ pub fn expression(bytes: &[u8], at: usize, left: usize, records: usize, bound: u
         return End {
             number,
             place: at,
-            records: 0,
+            count: 0,
         };
     }
     let kind = bytes[at];
@@ -126,7 +120,7 @@ pub fn expression(bytes: &[u8], at: usize, left: usize, records: usize, bound: u
         return End {
             number: 0,
             place: first_at,
-            records: records + 1,
+            count: records + 1,
         };
     }
     let first = expression(bytes, first_at, left - 1, records + 1, bound);
@@ -140,7 +134,7 @@ pub fn expression(bytes: &[u8], at: usize, left: usize, records: usize, bound: u
         bytes,
         first.place,
         left - 1,
-        first.records,
+        first.count,
         kinds::inner(kind, bound),
     );
     if second.number != 0 {
@@ -149,5 +143,5 @@ pub fn expression(bytes: &[u8], at: usize, left: usize, records: usize, bound: u
     if operands == 2 {
         return second;
     }
-    expression(bytes, second.place, left - 1, second.records, bound)
+    expression(bytes, second.place, left - 1, second.count, bound)
 }

@@ -83,6 +83,13 @@ impl Fault {
     pub const LENT: u8 = 11;
 }
 
+// How a pass over records ends: its refusal's number, or 0, and place, or where it came to; rows or records counted.
+pub struct End {
+    pub number: u8,
+    pub place: usize,
+    pub count: usize,
+}
+
 // What a call that gives a table back answers.
 pub struct TableResult {
     pub fault: Fault,

@@ -137,7 +137,7 @@ module _ {b m : List ℕ} {at n : ℕ} (c : Forming b m at n) where
       ap (λ (k : ℕ). undoFrom x (undoing b m n) (formFrom k at n [])) (sym e) ∙
       ap (λ (d : List ℕ). undoFrom x (undoing b m n) (formFrom (length b + 1 - n) at n d)) (sym (drop-of-length-le b h)) ∙ c .rest x
 
-  pub forming-end : length b ≤ at → PlacesPost b m (record { number = 0; place = 0; records = n })
+  pub forming-end : length b ≤ at → PlacesPost b m (record { number = 0; place = 0; count = n })
   forming-end h =
       record {
         fine = λ e. forming-done h;
@@ -156,7 +156,7 @@ module _ {b m : List ℕ} {at n : ℕ} (c : Forming b m at n) where
     faults : formFault at n (drop at b) ≡ faultAt r at
     faults = ap (formFault at n) (sym (drop-all b at)) ∙ post .fault at
 
-    pub forming-refused : (r ≡ 0 → ⊥) → PlacesPost b m (record { number = r; place = at; records = n })
+    pub forming-refused : (r ≡ 0 → ⊥) → PlacesPost b m (record { number = r; place = at; count = n })
     unfolding formFrom
     forming-refused z =
         record {

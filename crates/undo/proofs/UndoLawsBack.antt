@@ -20,7 +20,7 @@ use Rattle.model.proofs.TestLaws.{and-four, and-five}
 use Rattle.table.specs.Words.{withLink, decodeParts, Canonical}
 use Rattle.table.proofs.WordLaws.{linked-linkOf, count-decode, decode-linked, canonical-linked, canonical-pop, decode-pop}
 use Rattle.undo.specs.Undoing.{undoing, FitPre, BackPre, BackPost, AllPre, AllPost}
-use Rattle.undo.specs.declared.undoing.BackEnd.{BackEnd}
+use Rattle.table.specs.declared.End.{End}
 
 -- THE RECORD at the front, by its kind
 module _ (x : model.Table) (s : List ℕ) where
@@ -189,7 +189,7 @@ module _ {ws₀ : List ℕ} {n₀ : ℕ} {b m : List ℕ} {k₀ : ℕ} (pre : Al
             whole = subst (λ (d : List ℕ). historySize (getD d 0 0) ≤ length d) (sym (drop-all b at)) (whole .1);
           }
 
-      module _ {ws′ : List ℕ} {r : BackEnd} (post : BackPost ws ms n (take (length b - at) (drop at b)) ws′ r) where
+      module _ {ws′ : List ℕ} {r : End} (post : BackPost ws ms n (take (length b - at) (drop at b)) ws′ r) where
         abbrev y : model.Table
         y = decodeParts n ws ms
 

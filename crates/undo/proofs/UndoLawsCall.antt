@@ -14,8 +14,7 @@ use Rattle.table.specs.declared.Table.{Table}
 use Rattle.table.proofs.WordLaws.{encode-decode}
 use Rattle.table.proofs.FittedLaws.{fits-at}
 use Rattle.undo.specs.Undoing.{undoneBy, planUndone, PlacesPost, AllPre, AllPost}
-use Rattle.undo.specs.declared.undoing.FormEnd.{FormEnd}
-use Rattle.undo.specs.declared.undoing.BackEnd.{BackEnd}
+use Rattle.table.specs.declared.End.{End}
 
 module _ (t : Table) (b : List ℕ) where
   pub undo-ill : fits t ≡ false → withTable (linkAt 0) t ≡ planUndone t b
@@ -25,12 +24,12 @@ module _ (t : Table) (b : List ℕ) where
     by-model : (u : Undo) → u ≡ undo (decode t) b → undoneBy t u ≡ planUndone t b
     by-model u f = ap (undoneBy t) f ∙ sym (pick-true (fits t) (undoneBy t (undo (decode t) b)) (withTable (linkAt 0) t) e)
 
-    module _ {m : List ℕ} {r : FormEnd} (form : PlacesPost b m r) where
+    module _ {m : List ℕ} {r : End} (form : PlacesPost b m r) where
       pub undo-broken : (r .number ≡ 0 → ⊥) → withTable (fault (r .number) (r .place)) t ≡ planUndone t b
       undo-broken z = by-model _ (form .stop z (decode t))
 
       module _ (z : r .number ≡ 0) where
-        pub undo-pre : length (t .rows) ≡ 512 → length m ≡ 2048 → AllPre (t .rows) (t .count) b m (r .records)
+        pub undo-pre : length (t .rows) ≡ 512 → length m ≡ 2048 → AllPre (t .rows) (t .count) b m (r .count)
         undo-pre l p =
             let f = fits-at (t .count) (t .rows) (t .marks) e in
             record {
@@ -42,7 +41,7 @@ module _ (t : Table) (b : List ℕ) where
               whole = form .whole z;
             }
 
-        module _ {ws : List ℕ} {q : BackEnd} (post : AllPost (t .rows) (t .marks) (t .count) b m (r .records) ws q) where
+        module _ {ws : List ℕ} {q : End} (post : AllPost (t .rows) (t .marks) (t .count) b m (r .count) ws q) where
           pub undo-refused : (q .number ≡ 0 → ⊥) → withTable (fault (q .number) (q .place)) t ≡ planUndone t b
           undo-refused y = by-model _ (post .stop y ∙ form .fine z (decode t))
 

@@ -14,8 +14,7 @@ use Rattle.model.specs.Refusal.{faultAt}
 use Rattle.table.specs.Results.{result, withTable}
 use Rattle.table.specs.declared.Table.{Table}
 use Rattle.table.specs.declared.TableResult.{TableResult}
-use Rattle.undo.specs.declared.undoing.FormEnd.{FormEnd}
-use Rattle.undo.specs.declared.undoing.BackEnd.{BackEnd}
+use Rattle.table.specs.declared.End.{End}
 
 -- UNDO of a table handed in: 6 where it is ill formed; refused, the table is as it was
 abbrev pub undoneBy : Table → Undo → TableResult
@@ -42,11 +41,11 @@ abbrev pub Whole : (bytes places : List ℕ) → ℕ → Type 0
 Whole b m n =
     (k : ℕ) → k < n → (getD m k 0 ≤ length b) × (historySize (getD (drop (getD m k 0) b) 0 0) ≤ length (drop (getD m k 0) b))
 
-pub record PlacesPost (b m : List ℕ) (r : FormEnd) : Type 0 where
-  pub fine : r .number ≡ 0 → (x : model.Table) → undoAll x (undoing b m (r .records)) ≡ undo x b
+pub record PlacesPost (b m : List ℕ) (r : End) : Type 0 where
+  pub fine : r .number ≡ 0 → (x : model.Table) → undoAll x (undoing b m (r .count)) ≡ undo x b
   pub stop : (r .number ≡ 0 → ⊥) → (x : model.Table) → refused (refusal.fault (r .number) (r .place)) ≡ undo x b
-  pub whole : r .number ≡ 0 → Whole b m (r .records)
-  pub few : r .number ≡ 0 → r .records ≤ maxHistory
+  pub whole : r .number ≡ 0 → Whole b m (r .count)
+  pub few : r .number ≡ 0 → r .count ≤ maxHistory
 
 -- THE FIT of one record of k bytes
 pub record FitPre (ws : List ℕ) (n : ℕ) (s : List ℕ) (k : ℕ) : Type 0 where
@@ -61,7 +60,7 @@ pub record BackPre (ws : List ℕ) (n : ℕ) (s : List ℕ) : Type 0 where
   pub canonical : Canonical n ws
   pub whole : historySize (getD s 0 0) ≤ length s
 
-pub record BackPost (ws ms : List ℕ) (n : ℕ) (s ws′ : List ℕ) (r : BackEnd) : Type 0 where
+pub record BackPost (ws ms : List ℕ) (n : ℕ) (s ws′ : List ℕ) (r : End) : Type 0 where
   pub fit : undoFits (decodeParts n ws ms) (recordIn s) ≡ eqb (r .number) 0
   pub link : (r .number ≡ 0 → ⊥) → r .number ≡ 6
   pub table : r .number ≡ 0 → decodeParts (r .count) ws′ ms ≡ undone (decodeParts n ws ms) (recordIn s)
@@ -77,7 +76,7 @@ pub record AllPre (ws : List ℕ) (n : ℕ) (b m : List ℕ) (k : ℕ) : Type 0 
   pub records : k ≤ maxHistory
   pub whole : Whole b m k
 
-pub record AllPost (ws ms : List ℕ) (n : ℕ) (b m : List ℕ) (k : ℕ) (ws′ : List ℕ) (r : BackEnd) : Type 0 where
+pub record AllPost (ws ms : List ℕ) (n : ℕ) (b m : List ℕ) (k : ℕ) (ws′ : List ℕ) (r : End) : Type 0 where
   pub fine : r .number ≡ 0 → back (decodeParts (r .count) ws′ ms) ≡ undoAll (decodeParts n ws ms) (undoing b m k)
   pub stop : (r .number ≡ 0 → ⊥) → refused (refusal.fault (r .number) (r .place)) ≡ undoAll (decodeParts n ws ms) (undoing b m k)
   pub few : r .number ≡ 0 → r .count ≤ maxRows

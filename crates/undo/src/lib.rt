@@ -29,7 +29,7 @@ pub fn undo(table: Table, history: &[u8]) -> TableResult
         count,
         history,
         &places,
-        form.records,
+        form.count,
     );
     if back.number != 0 {
         return results::refused(back.number, back.place, table);

@@ -9,26 +9,13 @@ ghost use Rattle.model.specs.Stored.{parentIn};
 ghost use Rattle.model.specs.Undo.{historySize, sameBool, sameParent, madeFits, cutFits, cutIn, madeIn};
 ghost use Rattle.table.specs.Words.{kindIn, leafWord, linked, decodeParts};
 ghost use Rattle.undo.specs.Undoing.{FormPost, PlacesPost, FitPre, BackPre, BackPost, AllPre, AllPost};
+use table::End;
 use table::Fault;
 use table::Table;
 use table::marks;
 use table::number;
 use table::words;
 use updates::history;
-
-// The form's end: the refusal's number, or 0, and place; the records found.
-pub struct FormEnd {
-    pub number: u8,
-    pub place: usize,
-    pub records: usize,
-}
-
-// After a record is undone, or all are: the refusal's number, or 0, and place; rows left.
-pub struct BackEnd {
-    pub number: u8,
-    pub place: usize,
-    pub count: usize,
-}
 
 // The bytes of a record of this kind.
 fn size(kind: u8) -> usize
@@ -69,7 +56,7 @@ fn form_fault(s: &[u8], records: usize) -> u8
 }
 
 // The form of the whole history; the places of its records.
-pub fn form(bytes: &[u8], places: &mut [u16]) -> FormEnd
+pub fn form(bytes: &[u8], places: &mut [u16]) -> End
     requires { ⌜ length (now places) ≡ maxHistory ⌝ }
     ensures { λ r. ⌜ PlacesPost (now (bytes .entry)) (now (places .exit)) r ⌝ }
 {
@@ -78,20 +65,20 @@ pub fn form(bytes: &[u8], places: &mut [u16]) -> FormEnd
     while at < bytes.len() {
         let number = form_fault(&bytes[at..], records);
         if number != 0 {
-            return FormEnd {
+            return End {
                 number,
                 place: at,
-                records,
+                count: records,
             };
         }
         places[records] = at as u16;
         records += 1;
         at += size(bytes[at]);
     }
-    FormEnd {
+    End {
         number: 0,
         place: 0,
-        records,
+        count: records,
     }
 }
 
@@ -164,13 +151,13 @@ fn cut_fits(rows: &[u32], marks: &[u16], count: usize, s: &[u8]) -> bool
 }
 
 // The record s undone: the link is back, or the last row is gone.
-fn undo_record(rows: &mut [u32], marks: &[u16], count: usize, s: &[u8]) -> BackEnd
+fn undo_record(rows: &mut [u32], marks: &[u16], count: usize, s: &[u8]) -> End
     requires { ⌜ BackPre (now rows) count (now s) ⌝ }
     ensures { λ r. ⌜ BackPost (now (rows .entry)) (now (marks .entry)) count (now (s .entry)) (now (rows .exit)) r ⌝ }
 {
     if s[0] == history::CUT {
         if !cut_fits(rows, marks, count, s) {
-            return BackEnd {
+            return End {
                 number: Fault::LINK,
                 place: 0,
                 count,
@@ -179,21 +166,21 @@ fn undo_record(rows: &mut [u32], marks: &[u16], count: usize, s: &[u8]) -> BackE
         let row = number::number_at(s, 1);
         let parent = number::number_at(s, 3);
         rows[row] = words::relinked(rows[row], parent + 1);
-        return BackEnd {
+        return End {
             number: 0,
             place: 0,
             count,
         };
     }
     if !made_fits(rows, marks, count, s) {
-        return BackEnd {
+        return End {
             number: Fault::LINK,
             place: 0,
             count,
         };
     }
     rows[count - 1] = 0;
-    BackEnd {
+    End {
         number: 0,
         place: 0,
         count: count - 1,
@@ -208,7 +195,7 @@ pub fn undo_all(
     bytes: &[u8],
     places: &[u16],
     records: usize,
-) -> BackEnd
+) -> End
     requires { ⌜ AllPre (now rows) count (now bytes) (now places) records ⌝ }
     ensures { λ r. ⌜ AllPost (now (rows .entry)) (now (marks .entry)) count (now (bytes .entry)) (now (places .entry)) records
         (now (rows .exit)) r ⌝ }
@@ -220,7 +207,7 @@ pub fn undo_all(
         let at = number::index(places[k]);
         let step = undo_record(rows, marks, left, &bytes[at..]);
         if step.number != 0 {
-            return BackEnd {
+            return End {
                 number: step.number,
                 place: at,
                 count: left,
@@ -228,7 +215,7 @@ pub fn undo_all(
         }
         left = step.count;
     }
-    BackEnd {
+    End {
         number: 0,
         place: 0,
         count: left,
