@@ -23,14 +23,7 @@ pub fn undo(table: Table, history: &[u8]) -> TableResult
         return results::refused(form.number, form.place, table);
     }
     let mut rows = table.rows;
-    let back = undoing::undo_all(
-        &mut rows,
-        &table.marks,
-        count,
-        history,
-        &places,
-        form.count,
-    );
+    let back = undoing::undo_all(&mut rows, &table.marks, count, history, &places, form.count);
     if back.number != 0 {
         return results::refused(back.number, back.place, table);
     }
