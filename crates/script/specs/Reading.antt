@@ -19,9 +19,13 @@ scriptRead b = faultOf (faultBy (readScript b))
 abbrev pub parseAt : (bytes : List ℕ) → (at left records bound : ℕ) → Parsed
 parseAt b i k n v = parseFrom (suc (suc k)) (maxDepth + 1 - k) i n v (drop i b)
 
+-- how it ends: the refusal's number, or 0, and place, or the place past the expression; the records so far, 0 where it is refused
+abbrev pub endBy : (number place records : ℕ) → End
+endBy n i m = record { number = n; place = i; count = m }
+
 abbrev pub endOf : Parsed → End
-endOf (ill x) = record { number = x .number; place = x .place; count = 0 }
-endOf (parsed e i n b) = record { number = 0; place = i; count = n }
+endOf (ill x) = endBy (x .number) (x .place) 0
+endOf (parsed e i n b) = endBy 0 i n
 
 abbrev pub expressionRead : (bytes : List ℕ) → (at left records bound : ℕ) → End
 expressionRead b i k n v = endOf (parseAt b i k n v)

@@ -10,14 +10,12 @@ mod read;
 pub fn read_script(bytes: &[u8]) -> Fault
     ensures { λ r. ⌜ r ≡ scriptRead (now (bytes .entry)) ⌝ }
 {
-    let end = read::expression(bytes, 0, Table::DEPTH, 0, 0);
-    if end.number != 0 {
-        return Fault {
-            number: end.number,
-            place: end.place,
-        };
+    let mut place = 0;
+    let mut records = 0;
+    let number = read::expression(bytes, 0, Table::DEPTH, 0, &mut place, &mut records);
+    if number != 0 {
+        return Fault { number, place };
     }
-    let place = end.place;
     if place < bytes.len() {
         return Fault {
             number: Fault::TAIL,

@@ -4,9 +4,8 @@ ghost use mathlib.Core.Bool.{_&&_};
 ghost use lib.Dec.{leb};
 ghost use Rattle.model.specs.Limits.{maxBinders};
 ghost use Rattle.model.specs.Script.{isBinder, testFits};
-ghost use Rattle.script.specs.Reading.{BodyPre, BodyPost, HeadPost, ExpressionPre, ExpressionPost};
+ghost use Rattle.script.specs.Reading.{BodyPre, BodyPost, HeadPost, ExpressionPre, ExpressionPost, endBy};
 use records::kinds;
-use table::End;
 use table::Fault;
 use table::Table;
 use table::number;
@@ -100,48 +99,57 @@ fn head(s: &[u8], left: usize, records: usize, bound: usize) -> u8
     Fault::FIELD
 }
 
-// The expression at a place, its records and those before it counted; `left` is how deep it may be.
-pub fn expression(bytes: &[u8], at: usize, left: usize, records: usize, bound: usize) -> End
+// Reads the expression at a place: its refusal's number, or 0. `place` takes the refusal's place, or the place past the expression;
+// `records` has the records before it, and takes those with it, or 0 where it is refused. `left` is how deep it may be.
+pub fn expression(
+    bytes: &[u8],
+    at: usize,
+    left: usize,
+    bound: usize,
+    place: &mut usize,
+    records: &mut usize,
+) -> u8
     requires { ⌜ ExpressionPre (now bytes) at left ⌝ }
-    ensures { λ r. ⌜ ExpressionPost (now (bytes .entry)) at left records bound r ⌝ }
+    ensures { λ r. ⌜ ExpressionPost (now (bytes .entry)) at left (now (records .entry)) bound
+        (endBy r (now (place .exit)) (now (records .exit))) ⌝ }
 {
-    let number = head(&bytes[at..], left, records, bound);
+    let before = *records;
+    let number = head(&bytes[at..], left, before, bound);
     if number != 0 {
-        return End {
-            number,
-            place: at,
-            count: 0,
-        };
+        *place = at;
+        *records = 0;
+        return number;
     }
     let kind = bytes[at];
     let operands = kinds::arity(kind);
     let first_at = at + (1 + kinds::body_size(kind));
+    *place = first_at;
+    *records = before + 1;
     if operands == 0 {
-        return End {
-            number: 0,
-            place: first_at,
-            count: records + 1,
-        };
+        return 0;
     }
-    let first = expression(bytes, first_at, left - 1, records + 1, bound);
-    if first.number != 0 {
+    let first = expression(bytes, first_at, left - 1, bound, place, records);
+    if first != 0 {
         return first;
     }
     if operands == 1 {
         return first;
     }
+    let second_at = *place;
     let second = expression(
         bytes,
-        first.place,
+        second_at,
         left - 1,
-        first.count,
         kinds::inner(kind, bound),
+        place,
+        records,
     );
-    if second.number != 0 {
+    if second != 0 {
         return second;
     }
     if operands == 2 {
         return second;
     }
-    expression(bytes, second.place, left - 1, second.count, bound)
+    let third_at = *place;
+    expression(bytes, third_at, left - 1, bound, place, records)
 }
