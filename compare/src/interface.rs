@@ -164,16 +164,12 @@ impl Areas {
     }
 }
 
-/// Reads a stored plan, runs a script on it and writes the plan back. An area
-/// too short is refused before all else. If the plan is refused, nothing runs,
-/// and the areas are zero as after a refused run.
+/// Reads a stored plan, runs a script on it and writes the plan back. An `out`
+/// or `done` too short is refused before all else. If the plan is refused,
+/// nothing runs; the run's areas are zero as after a refused run, or untouched
+/// if one of them is too short.
 pub fn run(plan: &[u8], script: &[u8], areas: Lent<'_>) -> Answer {
-    let short = areas.answer.len() < ANSWER_NUMBERS
-        || areas.history.len() < HISTORY_BYTES
-        || areas.work.len() < WORK_NUMBERS
-        || areas.out.len() < PLAN_BYTES
-        || areas.done.len() < DONE_NUMBERS;
-    if short {
+    if areas.out.len() < PLAN_BYTES || areas.done.len() < DONE_NUMBERS {
         return lent();
     }
     let done = &mut areas.done[..DONE_NUMBERS];
@@ -181,9 +177,14 @@ pub fn run(plan: &[u8], script: &[u8], areas: Lent<'_>) -> Answer {
     let mut table = match stored::read(plan) {
         Ok(table) => table,
         Err(refusal) => {
-            areas.answer.fill(0);
-            areas.history.fill(0);
-            areas.work.fill(0);
+            let fit = areas.answer.len() >= ANSWER_NUMBERS
+                && areas.history.len() >= HISTORY_BYTES
+                && areas.work.len() >= WORK_NUMBERS;
+            if fit {
+                areas.answer.fill(0);
+                areas.history.fill(0);
+                areas.work.fill(0);
+            }
             return Answer::refused(WHICH_PLAN, refusal);
         }
     };
@@ -194,6 +195,9 @@ pub fn run(plan: &[u8], script: &[u8], areas: Lent<'_>) -> Answer {
     };
     let ran = match running::run(&mut table, script, lent_to_run) {
         Ok(ran) => ran,
+        Err(refusal) if refusal.number == Number::Lent => {
+            return Answer::refused(WHICH_AREA, refusal)
+        }
         Err(refusal) => return Answer::refused(WHICH_SCRIPT, refusal),
     };
     let length = match stored::encode(&table, areas.out) {

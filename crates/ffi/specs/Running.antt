@@ -2,7 +2,7 @@
 use mathlib.Core.List.{List}
 use Prim.Native.Nat.{ℕ}
 use lib.Dec.{eqb}
-use lib.ListN.{length, replicate}
+use lib.ListN.{length}
 use Rattle.model.specs.Base.{pick}
 use Rattle.model.specs.Call.{Ran}
 use Rattle.plan.specs.Calls as library
@@ -10,7 +10,7 @@ use Rattle.table.specs.declared.TableResult.{TableResult}
 use Rattle.run.specs.Calls.{ran, runResult}
 use Rattle.run.specs.declared.RunResult.{RunResult}
 use Rattle.codes.specs.Codes.{codeOf, lentCode}
-use Rattle.lent.specs.Done.{isLentShort, doneOver, endCode, endOut, endDone}
+use Rattle.lent.specs.Done.{isLentShort, withoutRun, doneOver, endCode, endOut, endDone}
 
 -- what the call answers, and the areas after it
 pub record Called : Type 0 where
@@ -31,16 +31,14 @@ abbrev pub ranCall : RunResult → Ran → (out done : List ℕ) → Called
 ranCall r l o d =
     record { code = endCode r o; answer = l .answer; history = l .history; work = l .work; out = endOut r o; done = endDone r o d }
 
--- once the plan is read: its refusal, and then nothing runs and the run's areas are zero, or the run
+-- once the plan is read: its refusal, and then nothing runs, or the run
 abbrev pub readCall : TableResult → (script answer history work out done : List ℕ) → Called
 readCall q s a h w o d =
     pick (eqb (q .fault .number) 0) (ranCall (runResult (q .table) s a h w) (ran (q .table) s a h w) o d)
-    (refusedCall (codeOf (q .fault .number) 1 (q .fault .place)) (replicate (length a) 0) (replicate (length h) 0)
-    (replicate (length w) 0) o d)
+    (refusedCall (codeOf (q .fault .number) 1 (q .fault .place)) (withoutRun a h w a) (withoutRun a h w h) (withoutRun a h w w) o d)
 
--- READ, RUN AND WRITE: 11 first, nothing touched; then the plan's refusal, then the run's
+-- READ, RUN AND WRITE: out or done too short is 11, nothing touched; then the plan's refusal; then the run's, its own 11 with them
 abbrev pub runCalled : (plan script answer history work out done : List ℕ) → Called
 runCalled p s a h w o d =
-    pick (isLentShort (length a) (length h) (length w) (length o) (length d))
-    (record { code = lentCode; answer = a; history = h; work = w; out = o; done = d })
+    pick (isLentShort (length o) (length d)) (record { code = lentCode; answer = a; history = h; work = w; out = o; done = d })
     (readCall (library.planRead p) s a h w o d)

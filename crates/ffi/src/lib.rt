@@ -87,13 +87,7 @@ pub extern "C" fn yegnabit_run(
     ensures { λ r. ⌜ now (done .exit) ≡ runCalled (now (plan .entry)) (now (script .entry)) (now (answer .entry))
         (now (history .entry)) (now (work .entry)) (now (out .entry)) (now (done .entry)) .done ⌝ }
 {
-    if done::is_lent_short(
-        answer.len(),
-        history.len(),
-        work.len(),
-        out.len(),
-        done.len(),
-    ) {
+    if done::is_lent_short(out.len(), done.len()) {
         return answer::code(Fault::LENT, AREA, 0);
     }
     let read = plan::read_plan(plan);

@@ -3,10 +3,12 @@ use mathlib.Core.Path.{_≡_}
 use mathlib.Core.Bool.{Bool, true, _||_}
 use mathlib.Core.List.{List, [], _∷_}
 use Prim.Native.Nat.{ℕ, _+_, _*_, _≤_}
-use lib.Dec.{ltb}
-use lib.ListN.{length}
-use Rattle.model.specs.Base.{atFront}
-use Rattle.model.specs.Limits.{maxRows, documents, answerNeed, historyNeed, workNeed}
+use lib.Dec.{ltb, eqb}
+use lib.ListN.{length, replicate}
+use Rattle.model.specs.Base.{pick, atFront}
+use Rattle.model.specs.Call.{areasFit}
+use Rattle.model.specs.Limits.{maxRows, documents}
+use Rattle.model.specs.Refusal.{lentShort}
 use Rattle.writer.specs.Writing.{planWritten}
 use Rattle.table.specs.Words.{fits}
 use Rattle.run.specs.declared.RunResult.{RunResult}
@@ -20,17 +22,25 @@ outNeed = 4 * (maxRows + documents)
 abbrev pub doneNeed : ℕ
 doneNeed = 6
 
--- an area shorter than its need: out takes the longest plan, 2,080 bytes, and done six numbers
-abbrev pub isLentShort : (answer history work out done : ℕ) → Bool
-isLentShort a h w o d = ltb a answerNeed || ltb h historyNeed || ltb w workNeed || ltb o outNeed || ltb d doneNeed
+-- before all else: out takes the longest plan, 2,080 bytes, and done six numbers, or one of them is too short
+abbrev pub isLentShort : (out done : ℕ) → Bool
+isLentShort o d = ltb o outNeed || ltb d doneNeed
+
+-- NOTHING RUNS, the plan being refused: an area of the run is zero as after a refused run, or untouched if one of the three is too short
+abbrev pub withoutRun : (answer history work area : List ℕ) → List ℕ
+withoutRun a h w x = pick (areasFit a h w) (replicate (length x) 0) x
 
 -- six numbers over the front of done: items, rows made, links cut, records written, history bytes, bytes in out
 abbrev pub doneOver : (items made cut records bytes written : ℕ) → (done : List ℕ) → List ℕ
 doneOver i m c r b n d = atFront (i ∷ m ∷ c ∷ r ∷ b ∷ n ∷ []) d
 
+-- whose refusal it is: 11 a lent area's, else the script's or the run's
+abbrev pub whichOf : (number : ℕ) → ℕ
+whichOf n = pick (eqb n (lentShort .number)) 0 2
+
 -- ONCE THE RUN IS OVER: its refusal, out as it was and done zero; or the plan written, and its six numbers
 abbrev pub endCode : RunResult → (out : List ℕ) → ℕ
-endCode r o = codeUnless (r .fault) 2 (codeOf (planWritten (r .table) o .fault .number) 0 0)
+endCode r o = codeUnless (r .fault) (whichOf (r .fault .number)) (codeOf (planWritten (r .table) o .fault .number) 0 0)
 
 -- out after it
 abbrev pub endOut : RunResult → (out : List ℕ) → List ℕ

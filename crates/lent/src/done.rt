@@ -1,25 +1,23 @@
-// The areas lent to a run: whether one is too short, and what they hold once it is over.
+// The areas lent to a run: whether out or done is too short, and what all hold once nothing runs or the run is over.
 ghost use mathlib.Core.Path.{_≡_};
 ghost use Prim.Native.Nat.{_≤_};
-ghost use lib.ListN.{length, replicate};
-ghost use Rattle.lent.specs.Done.{doneNeed, isLentShort, doneOver, EndPre, endCode, endOut, endDone};
+ghost use lib.ListN.{length};
+ghost use Rattle.lent.specs.Done.{doneNeed, isLentShort, withoutRun, doneOver, whichOf, EndPre, endCode, endOut, endDone};
 use areas::area;
 use codes::answer;
 use run::RunResult;
+use run::lengths;
+use table::Fault;
 use writer::write;
 
 // The numbers that done needs.
 const DONE: usize = 6;
 
-// Some area is shorter than its need.
-pub fn is_lent_short(answer: usize, history: usize, work: usize, out: usize, done: usize) -> bool
-    ensures { λ r. ⌜ r ≡ isLentShort answer history work out done ⌝ }
+// out or done is shorter than its need.
+pub fn is_lent_short(out: usize, done: usize) -> bool
+    ensures { λ r. ⌜ r ≡ isLentShort out done ⌝ }
 {
-    (answer < run::ANSWER)
-        | (history < run::HISTORY)
-        | (work < run::WORK)
-        | (out < crate::OUT)
-        | (done < DONE)
+    (out < crate::OUT) | (done < DONE)
 }
 
 // The six numbers over the front of done.
@@ -43,15 +41,31 @@ pub fn put_done(
     done[5] = written as u64;
 }
 
-// Nothing has run: all areas of the run are zero.
+// Nothing runs: the areas of the run are zero, or untouched if one of them is too short.
 pub fn clear(answer: &mut [u16], history: &mut [u8], work: &mut [u16])
-    ensures { λ _. ⌜ now (answer .exit) ≡ replicate (length (now (answer .entry))) 0 ⌝ }
-    ensures { λ _. ⌜ now (history .exit) ≡ replicate (length (now (history .entry))) 0 ⌝ }
-    ensures { λ _. ⌜ now (work .exit) ≡ replicate (length (now (work .entry))) 0 ⌝ }
+    ensures { λ _. ⌜ now (answer .exit) ≡
+        withoutRun (now (answer .entry)) (now (history .entry)) (now (work .entry)) (now (answer .entry)) ⌝ }
+    ensures { λ _. ⌜ now (history .exit) ≡
+        withoutRun (now (answer .entry)) (now (history .entry)) (now (work .entry)) (now (history .entry)) ⌝ }
+    ensures { λ _. ⌜ now (work .exit) ≡
+        withoutRun (now (answer .entry)) (now (history .entry)) (now (work .entry)) (now (work .entry)) ⌝ }
 {
+    if !lengths::fit(answer.len(), history.len(), work.len()) {
+        return;
+    }
     area::clear_words(answer);
     area::clear_bytes(history);
     area::clear_words(work);
+}
+
+// Whose refusal of a run it is: 11 is a lent area's.
+fn which_of(number: u8) -> u8
+    ensures { λ r. ⌜ r ≡ whichOf number ⌝ }
+{
+    if number == Fault::LENT {
+        return answer::AREA;
+    }
+    answer::SCRIPT
 }
 
 // The run is over: refused, out stays and done is zero; else the plan as it then is stands in out, and done has its six numbers.
@@ -64,7 +78,7 @@ pub fn end(ran: RunResult, out: &mut [u8], done: &mut [u64]) -> u64
     let refused = ran.fault.number;
     if refused != 0 {
         put_done(done, 0, 0, 0, 0, 0, 0);
-        return answer::code(refused, answer::SCRIPT, ran.fault.place);
+        return answer::code(refused, which_of(refused), ran.fault.place);
     }
     let tally = ran.tally;
     let written = write::fitting(ran.table, out);

@@ -96,8 +96,12 @@ ranBy x a h w (gives v s) =
     }
 
 -- each lent area is as long as its stated need
+abbrev pub lengthsFit : (answer history work : ℕ) → Bool
+lengthsFit a h w = leb answerNeed a && leb historyNeed h && leb workNeed w
+
+-- of the areas
 abbrev pub areasFit : (answer history work : List ℕ) → Bool
-areasFit a h w = leb answerNeed (length a) && leb historyNeed (length h) && leb workNeed (length w)
+areasFit a h w = lengthsFit (length a) (length h) (length w)
 
 -- 11 first, at place 0, and nothing touched; else what a run that came to this outcome leaves
 abbrev pub inAreas : Table → (answer history work : List ℕ) → Out → Ran

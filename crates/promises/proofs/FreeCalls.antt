@@ -5,7 +5,7 @@ use mathlib.Core.List.{List}
 use Prim.Native.Nat.{ℕ}
 use native.Mathlib.Omega.{arith}
 use lib.ListN.{length}
-use Rattle.model.specs.Call.{areasFit, Ran, runBy, ranBy, runCall, callsEnd, CallsEqual, EitherOrder}
+use Rattle.model.specs.Call.{Ran, runBy, ranBy, runCall, callsEnd, CallsEqual, EitherOrder}
 use Rattle.model.specs.Refusal.{isFine}
 use Rattle.model.specs.Run.{Out, gives, stop, State}
 use Rattle.model.specs.Script.{readScript}
@@ -21,14 +21,11 @@ use Rattle.paths.proofs.Promised.{free-which}
 use Rattle.run.proofs.OutcomeLaws.{refuses-fine, run-refuses}
 use Rattle.ffi.specs.Running.{Called}
 use Rattle.promises.specs.Promise.{planLeft, Request, Suffices, runRequest, runAfter, OrderAnswers, told, FreeCallsCommute}
-use Rattle.promises.proofs.Promised.{needs, run-done, plan-left, call-ends}
+use Rattle.promises.proofs.Promised.{run-done, plan-left, call-ends}
 
 -- the model's run
 abbrev modelRun : Table → Request → Ran
 modelRun x l = runCall x (l .script) (l .answer) (l .history) (l .work)
-
-lent-fit : (l : Request) → Suffices l → areasFit (l .answer) (l .history) (l .work) ≡ true
-lent-fit l ok = needs (l .answer) (l .history) (l .work) (l .out) (l .done) (ok .1) .0
 
 -- A CALL on a plan that is read as x answers 0 and tells the model's run
 record Tells (p : List ℕ) (x : Table) (l : Request) : Type 0 where
@@ -41,7 +38,7 @@ record Tells (p : List ℕ) (x : Table) (l : Request) : Type 0 where
 module _ (p : List ℕ) (x : Table) (well : isWell x ≡ true) (read : readPlan p ≡ got x) (l : Request) (ok : Suffices l) where
   run-is : (q : Out) → runBy x (readScript (l .script)) ≡ q →
       modelRun x l ≡ ranBy x (length (l .answer)) (length (l .history)) (length (l .work)) q
-  run-is q e = runCall-by x (l .script) (l .answer) (l .history) (l .work) q (lent-fit l ok) well e
+  run-is q e = runCall-by x (l .script) (l .answer) (l .history) (l .work) q (ok .1 .0) well e
 
   by-run : (v : List ℕ) (t : State) → runBy x (readScript (l .script)) ≡ gives v t → Tells p x l
   by-run v t e =
@@ -127,7 +124,7 @@ freeCallsCommute p x l m bytes read ok ok′ says = (
     either : EitherOrder (l .script) (m .script) x (l .answer) (l .history) (l .work) (m .answer) (m .history) (m .work)
     either =
         callsCommute (l .script) (m .script) x (l .answer) (l .history) (l .work) (m .answer) (m .history) (m .work) (ok .0) (ok′ .0)
-        (free-which (l .script) (m .script) (omega (arith, says))) well (lent-fit l ok) (lent-fit m ok′)
+        (free-which (l .script) (m .script) (omega (arith, says))) well (ok .1 .0) (ok′ .1 .0)
 
     other : OrderAnswers p l m → Both p x well read m l ok′ ok
     other a =

@@ -6,9 +6,9 @@ use Prim.Native.Nat.{ℕ, _≤_}
 use lib.Dec.{ltb}
 use native.Mathlib.Omega.{arith}
 use lib.ListN.{length, replicate}
-use borrow.Author.Tests.{le-ltb}
-use Rattle.model.specs.Base.{pick, atFront, areBytes}
-use Rattle.model.specs.Call.{Ran, areasFit, ranBy, runBy}
+use borrow.Author.Tests.{le-ltb, ne-eqb}
+use Rattle.model.specs.Base.{pick, isIn, atFront, areBytes}
+use Rattle.model.specs.Call.{Ran, areasFit, ranBy, refusedRun, runBy}
 use Rattle.model.specs.Refusal as refusal
 use Rattle.model.specs.Run.{Out, gives, stop, State}
 use Rattle.model.specs.Script.{readScript}
@@ -17,10 +17,12 @@ use Rattle.model.specs.Sweep.{swept}
 use Rattle.model.specs.Table.{isWell}
 use Rattle.model.specs.Table as model
 use Rattle.model.specs.Undo.{back, undo}
-use Rattle.model.proofs.BoolLaws.{pick-true, pick-false}
+use Rattle.model.proofs.BoolLaws.{pick-true, pick-false, pick-ne}
+use Rattle.model.proofs.RefusedByTable.{refusedByTable}
 use Rattle.model.proofs.RunsBack.{runBy-back}
 use Rattle.model.proofs.StoredBack.{storedBack}
 use Rattle.model.proofs.SweepsWell.{sweepsWell}
+use Rattle.model.proofs.TestLaws.{isIn-at, isIn-some}
 use Rattle.model.proofs.UndoKeeps.{undoKeeps}
 use Rattle.table.specs.Words.{encode, fits}
 use Rattle.plan.specs.Calls as library
@@ -34,18 +36,17 @@ use Rattle.ffi.specs.Calls.{undoCode, undoOut}
 use Rattle.codes.specs.Codes.{codeOf, lentCode, codeUnless, areaUnless, writtenCode, finishedCode, finishedOut}
 use Rattle.ffi.specs.Running.{refusedCall, ranCall, readCall, runCalled, Called}
 use Rattle.lent.specs.Done.{outNeed, isLentShort, doneOver}
-use Rattle.promises.specs.Promise.{PlanBack, SweptBack, UndoneBack, RunDone, RunRefused, FreeRunsCommute, endedCall}
-use Rattle.promises.specs.Promise.{planLeft, historyLeft}
+use Rattle.promises.specs.Promise.{PlanBack, SweptBack, UndoneBack, LentFits, RunDone, RunRefused, RunLentShort, PlanRefused}
+use Rattle.promises.specs.Promise.{FreeRunsCommute, endedCall, planLeft, historyLeft}
 use Rattle.table.proofs.EncodeLaws.{decode-encode, fits-encode}
 use Rattle.writer.proofs.WritePlanLaws.{well-written, well-out}
 use Rattle.plan.proofs.Promised.{read-short, read-back}
 use Rattle.paths.proofs.Promised.{free-told}
-use Rattle.run.proofs.OutcomeLaws.{refuses-fine, run-refuses, outcome-well}
+use Rattle.run.proofs.OutcomeLaws.{run-refuses, outcome-well}
 use Rattle.run.proofs.Promised.{runsCommute}
 use lib.Seq.{take-at}
 use Rattle.model.specs.History.{historyBytes}
 use Rattle.lent.proofs.EndLaws.{long-enough}
-use Rattle.run.proofs.CallLaws.{areas-fit}
 
 -- A PLAN READ is the table in its words; the call then answers n and leaves b
 module _ (p o : List ℕ) (x : model.Table) (read : readPlan p ≡ got x) (room : outNeed ≤ length o) where
@@ -106,50 +107,51 @@ undone-back p h o x y w e u room =
 pub undoneBack : UndoneBack
 undoneBack p h o x y b e = undone-back p h o x y (storedBack .1 p x b e .0) e
 
--- no area is too short: each has its need
-module _ (a h w o d : List ℕ) (long : isLentShort (length a) (length h) (length w) (length o) (length d) ≡ false) where
-  pub needs : (areasFit a h w ≡ true) × (outNeed ≤ length o)
-  needs =
-      let k = long-enough (length a) (length h) (length w) (length o) (length d) long in
-      (areas-fit a h w (k .0) (k .1) (k .2), k .3)
+-- THE CALL once the plan is read
+called-on : (p s a h w o d : List ℕ) (x : model.Table) → readPlan p ≡ got x → isLentShort (length o) (length d) ≡ false →
+    runCalled p s a h w o d ≡ ranCall (resultOf (encode x) (ran (encode x) s a h w)) (ran (encode x) s a h w) o d
+called-on p s a h w o d x e long =
+    pick-false _ _ (readCall (library.planRead p) s a h w o d) long ∙
+    ap (λ (q : TableResult). readCall q s a h w o d) (ap library.readBy e)
 
 -- the call, from what the run comes to
 call-of : (p s a h w o d : List ℕ) (x : model.Table) (t : Out) → isWell x ≡ true → readPlan p ≡ got x → runBy x (readScript s) ≡ t →
-    isLentShort (length a) (length h) (length w) (length o) (length d) ≡ false → areasFit a h w ≡ true →
+    LentFits a h w o d →
     runCalled p s a h w o d ≡
     ranCall (resultOf (encode x) (ranBy x (length a) (length h) (length w) t)) (ranBy x (length a) (length h) (length w) t) o d
-call-of p s a h w o d x t well e g long fit =
+call-of p s a h w o d x t well e g ok =
     let left : ran (encode x) s a h w ≡ ranBy x (length a) (length h) (length w) t =
-    pick-true (areasFit a h w) _ _ fit ∙
+    pick-true (areasFit a h w) _ _ (ok .0) ∙
     ap (λ (y : model.Table). ranBy y (length a) (length h) (length w) (outcomeOf (encode x) s)) (decode-encode x well) ∙
     ap (ranBy x (length a) (length h) (length w)) (outcome-well x well s ∙ g) in
-    pick-false _ _ (readCall (library.planRead p) s a h w o d) long ∙
-    ap (λ (q : TableResult). readCall q s a h w o d) (ap library.readBy e) ∙
-    ap (λ (l : Ran). ranCall (resultOf (encode x) l) l o d) left
+    called-on p s a h w o d x e (ok .1) ∙ ap (λ (l : Ran). ranCall (resultOf (encode x) l) l o d) left
 
 -- a run that is refused
-refused-called : (x : model.Table) (a h w : ℕ) (f : refusal.Fault) (o d : List ℕ) → refusal.isFine f ≡ false →
+refused-called : (x : model.Table) (a h w : ℕ) (f : refusal.Fault) (o d : List ℕ) → isIn 1 10 (f .number) ≡ true →
     ranCall (resultOf (encode x) (ranBy x a h w (stop f))) (ranBy x a h w (stop f)) o d ≡
     refusedCall (codeOf (f .number) 2 (f .place)) (replicate a 0) (replicate h 0) (replicate w 0) o d
-refused-called x a h w f o d k = rw k
+refused-called x a h w f o d k = rw (ne-eqb (f .number) 0 (isIn-some 0 10 (f .number) k), ne-eqb (f .number) 11 not-lent)
+  where
+    not-lent : f .number ≡ 11 → ⊥
+    not-lent e = let l = isIn-at 1 10 (f .number) k in omega arith
 
 -- done: the areas, and the plan and the history that are left
 module _ (p s a h w o d : List ℕ) (x : model.Table) (well : isWell x ≡ true) (read : readPlan p ≡ got x)
-    (long : isLentShort (length a) (length h) (length w) (length o) (length d) ≡ false) where
+    (ok : LentFits a h w o d) where
   module _ (bytes : areBytes s ≡ true) (v : List ℕ) (t : State) (ends : runBy x (readScript s) ≡ gives v t) where
     pub run-done : runCalled p s a h w o d ≡ endedCall v t a h w o d
     run-done =
         let after : isWell (t .plan) ≡ true = runBy-back x s bytes well v t ends .0 in
-        let ok = needs a h w o d long in
+        let room = long-enough (length o) (length d) (ok .1) .0 in
         let L = ranBy x (length a) (length h) (length w) (gives v t) in
-        call-of p s a h w o d x (gives v t) well read ends long (ok .0) ∙
+        call-of p s a h w o d x (gives v t) well read ends ok ∙
         (λ i. record {
-          code = codeOf (well-written (t .plan) after o (ok .1) i .fault .number) 0 0;
+          code = codeOf (well-written (t .plan) after o room i .fault .number) 0 0;
           answer = L .answer;
           history = L .history;
           work = L .work;
-          out = well-out (t .plan) after o (ok .1) i;
-          done = doneOver (L .items) (L .made) (L .cut) (L .records) (L .bytes) (well-written (t .plan) after o (ok .1) i .bytes) d;
+          out = well-out (t .plan) after o room i;
+          done = doneOver (L .items) (L .made) (L .cut) (L .records) (L .bytes) (well-written (t .plan) after o room i .bytes) d;
         })
 
     pub plan-left : planLeft (runCalled p s a h w o d) ≡ stored (t .plan)
@@ -163,8 +165,8 @@ module _ (p s a h w o d : List ℕ) (x : model.Table) (well : isWell x ≡ true)
       runCalled p s a h w o d ≡
       refusedCall (codeOf (f .number) 2 (f .place)) (replicate (length a) 0) (replicate (length h) 0) (replicate (length w) 0) o d
   run-refused f stops =
-      call-of p s a h w o d x (stop f) well read stops long (needs a h w o d long .0) ∙
-      refused-called x (length a) (length h) (length w) f o d (refuses-fine (run-refuses x s) f stops)
+      call-of p s a h w o d x (stop f) well read stops ok ∙
+      refused-called x (length a) (length h) (length w) f o d (run-refuses x s f stops)
 
   -- answered 0: the run has ended
   pub call-ends : runCalled p s a h w o d .code ≡ codeOf 0 0 0 → (v : List ℕ) × ((t : State) × (runBy x (readScript s) ≡ gives v t))
@@ -177,10 +179,21 @@ module _ (p s a h w o d : List ℕ) (x : model.Table) (well : isWell x ≡ true)
       go (gives v t) g = (v, (t, g))
 
 pub runDone : RunDone
-runDone p s a h w o d x v t b c e g long = run-done p s a h w o d x (storedBack .1 p x b e .0) e long c v t g
+runDone p s a h w o d x v t b c e g ok = run-done p s a h w o d x (storedBack .1 p x b e .0) e ok c v t g
 
 pub runRefused : RunRefused
-runRefused p s a h w o d x f b e g long = run-refused p s a h w o d x (storedBack .1 p x b e .0) e long f g
+runRefused p s a h w o d x f b e g ok = run-refused p s a h w o d x (storedBack .1 p x b e .0) e ok f g
+
+pub runLentShort : RunLentShort
+runLentShort p s a h w o d x b e short long =
+    called-on p s a h w o d x e long ∙
+    ap (λ (l : Ran). ranCall (resultOf (encode x) l) l o d) (pick-false (areasFit a h w) _ (refusedRun refusal.lentShort _ a h w) short)
+
+pub planRefused : PlanRefused
+planRefused p s a h w o d f e long =
+    pick-false _ _ (readCall (library.planRead p) s a h w o d) long ∙
+    ap (λ (q : TableResult). readCall q s a h w o d) (ap library.readBy e) ∙
+    pick-ne _ _ (isIn-some 0 6 (f .number) (refusedByTable .0 p f e))
 
 -- THE TWO CALLS of the library, in either order
 pub freeRunsCommute : FreeRunsCommute

@@ -5,7 +5,8 @@ use mathlib.Core.List.{List}
 use Prim.Native.Nat.{ℕ}
 use native.Mathlib.Omega.{arith}
 use lib.ListN.{length}
-use Rattle.model.specs.Base.{atFront}
+use Rattle.model.specs.Base.{areBytes, atFront}
+use Rattle.model.specs.Call.{areasFit}
 use Rattle.model.specs.History.{historyBytes}
 use Rattle.model.specs.Stored.{stored, got, readPlan}
 use Rattle.model.specs.Table.{Table}
@@ -17,17 +18,17 @@ use Rattle.plan.specs.Calls as library
 use Rattle.plan.proofs.Promised.{read-got}
 use Rattle.model.proofs.RunsBack.{runBy-back}
 use Rattle.ffi.specs.Calls.{undoCode, undoOut}
-use Rattle.ffi.specs.Running.{runCalled}
-use Rattle.promises.specs.Promise.{historyLeft, RunUndone}
+use Rattle.ffi.specs.Running.{Called, runCalled}
+use Rattle.promises.specs.Promise.{LentFits, historyLeft, RunUndone}
 use Rattle.ffi.proofs.RunLaws.{call-short, call-plan-refused}
-use Rattle.promises.proofs.Promised.{undone-back, plan-left, history-left, call-ends}
+use Rattle.promises.proofs.Promised.{undone-back, plan-left, history-left, call-ends, runLentShort}
 
--- THE ANSWER 0: no area is too short, and the plan is read
+-- THE ANSWER 0: the plan is read, and no area is too short
 module _ (p s a h w o d : List ℕ) (answers : runCalled p s a h w o d .code ≡ codeOf 0 0 0) where
-  call-long : isLentShort (length a) (length h) (length w) (length o) (length d) ≡ false
-  call-long = by-cases (isLentShort (length a) (length h) (length w) (length o) (length d)) (λ z. absurd (short z)) (λ z. z)
+  call-long : isLentShort (length o) (length d) ≡ false
+  call-long = by-cases (isLentShort (length o) (length d)) (λ z. absurd (short z)) (λ z. z)
     where
-      short : isLentShort (length a) (length h) (length w) (length o) (length d) ≡ true → ⊥
+      short : isLentShort (length o) (length d) ≡ true → ⊥
       short z = omega (arith, call-short p s a h w o d true (sym z) lentCode refl refl .0 ∙ answers)
 
   call-read : (x : Table) × (readPlan p ≡ got x)
@@ -41,17 +42,27 @@ module _ (p s a h w o d : List ℕ) (answers : runCalled p s a h w o d .code ≡
           refl refl refl .0 ∙ answers in
           omega arith
 
+  call-fits : areBytes p ≡ true → LentFits a h w o d
+  call-fits bytes = (by-cases (areasFit a h w) (λ z. z) (λ z. absurd (short z)), call-long)
+    where
+      short : areasFit a h w ≡ false → ⊥
+      short z =
+          let g = call-read in
+          let c : lentCode ≡ 0 =
+          sym (ap (λ (q : Called). q .code) (runLentShort p s a h w o d (g .0) bytes (g .1) z call-long)) ∙ answers in
+          omega arith
+
 pub runUndone : RunUndone
 runUndone p s a h w o d o′ bytes bytes′ answers room =
-    let long = call-long p s a h w o d answers in
+    let ok = call-fits p s a h w o d answers bytes in
     let g = call-read p s a h w o d answers in
     let x = g .0 in
     let before = storedBack .1 p x bytes (g .1) in
-    let k = call-ends p s a h w o d x (before .0) (g .1) long answers in
+    let k = call-ends p s a h w o d x (before .0) (g .1) ok answers in
     let v = k .0 in
     let t = k .1 .0 in
-    let P = plan-left p s a h w o d x (before .0) (g .1) long bytes′ v t (k .1 .1) in
-    let H = history-left p s a h w o d x (before .0) (g .1) long bytes′ v t (k .1 .1) in
+    let P = plan-left p s a h w o d x (before .0) (g .1) ok bytes′ v t (k .1 .1) in
+    let H = history-left p s a h w o d x (before .0) (g .1) ok bytes′ v t (k .1 .1) in
     let after = runBy-back x s bytes′ (before .0) v t (k .1 .1) in
     let u =
     undone-back (stored (t .plan)) (historyBytes (t .history)) o′ (t .plan) x (after .0) (storedBack .0 (t .plan) (after .0))

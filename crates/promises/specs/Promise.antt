@@ -13,14 +13,14 @@ use Rattle.model.specs.History.{madeElementKind, madeLeafKind, cutKind, history
 use Rattle.model.specs.Refusal.{Fault, fine}
 use Rattle.model.specs.Run.{State, gives, stop}
 use Rattle.model.specs.Script.{readScript}
-use Rattle.model.specs.Stored.{stored, got, readPlan}
+use Rattle.model.specs.Stored.{stored, bad, got, readPlan}
 use Rattle.model.specs.Sweep.{swept}
 use Rattle.model.specs.Table.{Table}
 use Rattle.model.specs.Undo.{back, undo}
 use Rattle.ffi.specs.Calls.{planCode, planOut, sweepCode, sweepOut, undoCode, undoOut, analyseCode}
-use Rattle.codes.specs.Codes.{codeOf}
+use Rattle.codes.specs.Codes.{codeOf, lentCode}
 use Rattle.ffi.specs.Running.{Called, refusedCall, runCalled}
-use Rattle.lent.specs.Done.{outNeed, isLentShort, doneOver}
+use Rattle.lent.specs.Done.{outNeed, isLentShort, withoutRun, doneOver}
 use Rattle.paths.specs.Analysis.{analysed, values, valuesOf}
 use Rattle.run.specs.Promise.{EitherRun}
 use Rattle.table.specs.Words.{fits}
@@ -57,20 +57,36 @@ endedCall v t a h w o d =
           (length (t .history)) (length (historyBytes (t .history))) (length (stored (t .plan))) d;
     }
 
+-- no area is too short
+abbrev pub LentFits : (answer history work out done : List ℕ) → Type 0
+LentFits a h w o d = (areasFit a h w ≡ true) × (isLentShort (length o) (length d) ≡ false)
+
 -- a run that ends
 abbrev pub RunDone : Type 0
 RunDone =
     (p s a h w o d : List ℕ) (x : Table) (v : List ℕ) (t : State) → areBytes p ≡ true → areBytes s ≡ true → readPlan p ≡ got x →
-    runBy x (readScript s) ≡ gives v t → isLentShort (length a) (length h) (length w) (length o) (length d) ≡ false →
-    runCalled p s a h w o d ≡ endedCall v t a h w o d
+    runBy x (readScript s) ≡ gives v t → LentFits a h w o d → runCalled p s a h w o d ≡ endedCall v t a h w o d
 
 -- refused by the script's reader or by the run: answer, history and work are zero, out is as it was, the six numbers are zero
 abbrev pub RunRefused : Type 0
 RunRefused =
     (p s a h w o d : List ℕ) (x : Table) (f : Fault) → areBytes p ≡ true → readPlan p ≡ got x → runBy x (readScript s) ≡ stop f →
-    isLentShort (length a) (length h) (length w) (length o) (length d) ≡ false →
+    LentFits a h w o d →
     runCalled p s a h w o d ≡
     refusedCall (codeOf (f .number) 2 (f .place)) (replicate (length a) 0) (replicate (length h) 0) (replicate (length w) 0) o d
+
+-- refused since answer, history or work is too short: 11 once the plan is read; the three are untouched, the six numbers are zero
+abbrev pub RunLentShort : Type 0
+RunLentShort =
+    (p s a h w o d : List ℕ) (x : Table) → areBytes p ≡ true → readPlan p ≡ got x → areasFit a h w ≡ false →
+    isLentShort (length o) (length d) ≡ false → runCalled p s a h w o d ≡ refusedCall lentCode a h w o d
+
+-- refused since the plan is, whatever the script and the lengths of answer, history and work: nothing runs
+abbrev pub PlanRefused : Type 0
+PlanRefused =
+    (p s a h w o d : List ℕ) (f : Fault) → readPlan p ≡ bad f → isLentShort (length o) (length d) ≡ false →
+    runCalled p s a h w o d ≡
+    refusedCall (codeOf (f .number) 1 (f .place)) (withoutRun a h w a) (withoutRun a h w h) (withoutRun a h w w) o d
 
 -- RUN AND TAKEN BACK: the plan and the history that a run's call left, as long as its six numbers say; undone, the plan comes back
 abbrev pub planLeft : Called → List ℕ
@@ -106,8 +122,7 @@ pub record Request : Type 0 where
 -- the script is bytes, and no area is too short
 abbrev pub Suffices : Request → Type 0
 Suffices l =
-    (areBytes (l .script) ≡ true) ×
-    (isLentShort (length (l .answer)) (length (l .history)) (length (l .work)) (length (l .out)) (length (l .done)) ≡ false)
+    (areBytes (l .script) ≡ true) × LentFits (l .answer) (l .history) (l .work) (l .out) (l .done)
 
 -- a script's run on a plan, and on the plan that another's left
 abbrev pub runRequest : (plan : List ℕ) → Request → Called

@@ -8,7 +8,7 @@ use native.Mathlib.Omega.{arith}
 use lib.Dec.{leb, eqb}
 use lib.ListN.{length, take, drop, replicate, length-take, length-replicate, take-append-drop}
 use lib.Seq.{length-take-le}
-use borrow.Author.Tests.{eqb-true, eqb-false, le-leb, lt-leb, leb-true}
+use borrow.Author.Tests.{eqb-true, eqb-false, le-leb, leb-true}
 use Rattle.model.specs.Base.{pick, atFront, nothing, also, bit}
 use Rattle.model.specs.Refusal as refusal
 use Rattle.model.specs.Script.{readScript}
@@ -16,6 +16,7 @@ use Rattle.model.specs.History.{Record, historyBytes, AllInRange, times, isCut}
 use Rattle.model.specs.Run.{Out, stop, gives, run}
 use Rattle.model.specs.Call.{Ran, filled, countKind, areasFit, ranBy, refusedRun, runBy}
 use Rattle.model.proofs.BoolLaws.{by-cases, pick-true, pick-false, and-left, and-right, and-both, pick-ne}
+use Rattle.model.proofs.TestLaws.{and-three}
 use Rattle.records.specs.Walk.{endAt, exprAt}
 use Rattle.script.specs.Reading.{scriptRead}
 use Rattle.script.proofs.ScriptLaws.{script-accepted, script-parsed, script-ill}
@@ -266,64 +267,58 @@ pub areas-fit : (a h w : List ℕ) → 512 ≤ length a → 12288 ≤ length h �
 areas-fit a h w la lh lw =
     and-both _ _ (and-both _ _ (le-leb 512 (length a) la) (le-leb 12288 (length h) lh)) (le-leb 32768 (length w) lw)
 
-module _ (t : Table) (b a h w : List ℕ) where
-  short-leaves : areasFit a h w ≡ false → ran t b a h w ≡ refusedRun refusal.lentShort (decode t) a h w
-  short-leaves e = pick-false (areasFit a h w) _ _ e
+areas-long : (a h w : List ℕ) → areasFit a h w ≡ true → (512 ≤ length a) × (12288 ≤ length h) × (32768 ≤ length w)
+areas-long a h w e =
+    let k = and-three (leb 512 (length a)) (leb 12288 (length h)) (leb 32768 (length w)) e in
+    (leb-true 512 (length a) (k .0), leb-true 12288 (length h) (k .1), leb-true 32768 (length w) (k .2))
 
-  pub short-result : areasFit a h w ≡ false → {r : RunResult} → r ≡ refusedResult 11 0 t →
+module _ (t : Table) (b a h w : List ℕ) {z : Bool} (is : z ≡ areasFit a h w) where
+  pub short-result : z ≡ false → {r : RunResult} → r ≡ refusedResult 11 0 t →
       (r ≡ runResult t b a h w) × (a ≡ ran t b a h w .answer) × (h ≡ ran t b a h w .history) × (w ≡ ran t b a h w .work)
   short-result e er = (
-    er ∙ ap (resultOf t) (sym (short-leaves e)),
-    ap (λ (r : Ran). r .answer) (sym (short-leaves e)),
-    ap (λ (r : Ran). r .history) (sym (short-leaves e)),
-    ap (λ (r : Ran). r .work) (sym (short-leaves e)),
-  )
-
-  pub short-answer : length a < 512 → areasFit a h w ≡ false
-  short-answer l = rw (lt-leb 512 (length a) l)
-
-  pub short-history : 512 ≤ length a → length h < 12288 → areasFit a h w ≡ false
-  short-history m l = rw (le-leb 512 (length a) m, lt-leb 12288 (length h) l)
-
-  pub short-work : 512 ≤ length a → 12288 ≤ length h → length w < 32768 → areasFit a h w ≡ false
-  short-work m o l = rw (le-leb 512 (length a) m, le-leb 12288 (length h) o, lt-leb 32768 (length w) l)
-
-  -- areas that fit, cleared first
-  pub cleared-pre : {a′ h′ : List ℕ} → 512 ≤ length a → 12288 ≤ length h → 32768 ≤ length w → a′ ≡ replicate (length a) 0 →
-      h′ ≡ replicate (length h) 0 → RunPre a′ h′ w
-  cleared-pre {a′} {h′} la lh lw ea eh =
-      let sa : length a′ ≡ length a = ap length ea ∙ length-replicate (length a) 0 in
-      let sh : length h′ ≡ length h = ap length eh ∙ length-replicate (length h) 0 in
-      record {
-        answer = omega arith;
-        history = omega arith;
-        work = lw;
-        answered = ea ∙ ap (λ (j : ℕ). replicate j 0) (sym sa);
-        recorded = eh ∙ ap (λ (j : ℕ). replicate j 0) (sym sh);
-      }
-
-  pub run-done : {a′ h′ a″ h″ w″ : List ℕ} {r : RunResult} → 512 ≤ length a → 12288 ≤ length h → 32768 ≤ length w →
-      a′ ≡ replicate (length a) 0 → h′ ≡ replicate (length h) 0 → RunPost t b a′ h′ w a″ h″ r → w″ ≡ replicate (length w) 0 →
-      (r ≡ runResult t b a h w) × (a″ ≡ ran t b a h w .answer) × (h″ ≡ ran t b a h w .history) × (w″ ≡ ran t b a h w .work)
-  run-done {a′} {h′} {a″} {h″} {w″} {r} la lh lw ea eh post ew = (
-    post .result ∙ ap (resultOf t) same,
-    post .answer ∙ ap (λ (r : Ran). r .answer) same,
-    post .history ∙ ap (λ (r : Ran). r .history) same,
-    ew ∙ works (outcomeOf t b) ∙ ap (λ (r : Ran). r .work) same,
+    er ∙ ap (resultOf t) (sym leaves),
+    ap (λ (r : Ran). r .answer) (sym leaves),
+    ap (λ (r : Ran). r .history) (sym leaves),
+    ap (λ (r : Ran). r .work) (sym leaves),
   )
     where
-      sa : length a′ ≡ length a
-      sa = ap length ea ∙ length-replicate (length a) 0
+      leaves : ran t b a h w ≡ refusedRun refusal.lentShort (decode t) a h w
+      leaves = pick-false (areasFit a h w) _ _ (sym is ∙ e)
 
-      sh : length h′ ≡ length h
-      sh = ap length eh ∙ length-replicate (length h) 0
+  -- areas that fit, cleared first
+  module _ (fit : z ≡ true) {a′ h′ : List ℕ} (ea : a′ ≡ replicate (length a) 0) (eh : h′ ≡ replicate (length h) 0) where
+    sa : length a′ ≡ length a
+    sa = ap length ea ∙ length-replicate (length a) 0
 
-      same : ranBy (decode t) (length a′) (length h′) (length w) (outcomeOf t b) ≡ ran t b a h w
-      same =
-          ap (λ (j : ℕ). ranBy (decode t) j (length h′) (length w) (outcomeOf t b)) sa ∙
-          ap (λ (j : ℕ). ranBy (decode t) (length a) j (length w) (outcomeOf t b)) sh ∙
-          sym (pick-true (areasFit a h w) (ranBy (decode t) (length a) (length h) (length w) (outcomeOf t b)) _ (areas-fit a h w la lh lw))
+    sh : length h′ ≡ length h
+    sh = ap length eh ∙ length-replicate (length h) 0
 
-      works : (o : Out) → replicate (length w) 0 ≡ ranBy (decode t) (length a′) (length h′) (length w) o .work
-      works (stop f) = refl
-      works (gives v s) = refl
+    pub cleared-pre : RunPre a′ h′ w
+    cleared-pre =
+        let k = areas-long a h w (sym is ∙ fit) in
+        record {
+          answer = omega (arith, sa, k .0);
+          history = omega (arith, sh, k .1);
+          work = k .2;
+          answered = ea ∙ ap (λ (j : ℕ). replicate j 0) (sym sa);
+          recorded = eh ∙ ap (λ (j : ℕ). replicate j 0) (sym sh);
+        }
+
+    pub run-done : {a″ h″ w″ : List ℕ} {r : RunResult} → RunPost t b a′ h′ w a″ h″ r → w″ ≡ replicate (length w) 0 →
+        (r ≡ runResult t b a h w) × (a″ ≡ ran t b a h w .answer) × (h″ ≡ ran t b a h w .history) × (w″ ≡ ran t b a h w .work)
+    run-done {a″} {h″} {w″} {r} post ew = (
+      post .result ∙ ap (resultOf t) same,
+      post .answer ∙ ap (λ (r : Ran). r .answer) same,
+      post .history ∙ ap (λ (r : Ran). r .history) same,
+      ew ∙ works (outcomeOf t b) ∙ ap (λ (r : Ran). r .work) same,
+    )
+      where
+        same : ranBy (decode t) (length a′) (length h′) (length w) (outcomeOf t b) ≡ ran t b a h w
+        same =
+            ap (λ (j : ℕ). ranBy (decode t) j (length h′) (length w) (outcomeOf t b)) sa ∙
+            ap (λ (j : ℕ). ranBy (decode t) (length a) j (length w) (outcomeOf t b)) sh ∙
+            sym (pick-true (areasFit a h w) (ranBy (decode t) (length a) (length h) (length w) (outcomeOf t b)) _ (sym is ∙ fit))
+
+        works : (o : Out) → replicate (length w) 0 ≡ ranBy (decode t) (length a′) (length h′) (length w) o .work
+        works (stop f) = refl
+        works (gives v s) = refl

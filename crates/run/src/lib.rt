@@ -11,6 +11,8 @@ use table::Table;
 use table::fit;
 use updates::state::Progress;
 
+pub mod lengths;
+
 // What a run needs of each lent area.
 pub const ANSWER: usize = Table::ITEMS;
 
@@ -118,13 +120,7 @@ pub fn run(
     ensures { λ r. ⌜ now (work .exit) ≡
         ran table (now (script .entry)) (now (answer .entry)) (now (history .entry)) (now (work .entry)) .work ⌝ }
 {
-    if answer.len() < ANSWER {
-        return refused(Fault::LENT, 0, table);
-    }
-    if history.len() < HISTORY {
-        return refused(Fault::LENT, 0, table);
-    }
-    if work.len() < WORK {
+    if !lengths::fit(answer.len(), history.len(), work.len()) {
         return refused(Fault::LENT, 0, table);
     }
     area::clear_words(answer);

@@ -1,4 +1,4 @@
--- `yegnabit_run` answers and leaves what `runCalled` says, by its three ways out: an area too short, the plan refused, the run over.
+-- `yegnabit_run` answers and leaves what `runCalled` says, by its three ways out: out or done too short, the plan refused, the run over.
 use mathlib.Core.Path.{_∙_, ap}
 use Rattle.ffi.proofs.FittingLaws.{bytes-known, read-fits}
 use Rattle.table.specs.Words.{fits}
@@ -37,9 +37,7 @@ put-done-requires c κs =
     let c14 = c13 .before in
     let c22 = c14 .before .before .before .before .before .before .before .before in
     let x = c22 .args in
-    six-fit (c14 .is-lent-short .result) (length (x .answer .now)) (length (x .history .now)) (length (x .work .now)) (length (x .out
-    .now))
-    (length (x .done .now)) (c14 .is-lent-short .ensures) (c13 .if1 .left)
+    six-fit (c14 .is-lent-short .result) (length (x .out .now)) (length (x .done .now)) (c14 .is-lent-short .ensures) (c13 .if1 .left)
 
 code-requires-2 : tie.Need-code-requires-2
 code-requires-2 c κs = search needs
@@ -93,8 +91,8 @@ end-requires c κs =
           (ap (λ (q : TableResult). fits (q .table)) (c14 .read-plan .ensures) ∙
           read-fits (x .plan .now) (bytes-known (x .plan .now) (λ i. c23 .shared-slice-known .given i .fits))) .0;
       room =
-          six-fit (c16 .is-lent-short .result) (length (x .answer .now)) (length (x .history .now)) (length (x .work .now))
-          (length (x .out .now)) (length (x .done .now)) (c16 .is-lent-short .ensures) (c15 .if1 .left);
+          six-fit (c16 .is-lent-short .result) (length (x .out .now)) (length (x .done .now)) (c16 .is-lent-short .ensures) (c15
+          .if1 .left);
     }
 
 same-length-5 : tie.Need-same-length-5
