@@ -1,3 +1,4 @@
 pub mod PairLaws
 pub mod ExamplesHold
 pub mod FilesByFront
+pub mod FreeLines

@@ -18,10 +18,10 @@ abbrev pub hasEnded : Order → Bool
 hasEnded (Stopped s n) = false
 hasEnded (Ended i j r) = true
 
--- for every plan that is read and every two scripts that the analysis calls free, both orders end or neither; where they end, both lines
+-- for every plan that is read and every two scripts that the analysis calls free, both orders end or neither; where they end, they
 -- have the same numbers
-abbrev pub FreeLines : Type 0
-FreeLines =
+abbrev pub FreeOrders : Type 0
+FreeOrders =
     (p b c : List ℕ) (x : model.Table) → areBytes p ≡ true → areBytes b ≡ true → areBytes c ≡ true → readPlan p ≡ got x →
     analyse b c ≡ answered free →
     (hasEnded (order (encode x) b c) ≡ hasEnded (swap (order (encode x) c b))) ×

@@ -1,4 +1,4 @@
--- After `answer free` the lines of both orders have the same numbers, or both say refused.
+-- Both orders of two free scripts have the same numbers, or both are refused: FreeOrders.
 use mathlib.Core.Path.{_≡_, refl, ap, sym, _∙_}
 use mathlib.Core.Bool.{true, _&&_, false≢true}
 use mathlib.Core.List.{List}
@@ -19,7 +19,7 @@ use Rattle.model.proofs.CallsCommute.{length-matchedAll, free-scripts}
 use Rattle.model.proofs.FreeCommutes.{freeCommutes}
 use Rattle.table.specs.Words.{encode}
 use Rattle.sequence.specs.Orders.{endingBy, ending, orderThen, orderFrom, order, swap}
-use Rattle.sequence.specs.Promise.{hasEnded, FreeLines}
+use Rattle.sequence.specs.Promise.{hasEnded, FreeOrders}
 use Rattle.sequence.specs.declared.orders.Ending.{Ending}
 use Rattle.lines.specs.declared.line.Order.{Order}
 use Rattle.lines.specs.declared.line.Order.the-variants.{Stopped, Ended}
@@ -79,8 +79,8 @@ alike (gives v s) (gives w u) (gives v′ s′) (gives w′ u′) g h i j k =
     ap (λ (n : ℕ). Ended n (length w) (count (u .plan))) (sym i) ∙ ap (λ (n : ℕ). Ended (length w′) n (count (u .plan))) (sym j) ∙
     ap (Ended (length w′) (length v′)) k
 
-pub freeLines : FreeLines
-freeLines p b c x bytes bytesB bytesC read says = free-scripts b c says both
+pub freeOrders : FreeOrders
+freeOrders p b c x bytes bytesB bytesC read says = free-scripts b c says both
   where
     well : isWell x ≡ true
     well = storedBack .1 p x bytes read .0
