@@ -95,7 +95,8 @@ module _ (up : Tally → Tally) {M : Type 1} (𝓤 : URA M) (H : Heap 𝓤) (A :
           → ent 𝓤 (sep 𝓤 (sem 𝓤 H A (T.the-row .own h (vals h))) (sem 𝓤 H A (T.the-row .own r (vals r)))) (Post (T′.lowered r))
       exits r e =
           qed W (‵ (T.the-row .own h (vals h)) ∷ ‵ (T.the-row .own r (vals r)) ∷ []) ∵ suffices ! _
-          (ends-at 𝓤 H A by-value stayed (ByValue up 𝓤 H A) W ((tt, tt, tt, (h, tt), (vals h, tt)), tt) (T′.lowered r) r (tt, tt) (tt, tt)) $
+          (ends-at 𝓤 H A by-value stayed (ByValue up 𝓤 H A) W ((tt, tt, tt, (h, tt), (vals h, tt)), tt) (T′.lowered r) r (tt, tt)
+          (tt, tt)) $
           says ! e $ nothing ! $ move ! (1 ∷ 0 ∷ []) $ fjoin ! $ nothing ! $ done !
 
       -- the local at (b, 0), lent at the record h under the name δ

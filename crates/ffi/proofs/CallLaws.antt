@@ -35,7 +35,8 @@ module _ (o : List ℕ) (n : ℕ) (b : List ℕ) where
         y : eqb (q .fault .number) 0 ≡ false
         y = ne-eqb (q .fault .number) 0 (λ k. z (ap (λ (t : TableResult). t .fault .number) e ∙ k))
 
-    pub plan-done : {c : ℕ} {l : List ℕ} → c ≡ n → l ≡ b → r .fault .number ≡ 0 → Answers o (codeUnless (q .fault) 1 n) (areaUnless (q .fault) b o) c l
+    pub plan-done : {c : ℕ} {l : List ℕ} → c ≡ n → l ≡ b → r .fault .number ≡ 0 →
+        Answers o (codeUnless (q .fault) 1 n) (areaUnless (q .fault) b o) c l
     plan-done f g z = (f ∙ rw (le-ltb (length o) outNeed h, y), g ∙ rw (le-ltb (length o) outNeed h, y))
       where
         y : eqb (q .fault .number) 0 ≡ true

@@ -22,7 +22,8 @@ use Rattle.updates.specs.State.{stateOf, outcome, After, Updated, stopped}
 use Rattle.updates.specs.Updating.{NewPre}
 use Rattle.insertion.specs.Inserting.{before, copiedIn, IsCopy, RestPre, RestPost, ItemPre, ItemPost, ItemsPre, ItemsPost, InsertPre}
 use Rattle.updates.specs.declared.state.Progress.{Progress}
-use Rattle.updates.proofs.StateLaws.{held-within, held-count, after-self, after-then, outcome-gives, then-goes, updated-stopped, then-stops}
+use Rattle.updates.proofs.StateLaws.{held-within, held-count, after-self, after-then, outcome-gives, then-goes, then-stops}
+use Rattle.updates.proofs.StateLaws.{updated-stopped}
 use Rattle.insertion.proofs.InsertLawsScan.{descendants-past}
 use Rattle.insertion.proofs.InsertLaws.{made-state, made-old, made-copy, target-low, copy-row, copy-pre}
 use Rattle.insertion.proofs.InsertLaws.{before-decode, row-before, rows-kept}

@@ -6,7 +6,8 @@ use lib.Dec.{eqb}
 use borrow.Author.Tests.{eqb-true}
 use Rattle.model.specs.Script.{Step}
 use Rattle.model.specs.Paths.{Place, Path, start, _▸_}
-use Rattle.model.specs.Meeting.{Cell, onCell, joinCell, isDeep, isParent, isNamed, admitsElement, admitsLeaf, shareElement, shareLeaf}
+use Rattle.model.specs.Meeting.{Cell, onCell, joinCell, isDeep, isParent, isNamed, admitsElement, admitsLeaf}
+use Rattle.model.specs.Meeting.{shareElement, shareLeaf}
 use Rattle.model.specs.Meeting.{samePlace, isConstructor, startCell, onStep, downStep, upStep, startCells, stepCells, cell}
 use Rattle.model.proofs.BoolLaws.{eqb-iff, and-left}
 

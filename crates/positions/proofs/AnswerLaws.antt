@@ -85,7 +85,8 @@ module _ (es fs : List Entry) where
       (length es)
   unfolding any
   roles-meet f g =
-      pathsWith-any (λ (ps : List Path). anyMeet ps (pathsWith g fs)) refl (any-append (λ (p : Path). any (meets p) (pathsWith g fs))) f es ∙
+      pathsWith-any (λ (ps : List Path). anyMeet ps (pathsWith g fs)) refl (any-append (λ (p : Path). any (meets p) (pathsWith g fs)))
+      f es ∙
       anyUpTo-same _ _ (length es) (λ k.
       ap (λ (t : Bool). f (entryAt es k) && t)
       (pathsWith-any (anyMeet (pathsOn es k)) (anyMeet-none (pathsOn es k)) (anyMeet-append (pathsOn es k)) g fs) ∙
@@ -101,7 +102,8 @@ module _ (es fs : List Entry) where
   tested false b true d t = refl
   tested false b false d t = refl
 
-  pub positions-meet : (anyMeet (pathsWith isModified es) (pathsWith isAccessed fs) || anyMeet (pathsWith isModified fs) (pathsWith isAccessed es)) ≡
+  pub positions-meet :
+      (anyMeet (pathsWith isModified es) (pathsWith isAccessed fs) || anyMeet (pathsWith isModified fs) (pathsWith isAccessed es)) ≡
       positionsMeet es fs
   positions-meet =
       ap (λ (t : Bool). t || anyMeet (pathsWith isModified fs) (pathsWith isAccessed es)) (roles-meet isModified isAccessed) ∙

@@ -53,13 +53,15 @@ module _ (p o : List ℕ) (x : model.Table) (read : readPlan p ≡ got x) (room 
   the-plan : library.planRead p ≡ results.result refusal.fine x
   the-plan = ap library.readBy read
 
-  code-then : (n : TableResult → ℕ) → pick (ltb (length o) outNeed) lentCode (codeUnless (library.planRead p .fault) 1 (n (library.planRead p))) ≡
+  code-then : (n : TableResult → ℕ) →
+      pick (ltb (length o) outNeed) lentCode (codeUnless (library.planRead p .fault) 1 (n (library.planRead p))) ≡
       n (results.result refusal.fine x)
   code-then n =
       ap (λ (q : TableResult). pick (ltb (length o) outNeed) lentCode (codeUnless (q .fault) 1 (n q))) the-plan ∙
       pick-false _ lentCode _ (le-ltb (length o) outNeed room)
 
-  out-then : (b : TableResult → List ℕ) → pick (ltb (length o) outNeed) o (areaUnless (library.planRead p .fault) (b (library.planRead p)) o) ≡
+  out-then : (b : TableResult → List ℕ) →
+      pick (ltb (length o) outNeed) o (areaUnless (library.planRead p .fault) (b (library.planRead p)) o) ≡
       b (results.result refusal.fine x)
   out-then b =
       ap (λ (q : TableResult). pick (ltb (length o) outNeed) o (areaUnless (q .fault) (b q) o)) the-plan ∙

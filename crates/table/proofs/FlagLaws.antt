@@ -27,8 +27,8 @@ module _ (f : List ℕ → ℕ → Bool) (fs v : List ℕ) where
   flags-all d h x = subst (λ (l : List ℕ). Flags (f l) fs) (take-all d v h) x
 
   -- one entry more: its row has the link, or it has none
-  module _ (link : ℕ → ℕ) (snoc : (u : List ℕ) (j k : ℕ) → f (u ++ (j ∷ [])) k ≡ (f u k || eqb (link j) (k + 1))) (d : ℕ) (h : d < length v)
-      (x : Flags (f (take d v)) fs) where
+  module _ (link : ℕ → ℕ) (snoc : (u : List ℕ) (j k : ℕ) → f (u ++ (j ∷ [])) k ≡ (f u k || eqb (link j) (k + 1))) (d : ℕ)
+      (h : d < length v) (x : Flags (f (take d v)) fs) where
     abbrev l : ℕ
     l = link (getD v d 0)
 

@@ -83,7 +83,8 @@ returns-2 c =
     c .accepted .ensures ∙
     sweep-done (c23 .args .t1) _ (sym (c17 .fits2 .ensures) ∙ not-false (c17 .fits2 .result) (c16 .if1 .left))
     (encode-swept (c23 .args .t1 .rows) (c23 .args .t1 .marks) (c23 .args .t1 .count) (fitting (c16)) (size (c23) .rows) (c8 .rows2
-    .result) (c8 .rows2 .last .1 .1 .1 .0) (c8 .rows2 .last .1 .1 .1 .1 .0) (c8 .rows2 .ensures) (c .before .before .renumber .last .0) (c .before .before .renumber .ensures))
+    .result) (c8 .rows2 .last .1 .1 .1 .0) (c8 .rows2 .last .1 .1 .1 .1 .0) (c8 .rows2 .ensures)
+    (c .before .before .renumber .last .0) (c .before .before .renumber .ensures))
 
 pub sweep-table-spec : {M : Type 1} → statement M
 sweep-table-spec =

@@ -12,7 +12,8 @@ returns : tie.Need-returns
 returns c =
     let c1 = c .before in
     let x = c1 .before .before .before .before .args in
-    let kept = left-alone (x .answer .now) (x .history .now) (x .work .now) (c1 .fit .ensures) (not-true (c1 .fit .result) (c .if1 .taken)) in
+    let kept = left-alone (x .answer .now) (x .history .now) (x .work .now) (c1 .fit .ensures) (not-true (c1 .fit .result) (c .if1
+    .taken)) in
     (kept (x .answer .now), (kept (x .history .now), kept (x .work .now)))
 
 clear-words-requires : tie.Need-clear-words-requires

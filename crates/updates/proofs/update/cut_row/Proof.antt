@@ -51,8 +51,10 @@ put-cut-requires : tie.Need-put-cut-requires
 put-cut-requires c κs =
     let c4 = c .before .before .before .before in
     let c5 = c4 .before in
-    let c10 = c5 .before .before .before .before .before in
-    (omega (arith, c10 .pre .held .size, c10 .pre .held .area, c .before .before .if2 .left), (omega (arith, c10 .pre .row, c10 .pre .held .few), omega (arith, c5 .link .ensures, cut-low (c10 .pre) (has-parent (c4)))))
+    let c10 = c5 .before .before .before .before .before in (
+      omega (arith, c10 .pre .held .size, c10 .pre .held .area, c .before .before .if2 .left),
+      (omega (arith, c10 .pre .row, c10 .pre .held .few), omega (arith, c5 .link .ensures, cut-low (c10 .pre) (has-parent (c4)))),
+    )
 
 add-t9 : tie.Need-add-t9
 add-t9 c =
@@ -79,7 +81,8 @@ returns-3 c =
     let c8 = c6 .before .before in
     let c9 = c8 .before in
     let c14 = c9 .before .before .before .before .before in
-    cut-done (c14 .pre) (has-parent (c8)) (omega (arith, c6 .if2 .left)) (c5 .relinked .ensures) (c9 .link .ensures) (c3 .put-cut .ensures) (c .count-cut .ensures)
+    cut-done (c14 .pre) (has-parent (c8)) (omega (arith, c6 .if2 .left)) (c5 .relinked .ensures) (c9 .link .ensures)
+    (c3 .put-cut .ensures) (c .count-cut .ensures)
 
 pub cut-row-spec : {M : Type 1} → statement M
 cut-row-spec =
