@@ -1,10 +1,9 @@
 -- The table of pairs, filled cell by cell: one law for each way out of the code that makes a cell, and one for each loop.
 use mathlib.Core.Path.{_≡_, refl, ap, sym, _∙_, subst}
-use mathlib.Core.Bool.{Bool, true, false, _&&_, _||_, and-false, or-true}
+use mathlib.Core.Bool.{Bool, true, false, _&&_, and-false}
 use mathlib.Core.List.{List, [], _∷_}
-use Prim.Native.Nat.{ℕ, zero, suc, _+_, _≤_, _<_}
+use Prim.Native.Nat.{ℕ, _+_, _≤_, _<_}
 use native.Mathlib.Omega.{arith}
-use native.Mathlib.Numerals.{add-one}
 use lib.Dec.{eqb}
 use lib.ListN.{length, getD, length-map, List·getD-map}
 use borrow.Author.Tests.{ne-eqb}
@@ -16,7 +15,7 @@ use Rattle.model.proofs.BoolLaws.{eq-cases}
 use Rattle.positions.specs.Positions as positions
 use Rattle.meeting.specs.Cells.{noCell, sum, between, Cells}
 use Rattle.positions.specs.Sources.{Source, fromRoot, fromStep, sourcesOf, rootsCell, sourceCell}
-use Rattle.positions.specs.Sources.{sourcesCell, cellTo, cellBy, Filled, anyUpTo, isTested, meetAt, rowMeets}
+use Rattle.positions.specs.Sources.{sourcesCell, cellTo, cellBy, Filled, isTested, meetAt, rowMeets}
 use Rattle.meeting.specs.Codes.{cellOf}
 use Rattle.positions.specs.Words.{stepIn, positionBy, entryBy, fieldsOf, entryOf, entriesBy}
 use Rattle.meeting.specs.Pairs.{marks, HasRows, ClearPost, PairPre, MarkPost}
@@ -25,6 +24,7 @@ use Rattle.positions.specs.declared.packed.Position.{Position}
 use Rattle.meeting.specs.declared.cells.Cell as declared
 use Rattle.meeting.proofs.CellLaws.{between-none, join-nothing, on-respects, down-respects, up-respects}
 use Rattle.meeting.proofs.PairLaws.{fewer-rows}
+use Rattle.positions.proofs.AnyUpToLaws.{anyUpTo-none}
 use Rattle.positions.proofs.PositionLaws.{one-source, no-source, cell-by}
 
 -- THE KIND of a position
@@ -277,33 +277,7 @@ module _ {ws us t : List ℕ} {k l : ℕ} {p : Position} (pre : MeetPre ws us t 
       (isTested (entryBy p) (entryBy other) && isMet (cellOf c)) refl refl refl in
       (met .room, met .filled)
 
--- LOOPS: one pair, and one row, more
-pub any-next : (f : ℕ → Bool) (n : ℕ) (b : Bool) → anyUpTo f n ≡ false → b ≡ f n → b ≡ false → anyUpTo f (n + 1) ≡ false
-unfolding anyUpTo
-any-next f n b e g h =
-    ap (anyUpTo f) (add-one n) ∙ ap (λ (x : Bool). x || f n) e ∙ sym g ∙ h
-
-any-false : (f : ℕ → Bool) → ((k : ℕ) → f k ≡ false) → (n : ℕ) → anyUpTo f n ≡ false
-unfolding anyUpTo
-any-false f h zero = refl
-any-false f h (suc n) = ap (λ (x : Bool). x || f n) (any-false f h n) ∙ h n
-
-pub any-none : (f : ℕ → Bool) → anyUpTo f 0 ≡ false
-unfolding anyUpTo
-any-none f = refl
-
-pub any-one : (f : ℕ → Bool) → f 0 ≡ false → anyUpTo f 1 ≡ false
-unfolding anyUpTo
-any-one f h = h
-
--- one that holds is enough
-pub any-found : (f : ℕ → Bool) (k n : ℕ) → k < n → f k ≡ true → true ≡ anyUpTo f n
-unfolding anyUpTo
-any-found f k zero h e = absurd (omega arith)
-any-found f k (suc n) h e =
-    eq-cases k n (λ s. sym (ap (λ (x : Bool). anyUpTo f n || x) (ap f (sym s) ∙ e) ∙ or-true (anyUpTo f n)))
-    (λ s. ap (λ (x : Bool). x || f n) (any-found f k n (omega (arith, s)) e))
-
+-- LOOPS: one row more
 pub row-filled : (ws us t : List ℕ) (k l : ℕ) → length us ≡ l → Filled (entriesBy ws) (entriesBy us) k l (marks t) →
     Filled (entriesBy ws) (entriesBy us) (k + 1) 0 (marks t)
 row-filled ws us t k l e f =
@@ -323,7 +297,7 @@ row-filled ws us t k l e f =
 -- a position without a mark meets none
 pub plain-row : (ws us : List ℕ) (k : ℕ) (p : Position) → p ≡ fieldsOf (getD ws k 0) → p .role ≡ 0 → (n : ℕ) →
     false ≡ rowMeets (entriesBy ws) (entriesBy us) k n
-plain-row ws us k p e m n = sym (any-false (meetAt (entriesBy ws) (entriesBy us) k) not-met n)
+plain-row ws us k p e m n = sym (anyUpTo-none (meetAt (entriesBy ws) (entriesBy us) k) not-met n)
   where
     plain : (x : positions.Entry) → isTested (entryBy p) x ≡ false
     plain x = rw m
@@ -347,7 +321,7 @@ module _ (es fs : List positions.Entry) where
   pub first-nothing : positions.pathsOn es 0 ≡ [] → (n : ℕ) → rowMeets es fs 0 n ≡ false
   unfolding sum
   first-nothing h n =
-      any-false (meetAt es fs 0)
+      anyUpTo-none (meetAt es fs 0)
       (λ l.
       ap (λ (v : List Path). isTested (positions.entryAt es 0) (positions.entryAt fs l) && isMet (between v (positions.pathsOn fs l)))
       h ∙

@@ -1,6 +1,6 @@
 -- The answer by positions is the model's answer, for every two expressions.
 use mathlib.Core.Path.{_≡_, refl, ap, sym, _∙_}
-use mathlib.Core.Bool.{Bool, true, false, _&&_, _||_, and-or-distrib-left}
+use mathlib.Core.Bool.{Bool, true, false, _&&_, _||_}
 use mathlib.Core.Logic.{inl, inr}
 use mathlib.Core.List.{List, [], _∷_, _++_}
 use Prim.Native.Nat.{ℕ, zero, suc, _<_, _≤_}
@@ -12,7 +12,6 @@ use Rattle.model.specs.Base.{pick, any, All, nothing, also}
 use Rattle.model.specs.Script.{Expr}
 use Rattle.model.specs.Paths.{placeOf, Path, start, place, pathsOf, traversed, hasUp}
 use Rattle.model.specs.Meeting.{isMet, meets, anyMeet, pathsMeet, free, upward, meet, answer}
-use Rattle.model.proofs.BoolLaws.{or-swap}
 use Rattle.model.proofs.All.{all-in}
 use Rattle.model.proofs.ListLaws.{any-append, any-same}
 use Rattle.positions.specs.Positions.{Entry, plain, nowhere, entryAt, AreLower, emit, entriesBefore, entriesOf, pathsFrom, pathsOn}
@@ -20,28 +19,11 @@ use Rattle.meeting.specs.Cells.{between}
 use Rattle.positions.specs.Sources.{anyUpTo, isTested, positionsMeet, answerBy}
 use Rattle.meeting.proofs.CellLaws.{isMet-between, isMet-join, between-second}
 use Rattle.meeting.proofs.MirrorLaws.{anyMeet-mirror}
+use Rattle.positions.proofs.AnyUpToLaws.{anyUpTo-same, anyUpTo-or, anyUpTo-and}
 use Rattle.positions.proofs.PositionLaws.{pathsOn-split}
 use Rattle.positions.proofs.DocumentLaws.{fromDocuments, owners-apart}
 use Rattle.positions.proofs.EmitLaws.{pathsWithFrom, pathsWith, isAccessed, isModified, pathsWith-push, Ready, Right, none, emits}
 use Rattle.positions.proofs.TraverseLaws.{any-traversed, Own, modified-own, accessed-own, any-documents, documents-are}
-
--- UP TO a number
-anyUpTo-same : (f g : ℕ → Bool) (n : ℕ) → ((k : ℕ) → f k ≡ g k) → anyUpTo f n ≡ anyUpTo g n
-unfolding anyUpTo
-anyUpTo-same f g zero h = refl
-anyUpTo-same f g (suc n) h = ap (λ (t : Bool). t || f n) (anyUpTo-same f g n h) ∙ ap (λ (t : Bool). anyUpTo g n || t) (h n)
-
-anyUpTo-or : (f g : ℕ → Bool) (n : ℕ) → (anyUpTo f n || anyUpTo g n) ≡ anyUpTo (λ (k : ℕ). f k || g k) n
-unfolding anyUpTo
-anyUpTo-or f g zero = refl
-anyUpTo-or f g (suc n) =
-    or-swap (anyUpTo f n) (f n) (anyUpTo g n) (g n) ∙ ap (λ (t : Bool). t || (f n || g n)) (anyUpTo-or f g n)
-
-anyUpTo-and : (a : Bool) (f : ℕ → Bool) (n : ℕ) → (a && anyUpTo f n) ≡ anyUpTo (λ (k : ℕ). a && f k) n
-unfolding anyUpTo
-anyUpTo-and true f zero = refl
-anyUpTo-and false f zero = refl
-anyUpTo-and a f (suc n) = and-or-distrib-left a (anyUpTo f n) (f n) ∙ ap (λ (t : Bool). t || (a && f n)) (anyUpTo-and a f n)
 
 -- POSITIONS WITH A ROLE: a test of lists of paths, that of a joined list being either's, at each such position
 module _ (h : List Path → Bool) (none : h [] ≡ false) (append : (ps qs : List Path) → h (ps ++ qs) ≡ (h ps || h qs)) (f : Entry → Bool)

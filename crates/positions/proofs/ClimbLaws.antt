@@ -2,11 +2,11 @@
 use mathlib.Core.Path.{_≡_, refl, ap, sym, _∙_}
 use mathlib.Core.Bool.{Bool, true, false, _&&_, _||_, not, true≢false, or-false, or-assoc, or-comm}
 use mathlib.Core.List.{List, [], _∷_, _++_}
-use Prim.Native.Nat.{ℕ, zero, suc, _<_, _≤_}
+use Prim.Native.Nat.{ℕ}
 use native.Mathlib.Omega.{arith}
 use lib.Dec.{leb, eqb}
-use lib.ListN.{length, getD, take, length-map, List·getD-map}
-use lib.Seq.{take-suc, take-all}
+use lib.ListN.{length, getD, length-map, List·getD-map}
+use lib.Seq.{take-all}
 use borrow.Author.Tests.{eqb-true, not-true}
 use Rattle.model.specs.Base.{pick, any}
 use Rattle.model.specs.Script.{Step, stepBy, Expr, nil, document, var, step, both, letIn, forIn, ifIn, element, leaf, delete}
@@ -15,11 +15,12 @@ use Rattle.model.specs.Paths.{anyBelow, isUp, hasUp}
 use Rattle.model.proofs.BoolLaws.{by-cases, and-right, pick-cases}
 use Rattle.model.proofs.ListLaws.{any-snoc}
 use Rattle.positions.specs.Positions as positions
-use Rattle.positions.specs.Positions.{nowhere, root, over, union, Entry, plain, accessing, modifying, entryAt, isClimb, Emitted}
+use Rattle.positions.specs.Positions.{nowhere, root, over, union, Entry, accessing, modifying, isClimb, Emitted}
 use Rattle.positions.specs.Positions.{pushStep, pushUnion, pushDelete, pushBelow, emit, entriesBefore, entriesOf}
 use Rattle.positions.specs.Sources.{anyUpTo}
 use Rattle.positions.specs.Words.{positionBy, fieldsOf, entryOf, entriesBy, climbAt, climbing}
 use Rattle.positions.specs.declared.packed.Position.{Position}
+use Rattle.positions.proofs.AnyUpToLaws.{anyUpTo-any}
 
 -- ONE POSITION, by its fields
 pub climb-is : (p : Position) (t : Bool) → t ≡ (eqb (p .kind) 2 && leb 2 (p .axis)) → t ≡ isClimb (positionBy p)
@@ -48,17 +49,9 @@ climb-at ws k p t e h =
 abbrev climbs : Entry → Bool
 climbs x = isClimb (x .position)
 
-any-upto : (es : List Entry) (n : ℕ) → n ≤ length es → anyUpTo (λ (k : ℕ). climbs (entryAt es k)) n ≡ any climbs (take n es)
-unfolding anyUpTo any
-any-upto es zero h = refl
-any-upto es (suc n) h =
-    let l : n < length es = omega arith in
-    ap (λ (t : Bool). t || climbs (entryAt es n)) (any-upto es n (omega arith)) ∙
-    sym (ap (any climbs) (take-suc es n (plain nowhere) l) ∙ any-snoc climbs (take n es) (entryAt es n))
-
 climbing-any : (ws : List ℕ) → climbing ws ≡ any climbs (entriesBy ws)
 climbing-any ws =
-    ap (anyUpTo (climbAt ws)) (sym (length-map ws entryOf)) ∙ any-upto (entriesBy ws) (length (entriesBy ws)) (omega arith) ∙
+    ap (anyUpTo (climbAt ws)) (sym (length-map ws entryOf)) ∙ anyUpTo-any climbs (entriesBy ws) (length (entriesBy ws)) (omega arith) ∙
     ap (any climbs) (take-all (length (entriesBy ws)) (entriesBy ws) (omega arith))
 
 any-plain : (es : List Entry) (x : Entry) → climbs x ≡ false → any climbs (es ++ (x ∷ [])) ≡ any climbs es

@@ -1,3 +1,4 @@
+pub mod AnyUpToLaws
 pub mod PositionLaws
 pub mod DocumentLaws
 pub mod EmitLaws

@@ -13,7 +13,7 @@ use Rattle.table.specs.Words.{encode}
 use Rattle.plan.specs.Calls.{readBy}
 use Rattle.paths.specs.Analysis.{analysisOf}
 use Rattle.paths.proofs.Promised.{free-told}
-use Rattle.lines.specs.Lines.{answerLine, orderLine}
+use Rattle.lines.specs.Lines.{answerLine}
 use Rattle.lines.specs.declared.line.Order.{Order}
 use Rattle.lines.specs.declared.line.Order.the-variants.{Stopped, Ended}
 use Rattle.sequence.specs.Orders.{order, swap}

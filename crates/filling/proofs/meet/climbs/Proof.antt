@@ -7,7 +7,7 @@ use lib.ListN.{length}
 use Rattle.positions.specs.Sources.{anyUpTo}
 use Rattle.positions.specs.Words.{climbAt}
 use Rattle.positions.proofs.ClimbLaws.{climb-at}
-use Rattle.filling.proofs.FillLaws.{any-none, any-next, any-found}
+use Rattle.positions.proofs.AnyUpToLaws.{anyUpTo-zero, anyUpTo-next, anyUpTo-found}
 use borrow.Author.Needs.{needs}
 use Rattle.filling.proofs.meet.climbs.Statement.{statement}
 use Rattle.filling.proofs.meet.climbs.Tie as tie
@@ -19,7 +19,7 @@ abbrev μ-loop : tie.MeasureT-loop
 μ-loop words i₀ i = length words - i
 
 loop-holds : tie.Need-loop-holds Inv-loop μ-loop
-loop-holds c = (omega arith, any-none (climbAt (c .before .args .words .now)))
+loop-holds c = (omega arith, anyUpTo-zero (climbAt (c .before .args .words .now)))
 
 mul-unpacked : tie.Need-mul-unpacked Inv-loop μ-loop
 mul-unpacked c = search needs
@@ -38,7 +38,7 @@ returns c =
     let c2 = c .before .before in
     let c5 = c2 .before .before .before in
     let c7 = c5 .before .before in
-    any-found (climbAt (c7 .args .words .now)) (c5 .loop .i) (length (c7 .args .words .now)) (omega arith) (sym (climb-at
+    anyUpTo-found (climbAt (c7 .args .words .now)) (c5 .loop .i) (length (c7 .args .words .now)) (omega arith) (sym (climb-at
     (c7 .args .words .now) (c5 .loop .i) (c2 .unpacked .result) (c .before .is-climb .result) (c2 .unpacked .ensures)
     (c .before .is-climb .ensures)) ∙ c .if1 .taken)
 
@@ -54,7 +54,7 @@ loop-again c =
     let c5 = c2 .before .before .before in
     let c7 = c5 .before .before in (
       omega arith,
-      any-next (climbAt (c7 .args .words .now)) (c5 .loop .i) (c .before .is-climb .result) (c5 .loop .inv .1) (climb-at
+      anyUpTo-next (climbAt (c7 .args .words .now)) (c5 .loop .i) (c .before .is-climb .result) (c5 .loop .inv .1) (climb-at
           (c7 .args .words .now) (c5 .loop .i) (c2 .unpacked .result) (c .before .is-climb .result) (c2 .unpacked .ensures)
           (c .before .is-climb .ensures)) (c .if1 .left),
     )

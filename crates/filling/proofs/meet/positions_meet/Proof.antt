@@ -9,7 +9,8 @@ use Rattle.positions.specs.Sources.{Filled, rowMeets, anyUpTo}
 use Rattle.positions.specs.Words.{entryOf}
 use Rattle.meeting.specs.Pairs.{marks, HasRows}
 use Rattle.positions.specs.Words.{entriesBy}
-use Rattle.filling.proofs.FillLaws.{any-one, any-next, any-found, first-nothing, none-filled}
+use Rattle.positions.proofs.AnyUpToLaws.{anyUpTo-one, anyUpTo-next, anyUpTo-found}
+use Rattle.filling.proofs.FillLaws.{first-nothing, none-filled}
 use borrow.Author.Needs.{needs}
 use Rattle.filling.proofs.meet.positions_meet.Statement.{statement}
 use Rattle.filling.proofs.meet.positions_meet.Tie as tie
@@ -41,7 +42,7 @@ loop-holds c =
       none-filled
           (c7 .args .first .now) (c7 .args .second .now) (c7 .args .table .now) (c2 .clear .last .0) (c7 .pre .first) (c7 .pre .second)
           (c2 .clear .ensures),
-      any-one (meetsRow (c7 .args .first .now) (c7 .args .second .now)) (first-nothing
+      anyUpTo-one (meetsRow (c7 .args .first .now) (c7 .args .second .now)) (first-nothing
           (entriesBy (c7 .args .first .now)) (entriesBy (c7 .args .second .now)) (c7 .pre .first .nothing)
           (length (entriesBy (c7 .args .second .now)))),
     )
@@ -70,7 +71,7 @@ returns c =
     let c3 = c .before .before .before in
     let c6 = c3 .before .before .before in
     let c14 = c6 .before .before .before .before .before .before .before .before in
-    any-found (meetsRow (c14 .args .first .now) (c14 .args .second .now)) (c6 .loop .k) (length (entriesBy (c14 .args .first .now)))
+    anyUpTo-found (meetsRow (c14 .args .first .now) (c14 .args .second .now)) (c6 .loop .k) (length (entriesBy (c14 .args .first .now)))
     (omega (arith, length-map (c14 .args .first .now) entryOf)) (sym (c3 .row .ensures .met) ∙ c .if1 .taken)
 
 add-k : tie.Need-add-k Inv-loop μ-loop
@@ -88,7 +89,7 @@ loop-again c =
       c3 .row .kept .1 .1 .0 ∙ c6 .loop .inv .1,
       c3 .row .ensures .room,
       c3 .row .ensures .filled (c .if1 .left),
-      any-next (meetsRow (c14 .args .first .now) (c14 .args .second .now)) (c6 .loop .k) (c3 .row .result) (c6 .loop .inv .4)
+      anyUpTo-next (meetsRow (c14 .args .first .now) (c14 .args .second .now)) (c6 .loop .k) (c3 .row .result) (c6 .loop .inv .4)
           (c3 .row .ensures .met) (c .if1 .left),
     )
 

@@ -11,7 +11,8 @@ use Rattle.positions.specs.Sources.{Filled, meetAt, rowMeets}
 use Rattle.positions.specs.Words.{entryOf}
 use Rattle.meeting.specs.Pairs.{marks, HasRows}
 use Rattle.positions.specs.Words.{entriesBy}
-use Rattle.filling.proofs.FillLaws.{any-one, any-next, any-found, meet-asks, plain-row, second-nothing, row-started, row-filled}
+use Rattle.positions.proofs.AnyUpToLaws.{anyUpTo-one, anyUpTo-next, anyUpTo-found}
+use Rattle.filling.proofs.FillLaws.{meet-asks, plain-row, second-nothing, row-started, row-filled}
 use borrow.Author.Needs.{needs}
 use Rattle.filling.proofs.meet.row.Statement.{statement}
 use Rattle.filling.proofs.meet.row.Tie as tie
@@ -70,7 +71,7 @@ loop-holds c =
       c8 .pre .room,
       row-started (c8 .args .first .now) (c8 .args .second .now) (c8 .args .table .now)
           (c8 .args .k) (c8 .pre .row) (c8 .pre .second) (c8 .pre .filled),
-      any-one (meetAt (entriesBy (c8 .args .first .now))
+      anyUpTo-one (meetAt (entriesBy (c8 .args .first .now))
           (entriesBy (c8 .args .second .now)) (c8 .args .k)) (second-nothing (entriesBy (c8 .args .first .now))
           (entriesBy (c8 .args .second .now)) (c8 .pre .second .nothing) (c8 .args .k)),
     )
@@ -96,7 +97,7 @@ returns-2 c =
     record {
       room = c3 .pair .ensures .room;
       filled = λ e. absurd (true≢false e);
-      met = any-found (meetAt
+      met = anyUpTo-found (meetAt
           (entriesBy (c15 .args .first .now)) (entriesBy (c15 .args .second .now)) (c15 .args .k)) (c6 .loop .l)
           (length (entriesBy (c15 .args .second .now))) (omega (arith, length-map (c15 .args .second .now) entryOf))
           (sym (c3 .pair .ensures .met) ∙ c .if2 .taken);
@@ -117,7 +118,7 @@ loop-again c =
       c3 .pair .kept .1 .1 .0 ∙ c6 .loop .inv .1,
       c3 .pair .ensures .room,
       c3 .pair .ensures .filled,
-      any-next (meetAt
+      anyUpTo-next (meetAt
           (entriesBy (c15 .args .first .now)) (entriesBy (c15 .args .second .now)) (c15 .args .k)) (c6 .loop .l) (c3 .pair .result)
           (c6 .loop .inv .4) (c3 .pair .ensures .met) (c .if2 .left),
     )
