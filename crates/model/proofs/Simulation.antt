@@ -12,10 +12,10 @@ use Rattle.model.specs.Step.{stepped, picked}
 use Rattle.model.specs.Run.{State, Out, gives, andThen, joinItems, inserted, loop, cutAll, run}
 use Rattle.model.specs.Paths.{Path, start, _▸_, withStep, anyBelow, documentPlace, Paths, paths, after, joinPaths, infer, pathsOf}
 use Rattle.model.specs.Paths.{isUp, hasUp}
-use Rattle.model.proofs.BoolLaws.{or-neither}
+use Rattle.model.proofs.BoolLaws.{or-neither, pick-cases}
 use Rattle.model.proofs.Labels.{Label}
 use Rattle.model.proofs.All.{all-append}
-use Rattle.model.proofs.Grows.{Grows, grows-gives, grows-then, grows-pick, grows-join, grows-cut, grows-insert, grows-loop}
+use Rattle.model.proofs.Grows.{Grows, grows-gives, grows-then, grows-join, grows-cut, grows-insert, grows-loop}
 use Rattle.model.proofs.Grows.{run-grows}
 use Rattle.model.proofs.Twin.{World, φ, Twin, Vals, Sim}
 use Rattle.model.proofs.TwinLaws.{in-step}
@@ -214,7 +214,7 @@ module _ (W : World) where
       (λ n l a. vals-left W (y .result) (w .result) n a)
       (news ++ more) (F b v (news ++ more) s t (ups .1) (inside-first y [] (w .accessed) (w .modified) inner)
       (env-more news more k) T))))
-      (λ l q. grows-pick (eqb (length l) 0) (run-grows g v q) (run-grows f v q))
+      (λ l q. pick-cases (Grows _) (eqb (length l) 0) (λ e. run-grows g v q) (λ e. run-grows f v q))
     where
       x : Paths
       x = infer (W .script .owner) e b
