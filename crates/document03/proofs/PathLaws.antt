@@ -7,8 +7,8 @@ use lib.Dec.{ltb, leb, eqb}
 use lib.ListN.{getD}
 use borrow.Author.Tests.{eqb-true, ltb-true, le-leb}
 use native.Mathlib.Omega.{arith}
-use Rattle.model.specs.Base.{pick, any, isIn}
-use Rattle.model.specs.Table.{Table}
+use Rattle.model.specs.Base.{pick, any}
+use Rattle.model.specs.Table.{Table, isName}
 use Rattle.model.specs.Script.{Step, stepBy, testFits}
 use Rattle.model.specs.Paths.{Place, Path, start, _▸_, withStep, anyBelow, Paths, after, joinPaths, infer, prefixesOf}
 use Rattle.model.specs.Paths.{prefixed, hasUp}
@@ -46,7 +46,7 @@ pub data Tested : Path → Type 0 where
 known-by : (t n : ℕ) → testFits t n ≡ true → leb t 3 ≡ true
 known-by t n h = go (eqb t 3) refl h
   where
-    go : (z : Bool) → eqb t 3 ≡ z → pick z (isIn 1 255 n) (ltb t 3 && eqb n 0) ≡ true → leb t 3 ≡ true
+    go : (z : Bool) → eqb t 3 ≡ z → pick z (isName n) (ltb t 3 && eqb n 0) ≡ true → leb t 3 ≡ true
     go true e k = rw (eqb-true t 3 e)
     go false e k = let l = ltb-true t 3 (and-left _ (eqb n 0) k) in le-leb t 3 (omega arith)
 
