@@ -1,6 +1,6 @@
 -- In a world, the two runs of any expression without upward steps have outcomes alike.
 use mathlib.Core.Path.{_≡_, refl, sym, subst}
-use mathlib.Core.Bool.{Bool, true, false, _||_}
+use mathlib.Core.Bool.{true, false, _||_}
 use mathlib.Core.List.{List, [], _∷_, _++_, map, map-append, Memᴰ·append-left, Memᴰ·append-right, List·Memᴰ as In, List·Memᴰ·head as here}
 use Prim.Native.Nat.{ℕ}
 use lib.Dec.{eqb}
@@ -12,7 +12,7 @@ use Rattle.model.specs.Step.{stepped, picked}
 use Rattle.model.specs.Run.{State, Out, gives, andThen, joinItems, inserted, loop, cutAll, run}
 use Rattle.model.specs.Paths.{Path, start, _▸_, withStep, anyBelow, documentPlace, Paths, paths, after, joinPaths, infer, pathsOf}
 use Rattle.model.specs.Paths.{isUp, hasUp}
-use Rattle.model.proofs.BoolLaws.{or-neither, pick-cases}
+use Rattle.model.proofs.BoolLaws.{or-neither, pick-cases, pick-related}
 use Rattle.model.proofs.Labels.{Label}
 use Rattle.model.proofs.All.{all-append}
 use Rattle.model.proofs.Pointwise.{Pointwise, ended, pointwise-snoc, pointwise-imp, pointwise-read}
@@ -52,12 +52,6 @@ module _ (W : World) where
     (λ p i. h .0 p (Memᴰ·append-right (x .accessed) i)),
     (λ p i. h .1 p (Memᴰ·append-right (x .modified) i)),
   )
-
-  -- either branch
-  sim-branch : (r : List Path) (news : List Label) (c : Bool) {o o′ q q′ : Out} → Sim W r news o o′ → Sim W r news q q′ →
-      Sim W r news (pick c o q) (pick c o′ q′)
-  sim-branch r news true a b = a
-  sim-branch r news false a b = b
 
   -- SIMULATED: for all bound variables and in every twin, the outcomes are alike
   abbrev Simulated : Expr → Type 0
@@ -193,12 +187,12 @@ module _ (W : World) where
       Sim W (y .result ++ w .result) (news ++ more) (pick (eqb (length l) 0) (run g v s) (run f v s))
       (pick (eqb n 0) (run g (φs v) t) (run f (φs v) t)))
       (sym (length-map l (φ W)))
-      (sim-branch (y .result ++ w .result) (news ++ more) (eqb (length l) 0)
-      (sim-paths W (w .result) (y .result ++ w .result)
+      (pick-related (Sim W (y .result ++ w .result) (news ++ more)) (eqb (length l) 0)
+      (λ c. sim-paths W (w .result) (y .result ++ w .result)
       (λ n l a. vals-right W (y .result) (w .result) n a)
       (news ++ more) (G b v (news ++ more) s t (ups .2) (inside-rest y [] (w .result) (w .accessed) (w .modified) inner)
       (env-more news more k) T))
-      (sim-paths W (y .result) (y .result ++ w .result)
+      (λ c. sim-paths W (y .result) (y .result ++ w .result)
       (λ n l a. vals-left W (y .result) (w .result) n a)
       (news ++ more) (F b v (news ++ more) s t (ups .1) (inside-first y [] (w .accessed) (w .modified) inner)
       (env-more news more k) T))))
