@@ -14,7 +14,8 @@ use Rattle.model.specs.Step.{letterOf, admits, parentIs, isBelowFrom, is
 use Rattle.model.specs.Paths.{Path, _▸_}
 use Rattle.model.proofs.BoolLaws.{or-left, or-right, or-cases}
 use Rattle.model.proofs.TableLaws.{isThe-at, isThe-by}
-use Rattle.model.proofs.Words.{Word, Grown, same, more, On, child, deep}
+use Rattle.model.proofs.Words.{Word, Grown, same, more}
+use Rattle.model.proofs.Spells.{child, deep, On, on-step}
 use Rattle.model.proofs.Labels.{Label, label, grow, labelAt, Fit}
 
 pub data Below (x : Table) (top : ℕ) : ℕ → Type 0 where
@@ -76,7 +77,7 @@ pub on-child : {marks : List (Option ℕ)} {ls : List Label} {x : Table} {p : Pa
     OnPath marks p (labelAt ls t) → rowAt x i .parent ≡ some t → s .axis ≡ 0 → admits s (letterOf (rowAt x i)) ≡ true →
     OnPath marks (p ▸ s) (labelAt ls i)
 on-child {marks} {ls} {x} {p} f s t i o e a z =
-    subst (λ l. OnPath marks (p ▸ s) l) (sym (f .links i t e .2)) (child o a z)
+    subst (λ l. OnPath marks (p ▸ s) l) (sym (f .links i t e .2)) (on-step o (child (o .1) a z))
 
 pub on-below : {marks : List (Option ℕ)} {ls : List Label} {x : Table} {p : Path} → Fit ls x → (s : Step) (t i : ℕ) →
     OnPath marks p (labelAt ls t) → Below x t i → s .axis ≡ 1 → admits s (letterOf (rowAt x i)) ≡ true →
@@ -85,4 +86,4 @@ on-below {marks} {ls} {x} {p} f s t i o b a z = go (below-label f t i b)
   where
     go : (w : Word) × (labelAt ls i ≡ label (labelAt ls t .root) (letterOf (rowAt x i) ∷ w)) × Grown (labelAt ls t .word) w →
         OnPath marks (p ▸ s) (labelAt ls i)
-    go (w, q, g) = subst (λ l. OnPath marks (p ▸ s) l) (sym q) (deep o g a z)
+    go (w, q, g) = subst (λ l. OnPath marks (p ▸ s) l) (sym q) (on-step o (deep (o .1) g a z))

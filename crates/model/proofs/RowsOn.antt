@@ -2,11 +2,10 @@
 use mathlib.Core.Path.{_≡_, refl, sym, ap, _∙_, subst}
 use mathlib.Core.Bool.{Bool, true, false, not}
 use mathlib.Core.List.{List, [], _∷_, List·Memᴰ as In, List·Memᴰ·head as here, List·Memᴰ·tail as there}
-use mathlib.Core.Option.{Option, none, some, Option·none-ne-some}
+use mathlib.Core.Option.{none, some, Option·none-ne-some}
 use Prim.Native.Nat.{ℕ, zero, suc, _+_, _≤_, _<_}
 use native.Mathlib.Omega.{arith}
 use lib.Dec.{eqb}
-use lib.ListN.{getD}
 use borrow.Author.Tests.{eqb-true, eqb-false}
 use Rattle.model.specs.Base.{pick}
 use Rattle.model.specs.Table.{Table, rowAt, count, Tree}
@@ -18,7 +17,7 @@ use Rattle.model.proofs.BoolLaws.{pick-false, true-false}
 use Rattle.model.proofs.TableLaws.{hasParent-none}
 use Rattle.model.proofs.All.{all-in}
 use Rattle.model.proofs.Collect.{collect-all}
-use Rattle.model.proofs.Words.{Word, first, Grown, same, more, areElements, isProper, On, at, child as onChild, deep as onDeep}
+use Rattle.model.proofs.Words.{Word, Grown, same, more, areElements, isProper}
 use Rattle.model.proofs.Below.{Below, under, further}
 use Rattle.model.proofs.Reach.{Reach, byChild, byDeep, reach-is}
 use Rattle.model.proofs.PathLaws.{PathFits, starts, steps}
@@ -138,11 +137,3 @@ module _ (x : Table) (h : Places) (a : ArePlaces x h) where
             placed = v .placed;
             spells = deep (v .spells) (l .2) z q;
           }
-
--- a word spelled from a document that marks the root is on the path
-pub spells-on : {ms : List (Option ℕ)} {p : Path} {w : Word} (r : ℕ) → Spells p w → placeOf p .owner ≡ 0 →
-    getD ms (placeOf p .number) none ≡ some r → On ms p (first r) w
-unfolding placeOf
-spells-on r spelled o m = at o m
-spells-on r (child s a e) o m = onChild (spells-on r s o m) a e
-spells-on r (deep s g a e) o m = onDeep (spells-on r s o m) g a e

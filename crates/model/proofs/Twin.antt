@@ -12,7 +12,8 @@ use Rattle.model.specs.Table.{Row, Table, rowAt, count, withParent}
 use Rattle.model.specs.History.{Record}
 use Rattle.model.specs.Run.{State, Out, stop, gives}
 use Rattle.model.specs.Paths.{Path}
-use Rattle.model.proofs.Words.{Word, first, made, Grown, On}
+use Rattle.model.proofs.Words.{Word, first, made, Grown}
+use Rattle.model.proofs.Spells.{On}
 use Rattle.model.proofs.Labels.{Label, label, labelAt, Fit}
 use Rattle.model.proofs.Below.{OnPath}
 use Rattle.model.specs.Base.{All}
