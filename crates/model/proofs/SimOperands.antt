@@ -60,7 +60,7 @@ module _ (W : World) where
           on =
               subst (λ l. OnPath (W .script .marks) (start (documentPlace d)) l)
               (sym (label-side (W .script) (W .one) (W .oneFits) news i (k .0) ∙ k .1))
-              (record { row = i; isFirst = refl; document = refl; marked = e }, spelled)
+              (record { root = record { row = i; isFirst = refl; document = refl; marked = e }; spells = spelled })
 
   -- CONSTRUCTOR: the row is the script's own
   pub sim-new : (r : List Path) (z : ℕ) (b : Bool) (n : ℕ) (news : List Label) (s t : State) → Twin W news s t →

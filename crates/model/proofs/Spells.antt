@@ -1,23 +1,20 @@
--- Words spelled by a path's steps, wherever its place is, and those on a path from a document; the letters that a step, or two steps at
--- once, let through.
-use mathlib.Core.Path.{_≡_, refl, ap, _∙_}
+-- Words spelled by a path's steps, wherever its place is; and the letters that a step, or two steps at once, let through.
+use mathlib.Core.Path.{_≡_, refl}
 use mathlib.Core.Bool.{Bool, true, false, _&&_, _||_, not}
 use mathlib.Core.Logic.{inl, inr}
-use mathlib.Core.List.{List, [], _∷_}
-use mathlib.Core.Option.{Option, none, some}
+use mathlib.Core.List.{[], _∷_}
 use Prim.Native.Nat.{ℕ}
 use lib.Dec.{eqb}
-use lib.ListN.{getD}
 use borrow.Author.Tests.{eqb-true, eq-eqb}
 use Rattle.model.specs.Base.{pick}
 use Rattle.model.specs.Table.{isName}
 use Rattle.model.specs.Script.{Step}
 use Rattle.model.specs.Step.{Letter, leafLetter, named, admits}
-use Rattle.model.specs.Paths.{Place, Path, start, _▸_, placeOf}
+use Rattle.model.specs.Paths.{Place, Path, start, _▸_}
 use Rattle.model.specs.Meeting.{admitsElement, admitsLeaf, isNamed, shareElement, shareLeaf}
 use Rattle.model.proofs.BoolLaws.{and-left, and-right, true-false}
 use Rattle.model.proofs.TestLaws.{and-three}
-use Rattle.model.proofs.Words.{Word, Root, first, Grown, same}
+use Rattle.model.proofs.Words.{Word, Grown, same}
 use Rattle.model.proofs.PathLaws.{down-axis, StepFits}
 
 -- SPELLED: a child step adds one letter that passes its test; a descendant step adds one or more, of which the last passes
@@ -30,30 +27,6 @@ pub data Spells : Path → Word → Type 0 where
 -- either step leads to a child
 pub spells-child : {p : Path} {s : Step} {a : Letter} {w : Word} → Spells p w → StepFits s → admits s a ≡ true → Spells (p ▸ s) (a ∷ w)
 spells-child {p} {s} h f e = elim (down-axis s (f .down)) [ inl k ↦ child h k e | inr k ↦ deep h same k e ]
-
--- ON A PATH: the root is the row that a document at the path's place marks, and the steps spell the word
-pub record RootAt (marks : List (Option ℕ)) (p : Place) (r : Root) : Type 0 where
-  pub row : ℕ
-  pub isFirst : r ≡ first row
-  pub document : p .owner ≡ 0
-  pub marked : getD marks (p .number) none ≡ some row
-
-abbrev pub On : (marks : List (Option ℕ)) → Path → Root → Word → Type 0
-On marks p r w = RootAt marks (placeOf p) r × Spells p w
-
-pub on-step : {marks : List (Option ℕ)} {p : Path} {s : Step} {r : Root} {u w : Word} → On marks p r u → Spells (p ▸ s) w →
-    On marks (p ▸ s) r w
-unfolding placeOf
-on-step o h = (o .0, h)
-
--- where no row is marked twice, a root has one place
-pub root-place : {marks : List (Option ℕ)} {p q : Place} {r : Root} →
-    ((d e i : ℕ) → getD marks d none ≡ some i → getD marks e none ≡ some i → d ≡ e) → RootAt marks p r → RootAt marks q r → p ≡ q
-root-place {p} {q} once f g =
-    let i : g .row ≡ f .row = cc in
-    let o : p .owner ≡ q .owner = cc in
-    let n : p .number ≡ q .number = once _ _ _ (f .marked) (g .marked ∙ ap some i) in
-    λ j. record { owner = o j; number = n j }
 
 -- GOOD WORDS: elements with a name in range, and perhaps a leaf at the end
 pub data Elements : Word → Type 0 where
