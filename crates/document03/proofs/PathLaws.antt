@@ -2,13 +2,12 @@
 use mathlib.Core.Path.{_≡_, refl, sym, ap, _∙_}
 use mathlib.Core.Bool.{Bool, true, false, _&&_, _||_, or-comm, or-false, or-assoc}
 use mathlib.Core.List.{List, [], _∷_, _++_}
-use Prim.Native.Nat.{ℕ, zero, suc}
+use Prim.Native.Nat.{ℕ}
 use lib.Dec.{ltb, leb, eqb}
-use lib.ListN.{getD}
 use borrow.Author.Tests.{eqb-true, ltb-true, le-leb}
 use native.Mathlib.Omega.{arith}
-use Rattle.model.specs.Base.{pick, any, isIn}
-use Rattle.model.specs.Table.{Table}
+use Rattle.model.specs.Base.{pick, any}
+use Rattle.model.specs.Table.{Table, isName}
 use Rattle.model.specs.Script.{Step, stepBy, testFits}
 use Rattle.model.specs.Paths.{Place, Path, start, _▸_, withStep, anyBelow, Paths, after, joinPaths, infer, prefixesOf}
 use Rattle.model.specs.Paths.{prefixed, hasUp}
@@ -18,6 +17,7 @@ use Rattle.document03.specs.Paths as P
 use Rattle.document03.specs.Promise as T
 use Rattle.model.proofs.BoolLaws.{and-left}
 use Rattle.model.proofs.ListLaws.{any-append}
+use Rattle.model.proofs.Pointwise.{Pointwise, ended, paired, pointwise-append, pointwise-snoc, pointwise-read}
 use Rattle.model.proofs.ScriptLaws.{FieldsFit}
 use Rattle.document03.proofs.ScriptLaws.{ours}
 use Rattle.document03.proofs.RunLaws.{stepped-same}
@@ -46,7 +46,7 @@ pub data Tested : Path → Type 0 where
 known-by : (t n : ℕ) → testFits t n ≡ true → leb t 3 ≡ true
 known-by t n h = go (eqb t 3) refl h
   where
-    go : (z : Bool) → eqb t 3 ≡ z → pick z (isIn 1 255 n) (ltb t 3 && eqb n 0) ≡ true → leb t 3 ≡ true
+    go : (z : Bool) → eqb t 3 ≡ z → pick z (isName n) (ltb t 3 && eqb n 0) ≡ true → leb t 3 ≡ true
     go true e k = rw (eqb-true t 3 e)
     go false e k = let l = ltb-true t 3 (and-left _ (eqb n 0) k) in le-leb t 3 (omega arith)
 
@@ -56,35 +56,18 @@ tested-before p [] h = h
 tested-before p (s ∷ ss) h = elim (tested-before (p ▸ s) ss h) [ more k l ↦ k ]
 
 -- ALIKE: path by path
-pub data Alike : List P.Path → List Path → Type 0 where
-  nothing : Alike [] []
-  also : {p : P.Path} {q : Path} {ps : List P.Path} {qs : List Path} → oursPath p ≡ q → Tested q → Alike ps qs → Alike (p ∷ ps) (q ∷ qs)
-
-append-alike : {ps qs : List P.Path} {rs ts : List Path} → Alike ps rs → Alike qs ts → Alike (ps ++ qs) (rs ++ ts)
-append-alike nothing k = k
-append-alike (also e t h) k = also e t (append-alike h k)
+abbrev pub Alike : List P.Path → List Path → Type 0
+Alike = Pointwise (λ p q. (oursPath p ≡ q) × Tested q)
 
 withStep-alike : (s : Step) {ps : List P.Path} {qs : List Path} → Known s → Alike ps qs → Alike (P.withStep s ps) (withStep s qs)
 unfolding P.withStep
-withStep-alike s k nothing = nothing
-withStep-alike s k (also {p} e t h) =
-    also (along-more (start (p .from)) (p .steps) s ∙ ap (λ (r : Path). r ▸ s) e) (more t k) (withStep-alike s k h)
+withStep-alike s k ended = ended
+withStep-alike s k (paired {a = p} (e, t) h) =
+    paired (along-more (start (p .from)) (p .steps) s ∙ ap (λ (r : Path). r ▸ s) e, more t k) (withStep-alike s k h)
 
 -- the variables' paths
-pub data Bound : List (List P.Path) → List (List Path) → Type 0 where
-  closed : Bound [] []
-  binds : {ps : List P.Path} {qs : List Path} {b : List (List P.Path)} {c : List (List Path)} → Alike ps qs → Bound b c →
-      Bound (ps ∷ b) (qs ∷ c)
-
-bound-at : {b : List (List P.Path)} {c : List (List Path)} → Bound b c → (v : ℕ) → Alike (getD b v []) (getD c v [])
-bound-at closed v = nothing
-bound-at (binds h k) zero = h
-bound-at (binds h k) (suc v) = bound-at k v
-
-bound-more : {b : List (List P.Path)} {c : List (List Path)} {ps : List P.Path} {qs : List Path} → Bound b c → Alike ps qs →
-    Bound (b ++ (ps ∷ [])) (c ++ (qs ∷ []))
-bound-more closed h = binds h closed
-bound-more (binds k l) h = binds k (bound-more l h)
+abbrev pub Bound : List (List P.Path) → List (List Path) → Type 0
+Bound = Pointwise Alike
 
 -- INFERRED
 pub record PathsAlike (x : P.Paths) (y : Paths) : Type 0 where
@@ -95,7 +78,7 @@ pub record PathsAlike (x : P.Paths) (y : Paths) : Type 0 where
 module _ {x : P.Paths} {y : Paths} {r : List P.Path} {q : List Path} where
   after-alike : {a m : List P.Path} {b n : List Path} → PathsAlike x y → Alike r q → Alike a b → Alike m n →
       PathsAlike (P.after x r a m) (after y q b n)
-  after-alike h r a m = record { results = r; accesses = append-alike (h .accesses) a; changes = append-alike (h .changes) m }
+  after-alike h r a m = record { results = r; accesses = pointwise-append (h .accesses) a; changes = pointwise-append (h .changes) m }
 
   join-alike : {z : P.Paths} {w : Paths} → PathsAlike x y → PathsAlike z w → Alike r q →
       PathsAlike (P.joinPaths x z r) (joinPaths y w q)
@@ -104,41 +87,41 @@ module _ {x : P.Paths} {y : Paths} {r : List P.Path} {q : List Path} where
 pub infer-alike : (o : ℕ) (e : D.Expr) {b : List (List P.Path)} {c : List (List Path)} → FieldsFit (ours e) → Bound b c →
     PathsAlike (P.infer o e b) (infer o (ours e) c)
 unfolding P.infer infer ours FieldsFit along
-infer-alike o (D.nil z) f a = record { results = nothing; accesses = nothing; changes = nothing }
+infer-alike o (D.nil z) f a = record { results = ended; accesses = ended; changes = ended }
 infer-alike o (D.document z d) f a =
-    record { results = also refl none nothing; accesses = also refl none nothing; changes = nothing }
-infer-alike o (D.var z v) f a = record { results = bound-at a v; accesses = nothing; changes = nothing }
+    record { results = paired (refl, none) ended; accesses = paired (refl, none) ended; changes = ended }
+infer-alike o (D.var z v) f a = record { results = pointwise-read [] [] ended a v; accesses = ended; changes = ended }
 infer-alike o (D.step z x t n e) f a =
     let h = infer-alike o e (f .1) a in
     let g = withStep-alike (stepBy x t n) (known-by t n (f .0)) (h .results) in
-    after-alike h g g nothing
+    after-alike h g g ended
 infer-alike o (D.both z e g) f a =
     let h = infer-alike o e (f .0) a in
     let j = infer-alike o g (f .1) a in
-    join-alike h j (append-alike (h .results) (j .results))
+    join-alike h j (pointwise-append (h .results) (j .results))
 infer-alike o (D.letIn z e g) f a =
     let h = infer-alike o e (f .0) a in
-    let j = infer-alike o g (f .1) (bound-more a (h .results)) in
+    let j = infer-alike o g (f .1) (pointwise-snoc a (h .results)) in
     join-alike h j (j .results)
 infer-alike o (D.forIn z e g) f a =
     let h = infer-alike o e (f .0) a in
-    let j = infer-alike o g (f .1) (bound-more a (h .results)) in
+    let j = infer-alike o g (f .1) (pointwise-snoc a (h .results)) in
     join-alike h j (j .results)
 infer-alike o (D.ifIn z e g q) f a =
     let i = infer-alike o g (f .1) a in
     let j = infer-alike o q (f .2) a in
-    join-alike (infer-alike o e (f .0) a) (join-alike {r = []} {q = []} i j nothing) (append-alike (i .results) (j .results))
+    join-alike (infer-alike o e (f .0) a) (join-alike {r = []} {q = []} i j ended) (pointwise-append (i .results) (j .results))
 infer-alike o (D.element z n) f a =
-    record { results = also refl none nothing; accesses = nothing; changes = also refl none nothing }
+    record { results = paired (refl, none) ended; accesses = ended; changes = paired (refl, none) ended }
 infer-alike o (D.leaf z v) f a =
-    record { results = also refl none nothing; accesses = nothing; changes = also refl none nothing }
+    record { results = paired (refl, none) ended; accesses = ended; changes = paired (refl, none) ended }
 infer-alike o (D.delete z e) f a =
     let h = infer-alike o e f a in
-    after-alike h nothing nothing (append-alike (h .results) (withStep-alike anyBelow refl (h .results)))
+    after-alike h ended ended (pointwise-append (h .results) (withStep-alike anyBelow refl (h .results)))
 infer-alike o (D.insert z e g) f a =
     let h = infer-alike o e (f .0) a in
     let j = infer-alike o g (f .1) a in
-    after-alike (join-alike {r = []} {q = []} h j nothing) nothing (withStep-alike anyBelow refl (h .results))
+    after-alike (join-alike {r = []} {q = []} h j ended) ended (withStep-alike anyBelow refl (h .results))
     (withStep-alike anyBelow refl (j .results))
 infer-alike o (D.choose z r c e) f a = infer-alike o e f a
 
@@ -162,8 +145,8 @@ any-prefixes g (p ▸ s) = refl
 module _ (f : P.Path → Bool) (g : Path → Bool) (same : (p : P.Path) → Tested (oursPath p) → f p ≡ g (oursPath p)) where
   pub any-alike : {ps : List P.Path} {qs : List Path} → Alike ps qs → any f ps ≡ any g qs
   unfolding any
-  any-alike nothing = refl
-  any-alike (also {p} e t h) = rw (any-alike h, same p (rw e t), e)
+  any-alike ended = refl
+  any-alike (paired {a = p} (e, t) h) = rw (any-alike h, same p (rw e t), e)
 
   prefixes-from : (z : Place) (ss ts : List Step) → Tested (along (along (start z) ss) ts) →
       any g (prefixesOf (along (along (start z) ss) ts)) ≡ (any g (before (along (start z) ss)) || any f (P.prefixesOf z ss ts))
@@ -182,8 +165,8 @@ module _ (f : P.Path → Bool) (g : Path → Bool) (same : (p : P.Path) → Test
 
   pub any-prefixed : {ps : List P.Path} {qs : List Path} → Alike ps qs → any f (P.prefixed ps) ≡ any g (prefixed qs)
   unfolding any P.prefixed prefixed
-  any-prefixed nothing = refl
-  any-prefixed (also {p} {q} {ps} {qs} e t h) =
+  any-prefixed ended = refl
+  any-prefixed (paired {a = p} {b = q} {k = ps} {l = qs} (e, t) h) =
       rw (
         any-append f (P.prefixesOf (p .from) [] (p .steps)) (P.prefixed ps),
         any-append g (prefixesOf q) (prefixed qs),

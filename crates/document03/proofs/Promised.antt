@@ -19,12 +19,13 @@ use Rattle.document03.specs.Promise as T
 use Rattle.model.proofs.StoredBack.{storedBack}
 use Rattle.model.proofs.SweepsWell.{sweepsWell}
 use Rattle.model.proofs.ScriptLaws.{isScript-fields}
+use Rattle.model.proofs.Pointwise.{ended}
 use Rattle.model.proofs.RunsBack.{runsBack}
 use Rattle.model.proofs.FreeMeans.{freeMeans}
 use Rattle.model.proofs.FreeCommutes.{freeCommutes}
 use Rattle.document03.proofs.ScriptLaws.{ours, isScript-ours}
 use Rattle.document03.proofs.RunLaws.{stored-same, runOn-same, takenBack-same}
-use Rattle.document03.proofs.PathLaws.{oursPath, PathsAlike, closed, infer-alike}
+use Rattle.document03.proofs.PathLaws.{oursPath, PathsAlike, infer-alike}
 use Rattle.document03.proofs.PathLaws.{any-alike, any-prefixed, rowsOn-same, hasUp-same}
 use Rattle.document03.proofs.MeetingLaws.{meets-same}
 
@@ -55,7 +56,7 @@ number-meet free e = absurd (omega arith)
 number-meet upward e = absurd (omega arith)
 
 paths-alike : (o : ℕ) (e : D.Expr) → T.IsScript e → PathsAlike (P.pathsOf o e) (pathsOf o (ours e))
-paths-alike o e i = infer-alike o e (isScript-fields (ours e) (isScript-ours e i)) closed
+paths-alike o e i = infer-alike o e (isScript-fields (ours e) (isScript-ours e i)) ended
 
 module _ (m n : ℕ) (e f : D.Expr) (i : T.IsScript e) (j : T.IsScript f) where
   anyMeet-same : P.anyMeet (P.pathsOf m e .modified) (P.traversed (P.pathsOf n f)) ≡

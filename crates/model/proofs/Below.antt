@@ -1,4 +1,5 @@
--- Below: a row under another, link by link; this is what isBelow computes, and the lower row's label is grown from the upper's.
+-- Below: a row under another, link by link; this is what isBelow computes, and the lower row's label is grown from the upper's. Labels on
+-- a path.
 use mathlib.Core.Path.{_≡_, refl, sym, _∙_, ap, subst}
 use mathlib.Core.Bool.{true, _||_, false≢true}
 use mathlib.Core.Logic.{_⊎_, inl, inr}
@@ -7,14 +8,16 @@ use mathlib.Core.Option.{Option, none, some}
 use Prim.Native.Nat.{ℕ, zero, suc, _<_}
 use native.Mathlib.Nat.{not-suc-le-zero}
 use native.Mathlib.Omega.{arith}
+use lib.ListN.{getD}
 use Rattle.model.specs.Table.{Table, rowAt}
 use Rattle.model.specs.Sweep.{through}
 use Rattle.model.specs.Script.{Step}
 use Rattle.model.specs.Step.{letterOf, admits, parentIs, isBelowFrom, isBelow}
-use Rattle.model.specs.Paths.{Path, _▸_}
+use Rattle.model.specs.Paths.{Place, Path, _▸_, placeOf}
 use Rattle.model.proofs.BoolLaws.{or-left, or-right, or-cases}
 use Rattle.model.proofs.TableLaws.{isThe-at, isThe-by}
-use Rattle.model.proofs.Words.{Word, Grown, same, more, On, child, deep}
+use Rattle.model.proofs.Words.{Word, Root, first, Grown, same, more}
+use Rattle.model.proofs.Spells.{Spells, child, deep}
 use Rattle.model.proofs.Labels.{Label, label, grow, labelAt, Fit}
 
 pub data Below (x : Table) (top : ℕ) : ℕ → Type 0 where
@@ -61,28 +64,44 @@ is-below x l t i b = is-below-from x l (suc i) t i b (omega arith)
 pub below-label : {ls : List Label} {x : Table} → Fit ls x → (t i : ℕ) → Below x t i →
     (w : Word) × (labelAt ls i ≡ label (labelAt ls t .root) (letterOf (rowAt x i) ∷ w)) × Grown (labelAt ls t .word) w
 below-label {ls} f t i (under e) = (labelAt ls t .word, f .links i t e .2, same)
-below-label {ls} {x} f t i (further {p = p} e b) = go (below-label f t p b)
-  where
-    go : (w : Word) × (labelAt ls p ≡ label (labelAt ls t .root) (letterOf (rowAt x p) ∷ w)) × Grown (labelAt ls t .word) w →
-        (w : Word) × (labelAt ls i ≡ label (labelAt ls t .root) (letterOf (rowAt x i) ∷ w)) × Grown (labelAt ls t .word) w
-    go (w, q, g) =
-        (letterOf (rowAt x p) ∷ w, f .links i p e .2 ∙ ap (λ l. grow l (letterOf (rowAt x i))) q, more g)
+below-label {ls} {x} f t i (further {p = p} e b) =
+    let (w, q, g) = below-label f t p b in
+    (letterOf (rowAt x p) ∷ w, f .links i p e .2 ∙ ap (λ l. grow l (letterOf (rowAt x i))) q, more g)
 
--- ON A PATH: what a step reaches is on the path with the step
+-- ON A PATH: the root is at the path's place, and the steps spell the word
+pub record OnBy (At : Place → Root → Type 0) (p : Path) (l : Label) : Type 0 where
+  pub root : At (placeOf p) (l .root)
+  pub spells : Spells p (l .word)
+
+-- what a step reaches is on the path with the step
+pub on-step : {At : Place → Root → Type 0} {p : Path} {s : Step} {l : Label} {w : Word} → OnBy At p l → Spells (p ▸ s) w →
+    OnBy At (p ▸ s) (label (l .root) w)
+unfolding placeOf
+on-step o h = record { root = o .root; spells = h }
+
+module _ {At : Place → Root → Type 0} {ls : List Label} {x : Table} {p : Path} (f : Fit ls x) (s : Step) (t i : ℕ)
+    (o : OnBy At p (labelAt ls t)) where
+  pub on-child : rowAt x i .parent ≡ some t → s .axis ≡ 0 → admits s (letterOf (rowAt x i)) ≡ true → OnBy At (p ▸ s) (labelAt ls i)
+  on-child e a z = subst (OnBy At (p ▸ s)) (sym (f .links i t e .2)) (on-step o (child (o .spells) a z))
+
+  pub on-below : Below x t i → s .axis ≡ 1 → admits s (letterOf (rowAt x i)) ≡ true → OnBy At (p ▸ s) (labelAt ls i)
+  on-below b a z = let (w, q, g) = below-label f t i b in subst (OnBy At (p ▸ s)) (sym q) (on-step o (deep (o .spells) g a z))
+
+-- at a document's place is the row that it marks
+pub record MarkedAt (marks : List (Option ℕ)) (p : Place) (r : Root) : Type 0 where
+  pub row : ℕ
+  pub isFirst : r ≡ first row
+  pub document : p .owner ≡ 0
+  pub marked : getD marks (p .number) none ≡ some row
+
 abbrev pub OnPath : List (Option ℕ) → Path → Label → Type 0
-OnPath marks p l = On marks p (l .root) (l .word)
+OnPath marks = OnBy (MarkedAt marks)
 
-pub on-child : {marks : List (Option ℕ)} {ls : List Label} {x : Table} {p : Path} → Fit ls x → (s : Step) (t i : ℕ) →
-    OnPath marks p (labelAt ls t) → rowAt x i .parent ≡ some t → s .axis ≡ 0 → admits s (letterOf (rowAt x i)) ≡ true →
-    OnPath marks (p ▸ s) (labelAt ls i)
-on-child {marks} {ls} {x} {p} f s t i o e a z =
-    subst (λ l. OnPath marks (p ▸ s) l) (sym (f .links i t e .2)) (child o a z)
-
-pub on-below : {marks : List (Option ℕ)} {ls : List Label} {x : Table} {p : Path} → Fit ls x → (s : Step) (t i : ℕ) →
-    OnPath marks p (labelAt ls t) → Below x t i → s .axis ≡ 1 → admits s (letterOf (rowAt x i)) ≡ true →
-    OnPath marks (p ▸ s) (labelAt ls i)
-on-below {marks} {ls} {x} {p} f s t i o b a z = go (below-label f t i b)
-  where
-    go : (w : Word) × (labelAt ls i ≡ label (labelAt ls t .root) (letterOf (rowAt x i) ∷ w)) × Grown (labelAt ls t .word) w →
-        OnPath marks (p ▸ s) (labelAt ls i)
-    go (w, q, g) = subst (λ l. OnPath marks (p ▸ s) l) (sym q) (deep o g a z)
+-- where no row is marked twice, a root has one place
+pub marked-once : {marks : List (Option ℕ)} {p q : Place} {r : Root} →
+    ((d e i : ℕ) → getD marks d none ≡ some i → getD marks e none ≡ some i → d ≡ e) → MarkedAt marks p r → MarkedAt marks q r → p ≡ q
+marked-once {p} {q} once f g =
+    let i : g .row ≡ f .row = cc in
+    let o : p .owner ≡ q .owner = cc in
+    let n : p .number ≡ q .number = once _ _ _ (f .marked) (g .marked ∙ ap some i) in
+    λ j. record { owner = o j; number = n j }

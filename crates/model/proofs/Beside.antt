@@ -16,10 +16,10 @@ use Rattle.model.specs.Step.{letterOf}
 use Rattle.model.specs.Run.{State}
 use Rattle.model.specs.Paths.{Path, pathsOf}
 use Rattle.model.proofs.TableLaws.{parent-count}
-use Rattle.model.proofs.Words.{first, made, first-made, made-injective, same, isProper, on-first}
+use Rattle.model.proofs.Words.{first, made, first-made, made-injective, same, isProper}
 use Rattle.model.proofs.WordsMeet.{meets-apart}
 use Rattle.model.proofs.Labels.{Label, label, labelAt, Fit, fit-proper}
-use Rattle.model.proofs.Below.{OnPath}
+use Rattle.model.proofs.Below.{OnPath, marked-once}
 use Rattle.model.proofs.All.{all-at}
 use Rattle.model.specs.Base.{All}
 use Rattle.model.proofs.Shift.{shiftRow, shift-low, shift-row-low}
@@ -70,11 +70,10 @@ module _ (L : Left) where
 
   touched-apart : (l : Label) (p : Path) → Touched c l → isProper (l .word) ≡ true → d .accessed p → OnPath (x .marks) p l → ⊥
   touched-apart l p (inl h) z a k =
-      let (i, g) = on-first k in
-      first-made i (L .owner) (sym g ∙ h)
+      first-made (k .root .row) (L .owner) (sym (k .root .isFirst) ∙ h)
   touched-apart l p (inr h) z a k =
       let (r, b, g) = h (l .word) same in
-      meets-apart (x .marks) (L .well .once) r p (l .root) (l .word) (L .away r p b a) z g k
+      meets-apart r p (l .word) (marked-once (L .well .once) (g .root) (k .root)) (L .away r p b a) z (g .spells) (k .spells)
 
   -- FITS: a table whose roots are the plan's or c's
   abbrev Roots : Label → Type 0
@@ -125,7 +124,7 @@ module _ (L : Left) where
       new (inl k) = inr k
       new (inr k) =
           let (p, a, b) = k (labelAt ms i .word) same in
-          inl (on-first b)
+          inl (b .root .row, b .root .isFirst)
 
       go : Dec (i < count x) → Roots (labelAt ms i)
       go (yes k) = subst Roots (sym (plan-label i k)) (inl (L .well .started .firsts i k))

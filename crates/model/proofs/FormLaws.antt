@@ -11,6 +11,7 @@ use borrow.Author.Tests.{eqb-true, lt-ltb, le-leb, ne-eqb}
 use Rattle.model.specs.Base.{isIn, also}
 use Rattle.model.specs.Limits.{maxHistory}
 use Rattle.model.specs.Refusal.{isFine}
+use Rattle.model.specs.Table.{isName}
 use Rattle.model.specs.Stored.{wordAt, parentIn, parentBytes}
 use Rattle.model.specs.History.{IsInRange, AllInRange, Record, madeElementKind, cutKind, recordBytes, historyBytes}
 use Rattle.model.specs.Undo.{historySize, recordIn, Placed, formed, formFault, withPlaced, formFrom}
@@ -49,12 +50,12 @@ formFault-fine r f i n c l =
     and-both _ _ (lt-ltb _ _ l)
     (isFine-check (leb (historySize (r .kind)) (length b)) 1 i _ ∙
     and-both _ _ (le-leb (historySize (r .kind)) (length b) (omega (arith, length-recordBytes r, length-append (recordBytes r) c)))
-    (isFine-unless (not (eqb (r .kind) madeElementKind) || isIn 1 255 (getD b 3 0)) 3 i ∙ go (eqb (r .kind) madeElementKind) refl)))
+    (isFine-unless (not (eqb (r .kind) madeElementKind) || isName (getD b 3 0)) 3 i ∙ go (eqb (r .kind) madeElementKind) refl)))
   where
     b : List ℕ
     b = recordBytes r ++ c
 
-    go : (t : Bool) → eqb (r .kind) madeElementKind ≡ t → (not (eqb (r .kind) madeElementKind) || isIn 1 255 (getD b 3 0)) ≡ true
+    go : (t : Bool) → eqb (r .kind) madeElementKind ≡ t → (not (eqb (r .kind) madeElementKind) || isName (getD b 3 0)) ≡ true
     go true e =
         let k = eqb-true (r .kind) madeElementKind e in
         let q : eqb (r .kind) cutKind ≡ false = ne-eqb (r .kind) cutKind (λ (z : r .kind ≡ cutKind). omega arith) in

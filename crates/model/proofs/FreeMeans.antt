@@ -1,30 +1,30 @@
 -- What free means. 'upward': a script has an upward step. 'free': no row of any plan is on a path that one script modifies and on one
 -- that the other traverses. 'meet': some plan has such a row.
-use mathlib.Core.Path.{_≡_, refl, sym, ap, _∙_, subst}
+use mathlib.Core.Path.{_≡_, refl, sym, ap, _∙_}
 use mathlib.Core.Bool.{Bool, true, false, _&&_, _||_}
 use mathlib.Core.Logic.{_⊎_, inl, inr}
 use mathlib.Core.List.{List, List·Memᴰ as In}
-use mathlib.Core.Option.{none, some}
 use Prim.Native.Nat.{ℕ, _<_}
 use native.Mathlib.Omega.{arith}
-use lib.ListN.{length, getD}
+use lib.ListN.{length}
 use Rattle.model.specs.Base.{pick, any, among, All}
 use Rattle.model.specs.Table.{Table, count, isTree, Tree}
 use Rattle.model.specs.Script.{Expr}
 use Rattle.model.specs.Paths.{Place, documentPlace, Path, pathsOf, traversed, hasUp, placeOf}
 use Rattle.model.specs.Meeting.{meets, anyMeet, free, upward, meet, answer}
-use Rattle.model.specs.Promise.{IsScript, Places, ArePlaces, rowsOn, isOn, isTouched, FreeMeans}
+use Rattle.model.specs.Promise.{IsScript, Places, ArePlaces, rowsOn, isOn, isTouched, NeverTouched, SomewhereTouched, FreeMeans}
 use Rattle.model.proofs.BoolLaws.{and-both, or-cases, or-left, or-right, or-neither, true-false}
 use Rattle.model.proofs.TestLaws.{and-parts}
-use Rattle.model.proofs.TableLaws.{isThe-at, isTree-at, isTree-by}
+use Rattle.model.proofs.TableLaws.{isTree-at, isTree-by}
 use Rattle.model.proofs.ScriptLaws.{isScript-fields}
 use Rattle.model.proofs.All.{all-in}
 use Rattle.model.proofs.ListLaws.{any-in, in-any, among-in, in-among}
-use Rattle.model.proofs.Words.{first, same}
+use Rattle.model.proofs.Words.{same}
 use Rattle.model.proofs.WordsMeet.{meets-apart}
 use Rattle.model.proofs.PathLaws.{PathFits, starts, steps, pathsOf-fits}
-use Rattle.model.proofs.Spells.{Spells}
-use Rattle.model.proofs.RowsOn.{label-once, label-proper, row-spelled, spells-on}
+use Rattle.model.proofs.Labels.{Label, labelAt, fit-proper}
+use Rattle.model.proofs.Start.{Started, started-by}
+use Rattle.model.proofs.RowsOn.{placed-once, row-on}
 use Rattle.model.proofs.CellsFound.{Meets, meets-found}
 use Rattle.model.proofs.Chain.{chain, count-chain, chain-tree, byMarks, byMarks-places, spells-row}
 
@@ -62,34 +62,21 @@ shared-document {n} {o} {p} {q} d f g e = go (path-owner f) (path-owner g)
     go (inr a) (inr b) = absurd (d (sym a ∙ k ∙ b))
 
 -- FREE: a row on two paths makes them meet
-module _ (x : Table) (t : Tree x) (h : Places) (a : ArePlaces x h) where
-  row-meets : {n o : ℕ} {p q : Path} → (n ≡ o → ⊥) → PathFits n p → PathFits o q → (i : ℕ) → In i (rowsOn x h p) → In i (rowsOn x h q) →
+module _ {ls : List Label} (x : Table) (S : Started ls x) (h : Places) (a : ArePlaces x h) where
+  row-meets : {n o : ℕ} {p q : Path} → PathFits n p → PathFits o q → (i : ℕ) → i < count x → In i (rowsOn x h p) → In i (rowsOn x h q) →
       meets p q ≡ false → ⊥
-  row-meets {p} {q} d f g i y z e =
-      let v = row-spelled x h a f i y in
-      let u = row-spelled x h a g i z in
-      let k = label-once (v .labelled) (u .labelled) in
-      let b : placeOf p ≡ placeOf q =
-      a .2 (placeOf p) (placeOf q) (v .root) (v .within) (v .placed)
-      (subst (λ (r : ℕ). h (placeOf q) r ≡ true) (sym (k .0)) (u .placed)) in
-      let o : placeOf p .owner ≡ 0 = shared-document d f g b in
-      let w : placeOf p ≡ documentPlace (placeOf p .number) = λ j. record { owner = o j; number = placeOf p .number } in
-      let m : getD (x .marks) (placeOf p .number) none ≡ some (v .root) =
-      isThe-at (v .root) _
-      (sym (a .0 (placeOf p .number) (v .root) (v .within)) ∙ ap (λ (c : Place). h c (v .root)) (sym w) ∙ v .placed) in
-      let c : Spells q (v .word) = subst (Spells q) (sym (k .1)) (u .spells) in
-      meets-apart (x .marks) (t .once) p q (first (v .root)) (v .word) e (label-proper t (v .labelled))
-      (spells-on (v .root) (v .spells) o m)
-      (spells-on (v .root) c (ap (λ (r : Place). r .owner) (sym b) ∙ o)
-      (ap (λ (r : Place). getD (x .marks) (r .number) none) (sym b) ∙ m))
+  row-meets {p} {q} f g i l y z e =
+      let v = row-on x S h a f i y in
+      let u = row-on x S h a g i z in
+      meets-apart p q (labelAt ls i .word) (placed-once a (v .root) (u .root)) e (fit-proper (S .fit) i l) (v .spells) (u .spells)
 
-  isOn-apart : (n o : ℕ) (ps qs : List Path) → (n ≡ o → ⊥) → All (PathFits n) ps → All (PathFits o) qs → anyMeet ps qs ≡ false → (i : ℕ) →
+  isOn-apart : {n o : ℕ} {ps qs : List Path} → All (PathFits n) ps → All (PathFits o) qs → anyMeet ps qs ≡ false → (i : ℕ) → i < count x →
       (isOn x h i ps && isOn x h i qs) ≡ true → ⊥
-  isOn-apart n o ps qs d f g e i k =
+  isOn-apart {ps} {qs} f g e i l k =
       let b = and-parts (isOn x h i ps) (isOn x h i qs) k in
       let (p, y, v) = any-in (λ (p : Path). among i (rowsOn x h p)) ps (b .0) in
       let (q, z, w) = any-in (λ (q : Path). among i (rowsOn x h q)) qs (b .1) in
-      row-meets d (all-in f y) (all-in g z) i (among-in i _ v) (among-in i _ w) (apart (meets p q) (λ m. in-any _ y (in-any _ z m)))
+      row-meets (all-in f y) (all-in g z) i l (among-in i _ v) (among-in i _ w) (apart (meets p q) (λ m. in-any _ y (in-any _ z m)))
     where
       apart : (m : Bool) → (m ≡ true → anyMeet ps qs ≡ true) → m ≡ false
       apart true c = absurd (true-false _ (c refl) e)
@@ -135,10 +122,6 @@ meets-plan n o ps qs d f g e =
         }
 
 -- THE THEOREM
-abbrev SomeTouched : Expr → Expr → Type 0
-SomeTouched e f =
-    (x : Table) × ((h : Places) × ((i : ℕ) × ((isTree x ≡ true) × ArePlaces x h × (i < count x) × (isTouched x h i e f ≡ true))))
-
 one-two : _≡_ {A = ℕ} 1 2 → ⊥
 one-two k = omega arith
 
@@ -160,9 +143,9 @@ module _ (e f : Expr) where
   secondMeets = anyMeet (pathsOf 2 f .modified) (traversed (pathsOf 1 e))
 
 module _ (e f : Expr) (s : IsScript e) (r : IsScript f) where
-  free-untouched : answer e f ≡ free → (x : Table) (h : Places) (i : ℕ) → isTree x ≡ true → ArePlaces x h → i < count x →
-      isTouched x h i e f ≡ false
+  free-untouched : answer e f ≡ free → NeverTouched e f
   free-untouched q x h i t a l =
+      let (ls, S) = started-by x (isTree-at x t) in
       let k = answer-free (hasUp e || hasUp f) (firstMeets e f || secondMeets e f) q in
       let u = or-neither (hasUp e) (hasUp f) (k .0) in
       let m = or-neither (firstMeets e f) (secondMeets e f) (k .1) in
@@ -171,8 +154,8 @@ module _ (e f : Expr) (s : IsScript e) (r : IsScript f) where
       untouched (isTouched x h i e f)
       (λ z.
       elim (or-cases (firstModifies e f x h i) (secondModifies e f x h i) z) [
-        | inl y ↦ isOn-apart x (isTree-at x t) h a 1 2 _ _ one-two (b .0) (c .1) (m .0) i y
-        | inr y ↦ isOn-apart x (isTree-at x t) h a 2 1 _ _ two-one (c .0) (b .1) (m .1) i y
+        | inl y ↦ isOn-apart x S h a (b .0) (c .1) (m .0) i l y
+        | inr y ↦ isOn-apart x S h a (c .0) (b .1) (m .1) i l y
       ])
     where
       untouched : (z : Bool) → (z ≡ true → ⊥) → z ≡ false
@@ -181,11 +164,11 @@ module _ (e f : Expr) (s : IsScript e) (r : IsScript f) where
 
   some-touched : (ps qs : List Path) →
       ((x : Table) (h : Places) (i : ℕ) → (isOn x h i ps && isOn x h i qs) ≡ true → isTouched x h i e f ≡ true) → Plan ps qs →
-      SomeTouched e f
+      SomewhereTouched e f
   some-touched ps qs k p =
       (p .plan, (p .places, (p .row, (p .isPlan, p .arePlaces, p .within, k (p .plan) (p .places) (p .row) (p .onBoth)))))
 
-  meet-touched : answer e f ≡ meet → SomeTouched e f
+  meet-touched : answer e f ≡ meet → SomewhereTouched e f
   meet-touched q =
       let k = answer-meet (hasUp e || hasUp f) (firstMeets e f || secondMeets e f) q in
       let u = or-neither (hasUp e) (hasUp f) (k .0) in

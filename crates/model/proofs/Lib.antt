@@ -27,6 +27,7 @@ pub mod RowsOn
 pub mod Chain
 pub mod FreeMeans
 pub mod All
+pub mod Pointwise
 pub mod Shift
 pub mod Collect
 pub mod Words

@@ -8,7 +8,8 @@ use native.Mathlib.Omega.{arith}
 use native.Mathlib.Decide.{ℕ-discrete}
 use lib.Dec.{ltb, eqb}
 use borrow.Author.Tests.{leb-false, ltb-true, eqb-false, not-true}
-use Rattle.model.specs.Base.{pick, isIn, All, nothing, also}
+use Rattle.model.specs.Base.{pick, All, nothing, also}
+use Rattle.model.specs.Table.{isName}
 use Rattle.model.specs.Script.{Step, testFits, Expr, nil, document, var, step, both, letIn, forIn, ifIn, element, leaf, delete}
 use Rattle.model.specs.Script.{insert, choose}
 use Rattle.model.specs.Paths.{Place, Path, start, _▸_, withStep, anyBelow, Paths, infer, prefixesOf, prefixed, traversed, isUp}
@@ -30,13 +31,13 @@ down-axis s e = go (ℕ-discrete (s .axis) 0)
 -- A STEP down whose name, where its test has one, is in range
 pub record StepFits (s : Step) : Type 0 where
   pub down : isUp s ≡ false
-  pub nameIn : isNamed s ≡ true → isIn 1 255 (s .name) ≡ true
+  pub nameIn : isNamed s ≡ true → isName (s .name) ≡ true
 
 step-fits : (s : Step) → testFits (s .test) (s .name) ≡ true → isUp s ≡ false → StepFits s
 step-fits s f u = record { down = u; nameIn = λ n. go (eqb (s .test) 3) refl n f }
   where
     go : (t : Bool) → eqb (s .test) 3 ≡ t → isNamed s ≡ true →
-        pick t (isIn 1 255 (s .name)) (ltb (s .test) 3 && eqb (s .name) 0) ≡ true → isIn 1 255 (s .name) ≡ true
+        pick t (isName (s .name)) (ltb (s .test) 3 && eqb (s .name) 0) ≡ true → isName (s .name) ≡ true
     go true e n h = h
     go false e n h =
         let k = and-three (not (eqb (s .test) 0)) (not (eqb (s .test) 1)) (not (eqb (s .test) 2)) n in

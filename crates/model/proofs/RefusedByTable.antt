@@ -10,7 +10,7 @@ use borrow.Author.Tests.{eqb-false}
 use Rattle.model.specs.Base.{pick, isIn}
 use Rattle.model.specs.Refusal.{Fault, isFine, orElse, unless, kindAt, shortAt, fieldAt, sizeAt, linkAt}
 use Rattle.model.specs.Limits.{maxRows, maxHistory, documents}
-use Rattle.model.specs.Table.{Table, count, tagFits, empty}
+use Rattle.model.specs.Table.{Table, count, isName, tagFits, empty}
 use Rattle.model.specs.Stored.{elementKind, markKind, recordSize, wordAt, rowIn, isMark, rowLinks, markLinks, recordFault}
 use Rattle.model.specs.History.{madeElementKind, cutKind}
 use Rattle.model.specs.Undo.{historySize, recordIn, Placed, Formed, broken, formed, formFault, withPlaced, formFrom}
@@ -51,7 +51,7 @@ form-low i n b =
     check-low (isIn madeElementKind cutKind (getD b 0 0)) (kindAt i) _ (omega arith)
     (check-low (ltb n maxHistory) (sizeAt i) _ (omega arith)
     (check-low (leb (historySize (getD b 0 0)) (length b)) (shortAt i) _ (omega arith)
-    (unless-low (not (eqb (getD b 0 0) madeElementKind) || isIn 1 255 (getD b 3 0)) (fieldAt i) (omega arith))))
+    (unless-low (not (eqb (getD b 0 0) madeElementKind) || isName (getD b 3 0)) (fieldAt i) (omega arith))))
 
 known : (f : Fault) → Low f → isFine f ≡ false → isIn 1 6 (f .number) ≡ true
 known f h e = isIn-by 1 6 (f .number) (omega (arith, eqb-false (f .number) 0 e)) (h .low)

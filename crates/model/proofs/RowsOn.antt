@@ -1,28 +1,28 @@
--- Rows on a path: a row's root and its word, link by link; a row on a path has a root at the path's place and a word that its steps spell.
-use mathlib.Core.Path.{_≡_, refl, sym, ap, _∙_, subst}
+-- Rows on a path: the label of such a row has a root at the path's place and a word that its steps spell.
+use mathlib.Core.Path.{_≡_, refl, sym, ap, subst}
 use mathlib.Core.Bool.{Bool, true, false, not}
-use mathlib.Core.List.{List, [], _∷_, List·Memᴰ as In, List·Memᴰ·head as here, List·Memᴰ·tail as there}
-use mathlib.Core.Option.{Option, none, some, Option·none-ne-some}
+use mathlib.Core.List.{List, _∷_, List·Memᴰ as In, List·Memᴰ·head as here, List·Memᴰ·tail as there}
 use Prim.Native.Nat.{ℕ, zero, suc, _+_, _≤_, _<_}
 use native.Mathlib.Omega.{arith}
 use lib.Dec.{eqb}
-use lib.ListN.{getD}
 use borrow.Author.Tests.{eqb-true, eqb-false}
 use Rattle.model.specs.Base.{pick}
-use Rattle.model.specs.Table.{Table, rowAt, count, Tree}
+use Rattle.model.specs.Table.{Table, rowAt, count}
 use Rattle.model.specs.Script.{Step}
-use Rattle.model.specs.Step.{Letter, leafLetter, named, letterOf, isReached, collect}
+use Rattle.model.specs.Step.{isReached, collect}
 use Rattle.model.specs.Paths.{Place, Path, start, _▸_, placeOf}
 use Rattle.model.specs.Promise.{Places, ArePlaces, rowsAt, rowsOn}
-use Rattle.model.proofs.BoolLaws.{pick-false, true-false}
+use Rattle.model.proofs.BoolLaws.{true-false}
 use Rattle.model.proofs.TableLaws.{hasParent-none}
 use Rattle.model.proofs.All.{all-in}
 use Rattle.model.proofs.Collect.{collect-all}
-use Rattle.model.proofs.Words.{Word, first, Grown, same, more, areElements, isProper, On, at, child as onChild, deep as onDeep}
-use Rattle.model.proofs.Below.{Below, under, further}
+use Rattle.model.proofs.Words.{Root, first}
+use Rattle.model.proofs.Labels.{Label, labelAt}
+use Rattle.model.proofs.Below.{OnBy, on-child, on-below}
 use Rattle.model.proofs.Reach.{Reach, byChild, byDeep, reach-is}
 use Rattle.model.proofs.PathLaws.{PathFits, starts, steps}
-use Rattle.model.proofs.Spells.{Spells, spelled, child, deep}
+use Rattle.model.proofs.Spells.{spelled}
+use Rattle.model.proofs.Start.{Started}
 
 -- THE ROWS at a place, or that a step reaches
 collect-in : (f : ℕ → Bool) (n i : ℕ) → In i (collect f 0 n) → (i < n) × (f i ≡ true)
@@ -58,91 +58,30 @@ module _ (x : Table) (h : Places) where
   unfolding rowsOn
   step-rows p s = refl
 
--- LABELS: a row's root, and the letters from below the root down to the row, the row's own first
-pub data LabelOf (x : Table) : (row root : ℕ) → Word → Type 0 where
-  top : {i : ℕ} → rowAt x i .parent ≡ none → LabelOf x i i []
-  linked : {i p r : ℕ} {w : Word} → rowAt x i .parent ≡ some p → LabelOf x p r w → LabelOf x i r (letterOf (rowAt x i) ∷ w)
+-- ON A PATH: the label of a row on a path has its root at the path's place, and a word that the steps spell
+pub record PlacedAt (x : Table) (h : Places) (p : Place) (r : Root) : Type 0 where
+  pub row : ℕ
+  pub isFirst : r ≡ first row
+  pub within : row < count x
+  pub placed : h p row ≡ true
 
-pub label-once : {x : Table} {i r s : ℕ} {w v : Word} → LabelOf x i r w → LabelOf x i s v → (r ≡ s) × (w ≡ v)
-label-once (top e) (top f) = (refl, refl)
-label-once (top e) (linked {p} f l) = absurd (Option·none-ne-some p (sym e ∙ f))
-label-once (linked {p} e k) (top f) = absurd (Option·none-ne-some p (sym f ∙ e))
-label-once {x} {i} (linked {p} e k) (linked {p = q} {r = s} {w = v} f l) =
-    let n : q ≡ p = cc in
-    let m = label-once k (subst (λ (j : ℕ). LabelOf x j s v) n l) in
-    (m .0, ap (λ (u : Word). letterOf (rowAt x i) ∷ u) (m .1))
+pub placed-once : {x : Table} {h : Places} {p q : Place} {r : Root} → ArePlaces x h → PlacedAt x h p r → PlacedAt x h q r → p ≡ q
+placed-once a f g =
+    let i : g .row ≡ f .row = cc in
+    a .2 _ _ (f .row) (f .within) (f .placed) (rw i at (g .placed))
 
--- a row below another has the same root and a word grown from the other's
-label-below : {x : Table} {t i r : ℕ} {u : Word} → Below x t i → LabelOf x t r u →
-    (w : Word) × LabelOf x i r (letterOf (rowAt x i) ∷ w) × Grown u w
-label-below {u} (under e) l = (u, linked e l, same)
-label-below {x} (further {p} e b) l = let k = label-below b l in (letterOf (rowAt x p) ∷ k .0, linked e (k .1), more (k .2))
-
--- all letters but the row's own are elements'
-label-elements : {x : Table} {i r : ℕ} {w : Word} → Tree x → LabelOf x i r w → rowAt x i .isLeaf ≡ false → areElements w ≡ true
-unfolding areElements
-label-elements t (top e) f = refl
-label-elements {x} t (linked {i} {p} {w} e l) f =
-    subst (λ (a : Letter). areElements (a ∷ w) ≡ true) (sym (pick-false (rowAt x i .isLeaf) leafLetter (named (rowAt x i .tag)) f))
-    (label-elements t l (t .parents i p e .1))
-
-pub label-proper : {x : Table} {i r : ℕ} {w : Word} → Tree x → LabelOf x i r w → isProper w ≡ true
-label-proper t (top e) = refl
-label-proper t (linked {i} {p} e l) = label-elements t l (t .parents i p e .1)
-
--- ON A PATH: a root at the path's place, and a word that its steps spell
-pub record IsSpelled (x : Table) (h : Places) (p : Path) (i : ℕ) : Type 0 where
-  pub root : ℕ
-  pub word : Word
-  pub labelled : LabelOf x i root word
-  pub within : root < count x
-  pub placed : h (placeOf p) root ≡ true
-  pub spells : Spells p word
-
-module _ (x : Table) (h : Places) (a : ArePlaces x h) where
-  pub row-spelled : {o : ℕ} {p : Path} → PathFits o p → (i : ℕ) → In i (rowsOn x h p) → IsSpelled x h p i
+module _ {ls : List Label} (x : Table) (S : Started ls x) (h : Places) (a : ArePlaces x h) where
+  pub row-on : {o : ℕ} {p : Path} → PathFits o p → (i : ℕ) → In i (rowsOn x h p) → OnBy (PlacedAt x h) p (labelAt ls i)
   unfolding placeOf
-  row-spelled (starts {p} k) i m =
-      let c = collect-in (h p) (count x) i (subst (In i) (start-rows x h p) m) in
-      record {
-        root = i;
-        word = [];
-        labelled = top (hasParent-none (rowAt x i .parent) (ap not (a .1 p i (c .0) (c .1))));
-        within = c .0;
-        placed = c .1;
-        spells = spelled;
-      }
-  row-spelled (steps {p} {s} k f) i m =
+  row-on (starts {p} k) i m =
+      let (l, e) = collect-in (h p) (count x) i (subst (In i) (start-rows x h p) m) in
+      subst (OnBy (PlacedAt x h) (start p)) (sym (S .roots i l (hasParent-none (rowAt x i .parent) (ap not (a .1 p i l e)))))
+      (record { root = record { row = i; isFirst = refl; within = l; placed = e }; spells = spelled })
+  row-on (steps {p} {s} k f) i m =
       let c = collect-in (isReached x s (rowsOn x h p)) (count x) i (subst (In i) (step-rows x h p s) m) in
-      by (reach-is x s (rowsOn x h p) i (f .down) (c .1)) (λ j n. row-spelled k j n)
+      by (reach-is x s (rowsOn x h p) i (f .down) (c .1)) (λ j n. row-on k j n)
     where
-      by : Reach x s (rowsOn x h p) i → ((j : ℕ) → In j (rowsOn x h p) → IsSpelled x h p j) → IsSpelled x h (p ▸ s) i
-      by (byChild {i = j} n z e q) r =
-          let v = r j n in
-          record {
-            root = v .root;
-            word = letterOf (rowAt x i) ∷ v .word;
-            labelled = linked e (v .labelled);
-            within = v .within;
-            placed = v .placed;
-            spells = child (v .spells) z q;
-          }
-      by (byDeep {i = j} n z b q) r =
-          let v = r j n in
-          let l = label-below b (v .labelled) in
-          record {
-            root = v .root;
-            word = letterOf (rowAt x i) ∷ l .0;
-            labelled = l .1;
-            within = v .within;
-            placed = v .placed;
-            spells = deep (v .spells) (l .2) z q;
-          }
-
--- a word spelled from a document that marks the root is on the path
-pub spells-on : {ms : List (Option ℕ)} {p : Path} {w : Word} (r : ℕ) → Spells p w → placeOf p .owner ≡ 0 →
-    getD ms (placeOf p .number) none ≡ some r → On ms p (first r) w
-unfolding placeOf
-spells-on r spelled o m = at o m
-spells-on r (child s a e) o m = onChild (spells-on r s o m) a e
-spells-on r (deep s g a e) o m = onDeep (spells-on r s o m) g a e
+      by : Reach x s (rowsOn x h p) i → ((j : ℕ) → In j (rowsOn x h p) → OnBy (PlacedAt x h) p (labelAt ls j)) →
+          OnBy (PlacedAt x h) (p ▸ s) (labelAt ls i)
+      by (byChild {i = j} n z e q) r = on-child (S .fit) s j i (r j n) e z q
+      by (byDeep {i = j} n z b q) r = on-below (S .fit) s j i (r j n) b z q

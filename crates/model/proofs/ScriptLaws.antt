@@ -10,7 +10,7 @@ use borrow.Author.Tests.{eqb-true, le-leb, leb-true, ltb-true, not-true}
 use Rattle.model.specs.Base.{pick, isIn, areBytes}
 use Rattle.model.specs.Limits.{maxRecords, maxDepth, maxBinders}
 use Rattle.model.specs.Refusal.{Fault, isFine, orElse, unless, kindAt, shortAt, fieldAt, sizeAt}
-use Rattle.model.specs.Table.{tagFits}
+use Rattle.model.specs.Table.{isName, tagFits}
 use Rattle.model.specs.Script.{Expr, nil, document, var, step, both, letIn, forIn, ifIn, element, leaf, delete, insert, choose}
 use Rattle.model.specs.Script.{nilKind, documentKind, variableKind, stepKind, joinKind, letKind, forKind, ifKind, newElementKind}
 use Rattle.model.specs.Script.{newLeafKind, deleteKind, insertKind, pickKind, bodySize, testFits, bodyFits, isBinder, exprFault}
@@ -116,7 +116,7 @@ module _ (f : Reader) (r : ReaderWell f) (n : ℕ) (b : List ℕ) where
       test : eqb (getD b 0 0) stepKind ≡ true → testFits (getD b 2 0) (getD b 3 0) ≡ true
       test e = and-right (ltb (getD b 1 0) 4) _ (rw (eqb-true (getD b 0 0) stepKind e) at g)
 
-      name : eqb (getD b 0 0) newElementKind ≡ true → isIn 1 255 (getD b 1 0) ≡ true
+      name : eqb (getD b 0 0) newElementKind ≡ true → isName (getD b 1 0) ≡ true
       name e = rw (eqb-true (getD b 0 0) newElementKind e) at g
 
 -- THE FIVE TESTS of the record at the front: all hold, or it is refused with one of the five numbers

@@ -74,7 +74,7 @@ module _ (W : World) where
   sim-more r news more (full k f) = full k f
 
   pub full-grows : (c : ℕ) (o : Out) → maxRows < c + W .m → Grows c o → Full W o
-  full-grows c o h stops = stopped
+  full-grows c o h (stops e) = stopped
   full-grows c o h (keeps {v} {s} k) =
       let l : maxRows < count (s .plan) + W .m = omega arith in
       passed l

@@ -15,8 +15,9 @@ use Rattle.model.specs.Table.{count}
 use Rattle.model.specs.Script.{Step}
 use Rattle.model.specs.Step.{relates, isPicked, stepped, picked}
 use Rattle.model.specs.Run.{State, Out, stop, gives, joinItems, joinFor, loop, marked, loose, newRow, withMade}
-use Rattle.model.specs.Paths.{Path, start, _▸_, withStep, documentPlace, isUp}
-use Rattle.model.proofs.Words.{first, made, at}
+use Rattle.model.specs.Paths.{Path, start, _▸_, withStep, documentPlace, isUp, placeOf}
+use Rattle.model.proofs.Words.{first, made}
+use Rattle.model.proofs.Spells.{spelled}
 use Rattle.model.proofs.GrowLaws.{count-withRow}
 use Rattle.model.proofs.Labels.{Label, label, labelAt}
 use Rattle.model.proofs.Below.{OnPath}
@@ -36,6 +37,7 @@ module _ (W : World) where
   pub sim-document : (d : ℕ) → W .script .accessed (start (documentPlace d)) → (news : List Label) (s t : State) → Twin W news s t →
       Sim W (start (documentPlace d) ∷ []) news (gives (marked (getD (s .plan .marks) d none)) s)
       (gives (marked (getD (t .plan .marks) d none)) t)
+  unfolding placeOf
   sim-document d acc news s t T =
       subst₂
       (λ a b.
@@ -57,7 +59,8 @@ module _ (W : World) where
           on : OnPath (W .script .marks) (start (documentPlace d)) (labelAt (ones W news) i)
           on =
               subst (λ l. OnPath (W .script .marks) (start (documentPlace d)) l)
-              (sym (label-side (W .script) (W .one) (W .oneFits) news i (k .0) ∙ k .1)) (at refl e)
+              (sym (label-side (W .script) (W .one) (W .oneFits) news i (k .0) ∙ k .1))
+              (record { root = record { row = i; isFirst = refl; document = refl; marked = e }; spells = spelled })
 
   -- CONSTRUCTOR: the row is the script's own
   pub sim-new : (r : List Path) (z : ℕ) (b : Bool) (n : ℕ) (news : List Label) (s t : State) → Twin W news s t →

@@ -1,8 +1,8 @@
 -- In a world, the two runs of any expression without upward steps have outcomes alike.
 use mathlib.Core.Path.{_≡_, refl, sym, subst}
-use mathlib.Core.Bool.{Bool, true, false, _||_}
+use mathlib.Core.Bool.{true, false, _||_}
 use mathlib.Core.List.{List, [], _∷_, _++_, map, map-append, Memᴰ·append-left, Memᴰ·append-right, List·Memᴰ as In, List·Memᴰ·head as here}
-use Prim.Native.Nat.{ℕ, zero, suc}
+use Prim.Native.Nat.{ℕ}
 use lib.Dec.{eqb}
 use lib.ListN.{length, getD, length-map, List·getD-map}
 use Rattle.model.specs.Base.{pick, nothing, also}
@@ -12,10 +12,11 @@ use Rattle.model.specs.Step.{stepped, picked}
 use Rattle.model.specs.Run.{State, Out, gives, andThen, joinItems, inserted, loop, cutAll, run}
 use Rattle.model.specs.Paths.{Path, start, _▸_, withStep, anyBelow, documentPlace, Paths, paths, after, joinPaths, infer, pathsOf}
 use Rattle.model.specs.Paths.{isUp, hasUp}
-use Rattle.model.proofs.BoolLaws.{or-neither}
+use Rattle.model.proofs.BoolLaws.{or-neither, pick-cases, pick-related}
 use Rattle.model.proofs.Labels.{Label}
 use Rattle.model.proofs.All.{all-append}
-use Rattle.model.proofs.Grows.{Grows, grows-gives, grows-then, grows-pick, grows-join, grows-cut, grows-insert, grows-loop}
+use Rattle.model.proofs.Pointwise.{Pointwise, ended, pointwise-snoc, pointwise-imp, pointwise-read}
+use Rattle.model.proofs.Grows.{Grows, grows-gives, grows-then, grows-join, grows-cut, grows-insert, grows-loop}
 use Rattle.model.proofs.Grows.{run-grows}
 use Rattle.model.proofs.Twin.{World, φ, Twin, Vals, Sim}
 use Rattle.model.proofs.TwinLaws.{in-step}
@@ -26,24 +27,11 @@ use Rattle.model.proofs.SimOperands.{sim-document, sim-new, sim-step, s
 
 module _ (W : World) where
   -- BOUND VARIABLES: each value is on its variable's paths
-  data Env (news : List Label) : List (List Path) → List (List ℕ) → Type 0 where
-    unbound : Env news [] []
-    bound : {r : List Path} {v : List ℕ} {b : List (List Path)} {e : List (List ℕ)} → Vals W r news v → Env news b e →
-        Env news (r ∷ b) (v ∷ e)
+  abbrev Env : List Label → List (List Path) → List (List ℕ) → Type 0
+  Env news = Pointwise (λ r v. Vals W r news v)
 
   env-more : (news more : List Label) {b : List (List Path)} {e : List (List ℕ)} → Env news b e → Env (news ++ more) b e
-  env-more news more unbound = unbound
-  env-more news more (bound {r} a e) = bound (vals-more W r news more a) (env-more news more e)
-
-  env-last : (news : List Label) {r : List Path} {v : List ℕ} {b : List (List Path)} {e : List (List ℕ)} → Env news b e → Vals W r news v →
-      Env news (b ++ (r ∷ [])) (e ++ (v ∷ []))
-  env-last news unbound a = bound a unbound
-  env-last news (bound c e) a = bound c (env-last news e a)
-
-  env-at : (news : List Label) (k : ℕ) {b : List (List Path)} {e : List (List ℕ)} → Env news b e → Vals W (getD b k []) news (getD e k [])
-  env-at news k unbound = nothing
-  env-at news zero (bound a e) = a
-  env-at news (suc k) (bound a e) = env-at news k e
+  env-more news more = pointwise-imp (λ r v a. vals-more W r news more a)
 
   -- values, renumbered for the second run
   abbrev φs : List (List ℕ) → List (List ℕ)
@@ -65,12 +53,6 @@ module _ (W : World) where
     (λ p i. h .1 p (Memᴰ·append-right (x .modified) i)),
   )
 
-  -- either branch
-  sim-branch : (r : List Path) (news : List Label) (c : Bool) {o o′ q q′ : Out} → Sim W r news o o′ → Sim W r news q q′ →
-      Sim W r news (pick c o q) (pick c o′ q′)
-  sim-branch r news true a b = a
-  sim-branch r news false a b = b
-
   -- SIMULATED: for all bound variables and in every twin, the outcomes are alike
   abbrev Simulated : Expr → Type 0
   Simulated e =
@@ -91,7 +73,7 @@ module _ (W : World) where
   unfolding run infer hasUp
   variable-simulated z i b v news s t u h k T =
       subst (λ w. Sim W (getD b i []) news (gives (getD v i []) s) (gives w t)) (sym (List·getD-map (map (φ W)) v i []))
-      (sim-gives W (getD b i []) news (getD v i []) s t T (env-at news i k))
+      (sim-gives W (getD b i []) news (getD v i []) s t T (pointwise-read [] [] nothing k i))
 
   -- STEP
   step-simulated : (z : ℕ) (c : Step) (e : Expr) → Simulated e → Simulated (step z c e)
@@ -168,7 +150,7 @@ module _ (W : World) where
       body-sim news w s t k T a =
           subst (λ l. Sim W (body b .result) news (run f (v ++ (w ∷ [])) s) (run f l t)) (map-append (map (φ W)) v (w ∷ []))
           (F (b ++ (first b .result ∷ [])) (v ++ (w ∷ [])) news s t (or-neither (hasUp e) (hasUp f) u .1)
-          (inside-rest (first b) (body b .result) (body b .result) (body b .accessed) (body b .modified) h) (env-last news k a) T)
+          (inside-rest (first b) (body b .result) (body b .result) (body b .accessed) (body b .modified) h) (pointwise-snoc k a) T)
 
     let-simulated : Simulated (letIn z e f)
     unfolding run infer hasUp
@@ -205,16 +187,16 @@ module _ (W : World) where
       Sim W (y .result ++ w .result) (news ++ more) (pick (eqb (length l) 0) (run g v s) (run f v s))
       (pick (eqb n 0) (run g (φs v) t) (run f (φs v) t)))
       (sym (length-map l (φ W)))
-      (sim-branch (y .result ++ w .result) (news ++ more) (eqb (length l) 0)
-      (sim-paths W (w .result) (y .result ++ w .result)
+      (pick-related (Sim W (y .result ++ w .result) (news ++ more)) (eqb (length l) 0)
+      (λ c. sim-paths W (w .result) (y .result ++ w .result)
       (λ n l a. vals-right W (y .result) (w .result) n a)
       (news ++ more) (G b v (news ++ more) s t (ups .2) (inside-rest y [] (w .result) (w .accessed) (w .modified) inner)
       (env-more news more k) T))
-      (sim-paths W (y .result) (y .result ++ w .result)
+      (λ c. sim-paths W (y .result) (y .result ++ w .result)
       (λ n l a. vals-left W (y .result) (w .result) n a)
       (news ++ more) (F b v (news ++ more) s t (ups .1) (inside-first y [] (w .accessed) (w .modified) inner)
       (env-more news more k) T))))
-      (λ l q. grows-pick (eqb (length l) 0) (run-grows g v q) (run-grows f v q))
+      (λ l q. pick-cases (Grows _) (eqb (length l) 0) (λ e. run-grows g v q) (λ e. run-grows f v q))
     where
       x : Paths
       x = infer (W .script .owner) e b
@@ -314,4 +296,4 @@ module _ (W : World) where
       ((p : Path) → In p (pathsOf (W .script .owner) e .accessed) → W .script .accessed p) →
       ((p : Path) → In p (pathsOf (W .script .owner) e .modified) → W .script .modified p) → Twin W [] s t →
       Sim W (pathsOf (W .script .owner) e .result) [] (run e [] s) (run e [] t)
-  script-sim e s t u a m T = simulation e [] [] [] s t u (a, m) unbound T
+  script-sim e s t u a m T = simulation e [] [] [] s t u (a, m) ended T

@@ -6,7 +6,8 @@ use mathlib.Core.List.{[], _∷_}
 use Prim.Native.Nat.{ℕ}
 use lib.Dec.{eqb}
 use borrow.Author.Tests.{eqb-true, eq-eqb}
-use Rattle.model.specs.Base.{pick, isIn}
+use Rattle.model.specs.Base.{pick}
+use Rattle.model.specs.Table.{isName}
 use Rattle.model.specs.Script.{Step}
 use Rattle.model.specs.Step.{Letter, leafLetter, named, admits}
 use Rattle.model.specs.Paths.{Place, Path, start, _▸_}
@@ -30,7 +31,7 @@ spells-child {p} {s} h f e = elim (down-axis s (f .down)) [ inl k ↦ child h k 
 -- GOOD WORDS: elements with a name in range, and perhaps a leaf at the end
 pub data Elements : Word → Type 0 where
   root : Elements []
-  below : {n : ℕ} {w : Word} → isIn 1 255 n ≡ true → Elements w → Elements (named n ∷ w)
+  below : {n : ℕ} {w : Word} → isName n ≡ true → Elements w → Elements (named n ∷ w)
 
 pub data Good : (isLeaf : Bool) → Word → Type 0 where
   toElement : {w : Word} → Elements w → Good false w
@@ -72,7 +73,7 @@ admits-named : (s : Step) (n : ℕ) → admitsElement s ≡ true → (isNamed s 
 admits-named s n e h =
     name-passes (eqb (s .test) 0) (eqb (s .test) 1) (eqb (s .test) 2) (eqb n (s .name)) e (λ k. eq-eqb n (s .name) (h k))
 
-element-ends : (n : ℕ) → isIn 1 255 n ≡ true → Ends false (named n)
+element-ends : (n : ℕ) → isName n ≡ true → Ends false (named n)
 element-ends n h w e = toElement (below h e)
 
 -- the step's own name, or 1
@@ -94,7 +95,7 @@ letter-for-both false s t f g e = go (isNamed s) (isNamed t) refl refl
     parts : (admitsElement s ≡ true) × (admitsElement t ≡ true) × ((not (isNamed s && isNamed t) || eqb (s .name) (t .name)) ≡ true)
     parts = and-three (admitsElement s) (admitsElement t) (not (isNamed s && isNamed t) || eqb (s .name) (t .name)) e
 
-    by : (n : ℕ) → isIn 1 255 n ≡ true → (isNamed s ≡ true → n ≡ s .name) → (isNamed t ≡ true → n ≡ t .name) → LetterForBoth false s t
+    by : (n : ℕ) → isName n ≡ true → (isNamed s ≡ true → n ≡ s .name) → (isNamed t ≡ true → n ≡ t .name) → LetterForBoth false s t
     by n h k l =
         record {
           letter = named n;

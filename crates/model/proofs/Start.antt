@@ -94,6 +94,9 @@ started-none marks =
       firsts = λ i h. (0, refl);
     }
 
+pub started-by : (x : Table) → Tree x → (ls : List Label) × Started ls x
+started-by x t = started-from x t (x .rows) [] refl [] (started-none (x .marks))
+
 -- LABELLED: a well-formed plan with its labels; no row is marked twice, and a marked row is its own root
 pub record Labelled (x : Table) : Type 0 where
   pub labels : List Label
@@ -104,7 +107,7 @@ pub record Labelled (x : Table) : Type 0 where
 
 pub labelled-by : (x : Table) → Well x → Labelled x
 labelled-by x w =
-    let (ls, S) = started-from x (w .tree) (x .rows) [] refl [] (started-none (x .marks)) in
+    let (ls, S) = started-by x (w .tree) in
     record {
       labels = ls;
       started = S;

@@ -12,7 +12,7 @@ use Rattle.model.specs.Table.{Row, Table, rowAt, count, withParent}
 use Rattle.model.specs.History.{Record}
 use Rattle.model.specs.Run.{State, Out, stop, gives}
 use Rattle.model.specs.Paths.{Path}
-use Rattle.model.proofs.Words.{Word, first, made, Grown, On}
+use Rattle.model.proofs.Words.{Word, first, made, Grown}
 use Rattle.model.proofs.Labels.{Label, label, labelAt, Fit}
 use Rattle.model.proofs.Below.{OnPath}
 use Rattle.model.specs.Base.{All}
@@ -72,7 +72,7 @@ module _ (c : Script) where
   Seen r l = (p : Path) × In p r × c .accessed p × OnPath (c .marks) p l
 
   abbrev pub Changed : Label → Type 0
-  Changed l = (w : Word) → Grown (l .word) w → (p : Path) × c .modified p × On (c .marks) p (l .root) w
+  Changed l = (w : Word) → Grown (l .word) w → (p : Path) × c .modified p × OnPath (c .marks) p (label (l .root) w)
 
   abbrev pub Item : List Path → Label → Type 0
   Item r l = Own l ⊎ Seen r l

@@ -17,9 +17,10 @@ use Rattle.model.specs.Step.{Letter}
 use Rattle.model.specs.Run.{State, stop, cutRecord, cutRow, cutBy, cutAll}
 use Rattle.model.specs.Paths.{Path, _▸_, anyBelow}
 use Rattle.model.proofs.GrowLaws.{count-linked, rowAt-linked-same, rowAt-linked-other, linked-cases}
-use Rattle.model.proofs.Words.{same, more, grown-trans, deep}
+use Rattle.model.proofs.Words.{same, more, grown-trans}
+use Rattle.model.proofs.Spells.{deep}
 use Rattle.model.proofs.Labels.{Label, grow, labelAt, fit-cut}
-use Rattle.model.proofs.Below.{OnPath}
+use Rattle.model.proofs.Below.{OnPath, on-step}
 use Rattle.model.proofs.Reach.{any-admits}
 use Rattle.model.proofs.All.{all-append, all-imp}
 use Rattle.model.proofs.Shift.{shift-injective}
@@ -31,12 +32,12 @@ use Rattle.model.proofs.SimLaws.{sim-gives}
 -- CHANGED: a row on p is changed with all below it where p and what is below p are modified; rows below it where the latter is
 changed-at : (c : Script) (l : Label) (p : Path) → OnPath (c .marks) p l → c .modified p → c .modified (p ▸ anyBelow) → Changed c l
 changed-at c l p o a b w same = (p, a, o)
-changed-at c l p o a b w (more {a = d} g) = (p ▸ anyBelow, b, deep o g refl (any-admits d))
+changed-at c l p o a b w (more {a = d} g) = (p ▸ anyBelow, b, on-step o (deep (o .spells) g refl (any-admits d)))
 
 pub changed-below : (c : Script) (l : Label) (a : Letter) (p : Path) → OnPath (c .marks) p l → c .modified (p ▸ anyBelow) →
     Changed c (grow l a)
-changed-below c l a p o b w same = (p ▸ anyBelow, b, deep o same refl (any-admits a))
-changed-below c l a p o b w (more {a = d} g) = (p ▸ anyBelow, b, deep o (grown-trans (more same) g) refl (any-admits d))
+changed-below c l a p o b w same = (p ▸ anyBelow, b, on-step o (deep (o .spells) same refl (any-admits a)))
+changed-below c l a p o b w (more {a = d} g) = (p ▸ anyBelow, b, on-step o (deep (o .spells) (grown-trans (more same) g) refl (any-admits d)))
 
 -- an item of a first table's rows that is cut
 abbrev Cuttable : Script → List Path → Type 0

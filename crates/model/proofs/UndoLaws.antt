@@ -12,7 +12,7 @@ use borrow.Author.Tests.{lt-ltb, eq-eqb}
 use Rattle.model.specs.Base.{pick, isIn, nothing}
 use Rattle.model.specs.Limits.{maxRows}
 use Rattle.model.specs.Table.{Row, Table, table, noRow, rowAt, count, isMarked, hasParent, withRow, withParent, linked, tagFits}
-use Rattle.model.specs.Table.{parentFits}
+use Rattle.model.specs.Table.{isName, parentFits}
 use Rattle.model.specs.History.{Record, madeElementKind, madeLeafKind, cutKind, historyBytes, IsInRange, AllInRange}
 use Rattle.model.specs.Run.{State, made, cutRecord}
 use Rattle.model.specs.Undo.{Placed, historySize, sameParent, sameBool, undoFits, undone, back, undoAll, backwards, undo, undoFormed}
@@ -135,8 +135,8 @@ made-inRange x r l f g = record {
     kind true = refl
     kind false = refl
 
-    name : (t : Bool) → pick t (leb (r .tag) 255) (isIn 1 255 (r .tag)) ≡ true → pick t madeLeafKind madeElementKind ≡ madeElementKind →
-        isIn 1 255 (r .tag) ≡ true
+    name : (t : Bool) → pick t (leb (r .tag) 255) (isName (r .tag)) ≡ true → pick t madeLeafKind madeElementKind ≡ madeElementKind →
+        isName (r .tag) ≡ true
     name true h e = absurd (omega arith)
     name false h e = h
 

@@ -1,15 +1,11 @@
--- Words: the letters from a root down to a node. When a word is grown from another, and when a word is on a path.
+-- Words: the letters from a root down to a node. When a word is grown from another.
 use mathlib.Core.Path.{_≡_, refl}
 use mathlib.Core.Bool.{Bool, true, false, false≢true}
 use mathlib.Core.Logic.{_⊎_, inl, inr}
 use mathlib.Core.List.{List, [], _∷_}
-use mathlib.Core.Option.{Option, none, some}
 use Prim.Native.Nat.{ℕ}
 use native.Mathlib.Omega.{arith}
-use lib.ListN.{getD}
-use Rattle.model.specs.Script.{Step}
-use Rattle.model.specs.Step.{Letter, leafLetter, named, admits}
-use Rattle.model.specs.Paths.{Place, Path, start, _▸_}
+use Rattle.model.specs.Step.{Letter, leafLetter, named}
 
 -- A word has the node's own letter first, then its parent's, up to and without the root's
 abbrev pub Word : Type 0
@@ -79,18 +75,3 @@ elements-proper (a ∷ w) e = elements-tail a w e
 pub elements-grown : {u w : Word} → Grown u w → areElements w ≡ true → areElements u ≡ true
 elements-grown same e = e
 elements-grown (more {a} {w} g) e = elements-grown g (elements-tail a w e)
-
--- ON A PATH: a document's place holds its root; a child step adds one letter that passes its test; a descendant step adds one or more,
--- of which the last passes
-pub data On (marks : List (Option ℕ)) : Path → Root → Word → Type 0 where
-  at : {p : Place} {i : ℕ} → p .owner ≡ 0 → getD marks (p .number) none ≡ some i → On marks (start p) (first i) []
-  child : {p : Path} {s : Step} {r : Root} {a : Letter} {w : Word} → On marks p r w → s .axis ≡ 0 → admits s a ≡ true →
-      On marks (p ▸ s) r (a ∷ w)
-  deep : {p : Path} {s : Step} {r : Root} {a : Letter} {u w : Word} → On marks p r u → Grown u w → s .axis ≡ 1 → admits s a ≡ true →
-      On marks (p ▸ s) r (a ∷ w)
-
--- what is on a path has a row of the first table for its root
-pub on-first : {marks : List (Option ℕ)} {p : Path} {r : Root} {w : Word} → On marks p r w → (i : ℕ) × (r ≡ first i)
-on-first (at {i = i} o m) = (i, refl)
-on-first (child f x z) = on-first f
-on-first (deep f y x z) = on-first f

@@ -1,25 +1,24 @@
--- Cells are sound: a word on two paths, or on one and below a word on the other, turns their cell on.
+-- Cells are sound: a word on two paths from one place, or on one and below a word on the other, turns their cell on.
 -- So paths that do not meet share no word.
 use mathlib.Core.Path.{_≡_, refl, sym, ap, _∙_, subst}
 use mathlib.Core.Bool.{Bool, true, false, _&&_, _||_, not, false≢true}
 use mathlib.Core.Logic.{_⊎_, inl, inr}
-use mathlib.Core.List.{List, [], _∷_}
-use mathlib.Core.Option.{Option, none, some}
+use mathlib.Core.List.{[], _∷_}
 use Prim.Native.Nat.{ℕ}
 use lib.Dec.{eqb}
-use lib.ListN.{getD}
 use borrow.Author.Tests.{eqb-true, eq-eqb}
 use Rattle.model.specs.Base.{pick}
 use Rattle.model.specs.Script.{Step}
 use Rattle.model.specs.Step.{Letter, leafLetter, named, admits}
-use Rattle.model.specs.Paths.{Place, Path, start, _▸_}
-use Rattle.model.specs.Meeting.{admitsElement, admitsLeaf, isNamed, shareElement, shareLeaf, isDeep, Cell, joinCell, samePlace}
+use Rattle.model.specs.Paths.{Place, Path, start, _▸_, placeOf}
+use Rattle.model.specs.Meeting.{admitsElement, admitsLeaf, isNamed, shareElement, shareLeaf, isDeep, Cell, joinCell}
 use Rattle.model.specs.Meeting.{isParent, onStep, downStep, upStep, startCells, stepCells, cell, meets}
 use Rattle.model.proofs.BoolLaws.{and-left, and-right, and-both, or-left, or-right, true-false}
 use Rattle.model.proofs.MirrorLaws.{cell-mirror}
 use Rattle.model.proofs.TestLaws.{parent-on, parent-down, parent-up}
-use Rattle.model.proofs.Words.{Word, Root, Grown, same, more, grown-compare, isLeafLetter, endsInLeaf, areElements, isProper}
-use Rattle.model.proofs.Words.{elements-end, elements-proper, elements-grown, On, at, child, deep}
+use Rattle.model.proofs.Words.{Word, Grown, same, more, grown-compare, isLeafLetter, endsInLeaf, areElements, isProper}
+use Rattle.model.proofs.Words.{elements-end, elements-proper, elements-grown}
+use Rattle.model.proofs.Spells.{Spells, spelled, child, deep, admitsKind, shareKind}
 
 -- what a cell says of a word
 abbrev onAt : Cell → Word → Bool
@@ -53,7 +52,7 @@ admits-name : (s : Step) (n : ℕ) → admits s (named n) ≡ true → isNamed s
 admits-name s n e f =
     eqb-true n (s .name) (test-name (eqb (s .test) 0) (eqb (s .test) 1) (eqb (s .test) 2) (eqb n (s .name)) e f)
 
-admits-kind : (s : Step) (a : Letter) → admits s a ≡ true → pick (isLeafLetter a) (admitsLeaf s) (admitsElement s) ≡ true
+admits-kind : (s : Step) (a : Letter) → admits s a ≡ true → admitsKind (isLeafLetter a) s ≡ true
 admits-kind s leafLetter e = e
 admits-kind s (named n) e = admits-element s n e
 
@@ -67,8 +66,7 @@ share-name s t n e f = go (isNamed s && isNamed t) refl
         eq-eqb (s .name) (t .name)
         (sym (admits-name s n e (and-left (isNamed s) (isNamed t) g)) ∙ admits-name t n f (and-right (isNamed s) (isNamed t) g))
 
-share-kind : (s t : Step) (a : Letter) → admits s a ≡ true → admits t a ≡ true →
-    pick (isLeafLetter a) (shareLeaf s t) (shareElement s t) ≡ true
+share-kind : (s t : Step) (a : Letter) → admits s a ≡ true → admits t a ≡ true → shareKind (isLeafLetter a) s t ≡ true
 share-kind s t leafLetter e f = and-both (admitsLeaf s) (admitsLeaf t) e f
 share-kind s t (named n) e f =
     and-both (admitsElement s && admitsElement t) (not (isNamed s && isNamed t) || eqb (s .name) (t .name))
@@ -102,184 +100,174 @@ pick-or-right : (z e l e′ l′ : Bool) → pick z l′ e′ ≡ true → pick 
 pick-or-right true e l e′ l′ h = or-right l l′ h
 pick-or-right false e l e′ l′ h = or-right e e′ h
 
-module _ (marks : List (Option ℕ)) (once : (d e i : ℕ) → getD marks d none ≡ some i → getD marks e none ≡ some i → d ≡ e) where
-  -- SOUND: what words on p and on q from the same root make of the cell of p and q: a word on both; one on p at or below one on q; and
-  -- the other way round, of the cell of q and p
-  abbrev OnBoth : Path → Path → Type 0
-  OnBoth p q = (r : Root) (w : Word) → On marks p r w → On marks q r w → isProper w ≡ true → onAt (cell p q) w ≡ true
+-- SOUND: what words on p and on q, from the same place, make of the cell of p and q: a word on both; one on p at or below one on q; and
+-- the other way round, of the cell of q and p
+abbrev OnBoth : Path → Path → Type 0
+OnBoth p q = (w : Word) → Spells p w → Spells q w → isProper w ≡ true → onAt (cell p q) w ≡ true
 
-  abbrev OnBelow : Path → Path → Type 0
-  OnBelow p q = (r : Root) (w u : Word) → On marks p r w → On marks q r u → Grown u w → isProper w ≡ true → downAt (cell p q) w ≡ true
+abbrev OnBelow : Path → Path → Type 0
+OnBelow p q = (w u : Word) → Spells p w → Spells q u → Grown u w → isProper w ≡ true → downAt (cell p q) w ≡ true
 
-  record Sound (p q : Path) : Type 0 where
-    pub on : OnBoth p q
-    pub down : OnBelow p q
-    pub up : OnBelow q p
+record Sound (p q : Path) : Type 0 where
+  pub on : OnBoth p q
+  pub down : OnBelow p q
+  pub up : OnBelow q p
 
-  turned : {p q : Path} → Sound p q → Sound q p
-  turned {p} {q} k =
-      record {
-        on = λ r w f g e. subst (λ (c : Cell). onAt c w ≡ true) (sym (cell-mirror p q)) (k .on r w g f e);
-        down = k .up;
-        up = k .down;
-      }
+turned : {p q : Path} → Sound p q → Sound q p
+turned {p} {q} k =
+    record {
+      on = λ w f g e. subst (λ (c : Cell). onAt c w ≡ true) (sym (cell-mirror p q)) (k .on w g f e);
+      down = k .up;
+      up = k .down;
+    }
 
-  -- a word of elements is one for the element's part of a cell
-  down-element : {p q : Path} → Sound p q → (r : Root) (w u : Word) → On marks p r w → On marks q r u → Grown u w → areElements w ≡ true →
-      cell p q .downElement ≡ true
-  down-element {p} {q} k r w u f g h e = rw (elements-end w e) at (k .down r w u f g h (elements-proper w e))
+-- a word of elements is one for the element's part of a cell
+down-element : {p q : Path} → Sound p q → (w u : Word) → Spells p w → Spells q u → Grown u w → areElements w ≡ true →
+    cell p q .downElement ≡ true
+down-element k w u f g h e = rw (elements-end w e) at (k .down w u f g h (elements-proper w e))
 
-  up-element : {p q : Path} → Sound p q → (r : Root) (w u : Word) → On marks q r w → On marks p r u → Grown u w → areElements w ≡ true →
-      cell p q .upElement ≡ true
-  up-element {p} {q} k r w u f g h e =
-      sym (ap (λ (c : Cell). c .downElement) (cell-mirror p q)) ∙ down-element (turned k) r w u f g h e
+up-element : {p q : Path} → Sound p q → (w u : Word) → Spells q w → Spells p u → Grown u w → areElements w ≡ true →
+    cell p q .upElement ≡ true
+up-element {p} {q} k w u f g h e =
+    sym (ap (λ (c : Cell). c .downElement) (cell-mirror p q)) ∙ down-element (turned k) w u f g h e
 
-  on-element : {p q : Path} → Sound p q → (r : Root) (w : Word) → On marks p r w → On marks q r w → areElements w ≡ true →
-      cell p q .onElement ≡ true
-  on-element {p} {q} k r w f g e = rw (elements-end w e) at (k .on r w f g (elements-proper w e))
+on-element : {p q : Path} → Sound p q → (w : Word) → Spells p w → Spells q w → areElements w ≡ true → cell p q .onElement ≡ true
+on-element k w f g e = rw (elements-end w e) at (k .on w f g (elements-proper w e))
 
-  -- STRICTLY BELOW: a node on q ▸ t below a node on p, by what holds of nodes on q below p (near) and on p below q (far)
-  strictly-below : {p q : Path} {t : Step} {r : Root} {a : Letter} {w u : Word} (near far : Bool) →
-      ((r : Root) (w u : Word) → On marks q r w → On marks p r u → Grown u w → areElements w ≡ true → near ≡ true) →
-      ((r : Root) (w u : Word) → On marks p r w → On marks q r u → Grown u w → areElements w ≡ true → far ≡ true) →
-      On marks (q ▸ t) r (a ∷ w) → On marks p r u → Grown u w → areElements w ≡ true →
-      ((near || (isDeep t && far)) ≡ true) × (admits t a ≡ true)
-  strictly-below {t} near far n k (child f x z) g h e = (or-left near (isDeep t && far) (n _ _ _ f g h e), z)
-  strictly-below {t} {r} {u} near far n k (deep {u = v} f y x z) g h e = (go (grown-compare h y), z)
-    where
-      go : Grown u v ⊎ Grown v u → (near || (isDeep t && far)) ≡ true
-      go (inl b) = or-left near (isDeep t && far) (n r v u f g b (elements-grown y e))
-      go (inr b) = or-right near (isDeep t && far) (and-both (isDeep t) far (eq-eqb (t .axis) 1 x) (k r u v g f b (elements-grown h e)))
+-- STRICTLY BELOW: a node on q ▸ t below a node on p, by what holds of nodes on q below p (near) and on p below q (far)
+strictly-below : {p q : Path} {t : Step} {a : Letter} {w u : Word} (near far : Bool) →
+    ((w u : Word) → Spells q w → Spells p u → Grown u w → areElements w ≡ true → near ≡ true) →
+    ((w u : Word) → Spells p w → Spells q u → Grown u w → areElements w ≡ true → far ≡ true) →
+    Spells (q ▸ t) (a ∷ w) → Spells p u → Grown u w → areElements w ≡ true →
+    ((near || (isDeep t && far)) ≡ true) × (admits t a ≡ true)
+strictly-below {t} near far n k (child f x z) g h e = (or-left near (isDeep t && far) (n _ _ f g h e), z)
+strictly-below {t} {u} near far n k (deep {u = v} f y x z) g h e = (go (grown-compare h y), z)
+  where
+    go : Grown u v ⊎ Grown v u → (near || (isDeep t && far)) ≡ true
+    go (inl b) = or-left near (isDeep t && far) (n v u f g b (elements-grown y e))
+    go (inr b) = or-right near (isDeep t && far) (and-both (isDeep t) far (eq-eqb (t .axis) 1 x) (k u v g f b (elements-grown h e)))
 
-  -- ON BOTH: the parent of a node on p ▸ s and on q ▸ t
-  last-admits : {p : Path} {s : Step} {r : Root} {a : Letter} {w : Word} → On marks (p ▸ s) r (a ∷ w) → admits s a ≡ true
-  last-admits (child f x z) = z
-  last-admits (deep f y x z) = z
+-- ON BOTH: the parent of a node on p ▸ s and on q ▸ t
+last-admits : {p : Path} {s : Step} {a : Letter} {w : Word} → Spells (p ▸ s) (a ∷ w) → admits s a ≡ true
+last-admits (child f x z) = z
+last-admits (deep f y x z) = z
 
-  both-parent : {p q : Path} {s t : Step} {r : Root} {a : Letter} {w : Word} → Sound p q → On marks (p ▸ s) r (a ∷ w) →
-      On marks (q ▸ t) r (a ∷ w) → areElements w ≡ true → (isParent s t (cell p q) ≡ true) × (admits s a ≡ true) × (admits t a ≡ true)
-  both-parent {p} {q} {s} {t} {r} {a} {w} k i j e = (go i j, last-admits i, last-admits j)
-    where
-      by-down : t .axis ≡ 1 → cell p q .downElement ≡ true → isParent s t (cell p q) ≡ true
-      by-down x h = parent-down s t (cell p q) (eq-eqb (t .axis) 1 x) h
+both-parent : {p q : Path} {s t : Step} {a : Letter} {w : Word} → Sound p q → Spells (p ▸ s) (a ∷ w) → Spells (q ▸ t) (a ∷ w) →
+    areElements w ≡ true → (isParent s t (cell p q) ≡ true) × (admits s a ≡ true) × (admits t a ≡ true)
+both-parent {p} {q} {s} {t} {a} {w} k i j e = (go i j, last-admits i, last-admits j)
+  where
+    by-down : t .axis ≡ 1 → cell p q .downElement ≡ true → isParent s t (cell p q) ≡ true
+    by-down x h = parent-down s t (cell p q) (eq-eqb (t .axis) 1 x) h
 
-      by-up : s .axis ≡ 1 → cell p q .upElement ≡ true → isParent s t (cell p q) ≡ true
-      by-up x h = parent-up s t (cell p q) (eq-eqb (s .axis) 1 x) h
+    by-up : s .axis ≡ 1 → cell p q .upElement ≡ true → isParent s t (cell p q) ≡ true
+    by-up x h = parent-up s t (cell p q) (eq-eqb (s .axis) 1 x) h
 
-      go : On marks (p ▸ s) r (a ∷ w) → On marks (q ▸ t) r (a ∷ w) → isParent s t (cell p q) ≡ true
-      go (child f x z) (child g x′ z′) = parent-on s t (cell p q) (on-element k _ _ f g e)
-      go (child f x z) (deep g y′ x′ z′) = by-down x′ (down-element k _ _ _ f g y′ e)
-      go (deep f y x z) (child g x′ z′) = by-up x (up-element k _ _ _ g f y e)
-      go (deep {u = u} f y x z) (deep {u = v} g y′ x′ z′) = elim (grown-compare y y′) [
-        | inl b ↦ by-up x (up-element k r v u g f b (elements-grown y′ e))
-        | inr b ↦ by-down x′ (down-element k r u v f g b (elements-grown y e))
-      ]
+    go : Spells (p ▸ s) (a ∷ w) → Spells (q ▸ t) (a ∷ w) → isParent s t (cell p q) ≡ true
+    go (child f x z) (child g x′ z′) = parent-on s t (cell p q) (on-element k _ f g e)
+    go (child f x z) (deep g y′ x′ z′) = by-down x′ (down-element k _ _ f g y′ e)
+    go (deep f y x z) (child g x′ z′) = by-up x (up-element k _ _ g f y e)
+    go (deep {u = u} f y x z) (deep {u = v} g y′ x′ z′) = elim (grown-compare y y′) [
+      | inl b ↦ by-up x (up-element k v u g f b (elements-grown y′ e))
+      | inr b ↦ by-down x′ (down-element k u v f g b (elements-grown y e))
+    ]
 
-  -- THE CELLS, as they are computed
-  place-same : {p q : Place} {r : Root} → On marks (start p) r [] → On marks (start q) r [] → samePlace p q ≡ true
-  place-same {p} {q} (at {i = i} o m) (at o′ m′) =
-      and-both (eqb (p .owner) (q .owner)) (eqb (p .number) (q .number)) (eq-eqb (p .owner) (q .owner) (o ∙ sym o′))
-      (eq-eqb (p .number) (q .number) (once (p .number) (q .number) i m m′))
+-- THE CELLS, as they are computed
+step-word : {p : Path} {s : Step} → Spells (p ▸ s) [] → ⊥
+step-word h = elim h [ ]
 
-  start-word : {p : Place} {r : Root} {a : Letter} {w : Word} → On marks (start p) r (a ∷ w) → ⊥
-  start-word h = elim h [ ]
+start-below : (p q : Place) → p ≡ q → OnBelow (start p) (start q)
+unfolding cell startCells
+start-below p q z w u spelled g h e = and-both _ _ (eq-eqb _ _ (ap (λ r. r .owner) z)) (eq-eqb _ _ (ap (λ r. r .number) z))
 
-  step-word : {p : Path} {s : Step} {r : Root} → On marks (p ▸ s) r [] → ⊥
-  step-word h = elim h [ ]
+start-start : (p q : Place) → p ≡ q → Sound (start p) (start q)
+unfolding cell startCells
+start-start p q z = record { on = on; down = start-below p q z; up = start-below q p (sym z) }
+  where
+    on : OnBoth (start p) (start q)
+    on w spelled g e = start-below p q z [] [] spelled spelled same refl
 
-  shrink-nil : {p : Path} {r : Root} {u : Word} → Grown u [] → On marks p r u → On marks p r []
-  shrink-nil same f = f
+-- a word on p ▸ s at or below one on q: the same word, or a step below
+step-below : (p : Path) (s : Step) (q : Path) → Sound p q →
+    ((a : Letter) (w : Word) → Spells (p ▸ s) (a ∷ w) → Spells q (a ∷ w) → areElements w ≡ true →
+    downAt (cell (p ▸ s) q) (a ∷ w) ≡ true) →
+    ((a : Letter) (w : Word) → downAt (downStep s (cell p q)) (a ∷ w) ≡ true → downAt (cell (p ▸ s) q) (a ∷ w) ≡ true) →
+    OnBelow (p ▸ s) q
+step-below p s q k met stepped [] u f g h e = absurd (step-word f)
+step-below p s q k met stepped (a ∷ w) u f g same e = met a w f g e
+step-below p s q k met stepped (a ∷ w) u f g (more h) e =
+    let b : ((cell p q .downElement || (isDeep s && cell p q .upElement)) ≡ true) × (admits s a ≡ true) =
+    strictly-below _ _ (down-element k) (up-element k) f g h e in
+    stepped a w (step-down s a w (cell p q) (b .0) (b .1))
 
-  start-below : (p q : Place) → OnBelow (start p) (start q)
-  unfolding cell startCells
-  start-below p q r [] u f g h e = place-same f (shrink-nil h g)
-  start-below p q r (a ∷ w) u f g h e = absurd (start-word f)
+step-start : (p : Path) (s : Step) (q : Place) → Sound p (start q) → Sound (p ▸ s) (start q)
+unfolding cell stepCells
+step-start p s q k =
+    record {
+      on = λ w f g e. nowhere w f g;
+      down = step-below p s (start q) k (λ a w f g e. nowhere (a ∷ w) f g) (λ a w x. x);
+      up = up;
+    }
+  where
+    nowhere : {A : Type 0} (w : Word) → Spells (p ▸ s) w → Spells (start q) w → A
+    nowhere w f spelled = absurd (step-word f)
 
-  start-start : (p q : Place) → Sound (start p) (start q)
-  unfolding cell startCells
-  start-start p q = record { on = on; down = start-below p q; up = start-below q p }
-    where
-      on : OnBoth (start p) (start q)
-      on r [] f g e = place-same f g
-      on r (a ∷ w) f g e = absurd (start-word f)
+    up : OnBelow (start q) (p ▸ s)
+    up w u spelled g same e = absurd (step-word g)
 
-  -- a word on p ▸ s at or below one on q: the same word, or a step below
-  step-below : (p : Path) (s : Step) (q : Path) → Sound p q →
-      ((r : Root) (a : Letter) (w : Word) → On marks (p ▸ s) r (a ∷ w) → On marks q r (a ∷ w) → areElements w ≡ true →
-      downAt (cell (p ▸ s) q) (a ∷ w) ≡ true) →
-      ((a : Letter) (w : Word) → downAt (downStep s (cell p q)) (a ∷ w) ≡ true → downAt (cell (p ▸ s) q) (a ∷ w) ≡ true) →
-      OnBelow (p ▸ s) q
-  step-below p s q k met stepped r [] u f g h e = absurd (step-word f)
-  step-below p s q k met stepped r (a ∷ w) u f g same e = met r a w f g e
-  step-below p s q k met stepped r (a ∷ w) u f g (more h) e =
-      let b : ((cell p q .downElement || (isDeep s && cell p q .upElement)) ≡ true) × (admits s a ≡ true) =
-      strictly-below _ _ (down-element k) (up-element k) f g h e in
-      stepped a w (step-down s a w (cell p q) (b .0) (b .1))
+-- on both, below the one: two parts of the join; below the other is the same turned
+module _ (p : Path) (s : Step) (q : Path) (t : Step) (k : Sound p q) where
+  abbrev c : Cell
+  c = onStep s t (cell p q)
 
-  step-start : (p : Path) (s : Step) (q : Place) → Sound p (start q) → Sound (p ▸ s) (start q)
+  abbrev d : Cell
+  d = joinCell (downStep s (cell p (q ▸ t))) (upStep t (cell (p ▸ s) q))
+
+  met : (a : Letter) (w : Word) → Spells (p ▸ s) (a ∷ w) → Spells (q ▸ t) (a ∷ w) → areElements w ≡ true →
+      onAt c (a ∷ w) ≡ true
+  met a w f g z =
+      let b : (isParent s t (cell p q) ≡ true) × (admits s a ≡ true) × (admits t a ≡ true) = both-parent k f g z in
+      step-on s t a w (cell p q) (b .0) (b .1) (b .2)
+
+  both-on : OnBoth (p ▸ s) (q ▸ t)
   unfolding cell stepCells
-  step-start p s q k =
-      record { on = on; down = step-below p s (start q) k (λ r a w f g e. absurd (start-word g)) (λ a w x. x); up = up }
-    where
-      on : OnBoth (p ▸ s) (start q)
-      on r [] f g e = absurd (step-word f)
-      on r (a ∷ w) f g e = absurd (start-word g)
+  both-on [] f g z = absurd (step-word f)
+  both-on (a ∷ w) f g z =
+      pick-or-left (isLeafLetter a) (c .onElement) (c .onLeaf) (d .onElement) (d .onLeaf) (met a w f g z)
 
-      up : OnBelow (start q) (p ▸ s)
-      up r [] u f g h e = absurd (step-word (shrink-nil h g))
-      up r (a ∷ w) u f g h e = absurd (start-word f)
+  both-below : Sound p (q ▸ t) → OnBelow (p ▸ s) (q ▸ t)
+  unfolding cell stepCells
+  both-below l =
+      step-below p s (q ▸ t) l
+      (λ a w f g z.
+      pick-or-left (isLeafLetter a) (c .downElement) (c .downLeaf) (d .downElement) (d .downLeaf) (met a w f g z))
+      (λ a w x.
+      pick-or-right (isLeafLetter a) (c .downElement) (c .downLeaf) (d .downElement) (d .downLeaf)
+      (pick-or-left (isLeafLetter a) (downStep s (cell p (q ▸ t)) .downElement) (downStep s (cell p (q ▸ t)) .downLeaf)
+      (upStep t (cell (p ▸ s) q) .downElement) (upStep t (cell (p ▸ s) q) .downLeaf) x))
 
-  -- on both, below the one: two parts of the join; below the other is the same turned
-  module _ (p : Path) (s : Step) (q : Path) (t : Step) (k : Sound p q) where
-    abbrev c : Cell
-    c = onStep s t (cell p q)
+step-step : (p : Path) (s : Step) (q : Path) (t : Step) → Sound p q → Sound p (q ▸ t) → Sound (p ▸ s) q → Sound (p ▸ s) (q ▸ t)
+step-step p s q t k l n =
+    record { on = both-on p s q t k; down = both-below p s q t k l; up = both-below q t p s (turned k) (turned n) }
 
-    abbrev d : Cell
-    d = joinCell (downStep s (cell p (q ▸ t))) (upStep t (cell (p ▸ s) q))
+start-sound : (p : Place) (q : Path) → p ≡ placeOf q → Sound (start p) q
+unfolding placeOf
+start-sound p (start q) e = start-start p q e
+start-sound p (q ▸ t) e = turned (step-start q t p (turned (start-sound p q e)))
 
-    met : (r : Root) (a : Letter) (w : Word) → On marks (p ▸ s) r (a ∷ w) → On marks (q ▸ t) r (a ∷ w) → areElements w ≡ true →
-        onAt c (a ∷ w) ≡ true
-    met r a w f g z =
-        let b : (isParent s t (cell p q) ≡ true) × (admits s a ≡ true) × (admits t a ≡ true) = both-parent k f g z in
-        step-on s t a w (cell p q) (b .0) (b .1) (b .2)
+step-sound : (p : Path) (s : Step) → ((q : Path) → placeOf p ≡ placeOf q → Sound p q) → (q : Path) → placeOf p ≡ placeOf q → Sound (p ▸ s) q
+unfolding placeOf
+step-sound p s k (start q) e = step-start p s q (k (start q) e)
+step-sound p s k (q ▸ t) e = step-step p s q t (k q e) (k (q ▸ t) e) (step-sound p s k q e)
 
-    both-on : OnBoth (p ▸ s) (q ▸ t)
-    unfolding cell stepCells
-    both-on r [] f g z = absurd (step-word f)
-    both-on r (a ∷ w) f g z =
-        pick-or-left (isLeafLetter a) (c .onElement) (c .onLeaf) (d .onElement) (d .onLeaf) (met r a w f g z)
+cell-sound : (p q : Path) → placeOf p ≡ placeOf q → Sound p q
+unfolding placeOf
+cell-sound (start p) q = start-sound p q
+cell-sound (p ▸ s) q = step-sound p s (cell-sound p) q
 
-    both-below : Sound p (q ▸ t) → OnBelow (p ▸ s) (q ▸ t)
-    unfolding cell stepCells
-    both-below l =
-        step-below p s (q ▸ t) l
-        (λ r a w f g z.
-        pick-or-left (isLeafLetter a) (c .downElement) (c .downLeaf) (d .downElement) (d .downLeaf) (met r a w f g z))
-        (λ a w x.
-        pick-or-right (isLeafLetter a) (c .downElement) (c .downLeaf) (d .downElement) (d .downLeaf)
-        (pick-or-left (isLeafLetter a) (downStep s (cell p (q ▸ t)) .downElement) (downStep s (cell p (q ▸ t)) .downLeaf)
-        (upStep t (cell (p ▸ s) q) .downElement) (upStep t (cell (p ▸ s) q) .downLeaf) x))
-
-  step-step : (p : Path) (s : Step) (q : Path) (t : Step) → Sound p q → Sound p (q ▸ t) → Sound (p ▸ s) q → Sound (p ▸ s) (q ▸ t)
-  step-step p s q t k l n =
-      record { on = both-on p s q t k; down = both-below p s q t k l; up = both-below q t p s (turned k) (turned n) }
-
-  start-sound : (p : Place) (q : Path) → Sound (start p) q
-  start-sound p (start q) = start-start p q
-  start-sound p (q ▸ t) = turned (step-start q t p (turned (start-sound p q)))
-
-  step-sound : (p : Path) (s : Step) → ((q : Path) → Sound p q) → (q : Path) → Sound (p ▸ s) q
-  step-sound p s k (start q) = step-start p s q (k (start q))
-  step-sound p s k (q ▸ t) = step-step p s q t (k q) (k (q ▸ t)) (step-sound p s k q)
-
-  cell-sound : (p q : Path) → Sound p q
-  cell-sound (start p) q = start-sound p q
-  cell-sound (p ▸ s) q = step-sound p s (λ q. cell-sound p q) q
-
-  -- paths that do not meet share no word
-  pub meets-apart : (p q : Path) (r : Root) (w : Word) → meets p q ≡ false → isProper w ≡ true → On marks p r w → On marks q r w → ⊥
-  meets-apart p q r w n e f g = go (endsInLeaf w) (cell-sound p q .on r w f g e)
-    where
-      go : (z : Bool) → pick z (cell p q .onLeaf) (cell p q .onElement) ≡ true → ⊥
-      go true h = true-false (meets p q) (or-right (cell p q .onElement) (cell p q .onLeaf) h) n
-      go false h = true-false (meets p q) (or-left (cell p q .onElement) (cell p q .onLeaf) h) n
+-- paths from one place that do not meet share no word
+pub meets-apart : (p q : Path) (w : Word) → placeOf p ≡ placeOf q → meets p q ≡ false → isProper w ≡ true → Spells p w → Spells q w → ⊥
+meets-apart p q w s n e f g = go (endsInLeaf w) (cell-sound p q s .on w f g e)
+  where
+    go : (z : Bool) → pick z (cell p q .onLeaf) (cell p q .onElement) ≡ true → ⊥
+    go true h = true-false (meets p q) (or-right (cell p q .onElement) (cell p q .onLeaf) h) n
+    go false h = true-false (meets p q) (or-left (cell p q .onElement) (cell p q .onLeaf) h) n

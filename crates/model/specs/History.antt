@@ -6,7 +6,7 @@ use mathlib.Core.Option.{Option, none}
 use Prim.Native.Nat.{ℕ, _+_}
 use lib.Dec.{eqb}
 use Rattle.model.specs.Base.{pick, isIn, All, bit}
-use Rattle.model.specs.Table.{Table, linked, withRow}
+use Rattle.model.specs.Table.{Table, linked, withRow, isName}
 use Rattle.model.specs.Stored.{IsWord, wordBytes, parentBytes}
 
 -- KINDS: element made, leaf made (body: row, name or value, parent), link cut (body: row, old parent)
@@ -38,7 +38,7 @@ times f (r ∷ rs) = bit (f r) + times f rs
 -- A RECORD IN RANGE: one of the three kinds; an element's name is 1 to 255; a cut has no tag
 pub record IsInRange (r : Record) : Type 0 where
   pub kindIn : isIn madeElementKind cutKind (r .kind) ≡ true
-  pub nameIn : r .kind ≡ madeElementKind → isIn 1 255 (r .tag) ≡ true
+  pub nameIn : r .kind ≡ madeElementKind → isName (r .tag) ≡ true
   pub noTag : r .kind ≡ cutKind → r .tag ≡ 0
   pub parentWord : IsWord (r .parent)
 

@@ -1,5 +1,5 @@
 -- Document 01, 'Limits': each limit, and what each area lent to a run needs, named once. Assumes nothing: these are definitions.
-use Prim.Native.Nat.{ℕ}
+use Prim.Native.Nat.{ℕ, _+_}
 
 -- rows of a table
 abbrev pub maxRows : ℕ
@@ -7,7 +7,7 @@ maxRows = 512
 
 -- links to a row: none, or its number and one
 abbrev pub maxLinks : ℕ
-maxLinks = 513
+maxLinks = maxRows + 1
 
 -- documents, numbered from 0
 abbrev pub documents : ℕ
@@ -35,7 +35,7 @@ maxHistory = 2048
 
 -- lent to a run: answer and work in two-byte numbers, history in bytes
 abbrev pub answerNeed : ℕ
-answerNeed = 512
+answerNeed = maxItems
 
 abbrev pub historyNeed : ℕ
 historyNeed = 12288

@@ -7,6 +7,7 @@ use lib.ListN.{length, getD, drop}
 use Rattle.model.specs.Base.{pick, isIn}
 use Rattle.model.specs.Limits.{documents, maxRecords, maxDepth, maxBinders}
 use Rattle.model.specs.Refusal.{Fault, fine, isFine, orElse, unless, kindAt, shortAt, tailAt, fieldAt, sizeAt}
+use Rattle.model.specs.Table.{isName}
 
 -- Axis: 0 child, 1 descendant, 2 parent, 3 ancestor. Test: 0 any node, 1 any element, 2 any leaf, 3 the named element
 pub record Step : Type 0 where
@@ -98,7 +99,7 @@ bodySize k =
 
 -- name is 0 unless the test is 3, and then 1 to 255
 abbrev pub testFits : (test name : ℕ) → Bool
-testFits t n = pick (eqb t 3) (isIn 1 255 n) (ltb t 3 && eqb n 0)
+testFits t n = pick (eqb t 3) (isName n) (ltb t 3 && eqb n 0)
 
 -- 4: the fields of the record at the front are in range, its variable is bound
 abbrev pub bodyFits : (bound : ℕ) → (bytes : List ℕ) → Bool
@@ -106,7 +107,7 @@ bodyFits v b =
     pick (eqb (getD b 0 0) documentKind) (ltb (getD b 1 0) documents)
     (pick (eqb (getD b 0 0) variableKind) (ltb (getD b 1 0) v)
     (pick (eqb (getD b 0 0) stepKind) (ltb (getD b 1 0) 4 && testFits (getD b 2 0) (getD b 3 0))
-    (pick (eqb (getD b 0 0) newElementKind) (isIn 1 255 (getD b 1 0))
+    (pick (eqb (getD b 0 0) newElementKind) (isName (getD b 1 0))
     (pick (eqb (getD b 0 0) pickKind) (ltb (getD b 1 0) 3) true))))
 
 -- let and for bind a variable

@@ -73,9 +73,13 @@ linked x i p = table (set (x .rows) i (withParent (rowAt x i) p)) (x .marks)
 abbrev pub withMark : Table → (document row : ℕ) → Table
 withMark x d i = table (x .rows) (set (x .marks) d (some i))
 
--- WELL FORMED. A name is 1 to 255, a value one byte
+-- WELL FORMED. A name is 1 to 255
+abbrev pub isName : ℕ → Bool
+isName n = isIn 1 255 n
+
+-- a value is one byte
 abbrev pub tagFits : Row → Bool
-tagFits r = pick (r .isLeaf) (leb (r .tag) 255) (isIn 1 255 (r .tag))
+tagFits r = pick (r .isLeaf) (leb (r .tag) 255) (isName (r .tag))
 
 -- every parent is an element with a lower number than its child
 abbrev pub isLowerElement : Table → (number parent : ℕ) → Bool

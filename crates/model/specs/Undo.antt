@@ -9,7 +9,7 @@ use lib.ListN.{length, getD, take, drop}
 use Rattle.model.specs.Base.{pick, isIn}
 use Rattle.model.specs.Limits.{maxHistory}
 use Rattle.model.specs.Refusal.{Fault, isFine, orElse, unless, kindAt, shortAt, fieldAt, sizeAt, linkAt}
-use Rattle.model.specs.Table.{Table, table, rowAt, count, isLowerElement, isMarked, hasParent, linked}
+use Rattle.model.specs.Table.{Table, table, rowAt, count, isLowerElement, isMarked, hasParent, linked, isName}
 use Rattle.model.specs.Stored.{wordAt, parentIn}
 use Rattle.model.specs.History.{Record, madeElementKind, madeLeafKind, cutKind}
 
@@ -45,7 +45,7 @@ formFault i n b =
     orElse (unless (isIn madeElementKind cutKind (getD b 0 0)) (kindAt i))
     (orElse (unless (ltb n maxHistory) (sizeAt i))
     (orElse (unless (leb (historySize (getD b 0 0)) (length b)) (shortAt i))
-    (unless (not (eqb (getD b 0 0) madeElementKind) || isIn 1 255 (getD b 3 0)) (fieldAt i))))
+    (unless (not (eqb (getD b 0 0) madeElementKind) || isName (getD b 3 0)) (fieldAt i))))
 
 -- a record before the others, unless they are refused
 abbrev pub withPlaced : Placed → Formed → Formed

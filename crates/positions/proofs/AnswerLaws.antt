@@ -13,6 +13,7 @@ use Rattle.model.specs.Script.{Expr}
 use Rattle.model.specs.Paths.{placeOf, Path, start, place, pathsOf, traversed, hasUp}
 use Rattle.model.specs.Meeting.{isMet, meets, anyMeet, pathsMeet, free, upward, meet, answer}
 use Rattle.model.proofs.All.{all-in}
+use Rattle.model.proofs.Pointwise.{ended}
 use Rattle.model.proofs.ListLaws.{any-append, any-same}
 use Rattle.positions.specs.Positions.{Entry, plain, nowhere, entryAt, AreLower, emit, entriesBefore, entriesOf, pathsFrom, pathsOn}
 use Rattle.meeting.specs.Cells.{between}
@@ -22,7 +23,7 @@ use Rattle.meeting.proofs.MirrorLaws.{anyMeet-mirror}
 use Rattle.positions.proofs.AnyUpToLaws.{anyUpTo-same, anyUpTo-or, anyUpTo-and}
 use Rattle.positions.proofs.PositionLaws.{pathsOn-split}
 use Rattle.positions.proofs.DocumentLaws.{fromDocuments, owners-apart}
-use Rattle.positions.proofs.EmitLaws.{pathsWithFrom, pathsWith, isAccessed, isModified, pathsWith-push, Ready, Right, none, emits}
+use Rattle.positions.proofs.EmitLaws.{pathsWithFrom, pathsWith, isAccessed, isModified, pathsWith-push, Ready, Right, emits}
 use Rattle.positions.proofs.TraverseLaws.{any-traversed, Own, modified-own, accessed-own, any-documents, documents-are}
 
 -- POSITIONS WITH A ROLE: a test of lists of paths, that of a joined list being either's, at each such position
@@ -147,7 +148,7 @@ ready-before = record { some = omega arith; zero = refl; lower = only }
 
 pub emitted-right : (o : ℕ) → (o ≡ 0 → ⊥) → (e : Expr) →
     Right entriesBefore (pathsOf o e .result) (pathsOf o e .accessed) (pathsOf o e .modified) (emit e [] entriesBefore)
-emitted-right o own e = emits o own e [] [] entriesBefore ready-before none
+emitted-right o own e = emits o own e [] [] entriesBefore ready-before ended
 
 accessed-are : (o : ℕ) → (o ≡ 0 → ⊥) → (e : Expr) → pathsWith isAccessed (entriesOf e) ≡ fromDocuments (pathsOf o e .accessed)
 unfolding pathsWithFrom

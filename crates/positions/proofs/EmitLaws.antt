@@ -3,7 +3,7 @@
 use mathlib.Core.Path.{_≡_, refl, ap, sym, _∙_, subst}
 use mathlib.Core.Bool.{Bool, true, false, _&&_, not}
 use mathlib.Core.List.{List, [], _∷_, _++_, append-assoc, append-nil}
-use Prim.Native.Nat.{ℕ, zero, suc, _<_, _≤_}
+use Prim.Native.Nat.{ℕ, _<_, _≤_}
 use native.Mathlib.Omega.{arith}
 use lib.Dec.{eqb}
 use lib.ListN.{length, getD, length-append, List·getD-append}
@@ -13,6 +13,7 @@ use Rattle.model.specs.Base.{pick, filtered}
 use Rattle.model.specs.Script.{Step, Expr, nil, document, var, step, both, letIn, forIn, ifIn, element, leaf, delete, insert, choose}
 use Rattle.model.specs.Paths.{placeOf, Path, start, place, withStep, anyBelow, infer, isUp}
 use Rattle.model.proofs.BoolLaws.{and-left, pick-cases, eq-cases}
+use Rattle.model.proofs.Pointwise.{Pointwise, pointwise-snoc, pointwise-imp, pointwise-read}
 use Rattle.positions.specs.Positions.{Position, over, union, Entry, plain, accessing, modifying, entryAt, IsLower, AreLower}
 use Rattle.positions.specs.Positions.{Emitted, emitted, push, pushStep, pushUnion, pushDelete, pushBelow, pushInsert, emit}
 use Rattle.positions.specs.Positions.{pathsAt, pathsFrom, pathsBy, pathsOn}
@@ -171,28 +172,12 @@ no-step : (s : Step) (r : List Path) → fromDocuments r ≡ [] → fromDocument
 no-step s r e = fromDocuments-step s r ∙ ap (withStep s) e
 
 -- BOUND VARIABLES: each position has the paths of its variable
-pub data Bound (es : List Entry) : List ℕ → List (List Path) → Type 0 where
-  none : Bound es [] []
-  bind : {n : ℕ} {ns : List ℕ} {r : List Path} {rs : List (List Path)} → n < length es → pathsOn es n ≡ fromDocuments r → Bound es ns rs →
-      Bound es (n ∷ ns) (r ∷ rs)
-
-bound-at : (es : List Entry) → Ready es → {ns : List ℕ} {rs : List (List Path)} → Bound es ns rs → (v : ℕ) →
-    (getD ns v 0 < length es) × (pathsOn es (getD ns v 0) ≡ fromDocuments (getD rs v []))
-unfolding filtered
-bound-at es z none v = (z .some, z .zero)
-bound-at es z (bind h e b) zero = (h, e)
-bound-at es z (bind h e b) (suc v) = bound-at es z b v
+abbrev pub Bound : List Entry → List ℕ → List (List Path) → Type 0
+Bound es = Pointwise (λ n r. (n < length es) × (pathsOn es n ≡ fromDocuments r))
 
 bound-later : (es : List Entry) (r a m : List Path) (y : Emitted) → Right es r a m y → {ns : List ℕ} {rs : List (List Path)} →
     Bound es ns rs → Bound (y .entries) ns rs
-bound-later es r a m y g none = none
-bound-later es r a m y g (bind {n} h e b) =
-    let l : n < length (y .entries) = omega (arith, g .more) in bind l (g .keeps n h ∙ e) (bound-later es r a m y g b)
-
-bound-more : {es : List Entry} {ns : List ℕ} {rs : List (List Path)} → Bound es ns rs → (n : ℕ) (r : List Path) → n < length es →
-    pathsOn es n ≡ fromDocuments r → Bound es (ns ++ (n ∷ [])) (rs ++ (r ∷ []))
-bound-more none n r h e = bind h e none
-bound-more (bind g f b) n r h e = bind g f (bound-more b n r h e)
+bound-later es r a m y g = pointwise-imp (λ n r (h, e). (omega (arith, g .more), g .keeps n h ∙ e))
 
 -- THE EMISSION of an expression
 module _ (o : ℕ) (own : o ≡ 0 → ⊥) where
@@ -209,7 +194,7 @@ module _ (o : ℕ) (own : o ≡ 0 → ⊥) where
       let h = E ns rs es z b in
       thenRight es _ _ _ _ _ _ (emit e ns es) (emit f (ns ++ (emit e ns es .result ∷ [])) (emit e ns es .entries)) h
       (F (ns ++ (emit e ns es .result ∷ [])) (rs ++ (infer o e rs .result ∷ [])) (emit e ns es .entries) (ready z h)
-      (bound-more (bound-later es _ _ _ _ h b) (emit e ns es .result) (infer o e rs .result) (h .low) (h .is)))
+      (pointwise-snoc (bound-later es _ _ _ _ h b) (h .low, h .is)))
 
   -- both results, after the second
   module _ (es : List Entry) (z : Ready es) (r a m r′ a′ m′ : List Path) (y y′ : Emitted) (h : Right es r a m y)
@@ -344,7 +329,7 @@ module _ (o : ℕ) (own : o ≡ 0 → ⊥) where
   emits (nil z) ns rs es y b = known es y 0 [] (y .some) (y .zero)
   emits (document z d) ns rs es y b =
       pushed es [] [] [] (emitted 0 es) (known es y 0 [] (y .some) (y .zero)) (accessing _) _ _ [] tt refl refl refl
-  emits (var z v) ns rs es y b = let k = bound-at es y b v in known es y (getD ns v 0) (getD rs v []) (k .0) (k .1)
+  emits (var z v) ns rs es y b = let k = pointwise-read 0 [] (y .some, y .zero) b v in known es y (getD ns v 0) (getD rs v []) (k .0) (k .1)
   emits (step z s e) ns rs es y b = emits-step es y s _ _ _ (emit e ns es) (emits e ns rs es y b)
   emits (both z e f) ns rs es y b =
       let h = emits e ns rs es y b in

@@ -62,7 +62,7 @@ marks-go ws n ms d z h f e =
 
 -- ONE ROW: the tag
 tag-kind : (k t : ℕ) → k < 4 →
-    (isIn 1 2 k && pick (eqb k 2) (leb t 255) (isIn 1 255 t)) ≡ (leb t 255 && pick (eqb k 1) (ltb 0 t) (eqb k 2))
+    (isIn 1 2 k && pick (eqb k 2) (leb t 255) (model.isName t)) ≡ (leb t 255 && pick (eqb k 1) (ltb 0 t) (eqb k 2))
 tag-kind zero t h = sym (and-false (leb t 255))
 tag-kind (suc zero) t h = and-comm (leb 1 t) (leb t 255)
 tag-kind (suc (suc zero)) t h = sym (and-true (leb t 255))

@@ -10,7 +10,7 @@ use lib.Dec.{eqb}
 use lib.ListN.{length, getD, take, drop, set, length-set, length-drop, drop-of-length-le}
 use lib.Seq.{getD-set-same, getD-set-other, drop-drop}
 use borrow.Author.Tests.{lt-ltb, le-ltb, le-leb, lt-leb, eq-eqb, ne-eqb, eqb-true, eqb-false}
-use Rattle.model.specs.Base.{pick, isIn, any}
+use Rattle.model.specs.Base.{pick, any}
 use Rattle.model.specs.Refusal.{fault, fine, isFine, faultAt}
 use Rattle.model.specs.Table as model
 use Rattle.model.specs.Stored.{wordAt, parentIn}
@@ -54,7 +54,7 @@ module _ (s : List ℕ) (n : ℕ) where
           rw (le-leb 65 (getD s 0 0) low, le-leb (getD s 0 0) 67 high, lt-ltb n 2048 few, lt-leb (historySize (getD s 0 0)) (length s) h))
 
       module _ (whole : historySize (getD s 0 0) ≤ length s) where
-        name : (i : ℕ) → formFault i n s ≡ pick (not (eqb (getD s 0 0) 65) || isIn 1 255 (getD s 3 0)) fine (fault 4 i)
+        name : (i : ℕ) → formFault i n s ≡ pick (not (eqb (getD s 0 0) 65) || model.isName (getD s 3 0)) fine (fault 4 i)
         name i =
             rw (
               le-leb 65 (getD s 0 0) low,
@@ -67,10 +67,10 @@ module _ (s : List ℕ) (n : ℕ) where
         pub form-field : getD s 0 0 ≡ 65 → getD s 3 0 ≡ 0 → FormPost s n 4
         form-field k t = refused-form 3 (λ i. name i ∙ rw (eq-eqb (getD s 0 0) 65 k, t))
 
-        form-by : (not (eqb (getD s 0 0) 65) || isIn 1 255 (getD s 3 0)) ≡ true → FormPost s n 0
+        form-by : (not (eqb (getD s 0 0) 65) || model.isName (getD s 3 0)) ≡ true → FormPost s n 0
         form-by e =
             record {
-              fault = λ i. name i ∙ pick-true (not (eqb (getD s 0 0) 65) || isIn 1 255 (getD s 3 0)) fine (fault 4 i) e;
+              fault = λ i. name i ∙ pick-true (not (eqb (getD s 0 0) 65) || model.isName (getD s 3 0)) fine (fault 4 i) e;
               whole = λ q. whole;
               few = λ q. few;
             }
