@@ -58,7 +58,8 @@ anyUpTo-and false f zero = refl
 anyUpTo-and a f (suc n) = and-or-distrib-left a (anyUpTo f n) (f n) ∙ ap (λ (t : Bool). t || (a && f n)) (anyUpTo-and a f n)
 
 -- OF ENTRIES: some entry of the first n
-pub anyUpTo-any : (f : Entry → Bool) (es : List Entry) (n : ℕ) → n ≤ length es → anyUpTo (λ (k : ℕ). f (entryAt es k)) n ≡ any f (take n es)
+pub anyUpTo-any : (f : Entry → Bool) (es : List Entry) (n : ℕ) → n ≤ length es →
+    anyUpTo (λ (k : ℕ). f (entryAt es k)) n ≡ any f (take n es)
 unfolding anyUpTo any
 anyUpTo-any f es zero h = refl
 anyUpTo-any f es (suc n) h =
