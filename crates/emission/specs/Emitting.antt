@@ -15,11 +15,10 @@ use Rattle.positions.specs.Positions as positions
 use Rattle.positions.specs.Words.{withRole, entriesIn}
 use Rattle.meeting.specs.Pairs.{maxPositions}
 use Rattle.meeting.specs.declared.cells.Step.{Step}
-use Rattle.emission.specs.declared.emit.Emitted.{Emitted}
 
--- what words and the code's answer say together
-abbrev pub outOf : (words : List ℕ) → Emitted → positions.Emitted
-outOf ws r = positions.emitted (r .result) (entriesIn ws (r .count))
+-- what words, the positions so far and the number answered say together
+abbrev pub outOf : (words : List ℕ) → (count result : ℕ) → positions.Emitted
+outOf ws n r = positions.emitted r (entriesIn ws n)
 
 -- BY ARITY: the emission of a record at a place, from those of its operands
 abbrev pub nullaryOf : (bytes : List ℕ) → (at : ℕ) → (bound : List ℕ) → List positions.Entry → positions.Emitted
@@ -37,36 +36,36 @@ binaryOf k r y =
     pick (eqb k joinKind) (positions.pushUnion r y) (pick (eqb k insertKind) (positions.pushInsert r y) y)
 
 -- room for the entries of one record more
-pub record GrowPre (ws : List ℕ) (y : Emitted) : Type 0 where
+pub record GrowPre (ws : List ℕ) (n x : ℕ) : Type 0 where
   pub size : length ws ≡ maxPositions
-  pub room : y .count + 2 ≤ maxPositions
-  pub low : y .result < y .count
+  pub room : n + 2 ≤ maxPositions
+  pub low : x < n
 
-pub record StepPre (ws : List ℕ) (s : Step) (y : Emitted) : Type 0 where
-  pub grow : GrowPre ws y
+pub record StepPre (ws : List ℕ) (n : ℕ) (s : Step) (x : ℕ) : Type 0 where
+  pub grow : GrowPre ws n x
   pub axis : s .axis < 4
   pub test : s .test < 4
   pub name : s .name < 256
 
-pub record PairedPre (ws : List ℕ) (first : ℕ) (y : Emitted) : Type 0 where
-  pub grow : GrowPre ws y
-  pub low : first < y .count
+pub record PairedPre (ws : List ℕ) (n x y : ℕ) : Type 0 where
+  pub grow : GrowPre ws n y
+  pub low : x < n
 
 -- all below a position, in a role: 1 accessed, 2 modified
-pub record BelowPre (ws : List ℕ) (n role operand : ℕ) : Type 0 where
+pub record BelowPre (ws : List ℕ) (n role x : ℕ) : Type 0 where
   pub size : length ws ≡ maxPositions
   pub room : n < maxPositions
   pub known : role < 4
-  pub low : operand < n
+  pub low : x < n
 
-pub record BelowPost (ws : List ℕ) (n role operand : ℕ) (ws′ : List ℕ) (r : ℕ) : Type 0 where
+pub record BelowPost (ws : List ℕ) (n role x : ℕ) (ws′ : List ℕ) (n′ : ℕ) : Type 0 where
   pub size : length ws′ ≡ maxPositions
-  pub is : entriesIn ws′ r ≡ positions.pushBelow (withRole role) operand (entriesIn ws n)
-  pub more : n ≤ r
-  pub few : r ≤ n + 1
+  pub is : entriesIn ws′ n′ ≡ positions.pushBelow (withRole role) x (entriesIn ws n)
+  pub more : n ≤ n′
+  pub few : n′ ≤ n + 1
 
-pub record UnaryPre (b : List ℕ) (at : ℕ) (ws : List ℕ) (y : Emitted) : Type 0 where
-  pub grow : GrowPre ws y
+pub record UnaryPre (b : List ℕ) (at : ℕ) (ws : List ℕ) (n x : ℕ) : Type 0 where
+  pub grow : GrowPre ws n x
   pub whole : at + bodySize (getD b at 0) < length b
   pub axis : getD b at 0 ≡ stepKind → getD b (at + 1) 0 < 4
   pub test : getD b at 0 ≡ stepKind → getD b (at + 2) 0 < 4
@@ -80,22 +79,20 @@ pub record NullaryPre (b : List ℕ) (at : ℕ) (env ws : List ℕ) (n : ℕ) : 
   pub variable : getD b at 0 ≡ variableKind → getD b (at + 1) 0 < length env
   pub low : getD b at 0 ≡ variableKind → getD env (getD b (at + 1) 0) 0 < n
 
-pub record NullaryPost (b : List ℕ) (at next : ℕ) (env ws : List ℕ) (n : ℕ) (ws′ : List ℕ) (r : Emitted) : Type 0 where
+pub record NullaryPost (b : List ℕ) (at : ℕ) (env ws : List ℕ) (n : ℕ) (ws′ : List ℕ) (n′ r : ℕ) : Type 0 where
   pub size : length ws′ ≡ maxPositions
-  pub is : outOf ws′ r ≡ nullaryOf b at env (entriesIn ws n)
-  pub place : r .place ≡ next
-  pub low : r .result < r .count
-  pub more : n ≤ r .count
-  pub few : r .count ≤ n + 1
+  pub is : outOf ws′ n′ r ≡ nullaryOf b at env (entriesIn ws n)
+  pub low : r < n′
+  pub more : n ≤ n′
+  pub few : n′ ≤ n + 1
 
 -- at most two entries more, and the result is among them or nothing
-pub record Grown (goal : positions.Emitted) (y : Emitted) (ws′ : List ℕ) (r : Emitted) : Type 0 where
+pub record Grown (goal : positions.Emitted) (n : ℕ) (ws′ : List ℕ) (n′ r : ℕ) : Type 0 where
   pub size : length ws′ ≡ maxPositions
-  pub is : outOf ws′ r ≡ goal
-  pub place : r .place ≡ y .place
-  pub low : r .result < r .count
-  pub more : y .count ≤ r .count
-  pub few : r .count ≤ y .count + 2
+  pub is : outOf ws′ n′ r ≡ goal
+  pub low : r < n′
+  pub more : n ≤ n′
+  pub few : n′ ≤ n + 2
 
 -- THE VARIABLES of a second operand
 pub record BindPre (kind : ℕ) (env : List ℕ) (bound result : ℕ) : Type 0 where
@@ -118,10 +115,10 @@ pub record EmitPre (b : List ℕ) (at left bound : ℕ) (env ws : List ℕ) (n :
   pub room : n + 2 * recordsOf (exprAt left b at) ≤ maxPositions + 1
   pub low : (v : ℕ) → v < bound → getD env v 0 < n
 
-pub record EmitPost (b : List ℕ) (at left bound : ℕ) (env ws : List ℕ) (n : ℕ) (ws′ : List ℕ) (r : Emitted) : Type 0 where
+pub record EmitPost (b : List ℕ) (at left bound : ℕ) (env ws : List ℕ) (n at′ : ℕ) (ws′ : List ℕ) (n′ r : ℕ) : Type 0 where
   pub size : length ws′ ≡ maxPositions
-  pub is : outOf ws′ r ≡ positions.emit (exprAt left b at) (take bound env) (entriesIn ws n)
-  pub place : r .place ≡ endAt b at
-  pub low : r .result < r .count
-  pub more : n ≤ r .count
-  pub few : r .count + 1 ≤ n + 2 * recordsOf (exprAt left b at)
+  pub is : outOf ws′ n′ r ≡ positions.emit (exprAt left b at) (take bound env) (entriesIn ws n)
+  pub place : at′ ≡ endAt b at
+  pub low : r < n′
+  pub more : n ≤ n′
+  pub few : n′ + 1 ≤ n + 2 * recordsOf (exprAt left b at)

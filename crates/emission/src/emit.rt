@@ -1,4 +1,5 @@
-// Emission: one pass over an accepted script in place numbers the positions of its expressions, operands first.
+// Emission: one pass over an accepted script in place numbers the positions of its expressions, operands first. Each function answers
+// the number of the position that is its result, 0 for nothing; `count` has the positions so far, and takes them with its own.
 ghost use mathlib.Core.Path.{_≡_};
 ghost use Rattle.model.specs.Paths.{anyBelow};
 ghost use Rattle.positions.specs.Positions.{pushStep, pushUnion, pushDelete, pushInsert};
@@ -7,18 +8,12 @@ ghost use Rattle.emission.specs.Emitting.{outOf, unaryOf, binaryOf, Grow
 ghost use Rattle.emission.specs.Emitting.{BelowPre, BelowPost, NullaryPre, NullaryPost, EmitPre, EmitPost};
 use meeting::cells;
 use meeting::cells::Step;
+use meeting::pairs;
 use positions::packed;
 use positions::packed::Position;
 use records::kinds;
 use table::Table;
 use table::number;
-
-// After an expression: its position's number, the positions so far, and the place past it.
-pub struct Emitted {
-    pub result: usize,
-    pub count: usize,
-    pub place: usize,
-}
 
 // The step to every node below.
 fn any_below() -> Step
@@ -32,142 +27,114 @@ fn any_below() -> Step
 }
 
 // A step over x, accessed. From nothing it is nothing, with a position only where it leads up.
-fn step(words: &mut [usize], s: Step, x: Emitted) -> Emitted
-    requires { ⌜ StepPre (now words) s x ⌝ }
-    ensures { λ r. ⌜ Grown (pushStep (stepOf s) (outOf (now (words .entry)) x)) x (now (words .exit)) r ⌝ }
+fn step(words: &mut [usize; pairs::POSITIONS], count: &mut usize, s: Step, x: usize) -> usize
+    requires { ⌜ StepPre (now words) (now count) s x ⌝ }
+    ensures { λ r. ⌜ Grown (pushStep (stepOf s) (outOf (now (words .entry)) (now (count .entry)) x)) (now (count .entry))
+        (now (words .exit)) (now (count .exit)) r ⌝ }
 {
-    if (x.result == 0) & !s.is_up() {
+    if (x == 0) & !s.is_up() {
         return x;
     }
-    let count = x.count;
-    packed::push(words, count, Position::over(packed::ACCESSED, s, x.result));
-    Emitted {
-        result: count,
-        count: count + 1,
-        place: x.place,
-    }
+    let n = *count;
+    packed::push(words, n, Position::over(packed::ACCESSED, s, x));
+    *count = n + 1;
+    n
 }
 
 // Two results together; with nothing it is the other.
-fn union(words: &mut [usize], first: usize, y: Emitted) -> Emitted
-    requires { ⌜ PairedPre (now words) first y ⌝ }
-    ensures { λ r. ⌜ Grown (pushUnion first (outOf (now (words .entry)) y)) y (now (words .exit)) r ⌝ }
+fn union(words: &mut [usize; pairs::POSITIONS], count: &mut usize, x: usize, y: usize) -> usize
+    requires { ⌜ PairedPre (now words) (now count) x y ⌝ }
+    ensures { λ r. ⌜ Grown (pushUnion x (outOf (now (words .entry)) (now (count .entry)) y)) (now (count .entry))
+        (now (words .exit)) (now (count .exit)) r ⌝ }
 {
-    if first == 0 {
+    if x == 0 {
         return y;
     }
-    let count = y.count;
-    if y.result == 0 {
-        return Emitted {
-            result: first,
-            count,
-            place: y.place,
-        };
+    if y == 0 {
+        return x;
     }
-    packed::push(
-        words,
-        count,
-        Position::union(packed::PLAIN, first, y.result),
-    );
-    Emitted {
-        result: count,
-        count: count + 1,
-        place: y.place,
-    }
+    let n = *count;
+    packed::push(words, n, Position::union(packed::PLAIN, x, y));
+    *count = n + 1;
+    n
 }
 
 // All below x, and x with that, modified; the result is nothing.
-fn delete(words: &mut [usize], x: Emitted) -> Emitted
-    requires { ⌜ GrowPre (now words) x ⌝ }
-    ensures { λ r. ⌜ Grown (pushDelete (outOf (now (words .entry)) x)) x (now (words .exit)) r ⌝ }
+fn delete(words: &mut [usize; pairs::POSITIONS], count: &mut usize, x: usize) -> usize
+    requires { ⌜ GrowPre (now words) (now count) x ⌝ }
+    ensures { λ r. ⌜ Grown (pushDelete (outOf (now (words .entry)) (now (count .entry)) x)) (now (count .entry))
+        (now (words .exit)) (now (count .exit)) r ⌝ }
 {
-    if x.result == 0 {
+    if x == 0 {
         return x;
     }
-    let count = x.count;
-    packed::push(
-        words,
-        count,
-        Position::over(packed::PLAIN, any_below(), x.result),
-    );
-    packed::push(
-        words,
-        count + 1,
-        Position::union(packed::MODIFIED, x.result, count),
-    );
-    Emitted {
-        result: 0,
-        count: count + 2,
-        place: x.place,
+    let n = *count;
+    packed::push(words, n, Position::over(packed::PLAIN, any_below(), x));
+    packed::push(words, n + 1, Position::union(packed::MODIFIED, x, n));
+    *count = n + 2;
+    0
+}
+
+// All below a position, in a role, unless it is nothing.
+fn below(words: &mut [usize; pairs::POSITIONS], count: &mut usize, role: usize, x: usize)
+    requires { ⌜ BelowPre (now words) (now count) role x ⌝ }
+    ensures { λ r. ⌜ BelowPost (now (words .entry)) (now (count .entry)) role x (now (words .exit)) (now (count .exit)) ⌝ }
+{
+    if x != 0 {
+        let n = *count;
+        packed::push(words, n, Position::over(role, any_below(), x));
+        *count = n + 1;
     }
 }
 
-// All below a position, in a role, unless it is nothing; the positions so far.
-fn below(words: &mut [usize], count: usize, role: usize, operand: usize) -> usize
-    requires { ⌜ BelowPre (now words) count role operand ⌝ }
-    ensures { λ r. ⌜ BelowPost (now (words .entry)) count role operand (now (words .exit)) r ⌝ }
+// All below x, accessed, and all below y, modified; the result is nothing.
+fn insert(words: &mut [usize; pairs::POSITIONS], count: &mut usize, x: usize, y: usize) -> usize
+    requires { ⌜ PairedPre (now words) (now count) x y ⌝ }
+    ensures { λ r. ⌜ Grown (pushInsert x (outOf (now (words .entry)) (now (count .entry)) y)) (now (count .entry))
+        (now (words .exit)) (now (count .exit)) r ⌝ }
 {
-    if operand == 0 {
-        return count;
-    }
-    packed::push(words, count, Position::over(role, any_below(), operand));
-    count + 1
-}
-
-// All below the first result, accessed, and all below the second, modified; the result is nothing.
-fn insert(words: &mut [usize], first: usize, y: Emitted) -> Emitted
-    requires { ⌜ PairedPre (now words) first y ⌝ }
-    ensures { λ r. ⌜ Grown (pushInsert first (outOf (now (words .entry)) y)) y (now (words .exit)) r ⌝ }
-{
-    let read = below(words, y.count, packed::ACCESSED, first);
-    let count = below(words, read, packed::MODIFIED, y.result);
-    Emitted {
-        result: 0,
-        count,
-        place: y.place,
-    }
+    below(words, count, packed::ACCESSED, x);
+    below(words, count, packed::MODIFIED, y);
+    0
 }
 
 // A record without operands: a document, a variable, or nothing.
 fn nullary(
     bytes: &[u8],
     at: usize,
-    next: usize,
     env: [u8; Table::BINDERS],
-    words: &mut [usize],
-    count: usize,
-) -> Emitted
-    requires { ⌜ NullaryPre (now bytes) at env (now words) count ⌝ }
-    ensures { λ r. ⌜ NullaryPost (now (bytes .entry)) at next env (now (words .entry)) count (now (words .exit)) r ⌝ }
+    words: &mut [usize; pairs::POSITIONS],
+    count: &mut usize,
+) -> usize
+    requires { ⌜ NullaryPre (now bytes) at env (now words) (now count) ⌝ }
+    ensures { λ r. ⌜ NullaryPost (now (bytes .entry)) at env (now (words .entry)) (now (count .entry))
+        (now (words .exit)) (now (count .exit)) r ⌝ }
 {
     let kind = bytes[at];
     if kind == kinds::DOCUMENT {
-        packed::push(words, count, Position::root(number::byte(bytes[at + 1])));
-        return Emitted {
-            result: count,
-            count: count + 1,
-            place: next,
-        };
+        let n = *count;
+        packed::push(words, n, Position::root(number::byte(bytes[at + 1])));
+        *count = n + 1;
+        return n;
     }
     if kind == kinds::VARIABLE {
         let v = number::byte(bytes[at + 1]);
-        return Emitted {
-            result: number::byte(env[v]),
-            count,
-            place: next,
-        };
+        return number::byte(env[v]);
     }
-    Emitted {
-        result: 0,
-        count,
-        place: next,
-    }
+    0
 }
 
 // A record with one operand: a step, a delete, or a pick.
-fn unary(bytes: &[u8], at: usize, words: &mut [usize], x: Emitted) -> Emitted
-    requires { ⌜ UnaryPre (now bytes) at (now words) x ⌝ }
-    ensures { λ r. ⌜ Grown (unaryOf (now (bytes .entry)) at (outOf (now (words .entry)) x)) x (now (words .exit)) r ⌝ }
+fn unary(
+    bytes: &[u8],
+    at: usize,
+    words: &mut [usize; pairs::POSITIONS],
+    count: &mut usize,
+    x: usize,
+) -> usize
+    requires { ⌜ UnaryPre (now bytes) at (now words) (now count) x ⌝ }
+    ensures { λ r. ⌜ Grown (unaryOf (now (bytes .entry)) at (outOf (now (words .entry)) (now (count .entry)) x)) (now (count .entry))
+        (now (words .exit)) (now (count .exit)) r ⌝ }
 {
     let kind = bytes[at];
     if kind == kinds::STEP {
@@ -176,24 +143,31 @@ fn unary(bytes: &[u8], at: usize, words: &mut [usize], x: Emitted) -> Emitted
             test: number::byte(bytes[at + 2]),
             name: number::byte(bytes[at + 3]),
         };
-        return step(words, s, x);
+        return step(words, count, s, x);
     }
     if kind == kinds::DELETE {
-        return delete(words, x);
+        return delete(words, count, x);
     }
     x
 }
 
 // A record with two operands: a join, an insert, or a binder.
-fn binary(kind: u8, words: &mut [usize], first: usize, y: Emitted) -> Emitted
-    requires { ⌜ PairedPre (now words) first y ⌝ }
-    ensures { λ r. ⌜ Grown (binaryOf kind first (outOf (now (words .entry)) y)) y (now (words .exit)) r ⌝ }
+fn binary(
+    kind: u8,
+    words: &mut [usize; pairs::POSITIONS],
+    count: &mut usize,
+    x: usize,
+    y: usize,
+) -> usize
+    requires { ⌜ PairedPre (now words) (now count) x y ⌝ }
+    ensures { λ r. ⌜ Grown (binaryOf kind x (outOf (now (words .entry)) (now (count .entry)) y)) (now (count .entry))
+        (now (words .exit)) (now (count .exit)) r ⌝ }
 {
     if kind == kinds::JOIN {
-        return union(words, first, y);
+        return union(words, count, x, y);
     }
     if kind == kinds::INSERT {
-        return insert(words, first, y);
+        return insert(words, count, x, y);
     }
     y
 }
@@ -211,50 +185,45 @@ fn bind(kind: u8, env: [u8; Table::BINDERS], bound: usize, result: usize) -> [u8
     inside
 }
 
-// The expression at a place, behind the first `count` positions.
+// The expression at `place`, which takes the place past it. One operand is asked for first, since that was measured to be fastest.
 pub fn emit(
     bytes: &[u8],
-    at: usize,
+    place: &mut usize,
     left: usize,
     bound: usize,
     env: [u8; Table::BINDERS],
-    words: &mut [usize],
-    count: usize,
-) -> Emitted
-    requires { ⌜ EmitPre (now bytes) at left bound env (now words) count ⌝ }
-    ensures { λ r. ⌜ EmitPost (now (bytes .entry)) at left bound env (now (words .entry)) count (now (words .exit)) r ⌝ }
+    words: &mut [usize; pairs::POSITIONS],
+    count: &mut usize,
+) -> usize
+    requires { ⌜ EmitPre (now bytes) (now place) left bound env (now words) (now count) ⌝ }
+    ensures { λ r. ⌜ EmitPost (now (bytes .entry)) (now (place .entry)) left bound env (now (words .entry)) (now (count .entry))
+        (now (place .exit)) (now (words .exit)) (now (count .exit)) r ⌝ }
 {
+    let at = *place;
     let kind = bytes[at];
     let operands = kinds::arity(kind);
-    let first_at = at + (1 + kinds::body_size(kind));
-    if operands == 0 {
-        return nullary(bytes, at, first_at, env, words, count);
-    }
-    let first = emit(bytes, first_at, left - 1, bound, env, words, count);
+    *place = at + (1 + kinds::body_size(kind));
     if operands == 1 {
-        return unary(bytes, at, words, first);
+        let x = emit(bytes, place, left - 1, bound, env, words, count);
+        return unary(bytes, at, words, count, x);
     }
-    let inside = bind(kind, env, bound, first.result);
-    let second = emit(
+    if operands == 0 {
+        return nullary(bytes, at, env, words, count);
+    }
+    let x = emit(bytes, place, left - 1, bound, env, words, count);
+    let inside = bind(kind, env, bound, x);
+    let y = emit(
         bytes,
-        first.place,
+        place,
         left - 1,
         kinds::inner(kind, bound),
         inside,
         words,
-        first.count,
+        count,
     );
     if operands == 2 {
-        return binary(kind, words, first.result, second);
+        return binary(kind, words, count, x, y);
     }
-    let third = emit(
-        bytes,
-        second.place,
-        left - 1,
-        bound,
-        env,
-        words,
-        second.count,
-    );
-    union(words, second.result, third)
+    let z = emit(bytes, place, left - 1, bound, env, words, count);
+    union(words, count, y, z)
 }

@@ -25,7 +25,6 @@ use Rattle.emission.specs.Emitting.{EmitPre, EmitPost}
 use Rattle.paths.specs.Analysis.{byAnswer, analysisOf, analysed, ScriptPre, ScriptPost, AnswerPre, AnswerPost, FrontPre}
 use Rattle.paths.specs.declared.Analysis.{Analysis}
 use Rattle.paths.specs.declared.Analysis.the-variants.{Refused, Upward}
-use Rattle.emission.specs.declared.emit.Emitted as code
 use Rattle.positions.proofs.AnswerLaws.{emitted-right, answer-by}
 use Rattle.positions.proofs.ClimbLaws.{climbing-is}
 use Rattle.positions.proofs.WordLaws.{entriesIn-length}
@@ -45,7 +44,7 @@ module _ {b ws : List ℕ} (pre : ScriptPre b ws) {env : List ℕ} where
         low = λ v h. absurd (omega arith);
       }
 
-  pub positions-done : {ws′ : List ℕ} {r : code.Emitted} → EmitPost b 0 16 0 env ws 1 ws′ r → ScriptPost b ws′ (r .count)
+  pub positions-done : {p : ℕ} {ws′ : List ℕ} {n r : ℕ} → EmitPost b 0 16 0 env ws 1 p ws′ n r → ScriptPost b ws′ n
   positions-done post =
       record {
         size = post .size;

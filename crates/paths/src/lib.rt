@@ -17,13 +17,23 @@ pub enum Analysis {
 }
 
 // Puts the positions of an accepted script into words of which the first is zero; how many there are.
-fn positions_of(bytes: &[u8], words: &mut [usize]) -> usize
+fn positions_of(bytes: &[u8], words: &mut [usize; pairs::POSITIONS]) -> usize
     requires { ⌜ ScriptPre (now bytes) (now words) ⌝ }
     ensures { λ r. ⌜ ScriptPost (now (bytes .entry)) (now (words .exit)) r ⌝ }
 {
     let variables = [0u8; Table::BINDERS];
-    let end = emit::emit(bytes, 0, Table::DEPTH, 0, variables, words, 1);
-    end.count
+    let mut place = 0;
+    let mut count = 1;
+    emit::emit(
+        bytes,
+        &mut place,
+        Table::DEPTH,
+        0,
+        variables,
+        words,
+        &mut count,
+    );
+    count
 }
 
 // The answer from the positions of two scripts. An upward step anywhere, even in a branch never run, comes first.

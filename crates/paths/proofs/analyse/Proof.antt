@@ -40,19 +40,11 @@ returns-2 c =
     second-refused (c8 .args .first .now) (c8 .args .second .now) (first-accepted (c2 .before)) (c2 .read-script2 .result)
     (c2 .read-script2 .ensures) (c .if2 .taken)
 
-slice-aggregate-positions-of : tie.Need-slice-aggregate-positions-of
-slice-aggregate-positions-of c = search needs
-
 positions-of-requires : tie.Need-positions-of-requires
-positions-of-requires c κs =
-    record { accepted = first-accepted (c .before .before .before .before); size = refl; zero = refl }
-
-slice-aggregate-positions-of-2 : tie.Need-slice-aggregate-positions-of-2
-slice-aggregate-positions-of-2 c = search needs
+positions-of-requires c κs = record { accepted = first-accepted (c .before .before .before .before); size = refl; zero = refl }
 
 positions-of-requires-2 : tie.Need-positions-of-requires-2
-positions-of-requires-2 c κs =
-    record { accepted = second-accepted (c .before .before .before .before); size = refl; zero = refl }
+positions-of-requires-2 c κs = record { accepted = second-accepted (c .before .before .before); size = refl; zero = refl }
 
 slice-aggregate-answer : tie.Need-slice-aggregate-answer
 slice-aggregate-answer c = search needs
@@ -66,21 +58,21 @@ slice-aggregate-answer-3 c = search needs
 answer-requires : tie.Need-answer-requires
 answer-requires c κs =
     let c3 = c .before .before .before in
-    let c5 = c3 .before .before in
-    let c8 = c5 .before .before .before in
-    let c18 = c8 .before .before .before .before .before .before .before .before .before .before in
-    answer-asks (c18 .args .first .now) (c18 .args .second .now) (c8 .positions-of .ensures) (c5 .positions-of2 .ensures) _
+    let c4 = c3 .before in
+    let c6 = c4 .before .before in
+    let c16 = c6 .before .before .before .before .before .before .before .before .before .before in
+    answer-asks (c16 .args .first .now) (c16 .args .second .now) (c6 .positions-of .ensures) (c4 .positions-of2 .ensures) _
     (has-rows _ _ (omega (arith, c3 .if3 .taken)))
 
 returns-3 : tie.Need-returns-3
 returns-3 c =
-    let c7 = c .before .before .before .before .before .before .before in
-    let c10 = c7 .before .before .before in
-    let c12 = c10 .before .before in
-    let c15 = c12 .before .before .before in
-    let c20 = c15 .before .before .before .before .before in
-    both-accepted (c20 .args .first .now) (c20 .args .second .now) (first-accepted c15) (second-accepted c12)
-    (c10 .positions-of .ensures) (c7 .positions-of2 .ensures) (c .before .answer .ensures)
+    let c6 = c .before .before .before .before .before .before in
+    let c8 = c6 .before .before in
+    let c10 = c8 .before .before in
+    let c13 = c10 .before .before .before in
+    let c18 = c13 .before .before .before .before .before in
+    both-accepted (c18 .args .first .now) (c18 .args .second .now) (first-accepted c13) (second-accepted c10)
+    (c8 .positions-of .ensures) (c6 .positions-of2 .ensures) (c .before .answer .ensures)
 
 slice-aggregate-answer-4 : tie.Need-slice-aggregate-answer-4
 slice-aggregate-answer-4 c = search needs
@@ -94,21 +86,21 @@ slice-aggregate-answer-6 c = search needs
 answer-requires-2 : tie.Need-answer-requires-2
 answer-requires-2 c κs =
     let c3 = c .before .before .before in
-    let c6 = c3 .before .before .before in
-    let c9 = c6 .before .before .before in
-    let c19 = c9 .before .before .before .before .before .before .before .before .before .before in
-    answer-asks (c19 .args .first .now) (c19 .args .second .now) (c9 .positions-of .ensures) (c6 .positions-of2 .ensures) _
+    let c5 = c3 .before .before in
+    let c7 = c5 .before .before in
+    let c17 = c7 .before .before .before .before .before .before .before .before .before .before in
+    answer-asks (c17 .args .first .now) (c17 .args .second .now) (c7 .positions-of .ensures) (c5 .positions-of2 .ensures) _
     (has-rows _ _ (omega (arith, c3 .if4 .taken)))
 
 returns-4 : tie.Need-returns-4
 returns-4 c =
-    let c8 = c .before .before .before .before .before .before .before .before in
-    let c11 = c8 .before .before .before in
-    let c13 = c11 .before .before in
-    let c16 = c13 .before .before .before in
-    let c21 = c16 .before .before .before .before .before in
-    both-accepted (c21 .args .first .now) (c21 .args .second .now) (first-accepted c16) (second-accepted c13)
-    (c11 .positions-of .ensures) (c8 .positions-of2 .ensures) (c .before .answer2 .ensures)
+    let c7 = c .before .before .before .before .before .before .before in
+    let c9 = c7 .before .before in
+    let c11 = c9 .before .before in
+    let c14 = c11 .before .before .before in
+    let c19 = c14 .before .before .before .before .before in
+    both-accepted (c19 .args .first .now) (c19 .args .second .now) (first-accepted c14) (second-accepted c11)
+    (c9 .positions-of .ensures) (c7 .positions-of2 .ensures) (c .before .answer2 .ensures)
 
 slice-aggregate-answer-7 : tie.Need-slice-aggregate-answer-7
 slice-aggregate-answer-7 c = search needs
@@ -121,21 +113,21 @@ slice-aggregate-answer-9 c = search needs
 
 answer-requires-3 : tie.Need-answer-requires-3
 answer-requires-3 c κs =
-    let c6 = c .before .before .before .before .before .before in
-    let c9 = c6 .before .before .before in
-    let c19 = c9 .before .before .before .before .before .before .before .before .before .before in
-    answer-asks (c19 .args .first .now) (c19 .args .second .now) (c9 .positions-of .ensures) (c6 .positions-of2 .ensures) _ (has-rows
-    _ _ (omega (arith, c9 .positions-of .ensures .few)))
+    let c5 = c .before .before .before .before .before in
+    let c7 = c5 .before .before in
+    let c17 = c7 .before .before .before .before .before .before .before .before .before .before in
+    answer-asks (c17 .args .first .now) (c17 .args .second .now) (c7 .positions-of .ensures) (c5 .positions-of2 .ensures) _
+    (has-rows _ _ (omega (arith, c7 .positions-of .ensures .few)))
 
 returns-5 : tie.Need-returns-5
 returns-5 c =
-    let c8 = c .before .before .before .before .before .before .before .before in
-    let c11 = c8 .before .before .before in
-    let c13 = c11 .before .before in
-    let c16 = c13 .before .before .before in
-    let c21 = c16 .before .before .before .before .before in
-    both-accepted (c21 .args .first .now) (c21 .args .second .now) (first-accepted c16) (second-accepted c13)
-    (c11 .positions-of .ensures) (c8 .positions-of2 .ensures) (c .before .answer3 .ensures)
+    let c7 = c .before .before .before .before .before .before .before in
+    let c9 = c7 .before .before in
+    let c11 = c9 .before .before in
+    let c14 = c11 .before .before .before in
+    let c19 = c14 .before .before .before .before .before in
+    both-accepted (c19 .args .first .now) (c19 .args .second .now) (first-accepted c14) (second-accepted c11)
+    (c9 .positions-of .ensures) (c7 .positions-of2 .ensures) (c .before .answer3 .ensures)
 
 pub analyse-spec : {M : Type 1} → statement M
 analyse-spec =
@@ -145,9 +137,7 @@ analyse-spec =
     returns
     read-script-requires-2
     returns-2
-    slice-aggregate-positions-of
     positions-of-requires
-    slice-aggregate-positions-of-2
     positions-of-requires-2
     slice-aggregate-answer
     slice-aggregate-answer-2

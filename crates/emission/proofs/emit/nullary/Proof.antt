@@ -17,8 +17,9 @@ add-byte c = search needs
 
 shared-slice-read-byte : tie.Need-shared-slice-read-byte
 shared-slice-read-byte c =
-    let c6 = c .before .before .before .before .before .before in
-    omega (arith, c6 .pre .whole, ap (λ (k : ℕ). bodySize k) (c .before .before .if1 .taken))
+    let c3 = c .before .before .before in
+    let c6 = c3 .before .before .before in
+    omega (arith, c6 .pre .whole, ap (λ (k : ℕ). bodySize k) (c3 .if1 .taken))
 
 byte-requires : tie.Need-byte-requires
 byte-requires c κs = search needs
@@ -28,38 +29,29 @@ root-requires c κs = search needs
 
 push-requires : tie.Need-push-requires
 push-requires c κs =
-    let c4 = c .before .before .before .before in
-    let c8 = c4 .before .before .before .before in
+    let c5 = c .before .before .before .before .before in
+    let c8 = c5 .before .before .before in
     record {
       room = omega (arith, c8 .pre .size, c8 .pre .room);
-      fits = root-fits (c .root .result) (c .before .byte .result) (c .root .ensures)
-          (omega (arith, c .before .byte .ensures .0, c8 .pre .document (c4 .if1 .taken)));
+      fits = root-fits (c .root .ensures) (omega (arith, c .before .byte .ensures .0, c8 .pre .document (c5 .if1 .taken)));
     }
 
-add-t17 : tie.Need-add-t17
-add-t17 c = search needs
-
-same-length : tie.Need-same-length
-same-length c = search needs
+add-count : tie.Need-add-count
+add-count c = search needs
 
 returns : tie.Need-returns
 returns c =
     let c2 = c .before .before in
-    let c3 = c2 .before in
-    let c4 = c3 .before in
-    let c7 = c4 .before .before .before in
-    let c11 = c7 .before .before .before .before in
-    nullary-document (c11 .args .bytes .now) (c11 .args .at) (c11 .args .next) (c11 .args .t4) (c11 .args .words .now) (c11 .args .count)
-    (c11 .pre) (c7 .if1 .taken) (c3 .root .result) (c4 .byte .result) (c2 .push .last .0) (c3 .root .ensures) (c4 .byte .ensures .0)
-    (c2 .push .ensures)
+    let c6 = c2 .before .before .before .before in
+    let c9 = c6 .before .before .before in
+    nullary-document (c9 .pre) (c6 .if1 .taken) (c .before .root .ensures) (c2 .byte .ensures .0) (c .push .ensures)
 
 add-byte-2 : tie.Need-add-byte-2
 add-byte-2 c = search needs
 
 shared-slice-read-byte-2 : tie.Need-shared-slice-read-byte-2
 shared-slice-read-byte-2 c =
-    let c6 = c .before .before .before .before .before .before in
-    omega (arith, c6 .pre .whole, ap (λ (k : ℕ). bodySize k) (c .before .if2 .taken))
+    omega (arith, c .before .before .before .before .before .pre .whole, ap (λ (k : ℕ). bodySize k) (c .before .if2 .taken))
 
 byte-requires-2 : tie.Need-byte-requires-2
 byte-requires-2 c κs = search needs
@@ -67,8 +59,8 @@ byte-requires-2 c κs = search needs
 array-read-byte : tie.Need-array-read-byte
 array-read-byte c =
     let c2 = c .before .before in
-    let c7 = c2 .before .before .before .before .before in
-    omega (arith, c .byte2 .ensures .0, c7 .pre .variable (c2 .if2 .taken))
+    let c6 = c2 .before .before .before .before in
+    omega (arith, c .byte2 .ensures .0, c6 .pre .variable (c2 .if2 .taken))
 
 byte-requires-3 : tie.Need-byte-requires-3
 byte-requires-3 c κs = search needs
@@ -76,15 +68,11 @@ byte-requires-3 c κs = search needs
 returns-2 : tie.Need-returns-2
 returns-2 c =
     let c3 = c .before .before .before in
-    let c8 = c3 .before .before .before .before .before in
-    nullary-variable (c8 .args .bytes .now) (c8 .args .at) (c8 .args .next) (c8 .args .t4) (c8 .args .words .now) (c8 .args .count)
-    (c8 .pre) (c3 .if2 .taken) (c .before .byte2 .result) (c .byte3 .result) (c .before .byte2 .ensures .0) (c .byte3 .ensures .0)
+    let c7 = c3 .before .before .before .before in
+    nullary-variable (c7 .pre) (c3 .if2 .taken) (c .before .byte2 .ensures .0) (c .byte3 .ensures .0)
 
 returns-3 : tie.Need-returns-3
-returns-3 c =
-    let c5 = c .before .before .before .before .before in
-    nullary-none (c5 .args .bytes .now) (c5 .args .at) (c5 .args .next) (c5 .args .t4) (c5 .args .words .now) (c5 .args .count) (c5 .pre)
-    (c .before .if1 .left) (c .if2 .left)
+returns-3 c = nullary-none (c .before .before .before .before .pre) (c .before .if1 .left) (c .if2 .left)
 
 pub nullary-spec : {M : Type 1} → statement M
 nullary-spec =
@@ -96,8 +84,7 @@ nullary-spec =
     byte-requires
     root-requires
     push-requires
-    add-t17
-    same-length
+    add-count
     returns
     add-byte-2
     shared-slice-read-byte-2

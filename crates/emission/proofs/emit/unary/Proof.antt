@@ -3,7 +3,6 @@ use mathlib.Core.Path.{ap}
 use Prim.Native.Nat.{ℕ, _+_}
 use native.Mathlib.Omega.{arith}
 use Rattle.model.specs.Script.{bodySize}
-use Rattle.emission.specs.Emitting.{outOf}
 use Rattle.emission.proofs.RecordLaws.{unary-step, unary-delete, unary-none}
 use borrow.Author.Needs.{needs}
 use Rattle.emission.proofs.emit.unary.Statement.{statement}
@@ -17,8 +16,7 @@ add-byte c = search needs
 
 shared-slice-read-byte : tie.Need-shared-slice-read-byte
 shared-slice-read-byte c =
-    let c5 = c .before .before .before .before .before in
-    omega (arith, c5 .pre .whole, ap (λ (k : ℕ). bodySize k) (c .before .if1 .taken))
+    omega (arith, c .before .before .before .before .pre .whole, ap (λ (k : ℕ). bodySize k) (c .before .if1 .taken))
 
 byte-requires : tie.Need-byte-requires
 byte-requires c κs = search needs
@@ -29,8 +27,8 @@ add-byte-2 c = search needs
 shared-slice-read-byte-2 : tie.Need-shared-slice-read-byte-2
 shared-slice-read-byte-2 c =
     let c3 = c .before .before .before in
-    let c7 = c3 .before .before .before .before in
-    omega (arith, c7 .pre .whole, ap (λ (k : ℕ). bodySize k) (c3 .if1 .taken))
+    let c6 = c3 .before .before .before in
+    omega (arith, c6 .pre .whole, ap (λ (k : ℕ). bodySize k) (c3 .if1 .taken))
 
 byte-requires-2 : tie.Need-byte-requires-2
 byte-requires-2 c κs = search needs
@@ -41,58 +39,48 @@ add-byte-3 c = search needs
 shared-slice-read-byte-3 : tie.Need-shared-slice-read-byte-3
 shared-slice-read-byte-3 c =
     let c5 = c .before .before .before .before .before in
-    let c9 = c5 .before .before .before .before in
-    omega (arith, c9 .pre .whole, ap (λ (k : ℕ). bodySize k) (c5 .if1 .taken))
+    let c8 = c5 .before .before .before in
+    omega (arith, c8 .pre .whole, ap (λ (k : ℕ). bodySize k) (c5 .if1 .taken))
 
 byte-requires-3 : tie.Need-byte-requires-3
 byte-requires-3 c κs = search needs
 
 step-requires : tie.Need-step-requires
 step-requires c κs =
-    let c3 = c .before .before .before in
-    let c5 = c3 .before .before in
-    let c7 = c5 .before .before in
-    let c11 = c7 .before .before .before .before in
+    let c2 = c .before .before in
+    let c3 = c2 .before in
+    let c4 = c3 .before in
+    let c6 = c4 .before .before in
+    let c8 = c6 .before .before in
+    let c11 = c8 .before .before .before in
     record {
       grow = c11 .pre .grow;
-      axis = omega (arith, c5 .byte .ensures .0, c11 .pre .axis (c7 .if1 .taken));
-      test = omega (arith, c3 .byte2 .ensures .0, c11 .pre .test (c7 .if1 .taken));
-      name = omega (arith, c .before .byte3 .ensures .0, c .before .before .shared-slice-known5 .given (c11 .args .at + 3));
+      axis = omega (arith, c6 .byte .ensures .0, c11 .pre .axis (c8 .if1 .taken));
+      test = omega (arith, c4 .byte2 .ensures .0, c11 .pre .test (c8 .if1 .taken));
+      name = omega (arith, c2 .byte3 .ensures .0, c3 .shared-slice-known5 .given (c11 .args .at + 3));
     }
-
-same-length : tie.Need-same-length
-same-length c = search needs
 
 returns : tie.Need-returns
 returns c =
-    let c2 = c .before .before in
-    let c4 = c2 .before .before in
-    let c6 = c4 .before .before in
-    let c8 = c6 .before .before in
-    let c10 = c8 .before .before in
-    let c14 = c10 .before .before .before .before in
-    unary-step (c14 .args .bytes .now) (c14 .args .at) (outOf (c14 .args .words .now) (c14 .args .x)) (c14 .args .x) (c2 .step .last .0)
-    (c2 .step .result) (c10 .if1 .taken) (record { axis = c8 .byte .result; test = c6 .byte2 .result; name = c4 .byte3 .result })
-    (c8 .byte .ensures .0) (c6 .byte2 .ensures .0) (c4 .byte3 .ensures .0) (c2 .step .ensures)
+    let c3 = c .before .before .before in
+    let c5 = c3 .before .before in
+    let c7 = c5 .before .before in
+    let c9 = c7 .before .before in
+    let c12 = c9 .before .before .before in
+    unary-step (c12 .pre) (c9 .if1 .taken) (record { axis = c7 .byte .result; test = c5 .byte2 .result; name = c3 .byte3 .result })
+    (c7 .byte .ensures .0) (c5 .byte2 .ensures .0) (c3 .byte3 .ensures .0) (c .step .ensures)
 
 delete-requires : tie.Need-delete-requires
 delete-requires c κs = search needs
 
-same-length-2 : tie.Need-same-length-2
-same-length-2 c = search needs
-
 returns-2 : tie.Need-returns-2
 returns-2 c =
-    let c2 = c .before .before in
-    let c4 = c2 .before .before in
-    let c9 = c4 .before .before .before .before .before in
-    unary-delete (c9 .args .bytes .now) (c9 .args .at) (outOf (c9 .args .words .now) (c9 .args .x)) (c9 .args .x) (c2 .delete .last .0)
-    (c2 .delete .result) (c4 .if2 .taken) (c2 .delete .ensures)
+    let c3 = c .before .before .before in
+    let c7 = c3 .before .before .before .before in
+    unary-delete (c7 .pre) (c3 .if2 .taken) (c .delete .ensures)
 
 returns-3 : tie.Need-returns-3
-returns-3 c =
-    let c5 = c .before .before .before .before .before in
-    unary-none (c5 .args .bytes .now) (c5 .args .at) (c5 .pre .grow) (c .before .if1 .left) (c .if2 .left)
+returns-3 c = unary-none (c .before .before .before .before .pre) (c .before .if1 .left) (c .if2 .left)
 
 pub unary-spec : {M : Type 1} → statement M
 unary-spec =
@@ -109,9 +97,7 @@ unary-spec =
     shared-slice-read-byte-3
     byte-requires-3
     step-requires
-    same-length
     returns
     delete-requires
-    same-length-2
     returns-2
     returns-3)
