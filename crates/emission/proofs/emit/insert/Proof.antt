@@ -1,7 +1,6 @@
 -- `emit::insert` pushes the entries of an insert, first what is read.
 use native.Mathlib.Omega.{arith}
 use Rattle.emission.proofs.GrowLaws.{insert-grown}
-use borrow.Author.Needs.{needs}
 use Rattle.emission.proofs.emit.insert.Statement.{statement}
 use Rattle.emission.proofs.emit.insert.Tie as tie
 
