@@ -61,6 +61,11 @@ shared-document {n} {o} {p} {q} d f g e = go (path-owner f) (path-owner g)
     go (inr a) (inl b) = k ∙ b
     go (inr a) (inr b) = absurd (d (sym a ∙ k ∙ b))
 
+-- a test that cannot hold
+false-by : (t : Bool) → (t ≡ true → ⊥) → t ≡ false
+false-by true n = absurd (n refl)
+false-by false n = refl
+
 -- FREE: a row on two paths makes them meet
 module _ {ls : List Label} (x : Table) (S : Started ls x) (h : Places) (a : ArePlaces x h) where
   row-meets : {n o : ℕ} {p q : Path} → PathFits n p → PathFits o q → (i : ℕ) → i < count x → In i (rowsOn x h p) → In i (rowsOn x h q) →
@@ -76,11 +81,8 @@ module _ {ls : List Label} (x : Table) (S : Started ls x) (h : Places) (a : AreP
       let b = and-parts (isOn x h i ps) (isOn x h i qs) k in
       let (p, y, v) = any-in (λ (p : Path). among i (rowsOn x h p)) ps (b .0) in
       let (q, z, w) = any-in (λ (q : Path). among i (rowsOn x h q)) qs (b .1) in
-      row-meets (all-in f y) (all-in g z) i l (among-in i _ v) (among-in i _ w) (apart (meets p q) (λ m. in-any _ y (in-any _ z m)))
-    where
-      apart : (m : Bool) → (m ≡ true → anyMeet ps qs ≡ true) → m ≡ false
-      apart true c = absurd (true-false _ (c refl) e)
-      apart false c = refl
+      row-meets (all-in f y) (all-in g z) i l (among-in i _ v) (among-in i _ w)
+      (false-by (meets p q) (λ m. true-false _ (in-any _ y (in-any _ z m)) e))
 
 -- MEET: a plan with a row on a path of each list
 isOn-in : (x : Table) (h : Places) (i : ℕ) {p : Path} {ps : List Path} → In p ps → In i (rowsOn x h p) → isOn x h i ps ≡ true
@@ -151,16 +153,12 @@ module _ (e f : Expr) (s : IsScript e) (r : IsScript f) where
       let m = or-neither (firstMeets e f) (secondMeets e f) (k .1) in
       let b = pathsOf-fits 1 e (isScript-fields e s) (u .0) in
       let c = pathsOf-fits 2 f (isScript-fields f r) (u .1) in
-      untouched (isTouched x h i e f)
+      false-by (isTouched x h i e f)
       (λ z.
       elim (or-cases (firstModifies e f x h i) (secondModifies e f x h i) z) [
         | inl y ↦ isOn-apart x S h a (b .0) (c .1) (m .0) i l y
         | inr y ↦ isOn-apart x S h a (c .0) (b .1) (m .1) i l y
       ])
-    where
-      untouched : (z : Bool) → (z ≡ true → ⊥) → z ≡ false
-      untouched true n = absurd (n refl)
-      untouched false n = refl
 
   some-touched : (ps qs : List Path) →
       ((x : Table) (h : Places) (i : ℕ) → (isOn x h i ps && isOn x h i qs) ≡ true → isTouched x h i e f ≡ true) → Plan ps qs →

@@ -37,7 +37,8 @@ changed-at c l p o a b w (more {a = d} g) = (p ▸ anyBelow, b, on-step o (deep 
 pub changed-below : (c : Script) (l : Label) (a : Letter) (p : Path) → OnPath (c .marks) p l → c .modified (p ▸ anyBelow) →
     Changed c (grow l a)
 changed-below c l a p o b w same = (p ▸ anyBelow, b, on-step o (deep (o .spells) same refl (any-admits a)))
-changed-below c l a p o b w (more {a = d} g) = (p ▸ anyBelow, b, on-step o (deep (o .spells) (grown-trans (more same) g) refl (any-admits d)))
+changed-below c l a p o b w (more {a = d} g) =
+    (p ▸ anyBelow, b, on-step o (deep (o .spells) (grown-trans (more same) g) refl (any-admits d)))
 
 -- an item of a first table's rows that is cut
 abbrev Cuttable : Script → List Path → Type 0

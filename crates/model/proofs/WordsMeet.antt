@@ -254,7 +254,8 @@ unfolding placeOf
 start-sound p (start q) e = start-start p q e
 start-sound p (q ▸ t) e = turned (step-start q t p (turned (start-sound p q e)))
 
-step-sound : (p : Path) (s : Step) → ((q : Path) → placeOf p ≡ placeOf q → Sound p q) → (q : Path) → placeOf p ≡ placeOf q → Sound (p ▸ s) q
+step-sound : (p : Path) (s : Step) → ((q : Path) → placeOf p ≡ placeOf q → Sound p q) → (q : Path) → placeOf p ≡ placeOf q →
+    Sound (p ▸ s) q
 unfolding placeOf
 step-sound p s k (start q) e = step-start p s q (k (start q) e)
 step-sound p s k (q ▸ t) e = step-step p s q t (k q e) (k (q ▸ t) e) (step-sound p s k q e)

@@ -329,7 +329,8 @@ module _ (o : ℕ) (own : o ≡ 0 → ⊥) where
   emits (nil z) ns rs es y b = known es y 0 [] (y .some) (y .zero)
   emits (document z d) ns rs es y b =
       pushed es [] [] [] (emitted 0 es) (known es y 0 [] (y .some) (y .zero)) (accessing _) _ _ [] tt refl refl refl
-  emits (var z v) ns rs es y b = let k = pointwise-read 0 [] (y .some, y .zero) b v in known es y (getD ns v 0) (getD rs v []) (k .0) (k .1)
+  emits (var z v) ns rs es y b =
+      let (h, e) = pointwise-read 0 [] (y .some, y .zero) b v in known es y (getD ns v 0) (getD rs v []) h e
   emits (step z s e) ns rs es y b = emits-step es y s _ _ _ (emit e ns es) (emits e ns rs es y b)
   emits (both z e f) ns rs es y b =
       let h = emits e ns rs es y b in
