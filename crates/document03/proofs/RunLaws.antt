@@ -13,9 +13,11 @@ use Rattle.model.specs.Stored.{parentBytes, rowBytes, rowsBytes, marksBytes, st
 use Rattle.model.specs.Script.{stepBy}
 use Rattle.model.specs.Step.{letterOf, admits, collect, isReached, stepped}
 use Rattle.model.specs.History.{Record}
-use Rattle.model.specs.Run.{State, Out, stop, gives, andThen, joinFor, loop, run, runOn}
+use Rattle.model.specs.Run.{State, Out, stop, gives, joinFor, loop, run, runOn}
 use Rattle.model.specs.Undo.{historySize, Placed, Formed, broken, formed, formFrom, undoFits, undone}
 use Rattle.model.specs.Undo.{undoAll, undoFormed, undo}
+use Rattle.model.proofs.BoolLaws.{pick-related}
+use Rattle.model.proofs.ValueLaws.{then-same}
 use Rattle.document03.specs.Script as D
 use Rattle.document03.specs.Run as R
 use Rattle.document03.proofs.ScriptLaws.{ours}
@@ -68,13 +70,6 @@ pub stepped-same : (x : Table) (a t n : ℕ) (v : List ℕ) → R.stepped x a t 
 stepped-same x a t n v = stepFrom-same x a t n v 0 (count x)
 
 -- RUNS
-then-same : (o p : Out) (f g : List ℕ → State → Out) → o ≡ p → ((v : List ℕ) (s : State) → f v s ≡ g v s) → andThen o f ≡ andThen p g
-then-same o p f g e h = go o ∙ ap (λ (q : Out). andThen q g) e
-  where
-    go : (q : Out) → andThen q f ≡ andThen q g
-    go (stop x) = refl
-    go (gives v s) = h v s
-
 for-same : (z : ℕ) (v : List ℕ) (o p : Out) (f g : List ℕ → State → Out) → o ≡ p → ((v : List ℕ) (s : State) → f v s ≡ g v s) →
     joinFor z v o f ≡ joinFor z v p g
 for-same z v o p f g e h = go o ∙ ap (λ (q : Out). joinFor z v q g) e
@@ -89,29 +84,26 @@ unfolding loop
 loop-same z f g h [] v s = refl
 loop-same z f g h (i ∷ is) v s = for-same z v (f i s) (g i s) _ _ (h i s) (λ w t. loop-same z f g h is w t)
 
-if-same : (z : Bool) (o p q r : Out) → o ≡ p → q ≡ r → pick z o q ≡ pick z p r
-if-same z o p q r h k = rw (h, k)
-
 pub run-same : (e : D.Expr) (b : List (List ℕ)) (s : State) → R.run e b s ≡ run (ours e) b s
 unfolding R.run run ours
 run-same (D.nil z) b s = refl
 run-same (D.document z d) b s = refl
 run-same (D.var z v) b s = refl
 run-same (D.step z a t n e) b s =
-    then-same _ _ _ _ (run-same e b s) (λ v u. ap (λ (w : List ℕ). gives w u) (stepped-same (u .plan) a t n v))
+    then-same _ (run-same e b s) (λ v u. ap (λ (w : List ℕ). gives w u) (stepped-same (u .plan) a t n v))
 run-same (D.both z e f) b s =
-    then-same _ _ _ _ (run-same e b s) (λ v u. then-same _ _ _ _ (run-same f b u) (λ w q. refl))
-run-same (D.letIn z e f) b s = then-same _ _ _ _ (run-same e b s) (λ v u. run-same f (b ++ (v ∷ [])) u)
+    then-same _ (run-same e b s) (λ v u. then-same _ (run-same f b u) (λ w q. refl))
+run-same (D.letIn z e f) b s = then-same _ (run-same e b s) (λ v u. run-same f (b ++ (v ∷ [])) u)
 run-same (D.forIn z e f) b s =
-    then-same _ _ _ _ (run-same e b s) (λ v u. loop-same z _ _ (λ i q. run-same f (b ++ ((i ∷ []) ∷ [])) q) v [] u)
+    then-same _ (run-same e b s) (λ v u. loop-same z _ _ (λ i q. run-same f (b ++ ((i ∷ []) ∷ [])) q) v [] u)
 run-same (D.ifIn z e f g) b s =
-    then-same _ _ _ _ (run-same e b s) (λ v u. if-same (eqb (length v) 0) _ _ _ _ (run-same g b u) (run-same f b u))
+    then-same _ (run-same e b s) (λ v u. pick-related _≡_ (eqb (length v) 0) (λ h. run-same g b u) (λ h. run-same f b u))
 run-same (D.element z n) b s = refl
 run-same (D.leaf z v) b s = refl
-run-same (D.delete z e) b s = then-same _ _ _ _ (run-same e b s) (λ v u. refl)
+run-same (D.delete z e) b s = then-same _ (run-same e b s) (λ v u. refl)
 run-same (D.insert z e f) b s =
-    then-same _ _ _ _ (run-same e b s) (λ v u. then-same _ _ _ _ (run-same f b u) (λ w q. refl))
-run-same (D.choose z r c e) b s = then-same _ _ _ _ (run-same e b s) (λ v u. refl)
+    then-same _ (run-same e b s) (λ v u. then-same _ (run-same f b u) (λ w q. refl))
+run-same (D.choose z r c e) b s = then-same _ (run-same e b s) (λ v u. refl)
 
 pub runOn-same : (x : Table) (e : D.Expr) → R.runOn x e ≡ runOn x (ours e)
 runOn-same x e = run-same e [] _

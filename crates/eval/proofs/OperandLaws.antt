@@ -7,6 +7,7 @@ use lib.ListN.{getD}
 use Rattle.model.specs.Script.{Expr, recordsOf}
 use Rattle.model.specs.Run.{State, Out, stop, gives, andThen, run}
 use Rattle.model.proofs.BoolLaws.{eq-cases}
+use Rattle.model.proofs.ValueLaws.{then-same}
 use Rattle.records.specs.Walk.{arity, inner, endAt, firstAt, secondAt, thirdAt, exprAt}
 use Rattle.script.specs.Accepted.{Accepted, RecordFits, Unary, Binary}
 use Rattle.records.proofs.KindLaws.{unary-kind, binary-kind, two-left}
@@ -19,10 +20,6 @@ use Rattle.eval.specs.Rests.{Rest, binaryRest, forRest, ifRest}
 then-gives : (o : Out) → andThen o (λ (v : List ℕ) (s : State). gives v s) ≡ o
 then-gives (stop f) = refl
 then-gives (gives v s) = refl
-
-then-same : (o : Out) (f g : List ℕ → State → Out) → ((v : List ℕ) (s : State) → f v s ≡ g v s) → andThen o f ≡ andThen o g
-then-same (stop x) f g h = refl
-then-same (gives v s) f g h = h v s
 
 -- RECORDS of the expression at a place
 abbrev pub recordsAt : (left : ℕ) → (bytes : List ℕ) → (at : ℕ) → ℕ
@@ -90,9 +87,9 @@ module _ {b : List ℕ} {at left n : ℕ} (a : Accepted b at left n) where
   unfolding run recordsOf
   one-operand count z =
       unary-kind (getD b at 0) (fits .low) (fits .high) (sym count ∙ z)
-      (λ e. one-of (accepted-step a e) refl (λ vs s. then-same (run one vs s) _ _ (λ v u. rw e)))
-      (λ e. one-of (accepted-delete a e) refl (λ vs s. then-same (run one vs s) _ _ (λ v u. rw e)))
-      (λ e. one-of (accepted-pick a e) refl (λ vs s. then-same (run one vs s) _ _ (λ v u. rw e)))
+      (λ e. one-of (accepted-step a e) refl (λ vs s. then-same (run one vs s) refl (λ v u. rw e)))
+      (λ e. one-of (accepted-delete a e) refl (λ vs s. then-same (run one vs s) refl (λ v u. rw e)))
+      (λ e. one-of (accepted-pick a e) refl (λ vs s. then-same (run one vs s) refl (λ v u. rw e)))
 
   -- TWO OPERANDS
   two-of : {m inside : ℕ} {rest : Rest} {make : Expr → Expr → Expr} → Binary b at left n m make → m ≡ inside →
@@ -113,11 +110,11 @@ module _ {b : List ℕ} {at left n : ℕ} (a : Accepted b at left n) where
   two-operands count f g i l =
       let z = two-left (getD b at 0) (fits .low) (fits .high) (λ e. f (count ∙ e)) (λ e. g (count ∙ e)) i in
       binary-kind (getD b at 0) (fits .low) (fits .high) z
-      (λ e. two-of (accepted-join a e) (rw e) refl (λ vs s. then-same (run one vs s) _ _ (λ v u. rw e)))
+      (λ e. two-of (accepted-join a e) (rw e) refl (λ vs s. then-same (run one vs s) refl (λ v u. rw e)))
       (λ e. two-of (accepted-let a e) (rw e) refl
-      (λ vs s. then-same (run one vs s) _ _ (λ v u. sym (then-gives (run two (vs ++ (v ∷ [])) u)) ∙ rw e)))
+      (λ vs s. then-same (run one vs s) refl (λ v u. sym (then-gives (run two (vs ++ (v ∷ [])) u)) ∙ rw e)))
       (λ e. absurd (l e))
-      (λ e. two-of (accepted-insert a e) (rw e) refl (λ vs s. then-same (run one vs s) _ _ (λ v u. rw e)))
+      (λ e. two-of (accepted-insert a e) (rw e) refl (λ vs s. then-same (run one vs s) refl (λ v u. rw e)))
 
   pub for-operands : getD b at 0 ≡ 7 → Two b at left n (inner 7 n) (forRest b at (left - 1))
   unfolding run inner recordsOf

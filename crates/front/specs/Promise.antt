@@ -11,11 +11,12 @@ use Rattle.model.specs.Script.{ill, readScript}
 abbrev pub fileBytes : ℕ
 fileBytes = 4096
 
--- At most 4,096 bytes of each file, which is enough to refuse any longer one: those are read as the whole file is, and a longer is refused
+-- At most 4,096 bytes of each file, which is enough to refuse any longer one: those are read as the whole file is
 abbrev pub ReadByFront : Type 0
 ReadByFront =
     ((b : List ℕ) → readPlan (take fileBytes b) ≡ readPlan b) × ((b : List ℕ) → readScript (take fileBytes b) ≡ readScript b)
 
+-- and a longer file is refused
 abbrev pub LongerRefused : Type 0
 LongerRefused =
     ((b : List ℕ) → fileBytes < length b → (f : Fault) × (readPlan b ≡ bad f)) ×

@@ -34,6 +34,7 @@ abbrev pub IsCopy : (rows : List ℕ) → (count row copy : ℕ) → Type 0
 IsCopy ws n k c =
     (c < n) × (model.rowAt (decodeParts n ws []) c .isLeaf ≡ model.rowAt (decodeParts n ws []) k .isLeaf)
 
+-- each row from top up to another has a copy or none
 abbrev pub Mapped : (rows map : List ℕ) → (count top row : ℕ) → Type 0
 Mapped ws m n t j = (k : ℕ) → t ≤ k → k < j → (getD m k 0 ≡ 65535) ⊎ IsCopy ws n k (getD m k 0)
 

@@ -22,6 +22,12 @@ map-set f [] i a = refl
 map-set f (x ∷ l) zero a = refl
 map-set f (x ∷ l) (suc i) a = ap (λ (t : List _). f x ∷ t) (map-set f l i a)
 
+-- mapped and mapped back, where each element comes back
+pub map-back : {A B : Type 0} (f : A → B) (g : B → A) (l : List A) (d : A) →
+    ((k : ℕ) → k < length l → g (f (getD l k d)) ≡ getD l k d) → map g (map f l) ≡ l
+map-back f g [] d h = refl
+map-back f g (x ∷ l) d h = λ i. h zero (omega arith) i ∷ map-back f g l d (λ k b. h (suc k) (omega arith)) i
+
 -- AN AREA that begins with A, and goes on with B
 over-grown : (A B o : List ℕ) (k : ℕ) → length A ≡ k → over k B (A ++ drop k o) ≡ A ++ B ++ drop (k + length B) o
 over-grown A B o k h =

@@ -1,5 +1,5 @@
--- Values are lists of rows: in a table of more rows, and answered by steps, picks and documents.
-use mathlib.Core.Path.{_≡_, refl}
+-- Values are lists of rows: in a table of more rows, and answered by steps, picks and documents. Runs that go on alike come to the same.
+use mathlib.Core.Path.{_≡_, refl, ap, _∙_}
 use mathlib.Core.Bool.{Bool}
 use mathlib.Core.List.{List}
 use mathlib.Core.Option.{Option, none, some}
@@ -9,7 +9,7 @@ use lib.ListN.{getD}
 use Rattle.model.specs.Base.{nothing, also}
 use Rattle.model.specs.Table.{Table, count, Tree}
 use Rattle.model.specs.Step.{collect}
-use Rattle.model.specs.Run.{marked, AreRows, AreValues}
+use Rattle.model.specs.Run.{State, Out, stop, gives, andThen, marked, AreRows, AreValues}
 use Rattle.model.proofs.All.{all-imp}
 use Rattle.model.proofs.Collect.{collect-all}
 
@@ -30,3 +30,9 @@ marked-rows x t d = go (getD (x .marks) d none) refl
     go : (m : Option ℕ) → getD (x .marks) d none ≡ m → AreRows (count x) (marked m)
     go none e = nothing
     go (some i) e = let h : i < count x = t .roots d i e .0 in also h nothing
+
+-- the same outcome that goes on alike
+pub then-same : (o : Out) {p : Out} {f g : List ℕ → State → Out} → o ≡ p → ((v : List ℕ) (s : State) → f v s ≡ g v s) →
+    andThen o f ≡ andThen p g
+then-same (stop x) {g = g} e h = ap (λ (q : Out). andThen q g) e
+then-same (gives v s) {g = g} e h = h v s ∙ ap (λ (q : Out). andThen q g) e

@@ -18,6 +18,7 @@ pub record FlagPre (fs v : List ℕ) : Type 0 where
   pub clear : fs ≡ replicate maxLinks 0
   pub low : Within v maxRows
 
+-- the flags are those of a value's rows
 abbrev pub Flagged : (value flags : List ℕ) → Type 0
 Flagged v fs = Flags (λ (k : ℕ). among k v) fs
 

@@ -14,10 +14,11 @@ use Rattle.model.specs.Table as model
 use Rattle.model.specs.Stored.{wordAt, rowIn, parentIn, rowFault, markFault, lastMarked, recordFault}
 use Rattle.model.proofs.BoolLaws.{by-cases, eq-cases, pick-eq, pick-ne}
 use Rattle.model.proofs.BytesLaws.{lastMarked-above}
-use Rattle.table.specs.Words.{linkOf, linked, wordOf, rowsOf, wordsOf, decodeParts, kindIn, linkIn}
+use Rattle.table.specs.Words.{linkOf, linked, wordOf, rowsOf, wordsOf, decodeParts}
+use Rattle.table.specs.Fitting.{isElementBelow, isRootBelow}
 use Rattle.reader.specs.Reading.{lastOf, RowPre, RowPost, MarkPre, MarkPost, RecordPre, RecordPost, Recorded}
-use Rattle.table.proofs.WordLaws.{linked-linkOf, count-decode, rowAt-decode, canonical-push}
-use Rattle.table.proofs.DecodeLaws.{element-high, element-kind, decode-mark, decode-row}
+use Rattle.table.proofs.WordLaws.{linked-linkOf, count-decode, canonical-push}
+use Rattle.table.proofs.DecodeLaws.{element-below, root-below, decode-mark, decode-row}
 use Rattle.model.proofs.ListLaws.{map-set}
 
 -- a refusal is no acceptance
@@ -76,23 +77,13 @@ module _ (s ws ms : List ℕ) (n i : ℕ) (pre : RowPre s ws n) where
       row-none h = rw (fits, first, eq-eqb (wordAt s 2) 65535 h)
 
       module _ (some-parent : wordAt s 2 ≡ 65535 → ⊥) where
-        pub row-high : n ≤ wordAt s 2 → rowFault (decodeParts n ws ms) i s ≡ fault 6 i
-        row-high h =
-            let k : model.count (decodeParts n ws ms) ≤ wordAt s 2 = omega (arith, count-decode n ws ms within-512) in
-            rw (fits, first, ne-eqb (wordAt s 2) 65535 some-parent, le-ltb (wordAt s 2) (model.count (decodeParts n ws ms)) k)
-
-        pub row-leaf : wordAt s 2 < n → kindIn (getD ws (wordAt s 2) 0) ≡ 2 → rowFault (decodeParts n ws ms) i s ≡ fault 6 i
-        row-leaf h l =
-            let k : wordAt s 2 < model.count (decodeParts n ws ms) = omega (arith, count-decode n ws ms within-512) in
-            let e : model.isElement (decodeParts n ws ms) (wordAt s 2) ≡ false = element-kind n ws ms within-512 (wordAt s 2) h ∙ rw l in
-            rw (fits, first, ne-eqb (wordAt s 2) 65535 some-parent, e, lt-ltb (wordAt s 2) (model.count (decodeParts n ws ms)) k)
-
-        pub row-child : wordAt s 2 < n → (kindIn (getD ws (wordAt s 2) 0) ≡ 2 → ⊥) → rowFault (decodeParts n ws ms) i s ≡ fine
-        row-child h l =
-            let k : wordAt s 2 < model.count (decodeParts n ws ms) = omega (arith, count-decode n ws ms within-512) in
-            let e : model.isElement (decodeParts n ws ms) (wordAt s 2) ≡ true = element-kind n ws ms within-512 (wordAt s 2) h ∙ rw
-            (ne-eqb (kindIn (getD ws (wordAt s 2) 0)) 2 l) in
-            rw (fits, first, ne-eqb (wordAt s 2) 65535 some-parent, e, lt-ltb (wordAt s 2) (model.count (decodeParts n ws ms)) k)
+        pub row-child : (z : Bool) → isElementBelow ws n (wordAt s 2) ≡ z → rowFault (decodeParts n ws ms) i s ≡ pick z fine (fault 6 i)
+        row-child z h =
+            let c : model.count (decodeParts n ws ms) ≡ n = count-decode n ws ms within-512 in
+            let e : model.isLowerElement (decodeParts n ws ms) (model.count (decodeParts n ws ms)) (wordAt s 2) ≡ z =
+            ap (λ (j : ℕ). model.isLowerElement (decodeParts n ws ms) j (wordAt s 2)) c ∙
+            element-below n ws ms within-512 (wordAt s 2) n (omega arith) ∙ h in
+            rw (fits, first, ne-eqb (wordAt s 2) 65535 some-parent, e)
 
 -- MARKS: a mark at the front, by the tests on its way out
 module _ (s ws ms : List ℕ) (n i : ℕ) (pre : MarkPre s ws ms n) where
@@ -107,34 +98,18 @@ module _ (s ws ms : List ℕ) (n i : ℕ) (pre : MarkPre s ws ms n) where
     mark-order h = rw (lt-ltb (getD s 1 0) 8 known, lt-leb (lastOf ms) (getD s 1 0) h)
 
     module _ (rising : lastOf ms ≤ getD s 1 0) where
-      pub mark-high : n ≤ wordAt s 2 → markFault (decodeParts n ws ms) i s ≡ fault 6 i
-      mark-high h =
-          rw (lt-ltb (getD s 1 0) 8 known, le-leb (lastOf ms) (getD s 1 0) rising, element-high n ws ms within (wordAt s 2) h)
+      mark-tests : markFault (decodeParts n ws ms) i s ≡
+          unless (isRootBelow ws n (wordAt s 2) && not (any (model.isThe (wordAt s 2)) (map linked ms))) (linkAt i)
+      mark-tests =
+          rw (lt-ltb (getD s 1 0) 8 known, le-leb (lastOf ms) (getD s 1 0) rising, root-below n ws ms within (wordAt s 2))
 
-      module _ (there : wordAt s 2 < n) where
-        pub mark-leaf : kindIn (getD ws (wordAt s 2) 0) ≡ 2 → markFault (decodeParts n ws ms) i s ≡ fault 6 i
-        mark-leaf l =
-            let e : model.isElement (decodeParts n ws ms) (wordAt s 2) ≡ false = element-kind n ws ms within (wordAt s 2) there ∙ rw l in
-            rw (lt-ltb (getD s 1 0) 8 known, le-leb (lastOf ms) (getD s 1 0) rising, e)
+      pub mark-root : isRootBelow ws n (wordAt s 2) ≡ false → markFault (decodeParts n ws ms) i s ≡ fault 6 i
+      mark-root h = mark-tests ∙ rw h
 
-        module _ (element : kindIn (getD ws (wordAt s 2) 0) ≡ 2 → ⊥) where
-          is-element : model.isElement (decodeParts n ws ms) (wordAt s 2) ≡ true
-          is-element = element-kind n ws ms within (wordAt s 2) there ∙ rw (ne-eqb (kindIn (getD ws (wordAt s 2) 0)) 2 element)
-
-          mark-tests : markFault (decodeParts n ws ms) i s ≡
-              unless (not (model.hasParent (linked (linkIn (getD ws (wordAt s 2) 0)))) &&
-              not (any (model.isThe (wordAt s 2)) (map linked ms))) (linkAt i)
-          mark-tests =
-              let row = rowAt-decode n ws ms within (wordAt s 2) there in
-              rw (lt-ltb (getD s 1 0) 8 known, le-leb (lastOf ms) (getD s 1 0) rising, is-element, row)
-
-          pub mark-child : (linkIn (getD ws (wordAt s 2) 0) ≡ 0 → ⊥) → markFault (decodeParts n ws ms) i s ≡ fault 6 i
-          mark-child l = mark-tests ∙ rw (ne-eqb (linkIn (getD ws (wordAt s 2) 0)) 0 l)
-
-          pub mark-by : linkIn (getD ws (wordAt s 2) 0) ≡ 0 → (z : Bool) → any (model.isThe (wordAt s 2)) (map linked ms) ≡ z →
-              markFault (decodeParts n ws ms) i s ≡ pick z (fault 6 i) fine
-          mark-by root true h = mark-tests ∙ rw (root, h)
-          mark-by root false h = mark-tests ∙ rw (root, h)
+      pub mark-by : isRootBelow ws n (wordAt s 2) ≡ true → (z : Bool) → any (model.isThe (wordAt s 2)) (map linked ms) ≡ z →
+          markFault (decodeParts n ws ms) i s ≡ pick z (fault 6 i) fine
+      mark-by root true h = mark-tests ∙ rw (root, h)
+      mark-by root false h = mark-tests ∙ rw (root, h)
 
 -- THE RECORD at the front, by its kind and size
 module _ (x : model.Table) (i : ℕ) (s : List ℕ) where

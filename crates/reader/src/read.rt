@@ -4,6 +4,7 @@ ghost use Rattle.reader.specs.Reading.{RowPre, RowPost, MarkPre, MarkPos
 use table::End;
 use table::Fault;
 use table::Table;
+use table::fit;
 use table::marks;
 use table::number;
 use table::stored;
@@ -39,15 +40,13 @@ fn row(s: &[u8], rows: &mut [u32], count: usize, last: usize) -> u8
         rows[count] = words::word(number::wide(kind) - KIND_BASE, 0, number::wide(tag));
         return 0;
     }
-    if count <= parent {
-        return Fault::LINK;
-    }
-    if words::kind(rows[parent]) == words::LEAF {
+    let link = parent + 1;
+    if !fit::is_element_below(rows, count, link) {
         return Fault::LINK;
     }
     rows[count] = words::word(
         number::wide(kind) - KIND_BASE,
-        (parent + 1) as u32,
+        link as u32,
         number::wide(tag),
     );
     0
@@ -65,18 +64,11 @@ fn mark(s: &[u8], rows: &[u32], marks: &mut [u16], count: usize, last: usize) ->
     if document < last {
         return Fault::LINK;
     }
-    let row = number::number_at(s, 2);
-    if count <= row {
+    let at = number::number_at(s, 2) + 1;
+    if !fit::is_root_below(rows, count, at) {
         return Fault::LINK;
     }
-    let w = rows[row];
-    if words::kind(w) == words::LEAF {
-        return Fault::LINK;
-    }
-    if words::link(w) != 0 {
-        return Fault::LINK;
-    }
-    let link = (row + 1) as u16;
+    let link = at as u16;
     if marks::is_marked(marks, link) {
         return Fault::LINK;
     }

@@ -30,6 +30,7 @@ pub record FlagPre (ns ms : List ℕ) : Type 0 where
   pub clear : ns ≡ replicate maxLinks 0
   pub links : (d : ℕ) → getD ms d 0 < maxLinks
 
+-- the numbers are the flags of the rows that marks link to
 abbrev pub Flagged : (marks numbers : List ℕ) → Type 0
 Flagged ms ns = Flags (λ (k : ℕ). any (model.isThe k) (map linked ms)) ns
 

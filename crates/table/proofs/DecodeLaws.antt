@@ -1,32 +1,47 @@
 -- What the table decoded from words has: its elements, parents and marks; one mark or one row more.
 use mathlib.Core.Path.{_≡_, ap, sym, _∙_}
-use mathlib.Core.Bool.{Bool, false, _||_, not}
+use mathlib.Core.Bool.{Bool, true, false, _&&_, _||_, not}
 use mathlib.Core.List.{List, [], _∷_, _++_, map, map-append}
 use mathlib.Core.Option.{some, none}
 use Prim.Native.Nat.{ℕ, _+_, _-_, _≤_, _<_}
 use native.Mathlib.Omega.{arith}
-use lib.Dec.{eqb}
+use lib.Dec.{ltb, eqb}
 use lib.ListN.{length, getD, set, drop, drop-of-length-le, List·getD-map}
-use borrow.Author.Tests.{lt-ltb, le-ltb, ne-eqb}
+use borrow.Author.Tests.{lt-ltb, ltb-true, ne-eqb}
 use Rattle.model.specs.Base.{any}
 use Rattle.model.specs.Table as model
 use Rattle.model.specs.Stored.{wordBytes, parentBytes}
-use Rattle.model.proofs.BoolLaws.{eq-cases, eqb-iff}
+use Rattle.model.proofs.BoolLaws.{and-left, by-cases, eq-cases, eqb-iff}
 use Rattle.table.specs.Words.{linkOf, linked, wordOf, rowsOf, decodeParts, kindIn, linkIn}
+use Rattle.table.specs.Fitting.{isElementBelow, isRootBelow}
 use Rattle.table.proofs.WordLaws.{linked-linkOf, count-decode, rowAt-decode, rowsOf-push, linked-some}
 use Rattle.model.proofs.ListLaws.{map-set, any-snoc, drop-next}
 
--- whether a row of the table is an element, from its word
-module _ (n : ℕ) (ws ms : List ℕ) (within : n ≤ length ws) (p : ℕ) where
-  pub element-high : n ≤ p → model.isElement (decodeParts n ws ms) p ≡ false
-  element-high h =
-      let k : model.count (decodeParts n ws ms) ≤ p = omega (arith, count-decode n ws ms within) in
-      rw (le-ltb p (model.count (decodeParts n ws ms)) k)
+-- an element below a bound is below it
+pub below-bound : (ws : List ℕ) (n p : ℕ) → isElementBelow ws n p ≡ true → p < n
+below-bound ws n p e = ltb-true p n (and-left _ _ e)
 
+-- whether a row of the table is an element, a lower one than row i, one without parent, from its word
+module _ (n : ℕ) (ws ms : List ℕ) (within : n ≤ length ws) (p : ℕ) where
   pub element-kind : p < n → model.isElement (decodeParts n ws ms) p ≡ not (eqb (kindIn (getD ws p 0)) 2)
   element-kind h =
       let k : p < model.count (decodeParts n ws ms) = omega (arith, count-decode n ws ms within) in
       rw (lt-ltb p (model.count (decodeParts n ws ms)) k, rowAt-decode n ws ms within p h)
+
+  pub element-below : (i : ℕ) → i ≤ n → model.isLowerElement (decodeParts n ws ms) i p ≡ isElementBelow ws i p
+  element-below i h = by-cases (ltb p i) (λ e. rw e (element-kind (omega (arith, ltb-true p i e)))) (λ e. rw e)
+
+  pub root-below : model.markFits (decodeParts n ws ms) (some p) ≡ isRootBelow ws n p
+  root-below =
+      by-cases (ltb p n)
+      (λ e.
+      let k : p < n = ltb-true p n e in
+      rw (element-kind k, e, rowAt-decode n ws ms within p k)
+      (ap (λ (t : Bool). not (eqb (kindIn (getD ws p 0)) 2) && t) (root (linkIn (getD ws p 0)))))
+      (λ e. rw (count-decode n ws ms within, e))
+    where
+      root : (l : ℕ) → not (model.hasParent (linked l)) ≡ eqb l 0
+      root l = by-cases (eqb l 0) (λ t. rw t) (λ t. rw t)
 
 -- a row's parent, from the link in its word
 module _ (n : ℕ) (ws ms : List ℕ) (within : n ≤ length ws) (i : ℕ) (h : i < n) where

@@ -5,21 +5,19 @@ use mathlib.Core.List.{List, [], _∷_, map}
 use mathlib.Core.Option.{Option, none, some}
 use Prim.Native.Nat.{ℕ, zero, suc, _-_, _<_}
 use native.Mathlib.Omega.{arith}
-use lib.ListN.{length, getD, take, drop, replicate, length-map}
+use lib.ListN.{length, take, drop, replicate, length-map}
 use lib.Seq.{take-at, drop-at}
 use borrow.Author.Tests.{le-leb}
 use Rattle.model.specs.Base.{all}
 use Rattle.model.specs.Table as model
 use Rattle.model.proofs.BoolLaws.{and-both}
+use Rattle.model.proofs.ListLaws.{map-back}
 use Rattle.model.proofs.TableLaws.{Well, isWell-at, parent-count}
 use Rattle.table.specs.Words.{linkOf, linked, wordOf, rowOf, isRowWord, isZero, wordsOf, encode, decode, fits}
 use Rattle.table.proofs.WordLaws.{linked-linkOf, rowOf-wordOf, isRowWord-wordOf}
 
 -- every parent's link fits its 10 bits
-abbrev Links : List model.Row → Type 0
-Links rs = (k : ℕ) → linkOf (getD rs k model.noRow .parent) < 1024
-
-well-links : (x : model.Table) → Well x → Links (x .rows)
+well-links : (x : model.Table) → Well x → (k : ℕ) → linkOf (model.rowAt x k .parent) < 1024
 well-links x w k = go (model.rowAt x k .parent) refl
   where
     go : (p : Option ℕ) → model.rowAt x k .parent ≡ p → linkOf p < 1024
@@ -27,17 +25,6 @@ well-links x w k = go (model.rowAt x k .parent) refl
     go (some p) e = omega (arith, w .tree .parents k p e .0, w .few, parent-count x k p e)
 
 -- ROWS AND MARKS come back
-rows-back : (rs : List model.Row) → Links rs → map rowOf (map wordOf rs) ≡ rs
-rows-back [] h = refl
-rows-back (r ∷ rs) h =
-    ap (λ (q : model.Row). q ∷ map rowOf (map wordOf rs)) (rowOf-wordOf r (h 0)) ∙ ap (λ (l : List model.Row). r ∷ l) (rows-back rs (λ k.
-    h (suc k)))
-
-marks-back : (ms : List (Option ℕ)) → map linked (map linkOf ms) ≡ ms
-marks-back [] = refl
-marks-back (m ∷ ms) =
-    ap (λ (q : Option ℕ). q ∷ map linked (map linkOf ms)) (linked-linkOf m) ∙ ap (λ (l : List (Option ℕ)). m ∷ l) (marks-back ms)
-
 front : (rs : List model.Row) → take (length rs) (wordsOf rs) ≡ map wordOf rs
 front rs = take-at (map wordOf rs) (replicate (512 - length rs) 0) (length rs) (length-map rs wordOf)
 
@@ -47,8 +34,9 @@ behind rs = drop-at (map wordOf rs) (replicate (512 - length rs) 0) (length rs) 
 pub decode-encode : (x : model.Table) → model.isWell x ≡ true → decode (encode x) ≡ x
 decode-encode x h =
     ap (λ (l : List ℕ). model.table (map rowOf l) (map linked (map linkOf (x .marks)))) (front (x .rows)) ∙
-    ap (λ (l : List model.Row). model.table l (map linked (map linkOf (x .marks)))) (rows-back (x .rows) (well-links x (isWell-at x h))) ∙
-    ap (model.table (x .rows)) (marks-back (x .marks))
+    ap (λ (l : List model.Row). model.table l (map linked (map linkOf (x .marks))))
+    (map-back wordOf rowOf (x .rows) model.noRow (λ k b. rowOf-wordOf _ (well-links x (isWell-at x h) k))) ∙
+    ap (model.table (x .rows)) (map-back linkOf linked (x .marks) none (λ k b. linked-linkOf _))
 
 -- WORDS of rows are words of rows, and the rest is zero
 rows-words : (rs : List model.Row) → all isRowWord (map wordOf rs) ≡ true

@@ -8,15 +8,15 @@ use native.Mathlib.Numerals.{add-one}
 use lib.Dec.{ltb, leb, eqb}
 use lib.ListN.{length, getD, take, drop, drop-of-length-le, length-map}
 use lib.Seq.{drop-cons}
-use borrow.Author.Tests.{lt-ltb, le-ltb, le-leb, eq-eqb, ne-eqb, eqb-false, leb-true, leb-false}
+use borrow.Author.Tests.{le-leb, eq-eqb, ne-eqb}
 use Rattle.model.specs.Base.{pick, isIn, all, any}
 use Rattle.model.specs.Table as model
 use Rattle.table.specs.Words.{linked, isRowWord, isZero, rowOf, rowsOf, decodeParts, partsFit, kindIn, linkIn, tagIn}
 use Rattle.table.specs.Fitting.{Words, tagFits, linkFits, rowFits, rowsFit, markFits, isRepeated, marksFit}
 use Rattle.model.proofs.BoolLaws.{by-cases}
 use Rattle.model.proofs.ListLaws.{drop-next}
-use Rattle.table.proofs.WordLaws.{count-decode, rowAt-decode}
-use Rattle.table.proofs.DecodeLaws.{element-high, element-kind}
+use Rattle.table.proofs.WordLaws.{count-decode}
+use Rattle.table.proofs.DecodeLaws.{element-below, root-below}
 
 -- TURNS
 pub rows-turn : (ws : List ℕ) (i n : ℕ) → i < n → rowsFit ws i (n - i) ≡ (rowFits ws i && rowsFit ws (i + 1) (n - (i + 1)))
@@ -75,20 +75,7 @@ tag-word w = tag-kind (kindIn w) (tagIn w) (omega arith)
 -- the parent, of a row below the count
 module _ (n : ℕ) (ws ms : List ℕ) (within : n ≤ length ws) where
   link-word : (i l : ℕ) → i < n → model.parentFits (decodeParts n ws ms) i (linked l) ≡ linkFits ws i l
-  link-word i l h = by-cases (eqb l 0) (λ e. rw e) (λ e. some-link e (eqb-false l 0 e))
-    where
-      some-link : eqb l 0 ≡ false → (l ≡ 0 → ⊥) → model.parentFits (decodeParts n ws ms) i (linked l) ≡ linkFits ws i l
-      some-link e z =
-          by-cases (leb l i)
-          (λ f.
-          let q : l ≤ i = leb-true l i f in
-          let p : l - 1 < i = omega (arith, z) in
-          let k : l - 1 < n = omega arith in
-          rw (e, f, lt-ltb (l - 1) i p) (element-kind n ws ms within (l - 1) k))
-          (λ f.
-          let q : i < l = leb-false l i f in
-          let p : i ≤ l - 1 = omega arith in
-          rw (e, f, le-ltb (l - 1) i p))
+  link-word i l h = by-cases (eqb l 0) (λ e. rw e) (λ e. rw e (element-below n ws ms within (l - 1) i (omega arith)))
 
   -- the rows from i on
   rows-words : (i k : ℕ) → i + k ≡ n →
@@ -117,23 +104,7 @@ module _ (n : ℕ) (ws ms : List ℕ) (within : n ≤ length ws) where
 
   -- one mark
   mark-word : (m : ℕ) → model.markFits (decodeParts n ws ms) (linked m) ≡ markFits ws n m
-  mark-word m = by-cases (eqb m 0) (λ e. rw e) (λ e. some-mark e (eqb-false m 0 e))
-    where
-      some-mark : eqb m 0 ≡ false → (m ≡ 0 → ⊥) → model.markFits (decodeParts n ws ms) (linked m) ≡ markFits ws n m
-      some-mark e z =
-          by-cases (leb m n)
-          (λ f.
-          let q : m ≤ n = leb-true m n f in
-          let k : m - 1 < n = omega (arith, z) in
-          rw (e, f, element-kind n ws ms within (m - 1) k, rowAt-decode n ws ms within (m - 1) k)
-          (ap (λ (t : Bool). not (eqb (kindIn (getD ws (m - 1) 0)) 2) && t) (root (linkIn (getD ws (m - 1) 0)))))
-          (λ f.
-          let q : n < m = leb-false m n f in
-          let k : n ≤ m - 1 = omega arith in
-          rw (e, f, element-high n ws ms within (m - 1) k))
-        where
-          root : (l : ℕ) → not (model.hasParent (linked l)) ≡ eqb l 0
-          root l = by-cases (eqb l 0) (λ t. rw t) (λ t. rw t)
+  mark-word m = by-cases (eqb m 0) (λ e. rw e) (λ e. rw e (root-below n ws ms within (m - 1)))
 
   -- all marks
   marks-words : (vs : List ℕ) →

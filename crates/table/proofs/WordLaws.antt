@@ -16,7 +16,7 @@ use Rattle.model.specs.Base.{pick, isIn, all}
 use Rattle.model.specs.Table as model
 use Rattle.model.proofs.BoolLaws.{and-left, and-right, by-cases, pick-ne}
 use Rattle.model.proofs.TestLaws.{isIn-at, isIn-by}
-use Rattle.model.proofs.ListLaws.{map-set, take-next, take-set}
+use Rattle.model.proofs.ListLaws.{map-set, map-back, take-next, take-set, all-getD}
 use Rattle.table.specs.Words.{linkOf, linked, wordOf, rowOf, isRowWord, withLink, isZero, rowsOf, decodeParts, wordsOf}
 use Rattle.table.specs.Words.{encode, Canonical, kindIn, linkIn, tagIn}
 
@@ -241,13 +241,6 @@ module _ (n : ℕ) (ws : List ℕ) (canonical : Canonical n ws) (size : length w
       (rows-less ∙ sym (ap (λ (j : ℕ). take j (rowsOf n ws)) e ∙ rows-take (n - 1) n ws (omega arith)))
 
 -- words of rows with zeros behind them are canonical
-words-rows : (ws : List ℕ) → all isRowWord ws ≡ true → map wordOf (map rowOf ws) ≡ ws
-unfolding all
-words-rows [] h = refl
-words-rows (w ∷ ws) h =
-    ap (λ (v : ℕ). v ∷ map wordOf (map rowOf ws)) (wordOf-rowOf w (and-left (isRowWord w) (all isRowWord ws) h)) ∙
-    ap (λ (l : List ℕ). w ∷ l) (words-rows ws (and-right (isRowWord w) (all isRowWord ws) h))
-
 zeros : (ws : List ℕ) → all isZero ws ≡ true → ws ≡ replicate (length ws) 0
 unfolding all
 zeros [] h = refl
@@ -260,13 +253,11 @@ pub canonical-words : (n : ℕ) (ws : List ℕ) → n ≤ 512 → length ws ≡ 
 canonical-words n ws h l f e =
     let m : length (rowsOf n ws) ≡ n = count-decode n ws [] (omega arith) in
     let k : 512 - length (rowsOf n ws) ≡ length (drop n ws) = omega (arith, length-drop n ws) in
-    ap (λ (v : List ℕ). v ++ replicate (512 - length (rowsOf n ws)) 0) (words-rows (take n ws) f) ∙
+    ap (λ (v : List ℕ). v ++ replicate (512 - length (rowsOf n ws)) 0)
+    (map-back rowOf wordOf (take n ws) 0 (λ k b. wordOf-rowOf _ (all-getD isRowWord (take n ws) 0 f k b))) ∙
     ap (λ (j : ℕ). take n ws ++ replicate j 0) k ∙ ap (λ (v : List ℕ). take n ws ++ v) (sym (zeros (drop n ws) e)) ∙ take-append-drop n ws
-
-marks-links : (ms : List ℕ) → map linkOf (map linked ms) ≡ ms
-marks-links [] = refl
-marks-links (m ∷ ms) = ap (λ (n : ℕ). n ∷ map linkOf (map linked ms)) (linkOf-linked m) ∙ ap (λ (l : List ℕ). m ∷ l) (marks-links ms)
 
 pub encode-decode : (n : ℕ) (ws ms : List ℕ) → n ≤ length ws → Canonical n ws →
     encode (decodeParts n ws ms) ≡ record { count = n; rows = ws; marks = ms }
-encode-decode n ws ms h e = λ i. record { count = count-decode n ws ms h i; rows = e i; marks = marks-links ms i }
+encode-decode n ws ms h e =
+    λ i. record { count = count-decode n ws ms h i; rows = e i; marks = map-back linked linkOf ms 0 (λ k b. linkOf-linked _) i }

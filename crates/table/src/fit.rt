@@ -1,10 +1,10 @@
 // The check of a table handed in: every rule of 'The table', rows past the count and fields not in use zero.
 ghost use mathlib.Core.Path.{_≡_};
-ghost use Prim.Native.Nat.{_≤_, _<_};
+ghost use Prim.Native.Nat.{_-_, _≤_, _<_};
 ghost use lib.ListN.{length, drop};
 ghost use Rattle.model.specs.Base.{all};
 ghost use Rattle.table.specs.Words.{isZero, partsFit};
-ghost use Rattle.table.specs.Fitting.{Words, tagFits, linkFits, rowFits, rowsFit, markFits, marksFit};
+ghost use Rattle.table.specs.Fitting.{Words, tagFits, isElementBelow, isRootBelow, linkFits, rowFits, rowsFit, markFits, marksFit};
 use crate::Table;
 use crate::marks;
 use crate::number;
@@ -25,6 +25,30 @@ fn tag_fits(w: u32) -> bool
     kind == words::LEAF
 }
 
+// The row with this link is an element below a bound.
+pub fn is_element_below(rows: &[u32], bound: usize, link: usize) -> bool
+    requires { ⌜ bound ≤ length (now rows) ⌝ }
+    requires { ⌜ 0 < link ⌝ }
+    ensures { λ r. ⌜ r ≡ isElementBelow (now (rows .entry)) bound (link - 1) ⌝ }
+{
+    if bound < link {
+        return false;
+    }
+    words::kind(rows[link - 1]) != words::LEAF
+}
+
+// And it has no parent.
+pub fn is_root_below(rows: &[u32], bound: usize, link: usize) -> bool
+    requires { ⌜ bound ≤ length (now rows) ⌝ }
+    requires { ⌜ 0 < link ⌝ }
+    ensures { λ r. ⌜ r ≡ isRootBelow (now (rows .entry)) bound (link - 1) ⌝ }
+{
+    if !is_element_below(rows, bound, link) {
+        return false;
+    }
+    words::link(rows[link - 1]) == 0
+}
+
 // A parent's link fits at row i: none, or a lower element.
 fn link_fits(rows: &[u32], i: usize, link: usize) -> bool
     requires { ⌜ i < length (now rows) ⌝ }
@@ -33,10 +57,7 @@ fn link_fits(rows: &[u32], i: usize, link: usize) -> bool
     if link == 0 {
         return true;
     }
-    if i < link {
-        return false;
-    }
-    words::kind(rows[link - 1]) != words::LEAF
+    is_element_below(rows, i, link)
 }
 
 // Row i fits.
@@ -89,14 +110,7 @@ fn mark_fits(rows: &[u32], count: usize, link: u16) -> bool
     if at == 0 {
         return true;
     }
-    if count < at {
-        return false;
-    }
-    let w = rows[at - 1];
-    if words::kind(w) == words::LEAF {
-        return false;
-    }
-    words::link(w) == 0
+    is_root_below(rows, count, at)
 }
 
 // The marks fit, and no two are the same.

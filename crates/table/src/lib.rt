@@ -83,7 +83,7 @@ impl Fault {
     pub const LENT: u8 = 11;
 }
 
-// How a pass over records ends: its refusal's number, or 0, and place, or where it came to; rows or records counted.
+// How a pass over records ends: its refusal's number and place, or 0 and 0; rows or records counted.
 pub struct End {
     pub number: u8,
     pub place: usize,

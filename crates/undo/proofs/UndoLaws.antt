@@ -19,8 +19,9 @@ use Rattle.model.specs.Undo.{cutIn, madeIn, madeFits, oldParentFits, cutFits, U
 use Rattle.model.proofs.ListLaws.{drop-all, drop-first}
 use Rattle.model.proofs.BoolLaws.{by-cases, pick-true, eq-cases, pick-eq, pick-ne}
 use Rattle.table.specs.Words.{linked, decodeParts, kindIn, linkIn, tagIn}
+use Rattle.table.specs.Fitting.{isElementBelow}
 use Rattle.table.proofs.WordLaws.{count-decode, rowAt-decode}
-use Rattle.table.proofs.DecodeLaws.{element-kind}
+use Rattle.table.proofs.DecodeLaws.{element-below}
 use Rattle.undo.specs.Undoing.{FormPost, undoing, Whole, PlacesPost, FitPre}
 
 pub size-low : (k : ℕ) → 5 ≤ historySize k
@@ -346,10 +347,7 @@ module _ {ws : List ℕ} {n : ℕ} {s : List ℕ} {size : ℕ} (pre : FitPre ws 
         pub cut-none : v ≡ 65535 → cutFits x (cutIn s) ≡ false
         cut-none e = cut-parent ∙ rw (eq-eqb v 65535 e)
 
-        module _ (some-parent : v ≡ 65535 → ⊥) where
-          pub cut-order : row ≤ v → cutFits x (cutIn s) ≡ false
-          cut-order h = cut-parent ∙ rw (ne-eqb v 65535 some-parent, le-ltb v row h)
-
-          pub cut-element : v < row → cutFits x (cutIn s) ≡ not (eqb (kindIn (getD ws v 0)) 2)
-          cut-element h =
-              cut-parent ∙ rw (ne-eqb v 65535 some-parent, lt-ltb v row h) (element-kind n ws ms within v (omega arith))
+        pub cut-element : (v ≡ 65535 → ⊥) → cutFits x (cutIn s) ≡ isElementBelow ws row (v + 1 - 1)
+        cut-element e =
+            let k : v + 1 - 1 ≡ v = omega arith in
+            cut-parent ∙ rw (ne-eqb v 65535 e) (element-below n ws ms within v row (omega arith) ∙ ap (isElementBelow ws row) (sym k))

@@ -41,6 +41,7 @@ abbrev pub Whole : (bytes places : List ℕ) → ℕ → Type 0
 Whole b m n =
     (k : ℕ) → k < n → (getD m k 0 ≤ length b) × (historySize (getD (drop (getD m k 0) b) 0 0) ≤ length (drop (getD m k 0) b))
 
+-- the form of the whole history, and the places found
 pub record PlacesPost (b m : List ℕ) (r : End) : Type 0 where
   pub fine : r .number ≡ 0 → (x : model.Table) → undoAll x (undoing b m (r .count)) ≡ undo x b
   pub stop : (r .number ≡ 0 → ⊥) → (x : model.Table) → refused (refusal.fault (r .number) (r .place)) ≡ undo x b

@@ -12,6 +12,7 @@ ghost use Rattle.undo.specs.Undoing.{FormPost, PlacesPost, FitPre, BackP
 use table::End;
 use table::Fault;
 use table::Table;
+use table::fit;
 use table::marks;
 use table::number;
 use table::words;
@@ -144,10 +145,7 @@ fn cut_fits(rows: &[u32], marks: &[u16], count: usize, s: &[u8]) -> bool
     if parent == number::NONE {
         return false;
     }
-    if row <= parent {
-        return false;
-    }
-    words::kind(rows[parent]) != words::LEAF
+    fit::is_element_below(rows, row, parent + 1)
 }
 
 // The record s undone: the link is back, or the last row is gone.

@@ -1,11 +1,9 @@
 -- `undoing::cut_fits` is the model's test of a cut link's record, by one law of UndoLaws for each way out.
-use Rattle.undo.proofs.UndoLaws.{cut-high, cut-child, cut-marked, cut-none, cut-order, cut-element}
+use Rattle.undo.proofs.UndoLaws.{cut-high, cut-child, cut-marked, cut-none, cut-element}
 use Rattle.model.specs.Base.{any}
 use Rattle.model.specs.Table.{isThe}
 use Rattle.table.specs.Words.{linked, linkIn}
-use lib.Dec.{eqb}
 use lib.ListN.{getD}
-use mathlib.Core.Bool.{not}
 use mathlib.Core.List.{map}
 use mathlib.Core.Path.{_≡_, sym, _∙_, ap}
 use Prim.Native.Nat.{ℕ, _+_, _-_}
@@ -14,12 +12,14 @@ use borrow.Author.Needs.{needs}
 use Rattle.undo.proofs.undoing.cut_fits.Statement.{statement}
 use Rattle.undo.proofs.undoing.cut_fits.Tie as tie
 
-is-root : (c : tie.Else2) → linkIn (getD (c .before .before .before .before .before .before .before .before .args .rows .now)
-    (c .before .before .before .before .number-at .result) 0) ≡ 0
+is-root : (c : tie.Else2) →
+    let a = c .before .before .before .before .before .before .before .before .args in
+    linkIn (getD (a .rows .now) (c .before .before .before .before .number-at .result) 0) ≡ 0
 is-root c = sym (c .before .link .ensures) ∙ search (c .if2 .left, needs)
 
-marked-by : (c : tie.After-is-marked) → any (isThe (c .before .before .before .before .before .number-at .result)) (map linked
-    (c .before .before .before .before .before .before .before .before .before .args .marks .now)) ≡ c .is-marked .result
+marked-by : (c : tie.After-is-marked) →
+    let a = c .before .before .before .before .before .before .before .before .before .args in
+    any (isThe (c .before .before .before .before .before .number-at .result)) (map linked (a .marks .now)) ≡ c .is-marked .result
 marked-by c =
     let c5 = c .before .before .before .before .before in
     let c9 = c5 .before .before .before .before in
@@ -55,8 +55,8 @@ returns-2 c =
     let c4 = c3 .before in
     let c8 = c4 .before .before .before .before in
     sym
-    (cut-child (c8 .pre) (c8 .args .marks .now) (c4 .number-at .ensures .0) (omega (arith, c3 .if1 .left)) (λ q. c .if2 .taken (c
-    .before .link .ensures ∙ q)))
+    (cut-child (c8 .pre) (c8 .args .marks .now) (c4 .number-at .ensures .0) (omega (arith, c3 .if1 .left))
+    (λ q. c .if2 .taken (c .before .link .ensures ∙ q)))
 
 add-is-marked : tie.Need-add-is-marked
 add-is-marked c = search needs
@@ -73,8 +73,8 @@ returns-3 c =
     let c6 = c5 .before in
     let c10 = c6 .before .before .before .before in
     sym
-    (cut-marked (c10 .pre) (c10 .args .marks .now) (c6 .number-at .ensures .0) (omega (arith, c5 .if1 .left)) (is-root (c .before
-    .before)) (marked-by (c .before) ∙ c .if3 .taken))
+    (cut-marked (c10 .pre) (c10 .args .marks .now) (c6 .number-at .ensures .0) (omega (arith, c5 .if1 .left))
+    (is-root (c .before .before)) (marked-by (c .before) ∙ c .if3 .taken))
 
 number-at-requires-2 : tie.Need-number-at-requires-2
 number-at-requires-2 c κs =
@@ -89,8 +89,17 @@ returns-4 c =
     let c8 = c7 .before in
     let c12 = c8 .before .before .before .before in
     sym
-    (cut-none (c12 .pre) (c12 .args .marks .now) (c8 .number-at .ensures .0) (omega (arith, c7 .if1 .left)) (is-root (c4)) (marked-by
-    (c3) ∙ c .before .before .if3 .left) (c .before .number-at2 .ensures .0) (c .if4 .taken))
+    (cut-none (c12 .pre) (c12 .args .marks .now) (c8 .number-at .ensures .0) (omega (arith, c7 .if1 .left)) (is-root c4) (marked-by
+    c3 ∙ c .before .before .if3 .left) (c .before .number-at2 .ensures .0) (c .if4 .taken))
+
+add-is-element-below : tie.Need-add-is-element-below
+add-is-element-below c = search needs
+
+is-element-below-requires : tie.Need-is-element-below-requires
+is-element-below-requires c κs =
+    let c7 = c .before .before .before .before .before .before .before in
+    let c12 = c7 .before .before .before .before .before in
+    omega (arith, c7 .if1 .left, c12 .pre .rows, c12 .pre .few)
 
 returns-5 : tie.Need-returns-5
 returns-5 c =
@@ -100,45 +109,9 @@ returns-5 c =
     let c8 = c5 .before .before .before in
     let c9 = c8 .before in
     let c13 = c9 .before .before .before .before in
-    sym
-    (cut-order (c13 .pre) (c13 .args .marks .now) (c9 .number-at .ensures .0) (omega (arith, c8 .if1 .left)) (is-root (c5)) (marked-by
-    (c4) ∙ c3 .if3 .left) (c .before .before .number-at2 .ensures .0) (c .before .if4 .left) (c .if5 .taken))
-
-mul-kind : tie.Need-mul-kind
-mul-kind c = search needs
-
-shared-slice-read-kind : tie.Need-shared-slice-read-kind
-shared-slice-read-kind c =
-    let c9 = c .before .before .before .before .before .before .before .before .before in
-    let c14 = c9 .before .before .before .before .before in
-    omega (arith, c .before .if5 .left, c9 .if1 .left, c14 .pre .rows, c14 .pre .few)
-
-kind-requires : tie.Need-kind-requires
-kind-requires c κs = search needs
-
-returns-6 : tie.Need-returns-6
-returns-6 c =
-    let c3 = c .before .before .before in
-    let c4 = c3 .before in
-    let c5 = c4 .before in
-    let c6 = c5 .before in
-    let c7 = c6 .before in
-    let c10 = c7 .before .before .before in
-    let c11 = c10 .before in
-    let c15 = c11 .before .before .before .before in
-    ap (λ (j : ℕ). not (eqb j 2)) (c .kind .ensures) ∙ sym (cut-element
-    (c15 .pre)
-    (c15 .args
-    .marks .now)
-    (c11 .number-at .ensures .0) (omega (
-      arith,
-      c10 .if1 .left,
-    )) (is-root
-    (c7)) (marked-by (c6) ∙
-    c5 .if3 .left) (c4 .number-at2 .ensures .0) (c3 .if4 .left) (omega (
-      arith,
-      c .before .before .if5 .left,
-    )))
+    c .is-element-below .ensures ∙ sym
+    (cut-element (c13 .pre) (c13 .args .marks .now) (c9 .number-at .ensures .0) (omega (arith, c8 .if1 .left)) (is-root c5)
+    (marked-by c4 ∙ c3 .if3 .left) (c .before .before .number-at2 .ensures .0) (c .before .if4 .left))
 
 pub cut-fits-spec : {M : Type 1} → statement M
 cut-fits-spec =
@@ -156,8 +129,6 @@ cut-fits-spec =
     returns-3
     number-at-requires-2
     returns-4
-    returns-5
-    mul-kind
-    shared-slice-read-kind
-    kind-requires
-    returns-6)
+    add-is-element-below
+    is-element-below-requires
+    returns-5)
