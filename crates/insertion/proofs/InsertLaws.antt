@@ -17,8 +17,8 @@ use Rattle.model.specs.Run.{State, Out, stop, gives, newRow, withMade, thenRow}
 use Rattle.model.proofs.BoolLaws.{by-cases, and-both, eq-cases, pick-eq, pick-ne}
 use Rattle.model.proofs.TableLaws.{isElement-at, isElement-by}
 use Rattle.model.proofs.GrowLaws.{count-withRow, rowAt-withRow-old, rowAt-withRow-new}
-use Rattle.table.specs.Words.{linked, rowOf, rowsOf, isRowWord, withLink, decodeParts, linkIn}
-use Rattle.table.proofs.WordLaws.{linked-linkOf, count-decode, rowAt-decode, rows-take, rowOf-withLink, word-linked}
+use Rattle.table.specs.Words.{ofLink, rowOf, rowsOf, isRowWord, withLink, decodeParts, linkIn}
+use Rattle.table.proofs.WordLaws.{ofLink-linkOf, count-decode, rowAt-decode, rows-take, rowOf-withLink, word-linked}
 use Rattle.table.proofs.DecodeLaws.{parent-at, link-low}
 use Rattle.updates.specs.State.{stateOf, outcome, Held, Updated}
 use Rattle.updates.specs.Updating.{NewPre}
@@ -54,7 +54,7 @@ outcome-then z v ws ms h p = by-cases (eqb (p .number) 0) (λ e. rw e) (λ e. rw
 -- ROWS BELOW a count that were there before
 pub before-decode : (old : ℕ) (ws ms h : List ℕ) (p : Progress) → old ≤ p .count → before old (stateOf ws ms h p) ≡ decodeParts old ws ms
 before-decode old ws ms h p l =
-    ap (λ (rs : List model.Row). model.table rs (map linked ms)) (rows-take old (p .count) ws l)
+    ap (λ (rs : List model.Row). model.table rs (map ofLink ms)) (rows-take old (p .count) ws l)
 
 -- a row is the same in the table and in the table before
 module _ (ws ms : List ℕ) (old n : ℕ) (l : old ≤ n) (w : n ≤ length ws) where
@@ -116,7 +116,7 @@ module _ {ws h : List ℕ} {p : Progress} (held : Held ws h p) (i g : ℕ) (row 
   pub copy-row : rowOf v ≡ model.withParent (rowOf (getD ws i 0)) (some g)
   copy-row =
       ap rowOf word ∙ rowOf-withLink (getD ws i 0) (g + 1) small ∙
-      ap (model.withParent (rowOf (getD ws i 0))) (linked-linkOf (some g))
+      ap (model.withParent (rowOf (getD ws i 0))) (ofLink-linkOf (some g))
 
   pub copy-pre : NewPre ws h p v
   copy-pre =
@@ -183,7 +183,7 @@ module _ {ws h m : List ℕ} {p : Progress} {t j : ℕ} (pre : NextPre ws h m p 
         (copy-is .1 ∙ parent-here (linked-at m t l n .parent) .1)
 
     module _ {v : ℕ} (word : v ≡ withLink w link) where
-      row-copy : rowOf v ≡ model.withParent (rowOf w) (linked link)
+      row-copy : rowOf v ≡ model.withParent (rowOf w) (ofLink link)
       row-copy = ap rowOf word ∙ rowOf-withLink w link (omega (arith, next-small))
 
       pub next-pre : NewPre ws h p v
@@ -213,9 +213,9 @@ module _ {ws h m : List ℕ} {p : Progress} {t j : ℕ} (pre : NextPre ws h m p 
     state-same : link ≡ 0 → stateOf ws′ [] h′ r ≡ stateOf ws [] h p
     state-same e = let q = gives-state ∙ pick-eq (gives [] (stateOf ws [] h p)) _ e in (cc)
 
-    state-copy : (link ≡ 0 → ⊥) → stateOf ws′ [] h′ r ≡ withMade (stateOf ws [] h p) (model.withParent (rowOf w) (linked link))
+    state-copy : (link ≡ 0 → ⊥) → stateOf ws′ [] h′ r ≡ withMade (stateOf ws [] h p) (model.withParent (rowOf w) (ofLink link))
     state-copy n =
-        let row = model.withParent (rowOf w) (linked link) in
+        let row = model.withParent (rowOf w) (ofLink link) in
         let q = then-state (newRow 0 row (stateOf ws [] h p)) (stateOf ws′ [] h′ r)
         (gives-state ∙ pick-ne (gives [] (stateOf ws [] h p)) _ n) in
         made-state 0 row (stateOf ws [] h p) (stateOf ws′ [] h′ r) (q .0) (q .1)
@@ -226,10 +226,10 @@ module _ {ws h m : List ℕ} {p : Progress} {t j : ℕ} (pre : NextPre ws h m p 
     pub next-old : (c : ℕ) → c < p .count → model.rowAt (decodeParts (r .count) ws′ []) c ≡ model.rowAt (decodeParts (p .count) ws []) c
     next-old c a =
         eq-cases link 0 (λ e. ap (λ (s : State). model.rowAt (s .plan) c) (state-same e))
-        (λ e. made-old (pre .held) held′ (model.withParent (rowOf w) (linked link)) (state-copy e) c a)
+        (λ e. made-old (pre .held) held′ (model.withParent (rowOf w) (ofLink link)) (state-copy e) c a)
 
     next-new : (link ≡ 0 → ⊥) → IsCopy ws′ (r .count) j (p .count)
-    next-new n = made-copy (pre .held) held′ (model.withParent (rowOf w) (linked link)) (state-copy n) j (pre .row) refl
+    next-new n = made-copy (pre .held) held′ (model.withParent (rowOf w) (ofLink link)) (state-copy n) j (pre .row) refl
 
     pub next-mapped : Mapped ws′ m′ (r .count) t (j + 1)
     next-mapped k a b = eq-cases k j at old

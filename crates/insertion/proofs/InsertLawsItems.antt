@@ -15,7 +15,7 @@ use Rattle.model.specs.Run.{descendantsFrom, subtree, copyAll, inserted}
 use Rattle.model.proofs.BoolLaws.{and-both, pick-true}
 use Rattle.model.proofs.ListLaws.{drop-next}
 use Rattle.model.proofs.TableLaws.{isElement-at, isElement-by}
-use Rattle.table.specs.Words.{linked, rowOf, rowsOf, withLink, decodeParts, kindIn}
+use Rattle.table.specs.Words.{ofLink, rowOf, rowsOf, withLink, decodeParts, kindIn}
 use Rattle.table.proofs.WordLaws.{count-decode, rowAt-decode}
 use Rattle.table.proofs.DecodeLaws.{element-kind}
 use Rattle.updates.specs.State.{stateOf, outcome, After, Updated, stopped}
@@ -147,7 +147,7 @@ module _ {ws h m : List ℕ} {p : Progress} {old t g : ℕ} (pre : ItemPre ws h 
                         ap (λ (x : model.Table).
                         copyEach z x t g (descendantsFrom x t (t + 1) (old - (t + 1))) (copiedIn (set m t (p .count)) t 1) s₁)
                         (before-decode old ws₁ ms h₁ p₁ (omega (arith, pre .room, after₁ .rows)) ∙
-                        ap (λ (rs : List model.Row). model.table rs (map linked ms)) rows₁) ∙
+                        ap (λ (rs : List model.Row). model.table rs (map ofLink ms)) rows₁) ∙
                         ap (λ (cs : List Copied).
                         copyEach z (decodeParts old ws ms) t g (descendantsFrom (decodeParts old ws ms) t (t + 1) (old - (t + 1))) cs s₁)
                         (copiedIn-top m t (p .count) (omega (arith, pre .top, pre .room, pre .size, pre .held .few)) (omega (
@@ -227,7 +227,7 @@ module _ {ws₀ h₀ m₀ : List ℕ} {p₀ : Progress} {v : List ℕ} {g : ℕ}
             (post .updated .same z ms ∙
             ap (λ (y : model.Table). copyEach z y i g (subtree y i) [] s)
             (before-decode (p₀ .count) ws ms h p (c .after .rows) ∙
-            ap (λ (rs : List model.Row). model.table rs (map linked ms)) (c .same))) ∙
+            ap (λ (rs : List model.Row). model.table rs (map ofLink ms)) (c .same))) ∙
             ap (λ (j : ℕ). copyAll z x (j ∷ drop (k + 1) v) g s) e ∙
             ap (λ (is : List ℕ). copyAll z x is g s) (sym (drop-next v k 0 more)) ∙ c .rest z ms
 

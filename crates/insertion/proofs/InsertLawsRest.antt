@@ -13,7 +13,7 @@ use Rattle.model.specs.Table as model
 use Rattle.model.specs.Step.{isBelow, collect}
 use Rattle.model.specs.Run.{State, Out, thenRow, copyEach, descendantsFrom}
 use Rattle.model.proofs.TableLaws.{parent-count}
-use Rattle.table.specs.Words.{linked, rowOf, rowsOf, decodeParts, linkIn}
+use Rattle.table.specs.Words.{ofLink, rowOf, rowsOf, decodeParts, linkIn}
 use Rattle.table.proofs.WordLaws.{count-decode, rowAt-decode}
 use Rattle.updates.specs.State.{stateOf, outcome, Held, After}
 use Rattle.insertion.specs.Inserting.{before, copiedIn, nextLink, copyBy, IsCopy, Mapped, NextPre, NextPost, RestPre, RestPost}
@@ -106,7 +106,7 @@ module _ {old t : ℕ} {ws₀ h₀ m₀ : List ℕ} {p₀ : Progress} (pre : Res
           let a : old ≤ length ws = omega (arith, pre .room, c .after .rows, held-within (c .after .held)) in
           ap (λ (rs : List model.Row). getD rs j model.noRow) (sym (c .same)) ∙ rowAt-decode old ws [] a j more
 
-      parent-x : (ms : List ℕ) → model.rowAt (decodeParts old ws₀ ms) j .parent ≡ linked (linkIn (getD ws j 0))
+      parent-x : (ms : List ℕ) → model.rowAt (decodeParts old ws₀ ms) j .parent ≡ ofLink (linkIn (getD ws j 0))
       parent-x ms = ap (λ (r : model.Row). r .parent) (row-x ms)
 
       sized : j < length m

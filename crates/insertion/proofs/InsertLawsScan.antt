@@ -19,7 +19,7 @@ use Rattle.model.specs.Run.{State, Out, stop, gives, newRow, thenRow, Copied, c
 use Rattle.model.proofs.BoolLaws.{by-cases, pick-true, pick-false, eq-cases}
 use Rattle.model.proofs.Collect.{collect-append, collect-none}
 use Rattle.model.proofs.Below.{Below, under, further, below-is}
-use Rattle.table.specs.Words.{linked}
+use Rattle.table.specs.Words.{ofLink}
 use Rattle.insertion.specs.Inserting.{copiedIn, copyLink, copyBy}
 
 thenRow-gives : (o : Out) (f : State → Out) → thenRow (thenRow o (λ (u : State). gives [] u)) f ≡ thenRow o f
@@ -124,7 +124,7 @@ linked-at m t l n =
 
 -- ONE TURN of the scan at row j, which has the link l: what is known of the rows since top decides
 module _ (x : model.Table) (lower : (i p : ℕ) → model.rowAt x i .parent ≡ some p → p < i) (t j : ℕ) (past : t < j) (m : List ℕ)
-    (l : ℕ) (here : model.rowAt x j .parent ≡ linked l)
+    (l : ℕ) (here : model.rowAt x j .parent ≡ ofLink l)
     (known : (k : ℕ) → t ≤ k → k < j → eqb (getD m k 0) 65535 ≡ not (eqb k t || isBelow x t k)) where
   parent-some : (l ≡ 0 → ⊥) → model.rowAt x j .parent ≡ some (l - 1)
   parent-some f = here ∙ rw (ne-eqb l 0 f)
@@ -149,7 +149,7 @@ module _ (x : model.Table) (lower : (i p : ℕ) → model.rowAt x i .parent ≡ 
       (sym (known (l - 1) (k .low) (lower j (l - 1) (parent-some (k .parent)))) ∙ ne-eqb (getD m (l - 1) 0) 65535 (k .copied)) ∙
       sym (ap (λ (n : ℕ). not (eqb n 0)) (k .is) ∙ ap not (ne-eqb (getD m (l - 1) 0 + 1) 0 z)))
 
-  copy-row : (g : ℕ) → (copyLink m t l ≡ 0 → ⊥) → copyRow x t g j (copiedIn m t (j - t)) ≡ model.withParent (model.rowAt x j) (linked
+  copy-row : (g : ℕ) → (copyLink m t l ≡ 0 → ⊥) → copyRow x t g j (copiedIn m t (j - t)) ≡ model.withParent (model.rowAt x j) (ofLink
       (copyLink m t l))
   copy-row g n =
       let k = linked-at m t l n in
@@ -161,7 +161,7 @@ module _ (x : model.Table) (lower : (i p : ℕ) → model.rowAt x i .parent ≡ 
       (ap (λ (y : Bool). copyParent y g (model.rowAt x j .parent) (copiedIn m t (j - t))) (ne-eqb j t a) ∙
       ap (λ (q : Option ℕ). copyParent false g q (copiedIn m t (j - t))) (parent-some (k .parent)) ∙
       copyOf-copied m t (j - t) (l - 1) (k .low) b (k .copied) ∙
-      sym (ap linked (k .is) ∙ rw (ne-eqb (getD m (l - 1) 0 + 1) 0 z, w)))
+      sym (ap ofLink (k .is) ∙ rw (ne-eqb (getD m (l - 1) 0 + 1) 0 z, w)))
 
   module _ (c : ℕ) (few : c < 65535) (sized : j < length m) where
     abbrev map′ : List ℕ
@@ -253,7 +253,7 @@ module _ (x : model.Table) (lower : (i p : ℕ) → model.rowAt x i .parent ≡ 
         y))))
       where
         made : Out
-        made = newRow z (model.withParent (model.rowAt x j) (linked (copyLink m t l))) s
+        made = newRow z (model.withParent (model.rowAt x j) (ofLink (copyLink m t l))) s
 
         next : State → Out
         next u = copyEach z x t g (descendantsFrom x t (j + 1) (n - (j + 1))) (copiedIn m′ t (j + 1 - t)) u

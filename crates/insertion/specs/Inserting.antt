@@ -11,7 +11,7 @@ use Rattle.model.specs.Limits.{maxRows}
 use Rattle.model.specs.Table as model
 use Rattle.model.specs.Run.{State, Out, gives, newRow, thenRow, Copied, copyEach, descendantsFrom, subtree, copyAll, inserted}
 use Rattle.table.specs.Flags.{Within}
-use Rattle.table.specs.Words.{linked, rowOf, rowsOf, decodeParts, linkIn}
+use Rattle.table.specs.Words.{ofLink, rowOf, rowsOf, decodeParts, linkIn}
 use Rattle.updates.specs.State.{Held, Updated}
 use Rattle.updates.specs.declared.state.Progress.{Progress}
 
@@ -43,7 +43,7 @@ abbrev pub nextLink : (rows map : List ℕ) → (top row : ℕ) → ℕ
 nextLink ws m t j = copyLink m t (linkIn (getD ws j 0))
 
 abbrev pub copyBy : (place : ℕ) → model.Row → (link : ℕ) → State → Out
-copyBy z r l s = pick (eqb l 0) (gives [] s) (thenRow (newRow z (model.withParent r (linked l)) s) (λ (u : State). gives [] u))
+copyBy z r l s = pick (eqb l 0) (gives [] s) (thenRow (newRow z (model.withParent r (ofLink l)) s) (λ (u : State). gives [] u))
 
 pub record NextPre (ws h m : List ℕ) (p : Progress) (t j : ℕ) : Type 0 where
   pub held : Held ws h p

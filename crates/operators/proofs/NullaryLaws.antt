@@ -23,7 +23,7 @@ use Rattle.records.proofs.KindLaws.{nullary-kind}
 use Rattle.script.proofs.AcceptedLaws.{accepted-record, accepted-nil, accepted-document}
 use Rattle.script.proofs.AcceptedLaws.{accepted-variable, accepted-element, accepted-leaf}
 use Rattle.script.proofs.FieldLaws.{variable-number}
-use Rattle.table.specs.Words.{linked, decodeParts}
+use Rattle.table.specs.Words.{ofLink, decodeParts}
 use Rattle.updates.specs.State.{stateOf, Held, Updated}
 use Rattle.updates.specs.Updating.{LoosePost}
 use Rattle.query.specs.Values.{valueAt, Appended}
@@ -58,7 +58,7 @@ made-count {ws} {h} {p} {ws′} {h′} {q} {v} r held up k =
     omega (arith, g, held-count held′ [], held′ .few))
 
 -- a document's row is a row
-marked-held : (m c : ℕ) → m ≤ c → AreRows c (marked (linked m))
+marked-held : (m c : ℕ) → m ≤ c → AreRows c (marked (ofLink m))
 marked-held m c l =
     pick-cases (λ (o : Option ℕ). AreRows c (marked o)) (eqb m 0) (λ t. nothing)
     (λ t. let g : m - 1 < c = omega (arith, eqb-false m 0 t) in also g nothing)
@@ -109,16 +109,16 @@ module _ {b : List ℕ} {at left n : ℕ} {env : List Span} {ms ws h w : List �
       (λ q. nothing) (pre .scope .size) eq)
 
   module _ {w′ : List ℕ} {e : ℕ} (size : length w′ ≡ length w) where
-    pub document-yields : getD b at 0 ≡ 2 → {d : ℕ} → d ≡ getD b (at + 1) 0 → Appended (marked (linked (getD ms d 0))) w top w′ e →
+    pub document-yields : getD b at 0 ≡ 2 → {d : ℕ} → d ≡ getD b (at + 1) 0 → Appended (marked (ofLink (getD ms d 0))) w top w′ e →
         {r : Evaluated} → r ≡ endedBy p at (at + 2) e env → EvalPost b at left n env ms ws h w top p ws h w′ r
     unfolding run
     document-yields k {d} i a eq =
         from-record (document at (getD b (at + 1) 0)) 2 k (accepted-document (pre .accepted) k)
         (yields-as
         (ap (λ (o : Option ℕ). gives (marked o) (stateOf ws ms h p))
-        (sym (List·getD-map linked ms d 0) ∙ ap (λ (j : ℕ). getD (map linked ms) j none) i)) refl
+        (sym (List·getD-map ofLink ms d 0) ∙ ap (λ (j : ℕ). getD (map ofLink ms) j none) i)) refl
         (yields-updated (updated-none (pre .held)) a (λ q. refl) size (omega (arith, nullary-room))
-        (omega (arith, marked-few (linked (getD ms d 0)))) (λ q. marked-held (getD ms d 0) (p .count) (pre .marks .rows d))
+        (omega (arith, marked-few (ofLink (getD ms d 0)))) (λ q. marked-held (getD ms d 0) (p .count) (pre .marks .rows d))
         (pre .scope .size) eq))
 
     pub variable-yields : getD b at 0 ≡ 3 → {v : ℕ} → v ≡ getD b (at + 1) 0 → {s : Span} → s ≡ getD env v noSpan →

@@ -12,7 +12,7 @@ use Rattle.model.specs.Script.{isBinder}
 use Rattle.model.specs.Run.{marked}
 use Rattle.model.proofs.BoolLaws.{pick-true, pick-false, pick-eq, pick-ne}
 use Rattle.records.proofs.BindLaws.{withBound-set, withBound-same}
-use Rattle.table.specs.Words.{linked}
+use Rattle.table.specs.Words.{ofLink}
 use Rattle.updates.specs.State.{stopped}
 use Rattle.query.specs.Values.{Appended}
 use Rattle.query.proofs.ValueLaws.{appended-none, appended-if}
@@ -48,11 +48,11 @@ appended-one : (w : List ℕ) (top a : ℕ) → top < length w → Appended (a �
 appended-one w top a l = appended-if true a [] w w top top l (appended-none w top)
 
 module _ (w : List ℕ) (top : ℕ) where
-  pub document-none : (m : ℕ) → m ≡ 0 → Appended (marked (linked m)) w top w top
+  pub document-none : (m : ℕ) → m ≡ 0 → Appended (marked (ofLink m)) w top w top
   document-none m h =
       subst (λ (o : Option ℕ). Appended (marked o) w top w top) (sym (pick-eq none (some (m - 1)) h)) (appended-none w top)
 
-  pub document-some : (m : ℕ) → (m ≡ 0 → ⊥) → top < length w → Appended (marked (linked m)) w top (set w top (m - 1)) (top + 1)
+  pub document-some : (m : ℕ) → (m ≡ 0 → ⊥) → top < length w → Appended (marked (ofLink m)) w top (set w top (m - 1)) (top + 1)
   document-some m h l =
       subst (λ (o : Option ℕ). Appended (marked o) w top (set w top (m - 1)) (top + 1))
       (sym (pick-ne none (some (m - 1)) h)) (appended-one w top (m - 1) l)

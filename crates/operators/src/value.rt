@@ -2,7 +2,7 @@
 ghost use Prim.Native.Nat.{_<_};
 ghost use lib.ListN.{length, getD};
 ghost use Rattle.model.specs.Run.{marked};
-ghost use Rattle.table.specs.Words.{linked};
+ghost use Rattle.table.specs.Words.{ofLink};
 ghost use Rattle.query.specs.Values.{Appended, valueAt};
 ghost use Rattle.operators.specs.Evaluating.{CopyPre, BindPre, BindPost, madeValue, PutPre};
 use records::kinds;
@@ -34,7 +34,7 @@ pub fn copied(work: &mut [u16], from: usize, to: usize, top: usize) -> usize
 pub fn document(marks: &[u16], d: usize, work: &mut [u16], top: usize) -> usize
     requires { ⌜ d < length (now marks) ⌝ }
     requires { ⌜ top < length (now work) ⌝ }
-    ensures { λ r. ⌜ Appended (marked (linked (getD (now (marks .entry)) d 0))) (now (work .entry)) top (now (work .exit)) r ⌝ }
+    ensures { λ r. ⌜ Appended (marked (ofLink (getD (now (marks .entry)) d 0))) (now (work .entry)) top (now (work .exit)) r ⌝ }
 {
     let m = marks[d];
     if m == 0 {

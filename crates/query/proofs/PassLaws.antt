@@ -15,7 +15,7 @@ use Rattle.model.specs.Table as model
 use Rattle.model.specs.Sweep.{through}
 use Rattle.model.specs.Step.{parentIs}
 use Rattle.model.proofs.BoolLaws.{by-cases, pick-true, pick-false, eq-cases}
-use Rattle.table.specs.Words.{linked, decodeParts, linkIn}
+use Rattle.table.specs.Words.{ofLink, decodeParts, linkIn}
 use Rattle.table.proofs.WordLaws.{count-decode}
 use Rattle.table.proofs.DecodeLaws.{parent-linked, link-low, isThe-linked}
 use Rattle.query.specs.Stepping.{Flagged, counted, descended, climbed, RowsHeld}
@@ -59,7 +59,7 @@ module _ (ws : List ℕ) (n : ℕ) (held : RowsHeld ws n) where
           by-cases (eqb (linkIn (getD ws j 0)) 0) (λ e. no-parent e (eqb-true (linkIn (getD ws j 0)) 0 e))
           (λ e. a-parent e (eqb-false (linkIn (getD ws j 0)) 0 e))
         where
-          by-parent : (q : Option ℕ) → linked (linkIn (getD ws j 0)) ≡ q →
+          by-parent : (q : Option ℕ) → ofLink (linkIn (getD ws j 0)) ≡ q →
               downTo (decodeParts n ws ms) (held .lower) d v j ≡
               through (λ (p : ℕ). among p v || (d && downTo (decodeParts n ws ms) (held .lower) d v p)) q
           by-parent q e =

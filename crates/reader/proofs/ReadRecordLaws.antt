@@ -14,10 +14,10 @@ use Rattle.model.specs.Table as model
 use Rattle.model.specs.Stored.{wordAt, rowIn, parentIn, rowFault, markFault, lastMarked, recordFault}
 use Rattle.model.proofs.BoolLaws.{by-cases, eq-cases, pick-eq, pick-ne}
 use Rattle.model.proofs.BytesLaws.{lastMarked-above}
-use Rattle.table.specs.Words.{linkOf, linked, wordOf, rowsOf, wordsOf, decodeParts}
+use Rattle.table.specs.Words.{linkOf, ofLink, wordOf, rowsOf, wordsOf, decodeParts}
 use Rattle.table.specs.Fitting.{isElementBelow, isRootBelow}
 use Rattle.reader.specs.Reading.{lastOf, RowPre, RowPost, MarkPre, MarkPost, RecordPre, RecordPost, Recorded}
-use Rattle.table.proofs.WordLaws.{linked-linkOf, count-decode, canonical-push}
+use Rattle.table.proofs.WordLaws.{ofLink-linkOf, count-decode, canonical-push}
 use Rattle.table.proofs.DecodeLaws.{element-below, root-below, decode-mark, decode-row}
 use Rattle.model.proofs.ListLaws.{map-set}
 
@@ -99,14 +99,14 @@ module _ (s ws ms : List ℕ) (n i : ℕ) (pre : MarkPre s ws ms n) where
 
     module _ (rising : lastOf ms ≤ getD s 1 0) where
       mark-tests : markFault (decodeParts n ws ms) i s ≡
-          unless (isRootBelow ws n (wordAt s 2) && not (any (model.isThe (wordAt s 2)) (map linked ms))) (linkAt i)
+          unless (isRootBelow ws n (wordAt s 2) && not (any (model.isThe (wordAt s 2)) (map ofLink ms))) (linkAt i)
       mark-tests =
           rw (lt-ltb (getD s 1 0) 8 known, le-leb (lastOf ms) (getD s 1 0) rising, root-below n ws ms within (wordAt s 2))
 
       pub mark-root : isRootBelow ws n (wordAt s 2) ≡ false → markFault (decodeParts n ws ms) i s ≡ fault 6 i
       mark-root h = mark-tests ∙ rw h
 
-      pub mark-by : isRootBelow ws n (wordAt s 2) ≡ true → (z : Bool) → any (model.isThe (wordAt s 2)) (map linked ms) ≡ z →
+      pub mark-by : isRootBelow ws n (wordAt s 2) ≡ true → (z : Bool) → any (model.isThe (wordAt s 2)) (map ofLink ms) ≡ z →
           markFault (decodeParts n ws ms) i s ≡ pick z (fault 6 i) fine
       mark-by root true h = mark-tests ∙ rw (root, h)
       mark-by root false h = mark-tests ∙ rw (root, h)
@@ -173,8 +173,8 @@ last-set (m ∷ ms) from (suc d) i h l =
 
 lastOf-set : (ms : List ℕ) (d i : ℕ) → d < length ms → lastOf ms ≤ d → lastOf (set ms d (i + 1)) ≡ d + 1
 lastOf-set ms d i h l =
-    ap (lastMarked 0) (map-set linked ms d (i + 1) ∙ ap (set (map linked ms) d) (linked-linkOf (some i))) ∙
-    last-set (map linked ms) 0 d i (omega (arith, length-map ms linked)) (omega arith) ∙ omega arith
+    ap (lastMarked 0) (map-set ofLink ms d (i + 1) ∙ ap (set (map ofLink ms) d) (ofLink-linkOf (some i))) ∙
+    last-set (map ofLink ms) 0 d i (omega (arith, length-map ms ofLink)) (omega arith) ∙ omega arith
 
 -- what a mark's or a row's reader leaves is what a record's reader owes
 module _ (s ws ms : List ℕ) (n last : ℕ) (pre : RecordPre s ws ms n last) (whole : 4 ≤ length s) where

@@ -11,7 +11,7 @@ use Rattle.model.specs.Table as model
 use Rattle.model.specs.Stored.{lastMarked, recordFault, recorded, readFrom, readPlan, bad, got}
 use Rattle.model.proofs.ListLaws.{drop-all}
 use Rattle.model.proofs.StoredLaws.{readFrom-end, readFrom-fine, readFrom-refused}
-use Rattle.table.specs.Words.{linked, decodeParts}
+use Rattle.table.specs.Words.{ofLink, decodeParts}
 use Rattle.reader.specs.Reading.{lastOf, RecordPost, Held, ReadPre}
 use Rattle.reader.specs.declared.read.RecordRead.{RecordRead}
 
@@ -69,7 +69,7 @@ module _ (ws ms : List ℕ) (pre : ReadPre ws ms) where
   reading-all b =
       let e : length b + 1 - 0 ≡ length b + 1 = omega arith in
       ap (λ (j : ℕ). readFrom j (decodeParts 0 ws ms) 0 b) e ∙
-      ap (λ (v : List ℕ). readFrom (length b + 1) (model.table [] (map linked v)) 0 b) (pre .marks)
+      ap (λ (v : List ℕ). readFrom (length b + 1) (model.table [] (map ofLink v)) 0 b) (pre .marks)
 
 -- the end
 pub reading-end : (b ws ms : List ℕ) (n at : ℕ) → length b ≤ at →

@@ -9,13 +9,13 @@ use Rattle.model.specs.Base.{pick}
 use Rattle.model.specs.Refusal.{fault, faultAt}
 use Rattle.model.specs.Stored.{elementKind, leafKind, Read, bad, got, readPlan, wordAt, rowIn, lastMarked}
 use Rattle.model.specs.Stored.{rowFault, markFault, recordFault, recorded}
-use Rattle.table.specs.Words.{linkOf, linked, wordOf, decodeParts, Canonical}
+use Rattle.table.specs.Words.{linkOf, ofLink, wordOf, decodeParts, Canonical}
 use Rattle.reader.specs.declared.read.RecordRead.{RecordRead}
 use Rattle.table.specs.declared.End.{End}
 
 -- the last document that marks a row, and one
 abbrev pub lastOf : (marks : List ℕ) → ℕ
-lastOf ms = lastMarked 0 (map linked ms)
+lastOf ms = lastMarked 0 (map ofLink ms)
 
 pub record RowPre (s ws : List ℕ) (n : ℕ) : Type 0 where
   pub whole : 4 ≤ length s

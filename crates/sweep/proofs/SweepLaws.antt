@@ -16,11 +16,11 @@ use Rattle.model.specs.Table as model
 use Rattle.model.specs.Sweep.{isKept, newNumber, keptBefore, renumbered, sweptRows, sweptMarks, swept, through}
 use Rattle.model.proofs.BoolLaws.{by-cases, pick-true, pick-false, or-neither, eq-cases}
 use Rattle.model.proofs.ListLaws.{take-next, drop-next}
-use Rattle.table.specs.Words.{linkOf, linked, wordOf, rowOf, rowsOf, wordsOf, decodeParts, decode, encode, linkIn}
+use Rattle.table.specs.Words.{linkOf, ofLink, wordOf, rowOf, rowsOf, wordsOf, decodeParts, decode, encode, linkIn}
 use Rattle.table.specs.Words as words
 use Rattle.sweep.specs.Sweeping.{planSwept, Flagged, keepsRow, newWord, RowPost, numberOf, Sweeping, newLinks}
 use Rattle.table.specs.declared.Table.{Table}
-use Rattle.table.proofs.WordLaws.{linked-linkOf, withLink-wordOf, wordsOf-snoc, count-decode, take-rows, linked-some}
+use Rattle.table.proofs.WordLaws.{ofLink-linkOf, withLink-wordOf, wordsOf-snoc, count-decode, take-rows, ofLink-some}
 use Rattle.table.proofs.DecodeLaws.{link-low, parent-linked, parent-at, mark-row}
 use Rattle.table.proofs.FittedLaws.{Fits, fits-mark}
 use Rattle.model.proofs.SweepLaws.{newNumber-zero, newNumber-suc, isKept-unrolled, newNumber-le, isKept-marked}
@@ -80,13 +80,13 @@ module _ {x : model.Table} {i next : ℕ} {ns out : List ℕ} (s : Sweeping x i 
       ap (λ (j : ℕ). getD ns j 0) k ∙ s .done (l - 1) h
 
   -- of a kept row it is the new link
-  link-new : (l : ℕ) → ((l ≡ 0 → ⊥) → (l - 1 < i) × (isKept x (l - 1) ≡ true)) → getD ns l 0 ≡ linkOf (renumbered x (linked l))
+  link-new : (l : ℕ) → ((l ≡ 0 → ⊥) → (l - 1 < i) × (isKept x (l - 1) ≡ true)) → getD ns l 0 ≡ linkOf (renumbered x (ofLink l))
   link-new l f =
       eq-cases l 0
-      (λ z. ap (λ (j : ℕ). getD ns j 0) z ∙ s .none ∙ sym (ap (λ (j : ℕ). linkOf (renumbered x (linked j))) z))
+      (λ z. ap (λ (j : ℕ). getD ns j 0) z ∙ s .none ∙ sym (ap (λ (j : ℕ). linkOf (renumbered x (ofLink j))) z))
       (λ z.
       entry-at l z (f z .0) ∙ pick-true (isKept x (l - 1)) _ 0 (f z .1) ∙
-      sym (ap (λ (p : Option ℕ). linkOf (renumbered x p)) (linked-some l z)))
+      sym (ap (λ (p : Option ℕ). linkOf (renumbered x p)) (ofLink-some l z)))
 
 module _ (ws ms : List ℕ) (n i : ℕ) (fits : Fits n ws ms) (size : length ws ≡ 512) (low : i < n) (next : ℕ) (ns out : List ℕ)
     (s : Sweeping (decodeParts n ws ms) i next ns out) where
@@ -122,14 +122,14 @@ module _ (ws ms : List ℕ) (n i : ℕ) (fits : Fits n ws ms) (size : length ws 
           omega (arith, entry-at s link z b, number-low (link - 1), fits .few)
 
   -- what the parent's entry says of it
-  parent-kept : not (eqb (getD ns link 0) 0) ≡ through (isKept x) (linked link)
+  parent-kept : not (eqb (getD ns link 0) 0) ≡ through (isKept x) (ofLink link)
   parent-kept =
       eq-cases link 0
       (λ z. ap (λ (j : ℕ). not (eqb (getD ns j 0) 0)) z ∙ ap (λ (j : ℕ). not (eqb j 0)) (s .none) ∙
-      sym (ap (λ (j : ℕ). through (isKept x) (linked j)) z))
+      sym (ap (λ (j : ℕ). through (isKept x) (ofLink j)) z))
       (λ z.
       ap (λ (j : ℕ). not (eqb j 0)) (entry-at s link z (parent-lower (link - 1) (parent-some z))) ∙
-      keeps-flag (isKept x (link - 1)) (newNumber x (link - 1)) ∙ sym (ap (through (isKept x)) (linked-some link z)))
+      keeps-flag (isKept x (link - 1)) (newNumber x (link - 1)) ∙ sym (ap (through (isKept x)) (ofLink-some link z)))
 
   keeps-kept : keepsRow (getD ws i 0) i ns ≡ isKept x i
   keeps-kept =
@@ -140,7 +140,7 @@ module _ (ws ms : List ℕ) (n i : ℕ) (fits : Fits n ws ms) (size : length ws 
       sym (isKept-unrolled x (fits .well .tree) i)
 
   -- a kept row's parent has its new link
-  parent-new : isKept x i ≡ true → getD ns link 0 ≡ linkOf (renumbered x (linked link))
+  parent-new : isKept x i ≡ true → getD ns link 0 ≡ linkOf (renumbered x (ofLink link))
   parent-new k =
       link-new s link
       (λ z. let p = parent-some z in (parent-lower (link - 1) p, isKept-parent x (fits .well .tree) i (link - 1) p k))
@@ -149,7 +149,7 @@ module _ (ws ms : List ℕ) (n i : ℕ) (fits : Fits n ws ms) (size : length ws 
   before = sweptRows x 0 (take i (rowsOf n ws))
 
   abbrev row : model.Row
-  row = model.withParent (rowOf (getD ws i 0)) (renumbered x (linked link))
+  row = model.withParent (rowOf (getD ws i 0)) (renumbered x (ofLink link))
 
   length-before : length (take i (rowsOf n ws)) ≡ i
   length-before = length-take-le i (rowsOf n ws) (omega (arith, count-decode n ws ms within))
@@ -200,7 +200,7 @@ module _ (ws ms : List ℕ) (n i : ℕ) (fits : Fits n ws ms) (size : length ws 
                 ap (set (wordsOf before) (length before))
                 (withLink-wordOf (getD ws i 0) (getD ns link 0) entry-low (fits .kinds i low within) ∙
                 ap (λ (p : Option ℕ). wordOf (model.withParent (rowOf (getD ws i 0)) p))
-                (ap linked (parent-new k) ∙ linked-linkOf (renumbered x (linked link)))) ∙
+                (ap ofLink (parent-new k) ∙ ofLink-linkOf (renumbered x (ofLink link)))) ∙
                 sym (wordsOf-snoc before row (omega (arith, swept-length, next-low, fits .few))));
           }
         where
@@ -266,27 +266,27 @@ module _ (ws ms : List ℕ) (n : ℕ) (fits : Fits n ws ms) (size : length ws �
   all-within : n ≤ length ws
   all-within = omega (arith, size, fits .few)
 
-  mark-new : (d : ℕ) → getD ns (getD ms d 0) 0 ≡ linkOf (renumbered plan (linked (getD ms d 0)))
+  mark-new : (d : ℕ) → getD ns (getD ms d 0) 0 ≡ linkOf (renumbered plan (ofLink (getD ms d 0)))
   mark-new d =
       link-new s (getD ms d 0)
       (λ z. (
         omega (arith, fits-mark n ws ms fits all-within d, z),
-        isKept-marked plan (fits .well .tree) (getD ms d 0 - 1) (any-by (getD ms d 0 - 1) (map linked ms) d (mark-row ms d z)),
+        isKept-marked plan (fits .well .tree) (getD ms d 0 - 1) (any-by (getD ms d 0 - 1) (map ofLink ms) d (mark-row ms d z)),
       ))
 
-  links-swept : newLinks ns ms ≡ map linkOf (sweptMarks plan (map linked ms))
-  links-swept = ext-getD 0 (newLinks ns ms) (map linkOf (sweptMarks plan (map linked ms))) same-length same-at
+  links-swept : newLinks ns ms ≡ map linkOf (sweptMarks plan (map ofLink ms))
+  links-swept = ext-getD 0 (newLinks ns ms) (map linkOf (sweptMarks plan (map ofLink ms))) same-length same-at
     where
-      same-length : length (newLinks ns ms) ≡ length (map linkOf (sweptMarks plan (map linked ms)))
+      same-length : length (newLinks ns ms) ≡ length (map linkOf (sweptMarks plan (map ofLink ms)))
       same-length =
           length-map ms (λ (m : ℕ). getD ns m 0) ∙
-          sym (length-map (sweptMarks plan (map linked ms)) linkOf ∙ length-map (map linked ms) (renumbered plan) ∙ length-map ms linked)
+          sym (length-map (sweptMarks plan (map ofLink ms)) linkOf ∙ length-map (map ofLink ms) (renumbered plan) ∙ length-map ms ofLink)
 
-      same-at : (d : ℕ) → d < length (newLinks ns ms) → getD (newLinks ns ms) d 0 ≡ getD (map linkOf (sweptMarks plan (map linked ms))) d 0
+      same-at : (d : ℕ) → d < length (newLinks ns ms) → getD (newLinks ns ms) d 0 ≡ getD (map linkOf (sweptMarks plan (map ofLink ms))) d 0
       same-at d h =
           ap (getD (newLinks ns ms) d) (sym (s .none)) ∙ List·getD-map (λ (m : ℕ). getD ns m 0) ms d 0 ∙ mark-new d ∙
-          sym (List·getD-map linkOf (sweptMarks plan (map linked ms)) d none ∙
-          ap linkOf (List·getD-map (renumbered plan) (map linked ms) d none ∙ ap (renumbered plan) (List·getD-map linked ms d 0)))
+          sym (List·getD-map linkOf (sweptMarks plan (map ofLink ms)) d none ∙
+          ap linkOf (List·getD-map (renumbered plan) (map ofLink ms) d none ∙ ap (renumbered plan) (List·getD-map ofLink ms d 0)))
 
   rows-all : sweptRows plan 0 (take n (rowsOf n ws)) ≡ sweptRows plan 0 (rowsOf n ws)
   rows-all = ap (sweptRows plan 0) (take-all n (rowsOf n ws) (omega (arith, count-decode n ws ms all-within)))

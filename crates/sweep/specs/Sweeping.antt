@@ -12,7 +12,7 @@ use Rattle.model.specs.Table as model
 use Rattle.model.specs.Refusal as refusal
 use Rattle.model.specs.Sweep.{swept, isKept, newNumber, sweptRows}
 use Rattle.table.specs.Flags.{Flags}
-use Rattle.table.specs.Words.{linked, withLink, wordsOf, decode, partsFit, fits, linkIn}
+use Rattle.table.specs.Words.{ofLink, withLink, wordsOf, decode, partsFit, fits, linkIn}
 use Rattle.table.specs.Results.{result, withTable}
 use Rattle.table.specs.declared.Table.{Table}
 use Rattle.table.specs.declared.TableResult.{TableResult}
@@ -32,7 +32,7 @@ pub record FlagPre (ns ms : List ℕ) : Type 0 where
 
 -- the numbers are the flags of the rows that marks link to
 abbrev pub Flagged : (marks numbers : List ℕ) → Type 0
-Flagged ms ns = Flags (λ (k : ℕ). any (model.isThe k) (map linked ms)) ns
+Flagged ms ns = Flags (λ (k : ℕ). any (model.isThe k) (map ofLink ms)) ns
 
 -- ONE ROW, from its flag and its parent's entry
 abbrev pub keeps : (flag parent : ℕ) → Bool

@@ -12,9 +12,9 @@ use Rattle.model.specs.Base.{any}
 use Rattle.model.specs.Table as model
 use Rattle.model.specs.Stored.{wordBytes, parentBytes}
 use Rattle.model.proofs.BoolLaws.{and-left, by-cases, eq-cases, eqb-iff}
-use Rattle.table.specs.Words.{linkOf, linked, wordOf, rowsOf, decodeParts, kindIn, linkIn}
+use Rattle.table.specs.Words.{linkOf, ofLink, wordOf, rowsOf, decodeParts, kindIn, linkIn}
 use Rattle.table.specs.Fitting.{isElementBelow, isRootBelow}
-use Rattle.table.proofs.WordLaws.{linked-linkOf, count-decode, rowAt-decode, rowsOf-push, linked-some}
+use Rattle.table.proofs.WordLaws.{ofLink-linkOf, count-decode, rowAt-decode, rowsOf-push, ofLink-some}
 use Rattle.model.proofs.ListLaws.{map-set, any-snoc, drop-next}
 
 -- an element below a bound is below it
@@ -40,16 +40,16 @@ module _ (n : ℕ) (ws ms : List ℕ) (within : n ≤ length ws) (p : ℕ) where
       (ap (λ (t : Bool). not (eqb (kindIn (getD ws p 0)) 2) && t) (root (linkIn (getD ws p 0)))))
       (λ e. rw (count-decode n ws ms within, e))
     where
-      root : (l : ℕ) → not (model.hasParent (linked l)) ≡ eqb l 0
+      root : (l : ℕ) → not (model.hasParent (ofLink l)) ≡ eqb l 0
       root l = by-cases (eqb l 0) (λ t. rw t) (λ t. rw t)
 
 -- a row's parent, from the link in its word
 module _ (n : ℕ) (ws ms : List ℕ) (within : n ≤ length ws) (i : ℕ) (h : i < n) where
-  pub parent-linked : model.rowAt (decodeParts n ws ms) i .parent ≡ linked (linkIn (getD ws i 0))
+  pub parent-linked : model.rowAt (decodeParts n ws ms) i .parent ≡ ofLink (linkIn (getD ws i 0))
   parent-linked = ap (λ (r : model.Row). r .parent) (rowAt-decode n ws ms within i h)
 
   pub parent-at : (linkIn (getD ws i 0) ≡ 0 → ⊥) → model.rowAt (decodeParts n ws ms) i .parent ≡ some (linkIn (getD ws i 0) - 1)
-  parent-at z = parent-linked ∙ linked-some (linkIn (getD ws i 0)) z
+  parent-at z = parent-linked ∙ ofLink-some (linkIn (getD ws i 0)) z
 
   -- a lower parent's link is at most the row's number
   pub link-low : ((p : ℕ) → model.rowAt (decodeParts n ws ms) i .parent ≡ some p → p < i) → linkIn (getD ws i 0) ≤ i
@@ -58,45 +58,45 @@ module _ (n : ℕ) (ws ms : List ℕ) (within : n ≤ length ws) (i : ℕ) (h : 
       (λ e. omega (arith, lower (linkIn (getD ws i 0) - 1) (parent-at e)))
 
 -- the row that a document marks
-pub mark-row : (ms : List ℕ) (d : ℕ) → (getD ms d 0 ≡ 0 → ⊥) → getD (map linked ms) d none ≡ some (getD ms d 0 - 1)
-mark-row ms d z = List·getD-map linked ms d 0 ∙ linked-some (getD ms d 0) z
+pub mark-row : (ms : List ℕ) (d : ℕ) → (getD ms d 0 ≡ 0 → ⊥) → getD (map ofLink ms) d none ≡ some (getD ms d 0 - 1)
+mark-row ms d z = List·getD-map ofLink ms d 0 ∙ ofLink-some (getD ms d 0) z
 
 -- whether a row is marked, one mark after another
-pub isThe-linked : (k m : ℕ) → model.isThe k (linked m) ≡ eqb m (k + 1)
+pub isThe-linked : (k m : ℕ) → model.isThe k (ofLink m) ≡ eqb m (k + 1)
 isThe-linked k m =
     eq-cases m 0 (λ e. rw e (sym (ne-eqb 0 (k + 1) (λ q. omega arith))))
-    (λ z. ap (model.isThe k) (linked-some m z) ∙ eqb-iff (m - 1) k m (k + 1) (λ e. omega (arith, z)) (λ e. omega arith))
+    (λ z. ap (model.isThe k) (ofLink-some m z) ∙ eqb-iff (m - 1) k m (k + 1) (λ e. omega (arith, z)) (λ e. omega arith))
 
 pub marked-turn : (ms : List ℕ) (d link : ℕ) → d < length ms → 0 < link →
-    any (model.isThe (link - 1)) (map linked (drop d ms)) ≡ (eqb (getD ms d 0) link || any (model.isThe (link - 1)) (map linked (drop (d
+    any (model.isThe (link - 1)) (map ofLink (drop d ms)) ≡ (eqb (getD ms d 0) link || any (model.isThe (link - 1)) (map ofLink (drop (d
     + 1) ms)))
 unfolding any
 marked-turn ms d link h l =
     let e : link - 1 + 1 ≡ link = omega arith in
     rw (drop-next ms d 0 h, isThe-linked (link - 1) (getD ms d 0), e)
 
-pub marked-none : (ms : List ℕ) (d link : ℕ) → length ms ≤ d → any (model.isThe (link - 1)) (map linked (drop d ms)) ≡ false
+pub marked-none : (ms : List ℕ) (d link : ℕ) → length ms ≤ d → any (model.isThe (link - 1)) (map ofLink (drop d ms)) ≡ false
 unfolding any
 marked-none ms d link h = rw (drop-of-length-le ms h)
 
 pub marked-snoc : (ms : List ℕ) (m k : ℕ) →
-    any (model.isThe k) (map linked (ms ++ (m ∷ []))) ≡ (any (model.isThe k) (map linked ms) || eqb m (k + 1))
+    any (model.isThe k) (map ofLink (ms ++ (m ∷ []))) ≡ (any (model.isThe k) (map ofLink ms) || eqb m (k + 1))
 marked-snoc ms m k =
-    ap (any (model.isThe k)) (map-append linked ms (m ∷ [])) ∙ any-snoc (model.isThe k) (map linked ms) (linked m) ∙
-    ap (λ (t : Bool). any (model.isThe k) (map linked ms) || t) (isThe-linked k m)
+    ap (any (model.isThe k)) (map-append ofLink ms (m ∷ [])) ∙ any-snoc (model.isThe k) (map ofLink ms) (ofLink m) ∙
+    ap (λ (t : Bool). any (model.isThe k) (map ofLink ms) || t) (isThe-linked k m)
 
 -- the table with a mark more, and with a row more
 pub decode-mark : (n d i : ℕ) (ws ms : List ℕ) → decodeParts n ws (set ms d (i + 1)) ≡ model.withMark (decodeParts n ws ms) d i
 decode-mark n d i ws ms =
-    ap (model.table (rowsOf n ws)) (map-set linked ms d (i + 1) ∙ ap (set (map linked ms) d) (linked-linkOf (some i)))
+    ap (model.table (rowsOf n ws)) (map-set ofLink ms d (i + 1) ∙ ap (set (map ofLink ms) d) (ofLink-linkOf (some i)))
 
 pub decode-row : (n : ℕ) (r : model.Row) (ws ms : List ℕ) → n < length ws → linkOf (r .parent) < 1024 →
     decodeParts (n + 1) (set ws n (wordOf r)) ms ≡ model.withRow (decodeParts n ws ms) r
-decode-row n r ws ms h f = ap (λ (rs : List model.Row). model.table rs (map linked ms)) (rowsOf-push n ws r h f)
+decode-row n r ws ms h f = ap (λ (rs : List model.Row). model.table rs (map ofLink ms)) (rowsOf-push n ws r h f)
 
 -- the number stored for the parent with a link
-pub parent-none : (l : ℕ) → l ≡ 0 → wordBytes 65535 ≡ parentBytes (linked l)
+pub parent-none : (l : ℕ) → l ≡ 0 → wordBytes 65535 ≡ parentBytes (ofLink l)
 parent-none l h = rw h
 
-pub parent-some : (l : ℕ) → (l ≡ 0 → ⊥) → wordBytes (l - 1) ≡ parentBytes (linked l)
+pub parent-some : (l : ℕ) → (l ≡ 0 → ⊥) → wordBytes (l - 1) ≡ parentBytes (ofLink l)
 parent-some l h = rw (ne-eqb l 0 h)

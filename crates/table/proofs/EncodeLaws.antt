@@ -13,8 +13,8 @@ use Rattle.model.specs.Table as model
 use Rattle.model.proofs.BoolLaws.{and-both}
 use Rattle.model.proofs.ListLaws.{map-back}
 use Rattle.model.proofs.TableLaws.{Well, isWell-at, parent-count}
-use Rattle.table.specs.Words.{linkOf, linked, wordOf, rowOf, isRowWord, isZero, wordsOf, encode, decode, fits}
-use Rattle.table.proofs.WordLaws.{linked-linkOf, rowOf-wordOf, isRowWord-wordOf}
+use Rattle.table.specs.Words.{linkOf, ofLink, wordOf, rowOf, isRowWord, isZero, wordsOf, encode, decode, fits}
+use Rattle.table.proofs.WordLaws.{ofLink-linkOf, rowOf-wordOf, isRowWord-wordOf}
 
 -- every parent's link fits its 10 bits
 well-links : (x : model.Table) → Well x → (k : ℕ) → linkOf (model.rowAt x k .parent) < 1024
@@ -33,10 +33,10 @@ behind rs = drop-at (map wordOf rs) (replicate (512 - length rs) 0) (length rs) 
 
 pub decode-encode : (x : model.Table) → model.isWell x ≡ true → decode (encode x) ≡ x
 decode-encode x h =
-    ap (λ (l : List ℕ). model.table (map rowOf l) (map linked (map linkOf (x .marks)))) (front (x .rows)) ∙
-    ap (λ (l : List model.Row). model.table l (map linked (map linkOf (x .marks))))
+    ap (λ (l : List ℕ). model.table (map rowOf l) (map ofLink (map linkOf (x .marks)))) (front (x .rows)) ∙
+    ap (λ (l : List model.Row). model.table l (map ofLink (map linkOf (x .marks))))
     (map-back wordOf rowOf (x .rows) model.noRow (λ k b. rowOf-wordOf _ (well-links x (isWell-at x h) k))) ∙
-    ap (model.table (x .rows)) (map-back linkOf linked (x .marks) none (λ k b. linked-linkOf _))
+    ap (model.table (x .rows)) (map-back linkOf ofLink (x .marks) none (λ k b. ofLink-linkOf _))
 
 -- WORDS of rows are words of rows, and the rest is zero
 rows-words : (rs : List model.Row) → all isRowWord (map wordOf rs) ≡ true

@@ -11,7 +11,7 @@ use lib.Seq.{drop-cons}
 use borrow.Author.Tests.{le-leb, eq-eqb, ne-eqb}
 use Rattle.model.specs.Base.{pick, isIn, all, any}
 use Rattle.model.specs.Table as model
-use Rattle.table.specs.Words.{linked, isRowWord, isZero, rowOf, rowsOf, decodeParts, partsFit, kindIn, linkIn, tagIn}
+use Rattle.table.specs.Words.{ofLink, isRowWord, isZero, rowOf, rowsOf, decodeParts, partsFit, kindIn, linkIn, tagIn}
 use Rattle.table.specs.Fitting.{Words, tagFits, linkFits, rowFits, rowsFit, markFits, isRepeated, marksFit}
 use Rattle.model.proofs.BoolLaws.{by-cases}
 use Rattle.model.proofs.ListLaws.{drop-next}
@@ -50,7 +50,7 @@ marks-end ws n ms d h = ap (marksFit ws n) (drop-of-length-le ms h)
 pub repeated-none : (m : ℕ) (ms : List ℕ) → m ≡ 0 → isRepeated m ms ≡ false
 repeated-none m ms h = rw h
 
-pub repeated-some : (m : ℕ) (ms : List ℕ) → (m ≡ 0 → ⊥) → isRepeated m ms ≡ any (model.isThe (m - 1)) (map linked ms)
+pub repeated-some : (m : ℕ) (ms : List ℕ) → (m ≡ 0 → ⊥) → isRepeated m ms ≡ any (model.isThe (m - 1)) (map ofLink ms)
 repeated-some m ms h = rw (ne-eqb m 0 h)
 
 pub marks-go : (ws : List ℕ) (n : ℕ) (ms : List ℕ) (d : ℕ) (z : Bool) → d < length ms → markFits ws n (getD ms d 0) ≡ true →
@@ -74,7 +74,7 @@ tag-word w = tag-kind (kindIn w) (tagIn w) (omega arith)
 
 -- the parent, of a row below the count
 module _ (n : ℕ) (ws ms : List ℕ) (within : n ≤ length ws) where
-  link-word : (i l : ℕ) → i < n → model.parentFits (decodeParts n ws ms) i (linked l) ≡ linkFits ws i l
+  link-word : (i l : ℕ) → i < n → model.parentFits (decodeParts n ws ms) i (ofLink l) ≡ linkFits ws i l
   link-word i l h = by-cases (eqb l 0) (λ e. rw e) (λ e. rw e (element-below n ws ms within (l - 1) i (omega arith)))
 
   -- the rows from i on
@@ -87,9 +87,9 @@ module _ (n : ℕ) (ws ms : List ℕ) (within : n ≤ length ws) where
       let g : i < length ws = omega arith in
       rw (drop-cons ws i 0 g)
       (shuffle (isRowWord (getD ws i 0)) (all isRowWord (take k (drop (suc i) ws))) (model.tagFits (rowOf (getD ws i 0)))
-      (model.parentFits (decodeParts n ws ms) i (linked (linkIn (getD ws i 0))))
+      (model.parentFits (decodeParts n ws ms) i (ofLink (linkIn (getD ws i 0))))
       (model.rowsFit (decodeParts n ws ms) (suc i) (map rowOf (take k (drop (suc i) ws)))) ∙
-      ap (λ (t : Bool). t && model.parentFits (decodeParts n ws ms) i (linked (linkIn (getD ws i 0))) &&
+      ap (λ (t : Bool). t && model.parentFits (decodeParts n ws ms) i (ofLink (linkIn (getD ws i 0))) &&
       (all isRowWord (take k (drop (suc i) ws)) && model.rowsFit (decodeParts n ws ms) (suc i) (map rowOf (take k (drop (suc i) ws)))))
       (tag-word (getD ws i 0)) ∙
       ap (λ (t : Bool). tagFits (getD ws i 0) && t &&
@@ -103,24 +103,24 @@ module _ (n : ℕ) (ws ms : List ℕ) (within : n ≤ length ws) where
       shuffle false b c d e = refl
 
   -- one mark
-  mark-word : (m : ℕ) → model.markFits (decodeParts n ws ms) (linked m) ≡ markFits ws n m
+  mark-word : (m : ℕ) → model.markFits (decodeParts n ws ms) (ofLink m) ≡ markFits ws n m
   mark-word m = by-cases (eqb m 0) (λ e. rw e) (λ e. rw e (root-below n ws ms within (m - 1)))
 
   -- all marks
   marks-words : (vs : List ℕ) →
-      (all (model.markFits (decodeParts n ws ms)) (map linked vs) && model.noneTwice (map linked vs)) ≡ marksFit ws n vs
+      (all (model.markFits (decodeParts n ws ms)) (map ofLink vs) && model.noneTwice (map ofLink vs)) ≡ marksFit ws n vs
   unfolding all model.noneTwice marksFit
   marks-words [] = refl
   marks-words (m ∷ vs) =
-      ap (λ (t : Bool). t && all (model.markFits (decodeParts n ws ms)) (map linked vs) && model.noneTwice (map linked (m ∷ vs)))
+      ap (λ (t : Bool). t && all (model.markFits (decodeParts n ws ms)) (map ofLink vs) && model.noneTwice (map ofLink (m ∷ vs)))
       (mark-word m) ∙
-      ap (λ (t : Bool). markFits ws n m && all (model.markFits (decodeParts n ws ms)) (map linked vs) && t) (twice (eqb m 0) refl) ∙
-      shuffle (markFits ws n m) (all (model.markFits (decodeParts n ws ms)) (map linked vs)) (not (isRepeated m vs)) (model.noneTwice
-      (map linked vs)) ∙
+      ap (λ (t : Bool). markFits ws n m && all (model.markFits (decodeParts n ws ms)) (map ofLink vs) && t) (twice (eqb m 0) refl) ∙
+      shuffle (markFits ws n m) (all (model.markFits (decodeParts n ws ms)) (map ofLink vs)) (not (isRepeated m vs)) (model.noneTwice
+      (map ofLink vs)) ∙
       ap (λ (t : Bool). markFits ws n m && not (isRepeated m vs) && t) (marks-words vs)
     where
-      twice : (t : Bool) → eqb m 0 ≡ t → model.noneTwice (linked m ∷ map linked vs) ≡ (not (isRepeated m vs) && model.noneTwice (map
-          linked vs))
+      twice : (t : Bool) → eqb m 0 ≡ t → model.noneTwice (ofLink m ∷ map ofLink vs) ≡ (not (isRepeated m vs) && model.noneTwice (map
+          ofLink vs))
       twice true e = rw e
       twice false e = rw e
 
@@ -135,13 +135,13 @@ pub parts-fit : (n : ℕ) (ws ms : List ℕ) → Words ws ms → n ≤ 512 →
 parts-fit n ws ms size h =
     let w : n ≤ length ws = omega (arith, size .rows) in
     let k : model.count (decodeParts n ws ms) ≤ 512 = omega (arith, count-decode n ws ms w) in
-    let d : length (map linked ms) ≡ 8 = length-map ms linked ∙ size .marks in
+    let d : length (map ofLink ms) ≡ 8 = length-map ms ofLink ∙ size .marks in
     let z : 0 + n ≡ n = omega arith in
-    rw (le-leb n 512 h, le-leb (model.count (decodeParts n ws ms)) 512 k, eq-eqb (length (map linked ms)) 8 d)
+    rw (le-leb n 512 h, le-leb (model.count (decodeParts n ws ms)) 512 k, eq-eqb (length (map ofLink ms)) 8 d)
     (shuffle (all isRowWord (take n ws)) (all isZero (drop n ws)) (model.rowsFit (decodeParts n ws ms) 0 (rowsOf n ws))
-    (all (model.markFits (decodeParts n ws ms)) (map linked ms)) (model.noneTwice (map linked ms)) ∙
-    ap (λ (t : Bool). t && all isZero (drop n ws) && (all (model.markFits (decodeParts n ws ms)) (map linked ms) && model.noneTwice (map
-    linked ms)))
+    (all (model.markFits (decodeParts n ws ms)) (map ofLink ms)) (model.noneTwice (map ofLink ms)) ∙
+    ap (λ (t : Bool). t && all isZero (drop n ws) && (all (model.markFits (decodeParts n ws ms)) (map ofLink ms) && model.noneTwice (map
+    ofLink ms)))
     (rows-words n ws ms w 0 n z) ∙
     ap (λ (t : Bool). rowsFit ws 0 n && all isZero (drop n ws) && t) (marks-words n ws ms w ms))
   where

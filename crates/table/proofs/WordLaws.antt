@@ -17,20 +17,20 @@ use Rattle.model.specs.Table as model
 use Rattle.model.proofs.BoolLaws.{and-left, and-right, by-cases, pick-ne}
 use Rattle.model.proofs.TestLaws.{isIn-at, isIn-by}
 use Rattle.model.proofs.ListLaws.{map-set, map-back, take-next, take-set, all-getD}
-use Rattle.table.specs.Words.{linkOf, linked, wordOf, rowOf, isRowWord, withLink, isZero, rowsOf, decodeParts, wordsOf}
+use Rattle.table.specs.Words.{linkOf, ofLink, wordOf, rowOf, isRowWord, withLink, isZero, rowsOf, decodeParts, wordsOf}
 use Rattle.table.specs.Words.{encode, Canonical, kindIn, linkIn, tagIn}
 
 -- LINKS
-pub linked-linkOf : (p : Option ℕ) → linked (linkOf p) ≡ p
-linked-linkOf none = refl
-linked-linkOf (some p) = rw (ne-eqb (p + 1) 0 (λ e. omega arith)) (ap some (omega arith))
+pub ofLink-linkOf : (p : Option ℕ) → ofLink (linkOf p) ≡ p
+ofLink-linkOf none = refl
+ofLink-linkOf (some p) = rw (ne-eqb (p + 1) 0 (λ e. omega arith)) (ap some (omega arith))
 
-pub linkOf-linked : (n : ℕ) → linkOf (linked n) ≡ n
-linkOf-linked zero = refl
-linkOf-linked (suc n) = rw (ne-eqb (suc n) 0 (λ e. omega arith)) (omega arith)
+pub linkOf-ofLink : (n : ℕ) → linkOf (ofLink n) ≡ n
+linkOf-ofLink zero = refl
+linkOf-ofLink (suc n) = rw (ne-eqb (suc n) 0 (λ e. omega arith)) (omega arith)
 
-pub linked-some : (l : ℕ) → (l ≡ 0 → ⊥) → linked l ≡ some (l - 1)
-linked-some l z = pick-ne none (some (l - 1)) z
+pub ofLink-some : (l : ℕ) → (l ≡ 0 → ⊥) → ofLink l ≡ some (l - 1)
+ofLink-some l z = pick-ne none (some (l - 1)) z
 
 -- A ROW AND ITS WORD, where the parent's link fits its 10 bits
 
@@ -57,11 +57,11 @@ link-word r f = go (r .isLeaf)
 
 pub rowOf-wordOf : (r : model.Row) → linkOf (r .parent) < 1024 → rowOf (wordOf r) ≡ r
 rowOf-wordOf r f =
-    λ i. record { isLeaf = kind-word r f i; tag = tag-word r f i; parent = (ap linked (link-word r f) ∙ linked-linkOf (r .parent)) i }
+    λ i. record { isLeaf = kind-word r f i; tag = tag-word r f i; parent = (ap ofLink (link-word r f) ∙ ofLink-linkOf (r .parent)) i }
 
 pub wordOf-rowOf : (w : ℕ) → isRowWord w ≡ true → wordOf (rowOf w) ≡ w
 wordOf-rowOf w h =
-    ap (λ (n : ℕ). pick (eqb (kindIn w) 2) 2 1 + 4 * n + 4096 * tagIn w) (linkOf-linked (linkIn w)) ∙
+    ap (λ (n : ℕ). pick (eqb (kindIn w) 2) 2 1 + 4 * n + 4096 * tagIn w) (linkOf-ofLink (linkIn w)) ∙
     by-cases (eqb (kindIn w) 2) (λ e. rw e (omega (arith, eqb-true (kindIn w) 2 e)))
     (λ e. rw e (omega (arith, eqb-false (kindIn w) 2 e, isIn-at 1 2 (kindIn w) h)))
 
@@ -85,19 +85,19 @@ module _ (w l : ℕ) (small : l < 1024) where
   kind-withLink : kindIn (withLink w l) ≡ kindIn w
   kind-withLink = omega arith
 
-  pub rowOf-withLink : rowOf (withLink w l) ≡ model.withParent (rowOf w) (linked l)
+  pub rowOf-withLink : rowOf (withLink w l) ≡ model.withParent (rowOf w) (ofLink l)
   rowOf-withLink =
       let b : tagIn (withLink w l) ≡ tagIn w = omega arith in
       let d : withLink w l / 4 ≡ l + 1024 * tagIn w = omega arith in
       let e : (l + 1024 * tagIn w) % 1024 ≡ l = omega arith in
       let c : linkIn (withLink w l) ≡ l = ap (λ (j : ℕ). j % 1024) d ∙ e in
-      λ i. record { isLeaf = eqb (kind-withLink i) 2; tag = b i; parent = linked (c i) }
+      λ i. record { isLeaf = eqb (kind-withLink i) 2; tag = b i; parent = ofLink (c i) }
 
   module _ (word : isRowWord w ≡ true) where
     isRowWord-withLink : isRowWord (withLink w l) ≡ true
     isRowWord-withLink = ap (isIn 1 2) kind-withLink ∙ word
 
-    pub withLink-wordOf : withLink w l ≡ wordOf (model.withParent (rowOf w) (linked l))
+    pub withLink-wordOf : withLink w l ≡ wordOf (model.withParent (rowOf w) (ofLink l))
     withLink-wordOf = sym (wordOf-rowOf (withLink w l) isRowWord-withLink) ∙ ap wordOf rowOf-withLink
 
 -- TABLES: rows are counted and read off the words
@@ -173,13 +173,13 @@ module _ (n : ℕ) (ws : List ℕ) (canonical : Canonical n ws) (within : n ≤ 
     rowsOf-linked : rowsOf n (set ws i w) ≡ set (rowsOf n ws) i (rowOf w)
     rowsOf-linked = ap (map rowOf) (take-set-lt n ws i w l) ∙ map-set rowOf (take n ws) i w
 
-    pub decode-linked : (ms : List ℕ) → decodeParts n (set ws i w) ms ≡ model.linked (decodeParts n ws ms) i (linked link)
+    pub decode-linked : (ms : List ℕ) → decodeParts n (set ws i w) ms ≡ model.linked (decodeParts n ws ms) i (ofLink link)
     decode-linked ms =
-        ap (λ (rs : List model.Row). model.table rs (map linked ms))
+        ap (λ (rs : List model.Row). model.table rs (map ofLink ms))
         (rowsOf-linked ∙
         ap (set (rowsOf n ws) i)
         (rowOf-withLink (getD ws i 0) link small ∙
-        ap (λ (r : model.Row). model.withParent r (linked link)) (sym (rowAt-decode n ws ms within i l))))
+        ap (λ (r : model.Row). model.withParent r (ofLink link)) (sym (rowAt-decode n ws ms within i l))))
 
     pub canonical-linked : Canonical n (set ws i w)
     canonical-linked =
@@ -234,10 +234,10 @@ module _ (n : ℕ) (ws : List ℕ) (canonical : Canonical n ws) (size : length w
       sym (set-set (wordsOf less) (n - 1) (wordOf (rowOf (getD ws (n - 1) 0))) 0) ∙ ap (λ (v : List ℕ). set v (n - 1) 0) put-back
 
   pub decode-pop : (ms : List ℕ) →
-      decodeParts (n - 1) (set ws (n - 1) 0) ms ≡ model.table (take (model.count (decodeParts n ws ms) - 1) (rowsOf n ws)) (map linked ms)
+      decodeParts (n - 1) (set ws (n - 1) 0) ms ≡ model.table (take (model.count (decodeParts n ws ms) - 1) (rowsOf n ws)) (map ofLink ms)
   decode-pop ms =
       let e : model.count (decodeParts n ws ms) - 1 ≡ n - 1 = omega (arith, count-decode n ws ms (omega arith)) in
-      ap (λ (rs : List model.Row). model.table rs (map linked ms))
+      ap (λ (rs : List model.Row). model.table rs (map ofLink ms))
       (rows-less ∙ sym (ap (λ (j : ℕ). take j (rowsOf n ws)) e ∙ rows-take (n - 1) n ws (omega arith)))
 
 -- words of rows with zeros behind them are canonical
@@ -260,4 +260,4 @@ canonical-words n ws h l f e =
 pub encode-decode : (n : ℕ) (ws ms : List ℕ) → n ≤ length ws → Canonical n ws →
     encode (decodeParts n ws ms) ≡ record { count = n; rows = ws; marks = ms }
 encode-decode n ws ms h e =
-    λ i. record { count = count-decode n ws ms h i; rows = e i; marks = map-back linked linkOf ms 0 (λ k b. linkOf-linked _) i }
+    λ i. record { count = count-decode n ws ms h i; rows = e i; marks = map-back ofLink linkOf ms 0 (λ k b. linkOf-ofLink _) i }

@@ -8,7 +8,7 @@ use lib.ListN.{length, getD}
 use Rattle.model.specs.Limits.{maxRows, documents}
 use Rattle.model.specs.Base.{pick, any}
 use Rattle.model.specs.Table.{isThe}
-use Rattle.table.specs.Words.{linked, kindIn, linkIn, tagIn, leafWord, elementWord}
+use Rattle.table.specs.Words.{ofLink, kindIn, linkIn, tagIn, leafWord, elementWord}
 
 -- rows and marks as they stand in a table
 pub record Words (ws ms : List ℕ) : Type 0 where
@@ -46,7 +46,7 @@ markFits ws n l = eqb l 0 || isRootBelow ws n (l - 1)
 
 -- a row's link stands again among marks
 abbrev pub isRepeated : (link : ℕ) → (marks : List ℕ) → Bool
-isRepeated l ms = not (eqb l 0) && any (isThe (l - 1)) (map linked ms)
+isRepeated l ms = not (eqb l 0) && any (isThe (l - 1)) (map ofLink ms)
 
 -- every mark fits, and none stands again behind it
 unfoldable pub marksFit : (words : List ℕ) → (count : ℕ) → (marks : List ℕ) → Bool

@@ -17,8 +17,8 @@ linkOf none = 0
 linkOf (some p) = p + 1
 
 -- the parent or mark of a link
-abbrev pub linked : ℕ → Option ℕ
-linked n = pick (eqb n 0) none (some (n - 1))
+abbrev pub ofLink : ℕ → Option ℕ
+ofLink n = pick (eqb n 0) none (some (n - 1))
 
 -- A WORD holds a row: kind (1 element, 2 leaf) in 2 bits, the parent's link in 10, name or value above
 abbrev pub elementWord : ℕ
@@ -46,7 +46,7 @@ wordOf r = pick (r .isLeaf) leafWord elementWord + 4 * linkOf (r .parent) + 4096
 
 -- the row of a word
 abbrev pub rowOf : ℕ → model.Row
-rowOf w = record { isLeaf = eqb (kindIn w) leafWord; tag = tagIn w; parent = linked (linkIn w) }
+rowOf w = record { isLeaf = eqb (kindIn w) leafWord; tag = tagIn w; parent = ofLink (linkIn w) }
 
 -- a word of a row, by its kind
 abbrev pub isRowWord : ℕ → Bool
@@ -70,7 +70,7 @@ rowsOf n ws = map rowOf (take n ws)
 
 -- the table of a count, words and marks
 abbrev pub decodeParts : (count : ℕ) → (words marks : List ℕ) → model.Table
-decodeParts n ws ms = model.table (rowsOf n ws) (map linked ms)
+decodeParts n ws ms = model.table (rowsOf n ws) (map ofLink ms)
 
 -- the table that its words stand for
 abbrev pub decode : Table → model.Table

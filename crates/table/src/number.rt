@@ -3,7 +3,7 @@ ghost use mathlib.Core.Path.{_≡_};
 ghost use Prim.Native.Nat.{_+_, _<_};
 ghost use lib.ListN.{length};
 ghost use Rattle.model.specs.Stored.{wordAt, wordBytes, parentBytes};
-ghost use Rattle.table.specs.Words.{linked};
+ghost use Rattle.table.specs.Words.{ofLink};
 
 // Stored for the parent where there is none.
 pub const NONE: usize = 0xFFFF;
@@ -44,7 +44,7 @@ pub fn number_at(s: &[u8], at: usize) -> usize
 // The number stored for the parent with this link.
 pub fn parent(link: usize) -> usize
     requires { ⌜ link < 1024 ⌝ }
-    ensures { λ r. ⌜ wordBytes r ≡ parentBytes (linked link) ⌝ }
+    ensures { λ r. ⌜ wordBytes r ≡ parentBytes (ofLink link) ⌝ }
     ensures { λ r. ⌜ r < 65536 ⌝ }
 {
     if link == 0 {

@@ -18,7 +18,7 @@ use Rattle.model.specs.Undo.{historySize, recordIn, Placed, Formed, broken, for
 use Rattle.model.specs.Undo.{cutIn, madeIn, madeFits, oldParentFits, cutFits, Undo, refused, undoAll, backwards, undo}
 use Rattle.model.proofs.ListLaws.{drop-all, drop-first}
 use Rattle.model.proofs.BoolLaws.{by-cases, pick-true, eq-cases, pick-eq, pick-ne}
-use Rattle.table.specs.Words.{linked, decodeParts, kindIn, linkIn, tagIn}
+use Rattle.table.specs.Words.{ofLink, decodeParts, kindIn, linkIn, tagIn}
 use Rattle.table.specs.Fitting.{isElementBelow}
 use Rattle.table.proofs.WordLaws.{count-decode, rowAt-decode}
 use Rattle.table.proofs.DecodeLaws.{element-below}
@@ -256,16 +256,16 @@ kind-leaf w k e = rw e
 pub kind-element : (w k : ℕ) → (kindIn w ≡ 2 → ⊥) → not (eqb k 66) ≡ sameBool (eqb (kindIn w) 2) (eqb k 66)
 kind-element w k e = rw (ne-eqb (kindIn w) 2 e)
 
-pub parent-none : (l v : ℕ) → v ≡ 65535 → eqb l 0 ≡ sameParent (linked l) (parentIn v)
+pub parent-none : (l v : ℕ) → v ≡ 65535 → eqb l 0 ≡ sameParent (ofLink l) (parentIn v)
 parent-none l v e = rw (eq-eqb v 65535 e) (by-cases (eqb l 0) (λ z. rw z) (λ z. rw z))
 
-pub parent-some : (l v : ℕ) → (v ≡ 65535 → ⊥) → eqb l (v + 1) ≡ sameParent (linked l) (parentIn v)
+pub parent-some : (l v : ℕ) → (v ≡ 65535 → ⊥) → eqb l (v + 1) ≡ sameParent (ofLink l) (parentIn v)
 parent-some l v e = rw (ne-eqb v 65535 e) (by-cases (eqb l 0) (λ z. root z (eqb-true l 0 z)) (λ z. child z (eqb-false l 0 z)))
   where
-    root : eqb l 0 ≡ true → l ≡ 0 → eqb l (v + 1) ≡ sameParent (linked l) (some v)
+    root : eqb l 0 ≡ true → l ≡ 0 → eqb l (v + 1) ≡ sameParent (ofLink l) (some v)
     root z y = let n : l ≡ v + 1 → ⊥ = λ q. omega arith in rw (z, ne-eqb l (v + 1) n)
 
-    child : eqb l 0 ≡ false → (l ≡ 0 → ⊥) → eqb l (v + 1) ≡ sameParent (linked l) (some v)
+    child : eqb l 0 ≡ false → (l ≡ 0 → ⊥) → eqb l (v + 1) ≡ sameParent (ofLink l) (some v)
     child z y =
         rw z
         (by-cases (eqb l (v + 1)) (λ q. let k : l - 1 ≡ v = omega (arith, eqb-true l (v + 1) q) in q ∙ sym (eq-eqb (l - 1) v k))
@@ -297,16 +297,16 @@ module _ {ws : List ℕ} {n : ℕ} {s : List ℕ} {size : ℕ} (pre : FitPre ws 
 
   module _ (last : row + 1 ≡ n) where
     made-tests : madeFits x (madeIn s) ≡
-        (not (any (model.isThe row) (map linked ms)) && sameBool (eqb (kindIn w) 2) (eqb (getD s 0 0) 66) && eqb (tagIn w) (getD s 3 0) &&
-        sameParent (linked (linkIn w)) (parentIn (wordAt s 4)))
+        (not (any (model.isThe row) (map ofLink ms)) && sameBool (eqb (kindIn w) 2) (eqb (getD s 0 0) 66) && eqb (tagIn w) (getD s 3 0) &&
+        sameParent (ofLink (linkIn w)) (parentIn (wordAt s 4)))
     made-tests =
         let k : row < n = omega arith in
         made-row ∙ rw (eq-eqb (row + 1) (model.count x) (last ∙ sym counted), rowAt-decode n ws ms within row k)
 
-    pub made-marked : any (model.isThe row) (map linked ms) ≡ true → madeFits x (madeIn s) ≡ false
+    pub made-marked : any (model.isThe row) (map ofLink ms) ≡ true → madeFits x (madeIn s) ≡ false
     made-marked e = made-tests ∙ rw e
 
-    module _ (free : any (model.isThe row) (map linked ms) ≡ false) where
+    module _ (free : any (model.isThe row) (map ofLink ms) ≡ false) where
       pub made-kind : sameBool (eqb (kindIn w) 2) (eqb (getD s 0 0) 66) ≡ false → madeFits x (madeIn s) ≡ false
       made-kind e = made-tests ∙ rw (free, e)
 
@@ -314,7 +314,7 @@ module _ {ws : List ℕ} {n : ℕ} {s : List ℕ} {size : ℕ} (pre : FitPre ws 
         pub made-tag : (tagIn w ≡ getD s 3 0 → ⊥) → madeFits x (madeIn s) ≡ false
         made-tag e = made-tests ∙ rw (free, same, ne-eqb (tagIn w) (getD s 3 0) e)
 
-        pub made-parent : tagIn w ≡ getD s 3 0 → madeFits x (madeIn s) ≡ sameParent (linked (linkIn w)) (parentIn (wordAt s 4))
+        pub made-parent : tagIn w ≡ getD s 3 0 → madeFits x (madeIn s) ≡ sameParent (ofLink (linkIn w)) (parentIn (wordAt s 4))
         made-parent e = made-tests ∙ rw (free, same, eq-eqb (tagIn w) (getD s 3 0) e)
 
   -- A LINK CUT, by the tests
@@ -326,7 +326,7 @@ module _ {ws : List ℕ} {n : ℕ} {s : List ℕ} {size : ℕ} (pre : FitPre ws 
 
   module _ (low : row < n) where
     cut-tests : cutFits x (cutIn s) ≡
-        (not (model.hasParent (linked (linkIn w))) && not (any (model.isThe row) (map linked ms)) && oldParentFits x row (parentIn
+        (not (model.hasParent (ofLink (linkIn w))) && not (any (model.isThe row) (map ofLink ms)) && oldParentFits x row (parentIn
         (wordAt s 3)))
     cut-tests =
         let k : row < model.count x = omega (arith, counted) in
@@ -336,10 +336,10 @@ module _ {ws : List ℕ} {n : ℕ} {s : List ℕ} {size : ℕ} (pre : FitPre ws 
     cut-child e = cut-tests ∙ rw (ne-eqb (linkIn w) 0 e)
 
     module _ (root : linkIn w ≡ 0) where
-      pub cut-marked : any (model.isThe row) (map linked ms) ≡ true → cutFits x (cutIn s) ≡ false
+      pub cut-marked : any (model.isThe row) (map ofLink ms) ≡ true → cutFits x (cutIn s) ≡ false
       cut-marked e = cut-tests ∙ rw (eq-eqb (linkIn w) 0 root, e)
 
-      module _ (free : any (model.isThe row) (map linked ms) ≡ false) {v : ℕ} (there : v ≡ wordAt s 3) where
+      module _ (free : any (model.isThe row) (map ofLink ms) ≡ false) {v : ℕ} (there : v ≡ wordAt s 3) where
         cut-parent : cutFits x (cutIn s) ≡ oldParentFits x row (parentIn v)
         cut-parent =
             cut-tests ∙ rw (eq-eqb (linkIn w) 0 root, free) (ap (λ (j : ℕ). oldParentFits x row (parentIn j)) (sym there))

@@ -18,7 +18,7 @@ use Rattle.model.proofs.ListLaws.{drop-all}
 use Rattle.model.proofs.BoolLaws.{true-false, and-left, pick-eq, pick-ne}
 use Rattle.model.proofs.TestLaws.{and-four, and-five}
 use Rattle.table.specs.Words.{withLink, decodeParts, Canonical}
-use Rattle.table.proofs.WordLaws.{linked-linkOf, count-decode, decode-linked, canonical-linked, canonical-pop, decode-pop}
+use Rattle.table.proofs.WordLaws.{ofLink-linkOf, count-decode, decode-linked, canonical-linked, canonical-pop, decode-pop}
 use Rattle.undo.specs.Undoing.{undoing, FitPre, BackPre, BackPost, AllPre, AllPost}
 use Rattle.table.specs.declared.End.{End}
 
@@ -106,7 +106,7 @@ module _ {ws : List ℕ} {n : ℕ} {s : List ℕ} (pre : BackPre ws n s) (ms : L
             link = λ f. absurd (f refl);
             table = λ f.
                 decode-linked n ws (pre .canonical) within (wordAt s 1) cut-row-low (wordAt s 3 + 1) small ms ∙
-                ap (model.linked x (wordAt s 1)) (linked-linkOf (some (wordAt s 3)) ∙ sym parent-is) ∙ sym (undone-cut x s kind);
+                ap (model.linked x (wordAt s 1)) (ofLink-linkOf (some (wordAt s 3)) ∙ sym parent-is) ∙ sym (undone-cut x s kind);
             few = λ f. pre .few;
             canonical = λ f. canonical-linked n ws (pre .canonical) within (wordAt s 1) cut-row-low (wordAt s 3 + 1) small;
           }

@@ -7,7 +7,7 @@ ghost use Rattle.model.specs.History.{madeLeafKind};
 ghost use Rattle.model.specs.Limits.{maxHistory};
 ghost use Rattle.model.specs.Stored.{parentIn};
 ghost use Rattle.model.specs.Undo.{historySize, sameBool, sameParent, madeFits, cutFits, cutIn, madeIn};
-ghost use Rattle.table.specs.Words.{kindIn, leafWord, linked, decodeParts};
+ghost use Rattle.table.specs.Words.{kindIn, leafWord, ofLink, decodeParts};
 ghost use Rattle.undo.specs.Undoing.{FormPost, PlacesPost, FitPre, BackPre, BackPost, AllPre, AllPost};
 use table::End;
 use table::Fault;
@@ -96,7 +96,7 @@ fn same_kind(w: u32, kind: u8) -> bool
 // A row's link and the number written for a parent say the same.
 fn same_parent(link: usize, number: usize) -> bool
     requires { ⌜ number < 65536 ⌝ }
-    ensures { λ r. ⌜ r ≡ sameParent (linked link) (parentIn number) ⌝ }
+    ensures { λ r. ⌜ r ≡ sameParent (ofLink link) (parentIn number) ⌝ }
 {
     if number == number::NONE {
         return link == 0;

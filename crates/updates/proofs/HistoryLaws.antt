@@ -17,7 +17,7 @@ use Rattle.model.proofs.FormLaws.{length-recordBytes, recordIn-back}
 use Rattle.model.proofs.All.{all-snoc}
 use Rattle.model.proofs.HistoryLaws.{times-snoc}
 use Rattle.model.proofs.RanLaws.{isCut-made}
-use Rattle.table.specs.Words.{linked, rowOf, linkIn, tagIn}
+use Rattle.table.specs.Words.{ofLink, rowOf, linkIn, tagIn}
 use Rattle.areas.specs.Tallying.{plusMade, plusCut}
 use Rattle.areas.specs.declared.tally.Tally.{Tally}
 use Rattle.updates.specs.State.{recordsFrom, recordsIn, Recorded}
@@ -28,12 +28,12 @@ made-bytes : (r : model.Row) (i : ℕ) →
     recordBytes (made r i) ≡ (pick (r .isLeaf) 66 65 ∷ wordBytes i) ++ (r .tag ∷ parentBytes (r .parent))
 made-bytes r i = rw (isCut-made r i)
 
-pub made-six : (w i k t p : ℕ) → k ≡ madeKind w → t ≡ tagIn w → wordBytes p ≡ parentBytes (linked (linkIn w)) →
+pub made-six : (w i k t p : ℕ) → k ≡ madeKind w → t ≡ tagIn w → wordBytes p ≡ parentBytes (ofLink (linkIn w)) →
     sixBytes k i t p ≡ recordBytes (made (rowOf w) i)
 made-six w i k t p e f g =
     ap (λ (l : List ℕ). (k ∷ wordBytes i) ++ (t ∷ l)) g ∙
-    ap (λ (j : ℕ). (j ∷ wordBytes i) ++ (t ∷ parentBytes (linked (linkIn w)))) e ∙
-    ap (λ (j : ℕ). (madeKind w ∷ wordBytes i) ++ (j ∷ parentBytes (linked (linkIn w)))) f ∙ sym (made-bytes (rowOf w) i)
+    ap (λ (j : ℕ). (j ∷ wordBytes i) ++ (t ∷ parentBytes (ofLink (linkIn w)))) e ∙
+    ap (λ (j : ℕ). (madeKind w ∷ wordBytes i) ++ (j ∷ parentBytes (ofLink (linkIn w)))) f ∙ sym (made-bytes (rowOf w) i)
 
 -- RECORDS written and read back
 recordsFrom-step : (k : ℕ) (r : Record) (c : List ℕ) → IsInRange r → recordsFrom (suc k) (recordBytes r ++ c) ≡ r ∷ recordsFrom k c

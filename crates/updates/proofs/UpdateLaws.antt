@@ -21,7 +21,7 @@ use Rattle.model.proofs.FormLaws.{length-recordBytes}
 use Rattle.model.proofs.RanLaws.{isCut-made}
 use Rattle.model.proofs.UndoLaws.{made-inRange}
 use Rattle.table.specs.Words.{linkOf, rowOf, wordOf, isRowWord, withLink, decodeParts, Canonical, linkIn}
-use Rattle.table.proofs.WordLaws.{linkOf-linked, rowOf-wordOf, wordOf-rowOf, isRowWord-wordOf, canonical-push}
+use Rattle.table.proofs.WordLaws.{linkOf-ofLink, rowOf-wordOf, wordOf-rowOf, isRowWord-wordOf, canonical-push}
 use Rattle.table.proofs.WordLaws.{decode-linked, canonical-linked}
 use Rattle.table.proofs.DecodeLaws.{decode-row, parent-linked, parent-at}
 use Rattle.areas.specs.Tallying.{plusMade, plusCut}
@@ -48,7 +48,7 @@ module _ (z : ℕ) (r : model.Row) (s : State) where
 -- A ROW MADE
 module _ {ws h : List ℕ} {p : Progress} {w : ℕ} (pre : NewPre ws h p w) where
   new-link : linkOf (rowOf w .parent) < 1024
-  new-link = omega (arith, linkOf-linked (linkIn w))
+  new-link = omega (arith, linkOf-ofLink (linkIn w))
 
   pub new-full : 512 ≤ p .count → {ws′ h′ : List ℕ} {r : Progress} → r ≡ stopped p 10 →
       Updated (λ z s. newRow z (rowOf w) s) (p .count ∷ []) ws h p ws′ h′ r

@@ -15,7 +15,7 @@ use Rattle.model.specs.Stored.{rowsBytes, marksBytes, stored, markBytes}
 use Rattle.model.proofs.TableLaws.{isWell-at}
 use Rattle.table.specs.declared.Table.{Table}
 use Rattle.table.specs.Results.{writtenBy}
-use Rattle.table.specs.Words.{linked, rowsOf, decodeParts, decode, fits, encode}
+use Rattle.table.specs.Words.{ofLink, rowsOf, decodeParts, decode, fits, encode}
 use Rattle.model.specs.Base.{atFront, over}
 use Rattle.writer.specs.Writing.{planWritten, writtenOut}
 use Rattle.table.proofs.WordLaws.{count-decode}
@@ -49,23 +49,23 @@ module _ (t : Table) (o : List ℕ) where
 
 -- the stored form is the rows, then the marks
 module _ (n : ℕ) (ws ms : List ℕ) (within : n ≤ length ws) where
-  pub length-stored : length (stored (decodeParts n ws ms)) ≡ 4 * n + length (marksBytes 0 (map linked ms))
+  pub length-stored : length (stored (decodeParts n ws ms)) ≡ 4 * n + length (marksBytes 0 (map ofLink ms))
   length-stored =
       omega (
         arith,
-        length-append (rowsBytes (rowsOf n ws)) (marksBytes 0 (map linked ms)),
+        length-append (rowsBytes (rowsOf n ws)) (marksBytes 0 (map ofLink ms)),
         length-rowsBytes (rowsOf n ws),
         count-decode
             n ws ms within,
       )
 
   pub stored-over : (o : List ℕ) → 4 * n ≤ length o →
-      over (4 * n) (marksBytes 0 (map linked ms)) (over 0 (rowsBytes (rowsOf n ws)) o) ≡
+      over (4 * n) (marksBytes 0 (map ofLink ms)) (over 0 (rowsBytes (rowsOf n ws)) o) ≡
       atFront (stored (decodeParts n ws ms)) o
   stored-over o h =
       let l : 4 * n ≡ 0 + length (rowsBytes (rowsOf n ws)) = omega (arith, length-rowsBytes (rowsOf n ws), count-decode n ws ms within) in
-      ap (λ (j : ℕ). over j (marksBytes 0 (map linked ms)) (over 0 (rowsBytes (rowsOf n ws)) o)) l ∙
-      over-over 0 (rowsBytes (rowsOf n ws)) (marksBytes 0 (map linked ms)) o (omega arith) ∙
+      ap (λ (j : ℕ). over j (marksBytes 0 (map ofLink ms)) (over 0 (rowsBytes (rowsOf n ws)) o)) l ∙
+      over-over 0 (rowsBytes (rowsOf n ws)) (marksBytes 0 (map ofLink ms)) o (omega arith) ∙
       ap (λ (j : ℕ). stored (decodeParts n ws ms) ++ drop j o) (zero-add (length (stored (decodeParts n ws ms))))
 
 -- THE LENGTH: four bytes for each row and each mark

@@ -11,21 +11,21 @@ use borrow.Author.Tests.{ne-eqb}
 use Rattle.model.specs.Table as model
 use Rattle.model.specs.Stored.{wordBytes, parentBytes, rowBytes, rowsBytes, markBytes, marksBytes}
 use Rattle.model.proofs.BytesLaws.{length-parentBytes, rowsBytes-snoc}
-use Rattle.table.specs.Words.{linked, rowOf, rowsOf, kindIn, linkIn, tagIn}
+use Rattle.table.specs.Words.{ofLink, rowOf, rowsOf, kindIn, linkIn, tagIn}
 use Rattle.model.specs.Base.{over}
 use Rattle.table.proofs.WordLaws.{count-decode, take-rows}
 use Rattle.model.proofs.ListLaws.{take-next, over-over, over-nil}
 
 -- ONE ROW of a word, as bytes
-pub row-leaf : (w : ℕ) → kindIn w ≡ 2 → rowBytes (rowOf w) ≡ 18 ∷ tagIn w ∷ parentBytes (linked (linkIn w))
+pub row-leaf : (w : ℕ) → kindIn w ≡ 2 → rowBytes (rowOf w) ≡ 18 ∷ tagIn w ∷ parentBytes (ofLink (linkIn w))
 row-leaf w h = rw h
 
-pub row-element : (w : ℕ) → (kindIn w ≡ 2 → ⊥) → rowBytes (rowOf w) ≡ 17 ∷ tagIn w ∷ parentBytes (linked (linkIn w))
+pub row-element : (w : ℕ) → (kindIn w ≡ 2 → ⊥) → rowBytes (rowOf w) ≡ 17 ∷ tagIn w ∷ parentBytes (ofLink (linkIn w))
 row-element w h = rw (ne-eqb (kindIn w) 2 h)
 
-pub row-bytes : (w k t p : ℕ) → t ≡ tagIn w → wordBytes p ≡ parentBytes (linked (linkIn w)) →
-    k ∷ t ∷ wordBytes p ≡ k ∷ tagIn w ∷ parentBytes (linked (linkIn w))
-row-bytes w k t p e f = ap (λ (b : List ℕ). k ∷ t ∷ b) f ∙ ap (λ (j : ℕ). k ∷ j ∷ parentBytes (linked (linkIn w))) e
+pub row-bytes : (w k t p : ℕ) → t ≡ tagIn w → wordBytes p ≡ parentBytes (ofLink (linkIn w)) →
+    k ∷ t ∷ wordBytes p ≡ k ∷ tagIn w ∷ parentBytes (ofLink (linkIn w))
+row-bytes w k t p e f = ap (λ (b : List ℕ). k ∷ t ∷ b) f ∙ ap (λ (j : ℕ). k ∷ j ∷ parentBytes (ofLink (linkIn w))) e
 
 -- ROWS, one more
 length-rowBytes : (r : model.Row) → length (rowBytes r) ≡ 4
@@ -66,30 +66,30 @@ marksBytes-snoc from (k ∷ ms) m =
     total = omega arith
 
 module _ (ms : List ℕ) (d : ℕ) (h : d < length ms) where
-  marks-next : marksBytes 0 (map linked (take (d + 1) ms)) ≡ marksBytes 0 (map linked (take d ms)) ++ markBytes d (linked (getD ms d 0))
+  marks-next : marksBytes 0 (map ofLink (take (d + 1) ms)) ≡ marksBytes 0 (map ofLink (take d ms)) ++ markBytes d (ofLink (getD ms d 0))
   marks-next =
-      let k : 0 + length (map linked (take d ms)) ≡ d = omega (arith, length-map (take d ms) linked, length-take-le d ms (omega arith)) in
-      ap (λ (v : List ℕ). marksBytes 0 (map linked v)) (take-next ms d 0 h) ∙
-      ap (marksBytes 0) (map-append linked (take d ms) (getD ms d 0 ∷ [])) ∙
-      marksBytes-snoc 0 (map linked (take d ms)) (linked (getD ms d 0)) ∙
-      ap (λ (j : ℕ). marksBytes 0 (map linked (take d ms)) ++ markBytes j (linked (getD ms d 0))) k
+      let k : 0 + length (map ofLink (take d ms)) ≡ d = omega (arith, length-map (take d ms) ofLink, length-take-le d ms (omega arith)) in
+      ap (λ (v : List ℕ). marksBytes 0 (map ofLink v)) (take-next ms d 0 h) ∙
+      ap (marksBytes 0) (map-append ofLink (take d ms) (getD ms d 0 ∷ [])) ∙
+      marksBytes-snoc 0 (map ofLink (take d ms)) (ofLink (getD ms d 0)) ∙
+      ap (λ (j : ℕ). marksBytes 0 (map ofLink (take d ms)) ++ markBytes j (ofLink (getD ms d 0))) k
 
-  pub length-marks : length (marksBytes 0 (map linked (take (d + 1) ms))) ≡
-      length (marksBytes 0 (map linked (take d ms))) + length (markBytes d (linked (getD ms d 0)))
-  length-marks = ap length marks-next ∙ length-append (marksBytes 0 (map linked (take d ms))) (markBytes d (linked (getD ms d 0)))
+  pub length-marks : length (marksBytes 0 (map ofLink (take (d + 1) ms))) ≡
+      length (marksBytes 0 (map ofLink (take d ms))) + length (markBytes d (ofLink (getD ms d 0)))
+  length-marks = ap length marks-next ∙ length-append (marksBytes 0 (map ofLink (take d ms))) (markBytes d (ofLink (getD ms d 0)))
 
-  pub marks-grown : (o : List ℕ) (start : ℕ) → start + length (marksBytes 0 (map linked (take d ms))) ≤ length o →
-      over (start + length (marksBytes 0 (map linked (take d ms)))) (markBytes d (linked (getD ms d 0)))
-      (over start (marksBytes 0 (map linked (take d ms))) o) ≡ over start (marksBytes 0 (map linked (take (d + 1) ms))) o
+  pub marks-grown : (o : List ℕ) (start : ℕ) → start + length (marksBytes 0 (map ofLink (take d ms))) ≤ length o →
+      over (start + length (marksBytes 0 (map ofLink (take d ms)))) (markBytes d (ofLink (getD ms d 0)))
+      (over start (marksBytes 0 (map ofLink (take d ms))) o) ≡ over start (marksBytes 0 (map ofLink (take (d + 1) ms))) o
   marks-grown o start g =
-      over-over start (marksBytes 0 (map linked (take d ms))) (markBytes d (linked (getD ms d 0))) o (omega arith) ∙
+      over-over start (marksBytes 0 (map ofLink (take d ms))) (markBytes d (ofLink (getD ms d 0))) o (omega arith) ∙
       ap (λ (b : List ℕ). over start b o) (sym marks-next)
 
 -- a mark's record
-pub mark-none : (d l : ℕ) → l ≡ 0 → markBytes d (linked l) ≡ []
+pub mark-none : (d l : ℕ) → l ≡ 0 → markBytes d (ofLink l) ≡ []
 mark-none d l e = rw e
 
-pub mark-some : (d l : ℕ) → (l ≡ 0 → ⊥) → markBytes d (linked l) ≡ 19 ∷ d ∷ wordBytes (l - 1)
+pub mark-some : (d l : ℕ) → (l ≡ 0 → ⊥) → markBytes d (ofLink l) ≡ 19 ∷ d ∷ wordBytes (l - 1)
 mark-some d l z = rw (ne-eqb l 0 z)
 
 pub length-mark : (d : ℕ) (m : Option ℕ) → length (markBytes d m) ≤ 4
@@ -97,15 +97,15 @@ length-mark d none = omega arith
 length-mark d (some i) = omega arith
 
 -- the marks so far are a front of all marks
-pub marks-front : (from k : ℕ) (ms : List ℕ) → length (marksBytes from (map linked (take k ms))) ≤ length (marksBytes from (map linked ms))
+pub marks-front : (from k : ℕ) (ms : List ℕ) → length (marksBytes from (map ofLink (take k ms))) ≤ length (marksBytes from (map ofLink ms))
 unfolding marksBytes
 marks-front from zero ms = omega arith
 marks-front from (suc k) [] = omega arith
 marks-front from (suc k) (m ∷ ms) =
     omega (
       arith,
-      length-append (markBytes from (linked m)) (marksBytes (suc from) (map linked (take k ms))),
-      length-append (markBytes from (linked m)) (marksBytes (suc from) (map linked ms)),
+      length-append (markBytes from (ofLink m)) (marksBytes (suc from) (map ofLink (take k ms))),
+      length-append (markBytes from (ofLink m)) (marksBytes (suc from) (map ofLink ms)),
       marks-front (suc from) k ms,
     )
 
@@ -117,6 +117,6 @@ rows-start o rs = over-nil 0 o
 pub rows-all : (ws : List ℕ) (n i : ℕ) → n ≤ length ws → n ≤ i → rowsBytes (take i (rowsOf n ws)) ≡ rowsBytes (rowsOf n ws)
 rows-all ws n i within h = ap rowsBytes (take-all i (rowsOf n ws) (omega (arith, count-decode n ws [] within)))
 
-pub marks-start : (ms : List ℕ) → marksBytes 0 (map linked (take 0 ms)) ≡ []
+pub marks-start : (ms : List ℕ) → marksBytes 0 (map ofLink (take 0 ms)) ≡ []
 unfolding marksBytes
 marks-start ms = refl

@@ -9,7 +9,7 @@ use Rattle.model.specs.Limits.{maxRows, documents}
 use Rattle.model.specs.Refusal as refusal
 use Rattle.model.specs.Stored.{marksBytes, stored}
 use Rattle.table.specs.Results.{faultOf}
-use Rattle.table.specs.Words.{linked, decode, fits}
+use Rattle.table.specs.Words.{ofLink, decode, fits}
 use Rattle.table.specs.declared.Table.{Table}
 use Rattle.table.specs.declared.Written.{Written}
 
@@ -40,4 +40,4 @@ pub record RowsPre (ws o : List ℕ) (n : ℕ) : Type 0 where
 -- room for the marks from a place on
 pub record MarksPre (ms o : List ℕ) (start : ℕ) : Type 0 where
   pub documents : length ms ≡ documents
-  pub room : start + length (marksBytes 0 (map linked ms)) ≤ length o
+  pub room : start + length (marksBytes 0 (map ofLink ms)) ≤ length o

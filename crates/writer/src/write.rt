@@ -6,7 +6,7 @@ ghost use lib.ListN.{length};
 ghost use Rattle.model.specs.Stored.{wordBytes, rowBytes, rowsBytes, markBytes, marksBytes};
 ghost use mathlib.Core.Bool.{true};
 ghost use Rattle.model.specs.Limits.{maxRows, documents};
-ghost use Rattle.table.specs.Words.{linked, rowOf, rowsOf, fits};
+ghost use Rattle.table.specs.Words.{ofLink, rowOf, rowsOf, fits};
 ghost use Rattle.writer.specs.Writing.{planWritten, writtenOut, RowsPre, MarksPre};
 ghost use Rattle.model.specs.Base.{over};
 use table::Fault;
@@ -58,7 +58,7 @@ pub fn rows(out: &mut [u8], rows: &[u32], count: usize)
 
 // The bytes of a mark's record, none where there is no mark.
 fn mark_length(link: u16) -> usize
-    ensures { λ r. ⌜ ((d : ℕ) → r ≡ length (markBytes d (linked link))) ⌝ }
+    ensures { λ r. ⌜ ((d : ℕ) → r ≡ length (markBytes d (ofLink link))) ⌝ }
 {
     if link == 0 {
         return 0;
@@ -68,8 +68,8 @@ fn mark_length(link: u16) -> usize
 
 // One mark's record at a place, if there is a mark.
 fn mark(out: &mut [u8], at: usize, document: u8, link: u16)
-    requires { ⌜ at + length (markBytes document (linked link)) ≤ length (now out) ⌝ }
-    ensures { λ r. ⌜ now (out .exit) ≡ over at (markBytes document (linked link)) (now (out .entry)) ⌝ }
+    requires { ⌜ at + length (markBytes document (ofLink link)) ≤ length (now out) ⌝ }
+    ensures { λ r. ⌜ now (out .exit) ≡ over at (markBytes document (ofLink link)) (now (out .entry)) ⌝ }
 {
     if link == 0 {
         return;
@@ -80,7 +80,7 @@ fn mark(out: &mut [u8], at: usize, document: u8, link: u16)
 // The marks, from a place on.
 pub fn marks(out: &mut [u8], marks: &[u16], start: usize)
     requires { ⌜ MarksPre (now marks) (now out) start ⌝ }
-    ensures { λ r. ⌜ now (out .exit) ≡ over start (marksBytes 0 (map linked (now (marks .entry)))) (now (out .entry)) ⌝ }
+    ensures { λ r. ⌜ now (out .exit) ≡ over start (marksBytes 0 (map ofLink (now (marks .entry)))) (now (out .entry)) ⌝ }
 {
     let mut d = 0;
     let mut at = start;
@@ -94,7 +94,7 @@ pub fn marks(out: &mut [u8], marks: &[u16], start: usize)
 // The bytes that a table's rows and marks take.
 pub fn stored_length(count: usize, marks: &[u16]) -> usize
     requires { ⌜ (count ≤ maxRows) × (length (now marks) ≡ documents) ⌝ }
-    ensures { λ r. ⌜ r ≡ 4 * count + length (marksBytes 0 (map linked (now (marks .entry)))) ⌝ }
+    ensures { λ r. ⌜ r ≡ 4 * count + length (marksBytes 0 (map ofLink (now (marks .entry)))) ⌝ }
 {
     let mut n = stored::SIZE * count;
     let mut d = 0;

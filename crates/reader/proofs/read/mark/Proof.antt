@@ -1,7 +1,7 @@
 -- `read::mark` refuses the mark at the front or sets it in the table, by one law of ReadRecordLaws for each way out.
 use Rattle.reader.specs.Reading.{lastOf}
 use Rattle.reader.proofs.ReadRecordLaws.{refused, mark-field, mark-order, mark-root, mark-by}
-use Rattle.table.specs.Words.{linked, decodeParts}
+use Rattle.table.specs.Words.{ofLink, decodeParts}
 use Rattle.table.specs.Fitting.{isRootBelow}
 use Rattle.table.proofs.DecodeLaws.{below-bound}
 use Rattle.model.proofs.BoolLaws.{and-left}
@@ -58,12 +58,12 @@ there c =
 
 marked-by : (c : tie.After-is-marked) →
     let a = c .before .before .before .before .before .before .before .before .before .before .before .before .args in
-    any (isThe (wordAt (a .s .now) 2)) (map linked (a .marks .now)) ≡ c .is-marked .result
+    any (isThe (wordAt (a .s .now) 2)) (map ofLink (a .marks .now)) ≡ c .is-marked .result
 marked-by c =
     let c4 = c .before .before .before .before in
     let c12 = c4 .before .before .before .before .before .before .before .before in
     let h : c4 .number-at .result + 1 - 1 ≡ wordAt (c12 .args .s .now) 2 = omega (arith, c4 .number-at .ensures .0) in
-    sym (c .is-marked .ensures ∙ ap (λ (j : ℕ). any (isThe j) (map linked (c12 .args .marks .now))) h)
+    sym (c .is-marked .ensures ∙ ap (λ (j : ℕ). any (isThe j) (map ofLink (c12 .args .marks .now))) h)
 
 -- the tests passed: by whether it is marked
 by-marked : (c : tie.After-is-marked) (z : Bool) → c .is-marked .result ≡ z → (i : ℕ) →

@@ -1,7 +1,7 @@
 -- `sweep::flag` flags the marked rows. The loop's invariant: the flags are those of the marks passed.
 use Rattle.table.proofs.DecodeLaws.{marked-snoc}
 use Rattle.table.proofs.FlagLaws.{flags-none, flags-next, flags-all}
-use Rattle.table.specs.Words.{linked}
+use Rattle.table.specs.Words.{ofLink}
 use Rattle.model.specs.Base.{any}
 use Rattle.model.specs.Table as model
 use mathlib.Core.Bool.{Bool}
@@ -16,7 +16,7 @@ use Rattle.sweep.proofs.sweep.flag.Statement.{statement}
 use Rattle.sweep.proofs.sweep.flag.Tie as tie
 
 abbrev has : (marks : List ℕ) → (row : ℕ) → Bool
-has v k = any (model.isThe k) (map linked v)
+has v k = any (model.isThe k) (map ofLink v)
 
 abbrev Inv-loop : tie.InvT-loop
 Inv-loop numbers₀ marks d₀ numbers d = (d ≤ length marks) × Flagged (take d marks) numbers

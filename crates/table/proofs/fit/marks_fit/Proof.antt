@@ -1,7 +1,7 @@
 -- `fit::marks_fit`: every mark fits and none stands again behind it. The loop's invariant: the check from here on decides.
 use Rattle.table.proofs.FitCheckLaws.{marks-turn, marks-end, marks-go, repeated-none, repeated-some}
 use Rattle.table.specs.Fitting.{isRepeated, marksFit}
-use Rattle.table.specs.Words.{linked}
+use Rattle.table.specs.Words.{ofLink}
 use Rattle.model.specs.Table.{isThe}
 use Rattle.model.specs.Base.{any}
 use lib.Seq.{take-all}
@@ -74,7 +74,7 @@ again c =
     repeated-some (getD (c10 .args .marks .now) (c7 .loop .d) 0) (drop (c7
     .loop .d + 1) (c10 .args .marks .now)) (c .before
     .before .if2 .taken) ∙
-    sym (c .is-marked .ensures ∙ ap (λ (l : List ℕ). any (isThe (getD (c10 .args .marks .now) (c7 .loop .d) 0 - 1)) (map linked l))
+    sym (c .is-marked .ensures ∙ ap (λ (l : List ℕ). any (isThe (getD (c10 .args .marks .now) (c7 .loop .d) 0 - 1)) (map ofLink l))
     (take-all (length (c10 .args .marks .now) - (c7 .loop .d + 1)) (drop (c7
     .loop .d + 1) (c10 .args .marks .now)) (omega (
       arith,

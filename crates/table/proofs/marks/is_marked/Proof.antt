@@ -1,6 +1,6 @@
 -- `marks::is_marked` finds a link among the marks. The loop's invariant: the marks from here on decide.
 use Rattle.table.proofs.DecodeLaws.{marked-turn, marked-none}
-use Rattle.table.specs.Words.{linked}
+use Rattle.table.specs.Words.{ofLink}
 use Rattle.model.specs.Table.{isThe}
 use Rattle.model.specs.Base.{any}
 use borrow.Author.Tests.{eq-eqb, ne-eqb}
@@ -14,7 +14,7 @@ use Rattle.table.proofs.marks.is_marked.Statement.{statement}
 use Rattle.table.proofs.marks.is_marked.Tie as tie
 
 abbrev Inv-loop : tie.InvT-loop
-Inv-loop marks link d₀ d = (d ≤ length marks) × (any (isThe (link - 1)) (map linked marks) ≡ any (isThe (link - 1)) (map linked (drop d
+Inv-loop marks link d₀ d = (d ≤ length marks) × (any (isThe (link - 1)) (map ofLink marks) ≡ any (isThe (link - 1)) (map ofLink (drop d
     marks)))
 
 abbrev μ-loop : tie.MeasureT-loop

@@ -2,7 +2,7 @@
 use Rattle.undo.proofs.UndoLaws.{cut-high, cut-child, cut-marked, cut-none, cut-element}
 use Rattle.model.specs.Base.{any}
 use Rattle.model.specs.Table.{isThe}
-use Rattle.table.specs.Words.{linked, linkIn}
+use Rattle.table.specs.Words.{ofLink, linkIn}
 use lib.ListN.{getD}
 use mathlib.Core.List.{map}
 use mathlib.Core.Path.{_≡_, sym, _∙_, ap}
@@ -19,13 +19,13 @@ is-root c = sym (c .before .link .ensures) ∙ search (c .if2 .left, needs)
 
 marked-by : (c : tie.After-is-marked) →
     let a = c .before .before .before .before .before .before .before .before .before .args in
-    any (isThe (c .before .before .before .before .before .number-at .result)) (map linked (a .marks .now)) ≡ c .is-marked .result
+    any (isThe (c .before .before .before .before .before .number-at .result)) (map ofLink (a .marks .now)) ≡ c .is-marked .result
 marked-by c =
     let c5 = c .before .before .before .before .before in
     let c9 = c5 .before .before .before .before in
     let h : c5 .number-at .result + 1 - 1 ≡
     c5 .number-at .result = omega arith in
-    sym (c .is-marked .ensures ∙ ap (λ (j : ℕ). any (isThe j) (map linked
+    sym (c .is-marked .ensures ∙ ap (λ (j : ℕ). any (isThe j) (map ofLink
     (c9 .args .marks .now))) h)
 
 number-at-requires : tie.Need-number-at-requires

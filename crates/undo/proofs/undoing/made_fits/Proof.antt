@@ -4,7 +4,7 @@ use Rattle.model.specs.Base.{any}
 use Rattle.model.specs.Table.{isThe}
 use Rattle.model.specs.Stored.{parentIn}
 use Rattle.model.specs.Undo.{sameParent}
-use Rattle.table.specs.Words.{linked, linkIn}
+use Rattle.table.specs.Words.{ofLink, linkIn}
 use borrow.Author.Tests.{not-true, not-false}
 use lib.ListN.{getD}
 use mathlib.Core.List.{map}
@@ -18,12 +18,12 @@ use Rattle.undo.proofs.undoing.made_fits.Tie as tie
 is-last : (c : tie.Else1) → c .before .number-at .result + 1 ≡ c .before .before .before .before .before .args .count
 is-last c = search (c .if1 .left, needs)
 
-marked-by : (c : tie.After-is-marked) → any (isThe (c .before .before .number-at .result)) (map linked
+marked-by : (c : tie.After-is-marked) → any (isThe (c .before .before .number-at .result)) (map ofLink
     (c .before .before .before .before .before .before .args .marks .now)) ≡ c .is-marked .result
 marked-by c =
     let c6 = c .before .before .before .before .before .before in
     let h : c .before .before .number-at .result + 1 - 1 ≡ c .before .before .number-at .result = omega arith in
-    sym (c .is-marked .ensures ∙ ap (λ (j : ℕ). any (isThe j) (map linked
+    sym (c .is-marked .ensures ∙ ap (λ (j : ℕ). any (isThe j) (map ofLink
     (c6 .args .marks .now))) h)
 
 number-at-requires : tie.Need-number-at-requires
@@ -138,8 +138,8 @@ returns-5 c =
     let c13 = c12 .before in
     let c14 = c13 .before in
     let c18 = c14 .before .before .before .before in
-    c .same-parent .ensures ∙ ap (λ (j : ℕ). sameParent (linked j) (parentIn (c .before .number-at2 .result)))
-    (c .before .before .link .ensures) ∙ ap (λ (j : ℕ). sameParent (linked (linkIn (getD
+    c .same-parent .ensures ∙ ap (λ (j : ℕ). sameParent (ofLink j) (parentIn (c .before .number-at2 .result)))
+    (c .before .before .link .ensures) ∙ ap (λ (j : ℕ). sameParent (ofLink (linkIn (getD
     (c18 .args .rows .now)
     (c14 .number-at .result)
     0))) (parentIn j)) (c .before .number-at2 .ensures .0) ∙ sym (made-parent

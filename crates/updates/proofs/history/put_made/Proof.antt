@@ -1,6 +1,6 @@
 -- `history::put_made` puts the record of a row made over the history.
 use Rattle.model.specs.Stored.{parentBytes}
-use Rattle.table.specs.Words.{linked}
+use Rattle.table.specs.Words.{ofLink}
 use Rattle.updates.proofs.HistoryLaws.{made-six}
 use Rattle.model.specs.Base.{over}
 use mathlib.Core.List.{List}
@@ -45,7 +45,7 @@ returns c =
     (c9 .args .row) (c3 .made-kind .result)
     (c5 .tag .result) (c6 .parent .result)
     (c3 .made-kind .ensures) (c5 .tag .ensures)
-    (c6 .parent .ensures .0 ∙ ap (λ (j : ℕ). parentBytes (linked j))
+    (c6 .parent .ensures .0 ∙ ap (λ (j : ℕ). parentBytes (ofLink j))
     (c7 .link .ensures)))
 
 pub put-made-spec : {M : Type 1} → statement M

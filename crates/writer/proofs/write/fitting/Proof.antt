@@ -7,7 +7,7 @@ use lib.ListN.{length}
 use borrow.Author.Needs.{needs}
 use Rattle.model.specs.Stored.{stored, rowsBytes, marksBytes}
 use Rattle.table.specs.Fitting.{Words}
-use Rattle.table.specs.Words.{linked, rowsOf, decode}
+use Rattle.table.specs.Words.{ofLink, rowsOf, decode}
 use Rattle.model.specs.Base.{over}
 use Rattle.writer.proofs.WritePlanLaws.{write-short, write-fine, write-out, length-stored, stored-over}
 use Rattle.table.proofs.FittedLaws.{Fits, fits-at, fits-tag}
@@ -116,7 +116,7 @@ returns-2 c =
             c15 .if1 .left,
           )) h,
       c .before .before .before .marks .ensures ∙
-          ap (over (4 * c21 .args .t1 .count) (marksBytes 0 (map linked (c21 .args .t1 .marks)))) (c10 .rows .ensures) ∙
+          ap (over (4 * c21 .args .t1 .count) (marksBytes 0 (map ofLink (c21 .args .t1 .marks)))) (c10 .rows .ensures) ∙
           stored-over (c21 .args .t1 .count) (c21 .args .t1 .rows) (c21 .args .t1 .marks) (within (c21)) (c21 .args .out .now)
           (omega (
             arith,

@@ -2,7 +2,7 @@
 use Rattle.writer.proofs.WriteRecordLaws.{length-marks, marks-start, marks-front, marks-grown}
 use Rattle.model.proofs.ListLaws.{over-nil}
 use Rattle.model.specs.Base.{over}
-use Rattle.table.specs.Words.{linked}
+use Rattle.table.specs.Words.{ofLink}
 use Rattle.model.specs.Stored.{markBytes, marksBytes}
 use lib.Seq.{take-all}
 use lib.ListN.{length, getD, take}
@@ -15,8 +15,8 @@ use Rattle.writer.proofs.write.marks.Statement.{statement}
 use Rattle.writer.proofs.write.marks.Tie as tie
 
 abbrev Inv-loop : tie.InvT-loop
-Inv-loop out₀ marks start d₀ at₀ out d at = (d ≤ length marks) × (at ≡ start + length (marksBytes 0 (map linked (take d marks)))) × (out
-    ≡ over start (marksBytes 0 (map linked (take d marks))) out₀) × (length out ≡ length out₀)
+Inv-loop out₀ marks start d₀ at₀ out d at = (d ≤ length marks) × (at ≡ start + length (marksBytes 0 (map ofLink (take d marks)))) × (out
+    ≡ over start (marksBytes 0 (map ofLink (take d marks))) out₀) × (length out ≡ length out₀)
 
 abbrev μ-loop : tie.MeasureT-loop
 μ-loop out₀ marks start d₀ at₀ out d at = length marks - d
@@ -41,7 +41,7 @@ mul-mark c = search needs
 shared-slice-read-mark : tie.Need-shared-slice-read-mark Inv-loop μ-loop
 shared-slice-read-mark c = search needs
 
-room : (c : tie.In-loop Inv-loop μ-loop) → c .before .loop .at + length (markBytes (c .before .loop .d) (linked (getD (c .before .before
+room : (c : tie.In-loop Inv-loop μ-loop) → c .before .loop .at + length (markBytes (c .before .loop .d) (ofLink (getD (c .before .before
     .before .before .args .marks .now) (c .before .loop .d) 0))) ≤ length (c .before .before .before .before .args .out .now)
 room c =
     let c4 = c .before .before .before .before in
@@ -102,9 +102,9 @@ loop-again c =
         c .mark-length .ensures (c8 .loop .d),
       ),
       c4 .mark .ensures ∙ ap (λ (i : ℕ). over i (markBytes (c8
-          .loop .d) (linked (getD (c11 .args .marks .now)
-          (c8 .loop .d) 0))) (c8 .loop .out)) (c8 .loop .inv .1) ∙ ap (over (c11 .args .start + length (marksBytes 0 (map linked (take
-          (c8 .loop .d) (c11 .args .marks .now))))) (markBytes (c8 .loop .d) (linked (getD (c11 .args
+          .loop .d) (ofLink (getD (c11 .args .marks .now)
+          (c8 .loop .d) 0))) (c8 .loop .out)) (c8 .loop .inv .1) ∙ ap (over (c11 .args .start + length (marksBytes 0 (map ofLink (take
+          (c8 .loop .d) (c11 .args .marks .now))))) (markBytes (c8 .loop .d) (ofLink (getD (c11 .args
           .marks .now) (c8 .loop .d) 0)))) (c8 .loop .inv .2) ∙ marks-grown (c11 .args .marks .now) (c8 .loop .d) (c7 .loop-test .taken)
           (c11 .args .out .now) (c11
           .args .start) (omega (
@@ -125,7 +125,7 @@ same-length c = search needs
 returns : tie.Need-returns Inv-loop μ-loop
 returns c =
     let c4 = c .before .before .before .before in
-    c .before .loop .inv .2 ∙ ap (λ (l : List ℕ). over (c4 .args .start) (marksBytes 0 (map linked
+    c .before .loop .inv .2 ∙ ap (λ (l : List ℕ). over (c4 .args .start) (marksBytes 0 (map ofLink
     l)) (c4 .args .out .now)) (take-all (c .before .loop .d) (c4 .args
     .marks .now) (omega arith))
 

@@ -1,7 +1,7 @@
 -- `write::row` puts a row's record over the area.
 use Rattle.writer.proofs.WriteRecordLaws.{row-leaf, row-element, row-bytes}
 use Rattle.model.specs.Base.{over}
-use Rattle.table.specs.Words.{linked}
+use Rattle.table.specs.Words.{ofLink}
 use Rattle.model.specs.Stored.{parentBytes}
 use Prim.Native.Nat.{ℕ}
 use mathlib.Core.List.{List}
@@ -41,7 +41,7 @@ returns c =
     let c10 = c8 .before .before in
     c .before .before .put .ensures ∙ ap (λ (b : List ℕ). over (c10 .args .at) b (c10 .args .out .now))
     (row-bytes (c10 .args .w) 18 (c6 .tag .result) (c7 .parent .result) (c6 .tag .ensures) (c7 .parent .ensures .0 ∙ ap (λ
-    (l : ℕ). parentBytes (linked l)) (c8 .link .ensures)) ∙ sym (row-leaf
+    (l : ℕ). parentBytes (ofLink l)) (c8 .link .ensures)) ∙ sym (row-leaf
     (c10 .args .w) (sym (c5 .kind .ensures) ∙ c4 .if1 .taken)))
 
 put-requires-2 : tie.Need-put-requires-2
@@ -60,7 +60,7 @@ returns-2 c =
     let c10 = c8 .before .before in
     c .before .before .put2 .ensures ∙ ap (λ (b : List ℕ). over (c10 .args .at) b (c10 .args .out
     .now)) (row-bytes (c10 .args .w) 17 (c6 .tag .result) (c7 .parent .result) (c6 .tag .ensures) (c7 .parent .ensures .0
-    ∙ ap (λ (l : ℕ). parentBytes (linked l)) (c8 .link .ensures)) ∙ sym
+    ∙ ap (λ (l : ℕ). parentBytes (ofLink l)) (c8 .link .ensures)) ∙ sym
     (row-element (c10 .args .w) (λ q. c4 .if1 .left (c5 .kind .ensures ∙ q))))
 
 pub row-spec : {M : Type 1} → statement M

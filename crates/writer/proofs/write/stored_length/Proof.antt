@@ -1,6 +1,6 @@
 -- `write::stored_length` is the length of the stored form. The loop's invariant: the marks passed are counted.
 use Rattle.writer.proofs.WriteRecordLaws.{length-mark, length-marks, marks-start}
-use Rattle.table.specs.Words.{linked}
+use Rattle.table.specs.Words.{ofLink}
 use Rattle.model.specs.Stored.{marksBytes}
 use lib.Seq.{take-all}
 use lib.ListN.{length, getD, take}
@@ -13,7 +13,7 @@ use Rattle.writer.proofs.write.stored_length.Statement.{statement}
 use Rattle.writer.proofs.write.stored_length.Tie as tie
 
 abbrev Inv-loop : tie.InvT-loop
-Inv-loop count marks n₀ d₀ n d = (d ≤ length marks) × (n ≤ 2048 + 4 * d) × (n ≡ 4 * count + length (marksBytes 0 (map linked (take d
+Inv-loop count marks n₀ d₀ n d = (d ≤ length marks) × (n ≤ 2048 + 4 * d) × (n ≡ 4 * count + length (marksBytes 0 (map ofLink (take d
     marks))))
 
 abbrev μ-loop : tie.MeasureT-loop
@@ -45,7 +45,7 @@ add-n c =
         c5 .pre .1,
         c
             .mark-length .ensures (c3 .loop .d),
-        length-mark (c3 .loop .d) (linked (getD (c5 .args .marks .now) (c3 .loop .d) 0)),
+        length-mark (c3 .loop .d) (ofLink (getD (c5 .args .marks .now) (c3 .loop .d) 0)),
       );
     }
 
@@ -64,7 +64,7 @@ loop-again c =
         arith,
         c3 .loop .inv .1,
         c .mark-length .ensures (c3 .loop .d),
-        length-mark (c3 .loop .d) (linked (getD (c5 .args .marks .now) (c3 .loop .d) 0)),
+        length-mark (c3 .loop .d) (ofLink (getD (c5 .args .marks .now) (c3 .loop .d) 0)),
       ),
       omega (
         arith,
@@ -78,7 +78,7 @@ loop-again c =
 returns : tie.Need-returns Inv-loop μ-loop
 returns c =
     let c3 = c .before .before .before in
-    c .before .loop .inv .2 ∙ ap (λ (l : List ℕ). 4 * c3 .args .count + length (marksBytes 0 (map linked
+    c .before .loop .inv .2 ∙ ap (λ (l : List ℕ). 4 * c3 .args .count + length (marksBytes 0 (map ofLink
     l))) (take-all (c .before .loop .d) (c3 .args .marks .now) (omega arith))
 
 pub stored-length-spec : {M : Type 1} → statement M
