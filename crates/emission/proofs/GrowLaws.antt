@@ -12,7 +12,7 @@ use Rattle.model.specs.Script as model
 use Rattle.model.specs.Paths.{anyBelow, isUp}
 use Rattle.positions.specs.Positions.{Entry, plain, accessing, modifying, over, union}
 use Rattle.positions.specs.Positions as positions
-use Rattle.meeting.specs.Codes.{stepOf}
+use Rattle.meeting.specs.Decoded.{stepOf}
 use Rattle.positions.specs.Words.{withRole, entryBy, rootBy, overBy, unionBy, PositionFits, entriesIn, PushPost}
 use Rattle.emission.specs.Emitting.{outOf, GrowPre, Grown, BelowPre, BelowPost}
 use Rattle.positions.specs.declared.packed.Position.{Position}

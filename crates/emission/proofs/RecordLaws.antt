@@ -13,7 +13,7 @@ use Rattle.records.proofs.BindLaws.{withBound-set, withBound-same}
 use Rattle.records.specs.Walk.{inner}
 use Rattle.positions.specs.Positions.{accessing, root}
 use Rattle.positions.specs.Positions as positions
-use Rattle.meeting.specs.Codes.{stepOf}
+use Rattle.meeting.specs.Decoded.{stepOf}
 use Rattle.positions.specs.Words.{entryBy, rootBy, entriesIn, PushPost}
 use Rattle.emission.specs.Emitting.{outOf, nullaryOf, unaryOf, binaryOf, UnaryPre, PairedPre, Grown, NullaryPre, NullaryPost}
 use Rattle.emission.specs.Emitting.{BindPre, BindPost}

@@ -3,7 +3,7 @@
 ghost use mathlib.Core.Path.{_≡_};
 ghost use Rattle.model.specs.Paths.{anyBelow};
 ghost use Rattle.positions.specs.Positions.{pushStep, pushUnion, pushDelete, pushInsert};
-ghost use Rattle.meeting.specs.Codes.{stepOf};
+ghost use Rattle.meeting.specs.Decoded.{stepOf};
 ghost use Rattle.emission.specs.Emitting.{outOf, unaryOf, binaryOf, GrowPre, StepPre, PairedPre, UnaryPre, Grown, BindPre, BindPost};
 ghost use Rattle.emission.specs.Emitting.{BelowPre, BelowPost, NullaryPre, NullaryPost, EmitPre, EmitPost};
 use meeting::cells;

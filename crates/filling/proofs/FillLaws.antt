@@ -16,7 +16,7 @@ use Rattle.positions.specs.Positions as positions
 use Rattle.meeting.specs.Cells.{noCell, sum, between, Cells}
 use Rattle.positions.specs.Sources.{Source, fromRoot, fromStep, sourcesOf, rootsCell, sourceCell}
 use Rattle.positions.specs.Sources.{sourcesCell, cellTo, cellBy, Filled, isTested, meetAt, rowMeets}
-use Rattle.meeting.specs.Codes.{cellOf}
+use Rattle.meeting.specs.Decoded.{cellOf}
 use Rattle.positions.specs.Words.{stepIn, positionBy, entryBy, fieldsOf, entryOf, entriesBy}
 use Rattle.meeting.specs.Pairs.{marks, HasRows, ClearPost, PairPre, MarkPost}
 use Rattle.filling.specs.Filling.{PositionsPre, CellPre, MeetPre, MeetPost, RowPre}

@@ -1,7 +1,7 @@
 // Whether the positions of two scripts meet: fills the table of pairs row by row, each cell from those of lower pairs.
 ghost use mathlib.Core.Path.{_≡_};
 ghost use Rattle.positions.specs.Sources.{sourcesOf, sourcesCell, cellBy, isTested, positionsMeet};
-ghost use Rattle.meeting.specs.Codes.{stepOf, cellOf};
+ghost use Rattle.meeting.specs.Decoded.{stepOf, cellOf};
 ghost use Rattle.positions.specs.Words.{positionBy, entryBy, stepIn, rootSource, stepSource, entriesBy, climbing};
 ghost use mathlib.Core.List.{[], _∷_};
 ghost use Rattle.meeting.specs.Pairs.{marks};

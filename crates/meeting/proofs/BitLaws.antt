@@ -9,7 +9,7 @@ use lib.Bits.{bitOr, or-step, or-shr}
 use Rattle.model.specs.Base.{pick}
 use Rattle.model.specs.Meeting.{Cell, joinCell}
 use Rattle.meeting.specs.Cells.{noCell}
-use Rattle.meeting.specs.Codes.{cellBits}
+use Rattle.meeting.specs.Decoded.{cellBits}
 use Rattle.model.proofs.MirrorLaws.{cell-equal}
 
 -- NO BIT SET: nothing in common

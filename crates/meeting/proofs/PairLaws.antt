@@ -7,7 +7,7 @@ use lib.Bits.{bitOr}
 use lib.ListN.{length, getD, set, length-set}
 use lib.Seq.{getD-set-same, getD-set-other}
 use Rattle.model.proofs.BoolLaws.{eq-cases}
-use Rattle.meeting.specs.Codes.{cellBits}
+use Rattle.meeting.specs.Decoded.{cellBits}
 use Rattle.meeting.specs.Pairs.{marks, HasRows, ClearPost, PairPre, MarkPost}
 use Rattle.meeting.specs.declared.cells.Cell.{Cell}
 use Rattle.meeting.proofs.BitLaws.{join-bits}

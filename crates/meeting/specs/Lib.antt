@@ -1,3 +1,3 @@
 pub mod Cells
-pub mod Codes
+pub mod Decoded
 pub mod Pairs

@@ -6,7 +6,7 @@ use Prim.Native.Nat.{ℕ, _+_, _*_, _≤_, _<_}
 use lib.ListN.{length, getD}
 use Rattle.model.specs.Meeting.{joinCell}
 use Rattle.meeting.specs.Cells.{noCell, Cells}
-use Rattle.meeting.specs.Codes.{cellBits, cellOf}
+use Rattle.meeting.specs.Decoded.{cellBits, cellOf}
 use Rattle.meeting.specs.declared.cells.Cell.{Cell}
 
 -- positions of a script, at most

@@ -8,7 +8,7 @@ ghost use Rattle.model.specs.Meeting.{admitsElement, admitsLeaf, isNamed, isDee
 ghost use Rattle.model.specs.Meeting.{joinCell, onStep, downStep, upStep, startCell, isMet};
 ghost use Rattle.model.specs.Paths.{documentPlace, isUp};
 ghost use Rattle.meeting.specs.Cells.{noCell};
-ghost use Rattle.meeting.specs.Codes.{stepOf, cellOf};
+ghost use Rattle.meeting.specs.Decoded.{stepOf, cellOf};
 
 // The descendant axis.
 pub const DESCENDANT: usize = 1;

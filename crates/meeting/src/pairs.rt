@@ -1,7 +1,7 @@
 // The marks of pairs of positions: which of a cell's six tests hold. Nothing else knows how they are held: a byte for each pair, a row of
 // them for each position of the first script.
 ghost use mathlib.Core.Path.{_≡_};
-ghost use Rattle.meeting.specs.Codes.{cellOf};
+ghost use Rattle.meeting.specs.Decoded.{cellOf};
 ghost use Rattle.meeting.specs.Pairs.{marks, HasRows, ClearPost, PairPre, MarkPost};
 use crate::cells::Cell;
 

@@ -119,9 +119,9 @@ pub record Found (p q : Path) (c : Cell) : Type 0 where
   pub down : (z : Bool) → pick z (c .downLeaf) (c .downElement) ≡ true → Lies z p q
   pub up : (z : Bool) → pick z (c .upLeaf) (c .upElement) ≡ true → Lies z q p
 
-pick-and : (z a b x : Bool) → pick z (a && x) (b && x) ≡ true → (pick z a b ≡ true) × (x ≡ true)
-pick-and true a b x h = and-parts a x h
-pick-and false a b x h = and-parts b x h
+pick-and-parts : (z a b x : Bool) → pick z (a && x) (b && x) ≡ true → (pick z a b ≡ true) × (x ≡ true)
+pick-and-parts true a b x h = and-parts a x h
+pick-and-parts false a b x h = and-parts b x h
 
 pick-or : (z a b c d : Bool) → pick z (a || c) (b || d) ≡ true → (pick z a b ≡ true) ⊎ (pick z c d ≡ true)
 pick-or true a b c d h = or-cases a c h
@@ -135,7 +135,7 @@ pick-neither false h = false≢true h
 lies-step : (z : Bool) (p q : Path) (s : Step) (c d : Bool) → StepFits s → (c ≡ true → Lies false p q) → (d ≡ true → Lies false q p) →
     pick z (admitsLeaf s && (c || (isDeep s && d))) (admitsElement s && (c || (isDeep s && d))) ≡ true → Lies z (p ▸ s) q
 lies-step z p q s c d f h k e =
-    let a = pick-and z (admitsLeaf s) (admitsElement s) (c || (isDeep s && d)) e in
+    let a = pick-and-parts z (admitsLeaf s) (admitsElement s) (c || (isDeep s && d)) e in
     elim (or-cases c (isDeep s && d) (a .1)) [
       | inl i ↦ lies-below z p q s f (a .0) (h i)
       | inr i ↦ let b = and-parts (isDeep s) d i in lies-past z p q s f (a .0) (b .0) (k (b .1))

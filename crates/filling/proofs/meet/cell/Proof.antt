@@ -1,6 +1,6 @@
 -- `meet::cell`: a union's cell from its parts, any other's from its source. One law of FillLaws for each way out.
 use native.Mathlib.Omega.{arith}
-use Rattle.meeting.specs.Codes.{cellOf}
+use Rattle.meeting.specs.Decoded.{cellOf}
 use Rattle.meeting.specs.Pairs.{marks}
 use Rattle.filling.proofs.FillLaws.{over-lower, union-lower, row-asks, lower-asks}
 use Rattle.filling.proofs.FillLaws.{first-union, second-union, first-root, first-step, first-nowhere}

@@ -1,6 +1,6 @@
 -- `meet::from_root` by the second position's kind: one law of FillLaws for each way out.
 use Rattle.positions.specs.Sources.{fromRoot}
-use Rattle.meeting.specs.Codes.{stepOf, cellOf}
+use Rattle.meeting.specs.Decoded.{stepOf, cellOf}
 use Rattle.meeting.specs.Pairs.{marks}
 use Rattle.filling.proofs.FillLaws.{over-lower, row-asks, root-root, root-step, to-nothing}
 use borrow.Author.Needs.{needs}

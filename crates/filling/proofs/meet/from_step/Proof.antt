@@ -2,7 +2,7 @@
 use mathlib.Core.Path.{sym, _∙_}
 use native.Mathlib.Omega.{arith}
 use Rattle.positions.specs.Sources.{fromStep}
-use Rattle.meeting.specs.Codes.{stepOf, cellOf}
+use Rattle.meeting.specs.Decoded.{stepOf, cellOf}
 use Rattle.positions.specs.Words.{stepIn}
 use Rattle.meeting.specs.Pairs.{marks}
 use Rattle.meeting.proofs.BitLaws.{no-bits}

@@ -4,7 +4,7 @@ use Prim.Native.Nat.{_-_, _≤_}
 use native.Mathlib.Omega.{arith}
 use lib.ListN.{length}
 use Rattle.positions.specs.Sources.{Filled}
-use Rattle.meeting.specs.Codes.{cellOf}
+use Rattle.meeting.specs.Decoded.{cellOf}
 use Rattle.meeting.specs.Pairs.{marks, HasRows}
 use Rattle.positions.specs.Words.{entriesBy}
 use Rattle.filling.proofs.FillLaws.{meet-asks, part-asks, union-asks, union-filled, row-started, row-filled}
