@@ -2,7 +2,8 @@
 ghost use mathlib.Core.Path.{_≡_};
 ghost use mathlib.Core.Bool.{true};
 ghost use Rattle.table.specs.Words.{fits};
-ghost use Rattle.codes.specs.Codes.{codeOf, finishedCode, finishedOut};
+ghost use Rattle.codes.specs.Codes.{codeOf, lentCode, finishedCode, finishedOut};
+use table::Fault;
 use table::TableResult;
 use writer::write;
 
@@ -21,6 +22,13 @@ pub fn code(number: u8, which: u8, place: usize) -> u64
     ensures { λ r. ⌜ r ≡ codeOf number which place ⌝ }
 {
     (number as u64) + 256 * (which as u64) + 65536 * (place as u64 % PLACES)
+}
+
+// A lent area is too short.
+pub fn lent_short() -> u64
+    ensures { λ r. ⌜ r ≡ lentCode ⌝ }
+{
+    code(Fault::LENT, AREA, 0)
 }
 
 // The end of a call that gives a table: its refusal, `which` saying whose it is; or the table written, and how many bytes.

@@ -5,13 +5,11 @@ ghost use mathlib.Core.Path.{_≡_};
 ghost use Rattle.ffi.specs.Calls.{planCode, planOut, sweepCode, sweepOut, undoCode, undoOut, analyseCode};
 ghost use Rattle.ffi.specs.Running.{runCalled};
 use codes::answer;
-use codes::answer::AREA;
 use codes::answer::PLAN;
 use codes::answer::SCRIPT;
 use lent::OUT;
 use lent::done;
 use paths::Analysis;
-use table::Fault;
 
 // Reads a plan and writes it back to out, which needs room for any plan.
 #[no_mangle]
@@ -20,7 +18,7 @@ pub extern "C" fn yegnabit_plan(plan: &[u8], out: &mut [u8]) -> u64
     ensures { λ r. ⌜ now (out .exit) ≡ planOut (now (plan .entry)) (now (out .entry)) ⌝ }
 {
     if out.len() < OUT {
-        return answer::code(Fault::LENT, AREA, 0);
+        return answer::lent_short();
     }
     let read = plan::read_plan(plan);
     answer::finish(read, PLAN, out)
@@ -33,7 +31,7 @@ pub extern "C" fn yegnabit_sweep(plan: &[u8], out: &mut [u8]) -> u64
     ensures { λ r. ⌜ now (out .exit) ≡ sweepOut (now (plan .entry)) (now (out .entry)) ⌝ }
 {
     if out.len() < OUT {
-        return answer::code(Fault::LENT, AREA, 0);
+        return answer::lent_short();
     }
     let read = plan::read_plan(plan);
     let number = read.fault.number;
@@ -51,7 +49,7 @@ pub extern "C" fn yegnabit_undo(plan: &[u8], history: &[u8], out: &mut [u8]) -> 
     ensures { λ r. ⌜ now (out .exit) ≡ undoOut (now (plan .entry)) (now (history .entry)) (now (out .entry)) ⌝ }
 {
     if out.len() < OUT {
-        return answer::code(Fault::LENT, AREA, 0);
+        return answer::lent_short();
     }
     let read = plan::read_plan(plan);
     let number = read.fault.number;
@@ -88,7 +86,7 @@ pub extern "C" fn yegnabit_run(
         (now (history .entry)) (now (work .entry)) (now (out .entry)) (now (done .entry)) .done ⌝ }
 {
     if done::is_lent_short(out.len(), done.len()) {
-        return answer::code(Fault::LENT, AREA, 0);
+        return answer::lent_short();
     }
     let read = plan::read_plan(plan);
     let number = read.fault.number;

@@ -9,14 +9,15 @@ use Rattle.model.specs.Base.{pick, atFront}
 use Rattle.model.specs.Call.{areasFit}
 use Rattle.model.specs.Limits.{maxRows, documents}
 use Rattle.model.specs.Refusal.{lentShort}
+use Rattle.model.specs.Stored.{recordSize}
 use Rattle.writer.specs.Writing.{planWritten}
 use Rattle.table.specs.Words.{fits}
 use Rattle.run.specs.declared.RunResult.{RunResult}
 use Rattle.codes.specs.Codes.{codeOf, codeUnless, areaUnless, finishedOut}
 
--- what out needs, 2,080: four bytes for each row and mark of the longest plan
+-- what out needs, 2,080 bytes: a record for each row and mark of the longest plan
 abbrev pub outNeed : ℕ
-outNeed = 4 * (maxRows + documents)
+outNeed = recordSize * (maxRows + documents)
 
 -- what done needs: six numbers
 abbrev pub doneNeed : ℕ

@@ -1,7 +1,8 @@
 // The areas lent to the C calls.
 use table::Table;
+use table::stored;
 
 pub mod done;
 
-// The bytes that out needs: four for each row and mark of the longest plan.
-pub const OUT: usize = 4 * (Table::ROWS + Table::DOCUMENTS);
+// The bytes that out needs: a record for each row and mark of the longest plan.
+pub const OUT: usize = stored::SIZE * (Table::ROWS + Table::DOCUMENTS);

@@ -6,7 +6,7 @@ use native.Mathlib.Omega.{arith}
 use lib.Dec.{eqb}
 use borrow.Author.Tests.{eqb-true}
 use lib.Bits.{bitOr, or-step, or-shr}
-use Rattle.model.specs.Base.{pick}
+use Rattle.model.specs.Base.{bit}
 use Rattle.model.specs.Meeting.{Cell, joinCell}
 use Rattle.meeting.specs.Cells.{noCell}
 use Rattle.meeting.specs.Decoded.{cellBits}
@@ -19,7 +19,7 @@ no-bits b e = ap cellBits (eqb-true b 0 e)
 -- A CELL from two tests, by the weights of their bits
 pub two-bits : (m n : ℕ) (make : Bool → Bool → Cell) → cellBits (m * 1 + n * 1) ≡ make true true →
     cellBits (m * 1 + n * 0) ≡ make true false → cellBits (m * 0 + n * 1) ≡ make false true → cellBits (m * 0 + n * 0) ≡ make false false →
-    (e l : Bool) (a b : ℕ) → a ≡ pick e 1 0 → b ≡ pick l 1 0 → cellBits (m * a + n * b) ≡ make e l
+    (e l : Bool) (a b : ℕ) → a ≡ bit e → b ≡ bit l → cellBits (m * a + n * b) ≡ make e l
 two-bits m n make f g h k true true a b p q = rw (p, q) f
 two-bits m n make f g h k true false a b p q = rw (p, q) g
 two-bits m n make f g h k false true a b p q = rw (p, q) h

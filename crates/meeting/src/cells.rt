@@ -2,7 +2,7 @@
 ghost use mathlib.Core.Path.{_≡_};
 ghost use lib.Dec.{eqb};
 ghost use Prim.Native.Nat.{_<_};
-ghost use Rattle.model.specs.Base.{pick};
+ghost use Rattle.model.specs.Base.{bit};
 ghost use Rattle.model.specs.Meeting.{onCell, downCell, upCell};
 ghost use Rattle.model.specs.Meeting.{admitsElement, admitsLeaf, isNamed, isDeep, shareElement};
 ghost use Rattle.model.specs.Meeting.{joinCell, onStep, downStep, upStep, startCell, isMet};
@@ -38,7 +38,7 @@ pub struct Cell {
 
 // 1 for true.
 fn bit(b: bool) -> u8
-    ensures { λ r. ⌜ r ≡ pick b 1 0 ⌝ }
+    ensures { λ r. ⌜ r ≡ bit b ⌝ }
     ensures { λ r. ⌜ r < 2 ⌝ }
 {
     if b {

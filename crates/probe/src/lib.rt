@@ -23,10 +23,10 @@ pub extern "C" fn yegnabit_write_table(
     ensures { λ r. ⌜ now (out .exit) ≡ writeOut count (now (rows .entry)) (now (marks .entry)) (now (out .entry)) ⌝ }
 {
     if rows.len() != Table::ROWS {
-        return answer::code(Fault::LENT, AREA, 0);
+        return answer::lent_short();
     }
     if marks.len() != Table::DOCUMENTS {
-        return answer::code(Fault::LENT, AREA, 0);
+        return answer::lent_short();
     }
     let t = copy::table_of(count, rows, marks);
     let written = plan::write_plan(t, out);
@@ -45,10 +45,10 @@ pub extern "C" fn yegnabit_sweep_table(count: usize, rows: &mut [u32], marks: &m
     ensures { λ r. ⌜ now (marks .exit) ≡ marksLeft count (now (rows .entry)) (now (marks .entry)) ⌝ }
 {
     if rows.len() != Table::ROWS {
-        return answer::code(Fault::LENT, AREA, 0);
+        return answer::lent_short();
     }
     if marks.len() != Table::DOCUMENTS {
-        return answer::code(Fault::LENT, AREA, 0);
+        return answer::lent_short();
     }
     let t = copy::table_of(count, rows, marks);
     let swept = sweep::sweep_table(t);

@@ -7,7 +7,7 @@ use lib.ListN.{length, getD, set, replicate}
 use Rattle.model.specs.Limits.{maxRows, documents}
 use Rattle.model.specs.Base.{pick}
 use Rattle.model.specs.Refusal.{fault, faultAt}
-use Rattle.model.specs.Stored.{elementKind, leafKind, Read, bad, got, readPlan, wordAt, rowIn, lastMarked}
+use Rattle.model.specs.Stored.{elementKind, leafKind, recordSize, Read, bad, got, readPlan, wordAt, rowIn, lastMarked}
 use Rattle.model.specs.Stored.{rowFault, markFault, recordFault, recorded}
 use Rattle.table.specs.Words.{linkOf, ofLink, wordOf, decodeParts, Canonical}
 use Rattle.reader.specs.declared.read.RecordRead.{RecordRead}
@@ -18,7 +18,7 @@ abbrev pub lastOf : (marks : List ℕ) → ℕ
 lastOf ms = lastMarked 0 (map ofLink ms)
 
 pub record RowPre (s ws : List ℕ) (n : ℕ) : Type 0 where
-  pub whole : 4 ≤ length s
+  pub whole : recordSize ≤ length s
   pub low : elementKind ≤ getD s 0 0
   pub high : getD s 0 0 ≤ leafKind
   pub room : n < maxRows
@@ -30,7 +30,7 @@ pub record RowPost (s ws : List ℕ) (n last : ℕ) (ws′ : List ℕ) (r : ℕ)
   pub link : r ≡ 0 → linkOf (rowIn s .parent) < 1024
 
 pub record MarkPre (s ws ms : List ℕ) (n : ℕ) : Type 0 where
-  pub whole : 4 ≤ length s
+  pub whole : recordSize ≤ length s
   pub room : n ≤ maxRows
   pub size : length ws ≡ maxRows
   pub documents : length ms ≡ documents
@@ -55,7 +55,7 @@ pub record RecordPre (s ws ms : List ℕ) (n last : ℕ) : Type 0 where
 
 -- the record is whole, and the table has it
 pub record Recorded (s ws ms : List ℕ) (n : ℕ) (ws′ ms′ : List ℕ) (n′ last′ : ℕ) : Type 0 where
-  pub whole : 4 ≤ length s
+  pub whole : recordSize ≤ length s
   pub table : decodeParts n′ ws′ ms′ ≡ recorded (decodeParts n ws ms) s
   pub held : Held ws′ ms′ n′ last′
 

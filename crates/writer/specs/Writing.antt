@@ -7,7 +7,7 @@ use lib.ListN.{length, getD}
 use Rattle.model.specs.Base.{pick, atFront}
 use Rattle.model.specs.Limits.{maxRows, documents}
 use Rattle.model.specs.Refusal as refusal
-use Rattle.model.specs.Stored.{marksBytes, stored}
+use Rattle.model.specs.Stored.{recordSize, marksBytes, stored}
 use Rattle.table.specs.Results.{faultOf}
 use Rattle.table.specs.Words.{ofLink, decode, fits}
 use Rattle.table.specs.declared.Table.{Table}
@@ -35,7 +35,7 @@ pub record RowsPre (ws o : List ℕ) (n : ℕ) : Type 0 where
   pub rows : n ≤ length ws
   pub few : n ≤ maxRows
   pub tags : (k : ℕ) → k < n → getD ws k 0 < 1048576
-  pub room : 4 * n ≤ length o
+  pub room : recordSize * n ≤ length o
 
 -- room for the marks from a place on
 pub record MarksPre (ms o : List ℕ) (start : ℕ) : Type 0 where

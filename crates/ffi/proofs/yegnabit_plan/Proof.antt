@@ -10,13 +10,13 @@ use borrow.Author.Needs.{needs}
 use Rattle.ffi.proofs.yegnabit_plan.Statement.{statement}
 use Rattle.ffi.proofs.yegnabit_plan.Tie as tie
 
-code-requires : tie.Need-code-requires
-code-requires c κs = search needs
+lent-short-requires : tie.Need-lent-short-requires
+lent-short-requires c κs = search needs
 
 returns : tie.Need-returns
 returns c =
     let c4 = c .before .before .before .before in
-    area-short (c4 .args .out .now) _ _ (c .code .ensures) (c .before .if1 .taken)
+    area-short (c4 .args .out .now) _ _ (c .lent-short .ensures) (c .before .if1 .taken)
 
 read-plan-requires : tie.Need-read-plan-requires
 read-plan-requires c κs = search needs
@@ -43,4 +43,4 @@ returns-2 c =
 
 pub yegnabit-plan-spec : {M : Type 1} → statement M
 yegnabit-plan-spec =
-    tie.close (tie.spec code-requires returns read-plan-requires finish-requires same-length returns-2)
+    tie.close (tie.spec lent-short-requires returns read-plan-requires finish-requires same-length returns-2)

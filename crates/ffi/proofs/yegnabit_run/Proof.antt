@@ -14,16 +14,16 @@ use Rattle.ffi.proofs.yegnabit_run.Tie as tie
 is-lent-short-requires : tie.Need-is-lent-short-requires
 is-lent-short-requires c κs = search needs
 
-code-requires : tie.Need-code-requires
-code-requires c κs = search needs
+lent-short-requires : tie.Need-lent-short-requires
+lent-short-requires c κs = search needs
 
 returns : tie.Need-returns
 returns c =
     let c10 = c .before .before .before .before .before .before .before .before .before .before in
     let x = c10 .args in
     call-short (x .plan .now) (x .script .now) (x .answer .now) (x .history .now) (x .work .now) (x .out .now) (x .done .now)
-    (c .before .before .is-lent-short .result) (c .before .before .is-lent-short .ensures) (c .code .result) (c .code .ensures) (c .before
-    .if1 .taken)
+    (c .before .before .is-lent-short .result) (c .before .before .is-lent-short .ensures) (c .lent-short .result)
+    (c .lent-short .ensures) (c .before .if1 .taken)
 
 read-plan-requires : tie.Need-read-plan-requires
 read-plan-requires c κs = search needs
@@ -39,8 +39,8 @@ put-done-requires c κs =
     let x = c22 .args in
     six-fit (c14 .is-lent-short .result) (length (x .out .now)) (length (x .done .now)) (c14 .is-lent-short .ensures) (c13 .if1 .left)
 
-code-requires-2 : tie.Need-code-requires-2
-code-requires-2 c κs = search needs
+code-requires : tie.Need-code-requires
+code-requires c κs = search needs
 
 same-length : tie.Need-same-length
 same-length c = search needs
@@ -66,7 +66,7 @@ returns-2 c =
     let x = c26 .args in
     call-plan-refused (x .plan .now) (x .script .now) (x .answer .now) (x .history .now) (x .work .now) (x .out .now) (x .done .now)
     (c18 .is-lent-short .result) (c18 .is-lent-short .ensures) (c17 .if1 .left) (c16 .read-plan .result) (c16 .read-plan .ensures)
-    (c .code2 .result) _ _ _ _ (c15 .if2 .taken) (c .code2 .ensures) (c11 .clear .ensures .0) (c11 .clear .ensures .1 .0) (c11 .clear
+    (c .code .result) _ _ _ _ (c15 .if2 .taken) (c .code .ensures) (c11 .clear .ensures .0) (c11 .clear .ensures .1 .0) (c11 .clear
     .ensures .1 .1)
     (c3 .put-done .ensures)
 
@@ -131,12 +131,12 @@ yegnabit-run-spec =
     tie.close
     (tie.spec
     is-lent-short-requires
-    code-requires
+    lent-short-requires
     returns
     read-plan-requires
     clear-requires
     put-done-requires
-    code-requires-2
+    code-requires
     same-length
     same-length-2
     same-length-3
