@@ -26,7 +26,8 @@ kind-requires c κs = search needs
 
 returns-2 : tie.Need-returns-2
 returns-2 c =
-    rw (lt-ltb (c .before .before .before .before .args .link - 1) (c .before .before .before .before .args .bound) (omega (arith, c .before .before .if1 .left, c .before .before .before .before .pre)))
+    let c4 = c .before .before .before .before in
+    rw (lt-ltb (c4 .args .link - 1) (c4 .args .bound) (omega (arith, c .before .before .if1 .left, c4 .pre)))
     (ap (λ (j : ℕ). not (eqb j 2)) (c .kind .ensures))
 
 pub is-element-below-spec : {M : Type 1} → statement M
