@@ -1,42 +1,30 @@
 // Whether the positions of two scripts meet: fills the table of pairs row by row, each cell from those of lower pairs.
 ghost use mathlib.Core.Path.{_≡_};
 ghost use Rattle.positions.specs.Sources.{sourcesOf, sourcesCell, cellBy, isTested, positionsMeet};
-ghost use Rattle.meeting.specs.Decoded.{stepOf, cellOf};
-ghost use Rattle.positions.specs.Words.{positionBy, entryBy, stepIn, rootSource, stepSource, entriesBy, climbing};
+ghost use Rattle.meeting.specs.Decoded.{cellOf};
+ghost use Rattle.positions.specs.Words.{positionBy, entryBy, rootSource, stepSource, entriesBy, someLeadsUp};
 ghost use mathlib.Core.List.{[], _∷_};
 ghost use Rattle.meeting.specs.Pairs.{marks};
 ghost use Rattle.filling.specs.Filling.{CellPre, FromStepPre, MeetPre, MeetPost, RowPre, RowPost, TablePre};
 ghost use Rattle.filling.specs.Filling.{UnionRowPre, UnionRowPost};
 use meeting::cells::Cell;
-use meeting::cells::Step;
 use meeting::pairs;
 use meeting::pairs::Marks;
 use positions::packed;
 use positions::packed::Position;
 
 // Some position leads up.
-pub fn climbs(words: &[usize]) -> bool
-    ensures { λ r. ⌜ r ≡ climbing (now (words .entry)) ⌝ }
+pub fn some_leads_up(words: &[usize]) -> bool
+    ensures { λ r. ⌜ r ≡ someLeadsUp (now (words .entry)) ⌝ }
 {
     let mut i = 0;
     while i < words.len() {
-        if Position::unpacked(words[i]).is_climb() {
+        if Position::unpacked(words[i]).leads_up() {
             return true;
         }
         i += 1;
     }
     false
-}
-
-// The step of a position over another.
-fn step_of(p: Position) -> Step
-    ensures { λ r. ⌜ stepOf r ≡ stepIn p ⌝ }
-{
-    Step {
-        axis: p.axis,
-        test: p.test,
-        name: p.name,
-    }
 }
 
 // From a document, number k of the first script, to the sources of q, number l of the second.
@@ -48,7 +36,7 @@ fn from_root(table: &[Marks], k: usize, l: usize, p: Position, q: Position) -> C
         return Cell::roots(p.name, q.name);
     }
     if q.kind == packed::OVER {
-        return pairs::marked(table, k, q.first).up_step(step_of(q));
+        return pairs::marked(table, k, q.first).up_step(q.step());
     }
     Cell::none()
 }
@@ -59,7 +47,7 @@ fn from_step(table: &[Marks], k: usize, l: usize, p: Position, q: Position) -> C
     ensures { λ r. ⌜ cellOf r ≡ sourcesCell k l (marks (now (table .entry))) (stepSource p ∷ []) (sourcesOf (positionBy q)) ⌝ }
 {
     if q.kind == packed::ROOT {
-        return pairs::marked(table, p.first, l).down_step(step_of(p));
+        return pairs::marked(table, p.first, l).down_step(p.step());
     }
     if q.kind == packed::OVER {
         let both = pairs::marked(table, p.first, q.first);
@@ -68,8 +56,8 @@ fn from_step(table: &[Marks], k: usize, l: usize, p: Position, q: Position) -> C
         if both.join(first.join(second)).is_none() {
             return Cell::none();
         }
-        let s = step_of(p);
-        let t = step_of(q);
+        let s = p.step();
+        let t = q.step();
         return both.on_step(s, t)
             .join(first.down_step(s).join(second.up_step(t)));
     }

@@ -20,13 +20,13 @@ use Rattle.positions.specs.Sources.{positionsMeet}
 use Rattle.positions.specs.Words.{entryOf, entriesIn}
 use Rattle.meeting.specs.Pairs.{HasRows}
 use Rattle.filling.specs.Filling.{TablePre}
-use Rattle.positions.specs.Words.{entriesBy, climbing}
+use Rattle.positions.specs.Words.{entriesBy, someLeadsUp}
 use Rattle.emission.specs.Emitting.{EmitPre, EmitPost}
 use Rattle.paths.specs.Analysis.{byAnswer, analysisOf, analysed, ScriptPre, ScriptPost, AnswerPre, AnswerPost, FrontPre}
 use Rattle.paths.specs.declared.Analysis.{Analysis}
 use Rattle.paths.specs.declared.Analysis.the-variants.{Refused, Upward}
 use Rattle.positions.proofs.AnswerLaws.{emitted-right, answer-by}
-use Rattle.positions.proofs.ClimbLaws.{climbing-is}
+use Rattle.positions.proofs.UpLaws.{someLeadsUp-is}
 use Rattle.positions.proofs.WordLaws.{entriesIn-length}
 use Rattle.emission.proofs.SizeLaws.{script-records}
 
@@ -101,21 +101,21 @@ module _ {ws : List ℕ} {n : ℕ} {us : List ℕ} {m : ℕ} {t : List ℕ} (pre
             room = subst (HasRows t) (sym (length-take-le n ws (omega (arith, pre .first .size, pre .first .few)))) (pre .table);
           }
 
-  module _ {x : Bool} (climbs : x ≡ climbing (part ws n)) where
-    first-climbs : x ≡ climbing (take n ws)
-    first-climbs = climbs ∙ ap climbing (part-is ws n)
+  module _ {x : Bool} (up : x ≡ someLeadsUp (part ws n)) where
+    first-up : x ≡ someLeadsUp (take n ws)
+    first-up = up ∙ ap someLeadsUp (part-is ws n)
 
     pub answer-first : x ≡ true → AnswerPost ws n us m Upward
     answer-first h =
         record {
-          is = λ e f g i. upward-is e f (ap (λ (y : Bool). y || hasUp f) (sym (climbing-is (take n ws) e g) ∙ sym first-climbs ∙ h));
+          is = λ e f g i. upward-is e f (ap (λ (y : Bool). y || hasUp f) (sym (someLeadsUp-is (take n ws) e g) ∙ sym first-up ∙ h));
         }
 
-    module _ (not : x ≡ false) {y : Bool} (climbs₂ : y ≡ climbing (part us m)) where
+    module _ (not : x ≡ false) {y : Bool} (up₂ : y ≡ someLeadsUp (part us m)) where
       ups : (e f : Expr) → entriesIn ws n ≡ entriesOf e → entriesIn us m ≡ entriesOf f → (hasUp e || hasUp f) ≡ y
       ups e f g i =
-          ap (λ (z : Bool). z || hasUp f) (sym (climbing-is (take n ws) e g) ∙ sym first-climbs ∙ not) ∙
-          sym (climbing-is (take m us) f i) ∙ sym (climbs₂ ∙ ap climbing (part-is us m))
+          ap (λ (z : Bool). z || hasUp f) (sym (someLeadsUp-is (take n ws) e g) ∙ sym first-up ∙ not) ∙
+          sym (someLeadsUp-is (take m us) f i) ∙ sym (up₂ ∙ ap someLeadsUp (part-is us m))
 
       pub answer-second : y ≡ true → AnswerPost ws n us m Upward
       answer-second h = record { is = λ e f g i. upward-is e f (ups e f g i ∙ h) }

@@ -41,10 +41,10 @@ fn answer(first: &[usize], n: usize, second: &[usize], m: usize, table: &mut [Ma
     requires { ⌜ AnswerPre (now first) n (now second) m (now table) ⌝ }
     ensures { λ r. ⌜ AnswerPost (now (first .entry)) n (now (second .entry)) m r ⌝ }
 {
-    if meet::climbs(&first[0..n]) {
+    if meet::some_leads_up(&first[0..n]) {
         return Analysis::Upward;
     }
-    if meet::climbs(&second[0..m]) {
+    if meet::some_leads_up(&second[0..m]) {
         return Analysis::Upward;
     }
     if meet::positions_meet(&first[0..n], &second[0..m], table) {

@@ -5,4 +5,4 @@ pub mod EmitLaws
 pub mod TraverseLaws
 pub mod AnswerLaws
 pub mod WordLaws
-pub mod ClimbLaws
+pub mod UpLaws

@@ -39,11 +39,11 @@ IsLower k (over s i) = i < k
 IsLower k (union i j) = (i < k) × (j < k)
 
 -- a step that leads up
-abbrev pub isClimb : Position → Bool
-isClimb nowhere = false
-isClimb (root d) = false
-isClimb (over s i) = isUp s
-isClimb (union i j) = false
+abbrev pub leadsUp : Position → Bool
+leadsUp nowhere = false
+leadsUp (root d) = false
+leadsUp (over s i) = isUp s
+leadsUp (union i j) = false
 
 -- EMISSION: the number of an expression's position, and the entries up to there
 pub record Emitted : Type 0 where

@@ -98,9 +98,10 @@ pub record PushPost (ws : List ℕ) (n : ℕ) (p : Position) (ws′ : List ℕ) 
 abbrev pub entriesBy : (words : List ℕ) → List positions.Entry
 entriesBy ws = map entryOf ws
 
--- UPWARD: some position among them leads up
-abbrev pub climbAt : (words : List ℕ) → (number : ℕ) → Bool
-climbAt ws k = positions.isClimb (positions.entryAt (entriesBy ws) k .position)
+-- UPWARD: a position among them leads up
+abbrev pub leadsUpAt : (words : List ℕ) → (number : ℕ) → Bool
+leadsUpAt ws k = positions.leadsUp (positions.entryAt (entriesBy ws) k .position)
 
-abbrev pub climbing : (words : List ℕ) → Bool
-climbing ws = anyUpTo (climbAt ws) (length ws)
+-- some position does
+abbrev pub someLeadsUp : (words : List ℕ) → Bool
+someLeadsUp ws = anyUpTo (leadsUpAt ws) (length ws)

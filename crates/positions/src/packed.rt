@@ -1,8 +1,9 @@
 // Positions of a script, each packed into a word: kind, role, axis, test, name or document, first operand, second operand.
 ghost use mathlib.Core.Path.{_≡_};
-ghost use Rattle.positions.specs.Positions.{isClimb};
-ghost use Rattle.positions.specs.Words.{positionBy, rootBy, overBy, unionBy, wordOf, fieldsOf, PositionFits, PushPre, PushPost};
-use meeting::cells;
+ghost use Rattle.meeting.specs.Decoded.{stepOf};
+ghost use Rattle.positions.specs.Positions.{leadsUp};
+ghost use Rattle.positions.specs.Words.{positionBy, stepIn, rootBy, overBy, unionBy, wordOf, fieldsOf, PositionFits, PushPre};
+ghost use Rattle.positions.specs.Words.{PushPost};
 use meeting::cells::Step;
 use meeting::pairs;
 
@@ -77,11 +78,22 @@ impl Position {
         }
     }
 
-    // A step that leads up.
-    pub fn is_climb(self) -> bool
-        ensures { λ r. ⌜ r ≡ isClimb (positionBy self) ⌝ }
+    // The step of a position over another.
+    pub fn step(self) -> Step
+        ensures { λ r. ⌜ stepOf r ≡ stepIn self ⌝ }
     {
-        (self.kind == OVER) & (cells::PARENT <= self.axis)
+        Step {
+            axis: self.axis,
+            test: self.test,
+            name: self.name,
+        }
+    }
+
+    // A position by a step that leads up.
+    pub fn leads_up(self) -> bool
+        ensures { λ r. ⌜ r ≡ leadsUp (positionBy self) ⌝ }
+    {
+        (self.kind == OVER) & self.step().is_up()
     }
 
     // Each field in its bits.

@@ -4,41 +4,41 @@ use borrow.Author.Needs.{needs}
 use Rattle.paths.proofs.answer.Statement.{statement}
 use Rattle.paths.proofs.answer.Tie as tie
 
-sub-climbs : tie.Need-sub-climbs
-sub-climbs c = search needs
+sub-some-leads-up : tie.Need-sub-some-leads-up
+sub-some-leads-up c = search needs
 
-part-climbs-start : tie.Need-part-climbs-start
-part-climbs-start c = search needs
+part-some-leads-up-start : tie.Need-part-some-leads-up-start
+part-some-leads-up-start c = search needs
 
-part-climbs-end : tie.Need-part-climbs-end
-part-climbs-end c = search needs
+part-some-leads-up-end : tie.Need-part-some-leads-up-end
+part-some-leads-up-end c = search needs
 
-climbs-requires : tie.Need-climbs-requires
-climbs-requires c κs = search needs
+some-leads-up-requires : tie.Need-some-leads-up-requires
+some-leads-up-requires c κs = search needs
 
 returns : tie.Need-returns
 returns c =
     let c6 = c .before .before .before .before .before .before in
-    answer-first (c6 .pre) (c .before .climbs .ensures) (c .if1 .taken)
+    answer-first (c6 .pre) (c .before .some-leads-up .ensures) (c .if1 .taken)
 
-sub-climbs-2 : tie.Need-sub-climbs-2
-sub-climbs-2 c = search needs
+sub-some-leads-up-2 : tie.Need-sub-some-leads-up-2
+sub-some-leads-up-2 c = search needs
 
-part-climbs-start-2 : tie.Need-part-climbs-start-2
-part-climbs-start-2 c = search needs
+part-some-leads-up-start-2 : tie.Need-part-some-leads-up-start-2
+part-some-leads-up-start-2 c = search needs
 
-part-climbs-end-2 : tie.Need-part-climbs-end-2
-part-climbs-end-2 c = search needs
+part-some-leads-up-end-2 : tie.Need-part-some-leads-up-end-2
+part-some-leads-up-end-2 c = search needs
 
-climbs-requires-2 : tie.Need-climbs-requires-2
-climbs-requires-2 c κs = search needs
+some-leads-up-requires-2 : tie.Need-some-leads-up-requires-2
+some-leads-up-requires-2 c κs = search needs
 
 returns-2 : tie.Need-returns-2
 returns-2 c =
     let c3 = c .before .before .before in
     let c4 = c3 .before in
     let c9 = c4 .before .before .before .before .before in
-    answer-second (c9 .pre) (c4 .climbs .ensures) (c3 .if1 .left) (c .before .climbs2 .ensures) (c .if2 .taken)
+    answer-second (c9 .pre) (c4 .some-leads-up .ensures) (c3 .if1 .left) (c .before .some-leads-up2 .ensures) (c .if2 .taken)
 
 sub-positions-meet : tie.Need-sub-positions-meet
 sub-positions-meet c = search needs
@@ -74,7 +74,8 @@ returns-3 c =
     let c10 = c8 .before .before in
     let c11 = c10 .before in
     let c16 = c11 .before .before .before .before .before in
-    answer-last (c16 .pre) (c11 .climbs .ensures) (c10 .if1 .left) (c8 .climbs2 .ensures) (c7 .if2 .left) (c3 .positions-meet .ensures)
+    answer-last (c16 .pre) (c11 .some-leads-up .ensures) (c10 .if1 .left) (c8 .some-leads-up2 .ensures) (c7 .if2 .left)
+    (c3 .positions-meet .ensures)
     (c .if3 .taken)
 
 same-length-2 : tie.Need-same-length-2
@@ -88,22 +89,23 @@ returns-4 c =
     let c10 = c8 .before .before in
     let c11 = c10 .before in
     let c16 = c11 .before .before .before .before .before in
-    answer-last (c16 .pre) (c11 .climbs .ensures) (c10 .if1 .left) (c8 .climbs2 .ensures) (c7 .if2 .left) (c3 .positions-meet .ensures)
+    answer-last (c16 .pre) (c11 .some-leads-up .ensures) (c10 .if1 .left) (c8 .some-leads-up2 .ensures) (c7 .if2 .left)
+    (c3 .positions-meet .ensures)
     (c .if3 .left)
 
 pub answer-spec : {M : Type 1} → statement M
 answer-spec =
     tie.close
     (tie.spec
-    sub-climbs
-    part-climbs-start
-    part-climbs-end
-    climbs-requires
+    sub-some-leads-up
+    part-some-leads-up-start
+    part-some-leads-up-end
+    some-leads-up-requires
     returns
-    sub-climbs-2
-    part-climbs-start-2
-    part-climbs-end-2
-    climbs-requires-2
+    sub-some-leads-up-2
+    part-some-leads-up-start-2
+    part-some-leads-up-end-2
+    some-leads-up-requires-2
     returns-2
     sub-positions-meet
     part-positions-meet-start

@@ -22,8 +22,8 @@ marked-requires c κs =
     row-asks (c5 .args .table .now) (c5 .args .k) (c5 .args .l) (c5 .args .p) (c5 .args .q) (c5 .pre) (c5 .args .q .first) (over-lower
     (c5 .args .q) (c5 .args .l) (c5 .pre .second) (c .if2 .taken))
 
-step-of-requires : tie.Need-step-of-requires
-step-of-requires c κs = search needs
+step-requires : tie.Need-step-requires
+step-requires c κs = search needs
 
 up-step-requires : tie.Need-up-step-requires
 up-step-requires c κs = search needs
@@ -34,8 +34,8 @@ returns-2 c =
     let c3 = c2 .before in
     let c8 = c3 .before .before .before .before .before in
     root-step (marks (c8 .args .table .now)) (c8 .args .k) (c8 .args .l) (c8 .args .q) (cellOf (c .up-step .result))
-    (c8 .args .p .name) (c3 .if2 .taken) (cellOf (c2 .marked .result)) (stepOf (c .before .step-of .result)) (c .up-step .ensures)
-    (c .before .step-of .ensures) (c2 .marked .ensures)
+    (c8 .args .p .name) (c3 .if2 .taken) (cellOf (c2 .marked .result)) (stepOf (c .before .step .result)) (c .up-step .ensures)
+    (c .before .step .ensures) (c2 .marked .ensures)
 
 none-requires : tie.Need-none-requires
 none-requires c κs = search needs
@@ -54,7 +54,7 @@ from-root-spec =
     roots-requires
     returns
     marked-requires
-    step-of-requires
+    step-requires
     up-step-requires
     returns-2
     none-requires

@@ -17,8 +17,8 @@ marked-requires c κs =
     lower-asks (c3 .args .table .now) (c3 .args .k) (c3 .args .l) (c3 .args .p) (c3 .args .q) (c3 .pre .pair) (c3 .args .p .first)
     (c3 .args .l) (c3 .pre .operand) (omega arith)
 
-step-of-requires : tie.Need-step-of-requires
-step-of-requires c κs = search needs
+step-requires : tie.Need-step-requires
+step-requires c κs = search needs
 
 down-step-requires : tie.Need-down-step-requires
 down-step-requires c κs = search needs
@@ -29,8 +29,8 @@ returns c =
     let c3 = c2 .before in
     let c6 = c3 .before .before .before in
     step-root (marks (c6 .args .table .now)) (c6 .args .k) (c6 .args .l) (c6 .args .q) (cellOf (c .down-step .result))
-    (stepIn (c6 .args .p)) (c6 .args .p .first) (c3 .if1 .taken) (cellOf (c2 .marked .result)) (stepOf (c .before .step-of .result))
-    (c .down-step .ensures) (c .before .step-of .ensures) (c2 .marked .ensures)
+    (stepIn (c6 .args .p)) (c6 .args .p .first) (c3 .if1 .taken) (cellOf (c2 .marked .result)) (stepOf (c .before .step .result))
+    (c .down-step .ensures) (c .before .step .ensures) (c2 .marked .ensures)
 
 marked-requires-2 : tie.Need-marked-requires-2
 marked-requires-2 c κs =
@@ -84,11 +84,11 @@ returns-2 c =
     (sym (c2 .is-none .ensures) ∙ c .before .if3 .taken))
     (c .none .ensures)
 
-step-of-requires-2 : tie.Need-step-of-requires-2
-step-of-requires-2 c κs = search needs
+step-requires-2 : tie.Need-step-requires-2
+step-requires-2 c κs = search needs
 
-step-of-requires-3 : tie.Need-step-of-requires-3
-step-of-requires-3 c κs = search needs
+step-requires-3 : tie.Need-step-requires-3
+step-requires-3 c κs = search needs
 
 on-step-requires : tie.Need-on-step-requires
 on-step-requires c κs = search needs
@@ -121,9 +121,9 @@ returns-3 c =
     (stepIn (c19 .args .p)) (c19 .args .p .first) (c14 .if2 .taken) (cellOf (c13 .marked2 .result)) (cellOf (c12 .marked3 .result))
     (cellOf (c11 .marked4 .result)) (c13 .marked2 .ensures) (c12 .marked3 .ensures) (c11 .marked4 .ensures)
     (cellOf (c4 .on-step .result)) (cellOf (c3 .down-step2 .result)) (cellOf (c2 .up-step .result))
-    (cellOf (c .before .join3 .result)) (stepOf (c6 .step-of2 .result)) (stepOf (c5 .step-of3 .result)) (c .join4 .ensures)
-    (c .before .join3 .ensures) (c4 .on-step .ensures) (c3 .down-step2 .ensures) (c2 .up-step .ensures) (c6 .step-of2 .ensures)
-    (c5 .step-of3 .ensures)
+    (cellOf (c .before .join3 .result)) (stepOf (c6 .step2 .result)) (stepOf (c5 .step3 .result)) (c .join4 .ensures)
+    (c .before .join3 .ensures) (c4 .on-step .ensures) (c3 .down-step2 .ensures) (c2 .up-step .ensures) (c6 .step2 .ensures)
+    (c5 .step3 .ensures)
 
 none-requires-2 : tie.Need-none-requires-2
 none-requires-2 c κs = search needs
@@ -140,7 +140,7 @@ from-step-spec =
     tie.close
     (tie.spec
     marked-requires
-    step-of-requires
+    step-requires
     down-step-requires
     returns
     marked-requires-2
@@ -151,8 +151,8 @@ from-step-spec =
     is-none-requires
     none-requires
     returns-2
-    step-of-requires-2
-    step-of-requires-3
+    step-requires-2
+    step-requires-3
     on-step-requires
     down-step-requires-2
     up-step-requires
