@@ -79,7 +79,7 @@ uint64_t yegnabit_sweep(const uint8_t *plan, size_t plan_length, uint8_t *out, s
 /* Reads a plan, runs a script on it and writes the plan as it then is; place: 0. After a run the answer's rows and the history stand at
  * the front of their areas, and the rest of these and all of `work` is zero. What `done` holds: enum yegnabit_done; numbers past the sixth
  * stay. A refused plan, script or run leaves `answer`, `history`, `work` and the six numbers zero. But where `answer`, `history` or `work`
- * is too short, all three are untouched: that is 11 at place 0, after the plan's own refusal and before the script's. */
+ * is too short, all three are untouched and the six numbers zero: that is 11 at place 0, after the plan's refusal, before the script's. */
 uint64_t yegnabit_run(const uint8_t *plan, size_t plan_length, const uint8_t *script, size_t script_length,
                       uint16_t *answer, size_t answer_length, uint8_t *history, size_t history_length,
                       uint16_t *work, size_t work_length, uint8_t *out, size_t out_length,

@@ -3,6 +3,7 @@ use mathlib.Core.List.{List}
 use Prim.Native.Nat.{ℕ, _+_, _*_, _%_}
 use lib.Dec.{eqb}
 use Rattle.model.specs.Base.{pick}
+use Rattle.model.specs.Refusal.{lentShort}
 use Rattle.writer.specs.Writing.{planWritten, writtenOut}
 use Rattle.table.specs.declared.Fault.{Fault}
 use Rattle.table.specs.declared.TableResult.{TableResult}
@@ -14,7 +15,7 @@ codeOf n w i = n + 256 * w + 65536 * (i % 281474976710656)
 
 -- 11 at place 0 for an area too short
 abbrev pub lentCode : ℕ
-lentCode = codeOf 11 0 0
+lentCode = codeOf (lentShort .number) 0 (lentShort .place)
 
 -- a plan written: its bytes as the place, or the refusal of the area
 abbrev pub writtenCode : Written → ℕ

@@ -1,5 +1,5 @@
 // Emission: one pass over an accepted script in place numbers the positions of its expressions, operands first. Each function answers
-// the number of the position that is its result, 0 for nothing; `count` has the positions so far, and takes them with its own.
+// the number of the position that is its result, 0 for nothing, and raises `count`, the positions so far, by those that it adds.
 ghost use mathlib.Core.Path.{_≡_};
 ghost use Rattle.model.specs.Paths.{anyBelow};
 ghost use Rattle.positions.specs.Positions.{pushStep, pushUnion, pushDelete, pushInsert};
@@ -185,7 +185,7 @@ fn bind(kind: u8, env: [u8; Table::BINDERS], bound: usize, result: usize) -> [u8
     inside
 }
 
-// The expression at `place`, which takes the place past it. One operand is asked for first, since that was measured to be fastest.
+// The expression at `place`, which is moved past it. One operand is asked for first, since that was measured to be fastest.
 pub fn emit(
     bytes: &[u8],
     place: &mut usize,

@@ -11,7 +11,7 @@ use Rattle.run.specs.Calls.{ran, runResult}
 use Rattle.run.specs.declared.RunResult.{RunResult}
 use Rattle.codes.specs.Codes.{codeOf, lentCode}
 use Rattle.ffi.specs.Running.{Called, refusedCall, ranCall, readCall, runCalled}
-use Rattle.lent.specs.Done.{doneNeed, isLentShort, withoutRun, doneOver, endCode, endOut, endDone}
+use Rattle.lent.specs.Done.{doneNeed, isEndShort, withoutRun, doneOver, endCode, endOut, endDone}
 use Rattle.lent.proofs.EndLaws.{long-enough}
 
 -- the answer and the five areas are those of a call
@@ -19,25 +19,25 @@ abbrev pub Leaves : (code : ℕ) → (answer history work out done : List ℕ) �
 Leaves c a h w o d x = (c ≡ x .code) × ((a ≡ x .answer) × ((h ≡ x .history) × ((w ≡ x .work) × ((o ≡ x .out) × (d ≡ x .done)))))
 
 -- where neither out nor done is too short, done takes six numbers
-pub six-fit : (b : Bool) (o d : ℕ) → b ≡ isLentShort o d → b ≡ false → doneNeed ≤ d
+pub six-fit : (b : Bool) (o d : ℕ) → b ≡ isEndShort o d → b ≡ false → doneNeed ≤ d
 six-fit b o d e f = long-enough o d (sym e ∙ f) .1
 
-module _ (p s a h w o d : List ℕ) (b : Bool) (short : b ≡ isLentShort (length o) (length d)) where
+module _ (p s a h w o d : List ℕ) (b : Bool) (short : b ≡ isEndShort (length o) (length d)) where
   pub call-short : (c : ℕ) → c ≡ lentCode → b ≡ true → Leaves c a h w o d (runCalled p s a h w o d)
   call-short c e f =
       subst (Leaves c a h w o d)
       (sym (the-call (sym short ∙ f)))
       (e, (refl, (refl, (refl, (refl, refl)))))
     where
-      the-call : isLentShort (length o) (length d) ≡ true →
+      the-call : isEndShort (length o) (length d) ≡ true →
           runCalled p s a h w o d ≡ record { code = lentCode; answer = a; history = h; work = w; out = o; done = d }
       the-call k = rw k
 
   module _ (long : b ≡ false) (q : TableResult) (read : q ≡ library.planRead p) where
-    called : runCalled p s a h w o d ≡ readCall q s a h w o d
+    pub called : runCalled p s a h w o d ≡ readCall q s a h w o d
     called = the-read (sym short ∙ long) ∙ ap (λ (t : TableResult). readCall t s a h w o d) (sym read)
       where
-        the-read : isLentShort (length o) (length d) ≡ false →
+        the-read : isEndShort (length o) (length d) ≡ false →
             runCalled p s a h w o d ≡ readCall (library.planRead p) s a h w o d
         the-read k = rw k
 

@@ -10,7 +10,7 @@ use Rattle.table.specs.declared.TableResult.{TableResult}
 use Rattle.run.specs.Calls.{ran, runResult}
 use Rattle.run.specs.declared.RunResult.{RunResult}
 use Rattle.codes.specs.Codes.{codeOf, lentCode}
-use Rattle.lent.specs.Done.{isLentShort, withoutRun, doneOver, endCode, endOut, endDone}
+use Rattle.lent.specs.Done.{isEndShort, withoutRun, doneOver, endCode, endOut, endDone}
 
 -- what the call answers, and the areas after it
 pub record Called : Type 0 where
@@ -37,8 +37,8 @@ readCall q s a h w o d =
     pick (eqb (q .fault .number) 0) (ranCall (runResult (q .table) s a h w) (ran (q .table) s a h w) o d)
     (refusedCall (codeOf (q .fault .number) 1 (q .fault .place)) (withoutRun a h w a) (withoutRun a h w h) (withoutRun a h w w) o d)
 
--- READ, RUN AND WRITE: out or done too short is 11, nothing touched; then the plan's refusal; then the run's, its own 11 with them
+-- READ, RUN AND WRITE: out or done too short is 11, nothing touched; then the plan's refusal; then the run's, one of which is its own 11
 abbrev pub runCalled : (plan script answer history work out done : List ℕ) → Called
 runCalled p s a h w o d =
-    pick (isLentShort (length o) (length d)) (record { code = lentCode; answer = a; history = h; work = w; out = o; done = d })
+    pick (isEndShort (length o) (length d)) (record { code = lentCode; answer = a; history = h; work = w; out = o; done = d })
     (readCall (library.planRead p) s a h w o d)

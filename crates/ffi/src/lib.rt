@@ -85,7 +85,7 @@ pub extern "C" fn yegnabit_run(
     ensures { λ r. ⌜ now (done .exit) ≡ runCalled (now (plan .entry)) (now (script .entry)) (now (answer .entry))
         (now (history .entry)) (now (work .entry)) (now (out .entry)) (now (done .entry)) .done ⌝ }
 {
-    if done::is_lent_short(out.len(), done.len()) {
+    if done::is_end_short(out.len(), done.len()) {
         return answer::lent_short();
     }
     let read = plan::read_plan(plan);

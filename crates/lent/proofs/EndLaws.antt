@@ -11,7 +11,7 @@ use Rattle.writer.specs.Writing.{planWritten, writtenOut}
 use Rattle.table.specs.declared.Written.{Written}
 use Rattle.run.specs.declared.RunResult.{RunResult}
 use Rattle.codes.specs.Codes.{codeOf}
-use Rattle.lent.specs.Done.{outNeed, doneNeed, isLentShort, withoutRun, doneOver, whichOf, endCode, endOut, endDone}
+use Rattle.lent.specs.Done.{outNeed, doneNeed, isEndShort, withoutRun, doneOver, whichOf, endCode, endOut, endDone}
 use Rattle.model.specs.Call.{areasFit}
 use Rattle.model.proofs.BoolLaws.{or-neither, pick-true, pick-false}
 
@@ -37,7 +37,7 @@ module _ (r : RunResult) (o d : List ℕ) where
       told t = doneOver (r .items) (r .tally .made) (r .tally .cut) (r .tally .records) (r .bytes) (t .bytes) d
 
 -- NEITHER IS TOO SHORT: each has its need
-pub long-enough : (o d : ℕ) → isLentShort o d ≡ false → (outNeed ≤ o) × (doneNeed ≤ d)
+pub long-enough : (o d : ℕ) → isEndShort o d ≡ false → (outNeed ≤ o) × (doneNeed ≤ d)
 long-enough o d e =
     let k = or-neither (ltb o outNeed) (ltb d doneNeed) e in (ltb-false o outNeed (k .0), ltb-false d doneNeed (k .1))
 

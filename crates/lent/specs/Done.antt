@@ -24,8 +24,8 @@ abbrev pub doneNeed : ℕ
 doneNeed = 6
 
 -- before all else: out takes the longest plan, 2,080 bytes, and done six numbers, or one of them is too short
-abbrev pub isLentShort : (out done : ℕ) → Bool
-isLentShort o d = ltb o outNeed || ltb d doneNeed
+abbrev pub isEndShort : (out done : ℕ) → Bool
+isEndShort o d = ltb o outNeed || ltb d doneNeed
 
 -- NOTHING RUNS, the plan being refused: an area of the run is zero as after a refused run, or untouched if one of the three is too short
 abbrev pub withoutRun : (answer history work area : List ℕ) → List ℕ

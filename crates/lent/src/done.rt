@@ -1,8 +1,9 @@
-// The areas lent to a run: whether out or done is too short, and what all hold once nothing runs or the run is over.
+// The areas lent to the C call for a run: whether out or done, which its end writes, is too short; what all hold once nothing runs or the
+// run is over.
 ghost use mathlib.Core.Path.{_≡_};
 ghost use Prim.Native.Nat.{_≤_};
 ghost use lib.ListN.{length};
-ghost use Rattle.lent.specs.Done.{doneNeed, isLentShort, withoutRun, doneOver, whichOf, EndPre, endCode, endOut, endDone};
+ghost use Rattle.lent.specs.Done.{doneNeed, isEndShort, withoutRun, doneOver, whichOf, EndPre, endCode, endOut, endDone};
 use areas::area;
 use codes::answer;
 use run::RunResult;
@@ -14,8 +15,8 @@ use writer::write;
 const DONE: usize = 6;
 
 // out or done is shorter than its need.
-pub fn is_lent_short(out: usize, done: usize) -> bool
-    ensures { λ r. ⌜ r ≡ isLentShort out done ⌝ }
+pub fn is_end_short(out: usize, done: usize) -> bool
+    ensures { λ r. ⌜ r ≡ isEndShort out done ⌝ }
 {
     (out < crate::OUT) | (done < DONE)
 }

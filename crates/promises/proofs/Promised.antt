@@ -12,7 +12,7 @@ use Rattle.model.specs.Call.{Ran, areasFit, ranBy, refusedRun, runBy}
 use Rattle.model.specs.Refusal as refusal
 use Rattle.model.specs.Run.{Out, gives, stop, State}
 use Rattle.model.specs.Script.{readScript}
-use Rattle.model.specs.Stored.{stored, got, readPlan}
+use Rattle.model.specs.Stored.{stored, bad, got, readPlan}
 use Rattle.model.specs.Sweep.{swept}
 use Rattle.model.specs.Table.{isWell}
 use Rattle.model.specs.Table as model
@@ -34,9 +34,9 @@ use Rattle.undo.specs.Undoing.{planUndone, undoneBy}
 use Rattle.run.specs.Calls.{ran, resultOf, outcomeOf}
 use Rattle.ffi.specs.Calls.{undoCode, undoOut}
 use Rattle.codes.specs.Codes.{codeOf, lentCode, codeUnless, areaUnless, writtenCode, finishedCode, finishedOut}
-use Rattle.ffi.specs.Running.{refusedCall, ranCall, readCall, runCalled, Called}
-use Rattle.lent.specs.Done.{outNeed, isLentShort, doneOver}
-use Rattle.promises.specs.Promise.{PlanBack, SweptBack, UndoneBack, LentFits, RunDone, RunRefused, RunLentShort, PlanRefused}
+use Rattle.ffi.specs.Running.{refusedCall, ranCall, runCalled, Called}
+use Rattle.lent.specs.Done.{outNeed, isEndShort, doneOver}
+use Rattle.promises.specs.Promise.{PlanBack, SweptBack, UndoneBack, LentFits, RunDone, RunRefused, RunAreaShort, PlanRefused}
 use Rattle.promises.specs.Promise.{FreeRunsCommute, endedCall, planLeft, historyLeft}
 use Rattle.table.proofs.EncodeLaws.{decode-encode, fits-encode}
 use Rattle.writer.proofs.WritePlanLaws.{well-written, well-out}
@@ -47,6 +47,7 @@ use Rattle.run.proofs.Promised.{runsCommute}
 use lib.Seq.{take-at}
 use Rattle.model.specs.History.{historyBytes}
 use Rattle.lent.proofs.EndLaws.{long-enough}
+use Rattle.ffi.proofs.RunLaws.{called}
 
 -- A PLAN READ is the table in its words; the call then answers n and leaves b
 module _ (p o : List ℕ) (x : model.Table) (read : readPlan p ≡ got x) (room : outNeed ≤ length o) where
@@ -110,11 +111,9 @@ pub undoneBack : UndoneBack
 undoneBack p h o x y b e = undone-back p h o x y (storedBack .1 p x b e .0) e
 
 -- THE CALL once the plan is read
-called-on : (p s a h w o d : List ℕ) (x : model.Table) → readPlan p ≡ got x → isLentShort (length o) (length d) ≡ false →
+called-on : (p s a h w o d : List ℕ) (x : model.Table) → readPlan p ≡ got x → isEndShort (length o) (length d) ≡ false →
     runCalled p s a h w o d ≡ ranCall (resultOf (encode x) (ran (encode x) s a h w)) (ran (encode x) s a h w) o d
-called-on p s a h w o d x e long =
-    pick-false _ _ (readCall (library.planRead p) s a h w o d) long ∙
-    ap (λ (q : TableResult). readCall q s a h w o d) (ap library.readBy e)
+called-on p s a h w o d x e long = called p s a h w o d _ refl long (library.readBy (got x)) (sym (ap library.readBy e))
 
 -- the call, from what the run comes to
 call-of : (p s a h w o d : List ℕ) (x : model.Table) (t : Out) → isWell x ≡ true → readPlan p ≡ got x → runBy x (readScript s) ≡ t →
@@ -186,15 +185,14 @@ runDone p s a h w o d x v t b c e g ok = run-done p s a h w o d x (storedBack .1
 pub runRefused : RunRefused
 runRefused p s a h w o d x f b e g ok = run-refused p s a h w o d x (storedBack .1 p x b e .0) e ok f g
 
-pub runLentShort : RunLentShort
-runLentShort p s a h w o d x b e short long =
+pub runAreaShort : RunAreaShort
+runAreaShort p s a h w o d x e short long =
     called-on p s a h w o d x e long ∙
     ap (λ (l : Ran). ranCall (resultOf (encode x) l) l o d) (pick-false (areasFit a h w) _ (refusedRun refusal.lentShort _ a h w) short)
 
 pub planRefused : PlanRefused
 planRefused p s a h w o d f e long =
-    pick-false _ _ (readCall (library.planRead p) s a h w o d) long ∙
-    ap (λ (q : TableResult). readCall q s a h w o d) (ap library.readBy e) ∙
+    called p s a h w o d _ refl long (library.readBy (bad f)) (sym (ap library.readBy e)) ∙
     pick-ne _ _ (isIn-some 0 6 (f .number) (refusedByTable .0 p f e))
 
 -- THE TWO CALLS of the library, in either order

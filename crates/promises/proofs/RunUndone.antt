@@ -5,7 +5,7 @@ use mathlib.Core.List.{List}
 use Prim.Native.Nat.{ℕ}
 use native.Mathlib.Omega.{arith}
 use lib.ListN.{length}
-use Rattle.model.specs.Base.{areBytes, atFront}
+use Rattle.model.specs.Base.{atFront}
 use Rattle.model.specs.Call.{areasFit}
 use Rattle.model.specs.History.{historyBytes}
 use Rattle.model.specs.Stored.{stored, got, readPlan}
@@ -13,7 +13,7 @@ use Rattle.model.specs.Table.{Table}
 use Rattle.model.proofs.BoolLaws.{by-cases, eq-cases}
 use Rattle.model.proofs.StoredBack.{storedBack}
 use Rattle.codes.specs.Codes.{codeOf, lentCode}
-use Rattle.lent.specs.Done.{isLentShort}
+use Rattle.lent.specs.Done.{isEndShort}
 use Rattle.plan.specs.Calls as library
 use Rattle.plan.proofs.Promised.{read-got}
 use Rattle.model.proofs.RunsBack.{runBy-back}
@@ -21,14 +21,14 @@ use Rattle.ffi.specs.Calls.{undoCode, undoOut}
 use Rattle.ffi.specs.Running.{Called, runCalled}
 use Rattle.promises.specs.Promise.{LentFits, historyLeft, RunUndone}
 use Rattle.ffi.proofs.RunLaws.{call-short, call-plan-refused}
-use Rattle.promises.proofs.Promised.{undone-back, plan-left, history-left, call-ends, runLentShort}
+use Rattle.promises.proofs.Promised.{undone-back, plan-left, history-left, call-ends, runAreaShort}
 
 -- THE ANSWER 0: the plan is read, and no area is too short
 module _ (p s a h w o d : List ℕ) (answers : runCalled p s a h w o d .code ≡ codeOf 0 0 0) where
-  call-long : isLentShort (length o) (length d) ≡ false
-  call-long = by-cases (isLentShort (length o) (length d)) (λ z. absurd (short z)) (λ z. z)
+  call-long : isEndShort (length o) (length d) ≡ false
+  call-long = by-cases (isEndShort (length o) (length d)) (λ z. absurd (short z)) (λ z. z)
     where
-      short : isLentShort (length o) (length d) ≡ true → ⊥
+      short : isEndShort (length o) (length d) ≡ true → ⊥
       short z = omega (arith, call-short p s a h w o d true (sym z) lentCode refl refl .0 ∙ answers)
 
   call-read : (x : Table) × (readPlan p ≡ got x)
@@ -42,19 +42,19 @@ module _ (p s a h w o d : List ℕ) (answers : runCalled p s a h w o d .code ≡
           refl refl refl .0 ∙ answers in
           omega arith
 
-  call-fits : areBytes p ≡ true → LentFits a h w o d
-  call-fits bytes = (by-cases (areasFit a h w) (λ z. z) (λ z. absurd (short z)), call-long)
+  call-fits : LentFits a h w o d
+  call-fits = (by-cases (areasFit a h w) (λ z. z) (λ z. absurd (short z)), call-long)
     where
       short : areasFit a h w ≡ false → ⊥
       short z =
           let g = call-read in
           let c : lentCode ≡ 0 =
-          sym (ap (λ (q : Called). q .code) (runLentShort p s a h w o d (g .0) bytes (g .1) z call-long)) ∙ answers in
+          sym (ap (λ (q : Called). q .code) (runAreaShort p s a h w o d (g .0) (g .1) z call-long)) ∙ answers in
           omega arith
 
 pub runUndone : RunUndone
 runUndone p s a h w o d o′ bytes bytes′ answers room =
-    let ok = call-fits p s a h w o d answers bytes in
+    let ok = call-fits p s a h w o d answers in
     let g = call-read p s a h w o d answers in
     let x = g .0 in
     let before = storedBack .1 p x bytes (g .1) in

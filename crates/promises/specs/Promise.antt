@@ -20,7 +20,7 @@ use Rattle.model.specs.Undo.{back, undo}
 use Rattle.ffi.specs.Calls.{planCode, planOut, sweepCode, sweepOut, undoCode, undoOut, analyseCode}
 use Rattle.codes.specs.Codes.{codeOf, lentCode}
 use Rattle.ffi.specs.Running.{Called, refusedCall, runCalled}
-use Rattle.lent.specs.Done.{outNeed, isLentShort, withoutRun, doneOver}
+use Rattle.lent.specs.Done.{outNeed, isEndShort, withoutRun, doneOver}
 use Rattle.paths.specs.Analysis.{analysed, values, valuesOf}
 use Rattle.run.specs.Promise.{EitherRun}
 use Rattle.table.specs.Words.{fits}
@@ -59,7 +59,7 @@ endedCall v t a h w o d =
 
 -- no area is too short
 abbrev pub LentFits : (answer history work out done : List ℕ) → Type 0
-LentFits a h w o d = (areasFit a h w ≡ true) × (isLentShort (length o) (length d) ≡ false)
+LentFits a h w o d = (areasFit a h w ≡ true) × (isEndShort (length o) (length d) ≡ false)
 
 -- a run that ends
 abbrev pub RunDone : Type 0
@@ -76,15 +76,15 @@ RunRefused =
     refusedCall (codeOf (f .number) 2 (f .place)) (replicate (length a) 0) (replicate (length h) 0) (replicate (length w) 0) o d
 
 -- refused since answer, history or work is too short: 11 once the plan is read; the three are untouched, the six numbers are zero
-abbrev pub RunLentShort : Type 0
-RunLentShort =
-    (p s a h w o d : List ℕ) (x : Table) → areBytes p ≡ true → readPlan p ≡ got x → areasFit a h w ≡ false →
-    isLentShort (length o) (length d) ≡ false → runCalled p s a h w o d ≡ refusedCall lentCode a h w o d
+abbrev pub RunAreaShort : Type 0
+RunAreaShort =
+    (p s a h w o d : List ℕ) (x : Table) → readPlan p ≡ got x → areasFit a h w ≡ false → isEndShort (length o) (length d) ≡ false →
+    runCalled p s a h w o d ≡ refusedCall lentCode a h w o d
 
 -- refused since the plan is, whatever the script and the lengths of answer, history and work: nothing runs
 abbrev pub PlanRefused : Type 0
 PlanRefused =
-    (p s a h w o d : List ℕ) (f : Fault) → readPlan p ≡ bad f → isLentShort (length o) (length d) ≡ false →
+    (p s a h w o d : List ℕ) (f : Fault) → readPlan p ≡ bad f → isEndShort (length o) (length d) ≡ false →
     runCalled p s a h w o d ≡
     refusedCall (codeOf (f .number) 1 (f .place)) (withoutRun a h w a) (withoutRun a h w h) (withoutRun a h w w) o d
 
@@ -96,6 +96,7 @@ planLeft c = take (getD (c .done) 5 0) (c .out)
 abbrev pub historyLeft : Called → List ℕ
 historyLeft c = take (getD (c .done) 4 0) (c .history)
 
+-- a run's call that answers 0, taken back by the undo call on what it left
 abbrev pub RunUndone : Type 0
 RunUndone =
     (p s a h w o d o′ : List ℕ) → areBytes p ≡ true → areBytes s ≡ true → runCalled p s a h w o d .code ≡ codeOf 0 0 0 →
@@ -159,6 +160,7 @@ CalledEqual x r r′ s s′ =
     ((readPlan (planLeft r) ≡ got y) × (readPlan (planLeft r′) ≡ got y′) × (readPlan (planLeft s) ≡ got z) ×
     (readPlan (planLeft s′) ≡ got z′) × CallsEqual x (told r y) (told r′ y′) (told s z) (told s′ z′)))))
 
+-- two scripts that yegnabit_analyse calls free, 0: both calls of an order answer 0 exactly when both of the other do, and are then equal
 abbrev pub FreeCallsCommute : Type 0
 FreeCallsCommute =
     (p : List ℕ) (x : Table) (l m : Request) → areBytes p ≡ true → readPlan p ≡ got x → Suffices l → Suffices m →

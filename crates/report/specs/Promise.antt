@@ -8,10 +8,11 @@ use lib.ListN.{take}
 use Rattle.model.specs.Base.{areBytes}
 use Rattle.model.specs.Stored.{got, readPlan}
 use Rattle.model.specs.Table.{Table}
-use Rattle.paths.specs.Analysis.{analysed, values, valuesOf}
+use Rattle.paths.specs.Analysis.{analysed, values, valuesOf, answerWord}
+use Rattle.paths.specs.declared.Analysis.the-variants.{Free}
 use Rattle.format.specs.Text.{ascii}
 use Rattle.front.specs.Promise.{fileBytes}
-use Rattle.lines.specs.Lines.{orderLine}
+use Rattle.lines.specs.Lines.{answerLine, orderLine}
 use Rattle.lines.specs.declared.line.Order.{Order}
 use Rattle.lines.specs.declared.line.Order.the-variants.{Stopped, Ended}
 use Rattle.report.specs.Pair.{pairText}
@@ -23,7 +24,7 @@ FilesByFront =
 
 -- THE LINES after `answer free`
 abbrev pub freeText : (oneTwo twoOne : Order) → List ℕ
-freeText x y = ascii "answer free\n" ++ orderLine (ascii "one-two") x ++ orderLine (ascii "two-one") y
+freeText x y = answerLine (ascii (answerWord Free)) ++ orderLine (ascii "one-two") x ++ orderLine (ascii "two-one") y
 
 -- both orders end with the same three numbers, or both are refused
 abbrev pub BothOrders : (text : List ℕ) → Type 0

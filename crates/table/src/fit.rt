@@ -37,7 +37,7 @@ pub fn is_element_below(rows: &[u32], bound: usize, link: usize) -> bool
     words::kind(rows[link - 1]) != words::LEAF
 }
 
-// And it has no parent.
+// The row with this link is an element below a bound, and has no parent.
 pub fn is_root_below(rows: &[u32], bound: usize, link: usize) -> bool
     requires { ⌜ bound ≤ length (now rows) ⌝ }
     requires { ⌜ 0 < link ⌝ }

@@ -11,8 +11,8 @@ use Rattle.ffi.proofs.RunLaws.{six-fit, call-short, call-plan-refused, 
 use Rattle.ffi.proofs.yegnabit_run.Statement.{statement}
 use Rattle.ffi.proofs.yegnabit_run.Tie as tie
 
-is-lent-short-requires : tie.Need-is-lent-short-requires
-is-lent-short-requires c κs = search needs
+is-end-short-requires : tie.Need-is-end-short-requires
+is-end-short-requires c κs = search needs
 
 lent-short-requires : tie.Need-lent-short-requires
 lent-short-requires c κs = search needs
@@ -22,7 +22,7 @@ returns c =
     let c10 = c .before .before .before .before .before .before .before .before .before .before in
     let x = c10 .args in
     call-short (x .plan .now) (x .script .now) (x .answer .now) (x .history .now) (x .work .now) (x .out .now) (x .done .now)
-    (c .before .before .is-lent-short .result) (c .before .before .is-lent-short .ensures) (c .lent-short .result)
+    (c .before .before .is-end-short .result) (c .before .before .is-end-short .ensures) (c .lent-short .result)
     (c .lent-short .ensures) (c .before .if1 .taken)
 
 read-plan-requires : tie.Need-read-plan-requires
@@ -37,7 +37,7 @@ put-done-requires c κs =
     let c14 = c13 .before in
     let c22 = c14 .before .before .before .before .before .before .before .before in
     let x = c22 .args in
-    six-fit (c14 .is-lent-short .result) (length (x .out .now)) (length (x .done .now)) (c14 .is-lent-short .ensures) (c13 .if1 .left)
+    six-fit (c14 .is-end-short .result) (length (x .out .now)) (length (x .done .now)) (c14 .is-end-short .ensures) (c13 .if1 .left)
 
 code-requires : tie.Need-code-requires
 code-requires c κs = search needs
@@ -65,7 +65,7 @@ returns-2 c =
     let c26 = c18 .before .before .before .before .before .before .before .before in
     let x = c26 .args in
     call-plan-refused (x .plan .now) (x .script .now) (x .answer .now) (x .history .now) (x .work .now) (x .out .now) (x .done .now)
-    (c18 .is-lent-short .result) (c18 .is-lent-short .ensures) (c17 .if1 .left) (c16 .read-plan .result) (c16 .read-plan .ensures)
+    (c18 .is-end-short .result) (c18 .is-end-short .ensures) (c17 .if1 .left) (c16 .read-plan .result) (c16 .read-plan .ensures)
     (c .code .result) _ _ _ _ (c15 .if2 .taken) (c .code .ensures) (c11 .clear .ensures .0) (c11 .clear .ensures .1 .0) (c11 .clear
     .ensures .1 .1)
     (c3 .put-done .ensures)
@@ -91,7 +91,7 @@ end-requires c κs =
           (ap (λ (q : TableResult). fits (q .table)) (c14 .read-plan .ensures) ∙
           read-fits (x .plan .now) (bytes-known (x .plan .now) (λ i. c23 .shared-slice-known .given i .fits))) .0;
       room =
-          six-fit (c16 .is-lent-short .result) (length (x .out .now)) (length (x .done .now)) (c16 .is-lent-short .ensures) (c15
+          six-fit (c16 .is-end-short .result) (length (x .out .now)) (length (x .done .now)) (c16 .is-end-short .ensures) (c15
           .if1 .left);
     }
 
@@ -121,7 +121,7 @@ returns-3 c =
     let c29 = c21 .before .before .before .before .before .before .before .before in
     let x = c29 .args in
     call-ended (x .plan .now) (x .script .now) (x .answer .now) (x .history .now) (x .work .now) (x .out .now) (x .done .now)
-    (c21 .is-lent-short .result) (c21 .is-lent-short .ensures) (c20 .if1 .left) (c19 .read-plan .result) (c19 .read-plan .ensures) (c18
+    (c21 .is-end-short .result) (c21 .is-end-short .ensures) (c20 .if1 .left) (c19 .read-plan .result) (c19 .read-plan .ensures) (c18
     .if2 .left)
     (c13 .run .result) _ _ _ (c13 .run .ensures .0) (c13 .run .ensures .1 .0) (c13 .run .ensures .1 .1 .0) (c13 .run .ensures .1 .1 .1)
     (c4 .end .result) _ _ (c4 .end .ensures .0) (c4 .end .ensures .1 .0) (c4 .end .ensures .1 .1)
@@ -130,7 +130,7 @@ pub yegnabit-run-spec : {M : Type 1} → statement M
 yegnabit-run-spec =
     tie.close
     (tie.spec
-    is-lent-short-requires
+    is-end-short-requires
     lent-short-requires
     returns
     read-plan-requires
