@@ -174,24 +174,19 @@ pub fn run(plan: &[u8], script: &[u8], areas: Lent<'_>) -> Answer {
     }
     let done = &mut areas.done[..DONE_NUMBERS];
     done.fill(0);
-    let mut table = match stored::read(plan) {
-        Ok(table) => table,
-        Err(refusal) => {
-            let fit = areas.answer.len() >= ANSWER_NUMBERS
-                && areas.history.len() >= HISTORY_BYTES
-                && areas.work.len() >= WORK_NUMBERS;
-            if fit {
-                areas.answer.fill(0);
-                areas.history.fill(0);
-                areas.work.fill(0);
-            }
-            return Answer::refused(WHICH_PLAN, refusal);
-        }
-    };
-    let lent_to_run = running::Areas {
+    let mut lent_to_run = running::Areas {
         answer: areas.answer,
         work: areas.work,
         history: areas.history,
+    };
+    let mut table = match stored::read(plan) {
+        Ok(table) => table,
+        Err(refusal) => {
+            if !lent_to_run.is_short() {
+                lent_to_run.clear();
+            }
+            return Answer::refused(WHICH_PLAN, refusal);
+        }
     };
     let ran = match running::run(&mut table, script, lent_to_run) {
         Ok(ran) => ran,

@@ -15,6 +15,22 @@ pub struct Areas<'a> {
     pub history: &'a mut [u8],
 }
 
+impl Areas<'_> {
+    /// Some area is shorter than its stated length.
+    pub fn is_short(&self) -> bool {
+        self.answer.len() < ANSWER_NUMBERS
+            || self.work.len() < WORK_NUMBERS
+            || self.history.len() < HISTORY_BYTES
+    }
+
+    /// All areas zero.
+    pub fn clear(&mut self) {
+        self.answer.fill(0);
+        self.work.fill(0);
+        self.history.fill(0);
+    }
+}
+
 /// Areas of the stated lengths, owned.
 pub struct OwnedAreas {
     pub answer: Vec<u16>,
@@ -56,10 +72,7 @@ pub struct Ran {
 /// touches nothing; an ill-formed table; the script's reader; the run itself.
 /// A refused run restores the table, and leaves all areas zero.
 pub fn run(table: &mut Table, script: &[u8], areas: Areas<'_>) -> Result<Ran, Refusal> {
-    let short = areas.answer.len() < ANSWER_NUMBERS
-        || areas.work.len() < WORK_NUMBERS
-        || areas.history.len() < HISTORY_BYTES;
-    if short {
+    if areas.is_short() {
         return Err(Number::Lent.at(0));
     }
     let Areas {

@@ -22,5 +22,6 @@ cellBits b =
       upLeaf = eqb (b / 32 % 2) 1;
     }
 
+-- the cell of such a byte
 abbrev pub cellOf : Cell → meeting.Cell
 cellOf c = cellBits (c .bits)

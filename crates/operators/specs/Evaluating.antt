@@ -25,9 +25,11 @@ use Rattle.operators.specs.declared.record.Evaluated.{Evaluated}
 abbrev pub noSpan : Span
 noSpan = record { start = 0; len = 0 }
 
+-- from a place up to another
 abbrev pub spanOf : (start end : ℕ) → Span
 spanOf i j = record { start = i; len = j - i }
 
+-- the value that a span holds
 abbrev pub spanValue : (work : List ℕ) → Span → List ℕ
 spanValue w s = take (s .len) (drop (s .start) w)
 
@@ -83,6 +85,7 @@ limitedBy x t i =
     pick (ltb maxItems (x .end - t))
     (record { progress = stopped (x .progress) (itemsAt i .number); place = i; end = x .end; env = x .env }) x
 
+-- the same at another place
 abbrev pub movedTo : (place : ℕ) → Evaluated → Evaluated
 movedTo i x = record { progress = x .progress; place = i; end = x .end; env = x .env }
 

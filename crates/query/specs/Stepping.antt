@@ -32,9 +32,11 @@ pub record OnePre (w j : ℕ) (fs rs : List ℕ) : Type 0 where
   pub flags : length fs ≡ maxLinks
   pub reached : length rs ≡ maxLinks
 
+-- a row on the way down: reached where its parent counts
 abbrev pub descended : (word row : ℕ) → (deep : Bool) → (flags reached : List ℕ) → List ℕ
 descended w j d fs rs = pick (counted (getD fs (linkIn w) 0) (getD rs (linkIn w) 0) d) (set rs (j + 1) 1) rs
 
+-- a row on the way up: where it counts, its parent is reached
 abbrev pub climbed : (word row : ℕ) → (deep : Bool) → (flags reached : List ℕ) → List ℕ
 climbed w j d fs rs = pick (counted (getD fs (j + 1) 0) (getD rs (j + 1) 0) d) (set rs (linkIn w) 1) rs
 

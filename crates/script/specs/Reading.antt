@@ -23,10 +23,12 @@ parseAt b i k n v = parseFrom (suc (suc k)) (maxDepth + 1 - k) i n v (drop i b)
 abbrev pub endBy : (number place records : ℕ) → End
 endBy n i m = record { number = n; place = i; count = m }
 
+-- of what is parsed
 abbrev pub endOf : Parsed → End
 endOf (ill x) = endBy (x .number) (x .place) 0
 endOf (parsed e i n b) = endBy 0 i n
 
+-- of an expression's bytes
 abbrev pub expressionRead : (bytes : List ℕ) → (at left records bound : ℕ) → End
 expressionRead b i k n v = endOf (parseAt b i k n v)
 
