@@ -5,7 +5,8 @@ use lib.Dec.{ltb}
 use lib.ListN.{length}
 use Rattle.model.specs.Base.{pick}
 use Rattle.plan.specs.Calls as library
-use Rattle.codes.specs.Codes.{codeOf, lentCode, codeUnless, areaUnless, finishedCode, finishedOut}
+use Rattle.codes.specs.Codes.{codeOf, lentCode, codeUnless, areaUnless, writtenCode, finishedCode, finishedOut}
+use Rattle.writer.specs.Writing.{planWritten, writtenOut}
 use Rattle.lent.specs.Done.{outNeed}
 use Rattle.sweep.specs.Sweeping.{planSwept}
 use Rattle.paths.specs.Analysis.{analysed, valuesOf}
@@ -13,37 +14,45 @@ use Rattle.paths.specs.declared.Analysis.{Analysis}
 use Rattle.undo.specs.Undoing.{planUndone}
 use Rattle.table.specs.declared.TableResult.{TableResult}
 
--- READ AND WRITE BACK; out needs 2,080 bytes
+-- A CALL ON A PLAN: 11 where out has less than 2,080 bytes; then the plan's own refusal; then what the call answers
+abbrev pub onPlan : (plan out : List ℕ) → (rest : ℕ) → ℕ
+onPlan p o n = pick (ltb (length o) outNeed) lentCode (codeUnless (library.planRead p .fault) 1 n)
+
+-- and the area: as it was, or what the call leaves
+abbrev pub outOnPlan : (plan out rest : List ℕ) → List ℕ
+outOnPlan p o b = pick (ltb (length o) outNeed) o (areaUnless (library.planRead p .fault) b o)
+
+-- READ AND WRITE BACK
 abbrev pub planCode : (plan out : List ℕ) → ℕ
-planCode p o = pick (ltb (length o) outNeed) lentCode (finishedCode (library.planRead p) 1 o)
+planCode p o = onPlan p o (writtenCode (planWritten (library.planRead p .table) o))
 
 -- the area after it
 abbrev pub planOut : (plan out : List ℕ) → List ℕ
-planOut p o = pick (ltb (length o) outNeed) o (finishedOut (library.planRead p) o)
+planOut p o = outOnPlan p o (writtenOut (library.planRead p .table) o)
 
--- READ, SWEEP AND WRITE: the plan's own refusal, then the call's
+-- READ, SWEEP AND WRITE
 abbrev pub sweptPlan : (plan : List ℕ) → TableResult
 sweptPlan p = planSwept (library.planRead p .table)
 
--- the plan's own refusal, then what the sweep ends with
+-- a refusal of the sweep is the plan's
 abbrev pub sweepCode : (plan out : List ℕ) → ℕ
-sweepCode p o = pick (ltb (length o) outNeed) lentCode (codeUnless (library.planRead p .fault) 1 (finishedCode (sweptPlan p) 1 o))
+sweepCode p o = onPlan p o (finishedCode (sweptPlan p) 1 o)
 
 -- the area after it
 abbrev pub sweepOut : (plan out : List ℕ) → List ℕ
-sweepOut p o = pick (ltb (length o) outNeed) o (areaUnless (library.planRead p .fault) (finishedOut (sweptPlan p) o) o)
+sweepOut p o = outOnPlan p o (finishedOut (sweptPlan p) o)
 
--- READ, TAKE A RUN BACK BY ITS HISTORY AND WRITE; a refusal of the history is which 2
+-- READ, TAKE A RUN BACK BY ITS HISTORY AND WRITE
 abbrev pub undonePlan : (plan history : List ℕ) → TableResult
 undonePlan p h = planUndone (library.planRead p .table) h
 
--- the plan's own refusal, then the history's
+-- a refusal of the history is which 2
 abbrev pub undoCode : (plan history out : List ℕ) → ℕ
-undoCode p h o = pick (ltb (length o) outNeed) lentCode (codeUnless (library.planRead p .fault) 1 (finishedCode (undonePlan p h) 2 o))
+undoCode p h o = onPlan p o (finishedCode (undonePlan p h) 2 o)
 
 -- the area after it
 abbrev pub undoOut : (plan history out : List ℕ) → List ℕ
-undoOut p h o = pick (ltb (length o) outNeed) o (areaUnless (library.planRead p .fault) (finishedOut (undonePlan p h) o) o)
+undoOut p h o = outOnPlan p o (finishedOut (undonePlan p h) o)
 
 -- TWO SCRIPTS ANALYSED: the first refused, or 0 free, 1 upward, 2 meet as `which`
 abbrev pub analysisCode : Analysis → ℕ
