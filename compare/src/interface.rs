@@ -122,7 +122,7 @@ pub fn undo(plan: &[u8], history: &[u8], out: &mut [u8]) -> Answer {
     answer_for(WHICH_AREA, stored::encode(&table, out))
 }
 
-/// The areas lent to a run.
+/// The areas lent to the call for a run.
 pub struct Lent<'a> {
     pub answer: &'a mut [u16],
     pub history: &'a mut [u8],
@@ -167,7 +167,8 @@ impl Areas {
 /// Reads a stored plan, runs a script on it and writes the plan back. An `out`
 /// or `done` too short is refused before all else. If the plan is refused,
 /// nothing runs; the run's areas are zero as after a refused run, or untouched
-/// if one of them is too short.
+/// if one of them is too short. Every refused call past the first leaves `done`
+/// zero.
 pub fn run(plan: &[u8], script: &[u8], areas: Lent<'_>) -> Answer {
     if areas.out.len() < PLAN_BYTES || areas.done.len() < DONE_NUMBERS {
         return lent();

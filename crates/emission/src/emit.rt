@@ -1,5 +1,5 @@
-// Emission: one pass over an accepted script in place numbers the positions of its expressions, operands first. Each function answers
-// the number of the position that is its result, 0 for nothing, and raises `count`, the positions so far, by those that it adds.
+// Emission: one pass over an accepted script in place numbers the positions of its expressions, operands first. A function that
+// answers a position answers its number, 0 for nothing; `count`, the positions so far, is raised by those that are added.
 ghost use mathlib.Core.Path.{_≡_};
 ghost use Rattle.model.specs.Paths.{anyBelow};
 ghost use Rattle.positions.specs.Positions.{pushStep, pushUnion, pushDelete, pushInsert};

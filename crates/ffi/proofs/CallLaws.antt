@@ -3,19 +3,18 @@ use mathlib.Core.Path.{_≡_, ap, sym, _∙_}
 use mathlib.Core.Bool.{true, false}
 use mathlib.Core.List.{List}
 use Prim.Native.Nat.{ℕ, _≤_, _<_}
-use lib.Dec.{ltb, eqb}
+use lib.Dec.{eqb}
 use lib.ListN.{length}
 use borrow.Author.Tests.{lt-ltb, le-ltb, eq-eqb, ne-eqb}
-use Rattle.model.specs.Base.{pick}
 use Rattle.table.specs.declared.TableResult.{TableResult}
-use Rattle.ffi.specs.Calls.{analysisCode}
+use Rattle.ffi.specs.Calls.{codeIfLong, outIfLong, analysisCode}
 use Rattle.codes.specs.Codes.{codeOf, lentCode, codeUnless, areaUnless}
 use Rattle.lent.specs.Done.{outNeed}
 use Rattle.paths.specs.declared.Analysis.{Analysis}
 
 -- what a call answers and leaves, with n and b where out is long enough
 abbrev Answers : (out : List ℕ) → (n : ℕ) → (b : List ℕ) → (code : ℕ) → (left : List ℕ) → Type 0
-Answers o n b c l = (c ≡ pick (ltb (length o) outNeed) lentCode n) × (l ≡ pick (ltb (length o) outNeed) o b)
+Answers o n b c l = (c ≡ codeIfLong o n) × (l ≡ outIfLong o b)
 
 module _ (o : List ℕ) (n : ℕ) (b : List ℕ) where
   pub area-short : {c : ℕ} → c ≡ lentCode → length o < outNeed → Answers o n b c o

@@ -14,13 +14,21 @@ use Rattle.paths.specs.declared.Analysis.{Analysis}
 use Rattle.undo.specs.Undoing.{planUndone}
 use Rattle.table.specs.declared.TableResult.{TableResult}
 
--- A CALL ON A PLAN: 11 where out has less than 2,080 bytes; then the plan's own refusal; then what the call answers
+-- PLAN, SWEEP AND UNDO: 11 where out has less than 2,080 bytes, before all else
+abbrev pub codeIfLong : (out : List ℕ) → (rest : ℕ) → ℕ
+codeIfLong o n = pick (ltb (length o) outNeed) lentCode n
+
+-- and nothing touched
+abbrev pub outIfLong : (out rest : List ℕ) → List ℕ
+outIfLong o b = pick (ltb (length o) outNeed) o b
+
+-- then the plan's own refusal; then what the call answers
 abbrev pub onPlan : (plan out : List ℕ) → (rest : ℕ) → ℕ
-onPlan p o n = pick (ltb (length o) outNeed) lentCode (codeUnless (library.planRead p .fault) 1 n)
+onPlan p o n = codeIfLong o (codeUnless (library.planRead p .fault) 1 n)
 
 -- and the area: as it was, or what the call leaves
 abbrev pub outOnPlan : (plan out rest : List ℕ) → List ℕ
-outOnPlan p o b = pick (ltb (length o) outNeed) o (areaUnless (library.planRead p .fault) b o)
+outOnPlan p o b = outIfLong o (areaUnless (library.planRead p .fault) b o)
 
 -- READ AND WRITE BACK
 abbrev pub planCode : (plan out : List ℕ) → ℕ

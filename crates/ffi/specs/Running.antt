@@ -37,7 +37,7 @@ readCall q s a h w o d =
     pick (eqb (q .fault .number) 0) (ranCall (runResult (q .table) s a h w) (ran (q .table) s a h w) o d)
     (refusedCall (codeOf (q .fault .number) 1 (q .fault .place)) (withoutRun a h w a) (withoutRun a h w h) (withoutRun a h w w) o d)
 
--- READ, RUN AND WRITE: out or done too short is 11, nothing touched; then the plan's refusal; then the run's, one of which is its own 11
+-- READ, RUN AND WRITE: out or done too short is 11, nothing touched; then the plan's refusal; then the run's, 11 for its own areas first
 abbrev pub runCalled : (plan script answer history work out done : List ℕ) → Called
 runCalled p s a h w o d =
     pick (isEndShort (length o) (length d)) (record { code = lentCode; answer = a; history = h; work = w; out = o; done = d })

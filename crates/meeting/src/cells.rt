@@ -14,7 +14,7 @@ ghost use Rattle.meeting.specs.Decoded.{stepOf, cellOf};
 pub const DESCENDANT: usize = 1;
 
 // The first of the two axes that lead up.
-pub const PARENT: usize = 2;
+const PARENT: usize = 2;
 
 // Tests; any other is for the named element.
 pub const ANY_NODE: usize = 0;

@@ -1,4 +1,4 @@
--- A script holds a step that up-kind up when one of its positions is such a step.
+-- A script holds a step that leads up when one of its positions is such a step.
 use mathlib.Core.Path.{_≡_, refl, ap, sym, _∙_}
 use mathlib.Core.Bool.{Bool, true, false, _&&_, _||_, not, true≢false, or-false, or-assoc, or-comm}
 use mathlib.Core.List.{List, [], _∷_, _++_}
@@ -58,7 +58,7 @@ someLeadsUp-any ws =
 any-plain : (es : List Entry) (x : Entry) → leads x ≡ false → any leads (es ++ (x ∷ [])) ≡ any leads es
 any-plain es x e = any-snoc leads es x ∙ ap (λ (t : Bool). any leads es || t) e ∙ or-false (any leads es)
 
--- RECORDS: a step's entry up-kind up where the step does, and no other record's does
+-- RECORDS: a step's entry leads up where the step does, and no other record's does
 step-leads : (s : Step) (x : Emitted) → any leads (pushStep s x .entries) ≡ (any leads (x .entries) || isUp s)
 step-leads s x =
     pick-cases (λ (y : Emitted). any leads (y .entries) ≡ (any leads (x .entries) || isUp s)) (eqb (x .result) 0 && not (isUp s))

@@ -38,7 +38,7 @@ IsLower k (root d) = Unit
 IsLower k (over s i) = i < k
 IsLower k (union i j) = (i < k) × (j < k)
 
--- a step that leads up
+-- a position by a step that leads up
 abbrev pub leadsUp : Position → Bool
 leadsUp nowhere = false
 leadsUp (root d) = false

@@ -3,11 +3,10 @@ use mathlib.Core.Path.{_≡_, ap, _∙_, refl, sym}
 use mathlib.Core.Bool.{true, false}
 use mathlib.Core.List.{List}
 use Prim.Native.Nat.{ℕ, _≤_}
-use lib.Dec.{ltb}
 use native.Mathlib.Omega.{arith}
 use lib.ListN.{length, replicate}
 use borrow.Author.Tests.{le-ltb, ne-eqb}
-use Rattle.model.specs.Base.{pick, isIn, atFront, areBytes}
+use Rattle.model.specs.Base.{isIn, atFront, areBytes}
 use Rattle.model.specs.Call.{Ran, areasFit, ranBy, refusedRun, runBy}
 use Rattle.model.specs.Refusal as refusal
 use Rattle.model.specs.Run.{Out, gives, stop, State}
@@ -32,7 +31,7 @@ use Rattle.sweep.specs.Sweeping as sweeping
 use Rattle.table.specs.declared.TableResult.{TableResult}
 use Rattle.undo.specs.Undoing.{planUndone, undoneBy}
 use Rattle.run.specs.Calls.{ran, resultOf, outcomeOf}
-use Rattle.ffi.specs.Calls.{onPlan, outOnPlan, undoCode, undoOut}
+use Rattle.ffi.specs.Calls.{codeIfLong, outIfLong, onPlan, outOnPlan, undoCode, undoOut}
 use Rattle.codes.specs.Codes.{codeOf, lentCode, codeUnless, areaUnless, writtenCode, finishedCode, finishedOut}
 use Rattle.ffi.specs.Running.{refusedCall, ranCall, runCalled, Called}
 use Rattle.lent.specs.Done.{outNeed, isEndShort, doneOver}
@@ -56,12 +55,12 @@ module _ (p o : List ℕ) (x : model.Table) (read : readPlan p ≡ got x) (room 
 
   code-then : (n : TableResult → ℕ) → onPlan p o (n (library.planRead p)) ≡ n (results.result refusal.fine x)
   code-then n =
-      ap (λ (q : TableResult). pick (ltb (length o) outNeed) lentCode (codeUnless (q .fault) 1 (n q))) the-plan ∙
+      ap (λ (q : TableResult). codeIfLong o (codeUnless (q .fault) 1 (n q))) the-plan ∙
       pick-false _ lentCode _ (le-ltb (length o) outNeed room)
 
   out-then : (b : TableResult → List ℕ) → outOnPlan p o (b (library.planRead p)) ≡ b (results.result refusal.fine x)
   out-then b =
-      ap (λ (q : TableResult). pick (ltb (length o) outNeed) o (areaUnless (q .fault) (b q) o)) the-plan ∙
+      ap (λ (q : TableResult). outIfLong o (areaUnless (q .fault) (b q) o)) the-plan ∙
       pick-false _ o _ (le-ltb (length o) outNeed room)
 
 -- a well-formed table written

@@ -13,7 +13,6 @@ use Rattle.table.specs.Words.{encode}
 use Rattle.plan.specs.Calls.{readBy}
 use Rattle.paths.specs.Analysis.{analysisOf}
 use Rattle.paths.proofs.Promised.{free-told}
-use Rattle.lines.specs.Lines.{answerLine}
 use Rattle.lines.specs.declared.line.Order.{Order}
 use Rattle.lines.specs.declared.line.Order.the-variants.{Stopped, Ended}
 use Rattle.sequence.specs.Orders.{order, swap}
@@ -25,7 +24,7 @@ use Rattle.report.specs.Promise.{freeText, BothOrders, FreeLines}
 -- the text, where a plan is read and the answer is free
 free-printed : (p b c : List ℕ) (x : Table) → readPlan p ≡ got x → model.analyse b c ≡ answered free →
     pairText p b c ≡ freeText (order (encode x) b c) (swap (order (encode x) c b))
-unfolding pairText threeLines answerLine
+unfolding pairText threeLines
 free-printed p b c x e f =
     ap (λ (q : Read). planText (readBy q) b c) e ∙ ap (λ (a : model.Analysis). textBy (analysisOf a) (encode x) b c) f
 

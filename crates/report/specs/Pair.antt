@@ -15,6 +15,7 @@ use Rattle.paths.specs.declared.Analysis.the-variants.{Refused, Free, Upward, M
 use Rattle.format.specs.Text.{ascii, Placed}
 use Rattle.sequence.specs.Orders.{order, swap}
 use Rattle.lines.specs.Lines.{fileLine, answerLine, orderLine}
+use Rattle.lines.specs.declared.line.Order.{Order}
 use Rattle.model.specs.Refusal.{fine, lentShort}
 use Rattle.table.specs.Results.{faultOf}
 
@@ -22,10 +23,13 @@ use Rattle.table.specs.Results.{faultOf}
 abbrev pub room : ℕ
 room = 160
 
--- THREE LINES: the answer, and both orders, each from the plan read
+-- THREE LINES: the answer, and both orders
+abbrev pub linesOf : (word : List ℕ) → (oneTwo twoOne : Order) → List ℕ
+linesOf w x y = answerLine w ++ orderLine (ascii "one-two") x ++ orderLine (ascii "two-one") y
+
+-- each from the plan read
 unfoldable pub threeLines : Table → (word first second : List ℕ) → List ℕ
-threeLines t w b c =
-    answerLine w ++ orderLine (ascii "one-two") (order t b c) ++ orderLine (ascii "two-one") (swap (order t c b))
+threeLines t w b c = linesOf w (order t b c) (swap (order t c b))
 
 -- A refused script gives the only line; after every answer both orders are run
 abbrev pub textBy : Analysis → Table → (first second : List ℕ) → List ℕ

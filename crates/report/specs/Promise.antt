@@ -1,7 +1,7 @@
 -- What is promised of the lines that `pair` prints. Each promise is a type; a term of that type in proofs/ is its proof. Assumes nothing.
 use mathlib.Core.Path.{_≡_}
 use mathlib.Core.Bool.{true}
-use mathlib.Core.List.{List, _++_}
+use mathlib.Core.List.{List}
 use mathlib.Core.Logic.{_⊎_}
 use Prim.Native.Nat.{ℕ}
 use lib.ListN.{take}
@@ -12,19 +12,18 @@ use Rattle.paths.specs.Analysis.{analysed, values, valuesOf, answerWord}
 use Rattle.paths.specs.declared.Analysis.the-variants.{Free}
 use Rattle.format.specs.Text.{ascii}
 use Rattle.front.specs.Promise.{fileBytes}
-use Rattle.lines.specs.Lines.{answerLine, orderLine}
 use Rattle.lines.specs.declared.line.Order.{Order}
 use Rattle.lines.specs.declared.line.Order.the-variants.{Stopped, Ended}
-use Rattle.report.specs.Pair.{pairText}
+use Rattle.report.specs.Pair.{linesOf, pairText}
 
 -- It reads at most 4,096 bytes of each file, which is enough: the lines are those for the whole files
 abbrev pub FilesByFront : Type 0
 FilesByFront =
     (p b c : List ℕ) → pairText (take fileBytes p) (take fileBytes b) (take fileBytes c) ≡ pairText p b c
 
--- THE LINES after `answer free`
+-- THE LINES of two scripts that are free
 abbrev pub freeText : (oneTwo twoOne : Order) → List ℕ
-freeText x y = answerLine (ascii (answerWord Free)) ++ orderLine (ascii "one-two") x ++ orderLine (ascii "two-one") y
+freeText x y = linesOf (ascii (answerWord Free)) x y
 
 -- both orders end with the same three numbers, or both are refused
 abbrev pub BothOrders : (text : List ℕ) → Type 0
