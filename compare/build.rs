@@ -3,7 +3,7 @@
 use std::path::PathBuf;
 
 const LIBRARY_VARIABLE: &str = "YEGNABIT_LIB";
-const ARCHIVES: [&str; 2] = ["libffi.a", "libprobe.a"];
+const ARCHIVES: [&str; 2] = ["libyegnabit.a", "libprobe.a"];
 const DEFAULT_FOLDER: &str = "../target/staticlib";
 
 fn main() {
@@ -17,8 +17,6 @@ fn main() {
     for archive in ARCHIVES.map(|name| folder.join(name)) {
         println!("cargo:rerun-if-changed={}", archive.display());
         if !archive.exists() {
-            // The linker might take the system's libffi instead, and then
-            // miss the functions in it.
             println!(
                 "cargo:warning=no {}: build it first or set {LIBRARY_VARIABLE}",
                 archive.display()

@@ -1,4 +1,4 @@
-/* The C interface of Yegnabit (crates/ffi; archive target/staticlib/libffi.a, by `rt staticlib ffi`).
+/* The C interface of Yegnabit (crates/yegnabit; archive target/staticlib/libyegnabit.a, by `rt staticlib yegnabit`).
  *
  * Every slice is a pointer and a length, counted in elements. Nothing is kept between calls and no memory is allocated. A pointer must
  * be valid for its length, also where that is 0 (then any aligned pointer but NULL); what a call writes to must overlap nothing else.

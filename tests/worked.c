@@ -275,7 +275,7 @@ static void runs(void) {
     static const struct run on_full[] = {
         {"512 rows, nothing inserted", ALL(insert_nothing), 0, 0, nothing, {0, 0, 0, 0}, ALL(full)},
         {"512 rows, a new one", ALL(new_element), CODE(YEGNABIT_TABLE, YEGNABIT_WHICH_SCRIPT, 0), 0, nothing, {0, 0, 0, 0}, nothing, 0},
-        {"512 rows, cuts, then one", ALL(late_full), CODE(YEGNABIT_TABLE, YEGNABIT_WHICH_SCRIPT, 8), 0, nothing, {0, 0, 0, 0}, nothing, 0},
+        {"512 rows, cuts, a row", ALL(late_full), CODE(YEGNABIT_TABLE, YEGNABIT_WHICH_SCRIPT, 8), 0, nothing, {0, 0, 0, 0}, nothing, 0},
     };
     size_t i;
 

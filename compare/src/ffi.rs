@@ -6,7 +6,7 @@
 use compare::interface::Answer;
 use compare::interface::Lent;
 
-#[link(name = "ffi", kind = "static")]
+#[link(name = "yegnabit", kind = "static")]
 extern "C" {
     fn yegnabit_plan(plan: *const u8, plan_length: usize, out: *mut u8, out_length: usize) -> u64;
 

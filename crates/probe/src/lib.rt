@@ -1,5 +1,5 @@
 // C calls that tests need and a site does not: a script read alone, and writing and sweeping on any table, well formed or not.
-// Answers are numbers as in the C interface (crates/ffi).
+// Answers are numbers as in the C interface (crates/yegnabit).
 ghost use mathlib.Core.Path.{_≡_};
 ghost use Rattle.probe.specs.Probes.{writeCode, writeOut, sweptCode, rowsLeft, marksLeft, scriptCode};
 use codes::answer;

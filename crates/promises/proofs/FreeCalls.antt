@@ -19,7 +19,7 @@ use Rattle.model.proofs.StoredBack.{storedBack}
 use Rattle.codes.specs.Codes.{codeOf}
 use Rattle.paths.proofs.Promised.{free-which}
 use Rattle.run.proofs.OutcomeLaws.{refuses-fine, run-refuses}
-use Rattle.ffi.specs.Running.{Called}
+use Rattle.yegnabit.specs.Running.{Called}
 use Rattle.promises.specs.Promise.{planLeft, Request, Suffices, runRequest, runAfter, OrderAnswers, told, FreeCallsCommute}
 use Rattle.promises.proofs.Promised.{run-done, plan-left, call-ends}
 

@@ -31,9 +31,9 @@ use Rattle.sweep.specs.Sweeping as sweeping
 use Rattle.table.specs.declared.TableResult.{TableResult}
 use Rattle.undo.specs.Undoing.{planUndone, undoneBy}
 use Rattle.run.specs.Calls.{ran, resultOf, outcomeOf}
-use Rattle.ffi.specs.Calls.{codeIfLong, outIfLong, onPlan, outOnPlan, undoCode, undoOut}
+use Rattle.yegnabit.specs.Calls.{codeIfLong, outIfLong, onPlan, outOnPlan, undoCode, undoOut}
 use Rattle.codes.specs.Codes.{codeOf, lentCode, codeUnless, areaUnless, writtenCode, finishedCode, finishedOut}
-use Rattle.ffi.specs.Running.{refusedCall, ranCall, runCalled, Called}
+use Rattle.yegnabit.specs.Running.{refusedCall, ranCall, runCalled, Called}
 use Rattle.lent.specs.Done.{outNeed, isEndShort, doneOver}
 use Rattle.promises.specs.Promise.{PlanBack, SweptBack, UndoneBack, LentFits, RunDone, RunRefused, RunAreaShort, PlanRefused}
 use Rattle.promises.specs.Promise.{FreeRunsCommute, endedCall, planLeft, historyLeft}
@@ -46,7 +46,7 @@ use Rattle.run.proofs.Promised.{runsCommute}
 use lib.Seq.{take-at}
 use Rattle.model.specs.History.{historyBytes}
 use Rattle.lent.proofs.EndLaws.{long-enough}
-use Rattle.ffi.proofs.RunLaws.{called}
+use Rattle.yegnabit.proofs.RunLaws.{called}
 
 -- A PLAN READ is the table in its words; the call then answers n and leaves b
 module _ (p o : List ℕ) (x : model.Table) (read : readPlan p ≡ got x) (room : outNeed ≤ length o) where

@@ -17,10 +17,10 @@ use Rattle.lent.specs.Done.{isEndShort}
 use Rattle.plan.specs.Calls as library
 use Rattle.plan.proofs.Promised.{read-got}
 use Rattle.model.proofs.RunsBack.{runBy-back}
-use Rattle.ffi.specs.Calls.{undoCode, undoOut}
-use Rattle.ffi.specs.Running.{Called, runCalled}
+use Rattle.yegnabit.specs.Calls.{undoCode, undoOut}
+use Rattle.yegnabit.specs.Running.{Called, runCalled}
 use Rattle.promises.specs.Promise.{LentFits, historyLeft, RunUndone}
-use Rattle.ffi.proofs.RunLaws.{call-short, call-plan-refused}
+use Rattle.yegnabit.proofs.RunLaws.{call-short, call-plan-refused}
 use Rattle.promises.proofs.Promised.{undone-back, plan-left, history-left, call-ends, runAreaShort}
 
 -- THE ANSWER 0: the plan is read, and no area is too short

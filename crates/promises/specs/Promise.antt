@@ -17,9 +17,9 @@ use Rattle.model.specs.Stored.{stored, bad, got, readPlan}
 use Rattle.model.specs.Sweep.{swept}
 use Rattle.model.specs.Table.{Table}
 use Rattle.model.specs.Undo.{back, undo}
-use Rattle.ffi.specs.Calls.{planCode, planOut, sweepCode, sweepOut, undoCode, undoOut, analyseCode}
+use Rattle.yegnabit.specs.Calls.{planCode, planOut, sweepCode, sweepOut, undoCode, undoOut, analyseCode}
 use Rattle.codes.specs.Codes.{codeOf, lentCode}
-use Rattle.ffi.specs.Running.{Called, refusedCall, runCalled}
+use Rattle.yegnabit.specs.Running.{Called, refusedCall, runCalled}
 use Rattle.lent.specs.Done.{outNeed, isEndShort, withoutRun, doneOver}
 use Rattle.paths.specs.Analysis.{analysed, values, valuesOf}
 use Rattle.run.specs.Promise.{EitherRun}

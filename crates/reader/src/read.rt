@@ -64,15 +64,15 @@ fn mark(s: &[u8], rows: &[u32], marks: &mut [u16], count: usize, last: usize) ->
     if document < last {
         return Fault::LINK;
     }
-    let at = number::number_at(s, 2) + 1;
-    if !fit::is_root_below(rows, count, at) {
+    let link = number::number_at(s, 2) + 1;
+    if !fit::is_root_below(rows, count, link) {
         return Fault::LINK;
     }
-    let link = at as u16;
-    if marks::is_marked(marks, link) {
+    let mark = link as u16;
+    if marks::is_marked(marks, mark) {
         return Fault::LINK;
     }
-    marks[document] = link;
+    marks[document] = mark;
     0
 }
 

@@ -83,7 +83,8 @@ impl Fault {
     pub const LENT: u8 = 11;
 }
 
-// How a pass over records ends: its refusal's number and place, or 0 and 0; rows or records counted.
+// How a pass over records ends: its refusal's number and place; or 0, and where it came to (the contract of the script reader) or 0; rows
+// or records counted.
 pub struct End {
     pub number: u8,
     pub place: usize,

@@ -3,7 +3,7 @@ ghost use mathlib.Core.Path.{_≡_};
 ghost use mathlib.Core.List.{_∷_, map};
 ghost use Prim.Native.Nat.{ℕ, _+_, _*_, _≤_, _<_};
 ghost use lib.ListN.{length};
-ghost use Rattle.model.specs.Stored.{wordBytes, rowBytes, rowsBytes, markBytes, marksBytes};
+ghost use Rattle.model.specs.Stored.{recordSize, wordBytes, rowBytes, rowsBytes, markBytes, marksBytes};
 ghost use mathlib.Core.Bool.{true};
 ghost use Rattle.model.specs.Limits.{maxRows, documents};
 ghost use Rattle.table.specs.Words.{ofLink, rowOf, rowsOf, fits};
@@ -94,7 +94,7 @@ pub fn marks(out: &mut [u8], marks: &[u16], start: usize)
 // The bytes that a table's rows and marks take.
 pub fn stored_length(count: usize, marks: &[u16]) -> usize
     requires { ⌜ (count ≤ maxRows) × (length (now marks) ≡ documents) ⌝ }
-    ensures { λ r. ⌜ r ≡ 4 * count + length (marksBytes 0 (map ofLink (now (marks .entry)))) ⌝ }
+    ensures { λ r. ⌜ r ≡ recordSize * count + length (marksBytes 0 (map ofLink (now (marks .entry)))) ⌝ }
 {
     let mut n = stored::SIZE * count;
     let mut d = 0;

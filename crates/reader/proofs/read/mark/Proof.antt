@@ -106,8 +106,8 @@ returns-2 c =
 number-at-requires : tie.Need-number-at-requires
 number-at-requires c κs = search needs
 
-add-at : tie.Need-add-at
-add-at c = search needs
+add-link : tie.Need-add-link
+add-link c = search needs
 
 is-root-below-requires : tie.Need-is-root-below-requires
 is-root-below-requires c κs = search needs
@@ -125,8 +125,8 @@ returns-3 c =
       order = λ z. refused _ z;
     }
 
-cast-link : tie.Need-cast-link
-cast-link c =
+cast-mark : tie.Need-cast-mark
+cast-mark c =
     let c10 = c .before .before .before .before .before .before .before .before .before .before in
     omega (arith, there c, c .before .before .number-at .ensures .0, c10 .pre .room)
 
@@ -178,10 +178,10 @@ mark-spec =
     returns
     returns-2
     number-at-requires
-    add-at
+    add-link
     is-root-below-requires
     returns-3
-    cast-link
+    cast-mark
     is-marked-requires
     same-length
     returns-4

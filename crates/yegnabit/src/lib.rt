@@ -2,8 +2,8 @@
 // number 0 where nothing is refused; which says whose refusal it is: 0 a lent area's, 1 the plan's,
 // 2 the script's, the run's or the history's.
 ghost use mathlib.Core.Path.{_≡_};
-ghost use Rattle.ffi.specs.Calls.{planCode, planOut, sweepCode, sweepOut, undoCode, undoOut, analyseCode};
-ghost use Rattle.ffi.specs.Running.{runCalled};
+ghost use Rattle.yegnabit.specs.Calls.{planCode, planOut, sweepCode, sweepOut, undoCode, undoOut, analyseCode};
+ghost use Rattle.yegnabit.specs.Running.{runCalled};
 use codes::answer;
 use codes::answer::PLAN;
 use codes::answer::SCRIPT;

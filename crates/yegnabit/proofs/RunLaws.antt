@@ -10,7 +10,7 @@ use Rattle.table.specs.declared.TableResult.{TableResult}
 use Rattle.run.specs.Calls.{ran, runResult}
 use Rattle.run.specs.declared.RunResult.{RunResult}
 use Rattle.codes.specs.Codes.{codeOf, lentCode}
-use Rattle.ffi.specs.Running.{Called, refusedCall, ranCall, readCall, runCalled}
+use Rattle.yegnabit.specs.Running.{Called, refusedCall, ranCall, readCall, runCalled}
 use Rattle.lent.specs.Done.{doneNeed, isEndShort, withoutRun, doneOver, endCode, endOut, endDone}
 use Rattle.lent.proofs.EndLaws.{long-enough}
 

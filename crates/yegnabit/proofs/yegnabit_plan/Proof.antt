@@ -1,14 +1,14 @@
 -- `yegnabit_plan` answers and leaves what reading and writing back owe, by its two ways out.
-use Rattle.ffi.proofs.FittingLaws.{bytes-known, read-fits}
-use Rattle.ffi.proofs.CallLaws.{area-short, area-fits}
+use Rattle.yegnabit.proofs.FittingLaws.{bytes-known, read-fits}
+use Rattle.yegnabit.proofs.CallLaws.{area-short, area-fits}
 use Rattle.codes.specs.Codes.{finishedCode, finishedOut}
 use Rattle.table.specs.Words.{fits}
 use Rattle.table.specs.declared.TableResult.{TableResult}
 use mathlib.Core.Path.{_∙_, ap}
 use native.Mathlib.Omega.{arith}
 use borrow.Author.Needs.{needs}
-use Rattle.ffi.proofs.yegnabit_plan.Statement.{statement}
-use Rattle.ffi.proofs.yegnabit_plan.Tie as tie
+use Rattle.yegnabit.proofs.yegnabit_plan.Statement.{statement}
+use Rattle.yegnabit.proofs.yegnabit_plan.Tie as tie
 
 lent-short-requires : tie.Need-lent-short-requires
 lent-short-requires c κs = search needs

@@ -1,8 +1,8 @@
 -- `yegnabit_analyse` answers the code of the analysis, case by case.
-use Rattle.ffi.proofs.CallLaws.{analysis-told}
+use Rattle.yegnabit.proofs.CallLaws.{analysis-told}
 use borrow.Author.Needs.{needs}
-use Rattle.ffi.proofs.yegnabit_analyse.Statement.{statement}
-use Rattle.ffi.proofs.yegnabit_analyse.Tie as tie
+use Rattle.yegnabit.proofs.yegnabit_analyse.Statement.{statement}
+use Rattle.yegnabit.proofs.yegnabit_analyse.Tie as tie
 
 analyse-requires : tie.Need-analyse-requires
 analyse-requires c κs = search needs

@@ -7,7 +7,7 @@ use lib.Dec.{eqb}
 use lib.ListN.{length}
 use borrow.Author.Tests.{lt-ltb, le-ltb, eq-eqb, ne-eqb}
 use Rattle.table.specs.declared.TableResult.{TableResult}
-use Rattle.ffi.specs.Calls.{codeIfLong, outIfLong, analysisCode}
+use Rattle.yegnabit.specs.Calls.{codeIfLong, outIfLong, analysisCode}
 use Rattle.codes.specs.Codes.{codeOf, lentCode, codeUnless, areaUnless}
 use Rattle.lent.specs.Done.{outNeed}
 use Rattle.paths.specs.declared.Analysis.{Analysis}

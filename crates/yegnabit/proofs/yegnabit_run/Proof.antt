@@ -1,15 +1,15 @@
 -- `yegnabit_run` answers and leaves what `runCalled` says, by its three ways out: out or done too short, the plan refused, the run over.
 use mathlib.Core.Path.{_∙_, ap}
-use Rattle.ffi.proofs.FittingLaws.{bytes-known, read-fits}
+use Rattle.yegnabit.proofs.FittingLaws.{bytes-known, read-fits}
 use Rattle.table.specs.Words.{fits}
 use Rattle.table.specs.declared.TableResult.{TableResult}
 use Rattle.run.proofs.Promised.{runsOn}
 use Rattle.run.specs.declared.RunResult.{RunResult}
 use lib.ListN.{length}
 use borrow.Author.Needs.{needs}
-use Rattle.ffi.proofs.RunLaws.{six-fit, call-short, call-plan-refused, call-ended}
-use Rattle.ffi.proofs.yegnabit_run.Statement.{statement}
-use Rattle.ffi.proofs.yegnabit_run.Tie as tie
+use Rattle.yegnabit.proofs.RunLaws.{six-fit, call-short, call-plan-refused, call-ended}
+use Rattle.yegnabit.proofs.yegnabit_run.Statement.{statement}
+use Rattle.yegnabit.proofs.yegnabit_run.Tie as tie
 
 is-end-short-requires : tie.Need-is-end-short-requires
 is-end-short-requires c κs = search needs

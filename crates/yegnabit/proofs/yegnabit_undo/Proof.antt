@@ -1,6 +1,6 @@
 -- `yegnabit_undo` answers and leaves what reading, taking back and writing owe, by its three ways out.
-use Rattle.ffi.proofs.FittingLaws.{bytes-known, read-fits, undone-fits}
-use Rattle.ffi.proofs.CallLaws.{area-short, plan-refused, plan-done}
+use Rattle.yegnabit.proofs.FittingLaws.{bytes-known, read-fits, undone-fits}
+use Rattle.yegnabit.proofs.CallLaws.{area-short, plan-refused, plan-done}
 use Rattle.codes.specs.Codes.{finishedCode, finishedOut}
 use Rattle.undo.specs.Undoing.{planUndone}
 use Rattle.table.specs.Words.{fits}
@@ -8,8 +8,8 @@ use Rattle.table.specs.declared.TableResult.{TableResult}
 use mathlib.Core.Path.{_∙_, ap}
 use native.Mathlib.Omega.{arith}
 use borrow.Author.Needs.{needs}
-use Rattle.ffi.proofs.yegnabit_undo.Statement.{statement}
-use Rattle.ffi.proofs.yegnabit_undo.Tie as tie
+use Rattle.yegnabit.proofs.yegnabit_undo.Statement.{statement}
+use Rattle.yegnabit.proofs.yegnabit_undo.Tie as tie
 
 lent-short-requires : tie.Need-lent-short-requires
 lent-short-requires c κs = search needs
