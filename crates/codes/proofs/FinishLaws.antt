@@ -5,20 +5,21 @@ use mathlib.Core.List.{List}
 use Prim.Native.Nat.{ℕ}
 use lib.Dec.{eqb}
 use borrow.Author.Tests.{eq-eqb, ne-eqb}
+use Rattle.model.specs.Refusal.{values}
 use Rattle.writer.specs.Writing.{planWritten, writtenOut}
 use Rattle.table.specs.declared.Written.{Written}
 use Rattle.table.specs.declared.TableResult.{TableResult}
-use Rattle.codes.specs.Codes.{codeOf, writtenCode, finishedCode, finishedOut}
+use Rattle.codes.specs.Codes.{codeOf, writtenValues, finishedValues, finishedOut}
 
 module _ (r : TableResult) (w : ℕ) (o : List ℕ) where
-  pub finish-refused : (c : ℕ) → (r .fault .number ≡ 0 → ⊥) → c ≡ codeOf (r .fault .number) w (r .fault .place) →
-      (c ≡ finishedCode r w o) × (o ≡ finishedOut r o)
+  pub finish-refused : (c : ℕ) → (r .fault .number ≡ 0 → ⊥) → c ≡ codeOf (values (r .fault .number) w (r .fault .place)) →
+      (c ≡ codeOf (finishedValues r w o)) × (o ≡ finishedOut r o)
   finish-refused c z e =
       let k : eqb (r .fault .number) 0 ≡ false = ne-eqb (r .fault .number) 0 z in
       (e ∙ rw k, rw k)
 
   pub finish-written : (c : ℕ) (x : Written) (o′ : List ℕ) → r .fault .number ≡ 0 → x ≡ planWritten (r .table) o →
-      o′ ≡ writtenOut (r .table) o → c ≡ writtenCode x → (c ≡ finishedCode r w o) × (o′ ≡ finishedOut r o)
+      o′ ≡ writtenOut (r .table) o → c ≡ codeOf (writtenValues x) → (c ≡ codeOf (finishedValues r w o)) × (o′ ≡ finishedOut r o)
   finish-written c x o′ z e f g =
       let k : eqb (r .fault .number) 0 ≡ true = eq-eqb (r .fault .number) 0 z in
-      (g ∙ ap writtenCode e ∙ rw k, f ∙ rw k)
+      (g ∙ ap (λ (t : Written). codeOf (writtenValues t)) e ∙ rw k, f ∙ rw k)

@@ -1,37 +1,45 @@
--- The number that a C call answers, and a plan written by one. Assumes nothing: these are definitions.
+-- What a C call answers: number, which and place, and the one number that carries them. And the end of a call that writes a plan.
 use mathlib.Core.List.{List}
-use Prim.Native.Nat.{ℕ, _+_, _*_, _%_}
+use Prim.Native.Nat.{ℕ, _+_, _*_, _/_, _%_}
 use lib.Dec.{eqb}
 use Rattle.model.specs.Base.{pick}
-use Rattle.model.specs.Refusal.{lentShort}
+use Rattle.model.specs.Refusal.{Values, values, lentShort}
 use Rattle.writer.specs.Writing.{planWritten, writtenOut}
 use Rattle.table.specs.declared.Fault.{Fault}
 use Rattle.table.specs.declared.TableResult.{TableResult}
 use Rattle.table.specs.declared.Written.{Written}
 
--- number + 256 × which + 65,536 × place; a place of 2^48 or more, past any memory, is taken modulo that
-abbrev pub codeOf : (number which place : ℕ) → ℕ
-codeOf n w i = n + 256 * w + 65536 * (i % 281474976710656)
+-- a place of 2^48 or more, past any memory, is taken modulo that
+abbrev pub maxPlaces : ℕ
+maxPlaces = 281474976710656
+
+-- number + 256 × which + 65,536 × place
+abbrev pub codeOf : Values → ℕ
+codeOf v = v .number + 256 * v .which + 65536 * (v .place % maxPlaces)
+
+-- and back: the three that a number carries
+abbrev pub decoded : ℕ → Values
+decoded c = values (c % 256) (c / 256 % 256) (c / 65536)
 
 -- 11 at place 0 for an area too short
-abbrev pub lentCode : ℕ
-lentCode = codeOf (lentShort .number) 0 (lentShort .place)
+abbrev pub lentValues : Values
+lentValues = values (lentShort .number) 0 (lentShort .place)
 
 -- a plan written: its bytes as the place, or the refusal of the area
-abbrev pub writtenCode : Written → ℕ
-writtenCode w = codeOf (w .fault .number) 0 (w .bytes)
+abbrev pub writtenValues : Written → Values
+writtenValues w = values (w .fault .number) 0 (w .bytes)
 
 -- A REFUSAL, of which `which` says whose it is, or what else is answered
-abbrev pub codeUnless : Fault → (which rest : ℕ) → ℕ
-codeUnless f w n = pick (eqb (f .number) 0) n (codeOf (f .number) w (f .place))
+abbrev pub valuesUnless : Fault → (which : ℕ) → (rest : Values) → Values
+valuesUnless f w v = pick (eqb (f .number) 0) v (values (f .number) w (f .place))
 
 -- and what an area is left with: the rest, or where something is refused what is kept
 abbrev pub areaUnless : Fault → (rest kept : List ℕ) → List ℕ
 areaUnless f b o = pick (eqb (f .number) 0) b o
 
 -- THE END of a call that gives a table: its refusal, or the table written
-abbrev pub finishedCode : TableResult → (which : ℕ) → (out : List ℕ) → ℕ
-finishedCode r w o = codeUnless (r .fault) w (writtenCode (planWritten (r .table) o))
+abbrev pub finishedValues : TableResult → (which : ℕ) → (out : List ℕ) → Values
+finishedValues r w o = valuesUnless (r .fault) w (writtenValues (planWritten (r .table) o))
 
 -- and the area
 abbrev pub finishedOut : TableResult → (out : List ℕ) → List ℕ

@@ -2,7 +2,8 @@
 ghost use mathlib.Core.Path.{_≡_};
 ghost use mathlib.Core.Bool.{true};
 ghost use Rattle.table.specs.Words.{fits};
-ghost use Rattle.codes.specs.Codes.{codeOf, lentCode, finishedCode, finishedOut};
+ghost use Rattle.model.specs.Refusal.{values};
+ghost use Rattle.codes.specs.Codes.{codeOf, lentValues, finishedValues, finishedOut};
 use table::Fault;
 use table::TableResult;
 use writer::write;
@@ -19,14 +20,14 @@ const PLACES: u64 = 0x1_0000_0000_0000;
 
 // number + 256 × which + 65,536 × place.
 pub fn code(number: u8, which: u8, place: usize) -> u64
-    ensures { λ r. ⌜ r ≡ codeOf number which place ⌝ }
+    ensures { λ r. ⌜ r ≡ codeOf (values number which place) ⌝ }
 {
     (number as u64) + 256 * (which as u64) + 65536 * (place as u64 % PLACES)
 }
 
 // A lent area is too short.
 pub fn lent_short() -> u64
-    ensures { λ r. ⌜ r ≡ lentCode ⌝ }
+    ensures { λ r. ⌜ r ≡ codeOf lentValues ⌝ }
 {
     code(Fault::LENT, AREA, 0)
 }
@@ -34,7 +35,7 @@ pub fn lent_short() -> u64
 // The end of a call that gives a table: its refusal, `which` saying whose it is; or the table written, and how many bytes.
 pub fn finish(result: TableResult, which: u8, out: &mut [u8]) -> u64
     requires { ⌜ (result .fault .number ≡ 0 → fits (result .table) ≡ true) ⌝ }
-    ensures { λ r. ⌜ r ≡ finishedCode result which (now (out .entry)) ⌝ }
+    ensures { λ r. ⌜ r ≡ codeOf (finishedValues result which (now (out .entry))) ⌝ }
     ensures { λ r. ⌜ now (out .exit) ≡ finishedOut result (now (out .entry)) ⌝ }
 {
     let number = result.fault.number;

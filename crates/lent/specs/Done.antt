@@ -1,19 +1,19 @@
--- The areas lent to a run through C, and what they hold once it is over. Assumes nothing: these are definitions.
+-- The areas lent to a run through C: what each needs, and what they hold once the run is over.
 use mathlib.Core.Path.{_≡_}
-use mathlib.Core.Bool.{Bool, true, _||_}
+use mathlib.Core.Bool.{Bool, true, _&&_}
 use mathlib.Core.List.{List, [], _∷_}
 use Prim.Native.Nat.{ℕ, _+_, _*_, _≤_}
-use lib.Dec.{ltb, eqb}
-use lib.ListN.{length, replicate}
-use Rattle.model.specs.Base.{pick, atFront}
-use Rattle.model.specs.Call.{areasFit}
+use lib.Dec.{leb}
+use lib.ListN.{length}
+use Rattle.model.specs.Base.{atFront}
+use Rattle.model.specs.Call.{lengthsFit}
 use Rattle.model.specs.Limits.{maxRows, documents}
-use Rattle.model.specs.Refusal.{lentShort}
+use Rattle.model.specs.Refusal.{Values, values}
 use Rattle.model.specs.Stored.{recordSize}
 use Rattle.writer.specs.Writing.{planWritten}
 use Rattle.table.specs.Words.{fits}
 use Rattle.run.specs.declared.RunResult.{RunResult}
-use Rattle.codes.specs.Codes.{codeOf, codeUnless, areaUnless, finishedOut}
+use Rattle.codes.specs.Codes.{valuesUnless, areaUnless, finishedOut}
 
 -- what out needs, 2,080 bytes: a record for each row and mark of the longest plan
 abbrev pub outNeed : ℕ
@@ -23,25 +23,17 @@ outNeed = recordSize * (maxRows + documents)
 abbrev pub doneNeed : ℕ
 doneNeed = 6
 
--- before all else: out takes the longest plan, 2,080 bytes, and done six numbers, or one of them is too short
-abbrev pub isEndShort : (out done : ℕ) → Bool
-isEndShort o d = ltb o outNeed || ltb d doneNeed
-
--- NOTHING RUNS, the plan being refused: an area of the run is zero as after a refused run, or untouched if one of the three is too short
-abbrev pub withoutRun : (answer history work area : List ℕ) → List ℕ
-withoutRun a h w x = pick (areasFit a h w) (replicate (length x) 0) x
+-- asked before all else: each of the five areas is as long as its need
+abbrev pub lentFit : (answer history work out done : ℕ) → Bool
+lentFit a h w o d = lengthsFit a h w && leb outNeed o && leb doneNeed d
 
 -- six numbers over the front of done: items, rows made, links cut, records written, history bytes, bytes in out
 abbrev pub doneOver : (items made cut records bytes written : ℕ) → (done : List ℕ) → List ℕ
 doneOver i m c r b n d = atFront (i ∷ m ∷ c ∷ r ∷ b ∷ n ∷ []) d
 
--- whose refusal it is: 11 a lent area's, else the script's or the run's
-abbrev pub whichOf : (number : ℕ) → ℕ
-whichOf n = pick (eqb n (lentShort .number)) 0 2
-
--- ONCE THE RUN IS OVER: its refusal, out as it was and done zero; or the plan written, and its six numbers
-abbrev pub endCode : RunResult → (out : List ℕ) → ℕ
-endCode r o = codeUnless (r .fault) (whichOf (r .fault .number)) (codeOf (planWritten (r .table) o .fault .number) 0 0)
+-- ONCE THE RUN IS OVER: the script's refusal or the run's, out as it was and done zero; or the plan written, and its six numbers
+abbrev pub endValues : RunResult → (out : List ℕ) → Values
+endValues r o = valuesUnless (r .fault) 2 (values (planWritten (r .table) o .fault .number) 0 0)
 
 -- out after it
 abbrev pub endOut : RunResult → (out : List ℕ) → List ℕ

@@ -1,24 +1,23 @@
-// The areas lent to the C call for a run: whether out or done, which its end writes, is too short; what all hold once nothing runs or the
-// run is over.
+// The areas lent to the C call for a run: whether each is long enough, and what they hold once nothing runs or the run is over.
 ghost use mathlib.Core.Path.{_≡_};
 ghost use Prim.Native.Nat.{_≤_};
-ghost use lib.ListN.{length};
-ghost use Rattle.lent.specs.Done.{doneNeed, isEndShort, withoutRun, doneOver, whichOf, EndPre, endCode, endOut, endDone};
+ghost use lib.ListN.{length, replicate};
+ghost use Rattle.codes.specs.Codes.{codeOf};
+ghost use Rattle.lent.specs.Done.{doneNeed, lentFit, doneOver, EndPre, endValues, endOut, endDone};
 use areas::area;
 use codes::answer;
 use run::RunResult;
 use run::lengths;
-use table::Fault;
 use writer::write;
 
 // The numbers that done needs.
 const DONE: usize = 6;
 
-// out or done is shorter than its need.
-pub fn is_end_short(out: usize, done: usize) -> bool
-    ensures { λ r. ⌜ r ≡ isEndShort out done ⌝ }
+// Each of the five areas is as long as its need.
+pub fn fit(answer: usize, history: usize, work: usize, out: usize, done: usize) -> bool
+    ensures { λ r. ⌜ r ≡ lentFit answer history work out done ⌝ }
 {
-    (out < crate::OUT) | (done < DONE)
+    lengths::fit(answer, history, work) & (out >= crate::OUT) & (done >= DONE)
 }
 
 // The six numbers over the front of done.
@@ -42,44 +41,28 @@ pub fn put_done(
     done[5] = written as u64;
 }
 
-// Nothing runs: the areas of the run are zero, or untouched if one of them is too short.
+// Nothing runs: the areas of the run are zero.
 pub fn clear(answer: &mut [u16], history: &mut [u8], work: &mut [u16])
-    ensures { λ _. ⌜ now (answer .exit) ≡
-        withoutRun (now (answer .entry)) (now (history .entry)) (now (work .entry)) (now (answer .entry)) ⌝ }
-    ensures { λ _. ⌜ now (history .exit) ≡
-        withoutRun (now (answer .entry)) (now (history .entry)) (now (work .entry)) (now (history .entry)) ⌝ }
-    ensures { λ _. ⌜ now (work .exit) ≡
-        withoutRun (now (answer .entry)) (now (history .entry)) (now (work .entry)) (now (work .entry)) ⌝ }
+    ensures { λ _. ⌜ now (answer .exit) ≡ replicate (length (now (answer .entry))) 0 ⌝ }
+    ensures { λ _. ⌜ now (history .exit) ≡ replicate (length (now (history .entry))) 0 ⌝ }
+    ensures { λ _. ⌜ now (work .exit) ≡ replicate (length (now (work .entry))) 0 ⌝ }
 {
-    if !lengths::fit(answer.len(), history.len(), work.len()) {
-        return;
-    }
     area::clear_words(answer);
     area::clear_bytes(history);
     area::clear_words(work);
 }
 
-// Whose refusal of a run it is: 11 is a lent area's.
-fn which_of(number: u8) -> u8
-    ensures { λ r. ⌜ r ≡ whichOf number ⌝ }
-{
-    if number == Fault::LENT {
-        return answer::AREA;
-    }
-    answer::SCRIPT
-}
-
 // The run is over: refused, out stays and done is zero; else the plan as it then is stands in out, and done has its six numbers.
 pub fn end(ran: RunResult, out: &mut [u8], done: &mut [u64]) -> u64
     requires { ⌜ EndPre ran (now done) ⌝ }
-    ensures { λ r. ⌜ r ≡ endCode ran (now (out .entry)) ⌝ }
+    ensures { λ r. ⌜ r ≡ codeOf (endValues ran (now (out .entry))) ⌝ }
     ensures { λ _. ⌜ now (out .exit) ≡ endOut ran (now (out .entry)) ⌝ }
     ensures { λ _. ⌜ now (done .exit) ≡ endDone ran (now (out .entry)) (now (done .entry)) ⌝ }
 {
     let refused = ran.fault.number;
     if refused != 0 {
         put_done(done, 0, 0, 0, 0, 0, 0);
-        return answer::code(refused, which_of(refused), ran.fault.place);
+        return answer::code(refused, answer::SCRIPT, ran.fault.place);
     }
     let tally = ran.tally;
     let written = write::fitting(ran.table, out);

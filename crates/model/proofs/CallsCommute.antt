@@ -16,7 +16,8 @@ use Rattle.model.specs.Run.{State, Out, stop, gives, runOn}
 use Rattle.model.specs.Meeting.{free, answer}
 use Rattle.model.specs.Promise.{IsScript, ends, tableOf, orderEnds, matchedAll, matchedHistory}
 use Rattle.model.specs.Call.{answered, analyse, firstBy, Ran, filled, countKind, runBy}
-use Rattle.model.specs.Call.{ranBy, areasFit, runCall, callsEnd, CallsMatch, CallsEqual, EitherOrder, CallsCommute}
+use Rattle.model.specs.Call.{ranBy, areasFit, runCall, callsEnd, CallsMatch, CallsEqual, Areas, runIn, Suffices}
+use Rattle.model.specs.Call.{EitherOrder, CallsCommute}
 use Rattle.model.proofs.BoolLaws.{pick-true, and-left}
 use Rattle.model.proofs.StopLaws.{stop-refuses}
 use Rattle.model.proofs.RunsBack.{runsBack}
@@ -34,23 +35,27 @@ countKind-matched low high n a b [] = refl
 countKind-matched low high n a b (r ∷ h) =
     ap (λ (k : ℕ). pick (leb low (r .kind) && leb (r .kind) high) 1 0 + k) (countKind-matched low high n a b h)
 
+-- what a run that came to this outcome leaves in its areas
+abbrev leaves : Table → Areas → Out → Ran
+leaves x k o = ranBy x (length (k .answer)) (length (k .history)) (length (k .work)) o
+
 -- a run's results match where its answer and history do
-calls-match : (n a b : ℕ) (x y : Table) (k l m k′ l′ m′ : ℕ) (v v′ : List ℕ) (s s′ : State) → v′ ≡ matchedAll n a b v →
+calls-match : (n a b : ℕ) (x y : Table) (k l : Areas) (v v′ : List ℕ) (s s′ : State) → v′ ≡ matchedAll n a b v →
     s′ .history ≡ matchedHistory n a b (s .history) → replayAll x (s .history) ≡ s .plan → replayAll y (s′ .history) ≡ s′ .plan →
-    CallsMatch n a b x y (ranBy x k l m (gives v s)) (ranBy y k′ l′ m′ (gives v′ s′))
-calls-match n a b x y k l m k′ l′ m′ v v′ s s′ e f p q = (
+    CallsMatch n a b x y (leaves x k (gives v s)) (leaves y l (gives v′ s′))
+calls-match n a b x y k l v v′ s s′ e f p q = (
   ap length e ∙ length-matchedAll n a b v,
   ap (countKind _ _) f ∙ countKind-matched _ _ n a b (s .history),
   ap (countKind _ _) f ∙ countKind-matched _ _ n a b (s .history),
   ap length f ∙ length-map (s .history) _,
-  front v′ k′ ∙ e ∙ ap (matchedAll n a b) (sym (front v k)),
+  front v′ (length (l .answer)) ∙ e ∙ ap (matchedAll n a b) (sym (front v (length (k .answer)))),
   (
     s .history,
     (
       refl,
-      front (historyBytes (s .history)) l,
+      front (historyBytes (s .history)) (length (k .history)),
       p,
-      front (historyBytes (s′ .history)) l′ ∙ ap historyBytes f,
+      front (historyBytes (s′ .history)) (length (l .history)) ∙ ap historyBytes f,
       ap (replayAll y) (sym f) ∙ q,
     ),
   ),
@@ -74,79 +79,70 @@ pub runCall-by : (x : Table) (b a h w : List ℕ) (q : Out) → areasFit a h w �
 runCall-by x b a h w q fits well e =
     pick-true (areasFit a h w) _ _ fits ∙ ap (ranBy x (length a) (length h) (length w)) (pick-true (isWell x) _ _ well ∙ e)
 
-module _ (e : Expr) (b : List ℕ) (i n : ℕ) (r : List ℕ) (E : readScript b ≡ parsed e i n r) (a h w : List ℕ) (fits : areasFit a h w ≡
-    true) where
-  call-runs : (x : Table) → isWell x ≡ true → runCall x b a h w ≡ ranBy x (length a) (length h) (length w) (runOn x e)
-  call-runs x well = runCall-by x b a h w (runOn x e) fits well (ap (runBy x) E)
+module _ (e : Expr) (b : List ℕ) (i n : ℕ) (r : List ℕ) (E : readScript b ≡ parsed e i n r) (k : Areas) (fits : Suffices k) where
+  call-runs : (x : Table) → isWell x ≡ true → runIn x b k ≡ leaves x k (runOn x e)
+  call-runs x well = runCall-by x b (k .answer) (k .history) (k .work) (runOn x e) fits well (ap (runBy x) E)
 
-  call-ends : (x : Table) → isWell x ≡ true → (o : Out) → runOn x e ≡ o → isFine (runCall x b a h w .fault) ≡ ends o
-  call-ends x well o k = ap (λ (t : Ran). isFine (t .fault)) (call-runs x well ∙ ap (ranBy x (length a) (length h) (length w)) k) ∙ go o k
+  call-ends : (x : Table) → isWell x ≡ true → (o : Out) → runOn x e ≡ o → isFine (runIn x b k .fault) ≡ ends o
+  call-ends x well o y = ap (λ (t : Ran). isFine (t .fault)) (call-runs x well ∙ ap (leaves x k) y) ∙ go o y
     where
-      go : (q : Out) → runOn x e ≡ q → isFine (ranBy x (length a) (length h) (length w) q .fault) ≡ ends q
-      go (stop f) y = stop-refuses e x f y
-      go (gives v s) y = refl
+      go : (q : Out) → runOn x e ≡ q → isFine (leaves x k q .fault) ≡ ends q
+      go (stop f) z = stop-refuses e x f z
+      go (gives v s) z = refl
 
   -- it leaves the model's table, well formed
   call-plan : areBytes b ≡ true → (x : Table) → isWell x ≡ true → (v : List ℕ) (s : State) → runOn x e ≡ gives v s →
-      (runCall x b a h w .plan ≡ s .plan) × (isWell (s .plan) ≡ true)
-  call-plan bytes x well v s k = (
-    ap (λ (t : Ran). t .plan) (call-runs x well ∙ ap (ranBy x (length a) (length h) (length w)) k),
-    runsBack e x v s (b, bytes, (i, (n, (r, E)))) well k .0,
+      (runIn x b k .plan ≡ s .plan) × (isWell (s .plan) ≡ true)
+  call-plan bytes x well v s y = (
+    ap (λ (t : Ran). t .plan) (call-runs x well ∙ ap (leaves x k) y),
+    runsBack e x v s (b, bytes, (i, (n, (r, E)))) well y .0,
   )
 
 -- ONE ORDER of two calls is the model's order
 module _ (e f : Expr) (b c : List ℕ) (i n j m : ℕ) (r q : List ℕ) (E : readScript b ≡ parsed e i n r) (F : readScript c ≡ parsed f j m q)
-    (bytes : areBytes b ≡ true) (a h w a′ h′ w′ : List ℕ) (fits : areasFit a h w ≡ true) (fits′ : areasFit a′ h′ w′ ≡ true)
-    (x : Table) (well : isWell x ≡ true) where
-  order-ends : callsEnd (runCall x b a h w) (runCall (runCall x b a h w .plan) c a′ h′ w′) ≡ orderEnds x e f
+    (bytes : areBytes b ≡ true) (k k′ : Areas) (fits : Suffices k) (fits′ : Suffices k′) (x : Table) (well : isWell x ≡ true) where
+  order-ends : callsEnd (runIn x b k) (runIn (runIn x b k .plan) c k′) ≡ orderEnds x e f
   order-ends = go (runOn x e) refl
     where
-      go : (o : Out) → runOn x e ≡ o → callsEnd (runCall x b a h w) (runCall (runCall x b a h w .plan) c a′ h′ w′) ≡ (ends (runOn x e) &&
+      go : (o : Out) → runOn x e ≡ o → callsEnd (runIn x b k) (runIn (runIn x b k .plan) c k′) ≡ (ends (runOn x e) &&
           ends (runOn (tableOf (runOn x e)) f))
-      go (stop y) k =
-          ap (λ (t : Bool). t && isFine (runCall (runCall x b a h w .plan) c a′ h′ w′ .fault)) (call-ends e b i n r E a h w fits x well
-          (stop y) k) ∙
-          sym (ap (λ (o : Out). ends o && ends (runOn (tableOf (runOn x e)) f)) k)
-      go (gives v s) k =
-          let P = call-plan e b i n r E a h w fits bytes x well v s k in
-          ap (λ (t : Bool). t && isFine (runCall (runCall x b a h w .plan) c a′ h′ w′ .fault)) (call-ends e b i n r E a h w fits x well
-          (gives v s) k) ∙
-          ap (λ (t : Table). isFine (runCall t c a′ h′ w′ .fault)) (P .0) ∙
-          call-ends f c j m q F a′ h′ w′ fits′ (s .plan) (P .1) (runOn (s .plan) f) refl ∙
-          sym (ap (λ (o : Out). ends o && ends (runOn (tableOf o) f)) k)
+      go (stop y) z =
+          ap (λ (t : Bool). t && isFine (runIn (runIn x b k .plan) c k′ .fault)) (call-ends e b i n r E k fits x well (stop y) z) ∙
+          sym (ap (λ (o : Out). ends o && ends (runOn (tableOf (runOn x e)) f)) z)
+      go (gives v s) z =
+          let P = call-plan e b i n r E k fits bytes x well v s z in
+          ap (λ (t : Bool). t && isFine (runIn (runIn x b k .plan) c k′ .fault)) (call-ends e b i n r E k fits x well (gives v s) z) ∙
+          ap (λ (t : Table). isFine (runIn t c k′ .fault)) (P .0) ∙
+          call-ends f c j m q F k′ fits′ (s .plan) (P .1) (runOn (s .plan) f) refl ∙
+          sym (ap (λ (o : Out). ends o && ends (runOn (tableOf o) f)) z)
+
+  -- the second call of an order that ends is the model's second run
+  second-runs : ends (runOn x e) ≡ true →
+      runIn (runIn x b k .plan) c k′ ≡ leaves (tableOf (runOn x e)) k′ (runOn (tableOf (runOn x e)) f)
+  second-runs g = go (runOn x e) refl
+    where
+      go : (o : Out) → runOn x e ≡ o →
+          runIn (runIn x b k .plan) c k′ ≡ leaves (tableOf (runOn x e)) k′ (runOn (tableOf (runOn x e)) f)
+      go (stop z) y = absurd (false≢true (sym (ap ends y) ∙ g))
+      go (gives v s) y =
+          let P = call-plan e b i n r E k fits bytes x well v s y in
+          call-runs f c j m q F k′ fits′ (runIn x b k .plan) (ap isWell (P .0) ∙ P .1) ∙
+          ap (λ (t : Table). leaves t k′ (runOn t f)) (P .0 ∙ sym (ap tableOf y))
 
 -- the four outcomes are values, and they match
-module _ (x : Table) (k l m k′ l′ m′ : ℕ) where
+module _ (x : Table) (k k′ l l′ : Areas) where
   matching-by : (o q o₂ q₂ : Out) → (ends o && ends o₂) ≡ true → (ends q && ends q₂) ≡ true → OrdersBy x o q o₂ q₂ →
       Replays x o → Replays x q → Replays (tableOf o) o₂ → Replays (tableOf q) q₂ →
-      CallsEqual x (ranBy x k l m o) (ranBy (tableOf o) k′ l′ m′ o₂) (ranBy x k′ l′ m′ q) (ranBy (tableOf q) k l m q₂)
+      CallsEqual x (leaves x k o) (leaves (tableOf o) k′ o₂) (leaves x l q) (leaves (tableOf q) l′ q₂)
   matching-by (stop z) q o₂ q₂ g g′ O A B C D = absurd (false≢true g)
   matching-by (gives v s) q (stop z) q₂ g g′ O A B C D = absurd (false≢true g)
   matching-by (gives v s) (stop z) (gives v₂ s₂) q₂ g g′ O A B C D = absurd (false≢true g′)
   matching-by (gives v s) (gives u t) (gives v₂ s₂) (stop z) g g′ O A B C D = absurd (false≢true g′)
   matching-by (gives v s) (gives u t) (gives v₂ s₂) (gives u₂ t₂) g g′ O A B C D = (
-    calls-match (count x) (count (s .plan) - count x) (count (t .plan) - count x) x (t .plan) k l m k l m v u₂ s t₂ (O .2) (O .4) A D,
-    calls-match (count x) (count (s .plan) - count x) (count (t .plan) - count x) (s .plan) x k′ l′ m′ k′ l′ m′ v₂ u s₂ t (O .3) (O .5)
-        C B,
+    calls-match (count x) (count (s .plan) - count x) (count (t .plan) - count x) x (t .plan) k l′ v u₂ s t₂ (O .2) (O .4) A D,
+    calls-match (count x) (count (s .plan) - count x) (count (t .plan) - count x) (s .plan) x k′ l v₂ u s₂ t (O .3) (O .5) C B,
     O .6,
   )
-
--- the second call of an order that ends is the model's second run
-second-runs : (e f : Expr) (b c : List ℕ) (i n j m : ℕ) (r q : List ℕ) → readScript b ≡ parsed e i n r → readScript c ≡ parsed f j m q →
-    areBytes b ≡ true → (a h w a′ h′ w′ : List ℕ) → areasFit a h w ≡ true → areasFit a′ h′ w′ ≡ true → (x : Table) → isWell x ≡ true →
-    ends (runOn x e) ≡ true →
-    runCall (runCall x b a h w .plan) c a′ h′ w′ ≡
-    ranBy (tableOf (runOn x e)) (length a′) (length h′) (length w′) (runOn (tableOf (runOn x e)) f)
-second-runs e f b c i n j m r q E F bytes a h w a′ h′ w′ fits fits′ x well g = go (runOn x e) refl
-  where
-    go : (o : Out) → runOn x e ≡ o →
-        runCall (runCall x b a h w .plan) c a′ h′ w′ ≡
-        ranBy (tableOf (runOn x e)) (length a′) (length h′) (length w′) (runOn (tableOf (runOn x e)) f)
-    go (stop z) k = absurd (false≢true (sym (ap ends k) ∙ g))
-    go (gives v s) k =
-        let P = call-plan e b i n r E a h w fits bytes x well v s k in
-        call-runs f c j m q F a′ h′ w′ fits′ (runCall x b a h w .plan) (ap isWell (P .0) ∙ P .1) ∙
-        ap (λ (t : Table). ranBy t (length a′) (length h′) (length w′) (runOn t f)) (P .0 ∙ sym (ap tableOf k))
 
 -- a run that ends leaves a well-formed table
 well-after : (e : Expr) → IsScript e → (x : Table) → isWell x ≡ true → ends (runOn x e) ≡ true → isWell (tableOf (runOn x e)) ≡ true
@@ -167,34 +163,34 @@ free-scripts {P} b c h k = go (readScript b) (readScript c) refl refl h
     go (parsed e i n r) (parsed f j m q) E F a = let y : answer e f ≡ free = cc in k e f i n j m r q E F y
 
 pub callsCommute : CallsCommute
-callsCommute b c x a h w a′ h′ w′ bytes bytes′ an well fits fits′ = free-scripts b c an scripts
+callsCommute b c x k k′ l l′ bytes bytes′ an well fit = free-scripts b c an scripts
   where
     Claim : Type 0
-    Claim = EitherOrder b c x a h w a′ h′ w′
+    Claim = EitherOrder b c x k k′ l l′
 
     scripts : (e f : Expr) (i n j m : ℕ) (r q : List ℕ) → readScript b ≡ parsed e i n r → readScript c ≡ parsed f j m q → answer e f ≡
         free → Claim
     scripts e f i n j m r q E F h₀ =
+        let first : IsScript e = (b, bytes, (i, (n, (r, E)))) in
+        let second : IsScript f = (c, bytes′, (j, (m, (q, F)))) in
         let C = freeCommutes e f x h₀ well in
-        let one = order-ends e f b c i n j m r q E F bytes a h w a′ h′ w′ fits fits′ x well in
-        let two = order-ends f e c b j m i n q r F E bytes′ a′ h′ w′ a h w fits′ fits x well in (
+        let one = order-ends e f b c i n j m r q E F bytes k k′ (fit .0) (fit .1) x well in
+        let two = order-ends f e c b j m i n q r F E bytes′ l l′ (fit .2) (fit .3) x well in (
           one ∙ C .0 ∙ sym two,
           λ y.
               let g : orderEnds x e f ≡ true = sym one ∙ y in
               let g′ : orderEnds x f e ≡ true = sym (C .0) ∙ g in
-              transport (λ k.
-              CallsEqual x (sym (call-runs e b i n r E a h w fits x well) k)
-              (sym (second-runs e f b c i n j m r q E F bytes a h w a′ h′ w′ fits fits′ x well (and-left (ends (runOn x e)) _ g)) k)
-              (sym (call-runs f c j m q F a′ h′ w′ fits′ x well) k)
-              (sym (second-runs f e c b j m i n q r F E bytes′ a′ h′ w′ a h w fits′ fits x well (and-left (ends (runOn x f)) _ g′)) k))
-              (matching-by x (length a) (length h) (length w) (length a′) (length h′) (length w′) (runOn x e) (runOn x f)
-              (runOn (tableOf (runOn x e)) f) (runOn (tableOf (runOn x f)) e) g g′ (C .1 g) (run-replays e (b, bytes, (i, (n, (r, E)))) x
-              well (runOn x e) refl)
-              (run-replays f (c, bytes′, (j, (m, (q, F)))) x well (runOn x f) refl)
-              (run-replays f (c, bytes′, (j, (m, (q, F)))) (tableOf (runOn x e)) (well-after e (b, bytes, (i, (n, (r, E)))) x well
-              (and-left (ends (runOn x e)) _ g))
-              (runOn (tableOf (runOn x e)) f) refl)
-              (run-replays e (b, bytes, (i, (n, (r, E)))) (tableOf (runOn x f)) (well-after f (c, bytes′, (j, (m, (q, F)))) x well
-              (and-left (ends (runOn x f)) _ g′))
-              (runOn (tableOf (runOn x f)) e) refl)),
+              let h = and-left (ends (runOn x e)) _ g in
+              let h′ = and-left (ends (runOn x f)) _ g′ in
+              transport (λ z.
+              CallsEqual x (sym (call-runs e b i n r E k (fit .0) x well) z)
+              (sym (second-runs e f b c i n j m r q E F bytes k k′ (fit .0) (fit .1) x well h) z)
+              (sym (call-runs f c j m q F l (fit .2) x well) z)
+              (sym (second-runs f e c b j m i n q r F E bytes′ l l′ (fit .2) (fit .3) x well h′) z))
+              (matching-by x k k′ l l′ (runOn x e) (runOn x f) (runOn (tableOf (runOn x e)) f) (runOn (tableOf (runOn x f)) e) g g′
+              (C .1 g)
+              (run-replays e first x well (runOn x e) refl)
+              (run-replays f second x well (runOn x f) refl)
+              (run-replays f second (tableOf (runOn x e)) (well-after e first x well h) (runOn (tableOf (runOn x e)) f) refl)
+              (run-replays e first (tableOf (runOn x f)) (well-after f second x well h′) (runOn (tableOf (runOn x f)) e) refl)),
         )

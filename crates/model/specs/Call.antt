@@ -153,14 +153,32 @@ CallsEqual x r r′ s s′ =
 abbrev pub OrdersAgree : Table → (one oneThen two twoThen : Ran) → Type 0
 OrdersAgree x r r′ s s′ = (callsEnd r r′ ≡ callsEnd s s′) × (callsEnd r r′ ≡ true → CallsEqual x r r′ s s′)
 
--- both orders of two scripts' calls, the second on the table as the first left it
-abbrev pub EitherOrder : (first second : List ℕ) → Table → (a h w a′ h′ w′ : List ℕ) → Type 0
-EitherOrder b c x a h w a′ h′ w′ =
-    OrdersAgree x (runCall x b a h w) (runCall (runCall x b a h w .plan) c a′ h′ w′) (runCall x c a′ h′ w′)
-    (runCall (runCall x c a′ h′ w′ .plan) b a h w)
+-- the areas lent to one run, whatever they hold
+pub record Areas : Type 0 where
+  pub answer : List ℕ
+  pub history : List ℕ
+  pub work : List ℕ
 
--- two scripts that the analysis calls free, a well-formed table, and areas of the stated lengths for each script
+-- a run in them
+abbrev pub runIn : Table → (script : List ℕ) → Areas → Ran
+runIn x b k = runCall x b (k .answer) (k .history) (k .work)
+
+-- each is as long as its stated need
+abbrev pub Suffices : Areas → Type 0
+Suffices k = areasFit (k .answer) (k .history) (k .work) ≡ true
+
+-- of the areas of four calls: first and second call of one order, first and second call of the other
+abbrev pub AllSuffice : (one oneThen two twoThen : Areas) → Type 0
+AllSuffice k k′ l l′ = Suffices k × Suffices k′ × Suffices l × Suffices l′
+
+-- both orders of two scripts' calls, the second on the table as the first left it
+abbrev pub EitherOrder : (first second : List ℕ) → Table → (one oneThen two twoThen : Areas) → Type 0
+EitherOrder b c x k k′ l l′ =
+    OrdersAgree x (runIn x b k) (runIn (runIn x b k .plan) c k′) (runIn x c l) (runIn (runIn x c l .plan) b l′)
+
+-- two scripts that the analysis calls free, a well-formed table, and for each of the four calls areas of the stated lengths, with any
+-- contents: so one set may be lent again and again
 abbrev pub CallsCommute : Type 0
 CallsCommute =
-    (b c : List ℕ) (x : Table) (a h w a′ h′ w′ : List ℕ) → areBytes b ≡ true → areBytes c ≡ true → analyse b c ≡ answered free →
-    isWell x ≡ true → areasFit a h w ≡ true → areasFit a′ h′ w′ ≡ true → EitherOrder b c x a h w a′ h′ w′
+    (b c : List ℕ) (x : Table) (k k′ l l′ : Areas) → areBytes b ≡ true → areBytes c ≡ true → analyse b c ≡ answered free →
+    isWell x ≡ true → AllSuffice k k′ l l′ → EitherOrder b c x k k′ l l′

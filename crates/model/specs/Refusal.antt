@@ -13,6 +13,16 @@ pub record Fault : Type 0 where
 abbrev pub fault : (number place : ℕ) → Fault
 fault n i = record { number = n; place = i }
 
+-- what a call with more than one input answers: a refusal's number, whose it is, and its place; or number 0, and what the call says
+pub record Values : Type 0 where
+  pub number : ℕ
+  pub which : ℕ
+  pub place : ℕ
+
+-- these three
+abbrev pub values : (number which place : ℕ) → Values
+values n w i = record { number = n; which = w; place = i }
+
 -- nothing is refused
 abbrev pub fine : Fault
 fine = fault 0 0

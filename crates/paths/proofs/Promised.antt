@@ -5,10 +5,11 @@ use Prim.Native.Nat.{ℕ}
 use native.Mathlib.Omega.{arith}
 use Rattle.model.specs.Script.{Expr, Parsed, ill, parsed, readScript}
 use Rattle.model.specs.Meeting.{Answer, free, upward, meet, answer}
+use Rattle.model.specs.Refusal.{Values, values}
 use Rattle.model.specs.Call.{answered, analyse, firstBy, secondBy}
 use Rattle.model.proofs.FreeMeans.{freeMeans}
 use Rattle.model.proofs.CallsCommute.{callsCommute}
-use Rattle.paths.specs.Analysis.{Values, values, valuesOf, byAnswer, analysisOf, analysed}
+use Rattle.paths.specs.Analysis.{valuesOf, byAnswer, analysisOf, analysed}
 use Rattle.paths.specs.Promise.{ReadAs, AnalysedMeans, AnalysedCommute}
 
 which-same : {v w : Values} → v ≡ w → v .which ≡ w .which
@@ -59,5 +60,4 @@ analysedMeans b c e f bytes bytes′ E F =
     )
 
 pub analysedCommute : AnalysedCommute
-analysedCommute b c x a h w a′ h′ w′ bytes bytes′ s =
-    callsCommute b c x a h w a′ h′ w′ bytes bytes′ (free-told b c s)
+analysedCommute b c x k k′ l l′ bytes bytes′ s = callsCommute b c x k k′ l l′ bytes bytes′ (free-told b c s)

@@ -8,6 +8,7 @@ use Rattle.model.specs.Limits.{maxDepth}
 use Rattle.model.specs.Script.{Expr}
 use Rattle.model.specs.Meeting.{Answer, free, upward, meet, answer}
 use Rattle.model.specs.Call as model
+use Rattle.model.specs.Refusal.{Values, values}
 use Rattle.table.specs.Results.{faultOf}
 use Rattle.records.specs.Walk.{exprAt}
 use Rattle.script.specs.Reading.{scriptRead}
@@ -34,15 +35,6 @@ abbrev pub analysed : (first second : List ℕ) → Analysis
 analysed b c = analysisOf (model.analyse b c)
 
 -- DOCUMENT 01 for each case: a refusal's number, which script is refused, and the place; else number 0, and which answer it is
-pub record Values : Type 0 where
-  pub number : ℕ
-  pub which : ℕ
-  pub place : ℕ
-
-abbrev pub values : (number which place : ℕ) → Values
-values n w i = record { number = n; which = w; place = i }
-
--- each case's numbers
 abbrev pub valuesOf : Analysis → Values
 valuesOf (Refused s f) = values (f .number) s (f .place)
 valuesOf Free = values 0 0 0

@@ -8,9 +8,10 @@ use Rattle.model.specs.Base.{areBytes}
 use Rattle.model.specs.Table.{Table, isWell}
 use Rattle.model.specs.Script.{Expr, parsed, readScript}
 use Rattle.model.specs.Paths.{hasUp}
-use Rattle.model.specs.Call.{areasFit, EitherOrder}
+use Rattle.model.specs.Call.{Areas, AllSuffice, EitherOrder}
+use Rattle.model.specs.Refusal.{values}
 use Rattle.model.specs.Promise.{NeverTouched, SomewhereTouched}
-use Rattle.paths.specs.Analysis.{analysed, values, valuesOf}
+use Rattle.paths.specs.Analysis.{analysed, valuesOf}
 
 -- the bytes are accepted, and read as the expression
 abbrev pub ReadAs : (bytes : List ℕ) → Expr → Type 0
@@ -27,6 +28,5 @@ AnalysedMeans =
 -- DEMAND 3, the two orders of two scripts of which the call says free, 0
 abbrev pub AnalysedCommute : Type 0
 AnalysedCommute =
-    (b c : List ℕ) (x : Table) (a h w a′ h′ w′ : List ℕ) → areBytes b ≡ true → areBytes c ≡ true →
-    valuesOf (analysed b c) ≡ values 0 0 0 → isWell x ≡ true → areasFit a h w ≡ true → areasFit a′ h′ w′ ≡ true →
-    EitherOrder b c x a h w a′ h′ w′
+    (b c : List ℕ) (x : Table) (k k′ l l′ : Areas) → areBytes b ≡ true → areBytes c ≡ true →
+    valuesOf (analysed b c) ≡ values 0 0 0 → isWell x ≡ true → AllSuffice k k′ l l′ → EitherOrder b c x k k′ l l′

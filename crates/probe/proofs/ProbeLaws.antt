@@ -13,19 +13,22 @@ use Rattle.table.specs.declared.Fault.{Fault}
 use Rattle.table.specs.declared.Table.{Table}
 use Rattle.table.specs.declared.TableResult.{TableResult}
 use Rattle.table.specs.declared.Written.{Written}
-use Rattle.probe.specs.Probes.{writeCode, writeOut, sweptTable, sweptCode, rowsLeft, marksLeft, scriptCode}
+use Rattle.probe.specs.Probes.{writeValues, writeOut, sweptTable, sweptValues, rowsLeft, marksLeft, scriptValues}
 use Rattle.probe.specs.Raw.{isGiven, given}
-use Rattle.codes.specs.Codes.{codeOf, lentCode, writtenCode}
+use Rattle.codes.specs.Codes.{codeOf, lentValues, writtenValues}
+use Rattle.model.specs.Refusal.{values}
 
 -- a script's refusal, or none
-pub script-read : (b : List ℕ) (f : Fault) (c : ℕ) → f ≡ scriptRead b → f .number ≡ 0 → c ≡ codeOf 0 0 0 → c ≡ scriptCode b
+pub script-read : (b : List ℕ) (f : Fault) (c : ℕ) → f ≡ scriptRead b → f .number ≡ 0 → c ≡ codeOf (values 0 0 0) → c ≡ codeOf
+    (scriptValues b)
 script-read b f c e z g = g ∙ rw (sym (ap (λ (t : Fault). t .number) e) ∙ z)
 
-pub script-refused : (b : List ℕ) (f : Fault) (c : ℕ) → f ≡ scriptRead b → (f .number ≡ 0 → ⊥) → c ≡ codeOf (f .number) 2 (f .place) → c
-    ≡ scriptCode b
+pub script-refused : (b : List ℕ) (f : Fault) (c : ℕ) → f ≡ scriptRead b → (f .number ≡ 0 → ⊥) → c ≡ codeOf
+    (values (f .number) 2 (f .place)) → c
+    ≡ codeOf (scriptValues b)
 script-refused b f c e z g =
     let y : scriptRead b .number ≡ 0 → ⊥ = λ q. z (ap (λ (t : Fault). t .number) e ∙ q) in
-    g ∙ ap (λ (t : Fault). codeOf (t .number) 2 (t .place)) e ∙ rw (ne-eqb (scriptRead b .number) 0 y)
+    g ∙ ap (λ (t : Fault). codeOf (values (t .number) 2 (t .place))) e ∙ rw (ne-eqb (scriptRead b .number) 0 y)
 
 -- a table given as raw words
 pub rows-not-given : (ws ms : List ℕ) → (length ws ≡ 512 → ⊥) → isGiven ws ms ≡ false
@@ -39,7 +42,8 @@ is-given ws ms e f = rw (eq-eqb (length ws) 512 e, eq-eqb (length ms) 8 f)
 
 module _ (n : ℕ) (ws ms : List ℕ) where
   module _ (o : List ℕ) where
-    pub write-not : (c : ℕ) → c ≡ lentCode → isGiven ws ms ≡ false → (c ≡ writeCode n ws ms o) × (o ≡ writeOut n ws ms o)
+    pub write-not : (c : ℕ) → c ≡ codeOf lentValues → isGiven ws ms ≡ false → (c ≡ codeOf (writeValues n ws ms o)) ×
+    (o ≡ writeOut n ws ms o)
     write-not c e z = (e ∙ rw z, rw z)
 
     module _ (t : Table) (same : t ≡ given n ws ms) (w : Written) (o′ : List ℕ) (h : isGiven ws ms ≡ true)
@@ -50,41 +54,44 @@ module _ (n : ℕ) (ws ms : List ℕ) where
       out-given : o′ ≡ writeOut n ws ms o
       out-given = left ∙ ap (λ (u : Table). library.writtenOut u o) same ∙ rw h
 
-      pub write-link : (c : ℕ) → c ≡ codeOf (w .fault .number) 1 0 → w .fault .number ≡ 6 → (c ≡ writeCode n ws ms o) × (o′ ≡ writeOut n
+      pub write-link : (c : ℕ) → c ≡ codeOf (values (w .fault .number) 1 0) → w .fault .number ≡ 6 → (c ≡ codeOf (writeValues n ws ms o))
+      × (o′ ≡ writeOut n
           ws ms o)
       write-link c e z =
           let k : library.planWritten (given n ws ms) o .fault .number ≡ 6 = sym (ap (λ (v : Written). v .fault .number) as-given) ∙ z in
-          (e ∙ ap (λ (j : ℕ). codeOf j 1 0) z ∙ rw (h, k), out-given)
+          (e ∙ ap (λ (j : ℕ). codeOf (values j 1 0)) z ∙ rw (h, k), out-given)
 
-      pub write-rest : (c : ℕ) → c ≡ writtenCode w → (w .fault .number ≡ 6 → ⊥) → (c ≡ writeCode n ws ms o) × (o′ ≡ writeOut n ws ms o)
+      pub write-rest : (c : ℕ) → c ≡ codeOf (writtenValues w) → (w .fault .number ≡ 6 → ⊥) → (c ≡ codeOf (writeValues n ws ms o)) ×
+      (o′ ≡ writeOut n ws ms o)
       write-rest c e z =
           let k : library.planWritten (given n ws ms) o .fault .number ≡ 6 → ⊥ = λ q. z (ap (λ (v : Written). v .fault .number) as-given
           ∙ q) in
-          (e ∙ ap writtenCode as-given ∙ rw (h, ne-eqb (library.planWritten (given n ws ms) o .fault .number) 6 k), out-given)
+          (e ∙ ap (λ (v : Written). codeOf (writtenValues v)) as-given ∙ rw (h, ne-eqb (library.planWritten (given n ws ms) o .fault
+          .number) 6 k), out-given)
 
   -- sweeping in place
   abbrev Left : (code : ℕ) → (rows marks : List ℕ) → Type 0
-  Left c vs us = (c ≡ sweptCode n ws ms) × ((vs ≡ rowsLeft n ws ms) × (us ≡ marksLeft n ws ms))
+  Left c vs us = (c ≡ codeOf (sweptValues n ws ms)) × ((vs ≡ rowsLeft n ws ms) × (us ≡ marksLeft n ws ms))
 
-  pub sweep-not : (c : ℕ) → c ≡ lentCode → isGiven ws ms ≡ false → Left c ws ms
+  pub sweep-not : (c : ℕ) → c ≡ codeOf lentValues → isGiven ws ms ≡ false → Left c ws ms
   sweep-not c e z = (e ∙ rw z, (rw z, rw z))
 
   module _ (t : Table) (same : t ≡ given n ws ms) (r : TableResult) (h : isGiven ws ms ≡ true) (swept : r ≡ sweeping.planSwept t) where
     result : r ≡ sweptTable n ws ms
     result = swept ∙ ap sweeping.planSwept same
 
-    pub sweep-refused : (c : ℕ) → c ≡ codeOf (r .fault .number) 1 0 → (r .fault .number ≡ 0 → ⊥) → Left c ws ms
+    pub sweep-refused : (c : ℕ) → c ≡ codeOf (values (r .fault .number) 1 0) → (r .fault .number ≡ 0 → ⊥) → Left c ws ms
     sweep-refused c e z =
         let k : sweptTable n ws ms .fault .number ≡ 0 → ⊥ = λ q. z (ap (λ (v : TableResult). v .fault .number) result ∙ q) in
         let f : eqb (sweptTable n ws ms .fault .number) 0 ≡ false = ne-eqb (sweptTable n ws ms .fault .number) 0 k in
-        (e ∙ ap (λ (v : TableResult). codeOf (v .fault .number) 1 0) result ∙ rw (h, f), (rw (h, f), rw (h, f)))
+        (e ∙ ap (λ (v : TableResult). codeOf (values (v .fault .number) 1 0)) result ∙ rw (h, f), (rw (h, f), rw (h, f)))
 
-    pub sweep-done : (c : ℕ) (vs us : List ℕ) → c ≡ codeOf 0 0 (r .table .count) → vs ≡ r .table .rows → us ≡ r .table .marks →
+    pub sweep-done : (c : ℕ) (vs us : List ℕ) → c ≡ codeOf (values 0 0 (r .table .count)) → vs ≡ r .table .rows → us ≡ r .table .marks →
         r .fault .number ≡ 0 → Left c vs us
     sweep-done c vs us e p q z =
         let k : eqb (sweptTable n ws ms .fault .number) 0 ≡ true =
         eq-eqb (sweptTable n ws ms .fault .number) 0 (sym (ap (λ (v : TableResult). v .fault .number) result) ∙ z) in (
-          e ∙ ap (λ (v : TableResult). codeOf 0 0 (v .table .count)) result ∙ rw (h, k),
+          e ∙ ap (λ (v : TableResult). codeOf (values 0 0 (v .table .count))) result ∙ rw (h, k),
           (
             p ∙ ap (λ (v : TableResult). v .table .rows) result ∙ rw (h, k),
             q ∙ ap (λ (v : TableResult). v .table .marks) result ∙ rw (

@@ -1,7 +1,8 @@
 // C calls that tests need and a site does not: a script read alone, and writing and sweeping on any table, well formed or not.
 // Answers are numbers as in the C interface (crates/yegnabit).
 ghost use mathlib.Core.Path.{_≡_};
-ghost use Rattle.probe.specs.Probes.{writeCode, writeOut, sweptCode, rowsLeft, marksLeft, scriptCode};
+ghost use Rattle.codes.specs.Codes.{codeOf};
+ghost use Rattle.probe.specs.Probes.{writeValues, writeOut, sweptValues, rowsLeft, marksLeft, scriptValues};
 use codes::answer;
 use codes::answer::AREA;
 use codes::answer::PLAN;
@@ -19,7 +20,7 @@ pub extern "C" fn yegnabit_write_table(
     marks: &[u16],
     out: &mut [u8],
 ) -> u64
-    ensures { λ r. ⌜ r ≡ writeCode count (now (rows .entry)) (now (marks .entry)) (now (out .entry)) ⌝ }
+    ensures { λ r. ⌜ r ≡ codeOf (writeValues count (now (rows .entry)) (now (marks .entry)) (now (out .entry))) ⌝ }
     ensures { λ r. ⌜ now (out .exit) ≡ writeOut count (now (rows .entry)) (now (marks .entry)) (now (out .entry)) ⌝ }
 {
     if rows.len() != Table::ROWS {
@@ -40,7 +41,7 @@ pub extern "C" fn yegnabit_write_table(
 // Sweeps a table given as 512 row words and 8 marks, in place.
 #[no_mangle]
 pub extern "C" fn yegnabit_sweep_table(count: usize, rows: &mut [u32], marks: &mut [u16]) -> u64
-    ensures { λ r. ⌜ r ≡ sweptCode count (now (rows .entry)) (now (marks .entry)) ⌝ }
+    ensures { λ r. ⌜ r ≡ codeOf (sweptValues count (now (rows .entry)) (now (marks .entry))) ⌝ }
     ensures { λ r. ⌜ now (rows .exit) ≡ rowsLeft count (now (rows .entry)) (now (marks .entry)) ⌝ }
     ensures { λ r. ⌜ now (marks .exit) ≡ marksLeft count (now (rows .entry)) (now (marks .entry)) ⌝ }
 {
@@ -64,7 +65,7 @@ pub extern "C" fn yegnabit_sweep_table(count: usize, rows: &mut [u32], marks: &m
 // Reads a script: its refusal, or 0.
 #[no_mangle]
 pub extern "C" fn yegnabit_script(bytes: &[u8]) -> u64
-    ensures { λ r. ⌜ r ≡ scriptCode (now (bytes .entry)) ⌝ }
+    ensures { λ r. ⌜ r ≡ codeOf (scriptValues (now (bytes .entry))) ⌝ }
 {
     let fault = script::read_script(bytes);
     let number = fault.number;

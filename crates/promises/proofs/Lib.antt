@@ -1,3 +1,4 @@
 pub mod Promised
 pub mod RunUndone
 pub mod FreeCalls
+pub mod Answers

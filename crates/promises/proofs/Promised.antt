@@ -4,10 +4,10 @@ use mathlib.Core.Bool.{true, false}
 use mathlib.Core.List.{List}
 use Prim.Native.Nat.{ℕ, _≤_}
 use native.Mathlib.Omega.{arith}
-use lib.ListN.{length, replicate}
+use lib.ListN.{length}
 use borrow.Author.Tests.{le-ltb, ne-eqb}
 use Rattle.model.specs.Base.{isIn, atFront, areBytes}
-use Rattle.model.specs.Call.{Ran, areasFit, ranBy, refusedRun, runBy}
+use Rattle.model.specs.Call.{Ran, areasFit, ranBy, runBy}
 use Rattle.model.specs.Refusal as refusal
 use Rattle.model.specs.Run.{Out, gives, stop, State}
 use Rattle.model.specs.Script.{readScript}
@@ -21,7 +21,7 @@ use Rattle.model.proofs.RefusedByTable.{refusedByTable}
 use Rattle.model.proofs.RunsBack.{runBy-back}
 use Rattle.model.proofs.StoredBack.{storedBack}
 use Rattle.model.proofs.SweepsWell.{sweepsWell}
-use Rattle.model.proofs.TestLaws.{isIn-at, isIn-some}
+use Rattle.model.proofs.TestLaws.{isIn-some}
 use Rattle.model.proofs.UndoKeeps.{undoKeeps}
 use Rattle.table.specs.Words.{encode, fits}
 use Rattle.plan.specs.Calls as library
@@ -31,10 +31,10 @@ use Rattle.sweep.specs.Sweeping as sweeping
 use Rattle.table.specs.declared.TableResult.{TableResult}
 use Rattle.undo.specs.Undoing.{planUndone, undoneBy}
 use Rattle.run.specs.Calls.{ran, resultOf, outcomeOf}
-use Rattle.yegnabit.specs.Calls.{codeIfLong, outIfLong, onPlan, outOnPlan, undoCode, undoOut}
-use Rattle.codes.specs.Codes.{codeOf, lentCode, codeUnless, areaUnless, writtenCode, finishedCode, finishedOut}
-use Rattle.yegnabit.specs.Running.{refusedCall, ranCall, runCalled, Called}
-use Rattle.lent.specs.Done.{outNeed, isEndShort, doneOver}
+use Rattle.yegnabit.specs.Calls.{valuesIfLong, outIfLong, onPlan, outOnPlan, undoValues, undoOut}
+use Rattle.codes.specs.Codes.{codeOf, lentValues, valuesUnless, areaUnless, writtenValues, finishedValues, finishedOut}
+use Rattle.yegnabit.specs.Running.{untouchedCall, refusedCall, ranCall, runCalled, Called}
+use Rattle.lent.specs.Done.{outNeed, lentFit, doneOver}
 use Rattle.promises.specs.Promise.{PlanBack, SweptBack, UndoneBack, LentFits, RunDone, RunRefused, RunAreaShort, PlanRefused}
 use Rattle.promises.specs.Promise.{FreeRunsCommute, endedCall, planLeft, historyLeft}
 use Rattle.table.proofs.EncodeLaws.{decode-encode, fits-encode}
@@ -53,10 +53,10 @@ module _ (p o : List ℕ) (x : model.Table) (read : readPlan p ≡ got x) (room 
   the-plan : library.planRead p ≡ results.result refusal.fine x
   the-plan = ap library.readBy read
 
-  code-then : (n : TableResult → ℕ) → onPlan p o (n (library.planRead p)) ≡ n (results.result refusal.fine x)
-  code-then n =
-      ap (λ (q : TableResult). codeIfLong o (codeUnless (q .fault) 1 (n q))) the-plan ∙
-      pick-false _ lentCode _ (le-ltb (length o) outNeed room)
+  values-then : (n : TableResult → refusal.Values) → onPlan p o (n (library.planRead p)) ≡ n (results.result refusal.fine x)
+  values-then n =
+      ap (λ (q : TableResult). valuesIfLong o (valuesUnless (q .fault) 1 (n q))) the-plan ∙
+      pick-false _ lentValues _ (le-ltb (length o) outNeed room)
 
   out-then : (b : TableResult → List ℕ) → outOnPlan p o (b (library.planRead p)) ≡ b (results.result refusal.fine x)
   out-then b =
@@ -64,14 +64,14 @@ module _ (p o : List ℕ) (x : model.Table) (read : readPlan p ≡ got x) (room 
       pick-false _ o _ (le-ltb (length o) outNeed room)
 
 -- a well-formed table written
-written-code : (y : model.Table) → isWell y ≡ true → (o : List ℕ) → outNeed ≤ length o →
-    writtenCode (planWritten (encode y) o) ≡ codeOf 0 0 (length (stored y))
-written-code y w o room = ap writtenCode (well-written y w o room)
+written-values : (y : model.Table) → isWell y ≡ true → (o : List ℕ) → outNeed ≤ length o →
+    writtenValues (planWritten (encode y) o) ≡ refusal.values 0 0 (length (stored y))
+written-values y w o room = ap writtenValues (well-written y w o room)
 
 pub planBack : PlanBack
 planBack p o x b e room =
     let r = read-back p x b e o (omega (arith, read-short p x b e)) in (
-      code-then p o x e room (λ q. writtenCode (planWritten (q .table) o)) ∙ ap writtenCode (r .0),
+      values-then p o x e room (λ q. writtenValues (planWritten (q .table) o)) ∙ ap writtenValues (r .0),
       out-then p o x e room (λ q. writtenOut (q .table) o) ∙ r .1,
     )
 
@@ -82,22 +82,22 @@ sweptBack p o x b e room =
     let t : sweeping.planSwept (encode x) ≡ results.result refusal.fine (swept x) =
     pick-true (fits (encode x)) _ _ (fits-encode x w) ∙
     ap (λ (u : model.Table). results.result refusal.fine (swept u)) (decode-encode x w) in (
-      code-then p o x e room (λ q. finishedCode (sweeping.planSwept (q .table)) 1 o) ∙
-          ap (λ (r : TableResult). finishedCode r 1 o) t ∙ written-code (swept x) y o room,
+      values-then p o x e room (λ q. finishedValues (sweeping.planSwept (q .table)) 1 o) ∙
+          ap (λ (r : TableResult). finishedValues r 1 o) t ∙ written-values (swept x) y o room,
       out-then p o x e room (λ q. finishedOut (sweeping.planSwept (q .table)) o) ∙
           ap (λ (r : TableResult). finishedOut r o) t ∙ well-out (swept x) y o room,
     )
 
 -- a well-formed table undone
 pub undone-back : (p h o : List ℕ) (x y : model.Table) → isWell x ≡ true → readPlan p ≡ got x → undo x h ≡ back y → outNeed ≤ length o →
-    (undoCode p h o ≡ codeOf 0 0 (length (stored y))) × (undoOut p h o ≡ atFront (stored y) o)
+    (undoValues p h o ≡ refusal.values 0 0 (length (stored y))) × (undoOut p h o ≡ atFront (stored y) o)
 undone-back p h o x y w e u room =
     let v : isWell y ≡ true = undoKeeps x y h w u in
     let t : planUndone (encode x) h ≡ results.result refusal.fine y =
     pick-true (fits (encode x)) _ _ (fits-encode x w) ∙
     ap (λ (q : model.Table). undoneBy (encode x) (undo q h)) (decode-encode x w) ∙ ap (undoneBy (encode x)) u in (
-      code-then p o x e room (λ q. finishedCode (planUndone (q .table) h) 2 o) ∙ ap (λ (r : TableResult). finishedCode r 2 o) t ∙
-          written-code y v o room,
+      values-then p o x e room (λ q. finishedValues (planUndone (q .table) h) 2 o) ∙ ap (λ (r : TableResult). finishedValues r 2 o) t ∙
+          written-values y v o room,
       out-then p o x e room (λ q. finishedOut (planUndone (q .table) h) o) ∙ ap (λ (r : TableResult). finishedOut r o) t ∙
           well-out y v o room,
     )
@@ -106,7 +106,7 @@ pub undoneBack : UndoneBack
 undoneBack p h o x y b e = undone-back p h o x y (storedBack .1 p x b e .0) e
 
 -- THE CALL once the plan is read
-called-on : (p s a h w o d : List ℕ) (x : model.Table) → readPlan p ≡ got x → isEndShort (length o) (length d) ≡ false →
+called-on : (p s a h w o d : List ℕ) (x : model.Table) → readPlan p ≡ got x → LentFits a h w o d →
     runCalled p s a h w o d ≡ ranCall (resultOf (encode x) (ran (encode x) s a h w)) (ran (encode x) s a h w) o d
 called-on p s a h w o d x e long = called p s a h w o d _ refl long (library.readBy (got x)) (sym (ap library.readBy e))
 
@@ -117,19 +117,17 @@ call-of : (p s a h w o d : List ℕ) (x : model.Table) (t : Out) → isWell x �
     ranCall (resultOf (encode x) (ranBy x (length a) (length h) (length w) t)) (ranBy x (length a) (length h) (length w) t) o d
 call-of p s a h w o d x t well e g ok =
     let left : ran (encode x) s a h w ≡ ranBy x (length a) (length h) (length w) t =
-    pick-true (areasFit a h w) _ _ (ok .0) ∙
+    pick-true (areasFit a h w) _ _ (long-enough (length a) (length h) (length w) (length o) (length d) ok .0) ∙
     ap (λ (y : model.Table). ranBy y (length a) (length h) (length w) (outcomeOf (encode x) s)) (decode-encode x well) ∙
     ap (ranBy x (length a) (length h) (length w)) (outcome-well x well s ∙ g) in
-    called-on p s a h w o d x e (ok .1) ∙ ap (λ (l : Ran). ranCall (resultOf (encode x) l) l o d) left
+    called-on p s a h w o d x e ok ∙ ap (λ (l : Ran). ranCall (resultOf (encode x) l) l o d) left
 
 -- a run that is refused
-refused-called : (x : model.Table) (a h w : ℕ) (f : refusal.Fault) (o d : List ℕ) → isIn 1 10 (f .number) ≡ true →
-    ranCall (resultOf (encode x) (ranBy x a h w (stop f))) (ranBy x a h w (stop f)) o d ≡
-    refusedCall (codeOf (f .number) 2 (f .place)) (replicate a 0) (replicate h 0) (replicate w 0) o d
-refused-called x a h w f o d k = rw (ne-eqb (f .number) 0 (isIn-some 0 10 (f .number) k), ne-eqb (f .number) 11 not-lent)
-  where
-    not-lent : f .number ≡ 11 → ⊥
-    not-lent e = let l = isIn-at 1 10 (f .number) k in omega arith
+refused-called : (x : model.Table) (a h w : List ℕ) (f : refusal.Fault) (o d : List ℕ) → isIn 1 10 (f .number) ≡ true →
+    ranCall (resultOf (encode x) (ranBy x (length a) (length h) (length w) (stop f))) (ranBy x (length a) (length h) (length w) (stop f))
+    o d ≡
+    refusedCall (refusal.values (f .number) 2 (f .place)) a h w o d
+refused-called x a h w f o d k = rw (ne-eqb (f .number) 0 (isIn-some 0 10 (f .number) k))
 
 -- done: the areas, and the plan and the history that are left
 module _ (p s a h w o d : List ℕ) (x : model.Table) (well : isWell x ≡ true) (read : readPlan p ≡ got x)
@@ -138,11 +136,11 @@ module _ (p s a h w o d : List ℕ) (x : model.Table) (well : isWell x ≡ true)
     pub run-done : runCalled p s a h w o d ≡ endedCall v t a h w o d
     run-done =
         let after : isWell (t .plan) ≡ true = runBy-back x s bytes well v t ends .0 in
-        let room = long-enough (length o) (length d) (ok .1) .0 in
+        let room = long-enough (length a) (length h) (length w) (length o) (length d) ok .1 in
         let L = ranBy x (length a) (length h) (length w) (gives v t) in
         call-of p s a h w o d x (gives v t) well read ends ok ∙
         (λ i. record {
-          code = codeOf (well-written (t .plan) after o room i .fault .number) 0 0;
+          values = refusal.values (well-written (t .plan) after o room i .fault .number) 0 0;
           answer = L .answer;
           history = L .history;
           work = L .work;
@@ -158,19 +156,19 @@ module _ (p s a h w o d : List ℕ) (x : model.Table) (well : isWell x ≡ true)
 
   -- refused: a number other than 0
   pub run-refused : (f : refusal.Fault) → runBy x (readScript s) ≡ stop f →
-      runCalled p s a h w o d ≡
-      refusedCall (codeOf (f .number) 2 (f .place)) (replicate (length a) 0) (replicate (length h) 0) (replicate (length w) 0) o d
+      runCalled p s a h w o d ≡ refusedCall (refusal.values (f .number) 2 (f .place)) a h w o d
   run-refused f stops =
       call-of p s a h w o d x (stop f) well read stops ok ∙
-      refused-called x (length a) (length h) (length w) f o d (run-refuses x s f stops)
+      refused-called x a h w f o d (run-refuses x s f stops)
 
   -- answered 0: the run has ended
-  pub call-ends : runCalled p s a h w o d .code ≡ codeOf 0 0 0 → (v : List ℕ) × ((t : State) × (runBy x (readScript s) ≡ gives v t))
+  pub call-ends : codeOf (runCalled p s a h w o d .values) ≡ 0 → (v : List ℕ) × ((t : State) × (runBy x (readScript s) ≡ gives v t))
   call-ends answers = go (runBy x (readScript s)) refl
     where
       go : (q : Out) → runBy x (readScript s) ≡ q → (v : List ℕ) × ((t : State) × (runBy x (readScript s) ≡ gives v t))
       go (stop f) g =
-          let c : codeOf (f .number) 2 (f .place) ≡ 0 = sym (ap (λ (q : Called). q .code) (run-refused f g)) ∙ answers in
+          let c : codeOf (refusal.values (f .number) 2 (f .place)) ≡ 0 =
+          sym (ap (λ (q : Called). codeOf (q .values)) (run-refused f g)) ∙ answers in
           absurd (omega arith)
       go (gives v t) g = (v, (t, g))
 
@@ -181,9 +179,7 @@ pub runRefused : RunRefused
 runRefused p s a h w o d x f b e g ok = run-refused p s a h w o d x (storedBack .1 p x b e .0) e ok f g
 
 pub runAreaShort : RunAreaShort
-runAreaShort p s a h w o d x e short long =
-    called-on p s a h w o d x e long ∙
-    ap (λ (l : Ran). ranCall (resultOf (encode x) l) l o d) (pick-false (areasFit a h w) _ (refusedRun refusal.lentShort _ a h w) short)
+runAreaShort p s a h w o d = pick-false _ _ (untouchedCall a h w o d)
 
 pub planRefused : PlanRefused
 planRefused p s a h w o d f e long =
@@ -192,4 +188,4 @@ planRefused p s a h w o d f e long =
 
 -- THE TWO CALLS of the library, in either order
 pub freeRunsCommute : FreeRunsCommute
-freeRunsCommute b c t a h w a′ h′ w′ bytes bytes′ s = runsCommute b c t a h w a′ h′ w′ bytes bytes′ (free-told b c s)
+freeRunsCommute b c t k k′ l l′ bytes bytes′ s = runsCommute b c t k k′ l l′ bytes bytes′ (free-told b c s)

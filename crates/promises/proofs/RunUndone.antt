@@ -6,30 +6,30 @@ use Prim.Native.Nat.{ℕ}
 use native.Mathlib.Omega.{arith}
 use lib.ListN.{length}
 use Rattle.model.specs.Base.{atFront}
-use Rattle.model.specs.Call.{areasFit}
 use Rattle.model.specs.History.{historyBytes}
 use Rattle.model.specs.Stored.{stored, got, readPlan}
 use Rattle.model.specs.Table.{Table}
 use Rattle.model.proofs.BoolLaws.{by-cases, eq-cases}
 use Rattle.model.proofs.StoredBack.{storedBack}
-use Rattle.codes.specs.Codes.{codeOf, lentCode}
-use Rattle.lent.specs.Done.{isEndShort}
+use Rattle.codes.specs.Codes.{codeOf, lentValues}
+use Rattle.lent.specs.Done.{lentFit}
+use Rattle.model.specs.Refusal.{values}
 use Rattle.plan.specs.Calls as library
 use Rattle.plan.proofs.Promised.{read-got}
 use Rattle.model.proofs.RunsBack.{runBy-back}
-use Rattle.yegnabit.specs.Calls.{undoCode, undoOut}
-use Rattle.yegnabit.specs.Running.{Called, runCalled}
+use Rattle.yegnabit.specs.Calls.{undoValues, undoOut}
+use Rattle.yegnabit.specs.Running.{runCalled}
 use Rattle.promises.specs.Promise.{LentFits, historyLeft, RunUndone}
 use Rattle.yegnabit.proofs.RunLaws.{call-short, call-plan-refused}
-use Rattle.promises.proofs.Promised.{undone-back, plan-left, history-left, call-ends, runAreaShort}
+use Rattle.promises.proofs.Promised.{undone-back, plan-left, history-left, call-ends}
 
 -- THE ANSWER 0: the plan is read, and no area is too short
-module _ (p s a h w o d : List ℕ) (answers : runCalled p s a h w o d .code ≡ codeOf 0 0 0) where
-  call-long : isEndShort (length o) (length d) ≡ false
-  call-long = by-cases (isEndShort (length o) (length d)) (λ z. absurd (short z)) (λ z. z)
+module _ (p s a h w o d : List ℕ) (answers : codeOf (runCalled p s a h w o d .values) ≡ 0) where
+  call-fits : LentFits a h w o d
+  call-fits = by-cases (lentFit (length a) (length h) (length w) (length o) (length d)) (λ z. z) (λ z. absurd (short z))
     where
-      short : isEndShort (length o) (length d) ≡ true → ⊥
-      short z = omega (arith, call-short p s a h w o d true (sym z) lentCode refl refl .0 ∙ answers)
+      short : lentFit (length a) (length h) (length w) (length o) (length d) ≡ false → ⊥
+      short z = omega (arith, call-short p s a h w o d false (sym z) (codeOf lentValues) refl refl .0 ∙ answers)
 
   call-read : (x : Table) × (readPlan p ≡ got x)
   call-read = read-got p (eq-cases (library.planRead p .fault .number) 0 (λ z. z) (λ z. absurd (refused z)))
@@ -37,19 +37,9 @@ module _ (p s a h w o d : List ℕ) (answers : runCalled p s a h w o d .code ≡
       refused : (library.planRead p .fault .number ≡ 0 → ⊥) → ⊥
       refused z =
           let q = library.planRead p in
-          let c : codeOf (q .fault .number) 1 (q .fault .place) ≡ 0 =
-          call-plan-refused p s a h w o d _ refl call-long q refl (codeOf (q .fault .number) 1 (q .fault .place)) _ _ _ _ z refl refl
-          refl refl refl .0 ∙ answers in
-          omega arith
-
-  call-fits : LentFits a h w o d
-  call-fits = (by-cases (areasFit a h w) (λ z. z) (λ z. absurd (short z)), call-long)
-    where
-      short : areasFit a h w ≡ false → ⊥
-      short z =
-          let g = call-read in
-          let c : lentCode ≡ 0 =
-          sym (ap (λ (q : Called). q .code) (runAreaShort p s a h w o d (g .0) (g .1) z call-long)) ∙ answers in
+          let v = values (q .fault .number) 1 (q .fault .place) in
+          let c : codeOf v ≡ 0 =
+          call-plan-refused p s a h w o d _ refl call-fits q refl (codeOf v) _ _ _ _ z refl refl refl refl refl .0 ∙ answers in
           omega arith
 
 pub runUndone : RunUndone
@@ -67,8 +57,8 @@ runUndone p s a h w o d o′ bytes bytes′ answers room =
     let u =
     undone-back (stored (t .plan)) (historyBytes (t .history)) o′ (t .plan) x (after .0) (storedBack .0 (t .plan) (after .0))
     (after .2) room in (
-      ap (λ (l : List ℕ). undoCode l (historyLeft (runCalled p s a h w o d)) o′) P ∙
-          ap (λ (l : List ℕ). undoCode (stored (t .plan)) l o′) H ∙ u .0 ∙ ap (λ (l : List ℕ). codeOf 0 0 (length l)) (before .1),
+      ap (λ (l : List ℕ). undoValues l (historyLeft (runCalled p s a h w o d)) o′) P ∙
+          ap (λ (l : List ℕ). undoValues (stored (t .plan)) l o′) H ∙ u .0 ∙ ap (λ (l : List ℕ). values 0 0 (length l)) (before .1),
       ap (λ (l : List ℕ). undoOut l (historyLeft (runCalled p s a h w o d)) o′) P ∙
           ap (λ (l : List ℕ). undoOut (stored (t .plan)) l o′) H ∙ u .1 ∙ ap (λ (l : List ℕ). atFront l o′) (before .1),
     )

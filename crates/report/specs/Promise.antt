@@ -6,9 +6,10 @@ use mathlib.Core.Logic.{_⊎_}
 use Prim.Native.Nat.{ℕ}
 use lib.ListN.{take}
 use Rattle.model.specs.Base.{areBytes}
+use Rattle.model.specs.Refusal.{values}
 use Rattle.model.specs.Stored.{got, readPlan}
 use Rattle.model.specs.Table.{Table}
-use Rattle.paths.specs.Analysis.{analysed, values, valuesOf, answerWord}
+use Rattle.paths.specs.Analysis.{analysed, valuesOf, answerWord}
 use Rattle.paths.specs.declared.Analysis.the-variants.{Free}
 use Rattle.format.specs.Text.{ascii}
 use Rattle.front.specs.Promise.{fileBytes}

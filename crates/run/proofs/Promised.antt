@@ -11,7 +11,7 @@ use Rattle.model.specs.Refusal as refusal
 use Rattle.model.specs.Table as model
 use Rattle.model.specs.Script.{readScript}
 use Rattle.model.specs.Run.{State, Out, stop, gives}
-use Rattle.model.specs.Call.{Ran, areasFit, ranBy, refusedRun, runBy, runCall, OrdersAgree}
+use Rattle.model.specs.Call.{Ran, areasFit, ranBy, refusedRun, runBy, OrdersAgree, Areas, runIn}
 use Rattle.model.proofs.BoolLaws.{by-cases, pick-true, pick-false}
 use Rattle.model.proofs.CallsCommute.{callsCommute}
 use Rattle.table.specs.Results.{faultOf}
@@ -20,7 +20,7 @@ use Rattle.table.specs.declared.Table.{Table}
 use Rattle.table.proofs.FittedLaws.{well-decode}
 use Rattle.table.proofs.EncodeLaws.{decode-encode, fits-encode}
 use Rattle.run.specs.Calls.{outcomeOf, ran, resultOf, runResult}
-use Rattle.run.specs.Promise.{RunsAsCalled, RunsUnfit, RunsOn, RefusedGivesBack, RefusedLeaves, RunsCommute}
+use Rattle.run.specs.Promise.{RunsAsCalled, RunsUnfit, RunsOn, RefusedGivesBack, RefusedLeaves, RunsCommute, ranIn, tableAfter}
 use Rattle.run.specs.declared.RunResult.{RunResult}
 use Rattle.run.proofs.OutcomeLaws.{Refuses, outcome-refuses}
 use Rattle.model.proofs.RunsBack.{runBy-back}
@@ -109,15 +109,18 @@ refusedLeaves t b a h w = (
 
 -- EITHER ORDER
 module _ (t : Table) (e : fits t ≡ true) where
-  then-called : (b c a h w a′ h′ w′ : List ℕ) → areBytes b ≡ true →
-      ran (runResult t b a h w .table) c a′ h′ w′ ≡ runCall (runCall (decode t) b a h w .plan) c a′ h′ w′
-  then-called b c a h w a′ h′ w′ bytes =
-      let s = runsOn t b a h w bytes e in
-      runsAsCalled (runResult t b a h w .table) c a′ h′ w′ (s .0) ∙ ap (λ (x : model.Table). runCall x c a′ h′ w′) (s .1)
+  called : (b : List ℕ) (k : Areas) → ranIn t b k ≡ runIn (decode t) b k
+  called b k = runsAsCalled t b (k .answer) (k .history) (k .work) e
+
+  then-called : (b c : List ℕ) (k k′ : Areas) → areBytes b ≡ true →
+      ranIn (tableAfter t b k) c k′ ≡ runIn (runIn (decode t) b k .plan) c k′
+  then-called b c k k′ bytes =
+      let s = runsOn t b (k .answer) (k .history) (k .work) bytes e in
+      runsAsCalled (tableAfter t b k) c (k′ .answer) (k′ .history) (k′ .work) (s .0) ∙ ap (λ (x : model.Table). runIn x c k′) (s .1)
 
 pub runsCommute : RunsCommute
-runsCommute b c t a h w a′ h′ w′ bytes bytes′ is e fit fit′ =
+runsCommute b c t k k′ l l′ bytes bytes′ is e fit =
     transport (λ i.
-    OrdersAgree (decode t) (sym (runsAsCalled t b a h w e) i) (sym (then-called t e b c a h w a′ h′ w′ bytes) i)
-    (sym (runsAsCalled t c a′ h′ w′ e) i) (sym (then-called t e c b a′ h′ w′ a h w bytes′) i))
-    (callsCommute b c (decode t) a h w a′ h′ w′ bytes bytes′ is (well-decode t e) fit fit′)
+    OrdersAgree (decode t) (sym (called t e b k) i) (sym (then-called t e b c k k′ bytes) i) (sym (called t e c l) i)
+    (sym (then-called t e c b l l′ bytes′) i))
+    (callsCommute b c (decode t) k k′ l l′ bytes bytes′ is (well-decode t e) fit)

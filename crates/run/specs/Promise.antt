@@ -7,7 +7,7 @@ use lib.ListN.{length, replicate}
 use Rattle.model.specs.Base.{isIn, areBytes}
 use Rattle.model.specs.Meeting.{free}
 use Rattle.model.specs.Refusal.{lentShort}
-use Rattle.model.specs.Call.{answered, analyse, areasFit, runCall, unfitRun, OrdersAgree}
+use Rattle.model.specs.Call.{Ran, answered, analyse, areasFit, runCall, unfitRun, OrdersAgree, Areas, AllSuffice}
 use Rattle.table.specs.Results.{faultOf}
 use Rattle.table.specs.Words.{decode, fits}
 use Rattle.table.specs.declared.Table.{Table}
@@ -44,14 +44,21 @@ RefusedLeaves =
     (ran t b a h w .answer ≡ replicate (length a) 0) × (ran t b a h w .history ≡ replicate (length h) 0) ×
     (ran t b a h w .work ≡ replicate (length w) 0))
 
--- DEMAND 3: both orders of two scripts' calls, the second on the table that the first gave back
-abbrev pub EitherRun : (first second : List ℕ) → Table → (a h w a′ h′ w′ : List ℕ) → Type 0
-EitherRun b c t a h w a′ h′ w′ =
-    OrdersAgree (decode t) (ran t b a h w) (ran (runResult t b a h w .table) c a′ h′ w′) (ran t c a′ h′ w′)
-    (ran (runResult t c a′ h′ w′ .table) b a h w)
+-- DEMAND 3: what a call in these areas leaves, and the table that it gives back
+abbrev pub ranIn : Table → (script : List ℕ) → Areas → Ran
+ranIn t b k = ran t b (k .answer) (k .history) (k .work)
 
--- of two scripts of which the analysis says free
+-- the table
+abbrev pub tableAfter : Table → (script : List ℕ) → Areas → Table
+tableAfter t b k = runResult t b (k .answer) (k .history) (k .work) .table
+
+-- both orders of two scripts' calls, the second on the table that the first gave back
+abbrev pub EitherRun : (first second : List ℕ) → Table → (one oneThen two twoThen : Areas) → Type 0
+EitherRun b c t k k′ l l′ =
+    OrdersAgree (decode t) (ranIn t b k) (ranIn (tableAfter t b k) c k′) (ranIn t c l) (ranIn (tableAfter t c l) b l′)
+
+-- of two scripts of which the analysis says free, each of the four calls in areas of its own
 abbrev pub RunsCommute : Type 0
 RunsCommute =
-    (b c : List ℕ) (t : Table) (a h w a′ h′ w′ : List ℕ) → areBytes b ≡ true → areBytes c ≡ true → analyse b c ≡ answered free →
-    fits t ≡ true → areasFit a h w ≡ true → areasFit a′ h′ w′ ≡ true → EitherRun b c t a h w a′ h′ w′
+    (b c : List ℕ) (t : Table) (k k′ l l′ : Areas) → areBytes b ≡ true → areBytes c ≡ true → analyse b c ≡ answered free →
+    fits t ≡ true → AllSuffice k k′ l l′ → EitherRun b c t k k′ l l′

@@ -7,40 +7,42 @@ use lib.Dec.{eqb}
 use lib.ListN.{length}
 use borrow.Author.Tests.{lt-ltb, le-ltb, eq-eqb, ne-eqb}
 use Rattle.table.specs.declared.TableResult.{TableResult}
-use Rattle.yegnabit.specs.Calls.{codeIfLong, outIfLong, analysisCode}
-use Rattle.codes.specs.Codes.{codeOf, lentCode, codeUnless, areaUnless}
+use Rattle.yegnabit.specs.Calls.{valuesIfLong, outIfLong}
+use Rattle.model.specs.Refusal.{Values, values}
+use Rattle.codes.specs.Codes.{codeOf, lentValues, valuesUnless, areaUnless}
 use Rattle.lent.specs.Done.{outNeed}
+use Rattle.paths.specs.Analysis.{valuesOf}
 use Rattle.paths.specs.declared.Analysis.{Analysis}
 
--- what a call answers and leaves, with n and b where out is long enough
-abbrev Answers : (out : List ℕ) → (n : ℕ) → (b : List ℕ) → (code : ℕ) → (left : List ℕ) → Type 0
-Answers o n b c l = (c ≡ codeIfLong o n) × (l ≡ outIfLong o b)
+-- what a call answers and leaves, with v and b where out is long enough
+abbrev Answers : (out : List ℕ) → (v : Values) → (b : List ℕ) → (code : ℕ) → (left : List ℕ) → Type 0
+Answers o v b c l = (c ≡ codeOf (valuesIfLong o v)) × (l ≡ outIfLong o b)
 
-module _ (o : List ℕ) (n : ℕ) (b : List ℕ) where
-  pub area-short : {c : ℕ} → c ≡ lentCode → length o < outNeed → Answers o n b c o
+module _ (o : List ℕ) (v : Values) (b : List ℕ) where
+  pub area-short : {c : ℕ} → c ≡ codeOf lentValues → length o < outNeed → Answers o v b c o
   area-short e h = (e ∙ rw (lt-ltb (length o) outNeed h), rw (lt-ltb (length o) outNeed h))
 
-  pub area-fits : {c : ℕ} {l : List ℕ} → outNeed ≤ length o → c ≡ n → l ≡ b → Answers o n b c l
+  pub area-fits : {c : ℕ} {l : List ℕ} → outNeed ≤ length o → c ≡ codeOf v → l ≡ b → Answers o v b c l
   area-fits h e f = (e ∙ rw (le-ltb (length o) outNeed h), f ∙ rw (le-ltb (length o) outNeed h))
 
   module _ (h : outNeed ≤ length o) {q r : TableResult} (e : r ≡ q) where
-    pub plan-refused : {c : ℕ} → c ≡ codeOf (r .fault .number) 1 (r .fault .place) → (r .fault .number ≡ 0 → ⊥) →
-        Answers o (codeUnless (q .fault) 1 n) (areaUnless (q .fault) b o) c o
+    pub plan-refused : {c : ℕ} → c ≡ codeOf (values (r .fault .number) 1 (r .fault .place)) → (r .fault .number ≡ 0 → ⊥) →
+        Answers o (valuesUnless (q .fault) 1 v) (areaUnless (q .fault) b o) c o
     plan-refused f z = (
-      f ∙ ap (λ (t : TableResult). codeOf (t .fault .number) 1 (t .fault .place)) e ∙ rw (le-ltb (length o) outNeed h, y),
+      f ∙ ap (λ (t : TableResult). codeOf (values (t .fault .number) 1 (t .fault .place))) e ∙ rw (le-ltb (length o) outNeed h, y),
       rw (le-ltb (length o) outNeed h, y),
     )
       where
         y : eqb (q .fault .number) 0 ≡ false
         y = ne-eqb (q .fault .number) 0 (λ k. z (ap (λ (t : TableResult). t .fault .number) e ∙ k))
 
-    pub plan-done : {c : ℕ} {l : List ℕ} → c ≡ n → l ≡ b → r .fault .number ≡ 0 →
-        Answers o (codeUnless (q .fault) 1 n) (areaUnless (q .fault) b o) c l
+    pub plan-done : {c : ℕ} {l : List ℕ} → c ≡ codeOf v → l ≡ b → r .fault .number ≡ 0 →
+        Answers o (valuesUnless (q .fault) 1 v) (areaUnless (q .fault) b o) c l
     plan-done f g z = (f ∙ rw (le-ltb (length o) outNeed h, y), g ∙ rw (le-ltb (length o) outNeed h, y))
       where
         y : eqb (q .fault .number) 0 ≡ true
         y = eq-eqb (q .fault .number) 0 (ap (λ (t : TableResult). t .fault .number) (sym e) ∙ z)
 
 -- an analysis told by its variant
-pub analysis-told : {a v w : Analysis} {r : ℕ} → a ≡ w → a ≡ v → r ≡ analysisCode v → r ≡ analysisCode w
-analysis-told e v r = r ∙ ap analysisCode (sym v ∙ e)
+pub analysis-told : {a v w : Analysis} {r : ℕ} → a ≡ w → a ≡ v → r ≡ codeOf (valuesOf v) → r ≡ codeOf (valuesOf w)
+analysis-told e v r = r ∙ ap (λ (x : Analysis). codeOf (valuesOf x)) (sym v ∙ e)

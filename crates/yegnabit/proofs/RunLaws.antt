@@ -1,56 +1,54 @@
--- The C call for a run, by its three ways out: out or done too short, the plan refused, the run over.
+-- The C call for a run, by its three ways out: an area too short, the plan refused, the run over.
 use mathlib.Core.Path.{_≡_, refl, ap, sym, subst, _∙_}
 use mathlib.Core.Bool.{Bool, true, false}
 use mathlib.Core.List.{List}
 use Prim.Native.Nat.{ℕ, _≤_}
-use lib.ListN.{length}
+use lib.ListN.{length, replicate}
 use borrow.Author.Tests.{eq-eqb, ne-eqb}
+use Rattle.model.specs.Refusal.{values}
 use Rattle.plan.specs.Calls as library
 use Rattle.table.specs.declared.TableResult.{TableResult}
 use Rattle.run.specs.Calls.{ran, runResult}
 use Rattle.run.specs.declared.RunResult.{RunResult}
-use Rattle.codes.specs.Codes.{codeOf, lentCode}
-use Rattle.yegnabit.specs.Running.{Called, refusedCall, ranCall, readCall, runCalled}
-use Rattle.lent.specs.Done.{doneNeed, isEndShort, withoutRun, doneOver, endCode, endOut, endDone}
+use Rattle.codes.specs.Codes.{codeOf, lentValues}
+use Rattle.yegnabit.specs.Running.{Called, untouchedCall, refusedCall, ranCall, readCall, runCalled}
+use Rattle.lent.specs.Done.{doneNeed, lentFit, doneOver, endValues, endOut, endDone}
 use Rattle.lent.proofs.EndLaws.{long-enough}
 
 -- the answer and the five areas are those of a call
 abbrev pub Leaves : (code : ℕ) → (answer history work out done : List ℕ) → Called → Type 0
-Leaves c a h w o d x = (c ≡ x .code) × ((a ≡ x .answer) × ((h ≡ x .history) × ((w ≡ x .work) × ((o ≡ x .out) × (d ≡ x .done)))))
+Leaves c a h w o d x =
+    (c ≡ codeOf (x .values)) × ((a ≡ x .answer) × ((h ≡ x .history) × ((w ≡ x .work) × ((o ≡ x .out) × (d ≡ x .done)))))
 
--- where neither out nor done is too short, done takes six numbers
-pub six-fit : (b : Bool) (o d : ℕ) → b ≡ isEndShort o d → b ≡ false → doneNeed ≤ d
-six-fit b o d e f = long-enough o d (sym e ∙ f) .1
+module _ (p s a h w o d : List ℕ) (b : Bool)
+    (fit : b ≡ lentFit (length a) (length h) (length w) (length o) (length d)) where
+  -- where no area is too short, done takes six numbers
+  pub six-fit : b ≡ true → doneNeed ≤ length d
+  six-fit f = long-enough (length a) (length h) (length w) (length o) (length d) (sym fit ∙ f) .2
 
-module _ (p s a h w o d : List ℕ) (b : Bool) (short : b ≡ isEndShort (length o) (length d)) where
-  pub call-short : (c : ℕ) → c ≡ lentCode → b ≡ true → Leaves c a h w o d (runCalled p s a h w o d)
-  call-short c e f =
-      subst (Leaves c a h w o d)
-      (sym (the-call (sym short ∙ f)))
-      (e, (refl, (refl, (refl, (refl, refl)))))
+  pub call-short : (c : ℕ) → c ≡ codeOf lentValues → b ≡ false → Leaves c a h w o d (runCalled p s a h w o d)
+  call-short c e f = subst (Leaves c a h w o d) (sym (the-call (sym fit ∙ f))) (e, (refl, (refl, (refl, (refl, refl)))))
     where
-      the-call : isEndShort (length o) (length d) ≡ true →
-          runCalled p s a h w o d ≡ record { code = lentCode; answer = a; history = h; work = w; out = o; done = d }
+      the-call : lentFit (length a) (length h) (length w) (length o) (length d) ≡ false →
+          runCalled p s a h w o d ≡ untouchedCall a h w o d
       the-call k = rw k
 
-  module _ (long : b ≡ false) (q : TableResult) (read : q ≡ library.planRead p) where
+  module _ (long : b ≡ true) (q : TableResult) (read : q ≡ library.planRead p) where
     pub called : runCalled p s a h w o d ≡ readCall q s a h w o d
-    called = the-read (sym short ∙ long) ∙ ap (λ (t : TableResult). readCall t s a h w o d) (sym read)
+    called = the-read (sym fit ∙ long) ∙ ap (λ (t : TableResult). readCall t s a h w o d) (sym read)
       where
-        the-read : isEndShort (length o) (length d) ≡ false →
+        the-read : lentFit (length a) (length h) (length w) (length o) (length d) ≡ true →
             runCalled p s a h w o d ≡ readCall (library.planRead p) s a h w o d
         the-read k = rw k
 
     -- the plan is refused: nothing runs
     pub call-plan-refused : (c : ℕ) (a′ h′ w′ d′ : List ℕ) → (q .fault .number ≡ 0 → ⊥) →
-        c ≡ codeOf (q .fault .number) 1 (q .fault .place) → a′ ≡ withoutRun a h w a → h′ ≡ withoutRun a h w h →
-        w′ ≡ withoutRun a h w w → d′ ≡ doneOver 0 0 0 0 0 0 d → Leaves c a′ h′ w′ o d′ (runCalled p s a h w o d)
+        c ≡ codeOf (values (q .fault .number) 1 (q .fault .place)) → a′ ≡ replicate (length a) 0 → h′ ≡ replicate (length h) 0 →
+        w′ ≡ replicate (length w) 0 → d′ ≡ doneOver 0 0 0 0 0 0 d → Leaves c a′ h′ w′ o d′ (runCalled p s a h w o d)
     call-plan-refused c a′ h′ w′ d′ z e ea eh ew f =
         subst (Leaves c a′ h′ w′ o d′) (sym (called ∙ the-refusal)) (e, (ea, (eh, (ew, (refl, f)))))
       where
-        the-refusal : readCall q s a h w o d ≡
-            refusedCall (codeOf (q .fault .number) 1 (q .fault .place)) (withoutRun a h w a) (withoutRun a h w h)
-            (withoutRun a h w w) o d
+        the-refusal : readCall q s a h w o d ≡ refusedCall (values (q .fault .number) 1 (q .fault .place)) a h w o d
         the-refusal = rw (ne-eqb (q .fault .number) 0 z)
 
     module _ (z : q .fault .number ≡ 0) (r : RunResult) (a′ h′ w′ : List ℕ) (result : r ≡ runResult (q .table) s a h w)
@@ -63,7 +61,7 @@ module _ (p s a h w o d : List ℕ) (b : Bool) (short : b ≡ isEndShort (length
           the-run = rw (eq-eqb (q .fault .number) 0 z)
 
       -- the run is over
-      pub call-ended : (c : ℕ) (o′ d′ : List ℕ) → c ≡ endCode r o → o′ ≡ endOut r o → d′ ≡ endDone r o d →
+      pub call-ended : (c : ℕ) (o′ d′ : List ℕ) → c ≡ codeOf (endValues r o) → o′ ≡ endOut r o → d′ ≡ endDone r o d →
           Leaves c a′ h′ w′ o′ d′ (runCalled p s a h w o d)
       call-ended c o′ d′ e f g =
           subst (Leaves c a′ h′ w′ o′ d′) (sym run-called) (e, (at-answer, (at-history, (at-work, (f, g)))))

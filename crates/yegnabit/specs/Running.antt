@@ -1,44 +1,56 @@
--- What the C call for a run answers and leaves in its five lent areas, for every input. Assumes nothing: these are definitions.
+-- What the C call for a run answers and leaves in its five lent areas, for every input.
 use mathlib.Core.List.{List}
 use Prim.Native.Nat.{ℕ}
 use lib.Dec.{eqb}
-use lib.ListN.{length}
+use lib.ListN.{length, replicate}
 use Rattle.model.specs.Base.{pick}
 use Rattle.model.specs.Call.{Ran}
+use Rattle.model.specs.Refusal.{Values, values}
 use Rattle.plan.specs.Calls as library
 use Rattle.table.specs.declared.TableResult.{TableResult}
 use Rattle.run.specs.Calls.{ran, runResult}
 use Rattle.run.specs.declared.RunResult.{RunResult}
-use Rattle.codes.specs.Codes.{codeOf, lentCode}
-use Rattle.lent.specs.Done.{isEndShort, withoutRun, doneOver, endCode, endOut, endDone}
+use Rattle.codes.specs.Codes.{lentValues}
+use Rattle.lent.specs.Done.{lentFit, doneOver, endValues, endOut, endDone}
 
 -- what the call answers, and the areas after it
 pub record Called : Type 0 where
-  pub code : ℕ
+  pub values : Values
   pub answer : List ℕ
   pub history : List ℕ
   pub work : List ℕ
   pub out : List ℕ
   pub done : List ℕ
 
--- refused: out is as it was, and the six numbers are zero
-abbrev pub refusedCall : (code : ℕ) → (answer history work out done : List ℕ) → Called
-refusedCall n a h w o d =
-    record { code = n; answer = a; history = h; work = w; out = o; done = doneOver 0 0 0 0 0 0 d }
+-- an area too short: 11 at place 0, and nothing is touched
+abbrev pub untouchedCall : (answer history work out done : List ℕ) → Called
+untouchedCall a h w o d = record { values = lentValues; answer = a; history = h; work = w; out = o; done = d }
+
+-- refused after that: out is as it was; answer, history, work and the six numbers are zero
+abbrev pub refusedCall : Values → (answer history work out done : List ℕ) → Called
+refusedCall v a h w o d =
+    record {
+      values = v;
+      answer = replicate (length a) 0;
+      history = replicate (length h) 0;
+      work = replicate (length w) 0;
+      out = o;
+      done = doneOver 0 0 0 0 0 0 d;
+    }
 
 -- once the run is over: its refusal, or the plan written
 abbrev pub ranCall : RunResult → Ran → (out done : List ℕ) → Called
 ranCall r l o d =
-    record { code = endCode r o; answer = l .answer; history = l .history; work = l .work; out = endOut r o; done = endDone r o d }
+    record { values = endValues r o; answer = l .answer; history = l .history; work = l .work; out = endOut r o; done = endDone r o d }
 
 -- once the plan is read: its refusal, and then nothing runs, or the run
 abbrev pub readCall : TableResult → (script answer history work out done : List ℕ) → Called
 readCall q s a h w o d =
     pick (eqb (q .fault .number) 0) (ranCall (runResult (q .table) s a h w) (ran (q .table) s a h w) o d)
-    (refusedCall (codeOf (q .fault .number) 1 (q .fault .place)) (withoutRun a h w a) (withoutRun a h w h) (withoutRun a h w w) o d)
+    (refusedCall (values (q .fault .number) 1 (q .fault .place)) a h w o d)
 
--- READ, RUN AND WRITE: out or done too short is 11, nothing touched; then the plan's refusal; then the run's, 11 for its own areas first
+-- READ, RUN AND WRITE: 11 where one of the five areas is too short; then the plan's refusal; then the script's and the run's
 abbrev pub runCalled : (plan script answer history work out done : List ℕ) → Called
 runCalled p s a h w o d =
-    pick (isEndShort (length o) (length d)) (record { code = lentCode; answer = a; history = h; work = w; out = o; done = d })
-    (readCall (library.planRead p) s a h w o d)
+    pick (lentFit (length a) (length h) (length w) (length o) (length d)) (readCall (library.planRead p) s a h w o d)
+    (untouchedCall a h w o d)

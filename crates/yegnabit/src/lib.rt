@@ -2,7 +2,8 @@
 // number 0 where nothing is refused; which says whose refusal it is: 0 a lent area's, 1 the plan's,
 // 2 the script's, the run's or the history's.
 ghost use mathlib.Core.Path.{_≡_};
-ghost use Rattle.yegnabit.specs.Calls.{planCode, planOut, sweepCode, sweepOut, undoCode, undoOut, analyseCode};
+ghost use Rattle.codes.specs.Codes.{codeOf};
+ghost use Rattle.yegnabit.specs.Calls.{planValues, planOut, sweepValues, sweepOut, undoValues, undoOut, analyseValues};
 ghost use Rattle.yegnabit.specs.Running.{runCalled};
 use codes::answer;
 use codes::answer::PLAN;
@@ -14,7 +15,7 @@ use paths::Analysis;
 // Reads a plan and writes it back to out, which needs room for any plan.
 #[no_mangle]
 pub extern "C" fn yegnabit_plan(plan: &[u8], out: &mut [u8]) -> u64
-    ensures { λ r. ⌜ r ≡ planCode (now (plan .entry)) (now (out .entry)) ⌝ }
+    ensures { λ r. ⌜ r ≡ codeOf (planValues (now (plan .entry)) (now (out .entry))) ⌝ }
     ensures { λ r. ⌜ now (out .exit) ≡ planOut (now (plan .entry)) (now (out .entry)) ⌝ }
 {
     if out.len() < OUT {
@@ -27,7 +28,7 @@ pub extern "C" fn yegnabit_plan(plan: &[u8], out: &mut [u8]) -> u64
 // Reads a plan, sweeps it, and writes it to out.
 #[no_mangle]
 pub extern "C" fn yegnabit_sweep(plan: &[u8], out: &mut [u8]) -> u64
-    ensures { λ r. ⌜ r ≡ sweepCode (now (plan .entry)) (now (out .entry)) ⌝ }
+    ensures { λ r. ⌜ r ≡ codeOf (sweepValues (now (plan .entry)) (now (out .entry))) ⌝ }
     ensures { λ r. ⌜ now (out .exit) ≡ sweepOut (now (plan .entry)) (now (out .entry)) ⌝ }
 {
     if out.len() < OUT {
@@ -45,7 +46,7 @@ pub extern "C" fn yegnabit_sweep(plan: &[u8], out: &mut [u8]) -> u64
 // Reads a plan, takes a run back by its history, and writes it to out.
 #[no_mangle]
 pub extern "C" fn yegnabit_undo(plan: &[u8], history: &[u8], out: &mut [u8]) -> u64
-    ensures { λ r. ⌜ r ≡ undoCode (now (plan .entry)) (now (history .entry)) (now (out .entry)) ⌝ }
+    ensures { λ r. ⌜ r ≡ codeOf (undoValues (now (plan .entry)) (now (history .entry)) (now (out .entry))) ⌝ }
     ensures { λ r. ⌜ now (out .exit) ≡ undoOut (now (plan .entry)) (now (history .entry)) (now (out .entry)) ⌝ }
 {
     if out.len() < OUT {
@@ -61,7 +62,8 @@ pub extern "C" fn yegnabit_undo(plan: &[u8], history: &[u8], out: &mut [u8]) -> 
 }
 
 // Reads a plan, runs a script on it in the lent areas, and writes the plan as it then is to out. done takes six numbers: items of the
-// answer, rows made, links cut, records written, history bytes, bytes in out. A plan refused: nothing runs, and done is zero.
+// answer, rows made, links cut, records written, history bytes, bytes in out. An area too short is 11 before all else and nothing is
+// touched; refused after that, out is as it was and the other four are zero.
 #[no_mangle]
 pub extern "C" fn yegnabit_run(
     plan: &[u8],
@@ -72,8 +74,8 @@ pub extern "C" fn yegnabit_run(
     out: &mut [u8],
     done: &mut [u64],
 ) -> u64
-    ensures { λ r. ⌜ r ≡ runCalled (now (plan .entry)) (now (script .entry)) (now (answer .entry))
-        (now (history .entry)) (now (work .entry)) (now (out .entry)) (now (done .entry)) .code ⌝ }
+    ensures { λ r. ⌜ r ≡ codeOf (runCalled (now (plan .entry)) (now (script .entry)) (now (answer .entry))
+        (now (history .entry)) (now (work .entry)) (now (out .entry)) (now (done .entry)) .values) ⌝ }
     ensures { λ r. ⌜ now (answer .exit) ≡ runCalled (now (plan .entry)) (now (script .entry)) (now (answer .entry))
         (now (history .entry)) (now (work .entry)) (now (out .entry)) (now (done .entry)) .answer ⌝ }
     ensures { λ r. ⌜ now (history .exit) ≡ runCalled (now (plan .entry)) (now (script .entry)) (now (answer .entry))
@@ -85,7 +87,13 @@ pub extern "C" fn yegnabit_run(
     ensures { λ r. ⌜ now (done .exit) ≡ runCalled (now (plan .entry)) (now (script .entry)) (now (answer .entry))
         (now (history .entry)) (now (work .entry)) (now (out .entry)) (now (done .entry)) .done ⌝ }
 {
-    if done::is_end_short(out.len(), done.len()) {
+    if !done::fit(
+        answer.len(),
+        history.len(),
+        work.len(),
+        out.len(),
+        done.len(),
+    ) {
         return answer::lent_short();
     }
     let read = plan::read_plan(plan);
@@ -104,7 +112,7 @@ pub extern "C" fn yegnabit_run(
 // Analyses two scripts: a refusal is the first's, which 1, or the second's, which 2; else which is the answer: 0 free, 1 upward, 2 meet.
 #[no_mangle]
 pub extern "C" fn yegnabit_analyse(first: &[u8], second: &[u8]) -> u64
-    ensures { λ r. ⌜ r ≡ analyseCode (now (first .entry)) (now (second .entry)) ⌝ }
+    ensures { λ r. ⌜ r ≡ codeOf (analyseValues (now (first .entry)) (now (second .entry))) ⌝ }
 {
     let analysis = paths::analyse(first, second);
     match analysis {

@@ -1,7 +1,7 @@
 -- `yegnabit_plan` answers and leaves what reading and writing back owe, by its two ways out.
 use Rattle.yegnabit.proofs.FittingLaws.{bytes-known, read-fits}
 use Rattle.yegnabit.proofs.CallLaws.{area-short, area-fits}
-use Rattle.codes.specs.Codes.{finishedCode, finishedOut}
+use Rattle.codes.specs.Codes.{codeOf, finishedValues, finishedOut}
 use Rattle.table.specs.Words.{fits}
 use Rattle.table.specs.declared.TableResult.{TableResult}
 use mathlib.Core.Path.{_∙_, ap}
@@ -38,7 +38,8 @@ returns-2 c =
     let c5 = c4 .before in
     let c8 = c5 .before .before .before in
     area-fits (c8 .args .out .now) _ _ (omega (arith, c5 .if1 .left))
-    (c .before .before .finish .ensures .0 ∙ ap (λ (q : TableResult). finishedCode q 1 (c8 .args .out .now)) (c4 .read-plan .ensures))
+    (c .before .before .finish .ensures .0 ∙ ap (λ (q : TableResult). codeOf (finishedValues q 1 (c8 .args .out .now))) (c4 .read-plan
+    .ensures))
     (c .before .before .finish .ensures .1 ∙ ap (λ (q : TableResult). finishedOut q (c8 .args .out .now)) (c4 .read-plan .ensures))
 
 pub yegnabit-plan-spec : {M : Type 1} → statement M

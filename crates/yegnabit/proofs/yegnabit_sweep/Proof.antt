@@ -1,7 +1,7 @@
 -- `yegnabit_sweep` answers and leaves what reading, sweeping and writing owe, by its three ways out.
 use Rattle.yegnabit.proofs.FittingLaws.{bytes-known, read-fits, swept-fits}
 use Rattle.yegnabit.proofs.CallLaws.{area-short, plan-refused, plan-done}
-use Rattle.codes.specs.Codes.{finishedCode, finishedOut}
+use Rattle.codes.specs.Codes.{codeOf, finishedValues, finishedOut}
 use Rattle.sweep.specs.Sweeping.{planSwept}
 use Rattle.table.specs.Words.{fits}
 use Rattle.table.specs.declared.TableResult.{TableResult}
@@ -56,8 +56,9 @@ returns-3 c =
     let c7 = c6 .before in
     let c10 = c7 .before .before .before in
     plan-done (c10 .args .out .now) _ _ (omega (arith, c7 .if1 .left)) (c6 .read-plan .ensures)
-    (c .before .before .finish .ensures .0 ∙ ap (λ (r : TableResult). finishedCode r 1 (c10 .args .out .now)) (c4 .sweep-table .ensures) ∙
-    ap (λ (q : TableResult). finishedCode (planSwept (q .table)) 1 (c10 .args .out .now)) (c6 .read-plan .ensures))
+    (c .before .before .finish .ensures .0 ∙ ap (λ (r : TableResult). codeOf (finishedValues r 1 (c10 .args .out .now))) (c4 .sweep-table
+    .ensures) ∙
+    ap (λ (q : TableResult). codeOf (finishedValues (planSwept (q .table)) 1 (c10 .args .out .now))) (c6 .read-plan .ensures))
     (c .before .before .finish .ensures .1 ∙ ap (λ (r : TableResult). finishedOut r (c10 .args .out .now)) (c4 .sweep-table .ensures) ∙
     ap (λ (q : TableResult). finishedOut (planSwept (q .table)) (c10 .args .out .now)) (c6 .read-plan .ensures))
     (search (c5 .if2 .left, needs))

@@ -1,7 +1,7 @@
 -- `yegnabit_undo` answers and leaves what reading, taking back and writing owe, by its three ways out.
 use Rattle.yegnabit.proofs.FittingLaws.{bytes-known, read-fits, undone-fits}
 use Rattle.yegnabit.proofs.CallLaws.{area-short, plan-refused, plan-done}
-use Rattle.codes.specs.Codes.{finishedCode, finishedOut}
+use Rattle.codes.specs.Codes.{codeOf, finishedValues, finishedOut}
 use Rattle.undo.specs.Undoing.{planUndone}
 use Rattle.table.specs.Words.{fits}
 use Rattle.table.specs.declared.TableResult.{TableResult}
@@ -57,8 +57,9 @@ returns-3 c =
     let c7 = c6 .before in
     let c11 = c7 .before .before .before .before in
     plan-done (c11 .args .out .now) _ _ (omega (arith, c7 .if1 .left)) (c6 .read-plan .ensures)
-    (c .before .before .finish .ensures .0 ∙ ap (λ (r : TableResult). finishedCode r 2 (c11 .args .out .now)) (c4 .undo .ensures) ∙
-    ap (λ (q : TableResult). finishedCode (planUndone (q .table) (c11 .args .history .now)) 2 (c11 .args .out .now))
+    (c .before .before .finish .ensures .0 ∙ ap (λ (r : TableResult). codeOf (finishedValues r 2 (c11 .args .out .now))) (c4 .undo
+    .ensures) ∙
+    ap (λ (q : TableResult). codeOf (finishedValues (planUndone (q .table) (c11 .args .history .now)) 2 (c11 .args .out .now)))
     (c6 .read-plan .ensures))
     (c .before .before .finish .ensures .1 ∙ ap (λ (r : TableResult). finishedOut r (c11 .args .out .now)) (c4 .undo .ensures) ∙
     ap (λ (q : TableResult). finishedOut (planUndone (q .table) (c11 .args .history .now)) (c11 .args .out .now)) (c6 .read-plan .ensures))

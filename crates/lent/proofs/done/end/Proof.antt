@@ -7,9 +7,6 @@ use Rattle.lent.proofs.done.end.Tie as tie
 put-done-requires : tie.Need-put-done-requires
 put-done-requires c κs = search needs
 
-which-of-requires : tie.Need-which-of-requires
-which-of-requires c κs = search needs
-
 code-requires : tie.Need-code-requires
 code-requires c κs = search needs
 
@@ -18,11 +15,9 @@ same-length c = search needs
 
 returns : tie.Need-returns
 returns c =
-    let c4 = c .before .before .before .before in
-    let c6 = c4 .before .before in
-    let c9 = c6 .before .before .before in
-    end-refused (c9 .args .ran) (c9 .args .out .now) (c9 .args .done .now) _ _ _ (c6 .if1 .taken) (c .before .which-of .ensures) (c .code
-    .ensures) (c4 .put-done .ensures)
+    let x = c .before .before .before .before .before .before .before .before .args in
+    end-refused (x .ran) (x .out .now) (x .done .now) _ _ (c .before .before .before .before .before .if1 .taken) (c .code .ensures)
+    (c .before .before .before .put-done .ensures)
 
 fitting-requires : tie.Need-fitting-requires
 fitting-requires c κs =
@@ -56,7 +51,6 @@ end-spec =
     tie.close
     (tie.spec
     put-done-requires
-    which-of-requires
     code-requires
     same-length
     returns

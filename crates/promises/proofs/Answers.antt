@@ -1,0 +1,141 @@
+-- What the C calls answer decodes, and its number is 0 or one of the table's: AnswersDecode.
+use mathlib.Core.Path.{_≡_, refl, ap}
+use mathlib.Core.Bool.{Bool, true, false}
+use mathlib.Core.List.{List}
+use Prim.Native.Nat.{ℕ, _≤_, _<_}
+use native.Mathlib.Omega.{arith}
+use lib.Dec.{eqb, leb, ltb}
+use lib.ListN.{length}
+use Rattle.model.specs.Call.{areasFit, firstBy}
+use Rattle.model.specs.Refusal.{Values, linkAt}
+use Rattle.model.specs.Refusal as refusal
+use Rattle.model.specs.Script.{Parsed, ill, parsed, readScript}
+use Rattle.model.specs.Meeting.{Answer, free, upward, meet, answer}
+use Rattle.model.specs.Stored.{Read, bad, got, readPlan}
+use Rattle.model.specs.Undo.{Undo, refused, back, undo}
+use Rattle.model.proofs.BoolLaws.{by-cases, eq-cases, pick-cases}
+use Rattle.model.proofs.RefusedByTable.{refusedByTable}
+use Rattle.model.proofs.TestLaws.{isIn-at, isIn-by}
+use Rattle.table.specs.Words.{fits, decode}
+use Rattle.table.specs.declared.Fault.{Fault}
+use Rattle.table.specs.declared.Table.{Table}
+use Rattle.table.specs.declared.TableResult.{TableResult}
+use Rattle.plan.specs.Calls.{readBy, planRead}
+use Rattle.writer.specs.Writing.{planWritten}
+use Rattle.sweep.specs.Sweeping.{planSwept}
+use Rattle.undo.specs.Undoing.{planUndone, undoneBy}
+use Rattle.paths.specs.Analysis.{analysisOf, byAnswer, valuesOf}
+use Rattle.run.specs.Calls.{runResult}
+use Rattle.run.proofs.Promised.{refusedLeaves}
+use Rattle.codes.specs.Codes.{maxPlaces, codeOf, lentValues, valuesUnless, writtenValues, finishedValues}
+use Rattle.yegnabit.specs.Calls.{onPlan, planValues, sweepValues, undoValues, analyseValues}
+use Rattle.yegnabit.specs.Running.{Called, runCalled}
+use Rattle.lent.specs.Done.{outNeed, lentFit}
+use Rattle.promises.specs.Promise.{Decodes, AnswersDecode}
+
+-- A KNOWN ANSWER: a number of the table or 0, and a small which
+record Known (v : Values) : Type 0 where
+  number : v .number ≤ 11
+  which : v .which ≤ 2
+
+decodes : (v : Values) → Known v → Decodes v
+decodes v k =
+    let n = k .number in
+    let w = k .which in
+    (omega arith, omega arith, λ (h : v .place < maxPlaces). omega arith, isIn-by 0 11 (v .number) (omega arith) n)
+
+lent-known : Known lentValues
+lent-known = record { number = omega arith; which = omega arith }
+
+-- a refusal with a number of the table
+abbrev Low : Fault → Type 0
+Low f = f .number ≤ 11
+
+known-unless : (f : Fault) (w : ℕ) (v : Values) → Low f → w ≤ 2 → Known v → Known (valuesUnless f w v)
+known-unless f w v l h k = pick-cases Known (eqb (f .number) 0) (λ _. k) (λ _. record { number = l; which = h })
+
+written-known : (t : Table) (o : List ℕ) → Known (writtenValues (planWritten t o))
+written-known t o = record { number = go (fits t) (leb _ (length o)); which = omega arith }
+  where
+    go : (a b : Bool) →
+        refusal.orElse (refusal.unless a (linkAt 0)) (refusal.unless b refusal.lentShort) .number ≤ 11
+    go true true = omega arith
+    go true false = omega arith
+    go false b = omega arith
+
+-- THE CALLS ON A PLAN
+read-low : (p : List ℕ) → Low (planRead p .fault)
+read-low p = go (readPlan p) refl
+  where
+    go : (q : Read) → readPlan p ≡ q → Low (readBy q .fault)
+    go (bad f) e = let k = isIn-at 1 6 (f .number) (refusedByTable .0 p f e) in omega arith
+    go (got x) e = omega arith
+
+swept-low : (t : Table) → Low (planSwept t .fault)
+swept-low t = pick-cases (λ (r : TableResult). Low (r .fault)) (fits t) (λ _. omega arith) (λ _. omega arith)
+
+undone-low : (t : Table) (h : List ℕ) → Low (planUndone t h .fault)
+undone-low t h = pick-cases (λ (r : TableResult). Low (r .fault)) (fits t) (λ _. go (undo (decode t) h) refl) (λ _. omega arith)
+  where
+    go : (q : Undo) → undo (decode t) h ≡ q → Low (undoneBy t q .fault)
+    go (refused f) e = let k = isIn-at 1 6 (f .number) (refusedByTable .2 (decode t) h f e) in omega arith
+    go (back x) e = omega arith
+
+-- out too short, the plan refused, or the rest
+plan-known : (p o : List ℕ) (v : Values) → Known v → Known (onPlan p o v)
+plan-known p o v k =
+    pick-cases Known (ltb (length o) outNeed) (λ _. lent-known) (λ _. known-unless (planRead p .fault) 1 v (read-low p) (omega arith) k)
+
+finished-known : (r : TableResult) (w : ℕ) (o : List ℕ) → Low (r .fault) → w ≤ 2 → Known (finishedValues r w o)
+finished-known r w o l h = known-unless (r .fault) w _ l h (written-known (r .table) o)
+
+-- THE RUN
+ran-low : (t : Table) (s a h w : List ℕ) → Low (runResult t s a h w .fault)
+ran-low t s a h w =
+    by-cases (areasFit a h w)
+    (λ e. eq-cases (runResult t s a h w .fault .number) 0 (λ z. omega (arith, z)) (λ z.
+    let k = isIn-at 1 10 (runResult t s a h w .fault .number) (refusedLeaves t s a h w .1 e z .0) in
+    omega arith))
+    (λ e. let k : runResult t s a h w .fault .number ≡ 11 = ap (λ (f : Fault). f .number) (refusedLeaves t s a h w .0 e .0) in
+    omega (arith, k))
+
+run-known : (p s a h w o d : List ℕ) → Known (runCalled p s a h w o d .values)
+run-known p s a h w o d =
+    pick-cases (λ (c : Called). Known (c .values)) (lentFit (length a) (length h) (length w) (length o) (length d))
+    (λ _. pick-cases (λ (c : Called). Known (c .values)) (eqb (planRead p .fault .number) 0)
+    (λ _. known-unless (runResult (planRead p .table) s a h w .fault) 2 _ (ran-low (planRead p .table) s a h w) (omega arith)
+    (record {
+      number = written-known (runResult (planRead p .table) s a h w .table) o .number;
+      which = omega arith;
+    }))
+    (λ _. record { number = read-low p; which = omega arith }))
+    (λ _. lent-known)
+
+-- THE ANALYSIS
+analysis-known : (b c : List ℕ) → Known (analyseValues b c)
+analysis-known b c = go (readScript b) (readScript c) refl refl
+  where
+    said : (a : Answer) → Known (valuesOf (byAnswer a))
+    said free = record { number = omega arith; which = omega arith }
+    said upward = record { number = omega arith; which = omega arith }
+    said meet = record { number = omega arith; which = omega arith }
+
+    go : (q r : Parsed) → readScript b ≡ q → readScript c ≡ r → Known (valuesOf (analysisOf (firstBy q r)))
+    go (ill f) r e g =
+        let k = isIn-at 1 5 (f .number) (refusedByTable .1 b f e) in record { number = omega arith; which = omega arith }
+    go (parsed x i n l) (ill f) e g =
+        let k = isIn-at 1 5 (f .number) (refusedByTable .1 c f g) in record { number = omega arith; which = omega arith }
+    go (parsed x i n l) (parsed y j m k) e g = said (answer x y)
+
+pub answersDecode : AnswersDecode
+answersDecode = (
+  λ p o. decodes (planValues p o) (plan-known p o _ (written-known (planRead p .table) o)),
+  λ p o.
+      decodes (sweepValues p o)
+      (plan-known p o _ (finished-known (planSwept (planRead p .table)) 1 o (swept-low (planRead p .table)) (omega arith))),
+  λ p h o.
+      decodes (undoValues p h o)
+      (plan-known p o _ (finished-known (planUndone (planRead p .table) h) 2 o (undone-low (planRead p .table) h) (omega arith))),
+  λ p s a h w o d. decodes (runCalled p s a h w o d .values) (run-known p s a h w o d),
+  λ b c. decodes (analyseValues b c) (analysis-known b c),
+)
