@@ -19,13 +19,12 @@ use Rattle.codes.specs.Codes.{codeOf, lentValues, writtenValues}
 use Rattle.model.specs.Refusal.{values}
 
 -- a script's refusal, or none
-pub script-read : (b : List ℕ) (f : Fault) (c : ℕ) → f ≡ scriptRead b → f .number ≡ 0 → c ≡ codeOf (values 0 0 0) → c ≡ codeOf
-    (scriptValues b)
+pub script-read : (b : List ℕ) (f : Fault) (c : ℕ) → f ≡ scriptRead b → f .number ≡ 0 → c ≡ codeOf (values 0 0 0) →
+    c ≡ codeOf (scriptValues b)
 script-read b f c e z g = g ∙ rw (sym (ap (λ (t : Fault). t .number) e) ∙ z)
 
-pub script-refused : (b : List ℕ) (f : Fault) (c : ℕ) → f ≡ scriptRead b → (f .number ≡ 0 → ⊥) → c ≡ codeOf
-    (values (f .number) 2 (f .place)) → c
-    ≡ codeOf (scriptValues b)
+pub script-refused : (b : List ℕ) (f : Fault) (c : ℕ) → f ≡ scriptRead b → (f .number ≡ 0 → ⊥) →
+    c ≡ codeOf (values (f .number) 2 (f .place)) → c ≡ codeOf (scriptValues b)
 script-refused b f c e z g =
     let y : scriptRead b .number ≡ 0 → ⊥ = λ q. z (ap (λ (t : Fault). t .number) e ∙ q) in
     g ∙ ap (λ (t : Fault). codeOf (values (t .number) 2 (t .place))) e ∙ rw (ne-eqb (scriptRead b .number) 0 y)
@@ -42,8 +41,8 @@ is-given ws ms e f = rw (eq-eqb (length ws) 512 e, eq-eqb (length ms) 8 f)
 
 module _ (n : ℕ) (ws ms : List ℕ) where
   module _ (o : List ℕ) where
-    pub write-not : (c : ℕ) → c ≡ codeOf lentValues → isGiven ws ms ≡ false → (c ≡ codeOf (writeValues n ws ms o)) ×
-    (o ≡ writeOut n ws ms o)
+    pub write-not : (c : ℕ) → c ≡ codeOf lentValues → isGiven ws ms ≡ false →
+        (c ≡ codeOf (writeValues n ws ms o)) × (o ≡ writeOut n ws ms o)
     write-not c e z = (e ∙ rw z, rw z)
 
     module _ (t : Table) (same : t ≡ given n ws ms) (w : Written) (o′ : List ℕ) (h : isGiven ws ms ≡ true)
@@ -54,20 +53,19 @@ module _ (n : ℕ) (ws ms : List ℕ) where
       out-given : o′ ≡ writeOut n ws ms o
       out-given = left ∙ ap (λ (u : Table). library.writtenOut u o) same ∙ rw h
 
-      pub write-link : (c : ℕ) → c ≡ codeOf (values (w .fault .number) 1 0) → w .fault .number ≡ 6 → (c ≡ codeOf (writeValues n ws ms o))
-      × (o′ ≡ writeOut n
-          ws ms o)
+      pub write-link : (c : ℕ) → c ≡ codeOf (values (w .fault .number) 1 0) → w .fault .number ≡ 6 →
+          (c ≡ codeOf (writeValues n ws ms o)) × (o′ ≡ writeOut n ws ms o)
       write-link c e z =
           let k : library.planWritten (given n ws ms) o .fault .number ≡ 6 = sym (ap (λ (v : Written). v .fault .number) as-given) ∙ z in
           (e ∙ ap (λ (j : ℕ). codeOf (values j 1 0)) z ∙ rw (h, k), out-given)
 
-      pub write-rest : (c : ℕ) → c ≡ codeOf (writtenValues w) → (w .fault .number ≡ 6 → ⊥) → (c ≡ codeOf (writeValues n ws ms o)) ×
-      (o′ ≡ writeOut n ws ms o)
+      pub write-rest : (c : ℕ) → c ≡ codeOf (writtenValues w) → (w .fault .number ≡ 6 → ⊥) →
+          (c ≡ codeOf (writeValues n ws ms o)) × (o′ ≡ writeOut n ws ms o)
       write-rest c e z =
           let k : library.planWritten (given n ws ms) o .fault .number ≡ 6 → ⊥ = λ q. z (ap (λ (v : Written). v .fault .number) as-given
           ∙ q) in
-          (e ∙ ap (λ (v : Written). codeOf (writtenValues v)) as-given ∙ rw (h, ne-eqb (library.planWritten (given n ws ms) o .fault
-          .number) 6 k), out-given)
+          let f = ne-eqb (library.planWritten (given n ws ms) o .fault .number) 6 k in
+          (e ∙ ap (λ (v : Written). codeOf (writtenValues v)) as-given ∙ rw (h, f), out-given)
 
   -- sweeping in place
   abbrev Left : (code : ℕ) → (rows marks : List ℕ) → Type 0
