@@ -235,23 +235,21 @@ static void check_run(const uint8_t *plan, size_t plan_length, struct run run) {
     check(is_zero(work, 0, sizeof work), run.name);
 }
 
-/* One area is an element too short. Of `out` and `done` that comes before all else and touches nothing, the numbers included; of the run's
- * areas it comes after the plan's refusal and before the script's, touches none of the three and leaves the numbers zero. */
-static void check_too_short(const uint8_t *plan, size_t plan_length, const uint8_t *script, size_t script_length, uint64_t plan_code) {
+/* One area is an element too short, or empty: that comes before all else, a refused plan or script included, and every byte of every area
+ * stays as it was. */
+static void check_too_short(const uint8_t *plan, size_t plan_length, const uint8_t *script, size_t script_length) {
     size_t i;
-    for (i = 0; i < 5; i++) {
-        size_t lengths[] = {YEGNABIT_OUT, YEGNABIT_DONE, YEGNABIT_ANSWER_AREA, YEGNABIT_HISTORY_AREA, YEGNABIT_WORK_AREA};
-        int before_all = i < 2;
-        lengths[i]--;
+    for (i = 0; i < 10; i++) {
+        size_t lengths[] = {YEGNABIT_ANSWER_AREA, YEGNABIT_HISTORY_AREA, YEGNABIT_WORK_AREA, YEGNABIT_OUT, YEGNABIT_DONE};
+        lengths[i % 5] = i < 5 ? lengths[i] - 1 : 0;
         fill_areas();
-        check(yegnabit_run(plan, plan_length, script, script_length, answer, lengths[2], history, lengths[3], work, lengths[4], out,
-                           lengths[0], done, lengths[1]) == (before_all || plan_code == 0 ? TOO_SHORT : plan_code),
+        check(yegnabit_run(plan, plan_length, script, script_length, answer, lengths[0], history, lengths[1], work, lengths[2], out,
+                           lengths[3], done, lengths[4]) == TOO_SHORT,
               "a run, an area too short");
         check(is_kept(answer, 0, sizeof answer), "an answer area left alone");
         check(is_kept(history, 0, sizeof history), "a history area left alone");
         check(is_kept(work, 0, sizeof work), "a work area left alone");
-        check(before_all || is_zero(done, 0, YEGNABIT_DONE * sizeof done[0]), "numbers zero");
-        check(is_kept(done, before_all ? 0 : YEGNABIT_DONE * sizeof done[0], sizeof done), "numbers left alone");
+        check(is_kept(done, 0, sizeof done), "numbers left alone");
         check_kept("an `out` left alone");
     }
 }
@@ -281,9 +279,10 @@ static void runs(void) {
 
     for (i = 0; i < sizeof on_p / sizeof on_p[0]; i++) check_run(ALL(plan_p), on_p[i]);
     check_run(ALL(leaf_parent), on_refused);
-    check_too_short(ALL(plan_p), ALL(script_b), 0);
-    check_too_short(ALL(plan_p), nothing, 0, 0);
-    check_too_short(ALL(leaf_parent), nothing, 0, on_refused.code);
+    check_too_short(ALL(plan_p), ALL(script_b));
+    check_too_short(ALL(plan_p), nothing, 0);
+    check_too_short(ALL(leaf_parent), ALL(script_b));
+    check_too_short(ALL(leaf_parent), nothing, 0);
 
     /* 512 rows, all but the first under it, and document 0's mark */
     for (i = 0; i < ROWS; i++) {

@@ -164,36 +164,30 @@ impl Areas {
     }
 }
 
-/// Reads a stored plan, runs a script on it and writes the plan back. An `out`
-/// or `done` too short is refused before all else. If the plan is refused,
-/// nothing runs; the run's areas are zero as after a refused run, or untouched
-/// if one of them is too short. Every refused call past the first leaves `done`
-/// zero.
+/// Reads a stored plan, runs a script on it and writes the plan back. One of
+/// the five areas too short is refused before all else, and nothing is
+/// touched. A call refused after that leaves `out` as it was and the other
+/// four areas zero, of `done` its six numbers.
 pub fn run(plan: &[u8], script: &[u8], areas: Lent<'_>) -> Answer {
-    if areas.out.len() < PLAN_BYTES || areas.done.len() < DONE_NUMBERS {
-        return lent();
-    }
-    let done = &mut areas.done[..DONE_NUMBERS];
-    done.fill(0);
     let mut lent_to_run = running::Areas {
         answer: areas.answer,
         work: areas.work,
         history: areas.history,
     };
+    if lent_to_run.is_short() || areas.out.len() < PLAN_BYTES || areas.done.len() < DONE_NUMBERS {
+        return lent();
+    }
+    let done = &mut areas.done[..DONE_NUMBERS];
+    done.fill(0);
     let mut table = match stored::read(plan) {
         Ok(table) => table,
         Err(refusal) => {
-            if !lent_to_run.is_short() {
-                lent_to_run.clear();
-            }
+            lent_to_run.clear();
             return Answer::refused(WHICH_PLAN, refusal);
         }
     };
     let ran = match running::run(&mut table, script, lent_to_run) {
         Ok(ran) => ran,
-        Err(refusal) if refusal.number == Number::Lent => {
-            return Answer::refused(WHICH_AREA, refusal)
-        }
         Err(refusal) => return Answer::refused(WHICH_SCRIPT, refusal),
     };
     let length = match stored::encode(&table, areas.out) {

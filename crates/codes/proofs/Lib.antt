@@ -1,1 +1,2 @@
 pub mod FinishLaws
+pub mod DecodeLaws

@@ -27,7 +27,8 @@ use Rattle.undo.specs.Undoing.{planUndone, undoneBy}
 use Rattle.paths.specs.Analysis.{analysisOf, byAnswer, valuesOf}
 use Rattle.run.specs.Calls.{runResult}
 use Rattle.run.proofs.Promised.{refusedLeaves}
-use Rattle.codes.specs.Codes.{maxPlaces, codeOf, lentValues, valuesUnless, writtenValues, finishedValues}
+use Rattle.codes.proofs.DecodeLaws.{number-back, which-back, place-back}
+use Rattle.codes.specs.Codes.{lentValues, valuesUnless, writtenValues, finishedValues}
 use Rattle.yegnabit.specs.Calls.{onPlan, planValues, sweepValues, undoValues, analyseValues}
 use Rattle.yegnabit.specs.Running.{Called, runCalled}
 use Rattle.lent.specs.Done.{outNeed, lentFit}
@@ -40,9 +41,9 @@ record Known (v : Values) : Type 0 where
 
 decodes : (v : Values) → Known v → Decodes v
 decodes v k =
-    let n = k .number in
-    let w = k .which in
-    (omega arith, omega arith, λ (h : v .place < maxPlaces). omega arith, isIn-by 0 11 (v .number) (omega arith) n)
+    let n : v .number < 256 = omega (arith, k .number) in
+    let w : v .which < 256 = omega (arith, k .which) in
+    (number-back v n w, which-back v n w, place-back v n w, isIn-by 0 11 (v .number) (omega arith) (k .number))
 
 lent-known : Known lentValues
 lent-known = record { number = omega arith; which = omega arith }
