@@ -18,9 +18,12 @@ abbrev pub ascii : String → List ℕ
 ascii s = codesFrom (len s) 0 s
 
 -- A NUMBER in decimal: the highest digit first, no zero in front; fuel: how many digits it may have
+abbrev pub lastDigit : (n : ℕ) → ℕ
+lastDigit n = 48 + n % 10
+
 unfoldable pub digits : ℕ → (n : ℕ) → List ℕ
 digits zero n = []
-digits (suc k) n = pick (ltb n 10) ((48 + n) ∷ []) (digits k (n / 10) ++ ((48 + n % 10) ∷ []))
+digits (suc k) n = pick (ltb n 10) ((48 + n) ∷ []) (digits k (n / 10) ++ (lastDigit n ∷ []))
 
 -- 20 digits hold every number of 64 bits
 abbrev pub decimal : (n : ℕ) → List ℕ
