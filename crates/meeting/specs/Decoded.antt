@@ -8,7 +8,7 @@ use Rattle.meeting.specs.declared.cells.Cell.{Cell}
 
 -- a step
 abbrev pub stepOf : Step → model.Step
-stepOf s = model.stepBy (s .axis) (s .test) (s .name)
+stepOf s = model.stepBy (s .axis) (s .test) (s .name .0)
 
 -- a cell: a bit for each of its tests
 abbrev pub cellBits : (byte : ℕ) → meeting.Cell
