@@ -1,4 +1,4 @@
--- The number that a C call answers, and a plan written by one. Assumes nothing: these are definitions.
+-- The number that a C call answers, and a plan written by one.
 use mathlib.Core.List.{List}
 use Prim.Native.Nat.{ℕ, _+_, _*_, _%_}
 use lib.Dec.{eqb}

@@ -1,4 +1,4 @@
--- Emission from a script's bytes, in place: what each part asks and leaves. Assumes nothing: these are definitions.
+-- Emission from a script's bytes, in place: what each part asks and leaves.
 use mathlib.Core.Path.{_≡_}
 use mathlib.Core.Bool.{true}
 use mathlib.Core.List.{List}

@@ -1,4 +1,4 @@
--- Words in bytes, numbers in decimal, and a text placed in an area. Assumes nothing: these are definitions.
+-- Words in bytes, numbers in decimal, and a text placed in an area.
 use mathlib.Core.Path.{_≡_}
 use mathlib.Core.Bool.{true}
 use mathlib.Core.List.{List, [], _∷_, _++_}

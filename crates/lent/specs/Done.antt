@@ -1,4 +1,4 @@
--- The areas lent to a run through C, and what they hold once it is over. Assumes nothing: these are definitions.
+-- The areas lent to a run through C, and what they hold once it is over.
 use mathlib.Core.Path.{_≡_}
 use mathlib.Core.Bool.{Bool, true, _||_}
 use mathlib.Core.List.{List, [], _∷_}

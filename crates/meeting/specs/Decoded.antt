@@ -1,4 +1,4 @@
--- The code's steps and cells as the model's. Assumes nothing: these are definitions.
+-- The code's steps and cells as the model's.
 use Prim.Native.Nat.{ℕ, _/_, _%_}
 use lib.Dec.{eqb}
 use Rattle.model.specs.Script as model

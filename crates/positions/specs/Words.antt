@@ -1,4 +1,4 @@
--- A position packed into a word, and what a list of words says. Assumes nothing: these are definitions.
+-- A position packed into a word, and what a list of words says.
 use mathlib.Core.Path.{_≡_}
 use mathlib.Core.Bool.{Bool}
 use mathlib.Core.List.{List, [], _∷_, _++_, map}

@@ -1,4 +1,4 @@
--- What the C calls for tests answer and leave, for every input. Assumes nothing: these are definitions.
+-- What the C calls for tests answer and leave, for every input.
 use mathlib.Core.Bool.{_&&_}
 use mathlib.Core.List.{List}
 use Prim.Native.Nat.{ℕ}

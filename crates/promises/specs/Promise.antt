@@ -1,6 +1,6 @@
 -- What the C calls leave, in the model's own words: the plan is read, and what is written is the stored form of the table that the rules
 -- give. At the end demand 3, of the library's `analyse` and `run` and of the C calls. Each promise is a type; a term of it in proofs/ is
--- its proof. Assumes nothing.
+-- its proof.
 use mathlib.Core.Path.{_≡_}
 use mathlib.Core.Bool.{true, false}
 use mathlib.Core.List.{List}

@@ -1,4 +1,4 @@
--- What the C calls answer and leave, for every input, from what the calls of the library answer. Assumes nothing: these are definitions.
+-- What the C calls answer and leave, for every input, from what the calls of the library answer.
 use mathlib.Core.List.{List}
 use Prim.Native.Nat.{ℕ}
 use lib.Dec.{ltb}

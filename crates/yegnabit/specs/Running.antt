@@ -1,4 +1,4 @@
--- What the C call for a run answers and leaves in its five lent areas, for every input. Assumes nothing: these are definitions.
+-- What the C call for a run answers and leaves in its five lent areas, for every input.
 use mathlib.Core.List.{List}
 use Prim.Native.Nat.{ℕ}
 use lib.Dec.{eqb}
