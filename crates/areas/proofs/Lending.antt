@@ -2,7 +2,7 @@
 --     lends g     the MIR of both: the tally is copied into a local, which is lent to g and then returned
 --     lend-meets  the result is `up` of the tally, where g meets the contract that it leaves `up` of what it is lent
 -- The local is lent for a lifetime that is made for the call, and comes back at the record that g left. All that is known of g is that it
--- meets its contract. Assumes nothing.
+-- meets its contract.
 use mathlib.Core.Path.{_≡_, refl}
 use Prim.Native.Nat.{ℕ}
 use mathlib.Core.List.{[], _∷_, List}

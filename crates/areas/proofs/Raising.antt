@@ -2,7 +2,7 @@
 --     raises g     the MIR of both: the record is read out and handed to g, and what g returns is stored
 --     raise-meets  at exit the tally is `up` of what it was, where g meets the contract that its result is `up` of the tally
 -- The borrow is opened, g is called, and the borrow is closed at the record that g returned. All that is known of g is that it meets its
--- contract. Assumes nothing.
+-- contract.
 use mathlib.Core.Path.{_≡_, refl}
 use Prim.Native.Nat.{ℕ}
 use mathlib.Core.List.{[], _∷_, List}

@@ -1,5 +1,4 @@
--- The tally of a run: document 01's "One tally follows a run: rows made, links cut, records written". Assumes nothing: these are
--- definitions.
+-- The tally of a run: document 01's "One tally follows a run: rows made, links cut, records written".
 use mathlib.Core.Path.{_≡_}
 use Prim.Native.Nat.{_+_, _<_}
 use Rattle.model.specs.Limits.{maxHistory}

@@ -3,7 +3,6 @@
 -- after, joinPaths, thenPaths, inserting, deleting, stepping, infer, prefixesOf, prefixed, traversed, isUp, hasUp, canBeElement, agree,
 -- agreeElement, meetOn, meetFrom, meets, anyMeet, pathsOf, judged.
 -- Ours serve for the rest, being the same: Place, place, Step, stepBy, anyBelow, isDeep.
--- Assumes nothing: these are definitions.
 use mathlib.Core.Bool.{Bool, true, false, _&&_, _||_, not}
 use mathlib.Core.List.{List, [], _∷_, _++_}
 use Prim.Native.Nat.{ℕ, zero, suc, _+_}

@@ -3,7 +3,6 @@
 -- madeBy, OrdersEqual, FreeCommutes, StoredBack, RunsBack, SweepsWell, and planP to Cases but for tableBy.
 -- Ours serve for the rest, being the same with some parts of a definition named, or a recursion written as a map (proved equal in
 -- proofs/Kept): areBytes, Places, isTree, rowsAt, ArePlaces, tableOf, answerOf, historyOf, ends, newRows, matched to PlansEqual, tableBy.
--- Assumes nothing: these are definitions.
 use mathlib.Core.Path.{_≡_}
 use mathlib.Core.Logic.{_↔_}
 use mathlib.Core.Bool.{Bool, true, false, _&&_, _||_}

@@ -8,7 +8,6 @@
 -- Of specs/Run: Record to andThen; parentIs to reaches; joinItems to relates; chosen, here picked; made to marked; recordBytes to
 -- replayAll; recordSize, here historySize; recordIn to withPlaced; sameParent to sameBool; oldParentFits to undone; Back and refusedBack,
 -- here Undo and refused; backwards.
--- Assumes nothing: these are definitions.
 use mathlib.Core.Bool.{Bool, true, false, _&&_, not}
 use mathlib.Core.List.{List, [], _∷_, _++_}
 use mathlib.Core.Option.{none}

@@ -2,7 +2,6 @@
 -- are counted by 'suc'. Each definition below is that of the same name in document 03's specs/Script: Expr, Parsed, thenParse, one, two,
 -- three, operands, parseFrom, whole, readScript.
 -- Ours serve for the rest, being the same with kinds, limits and refusals named: bodySize, testFits, bodyFits, isBinder, exprFault.
--- Assumes nothing: these are definitions.
 use mathlib.Core.List.{List}
 use Prim.Native.Nat.{ℕ, zero, suc, _+_}
 use lib.Dec.{eqb}

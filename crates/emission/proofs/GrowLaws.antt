@@ -20,15 +20,15 @@ use Rattle.meeting.specs.declared.cells.Step.{Step}
 use Rattle.positions.proofs.WordLaws.{entriesIn-length}
 
 -- FIELDS in range
-fits-by : {p q : Position} → p ≡ q → q .kind < 4 → q .role < 4 → q .axis < 4 → q .test < 4 → q .name < 256 → q .first < 128 →
+fits-by : {p q : Position} → p ≡ q → q .kind < 4 → q .role < 4 → q .axis < 4 → q .test < 4 → q .label < 256 → q .first < 128 →
     q .second < 128 → PositionFits p
 fits-by e k m a t n f s =
-    subst PositionFits (sym e) (record { kind = k; role = m; axis = a; test = t; name = n; first = f; second = s })
+    subst PositionFits (sym e) (record { kind = k; role = m; axis = a; test = t; label = n; first = f; second = s })
 
 pub root-fits : {p : Position} {d : ℕ} → p ≡ rootBy d → d < 256 → PositionFits p
 root-fits e h = fits-by e (omega arith) (omega arith) (omega arith) (omega arith) h (omega arith) (omega arith)
 
-pub over-fits : {p : Position} {m : ℕ} (s : Step) {i : ℕ} → p ≡ overBy m s i → m < 4 → s .axis < 4 → s .test < 4 → s .name < 256 →
+pub over-fits : {p : Position} {m : ℕ} (s : Step) {i : ℕ} → p ≡ overBy m s i → m < 4 → s .axis < 4 → s .test < 4 → s .name .0 < 256 →
     i < 128 → PositionFits p
 over-fits s e a b c d f = fits-by e (omega arith) a b c d f (omega arith)
 

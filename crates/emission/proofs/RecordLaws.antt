@@ -13,12 +13,10 @@ use Rattle.records.proofs.BindLaws.{withBound-set, withBound-same}
 use Rattle.records.specs.Walk.{inner}
 use Rattle.positions.specs.Positions.{accessing, root}
 use Rattle.positions.specs.Positions as positions
-use Rattle.meeting.specs.Decoded.{stepOf}
 use Rattle.positions.specs.Words.{entryBy, rootBy, entriesIn, PushPost}
 use Rattle.emission.specs.Emitting.{outOf, nullaryOf, unaryOf, binaryOf, UnaryPre, PairedPre, Grown, NullaryPre, NullaryPost}
 use Rattle.emission.specs.Emitting.{BindPre, BindPost}
 use Rattle.positions.specs.declared.packed.Position.{Position}
-use Rattle.meeting.specs.declared.cells.Step.{Step}
 use Rattle.emission.proofs.GrowLaws.{pushed-is, grown-none}
 
 -- WITHOUT OPERANDS
@@ -52,14 +50,10 @@ grown-as : {goal goal′ : positions.Emitted} {n : ℕ} {ws′ : List ℕ} {n′
 grown-as {n = n} {ws′ = ws′} {n′ = n′} {r = r} = subst (λ (x : positions.Emitted). Grown x n ws′ n′ r)
 
 module _ {b : List ℕ} {at : ℕ} {ws : List ℕ} {n x : ℕ} (pre : UnaryPre b at ws n x) where
-  pub unary-step : getD b at 0 ≡ 4 → (s : Step) → s .axis ≡ getD b (at + 1) 0 → s .test ≡ getD b (at + 2) 0 → s .name ≡ getD b (at + 3) 0 →
-      {ws′ : List ℕ} {n′ r : ℕ} → Grown (positions.pushStep (stepOf s) (outOf ws n x)) n ws′ n′ r →
+  pub unary-step : getD b at 0 ≡ 4 → {a t m : ℕ} → a ≡ getD b (at + 1) 0 → t ≡ getD b (at + 2) 0 → m ≡ getD b (at + 3) 0 →
+      {ws′ : List ℕ} {n′ r : ℕ} → Grown (positions.pushStep (model.stepBy a t m) (outOf ws n x)) n ws′ n′ r →
       Grown (unaryOf b at (outOf ws n x)) n ws′ n′ r
-  unary-step k s e f g =
-      grown-as
-      (ap (λ (a : ℕ). positions.pushStep (model.stepBy a (s .test) (s .name)) (outOf ws n x)) e ∙
-      ap (λ (t : ℕ). positions.pushStep (model.stepBy (getD b (at + 1) 0) t (s .name)) (outOf ws n x)) f ∙
-      ap (λ (m : ℕ). positions.pushStep (model.stepBy (getD b (at + 1) 0) (getD b (at + 2) 0) m) (outOf ws n x)) g ∙ rw k)
+  unary-step k e f g = grown-as (rw (e, f, g, k))
 
   pub unary-delete : getD b at 0 ≡ 11 → {ws′ : List ℕ} {n′ r : ℕ} → Grown (positions.pushDelete (outOf ws n x)) n ws′ n′ r →
       Grown (unaryOf b at (outOf ws n x)) n ws′ n′ r

@@ -14,7 +14,7 @@ use Rattle.model.proofs.BoolLaws.{by-cases, and-left, eq-cases}
 use Rattle.records.specs.Walk.{withBound, arity, inner, firstAt, secondAt, thirdAt, exprAt}
 use Rattle.script.specs.Accepted.{Accepted, RecordFits}
 use Rattle.script.proofs.AcceptedLaws.{accepted-record}
-use Rattle.script.proofs.FieldLaws.{document-number, variable-number, step-axis, step-test}
+use Rattle.script.proofs.FieldLaws.{variable-number, step-axis, step-test}
 use Rattle.positions.specs.Positions.{emit}
 use Rattle.positions.specs.Positions as positions
 use Rattle.positions.specs.Words.{entriesIn}
@@ -64,7 +64,6 @@ module _ {b : List ℕ} {at left v : ℕ} {env ws : List ℕ} {n : ℕ} (pre : E
         room = omega (arith, pre .room, o .size);
         some = pre .some;
         whole = fits .whole;
-        document = λ e. omega (arith, document-number fits e);
         variable = λ e. omega (arith, variable-number fits e, pre .scope, pre .variables);
         low = λ e. pre .low (getD b (at + 1) 0) (variable-number fits e);
       }

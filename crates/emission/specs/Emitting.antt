@@ -1,4 +1,4 @@
--- Emission from a script's bytes, in place: what each part asks and leaves. Assumes nothing: these are definitions.
+-- Emission from a script's bytes, in place: what each part asks and leaves.
 use mathlib.Core.Path.{_≡_}
 use mathlib.Core.Bool.{true}
 use mathlib.Core.List.{List}
@@ -45,7 +45,7 @@ pub record StepPre (ws : List ℕ) (n : ℕ) (s : Step) (x : ℕ) : Type 0 where
   pub grow : GrowPre ws n x
   pub axis : s .axis < 4
   pub test : s .test < 4
-  pub name : s .name < 256
+  pub name : s .name .0 < 256
 
 pub record PairedPre (ws : List ℕ) (n x y : ℕ) : Type 0 where
   pub grow : GrowPre ws n y
@@ -75,7 +75,6 @@ pub record NullaryPre (b : List ℕ) (at : ℕ) (env ws : List ℕ) (n : ℕ) : 
   pub room : n < maxPositions
   pub some : 0 < n
   pub whole : at + bodySize (getD b at 0) < length b
-  pub document : getD b at 0 ≡ documentKind → getD b (at + 1) 0 < 256
   pub variable : getD b at 0 ≡ variableKind → getD b (at + 1) 0 < length env
   pub low : getD b at 0 ≡ variableKind → getD env (getD b (at + 1) 0) 0 < n
 

@@ -1,6 +1,7 @@
 // Emission: one pass over an accepted script in place numbers the positions of its expressions, operands first. A function that
 // answers a position answers its number, 0 for nothing; `count`, the positions so far, is raised by those that are added.
 ghost use mathlib.Core.Path.{_≡_};
+ghost use Prim.Native.Nat.{_<_};
 ghost use Rattle.model.specs.Paths.{anyBelow};
 ghost use Rattle.positions.specs.Positions.{pushStep, pushUnion, pushDelete, pushInsert};
 ghost use Rattle.meeting.specs.Decoded.{stepOf};
@@ -12,8 +13,17 @@ use meeting::pairs;
 use positions::packed;
 use positions::packed::Position;
 use records::kinds;
+use table::NameNumber;
 use table::Table;
 use table::number;
+
+// A byte as a name or a document.
+fn wide(b: u8) -> u16
+    ensures { λ r. ⌜ r ≡ b ⌝ }
+    ensures { λ r. ⌜ r < 256 ⌝ }
+{
+    b as u16
+}
 
 // The step to every node below.
 fn any_below() -> Step
@@ -22,7 +32,7 @@ fn any_below() -> Step
     Step {
         axis: cells::DESCENDANT,
         test: cells::ANY_NODE,
-        name: 0,
+        name: NameNumber(0),
     }
 }
 
@@ -113,7 +123,7 @@ fn nullary(
     let kind = bytes[at];
     if kind == kinds::DOCUMENT {
         let n = *count;
-        packed::push(words, n, Position::root(number::byte(bytes[at + 1])));
+        packed::push(words, n, Position::root(wide(bytes[at + 1])));
         *count = n + 1;
         return n;
     }
@@ -141,7 +151,7 @@ fn unary(
         let s = Step {
             axis: number::byte(bytes[at + 1]),
             test: number::byte(bytes[at + 2]),
-            name: number::byte(bytes[at + 3]),
+            name: NameNumber(wide(bytes[at + 3])),
         };
         return step(words, count, s, x);
     }

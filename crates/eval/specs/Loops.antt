@@ -1,4 +1,4 @@
--- The contract of a loop over the items of a 'for'. Assumes nothing: these are definitions.
+-- The contract of a loop over the items of a 'for'.
 use mathlib.Core.List.{List, [], _∷_, _++_}
 use Prim.Native.Nat.{ℕ, _+_, _≤_, _<_}
 use lib.ListN.{length}

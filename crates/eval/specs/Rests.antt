@@ -1,4 +1,4 @@
--- The contracts of what is left of a record once its first operand has come to a value. Assumes nothing: these are definitions.
+-- The contracts of what is left of a record once its first operand has come to a value.
 use mathlib.Core.Path.{_≡_}
 use mathlib.Core.Bool.{true}
 use mathlib.Core.List.{List, []}

@@ -29,7 +29,7 @@ use Rattle.positions.proofs.PositionLaws.{one-source, no-source, cell-by}
 
 -- THE KIND of a position
 module _ (p : Position) where
-  kind-root : p .kind ≡ 1 → positionBy p ≡ positions.root (p .name)
+  kind-root : p .kind ≡ 1 → positionBy p ≡ positions.root (p .label)
   kind-root e = rw e
 
   kind-over : p .kind ≡ 2 → positionBy p ≡ positions.over (stepIn p) (p .first)
@@ -45,7 +45,7 @@ module _ (p : Position) where
   not-union : (P : positions.Position → Type 0) → p .kind < 4 → (p .kind ≡ 3 → ⊥) → P positions.nowhere →
       ((d : ℕ) → P (positions.root d)) → ((s : Step) (i : ℕ) → P (positions.over s i)) → P (positionBy p)
   not-union P l h a b c =
-      eq-cases (p .kind) 1 (λ e. subst P (sym (kind-root e)) (b (p .name)))
+      eq-cases (p .kind) 1 (λ e. subst P (sym (kind-root e)) (b (p .label)))
       (λ e. eq-cases (p .kind) 2 (λ f. subst P (sym (kind-over f)) (c (stepIn p) (p .first)))
       (λ f. subst P (sym (kind-nowhere l e f h)) a))
 
@@ -78,10 +78,10 @@ module _ (t : Cells) (k l : ℕ) (q : Position) (r : Cell) where
       r ≡ sourcesCell k l t (x ∷ []) (sourcesOf (positionBy q))
   to-nothing x f g h = h ∙ sym (ap (sourcesCell k l t (x ∷ [])) (no-sources q f g) ∙ no-source k l t x)
 
-  to-root : (x : Source) → q .kind ≡ 1 → r ≡ sourceCell k l t x (fromRoot (q .name)) →
+  to-root : (x : Source) → q .kind ≡ 1 → r ≡ sourceCell k l t x (fromRoot (q .label)) →
       r ≡ sourcesCell k l t (x ∷ []) (sourcesOf (positionBy q))
   to-root x e h =
-      h ∙ sym (one-source k l t x (fromRoot (q .name))) ∙
+      h ∙ sym (one-source k l t x (fromRoot (q .label))) ∙
       sym (ap (λ (y : positions.Position). sourcesCell k l t (x ∷ []) (sourcesOf y)) (kind-root q e))
 
   to-step : (x : Source) → q .kind ≡ 2 → r ≡ sourceCell k l t x (fromStep (stepIn q) (q .first)) →
@@ -90,7 +90,7 @@ module _ (t : Cells) (k l : ℕ) (q : Position) (r : Cell) where
       h ∙ sym (one-source k l t x (fromStep (stepIn q) (q .first))) ∙
       sym (ap (λ (y : positions.Position). sourcesCell k l t (x ∷ []) (sourcesOf y)) (kind-over q e))
 
-  pub root-root : (d : ℕ) → q .kind ≡ 1 → r ≡ rootsCell d (q .name) → r ≡ sourcesCell k l t (fromRoot d ∷ []) (sourcesOf (positionBy q))
+  pub root-root : (d : ℕ) → q .kind ≡ 1 → r ≡ rootsCell d (q .label) → r ≡ sourcesCell k l t (fromRoot d ∷ []) (sourcesOf (positionBy q))
   root-root d e h = to-root (fromRoot d) e h
 
   pub root-step : (d : ℕ) → q .kind ≡ 2 → (g : Cell) (s : Step) → r ≡ upStep s g → s ≡ stepIn q → g ≡ t k (q .first) →
@@ -160,10 +160,10 @@ module _ (t : Cells) (k l : ℕ) (p q : Position) (r : Cell) where
           not-union q (λ (y : positions.Position). sourcesCell k l t xs (sourcesOf y) ≡ cellTo k l t xs y) low₂ not₂ refl
           (λ d. refl) (λ s n. refl)
 
-      pub first-root : p .kind ≡ 1 → r ≡ sourcesCell k l t (fromRoot (p .name) ∷ []) (sourcesOf (positionBy q)) →
+      pub first-root : p .kind ≡ 1 → r ≡ sourcesCell k l t (fromRoot (p .label) ∷ []) (sourcesOf (positionBy q)) →
           r ≡ cellBy k l t (positionBy p) (positionBy q)
       first-root e h =
-          h ∙ to-sources (fromRoot (p .name) ∷ []) ∙ sym (ap (λ (x : positions.Position). cellBy k l t x (positionBy q)) (kind-root p e))
+          h ∙ to-sources (fromRoot (p .label) ∷ []) ∙ sym (ap (λ (x : positions.Position). cellBy k l t x (positionBy q)) (kind-root p e))
 
       pub first-step : p .kind ≡ 2 → r ≡ sourcesCell k l t (fromStep (stepIn p) (p .first) ∷ []) (sourcesOf (positionBy q)) →
           r ≡ cellBy k l t (positionBy p) (positionBy q)

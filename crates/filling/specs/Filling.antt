@@ -1,4 +1,4 @@
--- Contracts of what fills the table of pairs and answers whether two scripts' positions meet. Assumes nothing: these are definitions.
+-- Contracts of what fills the table of pairs and answers whether two scripts' positions meet.
 use mathlib.Core.Path.{_≡_}
 use mathlib.Core.Bool.{Bool, false}
 use mathlib.Core.List.{List, []}

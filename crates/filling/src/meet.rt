@@ -33,7 +33,7 @@ fn from_root(table: &[Marks], k: usize, l: usize, p: Position, q: Position) -> C
     ensures { λ r. ⌜ cellOf r ≡ sourcesCell k l (marks (now (table .entry))) (rootSource p ∷ []) (sourcesOf (positionBy q)) ⌝ }
 {
     if q.kind == packed::ROOT {
-        return Cell::roots(p.name, q.name);
+        return Cell::roots(p.label, q.label);
     }
     if q.kind == packed::OVER {
         return pairs::marked(table, k, q.first).up_step(q.step());

@@ -10,7 +10,7 @@ use lib.ListN.{length, getD, length-append, List·getD-append}
 use borrow.Author.Tests.{lt-ltb, le-leb, ltb-true, ltb-false}
 use Rattle.model.specs.Base.{isIn, all}
 use Rattle.model.proofs.BoolLaws.{by-cases, and-left, and-right, and-both}
-use Rattle.format.specs.Text.{digits, valueFrom, DecimalBack}
+use Rattle.format.specs.Text.{lastDigit, digits, valueFrom, DecimalBack}
 use Rattle.format.proofs.TextLaws.{digits-low, digits-high}
 
 value-last : (v : ℕ) (ds : List ℕ) (d : ℕ) → valueFrom v (ds ++ (d ∷ [])) ≡ 10 * valueFrom v ds + (d - 48)
@@ -28,7 +28,7 @@ value-digits (suc k) n h =
     by-cases (ltb n 10) (λ l. ap (valueFrom 0) (digits-low (suc k) n l) ∙ value-one n)
     (λ l.
     let e : valueFrom 0 (digits (suc k) (n / 10)) ≡ n / 10 = value-digits k (n / 10) (omega (arith, h, pow-suc 10 (suc k))) in
-    ap (valueFrom 0) (digits-high (suc k) n l) ∙ value-last 0 (digits (suc k) (n / 10)) (48 + n % 10) ∙ omega (arith, e))
+    ap (valueFrom 0) (digits-high (suc k) n l) ∙ value-last 0 (digits (suc k) (n / 10)) (lastDigit n) ∙ omega (arith, e))
 
 is-digit : (d : ℕ) → d < 10 → isIn 48 57 (48 + d) ≡ true
 is-digit d h = rw (le-leb 48 (48 + d) (omega arith), le-leb (48 + d) 57 (omega arith))
@@ -51,12 +51,12 @@ all-digits (suc k) n =
     by-cases (ltb n 10) (λ l. ap (all (isIn 48 57)) (digits-low k n l) ∙ all-one n (ltb-true n 10 l))
     (λ l.
     ap (all (isIn 48 57)) (digits-high k n l) ∙
-    all-last (digits k (n / 10)) (48 + n % 10) (all-digits k (n / 10)) (is-digit (n % 10) (omega arith)))
+    all-last (digits k (n / 10)) (lastDigit n) (all-digits k (n / 10)) (is-digit (n % 10) (omega arith)))
 
 some-digits : (k n : ℕ) → 0 < length (digits (suc k) n)
 some-digits k n =
     by-cases (ltb n 10) (λ l. omega (arith, ap length (digits-low k n l)))
-    (λ l. omega (arith, ap length (digits-high k n l), length-append (digits k (n / 10)) ((48 + n % 10) ∷ [])))
+    (λ l. omega (arith, ap length (digits-high k n l), length-append (digits k (n / 10)) (lastDigit n ∷ [])))
 
 first-digit : (k n : ℕ) → 0 < n → n < 10 ^ suc k → 48 < getD (digits (suc k) n) 0 0
 first-digit zero n p h = subst (λ (ds : List ℕ). 48 < getD ds 0 0) (sym (digits-low 0 n (lt-ltb n 10 (omega (arith, h))))) (omega arith)
@@ -64,7 +64,7 @@ first-digit (suc k) n p h =
     by-cases (ltb n 10) (λ l. subst (λ (ds : List ℕ). 48 < getD ds 0 0) (sym (digits-low (suc k) n l)) (omega arith))
     (λ l.
     subst (λ (ds : List ℕ). 48 < getD ds 0 0) (sym (digits-high (suc k) n l))
-    (subst (λ (d : ℕ). 48 < d) (sym (List·getD-append (digits (suc k) (n / 10)) ((48 + n % 10) ∷ []) 0 0 (some-digits k (n / 10))))
+    (subst (λ (d : ℕ). 48 < d) (sym (List·getD-append (digits (suc k) (n / 10)) (lastDigit n ∷ []) 0 0 (some-digits k (n / 10))))
     (first-digit k (n / 10) (omega (arith, ltb-false n 10 l)) (omega (arith, h, pow-suc 10 (suc k))))))
 
 pub decimalBack : DecimalBack

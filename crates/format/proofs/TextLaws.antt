@@ -13,7 +13,7 @@ use borrow.Author.Tests.{lt-ltb, le-ltb}
 use Rattle.model.specs.Base.{over}
 use Rattle.model.proofs.BoolLaws.{by-cases}
 use Rattle.model.proofs.ListLaws.{over-over}
-use Rattle.format.specs.Text.{ascii, digits, decimal, Placed, Number, Field}
+use Rattle.format.specs.Text.{ascii, lastDigit, digits, decimal, Placed, Number, Field}
 
 -- ONE BYTE
 placed-byte : (o : List ℕ) (i x : ℕ) → i < length o → Placed o i (x ∷ []) (set o i x) (i + 1)
@@ -38,7 +38,7 @@ pub digits-low : (k n : ℕ) → ltb n 10 ≡ true → digits (suc k) n ≡ (48 
 unfolding digits
 digits-low k n h = rw h
 
-pub digits-high : (k n : ℕ) → ltb n 10 ≡ false → digits (suc k) n ≡ digits k (n / 10) ++ ((48 + n % 10) ∷ [])
+pub digits-high : (k n : ℕ) → ltb n 10 ≡ false → digits (suc k) n ≡ digits k (n / 10) ++ (lastDigit n ∷ [])
 unfolding digits
 digits-high k n h = rw h
 
@@ -47,7 +47,7 @@ unfolding digits
 length-digits zero n = omega arith
 length-digits (suc k) n =
     by-cases (ltb n 10) (λ h. rw h (omega arith))
-    (λ h. rw h (omega (arith, length-append (digits k (n / 10)) ((48 + n % 10) ∷ []), length-digits k (n / 10))))
+    (λ h. rw h (omega (arith, length-append (digits k (n / 10)) (lastDigit n ∷ []), length-digits k (n / 10))))
 
 -- fuel for as many digits as there are makes no difference
 digits-fuel : (k n : ℕ) → n < 10 ^ suc k → digits (suc k) n ≡ digits (suc (suc k)) n
@@ -58,7 +58,7 @@ digits-fuel (suc k) n h =
     by-cases (ltb n 10) (λ low. digits-low (suc k) n low ∙ sym (digits-low (suc (suc k)) n low))
     (λ high.
     digits-high (suc k) n high ∙
-    ap (λ (x : List ℕ). x ++ ((48 + n % 10) ∷ [])) (digits-fuel k (n / 10) (omega (arith, h, pow-suc 10 (suc k)))) ∙
+    ap (λ (x : List ℕ). x ++ (lastDigit n ∷ [])) (digits-fuel k (n / 10) (omega (arith, h, pow-suc 10 (suc k)))) ∙
     sym (digits-high (suc (suc k)) n high))
 
 -- NUMBERS of 64 bits
@@ -69,8 +69,8 @@ module _ (n : ℕ) (fits : n < 18446744073709551616) where
   shorter : digits 19 (n / 10) ≡ decimal (n / 10)
   shorter = digits-fuel 18 (n / 10) (omega arith)
 
-  decimal-high : 10 ≤ n → decimal n ≡ decimal (n / 10) ++ ((48 + n % 10) ∷ [])
-  decimal-high h = digits-high 19 n (le-ltb n 10 h) ∙ ap (λ (x : List ℕ). x ++ ((48 + n % 10) ∷ [])) shorter
+  decimal-high : 10 ≤ n → decimal n ≡ decimal (n / 10) ++ (lastDigit n ∷ [])
+  decimal-high h = digits-high 19 n (le-ltb n 10 h) ∙ ap (λ (x : List ℕ). x ++ (lastDigit n ∷ [])) shorter
 
   decimal-shorter : length (decimal (n / 10)) ≤ 19
   decimal-shorter = omega (arith, length-digits 19 (n / 10), ap length shorter)
@@ -86,11 +86,11 @@ module _ (o o′ : List ℕ) (i n r : ℕ) (fits : n < 18446744073709551616) (p 
   pub number-room : r < i + 20
   number-room = omega (arith, p .text .next, decimal-shorter n fits)
 
-  pub number-high : 10 ≤ n → i + 20 ≤ length o → length o′ ≡ length o → Number o i n (set o′ r (48 + n % 10)) (r + 1)
+  pub number-high : 10 ≤ n → i + 20 ≤ length o → length o′ ≡ length o → Number o i n (set o′ r (lastDigit n)) (r + 1)
   number-high h k l =
       number-placed
-      (subst (λ (s : List ℕ). Placed o i s (set o′ r (48 + n % 10)) (r + 1)) (sym (decimal-high n fits h))
-      (placed-then (omega arith) (p .text) (placed-byte o′ r (48 + n % 10) (omega (arith, number-room)))))
+      (subst (λ (s : List ℕ). Placed o i s (set o′ r (lastDigit n)) (r + 1)) (sym (decimal-high n fits h))
+      (placed-then (omega arith) (p .text) (placed-byte o′ r (lastDigit n) (omega (arith, number-room)))))
 
 -- a field: a space and a number
 pub field-placed : {o o₁ o₂ : List ℕ} {i n k r : ℕ} → i ≤ length o → Placed o i (ascii " ") o₁ n → Number o₁ n k o₂ r → Field o i k o₂ r

@@ -1,4 +1,4 @@
--- Words in bytes, numbers in decimal, and a text placed in an area. Assumes nothing: these are definitions.
+-- Words in bytes, numbers in decimal, and a text placed in an area.
 use mathlib.Core.Path.{_≡_}
 use mathlib.Core.Bool.{true}
 use mathlib.Core.List.{List, [], _∷_, _++_}
@@ -18,9 +18,12 @@ abbrev pub ascii : String → List ℕ
 ascii s = codesFrom (len s) 0 s
 
 -- A NUMBER in decimal: the highest digit first, no zero in front; fuel: how many digits it may have
+abbrev pub lastDigit : (n : ℕ) → ℕ
+lastDigit n = 48 + n % 10
+
 unfoldable pub digits : ℕ → (n : ℕ) → List ℕ
 digits zero n = []
-digits (suc k) n = pick (ltb n 10) ((48 + n) ∷ []) (digits k (n / 10) ++ ((48 + n % 10) ∷ []))
+digits (suc k) n = pick (ltb n 10) ((48 + n) ∷ []) (digits k (n / 10) ++ (lastDigit n ∷ []))
 
 -- 20 digits hold every number of 64 bits
 abbrev pub decimal : (n : ℕ) → List ℕ

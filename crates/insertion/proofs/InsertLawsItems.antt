@@ -13,10 +13,11 @@ use Rattle.model.specs.Table as model
 use Rattle.model.specs.Run.{State, Out, newRow, withMade, thenRow, Copied, copyParent, copyEach}
 use Rattle.model.specs.Run.{descendantsFrom, subtree, copyAll, inserted}
 use Rattle.model.proofs.BoolLaws.{and-both, pick-true}
+use Rattle.model.proofs.TestLaws.{isIn-at}
 use Rattle.model.proofs.ListLaws.{drop-next}
 use Rattle.model.proofs.TableLaws.{isElement-at, isElement-by}
 use Rattle.table.specs.Words.{ofLink, rowOf, rowsOf, withLink, decodeParts, kindIn}
-use Rattle.table.proofs.WordLaws.{count-decode, rowAt-decode}
+use Rattle.table.proofs.WordLaws.{count-decode, rowAt-decode, word-linked}
 use Rattle.table.proofs.DecodeLaws.{element-kind}
 use Rattle.updates.specs.State.{stateOf, outcome, After, Updated, stopped}
 use Rattle.updates.specs.Updating.{NewPre}
@@ -260,9 +261,11 @@ module _ {ws h : List ℕ} {p : Progress} {v w : List ℕ} (pre : InsertPre ws h
         ap (model.isElement (decodeParts (p .count) ws ms)) (sym e) ∙
         element-kind (p .count) ws ms (held-within (pre .held)) g insert-low
 
-    pub insert-leaf : kindIn (getD ws g 0) ≡ 2 → {ws′ h′ : List ℕ} {r : Progress} → r ≡ stopped p 7 →
+    pub insert-leaf : (kindIn (getD ws g 0) ≡ 1 → ⊥) → {ws′ h′ : List ℕ} {r : Progress} → r ≡ stopped p 7 →
         Updated (λ z s. inserted z v w s) [] ws h p ws′ h′ r
-    insert-leaf l {ws′} {h′} {r} f =
+    insert-leaf n {ws′} {h′} {r} f =
+        let word = word-linked (p .count) ws (pre .held .canonical) (held-within (pre .held)) g insert-low 0 (omega arith) in
+        let l : kindIn (getD ws g 0) ≡ 2 = omega (arith, n, isIn-at 1 2 (kindIn (withLink (getD ws g 0) 0)) word) in
         updated-stopped 6 f
         (λ z ms. let b : model.isElement (decodeParts (p .count) ws ms) (getD w 0 0) ≡ false = kind ms ∙ rw l in rw (one, b))
 

@@ -1,4 +1,4 @@
--- Contracts of insert's parts. Assumes nothing: these are definitions.
+-- Contracts of insert's parts.
 use mathlib.Core.Path.{_≡_}
 use mathlib.Core.Bool.{true}
 use mathlib.Core.Logic.{_⊎_}

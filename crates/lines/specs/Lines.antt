@@ -1,4 +1,4 @@
--- Document 01, 'The program `pair`': its lines. Every line ends with 0x0A. Assumes nothing: these are definitions.
+-- Document 01, 'The program `pair`': its lines. Every line ends with 0x0A.
 use mathlib.Core.List.{List, [], _∷_, _++_}
 use Prim.Native.Nat.{ℕ, _+_, _≤_}
 use lib.ListN.{length}

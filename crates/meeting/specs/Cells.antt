@@ -1,4 +1,4 @@
--- What the paths of two lists have in common. Assumes nothing: these are definitions.
+-- What the paths of two lists have in common.
 use mathlib.Core.Bool.{false}
 use mathlib.Core.List.{List, [], _∷_}
 use Prim.Native.Nat.{ℕ}

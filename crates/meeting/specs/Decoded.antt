@@ -1,4 +1,4 @@
--- The code's steps and cells as the model's. Assumes nothing: these are definitions.
+-- The code's steps and cells as the model's.
 use Prim.Native.Nat.{ℕ, _/_, _%_}
 use lib.Dec.{eqb}
 use Rattle.model.specs.Script as model
@@ -8,7 +8,7 @@ use Rattle.meeting.specs.declared.cells.Cell.{Cell}
 
 -- a step
 abbrev pub stepOf : Step → model.Step
-stepOf s = model.stepBy (s .axis) (s .test) (s .name)
+stepOf s = model.stepBy (s .axis) (s .test) (s .name .0)
 
 -- a cell: a bit for each of its tests
 abbrev pub cellBits : (byte : ℕ) → meeting.Cell

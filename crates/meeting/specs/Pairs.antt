@@ -1,5 +1,5 @@
 -- The marks of pairs of positions. Each pair has six, the tests of its cell. How they are held, a byte for each pair, is known here, in
--- PairLaws and in the proofs of `pairs`; everywhere else `marks` and `HasRows` stay shut. Assumes nothing: these are definitions.
+-- PairLaws and in the proofs of `pairs`; everywhere else `marks` and `HasRows` stay shut.
 use mathlib.Core.Path.{_≡_}
 use mathlib.Core.List.{List}
 use Prim.Native.Nat.{ℕ, _+_, _*_, _≤_, _<_}

@@ -9,6 +9,7 @@ ghost use Rattle.model.specs.Meeting.{joinCell, onStep, downStep, upStep, start
 ghost use Rattle.model.specs.Paths.{documentPlace, isUp};
 ghost use Rattle.meeting.specs.Cells.{noCell};
 ghost use Rattle.meeting.specs.Decoded.{stepOf, cellOf};
+use table::NameNumber;
 
 // The descendant axis.
 pub const DESCENDANT: usize = 1;
@@ -27,7 +28,7 @@ const ANY_LEAF: usize = 2;
 pub struct Step {
     pub axis: usize,
     pub test: usize,
-    pub name: usize,
+    pub name: NameNumber,
 }
 
 // For an element and for a leaf: whether some plan has such a node on both positions, or on the first at or below one on the second
@@ -89,7 +90,7 @@ impl Step {
     {
         self.admits_element()
             & other.admits_element()
-            & (!(self.is_named() & other.is_named()) | (self.name == other.name))
+            & (!(self.is_named() & other.is_named()) | (self.name.0 == other.name.0))
     }
 }
 
@@ -164,7 +165,7 @@ impl Cell {
     }
 
     // Two documents: their root, if they are one.
-    pub fn roots(first: usize, second: usize) -> Cell
+    pub fn roots(first: u16, second: u16) -> Cell
         ensures { λ r. ⌜ cellOf r ≡ startCell (documentPlace first) (documentPlace second) ⌝ }
     {
         Cell::on(first == second, false)

@@ -1,4 +1,4 @@
--- Choices by a test; all or some items of a list; areas. Assumes nothing: these are definitions.
+-- Choices by a test; all or some items of a list; areas.
 use mathlib.Core.Bool.{Bool, true, false, _&&_, _||_}
 use mathlib.Core.List.{List, [], _∷_, _++_}
 use Prim.Native.Nat.{ℕ, _+_}

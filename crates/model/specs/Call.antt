@@ -1,4 +1,4 @@
--- The calls on what callers see: bytes, a table and lent areas. Assumes nothing: these are definitions.
+-- The calls on what callers see: bytes, a table and lent areas.
 use mathlib.Core.Path.{_≡_}
 use mathlib.Core.Bool.{Bool, true, false, _&&_}
 use mathlib.Core.List.{List, _++_}

@@ -1,4 +1,4 @@
--- Document 01, 'Worked on plan P': the starred cases as one statement. Assumes nothing: these are definitions.
+-- Document 01, 'Worked on plan P': the starred cases as one statement.
 use mathlib.Core.Path.{_≡_}
 use mathlib.Core.Bool.{true, false}
 use mathlib.Core.List.{List, [], _∷_, _++_}

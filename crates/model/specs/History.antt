@@ -1,4 +1,4 @@
--- Document 01, 'The history': its records, as bytes, and replayed. Assumes nothing: these are definitions.
+-- Document 01, 'The history': its records, as bytes, and replayed.
 use mathlib.Core.Path.{_≡_}
 use mathlib.Core.Bool.{Bool, true}
 use mathlib.Core.List.{List, [], _∷_, _++_}

@@ -1,4 +1,4 @@
--- Document 01, 'Limits': each limit, and what each area lent to a run needs, named once. Assumes nothing: these are definitions.
+-- Document 01, 'Limits': each limit, and what each area lent to a run needs, named once.
 use Prim.Native.Nat.{ℕ, _+_}
 
 -- rows of a table

@@ -1,5 +1,4 @@
 -- Document 01, 'The paths': when some plan has a node on two paths that go down only, and the answer.
--- Assumes nothing: these are definitions.
 use mathlib.Core.Bool.{Bool, false, _&&_, _||_, not}
 use mathlib.Core.List.{List}
 use lib.Dec.{eqb}

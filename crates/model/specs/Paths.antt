@@ -1,4 +1,4 @@
--- Document 01, 'The paths': result, accessed, modified and traversed paths of an expression. Assumes nothing: these are definitions.
+-- Document 01, 'The paths': result, accessed, modified and traversed paths of an expression.
 use mathlib.Core.Bool.{Bool, false, _||_}
 use mathlib.Core.List.{List, [], _∷_, _++_, map}
 use Prim.Native.Nat.{ℕ}

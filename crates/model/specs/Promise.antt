@@ -1,5 +1,4 @@
 -- What is promised of every plan and every two scripts. Each promise is a type; a term of that type in proofs/ is its proof.
--- Assumes nothing.
 use mathlib.Core.Path.{_≡_}
 use mathlib.Core.Logic.{_↔_}
 use mathlib.Core.Bool.{Bool, true, false, _&&_, _||_}

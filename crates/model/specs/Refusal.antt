@@ -1,4 +1,4 @@
--- Document 01's table of refusals: number, word and when it is given. Assumes nothing: these are definitions.
+-- Document 01's table of refusals: number, word and when it is given.
 use mathlib.Core.Bool.{Bool}
 use Prim.Native.Nat.{ℕ}
 use lib.Dec.{eqb}

@@ -1,4 +1,4 @@
--- Document 01, 'The scripts': evaluation with its history. Assumes nothing: these are definitions.
+-- Document 01, 'The scripts': evaluation with its history.
 use mathlib.Core.Bool.{Bool, true, false, _&&_}
 use mathlib.Core.List.{List, [], _∷_, _++_}
 use mathlib.Core.Option.{Option, none, some}

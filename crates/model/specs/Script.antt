@@ -1,4 +1,4 @@
--- Document 01, 'The scripts': expressions in prefix order, read with a refusal's number and place. Assumes nothing: these are definitions.
+-- Document 01, 'The scripts': expressions in prefix order, read with a refusal's number and place.
 use mathlib.Core.Bool.{Bool, true, _&&_, _||_, not}
 use mathlib.Core.List.{List}
 use Prim.Native.Nat.{ℕ, zero, suc, _+_}

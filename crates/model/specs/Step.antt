@@ -1,4 +1,4 @@
--- Document 01: what a test sees, which rows a step reaches, what pick keeps. Assumes nothing: these are definitions.
+-- Document 01: what a test sees, which rows a step reaches, what pick keeps.
 use mathlib.Core.Bool.{Bool, false, _&&_, _||_, not}
 use mathlib.Core.List.{List, [], _∷_}
 use Prim.Native.Nat.{ℕ, zero, suc, _+_, _-_}

@@ -1,4 +1,4 @@
--- Document 01, 'Stored plan': written, and read with number and place of a refusal. Assumes nothing: these are definitions.
+-- Document 01, 'Stored plan': written, and read with number and place of a refusal.
 use mathlib.Core.Path.{_≡_}
 use mathlib.Core.Bool.{Bool, _&&_, _||_, not}
 use mathlib.Core.List.{List, [], _∷_, _++_}

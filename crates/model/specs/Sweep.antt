@@ -1,5 +1,4 @@
 -- Document 01, 'Sweep': drops each row that is neither marked nor below a marked row, and renumbers.
--- Assumes nothing: these are definitions.
 use mathlib.Core.Bool.{Bool, false, _||_}
 use mathlib.Core.List.{List, [], _∷_, map}
 use mathlib.Core.Option.{Option, none, some}

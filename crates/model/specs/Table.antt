@@ -1,4 +1,4 @@
--- Document 01, 'The table': rows, marks, and when a table is well formed. Assumes nothing: these are definitions.
+-- Document 01, 'The table': rows, marks, and when a table is well formed.
 use mathlib.Core.Path.{_≡_}
 use mathlib.Core.Bool.{Bool, true, false, _&&_, not}
 use mathlib.Core.List.{List, [], _∷_, _++_}

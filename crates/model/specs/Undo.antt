@@ -1,5 +1,4 @@
 -- Document 01, 'Taking back', here called undo: the form front to back, then the records back to front.
--- Assumes nothing: these are definitions.
 use mathlib.Core.Bool.{Bool, true, false, _&&_, _||_, not}
 use mathlib.Core.List.{List, [], _∷_}
 use mathlib.Core.Option.{Option, none, some}

@@ -1,5 +1,4 @@
 -- The evaluator's contracts: what a value in the work area, the variables and the lent areas stand for in the model's run.
--- Assumes nothing: these are definitions.
 use mathlib.Core.Path.{_≡_}
 use mathlib.Core.Bool.{true}
 use mathlib.Core.Logic.{_⊎_}

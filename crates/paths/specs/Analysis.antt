@@ -1,4 +1,4 @@
--- What the analysis of two scripts answers, for every input. Assumes nothing: these are definitions.
+-- What the analysis of two scripts answers, for every input.
 use mathlib.Core.Path.{_≡_}
 use mathlib.Core.List.{List}
 use Prim.Native.String.{String}

@@ -1,4 +1,4 @@
--- What reading a plan answers, for every input. Assumes nothing: these are definitions.
+-- What reading a plan answers, for every input.
 use mathlib.Core.List.{List}
 use Prim.Native.Nat.{ℕ}
 use Rattle.model.specs.Refusal as refusal

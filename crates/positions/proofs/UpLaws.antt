@@ -35,7 +35,7 @@ leadsUp-is p t e =
     others : (x y z : Bool) → z ≡ false →
         false ≡ leadsUp
         (pick x nowhere
-        (pick y (root (p .name)) (pick z (over (stepBy (p .axis) (p .test) (p .name)) (p .first)) (union (p .first) (p .second)))))
+        (pick y (root (p .label)) (pick z (over (stepBy (p .axis) (p .test) (p .label)) (p .first)) (union (p .first) (p .second)))))
     others true y z h = refl
     others false true z h = refl
     others false false true h = absurd (true≢false h)

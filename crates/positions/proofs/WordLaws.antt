@@ -20,22 +20,22 @@ module _ (p : Position) (f : PositionFits p) where
       let low4 : p .kind + 4 * p .role < 16 = omega (arith, f .kind, f .role) in
       let low64 : p .kind + 4 * p .role + 16 * p .axis < 64 = omega (arith, low4, f .axis) in
       let low256 : p .kind + 4 * p .role + 16 * p .axis + 64 * p .test < 256 = omega (arith, low64, f .test) in
-      let low65536 : p .kind + 4 * p .role + 16 * p .axis + 64 * p .test + 256 * p .name < 65536 = omega (arith, low256, f .name) in
-      let low-top : p .kind + 4 * p .role + 16 * p .axis + 64 * p .test + 256 * p .name + 65536 * p .first < 16777216 =
+      let low65536 : p .kind + 4 * p .role + 16 * p .axis + 64 * p .test + 256 * p .label < 65536 = omega (arith, low256, f .label) in
+      let low-top : p .kind + 4 * p .role + 16 * p .axis + 64 * p .test + 256 * p .label + 65536 * p .first < 16777216 =
       omega (arith, low65536, f .first) in
       let k : wordOf p % 4 ≡ p .kind =
       ap (λ (w : ℕ). w % 4) (omega arith) ∙
-      digits-mod (p .role + 4 * p .axis + 16 * p .test + 64 * p .name + 16384 * p .first + 4194304 * p .second) (f .kind) in
+      digits-mod (p .role + 4 * p .axis + 16 * p .test + 64 * p .label + 16384 * p .first + 4194304 * p .second) (f .kind) in
       let r : wordOf p / 4 % 4 ≡ p .role =
-      digit 4 4 (p .axis + 4 * p .test + 16 * p .name + 4096 * p .first + 1048576 * p .second) (f .kind) (f .role) (omega arith) in
+      digit 4 4 (p .axis + 4 * p .test + 16 * p .label + 4096 * p .first + 1048576 * p .second) (f .kind) (f .role) (omega arith) in
       let a : wordOf p / 16 % 4 ≡ p .axis =
-      digit 16 4 (p .test + 4 * p .name + 1024 * p .first + 262144 * p .second) low4 (f .axis) (omega arith) in
+      digit 16 4 (p .test + 4 * p .label + 1024 * p .first + 262144 * p .second) low4 (f .axis) (omega arith) in
       let t : wordOf p / 64 % 4 ≡ p .test =
-      digit 64 4 (p .name + 256 * p .first + 65536 * p .second) low64 (f .test) (omega arith) in
-      let n : wordOf p / 256 % 256 ≡ p .name = digit 256 256 (p .first + 256 * p .second) low256 (f .name) (omega arith) in
+      digit 64 4 (p .label + 256 * p .first + 65536 * p .second) low64 (f .test) (omega arith) in
+      let n : wordOf p / 256 % 256 ≡ p .label = digit 256 256 (p .first + 256 * p .second) low256 (f .label) (omega arith) in
       let i : wordOf p / 65536 % 128 ≡ p .first = digit 65536 128 (2 * p .second) low65536 (f .first) (omega arith) in
       let j : wordOf p / 16777216 % 128 ≡ p .second = digit 16777216 128 0 low-top (f .second) (omega arith) in
-      λ z. record { kind = k z; role = r z; axis = a z; test = t z; name = n z; first = i z; second = j z }
+      λ z. record { kind = k z; role = r z; axis = a z; test = t z; label = n z; first = i z; second = j z }
 
   pub word-pushed : (ws : List ℕ) (n : ℕ) → n < length ws → PushPost ws n p (set ws n (wordOf p))
   word-pushed ws n h =

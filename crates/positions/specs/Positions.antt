@@ -1,4 +1,4 @@
--- Positions stand for the paths of a script's expressions, numbered in one pass over it. Assumes nothing: these are definitions.
+-- Positions stand for the paths of a script's expressions, numbered in one pass over it.
 use mathlib.Core.Bool.{Bool, true, false, _&&_, not}
 use mathlib.Core.List.{List, [], _∷_, _++_}
 use Prim.Native.Nat.{ℕ, _<_}

@@ -1,4 +1,4 @@
--- The cell of two positions from the cells of lower pairs, and the answer by positions. Assumes nothing: these are definitions.
+-- The cell of two positions from the cells of lower pairs, and the answer by positions.
 use mathlib.Core.Path.{_≡_}
 use mathlib.Core.Bool.{Bool, false, _&&_, _||_}
 use mathlib.Core.List.{List, [], _∷_}

@@ -1,4 +1,4 @@
--- A position packed into a word, and what a list of words says. Assumes nothing: these are definitions.
+-- A position packed into a word, and what a list of words says.
 use mathlib.Core.Path.{_≡_}
 use mathlib.Core.Bool.{Bool}
 use mathlib.Core.List.{List, [], _∷_, _++_, map}
@@ -16,18 +16,18 @@ use Rattle.meeting.specs.declared.cells.Step.{Step}
 
 -- the step of a position
 abbrev pub stepIn : Position → model.Step
-stepIn p = stepBy (p .axis) (p .test) (p .name)
+stepIn p = stepBy (p .axis) (p .test) (p .label)
 
--- KINDS: 0 nowhere, 1 root, whose document stands for the name, 2 over, 3 union. ROLES: 0 none, 1 accessed, 2 modified
+-- KINDS: 0 nowhere, 1 root, whose label is its document, 2 over, whose label is its name, 3 union. ROLES: 0 none, 1 accessed, 2 modified
 abbrev pub positionBy : Position → positions.Position
 positionBy p =
     pick (eqb (p .kind) 0) positions.nowhere
-    (pick (eqb (p .kind) 1) (positions.root (p .name))
+    (pick (eqb (p .kind) 1) (positions.root (p .label))
     (pick (eqb (p .kind) 2) (positions.over (stepIn p) (p .first)) (positions.union (p .first) (p .second))))
 
 -- the source of a document, and of a step
 abbrev pub rootSource : Position → Source
-rootSource p = fromRoot (p .name)
+rootSource p = fromRoot (p .label)
 
 abbrev pub stepSource : Position → Source
 stepSource p = fromStep (stepIn p) (p .first)
@@ -41,18 +41,18 @@ entryBy p = withRole (p .role) (positionBy p)
 
 -- the fields of a document's root, accessed; of a step over a position, and of two positions, in a role
 abbrev pub rootBy : (document : ℕ) → Position
-rootBy d = record { kind = 1; role = 1; axis = 0; test = 0; name = d; first = 0; second = 0 }
+rootBy d = record { kind = 1; role = 1; axis = 0; test = 0; label = d; first = 0; second = 0 }
 
 abbrev pub overBy : (role : ℕ) → Step → (operand : ℕ) → Position
-overBy m s i = record { kind = 2; role = m; axis = s .axis; test = s .test; name = s .name; first = i; second = 0 }
+overBy m s i = record { kind = 2; role = m; axis = s .axis; test = s .test; label = s .name .0; first = i; second = 0 }
 
 abbrev pub unionBy : (role first second : ℕ) → Position
-unionBy m i j = record { kind = 3; role = m; axis = 0; test = 0; name = 0; first = i; second = j }
+unionBy m i j = record { kind = 3; role = m; axis = 0; test = 0; label = 0; first = i; second = j }
 
 -- WORDS: each field in its bits
 abbrev pub wordOf : Position → ℕ
 wordOf p =
-    p .kind + 4 * p .role + 16 * p .axis + 64 * p .test + 256 * p .name + 65536 * p .first + 16777216 * p .second
+    p .kind + 4 * p .role + 16 * p .axis + 64 * p .test + 256 * p .label + 65536 * p .first + 16777216 * p .second
 
 -- and taken out again
 abbrev pub fieldsOf : (word : ℕ) → Position
@@ -62,7 +62,7 @@ fieldsOf w =
       role = w / 4 % 4;
       axis = w / 16 % 4;
       test = w / 64 % 4;
-      name = w / 256 % 256;
+      label = w / 256 % 256;
       first = w / 65536 % maxPositions;
       second = w / 16777216 % maxPositions;
     }
@@ -73,7 +73,7 @@ pub record PositionFits (p : Position) : Type 0 where
   pub role : p .role < 4
   pub axis : p .axis < 4
   pub test : p .test < 4
-  pub name : p .name < 256
+  pub label : p .label < 256
   pub first : p .first < maxPositions
   pub second : p .second < maxPositions
 

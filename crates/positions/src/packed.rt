@@ -1,4 +1,4 @@
-// Positions of a script, each packed into a word: kind, role, axis, test, name or document, first operand, second operand.
+// Positions of a script, each packed into a word: kind, role, axis, test, label, first operand, second operand.
 ghost use mathlib.Core.Path.{_≡_};
 ghost use Rattle.meeting.specs.Decoded.{stepOf};
 ghost use Rattle.positions.specs.Positions.{leadsUp};
@@ -6,6 +6,7 @@ ghost use Rattle.positions.specs.Words.{positionBy, stepIn, rootBy, over
 ghost use Rattle.positions.specs.Words.{PushPost};
 use meeting::cells::Step;
 use meeting::pairs;
+use table::NameNumber;
 
 // Kinds; 0 is nothing.
 pub const ROOT: usize = 1;
@@ -21,20 +22,20 @@ pub const ACCESSED: usize = 1;
 
 pub const MODIFIED: usize = 2;
 
-// The fields of a position; those that its kind does not have are 0.
+// The fields of a position; those that its kind does not have are 0. The label is the name of its step, or its document.
 pub struct Position {
     pub kind: usize,
     pub role: usize,
     pub axis: usize,
     pub test: usize,
-    pub name: usize,
+    pub label: u16,
     pub first: usize,
     pub second: usize,
 }
 
 impl Position {
     // A document's root, accessed.
-    pub fn root(document: usize) -> Position
+    pub fn root(document: u16) -> Position
         ensures { λ r. ⌜ r ≡ rootBy document ⌝ }
     {
         Position {
@@ -42,7 +43,7 @@ impl Position {
             role: ACCESSED,
             axis: 0,
             test: 0,
-            name: document,
+            label: document,
             first: 0,
             second: 0,
         }
@@ -57,7 +58,7 @@ impl Position {
             role,
             axis: step.axis,
             test: step.test,
-            name: step.name,
+            label: step.name.0,
             first: operand,
             second: 0,
         }
@@ -72,7 +73,7 @@ impl Position {
             role,
             axis: 0,
             test: 0,
-            name: 0,
+            label: 0,
             first,
             second,
         }
@@ -85,7 +86,7 @@ impl Position {
         Step {
             axis: self.axis,
             test: self.test,
-            name: self.name,
+            name: NameNumber(self.label),
         }
     }
 
@@ -105,7 +106,7 @@ impl Position {
             + 4 * self.role
             + 16 * self.axis
             + 64 * self.test
-            + 256 * self.name
+            + 256 * (self.label as usize)
             + 65536 * self.first
             + 16777216 * self.second
     }
@@ -119,7 +120,7 @@ impl Position {
             role: word / 4 % 4,
             axis: word / 16 % 4,
             test: word / 64 % 4,
-            name: word / 256 % 256,
+            label: (word / 256 % 256) as u16,
             first: word / 65536 % pairs::POSITIONS,
             second: word / 16777216 % pairs::POSITIONS,
         }

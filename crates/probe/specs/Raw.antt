@@ -1,4 +1,4 @@
--- A table given as 512 row words and 8 marks. Assumes nothing: these are definitions.
+-- A table given as 512 row words and 8 marks.
 use mathlib.Core.Bool.{Bool, _&&_}
 use mathlib.Core.List.{List}
 use Prim.Native.Nat.{ℕ}

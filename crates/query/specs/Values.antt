@@ -1,5 +1,4 @@
 -- Values in the work area: a value stands from a place up to another. Contracts of the operators on values.
--- Assumes nothing: these are definitions.
 use mathlib.Core.Path.{_≡_}
 use mathlib.Core.Bool.{Bool, _&&_, not}
 use mathlib.Core.List.{List, _++_}

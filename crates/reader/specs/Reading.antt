@@ -1,4 +1,4 @@
--- Contracts of the reader's parts: what each asks and what it leaves. Assumes nothing: these are definitions.
+-- Contracts of the reader's parts: what each asks and what it leaves.
 use mathlib.Core.Path.{_≡_}
 use mathlib.Core.List.{List, map}
 use Prim.Native.Nat.{ℕ, _+_, _≤_, _<_}

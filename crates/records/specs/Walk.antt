@@ -1,4 +1,4 @@
--- A script walked in place: where an expression and its operands stand, and which it is. Assumes nothing: these are definitions.
+-- A script walked in place: where an expression and its operands stand, and which it is.
 use mathlib.Core.Bool.{_||_}
 use mathlib.Core.List.{List, [], _∷_, _++_}
 use Prim.Native.Nat.{ℕ, zero, suc, _+_, _-_}

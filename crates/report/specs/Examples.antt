@@ -1,4 +1,4 @@
--- Document 01's examples of `pair` as one statement. Assumes nothing: these are definitions.
+-- Document 01's examples of `pair` as one statement.
 use mathlib.Core.Path.{_≡_}
 use mathlib.Core.List.{List, [], _∷_}
 use Prim.Native.Nat.{ℕ}

@@ -1,4 +1,4 @@
--- Document 01, 'The program `pair`': what it prints for the content of its three files. Assumes nothing: these are definitions.
+-- Document 01, 'The program `pair`': what it prints for the content of its three files.
 use mathlib.Core.Path.{_≡_}
 use mathlib.Core.List.{List, _++_}
 use Prim.Native.Nat.{ℕ, _≤_}

@@ -1,4 +1,4 @@
--- What a run answers, for every input, and leaves in the lent areas. Assumes nothing: these are definitions.
+-- What a run answers, for every input, and leaves in the lent areas.
 use mathlib.Core.Path.{_≡_}
 use mathlib.Core.List.{List}
 use Prim.Native.Nat.{ℕ, _≤_}

@@ -1,4 +1,4 @@
--- The reader accepts the expression at a place: what an evaluator of the script in place goes by. Assumes nothing: these are definitions.
+-- The reader accepts the expression at a place: what an evaluator of the script in place goes by.
 use mathlib.Core.Path.{_≡_}
 use mathlib.Core.Bool.{true}
 use mathlib.Core.List.{List}

@@ -1,4 +1,4 @@
--- What reading a script answers, and the contracts of the reader's parts. Assumes nothing: these are definitions.
+-- What reading a script answers, and the contracts of the reader's parts.
 use mathlib.Core.Path.{_≡_}
 use mathlib.Core.Bool.{Bool}
 use mathlib.Core.List.{List}

@@ -1,4 +1,4 @@
--- Document 01, 'The program `pair`': the two orders of two scripts on a table. Assumes nothing: these are definitions.
+-- Document 01, 'The program `pair`': the two orders of two scripts on a table.
 use mathlib.Core.List.{List}
 use Prim.Native.Nat.{ℕ}
 use lib.Dec.{eqb}

@@ -1,4 +1,4 @@
--- Demand 3 on the two orders that `pair` prints. The promise is a type; a term of that type in proofs/ is its proof. Assumes nothing.
+-- Demand 3 on the two orders that `pair` prints. The promise is a type; a term of that type in proofs/ is its proof.
 use mathlib.Core.Path.{_≡_}
 use mathlib.Core.Bool.{Bool, true, false}
 use mathlib.Core.List.{List}

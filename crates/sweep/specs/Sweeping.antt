@@ -1,5 +1,4 @@
 -- What a sweep answers, for every input, and the contracts of its parts: a row's entry among the numbers stands at its link.
--- Assumes nothing: these are definitions.
 use mathlib.Core.Path.{_≡_}
 use mathlib.Core.Bool.{Bool, true, _||_, not}
 use mathlib.Core.List.{List, map}

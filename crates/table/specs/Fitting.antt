@@ -1,4 +1,4 @@
--- The check of a table handed in, as the code makes it: row by row over the words. Assumes nothing: these are definitions.
+-- The check of a table handed in, as the code makes it: row by row over the words.
 use mathlib.Core.Path.{_≡_}
 use mathlib.Core.Bool.{Bool, true, _&&_, _||_, not}
 use mathlib.Core.List.{List, [], _∷_, map}

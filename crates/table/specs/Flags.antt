@@ -1,4 +1,4 @@
--- Rows by their numbers: items that are rows, and flags of rows. Assumes nothing: these are definitions.
+-- Rows by their numbers: items that are rows, and flags of rows.
 use mathlib.Core.Path.{_≡_}
 use mathlib.Core.Bool.{Bool}
 use mathlib.Core.List.{List}

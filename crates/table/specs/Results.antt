@@ -1,4 +1,4 @@
--- Refusals and results of calls, from the model's. Assumes nothing: these are definitions.
+-- Refusals and results of calls, from the model's.
 use Prim.Native.Nat.{ℕ}
 use Rattle.model.specs.Refusal as refusal
 use Rattle.model.specs.Table as model

@@ -1,4 +1,4 @@
--- How a table of the model stands in the type Table: rows packed into words, marks into numbers. Assumes nothing: these are definitions.
+-- How a table of the model stands in the type Table: rows packed into words, marks into numbers.
 use mathlib.Core.Path.{_≡_}
 use mathlib.Core.Bool.{Bool, _&&_}
 use mathlib.Core.List.{List, _++_, map}

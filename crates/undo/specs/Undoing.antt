@@ -1,4 +1,4 @@
--- What undo answers, for every input, and the contracts of its parts. Assumes nothing: these are definitions.
+-- What undo answers, for every input, and the contracts of its parts.
 use mathlib.Core.Path.{_≡_}
 use mathlib.Core.List.{List, [], _∷_}
 use Prim.Native.Nat.{ℕ, zero, suc, _≤_, _<_}

@@ -1,4 +1,4 @@
--- What the updates pass on, and the model's state that it stands for. Assumes nothing: these are definitions.
+-- What the updates pass on, and the model's state that it stands for.
 use mathlib.Core.Path.{_≡_}
 use mathlib.Core.List.{List, [], _∷_}
 use Prim.Native.Nat.{ℕ, zero, suc, _+_, _*_, _≤_}

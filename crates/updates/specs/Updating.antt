@@ -1,4 +1,4 @@
--- Contracts of the updates of single rows. Assumes nothing: these are definitions.
+-- Contracts of the updates of single rows.
 use mathlib.Core.Path.{_≡_}
 use mathlib.Core.Bool.{Bool, true}
 use mathlib.Core.List.{List, [], _∷_}

@@ -1,4 +1,4 @@
--- What writing a plan answers and leaves, for every input; contracts of the writer's parts. Assumes nothing: these are definitions.
+-- What writing a plan answers and leaves, for every input; contracts of the writer's parts.
 use mathlib.Core.Path.{_≡_}
 use mathlib.Core.List.{List, map}
 use Prim.Native.Nat.{ℕ, _+_, _*_, _≤_, _<_}

@@ -1,5 +1,4 @@
 -- `tally::raise_made` meets its contract: its MIR is `Raising.antt`'s, over `plus_made`.
--- Assumes nothing.
 use contract.Running.{givenOf, tables, tablesOf}
 use denote.Triple.Spec.{tripleOf}
 use denote.Triple.Table.{entered, cited}

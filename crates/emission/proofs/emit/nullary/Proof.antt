@@ -12,28 +12,27 @@ use Rattle.emission.proofs.emit.nullary.Tie as tie
 shared-slice-read-kind : tie.Need-shared-slice-read-kind
 shared-slice-read-kind c = search needs
 
-add-byte : tie.Need-add-byte
-add-byte c = search needs
+add-wide : tie.Need-add-wide
+add-wide c = search needs
 
-shared-slice-read-byte : tie.Need-shared-slice-read-byte
-shared-slice-read-byte c =
+shared-slice-read-wide : tie.Need-shared-slice-read-wide
+shared-slice-read-wide c =
     let c3 = c .before .before .before in
     let c6 = c3 .before .before .before in
     omega (arith, c6 .pre .whole, ap (λ (k : ℕ). bodySize k) (c3 .if1 .taken))
 
-byte-requires : tie.Need-byte-requires
-byte-requires c κs = search needs
+wide-requires : tie.Need-wide-requires
+wide-requires c κs = search needs
 
 root-requires : tie.Need-root-requires
 root-requires c κs = search needs
 
 push-requires : tie.Need-push-requires
 push-requires c κs =
-    let c5 = c .before .before .before .before .before in
-    let c8 = c5 .before .before .before in
+    let c8 = c .before .before .before .before .before .before .before .before in
     record {
       room = omega (arith, c8 .pre .size, c8 .pre .room);
-      fits = root-fits (c .root .ensures) (omega (arith, c .before .byte .ensures .0, c8 .pre .document (c5 .if1 .taken)));
+      fits = root-fits (c .root .ensures) (c .before .wide .ensures .1);
     }
 
 add-count : tie.Need-add-count
@@ -44,32 +43,32 @@ returns c =
     let c2 = c .before .before in
     let c6 = c2 .before .before .before .before in
     let c9 = c6 .before .before .before in
-    nullary-document (c9 .pre) (c6 .if1 .taken) (c .before .root .ensures) (c2 .byte .ensures .0) (c .push .ensures)
+    nullary-document (c9 .pre) (c6 .if1 .taken) (c .before .root .ensures) (c2 .wide .ensures .0) (c .push .ensures)
 
-add-byte-2 : tie.Need-add-byte-2
-add-byte-2 c = search needs
+add-byte : tie.Need-add-byte
+add-byte c = search needs
 
-shared-slice-read-byte-2 : tie.Need-shared-slice-read-byte-2
-shared-slice-read-byte-2 c =
+shared-slice-read-byte : tie.Need-shared-slice-read-byte
+shared-slice-read-byte c =
     omega (arith, c .before .before .before .before .before .pre .whole, ap (λ (k : ℕ). bodySize k) (c .before .if2 .taken))
 
-byte-requires-2 : tie.Need-byte-requires-2
-byte-requires-2 c κs = search needs
+byte-requires : tie.Need-byte-requires
+byte-requires c κs = search needs
 
 array-read-byte : tie.Need-array-read-byte
 array-read-byte c =
     let c2 = c .before .before in
     let c6 = c2 .before .before .before .before in
-    omega (arith, c .byte2 .ensures .0, c6 .pre .variable (c2 .if2 .taken))
+    omega (arith, c .byte .ensures .0, c6 .pre .variable (c2 .if2 .taken))
 
-byte-requires-3 : tie.Need-byte-requires-3
-byte-requires-3 c κs = search needs
+byte-requires-2 : tie.Need-byte-requires-2
+byte-requires-2 c κs = search needs
 
 returns-2 : tie.Need-returns-2
 returns-2 c =
     let c3 = c .before .before .before in
     let c7 = c3 .before .before .before .before in
-    nullary-variable (c7 .pre) (c3 .if2 .taken) (c .before .byte2 .ensures .0) (c .byte3 .ensures .0)
+    nullary-variable (c7 .pre) (c3 .if2 .taken) (c .before .byte .ensures .0) (c .byte2 .ensures .0)
 
 returns-3 : tie.Need-returns-3
 returns-3 c = nullary-none (c .before .before .before .before .pre) (c .before .if1 .left) (c .if2 .left)
@@ -79,17 +78,17 @@ nullary-spec =
     tie.close
     (tie.spec
     shared-slice-read-kind
-    add-byte
-    shared-slice-read-byte
-    byte-requires
+    add-wide
+    shared-slice-read-wide
+    wide-requires
     root-requires
     push-requires
     add-count
     returns
-    add-byte-2
-    shared-slice-read-byte-2
-    byte-requires-2
+    add-byte
+    shared-slice-read-byte
+    byte-requires
     array-read-byte
-    byte-requires-3
+    byte-requires-2
     returns-2
     returns-3)

@@ -13,7 +13,7 @@ roots-requires c κs = search needs
 returns : tie.Need-returns
 returns c =
     let c4 = c .before .before .before .before in
-    root-root (marks (c4 .args .table .now)) (c4 .args .k) (c4 .args .l) (c4 .args .q) (cellOf (c .roots .result)) (c4 .args .p .name)
+    root-root (marks (c4 .args .table .now)) (c4 .args .k) (c4 .args .l) (c4 .args .q) (cellOf (c .roots .result)) (c4 .args .p .label)
     (c .before .if1 .taken) (c .roots .ensures)
 
 marked-requires : tie.Need-marked-requires
@@ -34,7 +34,7 @@ returns-2 c =
     let c3 = c2 .before in
     let c8 = c3 .before .before .before .before .before in
     root-step (marks (c8 .args .table .now)) (c8 .args .k) (c8 .args .l) (c8 .args .q) (cellOf (c .up-step .result))
-    (c8 .args .p .name) (c3 .if2 .taken) (cellOf (c2 .marked .result)) (stepOf (c .before .step .result)) (c .up-step .ensures)
+    (c8 .args .p .label) (c3 .if2 .taken) (cellOf (c2 .marked .result)) (stepOf (c .before .step .result)) (c .up-step .ensures)
     (c .before .step .ensures) (c2 .marked .ensures)
 
 none-requires : tie.Need-none-requires
@@ -45,7 +45,7 @@ returns-3 c =
     let c3 = c .before .before .before in
     let c6 = c3 .before .before .before in
     to-nothing (marks (c6 .args .table .now)) (c6 .args .k) (c6 .args .l) (c6 .args .q) (cellOf (c .none .result))
-    (fromRoot (c6 .args .p .name)) (c3 .if1 .left) (c .before .if2 .left) (c .none .ensures)
+    (fromRoot (c6 .args .p .label)) (c3 .if1 .left) (c .before .if2 .left) (c .none .ensures)
 
 pub from-root-spec : {M : Type 1} → statement M
 from-root-spec =

@@ -51,7 +51,7 @@ returns-2 c =
     let c4 = c .before .before .before .before in
     let c6 = c4 .before .before in
     let c11 = c6 .before .before .before .before .before in
-    insert-leaf (c11 .pre) (one-target (c6)) (c4 .index .ensures .0) (sym (target-kind (c .before .before)) ∙ c .before .if2 .taken)
+    insert-leaf (c11 .pre) (one-target (c6)) (c4 .index .ensures .0) (λ q. omega (arith, target-kind (c .before .before)))
     (c .refused2 .ensures)
 
 slice-aggregate-copy-items : tie.Need-slice-aggregate-copy-items
@@ -66,8 +66,7 @@ copy-items-requires c κs =
     let c13 = c8 .before .before .before .before .before in
     insert-items (c13 .pre)
     (one-target (c8))
-    (c6 .index .ensures .0) (λ q. c3 .if2 .left (target-kind
-    (c4) ∙ q)) refl
+    (c6 .index .ensures .0) (λ q. omega (arith, target-kind c4)) refl
 
 same-length : tie.Need-same-length
 same-length c = search needs
@@ -86,9 +85,7 @@ returns-3 c =
     insert-done
     (c19 .pre)
     (one-target (c14))
-    (c12 .index .ensures .0) (λ q.
-    c9 .if2 .left (target-kind
-    (c10) ∙ q))
+    (c12 .index .ensures .0) (λ q. omega (arith, target-kind c10))
     (c5 .copy-items .ensures)
 
 pub insert-spec : {M : Type 1} → statement M

@@ -10,7 +10,7 @@ sub-if1 : tie.Need-sub-if1
 sub-if1 c = search needs
 
 returns : tie.Need-returns
-returns c = sym (limited-few (c .before .before .args .x) (c .before .before .args .top) (c .before .before .args .at) (c .if1 .taken))
+returns c = sym (limited-few (c .before .before .args .x) (c .before .before .args .top) (c .before .before .args .at) (omega arith))
 
 refused-requires : tie.Need-refused-requires
 refused-requires c κs = search needs
