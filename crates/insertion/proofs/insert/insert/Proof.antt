@@ -5,9 +5,9 @@ use lib.ListN.{length}
 use mathlib.Core.Path.{_≡_, refl, sym, _∙_}
 use native.Mathlib.Omega.{arith}
 use borrow.Author.Needs.{needs}
+use Rattle.table.specs.Words.{kindIn}
 use Rattle.insertion.proofs.insert.insert.Statement.{statement}
 use Rattle.insertion.proofs.insert.insert.Tie as tie
-use Rattle.table.specs.Words.{kindIn}
 
 target-kind : (c : tie.After-kind) → c .kind .result ≡
     kindIn (getD (c .before .before .before .before .before .before .before .before .before .args .rows .now)
@@ -38,7 +38,12 @@ slice-read-kind : tie.Need-slice-read-kind
 slice-read-kind c =
     let c3 = c .before .before .before in
     let c8 = c3 .before .before .before .before .before in
-    omega (arith, insert-low (c8 .pre) (one-target (c3)) (c .before .index .ensures .0), c8 .pre .held .few, c8 .pre .held .rows)
+    omega (
+      arith,
+      insert-low (c8 .pre) (one-target c3) (c .before .index .ensures .0),
+      c8 .pre .held .few,
+      c8 .pre .held .rows,
+    )
 
 kind-requires : tie.Need-kind-requires
 kind-requires c κs = search needs
@@ -51,7 +56,9 @@ returns-2 c =
     let c4 = c .before .before .before .before in
     let c6 = c4 .before .before in
     let c11 = c6 .before .before .before .before .before in
-    insert-leaf (c11 .pre) (one-target (c6)) (c4 .index .ensures .0) (sym (target-kind (c .before .before)) ∙ c .before .if2 .taken)
+    insert-leaf (c11 .pre) (one-target
+    c6) (c4 .index .ensures .0) (sym (target-kind
+    (c .before .before)) ∙ c .before .if2 .taken)
     (c .refused2 .ensures)
 
 slice-aggregate-copy-items : tie.Need-slice-aggregate-copy-items
@@ -65,9 +72,9 @@ copy-items-requires c κs =
     let c8 = c6 .before .before in
     let c13 = c8 .before .before .before .before .before in
     insert-items (c13 .pre)
-    (one-target (c8))
+    (one-target c8)
     (c6 .index .ensures .0) (λ q. c3 .if2 .left (target-kind
-    (c4) ∙ q)) refl
+    c4 ∙ q)) refl
 
 same-length : tie.Need-same-length
 same-length c = search needs
@@ -85,10 +92,10 @@ returns-3 c =
     let c19 = c14 .before .before .before .before .before in
     insert-done
     (c19 .pre)
-    (one-target (c14))
+    (one-target c14)
     (c12 .index .ensures .0) (λ q.
     c9 .if2 .left (target-kind
-    (c10) ∙ q))
+    c10 ∙ q))
     (c5 .copy-items .ensures)
 
 pub insert-spec : {M : Type 1} → statement M
