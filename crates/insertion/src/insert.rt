@@ -5,6 +5,8 @@ ghost use lib.ListN.{length};
 ghost use Rattle.insertion.specs.Inserting.{copyLink, NextPre, NextPost, RestPre, RestPost, ItemPre, ItemPost};
 ghost use Rattle.insertion.specs.Inserting.{ItemsPre, ItemsPost, InsertPre, InsertPost};
 use table::Fault;
+use table::Link;
+use table::RowNumber;
 use table::Table;
 use table::number;
 use table::words;
@@ -14,39 +16,42 @@ use updates::update;
 // A row that has no copy.
 const NO_COPY: u16 = 0xFFFF;
 
-// The link to the copy of the parent with this link, 0 where it has none since top.
-fn copy_link(map: &[u16], top: usize, link: usize) -> usize
-    requires { ⌜ link ≤ length (now map) ⌝ }
-    ensures { λ r. ⌜ r ≡ copyLink (now (map .entry)) top link ⌝ }
+// The link to the copy of the parent with this link, none where it has none since top.
+fn copy_link(map: &[u16], top: RowNumber, link: Link) -> Link
+    requires { ⌜ link .0 ≤ length (now map) ⌝ }
+    ensures { λ r. ⌜ r .0 ≡ copyLink (now (map .entry)) (top .0) (link .0) ⌝ }
 {
-    if link == 0 {
-        return 0;
+    if link.0 == 0 {
+        return Link(0);
     }
-    if link - 1 < top {
-        return 0;
+    let parent = link.0 - 1;
+    if parent < top.0 {
+        return Link(0);
     }
-    if map[link - 1] == NO_COPY {
-        return 0;
+    if map[parent] == NO_COPY {
+        return Link(0);
     }
-    number::index(map[link - 1]) + 1
+    let copy = number::index(map[parent]) + 1;
+    Link(copy)
 }
 
-// Row j of the scan from top: a copy under its parent's copy, if there is one.
+// A row of the scan from top: a copy under its parent's copy, if there is one.
 fn copy_next(
     rows: &mut [u32],
     history: &mut [u8],
     map: &mut [u16],
     p: Progress,
-    top: usize,
-    j: usize,
+    top: RowNumber,
+    row: RowNumber,
 ) -> Progress
-    requires { ⌜ NextPre (now rows) (now history) (now map) p top j ⌝ }
-    ensures { λ r. ⌜ NextPost (now (rows .entry)) (now (history .entry)) (now (map .entry)) p top j
+    requires { ⌜ NextPre (now rows) (now history) (now map) p (top .0) (row .0) ⌝ }
+    ensures { λ r. ⌜ NextPost (now (rows .entry)) (now (history .entry)) (now (map .entry)) p (top .0) (row .0)
         (now (rows .exit)) (now (history .exit)) (now (map .exit)) r ⌝ }
 {
+    let j = row.0;
     let w = rows[j];
     let link = copy_link(map, top, words::link(w));
-    if link == 0 {
+    if link.0 == 0 {
         map[j] = NO_COPY;
         return p;
     }
@@ -62,16 +67,16 @@ fn copy_rest(
     map: &mut [u16],
     p: Progress,
     old: usize,
-    top: usize,
+    top: RowNumber,
 ) -> Progress
-    requires { ⌜ RestPre (now rows) (now history) (now map) p old top ⌝ }
-    ensures { λ r. ⌜ RestPost (now (rows .entry)) (now (history .entry)) (now (map .entry)) p old top
+    requires { ⌜ RestPre (now rows) (now history) (now map) p old (top .0) ⌝ }
+    ensures { λ r. ⌜ RestPost (now (rows .entry)) (now (history .entry)) (now (map .entry)) p old (top .0)
         (now (rows .exit)) (now (history .exit)) r ⌝ }
 {
     let mut now = p;
-    let mut j = top + 1;
+    let mut j = top.0 + 1;
     while j < old {
-        now = copy_next(rows, history, map, now, top, j);
+        now = copy_next(rows, history, map, now, top, RowNumber(j));
         if now.number != 0 {
             return now;
         }
@@ -87,15 +92,18 @@ fn copy_item(
     map: &mut [u16],
     p: Progress,
     old: usize,
-    top: usize,
-    target: usize,
+    top: RowNumber,
+    target: RowNumber,
 ) -> Progress
-    requires { ⌜ ItemPre (now rows) (now history) (now map) p old top target ⌝ }
-    ensures { λ r. ⌜ ItemPost (now (rows .entry)) (now (history .entry)) p old top target (now (rows .exit)) (now (history .exit)) r ⌝ }
+    requires { ⌜ ItemPre (now rows) (now history) (now map) p old (top .0) (target .0) ⌝ }
+    ensures { λ r. ⌜ ItemPost (now (rows .entry)) (now (history .entry)) p old (top .0) (target .0)
+        (now (rows .exit)) (now (history .exit)) r ⌝ }
 {
     let count = p.count;
-    map[top] = count as u16;
-    let w = words::relinked(rows[top], target + 1);
+    let i = top.0;
+    map[i] = count as u16;
+    let link = target.0 + 1;
+    let w = words::relinked(rows[i], Link(link));
     let next = update::new_row(rows, history, p, w);
     if next.number != 0 {
         return next;
@@ -110,10 +118,10 @@ fn copy_items(
     map: &mut [u16],
     p: Progress,
     items: &[u16],
-    target: usize,
+    target: RowNumber,
 ) -> Progress
-    requires { ⌜ ItemsPre (now rows) (now history) (now map) p (now items) target ⌝ }
-    ensures { λ r. ⌜ ItemsPost (now (rows .entry)) (now (history .entry)) p (now (items .entry)) target
+    requires { ⌜ ItemsPre (now rows) (now history) (now map) p (now items) (target .0) ⌝ }
+    ensures { λ r. ⌜ ItemsPost (now (rows .entry)) (now (history .entry)) p (now (items .entry)) (target .0)
         (now (rows .exit)) (now (history .exit)) r ⌝ }
 {
     let old = p.count;
@@ -126,7 +134,7 @@ fn copy_items(
             map,
             now,
             old,
-            number::index(items[k]),
+            RowNumber(number::index(items[k])),
             target,
         );
         if now.number != 0 {
@@ -157,5 +165,5 @@ pub fn insert(
         return p.refused(Fault::TARGET);
     }
     let mut map = [0u16; Table::ROWS];
-    copy_items(rows, history, &mut map, p, items, target)
+    copy_items(rows, history, &mut map, p, items, RowNumber(target))
 }

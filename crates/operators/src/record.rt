@@ -14,7 +14,7 @@ use query::step::StepBy;
 use records::kinds;
 use records::walk;
 use table::Fault;
-use table::NameNumber;
+use table::RowNumber;
 use table::Table;
 use table::number;
 use updates::state::Progress;
@@ -26,13 +26,6 @@ pub struct Evaluated {
     pub place: usize,
     pub end: usize,
     pub env: [Span; Table::BINDERS],
-}
-
-// A byte as an element's name.
-fn name(b: u8) -> u16
-    ensures { λ r. ⌜ r ≡ b ⌝ }
-{
-    b as u16
 }
 
 // After the record at a place: past it where nothing is refused.
@@ -119,9 +112,9 @@ pub fn nullary(
         let end = value::copied(work, from, to, top);
         return ended(p, at, at + 2, end, env);
     }
-    let row = p.count;
+    let row = RowNumber(p.count);
     if kind == kinds::NEW_ELEMENT {
-        let q = update::new_element(rows, history, p, NameNumber(name(b)));
+        let q = update::new_element(rows, history, p, number::name(b));
         let end = value::put_row(q, row, work, top);
         return ended(q, at, at + 2, end, env);
     }
@@ -162,7 +155,7 @@ pub fn applied(
     let by = StepBy {
         axis: a,
         test: b,
-        name: NameNumber(name(script[at + 3])),
+        name: number::name(script[at + 3]),
     };
     let end = step::stepped(rows, p.count, by, work, top, to);
     ended(p, at, next, end, env)

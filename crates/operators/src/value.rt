@@ -6,6 +6,7 @@ ghost use Rattle.table.specs.Words.{ofLink};
 ghost use Rattle.query.specs.Values.{Appended, valueAt};
 ghost use Rattle.operators.specs.Evaluating.{CopyPre, BindPre, BindPost, madeValue, PutPre};
 use records::kinds;
+use table::RowNumber;
 use table::Table;
 use updates::state::Progress;
 
@@ -45,14 +46,14 @@ pub fn document(marks: &[u16], d: usize, work: &mut [u16], top: usize) -> usize
 }
 
 // A new row's number, as a value from top on, where it is not refused.
-pub fn put_row(q: Progress, row: usize, work: &mut [u16], top: usize) -> usize
-    requires { ⌜ PutPre (now work) top row ⌝ }
-    ensures { λ r. ⌜ Appended (madeValue q row) (now (work .entry)) top (now (work .exit)) r ⌝ }
+pub fn put_row(q: Progress, row: RowNumber, work: &mut [u16], top: usize) -> usize
+    requires { ⌜ PutPre (now work) top (row .0) ⌝ }
+    ensures { λ r. ⌜ Appended (madeValue q (row .0)) (now (work .entry)) top (now (work .exit)) r ⌝ }
 {
     if q.number != 0 {
         return top;
     }
-    work[top] = row as u16;
+    work[top] = row.0 as u16;
     top + 1
 }
 

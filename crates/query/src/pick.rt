@@ -6,6 +6,7 @@ ghost use Rattle.model.specs.Step.{signedKey, relates};
 ghost use Rattle.table.specs.Words.{rowOf};
 ghost use Rattle.query.specs.Values.{PickPre, PickPost};
 use crate::step;
+use table::RowNumber;
 use table::number;
 use table::words;
 
@@ -65,9 +66,9 @@ pub fn picked(
     let mut at = from;
     let mut k = from;
     while k < to {
-        let item = work[k];
-        let keep = is_picked(rows[number::index(item)], relation, constant);
-        at = step::append_if(keep, item, work, at);
+        let row = number::index(work[k]);
+        let keep = is_picked(rows[row], relation, constant);
+        at = step::append_if(keep, RowNumber(row), work, at);
         k += 1;
     }
     at

@@ -41,7 +41,7 @@ fn passes(rows: &[u32], row: RowNumber, test: u8, name: NameNumber) -> bool
     requires { ⌜ row .0 < length (now rows) ⌝ }
     ensures { λ r. ⌜ r ≡ admits (stepBy 0 test (name .0)) (letterOf (rowOf (getD (now (rows .entry)) (row .0) 0))) ⌝ }
 {
-    let at = number::index(row.0);
+    let at = row.0;
     let w = rows[at];
     if test == ANY_NODE {
         return true;
@@ -72,10 +72,10 @@ fn flag(flags: &mut [u8], items: &[u16])
 }
 
 // Whether a row counts for the next: an item, or along a deep axis a row that is reached.
-fn counts(item: u8, reached: u8, deep: bool) -> bool
-    ensures { λ r. ⌜ r ≡ counted item reached deep ⌝ }
+fn counts(flag: u8, reached: u8, deep: bool) -> bool
+    ensures { λ r. ⌜ r ≡ counted flag reached deep ⌝ }
 {
-    if item != 0 {
+    if flag != 0 {
         return true;
     }
     if deep {
@@ -85,15 +85,15 @@ fn counts(item: u8, reached: u8, deep: bool) -> bool
 }
 
 // A row on the way down: reached where its parent counts.
-fn descend_one(w: u32, j: usize, deep: bool, flags: &[u8], reached: &mut [u8])
-    requires { ⌜ OnePre w j (now flags) (now reached) ⌝ }
-    ensures { λ r. ⌜ now (reached .exit) ≡ descended w j deep (now (flags .entry)) (now (reached .entry)) ⌝ }
+fn descend_one(w: u32, row: RowNumber, deep: bool, flags: &[u8], reached: &mut [u8])
+    requires { ⌜ OnePre w (row .0) (now flags) (now reached) ⌝ }
+    ensures { λ r. ⌜ now (reached .exit) ≡ descended w (row .0) deep (now (flags .entry)) (now (reached .entry)) ⌝ }
 {
-    let l = words::link(w);
+    let l = words::link(w).0;
     if !counts(flags[l], reached[l], deep) {
         return;
     }
-    reached[j + 1] = 1;
+    reached[row.0 + 1] = 1;
 }
 
 // The rows below the items: children, or descendants along a deep axis. Parents are lower than their children.
@@ -103,20 +103,22 @@ fn descend(rows: &[u32], count: usize, deep: bool, flags: &[u8], reached: &mut [
 {
     let mut j = 0;
     while j < count {
-        descend_one(rows[j], j, deep, flags, reached);
+        descend_one(rows[j], RowNumber(j), deep, flags, reached);
         j += 1;
     }
 }
 
 // A row on the way up: where it counts, its parent is reached.
-fn climb_one(w: u32, j: usize, deep: bool, flags: &[u8], reached: &mut [u8])
-    requires { ⌜ OnePre w j (now flags) (now reached) ⌝ }
-    ensures { λ r. ⌜ now (reached .exit) ≡ climbed w j deep (now (flags .entry)) (now (reached .entry)) ⌝ }
+fn climb_one(w: u32, row: RowNumber, deep: bool, flags: &[u8], reached: &mut [u8])
+    requires { ⌜ OnePre w (row .0) (now flags) (now reached) ⌝ }
+    ensures { λ r. ⌜ now (reached .exit) ≡ climbed w (row .0) deep (now (flags .entry)) (now (reached .entry)) ⌝ }
 {
-    if !counts(flags[j + 1], reached[j + 1], deep) {
+    let at = row.0 + 1;
+    if !counts(flags[at], reached[at], deep) {
         return;
     }
-    reached[words::link(w)] = 1;
+    let l = words::link(w).0;
+    reached[l] = 1;
 }
 
 // The rows above the items: parents, or ancestors along a deep axis.
@@ -127,7 +129,7 @@ fn climb(rows: &[u32], count: usize, deep: bool, flags: &[u8], reached: &mut [u8
     let mut j = count;
     while 0 < j {
         j -= 1;
-        climb_one(rows[j], j, deep, flags, reached);
+        climb_one(rows[j], RowNumber(j), deep, flags, reached);
     }
 }
 
@@ -164,15 +166,16 @@ fn keeps(rows: &[u32], row: RowNumber, flag: u8, test: u8, name: NameNumber) -> 
 }
 
 // Appends an item to the value that ends at a place, if it is kept; the place past the value.
-pub fn append_if(keep: bool, item: u16, work: &mut [u16], at: usize) -> usize
+pub fn append_if(keep: bool, item: RowNumber, work: &mut [u16], at: usize) -> usize
+    requires { ⌜ item .0 < 65536 ⌝ }
     requires { ⌜ at < length (now work) ⌝ }
-    ensures { λ r. ⌜ now (work .exit) ≡ pick keep (set (now (work .entry)) at item) (now (work .entry)) ⌝ }
+    ensures { λ r. ⌜ now (work .exit) ≡ pick keep (set (now (work .entry)) at (item .0)) (now (work .entry)) ⌝ }
     ensures { λ r. ⌜ r ≡ pick keep (at + 1) at ⌝ }
 {
     if !keep {
         return at;
     }
-    work[at] = item;
+    work[at] = item.0 as u16;
     at + 1
 }
 
@@ -193,9 +196,8 @@ fn collect(
     let mut at = from;
     let mut j = 0;
     while j < count {
-        let row = j as u16;
-        let keep = keeps(rows, RowNumber(row), reached[j + 1], test, name);
-        at = append_if(keep, row, work, at);
+        let keep = keeps(rows, RowNumber(j), reached[j + 1], test, name);
+        at = append_if(keep, RowNumber(j), work, at);
         j += 1;
     }
     at

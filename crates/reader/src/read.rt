@@ -1,8 +1,12 @@
 // Reads a stored plan, record by record: per record 1, 5, 2, 4, 6.
-ghost use Prim.Native.Nat.{_+_, _<_};
+ghost use mathlib.Core.Path.{_≡_};
+ghost use Prim.Native.Nat.{_+_, _*_, _-_, _≤_, _<_};
+ghost use Rattle.model.specs.Stored.{elementKind, leafKind};
 ghost use Rattle.reader.specs.Reading.{RowPre, RowPost, MarkPre, MarkPost, RecordPre, RecordPost, ReadPre, ReadPost};
 use table::End;
 use table::Fault;
+use table::Link;
+use table::RowNumber;
 use table::Table;
 use table::fit;
 use table::marks;
@@ -17,8 +21,18 @@ pub struct RecordRead {
     pub last: usize,
 }
 
-// A stored row's kind is the kind in its word and this.
-const KIND_BASE: u32 = 0x10;
+// The word of a stored row: its kind and its name or value as they are stored, its parent's link.
+fn word(kind: u8, tag: u8, parent: Link) -> u32
+    requires { ⌜ elementKind ≤ kind ⌝ }
+    requires { ⌜ kind ≤ leafKind ⌝ }
+    requires { ⌜ parent .0 < 1024 ⌝ }
+    ensures { λ r. ⌜ r ≡ kind - 16 + 4 * parent .0 + 4096 * tag ⌝ }
+{
+    if kind == stored::LEAF {
+        return words::leaf(tag, parent);
+    }
+    words::element(number::name(tag), parent)
+}
 
 // The row at the front of s: its refusal's number, or 0 and the table has it.
 fn row(s: &[u8], rows: &mut [u32], count: usize, last: usize) -> u8
@@ -37,18 +51,14 @@ fn row(s: &[u8], rows: &mut [u32], count: usize, last: usize) -> u8
     }
     let parent = number::number_at(s, 2);
     if parent == number::NONE {
-        rows[count] = words::word(number::wide(kind) - KIND_BASE, 0, number::wide(tag));
+        rows[count] = word(kind, tag, Link(0));
         return 0;
     }
-    let link = parent + 1;
-    if !fit::is_element_below(rows, count, link) {
+    if !fit::is_element_below(rows, count, RowNumber(parent)) {
         return Fault::LINK;
     }
-    rows[count] = words::word(
-        number::wide(kind) - KIND_BASE,
-        link as u32,
-        number::wide(tag),
-    );
+    let link = parent + 1;
+    rows[count] = word(kind, tag, Link(link));
     0
 }
 
@@ -64,15 +74,14 @@ fn mark(s: &[u8], rows: &[u32], marks: &mut [u16], count: usize, last: usize) ->
     if document < last {
         return Fault::LINK;
     }
-    let link = number::number_at(s, 2) + 1;
-    if !fit::is_root_below(rows, count, link) {
+    let row = number::number_at(s, 2);
+    if !fit::is_root_below(rows, count, RowNumber(row)) {
         return Fault::LINK;
     }
-    let mark = link as u16;
-    if marks::is_marked(marks, mark) {
+    if marks::is_marked(marks, RowNumber(row)) {
         return Fault::LINK;
     }
-    marks[document] = mark;
+    marks[document] = (row + 1) as u16;
     0
 }
 

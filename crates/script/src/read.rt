@@ -1,12 +1,14 @@
 // Reads the expression at a place: per record 1, 5, 2, 4; then its operands, left to right.
 ghost use mathlib.Core.Path.{_≡_};
 ghost use mathlib.Core.Bool.{_&&_};
+ghost use Prim.Native.Nat.{_≤_};
 ghost use lib.Dec.{leb};
 ghost use Rattle.model.specs.Limits.{maxBinders};
 ghost use Rattle.model.specs.Script.{isBinder, testFits};
 ghost use Rattle.script.specs.Reading.{BodyPre, BodyPost, HeadPost, ExpressionPre, ExpressionPost, endBy};
 use records::kinds;
 use table::Fault;
+use table::NameNumber;
 use table::Table;
 use table::number;
 
@@ -18,14 +20,15 @@ const RELATIONS: u8 = 3;
 const NAMED: u8 = 3;
 
 // Name is 0 unless the test is 3, and then 1 to 255.
-fn test_fits(test: u8, name: u8) -> bool
-    ensures { λ r. ⌜ r ≡ testFits test name ⌝ }
+fn test_fits(test: u8, name: NameNumber) -> bool
+    requires { ⌜ name .0 ≤ 255 ⌝ }
+    ensures { λ r. ⌜ r ≡ testFits test (name .0) ⌝ }
 {
     if test == NAMED {
-        return 1 <= name;
+        return 1 <= name.0;
     }
     if test < NAMED {
-        return name == 0;
+        return name.0 == 0;
     }
     false
 }
@@ -46,7 +49,7 @@ fn body_fits(s: &[u8], bound: usize) -> bool
         if AXES <= s[1] {
             return false;
         }
-        return test_fits(s[2], s[3]);
+        return test_fits(s[2], number::name(s[3]));
     }
     if kind == kinds::NEW_ELEMENT {
         return 1 <= s[1];

@@ -7,15 +7,17 @@ ghost use lib.ListN.{length, set};
 ghost use Rattle.model.specs.Base.{pick};
 ghost use Rattle.sweep.specs.Sweeping.{FlagPre, Flagged, keeps, RowPre, RowPost, RowsPre, Sweeping, LinksPre, newLinks};
 ghost use Rattle.table.specs.Words.{decodeParts};
+use table::Link;
+use table::RowNumber;
 use table::number;
 use table::words;
 
 // Flags the row with this link, if there is one.
-fn flag_one(numbers: &mut [u16], link: u16)
-    requires { ⌜ link < length (now numbers) ⌝ }
-    ensures { λ r. ⌜ now (numbers .exit) ≡ pick (eqb link 0) (now (numbers .entry)) (set (now (numbers .entry)) link 1) ⌝ }
+fn flag_one(numbers: &mut [u16], link: Link)
+    requires { ⌜ link .0 < length (now numbers) ⌝ }
+    ensures { λ r. ⌜ now (numbers .exit) ≡ pick (eqb (link .0) 0) (now (numbers .entry)) (set (now (numbers .entry)) (link .0) 1) ⌝ }
 {
-    let at = number::index(link);
+    let at = link.0;
     if at == 0 {
         return;
     }
@@ -29,32 +31,34 @@ pub fn flag(numbers: &mut [u16], marks: &[u16])
 {
     let mut d = 0;
     while d < marks.len() {
-        flag_one(numbers, marks[d]);
+        flag_one(numbers, Link(number::index(marks[d])));
         d += 1;
     }
 }
 
-// A row is kept: it is marked, or its parent is kept.
-fn is_kept(flag: u16, parent: u16) -> bool
-    ensures { λ r. ⌜ r ≡ keeps flag parent ⌝ }
+// A row is kept: it is marked, or its parent is kept and has a new link.
+fn is_kept(flag: u16, parent: Link) -> bool
+    ensures { λ r. ⌜ r ≡ keeps flag (parent .0) ⌝ }
 {
     if flag != 0 {
         return true;
     }
-    parent != 0
+    parent.0 != 0
 }
 
 // One row: kept, it takes the next number. The next number.
-fn row(w: u32, i: usize, next: usize, numbers: &mut [u16], out: &mut [u32]) -> usize
-    requires { ⌜ RowPre w i next (now numbers) (now out) ⌝ }
-    ensures { λ r. ⌜ RowPost w i next (now (numbers .entry)) (now (out .entry)) (now (numbers .exit)) (now (out .exit)) r ⌝ }
+fn row(w: u32, row: RowNumber, next: usize, numbers: &mut [u16], out: &mut [u32]) -> usize
+    requires { ⌜ RowPre w (row .0) next (now numbers) (now out) ⌝ }
+    ensures { λ r. ⌜ RowPost w (row .0) next (now (numbers .entry)) (now (out .entry)) (now (numbers .exit)) (now (out .exit)) r ⌝ }
 {
-    let parent = numbers[words::link(w)];
+    let old = words::link(w).0;
+    let parent = Link(number::index(numbers[old]));
+    let i = row.0;
     if !is_kept(numbers[i + 1], parent) {
         return next;
     }
     numbers[i + 1] = (next + 1) as u16;
-    out[next] = words::relinked(w, number::index(parent));
+    out[next] = words::relinked(w, parent);
     next + 1
 }
 
@@ -74,7 +78,7 @@ pub fn rows<'a>(
     let mut next = 0;
     let mut i = 0;
     while i < count {
-        next = row(rows[i], i, next, numbers, out);
+        next = row(rows[i], RowNumber(i), next, numbers, out);
         i += 1;
     }
     next

@@ -67,17 +67,14 @@ isThe-linked k m =
     eq-cases m 0 (λ e. rw e (sym (ne-eqb 0 (k + 1) (λ q. omega arith))))
     (λ z. ap (model.isThe k) (ofLink-some m z) ∙ eqb-iff (m - 1) k m (k + 1) (λ e. omega (arith, z)) (λ e. omega arith))
 
-pub marked-turn : (ms : List ℕ) (d link : ℕ) → d < length ms → 0 < link →
-    any (model.isThe (link - 1)) (map ofLink (drop d ms)) ≡ (eqb (getD ms d 0) link || any (model.isThe (link - 1)) (map ofLink (drop (d
-    + 1) ms)))
+pub marked-turn : (ms : List ℕ) (d k : ℕ) → d < length ms →
+    any (model.isThe k) (map ofLink (drop d ms)) ≡ (eqb (getD ms d 0) (k + 1) || any (model.isThe k) (map ofLink (drop (d + 1) ms)))
 unfolding any
-marked-turn ms d link h l =
-    let e : link - 1 + 1 ≡ link = omega arith in
-    rw (drop-next ms d 0 h, isThe-linked (link - 1) (getD ms d 0), e)
+marked-turn ms d k h = rw (drop-next ms d 0 h, isThe-linked k (getD ms d 0))
 
-pub marked-none : (ms : List ℕ) (d link : ℕ) → length ms ≤ d → any (model.isThe (link - 1)) (map ofLink (drop d ms)) ≡ false
+pub marked-none : (ms : List ℕ) (d k : ℕ) → length ms ≤ d → any (model.isThe k) (map ofLink (drop d ms)) ≡ false
 unfolding any
-marked-none ms d link h = rw (drop-of-length-le ms h)
+marked-none ms d k h = rw (drop-of-length-le ms h)
 
 pub marked-snoc : (ms : List ℕ) (m k : ℕ) →
     any (model.isThe k) (map ofLink (ms ++ (m ∷ []))) ≡ (any (model.isThe k) (map ofLink ms) || eqb m (k + 1))

@@ -1,10 +1,12 @@
 // The check of a table handed in: every rule of 'The table', rows past the count and fields not in use zero.
 ghost use mathlib.Core.Path.{_≡_};
-ghost use Prim.Native.Nat.{_-_, _≤_, _<_};
+ghost use Prim.Native.Nat.{_≤_, _<_};
 ghost use lib.ListN.{length, drop};
 ghost use Rattle.model.specs.Base.{all};
 ghost use Rattle.table.specs.Words.{isZero, partsFit};
 ghost use Rattle.table.specs.Fitting.{Words, tagFits, isElementBelow, isRootBelow, linkFits, rowFits, rowsFit, markFits, marksFit};
+use crate::Link;
+use crate::RowNumber;
 use crate::Table;
 use crate::marks;
 use crate::number;
@@ -25,51 +27,53 @@ fn tag_fits(w: u32) -> bool
     kind == words::LEAF
 }
 
-// The row with this link is an element below a bound.
-pub fn is_element_below(rows: &[u32], bound: usize, link: usize) -> bool
+// The row is an element below a bound.
+pub fn is_element_below(rows: &[u32], bound: usize, row: RowNumber) -> bool
     requires { ⌜ bound ≤ length (now rows) ⌝ }
-    requires { ⌜ 0 < link ⌝ }
-    ensures { λ r. ⌜ r ≡ isElementBelow (now (rows .entry)) bound (link - 1) ⌝ }
+    ensures { λ r. ⌜ r ≡ isElementBelow (now (rows .entry)) bound (row .0) ⌝ }
 {
-    if bound < link {
+    let at = row.0;
+    if bound <= at {
         return false;
     }
-    words::kind(rows[link - 1]) != words::LEAF
+    words::kind(rows[at]) != words::LEAF
 }
 
-// The row with this link is an element below a bound, and has no parent.
-pub fn is_root_below(rows: &[u32], bound: usize, link: usize) -> bool
+// The row is an element below a bound, and has no parent.
+pub fn is_root_below(rows: &[u32], bound: usize, row: RowNumber) -> bool
     requires { ⌜ bound ≤ length (now rows) ⌝ }
-    requires { ⌜ 0 < link ⌝ }
-    ensures { λ r. ⌜ r ≡ isRootBelow (now (rows .entry)) bound (link - 1) ⌝ }
+    ensures { λ r. ⌜ r ≡ isRootBelow (now (rows .entry)) bound (row .0) ⌝ }
 {
-    if !is_element_below(rows, bound, link) {
+    if !is_element_below(rows, bound, row) {
         return false;
     }
-    words::link(rows[link - 1]) == 0
+    let at = row.0;
+    words::link(rows[at]).0 == 0
 }
 
-// A parent's link fits at row i: none, or a lower element.
-fn link_fits(rows: &[u32], i: usize, link: usize) -> bool
-    requires { ⌜ i < length (now rows) ⌝ }
-    ensures { λ r. ⌜ r ≡ linkFits (now (rows .entry)) i link ⌝ }
+// A parent's link fits at a row: none, or a lower element.
+fn link_fits(rows: &[u32], row: RowNumber, link: Link) -> bool
+    requires { ⌜ row .0 < length (now rows) ⌝ }
+    ensures { λ r. ⌜ r ≡ linkFits (now (rows .entry)) (row .0) (link .0) ⌝ }
 {
-    if link == 0 {
+    if link.0 == 0 {
         return true;
     }
-    is_element_below(rows, i, link)
+    let at = link.0 - 1;
+    is_element_below(rows, row.0, RowNumber(at))
 }
 
-// Row i fits.
-fn row_fits(rows: &[u32], i: usize) -> bool
-    requires { ⌜ i < length (now rows) ⌝ }
-    ensures { λ r. ⌜ r ≡ rowFits (now (rows .entry)) i ⌝ }
+// A row fits.
+fn row_fits(rows: &[u32], row: RowNumber) -> bool
+    requires { ⌜ row .0 < length (now rows) ⌝ }
+    ensures { λ r. ⌜ r ≡ rowFits (now (rows .entry)) (row .0) ⌝ }
 {
-    let w = rows[i];
+    let at = row.0;
+    let w = rows[at];
     if !tag_fits(w) {
         return false;
     }
-    link_fits(rows, i, words::link(w))
+    link_fits(rows, row, words::link(w))
 }
 
 // The rows below the count fit.
@@ -79,7 +83,7 @@ fn rows_fit(rows: &[u32], count: usize) -> bool
 {
     let mut i = 0;
     while i < count {
-        if !row_fits(rows, i) {
+        if !row_fits(rows, RowNumber(i)) {
             return false;
         }
         i += 1;
@@ -102,15 +106,15 @@ fn rest_zero(rows: &[u32], count: usize) -> bool
 }
 
 // A mark fits: none, or an element without parent.
-fn mark_fits(rows: &[u32], count: usize, link: u16) -> bool
+fn mark_fits(rows: &[u32], count: usize, link: Link) -> bool
     requires { ⌜ count ≤ length (now rows) ⌝ }
-    ensures { λ r. ⌜ r ≡ markFits (now (rows .entry)) count link ⌝ }
+    ensures { λ r. ⌜ r ≡ markFits (now (rows .entry)) count (link .0) ⌝ }
 {
-    let at = number::index(link);
-    if at == 0 {
+    if link.0 == 0 {
         return true;
     }
-    is_root_below(rows, count, at)
+    let at = link.0 - 1;
+    is_root_below(rows, count, RowNumber(at))
 }
 
 // The marks fit, and no two are the same.
@@ -120,13 +124,14 @@ fn marks_fit(rows: &[u32], count: usize, marks: &[u16]) -> bool
 {
     let mut d = 0;
     while d < marks.len() {
-        let link = marks[d];
-        if !mark_fits(rows, count, link) {
+        let link = number::index(marks[d]);
+        if !mark_fits(rows, count, Link(link)) {
             return false;
         }
         d += 1;
         if link != 0 {
-            if marks::is_marked(&marks[d..], link) {
+            let row = link - 1;
+            if marks::is_marked(&marks[d..], RowNumber(row)) {
                 return false;
             }
         }

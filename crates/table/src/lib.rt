@@ -10,12 +10,14 @@ pub mod results;
 pub mod stored;
 pub mod words;
 
-// A row's number and an element's name: one never stands where the other is meant.
-pub struct RowNumber(pub u16);
+// A row's number, an element's name, and a link to a row, its number and one, or to none, 0: one never stands where another is meant.
+pub struct RowNumber(pub usize);
 
 pub struct NameNumber(pub u16);
 
-// A plan: rows packed into words (words.rt), zero past the count; a document's mark is its row's number and one, or 0.
+pub struct Link(pub usize);
+
+// A plan: rows packed into words (words.rt), zero past the count; a document's mark is its row's link.
 pub struct Table {
     pub count: usize,
     pub rows: [u32; Table::ROWS],
@@ -38,7 +40,7 @@ impl Table {
 
     pub const HISTORY_RECORDS: usize = 2048;
 
-    // A row's link is its number and one; 0 links to no row.
+    // Links to the rows, and to none.
     pub const LINKS: usize = Table::ROWS + 1;
 
     // The table without rows.

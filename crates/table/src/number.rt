@@ -1,9 +1,11 @@
-// Numbers of one byte and of two: widened, read from a record, and stored for a parent.
+// Numbers of one byte and of two: widened, as a name, read from a record, and stored for a parent.
 ghost use mathlib.Core.Path.{_≡_};
 ghost use Prim.Native.Nat.{_+_, _<_};
 ghost use lib.ListN.{length};
 ghost use Rattle.model.specs.Stored.{wordAt, wordBytes, parentBytes};
 ghost use Rattle.table.specs.Words.{ofLink};
+use crate::Link;
+use crate::NameNumber;
 
 // Stored for the parent where there is none.
 pub const NONE: usize = 0xFFFF;
@@ -24,6 +26,13 @@ pub fn wide(b: u8) -> u32
     b as u32
 }
 
+// A byte as an element's name.
+pub fn name(b: u8) -> NameNumber
+    ensures { λ r. ⌜ r .0 ≡ b ⌝ }
+{
+    NameNumber(b as u16)
+}
+
 // A two-byte number as a size.
 pub fn index(n: u16) -> usize
     ensures { λ r. ⌜ r ≡ n ⌝ }
@@ -42,13 +51,13 @@ pub fn number_at(s: &[u8], at: usize) -> usize
 }
 
 // The number stored for the parent with this link.
-pub fn parent(link: usize) -> usize
-    requires { ⌜ link < 1024 ⌝ }
-    ensures { λ r. ⌜ wordBytes r ≡ parentBytes (ofLink link) ⌝ }
+pub fn parent(link: Link) -> usize
+    requires { ⌜ link .0 < 1024 ⌝ }
+    ensures { λ r. ⌜ wordBytes r ≡ parentBytes (ofLink (link .0)) ⌝ }
     ensures { λ r. ⌜ r < 65536 ⌝ }
 {
-    if link == 0 {
+    if link.0 == 0 {
         return NONE;
     }
-    link - 1
+    link.0 - 1
 }

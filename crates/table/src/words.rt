@@ -1,7 +1,9 @@
-// A row in a word: kind in 2 bits, the parent's number and one or 0 in 10, name or value above.
+// A row in a word: kind in 2 bits, the parent's link in 10, name or value above.
 ghost use mathlib.Core.Path.{_≡_};
 ghost use Prim.Native.Nat.{_+_, _*_, _/_, _%_, _<_};
-ghost use Rattle.table.specs.Words.{kindIn, linkIn, tagIn, withLink};
+ghost use Rattle.table.specs.Words.{elementWord, leafWord, kindIn, linkIn, tagIn, withLink};
+use crate::Link;
+use crate::NameNumber;
 
 pub const ELEMENT: u32 = 1;
 
@@ -13,10 +15,10 @@ pub fn kind(w: u32) -> u32
     w % 4
 }
 
-pub fn link(w: u32) -> usize
-    ensures { λ r. ⌜ r ≡ linkIn w ⌝ }
+pub fn link(w: u32) -> Link
+    ensures { λ r. ⌜ r .0 ≡ linkIn w ⌝ }
 {
-    (w / 4 % 1024) as usize
+    Link((w / 4 % 1024) as usize)
 }
 
 pub fn tag(w: u32) -> u32
@@ -25,19 +27,26 @@ pub fn tag(w: u32) -> u32
     w / 4096
 }
 
-pub fn word(kind: u32, link: u32, tag: u32) -> u32
-    requires { ⌜ kind < 4 ⌝ }
-    requires { ⌜ link < 1024 ⌝ }
-    requires { ⌜ tag < 65536 ⌝ }
-    ensures { λ r. ⌜ r ≡ kind + 4 * link + 4096 * tag ⌝ }
+// The word of an element.
+pub fn element(name: NameNumber, parent: Link) -> u32
+    requires { ⌜ parent .0 < 1024 ⌝ }
+    ensures { λ r. ⌜ r ≡ elementWord + 4 * parent .0 + 4096 * name .0 ⌝ }
 {
-    kind + 4 * link + 4096 * tag
+    ELEMENT + 4 * (parent.0 as u32) + 4096 * (name.0 as u32)
+}
+
+// The word of a leaf.
+pub fn leaf(value: u8, parent: Link) -> u32
+    requires { ⌜ parent .0 < 1024 ⌝ }
+    ensures { λ r. ⌜ r ≡ leafWord + 4 * parent .0 + 4096 * value ⌝ }
+{
+    LEAF + 4 * (parent.0 as u32) + 4096 * (value as u32)
 }
 
 // The word with another link to the parent.
-pub fn relinked(w: u32, link: usize) -> u32
-    requires { ⌜ link < 1024 ⌝ }
-    ensures { λ r. ⌜ r ≡ withLink w link ⌝ }
+pub fn relinked(w: u32, parent: Link) -> u32
+    requires { ⌜ parent .0 < 1024 ⌝ }
+    ensures { λ r. ⌜ r ≡ withLink w (parent .0) ⌝ }
 {
-    w % 4 + 4 * (link as u32) + 4096 * (w / 4096)
+    w % 4 + 4 * (parent.0 as u32) + 4096 * (w / 4096)
 }

@@ -347,7 +347,5 @@ module _ {ws : List ℕ} {n : ℕ} {s : List ℕ} {size : ℕ} (pre : FitPre ws 
         pub cut-none : v ≡ 65535 → cutFits x (cutIn s) ≡ false
         cut-none e = cut-parent ∙ rw (eq-eqb v 65535 e)
 
-        pub cut-element : (v ≡ 65535 → ⊥) → cutFits x (cutIn s) ≡ isElementBelow ws row (v + 1 - 1)
-        cut-element e =
-            let k : v + 1 - 1 ≡ v = omega arith in
-            cut-parent ∙ rw (ne-eqb v 65535 e) (element-below n ws ms within v row (omega arith) ∙ ap (isElementBelow ws row) (sym k))
+        pub cut-element : (v ≡ 65535 → ⊥) → cutFits x (cutIn s) ≡ isElementBelow ws row v
+        cut-element e = cut-parent ∙ rw (ne-eqb v 65535 e) (element-below n ws ms within v row (omega arith))

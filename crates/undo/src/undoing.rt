@@ -11,6 +11,8 @@ ghost use Rattle.table.specs.Words.{kindIn, leafWord, ofLink, decodeParts};
 ghost use Rattle.undo.specs.Undoing.{FormPost, PlacesPost, FitPre, BackPre, BackPost, AllPre, AllPost};
 use table::End;
 use table::Fault;
+use table::Link;
+use table::RowNumber;
 use table::Table;
 use table::fit;
 use table::marks;
@@ -94,14 +96,14 @@ fn same_kind(w: u32, kind: u8) -> bool
 }
 
 // A row's link and the number written for a parent say the same.
-fn same_parent(link: usize, number: usize) -> bool
+fn same_parent(link: Link, number: usize) -> bool
     requires { ⌜ number < 65536 ⌝ }
-    ensures { λ r. ⌜ r ≡ sameParent (ofLink link) (parentIn number) ⌝ }
+    ensures { λ r. ⌜ r ≡ sameParent (ofLink (link .0)) (parentIn number) ⌝ }
 {
     if number == number::NONE {
-        return link == 0;
+        return link.0 == 0;
     }
-    link == number + 1
+    link.0 == number + 1
 }
 
 // The row made by the record s is the last, unmarked, and equal to it.
@@ -113,7 +115,7 @@ fn made_fits(rows: &[u32], marks: &[u16], count: usize, s: &[u8]) -> bool
     if row + 1 != count {
         return false;
     }
-    if marks::is_marked(marks, (row + 1) as u16) {
+    if marks::is_marked(marks, RowNumber(row)) {
         return false;
     }
     let w = rows[row];
@@ -135,17 +137,17 @@ fn cut_fits(rows: &[u32], marks: &[u16], count: usize, s: &[u8]) -> bool
     if count <= row {
         return false;
     }
-    if words::link(rows[row]) != 0 {
+    if words::link(rows[row]).0 != 0 {
         return false;
     }
-    if marks::is_marked(marks, (row + 1) as u16) {
+    if marks::is_marked(marks, RowNumber(row)) {
         return false;
     }
     let parent = number::number_at(s, 3);
     if parent == number::NONE {
         return false;
     }
-    fit::is_element_below(rows, row, parent + 1)
+    fit::is_element_below(rows, row, RowNumber(parent))
 }
 
 // The record s undone: the link is back, or the last row is gone.
@@ -162,8 +164,8 @@ fn undo_record(rows: &mut [u32], marks: &[u16], count: usize, s: &[u8]) -> End
             };
         }
         let row = number::number_at(s, 1);
-        let parent = number::number_at(s, 3);
-        rows[row] = words::relinked(rows[row], parent + 1);
+        let link = number::number_at(s, 3) + 1;
+        rows[row] = words::relinked(rows[row], Link(link));
         return End {
             number: 0,
             place: 0,

@@ -28,10 +28,9 @@ made-bytes : (r : model.Row) (i : ℕ) →
     recordBytes (made r i) ≡ (pick (r .isLeaf) 66 65 ∷ wordBytes i) ++ (r .tag ∷ parentBytes (r .parent))
 made-bytes r i = rw (isCut-made r i)
 
-pub made-six : (w i k t p : ℕ) → k ≡ madeKind w → t ≡ tagIn w → wordBytes p ≡ parentBytes (ofLink (linkIn w)) →
-    sixBytes k i t p ≡ recordBytes (made (rowOf w) i)
-made-six w i k t p e f g =
-    ap (λ (l : List ℕ). (k ∷ wordBytes i) ++ (t ∷ l)) g ∙
+pub made-six : (w i k t l : ℕ) → k ≡ madeKind w → t ≡ tagIn w → l ≡ linkIn w → sixBytes k i t l ≡ recordBytes (made (rowOf w) i)
+made-six w i k t l e f g =
+    ap (λ (j : ℕ). (k ∷ wordBytes i) ++ (t ∷ parentBytes (ofLink j))) g ∙
     ap (λ (j : ℕ). (j ∷ wordBytes i) ++ (t ∷ parentBytes (ofLink (linkIn w)))) e ∙
     ap (λ (j : ℕ). (madeKind w ∷ wordBytes i) ++ (j ∷ parentBytes (ofLink (linkIn w)))) f ∙ sym (made-bytes (rowOf w) i)
 

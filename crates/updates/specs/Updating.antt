@@ -1,15 +1,16 @@
 -- Contracts of the updates of single rows.
 use mathlib.Core.Path.{_≡_}
 use mathlib.Core.Bool.{Bool, true}
-use mathlib.Core.List.{List, [], _∷_}
-use Prim.Native.Nat.{ℕ, _/_, _%_, _≤_, _<_}
+use mathlib.Core.List.{List, [], _∷_, _++_}
+use Prim.Native.Nat.{ℕ, _≤_, _<_}
 use lib.Dec.{eqb}
 use Rattle.model.specs.Base.{pick}
 use Rattle.model.specs.Table.{tagFits, parentFits}
+use Rattle.model.specs.Stored.{wordBytes, parentBytes}
 use Rattle.model.specs.Run.{newRow, loose, cutAll}
 use Rattle.model.specs.History.{madeElementKind, madeLeafKind}
 use Rattle.table.specs.Flags.{Within}
-use Rattle.table.specs.Words.{isRowWord, rowOf, decodeParts, kindIn, leafWord}
+use Rattle.table.specs.Words.{ofLink, isRowWord, rowOf, decodeParts, kindIn, leafWord}
 use Rattle.updates.specs.State.{Held, Updated}
 use Rattle.updates.specs.declared.state.Progress.{Progress}
 
@@ -17,8 +18,8 @@ use Rattle.updates.specs.declared.state.Progress.{Progress}
 abbrev pub madeKind : (word : ℕ) → ℕ
 madeKind w = pick (eqb (kindIn w) leafWord) madeLeafKind madeElementKind
 
-abbrev pub sixBytes : (kind row tag parent : ℕ) → List ℕ
-sixBytes k i t p = k ∷ i % 256 ∷ i / 256 ∷ t ∷ p % 256 ∷ p / 256 ∷ []
+abbrev pub sixBytes : (kind row tag link : ℕ) → List ℕ
+sixBytes k i t l = (k ∷ wordBytes i) ++ (t ∷ parentBytes (ofLink l))
 
 -- A NEW ROW that fits, in its word
 pub record NewPre (ws h : List ℕ) (p : Progress) (w : ℕ) : Type 0 where

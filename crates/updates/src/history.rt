@@ -8,6 +8,8 @@ ghost use Rattle.model.specs.Run.{made, cutRecord};
 ghost use Rattle.table.specs.Words.{tagIn, rowOf};
 ghost use Rattle.model.specs.Base.{over};
 ghost use Rattle.updates.specs.Updating.{madeKind, sixBytes};
+use table::Link;
+use table::RowNumber;
 use table::number;
 use table::words;
 
@@ -33,42 +35,42 @@ fn made_kind(w: u32) -> u8
 }
 
 // A made row's record at a place, field by field.
-fn put_six(history: &mut [u8], at: usize, kind: u8, row: usize, tag: u8, parent: usize)
+fn put_six(history: &mut [u8], at: usize, kind: u8, row: RowNumber, tag: u8, parent: Link)
     requires { ⌜ at + 6 ≤ length (now history) ⌝ }
-    requires { ⌜ row < 65536 ⌝ }
-    requires { ⌜ parent < 65536 ⌝ }
-    ensures { λ r. ⌜ now (history .exit) ≡ over at (sixBytes kind row tag parent) (now (history .entry)) ⌝ }
+    requires { ⌜ row .0 < maxRows ⌝ }
+    requires { ⌜ parent .0 < 1024 ⌝ }
+    ensures { λ r. ⌜ now (history .exit) ≡ over at (sixBytes kind (row .0) tag (parent .0)) (now (history .entry)) ⌝ }
 {
+    let number = number::parent(parent);
     history[at] = kind;
-    history[at + 1] = (row % 256) as u8;
-    history[at + 2] = (row / 256) as u8;
+    history[at + 1] = (row.0 % 256) as u8;
+    history[at + 2] = (row.0 / 256) as u8;
     history[at + 3] = tag;
-    history[at + 4] = (parent % 256) as u8;
-    history[at + 5] = (parent / 256) as u8;
+    history[at + 4] = (number % 256) as u8;
+    history[at + 5] = (number / 256) as u8;
 }
 
 // The record of row w made, at a place.
-pub fn put_made(history: &mut [u8], at: usize, row: usize, w: u32)
+pub fn put_made(history: &mut [u8], at: usize, row: RowNumber, w: u32)
     requires { ⌜ at + 6 ≤ length (now history) ⌝ }
-    requires { ⌜ row < maxRows ⌝ }
+    requires { ⌜ row .0 < maxRows ⌝ }
     requires { ⌜ tagIn w < 256 ⌝ }
-    ensures { λ r. ⌜ now (history .exit) ≡ over at (recordBytes (made (rowOf w) row)) (now (history .entry)) ⌝ }
+    ensures { λ r. ⌜ now (history .exit) ≡ over at (recordBytes (made (rowOf w) (row .0))) (now (history .entry)) ⌝ }
 {
-    let number = number::parent(words::link(w));
     let tag = words::tag(w) as u8;
-    put_six(history, at, made_kind(w), row, tag, number);
+    put_six(history, at, made_kind(w), row, tag, words::link(w));
 }
 
 // The record of a row cut from its parent, at a place.
-pub fn put_cut(history: &mut [u8], at: usize, row: usize, parent: usize)
+pub fn put_cut(history: &mut [u8], at: usize, row: RowNumber, parent: RowNumber)
     requires { ⌜ at + 5 ≤ length (now history) ⌝ }
-    requires { ⌜ row < maxRows ⌝ }
-    requires { ⌜ parent < maxRows ⌝ }
-    ensures { λ r. ⌜ now (history .exit) ≡ over at (recordBytes (cutRecord row parent)) (now (history .entry)) ⌝ }
+    requires { ⌜ row .0 < maxRows ⌝ }
+    requires { ⌜ parent .0 < maxRows ⌝ }
+    ensures { λ r. ⌜ now (history .exit) ≡ over at (recordBytes (cutRecord (row .0) (parent .0))) (now (history .entry)) ⌝ }
 {
     history[at] = CUT;
-    history[at + 1] = (row % 256) as u8;
-    history[at + 2] = (row / 256) as u8;
-    history[at + 3] = (parent % 256) as u8;
-    history[at + 4] = (parent / 256) as u8;
+    history[at + 1] = (row.0 % 256) as u8;
+    history[at + 2] = (row.0 / 256) as u8;
+    history[at + 3] = (parent.0 % 256) as u8;
+    history[at + 4] = (parent.0 / 256) as u8;
 }

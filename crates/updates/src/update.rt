@@ -8,7 +8,9 @@ use crate::history;
 use crate::state::Progress;
 use areas::tally;
 use table::Fault;
+use table::Link;
 use table::NameNumber;
+use table::RowNumber;
 use table::Table;
 use table::number;
 use table::words;
@@ -28,7 +30,7 @@ pub fn new_row(rows: &mut [u32], history: &mut [u8], p: Progress, w: u32) -> Pro
         return p.refused(Fault::HISTORY);
     }
     rows[count] = w;
-    history::put_made(history, at, count, w);
+    history::put_made(history, at, RowNumber(count), w);
     Progress {
         number: 0,
         count: count + 1,
@@ -42,8 +44,7 @@ pub fn new_element(rows: &mut [u32], history: &mut [u8], p: Progress, name: Name
     requires { ⌜ ElementPre (now rows) (now history) p (name .0) ⌝ }
     ensures { λ r. ⌜ LoosePost (now (rows .entry)) (now (history .entry)) p false (name .0) (now (rows .exit)) (now (history .exit)) r ⌝ }
 {
-    let tag = name.0;
-    new_row(rows, history, p, words::word(words::ELEMENT, 0, tag as u32))
+    new_row(rows, history, p, words::element(name, Link(0)))
 }
 
 // A new leaf without parent.
@@ -51,26 +52,28 @@ pub fn new_leaf(rows: &mut [u32], history: &mut [u8], p: Progress, value: u8) ->
     requires { ⌜ Held (now rows) (now history) p ⌝ }
     ensures { λ r. ⌜ LoosePost (now (rows .entry)) (now (history .entry)) p true value (now (rows .exit)) (now (history .exit)) r ⌝ }
 {
-    new_row(rows, history, p, words::word(words::LEAF, 0, value as u32))
+    new_row(rows, history, p, words::leaf(value, Link(0)))
 }
 
-// Row i cut from its parent, if it has one, with a record: 9 when the history is full.
-fn cut_row(rows: &mut [u32], history: &mut [u8], p: Progress, i: usize) -> Progress
-    requires { ⌜ CutPre (now rows) (now history) p i ⌝ }
-    ensures { λ r. ⌜ DeletePost (now (rows .entry)) (now (history .entry)) p (i ∷ []) (now (rows .exit)) (now (history .exit)) r ⌝ }
+// A row cut from its parent, if it has one, with a record: 9 when the history is full.
+fn cut_row(rows: &mut [u32], history: &mut [u8], p: Progress, row: RowNumber) -> Progress
+    requires { ⌜ CutPre (now rows) (now history) p (row .0) ⌝ }
+    ensures { λ r. ⌜ DeletePost (now (rows .entry)) (now (history .entry)) p (row .0 ∷ []) (now (rows .exit)) (now (history .exit)) r ⌝ }
 {
     let at = p.bytes;
     let before = p.tally;
+    let i = row.0;
     let w = rows[i];
-    let link = words::link(w);
+    let link = words::link(w).0;
     if link == 0 {
         return p;
     }
     if Table::HISTORY_RECORDS <= before.records {
         return p.refused(Fault::HISTORY);
     }
-    rows[i] = words::relinked(w, 0);
-    history::put_cut(history, at, i, link - 1);
+    rows[i] = words::relinked(w, Link(0));
+    let parent = link - 1;
+    history::put_cut(history, at, row, RowNumber(parent));
     Progress {
         number: 0,
         count: p.count,
@@ -88,7 +91,7 @@ pub fn delete(rows: &mut [u32], history: &mut [u8], p: Progress, items: &[u16]) 
     let mut now = p;
     let mut k = 0;
     while k < items.len() {
-        now = cut_row(rows, history, now, number::index(items[k]));
+        now = cut_row(rows, history, now, RowNumber(number::index(items[k])));
         if now.number != 0 {
             return now;
         }

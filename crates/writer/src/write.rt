@@ -10,6 +10,7 @@ ghost use Rattle.table.specs.Words.{ofLink, rowOf, rowsOf, fits};
 ghost use Rattle.writer.specs.Writing.{planWritten, writtenOut, RowsPre, MarksPre};
 ghost use Rattle.model.specs.Base.{over};
 use table::Fault;
+use table::Link;
 use table::Table;
 use table::Written;
 use table::number;
@@ -57,24 +58,26 @@ pub fn rows(out: &mut [u8], rows: &[u32], count: usize)
 }
 
 // The bytes of a mark's record, none where there is no mark.
-fn mark_length(link: u16) -> usize
-    ensures { λ r. ⌜ ((d : ℕ) → r ≡ length (markBytes d (ofLink link))) ⌝ }
+fn mark_length(link: Link) -> usize
+    ensures { λ r. ⌜ ((d : ℕ) → r ≡ length (markBytes d (ofLink (link .0)))) ⌝ }
 {
-    if link == 0 {
+    if link.0 == 0 {
         return 0;
     }
     stored::SIZE
 }
 
 // One mark's record at a place, if there is a mark.
-fn mark(out: &mut [u8], at: usize, document: u8, link: u16)
-    requires { ⌜ at + length (markBytes document (ofLink link)) ≤ length (now out) ⌝ }
-    ensures { λ r. ⌜ now (out .exit) ≡ over at (markBytes document (ofLink link)) (now (out .entry)) ⌝ }
+fn mark(out: &mut [u8], at: usize, document: u8, link: Link)
+    requires { ⌜ link .0 < 65536 ⌝ }
+    requires { ⌜ at + length (markBytes document (ofLink (link .0))) ≤ length (now out) ⌝ }
+    ensures { λ r. ⌜ now (out .exit) ≡ over at (markBytes document (ofLink (link .0))) (now (out .entry)) ⌝ }
 {
-    if link == 0 {
+    if link.0 == 0 {
         return;
     }
-    put(out, at, stored::MARK, document, number::index(link - 1));
+    let row = link.0 - 1;
+    put(out, at, stored::MARK, document, row);
 }
 
 // The marks, from a place on.
@@ -85,8 +88,9 @@ pub fn marks(out: &mut [u8], marks: &[u16], start: usize)
     let mut d = 0;
     let mut at = start;
     while d < marks.len() {
-        mark(out, at, d as u8, marks[d]);
-        at += mark_length(marks[d]);
+        let link = number::index(marks[d]);
+        mark(out, at, d as u8, Link(link));
+        at += mark_length(Link(link));
         d += 1;
     }
 }
@@ -99,7 +103,8 @@ pub fn stored_length(count: usize, marks: &[u16]) -> usize
     let mut n = stored::SIZE * count;
     let mut d = 0;
     while d < marks.len() {
-        n += mark_length(marks[d]);
+        let link = number::index(marks[d]);
+        n += mark_length(Link(link));
         d += 1;
     }
     n

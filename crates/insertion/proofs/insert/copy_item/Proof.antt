@@ -20,28 +20,28 @@ slice-write-map c =
     let c3 = c .before .before .before in
     omega (arith, c3 .pre .size, c3 .pre .top, c3 .pre .room, c3 .pre .held .few)
 
+add-link : tie.Need-add-link
+add-link c =
+    let c4 = c .before .before .before .before in
+    omega (arith, item-target (c4 .pre), c4 .pre .held .few)
+
 mul-relinked : tie.Need-mul-relinked
 mul-relinked c = search needs
 
 slice-read-relinked : tie.Need-slice-read-relinked
 slice-read-relinked c =
-    let c4 = c .before .before .before .before in
-    omega (arith, c4 .pre .held .rows, c4 .pre .top, c4 .pre .room, c4 .pre .held .few)
-
-add-relinked : tie.Need-add-relinked
-add-relinked c =
-    let c4 = c .before .before .before .before in
-    omega (arith, item-target (c4 .pre), c4 .pre .held .few)
+    let c5 = c .before .before .before .before .before in
+    omega (arith, c5 .pre .held .rows, c5 .pre .top, c5 .pre .room, c5 .pre .held .few)
 
 relinked-requires : tie.Need-relinked-requires
 relinked-requires c κs =
-    let c4 = c .before .before .before .before in
-    omega (arith, item-target (c4 .pre), c4 .pre .held .few)
+    let c5 = c .before .before .before .before .before in
+    omega (arith, item-target (c5 .pre), c5 .pre .held .few)
 
 new-row-requires : tie.Need-new-row-requires
 new-row-requires c κs =
-    let c7 = c .before .before .before .before .before .before .before in
-    item-pre (c7 .pre) (c .before .before .relinked .ensures)
+    let c8 = c .before .before .before .before .before .before .before .before in
+    item-pre (c8 .pre) (c .before .before .relinked .ensures)
 
 same-length : tie.Need-same-length
 same-length c = search needs
@@ -56,16 +56,19 @@ returns : tie.Need-returns
 returns c =
     let c6 = c .before .before .before .before .before .before in
     let c9 = c6 .before .before .before in
-    let c14 = c9 .before .before .before .before .before in
-    item-refused (c14 .pre) (c9 .relinked .ensures) (c6 .new-row .ensures) (c .if1 .taken)
+    let c15 = c9 .before .before .before .before .before .before in
+    item-refused
+    (c15 .pre)
+    (c9 .relinked .ensures)
+    (c6 .new-row .ensures) (c .if1 .taken)
 
 copy-rest-requires : tie.Need-copy-rest-requires
 copy-rest-requires c κs =
     let c3 = c .before .before .before in
     let c9 = c3 .before .before .before .before .before .before in
     let c12 = c9 .before .before .before in
-    let c17 = c12 .before .before .before .before .before in
-    item-rest (c17 .pre) (c12 .relinked .ensures) (c9 .new-row .ensures) (search (c3 .if1 .left, needs))
+    let c18 = c12 .before .before .before .before .before .before in
+    item-rest (c18 .pre) (c12 .relinked .ensures) (c9 .new-row .ensures) (search (c3 .if1 .left, needs))
 
 same-length-4 : tie.Need-same-length-4
 same-length-4 c = search needs
@@ -84,8 +87,8 @@ returns-2 c =
     let c10 = c6 .before .before .before .before in
     let c16 = c10 .before .before .before .before .before .before in
     let c19 = c16 .before .before .before in
-    let c24 = c19 .before .before .before .before .before in
-    item-done (c24 .pre) (c19 .relinked .ensures) (c16 .new-row .ensures) (search (c10 .if1 .left, needs)) (c6 .copy-rest .ensures)
+    let c25 = c19 .before .before .before .before .before .before in
+    item-done (c25 .pre) (c19 .relinked .ensures) (c16 .new-row .ensures) (search (c10 .if1 .left, needs)) (c6 .copy-rest .ensures)
 
 pub copy-item-spec : {M : Type 1} → statement M
 copy-item-spec =
@@ -94,9 +97,9 @@ copy-item-spec =
     cast-map
     mul-map
     slice-write-map
+    add-link
     mul-relinked
     slice-read-relinked
-    add-relinked
     relinked-requires
     new-row-requires
     same-length

@@ -10,7 +10,8 @@ use Rattle.insertion.proofs.insert.copy_items.Statement.{statement}
 use Rattle.insertion.proofs.insert.copy_items.Tie as tie
 
 abbrev Inv-loop : tie.InvT-loop
-Inv-loop rows₀ history₀ map₀ items target old now₀ k₀ rows history map now k = Inserting rows₀ history₀ now₀ items target rows history map
+Inv-loop rows₀ history₀ map₀ items target old now₀ k₀ rows history map now k = Inserting rows₀ history₀ now₀ items
+    (target .0) rows history map
     now k
 
 abbrev μ-loop : tie.MeasureT-loop
@@ -35,7 +36,9 @@ copy-item-requires c κs =
     let c5 = c .before .before .before .before .before in
     let c6 = c5 .before in
     let c11 = c6 .before .before .before .before .before in
-    inserting-item (c11 .pre) (c6 .loop .inv) (c5 .loop-test .taken) (c .index .ensures .0)
+    inserting-item (c11 .pre)
+    (c6 .loop .inv) (c5 .loop-test .taken)
+    (c .index .ensures .0)
 
 same-length : tie.Need-same-length Inv-loop μ-loop
 same-length c = search needs
@@ -53,14 +56,19 @@ returns c =
     let c14 = c9 .before .before .before .before .before in
     let c15 = c14 .before in
     let c20 = c15 .before .before .before .before .before in
-    inserting-refused (c20 .pre) (c15 .loop .inv) (c14 .loop-test .taken) (c9 .index .ensures .0) (c8 .copy-item .ensures)
+    inserting-refused
+    (c20 .pre) (c15 .loop .inv) (c14 .loop-test .taken) (c9 .index .ensures .0) (c8 .copy-item .ensures)
     (c .if1 .taken)
 
 add-k : tie.Need-add-k Inv-loop μ-loop
 add-k c =
     let c14 = c .before .before .before .before .before .before .before .before .before .before .before .before .before .before in
     let c20 = c14 .before .before .before .before .before .before in
-    omega (arith, c14 .loop-test .taken, c20 .good)
+    omega (
+      arith,
+      c14 .loop-test .taken,
+      c20 .good,
+    )
 
 loop-less : tie.Need-loop-less Inv-loop μ-loop
 loop-less c = search needs
@@ -72,7 +80,8 @@ loop-again c =
     let c14 = c9 .before .before .before .before .before in
     let c15 = c14 .before in
     let c20 = c15 .before .before .before .before .before in
-    inserting-again (c20 .pre) (c15 .loop .inv) (c14 .loop-test .taken) (c9 .index .ensures .0) (c8 .copy-item .ensures)
+    inserting-again
+    (c20 .pre) (c15 .loop .inv) (c14 .loop-test .taken) (c9 .index .ensures .0) (c8 .copy-item .ensures)
     (search (c .if1 .left, needs)) (c8 .copy-item .kept .1 .1 .0 ∙ c15 .loop .inv .size)
 
 same-length-4 : tie.Need-same-length-4 Inv-loop μ-loop

@@ -9,30 +9,28 @@ use borrow.Author.Needs.{needs}
 use Rattle.insertion.proofs.insert.copy_next.Statement.{statement}
 use Rattle.insertion.proofs.insert.copy_next.Tie as tie
 
-is-link : (c : tie.After-copy-link) → c .copy-link .result ≡ nextLink
-    (c .before .before .before .before .before .before .before .args .rows .now)
-    (c .before .before .before .before .before .before .before .args .map .now)
-    (c .before .before .before .before .before .before .before .args .top)
-    (c .before .before .before .before .before .before .before .args .j)
+is-link : (c : tie.After-copy-link) →
+    let a = c .before .before .before .before .before .before .before .args in
+    c .copy-link .result .0 ≡ nextLink (a .rows .now) (a .map .now) (a .top .0) (a .row .0)
 is-link c =
     let c7 = c .before .before .before .before .before .before .before in
     c .copy-link .ensures ∙ ap (copyLink (c7 .args .map .now)
-    (c7 .args .top)) (c .before .link .ensures)
+    (c7 .args .top .0)) (c .before .link .ensures)
 
-has-link : (c : tie.Else1) → nextLink (c .before .before .before .before .before .before .before .before .args .rows .now)
-    (c .before .before .before .before .before .before .before .before .args .map .now)
-    (c .before .before .before .before .before .before .before .before .args .top)
-    (c .before .before .before .before .before .before .before .before .args .j) ≡ 0 → ⊥
-has-link c q = c .if1 .left (is-link (c .before) ∙ q)
+has-link : (c : tie.Else1) → nextLink (c .before .before .before .before .before .before .before .before .before .args .rows .now)
+    (c .before .before .before .before .before .before .before .before .before .args .map .now)
+    (c .before .before .before .before .before .before .before .before .before .args .top .0)
+    (c .before .before .before .before .before .before .before .before .before .args .row .0) ≡ 0 → ⊥
+has-link c q = c .if1 .left (is-link (c .before .before) ∙ q)
 
 copied-word : (c : tie.After-relinked) →
-    let a = c .before .before .before .before .before .before .before .before .before .before .before .args in
-    c .relinked .result ≡ withLink (getD (a .rows .now) (a .j) 0) (nextLink (a .rows .now) (a .map .now) (a .top) (a .j))
+    let a = c .before .before .before .before .before .before .before .before .before .before .before .before .args in
+    c .relinked .result ≡ withLink (getD (a .rows .now) (a .row .0) 0) (nextLink (a .rows .now) (a .map .now) (a .top .0) (a .row .0))
 copied-word c =
-    let c4 = c .before .before .before .before in
-    let c11 = c4 .before .before .before .before .before .before .before in
-    let a = c11 .args in
-    c .relinked .ensures ∙ ap (withLink (getD (a .rows .now) (a .j) 0)) (is-link (c4))
+    let c5 = c .before .before .before .before .before in
+    let c12 = c5 .before .before .before .before .before .before .before in
+    let a = c12 .args in
+    c .relinked .ensures ∙ ap (withLink (getD (a .rows .now) (a .row .0) 0)) (is-link c5)
 
 mul-w : tie.Need-mul-w
 mul-w c = search needs
@@ -59,8 +57,9 @@ same-length c = search needs
 
 returns : tie.Need-returns
 returns c =
-    let c8 = c .before .before .before .before .before .before .before .before in
-    next-none (c8 .pre) (sym (is-link (c .before)) ∙ c .if1 .taken)
+    let c9 = c .before .before .before .before .before .before .before .before .before in
+    next-none (c9 .pre) (sym (is-link (c .before .before)) ∙
+    c .if1 .taken)
 
 cast-map : tie.Need-cast-map
 cast-map c = search needs
@@ -73,15 +72,21 @@ slice-write-map-2 c = search needs
 
 relinked-requires : tie.Need-relinked-requires
 relinked-requires c κs =
-    let c3 = c .before .before .before in
-    let c10 = c3 .before .before .before .before .before .before .before in
-    omega (arith, next-small (c10 .pre) (has-link (c .before .before)), is-link (c3))
+    let c4 = c .before .before .before .before in
+    let c11 = c4 .before .before .before .before .before .before .before in
+    omega (
+      arith,
+      next-small (c11 .pre) (has-link
+          (c .before .before)),
+      is-link c4,
+    )
 
 new-row-requires : tie.Need-new-row-requires
 new-row-requires c κs =
     let c3 = c .before .before .before in
-    let c11 = c3 .before .before .before .before .before .before .before .before in
-    next-pre (c11 .pre) (has-link (c3)) (copied-word (c))
+    let c12 = c3 .before .before .before .before .before .before .before .before .before in
+    next-pre (c12 .pre) (has-link
+    c3) (copied-word c)
 
 same-length-2 : tie.Need-same-length-2
 same-length-2 c = search needs
@@ -97,8 +102,8 @@ returns-2 c =
     let c4 = c .before .before .before .before in
     let c5 = c4 .before in
     let c8 = c5 .before .before .before in
-    let c16 = c8 .before .before .before .before .before .before .before .before in
-    next-made (c16 .pre) (has-link (c8)) (copied-word (c5)) (c4 .new-row .ensures)
+    let c17 = c8 .before .before .before .before .before .before .before .before .before in
+    next-made (c17 .pre) (has-link c8) (copied-word c5) (c4 .new-row .ensures)
 
 pub copy-next-spec : {M : Type 1} → statement M
 copy-next-spec =

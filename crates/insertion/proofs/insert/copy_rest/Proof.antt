@@ -7,27 +7,28 @@ use Rattle.insertion.proofs.insert.copy_rest.Statement.{statement}
 use Rattle.insertion.proofs.insert.copy_rest.Tie as tie
 
 abbrev Inv-loop : tie.InvT-loop
-Inv-loop rows₀ history₀ map₀ old top now₀ j₀ rows history map now j = Copying old top rows₀ history₀ map₀ now₀ rows history map now j
+Inv-loop rows₀ history₀ map₀ old top now₀ j₀ rows history map now j = Copying old (top .0) rows₀ history₀ map₀ now₀ rows history map now j
 
 abbrev μ-loop : tie.MeasureT-loop
 μ-loop rows₀ history₀ map₀ old top now₀ j₀ rows history map now j = old - j
 
 add-j : tie.Need-add-j Inv-loop μ-loop
 add-j c =
-    let c3 = c .before .before .before in
-    omega (arith, c3 .pre .top)
+    let c4 = c .before .before .before .before in
+    omega (arith, c4 .pre .top)
 
 loop-holds : tie.Need-loop-holds Inv-loop μ-loop
 loop-holds c =
-    let c3 = c .before .before .before in
-    copying-start (c3 .pre)
+    let c4 = c .before .before .before .before in
+    copying-start (c4 .pre)
 
 copy-next-requires : tie.Need-copy-next-requires Inv-loop μ-loop
 copy-next-requires c κs =
     let c3 = c .before .before .before in
     let c4 = c3 .before in
-    let c8 = c4 .before .before .before .before in
-    copying-next (c8 .pre) (c4 .loop .inv) (c3 .loop-test .taken)
+    let c9 = c4 .before .before .before .before .before in
+    copying-next (c9 .pre)
+    (c4 .loop .inv) (c3 .loop-test .taken)
 
 same-length : tie.Need-same-length Inv-loop μ-loop
 same-length c = search needs
@@ -43,8 +44,9 @@ returns c =
     let c8 = c .before .before .before .before .before .before .before .before in
     let c12 = c8 .before .before .before .before in
     let c13 = c12 .before in
-    let c17 = c13 .before .before .before .before in
-    copying-refused (c17 .pre) (c13 .loop .inv) (c12 .loop-test .taken) (c8 .copy-next .ensures) (c .if1 .taken)
+    let c18 = c13 .before .before .before .before .before in
+    copying-refused
+    (c18 .pre) (c13 .loop .inv) (c12 .loop-test .taken) (c8 .copy-next .ensures) (c .if1 .taken)
 
 add-j-2 : tie.Need-add-j-2 Inv-loop μ-loop
 add-j-2 c = search needs
@@ -57,8 +59,9 @@ loop-again c =
     let c8 = c .before .before .before .before .before .before .before .before in
     let c12 = c8 .before .before .before .before in
     let c13 = c12 .before in
-    let c17 = c13 .before .before .before .before in
-    copying-again (c17 .pre) (c13 .loop .inv) (c12 .loop-test .taken) (c8 .copy-next .ensures) (search (c .if1 .left, needs))
+    let c18 = c13 .before .before .before .before .before in
+    copying-again
+    (c18 .pre) (c13 .loop .inv) (c12 .loop-test .taken) (c8 .copy-next .ensures) (search (c .if1 .left, needs))
 
 same-length-4 : tie.Need-same-length-4 Inv-loop μ-loop
 same-length-4 c = search needs
@@ -71,8 +74,8 @@ same-length-6 c = search needs
 
 returns-2 : tie.Need-returns-2 Inv-loop μ-loop
 returns-2 c =
-    let c5 = c .before .before .before .before .before in
-    copying-end (c5 .pre) (c .before .loop .inv) (omega (arith, c .loop-test .left))
+    let c6 = c .before .before .before .before .before .before in
+    copying-end (c6 .pre) (c .before .loop .inv) (omega (arith, c .loop-test .left))
 
 pub copy-rest-spec : {M : Type 1} → statement M
 copy-rest-spec =

@@ -5,9 +5,9 @@ use lib.ListN.{length}
 use mathlib.Core.Path.{_≡_, refl, sym, _∙_}
 use native.Mathlib.Omega.{arith}
 use borrow.Author.Needs.{needs}
+use Rattle.table.specs.Words.{kindIn}
 use Rattle.insertion.proofs.insert.insert.Statement.{statement}
 use Rattle.insertion.proofs.insert.insert.Tie as tie
-use Rattle.table.specs.Words.{kindIn}
 
 target-kind : (c : tie.After-kind) → c .kind .result ≡
     kindIn (getD (c .before .before .before .before .before .before .before .before .before .args .rows .now)
@@ -38,7 +38,12 @@ slice-read-kind : tie.Need-slice-read-kind
 slice-read-kind c =
     let c3 = c .before .before .before in
     let c8 = c3 .before .before .before .before .before in
-    omega (arith, insert-low (c8 .pre) (one-target (c3)) (c .before .index .ensures .0), c8 .pre .held .few, c8 .pre .held .rows)
+    omega (
+      arith,
+      insert-low (c8 .pre) (one-target c3) (c .before .index .ensures .0),
+      c8 .pre .held .few,
+      c8 .pre .held .rows,
+    )
 
 kind-requires : tie.Need-kind-requires
 kind-requires c κs = search needs

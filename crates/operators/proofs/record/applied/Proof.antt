@@ -1,11 +1,11 @@
 -- `applied`: a record with one operand, one law of OperatorLaws for what each call asks and for each way out.
 use borrow.Author.Needs.{needs}
-use Rattle.operators.proofs.record.applied.Statement.{statement}
-use Rattle.operators.proofs.record.applied.Tie as tie
 use mathlib.Core.Path.{refl}
 use native.Mathlib.Omega.{arith}
 use Rattle.operators.proofs.OperatorLaws.{value-within, unary-body, unary-step, unary-bytes, delete-asks, pick-asks, step-asks}
 use Rattle.operators.proofs.OperatorLaws.{delete-yields, pick-yields, step-yields}
+use Rattle.operators.proofs.record.applied.Statement.{statement}
+use Rattle.operators.proofs.record.applied.Tie as tie
 
 shared-slice-read-kind : tie.Need-shared-slice-read-kind
 shared-slice-read-kind c =
@@ -56,7 +56,8 @@ returns c =
     let c5 = c .before .before .before .before .before in
     let c10 = c5 .before .before .before .before .before in
     let c18 = c10 .before .before .before .before .before .before .before .before in
-    delete-yields (c18 .pre) (c10 .if1 .taken) (c5 .delete .ensures) (c .ended .ensures)
+    delete-yields
+    (c18 .pre) (c10 .if1 .taken) (c5 .delete .ensures) (c .ended .ensures)
 
 add-a : tie.Need-add-a
 add-a c =
@@ -100,7 +101,8 @@ returns-2 c =
     let c3 = c .before .before .before in
     let c6 = c3 .before .before .before in
     let c17 = c6 .before .before .before .before .before .before .before .before .before .before .before in
-    pick-yields (c17 .pre) (c3 .picked .kept .1 .1 .1 .0) (c .ended2 .ensures) (c6 .if2 .taken) (c3 .picked .ensures)
+    pick-yields
+    (c17 .pre) (c3 .picked .kept .1 .1 .1 .0) (c .ended2 .ensures) (c6 .if2 .taken) (c3 .picked .ensures)
 
 add-name : tie.Need-add-name
 add-name c =
@@ -123,7 +125,8 @@ stepped-requires c κs =
     let c4 = c .before .before .before .before in
     let c7 = c4 .before .before .before in
     let c15 = c7 .before .before .before .before .before .before .before .before in
-    step-asks (c15 .pre) (unary-step (c15 .pre) (c7 .if1 .left) (c4 .if2 .left))
+    step-asks (c15 .pre) (unary-step (c15 .pre) (c7 .if1 .left)
+    (c4 .if2 .left))
 
 ended-requires-3 : tie.Need-ended-requires-3
 ended-requires-3 c κs = search needs
@@ -141,7 +144,9 @@ returns-3 c =
     let c8 = c6 .before .before in
     let c11 = c8 .before .before .before in
     let c19 = c11 .before .before .before .before .before .before .before .before in
-    step-yields (c19 .pre) (c3 .stepped .kept .1 .1 .1 .0) (c .ended3 .ensures) (unary-step (c19 .pre) (c11 .if1 .left) (c8 .if2
+    step-yields (c19 .pre) (c3 .stepped .kept .1 .1 .1 .0) (c .ended3 .ensures) (unary-step (c19 .pre)
+    (c11 .if1 .left)
+    (c8 .if2
     .left)) (c6 .name .ensures) (c3 .stepped .ensures)
 
 pub applied-spec : {M : Type 1} → statement M

@@ -1,13 +1,13 @@
 -- `nullary`: a record without operands, one law of NullaryLaws for each way out.
 use borrow.Author.Needs.{needs}
-use Rattle.operators.proofs.record.nullary.Statement.{statement}
-use Rattle.operators.proofs.record.nullary.Tie as tie
 use mathlib.Core.Path.{refl}
 use native.Mathlib.Omega.{arith}
 use Rattle.script.proofs.AcceptedLaws.{accepted-record}
 use Rattle.script.proofs.FieldLaws.{document-number, variable-number, element-name}
 use Rattle.operators.proofs.NullaryLaws.{nullary-room, nullary-body, nil-yields, document-yields, variable-yields, element-yields}
 use Rattle.operators.proofs.NullaryLaws.{leaf-yields, variable-asks, variable-below, last-kind}
+use Rattle.operators.proofs.record.nullary.Statement.{statement}
+use Rattle.operators.proofs.record.nullary.Tie as tie
 
 shared-slice-read-kind : tie.Need-shared-slice-read-kind
 shared-slice-read-kind c =
@@ -70,8 +70,10 @@ returns-2 c =
     let c5 = c3 .before .before in
     let c6 = c5 .before in
     let c15 = c6 .before .before .before .before .before .before .before .before .before in
-    document-yields (c15 .pre .0) (c3 .document .kept .1 .1 .0) (c6 .if2 .taken) (c5 .byte .ensures .0) (c3 .document .ensures) (c
-    .ended2 .ensures)
+    document-yields
+    (c15 .pre .0)
+    (c3 .document .kept .1 .1 .0) (c6 .if2 .taken)
+    (c5 .byte .ensures .0) (c3 .document .ensures) (c .ended2 .ensures)
 
 byte-requires-2 : tie.Need-byte-requires-2
 byte-requires-2 c κs = search needs
@@ -98,13 +100,16 @@ copied-requires c κs =
     let c3 = c .before .before .before in
     let c4 = c3 .before in
     let c14 = c4 .before .before .before .before .before .before .before .before .before .before in
-    variable-asks (c14 .pre .0) (c4 .if3 .taken) (c3 .byte2 .ensures .0) refl
+    variable-asks
+    (c14 .pre .0)
+    (c4 .if3 .taken) (c3 .byte2 .ensures .0) refl
 
 add-ended-3 : tie.Need-add-ended-3
 add-ended-3 c =
     let c10 = c .before .before .before .before .before .before .before .before .before .before in
     let c17 = c10 .before .before .before .before .before .before .before in
-    let a = nullary-body (c17 .pre .0) (c17 .pre .1) (c10 .if1 .left) in
+    let a = nullary-body (c17 .pre .0) (c17 .pre .1)
+    (c10 .if1 .left) in
     omega (arith, a)
 
 ended-requires-3 : tie.Need-ended-requires-3
@@ -119,8 +124,8 @@ returns-3 c =
     let c7 = c3 .before .before .before .before in
     let c8 = c7 .before in
     let c18 = c8 .before .before .before .before .before .before .before .before .before .before in
-    variable-yields (c18 .pre .0) (c3 .copied .kept .0) (c8 .if3 .taken) (c7 .byte2 .ensures .0) refl (c3 .copied .ensures) (c
-    .ended3 .ensures)
+    variable-yields
+    (c18 .pre .0) (c3 .copied .kept .0) (c8 .if3 .taken) (c7 .byte2 .ensures .0) refl (c3 .copied .ensures) (c .ended3 .ensures)
 
 name-requires : tie.Need-name-requires
 name-requires c κs = search needs
@@ -145,7 +150,8 @@ add-ended-4 c =
     let c10 = c .before .before .before .before .before .before .before .before .before .before in
     let c16 = c10 .before .before .before .before .before .before in
     let c23 = c16 .before .before .before .before .before .before .before in
-    let a = nullary-body (c23 .pre .0) (c23 .pre .1) (c16 .if1 .left) in
+    let a = nullary-body (c23 .pre .0) (c23 .pre .1)
+    (c16 .if1 .left) in
     omega (arith, a)
 
 ended-requires-4 : tie.Need-ended-requires-4
@@ -167,8 +173,9 @@ returns-4 c =
     let c10 = c9 .before in
     let c13 = c10 .before .before .before in
     let c24 = c13 .before .before .before .before .before .before .before .before .before .before .before in
-    element-yields (c24 .pre .0) (c3 .put-row .kept .1 .1 .0) (c3 .put-row .ensures) (c13 .if4 .taken) (c10 .name .ensures) (c9
-    .new-element .ensures) (c .ended4 .ensures)
+    element-yields
+    (c24 .pre .0) (c3 .put-row .kept .1 .1 .0) (c3 .put-row .ensures) (c13 .if4 .taken) (c10 .name .ensures) (c9 .new-element .ensures)
+    (c .ended4 .ensures)
 
 new-leaf-requires : tie.Need-new-leaf-requires
 new-leaf-requires c κs =
@@ -188,7 +195,8 @@ add-ended-5 c =
     let c10 = c .before .before .before .before .before .before .before .before .before .before in
     let c15 = c10 .before .before .before .before .before in
     let c22 = c15 .before .before .before .before .before .before .before in
-    let a = nullary-body (c22 .pre .0) (c22 .pre .1) (c15 .if1 .left) in
+    let a = nullary-body (c22 .pre .0) (c22 .pre .1)
+    (c15 .if1 .left) in
     omega (arith, a)
 
 ended-requires-5 : tie.Need-ended-requires-5
@@ -212,7 +220,8 @@ returns-5 c =
     let c14 = c13 .before in
     let c16 = c14 .before .before in
     let c23 = c16 .before .before .before .before .before .before .before in
-    leaf-yields (c23 .pre .0) (c3 .put-row2 .kept .1 .1 .0) (c3 .put-row2 .ensures) (last-kind (c23 .pre .0) (c23 .pre .1) (c16 .if1
+    leaf-yields (c23 .pre .0) (c3 .put-row2 .kept .1 .1 .0) (c3 .put-row2 .ensures) (last-kind (c23 .pre .0) (c23 .pre .1)
+    (c16 .if1
     .left) (c14 .if2 .left) (c13 .if3 .left) (c12 .if4 .left)) (c9 .new-leaf .ensures) (c .ended5 .ensures)
 
 pub nullary-spec : {M : Type 1} → statement M

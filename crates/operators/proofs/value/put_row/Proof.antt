@@ -1,13 +1,13 @@
 -- `put_row`: a new row's number from top on, where nothing is refused.
 use borrow.Author.Needs.{needs}
+use Rattle.operators.proofs.RecordLaws.{made-none, made-one}
 use Rattle.operators.proofs.value.put_row.Statement.{statement}
 use Rattle.operators.proofs.value.put_row.Tie as tie
-use Rattle.operators.proofs.RecordLaws.{made-none, made-one}
 
 returns : tie.Need-returns
 returns c =
-    made-none (c .before .before .args .work .now) (c .before .before .args .top) (c .before .before .args .q) (c .before .before
-    .args .row) (c .if1 .taken)
+    made-none (c .before .before .args .work .now) (c .before .before .args .top) (c .before .before .args .q)
+    (c .before .before .args .row .0) (c .if1 .taken)
 
 cast-work : tie.Need-cast-work
 cast-work c = search needs
@@ -26,8 +26,8 @@ same-length c = search needs
 
 returns-2 : tie.Need-returns-2
 returns-2 c =
-    made-one (c .before .before .args .work .now) (c .before .before .args .top) (c .before .before .args .q) (c .before .before
-    .args .row) (c .if1 .left) (c .before .before .pre .room)
+    let c3 = c .before .before .before in
+    made-one (c3 .args .work .now) (c3 .args .top) (c3 .args .q) (c3 .args .row .0) (c .before .if1 .left) (c3 .pre .room)
 
 pub put-row-spec : {M : Type 1} → statement M
 put-row-spec =

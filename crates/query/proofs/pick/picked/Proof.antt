@@ -20,24 +20,29 @@ abbrev μ-loop : tie.MeasureT-loop
 μ-loop rows relation constant work₀ from to at₀ k₀ work at k = to - k
 
 loop-holds : tie.Need-loop-holds Inv-loop μ-loop
-loop-holds c =
-    let c2 = c .before .before in (
-      omega arith,
-      c2 .pre .order,
-      omega arith,
-      filtered-none (pickedRow (c2 .args .rows .now) (c2 .args .relation) (c2 .args .constant)) (c2 .args .work .now) (c2 .args
-          .from),
-      refl,
-      refl,
-    )
+loop-holds c = (
+  omega arith,
+  c .before .before .pre .order,
+  omega arith,
+  filtered-none (pickedRow (c .before .before .args .rows .now) (c .before .before .args .relation) (c .before .before .args .constant))
+      (c .before .before .args .work .now) (c .before .before .args
+      .from),
+  refl,
+  refl,
+)
 
-mul-item : tie.Need-mul-item Inv-loop μ-loop
-mul-item c = search needs
+mul-index : tie.Need-mul-index Inv-loop μ-loop
+mul-index c = search needs
 
-slice-read-item : tie.Need-slice-read-item Inv-loop μ-loop
-slice-read-item c =
+slice-read-index : tie.Need-slice-read-index Inv-loop μ-loop
+slice-read-index c =
     let c5 = c .before .before .before .before .before in
-    omega (arith, c .before .before .loop .inv .1, c .before .before .loop .inv .5, c5 .pre .within)
+    omega (
+      arith,
+      c .before .before .loop .inv .1,
+      c .before .before .loop .inv .5,
+      c5 .pre .within,
+    )
 
 index-requires : tie.Need-index-requires Inv-loop μ-loop
 index-requires c κs = search needs
@@ -64,8 +69,7 @@ item-low c =
       rest-at (c6 .args .work .now) (c3 .loop .work) (c3 .loop .k) (c3 .loop .inv .4),
       c6 .pre .low (c3 .loop .k - c6 .args .from) k,
       getD-take (c6 .args .to - c6 .args
-          .from) (drop (c6 .args .from) (c6
-          .args .work .now)) (c3 .loop .k - c6 .args .from) 0 k,
+          .from) (drop (c6 .args .from) (c6 .args .work .now)) (c3 .loop .k - c6 .args .from) 0 k,
       getD-drop (c6 .args .from) (c6 .args
           .work .now) (c3 .loop .k - c6 .args .from) 0 ∙ ap (λ (j :
           ℕ). getD (c6 .args .work .now) j 0) e,
@@ -81,9 +85,17 @@ is-picked-requires c κs = search needs
 
 append-if-requires : tie.Need-append-if-requires Inv-loop μ-loop
 append-if-requires c κs =
-    let c6 = c .before .before .before .before .before .before in
-    let c9 = c6 .before .before .before in
-    omega (arith, c6 .loop .inv .2, c6 .loop .inv .5, c9 .pre .within)
+    let c3 = c .before .before .before in
+    let c6 = c3 .before .before .before in
+    let c9 = c6 .before .before .before in (
+      omega (arith, item-low c3),
+      omega (
+        arith,
+        c6 .loop .inv .2,
+        c6 .loop .inv .5,
+        c9 .pre .within,
+      ),
+    )
 
 add-k : tie.Need-add-k Inv-loop μ-loop
 add-k c = search needs
@@ -91,8 +103,8 @@ add-k c = search needs
 loop-less : tie.Need-loop-less Inv-loop μ-loop
 loop-less c = omega arith
 
-past-low : (c : tie.After-append-if Inv-loop μ-loop) → c .append-if .result ≤ c .before .before .before .before .before .before .before
-    .loop .k + 1
+past-low : (c : tie.After-append-if Inv-loop μ-loop) → c .append-if .result ≤
+    c .before .before .before .before .before .before .before .loop .k + 1
 past-low c =
     let c7 = c .before .before .before .before .before .before .before in
     omega (
@@ -104,28 +116,26 @@ past-low c =
 
 loop-again : tie.Need-loop-again Inv-loop μ-loop
 loop-again c =
-    let c2 = c .before .before in
-    let c4 = c2 .before .before in
+    let c4 = c .before .before .before .before in
     let c6 = c4 .before .before in
     let c9 = c6 .before .before .before in
-    let c12 = c9 .before .before .before in (
+    let c12 = c9 .before .before .before in
+    let here = c6 .index .ensures .0 ∙ rest-at (c12 .args .work .now) (c9 .loop .work) (c9 .loop .k) (c9 .loop .inv .4) in (
       omega (arith, c9 .loop .inv .0),
       omega arith,
-      past-low (c2),
-      filtered-by (pickedRow (c12 .args .rows .now) (c12
-          .args .relation) (c12 .args .constant)) (c12 .args .work .now) (c9 .loop .work) (c12 .args .from) (c9 .loop .k) (c9 .loop .at)
-          (c9
-          .loop .inv .0) (omega (arith, c12 .pre .within)) (omega (arith, c9 .loop .inv .2, c9 .loop .inv .5, c12 .pre .within)) (c9 .loop
-          .inv .3) (c4 .is-picked .result) (getD (c9 .loop .work) (c9 .loop .k) 0) (c2 .append-if .last .1 .1 .0) (c2 .append-if .result)
-          (rest-at (c12 .args .work .now) (c9 .loop .work) (c9 .loop .k) (c9 .loop .inv .4)) (c4 .is-picked
-          .ensures ∙ ap (pickedRow (c12 .args .rows .now) (c12 .args .relation) (c12 .args .constant))
-          (c6 .index .ensures .0 ∙ rest-at (c12
-          .args .work .now) (c9 .loop .work) (c9 .loop .k) (c9 .loop .inv .4))) (c2 .append-if .ensures .0) (c2
-          .append-if .ensures .1),
-      ap (drop (c9 .loop .k + 1)) (c2 .append-if .ensures .0) ∙ rest-kept (c4 .is-picked .result)
-          (c12 .args .work .now) (c9 .loop .work) (c9 .loop .k) (c9 .loop .at) (getD (c9 .loop .work) (c9 .loop .k) 0) (c9 .loop .inv .2)
-          (c9
-          .loop .inv .4),
+      past-low (c .before .before),
+      filtered-by (pickedRow (c12 .args .rows .now) (c12 .args .relation) (c12 .args .constant)) (c12 .args .work .now) (c9 .loop .work)
+          (c12 .args .from)
+          (c9 .loop .k) (c9 .loop .at) (c9 .loop .inv .0) (omega (arith, c12 .pre .within))
+          (omega (arith, c9 .loop .inv .2, c9 .loop .inv .5, c12 .pre .within)) (c9 .loop .inv .3) (c4 .is-picked .result)
+          (c6 .index .result)
+          (c .before .before .append-if .last .1 .1 .0) (c .before .before .append-if .result) here
+          (c4 .is-picked .ensures ∙ ap (pickedRow (c12 .args .rows .now) (c12 .args .relation) (c12 .args .constant)) here)
+          (c .before .before .append-if .ensures .0) (c .before .before .append-if .ensures .1),
+      ap (drop (c9 .loop .k + 1)) (c .before .before .append-if .ensures .0) ∙
+          rest-kept (c4 .is-picked .result) (c12 .args .work .now) (c9 .loop .work) (c9 .loop .k) (c9 .loop .at) (c6 .index .result)
+          (c9 .loop .inv .2)
+          (c9 .loop .inv .4),
       search (c9 .loop .inv .5, needs),
     )
 
@@ -138,8 +148,7 @@ returns c =
     record {
       value = λ n ms few low. let e : c .before .loop .k ≡ c4 .args .to = omega (
         arith,
-        c
-            .before .loop .inv .1,
+        c .before .loop .inv .1,
       ) in let l : length (valueAt (c4 .args .work .now) (c4 .args .from) (c4 .args .to)) ≡ c4 .args .to - c4 .args .from = length-take-le
           (c4 .args .to - c4 .args
           .from) (drop (c4 .args .from) (c4 .args .work .now)) (omega (
@@ -162,8 +171,8 @@ picked-spec =
     Inv-loop
     μ-loop
     loop-holds
-    mul-item
-    slice-read-item
+    mul-index
+    slice-read-index
     index-requires
     mul-is-picked
     shared-slice-read-is-picked

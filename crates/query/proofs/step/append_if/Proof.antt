@@ -10,11 +10,14 @@ use Rattle.query.proofs.step.append_if.Tie as tie
 
 returns : tie.Need-returns
 returns c = (
-  sym (pick-false (c .before .args .keep) (set (c .before .args .work .now) (c .before .args .at) (c .before .args .item)) (c
-      .before .args .work .now) (not-true (c .before .args .keep) (c .if1 .taken))),
-  sym (pick-false (c .before .args .keep) (c .before
-      .args .at + 1) (c .before .args .at) (not-true (c .before .args .keep) (c .if1 .taken))),
+  sym (pick-false (c .before .args .keep) (set (c .before .args .work .now) (c .before .args .at) (c .before .args .item .0))
+      (c .before .args .work .now) (not-true (c .before .args .keep) (c .if1 .taken))),
+  sym (pick-false (c .before .args .keep) (c .before .args .at + 1) (c .before .args .at) (not-true (c .before .args .keep)
+      (c .if1 .taken))),
 )
+
+cast-work : tie.Need-cast-work
+cast-work c = search needs
 
 mul-work : tie.Need-mul-work
 mul-work c = search needs
@@ -30,12 +33,14 @@ same-length c = search needs
 
 returns-2 : tie.Need-returns-2
 returns-2 c = (
-  sym (pick-true (c .before .args .keep) (set (c .before .args .work .now) (c .before .args .at) (c .before .args .item)) (c
-      .before .args .work .now) (not-false (c .before .args .keep) (c .if1 .left))),
-  sym (pick-true (c .before .args .keep) (c .before
-      .args .at + 1) (c .before .args .at) (not-false (c .before .args .keep) (c .if1 .left))),
+  sym (pick-true (c .before .before .args .keep) (set (c .before .before .args .work .now) (c .before .before .args .at)
+      (c .before .before .args .item .0)) (c .before .before .args .work .now) (not-false (c .before .before .args .keep)
+      (c .before .if1 .left))),
+  sym (pick-true (c .before .before .args .keep) (c .before .before .args .at + 1) (c .before .before .args .at) (not-false
+      (c .before .before .args .keep) (c .before .if1 .left))),
 )
 
 pub append-if-spec : {M : Type 1} → statement M
 append-if-spec =
-    tie.close (tie.spec returns mul-work slice-write-work add-result same-length returns-2)
+    tie.close
+    (tie.spec returns cast-work mul-work slice-write-work add-result same-length returns-2)

@@ -19,8 +19,9 @@ loop-holds : tie.Need-loop-holds Inv-loop μ-loop
 loop-holds c =
     let c3 = c .before .before .before in (
       omega arith,
-      climbing-none (c3 .args .rows .now) (c3 .args .count) (c3 .pre .held) (c3 .args .deep) (c3 .args .flags .now) (c3
-          .args .reached .now) (c3 .pre .clear),
+      climbing-none (c3 .args .rows .now) (c3 .args .count) (c3 .pre .held) (c3 .args .deep) (c3 .args .flags .now)
+          (c3 .args .reached .now)
+          (c3 .pre .clear),
     )
 
 sub-j : tie.Need-sub-j Inv-loop μ-loop
@@ -56,8 +57,8 @@ loop-again c =
     let c10 = c6 .before .before .before .before in (
       omega arith,
       subst (Climbing (c10 .args
-          .rows .now) (c10 .args .count) (c10 .args .deep) (c10 .args .flags .now) (c6 .loop .j - 1)) (sym (c .before
-          .before .climb-one .ensures)) (climbing-next (c10 .args
+          .rows .now) (c10 .args .count) (c10 .args .deep) (c10 .args .flags .now) (c6 .loop .j - 1)) (sym
+          (c .before .before .climb-one .ensures)) (climbing-next (c10 .args
           .rows .now) (c10 .args .count) (c10 .pre .held) (c10 .args .deep) (c10 .args
           .flags .now) (c6 .loop .j - 1) (omega arith) (c6 .loop .reached)
           (let e : c6 .loop .j ≡ c6 .loop .j - 1 + 1 = omega arith in subst
@@ -76,8 +77,7 @@ returns c =
     let e : c .before .loop .j ≡ 0 = omega arith in climbed-all (c5 .args .rows .now) (c5 .args .count) (c5 .pre .held) (c5 .args .deep)
     (c5 .args .flags .now) (c .before .loop .reached) (subst
     (λ (t : ℕ). Climbing (c5 .args .rows .now) (c5 .args
-    .count) (c5 .args .deep) (c5 .args .flags .now) t (c
-    .before .loop .reached)) e (c .before .loop .inv .1))
+    .count) (c5 .args .deep) (c5 .args .flags .now) t (c .before .loop .reached)) e (c .before .loop .inv .1))
 
 pub climb-spec : {M : Type 1} → statement M
 climb-spec =

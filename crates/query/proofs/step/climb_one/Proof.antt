@@ -6,18 +6,15 @@ use lib.ListN.{getD, set}
 use Prim.Native.Nat.{ℕ, _+_}
 use mathlib.Core.Path.{_∙_, sym, ap}
 use borrow.Author.Needs.{needs}
+use Rattle.table.specs.Words.{linkIn}
 use Rattle.query.proofs.step.climb_one.Statement.{statement}
 use Rattle.query.proofs.step.climb_one.Tie as tie
-use Rattle.table.specs.Words.{linkIn}
 
-add-counts : tie.Need-add-counts
-add-counts c = search needs
+add-at : tie.Need-add-at
+add-at c = search needs
 
 shared-slice-read-counts : tie.Need-shared-slice-read-counts
 shared-slice-read-counts c = search needs
-
-add-counts-2 : tie.Need-add-counts-2
-add-counts-2 c = search needs
 
 slice-read-counts : tie.Need-slice-read-counts
 slice-read-counts c = search needs
@@ -27,10 +24,11 @@ counts-requires c κs = search needs
 
 returns : tie.Need-returns
 returns c =
-    let c6 = c .before .before .before .before .before .before in
+    let c7 = c .before .before .before .before .before .before .before in
     sym
-    (pick-false (counted (getD (c6 .args .flags .now) (c6 .args .j + 1) 0) (getD (c6 .args .reached .now) (c6 .args .j + 1) 0) (c6 .args
-    .deep)) (set (c6 .args .reached .now) (linkIn (c6 .args .w)) 1) (c6 .args .reached .now) (sym (c .before .counts .ensures) ∙
+    (pick-false (counted (getD (c7 .args .flags .now) (c7 .args .row .0 + 1) 0) (getD (c7 .args .reached .now) (c7 .args .row .0 + 1) 0)
+    (c7 .args
+    .deep)) (set (c7 .args .reached .now) (linkIn (c7 .args .w)) 1) (c7 .args .reached .now) (sym (c .before .counts .ensures) ∙
     not-true (c .before .counts .result) (c .if1 .taken)))
 
 link-requires : tie.Need-link-requires
@@ -44,19 +42,18 @@ same-length c = search needs
 
 returns-2 : tie.Need-returns-2
 returns-2 c =
-    let c7 = c .before .before .before .before .before .before .before in
-    ap (λ (l : ℕ). set (c7 .args .reached .now) l 1) (c .link .ensures)
-    ∙ sym (pick-true (counted (getD (c7 .args .flags .now) (c7 .args .j + 1) 0) (getD (c7 .args
-    .reached .now) (c7 .args .j + 1) 0) (c7 .args .deep)) (set (c7 .args .reached .now) (linkIn (c7 .args .w)) 1) (c7 .args
+    let c8 = c .before .before .before .before .before .before .before .before in
+    ap (λ (l : ℕ). set (c8 .args .reached .now) l 1) (c .link .ensures)
+    ∙ sym (pick-true (counted (getD (c8 .args .flags .now) (c8 .args .row .0 + 1) 0) (getD (c8 .args
+    .reached .now) (c8 .args .row .0 + 1) 0) (c8 .args .deep)) (set (c8 .args .reached .now) (linkIn (c8 .args .w)) 1) (c8 .args
     .reached .now) (sym (c .before .before .counts .ensures) ∙ not-false (c .before .before .counts .result) (c .before .if1 .left)))
 
 pub climb-one-spec : {M : Type 1} → statement M
 climb-one-spec =
     tie.close
     (tie.spec
-    add-counts
+    add-at
     shared-slice-read-counts
-    add-counts-2
     slice-read-counts
     counts-requires
     returns

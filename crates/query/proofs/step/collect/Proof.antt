@@ -21,9 +21,6 @@ loop-holds c =
     let c3 = c .before .before .before in
     (omega arith, collected-none (c3 .args .work .now) (c3 .args .from) _, refl)
 
-cast-row : tie.Need-cast-row Inv-loop μ-loop
-cast-row c = search needs
-
 add-keeps : tie.Need-add-keeps Inv-loop μ-loop
 add-keeps c = search needs
 
@@ -49,7 +46,11 @@ room c =
 append-if-requires : tie.Need-append-if-requires Inv-loop μ-loop
 append-if-requires c κs =
     let c3 = c .before .before .before in
-    room (c3)
+    let c8 = c3 .before .before .before .before .before in (
+      omega (arith, c8 .pre .few),
+      room
+          c3,
+    )
 
 add-j : tie.Need-add-j Inv-loop μ-loop
 add-j c = search needs
@@ -59,18 +60,16 @@ loop-less c = omega arith
 
 loop-again : tie.Need-loop-again Inv-loop μ-loop
 loop-again c =
-    let c2 = c .before .before in
-    let c4 = c2 .before .before in
+    let c4 = c .before .before .before .before in
     let c6 = c4 .before .before in
     let c7 = c6 .before in
     let c11 = c7 .before .before .before .before in (
       omega arith,
-      collected-by (λ (i : ℕ). kept (c11 .args .rows .now) i (getD (c11
-          .args .reached .now) (i + 1) 0) (c11 .args
+      collected-by (λ (i : ℕ). kept (c11 .args .rows .now) i (getD (c11 .args .reached .now) (i + 1) 0) (c11 .args
           .test) (c11 .args .name .0)) (c7 .loop .j) (c11 .args .work .now) (c7 .loop .work) (c11 .args .from) (c7 .loop
-          .at) (room (c6)) (c7 .loop .inv
-          .1) (c4 .keeps .result) (c2 .append-if .last .1 .1 .0) (c2 .append-if
-          .result) (c4 .keeps .ensures) (c2 .append-if .ensures .0) (c2 .append-if
+          .at) (room c6) (c7 .loop .inv
+          .1) (c4 .keeps .result) (c .before .before .append-if .last .1 .1 .0) (c .before .before .append-if
+          .result) (c4 .keeps .ensures) (c .before .before .append-if .ensures .0) (c .before .before .append-if
           .ensures .1),
       search (c7 .loop .inv .2, needs),
     )
@@ -83,8 +82,7 @@ returns c =
     let c5 = c .before .before .before .before .before in
     let e : c .before .loop .j ≡ c5 .args .count = omega (arith, c .before .loop .inv .0)
     in subst (λ (k : ℕ). Appended (keptRows (c5 .args .rows .now) (c5 .args .reached .now) (c5 .args .test) (c5 .args .name .0) k)
-    (c5 .args .work .now) (c5
-    .args .from) (c .before .loop .work) (c .before .loop .at)) e (c .before .loop .inv .1)
+    (c5 .args .work .now) (c5 .args .from) (c .before .loop .work) (c .before .loop .at)) e (c .before .loop .inv .1)
 
 pub collect-spec : {M : Type 1} → statement M
 collect-spec =
@@ -93,7 +91,6 @@ collect-spec =
     Inv-loop
     μ-loop
     loop-holds
-    cast-row
     add-keeps
     shared-slice-read-keeps
     keeps-requires

@@ -5,13 +5,13 @@ use Rattle.query.proofs.step.counts.Statement.{statement}
 use Rattle.query.proofs.step.counts.Tie as tie
 
 returns : tie.Need-returns
-returns c = rw (ne-eqb (c .before .args .item) 0 (c .if1 .taken))
+returns c = rw (ne-eqb (c .before .args .flag) 0 (c .if1 .taken))
 
 returns-2 : tie.Need-returns-2
-returns-2 c = rw (eq-eqb (c .before .before .args .item) 0 (search (c .before .if1 .left, needs)), c .if2 .taken)
+returns-2 c = rw (eq-eqb (c .before .before .args .flag) 0 (search (c .before .if1 .left, needs)), c .if2 .taken)
 
 returns-3 : tie.Need-returns-3
-returns-3 c = rw (eq-eqb (c .before .before .args .item) 0 (search (c .before .if1 .left, needs)), c .if2 .left)
+returns-3 c = rw (eq-eqb (c .before .before .args .flag) 0 (search (c .before .if1 .left, needs)), c .if2 .left)
 
 pub counts-spec : {M : Type 1} → statement M
 counts-spec = tie.close (tie.spec returns returns-2 returns-3)

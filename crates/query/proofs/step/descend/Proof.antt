@@ -19,8 +19,8 @@ loop-holds : tie.Need-loop-holds Inv-loop μ-loop
 loop-holds c =
     let c3 = c .before .before .before in (
       omega arith,
-      descending-none (c3 .args .rows .now) (c3 .args .count) (c3 .pre .held) (c3 .args .deep) (c3 .args .flags .now) (c3
-          .args .reached .now) (c3 .pre .clear),
+      descending-none (c3 .args .rows .now) (c3 .args .count) (c3 .pre .held) (c3 .args .deep) (c3 .args .flags .now)
+          (c3 .args .reached .now) (c3 .pre .clear),
     )
 
 mul-descend-one : tie.Need-mul-descend-one Inv-loop μ-loop
@@ -58,8 +58,8 @@ loop-again c =
       omega arith,
       subst (Descending (c10 .args .rows .now) (c10 .args .count) (c10 .args .deep) (c10 .args .flags .now) (c6 .loop .j +
           1)) (sym (c .before .before .descend-one .ensures))
-          (descending-next (c10 .args .rows .now) (c10 .args .count) (c10 .pre .held) (c10
-          .args .deep) (c10 .args .flags .now) (c6 .loop .j) (c5 .loop-test .taken) (c6 .loop .reached) (c6 .loop .inv .1)),
+          (descending-next (c10 .args .rows .now) (c10 .args .count) (c10 .pre .held) (c10 .args .deep) (c10 .args .flags .now)
+          (c6 .loop .j) (c5 .loop-test .taken) (c6 .loop .reached) (c6 .loop .inv .1)),
     )
 
 same-length : tie.Need-same-length Inv-loop μ-loop

@@ -6,9 +6,9 @@ use lib.ListN.{getD, set}
 use Prim.Native.Nat.{ℕ, _+_}
 use mathlib.Core.Path.{_≡_, _∙_, sym, ap}
 use borrow.Author.Needs.{needs}
+use Rattle.table.specs.Words.{linkIn}
 use Rattle.query.proofs.step.descend_one.Statement.{statement}
 use Rattle.query.proofs.step.descend_one.Tie as tie
-use Rattle.table.specs.Words.{linkIn}
 
 link-requires : tie.Need-link-requires
 link-requires c κs = search needs
@@ -23,10 +23,8 @@ counts-requires : tie.Need-counts-requires
 counts-requires c κs = search needs
 
 same : (c : tie.After-counts) →
-    counted (getD (c .before .before .before .before .before .before .args .flags .now) (linkIn (c .before .before
-    .before .before .before .before .args .w)) 0) (getD (c .before .before .before .before .before .before .args .reached .now)
-    (linkIn (c .before .before .before .before .before .before .args .w)) 0) (c .before .before .before .before .before .before .args
-    .deep) ≡ c .counts .result
+    let a = c .before .before .before .before .before .before .args in
+    counted (getD (a .flags .now) (linkIn (a .w)) 0) (getD (a .reached .now) (linkIn (a .w)) 0) (a .deep) ≡ c .counts .result
 same c =
     let c3 = c .before .before .before in
     let c6 = c3 .before .before .before in
@@ -38,7 +36,7 @@ returns c =
     let c7 = c .before .before .before .before .before .before .before in
     sym
     (pick-false (counted (getD (c7 .args .flags .now) (linkIn (c7 .args .w)) 0) (getD (c7 .args .reached .now) (linkIn (c7 .args .w)) 0)
-    (c7 .args .deep)) (set (c7 .args .reached .now) (c7 .args .j + 1) 1) (c7 .args .reached .now) (same (c .before) ∙ not-true
+    (c7 .args .deep)) (set (c7 .args .reached .now) (c7 .args .row .0 + 1) 1) (c7 .args .reached .now) (same (c .before) ∙ not-true
     (c .before .counts .result) (c .if1 .taken)))
 
 add-reached : tie.Need-add-reached
@@ -52,11 +50,11 @@ same-length c = search needs
 
 returns-2 : tie.Need-returns-2
 returns-2 c =
-    let c7 = c .before .before .before .before .before .before .before in
+    let c8 = c .before .before .before .before .before .before .before .before in
     sym
-    (pick-true (counted (getD (c7 .args .flags .now) (linkIn (c7 .args .w)) 0) (getD (c7 .args .reached .now) (linkIn (c7 .args .w))
-    0) (c7 .args .deep)) (set (c7 .args .reached .now) (c7 .args .j + 1) 1) (c7 .args .reached .now) (same (c .before) ∙ not-false (c
-    .before .counts .result) (c .if1 .left)))
+    (pick-true (counted (getD (c8 .args .flags .now) (linkIn (c8 .args .w)) 0) (getD (c8 .args .reached .now) (linkIn (c8 .args .w))
+    0) (c8 .args .deep)) (set (c8 .args .reached .now) (c8 .args .row .0 + 1) 1) (c8 .args .reached .now) (same (c .before .before) ∙
+    not-false (c .before .before .counts .result) (c .before .if1 .left)))
 
 pub descend-one-spec : {M : Type 1} → statement M
 descend-one-spec =

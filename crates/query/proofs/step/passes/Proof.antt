@@ -5,12 +5,9 @@ use lib.Dec.{eqb}
 use Prim.Native.Nat.{ℕ}
 use mathlib.Core.Path.{_≡_, _∙_, sym, ap}
 use borrow.Author.Needs.{needs}
+use Rattle.table.specs.Words.{kindIn}
 use Rattle.query.proofs.step.passes.Statement.{statement}
 use Rattle.query.proofs.step.passes.Tie as tie
-use Rattle.table.specs.Words.{kindIn, tagIn}
-
-index-requires : tie.Need-index-requires
-index-requires c κs = search needs
 
 mul-w : tie.Need-mul-w
 mul-w c = search needs
@@ -18,20 +15,14 @@ mul-w c = search needs
 shared-slice-read-w : tie.Need-shared-slice-read-w
 shared-slice-read-w c = search needs
 
-same : (c : tie.After-index) → let a = c .before .before .args in
-    getD (a .rows .now) (a .row .0) 0 ≡ getD (a .rows .now) (c .index .result) 0
-same c = ap (λ (j : ℕ). getD (c .before .before .args .rows .now) j 0) (sym (c .index .ensures .0))
-
-kind-is : (c : tie.After-kind) → let a = c .before .before .before .before .before .args in
-    c .kind .result ≡ kindIn (getD (a .rows .now) (a .row .0) 0)
-kind-is c =
-    let c3 = c .before .before .before in
-    c .kind .ensures ∙ ap (λ (j : ℕ). kindIn j) (sym (same (c3)))
+kind-is : (c : tie.After-kind) → c .kind .result ≡ kindIn (getD (c .before .before .before .before .args .rows .now)
+    (c .before .before .before .before .args .row .0) 0)
+kind-is c = c .kind .ensures
 
 returns : tie.Need-returns
 returns c =
-    let c4 = c .before .before .before .before in
-    let a = c4 .args in
+    let c3 = c .before .before .before in
+    let a = c3 .args in
     sym (pass-any (getD (a .rows .now) (a .row .0) 0) (a .test) (a .name .0) (c .if1 .taken))
 
 kind-requires : tie.Need-kind-requires
@@ -39,16 +30,16 @@ kind-requires c κs = search needs
 
 returns-2 : tie.Need-returns-2
 returns-2 c =
-    let c6 = c .before .before .before .before .before .before in
-    let a = c6 .args in
+    let c5 = c .before .before .before .before .before in
+    let a = c5 .args in
     sym (pass-leaf (getD (a .rows .now) (a .row .0) 0) (a .test) (a .name .0) (c .before .before .if1 .left)
     (sym (kind-is (c .before)) ∙ c .if2 .taken))
 
 returns-3 : tie.Need-returns-3
 returns-3 c =
     let c3 = c .before .before .before in
-    let c7 = c3 .before .before .before .before in
-    let a = c7 .args in
+    let c6 = c3 .before .before .before in
+    let a = c6 .args in
     sym (pass-element (getD (a .rows .now) (a .row .0) 0) (a .test) (a .name .0) (c3 .if1 .left)
     (λ q. c .before .if2 .left (kind-is (c .before .before) ∙ q)) (c .if3 .taken))
 
@@ -56,10 +47,10 @@ returns-4 : tie.Need-returns-4
 returns-4 c =
     let c3 = c .before .before .before in
     let c4 = c3 .before in
-    let c8 = c4 .before .before .before .before in
-    let a = c8 .args in
+    let c7 = c4 .before .before .before in
+    let a = c7 .args in
     sym (pass-no-leaf (getD (a .rows .now) (a .row .0) 0) (a .test) (a .name .0) (c4 .if1 .left)
-    (λ q. c .before .before .if2 .left (kind-is (c3) ∙ q)) (c .before .if3 .left) (c .if4 .taken))
+    (λ q. c .before .before .if2 .left (kind-is c3 ∙ q)) (c .before .if3 .left) (c .if4 .taken))
 
 tag-requires : tie.Need-tag-requires
 tag-requires c κs = search needs
@@ -73,13 +64,11 @@ returns-5 c =
     let c4 = c3 .before in
     let c5 = c4 .before in
     let c6 = c5 .before in
-    let c8 = c6 .before .before in
-    let c10 = c8 .before .before in
-    let a = c10 .args in
+    let c9 = c6 .before .before .before in
+    let a = c9 .args in
     let w = getD (a .rows .now) (a .row .0) 0 in
-    let here = same (c8) in
-    let kind = kind-is (c5) in
-    ap (λ (j : ℕ). eqb j (a .name .0)) (c .before .tag .ensures ∙ ap (λ (j : ℕ). tagIn j) (sym here)) ∙
+    let kind = kind-is c5 in
+    ap (λ (j : ℕ). eqb j (a .name .0)) (c .before .tag .ensures) ∙
     sym (pass-named w (a .test) (a .name .0) (c6 .if1 .left) (λ q.
     c4 .if2 .left (kind ∙ q))
     (c3 .if3 .left) (c .before .before .if4 .left))
@@ -88,7 +77,6 @@ pub passes-spec : {M : Type 1} → statement M
 passes-spec =
     tie.close
     (tie.spec
-    index-requires
     mul-w
     shared-slice-read-w
     returns

@@ -41,8 +41,7 @@ root-by : (c : tie.After-is-root-below) →
     isRootBelow (a .rows .now) (a .count) (wordAt (a .s .now) 2) ≡ c .is-root-below .result
 root-by c =
     let c9 = c .before .before .before .before .before .before .before .before .before in
-    let h : c .before .number-at .result + 1 - 1 ≡ wordAt (c9 .args .s .now) 2 = omega (arith, c .before .number-at .ensures .0) in
-    sym (c .is-root-below .ensures ∙ ap (isRootBelow (c9 .args .rows .now) (c9 .args .count)) h)
+    sym (c .is-root-below .ensures ∙ ap (isRootBelow (c9 .args .rows .now) (c9 .args .count)) (c .before .number-at .ensures .0))
 
 root : (c : tie.Else3) →
     let a = c .before .before .before .before .before .before .before .before .before .before .args in
@@ -62,8 +61,9 @@ marked-by : (c : tie.After-is-marked) →
 marked-by c =
     let c4 = c .before .before .before .before in
     let c12 = c4 .before .before .before .before .before .before .before .before in
-    let h : c4 .number-at .result + 1 - 1 ≡ wordAt (c12 .args .s .now) 2 = omega (arith, c4 .number-at .ensures .0) in
-    sym (c .is-marked .ensures ∙ ap (λ (j : ℕ). any (isThe j) (map ofLink (c12 .args .marks .now))) h)
+    sym (c .is-marked .ensures ∙ ap (λ (j : ℕ). any (isThe j) (map ofLink
+    (c12 .args .marks .now)))
+    (c4 .number-at .ensures .0))
 
 -- the tests passed: by whether it is marked
 by-marked : (c : tie.After-is-marked) (z : Bool) → c .is-marked .result ≡ z → (i : ℕ) →
@@ -71,10 +71,12 @@ by-marked : (c : tie.After-is-marked) (z : Bool) → c .is-marked .result ≡ z 
     a .last ≡ lastOf (a .marks .now) →
     markFault (decodeParts (a .count) (a .rows .now) (a .marks .now)) i (a .s .now) ≡ pick z (fault 6 i) fine
 by-marked c z h i e =
-    let c5 = c .before .before .before .before .before in
-    let c6 = c5 .before in
-    let c12 = c6 .before .before .before .before .before .before in
-    mark-by (c12 .args .s .now) (c12 .args .rows .now) (c12 .args .marks .now) (c12 .args .count) i (c12 .pre) (known c6) (rising c5 e)
+    mark-by (c .before .before .before .before .before .before .before .before .before .before .before .before .args .s .now)
+    (c .before .before .before .before .before .before .before .before .before .before .before .before .args .rows .now)
+    (c .before .before .before .before .before .before .before .before .before .before .before .before .args .marks .now)
+    (c .before .before .before .before .before .before .before .before .before .before .before .before .args .count) i
+    (c .before .before .before .before .before .before .before .before .before .before .before .before .pre) (known
+    (c .before .before .before .before .before .before)) (rising (c .before .before .before .before .before) e)
     (root (c .before .before)) z (marked-by c ∙ h)
 
 returns : tie.Need-returns
@@ -106,9 +108,6 @@ returns-2 c =
 number-at-requires : tie.Need-number-at-requires
 number-at-requires c κs = search needs
 
-add-link : tie.Need-add-link
-add-link c = search needs
-
 is-root-below-requires : tie.Need-is-root-below-requires
 is-root-below-requires c κs = search needs
 
@@ -119,19 +118,23 @@ returns-3 c =
     let c10 = c4 .before .before .before .before .before .before in
     record {
       fault = λ i e. mark-root (c10 .args .s .now) (c10 .args .rows .now) (c10 .args .marks .now) (c10 .args .count) i (c10 .pre)
-          (known c4) (rising c3 e) (root-by (c .before) ∙ not-true (c .before .is-root-below .result) (c .if3 .taken));
+          (known c4) (rising c3 e) (root-by (c .before) ∙ not-true
+          (c .before .is-root-below .result) (c .if3 .taken));
       marks = refl;
       document = λ z. refused _ z;
       order = λ z. refused _ z;
     }
 
-cast-mark : tie.Need-cast-mark
-cast-mark c =
-    let c10 = c .before .before .before .before .before .before .before .before .before .before in
-    omega (arith, there c, c .before .before .number-at .ensures .0, c10 .pre .room)
-
 is-marked-requires : tie.Need-is-marked-requires
-is-marked-requires c κs = search needs
+is-marked-requires c κs =
+    let c3 = c .before .before .before in
+    let c11 = c3 .before .before .before .before .before .before .before .before in
+    omega (
+      arith,
+      there (c .before),
+      c3 .number-at .ensures .0,
+      c11 .pre .room,
+    )
 
 same-length : tie.Need-same-length
 same-length c = search needs
@@ -144,6 +147,21 @@ returns-4 c =
       document = λ z. refused _ z;
       order = λ z. refused _ z;
     }
+
+add-marks : tie.Need-add-marks
+add-marks c = search needs
+
+cast-marks : tie.Need-cast-marks
+cast-marks c =
+    let c3 = c .before .before .before in
+    let c5 = c3 .before .before in
+    let c13 = c5 .before .before .before .before .before .before .before .before in
+    omega (
+      arith,
+      there c3,
+      c5 .number-at .ensures .0,
+      c13 .pre .room,
+    )
 
 mul-marks : tie.Need-mul-marks
 mul-marks c = search needs
@@ -178,13 +196,13 @@ mark-spec =
     returns
     returns-2
     number-at-requires
-    add-link
     is-root-below-requires
     returns-3
-    cast-mark
     is-marked-requires
     same-length
     returns-4
+    add-marks
+    cast-marks
     mul-marks
     slice-write-marks
     same-length-2

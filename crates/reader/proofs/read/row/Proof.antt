@@ -60,21 +60,8 @@ returns-2 c =
 number-at-requires : tie.Need-number-at-requires
 number-at-requires c κs = search needs
 
-wide-requires : tie.Need-wide-requires
-wide-requires c κs = search needs
-
-sub-word : tie.Need-sub-word
-sub-word c =
-    let c9 = c .before .before .before .before .before .before .before .before .before in
-    omega (arith, c .wide .ensures .0, c9 .pre .low)
-
-wide-requires-2 : tie.Need-wide-requires-2
-wide-requires-2 c κs = search needs
-
 word-requires : tie.Need-word-requires
-word-requires c κs =
-    let c10 = c .before .before .before .before .before .before .before .before .before .before in
-    omega (arith, c .before .wide .ensures .0, c .wide2 .ensures .1, c10 .pre .high)
+word-requires c κs = search needs
 
 mul-rows : tie.Need-mul-rows
 mul-rows c = search needs
@@ -89,33 +76,24 @@ last-zero : (c : tie.Else3) (ms : List ℕ) → c .before .before .before .befor
 last-zero c ms e = sym e ∙ search (c .if3 .left, needs)
 
 stored-none : (c : tie.After-word) →
-    let a = c .before .before .before .before .before .before .before .before .before .before .before .args in
+    let a = c .before .before .before .before .before .before .before .before .before .args in
     c .word .result ≡ wordOf (rowIn (a .s .now))
 stored-none c =
-    let c3 = c .before .before .before in
-    let c4 = c3 .before in
-    let c11 = c4 .before .before .before .before .before .before .before in
-    let h : c .word .result ≡ getD (c11
-    .args .s .now) 0 0 - 16 + 4 * 0 + 4096 * getD (c11 .args .s .now) 1 0 = omega
-    (arith, c .word .ensures, c .before .before .wide .ensures .0, c .before .wide2 .ensures .0) in h
-    ∙ row-word-none (c11 .args .s .now) (c11 .pre .low) (c11 .pre .high) (sym (c4 .number-at .ensures .0) ∙ c3 .if4 .taken)
+    let c9 = c .before .before .before .before .before .before .before .before .before in
+    c .word .ensures ∙ row-word-none (c9 .args .s .now) (c9 .pre .low) (c9 .pre .high) (sym (c .before .before .number-at .ensures .0) ∙
+    c .before .if4 .taken)
 
 returns-3 : tie.Need-returns-3
 returns-3 c =
     let c3 = c .before .before .before in
     let c4 = c3 .before in
-    let c5 = c4 .before in
-    let c6 = c5 .before in
-    let c11 = c6 .before .before .before .before .before in
+    let c9 = c4 .before .before .before .before .before in
     record {
-      fault = λ ms i e. row-none (c11 .args .s .now) (c11 .args .rows .now) ms (c11 .args .count) i (c11 .pre) (tag c6) (byte c6)
-          (last-zero c5 ms e) (sym (c4 .number-at .ensures .0) ∙ c3 .if4 .taken);
-      rows = ap (set (c11 .args .rows .now) (c11 .args .count)) (stored-none c);
-      link = λ z. link-none (c11 .args .s .now) (sym (c4 .number-at .ensures .0) ∙ c3 .if4 .taken);
+      fault = λ ms i e. row-none (c9 .args .s .now) (c9 .args .rows .now) ms (c9 .args .count) i (c9 .pre) (tag c4) (byte c4)
+          (last-zero c3 ms e) (sym (c .before .before .number-at .ensures .0) ∙ c .before .if4 .taken);
+      rows = ap (set (c9 .args .rows .now) (c9 .args .count)) (stored-none c);
+      link = λ z. link-none (c9 .args .s .now) (sym (c .before .before .number-at .ensures .0) ∙ c .before .if4 .taken);
     }
-
-add-link : tie.Need-add-link
-add-link c = search needs
 
 is-element-below-requires : tie.Need-is-element-below-requires
 is-element-below-requires c κs = search needs
@@ -134,8 +112,8 @@ child : (c : tie.After-is-element-below) →
 child c =
     let c3 = c .before .before .before in
     let c10 = c3 .before .before .before .before .before .before .before in
-    let h : c3 .number-at .result + 1 - 1 ≡ wordAt (c10 .args .s .now) 2 = omega (arith, c3 .number-at .ensures .0) in
-    sym (c .is-element-below .ensures ∙ ap (isElementBelow (c10 .args .rows .now) (c10 .args .count)) h)
+    sym (c .is-element-below .ensures ∙ ap (isElementBelow (c10 .args .rows .now) (c10 .args .count))
+    (c3 .number-at .ensures .0))
 
 lower : (c : tie.Else5) →
     let a = c .before .before .before .before .before .before .before .before .before .before .before .args in
@@ -159,26 +137,14 @@ returns-4 c =
       link = λ z. refused _ z;
     }
 
-wide-requires-3 : tie.Need-wide-requires-3
-wide-requires-3 c κs = search needs
-
-sub-word-2 : tie.Need-sub-word-2
-sub-word-2 c =
-    let c12 = c .before .before .before .before .before .before .before .before .before .before .before .before in
-    omega (arith, c .wide3 .ensures .0, c12 .pre .low)
-
-cast-word : tie.Need-cast-word
-cast-word c = search needs
-
-wide-requires-4 : tie.Need-wide-requires-4
-wide-requires-4 c κs = search needs
+add-link : tie.Need-add-link
+add-link c = search needs
 
 word-requires-2 : tie.Need-word-requires-2
 word-requires-2 c κs =
-    let c6 = c .before .before .before .before .before .before in
-    let c13 = c6 .before .before .before .before .before .before .before in
-    let l = lower (c .before .before) in
-    omega (arith, c .before .wide3 .ensures .0, c .wide4 .ensures .1, c13 .pre .high, c13 .pre .room, l, c6 .number-at .ensures .0)
+    let c4 = c .before .before .before .before in
+    let c11 = c4 .before .before .before .before .before .before .before in
+    omega (arith, c11 .pre .low, c11 .pre .high, c11 .pre .room, lower c, c4 .number-at .ensures .0)
 
 mul-rows-2 : tie.Need-mul-rows-2
 mul-rows-2 c = search needs
@@ -190,31 +156,29 @@ same-length-3 : tie.Need-same-length-3
 same-length-3 c = search needs
 
 stored-some : (c : tie.After-word2) →
-    let a = c .before .before .before .before .before .before .before .before .before .before .before .before .before .before .args in
+    let a = c .before .before .before .before .before .before .before .before .before .before .before .before .args in
     c .word2 .result ≡ wordOf (rowIn (a .s .now))
 stored-some c =
-    let c6 = c .before .before .before .before .before .before in
-    let c7 = c6 .before in
-    let c14 = c7 .before .before .before .before .before .before .before in
-    let s = c14 .args .s .now in
+    let c4 = c .before .before .before .before in
+    let c5 = c4 .before in
+    let c12 = c5 .before .before .before .before .before .before .before in
+    let s = c12 .args .s .now in
     let h : c .word2 .result ≡ getD s 0 0 - 16 + 4 * (wordAt s 2 + 1) + 4096 * getD s 1 0 =
-    omega (arith, c .word2 .ensures, c7 .number-at .ensures .0, c .before .before .wide3 .ensures .0, c .before .wide4 .ensures .0) in
-    h ∙ row-word-some (c14 .args .s .now) (c14 .pre .low) (c14 .pre .high) (parent-known c6)
+    omega (arith, c .word2 .ensures, c5 .number-at .ensures .0) in
+    h ∙ row-word-some (c12 .args .s .now) (c12 .pre .low) (c12 .pre .high) (parent-known c4)
 
 returns-5 : tie.Need-returns-5
 returns-5 c =
-    let c3 = c .before .before .before in
-    let c4 = c3 .before in
+    let c4 = c .before .before .before .before in
     let c6 = c4 .before .before in
-    let c8 = c6 .before .before in
-    let c9 = c8 .before in
-    let c14 = c9 .before .before .before .before .before in
+    let c7 = c6 .before in
+    let c12 = c7 .before .before .before .before .before in
     record {
-      fault = λ ms i e. row-child (c14 .args .s .now) (c14 .args .rows .now) ms (c14 .args .count) i (c14 .pre) (tag c9) (byte c9)
-          (last-zero c8 ms e) (parent-known c6) true
-          (child c4 ∙ not-false (c4 .is-element-below .result) (c3 .if5 .left));
-      rows = ap (set (c14 .args .rows .now) (c14 .args .count)) (stored-some c);
-      link = λ z. link-some (c14 .args .s .now) (omega (arith, lower c3, c14 .pre .room));
+      fault = λ ms i e. row-child (c12 .args .s .now) (c12 .args .rows .now) ms (c12 .args .count) i (c12 .pre) (tag c7) (byte c7)
+          (last-zero c6 ms e) (parent-known c4) true
+          (child (c .before .before) ∙ not-false (c .before .before .is-element-below .result) (c .before .if5 .left));
+      rows = ap (set (c12 .args .rows .now) (c12 .args .count)) (stored-some c);
+      link = λ z. link-some (c12 .args .s .now) (omega (arith, lower (c .before), c12 .pre .room));
     }
 
 pub row-spec : {M : Type 1} → statement M
@@ -226,22 +190,15 @@ row-spec =
     returns
     returns-2
     number-at-requires
-    wide-requires
-    sub-word
-    wide-requires-2
     word-requires
     mul-rows
     slice-write-rows
     same-length
     returns-3
-    add-link
     is-element-below-requires
     same-length-2
     returns-4
-    wide-requires-3
-    sub-word-2
-    cast-word
-    wide-requires-4
+    add-link
     word-requires-2
     mul-rows-2
     slice-write-rows-2

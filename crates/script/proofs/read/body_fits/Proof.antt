@@ -45,19 +45,24 @@ shared-slice-read-test-fits c =
     let c8 = c3 .before .before .before .before .before in
     body-whole (c8 .pre) (c3 .if3 .taken) 2 (omega arith)
 
-shared-slice-read-test-fits-2 : tie.Need-shared-slice-read-test-fits-2
-shared-slice-read-test-fits-2 c =
+shared-slice-read-name : tie.Need-shared-slice-read-name
+shared-slice-read-name c =
     let c4 = c .before .before .before .before in
     let c9 = c4 .before .before .before .before .before in
     body-whole (c9 .pre) (c4 .if3 .taken) 3 (omega arith)
 
+name-requires : tie.Need-name-requires
+name-requires c κs = search needs
+
 test-fits-requires : tie.Need-test-fits-requires
-test-fits-requires c κs = search needs
+test-fits-requires c κs =
+    let c9 = c .before .before .before .before .before .before .before .before .before in
+    omega (arith, c .name .ensures, c9 .shared-slice-known .given 3)
 
 returns-4 : tie.Need-returns-4
 returns-4 c =
-    let c5 = c .before .before .before .before .before in
-    body-step (c5 .if3 .taken) (omega arith) (c .test-fits .ensures)
+    let c6 = c .before .before .before .before .before .before in
+    body-step (c6 .if3 .taken) (omega arith) (rw (c .before .name .ensures) at (c .test-fits .ensures))
 
 shared-slice-read-result : tie.Need-shared-slice-read-result
 shared-slice-read-result c =
@@ -95,7 +100,8 @@ body-fits-spec =
     shared-slice-read-if4
     returns-3
     shared-slice-read-test-fits
-    shared-slice-read-test-fits-2
+    shared-slice-read-name
+    name-requires
     test-fits-requires
     returns-4
     shared-slice-read-result

@@ -26,23 +26,32 @@ abbrev μ-loop : tie.MeasureT-loop
 
 loop-holds : tie.Need-loop-holds Inv-loop μ-loop
 unfolding any
-loop-holds c =
-    let c2 = c .before .before in (
-      omega arith,
-      flags-none has (c2 .args .numbers .now) (c2 .args .marks .now) (c2 .pre .clear) (λ k. refl),
-    )
+loop-holds c = (
+  omega arith,
+  flags-none has (c .before .before .args .numbers .now) (c .before .before .args .marks .now) (c .before .before .pre .clear)
+      (λ k. refl),
+)
 
-mul-flag-one : tie.Need-mul-flag-one Inv-loop μ-loop
-mul-flag-one c = search needs
+mul-index : tie.Need-mul-index Inv-loop μ-loop
+mul-index c = search needs
 
-shared-slice-read-flag-one : tie.Need-shared-slice-read-flag-one Inv-loop μ-loop
-shared-slice-read-flag-one c = search needs
+shared-slice-read-index : tie.Need-shared-slice-read-index Inv-loop μ-loop
+shared-slice-read-index c = search needs
+
+index-requires : tie.Need-index-requires Inv-loop μ-loop
+index-requires c κs = search needs
 
 flag-one-requires : tie.Need-flag-one-requires Inv-loop μ-loop
 flag-one-requires c κs =
-    let c3 = c .before .before .before in
-    let c6 = c3 .before .before .before in
-    omega (arith, c3 .loop .inv .1 .size, c6 .pre .links (c3 .loop .d))
+    let c4 = c .before .before .before .before in
+    let c7 = c4 .before .before .before in
+    omega (
+      arith,
+      c4 .loop .inv .1 .size,
+      c7 .pre .links
+          (c4 .loop .d),
+      c .index .ensures .0,
+    )
 
 add-d : tie.Need-add-d Inv-loop μ-loop
 add-d c = search needs
@@ -52,13 +61,16 @@ loop-less c = omega arith
 
 loop-again : tie.Need-loop-again Inv-loop μ-loop
 loop-again c =
-    let c5 = c .before .before .before .before .before in
-    let c6 = c5 .before in
-    let c9 = c6 .before .before .before in (
+    let c3 = c .before .before .before in
+    let c6 = c3 .before .before .before in
+    let c7 = c6 .before in
+    let c10 = c7 .before .before .before in (
       omega arith,
-      subst (Flagged (take (c6 .loop .d + 1) (c9 .args .marks .now))) (sym (c .before .before .flag-one .ensures))
-          (flags-next has (c6 .loop .numbers) (c9 .args .marks .now) (λ (m : ℕ). m) marked-snoc (c6 .loop .d) (c5 .loop-test .taken)
-          (c6 .loop .inv .1) (c9 .pre .links (c6 .loop .d))),
+      subst (Flagged (take (c7 .loop .d + 1) (c10 .args .marks .now))) (sym (rw (c3 .index .ensures .0) at
+          (c .before .before .flag-one .ensures)))
+          (flags-next has (c7 .loop .numbers) (c10 .args .marks .now) (λ (m : ℕ). m) marked-snoc (c7 .loop .d)
+          (c6 .loop-test .taken)
+          (c7 .loop .inv .1) (c10 .pre .links (c7 .loop .d))),
     )
 
 same-length : tie.Need-same-length Inv-loop μ-loop
@@ -79,8 +91,9 @@ flag-spec =
     Inv-loop
     μ-loop
     loop-holds
-    mul-flag-one
-    shared-slice-read-flag-one
+    mul-index
+    shared-slice-read-index
+    index-requires
     flag-one-requires
     add-d
     loop-less

@@ -8,7 +8,7 @@ returns : tie.Need-returns
 returns c = rw (ne-eqb (c .before .args .flag) 0 (c .if1 .taken))
 
 returns-2 : tie.Need-returns-2
-returns-2 c = rw (eq-eqb (c .before .args .flag) 0 (search (c .if1 .left, needs)))
+returns-2 c = rw (eq-eqb (c .before .before .args .flag) 0 (search (c .before .if1 .left, needs)))
 
 pub is-kept-spec : {M : Type 1} → statement M
 is-kept-spec = tie.close (tie.spec returns returns-2)

@@ -1,7 +1,7 @@
 -- `sweep::row` takes the next number for a row that is kept, and leaves the others out.
 use Rattle.model.proofs.BoolLaws.{pick-true, pick-false}
 use Rattle.sweep.specs.Sweeping.{keeps, keepsRow, newWord}
-use Rattle.table.specs.Words.{withLink}
+use Rattle.table.specs.Words.{linkIn, withLink}
 use borrow.Author.Tests.{not-true, not-false}
 use lib.ListN.{getD, set}
 use mathlib.Core.Path.{_≡_, _∙_, sym, ap}
@@ -14,11 +14,14 @@ use Rattle.sweep.proofs.sweep.row.Tie as tie
 link-requires : tie.Need-link-requires
 link-requires c κs = search needs
 
-mul-parent : tie.Need-mul-parent
-mul-parent c = search needs
+mul-index : tie.Need-mul-index
+mul-index c = search needs
 
-slice-read-parent : tie.Need-slice-read-parent
-slice-read-parent c = search needs
+slice-read-index : tie.Need-slice-read-index
+slice-read-index c = search needs
+
+index-requires : tie.Need-index-requires
+index-requires c κs = search needs
 
 add-is-kept : tie.Need-add-is-kept
 add-is-kept c = search needs
@@ -32,23 +35,29 @@ slice-read-is-kept c = search needs
 is-kept-requires : tie.Need-is-kept-requires
 is-kept-requires c κs = search needs
 
-kept : (c : tie.After-is-kept) → let a = c .before .before .before .before .before .before .args in
-    keepsRow (a .w) (a .i) (a .numbers .now) ≡ c .is-kept .result
+moved : (c : tie.After-index) →
+    let a = c .before .before .before .before .before .args in
+    c .index .result ≡ getD (a .numbers .now) (linkIn (a .w)) 0
+moved c =
+    let c5 = c .before .before .before .before .before in
+    c .index .ensures .0 ∙ ap (λ (j : ℕ). getD (c5 .args .numbers .now) j 0)
+    (c .before .before .link .ensures)
+
+kept : (c : tie.After-is-kept) →
+    let a = c .before .before .before .before .before .before .before .args in
+    keepsRow (a .w) (a .row .0) (a .numbers .now) ≡ c .is-kept .result
 kept c =
-    let c3 = c .before .before .before in
-    let c6 = c3 .before .before .before in
-    let a = c6 .args in
-    sym (c .is-kept .ensures ∙ ap (λ (j : ℕ). keeps (getD (a .numbers .now) (a .i + 1) 0) (getD (a .numbers .now) j 0))
-    (c3 .link .ensures))
+    let c7 = c .before .before .before .before .before .before .before in
+    sym (c .is-kept .ensures ∙ ap (keeps (getD (c7 .args .numbers .now) (c7 .args .row .0 + 1) 0)) (moved (c .before .before)))
 
 returns : tie.Need-returns
 returns c =
-    let c7 = c .before .before .before .before .before .before .before in
-    let a = c7 .args in
-    let t = keepsRow (a .w) (a .i) (a .numbers .now) in
+    let c8 = c .before .before .before .before .before .before .before .before in
+    let a = c8 .args in
+    let t = keepsRow (a .w) (a .row .0) (a .numbers .now) in
     let e = kept (c .before) ∙ not-true (c .before .is-kept .result) (c .if1 .taken) in
     record {
-      numbers = sym (pick-false t (set (a .numbers .now) (a .i + 1) (a .next + 1)) (a .numbers .now) e);
+      numbers = sym (pick-false t (set (a .numbers .now) (a .row .0 + 1) (a .next + 1)) (a .numbers .now) e);
       rows = sym (pick-false t (set (a .out .now) (a .next) (newWord (a .w) (a .numbers .now))) (a .out .now) e);
       result = sym (pick-false t (a .next + 1) (a .next) e);
     }
@@ -68,14 +77,15 @@ mul-numbers c = search needs
 slice-write-numbers : tie.Need-slice-write-numbers
 slice-write-numbers c = search needs
 
-index-requires : tie.Need-index-requires
-index-requires c κs = search needs
-
 relinked-requires : tie.Need-relinked-requires
 relinked-requires c κs =
-    let c5 = c .before .before .before .before .before in
-    let c8 = c5 .before .before .before in
-    omega (arith, c .index .ensures .0, c8 .pre .parent, ap (λ (j : ℕ). getD (c8 .args .numbers .now) j 0) (c5 .link .ensures))
+    let c3 = c .before .before .before in
+    let c8 = c3 .before .before .before .before .before in
+    omega (
+      arith,
+      c8 .pre .parent,
+      moved (c3),
+    )
 
 mul-out : tie.Need-mul-out
 mul-out c = search needs
@@ -92,24 +102,23 @@ same-length c = search needs
 same-length-2 : tie.Need-same-length-2
 same-length-2 c = search needs
 
-built : (c : tie.After-relinked) → let a = c .before .before .before .before .before .before .before .before .before .args in
+built : (c : tie.After-relinked) →
+    let a = c .before .before .before .before .before .before .before .before .before .args in
     c .relinked .result ≡ newWord (a .w) (a .numbers .now)
 built c =
-    let c6 = c .before .before .before .before .before .before in
-    let c9 = c6 .before .before .before in
-    let a = c9 .args in
-    c .relinked .ensures ∙
-    ap (withLink (a .w)) (c .before .index .ensures .0 ∙ ap (λ (j : ℕ). getD (a .numbers .now) j 0) (c6 .link .ensures))
+    let c4 = c .before .before .before .before in
+    let c9 = c4 .before .before .before .before .before in
+    c .relinked .ensures ∙ ap (withLink
+    (c9 .args .w)) (moved (c4))
 
 returns-2 : tie.Need-returns-2
 returns-2 c =
-    let c3 = c .before .before .before in
-    let c9 = c3 .before .before .before .before .before .before in
+    let c9 = c .before .before .before .before .before .before .before .before .before in
     let a = c9 .args in
-    let t = keepsRow (a .w) (a .i) (a .numbers .now) in
-    let e = kept (c3) ∙ not-false (c3 .is-kept .result) (c .before .before .if1 .left) in
+    let t = keepsRow (a .w) (a .row .0) (a .numbers .now) in
+    let e = kept (c .before .before) ∙ not-false (c .before .before .is-kept .result) (c .before .if1 .left) in
     record {
-      numbers = sym (pick-true t (set (a .numbers .now) (a .i + 1) (a .next + 1)) (a .numbers .now) e);
+      numbers = sym (pick-true t (set (a .numbers .now) (a .row .0 + 1) (a .next + 1)) (a .numbers .now) e);
       rows =
           ap (set (a .out .now) (a .next)) (built c) ∙
           sym (pick-true t (set (a .out .now) (a .next) (newWord (a .w) (a .numbers .now))) (a .out .now) e);
@@ -121,8 +130,9 @@ row-spec =
     tie.close
     (tie.spec
     link-requires
-    mul-parent
-    slice-read-parent
+    mul-index
+    slice-read-index
+    index-requires
     add-is-kept
     mul-is-kept
     slice-read-is-kept
@@ -133,7 +143,6 @@ row-spec =
     add-numbers-2
     mul-numbers
     slice-write-numbers
-    index-requires
     relinked-requires
     mul-out
     slice-write-out

@@ -29,16 +29,20 @@ flag-requires c κs =
     let c5 = c .before .before .before .before .before in
     record {
       clear = c5 .pre .clear;
-      links = λ d. omega
-          (arith, fits-mark (c5 .args .count) (c5 .args .rows .now) (c5 .args .marks .now) (fitting c5) (within c5) d, fitting c5 .few);
+      links = λ d. omega (
+        arith,
+        fits-mark (c5 .args .count) (c5 .args .rows .now) (c5 .args .marks .now) (fitting c5) (within c5) d,
+        fitting
+            (c5) .few,
+      );
     }
 
 loop-holds : tie.Need-loop-holds Inv-loop μ-loop
 loop-holds c =
     let c8 = c .before .before .before .before .before .before .before .before in (
       omega arith,
-      sweeping-none (c8 .args .rows .now) (c8 .args .marks .now) (c .before .before .flag .last .0) (c8 .args .out .now) (c8
-          .args .count) (c .before .before .flag .ensures) (c8 .pre .rows),
+      sweeping-none (c8 .args .rows .now) (c8 .args .marks .now) (c .before .before .flag .last .0) (c8 .args .out .now) (c8 .args .count)
+          (c .before .before .flag .ensures) (c8 .pre .rows),
       ap length (c8 .pre .rows),
     )
 
@@ -57,7 +61,11 @@ mul-row c =
 shared-slice-read-row : tie.Need-shared-slice-read-row Inv-loop μ-loop
 shared-slice-read-row c =
     let c11 = c .before .before .before .before .before .before .before .before .before .before .before in
-    omega (arith, within (c11), c .before .loop-test .taken)
+    omega (
+      arith,
+      within c11,
+      c .before .loop-test .taken,
+    )
 
 row-requires : tie.Need-row-requires Inv-loop μ-loop
 row-requires c κs =
@@ -69,16 +77,15 @@ row-requires c κs =
         arith,
         fitting (c13) .few,
       );
-      link = link-in (c13 .args .rows .now) (c13 .args .marks .now) (c13 .args .count) (c4
-          .loop .i) (fitting (c13)) (c13 .pre .size) (c3 .loop-test .taken) (c4 .loop .next) (c4 .loop .numbers)
+      link = link-in (c13 .args .rows .now) (c13 .args .marks .now) (c13 .args .count) (c4 .loop .i) (fitting c13) (c13 .pre .size)
+          (c3 .loop-test .taken) (c4 .loop .next) (c4 .loop .numbers)
           (c4 .loop .out) (c4 .loop .inv .1);
       below = next-low (c13 .args .rows .now) (c13 .args .marks .now) (c13 .args .count) (c4 .loop .i)
-          (fitting (c13)) (c13 .pre .size) (c3 .loop-test .taken) (c4 .loop .next) (c4 .loop .numbers) (c4 .loop .out) (c4 .loop .inv .1);
+          (fitting c13) (c13 .pre .size) (c3 .loop-test .taken) (c4 .loop .next) (c4 .loop .numbers) (c4 .loop .out) (c4 .loop .inv .1);
       numbers = c4 .loop .inv .1 .size;
       rows = c4 .loop .inv .2;
       parent = entry-low (c13 .args .rows .now) (c13 .args .marks .now) (c13 .args .count) (c4 .loop .i) (fitting
-          (c13)) (c13 .pre .size) (c3
-          .loop-test .taken) (c4 .loop .next) (c4 .loop .numbers) (c4 .loop .out) (c4 .loop .inv .1);
+          c13) (c13 .pre .size) (c3 .loop-test .taken) (c4 .loop .next) (c4 .loop .numbers) (c4 .loop .out) (c4 .loop .inv .1);
     }
 
 add-i : tie.Need-add-i Inv-loop μ-loop
@@ -94,8 +101,9 @@ loop-again c =
     let c9 = c8 .before in
     let c18 = c9 .before .before .before .before .before .before .before .before .before in (
       omega arith,
-      sweeping-next (c18 .args .rows .now) (c18 .args .marks .now) (c18 .args .count) (c9 .loop .i) (fitting (c18)) (c18
-          .pre .size) (c8 .loop-test .taken) (c9 .loop .next) (c9 .loop .numbers) (c9 .loop .out) (c9 .loop .inv .1)
+      sweeping-next (c18 .args .rows .now) (c18 .args .marks .now) (c18 .args .count) (c9 .loop .i) (fitting c18) (c18 .pre .size)
+          (c8 .loop-test .taken) (c9 .loop .next) (c9 .loop .numbers)
+          (c9 .loop .out) (c9 .loop .inv .1)
           (c4 .row .last .1 .1 .1
           .0) (c4 .row .last .1 .1 .1 .1 .0) (c4 .row .result) (c4 .row .ensures),
       search (c9 .loop .inv .2, needs),
@@ -104,20 +112,29 @@ loop-again c =
 same-length : tie.Need-same-length Inv-loop μ-loop
 same-length c =
     let c10 = c .before .before .before .before .before .before .before .before .before .before in
-    search (c .before .loop .inv .1 .size, ap length (c10 .pre .clear), needs)
+    search (
+      c .before .loop .inv .1 .size,
+      ap length
+          (c10 .pre .clear),
+      needs,
+    )
 
 same-length-2 : tie.Need-same-length-2 Inv-loop μ-loop
 same-length-2 c =
     let c10 = c .before .before .before .before .before .before .before .before .before .before in
-    search (c .before .loop .inv .2, ap length (c10 .pre .rows), needs)
+    search (
+      c .before .loop .inv .2,
+      ap length
+          (c10 .pre .rows),
+      needs,
+    )
 
 returns : tie.Need-returns Inv-loop μ-loop
 returns c =
     let c10 = c .before .before .before .before .before .before .before .before .before .before in
     let e : c .before .loop .i ≡ c10 .args .count =
-    omega (arith, c .before .loop .inv .0) in subst (λ (j : ℕ). Sweeping (decodeParts (c10 .args .count) (c10
-    .args .rows .now) (c10 .args .marks .now)) j (c .before
-    .loop .next) (c .before .loop .numbers) (c .before .loop .out)) e (c .before .loop .inv .1)
+    omega (arith, c .before .loop .inv .0) in subst (λ (j : ℕ). Sweeping (decodeParts (c10 .args .count) (c10 .args .rows .now)
+    (c10 .args .marks .now)) j (c .before .loop .next) (c .before .loop .numbers) (c .before .loop .out)) e (c .before .loop .inv .1)
 
 pub rows-spec : {M : Type 1} → statement M
 rows-spec =

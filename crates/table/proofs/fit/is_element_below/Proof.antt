@@ -10,10 +10,7 @@ use Rattle.table.proofs.fit.is_element_below.Statement.{statement}
 use Rattle.table.proofs.fit.is_element_below.Tie as tie
 
 returns : tie.Need-returns
-returns c = rw (le-ltb (c .before .before .args .link - 1) (c .before .before .args .bound) (omega (arith, c .if1 .taken)))
-
-sub-kind : tie.Need-sub-kind
-sub-kind c = search needs
+returns c = rw (le-ltb (c .before .before .args .row .0) (c .before .before .args .bound) (omega (arith, c .if1 .taken)))
 
 mul-kind : tie.Need-mul-kind
 mul-kind c = search needs
@@ -26,11 +23,10 @@ kind-requires c κs = search needs
 
 returns-2 : tie.Need-returns-2
 returns-2 c =
-    let c2 = c .before .before in
-    let c4 = c2 .before .before in
-    rw (lt-ltb (c4 .args .link - 1) (c4 .args .bound) (omega (arith, c2 .if1 .left, c4 .pre)))
+    let c4 = c .before .before .before .before in
+    rw (lt-ltb (c4 .args .row .0) (c4 .args .bound) (omega (arith, c .before .before .if1 .left, c4 .pre)))
     (ap (λ (j : ℕ). not (eqb j 2)) (c .kind .ensures))
 
 pub is-element-below-spec : {M : Type 1} → statement M
 is-element-below-spec =
-    tie.close (tie.spec returns sub-kind mul-kind shared-slice-read-kind kind-requires returns-2)
+    tie.close (tie.spec returns mul-kind shared-slice-read-kind kind-requires returns-2)

@@ -17,31 +17,33 @@ is-element-below-requires c κs = search needs
 returns : tie.Need-returns
 returns c = rw (sym (c .before .is-element-below .ensures) ∙ not-true (c .before .is-element-below .result) (c .if1 .taken))
 
-sub-link : tie.Need-sub-link
-sub-link c = search needs
-
 element : (c : tie.Else1) →
     let a = c .before .before .before .args in
-    isElementBelow (a .rows .now) (a .bound) (a .link - 1) ≡ true
+    isElementBelow (a .rows .now) (a .bound) (a .row .0) ≡ true
 element c = sym (c .before .is-element-below .ensures) ∙ not-false (c .before .is-element-below .result) (c .if1 .left)
 
 low : (c : tie.Else1) →
     let a = c .before .before .before .args in
-    a .link - 1 < a .bound
-low c = below-bound (c .before .before .before .args .rows .now) _ _ (element c)
+    a .row .0 < a .bound
+low c =
+    let c3 = c .before .before .before in
+    below-bound (c3 .args .rows .now) _ _ (element c)
 
 mul-link : tie.Need-mul-link
 mul-link c = search (low c, needs)
 
 shared-slice-read-link : tie.Need-shared-slice-read-link
-shared-slice-read-link c = omega (arith, low (c .before), c .before .before .before .before .pre)
+shared-slice-read-link c =
+    let c4 = c .before .before .before .before in
+    omega (arith, low (c .before), c4 .pre)
 
 link-requires : tie.Need-link-requires
 link-requires c κs = search needs
 
 returns-2 : tie.Need-returns-2
 returns-2 c =
-    rw (element (c .before .before)) (ap (λ (j : ℕ). eqb j 0) (c .link .ensures))
+    let c3 = c .before .before .before in
+    rw (element c3) (ap (λ (j : ℕ). eqb j 0) (c .before .link .ensures))
 
 pub is-root-below-spec : {M : Type 1} → statement M
 is-root-below-spec =
@@ -49,7 +51,6 @@ is-root-below-spec =
     (tie.spec
     is-element-below-requires
     returns
-    sub-link
     mul-link
     shared-slice-read-link
     link-requires

@@ -5,9 +5,9 @@ use lib.ListN.{getD}
 use borrow.Author.Tests.{not-true, not-false}
 use mathlib.Core.Path.{_∙_, sym, ap}
 use borrow.Author.Needs.{needs}
+use Rattle.table.specs.Words.{linkIn}
 use Rattle.table.proofs.fit.row_fits.Statement.{statement}
 use Rattle.table.proofs.fit.row_fits.Tie as tie
-use Rattle.table.specs.Words.{linkIn}
 
 mul-w : tie.Need-mul-w
 mul-w c = search needs
@@ -21,8 +21,8 @@ tag-fits-requires c κs = search needs
 returns : tie.Need-returns
 returns c =
     let c4 = c .before .before .before .before in
-    sym (ap (λ (z : Bool). z && linkFits (c4 .args .rows .now) (c4
-    .args .i) (linkIn (getD (c4 .args .rows .now) (c4 .args .i) 0))) (sym
+    sym (ap (λ (z : Bool). z && linkFits (c4 .args .rows .now) (c4 .args .row .0) (linkIn (getD (c4 .args .rows .now)
+    (c4 .args .row .0) 0))) (sym
     (c .before .tag-fits .ensures) ∙ not-true (c .before .tag-fits .result) (c .if1 .taken)))
 
 link-requires : tie.Need-link-requires
@@ -35,10 +35,9 @@ returns-2 : tie.Need-returns-2
 returns-2 c =
     let c3 = c .before .before .before in
     let c6 = c3 .before .before .before in
-    c .link-fits .ensures ∙ ap (linkFits (c6 .args .rows .now) (c6 .args .i)) (c .before .link .ensures) ∙ sym
-    (ap (λ (z : Bool). z && linkFits (c6 .args .rows .now) (c6 .args .i) (linkIn (getD (c6 .args .rows .now) (c6 .args .i) 0)))
-    (sym (c3 .tag-fits .ensures) ∙ not-false (c3 .tag-fits .result) (c .before
-    .before .if1 .left)))
+    c .link-fits .ensures ∙ ap (linkFits (c6 .args .rows .now) (c6 .args .row .0)) (c .before .link .ensures) ∙ sym
+    (ap (λ (z : Bool). z && linkFits (c6 .args .rows .now) (c6 .args .row .0) (linkIn (getD (c6 .args .rows .now) (c6 .args .row .0) 0)))
+    (sym (c3 .tag-fits .ensures) ∙ not-false (c3 .tag-fits .result) (c .before .before .if1 .left)))
 
 pub row-fits-spec : {M : Type 1} → statement M
 row-fits-spec =

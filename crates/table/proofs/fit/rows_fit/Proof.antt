@@ -48,9 +48,8 @@ loop-again c =
       omega arith,
       c3 .loop .inv .1 ∙ rows-turn (c5 .args .rows
           .now) (c3 .loop .i) (c5 .args .count) (c .before .before .loop-test
-          .taken) ∙ ap (λ (z : Bool). z && rowsFit (c5 .args .rows .now) (c3
-          .loop .i + 1) (c5 .args .count - (c3 .loop .i + 1))) (sym (c .before
-          .row-fits .ensures) ∙ not-false (c .before .row-fits .result) (c .if1 .left)),
+          .taken) ∙ ap (λ (z : Bool). z && rowsFit (c5 .args .rows .now) (c3 .loop .i + 1) (c5 .args .count - (c3 .loop .i + 1))) (sym
+          (c .before .row-fits .ensures) ∙ not-false (c .before .row-fits .result) (c .if1 .left)),
     )
 
 returns-2 : tie.Need-returns-2 Inv-loop μ-loop

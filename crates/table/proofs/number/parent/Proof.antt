@@ -6,13 +6,15 @@ use Rattle.table.proofs.number.parent.Statement.{statement}
 use Rattle.table.proofs.number.parent.Tie as tie
 
 returns : tie.Need-returns
-returns c = (parent-none (c .before .args .link) (c .if1 .taken), omega arith)
+returns c = (parent-none (c .before .before .args .link .0) (c .if1 .taken), omega arith)
 
 sub-result : tie.Need-sub-result
 sub-result c = search needs
 
 returns-2 : tie.Need-returns-2
-returns-2 c = (parent-some (c .before .args .link) (c .if1 .left), omega arith)
+returns-2 c =
+    let c3 = c .before .before .before in
+    (parent-some (c3 .args .link .0) (c .before .if1 .left), omega arith)
 
 pub parent-spec : {M : Type 1} → statement M
 parent-spec = tie.close (tie.spec returns sub-result returns-2)

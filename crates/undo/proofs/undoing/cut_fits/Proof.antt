@@ -5,28 +5,22 @@ use Rattle.model.specs.Table.{isThe}
 use Rattle.table.specs.Words.{ofLink, linkIn}
 use lib.ListN.{getD}
 use mathlib.Core.List.{map}
-use mathlib.Core.Path.{_≡_, sym, _∙_, ap}
-use Prim.Native.Nat.{ℕ, _+_, _-_}
+use mathlib.Core.Path.{_≡_, sym, _∙_}
+use Prim.Native.Nat.{_-_}
 use native.Mathlib.Omega.{arith}
 use borrow.Author.Needs.{needs}
 use Rattle.undo.proofs.undoing.cut_fits.Statement.{statement}
 use Rattle.undo.proofs.undoing.cut_fits.Tie as tie
 
 is-root : (c : tie.Else2) →
-    let a = c .before .before .before .before .before .before .before .before .args in
-    linkIn (getD (a .rows .now) (c .before .before .before .before .number-at .result) 0) ≡ 0
-is-root c = sym (c .before .link .ensures) ∙ search (c .if2 .left, needs)
+    let a = c .before .before .before .before .before .before .before .before .before .args in
+    linkIn (getD (a .rows .now) (c .before .before .before .before .before .number-at .result) 0) ≡ 0
+is-root c = sym (c .before .before .link .ensures) ∙ search (c .if2 .left, needs)
 
 marked-by : (c : tie.After-is-marked) →
-    let a = c .before .before .before .before .before .before .before .before .before .args in
-    any (isThe (c .before .before .before .before .before .number-at .result)) (map ofLink (a .marks .now)) ≡ c .is-marked .result
-marked-by c =
-    let c5 = c .before .before .before .before .before in
-    let c9 = c5 .before .before .before .before in
-    let h : c5 .number-at .result + 1 - 1 ≡
-    c5 .number-at .result = omega arith in
-    sym (c .is-marked .ensures ∙ ap (λ (j : ℕ). any (isThe j) (map ofLink
-    (c9 .args .marks .now))) h)
+    any (isThe (c .before .before .before .before .before .before .number-at .result)) (map ofLink
+    (c .before .before .before .before .before .before .before .before .before .before .args .marks .now)) ≡ c .is-marked .result
+marked-by c = sym (c .is-marked .ensures)
 
 number-at-requires : tie.Need-number-at-requires
 number-at-requires c κs =
@@ -51,67 +45,66 @@ link-requires c κs = search needs
 
 returns-2 : tie.Need-returns-2
 returns-2 c =
-    let c3 = c .before .before .before in
-    let c4 = c3 .before in
-    let c8 = c4 .before .before .before .before in
+    let c4 = c .before .before .before .before in
+    let c5 = c4 .before in
+    let c9 = c5 .before .before .before .before in
     sym
-    (cut-child (c8 .pre) (c8 .args .marks .now) (c4 .number-at .ensures .0) (omega (arith, c3 .if1 .left))
-    (λ q. c .if2 .taken (c .before .link .ensures ∙ q)))
-
-add-is-marked : tie.Need-add-is-marked
-add-is-marked c = search needs
-
-cast-is-marked : tie.Need-cast-is-marked
-cast-is-marked c = search needs
+    (cut-child (c9 .pre) (c9 .args .marks .now) (c5 .number-at .ensures .0) (omega
+    (arith, c4 .if1 .left))
+    (λ q. c .if2 .taken (c .before .before .link .ensures ∙ q)))
 
 is-marked-requires : tie.Need-is-marked-requires
 is-marked-requires c κs = search needs
 
 returns-3 : tie.Need-returns-3
 returns-3 c =
-    let c5 = c .before .before .before .before .before in
-    let c6 = c5 .before in
-    let c10 = c6 .before .before .before .before in
+    let c6 = c .before .before .before .before .before .before in
+    let c7 = c6 .before in
+    let c11 = c7 .before .before .before .before in
     sym
-    (cut-marked (c10 .pre) (c10 .args .marks .now) (c6 .number-at .ensures .0) (omega (arith, c5 .if1 .left))
+    (cut-marked (c11 .pre) (c11 .args .marks .now) (c7 .number-at .ensures .0)
+    (omega (arith, c6 .if1 .left))
     (is-root (c .before .before)) (marked-by (c .before) ∙ c .if3 .taken))
 
 number-at-requires-2 : tie.Need-number-at-requires-2
 number-at-requires-2 c κs =
-    let c10 = c .before .before .before .before .before .before .before .before .before .before in
-    omega (arith, c10 .pre .whole)
+    let c11 = c .before .before .before .before .before .before .before .before .before .before .before in
+    omega (arith, c11 .pre .whole)
 
 returns-4 : tie.Need-returns-4
 returns-4 c =
     let c3 = c .before .before .before in
     let c4 = c3 .before in
-    let c7 = c4 .before .before .before in
-    let c8 = c7 .before in
-    let c12 = c8 .before .before .before .before in
+    let c8 = c4 .before .before .before .before in
+    let c9 = c8 .before in
+    let c13 = c9 .before .before .before .before in
     sym
-    (cut-none (c12 .pre) (c12 .args .marks .now) (c8 .number-at .ensures .0) (omega (arith, c7 .if1 .left)) (is-root c4) (marked-by
-    c3 ∙ c .before .before .if3 .left) (c .before .number-at2 .ensures .0) (c .if4 .taken))
-
-add-is-element-below : tie.Need-add-is-element-below
-add-is-element-below c = search needs
+    (cut-none (c13 .pre) (c13 .args .marks .now)
+    (c9 .number-at .ensures .0) (omega
+    (arith, c8 .if1 .left)) (is-root c4)
+    (marked-by c3 ∙ c .before .before .if3 .left) (c .before .number-at2 .ensures .0) (c .if4 .taken))
 
 is-element-below-requires : tie.Need-is-element-below-requires
 is-element-below-requires c κs =
-    let c7 = c .before .before .before .before .before .before .before in
-    let c12 = c7 .before .before .before .before .before in
-    omega (arith, c7 .if1 .left, c12 .pre .rows, c12 .pre .few)
+    let c8 = c .before .before .before .before .before .before .before .before in
+    let c13 = c8 .before .before .before .before .before in
+    omega (arith, c8 .if1 .left, c13 .pre .rows, c13 .pre .few)
 
 returns-5 : tie.Need-returns-5
 returns-5 c =
     let c3 = c .before .before .before in
     let c4 = c3 .before in
     let c5 = c4 .before in
-    let c8 = c5 .before .before .before in
-    let c9 = c8 .before in
-    let c13 = c9 .before .before .before .before in
+    let c9 = c5 .before .before .before .before in
+    let c10 = c9 .before in
+    let c14 = c10 .before .before .before .before in
     c .is-element-below .ensures ∙ sym
-    (cut-element (c13 .pre) (c13 .args .marks .now) (c9 .number-at .ensures .0) (omega (arith, c8 .if1 .left)) (is-root c5)
-    (marked-by c4 ∙ c3 .if3 .left) (c .before .before .number-at2 .ensures .0) (c .before .if4 .left))
+    (cut-element (c14 .pre) (c14 .args .marks .now)
+    (c10 .number-at .ensures .0) (omega
+    (arith, c9 .if1 .left)) (is-root
+    c5)
+    (marked-by c4 ∙ c3 .if3 .left) (c .before .before .number-at2 .ensures .0)
+    (c .before .if4 .left))
 
 pub cut-fits-spec : {M : Type 1} → statement M
 cut-fits-spec =
@@ -123,12 +116,9 @@ cut-fits-spec =
     shared-slice-read-link
     link-requires
     returns-2
-    add-is-marked
-    cast-is-marked
     is-marked-requires
     returns-3
     number-at-requires-2
     returns-4
-    add-is-element-below
     is-element-below-requires
     returns-5)

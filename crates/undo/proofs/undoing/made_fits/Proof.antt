@@ -18,13 +18,10 @@ use Rattle.undo.proofs.undoing.made_fits.Tie as tie
 is-last : (c : tie.Else1) → c .before .number-at .result + 1 ≡ c .before .before .before .before .before .args .count
 is-last c = search (c .if1 .left, needs)
 
-marked-by : (c : tie.After-is-marked) → any (isThe (c .before .before .number-at .result)) (map ofLink
+marked-by : (c : tie.After-is-marked) →
+    any (isThe (c .before .before .number-at .result)) (map ofLink
     (c .before .before .before .before .before .before .args .marks .now)) ≡ c .is-marked .result
-marked-by c =
-    let c6 = c .before .before .before .before .before .before in
-    let h : c .before .before .number-at .result + 1 - 1 ≡ c .before .before .number-at .result = omega arith in
-    sym (c .is-marked .ensures ∙ ap (λ (j : ℕ). any (isThe j) (map ofLink
-    (c6 .args .marks .now))) h)
+marked-by c = sym (c .is-marked .ensures)
 
 number-at-requires : tie.Need-number-at-requires
 number-at-requires c κs =
@@ -39,12 +36,6 @@ returns c =
     let c5 = c .before .before .before .before .before in
     sym (made-last (c5 .pre) (c5 .args .marks .now) (c .before .number-at .ensures .0) (c .if1 .taken))
 
-add-is-marked : tie.Need-add-is-marked
-add-is-marked c = search needs
-
-cast-is-marked : tie.Need-cast-is-marked
-cast-is-marked c = search needs
-
 is-marked-requires : tie.Need-is-marked-requires
 is-marked-requires c κs = search needs
 
@@ -53,8 +44,8 @@ returns-2 c =
     let c3 = c .before .before .before in
     let c7 = c3 .before .before .before .before in
     sym
-    (made-marked (c7 .pre) (c7 .args .marks .now) (c3 .number-at .ensures .0) (is-last (c .before .before)) (marked-by (c .before) ∙ c
-    .if2 .taken))
+    (made-marked (c7 .pre) (c7 .args .marks .now) (c3 .number-at .ensures .0) (is-last (c .before .before))
+    (marked-by (c .before) ∙ c .if2 .taken))
 
 mul-w : tie.Need-mul-w
 mul-w c = search needs
@@ -76,8 +67,10 @@ returns-3 c =
     let c7 = c6 .before in
     let c11 = c7 .before .before .before .before in
     sym
-    (made-kind (c11 .pre) (c11 .args .marks .now) (c7 .number-at .ensures .0) (is-last (c6)) (marked-by (c5) ∙ c4 .if2 .left) (sym (c
-    .before .same-kind .ensures) ∙ not-true (c .before .same-kind .result) (c .if3 .taken)))
+    (made-kind (c11 .pre) (c11 .args .marks .now) (c7 .number-at .ensures .0)
+    (is-last c6) (marked-by c5 ∙
+    c4 .if2 .left) (sym (c .before .same-kind .ensures) ∙ not-true (c .before .same-kind .result)
+    (c .if3 .taken)))
 
 tag-requires : tie.Need-tag-requires
 tag-requires c κs = search needs
@@ -103,8 +96,8 @@ returns-4 c =
     (c15 .args
     .marks .now)
     (c11 .number-at .ensures .0) (is-last
-    (c10)) (marked-by
-    (c9) ∙
+    c10) (marked-by
+    c9 ∙
     c8 .if2 .left) (sym
     (c5 .same-kind .ensures) ∙ not-false
     (c5 .same-kind .result) (c4 .if3 .left)) (λ q. c .if4 .taken
@@ -115,12 +108,11 @@ link-requires c κs = search needs
 
 number-at-requires-2 : tie.Need-number-at-requires-2
 number-at-requires-2 c κs =
-    let c8 = c .before .before .before .before .before .before .before .before in
-    let c16 = c8 .before .before .before .before .before .before .before .before in
+    let c10 = c .before .before .before .before .before .before .before .before .before .before in
+    let c16 = c10 .before .before .before .before .before .before in
     omega (
       arith,
-      c16
-          .pre .whole,
+      c16 .pre .whole,
     )
 
 same-parent-requires : tie.Need-same-parent-requires
@@ -147,8 +139,8 @@ returns-5 c =
     (c18 .args .marks .now)
     (c14 .number-at
     .ensures .0)
-    (is-last (c13)) (marked-by
-    (c12) ∙
+    (is-last c13) (marked-by
+    c12 ∙
     c11 .if2 .left) (sym
     (c8 .same-kind .ensures) ∙ not-false
     (c8 .same-kind .result)
@@ -163,8 +155,6 @@ made-fits-spec =
     number-at-requires
     add-if1
     returns
-    add-is-marked
-    cast-is-marked
     is-marked-requires
     returns-2
     mul-w

@@ -5,13 +5,13 @@ use Rattle.undo.proofs.undoing.same_parent.Statement.{statement}
 use Rattle.undo.proofs.undoing.same_parent.Tie as tie
 
 returns : tie.Need-returns
-returns c = parent-none (c .before .args .link) (c .before .args .number) (c .if1 .taken)
+returns c = parent-none (c .before .before .args .link .0) (c .before .before .args .number) (c .before .if1 .taken)
 
 add-result : tie.Need-add-result
 add-result c = search needs
 
 returns-2 : tie.Need-returns-2
-returns-2 c = parent-some (c .before .args .link) (c .before .args .number) (c .if1 .left)
+returns-2 c = parent-some (c .before .before .args .link .0) (c .before .before .args .number) (c .before .if1 .left)
 
 pub same-parent-spec : {M : Type 1} → statement M
 same-parent-spec = tie.close (tie.spec returns add-result returns-2)

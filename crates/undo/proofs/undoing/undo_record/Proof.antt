@@ -57,6 +57,9 @@ number-at-requires-2 c κs =
     let c9 = c4 .before .before .before .before .before in
     omega (arith, cut-pre (c9 .pre) (c9 .args .marks .now) (c4 .if1 .taken) .whole)
 
+add-link : tie.Need-add-link
+add-link c = omega (arith, c .number-at2 .ensures .1)
+
 mul-relinked : tie.Need-mul-relinked
 mul-relinked c = omega (arith, c .before .number-at .ensures .1)
 
@@ -68,13 +71,11 @@ slice-read-relinked c =
     omega (
       arith,
       c .before .before .number-at .ensures .0,
-      cut-row-low (c11 .pre) (c11 .args .marks .now) (c6 .if1 .taken) (cut-fit (c3)),
+      cut-row-low (c11 .pre) (c11 .args .marks .now) (c6 .if1 .taken) (cut-fit
+          c3),
       c11 .pre .rows,
       c11 .pre .few,
     )
-
-add-relinked : tie.Need-add-relinked
-add-relinked c = omega (arith, c .before .number-at2 .ensures .1)
 
 relinked-requires : tie.Need-relinked-requires
 relinked-requires c κs =
@@ -86,8 +87,8 @@ relinked-requires c κs =
       c .before .before .number-at .ensures .0,
       c .before .number-at2 .ensures .0,
       cut-row-low (c11 .pre) (c11 .args .marks .now)
-          (c6 .if1 .taken) (cut-fit (c3)),
-      cut-parent-low (c11 .pre) (c11 .args .marks .now) (c6 .if1 .taken) (cut-fit (c3)),
+          (c6 .if1 .taken) (cut-fit c3),
+      cut-parent-low (c11 .pre) (c11 .args .marks .now) (c6 .if1 .taken) (cut-fit c3),
       c11 .pre .few,
     )
 
@@ -105,7 +106,8 @@ slice-write-rows c =
     omega (
       arith,
       c3 .number-at .ensures .0,
-      cut-row-low (c12 .pre) (c12 .args .marks .now) (c7 .if1 .taken) (cut-fit (c4)),
+      cut-row-low (c12 .pre) (c12 .args .marks .now) (c7 .if1 .taken) (cut-fit
+          c4),
       c12 .pre .rows,
       c12 .pre .few,
     )
@@ -119,7 +121,8 @@ returns-2 c =
     let c4 = c3 .before in
     let c7 = c4 .before .before .before in
     let c12 = c7 .before .before .before .before .before in
-    cut-back (c12 .pre) (c12 .args .marks .now) (c7 .if1 .taken) (cut-fit (c4)) (c3 .number-at .ensures .0)
+    cut-back (c12 .pre) (c12 .args .marks .now) (c7 .if1 .taken) (cut-fit
+    c4) (c3 .number-at .ensures .0)
     (c .before .before .number-at2 .ensures .0) (c .relinked .ensures)
 
 made-fits-requires : tie.Need-made-fits-requires
@@ -141,7 +144,7 @@ sub-rows : tie.Need-sub-rows
 sub-rows c =
     let c3 = c .before .before .before in
     let c8 = c3 .before .before .before .before .before in
-    made-some (c8 .pre) (c8 .args .marks .now) (c3 .if1 .left) (made-fit (c))
+    made-some (c8 .pre) (c8 .args .marks .now) (c3 .if1 .left) (made-fit c)
 
 mul-rows-2 : tie.Need-mul-rows-2
 mul-rows-2 c = search needs
@@ -150,13 +153,19 @@ slice-write-rows-2 : tie.Need-slice-write-rows-2
 slice-write-rows-2 c =
     let c3 = c .before .before .before in
     let c8 = c3 .before .before .before .before .before in
-    omega (arith, made-some (c8 .pre) (c8 .args .marks .now) (c3 .if1 .left) (made-fit (c)), c8 .pre .rows, c8 .pre .few)
+    omega (
+      arith,
+      made-some (c8 .pre) (c8 .args .marks .now) (c3 .if1 .left)
+          (made-fit c),
+      c8 .pre .rows,
+      c8 .pre .few,
+    )
 
 sub-t24 : tie.Need-sub-t24
 sub-t24 c =
     let c3 = c .before .before .before in
     let c8 = c3 .before .before .before .before .before in
-    made-some (c8 .pre) (c8 .args .marks .now) (c3 .if1 .left) (made-fit (c))
+    made-some (c8 .pre) (c8 .args .marks .now) (c3 .if1 .left) (made-fit c)
 
 same-length-4 : tie.Need-same-length-4
 same-length-4 c = search needs
@@ -165,7 +174,7 @@ returns-4 : tie.Need-returns-4
 returns-4 c =
     let c3 = c .before .before .before in
     let c8 = c3 .before .before .before .before .before in
-    made-back (c8 .pre) (c8 .args .marks .now) (c3 .if1 .left) (made-fit (c))
+    made-back (c8 .pre) (c8 .args .marks .now) (c3 .if1 .left) (made-fit c)
 
 pub undo-record-spec : {M : Type 1} → statement M
 undo-record-spec =
@@ -177,9 +186,9 @@ undo-record-spec =
     returns
     number-at-requires
     number-at-requires-2
+    add-link
     mul-relinked
     slice-read-relinked
-    add-relinked
     relinked-requires
     mul-rows
     slice-write-rows

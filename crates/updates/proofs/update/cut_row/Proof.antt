@@ -9,7 +9,7 @@ use Rattle.updates.proofs.update.cut_row.Statement.{statement}
 use Rattle.updates.proofs.update.cut_row.Tie as tie
 
 has-parent : (c : tie.Else1) → linkIn (getD (c .before .before .before .before .before .before .args .rows .now)
-    (c .before .before .before .before .before .before .args .i) 0) ≡ 0 → ⊥
+    (c .before .before .before .before .before .before .args .row .0) 0) ≡ 0 → ⊥
 has-parent c q = c .if1 .left (c .before .link .ensures ∙ q)
 
 mul-w : tie.Need-mul-w
@@ -33,7 +33,8 @@ returns-2 : tie.Need-returns-2
 returns-2 c =
     let c3 = c .before .before .before in
     let c9 = c3 .before .before .before .before .before .before in
-    cut-full (c9 .pre) (has-parent (c3)) (c .before .if2 .taken) (c .refused .ensures)
+    cut-full (c9 .pre) (has-parent c3)
+    (c .before .if2 .taken) (c .refused .ensures)
 
 relinked-requires : tie.Need-relinked-requires
 relinked-requires c κs = search needs
@@ -44,8 +45,8 @@ mul-rows c = search needs
 slice-write-rows : tie.Need-slice-write-rows
 slice-write-rows c = search needs
 
-sub-put-cut : tie.Need-sub-put-cut
-sub-put-cut c = search needs
+sub-parent : tie.Need-sub-parent
+sub-parent c = search needs
 
 put-cut-requires : tie.Need-put-cut-requires
 put-cut-requires c κs =
@@ -53,19 +54,27 @@ put-cut-requires c κs =
     let c5 = c4 .before in
     let c10 = c5 .before .before .before .before .before in (
       omega (arith, c10 .pre .held .size, c10 .pre .held .area, c .before .before .if2 .left),
-      (omega (arith, c10 .pre .row, c10 .pre .held .few), omega (arith, c5 .link .ensures, cut-low (c10 .pre) (has-parent (c4)))),
+      (
+        omega (arith, c10 .pre .row, c10 .pre .held .few),
+        omega (
+          arith,
+          c5 .link .ensures,
+          cut-low
+              (c10 .pre) (has-parent c4),
+        ),
+      ),
     )
 
-add-t9 : tie.Need-add-t9
-add-t9 c =
-    let c13 = c .before .before .before .before .before .before .before .before .before .before .before .before .before in
-    omega (arith, c13 .pre .held .size, c13 .pre .held .history .limit)
+add-t11 : tie.Need-add-t11
+add-t11 c = search needs
 
 count-cut-requires : tie.Need-count-cut-requires
 count-cut-requires c κs =
     let c5 = c .before .before .before .before .before in
-    let c13 = c5 .before .before .before .before .before .before .before .before in
-    (c13 .pre .held .history .sum, omega (arith, c5 .if2 .left))
+    let c13 = c5 .before .before .before .before .before .before .before .before in (
+      c13 .pre .held .history .sum,
+      omega (arith, c5 .if2 .left),
+    )
 
 same-length : tie.Need-same-length
 same-length c = search needs
@@ -81,7 +90,11 @@ returns-3 c =
     let c8 = c6 .before .before in
     let c9 = c8 .before in
     let c14 = c9 .before .before .before .before .before in
-    cut-done (c14 .pre) (has-parent (c8)) (omega (arith, c6 .if2 .left)) (c5 .relinked .ensures) (c9 .link .ensures)
+    cut-done (c14 .pre)
+    (has-parent c8) (omega
+    (arith, c6 .if2 .left))
+    (c5 .relinked .ensures)
+    (c9 .link .ensures)
     (c3 .put-cut .ensures) (c .count-cut .ensures)
 
 pub cut-row-spec : {M : Type 1} → statement M
@@ -97,9 +110,9 @@ cut-row-spec =
     relinked-requires
     mul-rows
     slice-write-rows
-    sub-put-cut
+    sub-parent
     put-cut-requires
-    add-t9
+    add-t11
     count-cut-requires
     same-length
     same-length-2

@@ -16,7 +16,9 @@ abbrev μ-loop : tie.MeasureT-loop
 μ-loop rows₀ history₀ items now₀ k₀ rows history now k = length items - k
 
 loop-holds : tie.Need-loop-holds Inv-loop μ-loop
-loop-holds c = record { after = after-self (c .before .before .before .pre .held); within = omega arith; rest = λ z ms. refl }
+loop-holds c =
+    let c3 = c .before .before .before in
+    record { after = after-self (c3 .pre .held); within = omega arith; rest = λ z ms. refl }
 
 mul-index : tie.Need-mul-index Inv-loop μ-loop
 mul-index c = search needs
@@ -55,7 +57,10 @@ returns c =
     let c7 = c6 .before in
     let c11 = c7 .before .before .before .before in
     let c12 = c11 .before in
-    delete-refused (c12 .loop .inv) (c11 .loop-test .taken) (c7 .index .ensures .0) (c6 .cut-row .ensures) (c .if1 .taken)
+    delete-refused (c12 .loop .inv)
+    (c11 .loop-test .taken)
+    (c7 .index .ensures .0)
+    (c6 .cut-row .ensures) (c .if1 .taken)
 
 add-k : tie.Need-add-k Inv-loop μ-loop
 add-k c = search needs

@@ -7,13 +7,13 @@ use borrow.Author.Needs.{needs}
 use Rattle.updates.proofs.update.new_leaf.Statement.{statement}
 use Rattle.updates.proofs.update.new_leaf.Tie as tie
 
-word-requires : tie.Need-word-requires
-word-requires c κs = search needs
+leaf-requires : tie.Need-leaf-requires
+leaf-requires c κs = search needs
 
 new-row-requires : tie.Need-new-row-requires
 new-row-requires c κs =
     let c5 = c .before .before .before .before .before in
-    loose-pre true (c5 .args .value) (c .word .ensures) (c5 .pre) (le-leb (c5 .args .value) 255 (omega (arith, c5 .fits .value)))
+    loose-pre true (c5 .args .value) (c .leaf .ensures) (c5 .pre) (le-leb (c5 .args .value) 255 (omega (arith, c5 .fits .value)))
 
 same-length : tie.Need-same-length
 same-length c = search needs
@@ -26,8 +26,9 @@ returns c =
     let c4 = c .before .before .before .before in
     let c5 = c4 .before in
     let c10 = c5 .before .before .before .before .before in
-    loose-made true (c10 .args .value) (c5 .word .ensures) (c4 .new-row .ensures)
+    loose-made true (c10 .args .value)
+    (c5 .leaf .ensures) (c4 .new-row .ensures)
 
 pub new-leaf-spec : {M : Type 1} → statement M
 new-leaf-spec =
-    tie.close (tie.spec word-requires new-row-requires same-length same-length-2 returns)
+    tie.close (tie.spec leaf-requires new-row-requires same-length same-length-2 returns)

@@ -21,7 +21,8 @@ returns-2 : tie.Need-returns-2
 returns-2 c =
     let c3 = c .before .before .before in
     let c7 = c3 .before .before .before .before in
-    new-over (c7 .pre) (omega (arith, c3 .if1 .left)) (c .before .if2 .taken) (c .refused2 .ensures)
+    new-over (c7 .pre) (omega (arith, c3 .if1 .left))
+    (c .before .if2 .taken) (c .refused2 .ensures)
 
 mul-rows : tie.Need-mul-rows
 mul-rows c = search needs
@@ -42,16 +43,17 @@ add-t9 c =
     let c6 = c .before .before .before .before .before .before in
     omega (arith, c6 .if1 .left)
 
-add-t14 : tie.Need-add-t14
-add-t14 c =
-    let c10 = c .before .before .before .before .before .before .before .before .before .before in
-    omega (arith, c10 .pre .held .size, c10 .pre .held .history .limit)
+add-t15 : tie.Need-add-t15
+add-t15 c = search needs
 
 count-made-requires : tie.Need-count-made-requires
 count-made-requires c κs =
     let c4 = c .before .before .before .before in
-    let c10 = c4 .before .before .before .before .before .before in
-    (c10 .pre .held .history .sum, omega (arith, c4 .if2 .left))
+    let c10 = c4 .before .before .before .before .before .before in (
+      c10 .pre .held .history .sum,
+      omega
+          (arith, c4 .if2 .left),
+    )
 
 same-length : tie.Need-same-length
 same-length c = search needs
@@ -65,7 +67,9 @@ returns-3 c =
     let c5 = c3 .before .before in
     let c7 = c5 .before .before in
     let c11 = c7 .before .before .before .before in
-    new-made (c11 .pre) (omega (arith, c7 .if1 .left)) (omega (arith, c5 .if2 .left)) (c3 .put-made .ensures) (c .count-made .ensures)
+    new-made (c11 .pre) (omega
+    (arith, c7 .if1 .left)) (omega
+    (arith, c5 .if2 .left)) (c3 .put-made .ensures) (c .count-made .ensures)
 
 pub new-row-spec : {M : Type 1} → statement M
 new-row-spec =
@@ -79,7 +83,7 @@ new-row-spec =
     slice-write-rows
     put-made-requires
     add-t9
-    add-t14
+    add-t15
     count-made-requires
     same-length
     same-length-2

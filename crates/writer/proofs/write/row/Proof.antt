@@ -61,7 +61,8 @@ returns-2 c =
     c .before .before .put2 .ensures ∙ ap (λ (b : List ℕ). over (c10 .args .at) b (c10 .args .out
     .now)) (row-bytes (c10 .args .w) 17 (c6 .tag .result) (c7 .parent .result) (c6 .tag .ensures) (c7 .parent .ensures .0
     ∙ ap (λ (l : ℕ). parentBytes (ofLink l)) (c8 .link .ensures)) ∙ sym
-    (row-element (c10 .args .w) (λ q. c4 .if1 .left (c5 .kind .ensures ∙ q))))
+    (row-element (c10 .args .w) (λ q. c4 .if1 .left
+    (c5 .kind .ensures ∙ q))))
 
 pub row-spec : {M : Type 1} → statement M
 row-spec =

@@ -1,7 +1,7 @@
 -- `write::stored_length` is the length of the stored form. The loop's invariant: the marks passed are counted.
 use Rattle.writer.proofs.WriteRecordLaws.{length-mark, length-marks, marks-start}
 use Rattle.table.specs.Words.{ofLink}
-use Rattle.model.specs.Stored.{marksBytes}
+use Rattle.model.specs.Stored.{markBytes, marksBytes}
 use lib.Seq.{take-all}
 use lib.ListN.{length, getD, take}
 use mathlib.Core.List.{List, map}
@@ -25,27 +25,37 @@ mul-n c = search needs
 loop-holds : tie.Need-loop-holds Inv-loop μ-loop
 loop-holds c = (omega arith, omega (arith, c .before .pre .0), omega (arith, ap length (marks-start (c .before .args .marks .now))))
 
-mul-mark-length : tie.Need-mul-mark-length Inv-loop μ-loop
-mul-mark-length c = search needs
+mul-index : tie.Need-mul-index Inv-loop μ-loop
+mul-index c = search needs
 
-shared-slice-read-mark-length : tie.Need-shared-slice-read-mark-length Inv-loop μ-loop
-shared-slice-read-mark-length c = search needs
+shared-slice-read-index : tie.Need-shared-slice-read-index Inv-loop μ-loop
+shared-slice-read-index c = search needs
+
+index-requires : tie.Need-index-requires Inv-loop μ-loop
+index-requires c κs = search needs
 
 mark-length-requires : tie.Need-mark-length-requires Inv-loop μ-loop
 mark-length-requires c κs = search needs
 
+told : (c : tie.After-mark-length Inv-loop μ-loop) →
+    let a = c .before .before .before .before .before .before .args in
+    c .mark-length .result ≡ length (markBytes (c .before .before .before .before .loop .d) (ofLink (getD (a .marks .now)
+    (c .before .before .before .before .loop .d) 0)))
+told c =
+    let c4 = c .before .before .before .before in
+    rw (c .before .index .ensures .0) at (c .mark-length .ensures (c4 .loop .d))
+
 add-n : tie.Need-add-n Inv-loop μ-loop
 add-n c =
-    let c3 = c .before .before .before in
-    let c5 = c3 .before .before in
+    let c4 = c .before .before .before .before in
+    let c6 = c4 .before .before in
     record {
       fits = omega (
         arith,
-        c3 .loop .inv .1,
-        c5 .pre .1,
-        c
-            .mark-length .ensures (c3 .loop .d),
-        length-mark (c3 .loop .d) (ofLink (getD (c5 .args .marks .now) (c3 .loop .d) 0)),
+        c4 .loop .inv .1,
+        c6 .pre .1,
+        told c,
+        length-mark (c4 .loop .d) (ofLink (getD (c6 .args .marks .now) (c4 .loop .d) 0)),
       );
     }
 
@@ -58,20 +68,20 @@ loop-less c = omega arith
 loop-again : tie.Need-loop-again Inv-loop μ-loop
 loop-again c =
     let c3 = c .before .before .before in
-    let c5 = c3 .before .before in (
+    let c4 = c3 .before in
+    let c6 = c4 .before .before in (
       omega arith,
       omega (
         arith,
-        c3 .loop .inv .1,
-        c .mark-length .ensures (c3 .loop .d),
-        length-mark (c3 .loop .d) (ofLink (getD (c5 .args .marks .now) (c3 .loop .d) 0)),
+        c4 .loop .inv .1,
+        told c,
+        length-mark (c4 .loop .d) (ofLink (getD (c6 .args .marks .now) (c4 .loop .d) 0)),
       ),
       omega (
         arith,
-        c3 .loop .inv .2,
-        length-marks (c5 .args .marks .now) (c3 .loop .d) (c .before .before
-            .loop-test .taken),
-        c .mark-length .ensures (c3 .loop .d),
+        c4 .loop .inv .2,
+        length-marks (c6 .args .marks .now) (c4 .loop .d) (c3 .loop-test .taken),
+        told c,
       ),
     )
 
@@ -89,8 +99,9 @@ stored-length-spec =
     μ-loop
     mul-n
     loop-holds
-    mul-mark-length
-    shared-slice-read-mark-length
+    mul-index
+    shared-slice-read-index
+    index-requires
     mark-length-requires
     add-n
     add-d
