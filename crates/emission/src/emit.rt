@@ -17,7 +17,7 @@ use table::NameNumber;
 use table::Table;
 use table::number;
 
-// A byte as a name or a document.
+// A byte as a document.
 fn wide(b: u8) -> u16
     ensures { λ r. ⌜ r ≡ b ⌝ }
     ensures { λ r. ⌜ r < 256 ⌝ }
@@ -151,7 +151,7 @@ fn unary(
         let s = Step {
             axis: number::byte(bytes[at + 1]),
             test: number::byte(bytes[at + 2]),
-            name: NameNumber(wide(bytes[at + 3])),
+            name: number::name(bytes[at + 3]),
         };
         return step(words, count, s, x);
     }

@@ -33,17 +33,17 @@ shared-slice-read-byte-2 c =
 byte-requires-2 : tie.Need-byte-requires-2
 byte-requires-2 c κs = search needs
 
-add-wide : tie.Need-add-wide
-add-wide c = search needs
+add-name : tie.Need-add-name
+add-name c = search needs
 
-shared-slice-read-wide : tie.Need-shared-slice-read-wide
-shared-slice-read-wide c =
+shared-slice-read-name : tie.Need-shared-slice-read-name
+shared-slice-read-name c =
     let c5 = c .before .before .before .before .before in
     let c8 = c5 .before .before .before in
     omega (arith, c8 .pre .whole, ap (λ (k : ℕ). bodySize k) (c5 .if1 .taken))
 
-wide-requires : tie.Need-wide-requires
-wide-requires c κs = search needs
+name-requires : tie.Need-name-requires
+name-requires c κs = search needs
 
 step-requires : tie.Need-step-requires
 step-requires c κs =
@@ -57,7 +57,7 @@ step-requires c κs =
       grow = c11 .pre .grow;
       axis = omega (arith, c6 .byte .ensures .0, c11 .pre .axis (c8 .if1 .taken));
       test = omega (arith, c4 .byte2 .ensures .0, c11 .pre .test (c8 .if1 .taken));
-      name = c2 .wide .ensures .1;
+      name = omega (arith, c2 .name .ensures, c3 .shared-slice-known5 .given (c11 .args .at + 3) .fits);
     }
 
 returns : tie.Need-returns
@@ -67,7 +67,7 @@ returns c =
     let c7 = c5 .before .before in
     let c9 = c7 .before .before in
     let c12 = c9 .before .before .before in
-    unary-step (c12 .pre) (c9 .if1 .taken) (c7 .byte .ensures .0) (c5 .byte2 .ensures .0) (c3 .wide .ensures .0) (c .step .ensures)
+    unary-step (c12 .pre) (c9 .if1 .taken) (c7 .byte .ensures .0) (c5 .byte2 .ensures .0) (c3 .name .ensures) (c .step .ensures)
 
 delete-requires : tie.Need-delete-requires
 delete-requires c κs = search needs
@@ -92,9 +92,9 @@ unary-spec =
     add-byte-2
     shared-slice-read-byte-2
     byte-requires-2
-    add-wide
-    shared-slice-read-wide
-    wide-requires
+    add-name
+    shared-slice-read-name
+    name-requires
     step-requires
     returns
     delete-requires
