@@ -12,8 +12,8 @@
  * each other call 32 KiB (17 KiB).
  *
  * Time: every call ends, but yegnabit_run can take very long: no rule limits the turns of a script's loops. Two loops inside one another
- * over 512 items take some 20 ms, three some 10 seconds; four would take more than an hour. Run scripts that you do not know in a process
- * with a time limit. The other calls take microseconds.
+ * over 512 items take some 20 ms with an empty body, three some 10 seconds; with a body of many steps and picks two take seconds, and
+ * three about an hour. Run scripts that you do not know in a process with a time limit. The other calls take microseconds.
  *
  * Threads: the library keeps no state. Any number of threads may call it at the same time, each with lent areas of its own. They may share
  * plans, scripts and histories that nobody writes meanwhile. */

@@ -122,7 +122,7 @@ static void check_out(const uint8_t *plan, size_t length, const char *what) {
 /* `out` is as it was. */
 static void check_kept(const char *what) { check(is_kept(out, 0, sizeof out), what); }
 
-/* An `out` one byte too short comes before a refused plan or history; then the plan is looked at. */
+/* An `out` that is one byte too short is refused first, even if the plan or the history would be refused too. */
 static void plans(void) {
     uint64_t refused;
     fill_areas();

@@ -166,8 +166,8 @@ impl Areas {
 
 /// Reads a stored plan, runs a script on it and writes the plan back. One of
 /// the five areas too short is refused before all else, and nothing is
-/// touched. A call refused after that leaves `out` as it was and the other
-/// four areas zero, of `done` its six numbers.
+/// touched. A call refused after that leaves `out` as it was and sets answer,
+/// history, work and the six numbers of `done` to zero.
 pub fn run(plan: &[u8], script: &[u8], areas: Lent<'_>) -> Answer {
     let mut lent_to_run = running::Areas {
         answer: areas.answer,

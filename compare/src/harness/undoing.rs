@@ -9,25 +9,30 @@ use compare::interface::{Answer, WHICH_HISTORY};
 use compare::reference::history::{
     Record, CUT_BYTES, ELEMENT_MADE, LEAF_MADE, LINK_CUT, MADE_BYTES,
 };
-use compare::reference::limits::{DOCUMENTS, HISTORY_RECORDS, NO_PARENT, ROWS};
+use compare::reference::limits::{DOCUMENTS, HISTORY_RECORDS, NO_PARENT, PLAN_BYTES, ROWS};
 use compare::reference::plan::to_vec;
 use compare::reference::run::OwnedAreas;
 use compare::reference::table::{Row, Table};
 
 use super::area::out_lengths;
-use super::checker::{document_says, Checker};
+use super::checker::{difference, document_says, Checker};
 use super::tally::Call;
-use super::{Difference, Volume};
+use super::{on_stack, Difference, Volume};
+use crate::ffi;
 
 const SEED: u64 = 0x41;
 /// Plans up to this length are damaged byte by byte.
 const SMALL_PLAN: usize = 200;
 /// Histories of random bytes are at most this long.
 const NOISE: usize = 40;
+/// Undo, and reading and sweeping a plan, need no more stack than this, in
+/// bytes.
+const STACK: usize = 32 * 1024;
 
 pub fn test(checker: &mut Checker, volume: Volume) -> Result<(), Difference> {
     let mut random = Random::new(SEED);
     worked(checker)?;
+    small_stack()?;
     small_histories(checker)?;
     limits(checker)?;
     let mut areas = OwnedAreas::default();
@@ -50,6 +55,31 @@ pub fn test(checker: &mut Checker, volume: Volume) -> Result<(), Difference> {
     for _ in 0..volume.of(100_000) {
         let plan = to_vec(&plans::any_table(&mut random));
         checker.undo(&plan, &noise(&mut random))?;
+    }
+    Ok(())
+}
+
+/// A long history taken back, and its plan read and swept, on a small stack:
+/// an overflow ends the program.
+fn small_stack() -> Result<(), Difference> {
+    let recorded = long(&mut Random::new(SEED));
+    let after = to_vec(&recorded.after);
+    let calls = || {
+        let mut outs = [(); 3].map(|()| vec![0; PLAN_BYTES]);
+        let answers = [
+            ffi::plan(&after, &mut outs[0]),
+            ffi::sweep(&after, &mut outs[1]),
+            ffi::undo(&after, &recorded.history, &mut outs[2]),
+        ];
+        (answers, outs)
+    };
+    if on_stack(STACK, calls) != calls() {
+        let message = "another answer on a small stack";
+        return Err(difference(
+            Call::Undo,
+            &[&after, &recorded.history],
+            message,
+        ));
     }
     Ok(())
 }

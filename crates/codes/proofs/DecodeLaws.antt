@@ -3,7 +3,7 @@ use mathlib.Core.Path.{_≡_}
 use Prim.Native.Nat.{ℕ, _<_}
 use native.Mathlib.Omega.{arith}
 use Rattle.model.specs.Refusal.{Values}
-use Rattle.codes.specs.Codes.{maxPlaces, codeOf, decoded}
+use Rattle.codes.specs.Codes.{placeLimit, codeOf, decoded}
 
 module _ (v : Values) (number : v .number < 256) (which : v .which < 256) where
   pub number-back : decoded (codeOf v) .number ≡ v .number
@@ -12,5 +12,5 @@ module _ (v : Values) (number : v .number < 256) (which : v .which < 256) where
   pub which-back : decoded (codeOf v) .which ≡ v .which
   which-back = omega arith
 
-  pub place-back : v .place < maxPlaces → decoded (codeOf v) .place ≡ v .place
+  pub place-back : v .place < placeLimit → decoded (codeOf v) .place ≡ v .place
   place-back h = omega arith

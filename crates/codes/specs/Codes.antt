@@ -10,12 +10,12 @@ use Rattle.table.specs.declared.TableResult.{TableResult}
 use Rattle.table.specs.declared.Written.{Written}
 
 -- a place of 2^48 or more, past any memory, is taken modulo that
-abbrev pub maxPlaces : ℕ
-maxPlaces = 281474976710656
+abbrev pub placeLimit : ℕ
+placeLimit = 281474976710656
 
 -- number + 256 × which + 65,536 × place
 abbrev pub codeOf : Values → ℕ
-codeOf v = v .number + 256 * v .which + 65536 * (v .place % maxPlaces)
+codeOf v = v .number + 256 * v .which + 65536 * (v .place % placeLimit)
 
 -- and back: the three that a number carries
 abbrev pub decoded : ℕ → Values

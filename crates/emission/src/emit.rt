@@ -18,7 +18,7 @@ use table::Table;
 use table::number;
 
 // A byte as a document.
-fn wide(b: u8) -> u16
+fn document(b: u8) -> u16
     ensures { λ r. ⌜ r ≡ b ⌝ }
     ensures { λ r. ⌜ r < 256 ⌝ }
 {
@@ -123,7 +123,7 @@ fn nullary(
     let kind = bytes[at];
     if kind == kinds::DOCUMENT {
         let n = *count;
-        packed::push(words, n, Position::root(wide(bytes[at + 1])));
+        packed::push(words, n, Position::root(document(bytes[at + 1])));
         *count = n + 1;
         return n;
     }

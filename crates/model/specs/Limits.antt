@@ -5,7 +5,7 @@ use Prim.Native.Nat.{ℕ, _+_}
 abbrev pub maxRows : ℕ
 maxRows = 512
 
--- links to a row: none, or its number and one
+-- links to a row: none, or its number plus one
 abbrev pub maxLinks : ℕ
 maxLinks = maxRows + 1
 

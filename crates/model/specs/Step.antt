@@ -26,7 +26,7 @@ admits s (named n) = eqb (s .test) 0 || eqb (s .test) 1 || (not (eqb (s .test) 2
 abbrev pub parentIs : Table → (parent row : ℕ) → Bool
 parentIs x p i = isThe p (rowAt x i .parent)
 
--- fuel: a row's number and one, parents being lower
+-- fuel: a row's number plus one, parents being lower
 unfoldable pub isBelowFrom : ℕ → Table → (top row : ℕ) → Bool
 isBelowFrom zero x t i = false
 isBelowFrom (suc n) x t i = parentIs x t i || through (isBelowFrom n x t) (rowAt x i .parent)

@@ -11,7 +11,7 @@ abbrev pub through : (ℕ → Bool) → Option ℕ → Bool
 through f none = false
 through f (some p) = f p
 
--- marked, or below a marked row; fuel: a row's number and one, parents being lower
+-- marked, or below a marked row; fuel: a row's number plus one, parents being lower
 unfoldable pub keptFrom : ℕ → Table → (row : ℕ) → Bool
 keptFrom zero x i = false
 keptFrom (suc n) x i = isMarked x i || through (keptFrom n x) (rowAt x i .parent)

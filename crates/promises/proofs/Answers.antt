@@ -42,8 +42,13 @@ record Known (v : Values) : Type 0 where
 decodes : (v : Values) → Known v → Decodes v
 decodes v k =
     let n : v .number < 256 = omega (arith, k .number) in
-    let w : v .which < 256 = omega (arith, k .which) in
-    (number-back v n w, which-back v n w, place-back v n w, isIn-by 0 11 (v .number) (omega arith) (k .number))
+    let w : v .which < 256 = omega (arith, k .which) in (
+      number-back v n w,
+      which-back v n w,
+      place-back v n w,
+      isIn-by 0 11 (v .number) (omega arith) (k .number),
+      isIn-by 0 2 (v .which) (omega arith) (k .which),
+    )
 
 lent-known : Known lentValues
 lent-known = record { number = omega arith; which = omega arith }

@@ -18,7 +18,7 @@ use Rattle.model.specs.Sweep.{swept}
 use Rattle.model.specs.Table.{Table}
 use Rattle.model.specs.Undo.{back, undo}
 use Rattle.yegnabit.specs.Calls.{planValues, planOut, sweepValues, sweepOut, undoValues, undoOut, analyseValues}
-use Rattle.codes.specs.Codes.{maxPlaces, codeOf, decoded}
+use Rattle.codes.specs.Codes.{placeLimit, codeOf, decoded}
 use Rattle.yegnabit.specs.Running.{Called, untouchedCall, refusedCall, runCalled}
 use Rattle.lent.specs.Done.{outNeed, lentFit, doneOver}
 use Rattle.paths.specs.Analysis.{analysed, valuesOf}
@@ -86,11 +86,12 @@ RunAreaShort =
     runCalled p s a h w o d ≡ untouchedCall a h w o d
 
 -- ANSWERS DECODE: number and which come back from the number that a call answers, and so does a place below 2^48; the number is 0 or one
--- of the table's
+-- of the table's, and which is 0, 1 or 2
 abbrev pub Decodes : Values → Type 0
 Decodes v =
     (decoded (codeOf v) .number ≡ v .number) × (decoded (codeOf v) .which ≡ v .which) ×
-    (v .place < maxPlaces → decoded (codeOf v) .place ≡ v .place) × (isIn 0 (lentShort .number) (v .number) ≡ true)
+    (v .place < placeLimit → decoded (codeOf v) .place ≡ v .place) × (isIn 0 (lentShort .number) (v .number) ≡ true) ×
+    (isIn 0 2 (v .which) ≡ true)
 
 -- of every call
 abbrev pub AnswersDecode : Type 0

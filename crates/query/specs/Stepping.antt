@@ -1,4 +1,4 @@
--- Contracts of a step's parts: flags at a row's number and one.
+-- Contracts of a step's parts: flags at a row's number plus one.
 use mathlib.Core.Path.{_≡_}
 use mathlib.Core.Bool.{Bool, false, _&&_, _||_, not}
 use mathlib.Core.List.{List, []}

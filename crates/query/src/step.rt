@@ -1,5 +1,5 @@
 // The rows that a step reaches from a value.
-// A row's flag stands at its number and one; position 0 is for no row.
+// A row's flag stands at its number plus one; position 0 is for no row.
 ghost use mathlib.Core.Path.{_≡_};
 ghost use Prim.Native.Nat.{_+_, _<_};
 ghost use lib.ListN.{length, getD, set};

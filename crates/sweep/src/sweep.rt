@@ -1,5 +1,5 @@
 // Drops each row that is neither marked nor below a marked row, and renumbers the others in rising order.
-// A row's entry among the numbers stands at its link: first 1 where it is marked, then its new number and one where it is kept, else 0.
+// A row's entry among the numbers stands at its link: first 1 where it is marked, then its new number plus one where it is kept, else 0.
 ghost use mathlib.Core.Path.{_≡_};
 ghost use Prim.Native.Nat.{_<_};
 ghost use lib.Dec.{eqb};
@@ -46,7 +46,7 @@ fn is_kept(flag: u16, parent: Link) -> bool
     parent.0 != 0
 }
 
-// One row: kept, it takes the next number. The next number.
+// One row, after `next` that are kept: kept, it is the next of them. How many are kept then.
 fn row(w: u32, row: RowNumber, next: usize, numbers: &mut [u16], out: &mut [u32]) -> usize
     requires { ⌜ RowPre w (row .0) next (now numbers) (now out) ⌝ }
     ensures { λ r. ⌜ RowPost w (row .0) next (now (numbers .entry)) (now (out .entry)) (now (numbers .exit)) (now (out .exit)) r ⌝ }

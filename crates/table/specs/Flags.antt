@@ -11,7 +11,7 @@ use Rattle.model.specs.Base.{bit}
 abbrev pub Within : (items : List ℕ) → (count : ℕ) → Type 0
 Within v n = (k : ℕ) → k < length v → getD v k 0 < n
 
--- FLAGS: 1 for each row of which f holds, else 0; a row's flag stands at its number and one, position 0 is for no row
+-- FLAGS: 1 for each row of which f holds, else 0; a row's flag stands at its number plus one, position 0 is for no row
 pub record Flags (f : ℕ → Bool) (fs : List ℕ) : Type 0 where
   pub size : length fs ≡ maxLinks
   pub none : getD fs 0 0 ≡ 0

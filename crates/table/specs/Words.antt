@@ -11,7 +11,7 @@ use Rattle.model.specs.Limits.{maxRows}
 use Rattle.model.specs.Table as model
 use Rattle.table.specs.declared.Table.{Table}
 
--- A LINK is a row number and one, or 0 for none; it stands for a parent in a word, and for a mark
+-- A LINK is a row number plus one, or 0 for none; it stands for a parent in a word, and for a mark
 abbrev pub linkOf : Option ℕ → ℕ
 linkOf none = 0
 linkOf (some p) = p + 1

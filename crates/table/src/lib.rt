@@ -10,7 +10,7 @@ pub mod results;
 pub mod stored;
 pub mod words;
 
-// A row's number, an element's name, and a link to a row, its number and one, or to none, 0: one never stands where another is meant.
+// A row's number, an element's name, and a link to a row, its number plus one, or to none, 0: one never stands where another is meant.
 pub struct RowNumber(pub usize);
 
 pub struct NameNumber(pub u16);

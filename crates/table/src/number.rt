@@ -18,7 +18,7 @@ pub fn byte(b: u8) -> usize
     b as usize
 }
 
-// A byte as part of a row's word.
+// A byte as the name or value in a row's word.
 pub fn wide(b: u8) -> u32
     ensures { λ r. ⌜ r ≡ b ⌝ }
     ensures { λ r. ⌜ r < 256 ⌝ }
@@ -50,9 +50,9 @@ pub fn number_at(s: &[u8], at: usize) -> usize
     byte(s[at]) + 256 * byte(s[at + 1])
 }
 
-// The number stored for the parent with this link.
+// The number stored for the row with this link.
 pub fn parent(link: Link) -> usize
-    requires { ⌜ link .0 < 1024 ⌝ }
+    requires { ⌜ link .0 < 65536 ⌝ }
     ensures { λ r. ⌜ wordBytes r ≡ parentBytes (ofLink (link .0)) ⌝ }
     ensures { λ r. ⌜ r < 65536 ⌝ }
 {

@@ -5,7 +5,7 @@ ghost use lib.Dec.{eqb};
 ghost use lib.ListN.{length};
 ghost use Rattle.model.specs.History.{madeLeafKind};
 ghost use Rattle.model.specs.Limits.{maxHistory};
-ghost use Rattle.model.specs.Stored.{parentIn};
+ghost use Rattle.model.specs.Stored.{parentIn, wordAt};
 ghost use Rattle.model.specs.Undo.{historySize, sameBool, sameParent, madeFits, cutFits, cutIn, madeIn};
 ghost use Rattle.table.specs.Words.{kindIn, leafWord, ofLink, decodeParts};
 ghost use Rattle.undo.specs.Undoing.{FormPost, PlacesPost, FitPre, BackPre, BackPost, AllPre, AllPost};
@@ -95,11 +95,12 @@ fn same_kind(w: u32, kind: u8) -> bool
     kind != history::LEAF
 }
 
-// A row's link and the number written for a parent say the same.
-fn same_parent(link: Link, number: usize) -> bool
-    requires { ⌜ number < 65536 ⌝ }
-    ensures { λ r. ⌜ r ≡ sameParent (ofLink (link .0)) (parentIn number) ⌝ }
+// A row's link and the parent in the record s of a row made say the same.
+fn same_parent(link: Link, s: &[u8]) -> bool
+    requires { ⌜ 6 ≤ length (now s) ⌝ }
+    ensures { λ r. ⌜ r ≡ sameParent (ofLink (link .0)) (parentIn (wordAt (now (s .entry)) 4)) ⌝ }
 {
+    let number = number::number_at(s, 4);
     if number == number::NONE {
         return link.0 == 0;
     }
@@ -125,7 +126,7 @@ fn made_fits(rows: &[u32], marks: &[u16], count: usize, s: &[u8]) -> bool
     if words::tag(w) != number::wide(s[3]) {
         return false;
     }
-    same_parent(words::link(w), number::number_at(s, 4))
+    same_parent(words::link(w), s)
 }
 
 // The row cut by the record s has no parent and no mark, and its old parent is a lower element.

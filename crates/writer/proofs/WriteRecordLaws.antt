@@ -23,9 +23,9 @@ row-leaf w h = rw h
 pub row-element : (w : ℕ) → (kindIn w ≡ 2 → ⊥) → rowBytes (rowOf w) ≡ 17 ∷ tagIn w ∷ parentBytes (ofLink (linkIn w))
 row-element w h = rw (ne-eqb (kindIn w) 2 h)
 
-pub row-bytes : (w k t p : ℕ) → t ≡ tagIn w → wordBytes p ≡ parentBytes (ofLink (linkIn w)) →
-    k ∷ t ∷ wordBytes p ≡ k ∷ tagIn w ∷ parentBytes (ofLink (linkIn w))
-row-bytes w k t p e f = ap (λ (b : List ℕ). k ∷ t ∷ b) f ∙ ap (λ (j : ℕ). k ∷ j ∷ parentBytes (ofLink (linkIn w))) e
+pub row-bytes : (w k t l : ℕ) → t ≡ tagIn w → l ≡ linkIn w →
+    k ∷ t ∷ parentBytes (ofLink l) ≡ k ∷ tagIn w ∷ parentBytes (ofLink (linkIn w))
+row-bytes w k t l e f = ap (λ (j : ℕ). k ∷ t ∷ parentBytes (ofLink j)) f ∙ ap (λ (j : ℕ). k ∷ j ∷ parentBytes (ofLink (linkIn w))) e
 
 -- ROWS, one more
 length-rowBytes : (r : model.Row) → length (rowBytes r) ≡ 4

@@ -3,7 +3,7 @@ ghost use mathlib.Core.Path.{_≡_};
 ghost use mathlib.Core.List.{_∷_, map};
 ghost use Prim.Native.Nat.{ℕ, _+_, _*_, _≤_, _<_};
 ghost use lib.ListN.{length};
-ghost use Rattle.model.specs.Stored.{recordSize, wordBytes, rowBytes, rowsBytes, markBytes, marksBytes};
+ghost use Rattle.model.specs.Stored.{recordSize, parentBytes, rowBytes, rowsBytes, markBytes, marksBytes};
 ghost use mathlib.Core.Bool.{true};
 ghost use Rattle.model.specs.Limits.{maxRows, documents};
 ghost use Rattle.table.specs.Words.{ofLink, rowOf, rowsOf, fits};
@@ -18,12 +18,13 @@ use table::results;
 use table::stored;
 use table::words;
 
-// A record at a place: its kind, its first field, and a two-byte number.
-fn put(out: &mut [u8], at: usize, kind: u8, field: u8, number: usize)
+// A record at a place: its kind, its first field, and the number stored for a link.
+fn put(out: &mut [u8], at: usize, kind: u8, field: u8, link: Link)
     requires { ⌜ at + 4 ≤ length (now out) ⌝ }
-    requires { ⌜ number < 65536 ⌝ }
-    ensures { λ r. ⌜ now (out .exit) ≡ over at (kind ∷ field ∷ wordBytes number) (now (out .entry)) ⌝ }
+    requires { ⌜ link .0 < 65536 ⌝ }
+    ensures { λ r. ⌜ now (out .exit) ≡ over at (kind ∷ field ∷ parentBytes (ofLink (link .0))) (now (out .entry)) ⌝ }
 {
+    let number = number::parent(link);
     out[at] = kind;
     out[at + 1] = field;
     out[at + 2] = (number % 256) as u8;
@@ -36,13 +37,13 @@ fn row(out: &mut [u8], at: usize, w: u32)
     requires { ⌜ w < 1048576 ⌝ }
     ensures { λ r. ⌜ now (out .exit) ≡ over at (rowBytes (rowOf w)) (now (out .entry)) ⌝ }
 {
-    let number = number::parent(words::link(w));
+    let link = words::link(w);
     let field = words::tag(w) as u8;
     if words::kind(w) == words::LEAF {
-        put(out, at, stored::LEAF, field, number);
+        put(out, at, stored::LEAF, field, link);
         return;
     }
-    put(out, at, stored::ELEMENT, field, number);
+    put(out, at, stored::ELEMENT, field, link);
 }
 
 // The rows below the count, from the area's start on.
@@ -76,8 +77,7 @@ fn mark(out: &mut [u8], at: usize, document: u8, link: Link)
     if link.0 == 0 {
         return;
     }
-    let row = link.0 - 1;
-    put(out, at, stored::MARK, document, row);
+    put(out, at, stored::MARK, document, link);
 }
 
 // The marks, from a place on.

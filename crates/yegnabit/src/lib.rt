@@ -63,7 +63,7 @@ pub extern "C" fn yegnabit_undo(plan: &[u8], history: &[u8], out: &mut [u8]) -> 
 
 // Reads a plan, runs a script on it in the lent areas, and writes the plan as it then is to out. done takes six numbers: items of the
 // answer, rows made, links cut, records written, history bytes, bytes in out. An area too short is 11 before all else and nothing is
-// touched; refused after that, out is as it was and the other four are zero.
+// touched; refused after that, out is as it was, and answer, history, work and the six numbers are zero.
 #[no_mangle]
 pub extern "C" fn yegnabit_run(
     plan: &[u8],

@@ -12,17 +12,17 @@ use Rattle.emission.proofs.emit.nullary.Tie as tie
 shared-slice-read-kind : tie.Need-shared-slice-read-kind
 shared-slice-read-kind c = search needs
 
-add-wide : tie.Need-add-wide
-add-wide c = search needs
+add-document : tie.Need-add-document
+add-document c = search needs
 
-shared-slice-read-wide : tie.Need-shared-slice-read-wide
-shared-slice-read-wide c =
+shared-slice-read-document : tie.Need-shared-slice-read-document
+shared-slice-read-document c =
     let c3 = c .before .before .before in
     let c6 = c3 .before .before .before in
     omega (arith, c6 .pre .whole, ap (λ (k : ℕ). bodySize k) (c3 .if1 .taken))
 
-wide-requires : tie.Need-wide-requires
-wide-requires c κs = search needs
+document-requires : tie.Need-document-requires
+document-requires c κs = search needs
 
 root-requires : tie.Need-root-requires
 root-requires c κs = search needs
@@ -32,7 +32,7 @@ push-requires c κs =
     let c8 = c .before .before .before .before .before .before .before .before in
     record {
       room = omega (arith, c8 .pre .size, c8 .pre .room);
-      fits = root-fits (c .root .ensures) (c .before .wide .ensures .1);
+      fits = root-fits (c .root .ensures) (c .before .document .ensures .1);
     }
 
 add-count : tie.Need-add-count
@@ -43,7 +43,7 @@ returns c =
     let c2 = c .before .before in
     let c6 = c2 .before .before .before .before in
     let c9 = c6 .before .before .before in
-    nullary-document (c9 .pre) (c6 .if1 .taken) (c .before .root .ensures) (c2 .wide .ensures .0) (c .push .ensures)
+    nullary-document (c9 .pre) (c6 .if1 .taken) (c .before .root .ensures) (c2 .document .ensures .0) (c .push .ensures)
 
 add-byte : tie.Need-add-byte
 add-byte c = search needs
@@ -78,9 +78,9 @@ nullary-spec =
     tie.close
     (tie.spec
     shared-slice-read-kind
-    add-wide
-    shared-slice-read-wide
-    wide-requires
+    add-document
+    shared-slice-read-document
+    document-requires
     root-requires
     push-requires
     add-count

@@ -2,11 +2,10 @@
 use Rattle.undo.proofs.UndoLaws.{made-last, made-marked, made-kind, made-tag, made-parent}
 use Rattle.model.specs.Base.{any}
 use Rattle.model.specs.Table.{isThe}
-use Rattle.model.specs.Stored.{parentIn}
+use Rattle.model.specs.Stored.{parentIn, wordAt}
 use Rattle.model.specs.Undo.{sameParent}
-use Rattle.table.specs.Words.{ofLink, linkIn}
+use Rattle.table.specs.Words.{ofLink}
 use borrow.Author.Tests.{not-true, not-false}
-use lib.ListN.{getD}
 use mathlib.Core.List.{map}
 use mathlib.Core.Path.{_≡_, sym, _∙_, ap}
 use Prim.Native.Nat.{ℕ, _+_, _-_}
@@ -25,8 +24,7 @@ marked-by c = sym (c .is-marked .ensures)
 
 number-at-requires : tie.Need-number-at-requires
 number-at-requires c κs =
-    let c3 = c .before .before .before in
-    omega (arith, c3 .pre .whole)
+    omega (arith, c .before .before .before .pre .whole)
 
 add-if1 : tie.Need-add-if1
 add-if1 c = search needs
@@ -41,10 +39,9 @@ is-marked-requires c κs = search needs
 
 returns-2 : tie.Need-returns-2
 returns-2 c =
-    let c3 = c .before .before .before in
-    let c7 = c3 .before .before .before .before in
+    let c7 = c .before .before .before .before .before .before .before in
     sym
-    (made-marked (c7 .pre) (c7 .args .marks .now) (c3 .number-at .ensures .0) (is-last (c .before .before))
+    (made-marked (c7 .pre) (c7 .args .marks .now) (c .before .before .before .number-at .ensures .0) (is-last (c .before .before))
     (marked-by (c .before) ∙ c .if2 .taken))
 
 mul-w : tie.Need-mul-w
@@ -83,8 +80,7 @@ wide-requires c κs = search needs
 
 returns-4 : tie.Need-returns-4
 returns-4 c =
-    let c3 = c .before .before .before in
-    let c4 = c3 .before in
+    let c4 = c .before .before .before .before in
     let c5 = c4 .before in
     let c8 = c5 .before .before .before in
     let c9 = c8 .before in
@@ -101,52 +97,32 @@ returns-4 c =
     c8 .if2 .left) (sym
     (c5 .same-kind .ensures) ∙ not-false
     (c5 .same-kind .result) (c4 .if3 .left)) (λ q. c .if4 .taken
-    (c3 .tag .ensures ∙ q ∙ sym (c .before .wide .ensures .0))))
+    (c .before .before .before .tag .ensures ∙ q ∙ sym (c .before .wide .ensures .0))))
 
 link-requires : tie.Need-link-requires
 link-requires c κs = search needs
 
-number-at-requires-2 : tie.Need-number-at-requires-2
-number-at-requires-2 c κs =
-    let c10 = c .before .before .before .before .before .before .before .before .before .before in
-    let c16 = c10 .before .before .before .before .before .before in
-    omega (
-      arith,
-      c16 .pre .whole,
-    )
-
 same-parent-requires : tie.Need-same-parent-requires
-same-parent-requires c κs = search needs
+same-parent-requires c κs =
+    let c16 = c .before .before .before .before .before .before .before .before .before .before .before .before .before .before .before
+    .before in
+    omega (arith, c16 .pre .whole)
 
 returns-5 : tie.Need-returns-5
 returns-5 c =
-    let c3 = c .before .before .before in
-    let c4 = c3 .before in
-    let c6 = c4 .before .before in
+    let c5 = c .before .before .before .before .before in
+    let c6 = c5 .before in
     let c7 = c6 .before in
-    let c8 = c7 .before in
-    let c11 = c8 .before .before .before in
+    let c10 = c7 .before .before .before in
+    let c11 = c10 .before in
     let c12 = c11 .before in
     let c13 = c12 .before in
-    let c14 = c13 .before in
-    let c18 = c14 .before .before .before .before in
-    c .same-parent .ensures ∙ ap (λ (j : ℕ). sameParent (ofLink j) (parentIn (c .before .number-at2 .result)))
-    (c .before .before .link .ensures) ∙ ap (λ (j : ℕ). sameParent (ofLink (linkIn (getD
-    (c18 .args .rows .now)
-    (c14 .number-at .result)
-    0))) (parentIn j)) (c .before .number-at2 .ensures .0) ∙ sym (made-parent
-    (c18 .pre)
-    (c18 .args .marks .now)
-    (c14 .number-at
-    .ensures .0)
-    (is-last c13) (marked-by
-    c12 ∙
-    c11 .if2 .left) (sym
-    (c8 .same-kind .ensures) ∙ not-false
-    (c8 .same-kind .result)
-    (c7 .if3 .left)) (sym
-    (c6 .tag .ensures) ∙ search (c3 .if4 .left, needs) ∙
-    c4 .wide .ensures .0))
+    let c17 = c13 .before .before .before .before in
+    let x = c17 .args in
+    c .same-parent .ensures ∙ ap (λ (j : ℕ). sameParent (ofLink j) (parentIn (wordAt (x .s .now) 4))) (c .before .link .ensures) ∙
+    sym (made-parent (c17 .pre) (x .marks .now) (c13 .number-at .ensures .0) (is-last c12) (marked-by c11 ∙ c10 .if2 .left)
+    (sym (c7 .same-kind .ensures) ∙ not-false (c7 .same-kind .result) (c6 .if3 .left))
+    (sym (c5 .tag .ensures) ∙ search (c .before .before .if4 .left, needs) ∙ c .before .before .before .wide .ensures .0))
 
 pub made-fits-spec : {M : Type 1} → statement M
 made-fits-spec =
@@ -167,6 +143,5 @@ made-fits-spec =
     wide-requires
     returns-4
     link-requires
-    number-at-requires-2
     same-parent-requires
     returns-5)

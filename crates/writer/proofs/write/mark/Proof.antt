@@ -3,7 +3,8 @@ use Rattle.writer.proofs.WriteRecordLaws.{mark-none, mark-some}
 use Rattle.model.proofs.ListLaws.{over-nil}
 use Rattle.model.specs.Base.{over}
 use lib.ListN.{length}
-use mathlib.Core.List.{List}
+use Rattle.table.proofs.DecodeLaws.{parent-some}
+use mathlib.Core.List.{List, _∷_}
 use mathlib.Core.Path.{_∙_, sym, ap}
 use Prim.Native.Nat.{ℕ}
 use native.Mathlib.Omega.{arith}
@@ -18,26 +19,24 @@ returns c =
     (c .if1 .taken)) ∙
     over-nil (c3 .args .at) (c3 .args .out .now))
 
-sub-row : tie.Need-sub-row
-sub-row c = search needs
-
 put-requires : tie.Need-put-requires
 put-requires c κs =
-    let c5 = c .before .before .before .before .before in (
-      omega (arith, ap length (mark-some (c5 .args .document) (c5 .args .link .0) (c .before .before .if1 .left)), c5 .pre .1),
-      omega (arith, c5 .pre .0),
-    )
+    let c4 = c .before .before .before .before in
+    let x = c4 .args in
+    (omega (arith, ap length (mark-some (x .document) (x .link .0) (c .before .if1 .left)), c4 .pre .1), c4 .pre .0)
 
 same-length : tie.Need-same-length
 same-length c = search needs
 
 returns-2 : tie.Need-returns-2
 returns-2 c =
-    let c5 = c .before .before .before .before .before in
-    let c8 = c5 .before .before .before in
+    let c4 = c .before .before .before .before in
+    let c7 = c4 .before .before .before in
+    let x = c7 .args in
     c .before .before .put .ensures ∙
-    sym (ap (λ (b : List ℕ). over (c8 .args .at) b (c8 .args .out .now)) (mark-some (c8 .args .document) (c8 .args .link .0)
-    (c5 .if1 .left)))
+    ap (λ (b : List ℕ). over (x .at) b (x .out .now))
+    (ap (λ (b : List ℕ). 19 ∷ x .document ∷ b) (sym (parent-some (x .link .0) (c4 .if1 .left))) ∙
+    sym (mark-some (x .document) (x .link .0) (c4 .if1 .left)))
 
 pub mark-spec : {M : Type 1} → statement M
-mark-spec = tie.close (tie.spec returns sub-row put-requires same-length returns-2)
+mark-spec = tie.close (tie.spec returns put-requires same-length returns-2)

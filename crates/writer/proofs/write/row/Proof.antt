@@ -1,8 +1,6 @@
 -- `write::row` puts a row's record over the area.
 use Rattle.writer.proofs.WriteRecordLaws.{row-leaf, row-element, row-bytes}
 use Rattle.model.specs.Base.{over}
-use Rattle.table.specs.Words.{ofLink}
-use Rattle.model.specs.Stored.{parentBytes}
 use Prim.Native.Nat.{ℕ}
 use mathlib.Core.List.{List}
 use mathlib.Core.Path.{_∙_, sym, ap}
@@ -12,9 +10,6 @@ use Rattle.writer.proofs.write.row.Tie as tie
 
 link-requires : tie.Need-link-requires
 link-requires c κs = search needs
-
-parent-requires : tie.Need-parent-requires
-parent-requires c κs = search needs
 
 tag-requires : tie.Need-tag-requires
 tag-requires c κs = search needs
@@ -37,12 +32,11 @@ returns c =
     let c5 = c4 .before in
     let c6 = c5 .before in
     let c7 = c6 .before in
-    let c8 = c7 .before in
-    let c10 = c8 .before .before in
-    c .before .before .put .ensures ∙ ap (λ (b : List ℕ). over (c10 .args .at) b (c10 .args .out .now))
-    (row-bytes (c10 .args .w) 18 (c6 .tag .result) (c7 .parent .result) (c6 .tag .ensures) (c7 .parent .ensures .0 ∙ ap (λ
-    (l : ℕ). parentBytes (ofLink l)) (c8 .link .ensures)) ∙ sym (row-leaf
-    (c10 .args .w) (sym (c5 .kind .ensures) ∙ c4 .if1 .taken)))
+    let c9 = c7 .before .before in
+    let x = c9 .args in
+    c .before .before .put .ensures ∙ ap (λ (b : List ℕ). over (x .at) b (x .out .now))
+    (row-bytes (x .w) 18 (c6 .tag .result) (c7 .link .result .0) (c6 .tag .ensures) (c7 .link .ensures) ∙ sym (row-leaf (x .w) (sym (c5
+    .kind .ensures) ∙ c4 .if1 .taken)))
 
 put-requires-2 : tie.Need-put-requires-2
 put-requires-2 c κs = search needs
@@ -56,20 +50,17 @@ returns-2 c =
     let c5 = c4 .before in
     let c6 = c5 .before in
     let c7 = c6 .before in
-    let c8 = c7 .before in
-    let c10 = c8 .before .before in
-    c .before .before .put2 .ensures ∙ ap (λ (b : List ℕ). over (c10 .args .at) b (c10 .args .out
-    .now)) (row-bytes (c10 .args .w) 17 (c6 .tag .result) (c7 .parent .result) (c6 .tag .ensures) (c7 .parent .ensures .0
-    ∙ ap (λ (l : ℕ). parentBytes (ofLink l)) (c8 .link .ensures)) ∙ sym
-    (row-element (c10 .args .w) (λ q. c4 .if1 .left
-    (c5 .kind .ensures ∙ q))))
+    let c9 = c7 .before .before in
+    let x = c9 .args in
+    c .before .before .put2 .ensures ∙ ap (λ (b : List ℕ). over (x .at) b (x .out .now))
+    (row-bytes (x .w) 17 (c6 .tag .result) (c7 .link .result .0) (c6 .tag .ensures) (c7 .link .ensures) ∙ sym (row-element (x .w) (λ q.
+    c4 .if1 .left (c5 .kind .ensures ∙ q))))
 
 pub row-spec : {M : Type 1} → statement M
 row-spec =
     tie.close
     (tie.spec
     link-requires
-    parent-requires
     tag-requires
     cast-field
     kind-requires
