@@ -1,4 +1,4 @@
--- Number, which and place come back from the number that carries them.
+-- From the 64 bits that a call answers, the refusal's number, which, and a place below 2^48 are got back.
 use mathlib.Core.Path.{_≡_}
 use Prim.Native.Nat.{ℕ, _<_}
 use native.Mathlib.Omega.{arith}

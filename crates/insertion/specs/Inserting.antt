@@ -25,7 +25,7 @@ copiedIn m t zero = []
 copiedIn m t (suc n) =
     pick (eqb (getD m (t + n) 0) 65535) (copiedIn m t n) (record { old = t + n; new = getD m (t + n) 0 } ∷ copiedIn m t n)
 
--- the link to the copy of the parent with a link, 0 where it has none since top
+-- the link to the copy of this parent; 0 if the parent was not copied since top
 abbrev pub copyLink : (map : List ℕ) → (top link : ℕ) → ℕ
 copyLink m t l = pick (eqb l 0) 0 (pick (ltb (l - 1) t) 0 (pick (eqb (getD m (l - 1) 0) 65535) 0 (getD m (l - 1) 0 + 1)))
 

@@ -16,7 +16,7 @@ use updates::update;
 // A row that has no copy.
 const NO_COPY: u16 = 0xFFFF;
 
-// The link to the copy of the parent with this link, none where it has none since top.
+// The link to the copy of this parent; none if the parent was not copied since top.
 fn copy_link(map: &[u16], top: RowNumber, link: Link) -> Link
     requires { ⌜ link .0 ≤ length (now map) ⌝ }
     ensures { λ r. ⌜ r .0 ≡ copyLink (now (map .entry)) (top .0) (link .0) ⌝ }

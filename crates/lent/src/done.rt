@@ -1,4 +1,4 @@
-// The areas lent to the C call for a run: whether each is long enough, and what they hold once nothing runs or the run is over.
+// The areas lent to the C call for a run: whether each is long enough, and what they hold when the plan is refused or the run is over.
 ghost use mathlib.Core.Path.{_≡_};
 ghost use Prim.Native.Nat.{_≤_};
 ghost use lib.ListN.{length, replicate};
@@ -41,7 +41,7 @@ pub fn put_done(
     done[5] = written as u64;
 }
 
-// Nothing runs: the areas of the run are zero.
+// The plan is refused, so nothing runs: the areas of the run are zero.
 pub fn clear(answer: &mut [u16], history: &mut [u8], work: &mut [u16])
     ensures { λ _. ⌜ now (answer .exit) ≡ replicate (length (now (answer .entry))) 0 ⌝ }
     ensures { λ _. ⌜ now (history .exit) ≡ replicate (length (now (history .entry))) 0 ⌝ }

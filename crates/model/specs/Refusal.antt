@@ -13,7 +13,7 @@ pub record Fault : Type 0 where
 abbrev pub fault : (number place : ℕ) → Fault
 fault n i = record { number = n; place = i }
 
--- what a call with more than one input answers: a refusal's number, whose it is, and its place; or number 0, and what the call says
+-- what a C call or an analysis answers: a refusal's number, whose it is, and its place; or number 0, and what the call says
 pub record Values : Type 0 where
   pub number : ℕ
   pub which : ℕ

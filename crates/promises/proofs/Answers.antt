@@ -9,13 +9,14 @@ use lib.ListN.{length}
 use Rattle.model.specs.Call.{areasFit, firstBy}
 use Rattle.model.specs.Refusal.{Values, linkAt}
 use Rattle.model.specs.Refusal as refusal
-use Rattle.model.specs.Script.{Parsed, ill, parsed, readScript}
+use Rattle.model.specs.Script.{Parsed, ill, parsed, readScript, faultBy}
 use Rattle.model.specs.Meeting.{Answer, free, upward, meet, answer}
 use Rattle.model.specs.Stored.{Read, bad, got, readPlan}
 use Rattle.model.specs.Undo.{Undo, refused, back, undo}
 use Rattle.model.proofs.BoolLaws.{by-cases, eq-cases, pick-cases}
 use Rattle.model.proofs.RefusedByTable.{refusedByTable}
 use Rattle.model.proofs.TestLaws.{isIn-at, isIn-by}
+use Rattle.table.specs.Results.{faultOf}
 use Rattle.table.specs.Words.{fits, decode}
 use Rattle.table.specs.declared.Fault.{Fault}
 use Rattle.table.specs.declared.Table.{Table}
@@ -31,6 +32,9 @@ use Rattle.codes.proofs.DecodeLaws.{number-back, which-back, place-back}
 use Rattle.codes.specs.Codes.{lentValues, valuesUnless, writtenValues, finishedValues}
 use Rattle.yegnabit.specs.Calls.{onPlan, planValues, sweepValues, undoValues, analyseValues}
 use Rattle.yegnabit.specs.Running.{Called, runCalled}
+use Rattle.script.specs.Reading.{scriptRead}
+use Rattle.probe.specs.Raw.{isGiven, given}
+use Rattle.probe.specs.Probes.{writeValues, sweptValues, scriptValues}
 use Rattle.lent.specs.Done.{outNeed, lentFit}
 use Rattle.promises.specs.Promise.{Decodes, AnswersDecode}
 
@@ -133,6 +137,32 @@ analysis-known b c = go (readScript b) (readScript c) refl refl
         let k = isIn-at 1 5 (f .number) (refusedByTable .1 c f g) in record { number = omega arith; which = omega arith }
     go (parsed x i n l) (parsed y j m k) e g = said (answer x y)
 
+-- THE CALLS FOR TESTS: a table given as words is written, or swept
+write-known : (n : ℕ) (ws ms o : List ℕ) → Known (writeValues n ws ms o)
+write-known n ws ms o =
+    pick-cases Known (isGiven ws ms)
+    (λ _. pick-cases Known (eqb (planWritten (given n ws ms) o .fault .number) 6)
+    (λ _. record { number = omega arith; which = omega arith })
+    (λ _. written-known (given n ws ms) o))
+    (λ _. lent-known)
+
+swept-known : (n : ℕ) (ws ms : List ℕ) → Known (sweptValues n ws ms)
+swept-known n ws ms =
+    pick-cases Known (isGiven ws ms)
+    (λ _. pick-cases Known (eqb (planSwept (given n ws ms) .fault .number) 0)
+    (λ _. record { number = omega arith; which = omega arith })
+    (λ _. record { number = swept-low (given n ws ms); which = omega arith }))
+    (λ _. lent-known)
+
+-- a script is read
+script-known : (b : List ℕ) → Known (scriptValues b)
+script-known b =
+    known-unless (scriptRead b) 2 _ (go (readScript b) refl) (omega arith) (record { number = omega arith; which = omega arith })
+  where
+    go : (q : Parsed) → readScript b ≡ q → Low (faultOf (faultBy q))
+    go (ill f) e = let k = isIn-at 1 5 (f .number) (refusedByTable .1 b f e) in omega arith
+    go (parsed x i n l) e = omega arith
+
 pub answersDecode : AnswersDecode
 answersDecode = (
   λ p o. decodes (planValues p o) (plan-known p o _ (written-known (planRead p .table) o)),
@@ -144,4 +174,7 @@ answersDecode = (
       (plan-known p o _ (finished-known (planUndone (planRead p .table) h) 2 o (undone-low (planRead p .table) h) (omega arith))),
   λ p s a h w o d. decodes (runCalled p s a h w o d .values) (run-known p s a h w o d),
   λ b c. decodes (analyseValues b c) (analysis-known b c),
+  λ n ws ms o. decodes (writeValues n ws ms o) (write-known n ws ms o),
+  λ n ws ms. decodes (sweptValues n ws ms) (swept-known n ws ms),
+  λ b. decodes (scriptValues b) (script-known b),
 )

@@ -21,6 +21,7 @@ use Rattle.yegnabit.specs.Calls.{planValues, planOut, sweepValues, sweepOut, un
 use Rattle.codes.specs.Codes.{placeLimit, codeOf, decoded}
 use Rattle.yegnabit.specs.Running.{Called, untouchedCall, refusedCall, runCalled}
 use Rattle.lent.specs.Done.{outNeed, lentFit, doneOver}
+use Rattle.probe.specs.Probes.{writeValues, sweptValues, scriptValues}
 use Rattle.paths.specs.Analysis.{analysed, valuesOf}
 use Rattle.run.specs.Promise.{EitherRun}
 use Rattle.table.specs.Words.{fits}
@@ -85,20 +86,21 @@ RunAreaShort =
     (p s a h w o d : List ℕ) → lentFit (length a) (length h) (length w) (length o) (length d) ≡ false →
     runCalled p s a h w o d ≡ untouchedCall a h w o d
 
--- ANSWERS DECODE: number and which come back from the number that a call answers, and so does a place below 2^48; the number is 0 or one
--- of the table's, and which is 0, 1 or 2
+-- ANSWERS DECODE: from the 64 bits that a call answers a caller gets back the refusal's number, which, and a place below 2^48; the number
+-- is 0 or one of the table's, and which is 0, 1 or 2
 abbrev pub Decodes : Values → Type 0
 Decodes v =
     (decoded (codeOf v) .number ≡ v .number) × (decoded (codeOf v) .which ≡ v .which) ×
     (v .place < placeLimit → decoded (codeOf v) .place ≡ v .place) × (isIn 0 (lentShort .number) (v .number) ≡ true) ×
     (isIn 0 2 (v .which) ≡ true)
 
--- of every call
+-- of every call: the five of the header, and the three for tests alone
 abbrev pub AnswersDecode : Type 0
 AnswersDecode =
     ((p o : List ℕ) → Decodes (planValues p o)) × ((p o : List ℕ) → Decodes (sweepValues p o)) ×
     ((p h o : List ℕ) → Decodes (undoValues p h o)) × ((p s a h w o d : List ℕ) → Decodes (runCalled p s a h w o d .values)) ×
-    ((b c : List ℕ) → Decodes (analyseValues b c))
+    ((b c : List ℕ) → Decodes (analyseValues b c)) × ((n : ℕ) (ws ms o : List ℕ) → Decodes (writeValues n ws ms o)) ×
+    ((n : ℕ) (ws ms : List ℕ) → Decodes (sweptValues n ws ms)) × ((b : List ℕ) → Decodes (scriptValues b))
 
 -- RUN AND TAKEN BACK: the plan and the history that a run's call left, as long as its six numbers say; undone, the plan comes back
 abbrev pub planLeft : Called → List ℕ
@@ -116,8 +118,8 @@ RunUndone =
     (undoValues (planLeft (runCalled p s a h w o d)) (historyLeft (runCalled p s a h w o d)) o′ ≡ values 0 0 (length p)) ×
     (undoOut (planLeft (runCalled p s a h w o d)) (historyLeft (runCalled p s a h w o d)) o′ ≡ atFront p o′)
 
--- DEMAND 3 on the library's calls `analyse` and `run`: two scripts of which the one says free, 0, run by the other in either order, each
--- of the four runs in areas of its own
+-- DEMAND 3 on the library's calls: two scripts that `analyse` calls free, 0, run by `run` in either order, each of the four runs in areas
+-- of its own
 abbrev pub FreeRunsCommute : Type 0
 FreeRunsCommute =
     (b c : List ℕ) (t : declared.Table) (k k′ l l′ : Areas) → areBytes b ≡ true → areBytes c ≡ true →

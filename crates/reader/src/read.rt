@@ -54,7 +54,7 @@ fn row(s: &[u8], rows: &mut [u32], count: usize, last: usize) -> u8
         rows[count] = word(kind, tag, Link(0));
         return 0;
     }
-    if !fit::is_element_below(rows, count, RowNumber(parent)) {
+    if !fit::is_lower_element(rows, RowNumber(count), RowNumber(parent)) {
         return Fault::LINK;
     }
     let link = parent + 1;

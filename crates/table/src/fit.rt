@@ -27,8 +27,8 @@ fn tag_fits(w: u32) -> bool
     kind == words::LEAF
 }
 
-// The row is an element below a bound.
-pub fn is_element_below(rows: &[u32], bound: usize, row: RowNumber) -> bool
+// The row is one of the first rows, as many as the bound says, and an element.
+fn is_element_below(rows: &[u32], bound: usize, row: RowNumber) -> bool
     requires { ⌜ bound ≤ length (now rows) ⌝ }
     ensures { λ r. ⌜ r ≡ isElementBelow (now (rows .entry)) bound (row .0) ⌝ }
 {
@@ -39,7 +39,15 @@ pub fn is_element_below(rows: &[u32], bound: usize, row: RowNumber) -> bool
     words::kind(rows[at]) != words::LEAF
 }
 
-// The row is an element below a bound, and has no parent.
+// The parent is an element with a lower number than the row.
+pub fn is_lower_element(rows: &[u32], row: RowNumber, parent: RowNumber) -> bool
+    requires { ⌜ row .0 ≤ length (now rows) ⌝ }
+    ensures { λ r. ⌜ r ≡ isElementBelow (now (rows .entry)) (row .0) (parent .0) ⌝ }
+{
+    is_element_below(rows, row.0, parent)
+}
+
+// The row is one of the first rows, an element, and has no parent.
 pub fn is_root_below(rows: &[u32], bound: usize, row: RowNumber) -> bool
     requires { ⌜ bound ≤ length (now rows) ⌝ }
     ensures { λ r. ⌜ r ≡ isRootBelow (now (rows .entry)) bound (row .0) ⌝ }
@@ -60,7 +68,7 @@ fn link_fits(rows: &[u32], row: RowNumber, link: Link) -> bool
         return true;
     }
     let at = link.0 - 1;
-    is_element_below(rows, row.0, RowNumber(at))
+    is_lower_element(rows, row, RowNumber(at))
 }
 
 // A row fits.

@@ -10,7 +10,8 @@ pub mod results;
 pub mod stored;
 pub mod words;
 
-// A row's number, an element's name, and a link to a row, its number plus one, or to none, 0: one never stands where another is meant.
+// Three types, so that none stands for another: a row's number; an element's name; a link, which is a row's number plus one, or 0 for
+// none.
 pub struct RowNumber(pub usize);
 
 pub struct NameNumber(pub u16);
@@ -85,8 +86,8 @@ impl Fault {
     pub const LENT: u8 = 11;
 }
 
-// How a pass over records ends: its refusal's number and place; or 0, and where it came to (the contract of the script reader) or 0; rows
-// or records counted.
+// How a pass over records ends: a refusal's number and place, or 0 and the place reached (0 if the pass has none); and how many rows or
+// records were counted.
 pub struct End {
     pub number: u8,
     pub place: usize,

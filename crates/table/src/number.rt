@@ -18,7 +18,7 @@ pub fn byte(b: u8) -> usize
     b as usize
 }
 
-// A byte as the name or value in a row's word.
+// A byte widened, to be compared with the name or value that a row's word holds.
 pub fn wide(b: u8) -> u32
     ensures { λ r. ⌜ r ≡ b ⌝ }
     ensures { λ r. ⌜ r < 256 ⌝ }

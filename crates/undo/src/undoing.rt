@@ -148,7 +148,7 @@ fn cut_fits(rows: &[u32], marks: &[u16], count: usize, s: &[u8]) -> bool
     if parent == number::NONE {
         return false;
     }
-    fit::is_element_below(rows, row, RowNumber(parent))
+    fit::is_lower_element(rows, RowNumber(row), RowNumber(parent))
 }
 
 // The record s undone: the link is back, or the last row is gone.

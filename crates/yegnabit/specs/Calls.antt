@@ -62,6 +62,6 @@ undoValues p h o = onPlan p o (finishedValues (undonePlan p h) 2 o)
 abbrev pub undoOut : (plan history out : List ℕ) → List ℕ
 undoOut p h o = outOnPlan p o (finishedOut (undonePlan p h) o)
 
--- TWO SCRIPTS ANALYSED: the first refused, or 0 free, 1 upward, 2 meet as `which`
+-- TWO SCRIPTS ANALYSED: the refusal of the first of them that is refused; or 0 free, 1 upward, 2 meet as `which`
 abbrev pub analyseValues : (first second : List ℕ) → Values
 analyseValues b c = valuesOf (analysed b c)

@@ -43,7 +43,7 @@ abbrev pub ranCall : RunResult → Ran → (out done : List ℕ) → Called
 ranCall r l o d =
     record { values = endValues r o; answer = l .answer; history = l .history; work = l .work; out = endOut r o; done = endDone r o d }
 
--- once the plan is read: its refusal, and then nothing runs, or the run
+-- once the plan is read: its refusal, without a run; or the run
 abbrev pub readCall : TableResult → (script answer history work out done : List ℕ) → Called
 readCall q s a h w o d =
     pick (eqb (q .fault .number) 0) (ranCall (runResult (q .table) s a h w) (ran (q .table) s a h w) o d)

@@ -95,8 +95,8 @@ returns-3 c =
       link = λ z. link-none (c9 .args .s .now) (sym (c .before .before .number-at .ensures .0) ∙ c .before .if4 .taken);
     }
 
-is-element-below-requires : tie.Need-is-element-below-requires
-is-element-below-requires c κs = search needs
+is-lower-element-requires : tie.Need-is-lower-element-requires
+is-lower-element-requires c κs = search needs
 
 same-length-2 : tie.Need-same-length-2
 same-length-2 c = search needs
@@ -106,13 +106,13 @@ parent-known : (c : tie.Else4) →
     wordAt (a .s .now) 2 ≡ 65535 → ⊥
 parent-known c h = c .if4 .left (c .before .number-at .ensures .0 ∙ h)
 
-child : (c : tie.After-is-element-below) →
+child : (c : tie.After-is-lower-element) →
     let a = c .before .before .before .before .before .before .before .before .before .before .args in
-    isElementBelow (a .rows .now) (a .count) (wordAt (a .s .now) 2) ≡ c .is-element-below .result
+    isElementBelow (a .rows .now) (a .count) (wordAt (a .s .now) 2) ≡ c .is-lower-element .result
 child c =
     let c3 = c .before .before .before in
     let c10 = c3 .before .before .before .before .before .before .before in
-    sym (c .is-element-below .ensures ∙ ap (isElementBelow (c10 .args .rows .now) (c10 .args .count))
+    sym (c .is-lower-element .ensures ∙ ap (isElementBelow (c10 .args .rows .now) (c10 .args .count))
     (c3 .number-at .ensures .0))
 
 lower : (c : tie.Else5) →
@@ -121,7 +121,7 @@ lower : (c : tie.Else5) →
 lower c =
     let c11 = c .before .before .before .before .before .before .before .before .before .before .before in
     below-bound (c11 .args .rows .now) (c11 .args .count) (wordAt (c11 .args .s .now) 2)
-    (child (c .before) ∙ not-false (c .before .is-element-below .result) (c .if5 .left))
+    (child (c .before) ∙ not-false (c .before .is-lower-element .result) (c .if5 .left))
 
 returns-4 : tie.Need-returns-4
 returns-4 c =
@@ -132,7 +132,7 @@ returns-4 c =
     record {
       fault = λ ms i e. row-child (c11 .args .s .now) (c11 .args .rows .now) ms (c11 .args .count) i (c11 .pre) (tag c6) (byte c6)
           (last-zero c5 ms e) (parent-known c3) false
-          (child (c .before) ∙ not-true (c .before .is-element-below .result) (c .if5 .taken));
+          (child (c .before) ∙ not-true (c .before .is-lower-element .result) (c .if5 .taken));
       rows = refl;
       link = λ z. refused _ z;
     }
@@ -176,7 +176,7 @@ returns-5 c =
     record {
       fault = λ ms i e. row-child (c12 .args .s .now) (c12 .args .rows .now) ms (c12 .args .count) i (c12 .pre) (tag c7) (byte c7)
           (last-zero c6 ms e) (parent-known c4) true
-          (child (c .before .before) ∙ not-false (c .before .before .is-element-below .result) (c .before .if5 .left));
+          (child (c .before .before) ∙ not-false (c .before .before .is-lower-element .result) (c .before .if5 .left));
       rows = ap (set (c12 .args .rows .now) (c12 .args .count)) (stored-some c);
       link = λ z. link-some (c12 .args .s .now) (omega (arith, lower (c .before), c12 .pre .room));
     }
@@ -195,7 +195,7 @@ row-spec =
     slice-write-rows
     same-length
     returns-3
-    is-element-below-requires
+    is-lower-element-requires
     same-length-2
     returns-4
     add-link

@@ -10,14 +10,14 @@ returns c = search (eq-eqb, needs)
 sub-at : tie.Need-sub-at
 sub-at c = search needs
 
-is-element-below-requires : tie.Need-is-element-below-requires
-is-element-below-requires c κs = search needs
+is-lower-element-requires : tie.Need-is-lower-element-requires
+is-lower-element-requires c κs = search needs
 
 returns-2 : tie.Need-returns-2
 returns-2 c =
     let c5 = c .before .before .before .before .before in
     rw (ne-eqb (c5 .args .link .0) 0 (c .before .before .if1 .left))
-    (c .is-element-below .ensures)
+    (c .is-lower-element .ensures)
 
 pub link-fits-spec : {M : Type 1} → statement M
-link-fits-spec = tie.close (tie.spec returns sub-at is-element-below-requires returns-2)
+link-fits-spec = tie.close (tie.spec returns sub-at is-lower-element-requires returns-2)

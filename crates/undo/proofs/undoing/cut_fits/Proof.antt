@@ -84,8 +84,8 @@ returns-4 c =
     (arith, c8 .if1 .left)) (is-root c4)
     (marked-by c3 ∙ c .before .before .if3 .left) (c .before .number-at2 .ensures .0) (c .if4 .taken))
 
-is-element-below-requires : tie.Need-is-element-below-requires
-is-element-below-requires c κs =
+is-lower-element-requires : tie.Need-is-lower-element-requires
+is-lower-element-requires c κs =
     let c8 = c .before .before .before .before .before .before .before .before in
     let c13 = c8 .before .before .before .before .before in
     omega (arith, c8 .if1 .left, c13 .pre .rows, c13 .pre .few)
@@ -98,7 +98,7 @@ returns-5 c =
     let c9 = c5 .before .before .before .before in
     let c10 = c9 .before in
     let c14 = c10 .before .before .before .before in
-    c .is-element-below .ensures ∙ sym
+    c .is-lower-element .ensures ∙ sym
     (cut-element (c14 .pre) (c14 .args .marks .now)
     (c10 .number-at .ensures .0) (omega
     (arith, c9 .if1 .left)) (is-root
@@ -120,5 +120,5 @@ cut-fits-spec =
     returns-3
     number-at-requires-2
     returns-4
-    is-element-below-requires
+    is-lower-element-requires
     returns-5)
