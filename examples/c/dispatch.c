@@ -23,7 +23,7 @@ static size_t load(const char *name, uint8_t *bytes) {
 static unsigned accepted(const char *call, uint64_t code) {
     unsigned number = yegnabit_number(code), which = yegnabit_which(code);
     if (number == 0) return which;
-    fprintf(stderr, "%s refused: number %u, which %u, place %u\n", call, number, which, (unsigned)yegnabit_place(code));
+    fprintf(stderr, "%s refused: number %u, which %u, place %llu\n", call, number, which, (unsigned long long)yegnabit_place(code));
     exit(1);
 }
 
