@@ -3,7 +3,7 @@
 use std::path::PathBuf;
 
 const LIBRARY_VARIABLE: &str = "YEGNABIT_LIB";
-const ARCHIVES: [&str; 2] = ["libyegnabit.a", "libprobe.a"];
+const ARCHIVES: [&str; 2] = ["libyegnabit.a", "libc_probe.a"];
 const DEFAULT_FOLDER: &str = "../target/staticlib";
 
 fn main() {
@@ -24,7 +24,7 @@ fn main() {
         }
     }
     // `#[link(kind = "static")]` in src/ffi.rs names the libraries
-    // themselves, so that only the program, and not the reference, needs
-    // them.
+    // themselves, so that only the program, and not the oracle or the
+    // rival, needs them.
     println!("cargo:rustc-link-search=native={}", folder.display());
 }

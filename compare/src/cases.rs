@@ -1,9 +1,9 @@
 //! Cases with what document 01 says of each, found by hand: its own runs on plan
-//! P, and some for each of a number of rules. The reference's own tests ask them
-//! of the reference, the comparisons of the library.
+//! P, and some for each of a number of rules. The oracle's own tests ask them
+//! of the oracle, the comparisons of the library.
 
 use crate::generate::document01::{CHILDREN_NAMED_2, CHILDREN_NAMED_3, PLAN_P, SCRIPT_A, SCRIPT_B};
-use crate::reference::refusal::{Number, Refusal};
+use crate::oracle::refusal::{Number, Refusal};
 
 /// Plan P's rows and its mark.
 const P_ROWS: &[u8] = PLAN_P.split_at(16).0;

@@ -46,8 +46,8 @@ extern "C" {
     ) -> u64;
 }
 
-// Calls for tests: crates/probe, not in the header.
-#[link(name = "probe", kind = "static")]
+// Calls for tests: crates/c_probe, not in the header.
+#[link(name = "c_probe", kind = "static")]
 extern "C" {
     fn yegnabit_script(script: *const u8, script_length: usize) -> u64;
 

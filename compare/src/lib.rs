@@ -1,14 +1,16 @@
-//! A second implementation of document 01, and what is needed to compare the
-//! library under test with it.
+//! Document 01 a second and a third time, and what is needed to compare the
+//! library under test with them.
 //!
-//! - [`reference`]: the rules of document 01.
+//! - [`oracle`]: the rules of document 01, naive, for the differential tests.
+//! - [`rival`]: the same, fast, for the benchmarks.
 //! - [`raw`]: a table as the words that the C interface passes.
-//! - [`interface`]: the reference behind the same calls as the C interface.
+//! - [`interface`]: the answers and lent areas of the C interface.
 //! - [`generate`]: plans, scripts and tables, sound and damaged.
 //! - [`cases`]: cases with what document 01 says of each, found by hand.
 
 pub mod cases;
 pub mod generate;
 pub mod interface;
+pub mod oracle;
 pub mod raw;
-pub mod reference;
+pub mod rival;

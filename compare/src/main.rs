@@ -1,6 +1,6 @@
-//! Compares the library under test with the reference: `compare test` runs
-//! all comparisons, `compare pair` those of the program, `compare bench`
-//! measures both sides.
+//! Compares the library under test with the oracle: `compare test` runs
+//! all comparisons, `compare pair` those of the program. `compare bench`
+//! measures the library beside the rival.
 
 mod bench;
 mod ffi;

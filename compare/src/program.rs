@@ -1,4 +1,4 @@
-//! Compares the program `pair` with the reference: what it prints in folders
+//! Compares the program `pair` with the oracle: what it prints in folders
 //! whose files are sound, damaged, missing or too long.
 
 use std::collections::BTreeSet;
@@ -10,11 +10,11 @@ use compare::generate::document01::{CHILDREN_NAMED_3, PLAN_P, SCRIPT_A, SCRIPT_B
 use compare::generate::random::Random;
 use compare::generate::runs::{case, Case};
 use compare::generate::{damage, pairs, plans};
-use compare::reference::limits::{FILE_BYTES, ROWS};
-use compare::reference::pair::pair;
-use compare::reference::plan::to_vec;
-use compare::reference::script::kind;
-use compare::reference::table::Table;
+use compare::oracle::limits::{FILE_BYTES, ROWS};
+use compare::oracle::pair::pair;
+use compare::oracle::plan::to_vec;
+use compare::oracle::script::kind;
+use compare::oracle::table::Table;
 
 /// The environment variable that names the program, and where it is otherwise,
 /// from the folder of this crate.
@@ -116,7 +116,7 @@ impl Program {
         Ok(output.stdout)
     }
 
-    /// The same, with what the reference prints.
+    /// The same, with what the oracle prints.
     fn compare(&mut self, entries: &[Entry; 3]) -> Result<(), String> {
         let [plan, first, second] = entries;
         let expected = pair(plan.bytes(), first.bytes(), second.bytes());

@@ -4,8 +4,8 @@
 //! else it is the parent's number + 1. A mark is 0 for none, else the marked
 //! row's number + 1. Rows at and past the count are word 0.
 
-use crate::reference::limits::{DOCUMENTS, ROWS};
-use crate::reference::table::{Kind, Row, Table};
+use crate::oracle::limits::{DOCUMENTS, ROWS};
+use crate::oracle::table::{Kind, Row, Table};
 
 pub const ELEMENT: u32 = 1;
 pub const LEAF: u32 = 2;

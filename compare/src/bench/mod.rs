@@ -1,4 +1,4 @@
-//! Both sides measured in one process, in turn.
+//! The library and the rival measured in one process, in turn.
 
 mod runs;
 
@@ -11,12 +11,13 @@ use compare::generate::pairs::{most_deletes, most_paths, most_steps};
 use compare::generate::plans::full_table;
 use compare::generate::random::Random;
 use compare::generate::scripts::{script, Wanted};
-use compare::interface::{self, Answer};
+use compare::interface::Answer;
+use compare::oracle::limits::PLAN_BYTES;
+use compare::oracle::plan::to_vec;
+use compare::oracle::script::{Axis, Operation, Test};
+use compare::oracle::table::Table;
 use compare::raw::RawTable;
-use compare::reference::limits::PLAN_BYTES;
-use compare::reference::plan::to_vec;
-use compare::reference::script::{Axis, Operation, Test};
-use compare::reference::table::Table;
+use compare::rival::calls;
 
 use crate::ffi;
 
@@ -34,7 +35,7 @@ struct Case<'a> {
     /// The number that both sides must answer.
     number: u64,
     library: Side<'a>,
-    reference: Side<'a>,
+    rival: Side<'a>,
 }
 
 /// Measures all cases and prints a table.
@@ -47,10 +48,10 @@ pub fn run() {
     refused[PLAN_BYTES - 2] = refused[PLAN_BYTES - 6];
     let bytes = full_script(&mut random);
 
-    println!("| case | library ns | Rust ns | ratio |");
+    println!("| case | library ns | rival ns | ratio |");
     println!("|---|---|---|---|");
-    let back: (OnPlan, OnPlan) = (ffi::plan, interface::plan);
-    let sweep: (OnPlan, OnPlan) = (ffi::sweep, interface::sweep);
+    let back: (OnPlan, OnPlan) = (ffi::plan, calls::plan);
+    let sweep: (OnPlan, OnPlan) = (ffi::sweep, calls::sweep);
     measure(plan_case("plan of 512 rows, 8 marks", 0, &full, back));
     measure(plan_case(
         "plan refused at its last record",
@@ -67,7 +68,7 @@ pub fn run() {
         name: "script of 64 records",
         number: 0,
         library: Box::new(|| ffi::script(black_box(&bytes))),
-        reference: Box::new(|| interface::script(black_box(&bytes))),
+        rival: Box::new(|| calls::script(black_box(&bytes))),
     });
     undo(&mut random);
     analysis();
@@ -95,16 +96,15 @@ fn undo_case<'a>(name: &'static str, number: u64, plan: &'a [u8], history: &'a [
         library: Box::new(move || {
             ffi::undo(black_box(plan), black_box(history), black_box(&mut ours))
         }),
-        reference: Box::new(move || {
-            interface::undo(black_box(plan), black_box(history), black_box(&mut theirs))
+        rival: Box::new(move || {
+            calls::undo(black_box(plan), black_box(history), black_box(&mut theirs))
         }),
     }
 }
 
 /// The path analysis. The worst pairs have 64 records on both sides, with eight
 /// binders, 48 steps or 55 deletes. Four uses of each of eight variables would
-/// take 65 records, so the last ones have fewer. With binders the paths are too
-/// many to list; so the reference's method is the one by positions.
+/// take 65 records, so the last ones have fewer.
 fn analysis() {
     let steps = [(Axis::Descendant, Test::AnyElement)];
     let delete = Operation::Delete;
@@ -152,7 +152,7 @@ fn analysis() {
             name,
             number,
             library: Box::new(move || ffi::analyse(black_box(first), black_box(second))),
-            reference: Box::new(move || interface::analyse(black_box(first), black_box(second))),
+            rival: Box::new(move || calls::analyse(black_box(first), black_box(second))),
         });
     }
 }
@@ -164,14 +164,14 @@ fn plan_case<'a>(
     name: &'static str,
     number: u64,
     plan: &'a [u8],
-    (library, reference): (OnPlan, OnPlan),
+    (library, rival): (OnPlan, OnPlan),
 ) -> Case<'a> {
     let (mut ours, mut theirs) = ([0; PLAN_BYTES], [0; PLAN_BYTES]);
     Case {
         name,
         number,
         library: Box::new(move || library(black_box(plan), black_box(&mut ours))),
-        reference: Box::new(move || reference(black_box(plan), black_box(&mut theirs))),
+        rival: Box::new(move || rival(black_box(plan), black_box(&mut theirs))),
     }
 }
 
@@ -190,8 +190,8 @@ fn write_case(name: &'static str, table: &Table) -> Case<'static> {
                 black_box(&mut ours),
             )
         }),
-        reference: Box::new(move || {
-            interface::write_table(
+        rival: Box::new(move || {
+            calls::write_table(
                 same.count,
                 black_box(&same.rows),
                 &same.marks,
@@ -212,25 +212,22 @@ fn full_script(random: &mut Random) -> Vec<u8> {
 }
 
 fn measure(mut case: Case<'_>) {
-    assert_eq!((case.library)(), (case.reference)(), "{}", case.name);
-    assert_eq!((case.reference)().number(), case.number, "{}", case.name);
+    assert_eq!((case.library)(), (case.rival)(), "{}", case.name);
+    assert_eq!((case.rival)().number(), case.number, "{}", case.name);
     let mut calls = 1;
     while time(&mut case.library, calls) < ROUND_TIME {
         calls *= 2;
     }
     let mut library = Vec::with_capacity(ROUNDS);
-    let mut reference = Vec::with_capacity(ROUNDS);
+    let mut rival = Vec::with_capacity(ROUNDS);
     for _ in 0..ROUNDS {
         library.push(time(&mut case.library, calls));
-        reference.push(time(&mut case.reference, calls));
+        rival.push(time(&mut case.rival, calls));
     }
     let nanoseconds = |times: Vec<Duration>| median(times).as_nanos() as f64 / calls as f64;
-    let (library, reference) = (nanoseconds(library), nanoseconds(reference));
-    let ratio = library / reference;
-    println!(
-        "| {} | {library:.0} | {reference:.0} | {ratio:.2} |",
-        case.name
-    );
+    let (library, rival) = (nanoseconds(library), nanoseconds(rival));
+    let ratio = library / rival;
+    println!("| {} | {library:.0} | {rival:.0} | {ratio:.2} |", case.name);
 }
 
 fn time(side: &mut Side<'_>, calls: u32) -> Duration {

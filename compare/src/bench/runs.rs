@@ -4,12 +4,12 @@
 use std::hint::black_box;
 
 use compare::generate::plans::star;
-use compare::interface::{self, Areas};
-use compare::reference::limits::ROWS;
-use compare::reference::plan::to_vec;
-use compare::reference::run::{run as run_reference, OwnedAreas};
-use compare::reference::script::kind;
-use compare::reference::table::{Row, Table};
+use compare::interface::Areas;
+use compare::oracle::limits::ROWS;
+use compare::oracle::plan::to_vec;
+use compare::oracle::script::kind;
+use compare::oracle::table::{Row, Table};
+use compare::rival::calls;
 
 use super::{measure, undo_case, Case};
 use crate::ffi;
@@ -83,12 +83,14 @@ pub fn measure_runs() {
 
 /// The history of 511 cuts taken back.
 fn undo_of_run(plan: &[u8], script: &[u8]) {
-    let mut table = compare::reference::plan::read(plan).expect("a sound plan");
-    let mut areas = OwnedAreas::default();
-    let ran = run_reference(&mut table, script, areas.lend()).expect("a sound run");
-    let history = &areas.history[..ran.history_length];
-    let after = to_vec(&table);
-    measure(undo_case("undo of 511 cuts", 0, &after, history));
+    let mut areas = Areas::holding(0);
+    assert_eq!(calls::run(plan, script, areas.lend()).number(), 0);
+    let [.., history_length, length] = areas.done[..] else {
+        panic!("a run hands back numbers");
+    };
+    let history = &areas.history[..history_length as usize];
+    let after = &areas.out[..length as usize];
+    measure(undo_case("undo of 511 cuts", 0, after, history));
 }
 
 fn run_case<'a>(name: &'static str, number: u64, plan: &'a [u8], script: &'a [u8]) -> Case<'a> {
@@ -103,8 +105,8 @@ fn run_case<'a>(name: &'static str, number: u64, plan: &'a [u8], script: &'a [u8
                 black_box(&mut ours).lend(),
             )
         }),
-        reference: Box::new(move || {
-            interface::run(
+        rival: Box::new(move || {
+            calls::run(
                 black_box(plan),
                 black_box(script),
                 black_box(&mut theirs).lend(),

@@ -1,7 +1,7 @@
 //! Short scripts on document 0 that often concern the same rows.
 
 use super::random::Random;
-use crate::reference::script::kind;
+use crate::oracle::script::kind;
 
 /// Names are 1 to this.
 const NAMES: usize = 2;

@@ -2,8 +2,8 @@
 
 use super::random::Random;
 use super::runs::{most_loops, DOCUMENTS, NAMES};
-use crate::reference::limits::{BINDERS, DEPTH, SCRIPT_RECORDS};
-use crate::reference::script::kind;
+use crate::oracle::limits::{BINDERS, DEPTH, SCRIPT_RECORDS};
+use crate::oracle::script::kind;
 
 /// A script made for what its parts are to be.
 pub fn coherent(random: &mut Random, rows: usize) -> Vec<u8> {
@@ -265,7 +265,7 @@ impl Writer<'_> {
 #[cfg(test)]
 mod tests {
     use super::*;
-    use crate::reference::script::read;
+    use crate::oracle::script::read;
 
     #[test]
     fn coherent_scripts_are_accepted() {

@@ -1,9 +1,9 @@
 //! Hand-made inputs: at, below and above each limit.
 
 use super::scripts::Wanted;
-use crate::reference::limits::{BINDERS, DEPTH, DOCUMENTS, NO_PARENT, ROWS, SCRIPT_RECORDS};
-use crate::reference::plan::{ELEMENT, LEAF, MARK};
-use crate::reference::script::kind;
+use crate::oracle::limits::{BINDERS, DEPTH, DOCUMENTS, NO_PARENT, ROWS, SCRIPT_RECORDS};
+use crate::oracle::plan::{ELEMENT, LEAF, MARK};
+use crate::oracle::script::kind;
 
 /// A record of a stored plan.
 fn record(kind: u8, tag: u8, field: u16) -> [u8; 4] {

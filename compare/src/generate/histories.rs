@@ -5,11 +5,11 @@ use super::pairs::{with_bodies, Bodies};
 use super::plans::{self, Shape};
 use super::random::Random;
 use super::scripts::{script, Wanted};
-use crate::reference::history::{Record, MADE_BYTES};
-use crate::reference::limits::ROWS;
-use crate::reference::run::{run, OwnedAreas};
-use crate::reference::script::kind;
-use crate::reference::table::{Row, Table};
+use crate::oracle::history::Record;
+use crate::oracle::limits::ROWS;
+use crate::oracle::run::{run, OwnedAreas};
+use crate::oracle::script::kind;
+use crate::oracle::table::{Row, Table};
 
 /// How often another script is tried when one does nothing.
 const TRIES: usize = 12;
@@ -158,7 +158,5 @@ fn new_row(random: &mut Random, table: &Table) -> Row {
 
 /// Appends the bytes of a record.
 pub fn append(history: &mut Vec<u8>, record: Record) {
-    let mut bytes = [0; MADE_BYTES];
-    let length = record.write(&mut bytes);
-    history.extend(&bytes[..length]);
+    history.extend(record.to_vec());
 }

@@ -3,8 +3,8 @@
 use super::chains;
 use super::random::Random;
 use super::scripts::{script, Wanted};
-use crate::reference::limits::DOCUMENTS;
-use crate::reference::script::{kind, read, Axis, Operation, Relation, Test};
+use crate::oracle::limits::DOCUMENTS;
+use crate::oracle::script::{kind, read, Axis, Operation, Relation, Test};
 
 /// What the records of a script are about, in percent.
 #[derive(Clone, Copy, Debug)]
@@ -103,7 +103,7 @@ pub fn with_bodies(random: &mut Random, bytes: &[u8], bodies: Bodies) -> Vec<u8>
     };
     let mut changed = Vec::with_capacity(bytes.len());
     let mut upward = random.chance(bodies.upward);
-    for record in &script.records {
+    for record in script.records() {
         let operation = match record.operation {
             Operation::Document(_) => {
                 let (first, count) = bodies.documents;

@@ -1,8 +1,8 @@
 //! Well-formed tables, and tables with one row too many.
 
 use super::random::Random;
-use crate::reference::limits::{DOCUMENTS, ROWS};
-use crate::reference::table::{Row, Table};
+use crate::oracle::limits::{DOCUMENTS, ROWS};
+use crate::oracle::table::{Row, Table};
 
 const PERCENT: usize = 100;
 /// How far back a near parent lies at most.

@@ -7,9 +7,9 @@ use super::coherent::coherent;
 use super::plans::{self, Shape};
 use super::random::Random;
 use super::scripts::{self, Wanted};
-use crate::reference::limits::ROWS;
-use crate::reference::script::{kind, read, Operation};
-use crate::reference::table::Table;
+use crate::oracle::limits::ROWS;
+use crate::oracle::script::{kind, read, Operation};
+use crate::oracle::table::Table;
 
 /// Names are 1 to this, and documents 0 to one less.
 pub const NAMES: u8 = 3;
@@ -178,7 +178,7 @@ fn cutting(random: &mut Random) -> Vec<u8> {
 /// How many loops a script holds, none where it is refused.
 pub fn loops(bytes: &[u8]) -> usize {
     read(bytes).map_or(0, |script| {
-        let records = script.records.iter();
+        let records = script.records().into_iter();
         records
             .filter(|record| record.operation == Operation::For)
             .count()

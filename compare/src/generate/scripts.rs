@@ -1,8 +1,8 @@
 //! Scripts of a wanted number of records, depth and nesting of binders.
 
 use super::random::Random;
-use crate::reference::limits::{BINDERS, DEPTH, DOCUMENTS, SCRIPT_RECORDS};
-use crate::reference::script::kind;
+use crate::oracle::limits::{BINDERS, DEPTH, DOCUMENTS, SCRIPT_RECORDS};
+use crate::oracle::script::kind;
 
 /// What a script is to look like.
 #[derive(Clone, Copy, Debug)]
@@ -239,15 +239,15 @@ impl Writer<'_> {
 #[cfg(test)]
 mod tests {
     use super::*;
-    use crate::reference::refusal::Number;
-    use crate::reference::script::read;
+    use crate::oracle::refusal::Number;
+    use crate::oracle::script::read;
 
     #[test]
     fn scripts_at_the_limits_are_accepted() {
         let mut random = Random::new(1);
         for _ in 0..200 {
             let script = read(&script(&mut random, Wanted::AT_LIMITS)).expect("within the limits");
-            assert_eq!(script.records.len(), SCRIPT_RECORDS);
+            assert_eq!(script.records().len(), SCRIPT_RECORDS);
         }
     }
 

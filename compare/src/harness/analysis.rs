@@ -7,10 +7,10 @@ use compare::generate::pairs::{self, Bodies};
 use compare::generate::random::Random;
 use compare::generate::scripts::{script, Wanted};
 use compare::interface::Answer;
-use compare::reference::analysis::{self, analyse_read};
-use compare::reference::path::{count_at_most, infer, Which};
-use compare::reference::script::{kind, read, Axis, Operation, Test};
-use compare::reference::small_trees::{Seen, SmallTrees};
+use compare::oracle::analysis::{self, by_unlisted_paths, can_be_listed};
+use compare::oracle::path::{count_at_most, infer, Which};
+use compare::oracle::script::{kind, read, Axis, Operation, Test};
+use compare::oracle::small_trees::{Seen, SmallTrees};
 
 use super::checker::{difference, document_says, Checker};
 use super::tally::Call;
@@ -18,7 +18,7 @@ use super::{on_stack, Difference, Volume};
 use crate::ffi;
 
 const SEED: u64 = 0x61;
-/// The most paths of a script for which they are listed.
+/// The most paths of a random script for which all small trees are tried.
 const FEW_PATHS: u64 = 60;
 /// All pairs of scripts of this many records from a small alphabet are tried.
 const ALL_RECORDS: usize = 2;
@@ -91,8 +91,8 @@ fn worked(checker: &mut Checker) -> Result<(), Difference> {
     Ok(())
 }
 
-/// Compares a pair in both orders: the answer is the same. Where the paths are
-/// few, it is also that of their explicit sets.
+/// Compares a pair in both orders: the answer is the same. Where the paths can
+/// be listed, it is also that of the oracle's second method.
 fn both_ways(checker: &mut Checker, first: &[u8], second: &[u8]) -> Result<(), Difference> {
     let answer = checker.analyse(first, second)?;
     let swapped = checker.analyse(second, first)?;
@@ -103,21 +103,22 @@ fn both_ways(checker: &mut Checker, first: &[u8], second: &[u8]) -> Result<(), D
         let message = "law broken: the answer depends on the order";
         return Err(difference(Call::Analyse, &[first, second], message));
     }
-    listed(answer, first, second)
+    methods_agree(answer, first, second)
 }
 
-/// Compares an answer with that of the explicit sets of paths, if these are
-/// small.
-fn listed(answer: Answer, first: &[u8], second: &[u8]) -> Result<(), Difference> {
+/// Compares an answer that the oracle has from its explicit sets of paths with
+/// its method that lists none.
+fn methods_agree(answer: Answer, first: &[u8], second: &[u8]) -> Result<(), Difference> {
     let (Ok(one), Ok(two)) = (read(first), read(second)) else {
         return Ok(());
     };
-    if count_at_most(&one) > FEW_PATHS || count_at_most(&two) > FEW_PATHS {
+    if !can_be_listed(&one) || !can_be_listed(&two) {
         return Ok(());
     }
-    let listed = analyse_read(&one, &two);
-    if Answer::analysed(listed) != answer {
-        let message = format!("the sets of paths say {}, not {answer:?}", listed.word());
+    let unlisted = by_unlisted_paths(&one, &two);
+    if Answer::analysed(unlisted) != answer {
+        let word = unlisted.word();
+        let message = format!("without listing paths the oracle says {word}, not {answer:?}");
         return Err(difference(Call::Analyse, &[first, second], &message));
     }
     Ok(())
@@ -305,7 +306,7 @@ fn small_pairs(
 fn updates(bytes: &[u8]) -> bool {
     let script = read(bytes).expect("within the limits");
     let has = |wanted: fn(Operation) -> bool| {
-        let mut operations = script.records.iter().map(|record| record.operation);
+        let mut operations = script.records().into_iter().map(|record| record.operation);
         operations.any(wanted)
     };
     has(|operation| matches!(operation, Operation::Delete | Operation::Insert))
@@ -327,7 +328,7 @@ fn random_small_pairs(checker: &mut Checker, random: &mut Random) -> Result<(), 
     for first in &known {
         for second in &known {
             let answer = tried(checker, &trees, first, second)?;
-            listed(answer, &first.bytes, &second.bytes)?;
+            methods_agree(answer, &first.bytes, &second.bytes)?;
         }
     }
     Ok(())
@@ -342,7 +343,7 @@ fn tried(
     first: &Known,
     second: &Known,
 ) -> Result<Answer, Difference> {
-    use compare::reference::analysis::Answer::{Free, Meet};
+    use compare::oracle::analysis::Answer::{Free, Meet};
     let answer = checker.analyse(&first.bytes, &second.bytes)?;
     let found = trees.find_meeting(&first.seen, &second.seen);
     let enough = trees.are_enough(&first.seen, &second.seen);

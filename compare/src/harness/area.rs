@@ -1,7 +1,7 @@
 //! Areas to lend, between guards and filled with a pattern, so that each byte
 //! that a call touches is seen.
 
-use compare::reference::limits::PLAN_BYTES;
+use compare::oracle::limits::PLAN_BYTES;
 
 use super::Difference;
 
@@ -25,17 +25,17 @@ pub fn out_lengths(stored: usize) -> impl Iterator<Item = usize> {
     needed.chain(others)
 }
 
-/// A twin area: one half for the library and one for the reference.
+/// A twin area: one half for the library and one for the oracle.
 pub struct Twin<T> {
     library: Vec<T>,
-    reference: Vec<T>,
+    oracle: Vec<T>,
 }
 
 impl<T: Copy + PartialEq + std::fmt::Debug> Twin<T> {
     pub const fn new() -> Twin<T> {
         Twin {
             library: Vec::new(),
-            reference: Vec::new(),
+            oracle: Vec::new(),
         }
     }
 
@@ -48,14 +48,14 @@ impl<T: Copy + PartialEq + std::fmt::Debug> Twin<T> {
         call: impl FnOnce(&mut [T], &mut [T]) -> A,
     ) -> (A, Result<(), Difference>) {
         self.fill(content, guard);
-        let (library, reference) = self.halves();
-        let answer = call(library, reference);
+        let (library, oracle) = self.halves();
+        let answer = call(library, oracle);
         (answer, self.compare())
     }
 
     /// Fills both halves with this content between guards.
     pub fn fill(&mut self, content: impl Iterator<Item = T> + Clone, guard: T) {
-        for half in [&mut self.library, &mut self.reference] {
+        for half in [&mut self.library, &mut self.oracle] {
             half.clear();
             half.extend([guard; GUARD]);
             half.extend(content.clone());
@@ -66,27 +66,24 @@ impl<T: Copy + PartialEq + std::fmt::Debug> Twin<T> {
     /// The two areas to lend, the library's first.
     pub fn halves(&mut self) -> (&mut [T], &mut [T]) {
         let end = self.library.len() - GUARD;
-        (
-            &mut self.library[GUARD..end],
-            &mut self.reference[GUARD..end],
-        )
+        (&mut self.library[GUARD..end], &mut self.oracle[GUARD..end])
     }
 
     /// Compares both halves, their guards included.
     pub fn compare(&self) -> Result<(), Difference> {
-        if self.library == self.reference {
+        if self.library == self.oracle {
             return Ok(());
         }
-        let mut pairs = self.library.iter().zip(&self.reference);
+        let mut pairs = self.library.iter().zip(&self.oracle);
         let place = pairs
-            .position(|(library, reference)| library != reference)
+            .position(|(library, oracle)| library != oracle)
             .expect("the halves differ");
         Err(format!(
-            "lent area of {} differs at {}: library {:?}, reference {:?}",
+            "lent area of {} differs at {}: library {:?}, oracle {:?}",
             self.library.len() - 2 * GUARD,
             place as isize - GUARD as isize,
             self.library[place],
-            self.reference[place]
+            self.oracle[place]
         ))
     }
 

@@ -1,9 +1,10 @@
 //! One comparison for each call: the answers, every lent area, and the laws.
 
-use compare::interface::{self, Answer, WHICH_PLAN};
+use compare::interface::{Answer, WHICH_PLAN};
+use compare::oracle::calls;
+use compare::oracle::limits::PLAN_BYTES;
+use compare::oracle::refusal::Refusal;
 use compare::raw::RawTable;
-use compare::reference::limits::PLAN_BYTES;
-use compare::reference::refusal::Refusal;
 
 use super::area::Twin;
 use super::tally::{Call, Tally};
@@ -84,13 +85,13 @@ impl Checker {
 
     /// Compares a call that takes a stored plan and answers one.
     fn stored(&mut self, call: Call, plan: &[u8], out_length: usize) -> Result<Answer, Difference> {
-        let (library, reference): (PlanCall, PlanCall) = match call {
-            Call::Plan => (ffi::plan, interface::plan),
-            _ => (ffi::sweep, interface::sweep),
+        let (library, oracle): (PlanCall, PlanCall) = match call {
+            Call::Plan => (ffi::plan, calls::plan),
+            _ => (ffi::sweep, calls::sweep),
         };
         let told = |message: &str| difference(call, &[plan], message);
         self.written(call, out_length, told, |ours, theirs| {
-            (library(plan, ours), reference(plan, theirs))
+            (library(plan, ours), oracle(plan, theirs))
         })
     }
 
@@ -116,7 +117,7 @@ impl Checker {
 
     /// Compares `yegnabit_script`.
     pub fn script(&mut self, script: &[u8]) -> Result<(), Difference> {
-        let answers = (ffi::script(script), interface::script(script));
+        let answers = (ffi::script(script), calls::script(script));
         compare(answers).map_err(|message| difference(Call::Script, &[script], &message))?;
         self.tally.count(Call::Script, answers.1);
         Ok(())
@@ -138,7 +139,7 @@ impl Checker {
         self.written(Call::Undo, out_length, told, |ours, theirs| {
             (
                 ffi::undo(plan, history, ours),
-                interface::undo(plan, history, theirs),
+                calls::undo(plan, history, theirs),
             )
         })
     }
@@ -162,10 +163,7 @@ impl Checker {
 
     /// Compares `yegnabit_analyse`.
     pub fn analyse(&mut self, first: &[u8], second: &[u8]) -> Result<Answer, Difference> {
-        let answers = (
-            ffi::analyse(first, second),
-            interface::analyse(first, second),
-        );
+        let answers = (ffi::analyse(first, second), calls::analyse(first, second));
         compare(answers)
             .map_err(|message| difference(Call::Analyse, &[first, second], &message))?;
         self.tally.count(Call::Analyse, answers.1);
@@ -184,7 +182,7 @@ impl Checker {
         let answer = self.written(Call::WriteTable, out_length, told, |ours, theirs| {
             (
                 ffi::write_table(raw.count, &raw.rows, &raw.marks, ours),
-                interface::write_table(raw.count, &raw.rows, &raw.marks, theirs),
+                calls::write_table(raw.count, &raw.rows, &raw.marks, theirs),
             )
         })?;
         if answer.number() == 0 {
@@ -220,7 +218,7 @@ impl Checker {
                     .lend(marks, GUARD_MARK, |our_marks, their_marks| {
                         (
                             ffi::sweep_table(raw.count, our_rows, our_marks),
-                            interface::sweep_table(raw.count, their_rows, their_marks),
+                            calls::sweep_table(raw.count, their_rows, their_marks),
                         )
                     })
             });
@@ -237,11 +235,11 @@ impl Checker {
     }
 }
 
-pub fn compare((library, reference): (Answer, Answer)) -> Result<(), Difference> {
-    if library == reference {
+pub fn compare((library, oracle): (Answer, Answer)) -> Result<(), Difference> {
+    if library == oracle {
         return Ok(());
     }
-    Err(format!("library {library:?}; reference {reference:?}"))
+    Err(format!("library {library:?}; oracle {oracle:?}"))
 }
 
 /// Compares an answer with the one that document 01 says.

@@ -1,4 +1,4 @@
-//! Comparisons of the library with the reference.
+//! Comparisons of the library with the oracle.
 
 mod analysis;
 mod area;

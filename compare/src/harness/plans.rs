@@ -4,8 +4,8 @@ use compare::cases;
 use compare::generate::damage::{self, Values};
 use compare::generate::random::Random;
 use compare::generate::{edges, plans};
-use compare::reference::limits::ROWS;
-use compare::reference::plan::to_vec;
+use compare::oracle::limits::ROWS;
+use compare::oracle::plan::to_vec;
 
 use super::area::out_lengths;
 use super::checker::Checker;

@@ -2,10 +2,10 @@
 
 use compare::generate::plans;
 use compare::generate::random::Random;
+use compare::oracle::limits::{DOCUMENTS, PLAN_BYTES, ROWS};
+use compare::oracle::plan::stored_length;
+use compare::oracle::table::Table;
 use compare::raw::{RawTable, LINK_UNIT, LINK_VALUES, TAG_UNIT};
-use compare::reference::limits::{DOCUMENTS, PLAN_BYTES, ROWS};
-use compare::reference::plan::stored_length;
-use compare::reference::table::Table;
 
 use super::area::out_lengths;
 use super::checker::Checker;

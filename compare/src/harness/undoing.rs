@@ -6,13 +6,11 @@ use compare::generate::histories::{append, long, of_changes, of_run, Recorded};
 use compare::generate::plans;
 use compare::generate::random::Random;
 use compare::interface::{Answer, WHICH_HISTORY};
-use compare::reference::history::{
-    Record, CUT_BYTES, ELEMENT_MADE, LEAF_MADE, LINK_CUT, MADE_BYTES,
-};
-use compare::reference::limits::{DOCUMENTS, HISTORY_RECORDS, NO_PARENT, PLAN_BYTES, ROWS};
-use compare::reference::plan::to_vec;
-use compare::reference::run::OwnedAreas;
-use compare::reference::table::{Row, Table};
+use compare::oracle::history::{Record, CUT_BYTES, ELEMENT_MADE, LEAF_MADE, LINK_CUT, MADE_BYTES};
+use compare::oracle::limits::{DOCUMENTS, HISTORY_RECORDS, NO_PARENT, PLAN_BYTES, ROWS};
+use compare::oracle::plan::to_vec;
+use compare::oracle::run::OwnedAreas;
+use compare::oracle::table::{Row, Table};
 
 use super::area::out_lengths;
 use super::checker::{difference, document_says, Checker};

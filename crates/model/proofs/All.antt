@@ -6,7 +6,7 @@ use Prim.Native.Nat.{ℕ, zero, suc, _<_}
 use native.Mathlib.Nat.{not-suc-le-zero, le-of-suc-le-suc}
 use lib.ListN.{length, getD}
 use Rattle.model.specs.Base.{All, nothing, also, filtered}
-use Rattle.model.proofs.BoolLaws.{pick-cases}
+use Rattle.model.proofs.BoolLaws.{cond-cases}
 
 module _ {A : Type 0} where
   pub all-append : {P : A → Type 0} {k l : List A} → All P k → All P l → All P (k ++ l)
@@ -25,7 +25,7 @@ module _ {A : Type 0} where
   pub all-filtered : {P : A → Type 0} {l : List A} (f : A → Bool) → All P l → All P (filtered f l)
   unfolding filtered
   all-filtered f nothing = nothing
-  all-filtered {P} f (also {a = x} p a) = let b = all-filtered f a in pick-cases (All P) (f x) (λ e. also p b) (λ e. b)
+  all-filtered {P} f (also {a = x} p a) = let b = all-filtered f a in cond-cases (All P) (f x) (λ e. also p b) (λ e. b)
 
   pub all-in : {P : A → Type 0} {l : List A} {a : A} → All P l → In a l → P a
   all-in {P} (also p b) (here e) = subst P (sym e) p

@@ -14,12 +14,12 @@ use Rattle.model.proofs.Words.{first-made}
 use Rattle.model.proofs.Labels.{Label, Fit}
 use Rattle.model.specs.Base.{nothing}
 use Rattle.model.proofs.Shift.{shift-low, shift-row-low}
-use Rattle.model.proofs.Twin.{Side, Script, SideFits, World, Good, φ, Twin, φRow}
+use Rattle.model.proofs.Twin.{Side, Script, SideFits, World, RunFrom, φ, Twin, φRow}
 use Rattle.model.proofs.Start.{Labelled}
 
 -- THE START of any world is a twin
-start-good : (c : Script) (d : Side) → SideFits c d → Good c d [] (state (d .plan) [])
-start-good c d F =
+runFrom-start : (c : Script) (d : Side) → SideFits c d → RunFrom c d [] (state (d .plan) [])
+runFrom-start c d F =
     record {
       fit = subst (λ ls. Fit ls (d .plan)) (sym (append-nil (d .labels))) (F .fit);
       marked = F .marked;
@@ -32,8 +32,8 @@ start-good c d F =
 pub start-twin : (W : World) → Twin W [] (state (W .one .plan) []) (state (W .two .plan) [])
 start-twin W =
     record {
-      one = start-good (W .script) (W .one) (W .oneFits);
-      two = start-good (W .script) (W .two) (W .twoFits);
+      one = runFrom-start (W .script) (W .one) (W .oneFits);
+      two = runFrom-start (W .script) (W .two) (W .twoFits);
       touched = nothing;
       alike = alike;
       histories = refl;

@@ -1,11 +1,11 @@
 -- What 'free' says: no upward step, and no path that one script modifies meets a path that the other accesses.
 use mathlib.Core.Path.{_≡_, refl, subst}
-use mathlib.Core.Bool.{Bool, true, false, _||_}
+use mathlib.Core.Bool.{Bool, true, false, _||_, cond}
 use mathlib.Core.Logic.{_⊎_, inl, inr}
 use mathlib.Core.List.{List, Memᴰ·append-left, Memᴰ·append-right, List·Memᴰ as In, List·Memᴰ·head as here, List·Memᴰ·tail as there}
 use Prim.Native.Nat.{ℕ}
 use native.Mathlib.Omega.{arith}
-use Rattle.model.specs.Base.{pick, any}
+use Rattle.model.specs.Base.{any}
 use Rattle.model.specs.Script.{Expr}
 use Rattle.model.specs.Paths.{Path, start, _▸_, Paths, pathsOf, prefixesOf, prefixed, traversed, hasUp}
 use Rattle.model.specs.Meeting.{meets, anyMeet, pathsMeet, free, upward, meet, answer}
@@ -45,7 +45,7 @@ pub record Apart (e f : Expr) : Type 0 where
 pub free-apart : (e f : Expr) → answer e f ≡ free → Apart e f
 free-apart e f h = go (hasUp e || hasUp f) (pathsMeet (pathsOf 1 e) (pathsOf 2 f)) refl refl h
   where
-    go : (u m : Bool) → (hasUp e || hasUp f) ≡ u → pathsMeet (pathsOf 1 e) (pathsOf 2 f) ≡ m → pick u upward (pick m meet free) ≡ free →
+    go : (u m : Bool) → (hasUp e || hasUp f) ≡ u → pathsMeet (pathsOf 1 e) (pathsOf 2 f) ≡ m → cond u upward (cond m meet free) ≡ free →
         Apart e f
     go true m a b c =
         let z : _≡_ {A = ℕ} 0 1 = cc in

@@ -23,7 +23,7 @@ use Rattle.model.proofs.Below.{OnPath, marked-once}
 use Rattle.model.proofs.All.{all-at}
 use Rattle.model.specs.Base.{All}
 use Rattle.model.proofs.Shift.{shiftRow, shift-low, shift-row-low}
-use Rattle.model.proofs.Twin.{Side, Script, SideFits, World, Touched, Kept, Good, Twin}
+use Rattle.model.proofs.Twin.{Side, Script, SideFits, World, Touched, Kept, RunFrom, Twin}
 use Rattle.model.proofs.TwinLaws.{touched-grow, label-high, label-side, one-count}
 use Rattle.model.proofs.Start.{Labelled}
 use Rattle.model.proofs.Apart.{Away}
@@ -41,7 +41,7 @@ pub record Left : Type 0 where
   pub away : Away (pathsOf owner ran) (pathsOf other next)
   pub news : List Label
   pub left : State
-  pub good : Good (scriptOf owner ran (plan .marks)) (aloneSide plan (well .labels)) news left
+  pub reached : RunFrom (scriptOf owner ran (plan .marks)) (aloneSide plan (well .labels)) news left
   pub touched : All (Touched (scriptOf owner ran (plan .marks))) news
 
 module _ (L : Left) where
@@ -107,7 +107,7 @@ module _ (L : Left) where
 
   -- WHAT IS LEFT: the plan's rows, and those that c made
   pub left-count : count (L .left .plan) ≡ count x + length (L .news)
-  left-count = omega (arith, L .good .fit .size, length-append ls (L .news), L .well .started .fit .size)
+  left-count = omega (arith, L .reached .fit .size, length-append ls (L .news), L .well .started .fit .size)
 
   plan-label : (i : ℕ) → i < count x → labelAt ms i ≡ labelAt ls i
   plan-label i h = label-side c (aloneSide x ls) (alone-fits (L .owner) (L .ran) x (L .well)) (L .news) i h
@@ -137,14 +137,14 @@ module _ (L : Left) where
 
   pub left-fits : SideFits d (side (L .left .plan) ms)
   left-fits =
-      side-fits (L .left .plan) ms (L .good .fit) (L .good .marked) (L .good .room)
+      side-fits (L .left .plan) ms (L .reached .fit) (L .reached .marked) (L .reached .room)
       (λ e i h.
       let (a, b) = L .well .rooted e i h in
       (omega (arith, a, left-count), plan-label i a ∙ b)) left-roots
 
   -- a row that c did not touch is as it was
   pub left-same : (i : ℕ) → i < count x → (Hidden x ls i → ⊥) → (rowAt (L .left .plan) i ≡ rowAt x i) × (labelAt ms i ≡ labelAt ls i)
-  left-same i h n = (go (L .good .kept i h), plan-label i h)
+  left-same i h n = (go (L .reached .kept i h), plan-label i h)
     where
       go : Kept c (labelAt ls i) (rowAt x i) (rowAt (L .left .plan) i) → rowAt (L .left .plan) i ≡ rowAt x i
       go (inl k) = k
@@ -196,7 +196,7 @@ module _ (L : Left) (made : List Label) (u t : State) (T : Twin (beside L) made 
       go (inl k) = k
       go (inr (k, (p, q, o), l)) =
           absurd (touched-apart L (labelAt (ms L) i) p (made-touched L i a (omega (arith, left-count L)))
-          (fit-proper (L .good .fit) i b) q o)
+          (fit-proper (L .reached .fit) i b) q o)
 
   module _ (i : ℕ) (h : i < count (x L)) where
     -- a row of the plan that the next script sees has its like

@@ -1,12 +1,12 @@
 -- Tests taken apart and put together: what follows from a computed 'and', 'or', 'not' or choice, and what each follows from.
 use mathlib.Core.Path.{_≡_, refl, sym}
-use mathlib.Core.Bool.{Bool, true, false, _&&_, _||_, true≢false, false≢true}
+use mathlib.Core.Bool.{Bool, true, false, _&&_, _||_, true≢false, false≢true, cond}
 use mathlib.Core.Logic.{_⊎_, inl, inr}
-use Prim.Native.Nat.{ℕ, _≤_}
+use Prim.Native.Nat.{ℕ, suc, _≤_}
 use native.Mathlib.Omega.{arith}
 use lib.Dec.{eqb}
 use borrow.Author.Tests.{eq-eqb, ne-eqb, eqb-true, eqb-false}
-use Rattle.model.specs.Base.{pick, bit}
+use Rattle.model.specs.Base.{bit}
 
 pub and-left : (a b : Bool) → (a && b) ≡ true → a ≡ true
 and-left true b e = refl
@@ -49,29 +49,29 @@ pub true-false : (a : Bool) → a ≡ true → a ≡ false → ⊥
 true-false true e f = true≢false f
 true-false false e f = false≢true e
 
-pub pick-true : {A : Type 0} (t : Bool) (x y : A) → t ≡ true → pick t x y ≡ x
-pick-true t x y e = rw e
+pub cond-true : {A : Type 0} (t : Bool) (x y : A) → t ≡ true → cond t x y ≡ x
+cond-true t x y e = rw e
 
-pub pick-false : {A : Type 0} (t : Bool) (x y : A) → t ≡ false → pick t x y ≡ y
-pick-false t x y e = rw e
+pub cond-false : {A : Type 0} (t : Bool) (x y : A) → t ≡ false → cond t x y ≡ y
+cond-false t x y e = rw e
 
 -- a choice by two numbers
-pub pick-eq : {A : Type 0} {m n : ℕ} (x y : A) → m ≡ n → pick (eqb m n) x y ≡ x
-pick-eq x y e = rw (eq-eqb _ _ e)
+pub cond-eq : {A : Type 0} {m n : ℕ} (x y : A) → m ≡ n → cond (eqb m n) x y ≡ x
+cond-eq x y e = rw (eq-eqb _ _ e)
 
-pub pick-ne : {A : Type 0} {m n : ℕ} (x y : A) → (m ≡ n → ⊥) → pick (eqb m n) x y ≡ y
-pick-ne x y h = rw (ne-eqb _ _ h)
+pub cond-ne : {A : Type 0} {m n : ℕ} (x y : A) → (m ≡ n → ⊥) → cond (eqb m n) x y ≡ y
+cond-ne x y h = rw (ne-eqb _ _ h)
 
 -- a property of a choice, from that of each side
-pub pick-cases : {A : Type 0} (P : A → Type 0) (t : Bool) {x y : A} → (t ≡ true → P x) → (t ≡ false → P y) → P (pick t x y)
-pick-cases P true f g = f refl
-pick-cases P false f g = g refl
+pub cond-cases : {A : Type 0} (P : A → Type 0) (t : Bool) {x y : A} → (t ≡ true → P x) → (t ≡ false → P y) → P (cond t x y)
+cond-cases P true f g = f refl
+cond-cases P false f g = g refl
 
 -- two choices by one test are related, from each side
-pub pick-related : {A : Type 0} (R : A → A → Type 0) (t : Bool) {x x′ y y′ : A} → (t ≡ true → R x x′) → (t ≡ false → R y y′) →
-    R (pick t x y) (pick t x′ y′)
-pick-related R true f g = f refl
-pick-related R false f g = g refl
+pub cond-related : {A : Type 0} (R : A → A → Type 0) (t : Bool) {x x′ y y′ : A} → (t ≡ true → R x x′) → (t ≡ false → R y y′) →
+    R (cond t x y) (cond t x′ y′)
+cond-related R true f g = f refl
+cond-related R false f g = g refl
 
 -- a proof by cases on a test
 pub by-cases : {P : Type 0} (t : Bool) → (t ≡ true → P) → (t ≡ false → P) → P
@@ -81,6 +81,10 @@ by-cases false f g = g refl
 -- on two numbers
 pub eq-cases : {P : Type 0} (m n : ℕ) → (m ≡ n → P) → ((m ≡ n → ⊥) → P) → P
 eq-cases m n f g = by-cases (eqb m n) (λ e. f (eqb-true m n e)) (λ e. g (eqb-false m n e))
+
+-- on a number that is at most another: it is that one, or at most the one before
+pub below : {P : Type 0} (k m : ℕ) → k ≤ suc m → (k ≡ suc m → P) → (k ≤ m → P) → P
+below k m h f g = eq-cases k (suc m) f (λ e. g (omega (arith, e)))
 
 -- two tests that follow from one another are equal
 pub bool-iff : (a b : Bool) → (a ≡ true → b ≡ true) → (b ≡ true → a ≡ true) → a ≡ b

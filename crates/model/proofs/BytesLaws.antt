@@ -1,6 +1,6 @@
 -- Stored records as bytes: numbers, rows and marks written and read back, and which document marked last.
 use mathlib.Core.Path.{_≡_, refl, sym}
-use mathlib.Core.Bool.{Bool, true, false}
+use mathlib.Core.Bool.{Bool, true, false, cond}
 use mathlib.Core.List.{List, [], _∷_, _++_, append-assoc, append-nil}
 use mathlib.Core.Option.{Option, none, some, Option·some-ne-none}
 use Prim.Native.Nat.{ℕ, zero, suc, _+_, _*_, _/_, _%_, _≤_, _<_}
@@ -9,24 +9,25 @@ use native.Mathlib.Omega.{arith}
 use lib.Dec.{leb, eqb}
 use lib.ListN.{length, getD, take, drop, set}
 use borrow.Author.Tests.{leb-true, leb-false, eqb-true, eqb-false, ne-eqb}
-use Rattle.model.specs.Base.{pick, areBytes}
+use Rattle.model.specs.Base.{maxByte, areBytes}
 use Rattle.model.specs.Table.{Row}
 use Rattle.model.specs.Stored.{IsWord, wordBytes, parentBytes, rowBytes, rowsBytes, markBytes, marksBytes, wordAt, parentIn, rowIn}
-use Rattle.model.specs.Stored.{lastMarked, elementKind, leafKind}
+use Rattle.model.specs.Stored.{noParent, lastMarked, elementKind, leafKind, isStoredKind, isMark}
 use Rattle.model.proofs.BoolLaws.{and-left, and-right}
+use Rattle.model.proofs.KindLaws.{row-kind}
 
 -- BYTES by index, and a list's first four
-pub areBytes-at : (b : List ℕ) → areBytes b ≡ true → (i : ℕ) → getD b i 0 ≤ 255
+pub areBytes-at : (b : List ℕ) → areBytes b ≡ true → (i : ℕ) → getD b i 0 ≤ maxByte
 unfolding areBytes
 areBytes-at [] h i = omega arith
-areBytes-at (a ∷ b) h zero = leb-true a 255 (and-left _ (areBytes b) h)
-areBytes-at (a ∷ b) h (suc i) = areBytes-at b (and-right (leb a 255) _ h) i
+areBytes-at (a ∷ b) h zero = leb-true a maxByte (and-left _ (areBytes b) h)
+areBytes-at (a ∷ b) h (suc i) = areBytes-at b (and-right (leb a maxByte) _ h) i
 
 pub areBytes-drop : (n : ℕ) (b : List ℕ) → areBytes b ≡ true → areBytes (drop n b) ≡ true
 unfolding areBytes
 areBytes-drop zero b h = h
 areBytes-drop (suc n) [] h = refl
-areBytes-drop (suc n) (a ∷ b) h = areBytes-drop n b (and-right (leb a 255) _ h)
+areBytes-drop (suc n) (a ∷ b) h = areBytes-drop n b (and-right (leb a maxByte) _ h)
 
 pub take-four : (b : List ℕ) → 4 ≤ length b → take 4 b ≡ getD b 0 0 ∷ getD b 1 0 ∷ getD b 2 0 ∷ getD b 3 0 ∷ []
 take-four [] l = absurd (omega arith)
@@ -39,7 +40,7 @@ take-four (a ∷ c ∷ d ∷ e ∷ b) l = refl
 pub word-back : (n : ℕ) → n % 256 + 256 * (n / 256) ≡ n
 word-back n = omega arith
 
-pub wordBytes-back : (low high : ℕ) → low ≤ 255 → high ≤ 255 → wordBytes (low + 256 * high) ≡ low ∷ high ∷ []
+pub wordBytes-back : (low high : ℕ) → low ≤ maxByte → high ≤ maxByte → wordBytes (low + 256 * high) ≡ low ∷ high ∷ []
 wordBytes-back a b h l =
     let p : (a + 256 * b) % 256 ≡ a = omega arith in
     let q : (a + 256 * b) / 256 ≡ b = omega arith in
@@ -48,16 +49,16 @@ wordBytes-back a b h l =
 pub parentIn-back : (p : Option ℕ) → IsWord p → (c : List ℕ) → parentIn (wordAt (parentBytes p ++ c) 0) ≡ p
 parentIn-back none h c = refl
 parentIn-back (some i) h c =
-    rw (word-back i, ne-eqb i 65535 (λ (e : i ≡ 65535). omega (arith, h i refl)))
+    rw (word-back i, ne-eqb i noParent (λ (e : i ≡ noParent). omega (arith, h i refl)))
 
-parentBytes-back : (low high : ℕ) → low ≤ 255 → high ≤ 255 → parentBytes (parentIn (low + 256 * high)) ≡ low ∷ high ∷ []
-parentBytes-back a b h l = go (eqb (a + 256 * b) 65535) refl
+parentBytes-back : (low high : ℕ) → low ≤ maxByte → high ≤ maxByte → parentBytes (parentIn (low + 256 * high)) ≡ low ∷ high ∷ []
+parentBytes-back a b h l = go (eqb (a + 256 * b) noParent) refl
   where
-    go : (t : Bool) → eqb (a + 256 * b) 65535 ≡ t → parentBytes (parentIn (a + 256 * b)) ≡ a ∷ b ∷ []
+    go : (t : Bool) → eqb (a + 256 * b) noParent ≡ t → parentBytes (parentIn (a + 256 * b)) ≡ a ∷ b ∷ []
     go true e =
-        let k = eqb-true (a + 256 * b) 65535 e in
-        let p : 255 ≡ a = omega arith in
-        let q : 255 ≡ b = omega arith in
+        let k = eqb-true (a + 256 * b) noParent e in
+        let p : maxByte ≡ a = omega arith in
+        let q : maxByte ≡ b = omega arith in
         rw e (cc)
     go false e = rw e (wordBytes-back a b h l)
 
@@ -71,21 +72,17 @@ rowIn-back r h c =
     let p : parentIn (wordAt (parentBytes (r .parent) ++ c) 0) ≡ r .parent = parentIn-back (r .parent) h c in
     λ i. record { isLeaf = kind (r .isLeaf) i; tag = r .tag; parent = p i }
   where
-    kind : (t : Bool) → eqb (pick t leafKind elementKind) leafKind ≡ t
+    kind : (t : Bool) → eqb (cond t leafKind elementKind) leafKind ≡ t
     kind true = refl
     kind false = refl
 
-pub rowBytes-back : (b : List ℕ) → areBytes b ≡ true → 4 ≤ length b → elementKind ≤ getD b 0 0 → getD b 0 0 ≤ leafKind →
+pub rowBytes-back : (b : List ℕ) → areBytes b ≡ true → 4 ≤ length b → isStoredKind (getD b 0 0) ≡ true → isMark b ≡ false →
     rowBytes (rowIn b) ≡ take 4 b
-rowBytes-back b h l low high =
+rowBytes-back b h l q m =
     let p : parentBytes (parentIn (wordAt b 2)) ≡ getD b 2 0 ∷ getD b 3 0 ∷ [] =
     parentBytes-back (getD b 2 0) (getD b 3 0) (areBytes-at b h 2) (areBytes-at b h 3) in
-    let k : pick (eqb (getD b 0 0) leafKind) leafKind elementKind ≡ getD b 0 0 = kind (eqb (getD b 0 0) leafKind) refl in
+    let k : cond (eqb (getD b 0 0) leafKind) leafKind elementKind ≡ getD b 0 0 = row-kind (getD b 0 0) q m (λ e. rw e) (λ e. rw e) in
     cc (take-four b l)
-  where
-    kind : (t : Bool) → eqb (getD b 0 0) leafKind ≡ t → pick (eqb (getD b 0 0) leafKind) leafKind elementKind ≡ getD b 0 0
-    kind true e = rw e (sym (eqb-true _ _ e))
-    kind false e = rw e (omega (arith, eqb-false (getD b 0 0) leafKind e))
 
 pub rowsBytes-snoc : (rs : List Row) (r : Row) → rowsBytes (rs ++ (r ∷ [])) ≡ rowsBytes rs ++ rowBytes r
 unfolding rowsBytes

@@ -1,13 +1,12 @@
 -- Cells are complete: where the cell of two paths says that they meet, they start at one place and some word is spelled by both; from a
--- document it is a good one.
+-- document it leads to a row.
 use mathlib.Core.Path.{_≡_, sym, ap, _∙_}
-use mathlib.Core.Bool.{Bool, true, false, _&&_, _||_, not, false≢true}
+use mathlib.Core.Bool.{Bool, true, false, _&&_, _||_, not, false≢true, cond}
 use mathlib.Core.Logic.{_⊎_, inl, inr}
 use mathlib.Core.List.{[], _∷_}
 use Prim.Native.Nat.{ℕ}
 use lib.Dec.{eqb}
 use borrow.Author.Tests.{eqb-true}
-use Rattle.model.specs.Base.{pick}
 use Rattle.model.specs.Script.{Step}
 use Rattle.model.specs.Paths.{Place, Path, start, _▸_, placeOf}
 use Rattle.model.specs.Meeting.{admitsElement, admitsLeaf, shareElement, shareLeaf, isDeep, Cell, samePlace, isConstructor}
@@ -16,7 +15,7 @@ use Rattle.model.proofs.BoolLaws.{or-cases, true-false}
 use Rattle.model.proofs.TestLaws.{and-parts, parent-cases}
 use Rattle.model.proofs.Words.{Word, Grown, same, more}
 use Rattle.model.proofs.PathLaws.{StepFits, PathFits, starts, steps}
-use Rattle.model.proofs.Spells.{Spells, spelled, deep, spells-child, root, Good, toElement, good-elements, admitsKind}
+use Rattle.model.proofs.Spells.{Spells, spelled, deep, spells-child, root, WordTo, toElement, wordTo-elements, admitsKind}
 use Rattle.model.proofs.Spells.{LetterForBoth, letter-for, letter-for-both}
 
 -- a word of kind z that both paths spell; and one that p spells, at or below a word that q spells
@@ -24,7 +23,7 @@ pub record Meets (z : Bool) (p q : Path) : Type 0 where
   pub word : Word
   pub one : Spells p word
   pub two : Spells q word
-  pub good : placeOf p .owner ≡ 0 → Good z word
+  pub leads : placeOf p .owner ≡ 0 → WordTo z word
   pub together : placeOf p ≡ placeOf q
 
 pub record Lies (z : Bool) (p q : Path) : Type 0 where
@@ -33,7 +32,7 @@ pub record Lies (z : Bool) (p q : Path) : Type 0 where
   pub low : Spells p word
   pub high : Spells q upper
   pub grown : Grown upper word
-  pub good : placeOf p .owner ≡ 0 → Good z word
+  pub leads : placeOf p .owner ≡ 0 → WordTo z word
   pub together : placeOf p ≡ placeOf q
 
 meets-lies : {z : Bool} {p q : Path} → Meets z p q → Lies z p q
@@ -43,7 +42,7 @@ meets-lies m = record {
   low = m .one;
   high = m .two;
   grown = same;
-  good = m .good;
+  leads = m .leads;
   together = m .together;
 }
 
@@ -52,7 +51,7 @@ meets-turned m = record {
   word = m .word;
   one = m .two;
   two = m .one;
-  good = λ k. m .good (ap (λ (p : Place). p .owner) (m .together) ∙ k);
+  leads = λ k. m .leads (ap (λ (p : Place). p .owner) (m .together) ∙ k);
   together = sym (m .together);
 }
 
@@ -67,7 +66,7 @@ lies-below z p q s f e l =
       low = spells-child (l .low) f (a .passes);
       high = l .high;
       grown = more (l .grown);
-      good = λ k. a .ends (l .word) (good-elements (l .good k));
+      leads = λ k. a .ends (l .word) (wordTo-elements (l .leads k));
       together = l .together;
     }
 
@@ -81,7 +80,7 @@ lies-past z p q s f e d l =
       low = deep (l .high) (l .grown) (eqb-true (s .axis) 1 d) (a .passes);
       high = l .low;
       grown = more same;
-      good = λ k. a .ends (l .word) (good-elements (l .good (ap (λ (p : Place). p .owner) (l .together) ∙ k)));
+      leads = λ k. a .ends (l .word) (wordTo-elements (l .leads (ap (λ (p : Place). p .owner) (l .together) ∙ k)));
       together = sym (l .together);
     }
 
@@ -94,7 +93,7 @@ meets-below f g a m =
       word = a .letter ∷ m .word;
       one = spells-child (m .one) f (a .passes);
       two = spells-child (m .two) g (a .passesToo);
-      good = λ k. a .ends (m .word) (good-elements (m .good k));
+      leads = λ k. a .ends (m .word) (wordTo-elements (m .leads k));
       together = m .together;
     }
 
@@ -106,7 +105,7 @@ meets-past {t} f d a l =
       word = a .letter ∷ l .word;
       one = spells-child (l .low) f (a .passes);
       two = deep (l .high) (l .grown) (eqb-true (t .axis) 1 d) (a .passesToo);
-      good = λ k. a .ends (l .word) (good-elements (l .good k));
+      leads = λ k. a .ends (l .word) (wordTo-elements (l .leads k));
       together = l .together;
     }
 
@@ -115,40 +114,40 @@ letter-turned a = record { letter = a .letter; ends = a .ends; passes = a .passe
 
 -- CELLS: what each field says
 pub record Found (p q : Path) (c : Cell) : Type 0 where
-  pub on : (z : Bool) → pick z (c .onLeaf) (c .onElement) ≡ true → Meets z p q
-  pub down : (z : Bool) → pick z (c .downLeaf) (c .downElement) ≡ true → Lies z p q
-  pub up : (z : Bool) → pick z (c .upLeaf) (c .upElement) ≡ true → Lies z q p
+  pub on : (z : Bool) → cond z (c .onLeaf) (c .onElement) ≡ true → Meets z p q
+  pub down : (z : Bool) → cond z (c .downLeaf) (c .downElement) ≡ true → Lies z p q
+  pub up : (z : Bool) → cond z (c .upLeaf) (c .upElement) ≡ true → Lies z q p
 
-pick-and-parts : (z a b x : Bool) → pick z (a && x) (b && x) ≡ true → (pick z a b ≡ true) × (x ≡ true)
-pick-and-parts true a b x h = and-parts a x h
-pick-and-parts false a b x h = and-parts b x h
+cond-and-parts : (z a b x : Bool) → cond z (a && x) (b && x) ≡ true → (cond z a b ≡ true) × (x ≡ true)
+cond-and-parts true a b x h = and-parts a x h
+cond-and-parts false a b x h = and-parts b x h
 
-pick-or : (z a b c d : Bool) → pick z (a || c) (b || d) ≡ true → (pick z a b ≡ true) ⊎ (pick z c d ≡ true)
-pick-or true a b c d h = or-cases a c h
-pick-or false a b c d h = or-cases b d h
+cond-or : (z a b c d : Bool) → cond z (a || c) (b || d) ≡ true → (cond z a b ≡ true) ⊎ (cond z c d ≡ true)
+cond-or true a b c d h = or-cases a c h
+cond-or false a b c d h = or-cases b d h
 
-pick-neither : (z : Bool) → pick z false false ≡ true → ⊥
-pick-neither true h = false≢true h
-pick-neither false h = false≢true h
+cond-neither : (z : Bool) → cond z false false ≡ true → ⊥
+cond-neither true h = false≢true h
+cond-neither false h = false≢true h
 
 -- down from p ▸ s to q, and by the mirror image up
 lies-step : (z : Bool) (p q : Path) (s : Step) (c d : Bool) → StepFits s → (c ≡ true → Lies false p q) → (d ≡ true → Lies false q p) →
-    pick z (admitsLeaf s && (c || (isDeep s && d))) (admitsElement s && (c || (isDeep s && d))) ≡ true → Lies z (p ▸ s) q
+    cond z (admitsLeaf s && (c || (isDeep s && d))) (admitsElement s && (c || (isDeep s && d))) ≡ true → Lies z (p ▸ s) q
 lies-step z p q s c d f h k e =
-    let a = pick-and-parts z (admitsLeaf s) (admitsElement s) (c || (isDeep s && d)) e in
+    let a = cond-and-parts z (admitsLeaf s) (admitsElement s) (c || (isDeep s && d)) e in
     elim (or-cases c (isDeep s && d) (a .1)) [
       | inl i ↦ lies-below z p q s f (a .0) (h i)
       | inr i ↦ let b = and-parts (isDeep s) d i in lies-past z p q s f (a .0) (b .0) (k (b .1))
     ]
 
-pick-after : (z x a b : Bool) → pick z (x && a) (x && b) ≡ true → (x ≡ true) × (pick z a b ≡ true)
-pick-after true x a b h = and-parts x a h
-pick-after false x a b h = and-parts x b h
+cond-after : (z x a b : Bool) → cond z (x && a) (x && b) ≡ true → (x ≡ true) × (cond z a b ≡ true)
+cond-after true x a b h = and-parts x a h
+cond-after false x a b h = and-parts x b h
 
 meets-step : (z : Bool) (p q : Path) (s t : Step) (c : Cell) → StepFits s → StepFits t → Found p q c →
-    pick z (isParent s t c && shareLeaf s t) (isParent s t c && shareElement s t) ≡ true → Meets z (p ▸ s) (q ▸ t)
+    cond z (isParent s t c && shareLeaf s t) (isParent s t c && shareElement s t) ≡ true → Meets z (p ▸ s) (q ▸ t)
 meets-step z p q s t c f g h e =
-    let k = pick-after z (isParent s t c) (shareLeaf s t) (shareElement s t) e in
+    let k = cond-after z (isParent s t c) (shareLeaf s t) (shareElement s t) e in
     let a = letter-for-both z s t f g (k .1) in
     parent-cases s t c (k .0) (λ i. meets-below f g a (h .on false i)) (λ d i. meets-past f d a (h .down false i))
     (λ d i. meets-turned (meets-past g d (letter-turned a) (h .up false i)))
@@ -161,7 +160,7 @@ place-eq p q e =
     let b : p .number ≡ q .number = eqb-true _ _ (k .1) in
     λ i. record { owner = a i; number = b i }
 
-meets-start : (p q : Place) (z : Bool) → pick z (samePlace p q && isConstructor p) (samePlace p q) ≡ true → Meets z (start p) (start q)
+meets-start : (p q : Place) (z : Bool) → cond z (samePlace p q && isConstructor p) (samePlace p q) ≡ true → Meets z (start p) (start q)
 unfolding placeOf
 meets-start p q true e =
     let k = and-parts (samePlace p q) (isConstructor p) e in
@@ -169,11 +168,11 @@ meets-start p q true e =
       word = [];
       one = spelled;
       two = spelled;
-      good = λ o. absurd (true-false _ (k .1) (ap (λ (n : ℕ). not (eqb n 0)) o));
+      leads = λ o. absurd (true-false _ (k .1) (ap (λ (n : ℕ). not (eqb n 0)) o));
       together = place-eq p q (k .0);
     }
 meets-start p q false e =
-    record { word = []; one = spelled; two = spelled; good = λ o. toElement root; together = place-eq p q e }
+    record { word = []; one = spelled; two = spelled; leads = λ o. toElement root; together = place-eq p q e }
 
 module _ {o : ℕ} where
   start-found : (p : Place) (q : Path) → PathFits o q → Found (start p) q (startCells p q)
@@ -186,8 +185,8 @@ module _ {o : ℕ} where
   start-found p q (steps {p = d} {s = t} h f) =
       let r = start-found p d h in
       record {
-        on = λ z e. absurd (pick-neither z e);
-        down = λ z e. absurd (pick-neither z e);
+        on = λ z e. absurd (cond-neither z e);
+        down = λ z e. absurd (cond-neither z e);
         up = λ z e.
             lies-step z d (start p) t (startCells p d .upElement) (startCells p d .downElement) f (r .up false) (r .down false) e;
       }
@@ -195,11 +194,11 @@ module _ {o : ℕ} where
   module _ (p : Path) (s : Step) (f : StepFits s) (c : Path → Cell) (k : (q : Path) → PathFits o q → Found p q (c q)) where
     -- the three parts of the join
     step-on : (z : Bool) (q : Path) (t : Step) → PathFits o q → StepFits t →
-        pick z (onStep s t (c q) .onLeaf) (onStep s t (c q) .onElement) ≡ true → Meets z (p ▸ s) (q ▸ t)
+        cond z (onStep s t (c q) .onLeaf) (onStep s t (c q) .onElement) ≡ true → Meets z (p ▸ s) (q ▸ t)
     step-on z q t h g e = meets-step z p q s t (c q) f g (k q h) e
 
     step-down : (z : Bool) (q : Path) → PathFits o q →
-        pick z (downStep s (c q) .downLeaf) (downStep s (c q) .downElement) ≡ true → Lies z (p ▸ s) q
+        cond z (downStep s (c q) .downLeaf) (downStep s (c q) .downElement) ≡ true → Lies z (p ▸ s) q
     step-down z q h e =
         lies-step z p q s (c q .downElement) (c q .upElement) f (k q h .down false) (k q h .up false) e
 
@@ -216,26 +215,26 @@ module _ {o : ℕ} where
         u : Cell
         u = upStep t v
 
-        on : (z : Bool) → pick z (joinCell a (joinCell b u) .onLeaf) (joinCell a (joinCell b u) .onElement) ≡ true →
+        on : (z : Bool) → cond z (joinCell a (joinCell b u) .onLeaf) (joinCell a (joinCell b u) .onElement) ≡ true →
             Meets z (p ▸ s) (q ▸ t)
-        on z e = elim (pick-or z (a .onLeaf) (a .onElement) false false e) [
+        on z e = elim (cond-or z (a .onLeaf) (a .onElement) false false e) [
           | inl i ↦ step-on z q t h g i
-          | inr i ↦ absurd (pick-neither z i)
+          | inr i ↦ absurd (cond-neither z i)
         ]
 
-        down : (z : Bool) → pick z (joinCell a (joinCell b u) .downLeaf) (joinCell a (joinCell b u) .downElement) ≡ true →
+        down : (z : Bool) → cond z (joinCell a (joinCell b u) .downLeaf) (joinCell a (joinCell b u) .downElement) ≡ true →
             Lies z (p ▸ s) (q ▸ t)
-        down z e = elim (pick-or z (a .downLeaf) (a .downElement) (b .downLeaf || false) (b .downElement || false) e) [
+        down z e = elim (cond-or z (a .downLeaf) (a .downElement) (b .downLeaf || false) (b .downElement || false) e) [
           | inl i ↦ meets-lies (step-on z q t h g i)
-          | inr i ↦ elim (pick-or z (b .downLeaf) (b .downElement) false false i) [
+          | inr i ↦ elim (cond-or z (b .downLeaf) (b .downElement) false false i) [
             | inl j ↦ step-down z (q ▸ t) (steps h g) j
-            | inr j ↦ absurd (pick-neither z j)
+            | inr j ↦ absurd (cond-neither z j)
           ]
         ]
 
-        up : (z : Bool) → pick z (joinCell a (joinCell b u) .upLeaf) (joinCell a (joinCell b u) .upElement) ≡ true →
+        up : (z : Bool) → cond z (joinCell a (joinCell b u) .upLeaf) (joinCell a (joinCell b u) .upElement) ≡ true →
             Lies z (q ▸ t) (p ▸ s)
-        up z e = elim (pick-or z (a .upLeaf) (a .upElement) (false || u .upLeaf) (false || u .upElement) e) [
+        up z e = elim (cond-or z (a .upLeaf) (a .upElement) (false || u .upLeaf) (false || u .upElement) e) [
           | inl i ↦ meets-lies (meets-turned (step-on z q t h g i))
           | inr i ↦ lies-step z q (p ▸ s) t (v .upElement) (v .downElement) g (r .up false) (r .down false) i
         ]
@@ -243,9 +242,9 @@ module _ {o : ℕ} where
     step-found : (q : Path) → PathFits o q → Found (p ▸ s) q (stepCells s c q)
     unfolding stepCells
     step-found q (starts {p = d} h) = record {
-      on = λ z e. absurd (pick-neither z e);
+      on = λ z e. absurd (cond-neither z e);
       down = λ z e. step-down z (start d) (starts h) e;
-      up = λ z e. absurd (pick-neither z e);
+      up = λ z e. absurd (cond-neither z e);
     }
     step-found q (steps {p = d} {s = t} h g) = join-found d t (stepCells s c d) h g (step-found d h)
 

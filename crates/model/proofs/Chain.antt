@@ -1,7 +1,7 @@
 -- A plan for a word: a document's root and one row below the other, letter by letter. It is a tree, and a path that spells a part of the
 -- word has that part's row on it.
 use mathlib.Core.Path.{_≡_, refl, sym, ap, _∙_, subst}
-use mathlib.Core.Bool.{Bool, true, false, false≢true}
+use mathlib.Core.Bool.{Bool, true, false, false≢true, cond}
 use mathlib.Core.List.{List, [], _∷_, List·Memᴰ as In}
 use mathlib.Core.Option.{Option, none, some, Option·none-ne-some}
 use Prim.Native.Nat.{ℕ, zero, suc, _≤_, _<_}
@@ -9,7 +9,6 @@ use native.Mathlib.Omega.{arith}
 use lib.Dec.{eqb}
 use lib.ListN.{length, getD}
 use borrow.Author.Tests.{eqb-true, lt-ltb}
-use Rattle.model.specs.Base.{pick}
 use Rattle.model.specs.Table.{Row, Table, table, rowAt, count, isThe, hasParent, withRow, tagFits, parentFits, Tree}
 use Rattle.model.specs.Script.{Step}
 use Rattle.model.specs.Step.{Letter, leafLetter, named, letterOf, admits, isReached}
@@ -21,7 +20,7 @@ use Rattle.model.proofs.GrowLaws.{count-withRow, rowAt-withRow-old, row
 use Rattle.model.proofs.Words.{Word, Grown, same, more, grown-trans}
 use Rattle.model.proofs.Below.{Below, under, further}
 use Rattle.model.proofs.Reach.{Reach, byChild, byDeep, is-reach}
-use Rattle.model.proofs.Spells.{Spells, spelled, child, deep, Elements, root, below, Good, toElement, toLeaf}
+use Rattle.model.proofs.Spells.{Spells, spelled, child, deep, Elements, root, below, WordTo, toElement, toLeaf}
 use Rattle.model.proofs.RowsOn.{in-collect, start-rows, step-rows}
 
 -- THE MARK: document d alone, on row 0
@@ -124,19 +123,19 @@ unfolding chain
 chain-elements d root = chain-tree-root d
 chain-elements d (below {n} {w} h e) = tree-withRow (chain d w) (rowOf (named n) (some (length w))) (chain-elements d e) h (chain-fits d e)
 
-pub chain-tree : (d : ℕ) {z : Bool} {w : Word} → Good z w → Tree (chain d w)
+pub chain-tree : (d : ℕ) {z : Bool} {w : Word} → WordTo z w → Tree (chain d w)
 unfolding chain
 chain-tree d (toElement e) = chain-elements d e
 chain-tree d (toLeaf {w} e) = tree-withRow (chain d w) (rowOf leafLetter (some (length w))) (chain-elements d e) refl (chain-fits d e)
 
 -- PLACES by marks alone
 abbrev pub byMarks : List (Option ℕ) → Places
-byMarks ms p i = pick (eqb (p .owner) 0) (isThe i (getD ms (p .number) none)) false
+byMarks ms p i = cond (eqb (p .owner) 0) (isThe i (getD ms (p .number) none)) false
 
 byMarks-at : (ms : List (Option ℕ)) (p : Place) (i : ℕ) → byMarks ms p i ≡ true → (p .owner ≡ 0) × (getD ms (p .number) none ≡ some i)
 byMarks-at ms p i h = go (eqb (p .owner) 0) refl h
   where
-    go : (t : Bool) → eqb (p .owner) 0 ≡ t → pick t (isThe i (getD ms (p .number) none)) false ≡ true →
+    go : (t : Bool) → eqb (p .owner) 0 ≡ t → cond t (isThe i (getD ms (p .number) none)) false ≡ true →
         (p .owner ≡ 0) × (getD ms (p .number) none ≡ some i)
     go true e k = (eqb-true _ _ e, isThe-at i _ k)
     go false e k = absurd (false≢true k)

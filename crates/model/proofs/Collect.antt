@@ -1,14 +1,14 @@
 -- The rows that pass a test, in rising number: what a step computes. Two such lists agree where their tests do.
 use mathlib.Core.Path.{_≡_, refl, sym, _∙_, ap, ap₂}
-use mathlib.Core.Bool.{Bool, true, false}
+use mathlib.Core.Bool.{Bool, true, false, cond}
 use mathlib.Core.List.{[], _∷_, _++_, map, append-nil, map-append}
 use Prim.Native.Nat.{ℕ, zero, suc, _+_, _<_, _≤_}
 use native.Mathlib.Nat.{zero-add, suc-add, add-zero, add-suc}
 use native.Mathlib.Omega.{arith}
-use Rattle.model.specs.Base.{pick, All, nothing, also}
+use Rattle.model.specs.Base.{All, nothing, also}
 use Rattle.model.specs.Step.{collect}
-use Rattle.model.proofs.BoolLaws.{pick-cases}
-use Rattle.model.proofs.ListLaws.{pick-append, pick-map}
+use Rattle.model.proofs.BoolLaws.{cond-cases}
+use Rattle.model.proofs.ListLaws.{cond-append, cond-map}
 use Rattle.model.proofs.Shift.{shift, shift-low, shift-high}
 
 -- what passes the test
@@ -17,14 +17,14 @@ unfolding collect
 collect-all f i zero h = nothing
 collect-all {P} f i (suc n) h =
     let a = collect-all f (suc i) n (λ j k e. h j (omega arith) e) in
-    pick-cases (All P) (f i) (λ e. also (h i (omega arith) e) a) (λ e. a)
+    cond-cases (All P) (f i) (λ e. also (h i (omega arith) e) a) (λ e. a)
 
 -- two tests that agree collect the same
 pub collect-same : (f g : ℕ → Bool) (i n : ℕ) → ((j : ℕ) → j < i + n → f j ≡ g j) → collect f i n ≡ collect g i n
 unfolding collect
 collect-same f g i zero h = refl
 collect-same f g i (suc n) h =
-    ap₂ (λ z l. pick z (i ∷ l) l) (h i (omega arith)) (collect-same f g (suc i) n (λ j k. h j (omega arith)))
+    ap₂ (λ z l. cond z (i ∷ l) l) (h i (omega arith)) (collect-same f g (suc i) n (λ j k. h j (omega arith)))
 
 -- JOINED
 pub collect-append : (f : ℕ → Bool) (i a b : ℕ) → collect f i (a + b) ≡ collect f i a ++ collect f (i + a) b
@@ -32,9 +32,9 @@ unfolding collect
 collect-append f i zero b = rw (zero-add, add-zero)
 collect-append f i (suc a) b =
     rw (suc-add a b, add-suc i a)
-    (ap (λ l. pick (f i) (i ∷ l) l)
+    (ap (λ l. cond (f i) (i ∷ l) l)
     (collect-append f (suc i) a b ∙ ap (λ k. collect f (suc i) a ++ collect f k b) (suc-add i a)) ∙
-    pick-append (f i) i (collect f (suc i) a) (collect f (suc (i + a)) b))
+    cond-append (f i) i (collect f (suc i) a) (collect f (suc (i + a)) b))
 
 pub collect-none : (f : ℕ → Bool) (i n : ℕ) → ((j : ℕ) → i ≤ j → j < i + n → f j ≡ false) → collect f i n ≡ []
 unfolding collect
@@ -53,7 +53,7 @@ collect-raise f g h i c (suc n) k =
     let r : map h (collect f (suc i) n) ≡ collect g (suc (i + c)) n =
     collect-raise f g h (suc i) c n (λ j p q. k j (omega arith) (omega arith)) ∙
     ap (λ m. collect g m n) (suc-add i c) in
-    pick-map h (f i) i (collect f (suc i) n) ∙ rw (a .0, a .1, r)
+    cond-map h (f i) i (collect f (suc i) n) ∙ rw (a .0, a .1, r)
 
 -- THE TWO LISTS: tests that agree up to the shift, the second passing none of the rows in between
 pub collect-shift : (f g : ℕ → Bool) (n m k : ℕ) → ((j : ℕ) → j < n + k → f j ≡ g (shift n m j)) →

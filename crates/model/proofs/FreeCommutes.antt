@@ -8,10 +8,10 @@ use Prim.Native.Nat.{ℕ, _+_, _-_, _<_}
 use native.Mathlib.Omega.{arith}
 use lib.ListN.{length, getD}
 use Rattle.model.specs.Limits.{maxRows}
-use Rattle.model.specs.Refusal.{Fault}
+use Rattle.model.specs.Refusal.{Refusal}
 use Rattle.model.specs.Table.{Table, count}
 use Rattle.model.specs.Script.{Expr}
-use Rattle.model.specs.Run.{State, state, Out, stop, gives, runOn}
+use Rattle.model.specs.Run.{State, state, Out, refused, gives, runOn}
 use Rattle.model.specs.Paths.{Path, pathsOf, hasUp}
 use Rattle.model.specs.Promise.{tableOf, answerOf, historyOf, ends, newRows, matchedParent, matchedAll, matchedHistory, PlansEqual}
 use Rattle.model.specs.Promise.{FreeCommutes}
@@ -20,7 +20,7 @@ use Rattle.model.proofs.Labels.{Label}
 use Rattle.model.proofs.All.{all-imp}
 use Rattle.model.specs.Base.{All}
 use Rattle.model.proofs.Shift.{shift, shiftRecord}
-use Rattle.model.proofs.Twin.{World, Touched, Named, Good, φ, Twin, Vals, stopped, passed, Sim, both, alike, full}
+use Rattle.model.proofs.Twin.{World, Touched, Named, RunFrom, φ, Twin, Vals, stopped, passed, Sim, both, alike, full}
 use Rattle.model.proofs.Simulation.{script-sim}
 use Rattle.model.proofs.Start.{Labelled, labelled-by}
 use Rattle.model.proofs.Apart.{Away, Apart, free-apart}
@@ -42,7 +42,7 @@ module _ (W : World) (r : List Path) where
   gives-state : {v w : List ℕ} {s t : State} → gives v s ≡ gives w t → s ≡ t
   gives-state e = cc
 
-  stop-gives : {z : Fault} {v : List ℕ} {s : State} → stop z ≡ gives v s → ⊥
+  stop-gives : {z : Refusal} {v : List ℕ} {s : State} → refused z ≡ gives v s → ⊥
   stop-gives e = true≢false (sym (ap ends e))
 
   sim-ended : {o o′ : Out} → Sim W r [] o o′ → (v : List ℕ) (s : State) → o ≡ gives v s → Ended o′ v s
@@ -65,7 +65,7 @@ module _ (W : World) (r : List Path) where
 
 -- ALONE: what a script leaves
 run-alone : (o : ℕ) (e : Expr) (x : Table) (w : Labelled x) → hasUp e ≡ false → (v : List ℕ) (s : State) → runOn x e ≡ gives v s →
-    (news : List Label) × Good (scriptOf o e (x .marks)) (aloneSide x (w .labels)) news s × All (Touched (scriptOf o e (x .marks))) news
+    (news : List Label) × RunFrom (scriptOf o e (x .marks)) (aloneSide x (w .labels)) news s × All (Touched (scriptOf o e (x .marks))) news
 run-alone o e x w u v s h =
     go
     (sim-ended (alone o e x w) (pathsOf o e .result)
@@ -73,7 +73,7 @@ run-alone o e x w u v s h =
     (λ p i. i) (start-twin (alone o e x w))) v s h)
   where
     go : Ended (alone o e x w) (pathsOf o e .result) (runOn x e) v s →
-        (news : List Label) × Good (scriptOf o e (x .marks)) (aloneSide x (w .labels)) news s ×
+        (news : List Label) × RunFrom (scriptOf o e (x .marks)) (aloneSide x (w .labels)) news s ×
         All (Touched (scriptOf o e (x .marks))) news
     go (inl (t, news, k, T, a)) = (news, T .one, T .touched)
     go (inr (k, l, m)) = absurd (omega arith)
@@ -93,7 +93,7 @@ leftBy o q n e f a x w u v s h =
       away = a;
       news = run-alone o e x w u v s h .0;
       left = s;
-      good = run-alone o e x w u v s h .1;
+      reached = run-alone o e x w u v s h .1;
       touched = run-alone o e x w u v s h .2;
     }
 
@@ -215,15 +215,15 @@ module _ (e f : Expr) (x : Table) (w : Labelled x) (A : Apart e f) where
             (k ∙ sym l, λ y. absurd (true≢false (sym y ∙ k)))
 
   -- ONE OF THEM STOPS ALONE, and so in the other order
-  stops-one : (z : Fault) → runOn x e ≡ stop z → (o : Out) → runOn x f ≡ o → (ends o && ends (runOn (tableOf o) e)) ≡ false
-  stops-one z h (stop y) k = refl
+  stops-one : (z : Refusal) → runOn x e ≡ refused z → (o : Out) → runOn x f ≡ o → (ends o && ends (runOn (tableOf o) e)) ≡ false
+  stops-one z h (refused y) k = refl
   stops-one z h (gives v s) k =
       sim-stops (beside L) (pathsOf 1 e .result) (beside-sim L (A .firstDown)) (ap ends h)
     where
       L : Left
       L = leftBy 2 1 (λ q. omega arith) f e (A .secondAway) x w (A .secondDown) v s k
 
-  stops-two : (z : Fault) → runOn x f ≡ stop z → (v : List ℕ) (s : State) → runOn x e ≡ gives v s → ends (runOn (s .plan) f) ≡ false
+  stops-two : (z : Refusal) → runOn x f ≡ refused z → (v : List ℕ) (s : State) → runOn x e ≡ gives v s → ends (runOn (s .plan) f) ≡ false
   stops-two z h v s k =
       sim-stops (beside L) (pathsOf 2 f .result) (beside-sim L (A .secondDown)) (ap ends h)
     where
@@ -234,8 +234,8 @@ module _ (e f : Expr) (x : Table) (w : Labelled x) (A : Apart e f) where
   orders : (o q : Out) → runOn x e ≡ o → runOn x f ≡ q →
       ((ends o && ends (runOn (tableOf o) f)) ≡ (ends q && ends (runOn (tableOf q) e))) ×
       ((ends o && ends (runOn (tableOf o) f)) ≡ true → OrdersBy x o q (runOn (tableOf o) f) (runOn (tableOf q) e))
-  orders (stop z) q h k = (sym (stops-one z h q k), λ y. absurd (false≢true y))
-  orders (gives v s) (stop z) h k =
+  orders (refused z) q h k = (sym (stops-one z h q k), λ y. absurd (false≢true y))
+  orders (gives v s) (refused z) h k =
       (stops-two z k v s h, λ y. absurd (true≢false (sym y ∙ stops-two z k v s h)))
   orders (gives v s) (gives v′ s′) h k = both-end v v′ s s′ h k
 

@@ -1,13 +1,13 @@
 -- What free means. 'upward': a script has an upward step. 'free': no row of any plan is on a path that one script modifies and on one
 -- that the other traverses. 'meet': some plan has such a row.
 use mathlib.Core.Path.{_≡_, refl, sym, ap, _∙_}
-use mathlib.Core.Bool.{Bool, true, false, _&&_, _||_}
+use mathlib.Core.Bool.{Bool, true, false, _&&_, _||_, cond}
 use mathlib.Core.Logic.{_⊎_, inl, inr}
 use mathlib.Core.List.{List, List·Memᴰ as In}
 use Prim.Native.Nat.{ℕ, _<_}
 use native.Mathlib.Omega.{arith}
 use lib.ListN.{length}
-use Rattle.model.specs.Base.{pick, any, among, All}
+use Rattle.model.specs.Base.{any, among, All}
 use Rattle.model.specs.Table.{Table, count, isTree, Tree}
 use Rattle.model.specs.Script.{Expr}
 use Rattle.model.specs.Paths.{Place, documentPlace, Path, pathsOf, traversed, hasUp, placeOf}
@@ -29,17 +29,17 @@ use Rattle.model.proofs.CellsFound.{Meets, meets-found}
 use Rattle.model.proofs.Chain.{chain, count-chain, chain-tree, byMarks, byMarks-places, spells-row}
 
 -- THE ANSWER, by its two tests
-answer-upward : (u m : Bool) → pick u upward (pick m meet free) ≡ upward → u ≡ true
+answer-upward : (u m : Bool) → cond u upward (cond m meet free) ≡ upward → u ≡ true
 answer-upward true m e = refl
 answer-upward false true e = let z : _≡_ {A = ℕ} 0 1 = cc in absurd (omega arith)
 answer-upward false false e = let z : _≡_ {A = ℕ} 0 1 = cc in absurd (omega arith)
 
-answer-free : (u m : Bool) → pick u upward (pick m meet free) ≡ free → (u ≡ false) × (m ≡ false)
+answer-free : (u m : Bool) → cond u upward (cond m meet free) ≡ free → (u ≡ false) × (m ≡ false)
 answer-free true m e = let z : _≡_ {A = ℕ} 0 1 = cc in absurd (omega arith)
 answer-free false true e = let z : _≡_ {A = ℕ} 0 1 = cc in absurd (omega arith)
 answer-free false false e = (refl, refl)
 
-answer-meet : (u m : Bool) → pick u upward (pick m meet free) ≡ meet → (u ≡ false) × (m ≡ true)
+answer-meet : (u m : Bool) → cond u upward (cond m meet free) ≡ meet → (u ≡ false) × (m ≡ true)
 answer-meet true m e = let z : _≡_ {A = ℕ} 0 1 = cc in absurd (omega arith)
 answer-meet false true e = (refl, refl)
 answer-meet false false e = let z : _≡_ {A = ℕ} 0 1 = cc in absurd (omega arith)
@@ -109,7 +109,7 @@ meets-plan n o ps qs d f g e =
         let d : ℕ = placeOf p .number in
         let c : placeOf p ≡ documentPlace d = λ j. record { owner = b j; number = d } in
         let x : Table = chain d (m .word) in
-        let t : Tree x = chain-tree d (m .good b) in
+        let t : Tree x = chain-tree d (m .leads b) in
         let i : ℕ = length (m .word) in
         record {
           plan = x;

@@ -1,6 +1,6 @@
 -- A run never makes the table smaller, and stops only with a refusal of its own, whose number is from 7 to 10.
 use mathlib.Core.Path.{_≡_, refl}
-use mathlib.Core.Bool.{true, _&&_}
+use mathlib.Core.Bool.{true, _&&_, cond}
 use mathlib.Core.List.{List, [], _∷_, _++_}
 use mathlib.Core.Option.{Option, none, some}
 use Prim.Native.Nat.{ℕ, _+_, _≤_}
@@ -8,18 +8,18 @@ use native.Mathlib.Nat.{le-trans}
 use native.Mathlib.Omega.{arith}
 use lib.Dec.{ltb, eqb}
 use lib.ListN.{length, getD}
-use Rattle.model.specs.Base.{pick, isIn}
+use Rattle.model.specs.Base.{isIn}
 use Rattle.model.specs.Limits.{maxRows, maxItems, maxHistory}
-use Rattle.model.specs.Refusal.{Fault, isFine, unless, tableAt}
+use Rattle.model.specs.Refusal.{Refusal, isFine, unless, tableAt}
 use Rattle.model.specs.Table.{Row, Table, rowAt, count, isElement, linked}
-use Rattle.model.specs.Script.{Expr, nil, document, var, step, both, letIn, forIn, ifIn, element, leaf, delete, insert, choose}
-use Rattle.model.specs.Run.{State, Out, stop, gives, andThen, thenRow, joinItems, joinFor, withMade, newRow}
+use Rattle.model.specs.Script.{Expr, nil, document, var, step, both, letIn, forIn, ifIn, element, leaf, delete, insert, pick}
+use Rattle.model.specs.Run.{State, Out, refused, gives, andThen, thenRow, joinItems, joinFor, withMade, newRow}
 use Rattle.model.specs.Run.{cutRow, cutBy, cutAll, Copied, copyRow, subtree, copyEach, copyAll, inserted, loop, run}
-use Rattle.model.proofs.BoolLaws.{pick-cases}
+use Rattle.model.proofs.BoolLaws.{cond-cases}
 use Rattle.model.proofs.GrowLaws.{count-withRow, count-linked}
 
 pub data Grows (c : ℕ) : Out → Type 0 where
-  stops : {z : Fault} → isIn 7 10 (z .number) ≡ true → Grows c (stop z)
+  stops : {z : Refusal} → isIn 7 10 (z .number) ≡ true → Grows c (refused z)
   keeps : {v : List ℕ} {s : State} → c ≤ count (s .plan) → Grows c (gives v s)
 
 grows-less : {b c : ℕ} {o : Out} → b ≤ c → Grows c o → Grows b o
@@ -48,17 +48,17 @@ grows-for : {c : ℕ} {o : Out} (z : ℕ) (v : List ℕ) (next : List ℕ → St
     ((v : List ℕ) (s : State) → Grows (count (s .plan)) (next v s)) → Grows c (joinFor z v o next)
 grows-for z v next (stops e) h = stops e
 grows-for {c} z v next (keeps {v = w} {s} k) h =
-    pick-cases (Grows c) (ltb maxItems (length v + length w)) (λ e. stops refl) (λ e. grows-less k (h (v ++ w) s))
+    cond-cases (Grows c) (ltb maxItems (length v + length w)) (λ e. stops refl) (λ e. grows-less k (h (v ++ w) s))
 
 grows-new : (z : ℕ) (r : Row) (s : State) → Grows (count (s .plan)) (newRow z r s)
 grows-new z r s =
     let k : count (s .plan) ≤ count (withMade s r .plan) = omega (arith, count-withRow (s .plan) r) in
     let full = unless (ltb (count (s .plan)) maxRows) (tableAt z) in
-    pick-cases Unless (isFine full) (λ e. pick-cases Unless (ltb (length (s .history)) maxHistory) (λ e. keeps k) (λ e. stops refl))
-    (λ e. pick-cases Unless (ltb (count (s .plan)) maxRows) (λ e. keeps k) (λ e. stops refl))
+    cond-cases Unless (isFine full) (λ e. cond-cases Unless (ltb (length (s .history)) maxHistory) (λ e. keeps k) (λ e. stops refl))
+    (λ e. cond-cases Unless (ltb (count (s .plan)) maxRows) (λ e. keeps k) (λ e. stops refl))
   where
-    Unless : Fault → Type 0
-    Unless f = Grows (count (s .plan)) (pick (isFine f) (gives (count (s .plan) ∷ []) (withMade s r)) (stop f))
+    Unless : Refusal → Type 0
+    Unless f = Grows (count (s .plan)) (cond (isFine f) (gives (count (s .plan) ∷ []) (withMade s r)) (refused f))
 
 pub grows-cut : (z : ℕ) (v : List ℕ) (s : State) → Grows (count (s .plan)) (cutAll z v s)
 unfolding cutAll
@@ -70,7 +70,7 @@ grows-cut z (i ∷ is) s = go (rowAt (s .plan) i .parent) (λ t. grows-cut z is 
     go none h = h s
     go (some p) h =
         let k : count (s .plan) ≤ count (linked (s .plan) i none) = omega (arith, count-linked (s .plan) i none) in
-        pick-cases (Grows _) (ltb (length (s .history)) maxHistory) (λ e. grows-less k (h (cutRow s i p))) (λ e. stops refl)
+        cond-cases (Grows _) (ltb (length (s .history)) maxHistory) (λ e. grows-less k (h (cutRow s i p))) (λ e. stops refl)
 
 pub grows-each : (z : ℕ) (x : Table) (t g : ℕ) (is : List ℕ) (cs : List Copied) (s : State) →
     Grows (count (s .plan)) (copyEach z x t g is cs s)
@@ -85,7 +85,7 @@ grows-copy z x (i ∷ is) g s = grows-row _ (grows-each z x i g (subtree x i) []
 
 pub grows-insert : (z : ℕ) (v w : List ℕ) (s : State) → Grows (count (s .plan)) (inserted z v w s)
 grows-insert z v w s =
-    pick-cases (Grows _) (eqb (length w) 1 && isElement (s .plan) (getD w 0 0))
+    cond-cases (Grows _) (eqb (length w) 1 && isElement (s .plan) (getD w 0 0))
     (λ e. grows-copy z (s .plan) v (getD w 0 0) s) (λ e. stops refl)
 
 pub grows-loop : (z : ℕ) (f : ℕ → State → Out) → ((i : ℕ) (s : State) → Grows (count (s .plan)) (f i s)) → (v w : List ℕ) (s : State) →
@@ -96,7 +96,7 @@ grows-loop z f h (i ∷ is) w s = grows-for z w _ (h i s) (λ w t. grows-loop z 
 
 pub grows-join : (z : ℕ) (v w : List ℕ) (s : State) → Grows (count (s .plan)) (joinItems z v w s)
 grows-join z v w s =
-    pick-cases (Grows _) (ltb maxItems (length v + length w)) (λ e. stops refl) (λ e. grows-gives (v ++ w) s)
+    cond-cases (Grows _) (ltb maxItems (length v + length w)) (λ e. stops refl) (λ e. grows-gives (v ++ w) s)
 
 pub run-grows : (e : Expr) (b : List (List ℕ)) (s : State) → Grows (count (s .plan)) (run e b s)
 unfolding run
@@ -111,10 +111,10 @@ run-grows (forIn z e f) b s =
     grows-then _ (run-grows e b s) (λ v u. grows-loop z _ (λ i q. run-grows f (b ++ ((i ∷ []) ∷ [])) q) v [] u)
 run-grows (ifIn z e f g) b s =
     grows-then _ (run-grows e b s)
-    (λ v u. pick-cases (Grows _) (eqb (length v) 0) (λ e. run-grows g b u) (λ e. run-grows f b u))
+    (λ v u. cond-cases (Grows _) (eqb (length v) 0) (λ e. run-grows g b u) (λ e. run-grows f b u))
 run-grows (element z n) b s = grows-new z _ s
 run-grows (leaf z v) b s = grows-new z _ s
 run-grows (delete z e) b s = grows-then _ (run-grows e b s) (λ v u. grows-cut z v u)
 run-grows (insert z e f) b s =
     grows-then _ (run-grows e b s) (λ v u. grows-then _ (run-grows f b u) (λ w q. grows-insert z v w q))
-run-grows (choose z r c e) b s = grows-then _ (run-grows e b s) (λ v u. grows-gives _ u)
+run-grows (pick z r c e) b s = grows-then _ (run-grows e b s) (λ v u. grows-gives _ u)

@@ -11,7 +11,7 @@ use lib.ListN.{length, getD, length-append, List·getD-append}
 use lib.Seq.{getD-append-seam}
 use Rattle.model.specs.Table.{Row, Table, rowAt, count, withRow, linked}
 use Rattle.model.specs.Step.{Letter, leafLetter, named, letterOf}
-use Rattle.model.proofs.BoolLaws.{pick-false}
+use Rattle.model.proofs.BoolLaws.{cond-false}
 use Rattle.model.proofs.TableLaws.{parent-count}
 use Rattle.model.proofs.GrowLaws.{count-withRow, rowAt-withRow-old, withRow-cases, count-linked, linked-cases, isLeaf-linked}
 use Rattle.model.proofs.Words.{Word, Root, first, areElements, isProper}
@@ -59,7 +59,7 @@ unfolding areElements
 fit-elements {ls} {x} f i h e = go (labelAt ls i .word) (f .words i h)
   where
     letter : letterOf (rowAt x i) ≡ named (rowAt x i .tag)
-    letter = pick-false (rowAt x i .isLeaf) leafLetter (named (rowAt x i .tag)) e
+    letter = cond-false (rowAt x i .isLeaf) leafLetter (named (rowAt x i .tag)) e
 
     go : (w : Word) → EndsIn w (letterOf (rowAt x i)) → areElements w ≡ true
     go [] k = refl

@@ -5,6 +5,7 @@ pub mod TestLaws
 pub mod RefusalLaws
 pub mod TableLaws
 pub mod GrowLaws
+pub mod KindLaws
 pub mod StoredLaws
 pub mod BytesLaws
 pub mod StoredBack
@@ -32,6 +33,8 @@ pub mod Shift
 pub mod Collect
 pub mod Words
 pub mod MirrorLaws
+pub mod CellLaws
+pub mod BetweenLaws
 pub mod WordsMeet
 pub mod Labels
 pub mod Below

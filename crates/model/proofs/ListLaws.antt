@@ -1,6 +1,6 @@
 -- Lists and areas: what is set, what is put over an area, tests of their items.
 use mathlib.Core.Path.{_≡_, refl, ap, sym, _∙_}
-use mathlib.Core.Bool.{Bool, true, false, _||_, false≢true, or-false, or-assoc}
+use mathlib.Core.Bool.{Bool, true, false, _||_, false≢true, or-false, or-assoc, cond}
 use mathlib.Core.Logic.{_⊎_, inl, inr, ⊎-elim}
 use mathlib.Core.List.{List, [], _∷_, _++_, map}
 use mathlib.Core.List.{append-assoc, append-nil, List·Memᴰ as In, List·Memᴰ·head as here, List·Memᴰ·tail as there}
@@ -13,7 +13,7 @@ use lib.ListN.{length, getD, take, drop, set, length-append, length-drop, take-a
 use lib.Seq.{take-nil, take-at, take-all, take-suc, take-suc-set, take-length, length-take-le, drop-cons, drop-append-add, drop-drop}
 use lib.Seq.{getD-drop, paste, paste-suc}
 use borrow.Author.Tests.{eqb-true, eq-eqb}
-use Rattle.model.specs.Base.{pick, atFront, over, all, any, filtered, among}
+use Rattle.model.specs.Base.{atFront, over, all, any, filtered, among}
 use Rattle.model.proofs.BoolLaws.{and-left, and-right, and-both, or-left, or-right, or-cases}
 
 -- an element set, and then mapped
@@ -153,26 +153,26 @@ in-among {i} (there {x = j} {xs = l} h) = or-right (eqb i j) (among i l) (in-amo
 
 -- ITEMS THAT PASS a test: of two lists, and of a list mapped
 module _ {A : Type 0} where
-  pub pick-append : (z : Bool) (x : A) (k l : List A) → pick z (x ∷ (k ++ l)) (k ++ l) ≡ pick z (x ∷ k) k ++ l
-  pick-append true x k l = refl
-  pick-append false x k l = refl
+  pub cond-append : (z : Bool) (x : A) (k l : List A) → cond z (x ∷ (k ++ l)) (k ++ l) ≡ cond z (x ∷ k) k ++ l
+  cond-append true x k l = refl
+  cond-append false x k l = refl
 
-  pub pick-map : {B : Type 0} (h : A → B) (z : Bool) (x : A) (l : List A) → map h (pick z (x ∷ l) l) ≡ pick z (h x ∷ map h l) (map h l)
-  pick-map h true x l = refl
-  pick-map h false x l = refl
+  pub cond-map : {B : Type 0} (h : A → B) (z : Bool) (x : A) (l : List A) → map h (cond z (x ∷ l) l) ≡ cond z (h x ∷ map h l) (map h l)
+  cond-map h true x l = refl
+  cond-map h false x l = refl
 
   pub filtered-append : (f : A → Bool) (k l : List A) → filtered f (k ++ l) ≡ filtered f k ++ filtered f l
   unfolding filtered
   filtered-append f [] l = refl
   filtered-append f (x ∷ k) l =
-      ap (λ (t : List A). pick (f x) (x ∷ t) t) (filtered-append f k l) ∙ pick-append (f x) x (filtered f k) (filtered f l)
+      ap (λ (t : List A). cond (f x) (x ∷ t) t) (filtered-append f k l) ∙ cond-append (f x) x (filtered f k) (filtered f l)
 
   pub filtered-map : {B : Type 0} (h : A → B) (f : A → Bool) (g : B → Bool) (l : List A) → ((a : A) → In a l → f a ≡ g (h a)) →
       map h (filtered f l) ≡ filtered g (map h l)
   unfolding filtered
   filtered-map h f g [] e = refl
   filtered-map h f g (x ∷ l) e =
-      pick-map h (f x) x (filtered f l) ∙ rw (e x (here refl), filtered-map h f g l (λ a i. e a (there i)))
+      cond-map h (f x) x (filtered f l) ∙ rw (e x (here refl), filtered-map h f g l (λ a i. e a (there i)))
 
 -- EVERY ITEM passes a test
 pub all-getD : {A : Type 0} (f : A → Bool) (l : List A) (d : A) → all f l ≡ true → (k : ℕ) → k < length l → f (getD l k d) ≡ true

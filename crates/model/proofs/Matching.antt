@@ -8,8 +8,8 @@ use native.Mathlib.Omega.{arith}
 use native.Mathlib.Decide.{decLt}
 use borrow.Author.Tests.{lt-ltb, le-ltb}
 use Rattle.model.specs.Table.{Row, withParent}
-use Rattle.model.specs.History.{Record}
-use Rattle.model.specs.Promise.{matched, matchedParent, matchedAll, matchedHistory, matchedRow}
+use Rattle.model.specs.History.{Record, made, cut}
+use Rattle.model.specs.Promise.{matched, matchedParent, matchedAll, matchedRecord, matchedHistory, matchedRow}
 use Rattle.model.specs.Base.{All, nothing, also}
 use Rattle.model.proofs.Shift.{shift, shiftParent, shiftRow, shiftRecord, shift-low, shift-high}
 use Rattle.model.proofs.Twin.{Named}
@@ -69,17 +69,18 @@ module _ (n a b : ℕ) where
   all-second (i ∷ is) = ap₂ (λ j l. j ∷ l) (sym (matched-second i)) (all-second is)
 
   -- HISTORIES
-  abbrev renumbered : Record → ℕ → Option ℕ → Record
-  renumbered r i o = record { kind = r .kind; row = i; tag = r .tag; parent = o }
+  record-first : (r : Record) → Named (n + a) r → shiftRecord n b r ≡ matchedRecord n a b r
+  record-first (made i r) (h, k) = ap₂ made (sym (matched-first i h)) (sym (row-first r k))
+  record-first (cut i p) (h, k) = ap₂ cut (sym (matched-first i h)) (sym (matched-first p k))
+
+  record-second : (r : Record) → r ≡ matchedRecord n a b (shiftRecord n a r)
+  record-second (made i r) = ap₂ made (sym (matched-second i)) (sym (row-second r))
+  record-second (cut i p) = ap₂ cut (sym (matched-second i)) (sym (matched-second p))
 
   pub history-first : {h : List Record} → All (Named (n + a)) h → map (shiftRecord n b) h ≡ matchedHistory n a b h
   history-first nothing = refl
-  history-first (also {a = r} k h) =
-      ap₂ (λ q l. q ∷ l)
-      (ap₂ (renumbered r) (sym (matched-first (r .row) (k .0))) (sym (parent-first (r .parent) (k .1)))) (history-first h)
+  history-first (also {a = r} k h) = ap₂ (λ q l. q ∷ l) (record-first r k) (history-first h)
 
   pub history-second : (h : List Record) → h ≡ matchedHistory n a b (map (shiftRecord n a) h)
   history-second [] = refl
-  history-second (r ∷ h) =
-      ap₂ (λ q l. q ∷ l) (ap₂ (renumbered r) (sym (matched-second (r .row))) (sym (parent-second (r .parent))))
-      (history-second h)
+  history-second (r ∷ h) = ap₂ (λ q l. q ∷ l) (record-second r) (history-second h)

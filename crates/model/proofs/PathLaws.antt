@@ -1,6 +1,6 @@
 -- The paths of a script without upward steps: each step leads down and names 1 to 255, each place is a document's or the script's own.
 use mathlib.Core.Path.{_≡_, refl}
-use mathlib.Core.Bool.{Bool, true, false, _&&_, _||_, not, false≢true}
+use mathlib.Core.Bool.{Bool, true, false, _&&_, _||_, not, false≢true, cond}
 use mathlib.Core.Logic.{_⊎_, inl, inr}
 use mathlib.Core.List.{List, [], _∷_, _++_}
 use Prim.Native.Nat.{ℕ}
@@ -8,10 +8,10 @@ use native.Mathlib.Omega.{arith}
 use native.Mathlib.Decide.{ℕ-discrete}
 use lib.Dec.{ltb, eqb}
 use borrow.Author.Tests.{leb-false, ltb-true, eqb-false, not-true}
-use Rattle.model.specs.Base.{pick, All, nothing, also}
+use Rattle.model.specs.Base.{All, nothing, also}
 use Rattle.model.specs.Table.{isName}
 use Rattle.model.specs.Script.{Step, testFits, Expr, nil, document, var, step, both, letIn, forIn, ifIn, element, leaf, delete}
-use Rattle.model.specs.Script.{insert, choose}
+use Rattle.model.specs.Script.{insert, pick}
 use Rattle.model.specs.Paths.{Place, Path, start, _▸_, withStep, anyBelow, Paths, infer, prefixesOf, prefixed, traversed, isUp}
 use Rattle.model.specs.Paths.{hasUp, pathsOf, after, joinPaths}
 use Rattle.model.specs.Meeting.{isNamed}
@@ -37,7 +37,7 @@ step-fits : (s : Step) → testFits (s .test) (s .name) ≡ true → isUp s ≡ 
 step-fits s f u = record { down = u; nameIn = λ n. go (eqb (s .test) 3) refl n f }
   where
     go : (t : Bool) → eqb (s .test) 3 ≡ t → isNamed s ≡ true →
-        pick t (isName (s .name)) (ltb (s .test) 3 && eqb (s .name) 0) ≡ true → isName (s .name) ≡ true
+        cond t (isName (s .name)) (ltb (s .test) 3 && eqb (s .name) 0) ≡ true → isName (s .name) ≡ true
     go true e n h = h
     go false e n h =
         let k = and-three (not (eqb (s .test) 0)) (not (eqb (s .test) 1)) (not (eqb (s .test) 2)) n in
@@ -116,7 +116,7 @@ infer-fits o (insert z e g) b f u a =
     let h = infer-fits o e b (f .0) (k .0) a in
     let j = infer-fits o g b (f .1) (k .1) a in
     after-all (join-all {r = []} h j nothing) nothing (withStep-fits anyBelow-fits (h .result)) (withStep-fits anyBelow-fits (j .result))
-infer-fits o (choose z r c e) b f u a = infer-fits o e b f u a
+infer-fits o (pick z r c e) b f u a = infer-fits o e b f u a
 
 -- TRAVERSED paths fit too
 prefixesOf-fits : {o : ℕ} {p : Path} → PathFits o p → All (PathFits o) (prefixesOf p)

@@ -1,15 +1,13 @@
 -- What a run can do to a table: make a fitting row, or cut a link. So it keeps the table well formed, and its history replays to it.
-use mathlib.Core.Path.{_≡_, refl, ap, sym, _∙_}
-use mathlib.Core.Bool.{true, false}
+use mathlib.Core.Path.{_≡_, refl, ap, _∙_}
+use mathlib.Core.Bool.{true}
 use mathlib.Core.List.{List, [], _∷_, _++_}
 use mathlib.Core.Option.{none, some, Option·none-ne-some}
 use Prim.Native.Nat.{ℕ, _<_}
-use lib.Dec.{eqb}
 use Rattle.model.specs.Limits.{maxRows}
 use Rattle.model.specs.Table.{Row, Table, rowAt, count, withRow, linked, tagFits, parentFits}
-use Rattle.model.specs.History.{Record, isCut, madeLeafKind, cutKind, replayed, replayAll}
-use Rattle.model.specs.Run.{State, state, made, withMade, cutRecord, cutRow}
-use Rattle.model.proofs.BoolLaws.{pick-cases}
+use Rattle.model.specs.History.{Record, made, cut, replayed, replayAll}
+use Rattle.model.specs.Run.{State, state, withMade, cutRow}
 use Rattle.model.proofs.TableLaws.{parent-count, Well}
 use Rattle.model.proofs.GrowLaws.{well-withRow, well-linked}
 
@@ -30,27 +28,16 @@ ran-well x w begun = w
 ran-well x w (rowMade s r q c f g) = let v = ran-well x w q in well-withRow (s .plan) r (v .tree) f g v c
 ran-well x w (linkCut s i p q e) = well-cut (s .plan) i p (ran-well x w q) e
 
--- THE RECORD of a row made says what the row is
-pub isCut-made : (r : Row) (i : ℕ) → isCut (made r i) ≡ false
-isCut-made r i = pick-cases (λ (k : ℕ). eqb k cutKind ≡ false) (r .isLeaf) (λ e. refl) (λ e. refl)
-
-pub isLeaf-made : (r : Row) (i : ℕ) → eqb (made r i .kind) madeLeafKind ≡ r .isLeaf
-isLeaf-made r i = pick-cases (λ (k : ℕ). eqb k madeLeafKind ≡ r .isLeaf) (r .isLeaf) (λ e. sym e) (λ e. sym e)
-
 -- REPLAYED: the history on the earlier table gives the later one
 replayAll-snoc : (x : Table) (rs : List Record) (r : Record) → replayAll x (rs ++ (r ∷ [])) ≡ replayed (replayAll x rs) r
 unfolding replayAll
 replayAll-snoc x [] r = refl
 replayAll-snoc x (q ∷ rs) r = replayAll-snoc (replayed x q) rs r
 
-replayed-made : (x : Table) (r : Row) (i : ℕ) → replayed x (made r i) ≡ withRow x r
-replayed-made x r i = rw (isCut-made r i, isLeaf-made r i)
-
 pub ran-replay : (x : Table) {s : State} → ComesTo x s → replayAll x (s .history) ≡ s .plan
 unfolding replayAll
 ran-replay x begun = refl
 ran-replay x (rowMade s r q c f g) =
-    replayAll-snoc x (s .history) (made r (count (s .plan))) ∙
-    ap (λ (y : Table). replayed y (made r (count (s .plan)))) (ran-replay x q) ∙ replayed-made (s .plan) r (count (s .plan))
+    replayAll-snoc x (s .history) (made (count (s .plan)) r) ∙ ap (λ (y : Table). withRow y r) (ran-replay x q)
 ran-replay x (linkCut s i p q e) =
-    replayAll-snoc x (s .history) (cutRecord i p) ∙ ap (λ (y : Table). replayed y (cutRecord i p)) (ran-replay x q)
+    replayAll-snoc x (s .history) (cut i p) ∙ ap (λ (y : Table). linked y i none) (ran-replay x q)

@@ -3,9 +3,9 @@ use mathlib.Core.Path.{_≡_, refl, ap, _∙_}
 use mathlib.Core.Bool.{Bool, true, false, _&&_}
 use Prim.Native.Nat.{ℕ, suc}
 use lib.Dec.{eqb·suc-zero}
-use Rattle.model.specs.Refusal.{Fault, fault, isFine, orElse, unless}
+use Rattle.model.specs.Refusal.{Refusal, refusal, isFine, orElse, unless}
 
-isFine-orElse : (x y : Fault) → isFine (orElse x y) ≡ (isFine x && isFine y)
+isFine-orElse : (x y : Refusal) → isFine (orElse x y) ≡ (isFine x && isFine y)
 isFine-orElse x y = go (isFine x) refl
   where
     go : (t : Bool) → isFine x ≡ t → isFine (orElse x y) ≡ (isFine x && isFine y)
@@ -13,10 +13,10 @@ isFine-orElse x y = go (isFine x) refl
     go false e = rw (e, e)
 
 -- no refusal has the number 0
-pub isFine-unless : (z : Bool) (n i : ℕ) → isFine (unless z (fault (suc n) i)) ≡ z
+pub isFine-unless : (z : Bool) (n i : ℕ) → isFine (unless z (refusal (suc n) i)) ≡ z
 isFine-unless true n i = refl
 isFine-unless false n i = eqb·suc-zero n
 
 -- a check before the others
-pub isFine-check : (z : Bool) (n i : ℕ) (y : Fault) → isFine (orElse (unless z (fault (suc n) i)) y) ≡ (z && isFine y)
-isFine-check z n i y = isFine-orElse (unless z (fault (suc n) i)) y ∙ ap (λ (t : Bool). t && isFine y) (isFine-unless z n i)
+pub isFine-check : (z : Bool) (n i : ℕ) (y : Refusal) → isFine (orElse (unless z (refusal (suc n) i)) y) ≡ (z && isFine y)
+isFine-check z n i y = isFine-orElse (unless z (refusal (suc n) i)) y ∙ ap (λ (t : Bool). t && isFine y) (isFine-unless z n i)

@@ -1,12 +1,11 @@
 -- Rows on a path: the label of such a row has a root at the path's place and a word that its steps spell.
 use mathlib.Core.Path.{_≡_, refl, sym, ap, subst}
-use mathlib.Core.Bool.{Bool, true, false, not}
+use mathlib.Core.Bool.{Bool, true, false, not, cond}
 use mathlib.Core.List.{List, _∷_, List·Memᴰ as In, List·Memᴰ·head as here, List·Memᴰ·tail as there}
 use Prim.Native.Nat.{ℕ, zero, suc, _+_, _≤_, _<_}
 use native.Mathlib.Omega.{arith}
 use lib.Dec.{eqb}
 use borrow.Author.Tests.{eqb-true, eqb-false}
-use Rattle.model.specs.Base.{pick}
 use Rattle.model.specs.Table.{Table, rowAt, count}
 use Rattle.model.specs.Script.{Step}
 use Rattle.model.specs.Step.{isReached, collect}
@@ -34,7 +33,7 @@ in-collect-from f i j zero a b e = absurd (omega arith)
 in-collect-from f i j (suc n) a b e = go (f j) (eqb i j) refl refl (λ c. in-collect-from f i (suc j) n c (omega arith) e)
   where
     go : (t u : Bool) → f j ≡ t → eqb i j ≡ u → (suc j ≤ i → In i (collect f (suc j) n)) →
-        In i (pick t (j ∷ collect f (suc j) n) (collect f (suc j) n))
+        In i (cond t (j ∷ collect f (suc j) n) (collect f (suc j) n))
     go true true c d h = here (eqb-true i j d)
     go true false c d h = there (h (omega (arith, eqb-false i j d)))
     go false true c d h = absurd (true-false (f j) (subst (λ (k : ℕ). f k ≡ true) (eqb-true i j d) e) c)
@@ -46,7 +45,7 @@ in-collect f n i l e = in-collect-from f i 0 n (omega arith) (omega arith) e
 rowsAt-collect : (x : Table) (h : Places) (p : Place) (i n : ℕ) → rowsAt x h p i n ≡ collect (h p) i n
 unfolding rowsAt collect
 rowsAt-collect x h p i zero = refl
-rowsAt-collect x h p i (suc n) = ap (λ (l : List ℕ). pick (h p i) (i ∷ l) l) (rowsAt-collect x h p (suc i) n)
+rowsAt-collect x h p i (suc n) = ap (λ (l : List ℕ). cond (h p i) (i ∷ l) l) (rowsAt-collect x h p (suc i) n)
 
 -- the rows on a path
 module _ (x : Table) (h : Places) where

@@ -1,6 +1,6 @@
 -- Every run of an expression whose fields fit does nothing but make fitting rows and cut links, and its values are rows of its table.
 use mathlib.Core.Path.{_≡_, refl, sym, ap, _∙_}
-use mathlib.Core.Bool.{Bool, true, false, _&&_}
+use mathlib.Core.Bool.{Bool, true, false, _&&_, cond}
 use mathlib.Core.List.{List, [], _∷_, _++_}
 use mathlib.Core.Option.{Option, none, some, Option·none-ne-some}
 use Prim.Native.Nat.{ℕ, _+_, _≤_, _<_}
@@ -8,15 +8,16 @@ use native.Mathlib.Omega.{arith}
 use lib.Dec.{ltb, eqb}
 use lib.ListN.{length, getD}
 use borrow.Author.Tests.{ltb-true, eqb-true, lt-ltb}
-use Rattle.model.specs.Base.{pick, nothing, also}
+use Rattle.model.specs.Base.{nothing, also}
 use Rattle.model.specs.Limits.{maxRows, maxItems, maxHistory}
 use Rattle.model.specs.Refusal.{isFine, historyAt, unless}
 use Rattle.model.specs.Table.{Row, Table, rowAt, count, isElement, withRow, linked, tagFits, parentFits, Tree}
-use Rattle.model.specs.Script.{Expr, nil, document, var, step, both, letIn, forIn, ifIn, element, leaf, delete, insert, choose}
-use Rattle.model.specs.Run.{State, state, Out, stop, gives, andThen, joinItems, withMade, roomFault, newRow, loose, cutRow, cutBy}
+use Rattle.model.specs.Script.{Expr, nil, document, var, step, both, letIn, forIn, ifIn, element, leaf, delete, insert, pick}
+use Rattle.model.specs.Run.{State, state, Out, refused, gives, andThen, joinItems, withMade, roomRefusal, newRow, loose, cutRow}
+use Rattle.model.specs.Run.{cutBy}
 use Rattle.model.specs.Run.{cutAll, Copied, copyOf, copyParent, copyRow, subtree, thenRow, copyEach, copyAll, inserted, joinFor}
 use Rattle.model.specs.Run.{loop, run, runOn, AreRows, AreValues}
-use Rattle.model.proofs.BoolLaws.{and-left, and-right, and-both, pick-cases}
+use Rattle.model.proofs.BoolLaws.{and-left, and-right, and-both, cond-cases}
 use Rattle.model.proofs.RefusalLaws.{isFine-check}
 use Rattle.model.proofs.TableLaws.{isElement-at, isElement-by, parent-count, Well}
 use Rattle.model.proofs.GrowLaws.{count-withRow, rowAt-withRow-old, rowAt-withRow-new, count-linked, isLeaf-linked}
@@ -58,30 +59,30 @@ enlarged-element {y} {z} i g h =
 
 -- AN OUTCOME from a state with table y: a refusal, or rows of an enlarged table that a run on x can come to
 abbrev pub Keeps : (x y : Table) → Out → Type 0
-Keeps x y (stop f) = Unit
+Keeps x y (refused f) = Unit
 Keeps x y (gives v u) = ComesTo x u × AreRows (count (u .plan)) v × Enlarged y (u .plan)
 
 keeps-from : (x y z : Table) (o : Out) → Enlarged y z → Keeps x z o → Keeps x y o
-keeps-from x y z (stop f) g k = tt
+keeps-from x y z (refused f) g k = tt
 keeps-from x y z (gives v u) g k = (k .0, k .1, enlarged-then g (k .2))
 
 andThen-keeps : (x y : Table) (o : Out) (next : List ℕ → State → Out) → Keeps x y o →
     ((v : List ℕ) (u : State) → ComesTo x u → AreRows (count (u .plan)) v → Enlarged y (u .plan) → Keeps x (u .plan) (next v u)) →
     Keeps x y (andThen o next)
-andThen-keeps x y (stop f) next k h = tt
+andThen-keeps x y (refused f) next k h = tt
 andThen-keeps x y (gives v u) next k h = keeps-from x y (u .plan) (next v u) (k .2) (h v u (k .0) (k .1) (k .2))
 
 thenRow-keeps : (x y : Table) (o : Out) (next : State → Out) → Keeps x y o →
     ((u : State) → ComesTo x u → Enlarged y (u .plan) → Keeps x (u .plan) (next u)) → Keeps x y (thenRow o next)
-thenRow-keeps x y (stop f) next k h = tt
+thenRow-keeps x y (refused f) next k h = tt
 thenRow-keeps x y (gives v u) next k h = keeps-from x y (u .plan) (next u) (k .2) (h u (k .0) (k .2))
 
 gives-keeps : (x : Table) (v : List ℕ) (s : State) → ComesTo x s → AreRows (count (s .plan)) v → Keeps x (s .plan) (gives v s)
 gives-keeps x v s r a = (r, a, enlarged-self (s .plan))
 
 -- NEW ROWS
-roomFault-room : (z : ℕ) (s : State) → isFine (roomFault z s) ≡ true → count (s .plan) < maxRows
-roomFault-room z s h =
+roomRefusal-room : (z : ℕ) (s : State) → isFine (roomRefusal z s) ≡ true → count (s .plan) < maxRows
+roomRefusal-room z s h =
     ltb-true (count (s .plan)) maxRows
     (and-left _ _
     (sym (isFine-check (ltb (count (s .plan)) maxRows) 9 z (unless (ltb (length (s .history)) maxHistory) (historyAt z))) ∙ h))
@@ -89,10 +90,10 @@ roomFault-room z s h =
 newRow-keeps : (x : Table) (z : ℕ) (r : Row) (s : State) → ComesTo x s → tagFits r ≡ true →
     parentFits (s .plan) (count (s .plan)) (r .parent) ≡ true → Keeps x (s .plan) (newRow z r s)
 newRow-keeps x z r s q f g =
-    pick-cases (Keeps x (s .plan)) (isFine (roomFault z s))
+    cond-cases (Keeps x (s .plan)) (isFine (roomRefusal z s))
     (λ e.
     let l : count (s .plan) < count (withRow (s .plan) r) = omega (arith, count-withRow (s .plan) r) in
-    (rowMade s r q (roomFault-room z s e) f g, also l nothing, enlarged-withRow (s .plan) r))
+    (rowMade s r q (roomRefusal-room z s e) f g, also l nothing, enlarged-withRow (s .plan) r))
     (λ e. tt)
 
 -- DELETE
@@ -105,7 +106,7 @@ cutAll-keeps x z (i ∷ is) s r = go (rowAt (s .plan) i .parent) refl (λ t q. c
         Keeps x (s .plan) (cutBy z i s p (λ (t : State). cutAll z is t))
     go none e h = h s r
     go (some p) e h =
-        pick-cases (Keeps x (s .plan)) (ltb (length (s .history)) maxHistory)
+        cond-cases (Keeps x (s .plan)) (ltb (length (s .history)) maxHistory)
         (λ q.
         keeps-from x (s .plan) (linked (s .plan) i none) (cutAll z is (cutRow s i p)) (enlarged-cut (s .plan) i p e)
         (h (cutRow s i p) (linkCut s i p r e)))
@@ -156,7 +157,7 @@ module _ (x y : Table) (ty : Tree y) (place t g : ℕ) where
       isElement (s .plan) g ≡ true → Keeps x (s .plan) (copyEach place y t g is cs s)
   unfolding copyEach
   copyEach-keeps nothing cs s r c h = gives-keeps x [] s r nothing
-  copyEach-keeps (also {a = i} {l = is} l a) cs s r c h = go (isFine (roomFault place s)) refl (copyEach-keeps a)
+  copyEach-keeps (also {a = i} {l = is} l a) cs s r c h = go (isFine (roomRefusal place s)) refl (copyEach-keeps a)
     where
       w : Row
       w = copyRow y t g i cs
@@ -164,17 +165,17 @@ module _ (x y : Table) (ty : Tree y) (place t g : ℕ) where
       ds : List Copied
       ds = record { old = i; new = count (s .plan) } ∷ cs
 
-      go : (b : Bool) → isFine (roomFault place s) ≡ b →
+      go : (b : Bool) → isFine (roomRefusal place s) ≡ b →
           ((cs : List Copied) (u : State) → ComesTo x u → CopiesWell y (u .plan) cs → isElement (u .plan) g ≡ true →
           Keeps x (u .plan) (copyEach place y t g is cs u)) →
           Keeps x (s .plan)
-          (thenRow (pick b (gives (count (s .plan) ∷ []) (withMade s w)) (stop (roomFault place s)))
+          (thenRow (cond b (gives (count (s .plan) ∷ []) (withMade s w)) (refused (roomRefusal place s)))
           (λ (u : State). copyEach place y t g is ds u))
       go true e next =
           let f = enlarged-withRow (s .plan) w in
           keeps-from x (s .plan) (withRow (s .plan) w) (copyEach place y t g is ds (withMade s w)) f
           (next ds (withMade s w)
-          (rowMade s w r (roomFault-room place s e) (ty .tags i l) (copyParent-fits (s .plan) i cs c h))
+          (rowMade s w r (roomRefusal-room place s e) (ty .tags i l) (copyParent-fits (s .plan) i cs c h))
           (copies-more y (s .plan) i w cs refl c) (enlarged-element g f h))
       go false e next = tt
 
@@ -191,7 +192,7 @@ copyAll-keeps x y ty place g (also {a = i} {l = is} l a) s r h =
 inserted-keeps : (x : Table) → Well x → (place : ℕ) (v w : List ℕ) (s : State) → ComesTo x s → AreRows (count (s .plan)) v →
     Keeps x (s .plan) (inserted place v w s)
 inserted-keeps x well place v w s r a =
-    pick-cases (Keeps x (s .plan)) (eqb (length w) 1 && isElement (s .plan) (getD w 0 0))
+    cond-cases (Keeps x (s .plan)) (eqb (length w) 1 && isElement (s .plan) (getD w 0 0))
     (λ e. copyAll-keeps x (s .plan) (ran-well x well r .tree) place (getD w 0 0) a s r (and-right (eqb (length w) 1) _ e)) (λ e. tt)
 
 -- JOIN AND FOR
@@ -199,7 +200,7 @@ joinItems-keeps : (x : Table) (z : ℕ) (v w : List ℕ) (s : State) → ComesTo
     AreRows (count (s .plan)) w →
     Keeps x (s .plan) (joinItems z v w s)
 joinItems-keeps x z v w s r a b =
-    pick-cases (Keeps x (s .plan)) (ltb maxItems (length v + length w)) (λ e. tt) (λ e. gives-keeps x (v ++ w) s r (all-append a b))
+    cond-cases (Keeps x (s .plan)) (ltb maxItems (length v + length w)) (λ e. tt) (λ e. gives-keeps x (v ++ w) s r (all-append a b))
 
 loop-keeps : (x y : Table) (z : ℕ) (f : ℕ → State → Out) →
     ((i : ℕ) (u : State) → ComesTo x u → Enlarged y (u .plan) → i < count (u .plan) → Keeps x (u .plan) (f i u)) →
@@ -213,9 +214,9 @@ loop-keeps x y z f h (i ∷ is) v s (also l a) b r g = joined (f i s) (h i s r g
         ((w : List ℕ) (u : State) → AreRows (count (u .plan)) is → AreRows (count (u .plan)) w → ComesTo x u → Enlarged y (u .plan) →
         Keeps x (u .plan) (loop z f is w u)) →
         Keeps x (s .plan) (joinFor z v o (λ (w : List ℕ) (u : State). loop z f is w u))
-    joined (stop q) k next = tt
+    joined (refused q) k next = tt
     joined (gives w u) k next =
-        pick-cases (Keeps x (s .plan)) (ltb maxItems (length v + length w)) (λ e. tt)
+        cond-cases (Keeps x (s .plan)) (ltb maxItems (length v + length w)) (λ e. tt)
         (λ e.
         keeps-from x (s .plan) (u .plan) (loop z f is (v ++ w) u) (k .2)
         (next (v ++ w) u (areRows-more (k .2 .more) a) (all-append (areRows-more (k .2 .more) b) (k .1)) (k .0)
@@ -249,7 +250,7 @@ module _ (x : Table) (well : Well x) where
   run-keeps (ifIn z e f g) t b s r a =
       andThen-keeps x (s .plan) (run e b s) _ (run-keeps e (t .0) b s r a)
       (λ v u w c h.
-      pick-cases (Keeps x (u .plan)) (eqb (length v) 0) (λ q. run-keeps g (t .2) b u w (areValues-more (h .more) a))
+      cond-cases (Keeps x (u .plan)) (eqb (length v) 0) (λ q. run-keeps g (t .2) b u w (areValues-more (h .more) a))
       (λ q. run-keeps f (t .1) b u w (areValues-more (h .more) a)))
   run-keeps (element z n) t b s r a = newRow-keeps x z (loose false n) s r t refl
   run-keeps (leaf z v) t b s r a = newRow-keeps x z (loose true v) s r t refl
@@ -260,7 +261,7 @@ module _ (x : Table) (well : Well x) where
       (λ v u w c g.
       andThen-keeps x (u .plan) (run f b u) _ (run-keeps f (t .1) b u w (areValues-more (g .more) a))
       (λ v′ u′ w′ c′ g′. inserted-keeps x well z v v′ u′ w′ (areRows-more (g′ .more) c)))
-  run-keeps (choose z q c e) t b s r a =
+  run-keeps (pick z q c e) t b s r a =
       andThen-keeps x (s .plan) (run e b s) _ (run-keeps e t b s r a) (λ v u w d g. gives-keeps x _ u w (all-filtered _ d))
 
   pub runOn-keeps : (e : Expr) → FieldsFit e → Keeps x x (runOn x e)

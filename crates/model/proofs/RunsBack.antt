@@ -6,7 +6,7 @@ use Prim.Native.Nat.{ℕ}
 use native.Mathlib.Omega.{arith}
 use Rattle.model.specs.Base.{areBytes}
 use Rattle.model.specs.Table.{Table, isWell}
-use Rattle.model.specs.Script.{Expr, Parsed, ill, parsed, readScript}
+use Rattle.model.specs.Script.{Expr, Parsed, refused, parsed, readScript}
 use Rattle.model.specs.History.{historyBytes, replayAll}
 use Rattle.model.specs.Run.{State, gives, runOn}
 use Rattle.model.specs.Undo.{back, undo}
@@ -38,5 +38,5 @@ pub runBy-back : (x : Table) (b : List ℕ) → areBytes b ≡ true → isWell x
 runBy-back x b a w v s = go (readScript b) refl
   where
     go : (p : Parsed) → readScript b ≡ p → runBy x p ≡ gives v s → Back x s
-    go (ill f) e k = let z : _≡_ {A = ℕ} 0 1 = cc in absurd (omega arith)
+    go (refused f) e k = let z : _≡_ {A = ℕ} 0 1 = cc in absurd (omega arith)
     go (parsed e i n c) q k = runsBack e x v s (b, a, (i, (n, (c, q)))) w k

@@ -1,23 +1,25 @@
 -- A script that is read has its fields in range and at most 64 records, all counted; one that is not is refused by a number from 1 to 5.
 use mathlib.Core.Path.{_≡_, refl, _∙_, subst}
-use mathlib.Core.Bool.{Bool, true, false, _&&_, not, true≢false, false≢true}
+use mathlib.Core.Bool.{Bool, true, false, _&&_, not, true≢false, false≢true, cond}
 use mathlib.Core.List.{List}
 use Prim.Native.Nat.{ℕ, zero, suc, _+_, _≤_, _<_}
 use native.Mathlib.Omega.{arith}
 use lib.Dec.{ltb, leb, eqb}
 use lib.ListN.{length, getD}
 use borrow.Author.Tests.{eqb-true, le-leb, leb-true, ltb-true, not-true}
-use Rattle.model.specs.Base.{pick, isIn, areBytes}
+use Rattle.model.specs.Base.{isIn, areBytes}
 use Rattle.model.specs.Limits.{maxRecords, maxDepth, maxBinders}
-use Rattle.model.specs.Refusal.{Fault, isFine, orElse, unless, kindAt, shortAt, fieldAt, sizeAt}
+use Rattle.model.specs.Refusal.{Refusal, isFine, orElse, unless, kindAt, shortAt, fieldAt, sizeAt}
 use Rattle.model.specs.Table.{isName, tagFits}
-use Rattle.model.specs.Script.{Expr, nil, document, var, step, both, letIn, forIn, ifIn, element, leaf, delete, insert, choose}
+use Rattle.model.specs.Script.{Expr, nil, document, var, step, both, letIn, forIn, ifIn, element, leaf, delete, insert, pick}
 use Rattle.model.specs.Script.{nilKind, documentKind, variableKind, stepKind, joinKind, letKind, forKind, ifKind, newElementKind}
-use Rattle.model.specs.Script.{newLeafKind, deleteKind, insertKind, pickKind, bodySize, testFits, bodyFits, isBinder, exprFault}
-use Rattle.model.specs.Script.{recordsOf, Parsed, ill, parsed, thenParse, one, two, three, operands, parseFrom, whole, readScript}
+use Rattle.model.specs.Script.{newLeafKind, deleteKind, insertKind, pickKind, isScriptKind, bodySize, testFits, bodyFits}
+use Rattle.model.specs.Script.{isBinder, exprRefusal}
+use Rattle.model.specs.Script.{recordsOf, Parsed, refused, parsed, thenParse, one, two, three, operands, parseFrom, whole}
+use Rattle.model.specs.Script.{readScript}
 use Rattle.model.specs.Run.{loose}
 use Rattle.model.specs.Promise.{IsScript}
-use Rattle.model.proofs.BoolLaws.{and-left, and-right, pick-cases}
+use Rattle.model.proofs.BoolLaws.{and-left, and-right, cond-cases}
 use Rattle.model.proofs.TestLaws.{isIn-some}
 use Rattle.model.proofs.BytesLaws.{areBytes-at, areBytes-drop}
 
@@ -35,7 +37,7 @@ FieldsFit (element z n) = tagFits (loose false n) ≡ true
 FieldsFit (leaf z v) = tagFits (loose true v) ≡ true
 FieldsFit (delete z e) = FieldsFit e
 FieldsFit (insert z e f) = FieldsFit e × FieldsFit f
-FieldsFit (choose z r c e) = FieldsFit e
+FieldsFit (pick z r c e) = FieldsFit e
 
 -- WHAT IS READ of b, n records before it, leaves c and m records: all are counted, at most 64; where b are bytes, the fields fit and c are
 pub record ExprRead (n : ℕ) (b : List ℕ) (e : Expr) (m : ℕ) (c : List ℕ) : Type 0 where
@@ -46,7 +48,7 @@ pub record ExprRead (n : ℕ) (b : List ℕ) (e : Expr) (m : ℕ) (c : List ℕ)
 
 -- or it is refused by a number of the reader's
 abbrev pub ReadsWell : (records : ℕ) → (bytes : List ℕ) → Parsed → Type 0
-ReadsWell n b (ill f) = isIn 1 5 (f .number) ≡ true
+ReadsWell n b (refused f) = isIn 1 5 (f .number) ≡ true
 ReadsWell n b (parsed e i m c) = ExprRead n b e m c
 
 abbrev Reader : Type 0
@@ -62,7 +64,7 @@ module _ (f : Reader) (r : ReaderWell f) (n : ℕ) (b : List ℕ) where
   then-well i m v c next h = go (f i m v c) (r i m v c)
     where
       go : (p : Parsed) → ReadsWell m c p → ReadsWell n b (thenParse p next)
-      go (ill x) k = k
+      go (refused x) k = k
       go (parsed e j k d) l = h e j k d l
 
   one-well : (i m v : ℕ) (c : List ℕ) (make : Expr → Expr) → (areBytes b ≡ true → areBytes c ≡ true) →
@@ -107,8 +109,8 @@ module _ (f : Reader) (r : ReaderWell f) (n : ℕ) (b : List ℕ) where
       (one-well i (n + 1) v c _ a (λ e. omega arith) (λ y e t. t)))))))))))))
     where
       kind : (k : ℕ) (p p′ : Parsed) → (eqb (getD b 0 0) k ≡ true → ReadsWell n b p) → ReadsWell n b p′ →
-          ReadsWell n b (pick (eqb (getD b 0 0) k) p p′)
-      kind k p p′ h h′ = pick-cases (ReadsWell n b) (eqb (getD b 0 0) k) h (λ q. h′)
+          ReadsWell n b (cond (eqb (getD b 0 0) k) p p′)
+      kind k p p′ h h′ = cond-cases (ReadsWell n b) (eqb (getD b 0 0) k) h (λ q. h′)
 
       none : (e : Expr) → recordsOf e ≡ 1 → (areBytes b ≡ true → FieldsFit e) → ReadsWell n b (parsed e i (n + 1) c)
       none e s t = record { counted = omega arith; few = omega arith; fields = t; rest = a }
@@ -120,7 +122,7 @@ module _ (f : Reader) (r : ReaderWell f) (n : ℕ) (b : List ℕ) where
       name e = rw (eqb-true (getD b 0 0) newElementKind e) at g
 
 -- THE FIVE TESTS of the record at the front: all hold, or it is refused with one of the five numbers
-abbrev firstOf : Bool → Bool → Bool → Bool → Bool → (place : ℕ) → Fault
+abbrev firstOf : Bool → Bool → Bool → Bool → Bool → (place : ℕ) → Refusal
 firstOf p q r s t i =
     orElse (unless p (shortAt i))
     (orElse (unless q (kindAt i)) (orElse (unless r (sizeAt i)) (orElse (unless s (shortAt i)) (unless t (fieldAt i)))))
@@ -144,8 +146,7 @@ tests-refuse false q r s t i e = refl
 
 pub record Passed (n d v : ℕ) (b : List ℕ) : Type 0 where
   pub some : 0 < length b
-  pub low : 1 ≤ getD b 0 0
-  pub high : getD b 0 0 ≤ 13
+  pub kind : isScriptKind (getD b 0 0) ≡ true
   pub few : n < maxRecords
   pub deep : d ≤ maxDepth
   pub scope : (isBinder (getD b 0 0) && leb maxBinders v) ≡ false
@@ -153,20 +154,17 @@ pub record Passed (n d v : ℕ) (b : List ℕ) : Type 0 where
   pub fits : bodyFits v b ≡ true
 
 module _ (i n d v : ℕ) (b : List ℕ) where
-  abbrev isKind : Bool
-  isKind = isIn nilKind pickKind (getD b 0 0)
-
   abbrev hasRoom : Bool
   hasRoom = ltb n maxRecords && leb d maxDepth && not (isBinder (getD b 0 0) && leb maxBinders v)
 
-  pub passed : isFine (exprFault i n d v b) ≡ true → Passed n d v b
+  pub passed : isFine (exprRefusal i n d v b) ≡ true → Passed n d v b
   passed e =
-      let t = tests-hold (ltb 0 (length b)) isKind hasRoom (leb (1 + bodySize (getD b 0 0)) (length b)) (bodyFits v b) i e in
+      let t = tests-hold (ltb 0 (length b)) (isScriptKind (getD b 0 0)) hasRoom (leb (1 + bodySize (getD b 0 0)) (length b))
+      (bodyFits v b) i e in
       let room = and-left (ltb n maxRecords && leb d maxDepth) _ (t .2) in
       record {
         some = ltb-true 0 (length b) (t .0);
-        low = leb-true 1 (getD b 0 0) (and-left _ _ (t .1));
-        high = leb-true (getD b 0 0) 13 (and-right (leb 1 (getD b 0 0)) _ (t .1));
+        kind = t .1;
         few = ltb-true n maxRecords (and-left _ (leb d maxDepth) room);
         deep = leb-true d maxDepth (and-right (ltb n maxRecords) _ room);
         scope = not-true _ (and-right (ltb n maxRecords && leb d maxDepth) _ (t .2));
@@ -174,35 +172,35 @@ module _ (i n d v : ℕ) (b : List ℕ) where
         fits = t .4;
       }
 
-  refused : isFine (exprFault i n d v b) ≡ false → isIn 1 5 (exprFault i n d v b .number) ≡ true
-  refused = tests-refuse (ltb 0 (length b)) isKind hasRoom (leb (1 + bodySize (getD b 0 0)) (length b)) (bodyFits v b) i
+  fails : isFine (exprRefusal i n d v b) ≡ false → isIn 1 5 (exprRefusal i n d v b .number) ≡ true
+  fails = tests-refuse (ltb 0 (length b)) (isScriptKind (getD b 0 0)) hasRoom (leb (1 + bodySize (getD b 0 0)) (length b)) (bodyFits v b) i
 
 -- THE READER
 parseFrom-well : (k d : ℕ) → ReaderWell (parseFrom k d)
 unfolding parseFrom
 parseFrom-well zero d i n v b = refl
 parseFrom-well (suc k) d i n v b =
-    pick-cases (ReadsWell n b) (isFine (exprFault i n d v b))
+    cond-cases (ReadsWell n b) (isFine (exprRefusal i n d v b))
     (λ e.
     operands-well (parseFrom k (d + 1)) (parseFrom-well k (d + 1)) n b i _ v _ (areBytes-drop (1 + bodySize (getD b 0 0)) b)
     (passed i n d v b e .few) (passed i n d v b e .fits))
-    (refused i n d v b)
+    (fails i n d v b)
 
 pub readScript-well : (b : List ℕ) → ReadsWell 0 b (readScript b)
 readScript-well b = go (parseFrom (maxDepth + 2) 1 0 0 0 b) (parseFrom-well (maxDepth + 2) 1 0 0 0 b)
   where
     go : (p : Parsed) → ReadsWell 0 b p → ReadsWell 0 b (whole p)
-    go (ill x) h = h
-    go (parsed e i n c) h = pick-cases (ReadsWell 0 b) (eqb (length c) 0) (λ q. h) (λ q. refl)
+    go (refused x) h = h
+    go (parsed e i n c) h = cond-cases (ReadsWell 0 b) (eqb (length c) 0) (λ q. h) (λ q. refl)
 
 pub isScript-fields : (e : Expr) → IsScript e → FieldsFit e
 isScript-fields e (b, a, (i, (n, (c, q)))) = subst (ReadsWell 0 b) q (readScript-well b) .fields a
 
 -- A REFUSAL has a number from 1 to 5, so not 0
 pub record Sound (x : Parsed) : Type 0 where
-  pub ranged : (f : Fault) → x ≡ ill f → isIn 1 5 (f .number) ≡ true
+  pub ranged : (f : Refusal) → x ≡ refused f → isIn 1 5 (f .number) ≡ true
 
-pub sound-numbered : {x : Parsed} → Sound x → (f : Fault) → x ≡ ill f → f .number ≡ 0 → ⊥
+pub sound-numbered : {x : Parsed} → Sound x → (f : Refusal) → x ≡ refused f → f .number ≡ 0 → ⊥
 sound-numbered s f e = isIn-some 0 5 (f .number) (s .ranged f e)
 
 well-sound : (n : ℕ) (b : List ℕ) (x : Parsed) → ReadsWell n b x → Sound x

@@ -1,5 +1,6 @@
 -- Row numbers from n on raised by m: of rows, parents, values and records.
 use mathlib.Core.Path.{_≡_, refl, ap}
+use mathlib.Core.Bool.{cond}
 use mathlib.Core.Logic.{_⊎_, inl, inr}
 use mathlib.Core.Option.{Option, none, some}
 use Prim.Native.Nat.{ℕ, _+_, _<_, _≤_}
@@ -7,12 +8,11 @@ use native.Mathlib.Omega.{arith}
 use native.Mathlib.Decide.{decLt}
 use lib.Dec.{ltb}
 use borrow.Author.Tests.{lt-ltb, le-ltb}
-use Rattle.model.specs.Base.{pick}
 use Rattle.model.specs.Table.{Row, withParent}
-use Rattle.model.specs.History.{Record}
+use Rattle.model.specs.History.{Record, made, cut}
 
 abbrev pub shift : (n m row : ℕ) → ℕ
-shift n m i = pick (ltb i n) i (i + m)
+shift n m i = cond (ltb i n) i (i + m)
 
 abbrev pub shiftParent : (n m : ℕ) → Option ℕ → Option ℕ
 shiftParent n m none = none
@@ -22,8 +22,8 @@ abbrev pub shiftRow : (n m : ℕ) → Row → Row
 shiftRow n m r = withParent r (shiftParent n m (r .parent))
 
 abbrev pub shiftRecord : (n m : ℕ) → Record → Record
-shiftRecord n m r =
-    record { kind = r .kind; row = shift n m (r .row); tag = r .tag; parent = shiftParent n m (r .parent) }
+shiftRecord n m (made i r) = made (shift n m i) (shiftRow n m r)
+shiftRecord n m (cut i p) = cut (shift n m i) (shift n m p)
 
 pub shift-low : (n m i : ℕ) → i < n → shift n m i ≡ i
 shift-low n m i h = rw (lt-ltb i n h)

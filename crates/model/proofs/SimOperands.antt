@@ -1,6 +1,6 @@
 -- Outcomes of expressions without operands, and what joins, steps, picks and loops make of the operands' outcomes.
 use mathlib.Core.Path.{_≡_, refl, sym, _∙_, ap, subst, subst₂}
-use mathlib.Core.Bool.{Bool, true, false, _&&_}
+use mathlib.Core.Bool.{Bool, true, false, _&&_, cond}
 use mathlib.Core.Logic.{inl, inr}
 use mathlib.Core.List.{List, [], _∷_, _++_, map, map-append, List·Memᴰ as In, List·Memᴰ·head as here}
 use mathlib.Core.Option.{Option, none, some, Option·none-ne-some}
@@ -8,13 +8,13 @@ use Prim.Native.Nat.{ℕ, _+_, _<_}
 use native.Mathlib.Omega.{arith}
 use lib.Dec.{ltb}
 use lib.ListN.{length, getD, length-map}
-use Rattle.model.specs.Base.{pick, nothing, also}
+use Rattle.model.specs.Base.{nothing, also}
 use Rattle.model.specs.Limits.{maxItems}
 use Rattle.model.specs.Refusal.{itemsAt}
 use Rattle.model.specs.Table.{count}
 use Rattle.model.specs.Script.{Step}
 use Rattle.model.specs.Step.{relates, isPicked, stepped, picked}
-use Rattle.model.specs.Run.{State, Out, stop, gives, joinItems, joinFor, loop, marked, loose, newRow, withMade}
+use Rattle.model.specs.Run.{State, Out, refused, gives, joinItems, joinFor, loop, marked, loose, newRow, withMade}
 use Rattle.model.specs.Paths.{Path, start, _▸_, withStep, documentPlace, isUp, placeOf}
 use Rattle.model.proofs.Words.{first, made}
 use Rattle.model.proofs.Spells.{spelled}
@@ -106,11 +106,11 @@ module _ (W : World) where
 
   -- JOIN: as many items in both, so that both are refused, or neither
   sim-limited : (r : List Path) (z : ℕ) (news : List Label) (v w : List ℕ) {o : Out} (o′ : List ℕ → Out) →
-      Sim W r news o (o′ (map (φ W) (v ++ w))) → Sim W r news (pick (ltb maxItems (length v + length w)) (stop (itemsAt z)) o)
-      (pick (ltb maxItems (length (map (φ W) v) + length (map (φ W) w))) (stop (itemsAt z)) (o′ (map (φ W) v ++ map (φ W) w)))
+      Sim W r news o (o′ (map (φ W) (v ++ w))) → Sim W r news (cond (ltb maxItems (length v + length w)) (refused (itemsAt z)) o)
+      (cond (ltb maxItems (length (map (φ W) v) + length (map (φ W) w))) (refused (itemsAt z)) (o′ (map (φ W) v ++ map (φ W) w)))
   sim-limited r z news v w {o} o′ h = rw (length-map, length-map, ← map-append (φ W) v w) (go (ltb maxItems (length v + length w)))
     where
-      go : (b : Bool) → Sim W r news (pick b (stop (itemsAt z)) o) (pick b (stop (itemsAt z)) (o′ (map (φ W) (v ++ w))))
+      go : (b : Bool) → Sim W r news (cond b (refused (itemsAt z)) o) (cond b (refused (itemsAt z)) (o′ (map (φ W) (v ++ w))))
       go true = alike
       go false = h
 
@@ -132,7 +132,7 @@ module _ (W : World) where
   sim-for r z news v next next′ (full b stopped) k h g = full b stopped
   sim-for r z news v next next′ (full b (passed {v = w} {s} l)) k h g = full b (go (ltb maxItems (length v + length w)))
     where
-      go : (b : Bool) → Full W (pick b (stop (itemsAt z)) (next (v ++ w) s))
+      go : (b : Bool) → Full W (cond b (refused (itemsAt z)) (next (v ++ w) s))
       go true = stopped
       go false = full-grows W (count (s .plan)) (next (v ++ w) s) l (g (v ++ w) s)
 

@@ -1,18 +1,18 @@
 -- In a world, the two runs of any expression without upward steps have outcomes alike.
 use mathlib.Core.Path.{_≡_, refl, sym, subst}
-use mathlib.Core.Bool.{true, false, _||_}
+use mathlib.Core.Bool.{true, false, _||_, cond}
 use mathlib.Core.List.{List, [], _∷_, _++_, map, map-append, Memᴰ·append-left, Memᴰ·append-right, List·Memᴰ as In, List·Memᴰ·head as here}
 use Prim.Native.Nat.{ℕ}
 use lib.Dec.{eqb}
 use lib.ListN.{length, getD, length-map, List·getD-map}
-use Rattle.model.specs.Base.{pick, nothing, also}
+use Rattle.model.specs.Base.{nothing, also}
 use Rattle.model.specs.Table.{count}
-use Rattle.model.specs.Script.{Step, Expr, nil, document, var, step, both, letIn, forIn, ifIn, element, leaf, delete, insert, choose}
+use Rattle.model.specs.Script.{Step, Expr, nil, document, var, step, both, letIn, forIn, ifIn, element, leaf, delete, insert, pick}
 use Rattle.model.specs.Step.{stepped, picked}
 use Rattle.model.specs.Run.{State, Out, gives, andThen, joinItems, inserted, loop, cutAll, run}
 use Rattle.model.specs.Paths.{Path, start, _▸_, withStep, anyBelow, documentPlace, Paths, paths, after, joinPaths, infer, pathsOf}
 use Rattle.model.specs.Paths.{isUp, hasUp}
-use Rattle.model.proofs.BoolLaws.{or-neither, pick-cases, pick-related}
+use Rattle.model.proofs.BoolLaws.{or-neither, cond-cases, cond-related}
 use Rattle.model.proofs.Labels.{Label}
 use Rattle.model.proofs.All.{all-append}
 use Rattle.model.proofs.Pointwise.{Pointwise, ended, pointwise-snoc, pointwise-imp, pointwise-read}
@@ -178,16 +178,16 @@ module _ (W : World) where
   if-simulated : (z : ℕ) (e f g : Expr) → Simulated e → Simulated f → Simulated g → Simulated (ifIn z e f g)
   unfolding run infer hasUp
   if-simulated z e f g E F G b v news s t u h k T =
-      sim-then W (x .result) (y .result ++ w .result) news (λ l q. pick (eqb (length l) 0) (run g v q) (run f v q))
-      (λ l q. pick (eqb (length l) 0) (run g (φs v) q) (run f (φs v) q))
+      sim-then W (x .result) (y .result ++ w .result) news (λ l q. cond (eqb (length l) 0) (run g v q) (run f v q))
+      (λ l q. cond (eqb (length l) 0) (run g (φs v) q) (run f (φs v) q))
       (E b v news s t (ups .0) (inside-first x (y .result ++ w .result) (yw .accessed) (yw .modified) h) k T)
       (λ more l s t T a.
       subst
       (λ n.
-      Sim W (y .result ++ w .result) (news ++ more) (pick (eqb (length l) 0) (run g v s) (run f v s))
-      (pick (eqb n 0) (run g (φs v) t) (run f (φs v) t)))
+      Sim W (y .result ++ w .result) (news ++ more) (cond (eqb (length l) 0) (run g v s) (run f v s))
+      (cond (eqb n 0) (run g (φs v) t) (run f (φs v) t)))
       (sym (length-map l (φ W)))
-      (pick-related (Sim W (y .result ++ w .result) (news ++ more)) (eqb (length l) 0)
+      (cond-related (Sim W (y .result ++ w .result) (news ++ more)) (eqb (length l) 0)
       (λ c. sim-paths W (w .result) (y .result ++ w .result)
       (λ n l a. vals-right W (y .result) (w .result) n a)
       (news ++ more) (G b v (news ++ more) s t (ups .2) (inside-rest y [] (w .result) (w .accessed) (w .modified) inner)
@@ -196,7 +196,7 @@ module _ (W : World) where
       (λ n l a. vals-left W (y .result) (w .result) n a)
       (news ++ more) (F b v (news ++ more) s t (ups .1) (inside-first y [] (w .accessed) (w .modified) inner)
       (env-more news more k) T))))
-      (λ l q. pick-cases (Grows _) (eqb (length l) 0) (λ e. run-grows g v q) (λ e. run-grows f v q))
+      (λ l q. cond-cases (Grows _) (eqb (length l) 0) (λ e. run-grows g v q) (λ e. run-grows f v q))
     where
       x : Paths
       x = infer (W .script .owner) e b
@@ -262,7 +262,7 @@ module _ (W : World) where
       (λ w w′ q. grows-insert z w w′ q)
 
   -- PICK
-  pick-simulated : (z y c : ℕ) (e : Expr) → Simulated e → Simulated (choose z y c e)
+  pick-simulated : (z y c : ℕ) (e : Expr) → Simulated e → Simulated (pick z y c e)
   unfolding run infer hasUp
   pick-simulated z y c e E b v news s t u h k T =
       sim-then W r r news (λ w q. gives (picked (q .plan) y c w) q)
@@ -289,7 +289,7 @@ module _ (W : World) where
   simulation (leaf z n) = leaf-simulated z n
   simulation (delete z e) = delete-simulated z e (simulation e)
   simulation (insert z e f) = insert-simulated z e f (simulation e) (simulation f)
-  simulation (choose z y c e) = pick-simulated z y c e (simulation e)
+  simulation (pick z y c e) = pick-simulated z y c e (simulation e)
 
   -- a whole script
   pub script-sim : (e : Expr) (s t : State) → hasUp e ≡ false →

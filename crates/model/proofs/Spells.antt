@@ -1,12 +1,11 @@
 -- Words spelled by a path's steps, wherever its place is; and the letters that a step, or two steps at once, let through.
 use mathlib.Core.Path.{_≡_, refl}
-use mathlib.Core.Bool.{Bool, true, false, _&&_, _||_, not}
+use mathlib.Core.Bool.{Bool, true, false, _&&_, _||_, not, cond}
 use mathlib.Core.Logic.{inl, inr}
 use mathlib.Core.List.{[], _∷_}
 use Prim.Native.Nat.{ℕ}
 use lib.Dec.{eqb}
 use borrow.Author.Tests.{eqb-true, eq-eqb}
-use Rattle.model.specs.Base.{pick}
 use Rattle.model.specs.Table.{isName}
 use Rattle.model.specs.Script.{Step}
 use Rattle.model.specs.Step.{Letter, leafLetter, named, admits}
@@ -28,27 +27,27 @@ pub data Spells : Path → Word → Type 0 where
 pub spells-child : {p : Path} {s : Step} {a : Letter} {w : Word} → Spells p w → StepFits s → admits s a ≡ true → Spells (p ▸ s) (a ∷ w)
 spells-child {p} {s} h f e = elim (down-axis s (f .down)) [ inl k ↦ child h k e | inr k ↦ deep h same k e ]
 
--- GOOD WORDS: elements with a name in range, and perhaps a leaf at the end
+-- WORDS TO A ROW: elements with a name in range, and perhaps a leaf at the end
 pub data Elements : Word → Type 0 where
   root : Elements []
   below : {n : ℕ} {w : Word} → isName n ≡ true → Elements w → Elements (named n ∷ w)
 
-pub data Good : (isLeaf : Bool) → Word → Type 0 where
-  toElement : {w : Word} → Elements w → Good false w
-  toLeaf : {w : Word} → Elements w → Good true (leafLetter ∷ w)
+pub data WordTo : (isLeaf : Bool) → Word → Type 0 where
+  toElement : {w : Word} → Elements w → WordTo false w
+  toLeaf : {w : Word} → Elements w → WordTo true (leafLetter ∷ w)
 
-pub good-elements : {w : Word} → Good false w → Elements w
-good-elements (toElement e) = e
+pub wordTo-elements : {w : Word} → WordTo false w → Elements w
+wordTo-elements (toElement e) = e
 
 -- LETTERS: one of the kind z that a step lets through
 abbrev pub admitsKind : Bool → Step → Bool
-admitsKind z s = pick z (admitsLeaf s) (admitsElement s)
+admitsKind z s = cond z (admitsLeaf s) (admitsElement s)
 
 abbrev pub shareKind : Bool → Step → Step → Bool
-shareKind z s t = pick z (shareLeaf s t) (shareElement s t)
+shareKind z s t = cond z (shareLeaf s t) (shareElement s t)
 
 abbrev pub Ends : Bool → Letter → Type 0
-Ends z a = (w : Word) → Elements w → Good z (a ∷ w)
+Ends z a = (w : Word) → Elements w → WordTo z (a ∷ w)
 
 pub record LetterFor (z : Bool) (s : Step) : Type 0 where
   pub letter : Letter

@@ -5,18 +5,18 @@ use mathlib.Core.List.{[]}
 use Prim.Native.Nat.{ℕ}
 use borrow.Author.Tests.{ne-eqb}
 use Rattle.model.specs.Base.{isIn}
-use Rattle.model.specs.Refusal.{Fault, isFine}
+use Rattle.model.specs.Refusal.{Refusal, isFine}
 use Rattle.model.specs.Table.{Table}
 use Rattle.model.specs.Script.{Expr}
-use Rattle.model.specs.Run.{stop, state, runOn}
+use Rattle.model.specs.Run.{refused, state, runOn}
 use Rattle.model.proofs.TestLaws.{isIn-some}
 use Rattle.model.proofs.Grows.{Grows, stops, run-grows}
 
-grows-number : {c : ℕ} {f : Fault} → Grows c (stop f) → isIn 7 10 (f .number) ≡ true
+grows-number : {c : ℕ} {f : Refusal} → Grows c (refused f) → isIn 7 10 (f .number) ≡ true
 grows-number (stops e) = e
 
-pub stop-number : (e : Expr) (x : Table) (f : Fault) → runOn x e ≡ stop f → isIn 7 10 (f .number) ≡ true
+pub stop-number : (e : Expr) (x : Table) (f : Refusal) → runOn x e ≡ refused f → isIn 7 10 (f .number) ≡ true
 stop-number e x f h = grows-number (rw h at (run-grows e [] (state x [])))
 
-pub stop-refuses : (e : Expr) (x : Table) (f : Fault) → runOn x e ≡ stop f → isFine f ≡ false
+pub stop-refuses : (e : Expr) (x : Table) (f : Refusal) → runOn x e ≡ refused f → isFine f ≡ false
 stop-refuses e x f h = ne-eqb (f .number) 0 (isIn-some 6 10 (f .number) (stop-number e x f h))

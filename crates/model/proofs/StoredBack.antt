@@ -1,6 +1,6 @@
 -- A well-formed table is read back from its bytes, and bytes that are read are well formed and written back the same.
 use mathlib.Core.Path.{_≡_, refl, sym, ap, _∙_, subst}
-use mathlib.Core.Bool.{Bool, true, false}
+use mathlib.Core.Bool.{Bool, true, false, cond}
 use mathlib.Core.Logic.{inl, inr}
 use mathlib.Core.List.{List, [], _∷_, _++_, append-assoc, append-nil}
 use mathlib.Core.Option.{Option, none, some, Option·none-ne-some}
@@ -11,12 +11,13 @@ use lib.Dec.{ltb, eqb}
 use lib.ListN.{length, getD, take, drop, set, replicate, length-append, length-drop, take-append-drop, List·getD-append}
 use lib.Seq.{drop-at, set-append-seam, getD-append-seam}
 use borrow.Author.Tests.{ltb-true, ltb-false, eqb-true, eqb-false, lt-ltb}
-use Rattle.model.specs.Base.{pick, areBytes}
+use Rattle.model.specs.Base.{areBytes}
 use Rattle.model.specs.Limits.{documents}
 use Rattle.model.specs.Refusal.{isFine}
 use Rattle.model.specs.Table.{Row, Table, table, empty, noRow, rowAt, count, withRow, withMark, isMarked, tagFits, parentFits}
-use Rattle.model.specs.Stored.{elementKind, leafKind, Read, got, stored, parentBytes, rowBytes, rowsBytes, markBytes, marksBytes}
-use Rattle.model.specs.Stored.{rowIn, wordAt, recordFault, recorded, readFrom, readPlan, IsWord}
+use Rattle.model.specs.Stored.{elementKind, leafKind, markKind, storedKinds, isStoredKind, recordSize, Read, got, stored}
+use Rattle.model.specs.Stored.{parentBytes, rowBytes, rowsBytes, markBytes, marksBytes}
+use Rattle.model.specs.Stored.{rowIn, wordAt, recordRefusal, recorded, readFrom, readPlan, IsWord}
 use Rattle.model.specs.Promise.{StoredBack}
 use Rattle.model.proofs.BoolLaws.{and-both}
 use Rattle.model.proofs.TableLaws.{any-at, isElement-by, Well, isWell-at, isWell-by, well-empty}
@@ -27,32 +28,32 @@ use Rattle.model.proofs.BytesLaws.{rowBytes-back, rowIn-back, rowsBytes
 use Rattle.model.proofs.BytesLaws.{marksBytes-set}
 
 -- BYTES TO TABLE TO BYTES: a fine record adds its own four bytes to what is stored
-stored-row : (x : Table) (b : List ℕ) → areBytes b ≡ true → IsRowRecord x b → stored (withRow x (rowIn b)) ≡ stored x ++ take 4 b
+stored-row : (x : Table) (b : List ℕ) → areBytes b ≡ true → IsRowRecord x b → stored (withRow x (rowIn b)) ≡ stored x ++ take recordSize b
 stored-row x b h r =
     rw (marksBytes-none 0 (x .marks) (λ k. lastMarked-at 0 (x .marks) 0 (omega (arith, r .before)) k (omega arith)))
     (simp append-nil
     (rowsBytes-snoc (x .rows) (rowIn b) ∙
-    ap (λ (c : List ℕ). rowsBytes (x .rows) ++ c) (rowBytes-back b h (r .long) (r .kind .0) (r .kind .1))))
+    ap (λ (c : List ℕ). rowsBytes (x .rows) ++ c) (rowBytes-back b h (r .long) (r .kind) (r .row))))
 
 markBytes-back : (x : Table) (b : List ℕ) → areBytes b ≡ true → IsMarkRecord x b →
-    markBytes (0 + getD b 1 0) (some (wordAt b 2)) ≡ take 4 b
+    markBytes (0 + getD b 1 0) (some (wordAt b 2)) ≡ take recordSize b
 markBytes-back x b h m =
     let w = wordBytes-back (getD b 2 0) (getD b 3 0) (areBytes-at b h 2) (areBytes-at b h 3) in
     cc (w, zero-add (getD b 1 0), m .kind, take-four b (m .long))
 
 stored-mark : (x : Table) (b : List ℕ) → areBytes b ≡ true → Well x → IsMarkRecord x b →
-    stored (withMark x (getD b 1 0) (wordAt b 2)) ≡ stored x ++ take 4 b
+    stored (withMark x (getD b 1 0) (wordAt b 2)) ≡ stored x ++ take recordSize b
 stored-mark x b h w m =
     ap (λ (c : List ℕ). rowsBytes (x .rows) ++ c)
     (marksBytes-set 0 (x .marks) (getD b 1 0) (wordAt b 2) none-from (omega (arith, m .document, w .eight)) ∙
     ap (λ (c : List ℕ). marksBytes 0 (x .marks) ++ c) (markBytes-back x b h m)) ∙
-    sym (append-assoc (rowsBytes (x .rows)) (marksBytes 0 (x .marks)) (take 4 b))
+    sym (append-assoc (rowsBytes (x .rows)) (marksBytes 0 (x .marks)) (take recordSize b))
   where
     none-from : (j : ℕ) → getD b 1 0 ≤ j → getD (x .marks) j none ≡ none
     none-from j l = lastMarked-at 0 (x .marks) (getD b 1 0) (m .rises) j (omega arith)
 
-stored-recorded : (x : Table) (i : ℕ) (b : List ℕ) → areBytes b ≡ true → Well x → isFine (recordFault x i b) ≡ true →
-    stored (recorded x b) ≡ stored x ++ take 4 b
+stored-recorded : (x : Table) (i : ℕ) (b : List ℕ) → areBytes b ≡ true → Well x → isFine (recordRefusal x i b) ≡ true →
+    stored (recorded x b) ≡ stored x ++ take recordSize b
 stored-recorded x i b h w f = elim (record-cases x i b f) [
   | inl r ↦ ap stored (recorded-row x b r) ∙ stored-row x b h r
   | inr m ↦ ap stored (recorded-mark x b m) ∙ stored-mark x b h w m
@@ -70,21 +71,23 @@ pub read-back : (n : ℕ) (x y : Table) (i : ℕ) (b : List ℕ) → length b �
     Well y × (stored y ≡ stored x ++ b)
 read-back zero x y i b l h w e = read-end zero x y i b (omega arith) w e
 read-back (suc n) x y i b l h w e =
-    go (eqb (length b) 0) (isFine (recordFault x i b)) refl refl (read-back n (recorded x b) y (i + 4) (drop 4 b))
+    go (eqb (length b) 0) (isFine (recordRefusal x i b)) refl refl (read-back n (recorded x b) y (i + recordSize) (drop recordSize b))
   where
-    go : (t u : Bool) → eqb (length b) 0 ≡ t → isFine (recordFault x i b) ≡ u →
-        (length (drop 4 b) ≤ n → areBytes (drop 4 b) ≡ true → Well (recorded x b) →
-        readFrom n (recorded x b) (i + 4) (drop 4 b) ≡ got y → Well y × (stored y ≡ stored (recorded x b) ++ drop 4 b)) →
+    go : (t u : Bool) → eqb (length b) 0 ≡ t → isFine (recordRefusal x i b) ≡ u →
+        (length (drop recordSize b) ≤ n → areBytes (drop recordSize b) ≡ true → Well (recorded x b) →
+        readFrom n (recorded x b) (i + recordSize) (drop recordSize b) ≡ got y →
+        Well y × (stored y ≡ stored (recorded x b) ++ drop recordSize b)) →
         Well y × (stored y ≡ stored x ++ b)
     go true u p q r = read-end (suc n) x y i b (eqb-true _ _ p) w e
     go false true p q r =
         let m : 0 < length b = omega (arith, eqb-false (length b) 0 p) in
         let k =
-        r (omega (arith, length-drop 4 b)) (areBytes-drop 4 b h) (well-recorded x i b w q)
+        r (omega (arith, length-drop recordSize b)) (areBytes-drop recordSize b h) (well-recorded x i b w q)
         (sym (readFrom-fine n x i b m q) ∙ e) in (
           k .0,
-          k .1 ∙ ap (λ (c : List ℕ). c ++ drop 4 b) (stored-recorded x i b h w q) ∙
-              append-assoc (stored x) (take 4 b) (drop 4 b) ∙ ap (λ (c : List ℕ). stored x ++ c) (take-append-drop 4 b),
+          k .1 ∙ ap (λ (c : List ℕ). c ++ drop recordSize b) (stored-recorded x i b h w q) ∙
+              append-assoc (stored x) (take recordSize b) (drop recordSize b) ∙
+              ap (λ (c : List ℕ). stored x ++ c) (take-append-drop recordSize b),
         )
     go false false p q r =
         let m : 0 < length b = omega (arith, eqb-false (length b) 0 p) in
@@ -95,15 +98,15 @@ read-back (suc n) x y i b l h w e =
 abbrev readAll : Table → ℕ → List ℕ → Read
 readAll x i b = readFrom (length b) x i b
 
-read-step : (x : Table) (i : ℕ) (b c : List ℕ) → length b ≡ 4 → isFine (recordFault x i (b ++ c)) ≡ true →
-    readAll x i (b ++ c) ≡ readAll (recorded x (b ++ c)) (i + 4) c
+read-step : (x : Table) (i : ℕ) (b c : List ℕ) → length b ≡ recordSize → isFine (recordRefusal x i (b ++ c)) ≡ true →
+    readAll x i (b ++ c) ≡ readAll (recorded x (b ++ c)) (i + recordSize) c
 read-step x i b c l f =
     let m : length (b ++ c) ≡ suc (3 + length c) = omega (arith, length-append b c) in
-    let d : drop 4 (b ++ c) ≡ c = drop-at b c 4 l in
+    let d : drop recordSize (b ++ c) ≡ c = drop-at b c recordSize l in
     ap (λ (n : ℕ). readFrom n x i (b ++ c)) m ∙
     readFrom-fine (3 + length c) x i (b ++ c) (omega arith) f ∙
-    ap (λ (e : List ℕ). readFrom (3 + length c) (recorded x (b ++ c)) (i + 4) e) d ∙
-    readFrom-fuel (3 + length c) (length c) (recorded x (b ++ c)) (i + 4) c (omega arith) (omega arith)
+    ap (λ (e : List ℕ). readFrom (3 + length c) (recorded x (b ++ c)) (i + recordSize) e) d ∙
+    readFrom-fuel (3 + length c) (length c) (recorded x (b ++ c)) (i + recordSize) c (omega arith) (omega arith)
 
 module _ (x : Table) (w : Well x) (done rest : List Row) (r : Row) (e : done ++ r ∷ rest ≡ x .rows) where
   next-row : rowAt x (length done) ≡ r
@@ -126,10 +129,12 @@ module _ (x : Table) (w : Well x) (done rest : List Row) (r : Row) (e : done ++ 
   next-word j p = omega (arith, w .tree .parents (length done) j (ap (λ (q : Row). q .parent) next-row ∙ p) .0, w .few, next-count)
 
   next-record : (ms : List (Option ℕ)) (c : List ℕ) → ((k : ℕ) → getD ms k none ≡ none) → IsRowRecord (table done ms) (rowBytes r ++ c)
+  unfolding storedKinds
   next-record ms c n =
       let q : r ≡ rowIn (rowBytes r ++ c) = sym (rowIn-back r next-word c) in
       record {
         kind = kind (r .isLeaf);
+        row = row (r .isLeaf);
         room = omega (arith, next-count, w .few);
         long = omega (arith, length-append (parentBytes (r .parent)) c, length-parentBytes (r .parent));
         tag = subst (λ (s : Row). tagFits s ≡ true) (next-row ∙ q) (w .tree .tags (length done) next-count);
@@ -137,22 +142,26 @@ module _ (x : Table) (w : Well x) (done rest : List Row) (r : Row) (e : done ++ 
         parent = subst (λ (s : Row). parentFits (table done ms) (length done) (s .parent) ≡ true) q (next-parent ms (r .parent) refl);
       }
     where
-      kind : (t : Bool) → (elementKind ≤ pick t leafKind elementKind) × (pick t leafKind elementKind ≤ leafKind)
-      kind true = omega arith
-      kind false = omega arith
+      kind : (t : Bool) → isStoredKind (cond t leafKind elementKind) ≡ true
+      kind true = refl
+      kind false = refl
+
+      row : (t : Bool) → eqb (cond t leafKind elementKind) markKind ≡ false
+      row true = refl
+      row false = refl
 
   read-row : (ms : List (Option ℕ)) (i : ℕ) (c : List ℕ) → ((k : ℕ) → getD ms k none ≡ none) →
-      readAll (table done ms) i (rowBytes r ++ c) ≡ readAll (table (done ++ (r ∷ [])) ms) (i + 4) c
+      readAll (table done ms) i (rowBytes r ++ c) ≡ readAll (table (done ++ (r ∷ [])) ms) (i + recordSize) c
   read-row ms i c n =
       let f = next-record ms c n in
       read-step (table done ms) i (rowBytes r) c (omega (arith, length-parentBytes (r .parent)))
       (row-fine (table done ms) i (rowBytes r ++ c) f) ∙
-      ap (λ (y : Table). readAll y (i + 4) c)
+      ap (λ (y : Table). readAll y (i + recordSize) c)
       (recorded-row (table done ms) (rowBytes r ++ c) f ∙ ap (λ (s : Row). withRow (table done ms) s) (rowIn-back r next-word c))
 
 read-rows : (x : Table) → Well x → (done rest : List Row) (ms : List (Option ℕ)) (i : ℕ) (c : List ℕ) → done ++ rest ≡ x .rows →
     ((k : ℕ) → getD ms k none ≡ none) →
-    readAll (table done ms) i (rowsBytes rest ++ c) ≡ readAll (table (x .rows) ms) (i + 4 * length rest) c
+    readAll (table done ms) i (rowsBytes rest ++ c) ≡ readAll (table (x .rows) ms) (i + recordSize * length rest) c
 unfolding rowsBytes
 read-rows x w done [] ms i c e n =
     ap (λ (y : Table). readAll y i c) (ap (λ (l : List Row). table l ms) (sym (append-nil done) ∙ e)) ∙
@@ -160,7 +169,7 @@ read-rows x w done [] ms i c e n =
 read-rows x w done (r ∷ rest) ms i c e n =
     ap (λ (b : List ℕ). readAll (table done ms) i b) (append-assoc (rowBytes r) (rowsBytes rest) c) ∙
     read-row x w done rest r e ms i (rowsBytes rest ++ c) n ∙
-    read-rows x w (done ++ (r ∷ [])) rest ms (i + 4) c (append-assoc done (r ∷ []) rest ∙ e) n ∙
+    read-rows x w (done ++ (r ∷ [])) rest ms (i + recordSize) c (append-assoc done (r ∷ []) rest ∙ e) n ∙
     ap (λ (j : ℕ). readAll (table (x .rows) ms) j c) (omega arith)
 
 -- the marks set so far, with none after them
@@ -214,12 +223,12 @@ module _ (x : Table) (w : Well x) (done rest : List (Option ℕ)) (j : ℕ) (e :
   }
 
   read-mark : (i : ℕ) (c : List ℕ) → readAll (markedSoFar x done (some j ∷ rest)) i (markBytes (length done) (some j) ++ c) ≡
-      readAll (markedSoFar x (done ++ (some j ∷ [])) rest) (i + 4) c
+      readAll (markedSoFar x (done ++ (some j ∷ [])) rest) (i + recordSize) c
   read-mark i c =
       let y : Table = markedSoFar x done (some j ∷ rest) in
       let b : List ℕ = markBytes (length done) (some j) in
       read-step y i b c refl (mark-fine y i (b ++ c) (next-fine c)) ∙
-      ap (λ (z : Table). readAll z (i + 4) c)
+      ap (λ (z : Table). readAll z (i + recordSize) c)
       (recorded-mark y (b ++ c) (next-fine c) ∙ ap (λ (k : ℕ). withMark y (length done) k) (word-back j) ∙ ap (table (x .rows)) placed)
     where
       placed : set (done ++ none ∷ replicate (length rest) none) (length done) (some j) ≡
@@ -240,16 +249,16 @@ read-marks x w done (none ∷ rest) i e =
     read-marks x w (done ++ (none ∷ [])) rest i (append-assoc done (none ∷ []) rest ∙ e)
 read-marks x w done (some j ∷ rest) i e =
     read-mark x w done rest j e i (marksBytes (suc (length done)) rest) ∙
-    ap (λ (d : ℕ). readAll (markedSoFar x (done ++ (some j ∷ [])) rest) (i + 4) (marksBytes d rest))
+    ap (λ (d : ℕ). readAll (markedSoFar x (done ++ (some j ∷ [])) rest) (i + recordSize) (marksBytes d rest))
     (omega (arith, length-append done (some j ∷ []))) ∙
-    read-marks x w (done ++ (some j ∷ [])) rest (i + 4) (append-assoc done (some j ∷ []) rest ∙ e)
+    read-marks x w (done ++ (some j ∷ [])) rest (i + recordSize) (append-assoc done (some j ∷ []) rest ∙ e)
 
 stored-read : (x : Table) → Well x → readPlan (stored x) ≡ got x
 stored-read x w =
     readFrom-fuel (length (stored x) + 1) (length (stored x)) empty 0 (stored x) (omega arith) (omega arith) ∙
     read-rows x w [] (x .rows) (replicate documents none) 0 (marksBytes 0 (x .marks)) refl (replicate-none documents) ∙
-    ap (λ (n : ℕ). readAll (table (x .rows) (replicate n none)) (0 + 4 * count x) (marksBytes 0 (x .marks))) (sym (w .eight)) ∙
-    read-marks x w [] (x .marks) (0 + 4 * count x) refl
+    ap (λ (n : ℕ). readAll (table (x .rows) (replicate n none)) (0 + recordSize * count x) (marksBytes 0 (x .marks))) (sym (w .eight)) ∙
+    read-marks x w [] (x .marks) (0 + recordSize * count x) refl
 
 pub storedBack : StoredBack
 unfolding rowsBytes marksBytes

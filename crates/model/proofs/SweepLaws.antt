@@ -1,6 +1,6 @@
 -- Which rows a sweep keeps, and their new numbers: kept unrolled, counted, and found again in the swept table.
 use mathlib.Core.Path.{_≡_, refl, sym, ap, ap₂, _∙_, subst}
-use mathlib.Core.Bool.{Bool, true, false, _||_}
+use mathlib.Core.Bool.{Bool, true, false, _||_, cond}
 use mathlib.Core.Logic.{_⊎_, inl, inr}
 use mathlib.Core.List.{List, [], _∷_}
 use mathlib.Core.Option.{Option, none, some, Option·none-ne-some}
@@ -11,7 +11,7 @@ use native.Mathlib.Omega.{arith}
 use lib.Dec.{ltb, leb}
 use lib.ListN.{length, getD}
 use borrow.Author.Tests.{ltb-true, ltb-false, leb-true, leb-false}
-use Rattle.model.specs.Base.{pick, bit}
+use Rattle.model.specs.Base.{bit}
 use Rattle.model.specs.Table.{Row, Table, noRow, rowAt, isMarked, withParent, Tree}
 use Rattle.model.specs.Sweep.{through, keptFrom, isKept, keptBefore, newNumber, renumbered, sweptRows}
 use Rattle.model.proofs.BoolLaws.{bit-le, or-left, or-right, or-cases, true-false}
@@ -77,7 +77,7 @@ pub newNumber-zero : (x : Table) → newNumber x 0 ≡ 0
 unfolding keptBefore
 newNumber-zero x = refl
 
-pub newNumber-suc : (x : Table) (i : ℕ) → newNumber x (suc i) ≡ newNumber x i + pick (isKept x i) 1 0
+pub newNumber-suc : (x : Table) (i : ℕ) → newNumber x (suc i) ≡ newNumber x i + cond (isKept x i) 1 0
 newNumber-suc x i = keptBefore-last x 0 i ∙ ap (λ (k : ℕ). newNumber x i + bit (isKept x k)) (zero-add i)
 
 newNumber-kept : (x : Table) (i : ℕ) → isKept x i ≡ true → newNumber x (suc i) ≡ suc (newNumber x i)

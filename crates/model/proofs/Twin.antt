@@ -7,10 +7,10 @@ use mathlib.Core.Option.{Option, none, some}
 use Prim.Native.Nat.{ℕ, _+_, _<_, _≤_}
 use lib.ListN.{length, getD}
 use Rattle.model.specs.Limits.{maxRows}
-use Rattle.model.specs.Refusal.{Fault}
+use Rattle.model.specs.Refusal.{Refusal}
 use Rattle.model.specs.Table.{Row, Table, rowAt, count, withParent}
-use Rattle.model.specs.History.{Record}
-use Rattle.model.specs.Run.{State, Out, stop, gives}
+use Rattle.model.specs.History.{Record, made, cut}
+use Rattle.model.specs.Run.{State, Out, refused, gives}
 use Rattle.model.specs.Paths.{Path}
 use Rattle.model.proofs.Words.{Word, first, made, Grown}
 use Rattle.model.proofs.Labels.{Label, label, labelAt, Fit}
@@ -61,7 +61,8 @@ pub record World : Type 1 where
 
 -- a history names only rows that there are
 abbrev pub Named : (rows : ℕ) → Record → Type 0
-Named k r = (r .row < k) × ((p : ℕ) → r .parent ≡ some p → p < k)
+Named k (made i r) = (i < k) × ((p : ℕ) → r .parent ≡ some p → p < k)
+Named k (cut i p) = (i < k) × (p < k)
 
 module _ (c : Script) where
   -- LABELS: the script's own; on one of these paths, which is accessed; one that the script may change, with all below it
@@ -84,8 +85,8 @@ module _ (c : Script) where
   abbrev pub Kept : Label → (before after : Row) → Type 0
   Kept l r q = (q ≡ r) ⊎ ((q ≡ withParent r none) × ((p : Path) × c .accessed p × OnPath (c .marks) p l) × Changed l)
 
-  -- GOOD: a state in a run from one side's table; the labels of the rows made so far are given
-  pub record Good (d : Side) (news : List Label) (s : State) : Type 0 where
+  -- RUN FROM: a state in a run from one side's table; the labels of the rows made so far are given
+  pub record RunFrom (d : Side) (news : List Label) (s : State) : Type 0 where
     pub fit : Fit (d .labels ++ news) (s .plan)
     pub marked : s .plan .marks ≡ c .marks
     pub room : count (s .plan) ≤ maxRows
@@ -116,8 +117,8 @@ module _ (W : World) where
 
   -- TWIN: rows that are not hidden are alike, and so are the histories
   pub record Twin (news : List Label) (s t : State) : Type 0 where
-    pub one : Good (W .script) (W .one) news s
-    pub two : Good (W .script) (W .two) news t
+    pub one : RunFrom (W .script) (W .one) news s
+    pub two : RunFrom (W .script) (W .two) news t
     pub touched : All (Touched (W .script)) news
     pub alike : (i : ℕ) → i < count (s .plan) → (W .one .hidden i → ⊥) →
         rowAt (t .plan) (φ i) ≡ φRow (rowAt (s .plan) i)
@@ -132,12 +133,12 @@ module _ (W : World) where
 
   -- no room for m rows more
   pub data Full : Out → Type 0 where
-    stopped : {z : Fault} → Full (stop z)
+    stopped : {z : Refusal} → Full (refused z)
     passed : {v : List ℕ} {s : State} → maxRows < count (s .plan) + W .m → Full (gives v s)
 
   -- SIM: both give alike; both stop alike; or the second stops where the first, with m rows more, would not fit
   pub data Sim (r : List Path) (news : List Label) : Out → Out → Type 0 where
     both : {v : List ℕ} {s t : State} (more : List Label) → Twin (news ++ more) s t → Vals r (news ++ more) v →
         Sim r news (gives v s) (gives (map φ v) t)
-    alike : {z : Fault} → Sim r news (stop z) (stop z)
-    full : {o : Out} {z : Fault} → 0 < W .m → Full o → Sim r news o (stop z)
+    alike : {z : Refusal} → Sim r news (refused z) (refused z)
+    full : {o : Out} {z : Refusal} → 0 < W .m → Full o → Sim r news o (refused z)

@@ -1,6 +1,6 @@
 -- Copies in both states of a twin: subtrees, as they were before the insert, under a target.
 use mathlib.Core.Path.{_≡_, refl, sym, _∙_, ap, ap₂, subst, subst₂}
-use mathlib.Core.Bool.{Bool, true, false, _&&_, not}
+use mathlib.Core.Bool.{Bool, true, false, _&&_, not, cond}
 use mathlib.Core.Logic.{inl, inr}
 use mathlib.Core.List.{List, [], _∷_, _++_, map, List·Memᴰ as In}
 use mathlib.Core.Option.{Option, none, some, Option·none-ne-some, Option·some-injective}
@@ -9,11 +9,11 @@ use native.Mathlib.Omega.{arith}
 use lib.Dec.{ltb, eqb}
 use lib.ListN.{length}
 use borrow.Author.Tests.{eqb-true, lt-ltb, ne-eqb, not-true}
-use Rattle.model.specs.Base.{pick, All, nothing, also}
+use Rattle.model.specs.Base.{All, nothing, also}
 use Rattle.model.specs.Refusal.{targetAt}
 use Rattle.model.specs.Table.{Row, Table, rowAt, count, isElement, withParent}
 use Rattle.model.specs.Step.{Letter, letterOf}
-use Rattle.model.specs.Run.{State, Out, stop, thenRow, withMade, newRow, Copied, copyOf, copyParent, copyRow, subtree, copyEach}
+use Rattle.model.specs.Run.{State, Out, refused, thenRow, withMade, newRow, Copied, copyOf, copyParent, copyRow, subtree, copyEach}
 use Rattle.model.specs.Run.{copyAll, inserted}
 use Rattle.model.specs.Paths.{Path, _▸_, anyBelow}
 use Rattle.model.proofs.BoolLaws.{and-right, eqb-iff}
@@ -41,11 +41,11 @@ module _ (W : World) where
   unfolding copyOf
   copy-across i [] = refl
   copy-across i (c ∷ cs) =
-      ap₂ (λ z o. pick z (some (φ W (c .new))) o) (test-across (c .old) i) (copy-across i cs) ∙
+      ap₂ (λ z o. cond z (some (φ W (c .new))) o) (test-across (c .old) i) (copy-across i cs) ∙
       go (eqb (c .old) i) (copyOf i cs)
     where
       go : (z : Bool) (o : Option ℕ) →
-          pick z (some (φ W (c .new))) (φParent W o) ≡ φParent W (pick z (some (c .new)) o)
+          cond z (some (φ W (c .new))) (φParent W o) ≡ φParent W (cond z (some (c .new)) o)
       go true o = refl
       go false o = refl
 
@@ -75,7 +75,7 @@ module _ (W : World) where
     copy-base news s i p (c ∷ cs) (also b a) e f =
         go (eqb (c .old) i) refl f (λ f. copy-base news s i p cs a e f)
       where
-        go : (z : Bool) → eqb (c .old) i ≡ z → pick z (some (c .new)) (copyOf i cs) ≡ some p → (copyOf i cs ≡ some p → Base W news s p) →
+        go : (z : Bool) → eqb (c .old) i ≡ z → cond z (some (c .new)) (copyOf i cs) ≡ some p → (copyOf i cs ≡ some p → Base W news s p) →
             Base W news s p
         go true q f k =
             subst (Base W news s) (Option·some-injective (c .new) p f)
@@ -197,19 +197,19 @@ module _ (W : World) where
     insert-sim z v (g ∷ []) a (also k b) =
         subst
         (λ c.
-        Sim W [] news (pick (isElement (s .plan) g) (copyAll z (s .plan) v g s) (stop (targetAt z)))
-        (pick c (copyAll z (t .plan) (map (φ W) v) (φ W g) t) (stop (targetAt z))))
+        Sim W [] news (cond (isElement (s .plan) g) (copyAll z (s .plan) v g s) (refused (targetAt z)))
+        (cond c (copyAll z (t .plan) (map (φ W) v) (φ W g) t) (refused (targetAt z))))
         (sym (element-across g (valued-alike W news s t T q g k))) (go (isElement (s .plan) g) refl)
       where
         go : (c : Bool) → isElement (s .plan) g ≡ c →
-            Sim W [] news (pick c (copyAll z (s .plan) v g s) (stop (targetAt z)))
-            (pick c (copyAll z (t .plan) (map (φ W) v) (φ W g) t) (stop (targetAt z)))
+            Sim W [] news (cond c (copyAll z (s .plan) v g s) (refused (targetAt z)))
+            (cond c (copyAll z (t .plan) (map (φ W) v) (φ W g) t) (refused (targetAt z)))
         go true e = all-sim news s t T z g r acc v a news s t T (target-base g k e)
         go false e = alike
     insert-sim z v (g ∷ h ∷ w) a b =
         subst₂
         (λ c d.
-        Sim W [] news (pick (c && isElement (s .plan) g) (copyAll z (s .plan) v g s) (stop (targetAt z)))
-        (pick (d && isElement (t .plan) (φ W g)) (copyAll z (t .plan) (map (φ W) v) (φ W g) t) (stop (targetAt z))))
+        Sim W [] news (cond (c && isElement (s .plan) g) (copyAll z (s .plan) v g s) (refused (targetAt z)))
+        (cond (d && isElement (t .plan) (φ W g)) (copyAll z (t .plan) (map (φ W) v) (φ W g) t) (refused (targetAt z))))
         (sym (ne-eqb (suc (suc (length w))) 1 (λ e. omega arith)))
         (sym (ne-eqb (suc (suc (length (map (φ W) w)))) 1 (λ e. omega arith))) alike

@@ -1,6 +1,6 @@
 -- Cuts in both states of a twin: they stay a twin. And what a script may change, with all below it.
 use mathlib.Core.Path.{_≡_, refl, sym, _∙_, ap, subst, subst₂}
-use mathlib.Core.Bool.{Bool, true, false}
+use mathlib.Core.Bool.{Bool, true, false, cond}
 use mathlib.Core.Logic.{inl, inr}
 use mathlib.Core.List.{List, [], _∷_, _++_, map, map-append, List·Memᴰ as In}
 use mathlib.Core.Option.{Option, none, some, Option·none-ne-some}
@@ -8,13 +8,13 @@ use Prim.Native.Nat.{ℕ, _<_}
 use native.Mathlib.Omega.{arith}
 use lib.Dec.{ltb}
 use lib.ListN.{length}
-use Rattle.model.specs.Base.{pick, nothing, also}
+use Rattle.model.specs.Base.{nothing, also}
 use Rattle.model.specs.Limits.{maxHistory}
 use Rattle.model.specs.Refusal.{historyAt}
 use Rattle.model.specs.Table.{rowAt, count, linked, withParent}
-use Rattle.model.specs.History.{Record}
+use Rattle.model.specs.History.{cut}
 use Rattle.model.specs.Step.{Letter}
-use Rattle.model.specs.Run.{State, stop, cutRecord, cutRow, cutBy, cutAll}
+use Rattle.model.specs.Run.{State, refused, cutRow, cutBy, cutAll}
 use Rattle.model.specs.Paths.{Path, _▸_, anyBelow}
 use Rattle.model.proofs.GrowLaws.{count-linked, rowAt-linked-same, rowAt-linked-other, linked-cases}
 use Rattle.model.proofs.Words.{same, more, grown-trans}
@@ -24,9 +24,9 @@ use Rattle.model.proofs.Below.{OnPath, on-step}
 use Rattle.model.proofs.Reach.{any-admits}
 use Rattle.model.proofs.All.{all-append, all-imp}
 use Rattle.model.proofs.Shift.{shift-injective}
-use Rattle.model.proofs.Twin.{Side, Script, SideFits, World, Changed, Item, Kept, Named, Good, φ, Twin, Valued, Vals, Sim, alike}
-use Rattle.model.proofs.Twin.{φRow, φParent, φRecord}
-use Rattle.model.proofs.TwinLaws.{label-side, label-across, Alike, row-bound, same-length, valued-alike}
+use Rattle.model.proofs.Twin.{Side, Script, SideFits, World, Changed, Item, Kept, RunFrom, φ, Twin, Valued, Vals, Sim}
+use Rattle.model.proofs.Twin.{φRow, φParent, φRecord, alike}
+use Rattle.model.proofs.TwinLaws.{label-side, label-across, Alike, row-bound, same-length, valued-alike, named-more}
 use Rattle.model.proofs.SimLaws.{sim-gives}
 
 -- CHANGED: a row on p is changed with all below it where p and what is below p are modified; rows below it where the latter is
@@ -54,10 +54,10 @@ cut-item c d F news r m i (inr (p, k, a, o)) h =
     ((p, a, q), changed-at c (labelAt (d .labels) i) p q (m p k .0) (m p k .1))
 
 -- ONE STATE
-good-cut : (c : Script) (d : Side) → SideFits c d → (news : List Label) (s : State) → Good c d news s → (r : List Path) → Cuttable c r →
-    (i p : ℕ) → i < count (s .plan) → Item c r (labelAt (d .labels ++ news) i) → rowAt (s .plan) i .parent ≡ some p →
-    Good c d news (cutRow s i p)
-good-cut c d F news s g r m i p h k e =
+runFrom-cut : (c : Script) (d : Side) → SideFits c d → (news : List Label) (s : State) → RunFrom c d news s → (r : List Path) →
+    Cuttable c r → (i p : ℕ) → i < count (s .plan) → Item c r (labelAt (d .labels ++ news) i) → rowAt (s .plan) i .parent ≡ some p →
+    RunFrom c d news (cutRow s i p)
+runFrom-cut c d F news s g r m i p h k e =
     record {
       fit = fit-cut (g .fit) i h;
       marked = g .marked;
@@ -69,18 +69,12 @@ good-cut c d F news s g r m i p h k e =
           linked-cases (s .plan) i none (λ j r. j < count (d .plan) → Kept c (labelAt (d .labels) j) (rowAt (d .plan) j) r) h
           (λ j n. g .kept j) (λ b. kept b (g .kept i b));
       names =
-          all-append (all-imp wider (g .names))
-          (also (omega (arith, count-linked (s .plan) i none), λ q f. lower q f) nothing);
+          all-append (all-imp (named-more (omega (arith, same-count))) (g .names))
+          (also (omega (arith, same-count), omega (arith, g .fit .links i p e .0, same-count)) nothing);
     }
   where
     same-count : count (linked (s .plan) i none) ≡ count (s .plan)
     same-count = count-linked (s .plan) i none
-
-    wider : (q : Record) → Named (count (s .plan)) q → Named (count (linked (s .plan) i none)) q
-    wider q n = subst (λ k. Named k q) (sym same-count) n
-
-    lower : (q : ℕ) → some p ≡ some q → q < count (linked (s .plan) i none)
-    lower q f = omega (arith, g .fit .links i q (e ∙ f) .0, same-count)
 
     kept : i < count (d .plan) → Kept c (labelAt (d .labels) i) (rowAt (d .plan) i) (rowAt (s .plan) i) →
         Kept c (labelAt (d .labels) i) (rowAt (d .plan) i) (withParent (rowAt (s .plan) i) none)
@@ -95,16 +89,16 @@ module _ (W : World) (news : List Label) (r : List Path) (m : Cuttable (W .scrip
       Twin W news (cutRow s i p) (cutRow t (φ W i) (φ W p))
   twin-cut s t T i p k e =
       record {
-        one = good-cut (W .script) (W .one) (W .oneFits) news s (T .one) r m i p (a .0) (k .1) e;
+        one = runFrom-cut (W .script) (W .one) (W .oneFits) news s (T .one) r m i p (a .0) (k .1) e;
         two =
-            good-cut (W .script) (W .two) (W .twoFits) news t (T .two) r m (φ W i) (φ W p) bound
+            runFrom-cut (W .script) (W .two) (W .twoFits) news t (T .two) r m (φ W i) (φ W p) bound
             (subst (λ l. Item (W .script) r l) (sym (label-across W news i (a .1))) (k .1))
             (ap (λ r. r .parent) (T .alike i (a .0) (a .1)) ∙ ap (φParent W) e);
         touched = T .touched;
         alike = λ j h. cut-alike j (omega (arith, count-linked (s .plan) i none));
         histories =
-            ap (λ h. h ++ (cutRecord (φ W i) (φ W p) ∷ [])) (T .histories) ∙
-            sym (map-append (φRecord W) (s .history) (cutRecord i p ∷ []));
+            ap (λ h. h ++ (cut (φ W i) (φ W p) ∷ [])) (T .histories) ∙
+            sym (map-append (φRecord W) (s .history) (cut i p ∷ []));
       }
     where
       a : Alike W s i (φ W i)
@@ -149,12 +143,12 @@ module _ (W : World) (news : List Label) (r : List Path) (m : Cuttable (W .scrip
           (sym e) (sym (ap (λ r. r .parent) (T .alike i (A .0) (A .1)) ∙ ap (φParent W) e))
           (subst
           (λ k.
-          Sim W [] news (pick (ltb (length (s .history)) maxHistory) (cutAll z is (cutRow s i p)) (stop (historyAt z)))
-          (pick (ltb k maxHistory) (cutAll z (map (φ W) is) (cutRow t (φ W i) (φ W p))) (stop (historyAt z))))
+          Sim W [] news (cond (ltb (length (s .history)) maxHistory) (cutAll z is (cutRow s i p)) (refused (historyAt z)))
+          (cond (ltb k maxHistory) (cutAll z (map (φ W) is) (cutRow t (φ W i) (φ W p))) (refused (historyAt z))))
           (sym (same-length W news s t T)) (by (ltb (length (s .history)) maxHistory)))
         where
           by : (b : Bool) →
-              Sim W [] news (pick b (cutAll z is (cutRow s i p)) (stop (historyAt z)))
-              (pick b (cutAll z (map (φ W) is) (cutRow t (φ W i) (φ W p))) (stop (historyAt z)))
+              Sim W [] news (cond b (cutAll z is (cutRow s i p)) (refused (historyAt z)))
+              (cond b (cutAll z (map (φ W) is) (cutRow t (φ W i) (φ W p))) (refused (historyAt z)))
           by true = h (cutRow s i p) (cutRow t (φ W i) (φ W p)) (twin-cut s t T i p k e)
           by false = alike

@@ -9,6 +9,7 @@ use native.Mathlib.Decide.{decLt}
 use lib.ListN.{length, length-append, length-map, List·getD-append}
 use lib.Seq.{getD-append-add}
 use Rattle.model.specs.Table.{rowAt, count}
+use Rattle.model.specs.History.{Record, made, cut}
 use Rattle.model.specs.Script.{Step}
 use Rattle.model.specs.Step.{Letter, letterOf}
 use Rattle.model.specs.Run.{State}
@@ -20,8 +21,8 @@ use Rattle.model.proofs.Reach.{Reach, byChild, byDeep}
 use Rattle.model.proofs.All.{all-map, all-in}
 use Rattle.model.specs.Base.{All}
 use Rattle.model.proofs.Shift.{shift-low, shift-high, shift-cases}
-use Rattle.model.proofs.Twin.{Side, Script, SideFits, World, Touched, Item, Good, φ, ones, twos, Twin, Valued, Vals, alike, φRow}
-use Rattle.model.proofs.Twin.{φParent, φRecord}
+use Rattle.model.proofs.Twin.{Side, Script, SideFits, World, Touched, Item, RunFrom, φ, ones, twos, Twin, Valued, Vals, alike, φRow}
+use Rattle.model.proofs.Twin.{φParent, φRecord, Named}
 
 pub in-step : (s : Step) {p : Path} {r : List Path} → In p r → In (p ▸ s) (withStep s r)
 in-step s i = Memᴰ·map (λ (p : Path). p ▸ s) i
@@ -30,6 +31,11 @@ in-step s i = Memᴰ·map (λ (p : Path). p ▸ s) i
 pub touched-grow : (c : Script) (l : Label) (a : Letter) → Touched c l → Touched c (grow l a)
 touched-grow c l a (inl o) = inl o
 touched-grow c l a (inr k) = inr (λ w g. k w (grown-trans (more same) g))
+
+-- what names rows of a table names rows of a longer one
+pub named-more : {k n : ℕ} → k ≤ n → (r : Record) → Named k r → Named n r
+named-more h (made i r) (a, b) = (omega arith, λ p e. omega (arith, b p e))
+named-more h (cut i p) (a, b) = (omega arith, omega arith)
 
 -- A label behind the first ones
 pub label-high : (ls news : List Label) (i k : ℕ) → i ≡ length ls + k → labelAt (ls ++ news) i ≡ labelAt news k
@@ -48,7 +54,7 @@ module _ (c : Script) (d : Side) (F : SideFits c d) (news : List Label) where
       F .apart i p h a (subst (λ l. OnPath (c .marks) p l) (label-side i (F .early i h)) o)
 
   -- what a step reaches from items of r are items of r with the step
-  pub reach-item : (r : List Path) (s : State) (t : Step) (v : List ℕ) (j : ℕ) → Good c d news s →
+  pub reach-item : (r : List Path) (s : State) (t : Step) (v : List ℕ) (j : ℕ) → RunFrom c d news s →
       ((p : Path) → In p r → c .accessed (p ▸ t)) →
       All (λ i. Item c r (labelAt (d .labels ++ news) i)) v → Reach (s .plan) t v j →
       Item c (withStep t r) (labelAt (d .labels ++ news) j)

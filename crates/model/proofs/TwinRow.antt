@@ -10,36 +10,36 @@ use lib.Dec.{ltb}
 use lib.ListN.{length, length-append}
 use borrow.Author.Tests.{ltb-true, ltb-false}
 use Rattle.model.specs.Limits.{maxRows, maxHistory}
-use Rattle.model.specs.Refusal.{Fault, isFine, orElse, unless, tableAt, historyAt}
+use Rattle.model.specs.Refusal.{Refusal, isFine, orElse, unless, tableAt, historyAt}
 use Rattle.model.specs.Table.{Row, rowAt, count, withRow}
-use Rattle.model.specs.History.{Record}
+use Rattle.model.specs.History.{made}
 use Rattle.model.specs.Step.{letterOf}
-use Rattle.model.specs.Run.{State, Out, stop, gives, made, withMade, roomFault, newRow}
+use Rattle.model.specs.Run.{State, Out, refused, gives, withMade, roomRefusal, newRow}
 use Rattle.model.specs.Paths.{Path}
-use Rattle.model.proofs.BoolLaws.{bool-cases, pick-true, pick-false}
+use Rattle.model.proofs.BoolLaws.{bool-cases, cond-true, cond-false}
 use Rattle.model.proofs.TableLaws.{parent-count}
 use Rattle.model.proofs.GrowLaws.{withRow-cases, count-withRow, rowAt-withRow-new, rowAt-withRow-old}
 use Rattle.model.proofs.Labels.{Label, grow, labelAt, Fit, NewFit, fit-row}
 use Rattle.model.proofs.All.{all-append, all-imp}
 use Rattle.model.specs.Base.{nothing, also}
 use Rattle.model.proofs.Grows.{Grows}
-use Rattle.model.proofs.Twin.{Side, Script, SideFits, World, Touched, Kept, Named, Good, φ, ones, twos, Twin, Full, stopped, Sim}
-use Rattle.model.proofs.Twin.{φRow, φParent, φRecord, alike, full}
+use Rattle.model.proofs.Twin.{Side, Script, SideFits, World, Touched, Kept, RunFrom, φ, ones, twos, Twin, Full, Sim}
+use Rattle.model.proofs.Twin.{φRow, φParent, φRecord, stopped, alike, full}
 use Rattle.model.proofs.TwinLaws.{label-across, Alike, one-count, two-count, count-across, row-bound, same-length, clear-two}
-use Rattle.model.proofs.TwinLaws.{alike-row}
+use Rattle.model.proofs.TwinLaws.{alike-row, named-more}
 use Rattle.model.proofs.SimLaws.{full-grows}
 
 -- ONE STATE
-row-made : (z : ℕ) (r : Row) (s : State) → isFine (roomFault z s) ≡ true → newRow z r s ≡ gives (count (s .plan) ∷ []) (withMade s r)
-row-made z r s e = pick-true (isFine (roomFault z s)) _ _ e
+row-made : (z : ℕ) (r : Row) (s : State) → isFine (roomRefusal z s) ≡ true → newRow z r s ≡ gives (count (s .plan) ∷ []) (withMade s r)
+row-made z r s e = cond-true (isFine (roomRefusal z s)) _ _ e
 
-row-refused : (z : ℕ) (r : Row) (s : State) → isFine (roomFault z s) ≡ false → newRow z r s ≡ stop (roomFault z s)
-row-refused z r s e = pick-false (isFine (roomFault z s)) _ _ e
+row-refused : (z : ℕ) (r : Row) (s : State) → isFine (roomRefusal z s) ≡ false → newRow z r s ≡ refused (roomRefusal z s)
+row-refused z r s e = cond-false (isFine (roomRefusal z s)) _ _ e
 
-good-row : (c : Script) (d : Side) → SideFits c d → (news : List Label) (s : State) → Good c d news s → (r : Row) (l : Label) →
+runFrom-row : (c : Script) (d : Side) → SideFits c d → (news : List Label) (s : State) → RunFrom c d news s → (r : Row) (l : Label) →
     NewFit (d .labels ++ news) (s .plan) r l → ((p : ℕ) → r .parent ≡ some p → d .hidden p → ⊥) → count (s .plan) < maxRows →
-    Good c d (news ++ (l ∷ [])) (withMade s r)
-good-row c d F news s g r l n clear h =
+    RunFrom c d (news ++ (l ∷ [])) (withMade s r)
+runFrom-row c d F news s g r l n clear h =
     record {
       fit = subst (λ ls. Fit ls (withRow (s .plan) r)) (append-assoc (d .labels) news (l ∷ [])) (fit-row (g .fit) r l n);
       marked = g .marked;
@@ -52,7 +52,7 @@ good-row c d F news s g r l n clear h =
           λ i k.
           subst (Kept c (labelAt (d .labels) i) (rowAt (d .plan) i)) (sym (rowAt-withRow-old (s .plan) r i (old i k))) (g .kept i k);
       names =
-          all-append (all-imp wider (g .names))
+          all-append (all-imp (named-more (omega (arith, count-withRow (s .plan) r))) (g .names))
           (also (
             omega (arith, count-withRow (s .plan) r),
             λ p e.
@@ -62,10 +62,6 @@ good-row c d F news s g r l n clear h =
   where
     old : (i : ℕ) → i < count (d .plan) → i < count (s .plan)
     old i k = omega (arith, g .fit .size, length-append (d .labels) news, F .fit .size)
-
-    wider : (q : Record) → Named (count (s .plan)) q → Named (count (withRow (s .plan) r)) q
-    wider q k =
-        (omega (arith, k .0, count-withRow (s .plan) r), λ p e. omega (arith, k .1 p e, count-withRow (s .plan) r))
 
 -- BOTH STATES
 module _ (W : World) (news : List Label) (s t : State) (T : Twin W news s t) where
@@ -114,24 +110,25 @@ module _ (W : World) (news : List Label) (s t : State) (T : Twin W news s t) whe
         Twin W (news ++ (l ∷ [])) (withMade s r) (withMade t (φRow W r))
     twin-row k a b =
         record {
-          one = good-row (W .script) (W .one) (W .oneFits) news s (T .one) r l n clear a;
-          two = good-row (W .script) (W .two) (W .twoFits) news t (T .two) (φRow W r) l two-fit two-clear b;
+          one = runFrom-row (W .script) (W .one) (W .oneFits) news s (T .one) r l n clear a;
+          two = runFrom-row (W .script) (W .two) (W .twoFits) news t (T .two) (φRow W r) l two-fit two-clear b;
           touched = all-append (T .touched) (also k nothing);
           alike = new-alike;
           histories =
-              ap₂ (λ h i. h ++ (made (φRow W r) i ∷ [])) (T .histories)
+              ap₂ (λ h i. h ++ (made i (φRow W r) ∷ [])) (T .histories)
               (sym (count-across W news s t T)) ∙
-              sym (map-append (φRecord W) (s .history) (made r (count (s .plan)) ∷ []));
+              sym (map-append (φRecord W) (s .history) (made (count (s .plan)) r ∷ []));
         }
 
   -- ROOM: for both; for neither, with the same refusal; or for the first and not for m rows more
   pub data Room (z : ℕ) : Type 0 where
-    roomy : isFine (roomFault z s) ≡ true → isFine (roomFault z t) ≡ true → count (s .plan) < maxRows → count (t .plan) < maxRows → Room z
-    filled : isFine (roomFault z s) ≡ false → isFine (roomFault z t) ≡ false → roomFault z s ≡ roomFault z t → Room z
-    tight : isFine (roomFault z t) ≡ false → 0 < W .m → maxRows ≤ count (s .plan) + W .m → Room z
+    roomy : isFine (roomRefusal z s) ≡ true → isFine (roomRefusal z t) ≡ true → count (s .plan) < maxRows → count (t .plan) < maxRows →
+        Room z
+    filled : isFine (roomRefusal z s) ≡ false → isFine (roomRefusal z t) ≡ false → roomRefusal z s ≡ roomRefusal z t → Room z
+    tight : isFine (roomRefusal z t) ≡ false → 0 < W .m → maxRows ≤ count (s .plan) + W .m → Room z
 
-  abbrev faultBy : (place : ℕ) → (rows history : Bool) → Fault
-  faultBy z a b = orElse (unless a (tableAt z)) (unless b (historyAt z))
+  abbrev refusalBy : (place : ℕ) → (rows history : Bool) → Refusal
+  refusalBy z a b = orElse (unless a (tableAt z)) (unless b (historyAt z))
 
   room-cases : (z : ℕ) → Room z
   room-cases z =
@@ -142,16 +139,16 @@ module _ (W : World) (news : List Label) (s t : State) (T : Twin W news s t) whe
           ltb (length (s .history)) maxHistory ≡ h →
           ltb (length (t .history)) maxHistory ≡ ltb (length (s .history)) maxHistory → Room z
       go true true true e f g k =
-          roomy (ap₂ (λ a h. isFine (faultBy z a h)) e g) (ap₂ (λ a h. isFine (faultBy z a h)) f (k ∙ g))
+          roomy (ap₂ (λ a h. isFine (refusalBy z a h)) e g) (ap₂ (λ a h. isFine (refusalBy z a h)) f (k ∙ g))
           (ltb-true (count (s .plan)) maxRows e) (ltb-true (count (t .plan)) maxRows f)
       go true true false e f g k =
-          filled (ap₂ (λ a h. isFine (faultBy z a h)) e g) (ap₂ (λ a h. isFine (faultBy z a h)) f (k ∙ g))
-          (ap₂ (faultBy z) (e ∙ sym f) (sym k))
+          filled (ap₂ (λ a h. isFine (refusalBy z a h)) e g) (ap₂ (λ a h. isFine (refusalBy z a h)) f (k ∙ g))
+          (ap₂ (refusalBy z) (e ∙ sym f) (sym k))
       go false false h e f g k =
-          filled (ap₂ (λ a h. isFine (faultBy z a h)) e g) (ap₂ (λ a h. isFine (faultBy z a h)) f (k ∙ g))
-          (ap₂ (faultBy z) (e ∙ sym f) (sym k))
+          filled (ap₂ (λ a h. isFine (refusalBy z a h)) e g) (ap₂ (λ a h. isFine (refusalBy z a h)) f (k ∙ g))
+          (ap₂ (refusalBy z) (e ∙ sym f) (sym k))
       go true false h e f g k =
-          tight (ap₂ (λ a h. isFine (faultBy z a h)) f (k ∙ g))
+          tight (ap₂ (λ a h. isFine (refusalBy z a h)) f (k ∙ g))
           (omega (
             arith,
             ltb-true (count (s .plan)) maxRows e,
@@ -172,7 +169,7 @@ module _ (W : World) (news : List Label) (s t : State) (T : Twin W news s t) whe
   -- THE OUTCOME of a row more, and of what is done next; f and f′ hand a refusal on
   module _ (q : List Path) (z : ℕ) (r : Row) (l : Label) (n : NewFit (ones W news) (s .plan) r l)
       (clear : (p : ℕ) → r .parent ≡ some p → W .one .hidden p → ⊥) (k : Touched (W .script) l) (f f′ : Out → Out)
-      (hands : (x : Fault) → f (stop x) ≡ stop x) (hands′ : (x : Fault) → f′ (stop x) ≡ stop x) where
+      (hands : (x : Refusal) → f (refused x) ≡ refused x) (hands′ : (x : Refusal) → f′ (refused x) ≡ refused x) where
     pub new-sim :
         (Twin W (news ++ (l ∷ [])) (withMade s r) (withMade t (φRow W r)) →
         Sim W q news (f (gives (count (s .plan) ∷ []) (withMade s r)))
@@ -181,24 +178,24 @@ module _ (W : World) (news : List Label) (s t : State) (T : Twin W news s t) whe
         Sim W q news (f (newRow z r s)) (f′ (newRow z (φRow W r) t))
     new-sim next g = go (room-cases z)
       where
-        refused : isFine (roomFault z s) ≡ false → f (newRow z r s) ≡ stop (roomFault z s)
-        refused e = ap f (row-refused z r s e) ∙ hands (roomFault z s)
+        no-room : isFine (roomRefusal z s) ≡ false → f (newRow z r s) ≡ refused (roomRefusal z s)
+        no-room e = ap f (row-refused z r s e) ∙ hands (roomRefusal z s)
 
-        refused′ : isFine (roomFault z t) ≡ false → f′ (newRow z (φRow W r) t) ≡ stop (roomFault z t)
-        refused′ e = ap f′ (row-refused z (φRow W r) t e) ∙ hands′ (roomFault z t)
+        no-room′ : isFine (roomRefusal z t) ≡ false → f′ (newRow z (φRow W r) t) ≡ refused (roomRefusal z t)
+        no-room′ e = ap f′ (row-refused z (φRow W r) t e) ∙ hands′ (roomRefusal z t)
 
-        fills : maxRows ≤ count (s .plan) + W .m → (isFine (roomFault z s) ≡ true) ⊎ (isFine (roomFault z s) ≡ false) →
+        fills : maxRows ≤ count (s .plan) + W .m → (isFine (roomRefusal z s) ≡ true) ⊎ (isFine (roomRefusal z s) ≡ false) →
             Full W (f (newRow z r s))
         fills b (inl e) =
             subst (Full W) (ap f (sym (row-made z r s e)))
             (full-grows W (count (withMade s r .plan)) (f (gives (count (s .plan) ∷ []) (withMade s r)))
             (omega (arith, count-withRow (s .plan) r)) g)
-        fills b (inr e) = subst (Full W) (sym (refused e)) stopped
+        fills b (inr e) = subst (Full W) (sym (no-room e)) stopped
 
         go : Room z → Sim W q news (f (newRow z r s)) (f′ (newRow z (φRow W r) t))
         go (roomy a b c d) =
             subst₂ (Sim W q news) (ap f (sym (row-made z r s a))) (ap f′ (sym (row-made z (φRow W r) t b)))
             (next (twin-row r l n clear k c d))
-        go (filled a b e) = subst₂ (Sim W q news) (sym (refused a)) (sym (refused′ b ∙ ap stop (sym e))) alike
+        go (filled a b e) = subst₂ (Sim W q news) (sym (no-room a)) (sym (no-room′ b ∙ ap refused (sym e))) alike
         go (tight a b c) =
-            subst (Sim W q news (f (newRow z r s))) (sym (refused′ a)) (full b (fills c (bool-cases (isFine (roomFault z s)))))
+            subst (Sim W q news (f (newRow z r s))) (sym (no-room′ a)) (full b (fills c (bool-cases (isFine (roomRefusal z s)))))

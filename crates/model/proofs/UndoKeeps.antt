@@ -1,20 +1,19 @@
 -- Undo of any bytes that fit a well-formed table leaves a well-formed table.
 use mathlib.Core.Path.{_≡_, refl, ap, sym, _∙_, subst}
-use mathlib.Core.Bool.{Bool, true, false, not}
+use mathlib.Core.Bool.{Bool, true, false, not, cond}
 use mathlib.Core.List.{List, [], _∷_}
-use mathlib.Core.Option.{Option, none, some}
+use mathlib.Core.Option.{none, some}
 use Prim.Native.Nat.{ℕ, _+_, _-_, _<_}
 use native.Mathlib.Omega.{arith}
 use lib.Dec.{ltb, eqb}
 use lib.ListN.{length, getD, take}
 use lib.Seq.{length-take-le, getD-take}
 use borrow.Author.Tests.{ltb-true, eqb-true, not-true}
-use Rattle.model.specs.Base.{pick}
 use Rattle.model.specs.Refusal.{linkAt}
-use Rattle.model.specs.Table.{Row, Table, table, noRow, rowAt, count, isElement}
+use Rattle.model.specs.Table.{Row, Table, table, noRow, rowAt, count, isElement, isLowerElement}
 use Rattle.model.specs.Table.{isMarked, hasParent, linked, withParent, tagFits, isWell, ParentLower}
-use Rattle.model.specs.History.{Record, cutKind}
-use Rattle.model.specs.Undo.{Placed, Formed, broken, formed, formFrom, madeFits, oldParentFits, cutFits}
+use Rattle.model.specs.History.{Record, made, cut}
+use Rattle.model.specs.Undo.{Placed, Formed, refused, formed, formFrom}
 use Rattle.model.specs.Undo.{undoFits, undone, refused, back, undoAll, backwards, undoFormed}
 use Rattle.model.specs.Promise.{UndoKeeps}
 use Rattle.model.proofs.BoolLaws.{true-false, and-left, and-right, eq-cases}
@@ -23,10 +22,9 @@ use Rattle.model.proofs.TableLaws.{Well, isWell-at, isWell-by, isElemen
 use Rattle.model.proofs.GrowLaws.{well-linked}
 
 -- A LINK BACK: the row is there and unmarked, its old parent a lower element
-back-linked : (x : Table) (i : ℕ) (q : Option ℕ) → Well x → i < count x → isMarked x i ≡ false → oldParentFits x i q ≡ true →
-    Well (linked x i q)
-back-linked x i none w l m f = absurd (true-false false f refl)
-back-linked x i (some p) w l m f = well-linked x i (some p) (w .tree) l parent unmarked w
+back-linked : (x : Table) (i p : ℕ) → Well x → i < count x → isMarked x i ≡ false → isLowerElement x i p ≡ true →
+    Well (linked x i (some p))
+back-linked x i p w l m f = well-linked x i (some p) (w .tree) l parent unmarked w
   where
     parent : ParentLower x i (withParent (rowAt x i) (some p))
     parent r e =
@@ -82,16 +80,12 @@ module _ (x : Table) (w : Well x) (i : ℕ) (last : i + 1 ≡ count x) (m : isMa
 
 -- ONE RECORD, and all of them
 well-undone : (x : Table) (r : Record) → Well x → undoFits x r ≡ true → Well (undone x r)
-well-undone x r w h = go (eqb (r .kind) cutKind) h
-  where
-    go : (t : Bool) → pick t (cutFits x r) (madeFits x r) ≡ true →
-        Well (pick t (linked x (r .row) (r .parent)) (table (take (count x - 1) (x .rows)) (x .marks)))
-    go true f =
-        let k = and-four (ltb (r .row) (count x)) (not (hasParent (rowAt x (r .row) .parent))) (not (isMarked x (r .row))) _ f in
-        back-linked x (r .row) (r .parent) w (ltb-true _ _ (k .0)) (not-true _ (k .2)) (k .3)
-    go false f =
-        let k = and-five (eqb (r .row + 1) (count x)) (not (isMarked x (r .row))) _ _ _ f in
-        well-less x w (r .row) (eqb-true _ _ (k .0)) (not-true _ (k .1))
+well-undone x (made i r) w f =
+    let k = and-five (eqb (i + 1) (count x)) (not (isMarked x i)) _ _ _ f in
+    well-less x w i (eqb-true _ _ (k .0)) (not-true _ (k .1))
+well-undone x (cut i p) w f =
+    let k = and-four (ltb i (count x)) (not (hasParent (rowAt x i .parent))) (not (isMarked x i)) _ f in
+    back-linked x i p w (ltb-true _ _ (k .0)) (not-true _ (k .2)) (k .3)
 
 well-undoAll : (ps : List Placed) (x y : Table) → Well x → undoAll x ps ≡ back y → Well y
 unfolding undoAll
@@ -99,7 +93,7 @@ well-undoAll [] x y w e = let k : x ≡ y = cc in subst Well k w
 well-undoAll (p ∷ ps) x y w e = go (undoFits x (p .entry)) refl (λ v f. well-undoAll ps (undone x (p .entry)) y v f) e
   where
     go : (t : Bool) → undoFits x (p .entry) ≡ t → (Well (undone x (p .entry)) → undoAll (undone x (p .entry)) ps ≡ back y → Well y) →
-        pick t (undoAll (undone x (p .entry)) ps) (refused (linkAt (p .at))) ≡ back y → Well y
+        cond t (undoAll (undone x (p .entry)) ps) (refused (linkAt (p .at))) ≡ back y → Well y
     go true h rec f = rec (well-undone x (p .entry) w h) f
     go false h rec f = let z : _≡_ {A = ℕ} 0 1 = cc in absurd (omega arith)
 
@@ -107,5 +101,5 @@ pub undoKeeps : UndoKeeps
 undoKeeps x y b h e = go (formFrom (length b + 1) 0 0 b) e
   where
     go : (f : Formed) → undoFormed x f ≡ back y → isWell y ≡ true
-    go (broken z) k = let q : _≡_ {A = ℕ} 0 1 = cc in absurd (omega arith)
+    go (refused z) k = let q : _≡_ {A = ℕ} 0 1 = cc in absurd (omega arith)
     go (formed ps) k = isWell-by y (well-undoAll (backwards ps []) x y (isWell-at x h) k)

@@ -1,25 +1,24 @@
 -- Undo of what a run did: each record fits when its turn comes, back to front, and the earlier table comes back exactly.
-use mathlib.Core.Path.{_≡_, refl, sym, ap, ap₂, _∙_, subst}
+use mathlib.Core.Path.{_≡_, refl, sym, ap, _∙_, subst}
 use mathlib.Core.Bool.{Bool, true, false, not}
 use mathlib.Core.List.{List, [], _∷_, _++_}
 use mathlib.Core.Option.{Option, none, some, Option·some-ne-none}
 use Prim.Native.Nat.{ℕ, _+_, _-_, _<_}
 use native.Mathlib.Omega.{arith}
-use lib.Dec.{leb}
 use lib.ListN.{length, getD, take, set}
 use lib.Seq.{take-append-seam, set-set, set-getD}
 use borrow.Author.Tests.{lt-ltb, eq-eqb}
-use Rattle.model.specs.Base.{pick, isIn, nothing}
+use Rattle.model.specs.Base.{nothing}
 use Rattle.model.specs.Limits.{maxRows}
 use Rattle.model.specs.Table.{Row, Table, table, noRow, rowAt, count, isMarked, hasParent, withRow, withParent, linked, tagFits}
-use Rattle.model.specs.Table.{isName, parentFits}
-use Rattle.model.specs.History.{Record, madeElementKind, madeLeafKind, cutKind, historyBytes, IsInRange, AllInRange}
-use Rattle.model.specs.Run.{State, made, cutRecord}
-use Rattle.model.specs.Undo.{Placed, historySize, sameParent, sameBool, undoFits, undone, back, undoAll, backwards, undo, undoFormed}
-use Rattle.model.proofs.BoolLaws.{and-both, true-false}
+use Rattle.model.specs.Table.{parentFits}
+use Rattle.model.specs.History.{Record, made, cut, IsInRange, madeIn, cutIn, AllInRange, recordBytes, historyBytes}
+use Rattle.model.specs.Run.{State}
+use Rattle.model.specs.Undo.{Placed, sameParent, sameBool, undoFits, undone, back, undoAll, backwards, undo, undoFormed}
+use Rattle.model.proofs.BoolLaws.{and-both}
 use Rattle.model.proofs.TableLaws.{any-at, isElement-by, parentFits-at, parent-count, Well}
 use Rattle.model.proofs.GrowLaws.{count-withRow, rowAt-withRow-new, count-linked, rowAt-linked-same, isLeaf-linked}
-use Rattle.model.proofs.RanLaws.{ComesTo, begun, rowMade, linkCut, ran-well, isCut-made, isLeaf-made}
+use Rattle.model.proofs.RanLaws.{ComesTo, begun, rowMade, linkCut, ran-well}
 use Rattle.model.proofs.HistoryLaws.{ran-length}
 use Rattle.model.proofs.FormLaws.{placed, formFrom-placed}
 use Rattle.model.proofs.All.{all-snoc}
@@ -41,31 +40,29 @@ sameParent-refl none = refl
 sameParent-refl (some i) = eq-eqb i i refl
 
 module _ (x : Table) (w : Well x) (r : Row) where
-  made-fits : undoFits (withRow x r) (made r (count x)) ≡ true
+  made-fits : undoFits (withRow x r) (made (count x) r) ≡ true
   made-fits =
       let e = rowAt-withRow-new x r in
-      rw (isCut-made r (count x))
-      (and-both _ _
+      and-both _ _
       (and-both _ _
       (and-both _ _
       (and-both _ _ (eq-eqb (count x + 1) (count (withRow x r)) (omega (arith, count-withRow x r)))
       (ap not (isMarked-not (withRow x r) (count x) (λ d h. omega (arith, w .tree .roots d (count x) h .0)))))
-      (ap₂ sameBool (ap (λ (q : Row). q .isLeaf) e) (isLeaf-made r (count x)) ∙ sameBool-refl (r .isLeaf)))
+      (ap (λ (q : Row). sameBool (q .isLeaf) (r .isLeaf)) e ∙ sameBool-refl (r .isLeaf)))
       (eq-eqb (rowAt (withRow x r) (count x) .tag) (r .tag) (ap (λ (q : Row). q .tag) e)))
-      (ap (λ (q : Row). sameParent (q .parent) (r .parent)) e ∙ sameParent-refl (r .parent)))
+      (ap (λ (q : Row). sameParent (q .parent) (r .parent)) e ∙ sameParent-refl (r .parent))
 
-  made-undone : undone (withRow x r) (made r (count x)) ≡ x
+  made-undone : undone (withRow x r) (made (count x) r) ≡ x
   made-undone =
       let n : count (withRow x r) - 1 ≡ count x = omega (arith, count-withRow x r) in
-      rw (isCut-made r (count x))
-      (ap (λ (rs : List Row). table rs (x .marks))
-      (ap (λ (k : ℕ). take k (x .rows ++ (r ∷ []))) n ∙ take-append-seam (x .rows) (r ∷ [])))
+      ap (λ (rs : List Row). table rs (x .marks))
+      (ap (λ (k : ℕ). take k (x .rows ++ (r ∷ []))) n ∙ take-append-seam (x .rows) (r ∷ []))
 
 module _ (x : Table) (w : Well x) (i p : ℕ) (e : rowAt x i .parent ≡ some p) where
   cut-row : rowAt (linked x i none) i ≡ withParent (rowAt x i) none
   cut-row = rowAt-linked-same x i none (parent-count x i p e)
 
-  cut-fits : undoFits (linked x i none) (cutRecord i p) ≡ true
+  cut-fits : undoFits (linked x i none) (cut i p) ≡ true
   cut-fits =
       let l = parent-count x i p e in
       let n = count-linked x i none in
@@ -76,7 +73,7 @@ module _ (x : Table) (w : Well x) (i p : ℕ) (e : rowAt x i .parent ≡ some p)
       (ap not (isMarked-not x i (λ d h. Option·some-ne-none p (sym e ∙ w .tree .roots d i h .2)))))
       (and-both _ _ (lt-ltb p i (k .0)) (isElement-by (linked x i none) p (omega (arith, k .0)) (isLeaf-linked x i none l p ∙ k .1)))
 
-  cut-undone : undone (linked x i none) (cutRecord i p) ≡ x
+  cut-undone : undone (linked x i none) (cut i p) ≡ x
   cut-undone =
       ap (λ (rs : List Row). table rs (x .marks))
       (set-set (x .rows) i _ _ ∙ ap (set (x .rows) i) (ap (λ (r : Row). withParent r (some p)) cut-row ∙ whole) ∙
@@ -96,7 +93,7 @@ placed-snoc : (i : ℕ) (rs : List Record) (r : Record) →
 unfolding placed
 placed-snoc i [] r = (i, refl)
 placed-snoc i (q ∷ rs) r =
-    let w = placed-snoc (i + historySize (q .kind)) rs r in
+    let w = placed-snoc (i + length (recordBytes q)) rs r in
     (w .0, ap {B = List Placed} (λ ps. record { at = i; entry = q } ∷ ps) (w .1))
 
 undo-last : (x y : Table) (rs : List Record) (r : Record) → undoFits x r ≡ true →
@@ -112,49 +109,26 @@ unfolding undoAll placed backwards
 ran-undone x w begun = refl
 ran-undone x w (rowMade s r q c f g) =
     let v = ran-well x w q in
-    undo-last (withRow (s .plan) r) x (s .history) (made r (count (s .plan))) (made-fits (s .plan) v r)
+    undo-last (withRow (s .plan) r) x (s .history) (made (count (s .plan)) r) (made-fits (s .plan) v r)
     (ap (λ (y : Table). undoAll y (backwards (placed 0 (s .history)) [])) (made-undone (s .plan) v r) ∙ ran-undone x w q)
 ran-undone x w (linkCut s i p q e) =
     let v = ran-well x w q in
-    undo-last (linked (s .plan) i none) x (s .history) (cutRecord i p) (cut-fits (s .plan) v i p e)
+    undo-last (linked (s .plan) i none) x (s .history) (cut i p) (cut-fits (s .plan) v i p e)
     (ap (λ (y : Table). undoAll y (backwards (placed 0 (s .history)) [])) (cut-undone (s .plan) v i p e) ∙ ran-undone x w q)
 
 -- the records of a run are in range, so its bytes are read back as its records
 pub made-inRange : (x : Table) (r : Row) → count x < maxRows → tagFits r ≡ true → parentFits x (count x) (r .parent) ≡ true →
-    IsInRange (made r (count x))
-made-inRange x r l f g = record {
-  kindIn = kind (r .isLeaf);
-  nameIn = name (r .isLeaf) f;
-  noTag = λ h. absurd (true-false _ (eq-eqb _ _ h) (isCut-made r (count x)));
-  parentWord = λ p e.
-      let k = parentFits-at x (count x) p (subst (λ (q : Option ℕ). parentFits x (count x) q ≡ true) e g) in
-      omega (arith, k .0);
-}
-  where
-    kind : (t : Bool) → isIn madeElementKind cutKind (pick t madeLeafKind madeElementKind) ≡ true
-    kind true = refl
-    kind false = refl
-
-    name : (t : Bool) → pick t (leb (r .tag) 255) (isName (r .tag)) ≡ true → pick t madeLeafKind madeElementKind ≡ madeElementKind →
-        isName (r .tag) ≡ true
-    name true h e = absurd (omega arith)
-    name false h e = h
+    IsInRange (made (count x) r)
+made-inRange x r l f g =
+    madeIn f
+    (λ p e.
+    let k = parentFits-at x (count x) p (subst (λ (q : Option ℕ). parentFits x (count x) q ≡ true) e g) in
+    omega (arith, k .0))
 
 ran-inRange : (x : Table) → Well x → {s : State} → ComesTo x s → AllInRange (s .history)
 ran-inRange x w begun = nothing
 ran-inRange x w (rowMade s r q c f g) = all-snoc (ran-inRange x w q) (made-inRange (s .plan) r c f g)
-ran-inRange x w (linkCut s i p q e) = all-snoc (ran-inRange x w q) cut
-  where
-    cut : IsInRange (cutRecord i p)
-    cut = record {
-      kindIn = refl;
-      nameIn = λ h. absurd (omega arith);
-      noTag = λ h. refl;
-      parentWord = λ j h.
-          let v = ran-well x w q in
-          let z : j ≡ p = cc in
-          omega (arith, v .tree .parents i p e .0, parent-count (s .plan) i p e, v .few);
-    }
+ran-inRange x w (linkCut s i p q e) = all-snoc (ran-inRange x w q) cutIn
 
 pub ran-undo : (x : Table) → Well x → {s : State} → ComesTo x s → undo (s .plan) (historyBytes (s .history)) ≡ back x
 ran-undo x w {s} r =

@@ -9,7 +9,7 @@ use lib.ListN.{getD}
 use Rattle.model.specs.Base.{nothing, also}
 use Rattle.model.specs.Table.{Table, count, Tree}
 use Rattle.model.specs.Step.{collect}
-use Rattle.model.specs.Run.{State, Out, stop, gives, andThen, marked, AreRows, AreValues}
+use Rattle.model.specs.Run.{State, Out, refused, gives, andThen, marked, AreRows, AreValues}
 use Rattle.model.proofs.All.{all-imp}
 use Rattle.model.proofs.Collect.{collect-all}
 
@@ -34,5 +34,5 @@ marked-rows x t d = go (getD (x .marks) d none) refl
 -- the same outcome that goes on alike
 pub then-same : (o : Out) {p : Out} {f g : List ℕ → State → Out} → o ≡ p → ((v : List ℕ) (s : State) → f v s ≡ g v s) →
     andThen o f ≡ andThen p g
-then-same (stop x) {g = g} e h = ap (λ (q : Out). andThen q g) e
+then-same (refused x) {g = g} e h = ap (λ (q : Out). andThen q g) e
 then-same (gives v s) {g = g} e h = h v s ∙ ap (λ (q : Out). andThen q g) e

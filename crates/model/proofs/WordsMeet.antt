@@ -1,13 +1,12 @@
 -- Cells are sound: a word on two paths from one place, or on one and below a word on the other, turns their cell on.
 -- So paths that do not meet share no word.
 use mathlib.Core.Path.{_≡_, refl, sym, ap, _∙_, subst}
-use mathlib.Core.Bool.{Bool, true, false, _&&_, _||_, not, false≢true}
+use mathlib.Core.Bool.{Bool, true, false, _&&_, _||_, not, false≢true, cond}
 use mathlib.Core.Logic.{_⊎_, inl, inr}
 use mathlib.Core.List.{[], _∷_}
 use Prim.Native.Nat.{ℕ}
 use lib.Dec.{eqb}
 use borrow.Author.Tests.{eqb-true, eq-eqb}
-use Rattle.model.specs.Base.{pick}
 use Rattle.model.specs.Script.{Step}
 use Rattle.model.specs.Step.{Letter, leafLetter, named, admits}
 use Rattle.model.specs.Paths.{Place, Path, start, _▸_, placeOf}
@@ -22,10 +21,10 @@ use Rattle.model.proofs.Spells.{Spells, spelled, child, deep, admitsKin
 
 -- what a cell says of a word
 abbrev onAt : Cell → Word → Bool
-onAt c w = pick (endsInLeaf w) (c .onLeaf) (c .onElement)
+onAt c w = cond (endsInLeaf w) (c .onLeaf) (c .onElement)
 
 abbrev downAt : Cell → Word → Bool
-downAt c w = pick (endsInLeaf w) (c .downLeaf) (c .downElement)
+downAt c w = cond (endsInLeaf w) (c .downLeaf) (c .downElement)
 
 -- TESTS: what follows when a step's test lets a letter through
 test-element : (any element leaf name : Bool) → (leaf ≡ true → (any || element) ≡ true → ⊥) →
@@ -73,32 +72,32 @@ share-kind s t (named n) e f =
     (and-both (admitsElement s) (admitsElement t) (admits-element s n e) (admits-element t n f)) (share-name s t n e f)
 
 -- STEPS: what one step makes of a cell, for a letter that passes
-pick-and : (z e l p : Bool) → p ≡ true → pick z l e ≡ true → pick z (p && l) (p && e) ≡ true
-pick-and true e l p f g = and-both p l f g
-pick-and false e l p f g = and-both p e f g
+cond-and : (z e l p : Bool) → p ≡ true → cond z l e ≡ true → cond z (p && l) (p && e) ≡ true
+cond-and true e l p f g = and-both p l f g
+cond-and false e l p f g = and-both p e f g
 
-pick-and-left : (z e l p : Bool) → p ≡ true → pick z l e ≡ true → pick z (l && p) (e && p) ≡ true
-pick-and-left true e l p f g = and-both l p g f
-pick-and-left false e l p f g = and-both e p g f
+cond-and-left : (z e l p : Bool) → p ≡ true → cond z l e ≡ true → cond z (l && p) (e && p) ≡ true
+cond-and-left true e l p f g = and-both l p g f
+cond-and-left false e l p f g = and-both e p g f
 
 step-on : (s t : Step) (a : Letter) (w : Word) (c : Cell) → isParent s t c ≡ true → admits s a ≡ true → admits t a ≡ true →
     onAt (onStep s t c) (a ∷ w) ≡ true
 step-on s t a w c h e f =
-    pick-and (isLeafLetter a) (shareElement s t) (shareLeaf s t) (isParent s t c) h (share-kind s t a e f)
+    cond-and (isLeafLetter a) (shareElement s t) (shareLeaf s t) (isParent s t c) h (share-kind s t a e f)
 
 step-down : (s : Step) (a : Letter) (w : Word) (c : Cell) → (c .downElement || (isDeep s && c .upElement)) ≡ true → admits s a ≡ true →
     downAt (downStep s c) (a ∷ w) ≡ true
 step-down s a w c h e =
-    pick-and-left (isLeafLetter a) (admitsElement s) (admitsLeaf s) (c .downElement || (isDeep s && c .upElement)) h (admits-kind s a e)
+    cond-and-left (isLeafLetter a) (admitsElement s) (admitsLeaf s) (c .downElement || (isDeep s && c .upElement)) h (admits-kind s a e)
 
 -- JOINS
-pick-or-left : (z e l e′ l′ : Bool) → pick z l e ≡ true → pick z (l || l′) (e || e′) ≡ true
-pick-or-left true e l e′ l′ h = or-left l l′ h
-pick-or-left false e l e′ l′ h = or-left e e′ h
+cond-or-left : (z e l e′ l′ : Bool) → cond z l e ≡ true → cond z (l || l′) (e || e′) ≡ true
+cond-or-left true e l e′ l′ h = or-left l l′ h
+cond-or-left false e l e′ l′ h = or-left e e′ h
 
-pick-or-right : (z e l e′ l′ : Bool) → pick z l′ e′ ≡ true → pick z (l || l′) (e || e′) ≡ true
-pick-or-right true e l e′ l′ h = or-right l l′ h
-pick-or-right false e l e′ l′ h = or-right e e′ h
+cond-or-right : (z e l e′ l′ : Bool) → cond z l′ e′ ≡ true → cond z (l || l′) (e || e′) ≡ true
+cond-or-right true e l e′ l′ h = or-right l l′ h
+cond-or-right false e l e′ l′ h = or-right e e′ h
 
 -- SOUND: what words on p and on q, from the same place, make of the cell of p and q: a word on both; one on p at or below one on q; and
 -- the other way round, of the cell of q and p
@@ -232,17 +231,17 @@ module _ (p : Path) (s : Step) (q : Path) (t : Step) (k : Sound p q) where
   unfolding cell stepCells
   both-on [] f g z = absurd (step-word f)
   both-on (a ∷ w) f g z =
-      pick-or-left (isLeafLetter a) (c .onElement) (c .onLeaf) (d .onElement) (d .onLeaf) (met a w f g z)
+      cond-or-left (isLeafLetter a) (c .onElement) (c .onLeaf) (d .onElement) (d .onLeaf) (met a w f g z)
 
   both-below : Sound p (q ▸ t) → OnBelow (p ▸ s) (q ▸ t)
   unfolding cell stepCells
   both-below l =
       step-below p s (q ▸ t) l
       (λ a w f g z.
-      pick-or-left (isLeafLetter a) (c .downElement) (c .downLeaf) (d .downElement) (d .downLeaf) (met a w f g z))
+      cond-or-left (isLeafLetter a) (c .downElement) (c .downLeaf) (d .downElement) (d .downLeaf) (met a w f g z))
       (λ a w x.
-      pick-or-right (isLeafLetter a) (c .downElement) (c .downLeaf) (d .downElement) (d .downLeaf)
-      (pick-or-left (isLeafLetter a) (downStep s (cell p (q ▸ t)) .downElement) (downStep s (cell p (q ▸ t)) .downLeaf)
+      cond-or-right (isLeafLetter a) (c .downElement) (c .downLeaf) (d .downElement) (d .downLeaf)
+      (cond-or-left (isLeafLetter a) (downStep s (cell p (q ▸ t)) .downElement) (downStep s (cell p (q ▸ t)) .downLeaf)
       (upStep t (cell (p ▸ s) q) .downElement) (upStep t (cell (p ▸ s) q) .downLeaf) x))
 
 step-step : (p : Path) (s : Step) (q : Path) (t : Step) → Sound p q → Sound p (q ▸ t) → Sound (p ▸ s) q → Sound (p ▸ s) (q ▸ t)
@@ -269,6 +268,6 @@ cell-sound (p ▸ s) q = step-sound p s (cell-sound p) q
 pub meets-apart : (p q : Path) (w : Word) → placeOf p ≡ placeOf q → meets p q ≡ false → isProper w ≡ true → Spells p w → Spells q w → ⊥
 meets-apart p q w s n e f g = go (endsInLeaf w) (cell-sound p q s .on w f g e)
   where
-    go : (z : Bool) → pick z (cell p q .onLeaf) (cell p q .onElement) ≡ true → ⊥
+    go : (z : Bool) → cond z (cell p q .onLeaf) (cell p q .onElement) ≡ true → ⊥
     go true h = true-false (meets p q) (or-right (cell p q .onElement) (cell p q .onLeaf) h) n
     go false h = true-false (meets p q) (or-left (cell p q .onElement) (cell p q .onLeaf) h) n

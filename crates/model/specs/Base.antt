@@ -1,14 +1,9 @@
--- Choices by a test; all or some items of a list; areas.
-use mathlib.Core.Bool.{Bool, true, false, _&&_, _||_}
+-- All or some items of a list; areas.
+use mathlib.Core.Bool.{Bool, true, false, _&&_, _||_, cond}
 use mathlib.Core.List.{List, [], _∷_, _++_}
 use Prim.Native.Nat.{ℕ, _+_}
 use lib.Dec.{leb, eqb}
 use lib.ListN.{length, take, drop}
-
--- the first where the test holds, else the second
-abbrev pub pick : {A : Type 0} → Bool → A → A → A
-pick true x y = x
-pick false x y = y
 
 -- low ≤ x ≤ high
 abbrev pub isIn : (low high x : ℕ) → Bool
@@ -32,7 +27,7 @@ any f (x ∷ xs) = f x || any f xs
 -- the items that pass a test
 unfoldable pub filtered : {A : Type 0} → (A → Bool) → List A → List A
 filtered f [] = []
-filtered f (x ∷ xs) = pick (f x) (x ∷ filtered f xs) (filtered f xs)
+filtered f (x ∷ xs) = cond (f x) (x ∷ filtered f xs) (filtered f xs)
 
 -- x is an element of the list
 unfoldable pub among : ℕ → List ℕ → Bool
@@ -41,12 +36,16 @@ among x (y ∷ ys) = eqb x y || among x ys
 
 -- a test as a number
 abbrev pub bit : Bool → ℕ
-bit t = pick t 1 0
+bit t = cond t 1 0
+
+-- the highest byte
+abbrev pub maxByte : ℕ
+maxByte = 255
 
 -- every number is a byte
 unfoldable pub areBytes : List ℕ → Bool
 areBytes [] = true
-areBytes (b ∷ bs) = leb b 255 && areBytes bs
+areBytes (b ∷ bs) = leb b maxByte && areBytes bs
 
 -- an area with these items at its front
 abbrev pub atFront : (items area : List ℕ) → List ℕ

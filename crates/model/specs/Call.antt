@@ -1,35 +1,35 @@
 -- The calls on what callers see: bytes, a table and lent areas.
 use mathlib.Core.Path.{_≡_}
-use mathlib.Core.Bool.{Bool, true, false, _&&_}
+use mathlib.Core.Bool.{Bool, true, false, _&&_, cond}
 use mathlib.Core.List.{List, _++_}
 use Prim.Native.Nat.{ℕ, _-_}
 use lib.Dec.{leb}
 use lib.ListN.{length, take, replicate}
-use Rattle.model.specs.Base.{isIn, pick, areBytes}
+use Rattle.model.specs.Base.{isIn, areBytes}
 use Rattle.model.specs.Limits.{answerNeed, historyNeed, workNeed}
-use Rattle.model.specs.Refusal.{Fault, fine, isFine, linkAt, lentShort}
+use Rattle.model.specs.Refusal.{Refusal, fine, isFine, linkAt, lentShort}
 use Rattle.model.specs.Table.{Table, count, isWell}
-use Rattle.model.specs.Script.{Expr, Parsed, ill, parsed, readScript}
-use Rattle.model.specs.History.{times, Record, madeElementKind, madeLeafKind, cutKind, historyBytes, replayAll}
-use Rattle.model.specs.Run.{Out, stop, gives, runOn}
+use Rattle.model.specs.Script.{Expr, Parsed, refused, parsed, readScript}
+use Rattle.model.specs.History.{Record, isMade, isCut, times, historyBytes, replayAll}
+use Rattle.model.specs.Run.{Out, refused, gives, runOn}
 use Rattle.model.specs.Meeting.{Answer, free, answer}
 use Rattle.model.specs.Promise.{matchedAll, matchedHistory, PlansEqual}
-use Rattle.model.specs.Stored.{bad, readPlan}
+use Rattle.model.specs.Stored.{refused, readPlan}
 use Rattle.model.specs.Undo.{refused, undo}
 
 -- ANALYSIS of two scripts' bytes: the first refused one, 1 or 2, with its refusal, or the answer
 pub data Analysis : Type 0 where
-  refusedBy : (script : ℕ) → Fault → Analysis
+  refusedBy : (script : ℕ) → Refusal → Analysis
   answered : Answer → Analysis
 
 -- the second script, read once the first is accepted
 abbrev pub secondBy : Expr → Parsed → Analysis
-secondBy e (ill x) = refusedBy 2 x
+secondBy e (refused x) = refusedBy 2 x
 secondBy e (parsed f i n b) = answered (answer e f)
 
 -- The analysis reads the first script, then the second, and says which is refused
 abbrev pub firstBy : Parsed → Parsed → Analysis
-firstBy (ill x) q = refusedBy 1 x
+firstBy (refused x) q = refusedBy 1 x
 firstBy (parsed e i n b) q = secondBy e q
 
 -- of two scripts as bytes
@@ -38,12 +38,12 @@ analyse b c = firstBy (readScript b) (readScript c)
 
 -- A RUN of a script's bytes: the script's own refusal, or the run
 abbrev pub runBy : Table → Parsed → Out
-runBy x (ill f) = stop f
+runBy x (refused f) = refused f
 runBy x (parsed e i n b) = runOn x e
 
 -- what a run gives back, the tally with it, and leaves in the lent areas
 pub record Ran : Type 0 where
-  pub fault : Fault
+  pub refusal : Refusal
   pub plan : Table
   pub items : ℕ
   pub made : ℕ
@@ -58,15 +58,11 @@ pub record Ran : Type 0 where
 abbrev pub filled : (size : ℕ) → List ℕ → List ℕ
 filled n xs = xs ++ replicate (n - length xs) 0
 
--- records of a kind between two
-abbrev pub countKind : (low high : ℕ) → List Record → ℕ
-countKind a b = times (λ (r : Record). isIn a b (r .kind))
-
 -- refused: the table as it was, and the areas as given here
-abbrev pub refusedRun : Fault → Table → (answer history work : List ℕ) → Ran
+abbrev pub refusedRun : Refusal → Table → (answer history work : List ℕ) → Ran
 refusedRun f x a h w =
     record {
-      fault = f;
+      refusal = f;
       plan = x;
       items = 0;
       made = 0;
@@ -80,14 +76,14 @@ refusedRun f x a h w =
 
 -- A refused run restores the table and zeroes answer and history; all of the work area is zero
 abbrev pub ranBy : Table → (answer history work : ℕ) → Out → Ran
-ranBy x a h w (stop f) = refusedRun f x (replicate a 0) (replicate h 0) (replicate w 0)
+ranBy x a h w (refused f) = refusedRun f x (replicate a 0) (replicate h 0) (replicate w 0)
 ranBy x a h w (gives v s) =
     record {
-      fault = fine;
+      refusal = fine;
       plan = s .plan;
       items = length v;
-      made = countKind madeElementKind madeLeafKind (s .history);
-      cut = countKind cutKind cutKind (s .history);
+      made = times isMade (s .history);
+      cut = times isCut (s .history);
       records = length (s .history);
       bytes = length (historyBytes (s .history));
       answer = filled a v;
@@ -105,32 +101,32 @@ areasFit a h w = lengthsFit (length a) (length h) (length w)
 
 -- 11 first, at place 0, and nothing touched; else what a run that came to this outcome leaves
 abbrev pub inAreas : Table → (answer history work : List ℕ) → Out → Ran
-inAreas x a h w o = pick (areasFit a h w) (ranBy x (length a) (length h) (length w) o) (refusedRun lentShort x a h w)
+inAreas x a h w o = cond (areasFit a h w) (ranBy x (length a) (length h) (length w) o) (refusedRun lentShort x a h w)
 
 -- then 6 at place 0; then the script's own refusal; then the run's
 abbrev pub runCall : Table → (script answer history work : List ℕ) → Ran
-runCall x b a h w = inAreas x a h w (pick (isWell x) (runBy x (readScript b)) (stop (linkAt 0)))
+runCall x b a h w = inAreas x a h w (cond (isWell x) (runBy x (readScript b)) (refused (linkAt 0)))
 
 -- the run of whatever script on a table handed in ill formed
 abbrev pub unfitRun : Table → (answer history work : List ℕ) → Ran
-unfitRun x a h w = inAreas x a h w (stop (linkAt 0))
+unfitRun x a h w = inAreas x a h w (refused (linkAt 0))
 
 -- DEMAND 1: a refusal has a number of the table: of a plan and of a history 1 to 6, of a script 1 to 5, of a run 7 to 10
 abbrev pub RefusedByTable : Type 0
 RefusedByTable =
-    ((b : List ℕ) (f : Fault) → readPlan b ≡ bad f → isIn 1 6 (f .number) ≡ true) ×
-    ((b : List ℕ) (f : Fault) → readScript b ≡ ill f → isIn 1 5 (f .number) ≡ true) ×
-    ((x : Table) (b : List ℕ) (f : Fault) → undo x b ≡ refused f → isIn 1 6 (f .number) ≡ true) ×
-    ((x : Table) (e : Expr) (f : Fault) → runOn x e ≡ stop f → isIn 7 10 (f .number) ≡ true)
+    ((b : List ℕ) (f : Refusal) → readPlan b ≡ refused f → isIn 1 6 (f .number) ≡ true) ×
+    ((b : List ℕ) (f : Refusal) → readScript b ≡ refused f → isIn 1 5 (f .number) ≡ true) ×
+    ((x : Table) (b : List ℕ) (f : Refusal) → undo x b ≡ refused f → isIn 1 6 (f .number) ≡ true) ×
+    ((x : Table) (e : Expr) (f : Refusal) → runOn x e ≡ refused f → isIn 7 10 (f .number) ≡ true)
 
 -- and on the call: a refused run leaves the table as it was
 abbrev pub RefusedKeeps : Type 0
 RefusedKeeps =
-    (x : Table) (b a h w : List ℕ) → isFine (runCall x b a h w .fault) ≡ false → runCall x b a h w .plan ≡ x
+    (x : Table) (b a h w : List ℕ) → isFine (runCall x b a h w .refusal) ≡ false → runCall x b a h w .plan ≡ x
 
 -- DEMAND 3 on the calls: both calls of an order are not refused
 abbrev pub callsEnd : (first second : Ran) → Bool
-callsEnd r s = isFine (r .fault) && isFine (s .fault)
+callsEnd r s = isFine (r .refusal) && isFine (s .refusal)
 
 -- a script's answer and history in one order and in the other, run on x and on y, under the matching: item for item, record for record;
 -- the records are those that the history area holds, as many as the tally says, and replaying them on the table before gives that after

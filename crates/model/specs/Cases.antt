@@ -6,19 +6,19 @@ use mathlib.Core.Option.{Option, none, some}
 use Prim.Native.Nat.{ℕ}
 use Rattle.model.specs.Refusal.{fine, shortAt}
 use Rattle.model.specs.Table.{Row, Table, empty, rowAt, count}
-use Rattle.model.specs.Stored.{Read, bad, got, readPlan}
-use Rattle.model.specs.Script.{Expr, nil, Parsed, ill, parsed, readScript, faultBy}
+use Rattle.model.specs.Stored.{Read, refused, got, readPlan}
+use Rattle.model.specs.Script.{Expr, nil, Parsed, refused, parsed, readScript, refusalBy}
 use Rattle.model.specs.Run.{runOn}
 use Rattle.model.specs.Meeting.{answer, free, meet}
 use Rattle.model.specs.Promise.{tableOf, answerOf, historyOf, ends}
 
 -- what bytes are read as: a plan, a script
 abbrev pub tableBy : Read → Table
-tableBy (bad f) = empty
+tableBy (refused f) = empty
 tableBy (got x) = x
 
 abbrev pub exprBy : Parsed → Expr
-exprBy (ill f) = nil 0
+exprBy (refused f) = nil 0
 exprBy (parsed e i n c) = e
 
 abbrev pub script : List ℕ → Expr
@@ -80,7 +80,7 @@ bytesIntoItself = 0x0C ∷ 0x05 ∷ (threes ++ threes ++ threes)
 
 -- a script is accepted
 abbrev pub accepted : List ℕ → Type 0
-accepted b = faultBy (readScript b) ≡ fine
+accepted b = refusalBy (readScript b) ≡ fine
 
 abbrev pub scriptA : Expr
 scriptA = script bytesA
@@ -151,4 +151,4 @@ Cases =
     ((count afterTwice ≡ 8) × (parentAt afterTwice 4 ≡ some 3) × (parentAt afterTwice 5 ≡ some 4) × (parentAt afterTwice 6 ≡ some 3) ×
     (parentAt afterTwice 7 ≡ some 6)) ×
     ((count afterItself ≡ 6) × (parentAt afterItself 4 ≡ some 3) × (parentAt afterItself 5 ≡ some 3)) ×
-    (faultBy (readScript []) ≡ shortAt 0) × (readPlan [] ≡ got empty)
+    (refusalBy (readScript []) ≡ shortAt 0) × (readPlan [] ≡ got empty)

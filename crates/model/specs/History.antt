@@ -1,13 +1,42 @@
--- Document 01, 'The history': its records, as bytes, and replayed.
+-- Document 01, 'The history': its records, as bytes, read, and replayed.
 use mathlib.Core.Path.{_≡_}
-use mathlib.Core.Bool.{Bool, true}
+use mathlib.Core.Bool.{Bool, true, false, _||_, cond}
 use mathlib.Core.List.{List, [], _∷_, _++_}
-use mathlib.Core.Option.{Option, none}
+use mathlib.Core.Option.{none}
 use Prim.Native.Nat.{ℕ, _+_}
 use lib.Dec.{eqb}
-use Rattle.model.specs.Base.{pick, isIn, All, bit}
-use Rattle.model.specs.Table.{Table, linked, withRow, isName}
-use Rattle.model.specs.Stored.{IsWord, wordBytes, parentBytes}
+use lib.ListN.{getD}
+use Rattle.model.specs.Base.{All, bit}
+use Rattle.model.specs.Table.{Row, Table, linked, withRow, tagFits, isName}
+use Rattle.model.specs.Stored.{IsWord, wordBytes, wordAt, parentBytes, parentIn}
+
+-- A RECORD: a row made, with its number; or a link cut, with the row and its old parent
+pub data Record : Type 0 where
+  made : (row : ℕ) → Row → Record
+  cut : (row parent : ℕ) → Record
+
+-- of a row made
+abbrev pub isMade : Record → Bool
+isMade (made i r) = true
+isMade (cut i p) = false
+
+-- of a link cut
+abbrev pub isCut : Record → Bool
+isCut (made i r) = false
+isCut (cut i p) = true
+
+-- how many pass a test
+unfoldable pub times : (Record → Bool) → List Record → ℕ
+times f [] = 0
+times f (r ∷ rs) = bit (f r) + times f rs
+
+-- A RECORD IN RANGE: the row's name or value fits, and its parent is not 0xFFFF, which means none; a cut always is
+pub data IsInRange : Record → Type 0 where
+  madeIn : {i : ℕ} {r : Row} → tagFits r ≡ true → IsWord (r .parent) → IsInRange (made i r)
+  cutIn : {i p : ℕ} → IsInRange (cut i p)
+
+abbrev pub AllInRange : List Record → Type 0
+AllInRange = All IsInRange
 
 -- KINDS: element made, leaf made (body: row, name or value, parent), link cut (body: row, old parent)
 abbrev pub madeElementKind : ℕ
@@ -19,47 +48,58 @@ madeLeafKind = 0x42
 abbrev pub cutKind : ℕ
 cutKind = 0x43
 
--- the tag of a cut is 0
-pub record Record : Type 0 where
-  pub kind : ℕ
-  pub row : ℕ
-  pub tag : ℕ
-  pub parent : Option ℕ
-
--- a record of a link cut
-abbrev pub isCut : Record → Bool
-isCut r = eqb (r .kind) cutKind
-
--- how many pass a test
-unfoldable pub times : (Record → Bool) → List Record → ℕ
-times f [] = 0
-times f (r ∷ rs) = bit (f r) + times f rs
-
--- A RECORD IN RANGE: one of the three kinds; an element's name is 1 to 255; a cut has no tag
-pub record IsInRange (r : Record) : Type 0 where
-  pub kindIn : isIn madeElementKind cutKind (r .kind) ≡ true
-  pub nameIn : r .kind ≡ madeElementKind → isName (r .tag) ≡ true
-  pub noTag : r .kind ≡ cutKind → r .tag ≡ 0
-  pub parentWord : IsWord (r .parent)
-
-abbrev pub AllInRange : List Record → Type 0
-AllInRange = All IsInRange
-
 -- WRITTEN
 abbrev pub recordBytes : Record → List ℕ
-recordBytes r =
-    (r .kind ∷ wordBytes (r .row)) ++ pick (eqb (r .kind) cutKind) (parentBytes (r .parent)) (r .tag ∷ parentBytes (r .parent))
+recordBytes (made i r) =
+    (cond (r .isLeaf) madeLeafKind madeElementKind ∷ wordBytes i) ++ (r .tag ∷ parentBytes (r .parent))
+recordBytes (cut i p) = (cutKind ∷ wordBytes i) ++ wordBytes p
 
 -- record after record
 unfoldable pub historyBytes : List Record → List ℕ
 historyBytes [] = []
 historyBytes (r ∷ rs) = recordBytes r ++ historyBytes rs
 
+-- READ. The form of a record: how many bytes it has, whether its fields are in range, and what it says, from its kind byte on
+pub record Form : Type 0 where
+  pub size : ℕ
+  pub fits : (bytes : List ℕ) → Bool
+  pub entry : (bytes : List ℕ) → Record
+
+-- of a row made: an element's name is 1 to 255
+abbrev pub madeForm : (isLeaf : Bool) → Form
+madeForm z =
+    record {
+      size = 6;
+      fits = λ b. z || isName (getD b 3 0);
+      entry = λ b. made (wordAt b 1) (record { isLeaf = z; tag = getD b 3 0; parent = parentIn (wordAt b 4) });
+    }
+
+-- of a link cut
+abbrev pub cutForm : Form
+cutForm = record { size = 5; fits = λ b. true; entry = λ b. cut (wordAt b 1) (wordAt b 3) }
+
+-- of a byte that is no kind: a record without bytes, which is never read
+abbrev pub noForm : Form
+noForm = record { size = 0; fits = λ b. false; entry = λ b. cut 0 0 }
+
+-- which byte is a kind, and the form of its record
+abbrev pub historyForm : (kind : ℕ) → Form
+historyForm k =
+    cond (eqb k madeElementKind) (madeForm false)
+    (cond (eqb k madeLeafKind) (madeForm true) (cond (eqb k cutKind) cutForm noForm))
+
+-- the bytes of a record of this kind
+abbrev pub historySize : (kind : ℕ) → ℕ
+historySize k = historyForm k .size
+
+-- the record at the front
+abbrev pub recordIn : (bytes : List ℕ) → Record
+recordIn b = historyForm (getD b 0 0) .entry b
+
 -- REPLAYED: replaying a history on the earlier table gives the later one
 abbrev pub replayed : Table → Record → Table
-replayed x r =
-    pick (eqb (r .kind) cutKind) (linked x (r .row) none)
-    (withRow x (record { isLeaf = eqb (r .kind) madeLeafKind; tag = r .tag; parent = r .parent }))
+replayed x (made i r) = withRow x r
+replayed x (cut i p) = linked x i none
 
 -- record after record, in order
 unfoldable pub replayAll : Table → List Record → Table

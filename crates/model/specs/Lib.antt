@@ -1,6 +1,7 @@
 pub mod Base
 pub mod Limits
 pub mod Refusal
+pub mod Kinds
 pub mod Table
 pub mod Stored
 pub mod Sweep

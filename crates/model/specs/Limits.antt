@@ -13,6 +13,10 @@ maxLinks = maxRows + 1
 abbrev pub documents : ℕ
 documents = 8
 
+-- names, numbered from 1
+abbrev pub maxName : ℕ
+maxName = 255
+
 -- records of a script
 abbrev pub maxRecords : ℕ
 maxRecords = 64

@@ -1,8 +1,8 @@
 -- Document 01, 'The paths': when some plan has a node on two paths that go down only, and the answer.
-use mathlib.Core.Bool.{Bool, false, _&&_, _||_, not}
-use mathlib.Core.List.{List}
+use mathlib.Core.Bool.{Bool, false, _&&_, _||_, not, cond}
+use mathlib.Core.List.{List, [], _∷_}
 use lib.Dec.{eqb}
-use Rattle.model.specs.Base.{pick, any}
+use Rattle.model.specs.Base.{any}
 use Rattle.model.specs.Script.{Step, Expr}
 use Rattle.model.specs.Paths.{Place, Path, start, _▸_, Paths, pathsOf, traversed, hasUp}
 
@@ -65,6 +65,15 @@ joinCell c d =
       upLeaf = c .upLeaf || d .upLeaf;
     }
 
+-- nothing in common
+abbrev pub noCell : Cell
+noCell = onCell false false
+
+-- SUMS of cells
+unfoldable pub sum : {A : Type 0} → (A → Cell) → List A → Cell
+sum f [] = noCell
+sum f (x ∷ xs) = joinCell (f x) (sum f xs)
+
 -- No node is at two places; a document's root is an element, a constructor's place holds elements or leaves
 abbrev pub samePlace : Place → Place → Bool
 samePlace p q = eqb (p .owner) (q .owner) && eqb (p .number) (q .number)
@@ -114,6 +123,10 @@ unfoldable pub cell : Path → Path → Cell
 cell (start p) = startCells p
 cell (p ▸ s) = stepCells s (cell p)
 
+-- what the paths of two lists have in common
+abbrev pub between : List Path → List Path → Cell
+between ps qs = sum (λ (p : Path). sum (cell p) qs) ps
+
 -- MEETING: some plan has a node on both
 abbrev pub isMet : Cell → Bool
 isMet c = c .onElement || c .onLeaf
@@ -136,4 +149,4 @@ pub data Answer : Type 0 where
 
 -- `upward` where either script holds axis 2 or 3, else `meet` where their paths meet, else `free`
 abbrev pub answer : (first second : Expr) → Answer
-answer e f = pick (hasUp e || hasUp f) upward (pick (pathsMeet (pathsOf 1 e) (pathsOf 2 f)) meet free)
+answer e f = cond (hasUp e || hasUp f) upward (cond (pathsMeet (pathsOf 1 e) (pathsOf 2 f)) meet free)

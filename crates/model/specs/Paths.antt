@@ -5,7 +5,7 @@ use Prim.Native.Nat.{ℕ}
 use lib.Dec.{leb}
 use lib.ListN.{getD}
 use Rattle.model.specs.Script.{Step, stepBy, Expr, nil, document, var, step, both}
-use Rattle.model.specs.Script.{letIn, forIn, ifIn, element, leaf, delete, insert, choose}
+use Rattle.model.specs.Script.{letIn, forIn, ifIn, element, leaf, delete, insert, pick}
 
 -- PLACES: documents 0 to 7 (owner 0), and the constructor records of each script (owner 1 or 2, by the record's place)
 pub record Place : Type 0 where
@@ -95,7 +95,7 @@ infer o (element z n) b = modifiedPlace (place o z)
 infer o (leaf z v) b = modifiedPlace (place o z)
 infer o (delete z e) b = deleting (infer o e b)
 infer o (insert z e f) b = inserting (infer o e b) (infer o f b)
-infer o (choose z r c e) b = infer o e b
+infer o (pick z r c e) b = infer o e b
 
 -- of a whole script, owner 1 or 2
 abbrev pub pathsOf : (owner : ℕ) → Expr → Paths
@@ -133,4 +133,4 @@ hasUp (element z n) = false
 hasUp (leaf z v) = false
 hasUp (delete z e) = hasUp e
 hasUp (insert z e f) = hasUp e || hasUp f
-hasUp (choose z r c e) = hasUp e
+hasUp (pick z r c e) = hasUp e

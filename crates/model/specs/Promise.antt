@@ -1,21 +1,21 @@
 -- What is promised of every plan and every two scripts. Each promise is a type; a term of that type in proofs/ is its proof.
 use mathlib.Core.Path.{_≡_}
 use mathlib.Core.Logic.{_↔_}
-use mathlib.Core.Bool.{Bool, true, false, _&&_, _||_}
+use mathlib.Core.Bool.{Bool, true, false, _&&_, _||_, cond}
 use mathlib.Core.List.{List, [], _∷_, map}
 use mathlib.Core.Option.{Option, none, some}
 use Prim.Native.Nat.{ℕ, zero, suc, _+_, _-_, _<_}
 use lib.Dec.{ltb}
 use lib.ListN.{getD}
-use Rattle.model.specs.Base.{pick, any, among, areBytes}
+use Rattle.model.specs.Base.{any, among, areBytes}
 use Rattle.model.specs.Limits.{documents}
 use Rattle.model.specs.Table.{Row, Table, empty, rowAt, count, hasParent, isThe, isMarked, isTree, isWell, withParent}
 use Rattle.model.specs.Stored.{got, readPlan, stored}
 use Rattle.model.specs.Sweep.{through, isKept, newNumber, renumbered, swept}
 use Rattle.model.specs.Script.{Expr, parsed, readScript}
 use Rattle.model.specs.Step.{stepped}
-use Rattle.model.specs.History.{Record, historyBytes, replayAll}
-use Rattle.model.specs.Run.{State, Out, stop, gives, runOn}
+use Rattle.model.specs.History.{Record, made, cut, historyBytes, replayAll}
+use Rattle.model.specs.Run.{State, Out, refused, gives, runOn}
 use Rattle.model.specs.Undo.{back, undo}
 use Rattle.model.specs.Paths.{Place, documentPlace, Path, start, _▸_, pathsOf, traversed, hasUp}
 use Rattle.model.specs.Meeting.{answer, free, upward, meet}
@@ -72,7 +72,7 @@ ArePlaces x h =
 -- the rows that a place holds, of so many from a row on
 unfoldable pub rowsAt : Table → Places → Place → (row : ℕ) → ℕ → List ℕ
 rowsAt x h p i zero = []
-rowsAt x h p i (suc n) = pick (h p i) (i ∷ rowsAt x h p (suc i) n) (rowsAt x h p (suc i) n)
+rowsAt x h p i (suc n) = cond (h p i) (i ∷ rowsAt x h p (suc i) n) (rowsAt x h p (suc i) n)
 
 -- the rows on a path: those at its place; those that the step reaches from a row on the path
 unfoldable pub rowsOn : Table → Places → Path → List ℕ
@@ -107,22 +107,22 @@ FreeMeans =
 
 -- DEMAND 3, the two orders: what a run leaves if it ends; of a refused one these are empty, and no promise looks at them
 abbrev pub tableOf : Out → Table
-tableOf (stop x) = empty
+tableOf (refused x) = empty
 tableOf (gives v s) = s .plan
 
 -- its answer
 abbrev pub answerOf : Out → List ℕ
-answerOf (stop x) = []
+answerOf (refused x) = []
 answerOf (gives v s) = v
 
 -- its history
 abbrev pub historyOf : Out → List Record
-historyOf (stop x) = []
+historyOf (refused x) = []
 historyOf (gives v s) = s .history
 
 -- it is not refused
 abbrev pub ends : Out → Bool
-ends (stop x) = false
+ends (refused x) = false
 ends (gives v s) = true
 
 -- the first run of an order
@@ -143,7 +143,7 @@ newRows x o = count (tableOf o) - count x
 
 -- MATCHING from the order one-two to the order two-one, with n rows at first, a made by script one and b by script two
 abbrev pub matched : (n a b row : ℕ) → ℕ
-matched n a b i = pick (ltb i n) i (pick (ltb i (n + a)) (i + b) (i - a))
+matched n a b i = cond (ltb i n) i (cond (ltb i (n + a)) (i + b) (i - a))
 
 -- none matches none
 abbrev pub matchedParent : (n a b : ℕ) → Option ℕ → Option ℕ
@@ -155,18 +155,18 @@ unfoldable pub matchedAll : (n a b : ℕ) → List ℕ → List ℕ
 matchedAll n a b [] = []
 matchedAll n a b (i ∷ is) = matched n a b i ∷ matchedAll n a b is
 
+-- the same kind, the same name or value, a matching parent
+abbrev pub matchedRow : (n a b : ℕ) → Row → Row
+matchedRow n a b r = withParent r (matchedParent n a b (r .parent))
+
 -- the same kind, the same name or value, matching rows and parents
 abbrev pub matchedRecord : (n a b : ℕ) → Record → Record
-matchedRecord n a b r =
-    record { kind = r .kind; row = matched n a b (r .row); tag = r .tag; parent = matchedParent n a b (r .parent) }
+matchedRecord n a b (made i r) = made (matched n a b i) (matchedRow n a b r)
+matchedRecord n a b (cut i p) = cut (matched n a b i) (matched n a b p)
 
 -- record for record
 abbrev pub matchedHistory : (n a b : ℕ) → List Record → List Record
 matchedHistory n a b rs = map (matchedRecord n a b) rs
-
--- the same kind, the same name or value, a matching parent
-abbrev pub matchedRow : (n a b : ℕ) → Row → Row
-matchedRow n a b r = withParent r (matchedParent n a b (r .parent))
 
 -- as many rows, matching rows alike, and each document marks matching rows or none in both
 abbrev pub PlansEqual : (n a b : ℕ) → (one two : Table) → Type 0

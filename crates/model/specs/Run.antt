@@ -1,17 +1,17 @@
 -- Document 01, 'The scripts': evaluation with its history.
-use mathlib.Core.Bool.{Bool, true, false, _&&_}
+use mathlib.Core.Bool.{Bool, true, false, _&&_, cond}
 use mathlib.Core.List.{List, [], _∷_, _++_}
 use mathlib.Core.Option.{Option, none, some}
 use Prim.Native.Nat.{ℕ, _+_, _<_}
 use lib.Dec.{ltb, eqb}
 use lib.ListN.{length, getD}
-use Rattle.model.specs.Base.{pick, All}
+use Rattle.model.specs.Base.{All}
 use Rattle.model.specs.Limits.{maxRows, maxItems, maxHistory}
-use Rattle.model.specs.Refusal.{Fault, isFine, orElse, unless, targetAt, itemsAt, historyAt, tableAt}
+use Rattle.model.specs.Refusal.{Refusal, isFine, orElse, unless, targetAt, itemsAt, historyAt, tableAt}
 use Rattle.model.specs.Table.{Row, Table, rowAt, count, isElement, withRow, withParent, linked}
-use Rattle.model.specs.Script.{Expr, nil, document, var, step, both, letIn, forIn, ifIn, element, leaf, delete, insert, choose}
+use Rattle.model.specs.Script.{Expr, nil, document, var, step, both, letIn, forIn, ifIn, element, leaf, delete, insert, pick}
 use Rattle.model.specs.Step.{isBelow, collect, stepped, picked}
-use Rattle.model.specs.History.{Record, madeElementKind, madeLeafKind, cutKind}
+use Rattle.model.specs.History.{Record, made, cut}
 
 -- a run's state: table and history so far
 pub record State : Type 0 where
@@ -23,7 +23,7 @@ state x h = record { plan = x; history = h }
 
 -- a refusal; or a value, which is a list of row numbers, and the state after it
 pub data Out : Type 0 where
-  stop : Fault → Out
+  refused : Refusal → Out
   gives : (items : List ℕ) → State → Out
 
 -- VALUES: rows of a table that has so many
@@ -36,46 +36,38 @@ AreValues n = All (AreRows n)
 
 -- what follows a value, unless it is refused
 abbrev pub andThen : Out → (List ℕ → State → Out) → Out
-andThen (stop x) next = stop x
+andThen (refused x) next = refused x
 andThen (gives v s) next = next v s
 
 -- joined in order, repeats kept; 8 past 512 items
 abbrev pub joinItems : (place : ℕ) → (one other : List ℕ) → State → Out
-joinItems z v w s = pick (ltb maxItems (length v + length w)) (stop (itemsAt z)) (gives (v ++ w) s)
+joinItems z v w s = cond (ltb maxItems (length v + length w)) (refused (itemsAt z)) (gives (v ++ w) s)
 
--- NEW ROWS take the next numbers: the record of a row made
-abbrev pub made : Row → (row : ℕ) → Record
-made r i = record { kind = pick (r .isLeaf) madeLeafKind madeElementKind; row = i; tag = r .tag; parent = r .parent }
-
--- a row made, with its record
+-- NEW ROWS take the next numbers: a row made, with its record
 abbrev pub withMade : State → Row → State
-withMade s r = state (withRow (s .plan) r) (s .history ++ (made r (count (s .plan)) ∷ []))
+withMade s r = state (withRow (s .plan) r) (s .history ++ (made (count (s .plan)) r ∷ []))
 
 -- 10 before 9
-abbrev pub roomFault : (place : ℕ) → State → Fault
-roomFault z s =
+abbrev pub roomRefusal : (place : ℕ) → State → Refusal
+roomRefusal z s =
     orElse (unless (ltb (count (s .plan)) maxRows) (tableAt z)) (unless (ltb (length (s .history)) maxHistory) (historyAt z))
 
 -- a new row; the answer is its number
 abbrev pub newRow : (place : ℕ) → Row → State → Out
-newRow z r s = pick (isFine (roomFault z s)) (gives (count (s .plan) ∷ []) (withMade s r)) (stop (roomFault z s))
+newRow z r s = cond (isFine (roomRefusal z s)) (gives (count (s .plan) ∷ []) (withMade s r)) (refused (roomRefusal z s))
 
 -- a row without parent
 abbrev pub loose : (isLeaf : Bool) → (tag : ℕ) → Row
 loose z t = record { isLeaf = z; tag = t; parent = none }
 
--- DELETE cuts each row of its value from its parent, and does nothing to a row without one: the record of a link cut
-abbrev pub cutRecord : (row parent : ℕ) → Record
-cutRecord i p = record { kind = cutKind; row = i; tag = 0; parent = some p }
-
--- a link cut, with its record
+-- DELETE cuts each row of its value from its parent, and does nothing to a row without one: a link cut, with its record
 abbrev pub cutRow : State → (row parent : ℕ) → State
-cutRow s i p = state (linked (s .plan) i none) (s .history ++ (cutRecord i p ∷ []))
+cutRow s i p = state (linked (s .plan) i none) (s .history ++ (cut i p ∷ []))
 
 -- what follows the cut of a row with this parent, or without one
 abbrev pub cutBy : (place row : ℕ) → State → Option ℕ → (State → Out) → Out
 cutBy z i s none next = next s
-cutBy z i s (some p) next = pick (ltb (length (s .history)) maxHistory) (next (cutRow s i p)) (stop (historyAt z))
+cutBy z i s (some p) next = cond (ltb (length (s .history)) maxHistory) (next (cutRow s i p)) (refused (historyAt z))
 
 -- row after row; its answer is empty
 unfoldable pub cutAll : (place : ℕ) → (items : List ℕ) → State → Out
@@ -91,7 +83,7 @@ pub record Copied : Type 0 where
 -- the copy of a row, if it is copied
 unfoldable pub copyOf : (row : ℕ) → List Copied → Option ℕ
 copyOf i [] = none
-copyOf i (c ∷ cs) = pick (eqb (c .old) i) (some (c .new)) (copyOf i cs)
+copyOf i (c ∷ cs) = cond (eqb (c .old) i) (some (c .new)) (copyOf i cs)
 
 -- the parent of a copy: the target for the top, else the copy of the parent
 abbrev pub copyParent : (isTop : Bool) → (target : ℕ) → Option ℕ → List Copied → Option ℕ
@@ -113,7 +105,7 @@ subtree x t = t ∷ descendantsFrom x t 0 (count x)
 
 -- what follows an update, unless it is refused
 abbrev pub thenRow : Out → (State → Out) → Out
-thenRow (stop x) next = stop x
+thenRow (refused x) next = refused x
 thenRow (gives v s) next = next s
 
 -- row after row of one item
@@ -131,12 +123,12 @@ copyAll z x (i ∷ is) g s = thenRow (copyEach z x i g (subtree x i) [] s) (λ (
 -- 7: a target value of exactly one item, an element, even when there is nothing to copy
 abbrev pub inserted : (place : ℕ) → (items targets : List ℕ) → State → Out
 inserted z v w s =
-    pick (eqb (length w) 1 && isElement (s .plan) (getD w 0 0)) (copyAll z (s .plan) v (getD w 0 0) s) (stop (targetAt z))
+    cond (eqb (length w) 1 && isElement (s .plan) (getD w 0 0)) (copyAll z (s .plan) v (getD w 0 0) s) (refused (targetAt z))
 
 -- A 'FOR' runs its second expression once for each item of the first and joins the results; 8 after the item that passes the limit
 abbrev pub joinFor : (place : ℕ) → (sofar : List ℕ) → Out → (List ℕ → State → Out) → Out
-joinFor z v (stop x) next = stop x
-joinFor z v (gives w s) next = pick (ltb maxItems (length v + length w)) (stop (itemsAt z)) (next (v ++ w) s)
+joinFor z v (refused x) next = refused x
+joinFor z v (gives w s) next = cond (ltb maxItems (length v + length w)) (refused (itemsAt z)) (next (v ++ w) s)
 
 -- item after item, with the results so far
 unfoldable pub loop : (place : ℕ) → (ℕ → State → Out) → (items sofar : List ℕ) → State → Out
@@ -160,13 +152,13 @@ run (letIn z e f) b s = andThen (run e b s) (λ (v : List ℕ) (u : State). run 
 run (forIn z e f) b s =
     andThen (run e b s) (λ (v : List ℕ) (u : State). loop z (λ (i : ℕ) (q : State). run f (b ++ ((i ∷ []) ∷ [])) q) v [] u)
 run (ifIn z e f g) b s =
-    andThen (run e b s) (λ (v : List ℕ) (u : State). pick (eqb (length v) 0) (run g b u) (run f b u))
+    andThen (run e b s) (λ (v : List ℕ) (u : State). cond (eqb (length v) 0) (run g b u) (run f b u))
 run (element z n) b s = newRow z (loose false n) s
 run (leaf z v) b s = newRow z (loose true v) s
 run (delete z e) b s = andThen (run e b s) (λ (v : List ℕ) (u : State). cutAll z v u)
 run (insert z e f) b s =
     andThen (run e b s) (λ (v : List ℕ) (u : State). andThen (run f b u) (λ (w : List ℕ) (q : State). inserted z v w q))
-run (choose z r c e) b s = andThen (run e b s) (λ (v : List ℕ) (u : State). gives (picked (u .plan) r c v) u)
+run (pick z r c e) b s = andThen (run e b s) (λ (v : List ℕ) (u : State). gives (picked (u .plan) r c v) u)
 
 -- a run starts with nothing bound and an empty history
 abbrev pub runOn : Table → Expr → Out

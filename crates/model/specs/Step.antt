@@ -1,9 +1,9 @@
 -- Document 01: what a test sees, which rows a step reaches, what pick keeps.
-use mathlib.Core.Bool.{Bool, false, _&&_, _||_, not}
+use mathlib.Core.Bool.{Bool, false, _&&_, _||_, not, cond}
 use mathlib.Core.List.{List, [], _∷_}
 use Prim.Native.Nat.{ℕ, zero, suc, _+_, _-_}
 use lib.Dec.{ltb, eqb}
-use Rattle.model.specs.Base.{pick, any, filtered}
+use Rattle.model.specs.Base.{any, filtered}
 use Rattle.model.specs.Table.{Row, Table, rowAt, count, isThe}
 use Rattle.model.specs.Sweep.{through}
 use Rattle.model.specs.Script.{Step}
@@ -15,7 +15,7 @@ pub data Letter : Type 0 where
 
 -- the letter of a row
 abbrev pub letterOf : Row → Letter
-letterOf r = pick (r .isLeaf) leafLetter (named (r .tag))
+letterOf r = cond (r .isLeaf) leafLetter (named (r .tag))
 
 -- Test: 0 any node, 1 any element, 2 any leaf, 3 the named element
 abbrev pub admits : Step → Letter → Bool
@@ -38,12 +38,12 @@ isBelow x t i = isBelowFrom (suc i) x t i
 -- Axis: 0 child, 1 descendant, 2 parent, 3 ancestor
 abbrev pub reaches : Table → (axis from to : ℕ) → Bool
 reaches x a i j =
-    pick (eqb a 0) (parentIs x i j) (pick (eqb a 1) (isBelow x i j) (pick (eqb a 2) (parentIs x j i) (isBelow x j i)))
+    cond (eqb a 0) (parentIs x i j) (cond (eqb a 1) (isBelow x i j) (cond (eqb a 2) (parentIs x j i) (isBelow x j i)))
 
 -- the rows that pass a test, of so many from a row on, in rising number
 unfoldable pub collect : (ℕ → Bool) → (row : ℕ) → ℕ → List ℕ
 collect f i zero = []
-collect f i (suc n) = pick (f i) (i ∷ collect f (suc i) n) (collect f (suc i) n)
+collect f i (suc n) = cond (f i) (i ∷ collect f (suc i) n) (collect f (suc i) n)
 
 -- a row that passes the test and that the axis reaches from an item
 abbrev pub isReached : Table → Step → (items : List ℕ) → (row : ℕ) → Bool
@@ -55,12 +55,12 @@ stepped x s v = collect (isReached x s v) 0 (count x)
 
 -- PICK: the order of signed values, two's complement with its halves exchanged
 abbrev pub signedKey : (value : ℕ) → ℕ
-signedKey v = pick (ltb v 128) (v + 128) (v - 128)
+signedKey v = cond (ltb v 128) (v + 128) (v - 128)
 
 -- Relation: 0 equal, 1 less, 2 greater
 abbrev pub relates : (relation constant value : ℕ) → Bool
 relates r c v =
-    pick (eqb r 0) (eqb v c) (pick (eqb r 1) (ltb (signedKey v) (signedKey c)) (ltb (signedKey c) (signedKey v)))
+    cond (eqb r 0) (eqb v c) (cond (eqb r 1) (ltb (signedKey v) (signedKey c)) (ltb (signedKey c) (signedKey v)))
 
 -- Pick keeps the leaves whose signed value stands in the relation to the constant; elements are dropped
 abbrev pub isPicked : Table → (relation constant row : ℕ) → Bool

@@ -1,18 +1,18 @@
 -- Document 01, 'Stored plan': written, and read with number and place of a refusal.
 use mathlib.Core.Path.{_≡_}
-use mathlib.Core.Bool.{Bool, _&&_, _||_, not}
+use mathlib.Core.Bool.{Bool, _&&_, _||_, not, cond}
 use mathlib.Core.List.{List, [], _∷_, _++_}
 use mathlib.Core.Option.{Option, none, some}
 use Prim.Native.Nat.{ℕ, zero, suc, _+_, _*_, _/_, _%_, _<_}
 use lib.Dec.{ltb, leb, eqb}
 use lib.ListN.{length, getD, drop}
-use Rattle.model.specs.Base.{pick, isIn}
 use Rattle.model.specs.Limits.{maxRows, documents}
-use Rattle.model.specs.Refusal.{Fault, isFine, orElse, unless, kindAt, shortAt, fieldAt, sizeAt, linkAt}
+use Rattle.model.specs.Refusal.{Refusal, isFine, orElse, unless, kindAt, shortAt, fieldAt, sizeAt, linkAt}
+use Rattle.model.specs.Kinds.{Kind, kindBy, kindOf, isFound, bodyBy}
 use Rattle.model.specs.Table.{Row, Table, empty, rowAt, count, isElement}
 use Rattle.model.specs.Table.{isMarked, hasParent, withRow, withMark, tagFits, parentFits}
 
--- KINDS: element and leaf (body: name or value, parent), mark (body: document, row)
+-- NUMBERS of the kinds: element and leaf (body: name or value, parent), mark (body: document, row)
 abbrev pub elementKind : ℕ
 elementKind = 0x11
 
@@ -22,7 +22,23 @@ leafKind = 0x12
 abbrev pub markKind : ℕ
 markKind = 0x13
 
--- every stored record has four bytes
+-- KINDS: a row of document 01's table each, with the bytes of its body; no record has operands
+unfoldable pub storedKinds : List Kind
+storedKinds =
+    kindBy elementKind 3 0 ∷
+    kindBy leafKind 3 0 ∷
+    kindBy markKind 3 0 ∷
+    []
+
+-- the byte is a kind
+abbrev pub isStoredKind : (byte : ℕ) → Bool
+isStoredKind k = isFound (kindOf storedKinds k)
+
+-- bytes of a record: its kind and its body
+abbrev pub storedSize : (kind : ℕ) → ℕ
+storedSize k = 1 + bodyBy (kindOf storedKinds k)
+
+-- every stored record has four bytes, by that table
 abbrev pub recordSize : ℕ
 recordSize = 4
 
@@ -31,13 +47,17 @@ abbrev pub wordBytes : ℕ → List ℕ
 wordBytes n = n % 256 ∷ n / 256 ∷ []
 
 -- Parent 0xFFFF means none
+abbrev pub noParent : ℕ
+noParent = 0xFFFF
+
+-- the two bytes of a parent
 abbrev pub parentBytes : Option ℕ → List ℕ
-parentBytes none = 255 ∷ 255 ∷ []
+parentBytes none = wordBytes noParent
 parentBytes (some p) = wordBytes p
 
 -- WRITTEN: a row's record
 abbrev pub rowBytes : Row → List ℕ
-rowBytes r = pick (r .isLeaf) leafKind elementKind ∷ r .tag ∷ parentBytes (r .parent)
+rowBytes r = cond (r .isLeaf) leafKind elementKind ∷ r .tag ∷ parentBytes (r .parent)
 
 -- rows in number order
 unfoldable pub rowsBytes : List Row → List ℕ
@@ -60,7 +80,7 @@ stored x = rowsBytes (x .rows) ++ marksBytes 0 (x .marks)
 
 -- READ: a refusal, or a table
 pub data Read : Type 0 where
-  bad : Fault → Read
+  refused : Refusal → Read
   got : Table → Read
 
 -- the two-byte number at a place
@@ -69,11 +89,11 @@ wordAt b i = getD b i 0 + 256 * getD b (i + 1) 0
 
 -- 0xFFFF means none, so a parent is below it
 abbrev pub IsWord : Option ℕ → Type 0
-IsWord p = (i : ℕ) → p ≡ some i → i < 65535
+IsWord p = (i : ℕ) → p ≡ some i → i < noParent
 
 -- Parent 0xFFFF means none
 abbrev pub parentIn : (word : ℕ) → Option ℕ
-parentIn w = pick (eqb w 65535) none (some w)
+parentIn w = cond (eqb w noParent) none (some w)
 
 -- the row of the record at the front
 abbrev pub rowIn : (bytes : List ℕ) → Row
@@ -87,7 +107,7 @@ isMark b = eqb (getD b 0 0) markKind
 unfoldable pub lastMarked : (from : ℕ) → List (Option ℕ) → ℕ
 lastMarked d [] = 0
 lastMarked d (none ∷ ms) = lastMarked (suc d) ms
-lastMarked d (some i ∷ ms) = pick (eqb (lastMarked (suc d) ms) 0) (suc d) (lastMarked (suc d) ms)
+lastMarked d (some i ∷ ms) = cond (eqb (lastMarked (suc d) ms) 0) (suc d) (lastMarked (suc d) ms)
 
 -- 6: a row after a mark breaks the row order; the parent is a lower element
 abbrev pub rowLinks : Table → Row → Bool
@@ -98,31 +118,33 @@ abbrev pub markLinks : Table → (document row : ℕ) → Bool
 markLinks x d i = leb (lastMarked 0 (x .marks)) d && isElement x i && not (hasParent (rowAt x i .parent)) && not (isMarked x i)
 
 -- of a row at the front: 4, then 6
-abbrev pub rowFault : Table → (place : ℕ) → (bytes : List ℕ) → Fault
-rowFault x i b = orElse (unless (tagFits (rowIn b)) (fieldAt i)) (unless (rowLinks x (rowIn b)) (linkAt i))
+abbrev pub rowRefusal : Table → (place : ℕ) → (bytes : List ℕ) → Refusal
+rowRefusal x i b = orElse (unless (tagFits (rowIn b)) (fieldAt i)) (unless (rowLinks x (rowIn b)) (linkAt i))
 
 -- of a mark at the front: 4, then 6
-abbrev pub markFault : Table → (place : ℕ) → (bytes : List ℕ) → Fault
-markFault x i b =
+abbrev pub markRefusal : Table → (place : ℕ) → (bytes : List ℕ) → Refusal
+markRefusal x i b =
     orElse (unless (ltb (getD b 1 0) documents) (fieldAt i)) (unless (markLinks x (getD b 1 0) (wordAt b 2)) (linkAt i))
 
 -- of the record at the front: 1, 5, 2, 4, 6
-abbrev pub recordFault : Table → (place : ℕ) → (bytes : List ℕ) → Fault
-recordFault x i b =
-    orElse (unless (isIn elementKind markKind (getD b 0 0)) (kindAt i))
+abbrev pub recordRefusal : Table → (place : ℕ) → (bytes : List ℕ) → Refusal
+recordRefusal x i b =
+    orElse (unless (isStoredKind (getD b 0 0)) (kindAt i))
     (orElse (unless (isMark b || ltb (count x) maxRows) (sizeAt i))
-    (orElse (unless (leb recordSize (length b)) (shortAt i)) (pick (isMark b) (markFault x i b) (rowFault x i b))))
+    (orElse (unless (leb (storedSize (getD b 0 0)) (length b)) (shortAt i)) (cond (isMark b) (markRefusal x i b) (rowRefusal x i b))))
 
 -- the table with the record at the front
 abbrev pub recorded : Table → (bytes : List ℕ) → Table
-recorded x b = pick (isMark b) (withMark x (getD b 1 0) (wordAt b 2)) (withRow x (rowIn b))
+recorded x b = cond (isMark b) (withMark x (getD b 1 0) (wordAt b 2)) (withRow x (rowIn b))
 
 -- record by record; fuel: more than there are bytes
 unfoldable pub readFrom : ℕ → Table → (place : ℕ) → (bytes : List ℕ) → Read
 readFrom zero x i b = got x
 readFrom (suc n) x i b =
-    pick (eqb (length b) 0) (got x)
-    (pick (isFine (recordFault x i b)) (readFrom n (recorded x b) (i + recordSize) (drop recordSize b)) (bad (recordFault x i b)))
+    cond (eqb (length b) 0) (got x)
+    (cond (isFine (recordRefusal x i b))
+    (readFrom n (recorded x b) (i + storedSize (getD b 0 0)) (drop (storedSize (getD b 0 0)) b))
+    (refused (recordRefusal x i b)))
 
 -- No bytes is the plan without rows
 abbrev pub readPlan : (bytes : List ℕ) → Read

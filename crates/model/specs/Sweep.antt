@@ -1,9 +1,9 @@
 -- Document 01, 'Sweep': drops each row that is neither marked nor below a marked row, and renumbers.
-use mathlib.Core.Bool.{Bool, false, _||_}
+use mathlib.Core.Bool.{Bool, false, _||_, cond}
 use mathlib.Core.List.{List, [], _∷_, map}
 use mathlib.Core.Option.{Option, none, some}
 use Prim.Native.Nat.{ℕ, zero, suc, _+_}
-use Rattle.model.specs.Base.{pick, bit}
+use Rattle.model.specs.Base.{bit}
 use Rattle.model.specs.Table.{Row, Table, table, rowAt, isMarked, withParent}
 
 -- a property of the parent, false where there is none
@@ -38,7 +38,7 @@ renumbered x (some i) = some (newNumber x i)
 unfoldable pub sweptRows : Table → (row : ℕ) → List Row → List Row
 sweptRows x i [] = []
 sweptRows x i (r ∷ rs) =
-    pick (isKept x i) (withParent r (renumbered x (r .parent)) ∷ sweptRows x (suc i) rs) (sweptRows x (suc i) rs)
+    cond (isKept x i) (withParent r (renumbered x (r .parent)) ∷ sweptRows x (suc i) rs) (sweptRows x (suc i) rs)
 
 -- the marks, renumbered
 abbrev pub sweptMarks : Table → List (Option ℕ) → List (Option ℕ)

@@ -1,13 +1,13 @@
 -- Document 01, 'The table': rows, marks, and when a table is well formed.
 use mathlib.Core.Path.{_≡_}
-use mathlib.Core.Bool.{Bool, true, false, _&&_, not}
+use mathlib.Core.Bool.{Bool, true, false, _&&_, not, cond}
 use mathlib.Core.List.{List, [], _∷_, _++_}
 use mathlib.Core.Option.{Option, none, some}
 use Prim.Native.Nat.{ℕ, suc, _<_}
 use lib.Dec.{ltb, leb, eqb}
 use lib.ListN.{length, getD, set, replicate}
-use Rattle.model.specs.Base.{pick, isIn, all, any}
-use Rattle.model.specs.Limits.{maxRows, documents}
+use Rattle.model.specs.Base.{isIn, all, any, maxByte}
+use Rattle.model.specs.Limits.{maxRows, documents, maxName}
 
 -- A row is an element with a name or a leaf with a value (two's complement in a byte); it has a parent or none
 pub record Row : Type 0 where
@@ -75,11 +75,11 @@ withMark x d i = table (x .rows) (set (x .marks) d (some i))
 
 -- WELL FORMED. A name is 1 to 255
 abbrev pub isName : ℕ → Bool
-isName n = isIn 1 255 n
+isName n = isIn 1 maxName n
 
 -- a value is one byte
 abbrev pub tagFits : Row → Bool
-tagFits r = pick (r .isLeaf) (leb (r .tag) 255) (isName (r .tag))
+tagFits r = cond (r .isLeaf) (leb (r .tag) maxByte) (isName (r .tag))
 
 -- every parent is an element with a lower number than its child
 abbrev pub isLowerElement : Table → (number parent : ℕ) → Bool

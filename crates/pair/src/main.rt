@@ -23,8 +23,8 @@ fn main() {
     let m = read_file(b"first", &mut first);
     let mut second = io::buffer();
     let k = read_file(b"second", &mut second);
-    let mut out = [0u8; report::ROOM];
-    let written = report::pair(&plan[..n], &first[..m], &second[..k], &mut out);
+    let mut out = [0u8; pair_report::ROOM];
+    let written = pair_report::pair(&plan[..n], &first[..m], &second[..k], &mut out);
     let bytes = written.bytes;
     if !io::write_all(STDOUT_FILENO, &out[..bytes]) {
         os::fail(b"write");

@@ -1,34 +1,33 @@
 -- The whole analysis: what each call asks is there, and each way out is the model's answer.
 use mathlib.Core.Path.{_≡_, ap, sym, _∙_, subst}
-use mathlib.Core.Bool.{Bool, true, false, _||_}
+use mathlib.Core.Bool.{Bool, true, false, _||_, cond}
 use mathlib.Core.List.{List, [], _∷_, map}
 use Prim.Native.Nat.{ℕ, _-_, _≤_}
 use native.Mathlib.Omega.{arith}
 use lib.ListN.{length, take}
 use lib.Seq.{take-suc, length-take-le}
-use Rattle.model.specs.Base.{pick}
 use Rattle.model.specs.Script.{Expr, Parsed, readScript}
 use Rattle.model.specs.Paths.{hasUp}
 use Rattle.model.specs.Meeting.{free, meet, answer}
 use Rattle.model.specs.Call.{firstBy, secondBy}
-use Rattle.table.specs.declared.Fault.{Fault}
-use Rattle.records.specs.Walk.{exprAt}
+use Rattle.plan_table.specs.declared.Refusal.{Refusal}
+use Rattle.script_records.specs.Walk.{exprAt}
 use Rattle.script.specs.Reading.{scriptRead}
 use Rattle.script.proofs.ScriptLaws.{script-accepted, script-parsed, script-ill}
-use Rattle.positions.specs.Positions.{Entry, Emitted, emit, AreLower, entriesBefore, entriesOf, pathsFrom, pathsOn}
-use Rattle.positions.specs.Sources.{positionsMeet}
-use Rattle.positions.specs.Words.{entryOf, entriesIn}
-use Rattle.meeting.specs.Pairs.{HasRows}
-use Rattle.filling.specs.Filling.{TablePre}
-use Rattle.positions.specs.Words.{entriesBy, someLeadsUp}
-use Rattle.emission.specs.Emitting.{EmitPre, EmitPost}
+use Rattle.paths_positions.specs.Positions.{Entry, Emitted, emit, AreLower, entriesBefore, entriesOf, pathsFrom, pathsOn}
+use Rattle.paths_positions.specs.Answer.{positionsMeet}
+use Rattle.paths_positions.specs.Words.{entryOf, entriesIn}
+use Rattle.paths_cells.specs.Pairs.{HasRows}
+use Rattle.paths_fill.specs.Filling.{TablePre}
+use Rattle.paths_positions.specs.Words.{entriesBy, someLeadsUp}
+use Rattle.paths_emit.specs.Emitting.{EmitPre, EmitPost}
 use Rattle.paths.specs.Analysis.{byAnswer, analysisOf, analysed, ScriptPre, ScriptPost, AnswerPre, AnswerPost, FrontPre}
 use Rattle.paths.specs.declared.Analysis.{Analysis}
 use Rattle.paths.specs.declared.Analysis.the-variants.{Refused, Upward}
-use Rattle.positions.proofs.AnswerLaws.{emitted-right, answer-by}
-use Rattle.positions.proofs.UpLaws.{someLeadsUp-is}
-use Rattle.positions.proofs.WordLaws.{entriesIn-length}
-use Rattle.emission.proofs.SizeLaws.{script-records}
+use Rattle.paths_positions.proofs.AnswerLaws.{emitted-right, answer-by}
+use Rattle.paths_positions.proofs.UpLaws.{someLeadsUp-is}
+use Rattle.paths_positions.proofs.WordLaws.{entriesIn-length}
+use Rattle.paths_emit.proofs.SizeLaws.{script-records}
 
 -- THE POSITIONS of an accepted script
 module _ {b ws : List ℕ} (pre : ScriptPre b ws) {env : List ℕ} where
@@ -121,24 +120,24 @@ module _ {ws : List ℕ} {n : ℕ} {us : List ℕ} {m : ℕ} {t : List ℕ} (pre
       answer-second h = record { is = λ e f g i. upward-is e f (ups e f g i ∙ h) }
 
       module _ (neither : y ≡ false) {z : Bool} (meets : z ≡ positionsMeet (entriesBy (part ws n)) (entriesBy (part us m))) where
-        pub answer-last : {q : Bool} → z ≡ q → AnswerPost ws n us m (byAnswer (pick q meet free))
+        pub answer-last : {q : Bool} → z ≡ q → AnswerPost ws n us m (byAnswer (cond q meet free))
         answer-last h =
             record { is = λ e f g i. rw (← answer-by e f, ups e f g i, neither, ← g, ← i, ← part-is ws n, ← part-is us m, ← meets, h) }
 
 -- THE CALL
 module _ (b c : List ℕ) where
-  pub first-refused : (x : Fault) → x ≡ scriptRead b → (x .number ≡ 0 → ⊥) → Refused 1 x ≡ analysed b c
+  pub first-refused : (x : Refusal) → x ≡ scriptRead b → (x .number ≡ 0 → ⊥) → Refused 1 x ≡ analysed b c
   first-refused x e h =
       ap (Refused 1) e ∙
-      sym (ap (λ (p : Parsed). analysisOf (firstBy p (readScript c))) (script-ill b (λ q. h (ap (λ (y : Fault). y .number) e ∙ q))))
+      sym (ap (λ (p : Parsed). analysisOf (firstBy p (readScript c))) (script-ill b (λ q. h (ap (λ (y : Refusal). y .number) e ∙ q))))
 
   module _ (accepted : scriptRead b .number ≡ 0) where
-    pub second-refused : (x : Fault) → x ≡ scriptRead c → (x .number ≡ 0 → ⊥) → Refused 2 x ≡ analysed b c
+    pub second-refused : (x : Refusal) → x ≡ scriptRead c → (x .number ≡ 0 → ⊥) → Refused 2 x ≡ analysed b c
     second-refused x e h =
         ap (Refused 2) e ∙
         sym (ap (λ (p : Parsed). analysisOf (firstBy p (readScript c))) (script-parsed b accepted .1) ∙
         ap (λ (p : Parsed). analysisOf (secondBy (exprAt 16 b 0) p))
-        (script-ill c (λ q. h (ap (λ (y : Fault). y .number) e ∙ q))))
+        (script-ill c (λ q. h (ap (λ (y : Refusal). y .number) e ∙ q))))
 
     pub both-accepted : scriptRead c .number ≡ 0 → {ws : List ℕ} {n : ℕ} {us : List ℕ} {m : ℕ} {r : Analysis} → ScriptPost b ws n →
         ScriptPost c us m →

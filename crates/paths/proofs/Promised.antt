@@ -3,7 +3,7 @@ use mathlib.Core.Path.{_≡_, refl, ap, sym, _∙_}
 use mathlib.Core.List.{List}
 use Prim.Native.Nat.{ℕ}
 use native.Mathlib.Omega.{arith}
-use Rattle.model.specs.Script.{Expr, Parsed, ill, parsed, readScript}
+use Rattle.model.specs.Script.{Expr, Parsed, refused, parsed, readScript}
 use Rattle.model.specs.Meeting.{Answer, free, upward, meet, answer}
 use Rattle.model.specs.Refusal.{Values, values}
 use Rattle.model.specs.Call.{answered, analyse, firstBy, secondBy}
@@ -29,8 +29,8 @@ answer-told meet meet e = refl
 
 -- 0 as `which` is free: a refusal names script 1 or 2
 free-by : (p q : Parsed) → valuesOf (analysisOf (firstBy p q)) .which ≡ 0 → firstBy p q ≡ answered free
-free-by (ill x) q e = absurd (omega arith)
-free-by (parsed e i n b) (ill x) z = absurd (omega arith)
+free-by (refused x) q e = absurd (omega arith)
+free-by (parsed e i n b) (refused x) z = absurd (omega arith)
 free-by (parsed e i n b) (parsed f j m c) z = ap answered (answer-told (answer e f) free z)
 
 pub free-which : (b c : List ℕ) → valuesOf (analysed b c) .which ≡ 0 → analyse b c ≡ answered free

@@ -9,15 +9,16 @@ use Rattle.model.specs.Script.{Expr}
 use Rattle.model.specs.Meeting.{Answer, free, upward, meet, answer}
 use Rattle.model.specs.Call as model
 use Rattle.model.specs.Refusal.{Values, values}
-use Rattle.table.specs.Results.{faultOf}
-use Rattle.records.specs.Walk.{exprAt}
+use Rattle.plan_table.specs.Results.{refusalOf}
+use Rattle.script_records.specs.Walk.{exprAt}
 use Rattle.script.specs.Reading.{scriptRead}
-use Rattle.positions.specs.Positions.{entriesOf}
-use Rattle.positions.specs.Words.{entriesIn}
-use Rattle.meeting.specs.Pairs.{maxPositions, HasRows}
+use Rattle.paths_positions.specs.Positions.{entriesOf}
+use Rattle.paths_positions.specs.Words.{entriesIn}
+use Rattle.paths_positions.specs.Steps.{maxPositions}
+use Rattle.paths_cells.specs.Pairs.{HasRows}
 use Rattle.paths.specs.declared.Analysis.{Analysis}
 use Rattle.paths.specs.declared.Analysis.the-variants.{Refused, Free, Upward, Meet}
-use Rattle.filling.specs.Filling.{PositionsPre}
+use Rattle.paths_fill.specs.Filling.{PositionsPre}
 
 -- the case of each answer
 abbrev pub byAnswer : Answer → Analysis
@@ -25,9 +26,9 @@ byAnswer free = Free
 byAnswer upward = Upward
 byAnswer meet = Meet
 
--- the case of each of the model's analyses: the script refused with its fault, or the answer
+-- the case of each of the model's analyses: the script refused with its refusal, or the answer
 abbrev pub analysisOf : model.Analysis → Analysis
-analysisOf (model.refusedBy s x) = Refused s (faultOf x)
+analysisOf (model.refusedBy s x) = Refused s (refusalOf x)
 analysisOf (model.answered a) = byAnswer a
 
 -- THE ANALYSIS of the bytes of two scripts is the model's

@@ -1,23 +1,24 @@
 // The path analysis: whether two scripts can touch the same node of some plan.
 ghost use mathlib.Core.Path.{_≡_};
 ghost use Rattle.paths.specs.Analysis.{analysed, ScriptPre, ScriptPost, AnswerPre, AnswerPost};
-use emission::emit;
-use filling::meet;
-use meeting::pairs;
-use meeting::pairs::Marks;
-use table::Fault;
-use table::Table;
+use paths_cells::pairs;
+use paths_cells::pairs::Marks;
+use paths_emit::emit;
+use paths_fill::meet;
+use paths_positions::POSITIONS;
+use plan_table::Refusal;
+use plan_table::Table;
 
 // What the analysis answers: the script refused, 1 or 2, with its refusal; or whether the two are free of one another.
 pub enum Analysis {
-    Refused { script: u8, fault: Fault },
+    Refused { script: u8, refusal: Refusal },
     Free,
     Upward,
     Meet,
 }
 
 // Puts the positions of an accepted script into words of which the first is zero; how many there are.
-fn positions_of(bytes: &[u8], words: &mut [usize; pairs::POSITIONS]) -> usize
+fn positions_of(bytes: &[u8], words: &mut [usize; POSITIONS]) -> usize
     requires { ⌜ ScriptPre (now bytes) (now words) ⌝ }
     ensures { λ r. ⌜ ScriptPost (now (bytes .entry)) (now (words .exit)) r ⌝ }
 {
@@ -57,20 +58,20 @@ fn answer(first: &[usize], n: usize, second: &[usize], m: usize, table: &mut [Ma
 pub fn analyse(first: &[u8], second: &[u8]) -> Analysis
     ensures { λ r. ⌜ r ≡ analysed (now (first .entry)) (now (second .entry)) ⌝ }
 {
-    let fault = script::read_script(first);
-    if fault.number != 0 {
-        return Analysis::Refused { script: 1, fault };
+    let refusal = script::read_script(first);
+    if refusal.number != 0 {
+        return Analysis::Refused { script: 1, refusal };
     }
     let other = script::read_script(second);
     if other.number != 0 {
         return Analysis::Refused {
             script: 2,
-            fault: other,
+            refusal: other,
         };
     }
-    let mut words = [0usize; pairs::POSITIONS];
+    let mut words = [0usize; POSITIONS];
     let n = positions_of(first, &mut words);
-    let mut others = [0usize; pairs::POSITIONS];
+    let mut others = [0usize; POSITIONS];
     let m = positions_of(second, &mut others);
     if n <= pairs::FEW {
         let mut small = [pairs::NONE; pairs::FEW_PAIRS];

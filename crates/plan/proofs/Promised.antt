@@ -8,21 +8,21 @@ use lib.ListN.{length, take, drop}
 use lib.Seq.{take-at}
 use Rattle.model.specs.Base.{atFront, areBytes}
 use Rattle.model.specs.Refusal.{fine}
-use Rattle.model.specs.Stored.{Read, bad, got, stored, readPlan}
+use Rattle.model.specs.Stored.{Read, refused, got, stored, readPlan}
 use Rattle.model.specs.Table as model
 use Rattle.model.proofs.StoredBack.{storedBack}
 use Rattle.model.proofs.TestLaws.{isIn-some}
 use Rattle.model.proofs.RefusedByTable.{refusedByTable}
-use Rattle.table.specs.Results.{faultOf}
-use Rattle.table.specs.Words.{encode, decode, fits}
-use Rattle.table.specs.declared.Table.{Table}
-use Rattle.table.specs.declared.Written.{Written}
-use Rattle.table.proofs.FittedLaws.{well-decode, fits-at}
-use Rattle.table.proofs.WordLaws.{encode-decode}
-use Rattle.writer.specs.Writing.{planWritten, writtenOut}
+use Rattle.plan_table.specs.Results.{refusalOf}
+use Rattle.plan_table.specs.Words.{encode, decode, fits}
+use Rattle.plan_table.specs.declared.Table.{Table}
+use Rattle.plan_table.specs.declared.Written.{Written}
+use Rattle.plan_table.proofs.FittedLaws.{well-decode, fits-at}
+use Rattle.plan_table.proofs.WordLaws.{encode-decode}
+use Rattle.plan_writer.specs.Writing.{planWritten, writtenOut}
 use Rattle.plan.specs.Calls.{readBy, planRead}
 use Rattle.plan.specs.Promise.{TableBack, BytesBack}
-use Rattle.writer.proofs.WritePlanLaws.{write-fine, write-out, stored-fits, stored-written, stored-out}
+use Rattle.plan_writer.proofs.WritePlanLaws.{write-fine, write-out, stored-fits, stored-written, stored-out}
 
 -- TABLE TO BYTES TO TABLE: the words of a table that fits are those of the table that it stands for
 words-back : (t : Table) → length (t .rows) ≡ 512 → fits t ≡ true → encode (decode t) ≡ t
@@ -33,13 +33,13 @@ words-back t l e =
 pub tableBack : TableBack
 tableBack t o l e room =
     let s = stored (decode t) in
-    let w : planWritten t o ≡ record { fault = faultOf fine; bytes = length s } = sym (write-fine t o e (length s) room refl) in (
+    let w : planWritten t o ≡ record { refusal = refusalOf fine; bytes = length s } = sym (write-fine t o e (length s) room refl) in (
       w,
       ap (λ (r : Written). planRead (take (r .bytes) (writtenOut t o))) w ∙
           ap (λ (b : List ℕ). planRead (take (length s) b)) (write-out t o e room) ∙
           ap planRead (take-at s (drop (length s) o) (length s) refl) ∙
           ap readBy (storedBack .0 (decode t) (well-decode t e)) ∙
-          ap (λ (u : Table). record { fault = faultOf fine; table = u }) (words-back t l e),
+          ap (λ (u : Table). record { refusal = refusalOf fine; table = u }) (words-back t l e),
     )
 
 -- BYTES TO TABLE TO BYTES: a table read from bytes is stored as those bytes, 2,080 at most
@@ -48,22 +48,22 @@ module _ (b : List ℕ) (x : model.Table) (bytes : areBytes b ≡ true) (read : 
   read-short = let s = storedBack .1 b x bytes read in omega (arith, stored-fits x (s .0), ap length (s .1))
 
   module _ (o : List ℕ) (room : length b ≤ length o) where
-    pub read-back : (planWritten (encode x) o ≡ record { fault = faultOf fine; bytes = length b }) ×
+    pub read-back : (planWritten (encode x) o ≡ record { refusal = refusalOf fine; bytes = length b }) ×
         (writtenOut (encode x) o ≡ atFront b o)
     read-back =
         let s = storedBack .1 b x bytes read in
         let l : length (stored x) ≤ length o = omega (arith, ap length (s .1)) in (
-          stored-written x (s .0) o l ∙ ap (λ (c : List ℕ). record { fault = faultOf fine; bytes = length c }) (s .1),
+          stored-written x (s .0) o l ∙ ap (λ (c : List ℕ). record { refusal = refusalOf fine; bytes = length c }) (s .1),
           stored-out x (s .0) o l ∙ ap (λ (c : List ℕ). atFront c o) (s .1),
         )
 
 -- what is not refused is read
-pub read-got : (b : List ℕ) → planRead b .fault .number ≡ 0 → (x : model.Table) × (readPlan b ≡ got x)
+pub read-got : (b : List ℕ) → planRead b .refusal .number ≡ 0 → (x : model.Table) × (readPlan b ≡ got x)
 read-got b e = go (readPlan b) refl
   where
     go : (q : Read) → readPlan b ≡ q → (x : model.Table) × (readPlan b ≡ got x)
-    go (bad f) k =
-        let z : f .number ≡ 0 = sym (ap (λ (q : Read). readBy q .fault .number) k) ∙ e in
+    go (refused f) k =
+        let z : f .number ≡ 0 = sym (ap (λ (q : Read). readBy q .refusal .number) k) ∙ e in
         absurd (isIn-some 0 6 (f .number) (refusedByTable .0 b f k) z)
     go (got x) k = (x, k)
 

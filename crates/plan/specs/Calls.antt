@@ -3,13 +3,13 @@ use mathlib.Core.List.{List}
 use Prim.Native.Nat.{ℕ}
 use Rattle.model.specs.Refusal as refusal
 use Rattle.model.specs.Table as model
-use Rattle.model.specs.Stored.{Read, bad, got, readPlan}
-use Rattle.table.specs.declared.TableResult.{TableResult}
-use Rattle.table.specs.Results.{result}
+use Rattle.model.specs.Stored.{Read, refused, got, readPlan}
+use Rattle.plan_table.specs.declared.TableResult.{TableResult}
+use Rattle.plan_table.specs.Results.{result}
 
 -- READING: refused, the table is the empty one
 abbrev pub readBy : Read → TableResult
-readBy (bad f) = result f model.empty
+readBy (refused f) = result f model.empty
 readBy (got x) = result refusal.fine x
 
 -- what reading answers

@@ -1,15 +1,15 @@
 // The stored form of a plan: read into a table, and written from one.
 ghost use mathlib.Core.Path.{_≡_};
 ghost use Rattle.plan.specs.Calls.{planRead};
-ghost use Rattle.writer.specs.Writing.{planWritten, writtenOut};
-use reader::read;
-use table::Fault;
-use table::Table;
-use table::TableResult;
-use table::Written;
-use table::fit;
-use table::results;
-use writer::write;
+ghost use Rattle.plan_writer.specs.Writing.{planWritten, writtenOut};
+use plan_reader::read;
+use plan_table::Refusal;
+use plan_table::Table;
+use plan_table::TableResult;
+use plan_table::Written;
+use plan_table::fit;
+use plan_table::results;
+use plan_writer::write;
 
 // Reads a stored plan; refused, the table is the empty one.
 pub fn read_plan(bytes: &[u8]) -> TableResult
@@ -35,7 +35,7 @@ pub fn write_plan(table: Table, out: &mut [u8]) -> Written
 {
     let count = table.count;
     if !fit::fits(count, &table.rows, &table.marks) {
-        return results::written(Fault::LINK, 0);
+        return results::written(Refusal::LINK, 0);
     }
     write::fitting(table, out)
 }

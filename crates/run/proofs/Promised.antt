@@ -1,24 +1,24 @@
 -- What the call `run` gives back and leaves, in the model's words: RunsAsCalled, RunsUnfit, RunsOn, RefusedGivesBack, RefusedLeaves,
 -- RunsCommute.
 use mathlib.Core.Path.{_≡_, refl, ap, sym, subst, transport, _∙_}
-use mathlib.Core.Bool.{Bool, true, false}
+use mathlib.Core.Bool.{Bool, true, false, cond}
 use mathlib.Core.List.{List}
 use Prim.Native.Nat.{ℕ}
 use lib.ListN.{length, replicate}
 use borrow.Author.Tests.{ne-eqb}
-use Rattle.model.specs.Base.{pick, isIn, areBytes}
+use Rattle.model.specs.Base.{isIn, areBytes}
 use Rattle.model.specs.Refusal as refusal
 use Rattle.model.specs.Table as model
 use Rattle.model.specs.Script.{readScript}
-use Rattle.model.specs.Run.{State, Out, stop, gives}
+use Rattle.model.specs.Run.{State, Out, refused, gives}
 use Rattle.model.specs.Call.{Ran, areasFit, ranBy, refusedRun, runBy, OrdersAgree, Areas, runIn}
-use Rattle.model.proofs.BoolLaws.{by-cases, pick-true, pick-false}
+use Rattle.model.proofs.BoolLaws.{by-cases, cond-true, cond-false}
 use Rattle.model.proofs.CallsCommute.{callsCommute}
-use Rattle.table.specs.Results.{faultOf}
-use Rattle.table.specs.Words.{encode, decode, fits}
-use Rattle.table.specs.declared.Table.{Table}
-use Rattle.table.proofs.FittedLaws.{well-decode}
-use Rattle.table.proofs.EncodeLaws.{decode-encode, fits-encode}
+use Rattle.plan_table.specs.Results.{refusalOf}
+use Rattle.plan_table.specs.Words.{encode, decode, fits}
+use Rattle.plan_table.specs.declared.Table.{Table}
+use Rattle.plan_table.proofs.FittedLaws.{well-decode}
+use Rattle.plan_table.proofs.EncodeLaws.{decode-encode, fits-encode}
 use Rattle.run.specs.Calls.{outcomeOf, ran, resultOf, runResult}
 use Rattle.run.specs.Promise.{RunsAsCalled, RunsUnfit, RunsOn, RefusedGivesBack, RefusedLeaves, RunsCommute, ranIn, tableAfter}
 use Rattle.run.specs.declared.RunResult.{RunResult}
@@ -28,10 +28,10 @@ use Rattle.model.proofs.RunsBack.{runBy-back}
 -- WHAT A RUN LEAVES, by whether the areas and the table fit
 abbrev ranIf : Table → (answer history work : List ℕ) → Out → (areas : Bool) → Ran
 ranIf t a h w o z =
-    pick z (ranBy (decode t) (length a) (length h) (length w) o) (refusedRun refusal.lentShort (decode t) a h w)
+    cond z (ranBy (decode t) (length a) (length h) (length w) o) (refusedRun refusal.lentShort (decode t) a h w)
 
 abbrev outcomeIf : Table → (script : List ℕ) → (table : Bool) → Out
-outcomeIf t b z = pick z (runBy (decode t) (readScript b)) (stop (refusal.linkAt 0))
+outcomeIf t b z = cond z (runBy (decode t) (readScript b)) (refused (refusal.linkAt 0))
 
 ran-if : (t : Table) (b a h w : List ℕ) (z : Bool) → fits t ≡ z → ran t b a h w ≡ ranIf t a h w (outcomeIf t b z) (areasFit a h w)
 ran-if t b a h w z e = ap (λ (y : Bool). ranIf t a h w (outcomeIf t b y) (areasFit a h w)) e
@@ -52,16 +52,16 @@ encoded x k = (fits-encode x k, decode-encode x k)
 module _ (t : Table) (e : fits t ≡ true) where
   outcome-stands : (k m n : ℕ) (o : Out) → ((v : List ℕ) (s : State) → o ≡ gives v s → model.isWell (s .plan) ≡ true) →
       Stands (resultOf t (ranBy (decode t) k m n o) .table) (ranBy (decode t) k m n o .plan)
-  outcome-stands k m n (stop f) g =
+  outcome-stands k m n (refused f) g =
       by-cases (refusal.isFine f)
-      (λ z. subst (λ (u : Table). Stands u (decode t)) (sym (pick-true (refusal.isFine f) (encode (decode t)) t z))
+      (λ z. subst (λ (u : Table). Stands u (decode t)) (sym (cond-true (refusal.isFine f) (encode (decode t)) t z))
       (encoded (decode t) (well-decode t e)))
-      (λ z. subst (λ (u : Table). Stands u (decode t)) (sym (pick-false (refusal.isFine f) (encode (decode t)) t z)) (e, refl))
+      (λ z. subst (λ (u : Table). Stands u (decode t)) (sym (cond-false (refusal.isFine f) (encode (decode t)) t z)) (e, refl))
   outcome-stands k m n (gives v s) g = encoded (s .plan) (g v s refl)
 
   -- a run that is not refused leaves a well-formed table
   run-well : (b : List ℕ) → areBytes b ≡ true → (v : List ℕ) (s : State) → outcomeOf t b ≡ gives v s → model.isWell (s .plan) ≡ true
-  run-well b bytes v s k = runBy-back (decode t) b bytes (well-decode t e) v s (sym (pick-true (fits t) _ _ e) ∙ k) .0
+  run-well b bytes v s k = runBy-back (decode t) b bytes (well-decode t e) v s (sym (cond-true (fits t) _ _ e) ∙ k) .0
 
   ran-stands : (b a h w : List ℕ) → areBytes b ≡ true → Stands (runResult t b a h w .table) (ran t b a h w .plan)
   ran-stands b a h w bytes = go (areasFit a h w)
@@ -79,32 +79,32 @@ runsOn t b a h w bytes e =
 -- REFUSED
 pub refusedGivesBack : RefusedGivesBack
 refusedGivesBack t b a h w k =
-    pick-false (refusal.isFine (ran t b a h w .fault)) (encode (ran t b a h w .plan)) t (ne-eqb (ran t b a h w .fault .number) 0 k)
+    cond-false (refusal.isFine (ran t b a h w .refusal)) (encode (ran t b a h w .plan)) t (ne-eqb (ran t b a h w .refusal .number) 0 k)
 
 -- the areas, by what the run comes to
 module _ (t : Table) (a h w : List ℕ) where
   abbrev Zeroed : RunResult → Ran → Type 0
   Zeroed q r =
-      (isIn 1 10 (q .fault .number) ≡ true) × (r .answer ≡ replicate (length a) 0) × (r .history ≡ replicate (length h) 0) ×
+      (isIn 1 10 (q .refusal .number) ≡ true) × (r .answer ≡ replicate (length a) 0) × (r .history ≡ replicate (length h) 0) ×
       (r .work ≡ replicate (length w) 0)
 
-  outcome-zeroed : (o : Out) → Refuses o → (ranBy (decode t) (length a) (length h) (length w) o .fault .number ≡ 0 → ⊥) →
+  outcome-zeroed : (o : Out) → Refuses o → (ranBy (decode t) (length a) (length h) (length w) o .refusal .number ≡ 0 → ⊥) →
       Zeroed (resultOf t (ranBy (decode t) (length a) (length h) (length w) o)) (ranBy (decode t) (length a) (length h) (length w) o)
-  outcome-zeroed (stop f) r k = (r f refl, refl, refl, refl)
+  outcome-zeroed (refused f) r k = (r f refl, refl, refl, refl)
   outcome-zeroed (gives v s) r k = absurd (k refl)
 
 pub refusedLeaves : RefusedLeaves
 refusedLeaves t b a h w = (
-  λ e. let r : ran t b a h w ≡ refusedRun refusal.lentShort (decode t) a h w = pick-false (areasFit a h w) _ _ e in (
-    ap (λ (q : Ran). faultOf (q .fault)) r,
+  λ e. let r : ran t b a h w ≡ refusedRun refusal.lentShort (decode t) a h w = cond-false (areasFit a h w) _ _ e in (
+    ap (λ (q : Ran). refusalOf (q .refusal)) r,
     ap (λ (q : Ran). q .answer) r,
     ap (λ (q : Ran). q .history) r,
     ap (λ (q : Ran). q .work) r,
   ),
   λ e k.
-      let r : ran t b a h w ≡ ranBy (decode t) (length a) (length h) (length w) (outcomeOf t b) = pick-true (areasFit a h w) _ _ e in
+      let r : ran t b a h w ≡ ranBy (decode t) (length a) (length h) (length w) (outcomeOf t b) = cond-true (areasFit a h w) _ _ e in
       subst (λ (q : Ran). Zeroed t a h w (resultOf t q) q) (sym r)
-      (outcome-zeroed t a h w (outcomeOf t b) (outcome-refuses t b) (λ z. k (ap (λ (q : Ran). q .fault .number) r ∙ z))),
+      (outcome-zeroed t a h w (outcomeOf t b) (outcome-refuses t b) (λ z. k (ap (λ (q : Ran). q .refusal .number) r ∙ z))),
 )
 
 -- EITHER ORDER

@@ -1,24 +1,24 @@
 -- What a run answers, for every input, and leaves in the lent areas.
 use mathlib.Core.Path.{_≡_}
+use mathlib.Core.Bool.{cond}
 use mathlib.Core.List.{List}
 use Prim.Native.Nat.{ℕ, _≤_}
 use lib.ListN.{length, replicate}
-use Rattle.model.specs.Base.{pick}
 use Rattle.model.specs.Limits.{answerNeed, historyNeed, workNeed}
 use Rattle.model.specs.Refusal as refusal
 use Rattle.model.specs.Script.{readScript}
-use Rattle.model.specs.Run.{Out, stop}
+use Rattle.model.specs.Run.{Out, refused}
 use Rattle.model.specs.Call.{Ran, ranBy, inAreas, runBy}
-use Rattle.table.specs.Words.{encode, decode, fits}
-use Rattle.table.specs.Results.{faultOf}
-use Rattle.table.specs.declared.Table.{Table}
-use Rattle.areas.specs.Tallying.{noneYet}
-use Rattle.areas.specs.declared.tally.Tally.{Tally}
+use Rattle.plan_table.specs.Words.{encode, decode, fits}
+use Rattle.plan_table.specs.Results.{refusalOf}
+use Rattle.plan_table.specs.declared.Table.{Table}
+use Rattle.run_updates.specs.Tallying.{noneYet}
+use Rattle.run_updates.specs.declared.tally.Tally.{Tally}
 use Rattle.run.specs.declared.RunResult.{RunResult}
 
 -- THE RUN on a table handed in: 6 at place 0; then the script's own refusal; then the run's
 abbrev pub outcomeOf : Table → (script : List ℕ) → Out
-outcomeOf t b = pick (fits t) (runBy (decode t) (readScript b)) (stop (refusal.linkAt 0))
+outcomeOf t b = cond (fits t) (runBy (decode t) (readScript b)) (refused (refusal.linkAt 0))
 
 -- 11 comes first, and nothing is touched
 abbrev pub ran : Table → (script answer history work : List ℕ) → Ran
@@ -32,8 +32,8 @@ tallyOf r = record { made = r .made; cut = r .cut; records = r .records }
 abbrev pub resultOf : Table → Ran → RunResult
 resultOf t r =
     record {
-      fault = faultOf (r .fault);
-      table = pick (refusal.isFine (r .fault)) (encode (r .plan)) t;
+      refusal = refusalOf (r .refusal);
+      table = cond (refusal.isFine (r .refusal)) (encode (r .plan)) t;
       items = r .items;
       bytes = r .bytes;
       tally = tallyOf r;
@@ -45,7 +45,7 @@ runResult t b a h w = resultOf t (ran t b a h w)
 
 -- refused before or in the run
 abbrev pub refusedResult : (number place : ℕ) → Table → RunResult
-refusedResult n i t = record { fault = record { number = n; place = i }; table = t; items = 0; bytes = 0; tally = noneYet }
+refusedResult n i t = record { refusal = record { number = n; place = i }; table = t; items = 0; bytes = 0; tally = noneYet }
 
 -- IN AREAS that fit, answer and history cleared
 pub record RunPre (a h w : List ℕ) : Type 0 where

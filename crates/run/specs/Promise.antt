@@ -8,9 +8,9 @@ use Rattle.model.specs.Base.{isIn, areBytes}
 use Rattle.model.specs.Meeting.{free}
 use Rattle.model.specs.Refusal.{lentShort}
 use Rattle.model.specs.Call.{Ran, answered, analyse, areasFit, runCall, unfitRun, OrdersAgree, Areas, AllSuffice}
-use Rattle.table.specs.Results.{faultOf}
-use Rattle.table.specs.Words.{decode, fits}
-use Rattle.table.specs.declared.Table.{Table}
+use Rattle.plan_table.specs.Results.{refusalOf}
+use Rattle.plan_table.specs.Words.{decode, fits}
+use Rattle.plan_table.specs.declared.Table.{Table}
 use Rattle.run.specs.Calls.{ran, runResult}
 
 -- DEMAND 2: on a table that fits, what the call leaves is the model's call on the table that it stands for
@@ -29,7 +29,7 @@ RunsOn =
 
 -- DEMAND 1: refused, the table is as it was handed in, well formed or not
 abbrev pub RefusedGivesBack : Type 0
-RefusedGivesBack = (t : Table) (b a h w : List ℕ) → (runResult t b a h w .fault .number ≡ 0 → ⊥) → runResult t b a h w .table ≡ t
+RefusedGivesBack = (t : Table) (b a h w : List ℕ) → (runResult t b a h w .refusal .number ≡ 0 → ⊥) → runResult t b a h w .table ≡ t
 
 -- in areas of which one is too short, the refusal is 11 at place 0 and the areas are as they were; else answer, history and work are zero,
 -- and the refusal is another one of the table, 1 to 10
@@ -37,10 +37,10 @@ abbrev pub RefusedLeaves : Type 0
 RefusedLeaves =
     (t : Table) (b a h w : List ℕ) →
     (areasFit a h w ≡ false →
-    (runResult t b a h w .fault ≡ faultOf lentShort) ×
+    (runResult t b a h w .refusal ≡ refusalOf lentShort) ×
     (ran t b a h w .answer ≡ a) × (ran t b a h w .history ≡ h) × (ran t b a h w .work ≡ w)) ×
-    (areasFit a h w ≡ true → (runResult t b a h w .fault .number ≡ 0 → ⊥) →
-    (isIn 1 10 (runResult t b a h w .fault .number) ≡ true) ×
+    (areasFit a h w ≡ true → (runResult t b a h w .refusal .number ≡ 0 → ⊥) →
+    (isIn 1 10 (runResult t b a h w .refusal .number) ≡ true) ×
     (ran t b a h w .answer ≡ replicate (length a) 0) × (ran t b a h w .history ≡ replicate (length h) 0) ×
     (ran t b a h w .work ≡ replicate (length w) 0))
 

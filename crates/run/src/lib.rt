@@ -1,15 +1,15 @@
 // Runs a script on a plan.
 ghost use mathlib.Core.Path.{_≡_};
 ghost use Rattle.run.specs.Calls.{ran, runResult, refusedResult, RunPre, RunPost};
-use areas::area;
-use areas::tally;
-use areas::tally::Tally;
-use eval::evaluate;
-use operators::value::Span;
-use table::Fault;
-use table::Table;
-use table::fit;
-use updates::state::Progress;
+use plan_table::Refusal;
+use plan_table::Table;
+use plan_table::fit;
+use run_areas::area;
+use run_eval::evaluate;
+use run_operators::value::Span;
+use run_updates::state::Progress;
+use run_updates::tally;
+use run_updates::tally::Tally;
 
 pub mod lengths;
 
@@ -22,7 +22,7 @@ pub const WORK: usize = 32768;
 
 // What a run gives back: the refusal, the table, the items of the answer, the bytes of the history, the tally.
 pub struct RunResult {
-    pub fault: Fault,
+    pub refusal: Refusal,
     pub table: Table,
     pub items: usize,
     pub bytes: usize,
@@ -35,7 +35,7 @@ fn refused(number: u8, place: usize, table: Table) -> RunResult
 {
     let none = tally::none();
     RunResult {
-        fault: Fault { number, place },
+        refusal: Refusal { number, place },
         table,
         items: 0,
         bytes: 0,
@@ -57,7 +57,7 @@ fn run_in(
 {
     let count = table.count;
     if !fit::fits(count, &table.rows, &table.marks) {
-        return refused(Fault::LINK, 0, table);
+        return refused(Refusal::LINK, 0, table);
     }
     let read = script::read_script(script);
     if read.number != 0 {
@@ -88,7 +88,7 @@ fn run_in(
     let p = x.progress;
     let tally = p.tally;
     RunResult {
-        fault: Fault {
+        refusal: Refusal {
             number: 0,
             place: 0,
         },
@@ -121,7 +121,7 @@ pub fn run(
         ran table (now (script .entry)) (now (answer .entry)) (now (history .entry)) (now (work .entry)) .work ⌝ }
 {
     if !lengths::fit(answer.len(), history.len(), work.len()) {
-        return refused(Fault::LENT, 0, table);
+        return refused(Refusal::LENT, 0, table);
     }
     area::clear_words(answer);
     area::clear_bytes(history);

@@ -5,13 +5,14 @@ use mathlib.Core.List.{List}
 use Prim.Native.Nat.{ℕ, suc, _+_, _-_, _<_}
 use native.Mathlib.Omega.{arith}
 use lib.ListN.{getD}
-use Rattle.model.specs.Script.{Expr, nil, document, var, step, both, letIn, forIn, ifIn, element, leaf, delete, insert, choose, stepBy}
+use Rattle.model.specs.Limits.{maxDepth}
+use Rattle.model.specs.Script.{Expr, nil, document, var, step, both, letIn, forIn, ifIn, element, leaf, delete, insert, pick, stepBy}
 use Rattle.model.specs.Script.{nilKind, documentKind, variableKind, stepKind, joinKind, letKind, forKind, ifKind}
-use Rattle.model.specs.Script.{newElementKind, newLeafKind, deleteKind, insertKind, pickKind, parsed}
-use Rattle.records.specs.Walk.{arity, inner, past, endAt, firstAt, secondAt, thirdAt, exprOf, exprAt}
+use Rattle.model.specs.Script.{newElementKind, newLeafKind, deleteKind, insertKind, pickKind, scriptKinds, arity, parsed}
+use Rattle.script_records.specs.Walk.{inner, past, endAt, firstAt, secondAt, thirdAt, exprOf, exprAt}
 use Rattle.script.specs.Reading.{parseAt}
 use Rattle.script.specs.Accepted.{Accepted, RecordFits, Nullary, Unary, Binary, Ternary}
-use Rattle.records.proofs.WalkLaws.{past-none}
+use Rattle.script_records.proofs.WalkLaws.{past-none}
 use Rattle.script.proofs.ParseLaws.{afterFirst, afterSecond, Then}
 use Rattle.script.proofs.PlaceLaws.{Reads, Known, reads, reads-end, accepted-fits, pending}
 use Rattle.script.proofs.PlaceLaws.{first-operand, first-reads, second-operand, second-reads, third-operand}
@@ -40,7 +41,7 @@ module _ {b : List ℕ} {at left v : ℕ} (a : Accepted b at left v) where
   read-level : parseAt b at (suc (left - 1)) (a .records) v ≡ parsed (a .expr) (a .place) (a .after) (a .rest)
   read-level = ap (λ (q : ℕ). parseAt b at q (a .records) v) (sym level) ∙ a .read
 
-  shallow : left - 1 < 16
+  shallow : left - 1 < maxDepth
   shallow = omega (arith, a .deep, accepted-record .depth)
 
   known : Known b (left - 1)
@@ -123,7 +124,7 @@ module _ {b : List ℕ} {at left v : ℕ} (a : Accepted b at left v) (k : ℕ) (
 
   module _ (q : ℕ) (count : arity k ≡ q) where
     operands-are : arity (getD b at 0) ≡ q
-    operands-are = ap arity kind ∙ count
+    operands-are = ap (λ (j : ℕ). arity j) kind ∙ count
 
     ends-by : endAt b at ≡ past q b (firstAt b at)
     ends-by = pending b at (left - 1) (accepted-record a .whole) 0 q (omega (arith, operands-are))
@@ -171,55 +172,55 @@ accepted-at {b} {left = left} {v = v} e a = subst (λ (i : ℕ). Accepted b i le
 -- BY KIND
 module _ {b : List ℕ} {at left v : ℕ} (a : Accepted b at left v) where
   pub accepted-nil : getD b at 0 ≡ nilKind → Nullary b at left (nil at)
-  unfolding arity exprOf
+  unfolding scriptKinds exprOf
   accepted-nil e = nullary a nilKind e (nil at) refl (λ x y z. refl)
 
   pub accepted-document : getD b at 0 ≡ documentKind → Nullary b at left (document at (getD b (at + 1) 0))
-  unfolding arity exprOf
+  unfolding scriptKinds exprOf
   accepted-document e = nullary a documentKind e (document at (getD b (at + 1) 0)) refl (λ x y z. refl)
 
   pub accepted-variable : getD b at 0 ≡ variableKind → Nullary b at left (var at (getD b (at + 1) 0))
-  unfolding arity exprOf
+  unfolding scriptKinds exprOf
   accepted-variable e = nullary a variableKind e (var at (getD b (at + 1) 0)) refl (λ x y z. refl)
 
   pub accepted-element : getD b at 0 ≡ newElementKind → Nullary b at left (element at (getD b (at + 1) 0))
-  unfolding arity exprOf
+  unfolding scriptKinds exprOf
   accepted-element e = nullary a newElementKind e (element at (getD b (at + 1) 0)) refl (λ x y z. refl)
 
   pub accepted-leaf : getD b at 0 ≡ newLeafKind → Nullary b at left (leaf at (getD b (at + 1) 0))
-  unfolding arity exprOf
+  unfolding scriptKinds exprOf
   accepted-leaf e = nullary a newLeafKind e (leaf at (getD b (at + 1) 0)) refl (λ x y z. refl)
 
   pub accepted-step : getD b at 0 ≡ stepKind →
       Unary b at left v (step at (stepBy (getD b (at + 1) 0) (getD b (at + 2) 0) (getD b (at + 3) 0)))
-  unfolding arity exprOf
+  unfolding scriptKinds exprOf
   accepted-step e =
       unary a stepKind e (step at (stepBy (getD b (at + 1) 0) (getD b (at + 2) 0) (getD b (at + 3) 0))) refl (λ x y z. refl)
 
   pub accepted-delete : getD b at 0 ≡ deleteKind → Unary b at left v (delete at)
-  unfolding arity exprOf
+  unfolding scriptKinds exprOf
   accepted-delete e = unary a deleteKind e (delete at) refl (λ x y z. refl)
 
-  pub accepted-pick : getD b at 0 ≡ pickKind → Unary b at left v (choose at (getD b (at + 1) 0) (getD b (at + 2) 0))
-  unfolding arity exprOf
-  accepted-pick e = unary a pickKind e (choose at (getD b (at + 1) 0) (getD b (at + 2) 0)) refl (λ x y z. refl)
+  pub accepted-pick : getD b at 0 ≡ pickKind → Unary b at left v (pick at (getD b (at + 1) 0) (getD b (at + 2) 0))
+  unfolding scriptKinds exprOf
+  accepted-pick e = unary a pickKind e (pick at (getD b (at + 1) 0) (getD b (at + 2) 0)) refl (λ x y z. refl)
 
   pub accepted-join : getD b at 0 ≡ joinKind → Binary b at left v v (both at)
-  unfolding arity inner exprOf
+  unfolding scriptKinds inner exprOf
   accepted-join e = binary a joinKind e v (both at) refl refl (λ x y z. refl)
 
   pub accepted-let : getD b at 0 ≡ letKind → Binary b at left v (v + 1) (letIn at)
-  unfolding arity inner exprOf
+  unfolding scriptKinds inner exprOf
   accepted-let e = binary a letKind e (v + 1) (letIn at) refl refl (λ x y z. refl)
 
   pub accepted-for : getD b at 0 ≡ forKind → Binary b at left v (v + 1) (forIn at)
-  unfolding arity inner exprOf
+  unfolding scriptKinds inner exprOf
   accepted-for e = binary a forKind e (v + 1) (forIn at) refl refl (λ x y z. refl)
 
   pub accepted-insert : getD b at 0 ≡ insertKind → Binary b at left v v (insert at)
-  unfolding arity inner exprOf
+  unfolding scriptKinds inner exprOf
   accepted-insert e = binary a insertKind e v (insert at) refl refl (λ x y z. refl)
 
   pub accepted-if : getD b at 0 ≡ ifKind → Ternary b at left v (ifIn at)
-  unfolding arity inner exprOf
+  unfolding scriptKinds inner exprOf
   accepted-if e = ternary a ifKind e (ifIn at) refl refl (λ x y z. refl)

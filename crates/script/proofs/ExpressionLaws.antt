@@ -5,14 +5,15 @@ use mathlib.Core.List.{List}
 use Prim.Native.Nat.{ℕ, suc, _+_, _-_, _≤_, _<_}
 use native.Mathlib.Omega.{arith}
 use lib.ListN.{length, getD, take, drop}
-use Rattle.model.specs.Refusal.{isFine, faultAt}
-use Rattle.model.specs.Script.{Expr, nil, Parsed, ill, parsed, thenParse, exprFault}
+use Rattle.model.specs.Limits.{maxRecords, maxDepth}
+use Rattle.model.specs.Refusal.{isFine, refusalAt}
+use Rattle.model.specs.Script.{Expr, nil, Parsed, refused, parsed, thenParse, exprRefusal, arity}
 use Rattle.model.proofs.ListLaws.{drop-all}
 use Rattle.model.proofs.ScriptLaws.{Sound, sound-numbered, parse-sound}
-use Rattle.records.specs.Walk.{arity, inner, firstAt, secondAt, thirdAt, exprOf, exprAt}
+use Rattle.script_records.specs.Walk.{inner, firstAt, secondAt, thirdAt, exprOf, exprAt}
 use Rattle.script.specs.Reading.{parseAt, endOf, expressionRead, HeadPost, ExpressionPre, ExpressionPost}
 use Rattle.script.specs.Accepted.{RecordFits}
-use Rattle.table.specs.declared.End.{End}
+use Rattle.plan_table.specs.declared.End.{End}
 use Rattle.script.proofs.HeadLaws.{fine-fits, fine-records}
 use Rattle.script.proofs.ParseLaws.{reader, afterRecord, afterFirst, afterSecond, afterThird, parse-refused, parse-operands}
 use Rattle.script.proofs.ParseLaws.{after-none, after-record, after-one, after-first, after-two, after-second}
@@ -25,7 +26,7 @@ pub record Ended (x : Parsed) (r : End) : Type 0 where
   pub is : x ≡ parsed expr (r .place) (r .count) bytes
 
 pub ended : (x : Parsed) (r : End) → Sound x → r ≡ endOf x → r .number ≡ 0 → Ended x r
-ended (ill f) r s h z = absurd (sound-numbered s f refl (sym (ap (λ (q : End). q .number) h) ∙ z))
+ended (refused f) r s h z = absurd (sound-numbered s f refl (sym (ap (λ (q : End). q .number) h) ∙ z))
 ended (parsed e j m c) r s h z =
     let p : r .place ≡ j = ap (λ (q : End). q .place) h in
     let n : r .count ≡ m = ap (λ (q : End). q .count) h in
@@ -33,39 +34,39 @@ ended (parsed e j m c) r s h z =
 
 then-refused : (x : Parsed) (next : Expr → ℕ → ℕ → List ℕ → Parsed) (r : End) → r ≡ endOf x → (r .number ≡ 0 → ⊥) →
     r ≡ endOf (thenParse x next)
-then-refused (ill f) next r h g = h
+then-refused (refused f) next r h g = h
 then-refused (parsed e j m c) next r h g = absurd (g (ap (λ (q : End). q .number) h))
 
 then-last : (x : Parsed) (next : Expr → ℕ → ℕ → List ℕ → Parsed) (make : Expr → Expr) (r : End) → r ≡ endOf x →
     ((e : Expr) (j m : ℕ) (c : List ℕ) → next e j m c ≡ parsed (make e) j m c) → r ≡ endOf (thenParse x next)
-then-last (ill f) next make r h g = h
+then-last (refused f) next make r h g = h
 then-last (parsed e j m c) next make r h g = h ∙ sym (ap endOf (g e j m c))
 
 -- AFTER THE RECORD: it is refused, or it passed its tests
-head-fault : (b : List ℕ) (i left n v r : ℕ) → i ≤ length b → HeadPost (take (length b - i) (drop i b)) left n v r →
-    exprFault i n (17 - left) v (drop i b) ≡ faultAt r i
-head-fault b i left n v r h p =
-    ap (exprFault i n (17 - left) v) (sym (drop-all b i)) ∙ p .fault i
+head-refusal : (b : List ℕ) (i left n v r : ℕ) → i ≤ length b → HeadPost (take (length b - i) (drop i b)) left n v r →
+    exprRefusal i n (maxDepth + 1 - left) v (drop i b) ≡ refusalAt r i
+head-refusal b i left n v r h p =
+    ap (exprRefusal i n (maxDepth + 1 - left) v) (sym (drop-all b i)) ∙ p .refusal i
 
 pub record-refused : {b : List ℕ} {i left n v r : ℕ} → ExpressionPre b i left → HeadPost (take (length b - i) (drop i b)) left n v r →
     (r ≡ 0 → ⊥) → ExpressionPost b i left n v (record { number = r; place = i; count = 0 })
 record-refused {b} {i} {left} {n} {v} {r} pre p h =
-    record { read = sym (ap endOf (parse-refused b i left n v r h (head-fault b i left n v r (pre .within) p))) }
+    record { read = sym (ap endOf (parse-refused b i left n v r h (head-refusal b i left n v r (pre .within) p))) }
 
 pub record Headed (b : List ℕ) (i left n v : ℕ) : Type 0 where
-  pub deep : left ≤ 16
-  pub fine : isFine (exprFault i n (17 - left) v (drop i b)) ≡ true
+  pub deep : left ≤ maxDepth
+  pub fine : isFine (exprRefusal i n (maxDepth + 1 - left) v (drop i b)) ≡ true
 
 pub headed : {b : List ℕ} {i left n v r : ℕ} → ExpressionPre b i left → HeadPost (take (length b - i) (drop i b)) left n v r →
     r ≡ 0 → Headed b i left n v
 headed {b} {i} {left} {n} {v} {r} pre p z =
-    record { deep = pre .depth; fine = ap isFine (head-fault b i left n v r (pre .within) p) ∙ rw z }
+    record { deep = pre .depth; fine = ap isFine (head-refusal b i left n v r (pre .within) p) ∙ rw z }
 
 module _ {b : List ℕ} {i left n v : ℕ} (h : Headed b i left n v) where
   pub record-fits : RecordFits b i left v
   record-fits = fine-fits b i left n v i (h .fine)
 
-  pub record-room : n < 64
+  pub record-room : n < maxRecords
   record-room = fine-records b i left n v i (h .fine)
 
   operands-at : parseAt b i left n v ≡ afterRecord (left - 1) (getD b i 0) b i v (firstAt b i) (n + 1) (drop (firstAt b i) b)
@@ -73,7 +74,7 @@ module _ {b : List ℕ} {i left n v : ℕ} (h : Headed b i left n v) where
       let e : left ≡ suc (left - 1) = omega (arith, record-fits .depth) in
       ap (λ (q : ℕ). parseAt b i q n v) e ∙
       parse-operands b i (left - 1) n v (omega (arith, record-fits .depth, h .deep))
-      (ap (λ (q : ℕ). isFine (exprFault i n (17 - q) v (drop i b))) (sym e) ∙ h .fine)
+      (ap (λ (q : ℕ). isFine (exprRefusal i n (maxDepth + 1 - q) v (drop i b))) (sym e) ∙ h .fine)
 
   pub ends-none : {p : ℕ} → p ≡ firstAt b i → arity (getD b i 0) ≡ 0 →
       ExpressionPost b i left n v (record { number = 0; place = p; count = n + 1 })
@@ -123,7 +124,7 @@ module _ {b : List ℕ} {i left n v : ℕ} {r : End} (f : FirstRead b i left n v
     first-ended : Ended (parseAt b (firstAt b i) (left - 1) (n + 1) v) r
     first-ended =
         ended (parseAt b (firstAt b i) (left - 1) (n + 1) v) r
-        (parse-sound (suc (suc (left - 1))) (17 - (left - 1)) (firstAt b i) (n + 1) v (drop (firstAt b i) b)) (f .read) z
+        (parse-sound (suc (suc (left - 1))) (maxDepth + 1 - (left - 1)) (firstAt b i) (n + 1) v (drop (firstAt b i) b)) (f .read) z
 
     first-reads : Reads b (firstAt b i) (left - 1) (first-ended .expr) (r .place) (first-ended .bytes)
     first-reads =
@@ -180,7 +181,7 @@ module _ {b : List ℕ} {i left n v : ℕ} {r s : End} (f : SecondRead b i left 
     second-ended : Ended (parseAt b (r .place) (left - 1) (r .count) (inner (getD b i 0) v)) s
     second-ended =
         ended (parseAt b (r .place) (left - 1) (r .count) (inner (getD b i 0) v)) s
-        (parse-sound (suc (suc (left - 1))) (17 - (left - 1)) (r .place) (r .count) (inner (getD b i 0) v) (drop (r .place) b))
+        (parse-sound (suc (suc (left - 1))) (maxDepth + 1 - (left - 1)) (r .place) (r .count) (inner (getD b i 0) v) (drop (r .place) b))
         (f .read) z
 
     second-reads : Reads b (r .place) (left - 1) (second-ended .expr) (s .place) (second-ended .bytes)

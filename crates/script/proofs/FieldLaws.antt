@@ -7,6 +7,7 @@ use lib.Dec.{ltb}
 use lib.ListN.{getD}
 use lib.Seq.{getD-drop}
 use borrow.Author.Tests.{ltb-true}
+use Rattle.model.specs.Limits.{documents, maxName}
 use Rattle.model.specs.Script.{documentKind, variableKind, stepKind, newElementKind, testFits}
 use Rattle.model.proofs.ListLaws.{drop-first}
 use Rattle.model.proofs.BoolLaws.{and-left, and-right}
@@ -14,9 +15,9 @@ use Rattle.model.proofs.TestLaws.{isIn-at}
 use Rattle.script.specs.Accepted.{RecordFits}
 
 module _ {b : List ℕ} {at left v : ℕ} (f : RecordFits b at left v) where
-  pub document-number : getD b at 0 ≡ documentKind → getD b (at + 1) 0 < 8
+  pub document-number : getD b at 0 ≡ documentKind → getD b (at + 1) 0 < documents
   document-number e =
-      ltb-true (getD b (at + 1) 0) 8 (rw (drop-first b at, e, getD-drop at b 1 0) at (f .fields))
+      ltb-true (getD b (at + 1) 0) documents (rw (drop-first b at, e, getD-drop at b 1 0) at (f .fields))
 
   pub variable-number : getD b at 0 ≡ variableKind → getD b (at + 1) 0 < v
   variable-number e = ltb-true (getD b (at + 1) 0) v (rw (drop-first b at, e, getD-drop at b 1 0) at (f .fields))
@@ -32,5 +33,5 @@ module _ {b : List ℕ} {at left v : ℕ} (f : RecordFits b at left v) where
   pub step-test : getD b at 0 ≡ stepKind → testFits (getD b (at + 2) 0) (getD b (at + 3) 0) ≡ true
   step-test e = and-right (ltb (getD b (at + 1) 0) 4) (testFits (getD b (at + 2) 0) (getD b (at + 3) 0)) (step-fields e)
 
-  pub element-name : getD b at 0 ≡ newElementKind → (1 ≤ getD b (at + 1) 0) × (getD b (at + 1) 0 ≤ 255)
-  element-name e = isIn-at 1 255 (getD b (at + 1) 0) (rw (drop-first b at, e, getD-drop at b 1 0) at (f .fields))
+  pub element-name : getD b at 0 ≡ newElementKind → (1 ≤ getD b (at + 1) 0) × (getD b (at + 1) 0 ≤ maxName)
+  element-name e = isIn-at 1 maxName (getD b (at + 1) 0) (rw (drop-first b at, e, getD-drop at b 1 0) at (f .fields))

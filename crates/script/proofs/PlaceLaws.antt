@@ -1,41 +1,21 @@
 -- What the model's reader accepts at a place is the expression there, `exprAt`, and ends at `endAt`: by induction over the depth left.
 use mathlib.Core.Path.{_≡_, refl, ap, sym, _∙_}
-use mathlib.Core.Bool.{Bool, true, false, _||_}
 use mathlib.Core.List.{List}
 use Prim.Native.Nat.{ℕ, zero, suc, _+_, _-_, _≤_, _<_}
 use native.Mathlib.Omega.{arith}
-use lib.Dec.{eqb}
 use lib.ListN.{length, getD, drop}
-use Rattle.model.specs.Base.{pick}
-use Rattle.model.specs.Script.{stepKind, joinKind, letKind, forKind, ifKind, deleteKind, insertKind, pickKind}
-use Rattle.model.specs.Script.{Expr, parsed, thenParse, bodySize}
-use Rattle.model.proofs.BoolLaws.{eq-cases}
-use Rattle.records.specs.Walk.{arity, inner, past, endAt, firstAt, secondAt, thirdAt, exprOf, exprAt}
+use Rattle.model.specs.Limits.{maxDepth}
+use Rattle.model.specs.Script.{Expr, parsed, thenParse, bodySize, arity}
+use Rattle.model.proofs.BoolLaws.{eq-cases, below}
+use Rattle.model.proofs.KindLaws.{arity-most}
+use Rattle.script_records.specs.Walk.{inner, past, endAt, firstAt, secondAt, thirdAt, exprOf, exprAt}
 use Rattle.script.specs.Reading.{parseAt}
 use Rattle.script.specs.Accepted.{RecordFits}
-use Rattle.records.proofs.WalkLaws.{past-record, past-none}
+use Rattle.script_records.proofs.WalkLaws.{past-record, past-none}
 use Rattle.script.proofs.HeadLaws.{fine-fits}
-use Rattle.records.proofs.KindLaws.{below}
 use Rattle.script.proofs.ParseLaws.{reader, afterRecord, afterFirst, afterSecond, afterThird}
 use Rattle.script.proofs.ParseLaws.{after-none, after-record, after-one, after-first, after-two, after-second}
 use Rattle.script.proofs.ParseLaws.{parse-operands, parsed-fine, Then, then-parsed}
-
--- no record has more than three operands
-at-most : (t : Bool) (x y m : ℕ) → x ≤ m → y ≤ m → pick t x y ≤ m
-at-most true x y m h g = h
-at-most false x y m h g = g
-
-arity-most : (k : ℕ) → arity k ≤ 3
-unfolding arity
-arity-most k =
-    at-most (eqb k ifKind) 3 (pick twos 2 (pick ones 1 0)) 3 (omega arith)
-    (at-most twos 2 (pick ones 1 0) 3 (omega arith) (at-most ones 1 0 3 (omega arith) (omega arith)))
-  where
-    twos : Bool
-    twos = eqb k joinKind || eqb k letKind || eqb k forKind || eqb k insertKind
-
-    ones : Bool
-    ones = eqb k stepKind || eqb k deleteKind || eqb k pickKind
 
 -- THE EXPRESSION READ at a place, the place past it, and the bytes there
 pub record Reads (b : List ℕ) (i left : ℕ) (e : Expr) (j : ℕ) (c : List ℕ) : Type 0 where
@@ -119,15 +99,15 @@ module _ (b : List ℕ) (i k : ℕ) (whole : i + bodySize (getD b i 0) < length 
 
 -- THE OPERANDS of an accepted expression were accepted, one after another; `known` is what is known one level below
 pub accepted-fits : (b : List ℕ) (i k n v : ℕ) {e : Expr} {j m : ℕ} {c : List ℕ} → parseAt b i k n v ≡ parsed e j m c → RecordFits b i k v
-accepted-fits b i k n v h = fine-fits b i k n v i (parsed-fine (suc k) (17 - k) i n v (drop i b) h)
+accepted-fits b i k n v h = fine-fits b i k n v i (parsed-fine (suc k) (maxDepth + 1 - k) i n v (drop i b) h)
 
 abbrev pub Known : (bytes : List ℕ) → (left : ℕ) → Type 0
 Known b k = (i n v : ℕ) (e : Expr) (j m : ℕ) (c : List ℕ) → parseAt b i k n v ≡ parsed e j m c → Reads b i k e j c
 
-module _ (b : List ℕ) (i k n v : ℕ) (shallow : k < 16) (known : Known b k) {e : Expr} {j m : ℕ} {c : List ℕ}
+module _ (b : List ℕ) (i k n v : ℕ) (shallow : k < maxDepth) (known : Known b k) {e : Expr} {j m : ℕ} {c : List ℕ}
     (h : parseAt b i (suc k) n v ≡ parsed e j m c) where
   after : afterRecord k (getD b i 0) b i v (firstAt b i) (n + 1) (drop (firstAt b i) b) ≡ parsed e j m c
-  after = sym (parse-operands b i k n v shallow (parsed-fine (suc (suc k)) (17 - suc k) i n v (drop i b) h)) ∙ h
+  after = sym (parse-operands b i k n v shallow (parsed-fine (suc (suc k)) (maxDepth + 1 - suc k) i n v (drop i b) h)) ∙ h
 
   whole : i + bodySize (getD b i 0) < length b
   whole = accepted-fits b i (suc k) n v h .whole
@@ -199,6 +179,6 @@ module _ (b : List ℕ) (i k n v : ℕ) (shallow : k < 16) (known : Known b k) {
       eq-cases (arity (getD b i 0)) 0 read-none
       (λ q. read-some (omega (arith, q)))
 
-pub reads : (b : List ℕ) (left : ℕ) → left ≤ 16 → Known b left
+pub reads : (b : List ℕ) (left : ℕ) → left ≤ maxDepth → Known b left
 reads b zero s i n v e j m c h = let d : 0 < 0 = accepted-fits b i 0 n v h .depth in absurd (omega arith)
 reads b (suc k) s i n v e j m c h = read-all b i k n v (omega arith) (reads b k (omega arith)) h

@@ -5,8 +5,8 @@ use mathlib.Core.List.{List}
 use Prim.Native.Nat.{ℕ, _+_, _-_, _≤_, _<_}
 use lib.ListN.{length, getD, drop}
 use Rattle.model.specs.Limits.{maxDepth, maxBinders}
-use Rattle.model.specs.Script.{Expr, parsed, nilKind, pickKind, bodySize, bodyFits, isBinder}
-use Rattle.records.specs.Walk.{endAt, firstAt, secondAt, thirdAt, exprAt}
+use Rattle.model.specs.Script.{Expr, parsed, isScriptKind, bodySize, bodyFits, isBinder}
+use Rattle.script_records.specs.Walk.{endAt, firstAt, secondAt, thirdAt, exprAt}
 use Rattle.script.specs.Reading.{parseAt}
 
 -- the expression at a place is accepted, `left` deep at most, with so many variables bound; `records` stand before it
@@ -21,8 +21,7 @@ pub record Accepted (b : List ℕ) (at left bound : ℕ) : Type 0 where
 
 -- ITS RECORD
 pub record RecordFits (b : List ℕ) (at left bound : ℕ) : Type 0 where
-  pub low : nilKind ≤ getD b at 0
-  pub high : getD b at 0 ≤ pickKind
+  pub kind : isScriptKind (getD b at 0) ≡ true
   pub depth : 0 < left
   pub scope : isBinder (getD b at 0) ≡ true → bound < maxBinders
   pub whole : at + bodySize (getD b at 0) < length b

@@ -6,14 +6,14 @@ use Prim.Native.Nat.{ℕ, suc, _+_, _-_, _≤_}
 use lib.ListN.{length, getD, drop}
 use Rattle.model.specs.Limits.{maxDepth}
 use Rattle.model.specs.Refusal as refusal
-use Rattle.model.specs.Script.{Parsed, ill, parsed, parseFrom, readScript, exprFault, bodySize, bodyFits, faultBy}
-use Rattle.table.specs.Results.{faultOf}
-use Rattle.table.specs.declared.Fault.{Fault}
-use Rattle.table.specs.declared.End.{End}
+use Rattle.model.specs.Script.{Parsed, refused, parsed, parseFrom, readScript, exprRefusal, bodySize, bodyFits, refusalBy}
+use Rattle.plan_table.specs.Results.{refusalOf}
+use Rattle.plan_table.specs.declared.Refusal.{Refusal}
+use Rattle.plan_table.specs.declared.End.{End}
 
 -- READING a script: its refusal, or none
-abbrev pub scriptRead : (bytes : List ℕ) → Fault
-scriptRead b = faultOf (faultBy (readScript b))
+abbrev pub scriptRead : (bytes : List ℕ) → Refusal
+scriptRead b = refusalOf (refusalBy (readScript b))
 
 -- the model's reader at a place: the expression there may be `left` deep, so its own depth is 17 less that
 abbrev pub parseAt : (bytes : List ℕ) → (at left records bound : ℕ) → Parsed
@@ -25,7 +25,7 @@ endBy n i m = record { number = n; place = i; count = m }
 
 -- of what is parsed
 abbrev pub endOf : Parsed → End
-endOf (ill x) = endBy (x .number) (x .place) 0
+endOf (refused x) = endBy (x .number) (x .place) 0
 endOf (parsed e i n b) = endBy 0 i n
 
 -- of an expression's bytes
@@ -47,4 +47,4 @@ pub record ExpressionPost (b : List ℕ) (at left records bound : ℕ) (r : End)
   pub read : r ≡ expressionRead b at left records bound
 
 pub record HeadPost (s : List ℕ) (left records bound r : ℕ) : Type 0 where
-  pub fault : (i : ℕ) → exprFault i records (maxDepth + 1 - left) bound s ≡ refusal.faultAt r i
+  pub refusal : (i : ℕ) → exprRefusal i records (maxDepth + 1 - left) bound s ≡ refusal.refusalAt r i

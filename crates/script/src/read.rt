@@ -3,14 +3,14 @@ ghost use mathlib.Core.Path.{_≡_};
 ghost use mathlib.Core.Bool.{_&&_};
 ghost use Prim.Native.Nat.{_≤_};
 ghost use lib.Dec.{leb};
-ghost use Rattle.model.specs.Limits.{maxBinders};
+ghost use Rattle.model.specs.Limits.{maxName, maxBinders};
 ghost use Rattle.model.specs.Script.{isBinder, testFits};
 ghost use Rattle.script.specs.Reading.{BodyPre, BodyPost, HeadPost, ExpressionPre, ExpressionPost, endBy};
-use records::kinds;
-use table::Fault;
-use table::NameNumber;
-use table::Table;
-use table::number;
+use plan_table::NameNumber;
+use plan_table::Refusal;
+use plan_table::Table;
+use plan_table::number;
+use script_records::kinds;
 
 const AXES: u8 = 4;
 
@@ -21,7 +21,7 @@ const NAMED: u8 = 3;
 
 // Name is 0 unless the test is 3, and then 1 to 255.
 fn test_fits(test: u8, name: NameNumber) -> bool
-    requires { ⌜ name .0 ≤ 255 ⌝ }
+    requires { ⌜ name .0 ≤ maxName ⌝ }
     ensures { λ r. ⌜ r ≡ testFits test (name .0) ⌝ }
 {
     if test == NAMED {
@@ -75,31 +75,28 @@ fn head(s: &[u8], left: usize, records: usize, bound: usize) -> u8
     ensures { λ r. ⌜ HeadPost (now (s .entry)) left records bound r ⌝ }
 {
     if s.len() == 0 {
-        return Fault::SHORT;
+        return Refusal::SHORT;
     }
     let kind = s[0];
-    if kind < kinds::NIL {
-        return Fault::KIND;
-    }
-    if kinds::PICK < kind {
-        return Fault::KIND;
+    if !kinds::is_kind(kind) {
+        return Refusal::KIND;
     }
     if Table::SCRIPT_RECORDS <= records {
-        return Fault::SIZE;
+        return Refusal::SIZE;
     }
     if left == 0 {
-        return Fault::SIZE;
+        return Refusal::SIZE;
     }
     if is_ninth(kind, bound) {
-        return Fault::SIZE;
+        return Refusal::SIZE;
     }
     if s.len() < 1 + kinds::body_size(kind) {
-        return Fault::SHORT;
+        return Refusal::SHORT;
     }
     if body_fits(s, bound) {
         return 0;
     }
-    Fault::FIELD
+    Refusal::FIELD
 }
 
 // Reads the expression at a place: its refusal's number, or 0. `place` takes the refusal's place, or the place past the expression;
@@ -124,8 +121,9 @@ pub fn expression(
         return number;
     }
     let kind = bytes[at];
-    let operands = kinds::arity(kind);
-    let first_at = at + (1 + kinds::body_size(kind));
+    let found = kinds::kind_of(kind);
+    let operands = found.operands;
+    let first_at = at + (1 + found.body);
     *place = first_at;
     *records = before + 1;
     if operands == 0 {

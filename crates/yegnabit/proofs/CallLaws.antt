@@ -6,11 +6,11 @@ use Prim.Native.Nat.{ℕ, _≤_, _<_}
 use lib.Dec.{eqb}
 use lib.ListN.{length}
 use borrow.Author.Tests.{lt-ltb, le-ltb, eq-eqb, ne-eqb}
-use Rattle.table.specs.declared.TableResult.{TableResult}
+use Rattle.plan_table.specs.declared.TableResult.{TableResult}
 use Rattle.yegnabit.specs.Calls.{valuesIfLong, outIfLong}
 use Rattle.model.specs.Refusal.{Values, values}
-use Rattle.codes.specs.Codes.{codeOf, lentValues, valuesUnless, areaUnless}
-use Rattle.lent.specs.Done.{outNeed}
+use Rattle.c_codes.specs.Codes.{codeOf, lentValues, valuesUnless, areaUnless}
+use Rattle.c_lent.specs.Done.{outNeed}
 use Rattle.paths.specs.Analysis.{valuesOf}
 use Rattle.paths.specs.declared.Analysis.{Analysis}
 
@@ -26,22 +26,22 @@ module _ (o : List ℕ) (v : Values) (b : List ℕ) where
   area-fits h e f = (e ∙ rw (le-ltb (length o) outNeed h), f ∙ rw (le-ltb (length o) outNeed h))
 
   module _ (h : outNeed ≤ length o) {q r : TableResult} (e : r ≡ q) where
-    pub plan-refused : {c : ℕ} → c ≡ codeOf (values (r .fault .number) 1 (r .fault .place)) → (r .fault .number ≡ 0 → ⊥) →
-        Answers o (valuesUnless (q .fault) 1 v) (areaUnless (q .fault) b o) c o
+    pub plan-refused : {c : ℕ} → c ≡ codeOf (values (r .refusal .number) 1 (r .refusal .place)) → (r .refusal .number ≡ 0 → ⊥) →
+        Answers o (valuesUnless (q .refusal) 1 v) (areaUnless (q .refusal) b o) c o
     plan-refused f z = (
-      f ∙ ap (λ (t : TableResult). codeOf (values (t .fault .number) 1 (t .fault .place))) e ∙ rw (le-ltb (length o) outNeed h, y),
+      f ∙ ap (λ (t : TableResult). codeOf (values (t .refusal .number) 1 (t .refusal .place))) e ∙ rw (le-ltb (length o) outNeed h, y),
       rw (le-ltb (length o) outNeed h, y),
     )
       where
-        y : eqb (q .fault .number) 0 ≡ false
-        y = ne-eqb (q .fault .number) 0 (λ k. z (ap (λ (t : TableResult). t .fault .number) e ∙ k))
+        y : eqb (q .refusal .number) 0 ≡ false
+        y = ne-eqb (q .refusal .number) 0 (λ k. z (ap (λ (t : TableResult). t .refusal .number) e ∙ k))
 
-    pub plan-done : {c : ℕ} {l : List ℕ} → c ≡ codeOf v → l ≡ b → r .fault .number ≡ 0 →
-        Answers o (valuesUnless (q .fault) 1 v) (areaUnless (q .fault) b o) c l
+    pub plan-done : {c : ℕ} {l : List ℕ} → c ≡ codeOf v → l ≡ b → r .refusal .number ≡ 0 →
+        Answers o (valuesUnless (q .refusal) 1 v) (areaUnless (q .refusal) b o) c l
     plan-done f g z = (f ∙ rw (le-ltb (length o) outNeed h, y), g ∙ rw (le-ltb (length o) outNeed h, y))
       where
-        y : eqb (q .fault .number) 0 ≡ true
-        y = eq-eqb (q .fault .number) 0 (ap (λ (t : TableResult). t .fault .number) (sym e) ∙ z)
+        y : eqb (q .refusal .number) 0 ≡ true
+        y = eq-eqb (q .refusal .number) 0 (ap (λ (t : TableResult). t .refusal .number) (sym e) ∙ z)
 
 -- an analysis told by its variant
 pub analysis-told : {a v w : Analysis} {r : ℕ} → a ≡ w → a ≡ v → r ≡ codeOf (valuesOf v) → r ≡ codeOf (valuesOf w)

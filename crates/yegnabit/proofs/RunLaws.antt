@@ -7,13 +7,13 @@ use lib.ListN.{length, replicate}
 use borrow.Author.Tests.{eq-eqb, ne-eqb}
 use Rattle.model.specs.Refusal.{values}
 use Rattle.plan.specs.Calls as library
-use Rattle.table.specs.declared.TableResult.{TableResult}
+use Rattle.plan_table.specs.declared.TableResult.{TableResult}
 use Rattle.run.specs.Calls.{ran, runResult}
 use Rattle.run.specs.declared.RunResult.{RunResult}
-use Rattle.codes.specs.Codes.{codeOf, lentValues}
+use Rattle.c_codes.specs.Codes.{codeOf, lentValues}
 use Rattle.yegnabit.specs.Running.{Called, untouchedCall, refusedCall, ranCall, readCall, runCalled}
-use Rattle.lent.specs.Done.{doneNeed, lentFit, doneOver, endValues, endOut, endDone}
-use Rattle.lent.proofs.EndLaws.{long-enough}
+use Rattle.c_lent.specs.Done.{doneNeed, lentFit, doneOver, endValues, endOut, endDone}
+use Rattle.c_lent.proofs.EndLaws.{long-enough}
 
 -- the answer and the five areas are those of a call
 abbrev pub Leaves : (code : ℕ) → (answer history work out done : List ℕ) → Called → Type 0
@@ -42,23 +42,23 @@ module _ (p s a h w o d : List ℕ) (b : Bool)
         the-read k = rw k
 
     -- the plan is refused: nothing runs
-    pub call-plan-refused : (c : ℕ) (a′ h′ w′ d′ : List ℕ) → (q .fault .number ≡ 0 → ⊥) →
-        c ≡ codeOf (values (q .fault .number) 1 (q .fault .place)) → a′ ≡ replicate (length a) 0 → h′ ≡ replicate (length h) 0 →
+    pub call-plan-refused : (c : ℕ) (a′ h′ w′ d′ : List ℕ) → (q .refusal .number ≡ 0 → ⊥) →
+        c ≡ codeOf (values (q .refusal .number) 1 (q .refusal .place)) → a′ ≡ replicate (length a) 0 → h′ ≡ replicate (length h) 0 →
         w′ ≡ replicate (length w) 0 → d′ ≡ doneOver 0 0 0 0 0 0 d → Leaves c a′ h′ w′ o d′ (runCalled p s a h w o d)
     call-plan-refused c a′ h′ w′ d′ z e ea eh ew f =
         subst (Leaves c a′ h′ w′ o d′) (sym (called ∙ the-refusal)) (e, (ea, (eh, (ew, (refl, f)))))
       where
-        the-refusal : readCall q s a h w o d ≡ refusedCall (values (q .fault .number) 1 (q .fault .place)) a h w o d
-        the-refusal = rw (ne-eqb (q .fault .number) 0 z)
+        the-refusal : readCall q s a h w o d ≡ refusedCall (values (q .refusal .number) 1 (q .refusal .place)) a h w o d
+        the-refusal = rw (ne-eqb (q .refusal .number) 0 z)
 
-    module _ (z : q .fault .number ≡ 0) (r : RunResult) (a′ h′ w′ : List ℕ) (result : r ≡ runResult (q .table) s a h w)
+    module _ (z : q .refusal .number ≡ 0) (r : RunResult) (a′ h′ w′ : List ℕ) (result : r ≡ runResult (q .table) s a h w)
         (at-answer : a′ ≡ ran (q .table) s a h w .answer) (at-history : h′ ≡ ran (q .table) s a h w .history)
         (at-work : w′ ≡ ran (q .table) s a h w .work) where
       run-called : runCalled p s a h w o d ≡ ranCall r (ran (q .table) s a h w) o d
       run-called = called ∙ the-run ∙ ap (λ (t : RunResult). ranCall t (ran (q .table) s a h w) o d) (sym result)
         where
           the-run : readCall q s a h w o d ≡ ranCall (runResult (q .table) s a h w) (ran (q .table) s a h w) o d
-          the-run = rw (eq-eqb (q .fault .number) 0 z)
+          the-run = rw (eq-eqb (q .refusal .number) 0 z)
 
       -- the run is over
       pub call-ended : (c : ℕ) (o′ d′ : List ℕ) → c ≡ codeOf (endValues r o) → o′ ≡ endOut r o → d′ ≡ endDone r o d →

@@ -1,34 +1,34 @@
 -- What the C calls answer and leave, for every input, from what the calls of the library answer.
+use mathlib.Core.Bool.{cond}
 use mathlib.Core.List.{List}
 use Prim.Native.Nat.{ℕ}
 use lib.Dec.{ltb}
 use lib.ListN.{length}
-use Rattle.model.specs.Base.{pick}
 use Rattle.plan.specs.Calls as library
 use Rattle.model.specs.Refusal.{Values}
-use Rattle.codes.specs.Codes.{lentValues, valuesUnless, areaUnless, writtenValues, finishedValues, finishedOut}
-use Rattle.writer.specs.Writing.{planWritten, writtenOut}
-use Rattle.lent.specs.Done.{outNeed}
-use Rattle.sweep.specs.Sweeping.{planSwept}
+use Rattle.c_codes.specs.Codes.{lentValues, valuesUnless, areaUnless, writtenValues, finishedValues, finishedOut}
+use Rattle.plan_writer.specs.Writing.{planWritten, writtenOut}
+use Rattle.c_lent.specs.Done.{outNeed}
+use Rattle.plan_sweep.specs.Sweeping.{planSwept}
 use Rattle.paths.specs.Analysis.{analysed, valuesOf}
-use Rattle.undo.specs.Undoing.{planUndone}
-use Rattle.table.specs.declared.TableResult.{TableResult}
+use Rattle.run_undo.specs.Undoing.{planUndone}
+use Rattle.plan_table.specs.declared.TableResult.{TableResult}
 
 -- PLAN, SWEEP AND UNDO: 11 where out has less than 2,080 bytes, before all else
 abbrev pub valuesIfLong : (out : List ℕ) → (rest : Values) → Values
-valuesIfLong o v = pick (ltb (length o) outNeed) lentValues v
+valuesIfLong o v = cond (ltb (length o) outNeed) lentValues v
 
 -- and nothing touched
 abbrev pub outIfLong : (out rest : List ℕ) → List ℕ
-outIfLong o b = pick (ltb (length o) outNeed) o b
+outIfLong o b = cond (ltb (length o) outNeed) o b
 
 -- then the plan's own refusal; then what the call answers
 abbrev pub onPlan : (plan out : List ℕ) → (rest : Values) → Values
-onPlan p o v = valuesIfLong o (valuesUnless (library.planRead p .fault) 1 v)
+onPlan p o v = valuesIfLong o (valuesUnless (library.planRead p .refusal) 1 v)
 
 -- and the area: as it was, or what the call leaves
 abbrev pub outOnPlan : (plan out rest : List ℕ) → List ℕ
-outOnPlan p o b = outIfLong o (areaUnless (library.planRead p .fault) b o)
+outOnPlan p o b = outIfLong o (areaUnless (library.planRead p .refusal) b o)
 
 -- READ AND WRITE BACK
 abbrev pub planValues : (plan out : List ℕ) → Values

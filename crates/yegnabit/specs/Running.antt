@@ -1,17 +1,17 @@
 -- What the C call for a run answers and leaves in its five lent areas, for every input.
+use mathlib.Core.Bool.{cond}
 use mathlib.Core.List.{List}
 use Prim.Native.Nat.{ℕ}
 use lib.Dec.{eqb}
 use lib.ListN.{length, replicate}
-use Rattle.model.specs.Base.{pick}
 use Rattle.model.specs.Call.{Ran}
 use Rattle.model.specs.Refusal.{Values, values}
 use Rattle.plan.specs.Calls as library
-use Rattle.table.specs.declared.TableResult.{TableResult}
+use Rattle.plan_table.specs.declared.TableResult.{TableResult}
 use Rattle.run.specs.Calls.{ran, runResult}
 use Rattle.run.specs.declared.RunResult.{RunResult}
-use Rattle.codes.specs.Codes.{lentValues}
-use Rattle.lent.specs.Done.{lentFit, doneOver, endValues, endOut, endDone}
+use Rattle.c_codes.specs.Codes.{lentValues}
+use Rattle.c_lent.specs.Done.{lentFit, doneOver, endValues, endOut, endDone}
 
 -- what the call answers, and the areas after it
 pub record Called : Type 0 where
@@ -46,11 +46,11 @@ ranCall r l o d =
 -- once the plan is read: its refusal, without a run; or the run
 abbrev pub readCall : TableResult → (script answer history work out done : List ℕ) → Called
 readCall q s a h w o d =
-    pick (eqb (q .fault .number) 0) (ranCall (runResult (q .table) s a h w) (ran (q .table) s a h w) o d)
-    (refusedCall (values (q .fault .number) 1 (q .fault .place)) a h w o d)
+    cond (eqb (q .refusal .number) 0) (ranCall (runResult (q .table) s a h w) (ran (q .table) s a h w) o d)
+    (refusedCall (values (q .refusal .number) 1 (q .refusal .place)) a h w o d)
 
 -- READ, RUN AND WRITE: 11 where one of the five areas is too short; then the plan's refusal; then the script's and the run's
 abbrev pub runCalled : (plan script answer history work out done : List ℕ) → Called
 runCalled p s a h w o d =
-    pick (lentFit (length a) (length h) (length w) (length o) (length d)) (readCall (library.planRead p) s a h w o d)
+    cond (lentFit (length a) (length h) (length w) (length o) (length d)) (readCall (library.planRead p) s a h w o d)
     (untouchedCall a h w o d)

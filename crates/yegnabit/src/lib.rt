@@ -2,14 +2,14 @@
 // number 0 where nothing is refused; which says whose refusal it is: 0 a lent area's, 1 the plan's,
 // 2 the script's, the run's or the history's.
 ghost use mathlib.Core.Path.{_≡_};
-ghost use Rattle.codes.specs.Codes.{codeOf};
+ghost use Rattle.c_codes.specs.Codes.{codeOf};
 ghost use Rattle.yegnabit.specs.Calls.{planValues, planOut, sweepValues, sweepOut, undoValues, undoOut, analyseValues};
 ghost use Rattle.yegnabit.specs.Running.{runCalled};
-use codes::answer;
-use codes::answer::PLAN;
-use codes::answer::SCRIPT;
-use lent::OUT;
-use lent::done;
+use c_codes::answer;
+use c_codes::answer::PLAN;
+use c_codes::answer::SCRIPT;
+use c_lent::OUT;
+use c_lent::done;
 use paths::Analysis;
 
 // Reads a plan and writes it back to out, which needs room for any plan.
@@ -35,11 +35,11 @@ pub extern "C" fn yegnabit_sweep(plan: &[u8], out: &mut [u8]) -> u64
         return answer::lent_short();
     }
     let read = plan::read_plan(plan);
-    let number = read.fault.number;
+    let number = read.refusal.number;
     if number != 0 {
-        return answer::code(number, PLAN, read.fault.place);
+        return answer::code(number, PLAN, read.refusal.place);
     }
-    let swept = sweep::sweep_table(read.table);
+    let swept = plan_sweep::sweep_table(read.table);
     answer::finish(swept, PLAN, out)
 }
 
@@ -53,11 +53,11 @@ pub extern "C" fn yegnabit_undo(plan: &[u8], history: &[u8], out: &mut [u8]) -> 
         return answer::lent_short();
     }
     let read = plan::read_plan(plan);
-    let number = read.fault.number;
+    let number = read.refusal.number;
     if number != 0 {
-        return answer::code(number, PLAN, read.fault.place);
+        return answer::code(number, PLAN, read.refusal.place);
     }
-    let undone = undo::undo(read.table, history);
+    let undone = run_undo::undo(read.table, history);
     answer::finish(undone, SCRIPT, out)
 }
 
@@ -97,8 +97,8 @@ pub extern "C" fn yegnabit_run(
         return answer::lent_short();
     }
     let read = plan::read_plan(plan);
-    let number = read.fault.number;
-    let place = read.fault.place;
+    let number = read.refusal.number;
+    let place = read.refusal.place;
     if number != 0 {
         done::clear(answer, history, work);
         done::put_done(done, 0, 0, 0, 0, 0, 0);
@@ -116,7 +116,11 @@ pub extern "C" fn yegnabit_analyse(first: &[u8], second: &[u8]) -> u64
 {
     let analysis = paths::analyse(first, second);
     match analysis {
-        Analysis::Refused { script, fault } => answer::code(fault.number, script, fault.place),
+        Analysis::Refused { script, refusal } => answer::code(
+            refusal.number,
+            script,
+            refusal.place,
+        ),
         Analysis::Free => answer::code(0, 0, 0),
         Analysis::Upward => answer::code(0, 1, 0),
         Analysis::Meet => answer::code(0, 2, 0),

@@ -1,7 +1,8 @@
 //! The comparison of one run: the answer, the five lent areas, and the laws.
 
-use compare::interface::{self, Answer, Lent, DONE_NUMBERS};
-use compare::reference::limits::{ANSWER_NUMBERS, HISTORY_BYTES, PLAN_BYTES, WORK_NUMBERS};
+use compare::interface::{Answer, Lent, DONE_NUMBERS};
+use compare::oracle::calls;
+use compare::oracle::limits::{ANSWER_NUMBERS, HISTORY_BYTES, PLAN_BYTES, WORK_NUMBERS};
 
 use super::shares::Shares;
 use crate::ffi;
@@ -91,7 +92,7 @@ impl Runs<'_> {
                 done: self.done.halves().0,
             },
         );
-        let reference = interface::run(
+        let oracle = calls::run(
             plan,
             script,
             Lent {
@@ -103,7 +104,7 @@ impl Runs<'_> {
             },
         );
         let named = |name: &'static str| move |message: String| format!("{name}: {message}");
-        compare((library, reference))
+        compare((library, oracle))
             .and_then(|()| self.answer.compare().map_err(named("answer")))
             .and_then(|()| self.history.compare().map_err(named("history")))
             .and_then(|()| self.work.compare().map_err(named("work")))

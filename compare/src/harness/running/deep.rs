@@ -3,10 +3,11 @@
 use compare::generate::plans::star;
 use compare::generate::random::Random;
 use compare::generate::scripts::{script, Wanted};
-use compare::interface::{self, Answer, Areas};
-use compare::reference::limits::{BINDERS, DEPTH, ROWS};
-use compare::reference::plan::to_vec;
-use compare::reference::script::{kind, read};
+use compare::interface::{Answer, Areas};
+use compare::oracle::calls;
+use compare::oracle::limits::{BINDERS, DEPTH, ROWS};
+use compare::oracle::plan::to_vec;
+use compare::oracle::script::{kind, read};
 
 use crate::ffi;
 use crate::harness::checker::{compare, difference};
@@ -49,8 +50,8 @@ pub fn test(random: &mut Random, volume: Volume) -> Result<(), Difference> {
     let ran: Vec<(Answer, Areas)> = on_stack(STACK, || cases.iter().map(run_one).collect());
     for ((plan, script), (answer, areas)) in cases.iter().zip(ran) {
         let mut expected = Areas::holding(7);
-        let reference = interface::run(plan, script, expected.lend());
-        compare((answer, reference))
+        let oracle = calls::run(plan, script, expected.lend());
+        compare((answer, oracle))
             .map_err(|message| difference(Call::Run, &[plan, script], &message))?;
         if areas != expected {
             let message = "the areas of a run on a small stack differ";

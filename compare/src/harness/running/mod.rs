@@ -11,9 +11,9 @@ use compare::generate::document01::PLAN_P;
 use compare::generate::edges;
 use compare::generate::random::Random;
 use compare::generate::runs::{case, plan, Case};
-use compare::reference::limits::ROWS;
-use compare::reference::plan::to_vec;
-use compare::reference::script::kind;
+use compare::oracle::limits::ROWS;
+use compare::oracle::plan::to_vec;
+use compare::oracle::script::kind;
 
 use super::checker::Checker;
 use super::{Difference, Volume};

@@ -7,12 +7,12 @@ use compare::generate::plans::{self, Shape};
 use compare::generate::random::Random;
 use compare::generate::runs::loops;
 use compare::interface::Answer;
-use compare::reference::analysis;
-use compare::reference::history;
-use compare::reference::limits::ROWS;
-use compare::reference::orders::{orders_are_equal, Order, Part};
-use compare::reference::plan::{read, to_vec};
-use compare::reference::table::Table;
+use compare::oracle::analysis;
+use compare::oracle::history;
+use compare::oracle::limits::ROWS;
+use compare::oracle::orders::{orders_are_equal, Order, Part};
+use compare::oracle::plan::{read, to_vec};
+use compare::oracle::table::Table;
 
 use super::check::{Left, Runs};
 use crate::harness::checker::difference;
@@ -145,7 +145,7 @@ fn order(
     Ok(Some((led, runs.left())))
 }
 
-/// An order as the reference compares it: the parts of the first and of the
+/// An order as the oracle compares it: the parts of the first and of the
 /// second script, and the plan at the end.
 fn ended(first: &Left, second: &Left, plan: &[u8]) -> Result<Order, Difference> {
     let part = |left: &Left| {

@@ -1,7 +1,7 @@
 //! Which kinds of records the scripts that ran hold, and what the runs did.
 
 use compare::interface::Answer;
-use compare::reference::script::read;
+use compare::oracle::script::read;
 use std::fmt::Write;
 
 use crate::harness::tally::percent;
@@ -35,8 +35,8 @@ impl Shares {
         };
         self.runs += 1;
         let mut held = [false; KINDS];
-        for record in &script.records {
-            held[usize::from(bytes[usize::from(record.place)]) - 1] = true;
+        for record in script.records() {
+            held[usize::from(bytes[record.place]) - 1] = true;
         }
         for (kind, held) in self.kinds.iter_mut().zip(held) {
             *kind += u64::from(held);

@@ -8,10 +8,10 @@ use compare::generate::plans::star;
 use compare::generate::random::Random;
 use compare::generate::scripts::{script, Wanted};
 use compare::interface::{Answer, WHICH_SCRIPT};
-use compare::reference::limits::{BINDERS, DEPTH, ITEMS, ROWS, SCRIPT_RECORDS};
-use compare::reference::plan::to_vec;
-use compare::reference::refusal::{Number, Refusal};
-use compare::reference::script::kind;
+use compare::oracle::limits::{BINDERS, DEPTH, ITEMS, ROWS, SCRIPT_RECORDS};
+use compare::oracle::plan::to_vec;
+use compare::oracle::refusal::{Number, Refusal};
+use compare::oracle::script::kind;
 
 use super::check::Runs;
 use crate::harness::checker::{difference, document_says};

@@ -1,10 +1,10 @@
 -- `analyse` answers what the model does: one law of AnalysisLaws for each way out.
 use mathlib.Core.Path.{_≡_, refl, ap, sym, _∙_}
-use Rattle.table.specs.declared.Fault.{Fault}
+use Rattle.plan_table.specs.declared.Refusal.{Refusal}
 use Rattle.script.specs.Reading.{scriptRead}
 use Rattle.paths.proofs.AnalysisLaws.{answer-asks, first-refused, second-refused, both-accepted}
 use native.Mathlib.Omega.{arith}
-use Rattle.meeting.proofs.PairLaws.{has-rows}
+use Rattle.paths_cells.proofs.PairLaws.{has-rows}
 use borrow.Author.Needs.{needs}
 use Rattle.paths.proofs.analyse.Statement.{statement}
 use Rattle.paths.proofs.analyse.Tie as tie
@@ -13,13 +13,13 @@ use Rattle.paths.proofs.analyse.Tie as tie
 first-accepted : (c : tie.Else1) → scriptRead (c .before .before .before .before .before .args .first .now) .number ≡ 0
 first-accepted c =
     let zero : c .before .before .read-script .result .number ≡ 0 = search (c .if1 .left, needs) in
-    sym (ap (λ (x : Fault). x .number) (c .before .before .read-script .ensures)) ∙ zero
+    sym (ap (λ (x : Refusal). x .number) (c .before .before .read-script .ensures)) ∙ zero
 
 second-accepted : (c : tie.Else2) →
     scriptRead (c .before .before .before .before .before .before .before .before .args .second .now) .number ≡ 0
 second-accepted c =
     let zero : c .before .before .read-script2 .result .number ≡ 0 = search (c .if2 .left, needs) in
-    sym (ap (λ (x : Fault). x .number) (c .before .before .read-script2 .ensures)) ∙ zero
+    sym (ap (λ (x : Refusal). x .number) (c .before .before .read-script2 .ensures)) ∙ zero
 
 read-script-requires : tie.Need-read-script-requires
 read-script-requires c κs = search needs

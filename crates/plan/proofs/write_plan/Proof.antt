@@ -2,7 +2,7 @@
 use mathlib.Core.Path.{_∙_, sym}
 use borrow.Author.Tests.{not-true, not-false}
 use borrow.Author.Needs.{needs}
-use Rattle.writer.proofs.WritePlanLaws.{write-ill}
+use Rattle.plan_writer.proofs.WritePlanLaws.{write-ill}
 use Rattle.plan.proofs.write_plan.Statement.{statement}
 use Rattle.plan.proofs.write_plan.Tie as tie
 
@@ -16,9 +16,9 @@ returns : tie.Need-returns
 returns c =
     let c2 = c .before .before in
     let c9 = c2 .before .before .before .before .before .before .before in
-    let ill =
+    let refused =
     write-ill (c9 .args .t1) (c9 .args .out .now) (sym (c2 .fits2 .ensures) ∙ not-true (c2 .fits2 .result) (c .before .if1 .taken)) in
-    (c .written .ensures ∙ ill .0, ill .1)
+    (c .written .ensures ∙ refused .0, refused .1)
 
 fitting-requires : tie.Need-fitting-requires
 fitting-requires c κs = sym (c .before .before .fits2 .ensures) ∙ not-false (c .before .before .fits2 .result) (c .before .if1 .left)

@@ -9,7 +9,7 @@ none-requires c κs = search needs
 returns : tie.Need-returns
 returns c =
     λ i. record {
-      fault = record { number = c .before .args .number; place = c .before .args .place };
+      refusal = record { number = c .before .args .number; place = c .before .args .place };
       table = c .before .args .table;
       items = 0;
       bytes = 0;

@@ -7,7 +7,7 @@ use Prim.Native.Nat.{ℕ}
 use native.Mathlib.Omega.{arith}
 use lib.ListN.{length, replicate}
 use borrow.Author.Tests.{not-true, not-false}
-use Rattle.table.specs.Fitting.{Words}
+use Rattle.plan_table.specs.Fitting.{Words}
 use Rattle.run.proofs.CallLaws.{refused-post, ill-formed, refuses-by, accepted-by, eval-asks, run-stops, run-post, put-asks, few}
 
 size : (c : tie.Start) → Words (c .args .t1 .rows) (c .args .t1 .marks)

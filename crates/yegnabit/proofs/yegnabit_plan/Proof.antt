@@ -1,9 +1,9 @@
 -- `yegnabit_plan` answers and leaves what reading and writing back owe, by its two ways out.
 use Rattle.yegnabit.proofs.FittingLaws.{bytes-known, read-fits}
 use Rattle.yegnabit.proofs.CallLaws.{area-short, area-fits}
-use Rattle.codes.specs.Codes.{codeOf, finishedValues, finishedOut}
-use Rattle.table.specs.Words.{fits}
-use Rattle.table.specs.declared.TableResult.{TableResult}
+use Rattle.c_codes.specs.Codes.{codeOf, finishedValues, finishedOut}
+use Rattle.plan_table.specs.Words.{fits}
+use Rattle.plan_table.specs.declared.TableResult.{TableResult}
 use mathlib.Core.Path.{_∙_, ap}
 use native.Mathlib.Omega.{arith}
 use borrow.Author.Needs.{needs}

@@ -1,8 +1,8 @@
 -- `yegnabit_run` answers and leaves what `runCalled` says, by its three ways out: an area too short, the plan refused, the run over.
 use mathlib.Core.Path.{_∙_, ap}
 use Rattle.yegnabit.proofs.FittingLaws.{bytes-known, read-fits}
-use Rattle.table.specs.Words.{fits}
-use Rattle.table.specs.declared.TableResult.{TableResult}
+use Rattle.plan_table.specs.Words.{fits}
+use Rattle.plan_table.specs.declared.TableResult.{TableResult}
 use Rattle.run.proofs.Promised.{runsOn}
 use Rattle.run.specs.declared.RunResult.{RunResult}
 use borrow.Author.Needs.{needs}

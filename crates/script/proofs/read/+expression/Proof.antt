@@ -3,9 +3,11 @@
 use mathlib.Core.Path.{_≡_, ap}
 use mathlib.Core.List.{List}
 use Prim.Native.Nat.{ℕ, _+_, _-_, _≤_, _<_}
-use lib.ListN.{length}
+use lib.ListN.{length, getD}
 use native.Mathlib.Omega.{arith}
 use borrow.Author.Needs.{needs}
+use Rattle.model.proofs.KindLaws.{size-most}
+use Rattle.script_records.proofs.KindLaws.{body-of, operands-of}
 use Rattle.script.specs.Reading.{ExpressionPre, endBy}
 use Rattle.script.proofs.ExpressionLaws.{record-refused, Headed, headed, record-fits, record-room, ends-none}
 use Rattle.script.proofs.ExpressionLaws.{FirstRead, first-read, first-refused, ends-first, first-within}
@@ -15,10 +17,9 @@ use borrow.Fn.PlainCycle.{Measures, is, falls, and}
 use Rattle.script.proofs.read.expression.Reads as expression
 use Rattle.script.proofs.read.expression.Kinds as expression-kinds
 use Rattle.script.proofs.read.+expression.Lts-expression as expression-lts
-use Rattle.records.proofs.kinds.arity.Reads as arity-reads
-use Rattle.records.proofs.kinds.body_size.Reads as body-size-reads
+use Rattle.script_records.proofs.kinds.kind_of.Reads as kind-of-reads
 use Rattle.script.proofs.read.head.Reads as head-reads
-use Rattle.records.proofs.kinds.inner.Reads as inner-reads
+use Rattle.script_records.proofs.kinds.inner.Reads as inner-reads
 use Rattle.script.proofs.read.+expression.{statement}
 use Rattle.script.proofs.read.+expression.Tie.{close}
 
@@ -37,10 +38,8 @@ abbrev expression-claims : ℕ → expression-lts.Claims
 expression-claims t = (
   head-reads.Asked,
   head-reads.Learnt,
-  arity-reads.Asked,
-  arity-reads.Learnt,
-  body-size-reads.Asked,
-  body-size-reads.Learnt,
+  kind-of-reads.Asked,
+  kind-of-reads.Learnt,
   expression-below t,
   expression.Post,
   inner-reads.Asked,
@@ -66,8 +65,8 @@ first-at t c =
     let c4 = c .before .before .before .before in
     let c7 = c4 .before .before .before in
     let a = c7 .before .before .before .before .before .args in
-    first-read (headed-at t c7) (omega (arith, c4 .before .arity .ensures .0, c .before .before .before .if2 .left))
-    (ap (λ (s : ℕ). a .at + (1 + s)) (c4 .body-size .ensures .0)) (c .expression .ensures)
+    first-read (headed-at t c7) (omega (arith, ap operands-of (c4 .before .kind-of .ensures), c .before .before .before .if2 .left))
+    (ap (λ (s : ℕ). a .at + (1 + s)) (ap body-of (c4 .before .kind-of .ensures))) (c .expression .ensures)
 
 -- the second operand was read
 second-at : (t : ℕ) (c : expression-lts.After-expression2 (expression-claims t) (expression-at t) expression.Post) →
@@ -79,7 +78,7 @@ second-at : (t : ℕ) (c : expression-lts.After-expression2 (expression-claims t
 second-at t c =
     let c5 = c .before .before .before .before .before in
     let c7 = c5 .before .before in
-    let a = c7 .before .before .before .before .before .arity .ensures .0 in
+    let a = ap operands-of (c7 .before .before .before .before .before .kind-of .ensures) in
     second-read (first-at t c7) (search (c5 .before .if3 .left, needs))
     (omega (arith, a, c7 .before .before .before .if2 .left, c5 .if4 .left)) (c .before .before .before .inner .ensures)
     (c .expression2 .ensures)
@@ -103,17 +102,17 @@ expression-shared-slice-read-kind : (t : ℕ) →
     expression-lts.Need-shared-slice-read-kind (expression-claims t) (expression-at t) expression.Post
 expression-shared-slice-read-kind t c = omega (arith, record-fits (headed-at t (c .before)) .whole)
 
-expression-arity-requires : (t : ℕ) → expression-lts.Need-arity-requires (expression-claims t) (expression-at t) expression.Post
-expression-arity-requires t c κs = search needs
-
-expression-body-size-requires : (t : ℕ) → expression-lts.Need-body-size-requires (expression-claims t) (expression-at t) expression.Post
-expression-body-size-requires t c κs = search needs
+expression-kind-of-requires : (t : ℕ) → expression-lts.Need-kind-of-requires (expression-claims t) (expression-at t) expression.Post
+expression-kind-of-requires t c κs = search needs
 
 expression-add-first-at : (t : ℕ) → expression-lts.Need-add-first-at (expression-claims t) (expression-at t) expression.Post
-expression-add-first-at t c = omega (arith, c .body-size .ensures .1)
+expression-add-first-at t c =
+    let a = c .before .before .before .before .before .before .before .before .args in
+    omega (arith, ap body-of (c .before .kind-of .ensures), size-most (getD (a .bytes .now) (a .at) 0))
 
 expression-add-first-at-2 : (t : ℕ) → expression-lts.Need-add-first-at-2 (expression-claims t) (expression-at t) expression.Post
-expression-add-first-at-2 t c = omega (arith, record-fits (headed-at t (c .before .before .before)) .whole, c .body-size .ensures .0)
+expression-add-first-at-2 t c =
+    omega (arith, record-fits (headed-at t (c .before .before .before)) .whole, ap body-of (c .before .kind-of .ensures))
 
 expression-add-records : (t : ℕ) → expression-lts.Need-add-records (expression-claims t) (expression-at t) expression.Post
 expression-add-records t c = omega (arith, record-room (headed-at t (c .before .before .before)))
@@ -122,8 +121,8 @@ expression-returns-2 : (t : ℕ) → expression-lts.Need-returns-2 (expression-c
 expression-returns-2 t c =
     let c4 = c .before .before .before .before in
     let a = c4 .before .before .before .before .before .args in
-    ends-none (headed-at t c4) (ap (λ (s : ℕ). a .at + (1 + s)) (c .before .body-size .ensures .0))
-    (omega (arith, c .before .before .arity .ensures .0, c .if2 .taken))
+    ends-none (headed-at t c4) (ap (λ (s : ℕ). a .at + (1 + s)) (ap body-of (c .before .before .kind-of .ensures)))
+    (omega (arith, ap operands-of (c .before .before .kind-of .ensures), c .if2 .taken))
 
 expression-sub-expression : (t : ℕ) → expression-lts.Need-sub-expression (expression-claims t) (expression-at t) expression.Post
 expression-sub-expression t c = record-fits (headed-at t (c .before .before .before .before)) .depth
@@ -132,7 +131,7 @@ expression-expression-requires : (t : ℕ) → expression-lts.Need-expression-re
 expression-expression-requires t c κs =
     let c6 = c .before .before .before .before .before .before in
     let h = headed-at t c6 in
-    let s = c .before .before .before .body-size .ensures .0 in
+    let s = ap body-of (c .before .before .before .before .kind-of .ensures) in
     operand-asks h (c6 .before .before .before .before .before .pre .0) (omega (arith, record-fits h .whole, s))
 
 expression-returns-3 : (t : ℕ) → expression-lts.Need-returns-3 (expression-claims t) (expression-at t) expression.Post
@@ -141,7 +140,8 @@ expression-returns-3 t c = first-refused (first-at t (c .before)) (c .if3 .taken
 expression-returns-4 : (t : ℕ) → expression-lts.Need-returns-4 (expression-claims t) (expression-at t) expression.Post
 expression-returns-4 t c =
     let c2 = c .before .before in
-    ends-first (first-at t c2) (omega (arith, c2 .before .before .before .before .before .arity .ensures .0, c .if4 .taken))
+    ends-first (first-at t c2)
+    (omega (arith, ap operands-of (c2 .before .before .before .before .before .kind-of .ensures), c .if4 .taken))
 
 expression-sub-expression-2 : (t : ℕ) → expression-lts.Need-sub-expression-2 (expression-claims t) (expression-at t) expression.Post
 expression-sub-expression-2 t c = record-fits (first-at t (c .before .before .before) .head) .depth
@@ -166,7 +166,7 @@ expression-returns-6 : (t : ℕ) → expression-lts.Need-returns-6 (expression-c
 expression-returns-6 t c =
     let c2 = c .before .before in
     let c14 = c2 .before .before .before .before .before .before .before .before .before .before .before .before in
-    ends-second (second-at t c2) (omega (arith, c14 .arity .ensures .0, c .if6 .taken))
+    ends-second (second-at t c2) (omega (arith, ap operands-of (c14 .kind-of .ensures), c .if6 .taken))
 
 expression-sub-expression-3 : (t : ℕ) → expression-lts.Need-sub-expression-3 (expression-claims t) (expression-at t) expression.Post
 expression-sub-expression-3 t c = record-fits (second-at t (c .before .before) .first .head) .depth
@@ -188,7 +188,7 @@ expression-returns-7 t c =
     let c5 = c4 .before in
     let c10 = c5 .before .before .before .before .before in
     let c15 = c10 .before .before .before .before .before in
-    let a = c15 .before .before .arity .ensures .0 in
+    let a = ap operands-of (c15 .before .before .kind-of .ensures) in
     ends-third (second-at t c5) (search (c4 .if5 .left, needs)) (omega (arith, a, c15 .if2 .left, c10 .if4 .left, c3 .if6 .left))
     (c .expression3 .ensures)
 
@@ -202,8 +202,7 @@ pub +expression-spec : {M : Type 1} → statement M
     (expression-head-requires t)
     (expression-returns t)
     (expression-shared-slice-read-kind t)
-    (expression-arity-requires t)
-    (expression-body-size-requires t)
+    (expression-kind-of-requires t)
     (expression-add-first-at t)
     (expression-add-first-at-2 t)
     (expression-add-records t)

@@ -1,6 +1,7 @@
 -- `read::body_fits` meets its contract: each answer cites one law of HeadLaws.
 use native.Mathlib.Omega.{arith}
 use borrow.Author.Needs.{needs}
+use Rattle.model.specs.Script.{scriptKinds}
 use Rattle.script.proofs.HeadLaws.{body-whole, body-document, body-variable, body-axis}
 use Rattle.script.proofs.HeadLaws.{body-step, body-element, body-pick, body-none}
 use Rattle.script.proofs.read.body_fits.Statement.{statement}
@@ -10,6 +11,7 @@ shared-slice-read-kind : tie.Need-shared-slice-read-kind
 shared-slice-read-kind c = omega arith
 
 shared-slice-read-byte : tie.Need-shared-slice-read-byte
+unfolding scriptKinds
 shared-slice-read-byte c =
     let c4 = c .before .before .before .before in
     body-whole (c4 .pre) (c .before .if1 .taken) 1 (omega arith)
@@ -21,6 +23,7 @@ returns : tie.Need-returns
 returns c = body-document (c .before .before .if1 .taken) (c .byte .ensures .0)
 
 shared-slice-read-byte-2 : tie.Need-shared-slice-read-byte-2
+unfolding scriptKinds
 shared-slice-read-byte-2 c =
     let c5 = c .before .before .before .before .before in
     body-whole (c5 .pre) (c .before .if2 .taken) 1 (omega arith)
@@ -32,6 +35,7 @@ returns-2 : tie.Need-returns-2
 returns-2 c = body-variable (c .before .before .if2 .taken) (c .byte2 .ensures .0)
 
 shared-slice-read-if4 : tie.Need-shared-slice-read-if4
+unfolding scriptKinds
 shared-slice-read-if4 c =
     let c6 = c .before .before .before .before .before .before in
     body-whole (c6 .pre) (c .before .if3 .taken) 1 (omega arith)
@@ -40,12 +44,14 @@ returns-3 : tie.Need-returns-3
 returns-3 c = body-axis (c .before .before .if3 .taken) (c .if4 .taken)
 
 shared-slice-read-test-fits : tie.Need-shared-slice-read-test-fits
+unfolding scriptKinds
 shared-slice-read-test-fits c =
     let c3 = c .before .before .before in
     let c8 = c3 .before .before .before .before .before in
     body-whole (c8 .pre) (c3 .if3 .taken) 2 (omega arith)
 
 shared-slice-read-name : tie.Need-shared-slice-read-name
+unfolding scriptKinds
 shared-slice-read-name c =
     let c4 = c .before .before .before .before in
     let c9 = c4 .before .before .before .before .before in
@@ -65,6 +71,7 @@ returns-4 c =
     body-step (c6 .if3 .taken) (omega arith) (rw (c .before .name .ensures) at (c .test-fits .ensures))
 
 shared-slice-read-result : tie.Need-shared-slice-read-result
+unfolding scriptKinds
 shared-slice-read-result c =
     let c7 = c .before .before .before .before .before .before .before in
     body-whole (c7 .pre) (c .before .if5 .taken) 1 (omega arith)
@@ -73,6 +80,7 @@ returns-5 : tie.Need-returns-5
 returns-5 c = body-element (c .before .if5 .taken) (omega (arith, c .shared-slice-known8 .given 1))
 
 shared-slice-read-result-2 : tie.Need-shared-slice-read-result-2
+unfolding scriptKinds
 shared-slice-read-result-2 c =
     let c8 = c .before .before .before .before .before .before .before .before in
     body-whole (c8 .pre) (c .before .if6 .taken) 1 (omega arith)

@@ -1,3 +1,0 @@
-pub mod AreaLaws
-pub mod Lending
-pub mod Raising

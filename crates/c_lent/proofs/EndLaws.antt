@@ -1,0 +1,41 @@
+-- The end of a run by its two ways out: refused, or its plan written. And what it is for the five areas to be long enough.
+use mathlib.Core.Path.{_≡_, ap, _∙_}
+use mathlib.Core.Bool.{true, false, _&&_}
+use mathlib.Core.List.{List}
+use Prim.Native.Nat.{ℕ, _≤_}
+use lib.Dec.{eqb, leb}
+use borrow.Author.Tests.{eq-eqb, ne-eqb, leb-true}
+use Rattle.plan_writer.specs.Writing.{planWritten, writtenOut}
+use Rattle.plan_table.specs.declared.Written.{Written}
+use Rattle.run.specs.declared.RunResult.{RunResult}
+use Rattle.c_codes.specs.Codes.{codeOf}
+use Rattle.model.specs.Refusal.{values}
+use Rattle.c_lent.specs.Done.{outNeed, doneNeed, lentFit, doneOver, endValues, endOut, endDone}
+use Rattle.model.specs.Call.{lengthsFit}
+use Rattle.model.proofs.TestLaws.{and-parts}
+
+-- the answer and both areas of a run
+abbrev Ends : RunResult → (out done : List ℕ) → (code : ℕ) → (out′ done′ : List ℕ) → Type 0
+Ends r o d c o′ d′ = (c ≡ codeOf (endValues r o)) × ((o′ ≡ endOut r o) × (d′ ≡ endDone r o d))
+
+module _ (r : RunResult) (o d : List ℕ) where
+  pub end-refused : (c : ℕ) (d′ : List ℕ) → (r .refusal .number ≡ 0 → ⊥) →
+      c ≡ codeOf (values (r .refusal .number) 2 (r .refusal .place)) → d′ ≡ doneOver 0 0 0 0 0 0 d → Ends r o d c o d′
+  end-refused c d′ z e f = let k : eqb (r .refusal .number) 0 ≡ false = ne-eqb (r .refusal .number) 0 z in (e ∙ rw k, (rw k, f ∙ rw k))
+
+  pub end-written : (c : ℕ) (w : Written) (o′ d′ : List ℕ) → r .refusal .number ≡ 0 → w ≡ planWritten (r .table) o →
+      o′ ≡ writtenOut (r .table) o → c ≡ codeOf (values (w .refusal .number) 0 0) →
+      d′ ≡ doneOver (r .items) (r .tally .made) (r .tally .cut) (r .tally .records) (r .bytes) (w .bytes) d → Ends r o d c o′ d′
+  end-written c w o′ d′ z e f g h =
+      let k : eqb (r .refusal .number) 0 ≡ true = eq-eqb (r .refusal .number) 0 z in
+      (g ∙ ap (λ (t : Written). codeOf (values (t .refusal .number) 0 0)) e ∙ rw k, (f ∙ rw k, h ∙ ap told e ∙ rw k))
+    where
+      told : Written → List ℕ
+      told t = doneOver (r .items) (r .tally .made) (r .tally .cut) (r .tally .records) (r .bytes) (t .bytes) d
+
+-- NONE IS TOO SHORT: the run's three fit, and each of the others has its need
+pub long-enough : (a h w o d : ℕ) → lentFit a h w o d ≡ true → (lengthsFit a h w ≡ true) × (outNeed ≤ o) × (doneNeed ≤ d)
+long-enough a h w o d e =
+    let k = and-parts (lengthsFit a h w && leb outNeed o) (leb doneNeed d) e in
+    let l = and-parts (lengthsFit a h w) (leb outNeed o) (k .0) in
+    (l .0, leb-true outNeed o (l .1), leb-true doneNeed d (k .1))

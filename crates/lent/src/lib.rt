@@ -1,8 +1,0 @@
-// The areas lent to the C calls.
-use table::Table;
-use table::stored;
-
-pub mod done;
-
-// The bytes that out needs: a record for each row and mark of the longest plan.
-pub const OUT: usize = stored::SIZE * (Table::ROWS + Table::DOCUMENTS);

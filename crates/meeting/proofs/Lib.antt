@@ -1,4 +1,0 @@
-pub mod CellLaws
-pub mod MirrorLaws
-pub mod BitLaws
-pub mod PairLaws

@@ -1,0 +1,11 @@
+pub mod KindLaws
+pub mod Kept
+pub mod ScriptLaws
+pub mod RecordLaws
+pub mod RunLaws
+pub mod BackLaws
+pub mod PathLaws
+pub mod SearchLaws
+pub mod MeetingLaws
+pub mod Promised
+pub mod EntryLaws

@@ -1,0 +1,110 @@
+// Two scripts run one after the other.
+ghost use mathlib.Core.Path.{_≡_};
+ghost use lib.ListN.{length};
+ghost use Rattle.model.specs.Limits.{answerNeed, historyNeed, workNeed};
+ghost use Rattle.pair_orders.specs.Orders.{ending, order, swap};
+use plan_table::Table;
+
+// How a run ended: the number of its refusal, or 0; the items of its answer; the table after it.
+struct Ending {
+    number: u8,
+    items: usize,
+    table: Table,
+}
+
+// How an order ended: the script refused, 1 or 2, and the number; or the items of the two answers and the rows at the end.
+pub enum Order {
+    Stopped {
+        script: u8,
+        number: u8,
+    },
+    Ended {
+        first: usize,
+        second: usize,
+        rows: usize,
+    },
+}
+
+// The areas of a run, of the lengths that it needs.
+fn answer_area() -> [u16; run::ANSWER]
+    ensures { λ r. ⌜ length r ≡ answerNeed ⌝ }
+{
+    [0; run::ANSWER]
+}
+
+fn history_area() -> [u8; run::HISTORY]
+    ensures { λ r. ⌜ length r ≡ historyNeed ⌝ }
+{
+    [0; run::HISTORY]
+}
+
+fn work_area() -> [u16; run::WORK]
+    ensures { λ r. ⌜ length r ≡ workNeed ⌝ }
+{
+    [0; run::WORK]
+}
+
+// Runs a script in areas of its own.
+fn run_alone(table: Table, script: &[u8]) -> Ending
+    ensures { λ r. ⌜ r ≡ ending table (now (script .entry)) ⌝ }
+{
+    let mut answer = answer_area();
+    let mut history = history_area();
+    let mut work = work_area();
+    let end = run::run(table, script, &mut answer, &mut history, &mut work);
+    let after = end.table;
+    Ending {
+        number: end.refusal.number,
+        items: end.items,
+        table: after,
+    }
+}
+
+// Runs two scripts, the second on the table as the first left it; after a refusal no script runs.
+pub fn in_order(table: Table, leads: &[u8], follows: &[u8]) -> Order
+    ensures { λ r. ⌜ r ≡ order table (now (leads .entry)) (now (follows .entry)) ⌝ }
+{
+    let one = run_alone(table, leads);
+    if one.number != 0 {
+        return Order::Stopped {
+            script: 1,
+            number: one.number,
+        };
+    }
+    let between = one.table;
+    let two = run_alone(between, follows);
+    if two.number != 0 {
+        return Order::Stopped {
+            script: 2,
+            number: two.number,
+        };
+    }
+    Order::Ended {
+        first: one.items,
+        second: two.items,
+        rows: two.table.count,
+    }
+}
+
+// An order whose leading script is the second: each script under its own number.
+pub fn swapped(order: Order) -> Order
+    ensures { λ r. ⌜ r ≡ swap order ⌝ }
+{
+    match order {
+        Order::Stopped { script, number } => {
+            if script == 1 {
+                return Order::Stopped { script: 2, number };
+            }
+            Order::Stopped { script: 1, number }
+        }
+        Order::Ended {
+            first,
+            second,
+            rows,
+        } => Order::Ended {
+            first: second,
+            second: first,
+            rows,
+        },
+    }
+}

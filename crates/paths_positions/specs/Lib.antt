@@ -1,0 +1,6 @@
+pub mod Steps
+pub mod Positions
+pub mod Sources
+pub mod Filled
+pub mod Answer
+pub mod Words

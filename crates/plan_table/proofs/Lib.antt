@@ -1,0 +1,7 @@
+pub mod WordLaws
+pub mod DecodeLaws
+pub mod FitCheckLaws
+pub mod FittedLaws
+pub mod EncodeLaws
+pub mod FlagLaws
+pub mod SizeLaws

@@ -1,0 +1,5 @@
+pub mod Words
+pub mod Results
+pub mod StoredKinds
+pub mod Fitting
+pub mod Flags

@@ -1,0 +1,25 @@
+-- Refusals and results of calls, from the model's.
+use Prim.Native.Nat.{ℕ}
+use Rattle.model.specs.Refusal as refusal
+use Rattle.model.specs.Table as model
+use Rattle.plan_table.specs.Words.{encode}
+use Rattle.plan_table.specs.declared.Refusal.{Refusal}
+use Rattle.plan_table.specs.declared.Table.{Table}
+use Rattle.plan_table.specs.declared.TableResult.{TableResult}
+use Rattle.plan_table.specs.declared.Written.{Written}
+
+-- a refusal as a call answers it
+abbrev pub refusalOf : refusal.Refusal → Refusal
+refusalOf x = record { number = x .number; place = x .place }
+
+-- a refusal or none, and the table given back
+abbrev pub withTable : refusal.Refusal → Table → TableResult
+withTable f t = record { refusal = refusalOf f; table = t }
+
+-- and one of the model's, in its words
+abbrev pub result : refusal.Refusal → model.Table → TableResult
+result f x = withTable f (encode x)
+
+-- writing: refused at place 0, or number 0 and the bytes written
+abbrev pub writtenBy : (number bytes : ℕ) → Written
+writtenBy n b = record { refusal = record { number = n; place = 0 }; bytes = b }

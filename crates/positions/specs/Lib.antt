@@ -1,3 +1,0 @@
-pub mod Positions
-pub mod Sources
-pub mod Words

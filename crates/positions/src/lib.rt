@@ -1,2 +1,0 @@
-// Positions: the paths of a script's expressions, numbered and packed into words.
-pub mod packed;

@@ -1,0 +1,2 @@
+// The areas lent to a run: cleared, and filled.
+pub mod area;

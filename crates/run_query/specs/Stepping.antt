@@ -1,0 +1,83 @@
+-- Contracts of a step's parts: flags at a row's number plus one.
+use mathlib.Core.Path.{_≡_}
+use mathlib.Core.Bool.{Bool, false, _&&_, _||_, not, cond}
+use mathlib.Core.List.{List, []}
+use mathlib.Core.Option.{some}
+use Prim.Native.Nat.{ℕ, zero, suc, _+_, _-_, _≤_, _<_}
+use lib.Dec.{eqb}
+use lib.ListN.{length, getD, set, replicate}
+use Rattle.model.specs.Limits.{maxLinks, maxRows}
+use Rattle.model.specs.Base.{any, among, bit}
+use Rattle.model.specs.Table as model
+use Rattle.model.specs.Step.{reaches, parentIs}
+use Rattle.plan_table.specs.Flags.{Within, Flags}
+use Rattle.plan_table.specs.Words.{decodeParts, linkIn}
+
+-- ITEMS flagged
+pub record FlagPre (fs v : List ℕ) : Type 0 where
+  pub clear : fs ≡ replicate maxLinks 0
+  pub low : Within v maxRows
+
+-- the flags are those of a value's rows
+abbrev pub Flagged : (value flags : List ℕ) → Type 0
+Flagged v fs = Flags (λ (k : ℕ). among k v) fs
+
+-- ONE ROW of a pass
+abbrev pub counted : (item reached : ℕ) → (deep : Bool) → Bool
+counted i r d = not (eqb i 0) || (d && not (eqb r 0))
+
+pub record OnePre (w j : ℕ) (fs rs : List ℕ) : Type 0 where
+  pub low : j < maxRows
+  pub link : linkIn w < maxLinks
+  pub flags : length fs ≡ maxLinks
+  pub reached : length rs ≡ maxLinks
+
+-- a row on the way down: reached where its parent counts
+abbrev pub descended : (word row : ℕ) → (deep : Bool) → (flags reached : List ℕ) → List ℕ
+descended w j d fs rs = cond (counted (getD fs (linkIn w) 0) (getD rs (linkIn w) 0) d) (set rs (j + 1) 1) rs
+
+-- a row on the way up: where it counts, its parent is reached
+abbrev pub climbed : (word row : ℕ) → (deep : Bool) → (flags reached : List ℕ) → List ℕ
+climbed w j d fs rs = cond (counted (getD fs (j + 1) 0) (getD rs (j + 1) 0) d) (set rs (linkIn w) 1) rs
+
+-- A PASS over the rows below the count, whose parents are lower
+pub record RowsHeld (ws : List ℕ) (n : ℕ) : Type 0 where
+  pub rows : length ws ≡ maxRows
+  pub few : n ≤ maxRows
+  pub lower : (i p : ℕ) → model.rowAt (decodeParts n ws []) i .parent ≡ some p → p < i
+
+pub record PassPre (ws : List ℕ) (n : ℕ) (fs rs : List ℕ) : Type 0 where
+  pub held : RowsHeld ws n
+  pub flags : length fs ≡ maxLinks
+  pub clear : rs ≡ replicate maxLinks 0
+
+-- after it each row below the count has the flag of what the axis reaches from the items
+pub record Reached (ws : List ℕ) (n axis : ℕ) (fs rs : List ℕ) : Type 0 where
+  pub size : length rs ≡ maxLinks
+  pub flags : (ms v : List ℕ) → Flagged v fs → (j : ℕ) → j < n →
+      getD rs (j + 1) 0 ≡ bit (any (λ (i : ℕ). reaches (decodeParts n ws ms) axis i j) v)
+
+-- some row of those from i on
+unfoldable pub anyFrom : (ℕ → Bool) → (from : ℕ) → ℕ → Bool
+anyFrom f i zero = false
+anyFrom f i (suc n) = f i || anyFrom f (suc i) n
+
+-- reached by an axis that leads up, parent or ancestor; a child that counts on the way
+abbrev pub upTo : model.Table → (deep : Bool) → (v : List ℕ) → (row : ℕ) → Bool
+upTo x d v j = any (λ (i : ℕ). reaches x (2 + bit d) i j) v
+
+abbrev pub childCounts : model.Table → (deep : Bool) → (v : List ℕ) → (row child : ℕ) → Bool
+childCounts x d v j k = parentIs x j k && (among k v || (d && upTo x d v k))
+
+-- THE PASSES so far: down to a row, and up from one
+pub record Descending (ws : List ℕ) (n : ℕ) (d : Bool) (fs : List ℕ) (j : ℕ) (rs : List ℕ) : Type 0 where
+  pub size : length rs ≡ maxLinks
+  pub none : getD rs 0 0 ≡ 0
+  pub done : (ms v : List ℕ) → Flagged v fs → (k : ℕ) → k < j →
+      getD rs (k + 1) 0 ≡ bit (any (λ (i : ℕ). reaches (decodeParts n ws ms) (bit d) i k) v)
+  pub rest : (k : ℕ) → j ≤ k → k < maxRows → getD rs (k + 1) 0 ≡ 0
+
+pub record Climbing (ws : List ℕ) (n : ℕ) (d : Bool) (fs : List ℕ) (t : ℕ) (rs : List ℕ) : Type 0 where
+  pub size : length rs ≡ maxLinks
+  pub flags : (ms v : List ℕ) → Flagged v fs → (j : ℕ) → j < maxRows →
+      getD rs (j + 1) 0 ≡ bit (anyFrom (childCounts (decodeParts n ws ms) d v j) t (n - t))

@@ -1,0 +1,225 @@
+// Undo: a history's form front to back, then its records back to front.
+ghost use mathlib.Core.Path.{_≡_};
+ghost use Prim.Native.Nat.{_<_, _≤_};
+ghost use lib.Dec.{eqb};
+ghost use lib.ListN.{length};
+ghost use Rattle.model.specs.History.{madeLeafKind, historySize};
+ghost use Rattle.model.specs.Limits.{maxHistory};
+ghost use Rattle.model.specs.Stored.{parentIn, wordAt};
+ghost use Rattle.model.specs.Undo.{sameBool, sameParent, madeFits, cutFits};
+ghost use Rattle.plan_table.specs.Words.{kindIn, leafWord, ofLink, decodeParts};
+ghost use Rattle.run_undo.specs.Undoing.{FormPost, PlacesPost, FitPre, rowMade, BackPre, BackPost, AllPre, AllPost};
+use plan_table::End;
+use plan_table::Link;
+use plan_table::Refusal;
+use plan_table::RowNumber;
+use plan_table::Table;
+use plan_table::fit;
+use plan_table::marks;
+use plan_table::number;
+use plan_table::words;
+use run_updates::history;
+
+// The bytes of a record of this kind; 0 for a byte that is no kind.
+fn size(kind: u8) -> usize
+    ensures { λ r. ⌜ r ≡ historySize kind ⌝ }
+{
+    if kind == history::ELEMENT {
+        return history::MADE_SIZE;
+    }
+    if kind == history::LEAF {
+        return history::MADE_SIZE;
+    }
+    if kind == history::CUT {
+        return history::CUT_SIZE;
+    }
+    0
+}
+
+// The refusal of the record at the front of s, past so many records, or 0: 1, 5, 2, 4.
+fn form_refusal(s: &[u8], records: usize) -> u8
+    requires { ⌜ 0 < length (now s) ⌝ }
+    ensures { λ r. ⌜ FormPost (now (s .entry)) records r ⌝ }
+{
+    let kind = s[0];
+    let size = size(kind);
+    if size == 0 {
+        return Refusal::KIND;
+    }
+    if Table::HISTORY_RECORDS <= records {
+        return Refusal::SIZE;
+    }
+    if s.len() < size {
+        return Refusal::SHORT;
+    }
+    if kind == history::ELEMENT {
+        if s[3] == 0 {
+            return Refusal::FIELD;
+        }
+    }
+    0
+}
+
+// The form of the whole history; the places of its records.
+pub fn form(bytes: &[u8], places: &mut [u16]) -> End
+    requires { ⌜ length (now places) ≡ maxHistory ⌝ }
+    ensures { λ r. ⌜ PlacesPost (now (bytes .entry)) (now (places .exit)) r ⌝ }
+{
+    let mut at = 0;
+    let mut records = 0;
+    while at < bytes.len() {
+        let number = form_refusal(&bytes[at..], records);
+        if number != 0 {
+            return End {
+                number,
+                place: at,
+                count: records,
+            };
+        }
+        places[records] = at as u16;
+        records += 1;
+        at += size(bytes[at]);
+    }
+    End {
+        number: 0,
+        place: 0,
+        count: records,
+    }
+}
+
+// A row's word and the kind of a record of a row made say the same.
+fn same_kind(w: u32, kind: u8) -> bool
+    ensures { λ r. ⌜ r ≡ sameBool (eqb (kindIn w) leafWord) (eqb kind madeLeafKind) ⌝ }
+{
+    if words::kind(w) == words::LEAF {
+        return kind == history::LEAF;
+    }
+    kind != history::LEAF
+}
+
+// A row's link and the parent in the record s of a row made say the same.
+fn same_parent(link: Link, s: &[u8]) -> bool
+    requires { ⌜ 6 ≤ length (now s) ⌝ }
+    ensures { λ r. ⌜ r ≡ sameParent (ofLink (link .0)) (parentIn (wordAt (now (s .entry)) 4)) ⌝ }
+{
+    let number = number::number_at(s, 4);
+    if number == number::NONE {
+        return link.0 == 0;
+    }
+    link.0 == number + 1
+}
+
+// The row made by the record s is the last, unmarked, and equal to it.
+fn made_fits(rows: &[u32], marks: &[u16], count: usize, s: &[u8]) -> bool
+    requires { ⌜ FitPre (now rows) count (now s) 6 ⌝ }
+    ensures { λ r. ⌜ r ≡ madeFits (decodeParts count (now (rows .entry)) (now (marks .entry))) (wordAt (now (s .entry)) 1)
+        (rowMade (now (s .entry))) ⌝ }
+{
+    let row = number::number_at(s, 1);
+    if row + 1 != count {
+        return false;
+    }
+    if marks::is_marked(marks, RowNumber(row)) {
+        return false;
+    }
+    let w = rows[row];
+    if !same_kind(w, s[0]) {
+        return false;
+    }
+    if words::tag(w) != number::wide(s[3]) {
+        return false;
+    }
+    same_parent(words::link(w), s)
+}
+
+// The row cut by the record s has no parent and no mark, and its old parent is a lower element.
+fn cut_fits(rows: &[u32], marks: &[u16], count: usize, s: &[u8]) -> bool
+    requires { ⌜ FitPre (now rows) count (now s) 5 ⌝ }
+    ensures { λ r. ⌜ r ≡ cutFits (decodeParts count (now (rows .entry)) (now (marks .entry))) (wordAt (now (s .entry)) 1)
+        (wordAt (now (s .entry)) 3) ⌝ }
+{
+    let row = number::number_at(s, 1);
+    if count <= row {
+        return false;
+    }
+    if words::link(rows[row]).0 != 0 {
+        return false;
+    }
+    if marks::is_marked(marks, RowNumber(row)) {
+        return false;
+    }
+    let parent = number::number_at(s, 3);
+    fit::is_lower_element(rows, RowNumber(row), RowNumber(parent))
+}
+
+// The record s undone: the link is back, or the last row is gone.
+fn undo_record(rows: &mut [u32], marks: &[u16], count: usize, s: &[u8]) -> End
+    requires { ⌜ BackPre (now rows) count (now s) ⌝ }
+    ensures { λ r. ⌜ BackPost (now (rows .entry)) (now (marks .entry)) count (now (s .entry)) (now (rows .exit)) r ⌝ }
+{
+    if s[0] == history::CUT {
+        if !cut_fits(rows, marks, count, s) {
+            return End {
+                number: Refusal::LINK,
+                place: 0,
+                count,
+            };
+        }
+        let row = number::number_at(s, 1);
+        let link = number::number_at(s, 3) + 1;
+        rows[row] = words::relinked(rows[row], Link(link));
+        return End {
+            number: 0,
+            place: 0,
+            count,
+        };
+    }
+    if !made_fits(rows, marks, count, s) {
+        return End {
+            number: Refusal::LINK,
+            place: 0,
+            count,
+        };
+    }
+    rows[count - 1] = 0;
+    End {
+        number: 0,
+        place: 0,
+        count: count - 1,
+    }
+}
+
+// Every record undone, the last first.
+pub fn undo_all(
+    rows: &mut [u32],
+    marks: &[u16],
+    count: usize,
+    bytes: &[u8],
+    places: &[u16],
+    records: usize,
+) -> End
+    requires { ⌜ AllPre (now rows) count (now bytes) (now places) records ⌝ }
+    ensures { λ r. ⌜ AllPost (now (rows .entry)) (now (marks .entry)) count (now (bytes .entry)) (now (places .entry)) records
+        (now (rows .exit)) r ⌝ }
+{
+    let mut left = count;
+    let mut k = records;
+    while 0 < k {
+        k -= 1;
+        let at = number::index(places[k]);
+        let step = undo_record(rows, marks, left, &bytes[at..]);
+        if step.number != 0 {
+            return End {
+                number: step.number,
+                place: at,
+                count: left,
+            };
+        }
+        left = step.count;
+    }
+    End {
+        number: 0,
+        place: 0,
+        count: left,
+    }
+}

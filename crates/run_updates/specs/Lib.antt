@@ -1,0 +1,3 @@
+pub mod Tallying
+pub mod State
+pub mod Updating

@@ -1,0 +1,52 @@
+-- Contracts of the updates of single rows.
+use mathlib.Core.Path.{_≡_}
+use mathlib.Core.Bool.{Bool, true, cond}
+use mathlib.Core.List.{List, [], _∷_, _++_}
+use Prim.Native.Nat.{ℕ, _≤_, _<_}
+use lib.Dec.{eqb}
+use Rattle.model.specs.Table.{tagFits, parentFits}
+use Rattle.model.specs.Stored.{wordBytes, parentBytes}
+use Rattle.model.specs.Run.{newRow, loose, cutAll}
+use Rattle.model.specs.History.{madeElementKind, madeLeafKind}
+use Rattle.plan_table.specs.Flags.{Within}
+use Rattle.plan_table.specs.Words.{ofLink, isRowWord, rowOf, decodeParts, kindIn, leafWord}
+use Rattle.run_updates.specs.State.{Held, Updated}
+use Rattle.run_updates.specs.declared.state.Progress.{Progress}
+
+-- RECORDS as bytes
+abbrev pub madeKind : (word : ℕ) → ℕ
+madeKind w = cond (eqb (kindIn w) leafWord) madeLeafKind madeElementKind
+
+abbrev pub sixBytes : (kind row tag link : ℕ) → List ℕ
+sixBytes k i t l = (k ∷ wordBytes i) ++ (t ∷ parentBytes (ofLink l))
+
+-- A NEW ROW that fits, in its word
+pub record NewPre (ws h : List ℕ) (p : Progress) (w : ℕ) : Type 0 where
+  pub held : Held ws h p
+  pub word : isRowWord w ≡ true
+  pub tag : tagFits (rowOf w) ≡ true
+  pub parent : parentFits (decodeParts (p .count) ws []) (p .count) (rowOf w .parent) ≡ true
+
+abbrev pub NewPost : (ws h : List ℕ) → (p : Progress) → (word : ℕ) → (ws′ h′ : List ℕ) → (r : Progress) → Type 0
+NewPost ws h p w ws′ h′ r = Updated (λ z s. newRow z (rowOf w) s) (p .count ∷ []) ws h p ws′ h′ r
+
+-- WITHOUT PARENT: an element with a name, or a leaf with a value
+pub record ElementPre (ws h : List ℕ) (p : Progress) (name : ℕ) : Type 0 where
+  pub held : Held ws h p
+  pub low : 1 ≤ name
+  pub high : name ≤ 255
+
+abbrev pub LoosePost : (ws h : List ℕ) → (p : Progress) → (isLeaf : Bool) → (tag : ℕ) → (ws′ h′ : List ℕ) → (r : Progress) → Type 0
+LoosePost ws h p b t ws′ h′ r = Updated (λ z s. newRow z (loose b t) s) (p .count ∷ []) ws h p ws′ h′ r
+
+-- DELETE: one row of the table, and a value
+pub record CutPre (ws h : List ℕ) (p : Progress) (i : ℕ) : Type 0 where
+  pub held : Held ws h p
+  pub row : i < p .count
+
+pub record DeletePre (ws h : List ℕ) (p : Progress) (v : List ℕ) : Type 0 where
+  pub held : Held ws h p
+  pub items : Within v (p .count)
+
+abbrev pub DeletePost : (ws h : List ℕ) → (p : Progress) → (items : List ℕ) → (ws′ h′ : List ℕ) → (r : Progress) → Type 0
+DeletePost ws h p v ws′ h′ r = Updated (λ z s. cutAll z v s) [] ws h p ws′ h′ r

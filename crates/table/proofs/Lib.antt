@@ -1,6 +1,0 @@
-pub mod WordLaws
-pub mod DecodeLaws
-pub mod FitCheckLaws
-pub mod FittedLaws
-pub mod EncodeLaws
-pub mod FlagLaws

@@ -1,4 +1,0 @@
-pub mod Words
-pub mod Results
-pub mod Fitting
-pub mod Flags

@@ -1,3 +1,0 @@
-pub mod StateLaws
-pub mod HistoryLaws
-pub mod UpdateLaws
