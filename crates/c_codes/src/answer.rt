@@ -1,7 +1,7 @@
 // The number that a C call answers, and the end of one that gives a table.
 ghost use mathlib.Core.Path.{_≡_};
 ghost use mathlib.Core.Bool.{true};
-ghost use Rattle.plan_table.specs.Words.{fits};
+ghost use Rattle.plan_table.specs.Packed.{fits};
 ghost use Rattle.model.specs.Refusal.{values};
 ghost use Rattle.c_codes.specs.Codes.{codeOf, lentValues, finishedValues, finishedOut};
 use plan_table::Refusal;

@@ -11,7 +11,7 @@ use Rattle.model.specs.Limits.{maxRows, documents}
 use Rattle.model.specs.Refusal.{Values, values}
 use Rattle.model.specs.Stored.{recordSize}
 use Rattle.plan_writer.specs.Writing.{planWritten}
-use Rattle.plan_table.specs.Words.{fits}
+use Rattle.plan_table.specs.Packed.{fits}
 use Rattle.run.specs.declared.RunResult.{RunResult}
 use Rattle.c_codes.specs.Codes.{valuesUnless, areaUnless, finishedOut}
 

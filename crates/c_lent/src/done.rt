@@ -47,9 +47,9 @@ pub fn clear(answer: &mut [u16], history: &mut [u8], work: &mut [u16])
     ensures { λ _. ⌜ now (history .exit) ≡ replicate (length (now (history .entry))) 0 ⌝ }
     ensures { λ _. ⌜ now (work .exit) ≡ replicate (length (now (work .entry))) 0 ⌝ }
 {
-    area::clear_words(answer);
+    area::clear_numbers(answer);
     area::clear_bytes(history);
-    area::clear_words(work);
+    area::clear_numbers(work);
 }
 
 // The run is over: refused, out stays and done is zero; else the plan as it then is stands in out, and done has its six numbers.

@@ -29,7 +29,7 @@ script-refused b f c e z g =
     let y : scriptRead b .number ≡ 0 → ⊥ = λ q. z (ap (λ (t : Refusal). t .number) e ∙ q) in
     g ∙ ap (λ (t : Refusal). codeOf (values (t .number) 2 (t .place))) e ∙ rw (ne-eqb (scriptRead b .number) 0 y)
 
--- a table given as raw words
+-- a table given as packed rows
 pub rows-not-given : (ws ms : List ℕ) → (length ws ≡ 512 → ⊥) → isGiven ws ms ≡ false
 rows-not-given ws ms z = rw (ne-eqb (length ws) 512 z)
 

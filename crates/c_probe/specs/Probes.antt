@@ -11,7 +11,7 @@ use Rattle.script.specs.Reading.{scriptRead}
 use Rattle.plan_table.specs.declared.TableResult.{TableResult}
 use Rattle.c_probe.specs.Raw.{isGiven, given}
 
--- A TABLE GIVEN as 512 row words and 8 marks, written: an ill-formed table is the plan's refusal
+-- A TABLE GIVEN as 512 packed rows and 8 marks, written: an ill-formed table is the plan's refusal
 abbrev pub writeValues : (count : ℕ) → (rows marks out : List ℕ) → Values
 writeValues n ws ms o =
     cond (isGiven ws ms)
@@ -35,7 +35,7 @@ sweptValues n ws ms =
     (values (sweptTable n ws ms .refusal .number) 1 0))
     lentValues
 
--- the words after it
+-- the packed rows after it
 abbrev pub rowsLeft : (count : ℕ) → (rows marks : List ℕ) → List ℕ
 rowsLeft n ws ms = cond (isGiven ws ms && eqb (sweptTable n ws ms .refusal .number) 0) (sweptTable n ws ms .table .rows) ws
 

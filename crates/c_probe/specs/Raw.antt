@@ -1,4 +1,4 @@
--- A table given as 512 row words and 8 marks.
+-- A table given as 512 packed rows and 8 marks.
 use mathlib.Core.Bool.{Bool, _&&_}
 use mathlib.Core.List.{List}
 use Prim.Native.Nat.{ℕ}
@@ -7,7 +7,7 @@ use lib.ListN.{length}
 use Rattle.model.specs.Limits.{maxRows, documents}
 use Rattle.plan_table.specs.declared.Table.{Table}
 
--- 512 words and 8 marks
+-- 512 packed rows and 8 marks
 abbrev pub isGiven : (rows marks : List ℕ) → Bool
 isGiven ws ms = eqb (length ws) maxRows && eqb (length ms) documents
 

@@ -12,7 +12,7 @@ use plan_table::Table;
 
 mod copy;
 
-// Writes a table given as 512 row words and 8 marks: the call of the library on any table, well formed or not.
+// Writes a table given as 512 packed rows and 8 marks: the call of the library on any table, well formed or not.
 #[no_mangle]
 pub extern "C" fn yegnabit_write_table(
     count: usize,
@@ -38,7 +38,7 @@ pub extern "C" fn yegnabit_write_table(
     answer::code(number, AREA, written.bytes)
 }
 
-// Sweeps a table given as 512 row words and 8 marks, in place.
+// Sweeps a table given as 512 packed rows and 8 marks, in place.
 #[no_mangle]
 pub extern "C" fn yegnabit_sweep_table(count: usize, rows: &mut [u32], marks: &mut [u16]) -> u64
     ensures { λ r. ⌜ r ≡ codeOf (sweptValues count (now (rows .entry)) (now (marks .entry))) ⌝ }

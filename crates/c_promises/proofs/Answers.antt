@@ -17,7 +17,7 @@ use Rattle.model.proofs.BoolLaws.{by-cases, eq-cases, cond-cases}
 use Rattle.model.proofs.RefusedByTable.{refusedByTable}
 use Rattle.model.proofs.TestLaws.{isIn-at, isIn-by}
 use Rattle.plan_table.specs.Results.{refusalOf}
-use Rattle.plan_table.specs.Words.{fits, decode}
+use Rattle.plan_table.specs.Packed.{fits, decode}
 use Rattle.plan_table.specs.declared.Refusal.{Refusal}
 use Rattle.plan_table.specs.declared.Table.{Table}
 use Rattle.plan_table.specs.declared.TableResult.{TableResult}
@@ -137,7 +137,7 @@ analysis-known b c = go (readScript b) (readScript c) refl refl
         let k = isIn-at 1 5 (f .number) (refusedByTable .1 c f g) in record { number = omega arith; which = omega arith }
     go (parsed x i n l) (parsed y j m k) e g = said (answer x y)
 
--- THE CALLS FOR TESTS: a table given as words is written, or swept
+-- THE CALLS FOR TESTS: a table given as packed rows is written, or swept
 write-known : (n : ℕ) (ws ms o : List ℕ) → Known (writeValues n ws ms o)
 write-known n ws ms o =
     cond-cases Known (isGiven ws ms)

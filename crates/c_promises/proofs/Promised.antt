@@ -23,7 +23,7 @@ use Rattle.model.proofs.StoredBack.{storedBack}
 use Rattle.model.proofs.SweepsWell.{sweepsWell}
 use Rattle.model.proofs.TestLaws.{isIn-some}
 use Rattle.model.proofs.UndoKeeps.{undoKeeps}
-use Rattle.plan_table.specs.Words.{encode, fits}
+use Rattle.plan_table.specs.Packed.{encode, fits}
 use Rattle.plan.specs.Calls as library
 use Rattle.plan_writer.specs.Writing.{planWritten, writtenOut}
 use Rattle.plan_table.specs.Results as results
@@ -48,7 +48,7 @@ use Rattle.model.specs.History.{historyBytes}
 use Rattle.c_lent.proofs.EndLaws.{long-enough}
 use Rattle.yegnabit.proofs.RunLaws.{called}
 
--- A PLAN READ is the table in its words; the call then answers n and leaves b
+-- A PLAN READ is the packed table; the call then answers n and leaves b
 module _ (p o : List ℕ) (x : model.Table) (read : readPlan p ≡ got x) (room : outNeed ≤ length o) where
   the-plan : library.planRead p ≡ results.result refusal.fine x
   the-plan = ap library.readBy read

@@ -24,7 +24,7 @@ use Rattle.c_lent.specs.Done.{outNeed, lentFit, doneOver}
 use Rattle.c_probe.specs.Probes.{writeValues, sweptValues, scriptValues}
 use Rattle.paths.specs.Analysis.{analysed, valuesOf}
 use Rattle.run.specs.Promise.{EitherRun}
-use Rattle.plan_table.specs.Words.{fits}
+use Rattle.plan_table.specs.Packed.{fits}
 use Rattle.plan_table.specs.declared.Table as declared
 
 -- READ AND WRITTEN BACK: the bytes that were read

@@ -11,7 +11,8 @@ use lib.ListN.{length, getD, take, drop, set}
 use borrow.Author.Tests.{leb-true, leb-false, eqb-true, eqb-false, ne-eqb}
 use Rattle.model.specs.Base.{maxByte, areBytes}
 use Rattle.model.specs.Table.{Row}
-use Rattle.model.specs.Stored.{IsWord, wordBytes, parentBytes, rowBytes, rowsBytes, markBytes, marksBytes, wordAt, parentIn, rowIn}
+use Rattle.model.specs.Stored.{IsStorable, numberBytes, parentBytes, rowBytes, rowsBytes, markBytes, marksBytes}
+use Rattle.model.specs.Stored.{numberAt, parentIn, rowIn}
 use Rattle.model.specs.Stored.{noParent, lastMarked, elementKind, leafKind, isStoredKind, isMark}
 use Rattle.model.proofs.BoolLaws.{and-left, and-right}
 use Rattle.model.proofs.KindLaws.{row-kind}
@@ -37,19 +38,19 @@ take-four (a ∷ c ∷ d ∷ []) l = absurd (omega arith)
 take-four (a ∷ c ∷ d ∷ e ∷ b) l = refl
 
 -- TWO-BYTE NUMBERS there and back
-pub word-back : (n : ℕ) → n % 256 + 256 * (n / 256) ≡ n
-word-back n = omega arith
+pub number-back : (n : ℕ) → n % 256 + 256 * (n / 256) ≡ n
+number-back n = omega arith
 
-pub wordBytes-back : (low high : ℕ) → low ≤ maxByte → high ≤ maxByte → wordBytes (low + 256 * high) ≡ low ∷ high ∷ []
-wordBytes-back a b h l =
+pub numberBytes-back : (low high : ℕ) → low ≤ maxByte → high ≤ maxByte → numberBytes (low + 256 * high) ≡ low ∷ high ∷ []
+numberBytes-back a b h l =
     let p : (a + 256 * b) % 256 ≡ a = omega arith in
     let q : (a + 256 * b) / 256 ≡ b = omega arith in
     cc
 
-pub parentIn-back : (p : Option ℕ) → IsWord p → (c : List ℕ) → parentIn (wordAt (parentBytes p ++ c) 0) ≡ p
+pub parentIn-back : (p : Option ℕ) → IsStorable p → (c : List ℕ) → parentIn (numberAt (parentBytes p ++ c) 0) ≡ p
 parentIn-back none h c = refl
 parentIn-back (some i) h c =
-    rw (word-back i, ne-eqb i noParent (λ (e : i ≡ noParent). omega (arith, h i refl)))
+    rw (number-back i, ne-eqb i noParent (λ (e : i ≡ noParent). omega (arith, h i refl)))
 
 parentBytes-back : (low high : ℕ) → low ≤ maxByte → high ≤ maxByte → parentBytes (parentIn (low + 256 * high)) ≡ low ∷ high ∷ []
 parentBytes-back a b h l = go (eqb (a + 256 * b) noParent) refl
@@ -60,16 +61,16 @@ parentBytes-back a b h l = go (eqb (a + 256 * b) noParent) refl
         let p : maxByte ≡ a = omega arith in
         let q : maxByte ≡ b = omega arith in
         rw e (cc)
-    go false e = rw e (wordBytes-back a b h l)
+    go false e = rw e (numberBytes-back a b h l)
 
 -- ROWS there and back
 pub length-parentBytes : (p : Option ℕ) → length (parentBytes p) ≡ 2
 length-parentBytes none = refl
 length-parentBytes (some i) = refl
 
-pub rowIn-back : (r : Row) → IsWord (r .parent) → (c : List ℕ) → rowIn (rowBytes r ++ c) ≡ r
+pub rowIn-back : (r : Row) → IsStorable (r .parent) → (c : List ℕ) → rowIn (rowBytes r ++ c) ≡ r
 rowIn-back r h c =
-    let p : parentIn (wordAt (parentBytes (r .parent) ++ c) 0) ≡ r .parent = parentIn-back (r .parent) h c in
+    let p : parentIn (numberAt (parentBytes (r .parent) ++ c) 0) ≡ r .parent = parentIn-back (r .parent) h c in
     λ i. record { isLeaf = kind (r .isLeaf) i; tag = r .tag; parent = p i }
   where
     kind : (t : Bool) → eqb (cond t leafKind elementKind) leafKind ≡ t
@@ -79,7 +80,7 @@ rowIn-back r h c =
 pub rowBytes-back : (b : List ℕ) → areBytes b ≡ true → 4 ≤ length b → isStoredKind (getD b 0 0) ≡ true → isMark b ≡ false →
     rowBytes (rowIn b) ≡ take 4 b
 rowBytes-back b h l q m =
-    let p : parentBytes (parentIn (wordAt b 2)) ≡ getD b 2 0 ∷ getD b 3 0 ∷ [] =
+    let p : parentBytes (parentIn (numberAt b 2)) ≡ getD b 2 0 ∷ getD b 3 0 ∷ [] =
     parentBytes-back (getD b 2 0) (getD b 3 0) (areBytes-at b h 2) (areBytes-at b h 3) in
     let k : cond (eqb (getD b 0 0) leafKind) leafKind elementKind ≡ getD b 0 0 = row-kind (getD b 0 0) q m (λ e. rw e) (λ e. rw e) in
     cc (take-four b l)

@@ -18,7 +18,7 @@ use Rattle.model.specs.History.{Form, madeForm, cutForm, noForm, history
 use Rattle.model.specs.Undo.{Placed, formed, formRefusalBy, formRefusal, withPlaced, formFrom}
 use Rattle.model.proofs.BoolLaws.{and-both, cond-cases}
 use Rattle.model.proofs.RefusalLaws.{isFine-unless, isFine-check}
-use Rattle.model.proofs.BytesLaws.{word-back, parentIn-back, length-parentBytes}
+use Rattle.model.proofs.BytesLaws.{number-back, parentIn-back, length-parentBytes}
 
 -- BY KIND: what holds of each form holds of the kind's, which is none if the byte is no kind
 pub form-cases : (P : Form → Type 0) (k : ℕ) → (k ≡ madeElementKind → P (madeForm false)) → (k ≡ madeLeafKind → P (madeForm true)) →
@@ -54,8 +54,8 @@ pub size-back : (r : Record) (c : List ℕ) → historySize (getD (recordBytes r
 size-back r c = ap (λ (f : Form). f .size) (formOf-back r c) ∙ sym (length-recordBytes r)
 
 entry-back : (r : Record) → IsInRange r → (c : List ℕ) → formOf r .entry (recordBytes r ++ c) ≡ r
-entry-back (made i r) (madeIn t p) c = ap₂ made (word-back i) (ap (withParent r) (parentIn-back (r .parent) p c))
-entry-back (cut i p) cutIn c = ap₂ cut (word-back i) (word-back p)
+entry-back (made i r) (madeIn t p) c = ap₂ made (number-back i) (ap (withParent r) (parentIn-back (r .parent) p c))
+entry-back (cut i p) cutIn c = ap₂ cut (number-back i) (number-back p)
 
 pub recordIn-back : (r : Record) → IsInRange r → (c : List ℕ) → recordIn (recordBytes r ++ c) ≡ r
 recordIn-back r f c = ap (λ (q : Form). q .entry (recordBytes r ++ c)) (formOf-back r c) ∙ entry-back r f c

@@ -11,7 +11,7 @@ use Rattle.model.specs.Base.{isIn}
 use Rattle.model.specs.Refusal.{Refusal, isFine, orElse, unless, kindAt, shortAt, fieldAt, sizeAt, linkAt}
 use Rattle.model.specs.Limits.{maxRows, maxHistory, documents}
 use Rattle.model.specs.Table.{Table, count, tagFits, empty}
-use Rattle.model.specs.Stored.{isStoredKind, storedSize, wordAt, rowIn, isMark, rowLinks, markLinks, recordRefusal}
+use Rattle.model.specs.Stored.{isStoredKind, storedSize, numberAt, rowIn, isMark, rowLinks, markLinks, recordRefusal}
 use Rattle.model.specs.History.{historyForm, historySize, recordIn}
 use Rattle.model.specs.Undo.{Placed, Formed, refused, formed, formRefusal, withPlaced, formFrom}
 use Rattle.model.specs.Undo.{undoFits, undone, refused, undoAll, backwards, undoFormed}
@@ -43,7 +43,7 @@ record-low x i b =
     (check-low (leb (storedSize (getD b 0 0)) (length b)) (shortAt i) _ (omega arith)
     (cond-cases Low (isMark b)
     (λ e. check-low (ltb (getD b 1 0) documents) (fieldAt i) _ (omega arith)
-    (unless-low (markLinks x (getD b 1 0) (wordAt b 2)) (linkAt i) (omega arith)))
+    (unless-low (markLinks x (getD b 1 0) (numberAt b 2)) (linkAt i) (omega arith)))
     (λ e. check-low (tagFits (rowIn b)) (fieldAt i) _ (omega arith) (unless-low (rowLinks x (rowIn b)) (linkAt i) (omega arith))))))
 
 form-low : (i n : ℕ) (b : List ℕ) → Low (formRefusal i n b)

@@ -17,13 +17,13 @@ use Rattle.model.specs.Refusal.{isFine}
 use Rattle.model.specs.Table.{Row, Table, table, empty, noRow, rowAt, count, withRow, withMark, isMarked, tagFits, parentFits}
 use Rattle.model.specs.Stored.{elementKind, leafKind, markKind, storedKinds, isStoredKind, recordSize, Read, got, stored}
 use Rattle.model.specs.Stored.{parentBytes, rowBytes, rowsBytes, markBytes, marksBytes}
-use Rattle.model.specs.Stored.{rowIn, wordAt, recordRefusal, recorded, readFrom, readPlan, IsWord}
+use Rattle.model.specs.Stored.{rowIn, numberAt, recordRefusal, recorded, readFrom, readPlan, IsStorable}
 use Rattle.model.specs.Promise.{StoredBack}
 use Rattle.model.proofs.BoolLaws.{and-both}
 use Rattle.model.proofs.TableLaws.{any-at, isElement-by, Well, isWell-at, isWell-by, well-empty}
 use Rattle.model.proofs.StoredLaws.{readFrom-end, readFrom-fine, readFrom-refused, readFrom-fuel, IsRowRecord, IsMarkRecord}
 use Rattle.model.proofs.StoredLaws.{record-cases, recorded-row, recorded-mark, row-fine, mark-fine, well-recorded}
-use Rattle.model.proofs.BytesLaws.{length-parentBytes, areBytes-at, areBytes-drop, word-back, take-four, wordBytes-back}
+use Rattle.model.proofs.BytesLaws.{length-parentBytes, areBytes-at, areBytes-drop, number-back, take-four, numberBytes-back}
 use Rattle.model.proofs.BytesLaws.{rowBytes-back, rowIn-back, rowsBytes-snoc, lastMarked-at, lastMarked-by, marksBytes-none}
 use Rattle.model.proofs.BytesLaws.{marksBytes-set}
 
@@ -36,16 +36,16 @@ stored-row x b h r =
     ap (λ (c : List ℕ). rowsBytes (x .rows) ++ c) (rowBytes-back b h (r .long) (r .kind) (r .row))))
 
 markBytes-back : (x : Table) (b : List ℕ) → areBytes b ≡ true → IsMarkRecord x b →
-    markBytes (0 + getD b 1 0) (some (wordAt b 2)) ≡ take recordSize b
+    markBytes (0 + getD b 1 0) (some (numberAt b 2)) ≡ take recordSize b
 markBytes-back x b h m =
-    let w = wordBytes-back (getD b 2 0) (getD b 3 0) (areBytes-at b h 2) (areBytes-at b h 3) in
+    let w = numberBytes-back (getD b 2 0) (getD b 3 0) (areBytes-at b h 2) (areBytes-at b h 3) in
     cc (w, zero-add (getD b 1 0), m .kind, take-four b (m .long))
 
 stored-mark : (x : Table) (b : List ℕ) → areBytes b ≡ true → Well x → IsMarkRecord x b →
-    stored (withMark x (getD b 1 0) (wordAt b 2)) ≡ stored x ++ take recordSize b
+    stored (withMark x (getD b 1 0) (numberAt b 2)) ≡ stored x ++ take recordSize b
 stored-mark x b h w m =
     ap (λ (c : List ℕ). rowsBytes (x .rows) ++ c)
-    (marksBytes-set 0 (x .marks) (getD b 1 0) (wordAt b 2) none-from (omega (arith, m .document, w .eight)) ∙
+    (marksBytes-set 0 (x .marks) (getD b 1 0) (numberAt b 2) none-from (omega (arith, m .document, w .eight)) ∙
     ap (λ (c : List ℕ). marksBytes 0 (x .marks) ++ c) (markBytes-back x b h m)) ∙
     sym (append-assoc (rowsBytes (x .rows)) (marksBytes 0 (x .marks)) (take recordSize b))
   where
@@ -125,13 +125,13 @@ module _ (x : Table) (w : Well x) (done rest : List Row) (r : Row) (e : done ++ 
       and-both _ _ (lt-ltb _ _ (k .0))
       (isElement-by (table done ms) j (k .0) (ap (λ (q : Row). q .isLeaf) (sym (done-row j (k .0))) ∙ k .1))
 
-  next-word : IsWord (r .parent)
-  next-word j p = omega (arith, w .tree .parents (length done) j (ap (λ (q : Row). q .parent) next-row ∙ p) .0, w .few, next-count)
+  next-storable : IsStorable (r .parent)
+  next-storable j p = omega (arith, w .tree .parents (length done) j (ap (λ (q : Row). q .parent) next-row ∙ p) .0, w .few, next-count)
 
   next-record : (ms : List (Option ℕ)) (c : List ℕ) → ((k : ℕ) → getD ms k none ≡ none) → IsRowRecord (table done ms) (rowBytes r ++ c)
   unfolding storedKinds
   next-record ms c n =
-      let q : r ≡ rowIn (rowBytes r ++ c) = sym (rowIn-back r next-word c) in
+      let q : r ≡ rowIn (rowBytes r ++ c) = sym (rowIn-back r next-storable c) in
       record {
         kind = kind (r .isLeaf);
         row = row (r .isLeaf);
@@ -157,7 +157,7 @@ module _ (x : Table) (w : Well x) (done rest : List Row) (r : Row) (e : done ++ 
       read-step (table done ms) i (rowBytes r) c (omega (arith, length-parentBytes (r .parent)))
       (row-fine (table done ms) i (rowBytes r ++ c) f) ∙
       ap (λ (y : Table). readAll y (i + recordSize) c)
-      (recorded-row (table done ms) (rowBytes r ++ c) f ∙ ap (λ (s : Row). withRow (table done ms) s) (rowIn-back r next-word c))
+      (recorded-row (table done ms) (rowBytes r ++ c) f ∙ ap (λ (s : Row). withRow (table done ms) s) (rowIn-back r next-storable c))
 
 read-rows : (x : Table) → Well x → (done rest : List Row) (ms : List (Option ℕ)) (i : ℕ) (c : List ℕ) → done ++ rest ≡ x .rows →
     ((k : ℕ) → getD ms k none ≡ none) →
@@ -218,8 +218,8 @@ module _ (x : Table) (w : Well x) (done rest : List (Option ℕ)) (j : ℕ) (e :
     long = omega arith;
     document = next-document;
     rises = lastMarked-by 0 _ (length done) (λ k l. none-past done (suc (length rest)) k (omega arith));
-    root = rw word-back (w .tree .roots (length done) j next-mark);
-    unmarked = rw word-back next-unmarked;
+    root = rw number-back (w .tree .roots (length done) j next-mark);
+    unmarked = rw number-back next-unmarked;
   }
 
   read-mark : (i : ℕ) (c : List ℕ) → readAll (markedSoFar x done (some j ∷ rest)) i (markBytes (length done) (some j) ++ c) ≡
@@ -229,7 +229,7 @@ module _ (x : Table) (w : Well x) (done rest : List (Option ℕ)) (j : ℕ) (e :
       let b : List ℕ = markBytes (length done) (some j) in
       read-step y i b c refl (mark-fine y i (b ++ c) (next-fine c)) ∙
       ap (λ (z : Table). readAll z (i + recordSize) c)
-      (recorded-mark y (b ++ c) (next-fine c) ∙ ap (λ (k : ℕ). withMark y (length done) k) (word-back j) ∙ ap (table (x .rows)) placed)
+      (recorded-mark y (b ++ c) (next-fine c) ∙ ap (λ (k : ℕ). withMark y (length done) k) (number-back j) ∙ ap (table (x .rows)) placed)
     where
       placed : set (done ++ none ∷ replicate (length rest) none) (length done) (some j) ≡
           (done ++ (some j ∷ [])) ++ replicate (length rest) none

@@ -12,7 +12,7 @@ use borrow.Author.Tests.{ltb-true, leb-true, eqb-true, eqb-false, not-true, lt-l
 use Rattle.model.specs.Limits.{maxRows, documents}
 use Rattle.model.specs.Refusal.{Refusal, isFine, unless, orElse, fieldAt, linkAt}
 use Rattle.model.specs.Table.{Table, rowAt, count, isElement, isMarked, hasParent, withRow, withMark, tagFits, parentFits, IsRoot}
-use Rattle.model.specs.Stored.{Read, refused, got, wordAt, rowIn, isMark, lastMarked, rowLinks, markLinks, recordRefusal, recorded}
+use Rattle.model.specs.Stored.{Read, refused, got, numberAt, rowIn, isMark, lastMarked, rowLinks, markLinks, recordRefusal, recorded}
 use Rattle.model.specs.Stored.{readFrom}
 use Rattle.model.specs.Stored.{markKind, storedKinds, isStoredKind, storedSize, recordSize}
 use Rattle.model.proofs.BoolLaws.{and-left, and-both, or-left, or-right}
@@ -100,15 +100,15 @@ pub record IsMarkRecord (x : Table) (b : List ℕ) : Type 0 where
   pub long : recordSize ≤ length b
   pub document : getD b 1 0 < documents
   pub rises : lastMarked 0 (x .marks) ≤ getD b 1 0
-  pub root : IsRoot x (wordAt b 2)
-  pub unmarked : isMarked x (wordAt b 2) ≡ false
+  pub root : IsRoot x (numberAt b 2)
+  pub unmarked : isMarked x (numberAt b 2) ≡ false
 
 -- the checks of one record, as one test
 abbrev pub rowFine : Table → List ℕ → Bool
 rowFine x b = tagFits (rowIn b) && rowLinks x (rowIn b)
 
 abbrev pub markFine : Table → List ℕ → Bool
-markFine x b = ltb (getD b 1 0) documents && markLinks x (getD b 1 0) (wordAt b 2)
+markFine x b = ltb (getD b 1 0) documents && markLinks x (getD b 1 0) (numberAt b 2)
 
 abbrev pub recordFine : Table → List ℕ → Bool
 recordFine x b =
@@ -125,7 +125,7 @@ isFine-record x i b =
     ap (λ (t : Bool). leb (storedSize (getD b 0 0)) (length b) && t) (go (isMark b))))
   where
     marks : Refusal
-    marks = orElse (unless (ltb (getD b 1 0) documents) (fieldAt i)) (unless (markLinks x (getD b 1 0) (wordAt b 2)) (linkAt i))
+    marks = orElse (unless (ltb (getD b 1 0) documents) (fieldAt i)) (unless (markLinks x (getD b 1 0) (numberAt b 2)) (linkAt i))
 
     rows : Refusal
     rows = orElse (unless (tagFits (rowIn b)) (fieldAt i)) (unless (rowLinks x (rowIn b)) (linkAt i))
@@ -133,7 +133,7 @@ isFine-record x i b =
     go : (t : Bool) → isFine (cond t marks rows) ≡ cond t (markFine x b) (rowFine x b)
     go true =
         isFine-check (ltb (getD b 1 0) documents) 3 i _ ∙
-        ap (λ (t : Bool). ltb (getD b 1 0) documents && t) (isFine-unless (markLinks x (getD b 1 0) (wordAt b 2)) 5 i)
+        ap (λ (t : Bool). ltb (getD b 1 0) documents && t) (isFine-unless (markLinks x (getD b 1 0) (numberAt b 2)) 5 i)
     go false =
         isFine-check (tagFits (rowIn b)) 3 i _ ∙
         ap (λ (t : Bool). tagFits (rowIn b) && t) (isFine-unless (rowLinks x (rowIn b)) 5 i)
@@ -161,7 +161,7 @@ mark-record x b m h =
     let l = and-parts (isMark b || ltb (count x) maxRows) _ (k .1) in
     let n = and-parts (leb (storedSize (getD b 0 0)) (length b)) _ (l .1) in
     let f = and-parts (ltb (getD b 1 0) documents) _ (rw m at (n .1)) in
-    let i : ℕ = wordAt b 2 in
+    let i : ℕ = numberAt b 2 in
     let g = and-four (leb (lastMarked 0 (x .marks)) (getD b 1 0)) (isElement x i) (not (hasParent (rowAt x i .parent))) _ (f .1) in
     let e = isElement-at x i (g .1) in
     record {
@@ -210,7 +210,7 @@ mark-fine x i b m =
 pub recorded-row : (x : Table) (b : List ℕ) → IsRowRecord x b → recorded x b ≡ withRow x (rowIn b)
 recorded-row x b r = rw (r .row)
 
-pub recorded-mark : (x : Table) (b : List ℕ) → IsMarkRecord x b → recorded x b ≡ withMark x (getD b 1 0) (wordAt b 2)
+pub recorded-mark : (x : Table) (b : List ℕ) → IsMarkRecord x b → recorded x b ≡ withMark x (getD b 1 0) (numberAt b 2)
 recorded-mark x b m = rw (isMark-mark x b m)
 
 pub well-recorded : (x : Table) (i : ℕ) (b : List ℕ) → Well x → isFine (recordRefusal x i b) ≡ true → Well (recorded x b)

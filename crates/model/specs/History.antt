@@ -8,7 +8,7 @@ use lib.Dec.{eqb}
 use lib.ListN.{getD}
 use Rattle.model.specs.Base.{All, bit}
 use Rattle.model.specs.Table.{Row, Table, linked, withRow, tagFits, isName}
-use Rattle.model.specs.Stored.{IsWord, wordBytes, wordAt, parentBytes, parentIn}
+use Rattle.model.specs.Stored.{IsStorable, numberBytes, numberAt, parentBytes, parentIn}
 
 -- A RECORD: a row made, with its number; or a link cut, with the row and its old parent
 pub data Record : Type 0 where
@@ -32,7 +32,7 @@ times f (r ∷ rs) = bit (f r) + times f rs
 
 -- A RECORD IN RANGE: the row's name or value fits, and its parent is not 0xFFFF, which means none; a cut always is
 pub data IsInRange : Record → Type 0 where
-  madeIn : {i : ℕ} {r : Row} → tagFits r ≡ true → IsWord (r .parent) → IsInRange (made i r)
+  madeIn : {i : ℕ} {r : Row} → tagFits r ≡ true → IsStorable (r .parent) → IsInRange (made i r)
   cutIn : {i p : ℕ} → IsInRange (cut i p)
 
 abbrev pub AllInRange : List Record → Type 0
@@ -51,8 +51,8 @@ cutKind = 0x43
 -- WRITTEN
 abbrev pub recordBytes : Record → List ℕ
 recordBytes (made i r) =
-    (cond (r .isLeaf) madeLeafKind madeElementKind ∷ wordBytes i) ++ (r .tag ∷ parentBytes (r .parent))
-recordBytes (cut i p) = (cutKind ∷ wordBytes i) ++ wordBytes p
+    (cond (r .isLeaf) madeLeafKind madeElementKind ∷ numberBytes i) ++ (r .tag ∷ parentBytes (r .parent))
+recordBytes (cut i p) = (cutKind ∷ numberBytes i) ++ numberBytes p
 
 -- record after record
 unfoldable pub historyBytes : List Record → List ℕ
@@ -71,12 +71,12 @@ madeForm z =
     record {
       size = 6;
       fits = λ b. z || isName (getD b 3 0);
-      entry = λ b. made (wordAt b 1) (record { isLeaf = z; tag = getD b 3 0; parent = parentIn (wordAt b 4) });
+      entry = λ b. made (numberAt b 1) (record { isLeaf = z; tag = getD b 3 0; parent = parentIn (numberAt b 4) });
     }
 
 -- of a link cut
 abbrev pub cutForm : Form
-cutForm = record { size = 5; fits = λ b. true; entry = λ b. cut (wordAt b 1) (wordAt b 3) }
+cutForm = record { size = 5; fits = λ b. true; entry = λ b. cut (numberAt b 1) (numberAt b 3) }
 
 -- of a byte that is no kind: a record without bytes, which is never read
 abbrev pub noForm : Form

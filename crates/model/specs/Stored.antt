@@ -43,8 +43,8 @@ abbrev pub recordSize : ℕ
 recordSize = 4
 
 -- two-byte numbers have the low byte first
-abbrev pub wordBytes : ℕ → List ℕ
-wordBytes n = n % 256 ∷ n / 256 ∷ []
+abbrev pub numberBytes : ℕ → List ℕ
+numberBytes n = n % 256 ∷ n / 256 ∷ []
 
 -- Parent 0xFFFF means none
 abbrev pub noParent : ℕ
@@ -52,8 +52,8 @@ noParent = 0xFFFF
 
 -- the two bytes of a parent
 abbrev pub parentBytes : Option ℕ → List ℕ
-parentBytes none = wordBytes noParent
-parentBytes (some p) = wordBytes p
+parentBytes none = numberBytes noParent
+parentBytes (some p) = numberBytes p
 
 -- WRITTEN: a row's record
 abbrev pub rowBytes : Row → List ℕ
@@ -67,7 +67,7 @@ rowsBytes (r ∷ rs) = rowBytes r ++ rowsBytes rs
 -- a document that marks no row has no record
 abbrev pub markBytes : (document : ℕ) → Option ℕ → List ℕ
 markBytes d none = []
-markBytes d (some i) = markKind ∷ d ∷ wordBytes i
+markBytes d (some i) = markKind ∷ d ∷ numberBytes i
 
 -- marks with rising document
 unfoldable pub marksBytes : (document : ℕ) → List (Option ℕ) → List ℕ
@@ -84,20 +84,20 @@ pub data Read : Type 0 where
   got : Table → Read
 
 -- the two-byte number at a place
-abbrev pub wordAt : (bytes : List ℕ) → (place : ℕ) → ℕ
-wordAt b i = getD b i 0 + 256 * getD b (i + 1) 0
+abbrev pub numberAt : (bytes : List ℕ) → (place : ℕ) → ℕ
+numberAt b i = getD b i 0 + 256 * getD b (i + 1) 0
 
 -- 0xFFFF means none, so a parent is below it
-abbrev pub IsWord : Option ℕ → Type 0
-IsWord p = (i : ℕ) → p ≡ some i → i < noParent
+abbrev pub IsStorable : Option ℕ → Type 0
+IsStorable p = (i : ℕ) → p ≡ some i → i < noParent
 
 -- Parent 0xFFFF means none
-abbrev pub parentIn : (word : ℕ) → Option ℕ
+abbrev pub parentIn : (number : ℕ) → Option ℕ
 parentIn w = cond (eqb w noParent) none (some w)
 
 -- the row of the record at the front
 abbrev pub rowIn : (bytes : List ℕ) → Row
-rowIn b = record { isLeaf = eqb (getD b 0 0) leafKind; tag = getD b 1 0; parent = parentIn (wordAt b 2) }
+rowIn b = record { isLeaf = eqb (getD b 0 0) leafKind; tag = getD b 1 0; parent = parentIn (numberAt b 2) }
 
 -- the record at the front is a mark
 abbrev pub isMark : (bytes : List ℕ) → Bool
@@ -124,7 +124,7 @@ rowRefusal x i b = orElse (unless (tagFits (rowIn b)) (fieldAt i)) (unless (rowL
 -- of a mark at the front: 4, then 6
 abbrev pub markRefusal : Table → (place : ℕ) → (bytes : List ℕ) → Refusal
 markRefusal x i b =
-    orElse (unless (ltb (getD b 1 0) documents) (fieldAt i)) (unless (markLinks x (getD b 1 0) (wordAt b 2)) (linkAt i))
+    orElse (unless (ltb (getD b 1 0) documents) (fieldAt i)) (unless (markLinks x (getD b 1 0) (numberAt b 2)) (linkAt i))
 
 -- of the record at the front: 1, 5, 2, 4, 6
 abbrev pub recordRefusal : Table → (place : ℕ) → (bytes : List ℕ) → Refusal
@@ -135,7 +135,7 @@ recordRefusal x i b =
 
 -- the table with the record at the front
 abbrev pub recorded : Table → (bytes : List ℕ) → Table
-recorded x b = cond (isMark b) (withMark x (getD b 1 0) (wordAt b 2)) (withRow x (rowIn b))
+recorded x b = cond (isMark b) (withMark x (getD b 1 0) (numberAt b 2)) (withRow x (rowIn b))
 
 -- record by record; fuel: more than there are bytes
 unfoldable pub readFrom : ℕ → Table → (place : ℕ) → (bytes : List ℕ) → Read

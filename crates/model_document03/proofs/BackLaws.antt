@@ -12,7 +12,7 @@ use borrow.Author.Tests.{ltb-true, leb-true, eqb-true, le-ltb}
 use Rattle.model.specs.Base.{isIn}
 use Rattle.model.specs.Refusal.{isFine, linkAt}
 use Rattle.model.specs.Table.{Table, table, count, isElement, linked}
-use Rattle.model.specs.Stored.{wordAt, parentIn}
+use Rattle.model.specs.Stored.{numberAt, parentIn}
 use Rattle.model.specs.History.{Record, made, cut, historySize, recordIn}
 use Rattle.model.specs.Undo.{Placed, Formed, refused, formed, formRefusalBy, formRefusal, withPlaced, formFrom, cutFits, undoFits, undone}
 use Rattle.model.specs.Undo.{refused, undoAll, backwards, undoFormed, undo}
@@ -57,7 +57,7 @@ word-same w = by-cases (eqb w 65535) (λ e. rw e (sym (eqb-true w 65535 e))) (λ
 record-same : (b : List ℕ) → 0 < historySize (getD b 0 0) → oursRecord (R.recordIn b) ≡ recordIn b
 record-same b =
     form-cases (λ f. 0 < f .size → oursRecord (R.recordIn b) ≡ f .entry b) (getD b 0 0) (λ e _. rw e) (λ e _. rw e)
-    (λ e _. rw e (ap (cut (wordAt b 1)) (word-same (wordAt b 3)))) (λ _ _ _ h. absurd (omega arith))
+    (λ e _. rw e (ap (cut (numberAt b 1)) (word-same (numberAt b 3)))) (λ _ _ _ h. absurd (omega arith))
 
 size-same : (k : ℕ) → 0 < historySize k → R.recordSize k ≡ historySize k
 size-same k =

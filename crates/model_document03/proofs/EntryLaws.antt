@@ -11,7 +11,7 @@ use borrow.Author.Tests.{eqb-true, eq-eqb, ne-eqb, le-leb}
 use Rattle.model.specs.Base.{areBytes}
 use Rattle.model.specs.Refusal.{Refusal, isFine, orElse, linkAt, lentShort}
 use Rattle.model.specs.Table.{Row, Table, table, noRow, count, isWell}
-use Rattle.model.specs.Stored.{IsWord, parentIn, stored}
+use Rattle.model.specs.Stored.{IsStorable, parentIn, stored}
 use Rattle.model.specs.Sweep.{swept}
 use Rattle.model.specs.Script.{Parsed, refused, parsed, readScript}
 use Rattle.model.specs.Run.{State, Out, refused, gives}
@@ -37,11 +37,11 @@ use Rattle.model_document03.proofs.RecordLaws.{theirOut, records-same, 
 use Rattle.model_document03.proofs.Promised.{number, judged-same}
 
 -- THE GRID there and back
-word-back : (p : Option ℕ) → IsWord p → parentIn (E.wordFor p) ≡ p
+word-back : (p : Option ℕ) → IsStorable p → parentIn (E.wordFor p) ≡ p
 word-back none h = refl
 word-back (some i) h = rw (ne-eqb i 65535 (λ (e : i ≡ 65535). omega (arith, h i refl)))
 
-rows-back : (rs : List Row) → ((k : ℕ) → k < length rs → IsWord (getD rs k noRow .parent)) → (ks ns vs ps : List ℕ) →
+rows-back : (rs : List Row) → ((k : ℕ) → k < length rs → IsStorable (getD rs k noRow .parent)) → (ks ns vs ps : List ℕ) →
     E.rowsIn (length rs) (E.kindsOf rs ++ ks) (E.namesOf rs ++ ns) (E.valuesOf rs ++ vs) (E.parentsOf rs ++ ps) ≡ rs
 unfolding E.rowsIn E.kindsOf E.namesOf E.valuesOf E.parentsOf
 rows-back [] h ks ns vs ps = refl
@@ -57,7 +57,7 @@ rows-back (r ∷ rs) h ks ns vs ps =
     tag true = refl
     tag false = refl
 
-marks-back : (ms : List (Option ℕ)) → ((d : ℕ) → IsWord (getD ms d none)) → E.marksIn (E.marksOf ms) ≡ ms
+marks-back : (ms : List (Option ℕ)) → ((d : ℕ) → IsStorable (getD ms d none)) → E.marksIn (E.marksOf ms) ≡ ms
 unfolding E.marksIn E.marksOf
 marks-back [] h = refl
 marks-back (m ∷ ms) h = λ i. word-back m (h 0) i ∷ marks-back ms (λ d. h (suc d)) i
@@ -65,10 +65,10 @@ marks-back (m ∷ ms) h = λ i. word-back m (h 0) i ∷ marks-back ms (λ d. h (
 table-back : (x : Table) → Well x → E.tableIn (E.gridOf x) ≡ x
 table-back x w = let p = rows-back (x .rows) row-word _ _ _ _ in λ i. table (p i) (marks-back (x .marks) mark-word i)
   where
-    row-word : (k : ℕ) → k < length (x .rows) → IsWord (getD (x .rows) k noRow .parent)
+    row-word : (k : ℕ) → k < length (x .rows) → IsStorable (getD (x .rows) k noRow .parent)
     row-word k l j e = omega (arith, w .tree .parents k j e .0, w .few)
 
-    mark-word : (d : ℕ) → IsWord (getD (x .marks) d none)
+    mark-word : (d : ℕ) → IsStorable (getD (x .marks) d none)
     mark-word d j e = omega (arith, w .tree .roots d j e .0, w .few)
 
 same-refl : (xs : List ℕ) → E.same xs xs ≡ true

@@ -11,7 +11,7 @@ use Rattle.model.specs.Base.{all, any, filtered, isIn}
 use Rattle.model.specs.Refusal.{Refusal, refusal, isFine, orElse}
 use Rattle.model.specs.Table.{Row, Table, table, rowAt, count, isElement, hasParent, isThe, isMarked, tagFits, rowsFit}
 use Rattle.model.specs.Table.{markFits, noneTwice}
-use Rattle.model.specs.Stored.{Read, refused, got, wordAt, parentIn, wordBytes as wordOf, lastMarked}
+use Rattle.model.specs.Stored.{Read, refused, got, numberAt, parentIn, numberBytes as wordOf, lastMarked}
 use Rattle.model.specs.Stored.{rowLinks, recorded}
 use Rattle.model.specs.Step.{signedKey, isBelow, collect}
 use Rattle.model.specs.Run.{Copied, copyParent}
@@ -46,7 +46,7 @@ markBytes d none = []
 markBytes d (some i) = 19 ∷ d ∷ wordOf i
 
 abbrev rowIn : (bytes : List ℕ) → Row
-rowIn b = record { isLeaf = eqb (getD b 0 0) 18; tag = getD b 1 0; parent = parentIn (wordAt b 2) }
+rowIn b = record { isLeaf = eqb (getD b 0 0) 18; tag = getD b 1 0; parent = parentIn (numberAt b 2) }
 
 abbrev isMark : (bytes : List ℕ) → Bool
 isMark b = eqb (getD b 0 0) 19
@@ -60,7 +60,7 @@ recordRefusal x i b =
     orElse (unless (isIn 17 19 (getD b 0 0)) 1 i)
     (orElse (unless (isMark b || ltb (count x) 512) 5 i)
     (orElse (unless (leb 4 (length b)) 2 i)
-    (cond (isMark b) (orElse (unless (ltb (getD b 1 0) 8) 4 i) (unless (markLinks x (getD b 1 0) (wordAt b 2)) 6 i))
+    (cond (isMark b) (orElse (unless (ltb (getD b 1 0) 8) 4 i) (unless (markLinks x (getD b 1 0) (numberAt b 2)) 6 i))
     (orElse (unless (tagFits (rowIn b)) 4 i) (unless (rowLinks x (rowIn b)) 6 i)))))
 
 unfoldable readFrom : ℕ → Table → (place : ℕ) → (bytes : List ℕ) → Read

@@ -5,7 +5,7 @@
 -- takenBack but for sameParent to sameBool, Back and refusedBack.
 -- Ours serve for the rest, being the same with kinds, limits, refusals and some parts of a definition named, or a recursion written as a
 -- map, a filter or a collect (proved equal in proofs/Kept).
--- Of specs/Plan: all else, namely pick (mathlib's cond) to isWell; wordOf, here wordBytes; parentWord, here parentBytes; markBytes,
+-- Of specs/Plan: all else, namely pick (mathlib's cond) to isWell; wordOf, here numberBytes; parentWord, here parentBytes; markBytes,
 -- marksBytes; Refusal to orElse; Read to readPlan; parentKept, here through; keptFrom to swept.
 -- Of specs/Run: parentIs to reaches; signedKey, relates; chosen, here picked; loose; Copied to copyRow; marked; sameParent to sameBool;
 -- Back and refusedBack, here Undo and refused.
@@ -18,7 +18,7 @@ use lib.ListN.{length, getD, take, drop, set}
 use Rattle.model.specs.Base.{isIn, any}
 use Rattle.model.specs.Refusal.{Refusal, refusal, fine, isFine, orElse}
 use Rattle.model.specs.Table.{Row, Table, table, rowAt, count, isElement, hasParent, isMarked, withRow}
-use Rattle.model.specs.Stored.{wordBytes as wordOf, parentBytes as parentWord, marksBytes, wordAt, parentIn}
+use Rattle.model.specs.Stored.{numberBytes as wordOf, parentBytes as parentWord, marksBytes, numberAt as wordAt, parentIn}
 use Rattle.model.specs.Step.{reaches, picked as chosen}
 use Rattle.model.specs.Run.{Copied, copyRow, descendantsFrom, loose, marked}
 use Rattle.model.specs.Undo.{sameParent, sameBool, Undo as Back, refused as refusedBack, back}

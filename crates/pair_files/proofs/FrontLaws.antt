@@ -13,7 +13,7 @@ use borrow.Author.Tests.{leb-true, leb-false, le-leb, eqb-true, ne-eqb}
 use Rattle.model.specs.Limits.{maxRows, documents, maxRecords, maxDepth}
 use Rattle.model.specs.Refusal.{Refusal, isFine, tailAt}
 use Rattle.model.specs.Table.{Table, count, empty}
-use Rattle.model.specs.Stored.{storedSize, recordSize, Read, refused, got, wordAt, rowIn, lastMarked, recordRefusal, recorded}
+use Rattle.model.specs.Stored.{storedSize, recordSize, Read, refused, got, numberAt, rowIn, lastMarked, recordRefusal, recorded}
 use Rattle.model.specs.Stored.{readFrom, readPlan}
 use Rattle.model.specs.Script.{Expr, Parsed, refused, parsed, thenParse, one, two, three, operands, bodySize, exprRefusal, parseFrom}
 use Rattle.model.specs.Script.{whole, both, letIn, forIn, ifIn, delete, insert, nilKind, documentKind, variableKind, stepKind}
@@ -74,7 +74,8 @@ fine-due x i b w h = elim (record-cases x i b h) [
   | inl r ↦ (rw (recorded-row x b r) (omega (arith, length-append (x .rows) (rowIn b ∷ []), r .room)), r .long)
   | inr r ↦ (
     rw (recorded-mark x b r)
-        (omega (arith, lastMarked-set (x .marks) (getD b 1 0) (wordAt b 2) (omega (arith, r .document, w .eight)), r .rises, r .document)),
+        (omega
+        (arith, lastMarked-set (x .marks) (getD b 1 0) (numberAt b 2) (omega (arith, r .document, w .eight)), r .rises, r .document)),
     r .long,
   )
 ]

@@ -16,7 +16,7 @@ unfoldable pub fileLine : (name : List ℕ) → Refusal → List ℕ
 fileLine w f = ascii "file " ++ w ++ field (f .number) ++ field (f .place) ++ newline
 
 -- THE ANSWER: `free`, `upward` or `meet`
-unfoldable pub answerLine : (word : List ℕ) → List ℕ
+unfoldable pub answerLine : (answer : List ℕ) → List ℕ
 answerLine w = ascii "answer " ++ w ++ newline
 
 -- AN ORDER: items in first's answer, items in second's, rows at the end; or refused: which script, which number
@@ -24,7 +24,7 @@ unfoldable pub orderLine : (name : List ℕ) → Order → List ℕ
 orderLine w (Stopped s n) = w ++ ascii " refused" ++ field s ++ field n ++ newline
 orderLine w (Ended i j r) = w ++ field i ++ field j ++ field r ++ newline
 
--- THE PARTS: what each asks, and what it leaves. A name or word has seven bytes at most
+-- THE PARTS: what each asks, and what it leaves. A name or an answer has seven bytes at most
 pub record NamePre (o : List ℕ) (i : ℕ) (w : List ℕ) : Type 0 where
   pub room : i + 71 ≤ length o
   pub few : length w ≤ 7

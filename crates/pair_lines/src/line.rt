@@ -17,13 +17,13 @@ pub fn put_file(out: &mut [u8], name: &[u8], refusal: Refusal) -> usize
     text::put(out, j, b"\n")
 }
 
-// The answer's word.
-pub fn put_answer(out: &mut [u8], word: &[u8]) -> usize
-    requires { ⌜ NamePre (now out) 0 (now word) ⌝ }
-    ensures { λ r. ⌜ AnswerLine (now (out .entry)) (now (word .entry)) (now (out .exit)) r ⌝ }
+// The answer's line.
+pub fn put_answer(out: &mut [u8], answer: &[u8]) -> usize
+    requires { ⌜ NamePre (now out) 0 (now answer) ⌝ }
+    ensures { λ r. ⌜ AnswerLine (now (out .entry)) (now (answer .entry)) (now (out .exit)) r ⌝ }
 {
     let n = text::put(out, 0, b"answer ");
-    let m = text::put(out, n, word);
+    let m = text::put(out, n, answer);
     text::put(out, m, b"\n")
 }
 

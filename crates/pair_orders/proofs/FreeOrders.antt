@@ -17,7 +17,7 @@ use Rattle.model.proofs.RunsBack.{runsBack}
 use Rattle.model.proofs.StoredBack.{storedBack}
 use Rattle.model.proofs.CallsCommute.{length-matchedAll, free-scripts}
 use Rattle.model.proofs.FreeCommutes.{freeCommutes}
-use Rattle.plan_table.specs.Words.{encode}
+use Rattle.plan_table.specs.Packed.{encode}
 use Rattle.pair_orders.specs.Orders.{endingBy, ending, orderThen, orderFrom, order, swap}
 use Rattle.pair_orders.specs.Promise.{hasEnded, FreeOrders}
 use Rattle.pair_orders.specs.declared.orders.Ending.{Ending}
@@ -32,7 +32,7 @@ orderBy (refused f) q = Stopped 1 (f .number)
 orderBy (gives v s) (refused f) = Stopped 2 (f .number)
 orderBy (gives v s) (gives w u) = Ended (length v) (length w) (count (u .plan))
 
--- a run on the words of a well-formed table is the model's
+-- a run on a packed well-formed table is the model's
 module _ (b : List ℕ) (e : Expr) (i n : ℕ) (r : List ℕ) (E : readScript b ≡ parsed e i n r) where
   ending-runs : (x : Table) → isWell x ≡ true → ending (encode x) b ≡ endingBy (encode x) (runOn x e)
   unfolding ending

@@ -9,7 +9,7 @@ use Rattle.model.specs.Refusal.{isFine, lentShort}
 use Rattle.model.specs.Run.{Out, refused, gives}
 use Rattle.model.specs.Call.{Ran, ranBy, refusedRun}
 use Rattle.model.proofs.BoolLaws.{cond-eq, cond-ne}
-use Rattle.plan_table.specs.Words.{encode, decode}
+use Rattle.plan_table.specs.Packed.{encode, decode}
 use Rattle.plan_table.specs.declared.Table.{Table}
 use Rattle.run.specs.Calls.{outcomeOf, ran, runResult}
 use Rattle.run.specs.declared.RunResult.{RunResult}

@@ -5,7 +5,7 @@ use Prim.Native.Nat.{ℕ}
 use lib.Dec.{eqb}
 use lib.ListN.{length}
 use Rattle.model.specs.Run.{Out, refused, gives}
-use Rattle.plan_table.specs.Words.{encode}
+use Rattle.plan_table.specs.Packed.{encode}
 use Rattle.plan_table.specs.declared.Table.{Table}
 use Rattle.run.specs.Calls.{outcomeOf}
 use Rattle.pair_orders.specs.declared.orders.Ending.{Ending}

@@ -8,7 +8,7 @@ use Rattle.model.specs.Table as model
 use Rattle.model.specs.Stored.{got, readPlan}
 use Rattle.model.specs.Meeting.{free}
 use Rattle.model.specs.Call.{analyse, answered}
-use Rattle.plan_table.specs.Words.{encode}
+use Rattle.plan_table.specs.Packed.{encode}
 use Rattle.pair_orders.specs.Orders.{order, swap}
 use Rattle.pair_orders.specs.declared.orders.Order.{Order}
 use Rattle.pair_orders.specs.declared.orders.Order.the-variants.{Stopped, Ended}

@@ -9,7 +9,7 @@ use Rattle.model.specs.Call as model
 use Rattle.model.specs.Meeting.{free}
 use Rattle.model.specs.Stored.{Read, got, readPlan}
 use Rattle.model.specs.Table.{Table}
-use Rattle.plan_table.specs.Words.{encode}
+use Rattle.plan_table.specs.Packed.{encode}
 use Rattle.plan.specs.Calls.{readBy}
 use Rattle.paths.specs.Analysis.{analysisOf}
 use Rattle.paths.proofs.Promised.{free-told}

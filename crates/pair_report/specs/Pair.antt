@@ -10,7 +10,7 @@ use Rattle.plan.specs.Calls.{planRead}
 use Rattle.plan_table.specs.declared.Table.{Table}
 use Rattle.plan_table.specs.declared.TableResult.{TableResult}
 use Rattle.plan_table.specs.declared.Written.{Written}
-use Rattle.paths.specs.Analysis.{analysed, answerWord}
+use Rattle.paths.specs.Analysis.{analysed, answerText}
 use Rattle.paths.specs.declared.Analysis.{Analysis}
 use Rattle.paths.specs.declared.Analysis.the-variants.{Refused, Free, Upward, Meet}
 use Rattle.pair_text.specs.Text.{ascii, Placed}
@@ -25,19 +25,19 @@ abbrev pub room : ℕ
 room = 160
 
 -- THREE LINES: the answer, and both orders
-abbrev pub linesOf : (word : List ℕ) → (oneTwo twoOne : Order) → List ℕ
+abbrev pub linesOf : (answer : List ℕ) → (oneTwo twoOne : Order) → List ℕ
 linesOf w x y = answerLine w ++ orderLine (ascii "one-two") x ++ orderLine (ascii "two-one") y
 
 -- each from the plan read
-unfoldable pub threeLines : Table → (word first second : List ℕ) → List ℕ
+unfoldable pub threeLines : Table → (answer first second : List ℕ) → List ℕ
 threeLines t w b c = linesOf w (order t b c) (swap (order t c b))
 
 -- A refused script gives the only line; after every answer both orders are run
 abbrev pub textBy : Analysis → Table → (first second : List ℕ) → List ℕ
 textBy (Refused s f) t b c = fileLine (cond (eqb s 1) (ascii "first") (ascii "second")) f
-textBy Free t b c = threeLines t (ascii (answerWord Free)) b c
-textBy Upward t b c = threeLines t (ascii (answerWord Upward)) b c
-textBy Meet t b c = threeLines t (ascii (answerWord Meet)) b c
+textBy Free t b c = threeLines t (ascii (answerText Free)) b c
+textBy Upward t b c = threeLines t (ascii (answerText Upward)) b c
+textBy Meet t b c = threeLines t (ascii (answerText Meet)) b c
 
 -- The first file refused, in the order plan, first, second, gives the only line
 abbrev pub planText : TableResult → (first second : List ℕ) → List ℕ

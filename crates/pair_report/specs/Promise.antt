@@ -9,7 +9,7 @@ use Rattle.model.specs.Base.{areBytes}
 use Rattle.model.specs.Refusal.{values}
 use Rattle.model.specs.Stored.{got, readPlan}
 use Rattle.model.specs.Table.{Table}
-use Rattle.paths.specs.Analysis.{analysed, valuesOf, answerWord}
+use Rattle.paths.specs.Analysis.{analysed, valuesOf, answerText}
 use Rattle.paths.specs.declared.Analysis.the-variants.{Free}
 use Rattle.pair_text.specs.Text.{ascii}
 use Rattle.pair_files.specs.Promise.{fileBytes}
@@ -24,7 +24,7 @@ FilesByFront =
 
 -- THE LINES of two scripts that are free
 abbrev pub freeText : (oneTwo twoOne : Order) → List ℕ
-freeText x y = linesOf (ascii (answerWord Free)) x y
+freeText x y = linesOf (ascii (answerText Free)) x y
 
 -- both orders end with the same three numbers, or both are refused
 abbrev pub BothOrders : (text : List ℕ) → Type 0

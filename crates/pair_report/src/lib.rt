@@ -15,12 +15,12 @@ use plan_table::results;
 pub const ROOM: usize = 160;
 
 // The answer and both orders, each from the table given.
-fn three_lines(out: &mut [u8], word: &[u8], table: Table, first: &[u8], second: &[u8]) -> usize
-    requires { ⌜ (room ≤ length (now out)) × (length (now word) ≤ 7) ⌝ }
-    ensures { λ r. ⌜ Report (threeLines table (now (word .entry)) (now (first .entry)) (now (second .entry)))
+fn three_lines(out: &mut [u8], answer: &[u8], table: Table, first: &[u8], second: &[u8]) -> usize
+    requires { ⌜ (room ≤ length (now out)) × (length (now answer) ≤ 7) ⌝ }
+    ensures { λ r. ⌜ Report (threeLines table (now (answer .entry)) (now (first .entry)) (now (second .entry)))
         (now (out .entry)) (now (out .exit)) r ⌝ }
 {
-    let n = line::put_answer(out, word);
+    let n = line::put_answer(out, answer);
     let one_two = orders::in_order(table, first, second);
     let m = line::put_order(out, n, b"one-two", one_two);
     let two_one = orders::in_order(table, second, first);

@@ -1,4 +1,4 @@
--- Words in bytes, numbers in decimal, and a text placed in an area.
+-- Fixed text in bytes, numbers in decimal, and a text placed in an area.
 use mathlib.Core.Path.{_≡_}
 use mathlib.Core.Bool.{true, cond}
 use mathlib.Core.List.{List, [], _∷_, _++_}
@@ -9,7 +9,7 @@ use lib.Dec.{ltb}
 use lib.ListN.{length, getD}
 use Rattle.model.specs.Base.{isIn, all, over}
 
--- THE BYTES of a fixed word
+-- THE BYTES of a fixed text
 abbrev pub codesFrom : (count at : ℕ) → String → List ℕ
 codesFrom zero i s = []
 codesFrom (suc k) i s = code (charAt s i) ∷ codesFrom k (suc i) s

@@ -16,17 +16,17 @@ use Rattle.script.specs.Reading.{scriptRead}
 use Rattle.script.proofs.ScriptLaws.{script-accepted, script-parsed, script-ill}
 use Rattle.paths_positions.specs.Positions.{Entry, Emitted, emit, AreLower, entriesBefore, entriesOf, pathsFrom, pathsOn}
 use Rattle.paths_positions.specs.Answer.{positionsMeet}
-use Rattle.paths_positions.specs.Words.{entryOf, entriesIn}
+use Rattle.paths_positions.specs.Packed.{entryOf, entriesIn}
 use Rattle.paths_cells.specs.Pairs.{HasRows}
 use Rattle.paths_fill.specs.Filling.{TablePre}
-use Rattle.paths_positions.specs.Words.{entriesBy, someLeadsUp}
+use Rattle.paths_positions.specs.Packed.{entriesBy, someLeadsUp}
 use Rattle.paths_emit.specs.Emitting.{EmitPre, EmitPost}
 use Rattle.paths.specs.Analysis.{byAnswer, analysisOf, analysed, ScriptPre, ScriptPost, AnswerPre, AnswerPost, FrontPre}
 use Rattle.paths.specs.declared.Analysis.{Analysis}
 use Rattle.paths.specs.declared.Analysis.the-variants.{Refused, Upward}
 use Rattle.paths_positions.proofs.AnswerLaws.{emitted-right, answer-by}
 use Rattle.paths_positions.proofs.UpLaws.{someLeadsUp-is}
-use Rattle.paths_positions.proofs.WordLaws.{entriesIn-length}
+use Rattle.paths_positions.proofs.PackedLaws.{entriesIn-length}
 use Rattle.paths_emit.proofs.SizeLaws.{script-records}
 
 -- THE POSITIONS of an accepted script
@@ -79,7 +79,7 @@ answer-asks b c one two t room = record { first = front-asks b one; second = fro
 upward-is : (e f : Expr) → (hasUp e || hasUp f) ≡ true → Upward ≡ byAnswer (answer e f)
 upward-is e f h = rw h
 
--- THE ANSWER, from the parts of the words that are positions
+-- THE ANSWER, from the packed positions of each script
 abbrev part : List ℕ → ℕ → List ℕ
 part ws n = take (n - 0) ws
 

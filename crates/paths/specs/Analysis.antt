@@ -13,7 +13,7 @@ use Rattle.plan_table.specs.Results.{refusalOf}
 use Rattle.script_records.specs.Walk.{exprAt}
 use Rattle.script.specs.Reading.{scriptRead}
 use Rattle.paths_positions.specs.Positions.{entriesOf}
-use Rattle.paths_positions.specs.Words.{entriesIn}
+use Rattle.paths_positions.specs.Packed.{entriesIn}
 use Rattle.paths_positions.specs.Steps.{maxPositions}
 use Rattle.paths_cells.specs.Pairs.{HasRows}
 use Rattle.paths.specs.declared.Analysis.{Analysis}
@@ -42,14 +42,14 @@ valuesOf Free = values 0 0 0
 valuesOf Upward = values 0 1 0
 valuesOf Meet = values 0 2 0
 
--- and an answer's word
-abbrev pub answerWord : Analysis → String
-answerWord (Refused s f) = ""
-answerWord Free = "free"
-answerWord Upward = "upward"
-answerWord Meet = "meet"
+-- and an answer's text
+abbrev pub answerText : Analysis → String
+answerText (Refused s f) = ""
+answerText Free = "free"
+answerText Upward = "upward"
+answerText Meet = "meet"
 
--- THE POSITIONS of an accepted script, in words of which the first is zero
+-- THE POSITIONS of an accepted script, packed, where the first was zero
 pub record ScriptPre (b ws : List ℕ) : Type 0 where
   pub accepted : scriptRead b .number ≡ 0
   pub size : length ws ≡ maxPositions
@@ -60,7 +60,7 @@ pub record ScriptPost (b ws′ : List ℕ) (n : ℕ) : Type 0 where
   pub few : n ≤ maxPositions
   pub entries : entriesIn ws′ n ≡ entriesOf (exprAt maxDepth b 0)
 
--- positions in the first of the words
+-- positions at the front
 pub record FrontPre (ws : List ℕ) (n : ℕ) : Type 0 where
   pub size : length ws ≡ maxPositions
   pub few : n ≤ maxPositions

@@ -17,10 +17,10 @@ pub enum Analysis {
     Meet,
 }
 
-// Puts the positions of an accepted script into words of which the first is zero; how many there are.
-fn positions_of(bytes: &[u8], words: &mut [usize; POSITIONS]) -> usize
-    requires { ⌜ ScriptPre (now bytes) (now words) ⌝ }
-    ensures { λ r. ⌜ ScriptPost (now (bytes .entry)) (now (words .exit)) r ⌝ }
+// Puts the positions of an accepted script into positions of which the first is zero; how many there are.
+fn positions_of(bytes: &[u8], positions: &mut [usize; POSITIONS]) -> usize
+    requires { ⌜ ScriptPre (now bytes) (now positions) ⌝ }
+    ensures { λ r. ⌜ ScriptPost (now (bytes .entry)) (now (positions .exit)) r ⌝ }
 {
     let variables = [0u8; Table::BINDERS];
     let mut place = 0;
@@ -31,7 +31,7 @@ fn positions_of(bytes: &[u8], words: &mut [usize; POSITIONS]) -> usize
         Table::DEPTH,
         0,
         variables,
-        words,
+        positions,
         &mut count,
     );
     count
@@ -69,18 +69,18 @@ pub fn analyse(first: &[u8], second: &[u8]) -> Analysis
             refusal: other,
         };
     }
-    let mut words = [0usize; POSITIONS];
-    let n = positions_of(first, &mut words);
+    let mut positions = [0usize; POSITIONS];
+    let n = positions_of(first, &mut positions);
     let mut others = [0usize; POSITIONS];
     let m = positions_of(second, &mut others);
     if n <= pairs::FEW {
         let mut small = [pairs::NONE; pairs::FEW_PAIRS];
-        return answer(&words, n, &others, m, &mut small);
+        return answer(&positions, n, &others, m, &mut small);
     }
     if n <= pairs::HALF {
         let mut half = [pairs::NONE; pairs::HALF_PAIRS];
-        return answer(&words, n, &others, m, &mut half);
+        return answer(&positions, n, &others, m, &mut half);
     }
     let mut table = [pairs::NONE; pairs::PAIRS];
-    answer(&words, n, &others, m, &mut table)
+    answer(&positions, n, &others, m, &mut table)
 }

@@ -1,4 +1,4 @@
--- One record more: the words pushed are the entries that the rules emit. One law for each way out.
+-- One record more: the positions pushed are the entries that the rules emit. One law for each way out.
 use mathlib.Core.Path.{_≡_, ap, sym, _∙_, subst}
 use mathlib.Core.Bool.{Bool, true, false, _&&_, not, cond}
 use mathlib.Core.List.{List, [], _∷_, _++_}
@@ -13,13 +13,13 @@ use Rattle.paths_positions.specs.Positions.{Entry, plain, accessing, modifying,
 use Rattle.paths_positions.specs.Positions as positions
 use Rattle.paths_positions.specs.Steps.{stepOf}
 use Rattle.paths_positions.specs.Steps.{maxPositions}
-use Rattle.paths_positions.specs.Words.{withRole, entryBy, rootBy, overBy, unionBy, kinds, roles, axes, tests, labels, PositionFits}
-use Rattle.paths_positions.specs.Words.{entriesIn}
-use Rattle.paths_positions.specs.Words.{PushPost}
+use Rattle.paths_positions.specs.Packed.{withRole, entryBy, rootBy, overBy, unionBy, kinds, roles, axes, tests, labels, PositionFits}
+use Rattle.paths_positions.specs.Packed.{entriesIn}
+use Rattle.paths_positions.specs.Packed.{PushPost}
 use Rattle.paths_emit.specs.Emitting.{outOf, GrowPre, Grown, BelowPre, BelowPost}
 use Rattle.paths_positions.specs.declared.packed.Position.{Position}
 use Rattle.paths_positions.specs.declared.step.Step.{Step}
-use Rattle.paths_positions.proofs.WordLaws.{entriesIn-length}
+use Rattle.paths_positions.proofs.PackedLaws.{entriesIn-length}
 
 -- FIELDS in range
 fits-by : {p q : Position} → p ≡ q → q .kind < kinds → q .role < roles → q .axis < axes → q .test < tests → q .label < labels →

@@ -14,7 +14,7 @@ use Rattle.script_records.proofs.BindLaws.{withBound-set, withBound-same}
 use Rattle.script_records.specs.Walk.{inner}
 use Rattle.paths_positions.specs.Positions.{accessing, root}
 use Rattle.paths_positions.specs.Positions as positions
-use Rattle.paths_positions.specs.Words.{entryBy, rootBy, entriesIn, PushPost}
+use Rattle.paths_positions.specs.Packed.{entryBy, rootBy, entriesIn, PushPost}
 use Rattle.paths_emit.specs.Emitting.{outOf, nullaryOf, unaryOf, binaryOf, UnaryPre, PairedPre, Grown, NullaryPre, NullaryPost}
 use Rattle.paths_emit.specs.Emitting.{BindPre, BindPost}
 use Rattle.paths_positions.specs.declared.packed.Position.{Position}

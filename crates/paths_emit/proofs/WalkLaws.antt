@@ -19,7 +19,7 @@ use Rattle.script.proofs.AcceptedLaws.{accepted-record}
 use Rattle.script.proofs.FieldLaws.{variable-number, step-axis, step-test}
 use Rattle.paths_positions.specs.Positions.{emit}
 use Rattle.paths_positions.specs.Positions as positions
-use Rattle.paths_positions.specs.Words.{entriesIn}
+use Rattle.paths_positions.specs.Packed.{entriesIn}
 use Rattle.paths_positions.specs.Steps.{maxPositions}
 use Rattle.paths_emit.specs.Emitting.{outOf, nullaryOf, unaryOf, binaryOf, PairedPre, UnaryPre, Grown}
 use Rattle.paths_emit.specs.Emitting.{NullaryPre, NullaryPost, BindPre, BindPost, EmitPre, EmitPost}

@@ -11,12 +11,12 @@ use Rattle.model.specs.Script.{insertKind, stepBy, recordsOf, isBinder, bodySiz
 use Rattle.script_records.specs.Walk.{withBound, inner, endAt, exprAt}
 use Rattle.script.specs.Accepted.{Accepted}
 use Rattle.paths_positions.specs.Positions as positions
-use Rattle.paths_positions.specs.Words.{withRole, roles, axes, tests, labels, entriesIn}
+use Rattle.paths_positions.specs.Packed.{withRole, roles, axes, tests, labels, entriesIn}
 use Rattle.paths_positions.specs.Steps.{maxPositions}
 use Rattle.paths_positions.specs.declared.step.Step.{Step}
 
--- what words, the positions so far and the number answered say together
-abbrev pub outOf : (words : List ℕ) → (count result : ℕ) → positions.Emitted
+-- what packed positions, how many there are so far and the number answered say together
+abbrev pub outOf : (packed : List ℕ) → (count result : ℕ) → positions.Emitted
 outOf ws n r = positions.emitted r (entriesIn ws n)
 
 -- BY ARITY: the emission of a record at a place, from those of its operands

@@ -4,7 +4,7 @@ ghost use mathlib.Core.Path.{_≡_};
 ghost use Prim.Native.Nat.{_<_};
 ghost use Rattle.model.specs.Paths.{anyBelow};
 ghost use Rattle.paths_positions.specs.Positions.{pushStep, pushUnion, pushDelete, pushInsert};
-ghost use Rattle.paths_positions.specs.Words.{labels};
+ghost use Rattle.paths_positions.specs.Packed.{labels};
 ghost use Rattle.paths_positions.specs.Steps.{stepOf};
 ghost use Rattle.paths_emit.specs.Emitting.{outOf, unaryOf, binaryOf, GrowPre, StepPre, PairedPre, UnaryPre, Grown, BindPre};
 ghost use Rattle.paths_emit.specs.Emitting.{BindPost};
@@ -40,25 +40,25 @@ fn any_below() -> Step
 }
 
 // A step over x, accessed. From nothing it is nothing, with a position only where it leads up.
-fn step(words: &mut [usize; POSITIONS], count: &mut usize, s: Step, x: usize) -> usize
-    requires { ⌜ StepPre (now words) (now count) s x ⌝ }
-    ensures { λ r. ⌜ Grown (pushStep (stepOf s) (outOf (now (words .entry)) (now (count .entry)) x)) (now (count .entry))
-        (now (words .exit)) (now (count .exit)) r ⌝ }
+fn step(positions: &mut [usize; POSITIONS], count: &mut usize, s: Step, x: usize) -> usize
+    requires { ⌜ StepPre (now positions) (now count) s x ⌝ }
+    ensures { λ r. ⌜ Grown (pushStep (stepOf s) (outOf (now (positions .entry)) (now (count .entry)) x)) (now (count .entry))
+        (now (positions .exit)) (now (count .exit)) r ⌝ }
 {
     if (x == 0) & !s.is_up() {
         return x;
     }
     let n = *count;
-    packed::push(words, n, Position::over(packed::ACCESSED, s, x));
+    packed::push(positions, n, Position::over(packed::ACCESSED, s, x));
     *count = n + 1;
     n
 }
 
 // Two results together; with nothing it is the other.
-fn union(words: &mut [usize; POSITIONS], count: &mut usize, x: usize, y: usize) -> usize
-    requires { ⌜ PairedPre (now words) (now count) x y ⌝ }
-    ensures { λ r. ⌜ Grown (pushUnion x (outOf (now (words .entry)) (now (count .entry)) y)) (now (count .entry))
-        (now (words .exit)) (now (count .exit)) r ⌝ }
+fn union(positions: &mut [usize; POSITIONS], count: &mut usize, x: usize, y: usize) -> usize
+    requires { ⌜ PairedPre (now positions) (now count) x y ⌝ }
+    ensures { λ r. ⌜ Grown (pushUnion x (outOf (now (positions .entry)) (now (count .entry)) y)) (now (count .entry))
+        (now (positions .exit)) (now (count .exit)) r ⌝ }
 {
     if x == 0 {
         return y;
@@ -67,47 +67,47 @@ fn union(words: &mut [usize; POSITIONS], count: &mut usize, x: usize, y: usize) 
         return x;
     }
     let n = *count;
-    packed::push(words, n, Position::union(packed::PLAIN, x, y));
+    packed::push(positions, n, Position::union(packed::PLAIN, x, y));
     *count = n + 1;
     n
 }
 
 // All below x, and x with that, modified; the result is nothing.
-fn delete(words: &mut [usize; POSITIONS], count: &mut usize, x: usize) -> usize
-    requires { ⌜ GrowPre (now words) (now count) x ⌝ }
-    ensures { λ r. ⌜ Grown (pushDelete (outOf (now (words .entry)) (now (count .entry)) x)) (now (count .entry))
-        (now (words .exit)) (now (count .exit)) r ⌝ }
+fn delete(positions: &mut [usize; POSITIONS], count: &mut usize, x: usize) -> usize
+    requires { ⌜ GrowPre (now positions) (now count) x ⌝ }
+    ensures { λ r. ⌜ Grown (pushDelete (outOf (now (positions .entry)) (now (count .entry)) x)) (now (count .entry))
+        (now (positions .exit)) (now (count .exit)) r ⌝ }
 {
     if x == 0 {
         return x;
     }
     let n = *count;
-    packed::push(words, n, Position::over(packed::PLAIN, any_below(), x));
-    packed::push(words, n + 1, Position::union(packed::MODIFIED, x, n));
+    packed::push(positions, n, Position::over(packed::PLAIN, any_below(), x));
+    packed::push(positions, n + 1, Position::union(packed::MODIFIED, x, n));
     *count = n + 2;
     0
 }
 
 // All below a position, in a role, unless it is nothing.
-fn below(words: &mut [usize; POSITIONS], count: &mut usize, role: usize, x: usize)
-    requires { ⌜ BelowPre (now words) (now count) role x ⌝ }
-    ensures { λ r. ⌜ BelowPost (now (words .entry)) (now (count .entry)) role x (now (words .exit)) (now (count .exit)) ⌝ }
+fn below(positions: &mut [usize; POSITIONS], count: &mut usize, role: usize, x: usize)
+    requires { ⌜ BelowPre (now positions) (now count) role x ⌝ }
+    ensures { λ r. ⌜ BelowPost (now (positions .entry)) (now (count .entry)) role x (now (positions .exit)) (now (count .exit)) ⌝ }
 {
     if x != 0 {
         let n = *count;
-        packed::push(words, n, Position::over(role, any_below(), x));
+        packed::push(positions, n, Position::over(role, any_below(), x));
         *count = n + 1;
     }
 }
 
 // All below x, accessed, and all below y, modified; the result is nothing.
-fn insert(words: &mut [usize; POSITIONS], count: &mut usize, x: usize, y: usize) -> usize
-    requires { ⌜ PairedPre (now words) (now count) x y ⌝ }
-    ensures { λ r. ⌜ Grown (pushInsert x (outOf (now (words .entry)) (now (count .entry)) y)) (now (count .entry))
-        (now (words .exit)) (now (count .exit)) r ⌝ }
+fn insert(positions: &mut [usize; POSITIONS], count: &mut usize, x: usize, y: usize) -> usize
+    requires { ⌜ PairedPre (now positions) (now count) x y ⌝ }
+    ensures { λ r. ⌜ Grown (pushInsert x (outOf (now (positions .entry)) (now (count .entry)) y)) (now (count .entry))
+        (now (positions .exit)) (now (count .exit)) r ⌝ }
 {
-    below(words, count, packed::ACCESSED, x);
-    below(words, count, packed::MODIFIED, y);
+    below(positions, count, packed::ACCESSED, x);
+    below(positions, count, packed::MODIFIED, y);
     0
 }
 
@@ -116,17 +116,17 @@ fn nullary(
     bytes: &[u8],
     at: usize,
     env: [u8; Table::BINDERS],
-    words: &mut [usize; POSITIONS],
+    positions: &mut [usize; POSITIONS],
     count: &mut usize,
 ) -> usize
-    requires { ⌜ NullaryPre (now bytes) at env (now words) (now count) ⌝ }
-    ensures { λ r. ⌜ NullaryPost (now (bytes .entry)) at env (now (words .entry)) (now (count .entry))
-        (now (words .exit)) (now (count .exit)) r ⌝ }
+    requires { ⌜ NullaryPre (now bytes) at env (now positions) (now count) ⌝ }
+    ensures { λ r. ⌜ NullaryPost (now (bytes .entry)) at env (now (positions .entry)) (now (count .entry))
+        (now (positions .exit)) (now (count .exit)) r ⌝ }
 {
     let kind = bytes[at];
     if kind == kinds::DOCUMENT {
         let n = *count;
-        packed::push(words, n, Position::root(document(bytes[at + 1])));
+        packed::push(positions, n, Position::root(document(bytes[at + 1])));
         *count = n + 1;
         return n;
     }
@@ -141,13 +141,13 @@ fn nullary(
 fn unary(
     bytes: &[u8],
     at: usize,
-    words: &mut [usize; POSITIONS],
+    positions: &mut [usize; POSITIONS],
     count: &mut usize,
     x: usize,
 ) -> usize
-    requires { ⌜ UnaryPre (now bytes) at (now words) (now count) x ⌝ }
-    ensures { λ r. ⌜ Grown (unaryOf (now (bytes .entry)) at (outOf (now (words .entry)) (now (count .entry)) x)) (now (count .entry))
-        (now (words .exit)) (now (count .exit)) r ⌝ }
+    requires { ⌜ UnaryPre (now bytes) at (now positions) (now count) x ⌝ }
+    ensures { λ r. ⌜ Grown (unaryOf (now (bytes .entry)) at (outOf (now (positions .entry)) (now (count .entry)) x)) (now (count .entry))
+        (now (positions .exit)) (now (count .exit)) r ⌝ }
 {
     let kind = bytes[at];
     if kind == kinds::STEP {
@@ -156,25 +156,31 @@ fn unary(
             test: number::byte(bytes[at + 2]),
             name: number::name(bytes[at + 3]),
         };
-        return step(words, count, s, x);
+        return step(positions, count, s, x);
     }
     if kind == kinds::DELETE {
-        return delete(words, count, x);
+        return delete(positions, count, x);
     }
     x
 }
 
 // A record with two operands: a join, an insert, or a binder.
-fn binary(kind: u8, words: &mut [usize; POSITIONS], count: &mut usize, x: usize, y: usize) -> usize
-    requires { ⌜ PairedPre (now words) (now count) x y ⌝ }
-    ensures { λ r. ⌜ Grown (binaryOf kind x (outOf (now (words .entry)) (now (count .entry)) y)) (now (count .entry))
-        (now (words .exit)) (now (count .exit)) r ⌝ }
+fn binary(
+    kind: u8,
+    positions: &mut [usize; POSITIONS],
+    count: &mut usize,
+    x: usize,
+    y: usize,
+) -> usize
+    requires { ⌜ PairedPre (now positions) (now count) x y ⌝ }
+    ensures { λ r. ⌜ Grown (binaryOf kind x (outOf (now (positions .entry)) (now (count .entry)) y)) (now (count .entry))
+        (now (positions .exit)) (now (count .exit)) r ⌝ }
 {
     if kind == kinds::JOIN {
-        return union(words, count, x, y);
+        return union(positions, count, x, y);
     }
     if kind == kinds::INSERT {
-        return insert(words, count, x, y);
+        return insert(positions, count, x, y);
     }
     y
 }
@@ -199,25 +205,25 @@ pub fn emit(
     left: usize,
     bound: usize,
     env: [u8; Table::BINDERS],
-    words: &mut [usize; POSITIONS],
+    positions: &mut [usize; POSITIONS],
     count: &mut usize,
 ) -> usize
-    requires { ⌜ EmitPre (now bytes) (now place) left bound env (now words) (now count) ⌝ }
-    ensures { λ r. ⌜ EmitPost (now (bytes .entry)) (now (place .entry)) left bound env (now (words .entry)) (now (count .entry))
-        (now (place .exit)) (now (words .exit)) (now (count .exit)) r ⌝ }
+    requires { ⌜ EmitPre (now bytes) (now place) left bound env (now positions) (now count) ⌝ }
+    ensures { λ r. ⌜ EmitPost (now (bytes .entry)) (now (place .entry)) left bound env (now (positions .entry)) (now (count .entry))
+        (now (place .exit)) (now (positions .exit)) (now (count .exit)) r ⌝ }
 {
     let at = *place;
     let kind = bytes[at];
     let operands = kinds::arity(kind);
     *place = at + (1 + kinds::body_size(kind));
     if operands == 1 {
-        let x = emit(bytes, place, left - 1, bound, env, words, count);
-        return unary(bytes, at, words, count, x);
+        let x = emit(bytes, place, left - 1, bound, env, positions, count);
+        return unary(bytes, at, positions, count, x);
     }
     if operands == 0 {
-        return nullary(bytes, at, env, words, count);
+        return nullary(bytes, at, env, positions, count);
     }
-    let x = emit(bytes, place, left - 1, bound, env, words, count);
+    let x = emit(bytes, place, left - 1, bound, env, positions, count);
     let inside = bind(kind, env, bound, x);
     let y = emit(
         bytes,
@@ -225,12 +231,12 @@ pub fn emit(
         left - 1,
         kinds::inner(kind, bound),
         inside,
-        words,
+        positions,
         count,
     );
     if operands == 2 {
-        return binary(kind, words, count, x, y);
+        return binary(kind, positions, count, x, y);
     }
-    let z = emit(bytes, place, left - 1, bound, env, words, count);
-    union(words, count, y, z)
+    let z = emit(bytes, place, left - 1, bound, env, positions, count);
+    union(positions, count, y, z)
 }

@@ -19,7 +19,7 @@ use Rattle.paths_positions.specs.Sources.{sourcesCell, cellTo, cellBy}
 use Rattle.paths_positions.specs.Answer.{isTested, meetAt, rowMeets}
 use Rattle.paths_positions.specs.Filled.{Filled}
 use Rattle.paths_cells.specs.Decoded.{cellOf}
-use Rattle.paths_positions.specs.Words.{stepIn, positionBy, entryBy, fieldsOf, entryOf, entriesBy}
+use Rattle.paths_positions.specs.Packed.{stepIn, positionBy, entryBy, fieldsOf, entryOf, entriesBy}
 use Rattle.paths_cells.specs.Pairs.{marks, HasRows, ClearPost, PairPre, MarkPost}
 use Rattle.paths_fill.specs.Filling.{PositionsPre, CellPre, MeetPre, MeetPost, RowPre}
 use Rattle.paths_positions.specs.declared.packed.Position.{Position}

@@ -7,7 +7,7 @@ use lib.ListN.{length, getD}
 use Rattle.paths_positions.specs.Positions.{IsLower, AreLower, pathsOn}
 use Rattle.paths_positions.specs.Filled.{Filled}
 use Rattle.paths_positions.specs.Answer.{meetAt, rowMeets}
-use Rattle.paths_positions.specs.Words.{positionBy, fieldsOf, entriesBy}
+use Rattle.paths_positions.specs.Packed.{positionBy, fieldsOf, entriesBy}
 use Rattle.paths_positions.specs.Steps.{maxPositions}
 use Rattle.paths_cells.specs.Pairs.{marks, HasRows}
 use Rattle.paths_positions.specs.declared.packed.Position.{Position}

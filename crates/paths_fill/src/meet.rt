@@ -3,7 +3,7 @@ ghost use mathlib.Core.Path.{_≡_};
 ghost use Rattle.paths_positions.specs.Sources.{sourcesOf, sourcesCell, cellBy};
 ghost use Rattle.paths_positions.specs.Answer.{isTested, positionsMeet};
 ghost use Rattle.paths_cells.specs.Decoded.{cellOf};
-ghost use Rattle.paths_positions.specs.Words.{positionBy, entryBy, rootSource, stepSource, entriesBy, someLeadsUp};
+ghost use Rattle.paths_positions.specs.Packed.{positionBy, entryBy, rootSource, stepSource, entriesBy, someLeadsUp};
 ghost use mathlib.Core.List.{[], _∷_};
 ghost use Rattle.paths_cells.specs.Pairs.{marks};
 ghost use Rattle.paths_fill.specs.Filling.{CellPre, FromStepPre, MeetPre, MeetPost, RowPre, RowPost, TablePre};
@@ -15,12 +15,12 @@ use paths_positions::packed;
 use paths_positions::packed::Position;
 
 // Some position leads up.
-pub fn some_leads_up(words: &[usize]) -> bool
-    ensures { λ r. ⌜ r ≡ someLeadsUp (now (words .entry)) ⌝ }
+pub fn some_leads_up(positions: &[usize]) -> bool
+    ensures { λ r. ⌜ r ≡ someLeadsUp (now (positions .entry)) ⌝ }
 {
     let mut i = 0;
-    while i < words.len() {
-        if Position::unpacked(words[i]).leads_up() {
+    while i < positions.len() {
+        if Position::unpacked(positions[i]).leads_up() {
             return true;
         }
         i += 1;

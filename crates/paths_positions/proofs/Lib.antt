@@ -4,5 +4,5 @@ pub mod DocumentLaws
 pub mod EmitLaws
 pub mod TraverseLaws
 pub mod AnswerLaws
-pub mod WordLaws
+pub mod PackedLaws
 pub mod UpLaws

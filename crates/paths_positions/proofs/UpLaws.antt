@@ -18,7 +18,7 @@ use Rattle.paths_positions.specs.Positions as positions
 use Rattle.paths_positions.specs.Positions.{nowhere, root, over, union, Entry, accessing, modifying, leadsUp, Emitted}
 use Rattle.paths_positions.specs.Positions.{pushStep, pushUnion, pushDelete, pushBelow, emit, entriesBefore, entriesOf}
 use Rattle.paths_positions.specs.Answer.{anyUpTo}
-use Rattle.paths_positions.specs.Words.{positionBy, fieldsOf, entryOf, entriesBy, leadsUpAt, someLeadsUp}
+use Rattle.paths_positions.specs.Packed.{positionBy, fieldsOf, entryOf, entriesBy, leadsUpAt, someLeadsUp}
 use Rattle.paths_positions.specs.declared.packed.Position.{Position}
 use Rattle.paths_positions.proofs.AnyUpToLaws.{anyUpTo-any}
 

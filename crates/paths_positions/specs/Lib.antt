@@ -3,4 +3,4 @@ pub mod Positions
 pub mod Sources
 pub mod Filled
 pub mod Answer
-pub mod Words
+pub mod Packed

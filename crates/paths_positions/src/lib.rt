@@ -1,4 +1,4 @@
-// Positions: the paths of a script's expressions, numbered and packed into words.
+// Positions: the paths of a script's expressions, numbered and packed into positions.
 pub mod packed;
 pub mod step;
 

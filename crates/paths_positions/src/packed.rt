@@ -1,9 +1,9 @@
-// Positions of a script, each packed into a word: kind, role, axis, test, label, first operand, second operand, the kind lowest.
+// Positions of a script, each packed into a number: kind, role, axis, test, label, first operand, second operand, the kind lowest.
 ghost use mathlib.Core.Path.{_≡_};
 ghost use Rattle.paths_positions.specs.Steps.{stepOf};
 ghost use Rattle.paths_positions.specs.Positions.{leadsUp};
-ghost use Rattle.paths_positions.specs.Words.{positionBy, stepIn, rootBy, overBy, unionBy, wordOf, fieldsOf, PositionFits, PushPre};
-ghost use Rattle.paths_positions.specs.Words.{PushPost};
+ghost use Rattle.paths_positions.specs.Packed.{positionBy, stepIn, rootBy, overBy, unionBy, packPosition, fieldsOf};
+ghost use Rattle.paths_positions.specs.Packed.{PositionFits, PushPre, PushPost};
 use crate::POSITIONS;
 use crate::step::Step;
 use plan_table::NameNumber;
@@ -111,7 +111,7 @@ impl Position {
     // Each field in its bits.
     fn packed(self) -> usize
         requires { ⌜ PositionFits self ⌝ }
-        ensures { λ r. ⌜ r ≡ wordOf self ⌝ }
+        ensures { λ r. ⌜ r ≡ packPosition self ⌝ }
     {
         let operands = self.first + POSITIONS * self.second;
         let labelled = (self.label as usize) + LABELS * operands;
@@ -119,17 +119,17 @@ impl Position {
         self.kind + KINDS * (self.role + ROLES * step)
     }
 
-    // The position that a word is.
-    pub fn unpacked(word: usize) -> Position
-        ensures { λ r. ⌜ r ≡ fieldsOf word ⌝ }
+    // The position that a packed one is.
+    pub fn unpacked(packed: usize) -> Position
+        ensures { λ r. ⌜ r ≡ fieldsOf packed ⌝ }
     {
-        let roles = word / KINDS;
+        let roles = packed / KINDS;
         let axes = roles / ROLES;
         let tests = axes / AXES;
         let labels = tests / TESTS;
         let operands = labels / LABELS;
         Position {
-            kind: word % KINDS,
+            kind: packed % KINDS,
             role: roles % ROLES,
             axis: axes % AXES,
             test: tests % TESTS,
@@ -141,9 +141,9 @@ impl Position {
 }
 
 // One position more, behind the first `count`.
-pub fn push(words: &mut [usize], count: usize, p: Position)
-    requires { ⌜ PushPre (now words) count p ⌝ }
-    ensures { λ r. ⌜ PushPost (now (words .entry)) count p (now (words .exit)) ⌝ }
+pub fn push(positions: &mut [usize], count: usize, p: Position)
+    requires { ⌜ PushPre (now positions) count p ⌝ }
+    ensures { λ r. ⌜ PushPost (now (positions .entry)) count p (now (positions .exit)) ⌝ }
 {
-    words[count] = p.packed();
+    positions[count] = p.packed();
 }

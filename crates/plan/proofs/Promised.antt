@@ -14,19 +14,19 @@ use Rattle.model.proofs.StoredBack.{storedBack}
 use Rattle.model.proofs.TestLaws.{isIn-some}
 use Rattle.model.proofs.RefusedByTable.{refusedByTable}
 use Rattle.plan_table.specs.Results.{refusalOf}
-use Rattle.plan_table.specs.Words.{encode, decode, fits}
+use Rattle.plan_table.specs.Packed.{encode, decode, fits}
 use Rattle.plan_table.specs.declared.Table.{Table}
 use Rattle.plan_table.specs.declared.Written.{Written}
 use Rattle.plan_table.proofs.FittedLaws.{well-decode, fits-at}
-use Rattle.plan_table.proofs.WordLaws.{encode-decode}
+use Rattle.plan_table.proofs.PackedLaws.{encode-decode}
 use Rattle.plan_writer.specs.Writing.{planWritten, writtenOut}
 use Rattle.plan.specs.Calls.{readBy, planRead}
 use Rattle.plan.specs.Promise.{TableBack, BytesBack}
 use Rattle.plan_writer.proofs.WritePlanLaws.{write-fine, write-out, stored-fits, stored-written, stored-out}
 
--- TABLE TO BYTES TO TABLE: the words of a table that fits are those of the table that it stands for
-words-back : (t : Table) → length (t .rows) ≡ 512 → fits t ≡ true → encode (decode t) ≡ t
-words-back t l e =
+-- TABLE TO BYTES TO TABLE: a table that fits is packed as the table that it stands for
+packed-back : (t : Table) → length (t .rows) ≡ 512 → fits t ≡ true → encode (decode t) ≡ t
+packed-back t l e =
     let f = fits-at (t .count) (t .rows) (t .marks) e in
     encode-decode (t .count) (t .rows) (t .marks) (omega (arith, f .few)) (f .canonical l)
 
@@ -39,7 +39,7 @@ tableBack t o l e room =
           ap (λ (b : List ℕ). planRead (take (length s) b)) (write-out t o e room) ∙
           ap planRead (take-at s (drop (length s) o) (length s) refl) ∙
           ap readBy (storedBack .0 (decode t) (well-decode t e)) ∙
-          ap (λ (u : Table). record { refusal = refusalOf fine; table = u }) (words-back t l e),
+          ap (λ (u : Table). record { refusal = refusalOf fine; table = u }) (packed-back t l e),
     )
 
 -- BYTES TO TABLE TO BYTES: a table read from bytes is stored as those bytes, 2,080 at most

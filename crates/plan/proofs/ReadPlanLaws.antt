@@ -6,12 +6,12 @@ use Rattle.model.specs.Refusal.{refusal}
 use Rattle.model.specs.Table as model
 use Rattle.model.specs.Stored.{refused, got}
 use Rattle.model.proofs.BoolLaws.{cond-eq, cond-ne}
-use Rattle.plan_table.specs.Words.{decodeParts, encode}
+use Rattle.plan_table.specs.Packed.{decodeParts, encode}
 use Rattle.plan_reader.specs.Reading.{ReadPost}
 use Rattle.plan.specs.Calls.{readBy, planRead}
 use Rattle.plan_table.specs.declared.Table.{Table}
 use Rattle.plan_table.specs.declared.End.{End}
-use Rattle.plan_table.proofs.WordLaws.{encode-decode}
+use Rattle.plan_table.proofs.PackedLaws.{encode-decode}
 use Rattle.plan_table.specs.Results.{withTable}
 
 module _ (b ws ms : List ℕ) (r : End) (post : ReadPost b ws ms r) where

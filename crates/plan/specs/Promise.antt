@@ -10,13 +10,13 @@ use Rattle.model.specs.Limits.{maxRows}
 use Rattle.model.specs.Refusal.{fine}
 use Rattle.model.specs.Stored.{stored}
 use Rattle.plan_table.specs.Results.{refusalOf}
-use Rattle.plan_table.specs.Words.{decode, fits}
+use Rattle.plan_table.specs.Packed.{decode, fits}
 use Rattle.plan_table.specs.declared.Table.{Table}
 use Rattle.plan_writer.specs.Writing.{planWritten, writtenOut}
 use Rattle.plan.specs.Calls.{planRead}
 
--- DEMAND 2, table to bytes to table: a table that fits, in its 512 words, is written where there is room, and what is written is read as
--- that table, word for word
+-- DEMAND 2, table to bytes to table: a table that fits, with its 512 packed rows, is written where there is room, and what is written is
+-- read as the same table
 abbrev pub TableBack : Type 0
 TableBack =
     (t : Table) (o : List ℕ) → length (t .rows) ≡ maxRows → fits t ≡ true → length (stored (decode t)) ≤ length o →

@@ -13,14 +13,14 @@ use Rattle.model.specs.Limits.{maxRows, documents, maxName}
 use Rattle.model.specs.Refusal.{refusal, fine, linkAt, unless}
 use Rattle.model.specs.Table as model
 use Rattle.model.specs.Stored.{elementKind, leafKind, markKind, storedKinds, isStoredKind, recordSize, noParent, isMark}
-use Rattle.model.specs.Stored.{wordAt, rowIn, parentIn, rowRefusal, markRefusal, lastMarked, recordRefusal}
+use Rattle.model.specs.Stored.{numberAt, rowIn, parentIn, rowRefusal, markRefusal, lastMarked, recordRefusal}
 use Rattle.model.proofs.BoolLaws.{by-cases, eq-cases, cond-eq, cond-false}
 use Rattle.model.proofs.KindLaws.{row-kind, stored-size}
 use Rattle.model.proofs.BytesLaws.{lastMarked-above}
-use Rattle.plan_table.specs.Words.{elementWord, leafWord, linkOf, ofLink, wordOf, rowsOf, wordsOf, decodeParts}
+use Rattle.plan_table.specs.Packed.{elementBits, leafBits, linkOf, ofLink, packRow, rowsOf, packRows, decodeParts}
 use Rattle.plan_table.specs.Fitting.{isElementBelow, isRootBelow}
 use Rattle.plan_reader.specs.Reading.{lastOf, RowPre, RowPost, MarkPre, MarkPost, RecordPre, RecordPost, Recorded}
-use Rattle.plan_table.proofs.WordLaws.{ofLink-linkOf, count-decode, canonical-push}
+use Rattle.plan_table.proofs.PackedLaws.{ofLink-linkOf, count-decode, canonical-push}
 use Rattle.plan_table.proofs.DecodeLaws.{element-below, root-below, decode-mark, decode-row}
 use Rattle.model.proofs.ListLaws.{map-set}
 
@@ -36,26 +36,26 @@ tag-fits s kind row f b =
     (λ e. let k : 1 ≤ getD s 1 0 = omega (arith, f e) in rw (e, le-leb 1 (getD s 1 0) k) (le-leb (getD s 1 0) maxName b))
     (λ e. rw e (le-leb (getD s 1 0) maxByte b))
 
--- the word of the row at the front
+-- the row at the front, packed
 module _ (s : List ℕ) where
-  pub row-word-none : wordAt s 2 ≡ noParent →
-      cond (eqb (getD s 0 0) leafKind) leafWord elementWord + 4 * 0 + 4096 * getD s 1 0 ≡ wordOf (rowIn s)
-  row-word-none h = rw (eq-eqb (wordAt s 2) noParent h)
+  pub packed-none : numberAt s 2 ≡ noParent →
+      cond (eqb (getD s 0 0) leafKind) leafBits elementBits + 4 * 0 + 4096 * getD s 1 0 ≡ packRow (rowIn s)
+  packed-none h = rw (eq-eqb (numberAt s 2) noParent h)
 
-  pub row-word-some : (wordAt s 2 ≡ noParent → ⊥) →
-      cond (eqb (getD s 0 0) leafKind) leafWord elementWord + 4 * (wordAt s 2 + 1) + 4096 * getD s 1 0 ≡ wordOf (rowIn s)
-  row-word-some h = rw (ne-eqb (wordAt s 2) noParent h)
+  pub packed-some : (numberAt s 2 ≡ noParent → ⊥) →
+      cond (eqb (getD s 0 0) leafKind) leafBits elementBits + 4 * (numberAt s 2 + 1) + 4096 * getD s 1 0 ≡ packRow (rowIn s)
+  packed-some h = rw (ne-eqb (numberAt s 2) noParent h)
 
-pub link-none : (s : List ℕ) → wordAt s 2 ≡ noParent → linkOf (rowIn s .parent) < 1024
-link-none s h = rw (eq-eqb (wordAt s 2) noParent h) (omega arith)
+pub link-none : (s : List ℕ) → numberAt s 2 ≡ noParent → linkOf (rowIn s .parent) < 1024
+link-none s h = rw (eq-eqb (numberAt s 2) noParent h) (omega arith)
 
-pub link-some : (s : List ℕ) → wordAt s 2 < maxRows → linkOf (rowIn s .parent) < 1024
-link-some s h = let e : wordAt s 2 ≡ noParent → ⊥ = λ q. omega arith in rw (ne-eqb (wordAt s 2) noParent e) (omega arith)
+pub link-some : (s : List ℕ) → numberAt s 2 < maxRows → linkOf (rowIn s .parent) < 1024
+link-some s h = let e : numberAt s 2 ≡ noParent → ⊥ = λ q. omega arith in rw (ne-eqb (numberAt s 2) noParent e) (omega arith)
 
 -- a row at the front, by the tests on its way out
 module _ (s ws ms : List ℕ) (n i : ℕ) (pre : RowPre s ws n) where
-  in-words : n ≤ length ws
-  in-words = omega (arith, pre .room, pre .size)
+  in-rows : n ≤ length ws
+  in-rows = omega (arith, pre .room, pre .size)
 
   pub row-field : getD s 0 0 ≡ elementKind → getD s 1 0 ≡ 0 → rowRefusal (decodeParts n ws ms) i s ≡ refusal 4 i
   row-field k t = rw (k, t)
@@ -68,18 +68,18 @@ module _ (s ws ms : List ℕ) (n i : ℕ) (pre : RowPre s ws n) where
     row-order h = rw (fits, ne-eqb (lastOf ms) 0 h)
 
     module _ (first : lastOf ms ≡ 0) where
-      pub row-none : wordAt s 2 ≡ noParent → rowRefusal (decodeParts n ws ms) i s ≡ fine
-      row-none h = rw (fits, first, eq-eqb (wordAt s 2) noParent h)
+      pub row-none : numberAt s 2 ≡ noParent → rowRefusal (decodeParts n ws ms) i s ≡ fine
+      row-none h = rw (fits, first, eq-eqb (numberAt s 2) noParent h)
 
-      module _ (some-parent : wordAt s 2 ≡ noParent → ⊥) where
-        pub row-child : (z : Bool) → isElementBelow ws n (wordAt s 2) ≡ z →
+      module _ (some-parent : numberAt s 2 ≡ noParent → ⊥) where
+        pub row-child : (z : Bool) → isElementBelow ws n (numberAt s 2) ≡ z →
             rowRefusal (decodeParts n ws ms) i s ≡ cond z fine (refusal 6 i)
         row-child z h =
-            let c : model.count (decodeParts n ws ms) ≡ n = count-decode n ws ms in-words in
-            let e : model.isLowerElement (decodeParts n ws ms) (model.count (decodeParts n ws ms)) (wordAt s 2) ≡ z =
-            ap (λ (j : ℕ). model.isLowerElement (decodeParts n ws ms) j (wordAt s 2)) c ∙
-            element-below n ws ms in-words (wordAt s 2) n (omega arith) ∙ h in
-            rw (fits, first, ne-eqb (wordAt s 2) noParent some-parent, e)
+            let c : model.count (decodeParts n ws ms) ≡ n = count-decode n ws ms in-rows in
+            let e : model.isLowerElement (decodeParts n ws ms) (model.count (decodeParts n ws ms)) (numberAt s 2) ≡ z =
+            ap (λ (j : ℕ). model.isLowerElement (decodeParts n ws ms) j (numberAt s 2)) c ∙
+            element-below n ws ms in-rows (numberAt s 2) n (omega arith) ∙ h in
+            rw (fits, first, ne-eqb (numberAt s 2) noParent some-parent, e)
 
 -- MARKS: a mark at the front, by the tests on its way out
 module _ (s ws ms : List ℕ) (n i : ℕ) (pre : MarkPre s ws ms n) where
@@ -95,14 +95,14 @@ module _ (s ws ms : List ℕ) (n i : ℕ) (pre : MarkPre s ws ms n) where
 
     module _ (rising : lastOf ms ≤ getD s 1 0) where
       mark-tests : markRefusal (decodeParts n ws ms) i s ≡
-          unless (isRootBelow ws n (wordAt s 2) && not (any (model.isThe (wordAt s 2)) (map ofLink ms))) (linkAt i)
+          unless (isRootBelow ws n (numberAt s 2) && not (any (model.isThe (numberAt s 2)) (map ofLink ms))) (linkAt i)
       mark-tests =
-          rw (lt-ltb (getD s 1 0) documents known, le-leb (lastOf ms) (getD s 1 0) rising, root-below n ws ms within (wordAt s 2))
+          rw (lt-ltb (getD s 1 0) documents known, le-leb (lastOf ms) (getD s 1 0) rising, root-below n ws ms within (numberAt s 2))
 
-      pub mark-root : isRootBelow ws n (wordAt s 2) ≡ false → markRefusal (decodeParts n ws ms) i s ≡ refusal 6 i
+      pub mark-root : isRootBelow ws n (numberAt s 2) ≡ false → markRefusal (decodeParts n ws ms) i s ≡ refusal 6 i
       mark-root h = mark-tests ∙ rw h
 
-      pub mark-by : isRootBelow ws n (wordAt s 2) ≡ true → (z : Bool) → any (model.isThe (wordAt s 2)) (map ofLink ms) ≡ z →
+      pub mark-by : isRootBelow ws n (numberAt s 2) ≡ true → (z : Bool) → any (model.isThe (numberAt s 2)) (map ofLink ms) ≡ z →
           markRefusal (decodeParts n ws ms) i s ≡ cond z (refusal 6 i) fine
       mark-by root true h = mark-tests ∙ rw (root, h)
       mark-by root false h = mark-tests ∙ rw (root, h)
@@ -172,25 +172,25 @@ module _ (s ws ms : List ℕ) (n last : ℕ) (pre : RecordPre s ws ms n last) (w
   mark-record kind ms′ r d post same =
       record {
         refusal = λ i. record-mark (decodeParts n ws ms) i s kind whole ∙ post .refusal i (pre .held .latest);
-        fine = λ z. held z (post .marks ∙ cond-eq (set ms (getD s 1 0) (wordAt s 2 + 1)) ms z);
+        fine = λ z. held z (post .marks ∙ cond-eq (set ms (getD s 1 0) (numberAt s 2 + 1)) ms z);
       }
     where
-      held : r ≡ 0 → ms′ ≡ set ms (getD s 1 0) (wordAt s 2 + 1) → Recorded s ws ms n ws ms′ n (d + 1)
+      held : r ≡ 0 → ms′ ≡ set ms (getD s 1 0) (numberAt s 2 + 1) → Recorded s ws ms n ws ms′ n (d + 1)
       held z e =
           let f : getD s 1 0 < length ms = omega (arith, post .document z, pre .held .documents) in
           let o : lastOf ms ≤ getD s 1 0 = omega (arith, post .order z, pre .held .latest) in
           record {
             whole = whole;
             table =
-                ap (decodeParts n ws) e ∙ decode-mark n (getD s 1 0) (wordAt s 2) ws ms ∙
+                ap (decodeParts n ws) e ∙ decode-mark n (getD s 1 0) (numberAt s 2) ws ms ∙
                 sym (cond-eq _ _ kind);
             held =
                 record {
                   room = pre .held .room;
                   size = pre .held .size;
-                  documents = ap length e ∙ length-set ms (getD s 1 0) (wordAt s 2 + 1) ∙ pre .held .documents;
+                  documents = ap length e ∙ length-set ms (getD s 1 0) (numberAt s 2 + 1) ∙ pre .held .documents;
                   canonical = pre .held .canonical;
-                  latest = ap (λ (j : ℕ). j + 1) same ∙ sym (ap lastOf e ∙ lastOf-set ms (getD s 1 0) (wordAt s 2) f o);
+                  latest = ap (λ (j : ℕ). j + 1) same ∙ sym (ap lastOf e ∙ lastOf-set ms (getD s 1 0) (numberAt s 2) f o);
                 };
           }
 
@@ -199,13 +199,13 @@ module _ (s ws ms : List ℕ) (n last : ℕ) (pre : RecordPre s ws ms n last) (w
   row-record kind row room ws′ r post =
       record {
         refusal = λ i. record-row (decodeParts n ws ms) i s kind row counted whole ∙ post .refusal ms i (pre .held .latest);
-        fine = λ z. held z (post .rows ∙ cond-eq (set ws n (wordOf (rowIn s))) ws z);
+        fine = λ z. held z (post .rows ∙ cond-eq (set ws n (packRow (rowIn s))) ws z);
       }
     where
       counted : model.count (decodeParts n ws ms) < maxRows
       counted = omega (arith, room, count-decode n ws ms (omega (arith, pre .held .room, pre .held .size)))
 
-      held : r ≡ 0 → ws′ ≡ set ws n (wordOf (rowIn s)) → Recorded s ws ms n ws′ ms (n + 1) last
+      held : r ≡ 0 → ws′ ≡ set ws n (packRow (rowIn s)) → Recorded s ws ms n ws′ ms (n + 1) last
       held z e =
           let h : n < length ws = omega (arith, room, pre .held .size) in
           record {
@@ -216,10 +216,10 @@ module _ (s ws ms : List ℕ) (n last : ℕ) (pre : RecordPre s ws ms n last) (w
             held =
                 record {
                   room = omega arith;
-                  size = ap length e ∙ length-set ws n (wordOf (rowIn s)) ∙ pre .held .size;
+                  size = ap length e ∙ length-set ws n (packRow (rowIn s)) ∙ pre .held .size;
                   documents = pre .held .documents;
                   canonical =
-                      ap (λ (v : List ℕ). wordsOf (rowsOf (n + 1) v)) e ∙
+                      ap (λ (v : List ℕ). packRows (rowsOf (n + 1) v)) e ∙
                       canonical-push n ws (rowIn s) room (pre .held .size) (post .link z) (pre .held .canonical) ∙ sym e;
                   latest = pre .held .latest;
                 };

@@ -14,7 +14,7 @@ use Rattle.model.proofs.BoolLaws.{cond-true}
 use Rattle.model.proofs.KindLaws.{stored-size}
 use Rattle.model.proofs.ListLaws.{drop-all, drop-first}
 use Rattle.model.proofs.StoredLaws.{readFrom-end, readFrom-fine, readFrom-refused, readFrom-fuel, fine-kind}
-use Rattle.plan_table.specs.Words.{ofLink, decodeParts}
+use Rattle.plan_table.specs.Packed.{ofLink, decodeParts}
 use Rattle.plan_table.specs.StoredKinds.{sizeRead}
 use Rattle.plan_reader.specs.Reading.{lastOf, RecordPost, Held, ReadPre}
 use Rattle.plan_reader.specs.declared.read.RecordRead.{RecordRead}

@@ -7,9 +7,9 @@ use lib.Dec.{eqb}
 use lib.ListN.{length, getD, set, replicate}
 use Rattle.model.specs.Limits.{maxRows, documents}
 use Rattle.model.specs.Refusal.{refusal, refusalAt}
-use Rattle.model.specs.Stored.{isStoredKind, recordSize, Read, refused, got, readPlan, wordAt, rowIn, lastMarked}
+use Rattle.model.specs.Stored.{isStoredKind, recordSize, Read, refused, got, readPlan, numberAt, rowIn, lastMarked}
 use Rattle.model.specs.Stored.{isMark, rowRefusal, markRefusal, recordRefusal, recorded}
-use Rattle.plan_table.specs.Words.{linkOf, ofLink, wordOf, decodeParts, Canonical}
+use Rattle.plan_table.specs.Packed.{linkOf, ofLink, packRow, decodeParts, Canonical}
 use Rattle.plan_reader.specs.declared.read.RecordRead.{RecordRead}
 use Rattle.plan_table.specs.declared.End.{End}
 
@@ -26,7 +26,7 @@ pub record RowPre (s ws : List ℕ) (n : ℕ) : Type 0 where
 
 pub record RowPost (s ws : List ℕ) (n last : ℕ) (ws′ : List ℕ) (r : ℕ) : Type 0 where
   pub refusal : (ms : List ℕ) (i : ℕ) → last ≡ lastOf ms → rowRefusal (decodeParts n ws ms) i s ≡ refusalAt r i
-  pub rows : ws′ ≡ cond (eqb r 0) (set ws n (wordOf (rowIn s))) ws
+  pub rows : ws′ ≡ cond (eqb r 0) (set ws n (packRow (rowIn s))) ws
   pub link : r ≡ 0 → linkOf (rowIn s .parent) < 1024
 
 pub record MarkPre (s ws ms : List ℕ) (n : ℕ) : Type 0 where
@@ -37,11 +37,11 @@ pub record MarkPre (s ws ms : List ℕ) (n : ℕ) : Type 0 where
 
 pub record MarkPost (s ws ms : List ℕ) (n last : ℕ) (ms′ : List ℕ) (r : ℕ) : Type 0 where
   pub refusal : (i : ℕ) → last ≡ lastOf ms → markRefusal (decodeParts n ws ms) i s ≡ refusalAt r i
-  pub marks : ms′ ≡ cond (eqb r 0) (set ms (getD s 1 0) (wordAt s 2 + 1)) ms
+  pub marks : ms′ ≡ cond (eqb r 0) (set ms (getD s 1 0) (numberAt s 2 + 1)) ms
   pub document : r ≡ 0 → getD s 1 0 < documents
   pub order : r ≡ 0 → last ≤ getD s 1 0
 
--- the table so far, in its words and marks: `last` is one more than the last document that marks a row
+-- the table so far, packed, and its marks: `last` is one more than the last document that marks a row
 pub record Held (ws ms : List ℕ) (n last : ℕ) : Type 0 where
   pub room : n ≤ maxRows
   pub size : length ws ≡ maxRows

@@ -1,2 +1,2 @@
-// Reading a stored plan into the words of a table.
+// Reading a stored plan into the packed rows of a table.
 pub mod read;

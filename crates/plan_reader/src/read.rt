@@ -4,7 +4,7 @@ ghost use mathlib.Core.Bool.{cond};
 ghost use Prim.Native.Nat.{_+_, _*_, _<_};
 ghost use lib.Dec.{eqb};
 ghost use Rattle.model.specs.Stored.{leafKind};
-ghost use Rattle.plan_table.specs.Words.{elementWord, leafWord};
+ghost use Rattle.plan_table.specs.Packed.{elementBits, leafBits};
 ghost use Rattle.plan_reader.specs.Reading.{RowPre, RowPost, MarkPre, MarkPost, RecordPre, RecordPost, ReadPre, ReadPost};
 use plan_table::End;
 use plan_table::Link;
@@ -14,8 +14,8 @@ use plan_table::Table;
 use plan_table::fit;
 use plan_table::marks;
 use plan_table::number;
+use plan_table::packed;
 use plan_table::stored;
-use plan_table::words;
 
 // After a record: its refusal's number, or 0; rows so far; one more than the last document that marks a row.
 pub struct RecordRead {
@@ -24,15 +24,15 @@ pub struct RecordRead {
     pub last: usize,
 }
 
-// The word of a stored row: its kind and its name or value as they are stored, its parent's link.
-fn word(kind: u8, tag: u8, parent: Link) -> u32
+// A stored row, packed: its kind and its name or value as they are stored, its parent's link.
+fn packed_row(kind: u8, tag: u8, parent: Link) -> u32
     requires { ⌜ parent .0 < 1024 ⌝ }
-    ensures { λ r. ⌜ r ≡ cond (eqb kind leafKind) leafWord elementWord + 4 * parent .0 + 4096 * tag ⌝ }
+    ensures { λ r. ⌜ r ≡ cond (eqb kind leafKind) leafBits elementBits + 4 * parent .0 + 4096 * tag ⌝ }
 {
     if kind == stored::LEAF {
-        return words::leaf(tag, parent);
+        return packed::leaf(tag, parent);
     }
-    words::element(number::name(tag), parent)
+    packed::element(number::name(tag), parent)
 }
 
 // The row at the front of s: its refusal's number, or 0 and the table has it.
@@ -52,14 +52,14 @@ fn row(s: &[u8], rows: &mut [u32], count: usize, last: usize) -> u8
     }
     let parent = number::number_at(s, 2);
     if parent == number::NONE {
-        rows[count] = word(kind, tag, Link(0));
+        rows[count] = packed_row(kind, tag, Link(0));
         return 0;
     }
     if !fit::is_lower_element(rows, RowNumber(count), RowNumber(parent)) {
         return Refusal::LINK;
     }
     let link = parent + 1;
-    rows[count] = word(kind, tag, Link(link));
+    rows[count] = packed_row(kind, tag, Link(link));
     0
 }
 

@@ -1,4 +1,4 @@
--- The sweep over words, one mark and one row at a time, is the model's sweep.
+-- The sweep over packed rows, one mark and one row at a time, is the model's sweep.
 use mathlib.Core.Path.{_≡_, refl, ap, sym, _∙_}
 use mathlib.Core.Bool.{Bool, true, false, _||_, not, cond}
 use mathlib.Core.List.{List, [], _∷_, _++_, map, map-append, append-nil}
@@ -16,11 +16,11 @@ use Rattle.model.specs.Table as model
 use Rattle.model.specs.Sweep.{isKept, newNumber, keptBefore, renumbered, sweptRows, sweptMarks, swept, through}
 use Rattle.model.proofs.BoolLaws.{by-cases, cond-true, cond-false, or-neither, eq-cases}
 use Rattle.model.proofs.ListLaws.{take-next, drop-next}
-use Rattle.plan_table.specs.Words.{linkOf, ofLink, wordOf, rowOf, rowsOf, wordsOf, decodeParts, decode, encode, linkIn}
-use Rattle.plan_table.specs.Words as words
-use Rattle.plan_sweep.specs.Sweeping.{planSwept, Flagged, keepsRow, newWord, RowPost, numberOf, Sweeping, newLinks}
+use Rattle.plan_table.specs.Packed.{linkOf, ofLink, packRow, rowOf, rowsOf, packRows, decodeParts, decode, encode, linkIn}
+use Rattle.plan_table.specs.Packed as packed
+use Rattle.plan_sweep.specs.Sweeping.{planSwept, Flagged, keepsRow, relinked, RowPost, numberOf, Sweeping, newLinks}
 use Rattle.plan_table.specs.declared.Table.{Table}
-use Rattle.plan_table.proofs.WordLaws.{ofLink-linkOf, withLink-wordOf, wordsOf-snoc, count-decode, take-rows, ofLink-some}
+use Rattle.plan_table.proofs.PackedLaws.{ofLink-linkOf, withLink-packRow, packRows-snoc, count-decode, take-rows, ofLink-some}
 use Rattle.plan_table.proofs.DecodeLaws.{link-low, parent-linked, parent-at, mark-row}
 use Rattle.plan_table.proofs.FittedLaws.{Fits, fits-mark}
 use Rattle.model.proofs.SweepLaws.{newNumber-zero, newNumber-suc, isKept-unrolled, newNumber-le, isKept-marked}
@@ -179,11 +179,11 @@ module _ (ws ms : List ℕ) (n i : ℕ) (fits : Fits n ws ms) (size : length ws 
           ap (newNumber x) (add-one i) ∙ newNumber-suc x i ∙ ap (λ (u : Bool). newNumber x i + cond u 1 0) e ∙
           ap (λ (j : ℕ). j + cond t 1 0) (sym (s .kept))
 
-      rows-are : {v : List ℕ} (t : Bool) → isKept x i ≡ t → v ≡ wordsOf (before ++ cond t (row ∷ []) []) →
-          v ≡ wordsOf (sweptRows x 0 (take (i + 1) (rowsOf n ws)))
-      rows-are t k e = e ∙ ap (λ (t : Bool). wordsOf (before ++ cond t (row ∷ []) [])) (sym k) ∙ ap wordsOf (sym rows-kept)
+      rows-are : {v : List ℕ} (t : Bool) → isKept x i ≡ t → v ≡ packRows (before ++ cond t (row ∷ []) []) →
+          v ≡ packRows (sweptRows x 0 (take (i + 1) (rowsOf n ws)))
+      rows-are t k e = e ∙ ap (λ (t : Bool). packRows (before ++ cond t (row ∷ []) [])) (sym k) ∙ ap packRows (sym rows-kept)
 
-      kept : isKept x i ≡ true → ns′ ≡ set ns (i + 1) (next + 1) → out′ ≡ set out next (newWord (getD ws i 0) ns) → r ≡ next + 1 →
+      kept : isKept x i ≡ true → ns′ ≡ set ns (i + 1) (next + 1) → out′ ≡ set out next (relinked (getD ws i 0) ns) → r ≡ next + 1 →
           Sweeping x (i + 1) r ns′ out′
       kept k e f g =
           record {
@@ -195,17 +195,17 @@ module _ (ws ms : List ℕ) (n i : ℕ) (fits : Fits n ws ms) (size : length ws 
                 s .flags j (omega arith) u;
             kept = g ∙ sym (counted true k);
             rows = rows-are true k
-                (f ∙ ap (λ (v : List ℕ). set v next word) (s .rows) ∙
-                ap (λ (j : ℕ). set (wordsOf before) j word) (sym swept-length) ∙
-                ap (set (wordsOf before) (length before))
-                (withLink-wordOf (getD ws i 0) (getD ns link 0) entry-low (fits .kinds i low within) ∙
-                ap (λ (p : Option ℕ). wordOf (model.withParent (rowOf (getD ws i 0)) p))
+                (f ∙ ap (λ (v : List ℕ). set v next packed) (s .rows) ∙
+                ap (λ (j : ℕ). set (packRows before) j packed) (sym swept-length) ∙
+                ap (set (packRows before) (length before))
+                (withLink-packRow (getD ws i 0) (getD ns link 0) entry-low (fits .kinds i low within) ∙
+                ap (λ (p : Option ℕ). packRow (model.withParent (rowOf (getD ws i 0)) p))
                 (ap ofLink (parent-new k) ∙ ofLink-linkOf (renumbered x (ofLink link)))) ∙
-                sym (wordsOf-snoc before row (omega (arith, swept-length, next-low, fits .few))));
+                sym (packRows-snoc before row (omega (arith, swept-length, next-low, fits .few))));
           }
         where
-          word : ℕ
-          word = newWord (getD ws i 0) ns
+          packed : ℕ
+          packed = relinked (getD ws i 0) ns
 
           new : (j : ℕ) → j ≡ i → getD (set ns (i + 1) (next + 1)) (j + 1) 0 ≡ numberOf x j
           new j m =
@@ -224,7 +224,7 @@ module _ (ws ms : List ℕ) (n i : ℕ) (fits : Fits n ws ms) (size : length ws 
             done = λ j l. ap (λ (v : List ℕ). getD v (j + 1) 0) e ∙ eq-cases j i (new j) (λ z. s .done j (omega (arith, z)));
             flags = λ j l u. ap (λ (v : List ℕ). getD v (j + 1) 0) e ∙ s .flags j (omega arith) u;
             kept = g ∙ sym (counted false k ∙ add-zero next);
-            rows = rows-are false k (f ∙ s .rows ∙ ap wordsOf (sym (append-nil before)));
+            rows = rows-are false k (f ∙ s .rows ∙ ap packRows (sym (append-nil before)));
           }
         where
           unmarked : model.isMarked x i ≡ false
@@ -296,12 +296,12 @@ module _ (ws ms : List ℕ) (n : ℕ) (fits : Fits n ws ms) (size : length ws �
       s .kept ∙ sym (length-sweptRows plan 0 (rowsOf n ws) ∙ ap (keptBefore plan 0) (count-decode n ws ms all-within))
 
   pub encode-swept : (ms′ : List ℕ) → ms′ ≡ newLinks ns ms → record { count = next; rows = out; marks = ms′ } ≡ encode (swept plan)
-  encode-swept ms′ e = λ i. record { count = kept-count i; rows = (s .rows ∙ ap wordsOf rows-all) i; marks = (e ∙ links-swept) i }
+  encode-swept ms′ e = λ i. record { count = kept-count i; rows = (s .rows ∙ ap packRows rows-all) i; marks = (e ∙ links-swept) i }
 
 -- refused, and swept
-pub sweep-ill : (t : Table) → words.fits t ≡ false → withTable (linkAt 0) t ≡ planSwept t
+pub sweep-ill : (t : Table) → packed.fits t ≡ false → withTable (linkAt 0) t ≡ planSwept t
 sweep-ill t e = rw e
 
-pub sweep-done : (t : Table) (u : Table) → words.fits t ≡ true → u ≡ encode (swept (decode t)) →
+pub sweep-done : (t : Table) (u : Table) → packed.fits t ≡ true → u ≡ encode (swept (decode t)) →
     record { refusal = record { number = 0; place = 0 }; table = u } ≡ planSwept t
 sweep-done t u e f = rw e (λ i. record { refusal = record { number = 0; place = 0 }; table = f i })

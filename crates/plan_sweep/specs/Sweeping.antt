@@ -11,7 +11,7 @@ use Rattle.model.specs.Table as model
 use Rattle.model.specs.Refusal as refusal
 use Rattle.model.specs.Sweep.{swept, isKept, newNumber, sweptRows}
 use Rattle.plan_table.specs.Flags.{Flags}
-use Rattle.plan_table.specs.Words.{ofLink, withLink, wordsOf, decode, partsFit, fits, linkIn}
+use Rattle.plan_table.specs.Packed.{ofLink, withLink, packRows, decode, partsFit, fits, linkIn}
 use Rattle.plan_table.specs.Results.{result, withTable}
 use Rattle.plan_table.specs.declared.Table.{Table}
 use Rattle.plan_table.specs.declared.TableResult.{TableResult}
@@ -37,11 +37,11 @@ Flagged ms ns = Flags (λ (k : ℕ). any (model.isThe k) (map ofLink ms)) ns
 abbrev pub keeps : (flag parent : ℕ) → Bool
 keeps f p = not (eqb f 0) || not (eqb p 0)
 
-abbrev pub keepsRow : (word row : ℕ) → (numbers : List ℕ) → Bool
+abbrev pub keepsRow : (packed row : ℕ) → (numbers : List ℕ) → Bool
 keepsRow w i ns = keeps (getD ns (i + 1) 0) (getD ns (linkIn w) 0)
 
-abbrev pub newWord : (word : ℕ) → (numbers : List ℕ) → ℕ
-newWord w ns = withLink w (getD ns (linkIn w) 0)
+abbrev pub relinked : (packed : ℕ) → (numbers : List ℕ) → ℕ
+relinked w ns = withLink w (getD ns (linkIn w) 0)
 
 pub record RowPre (w i next : ℕ) (ns out : List ℕ) : Type 0 where
   pub low : i < maxRows
@@ -53,7 +53,7 @@ pub record RowPre (w i next : ℕ) (ns out : List ℕ) : Type 0 where
 
 pub record RowPost (w i next : ℕ) (ns out ns′ out′ : List ℕ) (r : ℕ) : Type 0 where
   pub numbers : ns′ ≡ cond (keepsRow w i ns) (set ns (i + 1) (next + 1)) ns
-  pub rows : out′ ≡ cond (keepsRow w i ns) (set out next (newWord w ns)) out
+  pub rows : out′ ≡ cond (keepsRow w i ns) (set out next (relinked w ns)) out
   pub result : r ≡ cond (keepsRow w i ns) (next + 1) next
 
 -- ALL ROWS: those before i are done, `next` of them kept; the flags of the others still stand
@@ -66,7 +66,7 @@ pub record Sweeping (x : model.Table) (i next : ℕ) (ns out : List ℕ) : Type 
   pub done : (k : ℕ) → k < i → getD ns (k + 1) 0 ≡ numberOf x k
   pub flags : (k : ℕ) → i ≤ k → k < maxRows → getD ns (k + 1) 0 ≡ bit (model.isMarked x k)
   pub kept : next ≡ newNumber x i
-  pub rows : out ≡ wordsOf (sweptRows x 0 (take i (x .rows)))
+  pub rows : out ≡ packRows (sweptRows x 0 (take i (x .rows)))
 
 pub record RowsPre (ws ms : List ℕ) (n : ℕ) (ns out : List ℕ) : Type 0 where
   pub size : length ws ≡ maxRows

@@ -6,11 +6,11 @@ ghost use Prim.Native.Nat.{_<_};
 ghost use lib.Dec.{eqb};
 ghost use lib.ListN.{length, set};
 ghost use Rattle.plan_sweep.specs.Sweeping.{FlagPre, Flagged, keeps, RowPre, RowPost, RowsPre, Sweeping, LinksPre, newLinks};
-ghost use Rattle.plan_table.specs.Words.{decodeParts};
+ghost use Rattle.plan_table.specs.Packed.{decodeParts};
 use plan_table::Link;
 use plan_table::RowNumber;
 use plan_table::number;
-use plan_table::words;
+use plan_table::packed;
 
 // Flags the row with this link, if there is one.
 fn flag_one(numbers: &mut [u16], link: Link)
@@ -51,14 +51,14 @@ fn row(w: u32, row: RowNumber, next: usize, numbers: &mut [u16], out: &mut [u32]
     requires { ⌜ RowPre w (row .0) next (now numbers) (now out) ⌝ }
     ensures { λ r. ⌜ RowPost w (row .0) next (now (numbers .entry)) (now (out .entry)) (now (numbers .exit)) (now (out .exit)) r ⌝ }
 {
-    let old = words::link(w).0;
+    let old = packed::link(w).0;
     let parent = Link(number::index(numbers[old]));
     let i = row.0;
     if !is_kept(numbers[i + 1], parent) {
         return next;
     }
     numbers[i + 1] = (next + 1) as u16;
-    out[next] = words::relinked(w, parent);
+    out[next] = packed::relinked(w, parent);
     next + 1
 }
 

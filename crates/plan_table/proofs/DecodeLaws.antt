@@ -1,4 +1,4 @@
--- What the table decoded from words has: its elements, parents and marks; one mark or one row more.
+-- What the table decoded from packed rows has: its elements, parents and marks; one mark or one row more.
 use mathlib.Core.Path.{_≡_, ap, sym, _∙_}
 use mathlib.Core.Bool.{Bool, true, false, _&&_, _||_, not}
 use mathlib.Core.List.{List, [], _∷_, _++_, map, map-append}
@@ -10,18 +10,18 @@ use lib.ListN.{length, getD, set, drop, drop-of-length-le, List·getD-map}
 use borrow.Author.Tests.{lt-ltb, ltb-true, ne-eqb}
 use Rattle.model.specs.Base.{any}
 use Rattle.model.specs.Table as model
-use Rattle.model.specs.Stored.{wordBytes, parentBytes, noParent}
+use Rattle.model.specs.Stored.{numberBytes, parentBytes, noParent}
 use Rattle.model.proofs.BoolLaws.{and-left, by-cases, eq-cases, eqb-iff}
-use Rattle.plan_table.specs.Words.{linkOf, ofLink, wordOf, rowsOf, decodeParts, kindIn, linkIn}
+use Rattle.plan_table.specs.Packed.{linkOf, ofLink, packRow, rowsOf, decodeParts, kindIn, linkIn}
 use Rattle.plan_table.specs.Fitting.{isElementBelow, isRootBelow}
-use Rattle.plan_table.proofs.WordLaws.{ofLink-linkOf, count-decode, rowAt-decode, rowsOf-push, ofLink-some}
+use Rattle.plan_table.proofs.PackedLaws.{ofLink-linkOf, count-decode, rowAt-decode, rowsOf-push, ofLink-some}
 use Rattle.model.proofs.ListLaws.{map-set, any-snoc, drop-next}
 
 -- an element below a bound is below it
 pub below-bound : (ws : List ℕ) (n p : ℕ) → isElementBelow ws n p ≡ true → p < n
 below-bound ws n p e = ltb-true p n (and-left _ _ e)
 
--- whether a row of the table is an element, a lower one than row i, one without parent, from its word
+-- whether a row of the table is an element, a lower one than row i, one without parent, from its packed row
 module _ (n : ℕ) (ws ms : List ℕ) (within : n ≤ length ws) (p : ℕ) where
   pub element-kind : p < n → model.isElement (decodeParts n ws ms) p ≡ not (eqb (kindIn (getD ws p 0)) 2)
   element-kind h =
@@ -43,7 +43,7 @@ module _ (n : ℕ) (ws ms : List ℕ) (within : n ≤ length ws) (p : ℕ) where
       root : (l : ℕ) → not (model.hasParent (ofLink l)) ≡ eqb l 0
       root l = by-cases (eqb l 0) (λ t. rw t) (λ t. rw t)
 
--- a row's parent, from the link in its word
+-- a row's parent, from the link in its packed row
 module _ (n : ℕ) (ws ms : List ℕ) (within : n ≤ length ws) (i : ℕ) (h : i < n) where
   pub parent-linked : model.rowAt (decodeParts n ws ms) i .parent ≡ ofLink (linkIn (getD ws i 0))
   parent-linked = ap (λ (r : model.Row). r .parent) (rowAt-decode n ws ms within i h)
@@ -88,12 +88,12 @@ decode-mark n d i ws ms =
     ap (model.table (rowsOf n ws)) (map-set ofLink ms d (i + 1) ∙ ap (set (map ofLink ms) d) (ofLink-linkOf (some i)))
 
 pub decode-row : (n : ℕ) (r : model.Row) (ws ms : List ℕ) → n < length ws → linkOf (r .parent) < 1024 →
-    decodeParts (n + 1) (set ws n (wordOf r)) ms ≡ model.withRow (decodeParts n ws ms) r
+    decodeParts (n + 1) (set ws n (packRow r)) ms ≡ model.withRow (decodeParts n ws ms) r
 decode-row n r ws ms h f = ap (λ (rs : List model.Row). model.table rs (map ofLink ms)) (rowsOf-push n ws r h f)
 
 -- the number stored for the parent with a link
-pub parent-none : (l : ℕ) → l ≡ 0 → wordBytes noParent ≡ parentBytes (ofLink l)
+pub parent-none : (l : ℕ) → l ≡ 0 → numberBytes noParent ≡ parentBytes (ofLink l)
 parent-none l h = rw h
 
-pub parent-some : (l : ℕ) → (l ≡ 0 → ⊥) → wordBytes (l - 1) ≡ parentBytes (ofLink l)
+pub parent-some : (l : ℕ) → (l ≡ 0 → ⊥) → numberBytes (l - 1) ≡ parentBytes (ofLink l)
 parent-some l h = rw (ne-eqb l 0 h)

@@ -1,4 +1,4 @@
--- The check of a table handed in, one turn at a time; and that the check over the words is the model's rule on the table decoded.
+-- The check of a table handed in, one turn at a time; and that the check over the packed rows is the model's rule on the table decoded.
 use mathlib.Core.Path.{_≡_, refl, ap, sym, _∙_}
 use mathlib.Core.Bool.{Bool, true, false, _&&_, not, and-true, and-false, and-comm, cond}
 use mathlib.Core.List.{List, [], _∷_, map}
@@ -12,12 +12,12 @@ use borrow.Author.Tests.{le-leb, eq-eqb, ne-eqb}
 use Rattle.model.specs.Limits.{maxRows, documents}
 use Rattle.model.specs.Base.{isIn, all, any, maxByte}
 use Rattle.model.specs.Table as model
-use Rattle.plan_table.specs.Words.{elementWord, leafWord}
-use Rattle.plan_table.specs.Words.{ofLink, isRowWord, isZero, rowOf, rowsOf, decodeParts, partsFit, kindIn, linkIn, tagIn}
-use Rattle.plan_table.specs.Fitting.{Words, tagFits, linkFits, rowFits, rowsFit, markFits, isRepeated, marksFit}
+use Rattle.plan_table.specs.Packed.{elementBits, leafBits}
+use Rattle.plan_table.specs.Packed.{ofLink, isPackedRow, isZero, rowOf, rowsOf, decodeParts, partsFit, kindIn, linkIn, tagIn}
+use Rattle.plan_table.specs.Fitting.{TableSizes, tagFits, linkFits, rowFits, rowsFit, markFits, isRepeated, marksFit}
 use Rattle.model.proofs.BoolLaws.{by-cases}
 use Rattle.model.proofs.ListLaws.{drop-next}
-use Rattle.plan_table.proofs.WordLaws.{count-decode}
+use Rattle.plan_table.proofs.PackedLaws.{count-decode}
 use Rattle.plan_table.proofs.DecodeLaws.{element-below, root-below}
 
 -- TURNS
@@ -64,41 +64,41 @@ marks-go ws n ms d z h f e =
 
 -- ONE ROW: the tag
 tag-kind : (k t : ℕ) → k < 4 →
-    (isIn elementWord leafWord k && cond (eqb k leafWord) (leb t maxByte) (model.isName t)) ≡
-    (leb t maxByte && cond (eqb k elementWord) (ltb 0 t) (eqb k leafWord))
+    (isIn elementBits leafBits k && cond (eqb k leafBits) (leb t maxByte) (model.isName t)) ≡
+    (leb t maxByte && cond (eqb k elementBits) (ltb 0 t) (eqb k leafBits))
 tag-kind zero t h = sym (and-false (leb t maxByte))
 tag-kind (suc zero) t h = and-comm (leb 1 t) (leb t maxByte)
 tag-kind (suc (suc zero)) t h = sym (and-true (leb t maxByte))
 tag-kind (suc (suc (suc zero))) t h = sym (and-false (leb t maxByte))
 tag-kind (suc (suc (suc (suc k)))) t h = absurd (omega arith)
 
-tag-word : (w : ℕ) → (isRowWord w && model.tagFits (rowOf w)) ≡ tagFits w
-tag-word w = tag-kind (kindIn w) (tagIn w) (omega arith)
+tag-packed : (w : ℕ) → (isPackedRow w && model.tagFits (rowOf w)) ≡ tagFits w
+tag-packed w = tag-kind (kindIn w) (tagIn w) (omega arith)
 
 -- the parent, of a row below the count
 module _ (n : ℕ) (ws ms : List ℕ) (within : n ≤ length ws) where
-  link-word : (i l : ℕ) → i < n → model.parentFits (decodeParts n ws ms) i (ofLink l) ≡ linkFits ws i l
-  link-word i l h = by-cases (eqb l 0) (λ e. rw e) (λ e. rw e (element-below n ws ms within (l - 1) i (omega arith)))
+  link-packed : (i l : ℕ) → i < n → model.parentFits (decodeParts n ws ms) i (ofLink l) ≡ linkFits ws i l
+  link-packed i l h = by-cases (eqb l 0) (λ e. rw e) (λ e. rw e (element-below n ws ms within (l - 1) i (omega arith)))
 
   -- the rows from i on
-  rows-words : (i k : ℕ) → i + k ≡ n →
-      (all isRowWord (take k (drop i ws)) && model.rowsFit (decodeParts n ws ms) i (map rowOf (take k (drop i ws)))) ≡ rowsFit ws i k
+  rows-packed : (i k : ℕ) → i + k ≡ n →
+      (all isPackedRow (take k (drop i ws)) && model.rowsFit (decodeParts n ws ms) i (map rowOf (take k (drop i ws)))) ≡ rowsFit ws i k
   unfolding all model.rowsFit rowsFit
-  rows-words i zero e = refl
-  rows-words i (suc k) e =
+  rows-packed i zero e = refl
+  rows-packed i (suc k) e =
       let h : i < n = omega arith in
       let g : i < length ws = omega arith in
       rw (drop-cons ws i 0 g)
-      (shuffle (isRowWord (getD ws i 0)) (all isRowWord (take k (drop (suc i) ws))) (model.tagFits (rowOf (getD ws i 0)))
+      (shuffle (isPackedRow (getD ws i 0)) (all isPackedRow (take k (drop (suc i) ws))) (model.tagFits (rowOf (getD ws i 0)))
       (model.parentFits (decodeParts n ws ms) i (ofLink (linkIn (getD ws i 0))))
       (model.rowsFit (decodeParts n ws ms) (suc i) (map rowOf (take k (drop (suc i) ws)))) ∙
       ap (λ (t : Bool). t && model.parentFits (decodeParts n ws ms) i (ofLink (linkIn (getD ws i 0))) &&
-      (all isRowWord (take k (drop (suc i) ws)) && model.rowsFit (decodeParts n ws ms) (suc i) (map rowOf (take k (drop (suc i) ws)))))
-      (tag-word (getD ws i 0)) ∙
+      (all isPackedRow (take k (drop (suc i) ws)) && model.rowsFit (decodeParts n ws ms) (suc i) (map rowOf (take k (drop (suc i) ws)))))
+      (tag-packed (getD ws i 0)) ∙
       ap (λ (t : Bool). tagFits (getD ws i 0) && t &&
-      (all isRowWord (take k (drop (suc i) ws)) && model.rowsFit (decodeParts n ws ms) (suc i) (map rowOf (take k (drop (suc i) ws)))))
-      (link-word i (linkIn (getD ws i 0)) h) ∙
-      ap (λ (t : Bool). tagFits (getD ws i 0) && linkFits ws i (linkIn (getD ws i 0)) && t) (rows-words (suc i) k (omega arith)))
+      (all isPackedRow (take k (drop (suc i) ws)) && model.rowsFit (decodeParts n ws ms) (suc i) (map rowOf (take k (drop (suc i) ws)))))
+      (link-packed i (linkIn (getD ws i 0)) h) ∙
+      ap (λ (t : Bool). tagFits (getD ws i 0) && linkFits ws i (linkIn (getD ws i 0)) && t) (rows-packed (suc i) k (omega arith)))
     where
       shuffle : (a b c d e : Bool) → (a && b && (c && d && e)) ≡ (a && c && d && (b && e))
       shuffle true true c d e = refl
@@ -106,21 +106,21 @@ module _ (n : ℕ) (ws ms : List ℕ) (within : n ≤ length ws) where
       shuffle false b c d e = refl
 
   -- one mark
-  mark-word : (m : ℕ) → model.markFits (decodeParts n ws ms) (ofLink m) ≡ markFits ws n m
-  mark-word m = by-cases (eqb m 0) (λ e. rw e) (λ e. rw e (root-below n ws ms within (m - 1)))
+  mark-link : (m : ℕ) → model.markFits (decodeParts n ws ms) (ofLink m) ≡ markFits ws n m
+  mark-link m = by-cases (eqb m 0) (λ e. rw e) (λ e. rw e (root-below n ws ms within (m - 1)))
 
   -- all marks
-  marks-words : (vs : List ℕ) →
+  marks-links : (vs : List ℕ) →
       (all (model.markFits (decodeParts n ws ms)) (map ofLink vs) && model.noneTwice (map ofLink vs)) ≡ marksFit ws n vs
   unfolding all model.noneTwice marksFit
-  marks-words [] = refl
-  marks-words (m ∷ vs) =
+  marks-links [] = refl
+  marks-links (m ∷ vs) =
       ap (λ (t : Bool). t && all (model.markFits (decodeParts n ws ms)) (map ofLink vs) && model.noneTwice (map ofLink (m ∷ vs)))
-      (mark-word m) ∙
+      (mark-link m) ∙
       ap (λ (t : Bool). markFits ws n m && all (model.markFits (decodeParts n ws ms)) (map ofLink vs) && t) (twice (eqb m 0) refl) ∙
       shuffle (markFits ws n m) (all (model.markFits (decodeParts n ws ms)) (map ofLink vs)) (not (isRepeated m vs)) (model.noneTwice
       (map ofLink vs)) ∙
-      ap (λ (t : Bool). markFits ws n m && not (isRepeated m vs) && t) (marks-words vs)
+      ap (λ (t : Bool). markFits ws n m && not (isRepeated m vs) && t) (marks-links vs)
     where
       twice : (t : Bool) → eqb m 0 ≡ t → model.noneTwice (ofLink m ∷ map ofLink vs) ≡ (not (isRepeated m vs) && model.noneTwice (map
           ofLink vs))
@@ -133,7 +133,7 @@ module _ (n : ℕ) (ws ms : List ℕ) (within : n ≤ length ws) where
       shuffle false b c d = refl
 
 -- THE WHOLE TABLE
-pub parts-fit : (n : ℕ) (ws ms : List ℕ) → Words ws ms → n ≤ maxRows →
+pub parts-fit : (n : ℕ) (ws ms : List ℕ) → TableSizes ws ms → n ≤ maxRows →
     partsFit n ws ms ≡ (rowsFit ws 0 n && all isZero (drop n ws) && marksFit ws n ms)
 parts-fit n ws ms size h =
     let w : n ≤ length ws = omega (arith, size .rows) in
@@ -141,12 +141,12 @@ parts-fit n ws ms size h =
     let d : length (map ofLink ms) ≡ documents = length-map ms ofLink ∙ size .marks in
     let z : 0 + n ≡ n = omega arith in
     rw (le-leb n maxRows h, le-leb (model.count (decodeParts n ws ms)) maxRows k, eq-eqb (length (map ofLink ms)) documents d)
-    (shuffle (all isRowWord (take n ws)) (all isZero (drop n ws)) (model.rowsFit (decodeParts n ws ms) 0 (rowsOf n ws))
+    (shuffle (all isPackedRow (take n ws)) (all isZero (drop n ws)) (model.rowsFit (decodeParts n ws ms) 0 (rowsOf n ws))
     (all (model.markFits (decodeParts n ws ms)) (map ofLink ms)) (model.noneTwice (map ofLink ms)) ∙
     ap (λ (t : Bool). t && all isZero (drop n ws) && (all (model.markFits (decodeParts n ws ms)) (map ofLink ms) && model.noneTwice (map
     ofLink ms)))
-    (rows-words n ws ms w 0 n z) ∙
-    ap (λ (t : Bool). rowsFit ws 0 n && all isZero (drop n ws) && t) (marks-words n ws ms w ms))
+    (rows-packed n ws ms w 0 n z) ∙
+    ap (λ (t : Bool). rowsFit ws 0 n && all isZero (drop n ws) && t) (marks-links n ws ms w ms))
   where
     shuffle : (a b c d e : Bool) → (a && b && (c && true && d && e)) ≡ (a && c && b && (d && e))
     shuffle true true true d e = refl

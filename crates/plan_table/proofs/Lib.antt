@@ -1,4 +1,4 @@
-pub mod WordLaws
+pub mod PackedLaws
 pub mod DecodeLaws
 pub mod FitCheckLaws
 pub mod FittedLaws

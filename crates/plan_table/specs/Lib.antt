@@ -1,4 +1,4 @@
-pub mod Words
+pub mod Packed
 pub mod Results
 pub mod StoredKinds
 pub mod Fitting

@@ -2,7 +2,7 @@
 use Prim.Native.Nat.{ℕ}
 use Rattle.model.specs.Refusal as refusal
 use Rattle.model.specs.Table as model
-use Rattle.plan_table.specs.Words.{encode}
+use Rattle.plan_table.specs.Packed.{encode}
 use Rattle.plan_table.specs.declared.Refusal.{Refusal}
 use Rattle.plan_table.specs.declared.Table.{Table}
 use Rattle.plan_table.specs.declared.TableResult.{TableResult}
@@ -16,7 +16,7 @@ refusalOf x = record { number = x .number; place = x .place }
 abbrev pub withTable : refusal.Refusal → Table → TableResult
 withTable f t = record { refusal = refusalOf f; table = t }
 
--- and one of the model's, in its words
+-- and one of the model's, packed
 abbrev pub result : refusal.Refusal → model.Table → TableResult
 result f x = withTable f (encode x)
 

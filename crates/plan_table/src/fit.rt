@@ -3,29 +3,29 @@ ghost use mathlib.Core.Path.{_≡_};
 ghost use Prim.Native.Nat.{_≤_, _<_};
 ghost use lib.ListN.{length, drop};
 ghost use Rattle.model.specs.Base.{all};
-ghost use Rattle.plan_table.specs.Words.{isZero, partsFit};
-ghost use Rattle.plan_table.specs.Fitting.{Words, tagFits, isElementBelow, isRootBelow, linkFits, rowFits, rowsFit, markFits};
+ghost use Rattle.plan_table.specs.Packed.{isZero, partsFit};
+ghost use Rattle.plan_table.specs.Fitting.{TableSizes, tagFits, isElementBelow, isRootBelow, linkFits, rowFits, rowsFit, markFits};
 ghost use Rattle.plan_table.specs.Fitting.{marksFit};
 use crate::Link;
 use crate::RowNumber;
 use crate::Table;
 use crate::marks;
 use crate::number;
-use crate::words;
+use crate::packed;
 
-// A word holds a row with its name or value in range.
+// A packed row, with its name or value in range.
 fn tag_fits(w: u32) -> bool
     ensures { λ r. ⌜ r ≡ tagFits w ⌝ }
 {
-    let kind = words::kind(w);
-    let tag = words::tag(w);
+    let kind = packed::kind(w);
+    let tag = packed::tag(w);
     if 255 < tag {
         return false;
     }
-    if kind == words::ELEMENT {
+    if kind == packed::ELEMENT {
         return 0 < tag;
     }
-    kind == words::LEAF
+    kind == packed::LEAF
 }
 
 // The row is one of the first rows, as many as the bound says, and an element.
@@ -37,7 +37,7 @@ fn is_element_below(rows: &[u32], bound: usize, row: RowNumber) -> bool
     if bound <= at {
         return false;
     }
-    words::kind(rows[at]) != words::LEAF
+    packed::kind(rows[at]) != packed::LEAF
 }
 
 // The parent is an element with a lower number than the row.
@@ -57,7 +57,7 @@ pub fn is_root_below(rows: &[u32], bound: usize, row: RowNumber) -> bool
         return false;
     }
     let at = row.0;
-    words::link(rows[at]).0 == 0
+    packed::link(rows[at]).0 == 0
 }
 
 // A parent's link fits at a row: none, or a lower element.
@@ -82,7 +82,7 @@ fn row_fits(rows: &[u32], row: RowNumber) -> bool
     if !tag_fits(w) {
         return false;
     }
-    link_fits(rows, row, words::link(w))
+    link_fits(rows, row, packed::link(w))
 }
 
 // The rows below the count fit.
@@ -100,7 +100,7 @@ fn rows_fit(rows: &[u32], count: usize) -> bool
     true
 }
 
-// The words past the count are zero.
+// What stands past the count is zero.
 fn rest_zero(rows: &[u32], count: usize) -> bool
     ensures { λ r. ⌜ r ≡ all isZero (drop count (now (rows .entry))) ⌝ }
 {
@@ -150,7 +150,7 @@ fn marks_fit(rows: &[u32], count: usize, marks: &[u16]) -> bool
 
 // The whole table fits.
 pub fn fits<'a>(count: usize, rows: &'a [u32], marks: &'a [u16]) -> bool
-    requires { ⌜ Words (now rows) (now marks) ⌝ }
+    requires { ⌜ TableSizes (now rows) (now marks) ⌝ }
     ensures { λ r. ⌜ r ≡ partsFit count (now (rows .entry)) (now (marks .entry)) ⌝ }
 {
     if Table::ROWS < count {

@@ -1,14 +1,14 @@
 // The plan table: its type with its limits, the check of a table handed in, the kinds and size of its stored records.
 ghost use mathlib.Core.Path.{_≡_};
 ghost use Rattle.model.specs.Table.{empty};
-ghost use Rattle.plan_table.specs.Words.{encode};
+ghost use Rattle.plan_table.specs.Packed.{encode};
 
 pub mod fit;
 pub mod marks;
 pub mod number;
+pub mod packed;
 pub mod results;
 pub mod stored;
-pub mod words;
 
 // Three types, so that none stands for another: a row's number; an element's name; a link, which is a row's number plus one, or 0 for
 // none.
@@ -18,7 +18,7 @@ pub struct NameNumber(pub u16);
 
 pub struct Link(pub usize);
 
-// A plan: rows packed into words (words.rt), zero past the count; a document's mark is its row's link.
+// A plan: rows packed into numbers (packed.rt), zero past the count; a document's mark is its row's link.
 pub struct Table {
     pub count: usize,
     pub rows: [u32; Table::ROWS],

@@ -4,7 +4,7 @@ ghost use mathlib.Core.List.{map};
 ghost use Prim.Native.Nat.{_<_};
 ghost use Rattle.model.specs.Base.{any};
 ghost use Rattle.model.specs.Table.{isThe};
-ghost use Rattle.plan_table.specs.Words.{ofLink};
+ghost use Rattle.plan_table.specs.Packed.{ofLink};
 use crate::RowNumber;
 
 // Some document marks the row.

@@ -2,8 +2,8 @@
 ghost use mathlib.Core.Path.{_≡_};
 ghost use Prim.Native.Nat.{_+_, _<_};
 ghost use lib.ListN.{length};
-ghost use Rattle.model.specs.Stored.{wordAt, wordBytes, parentBytes};
-ghost use Rattle.plan_table.specs.Words.{ofLink};
+ghost use Rattle.model.specs.Stored.{numberAt, numberBytes, parentBytes};
+ghost use Rattle.plan_table.specs.Packed.{ofLink};
 use crate::Link;
 use crate::NameNumber;
 
@@ -18,7 +18,7 @@ pub fn byte(b: u8) -> usize
     b as usize
 }
 
-// A byte widened, to be compared with the name or value that a row's word holds.
+// A byte widened, to be compared with the name or value that a packed row holds.
 pub fn wide(b: u8) -> u32
     ensures { λ r. ⌜ r ≡ b ⌝ }
     ensures { λ r. ⌜ r < 256 ⌝ }
@@ -44,7 +44,7 @@ pub fn index(n: u16) -> usize
 // The two-byte number at a place of a record.
 pub fn number_at(s: &[u8], at: usize) -> usize
     requires { ⌜ at + 1 < length (now s) ⌝ }
-    ensures { λ r. ⌜ r ≡ wordAt (now (s .entry)) at ⌝ }
+    ensures { λ r. ⌜ r ≡ numberAt (now (s .entry)) at ⌝ }
     ensures { λ r. ⌜ r < 65536 ⌝ }
 {
     byte(s[at]) + 256 * byte(s[at + 1])
@@ -53,7 +53,7 @@ pub fn number_at(s: &[u8], at: usize) -> usize
 // The number stored for the row with this link.
 pub fn parent(link: Link) -> usize
     requires { ⌜ link .0 < 65536 ⌝ }
-    ensures { λ r. ⌜ wordBytes r ≡ parentBytes (ofLink (link .0)) ⌝ }
+    ensures { λ r. ⌜ numberBytes r ≡ parentBytes (ofLink (link .0)) ⌝ }
     ensures { λ r. ⌜ r < 65536 ⌝ }
 {
     if link.0 == 0 {

@@ -15,10 +15,10 @@ use Rattle.model.specs.Stored.{rowsBytes, marksBytes, stored, markBytes}
 use Rattle.model.proofs.TableLaws.{isWell-at}
 use Rattle.plan_table.specs.declared.Table.{Table}
 use Rattle.plan_table.specs.Results.{writtenBy}
-use Rattle.plan_table.specs.Words.{ofLink, rowsOf, decodeParts, decode, fits, encode}
+use Rattle.plan_table.specs.Packed.{ofLink, rowsOf, decodeParts, decode, fits, encode}
 use Rattle.model.specs.Base.{atFront, over}
 use Rattle.plan_writer.specs.Writing.{planWritten, writtenOut}
-use Rattle.plan_table.proofs.WordLaws.{count-decode}
+use Rattle.plan_table.proofs.PackedLaws.{count-decode}
 use Rattle.plan_writer.proofs.WriteRecordLaws.{length-rowsBytes, length-mark}
 use Rattle.model.proofs.ListLaws.{over-over}
 use Rattle.plan_table.proofs.EncodeLaws.{decode-encode, fits-encode}

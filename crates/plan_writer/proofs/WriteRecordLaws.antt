@@ -9,19 +9,19 @@ use lib.ListN.{length, getD, take, length-append, length-map}
 use lib.Seq.{take-all, length-take-le}
 use borrow.Author.Tests.{ne-eqb}
 use Rattle.model.specs.Table as model
-use Rattle.model.specs.Stored.{wordBytes, parentBytes, rowBytes, rowsBytes, markBytes, marksBytes, elementKind, leafKind, markKind}
+use Rattle.model.specs.Stored.{numberBytes, parentBytes, rowBytes, rowsBytes, markBytes, marksBytes, elementKind, leafKind, markKind}
 use Rattle.model.proofs.BytesLaws.{length-parentBytes, rowsBytes-snoc}
-use Rattle.plan_table.specs.Words.{leafWord, ofLink, rowOf, rowsOf, kindIn, linkIn, tagIn}
+use Rattle.plan_table.specs.Packed.{leafBits, ofLink, rowOf, rowsOf, kindIn, linkIn, tagIn}
 use Rattle.model.specs.Base.{over}
-use Rattle.plan_table.proofs.WordLaws.{count-decode, take-rows}
+use Rattle.plan_table.proofs.PackedLaws.{count-decode, take-rows}
 use Rattle.model.proofs.ListLaws.{take-next, over-over, over-nil}
 
--- ONE ROW of a word, as bytes
-pub row-leaf : (w : ℕ) → kindIn w ≡ leafWord → rowBytes (rowOf w) ≡ leafKind ∷ tagIn w ∷ parentBytes (ofLink (linkIn w))
+-- ONE PACKED ROW, as bytes
+pub row-leaf : (w : ℕ) → kindIn w ≡ leafBits → rowBytes (rowOf w) ≡ leafKind ∷ tagIn w ∷ parentBytes (ofLink (linkIn w))
 row-leaf w h = rw h
 
-pub row-element : (w : ℕ) → (kindIn w ≡ leafWord → ⊥) → rowBytes (rowOf w) ≡ elementKind ∷ tagIn w ∷ parentBytes (ofLink (linkIn w))
-row-element w h = rw (ne-eqb (kindIn w) leafWord h)
+pub row-element : (w : ℕ) → (kindIn w ≡ leafBits → ⊥) → rowBytes (rowOf w) ≡ elementKind ∷ tagIn w ∷ parentBytes (ofLink (linkIn w))
+row-element w h = rw (ne-eqb (kindIn w) leafBits h)
 
 pub row-bytes : (w k t l : ℕ) → t ≡ tagIn w → l ≡ linkIn w →
     k ∷ t ∷ parentBytes (ofLink l) ≡ k ∷ tagIn w ∷ parentBytes (ofLink (linkIn w))
@@ -89,7 +89,7 @@ module _ (ms : List ℕ) (d : ℕ) (h : d < length ms) where
 pub mark-none : (d l : ℕ) → l ≡ 0 → markBytes d (ofLink l) ≡ []
 mark-none d l e = rw e
 
-pub mark-some : (d l : ℕ) → (l ≡ 0 → ⊥) → markBytes d (ofLink l) ≡ markKind ∷ d ∷ wordBytes (l - 1)
+pub mark-some : (d l : ℕ) → (l ≡ 0 → ⊥) → markBytes d (ofLink l) ≡ markKind ∷ d ∷ numberBytes (l - 1)
 mark-some d l z = rw (ne-eqb l 0 z)
 
 pub length-mark : (d : ℕ) (m : Option ℕ) → length (markBytes d m) ≤ 4

@@ -10,7 +10,7 @@ use Rattle.model.specs.Limits.{maxRows, documents}
 use Rattle.model.specs.Refusal as refusal
 use Rattle.model.specs.Stored.{recordSize, marksBytes, stored}
 use Rattle.plan_table.specs.Results.{refusalOf}
-use Rattle.plan_table.specs.Words.{ofLink, byteTags, decode, fits}
+use Rattle.plan_table.specs.Packed.{ofLink, byteTags, decode, fits}
 use Rattle.plan_table.specs.declared.Table.{Table}
 use Rattle.plan_table.specs.declared.Written.{Written}
 

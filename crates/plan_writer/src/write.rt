@@ -6,7 +6,7 @@ ghost use lib.ListN.{length};
 ghost use Rattle.model.specs.Stored.{recordSize, parentBytes, rowBytes, rowsBytes, markBytes, marksBytes};
 ghost use mathlib.Core.Bool.{true};
 ghost use Rattle.model.specs.Limits.{maxRows, documents};
-ghost use Rattle.plan_table.specs.Words.{ofLink, byteTags, rowOf, rowsOf, fits};
+ghost use Rattle.plan_table.specs.Packed.{ofLink, byteTags, rowOf, rowsOf, fits};
 ghost use Rattle.plan_writer.specs.Writing.{planWritten, writtenOut, RowsPre, MarksPre};
 ghost use Rattle.model.specs.Base.{over};
 use plan_table::Link;
@@ -14,9 +14,9 @@ use plan_table::Refusal;
 use plan_table::Table;
 use plan_table::Written;
 use plan_table::number;
+use plan_table::packed;
 use plan_table::results;
 use plan_table::stored;
-use plan_table::words;
 
 // A record at a place: its kind, its first field, and the number stored for a link.
 fn put(out: &mut [u8], at: usize, kind: u8, field: u8, link: Link)
@@ -37,9 +37,9 @@ fn row(out: &mut [u8], at: usize, w: u32)
     requires { ⌜ w < byteTags ⌝ }
     ensures { λ r. ⌜ now (out .exit) ≡ over at (rowBytes (rowOf w)) (now (out .entry)) ⌝ }
 {
-    let link = words::link(w);
-    let field = words::tag(w) as u8;
-    if words::kind(w) == words::LEAF {
+    let link = packed::link(w);
+    let field = packed::tag(w) as u8;
+    if packed::kind(w) == packed::LEAF {
         put(out, at, stored::LEAF, field, link);
         return;
     }

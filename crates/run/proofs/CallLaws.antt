@@ -21,10 +21,10 @@ use Rattle.model.proofs.HistoryLaws.{made-or-cut}
 use Rattle.script_records.specs.Walk.{endAt, exprAt}
 use Rattle.script.specs.Reading.{scriptRead}
 use Rattle.script.proofs.ScriptLaws.{script-accepted, script-parsed, script-ill}
-use Rattle.plan_table.specs.Words.{encode, decode, decodeParts, fits}
+use Rattle.plan_table.specs.Packed.{encode, decode, decodeParts, fits}
 use Rattle.plan_table.specs.declared.Table.{Table}
 use Rattle.plan_table.specs.declared.Refusal.{Refusal}
-use Rattle.plan_table.proofs.WordLaws.{encode-decode}
+use Rattle.plan_table.proofs.PackedLaws.{encode-decode}
 use Rattle.plan_table.proofs.FittedLaws.{Fits, fits-at, fits-mark}
 use Rattle.run_updates.specs.State.{recordsIn, started, stateOf, Held}
 use Rattle.run_query.specs.Values.{valueAt}

@@ -15,13 +15,13 @@ use Rattle.model.specs.Table as model
 use Rattle.model.proofs.StopLaws.{stop-number}
 use Rattle.model.proofs.TestLaws.{isIn-at, isIn-by, isIn-some}
 use Rattle.model.proofs.ScriptLaws.{Sound, readScript-sound}
-use Rattle.plan_table.specs.Words.{decode, fits, encode}
+use Rattle.plan_table.specs.Packed.{decode, fits, encode}
 use Rattle.plan_table.specs.declared.Table.{Table}
 use Rattle.run.specs.Calls.{outcomeOf}
 use Rattle.model.proofs.BoolLaws.{cond-true}
 use Rattle.plan_table.proofs.EncodeLaws.{fits-encode, decode-encode}
 
--- on the words of a well-formed table it is the model's
+-- on a packed well-formed table it is the model's
 pub outcome-well : (x : model.Table) → model.isWell x ≡ true → (b : List ℕ) → outcomeOf (encode x) b ≡ runBy x (readScript b)
 outcome-well x w b =
     cond-true (fits (encode x)) _ _ (fits-encode x w) ∙ ap (λ (y : model.Table). runBy y (readScript b)) (decode-encode x w)

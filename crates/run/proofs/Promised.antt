@@ -15,7 +15,7 @@ use Rattle.model.specs.Call.{Ran, areasFit, ranBy, refusedRun, runBy, OrdersAgr
 use Rattle.model.proofs.BoolLaws.{by-cases, cond-true, cond-false}
 use Rattle.model.proofs.CallsCommute.{callsCommute}
 use Rattle.plan_table.specs.Results.{refusalOf}
-use Rattle.plan_table.specs.Words.{encode, decode, fits}
+use Rattle.plan_table.specs.Packed.{encode, decode, fits}
 use Rattle.plan_table.specs.declared.Table.{Table}
 use Rattle.plan_table.proofs.FittedLaws.{well-decode}
 use Rattle.plan_table.proofs.EncodeLaws.{decode-encode, fits-encode}

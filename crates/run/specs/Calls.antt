@@ -9,7 +9,7 @@ use Rattle.model.specs.Refusal as refusal
 use Rattle.model.specs.Script.{readScript}
 use Rattle.model.specs.Run.{Out, refused}
 use Rattle.model.specs.Call.{Ran, ranBy, inAreas, runBy}
-use Rattle.plan_table.specs.Words.{encode, decode, fits}
+use Rattle.plan_table.specs.Packed.{encode, decode, fits}
 use Rattle.plan_table.specs.Results.{refusalOf}
 use Rattle.plan_table.specs.declared.Table.{Table}
 use Rattle.run_updates.specs.Tallying.{noneYet}

@@ -9,7 +9,7 @@ use Rattle.model.specs.Meeting.{free}
 use Rattle.model.specs.Refusal.{lentShort}
 use Rattle.model.specs.Call.{Ran, answered, analyse, areasFit, runCall, unfitRun, OrdersAgree, Areas, AllSuffice}
 use Rattle.plan_table.specs.Results.{refusalOf}
-use Rattle.plan_table.specs.Words.{decode, fits}
+use Rattle.plan_table.specs.Packed.{decode, fits}
 use Rattle.plan_table.specs.declared.Table.{Table}
 use Rattle.run.specs.Calls.{ran, runResult}
 

@@ -123,9 +123,9 @@ pub fn run(
     if !lengths::fit(answer.len(), history.len(), work.len()) {
         return refused(Refusal::LENT, 0, table);
     }
-    area::clear_words(answer);
+    area::clear_numbers(answer);
     area::clear_bytes(history);
     let result = run_in(table, script, answer, history, work);
-    area::clear_words(work);
+    area::clear_numbers(work);
     result
 }

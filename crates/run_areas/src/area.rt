@@ -5,7 +5,7 @@ ghost use lib.ListN.{length, replicate};
 ghost use Rattle.model.specs.Base.{atFront};
 
 // All numbers zero.
-pub fn clear_words(area: &mut [u16])
+pub fn clear_numbers(area: &mut [u16])
     ensures { λ r. ⌜ now (area .exit) ≡ replicate (length (now (area .entry))) 0 ⌝ }
 {
     let mut k = 0;

@@ -16,8 +16,8 @@ use Rattle.model.specs.Run.{State, Out, refused, gives, newRow, withMade, thenR
 use Rattle.model.proofs.BoolLaws.{by-cases, and-both, eq-cases, cond-eq, cond-ne}
 use Rattle.model.proofs.TableLaws.{isElement-at, isElement-by}
 use Rattle.model.proofs.GrowLaws.{count-withRow, rowAt-withRow-old, rowAt-withRow-new}
-use Rattle.plan_table.specs.Words.{ofLink, rowOf, rowsOf, isRowWord, withLink, decodeParts, linkIn}
-use Rattle.plan_table.proofs.WordLaws.{ofLink-linkOf, count-decode, rowAt-decode, rows-take, rowOf-withLink, word-linked}
+use Rattle.plan_table.specs.Packed.{ofLink, rowOf, rowsOf, isPackedRow, withLink, decodeParts, linkIn}
+use Rattle.plan_table.proofs.PackedLaws.{ofLink-linkOf, count-decode, rowAt-decode, rows-take, rowOf-withLink, packed-linked}
 use Rattle.plan_table.proofs.DecodeLaws.{parent-at, link-low}
 use Rattle.run_updates.specs.State.{stateOf, outcome, Held, Updated}
 use Rattle.run_updates.specs.Updating.{NewPre}
@@ -108,20 +108,20 @@ pub target-low : {ws h : List ℕ} {p : Progress} → Held ws h p → (g : ℕ) 
 target-low {ws} {h} {p} held g e = omega (arith, isElement-at (decodeParts (p .count) ws []) g e .0, held-count held [])
 
 module _ {ws h : List ℕ} {p : Progress} (held : Held ws h p) (i g : ℕ) (row : i < p .count)
-    (target : model.isElement (decodeParts (p .count) ws []) g ≡ true) {v : ℕ} (word : v ≡ withLink (getD ws i 0) (g + 1)) where
+    (target : model.isElement (decodeParts (p .count) ws []) g ≡ true) {v : ℕ} (packed : v ≡ withLink (getD ws i 0) (g + 1)) where
   small : g + 1 < 1024
   small = omega (arith, target-low held g target, held .few)
 
   pub copy-row : rowOf v ≡ model.withParent (rowOf (getD ws i 0)) (some g)
   copy-row =
-      ap rowOf word ∙ rowOf-withLink (getD ws i 0) (g + 1) small ∙
+      ap rowOf packed ∙ rowOf-withLink (getD ws i 0) (g + 1) small ∙
       ap (model.withParent (rowOf (getD ws i 0))) (ofLink-linkOf (some g))
 
   pub copy-pre : NewPre ws h p v
   copy-pre =
       record {
         held = held;
-        word = ap isRowWord word ∙ word-linked (p .count) ws (held .canonical) (held-within held) i row (g + 1) small;
+        packed = ap isPackedRow packed ∙ packed-linked (p .count) ws (held .canonical) (held-within held) i row (g + 1) small;
         tag =
             ap model.tagFits copy-row ∙ ap model.tagFits (sym (rowAt-decode (p .count) ws [] (held-within held) i row)) ∙
             held .tree .tags i (omega (arith, row, held-count held []));
@@ -181,12 +181,12 @@ module _ {ws h m : List ℕ} {p : Progress} {t j : ℕ} (pre : NextPre t j (copi
         isElement-by (decodeParts (p .count) ws []) (getD m (l - 1) 0) (omega (arith, copy-is .0, held-count (pre .held) []))
         (copy-is .1 ∙ parent-here (linked-at m t l n .parent) .1)
 
-    module _ {v : ℕ} (word : v ≡ withLink w link) where
+    module _ {v : ℕ} (packed : v ≡ withLink w link) where
       row-copy : rowOf v ≡ model.withParent (rowOf w) (ofLink link)
-      row-copy = ap rowOf word ∙ rowOf-withLink w link (omega (arith, next-small))
+      row-copy = ap rowOf packed ∙ rowOf-withLink w link (omega (arith, next-small))
 
       pub next-pre : NewPre ws h p v
-      next-pre = copy-pre (pre .held) j (getD m (l - 1) 0) (pre .row) parent-copy (word ∙ ap (withLink w) (linked-at m t l n .is))
+      next-pre = copy-pre (pre .held) j (getD m (l - 1) 0) (pre .row) parent-copy (packed ∙ ap (withLink w) (linked-at m t l n .is))
 
       pub next-made : {ws′ h′ : List ℕ} {r : Progress} → Updated (λ z s. newRow z (rowOf v) s) (p .count ∷ []) ws h p ws′ h′ r →
           NextPost t j (copier ws h m p) (copier ws′ h′ (set m j (p .count)) r)

@@ -16,8 +16,8 @@ use Rattle.model.proofs.BoolLaws.{and-both, cond-true}
 use Rattle.model.proofs.TestLaws.{isIn-at}
 use Rattle.model.proofs.ListLaws.{drop-next}
 use Rattle.model.proofs.TableLaws.{isElement-at, isElement-by}
-use Rattle.plan_table.specs.Words.{ofLink, rowOf, rowsOf, withLink, decodeParts, kindIn}
-use Rattle.plan_table.proofs.WordLaws.{count-decode, rowAt-decode, word-linked}
+use Rattle.plan_table.specs.Packed.{ofLink, rowOf, rowsOf, withLink, decodeParts, kindIn}
+use Rattle.plan_table.proofs.PackedLaws.{count-decode, rowAt-decode, packed-linked}
 use Rattle.plan_table.proofs.DecodeLaws.{element-kind}
 use Rattle.run_updates.specs.State.{stateOf, outcome, After, Updated, stopped}
 use Rattle.run_updates.specs.Updating.{NewPre}
@@ -67,12 +67,12 @@ module _ {ws h m : List ℕ} {p : Progress} {old t g : ℕ} (pre : ItemPre old t
   item-old : old ≤ length ws
   item-old = omega (arith, pre .room, held-within (pre .held))
 
-  module _ {v : ℕ} (word : v ≡ withLink (getD ws t 0) (g + 1)) where
+  module _ {v : ℕ} (packed : v ≡ withLink (getD ws t 0) (g + 1)) where
     row-copy : rowOf v ≡ model.withParent (rowOf (getD ws t 0)) (some g)
-    row-copy = copy-row (pre .held) t g item-top (pre .target) word
+    row-copy = copy-row (pre .held) t g item-top (pre .target) packed
 
     pub item-pre : NewPre ws h p v
-    item-pre = copy-pre (pre .held) t g item-top (pre .target) word
+    item-pre = copy-pre (pre .held) t g item-top (pre .target) packed
 
     module _ {ws₁ h₁ : List ℕ} {p₁ : Progress} (u : Updated (λ z s. newRow z (rowOf v) s) (p .count ∷ []) ws h p ws₁ h₁ p₁) where
       abbrev rest : (z : ℕ) (ms : List ℕ) → State → Out
@@ -264,8 +264,8 @@ module _ {ws h : List ℕ} {p : Progress} {v w : List ℕ} (pre : InsertPre ws h
     pub insert-leaf : (kindIn (getD ws g 0) ≡ 1 → ⊥) → {ws′ h′ : List ℕ} {r : Progress} → r ≡ stopped p 7 →
         Updated (λ z s. inserted z v w s) [] ws h p ws′ h′ r
     insert-leaf n {ws′} {h′} {r} f =
-        let word = word-linked (p .count) ws (pre .held .canonical) (held-within (pre .held)) g insert-low 0 (omega arith) in
-        let l : kindIn (getD ws g 0) ≡ 2 = omega (arith, n, isIn-at 1 2 (kindIn (withLink (getD ws g 0) 0)) word) in
+        let packed = packed-linked (p .count) ws (pre .held .canonical) (held-within (pre .held)) g insert-low 0 (omega arith) in
+        let l : kindIn (getD ws g 0) ≡ 2 = omega (arith, n, isIn-at 1 2 (kindIn (withLink (getD ws g 0) 0)) packed) in
         updated-stopped 6 f
         (λ z ms. let b : model.isElement (decodeParts (p .count) ws ms) (getD w 0 0) ≡ false = kind ms ∙ rw l in rw (one, b))
 

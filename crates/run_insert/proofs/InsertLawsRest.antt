@@ -13,8 +13,8 @@ use Rattle.model.specs.Table as model
 use Rattle.model.specs.Step.{isBelow, collect}
 use Rattle.model.specs.Run.{State, Out, thenRow, copyEach, descendantsFrom}
 use Rattle.model.proofs.TableLaws.{parent-count}
-use Rattle.plan_table.specs.Words.{ofLink, rowOf, rowsOf, decodeParts, linkIn}
-use Rattle.plan_table.proofs.WordLaws.{count-decode, rowAt-decode}
+use Rattle.plan_table.specs.Packed.{ofLink, rowOf, rowsOf, decodeParts, linkIn}
+use Rattle.plan_table.proofs.PackedLaws.{count-decode, rowAt-decode}
 use Rattle.run_updates.specs.State.{stateOf, outcome, Held, After}
 use Rattle.run_insert.specs.Inserting.{Copier, copier, before, copiedIn, nextLink, copyBy, IsCopy, Mapped}
 use Rattle.run_insert.specs.Inserting.{NextPre, NextPost, ScanPre, ScanPost}

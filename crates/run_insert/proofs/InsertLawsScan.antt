@@ -18,7 +18,7 @@ use Rattle.model.specs.Run.{State, Out, refused, gives, newRow, thenRow, Copied
 use Rattle.model.proofs.BoolLaws.{by-cases, cond-true, cond-false, eq-cases}
 use Rattle.model.proofs.Collect.{collect-append, collect-none}
 use Rattle.model.proofs.Below.{Below, under, further, below-is}
-use Rattle.plan_table.specs.Words.{ofLink}
+use Rattle.plan_table.specs.Packed.{ofLink}
 use Rattle.run_insert.specs.Inserting.{copiedIn, copyLink, copyBy}
 
 thenRow-gives : (o : Out) (f : State → Out) → thenRow (thenRow o (λ (u : State). gives [] u)) f ≡ thenRow o f

@@ -10,7 +10,7 @@ use Rattle.model.specs.Limits.{maxRows}
 use Rattle.model.specs.Table as model
 use Rattle.model.specs.Run.{State, Out, gives, newRow, thenRow, Copied, copyEach, descendantsFrom, subtree, copyAll, inserted}
 use Rattle.plan_table.specs.Flags.{Within}
-use Rattle.plan_table.specs.Words.{ofLink, rowOf, rowsOf, decodeParts, linkIn}
+use Rattle.plan_table.specs.Packed.{ofLink, rowOf, rowsOf, decodeParts, linkIn}
 use Rattle.run_updates.specs.State.{Held, Updated}
 use Rattle.run_updates.specs.declared.state.Progress.{Progress}
 

@@ -9,7 +9,7 @@ use plan_table::Refusal;
 use plan_table::RowNumber;
 use plan_table::Table;
 use plan_table::number;
-use plan_table::words;
+use plan_table::packed;
 use run_updates::state::Progress;
 use run_updates::update;
 
@@ -50,14 +50,14 @@ fn copy_next(
 {
     let j = row.0;
     let w = rows[j];
-    let link = copy_link(map, top, words::link(w));
+    let link = copy_link(map, top, packed::link(w));
     if link.0 == 0 {
         map[j] = NO_COPY;
         return p;
     }
     let count = p.count;
     map[j] = count as u16;
-    update::new_row(rows, history, p, words::relinked(w, link))
+    update::new_row(rows, history, p, packed::relinked(w, link))
 }
 
 // The rows past top and below old, each under its parent's copy.
@@ -103,7 +103,7 @@ fn copy_item(
     let i = top.0;
     map[i] = count as u16;
     let link = target.0 + 1;
-    let w = words::relinked(rows[i], Link(link));
+    let w = packed::relinked(rows[i], Link(link));
     let next = update::new_row(rows, history, p, w);
     if next.number != 0 {
         return next;
@@ -161,7 +161,7 @@ pub fn insert(
         return p.refused(Refusal::TARGET);
     }
     let target = number::index(targets[0]);
-    if words::kind(rows[target]) == words::LEAF {
+    if packed::kind(rows[target]) == packed::LEAF {
         return p.refused(Refusal::TARGET);
     }
     let mut map = [0u16; Table::ROWS];

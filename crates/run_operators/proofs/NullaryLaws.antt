@@ -24,7 +24,7 @@ use Rattle.model.proofs.KindLaws.{nullary-kind}
 use Rattle.script.proofs.AcceptedLaws.{accepted-record, accepted-nil, accepted-document}
 use Rattle.script.proofs.AcceptedLaws.{accepted-variable, accepted-element, accepted-leaf}
 use Rattle.script.proofs.FieldLaws.{variable-number}
-use Rattle.plan_table.specs.Words.{ofLink, decodeParts}
+use Rattle.plan_table.specs.Packed.{ofLink, decodeParts}
 use Rattle.run_updates.specs.State.{stateOf, Held, Updated}
 use Rattle.run_updates.specs.Updating.{LoosePost}
 use Rattle.run_query.specs.Values.{valueAt, Appended}

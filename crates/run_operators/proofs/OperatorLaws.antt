@@ -17,7 +17,7 @@ use Rattle.model.proofs.BoolLaws.{cond-cases}
 use Rattle.model.proofs.ValueLaws.{collect-rows}
 use Rattle.model.proofs.All.{all-filtered}
 use Rattle.model.proofs.KindLaws.{unary-kind}
-use Rattle.plan_table.specs.Words.{decodeParts}
+use Rattle.plan_table.specs.Packed.{decodeParts}
 use Rattle.run_updates.specs.State.{Held}
 use Rattle.run_updates.specs.Updating.{DeletePre, DeletePost}
 use Rattle.run_insert.specs.Inserting.{InsertPre, InsertPost}

@@ -13,7 +13,7 @@ use Rattle.model.specs.Script.{isBinder}
 use Rattle.model.specs.Run.{marked}
 use Rattle.model.proofs.BoolLaws.{cond-true, cond-false, cond-eq, cond-ne}
 use Rattle.script_records.proofs.BindLaws.{withBound-set, withBound-same}
-use Rattle.plan_table.specs.Words.{ofLink}
+use Rattle.plan_table.specs.Packed.{ofLink}
 use Rattle.run_updates.specs.State.{stopped}
 use Rattle.run_query.specs.Values.{Appended}
 use Rattle.run_query.proofs.ValueLaws.{appended-none, appended-if}

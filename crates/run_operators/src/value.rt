@@ -2,7 +2,7 @@
 ghost use Prim.Native.Nat.{_<_};
 ghost use lib.ListN.{length, getD};
 ghost use Rattle.model.specs.Run.{marked};
-ghost use Rattle.plan_table.specs.Words.{ofLink};
+ghost use Rattle.plan_table.specs.Packed.{ofLink};
 ghost use Rattle.run_query.specs.Values.{Appended, valueAt};
 ghost use Rattle.run_operators.specs.Evaluating.{CopyPre, BindPre, BindPost, madeValue, PutPre};
 use plan_table::RowNumber;

@@ -15,8 +15,8 @@ use Rattle.model.specs.Table as model
 use Rattle.model.specs.Sweep.{through}
 use Rattle.model.specs.Step.{parentIs}
 use Rattle.model.proofs.BoolLaws.{by-cases, cond-true, cond-false, eq-cases}
-use Rattle.plan_table.specs.Words.{ofLink, decodeParts, linkIn}
-use Rattle.plan_table.proofs.WordLaws.{count-decode}
+use Rattle.plan_table.specs.Packed.{ofLink, decodeParts, linkIn}
+use Rattle.plan_table.proofs.PackedLaws.{count-decode}
 use Rattle.plan_table.proofs.DecodeLaws.{parent-linked, link-low, isThe-linked}
 use Rattle.run_query.specs.Stepping.{Flagged, counted, descended, climbed, RowsHeld}
 use Rattle.run_query.specs.Stepping.{Reached, Descending, Climbing, anyFrom, upTo, childCounts}
@@ -33,7 +33,7 @@ module _ (ws : List ℕ) (n : ℕ) (held : RowsHeld ws n) where
   within : n ≤ length ws
   within = omega (arith, held .rows, held .few)
 
-  -- the link in the word of a row below the count
+  -- the link in a packed row below the count
   link-below : (j : ℕ) → j < n → linkIn (getD ws j 0) ≤ j
   link-below j h = link-low n ws [] within j h (held .lower j)
 

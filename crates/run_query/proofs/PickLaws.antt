@@ -10,8 +10,8 @@ use Rattle.model.specs.Base.{filtered}
 use Rattle.model.specs.Table as model
 use Rattle.model.specs.Step.{relates, isPicked, picked}
 use Rattle.model.proofs.ListLaws.{filtered-append}
-use Rattle.plan_table.specs.Words.{decodeParts}
-use Rattle.plan_table.proofs.WordLaws.{rowAt-decode}
+use Rattle.plan_table.specs.Packed.{decodeParts}
+use Rattle.plan_table.proofs.PackedLaws.{rowAt-decode}
 use Rattle.run_query.specs.Values.{valueAt, Appended, pickedRow}
 use Rattle.run_query.proofs.ValueLaws.{value-none, appended-none, appended-if}
 

@@ -11,7 +11,7 @@ use Rattle.model.specs.Script.{stepBy}
 use Rattle.model.specs.Step.{leafLetter, named, letterOf, admits}
 use Rattle.model.proofs.BoolLaws.{by-cases, eqb-iff}
 use Rattle.model.proofs.ListLaws.{any-snoc}
-use Rattle.plan_table.specs.Words.{rowOf, kindIn, tagIn}
+use Rattle.plan_table.specs.Packed.{rowOf, kindIn, tagIn}
 use Rattle.run_query.proofs.ReachLaws.{among-any}
 
 -- TESTS

@@ -13,8 +13,8 @@ use Rattle.model.specs.Script.{stepBy}
 use Rattle.model.specs.Step.{Letter, leafLetter, named, isReached, reaches, admits, letterOf, stepped, collect}
 use Rattle.model.proofs.ListLaws.{take-set}
 use Rattle.model.proofs.Collect.{collect-append, collect-same}
-use Rattle.plan_table.specs.Words.{rowOf, decodeParts}
-use Rattle.plan_table.proofs.WordLaws.{count-decode, rowAt-decode}
+use Rattle.plan_table.specs.Packed.{rowOf, decodeParts}
+use Rattle.plan_table.proofs.PackedLaws.{count-decode, rowAt-decode}
 use Rattle.run_query.specs.Stepping.{Flagged, Reached}
 use Rattle.run_query.specs.Values.{valueAt, Appended, kept, keptRows}
 use Rattle.run_query.proofs.PassLaws.{not-zero}

@@ -11,7 +11,7 @@ use Rattle.model.specs.Base.{any, among, bit}
 use Rattle.model.specs.Table as model
 use Rattle.model.specs.Step.{reaches, parentIs}
 use Rattle.plan_table.specs.Flags.{Within, Flags}
-use Rattle.plan_table.specs.Words.{decodeParts, linkIn}
+use Rattle.plan_table.specs.Packed.{decodeParts, linkIn}
 
 -- ITEMS flagged
 pub record FlagPre (fs v : List ℕ) : Type 0 where
@@ -33,11 +33,11 @@ pub record OnePre (w j : ℕ) (fs rs : List ℕ) : Type 0 where
   pub reached : length rs ≡ maxLinks
 
 -- a row on the way down: reached where its parent counts
-abbrev pub descended : (word row : ℕ) → (deep : Bool) → (flags reached : List ℕ) → List ℕ
+abbrev pub descended : (packed row : ℕ) → (deep : Bool) → (flags reached : List ℕ) → List ℕ
 descended w j d fs rs = cond (counted (getD fs (linkIn w) 0) (getD rs (linkIn w) 0) d) (set rs (j + 1) 1) rs
 
 -- a row on the way up: where it counts, its parent is reached
-abbrev pub climbed : (word row : ℕ) → (deep : Bool) → (flags reached : List ℕ) → List ℕ
+abbrev pub climbed : (packed row : ℕ) → (deep : Bool) → (flags reached : List ℕ) → List ℕ
 climbed w j d fs rs = cond (counted (getD fs (j + 1) 0) (getD rs (j + 1) 0) d) (set rs (linkIn w) 1) rs
 
 -- A PASS over the rows below the count, whose parents are lower

@@ -8,7 +8,7 @@ use lib.ListN.{length, getD, take, drop}
 use Rattle.model.specs.Limits.{maxItems, maxLinks, maxRows}
 use Rattle.model.specs.Script.{Step, stepBy}
 use Rattle.model.specs.Step.{admits, letterOf, stepped, picked, relates, collect}
-use Rattle.plan_table.specs.Words.{rowOf, decodeParts}
+use Rattle.plan_table.specs.Packed.{rowOf, decodeParts}
 use Rattle.run_query.specs.Stepping.{RowsHeld}
 
 -- the value from a place up to another

@@ -3,12 +3,12 @@ ghost use mathlib.Core.Path.{_≡_};
 ghost use mathlib.Core.Bool.{_&&_};
 ghost use Prim.Native.Nat.{_<_};
 ghost use Rattle.model.specs.Step.{signedKey, relates};
-ghost use Rattle.plan_table.specs.Words.{rowOf};
+ghost use Rattle.plan_table.specs.Packed.{rowOf};
 ghost use Rattle.run_query.specs.Values.{PickPre, PickPost};
 use crate::step;
 use plan_table::RowNumber;
 use plan_table::number;
-use plan_table::words;
+use plan_table::packed;
 
 // A value's rank among signed bytes.
 fn signed_key(v: u32) -> u32
@@ -45,10 +45,10 @@ fn is_related(relation: u8, constant: u32, value: u32) -> bool
 fn is_picked(w: u32, relation: u8, constant: u8) -> bool
     ensures { λ r. ⌜ r ≡ (rowOf w .isLeaf && relates relation constant (rowOf w .tag)) ⌝ }
 {
-    if words::kind(w) != words::LEAF {
+    if packed::kind(w) != packed::LEAF {
         return false;
     }
-    is_related(relation, constant as u32, words::tag(w))
+    is_related(relation, constant as u32, packed::tag(w))
 }
 
 // Picks from the value at a place, which the kept items then take; the place past them.

@@ -7,14 +7,14 @@ ghost use lib.ListN.{length, getD, set};
 ghost use Rattle.model.specs.Base.{bit};
 ghost use Rattle.model.specs.Script.{stepBy};
 ghost use Rattle.model.specs.Step.{admits, letterOf};
-ghost use Rattle.plan_table.specs.Words.{rowOf};
+ghost use Rattle.plan_table.specs.Packed.{rowOf};
 ghost use Rattle.run_query.specs.Stepping.{FlagPre, Flagged, counted, OnePre, descended, climbed, PassPre, Reached};
 ghost use Rattle.run_query.specs.Values.{kept, keptRows, CollectPre, Appended, StepPre, StepPost};
 use plan_table::NameNumber;
 use plan_table::RowNumber;
 use plan_table::Table;
 use plan_table::number;
-use plan_table::words;
+use plan_table::packed;
 
 // Axes; any other is the ancestors'.
 const CHILD: u8 = 0;
@@ -47,7 +47,7 @@ fn passes(rows: &[u32], row: RowNumber, test: u8, name: NameNumber) -> bool
     if test == ANY_NODE {
         return true;
     }
-    if words::kind(w) == words::LEAF {
+    if packed::kind(w) == packed::LEAF {
         return test == ANY_LEAF;
     }
     if test == ANY_ELEMENT {
@@ -56,7 +56,7 @@ fn passes(rows: &[u32], row: RowNumber, test: u8, name: NameNumber) -> bool
     if test == ANY_LEAF {
         return false;
     }
-    words::tag(w) == name.0 as u32
+    packed::tag(w) == name.0 as u32
 }
 
 // Flags each item of a value.
@@ -90,7 +90,7 @@ fn descend_one(w: u32, row: RowNumber, deep: bool, flags: &[u8], reached: &mut [
     requires { ⌜ OnePre w (row .0) (now flags) (now reached) ⌝ }
     ensures { λ r. ⌜ now (reached .exit) ≡ descended w (row .0) deep (now (flags .entry)) (now (reached .entry)) ⌝ }
 {
-    let l = words::link(w).0;
+    let l = packed::link(w).0;
     if !counts(flags[l], reached[l], deep) {
         return;
     }
@@ -118,7 +118,7 @@ fn climb_one(w: u32, row: RowNumber, deep: bool, flags: &[u8], reached: &mut [u8
     if !counts(flags[at], reached[at], deep) {
         return;
     }
-    let l = words::link(w).0;
+    let l = packed::link(w).0;
     reached[l] = 1;
 }
 

@@ -14,7 +14,7 @@ use Rattle.model.specs.Limits.{maxHistory}
 use Rattle.model.specs.Base.{any}
 use Rattle.model.specs.Refusal.{refusal, fine, isFine, refusalAt}
 use Rattle.model.specs.Table as model
-use Rattle.model.specs.Stored.{wordAt, parentIn}
+use Rattle.model.specs.Stored.{numberAt, parentIn}
 use Rattle.model.specs.History.{historyForm, historySize, recordIn, madeElementKind, madeLeafKind, cutKind}
 use Rattle.model.specs.Undo.{Placed, Formed, refused, formed, formRefusal, withPlaced, formFrom, sameBool}
 use Rattle.model.specs.Undo.{sameParent}
@@ -22,9 +22,9 @@ use Rattle.model.specs.Undo.{madeFits, cutFits, Undo, refused, undoAll, backwar
 use Rattle.model.proofs.ListLaws.{drop-all, drop-first}
 use Rattle.model.proofs.FormLaws.{form-cases}
 use Rattle.model.proofs.BoolLaws.{by-cases, cond-true, eq-cases, cond-eq, cond-ne}
-use Rattle.plan_table.specs.Words.{ofLink, decodeParts, kindIn, linkIn, tagIn, leafWord}
+use Rattle.plan_table.specs.Packed.{ofLink, decodeParts, kindIn, linkIn, tagIn, leafBits}
 use Rattle.plan_table.specs.Fitting.{isElementBelow}
-use Rattle.plan_table.proofs.WordLaws.{count-decode, rowAt-decode}
+use Rattle.plan_table.proofs.PackedLaws.{count-decode, rowAt-decode}
 use Rattle.plan_table.proofs.DecodeLaws.{element-below}
 use Rattle.run_undo.specs.Undoing.{IsWhole, FormPost, undoing, Whole, PlacesPost, FitPre, rowMade}
 
@@ -261,12 +261,12 @@ module _ {b m : List ℕ} {at n : ℕ} (c : Forming b m at n) where
               ap (λ (k : ℕ). undoFrom x (undoing b m n) (formFrom k at n (drop at b))) (sym fuel) ∙ c .rest x
 
 -- KINDS AND PARENTS say the same
-pub kind-leaf : (w k : ℕ) → kindIn w ≡ leafWord → eqb k madeLeafKind ≡ sameBool (eqb (kindIn w) leafWord) (eqb k madeLeafKind)
+pub kind-leaf : (w k : ℕ) → kindIn w ≡ leafBits → eqb k madeLeafKind ≡ sameBool (eqb (kindIn w) leafBits) (eqb k madeLeafKind)
 kind-leaf w k e = rw e
 
-pub kind-element : (w k : ℕ) → (kindIn w ≡ leafWord → ⊥) →
-    not (eqb k madeLeafKind) ≡ sameBool (eqb (kindIn w) leafWord) (eqb k madeLeafKind)
-kind-element w k e = rw (ne-eqb (kindIn w) leafWord e)
+pub kind-element : (w k : ℕ) → (kindIn w ≡ leafBits → ⊥) →
+    not (eqb k madeLeafKind) ≡ sameBool (eqb (kindIn w) leafBits) (eqb k madeLeafKind)
+kind-element w k e = rw (ne-eqb (kindIn w) leafBits e)
 
 pub parent-none : (l v : ℕ) → v ≡ 65535 → eqb l 0 ≡ sameParent (ofLink l) (parentIn v)
 parent-none l v e = rw (eq-eqb v 65535 e) (by-cases (eqb l 0) (λ z. rw z) (λ z. rw z))
@@ -284,7 +284,7 @@ parent-some l v e = rw (ne-eqb v 65535 e) (by-cases (eqb l 0) (λ z. root z (eqb
         (λ q. q ∙ sym (ne-eqb (l - 1) v (λ k. eqb-false l (v + 1) q (omega (arith, y))))))
 
 -- A ROW MADE, by the tests
-module _ {ws : List ℕ} {n : ℕ} {s : List ℕ} {size : ℕ} (pre : FitPre ws n s size) (ms : List ℕ) {row : ℕ} (here : row ≡ wordAt s 1) where
+module _ {ws : List ℕ} {n : ℕ} {s : List ℕ} {size : ℕ} (pre : FitPre ws n s size) (ms : List ℕ) {row : ℕ} (here : row ≡ numberAt s 1) where
   within : n ≤ length ws
   within = omega (arith, pre .rows, pre .few)
 
@@ -297,61 +297,61 @@ module _ {ws : List ℕ} {n : ℕ} {s : List ℕ} {size : ℕ} (pre : FitPre ws 
   counted : model.count x ≡ n
   counted = count-decode n ws ms within
 
-  made-row : madeFits x (wordAt s 1) (rowMade s) ≡ madeFits x row (rowMade s)
+  made-row : madeFits x (numberAt s 1) (rowMade s) ≡ madeFits x row (rowMade s)
   made-row = ap (λ (j : ℕ). madeFits x j (rowMade s)) (sym here)
 
-  pub made-last : (row + 1 ≡ n → ⊥) → madeFits x (wordAt s 1) (rowMade s) ≡ false
+  pub made-last : (row + 1 ≡ n → ⊥) → madeFits x (numberAt s 1) (rowMade s) ≡ false
   made-last f =
       let g : row + 1 ≡ model.count x → ⊥ = λ q. f (q ∙ counted) in
       made-row ∙ rw (ne-eqb (row + 1) (model.count x) g)
 
   module _ (last : row + 1 ≡ n) where
-    made-tests : madeFits x (wordAt s 1) (rowMade s) ≡
-        (not (any (model.isThe row) (map ofLink ms)) && sameBool (eqb (kindIn w) leafWord) (rowMade s .isLeaf) &&
-        eqb (tagIn w) (getD s 3 0) && sameParent (ofLink (linkIn w)) (parentIn (wordAt s 4)))
+    made-tests : madeFits x (numberAt s 1) (rowMade s) ≡
+        (not (any (model.isThe row) (map ofLink ms)) && sameBool (eqb (kindIn w) leafBits) (rowMade s .isLeaf) &&
+        eqb (tagIn w) (getD s 3 0) && sameParent (ofLink (linkIn w)) (parentIn (numberAt s 4)))
     made-tests =
         let k : row < n = omega arith in
         made-row ∙ rw (eq-eqb (row + 1) (model.count x) (last ∙ sym counted), rowAt-decode n ws ms within row k)
 
-    pub made-marked : any (model.isThe row) (map ofLink ms) ≡ true → madeFits x (wordAt s 1) (rowMade s) ≡ false
+    pub made-marked : any (model.isThe row) (map ofLink ms) ≡ true → madeFits x (numberAt s 1) (rowMade s) ≡ false
     made-marked e = made-tests ∙ rw e
 
     module _ (free : any (model.isThe row) (map ofLink ms) ≡ false) where
-      pub made-kind : sameBool (eqb (kindIn w) leafWord) (rowMade s .isLeaf) ≡ false → madeFits x (wordAt s 1) (rowMade s) ≡ false
+      pub made-kind : sameBool (eqb (kindIn w) leafBits) (rowMade s .isLeaf) ≡ false → madeFits x (numberAt s 1) (rowMade s) ≡ false
       made-kind e = made-tests ∙ rw (free, e)
 
-      module _ (same : sameBool (eqb (kindIn w) leafWord) (rowMade s .isLeaf) ≡ true) where
-        pub made-tag : (tagIn w ≡ getD s 3 0 → ⊥) → madeFits x (wordAt s 1) (rowMade s) ≡ false
+      module _ (same : sameBool (eqb (kindIn w) leafBits) (rowMade s .isLeaf) ≡ true) where
+        pub made-tag : (tagIn w ≡ getD s 3 0 → ⊥) → madeFits x (numberAt s 1) (rowMade s) ≡ false
         made-tag e = made-tests ∙ rw (free, same, ne-eqb (tagIn w) (getD s 3 0) e)
 
         pub made-parent : tagIn w ≡ getD s 3 0 →
-            madeFits x (wordAt s 1) (rowMade s) ≡ sameParent (ofLink (linkIn w)) (parentIn (wordAt s 4))
+            madeFits x (numberAt s 1) (rowMade s) ≡ sameParent (ofLink (linkIn w)) (parentIn (numberAt s 4))
         made-parent e = made-tests ∙ rw (free, same, eq-eqb (tagIn w) (getD s 3 0) e)
 
   -- A LINK CUT, by the tests
-  cut-row : cutFits x (wordAt s 1) (wordAt s 3) ≡ cutFits x row (wordAt s 3)
-  cut-row = ap (λ (j : ℕ). cutFits x j (wordAt s 3)) (sym here)
+  cut-row : cutFits x (numberAt s 1) (numberAt s 3) ≡ cutFits x row (numberAt s 3)
+  cut-row = ap (λ (j : ℕ). cutFits x j (numberAt s 3)) (sym here)
 
-  pub cut-high : n ≤ row → cutFits x (wordAt s 1) (wordAt s 3) ≡ false
+  pub cut-high : n ≤ row → cutFits x (numberAt s 1) (numberAt s 3) ≡ false
   cut-high h = let k : model.count x ≤ row = omega (arith, counted) in cut-row ∙ rw (le-ltb row (model.count x) k)
 
   module _ (low : row < n) where
-    cut-tests : cutFits x (wordAt s 1) (wordAt s 3) ≡
+    cut-tests : cutFits x (numberAt s 1) (numberAt s 3) ≡
         (not (model.hasParent (ofLink (linkIn w))) && not (any (model.isThe row) (map ofLink ms)) &&
-        model.isLowerElement x row (wordAt s 3))
+        model.isLowerElement x row (numberAt s 3))
     cut-tests =
         let k : row < model.count x = omega (arith, counted) in
         cut-row ∙ rw (lt-ltb row (model.count x) k, rowAt-decode n ws ms within row low)
 
-    pub cut-child : (linkIn w ≡ 0 → ⊥) → cutFits x (wordAt s 1) (wordAt s 3) ≡ false
+    pub cut-child : (linkIn w ≡ 0 → ⊥) → cutFits x (numberAt s 1) (numberAt s 3) ≡ false
     cut-child e = cut-tests ∙ rw (ne-eqb (linkIn w) 0 e)
 
     module _ (root : linkIn w ≡ 0) where
-      pub cut-marked : any (model.isThe row) (map ofLink ms) ≡ true → cutFits x (wordAt s 1) (wordAt s 3) ≡ false
+      pub cut-marked : any (model.isThe row) (map ofLink ms) ≡ true → cutFits x (numberAt s 1) (numberAt s 3) ≡ false
       cut-marked e = cut-tests ∙ rw (eq-eqb (linkIn w) 0 root, e)
 
-      pub cut-element : any (model.isThe row) (map ofLink ms) ≡ false → {v : ℕ} → v ≡ wordAt s 3 →
-          cutFits x (wordAt s 1) (wordAt s 3) ≡ isElementBelow ws row v
+      pub cut-element : any (model.isThe row) (map ofLink ms) ≡ false → {v : ℕ} → v ≡ numberAt s 3 →
+          cutFits x (numberAt s 1) (numberAt s 3) ≡ isElementBelow ws row v
       cut-element free {v} there =
           cut-tests ∙
           rw (eq-eqb (linkIn w) 0 root, free)

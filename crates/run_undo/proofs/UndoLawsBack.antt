@@ -1,4 +1,4 @@
--- Undo's parts: a record undone on the words, and all of them back to front.
+-- Undo's parts: a record undone on the packed rows, and all of them back to front.
 use mathlib.Core.Path.{_≡_, refl, ap, sym, _∙_, subst, subst₂}
 use mathlib.Core.Bool.{Bool, true, false, not, cond}
 use mathlib.Core.List.{List, _∷_}
@@ -11,26 +11,26 @@ use borrow.Author.Tests.{ltb-true, eqb-true}
 use Rattle.model.specs.Limits.{maxRows}
 use Rattle.model.specs.Refusal.{refusal, fine, linkAt}
 use Rattle.model.specs.Table as model
-use Rattle.model.specs.Stored.{wordAt}
+use Rattle.model.specs.Stored.{numberAt}
 use Rattle.model.specs.History.{made, cut, historyForm, historySize, recordIn, cutKind}
 use Rattle.model.specs.Undo.{madeFits, cutFits, undoFits, undone, refused, undoAll}
 use Rattle.model.proofs.FormLaws.{form-cases}
 use Rattle.model.proofs.ListLaws.{drop-all}
 use Rattle.model.proofs.BoolLaws.{and-left, cond-eq, cond-ne}
 use Rattle.model.proofs.TestLaws.{and-four, and-five}
-use Rattle.plan_table.specs.Words.{withLink, decodeParts, Canonical}
-use Rattle.plan_table.proofs.WordLaws.{ofLink-linkOf, count-decode, decode-linked, canonical-linked, canonical-pop, decode-pop}
+use Rattle.plan_table.specs.Packed.{withLink, decodeParts, Canonical}
+use Rattle.plan_table.proofs.PackedLaws.{ofLink-linkOf, count-decode, decode-linked, canonical-linked, canonical-pop, decode-pop}
 use Rattle.run_undo.specs.Undoing.{IsWhole, undoing, FitPre, rowMade, BackPre, BackPost, AllPre, AllPost}
 use Rattle.plan_table.specs.declared.End.{End}
 
 -- THE RECORD at the front, by its kind
-record-cut : (s : List ℕ) → getD s 0 0 ≡ cutKind → recordIn s ≡ cut (wordAt s 1) (wordAt s 3)
+record-cut : (s : List ℕ) → getD s 0 0 ≡ cutKind → recordIn s ≡ cut (numberAt s 1) (numberAt s 3)
 record-cut s kind = ap (λ (k : ℕ). historyForm k .entry s) kind
 
 module _ (s : List ℕ) (kind : getD s 0 0 ≡ cutKind → ⊥) (some : 0 < historySize (getD s 0 0)) where
-  record-made : recordIn s ≡ made (wordAt s 1) (rowMade s)
+  record-made : recordIn s ≡ made (numberAt s 1) (rowMade s)
   record-made =
-      form-cases (λ f. 0 < f .size → f .entry s ≡ made (wordAt s 1) (rowMade s)) (getD s 0 0) (λ e _. rw e) (λ e _. rw e)
+      form-cases (λ f. 0 < f .size → f .entry s ≡ made (numberAt s 1) (rowMade s)) (getD s 0 0) (λ e _. rw e) (λ e _. rw e)
       (λ e _. absurd (kind e)) (λ _ _ _ h. absurd (omega arith)) some
 
   size-made : historySize (getD s 0 0) ≡ 6
@@ -62,42 +62,43 @@ module _ {ws : List ℕ} {n : ℕ} {s : List ℕ} (pre : BackPre ws n s) (ms : L
         let e : historySize (getD s 0 0) ≡ 5 = ap historySize kind in
         record { rows = pre .rows; few = pre .few; whole = omega (arith, pre .whole .1) }
 
-    pub cut-refused : cutFits x (wordAt s 1) (wordAt s 3) ≡ false → BackPost ws ms n s ws (record { number = 6; place = 0; count = n })
+    pub cut-refused : cutFits x (numberAt s 1) (numberAt s 3) ≡ false → BackPost ws ms n s ws (record { number = 6; place = 0; count = n })
     cut-refused e = refused-record (ap (undoFits x) (record-cut s kind) ∙ e)
 
-    module _ (fit : cutFits x (wordAt s 1) (wordAt s 3) ≡ true) where
-      tests : (ltb (wordAt s 1) (model.count x) ≡ true) × (not (model.hasParent (model.rowAt x (wordAt s 1) .parent)) ≡ true) ×
-          (not (model.isMarked x (wordAt s 1)) ≡ true) × (model.isLowerElement x (wordAt s 1) (wordAt s 3) ≡ true)
+    module _ (fit : cutFits x (numberAt s 1) (numberAt s 3) ≡ true) where
+      tests : (ltb (numberAt s 1) (model.count x) ≡ true) × (not (model.hasParent (model.rowAt x (numberAt s 1) .parent)) ≡ true) ×
+          (not (model.isMarked x (numberAt s 1)) ≡ true) × (model.isLowerElement x (numberAt s 1) (numberAt s 3) ≡ true)
       tests =
-          and-four (ltb (wordAt s 1) (model.count x)) (not (model.hasParent (model.rowAt x (wordAt s 1) .parent)))
-          (not (model.isMarked x (wordAt s 1))) (model.isLowerElement x (wordAt s 1) (wordAt s 3)) fit
+          and-four (ltb (numberAt s 1) (model.count x)) (not (model.hasParent (model.rowAt x (numberAt s 1) .parent)))
+          (not (model.isMarked x (numberAt s 1))) (model.isLowerElement x (numberAt s 1) (numberAt s 3)) fit
 
-      pub cut-row-low : wordAt s 1 < n
-      cut-row-low = omega (arith, ltb-true (wordAt s 1) (model.count x) (tests .0), count-decode n ws ms within)
+      pub cut-row-low : numberAt s 1 < n
+      cut-row-low = omega (arith, ltb-true (numberAt s 1) (model.count x) (tests .0), count-decode n ws ms within)
 
-      pub cut-parent-low : wordAt s 3 < wordAt s 1
+      pub cut-parent-low : numberAt s 3 < numberAt s 1
       cut-parent-low =
-          ltb-true (wordAt s 3) (wordAt s 1)
-          (and-left (ltb (wordAt s 3) (wordAt s 1)) (model.isElement x (wordAt s 3)) (tests .3))
+          ltb-true (numberAt s 3) (numberAt s 1)
+          (and-left (ltb (numberAt s 3) (numberAt s 1)) (model.isElement x (numberAt s 3)) (tests .3))
 
       abbrev w : ℕ
-      w = getD ws (wordAt s 1) 0
+      w = getD ws (numberAt s 1) 0
 
-      linked-back : BackPost ws ms n s (set ws (wordAt s 1) (withLink w (wordAt s 3 + 1))) (record { number = 0; place = 0; count = n })
+      linked-back :
+          BackPost ws ms n s (set ws (numberAt s 1) (withLink w (numberAt s 3 + 1))) (record { number = 0; place = 0; count = n })
       linked-back =
-          let small : wordAt s 3 + 1 < 1024 = omega (arith, cut-parent-low, cut-row-low, pre .few) in
+          let small : numberAt s 3 + 1 < 1024 = omega (arith, cut-parent-low, cut-row-low, pre .few) in
           record {
             fit = ap (undoFits x) (record-cut s kind) ∙ fit;
             link = λ f. absurd (f refl);
             table = λ f.
-                decode-linked n ws (pre .canonical) within (wordAt s 1) cut-row-low (wordAt s 3 + 1) small ms ∙
-                ap (model.linked x (wordAt s 1)) (ofLink-linkOf (some (wordAt s 3))) ∙ sym (ap (undone x) (record-cut s kind));
+                decode-linked n ws (pre .canonical) within (numberAt s 1) cut-row-low (numberAt s 3 + 1) small ms ∙
+                ap (model.linked x (numberAt s 1)) (ofLink-linkOf (some (numberAt s 3))) ∙ sym (ap (undone x) (record-cut s kind));
             few = λ f. pre .few;
-            canonical = λ f. canonical-linked n ws (pre .canonical) within (wordAt s 1) cut-row-low (wordAt s 3 + 1) small;
+            canonical = λ f. canonical-linked n ws (pre .canonical) within (numberAt s 1) cut-row-low (numberAt s 3 + 1) small;
           }
 
       -- at the numbers read
-      pub cut-back : {i q : ℕ} → i ≡ wordAt s 1 → q ≡ wordAt s 3 → {w′ : ℕ} →
+      pub cut-back : {i q : ℕ} → i ≡ numberAt s 1 → q ≡ numberAt s 3 → {w′ : ℕ} →
           w′ ≡ withLink (getD ws i 0) (q + 1) →
           BackPost ws ms n s (set ws i w′) (record { number = 0; place = 0; count = n })
       cut-back {i} {q} a b {w′} f =
@@ -109,16 +110,16 @@ module _ {ws : List ℕ} {n : ℕ} {s : List ℕ} (pre : BackPre ws n s) (ms : L
     made-pre =
         record { rows = pre .rows; few = pre .few; whole = omega (arith, pre .whole .1, size-made s kind (pre .whole .0)) }
 
-    pub made-refused : madeFits x (wordAt s 1) (rowMade s) ≡ false → BackPost ws ms n s ws (record { number = 6; place = 0; count = n })
+    pub made-refused : madeFits x (numberAt s 1) (rowMade s) ≡ false → BackPost ws ms n s ws (record { number = 6; place = 0; count = n })
     made-refused e = refused-record (ap (undoFits x) (record-made s kind (pre .whole .0)) ∙ e)
 
-    module _ (fit : madeFits x (wordAt s 1) (rowMade s) ≡ true) where
+    module _ (fit : madeFits x (numberAt s 1) (rowMade s) ≡ true) where
       pub made-some : 0 < n
       made-some =
           omega (
             arith,
-            eqb-true (wordAt s 1 + 1) (model.count x)
-                (and-five (eqb (wordAt s 1 + 1) (model.count x)) (not (model.isMarked x (wordAt s 1))) _ _ _ fit .0),
+            eqb-true (numberAt s 1 + 1) (model.count x)
+                (and-five (eqb (numberAt s 1 + 1) (model.count x)) (not (model.isMarked x (numberAt s 1))) _ _ _ fit .0),
             count-decode n ws ms within,
           )
 

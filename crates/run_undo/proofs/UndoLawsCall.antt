@@ -9,10 +9,10 @@ use Rattle.model.specs.Limits.{maxRows, maxHistory}
 use Rattle.model.specs.Refusal.{refusal, linkAt}
 use Rattle.model.specs.Undo.{Undo, undo}
 use Rattle.model.proofs.BoolLaws.{cond-true, cond-false}
-use Rattle.plan_table.specs.Words.{decode, fits}
+use Rattle.plan_table.specs.Packed.{decode, fits}
 use Rattle.plan_table.specs.Results.{withTable}
 use Rattle.plan_table.specs.declared.Table.{Table}
-use Rattle.plan_table.proofs.WordLaws.{encode-decode}
+use Rattle.plan_table.proofs.PackedLaws.{encode-decode}
 use Rattle.plan_table.proofs.FittedLaws.{fits-at}
 use Rattle.run_undo.specs.Undoing.{undoneBy, planUndone, PlacesPost, AllPre, AllPost}
 use Rattle.plan_table.specs.declared.End.{End}

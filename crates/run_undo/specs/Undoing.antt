@@ -8,10 +8,10 @@ use lib.ListN.{length, getD, drop}
 use Rattle.model.specs.Limits.{maxHistory, maxRows}
 use Rattle.model.specs.Refusal as refusal
 use Rattle.model.specs.Table as model
-use Rattle.model.specs.Stored.{wordAt, parentIn}
+use Rattle.model.specs.Stored.{numberAt, parentIn}
 use Rattle.model.specs.History.{madeLeafKind, historySize, recordIn}
 use Rattle.model.specs.Undo.{Placed, formRefusal, undoFits, undone, Undo, refused, back, undoAll, undo}
-use Rattle.plan_table.specs.Words.{decode, decodeParts, Canonical, fits}
+use Rattle.plan_table.specs.Packed.{decode, decodeParts, Canonical, fits}
 use Rattle.model.specs.Refusal.{refusalAt}
 use Rattle.plan_table.specs.Results.{result, withTable}
 use Rattle.plan_table.specs.declared.Table.{Table}
@@ -61,7 +61,7 @@ pub record FitPre (ws : List ℕ) (n : ℕ) (s : List ℕ) (k : ℕ) : Type 0 wh
 
 -- the row in the record of a row made
 abbrev pub rowMade : (bytes : List ℕ) → model.Row
-rowMade s = record { isLeaf = eqb (getD s 0 0) madeLeafKind; tag = getD s 3 0; parent = parentIn (wordAt s 4) }
+rowMade s = record { isLeaf = eqb (getD s 0 0) madeLeafKind; tag = getD s 3 0; parent = parentIn (numberAt s 4) }
 
 -- UNDONE: one record
 pub record BackPre (ws : List ℕ) (n : ℕ) (s : List ℕ) : Type 0 where

@@ -5,9 +5,9 @@ ghost use lib.Dec.{eqb};
 ghost use lib.ListN.{length};
 ghost use Rattle.model.specs.History.{madeLeafKind, historySize};
 ghost use Rattle.model.specs.Limits.{maxHistory};
-ghost use Rattle.model.specs.Stored.{parentIn, wordAt};
+ghost use Rattle.model.specs.Stored.{parentIn, numberAt};
 ghost use Rattle.model.specs.Undo.{sameBool, sameParent, madeFits, cutFits};
-ghost use Rattle.plan_table.specs.Words.{kindIn, leafWord, ofLink, decodeParts};
+ghost use Rattle.plan_table.specs.Packed.{kindIn, leafBits, ofLink, decodeParts};
 ghost use Rattle.run_undo.specs.Undoing.{FormPost, PlacesPost, FitPre, rowMade, BackPre, BackPost, AllPre, AllPost};
 use plan_table::End;
 use plan_table::Link;
@@ -17,7 +17,7 @@ use plan_table::Table;
 use plan_table::fit;
 use plan_table::marks;
 use plan_table::number;
-use plan_table::words;
+use plan_table::packed;
 use run_updates::history;
 
 // The bytes of a record of this kind; 0 for a byte that is no kind.
@@ -87,11 +87,11 @@ pub fn form(bytes: &[u8], places: &mut [u16]) -> End
     }
 }
 
-// A row's word and the kind of a record of a row made say the same.
+// A packed row and the kind of a record of a row made say the same.
 fn same_kind(w: u32, kind: u8) -> bool
-    ensures { λ r. ⌜ r ≡ sameBool (eqb (kindIn w) leafWord) (eqb kind madeLeafKind) ⌝ }
+    ensures { λ r. ⌜ r ≡ sameBool (eqb (kindIn w) leafBits) (eqb kind madeLeafKind) ⌝ }
 {
-    if words::kind(w) == words::LEAF {
+    if packed::kind(w) == packed::LEAF {
         return kind == history::LEAF;
     }
     kind != history::LEAF
@@ -100,7 +100,7 @@ fn same_kind(w: u32, kind: u8) -> bool
 // A row's link and the parent in the record s of a row made say the same.
 fn same_parent(link: Link, s: &[u8]) -> bool
     requires { ⌜ 6 ≤ length (now s) ⌝ }
-    ensures { λ r. ⌜ r ≡ sameParent (ofLink (link .0)) (parentIn (wordAt (now (s .entry)) 4)) ⌝ }
+    ensures { λ r. ⌜ r ≡ sameParent (ofLink (link .0)) (parentIn (numberAt (now (s .entry)) 4)) ⌝ }
 {
     let number = number::number_at(s, 4);
     if number == number::NONE {
@@ -112,7 +112,7 @@ fn same_parent(link: Link, s: &[u8]) -> bool
 // The row made by the record s is the last, unmarked, and equal to it.
 fn made_fits(rows: &[u32], marks: &[u16], count: usize, s: &[u8]) -> bool
     requires { ⌜ FitPre (now rows) count (now s) 6 ⌝ }
-    ensures { λ r. ⌜ r ≡ madeFits (decodeParts count (now (rows .entry)) (now (marks .entry))) (wordAt (now (s .entry)) 1)
+    ensures { λ r. ⌜ r ≡ madeFits (decodeParts count (now (rows .entry)) (now (marks .entry))) (numberAt (now (s .entry)) 1)
         (rowMade (now (s .entry))) ⌝ }
 {
     let row = number::number_at(s, 1);
@@ -126,23 +126,23 @@ fn made_fits(rows: &[u32], marks: &[u16], count: usize, s: &[u8]) -> bool
     if !same_kind(w, s[0]) {
         return false;
     }
-    if words::tag(w) != number::wide(s[3]) {
+    if packed::tag(w) != number::wide(s[3]) {
         return false;
     }
-    same_parent(words::link(w), s)
+    same_parent(packed::link(w), s)
 }
 
 // The row cut by the record s has no parent and no mark, and its old parent is a lower element.
 fn cut_fits(rows: &[u32], marks: &[u16], count: usize, s: &[u8]) -> bool
     requires { ⌜ FitPre (now rows) count (now s) 5 ⌝ }
-    ensures { λ r. ⌜ r ≡ cutFits (decodeParts count (now (rows .entry)) (now (marks .entry))) (wordAt (now (s .entry)) 1)
-        (wordAt (now (s .entry)) 3) ⌝ }
+    ensures { λ r. ⌜ r ≡ cutFits (decodeParts count (now (rows .entry)) (now (marks .entry))) (numberAt (now (s .entry)) 1)
+        (numberAt (now (s .entry)) 3) ⌝ }
 {
     let row = number::number_at(s, 1);
     if count <= row {
         return false;
     }
-    if words::link(rows[row]).0 != 0 {
+    if packed::link(rows[row]).0 != 0 {
         return false;
     }
     if marks::is_marked(marks, RowNumber(row)) {
@@ -167,7 +167,7 @@ fn undo_record(rows: &mut [u32], marks: &[u16], count: usize, s: &[u8]) -> End
         }
         let row = number::number_at(s, 1);
         let link = number::number_at(s, 3) + 1;
-        rows[row] = words::relinked(rows[row], Link(link));
+        rows[row] = packed::relinked(rows[row], Link(link));
         return End {
             number: 0,
             place: 0,

@@ -12,7 +12,7 @@ use Rattle.model.specs.History.{Record, made, isCut, times, IsInRange, AllInRan
 use Rattle.model.proofs.FormLaws.{recordBytes-some, size-back, recordIn-back}
 use Rattle.model.proofs.All.{all-snoc}
 use Rattle.model.proofs.HistoryLaws.{times-snoc}
-use Rattle.plan_table.specs.Words.{rowOf, linkIn, tagIn}
+use Rattle.plan_table.specs.Packed.{rowOf, linkIn, tagIn}
 use Rattle.run_updates.specs.Tallying.{plusMade, plusCut}
 use Rattle.run_updates.specs.declared.tally.Tally.{Tally}
 use Rattle.run_updates.specs.State.{recordsFrom, recordsIn, Recorded}

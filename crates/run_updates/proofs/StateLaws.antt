@@ -13,8 +13,8 @@ use Rattle.model.specs.Run.{State, state, Out, refused, gives, thenRow}
 use Rattle.model.proofs.BoolLaws.{cond-eq, cond-ne}
 use Rattle.model.specs.Table.{Tree}
 use Rattle.model.specs.Base.{nothing, over}
-use Rattle.plan_table.specs.Words.{decodeParts, partsFit, Canonical}
-use Rattle.plan_table.proofs.WordLaws.{count-decode}
+use Rattle.plan_table.specs.Packed.{decodeParts, partsFit, Canonical}
+use Rattle.plan_table.proofs.PackedLaws.{count-decode}
 use Rattle.model.proofs.ListLaws.{length-over}
 use Rattle.plan_table.proofs.FittedLaws.{fits-at}
 use Rattle.run_updates.specs.declared.tally.Tally.{Tally}

@@ -19,9 +19,9 @@ use Rattle.model.specs.Table.{Tree}
 use Rattle.model.proofs.GrowLaws.{tree-withRow, tree-linked}
 use Rattle.model.proofs.FormLaws.{length-recordBytes}
 use Rattle.model.proofs.UndoLaws.{made-inRange}
-use Rattle.plan_table.specs.Words.{linkOf, rowOf, wordOf, isRowWord, withLink, decodeParts, Canonical, linkIn}
-use Rattle.plan_table.proofs.WordLaws.{linkOf-ofLink, rowOf-wordOf, wordOf-rowOf, isRowWord-wordOf, canonical-push}
-use Rattle.plan_table.proofs.WordLaws.{decode-linked, canonical-linked}
+use Rattle.plan_table.specs.Packed.{linkOf, rowOf, packRow, isPackedRow, withLink, decodeParts, Canonical, linkIn}
+use Rattle.plan_table.proofs.PackedLaws.{linkOf-ofLink, rowOf-packRow, packRow-rowOf, isPackedRow-packRow, canonical-push}
+use Rattle.plan_table.proofs.PackedLaws.{decode-linked, canonical-linked}
 use Rattle.plan_table.proofs.DecodeLaws.{decode-row, parent-linked, parent-at}
 use Rattle.run_updates.specs.Tallying.{plusMade, plusCut}
 use Rattle.run_updates.specs.declared.tally.Tally.{Tally}
@@ -94,7 +94,7 @@ module _ {ws h : List ℕ} {p : Progress} {w : ℕ} (pre : NewPre ws h p w) wher
 
     table-made : (ms : List ℕ) → decodeParts (p .count + 1) rows′ ms ≡ model.withRow (decodeParts (p .count) ws ms) (rowOf w)
     table-made ms =
-        ap (λ (j : ℕ). decodeParts (p .count + 1) (set ws (p .count) j) ms) (sym (wordOf-rowOf w (pre .word))) ∙
+        ap (λ (j : ℕ). decodeParts (p .count + 1) (set ws (p .count) j) ms) (sym (packRow-rowOf w (pre .packed))) ∙
         decode-row (p .count) (rowOf w) ws ms (omega (arith, pre .held .rows)) new-link
 
     state-made : (ms : List ℕ) → stateOf rows′ ms history′ after′ ≡ withMade (stateOf ws ms h p) (rowOf w)
@@ -108,7 +108,7 @@ module _ {ws h : List ℕ} {p : Progress} {w : ℕ} (pre : NewPre ws h p w) wher
         append-after (pre .held) entry 6 entry-size (omega arith) m
         (recorded-made (take (p .bytes) h) (p .tally) (pre .held .history) entry entry-range refl m) refl
         (length-set ws (p .count) w) (omega arith) (omega arith)
-        (subst (λ (j : ℕ). Canonical (p .count + 1) (set ws (p .count) j)) (wordOf-rowOf w (pre .word))
+        (subst (λ (j : ℕ). Canonical (p .count + 1) (set ws (p .count) j)) (packRow-rowOf w (pre .packed))
         (canonical-push (p .count) ws (rowOf w) l (pre .held .rows) new-link (pre .held .canonical)))
         (subst (λ (x : model.Table). Tree x) (sym (table-made []))
         (tree-withRow (decodeParts (p .count) ws []) (rowOf w) (pre .held .tree) (pre .tag) parent-fits))
@@ -128,18 +128,18 @@ module _ {ws h : List ℕ} {p : Progress} {w : ℕ} (pre : NewPre ws h p w) wher
         })
 
 -- WITHOUT PARENT: an element with a name, or a leaf with a value
-module _ (b : Bool) (t : ℕ) {w : ℕ} (e : w ≡ wordOf (loose b t)) where
+module _ (b : Bool) (t : ℕ) {w : ℕ} (e : w ≡ packRow (loose b t)) where
   loose-row : rowOf w ≡ loose b t
-  loose-row = ap rowOf e ∙ rowOf-wordOf (loose b t) (omega arith)
+  loose-row = ap rowOf e ∙ rowOf-packRow (loose b t) (omega arith)
 
-  loose-word : isRowWord w ≡ true
-  loose-word = ap isRowWord e ∙ isRowWord-wordOf (loose b t)
+  loose-packed : isPackedRow w ≡ true
+  loose-packed = ap isPackedRow e ∙ isPackedRow-packRow (loose b t)
 
   pub loose-pre : {ws h : List ℕ} {p : Progress} → Held ws h p → model.tagFits (loose b t) ≡ true → NewPre ws h p w
   loose-pre {ws} {h} {p} held f =
       record {
         held = held;
-        word = loose-word;
+        packed = loose-packed;
         tag = ap model.tagFits loose-row ∙ f;
         parent = ap (λ (r : model.Row). model.parentFits (decodeParts (p .count) ws []) (p .count) (r .parent)) loose-row;
       }
@@ -165,11 +165,11 @@ module _ (z i : ℕ) (is : List ℕ) (s : State) where
 
 -- A LINK CUT
 module _ {ws h : List ℕ} {p : Progress} {i : ℕ} (pre : CutPre ws h p i) where
-  abbrev word : ℕ
-  word = getD ws i 0
+  abbrev packed : ℕ
+  packed = getD ws i 0
 
   abbrev link : ℕ
-  link = linkIn word
+  link = linkIn packed
 
   pub cut-root : link ≡ 0 → Updated (λ z s. cutAll z (i ∷ []) s) [] ws h p ws h p
   unfolding cutAll
@@ -198,11 +198,11 @@ module _ {ws h : List ℕ} {p : Progress} {i : ℕ} (pre : CutPre ws h p i) wher
       abbrev cutEntry : Record
       cutEntry = cut i (link - 1)
 
-      abbrev cutWord : ℕ
-      cutWord = withLink word 0
+      abbrev cutPacked : ℕ
+      cutPacked = withLink packed 0
 
       abbrev cutRows : List ℕ
-      cutRows = set ws i cutWord
+      cutRows = set ws i cutPacked
 
       abbrev cutHistory : List ℕ
       cutHistory = over (p .bytes) (recordBytes cutEntry) h
@@ -223,7 +223,7 @@ module _ {ws h : List ℕ} {p : Progress} {i : ℕ} (pre : CutPre ws h p i) wher
       after-cut =
           append-after (pre .held) cutEntry 5 refl (omega arith) m
           (recorded-cut (take (p .bytes) h) (p .tally) (pre .held .history) cutEntry cutIn refl m) refl
-          (length-set ws i cutWord) (omega arith) (pre .held .few)
+          (length-set ws i cutPacked) (omega arith) (pre .held .few)
           (canonical-linked (p .count) ws (pre .held .canonical) (held-within (pre .held)) i (pre .row) 0 (omega arith))
           (subst (λ (x : model.Table). Tree x) (sym (table-cut []))
           (tree-linked (decodeParts (p .count) ws []) i none (pre .held .tree)
@@ -239,7 +239,7 @@ module _ {ws h : List ℕ} {p : Progress} {i : ℕ} (pre : CutPre ws h p i) wher
             after = λ q. after-cut;
           }
 
-      pub cut-done : {w′ l : ℕ} → w′ ≡ cutWord → l ≡ link → {h′ : List ℕ} → h′ ≡ over (p .bytes) (recordBytes (cut i (l - 1))) h →
+      pub cut-done : {w′ l : ℕ} → w′ ≡ cutPacked → l ≡ link → {h′ : List ℕ} → h′ ≡ over (p .bytes) (recordBytes (cut i (l - 1))) h →
           {t : Tally} → t ≡ plusCut (p .tally) → Updated (λ z s. cutAll z (i ∷ []) s) [] ws h p (set ws i w′) h′ (cutWith t)
       cut-done e f {h′} g {t} n =
           subst (λ (j : ℕ). Updated (λ z s. cutAll z (i ∷ []) s) [] ws h p (set ws i j) h′ (cutWith t)) (sym e)

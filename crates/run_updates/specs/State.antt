@@ -10,7 +10,7 @@ use Rattle.model.specs.Refusal.{refusal}
 use Rattle.model.specs.History.{Record, isCut, times, AllInRange, historyBytes, historySize, recordIn}
 use Rattle.model.specs.Run.{State, state, Out, refused, gives}
 use Rattle.model.specs.Table.{Tree}
-use Rattle.plan_table.specs.Words.{decodeParts, Canonical}
+use Rattle.plan_table.specs.Packed.{decodeParts, Canonical}
 use Rattle.run_updates.specs.Tallying.{noneYet}
 use Rattle.run_updates.specs.declared.tally.Tally.{Tally}
 use Rattle.run_updates.specs.declared.state.Progress.{Progress}

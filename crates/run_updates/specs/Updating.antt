@@ -5,29 +5,29 @@ use mathlib.Core.List.{List, [], _∷_, _++_}
 use Prim.Native.Nat.{ℕ, _≤_, _<_}
 use lib.Dec.{eqb}
 use Rattle.model.specs.Table.{tagFits, parentFits}
-use Rattle.model.specs.Stored.{wordBytes, parentBytes}
+use Rattle.model.specs.Stored.{numberBytes, parentBytes}
 use Rattle.model.specs.Run.{newRow, loose, cutAll}
 use Rattle.model.specs.History.{madeElementKind, madeLeafKind}
 use Rattle.plan_table.specs.Flags.{Within}
-use Rattle.plan_table.specs.Words.{ofLink, isRowWord, rowOf, decodeParts, kindIn, leafWord}
+use Rattle.plan_table.specs.Packed.{ofLink, isPackedRow, rowOf, decodeParts, kindIn, leafBits}
 use Rattle.run_updates.specs.State.{Held, Updated}
 use Rattle.run_updates.specs.declared.state.Progress.{Progress}
 
 -- RECORDS as bytes
-abbrev pub madeKind : (word : ℕ) → ℕ
-madeKind w = cond (eqb (kindIn w) leafWord) madeLeafKind madeElementKind
+abbrev pub madeKind : (packed : ℕ) → ℕ
+madeKind w = cond (eqb (kindIn w) leafBits) madeLeafKind madeElementKind
 
 abbrev pub sixBytes : (kind row tag link : ℕ) → List ℕ
-sixBytes k i t l = (k ∷ wordBytes i) ++ (t ∷ parentBytes (ofLink l))
+sixBytes k i t l = (k ∷ numberBytes i) ++ (t ∷ parentBytes (ofLink l))
 
--- A NEW ROW that fits, in its word
+-- A NEW ROW that fits, packed
 pub record NewPre (ws h : List ℕ) (p : Progress) (w : ℕ) : Type 0 where
   pub held : Held ws h p
-  pub word : isRowWord w ≡ true
+  pub packed : isPackedRow w ≡ true
   pub tag : tagFits (rowOf w) ≡ true
   pub parent : parentFits (decodeParts (p .count) ws []) (p .count) (rowOf w .parent) ≡ true
 
-abbrev pub NewPost : (ws h : List ℕ) → (p : Progress) → (word : ℕ) → (ws′ h′ : List ℕ) → (r : Progress) → Type 0
+abbrev pub NewPost : (ws h : List ℕ) → (p : Progress) → (packed : ℕ) → (ws′ h′ : List ℕ) → (r : Progress) → Type 0
 NewPost ws h p w ws′ h′ r = Updated (λ z s. newRow z (rowOf w) s) (p .count ∷ []) ws h p ws′ h′ r
 
 -- WITHOUT PARENT: an element with a name, or a leaf with a value

@@ -4,13 +4,13 @@ ghost use Prim.Native.Nat.{_+_, _/_, _%_, _≤_, _<_};
 ghost use lib.ListN.{length};
 ghost use Rattle.model.specs.Limits.{maxRows};
 ghost use Rattle.model.specs.History.{recordBytes, made, cut};
-ghost use Rattle.plan_table.specs.Words.{tagIn, rowOf};
+ghost use Rattle.plan_table.specs.Packed.{tagIn, rowOf};
 ghost use Rattle.model.specs.Base.{over};
 ghost use Rattle.run_updates.specs.Updating.{madeKind, sixBytes};
 use plan_table::Link;
 use plan_table::RowNumber;
 use plan_table::number;
-use plan_table::words;
+use plan_table::packed;
 
 pub const ELEMENT: u8 = 0x41;
 
@@ -27,7 +27,7 @@ pub const CUT_SIZE: usize = 5;
 fn made_kind(w: u32) -> u8
     ensures { λ r. ⌜ r ≡ madeKind w ⌝ }
 {
-    if words::kind(w) == words::LEAF {
+    if packed::kind(w) == packed::LEAF {
         return LEAF;
     }
     ELEMENT
@@ -56,8 +56,8 @@ pub fn put_made(history: &mut [u8], at: usize, row: RowNumber, w: u32)
     requires { ⌜ tagIn w < 256 ⌝ }
     ensures { λ r. ⌜ now (history .exit) ≡ over at (recordBytes (made (row .0) (rowOf w))) (now (history .entry)) ⌝ }
 {
-    let tag = words::tag(w) as u8;
-    put_six(history, at, made_kind(w), row, tag, words::link(w));
+    let tag = packed::tag(w) as u8;
+    put_six(history, at, made_kind(w), row, tag, packed::link(w));
 }
 
 // The record of a row cut from its parent, at a place.

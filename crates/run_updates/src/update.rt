@@ -13,7 +13,7 @@ use plan_table::Refusal;
 use plan_table::RowNumber;
 use plan_table::Table;
 use plan_table::number;
-use plan_table::words;
+use plan_table::packed;
 
 // Row w more, with its record: 10 when the table is full, then 9 when the history is.
 pub fn new_row(rows: &mut [u32], history: &mut [u8], p: Progress, w: u32) -> Progress
@@ -44,7 +44,7 @@ pub fn new_element(rows: &mut [u32], history: &mut [u8], p: Progress, name: Name
     requires { ⌜ ElementPre (now rows) (now history) p (name .0) ⌝ }
     ensures { λ r. ⌜ LoosePost (now (rows .entry)) (now (history .entry)) p false (name .0) (now (rows .exit)) (now (history .exit)) r ⌝ }
 {
-    new_row(rows, history, p, words::element(name, Link(0)))
+    new_row(rows, history, p, packed::element(name, Link(0)))
 }
 
 // A new leaf without parent.
@@ -52,7 +52,7 @@ pub fn new_leaf(rows: &mut [u32], history: &mut [u8], p: Progress, value: u8) ->
     requires { ⌜ Held (now rows) (now history) p ⌝ }
     ensures { λ r. ⌜ LoosePost (now (rows .entry)) (now (history .entry)) p true value (now (rows .exit)) (now (history .exit)) r ⌝ }
 {
-    new_row(rows, history, p, words::leaf(value, Link(0)))
+    new_row(rows, history, p, packed::leaf(value, Link(0)))
 }
 
 // A row cut from its parent, if it has one, with a record: 9 when the history is full.
@@ -64,14 +64,14 @@ fn cut_row(rows: &mut [u32], history: &mut [u8], p: Progress, row: RowNumber) ->
     let before = p.tally;
     let i = row.0;
     let w = rows[i];
-    let link = words::link(w).0;
+    let link = packed::link(w).0;
     if link == 0 {
         return p;
     }
     if Table::HISTORY_RECORDS <= before.records {
         return p.refused(Refusal::HISTORY);
     }
-    rows[i] = words::relinked(w, Link(0));
+    rows[i] = packed::relinked(w, Link(0));
     let parent = link - 1;
     history::put_cut(history, at, row, RowNumber(parent));
     Progress {

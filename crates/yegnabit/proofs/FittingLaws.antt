@@ -17,7 +17,7 @@ use Rattle.model.proofs.StoredBack.{storedBack}
 use Rattle.model.proofs.SweepsWell.{sweepsWell}
 use Rattle.model.proofs.TableLaws.{isWell-by, well-empty}
 use Rattle.model.proofs.UndoKeeps.{undoKeeps}
-use Rattle.plan_table.specs.Words.{decode, fits}
+use Rattle.plan_table.specs.Packed.{decode, fits}
 use Rattle.plan.specs.Calls as library
 use Rattle.plan_sweep.specs.Sweeping as sweeping
 use Rattle.plan_table.specs.declared.Table.{Table}

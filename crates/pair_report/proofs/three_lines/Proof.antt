@@ -42,7 +42,7 @@ returns c =
     let c21 = c15 .before .before .before .before .before .before in
     record {
       placed =
-          three-placed (c21 .args .table) (c21 .args .word .now)
+          three-placed (c21 .args .table) (c21 .args .answer .now)
           (c21 .args .first .now) (c21 .args .second .now) (c12 .in-order .ensures) (c6 .in-order2 .ensures)
           (c3 .swapped .ensures) (c15 .put-answer .ensures .text) (c9 .put-order .ensures .text)
           (c .before .before .put-order2 .ensures .text);

@@ -1,7 +1,7 @@
 -- `sweep_table` refuses an ill-formed table with 6, and sweeps any other as the model does.
 use Rattle.plan_sweep.proofs.SweepLaws.{encode-swept, sweep-ill, sweep-done}
 use Rattle.plan_table.proofs.FittedLaws.{Fits, fits-at, fits-mark}
-use Rattle.plan_table.specs.Fitting.{Words}
+use Rattle.plan_table.specs.Fitting.{TableSizes}
 use borrow.Author.Tests.{not-true, not-false}
 use native.Mathlib.Omega.{arith}
 use mathlib.Core.Path.{refl, _∙_, sym}
@@ -14,7 +14,7 @@ use lib.ListN.{length}
 fits-requires : tie.Need-fits-requires
 fits-requires c κs = search needs
 
-size : (c : tie.Start) → Words (c .args .t1 .rows) (c .args .t1 .marks)
+size : (c : tie.Start) → TableSizes (c .args .t1 .rows) (c .args .t1 .marks)
 size c = search needs
 
 fitting : (c : tie.Else1) → Fits (c .before .before .before .before .before .before .before .args .t1 .count) (c .before .before .before

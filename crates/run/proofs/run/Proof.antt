@@ -22,8 +22,8 @@ returns c =
     (not-true (c2 .fit .result) (c .before .if1 .taken)) (c .refused .ensures) in
     (r .0, (r .1, (r .2, r .3)))
 
-clear-words-requires : tie.Need-clear-words-requires
-clear-words-requires c κs = search needs
+clear-numbers-requires : tie.Need-clear-numbers-requires
+clear-numbers-requires c κs = search needs
 
 clear-bytes-requires : tie.Need-clear-bytes-requires
 clear-bytes-requires c κs = search needs
@@ -36,16 +36,16 @@ run-in-requires c κs =
     let c12 = c11 .before in
     let x = c12 .before .before .before .before .before .args in
     cleared-pre (x .table) (x .script .now) (x .answer .now) (x .history .now) (x .work .now) (c12 .fit .ensures)
-    (not-false (c12 .fit .result) (c11 .if1 .left)) (c9 .clear-words .ensures) (c5 .clear-bytes .ensures)
+    (not-false (c12 .fit .result) (c11 .if1 .left)) (c9 .clear-numbers .ensures) (c5 .clear-bytes .ensures)
 
-clear-words-requires-2 : tie.Need-clear-words-requires-2
-clear-words-requires-2 c κs = search needs
+clear-numbers-requires-2 : tie.Need-clear-numbers-requires-2
+clear-numbers-requires-2 c κs = search needs
 
 same-length : tie.Need-same-length
 same-length c =
     let c10 = c .before .before .before .before .before .before .before .before .before .before in
     let c20 = c10 .before .before .before .before .before .before .before .before .before .before in
-    c10 .run-in .kept .1 .1 .0 ∙ c20 .clear-words .kept .0
+    c10 .run-in .kept .1 .1 .0 ∙ c20 .clear-numbers .kept .0
 
 same-length-2 : tie.Need-same-length-2
 same-length-2 c =
@@ -56,7 +56,7 @@ same-length-2 c =
 same-length-3 : tie.Need-same-length-3
 same-length-3 c =
     let c10 = c .before .before .before .before .before .before .before .before .before .before in
-    c .before .before .clear-words2 .kept .0 ∙ c10 .run-in .kept .1 .1 .1 .1 .0
+    c .before .before .clear-numbers2 .kept .0 ∙ c10 .run-in .kept .1 .1 .1 .1 .0
 
 returns-2 : tie.Need-returns-2
 returns-2 c =
@@ -67,8 +67,8 @@ returns-2 c =
     let c23 = c22 .before in
     let x = c23 .before .before .before .before .before .args in
     let r = run-done (x .table) (x .script .now) (x .answer .now) (x .history .now) (x .work .now) (c23 .fit .ensures)
-    (not-false (c23 .fit .result) (c22 .if1 .left)) (c20 .clear-words .ensures) (c16 .clear-bytes .ensures) (c10 .run-in .ensures)
-    (c .before .before .clear-words2 .ensures ∙ ap (λ (j : ℕ). replicate j 0) (c10 .run-in .kept .1 .1 .1 .1 .0)) in
+    (not-false (c23 .fit .result) (c22 .if1 .left)) (c20 .clear-numbers .ensures) (c16 .clear-bytes .ensures) (c10 .run-in .ensures)
+    (c .before .before .clear-numbers2 .ensures ∙ ap (λ (j : ℕ). replicate j 0) (c10 .run-in .kept .1 .1 .1 .1 .0)) in
     (r .0, (r .1, (r .2, r .3)))
 
 pub run-spec : {M : Type 1} → statement M
@@ -78,10 +78,10 @@ run-spec =
     fit-requires
     refused-requires
     returns
-    clear-words-requires
+    clear-numbers-requires
     clear-bytes-requires
     run-in-requires
-    clear-words-requires-2
+    clear-numbers-requires-2
     same-length
     same-length-2
     same-length-3

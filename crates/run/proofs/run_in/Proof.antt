@@ -7,10 +7,10 @@ use Prim.Native.Nat.{ℕ}
 use native.Mathlib.Omega.{arith}
 use lib.ListN.{length, replicate}
 use borrow.Author.Tests.{not-true, not-false}
-use Rattle.plan_table.specs.Fitting.{Words}
+use Rattle.plan_table.specs.Fitting.{TableSizes}
 use Rattle.run.proofs.CallLaws.{refused-post, ill-formed, refuses-by, accepted-by, eval-asks, run-stops, run-post, put-asks, few}
 
-size : (c : tie.Start) → Words (c .args .t1 .rows) (c .args .t1 .marks)
+size : (c : tie.Start) → TableSizes (c .args .t1 .rows) (c .args .t1 .marks)
 size c = search needs
 
 fits-requires : tie.Need-fits-requires

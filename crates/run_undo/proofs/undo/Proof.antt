@@ -1,7 +1,7 @@
 -- `undo` refuses an ill-formed table with 6, and takes any other back as the model does.
 use Rattle.run_undo.proofs.UndoLawsCall.{undo-ill, undo-broken, undo-pre, undo-refused, undo-done}
-use Rattle.plan_table.specs.Fitting.{Words}
-use Rattle.plan_table.specs.Words.{fits}
+use Rattle.plan_table.specs.Fitting.{TableSizes}
+use Rattle.plan_table.specs.Packed.{fits}
 use borrow.Author.Tests.{not-true, not-false}
 use mathlib.Core.Bool.{true}
 use mathlib.Core.Path.{_≡_, sym, _∙_}
@@ -9,7 +9,7 @@ use borrow.Author.Needs.{needs}
 use Rattle.run_undo.proofs.undo.Statement.{statement}
 use Rattle.run_undo.proofs.undo.Tie as tie
 
-size : (c : tie.Start) → Words (c .args .t1 .rows) (c .args .t1 .marks)
+size : (c : tie.Start) → TableSizes (c .args .t1 .rows) (c .args .t1 .marks)
 size c = search needs
 
 fitting : (c : tie.Else1) → fits (c .before .before .before .before .before .before .before .before .args .t1) ≡ true

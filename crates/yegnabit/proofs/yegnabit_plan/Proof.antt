@@ -2,7 +2,7 @@
 use Rattle.yegnabit.proofs.FittingLaws.{bytes-known, read-fits}
 use Rattle.yegnabit.proofs.CallLaws.{area-short, area-fits}
 use Rattle.c_codes.specs.Codes.{codeOf, finishedValues, finishedOut}
-use Rattle.plan_table.specs.Words.{fits}
+use Rattle.plan_table.specs.Packed.{fits}
 use Rattle.plan_table.specs.declared.TableResult.{TableResult}
 use mathlib.Core.Path.{_∙_, ap}
 use native.Mathlib.Omega.{arith}

@@ -1,7 +1,7 @@
 -- `yegnabit_run` answers and leaves what `runCalled` says, by its three ways out: an area too short, the plan refused, the run over.
 use mathlib.Core.Path.{_∙_, ap}
 use Rattle.yegnabit.proofs.FittingLaws.{bytes-known, read-fits}
-use Rattle.plan_table.specs.Words.{fits}
+use Rattle.plan_table.specs.Packed.{fits}
 use Rattle.plan_table.specs.declared.TableResult.{TableResult}
 use Rattle.run.proofs.Promised.{runsOn}
 use Rattle.run.specs.declared.RunResult.{RunResult}

@@ -3,7 +3,7 @@ use Rattle.yegnabit.proofs.FittingLaws.{bytes-known, read-fits, undone-
 use Rattle.yegnabit.proofs.CallLaws.{area-short, plan-refused, plan-done}
 use Rattle.c_codes.specs.Codes.{codeOf, finishedValues, finishedOut}
 use Rattle.run_undo.specs.Undoing.{planUndone}
-use Rattle.plan_table.specs.Words.{fits}
+use Rattle.plan_table.specs.Packed.{fits}
 use Rattle.plan_table.specs.declared.TableResult.{TableResult}
 use mathlib.Core.Path.{_∙_, ap}
 use native.Mathlib.Omega.{arith}

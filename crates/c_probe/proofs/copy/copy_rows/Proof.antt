@@ -1,4 +1,4 @@
--- `copy::copy_rows` leaves the words copied. The invariant: those below i are copied.
+-- `copy::copy_rows` leaves the packed rows copied. The invariant: those below i are copied.
 use Rattle.model.proofs.ListLaws.{paste-next, front-all, front-whole}
 use lib.ListN.{length, getD, length-set}
 use lib.Seq.{paste}

@@ -1,4 +1,4 @@
--- `copy::put_table` leaves the table's words and marks.
+-- `copy::put_table` leaves the table's packed rows and marks.
 use mathlib.Core.Path.{_∙_}
 use Rattle.model.proofs.ListLaws.{front-whole}
 use borrow.Author.Needs.{needs}

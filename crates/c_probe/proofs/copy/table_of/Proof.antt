@@ -1,4 +1,4 @@
--- `copy::table_of` is the table with these words and marks.
+-- `copy::table_of` is the table with these packed rows and marks.
 use mathlib.Core.Path.{_∙_}
 use native.Mathlib.Omega.{arith}
 use Rattle.model.proofs.ListLaws.{front-whole}

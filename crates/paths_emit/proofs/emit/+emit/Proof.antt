@@ -82,7 +82,7 @@ three-at t c =
 one-at : (t : ℕ) (c : emit-lts.After-emit (emit-claims t) (emit-at t) emit.Post) →
     let a = c .before .before .before .before .before .before .before .before .before .before .args in
     let e = c .emit .last in
-    First (a .bytes .now) (a .place .now) (a .left) (a .bound) (a .env) (a .words .now) (a .count .now) (e .1 .0)
+    First (a .bytes .now) (a .place .now) (a .left) (a .bound) (a .env) (a .positions .now) (a .count .now) (e .1 .0)
     (e .1 .1 .1 .1 .1 .0) (e .1 .1 .1 .1 .1 .1 .0) (c .emit .result)
 one-at t c =
     let c5 = c .before .before .before .before .before in
@@ -92,7 +92,7 @@ one-at t c =
 first-at : (t : ℕ) (c : emit-lts.After-emit2 (emit-claims t) (emit-at t) emit.Post) →
     let a = c .before .before .before .before .before .before .before .before .before .before .before .args in
     let e = c .emit2 .last in
-    First (a .bytes .now) (a .place .now) (a .left) (a .bound) (a .env) (a .words .now) (a .count .now) (e .1 .0)
+    First (a .bytes .now) (a .place .now) (a .left) (a .bound) (a .env) (a .positions .now) (a .count .now) (e .1 .0)
     (e .1 .1 .1 .1 .1 .0) (e .1 .1 .1 .1 .1 .1 .0) (c .emit2 .result)
 first-at t c =
     let c6 = c .before .before .before .before .before .before in
@@ -103,7 +103,7 @@ second-at : (t : ℕ) (c : emit-lts.After-emit3 (emit-claims t) (emit-at t) emit
     let c6 = c .before .before .before .before .before .before in
     let a = c6 .before .before .before .before .before .before .before .before .before .before .before .args in
     let e = c .emit3 .last in
-    Second (a .bytes .now) (a .place .now) (a .left) (a .bound) (a .env) (a .words .now) (a .count .now) (c6 .emit2 .result)
+    Second (a .bytes .now) (a .place .now) (a .left) (a .bound) (a .env) (a .positions .now) (a .count .now) (c6 .emit2 .result)
     (e .1 .0) (e .1 .1 .1 .1 .1 .0) (e .1 .1 .1 .1 .1 .1 .0) (c .emit3 .result)
 second-at t c =
     let c3 = c .before .before .before in

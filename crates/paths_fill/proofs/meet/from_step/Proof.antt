@@ -4,7 +4,7 @@ use native.Mathlib.Omega.{arith}
 use Rattle.paths_positions.specs.Sources.{fromStep}
 use Rattle.paths_positions.specs.Steps.{stepOf}
 use Rattle.paths_cells.specs.Decoded.{cellOf}
-use Rattle.paths_positions.specs.Words.{stepIn}
+use Rattle.paths_positions.specs.Packed.{stepIn}
 use Rattle.paths_cells.specs.Pairs.{marks}
 use Rattle.paths_cells.proofs.BitLaws.{no-bits}
 use Rattle.paths_fill.proofs.FillLaws.{over-lower, row-asks, lower-asks, step-root, step-step, step-none, to-nothing}

@@ -6,7 +6,7 @@ use lib.ListN.{length}
 use Rattle.paths_positions.specs.Filled.{Filled}
 use Rattle.paths_cells.specs.Decoded.{cellOf}
 use Rattle.paths_cells.specs.Pairs.{marks, HasRows}
-use Rattle.paths_positions.specs.Words.{entriesBy}
+use Rattle.paths_positions.specs.Packed.{entriesBy}
 use Rattle.paths_fill.proofs.FillLaws.{meet-asks, part-asks, union-asks, union-filled, row-started, row-filled}
 use borrow.Author.Needs.{needs}
 use Rattle.paths_fill.proofs.meet.union_row.Statement.{statement}

@@ -1,13 +1,13 @@
 -- `read::mark` refuses the mark at the front or sets it in the table, by one law of ReadRecordLaws for each way out.
 use Rattle.plan_reader.specs.Reading.{lastOf}
 use Rattle.plan_reader.proofs.ReadRecordLaws.{refused, mark-field, mark-order, mark-root, mark-by}
-use Rattle.plan_table.specs.Words.{ofLink, decodeParts}
+use Rattle.plan_table.specs.Packed.{ofLink, decodeParts}
 use Rattle.plan_table.specs.Fitting.{isRootBelow}
 use Rattle.plan_table.proofs.DecodeLaws.{below-bound}
 use Rattle.model.specs.Limits.{documents}
 use Rattle.model.proofs.BoolLaws.{and-left}
 use Rattle.model.specs.Refusal.{refusal, fine}
-use Rattle.model.specs.Stored.{wordAt, markRefusal}
+use Rattle.model.specs.Stored.{numberAt, markRefusal}
 use Rattle.model.specs.Table.{isThe}
 use Rattle.model.specs.Base.{any}
 use lib.ListN.{getD, set}
@@ -39,26 +39,26 @@ rising c e = omega (arith, e, c .before .before .byte .ensures .0, c .if2 .left)
 
 root-by : (c : tie.After-is-root-below) →
     let a = c .before .before .before .before .before .before .before .before .before .args in
-    isRootBelow (a .rows .now) (a .count) (wordAt (a .s .now) 2) ≡ c .is-root-below .result
+    isRootBelow (a .rows .now) (a .count) (numberAt (a .s .now) 2) ≡ c .is-root-below .result
 root-by c =
     let c9 = c .before .before .before .before .before .before .before .before .before in
     sym (c .is-root-below .ensures ∙ ap (isRootBelow (c9 .args .rows .now) (c9 .args .count)) (c .before .number-at .ensures .0))
 
 root : (c : tie.Else3) →
     let a = c .before .before .before .before .before .before .before .before .before .before .args in
-    isRootBelow (a .rows .now) (a .count) (wordAt (a .s .now) 2) ≡ true
+    isRootBelow (a .rows .now) (a .count) (numberAt (a .s .now) 2) ≡ true
 root c = root-by (c .before) ∙ not-false (c .before .is-root-below .result) (c .if3 .left)
 
 there : (c : tie.Else3) →
     let a = c .before .before .before .before .before .before .before .before .before .before .args in
-    wordAt (a .s .now) 2 < a .count
+    numberAt (a .s .now) 2 < a .count
 there c =
     let c10 = c .before .before .before .before .before .before .before .before .before .before in
-    below-bound (c10 .args .rows .now) (c10 .args .count) (wordAt (c10 .args .s .now) 2) (and-left _ _ (root c))
+    below-bound (c10 .args .rows .now) (c10 .args .count) (numberAt (c10 .args .s .now) 2) (and-left _ _ (root c))
 
 marked-by : (c : tie.After-is-marked) →
     let a = c .before .before .before .before .before .before .before .before .before .before .before .before .args in
-    any (isThe (wordAt (a .s .now) 2)) (map ofLink (a .marks .now)) ≡ c .is-marked .result
+    any (isThe (numberAt (a .s .now) 2)) (map ofLink (a .marks .now)) ≡ c .is-marked .result
 marked-by c =
     let c4 = c .before .before .before .before in
     let c12 = c4 .before .before .before .before .before .before .before .before in

@@ -7,8 +7,8 @@ use borrow.Author.Needs.{needs}
 use borrow.Author.Tests.{ne-eqb}
 use Rattle.model.specs.Table
 use Rattle.model.specs.Stored.{markKind, isStoredKind, recordSize, isMark}
-use Rattle.plan_table.specs.Words.{decodeParts}
-use Rattle.plan_table.proofs.WordLaws.{count-decode}
+use Rattle.plan_table.specs.Packed.{decodeParts}
+use Rattle.plan_table.proofs.PackedLaws.{count-decode}
 use Rattle.plan_table.proofs.SizeLaws.{size-none, size-some, size-is}
 use Rattle.plan_reader.proofs.ReadRecordLaws.{refused, record-kind, record-mark-short, record-size, record-row-short}
 use Rattle.plan_reader.proofs.ReadRecordLaws.{mark-record, row-record}

@@ -2,7 +2,7 @@
 use lib.ListN.{length-take}
 use Rattle.plan_reader.proofs.ReadingLaws.{held-empty, reading-all, reading-on, reading-refused, reading-end}
 use Rattle.plan_reader.specs.Reading.{Held}
-use Rattle.plan_table.specs.Words.{decodeParts}
+use Rattle.plan_table.specs.Packed.{decodeParts}
 use Rattle.model.proofs.BoolLaws.{cond-ne}
 use Rattle.model.specs.Stored.{readFrom, readPlan, refused}
 use Rattle.model.specs.Refusal.{refusal}

@@ -2,12 +2,12 @@
 use Rattle.plan_reader.proofs.ReadRecordLaws.{refused}
 use mathlib.Core.List.{List}
 use Rattle.plan_reader.specs.Reading.{lastOf}
-use Rattle.plan_table.specs.Words.{elementWord, leafWord, wordOf}
+use Rattle.plan_table.specs.Packed.{elementBits, leafBits, packRow}
 use Rattle.plan_table.specs.Fitting.{isElementBelow}
 use Rattle.plan_table.proofs.DecodeLaws.{below-bound}
 use Rattle.model.specs.Base.{maxByte}
-use Rattle.model.specs.Stored.{elementKind, leafKind, noParent, rowIn, wordAt}
-use Rattle.plan_reader.proofs.ReadRecordLaws.{row-word-none, row-word-some}
+use Rattle.model.specs.Stored.{elementKind, leafKind, noParent, rowIn, numberAt}
+use Rattle.plan_reader.proofs.ReadRecordLaws.{packed-none, packed-some}
 use Prim.Native.Nat.{ℕ, _≤_, _<_, _+_, _*_, _-_}
 use Rattle.plan_reader.proofs.ReadRecordLaws.{row-field, row-order, row-none, row-child}
 use lib.Dec.{eqb}
@@ -62,8 +62,8 @@ returns-2 c =
 number-at-requires : tie.Need-number-at-requires
 number-at-requires c κs = search needs
 
-word-requires : tie.Need-word-requires
-word-requires c κs = search needs
+packed-row-requires : tie.Need-packed-row-requires
+packed-row-requires c κs = search needs
 
 mul-rows : tie.Need-mul-rows
 mul-rows c = search needs
@@ -77,12 +77,12 @@ same-length c = search needs
 last-zero : (c : tie.Else3) (ms : List ℕ) → c .before .before .before .before .before .before .args .last ≡ lastOf ms → lastOf ms ≡ 0
 last-zero c ms e = sym e ∙ search (c .if3 .left, needs)
 
-stored-none : (c : tie.After-word) →
+stored-none : (c : tie.After-packed-row) →
     let a = c .before .before .before .before .before .before .before .before .before .args in
-    c .word .result ≡ wordOf (rowIn (a .s .now))
+    c .packed-row .result ≡ packRow (rowIn (a .s .now))
 stored-none c =
     let c9 = c .before .before .before .before .before .before .before .before .before in
-    c .word .ensures ∙ row-word-none (c9 .args .s .now) (sym (c .before .before .number-at .ensures .0) ∙
+    c .packed-row .ensures ∙ packed-none (c9 .args .s .now) (sym (c .before .before .number-at .ensures .0) ∙
     c .before .if4 .taken)
 
 returns-3 : tie.Need-returns-3
@@ -105,12 +105,12 @@ same-length-2 c = search needs
 
 parent-known : (c : tie.Else4) →
     let a = c .before .before .before .before .before .before .before .before .args in
-    wordAt (a .s .now) 2 ≡ noParent → ⊥
+    numberAt (a .s .now) 2 ≡ noParent → ⊥
 parent-known c h = c .if4 .left (c .before .number-at .ensures .0 ∙ h)
 
 child : (c : tie.After-is-lower-element) →
     let a = c .before .before .before .before .before .before .before .before .before .before .args in
-    isElementBelow (a .rows .now) (a .count) (wordAt (a .s .now) 2) ≡ c .is-lower-element .result
+    isElementBelow (a .rows .now) (a .count) (numberAt (a .s .now) 2) ≡ c .is-lower-element .result
 child c =
     let c3 = c .before .before .before in
     let c10 = c3 .before .before .before .before .before .before .before in
@@ -119,10 +119,10 @@ child c =
 
 lower : (c : tie.Else5) →
     let a = c .before .before .before .before .before .before .before .before .before .before .before .args in
-    wordAt (a .s .now) 2 < a .count
+    numberAt (a .s .now) 2 < a .count
 lower c =
     let c11 = c .before .before .before .before .before .before .before .before .before .before .before in
-    below-bound (c11 .args .rows .now) (c11 .args .count) (wordAt (c11 .args .s .now) 2)
+    below-bound (c11 .args .rows .now) (c11 .args .count) (numberAt (c11 .args .s .now) 2)
     (child (c .before) ∙ not-false (c .before .is-lower-element .result) (c .if5 .left))
 
 returns-4 : tie.Need-returns-4
@@ -142,8 +142,8 @@ returns-4 c =
 add-link : tie.Need-add-link
 add-link c = search needs
 
-word-requires-2 : tie.Need-word-requires-2
-word-requires-2 c κs =
+packed-row-requires-2 : tie.Need-packed-row-requires-2
+packed-row-requires-2 c κs =
     let c4 = c .before .before .before .before in
     let c11 = c4 .before .before .before .before .before .before .before in
     omega (arith, c11 .pre .room, lower c, c4 .number-at .ensures .0)
@@ -157,17 +157,17 @@ slice-write-rows-2 c = search needs
 same-length-3 : tie.Need-same-length-3
 same-length-3 c = search needs
 
-stored-some : (c : tie.After-word2) →
+stored-some : (c : tie.After-packed-row2) →
     let a = c .before .before .before .before .before .before .before .before .before .before .before .before .args in
-    c .word2 .result ≡ wordOf (rowIn (a .s .now))
+    c .packed-row2 .result ≡ packRow (rowIn (a .s .now))
 stored-some c =
     let c4 = c .before .before .before .before in
     let c5 = c4 .before in
     let c12 = c5 .before .before .before .before .before .before .before in
     let s = c12 .args .s .now in
-    let h : c .word2 .result ≡ cond (eqb (getD s 0 0) leafKind) leafWord elementWord + 4 * (wordAt s 2 + 1) + 4096 * getD s 1 0 =
-    omega (arith, c .word2 .ensures, c5 .number-at .ensures .0) in
-    h ∙ row-word-some (c12 .args .s .now) (parent-known c4)
+    let h : c .packed-row2 .result ≡ cond (eqb (getD s 0 0) leafKind) leafBits elementBits + 4 * (numberAt s 2 + 1) + 4096 * getD s 1 0 =
+    omega (arith, c .packed-row2 .ensures, c5 .number-at .ensures .0) in
+    h ∙ packed-some (c12 .args .s .now) (parent-known c4)
 
 returns-5 : tie.Need-returns-5
 returns-5 c =
@@ -192,7 +192,7 @@ row-spec =
     returns
     returns-2
     number-at-requires
-    word-requires
+    packed-row-requires
     mul-rows
     slice-write-rows
     same-length
@@ -201,7 +201,7 @@ row-spec =
     same-length-2
     returns-4
     add-link
-    word-requires-2
+    packed-row-requires-2
     mul-rows-2
     slice-write-rows-2
     same-length-3

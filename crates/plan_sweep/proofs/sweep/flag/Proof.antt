@@ -1,7 +1,7 @@
 -- `sweep::flag` flags the marked rows. The loop's invariant: the flags are those of the marks passed.
 use Rattle.plan_table.proofs.DecodeLaws.{marked-snoc}
 use Rattle.plan_table.proofs.FlagLaws.{flags-none, flags-next, flags-all}
-use Rattle.plan_table.specs.Words.{ofLink}
+use Rattle.plan_table.specs.Packed.{ofLink}
 use Rattle.model.specs.Base.{any}
 use Rattle.model.specs.Table as model
 use mathlib.Core.Bool.{Bool}

@@ -1,7 +1,7 @@
 -- `sweep::row` takes the next number for a row that is kept, and leaves the others out.
 use Rattle.model.proofs.BoolLaws.{cond-true, cond-false}
-use Rattle.plan_sweep.specs.Sweeping.{keeps, keepsRow, newWord}
-use Rattle.plan_table.specs.Words.{linkIn, withLink}
+use Rattle.plan_sweep.specs.Sweeping.{keeps, keepsRow, relinked}
+use Rattle.plan_table.specs.Packed.{linkIn, withLink}
 use borrow.Author.Tests.{not-true, not-false}
 use lib.ListN.{getD, set}
 use mathlib.Core.Path.{_≡_, _∙_, sym, ap}
@@ -58,7 +58,7 @@ returns c =
     let e = kept (c .before) ∙ not-true (c .before .is-kept .result) (c .if1 .taken) in
     record {
       numbers = sym (cond-false t (set (a .numbers .now) (a .row .0 + 1) (a .next + 1)) (a .numbers .now) e);
-      rows = sym (cond-false t (set (a .out .now) (a .next) (newWord (a .w) (a .numbers .now))) (a .out .now) e);
+      rows = sym (cond-false t (set (a .out .now) (a .next) (relinked (a .w) (a .numbers .now))) (a .out .now) e);
       result = sym (cond-false t (a .next + 1) (a .next) e);
     }
 
@@ -104,7 +104,7 @@ same-length-2 c = search needs
 
 built : (c : tie.After-relinked) →
     let a = c .before .before .before .before .before .before .before .before .before .args in
-    c .relinked .result ≡ newWord (a .w) (a .numbers .now)
+    c .relinked .result ≡ relinked (a .w) (a .numbers .now)
 built c =
     let c4 = c .before .before .before .before in
     let c9 = c4 .before .before .before .before .before in
@@ -121,7 +121,7 @@ returns-2 c =
       numbers = sym (cond-true t (set (a .numbers .now) (a .row .0 + 1) (a .next + 1)) (a .numbers .now) e);
       rows =
           ap (set (a .out .now) (a .next)) (built c) ∙
-          sym (cond-true t (set (a .out .now) (a .next) (newWord (a .w) (a .numbers .now))) (a .out .now) e);
+          sym (cond-true t (set (a .out .now) (a .next) (relinked (a .w) (a .numbers .now))) (a .out .now) e);
       result = sym (cond-true t (a .next + 1) (a .next) e);
     }
 

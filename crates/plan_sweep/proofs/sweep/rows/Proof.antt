@@ -2,7 +2,7 @@
 use Rattle.plan_sweep.proofs.SweepLaws.{sweeping-none, sweeping-next, next-low, link-in, entry-low}
 use Rattle.plan_table.proofs.FittedLaws.{Fits, fits-at, fits-mark}
 use Rattle.plan_sweep.specs.Sweeping.{Sweeping}
-use Rattle.plan_table.specs.Words.{decodeParts}
+use Rattle.plan_table.specs.Packed.{decodeParts}
 use lib.ListN.{length}
 use mathlib.Core.Path.{_≡_, ap, subst}
 use Prim.Native.Nat.{ℕ, _≤_, _-_}

@@ -1,4 +1,4 @@
--- `Table::empty` is the table without rows, in its words.
+-- `Table::empty` is the table without rows, packed.
 use mathlib.Core.Path.{refl}
 use Rattle.plan_table.proofs.Table.empty.Statement.{statement}
 use Rattle.plan_table.proofs.Table.empty.Tie as tie

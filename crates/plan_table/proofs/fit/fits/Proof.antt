@@ -1,7 +1,7 @@
 -- `fit::fits` is the model's rule: few rows, each fitting, zeros past them, and the marks fitting.
 use Rattle.plan_table.proofs.FitCheckLaws.{parts-fit}
 use Rattle.plan_table.specs.Fitting.{marksFit}
-use Rattle.plan_table.specs.Words.{isZero}
+use Rattle.plan_table.specs.Packed.{isZero}
 use Rattle.model.specs.Limits.{maxRows}
 use Rattle.model.specs.Base.{all}
 use lib.ListN.{drop}

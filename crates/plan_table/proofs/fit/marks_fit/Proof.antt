@@ -1,7 +1,7 @@
 -- `fit::marks_fit`: every mark fits and none stands again behind it. The loop's invariant: the check from here on decides.
 use Rattle.plan_table.proofs.FitCheckLaws.{marks-turn, marks-end, marks-go, repeated-none, repeated-some}
 use Rattle.plan_table.specs.Fitting.{isRepeated, markFits, marksFit}
-use Rattle.plan_table.specs.Words.{ofLink}
+use Rattle.plan_table.specs.Packed.{ofLink}
 use Rattle.model.specs.Table.{isThe}
 use Rattle.model.specs.Base.{any}
 use lib.Seq.{take-all}

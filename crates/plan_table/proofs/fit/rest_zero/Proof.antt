@@ -1,6 +1,6 @@
--- `fit::rest_zero`: the words past the count are zero. The loop's invariant: the words from here on decide.
+-- `fit::rest_zero`: what stands past the count is zero. The loop's invariant: what stands from here on decides.
 use Rattle.plan_table.proofs.FitCheckLaws.{all-turn, all-end}
-use Rattle.plan_table.specs.Words.{isZero}
+use Rattle.plan_table.specs.Packed.{isZero}
 use Rattle.model.specs.Base.{all}
 use lib.ListN.{getD, drop, length}
 use borrow.Author.Tests.{eq-eqb, ne-eqb}

@@ -5,7 +5,7 @@ use lib.ListN.{getD}
 use borrow.Author.Tests.{not-true, not-false}
 use mathlib.Core.Path.{_∙_, sym, ap}
 use borrow.Author.Needs.{needs}
-use Rattle.plan_table.specs.Words.{linkIn}
+use Rattle.plan_table.specs.Packed.{linkIn}
 use Rattle.plan_table.proofs.fit.row_fits.Statement.{statement}
 use Rattle.plan_table.proofs.fit.row_fits.Tie as tie
 

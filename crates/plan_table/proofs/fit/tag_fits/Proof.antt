@@ -1,4 +1,4 @@
--- `fit::tag_fits`: the word holds an element with a name from 1 to maxByte, or a leaf with a value up to 255.
+-- `fit::tag_fits`: the packed row is an element with a name from 1 to maxByte, or a leaf with a value up to 255.
 use lib.Dec.{ltb, eqb}
 use mathlib.Core.Path.{_∙_, sym, ap}
 use Prim.Native.Nat.{ℕ, _≤_, _<_}
@@ -8,7 +8,7 @@ use borrow.Author.Needs.{needs}
 use Rattle.model.specs.Base.{maxByte}
 use Rattle.plan_table.proofs.fit.tag_fits.Statement.{statement}
 use Rattle.plan_table.proofs.fit.tag_fits.Tie as tie
-use Rattle.plan_table.specs.Words.{kindIn, tagIn}
+use Rattle.plan_table.specs.Packed.{kindIn, tagIn}
 
 kind-requires : tie.Need-kind-requires
 kind-requires c κs = search needs

@@ -1,6 +1,6 @@
 -- `marks::is_marked` finds a row among the marks. The loop's invariant: the marks from here on decide.
 use Rattle.plan_table.proofs.DecodeLaws.{marked-turn, marked-none}
-use Rattle.plan_table.specs.Words.{ofLink}
+use Rattle.plan_table.specs.Packed.{ofLink}
 use Rattle.model.specs.Table.{isThe}
 use Rattle.model.specs.Base.{any}
 use borrow.Author.Tests.{eq-eqb, ne-eqb}

@@ -6,18 +6,18 @@ use native.Mathlib.Omega.{arith}
 use lib.ListN.{length}
 use borrow.Author.Needs.{needs}
 use Rattle.model.specs.Stored.{stored, rowsBytes, marksBytes}
-use Rattle.plan_table.specs.Fitting.{Words}
-use Rattle.plan_table.specs.Words.{ofLink, rowsOf, decode}
+use Rattle.plan_table.specs.Fitting.{TableSizes}
+use Rattle.plan_table.specs.Packed.{ofLink, rowsOf, decode}
 use Rattle.model.specs.Base.{over}
 use Rattle.plan_writer.proofs.WritePlanLaws.{write-short, write-fine, write-out, length-stored, stored-over}
 use Rattle.plan_table.proofs.FittedLaws.{Fits, fits-at, fits-tag}
-use Rattle.plan_table.proofs.WordLaws.{count-decode}
+use Rattle.plan_table.proofs.PackedLaws.{count-decode}
 use Rattle.plan_writer.proofs.WriteRecordLaws.{length-rowsBytes}
 use Rattle.model.proofs.ListLaws.{length-over}
 use Rattle.plan_writer.proofs.write.fitting.Statement.{statement}
 use Rattle.plan_writer.proofs.write.fitting.Tie as tie
 
-size : (c : tie.Start) → Words (c .args .t1 .rows) (c .args .t1 .marks)
+size : (c : tie.Start) → TableSizes (c .args .t1 .rows) (c .args .t1 .marks)
 size c = search needs
 
 fit : (c : tie.Start) → Fits (c .args .t1 .count) (c .args .t1 .rows) (c .args .t1 .marks)

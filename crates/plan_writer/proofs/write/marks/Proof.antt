@@ -2,7 +2,7 @@
 use Rattle.plan_writer.proofs.WriteRecordLaws.{length-marks, marks-start, marks-front, marks-grown}
 use Rattle.model.proofs.ListLaws.{over-nil}
 use Rattle.model.specs.Base.{over}
-use Rattle.plan_table.specs.Words.{ofLink}
+use Rattle.plan_table.specs.Packed.{ofLink}
 use Rattle.model.specs.Stored.{markBytes, marksBytes}
 use lib.Seq.{take-all}
 use lib.ListN.{length, getD, take}

@@ -5,7 +5,7 @@ use Prim.Native.Nat.{ℕ}
 use native.Mathlib.Numerals.{add-one, add-two, add-three}
 use lib.Seq.{sets-eq}
 use Rattle.model.specs.Base.{over}
-use Rattle.model.specs.Stored.{wordBytes}
+use Rattle.model.specs.Stored.{numberBytes}
 use lib.ListN.{length-set}
 use native.Mathlib.Omega.{arith}
 use borrow.Author.Needs.{needs}
@@ -50,7 +50,7 @@ returns c =
     let c2 = c .before .before in
     let x = c2 .args in
     rw (add-one, add-two, add-three)
-    (sets-eq (x .kind ∷ x .field ∷ wordBytes (c .parent .result)) (x .out .now) (x .at) (c2 .pre .0)) ∙
+    (sets-eq (x .kind ∷ x .field ∷ numberBytes (c .parent .result)) (x .out .now) (x .at) (c2 .pre .0)) ∙
     ap (λ (b : List ℕ). over (x .at) (x .kind ∷ x .field ∷ b) (x .out .now)) (c .parent .ensures .0)
 
 pub put-spec : {M : Type 1} → statement M

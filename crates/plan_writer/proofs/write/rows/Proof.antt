@@ -1,7 +1,7 @@
 -- `write::rows` puts the rows over the area. The loop's invariant: those passed stand there.
 use Rattle.plan_writer.proofs.WriteRecordLaws.{rows-start, rows-grown, rows-all}
 use Rattle.model.specs.Base.{over}
-use Rattle.plan_table.specs.Words.{rowOf, rowsOf}
+use Rattle.plan_table.specs.Packed.{rowOf, rowsOf}
 use Rattle.model.specs.Stored.{rowBytes, rowsBytes}
 use lib.ListN.{length, getD, take}
 use mathlib.Core.List.{List}

@@ -1,6 +1,6 @@
 -- `write::stored_length` is the length of the stored form. The loop's invariant: the marks passed are counted.
 use Rattle.plan_writer.proofs.WriteRecordLaws.{length-mark, length-marks, marks-start}
-use Rattle.plan_table.specs.Words.{ofLink}
+use Rattle.plan_table.specs.Packed.{ofLink}
 use Rattle.model.specs.Limits.{maxRows}
 use Rattle.model.specs.Stored.{markBytes, marksBytes, recordSize}
 use lib.Seq.{take-all}

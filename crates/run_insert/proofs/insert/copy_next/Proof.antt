@@ -1,6 +1,6 @@
 -- `insert::copy_next` copies a row under its parent's copy, if there is one.
 use Rattle.run_insert.specs.Inserting.{copyLink, nextLink}
-use Rattle.plan_table.specs.Words.{withLink}
+use Rattle.plan_table.specs.Packed.{withLink}
 use lib.ListN.{getD}
 use Rattle.run_insert.proofs.InsertLaws.{next-bound, next-none, next-small, next-pre, next-made}
 use mathlib.Core.Path.{_≡_, sym, _∙_, ap}
@@ -23,10 +23,10 @@ has-link : (c : tie.Else1) → nextLink (c .before .before .before .before .befo
     (c .before .before .before .before .before .before .before .before .before .args .row .0) ≡ 0 → ⊥
 has-link c q = c .if1 .left (is-link (c .before .before) ∙ q)
 
-copied-word : (c : tie.After-relinked) →
+copied-row : (c : tie.After-relinked) →
     let a = c .before .before .before .before .before .before .before .before .before .before .before .before .args in
     c .relinked .result ≡ withLink (getD (a .rows .now) (a .row .0) 0) (nextLink (a .rows .now) (a .map .now) (a .top .0) (a .row .0))
-copied-word c =
+copied-row c =
     let c5 = c .before .before .before .before .before in
     let c12 = c5 .before .before .before .before .before .before .before in
     let a = c12 .args in
@@ -86,7 +86,7 @@ new-row-requires c κs =
     let c3 = c .before .before .before in
     let c12 = c3 .before .before .before .before .before .before .before .before .before in
     next-pre (c12 .pre) (has-link
-    c3) (copied-word c)
+    c3) (copied-row c)
 
 same-length-2 : tie.Need-same-length-2
 same-length-2 c = search needs
@@ -103,7 +103,7 @@ returns-2 c =
     let c5 = c4 .before in
     let c8 = c5 .before .before .before in
     let c17 = c8 .before .before .before .before .before .before .before .before .before in
-    next-made (c17 .pre) (has-link c8) (copied-word c5) (c4 .new-row .ensures)
+    next-made (c17 .pre) (has-link c8) (copied-row c5) (c4 .new-row .ensures)
 
 pub copy-next-spec : {M : Type 1} → statement M
 copy-next-spec =

@@ -5,7 +5,7 @@ use lib.ListN.{length}
 use mathlib.Core.Path.{_≡_, refl, sym, _∙_}
 use native.Mathlib.Omega.{arith}
 use borrow.Author.Needs.{needs}
-use Rattle.plan_table.specs.Words.{kindIn}
+use Rattle.plan_table.specs.Packed.{kindIn}
 use Rattle.run_insert.proofs.insert.insert.Statement.{statement}
 use Rattle.run_insert.proofs.insert.insert.Tie as tie
 

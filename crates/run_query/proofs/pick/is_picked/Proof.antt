@@ -6,7 +6,7 @@ use borrow.Author.Needs.{needs}
 use native.Mathlib.Omega.{arith}
 use Rattle.run_query.proofs.pick.is_picked.Statement.{statement}
 use Rattle.run_query.proofs.pick.is_picked.Tie as tie
-use Rattle.plan_table.specs.Words.{kindIn}
+use Rattle.plan_table.specs.Packed.{kindIn}
 
 kind-requires : tie.Need-kind-requires
 kind-requires c κs = search needs

@@ -5,7 +5,7 @@ use lib.Dec.{eqb}
 use Prim.Native.Nat.{ℕ}
 use mathlib.Core.Path.{_≡_, _∙_, sym, ap}
 use borrow.Author.Needs.{needs}
-use Rattle.plan_table.specs.Words.{kindIn}
+use Rattle.plan_table.specs.Packed.{kindIn}
 use Rattle.run_query.proofs.step.passes.Statement.{statement}
 use Rattle.run_query.proofs.step.passes.Tie as tie
 

@@ -2,7 +2,7 @@
 use Rattle.run_undo.proofs.UndoLaws.{cut-high, cut-child, cut-marked, cut-element}
 use Rattle.model.specs.Base.{any}
 use Rattle.model.specs.Table.{isThe}
-use Rattle.plan_table.specs.Words.{ofLink, linkIn}
+use Rattle.plan_table.specs.Packed.{ofLink, linkIn}
 use lib.ListN.{getD}
 use mathlib.Core.List.{map}
 use mathlib.Core.Path.{_≡_, sym, _∙_}

@@ -2,9 +2,9 @@
 use Rattle.run_undo.proofs.UndoLaws.{made-last, made-marked, made-kind, made-tag, made-parent}
 use Rattle.model.specs.Base.{any}
 use Rattle.model.specs.Table.{isThe}
-use Rattle.model.specs.Stored.{parentIn, wordAt}
+use Rattle.model.specs.Stored.{parentIn, numberAt}
 use Rattle.model.specs.Undo.{sameParent}
-use Rattle.plan_table.specs.Words.{ofLink}
+use Rattle.plan_table.specs.Packed.{ofLink}
 use borrow.Author.Tests.{not-true, not-false}
 use mathlib.Core.List.{map}
 use mathlib.Core.Path.{_≡_, sym, _∙_, ap}
@@ -119,7 +119,7 @@ returns-5 c =
     let c13 = c12 .before in
     let c17 = c13 .before .before .before .before in
     let x = c17 .args in
-    c .same-parent .ensures ∙ ap (λ (j : ℕ). sameParent (ofLink j) (parentIn (wordAt (x .s .now) 4))) (c .before .link .ensures) ∙
+    c .same-parent .ensures ∙ ap (λ (j : ℕ). sameParent (ofLink j) (parentIn (numberAt (x .s .now) 4))) (c .before .link .ensures) ∙
     sym (made-parent (c17 .pre) (x .marks .now) (c13 .number-at .ensures .0) (is-last c12) (marked-by c11 ∙ c10 .if2 .left)
     (sym (c7 .same-kind .ensures) ∙ not-false (c7 .same-kind .result) (c6 .if3 .left))
     (sym (c5 .tag .ensures) ∙ search (c .before .before .if4 .left, needs) ∙ c .before .before .before .wide .ensures .0))

@@ -1,4 +1,4 @@
--- `undoing::same_kind`: the word and the record's kind are both a leaf's, or neither is.
+-- `undoing::same_kind`: the packed row and the record's kind are both a leaf's, or neither is.
 use Rattle.run_undo.proofs.UndoLaws.{kind-leaf, kind-element}
 use mathlib.Core.Path.{sym, _∙_}
 use borrow.Author.Needs.{needs}

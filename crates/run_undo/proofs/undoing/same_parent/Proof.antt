@@ -3,7 +3,7 @@ use mathlib.Core.Path.{_∙_, ap}
 use Prim.Native.Nat.{ℕ}
 use Rattle.model.specs.Stored.{parentIn}
 use Rattle.model.specs.Undo.{sameParent}
-use Rattle.plan_table.specs.Words.{ofLink}
+use Rattle.plan_table.specs.Packed.{ofLink}
 use Rattle.run_undo.proofs.UndoLaws.{parent-none, parent-some}
 use native.Mathlib.Omega.{arith}
 use borrow.Author.Needs.{needs}

@@ -2,10 +2,10 @@
 use Rattle.run_undo.proofs.UndoLawsBack.{cut-pre, cut-refused, cut-row-low, cut-parent-low, cut-back, made-pre, made-refused}
 use Rattle.run_undo.proofs.UndoLawsBack.{made-some}
 use Rattle.run_undo.proofs.UndoLawsBack.{made-back}
-use Rattle.model.specs.Stored.{wordAt}
+use Rattle.model.specs.Stored.{numberAt}
 use Rattle.model.specs.Undo.{cutFits, madeFits}
 use Rattle.run_undo.specs.Undoing.{rowMade}
-use Rattle.plan_table.specs.Words.{decodeParts}
+use Rattle.plan_table.specs.Packed.{decodeParts}
 use borrow.Author.Tests.{not-true, not-false}
 use mathlib.Core.Bool.{true}
 use mathlib.Core.Path.{_≡_, sym, _∙_}
@@ -16,14 +16,14 @@ use Rattle.run_undo.proofs.undoing.undo_record.Tie as tie
 
 cut-fit : (c : tie.Else2) → cutFits (decodeParts (c .before .before .before .before .before .before .before .before .args .count)
     (c .before .before .before .before .before .before .before .before .args .rows .now)
-    (c .before .before .before .before .before .before .before .before .args .marks .now)) (wordAt
-    (c .before .before .before .before .before .before .before .before .args .s .now) 1) (wordAt
+    (c .before .before .before .before .before .before .before .before .args .marks .now)) (numberAt
+    (c .before .before .before .before .before .before .before .before .args .s .now) 1) (numberAt
     (c .before .before .before .before .before .before .before .before .args .s .now) 3) ≡ true
 cut-fit c = sym (c .before .cut-fits .ensures) ∙ not-false (c .before .cut-fits .result) (c .if2 .left)
 
 made-fit : (c : tie.Else3) → madeFits (decodeParts (c .before .before .before .before .before .before .before .before .args .count)
     (c .before .before .before .before .before .before .before .before .args .rows .now)
-    (c .before .before .before .before .before .before .before .before .args .marks .now)) (wordAt
+    (c .before .before .before .before .before .before .before .before .args .marks .now)) (numberAt
     (c .before .before .before .before .before .before .before .before .args .s .now) 1) (rowMade
     (c .before .before .before .before .before .before .before .before .args .s .now)) ≡ true
 made-fit c = sym (c .before .made-fits .ensures) ∙ not-false (c .before .made-fits .result) (c .if3 .left)

@@ -4,7 +4,7 @@ use mathlib.Core.Path.{sym, _∙_}
 use borrow.Author.Needs.{needs}
 use Rattle.run_updates.proofs.history.made_kind.Statement.{statement}
 use Rattle.run_updates.proofs.history.made_kind.Tie as tie
-use Rattle.plan_table.specs.Words.{kindIn}
+use Rattle.plan_table.specs.Packed.{kindIn}
 
 kind-requires : tie.Need-kind-requires
 kind-requires c κs = search needs

@@ -2,7 +2,7 @@
 use native.Mathlib.Numerals.{add-one, add-two, add-three, add-four, add-five}
 use lib.Seq.{sets-eq}
 use Rattle.model.specs.Base.{over}
-use Rattle.model.specs.Stored.{wordBytes}
+use Rattle.model.specs.Stored.{numberBytes}
 use mathlib.Core.List.{List, _∷_, _++_}
 use mathlib.Core.Path.{_∙_, ap}
 use Prim.Native.Nat.{ℕ}
@@ -76,9 +76,9 @@ same-length c = search needs
 returns : tie.Need-returns
 returns c =
     let c4 = c .before .before .before .before in
-    let head : List ℕ → List ℕ = λ l. (c4 .args .kind ∷ wordBytes (c4 .args .row .0)) ++ (c4 .args .tag ∷ l) in
+    let head : List ℕ → List ℕ = λ l. (c4 .args .kind ∷ numberBytes (c4 .args .row .0)) ++ (c4 .args .tag ∷ l) in
     rw (add-one, add-two, add-three, add-four, add-five)
-    (sets-eq (head (wordBytes (c .before .before .parent .result))) (c4 .args .history .now) (c4 .args .at) (c4 .pre .0)) ∙
+    (sets-eq (head (numberBytes (c .before .before .parent .result))) (c4 .args .history .now) (c4 .args .at) (c4 .pre .0)) ∙
     ap (λ (l : List ℕ). over (c4 .args .at) (head l) (c4 .args .history .now)) (c .before .before .parent .ensures .0)
 
 pub put-six-spec : {M : Type 1} → statement M

@@ -4,7 +4,7 @@ use lib.ListN.{getD}
 use mathlib.Core.Path.{_≡_, sym, _∙_}
 use native.Mathlib.Omega.{arith}
 use borrow.Author.Needs.{needs}
-use Rattle.plan_table.specs.Words.{linkIn}
+use Rattle.plan_table.specs.Packed.{linkIn}
 use Rattle.run_updates.proofs.update.cut_row.Statement.{statement}
 use Rattle.run_updates.proofs.update.cut_row.Tie as tie
 

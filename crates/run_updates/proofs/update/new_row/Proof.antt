@@ -1,6 +1,6 @@
 -- `update::new_row` adds a row with its record, or refuses: 10 before 9.
 use Rattle.run_updates.proofs.UpdateLaws.{new-full, new-over, new-made}
-use Rattle.plan_table.proofs.WordLaws.{tag-byte}
+use Rattle.plan_table.proofs.PackedLaws.{tag-byte}
 use native.Mathlib.Omega.{arith}
 use borrow.Author.Needs.{needs}
 use Rattle.run_updates.proofs.update.new_row.Statement.{statement}

@@ -1,7 +1,7 @@
--- `clear_words`: the loop makes every number zero.
+-- `clear_numbers`: the loop makes every number zero.
 use borrow.Author.Needs.{needs}
-use Rattle.run_areas.proofs.area.clear_words.Statement.{statement}
-use Rattle.run_areas.proofs.area.clear_words.Tie as tie
+use Rattle.run_areas.proofs.area.clear_numbers.Statement.{statement}
+use Rattle.run_areas.proofs.area.clear_numbers.Tie as tie
 use mathlib.Core.Path.{_≡_, _∙_}
 use Prim.Native.Nat.{_≤_, _-_}
 use native.Mathlib.Omega.{arith}
@@ -46,8 +46,8 @@ returns c =
     let l = c .before .loop .inv .1 in cleared-all (c .before .before .args .area .now) (c .before .loop .area) (c .before .loop .k)
     (omega arith) (c .before .loop .inv .0) (c .before .loop .inv .2)
 
-pub clear-words-spec : {M : Type 1} → statement M
-clear-words-spec =
+pub clear-numbers-spec : {M : Type 1} → statement M
+clear-numbers-spec =
     tie.close
     (tie.spec
     Inv-loop

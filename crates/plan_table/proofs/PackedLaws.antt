@@ -1,4 +1,4 @@
--- A row survives its word, and a word that holds a row survives decoding; so do tables. Words are read, relinked, pushed and popped as
+-- A row survives packing, and a packed row survives decoding; so do tables. Packed rows are read, relinked, pushed and popped as
 -- rows are.
 use mathlib.Core.Path.{_≡_, refl, ap, sym, _∙_}
 use mathlib.Core.Bool.{Bool, true, false, cond}
@@ -18,9 +18,9 @@ use Rattle.model.specs.Table as model
 use Rattle.model.proofs.BoolLaws.{and-left, and-right, by-cases, cond-ne}
 use Rattle.model.proofs.TestLaws.{isIn-at, isIn-by}
 use Rattle.model.proofs.ListLaws.{map-set, map-back, take-next, take-set, all-getD}
-use Rattle.plan_table.specs.Words.{elementWord, leafWord}
-use Rattle.plan_table.specs.Words.{linkOf, ofLink, wordOf, rowOf, isRowWord, withLink, isZero, rowsOf, decodeParts, wordsOf}
-use Rattle.plan_table.specs.Words.{encode, Canonical, kindIn, linkIn, tagIn}
+use Rattle.plan_table.specs.Packed.{elementBits, leafBits}
+use Rattle.plan_table.specs.Packed.{linkOf, ofLink, packRow, rowOf, isPackedRow, withLink, isZero, rowsOf, decodeParts, packRows}
+use Rattle.plan_table.specs.Packed.{encode, Canonical, kindIn, linkIn, tagIn}
 
 -- LINKS
 pub ofLink-linkOf : (p : Option ℕ) → ofLink (linkOf p) ≡ p
@@ -36,50 +36,51 @@ ofLink-some l z = cond-ne none (some (l - 1)) z
 
 -- A ROW AND ITS WORD, where the parent's link fits its 10 bits
 
-kind-word : (r : model.Row) → linkOf (r .parent) < 1024 → eqb (kindIn (wordOf r)) 2 ≡ r .isLeaf
-kind-word r f = go (r .isLeaf)
+kind-packed : (r : model.Row) → linkOf (r .parent) < 1024 → eqb (kindIn (packRow r)) 2 ≡ r .isLeaf
+kind-packed r f = go (r .isLeaf)
   where
     go : (z : Bool) → eqb (kindIn (cond z 2 1 + 4 * linkOf (r .parent) + 4096 * r .tag)) 2 ≡ z
     go true = eq-eqb (kindIn (2 + 4 * linkOf (r .parent) + 4096 * r .tag)) 2 (omega arith)
     go false = ne-eqb (kindIn (1 + 4 * linkOf (r .parent) + 4096 * r .tag)) 2 (λ e. omega arith)
 
-tag-word : (r : model.Row) → linkOf (r .parent) < 1024 → tagIn (wordOf r) ≡ r .tag
-tag-word r f = go (r .isLeaf)
+tag-packed : (r : model.Row) → linkOf (r .parent) < 1024 → tagIn (packRow r) ≡ r .tag
+tag-packed r f = go (r .isLeaf)
   where
     go : (z : Bool) → tagIn (cond z 2 1 + 4 * linkOf (r .parent) + 4096 * r .tag) ≡ r .tag
     go true = omega (arith, f)
     go false = omega (arith, f)
 
-link-word : (r : model.Row) → linkOf (r .parent) < 1024 → linkIn (wordOf r) ≡ linkOf (r .parent)
-link-word r f = go (r .isLeaf)
+link-packed : (r : model.Row) → linkOf (r .parent) < 1024 → linkIn (packRow r) ≡ linkOf (r .parent)
+link-packed r f = go (r .isLeaf)
   where
     go : (z : Bool) → linkIn (cond z 2 1 + 4 * linkOf (r .parent) + 4096 * r .tag) ≡ linkOf (r .parent)
     go true = omega (arith, f)
     go false = omega (arith, f)
 
-pub rowOf-wordOf : (r : model.Row) → linkOf (r .parent) < 1024 → rowOf (wordOf r) ≡ r
-rowOf-wordOf r f =
-    λ i. record { isLeaf = kind-word r f i; tag = tag-word r f i; parent = (ap ofLink (link-word r f) ∙ ofLink-linkOf (r .parent)) i }
+pub rowOf-packRow : (r : model.Row) → linkOf (r .parent) < 1024 → rowOf (packRow r) ≡ r
+rowOf-packRow r f =
+    let p = ap ofLink (link-packed r f) ∙ ofLink-linkOf (r .parent) in
+    λ i. record { isLeaf = kind-packed r f i; tag = tag-packed r f i; parent = p i }
 
-pub wordOf-rowOf : (w : ℕ) → isRowWord w ≡ true → wordOf (rowOf w) ≡ w
-wordOf-rowOf w h =
-    ap (λ (n : ℕ). cond (eqb (kindIn w) leafWord) leafWord elementWord + 4 * n + 4096 * tagIn w) (linkOf-ofLink (linkIn w)) ∙
-    by-cases (eqb (kindIn w) leafWord) (λ e. rw e (omega (arith, eqb-true (kindIn w) leafWord e)))
-    (λ e. rw e (omega (arith, eqb-false (kindIn w) leafWord e, isIn-at elementWord leafWord (kindIn w) h)))
+pub packRow-rowOf : (w : ℕ) → isPackedRow w ≡ true → packRow (rowOf w) ≡ w
+packRow-rowOf w h =
+    ap (λ (n : ℕ). cond (eqb (kindIn w) leafBits) leafBits elementBits + 4 * n + 4096 * tagIn w) (linkOf-ofLink (linkIn w)) ∙
+    by-cases (eqb (kindIn w) leafBits) (λ e. rw e (omega (arith, eqb-true (kindIn w) leafBits e)))
+    (λ e. rw e (omega (arith, eqb-false (kindIn w) leafBits e, isIn-at elementBits leafBits (kindIn w) h)))
 
-pub isRowWord-wordOf : (r : model.Row) → isRowWord (wordOf r) ≡ true
-isRowWord-wordOf r = go (r .isLeaf)
+pub isPackedRow-packRow : (r : model.Row) → isPackedRow (packRow r) ≡ true
+isPackedRow-packRow r = go (r .isLeaf)
   where
-    go : (z : Bool) → isRowWord (cond z 2 1 + 4 * linkOf (r .parent) + 4096 * r .tag) ≡ true
-    go true = isIn-by elementWord leafWord (kindIn (2 + 4 * linkOf (r .parent) + 4096 * r .tag)) (omega arith) (omega arith)
-    go false = isIn-by elementWord leafWord (kindIn (1 + 4 * linkOf (r .parent) + 4096 * r .tag)) (omega arith) (omega arith)
+    go : (z : Bool) → isPackedRow (cond z 2 1 + 4 * linkOf (r .parent) + 4096 * r .tag) ≡ true
+    go true = isIn-by elementBits leafBits (kindIn (2 + 4 * linkOf (r .parent) + 4096 * r .tag)) (omega arith) (omega arith)
+    go false = isIn-by elementBits leafBits (kindIn (1 + 4 * linkOf (r .parent) + 4096 * r .tag)) (omega arith) (omega arith)
 
 -- a tag that fits is a byte
 pub tag-byte : (w : ℕ) → model.tagFits (rowOf w) ≡ true → tagIn w < 256
 tag-byte w h =
     omega (
       arith,
-      by-cases (eqb (kindIn w) leafWord) (λ e. leb-true (tagIn w) maxByte (rw e at h)) (λ e. isIn-at 1 maxName (tagIn w) (rw e at h) .1),
+      by-cases (eqb (kindIn w) leafBits) (λ e. leb-true (tagIn w) maxByte (rw e at h)) (λ e. isIn-at 1 maxName (tagIn w) (rw e at h) .1),
     )
 
 -- another link is another parent
@@ -95,14 +96,14 @@ module _ (w l : ℕ) (small : l < 1024) where
       let c : linkIn (withLink w l) ≡ l = ap (λ (j : ℕ). j % 1024) d ∙ e in
       λ i. record { isLeaf = eqb (kind-withLink i) 2; tag = b i; parent = ofLink (c i) }
 
-  module _ (word : isRowWord w ≡ true) where
-    isRowWord-withLink : isRowWord (withLink w l) ≡ true
-    isRowWord-withLink = ap (isIn elementWord leafWord) kind-withLink ∙ word
+  module _ (packed : isPackedRow w ≡ true) where
+    isPackedRow-withLink : isPackedRow (withLink w l) ≡ true
+    isPackedRow-withLink = ap (isIn elementBits leafBits) kind-withLink ∙ packed
 
-    pub withLink-wordOf : withLink w l ≡ wordOf (model.withParent (rowOf w) (ofLink l))
-    withLink-wordOf = sym (wordOf-rowOf (withLink w l) isRowWord-withLink) ∙ ap wordOf rowOf-withLink
+    pub withLink-packRow : withLink w l ≡ packRow (model.withParent (rowOf w) (ofLink l))
+    withLink-packRow = sym (packRow-rowOf (withLink w l) isPackedRow-withLink) ∙ ap packRow rowOf-withLink
 
--- TABLES: rows are counted and read off the words
+-- TABLES: rows are counted and read off the packed ones
 module _ (n : ℕ) (ws ms : List ℕ) (within : n ≤ length ws) where
   pub count-decode : model.count (decodeParts n ws ms) ≡ n
   count-decode = length-map (take n ws) rowOf ∙ length-take-le n ws within
@@ -128,49 +129,49 @@ take-rows i n ws w h =
     rows-take (i + 1) n ws (omega arith) ∙ rows-next i ws (omega arith) ∙
     ap (λ (rs : List model.Row). rs ++ (rowOf (getD ws i 0) ∷ [])) (sym (rows-take i n ws (omega arith)))
 
--- a row more is a word more
-pub rowsOf-push : (n : ℕ) (ws : List ℕ) (r : model.Row) → n < length ws → linkOf (r .parent) < 1024 → rowsOf (n + 1) (set ws n (wordOf
+-- a row more is one more packed
+pub rowsOf-push : (n : ℕ) (ws : List ℕ) (r : model.Row) → n < length ws → linkOf (r .parent) < 1024 → rowsOf (n + 1) (set ws n (packRow
     r)) ≡ rowsOf n ws ++ (r ∷ [])
 rowsOf-push n ws r h f =
-    ap (map rowOf) (take-set ws n (wordOf r) h) ∙ map-append rowOf (take n ws) (wordOf r ∷ []) ∙
-    ap (λ (q : model.Row). rowsOf n ws ++ (q ∷ [])) (rowOf-wordOf r f)
+    ap (map rowOf) (take-set ws n (packRow r) h) ∙ map-append rowOf (take n ws) (packRow r ∷ []) ∙
+    ap (λ (q : model.Row). rowsOf n ws ++ (q ∷ [])) (rowOf-packRow r f)
 
--- CANONICAL words
+-- CANONICAL packed rows
 replicate-less : (m n : ℕ) → n < m → replicate {A = ℕ} (m - n) 0 ≡ 0 ∷ replicate (m - (n + 1)) 0
 replicate-less m n h = let e : m - n ≡ suc (m - (n + 1)) = omega arith in rw e
 
-pub wordsOf-snoc : (rs : List model.Row) (r : model.Row) → length rs < maxRows → wordsOf (rs ++ (r ∷ [])) ≡ set (wordsOf rs) (length rs)
-    (wordOf r)
-wordsOf-snoc rs r h =
-    ap (λ (l : List ℕ). l ++ replicate (maxRows - length (rs ++ (r ∷ []))) 0) (map-append wordOf rs (r ∷ [])) ∙
-    append-snoc (map wordOf rs) (wordOf r) (replicate (maxRows - length (rs ++ (r ∷ []))) 0) ∙
-    ap (λ (n : ℕ). map wordOf rs ++ wordOf r ∷ replicate (maxRows - n) 0) (length-append rs (r ∷ [])) ∙
-    sym (ap (λ (l : List ℕ). set (map wordOf rs ++ l) (length rs) (wordOf r)) (replicate-less maxRows (length rs) h) ∙
-    set-at (map wordOf rs) 0 (replicate (maxRows - (length rs + 1)) 0) (wordOf r) (length rs) (length-map rs wordOf))
+pub packRows-snoc : (rs : List model.Row) (r : model.Row) → length rs < maxRows → packRows (rs ++ (r ∷ [])) ≡ set (packRows rs) (length rs)
+    (packRow r)
+packRows-snoc rs r h =
+    ap (λ (l : List ℕ). l ++ replicate (maxRows - length (rs ++ (r ∷ []))) 0) (map-append packRow rs (r ∷ [])) ∙
+    append-snoc (map packRow rs) (packRow r) (replicate (maxRows - length (rs ++ (r ∷ []))) 0) ∙
+    ap (λ (n : ℕ). map packRow rs ++ packRow r ∷ replicate (maxRows - n) 0) (length-append rs (r ∷ [])) ∙
+    sym (ap (λ (l : List ℕ). set (map packRow rs ++ l) (length rs) (packRow r)) (replicate-less maxRows (length rs) h) ∙
+    set-at (map packRow rs) 0 (replicate (maxRows - (length rs + 1)) 0) (packRow r) (length rs) (length-map rs packRow))
 
--- each word in use is a row's
+-- each in use is a row, packed
 module _ (n : ℕ) (ws : List ℕ) (canonical : Canonical n ws) (within : n ≤ length ws) (i : ℕ) (l : i < n) where
-  word-back : wordOf (rowOf (getD ws i 0)) ≡ getD ws i 0
-  word-back =
+  packed-back : packRow (rowOf (getD ws i 0)) ≡ getD ws i 0
+  packed-back =
       let k : length (rowsOf n ws) ≡ n = count-decode n ws [] within in
-      let m : length (map wordOf (rowsOf n ws)) ≡ n = length-map (rowsOf n ws) wordOf ∙ k in
+      let m : length (map packRow (rowsOf n ws)) ≡ n = length-map (rowsOf n ws) packRow ∙ k in
       sym (ap (λ (v : List ℕ). getD v i 0) (sym canonical) ∙
-      List·getD-append (map wordOf (rowsOf n ws)) (replicate (maxRows - length (rowsOf n ws)) 0) 0 i (omega arith) ∙
-      getD-word (rowsOf n ws) i (omega arith) ∙ ap wordOf (rowAt-decode n ws [] within i l))
+      List·getD-append (map packRow (rowsOf n ws)) (replicate (maxRows - length (rowsOf n ws)) 0) 0 i (omega arith) ∙
+      getD-packed (rowsOf n ws) i (omega arith) ∙ ap packRow (rowAt-decode n ws [] within i l))
     where
-      getD-word : (rs : List model.Row) (j : ℕ) → j < length rs → getD (map wordOf rs) j 0 ≡ wordOf (getD rs j model.noRow)
-      getD-word [] j h = absurd (omega arith)
-      getD-word (r ∷ rs) zero h = refl
-      getD-word (r ∷ rs) (suc j) h = getD-word rs j (omega arith)
+      getD-packed : (rs : List model.Row) (j : ℕ) → j < length rs → getD (map packRow rs) j 0 ≡ packRow (getD rs j model.noRow)
+      getD-packed [] j h = absurd (omega arith)
+      getD-packed (r ∷ rs) zero h = refl
+      getD-packed (r ∷ rs) (suc j) h = getD-packed rs j (omega arith)
 
   -- with another link it is the row's with another parent
   module _ (link : ℕ) (small : link < 1024) where
     abbrev w : ℕ
     w = withLink (getD ws i 0) link
 
-    pub word-linked : isRowWord w ≡ true
-    word-linked =
-        isRowWord-withLink (getD ws i 0) link small (ap isRowWord (sym word-back) ∙ isRowWord-wordOf (rowOf (getD ws i 0)))
+    pub packed-linked : isPackedRow w ≡ true
+    packed-linked =
+        isPackedRow-withLink (getD ws i 0) link small (ap isPackedRow (sym packed-back) ∙ isPackedRow-packRow (rowOf (getD ws i 0)))
 
     rowsOf-linked : rowsOf n (set ws i w) ≡ set (rowsOf n ws) i (rowOf w)
     rowsOf-linked = ap (map rowOf) (take-set-lt n ws i w l) ∙ map-set rowOf (take n ws) i w
@@ -186,25 +187,25 @@ module _ (n : ℕ) (ws : List ℕ) (canonical : Canonical n ws) (within : n ≤ 
     pub canonical-linked : Canonical n (set ws i w)
     canonical-linked =
         let k : length (rowsOf n ws) ≡ n = count-decode n ws [] within in
-        let m : length (map wordOf (rowsOf n ws)) ≡ n = length-map (rowsOf n ws) wordOf ∙ k in
-        ap wordsOf rowsOf-linked ∙
+        let m : length (map packRow (rowsOf n ws)) ≡ n = length-map (rowsOf n ws) packRow ∙ k in
+        ap packRows rowsOf-linked ∙
         ap (λ (v : List ℕ). v ++ replicate (maxRows - length (set (rowsOf n ws) i (rowOf w))) 0)
-        (map-set wordOf (rowsOf n ws) i (rowOf w) ∙ ap (set (map wordOf (rowsOf n ws)) i) (wordOf-rowOf w word-linked)) ∙
-        ap (λ (j : ℕ). set (map wordOf (rowsOf n ws)) i w ++ replicate (maxRows - j) 0) (length-set (rowsOf n ws) i (rowOf w)) ∙
-        sym (set-append-left (map wordOf (rowsOf n ws)) (replicate (maxRows - length (rowsOf n ws)) 0) i w (omega arith)) ∙
+        (map-set packRow (rowsOf n ws) i (rowOf w) ∙ ap (set (map packRow (rowsOf n ws)) i) (packRow-rowOf w packed-linked)) ∙
+        ap (λ (j : ℕ). set (map packRow (rowsOf n ws)) i w ++ replicate (maxRows - j) 0) (length-set (rowsOf n ws) i (rowOf w)) ∙
+        sym (set-append-left (map packRow (rowsOf n ws)) (replicate (maxRows - length (rowsOf n ws)) 0) i w (omega arith)) ∙
         ap (λ (v : List ℕ). set v i w) canonical
 
 pub canonical-push : (n : ℕ) (ws : List ℕ) (r : model.Row) → n < maxRows → length ws ≡ maxRows → linkOf (r .parent) < 1024 →
     Canonical n ws →
-    Canonical (n + 1) (set ws n (wordOf r))
+    Canonical (n + 1) (set ws n (packRow r))
 canonical-push n ws r h l f e =
     let m : length (rowsOf n ws) ≡ n = count-decode n ws [] (omega arith) in
     let k : n < length ws = omega arith in
     let g : length (rowsOf n ws) < maxRows = omega arith in
-    ap wordsOf (rowsOf-push n ws r k f) ∙ wordsOf-snoc (rowsOf n ws) r g ∙
-    ap (λ (i : ℕ). set (wordsOf (rowsOf n ws)) i (wordOf r)) m ∙ ap (λ (v : List ℕ). set v n (wordOf r)) e
+    ap packRows (rowsOf-push n ws r k f) ∙ packRows-snoc (rowsOf n ws) r g ∙
+    ap (λ (i : ℕ). set (packRows (rowsOf n ws)) i (packRow r)) m ∙ ap (λ (v : List ℕ). set v n (packRow r)) e
 
--- the last row gone, its word is zero
+-- the last row gone, its place is zero
 module _ (n : ℕ) (ws : List ℕ) (canonical : Canonical n ws) (size : length ws ≡ maxRows) (few : n ≤ maxRows) (some-row : 0 < n) where
   abbrev less : List model.Row
   less = rowsOf (n - 1) ws
@@ -220,21 +221,21 @@ module _ (n : ℕ) (ws : List ℕ) (canonical : Canonical n ws) (size : length w
       let e : n ≡ n - 1 + 1 = omega arith in
       ap (λ (j : ℕ). rowsOf j ws) e ∙ rows-next (n - 1) ws (omega arith)
 
-  zero-there : getD (wordsOf less) (n - 1) 0 ≡ 0
+  zero-there : getD (packRows less) (n - 1) 0 ≡ 0
   zero-there =
-      let m : length (map wordOf less) + 0 ≡ n - 1 = omega (arith, length-map less wordOf, counted-less) in
-      ap (λ (j : ℕ). getD (wordsOf less) j 0) (sym m) ∙ getD-append-add (map wordOf less) (replicate (maxRows - length less) 0) 0 0 ∙
+      let m : length (map packRow less) + 0 ≡ n - 1 = omega (arith, length-map less packRow, counted-less) in
+      ap (λ (j : ℕ). getD (packRows less) j 0) (sym m) ∙ getD-append-add (map packRow less) (replicate (maxRows - length less) 0) 0 0 ∙
       getD-replicate (maxRows - length less) 0 0 0 (omega (arith, counted-less))
 
-  put-back : set (wordsOf less) (n - 1) (wordOf (rowOf (getD ws (n - 1) 0))) ≡ ws
+  put-back : set (packRows less) (n - 1) (packRow (rowOf (getD ws (n - 1) 0))) ≡ ws
   put-back =
-      ap (λ (j : ℕ). set (wordsOf less) j (wordOf (rowOf (getD ws (n - 1) 0)))) (sym counted-less) ∙
-      sym (wordsOf-snoc less (rowOf (getD ws (n - 1) 0)) (omega (arith, counted-less))) ∙ ap wordsOf (sym rows-last) ∙ canonical
+      ap (λ (j : ℕ). set (packRows less) j (packRow (rowOf (getD ws (n - 1) 0)))) (sym counted-less) ∙
+      sym (packRows-snoc less (rowOf (getD ws (n - 1) 0)) (omega (arith, counted-less))) ∙ ap packRows (sym rows-last) ∙ canonical
 
   pub canonical-pop : Canonical (n - 1) (set ws (n - 1) 0)
   canonical-pop =
-      ap wordsOf rows-less ∙ sym (set-getD (wordsOf less) (n - 1) 0) ∙ ap (set (wordsOf less) (n - 1)) zero-there ∙
-      sym (set-set (wordsOf less) (n - 1) (wordOf (rowOf (getD ws (n - 1) 0))) 0) ∙ ap (λ (v : List ℕ). set v (n - 1) 0) put-back
+      ap packRows rows-less ∙ sym (set-getD (packRows less) (n - 1) 0) ∙ ap (set (packRows less) (n - 1)) zero-there ∙
+      sym (set-set (packRows less) (n - 1) (packRow (rowOf (getD ws (n - 1) 0))) 0) ∙ ap (λ (v : List ℕ). set v (n - 1) 0) put-back
 
   pub decode-pop : (ms : List ℕ) →
       decodeParts (n - 1) (set ws (n - 1) 0) ms ≡ model.table (take (model.count (decodeParts n ws ms) - 1) (rowsOf n ws)) (map ofLink ms)
@@ -243,7 +244,7 @@ module _ (n : ℕ) (ws : List ℕ) (canonical : Canonical n ws) (size : length w
       ap (λ (rs : List model.Row). model.table rs (map ofLink ms))
       (rows-less ∙ sym (ap (λ (j : ℕ). take j (rowsOf n ws)) e ∙ rows-take (n - 1) n ws (omega arith)))
 
--- words of rows with zeros behind them are canonical
+-- packed rows with zeros behind them are canonical
 zeros : (ws : List ℕ) → all isZero ws ≡ true → ws ≡ replicate (length ws) 0
 unfolding all
 zeros [] h = refl
@@ -251,14 +252,14 @@ zeros (w ∷ ws) h =
     ap (λ (v : ℕ). v ∷ ws) (eqb-true w 0 (and-left (isZero w) (all isZero ws) h)) ∙
     ap (λ (l : List ℕ). 0 ∷ l) (zeros ws (and-right (isZero w) (all isZero ws) h))
 
-pub canonical-words : (n : ℕ) (ws : List ℕ) → n ≤ maxRows → length ws ≡ maxRows → all isRowWord (take n ws) ≡ true →
+pub canonical-packed : (n : ℕ) (ws : List ℕ) → n ≤ maxRows → length ws ≡ maxRows → all isPackedRow (take n ws) ≡ true →
     all isZero (drop n ws) ≡
     true → Canonical n ws
-canonical-words n ws h l f e =
+canonical-packed n ws h l f e =
     let m : length (rowsOf n ws) ≡ n = count-decode n ws [] (omega arith) in
     let k : maxRows - length (rowsOf n ws) ≡ length (drop n ws) = omega (arith, length-drop n ws) in
     ap (λ (v : List ℕ). v ++ replicate (maxRows - length (rowsOf n ws)) 0)
-    (map-back rowOf wordOf (take n ws) 0 (λ k b. wordOf-rowOf _ (all-getD isRowWord (take n ws) 0 f k b))) ∙
+    (map-back rowOf packRow (take n ws) 0 (λ k b. packRow-rowOf _ (all-getD isPackedRow (take n ws) 0 f k b))) ∙
     ap (λ (j : ℕ). take n ws ++ replicate j 0) k ∙ ap (λ (v : List ℕ). take n ws ++ v) (sym (zeros (drop n ws) e)) ∙ take-append-drop n ws
 
 pub encode-decode : (n : ℕ) (ws ms : List ℕ) → n ≤ length ws → Canonical n ws →

@@ -1,4 +1,4 @@
--- A position packed into a word, and what a list of words says.
+-- A position packed into a number, and what a list of them says.
 use mathlib.Core.Path.{_≡_}
 use mathlib.Core.Bool.{Bool, cond}
 use mathlib.Core.List.{List, [], _∷_, _++_, map}
@@ -49,7 +49,7 @@ overBy m s i = record { kind = 2; role = m; axis = s .axis; test = s .test; labe
 abbrev pub unionBy : (role first second : ℕ) → Position
 unionBy m i j = record { kind = 3; role = m; axis = 0; test = 0; label = 0; first = i; second = j }
 
--- WORDS: how many numbers each field has room for; an operand has maxPositions
+-- PACKED: how many numbers each field has room for; an operand has maxPositions
 abbrev pub kinds : ℕ
 kinds = 4
 
@@ -66,13 +66,13 @@ abbrev pub labels : ℕ
 labels = 65536
 
 -- each field above the one before it, the kind lowest
-abbrev pub wordOf : Position → ℕ
-wordOf p =
+abbrev pub packPosition : Position → ℕ
+packPosition p =
     p .kind + kinds * (p .role + roles * (p .axis + axes * (p .test + tests *
     (p .label + labels * (p .first + maxPositions * p .second)))))
 
 -- and taken out again
-abbrev pub fieldsOf : (word : ℕ) → Position
+abbrev pub fieldsOf : (packed : ℕ) → Position
 fieldsOf w =
     record {
       kind = w % kinds;
@@ -94,15 +94,15 @@ pub record PositionFits (p : Position) : Type 0 where
   pub first : p .first < maxPositions
   pub second : p .second < maxPositions
 
--- the entry that a word is
-abbrev pub entryOf : (word : ℕ) → positions.Entry
+-- the entry that a packed position is
+abbrev pub entryOf : (packed : ℕ) → positions.Entry
 entryOf w = entryBy (fieldsOf w)
 
--- the entries that the first words are
-abbrev pub entriesIn : (words : List ℕ) → (count : ℕ) → List positions.Entry
+-- the entries that the first ones are
+abbrev pub entriesIn : (packed : List ℕ) → (count : ℕ) → List positions.Entry
 entriesIn ws n = map entryOf (take n ws)
 
--- one word more
+-- one packed position more
 pub record PushPre (ws : List ℕ) (n : ℕ) (p : Position) : Type 0 where
   pub room : n < length ws
   pub fits : PositionFits p
@@ -111,14 +111,14 @@ pub record PushPost (ws : List ℕ) (n : ℕ) (p : Position) (ws′ : List ℕ) 
   pub size : length ws′ ≡ length ws
   pub entries : entriesIn ws′ (n + 1) ≡ entriesIn ws n ++ (entryBy p ∷ [])
 
--- the entries that words are
-abbrev pub entriesBy : (words : List ℕ) → List positions.Entry
+-- the entries that packed positions are
+abbrev pub entriesBy : (packed : List ℕ) → List positions.Entry
 entriesBy ws = map entryOf ws
 
 -- UPWARD: a position among them leads up
-abbrev pub leadsUpAt : (words : List ℕ) → (number : ℕ) → Bool
+abbrev pub leadsUpAt : (packed : List ℕ) → (number : ℕ) → Bool
 leadsUpAt ws k = positions.leadsUp (positions.entryAt (entriesBy ws) k .position)
 
 -- some position does
-abbrev pub someLeadsUp : (words : List ℕ) → Bool
+abbrev pub someLeadsUp : (packed : List ℕ) → Bool
 someLeadsUp ws = anyUpTo (leadsUpAt ws) (length ws)

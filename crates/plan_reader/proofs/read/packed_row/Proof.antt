@@ -1,10 +1,10 @@
--- `read::word` meets its contract: the word of a leaf, or of an element.
+-- `read::packed_row` meets its contract: a leaf packed, or an element.
 use native.Mathlib.Omega.{arith}
 use borrow.Author.Needs.{needs}
 use borrow.Author.Tests.{eq-eqb, ne-eqb}
 use Rattle.model.specs.Stored.{leafKind}
-use Rattle.plan_reader.proofs.read.word.Statement.{statement}
-use Rattle.plan_reader.proofs.read.word.Tie as tie
+use Rattle.plan_reader.proofs.read.packed_row.Statement.{statement}
+use Rattle.plan_reader.proofs.read.packed_row.Tie as tie
 
 leaf-requires : tie.Need-leaf-requires
 leaf-requires c κs = search needs
@@ -23,5 +23,5 @@ returns-2 c =
     let c3 = c .before .before .before in
     rw (ne-eqb (c3 .args .kind) leafKind (c .before .before .if1 .left)) (omega (arith, c .element .ensures, c .before .name .ensures))
 
-pub word-spec : {M : Type 1} → statement M
-word-spec = tie.close (tie.spec leaf-requires returns name-requires element-requires returns-2)
+pub packed-row-spec : {M : Type 1} → statement M
+packed-row-spec = tie.close (tie.spec leaf-requires returns name-requires element-requires returns-2)

@@ -1,7 +1,7 @@
-// A row in a word: kind in 2 bits, the parent's link in 10, name or value above.
+// A row packed into a number: kind in 2 bits, the parent's link in 10, name or value above.
 ghost use mathlib.Core.Path.{_≡_};
 ghost use Prim.Native.Nat.{_+_, _*_, _/_, _%_, _<_};
-ghost use Rattle.plan_table.specs.Words.{elementWord, leafWord, kindIn, linkIn, tagIn, withLink};
+ghost use Rattle.plan_table.specs.Packed.{elementBits, leafBits, kindIn, linkIn, tagIn, withLink};
 use crate::Link;
 use crate::NameNumber;
 
@@ -27,23 +27,23 @@ pub fn tag(w: u32) -> u32
     w / 4096
 }
 
-// The word of an element.
+// An element, packed.
 pub fn element(name: NameNumber, parent: Link) -> u32
     requires { ⌜ parent .0 < 1024 ⌝ }
-    ensures { λ r. ⌜ r ≡ elementWord + 4 * parent .0 + 4096 * name .0 ⌝ }
+    ensures { λ r. ⌜ r ≡ elementBits + 4 * parent .0 + 4096 * name .0 ⌝ }
 {
     ELEMENT + 4 * (parent.0 as u32) + 4096 * (name.0 as u32)
 }
 
-// The word of a leaf.
+// A leaf, packed.
 pub fn leaf(value: u8, parent: Link) -> u32
     requires { ⌜ parent .0 < 1024 ⌝ }
-    ensures { λ r. ⌜ r ≡ leafWord + 4 * parent .0 + 4096 * value ⌝ }
+    ensures { λ r. ⌜ r ≡ leafBits + 4 * parent .0 + 4096 * value ⌝ }
 {
     LEAF + 4 * (parent.0 as u32) + 4096 * (value as u32)
 }
 
-// The word with another link to the parent.
+// A packed row with another link to the parent.
 pub fn relinked(w: u32, parent: Link) -> u32
     requires { ⌜ parent .0 < 1024 ⌝ }
     ensures { λ r. ⌜ r ≡ withLink w (parent .0) ⌝ }
