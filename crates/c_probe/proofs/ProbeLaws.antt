@@ -16,6 +16,7 @@ use Rattle.plan_table.specs.declared.Written.{Written}
 use Rattle.c_probe.specs.Probes.{writeValues, writeOut, sweptTable, sweptValues, rowsLeft, marksLeft, scriptValues}
 use Rattle.c_probe.specs.Raw.{isGiven, given}
 use Rattle.c_codes.specs.Codes.{codeOf, lentValues, writtenValues}
+use Rattle.model.specs.Limits.{maxRows, documents}
 use Rattle.model.specs.Refusal.{values}
 
 -- a script's refusal, or none
@@ -30,14 +31,14 @@ script-refused b f c e z g =
     g ∙ ap (λ (t : Refusal). codeOf (values (t .number) 2 (t .place))) e ∙ rw (ne-eqb (scriptRead b .number) 0 y)
 
 -- a table given as packed rows
-pub rows-not-given : (ws ms : List ℕ) → (length ws ≡ 512 → ⊥) → isGiven ws ms ≡ false
-rows-not-given ws ms z = rw (ne-eqb (length ws) 512 z)
+pub rows-not-given : (ws ms : List ℕ) → (length ws ≡ maxRows → ⊥) → isGiven ws ms ≡ false
+rows-not-given ws ms z = rw (ne-eqb (length ws) maxRows z)
 
-pub marks-not-given : (ws ms : List ℕ) → length ws ≡ 512 → (length ms ≡ 8 → ⊥) → isGiven ws ms ≡ false
-marks-not-given ws ms e z = rw (eq-eqb (length ws) 512 e, ne-eqb (length ms) 8 z)
+pub marks-not-given : (ws ms : List ℕ) → length ws ≡ maxRows → (length ms ≡ documents → ⊥) → isGiven ws ms ≡ false
+marks-not-given ws ms e z = rw (eq-eqb (length ws) maxRows e, ne-eqb (length ms) documents z)
 
-pub is-given : (ws ms : List ℕ) → length ws ≡ 512 → length ms ≡ 8 → isGiven ws ms ≡ true
-is-given ws ms e f = rw (eq-eqb (length ws) 512 e, eq-eqb (length ms) 8 f)
+pub is-given : (ws ms : List ℕ) → length ws ≡ maxRows → length ms ≡ documents → isGiven ws ms ≡ true
+is-given ws ms e f = rw (eq-eqb (length ws) maxRows e, eq-eqb (length ms) documents f)
 
 module _ (n : ℕ) (ws ms : List ℕ) where
   module _ (o : List ℕ) where

@@ -8,7 +8,7 @@ use lib.Dec.{eqb, ltb, leb}
 use lib.ListN.{length, getD, drop, length-append}
 use lib.Seq.{drop-at}
 use borrow.Author.Tests.{eqb-true, eqb-false, lt-ltb, le-leb, ne-eqb}
-use Rattle.model.specs.Base.{also}
+use Rattle.model.specs.Base.{also, maxByte}
 use Rattle.model.specs.Limits.{maxHistory}
 use Rattle.model.specs.Refusal.{isFine}
 use Rattle.model.specs.Table.{withParent, isName}
@@ -63,7 +63,7 @@ recordIn-back r f c = ap (λ (q : Form). q .entry (recordBytes r ++ c)) (formOf-
 fits-back : (r : Record) → IsInRange r → (c : List ℕ) → formOf r .fits (recordBytes r ++ c) ≡ true
 fits-back (made i r) (madeIn t p) c = go (r .isLeaf) t
   where
-    go : (z : Bool) → cond z (leb (r .tag) 255) (isName (r .tag)) ≡ true → (z || isName (r .tag)) ≡ true
+    go : (z : Bool) → cond z (leb (r .tag) maxByte) (isName (r .tag)) ≡ true → (z || isName (r .tag)) ≡ true
     go true h = refl
     go false h = h
 fits-back (cut i p) cutIn c = refl

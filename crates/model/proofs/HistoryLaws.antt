@@ -4,7 +4,7 @@ use mathlib.Core.Bool.{Bool, true, false, false≢true}
 use mathlib.Core.Logic.{_≢_}
 use mathlib.Core.List.{List, [], _∷_, _++_}
 use mathlib.Core.Option.{Option, none, some, Option·none-ne-some}
-use Prim.Native.Nat.{ℕ, zero, suc, _+_, _≤_}
+use Prim.Native.Nat.{ℕ, zero, suc, _+_, _*_, _≤_}
 use native.Mathlib.Omega.{arith}
 use lib.Dec.{ltb, eqb}
 use lib.ListN.{length, getD, set, length-append}
@@ -17,6 +17,7 @@ use Rattle.model.proofs.BoolLaws.{bit-le, by-cases}
 use Rattle.model.proofs.TableLaws.{parent-count, Well}
 use Rattle.model.proofs.GrowLaws.{count-withRow, rowAt-withRow-old, count-linked, rowAt-linked-same, rowAt-linked-other}
 use Rattle.model.proofs.RanLaws.{ComesTo, begun, rowMade, linkCut, ran-well}
+use Rattle.model.specs.Limits.{maxRows}
 
 -- RECORDS counted by a test
 pub times-snoc : (f : Record → Bool) (rs : List Record) (r : Record) → times f (rs ++ (r ∷ [])) ≡ times f rs + bit (f r)
@@ -176,5 +177,5 @@ ran-cuts x (linkCut s i p q e) =
     omega (arith, ran-cuts x q, count-linked (s .plan) i none, parented-cut (s .plan .rows) i p e, times-snoc isCut (s .history) z)
 
 -- so a history has at most 1,024 records
-pub ran-length : (x : Table) → Well x → {s : State} → ComesTo x s → length (s .history) ≤ 1024
+pub ran-length : (x : Table) → Well x → {s : State} → ComesTo x s → length (s .history) ≤ 2 * maxRows
 ran-length x w r = omega (arith, ran-rows x r, ran-cuts x r, ran-well x w r .few)

@@ -9,6 +9,7 @@ use Rattle.model.specs.Refusal.{isFine, lentShort}
 use Rattle.model.specs.Run.{Out, refused, gives}
 use Rattle.model.specs.Call.{Ran, ranBy, refusedRun}
 use Rattle.model.proofs.BoolLaws.{cond-eq, cond-ne}
+use Rattle.model.specs.Limits.{answerNeed, historyNeed, workNeed}
 use Rattle.plan_table.specs.Packed.{encode, decode}
 use Rattle.plan_table.specs.declared.Table.{Table}
 use Rattle.run.specs.Calls.{outcomeOf, ran, runResult}
@@ -29,7 +30,7 @@ out-given t a h w (refused f) k =
     ap (λ (z : Bool). record { number = f .number; items = 0; table = cond z (encode (decode t)) t }) (refuses-fine k f refl)
 out-given t a h w (gives v s) k = refl
 
-module _ (t : Table) (b a h w : List ℕ) (i : 512 ≤ length a) (j : 12288 ≤ length h) (k : 32768 ≤ length w) where
+module _ (t : Table) (b a h w : List ℕ) (i : answerNeed ≤ length a) (j : historyNeed ≤ length h) (k : workNeed ≤ length w) where
   ran-given : given t (ran t b a h w) ≡ ending t b
   unfolding ending
   ran-given =

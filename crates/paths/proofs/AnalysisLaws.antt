@@ -10,6 +10,7 @@ use Rattle.model.specs.Script.{Expr, Parsed, readScript}
 use Rattle.model.specs.Paths.{hasUp}
 use Rattle.model.specs.Meeting.{free, meet, answer}
 use Rattle.model.specs.Call.{firstBy, secondBy}
+use Rattle.model.specs.Limits.{maxDepth, maxBinders}
 use Rattle.plan_table.specs.declared.Refusal.{Refusal}
 use Rattle.script_records.specs.Walk.{exprAt}
 use Rattle.script.specs.Reading.{scriptRead}
@@ -31,7 +32,7 @@ use Rattle.paths_emit.proofs.SizeLaws.{script-records}
 
 -- THE POSITIONS of an accepted script
 module _ {b ws : List ℕ} (pre : ScriptPre b ws) {env : List ℕ} where
-  pub positions-asks : length env ≡ 8 → EmitPre b 0 16 0 env ws 1
+  pub positions-asks : length env ≡ maxBinders → EmitPre b 0 maxDepth 0 env ws 1
   positions-asks e =
       record {
         accepted = script-accepted b (pre .accepted);
@@ -43,12 +44,12 @@ module _ {b ws : List ℕ} (pre : ScriptPre b ws) {env : List ℕ} where
         low = λ v h. absurd (omega arith);
       }
 
-  pub positions-done : {p : ℕ} {ws′ : List ℕ} {n r : ℕ} → EmitPost b 0 16 0 env ws 1 p ws′ n r → ScriptPost b ws′ n
+  pub positions-done : {p : ℕ} {ws′ : List ℕ} {n r : ℕ} → EmitPost b 0 maxDepth 0 env ws 1 p ws′ n r → ScriptPost b ws′ n
   positions-done post =
       record {
         size = post .size;
         few = omega (arith, post .few, script-records b (pre .accepted));
-        entries = ap (λ (x : Emitted). x .entries) (post .is) ∙ ap (λ (es : List Entry). emit (exprAt 16 b 0) [] es .entries) before;
+        entries = ap (λ (x : Emitted). x .entries) (post .is) ∙ ap (λ (es : List Entry). emit (exprAt maxDepth b 0) [] es .entries) before;
       }
     where
       before : entriesIn ws 1 ≡ entriesBefore
@@ -59,7 +60,7 @@ module _ {b ws : List ℕ} (pre : ScriptPre b ws) {env : List ℕ} where
 front-asks : (b : List ℕ) {ws : List ℕ} {n : ℕ} → ScriptPost b ws n → FrontPre ws n
 unfolding pathsFrom
 front-asks b {ws} {n} post =
-    let right = emitted-right 1 (λ q. omega arith) (exprAt 16 b 0) in
+    let right = emitted-right 1 (λ q. omega arith) (exprAt maxDepth b 0) in
     let within : n ≤ length ws = omega (arith, post .size, post .few) in
     record {
       size = post .size;
@@ -136,13 +137,13 @@ module _ (b c : List ℕ) where
     second-refused x e h =
         ap (Refused 2) e ∙
         sym (ap (λ (p : Parsed). analysisOf (firstBy p (readScript c))) (script-parsed b accepted .1) ∙
-        ap (λ (p : Parsed). analysisOf (secondBy (exprAt 16 b 0) p))
+        ap (λ (p : Parsed). analysisOf (secondBy (exprAt maxDepth b 0) p))
         (script-ill c (λ q. h (ap (λ (y : Refusal). y .number) e ∙ q))))
 
     pub both-accepted : scriptRead c .number ≡ 0 → {ws : List ℕ} {n : ℕ} {us : List ℕ} {m : ℕ} {r : Analysis} → ScriptPost b ws n →
         ScriptPost c us m →
         AnswerPost ws n us m r → r ≡ analysed b c
     both-accepted h one two post =
-        post .is (exprAt 16 b 0) (exprAt 16 c 0) (one .entries) (two .entries) ∙
+        post .is (exprAt maxDepth b 0) (exprAt maxDepth c 0) (one .entries) (two .entries) ∙
         sym (ap (λ (p : Parsed). analysisOf (firstBy p (readScript c))) (script-parsed b accepted .1) ∙
-        ap (λ (p : Parsed). analysisOf (secondBy (exprAt 16 b 0) p)) (script-parsed c h .1))
+        ap (λ (p : Parsed). analysisOf (secondBy (exprAt maxDepth b 0) p)) (script-parsed c h .1))

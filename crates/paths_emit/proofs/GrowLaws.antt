@@ -14,6 +14,7 @@ use Rattle.paths_positions.specs.Positions as positions
 use Rattle.paths_positions.specs.Steps.{stepOf}
 use Rattle.paths_positions.specs.Steps.{maxPositions}
 use Rattle.paths_positions.specs.Packed.{withRole, entryBy, rootBy, overBy, unionBy, kinds, roles, axes, tests, labels, PositionFits}
+use Rattle.paths_positions.specs.Packed.{plainRole, accessedRole, modifiedRole}
 use Rattle.paths_positions.specs.Packed.{entriesIn}
 use Rattle.paths_positions.specs.Packed.{PushPost}
 use Rattle.paths_emit.specs.Emitting.{outOf, GrowPre, Grown, BelowPre, BelowPost}
@@ -79,25 +80,25 @@ module _ {ws : List ℕ} {n x : ℕ} (pre : GrowPre ws n x) where
   one-more size is = record { size = size ∙ pre .size; is = is; low = omega arith; more = omega arith; few = omega arith }
 
   pub step-grown : {ws′ : List ℕ} {p : Position} (s : Step) {up : Bool} → up ≡ isUp (stepOf s) → (eqb x 0 && not up) ≡ false →
-      p ≡ overBy 1 s x → PushPost ws n p ws′ → Grown (positions.pushStep (stepOf s) (outOf ws n x)) n ws′ (n + 1) n
+      p ≡ overBy accessedRole s x → PushPost ws n p ws′ → Grown (positions.pushStep (stepOf s) (outOf ws n x)) n ws′ (n + 1) n
   step-grown {ws′ = ws′} {p = p} s {up = up} u h e post =
       one-more (post .size)
       (pushed-is ws ws′ n p (accessing (over (stepOf s) x)) within post (ap entryBy e) ∙ sym (step-chosen ws n x s up _ u h))
 
-  pub union-grown : {ws′ : List ℕ} {p : Position} (first : ℕ) → (first ≡ 0 → ⊥) → (x ≡ 0 → ⊥) → p ≡ unionBy 0 first x →
+  pub union-grown : {ws′ : List ℕ} {p : Position} (first : ℕ) → (first ≡ 0 → ⊥) → (x ≡ 0 → ⊥) → p ≡ unionBy plainRole first x →
       PushPost ws n p ws′ → Grown (positions.pushUnion first (outOf ws n x)) n ws′ (n + 1) n
   union-grown {ws′ = ws′} {p = p} first f g e post =
       one-more (post .size)
       (pushed-is ws ws′ n p (plain (union first x)) within post (ap entryBy e) ∙ rw (ne-eqb first 0 f, ne-eqb x 0 g))
 
   module _ {ws₁ ws′ : List ℕ} {p q : Position} (one : PushPost ws n p ws₁) (two : PushPost ws₁ (n + 1) q ws′) where
-    pub delete-grown : (x ≡ 0 → ⊥) → (s : Step) → stepOf s ≡ anyBelow → p ≡ overBy 0 s x → q ≡ unionBy 2 x n →
+    pub delete-grown : (x ≡ 0 → ⊥) → (s : Step) → stepOf s ≡ anyBelow → p ≡ overBy plainRole s x → q ≡ unionBy modifiedRole x n →
         Grown (positions.pushDelete (outOf ws n x)) n ws′ (n + 2) 0
     delete-grown f s b d e =
         record {
           size = two .size ∙ one .size ∙ pre .size;
           is = ap (positions.emitted 0) (two-pushed ws ws₁ ws′ n p q (plain (over anyBelow x))
-              (modifying (union x (length (entriesIn ws n)))) one two (over-entry p 0 s x anyBelow d b)
+              (modifying (union x (length (entriesIn ws n)))) one two (over-entry p plainRole s x anyBelow d b)
               (ap entryBy e ∙ ap (λ (k : ℕ). modifying (union x k)) (sym (entriesIn-length ws n within)))) ∙
               rw (ne-eqb x 0 f);
           low = omega arith;
@@ -140,12 +141,13 @@ module _ {ws : List ℕ} {n role x : ℕ} (pre : BelowPre ws n role x) where
         few = omega arith;
       }
 
-pub insert-grown : {ws ws₁ ws₂ : List ℕ} {x y n m k : ℕ} → BelowPost ws n 1 x ws₁ m → BelowPost ws₁ m 2 y ws₂ k → y < n →
+pub insert-grown : {ws ws₁ ws₂ : List ℕ} {x y n m k : ℕ} → BelowPost ws n accessedRole x ws₁ m →
+    BelowPost ws₁ m modifiedRole y ws₂ k → y < n →
     Grown (positions.pushInsert x (outOf ws n y)) n ws₂ k 0
 insert-grown {y = y} one two low =
     record {
       size = two .size;
-      is = ap (positions.emitted 0) (two .is ∙ ap (positions.pushBelow (withRole 2) y) (one .is));
+      is = ap (positions.emitted 0) (two .is ∙ ap (positions.pushBelow (withRole modifiedRole) y) (one .is));
       low = omega (arith, one .more, two .more);
       more = omega (arith, one .more, two .more);
       few = omega (arith, one .few, two .few);

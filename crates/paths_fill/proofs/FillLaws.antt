@@ -28,38 +28,40 @@ use Rattle.model.proofs.CellLaws.{between-none, join-nothing, on-respects, down
 use Rattle.paths_cells.proofs.PairLaws.{fewer-rows}
 use Rattle.paths_positions.proofs.AnyUpToLaws.{anyUpTo-none}
 use Rattle.paths_positions.proofs.PositionLaws.{one-source, no-source, cell-by}
+use Rattle.paths_positions.specs.Packed.{rootKind, overKind, unionKind, plainRole, kinds}
 
 -- THE KIND of a position
 module _ (p : Position) where
-  kind-root : p .kind ≡ 1 → positionBy p ≡ positions.root (p .label)
+  kind-root : p .kind ≡ rootKind → positionBy p ≡ positions.root (p .label)
   kind-root e = rw e
 
-  kind-over : p .kind ≡ 2 → positionBy p ≡ positions.over (stepIn p) (p .first)
+  kind-over : p .kind ≡ overKind → positionBy p ≡ positions.over (stepIn p) (p .first)
   kind-over e = rw e
 
-  kind-union : p .kind ≡ 3 → positionBy p ≡ positions.union (p .first) (p .second)
+  kind-union : p .kind ≡ unionKind → positionBy p ≡ positions.union (p .first) (p .second)
   kind-union e = rw e
 
-  kind-nowhere : p .kind < 4 → (p .kind ≡ 1 → ⊥) → (p .kind ≡ 2 → ⊥) → (p .kind ≡ 3 → ⊥) → positionBy p ≡ positions.nowhere
+  kind-nowhere : p .kind < kinds → (p .kind ≡ rootKind → ⊥) → (p .kind ≡ overKind → ⊥) → (p .kind ≡ unionKind → ⊥) →
+      positionBy p ≡ positions.nowhere
   kind-nowhere l f g h = let e : p .kind ≡ 0 = omega (arith, f, g, h) in rw e
 
   -- what holds of every position but a union
-  not-union : (P : positions.Position → Type 0) → p .kind < 4 → (p .kind ≡ 3 → ⊥) → P positions.nowhere →
+  not-union : (P : positions.Position → Type 0) → p .kind < kinds → (p .kind ≡ unionKind → ⊥) → P positions.nowhere →
       ((d : ℕ) → P (positions.root d)) → ((s : Step) (i : ℕ) → P (positions.over s i)) → P (positionBy p)
   not-union P l h a b c =
-      eq-cases (p .kind) 1 (λ e. subst P (sym (kind-root e)) (b (p .label)))
-      (λ e. eq-cases (p .kind) 2 (λ f. subst P (sym (kind-over f)) (c (stepIn p) (p .first)))
+      eq-cases (p .kind) rootKind (λ e. subst P (sym (kind-root e)) (b (p .label)))
+      (λ e. eq-cases (p .kind) overKind (λ f. subst P (sym (kind-over f)) (c (stepIn p) (p .first)))
       (λ f. subst P (sym (kind-nowhere l e f h)) a))
 
   -- its operands are lower
-  pub over-lower : (k : ℕ) → positions.IsLower k (positionBy p) → p .kind ≡ 2 → p .first < k
+  pub over-lower : (k : ℕ) → positions.IsLower k (positionBy p) → p .kind ≡ overKind → p .first < k
   over-lower k h e = subst (positions.IsLower k) (kind-over e) h
 
-  pub union-lower : (k : ℕ) → positions.IsLower k (positionBy p) → p .kind ≡ 3 → (p .first < k) × (p .second < k)
+  pub union-lower : (k : ℕ) → positions.IsLower k (positionBy p) → p .kind ≡ unionKind → (p .first < k) × (p .second < k)
   union-lower k h e = subst (positions.IsLower k) (kind-union e) h
 
-  no-sources : (p .kind ≡ 1 → ⊥) → (p .kind ≡ 2 → ⊥) → sourcesOf (positionBy p) ≡ []
-  no-sources f g = rw (ne-eqb (p .kind) 1 f, ne-eqb (p .kind) 2 g) (go (eqb (p .kind) 0))
+  no-sources : (p .kind ≡ rootKind → ⊥) → (p .kind ≡ overKind → ⊥) → sourcesOf (positionBy p) ≡ []
+  no-sources f g = rw (ne-eqb (p .kind) rootKind f, ne-eqb (p .kind) overKind g) (go (eqb (p .kind) 0))
     where
       go : (b : Bool) → sourcesOf (cond b positions.nowhere (positions.union (p .first) (p .second))) ≡ []
       go true = refl
@@ -76,34 +78,36 @@ module _ (t : List ℕ) (k l : ℕ) (p q : Position) (pre : CellPre t k l p q) w
 
 -- FROM A SOURCE of k to those of q
 module _ (t : Cells) (k l : ℕ) (q : Position) (r : Cell) where
-  pub to-nothing : (x : Source) → (q .kind ≡ 1 → ⊥) → (q .kind ≡ 2 → ⊥) → r ≡ noCell →
+  pub to-nothing : (x : Source) → (q .kind ≡ rootKind → ⊥) → (q .kind ≡ overKind → ⊥) → r ≡ noCell →
       r ≡ sourcesCell k l t (x ∷ []) (sourcesOf (positionBy q))
   to-nothing x f g h = h ∙ sym (ap (sourcesCell k l t (x ∷ [])) (no-sources q f g) ∙ no-source k l t x)
 
-  to-root : (x : Source) → q .kind ≡ 1 → r ≡ sourceCell k l t x (fromRoot (q .label)) →
+  to-root : (x : Source) → q .kind ≡ rootKind → r ≡ sourceCell k l t x (fromRoot (q .label)) →
       r ≡ sourcesCell k l t (x ∷ []) (sourcesOf (positionBy q))
   to-root x e h =
       h ∙ sym (one-source k l t x (fromRoot (q .label))) ∙
       sym (ap (λ (y : positions.Position). sourcesCell k l t (x ∷ []) (sourcesOf y)) (kind-root q e))
 
-  to-step : (x : Source) → q .kind ≡ 2 → r ≡ sourceCell k l t x (fromStep (stepIn q) (q .first)) →
+  to-step : (x : Source) → q .kind ≡ overKind → r ≡ sourceCell k l t x (fromStep (stepIn q) (q .first)) →
       r ≡ sourcesCell k l t (x ∷ []) (sourcesOf (positionBy q))
   to-step x e h =
       h ∙ sym (one-source k l t x (fromStep (stepIn q) (q .first))) ∙
       sym (ap (λ (y : positions.Position). sourcesCell k l t (x ∷ []) (sourcesOf y)) (kind-over q e))
 
-  pub root-root : (d : ℕ) → q .kind ≡ 1 → r ≡ rootsCell d (q .label) → r ≡ sourcesCell k l t (fromRoot d ∷ []) (sourcesOf (positionBy q))
+  pub root-root : (d : ℕ) → q .kind ≡ rootKind → r ≡ rootsCell d (q .label) →
+      r ≡ sourcesCell k l t (fromRoot d ∷ []) (sourcesOf (positionBy q))
   root-root d e h = to-root (fromRoot d) e h
 
-  pub root-step : (d : ℕ) → q .kind ≡ 2 → (g : Cell) (s : Step) → r ≡ upStep s g → s ≡ stepIn q → g ≡ t k (q .first) →
+  pub root-step : (d : ℕ) → q .kind ≡ overKind → (g : Cell) (s : Step) → r ≡ upStep s g → s ≡ stepIn q → g ≡ t k (q .first) →
       r ≡ sourcesCell k l t (fromRoot d ∷ []) (sourcesOf (positionBy q))
   root-step d e g s h i j = to-step (fromRoot d) e (h ∙ ap (λ (x : Step). upStep x g) i ∙ ap (upStep (stepIn q)) j)
 
-  pub step-root : (s : Step) (i : ℕ) → q .kind ≡ 1 → (g : Cell) (u : Step) → r ≡ downStep u g → u ≡ s → g ≡ t i l →
+  pub step-root : (s : Step) (i : ℕ) → q .kind ≡ rootKind → (g : Cell) (u : Step) → r ≡ downStep u g → u ≡ s → g ≡ t i l →
       r ≡ sourcesCell k l t (fromStep s i ∷ []) (sourcesOf (positionBy q))
   step-root s i e g u h j m = to-root (fromStep s i) e (h ∙ ap (λ (x : Step). downStep x g) j ∙ ap (downStep s) m)
 
-  module _ (s : Step) (i : ℕ) (e : q .kind ≡ 2) (x y z : Cell) (m : x ≡ t i (q .first)) (n : y ≡ t i l) (o : z ≡ t k (q .first)) where
+  module _ (s : Step) (i : ℕ) (e : q .kind ≡ overKind) (x y z : Cell) (m : x ≡ t i (q .first)) (n : y ≡ t i l)
+      (o : z ≡ t k (q .first)) where
     pub step-step : (on down up both : Cell) (u v : Step) → r ≡ joinCell on both → both ≡ joinCell down up → on ≡ onStep u v x →
         down ≡ downStep u y → up ≡ upStep v z → u ≡ s → v ≡ stepIn q →
         r ≡ sourcesCell k l t (fromStep s i ∷ []) (sourcesOf (positionBy q))
@@ -141,14 +145,14 @@ module _ (t : Cells) (k l : ℕ) (p q : Position) (r : Cell) where
   joined : (g h x y : Cell) → r ≡ joinCell g h → g ≡ x → h ≡ y → r ≡ joinCell x y
   joined g h x y e i j = e ∙ ap (λ (z : Cell). joinCell z h) i ∙ ap (joinCell x) j
 
-  pub first-union : p .kind ≡ 3 → (g h : Cell) → r ≡ joinCell g h → g ≡ t (p .first) l → h ≡ t (p .second) l →
+  pub first-union : p .kind ≡ unionKind → (g h : Cell) → r ≡ joinCell g h → g ≡ t (p .first) l → h ≡ t (p .second) l →
       r ≡ cellBy k l t (positionBy p) (positionBy q)
   first-union a g h e i j =
       joined g h (t (p .first) l) (t (p .second) l) e i j ∙
       sym (ap (λ (x : positions.Position). cellBy k l t x (positionBy q)) (kind-union p a))
 
-  module _ (low : p .kind < 4) (not : p .kind ≡ 3 → ⊥) where
-    pub second-union : q .kind ≡ 3 → (g h : Cell) → r ≡ joinCell g h → g ≡ t k (q .first) → h ≡ t k (q .second) →
+  module _ (low : p .kind < kinds) (not : p .kind ≡ unionKind → ⊥) where
+    pub second-union : q .kind ≡ unionKind → (g h : Cell) → r ≡ joinCell g h → g ≡ t k (q .first) → h ≡ t k (q .second) →
         r ≡ cellBy k l t (positionBy p) (positionBy q)
     second-union a g h e i j =
         joined g h (t k (q .first)) (t k (q .second)) e i j ∙
@@ -156,24 +160,24 @@ module _ (t : Cells) (k l : ℕ) (p q : Position) (r : Cell) where
         cellBy k l t x (positions.union (q .first) (q .second))) low not refl (λ d. refl) (λ s n. refl) ∙
         sym (ap (cellBy k l t (positionBy p)) (kind-union q a))
 
-    module _ (low₂ : q .kind < 4) (not₂ : q .kind ≡ 3 → ⊥) where
+    module _ (low₂ : q .kind < kinds) (not₂ : q .kind ≡ unionKind → ⊥) where
       to-sources : (xs : List Source) → sourcesCell k l t xs (sourcesOf (positionBy q)) ≡ cellTo k l t xs (positionBy q)
       to-sources xs =
           not-union q (λ (y : positions.Position). sourcesCell k l t xs (sourcesOf y) ≡ cellTo k l t xs y) low₂ not₂ refl
           (λ d. refl) (λ s n. refl)
 
-      pub first-root : p .kind ≡ 1 → r ≡ sourcesCell k l t (fromRoot (p .label) ∷ []) (sourcesOf (positionBy q)) →
+      pub first-root : p .kind ≡ rootKind → r ≡ sourcesCell k l t (fromRoot (p .label) ∷ []) (sourcesOf (positionBy q)) →
           r ≡ cellBy k l t (positionBy p) (positionBy q)
       first-root e h =
           h ∙ to-sources (fromRoot (p .label) ∷ []) ∙ sym (ap (λ (x : positions.Position). cellBy k l t x (positionBy q)) (kind-root p e))
 
-      pub first-step : p .kind ≡ 2 → r ≡ sourcesCell k l t (fromStep (stepIn p) (p .first) ∷ []) (sourcesOf (positionBy q)) →
+      pub first-step : p .kind ≡ overKind → r ≡ sourcesCell k l t (fromStep (stepIn p) (p .first) ∷ []) (sourcesOf (positionBy q)) →
           r ≡ cellBy k l t (positionBy p) (positionBy q)
       first-step e h =
           h ∙ to-sources (fromStep (stepIn p) (p .first) ∷ []) ∙
           sym (ap (λ (x : positions.Position). cellBy k l t x (positionBy q)) (kind-over p e))
 
-      pub first-nowhere : (p .kind ≡ 1 → ⊥) → (p .kind ≡ 2 → ⊥) → r ≡ noCell → r ≡ cellBy k l t (positionBy p) (positionBy q)
+      pub first-nowhere : (p .kind ≡ rootKind → ⊥) → (p .kind ≡ overKind → ⊥) → r ≡ noCell → r ≡ cellBy k l t (positionBy p) (positionBy q)
       unfolding sum
       first-nowhere f g h =
           h ∙ to-sources [] ∙ sym (ap (λ (x : positions.Position). cellBy k l t x (positionBy q)) (kind-nowhere p low f g not))
@@ -254,7 +258,7 @@ meet-asks row is room low filled =
     record { first = row .first; second = row .second; room = room; row = row .row; column = low; position = is; filled = filled }
 
 -- a union's pair, from those of its parts
-module _ {ws us t : List ℕ} {k l : ℕ} {p : Position} (pre : MeetPre ws us t k l p) (kind : p .kind ≡ 3) where
+module _ {ws us t : List ℕ} {k l : ℕ} {p : Position} (pre : MeetPre ws us t k l p) (kind : p .kind ≡ unionKind) where
   abbrev other : Position
   other = fieldsOf (getD us l 0)
 
@@ -297,7 +301,7 @@ row-filled ws us t k l e f =
         ap (λ (x : ℕ). between (positions.pathsOn (entriesBy ws) x) (positions.pathsOn (entriesBy us) j)) (sym n)
 
 -- a position without a mark meets none
-pub plain-row : (ws us : List ℕ) (k : ℕ) (p : Position) → p ≡ fieldsOf (getD ws k 0) → p .role ≡ 0 → (n : ℕ) →
+pub plain-row : (ws us : List ℕ) (k : ℕ) (p : Position) → p ≡ fieldsOf (getD ws k 0) → p .role ≡ plainRole → (n : ℕ) →
     false ≡ rowMeets (entriesBy ws) (entriesBy us) k n
 plain-row ws us k p e m n = sym (anyUpTo-none (meetAt (entriesBy ws) (entriesBy us) k) not-met n)
   where

@@ -7,7 +7,7 @@ use lib.ListN.{length, getD}
 use Rattle.paths_positions.specs.Positions.{IsLower, AreLower, pathsOn}
 use Rattle.paths_positions.specs.Filled.{Filled}
 use Rattle.paths_positions.specs.Answer.{meetAt, rowMeets}
-use Rattle.paths_positions.specs.Packed.{positionBy, fieldsOf, entriesBy}
+use Rattle.paths_positions.specs.Packed.{positionBy, fieldsOf, entriesBy, unionKind, kinds}
 use Rattle.paths_positions.specs.Steps.{maxPositions}
 use Rattle.paths_cells.specs.Pairs.{marks, HasRows}
 use Rattle.paths_positions.specs.declared.packed.Position.{Position}
@@ -23,8 +23,8 @@ pub record PositionsPre (ws : List ℕ) : Type 0 where
 pub record CellPre (t : List ℕ) (k l : ℕ) (p q : Position) : Type 0 where
   pub room : HasRows t (k + 1)
   pub column : l < maxPositions
-  pub firstKind : p .kind < 4
-  pub secondKind : q .kind < 4
+  pub firstKind : p .kind < kinds
+  pub secondKind : q .kind < kinds
   pub first : IsLower k (positionBy p)
   pub second : IsLower l (positionBy q)
 
@@ -65,7 +65,7 @@ pub record RowPost (ws us : List ℕ) (k : ℕ) (t′ : List ℕ) (r : Bool) : T
 pub record UnionRowPre (ws us t : List ℕ) (k : ℕ) (p : Position) : Type 0 where
   pub row : RowPre ws us t k
   pub position : p ≡ fieldsOf (getD ws k 0)
-  pub union : p .kind ≡ 3
+  pub union : p .kind ≡ unionKind
 
 pub record UnionRowPost (ws us : List ℕ) (k : ℕ) (t′ : List ℕ) : Type 0 where
   pub room : HasRows t′ (length ws)

@@ -18,18 +18,18 @@ use Rattle.paths_positions.specs.Positions as positions
 use Rattle.paths_positions.specs.Positions.{nowhere, root, over, union, Entry, accessing, modifying, leadsUp, Emitted}
 use Rattle.paths_positions.specs.Positions.{pushStep, pushUnion, pushDelete, pushBelow, emit, entriesBefore, entriesOf}
 use Rattle.paths_positions.specs.Answer.{anyUpTo}
-use Rattle.paths_positions.specs.Packed.{positionBy, fieldsOf, entryOf, entriesBy, leadsUpAt, someLeadsUp}
+use Rattle.paths_positions.specs.Packed.{positionBy, fieldsOf, entryOf, entriesBy, leadsUpAt, someLeadsUp, rootKind, overKind}
 use Rattle.paths_positions.specs.declared.packed.Position.{Position}
 use Rattle.paths_positions.proofs.AnyUpToLaws.{anyUpTo-any}
 
 -- ONE POSITION, by its fields
-pub leadsUp-is : (p : Position) (t : Bool) → t ≡ (eqb (p .kind) 2 && leb 2 (p .axis)) → t ≡ leadsUp (positionBy p)
+pub leadsUp-is : (p : Position) (t : Bool) → t ≡ (eqb (p .kind) overKind && leb 2 (p .axis)) → t ≡ leadsUp (positionBy p)
 leadsUp-is p t e =
-    by-cases (eqb (p .kind) 2)
-    (λ q. e ∙ ap (λ (x : Bool). x && leb 2 (p .axis)) q ∙ up-kind (eqb-true (p .kind) 2 q))
-    (λ q. e ∙ ap (λ (x : Bool). x && leb 2 (p .axis)) q ∙ others (eqb (p .kind) 0) (eqb (p .kind) 1) (eqb (p .kind) 2) q)
+    by-cases (eqb (p .kind) overKind)
+    (λ q. e ∙ ap (λ (x : Bool). x && leb 2 (p .axis)) q ∙ up-kind (eqb-true (p .kind) overKind q))
+    (λ q. e ∙ ap (λ (x : Bool). x && leb 2 (p .axis)) q ∙ others (eqb (p .kind) 0) (eqb (p .kind) rootKind) (eqb (p .kind) overKind) q)
   where
-    up-kind : p .kind ≡ 2 → leb 2 (p .axis) ≡ leadsUp (positionBy p)
+    up-kind : p .kind ≡ overKind → leb 2 (p .axis) ≡ leadsUp (positionBy p)
     up-kind k = rw k
 
     others : (x y z : Bool) → z ≡ false →

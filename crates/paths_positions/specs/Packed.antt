@@ -18,12 +18,32 @@ use Rattle.paths_positions.specs.declared.step.Step.{Step}
 abbrev pub stepIn : Position → model.Step
 stepIn p = stepBy (p .axis) (p .test) (p .label)
 
--- KINDS: 0 nowhere, 1 root, whose label is its document, 2 over, whose label is its name, 3 union. ROLES: 0 none, 1 accessed, 2 modified
+-- KINDS: a root, whose label is its document; a step over a position, whose label is its name; a union; 0 is nowhere
+abbrev pub rootKind : ℕ
+rootKind = 1
+
+abbrev pub overKind : ℕ
+overKind = 2
+
+abbrev pub unionKind : ℕ
+unionKind = 3
+
+-- ROLES
+abbrev pub plainRole : ℕ
+plainRole = 0
+
+abbrev pub accessedRole : ℕ
+accessedRole = 1
+
+abbrev pub modifiedRole : ℕ
+modifiedRole = 2
+
+-- the position that the fields are
 abbrev pub positionBy : Position → positions.Position
 positionBy p =
     cond (eqb (p .kind) 0) positions.nowhere
-    (cond (eqb (p .kind) 1) (positions.root (p .label))
-    (cond (eqb (p .kind) 2) (positions.over (stepIn p) (p .first)) (positions.union (p .first) (p .second))))
+    (cond (eqb (p .kind) rootKind) (positions.root (p .label))
+    (cond (eqb (p .kind) overKind) (positions.over (stepIn p) (p .first)) (positions.union (p .first) (p .second))))
 
 -- the source of a document, and of a step
 abbrev pub rootSource : Position → Source
@@ -34,20 +54,20 @@ stepSource p = fromStep (stepIn p) (p .first)
 
 -- a position with its role
 abbrev pub withRole : (role : ℕ) → positions.Position → positions.Entry
-withRole m p = record { position = p; accessed = eqb m 1; modified = eqb m 2 }
+withRole m p = record { position = p; accessed = eqb m accessedRole; modified = eqb m modifiedRole }
 
 abbrev pub entryBy : Position → positions.Entry
 entryBy p = withRole (p .role) (positionBy p)
 
 -- the fields of a document's root, accessed; of a step over a position, and of two positions, in a role
 abbrev pub rootBy : (document : ℕ) → Position
-rootBy d = record { kind = 1; role = 1; axis = 0; test = 0; label = d; first = 0; second = 0 }
+rootBy d = record { kind = rootKind; role = accessedRole; axis = 0; test = 0; label = d; first = 0; second = 0 }
 
 abbrev pub overBy : (role : ℕ) → Step → (operand : ℕ) → Position
-overBy m s i = record { kind = 2; role = m; axis = s .axis; test = s .test; label = s .name .0; first = i; second = 0 }
+overBy m s i = record { kind = overKind; role = m; axis = s .axis; test = s .test; label = s .name .0; first = i; second = 0 }
 
 abbrev pub unionBy : (role first second : ℕ) → Position
-unionBy m i j = record { kind = 3; role = m; axis = 0; test = 0; label = 0; first = i; second = j }
+unionBy m i j = record { kind = unionKind; role = m; axis = 0; test = 0; label = 0; first = i; second = j }
 
 -- PACKED: how many numbers each field has room for; an operand has maxPositions
 abbrev pub kinds : ℕ

@@ -13,6 +13,7 @@ use Rattle.model.specs.Table as model
 use Rattle.model.proofs.StoredBack.{storedBack}
 use Rattle.model.proofs.TestLaws.{isIn-some}
 use Rattle.model.proofs.RefusedByTable.{refusedByTable}
+use Rattle.model.specs.Limits.{maxRows}
 use Rattle.plan_table.specs.Results.{refusalOf}
 use Rattle.plan_table.specs.Packed.{encode, decode, fits}
 use Rattle.plan_table.specs.declared.Table.{Table}
@@ -25,7 +26,7 @@ use Rattle.plan.specs.Promise.{TableBack, BytesBack}
 use Rattle.plan_writer.proofs.WritePlanLaws.{write-fine, write-out, stored-fits, stored-written, stored-out}
 
 -- TABLE TO BYTES TO TABLE: a table that fits is packed as the table that it stands for
-packed-back : (t : Table) → length (t .rows) ≡ 512 → fits t ≡ true → encode (decode t) ≡ t
+packed-back : (t : Table) → length (t .rows) ≡ maxRows → fits t ≡ true → encode (decode t) ≡ t
 packed-back t l e =
     let f = fits-at (t .count) (t .rows) (t .marks) e in
     encode-decode (t .count) (t .rows) (t .marks) (omega (arith, f .few)) (f .canonical l)

@@ -26,11 +26,12 @@ use Rattle.plan_table.proofs.FittedLaws.{Fits, fits-mark}
 use Rattle.model.proofs.SweepLaws.{newNumber-zero, newNumber-suc, isKept-unrolled, newNumber-le, isKept-marked}
 use Rattle.model.proofs.SweepLaws.{isKept-parent, length-sweptRows}
 use Rattle.model.proofs.TableLaws.{any-by}
+use Rattle.model.specs.Limits.{maxRows, maxLinks}
 use Rattle.plan_table.specs.Results.{withTable}
 use Rattle.model.specs.Refusal.{linkAt}
 
 -- ROWS: the start
-pub sweeping-none : (ws ms ns out : List ℕ) (n : ℕ) → Flagged ms ns → out ≡ replicate 512 0 → Sweeping (decodeParts n ws ms) 0 0 ns out
+pub sweeping-none : (ws ms ns out : List ℕ) (n : ℕ) → Flagged ms ns → out ≡ replicate maxRows 0 → Sweeping (decodeParts n ws ms) 0 0 ns out
 unfolding sweptRows
 sweeping-none ws ms ns out n f e =
     record {
@@ -88,7 +89,7 @@ module _ {x : model.Table} {i next : ℕ} {ns out : List ℕ} (s : Sweeping x i 
       entry-at l z (f z .0) ∙ cond-true (isKept x (l - 1)) _ 0 (f z .1) ∙
       sym (ap (λ (p : Option ℕ). linkOf (renumbered x p)) (ofLink-some l z)))
 
-module _ (ws ms : List ℕ) (n i : ℕ) (fits : Fits n ws ms) (size : length ws ≡ 512) (low : i < n) (next : ℕ) (ns out : List ℕ)
+module _ (ws ms : List ℕ) (n i : ℕ) (fits : Fits n ws ms) (size : length ws ≡ maxRows) (low : i < n) (next : ℕ) (ns out : List ℕ)
     (s : Sweeping (decodeParts n ws ms) i next ns out) where
   abbrev x : model.Table
   x = decodeParts n ws ms
@@ -107,7 +108,7 @@ module _ (ws ms : List ℕ) (n i : ℕ) (fits : Fits n ws ms) (size : length ws 
   parent-lower p e = fits .well .tree .parents i p e .0
 
   -- the parent's link and its entry are in range
-  pub link-in : link < 513
+  pub link-in : link < maxLinks
   link-in = omega (arith, link-low n ws ms within i low parent-lower, fits .few)
 
   pub entry-low : getD ns link 0 < 1024
@@ -258,7 +259,7 @@ links-end ns ms d h =
     ap (newLinks ns) (take-all d ms h)
 
 -- THE CALL: the rows, the marks and the count are those of the swept table
-module _ (ws ms : List ℕ) (n : ℕ) (fits : Fits n ws ms) (size : length ws ≡ 512) (next : ℕ) (ns out : List ℕ)
+module _ (ws ms : List ℕ) (n : ℕ) (fits : Fits n ws ms) (size : length ws ≡ maxRows) (next : ℕ) (ns out : List ℕ)
     (s : Sweeping (decodeParts n ws ms) n next ns out) where
   abbrev plan : model.Table
   plan = decodeParts n ws ms

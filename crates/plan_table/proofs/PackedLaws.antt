@@ -36,24 +36,24 @@ ofLink-some l z = cond-ne none (some (l - 1)) z
 
 -- A ROW AND ITS WORD, where the parent's link fits its 10 bits
 
-kind-packed : (r : model.Row) → linkOf (r .parent) < 1024 → eqb (kindIn (packRow r)) 2 ≡ r .isLeaf
+kind-packed : (r : model.Row) → linkOf (r .parent) < 1024 → eqb (kindIn (packRow r)) leafBits ≡ r .isLeaf
 kind-packed r f = go (r .isLeaf)
   where
-    go : (z : Bool) → eqb (kindIn (cond z 2 1 + 4 * linkOf (r .parent) + 4096 * r .tag)) 2 ≡ z
-    go true = eq-eqb (kindIn (2 + 4 * linkOf (r .parent) + 4096 * r .tag)) 2 (omega arith)
-    go false = ne-eqb (kindIn (1 + 4 * linkOf (r .parent) + 4096 * r .tag)) 2 (λ e. omega arith)
+    go : (z : Bool) → eqb (kindIn (cond z leafBits elementBits + 4 * linkOf (r .parent) + 4096 * r .tag)) leafBits ≡ z
+    go true = eq-eqb (kindIn (leafBits + 4 * linkOf (r .parent) + 4096 * r .tag)) leafBits (omega arith)
+    go false = ne-eqb (kindIn (elementBits + 4 * linkOf (r .parent) + 4096 * r .tag)) leafBits (λ e. omega arith)
 
 tag-packed : (r : model.Row) → linkOf (r .parent) < 1024 → tagIn (packRow r) ≡ r .tag
 tag-packed r f = go (r .isLeaf)
   where
-    go : (z : Bool) → tagIn (cond z 2 1 + 4 * linkOf (r .parent) + 4096 * r .tag) ≡ r .tag
+    go : (z : Bool) → tagIn (cond z leafBits elementBits + 4 * linkOf (r .parent) + 4096 * r .tag) ≡ r .tag
     go true = omega (arith, f)
     go false = omega (arith, f)
 
 link-packed : (r : model.Row) → linkOf (r .parent) < 1024 → linkIn (packRow r) ≡ linkOf (r .parent)
 link-packed r f = go (r .isLeaf)
   where
-    go : (z : Bool) → linkIn (cond z 2 1 + 4 * linkOf (r .parent) + 4096 * r .tag) ≡ linkOf (r .parent)
+    go : (z : Bool) → linkIn (cond z leafBits elementBits + 4 * linkOf (r .parent) + 4096 * r .tag) ≡ linkOf (r .parent)
     go true = omega (arith, f)
     go false = omega (arith, f)
 
@@ -71,9 +71,9 @@ packRow-rowOf w h =
 pub isPackedRow-packRow : (r : model.Row) → isPackedRow (packRow r) ≡ true
 isPackedRow-packRow r = go (r .isLeaf)
   where
-    go : (z : Bool) → isPackedRow (cond z 2 1 + 4 * linkOf (r .parent) + 4096 * r .tag) ≡ true
-    go true = isIn-by elementBits leafBits (kindIn (2 + 4 * linkOf (r .parent) + 4096 * r .tag)) (omega arith) (omega arith)
-    go false = isIn-by elementBits leafBits (kindIn (1 + 4 * linkOf (r .parent) + 4096 * r .tag)) (omega arith) (omega arith)
+    go : (z : Bool) → isPackedRow (cond z leafBits elementBits + 4 * linkOf (r .parent) + 4096 * r .tag) ≡ true
+    go true = isIn-by elementBits leafBits (kindIn (leafBits + 4 * linkOf (r .parent) + 4096 * r .tag)) (omega arith) (omega arith)
+    go false = isIn-by elementBits leafBits (kindIn (elementBits + 4 * linkOf (r .parent) + 4096 * r .tag)) (omega arith) (omega arith)
 
 -- a tag that fits is a byte
 pub tag-byte : (w : ℕ) → model.tagFits (rowOf w) ≡ true → tagIn w < 256

@@ -6,7 +6,7 @@ use Prim.Native.Nat.{ℕ, zero, suc, _-_}
 use lib.Dec.{ltb, leb, eqb}
 use lib.ListN.{length, getD}
 use Rattle.model.specs.Limits.{maxRows, documents}
-use Rattle.model.specs.Base.{any}
+use Rattle.model.specs.Base.{any, maxByte}
 use Rattle.model.specs.Table.{isThe}
 use Rattle.plan_table.specs.Packed.{ofLink, kindIn, linkIn, tagIn, leafBits, elementBits}
 
@@ -17,7 +17,7 @@ pub record TableSizes (ws ms : List ℕ) : Type 0 where
 
 -- a packed row, with its name or value in range
 abbrev pub tagFits : (packed : ℕ) → Bool
-tagFits w = leb (tagIn w) 255 && cond (eqb (kindIn w) elementBits) (ltb 0 (tagIn w)) (eqb (kindIn w) leafBits)
+tagFits w = leb (tagIn w) maxByte && cond (eqb (kindIn w) elementBits) (ltb 0 (tagIn w)) (eqb (kindIn w) leafBits)
 
 -- the row is an element below a bound
 abbrev pub isElementBelow : (packed : List ℕ) → (bound row : ℕ) → Bool

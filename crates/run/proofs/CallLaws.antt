@@ -18,6 +18,7 @@ use Rattle.model.specs.Call.{Ran, filled, areasFit, ranBy, refusedRun, runBy}
 use Rattle.model.proofs.BoolLaws.{cond-true, cond-false, and-both, cond-ne}
 use Rattle.model.proofs.TestLaws.{and-three}
 use Rattle.model.proofs.HistoryLaws.{made-or-cut}
+use Rattle.model.specs.Limits.{maxDepth, maxRows, answerNeed, maxBinders, maxItems, documents, historyNeed, workNeed}
 use Rattle.script_records.specs.Walk.{endAt, exprAt}
 use Rattle.script.specs.Reading.{scriptRead}
 use Rattle.script.proofs.ScriptLaws.{script-accepted, script-parsed, script-ill}
@@ -116,11 +117,11 @@ module _ (t : Table) (b : List ℕ) (e : fits t ≡ true) where
     abbrev starting : (history work : List ℕ) → Progress → List Span → Machine
     starting h w p env = machine (t .rows) h w (begun p 0 0 env)
 
-    module _ (rows : length (t .rows) ≡ 512) (marks : length (t .marks) ≡ 8) {h w : List ℕ} {env : List Span} where
-      pub eval-asks : 12288 ≤ length h → 32768 ≤ length w → length env ≡ 8 → {p : Progress} → p ≡ started (t .count) →
-          EvalPre b 16 whole (starting h w p env)
+    module _ (rows : length (t .rows) ≡ maxRows) (marks : length (t .marks) ≡ documents) {h w : List ℕ} {env : List Span} where
+      pub eval-asks : historyNeed ≤ length h → workNeed ≤ length w → length env ≡ maxBinders → {p : Progress} → p ≡ started (t .count) →
+          EvalPre b maxDepth whole (starting h w p env)
       eval-asks lh lw size {p} is =
-          subst (λ (q : Progress). EvalPre b 16 whole (starting h w q env)) (sym is)
+          subst (λ (q : Progress). EvalPre b maxDepth whole (starting h w q env)) (sym is)
           (record {
             accepted = script-accepted b k;
             held = held-start (t .count) (t .rows) (t .marks) h e rows lh;
@@ -129,12 +130,12 @@ module _ (t : Table) (b : List ℕ) (e : fits t ≡ true) where
             room = omega arith;
           })
 
-      module _ {p : Progress} (is : p ≡ started (t .count)) {s : Machine} (ran : EvalPost b 16 whole (starting h w p env) s) where
-        goes : outcomeOf t b ≡ run (exprAt 16 b 0) (boundIn whole (starting h w p env)) (stateIn whole (starting h w p env))
+      module _ {p : Progress} (is : p ≡ started (t .count)) {s : Machine} (ran : EvalPost b maxDepth whole (starting h w p env) s) where
+        goes : outcomeOf t b ≡ run (exprAt maxDepth b 0) (boundIn whole (starting h w p env)) (stateIn whole (starting h w p env))
         goes =
             formed ∙ ap (runBy (decode t)) (script-parsed b k .1) ∙
-            ap (run (exprAt 16 b 0) []) (sym (state-start (t .count) (t .rows) (t .marks) h)) ∙
-            ap (λ (q : Progress). run (exprAt 16 b 0) [] (stateOf (t .rows) (t .marks) h q)) (sym is)
+            ap (run (exprAt maxDepth b 0) []) (sym (state-start (t .count) (t .rows) (t .marks) h)) ∙
+            ap (λ (q : Progress). run (exprAt maxDepth b 0) [] (stateOf (t .rows) (t .marks) h q)) (sym is)
 
         pub run-stops : (s .progress .number ≡ 0 → ⊥) → outcomeOf t b ≡ refused (refusal.refusal (s .progress .number) (s .place))
         run-stops l = goes ∙ yields-stop ran l
@@ -149,10 +150,10 @@ module _ (t : Table) (b : List ℕ) (e : fits t ≡ true) where
           held : Held (s .rows) (s .history) q
           held = fine .after .held
 
-          pub few : s .end ≤ 512
+          pub few : s .end ≤ maxItems
           few = fine .short
 
-          pub put-asks : (a : List ℕ) → 512 ≤ length a → length (valueAt (s .work) 0 (s .end)) ≤ length a
+          pub put-asks : (a : List ℕ) → answerNeed ≤ length a → length (valueAt (s .work) 0 (s .end)) ≤ length a
           put-asks a m = omega (arith, length-take (s .end - 0) (drop 0 (s .work)), few)
 
           gives-it : outcomeOf t b ≡ gives (valueIn whole s) (stateIn whole s)
@@ -173,7 +174,7 @@ module _ (t : Table) (b : List ℕ) (e : fits t ≡ true) where
           size-written : length (historyBytes (recordsIn bytes)) ≡ q .bytes
           size-written = ap length written ∙ length-take-le (q .bytes) (s .history) bytes-within
 
-          value-size : 32768 ≤ length w → length (valueIn whole s) ≡ s .end
+          value-size : workNeed ≤ length w → length (valueIn whole s) ≡ s .end
           value-size m =
               let n : s .end ≤ length (s .work) = omega (arith, fine .size, fine .short) in
               let o : s .end - 0 ≡ s .end = omega arith in
@@ -234,14 +235,14 @@ module _ (t : Table) (b : List ℕ) (e : fits t ≡ true) where
                   ap (λ (v : List ℕ). v ++ replicate (length h - length (historyBytes (recordsIn bytes))) 0) (sym written)
 
 -- THE CALL: 11 first
-pub areas-fit : (a h w : List ℕ) → 512 ≤ length a → 12288 ≤ length h → 32768 ≤ length w → areasFit a h w ≡ true
+pub areas-fit : (a h w : List ℕ) → answerNeed ≤ length a → historyNeed ≤ length h → workNeed ≤ length w → areasFit a h w ≡ true
 areas-fit a h w la lh lw =
-    and-both _ _ (and-both _ _ (le-leb 512 (length a) la) (le-leb 12288 (length h) lh)) (le-leb 32768 (length w) lw)
+    and-both _ _ (and-both _ _ (le-leb answerNeed (length a) la) (le-leb historyNeed (length h) lh)) (le-leb workNeed (length w) lw)
 
-areas-long : (a h w : List ℕ) → areasFit a h w ≡ true → (512 ≤ length a) × (12288 ≤ length h) × (32768 ≤ length w)
+areas-long : (a h w : List ℕ) → areasFit a h w ≡ true → (answerNeed ≤ length a) × (historyNeed ≤ length h) × (workNeed ≤ length w)
 areas-long a h w e =
-    let k = and-three (leb 512 (length a)) (leb 12288 (length h)) (leb 32768 (length w)) e in
-    (leb-true 512 (length a) (k .0), leb-true 12288 (length h) (k .1), leb-true 32768 (length w) (k .2))
+    let k = and-three (leb answerNeed (length a)) (leb historyNeed (length h)) (leb workNeed (length w)) e in
+    (leb-true answerNeed (length a) (k .0), leb-true historyNeed (length h) (k .1), leb-true workNeed (length w) (k .2))
 
 module _ (t : Table) (b a h w : List ℕ) {z : Bool} (is : z ≡ areasFit a h w) where
   pub short-result : z ≡ false → {r : RunResult} → r ≡ refusedResult 11 0 t →

@@ -9,6 +9,7 @@ use lib.ListN.{length, getD, take}
 use Rattle.model.specs.Base.{nothing}
 use Rattle.model.specs.Limits.{maxItems}
 use Rattle.model.specs.Refusal.{itemsAt}
+use Rattle.model.specs.Script.{forKind}
 use Rattle.model.specs.Run.{State, Out, refused, gives, andThen, joinItems, joinFor, loop, run, AreRows}
 use Rattle.model.proofs.ValueLaws.{areRows-more}
 use Rattle.model.proofs.All.{all-front, all-back}
@@ -62,7 +63,7 @@ loop-split z f (i ∷ is) js v s = go (loop-split z f is js) (f i s)
     go h (gives w t) = more (ltb maxItems (length v + length w)) (v ++ w) t (h (v ++ w) t)
 
 -- A FOR after its first operand
-module _ {b : List ℕ} {left : ℕ} {f : Frame} {s : Machine} (pre : RestPre b 7 left f s) where
+module _ {b : List ℕ} {left : ℕ} {f : Frame} {s : Machine} (pre : RestPre b forKind left f s) where
   -- no items
   pub for-none : (at : ℕ) → s .end ≡ f .top → {r : Evaluated} → r ≡ movedTo (endAt b (s .place)) (evaluated s) →
       RestPost (forRest b at left) (endAt b (s .place)) f s (cameTo r s)
@@ -113,7 +114,7 @@ module _ {b : List ℕ} {left : ℕ} {f : Frame} {s : Machine} (pre : RestPre b 
           let v = pre .value in
           pair-asks (ran .fine k) (f .top) (v .order) (v .short) (v .rows) (omega (arith, pre .room, v .short))
 
-      pub close-yields : {s′ : Machine} → BinaryPost 7 at (f .top) (s .end) s₁ s′ →
+      pub close-yields : {s′ : Machine} → BinaryPost forKind at (f .top) (s .end) s₁ s′ →
           RestPost (forRest b at left) (endAt b (s .place)) f s s′
       close-yields post =
           let ok = ran .fine k in
@@ -125,15 +126,16 @@ module _ {b : List ℕ} {left : ℕ} {l : Loop} {f : Frame} {s : Machine} (pre :
   abbrev body : ℕ → State → Out
   body = bodyRun b (s .place) left (boundIn f s)
 
-  pub item-asks : BindPre 7 (s .env) (f .bound) (l .from) (l .to)
+  pub item-asks : BindPre forKind (s .env) (f .bound) (l .from) (l .to)
   item-asks = record { size = pre .scope .size; scope = λ t. pre .binder; order = omega (arith, pre .some) }
 
-  inner-for : inner 7 (f .bound) ≡ f .bound + 1
+  inner-for : inner forKind (f .bound) ≡ f .bound + 1
   unfolding inner
   inner-for = refl
 
   -- one item
-  module _ (single : l .to - l .from ≡ 1) {inside : List Span} (bound : BindPost 7 (s .env) (f .bound) (l .from) (l .to) inside) where
+  module _ (single : l .to - l .from ≡ 1) {inside : List Span}
+      (bound : BindPost forKind (s .env) (f .bound) (l .from) (l .to) inside) where
     abbrev one : Frame
     one = frame (f .bound + 1) (f .marks) (s .end)
 

@@ -119,7 +119,7 @@ module _ {b : List ℕ} {at left n : ℕ} (a : Accepted b at left n) where
       (λ e. absurd (l e))
       (λ e. two-of (accepted-insert a e) (rw e) refl (λ vs s. then-same (run one vs s) refl (λ v u. rw e)))
 
-  pub for-operands : getD b at 0 ≡ forKind → Two b at left n (inner 7 n) (forRest b at (left - 1))
+  pub for-operands : getD b at 0 ≡ forKind → Two b at left n (inner forKind n) (forRest b at (left - 1))
   unfolding run inner recordsOf
   for-operands e = two-of (accepted-for a e) refl refl (λ vs s. refl)
 
@@ -143,5 +143,5 @@ module _ {b : List ℕ} {at left n : ℕ} (a : Accepted b at left n) where
   opens {q} count some =
       eq-cases q 1 (λ z. record { rest = unaryRest b at; first = one-operand count z .first })
       (λ f. eq-cases (getD b at 0) ifKind (λ e. record { rest = ifRest b (left - 1); first = if-operands e .first })
-      (λ i. eq-cases (getD b at 0) 7 (λ e. record { rest = forRest b at (left - 1); first = for-operands e .first })
+      (λ i. eq-cases (getD b at 0) forKind (λ e. record { rest = forRest b at (left - 1); first = for-operands e .first })
       (λ l. record { rest = binaryRest b (getD b at 0) at (left - 1); first = two-operands count some f i l .first })))

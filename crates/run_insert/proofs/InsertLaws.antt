@@ -16,12 +16,13 @@ use Rattle.model.specs.Run.{State, Out, refused, gives, newRow, withMade, thenR
 use Rattle.model.proofs.BoolLaws.{by-cases, and-both, eq-cases, cond-eq, cond-ne}
 use Rattle.model.proofs.TableLaws.{isElement-at, isElement-by}
 use Rattle.model.proofs.GrowLaws.{count-withRow, rowAt-withRow-old, rowAt-withRow-new}
+use Rattle.model.specs.Limits.{maxRows, maxHistory, maxLinks}
 use Rattle.plan_table.specs.Packed.{ofLink, rowOf, rowsOf, isPackedRow, withLink, decodeParts, linkIn}
 use Rattle.plan_table.proofs.PackedLaws.{ofLink-linkOf, count-decode, rowAt-decode, rows-take, rowOf-withLink, packed-linked}
 use Rattle.plan_table.proofs.DecodeLaws.{parent-at, link-low}
 use Rattle.run_updates.specs.State.{stateOf, outcome, Held, Updated}
 use Rattle.run_updates.specs.Updating.{NewPre}
-use Rattle.run_insert.specs.Inserting.{copier, before, nextLink, copyBy, IsCopy, Mapped, NextPre, NextPost}
+use Rattle.run_insert.specs.Inserting.{copier, before, nextLink, copyBy, IsCopy, Mapped, NextPre, NextPost, noCopy}
 use Rattle.run_updates.specs.declared.state.Progress.{Progress}
 use Rattle.run_updates.proofs.StateLaws.{held-within, held-count, after-self, outcome-gives}
 use Rattle.run_updates.proofs.UpdateLaws.{newRow-full, newRow-over, newRow-room}
@@ -34,16 +35,16 @@ then-state (gives v s) u e = (v, (cc))
 
 pub made-state : (z : ℕ) (r : model.Row) (s u : State) (v : List ℕ) → newRow z r s ≡ gives v u → u ≡ withMade s r
 made-state z r s u v e =
-    by-cases (ltb (model.count (s .plan)) 512)
+    by-cases (ltb (model.count (s .plan)) maxRows)
     (λ a.
-    by-cases (ltb (length (s .history)) 2048)
+    by-cases (ltb (length (s .history)) maxHistory)
     (λ b.
-    let q = newRow-room z r s (ltb-true (model.count (s .plan)) 512 a) (ltb-true (length (s .history)) 2048 b) in (cc))
+    let q = newRow-room z r s (ltb-true (model.count (s .plan)) maxRows a) (ltb-true (length (s .history)) maxHistory b) in (cc))
     (λ b.
-    let q = newRow-over z r s (ltb-true (model.count (s .plan)) 512 a) (ltb-false (length (s .history)) 2048 b) in
+    let q = newRow-over z r s (ltb-true (model.count (s .plan)) maxRows a) (ltb-false (length (s .history)) maxHistory b) in
     absurd (let y : _≡_ {A = ℕ} 0 1 = cc in omega arith)))
     (λ a.
-    let q = newRow-full z r s (ltb-false (model.count (s .plan)) 512 a) in
+    let q = newRow-full z r s (ltb-false (model.count (s .plan)) maxRows a) in
     absurd (let y : _≡_ {A = ℕ} 0 1 = cc in omega arith))
 
 outcome-then : (z : ℕ) (v ws ms h : List ℕ) (p : Progress) → outcome z [] ws ms h p ≡ thenRow (outcome z v ws ms h p) (λ (u : State).
@@ -155,7 +156,7 @@ module _ {ws h m : List ℕ} {p : Progress} {t j : ℕ} (pre : NextPre t j (copi
         pre .row,
       )
 
-  pub next-none : link ≡ 0 → NextPost t j (copier ws h m p) (copier ws h (set m j 65535) p)
+  pub next-none : link ≡ 0 → NextPost t j (copier ws h m p) (copier ws h (set m j noCopy) p)
   next-none e =
       record {
         updated =
@@ -164,7 +165,7 @@ module _ {ws h m : List ℕ} {p : Progress} {t j : ℕ} (pre : NextPre t j (copi
                   outcome-gives z [] ws ms h p (pre .held .fine) ∙ sym (cond-eq (gives [] (stateOf ws ms h p)) _ e);
               after = λ q. after-self (pre .held);
             };
-        map = ap (set m j) (sym (cond-eq 65535 (p .count) e));
+        map = ap (set m j) (sym (cond-eq noCopy (p .count) e));
       }
 
   module _ (n : link ≡ 0 → ⊥) where
@@ -173,7 +174,7 @@ module _ {ws h m : List ℕ} {p : Progress} {t j : ℕ} (pre : NextPre t j (copi
         let k = linked-at m t l n in
         ⊎-elim (λ e. absurd (k .copied e)) (λ c. c) (pre .mapped (l - 1) (k .low) (parent-here (k .parent) .0))
 
-    pub next-small : link < 513
+    pub next-small : link < maxLinks
     next-small = omega (arith, linked-at m t l n .is, copy-is .0, pre .held .few)
 
     parent-copy : model.isElement (decodeParts (p .count) ws []) (getD m (l - 1) 0) ≡ true
@@ -201,7 +202,7 @@ module _ {ws h m : List ℕ} {p : Progress} {t j : ℕ} (pre : NextPre t j (copi
                       sym (cond-ne (gives [] (stateOf ws ms h p)) _ n);
                   after = u .after;
                 };
-            map = ap (set m j) (sym (cond-ne 65535 (p .count) n));
+            map = ap (set m j) (sym (cond-ne noCopy (p .count) n));
           }
 
   -- the rows after it: those that were there, and the copy
@@ -236,12 +237,12 @@ module _ {ws h m : List ℕ} {p : Progress} {t j : ℕ} (pre : NextPre t j (copi
         grown : p .count ≤ r .count
         grown = post .updated .after fine .rows
 
-        moved : {c d : ℕ} → c ≡ d → (d ≡ 65535) ⊎ IsCopy ws′ (r .count) k d → (c ≡ 65535) ⊎ IsCopy ws′ (r .count) k c
-        moved {c} {d} e u = subst (λ (i : ℕ). (i ≡ 65535) ⊎ IsCopy ws′ (r .count) k i) (sym e) u
+        moved : {c d : ℕ} → c ≡ d → (d ≡ noCopy) ⊎ IsCopy ws′ (r .count) k d → (c ≡ noCopy) ⊎ IsCopy ws′ (r .count) k c
+        moved {c} {d} e u = subst (λ (i : ℕ). (i ≡ noCopy) ⊎ IsCopy ws′ (r .count) k i) (sym e) u
 
-        old : (k ≡ j → ⊥) → (getD m′ k 0 ≡ 65535) ⊎ IsCopy ws′ (r .count) k (getD m′ k 0)
+        old : (k ≡ j → ⊥) → (getD m′ k 0 ≡ noCopy) ⊎ IsCopy ws′ (r .count) k (getD m′ k 0)
         old f =
-            moved (ap (λ (v : List ℕ). getD v k 0) (post .map) ∙ getD-set-other m j k (cond (eqb link 0) 65535 (p .count)) 0 f)
+            moved (ap (λ (v : List ℕ). getD v k 0) (post .map) ∙ getD-set-other m j k (cond (eqb link 0) noCopy (p .count)) 0 f)
             (⊎-elim (λ e. inl e)
             (λ c.
             let s : k < p .count = omega (arith, pre .row) in
@@ -252,15 +253,15 @@ module _ {ws h m : List ℕ} {p : Progress} {t j : ℕ} (pre : NextPre t j (copi
             ))
             (pre .mapped k a (omega (arith, f))))
 
-        here : getD m′ j 0 ≡ cond (eqb link 0) 65535 (p .count)
+        here : getD m′ j 0 ≡ cond (eqb link 0) noCopy (p .count)
         here =
             ap (λ (v : List ℕ). getD v j 0) (post .map) ∙
-            getD-set-same m j (cond (eqb link 0) 65535 (p .count)) 0 (omega (arith, pre .row, pre .size, pre .held .few))
+            getD-set-same m j (cond (eqb link 0) noCopy (p .count)) 0 (omega (arith, pre .row, pre .size, pre .held .few))
 
-        at : k ≡ j → (getD m′ k 0 ≡ 65535) ⊎ IsCopy ws′ (r .count) k (getD m′ k 0)
+        at : k ≡ j → (getD m′ k 0 ≡ noCopy) ⊎ IsCopy ws′ (r .count) k (getD m′ k 0)
         at f =
             eq-cases link 0
-            (λ e. inl (ap (λ (i : ℕ). getD m′ i 0) f ∙ here ∙ cond-eq 65535 (p .count) e))
+            (λ e. inl (ap (λ (i : ℕ). getD m′ i 0) f ∙ here ∙ cond-eq noCopy (p .count) e))
             (λ e.
-            moved (ap (λ (i : ℕ). getD m′ i 0) f ∙ here ∙ cond-ne 65535 (p .count) e)
+            moved (ap (λ (i : ℕ). getD m′ i 0) f ∙ here ∙ cond-ne noCopy (p .count) e)
             (inr (subst (λ (i : ℕ). IsCopy ws′ (r .count) i (p .count)) (sym f) (next-new e))))

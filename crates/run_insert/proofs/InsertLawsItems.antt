@@ -16,12 +16,13 @@ use Rattle.model.proofs.BoolLaws.{and-both, cond-true}
 use Rattle.model.proofs.TestLaws.{isIn-at}
 use Rattle.model.proofs.ListLaws.{drop-next}
 use Rattle.model.proofs.TableLaws.{isElement-at, isElement-by}
-use Rattle.plan_table.specs.Packed.{ofLink, rowOf, rowsOf, withLink, decodeParts, kindIn}
+use Rattle.model.specs.Limits.{maxRows}
+use Rattle.plan_table.specs.Packed.{ofLink, rowOf, rowsOf, withLink, decodeParts, kindIn, leafBits, elementBits}
 use Rattle.plan_table.proofs.PackedLaws.{count-decode, rowAt-decode, packed-linked}
 use Rattle.plan_table.proofs.DecodeLaws.{element-kind}
 use Rattle.run_updates.specs.State.{stateOf, outcome, After, Updated, stopped}
 use Rattle.run_updates.specs.Updating.{NewPre}
-use Rattle.run_insert.specs.Inserting.{before, copiedIn, IsCopy, ScanPre, ScanPost, ItemPre, ItemPost, ItemsPre, ItemsPost}
+use Rattle.run_insert.specs.Inserting.{before, copiedIn, IsCopy, ScanPre, ScanPost, ItemPre, ItemPost, ItemsPre, ItemsPost, noCopy}
 use Rattle.run_insert.specs.Inserting.{Copier, copier, InsertPre}
 use Rattle.run_updates.specs.declared.state.Progress.{Progress}
 use Rattle.run_updates.proofs.StateLaws.{held-within, held-count, after-self, after-then, outcome-gives, then-goes, then-stops}
@@ -48,13 +49,13 @@ copyEach-top z x t g n s c h lower =
     (λ (u : State). copyEach z x t g is (record { old = t; new = model.count (s .plan) } ∷ []) u))
     (ap (descendantsFrom x t 0) c ∙ descendants-past x lower t n h)
 
-copiedIn-top : (m : List ℕ) (t c : ℕ) → t < length m → c < 65535 → copiedIn (set m t c) t 1 ≡ record { old = t; new = c } ∷ []
+copiedIn-top : (m : List ℕ) (t c : ℕ) → t < length m → c < noCopy → copiedIn (set m t c) t 1 ≡ record { old = t; new = c } ∷ []
 unfolding copiedIn
 copiedIn-top m t c h l =
     let e : t + 0 ≡ t = omega arith in
     let f : getD (set m t c) (t + 0) 0 ≡ c = ap (λ (j : ℕ). getD (set m t c) j 0) e ∙ getD-set-same m t c 0 h in
-    let n : c ≡ 65535 → ⊥ = λ q. omega arith in
-    rw (f, ne-eqb c 65535 n) (ap (λ (j : ℕ). record { old = j; new = c } ∷ []) e)
+    let n : c ≡ noCopy → ⊥ = λ q. omega arith in
+    rw (f, ne-eqb c noCopy n) (ap (λ (j : ℕ). record { old = j; new = c } ∷ []) e)
 
 -- AN ITEM
 module _ {ws h m : List ℕ} {p : Progress} {old t g : ℕ} (pre : ItemPre old t g (copier ws h m p)) where
@@ -164,7 +165,7 @@ module _ {ws h m : List ℕ} {p : Progress} {old t g : ℕ} (pre : ItemPre old t
 -- ALL ITEMS: the rest from where it is comes to the whole
 pub record Inserting (v : List ℕ) (g : ℕ) (c₀ c : Copier) (k : ℕ) : Type 0 where
   pub after : After (c₀ .rows) (c₀ .history) (c₀ .progress) (c .rows) (c .history) (c .progress)
-  pub size : length (c .map) ≡ 512
+  pub size : length (c .map) ≡ maxRows
   pub within : k ≤ length v
   pub same : rowsOf (c₀ .progress .count) (c .rows) ≡ rowsOf (c₀ .progress .count) (c₀ .rows)
   pub rest : (z : ℕ) (ms : List ℕ) →
@@ -235,7 +236,7 @@ module _ {ws₀ h₀ m₀ : List ℕ} {p₀ : Progress} {v : List ℕ} {g : ℕ}
         pub inserting-refused : (r .number ≡ 0 → ⊥) → ItemsPost v g (copier ws₀ h₀ m₀ p₀) (copier ws′ h′ m′ r)
         inserting-refused n = then-stops next [] n turn
 
-        pub inserting-again : r .number ≡ 0 → length m′ ≡ 512 → Inserting v g (copier ws₀ h₀ m₀ p₀) (copier ws′ h′ m′ r) (k + 1)
+        pub inserting-again : r .number ≡ 0 → length m′ ≡ maxRows → Inserting v g (copier ws₀ h₀ m₀ p₀) (copier ws′ h′ m′ r) (k + 1)
         inserting-again n l =
             record {
               after = after-then (c .after) (post .updated .after n);
@@ -261,16 +262,17 @@ module _ {ws h : List ℕ} {p : Progress} {v w : List ℕ} (pre : InsertPre ws h
         ap (model.isElement (decodeParts (p .count) ws ms)) (sym e) ∙
         element-kind (p .count) ws ms (held-within (pre .held)) g insert-low
 
-    pub insert-leaf : (kindIn (getD ws g 0) ≡ 1 → ⊥) → {ws′ h′ : List ℕ} {r : Progress} → r ≡ stopped p 7 →
+    pub insert-leaf : (kindIn (getD ws g 0) ≡ elementBits → ⊥) → {ws′ h′ : List ℕ} {r : Progress} → r ≡ stopped p 7 →
         Updated (λ z s. inserted z v w s) [] ws h p ws′ h′ r
     insert-leaf n {ws′} {h′} {r} f =
         let packed = packed-linked (p .count) ws (pre .held .canonical) (held-within (pre .held)) g insert-low 0 (omega arith) in
-        let l : kindIn (getD ws g 0) ≡ 2 = omega (arith, n, isIn-at 1 2 (kindIn (withLink (getD ws g 0) 0)) packed) in
+        let l : kindIn (getD ws g 0) ≡ leafBits =
+        omega (arith, n, isIn-at elementBits leafBits (kindIn (withLink (getD ws g 0) 0)) packed) in
         updated-stopped 6 f
         (λ z ms. let b : model.isElement (decodeParts (p .count) ws ms) (getD w 0 0) ≡ false = kind ms ∙ rw l in rw (one, b))
 
-    module _ (l : kindIn (getD ws g 0) ≡ 2 → ⊥) where
-      pub insert-items : {m : List ℕ} → length m ≡ 512 → ItemsPre v g (copier ws h m p)
+    module _ (l : kindIn (getD ws g 0) ≡ leafBits → ⊥) where
+      pub insert-items : {m : List ℕ} → length m ≡ maxRows → ItemsPre v g (copier ws h m p)
       insert-items q =
           record {
             held = pre .held;

@@ -13,10 +13,11 @@ use Rattle.model.specs.Table as model
 use Rattle.model.specs.Step.{isBelow, collect}
 use Rattle.model.specs.Run.{State, Out, thenRow, copyEach, descendantsFrom}
 use Rattle.model.proofs.TableLaws.{parent-count}
+use Rattle.model.specs.Limits.{maxRows}
 use Rattle.plan_table.specs.Packed.{ofLink, rowOf, rowsOf, decodeParts, linkIn}
 use Rattle.plan_table.proofs.PackedLaws.{count-decode, rowAt-decode}
 use Rattle.run_updates.specs.State.{stateOf, outcome, Held, After}
-use Rattle.run_insert.specs.Inserting.{Copier, copier, before, copiedIn, nextLink, copyBy, IsCopy, Mapped}
+use Rattle.run_insert.specs.Inserting.{Copier, copier, before, copiedIn, nextLink, copyBy, IsCopy, Mapped, noCopy}
 use Rattle.run_insert.specs.Inserting.{NextPre, NextPost, ScanPre, ScanPost}
 use Rattle.run_updates.specs.declared.state.Progress.{Progress}
 use Rattle.run_updates.proofs.StateLaws.{held-within, held-count, after-self, after-then, outcome-gives, then-goes, then-stops}
@@ -26,13 +27,13 @@ use Rattle.run_insert.proofs.InsertLaws.{before-decode, row-before, row
 -- THE SCAN: what is copied from row j on comes to what is copied past top
 pub record Copying (old t : ℕ) (c₀ c : Copier) (j : ℕ) : Type 0 where
   pub after : After (c₀ .rows) (c₀ .history) (c₀ .progress) (c .rows) (c .history) (c .progress)
-  pub size : length (c .map) ≡ 512
+  pub size : length (c .map) ≡ maxRows
   pub low : t < j
   pub high : j ≤ old
   pub same : rowsOf old (c .rows) ≡ rowsOf old (c₀ .rows)
   pub mapped : Mapped (c .rows) (c .map) (c .progress .count) t j
   pub known : (ms : List ℕ) (k : ℕ) → t ≤ k → k < j →
-      eqb (getD (c .map) k 0) 65535 ≡ not (eqb k t || isBelow (decodeParts old (c₀ .rows) ms) t k)
+      eqb (getD (c .map) k 0) noCopy ≡ not (eqb k t || isBelow (decodeParts old (c₀ .rows) ms) t k)
   pub rest : (g z : ℕ) (ms : List ℕ) →
       copyEach z (decodeParts old (c₀ .rows) ms) t g (descendantsFrom (decodeParts old (c₀ .rows) ms) t j (old - j))
       (copiedIn (c .map) t (j - t)) (stateOf (c .rows) ms (c .history) (c .progress)) ≡
@@ -62,8 +63,8 @@ module _ {old t : ℕ} {ws₀ h₀ m₀ : List ℕ} {p₀ : Progress} (pre : Sca
             inr (subst (λ (i : ℕ). IsCopy ws₀ (p₀ .count) i (getD m₀ i 0)) e (pre .mapped));
         known = λ ms k a b.
             let e : k ≡ t = omega arith in
-            let f : getD m₀ t 0 ≡ 65535 → ⊥ = λ q. omega (arith, pre .mapped .0, pre .held .few) in
-            rw (e, ne-eqb (getD m₀ t 0) 65535 f, eq-eqb t t refl);
+            let f : getD m₀ t 0 ≡ noCopy → ⊥ = λ q. omega (arith, pre .mapped .0, pre .held .few) in
+            rw (e, ne-eqb (getD m₀ t 0) noCopy f, eq-eqb t t refl);
         rest = λ g z ms.
             let e : t + 1 - t ≡ 1 = omega arith in
             ap (λ (i : ℕ).
@@ -114,7 +115,7 @@ module _ {old t : ℕ} {ws₀ h₀ m₀ : List ℕ} {p₀ : Progress} (pre : Sca
       sized : j < length m
       sized = omega (arith, pre .room, c .after .rows, c .after .held .few, c .size)
 
-      small : p .count < 65535
+      small : p .count < noCopy
       small = omega (arith, c .after .held .few)
 
       module _ {ws′ h′ m′ : List ℕ} {r : Progress} (post : NextPost t j (copier ws h m p) (copier ws′ h′ m′ r)) where
@@ -162,7 +163,7 @@ module _ {old t : ℕ} {ws₀ h₀ m₀ : List ℕ} {p₀ : Progress} (pre : Sca
                   (omega (arith, pre .room, c .after .rows, a .rows)) (held-within (a .held)) (next-old copying-next post n) ∙ c .same;
               mapped = next-mapped copying-next post n;
               known = λ ms k e f.
-                  ap (λ (v : List ℕ). eqb (getD v k 0) 65535) (post .map) ∙
+                  ap (λ (v : List ℕ). eqb (getD v k 0) noCopy) (post .map) ∙
                   known-next (decodeParts old ws₀ ms) (lower-before (pre .held) old (pre .room) ms) t j (c .low) m (linkIn (getD ws j 0))
                   (parent-x ms) (c .known ms) (p .count) small sized k e f;
               rest = λ g z ms. then-goes (next g z ms) z [] ws′ ms h′ r n (turn g z ms);

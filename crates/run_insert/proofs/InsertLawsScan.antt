@@ -19,7 +19,7 @@ use Rattle.model.proofs.BoolLaws.{by-cases, cond-true, cond-false, eq-cases}
 use Rattle.model.proofs.Collect.{collect-append, collect-none}
 use Rattle.model.proofs.Below.{Below, under, further, below-is}
 use Rattle.plan_table.specs.Packed.{ofLink}
-use Rattle.run_insert.specs.Inserting.{copiedIn, copyLink, copyBy}
+use Rattle.run_insert.specs.Inserting.{copiedIn, copyLink, copyBy, noCopy}
 
 thenRow-gives : (o : Out) (f : State → Out) → thenRow (thenRow o (λ (u : State). gives [] u)) f ≡ thenRow o f
 thenRow-gives (refused x) f = refl
@@ -69,7 +69,7 @@ copiedIn-set m t (suc n) j v h =
     let e : getD (set m j v) (t + n) 0 ≡ getD m (t + n) 0 = getD-set-other m j (t + n) v 0 (λ q. omega arith) in
     rw (e, copiedIn-set m t n j v (omega arith))
 
-copyOf-copied : (m : List ℕ) (t n q : ℕ) → t ≤ q → q < t + n → (getD m q 0 ≡ 65535 → ⊥) → copyOf q (copiedIn m t n) ≡ some (getD m q 0)
+copyOf-copied : (m : List ℕ) (t n q : ℕ) → t ≤ q → q < t + n → (getD m q 0 ≡ noCopy → ⊥) → copyOf q (copiedIn m t n) ≡ some (getD m q 0)
 unfolding copyOf copiedIn
 copyOf-copied m t zero q h l f = absurd (omega arith)
 copyOf-copied m t (suc n) q h l f = by-cases (eqb (t + n) q) (λ z. here (eqb-true (t + n) q z))
@@ -77,11 +77,11 @@ copyOf-copied m t (suc n) q h l f = by-cases (eqb (t + n) q) (λ z. here (eqb-tr
   where
     here : t + n ≡ q → copyOf q (copiedIn m t (suc n)) ≡ some (getD m q 0)
     here z =
-        let y : getD m (t + n) 0 ≡ 65535 → ⊥ = λ y. f (ap (λ (j : ℕ). getD m j 0) (sym z) ∙ y) in
-        rw (ne-eqb (getD m (t + n) 0) 65535 y, eq-eqb (t + n) q z) (ap (λ (j : ℕ). some (getD m j 0)) z)
+        let y : getD m (t + n) 0 ≡ noCopy → ⊥ = λ y. f (ap (λ (j : ℕ). getD m j 0) (sym z) ∙ y) in
+        rw (ne-eqb (getD m (t + n) 0) noCopy y, eq-eqb (t + n) q z) (ap (λ (j : ℕ). some (getD m j 0)) z)
 
     there : eqb (t + n) q ≡ false → copyOf q (copiedIn m t n) ≡ some (getD m q 0) → copyOf q (copiedIn m t (suc n)) ≡ some (getD m q 0)
-    there z e = by-cases (eqb (getD m (t + n) 0) 65535) (λ w. rw w e) (λ w. rw (w, z) e)
+    there z e = by-cases (eqb (getD m (t + n) 0) noCopy) (λ w. rw w e) (λ w. rw (w, z) e)
 
 -- THE LINK to the parent's copy, by the tests
 module _ (m : List ℕ) (t l : ℕ) where
@@ -92,28 +92,28 @@ module _ (m : List ℕ) (t l : ℕ) where
     pub link-low : l - 1 < t → copyLink m t l ≡ 0
     link-low h = rw (ne-eqb l 0 some-parent, lt-ltb (l - 1) t h)
 
-    pub link-out : t ≤ l - 1 → getD m (l - 1) 0 ≡ 65535 → copyLink m t l ≡ 0
+    pub link-out : t ≤ l - 1 → getD m (l - 1) 0 ≡ noCopy → copyLink m t l ≡ 0
     link-out h e = rw (ne-eqb l 0 some-parent, le-ltb (l - 1) t h, e)
 
-    pub link-in : t ≤ l - 1 → (getD m (l - 1) 0 ≡ 65535 → ⊥) → copyLink m t l ≡ getD m (l - 1) 0 + 1
-    link-in h e = rw (ne-eqb l 0 some-parent, le-ltb (l - 1) t h, ne-eqb (getD m (l - 1) 0) 65535 e)
+    pub link-in : t ≤ l - 1 → (getD m (l - 1) 0 ≡ noCopy → ⊥) → copyLink m t l ≡ getD m (l - 1) 0 + 1
+    link-in h e = rw (ne-eqb l 0 some-parent, le-ltb (l - 1) t h, ne-eqb (getD m (l - 1) 0) noCopy e)
 
 -- what a link that is not 0 says
 pub record Linked (m : List ℕ) (t l : ℕ) : Type 0 where
   pub parent : l ≡ 0 → ⊥
   pub low : t ≤ l - 1
-  pub copied : getD m (l - 1) 0 ≡ 65535 → ⊥
+  pub copied : getD m (l - 1) 0 ≡ noCopy → ⊥
   pub is : copyLink m t l ≡ getD m (l - 1) 0 + 1
 
 link-cases : {P : Type 0} (m : List ℕ) (t l : ℕ) →
-    (l ≡ 0 → P) → ((l ≡ 0 → ⊥) → l - 1 < t → P) → ((l ≡ 0 → ⊥) → t ≤ l - 1 → getD m (l - 1) 0 ≡ 65535 → P) → (Linked m t l → P) → P
+    (l ≡ 0 → P) → ((l ≡ 0 → ⊥) → l - 1 < t → P) → ((l ≡ 0 → ⊥) → t ≤ l - 1 → getD m (l - 1) 0 ≡ noCopy → P) → (Linked m t l → P) → P
 link-cases m t l a b c d =
     eq-cases l 0 a
     (λ f.
     by-cases (ltb (l - 1) t) (λ g. b f (ltb-true (l - 1) t g))
     (λ g.
     let h = ltb-false (l - 1) t g in
-    eq-cases (getD m (l - 1) 0) 65535 (c f h)
+    eq-cases (getD m (l - 1) 0) noCopy (c f h)
     (λ y. d (record { parent = f; low = h; copied = y; is = link-in m t l f h y }))))
 
 pub linked-at : (m : List ℕ) (t l : ℕ) → (copyLink m t l ≡ 0 → ⊥) → Linked m t l
@@ -124,7 +124,7 @@ linked-at m t l n =
 -- ONE TURN of the scan at row j, which has the link l: what is known of the rows since top decides
 module _ (x : model.Table) (lower : (i p : ℕ) → model.rowAt x i .parent ≡ some p → p < i) (t j : ℕ) (past : t < j) (m : List ℕ)
     (l : ℕ) (here : model.rowAt x j .parent ≡ ofLink l)
-    (known : (k : ℕ) → t ≤ k → k < j → eqb (getD m k 0) 65535 ≡ not (eqb k t || isBelow x t k)) where
+    (known : (k : ℕ) → t ≤ k → k < j → eqb (getD m k 0) noCopy ≡ not (eqb k t || isBelow x t k)) where
   parent-some : (l ≡ 0 → ⊥) → model.rowAt x j .parent ≡ some (l - 1)
   parent-some f = here ∙ rw (ne-eqb l 0 f)
 
@@ -139,13 +139,13 @@ module _ (x : model.Table) (lower : (i p : ℕ) → model.rowAt x i .parent ≡ 
       (λ f h e.
       below-child x lower t j (l - 1) (parent-some f) ∙
       not-true (eqb (l - 1) t || isBelow x t (l - 1))
-      (sym (known (l - 1) h (lower j (l - 1) (parent-some f))) ∙ eq-eqb (getD m (l - 1) 0) 65535 e) ∙
+      (sym (known (l - 1) h (lower j (l - 1) (parent-some f))) ∙ eq-eqb (getD m (l - 1) 0) noCopy e) ∙
       sym (ap (λ (n : ℕ). not (eqb n 0)) (link-out m t l f h e)))
       (λ k.
       let z : getD m (l - 1) 0 + 1 ≡ 0 → ⊥ = λ q. omega arith in
       below-child x lower t j (l - 1) (parent-some (k .parent)) ∙
       not-false (eqb (l - 1) t || isBelow x t (l - 1))
-      (sym (known (l - 1) (k .low) (lower j (l - 1) (parent-some (k .parent)))) ∙ ne-eqb (getD m (l - 1) 0) 65535 (k .copied)) ∙
+      (sym (known (l - 1) (k .low) (lower j (l - 1) (parent-some (k .parent)))) ∙ ne-eqb (getD m (l - 1) 0) noCopy (k .copied)) ∙
       sym (ap (λ (n : ℕ). not (eqb n 0)) (k .is) ∙ ap not (ne-eqb (getD m (l - 1) 0 + 1) 0 z)))
 
   copy-row : (g : ℕ) → (copyLink m t l ≡ 0 → ⊥) → copyRow x t g j (copiedIn m t (j - t)) ≡ model.withParent (model.rowAt x j) (ofLink
@@ -162,15 +162,15 @@ module _ (x : model.Table) (lower : (i p : ℕ) → model.rowAt x i .parent ≡ 
       copyOf-copied m t (j - t) (l - 1) (k .low) b (k .copied) ∙
       sym (ap ofLink (k .is) ∙ rw (ne-eqb (getD m (l - 1) 0 + 1) 0 z, w)))
 
-  module _ (c : ℕ) (few : c < 65535) (sized : j < length m) where
+  module _ (c : ℕ) (few : c < noCopy) (sized : j < length m) where
     abbrev map′ : List ℕ
-    map′ = set m j (cond (eqb (copyLink m t l) 0) 65535 c)
+    map′ = set m j (cond (eqb (copyLink m t l) 0) noCopy c)
 
     passed : copiedIn map′ t (j - t) ≡ copiedIn m t (j - t)
-    passed = copiedIn-set m t (j - t) j (cond (eqb (copyLink m t l) 0) 65535 c) (omega arith)
+    passed = copiedIn-set m t (j - t) j (cond (eqb (copyLink m t l) 0) noCopy c) (omega arith)
 
-    here-map : getD map′ j 0 ≡ cond (eqb (copyLink m t l) 0) 65535 c
-    here-map = getD-set-same m j (cond (eqb (copyLink m t l) 0) 65535 c) 0 sized
+    here-map : getD map′ j 0 ≡ cond (eqb (copyLink m t l) 0) noCopy c
+    here-map = getD-set-same m j (cond (eqb (copyLink m t l) 0) noCopy c) 0 sized
 
     at-seam : t + (j - t) ≡ j
     at-seam = omega arith
@@ -181,35 +181,35 @@ module _ (x : model.Table) (lower : (i p : ℕ) → model.rowAt x i .parent ≡ 
     copied-out : copyLink m t l ≡ 0 → copiedIn map′ t (j + 1 - t) ≡ copiedIn m t (j - t)
     unfolding copiedIn
     copied-out e =
-        let y : getD map′ (t + (j - t)) 0 ≡ 65535 = ap (λ (i : ℕ). getD map′ i 0) at-seam ∙ here-map ∙ rw e in
+        let y : getD map′ (t + (j - t)) 0 ≡ noCopy = ap (λ (i : ℕ). getD map′ i 0) at-seam ∙ here-map ∙ rw e in
         ap (copiedIn map′ t) next-fuel ∙ rw y passed
 
     copied-in : (copyLink m t l ≡ 0 → ⊥) → copiedIn map′ t (j + 1 - t) ≡ record { old = j; new = c } ∷ copiedIn m t (j - t)
     unfolding copiedIn
     copied-in n =
         let y : getD map′ (t + (j - t)) 0 ≡ c = ap (λ (i : ℕ). getD map′ i 0) at-seam ∙ here-map ∙ rw (ne-eqb (copyLink m t l) 0 n) in
-        let z : c ≡ 65535 → ⊥ = λ q. omega arith in
+        let z : c ≡ noCopy → ⊥ = λ q. omega arith in
         ap (copiedIn map′ t) next-fuel ∙
-        rw (y, ne-eqb c 65535 z)
+        rw (y, ne-eqb c noCopy z)
         (ap (λ (cs : List Copied). record { old = t + (j - t); new = c } ∷ cs) passed ∙
         ap (λ (i : ℕ). record { old = i; new = c } ∷ copiedIn m t (j - t)) at-seam)
 
     -- known of one row more
-    pub known-next : (k : ℕ) → t ≤ k → k < j + 1 → eqb (getD map′ k 0) 65535 ≡ not (eqb k t || isBelow x t k)
+    pub known-next : (k : ℕ) → t ≤ k → k < j + 1 → eqb (getD map′ k 0) noCopy ≡ not (eqb k t || isBelow x t k)
     known-next k a b = eq-cases k j at old
       where
-        old : (k ≡ j → ⊥) → eqb (getD map′ k 0) 65535 ≡ not (eqb k t || isBelow x t k)
+        old : (k ≡ j → ⊥) → eqb (getD map′ k 0) noCopy ≡ not (eqb k t || isBelow x t k)
         old f =
-            ap (λ (n : ℕ). eqb n 65535) (getD-set-other m j k (cond (eqb (copyLink m t l) 0) 65535 c) 0 f) ∙ known k a (omega (arith, f))
+            ap (λ (n : ℕ). eqb n noCopy) (getD-set-other m j k (cond (eqb (copyLink m t l) 0) noCopy c) 0 f) ∙ known k a (omega (arith, f))
 
-        at : k ≡ j → eqb (getD map′ k 0) 65535 ≡ not (eqb k t || isBelow x t k)
+        at : k ≡ j → eqb (getD map′ k 0) noCopy ≡ not (eqb k t || isBelow x t k)
         at e =
             let f : j ≡ t → ⊥ = λ q. omega arith in
-            let z : c ≡ 65535 → ⊥ = λ q. omega arith in
-            ap (λ (i : ℕ). eqb (getD map′ i 0) 65535) e ∙ ap (λ (n : ℕ). eqb n 65535) here-map ∙
+            let z : c ≡ noCopy → ⊥ = λ q. omega arith in
+            ap (λ (i : ℕ). eqb (getD map′ i 0) noCopy) e ∙ ap (λ (n : ℕ). eqb n noCopy) here-map ∙
             by-cases (eqb (copyLink m t l) 0)
             (λ y. let b : isBelow x t j ≡ false = below-link ∙ ap not y in rw (y, e, ne-eqb j t f, b))
-            (λ y. let b : isBelow x t j ≡ true = below-link ∙ ap not y in rw (y, e, ne-eqb j t f, ne-eqb c 65535 z, b))
+            (λ y. let b : isBelow x t j ≡ true = below-link ∙ ap not y in rw (y, e, ne-eqb j t f, ne-eqb c noCopy z, b))
 
     -- the rest of the scan, from here and from the next row
     pub copy-turn : (m′ : List ℕ) → m′ ≡ map′ → (z g n : ℕ) (s : State) → model.count (s .plan) ≡ c → j < n →

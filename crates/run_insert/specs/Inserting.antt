@@ -18,11 +18,15 @@ use Rattle.run_updates.specs.declared.state.Progress.{Progress}
 abbrev pub before : (old : ℕ) → State → model.Table
 before n s = model.table (take n (s .plan .rows)) (s .plan .marks)
 
+-- THE MAP of copies has this number at a row without copy
+abbrev pub noCopy : ℕ
+noCopy = 65535
+
 -- THE COPIER at one moment: the areas that it writes, and how far the run has come
 pub record Copier : Type 0 where
   pub rows : List ℕ  -- the table's packed rows
   pub history : List ℕ  -- the history's bytes, and behind them the rest of its area
-  pub map : List ℕ  -- at a row's number its copy's, or 65,535
+  pub map : List ℕ  -- at a row's number its copy's, or noCopy
   pub progress : Progress  -- the refusal, and how many rows, bytes and records there are
 
 -- from a function's parameters
@@ -37,11 +41,11 @@ Copies f c c′ = Updated f [] (c .rows) (c .history) (c .progress) (c′ .rows)
 unfoldable pub copiedIn : (map : List ℕ) → (top : ℕ) → ℕ → List Copied
 copiedIn m t zero = []
 copiedIn m t (suc n) =
-    cond (eqb (getD m (t + n) 0) 65535) (copiedIn m t n) (record { old = t + n; new = getD m (t + n) 0 } ∷ copiedIn m t n)
+    cond (eqb (getD m (t + n) 0) noCopy) (copiedIn m t n) (record { old = t + n; new = getD m (t + n) 0 } ∷ copiedIn m t n)
 
 -- the link to the copy of this parent; 0 if the parent was not copied since top
 abbrev pub copyLink : (map : List ℕ) → (top link : ℕ) → ℕ
-copyLink m t l = cond (eqb l 0) 0 (cond (ltb (l - 1) t) 0 (cond (eqb (getD m (l - 1) 0) 65535) 0 (getD m (l - 1) 0 + 1)))
+copyLink m t l = cond (eqb l 0) 0 (cond (ltb (l - 1) t) 0 (cond (eqb (getD m (l - 1) 0) noCopy) 0 (getD m (l - 1) 0 + 1)))
 
 -- a copy is a row of the table, and of the same kind
 abbrev pub IsCopy : (rows : List ℕ) → (count row copy : ℕ) → Type 0
@@ -50,7 +54,7 @@ IsCopy ws n k c =
 
 -- each row from top up to another has a copy or none
 abbrev pub Mapped : (rows map : List ℕ) → (count top row : ℕ) → Type 0
-Mapped ws m n t j = (k : ℕ) → t ≤ k → k < j → (getD m k 0 ≡ 65535) ⊎ IsCopy ws n k (getD m k 0)
+Mapped ws m n t j = (k : ℕ) → t ≤ k → k < j → (getD m k 0 ≡ noCopy) ⊎ IsCopy ws n k (getD m k 0)
 
 -- ONE ROW of the scan, with the link to its parent's copy
 abbrev pub nextLink : (rows map : List ℕ) → (top row : ℕ) → ℕ
@@ -67,7 +71,7 @@ pub record NextPre (t j : ℕ) (c : Copier) : Type 0 where
 
 pub record NextPost (t j : ℕ) (c c′ : Copier) : Type 0 where
   pub updated : Copies (λ z s. copyBy z (rowOf (getD (c .rows) j 0)) (nextLink (c .rows) (c .map) t j) s) c c′
-  pub map : c′ .map ≡ set (c .map) j (cond (eqb (nextLink (c .rows) (c .map) t j) 0) 65535 (c .progress .count))
+  pub map : c′ .map ≡ set (c .map) j (cond (eqb (nextLink (c .rows) (c .map) t j) 0) noCopy (c .progress .count))
 
 -- THE SCAN past top
 pub record ScanPre (old t : ℕ) (c : Copier) : Type 0 where

@@ -15,6 +15,7 @@ use Rattle.model.specs.Table as model
 use Rattle.model.specs.Sweep.{through}
 use Rattle.model.specs.Step.{parentIs}
 use Rattle.model.proofs.BoolLaws.{by-cases, cond-true, cond-false, eq-cases}
+use Rattle.model.specs.Limits.{maxRows, maxLinks}
 use Rattle.plan_table.specs.Packed.{ofLink, decodeParts, linkIn}
 use Rattle.plan_table.proofs.PackedLaws.{count-decode}
 use Rattle.plan_table.proofs.DecodeLaws.{parent-linked, link-low, isThe-linked}
@@ -37,18 +38,18 @@ module _ (ws : List ℕ) (n : ℕ) (held : RowsHeld ws n) where
   link-below : (j : ℕ) → j < n → linkIn (getD ws j 0) ≤ j
   link-below j h = link-low n ws [] within j h (held .lower j)
 
-  pub link-in : (j : ℕ) → j < n → linkIn (getD ws j 0) < 513
+  pub link-in : (j : ℕ) → j < n → linkIn (getD ws j 0) < maxLinks
   link-in j h = omega (arith, link-below j h, held .few)
 
   -- DOWN
   module _ (d : Bool) (fs : List ℕ) where
-    pub descending-none : (rs : List ℕ) → rs ≡ replicate 513 0 → Descending ws n d fs 0 rs
+    pub descending-none : (rs : List ℕ) → rs ≡ replicate maxLinks 0 → Descending ws n d fs 0 rs
     descending-none rs e =
         record {
           size = ap length e;
           none = ap (λ (l : List ℕ). getD l 0 0) e;
           done = λ ms v f k h. absurd (omega arith);
-          rest = λ k h l. ap (λ (v : List ℕ). getD v (k + 1) 0) e ∙ getD-replicate 513 (k + 1) 0 0 (omega arith);
+          rest = λ k h l. ap (λ (v : List ℕ). getD v (k + 1) 0) e ∙ getD-replicate maxLinks (k + 1) 0 0 (omega arith);
         }
 
     module _ (j : ℕ) (h : j < n) (rs : List ℕ) (s : Descending ws n d fs j rs) where
@@ -130,13 +131,13 @@ module _ (ws : List ℕ) (n : ℕ) (held : RowsHeld ws n) where
     descended-all j rs l s = record { size = s .size; flags = λ ms v f k h. s .done ms v f k (omega arith) }
 
     -- UP
-    pub climbing-none : (rs : List ℕ) → rs ≡ replicate 513 0 → Climbing ws n d fs n rs
+    pub climbing-none : (rs : List ℕ) → rs ≡ replicate maxLinks 0 → Climbing ws n d fs n rs
     unfolding anyFrom
     climbing-none rs e =
         record {
           size = ap length e;
           flags = λ ms v f j h.
-              ap (λ (l : List ℕ). getD l (j + 1) 0) e ∙ getD-replicate 513 (j + 1) 0 0 (omega arith) ∙
+              ap (λ (l : List ℕ). getD l (j + 1) 0) e ∙ getD-replicate maxLinks (j + 1) 0 0 (omega arith) ∙
               ap (λ (a : ℕ). bit (anyFrom (childCounts (decodeParts n ws ms) d v j) n a)) (nothing);
         }
       where
@@ -203,7 +204,7 @@ module _ (ws : List ℕ) (n : ℕ) (held : RowsHeld ws n) where
                   ap (λ (t : Bool). t || anyFrom (childCounts (decodeParts n ws ms) d v j) (k + 1) (n - (k + 1))) (child ms v f j true e
                   ∙ ap (λ (a : Bool). a && true) q)))
 
-              there : (ms v : List ℕ) → Flagged v fs → (j : ℕ) → j < 512 → eqb l (j + 1) ≡ false →
+              there : (ms v : List ℕ) → Flagged v fs → (j : ℕ) → j < maxRows → eqb l (j + 1) ≡ false →
                   getD (set rs l 1) (j + 1) 0 ≡ bit (anyFrom (childCounts (decodeParts n ws ms) d v j) k (n - k))
               there ms v f j u q =
                   getD-set-other rs l (j + 1) 1 0 (λ y. eqb-false l (j + 1) q (sym y)) ∙ s .flags ms v f j u ∙

@@ -10,11 +10,11 @@ use lib.Dec.{eqb}
 use lib.ListN.{length, getD, take, drop, set, length-set, length-drop, drop-of-length-le}
 use lib.Seq.{getD-set-same, getD-set-other, drop-drop}
 use borrow.Author.Tests.{lt-ltb, le-ltb, le-leb, lt-leb, eq-eqb, ne-eqb, eqb-true, eqb-false}
-use Rattle.model.specs.Limits.{maxHistory}
+use Rattle.model.specs.Limits.{maxHistory, maxName}
 use Rattle.model.specs.Base.{any}
 use Rattle.model.specs.Refusal.{refusal, fine, isFine, refusalAt}
 use Rattle.model.specs.Table as model
-use Rattle.model.specs.Stored.{numberAt, parentIn}
+use Rattle.model.specs.Stored.{numberAt, parentIn, noParent}
 use Rattle.model.specs.History.{historyForm, historySize, recordIn, madeElementKind, madeLeafKind, cutKind}
 use Rattle.model.specs.Undo.{Placed, Formed, refused, formed, formRefusal, withPlaced, formFrom, sameBool}
 use Rattle.model.specs.Undo.{sameParent}
@@ -80,10 +80,10 @@ module _ (s : List ℕ) (n : ℕ) where
               few = λ q. few;
             }
 
-        pub form-named : k ≡ madeElementKind → (getD s 3 0 ≡ 0 → ⊥) → getD s 3 0 ≤ 255 → FormPost s n 0
+        pub form-named : k ≡ madeElementKind → (getD s 3 0 ≡ 0 → ⊥) → getD s 3 0 ≤ maxName → FormPost s n 0
         form-named e t b =
             let l : 1 ≤ getD s 3 0 = omega (arith, t) in
-            form-by (rw (eq-eqb k madeElementKind e, le-leb 1 (getD s 3 0) l, le-leb (getD s 3 0) 255 b))
+            form-by (rw (eq-eqb k madeElementKind e, le-leb 1 (getD s 3 0) l, le-leb (getD s 3 0) maxName b))
 
         pub form-other : (k ≡ madeElementKind → ⊥) → FormPost s n 0
         form-other e =
@@ -268,11 +268,11 @@ pub kind-element : (w k : ℕ) → (kindIn w ≡ leafBits → ⊥) →
     not (eqb k madeLeafKind) ≡ sameBool (eqb (kindIn w) leafBits) (eqb k madeLeafKind)
 kind-element w k e = rw (ne-eqb (kindIn w) leafBits e)
 
-pub parent-none : (l v : ℕ) → v ≡ 65535 → eqb l 0 ≡ sameParent (ofLink l) (parentIn v)
-parent-none l v e = rw (eq-eqb v 65535 e) (by-cases (eqb l 0) (λ z. rw z) (λ z. rw z))
+pub parent-none : (l v : ℕ) → v ≡ noParent → eqb l 0 ≡ sameParent (ofLink l) (parentIn v)
+parent-none l v e = rw (eq-eqb v noParent e) (by-cases (eqb l 0) (λ z. rw z) (λ z. rw z))
 
-pub parent-some : (l v : ℕ) → (v ≡ 65535 → ⊥) → eqb l (v + 1) ≡ sameParent (ofLink l) (parentIn v)
-parent-some l v e = rw (ne-eqb v 65535 e) (by-cases (eqb l 0) (λ z. root z (eqb-true l 0 z)) (λ z. child z (eqb-false l 0 z)))
+pub parent-some : (l v : ℕ) → (v ≡ noParent → ⊥) → eqb l (v + 1) ≡ sameParent (ofLink l) (parentIn v)
+parent-some l v e = rw (ne-eqb v noParent e) (by-cases (eqb l 0) (λ z. root z (eqb-true l 0 z)) (λ z. child z (eqb-false l 0 z)))
   where
     root : eqb l 0 ≡ true → l ≡ 0 → eqb l (v + 1) ≡ sameParent (ofLink l) (some v)
     root z y = let n : l ≡ v + 1 → ⊥ = λ q. omega arith in rw (z, ne-eqb l (v + 1) n)

@@ -12,6 +12,7 @@ use Rattle.model.specs.History.{Record, made, isCut, times, IsInRange, AllInRan
 use Rattle.model.proofs.FormLaws.{recordBytes-some, size-back, recordIn-back}
 use Rattle.model.proofs.All.{all-snoc}
 use Rattle.model.proofs.HistoryLaws.{times-snoc}
+use Rattle.model.specs.Limits.{maxHistory}
 use Rattle.plan_table.specs.Packed.{rowOf, linkIn, tagIn}
 use Rattle.run_updates.specs.Tallying.{plusMade, plusCut}
 use Rattle.run_updates.specs.declared.tally.Tally.{Tally}
@@ -60,7 +61,7 @@ module _ (b : List ℕ) (t : Tally) (h : Recorded b t) (r : Record) (f : IsInRan
   recordsIn-push = ap recordsIn grown-bytes ∙ recordsIn-bytes (recordsIn b ++ (r ∷ [])) (all-snoc (h .ranges) f)
 
   recorded-more : (u : Tally) → u .records ≡ t .records + 1 → u .made + u .cut ≡ u .records → t .cut + cond (isCut r) 1 0 ≡ u .cut →
-      t .records < 2048 → Recorded (b ++ recordBytes r) u
+      t .records < maxHistory → Recorded (b ++ recordBytes r) u
   recorded-more u e s g l =
       record {
         ranges = rw recordsIn-push (all-snoc (h .ranges) f);
@@ -71,10 +72,10 @@ module _ (b : List ℕ) (t : Tally) (h : Recorded b t) (r : Record) (f : IsInRan
         limit = omega arith;
       }
 
-  pub recorded-made : isCut r ≡ false → t .records < 2048 → Recorded (b ++ recordBytes r) (plusMade t)
+  pub recorded-made : isCut r ≡ false → t .records < maxHistory → Recorded (b ++ recordBytes r) (plusMade t)
   recorded-made e l = recorded-more (plusMade t) refl (omega (arith, h .sum)) (rw e (omega arith)) l
 
-  pub recorded-cut : isCut r ≡ true → t .records < 2048 → Recorded (b ++ recordBytes r) (plusCut t)
+  pub recorded-cut : isCut r ≡ true → t .records < maxHistory → Recorded (b ++ recordBytes r) (plusCut t)
   recorded-cut e l = recorded-more (plusCut t) refl (omega (arith, h .sum)) (rw e (omega arith)) l
 
 -- in its area

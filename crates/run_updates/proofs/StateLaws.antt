@@ -16,6 +16,7 @@ use Rattle.model.specs.Base.{nothing, over}
 use Rattle.plan_table.specs.Packed.{decodeParts, partsFit, Canonical}
 use Rattle.plan_table.proofs.PackedLaws.{count-decode}
 use Rattle.model.proofs.ListLaws.{length-over}
+use Rattle.model.specs.Limits.{maxRows, maxHistory, historyNeed}
 use Rattle.plan_table.proofs.FittedLaws.{fits-at}
 use Rattle.run_updates.specs.declared.tally.Tally.{Tally}
 use Rattle.run_updates.specs.State.{recordsFrom, recordsIn, started, stopped, stateOf, outcome, Recorded, Held, After, Updated}
@@ -24,7 +25,7 @@ use Rattle.run_updates.proofs.HistoryLaws.{recordsIn-push, take-over, d
 
 -- A RECORD APPENDED to what is held
 module _ {ws h : List ℕ} {p : Progress} (held : Held ws h p) (r : Record) (n : ℕ) (size : length (recordBytes r) ≡ n) (small : n ≤ 6)
-    (m : p .tally .records < 2048) where
+    (m : p .tally .records < maxHistory) where
   append-room : p .bytes + n ≤ length h
   append-room = omega (arith, held .size, held .area)
 
@@ -47,7 +48,7 @@ module _ {ws h : List ℕ} {p : Progress} (held : Held ws h p) (r : Record) (n :
 
   -- beside it the rows are others, and no fewer
   pub append-after : {t : Tally} → Recorded (take (p .bytes) h ++ recordBytes r) t → t .records ≡ p .tally .records + 1 →
-      {ws′ : List ℕ} {c : ℕ} → length ws′ ≡ length ws → p .count ≤ c → c ≤ 512 → Canonical c ws′ → Tree (decodeParts c ws′ []) →
+      {ws′ : List ℕ} {c : ℕ} → length ws′ ≡ length ws → p .count ≤ c → c ≤ maxRows → Canonical c ws′ → Tree (decodeParts c ws′ []) →
       After ws h p ws′ (over (p .bytes) (recordBytes r) h) (record { number = 0; count = c; bytes = p .bytes + n; tally = t })
   append-after {t} recorded more rows grown few canonical tree =
       record {
@@ -78,7 +79,8 @@ tree-rows n ws ms t =
       once = λ d e i p q. absurd (Option·none-ne-some i p);
     }
 
-pub held-start : (n : ℕ) (ws ms h : List ℕ) → partsFit n ws ms ≡ true → length ws ≡ 512 → 12288 ≤ length h → Held ws h (started n)
+pub held-start : (n : ℕ) (ws ms h : List ℕ) → partsFit n ws ms ≡ true → length ws ≡ maxRows → historyNeed ≤ length h →
+    Held ws h (started n)
 unfolding recordsFrom historyBytes times
 held-start n ws ms h f l a =
     let k = fits-at n ws ms f in

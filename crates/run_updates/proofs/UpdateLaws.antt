@@ -19,6 +19,7 @@ use Rattle.model.specs.Table.{Tree}
 use Rattle.model.proofs.GrowLaws.{tree-withRow, tree-linked}
 use Rattle.model.proofs.FormLaws.{length-recordBytes}
 use Rattle.model.proofs.UndoLaws.{made-inRange}
+use Rattle.model.specs.Limits.{maxRows, maxHistory}
 use Rattle.plan_table.specs.Packed.{linkOf, rowOf, packRow, isPackedRow, withLink, decodeParts, Canonical, linkIn}
 use Rattle.plan_table.proofs.PackedLaws.{linkOf-ofLink, rowOf-packRow, packRow-rowOf, isPackedRow-packRow, canonical-push}
 use Rattle.plan_table.proofs.PackedLaws.{decode-linked, canonical-linked}
@@ -34,28 +35,28 @@ use Rattle.run_updates.proofs.StateLaws.{after-self, after-then, outcom
 
 -- NEW ROWS in the model
 module _ (z : ℕ) (r : model.Row) (s : State) where
-  pub newRow-full : 512 ≤ model.count (s .plan) → newRow z r s ≡ refused (refusal 10 z)
-  newRow-full h = rw (le-ltb (model.count (s .plan)) 512 h)
+  pub newRow-full : maxRows ≤ model.count (s .plan) → newRow z r s ≡ refused (refusal 10 z)
+  newRow-full h = rw (le-ltb (model.count (s .plan)) maxRows h)
 
-  pub newRow-over : model.count (s .plan) < 512 → 2048 ≤ length (s .history) → newRow z r s ≡ refused (refusal 9 z)
-  newRow-over h l = rw (lt-ltb (model.count (s .plan)) 512 h, le-ltb (length (s .history)) 2048 l)
+  pub newRow-over : model.count (s .plan) < maxRows → maxHistory ≤ length (s .history) → newRow z r s ≡ refused (refusal 9 z)
+  newRow-over h l = rw (lt-ltb (model.count (s .plan)) maxRows h, le-ltb (length (s .history)) maxHistory l)
 
-  pub newRow-room : model.count (s .plan) < 512 → length (s .history) < 2048 →
+  pub newRow-room : model.count (s .plan) < maxRows → length (s .history) < maxHistory →
       newRow z r s ≡ gives (model.count (s .plan) ∷ []) (withMade s r)
-  newRow-room h l = rw (lt-ltb (model.count (s .plan)) 512 h, lt-ltb (length (s .history)) 2048 l)
+  newRow-room h l = rw (lt-ltb (model.count (s .plan)) maxRows h, lt-ltb (length (s .history)) maxHistory l)
 
 -- A ROW MADE
 module _ {ws h : List ℕ} {p : Progress} {w : ℕ} (pre : NewPre ws h p w) where
   new-link : linkOf (rowOf w .parent) < 1024
   new-link = omega (arith, linkOf-ofLink (linkIn w))
 
-  pub new-full : 512 ≤ p .count → {ws′ h′ : List ℕ} {r : Progress} → r ≡ stopped p 10 →
+  pub new-full : maxRows ≤ p .count → {ws′ h′ : List ℕ} {r : Progress} → r ≡ stopped p 10 →
       Updated (λ z s. newRow z (rowOf w) s) (p .count ∷ []) ws h p ws′ h′ r
   new-full l e =
       updated-stopped 9 e
       (λ z ms. sym (newRow-full z (rowOf w) (stateOf ws ms h p) (omega (arith, held-count (pre .held) ms))))
 
-  pub new-over : p .count < 512 → 2048 ≤ p .tally .records → {ws′ h′ : List ℕ} {r : Progress} → r ≡ stopped p 9 →
+  pub new-over : p .count < maxRows → maxHistory ≤ p .tally .records → {ws′ h′ : List ℕ} {r : Progress} → r ≡ stopped p 9 →
       Updated (λ z s. newRow z (rowOf w) s) (p .count ∷ []) ws h p ws′ h′ r
   new-over l m e =
       updated-stopped 8 e
@@ -63,7 +64,7 @@ module _ {ws h : List ℕ} {p : Progress} {w : ℕ} (pre : NewPre ws h p w) wher
       sym (newRow-over z (rowOf w) (stateOf ws ms h p) (omega (arith, held-count (pre .held) ms))
       (omega (arith, pre .held .history .records))))
 
-  module _ (l : p .count < 512) (m : p .tally .records < 2048) where
+  module _ (l : p .count < maxRows) (m : p .tally .records < maxHistory) where
     abbrev entry : Record
     entry = made (p .count) (rowOf w)
 
@@ -155,13 +156,13 @@ module _ (z i : ℕ) (is : List ℕ) (s : State) where
   cut-none e = rw e
 
   module _ (q : ℕ) (e : model.rowAt (s .plan) i .parent ≡ some q) where
-    cut-over : 2048 ≤ length (s .history) → cutAll z (i ∷ is) s ≡ refused (refusal 9 z)
+    cut-over : maxHistory ≤ length (s .history) → cutAll z (i ∷ is) s ≡ refused (refusal 9 z)
     unfolding cutAll
-    cut-over h = rw (e, le-ltb (length (s .history)) 2048 h)
+    cut-over h = rw (e, le-ltb (length (s .history)) maxHistory h)
 
-    cut-room : length (s .history) < 2048 → cutAll z (i ∷ is) s ≡ cutAll z is (cutRow s i q)
+    cut-room : length (s .history) < maxHistory → cutAll z (i ∷ is) s ≡ cutAll z is (cutRow s i q)
     unfolding cutAll
-    cut-room h = rw (e, lt-ltb (length (s .history)) 2048 h)
+    cut-room h = rw (e, lt-ltb (length (s .history)) maxHistory h)
 
 -- A LINK CUT
 module _ {ws h : List ℕ} {p : Progress} {i : ℕ} (pre : CutPre ws h p i) where
@@ -185,16 +186,16 @@ module _ {ws h : List ℕ} {p : Progress} {i : ℕ} (pre : CutPre ws h p i) wher
     parent-here : (ms : List ℕ) → model.rowAt (decodeParts (p .count) ws ms) i .parent ≡ some (link - 1)
     parent-here ms = parent-at (p .count) ws ms (held-within (pre .held)) i (pre .row) n
 
-    pub cut-low : link - 1 < 512
+    pub cut-low : link - 1 < maxRows
     cut-low = omega (arith, pre .held .tree .parents i (link - 1) (parent-here []) .0, pre .row, pre .held .few)
 
-    pub cut-full : 2048 ≤ p .tally .records → {ws′ h′ : List ℕ} {r : Progress} → r ≡ stopped p 9 →
+    pub cut-full : maxHistory ≤ p .tally .records → {ws′ h′ : List ℕ} {r : Progress} → r ≡ stopped p 9 →
         Updated (λ z s. cutAll z (i ∷ []) s) [] ws h p ws′ h′ r
     cut-full m e =
         updated-stopped 8 e
         (λ z ms. sym (cut-over z i [] (stateOf ws ms h p) (link - 1) (parent-here ms) (omega (arith, pre .held .history .records))))
 
-    module _ (m : p .tally .records < 2048) where
+    module _ (m : p .tally .records < maxHistory) where
       abbrev cutEntry : Record
       cutEntry = cut i (link - 1)
 
@@ -254,7 +255,7 @@ cutAll-split z i is s = go (model.rowAt (s .plan) i .parent)
     go : (q : Option ℕ) → cutBy z i s q (λ (t : State). cutAll z is t) ≡
         thenRow (cutBy z i s q (λ (t : State). gives [] t)) (λ (t : State). cutAll z is t)
     go none = refl
-    go (some q) = by-cases (ltb (length (s .history)) 2048) (λ e. rw e) (λ e. rw e)
+    go (some q) = by-cases (ltb (length (s .history)) maxHistory) (λ e. rw e) (λ e. rw e)
 
 pub record Deleting (ws₀ h₀ : List ℕ) (p₀ : Progress) (v ws h : List ℕ) (p : Progress) (k : ℕ) : Type 0 where
   pub after : After ws₀ h₀ p₀ ws h p

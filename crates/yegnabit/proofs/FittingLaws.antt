@@ -7,7 +7,7 @@ use native.Mathlib.Omega.{arith}
 use lib.Dec.{leb}
 use lib.ListN.{getD}
 use borrow.Author.Tests.{le-leb}
-use Rattle.model.specs.Base.{areBytes}
+use Rattle.model.specs.Base.{areBytes, maxByte}
 use Rattle.model.specs.Stored.{Read, refused, got, readPlan}
 use Rattle.model.specs.Sweep.{swept}
 use Rattle.model.specs.Table as model
@@ -30,7 +30,7 @@ use Rattle.run_undo.specs.Undoing.{planUndone, undoneBy}
 pub bytes-known : (l : List ℕ) → ((i : ℕ) → getD l i 0 < 256) → areBytes l ≡ true
 unfolding areBytes
 bytes-known [] h = refl
-bytes-known (b ∷ l) h = and-both (leb b 255) (areBytes l) (le-leb b 255 (omega (arith, h 0))) (bytes-known l (λ i. h (suc i)))
+bytes-known (b ∷ l) h = and-both (leb b maxByte) (areBytes l) (le-leb b maxByte (omega (arith, h 0))) (bytes-known l (λ i. h (suc i)))
 
 pub read-fits : (p : List ℕ) → areBytes p ≡ true → fits (library.planRead p .table) ≡ true
 read-fits p b = go (readPlan p) refl

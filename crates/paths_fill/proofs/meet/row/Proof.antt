@@ -9,7 +9,7 @@ use borrow.Author.Tests.{eqb-true}
 use Rattle.model.proofs.BoolLaws.{and-left, and-right}
 use Rattle.paths_positions.specs.Answer.{meetAt, rowMeets}
 use Rattle.paths_positions.specs.Filled.{Filled}
-use Rattle.paths_positions.specs.Packed.{entryOf}
+use Rattle.paths_positions.specs.Packed.{entryOf, unionKind, plainRole}
 use Rattle.paths_cells.specs.Pairs.{marks, HasRows}
 use Rattle.paths_positions.specs.Packed.{entriesBy}
 use Rattle.paths_positions.proofs.AnyUpToLaws.{anyUpTo-one, anyUpTo-next, anyUpTo-found}
@@ -42,8 +42,8 @@ union-row-requires c κs =
     record {
       row = c9 .pre;
       position = c4 .unpacked .ensures;
-      union = eqb-true (c4 .unpacked .result .kind) 3 (and-left
-          (eqb (c4 .unpacked .result .kind) 3) _ (c .before .if1 .taken));
+      union = eqb-true (c4 .unpacked .result .kind) unionKind (and-left
+          (eqb (c4 .unpacked .result .kind) unionKind) _ (c .before .if1 .taken));
     }
 
 same-length : tie.Need-same-length Inv-loop μ-loop
@@ -60,8 +60,8 @@ returns c =
       filled = λ e. c2 .union-row .ensures .filled;
       met = plain-row
           (c12 .args .first .now) (c12 .args .second .now) (c12 .args .k) (c7 .unpacked .result) (c7 .unpacked .ensures) (eqb-true
-          (c7 .unpacked .result .role) 0 (and-right (eqb (c7 .unpacked .result .kind) 3) (eqb (c7 .unpacked .result .role) 0)
-          (c4 .if1 .taken))) (length (entriesBy (c12 .args .second .now)));
+          (c7 .unpacked .result .role) plainRole
+          (and-right (eqb (c7 .unpacked .result .kind) unionKind) (eqb (c7 .unpacked .result .role) plainRole) (c4 .if1 .taken))) (length (entriesBy (c12 .args .second .now)));
     }
 
 loop-holds : tie.Need-loop-holds Inv-loop μ-loop

@@ -9,6 +9,7 @@ use mathlib.Core.Path.{_≡_, refl, _∙_, ap}
 use Prim.Native.Nat.{ℕ, _≤_, _-_}
 use native.Mathlib.Omega.{arith}
 use borrow.Author.Needs.{needs}
+use Rattle.model.specs.Limits.{maxLinks}
 use Rattle.plan_sweep.proofs.sweep.renumber.Statement.{statement}
 use Rattle.plan_sweep.proofs.sweep.renumber.Tie as tie
 
@@ -44,7 +45,7 @@ link-here c =
       c3 .loop .inv .2,
     ))
 
-low : (c : tie.After-index Inv-loop μ-loop) → c .index .result < 513
+low : (c : tie.After-index Inv-loop μ-loop) → c .index .result < maxLinks
 low c =
     let c3 = c .before .before .before in
     let c6 = c3 .before .before .before in

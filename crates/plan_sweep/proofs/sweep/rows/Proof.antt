@@ -8,12 +8,13 @@ use mathlib.Core.Path.{_≡_, ap, subst}
 use Prim.Native.Nat.{ℕ, _≤_, _-_}
 use native.Mathlib.Omega.{arith}
 use borrow.Author.Needs.{needs}
+use Rattle.model.specs.Limits.{maxRows}
 use Rattle.plan_sweep.proofs.sweep.rows.Statement.{statement}
 use Rattle.plan_sweep.proofs.sweep.rows.Tie as tie
 
 abbrev Inv-loop : tie.InvT-loop
 Inv-loop rows marks count numbers₀ out₀ next₀ i₀ numbers out next i = (i ≤ count) × Sweeping (decodeParts count rows marks) i next
-    numbers out × (length out ≡ 512)
+    numbers out × (length out ≡ maxRows)
 
 abbrev μ-loop : tie.MeasureT-loop
 μ-loop rows marks count numbers₀ out₀ next₀ i₀ numbers out next i = count - i

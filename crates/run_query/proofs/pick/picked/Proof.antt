@@ -9,6 +9,7 @@ use mathlib.Core.List.{List}
 use mathlib.Core.Path.{_≡_, refl, _∙_, ap, subst}
 use native.Mathlib.Omega.{arith}
 use borrow.Author.Needs.{needs}
+use Rattle.model.specs.Limits.{maxRows}
 use Rattle.run_query.proofs.pick.picked.Statement.{statement}
 use Rattle.run_query.proofs.pick.picked.Tie as tie
 
@@ -50,7 +51,7 @@ index-requires c κs = search needs
 mul-is-picked : tie.Need-mul-is-picked Inv-loop μ-loop
 mul-is-picked c = search needs
 
-item-low : (c : tie.After-index Inv-loop μ-loop) → c .index .result < 512
+item-low : (c : tie.After-index Inv-loop μ-loop) → c .index .result < maxRows
 item-low c =
     let c3 = c .before .before .before in
     let c6 = c3 .before .before .before in

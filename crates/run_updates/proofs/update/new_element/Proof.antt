@@ -3,6 +3,7 @@ use Rattle.run_updates.proofs.UpdateLaws.{loose-pre, loose-made}
 use Rattle.model.proofs.TestLaws.{isIn-by}
 use mathlib.Core.Bool.{false}
 use borrow.Author.Needs.{needs}
+use Rattle.model.specs.Limits.{maxName}
 use Rattle.run_updates.proofs.update.new_element.Statement.{statement}
 use Rattle.run_updates.proofs.update.new_element.Tie as tie
 
@@ -13,7 +14,7 @@ new-row-requires : tie.Need-new-row-requires
 new-row-requires c κs =
     let c5 = c .before .before .before .before .before in
     loose-pre false (c5 .args .name .0) (c .element .ensures) (c5 .pre .held)
-    (isIn-by 1 255 (c5 .args .name .0) (c5 .pre .low) (c5 .pre .high))
+    (isIn-by 1 maxName (c5 .args .name .0) (c5 .pre .low) (c5 .pre .high))
 
 same-length : tie.Need-same-length
 same-length c = search needs

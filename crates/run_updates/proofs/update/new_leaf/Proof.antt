@@ -4,6 +4,7 @@ use mathlib.Core.Bool.{true}
 use borrow.Author.Tests.{le-leb}
 use native.Mathlib.Omega.{arith}
 use borrow.Author.Needs.{needs}
+use Rattle.model.specs.Base.{maxByte}
 use Rattle.run_updates.proofs.update.new_leaf.Statement.{statement}
 use Rattle.run_updates.proofs.update.new_leaf.Tie as tie
 
@@ -13,7 +14,7 @@ leaf-requires c κs = search needs
 new-row-requires : tie.Need-new-row-requires
 new-row-requires c κs =
     let c5 = c .before .before .before .before .before in
-    loose-pre true (c5 .args .value) (c .leaf .ensures) (c5 .pre) (le-leb (c5 .args .value) 255 (omega (arith, c5 .fits .value)))
+    loose-pre true (c5 .args .value) (c .leaf .ensures) (c5 .pre) (le-leb (c5 .args .value) maxByte (omega (arith, c5 .fits .value)))
 
 same-length : tie.Need-same-length
 same-length c = search needs
