@@ -61,7 +61,8 @@ returns c =
       met = plain-row
           (c12 .args .first .now) (c12 .args .second .now) (c12 .args .k) (c7 .unpacked .result) (c7 .unpacked .ensures) (eqb-true
           (c7 .unpacked .result .role) plainRole
-          (and-right (eqb (c7 .unpacked .result .kind) unionKind) (eqb (c7 .unpacked .result .role) plainRole) (c4 .if1 .taken))) (length (entriesBy (c12 .args .second .now)));
+          (and-right (eqb (c7 .unpacked .result .kind) unionKind) (eqb (c7 .unpacked .result .role) plainRole) (c4 .if1 .taken)))
+          (length (entriesBy (c12 .args .second .now)));
     }
 
 loop-holds : tie.Need-loop-holds Inv-loop μ-loop
