@@ -15,7 +15,7 @@ use Rattle.model.proofs.All.{all-at}
 use Rattle.model.proofs.ListLaws.{drop-take}
 use Rattle.plan_table.specs.Flags.{Within}
 use Rattle.run_query.specs.Values.{valueAt, Appended}
-use Rattle.run_operators.specs.Evaluating.{CopyPre, Copying}
+use Rattle.run_operators.specs.Evaluating.{CopyPre}
 
 -- what is below a place, and a value there, is kept where the area below a higher place is
 pub below-same : (w w′ : List ℕ) (t i : ℕ) → take t w′ ≡ take t w → i ≤ t → take i w′ ≡ take i w
@@ -55,7 +55,16 @@ module _ {v w : List ℕ} {from : ℕ} {w′ : List ℕ} {r : ℕ} (a : Appended
 pub rows-within : {n : ℕ} {v : List ℕ} → AreRows n v → Within v n
 rows-within a k = all-at 0 k a
 
--- COPIED item by item
+-- COPIED item by item; so far: up to k it is copied, the rest of the area is as it was
+pub record Copying (w : List ℕ) (from to top : ℕ) (w′ : List ℕ) (k at : ℕ) : Type 0 where
+  pub size : length w′ ≡ length w
+  pub low : from ≤ k
+  pub high : k ≤ to
+  pub place : at + from ≡ top + k
+  pub done : (i : ℕ) → top ≤ i → i < at → getD w′ i 0 ≡ getD w (from + (i - top)) 0
+  pub front : (i : ℕ) → i < top → getD w′ i 0 ≡ getD w i 0
+  pub rest : (i : ℕ) → at ≤ i → getD w′ i 0 ≡ getD w i 0
+
 pub copying-start : {w : List ℕ} {from to top : ℕ} → CopyPre w from to top → Copying w from to top w from top
 copying-start p =
     record {

@@ -52,16 +52,6 @@ pub record CopyPre (w : List ℕ) (from to top : ℕ) : Type 0 where
   pub room : top + (to - from) ≤ length w
   pub apart : (top ≤ from) ⊎ (to ≤ top)
 
--- so far: up to k it is copied, the rest of the area is as it was
-pub record Copying (w : List ℕ) (from to top : ℕ) (w′ : List ℕ) (k at : ℕ) : Type 0 where
-  pub size : length w′ ≡ length w
-  pub low : from ≤ k
-  pub high : k ≤ to
-  pub place : at + from ≡ top + k
-  pub done : (i : ℕ) → top ≤ i → i < at → getD w′ i 0 ≡ getD w (from + (i - top)) 0
-  pub front : (i : ℕ) → i < top → getD w′ i 0 ≡ getD w i 0
-  pub rest : (i : ℕ) → at ≤ i → getD w′ i 0 ≡ getD w i 0
-
 -- ANSWERS made of parts
 abbrev pub endedBy : Progress → (at next end : ℕ) → List Span → Evaluated
 endedBy p i j e ss = record { progress = p; place = cond (eqb (p .number) 0) j i; end = e; env = ss }

@@ -10,18 +10,30 @@ use lib.Dec.{eqb}
 use lib.ListN.{length, getD, set, replicate, length-set, getD-replicate}
 use lib.Seq.{getD-set-same, getD-set-other}
 use borrow.Author.Tests.{eqb-true, eqb-false}
-use Rattle.model.specs.Base.{among, bit}
+use Rattle.model.specs.Base.{any, among, bit}
 use Rattle.model.specs.Table as model
 use Rattle.model.specs.Sweep.{through}
-use Rattle.model.specs.Step.{parentIs}
+use Rattle.model.specs.Step.{reaches, parentIs}
 use Rattle.model.proofs.BoolLaws.{by-cases, cond-true, cond-false, eq-cases}
 use Rattle.model.specs.Limits.{maxRows, maxLinks}
 use Rattle.plan_table.specs.Packed.{ofLink, decodeParts, linkIn}
 use Rattle.plan_table.proofs.PackedLaws.{count-decode}
 use Rattle.plan_table.proofs.DecodeLaws.{parent-linked, link-low, isThe-linked}
-use Rattle.run_query.specs.Stepping.{Flagged, counted, descended, climbed, RowsHeld}
-use Rattle.run_query.specs.Stepping.{Reached, Descending, Climbing, anyFrom, upTo, childCounts}
-use Rattle.run_query.proofs.ReachLaws.{downTo, down-parent, up-children}
+use Rattle.run_query.specs.Stepping.{Flagged, counted, descended, climbed, RowsHeld, Reached}
+use Rattle.run_query.proofs.ReachLaws.{anyFrom, upTo, childCounts, downTo, down-parent, up-children}
+
+-- THE PASSES so far: down to a row, and up from one
+pub record Descending (ws : List ℕ) (n : ℕ) (d : Bool) (fs : List ℕ) (j : ℕ) (rs : List ℕ) : Type 0 where
+  pub size : length rs ≡ maxLinks
+  pub none : getD rs 0 0 ≡ 0
+  pub done : (ms v : List ℕ) → Flagged v fs → (k : ℕ) → k < j →
+      getD rs (k + 1) 0 ≡ bit (any (λ (i : ℕ). reaches (decodeParts n ws ms) (bit d) i k) v)
+  pub rest : (k : ℕ) → j ≤ k → k < maxRows → getD rs (k + 1) 0 ≡ 0
+
+pub record Climbing (ws : List ℕ) (n : ℕ) (d : Bool) (fs : List ℕ) (t : ℕ) (rs : List ℕ) : Type 0 where
+  pub size : length rs ≡ maxLinks
+  pub flags : (ms v : List ℕ) → Flagged v fs → (j : ℕ) → j < maxRows →
+      getD rs (j + 1) 0 ≡ bit (anyFrom (childCounts (decodeParts n ws ms) d v j) t (n - t))
 
 pub not-zero : (t : Bool) → not (eqb (bit t) 0) ≡ t
 not-zero true = refl

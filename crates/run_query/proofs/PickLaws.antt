@@ -10,10 +10,14 @@ use Rattle.model.specs.Base.{filtered}
 use Rattle.model.specs.Table as model
 use Rattle.model.specs.Step.{relates, isPicked, picked}
 use Rattle.model.proofs.ListLaws.{filtered-append}
-use Rattle.plan_table.specs.Packed.{decodeParts}
+use Rattle.plan_table.specs.Packed.{rowOf, decodeParts}
 use Rattle.plan_table.proofs.PackedLaws.{rowAt-decode}
-use Rattle.run_query.specs.Values.{valueAt, Appended, pickedRow}
+use Rattle.run_query.specs.Values.{valueAt, Appended}
 use Rattle.run_query.proofs.ValueLaws.{value-none, appended-none, appended-if}
+
+-- the packed row at a number is picked
+abbrev pub pickedRow : (rows : List ℕ) → (relation constant row : ℕ) → Bool
+pickedRow ws r c i = rowOf (getD ws i 0) .isLeaf && relates r c (rowOf (getD ws i 0) .tag)
 
 -- the value up to one place more
 value-next : (w : List ℕ) (from k : ℕ) → from ≤ k → k < length w → valueAt w from (k + 1) ≡ valueAt w from k ++ (getD w k 0 ∷ [])

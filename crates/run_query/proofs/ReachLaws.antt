@@ -15,7 +15,18 @@ use Rattle.model.proofs.BoolLaws.{or-swap, bool-iff, or-left, or-right, or-case
 use Rattle.model.proofs.ListLaws.{any-same, any-in, in-any, among-in, in-among}
 use Rattle.model.proofs.TableLaws.{isThe-at, isThe-by, parent-count}
 use Rattle.model.proofs.Below.{Below, under, further, below-is, is-below}
-use Rattle.run_query.specs.Stepping.{anyFrom, upTo, childCounts}
+
+-- some row of those from i on
+unfoldable pub anyFrom : (ℕ → Bool) → (from : ℕ) → ℕ → Bool
+anyFrom f i zero = false
+anyFrom f i (suc n) = f i || anyFrom f (suc i) n
+
+-- reached by an axis that leads up, parent or ancestor; a child that counts on the way
+abbrev pub upTo : Table → (deep : Bool) → (v : List ℕ) → (row : ℕ) → Bool
+upTo x d v j = any (λ (i : ℕ). reaches x (2 + bit d) i j) v
+
+abbrev pub childCounts : Table → (deep : Bool) → (v : List ℕ) → (row child : ℕ) → Bool
+childCounts x d v j k = parentIs x j k && (among k v || (d && upTo x d v k))
 
 -- SOME ITEM, SOME ROW
 any-from : (f : ℕ → Bool) (i n : ℕ) → anyFrom f i n ≡ true → (k : ℕ) × (i ≤ k) × (f k ≡ true)

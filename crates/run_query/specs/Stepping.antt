@@ -1,15 +1,15 @@
 -- Contracts of a step's parts: flags at a row's number plus one.
 use mathlib.Core.Path.{_≡_}
-use mathlib.Core.Bool.{Bool, false, _&&_, _||_, not, cond}
+use mathlib.Core.Bool.{Bool, _&&_, _||_, not, cond}
 use mathlib.Core.List.{List, []}
 use mathlib.Core.Option.{some}
-use Prim.Native.Nat.{ℕ, zero, suc, _+_, _-_, _≤_, _<_}
+use Prim.Native.Nat.{ℕ, _+_, _≤_, _<_}
 use lib.Dec.{eqb}
 use lib.ListN.{length, getD, set, replicate}
 use Rattle.model.specs.Limits.{maxLinks, maxRows}
 use Rattle.model.specs.Base.{any, among, bit}
 use Rattle.model.specs.Table as model
-use Rattle.model.specs.Step.{reaches, parentIs}
+use Rattle.model.specs.Step.{reaches}
 use Rattle.plan_table.specs.Flags.{Within, Flags}
 use Rattle.plan_table.specs.Packed.{decodeParts, linkIn}
 
@@ -56,28 +56,3 @@ pub record Reached (ws : List ℕ) (n axis : ℕ) (fs rs : List ℕ) : Type 0 wh
   pub size : length rs ≡ maxLinks
   pub flags : (ms v : List ℕ) → Flagged v fs → (j : ℕ) → j < n →
       getD rs (j + 1) 0 ≡ bit (any (λ (i : ℕ). reaches (decodeParts n ws ms) axis i j) v)
-
--- some row of those from i on
-unfoldable pub anyFrom : (ℕ → Bool) → (from : ℕ) → ℕ → Bool
-anyFrom f i zero = false
-anyFrom f i (suc n) = f i || anyFrom f (suc i) n
-
--- reached by an axis that leads up, parent or ancestor; a child that counts on the way
-abbrev pub upTo : model.Table → (deep : Bool) → (v : List ℕ) → (row : ℕ) → Bool
-upTo x d v j = any (λ (i : ℕ). reaches x (2 + bit d) i j) v
-
-abbrev pub childCounts : model.Table → (deep : Bool) → (v : List ℕ) → (row child : ℕ) → Bool
-childCounts x d v j k = parentIs x j k && (among k v || (d && upTo x d v k))
-
--- THE PASSES so far: down to a row, and up from one
-pub record Descending (ws : List ℕ) (n : ℕ) (d : Bool) (fs : List ℕ) (j : ℕ) (rs : List ℕ) : Type 0 where
-  pub size : length rs ≡ maxLinks
-  pub none : getD rs 0 0 ≡ 0
-  pub done : (ms v : List ℕ) → Flagged v fs → (k : ℕ) → k < j →
-      getD rs (k + 1) 0 ≡ bit (any (λ (i : ℕ). reaches (decodeParts n ws ms) (bit d) i k) v)
-  pub rest : (k : ℕ) → j ≤ k → k < maxRows → getD rs (k + 1) 0 ≡ 0
-
-pub record Climbing (ws : List ℕ) (n : ℕ) (d : Bool) (fs : List ℕ) (t : ℕ) (rs : List ℕ) : Type 0 where
-  pub size : length rs ≡ maxLinks
-  pub flags : (ms v : List ℕ) → Flagged v fs → (j : ℕ) → j < maxRows →
-      getD rs (j + 1) 0 ≡ bit (anyFrom (childCounts (decodeParts n ws ms) d v j) t (n - t))

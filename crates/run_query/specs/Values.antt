@@ -7,7 +7,7 @@ use lib.Dec.{eqb}
 use lib.ListN.{length, getD, take, drop}
 use Rattle.model.specs.Limits.{maxItems, maxLinks, maxRows}
 use Rattle.model.specs.Script.{Step, stepBy}
-use Rattle.model.specs.Step.{admits, letterOf, stepped, picked, relates, collect}
+use Rattle.model.specs.Step.{admits, letterOf, stepped, picked, collect}
 use Rattle.plan_table.specs.Packed.{rowOf, decodeParts}
 use Rattle.run_query.specs.Stepping.{RowsHeld}
 
@@ -44,9 +44,6 @@ pub record StepPre (ws : List ℕ) (n axis : ℕ) (w : List ℕ) (from to : ℕ)
 
 pub record StepPost (ws : List ℕ) (n : ℕ) (s : Step) (w : List ℕ) (from to : ℕ) (w′ : List ℕ) (r : ℕ) : Type 0 where
   pub value : (ms : List ℕ) → Appended (stepped (decodeParts n ws ms) s (valueAt w from to)) w from w′ r
-
-abbrev pub pickedRow : (rows : List ℕ) → (relation constant row : ℕ) → Bool
-pickedRow ws r c i = rowOf (getD ws i 0) .isLeaf && relates r c (rowOf (getD ws i 0) .tag)
 
 -- PICK from the value at a place: what it keeps for every count of rows above the items
 pub record PickPre (ws w : List ℕ) (from to : ℕ) : Type 0 where

@@ -4,8 +4,7 @@ use Rattle.run_operators.proofs.value.copied.Statement.{statement}
 use Rattle.run_operators.proofs.value.copied.Tie as tie
 use Prim.Native.Nat.{_-_}
 use native.Mathlib.Omega.{arith}
-use Rattle.run_operators.specs.Evaluating.{Copying}
-use Rattle.run_operators.proofs.ValueLaws.{copying-start, copying-next, copying-all}
+use Rattle.run_operators.proofs.ValueLaws.{Copying, copying-start, copying-next, copying-all}
 
 abbrev Inv-loop : tie.InvT-loop
 Inv-loop work₀ from to top k₀ at₀ work k at = Copying work₀ from to top work k at

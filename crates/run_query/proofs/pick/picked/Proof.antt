@@ -1,6 +1,6 @@
 -- `pick::picked` leaves the picked items where the value stood. The loop's invariant: those passed are picked, the others still stand.
-use Rattle.run_query.proofs.PickLaws.{filtered-none, filtered-by, rest-kept, rest-at, picked-rows, cond-low}
-use Rattle.run_query.specs.Values.{Appended, valueAt, pickedRow}
+use Rattle.run_query.proofs.PickLaws.{pickedRow, filtered-none, filtered-by, rest-kept, rest-at, picked-rows, cond-low}
+use Rattle.run_query.specs.Values.{Appended, valueAt}
 use Rattle.model.specs.Base.{filtered}
 use lib.Seq.{length-take-le, getD-take, getD-drop}
 use lib.ListN.{length, getD, drop, length-drop}

@@ -1,6 +1,5 @@
 -- `step::climb` flags the rows above the items. The loop's invariant is `Climbing`.
-use Rattle.run_query.proofs.PassLaws.{link-in, climbing-none, climbing-next, climbed-all}
-use Rattle.run_query.specs.Stepping.{Climbing}
+use Rattle.run_query.proofs.PassLaws.{Climbing, link-in, climbing-none, climbing-next, climbed-all}
 use lib.ListN.{length}
 use mathlib.Core.Path.{_≡_, sym, ap, subst}
 use Prim.Native.Nat.{ℕ, _≤_, _-_, _+_}

@@ -1,6 +1,5 @@
 -- `step::descend` flags the rows below the items. The loop's invariant is `Descending`.
-use Rattle.run_query.proofs.PassLaws.{link-in, descending-none, descending-next, descended-all}
-use Rattle.run_query.specs.Stepping.{Descending}
+use Rattle.run_query.proofs.PassLaws.{Descending, link-in, descending-none, descending-next, descended-all}
 use lib.ListN.{length}
 use mathlib.Core.Path.{sym, ap, subst}
 use Prim.Native.Nat.{_≤_, _-_, _+_}
