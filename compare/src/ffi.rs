@@ -137,7 +137,7 @@ pub fn analyse(first: &[u8], second: &[u8]) -> Answer {
     Answer(unsafe { yegnabit_analyse(first.as_ptr(), first.len(), second.as_ptr(), second.len()) })
 }
 
-/// Writes a table handed in as words to the start of `out`.
+/// Writes a table handed in packed to the start of `out`.
 pub fn write_table(count: usize, rows: &[u32], marks: &[u16], out: &mut [u8]) -> Answer {
     // SAFETY: see above.
     Answer(unsafe {
@@ -153,7 +153,7 @@ pub fn write_table(count: usize, rows: &[u32], marks: &[u16], out: &mut [u8]) ->
     })
 }
 
-/// Sweeps a table handed in as words.
+/// Sweeps a table handed in packed.
 pub fn sweep_table(count: usize, rows: &mut [u32], marks: &mut [u16]) -> Answer {
     // SAFETY: see above.
     Answer(unsafe {

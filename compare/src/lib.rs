@@ -3,7 +3,7 @@
 //!
 //! - [`oracle`]: the rules of document 01, naive, for the differential tests.
 //! - [`rival`]: the same, fast, for the benchmarks.
-//! - [`raw`]: a table as the words that the C interface passes.
+//! - [`raw`]: a table packed as the C interface passes it.
 //! - [`interface`]: the answers and lent areas of the C interface.
 //! - [`generate`]: plans, scripts and tables, sound and damaged.
 //! - [`cases`]: cases with what document 01 says of each, found by hand.

@@ -126,14 +126,14 @@ impl Program {
 
 /// A line without its counts and place.
 fn kind_of_line(line: &str) -> String {
-    let words: Vec<&str> = line.split(' ').collect();
-    let kept = match words[..] {
+    let parts: Vec<&str> = line.split(' ').collect();
+    let kept = match parts[..] {
         ["answer", ..] => 2,
         ["file", ..] => 3,
         [_, "refused", ..] => 4,
         _ => 1,
     };
-    words[..kept].join(" ")
+    parts[..kept].join(" ")
 }
 
 /// The kind of a folder in which one order only is refused.
@@ -150,7 +150,7 @@ fn refused_alone(text: &str) -> Option<String> {
 /// random folders have to bring all about.
 fn due() -> BTreeSet<String> {
     let mut due: BTreeSet<String> = ["free", "upward", "meet"]
-        .map(|word| format!("answer {word}"))
+        .map(|text| format!("answer {text}"))
         .into();
     due.extend([1, 2, 4, 5, 6].map(|number| format!("file plan {number}")));
     for name in ["first", "second"] {

@@ -1,8 +1,8 @@
-//! A table as the words that the C interface passes.
+//! A table packed as the C interface passes.
 //!
-//! A row is one word: kind + 4 * link + 4096 * tag. Link 0 means no parent,
+//! A row is packed into one number: kind + 4 * link + 4096 * tag. Link 0 means no parent,
 //! else it is the parent's number + 1. A mark is 0 for none, else the marked
-//! row's number + 1. Rows at and past the count are word 0.
+//! row's number + 1. Rows at and past the count are 0.
 
 use crate::oracle::limits::{DOCUMENTS, ROWS};
 use crate::oracle::table::{Kind, Row, Table};
@@ -13,7 +13,7 @@ pub const LINK_UNIT: u32 = 4;
 pub const LINK_VALUES: u32 = 1024;
 pub const TAG_UNIT: u32 = LINK_UNIT * LINK_VALUES;
 
-/// A table in words, of any lengths and content.
+/// A table, packed, of any lengths and content.
 #[derive(Clone, Debug, PartialEq, Eq)]
 pub struct RawTable {
     pub count: usize,
@@ -22,7 +22,7 @@ pub struct RawTable {
 }
 
 impl RawTable {
-    /// The words of a table of at most 512 rows.
+    /// The packed rows of a table of at most 512 rows.
     pub fn of(table: &Table) -> RawTable {
         let mut raw = RawTable {
             count: table.rows.len(),
@@ -34,49 +34,49 @@ impl RawTable {
     }
 }
 
-/// The table that words stand for, or none if it is ill formed. `rows` and
+/// The table that packed rows stand for, or none if it is ill formed. `rows` and
 /// `marks` have the right lengths.
 pub fn decode(count: usize, rows: &[u32], marks: &[u16]) -> Option<Table> {
     if count > ROWS {
         return None;
     }
     let (used, unused) = rows.split_at(count);
-    if unused.iter().any(|&word| word != 0) {
+    if unused.iter().any(|&packed| packed != 0) {
         return None;
     }
     let mut table = Table {
         rows: used
             .iter()
-            .map(|&word| decode_row(word))
+            .map(|&packed| decode_row(packed))
             .collect::<Option<_>>()?,
         ..Table::default()
     };
-    for (mark, &word) in table.marks.iter_mut().zip(marks) {
-        *mark = word.checked_sub(1);
+    for (mark, &packed) in table.marks.iter_mut().zip(marks) {
+        *mark = packed.checked_sub(1);
     }
     table.is_well_formed().then_some(table)
 }
 
-fn decode_row(word: u32) -> Option<Row> {
-    let kind = match word % LINK_UNIT {
+fn decode_row(packed: u32) -> Option<Row> {
+    let kind = match packed % LINK_UNIT {
         ELEMENT => Kind::Element,
         LEAF => Kind::Leaf,
         _ => return None,
     };
-    let link = (word / LINK_UNIT % LINK_VALUES) as u16;
-    let tag = u8::try_from(word / TAG_UNIT).ok()?;
+    let link = (packed / LINK_UNIT % LINK_VALUES) as u16;
+    let tag = u8::try_from(packed / TAG_UNIT).ok()?;
     Some(Row::new(kind, tag, link.checked_sub(1)))
 }
 
-/// Writes a table of at most 512 rows as words; words past its rows are 0.
+/// Writes a table of at most 512 rows packed; what is past its rows are 0.
 pub fn encode(table: &Table, rows: &mut [u32], marks: &mut [u16]) {
     let (used, unused) = rows.split_at_mut(table.rows.len());
-    for (word, row) in used.iter_mut().zip(&table.rows) {
-        *word = encode_row(*row);
+    for (packed, row) in used.iter_mut().zip(&table.rows) {
+        *packed = encode_row(*row);
     }
     unused.fill(0);
-    for (word, mark) in marks.iter_mut().zip(&table.marks) {
-        *word = mark.map_or(0, |number| number + 1);
+    for (packed, mark) in marks.iter_mut().zip(&table.marks) {
+        *packed = mark.map_or(0, |number| number + 1);
     }
 }
 
@@ -108,7 +108,7 @@ mod tests {
     }
 
     #[test]
-    fn words_of_a_table() {
+    fn packed_rows_of_a_table() {
         let raw = sound();
         assert_eq!(raw.rows[..3], [0x5001, 0xFF006, 0]);
         assert_eq!(raw.marks, [0, 0, 1, 0, 0, 0, 0, 0]);
@@ -117,18 +117,18 @@ mod tests {
     }
 
     #[test]
-    fn ill_formed_words() {
+    fn ill_formed_rows() {
         // No kind, kind 3, name 0, name 256, its own parent, no such parent.
-        for word in [0, 0x5003, 0x0001, 0x10_0001, 0x5005, 0x5009] {
+        for packed in [0, 0x5003, 0x0001, 0x10_0001, 0x5005, 0x5009] {
             let mut raw = sound();
-            raw.rows[0] = word;
-            assert!(!is_sound(&raw), "{word:X}");
+            raw.rows[0] = packed;
+            assert!(!is_sound(&raw), "{packed:X}");
         }
         // A row past the count, in any field.
-        for word in [1, 4, 0x1000, 0x8000_0000] {
+        for packed in [1, 4, 0x1000, 0x8000_0000] {
             let mut raw = sound();
-            raw.rows[ROWS - 1] = word;
-            assert!(!is_sound(&raw), "{word:X}");
+            raw.rows[ROWS - 1] = packed;
+            assert!(!is_sound(&raw), "{packed:X}");
         }
         for count in [0, 1, 3, 512, 513, usize::MAX] {
             let raw = RawTable { count, ..sound() };

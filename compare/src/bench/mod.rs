@@ -175,7 +175,7 @@ fn plan_case<'a>(
     }
 }
 
-/// A table handed in as words, checked and written.
+/// A table handed in packed, checked and written.
 fn write_case(name: &'static str, table: &Table) -> Case<'static> {
     let (mut ours, mut theirs) = ([0; PLAN_BYTES], [0; PLAN_BYTES]);
     let (raw, same) = (RawTable::of(table), RawTable::of(table));

@@ -8,7 +8,7 @@ impl Random {
     }
 
     /// The next 64 bits.
-    pub fn word(&mut self) -> u64 {
+    pub fn number(&mut self) -> u64 {
         self.0 = self.0.wrapping_add(0x9E37_79B9_7F4A_7C15);
         let mut mixed = self.0;
         mixed = (mixed ^ (mixed >> 30)).wrapping_mul(0xBF58_476D_1CE4_E5B9);
@@ -18,7 +18,7 @@ impl Random {
 
     /// A number below `bound`, which is not 0.
     pub fn below(&mut self, bound: usize) -> usize {
-        (self.word() % bound as u64) as usize
+        (self.number() % bound as u64) as usize
     }
 
     /// A number from `low` to `high`, both included.
@@ -32,7 +32,7 @@ impl Random {
     }
 
     pub fn byte(&mut self) -> u8 {
-        self.word() as u8
+        self.number() as u8
     }
 
     pub fn choose<T: Copy>(&mut self, items: &[T]) -> T {

@@ -117,8 +117,8 @@ fn methods_agree(answer: Answer, first: &[u8], second: &[u8]) -> Result<(), Diff
     }
     let unlisted = by_unlisted_paths(&one, &two);
     if Answer::analysed(unlisted) != answer {
-        let word = unlisted.word();
-        let message = format!("without listing paths the oracle says {word}, not {answer:?}");
+        let text = unlisted.text();
+        let message = format!("without listing paths the oracle says {text}, not {answer:?}");
         return Err(difference(Call::Analyse, &[first, second], &message));
     }
     Ok(())
@@ -349,7 +349,7 @@ fn tried(
     let enough = trees.are_enough(&first.seen, &second.seen);
     let expected = if found { Meet } else { Free };
     if (found || enough) && answer != Answer::analysed(expected) {
-        let message = format!("small trees say {}, not {answer:?}", expected.word());
+        let message = format!("small trees say {}, not {answer:?}", expected.text());
         return Err(difference(
             Call::Analyse,
             &[&first.bytes, &second.bytes],

@@ -14,7 +14,7 @@ use crate::ffi;
 /// Bytes of an input that a message shows.
 const SHOWN: usize = 96;
 const GUARD_BYTE: u8 = 0xA5;
-const GUARD_WORD: u32 = 0xA5A5_A5A5;
+const GUARD_ROW: u32 = 0xA5A5_A5A5;
 const GUARD_MARK: u16 = 0xA5A5;
 
 type PlanCall = fn(&[u8], &mut [u8]) -> Answer;
@@ -213,7 +213,7 @@ impl Checker {
         let call = Call::SweepTable;
         let (rows, marks) = (raw.rows.iter().copied(), raw.marks.iter().copied());
         let ((answers, mark_areas), row_areas) =
-            self.rows.lend(rows, GUARD_WORD, |our_rows, their_rows| {
+            self.rows.lend(rows, GUARD_ROW, |our_rows, their_rows| {
                 self.marks
                     .lend(marks, GUARD_MARK, |our_marks, their_marks| {
                         (
@@ -280,7 +280,7 @@ fn told_table(call: Call, raw: &RawTable, message: &str) -> Difference {
         .rows
         .iter()
         .take(SHOWN)
-        .map(|word| format!("{word:X}"))
+        .map(|row| format!("{row:X}"))
         .collect();
     format!(
         "{}: {message}\ncount {}, {} rows: {} .., marks {:?}",

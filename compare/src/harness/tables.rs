@@ -1,4 +1,4 @@
-//! Tables handed in as words: `yegnabit_write_table`, `yegnabit_sweep_table`.
+//! Tables handed in packed: `yegnabit_write_table`, `yegnabit_sweep_table`.
 
 use compare::generate::plans;
 use compare::generate::random::Random;
@@ -12,7 +12,7 @@ use super::checker::Checker;
 use super::{Difference, Volume};
 
 const SEED: u64 = 0x21;
-const WORD_BITS: usize = 32;
+const ROW_BITS: usize = 32;
 const KINDS: u32 = LINK_UNIT;
 
 pub fn test(checker: &mut Checker, volume: Volume) -> Result<(), Difference> {
@@ -28,7 +28,7 @@ pub fn test(checker: &mut Checker, volume: Volume) -> Result<(), Difference> {
             _ => any_table(&mut random),
         };
         let raw = RawTable::of(&table);
-        changed_words(checker, &mut random, &raw)?;
+        changed_rows(checker, &mut random, &raw)?;
         changed_marks(checker, &raw)?;
         changed_counts(checker, &raw)?;
         areas(checker, &table)?;
@@ -51,8 +51,8 @@ fn any_table(random: &mut Random) -> Table {
     }
 }
 
-/// Each word changed in turn: single bits, and each field to awkward values.
-fn changed_words(
+/// Each packed row changed in turn: single bits, and each field to awkward values.
+fn changed_rows(
     checker: &mut Checker,
     random: &mut Random,
     raw: &RawTable,
@@ -61,23 +61,23 @@ fn changed_words(
     for index in 0..ROWS {
         let old = raw.rows[index];
         let (kind, link, tag) = (old % KINDS, old / LINK_UNIT % LINK_VALUES, old / TAG_UNIT);
-        let word = |kind: u32, link: u32, tag: u32| kind + LINK_UNIT * link + TAG_UNIT * tag;
-        let mut words: Vec<u32> = (0..KINDS).map(|kind| word(kind, link, tag)).collect();
+        let pack = |kind: u32, link: u32, tag: u32| kind + LINK_UNIT * link + TAG_UNIT * tag;
+        let mut numbers: Vec<u32> = (0..KINDS).map(|kind| pack(kind, link, tag)).collect();
         let own = index as u32;
         for link in [0, 1, own, own + 1, own + 2, 512, 513, LINK_VALUES - 1] {
-            words.push(word(kind, link % LINK_VALUES, tag));
+            numbers.push(pack(kind, link % LINK_VALUES, tag));
         }
         for _ in 0..4 {
-            words.push(word(kind, random.below(index + 1) as u32, tag));
+            numbers.push(pack(kind, random.below(index + 1) as u32, tag));
         }
         for tag in [0, 1, 127, 128, 255, 256, 257, (1 << 20) - 1] {
-            words.push(word(kind, link, tag));
+            numbers.push(pack(kind, link, tag));
         }
-        words.push(0);
-        words.push(random.word() as u32);
-        words.push(old ^ (1 << random.below(WORD_BITS)));
-        for word in words {
-            changed.rows[index] = word;
+        numbers.push(0);
+        numbers.push(random.number() as u32);
+        numbers.push(old ^ (1 << random.below(ROW_BITS)));
+        for packed in numbers {
+            changed.rows[index] = packed;
             checker.table(&changed)?;
         }
         changed.rows[index] = old;
@@ -106,7 +106,7 @@ fn changed_marks(checker: &mut Checker, raw: &RawTable) -> Result<(), Difference
     Ok(())
 }
 
-/// The count changed, with the words as they were.
+/// The count changed, with the rows as they were.
 fn changed_counts(checker: &mut Checker, raw: &RawTable) -> Result<(), Difference> {
     let near = (0..ROWS + 3).map(|count| (raw.count + count) % (ROWS + 3));
     let far = [
@@ -153,7 +153,7 @@ fn areas(checker: &mut Checker, table: &Table) -> Result<(), Difference> {
     Ok(())
 }
 
-/// A few words, marks and the count changed at once, mostly near the rows.
+/// A few packed rows, marks and the count changed at once, mostly near the rows.
 fn several_changes(raw: &RawTable, random: &mut Random) -> RawTable {
     let mut changed = raw.clone();
     let near = (raw.count + 2).min(ROWS);
@@ -168,10 +168,10 @@ fn several_changes(raw: &RawTable, random: &mut Random) -> RawTable {
                 let (from, to) = (random.below(near), random.below(near));
                 changed.rows.swap(from, to);
             }
-            3 => changed.rows[random.below(ROWS)] = random.word() as u32,
+            3 => changed.rows[random.below(ROWS)] = random.number() as u32,
             _ => {
                 let index = random.below(near);
-                changed.rows[index] ^= 1 << random.below(WORD_BITS);
+                changed.rows[index] ^= 1 << random.below(ROW_BITS);
             }
         }
     }
@@ -181,15 +181,15 @@ fn several_changes(raw: &RawTable, random: &mut Random) -> RawTable {
 /// All tables of two rows and two marks from a small alphabet, with counts 0
 /// to 3.
 fn small_tables(checker: &mut Checker) -> Result<(), Difference> {
-    let mut words = Vec::new();
+    let mut numbers = Vec::new();
     for kind in 0..KINDS {
         for link in 0..4 {
-            words.extend([0, 1, 255, 256].map(|tag| kind + LINK_UNIT * link + TAG_UNIT * tag));
+            numbers.extend([0, 1, 255, 256].map(|tag| kind + LINK_UNIT * link + TAG_UNIT * tag));
         }
     }
     let mut raw = RawTable::of(&Table::default());
-    for &first in &words {
-        for &second in &words {
+    for &first in &numbers {
+        for &second in &numbers {
             for marks in 0..16 {
                 raw.rows[0] = first;
                 raw.rows[1] = second;

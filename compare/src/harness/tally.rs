@@ -106,7 +106,7 @@ impl Tally {
         }
         let mut shares = ANALYSED.iter().zip(self.analysed_percents());
         match shares.find(|(_, percent)| *percent < LEAST_PERCENT) {
-            Some((word, percent)) => Err(format!("only {percent:.2}% of the pairs are {word}")),
+            Some((name, percent)) => Err(format!("only {percent:.2}% of the pairs are {name}")),
             None => Ok(()),
         }
     }
@@ -138,8 +138,8 @@ impl Tally {
         line.pop();
         if call == Call::Analyse {
             line.push_str("; of those accepted");
-            for (word, percent) in ANALYSED.iter().zip(self.analysed_percents()) {
-                write!(line, " {word}: {percent:.2}%,").expect("a string takes all");
+            for (name, percent) in ANALYSED.iter().zip(self.analysed_percents()) {
+                write!(line, " {name}: {percent:.2}%,").expect("a string takes all");
             }
             line.pop();
         }

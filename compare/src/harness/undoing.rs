@@ -167,7 +167,7 @@ fn wrong_cuts(
         number.saturating_sub(1),
         rows as u16,
         random.below(rows + 1) as u16,
-        random.word() as u16,
+        random.number() as u16,
     ];
     for old in others {
         let mut cut = Vec::new();

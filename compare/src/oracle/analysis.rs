@@ -18,7 +18,7 @@ pub enum Answer {
 }
 
 impl Answer {
-    pub const fn word(self) -> &'static str {
+    pub const fn text(self) -> &'static str {
         match self {
             Answer::Free => "free",
             Answer::Upward => "upward",

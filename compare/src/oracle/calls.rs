@@ -107,7 +107,7 @@ pub fn analyse(first: &[u8], second: &[u8]) -> Answer {
     }
 }
 
-/// Writes a table handed in as words.
+/// Writes a table handed in packed.
 pub fn write_table(count: usize, rows: &[u32], marks: &[u16], out: &mut [u8]) -> Answer {
     if rows.len() != ROWS || marks.len() != DOCUMENTS {
         return Answer::lent();
@@ -118,7 +118,7 @@ pub fn write_table(count: usize, rows: &[u32], marks: &[u16], out: &mut [u8]) ->
     Answer::of(WHICH_AREA, stored::write(&table, out))
 }
 
-/// Sweeps a table handed in as words.
+/// Sweeps a table handed in packed.
 pub fn sweep_table(count: usize, rows: &mut [u32], marks: &mut [u16]) -> Answer {
     if rows.len() != ROWS || marks.len() != DOCUMENTS {
         return Answer::lent();

@@ -23,7 +23,7 @@ fn lines(plan: &[u8], first: &[u8], second: &[u8]) -> Result<String, String> {
     let second_read = script::read(second).map_err(|refusal| file_line("second", refusal))?;
 
     let answer = analyse_read(&first_read, &second_read);
-    let mut lines = format!("answer {}\n", answer.word());
+    let mut lines = format!("answer {}\n", answer.text());
     let mut areas = OwnedAreas::default();
     for (name, leader) in [("one-two", Which::First), ("two-one", Which::Second)] {
         let line = match run_order(&table, first, second, leader, &mut areas) {

@@ -92,7 +92,7 @@ impl Table {
 
     /// "Well formed: at most 512 rows, the above holds, every parent is an
     /// element with a lower number than its child." Fields not in use have no
-    /// place in this type; the words of the C interface have them.
+    /// place in this type; the packed rows of the C interface have them.
     pub fn is_well_formed(&self) -> bool {
         let rows_hold = (0u16..).zip(&self.rows).all(|(number, row)| {
             let named = row.kind == Kind::Leaf || row.tag != 0;

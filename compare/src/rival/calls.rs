@@ -128,13 +128,13 @@ pub fn analyse(first: &[u8], second: &[u8]) -> Answer {
     Answer::analysed(analysis::analyse(&one, &two))
 }
 
-/// Writes a table handed in as words.
+/// Writes a table handed in packed.
 pub fn write_table(count: usize, rows: &[u32], marks: &[u16], out: &mut [u8]) -> Answer {
     if rows.len() != ROWS || marks.len() != DOCUMENTS {
         return Answer::lent();
     }
     let mut table = Table::default();
-    match table.read_words(count, rows, marks) {
+    match table.read_packed(count, rows, marks) {
         true => written(&table, out),
         false => Answer::refused(WHICH_PLAN, Number::Link.at(0)),
     }

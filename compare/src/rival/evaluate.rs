@@ -3,7 +3,7 @@
 
 use super::script::Script;
 use super::step::{step, Bits};
-use super::table::{at, is_element, parent, word, Table, PARENT};
+use super::table::{at, is_element, pack, parent, Table, PARENT};
 use crate::oracle::history::{CUT_BYTES, ELEMENT_MADE, LINK_CUT, MADE_BYTES};
 use crate::oracle::limits::{BINDERS, ITEMS, NO_PARENT, ROWS};
 use crate::oracle::plan::{ELEMENT, LEAF};
@@ -122,7 +122,7 @@ impl<'a> Evaluator<'a> {
                     _ => LEAF,
                 };
                 self.stack[start] = self.table.count as u16;
-                self.make(word(made, body[0], NO_PARENT), index)?;
+                self.make(pack(made, body[0], NO_PARENT), index)?;
                 self.top += 1;
             }
             kind::DELETE => {

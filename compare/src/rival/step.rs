@@ -10,7 +10,7 @@ const PARENT: u8 = 2;
 /// Rows compared at once.
 const LANES: usize = 16;
 
-/// A test as bits of a row's word: those looked at, and what they must be.
+/// A test as bits of a packed row: those looked at, and what they must be.
 #[derive(Clone, Copy)]
 pub struct Bits {
     mask: u32,
@@ -36,8 +36,8 @@ impl Bits {
         }
     }
 
-    fn accept(self, word: u32) -> bool {
-        word & self.mask == self.wanted
+    fn accept(self, packed: u32) -> bool {
+        packed & self.mask == self.wanted
     }
 }
 
@@ -85,16 +85,16 @@ pub fn step(table: &Table, axis: u8, test: Bits, items: usize, stack: &mut [u16;
     match axis {
         CHILD if items == 1 => children(rows, first, test, &mut found),
         CHILD => {
-            for (number, &word) in rows.iter().enumerate().skip(usize::from(least) + 1) {
-                let reached = from[usize::from(parent(word)).min(ROWS)];
-                found.put(number, reached & test.accept(word));
+            for (number, &packed) in rows.iter().enumerate().skip(usize::from(least) + 1) {
+                let reached = from[usize::from(parent(packed)).min(ROWS)];
+                found.put(number, reached & test.accept(packed));
             }
         }
         DESCENDANT => {
-            for (number, &word) in rows.iter().enumerate().skip(usize::from(least) + 1) {
-                if from[usize::from(parent(word)).min(ROWS)] {
+            for (number, &packed) in rows.iter().enumerate().skip(usize::from(least) + 1) {
+                if from[usize::from(parent(packed)).min(ROWS)] {
                     from[number] = true;
-                    found.put(number, test.accept(word));
+                    found.put(number, test.accept(packed));
                 }
             }
         }
@@ -120,16 +120,16 @@ fn children(rows: &[u32], parent: u16, test: Bits, found: &mut Found<'_>) {
     for chunk in &mut chunks {
         let any = chunk
             .iter()
-            .fold(false, |any, &word| any | wanted.accept(word));
+            .fold(false, |any, &packed| any | wanted.accept(packed));
         if any {
-            for (lane, &word) in chunk.iter().enumerate() {
-                found.put(number + lane, wanted.accept(word));
+            for (lane, &packed) in chunk.iter().enumerate() {
+                found.put(number + lane, wanted.accept(packed));
             }
         }
         number += LANES;
     }
-    for (lane, &word) in chunks.remainder().iter().enumerate() {
-        found.put(number + lane, wanted.accept(word));
+    for (lane, &packed) in chunks.remainder().iter().enumerate() {
+        found.put(number + lane, wanted.accept(packed));
     }
 }
 
@@ -138,10 +138,10 @@ fn set(rows: &mut [u64; ROWS / 64], number: u16) -> bool {
     if number == NO_PARENT {
         return false;
     }
-    let word = &mut rows[at(number) / 64];
+    let packed = &mut rows[at(number) / 64];
     let bit = 1 << (number % 64);
-    let new = *word & bit == 0;
-    *word |= bit;
+    let new = *packed & bit == 0;
+    *packed |= bit;
     new
 }
 

@@ -1,4 +1,4 @@
-//! The table: each row is one word, the bytes of its stored record. So a plan
+//! The table: each row is packed as the bytes of its stored record. So a plan
 //! is read by checking its records, and written by copying them.
 
 use crate::oracle::limits::{DOCUMENTS, NO_PARENT, PLAN_RECORD_BYTES, ROWS};
@@ -10,28 +10,28 @@ use crate::raw;
 const NAMELESS: u32 = ELEMENT as u32;
 /// Rows checked at once.
 const LANES: usize = 16;
-/// The bits of a word that are the parent.
+/// The bits of a packed row that are the parent.
 pub const PARENT: u32 = 0xFFFF_0000;
 
 pub struct Table {
-    /// Words past the count mean nothing.
+    /// Packed rows past the count mean nothing.
     pub rows: [u32; ROWS],
     pub count: usize,
     /// The row of each document, or [`NO_PARENT`].
     pub marks: [u16; DOCUMENTS],
 }
 
-pub fn word(kind: u8, tag: u8, parent: u16) -> u32 {
+pub fn pack(kind: u8, tag: u8, parent: u16) -> u32 {
     let [low, high] = parent.to_le_bytes();
     u32::from_le_bytes([kind, tag, low, high])
 }
 
-pub fn parent(word: u32) -> u16 {
-    (word >> 16) as u16
+pub fn parent(packed: u32) -> u16 {
+    (packed >> 16) as u16
 }
 
-pub fn is_element(word: u32) -> bool {
-    word as u8 == ELEMENT
+pub fn is_element(packed: u32) -> bool {
+    packed as u8 == ELEMENT
 }
 
 /// A row's number as a place in an array of all rows.
@@ -39,10 +39,10 @@ pub fn at(number: u16) -> usize {
     usize::from(number) % ROWS
 }
 
-/// Is this word a row, whatever its parent?
-fn is_row(word: u32) -> bool {
-    let is_kind = (word & 0xFF).wrapping_sub(ELEMENT.into()) <= u32::from(LEAF - ELEMENT);
-    is_kind & (word & 0xFFFF != NAMELESS)
+/// Is this a packed row, whatever its parent?
+fn is_row(packed: u32) -> bool {
+    let is_kind = (packed & 0xFF).wrapping_sub(ELEMENT.into()) <= u32::from(LEAF - ELEMENT);
+    is_kind & (packed & 0xFFFF != NAMELESS)
 }
 
 /// May the row with this number have this parent?
@@ -52,11 +52,11 @@ fn is_linked(rows: &[u32; ROWS], number: usize) -> bool {
     (parent < number) & lower | (parent == NO_PARENT.into())
 }
 
-/// How many of the first words are rows as they should be.
-fn count_rows(rows: &[u32; ROWS], words: usize) -> usize {
+/// How many of the first numbers are rows as they should be.
+fn count_rows(rows: &[u32; ROWS], numbers: usize) -> usize {
     let mut number = 0;
-    for chunk in rows[..words.min(ROWS)].chunks(LANES) {
-        let all_rows = chunk.iter().fold(true, |all, &word| all & is_row(word));
+    for chunk in rows[..numbers.min(ROWS)].chunks(LANES) {
+        let all_rows = chunk.iter().fold(true, |all, &packed| all & is_row(packed));
         let numbers = number..number + chunk.len();
         let all_linked = numbers.fold(true, |all, number| all & is_linked(rows, number));
         if !(all_rows & all_linked) {
@@ -64,7 +64,7 @@ fn count_rows(rows: &[u32; ROWS], words: usize) -> usize {
         }
         number += chunk.len();
     }
-    let rest = number..words;
+    let rest = number..numbers;
     let right = |&number: &usize| is_row(rows[number % ROWS]) && is_linked(rows, number);
     number + rest.take_while(right).count()
 }
@@ -88,7 +88,7 @@ impl Table {
 
     /// May a document mark this row?
     fn takes_mark(&self, number: u16) -> bool {
-        let root = word(ELEMENT, 0, NO_PARENT);
+        let root = pack(ELEMENT, 0, NO_PARENT);
         usize::from(number) < self.count
             && self.rows[at(number)] & (PARENT | 0xFF) == root
             && !self.is_marked(number)
@@ -101,8 +101,8 @@ impl Table {
         for (row, record) in self.rows.iter_mut().zip(records) {
             *row = u32::from_le_bytes([record[0], record[1], record[2], record[3]]);
         }
-        let words = bytes.len() / PLAN_RECORD_BYTES;
-        self.count = count_rows(&self.rows, words.min(ROWS));
+        let numbers = bytes.len() / PLAN_RECORD_BYTES;
+        self.count = count_rows(&self.rows, numbers.min(ROWS));
         self.read_marks(bytes)
     }
 
@@ -153,24 +153,24 @@ impl Table {
         let (rows, marks) = out
             .get_mut(..length)?
             .split_at_mut(PLAN_RECORD_BYTES * self.count);
-        for (record, word) in rows.chunks_exact_mut(PLAN_RECORD_BYTES).zip(&self.rows) {
-            record.copy_from_slice(&word.to_le_bytes());
+        for (record, packed) in rows.chunks_exact_mut(PLAN_RECORD_BYTES).zip(&self.rows) {
+            record.copy_from_slice(&packed.to_le_bytes());
         }
         let stored = (0u8..).zip(self.marks).filter(|mark| mark.1 != NO_PARENT);
         for (record, (document, number)) in marks.chunks_exact_mut(PLAN_RECORD_BYTES).zip(stored) {
-            record.copy_from_slice(&word(MARK, document, number).to_le_bytes());
+            record.copy_from_slice(&pack(MARK, document, number).to_le_bytes());
         }
         Some(length)
     }
 
-    /// Reads the words of the C interface into an empty table, and says
+    /// Reads the packed rows of the C interface into an empty table, and says
     /// whether it is well formed. `rows` and `marks` have the right lengths.
-    pub fn read_words(&mut self, count: usize, rows: &[u32], marks: &[u16]) -> bool {
+    pub fn read_packed(&mut self, count: usize, rows: &[u32], marks: &[u16]) -> bool {
         if count > ROWS {
             return false;
         }
         let (used, unused) = rows.split_at(count);
-        if unused.iter().fold(0, |all, word| all | word) != 0 {
+        if unused.iter().fold(0, |all, packed| all | packed) != 0 {
             return false;
         }
         let mut all_kinds = true;
@@ -209,11 +209,11 @@ impl Table {
         }
         let mut kept = 0;
         for number in 0..self.count.min(ROWS) {
-            let word = self.rows[number];
-            let parent = renumbered[usize::from(parent(word)).min(ROWS)];
+            let packed = self.rows[number];
+            let parent = renumbered[usize::from(parent(packed)).min(ROWS)];
             let keep = marked[number] | (parent != NO_PARENT);
             renumbered[number] = if keep { kept as u16 } else { NO_PARENT };
-            self.rows[kept % ROWS] = word & !PARENT | u32::from(parent) << 16;
+            self.rows[kept % ROWS] = packed & !PARENT | u32::from(parent) << 16;
             kept += usize::from(keep);
         }
         self.count = kept;

@@ -78,7 +78,7 @@ fn plans() {
 }
 
 #[test]
-fn tables_as_words() {
+fn packed_tables() {
     let mut random = Random::new(2);
     let mut counts = Counts::default();
     for _ in 0..3000 {

@@ -18,7 +18,7 @@ pub fn undo(table: &mut Table, bytes: &[u8]) -> Result<(), Refusal> {
         let fits = if kind == LINK_CUT {
             take_back_cut(table, &marked, number, (record >> 24) as u16)
         } else {
-            // The tag and the parent stand as in a row's word.
+            // The tag and the parent stand as in a packed row.
             let row = (record >> 16) as u32 & !0xFF | u32::from(kind - (ELEMENT_MADE - ELEMENT));
             take_back_made(table, &marked, number, row)
         };

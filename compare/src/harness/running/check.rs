@@ -128,11 +128,11 @@ impl Runs<'_> {
         self.salt = (self.salt + 1) % 65_521;
         let salt = self.salt;
         let number = move |index: usize| index.wrapping_mul(40_503) ^ salt.wrapping_mul(30_011);
-        let word = move |index| number(index) as u16;
+        let number_at = move |index| number(index) as u16;
         let byte = move |index| (number(index) >> 3) as u8;
-        self.answer.fill((0..lengths.answer).map(word), 0xA5A5);
+        self.answer.fill((0..lengths.answer).map(number_at), 0xA5A5);
         self.history.fill((0..lengths.history).map(byte), 0xA5);
-        self.work.fill((0..lengths.work).map(word), 0xA5A5);
+        self.work.fill((0..lengths.work).map(number_at), 0xA5A5);
         self.out.fill((0..lengths.out).map(byte), 0xA5);
         let long = move |index| number(index + 1) as u64 * 0x0001_0001_0001;
         self.done.fill((0..lengths.done).map(long), u64::MAX);

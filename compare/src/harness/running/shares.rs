@@ -53,7 +53,7 @@ impl Shares {
     /// something, and the least that each must be.
     fn of_runs(&self) -> impl Iterator<Item = (&'static str, f64, f64)> {
         let ends = ENDS.iter().zip(self.ends);
-        let ends = ends.map(|(&(word, _), count)| (word, count, LEAST_OF_AN_END));
+        let ends = ends.map(|(&(name, _), count)| (name, count, LEAST_OF_AN_END));
         let deeds = [
             ("answered", self.answered, LEAST_OF_A_DEED),
             ("made", self.made, LEAST_OF_A_DEED),
@@ -61,7 +61,7 @@ impl Shares {
         ];
         let runs = self.runs;
         ends.chain(deeds)
-            .map(move |(word, count, least)| (word, percent(count, runs), least))
+            .map(move |(name, count, least)| (name, percent(count, runs), least))
     }
 
     /// The share of the scripts that hold each kind of record.
@@ -79,9 +79,9 @@ impl Shares {
                 ));
             }
         }
-        for (word, percent, least) in self.of_runs() {
+        for (name, percent, least) in self.of_runs() {
             if percent < least {
-                return Err(format!("only {percent:.2}% of the runs are '{word}'"));
+                return Err(format!("only {percent:.2}% of the runs are '{name}'"));
             }
         }
         Ok(())
@@ -90,8 +90,8 @@ impl Shares {
     /// Two lines for the summary.
     pub fn lines(&self) -> String {
         let mut lines = format!("of {} runs that began", self.runs);
-        for (word, percent, _) in self.of_runs() {
-            write!(lines, ", {word}: {percent:.1}%").expect("a string takes all");
+        for (name, percent, _) in self.of_runs() {
+            write!(lines, ", {name}: {percent:.1}%").expect("a string takes all");
         }
         lines.push_str("\nscripts run that hold a kind:");
         for (kind, percent) in self.of_kinds() {
