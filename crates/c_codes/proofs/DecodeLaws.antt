@@ -1,6 +1,6 @@
 -- From the 64 bits that a call answers, the refusal's number, which, and a place below 2^48 are got back.
 use mathlib.Core.Path.{_≡_}
-use Prim.Native.Nat.{ℕ, _<_}
+use Prim.Native.Nat.{_<_}
 use native.Mathlib.Omega.{arith}
 use Rattle.model.specs.Refusal.{Values}
 use Rattle.c_codes.specs.Codes.{placeLimit, codeOf, decoded}

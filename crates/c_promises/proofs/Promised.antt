@@ -1,6 +1,6 @@
 -- The C calls in the model's words: a plan that is read, swept, undone or run on is well formed, so writing it is never refused.
 use mathlib.Core.Path.{_≡_, ap, _∙_, refl, sym}
-use mathlib.Core.Bool.{true, false}
+use mathlib.Core.Bool.{true}
 use mathlib.Core.List.{List}
 use Prim.Native.Nat.{ℕ, _≤_}
 use native.Mathlib.Omega.{arith}
@@ -34,7 +34,7 @@ use Rattle.run.specs.Calls.{ran, resultOf, outcomeOf}
 use Rattle.yegnabit.specs.Calls.{valuesIfLong, outIfLong, onPlan, outOnPlan, undoValues, undoOut}
 use Rattle.c_codes.specs.Codes.{codeOf, lentValues, valuesUnless, areaUnless, writtenValues, finishedValues, finishedOut}
 use Rattle.yegnabit.specs.Running.{untouchedCall, refusedCall, ranCall, runCalled, Called}
-use Rattle.c_lent.specs.Done.{outNeed, lentFit, doneOver}
+use Rattle.c_lent.specs.Done.{outNeed, doneOver}
 use Rattle.c_promises.specs.Promise.{PlanBack, SweptBack, UndoneBack, LentFits, RunDone, RunRefused, RunAreaShort, PlanRefused}
 use Rattle.c_promises.specs.Promise.{FreeRunsCommute, endedCall, planLeft, historyLeft}
 use Rattle.plan_table.proofs.EncodeLaws.{decode-encode, fits-encode}

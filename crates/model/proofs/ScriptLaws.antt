@@ -13,7 +13,7 @@ use Rattle.model.specs.Refusal.{Refusal, isFine, orElse, unless, kindAt,
 use Rattle.model.specs.Table.{isName, tagFits}
 use Rattle.model.specs.Script.{Expr, nil, document, var, step, both, letIn, forIn, ifIn, element, leaf, delete, insert, pick}
 use Rattle.model.specs.Script.{nilKind, documentKind, variableKind, stepKind, joinKind, letKind, forKind, ifKind, newElementKind}
-use Rattle.model.specs.Script.{newLeafKind, deleteKind, insertKind, pickKind, isScriptKind, bodySize, testFits, bodyFits}
+use Rattle.model.specs.Script.{newLeafKind, deleteKind, insertKind, isScriptKind, bodySize, testFits, bodyFits}
 use Rattle.model.specs.Script.{isBinder, exprRefusal}
 use Rattle.model.specs.Script.{recordsOf, Parsed, refused, parsed, thenParse, one, two, three, operands, parseFrom, whole}
 use Rattle.model.specs.Script.{readScript}

@@ -1,6 +1,6 @@
 -- Document 03's text of the definitions for which ours serve, where the two texts differ (kinds, limits, refusals and parts named, or a
 -- recursion written as a map, a filter or a collect): each is equal to ours.
-use mathlib.Core.Path.{_≡_, refl, sym, ap, _∙_}
+use mathlib.Core.Path.{_≡_, refl, sym, ap}
 use mathlib.Core.Bool.{Bool, true, false, _&&_, _||_, not, cond}
 use mathlib.Core.List.{List, [], _∷_}
 use mathlib.Core.Option.{Option, none, some}

@@ -9,7 +9,7 @@ use lib.Dec.{ltb, leb, eqb}
 use lib.ListN.{length, getD}
 use Rattle.model_document03.specs.Run.{unless}
 use Rattle.model.specs.Base.{isIn}
-use Rattle.model.specs.Refusal.{Refusal, refusal, fine, orElse}
+use Rattle.model.specs.Refusal.{Refusal, orElse}
 use Rattle.model.specs.Stored.{storedKinds, isStoredKind}
 use Rattle.model.specs.Script.{scriptKinds, isScriptKind, testFits}
 use Rattle.model.specs.Script as C

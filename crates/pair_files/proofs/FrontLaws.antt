@@ -17,7 +17,7 @@ use Rattle.model.specs.Stored.{storedSize, recordSize, Read, refused, got, numb
 use Rattle.model.specs.Stored.{readFrom, readPlan}
 use Rattle.model.specs.Script.{Expr, Parsed, refused, parsed, thenParse, one, two, three, operands, bodySize, exprRefusal, parseFrom}
 use Rattle.model.specs.Script.{whole, both, letIn, forIn, ifIn, delete, insert, nilKind, documentKind, variableKind, stepKind}
-use Rattle.model.specs.Script.{pickKind, joinKind, letKind, forKind, ifKind, newElementKind, newLeafKind, deleteKind, insertKind}
+use Rattle.model.specs.Script.{joinKind, letKind, forKind, ifKind, newElementKind, newLeafKind, deleteKind, insertKind}
 use Rattle.pair_files.specs.Promise.{fileBytes, ReadByFront, LongerRefused}
 use Rattle.model.proofs.BoolLaws.{bool-iff, by-cases, cond-cases, cond-related}
 use Rattle.model.proofs.KindLaws.{size-most, stored-most}

@@ -5,15 +5,15 @@ use mathlib.Core.List.{List, [], _∷_, map}
 use mathlib.Core.Option.{Option, none, some}
 use Prim.Native.Nat.{ℕ, zero, suc, _+_, _*_, _-_, _≤_, _<_}
 use native.Mathlib.Omega.{arith}
-use lib.Dec.{leb, eqb}
+use lib.Dec.{eqb}
 use lib.ListN.{length, length-map, length-set, getD, set}
-use borrow.Author.Tests.{lt-ltb, le-ltb, le-leb, lt-leb, eq-eqb, ne-eqb, eqb-true, eqb-false}
+use borrow.Author.Tests.{lt-ltb, le-ltb, le-leb, lt-leb, eq-eqb, ne-eqb, eqb-true}
 use Rattle.model.specs.Base.{any, maxByte}
 use Rattle.model.specs.Limits.{maxRows, documents, maxName}
 use Rattle.model.specs.Refusal.{refusal, fine, linkAt, unless}
 use Rattle.model.specs.Table as model
 use Rattle.model.specs.Stored.{elementKind, leafKind, markKind, storedKinds, isStoredKind, recordSize, noParent, isMark}
-use Rattle.model.specs.Stored.{numberAt, rowIn, parentIn, rowRefusal, markRefusal, lastMarked, recordRefusal}
+use Rattle.model.specs.Stored.{numberAt, rowIn, rowRefusal, markRefusal, lastMarked, recordRefusal}
 use Rattle.model.proofs.BoolLaws.{by-cases, eq-cases, cond-eq, cond-false}
 use Rattle.model.proofs.KindLaws.{row-kind, stored-size}
 use Rattle.model.proofs.BytesLaws.{lastMarked-above}

@@ -1,7 +1,7 @@
 -- What the bytes of a stored record say of its kind.
 use mathlib.Core.Path.{_≡_, refl, sym, _∙_}
 use mathlib.Core.Bool.{Bool, true, false, cond}
-use Prim.Native.Nat.{ℕ, suc, _+_}
+use Prim.Native.Nat.{ℕ, _+_}
 use native.Mathlib.Omega.{arith}
 use Rattle.model.specs.Stored.{isStoredKind, storedSize, recordSize}
 use Rattle.model.proofs.BoolLaws.{cond-true}

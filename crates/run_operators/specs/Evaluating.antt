@@ -8,7 +8,7 @@ use lib.Dec.{ltb, eqb}
 use lib.ListN.{length, getD, take}
 use Rattle.model.specs.Limits.{maxItems, maxBinders, documents}
 use Rattle.model.specs.Refusal.{itemsAt}
-use Rattle.model.specs.Script.{stepBy, stepKind, deleteKind, joinKind, insertKind, pickKind, isScriptKind, bodySize, arity, isBinder}
+use Rattle.model.specs.Script.{stepBy, stepKind, deleteKind, joinKind, insertKind, isScriptKind, bodySize, arity, isBinder}
 use Rattle.model.specs.Step.{stepped, picked}
 use Rattle.model.specs.Run.{State, Out, gives, cutAll, joinItems, inserted, run, AreRows, AreValues}
 use Rattle.script_records.specs.Walk.{inner, withBound, endAt, exprAt}

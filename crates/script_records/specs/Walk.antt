@@ -6,7 +6,7 @@ use lib.Dec.{eqb}
 use lib.ListN.{getD, drop}
 use Rattle.model.specs.Script.{Expr, nil, document, var, step, both, letIn, forIn, ifIn, element, leaf, delete, insert, pick, stepBy}
 use Rattle.model.specs.Script.{nilKind, documentKind, variableKind, stepKind, joinKind, letKind, forKind, ifKind}
-use Rattle.model.specs.Script.{newElementKind, newLeafKind, deleteKind, insertKind, pickKind, bodySize, arity, isBinder}
+use Rattle.model.specs.Script.{newElementKind, newLeafKind, deleteKind, insertKind, bodySize, arity, isBinder}
 
 -- A binder binds in its second operand only: the variables in scope there
 unfoldable pub inner : (kind bound : ℕ) → ℕ

@@ -1,5 +1,5 @@
 -- `read::read_record` refuses the record at the front or takes it into the table: the kind, then room, length, fields and links.
-use mathlib.Core.Path.{_≡_, sym, _∙_}
+use mathlib.Core.Path.{_≡_}
 use mathlib.Core.Bool.{true, false}
 use native.Mathlib.Omega.{arith}
 use lib.ListN.{getD}

@@ -1,6 +1,5 @@
 -- `stored::size` meets its contract: an arm for each row of the model's table.
 use mathlib.Core.Path.{ap, sym}
-use Prim.Native.Nat.{ℕ}
 use borrow.Author.Tests.{ne-eqb}
 use Rattle.model.specs.Stored.{elementKind, leafKind, markKind, storedKinds}
 use Rattle.plan_table.specs.StoredKinds.{sizeRead}

@@ -2,7 +2,7 @@
 use lib.ListN.{getD}
 use Rattle.run_insert.proofs.InsertLawsItems.{insert-many, insert-low, insert-leaf, insert-items, insert-done}
 use lib.ListN.{length}
-use mathlib.Core.Path.{_≡_, refl, sym, _∙_}
+use mathlib.Core.Path.{_≡_, refl}
 use native.Mathlib.Omega.{arith}
 use borrow.Author.Needs.{needs}
 use Rattle.plan_table.specs.Packed.{kindIn}

@@ -1,7 +1,5 @@
 -- `kinds::is_kind` meets its contract: it asks the table.
 use mathlib.Core.Path.{ap}
-use Prim.Native.Nat.{ℕ}
-use native.Mathlib.Omega.{arith}
 use borrow.Author.Needs.{needs}
 use Rattle.script_records.specs.declared.kinds.Kind.{Kind}
 use Rattle.script_records.proofs.kinds.is_kind.Statement.{statement}
