@@ -1,4 +1,4 @@
-//! A table packed as the C interface passes.
+//! A table packed as the C interface passes it.
 //!
 //! A row is packed into one number: kind + 4 * link + 4096 * tag. Link 0 means no parent,
 //! else it is the parent's number + 1. A mark is 0 for none, else the marked
@@ -68,7 +68,7 @@ fn decode_row(packed: u32) -> Option<Row> {
     Some(Row::new(kind, tag, link.checked_sub(1)))
 }
 
-/// Writes a table of at most 512 rows packed; what is past its rows are 0.
+/// Packs a table of at most 512 rows; numbers past its rows are 0.
 pub fn encode(table: &Table, rows: &mut [u32], marks: &mut [u16]) {
     let (used, unused) = rows.split_at_mut(table.rows.len());
     for (packed, row) in used.iter_mut().zip(&table.rows) {

@@ -37,10 +37,10 @@ static void run(const char *name, const uint8_t *script, size_t bytes) {
 }
 
 int main(void) {
-    const char *words[] = {"free", "upward", "meet"};
+    const char *texts[] = {"free", "upward", "meet"};
     size_t one = load("first", first), two = load("second", second);
     length = load("plan", plan);
-    printf("%s\n", words[accepted("analysis", yegnabit_analyse(first, one, second, two))]);
+    printf("%s\n", texts[accepted("analysis", yegnabit_analyse(first, one, second, two))]);
     run("first", first, one);
     run("second", second, two);
 }

@@ -158,9 +158,9 @@ module _ (p s a h w o d : List ℕ) (x : model.Table) (well : isWell x ≡ true)
   -- refused: a number other than 0
   pub run-refused : (f : refusal.Refusal) → runBy x (readScript s) ≡ refused f →
       runCalled p s a h w o d ≡ refusedCall (refusal.values (f .number) 2 (f .place)) a h w o d
-  run-refused f stops =
-      call-of p s a h w o d x (refused f) well read stops ok ∙
-      refused-called x a h w f o d (run-refuses x s f stops)
+  run-refused f ran =
+      call-of p s a h w o d x (refused f) well read ran ok ∙
+      refused-called x a h w f o d (run-refuses x s f ran)
 
   -- answered 0: the run has ended
   pub call-ends : codeOf (runCalled p s a h w o d .values) ≡ 0 → (v : List ℕ) × ((t : State) × (runBy x (readScript s) ≡ gives v t))

@@ -18,7 +18,7 @@ use Rattle.model.specs.Call.{answered, analyse, firstBy, Ran, filled, ru
 use Rattle.model.specs.Call.{ranBy, areasFit, runCall, callsEnd, CallsMatch, CallsEqual, Areas, runIn, Suffices}
 use Rattle.model.specs.Call.{EitherOrder, CallsCommute}
 use Rattle.model.proofs.BoolLaws.{cond-true, and-left}
-use Rattle.model.proofs.StopLaws.{stop-refuses}
+use Rattle.model.proofs.RefusedRuns.{refused-not-fine}
 use Rattle.model.proofs.RunsBack.{runsBack}
 use Rattle.model.proofs.FreeCommutes.{OrdersBy, freeCommutes}
 
@@ -94,7 +94,7 @@ module _ (e : Expr) (b : List ℕ) (i n : ℕ) (r : List ℕ) (E : readScript b 
   call-ends x well o y = ap (λ (t : Ran). isFine (t .refusal)) (call-runs x well ∙ ap (leaves x k) y) ∙ go o y
     where
       go : (q : Out) → runOn x e ≡ q → isFine (leaves x k q .refusal) ≡ ends q
-      go (refused f) z = stop-refuses e x f z
+      go (refused f) z = refused-not-fine e x f z
       go (gives v s) z = refl
 
   -- it leaves the model's table, well formed

@@ -28,6 +28,10 @@ form-cases P k e l c n =
     (λ h. cond-cases P (eqb k madeLeafKind) (λ i. l (eqb-true _ _ i))
     (λ i. cond-cases P (eqb k cutKind) (λ j. c (eqb-true _ _ j)) (λ j. n (eqb-false _ _ h) (eqb-false _ _ i) (eqb-false _ _ j))))
 
+-- a byte that is no kind has a record without bytes
+pub size-none : (k : ℕ) → (k ≡ madeElementKind → ⊥) → (k ≡ madeLeafKind → ⊥) → (k ≡ cutKind → ⊥) → 0 ≡ historySize k
+size-none k e l c = form-cases (λ f. 0 ≡ f .size) k (λ h. absurd (e h)) (λ h. absurd (l h)) (λ h. absurd (c h)) (λ _ _ _. refl)
+
 -- THE FORM that a record is written in
 abbrev pub formOf : Record → Form
 formOf (made i r) = madeForm (r .isLeaf)

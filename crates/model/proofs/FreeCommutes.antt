@@ -20,7 +20,7 @@ use Rattle.model.proofs.Labels.{Label}
 use Rattle.model.proofs.All.{all-imp}
 use Rattle.model.specs.Base.{All}
 use Rattle.model.proofs.Shift.{shift, shiftRecord}
-use Rattle.model.proofs.Twin.{World, Touched, Named, RunFrom, φ, Twin, Vals, stopped, passed, Sim, both, alike, full}
+use Rattle.model.proofs.Twin.{World, Touched, Named, RunFrom, φ, Twin, Vals, isRefused, passed, Sim, both, alike, full}
 use Rattle.model.proofs.Simulation.{script-sim}
 use Rattle.model.proofs.Start.{Labelled, labelled-by}
 use Rattle.model.proofs.Apart.{Away, Apart, free-apart}
@@ -42,8 +42,8 @@ module _ (W : World) (r : List Path) where
   gives-state : {v w : List ℕ} {s t : State} → gives v s ≡ gives w t → s ≡ t
   gives-state e = cc
 
-  stop-gives : {z : Refusal} {v : List ℕ} {s : State} → refused z ≡ gives v s → ⊥
-  stop-gives e = true≢false (sym (ap ends e))
+  refused-gives : {z : Refusal} {v : List ℕ} {s : State} → refused z ≡ gives v s → ⊥
+  refused-gives e = true≢false (sym (ap ends e))
 
   sim-ended : {o o′ : Out} → Sim W r [] o o′ → (v : List ℕ) (s : State) → o ≡ gives v s → Ended o′ v s
   sim-ended (both {t = t} more T a) v s e =
@@ -54,14 +54,14 @@ module _ (W : World) (r : List Path) where
         subst (λ u. Twin W more u t) (gives-state e) T,
         subst (Vals W r more) (gives-items e) a,
       )
-  sim-ended alike v s e = absurd (stop-gives e)
-  sim-ended (full k stopped) v s e = absurd (stop-gives e)
+  sim-ended alike v s e = absurd (refused-gives e)
+  sim-ended (full k isRefused) v s e = absurd (refused-gives e)
   sim-ended (full k (passed l)) v s e = inr (refl, k, subst (λ u. maxRows < count (u .plan) + W .m) (gives-state e) l)
 
-  sim-stops : {o o′ : Out} → Sim W r [] o o′ → ends o ≡ false → ends o′ ≡ false
-  sim-stops (both more T a) e = absurd (true≢false e)
-  sim-stops alike e = refl
-  sim-stops (full k f) e = refl
+  sim-refused : {o o′ : Out} → Sim W r [] o o′ → ends o ≡ false → ends o′ ≡ false
+  sim-refused (both more T a) e = absurd (true≢false e)
+  sim-refused alike e = refl
+  sim-refused (full k f) e = refl
 
 -- ALONE: what a script leaves
 run-alone : (o : ℕ) (e : Expr) (x : Table) (w : Labelled x) → hasUp e ≡ false → (v : List ℕ) (s : State) → runOn x e ≡ gives v s →
@@ -215,17 +215,17 @@ module _ (e f : Expr) (x : Table) (w : Labelled x) (A : Apart e f) where
             (k ∙ sym l, λ y. absurd (true≢false (sym y ∙ k)))
 
   -- ONE OF THEM STOPS ALONE, and so in the other order
-  stops-one : (z : Refusal) → runOn x e ≡ refused z → (o : Out) → runOn x f ≡ o → (ends o && ends (runOn (tableOf o) e)) ≡ false
-  stops-one z h (refused y) k = refl
-  stops-one z h (gives v s) k =
-      sim-stops (beside L) (pathsOf 1 e .result) (beside-sim L (A .firstDown)) (ap ends h)
+  refused-one : (z : Refusal) → runOn x e ≡ refused z → (o : Out) → runOn x f ≡ o → (ends o && ends (runOn (tableOf o) e)) ≡ false
+  refused-one z h (refused y) k = refl
+  refused-one z h (gives v s) k =
+      sim-refused (beside L) (pathsOf 1 e .result) (beside-sim L (A .firstDown)) (ap ends h)
     where
       L : Left
       L = leftBy 2 1 (λ q. omega arith) f e (A .secondAway) x w (A .secondDown) v s k
 
-  stops-two : (z : Refusal) → runOn x f ≡ refused z → (v : List ℕ) (s : State) → runOn x e ≡ gives v s → ends (runOn (s .plan) f) ≡ false
-  stops-two z h v s k =
-      sim-stops (beside L) (pathsOf 2 f .result) (beside-sim L (A .secondDown)) (ap ends h)
+  refused-two : (z : Refusal) → runOn x f ≡ refused z → (v : List ℕ) (s : State) → runOn x e ≡ gives v s → ends (runOn (s .plan) f) ≡ false
+  refused-two z h v s k =
+      sim-refused (beside L) (pathsOf 2 f .result) (beside-sim L (A .secondDown)) (ap ends h)
     where
       L : Left
       L = leftBy 1 2 (λ q. omega arith) e f (A .firstAway) x w (A .firstDown) v s k
@@ -234,9 +234,9 @@ module _ (e f : Expr) (x : Table) (w : Labelled x) (A : Apart e f) where
   orders : (o q : Out) → runOn x e ≡ o → runOn x f ≡ q →
       ((ends o && ends (runOn (tableOf o) f)) ≡ (ends q && ends (runOn (tableOf q) e))) ×
       ((ends o && ends (runOn (tableOf o) f)) ≡ true → OrdersBy x o q (runOn (tableOf o) f) (runOn (tableOf q) e))
-  orders (refused z) q h k = (sym (stops-one z h q k), λ y. absurd (false≢true y))
+  orders (refused z) q h k = (sym (refused-one z h q k), λ y. absurd (false≢true y))
   orders (gives v s) (refused z) h k =
-      (stops-two z k v s h, λ y. absurd (true≢false (sym y ∙ stops-two z k v s h)))
+      (refused-two z k v s h, λ y. absurd (true≢false (sym y ∙ refused-two z k v s h)))
   orders (gives v s) (gives v′ s′) h k = both-end v v′ s s′ h k
 
 pub freeCommutes : FreeCommutes

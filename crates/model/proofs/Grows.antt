@@ -19,11 +19,11 @@ use Rattle.model.proofs.BoolLaws.{cond-cases}
 use Rattle.model.proofs.GrowLaws.{count-withRow, count-linked}
 
 pub data Grows (c : ℕ) : Out → Type 0 where
-  stops : {z : Refusal} → isIn 7 10 (z .number) ≡ true → Grows c (refused z)
+  refuses : {z : Refusal} → isIn 7 10 (z .number) ≡ true → Grows c (refused z)
   keeps : {v : List ℕ} {s : State} → c ≤ count (s .plan) → Grows c (gives v s)
 
 grows-less : {b c : ℕ} {o : Out} → b ≤ c → Grows c o → Grows b o
-grows-less h (stops e) = stops e
+grows-less h (refuses e) = refuses e
 grows-less h (keeps k) =
     let l : _ ≤ _ = le-trans h k in
     keeps l
@@ -36,26 +36,26 @@ grows-gives v s =
 pub grows-then : {c : ℕ} {o : Out} (next : List ℕ → State → Out) → Grows c o →
     ((v : List ℕ) (s : State) → Grows (count (s .plan)) (next v s)) →
     Grows c (andThen o next)
-grows-then next (stops e) h = stops e
+grows-then next (refuses e) h = refuses e
 grows-then next (keeps {v} {s} k) h = grows-less k (h v s)
 
 pub grows-row : {c : ℕ} {o : Out} (next : State → Out) → Grows c o → ((s : State) → Grows (count (s .plan)) (next s)) →
     Grows c (thenRow o next)
-grows-row next (stops e) h = stops e
+grows-row next (refuses e) h = refuses e
 grows-row next (keeps {s = s} k) h = grows-less k (h s)
 
 grows-for : {c : ℕ} {o : Out} (z : ℕ) (v : List ℕ) (next : List ℕ → State → Out) → Grows c o →
     ((v : List ℕ) (s : State) → Grows (count (s .plan)) (next v s)) → Grows c (joinFor z v o next)
-grows-for z v next (stops e) h = stops e
+grows-for z v next (refuses e) h = refuses e
 grows-for {c} z v next (keeps {v = w} {s} k) h =
-    cond-cases (Grows c) (ltb maxItems (length v + length w)) (λ e. stops refl) (λ e. grows-less k (h (v ++ w) s))
+    cond-cases (Grows c) (ltb maxItems (length v + length w)) (λ e. refuses refl) (λ e. grows-less k (h (v ++ w) s))
 
 grows-new : (z : ℕ) (r : Row) (s : State) → Grows (count (s .plan)) (newRow z r s)
 grows-new z r s =
     let k : count (s .plan) ≤ count (withMade s r .plan) = omega (arith, count-withRow (s .plan) r) in
     let full = unless (ltb (count (s .plan)) maxRows) (tableAt z) in
-    cond-cases Unless (isFine full) (λ e. cond-cases Unless (ltb (length (s .history)) maxHistory) (λ e. keeps k) (λ e. stops refl))
-    (λ e. cond-cases Unless (ltb (count (s .plan)) maxRows) (λ e. keeps k) (λ e. stops refl))
+    cond-cases Unless (isFine full) (λ e. cond-cases Unless (ltb (length (s .history)) maxHistory) (λ e. keeps k) (λ e. refuses refl))
+    (λ e. cond-cases Unless (ltb (count (s .plan)) maxRows) (λ e. keeps k) (λ e. refuses refl))
   where
     Unless : Refusal → Type 0
     Unless f = Grows (count (s .plan)) (cond (isFine f) (gives (count (s .plan) ∷ []) (withMade s r)) (refused f))
@@ -70,7 +70,7 @@ grows-cut z (i ∷ is) s = go (rowAt (s .plan) i .parent) (λ t. grows-cut z is 
     go none h = h s
     go (some p) h =
         let k : count (s .plan) ≤ count (linked (s .plan) i none) = omega (arith, count-linked (s .plan) i none) in
-        cond-cases (Grows _) (ltb (length (s .history)) maxHistory) (λ e. grows-less k (h (cutRow s i p))) (λ e. stops refl)
+        cond-cases (Grows _) (ltb (length (s .history)) maxHistory) (λ e. grows-less k (h (cutRow s i p))) (λ e. refuses refl)
 
 pub grows-each : (z : ℕ) (x : Table) (t g : ℕ) (is : List ℕ) (cs : List Copied) (s : State) →
     Grows (count (s .plan)) (copyEach z x t g is cs s)
@@ -86,7 +86,7 @@ grows-copy z x (i ∷ is) g s = grows-row _ (grows-each z x i g (subtree x i) []
 pub grows-insert : (z : ℕ) (v w : List ℕ) (s : State) → Grows (count (s .plan)) (inserted z v w s)
 grows-insert z v w s =
     cond-cases (Grows _) (eqb (length w) 1 && isElement (s .plan) (getD w 0 0))
-    (λ e. grows-copy z (s .plan) v (getD w 0 0) s) (λ e. stops refl)
+    (λ e. grows-copy z (s .plan) v (getD w 0 0) s) (λ e. refuses refl)
 
 pub grows-loop : (z : ℕ) (f : ℕ → State → Out) → ((i : ℕ) (s : State) → Grows (count (s .plan)) (f i s)) → (v w : List ℕ) (s : State) →
     Grows (count (s .plan)) (loop z f v w s)
@@ -96,7 +96,7 @@ grows-loop z f h (i ∷ is) w s = grows-for z w _ (h i s) (λ w t. grows-loop z 
 
 pub grows-join : (z : ℕ) (v w : List ℕ) (s : State) → Grows (count (s .plan)) (joinItems z v w s)
 grows-join z v w s =
-    cond-cases (Grows _) (ltb maxItems (length v + length w)) (λ e. stops refl) (λ e. grows-gives (v ++ w) s)
+    cond-cases (Grows _) (ltb maxItems (length v + length w)) (λ e. refuses refl) (λ e. grows-gives (v ++ w) s)
 
 pub run-grows : (e : Expr) (b : List (List ℕ)) (s : State) → Grows (count (s .plan)) (run e b s)
 unfolding run

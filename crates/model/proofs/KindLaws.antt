@@ -8,7 +8,7 @@ use native.Mathlib.Omega.{arith}
 use lib.Dec.{eqb, leb}
 use borrow.Author.Tests.{eqb-true, eqb-false, eq-eqb, leb-true, ne-eqb}
 use Rattle.model.specs.Base.{all}
-use Rattle.model.specs.Kinds.{Kind, kindOf, isFound, bodyBy, operandsBy}
+use Rattle.model.specs.Kinds.{Kind, kindOf, isFound, fieldBy, bodyBy, operandsBy}
 use Rattle.model.specs.Stored.{elementKind, leafKind, markKind, storedKinds, isStoredKind, storedSize, recordSize}
 use Rattle.model.specs.Script.{nilKind, documentKind, variableKind, stepKind, joinKind, letKind, forKind, ifKind, newElementKind}
 use Rattle.model.specs.Script.{newLeafKind, deleteKind, insertKind, pickKind, scriptKinds, isScriptKind, bodySize, arity}
@@ -58,29 +58,22 @@ pub none-body : (rs : List Kind) (k : ℕ) → isFound (kindOf rs k) ≡ false �
 none-body [] k h = refl
 none-body (r ∷ rs) k h = by-cases (eqb k (r .number)) (λ e. absurd (false≢true (sym h ∙ rw e))) (λ e. rw e (none-body rs k (rw e at h)))
 
--- no body is longer than the longest, and no record has more operands than the row with most
-pub body-most : (rs : List Kind) (m k : ℕ) → all (λ (r : Kind). leb (r .body) m) rs ≡ true → bodyBy (kindOf rs k) ≤ m
+-- no row has more than the row with most: bytes of a body, or operands
+pub field-most : (f : Kind → ℕ) (rs : List Kind) (m k : ℕ) → all (λ (r : Kind). leb (f r) m) rs ≡ true → fieldBy f (kindOf rs k) ≤ m
 unfolding all
-body-most [] m k h = omega arith
-body-most (r ∷ rs) m k h =
+field-most f [] m k h = omega arith
+field-most f (r ∷ rs) m k h =
     by-cases (eqb k (r .number)) (λ e. rw e (leb-true _ _ (and-left _ _ h)))
-    (λ e. rw e (body-most rs m k (and-right (leb (r .body) m) _ h)))
-
-pub operands-most : (rs : List Kind) (m k : ℕ) → all (λ (r : Kind). leb (r .operands) m) rs ≡ true → operandsBy (kindOf rs k) ≤ m
-unfolding all
-operands-most [] m k h = omega arith
-operands-most (r ∷ rs) m k h =
-    by-cases (eqb k (r .number)) (λ e. rw e (leb-true _ _ (and-left _ _ h)))
-    (λ e. rw e (operands-most rs m k (and-right (leb (r .operands) m) _ h)))
+    (λ e. rw e (field-most f rs m k (and-right (leb (f r) m) _ h)))
 
 -- OF A SCRIPT
 pub size-most : (k : ℕ) → bodySize k ≤ 3
 unfolding scriptKinds all
-size-most k = body-most scriptKinds 3 k refl
+size-most k = field-most (λ (r : Kind). r .body) scriptKinds 3 k refl
 
 pub arity-most : (k : ℕ) → arity k ≤ 3
 unfolding scriptKinds all
-arity-most k = operands-most scriptKinds 3 k refl
+arity-most k = field-most (λ (r : Kind). r .operands) scriptKinds 3 k refl
 
 -- no kind is one
 pub other-kind : (k m : ℕ) → isScriptKind k ≡ false → isScriptKind m ≡ true → eqb k m ≡ false
@@ -136,4 +129,4 @@ stored-size k h = by-stored k h (λ e. rw e) (λ e. rw e) (λ e. rw e)
 
 pub stored-most : (k : ℕ) → storedSize k ≤ recordSize
 unfolding storedKinds all
-stored-most k = omega (arith, body-most storedKinds 3 k refl)
+stored-most k = omega (arith, field-most (λ (r : Kind). r .body) storedKinds 3 k refl)

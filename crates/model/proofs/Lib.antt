@@ -57,6 +57,6 @@ pub mod Beside
 pub mod Matching
 pub mod Orders
 pub mod FreeCommutes
-pub mod StopLaws
+pub mod RefusedRuns
 pub mod RefusedByTable
 pub mod CallsCommute

@@ -20,7 +20,7 @@ use Rattle.model.proofs.BoolLaws.{cond-cases}
 use Rattle.model.proofs.TestLaws.{isIn-by}
 use Rattle.model.proofs.StoredLaws.{readFrom-refuses}
 use Rattle.model.proofs.ScriptLaws.{readScript-sound}
-use Rattle.model.proofs.StopLaws.{stop-number}
+use Rattle.model.proofs.RefusedRuns.{refused-number}
 
 -- THE CHECKS give at most 6
 record Low (f : Refusal) : Type 0 where
@@ -98,5 +98,5 @@ refusedByTable = (
   λ b. readFrom-refuses Known (λ x i c e. known (recordRefusal x i c) (record-low x i c) e) (length b + 1) empty 0 b,
   λ b. readScript-sound b .ranged,
   λ x b. undo-known x (formFrom (length b + 1) 0 0 b) (form-known (length b + 1) 0 0 b),
-  λ x e. stop-number e x,
+  λ x e. refused-number e x,
 )

@@ -13,8 +13,8 @@ use Rattle.model.specs.Paths.{Path}
 use Rattle.model.proofs.Words.{first}
 use Rattle.model.proofs.Labels.{Label, label, labelAt}
 use Rattle.model.proofs.All.{all-imp}
-use Rattle.model.proofs.Grows.{Grows, stops, keeps}
-use Rattle.model.proofs.Twin.{World, Item, φ, ones, Twin, Valued, Vals, Full, stopped, passed, Sim, both, alike, full}
+use Rattle.model.proofs.Grows.{Grows, refuses, keeps}
+use Rattle.model.proofs.Twin.{World, Item, φ, ones, Twin, Valued, Vals, Full, isRefused, passed, Sim, both, alike, full}
 
 module _ (W : World) where
   -- MORE ROWS: labels and values stay
@@ -74,7 +74,7 @@ module _ (W : World) where
   sim-more r news more (full k f) = full k f
 
   pub full-grows : (c : ℕ) (o : Out) → maxRows < c + W .m → Grows c o → Full W o
-  full-grows c o h (stops e) = stopped
+  full-grows c o h (refuses e) = isRefused
   full-grows c o h (keeps {v} {s} k) =
       let l : maxRows < count (s .plan) + W .m = omega arith in
       passed l
@@ -86,5 +86,5 @@ module _ (W : World) where
       ((v : List ℕ) (s : State) → Grows (count (s .plan)) (next v s)) → Sim W r news (andThen o next) (andThen o′ next′)
   sim-then q r news next next′ (both {v} {s} {t} more T a) h g = sim-more r news more (h more v s t T a)
   sim-then q r news next next′ alike h g = alike
-  sim-then q r news next next′ (full k stopped) h g = full k stopped
+  sim-then q r news next next′ (full k isRefused) h g = full k isRefused
   sim-then q r news next next′ (full k (passed {v} {s} l)) h g = full k (full-grows (count (s .plan)) (next v s) l (g v s))

@@ -25,7 +25,7 @@ use Rattle.model.proofs.All.{all-append, all-in, all-filtered}
 use Rattle.model.proofs.ListLaws.{filtered-map}
 use Rattle.model.proofs.Grows.{Grows, grows-gives, grows-loop}
 use Rattle.model.proofs.Shift.{shift-low}
-use Rattle.model.proofs.Twin.{World, φ, ones, Twin, Valued, Vals, Full, stopped, passed, Sim, both, alike, full}
+use Rattle.model.proofs.Twin.{World, φ, ones, Twin, Valued, Vals, Full, isRefused, passed, Sim, both, alike, full}
 use Rattle.model.proofs.TwinLaws.{label-side, ones-length, count-across, label-last, valued-alike, alike-row}
 use Rattle.model.proofs.TwinStep.{step-alike, step-vals}
 use Rattle.model.proofs.TwinRow.{new-sim}
@@ -129,11 +129,11 @@ module _ (W : World) where
       sim-more W r news more
       (sim-limited r z (news ++ more) v w (λ l. next′ l t) (h more (v ++ w) s t T (all-append (vals-more W r news more k) a)))
   sim-for r z news v next next′ alike k h g = alike
-  sim-for r z news v next next′ (full b stopped) k h g = full b stopped
+  sim-for r z news v next next′ (full b isRefused) k h g = full b isRefused
   sim-for r z news v next next′ (full b (passed {v = w} {s} l)) k h g = full b (go (ltb maxItems (length v + length w)))
     where
       go : (b : Bool) → Full W (cond b (refused (itemsAt z)) (next (v ++ w) s))
-      go true = stopped
+      go true = isRefused
       go false = full-grows W (count (s .plan)) (next (v ++ w) s) l (g (v ++ w) s)
 
   -- K is what the loop's body needs of the labels, and keeps with more of them

@@ -133,7 +133,7 @@ module _ (W : World) where
 
   -- no room for m rows more
   pub data Full : Out → Type 0 where
-    stopped : {z : Refusal} → Full (refused z)
+    isRefused : {z : Refusal} → Full (refused z)
     passed : {v : List ℕ} {s : State} → maxRows < count (s .plan) + W .m → Full (gives v s)
 
   -- SIM: both give alike; both stop alike; or the second stops where the first, with m rows more, would not fit

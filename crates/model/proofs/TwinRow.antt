@@ -24,7 +24,7 @@ use Rattle.model.proofs.All.{all-append, all-imp}
 use Rattle.model.specs.Base.{nothing, also}
 use Rattle.model.proofs.Grows.{Grows}
 use Rattle.model.proofs.Twin.{Side, Script, SideFits, World, Touched, Kept, RunFrom, φ, ones, twos, Twin, Full, Sim}
-use Rattle.model.proofs.Twin.{φRow, φParent, φRecord, stopped, alike, full}
+use Rattle.model.proofs.Twin.{φRow, φParent, φRecord, isRefused, alike, full}
 use Rattle.model.proofs.TwinLaws.{label-across, Alike, one-count, two-count, count-across, row-bound, same-length, clear-two}
 use Rattle.model.proofs.TwinLaws.{alike-row, named-more}
 use Rattle.model.proofs.SimLaws.{full-grows}
@@ -190,7 +190,7 @@ module _ (W : World) (news : List Label) (s t : State) (T : Twin W news s t) whe
             subst (Full W) (ap f (sym (row-made z r s e)))
             (full-grows W (count (withMade s r .plan)) (f (gives (count (s .plan) ∷ []) (withMade s r)))
             (omega (arith, count-withRow (s .plan) r)) g)
-        fills b (inr e) = subst (Full W) (sym (no-room e)) stopped
+        fills b (inr e) = subst (Full W) (sym (no-room e)) isRefused
 
         go : Room z → Sim W q news (f (newRow z r s)) (f′ (newRow z (φRow W r) t))
         go (roomy a b c d) =

@@ -65,18 +65,25 @@ pub record Form : Type 0 where
   pub fits : (bytes : List ℕ) → Bool
   pub entry : (bytes : List ℕ) → Record
 
+-- bytes of the record of a row made, and of a link cut
+abbrev pub madeSize : ℕ
+madeSize = 6
+
+abbrev pub cutSize : ℕ
+cutSize = 5
+
+-- the row in the record of a row made
+abbrev pub madeRow : (isLeaf : Bool) → (bytes : List ℕ) → Row
+madeRow z b = record { isLeaf = z; tag = getD b 3 0; parent = parentIn (numberAt b 4) }
+
 -- of a row made: an element's name is 1 to 255
 abbrev pub madeForm : (isLeaf : Bool) → Form
 madeForm z =
-    record {
-      size = 6;
-      fits = λ b. z || isName (getD b 3 0);
-      entry = λ b. made (numberAt b 1) (record { isLeaf = z; tag = getD b 3 0; parent = parentIn (numberAt b 4) });
-    }
+    record { size = madeSize; fits = λ b. z || isName (getD b 3 0); entry = λ b. made (numberAt b 1) (madeRow z b) }
 
 -- of a link cut
 abbrev pub cutForm : Form
-cutForm = record { size = 5; fits = λ b. true; entry = λ b. cut (numberAt b 1) (numberAt b 3) }
+cutForm = record { size = cutSize; fits = λ b. true; entry = λ b. cut (numberAt b 1) (numberAt b 3) }
 
 -- of a byte that is no kind: a record without bytes, which is never read
 abbrev pub noForm : Form

@@ -25,12 +25,15 @@ abbrev pub isFound : Option Kind → Bool
 isFound none = false
 isFound (some r) = true
 
--- the bytes of its body; none where it is no kind
-abbrev pub bodyBy : Option Kind → ℕ
-bodyBy none = 0
-bodyBy (some r) = r .body
+-- a field of the row; 0 where it is no kind
+abbrev pub fieldBy : (Kind → ℕ) → Option Kind → ℕ
+fieldBy f none = 0
+fieldBy f (some r) = f r
 
--- its operands; none where it is no kind
+-- the bytes of its body
+abbrev pub bodyBy : Option Kind → ℕ
+bodyBy o = fieldBy (λ (r : Kind). r .body) o
+
+-- its operands
 abbrev pub operandsBy : Option Kind → ℕ
-operandsBy none = 0
-operandsBy (some r) = r .operands
+operandsBy o = fieldBy (λ (r : Kind). r .operands) o

@@ -1,5 +1,6 @@
 -- Document 03's calls over a lent plan, answer, history and work areas, and what joins them to ours. Grid, Done and Word are the types
--- that its src/lib declares. Each definition from tagOf to analysePost is that of the same name in document 03's specs/Entry.
+-- that its src/lib declares. Each definition from tagOf to analysePost is that of the same name in document 03's specs/Entry;
+-- its writeFault and lentFault are writeRefusal and lentRefusal here.
 -- Ours serve for the rest, being the same: filled, and what is used of its specs/Plan.
 use mathlib.Core.Path.{_≡_}
 use mathlib.Core.Bool.{Bool, true, false, _&&_, cond}

@@ -1,6 +1,7 @@
 -- Document 03's promises and starred cases, each a type, over its own scripts, runs, paths and answer. Each definition below is that of
 -- the same name in document 03's specs/Promise: IsScript, alongFrom, rowsOn, isOn, isTouched, FreeMeans, tableOf to newRows,
--- matchedHistory, madeBy, OrdersEqual, FreeCommutes, StoredBack, RunsBack, SweepsWell, and planP to Cases but for tableBy.
+-- matchedHistory, madeBy, OrdersEqual, FreeCommutes, StoredBack, RunsBack, SweepsWell, and planP to Cases but for tableBy; its faultBy is
+-- refusalBy here.
 -- Ours serve for the rest, being the same with some parts of a definition named (proved equal in proofs/Kept): areBytes, Places, isTree,
 -- rowsAt, ArePlaces, matched to matchedAll, matchedRow, PlansEqual, tableBy.
 use mathlib.Core.Path.{_≡_}

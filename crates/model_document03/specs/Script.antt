@@ -1,7 +1,8 @@
 -- Document 03's scripts, where its text differs from ours: a step's three numbers stand in the expression; depths, records and variables
 -- are counted by 'suc'. Each definition below is that of the same name in document 03's specs/Script: Expr, Parsed, thenParse, one, two,
 -- three, operands, parseFrom, whole, readScript.
--- Ours serve for the rest, being the same with kinds, limits and refusals named: bodySize, testFits, bodyFits, isBinder, exprRefusal.
+-- Ours serve for the rest: testFits, bodyFits and isBinder, the same with kinds and limits named; bodySize and exprRefusal (its
+-- exprFault), which ask the table of kinds (proved equal in proofs/KindLaws).
 use mathlib.Core.Bool.{cond}
 use mathlib.Core.List.{List}
 use Prim.Native.Nat.{ℕ, zero, suc, _+_}

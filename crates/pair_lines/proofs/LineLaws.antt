@@ -8,7 +8,7 @@ use Rattle.plan_table.specs.declared.Refusal.{Refusal}
 use Rattle.pair_text.specs.Text.{ascii, Placed, Field}
 use Rattle.pair_lines.specs.Lines.{newline, fileLine, answerLine, orderLine, NamePre, FileLine, AnswerLine, OrderLine}
 use Rattle.pair_orders.specs.declared.orders.Order.{Order}
-use Rattle.pair_orders.specs.declared.orders.Order.the-variants.{Stopped, Ended}
+use Rattle.pair_orders.specs.declared.orders.Order.the-variants.{Refused, Ended}
 use Rattle.pair_text.proofs.TextLaws.{placed-then}
 
 -- a refused file
@@ -39,10 +39,10 @@ within : {o w : List ℕ} {i : ℕ} → NamePre o i w → i ≤ length o
 within pre = omega (arith, pre .room)
 
 module _ {o w : List ℕ} {i : ℕ} (pre : NamePre o i w) {x : Order} {o₁ o₂ o₃ o₄ o₅ : List ℕ} {n m k j r : ℕ} where
-  pub stopped-placed : {s e : ℕ} → x ≡ Stopped s e → Placed o i w o₁ n → Placed o₁ n (ascii " refused") o₂ m → Field o₂ m s o₃ k →
+  pub refused-placed : {s e : ℕ} → x ≡ Refused s e → Placed o i w o₁ n → Placed o₁ n (ascii " refused") o₂ m → Field o₂ m s o₃ k →
       Field o₃ k e o₄ j → Placed o₄ j newline o₅ r → OrderLine o i w x o₅ r
   unfolding orderLine
-  stopped-placed t p q u v z =
+  refused-placed t p q u v z =
       let h = within pre in
       record {
         text =

@@ -5,7 +5,7 @@ use lib.ListN.{length}
 use Rattle.plan_table.specs.declared.Refusal.{Refusal}
 use Rattle.pair_text.specs.Text.{ascii, field, Placed}
 use Rattle.pair_orders.specs.declared.orders.Order.{Order}
-use Rattle.pair_orders.specs.declared.orders.Order.the-variants.{Stopped, Ended}
+use Rattle.pair_orders.specs.declared.orders.Order.the-variants.{Refused, Ended}
 
 -- Every line ends with 0x0A
 abbrev pub newline : List ℕ
@@ -21,7 +21,7 @@ answerLine w = ascii "answer " ++ w ++ newline
 
 -- AN ORDER: items in first's answer, items in second's, rows at the end; or refused: which script, which number
 unfoldable pub orderLine : (name : List ℕ) → Order → List ℕ
-orderLine w (Stopped s n) = w ++ ascii " refused" ++ field s ++ field n ++ newline
+orderLine w (Refused s n) = w ++ ascii " refused" ++ field s ++ field n ++ newline
 orderLine w (Ended i j r) = w ++ field i ++ field j ++ field r ++ newline
 
 -- THE PARTS: what each asks, and what it leaves. A name or an answer has seven bytes at most

@@ -34,7 +34,7 @@ pub fn put_order(out: &mut [u8], at: usize, name: &[u8], order: Order) -> usize
 {
     let n = text::put(out, at, name);
     match order {
-        Order::Stopped { script, number } => {
+        Order::Refused { script, number } => {
             let m = text::put(out, n, b" refused");
             let k = number::put_field(out, m, script as usize);
             let j = number::put_field(out, k, number as usize);

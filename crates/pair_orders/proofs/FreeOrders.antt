@@ -12,7 +12,7 @@ use Rattle.model.specs.Run.{State, Out, refused, gives, runOn}
 use Rattle.model.specs.Meeting.{answer, free}
 use Rattle.model.specs.Call.{runBy}
 use Rattle.model.specs.Promise.{ends, tableOf, answerOf, orderEnds}
-use Rattle.model.proofs.StopLaws.{stop-refuses}
+use Rattle.model.proofs.RefusedRuns.{refused-not-fine}
 use Rattle.model.proofs.RunsBack.{runsBack}
 use Rattle.model.proofs.StoredBack.{storedBack}
 use Rattle.model.proofs.CallsCommute.{length-matchedAll, free-scripts}
@@ -22,14 +22,14 @@ use Rattle.pair_orders.specs.Orders.{endingBy, ending, orderThen, orderF
 use Rattle.pair_orders.specs.Promise.{hasEnded, FreeOrders}
 use Rattle.pair_orders.specs.declared.orders.Ending.{Ending}
 use Rattle.pair_orders.specs.declared.orders.Order.{Order}
-use Rattle.pair_orders.specs.declared.orders.Order.the-variants.{Stopped, Ended}
+use Rattle.pair_orders.specs.declared.orders.Order.the-variants.{Refused, Ended}
 use Rattle.run.proofs.OutcomeLaws.{outcome-well}
 use Rattle.model.proofs.BoolLaws.{cond-false}
 
 -- AN ORDER by the endings of its two runs
 orderBy : (leads follows : Out) → Order
-orderBy (refused f) q = Stopped 1 (f .number)
-orderBy (gives v s) (refused f) = Stopped 2 (f .number)
+orderBy (refused f) q = Refused 1 (f .number)
+orderBy (gives v s) (refused f) = Refused 2 (f .number)
 orderBy (gives v s) (gives w u) = Ended (length v) (length w) (count (u .plan))
 
 -- a run on a packed well-formed table is the model's
@@ -43,7 +43,7 @@ module _ (b c : List ℕ) (e f : Expr) (i n j m : ℕ) (r q : List ℕ) (E : rea
   follows-run : (v : List ℕ) (s : State) (o : Out) → runOn (s .plan) f ≡ o →
       orderThen (length v) (endingBy (encode (s .plan)) o) ≡ orderBy (gives v s) o
   unfolding orderBy
-  follows-run v s (refused z) k = cond-false (isFine z) _ (Stopped 2 (z .number)) (stop-refuses f (s .plan) z k)
+  follows-run v s (refused z) k = cond-false (isFine z) _ (Refused 2 (z .number)) (refused-not-fine f (s .plan) z k)
   follows-run v s (gives w u) k = refl
 
   order-runs : order (encode x) b c ≡ orderBy (runOn x e) (runOn (tableOf (runOn x e)) f)
@@ -51,7 +51,7 @@ module _ (b c : List ℕ) (e f : Expr) (i n j m : ℕ) (r q : List ℕ) (E : rea
   order-runs = ap (λ (y : Ending). orderFrom y c) (ending-runs b e i n r E x well) ∙ go (runOn x e) refl
     where
       go : (o : Out) → runOn x e ≡ o → orderFrom (endingBy (encode x) o) c ≡ orderBy o (runOn (tableOf o) f)
-      go (refused z) k = cond-false (isFine z) _ (Stopped 1 (z .number)) (stop-refuses e x z k)
+      go (refused z) k = cond-false (isFine z) _ (Refused 1 (z .number)) (refused-not-fine e x z k)
       go (gives v s) k =
           ap (orderThen (length v))
           (ending-runs c f j m q F (s .plan) (runsBack e x v s (b, bytes, (i, (n, (r, E)))) well k .0)) ∙
@@ -65,7 +65,7 @@ ended-by (gives v s) (refused f) = refl
 ended-by (gives v s) (gives w u) = refl
 
 ended-swap : (y : Order) → hasEnded (swap y) ≡ hasEnded y
-ended-swap (Stopped s n) = refl
+ended-swap (Refused s n) = refl
 ended-swap (Ended i j r) = refl
 
 alike : (o o₂ q q₂ : Out) → (ends o && ends o₂) ≡ true → (ends q && ends q₂) ≡ true → length (answerOf q₂) ≡ length (answerOf o) →

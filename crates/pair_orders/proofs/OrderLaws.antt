@@ -17,7 +17,7 @@ use Rattle.run.specs.declared.RunResult.{RunResult}
 use Rattle.pair_orders.specs.Orders.{endingBy, ending, orderThen, orderFrom, order, swap}
 use Rattle.pair_orders.specs.declared.orders.Ending.{Ending}
 use Rattle.pair_orders.specs.declared.orders.Order.{Order}
-use Rattle.pair_orders.specs.declared.orders.Order.the-variants.{Stopped, Ended}
+use Rattle.pair_orders.specs.declared.orders.Order.the-variants.{Refused, Ended}
 use Rattle.run.proofs.CallLaws.{areas-fit}
 use Rattle.run.proofs.OutcomeLaws.{Refuses, refuses-fine, outcome-refuses}
 
@@ -47,10 +47,10 @@ module _ (t : Table) (b a h w : List ℕ) (i : answerNeed ≤ length a) (j : his
 
 -- AN ORDER by its three ways out
 module _ (t : Table) (b c : List ℕ) {one : Ending} (e : one ≡ ending t b) where
-  pub leads-refused : (one .number ≡ 0 → ⊥) → Stopped 1 (one .number) ≡ order t b c
+  pub leads-refused : (one .number ≡ 0 → ⊥) → Refused 1 (one .number) ≡ order t b c
   unfolding order
   leads-refused z =
-      sym (cond-ne (orderThen (one .items) (ending (one .table) c)) (Stopped 1 (one .number)) z) ∙
+      sym (cond-ne (orderThen (one .items) (ending (one .table) c)) (Refused 1 (one .number)) z) ∙
       ap (λ (r : Ending). orderFrom r c) e
 
   module _ (y : one .number ≡ 0) {two : Ending} (f : two ≡ ending (one .table) c) where
@@ -58,21 +58,21 @@ module _ (t : Table) (b c : List ℕ) {one : Ending} (e : one ≡ ending t b) wh
     unfolding order
     then-order =
         ap (orderThen (one .items)) f ∙
-        sym (cond-eq (orderThen (one .items) (ending (one .table) c)) (Stopped 1 (one .number)) y) ∙
+        sym (cond-eq (orderThen (one .items) (ending (one .table) c)) (Refused 1 (one .number)) y) ∙
         ap (λ (r : Ending). orderFrom r c) e
 
-    pub follows-refused : (two .number ≡ 0 → ⊥) → Stopped 2 (two .number) ≡ order t b c
-    follows-refused z = sym (cond-ne (Ended (one .items) (two .items) (two .table .count)) (Stopped 2 (two .number)) z) ∙ then-order
+    pub follows-refused : (two .number ≡ 0 → ⊥) → Refused 2 (two .number) ≡ order t b c
+    follows-refused z = sym (cond-ne (Ended (one .items) (two .items) (two .table .count)) (Refused 2 (two .number)) z) ∙ then-order
 
     pub both-ended : two .number ≡ 0 → Ended (one .items) (two .items) (two .table .count) ≡ order t b c
-    both-ended z = sym (cond-eq (Ended (one .items) (two .items) (two .table .count)) (Stopped 2 (two .number)) z) ∙ then-order
+    both-ended z = sym (cond-eq (Ended (one .items) (two .items) (two .table .count)) (Refused 2 (two .number)) z) ∙ then-order
 
 -- EACH SCRIPT under its own number
-pub swap-first : {o : Order} {s n : ℕ} → o ≡ Stopped s n → s ≡ 1 → Stopped 2 n ≡ swap o
-swap-first {n = n} e h = sym (ap swap e ∙ ap (λ (z : Bool). Stopped (cond z 2 1) n) (eq-eqb _ 1 h))
+pub swap-first : {o : Order} {s n : ℕ} → o ≡ Refused s n → s ≡ 1 → Refused 2 n ≡ swap o
+swap-first {n = n} e h = sym (ap swap e ∙ ap (λ (z : Bool). Refused (cond z 2 1) n) (eq-eqb _ 1 h))
 
-pub swap-second : {o : Order} {s n : ℕ} → o ≡ Stopped s n → (s ≡ 1 → ⊥) → Stopped 1 n ≡ swap o
-swap-second {n = n} e h = sym (ap swap e ∙ ap (λ (z : Bool). Stopped (cond z 2 1) n) (ne-eqb _ 1 h))
+pub swap-second : {o : Order} {s n : ℕ} → o ≡ Refused s n → (s ≡ 1 → ⊥) → Refused 1 n ≡ swap o
+swap-second {n = n} e h = sym (ap swap e ∙ ap (λ (z : Bool). Refused (cond z 2 1) n) (ne-eqb _ 1 h))
 
 pub swap-ended : {o : Order} {i j r : ℕ} → o ≡ Ended i j r → Ended j i r ≡ swap o
 swap-ended e = sym (ap swap e)

@@ -11,11 +11,11 @@ use Rattle.model.specs.Call.{analyse, answered}
 use Rattle.plan_table.specs.Packed.{encode}
 use Rattle.pair_orders.specs.Orders.{order, swap}
 use Rattle.pair_orders.specs.declared.orders.Order.{Order}
-use Rattle.pair_orders.specs.declared.orders.Order.the-variants.{Stopped, Ended}
+use Rattle.pair_orders.specs.declared.orders.Order.the-variants.{Refused, Ended}
 
 -- no script of the order is refused
 abbrev pub hasEnded : Order → Bool
-hasEnded (Stopped s n) = false
+hasEnded (Refused s n) = false
 hasEnded (Ended i j r) = true
 
 -- for every plan that is read and every two scripts that the analysis calls free, both orders end or neither; where they end, they

@@ -14,7 +14,7 @@ struct Ending {
 
 // How an order ended: the script refused, 1 or 2, and the number; or the items of the two answers and the rows at the end.
 pub enum Order {
-    Stopped {
+    Refused {
         script: u8,
         number: u8,
     },
@@ -66,7 +66,7 @@ pub fn in_order(table: Table, leads: &[u8], follows: &[u8]) -> Order
 {
     let one = run_alone(table, leads);
     if one.number != 0 {
-        return Order::Stopped {
+        return Order::Refused {
             script: 1,
             number: one.number,
         };
@@ -74,7 +74,7 @@ pub fn in_order(table: Table, leads: &[u8], follows: &[u8]) -> Order
     let between = one.table;
     let two = run_alone(between, follows);
     if two.number != 0 {
-        return Order::Stopped {
+        return Order::Refused {
             script: 2,
             number: two.number,
         };
@@ -91,11 +91,11 @@ pub fn swapped(order: Order) -> Order
     ensures { λ r. ⌜ r ≡ swap order ⌝ }
 {
     match order {
-        Order::Stopped { script, number } => {
+        Order::Refused { script, number } => {
             if script == 1 {
-                return Order::Stopped { script: 2, number };
+                return Order::Refused { script: 2, number };
             }
-            Order::Stopped { script: 1, number }
+            Order::Refused { script: 1, number }
         }
         Order::Ended {
             first,

@@ -14,7 +14,7 @@ use Rattle.plan.specs.Calls.{readBy}
 use Rattle.paths.specs.Analysis.{analysisOf}
 use Rattle.paths.proofs.Promised.{free-told}
 use Rattle.pair_orders.specs.declared.orders.Order.{Order}
-use Rattle.pair_orders.specs.declared.orders.Order.the-variants.{Stopped, Ended}
+use Rattle.pair_orders.specs.declared.orders.Order.the-variants.{Refused, Ended}
 use Rattle.pair_orders.specs.Orders.{order, swap}
 use Rattle.pair_orders.specs.Promise.{hasEnded}
 use Rattle.pair_orders.proofs.FreeOrders.{freeOrders}
@@ -31,8 +31,8 @@ free-printed p b c x e f =
 -- two orders that end alike
 both-orders : (x y : Order) → hasEnded x ≡ hasEnded y → (hasEnded x ≡ true → x ≡ y) → BothOrders (freeText x y)
 both-orders (Ended i j r) y e f = subst (λ (z : Order). BothOrders (freeText (Ended i j r) z)) (f refl) (inl (i, (j, (r, refl))))
-both-orders (Stopped s n) (Stopped s′ n′) e f = inr (s, (n, (s′, (n′, refl))))
-both-orders (Stopped s n) (Ended i j r) e f = absurd (false≢true e)
+both-orders (Refused s n) (Refused s′ n′) e f = inr (s, (n, (s′, (n′, refl))))
+both-orders (Refused s n) (Ended i j r) e f = absurd (false≢true e)
 
 pub freeLines : FreeLines
 freeLines p b c x bytes bytesB bytesC read says =

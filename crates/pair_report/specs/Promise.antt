@@ -14,7 +14,7 @@ use Rattle.paths.specs.declared.Analysis.the-variants.{Free}
 use Rattle.pair_text.specs.Text.{ascii}
 use Rattle.pair_files.specs.Promise.{fileBytes}
 use Rattle.pair_orders.specs.declared.orders.Order.{Order}
-use Rattle.pair_orders.specs.declared.orders.Order.the-variants.{Stopped, Ended}
+use Rattle.pair_orders.specs.declared.orders.Order.the-variants.{Refused, Ended}
 use Rattle.pair_report.specs.Pair.{linesOf, pairText}
 
 -- It reads at most 4,096 bytes of each file, which is enough: the lines are those for the whole files
@@ -30,7 +30,7 @@ freeText x y = linesOf (ascii (answerText Free)) x y
 abbrev pub BothOrders : (text : List ℕ) → Type 0
 BothOrders t =
     ((i : ℕ) × ((j : ℕ) × ((r : ℕ) × (t ≡ freeText (Ended i j r) (Ended i j r))))) ⊎
-    ((s : ℕ) × ((n : ℕ) × ((s′ : ℕ) × ((n′ : ℕ) × (t ≡ freeText (Stopped s n) (Stopped s′ n′))))))
+    ((s : ℕ) × ((n : ℕ) × ((s′ : ℕ) × ((n′ : ℕ) × (t ≡ freeText (Refused s n) (Refused s′ n′))))))
 
 -- DEMAND 3 on what is printed, for every plan that is read and every two scripts that the analysis calls free, 0
 abbrev pub FreeLines : Type 0

@@ -14,7 +14,7 @@ use Rattle.model.specs.Limits.{maxDepth, maxBinders}
 use Rattle.plan_table.specs.declared.Refusal.{Refusal}
 use Rattle.script_records.specs.Walk.{exprAt}
 use Rattle.script.specs.Reading.{scriptRead}
-use Rattle.script.proofs.ScriptLaws.{script-accepted, script-parsed, script-ill}
+use Rattle.script.proofs.ScriptLaws.{script-accepted, script-parsed, read-refused}
 use Rattle.paths_positions.specs.Positions.{Entry, Emitted, emit, AreLower, entriesBefore, entriesOf, pathsFrom, pathsOn}
 use Rattle.paths_positions.specs.Answer.{positionsMeet}
 use Rattle.paths_positions.specs.Packed.{entryOf, entriesIn}
@@ -130,7 +130,7 @@ module _ (b c : List ℕ) where
   pub first-refused : (x : Refusal) → x ≡ scriptRead b → (x .number ≡ 0 → ⊥) → Refused 1 x ≡ analysed b c
   first-refused x e h =
       ap (Refused 1) e ∙
-      sym (ap (λ (p : Parsed). analysisOf (firstBy p (readScript c))) (script-ill b (λ q. h (ap (λ (y : Refusal). y .number) e ∙ q))))
+      sym (ap (λ (p : Parsed). analysisOf (firstBy p (readScript c))) (read-refused b (λ q. h (ap (λ (y : Refusal). y .number) e ∙ q))))
 
   module _ (accepted : scriptRead b .number ≡ 0) where
     pub second-refused : (x : Refusal) → x ≡ scriptRead c → (x .number ≡ 0 → ⊥) → Refused 2 x ≡ analysed b c
@@ -138,7 +138,7 @@ module _ (b c : List ℕ) where
         ap (Refused 2) e ∙
         sym (ap (λ (p : Parsed). analysisOf (firstBy p (readScript c))) (script-parsed b accepted .1) ∙
         ap (λ (p : Parsed). analysisOf (secondBy (exprAt maxDepth b 0) p))
-        (script-ill c (λ q. h (ap (λ (y : Refusal). y .number) e ∙ q))))
+        (read-refused c (λ q. h (ap (λ (y : Refusal). y .number) e ∙ q))))
 
     pub both-accepted : scriptRead c .number ≡ 0 → {ws : List ℕ} {n : ℕ} {us : List ℕ} {m : ℕ} {r : Analysis} → ScriptPost b ws n →
         ScriptPost c us m →

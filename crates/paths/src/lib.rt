@@ -17,7 +17,7 @@ pub enum Analysis {
     Meet,
 }
 
-// Puts the positions of an accepted script into positions of which the first is zero; how many there are.
+// Puts the positions of an accepted script into an area of which the first is zero; how many there are.
 fn positions_of(bytes: &[u8], positions: &mut [usize; POSITIONS]) -> usize
     requires { ⌜ ScriptPre (now bytes) (now positions) ⌝ }
     ensures { λ r. ⌜ ScriptPost (now (bytes .entry)) (now (positions .exit)) r ⌝ }

@@ -7,7 +7,7 @@ use native.Mathlib.Omega.{arith}
 use lib.ListN.{getD, set, length-set}
 use lib.Seq.{getD-set-same, getD-set-other}
 use borrow.Author.Tests.{ne-eqb}
-use Rattle.model.specs.Script.{documentKind, variableKind, stepKind, deleteKind}
+use Rattle.model.specs.Script.{documentKind, variableKind, stepKind, deleteKind, joinKind, insertKind}
 use Rattle.model.specs.Script as model
 use Rattle.model.proofs.BoolLaws.{eq-cases}
 use Rattle.script_records.proofs.BindLaws.{withBound-set, withBound-same}
@@ -65,16 +65,16 @@ module _ {b : List ℕ} {at : ℕ} {ws : List ℕ} {n x : ℕ} (pre : UnaryPre b
   unary-none f g = grown-none (pre .grow) (rw (ne-eqb (getD b at 0) stepKind f, ne-eqb (getD b at 0) deleteKind g))
 
 module _ {k : ℕ} {ws : List ℕ} {n x y : ℕ} (pre : PairedPre ws n x y) where
-  pub binary-join : k ≡ 5 → {ws′ : List ℕ} {n′ r : ℕ} → Grown (positions.pushUnion x (outOf ws n y)) n ws′ n′ r →
+  pub binary-join : k ≡ joinKind → {ws′ : List ℕ} {n′ r : ℕ} → Grown (positions.pushUnion x (outOf ws n y)) n ws′ n′ r →
       Grown (binaryOf k x (outOf ws n y)) n ws′ n′ r
   binary-join e = grown-as (rw e)
 
-  pub binary-insert : k ≡ 12 → {ws′ : List ℕ} {n′ r : ℕ} → Grown (positions.pushInsert x (outOf ws n y)) n ws′ n′ r →
+  pub binary-insert : k ≡ insertKind → {ws′ : List ℕ} {n′ r : ℕ} → Grown (positions.pushInsert x (outOf ws n y)) n ws′ n′ r →
       Grown (binaryOf k x (outOf ws n y)) n ws′ n′ r
   binary-insert e = grown-as (rw e)
 
-  pub binary-none : (k ≡ 5 → ⊥) → (k ≡ 12 → ⊥) → Grown (binaryOf k x (outOf ws n y)) n ws n y
-  binary-none f g = grown-none (pre .grow) (rw (ne-eqb k 5 f, ne-eqb k 12 g))
+  pub binary-none : (k ≡ joinKind → ⊥) → (k ≡ insertKind → ⊥) → Grown (binaryOf k x (outOf ws n y)) n ws n y
+  binary-none f g = grown-none (pre .grow) (rw (ne-eqb k joinKind f, ne-eqb k insertKind g))
 
 -- THE VARIABLES of a second operand
 module _ (k : ℕ) (env : List ℕ) (v r : ℕ) (pre : BindPre k env v r) where

@@ -50,7 +50,7 @@ pub record PairedPre (ws : List ℕ) (n x y : ℕ) : Type 0 where
   pub grow : GrowPre ws n y
   pub low : x < n
 
--- all below a position, in a role: 1 accessed, 2 modified
+-- all below a position, in a role
 pub record BelowPre (ws : List ℕ) (n role x : ℕ) : Type 0 where
   pub size : length ws ≡ maxPositions
   pub room : n < maxPositions

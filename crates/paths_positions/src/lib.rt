@@ -1,4 +1,4 @@
-// Positions: the paths of a script's expressions, numbered and packed into positions.
+// Positions: the paths of a script's expressions, numbered and packed.
 pub mod packed;
 pub mod step;
 

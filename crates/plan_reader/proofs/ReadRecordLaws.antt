@@ -17,7 +17,7 @@ use Rattle.model.specs.Stored.{numberAt, rowIn, rowRefusal, markRefusal, lastMa
 use Rattle.model.proofs.BoolLaws.{by-cases, eq-cases, cond-eq, cond-false}
 use Rattle.model.proofs.KindLaws.{row-kind, stored-size}
 use Rattle.model.proofs.BytesLaws.{lastMarked-above}
-use Rattle.plan_table.specs.Packed.{elementBits, leafBits, linkOf, ofLink, packRow, rowsOf, packRows, decodeParts}
+use Rattle.plan_table.specs.Packed.{elementBits, leafBits, linkOf, ofLink, packRow, rowsOf, packRows, decodeParts, linkRoom}
 use Rattle.plan_table.specs.Fitting.{isElementBelow, isRootBelow}
 use Rattle.plan_reader.specs.Reading.{lastOf, RowPre, RowPost, MarkPre, MarkPost, RecordPre, RecordPost, Recorded}
 use Rattle.plan_table.proofs.PackedLaws.{ofLink-linkOf, count-decode, canonical-push}
@@ -46,10 +46,10 @@ module _ (s : List ℕ) where
       cond (eqb (getD s 0 0) leafKind) leafBits elementBits + 4 * (numberAt s 2 + 1) + 4096 * getD s 1 0 ≡ packRow (rowIn s)
   packed-some h = rw (ne-eqb (numberAt s 2) noParent h)
 
-pub link-none : (s : List ℕ) → numberAt s 2 ≡ noParent → linkOf (rowIn s .parent) < 1024
+pub link-none : (s : List ℕ) → numberAt s 2 ≡ noParent → linkOf (rowIn s .parent) < linkRoom
 link-none s h = rw (eq-eqb (numberAt s 2) noParent h) (omega arith)
 
-pub link-some : (s : List ℕ) → numberAt s 2 < maxRows → linkOf (rowIn s .parent) < 1024
+pub link-some : (s : List ℕ) → numberAt s 2 < maxRows → linkOf (rowIn s .parent) < linkRoom
 link-some s h = let e : numberAt s 2 ≡ noParent → ⊥ = λ q. omega arith in rw (ne-eqb (numberAt s 2) noParent e) (omega arith)
 
 -- a row at the front, by the tests on its way out

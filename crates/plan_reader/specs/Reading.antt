@@ -9,7 +9,7 @@ use Rattle.model.specs.Limits.{maxRows, documents}
 use Rattle.model.specs.Refusal.{refusal, refusalAt}
 use Rattle.model.specs.Stored.{isStoredKind, recordSize, Read, refused, got, readPlan, numberAt, rowIn, lastMarked}
 use Rattle.model.specs.Stored.{isMark, rowRefusal, markRefusal, recordRefusal, recorded}
-use Rattle.plan_table.specs.Packed.{linkOf, ofLink, packRow, decodeParts, Canonical}
+use Rattle.plan_table.specs.Packed.{linkOf, ofLink, packRow, decodeParts, Canonical, linkRoom}
 use Rattle.plan_reader.specs.declared.read.RecordRead.{RecordRead}
 use Rattle.plan_table.specs.declared.End.{End}
 
@@ -27,7 +27,7 @@ pub record RowPre (s ws : List ℕ) (n : ℕ) : Type 0 where
 pub record RowPost (s ws : List ℕ) (n last : ℕ) (ws′ : List ℕ) (r : ℕ) : Type 0 where
   pub refusal : (ms : List ℕ) (i : ℕ) → last ≡ lastOf ms → rowRefusal (decodeParts n ws ms) i s ≡ refusalAt r i
   pub rows : ws′ ≡ cond (eqb r 0) (set ws n (packRow (rowIn s))) ws
-  pub link : r ≡ 0 → linkOf (rowIn s .parent) < 1024
+  pub link : r ≡ 0 → linkOf (rowIn s .parent) < linkRoom
 
 pub record MarkPre (s ws ms : List ℕ) (n : ℕ) : Type 0 where
   pub whole : recordSize ≤ length s

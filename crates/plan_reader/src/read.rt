@@ -4,7 +4,7 @@ ghost use mathlib.Core.Bool.{cond};
 ghost use Prim.Native.Nat.{_+_, _*_, _<_};
 ghost use lib.Dec.{eqb};
 ghost use Rattle.model.specs.Stored.{leafKind};
-ghost use Rattle.plan_table.specs.Packed.{elementBits, leafBits};
+ghost use Rattle.plan_table.specs.Packed.{elementBits, leafBits, linkRoom};
 ghost use Rattle.plan_reader.specs.Reading.{RowPre, RowPost, MarkPre, MarkPost, RecordPre, RecordPost, ReadPre, ReadPost};
 use plan_table::End;
 use plan_table::Link;
@@ -26,7 +26,7 @@ pub struct RecordRead {
 
 // A stored row, packed: its kind and its name or value as they are stored, its parent's link.
 fn packed_row(kind: u8, tag: u8, parent: Link) -> u32
-    requires { ⌜ parent .0 < 1024 ⌝ }
+    requires { ⌜ parent .0 < linkRoom ⌝ }
     ensures { λ r. ⌜ r ≡ cond (eqb kind leafKind) leafBits elementBits + 4 * parent .0 + 4096 * tag ⌝ }
 {
     if kind == stored::LEAF {

@@ -16,7 +16,7 @@ use Rattle.model.specs.Table as model
 use Rattle.model.specs.Sweep.{isKept, newNumber, keptBefore, renumbered, sweptRows, sweptMarks, swept, through}
 use Rattle.model.proofs.BoolLaws.{by-cases, cond-true, cond-false, or-neither, eq-cases}
 use Rattle.model.proofs.ListLaws.{take-next, drop-next}
-use Rattle.plan_table.specs.Packed.{linkOf, ofLink, packRow, rowOf, rowsOf, packRows, decodeParts, decode, encode, linkIn}
+use Rattle.plan_table.specs.Packed.{linkOf, ofLink, packRow, rowOf, rowsOf, packRows, decodeParts, decode, encode, linkIn, linkRoom}
 use Rattle.plan_table.specs.Packed as packed
 use Rattle.plan_sweep.specs.Sweeping.{planSwept, Flagged, keepsRow, relinked, RowPost, numberOf, Sweeping, newLinks}
 use Rattle.plan_table.specs.declared.Table.{Table}
@@ -111,13 +111,13 @@ module _ (ws ms : List ℕ) (n i : ℕ) (fits : Fits n ws ms) (size : length ws 
   pub link-in : link < maxLinks
   link-in = omega (arith, link-low n ws ms within i low parent-lower, fits .few)
 
-  pub entry-low : getD ns link 0 < 1024
+  pub entry-low : getD ns link 0 < linkRoom
   entry-low = eq-cases link 0 (λ z. omega (arith, ap (λ (j : ℕ). getD ns j 0) z, s .none)) some-low
     where
       number-low : (k : ℕ) → numberOf x k ≤ k + 1
       number-low k = by-cases (isKept x k) (λ t. rw t (omega (arith, newNumber-le x k))) (λ t. rw t (omega arith))
 
-      some-low : (link ≡ 0 → ⊥) → getD ns link 0 < 1024
+      some-low : (link ≡ 0 → ⊥) → getD ns link 0 < linkRoom
       some-low z =
           let b = parent-lower (link - 1) (parent-some z) in
           omega (arith, entry-at s link z b, number-low (link - 1), fits .few)
@@ -300,8 +300,8 @@ module _ (ws ms : List ℕ) (n : ℕ) (fits : Fits n ws ms) (size : length ws �
   encode-swept ms′ e = λ i. record { count = kept-count i; rows = (s .rows ∙ ap packRows rows-all) i; marks = (e ∙ links-swept) i }
 
 -- refused, and swept
-pub sweep-ill : (t : Table) → packed.fits t ≡ false → withTable (linkAt 0) t ≡ planSwept t
-sweep-ill t e = rw e
+pub sweep-unfit : (t : Table) → packed.fits t ≡ false → withTable (linkAt 0) t ≡ planSwept t
+sweep-unfit t e = rw e
 
 pub sweep-done : (t : Table) (u : Table) → packed.fits t ≡ true → u ≡ encode (swept (decode t)) →
     record { refusal = record { number = 0; place = 0 }; table = u } ≡ planSwept t

@@ -11,7 +11,7 @@ use Rattle.model.specs.Table as model
 use Rattle.model.specs.Refusal as refusal
 use Rattle.model.specs.Sweep.{swept, isKept, newNumber, sweptRows}
 use Rattle.plan_table.specs.Flags.{Flags}
-use Rattle.plan_table.specs.Packed.{ofLink, withLink, packRows, decode, partsFit, fits, linkIn}
+use Rattle.plan_table.specs.Packed.{ofLink, withLink, packRows, decode, partsFit, fits, linkIn, linkRoom}
 use Rattle.plan_table.specs.Results.{result, withTable}
 use Rattle.plan_table.specs.declared.Table.{Table}
 use Rattle.plan_table.specs.declared.TableResult.{TableResult}
@@ -49,7 +49,7 @@ pub record RowPre (w i next : ℕ) (ns out : List ℕ) : Type 0 where
   pub below : next ≤ i
   pub numbers : length ns ≡ maxLinks
   pub rows : length out ≡ maxRows
-  pub parent : getD ns (linkIn w) 0 < 1024
+  pub parent : getD ns (linkIn w) 0 < linkRoom
 
 pub record RowPost (w i next : ℕ) (ns out ns′ out′ : List ℕ) (r : ℕ) : Type 0 where
   pub numbers : ns′ ≡ cond (keepsRow w i ns) (set ns (i + 1) (next + 1)) ns

@@ -12,7 +12,7 @@ use Rattle.model.specs.Base.{any}
 use Rattle.model.specs.Table as model
 use Rattle.model.specs.Stored.{numberBytes, parentBytes, noParent}
 use Rattle.model.proofs.BoolLaws.{and-left, by-cases, eq-cases, eqb-iff}
-use Rattle.plan_table.specs.Packed.{linkOf, ofLink, packRow, rowsOf, decodeParts, kindIn, linkIn}
+use Rattle.plan_table.specs.Packed.{linkOf, ofLink, packRow, rowsOf, decodeParts, kindIn, linkIn, leafBits, linkRoom}
 use Rattle.plan_table.specs.Fitting.{isElementBelow, isRootBelow}
 use Rattle.plan_table.proofs.PackedLaws.{ofLink-linkOf, count-decode, rowAt-decode, rowsOf-push, ofLink-some}
 use Rattle.model.proofs.ListLaws.{map-set, any-snoc, drop-next}
@@ -23,7 +23,7 @@ below-bound ws n p e = ltb-true p n (and-left _ _ e)
 
 -- whether a row of the table is an element, a lower one than row i, one without parent, from its packed row
 module _ (n : ℕ) (ws ms : List ℕ) (within : n ≤ length ws) (p : ℕ) where
-  pub element-kind : p < n → model.isElement (decodeParts n ws ms) p ≡ not (eqb (kindIn (getD ws p 0)) 2)
+  pub element-kind : p < n → model.isElement (decodeParts n ws ms) p ≡ not (eqb (kindIn (getD ws p 0)) leafBits)
   element-kind h =
       let k : p < model.count (decodeParts n ws ms) = omega (arith, count-decode n ws ms within) in
       rw (lt-ltb p (model.count (decodeParts n ws ms)) k, rowAt-decode n ws ms within p h)
@@ -37,7 +37,7 @@ module _ (n : ℕ) (ws ms : List ℕ) (within : n ≤ length ws) (p : ℕ) where
       (λ e.
       let k : p < n = ltb-true p n e in
       rw (element-kind k, e, rowAt-decode n ws ms within p k)
-      (ap (λ (t : Bool). not (eqb (kindIn (getD ws p 0)) 2) && t) (root (linkIn (getD ws p 0)))))
+      (ap (λ (t : Bool). not (eqb (kindIn (getD ws p 0)) leafBits) && t) (root (linkIn (getD ws p 0)))))
       (λ e. rw (count-decode n ws ms within, e))
     where
       root : (l : ℕ) → not (model.hasParent (ofLink l)) ≡ eqb l 0
@@ -87,7 +87,7 @@ pub decode-mark : (n d i : ℕ) (ws ms : List ℕ) → decodeParts n ws (set ms 
 decode-mark n d i ws ms =
     ap (model.table (rowsOf n ws)) (map-set ofLink ms d (i + 1) ∙ ap (set (map ofLink ms) d) (ofLink-linkOf (some i)))
 
-pub decode-row : (n : ℕ) (r : model.Row) (ws ms : List ℕ) → n < length ws → linkOf (r .parent) < 1024 →
+pub decode-row : (n : ℕ) (r : model.Row) (ws ms : List ℕ) → n < length ws → linkOf (r .parent) < linkRoom →
     decodeParts (n + 1) (set ws n (packRow r)) ms ≡ model.withRow (decodeParts n ws ms) r
 decode-row n r ws ms h f = ap (λ (rs : List model.Row). model.table rs (map ofLink ms)) (rowsOf-push n ws r h f)
 

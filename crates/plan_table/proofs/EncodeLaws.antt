@@ -14,14 +14,14 @@ use Rattle.model.specs.Table as model
 use Rattle.model.proofs.BoolLaws.{and-both}
 use Rattle.model.proofs.ListLaws.{map-back}
 use Rattle.model.proofs.TableLaws.{Well, isWell-at, parent-count}
-use Rattle.plan_table.specs.Packed.{linkOf, ofLink, packRow, rowOf, isPackedRow, isZero, packRows, encode, decode, fits}
+use Rattle.plan_table.specs.Packed.{linkOf, ofLink, packRow, rowOf, isPackedRow, isZero, packRows, encode, decode, fits, linkRoom}
 use Rattle.plan_table.proofs.PackedLaws.{ofLink-linkOf, rowOf-packRow, isPackedRow-packRow}
 
 -- every parent's link fits its 10 bits
-well-links : (x : model.Table) → Well x → (k : ℕ) → linkOf (model.rowAt x k .parent) < 1024
+well-links : (x : model.Table) → Well x → (k : ℕ) → linkOf (model.rowAt x k .parent) < linkRoom
 well-links x w k = go (model.rowAt x k .parent) refl
   where
-    go : (p : Option ℕ) → model.rowAt x k .parent ≡ p → linkOf p < 1024
+    go : (p : Option ℕ) → model.rowAt x k .parent ≡ p → linkOf p < linkRoom
     go none e = omega arith
     go (some p) e = omega (arith, w .tree .parents k p e .0, w .few, parent-count x k p e)
 
@@ -39,7 +39,7 @@ decode-encode x h =
     (map-back packRow rowOf (x .rows) model.noRow (λ k b. rowOf-packRow _ (well-links x (isWell-at x h) k))) ∙
     ap (model.table (x .rows)) (map-back linkOf ofLink (x .marks) none (λ k b. ofLink-linkOf _))
 
--- ROWS, PACKED, are packed rows, and the rest is zero
+-- ROWS, once packed, pass the test of packed rows, and the rest is zero
 rows-packed : (rs : List model.Row) → all isPackedRow (map packRow rs) ≡ true
 unfolding all
 rows-packed [] = refl

@@ -18,7 +18,7 @@ use Rattle.model.specs.Table as model
 use Rattle.model.proofs.BoolLaws.{and-left, and-right, by-cases, cond-ne}
 use Rattle.model.proofs.TestLaws.{isIn-at, isIn-by}
 use Rattle.model.proofs.ListLaws.{map-set, map-back, take-next, take-set, all-getD}
-use Rattle.plan_table.specs.Packed.{elementBits, leafBits}
+use Rattle.plan_table.specs.Packed.{elementBits, leafBits, linkRoom}
 use Rattle.plan_table.specs.Packed.{linkOf, ofLink, packRow, rowOf, isPackedRow, withLink, isZero, rowsOf, decodeParts, packRows}
 use Rattle.plan_table.specs.Packed.{encode, Canonical, kindIn, linkIn, tagIn}
 
@@ -34,30 +34,29 @@ linkOf-ofLink (suc n) = rw (ne-eqb (suc n) 0 (λ e. omega arith)) (omega arith)
 pub ofLink-some : (l : ℕ) → (l ≡ 0 → ⊥) → ofLink l ≡ some (l - 1)
 ofLink-some l z = cond-ne none (some (l - 1)) z
 
--- A ROW AND ITS WORD, where the parent's link fits its 10 bits
-
-kind-packed : (r : model.Row) → linkOf (r .parent) < 1024 → eqb (kindIn (packRow r)) leafBits ≡ r .isLeaf
+-- A ROW, packed, where there is room for its parent's link
+kind-packed : (r : model.Row) → linkOf (r .parent) < linkRoom → eqb (kindIn (packRow r)) leafBits ≡ r .isLeaf
 kind-packed r f = go (r .isLeaf)
   where
     go : (z : Bool) → eqb (kindIn (cond z leafBits elementBits + 4 * linkOf (r .parent) + 4096 * r .tag)) leafBits ≡ z
     go true = eq-eqb (kindIn (leafBits + 4 * linkOf (r .parent) + 4096 * r .tag)) leafBits (omega arith)
     go false = ne-eqb (kindIn (elementBits + 4 * linkOf (r .parent) + 4096 * r .tag)) leafBits (λ e. omega arith)
 
-tag-packed : (r : model.Row) → linkOf (r .parent) < 1024 → tagIn (packRow r) ≡ r .tag
+tag-packed : (r : model.Row) → linkOf (r .parent) < linkRoom → tagIn (packRow r) ≡ r .tag
 tag-packed r f = go (r .isLeaf)
   where
     go : (z : Bool) → tagIn (cond z leafBits elementBits + 4 * linkOf (r .parent) + 4096 * r .tag) ≡ r .tag
     go true = omega (arith, f)
     go false = omega (arith, f)
 
-link-packed : (r : model.Row) → linkOf (r .parent) < 1024 → linkIn (packRow r) ≡ linkOf (r .parent)
+link-packed : (r : model.Row) → linkOf (r .parent) < linkRoom → linkIn (packRow r) ≡ linkOf (r .parent)
 link-packed r f = go (r .isLeaf)
   where
     go : (z : Bool) → linkIn (cond z leafBits elementBits + 4 * linkOf (r .parent) + 4096 * r .tag) ≡ linkOf (r .parent)
     go true = omega (arith, f)
     go false = omega (arith, f)
 
-pub rowOf-packRow : (r : model.Row) → linkOf (r .parent) < 1024 → rowOf (packRow r) ≡ r
+pub rowOf-packRow : (r : model.Row) → linkOf (r .parent) < linkRoom → rowOf (packRow r) ≡ r
 rowOf-packRow r f =
     let p = ap ofLink (link-packed r f) ∙ ofLink-linkOf (r .parent) in
     λ i. record { isLeaf = kind-packed r f i; tag = tag-packed r f i; parent = p i }
@@ -84,16 +83,16 @@ tag-byte w h =
     )
 
 -- another link is another parent
-module _ (w l : ℕ) (small : l < 1024) where
+module _ (w l : ℕ) (small : l < linkRoom) where
   kind-withLink : kindIn (withLink w l) ≡ kindIn w
   kind-withLink = omega arith
 
   pub rowOf-withLink : rowOf (withLink w l) ≡ model.withParent (rowOf w) (ofLink l)
   rowOf-withLink =
       let b : tagIn (withLink w l) ≡ tagIn w = omega arith in
-      let d : withLink w l / 4 ≡ l + 1024 * tagIn w = omega arith in
-      let e : (l + 1024 * tagIn w) % 1024 ≡ l = omega arith in
-      let c : linkIn (withLink w l) ≡ l = ap (λ (j : ℕ). j % 1024) d ∙ e in
+      let d : withLink w l / 4 ≡ l + linkRoom * tagIn w = omega arith in
+      let e : (l + linkRoom * tagIn w) % linkRoom ≡ l = omega arith in
+      let c : linkIn (withLink w l) ≡ l = ap (λ (j : ℕ). j % linkRoom) d ∙ e in
       λ i. record { isLeaf = eqb (kind-withLink i) 2; tag = b i; parent = ofLink (c i) }
 
   module _ (packed : isPackedRow w ≡ true) where
@@ -130,7 +129,7 @@ take-rows i n ws w h =
     ap (λ (rs : List model.Row). rs ++ (rowOf (getD ws i 0) ∷ [])) (sym (rows-take i n ws (omega arith)))
 
 -- a row more is one more packed
-pub rowsOf-push : (n : ℕ) (ws : List ℕ) (r : model.Row) → n < length ws → linkOf (r .parent) < 1024 → rowsOf (n + 1) (set ws n (packRow
+pub rowsOf-push : (n : ℕ) (ws : List ℕ) (r : model.Row) → n < length ws → linkOf (r .parent) < linkRoom → rowsOf (n + 1) (set ws n (packRow
     r)) ≡ rowsOf n ws ++ (r ∷ [])
 rowsOf-push n ws r h f =
     ap (map rowOf) (take-set ws n (packRow r) h) ∙ map-append rowOf (take n ws) (packRow r ∷ []) ∙
@@ -165,7 +164,7 @@ module _ (n : ℕ) (ws : List ℕ) (canonical : Canonical n ws) (within : n ≤ 
       getD-packed (r ∷ rs) (suc j) h = getD-packed rs j (omega arith)
 
   -- with another link it is the row's with another parent
-  module _ (link : ℕ) (small : link < 1024) where
+  module _ (link : ℕ) (small : link < linkRoom) where
     abbrev w : ℕ
     w = withLink (getD ws i 0) link
 
@@ -195,7 +194,7 @@ module _ (n : ℕ) (ws : List ℕ) (canonical : Canonical n ws) (within : n ≤ 
         sym (set-append-left (map packRow (rowsOf n ws)) (replicate (maxRows - length (rowsOf n ws)) 0) i w (omega arith)) ∙
         ap (λ (v : List ℕ). set v i w) canonical
 
-pub canonical-push : (n : ℕ) (ws : List ℕ) (r : model.Row) → n < maxRows → length ws ≡ maxRows → linkOf (r .parent) < 1024 →
+pub canonical-push : (n : ℕ) (ws : List ℕ) (r : model.Row) → n < maxRows → length ws ≡ maxRows → linkOf (r .parent) < linkRoom →
     Canonical n ws →
     Canonical (n + 1) (set ws n (packRow r))
 canonical-push n ws r h l f e =

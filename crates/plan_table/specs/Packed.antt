@@ -28,13 +28,17 @@ elementBits = 1
 abbrev pub leafBits : ℕ
 leafBits = 2
 
+-- links that a packed row has room for
+abbrev pub linkRoom : ℕ
+linkRoom = 1024
+
 -- the kind in a packed row
 abbrev pub kindIn : (packed : ℕ) → ℕ
 kindIn w = w % 4
 
 -- the link in a packed row
 abbrev pub linkIn : (packed : ℕ) → ℕ
-linkIn w = w / 4 % 1024
+linkIn w = w / 4 % linkRoom
 
 -- the name or value in a packed row
 abbrev pub tagIn : (packed : ℕ) → ℕ

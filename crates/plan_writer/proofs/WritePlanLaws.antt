@@ -25,9 +25,9 @@ use Rattle.plan_table.proofs.EncodeLaws.{decode-encode, fits-encode}
 
 -- WRITING
 module _ (t : Table) (o : List ℕ) where
-  pub write-ill : fits t ≡ false →
+  pub write-unfit : fits t ≡ false →
       (writtenBy 6 0 ≡ planWritten t o) × (o ≡ writtenOut t o)
-  write-ill e = (rw e, rw e)
+  write-unfit e = (rw e, rw e)
 
   module _ (e : fits t ≡ true) where
     pub write-short : length o < length (stored (decode t)) →

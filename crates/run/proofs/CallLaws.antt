@@ -21,7 +21,7 @@ use Rattle.model.proofs.HistoryLaws.{made-or-cut}
 use Rattle.model.specs.Limits.{maxDepth, maxRows, answerNeed, maxBinders, maxItems, documents, historyNeed, workNeed}
 use Rattle.script_records.specs.Walk.{endAt, exprAt}
 use Rattle.script.specs.Reading.{scriptRead}
-use Rattle.script.proofs.ScriptLaws.{script-accepted, script-parsed, script-ill}
+use Rattle.script.proofs.ScriptLaws.{script-accepted, script-parsed, read-refused}
 use Rattle.plan_table.specs.Packed.{encode, decode, decodeParts, fits}
 use Rattle.plan_table.specs.declared.Table.{Table}
 use Rattle.plan_table.specs.declared.Refusal.{Refusal}
@@ -37,7 +37,7 @@ use Rattle.run_operators.specs.Evaluating.{Fine, EvalPre, EvalPost}
 use Rattle.run_operators.specs.declared.value.Span.{Span}
 use Rattle.run.specs.declared.RunResult.{RunResult}
 use Rattle.run_operators.proofs.ValueLaws.{length-value}
-use Rattle.run_operators.proofs.YieldLaws.{yields-gives, yields-stop}
+use Rattle.run_operators.proofs.YieldLaws.{yields-gives, yields-refused}
 
 -- a cleared area behind what is written
 drop-zeros : (k n z : ℕ) → drop k (replicate n z) ≡ replicate (n - k) z
@@ -97,7 +97,7 @@ module _ (t : Table) (b : List ℕ) (e : fits t ≡ true) where
   formed = cond-true (fits t) (runBy (decode t) (readScript b)) (refused (refusal.linkAt 0)) e
 
   script-refuses : (scriptRead b .number ≡ 0 → ⊥) → outcomeOf t b ≡ refused (refusal.refusal (scriptRead b .number) (scriptRead b .place))
-  script-refuses k = formed ∙ ap (runBy (decode t)) (script-ill b k)
+  script-refuses k = formed ∙ ap (runBy (decode t)) (read-refused b k)
 
   pub refuses-by : {f : Refusal} → f ≡ scriptRead b → (f .number ≡ 0 → ⊥) →
       outcomeOf t b ≡ refused (refusal.refusal (f .number) (f .place))
@@ -137,8 +137,8 @@ module _ (t : Table) (b : List ℕ) (e : fits t ≡ true) where
             ap (run (exprAt maxDepth b 0) []) (sym (state-start (t .count) (t .rows) (t .marks) h)) ∙
             ap (λ (q : Progress). run (exprAt maxDepth b 0) [] (stateOf (t .rows) (t .marks) h q)) (sym is)
 
-        pub run-stops : (s .progress .number ≡ 0 → ⊥) → outcomeOf t b ≡ refused (refusal.refusal (s .progress .number) (s .place))
-        run-stops l = goes ∙ yields-stop ran l
+        pub run-refused : (s .progress .number ≡ 0 → ⊥) → outcomeOf t b ≡ refused (refusal.refusal (s .progress .number) (s .place))
+        run-refused l = goes ∙ yields-refused ran l
 
         module _ (l : s .progress .number ≡ 0) where
           fine : Fine (endAt b 0) whole (starting h w p env) s

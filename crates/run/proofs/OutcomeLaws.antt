@@ -12,7 +12,7 @@ use Rattle.model.specs.Script.{Parsed, refused, parsed, readScript}
 use Rattle.model.specs.Run.{Out, refused}
 use Rattle.model.specs.Call.{runBy}
 use Rattle.model.specs.Table as model
-use Rattle.model.proofs.StopLaws.{stop-number}
+use Rattle.model.proofs.RefusedRuns.{refused-number}
 use Rattle.model.proofs.TestLaws.{isIn-at, isIn-by, isIn-some}
 use Rattle.model.proofs.ScriptLaws.{Sound, readScript-sound}
 use Rattle.plan_table.specs.Packed.{decode, fits, encode}
@@ -39,7 +39,7 @@ within a b n h k e = let r = isIn-at a b n e in isIn-by 1 10 n (omega arith) (om
 
 parsed-refuses : (x : model.Table) (p : Parsed) → Sound p → Refuses (runBy x p)
 parsed-refuses x (refused g) s f e = within 1 5 (f .number) (omega arith) (omega arith) (s .ranged f (cc))
-parsed-refuses x (parsed d i n b) s f e = within 7 10 (f .number) (omega arith) (omega arith) (stop-number d x f e)
+parsed-refuses x (parsed d i n b) s f e = within 7 10 (f .number) (omega arith) (omega arith) (refused-number d x f e)
 
 pub run-refuses : (x : model.Table) (b : List ℕ) → Refuses (runBy x (readScript b))
 run-refuses x b = parsed-refuses x (readScript b) (readScript-sound b)

@@ -9,7 +9,7 @@ use Rattle.run_query.specs.Values.{valueAt}
 use Rattle.run_operators.specs.Machine.{Machine, Frame, boundValues, frame, stateIn, boundIn, valueIn}
 use Rattle.run_operators.specs.Evaluating.{BindPre, BindPost, binaryOf, BinaryPre, BinaryPost, EvalPre, EvalPost}
 use Rattle.run_operators.specs.declared.value.Span.{Span}
-use Rattle.run_operators.proofs.YieldLaws.{yields-as, yields-gives, yields-stop, stop-yields, withEnv, fine-between, yields-after}
+use Rattle.run_operators.proofs.YieldLaws.{yields-as, yields-gives, yields-refused, refused-yields, withEnv, fine-between, yields-after}
 use Rattle.run_operators.proofs.YieldLaws.{first-kept, pair-asks}
 use Rattle.run_eval.specs.Rests.{binaryRest, RestPre, RestPost}
 use Rattle.run_eval.proofs.ScopeLaws.{bound-inside, bound-back, scope-inside}
@@ -46,8 +46,8 @@ module _ {b : List ℕ} {kind left : ℕ} {f : Frame} {s : Machine} (pre : RestP
       runs at =
           ap (λ (vs : List (List ℕ)). goes-on at (run (exprAt left b (s .place)) vs (stateIn f s))) (sym (bound-inside (pre .scope) bound))
 
-      pub second-stops : (at : ℕ) → (s₁ .progress .number ≡ 0 → ⊥) → RestPost (binaryRest b kind at left) (endAt b (s .place)) f s s₁
-      second-stops at k = stop-yields k (runs at ∙ ap (goes-on at) (yields-stop second k))
+      pub second-refused : (at : ℕ) → (s₁ .progress .number ≡ 0 → ⊥) → RestPost (binaryRest b kind at left) (endAt b (s .place)) f s s₁
+      second-refused at k = refused-yields k (runs at ∙ ap (goes-on at) (yields-refused second k))
 
       module _ (k : s₁ .progress .number ≡ 0) where
         pub combine-asks : BinaryPre (f .top) (s .end) s₁

@@ -16,7 +16,7 @@ use Rattle.run_operators.specs.Evaluating.{movedTo, EvalPre, EvalPost}
 use Rattle.run_operators.specs.declared.record.Evaluated.{Evaluated}
 use Rattle.run_query.proofs.ValueLaws.{value-none}
 use Rattle.run_operators.proofs.ValueLaws.{length-value}
-use Rattle.run_operators.proofs.YieldLaws.{yields-as, yields-stop, stop-yields, moved-yields, placedAt, yields-from}
+use Rattle.run_operators.proofs.YieldLaws.{yields-as, yields-refused, refused-yields, moved-yields, placedAt, yields-from}
 use Rattle.run_eval.specs.Rests.{ifRest, RestPre, RestPost}
 
 module _ {b : List ℕ} {left : ℕ} {f : Frame} {s : Machine} (pre : RestPre b ifKind left f s) where
@@ -49,8 +49,8 @@ module _ {b : List ℕ} {left : ℕ} {f : Frame} {s : Machine} (pre : RestPre b 
         let within : s .end ≤ length (s .work) = omega (arith, v .short, v .room) in
         some (omega (arith, e, length-value (s .work) (f .top) (s .end) (v .order) within, v .order))
 
-    pub then-stops : (s₁ .progress .number ≡ 0 → ⊥) → RestPost (ifRest b left) (endAt b (endAt b (s .place))) f s s₁
-    then-stops k = stop-yields k (cond-ne _ _ many ∙ yields-stop ran k)
+    pub then-refused : (s₁ .progress .number ≡ 0 → ⊥) → RestPost (ifRest b left) (endAt b (endAt b (s .place))) f s s₁
+    then-refused k = refused-yields k (cond-ne _ _ many ∙ yields-refused ran k)
 
     pub then-yields : s₁ .progress .number ≡ 0 → {r : Evaluated} → r ≡ movedTo (endAt b (s₁ .place)) (evaluated s₁) →
         RestPost (ifRest b left) (endAt b (endAt b (s .place))) f s (cameTo r s₁)

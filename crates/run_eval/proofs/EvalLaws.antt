@@ -13,7 +13,7 @@ use Rattle.script.proofs.AcceptedLaws.{accepted-record, accepted-at}
 use Rattle.script.proofs.FieldLaws.{step-axis}
 use Rattle.run_operators.specs.Machine.{Machine, Frame, stateIn, boundIn, valueIn}
 use Rattle.run_operators.specs.Evaluating.{Fine, Yields, UnaryPre, UnaryPost, EvalPre, EvalPost}
-use Rattle.run_operators.proofs.YieldLaws.{yields-as, yields-gives, yields-stop, stop-yields, fine-between, yields-after, value-asks}
+use Rattle.run_operators.proofs.YieldLaws.{yields-as, yields-gives, yields-refused, refused-yields, fine-between, yields-after, value-asks}
 use Rattle.run_operators.proofs.YieldLaws.{placedAt, yields-from}
 use Rattle.run_eval.specs.Rests.{Rest, RestPre, RestPost}
 use Rattle.run_eval.proofs.OperandLaws.{recordsAt, First, Two, Three, one-operand, opens}
@@ -57,13 +57,13 @@ module _ {b : List ℕ} {left : ℕ} {f : Frame} {s : Machine} (pre : EvalPre b 
       first = yields-from (pre .held) (subst (λ (i : ℕ). EvalPost b (left - 1) f (placedAt i (s .end) s) s₁) first-at ran)
 
       -- refused in it
-      pub first-stops : {q : ℕ} → q ≡ arity (getD b (s .place) 0) → (q ≡ 0 → ⊥) → (s₁ .progress .number ≡ 0 → ⊥) →
+      pub first-refused : {q : ℕ} → q ≡ arity (getD b (s .place) 0) → (q ≡ 0 → ⊥) → (s₁ .progress .number ≡ 0 → ⊥) →
           EvalPost b left f s s₁
-      first-stops count some k =
+      first-refused count some k =
           let o = opens (pre .accepted) count some in
-          stop-yields k
+          refused-yields k
           (o .first .runs (boundIn f s) (stateIn f s) ∙
-          ap (λ (q : Out). andThen q (o .rest (secondAt b at) (boundIn f s))) (yields-stop first k))
+          ap (λ (q : Out). andThen q (o .rest (secondAt b at) (boundIn f s))) (yields-refused first k))
 
       -- WHAT IT LEAVES
       module _ (k : s₁ .progress .number ≡ 0) where

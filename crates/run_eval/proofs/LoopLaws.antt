@@ -24,8 +24,9 @@ use Rattle.run_operators.specs.declared.value.Span.{Span}
 use Rattle.run_operators.specs.declared.record.Evaluated.{Evaluated}
 use Rattle.run_query.proofs.ValueLaws.{value-none}
 use Rattle.run_operators.proofs.ValueLaws.{value-same, value-one, value-append}
-use Rattle.run_operators.proofs.YieldLaws.{yields-as, yields-gives, yields-stop, stop-yields, moved-yields, fine-between, yields-after}
-use Rattle.run_operators.proofs.YieldLaws.{value-yields, first-kept, pair-asks, limited-yields, placedAt, withEnv, yields-from}
+use Rattle.run_operators.proofs.YieldLaws.{yields-as, yields-gives, yields-refused, refused-yields, moved-yields}
+use Rattle.run_operators.proofs.YieldLaws.{fine-between, yields-after, value-yields, first-kept, pair-asks, limited-yields, placedAt}
+use Rattle.run_operators.proofs.YieldLaws.{withEnv, yields-from}
 use Rattle.run_eval.proofs.ScopeLaws.{marks-more, bound-kept, scope-kept, bound-inside, bound-back, scope-inside}
 
 -- THE LOOP of the model: no item, one, and one part after another
@@ -105,8 +106,8 @@ module _ {b : List ℕ} {left : ℕ} {f : Frame} {s : Machine} (pre : RestPre b 
     begins : items [] ≡ items (valueAt (s .work) (s .end) (s .end))
     begins = ap items (sym (value-none (s .work) (s .end)))
 
-    pub items-stop : (s₁ .progress .number ≡ 0 → ⊥) → RestPost (forRest b at left) (endAt b (s .place)) f s s₁
-    items-stop k = stop-yields k (begins ∙ yields-stop ran k)
+    pub items-refused : (s₁ .progress .number ≡ 0 → ⊥) → RestPost (forRest b at left) (endAt b (s .place)) f s s₁
+    items-refused k = refused-yields k (begins ∙ yields-refused ran k)
 
     module _ (k : s₁ .progress .number ≡ 0) where
       pub close-asks : BinaryPre (f .top) (s .end) s₁
@@ -170,8 +171,8 @@ module _ {b : List ℕ} {left : ℕ} {l : Loop} {f : Frame} {s : Machine} (pre :
           loop-one (l .for) body (getD (s .work) (l .from) 0) (valueIn f s) (stateIn f s) ∙
           ap (λ (vs : List (List ℕ)). joins (run (exprAt left b (s .place)) vs (stateIn f s))) (sym values)
 
-      pub item-stops : (s₁ .progress .number ≡ 0 → ⊥) → EachPost b left l f s s₁
-      item-stops k = stop-yields k (item-is ∙ ap joins (yields-stop ran k))
+      pub item-refused : (s₁ .progress .number ≡ 0 → ⊥) → EachPost b left l f s s₁
+      item-refused k = refused-yields k (item-is ∙ ap joins (yields-refused ran k))
 
       module _ (k : s₁ .progress .number ≡ 0) where
         pub limit-asks : f .top ≤ s₁ .end
@@ -234,8 +235,8 @@ module _ {b : List ℕ} {left : ℕ} {l : Loop} {f : Frame} {s : Machine} (pre :
           ap (λ (is : List ℕ). loop (l .for) body is (valueIn f s) (stateIn f s)) (sym parts) ∙
           loop-split (l .for) body (valueAt (s .work) (l .from) half) (valueAt (s .work) half (l .to)) (valueIn f s) (stateIn f s)
 
-      pub half-stops : (s₁ .progress .number ≡ 0 → ⊥) → EachPost b left l f s s₁
-      half-stops k = stop-yields k (halves ∙ ap goes-on (yields-stop ran k))
+      pub half-refused : (s₁ .progress .number ≡ 0 → ⊥) → EachPost b left l f s s₁
+      half-refused k = refused-yields k (halves ∙ ap goes-on (yields-refused ran k))
 
       module _ (k : s₁ .progress .number ≡ 0) where
         items-kept : valueAt (s₁ .work) half (l .to) ≡ valueAt (s .work) half (l .to)

@@ -109,13 +109,13 @@ module _ {w : List ℕ} {n : ℕ} {env : List Span} {top i j c : ℕ} (scope : I
           record {
             few = omega (arith, inner-more k n t, room t);
             size = post .size;
-            spans = λ v q. subst (SpanFits mid) (sym (read v q ∙ pick-more v)) (each v (omega (arith, inner-more k n t)));
+            spans = λ v q. subst (SpanFits mid) (sym (read v q ∙ bound-more v)) (each v (omega (arith, inner-more k n t)));
             values = subst (AreValues c) (sym (bound-inside ∙ ap (λ (b : Bool). cond b (boundValues w n env ++ (valueAt w i j ∷ []))
                 (boundValues w n env)) t)) (all-snoc (scope .values) rows);
           }
         where
-          pick-more : (v : ℕ) → getD (withBound k (take n env) (spanOf i j)) v noSpan ≡ getD (take n env ++ (spanOf i j ∷ [])) v noSpan
-          pick-more v = ap (λ (b : Bool). getD (cond b (take n env ++ (spanOf i j ∷ [])) (take n env)) v noSpan) t
+          bound-more : (v : ℕ) → getD (withBound k (take n env) (spanOf i j)) v noSpan ≡ getD (take n env ++ (spanOf i j ∷ [])) v noSpan
+          bound-more v = ap (λ (b : Bool). getD (cond b (take n env ++ (spanOf i j ∷ [])) (take n env)) v noSpan) t
 
           each : (v : ℕ) → v < n + 1 → SpanFits mid (getD (take n env ++ (spanOf i j ∷ [])) v noSpan)
           each v q = eq-cases v n last before

@@ -17,7 +17,7 @@ use Rattle.model.proofs.BoolLaws.{by-cases, and-both, eq-cases, cond-eq, cond-n
 use Rattle.model.proofs.TableLaws.{isElement-at, isElement-by}
 use Rattle.model.proofs.GrowLaws.{count-withRow, rowAt-withRow-old, rowAt-withRow-new}
 use Rattle.model.specs.Limits.{maxRows, maxHistory, maxLinks}
-use Rattle.plan_table.specs.Packed.{ofLink, rowOf, rowsOf, isPackedRow, withLink, decodeParts, linkIn}
+use Rattle.plan_table.specs.Packed.{ofLink, rowOf, rowsOf, isPackedRow, withLink, decodeParts, linkIn, linkRoom}
 use Rattle.plan_table.proofs.PackedLaws.{ofLink-linkOf, count-decode, rowAt-decode, rows-take, rowOf-withLink, packed-linked}
 use Rattle.plan_table.proofs.DecodeLaws.{parent-at, link-low}
 use Rattle.run_updates.specs.State.{stateOf, outcome, Held, Updated}
@@ -110,7 +110,7 @@ target-low {ws} {h} {p} held g e = omega (arith, isElement-at (decodeParts (p .c
 
 module _ {ws h : List ℕ} {p : Progress} (held : Held ws h p) (i g : ℕ) (row : i < p .count)
     (target : model.isElement (decodeParts (p .count) ws []) g ≡ true) {v : ℕ} (packed : v ≡ withLink (getD ws i 0) (g + 1)) where
-  small : g + 1 < 1024
+  small : g + 1 < linkRoom
   small = omega (arith, target-low held g target, held .few)
 
   pub copy-row : rowOf v ≡ model.withParent (rowOf (getD ws i 0)) (some g)

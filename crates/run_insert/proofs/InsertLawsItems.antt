@@ -20,13 +20,13 @@ use Rattle.model.specs.Limits.{maxRows}
 use Rattle.plan_table.specs.Packed.{ofLink, rowOf, rowsOf, withLink, decodeParts, kindIn, leafBits, elementBits}
 use Rattle.plan_table.proofs.PackedLaws.{count-decode, rowAt-decode, packed-linked}
 use Rattle.plan_table.proofs.DecodeLaws.{element-kind}
-use Rattle.run_updates.specs.State.{stateOf, outcome, After, Updated, stopped}
+use Rattle.run_updates.specs.State.{stateOf, outcome, After, Updated, refusedWith}
 use Rattle.run_updates.specs.Updating.{NewPre}
 use Rattle.run_insert.specs.Inserting.{before, copiedIn, IsCopy, ScanPre, ScanPost, ItemPre, ItemPost, ItemsPre, ItemsPost, noCopy}
 use Rattle.run_insert.specs.Inserting.{Copier, copier, InsertPre}
 use Rattle.run_updates.specs.declared.state.Progress.{Progress}
-use Rattle.run_updates.proofs.StateLaws.{held-within, held-count, after-self, after-then, outcome-gives, then-goes, then-stops}
-use Rattle.run_updates.proofs.StateLaws.{updated-stopped}
+use Rattle.run_updates.proofs.StateLaws.{held-within, held-count, after-self, after-then, outcome-gives, then-goes, then-refused}
+use Rattle.run_updates.proofs.StateLaws.{updated-refused}
 use Rattle.run_insert.proofs.InsertLawsScan.{descendants-past}
 use Rattle.run_insert.proofs.InsertLaws.{made-state, made-old, made-copy, target-low, copy-row, copy-pre}
 use Rattle.run_insert.proofs.InsertLaws.{before-decode, row-before, rows-kept}
@@ -104,7 +104,7 @@ module _ {ws h m : List ℕ} {p : Progress} {old t g : ℕ} (pre : ItemPre old t
       pub item-refused : (p₁ .number ≡ 0 → ⊥) → {m₁ : List ℕ} → ItemPost old t g (copier ws h m p) (copier ws₁ h₁ m₁ p₁)
       item-refused n =
           record {
-            updated = then-stops rest (p .count ∷ []) n whole;
+            updated = then-refused rest (p .count ∷ []) n whole;
             before = λ q. absurd (n q);
           }
 
@@ -234,7 +234,7 @@ module _ {ws₀ h₀ m₀ : List ℕ} {p₀ : Progress} {v : List ℕ} {g : ℕ}
             ap (λ (is : List ℕ). copyAll z x is g s) (sym (drop-next v k 0 more)) ∙ c .rest z ms
 
         pub inserting-refused : (r .number ≡ 0 → ⊥) → ItemsPost v g (copier ws₀ h₀ m₀ p₀) (copier ws′ h′ m′ r)
-        inserting-refused n = then-stops next [] n turn
+        inserting-refused n = then-refused next [] n turn
 
         pub inserting-again : r .number ≡ 0 → length m′ ≡ maxRows → Inserting v g (copier ws₀ h₀ m₀ p₀) (copier ws′ h′ m′ r) (k + 1)
         inserting-again n l =
@@ -248,27 +248,27 @@ module _ {ws₀ h₀ m₀ : List ℕ} {p₀ : Progress} {v : List ℕ} {g : ℕ}
 
 -- THE TARGET, by the tests
 module _ {ws h : List ℕ} {p : Progress} {v w : List ℕ} (pre : InsertPre ws h p v w) where
-  pub insert-many : (length w ≡ 1 → ⊥) → {ws′ h′ : List ℕ} {r : Progress} → r ≡ stopped p 7 →
+  pub insert-many : (length w ≡ 1 → ⊥) → {ws′ h′ : List ℕ} {r : Progress} → r ≡ refusedWith p 7 →
       Updated (λ z s. inserted z v w s) [] ws h p ws′ h′ r
   insert-many n {ws′} {h′} {r} e =
-      updated-stopped 6 e (λ z ms. rw (ne-eqb (length w) 1 n))
+      updated-refused 6 e (λ z ms. rw (ne-eqb (length w) 1 n))
 
   module _ (one : length w ≡ 1) {g : ℕ} (e : g ≡ getD w 0 0) where
     pub insert-low : g < p .count
     insert-low = subst (λ (j : ℕ). j < p .count) (sym e) (pre .targets 0 (omega arith))
 
-    kind : (ms : List ℕ) → model.isElement (decodeParts (p .count) ws ms) (getD w 0 0) ≡ not (eqb (kindIn (getD ws g 0)) 2)
+    kind : (ms : List ℕ) → model.isElement (decodeParts (p .count) ws ms) (getD w 0 0) ≡ not (eqb (kindIn (getD ws g 0)) leafBits)
     kind ms =
         ap (model.isElement (decodeParts (p .count) ws ms)) (sym e) ∙
         element-kind (p .count) ws ms (held-within (pre .held)) g insert-low
 
-    pub insert-leaf : (kindIn (getD ws g 0) ≡ elementBits → ⊥) → {ws′ h′ : List ℕ} {r : Progress} → r ≡ stopped p 7 →
+    pub insert-leaf : (kindIn (getD ws g 0) ≡ elementBits → ⊥) → {ws′ h′ : List ℕ} {r : Progress} → r ≡ refusedWith p 7 →
         Updated (λ z s. inserted z v w s) [] ws h p ws′ h′ r
     insert-leaf n {ws′} {h′} {r} f =
         let packed = packed-linked (p .count) ws (pre .held .canonical) (held-within (pre .held)) g insert-low 0 (omega arith) in
         let l : kindIn (getD ws g 0) ≡ leafBits =
         omega (arith, n, isIn-at elementBits leafBits (kindIn (withLink (getD ws g 0) 0)) packed) in
-        updated-stopped 6 f
+        updated-refused 6 f
         (λ z ms. let b : model.isElement (decodeParts (p .count) ws ms) (getD w 0 0) ≡ false = kind ms ∙ rw l in rw (one, b))
 
     module _ (l : kindIn (getD ws g 0) ≡ leafBits → ⊥) where
@@ -278,7 +278,7 @@ module _ {ws h : List ℕ} {p : Progress} {v w : List ℕ} (pre : InsertPre ws h
             held = pre .held;
             size = q;
             items = pre .items;
-            target = ap (model.isElement (decodeParts (p .count) ws [])) e ∙ kind [] ∙ rw (ne-eqb (kindIn (getD ws g 0)) 2 l);
+            target = ap (model.isElement (decodeParts (p .count) ws [])) e ∙ kind [] ∙ rw (ne-eqb (kindIn (getD ws g 0)) leafBits l);
           }
 
       pub insert-done : {ws′ h′ : List ℕ} {r : Progress} → Updated (λ z s. copyAll z (s .plan) v g s) [] ws h p ws′ h′ r →
@@ -287,7 +287,7 @@ module _ {ws h : List ℕ} {p : Progress} {v w : List ℕ} (pre : InsertPre ws h
           record {
             same = λ z ms.
                 let b : model.isElement (decodeParts (p .count) ws ms) (getD w 0 0) ≡ true =
-                kind ms ∙ rw (ne-eqb (kindIn (getD ws g 0)) 2 l) in
+                kind ms ∙ rw (ne-eqb (kindIn (getD ws g 0)) leafBits l) in
                 u .same z ms ∙ ap (λ (j : ℕ). copyAll z (decodeParts (p .count) ws ms) v j (stateOf ws ms h p)) e ∙
                 sym (cond-true (eqb (length w) 1 && model.isElement (decodeParts (p .count) ws ms) (getD w 0 0)) _ _
                 (and-both (eqb (length w) 1) _ (eq-eqb (length w) 1 one) b));

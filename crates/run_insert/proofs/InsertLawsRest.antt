@@ -20,7 +20,7 @@ use Rattle.run_updates.specs.State.{stateOf, outcome, Held, After}
 use Rattle.run_insert.specs.Inserting.{Copier, copier, before, copiedIn, nextLink, copyBy, IsCopy, Mapped, noCopy}
 use Rattle.run_insert.specs.Inserting.{NextPre, NextPost, ScanPre, ScanPost}
 use Rattle.run_updates.specs.declared.state.Progress.{Progress}
-use Rattle.run_updates.proofs.StateLaws.{held-within, held-count, after-self, after-then, outcome-gives, then-goes, then-stops}
+use Rattle.run_updates.proofs.StateLaws.{held-within, held-count, after-self, after-then, outcome-gives, then-goes, then-refused}
 use Rattle.run_insert.proofs.InsertLawsScan.{known-next, copy-turn}
 use Rattle.run_insert.proofs.InsertLaws.{before-decode, row-before, rows-kept, next-old, next-mapped}
 
@@ -141,7 +141,7 @@ module _ {old t : ℕ} {ws₀ h₀ m₀ : List ℕ} {p₀ : Progress} (pre : Sca
         copying-refused n =
             record {
               updated = λ g.
-                  then-stops (next g) [] n
+                  then-refused (next g) [] n
                   (λ z ms.
                   turn g z ms ∙
                   ap (λ (y : model.Table).

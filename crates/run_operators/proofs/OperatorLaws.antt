@@ -9,7 +9,7 @@ use borrow.Author.Tests.{ne-eqb}
 use Rattle.model.specs.Limits.{maxItems}
 use Rattle.model.specs.Base.{nothing, filtered}
 use Rattle.model.specs.Table as model
-use Rattle.model.specs.Script.{stepKind, deleteKind, pickKind}
+use Rattle.model.specs.Script.{stepKind, deleteKind, pickKind, joinKind, insertKind}
 use Rattle.model.specs.Script.{stepBy, scriptKinds, bodySize}
 use Rattle.model.specs.Step.{isReached, isPicked, stepped, picked}
 use Rattle.model.specs.Run.{gives}
@@ -157,11 +157,11 @@ module _ {top mid : ℕ} {s : Machine} (pre : BinaryPre top mid s) where
         apart = inl (pre .order);
       }
 
-  pub join-yields : (k at : ℕ) → k ≡ 5 → {r : Evaluated} → r ≡ limitedBy (evaluated s) top at →
+  pub join-yields : (k at : ℕ) → k ≡ joinKind → {r : Evaluated} → r ≡ limitedBy (evaluated s) top at →
       BinaryPost k at top mid s (cameTo r s)
   join-yields k at e eq n ms = yields-as (rw e) refl (limited-yields pre binary-within at eq)
 
-  pub insert-yields : (k at : ℕ) → k ≡ 12 → {ws′ h′ : List ℕ} {q : Progress} →
+  pub insert-yields : (k at : ℕ) → k ≡ insertKind → {ws′ h′ : List ℕ} {q : Progress} →
       InsertPost (s .rows) (s .history) (s .progress) (valueAt (s .work) top mid) (valueAt (s .work) mid (s .end)) ws′ h′ q →
       {r : Evaluated} → r ≡ endedBy q at (s .place) top (s .env) → BinaryPost k at top mid s (machine ws′ h′ (s .work) r)
   insert-yields k at e up eq n ms =
@@ -169,11 +169,11 @@ module _ {top mid : ℕ} {s : Machine} (pre : BinaryPre top mid s) where
       (yields-updated (frame n ms top) s up (appended-none (s .work) top) (λ q. refl) refl (omega (arith, pre .order, pre .value .room))
       (omega arith) (λ q. nothing) (pre .value .spans) eq)
 
-  pub body-yields : (k at : ℕ) → (k ≡ 5 → ⊥) → (k ≡ 12 → ⊥) → {w′ : List ℕ} {e : ℕ} → length w′ ≡ length (s .work) →
+  pub body-yields : (k at : ℕ) → (k ≡ joinKind → ⊥) → (k ≡ insertKind → ⊥) → {w′ : List ℕ} {e : ℕ} → length w′ ≡ length (s .work) →
       Appended (valueAt (s .work) mid (s .end)) (s .work) top w′ e →
       {r : Evaluated} → r ≡ endedBy (s .progress) at (s .place) e (s .env) →
       BinaryPost k at top mid s (machine (s .rows) (s .history) w′ r)
   body-yields k at f g size a eq n ms =
-      yields-as (rw (ne-eqb k 5 f, ne-eqb k 12 g)) refl
+      yields-as (rw (ne-eqb k joinKind f, ne-eqb k insertKind g)) refl
       (yields-updated (frame n ms top) s (updated-none (pre .value .held)) a (λ q. refl) size (omega (arith, pre .order, pre .value .room))
       (value-few (pre .value)) (λ q. pre .value .rows) (pre .value .spans) eq)

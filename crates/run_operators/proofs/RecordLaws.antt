@@ -14,7 +14,7 @@ use Rattle.model.specs.Run.{marked}
 use Rattle.model.proofs.BoolLaws.{cond-true, cond-false, cond-eq, cond-ne}
 use Rattle.script_records.proofs.BindLaws.{withBound-set, withBound-same}
 use Rattle.plan_table.specs.Packed.{ofLink}
-use Rattle.run_updates.specs.State.{stopped}
+use Rattle.run_updates.specs.State.{refusedWith}
 use Rattle.run_query.specs.Values.{Appended}
 use Rattle.run_query.proofs.ValueLaws.{appended-none, appended-if}
 use Rattle.run_updates.specs.declared.state.Progress.{Progress}
@@ -37,7 +37,7 @@ module _ (p : Progress) (at next end : ℕ) (env : List Span) where
 -- LIMITED to maxItems items
 module _ (x : Evaluated) (top at : ℕ) where
   abbrev over : Evaluated
-  over = record { progress = stopped (x .progress) 8; place = at; end = x .end; env = x .env }
+  over = record { progress = refusedWith (x .progress) 8; place = at; end = x .end; env = x .env }
 
   pub limited-few : x .end - top ≤ maxItems → limitedBy x top at ≡ x
   limited-few h = cond-false (ltb maxItems (x .end - top)) over x (le-ltb maxItems (x .end - top) h)

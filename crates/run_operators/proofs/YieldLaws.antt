@@ -14,7 +14,7 @@ use Rattle.model.proofs.ValueLaws.{areRows-more}
 use Rattle.model.proofs.All.{all-append}
 use Rattle.run_updates.specs.State.{Held, Updated}
 use Rattle.run_query.specs.Values.{valueAt, Appended}
-use Rattle.run_updates.proofs.StateLaws.{after-self, after-then, outcome-gives, outcome-stop}
+use Rattle.run_updates.proofs.StateLaws.{after-self, after-then, outcome-gives, outcome-refused}
 use Rattle.run_updates.specs.declared.state.Progress.{Progress}
 use Rattle.run_operators.specs.Machine.{Machine, Frame, frame, machine, begun, evaluated, cameTo, stateIn, valueIn, outcomeIn}
 use Rattle.run_operators.specs.Evaluating.{endedBy, limitedBy, movedTo, HeldIn, AfterIn, Fine, Yields, ValuePre, BinaryPre}
@@ -58,9 +58,9 @@ module _ (f : Frame) (s : Machine) {g : ℕ → State → Out} {v u ws′ h′ w
 
       not-good : (q .number ≡ 0 → ⊥) → outcomeIn f left ≡ g at (stateIn f s)
       not-good k =
-          outcome-stop (left .place) (valueIn f left) ws′ (f .marks) h′ q k ∙
+          outcome-refused (left .place) (valueIn f left) ws′ (f .marks) h′ q k ∙
           ap (λ (z : ℕ). refused (refusal (q .number) z)) (cond-ne next at k) ∙
-          sym (outcome-stop at v ws′ (f .marks) h′ q k) ∙ up .same at (f .marks)
+          sym (outcome-refused at v ws′ (f .marks) h′ q k) ∙ up .same at (f .marks)
 
 -- no update at all
 pub updated-none : {v ws h : List ℕ} {p : Progress} → Held ws h p → Updated (λ z s. gives v s) v ws h p ws h p
@@ -78,15 +78,15 @@ module _ {goal : Out} {next : ℕ} {f : Frame} {s s′ : Machine} (y : Yields go
   pub yields-gives : s′ .progress .number ≡ 0 → goal ≡ gives (valueIn f s′) (stateIn f s′)
   yields-gives k = sym (y .same) ∙ outcome-gives (s′ .place) (valueIn f s′) (s′ .rows) (f .marks) (s′ .history) (s′ .progress) k
 
-  pub yields-stop : (s′ .progress .number ≡ 0 → ⊥) → goal ≡ refused (refusal (s′ .progress .number) (s′ .place))
-  yields-stop k = sym (y .same) ∙ outcome-stop (s′ .place) (valueIn f s′) (s′ .rows) (f .marks) (s′ .history) (s′ .progress) k
+  pub yields-refused : (s′ .progress .number ≡ 0 → ⊥) → goal ≡ refused (refusal (s′ .progress .number) (s′ .place))
+  yields-refused k = sym (y .same) ∙ outcome-refused (s′ .place) (valueIn f s′) (s′ .rows) (f .marks) (s′ .history) (s′ .progress) k
 
 -- REFUSED, the areas may be anything
-pub stop-yields : {goal : Out} {next : ℕ} {f : Frame} {s s′ : Machine} → (s′ .progress .number ≡ 0 → ⊥) →
+pub refused-yields : {goal : Out} {next : ℕ} {f : Frame} {s s′ : Machine} → (s′ .progress .number ≡ 0 → ⊥) →
     goal ≡ refused (refusal (s′ .progress .number) (s′ .place)) → Yields goal next f s s′
-stop-yields {f = f} {s′ = s′} k e =
+refused-yields {f = f} {s′ = s′} k e =
     record {
-      same = outcome-stop (s′ .place) (valueIn f s′) (s′ .rows) (f .marks) (s′ .history) (s′ .progress) k ∙ sym e;
+      same = outcome-refused (s′ .place) (valueIn f s′) (s′ .rows) (f .marks) (s′ .history) (s′ .progress) k ∙ sym e;
       fine = λ q. absurd (k q);
     }
 
@@ -260,6 +260,6 @@ module _ {top mid : ℕ} {s : Machine} (pre : BinaryPre top mid s) (within : s .
       many : maxItems < s .end - top → Goal r
       many l =
           subst Goal (sym (e ∙ limited-many (evaluated s) top at l))
-          (stop-yields (λ q. omega arith)
+          (refused-yields (λ q. omega arith)
           (cond-true (ltb maxItems (length first + length second)) _ _
           (lt-ltb maxItems (length first + length second) (omega (arith, lengths)))))

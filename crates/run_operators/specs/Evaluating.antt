@@ -13,7 +13,7 @@ use Rattle.model.specs.Step.{stepped, picked}
 use Rattle.model.specs.Run.{State, Out, gives, cutAll, joinItems, inserted, run, AreRows, AreValues}
 use Rattle.script_records.specs.Walk.{inner, withBound, endAt, exprAt}
 use Rattle.script.specs.Accepted.{Accepted}
-use Rattle.run_updates.specs.State.{stopped, Held, After}
+use Rattle.run_updates.specs.State.{refusedWith, Held, After}
 use Rattle.run_query.specs.Values.{valueAt}
 use Rattle.run_updates.specs.declared.state.Progress.{Progress}
 use Rattle.run_operators.specs.declared.value.Span.{Span}
@@ -60,7 +60,7 @@ endedBy p i j e ss = record { progress = p; place = cond (eqb (p .number) 0) j i
 abbrev pub limitedBy : Evaluated → (top at : ℕ) → Evaluated
 limitedBy x t i =
     cond (ltb maxItems (x .end - t))
-    (record { progress = stopped (x .progress) (itemsAt i .number); place = i; end = x .end; env = x .env }) x
+    (record { progress = refusedWith (x .progress) (itemsAt i .number); place = i; end = x .end; env = x .env }) x
 
 -- the same at another place
 abbrev pub movedTo : (place : ℕ) → Evaluated → Evaluated

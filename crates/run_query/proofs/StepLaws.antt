@@ -11,25 +11,25 @@ use Rattle.model.specs.Script.{stepBy}
 use Rattle.model.specs.Step.{leafLetter, named, letterOf, admits}
 use Rattle.model.proofs.BoolLaws.{by-cases, eqb-iff}
 use Rattle.model.proofs.ListLaws.{any-snoc}
-use Rattle.plan_table.specs.Packed.{rowOf, kindIn, tagIn}
+use Rattle.plan_table.specs.Packed.{rowOf, kindIn, tagIn, leafBits}
 use Rattle.run_query.proofs.ReachLaws.{among-any}
 
 -- TESTS
 module _ (w t n : ℕ) where
-  letter-leaf : kindIn w ≡ 2 → letterOf (rowOf w) ≡ leafLetter
+  letter-leaf : kindIn w ≡ leafBits → letterOf (rowOf w) ≡ leafLetter
   letter-leaf h = rw h
 
-  letter-element : (kindIn w ≡ 2 → ⊥) → letterOf (rowOf w) ≡ named (tagIn w)
-  letter-element h = rw (ne-eqb (kindIn w) 2 h)
+  letter-element : (kindIn w ≡ leafBits → ⊥) → letterOf (rowOf w) ≡ named (tagIn w)
+  letter-element h = rw (ne-eqb (kindIn w) leafBits h)
 
   pub pass-any : t ≡ 0 → admits (stepBy 0 t n) (letterOf (rowOf w)) ≡ true
-  pass-any h = by-cases (eqb (kindIn w) 2) (λ e. rw (e, h)) (λ e. rw (e, h))
+  pass-any h = by-cases (eqb (kindIn w) leafBits) (λ e. rw (e, h)) (λ e. rw (e, h))
 
   module _ (some-test : t ≡ 0 → ⊥) where
-    pub pass-leaf : kindIn w ≡ 2 → admits (stepBy 0 t n) (letterOf (rowOf w)) ≡ eqb t 2
+    pub pass-leaf : kindIn w ≡ leafBits → admits (stepBy 0 t n) (letterOf (rowOf w)) ≡ eqb t 2
     pass-leaf h = ap (admits (stepBy 0 t n)) (letter-leaf h) ∙ rw (ne-eqb t 0 some-test)
 
-    module _ (element : kindIn w ≡ 2 → ⊥) where
+    module _ (element : kindIn w ≡ leafBits → ⊥) where
       pub pass-element : t ≡ 1 → admits (stepBy 0 t n) (letterOf (rowOf w)) ≡ true
       pass-element h = ap (admits (stepBy 0 t n)) (letter-element element) ∙ rw h
 

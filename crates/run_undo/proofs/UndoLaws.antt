@@ -15,7 +15,7 @@ use Rattle.model.specs.Base.{any}
 use Rattle.model.specs.Refusal.{refusal, fine, isFine, refusalAt}
 use Rattle.model.specs.Table as model
 use Rattle.model.specs.Stored.{numberAt, parentIn, noParent}
-use Rattle.model.specs.History.{historyForm, historySize, recordIn, madeElementKind, madeLeafKind, cutKind}
+use Rattle.model.specs.History.{historyForm, historySize, recordIn, madeElementKind, madeLeafKind, cutKind, madeSize, cutSize}
 use Rattle.model.specs.Undo.{Placed, Formed, refused, formed, formRefusal, withPlaced, formFrom, sameBool}
 use Rattle.model.specs.Undo.{sameParent}
 use Rattle.model.specs.Undo.{madeFits, cutFits, Undo, refused, undoAll, backwards, undo}
@@ -29,16 +29,13 @@ use Rattle.plan_table.proofs.DecodeLaws.{element-below}
 use Rattle.run_undo.specs.Undoing.{IsWhole, FormPost, undoing, Whole, PlacesPost, FitPre, rowMade}
 
 -- THE BYTES of a record: five or six
-pub size-high : (k : ℕ) → historySize k ≤ 6
-size-high k = form-cases (λ f. f .size ≤ 6) k (λ e. omega arith) (λ e. omega arith) (λ e. omega arith) (λ e l c. omega arith)
+pub size-high : (k : ℕ) → historySize k ≤ madeSize
+size-high k = form-cases (λ f. f .size ≤ madeSize) k (λ e. omega arith) (λ e. omega arith) (λ e. omega arith) (λ e l c. omega arith)
 
-pub size-low : (k : ℕ) → 0 < historySize k → 5 ≤ historySize k
+pub size-low : (k : ℕ) → 0 < historySize k → cutSize ≤ historySize k
 size-low k =
-    form-cases (λ f. 0 < f .size → 5 ≤ f .size) k (λ e h. omega arith) (λ e h. omega arith) (λ e h. omega arith)
+    form-cases (λ f. 0 < f .size → cutSize ≤ f .size) k (λ e h. omega arith) (λ e h. omega arith) (λ e h. omega arith)
     (λ e l c h. absurd (omega arith))
-
-pub size-none : (k : ℕ) → (k ≡ madeElementKind → ⊥) → (k ≡ madeLeafKind → ⊥) → (k ≡ cutKind → ⊥) → 0 ≡ historySize k
-size-none k e l c = form-cases (λ f. 0 ≡ f .size) k (λ h. absurd (e h)) (λ h. absurd (l h)) (λ h. absurd (c h)) (λ _ _ _. refl)
 
 -- THE FORM of the record at the front
 module _ (s : List ℕ) (n : ℕ) where
@@ -110,8 +107,8 @@ undoing-set b m n (suc k) v h =
 
 pub record Forming (b m : List ℕ) (at n : ℕ) : Type 0 where
   pub within : at ≤ length b
-  pub low : 5 * n ≤ at
-  pub high : at ≤ 6 * n
+  pub low : cutSize * n ≤ at
+  pub high : at ≤ madeSize * n
   pub few : n ≤ maxHistory
   pub size : length m ≡ maxHistory
   pub whole : Whole b m n
@@ -169,13 +166,13 @@ module _ {b m : List ℕ} {at n : ℕ} (c : Forming b m at n) where
     forming-refused z =
         record {
           fine = λ e. absurd (z e);
-          refused = λ e x. stopped (refusals ∙ cond-ne fine (refusal r at) z) x;
+          refused = λ e x. refuses (refusals ∙ cond-ne fine (refusal r at) z) x;
           whole = λ e. absurd (z e);
           few = λ e. absurd (z e);
         }
       where
-        stopped : formRefusal at n (drop at b) ≡ refusal r at → (x : model.Table) → refused (refusal r at) ≡ undo x b
-        stopped e x =
+        refuses : formRefusal at n (drop at b) ≡ refusal r at → (x : model.Table) → refused (refusal r at) ≡ undo x b
+        refuses e x =
             let y : isFine (formRefusal at n (drop at b)) ≡ false = ap isFine e ∙ ne-eqb r 0 z in
             let w : formFrom (suc (length b - n)) at n (drop at b) ≡ refused (formRefusal at n (drop at b)) =
             rw (ne-eqb (length (drop at b)) 0 there, y) in

@@ -12,13 +12,13 @@ use Rattle.model.specs.Limits.{maxRows}
 use Rattle.model.specs.Refusal.{refusal, fine, linkAt}
 use Rattle.model.specs.Table as model
 use Rattle.model.specs.Stored.{numberAt}
-use Rattle.model.specs.History.{made, cut, historyForm, historySize, recordIn, cutKind}
+use Rattle.model.specs.History.{made, cut, historyForm, historySize, recordIn, cutKind, madeSize, cutSize}
 use Rattle.model.specs.Undo.{madeFits, cutFits, undoFits, undone, refused, undoAll}
 use Rattle.model.proofs.FormLaws.{form-cases}
 use Rattle.model.proofs.ListLaws.{drop-all}
 use Rattle.model.proofs.BoolLaws.{and-left, cond-eq, cond-ne}
 use Rattle.model.proofs.TestLaws.{and-four, and-five}
-use Rattle.plan_table.specs.Packed.{withLink, decodeParts, Canonical}
+use Rattle.plan_table.specs.Packed.{withLink, decodeParts, Canonical, linkRoom}
 use Rattle.plan_table.proofs.PackedLaws.{ofLink-linkOf, count-decode, decode-linked, canonical-linked, canonical-pop, decode-pop}
 use Rattle.run_undo.specs.Undoing.{IsWhole, undoing, FitPre, rowMade, BackPre, BackPost, AllPre, AllPost}
 use Rattle.plan_table.specs.declared.End.{End}
@@ -33,9 +33,9 @@ module _ (s : List ℕ) (kind : getD s 0 0 ≡ cutKind → ⊥) (some : 0 < hist
       form-cases (λ f. 0 < f .size → f .entry s ≡ made (numberAt s 1) (rowMade s)) (getD s 0 0) (λ e _. rw e) (λ e _. rw e)
       (λ e _. absurd (kind e)) (λ _ _ _ h. absurd (omega arith)) some
 
-  size-made : historySize (getD s 0 0) ≡ 6
+  size-made : historySize (getD s 0 0) ≡ madeSize
   size-made =
-      form-cases (λ f. 0 < f .size → f .size ≡ 6) (getD s 0 0) (λ e _. refl) (λ e _. refl) (λ e _. absurd (kind e))
+      form-cases (λ f. 0 < f .size → f .size ≡ madeSize) (getD s 0 0) (λ e _. refl) (λ e _. refl) (λ e _. absurd (kind e))
       (λ _ _ _ h. absurd (omega arith)) some
 
 -- ONE RECORD UNDONE
@@ -57,9 +57,9 @@ module _ {ws : List ℕ} {n : ℕ} {s : List ℕ} (pre : BackPre ws n s) (ms : L
       }
 
   module _ (kind : getD s 0 0 ≡ cutKind) where
-    pub cut-pre : FitPre ws n s 5
+    pub cut-pre : FitPre ws n s cutSize
     cut-pre =
-        let e : historySize (getD s 0 0) ≡ 5 = ap historySize kind in
+        let e : historySize (getD s 0 0) ≡ cutSize = ap historySize kind in
         record { rows = pre .rows; few = pre .few; whole = omega (arith, pre .whole .1) }
 
     pub cut-refused : cutFits x (numberAt s 1) (numberAt s 3) ≡ false → BackPost ws ms n s ws (record { number = 6; place = 0; count = n })
@@ -86,7 +86,7 @@ module _ {ws : List ℕ} {n : ℕ} {s : List ℕ} (pre : BackPre ws n s) (ms : L
       linked-back :
           BackPost ws ms n s (set ws (numberAt s 1) (withLink w (numberAt s 3 + 1))) (record { number = 0; place = 0; count = n })
       linked-back =
-          let small : numberAt s 3 + 1 < 1024 = omega (arith, cut-parent-low, cut-row-low, pre .few) in
+          let small : numberAt s 3 + 1 < linkRoom = omega (arith, cut-parent-low, cut-row-low, pre .few) in
           record {
             fit = ap (undoFits x) (record-cut s kind) ∙ fit;
             link = λ f. absurd (f refl);
@@ -106,7 +106,7 @@ module _ {ws : List ℕ} {n : ℕ} {s : List ℕ} (pre : BackPre ws n s) (ms : L
           (sym (f ∙ ap (λ (j : ℕ). withLink (getD ws j 0) (q + 1)) a ∙ ap (λ (j : ℕ). withLink w (j + 1)) b)) linked-back
 
   module _ (kind : getD s 0 0 ≡ cutKind → ⊥) where
-    pub made-pre : FitPre ws n s 6
+    pub made-pre : FitPre ws n s madeSize
     made-pre =
         record { rows = pre .rows; few = pre .few; whole = omega (arith, pre .whole .1, size-made s kind (pre .whole .0)) }
 

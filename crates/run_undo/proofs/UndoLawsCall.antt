@@ -18,16 +18,16 @@ use Rattle.run_undo.specs.Undoing.{undoneBy, planUndone, PlacesPost, All
 use Rattle.plan_table.specs.declared.End.{End}
 
 module _ (t : Table) (b : List ℕ) where
-  pub undo-ill : fits t ≡ false → withTable (linkAt 0) t ≡ planUndone t b
-  undo-ill e = sym (cond-false (fits t) (undoneBy t (undo (decode t) b)) (withTable (linkAt 0) t) e)
+  pub undo-unfit : fits t ≡ false → withTable (linkAt 0) t ≡ planUndone t b
+  undo-unfit e = sym (cond-false (fits t) (undoneBy t (undo (decode t) b)) (withTable (linkAt 0) t) e)
 
   module _ (e : fits t ≡ true) where
     by-model : (u : Undo) → u ≡ undo (decode t) b → undoneBy t u ≡ planUndone t b
     by-model u f = ap (undoneBy t) f ∙ sym (cond-true (fits t) (undoneBy t (undo (decode t) b)) (withTable (linkAt 0) t) e)
 
     module _ {m : List ℕ} {r : End} (form : PlacesPost b m r) where
-      pub undo-broken : (r .number ≡ 0 → ⊥) → withTable (refusal (r .number) (r .place)) t ≡ planUndone t b
-      undo-broken z = by-model _ (form .refused z (decode t))
+      pub form-refused : (r .number ≡ 0 → ⊥) → withTable (refusal (r .number) (r .place)) t ≡ planUndone t b
+      form-refused z = by-model _ (form .refused z (decode t))
 
       module _ (z : r .number ≡ 0) where
         pub undo-pre : length (t .rows) ≡ maxRows → length m ≡ maxHistory → AllPre (t .rows) (t .count) b m (r .count)

@@ -8,8 +8,7 @@ use lib.ListN.{length, getD, drop}
 use Rattle.model.specs.Limits.{maxHistory, maxRows}
 use Rattle.model.specs.Refusal as refusal
 use Rattle.model.specs.Table as model
-use Rattle.model.specs.Stored.{numberAt, parentIn}
-use Rattle.model.specs.History.{madeLeafKind, historySize, recordIn}
+use Rattle.model.specs.History.{madeLeafKind, madeRow, historySize, recordIn}
 use Rattle.model.specs.Undo.{Placed, formRefusal, undoFits, undone, Undo, refused, back, undoAll, undo}
 use Rattle.plan_table.specs.Packed.{decode, decodeParts, Canonical, fits}
 use Rattle.model.specs.Refusal.{refusalAt}
@@ -61,7 +60,7 @@ pub record FitPre (ws : List ℕ) (n : ℕ) (s : List ℕ) (k : ℕ) : Type 0 wh
 
 -- the row in the record of a row made
 abbrev pub rowMade : (bytes : List ℕ) → model.Row
-rowMade s = record { isLeaf = eqb (getD s 0 0) madeLeafKind; tag = getD s 3 0; parent = parentIn (numberAt s 4) }
+rowMade s = madeRow (eqb (getD s 0 0) madeLeafKind) s
 
 -- UNDONE: one record
 pub record BackPre (ws : List ℕ) (n : ℕ) (s : List ℕ) : Type 0 where

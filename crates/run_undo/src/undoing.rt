@@ -3,7 +3,7 @@ ghost use mathlib.Core.Path.{_≡_};
 ghost use Prim.Native.Nat.{_<_, _≤_};
 ghost use lib.Dec.{eqb};
 ghost use lib.ListN.{length};
-ghost use Rattle.model.specs.History.{madeLeafKind, historySize};
+ghost use Rattle.model.specs.History.{madeLeafKind, madeSize, cutSize};
 ghost use Rattle.model.specs.Limits.{maxHistory};
 ghost use Rattle.model.specs.Stored.{parentIn, numberAt};
 ghost use Rattle.model.specs.Undo.{sameBool, sameParent, madeFits, cutFits};
@@ -20,29 +20,13 @@ use plan_table::number;
 use plan_table::packed;
 use run_updates::history;
 
-// The bytes of a record of this kind; 0 for a byte that is no kind.
-fn size(kind: u8) -> usize
-    ensures { λ r. ⌜ r ≡ historySize kind ⌝ }
-{
-    if kind == history::ELEMENT {
-        return history::MADE_SIZE;
-    }
-    if kind == history::LEAF {
-        return history::MADE_SIZE;
-    }
-    if kind == history::CUT {
-        return history::CUT_SIZE;
-    }
-    0
-}
-
 // The refusal of the record at the front of s, past so many records, or 0: 1, 5, 2, 4.
 fn form_refusal(s: &[u8], records: usize) -> u8
     requires { ⌜ 0 < length (now s) ⌝ }
     ensures { λ r. ⌜ FormPost (now (s .entry)) records r ⌝ }
 {
     let kind = s[0];
-    let size = size(kind);
+    let size = history::size(kind);
     if size == 0 {
         return Refusal::KIND;
     }
@@ -78,7 +62,7 @@ pub fn form(bytes: &[u8], places: &mut [u16]) -> End
         }
         places[records] = at as u16;
         records += 1;
-        at += size(bytes[at]);
+        at += history::size(bytes[at]);
     }
     End {
         number: 0,
@@ -99,7 +83,7 @@ fn same_kind(w: u32, kind: u8) -> bool
 
 // A row's link and the parent in the record s of a row made say the same.
 fn same_parent(link: Link, s: &[u8]) -> bool
-    requires { ⌜ 6 ≤ length (now s) ⌝ }
+    requires { ⌜ madeSize ≤ length (now s) ⌝ }
     ensures { λ r. ⌜ r ≡ sameParent (ofLink (link .0)) (parentIn (numberAt (now (s .entry)) 4)) ⌝ }
 {
     let number = number::number_at(s, 4);
@@ -111,7 +95,7 @@ fn same_parent(link: Link, s: &[u8]) -> bool
 
 // The row made by the record s is the last, unmarked, and equal to it.
 fn made_fits(rows: &[u32], marks: &[u16], count: usize, s: &[u8]) -> bool
-    requires { ⌜ FitPre (now rows) count (now s) 6 ⌝ }
+    requires { ⌜ FitPre (now rows) count (now s) madeSize ⌝ }
     ensures { λ r. ⌜ r ≡ madeFits (decodeParts count (now (rows .entry)) (now (marks .entry))) (numberAt (now (s .entry)) 1)
         (rowMade (now (s .entry))) ⌝ }
 {
@@ -134,7 +118,7 @@ fn made_fits(rows: &[u32], marks: &[u16], count: usize, s: &[u8]) -> bool
 
 // The row cut by the record s has no parent and no mark, and its old parent is a lower element.
 fn cut_fits(rows: &[u32], marks: &[u16], count: usize, s: &[u8]) -> bool
-    requires { ⌜ FitPre (now rows) count (now s) 5 ⌝ }
+    requires { ⌜ FitPre (now rows) count (now s) cutSize ⌝ }
     ensures { λ r. ⌜ r ≡ cutFits (decodeParts count (now (rows .entry)) (now (marks .entry))) (numberAt (now (s .entry)) 1)
         (numberAt (now (s .entry)) 3) ⌝ }
 {

@@ -8,7 +8,7 @@ use native.Mathlib.Omega.{arith}
 use lib.ListN.{length, take, drop}
 use Rattle.model.specs.Refusal.{refusal}
 use Rattle.model.specs.Table as model
-use Rattle.model.specs.History.{Record, recordBytes, historyBytes, IsInRange, times}
+use Rattle.model.specs.History.{Record, recordBytes, historyBytes, IsInRange, times, madeSize}
 use Rattle.model.specs.Run.{State, state, Out, refused, gives, thenRow}
 use Rattle.model.proofs.BoolLaws.{cond-eq, cond-ne}
 use Rattle.model.specs.Table.{Tree}
@@ -19,13 +19,13 @@ use Rattle.model.proofs.ListLaws.{length-over}
 use Rattle.model.specs.Limits.{maxRows, maxHistory, historyNeed}
 use Rattle.plan_table.proofs.FittedLaws.{fits-at}
 use Rattle.run_updates.specs.declared.tally.Tally.{Tally}
-use Rattle.run_updates.specs.State.{recordsFrom, recordsIn, started, stopped, stateOf, outcome, Recorded, Held, After, Updated}
+use Rattle.run_updates.specs.State.{recordsFrom, recordsIn, started, refusedWith, stateOf, outcome, Recorded, Held, After, Updated}
 use Rattle.run_updates.specs.declared.state.Progress.{Progress}
 use Rattle.run_updates.proofs.HistoryLaws.{recordsIn-push, take-over, drop-over}
 
 -- A RECORD APPENDED to what is held
-module _ {ws h : List ℕ} {p : Progress} (held : Held ws h p) (r : Record) (n : ℕ) (size : length (recordBytes r) ≡ n) (small : n ≤ 6)
-    (m : p .tally .records < maxHistory) where
+module _ {ws h : List ℕ} {p : Progress} (held : Held ws h p) (r : Record) (n : ℕ) (size : length (recordBytes r) ≡ n)
+    (small : n ≤ madeSize) (m : p .tally .records < maxHistory) where
   append-room : p .bytes + n ≤ length h
   append-room = omega (arith, held .size, held .area)
 
@@ -126,9 +126,9 @@ held-count {ws} {h} {p} held ms = count-decode (p .count) ws ms (held-within hel
 pub outcome-gives : (z : ℕ) (v ws ms h : List ℕ) (p : Progress) → p .number ≡ 0 → outcome z v ws ms h p ≡ gives v (stateOf ws ms h p)
 outcome-gives z v ws ms h p e = cond-eq _ _ e
 
-pub outcome-stop : (z : ℕ) (v ws ms h : List ℕ) (p : Progress) → (p .number ≡ 0 → ⊥) →
+pub outcome-refused : (z : ℕ) (v ws ms h : List ℕ) (p : Progress) → (p .number ≡ 0 → ⊥) →
     outcome z v ws ms h p ≡ refused (refusal (p .number) z)
-outcome-stop z v ws ms h p e = cond-ne _ _ e
+outcome-refused z v ws ms h p e = cond-ne _ _ e
 
 -- an outcome, and then the rest: as the rest goes on from the state
 pub then-goes : (f : State → Out) (z : ℕ) (v ws ms h : List ℕ) (p : Progress) → p .number ≡ 0 → {y : Out} →
@@ -137,22 +137,23 @@ then-goes f z v ws ms h p n e = sym (ap (λ (o : Out). thenRow o f) (outcome-giv
 
 -- REFUSED, the areas may be anything
 module _ {f : ℕ → State → Out} {v ws h : List ℕ} {p : Progress} {ws′ h′ : List ℕ} {r : Progress} where
-  pub updated-stopped : (n : ℕ) → r ≡ stopped p (suc n) → ((z : ℕ) (ms : List ℕ) → refused (refusal (suc n) z) ≡ f z (stateOf ws ms h p)) →
+  pub updated-refused : (n : ℕ) → r ≡ refusedWith p (suc n) →
+      ((z : ℕ) (ms : List ℕ) → refused (refusal (suc n) z) ≡ f z (stateOf ws ms h p)) →
       Updated f v ws h p ws′ h′ r
-  updated-stopped n e g =
+  updated-refused n e g =
       let k : r .number ≡ suc n = ap (λ (q : Progress). q .number) e in
       let y : r .number ≡ 0 → ⊥ = λ q. omega arith in
       record {
-        same = λ z ms. outcome-stop z v ws′ ms h′ r y ∙ ap (λ (j : ℕ). refused (refusal j z)) k ∙ g z ms;
+        same = λ z ms. outcome-refused z v ws′ ms h′ r y ∙ ap (λ (j : ℕ). refused (refusal j z)) k ∙ g z ms;
         after = λ q. absurd (y q);
       }
 
   -- then the rest is not reached
-  pub then-stops : (g : ℕ → List ℕ → State → Out) (u : List ℕ) → (r .number ≡ 0 → ⊥) →
+  pub then-refused : (g : ℕ → List ℕ → State → Out) (u : List ℕ) → (r .number ≡ 0 → ⊥) →
       ((z : ℕ) (ms : List ℕ) → thenRow (outcome z u ws′ ms h′ r) (g z ms) ≡ f z (stateOf ws ms h p)) → Updated f v ws h p ws′ h′ r
-  then-stops g u n e =
+  then-refused g u n e =
       record {
         same = λ z ms.
-            outcome-stop z v ws′ ms h′ r n ∙ sym (ap (λ (o : Out). thenRow o (g z ms)) (outcome-stop z u ws′ ms h′ r n)) ∙ e z ms;
+            outcome-refused z v ws′ ms h′ r n ∙ sym (ap (λ (o : Out). thenRow o (g z ms)) (outcome-refused z u ws′ ms h′ r n)) ∙ e z ms;
         after = λ q. absurd (n q);
       }

@@ -11,7 +11,7 @@ use borrow.Author.Tests.{lt-ltb, le-ltb}
 use Rattle.model.specs.Base.{over}
 use Rattle.model.specs.Refusal.{refusal}
 use Rattle.model.specs.Table as model
-use Rattle.model.specs.History.{Record, made, cut, IsInRange, cutIn, recordBytes}
+use Rattle.model.specs.History.{Record, made, cut, IsInRange, cutIn, recordBytes, madeSize, cutSize}
 use Rattle.model.specs.Run.{State, state, Out, refused, gives, newRow, loose, withMade, cutRow, cutBy, cutAll, thenRow}
 use Rattle.model.proofs.BoolLaws.{by-cases}
 use Rattle.model.proofs.ListLaws.{drop-next}
@@ -20,18 +20,18 @@ use Rattle.model.proofs.GrowLaws.{tree-withRow, tree-linked}
 use Rattle.model.proofs.FormLaws.{length-recordBytes}
 use Rattle.model.proofs.UndoLaws.{made-inRange}
 use Rattle.model.specs.Limits.{maxRows, maxHistory}
-use Rattle.plan_table.specs.Packed.{linkOf, rowOf, packRow, isPackedRow, withLink, decodeParts, Canonical, linkIn}
+use Rattle.plan_table.specs.Packed.{linkOf, rowOf, packRow, isPackedRow, withLink, decodeParts, Canonical, linkIn, linkRoom}
 use Rattle.plan_table.proofs.PackedLaws.{linkOf-ofLink, rowOf-packRow, packRow-rowOf, isPackedRow-packRow, canonical-push}
 use Rattle.plan_table.proofs.PackedLaws.{decode-linked, canonical-linked}
 use Rattle.plan_table.proofs.DecodeLaws.{decode-row, parent-linked, parent-at}
 use Rattle.run_updates.specs.Tallying.{plusMade, plusCut}
 use Rattle.run_updates.specs.declared.tally.Tally.{Tally}
-use Rattle.run_updates.specs.State.{recordsIn, stateOf, outcome, Held, After, Updated, stopped}
+use Rattle.run_updates.specs.State.{recordsIn, stateOf, outcome, Held, After, Updated, refusedWith}
 use Rattle.run_updates.specs.Updating.{NewPre, CutPre}
 use Rattle.run_updates.specs.declared.state.Progress.{Progress}
 use Rattle.run_updates.proofs.HistoryLaws.{recorded-made, recorded-cut}
-use Rattle.run_updates.proofs.StateLaws.{append-records, append-after, held-within, held-count, updated-stopped}
-use Rattle.run_updates.proofs.StateLaws.{after-self, after-then, outcome-gives, then-goes, then-stops}
+use Rattle.run_updates.proofs.StateLaws.{append-records, append-after, held-within, held-count, updated-refused}
+use Rattle.run_updates.proofs.StateLaws.{after-self, after-then, outcome-gives, then-goes, then-refused}
 
 -- NEW ROWS in the model
 module _ (z : ℕ) (r : model.Row) (s : State) where
@@ -47,19 +47,19 @@ module _ (z : ℕ) (r : model.Row) (s : State) where
 
 -- A ROW MADE
 module _ {ws h : List ℕ} {p : Progress} {w : ℕ} (pre : NewPre ws h p w) where
-  new-link : linkOf (rowOf w .parent) < 1024
+  new-link : linkOf (rowOf w .parent) < linkRoom
   new-link = omega (arith, linkOf-ofLink (linkIn w))
 
-  pub new-full : maxRows ≤ p .count → {ws′ h′ : List ℕ} {r : Progress} → r ≡ stopped p 10 →
+  pub new-full : maxRows ≤ p .count → {ws′ h′ : List ℕ} {r : Progress} → r ≡ refusedWith p 10 →
       Updated (λ z s. newRow z (rowOf w) s) (p .count ∷ []) ws h p ws′ h′ r
   new-full l e =
-      updated-stopped 9 e
+      updated-refused 9 e
       (λ z ms. sym (newRow-full z (rowOf w) (stateOf ws ms h p) (omega (arith, held-count (pre .held) ms))))
 
-  pub new-over : p .count < maxRows → maxHistory ≤ p .tally .records → {ws′ h′ : List ℕ} {r : Progress} → r ≡ stopped p 9 →
+  pub new-over : p .count < maxRows → maxHistory ≤ p .tally .records → {ws′ h′ : List ℕ} {r : Progress} → r ≡ refusedWith p 9 →
       Updated (λ z s. newRow z (rowOf w) s) (p .count ∷ []) ws h p ws′ h′ r
   new-over l m e =
-      updated-stopped 8 e
+      updated-refused 8 e
       (λ z ms.
       sym (newRow-over z (rowOf w) (stateOf ws ms h p) (omega (arith, held-count (pre .held) ms))
       (omega (arith, pre .held .history .records))))
@@ -75,7 +75,7 @@ module _ {ws h : List ℕ} {p : Progress} {w : ℕ} (pre : NewPre ws h p w) wher
     history′ = over (p .bytes) (recordBytes entry) h
 
     abbrev madeWith : Tally → Progress
-    madeWith t = record { number = 0; count = p .count + 1; bytes = p .bytes + 6; tally = t }
+    madeWith t = record { number = 0; count = p .count + 1; bytes = p .bytes + madeSize; tally = t }
 
     abbrev after′ : Progress
     after′ = madeWith (plusMade (p .tally))
@@ -90,7 +90,7 @@ module _ {ws h : List ℕ} {p : Progress} {w : ℕ} (pre : NewPre ws h p w) wher
         subst (λ (j : ℕ). IsInRange (made j (rowOf w))) e
         (made-inRange (decodeParts (p .count) ws []) (rowOf w) (omega arith) (pre .tag) parent-fits)
 
-    entry-size : length (recordBytes entry) ≡ 6
+    entry-size : length (recordBytes entry) ≡ madeSize
     entry-size = length-recordBytes entry
 
     table-made : (ms : List ℕ) → decodeParts (p .count + 1) rows′ ms ≡ model.withRow (decodeParts (p .count) ws ms) (rowOf w)
@@ -101,12 +101,12 @@ module _ {ws h : List ℕ} {p : Progress} {w : ℕ} (pre : NewPre ws h p w) wher
     state-made : (ms : List ℕ) → stateOf rows′ ms history′ after′ ≡ withMade (stateOf ws ms h p) (rowOf w)
     state-made ms =
         ap₂ state (table-made ms)
-        (append-records (pre .held) entry 6 entry-size (omega arith) m entry-range ∙
+        (append-records (pre .held) entry madeSize entry-size (omega arith) m entry-range ∙
         ap (λ (j : ℕ). recordsIn (take (p .bytes) h) ++ (made j (rowOf w) ∷ [])) (sym (held-count (pre .held) ms)))
 
     after-made : After ws h p rows′ history′ after′
     after-made =
-        append-after (pre .held) entry 6 entry-size (omega arith) m
+        append-after (pre .held) entry madeSize entry-size (omega arith) m
         (recorded-made (take (p .bytes) h) (p .tally) (pre .held .history) entry entry-range refl m) refl
         (length-set ws (p .count) w) (omega arith) (omega arith)
         (subst (λ (j : ℕ). Canonical (p .count + 1) (set ws (p .count) j)) (packRow-rowOf w (pre .packed))
@@ -189,10 +189,10 @@ module _ {ws h : List ℕ} {p : Progress} {i : ℕ} (pre : CutPre ws h p i) wher
     pub cut-low : link - 1 < maxRows
     cut-low = omega (arith, pre .held .tree .parents i (link - 1) (parent-here []) .0, pre .row, pre .held .few)
 
-    pub cut-full : maxHistory ≤ p .tally .records → {ws′ h′ : List ℕ} {r : Progress} → r ≡ stopped p 9 →
+    pub cut-full : maxHistory ≤ p .tally .records → {ws′ h′ : List ℕ} {r : Progress} → r ≡ refusedWith p 9 →
         Updated (λ z s. cutAll z (i ∷ []) s) [] ws h p ws′ h′ r
     cut-full m e =
-        updated-stopped 8 e
+        updated-refused 8 e
         (λ z ms. sym (cut-over z i [] (stateOf ws ms h p) (link - 1) (parent-here ms) (omega (arith, pre .held .history .records))))
 
     module _ (m : p .tally .records < maxHistory) where
@@ -209,7 +209,7 @@ module _ {ws h : List ℕ} {p : Progress} {i : ℕ} (pre : CutPre ws h p i) wher
       cutHistory = over (p .bytes) (recordBytes cutEntry) h
 
       abbrev cutWith : Tally → Progress
-      cutWith t = record { number = 0; count = p .count; bytes = p .bytes + 5; tally = t }
+      cutWith t = record { number = 0; count = p .count; bytes = p .bytes + cutSize; tally = t }
 
       abbrev cutAfter : Progress
       cutAfter = cutWith (plusCut (p .tally))
@@ -218,11 +218,11 @@ module _ {ws h : List ℕ} {p : Progress} {i : ℕ} (pre : CutPre ws h p i) wher
       table-cut = decode-linked (p .count) ws (pre .held .canonical) (held-within (pre .held)) i (pre .row) 0 (omega arith)
 
       state-cut : (ms : List ℕ) → stateOf cutRows ms cutHistory cutAfter ≡ cutRow (stateOf ws ms h p) i (link - 1)
-      state-cut ms = ap₂ state (table-cut ms) (append-records (pre .held) cutEntry 5 refl (omega arith) m cutIn)
+      state-cut ms = ap₂ state (table-cut ms) (append-records (pre .held) cutEntry cutSize refl (omega arith) m cutIn)
 
       after-cut : After ws h p cutRows cutHistory cutAfter
       after-cut =
-          append-after (pre .held) cutEntry 5 refl (omega arith) m
+          append-after (pre .held) cutEntry cutSize refl (omega arith) m
           (recorded-cut (take (p .bytes) h) (p .tally) (pre .held .history) cutEntry cutIn refl m) refl
           (length-set ws i cutPacked) (omega arith) (pre .held .few)
           (canonical-linked (p .count) ws (pre .held .canonical) (held-within (pre .held)) i (pre .row) 0 (omega arith))
@@ -285,7 +285,7 @@ module _ {ws₀ h₀ : List ℕ} {p₀ : Progress} {v ws h : List ℕ} {p : Prog
         (sym (drop-next v k 0 l)) ∙ d .rest z ms
 
     pub delete-refused : (r .number ≡ 0 → ⊥) → Updated (λ z s. cutAll z v s) [] ws₀ h₀ p₀ ws′ h′ r
-    delete-refused n = then-stops (λ z ms t. cutAll z (drop (k + 1) v) t) [] n delete-turn
+    delete-refused n = then-refused (λ z ms t. cutAll z (drop (k + 1) v) t) [] n delete-turn
 
     pub delete-again : r .number ≡ 0 → After ws₀ h₀ p₀ ws′ h′ r ×
         ((z : ℕ) (ms : List ℕ) → cutAll z (drop (k + 1) v) (stateOf ws′ ms h′ r) ≡ cutAll z v (stateOf ws₀ ms h₀ p₀))

@@ -7,7 +7,7 @@ use lib.Dec.{eqb}
 use lib.ListN.{length, getD, take, drop}
 use Rattle.model.specs.Limits.{maxRows, maxHistory, historyNeed}
 use Rattle.model.specs.Refusal.{refusal}
-use Rattle.model.specs.History.{Record, isCut, times, AllInRange, historyBytes, historySize, recordIn}
+use Rattle.model.specs.History.{Record, isCut, times, AllInRange, historyBytes, historySize, recordIn, madeSize}
 use Rattle.model.specs.Run.{State, state, Out, refused, gives}
 use Rattle.model.specs.Table.{Tree}
 use Rattle.plan_table.specs.Packed.{decodeParts, Canonical}
@@ -27,8 +27,8 @@ recordsIn b = recordsFrom (length b) b
 abbrev pub started : (count : ℕ) → Progress
 started n = record { number = 0; count = n; bytes = 0; tally = noneYet }
 
-abbrev pub stopped : Progress → (number : ℕ) → Progress
-stopped p n = record { number = n; count = p .count; bytes = p .bytes; tally = p .tally }
+abbrev pub refusedWith : Progress → (number : ℕ) → Progress
+refusedWith p n = record { number = n; count = p .count; bytes = p .bytes; tally = p .tally }
 
 -- THE STATE that rows, marks and history stand for
 abbrev pub stateOf : (rows marks history : List ℕ) → Progress → State
@@ -55,7 +55,7 @@ pub record Held (ws h : List ℕ) (p : Progress) : Type 0 where
   pub few : p .count ≤ maxRows
   pub canonical : Canonical (p .count) ws
   pub tree : Tree (decodeParts (p .count) ws [])
-  pub size : p .bytes ≤ 6 * p .tally .records
+  pub size : p .bytes ≤ madeSize * p .tally .records
   pub history : Recorded (take (p .bytes) h) (p .tally)
 
 -- AFTER some updates: rows and records are only added, and the area past the records is as it was

@@ -8,6 +8,7 @@ use Rattle.model.specs.Table.{tagFits, parentFits}
 use Rattle.model.specs.Stored.{numberBytes, parentBytes}
 use Rattle.model.specs.Run.{newRow, loose, cutAll}
 use Rattle.model.specs.History.{madeElementKind, madeLeafKind}
+use Rattle.model.specs.Limits.{maxName}
 use Rattle.plan_table.specs.Flags.{Within}
 use Rattle.plan_table.specs.Packed.{ofLink, isPackedRow, rowOf, decodeParts, kindIn, leafBits}
 use Rattle.run_updates.specs.State.{Held, Updated}
@@ -34,7 +35,7 @@ NewPost ws h p w ws′ h′ r = Updated (λ z s. newRow z (rowOf w) s) (p .count
 pub record ElementPre (ws h : List ℕ) (p : Progress) (name : ℕ) : Type 0 where
   pub held : Held ws h p
   pub low : 1 ≤ name
-  pub high : name ≤ 255
+  pub high : name ≤ maxName
 
 abbrev pub LoosePost : (ws h : List ℕ) → (p : Progress) → (isLeaf : Bool) → (tag : ℕ) → (ws′ h′ : List ℕ) → (r : Progress) → Type 0
 LoosePost ws h p b t ws′ h′ r = Updated (λ z s. newRow z (loose b t) s) (p .count ∷ []) ws h p ws′ h′ r

@@ -1,6 +1,6 @@
 // How far a run has come: what the updates pass on beside the lent rows and history.
 ghost use mathlib.Core.Path.{_≡_};
-ghost use Rattle.run_updates.specs.State.{started, stopped};
+ghost use Rattle.run_updates.specs.State.{started, refusedWith};
 use crate::tally;
 use crate::tally::Tally;
 
@@ -28,7 +28,7 @@ impl Progress {
 
     // The same, with a refusal.
     pub fn refused(self, number: u8) -> Progress
-        ensures { λ r. ⌜ r ≡ stopped self number ⌝ }
+        ensures { λ r. ⌜ r ≡ refusedWith self number ⌝ }
     {
         let tally = self.tally;
         Progress {

@@ -115,13 +115,13 @@ parse-operands b i k n v shallow e =
     operands-by k b i (firstAt b i) (n + 1) v (drop (firstAt b i) b) (f .kind)
 
 -- ACCEPTED: the record passed its tests, and what was read first was accepted
-ill-parsed : {f : Refusal} {e : Expr} {j m : ℕ} {c : List ℕ} → refused f ≡ parsed e j m c → ⊥
-ill-parsed h = let z : _≡_ {A = ℕ} 0 1 = cc in omega arith
+refused-parsed : {f : Refusal} {e : Expr} {j m : ℕ} {c : List ℕ} → refused f ≡ parsed e j m c → ⊥
+refused-parsed h = let z : _≡_ {A = ℕ} 0 1 = cc in omega arith
 
 pub parsed-fine : (k d i n v : ℕ) (s : List ℕ) {e : Expr} {j m : ℕ} {c : List ℕ} → parseFrom (suc k) d i n v s ≡ parsed e j m c →
     isFine (exprRefusal i n d v s) ≡ true
 unfolding parseFrom
-parsed-fine k d i n v s h = by-cases (isFine (exprRefusal i n d v s)) (λ t. t) (λ t. absurd (ill-parsed (rw t at h)))
+parsed-fine k d i n v s h = by-cases (isFine (exprRefusal i n d v s)) (λ t. t) (λ t. absurd (refused-parsed (rw t at h)))
 
 pub record Then (x : Parsed) (next : Expr → ℕ → ℕ → List ℕ → Parsed) (e : Expr) (j m : ℕ) (c : List ℕ) : Type 0 where
   pub expr : Expr
@@ -133,5 +133,5 @@ pub record Then (x : Parsed) (next : Expr → ℕ → ℕ → List ℕ → Parse
 
 pub then-parsed : (x : Parsed) (next : Expr → ℕ → ℕ → List ℕ → Parsed) {e : Expr} {j m : ℕ} {c : List ℕ} →
     thenParse x next ≡ parsed e j m c → Then x next e j m c
-then-parsed (refused f) next h = absurd (ill-parsed h)
+then-parsed (refused f) next h = absurd (refused-parsed h)
 then-parsed (parsed e j m c) next h = record { expr = e; place = j; records = m; bytes = c; is = refl; rest = h }

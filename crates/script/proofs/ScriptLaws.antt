@@ -98,9 +98,9 @@ module _ (b : List ℕ) (h : scriptRead b .number ≡ 0) where
       (w .records, ap whole i)
 
 -- a refused one is refused so
-pub script-ill : (b : List ℕ) → (scriptRead b .number ≡ 0 → ⊥) →
+pub read-refused : (b : List ℕ) → (scriptRead b .number ≡ 0 → ⊥) →
     readScript b ≡ refused (refusal.refusal (scriptRead b .number) (scriptRead b .place))
-script-ill b h = go (readScript b) h
+read-refused b h = go (readScript b) h
   where
     go : (x : Parsed) → (refusalBy x .number ≡ 0 → ⊥) → x ≡ refused (refusal.refusal (refusalBy x .number) (refusalBy x .place))
     go (refused f) g = refl

@@ -2,7 +2,7 @@
 use mathlib.Core.Path.{_∙_, sym}
 use borrow.Author.Tests.{not-true, not-false}
 use borrow.Author.Needs.{needs}
-use Rattle.plan_writer.proofs.WritePlanLaws.{write-ill}
+use Rattle.plan_writer.proofs.WritePlanLaws.{write-unfit}
 use Rattle.plan.proofs.write_plan.Statement.{statement}
 use Rattle.plan.proofs.write_plan.Tie as tie
 
@@ -17,7 +17,7 @@ returns c =
     let c2 = c .before .before in
     let c9 = c2 .before .before .before .before .before .before .before in
     let refused =
-    write-ill (c9 .args .t1) (c9 .args .out .now) (sym (c2 .fits2 .ensures) ∙ not-true (c2 .fits2 .result) (c .before .if1 .taken)) in
+    write-unfit (c9 .args .t1) (c9 .args .out .now) (sym (c2 .fits2 .ensures) ∙ not-true (c2 .fits2 .result) (c .before .if1 .taken)) in
     (c .written .ensures ∙ refused .0, refused .1)
 
 fitting-requires : tie.Need-fitting-requires

@@ -1,5 +1,5 @@
 -- `sweep_table` refuses an ill-formed table with 6, and sweeps any other as the model does.
-use Rattle.plan_sweep.proofs.SweepLaws.{encode-swept, sweep-ill, sweep-done}
+use Rattle.plan_sweep.proofs.SweepLaws.{encode-swept, sweep-unfit, sweep-done}
 use Rattle.plan_table.proofs.FittedLaws.{Fits, fits-at, fits-mark}
 use Rattle.plan_table.specs.Fitting.{TableSizes}
 use borrow.Author.Tests.{not-true, not-false}
@@ -32,7 +32,7 @@ returns c =
     let c2 = c .before .before in
     let c8 = c2 .before .before .before .before .before .before in
     c .refused .ensures ∙
-    sweep-ill (c8 .args .t1) (sym (c2 .fits2 .ensures) ∙ not-true (c2 .fits2 .result) (c .before .if1 .taken))
+    sweep-unfit (c8 .args .t1) (sym (c2 .fits2 .ensures) ∙ not-true (c2 .fits2 .result) (c .before .if1 .taken))
 
 slice-aggregate-rows : tie.Need-slice-aggregate-rows
 slice-aggregate-rows c = search needs

@@ -8,7 +8,7 @@ use native.Mathlib.Omega.{arith}
 use lib.ListN.{length, replicate}
 use borrow.Author.Tests.{not-true, not-false}
 use Rattle.plan_table.specs.Fitting.{TableSizes}
-use Rattle.run.proofs.CallLaws.{refused-post, ill-formed, refuses-by, accepted-by, eval-asks, run-stops, run-post, put-asks, few}
+use Rattle.run.proofs.CallLaws.{refused-post, ill-formed, refuses-by, accepted-by, eval-asks, run-refused, run-post, put-asks, few}
 
 size : (c : tie.Start) → TableSizes (c .args .t1 .rows) (c .args .t1 .marks)
 size c = search needs
@@ -91,7 +91,7 @@ returns-3 c =
     let c25 = c24 .before in
     let c35 = c25 .before .before .before .before .before .before .before .before .before .before in
     refused-post (c35 .args .t1) (c35 .args .script .now) (length (c35 .args .answer .now)) (length (c35 .args .history .now))
-    (length (c35 .args .work .now)) (c12 .eval .result .progress .number) (c12 .eval .result .place) (c5 .if3 .taken) (run-stops
+    (length (c35 .args .work .now)) (c12 .eval .result .progress .number) (c12 .eval .result .place) (c5 .if3 .taken) (run-refused
     (c35 .args .t1) (c35 .args .script .now) (sym (c25 .fits2 .ensures) ∙ not-false (c25 .fits2 .result) (c24 .if1 .left))
     (accepted-by (c35 .args .script .now) (c23 .read-script .ensures) (c21 .if2 .left)) (size (c35) .rows) (size (c35) .marks) (c13
     .start .ensures) (c12 .eval .ensures) (c5 .if3 .taken)) refl refl refl (c35 .pre .answered) (c3 .clear-bytes .ensures ∙ ap (λ (j

@@ -1,5 +1,5 @@
 -- `undo` refuses an ill-formed table with 6, and takes any other back as the model does.
-use Rattle.run_undo.proofs.UndoLawsCall.{undo-ill, undo-broken, undo-pre, undo-refused, undo-done}
+use Rattle.run_undo.proofs.UndoLawsCall.{undo-unfit, form-refused, undo-pre, undo-refused, undo-done}
 use Rattle.plan_table.specs.Fitting.{TableSizes}
 use Rattle.plan_table.specs.Packed.{fits}
 use borrow.Author.Tests.{not-true, not-false}
@@ -29,7 +29,7 @@ returns c =
     let c2 = c .before .before in
     let c9 = c2 .before .before .before .before .before .before .before in
     c .refused .ensures ∙
-    undo-ill (c9 .args .t1) (c9 .args .history .now) (sym (c2 .fits2 .ensures) ∙ not-true (c2 .fits2 .result) (c .before .if1 .taken))
+    undo-unfit (c9 .args .t1) (c9 .args .history .now) (sym (c2 .fits2 .ensures) ∙ not-true (c2 .fits2 .result) (c .before .if1 .taken))
 
 slice-aggregate-form : tie.Need-slice-aggregate-form
 slice-aggregate-form c = search needs
@@ -46,7 +46,7 @@ returns-2 c =
     let c6 = c4 .before .before in
     let c14 = c6 .before .before .before .before .before .before .before .before in
     c .refused2 .ensures ∙
-    undo-broken (c14 .args .t1) (c14 .args .history .now) (fitting c6) (c4 .form .ensures) (c .before .if2 .taken)
+    form-refused (c14 .args .t1) (c14 .args .history .now) (fitting c6) (c4 .form .ensures) (c .before .if2 .taken)
 
 slice-aggregate-undo-all : tie.Need-slice-aggregate-undo-all
 slice-aggregate-undo-all c = search needs

@@ -1,5 +1,5 @@
 -- `lines::put_order` places the line of an order, ended or refused.
-use Rattle.pair_lines.proofs.LineLaws.{stopped-placed, ended-placed}
+use Rattle.pair_lines.proofs.LineLaws.{refused-placed, ended-placed}
 use borrow.Author.Needs.{needs}
 use Rattle.pair_lines.proofs.line.put_order.Statement.{statement}
 use Rattle.pair_lines.proofs.line.put_order.Tie as tie
@@ -63,7 +63,7 @@ returns c =
     let c19 = c15 .before .before .before .before in
     let c23 = c19 .before .before .before .before in
     let c27 = c23 .before .before .before .before in
-    stopped-placed (c27 .pre) (c19 .order .given .1) (c23 .put .ensures) (c15 .put2 .ensures) (c11 .put-field .ensures)
+    refused-placed (c27 .pre) (c19 .order .given .1) (c23 .put .ensures) (c15 .put2 .ensures) (c11 .put-field .ensures)
     (c7 .put-field2 .ensures) (c .before .before .put3 .ensures)
 
 same-length-2 : tie.Need-same-length-2

@@ -7,12 +7,13 @@ use Rattle.paths_cells.proofs.PairLaws.{rows-fit, zeroed, cleared}
 use borrow.Author.Needs.{needs}
 use Rattle.paths_cells.proofs.pairs.clear.Statement.{statement}
 use Rattle.paths_cells.proofs.pairs.clear.Tie as tie
+use Rattle.paths_positions.specs.Steps.{maxPositions}
 
 abbrev Inv-loop : tie.InvT-loop
-Inv-loop table₀ rows end i₀ table i = (i ≤ 128 * rows) × (length table ≡ length table₀) × ((j : ℕ) → j < i → getD table j 0 ≡ 0)
+Inv-loop table₀ rows end i₀ table i = (i ≤ maxPositions * rows) × (length table ≡ length table₀) × ((j : ℕ) → j < i → getD table j 0 ≡ 0)
 
 abbrev μ-loop : tie.MeasureT-loop
-μ-loop table₀ rows end i₀ table i = 128 * rows - i
+μ-loop table₀ rows end i₀ table i = maxPositions * rows - i
 
 mul-end : tie.Need-mul-end Inv-loop μ-loop
 mul-end c = omega (arith, rows-fit (c .args .table .now) (c .args .rows) (c .pre))

@@ -1,4 +1,4 @@
--- `fit::tag_fits`: the packed row is an element with a name from 1 to maxByte, or a leaf with a value up to 255.
+-- `fit::tag_fits`: the packed row is an element with a name from 1 to 255, or a leaf.
 use lib.Dec.{ltb, eqb}
 use mathlib.Core.Path.{_∙_, sym, ap}
 use Prim.Native.Nat.{ℕ, _≤_, _<_}

@@ -2,7 +2,7 @@
 use mathlib.Core.Path.{_∙_}
 use Prim.Native.Nat.{ℕ}
 use native.Mathlib.Omega.{arith}
-use Rattle.run_eval.proofs.BinaryLaws.{bind-asks, second-asks, second-stops, combine-asks, combine-yields}
+use Rattle.run_eval.proofs.BinaryLaws.{bind-asks, second-asks, second-refused, combine-asks, combine-yields}
 use Rattle.run_eval.proofs.evaluate.binary.Reads as binary
 use Rattle.run_eval.proofs.evaluate.+binary+branch+each+eval+iterate.Lts-binary as binary-lts
 use Rattle.run_eval.proofs.evaluate.+binary+branch+each+eval+iterate.Proof.Measure.{binary-claims, binary-at}
@@ -31,7 +31,7 @@ returns t c =
     let c12 = c8 .before .before .before .before in
     let c13 = c12 .before in
     let c21 = c13 .before .before .before .before .before .before .before .before in
-    second-stops (c21 .pre .1) (c13 .bind .ensures) (c12 .inner .ensures) (c8 .eval .ensures) (c21 .args .at) (c .if1 .taken)
+    second-refused (c21 .pre .1) (c13 .bind .ensures) (c12 .inner .ensures) (c8 .eval .ensures) (c21 .args .at) (c .if1 .taken)
 
 pub combined-requires : (t : ℕ) → binary-lts.Need-combined-requires (binary-claims t) (binary-at t) binary.Post
 combined-requires t c κs =

@@ -4,7 +4,7 @@ use mathlib.Core.Path.{ap}
 use Prim.Native.Nat.{ℕ}
 use native.Mathlib.Omega.{arith}
 use Rattle.run_eval.proofs.OperandLaws.{recordsAt}
-use Rattle.run_eval.proofs.BranchLaws.{else-asks, else-yields, then-asks, then-stops, then-yields}
+use Rattle.run_eval.proofs.BranchLaws.{else-asks, else-yields, then-asks, then-refused, then-yields}
 use Rattle.run_eval.proofs.evaluate.branch.Reads as branch
 use Rattle.run_eval.proofs.evaluate.+binary+branch+each+eval+iterate.Lts-branch as branch-lts
 use Rattle.run_eval.proofs.evaluate.+binary+branch+each+eval+iterate.Proof.Measure.{branch-claims, branch-at}
@@ -39,7 +39,7 @@ returns-2 t c =
     let c8 = c .before .before .before .before .before .before .before .before in
     let c12 = c8 .before .before .before .before in
     let c21 = c12 .before .before .before .before .before .before .before .before .before in
-    then-stops (c21 .pre .1 .0) (c12 .if1 .left) (c8 .eval2 .ensures) (c .if2 .taken)
+    then-refused (c21 .pre .1 .0) (c12 .if1 .left) (c8 .eval2 .ensures) (c .if2 .taken)
 
 pub past-requires : (t : ℕ) → branch-lts.Need-past-requires (branch-claims t) (branch-at t) branch.Post
 past-requires t c κs = search needs

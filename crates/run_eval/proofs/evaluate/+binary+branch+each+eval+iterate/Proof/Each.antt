@@ -3,7 +3,7 @@ use mathlib.Core.Path.{_∙_}
 use Prim.Native.Nat.{ℕ}
 use native.Mathlib.Omega.{arith}
 use Rattle.run_eval.proofs.LoopLaws.{item-asks, body-asks}
-use Rattle.run_eval.proofs.LoopLaws.{item-stops, limit-asks, item-yields, half-asks, half-stops, rest-asks, rest-yields}
+use Rattle.run_eval.proofs.LoopLaws.{item-refused, limit-asks, item-yields, half-asks, half-refused, rest-asks, rest-yields}
 use Rattle.run_eval.proofs.evaluate.each.Reads as each
 use Rattle.run_eval.proofs.evaluate.+binary+branch+each+eval+iterate.Lts-each as each-lts
 use Rattle.run_eval.proofs.evaluate.+binary+branch+each+eval+iterate.Proof.Measure.{each-claims, each-at}
@@ -39,7 +39,7 @@ returns t c =
     let c12 = c8 .before .before .before .before in
     let c13 = c12 .before in
     let c19 = c13 .before .before .before .before .before .before in
-    item-stops (c19 .pre .1) (c13 .if1 .taken) (c12 .bind .ensures) (c8 .eval .ensures) (c .if2 .taken)
+    item-refused (c19 .pre .1) (c13 .if1 .taken) (c12 .bind .ensures) (c8 .eval .ensures) (c .if2 .taken)
 
 pub limited-requires : (t : ℕ) → each-lts.Need-limited-requires (each-claims t) (each-at t) each.Post
 limited-requires t c κs =
@@ -77,7 +77,7 @@ returns-3 t c =
     let c8 = c .before .before .before .before .before .before .before .before in
     let c12 = c8 .before .before .before .before in
     let c18 = c12 .before .before .before .before .before .before in
-    half-stops (c18 .pre .1) (c12 .if1 .left) (c8 .each .ensures) (c .if3 .taken)
+    half-refused (c18 .pre .1) (c12 .if1 .left) (c8 .each .ensures) (c .if3 .taken)
 
 pub each-requires-2 : (t : ℕ) → each-lts.Need-each-requires-2 (each-claims t) (each-at t) each.Post
 each-requires-2 t c κs =

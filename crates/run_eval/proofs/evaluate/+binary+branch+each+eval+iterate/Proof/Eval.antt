@@ -5,7 +5,7 @@ use Prim.Native.Nat.{ℕ}
 use native.Mathlib.Omega.{arith}
 use Rattle.script.proofs.AcceptedLaws.{accepted-record}
 use Rattle.run_eval.proofs.OperandLaws.{two-operands, for-operands, if-operands}
-use Rattle.run_eval.proofs.EvalLaws.{deep, first-asks, first-fewer, first-stops, unary-asks, unary-yields}
+use Rattle.run_eval.proofs.EvalLaws.{deep, first-asks, first-fewer, first-refused, unary-asks, unary-yields}
 use Rattle.run_eval.proofs.EvalLaws.{two-asks, two-fewer, two-yields, three-asks, three-fewer, three-yields}
 use Rattle.run_eval.proofs.evaluate.eval.Reads as eval
 use Rattle.run_eval.proofs.evaluate.+binary+branch+each+eval+iterate.Lts-eval as eval-lts
@@ -66,7 +66,7 @@ returns-2 t c =
     let c13 = c12 .before in
     let c14 = c13 .before in
     let c21 = c14 .before .before .before .before .before .before .before in
-    first-stops (c21 .pre .1) (c12 .body-size .ensures .0) (c8 .eval .ensures) (c14 .arity .ensures .0) (c13 .if1 .left) (c .if2 .taken)
+    first-refused (c21 .pre .1) (c12 .body-size .ensures .0) (c8 .eval .ensures) (c14 .arity .ensures .0) (c13 .if1 .left) (c .if2 .taken)
 
 pub applied-requires : (t : ℕ) → eval-lts.Need-applied-requires (eval-claims t) (eval-at t) eval.Post
 applied-requires t c κs =

@@ -3,7 +3,7 @@ use borrow.Author.Needs.{needs}
 use mathlib.Core.Path.{_∙_}
 use Prim.Native.Nat.{ℕ}
 use native.Mathlib.Omega.{arith}
-use Rattle.run_eval.proofs.LoopLaws.{for-none, each-asks, items-stop, close-asks, close-yields}
+use Rattle.run_eval.proofs.LoopLaws.{for-none, each-asks, items-refused, close-asks, close-yields}
 use Rattle.run_eval.proofs.evaluate.iterate.Reads as iterate
 use Rattle.run_eval.proofs.evaluate.+binary+branch+each+eval+iterate.Lts-iterate as iterate-lts
 use Rattle.run_eval.proofs.evaluate.+binary+branch+each+eval+iterate.Proof.Measure.{iterate-claims, iterate-at}
@@ -28,7 +28,7 @@ pub returns-2 : (t : ℕ) → iterate-lts.Need-returns-2 (iterate-claims t) (ite
 returns-2 t c =
     let c8 = c .before .before .before .before .before .before .before .before in
     let c20 = c8 .before .before .before .before .before .before .before .before .before .before .before .before in
-    items-stop (c20 .pre .1) (c20 .args .at) (c8 .each .ensures) (c .if2 .taken)
+    items-refused (c20 .pre .1) (c20 .args .at) (c8 .each .ensures) (c .if2 .taken)
 
 pub combined-requires : (t : ℕ) → iterate-lts.Need-combined-requires (iterate-claims t) (iterate-at t) iterate.Post
 combined-requires t c κs =

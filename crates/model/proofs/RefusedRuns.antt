@@ -10,13 +10,13 @@ use Rattle.model.specs.Table.{Table}
 use Rattle.model.specs.Script.{Expr}
 use Rattle.model.specs.Run.{refused, state, runOn}
 use Rattle.model.proofs.TestLaws.{isIn-some}
-use Rattle.model.proofs.Grows.{Grows, stops, run-grows}
+use Rattle.model.proofs.Grows.{Grows, refuses, run-grows}
 
 grows-number : {c : ℕ} {f : Refusal} → Grows c (refused f) → isIn 7 10 (f .number) ≡ true
-grows-number (stops e) = e
+grows-number (refuses e) = e
 
-pub stop-number : (e : Expr) (x : Table) (f : Refusal) → runOn x e ≡ refused f → isIn 7 10 (f .number) ≡ true
-stop-number e x f h = grows-number (rw h at (run-grows e [] (state x [])))
+pub refused-number : (e : Expr) (x : Table) (f : Refusal) → runOn x e ≡ refused f → isIn 7 10 (f .number) ≡ true
+refused-number e x f h = grows-number (rw h at (run-grows e [] (state x [])))
 
-pub stop-refuses : (e : Expr) (x : Table) (f : Refusal) → runOn x e ≡ refused f → isFine f ≡ false
-stop-refuses e x f h = ne-eqb (f .number) 0 (isIn-some 6 10 (f .number) (stop-number e x f h))
+pub refused-not-fine : (e : Expr) (x : Table) (f : Refusal) → runOn x e ≡ refused f → isFine f ≡ false
+refused-not-fine e x f h = ne-eqb (f .number) 0 (isIn-some 6 10 (f .number) (refused-number e x f h))
