@@ -1,5 +1,6 @@
 //! The script reader: a list of records, without recursion.
 
+use super::refused;
 use crate::oracle::limits::{BINDERS, DEPTH, DOCUMENTS, SCRIPT_RECORDS};
 use crate::oracle::refusal::{Number, Refusal};
 use crate::oracle::script::kind;
@@ -94,13 +95,7 @@ impl Script {
                 _ => (place + 1, true, 0),
             };
             if !(is_kind & has_room & (next <= bytes.len()) & in_range) {
-                let number = match (is_kind, has_room, next <= bytes.len()) {
-                    (false, _, _) => Number::Kind,
-                    (_, false, _) => Number::Size,
-                    (_, _, false) => Number::Short,
-                    _ => Number::Field,
-                };
-                return Err(number.at(place));
+                return Err(refused(is_kind, has_room, next <= bytes.len()).at(place));
             }
             upward |= (kind == kind::STEP) & (body[0] >= UPWARD_AXIS);
             self.records[index % SCRIPT_RECORDS] = record;

@@ -1,5 +1,6 @@
 //! Undo: one pass to check the form, and one from the end to take back.
 
+use super::refused;
 use super::table::{at, is_element, parent, Table, PARENT};
 use crate::oracle::history::{CUT_BYTES, ELEMENT_MADE, LEAF_MADE, LINK_CUT, MADE_BYTES};
 use crate::oracle::limits::{HISTORY_RECORDS, NO_PARENT, ROWS};
@@ -54,13 +55,7 @@ fn read(bytes: &[u8]) -> Result<Vec<u64>, Refusal> {
             _ => (place + MADE_BYTES, kind == LEAF_MADE, true),
         };
         if !(is_kind & has_room & (next <= bytes.len()) & is_named) {
-            let number = match (is_kind, has_room, next <= bytes.len()) {
-                (false, _, _) => Number::Kind,
-                (_, false, _) => Number::Size,
-                (_, _, false) => Number::Short,
-                _ => Number::Field,
-            };
-            return Err(number.at(place));
+            return Err(refused(is_kind, has_room, next <= bytes.len()).at(place));
         }
         records.push(record);
         place = next;

@@ -87,23 +87,30 @@ matchedHistory-same n a b [] = refl
 matchedHistory-same n a b (made i r ∷ h) = rw (matchedHistory-same n a b h)
 matchedHistory-same n a b (cut i p ∷ h) = rw (matchedHistory-same n a b h)
 
--- THE TALLY
-pub made-same : (h : List Record) → E.countKind 65 66 (map theirs h) ≡ times isMade h
+-- THE TALLY: the records from one kind to another are those that pass a test of ours
+count-same : (a b : ℕ) (f : Record → Bool) →
+    ((r : Record) → cond (leb a (theirs r .kind) && leb (theirs r .kind) b) 1 0 ≡ bit (f r)) →
+    (h : List Record) → E.countKind a b (map theirs h) ≡ times f h
 unfolding E.countKind times
-made-same [] = refl
-made-same (made i r ∷ h) = ap₂ _+_ (go (r .isLeaf)) (made-same h)
+count-same a b f e [] = refl
+count-same a b f e (r ∷ h) = ap₂ _+_ (e r) (count-same a b f e h)
+
+-- a row made has one of two kinds
+by-kind : (a b n : ℕ) → cond (leb a 66 && leb 66 b) 1 0 ≡ n → cond (leb a 65 && leb 65 b) 1 0 ≡ n → (z : Bool) →
+    cond (leb a (cond z 66 65) && leb (cond z 66 65) b) 1 0 ≡ n
+by-kind a b n e f true = e
+by-kind a b n e f false = f
+
+pub made-same : (h : List Record) → E.countKind 65 66 (map theirs h) ≡ times isMade h
+made-same = count-same 65 66 isMade one
   where
-    go : (z : Bool) → bit (leb 65 (cond z 66 65) && leb (cond z 66 65) 66) ≡ 1
-    go true = refl
-    go false = refl
-made-same (cut i p ∷ h) = ap (λ (n : ℕ). 0 + n) (made-same h)
+    one : (r : Record) → cond (leb 65 (theirs r .kind) && leb (theirs r .kind) 66) 1 0 ≡ bit (isMade r)
+    one (made i r) = by-kind 65 66 1 refl refl (r .isLeaf)
+    one (cut i p) = refl
 
 pub cut-same : (h : List Record) → E.countKind 67 67 (map theirs h) ≡ times isCut h
-unfolding E.countKind times
-cut-same [] = refl
-cut-same (made i r ∷ h) = ap₂ _+_ (go (r .isLeaf)) (cut-same h)
+cut-same = count-same 67 67 isCut one
   where
-    go : (z : Bool) → bit (leb 67 (cond z 66 65) && leb (cond z 66 65) 67) ≡ 0
-    go true = refl
-    go false = refl
-cut-same (cut i p ∷ h) = ap (λ (n : ℕ). 1 + n) (cut-same h)
+    one : (r : Record) → cond (leb 67 (theirs r .kind) && leb (theirs r .kind) 67) 1 0 ≡ bit (isCut r)
+    one (made i r) = by-kind 67 67 0 refl refl (r .isLeaf)
+    one (cut i p) = refl

@@ -25,8 +25,8 @@ use Rattle.plan_table.proofs.DecodeLaws.{element-below, root-below, decode-mark
 use Rattle.model.proofs.ListLaws.{map-set}
 
 -- a refusal is no acceptance
-pub refused : {A : Type 0} (k : ℕ) → suc k ≡ 0 → A
-refused k e = absurd (omega arith)
+pub not-accepted : {A : Type 0} (k : ℕ) → suc k ≡ 0 → A
+not-accepted k e = absurd (omega arith)
 
 -- ROWS: the tag
 tag-fits : (s : List ℕ) → isStoredKind (getD s 0 0) ≡ true → isMark s ≡ false →

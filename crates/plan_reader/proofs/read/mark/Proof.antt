@@ -1,6 +1,6 @@
 -- `read::mark` refuses the mark at the front or sets it in the table, by one law of ReadRecordLaws for each way out.
 use Rattle.plan_reader.specs.Reading.{lastOf}
-use Rattle.plan_reader.proofs.ReadRecordLaws.{refused, mark-field, mark-order, mark-root, mark-by}
+use Rattle.plan_reader.proofs.ReadRecordLaws.{not-accepted, mark-field, mark-order, mark-root, mark-by}
 use Rattle.plan_table.specs.Packed.{ofLink, decodeParts}
 use Rattle.plan_table.specs.Fitting.{isRootBelow}
 use Rattle.plan_table.proofs.DecodeLaws.{below-bound}
@@ -90,8 +90,8 @@ returns c =
         c .if1 .taken,
       ));
       marks = refl;
-      document = λ z. refused _ z;
-      order = λ z. refused _ z;
+      document = λ z. not-accepted _ z;
+      order = λ z. not-accepted _ z;
     }
 
 returns-2 : tie.Need-returns-2
@@ -102,8 +102,8 @@ returns-2 c =
           .marks .now) (c7 .args .count) i (c7 .pre) (known (c .before))
           (omega (arith, e, c .before .before .byte .ensures .0, c .if2 .taken));
       marks = refl;
-      document = λ z. refused _ z;
-      order = λ z. refused _ z;
+      document = λ z. not-accepted _ z;
+      order = λ z. not-accepted _ z;
     }
 
 number-at-requires : tie.Need-number-at-requires
@@ -122,8 +122,8 @@ returns-3 c =
           (known c4) (rising c3 e) (root-by (c .before) ∙ not-true
           (c .before .is-root-below .result) (c .if3 .taken));
       marks = refl;
-      document = λ z. refused _ z;
-      order = λ z. refused _ z;
+      document = λ z. not-accepted _ z;
+      order = λ z. not-accepted _ z;
     }
 
 is-marked-requires : tie.Need-is-marked-requires
@@ -145,8 +145,8 @@ returns-4 c =
     record {
       refusal = by-marked (c .before) true (c .if4 .taken);
       marks = refl;
-      document = λ z. refused _ z;
-      order = λ z. refused _ z;
+      document = λ z. not-accepted _ z;
+      order = λ z. not-accepted _ z;
     }
 
 add-marks : tie.Need-add-marks

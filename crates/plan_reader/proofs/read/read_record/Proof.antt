@@ -10,7 +10,7 @@ use Rattle.model.specs.Stored.{markKind, isStoredKind, recordSize, isMark}
 use Rattle.plan_table.specs.Packed.{decodeParts}
 use Rattle.plan_table.proofs.PackedLaws.{count-decode}
 use Rattle.plan_table.proofs.SizeLaws.{size-none, size-some, size-is}
-use Rattle.plan_reader.proofs.ReadRecordLaws.{refused, record-kind, record-mark-short, record-size, record-row-short}
+use Rattle.plan_reader.proofs.ReadRecordLaws.{not-accepted, record-kind, record-mark-short, record-size, record-row-short}
 use Rattle.plan_reader.proofs.ReadRecordLaws.{mark-record, row-record}
 use Rattle.plan_reader.proofs.read.read_record.Statement.{statement}
 use Rattle.plan_reader.proofs.read.read_record.Tie as tie
@@ -44,7 +44,7 @@ returns c =
     record {
       refusal = λ i. record-kind (decodeParts (c6 .args .count) (c6 .args .rows .now) (c6 .args .marks .now)) i (c6 .args .s .now)
           (size-none (getD (c6 .args .s .now) 0 0) (c .before .size .ensures) (c .if1 .taken));
-      fine = λ z. refused 0 z;
+      fine = λ z. not-accepted 0 z;
     }
 
 returns-2 : tie.Need-returns-2
@@ -53,7 +53,7 @@ returns-2 c =
     record {
       refusal = λ i. record-mark-short (decodeParts (c8 .args .count) (c8 .args .rows .now) (c8 .args .marks .now)) i (c8 .args .s .now)
           (c .before .if2 .taken) (omega (arith, size-at (c .before .before), c .if3 .taken));
-      fine = λ z. refused 1 z;
+      fine = λ z. not-accepted 1 z;
     }
 
 mark-requires : tie.Need-mark-requires
@@ -101,7 +101,7 @@ returns-4 c =
       refusal = λ i. record-size (decodeParts (c8 .args .count) (c8 .args .rows .now) (c8 .args .marks .now)) i (c8 .args .s .now)
           (kind-at (c .before .before)) (row-at (c .before))
           (omega (arith, count-known c8, c .if4 .taken));
-      fine = λ z. refused 4 z;
+      fine = λ z. not-accepted 4 z;
     }
 
 returns-5 : tie.Need-returns-5
@@ -112,7 +112,7 @@ returns-5 c =
       refusal = λ i. record-row-short (decodeParts (c9 .args .count) (c9 .args .rows .now) (c9 .args .marks .now)) i (c9 .args .s .now)
           (kind-at c3) (row-at (c .before .before))
           (omega (arith, count-known c9, c .before .if4 .left)) (omega (arith, size-at c3, c .if5 .taken));
-      fine = λ z. refused 1 z;
+      fine = λ z. not-accepted 1 z;
     }
 
 row-requires : tie.Need-row-requires

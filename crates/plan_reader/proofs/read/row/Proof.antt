@@ -1,5 +1,5 @@
 -- `read::row` refuses the row at the front or adds it to the table, by one law of ReadRecordLaws for each way out.
-use Rattle.plan_reader.proofs.ReadRecordLaws.{refused}
+use Rattle.plan_reader.proofs.ReadRecordLaws.{not-accepted}
 use mathlib.Core.List.{List}
 use Rattle.plan_reader.specs.Reading.{lastOf}
 use Rattle.plan_table.specs.Packed.{elementBits, leafBits, packRow}
@@ -45,7 +45,7 @@ returns c =
       refusal = λ ms i e. row-field (c6 .args .s .now) (c6 .args .rows .now) ms (c6 .args .count) i (c6 .pre) (c .before .if1 .taken)
           (c .if2 .taken);
       rows = refl;
-      link = λ z. refused _ z;
+      link = λ z. not-accepted _ z;
     }
 
 returns-2 : tie.Need-returns-2
@@ -56,7 +56,7 @@ returns-2 c =
           (byte (c .before)) (λ z. c .if3 .taken (e ∙ z));
       rows = refl;
       link =
-          λ z. refused _ z;
+          λ z. not-accepted _ z;
     }
 
 number-at-requires : tie.Need-number-at-requires
@@ -136,7 +136,7 @@ returns-4 c =
           (last-zero c5 ms e) (parent-known c3) false
           (child (c .before) ∙ not-true (c .before .is-lower-element .result) (c .if5 .taken));
       rows = refl;
-      link = λ z. refused _ z;
+      link = λ z. not-accepted _ z;
     }
 
 add-link : tie.Need-add-link
