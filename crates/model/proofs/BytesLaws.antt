@@ -12,8 +12,7 @@ use borrow.Author.Tests.{leb-true, leb-false, eqb-true, eqb-false, ne-eqb}
 use Rattle.model.specs.Base.{maxByte, areBytes}
 use Rattle.model.specs.Table.{Row}
 use Rattle.model.specs.Stored.{IsStorable, numberBytes, parentBytes, rowBytes, rowsBytes, markBytes, marksBytes}
-use Rattle.model.specs.Stored.{numberAt, parentIn, rowIn}
-use Rattle.model.specs.Stored.{noParent, lastMarked, elementKind, leafKind, isStoredKind, isMark}
+use Rattle.model.specs.Stored.{numberAt, parentIn, rowIn, noParent, lastMarked, elementKind, leafKind, isStoredKind, isMark}
 use Rattle.model.proofs.BoolLaws.{and-left, and-right}
 use Rattle.model.proofs.KindLaws.{row-kind}
 

@@ -1,8 +1,7 @@
 -- Values and outcomes when rows are made, and two runs one after another.
 use mathlib.Core.Path.{_≡_, sym, _∙_, ap, subst}
 use mathlib.Core.Logic.{inl, inr}
-use mathlib.Core.List.{List, [], _++_, map, append-assoc, append-nil, Memᴰ·append-left, Memᴰ·append-right}
-use mathlib.Core.List.{List·Memᴰ as In}
+use mathlib.Core.List.{List, [], _++_, map, append-assoc, append-nil, Memᴰ·append-left, Memᴰ·append-right, List·Memᴰ as In}
 use Prim.Native.Nat.{ℕ, _+_, _<_, _≤_}
 use native.Mathlib.Omega.{arith}
 use lib.ListN.{length, length-append, List·getD-append}

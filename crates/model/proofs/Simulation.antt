@@ -16,8 +16,7 @@ use Rattle.model.proofs.BoolLaws.{or-neither, cond-cases, cond-related}
 use Rattle.model.proofs.Labels.{Label}
 use Rattle.model.proofs.All.{all-append}
 use Rattle.model.proofs.Pointwise.{Pointwise, ended, pointwise-snoc, pointwise-imp, pointwise-read}
-use Rattle.model.proofs.Grows.{Grows, grows-gives, grows-then, grows-join, grows-cut, grows-insert, grows-loop}
-use Rattle.model.proofs.Grows.{run-grows}
+use Rattle.model.proofs.Grows.{Grows, grows-gives, grows-then, grows-join, grows-cut, grows-insert, grows-loop, run-grows}
 use Rattle.model.proofs.Twin.{World, φ, Twin, Vals, Sim}
 use Rattle.model.proofs.TwinLaws.{in-step}
 use Rattle.model.proofs.TwinCut.{cut-sim}

@@ -13,8 +13,7 @@ use Rattle.model.specs.Limits.{maxRows, documents}
 use Rattle.model.specs.Refusal.{Refusal, isFine, unless, orElse, fieldAt, linkAt}
 use Rattle.model.specs.Table.{Table, rowAt, count, isElement, isMarked, hasParent, withRow, withMark, tagFits, parentFits, IsRoot}
 use Rattle.model.specs.Stored.{Read, refused, got, numberAt, rowIn, isMark, lastMarked, rowLinks, markLinks, recordRefusal, recorded}
-use Rattle.model.specs.Stored.{readFrom}
-use Rattle.model.specs.Stored.{markKind, storedKinds, isStoredKind, storedSize, recordSize}
+use Rattle.model.specs.Stored.{readFrom, markKind, storedKinds, isStoredKind, storedSize, recordSize}
 use Rattle.model.proofs.BoolLaws.{and-left, and-both, or-left, or-right}
 use Rattle.model.proofs.KindLaws.{stored-size, stored-most}
 use Rattle.model.proofs.TestLaws.{and-parts, and-four}

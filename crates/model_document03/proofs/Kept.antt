@@ -11,8 +11,7 @@ use Rattle.model.specs.Base.{all, any, filtered, isIn}
 use Rattle.model.specs.Refusal.{Refusal, refusal, isFine, orElse}
 use Rattle.model.specs.Table.{Row, Table, table, rowAt, count, isElement, hasParent, isThe, isMarked, tagFits, rowsFit}
 use Rattle.model.specs.Table.{markFits, noneTwice}
-use Rattle.model.specs.Stored.{Read, refused, got, numberAt, parentIn, numberBytes as wordOf, lastMarked}
-use Rattle.model.specs.Stored.{rowLinks, recorded}
+use Rattle.model.specs.Stored.{Read, refused, got, numberAt, parentIn, numberBytes as wordOf, lastMarked, rowLinks, recorded}
 use Rattle.model.specs.Step.{signedKey, isBelow, collect}
 use Rattle.model.specs.Run.{Copied, copyParent}
 use Rattle.model.specs.Paths.{Place, place}

@@ -9,8 +9,7 @@ use native.Mathlib.Omega.{arith}
 use Rattle.model.specs.Base.{any}
 use Rattle.model.specs.Table.{Table, isName}
 use Rattle.model.specs.Script.{Step, stepBy, testFits}
-use Rattle.model.specs.Paths.{Place, Path, start, _▸_, withStep, anyBelow, Paths, after, joinPaths, infer, prefixesOf}
-use Rattle.model.specs.Paths.{prefixed, hasUp}
+use Rattle.model.specs.Paths.{Place, Path, start, _▸_, withStep, anyBelow, Paths, after, joinPaths, infer, prefixesOf, prefixed, hasUp}
 use Rattle.model.specs.Promise.{Places, rowsOn}
 use Rattle.model_document03.specs.Script as D
 use Rattle.model_document03.specs.Paths as P

@@ -33,8 +33,7 @@ use Rattle.model_document03.proofs.RunLaws.{stored-same, runOn-same}
 use Rattle.model_document03.proofs.BackLaws.{takenBack-same}
 use Rattle.model_document03.proofs.RecordLaws.{theirs, theirState, theirOut, tableOf-same, answerOf-same, historyOf-same, ends-same}
 use Rattle.model_document03.proofs.RecordLaws.{historyBytes-same, replayAll-same, matchedHistory-same}
-use Rattle.model_document03.proofs.PathLaws.{oursPath, PathsAlike, infer-alike}
-use Rattle.model_document03.proofs.PathLaws.{any-alike, any-prefixed, rowsOn-same, hasUp-same}
+use Rattle.model_document03.proofs.PathLaws.{oursPath, PathsAlike, infer-alike, any-alike, any-prefixed, rowsOn-same, hasUp-same}
 use Rattle.model_document03.proofs.MeetingLaws.{meets-same}
 
 -- THE ANSWER's number

@@ -17,10 +17,9 @@ use Rattle.script.specs.Reading.{scriptRead}
 use Rattle.script.proofs.ScriptLaws.{script-accepted, script-parsed, read-refused}
 use Rattle.paths_positions.specs.Positions.{Entry, Emitted, emit, AreLower, entriesBefore, entriesOf, pathsFrom, pathsOn}
 use Rattle.paths_positions.specs.Answer.{positionsMeet}
-use Rattle.paths_positions.specs.Packed.{entryOf, entriesIn}
+use Rattle.paths_positions.specs.Packed.{entryOf, entriesIn, entriesBy, someLeadsUp}
 use Rattle.paths_cells.specs.Pairs.{HasRows}
 use Rattle.paths_fill.specs.Filling.{TablePre}
-use Rattle.paths_positions.specs.Packed.{entriesBy, someLeadsUp}
 use Rattle.paths_emit.specs.Emitting.{EmitPre, EmitPost}
 use Rattle.paths.specs.Analysis.{byAnswer, analysisOf, analysed, ScriptPre, ScriptPost, AnswerPre, AnswerPost, FrontPre}
 use Rattle.paths.specs.declared.Analysis.{Analysis}

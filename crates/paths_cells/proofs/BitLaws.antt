@@ -7,8 +7,7 @@ use lib.Dec.{eqb}
 use borrow.Author.Tests.{eqb-true}
 use lib.Bits.{bitOr, or-step, or-shr}
 use Rattle.model.specs.Base.{bit}
-use Rattle.model.specs.Meeting.{Cell, joinCell}
-use Rattle.model.specs.Meeting.{noCell}
+use Rattle.model.specs.Meeting.{Cell, joinCell, noCell}
 use Rattle.paths_cells.specs.Decoded.{cellBits}
 use Rattle.model.proofs.MirrorLaws.{cell-equal}
 

@@ -4,9 +4,8 @@ use mathlib.Core.Path.{_≡_}
 use mathlib.Core.List.{List}
 use Prim.Native.Nat.{ℕ, _+_, _*_, _≤_, _<_}
 use lib.ListN.{length, getD}
-use Rattle.model.specs.Meeting.{joinCell}
+use Rattle.model.specs.Meeting.{joinCell, noCell}
 use Rattle.paths_positions.specs.Steps.{maxPositions}
-use Rattle.model.specs.Meeting.{noCell}
 use Rattle.paths_positions.specs.Sources.{Cells}
 use Rattle.paths_cells.specs.Decoded.{cellBits, cellOf}
 use Rattle.paths_cells.specs.declared.cells.Cell.{Cell}

@@ -11,12 +11,9 @@ use Rattle.model.specs.Script as model
 use Rattle.model.specs.Paths.{anyBelow, isUp}
 use Rattle.paths_positions.specs.Positions.{Entry, plain, accessing, modifying, over, union}
 use Rattle.paths_positions.specs.Positions as positions
-use Rattle.paths_positions.specs.Steps.{stepOf}
-use Rattle.paths_positions.specs.Steps.{maxPositions}
+use Rattle.paths_positions.specs.Steps.{stepOf, maxPositions}
 use Rattle.paths_positions.specs.Packed.{withRole, entryBy, rootBy, overBy, unionBy, kinds, roles, axes, tests, labels, PositionFits}
-use Rattle.paths_positions.specs.Packed.{plainRole, accessedRole, modifiedRole}
-use Rattle.paths_positions.specs.Packed.{entriesIn}
-use Rattle.paths_positions.specs.Packed.{PushPost}
+use Rattle.paths_positions.specs.Packed.{plainRole, accessedRole, modifiedRole, entriesIn, PushPost}
 use Rattle.paths_emit.specs.Emitting.{outOf, GrowPre, Grown, BelowPre, BelowPost}
 use Rattle.paths_positions.specs.declared.packed.Position.{Position}
 use Rattle.paths_positions.specs.declared.step.Step.{Step}

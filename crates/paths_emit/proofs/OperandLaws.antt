@@ -4,8 +4,7 @@ use mathlib.Core.List.{List}
 use Prim.Native.Nat.{ℕ, _+_, _-_, _<_}
 use native.Mathlib.Omega.{arith}
 use lib.ListN.{getD}
-use Rattle.model.specs.Script.{arity}
-use Rattle.model.specs.Script.{ifKind}
+use Rattle.model.specs.Script.{arity, ifKind}
 use Rattle.model.specs.Script.{Expr, nil, document, var, step, both, letIn, forIn, element, leaf, delete, insert, pick, stepBy}
 use Rattle.model.specs.Script.{recordsOf}
 use Rattle.model.proofs.BoolLaws.{eq-cases}

@@ -10,8 +10,7 @@ use lib.Seq.{getD-take}
 use borrow.Author.Tests.{eqb-true, ltb-true}
 use Rattle.model.specs.Limits.{maxBinders}
 use Rattle.model.specs.Table.{isName}
-use Rattle.model.specs.Script.{arity}
-use Rattle.model.specs.Script.{testFits, variableKind, isBinder, recordsOf}
+use Rattle.model.specs.Script.{arity, testFits, variableKind, isBinder, recordsOf}
 use Rattle.model.proofs.BoolLaws.{by-cases, and-left, eq-cases}
 use Rattle.script_records.specs.Walk.{withBound, inner, firstAt, secondAt, thirdAt, exprAt}
 use Rattle.script.specs.Accepted.{Accepted, RecordFits}

@@ -7,8 +7,7 @@ ghost use Rattle.paths_positions.specs.Positions.{pushStep, pushUnion, pushDele
 ghost use Rattle.paths_positions.specs.Packed.{labels};
 ghost use Rattle.paths_positions.specs.Steps.{stepOf};
 ghost use Rattle.paths_emit.specs.Emitting.{outOf, unaryOf, binaryOf, GrowPre, StepPre, PairedPre, UnaryPre, Grown, BindPre};
-ghost use Rattle.paths_emit.specs.Emitting.{BindPost};
-ghost use Rattle.paths_emit.specs.Emitting.{BelowPre, BelowPost, NullaryPre, NullaryPost, EmitPre, EmitPost};
+ghost use Rattle.paths_emit.specs.Emitting.{BindPost, BelowPre, BelowPost, NullaryPre, NullaryPost, EmitPre, EmitPost};
 use paths_positions::POSITIONS;
 use paths_positions::packed;
 use paths_positions::packed::Position;

@@ -9,12 +9,10 @@ use lib.ListN.{length, getD, length-map, List·getD-map}
 use borrow.Author.Tests.{ne-eqb}
 use Rattle.model.specs.Script.{Step}
 use Rattle.model.specs.Paths.{Path}
-use Rattle.model.specs.Meeting.{Cell, joinCell, onStep, downStep, upStep, isMet}
+use Rattle.model.specs.Meeting.{Cell, joinCell, onStep, downStep, upStep, isMet, noCell, sum, between}
 use Rattle.model.proofs.BoolLaws.{eq-cases}
 use Rattle.paths_positions.specs.Positions as positions
-use Rattle.model.specs.Meeting.{noCell, sum, between}
-use Rattle.paths_positions.specs.Sources.{Cells}
-use Rattle.paths_positions.specs.Sources.{Source, fromRoot, fromStep, sourcesOf, rootsCell, sourceCell}
+use Rattle.paths_positions.specs.Sources.{Cells, Source, fromRoot, fromStep, sourcesOf, rootsCell, sourceCell}
 use Rattle.paths_positions.specs.Sources.{sourcesCell, cellTo, cellBy}
 use Rattle.paths_positions.specs.Answer.{isTested, meetAt, rowMeets}
 use Rattle.paths_positions.specs.Filled.{Filled}

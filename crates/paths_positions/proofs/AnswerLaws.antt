@@ -11,13 +11,12 @@ use borrow.Author.Tests.{ne-eqb}
 use Rattle.model.specs.Base.{any, All, nothing, also}
 use Rattle.model.specs.Script.{Expr}
 use Rattle.model.specs.Paths.{placeOf, Path, start, place, pathsOf, traversed, hasUp}
-use Rattle.model.specs.Meeting.{isMet, meets, anyMeet, pathsMeet, free, upward, meet, answer}
+use Rattle.model.specs.Meeting.{isMet, meets, anyMeet, pathsMeet, free, upward, meet, answer, between}
 use Rattle.model.proofs.All.{all-in}
 use Rattle.model.proofs.Pointwise.{ended}
 use Rattle.model.proofs.ListLaws.{any-append, any-same}
 use Rattle.paths_positions.specs.Positions.{Entry, plain, nowhere, entryAt, AreLower, emit, entriesBefore, entriesOf, pathsFrom}
 use Rattle.paths_positions.specs.Positions.{pathsOn}
-use Rattle.model.specs.Meeting.{between}
 use Rattle.paths_positions.specs.Answer.{anyUpTo, isTested, positionsMeet, answerBy}
 use Rattle.model.proofs.CellLaws.{isMet-between, isMet-join, between-second}
 use Rattle.model.proofs.BetweenLaws.{anyMeet-mirror}

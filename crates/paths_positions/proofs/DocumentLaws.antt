@@ -7,9 +7,8 @@ use Rattle.model.specs.Base.{filtered}
 use Rattle.model.specs.Script.{Step}
 use Rattle.model.specs.Paths.{placeOf, Place, Path, start, _▸_, withStep}
 use Rattle.model.specs.Meeting.{Cell, onCell, joinCell, samePlace, isConstructor, onStep, downStep, upStep, startCells, stepCells, cell}
-use Rattle.model.specs.Meeting.{isMet, meets}
+use Rattle.model.specs.Meeting.{isMet, meets, noCell}
 use Rattle.model.proofs.ListLaws.{filtered-append, filtered-map}
-use Rattle.model.specs.Meeting.{noCell}
 use Rattle.model.proofs.CellLaws.{on-respects, down-respects, up-respects}
 
 abbrev pub isDocument : Path → Bool

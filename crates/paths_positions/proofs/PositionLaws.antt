@@ -7,13 +7,10 @@ use lib.ListN.{length, getD, take, drop, length-append, List·getD-append}
 use lib.Seq.{split-at, length-take-le, getD-at}
 use Rattle.model.specs.Script.{Step}
 use Rattle.model.specs.Paths.{Path, start, documentPlace, withStep}
-use Rattle.model.specs.Meeting.{Cell, joinCell, onStep, downStep, upStep}
+use Rattle.model.specs.Meeting.{Cell, joinCell, onStep, downStep, upStep, noCell, sum, between}
 use Rattle.paths_positions.specs.Positions.{Position, nowhere, root, over, union, Entry, plain, entryAt, IsLower, AreLower}
 use Rattle.paths_positions.specs.Positions.{pathsAt, pathsFrom, pathsBy, pathsOn}
-use Rattle.model.specs.Meeting.{noCell, sum, between}
-use Rattle.paths_positions.specs.Sources.{Cells}
-use Rattle.paths_positions.specs.Sources.{Source, fromRoot, fromStep}
-use Rattle.paths_positions.specs.Sources.{sourceCell, sourcesCell, cellTo, cellBy}
+use Rattle.paths_positions.specs.Sources.{Cells, Source, fromRoot, fromStep, sourceCell, sourcesCell, cellTo, cellBy}
 use Rattle.paths_positions.specs.Filled.{Filled}
 use Rattle.model.proofs.CellLaws.{between-none, between-first, between-second, between-starts, between-up, between-down}
 use Rattle.model.proofs.CellLaws.{between-steps, join-none}

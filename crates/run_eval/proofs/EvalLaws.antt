@@ -4,8 +4,7 @@ use mathlib.Core.List.{List}
 use Prim.Native.Nat.{ℕ, _+_, _-_, _<_}
 use native.Mathlib.Omega.{arith}
 use lib.ListN.{getD}
-use Rattle.model.specs.Script.{ifKind}
-use Rattle.model.specs.Script.{bodySize, arity, isBinder}
+use Rattle.model.specs.Script.{ifKind, bodySize, arity, isBinder}
 use Rattle.model.specs.Run.{Out, andThen, run}
 use Rattle.script_records.specs.Walk.{inner, endAt, firstAt, secondAt, exprAt}
 use Rattle.script.specs.Accepted.{Accepted, RecordFits}

@@ -16,8 +16,7 @@ use Rattle.model.proofs.All.{all-front, all-back}
 use Rattle.script_records.specs.Walk.{inner, endAt, exprAt}
 use Rattle.run_query.specs.Values.{valueAt}
 use Rattle.run_operators.specs.Machine.{Machine, Frame, boundValues, frame, evaluated, cameTo, stateIn, boundIn, valueIn}
-use Rattle.run_operators.specs.Evaluating.{InScope, BindPre, BindPost, limitedBy, movedTo, BinaryPre, BinaryPost}
-use Rattle.run_operators.specs.Evaluating.{EvalPre, EvalPost}
+use Rattle.run_operators.specs.Evaluating.{InScope, BindPre, BindPost, limitedBy, movedTo, BinaryPre, BinaryPost, EvalPre, EvalPost}
 use Rattle.run_eval.specs.Loops.{Loop, loopOf, itemsIn, bodyRun, EachPre, EachPost}
 use Rattle.run_eval.specs.Rests.{forRest, RestPre, RestPost}
 use Rattle.run_operators.specs.declared.value.Span.{Span}

@@ -4,9 +4,7 @@ use mathlib.Core.List.{List, [], _∷_, _++_}
 use Prim.Native.Nat.{ℕ, _+_, _-_, _<_}
 use native.Mathlib.Omega.{arith}
 use lib.ListN.{getD}
-use Rattle.model.specs.Script.{arity}
-use Rattle.model.specs.Script.{forKind, ifKind}
-use Rattle.model.specs.Script.{Expr, recordsOf}
+use Rattle.model.specs.Script.{arity, forKind, ifKind, Expr, recordsOf}
 use Rattle.model.specs.Run.{State, Out, refused, gives, andThen, run}
 use Rattle.model.proofs.BoolLaws.{eq-cases}
 use Rattle.model.proofs.ValueLaws.{then-same}

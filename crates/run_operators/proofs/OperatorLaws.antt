@@ -9,8 +9,7 @@ use borrow.Author.Tests.{ne-eqb}
 use Rattle.model.specs.Limits.{maxItems}
 use Rattle.model.specs.Base.{nothing, filtered}
 use Rattle.model.specs.Table as model
-use Rattle.model.specs.Script.{stepKind, deleteKind, pickKind, joinKind, insertKind}
-use Rattle.model.specs.Script.{stepBy, scriptKinds, bodySize}
+use Rattle.model.specs.Script.{stepKind, deleteKind, pickKind, joinKind, insertKind, stepBy, scriptKinds, bodySize}
 use Rattle.model.specs.Step.{isReached, isPicked, stepped, picked}
 use Rattle.model.specs.Run.{gives}
 use Rattle.model.proofs.BoolLaws.{cond-cases}

@@ -1,9 +1,8 @@
 -- `number::put_number` places the digits of a number; n falls with each call.
-use Prim.Native.Nat.{_+_}
+use Prim.Native.Nat.{_+_, ℕ, _<_}
 use native.Mathlib.Omega.{arith}
 use Rattle.pair_text.proofs.TextLaws.{number-low, number-room, number-high}
 use borrow.Author.Needs.{needs}
-use Prim.Native.Nat.{ℕ, _<_}
 use borrow.Fn.Kinds.{In}
 use borrow.Fn.PlainCycle.{Measures, is, falls, and}
 use Rattle.pair_text.proofs.number.put_number.Reads as put-number

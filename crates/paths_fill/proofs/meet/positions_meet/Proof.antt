@@ -7,9 +7,8 @@ use native.Mathlib.Omega.{arith}
 use lib.ListN.{length, length-map}
 use Rattle.paths_positions.specs.Answer.{rowMeets, anyUpTo}
 use Rattle.paths_positions.specs.Filled.{Filled}
-use Rattle.paths_positions.specs.Packed.{entryOf}
+use Rattle.paths_positions.specs.Packed.{entryOf, entriesBy}
 use Rattle.paths_cells.specs.Pairs.{marks, HasRows}
-use Rattle.paths_positions.specs.Packed.{entriesBy}
 use Rattle.paths_positions.proofs.AnyUpToLaws.{anyUpTo-one, anyUpTo-next, anyUpTo-found}
 use Rattle.paths_fill.proofs.FillLaws.{first-nothing, none-filled}
 use borrow.Author.Needs.{needs}

@@ -9,9 +9,8 @@ use borrow.Author.Tests.{eqb-true}
 use Rattle.model.proofs.BoolLaws.{and-left, and-right}
 use Rattle.paths_positions.specs.Answer.{meetAt, rowMeets}
 use Rattle.paths_positions.specs.Filled.{Filled}
-use Rattle.paths_positions.specs.Packed.{entryOf, unionKind, plainRole}
+use Rattle.paths_positions.specs.Packed.{entryOf, unionKind, plainRole, entriesBy}
 use Rattle.paths_cells.specs.Pairs.{marks, HasRows}
-use Rattle.paths_positions.specs.Packed.{entriesBy}
 use Rattle.paths_positions.proofs.AnyUpToLaws.{anyUpTo-one, anyUpTo-next, anyUpTo-found}
 use Rattle.paths_fill.proofs.FillLaws.{meet-asks, plain-row, second-nothing, row-started, row-filled}
 use borrow.Author.Needs.{needs}

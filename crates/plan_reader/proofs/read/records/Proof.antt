@@ -1,12 +1,11 @@
 -- `read::records` reads every record. The loop's invariant is `Held`: reading on from the table so far gives the whole reading.
-use lib.ListN.{length-take}
+use lib.ListN.{length-take, length, drop, length-drop}
 use Rattle.plan_reader.proofs.ReadingLaws.{held-empty, reading-all, reading-on, reading-refused, reading-end}
 use Rattle.plan_reader.specs.Reading.{Held}
 use Rattle.plan_table.specs.Packed.{decodeParts}
 use Rattle.model.proofs.BoolLaws.{cond-ne}
 use Rattle.model.specs.Stored.{readFrom, readPlan, refused}
 use Rattle.model.specs.Refusal.{refusal}
-use lib.ListN.{length, drop, length-drop}
 use mathlib.Core.Path.{_≡_, _∙_, ap}
 use Prim.Native.Nat.{_+_, _-_, _≤_, _<_}
 use native.Mathlib.Omega.{arith}

@@ -1,5 +1,5 @@
 -- `read::row` refuses the row at the front or adds it to the table, by one law of ReadRecordLaws for each way out.
-use Rattle.plan_reader.proofs.ReadRecordLaws.{not-accepted}
+use Rattle.plan_reader.proofs.ReadRecordLaws.{not-accepted, packed-none, packed-some, row-field, row-order, row-none, row-child}
 use mathlib.Core.List.{List}
 use Rattle.plan_reader.specs.Reading.{lastOf}
 use Rattle.plan_table.specs.Packed.{elementBits, leafBits, packRow}
@@ -7,9 +7,7 @@ use Rattle.plan_table.specs.Fitting.{isElementBelow}
 use Rattle.plan_table.proofs.DecodeLaws.{below-bound}
 use Rattle.model.specs.Base.{maxByte}
 use Rattle.model.specs.Stored.{elementKind, leafKind, noParent, rowIn, numberAt}
-use Rattle.plan_reader.proofs.ReadRecordLaws.{packed-none, packed-some}
 use Prim.Native.Nat.{ℕ, _≤_, _<_, _+_, _*_, _-_}
-use Rattle.plan_reader.proofs.ReadRecordLaws.{row-field, row-order, row-none, row-child}
 use lib.Dec.{eqb}
 use lib.ListN.{getD, set}
 use mathlib.Core.Bool.{true, false, cond}

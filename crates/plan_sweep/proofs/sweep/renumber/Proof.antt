@@ -1,12 +1,10 @@
 -- `sweep::renumber` gives each mark its new link. The loop's invariant: the marks passed have theirs.
-use lib.ListN.{length-set}
-use Prim.Native.Nat.{_<_}
+use lib.ListN.{length-set, length, getD, take, drop, set}
+use Prim.Native.Nat.{_<_, ℕ, _≤_, _-_}
 use Rattle.plan_sweep.proofs.SweepLaws.{links-next, links-at, links-end}
 use Rattle.plan_sweep.specs.Sweeping.{newLinks}
-use lib.ListN.{length, getD, take, drop, set}
 use mathlib.Core.List.{List, _++_}
 use mathlib.Core.Path.{_≡_, refl, _∙_, ap}
-use Prim.Native.Nat.{ℕ, _≤_, _-_}
 use native.Mathlib.Omega.{arith}
 use borrow.Author.Needs.{needs}
 use Rattle.model.specs.Limits.{maxLinks}

@@ -1,7 +1,6 @@
 -- `insert::insert` refuses a target that is not one element with 7, and else copies every item.
-use lib.ListN.{getD}
+use lib.ListN.{getD, length}
 use Rattle.run_insert.proofs.InsertLawsItems.{insert-many, insert-low, insert-leaf, insert-items, insert-done}
-use lib.ListN.{length}
 use mathlib.Core.Path.{_≡_, refl}
 use native.Mathlib.Omega.{arith}
 use borrow.Author.Needs.{needs}

@@ -5,8 +5,7 @@ use native.Mathlib.Omega.{arith}
 use Rattle.script.proofs.AcceptedLaws.{accepted-record}
 use Rattle.script.proofs.FieldLaws.{document-number, variable-number, element-name}
 use Rattle.run_operators.proofs.NullaryLaws.{nullary-room, nullary-body, nil-yields, document-yields, variable-yields}
-use Rattle.run_operators.proofs.NullaryLaws.{element-yields}
-use Rattle.run_operators.proofs.NullaryLaws.{leaf-yields, variable-asks, variable-below, last-kind}
+use Rattle.run_operators.proofs.NullaryLaws.{element-yields, leaf-yields, variable-asks, variable-below, last-kind}
 use Rattle.run_operators.proofs.record.nullary.Statement.{statement}
 use Rattle.run_operators.proofs.record.nullary.Tie as tie
 

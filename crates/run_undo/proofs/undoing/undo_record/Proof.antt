@@ -1,7 +1,6 @@
 -- `undoing::undo_record` puts a link back or takes the last row away, where the record fits.
 use Rattle.run_undo.proofs.UndoLawsBack.{cut-pre, cut-refused, cut-row-low, cut-parent-low, cut-back, made-pre, made-refused}
-use Rattle.run_undo.proofs.UndoLawsBack.{made-some}
-use Rattle.run_undo.proofs.UndoLawsBack.{made-back}
+use Rattle.run_undo.proofs.UndoLawsBack.{made-some, made-back}
 use Rattle.model.specs.Stored.{numberAt}
 use Rattle.model.specs.Undo.{cutFits, madeFits}
 use Rattle.run_undo.specs.Undoing.{rowMade}

@@ -6,8 +6,7 @@ use mathlib.Core.Bool.{true}
 use borrow.Author.Needs.{needs}
 use borrow.Author.Tests.{not-true, not-false}
 use Rattle.model.specs.Script.{isScriptKind}
-use Rattle.script.proofs.HeadLaws.{head-empty, head-kind, head-records, head-depth, head-ninth}
-use Rattle.script.proofs.HeadLaws.{head-short, head-fine, head-field}
+use Rattle.script.proofs.HeadLaws.{head-empty, head-kind, head-records, head-depth, head-ninth, head-short, head-fine, head-field}
 use Rattle.script.proofs.read.head.Statement.{statement}
 use Rattle.script.proofs.read.head.Tie as tie
 
