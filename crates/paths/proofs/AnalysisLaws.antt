@@ -20,7 +20,7 @@ use Rattle.paths_positions.specs.Answer.{positionsMeet}
 use Rattle.paths_positions.specs.Packed.{entryOf, entriesIn, entriesBy, someLeadsUp}
 use Rattle.paths_cells.specs.Pairs.{HasRows}
 use Rattle.paths_fill.specs.Filling.{TablePre}
-use Rattle.paths_emit.specs.Emitting.{EmitPre, EmitPost}
+use Rattle.paths_emit.specs.Emitting.{emitter, EmitPre, EmitPost}
 use Rattle.paths.specs.Analysis.{byAnswer, analysisOf, analysed, ScriptPre, ScriptPost, AnswerPre, AnswerPost, FrontPre}
 use Rattle.paths.specs.declared.Analysis.{Analysis}
 use Rattle.paths.specs.declared.Analysis.the-variants.{Refused, Upward}
@@ -31,7 +31,7 @@ use Rattle.paths_emit.proofs.SizeLaws.{script-records}
 
 -- THE POSITIONS of an accepted script
 module _ {b ws : List ℕ} (pre : ScriptPre b ws) {env : List ℕ} where
-  pub positions-asks : length env ≡ maxBinders → EmitPre b 0 maxDepth 0 env ws 1
+  pub positions-asks : length env ≡ maxBinders → EmitPre b maxDepth 0 env (emitter 0 ws 1)
   positions-asks e =
       record {
         accepted = script-accepted b (pre .accepted);
@@ -43,7 +43,8 @@ module _ {b ws : List ℕ} (pre : ScriptPre b ws) {env : List ℕ} where
         low = λ v h. absurd (omega arith);
       }
 
-  pub positions-done : {p : ℕ} {ws′ : List ℕ} {n r : ℕ} → EmitPost b 0 maxDepth 0 env ws 1 p ws′ n r → ScriptPost b ws′ n
+  pub positions-done : {p : ℕ} {ws′ : List ℕ} {n r : ℕ} → EmitPost b maxDepth 0 env (emitter 0 ws 1) (emitter p ws′ n) r →
+      ScriptPost b ws′ n
   positions-done post =
       record {
         size = post .size;

@@ -21,7 +21,7 @@ use Rattle.paths_positions.specs.Positions as positions
 use Rattle.paths_positions.specs.Packed.{entriesIn}
 use Rattle.paths_positions.specs.Steps.{maxPositions}
 use Rattle.paths_emit.specs.Emitting.{outOf, nullaryOf, unaryOf, binaryOf, PairedPre, UnaryPre, Grown}
-use Rattle.paths_emit.specs.Emitting.{NullaryPre, NullaryPost, BindPre, BindPost, EmitPre, EmitPost}
+use Rattle.paths_emit.specs.Emitting.{NullaryPre, NullaryPost, BindPre, BindPost, emitter, EmitPre, EmitPost}
 use Rattle.paths_emit.proofs.OperandLaws.{no-operand, one-operand, two-operands, Three, three-operands}
 
 -- a test that fits is one of four
@@ -33,11 +33,11 @@ test-low t n h =
 
 -- AFTER AN OPERAND: the first was emitted; and the second, of two or three
 pub record First (b : List ℕ) (at left v : ℕ) (env ws : List ℕ) (n p₁ : ℕ) (ws₁ : List ℕ) (n₁ r₁ : ℕ) : Type 0 where
-  pub pre : EmitPre b at left v env ws n
-  pub post : EmitPost b (firstAt b at) (left - 1) v env ws n p₁ ws₁ n₁ r₁
+  pub pre : EmitPre b left v env (emitter at ws n)
+  pub post : EmitPost b (left - 1) v env (emitter (firstAt b at) ws n) (emitter p₁ ws₁ n₁) r₁
 
 pub record Second (b : List ℕ) (at left v : ℕ) (env ws : List ℕ) (n r₁ p₂ : ℕ) (ws₂ : List ℕ) (n₂ r₂ : ℕ) : Type 0 where
-  pub pre : EmitPre b at left v env ws n
+  pub pre : EmitPre b left v env (emitter at ws n)
   pub size : length ws₂ ≡ maxPositions
   pub first : r₁ ≡ emit (exprAt (left - 1) b (firstAt b at)) (take v env) (entriesIn ws n) .result
   pub is : outOf ws₂ n₂ r₂ ≡ emit (exprAt (left - 1) b (secondAt b at)) (withBound (getD b at 0) (take v env) r₁)
@@ -48,7 +48,7 @@ pub record Second (b : List ℕ) (at left v : ℕ) (env ws : List ℕ) (n r₁ p
   pub more : n ≤ n₂
   pub few : n₂ + 2 ≤ n + 2 * (recordsOf (exprAt (left - 1) b (firstAt b at)) + recordsOf (exprAt (left - 1) b (secondAt b at)))
 
-module _ {b : List ℕ} {at left v : ℕ} {env ws : List ℕ} {n : ℕ} (pre : EmitPre b at left v env ws n) where
+module _ {b : List ℕ} {at left v : ℕ} {env ws : List ℕ} {n : ℕ} (pre : EmitPre b left v env (emitter at ws n)) where
   fits : RecordFits b at left v
   fits = accepted-record (pre .accepted)
 
@@ -70,7 +70,7 @@ module _ {b : List ℕ} {at left v : ℕ} {env ws : List ℕ} {n : ℕ} (pre : E
       }
 
   pub nullary-emits : arity (getD b at 0) ≡ 0 → {p : ℕ} → p ≡ firstAt b at → {ws′ : List ℕ} {n′ r : ℕ} →
-      NullaryPost b at env ws n ws′ n′ r → EmitPost b at left v env ws n p ws′ n′ r
+      NullaryPost b at env ws n ws′ n′ r → EmitPost b left v env (emitter at ws n) (emitter p ws′ n′) r
   nullary-emits z e post =
       let o = no-operand b at left v (pre .accepted) z in
       record {
@@ -108,10 +108,10 @@ module _ {b : List ℕ} {at left v : ℕ} {env ws : List ℕ} {n : ℕ} (pre : E
       (λ z. let o = two-operands b at left v (pre .accepted) z in record { first = o .first; size = omega (arith, o .size) })
       (λ z. let o = three-operands b at left v (pre .accepted) z in record { first = o .first; size = omega (arith, o .size) })
 
-  pub first-asks : 0 < arity (getD b at 0) → {p : ℕ} → p ≡ firstAt b at → EmitPre b p (left - 1) v env ws n
+  pub first-asks : 0 < arity (getD b at 0) → {p : ℕ} → p ≡ firstAt b at → EmitPre b (left - 1) v env (emitter p ws n)
   first-asks h e =
       let o = some h in
-      subst (λ (q : ℕ). EmitPre b q (left - 1) v env ws n) (sym e)
+      subst (λ (q : ℕ). EmitPre b (left - 1) v env (emitter q ws n)) (sym e)
       (record {
         accepted = o .first;
         scope = pre .scope;
@@ -123,9 +123,9 @@ module _ {b : List ℕ} {at left v : ℕ} {env ws : List ℕ} {n : ℕ} (pre : E
       })
 
   pub first-emitted : {p : ℕ} → p ≡ firstAt b at → {p₁ : ℕ} {ws₁ : List ℕ} {n₁ r₁ : ℕ} →
-      EmitPost b p (left - 1) v env ws n p₁ ws₁ n₁ r₁ → First b at left v env ws n p₁ ws₁ n₁ r₁
+      EmitPost b (left - 1) v env (emitter p ws n) (emitter p₁ ws₁ n₁) r₁ → First b at left v env ws n p₁ ws₁ n₁ r₁
   first-emitted e {p₁ = p₁} {ws₁ = ws₁} {n₁ = n₁} {r₁ = r₁} post =
-      record { pre = pre; post = subst (λ (q : ℕ). EmitPost b q (left - 1) v env ws n p₁ ws₁ n₁ r₁) e post }
+      record { pre = pre; post = subst (λ (q : ℕ). EmitPost b (left - 1) v env (emitter q ws n) (emitter p₁ ws₁ n₁) r₁) e post }
 
 module _ {b : List ℕ} {at left v : ℕ} {env ws : List ℕ} {n p₁ : ℕ} {ws₁ : List ℕ} {n₁ r₁ : ℕ}
     (f : First b at left v env ws n p₁ ws₁ n₁ r₁) where
@@ -141,7 +141,7 @@ module _ {b : List ℕ} {at left v : ℕ} {env ws : List ℕ} {n p₁ : ℕ} {ws
       }
 
   pub unary-emits : arity (getD b at 0) ≡ 1 → {ws′ : List ℕ} {n′ r : ℕ} → Grown (unaryOf b at (outOf ws₁ n₁ r₁)) n₁ ws′ n′ r →
-      EmitPost b at left v env ws n p₁ ws′ n′ r
+      EmitPost b left v env (emitter at ws n) (emitter p₁ ws′ n′) r
   unary-emits z g =
       let o = one-operand b at left v (f .pre .accepted) z in
       record {
@@ -179,10 +179,10 @@ module _ {b : List ℕ} {at left v : ℕ} {env ws : List ℕ} {n p₁ : ℕ} {ws
 
   module _ (h : 1 < arity (getD b at 0)) {env′ : List ℕ} (bound : BindPost (getD b at 0) env v r₁ env′) {w : ℕ}
       (scope : w ≡ inner (getD b at 0) v) where
-    pub second-asks : EmitPre b p₁ (left - 1) w env′ ws₁ n₁
+    pub second-asks : EmitPre b (left - 1) w env′ (emitter p₁ ws₁ n₁)
     second-asks =
-        subst (λ (q : ℕ). EmitPre b q (left - 1) w env′ ws₁ n₁) (sym (f .post .place))
-        (subst (λ (u : ℕ). EmitPre b (secondAt b at) (left - 1) u env′ ws₁ n₁) (sym scope)
+        subst (λ (q : ℕ). EmitPre b (left - 1) w env′ (emitter q ws₁ n₁)) (sym (f .post .place))
+        (subst (λ (u : ℕ). EmitPre b (left - 1) u env′ (emitter (secondAt b at) ws₁ n₁)) (sym scope)
         (record {
           accepted = more h .second;
           scope = inner-most;
@@ -193,7 +193,7 @@ module _ {b : List ℕ} {at left v : ℕ} {env ws : List ℕ} {n p₁ : ℕ} {ws
           low = bound .low n₁ (f .post .low) (λ u l. omega (arith, f .pre .low u l, f .post .more));
         }))
 
-    pub second-emitted : {p₂ : ℕ} {ws₂ : List ℕ} {n₂ r₂ : ℕ} → EmitPost b p₁ (left - 1) w env′ ws₁ n₁ p₂ ws₂ n₂ r₂ →
+    pub second-emitted : {p₂ : ℕ} {ws₂ : List ℕ} {n₂ r₂ : ℕ} → EmitPost b (left - 1) w env′ (emitter p₁ ws₁ n₁) (emitter p₂ ws₂ n₂) r₂ →
         Second b at left v env ws n r₁ p₂ ws₂ n₂ r₂
     second-emitted {p₂ = p₂} {ws₂ = ws₂} {n₂ = n₂} {r₂ = r₂} post =
         record {
@@ -211,10 +211,10 @@ module _ {b : List ℕ} {at left v : ℕ} {env ws : List ℕ} {n p₁ : ℕ} {ws
           few = omega (arith, f .post .few, second .few);
         }
       where
-        second : EmitPost b (secondAt b at) (left - 1) (inner (getD b at 0) v) env′ ws₁ n₁ p₂ ws₂ n₂ r₂
+        second : EmitPost b (left - 1) (inner (getD b at 0) v) env′ (emitter (secondAt b at) ws₁ n₁) (emitter p₂ ws₂ n₂) r₂
         second =
-            subst (λ (u : ℕ). EmitPost b (secondAt b at) (left - 1) u env′ ws₁ n₁ p₂ ws₂ n₂ r₂) scope
-            (subst (λ (q : ℕ). EmitPost b q (left - 1) w env′ ws₁ n₁ p₂ ws₂ n₂ r₂) (f .post .place) post)
+            subst (λ (u : ℕ). EmitPost b (left - 1) u env′ (emitter (secondAt b at) ws₁ n₁) (emitter p₂ ws₂ n₂) r₂) scope
+            (subst (λ (q : ℕ). EmitPost b (left - 1) w env′ (emitter q ws₁ n₁) (emitter p₂ ws₂ n₂) r₂) (f .post .place) post)
 
 module _ {b : List ℕ} {at left v : ℕ} {env ws : List ℕ} {n r₁ p₂ : ℕ} {ws₂ : List ℕ} {n₂ r₂ : ℕ}
     (s : Second b at left v env ws n r₁ p₂ ws₂ n₂ r₂) where
@@ -232,7 +232,7 @@ module _ {b : List ℕ} {at left v : ℕ} {env ws : List ℕ} {n r₁ p₂ : ℕ
       record { grow = record { size = s .size; room = omega (arith, s .pre .room, o .size, s .few); low = s .low }; low = s .lower }
 
   pub binary-emits : arity (getD b at 0) ≡ 2 → {ws′ : List ℕ} {n′ r : ℕ} →
-      Grown (binaryOf (getD b at 0) r₁ (outOf ws₂ n₂ r₂)) n₂ ws′ n′ r → EmitPost b at left v env ws n p₂ ws′ n′ r
+      Grown (binaryOf (getD b at 0) r₁ (outOf ws₂ n₂ r₂)) n₂ ws′ n′ r → EmitPost b left v env (emitter at ws n) (emitter p₂ ws′ n′) r
   binary-emits z g =
       let o = two-operands b at left v (s .pre .accepted) z in
       record {
@@ -250,9 +250,9 @@ module _ {b : List ℕ} {at left v : ℕ} {env ws : List ℕ} {n r₁ p₂ : ℕ
     three : Three b at left v (s .pre .accepted)
     three = three-operands b at left v (s .pre .accepted) most
 
-    pub third-asks : EmitPre b p₂ (left - 1) v env ws₂ n₂
+    pub third-asks : EmitPre b (left - 1) v env (emitter p₂ ws₂ n₂)
     third-asks =
-        subst (λ (q : ℕ). EmitPre b q (left - 1) v env ws₂ n₂) (sym (s .place))
+        subst (λ (q : ℕ). EmitPre b (left - 1) v env (emitter q ws₂ n₂)) (sym (s .place))
         (record {
           accepted = three .third;
           scope = s .pre .scope;
@@ -263,9 +263,9 @@ module _ {b : List ℕ} {at left v : ℕ} {env ws : List ℕ} {n r₁ p₂ : ℕ
           low = λ u l. omega (arith, s .pre .low u l, s .more);
         })
 
-    module _ {p₃ : ℕ} {ws₃ : List ℕ} {n₃ r₃ : ℕ} (post : EmitPost b p₂ (left - 1) v env ws₂ n₂ p₃ ws₃ n₃ r₃) where
-      third : EmitPost b (thirdAt b at) (left - 1) v env ws₂ n₂ p₃ ws₃ n₃ r₃
-      third = subst (λ (q : ℕ). EmitPost b q (left - 1) v env ws₂ n₂ p₃ ws₃ n₃ r₃) (s .place) post
+    module _ {p₃ : ℕ} {ws₃ : List ℕ} {n₃ r₃ : ℕ} (post : EmitPost b (left - 1) v env (emitter p₂ ws₂ n₂) (emitter p₃ ws₃ n₃) r₃) where
+      third : EmitPost b (left - 1) v env (emitter (thirdAt b at) ws₂ n₂) (emitter p₃ ws₃ n₃) r₃
+      third = subst (λ (q : ℕ). EmitPost b (left - 1) v env (emitter q ws₂ n₂) (emitter p₃ ws₃ n₃) r₃) (s .place) post
 
       pub union-asks : PairedPre ws₃ n₃ r₂ r₃
       union-asks =
@@ -279,7 +279,7 @@ module _ {b : List ℕ} {at left v : ℕ} {env ws : List ℕ} {n r₁ p₂ : ℕ
           }
 
       pub union-emits : {ws′ : List ℕ} {n′ r : ℕ} → Grown (positions.pushUnion r₂ (outOf ws₃ n₃ r₃)) n₃ ws′ n′ r →
-          EmitPost b at left v env ws n p₃ ws′ n′ r
+          EmitPost b left v env (emitter at ws n) (emitter p₃ ws′ n′) r
       union-emits g =
           record {
             size = g .size;

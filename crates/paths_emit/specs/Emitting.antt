@@ -103,20 +103,31 @@ pub record BindPost (kind : ℕ) (env : List ℕ) (bound result : ℕ) (env′ :
   pub is : take (inner kind bound) env′ ≡ withBound kind (take bound env) result
   pub low : (n : ℕ) → result < n → ((v : ℕ) → v < bound → getD env v 0 < n) → (v : ℕ) → v < inner kind bound → getD env′ v 0 < n
 
--- AN EXPRESSION, with the positions of the variables bound around it, behind the first n entries
-pub record EmitPre (b : List ℕ) (at left bound : ℕ) (env ws : List ℕ) (n : ℕ) : Type 0 where
-  pub accepted : Accepted b at left bound
-  pub scope : bound ≤ maxBinders
-  pub size : length ws ≡ maxPositions
-  pub variables : length env ≡ maxBinders
-  pub some : 0 < n
-  pub room : n + 2 * recordsOf (exprAt left b at) ≤ maxPositions + 1
-  pub low : (v : ℕ) → v < bound → getD env v 0 < n
+-- THE EMITTER at one moment
+pub record Emitter : Type 0 where
+  pub place : ℕ  -- in the script
+  pub area : List ℕ  -- the packed positions, and behind them the rest of the area
+  pub count : ℕ  -- how many positions there are
 
-pub record EmitPost (b : List ℕ) (at left bound : ℕ) (env ws : List ℕ) (n at′ : ℕ) (ws′ : List ℕ) (n′ r : ℕ) : Type 0 where
-  pub size : length ws′ ≡ maxPositions
-  pub is : outOf ws′ n′ r ≡ positions.emit (exprAt left b at) (take bound env) (entriesIn ws n)
-  pub place : at′ ≡ endAt b at
-  pub low : r < n′
-  pub more : n ≤ n′
-  pub few : n′ + 1 ≤ n + 2 * recordsOf (exprAt left b at)
+-- from a function's parameters
+abbrev pub emitter : (place : ℕ) → (packed : List ℕ) → (count : ℕ) → Emitter
+emitter i ws n = record { place = i; area = ws; count = n }
+
+-- AN EXPRESSION at the emitter's place, with the positions of the variables bound around it
+pub record EmitPre (b : List ℕ) (left bound : ℕ) (env : List ℕ) (e : Emitter) : Type 0 where
+  pub accepted : Accepted b (e .place) left bound
+  pub scope : bound ≤ maxBinders
+  pub size : length (e .area) ≡ maxPositions
+  pub variables : length env ≡ maxBinders
+  pub some : 0 < e .count
+  pub room : e .count + 2 * recordsOf (exprAt left b (e .place)) ≤ maxPositions + 1
+  pub low : (v : ℕ) → v < bound → getD env v 0 < e .count
+
+-- emits its positions behind those that were there, answers its own, and comes to the place past it
+pub record EmitPost (b : List ℕ) (left bound : ℕ) (env : List ℕ) (e e′ : Emitter) (r : ℕ) : Type 0 where
+  pub size : length (e′ .area) ≡ maxPositions
+  pub is : outOf (e′ .area) (e′ .count) r ≡ positions.emit (exprAt left b (e .place)) (take bound env) (entriesIn (e .area) (e .count))
+  pub place : e′ .place ≡ endAt b (e .place)
+  pub low : r < e′ .count
+  pub more : e .count ≤ e′ .count
+  pub few : e′ .count + 1 ≤ e .count + 2 * recordsOf (exprAt left b (e .place))

@@ -7,7 +7,7 @@ ghost use Rattle.paths_positions.specs.Positions.{pushStep, pushUnion, pushDele
 ghost use Rattle.paths_positions.specs.Packed.{labels};
 ghost use Rattle.paths_positions.specs.Steps.{stepOf};
 ghost use Rattle.paths_emit.specs.Emitting.{outOf, unaryOf, binaryOf, GrowPre, StepPre, PairedPre, UnaryPre, Grown, BindPre};
-ghost use Rattle.paths_emit.specs.Emitting.{BindPost, BelowPre, BelowPost, NullaryPre, NullaryPost, EmitPre, EmitPost};
+ghost use Rattle.paths_emit.specs.Emitting.{BindPost, BelowPre, BelowPost, NullaryPre, NullaryPost, emitter, EmitPre, EmitPost};
 use paths_positions::POSITIONS;
 use paths_positions::packed;
 use paths_positions::packed::Position;
@@ -207,9 +207,10 @@ pub fn emit(
     positions: &mut [usize; POSITIONS],
     count: &mut usize,
 ) -> usize
-    requires { ⌜ EmitPre (now bytes) (now place) left bound env (now positions) (now count) ⌝ }
-    ensures { λ r. ⌜ EmitPost (now (bytes .entry)) (now (place .entry)) left bound env (now (positions .entry)) (now (count .entry))
-        (now (place .exit)) (now (positions .exit)) (now (count .exit)) r ⌝ }
+    requires { ⌜ EmitPre (now bytes) left bound env (emitter (now place) (now positions) (now count)) ⌝ }
+    ensures { λ r. ⌜ EmitPost (now (bytes .entry)) left bound env
+        (emitter (now (place .entry)) (now (positions .entry)) (now (count .entry)))
+        (emitter (now (place .exit)) (now (positions .exit)) (now (count .exit))) r ⌝ }
 {
     let at = *place;
     let kind = bytes[at];
