@@ -15,7 +15,7 @@ use Rattle.model.specs.Base.{any}
 use Rattle.model.specs.Refusal.{refusal, fine, isFine, refusalAt}
 use Rattle.model.specs.Table as model
 use Rattle.model.specs.Stored.{numberAt, parentIn, noParent}
-use Rattle.model.specs.History.{historyForm, historySize, recordIn, madeElementKind, madeLeafKind, cutKind, madeSize, cutSize}
+use Rattle.model.specs.History.{historyForm, historySize, recordIn, madeElementKind, madeLeafKind, madeSize, cutSize}
 use Rattle.model.specs.Undo.{Placed, Formed, refused, formed, formRefusal, withPlaced, formFrom, sameBool, sameParent}
 use Rattle.model.specs.Undo.{madeFits, cutFits, Undo, refused, undoAll, backwards, undo}
 use Rattle.model.proofs.ListLaws.{drop-all, drop-first}
