@@ -57,24 +57,53 @@ fn on_stack<T: Send>(bytes: usize, work: impl FnOnce() -> T + Send) -> T {
     })
 }
 
-/// Runs all comparisons and answers a summary, or the first difference.
-pub fn test() -> Result<String, Difference> {
-    let volume = Volume::from_environment()?;
-    let mut checker = Checker::new();
-    let mut summary = String::new();
-    for (name, part) in [
-        ("plans", plans::test as fn(&mut Checker, Volume) -> _),
+/// A comparison by its name.
+type Part = (
+    &'static str,
+    fn(&mut Checker, Volume) -> Result<(), Difference>,
+);
+
+/// The comparisons in two groups that take about as long, one for each core.
+const GROUPS: [&[Part]; 2] = [
+    &[
+        ("plans", plans::test),
         ("scripts", scripts::test),
         ("tables", tables::test),
         ("undo", undoing::test),
         ("analysis", analysis::test),
-        ("runs", running::test),
-    ] {
+    ],
+    &[("runs", running::test)],
+];
+
+/// The stack of a group's thread, that of a program's first thread.
+const GROUP_STACK: usize = 8 << 20;
+
+/// Runs comparisons one after another; what was checked, and how long each took.
+fn run(parts: &[Part], volume: Volume) -> Result<(Checker, String), Difference> {
+    let mut checker = Checker::new();
+    let mut times = String::new();
+    for (name, part) in parts {
         let start = std::time::Instant::now();
         part(&mut checker, volume)?;
         let seconds = start.elapsed().as_secs_f64();
-        writeln!(summary, "{name}: {seconds:.1} s").expect("a string takes all");
+        writeln!(times, "{name}: {seconds:.1} s").expect("a string takes all");
     }
+    Ok((checker, times))
+}
+
+/// Runs all comparisons and answers a summary, or the first difference.
+pub fn test() -> Result<String, Difference> {
+    let volume = Volume::from_environment()?;
+    let [most, runs] = GROUPS;
+    let (most, runs) = std::thread::scope(|scope| {
+        let most = scope.spawn(move || on_stack(GROUP_STACK, || run(most, volume)));
+        let runs = on_stack(GROUP_STACK, || run(runs, volume));
+        (most.join().expect("the library does not panic"), runs)
+    });
+    let ((mut checker, mut summary), (runs, times)) = (most?, runs?);
+    checker.tally.add(&runs.tally);
+    checker.notes.push_str(&runs.notes);
+    summary.push_str(&times);
     checker.tally.require_coverage()?;
     for &call in Call::ALL {
         writeln!(summary, "{}", checker.tally.line(call)).expect("a string takes all");

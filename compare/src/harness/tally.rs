@@ -91,6 +91,14 @@ impl Tally {
         self.counts[call as usize][which][number] += 1;
     }
 
+    /// Counts what another tally has counted.
+    pub fn add(&mut self, other: &Tally) {
+        let ours = self.counts.iter_mut().flatten().flatten();
+        for (count, more) in ours.zip(other.counts.iter().flatten().flatten()) {
+            *count += more;
+        }
+    }
+
     /// Refuses a test whose inputs left some answer out.
     pub fn require_coverage(&self) -> Result<(), Difference> {
         for &call in Call::ALL {
