@@ -8,11 +8,11 @@
  * A lent area too short is 11 at place 0, before all else, and nothing is touched; then the plan is read, then the call's own work is
  * done. A refused call leaves `out` as it was. On success the bytes of the plan stand at the start of `out`, and the rest stays.
  *
- * Stack: yegnabit_run needs 256 KiB (140 KiB were measured with the deepest script), yegnabit_analyse 64 KiB (30 KiB at the worst pair),
- * each other call 32 KiB (17 KiB). tests/stack.c measures it.
+ * Stack: yegnabit_run needs 256 KiB (89 KiB were measured with the deepest script), yegnabit_analyse 64 KiB (30 KiB at the worst pair),
+ * each other call 32 KiB (7 KiB). tests/stack.c measures it.
  *
  * Time: every call ends, but yegnabit_run can take very long: no rule limits the turns of a script's loops. Two loops inside one another
- * over 512 items take some 20 ms with an empty body, three some 10 seconds; with a body of many steps and picks two take seconds, and
+ * over 512 items take some 11 ms with an empty body, three some 6 seconds; with a body of many steps and picks two take seconds, and
  * three about an hour. Run scripts that you do not know in a process with a time limit. The other calls take microseconds.
  *
  * Threads: the library keeps no state. Any number of threads may call it at the same time, each with lent areas of its own. They may share

@@ -1,6 +1,7 @@
 //! The library and the rival measured in one process, in turn.
 
 mod runs;
+mod turns;
 
 use std::hint::black_box;
 use std::time::{Duration, Instant};
@@ -73,6 +74,7 @@ pub fn run() {
     undo(&mut random);
     analysis();
     runs::measure_runs();
+    turns::measure_turns();
 }
 
 /// A history that makes some 500 rows and cuts some links, taken back whole;

@@ -16,6 +16,8 @@ use crate::ffi;
 
 /// Rows of the subtree that is inserted.
 const SUBTREE: usize = 250;
+/// Rows of the plan for loops over all pairs.
+const SHORT: usize = 128;
 const ROOT: [u8; 2] = [kind::DOCUMENT, 0];
 
 pub fn measure_runs() {
@@ -67,6 +69,8 @@ pub fn measure_runs() {
         &chain,
         &each,
     ));
+    nested_loops(&chain, &below, &step_of_item);
+    loops(&star, &below);
     measure(run_case("run, delete of 511 rows", 0, &star, &delete));
     let insert = [&[kind::INSERT][..], &subtree, &[kind::DOCUMENT, 1]].concat();
     let forest = to_vec(&forest());
@@ -79,6 +83,55 @@ pub fn measure_runs() {
     let late = [&[kind::JOIN][..], &delete, &no_target].concat();
     measure(run_case("run refused after 511 cuts", 7, &star, &late));
     undo_of_run(&star, &delete);
+}
+
+/// Loops in loops: over the children of each of 511 items, with a step; and
+/// over all rows for each of 127, with a step that finds nothing.
+fn nested_loops(chain: &[u8], below: &[u8], step_of_item: &[u8]) {
+    let step_of_inner = [kind::STEP, 0, 0, 0, kind::VARIABLE, 1];
+    let each = [&[kind::FOR][..], below, &[kind::FOR], step_of_item].concat();
+    let children = [&each[..], &step_of_inner].concat();
+    measure(run_case(
+        "run, for in for, children of 511 items, with a step",
+        0,
+        chain,
+        &children,
+    ));
+    let short = to_vec(&star(SHORT));
+    let pairs = [&[kind::FOR][..], below, &[kind::FOR], below].concat();
+    let none = [&pairs[..], &step_of_inner].concat();
+    measure(run_case(
+        "run, for in for over 127 items each, with a step",
+        0,
+        &short,
+        &none,
+    ));
+}
+
+/// Loops over leaves: to the parent of each, and with changes of the plan.
+fn loops(full: &[u8], below: &[u8]) {
+    let half = to_vec(&star(ROWS / 2));
+    let cases: [(_, _, &[u8]); 3] = [
+        (
+            "run, for over 511 items with a parent step",
+            full,
+            &[kind::STEP, 2, 0, 0, kind::VARIABLE, 0],
+        ),
+        (
+            "run, for over 511 items, each deleted",
+            full,
+            &[kind::DELETE, kind::VARIABLE, 0],
+        ),
+        (
+            "run, for over 255 items, each inserted",
+            &half,
+            &[kind::INSERT, kind::VARIABLE, 0, kind::DOCUMENT, 0],
+        ),
+    ];
+    for (name, plan, body) in cases {
+        let script = [&[kind::FOR][..], below, body].concat();
+        measure(run_case(name, 0, plan, &script));
+    }
 }
 
 /// The history of 511 cuts taken back.

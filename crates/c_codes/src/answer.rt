@@ -1,11 +1,11 @@
 // The number that a C call answers, and the end of one that gives a table.
 ghost use mathlib.Core.Path.{_≡_};
-ghost use mathlib.Core.Bool.{true};
-ghost use Rattle.plan_table.specs.Packed.{fits};
+ghost use Rattle.plan_table.specs.Fitting.{FittingParts};
+ghost use Rattle.plan_table.specs.Packed.{tableOf};
+ghost use Rattle.plan_writer.specs.Writing.{planWritten, writtenOut};
 ghost use Rattle.model.specs.Refusal.{values};
-ghost use Rattle.c_codes.specs.Codes.{codeOf, lentValues, finishedValues, finishedOut};
+ghost use Rattle.c_codes.specs.Codes.{codeOf, lentValues, writtenValues};
 use plan_table::Refusal;
-use plan_table::TableResult;
 use plan_writer::write;
 
 // Whose refusal it is: a lent area's; the plan's; the script's, the run's or the history's.
@@ -32,16 +32,13 @@ pub fn lent_short() -> u64
     code(Refusal::LENT, AREA, 0)
 }
 
-// The end of a call that gives a table: its refusal, `which` saying whose it is; or the table written, and how many bytes.
-pub fn finish(result: TableResult, which: u8, out: &mut [u8]) -> u64
-    requires { ⌜ (result .refusal .number ≡ 0 → fits (result .table) ≡ true) ⌝ }
-    ensures { λ r. ⌜ r ≡ codeOf (finishedValues result which (now (out .entry))) ⌝ }
-    ensures { λ r. ⌜ now (out .exit) ≡ finishedOut result (now (out .entry)) ⌝ }
+// The end of a call that gives a table that fits: it is written, and how many bytes.
+pub fn finish<'a>(count: usize, rows: &'a [u32], marks: &'a [u16], out: &mut [u8]) -> u64
+    requires { ⌜ FittingParts count (now rows) (now marks) ⌝ }
+    ensures { λ r. ⌜ r ≡
+        codeOf (writtenValues (planWritten (tableOf count (now (rows .entry)) (now (marks .entry))) (now (out .entry)))) ⌝ }
+    ensures { λ r. ⌜ now (out .exit) ≡ writtenOut (tableOf count (now (rows .entry)) (now (marks .entry))) (now (out .entry)) ⌝ }
 {
-    let number = result.refusal.number;
-    if number != 0 {
-        return code(number, which, result.refusal.place);
-    }
-    let written = write::fitting(result.table, out);
+    let written = write::fitting(count, rows, marks, out);
     code(written.refusal.number, AREA, written.bytes)
 }

@@ -1,6 +1,6 @@
 -- The areas lent to a run through C: what each needs, and what they hold once the run is over.
 use mathlib.Core.Path.{_≡_}
-use mathlib.Core.Bool.{Bool, true, _&&_}
+use mathlib.Core.Bool.{Bool, _&&_}
 use mathlib.Core.List.{List, [], _∷_}
 use Prim.Native.Nat.{ℕ, _+_, _*_, _≤_}
 use lib.Dec.{leb}
@@ -11,8 +11,11 @@ use Rattle.model.specs.Limits.{maxRows, documents}
 use Rattle.model.specs.Refusal.{Values, values}
 use Rattle.model.specs.Stored.{recordSize}
 use Rattle.plan_writer.specs.Writing.{planWritten}
-use Rattle.plan_table.specs.Packed.{fits}
+use Rattle.plan_table.specs.Fitting.{FittingParts}
+use Rattle.plan_table.specs.Packed.{tableOf}
+use Rattle.run.specs.Calls.{resultWith}
 use Rattle.run.specs.declared.RunResult.{RunResult}
+use Rattle.run.specs.declared.lent.Ended.{Ended}
 use Rattle.c_codes.specs.Codes.{valuesUnless, areaUnless, finishedOut}
 
 -- what out needs, 2,080 bytes: a record for each row and mark of the longest plan
@@ -46,7 +49,11 @@ endDone r o d =
     (doneOver (r .items) (r .tally .made) (r .tally .cut) (r .tally .records) (r .bytes) (planWritten (r .table) o .bytes) d)
     (doneOver 0 0 0 0 0 0 d)
 
+-- how a run ended, with the table that the lent rows and marks then hold
+abbrev pub leftIn : Ended → (rows marks : List ℕ) → RunResult
+leftIn e ws ms = resultWith e (tableOf (e .count) ws ms)
+
 -- a run that is not refused leaves a table that fits
-pub record EndPre (r : RunResult) (done : List ℕ) : Type 0 where
-  pub table : r .refusal .number ≡ 0 → fits (r .table) ≡ true
+pub record EndPre (e : Ended) (rows marks done : List ℕ) : Type 0 where
+  pub table : e .refusal .number ≡ 0 → FittingParts (e .count) rows marks
   pub room : doneNeed ≤ length done

@@ -3,11 +3,11 @@ ghost use mathlib.Core.Path.{_≡_};
 ghost use Prim.Native.Nat.{_≤_};
 ghost use lib.ListN.{length, replicate};
 ghost use Rattle.c_codes.specs.Codes.{codeOf};
-ghost use Rattle.c_lent.specs.Done.{doneNeed, lentFit, doneOver, EndPre, endValues, endOut, endDone};
+ghost use Rattle.c_lent.specs.Done.{doneNeed, lentFit, doneOver, EndPre, leftIn, endValues, endOut, endDone};
 use c_codes::answer;
 use plan_writer::write;
-use run::RunResult;
 use run::lengths;
+use run::lent::Ended;
 use run_areas::area;
 
 // The numbers that done needs.
@@ -53,26 +53,33 @@ pub fn clear(answer: &mut [u16], history: &mut [u8], work: &mut [u16])
 }
 
 // The run is over: refused, out stays and done is zero; else the plan as it then is stands in out, and done has its six numbers.
-pub fn end(ran: RunResult, out: &mut [u8], done: &mut [u64]) -> u64
-    requires { ⌜ EndPre ran (now done) ⌝ }
-    ensures { λ r. ⌜ r ≡ codeOf (endValues ran (now (out .entry))) ⌝ }
-    ensures { λ _. ⌜ now (out .exit) ≡ endOut ran (now (out .entry)) ⌝ }
-    ensures { λ _. ⌜ now (done .exit) ≡ endDone ran (now (out .entry)) (now (done .entry)) ⌝ }
+pub fn end<'a>(
+    ended: Ended,
+    rows: &'a [u32],
+    marks: &'a [u16],
+    out: &mut [u8],
+    done: &mut [u64],
+) -> u64
+    requires { ⌜ EndPre ended (now rows) (now marks) (now done) ⌝ }
+    ensures { λ r. ⌜ r ≡ codeOf (endValues (leftIn ended (now (rows .entry)) (now (marks .entry))) (now (out .entry))) ⌝ }
+    ensures { λ _. ⌜ now (out .exit) ≡ endOut (leftIn ended (now (rows .entry)) (now (marks .entry))) (now (out .entry)) ⌝ }
+    ensures { λ _. ⌜ now (done .exit) ≡
+        endDone (leftIn ended (now (rows .entry)) (now (marks .entry))) (now (out .entry)) (now (done .entry)) ⌝ }
 {
-    let refused = ran.refusal.number;
+    let refused = ended.refusal.number;
     if refused != 0 {
         put_done(done, 0, 0, 0, 0, 0, 0);
-        return answer::code(refused, answer::SCRIPT, ran.refusal.place);
+        return answer::code(refused, answer::SCRIPT, ended.refusal.place);
     }
-    let tally = ran.tally;
-    let written = write::fitting(ran.table, out);
+    let tally = ended.tally;
+    let written = write::fitting(ended.count, rows, marks, out);
     put_done(
         done,
-        ran.items,
+        ended.items,
         tally.made,
         tally.cut,
         tally.records,
-        ran.bytes,
+        ended.bytes,
         written.bytes,
     );
     answer::code(written.refusal.number, answer::AREA, 0)

@@ -14,7 +14,8 @@ use Rattle.plan_table.specs.declared.Table.{Table}
 use Rattle.plan_table.specs.declared.TableResult.{TableResult}
 use Rattle.plan_table.specs.declared.Written.{Written}
 use Rattle.c_probe.specs.Probes.{writeValues, writeOut, sweptTable, sweptValues, rowsLeft, marksLeft, scriptValues}
-use Rattle.c_probe.specs.Raw.{isGiven, given}
+use Rattle.plan_table.specs.Packed.{tableOf}
+use Rattle.c_probe.specs.Raw.{isGiven}
 use Rattle.c_codes.specs.Codes.{codeOf, lentValues, writtenValues}
 use Rattle.model.specs.Limits.{maxRows, documents}
 use Rattle.model.specs.Refusal.{values}
@@ -46,9 +47,9 @@ module _ (n : ℕ) (ws ms : List ℕ) where
         (c ≡ codeOf (writeValues n ws ms o)) × (o ≡ writeOut n ws ms o)
     write-not c e z = (e ∙ rw z, rw z)
 
-    module _ (t : Table) (same : t ≡ given n ws ms) (w : Written) (o′ : List ℕ) (h : isGiven ws ms ≡ true)
+    module _ (t : Table) (same : t ≡ tableOf n ws ms) (w : Written) (o′ : List ℕ) (h : isGiven ws ms ≡ true)
         (written : w ≡ library.planWritten t o) (left : o′ ≡ library.writtenOut t o) where
-      as-given : w ≡ library.planWritten (given n ws ms) o
+      as-given : w ≡ library.planWritten (tableOf n ws ms) o
       as-given = written ∙ ap (λ (u : Table). library.planWritten u o) same
 
       out-given : o′ ≡ writeOut n ws ms o
@@ -57,17 +58,17 @@ module _ (n : ℕ) (ws ms : List ℕ) where
       pub write-link : (c : ℕ) → c ≡ codeOf (values (w .refusal .number) 1 0) → w .refusal .number ≡ 6 →
           (c ≡ codeOf (writeValues n ws ms o)) × (o′ ≡ writeOut n ws ms o)
       write-link c e z =
-          let k : library.planWritten (given n ws ms) o .refusal .number ≡ 6
+          let k : library.planWritten (tableOf n ws ms) o .refusal .number ≡ 6
           = sym (ap (λ (v : Written). v .refusal .number) as-given) ∙ z in
           (e ∙ ap (λ (j : ℕ). codeOf (values j 1 0)) z ∙ rw (h, k), out-given)
 
       pub write-rest : (c : ℕ) → c ≡ codeOf (writtenValues w) → (w .refusal .number ≡ 6 → ⊥) →
           (c ≡ codeOf (writeValues n ws ms o)) × (o′ ≡ writeOut n ws ms o)
       write-rest c e z =
-          let k : library.planWritten (given n ws ms) o .refusal .number ≡ 6 → ⊥
+          let k : library.planWritten (tableOf n ws ms) o .refusal .number ≡ 6 → ⊥
           = λ q. z (ap (λ (v : Written). v .refusal .number) as-given
           ∙ q) in
-          let f = ne-eqb (library.planWritten (given n ws ms) o .refusal .number) 6 k in
+          let f = ne-eqb (library.planWritten (tableOf n ws ms) o .refusal .number) 6 k in
           (e ∙ ap (λ (v : Written). codeOf (writtenValues v)) as-given ∙ rw (h, f), out-given)
 
   -- sweeping in place
@@ -77,7 +78,7 @@ module _ (n : ℕ) (ws ms : List ℕ) where
   pub sweep-not : (c : ℕ) → c ≡ codeOf lentValues → isGiven ws ms ≡ false → Left c ws ms
   sweep-not c e z = (e ∙ rw z, (rw z, rw z))
 
-  module _ (t : Table) (same : t ≡ given n ws ms) (r : TableResult) (h : isGiven ws ms ≡ true) (swept : r ≡ sweeping.planSwept t) where
+  module _ (t : Table) (same : t ≡ tableOf n ws ms) (r : TableResult) (h : isGiven ws ms ≡ true) (swept : r ≡ sweeping.planSwept t) where
     result : r ≡ sweptTable n ws ms
     result = swept ∙ ap sweeping.planSwept same
 

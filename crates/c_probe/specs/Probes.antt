@@ -9,23 +9,24 @@ use Rattle.plan_writer.specs.Writing as library
 use Rattle.plan_sweep.specs.Sweeping as sweeping
 use Rattle.script.specs.Reading.{scriptRead}
 use Rattle.plan_table.specs.declared.TableResult.{TableResult}
-use Rattle.c_probe.specs.Raw.{isGiven, given}
+use Rattle.plan_table.specs.Packed.{tableOf}
+use Rattle.c_probe.specs.Raw.{isGiven}
 
 -- A TABLE GIVEN as 512 packed rows and 8 marks, written: an ill-formed table is the plan's refusal
 abbrev pub writeValues : (count : ℕ) → (rows marks out : List ℕ) → Values
 writeValues n ws ms o =
     cond (isGiven ws ms)
-    (cond (eqb (library.planWritten (given n ws ms) o .refusal .number) 6) (values 6 1 0)
-    (writtenValues (library.planWritten (given n ws ms) o)))
+    (cond (eqb (library.planWritten (tableOf n ws ms) o .refusal .number) 6) (values 6 1 0)
+    (writtenValues (library.planWritten (tableOf n ws ms) o)))
     lentValues
 
 -- the area after it
 abbrev pub writeOut : (count : ℕ) → (rows marks out : List ℕ) → List ℕ
-writeOut n ws ms o = cond (isGiven ws ms) (library.writtenOut (given n ws ms) o) o
+writeOut n ws ms o = cond (isGiven ws ms) (library.writtenOut (tableOf n ws ms) o) o
 
 -- swept in place
 abbrev pub sweptTable : (count : ℕ) → (rows marks : List ℕ) → TableResult
-sweptTable n ws ms = sweeping.planSwept (given n ws ms)
+sweptTable n ws ms = sweeping.planSwept (tableOf n ws ms)
 
 -- the rows left, as the place
 abbrev pub sweptValues : (count : ℕ) → (rows marks : List ℕ) → Values

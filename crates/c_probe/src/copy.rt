@@ -2,7 +2,7 @@
 ghost use mathlib.Core.Path.{_≡_};
 ghost use lib.ListN.{length};
 ghost use Rattle.plan_table.specs.Fitting.{TableSizes};
-ghost use Rattle.c_probe.specs.Raw.{given};
+ghost use Rattle.plan_table.specs.Packed.{tableOf};
 use plan_table::Table;
 use run_areas::area;
 
@@ -21,7 +21,7 @@ fn copy_rows(to: &mut [u32], from: &[u32])
 // The table of 512 packed rows and 8 marks.
 pub fn table_of(count: usize, rows: &[u32], marks: &[u16]) -> Table
     requires { ⌜ TableSizes (now rows) (now marks) ⌝ }
-    ensures { λ r. ⌜ r ≡ given count (now (rows .entry)) (now (marks .entry)) ⌝ }
+    ensures { λ r. ⌜ r ≡ tableOf count (now (rows .entry)) (now (marks .entry)) ⌝ }
 {
     let mut packed = [0u32; Table::ROWS];
     copy_rows(&mut packed, rows);

@@ -17,7 +17,7 @@ use Rattle.model.proofs.BoolLaws.{by-cases, eq-cases, cond-cases}
 use Rattle.model.proofs.RefusedByTable.{refusedByTable}
 use Rattle.model.proofs.TestLaws.{isIn-at, isIn-by}
 use Rattle.plan_table.specs.Results.{refusalOf}
-use Rattle.plan_table.specs.Packed.{fits, decode}
+use Rattle.plan_table.specs.Packed.{fits, decode, tableOf}
 use Rattle.plan_table.specs.declared.Refusal.{Refusal}
 use Rattle.plan_table.specs.declared.Table.{Table}
 use Rattle.plan_table.specs.declared.TableResult.{TableResult}
@@ -33,7 +33,7 @@ use Rattle.c_codes.specs.Codes.{lentValues, valuesUnless, writtenValues, finish
 use Rattle.yegnabit.specs.Calls.{onPlan, planValues, sweepValues, undoValues, analyseValues}
 use Rattle.yegnabit.specs.Running.{Called, runCalled}
 use Rattle.script.specs.Reading.{scriptRead}
-use Rattle.c_probe.specs.Raw.{isGiven, given}
+use Rattle.c_probe.specs.Raw.{isGiven}
 use Rattle.c_probe.specs.Probes.{writeValues, sweptValues, scriptValues}
 use Rattle.c_lent.specs.Done.{outNeed, lentFit}
 use Rattle.c_promises.specs.Promise.{Decodes, AnswersDecode}
@@ -141,17 +141,17 @@ analysis-known b c = go (readScript b) (readScript c) refl refl
 write-known : (n : ℕ) (ws ms o : List ℕ) → Known (writeValues n ws ms o)
 write-known n ws ms o =
     cond-cases Known (isGiven ws ms)
-    (λ _. cond-cases Known (eqb (planWritten (given n ws ms) o .refusal .number) 6)
+    (λ _. cond-cases Known (eqb (planWritten (tableOf n ws ms) o .refusal .number) 6)
     (λ _. record { number = omega arith; which = omega arith })
-    (λ _. written-known (given n ws ms) o))
+    (λ _. written-known (tableOf n ws ms) o))
     (λ _. lent-known)
 
 swept-known : (n : ℕ) (ws ms : List ℕ) → Known (sweptValues n ws ms)
 swept-known n ws ms =
     cond-cases Known (isGiven ws ms)
-    (λ _. cond-cases Known (eqb (planSwept (given n ws ms) .refusal .number) 0)
+    (λ _. cond-cases Known (eqb (planSwept (tableOf n ws ms) .refusal .number) 0)
     (λ _. record { number = omega arith; which = omega arith })
-    (λ _. record { number = swept-low (given n ws ms); which = omega arith }))
+    (λ _. record { number = swept-low (tableOf n ws ms); which = omega arith }))
     (λ _. lent-known)
 
 -- a script is read

@@ -45,7 +45,12 @@ below-from (suc n) x t i e = below-step n x t i (λ p f. below-from n x t p f) e
 pub below-is : (x : Table) (t i : ℕ) → isBelow x t i ≡ true → Below x t i
 below-is x t i e = below-from (suc i) x t i e
 
--- fuel is enough where parents are lower
+-- where parents are lower, a row is higher than all that it is below
+pub below-above : (x : Table) → ((i p : ℕ) → rowAt x i .parent ≡ some p → p < i) → {t i : ℕ} → Below x t i → t < i
+below-above x l {t} {i} (under e) = l i t e
+below-above x l {t} {i} (further {p = p} e b) = omega (arith, l i p e, below-above x l b)
+
+-- and fuel is enough
 is-below-from : (x : Table) → ((i p : ℕ) → rowAt x i .parent ≡ some p → p < i) → (n t i : ℕ) → Below x t i → i < n →
     isBelowFrom n x t i ≡ true
 unfolding isBelowFrom

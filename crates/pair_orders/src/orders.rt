@@ -1,9 +1,12 @@
 // Two scripts run one after the other.
 ghost use mathlib.Core.Path.{_≡_};
+ghost use mathlib.Core.Bool.{true};
 ghost use lib.ListN.{length};
 ghost use Rattle.model.specs.Limits.{answerNeed, historyNeed, workNeed};
+ghost use Rattle.plan_table.specs.Packed.{fits};
 ghost use Rattle.pair_orders.specs.Orders.{ending, order, swap};
 use plan_table::Table;
+use run::lent;
 
 // How a run ended: the number of its refusal, or 0; the items of its answer; the table after it.
 struct Ending {
@@ -44,24 +47,49 @@ fn work_area() -> [u16; run::WORK]
     [0; run::WORK]
 }
 
-// Runs a script in areas of its own.
+// Runs a script on a table that fits, in areas of its own; so does the table after it.
 fn run_alone(table: Table, script: &[u8]) -> Ending
+    requires { ⌜ fits table ≡ true ⌝ }
     ensures { λ r. ⌜ r ≡ ending table (now (script .entry)) ⌝ }
+    ensures { λ r. ⌜ fits (r .table) ≡ true ⌝ }
 {
     let mut answer = answer_area();
     let mut history = history_area();
     let mut work = work_area();
-    let end = run::run(table, script, &mut answer, &mut history, &mut work);
-    let after = end.table;
+    let count = table.count;
+    let mut rows = table.rows;
+    let ended = lent::fitting(
+        &mut rows,
+        &table.marks,
+        count,
+        script,
+        &mut answer,
+        &mut history,
+        &mut work,
+    );
+    let number = ended.refusal.number;
+    if number != 0 {
+        return Ending {
+            number,
+            items: ended.items,
+            table,
+        };
+    }
+    let marks = table.marks;
     Ending {
-        number: end.refusal.number,
-        items: end.items,
-        table: after,
+        number,
+        items: ended.items,
+        table: Table {
+            count: ended.count,
+            rows,
+            marks,
+        },
     }
 }
 
-// Runs two scripts, the second on the table as the first left it; after a refusal no script runs.
+// Runs two scripts on a table that fits, the second on the table as the first left it; after a refusal no script runs.
 pub fn in_order(table: Table, leads: &[u8], follows: &[u8]) -> Order
+    requires { ⌜ fits table ≡ true ⌝ }
     ensures { λ r. ⌜ r ≡ order table (now (leads .entry)) (now (follows .entry)) ⌝ }
 {
     let one = run_alone(table, leads);

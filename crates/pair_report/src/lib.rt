@@ -1,7 +1,9 @@
 // The report of the program `pair`: two scripts analysed and run in both orders on a plan, as lines of text.
 ghost use mathlib.Core.Path.{_≡_};
+ghost use mathlib.Core.Bool.{true};
 ghost use Prim.Native.Nat.{_≤_};
 ghost use lib.ListN.{length};
+ghost use Rattle.plan_table.specs.Packed.{fits};
 ghost use Rattle.pair_report.specs.Pair.{room, threeLines, textBy, Report, Counted, pairWritten, pairOut};
 use pair_lines::line;
 use pair_orders::orders;
@@ -14,9 +16,9 @@ use plan_table::results;
 // The bytes that the lines take at most.
 pub const ROOM: usize = 160;
 
-// The answer and both orders, each from the table given.
+// The answer and both orders, each from the table given, which fits.
 fn three_lines(out: &mut [u8], answer: &[u8], table: Table, first: &[u8], second: &[u8]) -> usize
-    requires { ⌜ (room ≤ length (now out)) × (length (now answer) ≤ 7) ⌝ }
+    requires { ⌜ (room ≤ length (now out)) × (length (now answer) ≤ 7) × (fits table ≡ true) ⌝ }
     ensures { λ r. ⌜ Report (threeLines table (now (answer .entry)) (now (first .entry)) (now (second .entry)))
         (now (out .entry)) (now (out .exit)) r ⌝ }
 {
@@ -27,7 +29,7 @@ fn three_lines(out: &mut [u8], answer: &[u8], table: Table, first: &[u8], second
     line::put_order(out, m, b"two-one", orders::swapped(two_one))
 }
 
-// The lines once the plan is read: of a refused script the only one, else the answer and both orders.
+// The lines once a plan is read, whose table fits: of a refused script the only one, else the answer and both orders.
 fn answer_lines(
     out: &mut [u8],
     analysis: Analysis,
@@ -35,7 +37,7 @@ fn answer_lines(
     first: &[u8],
     second: &[u8],
 ) -> usize
-    requires { ⌜ room ≤ length (now out) ⌝ }
+    requires { ⌜ (room ≤ length (now out)) × (fits table ≡ true) ⌝ }
     ensures { λ r. ⌜ Report (textBy analysis table (now (first .entry)) (now (second .entry))) (now (out .entry)) (now (out .exit)) r ⌝ }
 {
     match analysis {

@@ -1,16 +1,21 @@
 -- Reading a plan: from what the records leave to what the call owes.
-use mathlib.Core.Path.{_≡_, ap, sym, _∙_}
+use mathlib.Core.Path.{_≡_, refl, ap, sym, _∙_}
+use mathlib.Core.Bool.{true}
 use mathlib.Core.List.{List}
 use Prim.Native.Nat.{ℕ}
+use Rattle.model.specs.Base.{areBytes}
 use Rattle.model.specs.Refusal.{refusal}
 use Rattle.model.specs.Table as model
-use Rattle.model.specs.Stored.{refused, got}
+use Rattle.model.specs.Stored.{Read, refused, got, readPlan}
 use Rattle.model.proofs.BoolLaws.{cond-eq, cond-ne}
-use Rattle.plan_table.specs.Packed.{decodeParts, encode}
+use Rattle.model.proofs.StoredBack.{storedBack}
+use Rattle.model.proofs.TableLaws.{isWell-by, well-empty}
+use Rattle.plan_table.specs.Packed.{decodeParts, encode, fits}
 use Rattle.plan_reader.specs.Reading.{ReadPost}
 use Rattle.plan.specs.Calls.{readBy, planRead}
 use Rattle.plan_table.specs.declared.Table.{Table}
 use Rattle.plan_table.specs.declared.End.{End}
+use Rattle.plan_table.proofs.EncodeLaws.{fits-encode}
 use Rattle.plan_table.proofs.PackedLaws.{encode-decode}
 use Rattle.plan_table.specs.Results.{withTable}
 
@@ -28,3 +33,11 @@ module _ (b ws ms : List ℕ) (r : End) (post : ReadPost b ws ms r) where
       (sym (encode-decode (r .count) ws ms (post .room z) (post .canonical z))) ∙
       ap readBy
       (sym (cond-eq (got (decodeParts (r .count) ws ms)) (refused (refusal (r .number) (r .place))) z) ∙ post .result)
+
+-- what is read fits, and so does the empty table of a refused plan
+pub read-fits : (p : List ℕ) → areBytes p ≡ true → fits (planRead p .table) ≡ true
+read-fits p b = go (readPlan p) refl
+  where
+    go : (q : Read) → readPlan p ≡ q → fits (readBy (readPlan p) .table) ≡ true
+    go (refused f) e = ap (λ (q : Read). fits (readBy q .table)) e ∙ fits-encode model.empty (isWell-by model.empty well-empty)
+    go (got x) e = ap (λ (q : Read). fits (readBy q .table)) e ∙ fits-encode x (storedBack .1 p x b e .0)

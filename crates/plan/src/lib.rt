@@ -37,5 +37,5 @@ pub fn write_plan(table: Table, out: &mut [u8]) -> Written
     if !fit::fits(count, &table.rows, &table.marks) {
         return results::written(Refusal::LINK, 0);
     }
-    write::fitting(table, out)
+    write::fitting(count, &table.rows, &table.marks, out)
 }

@@ -154,6 +154,8 @@ pub fn records(bytes: &[u8], rows: &mut [u32], marks: &mut [u16]) -> End
     let mut count = 0;
     let mut last = 0;
     while at < bytes.len() {
+        // Taken before the rows are written: after that the compiler would load it again.
+        let kind = bytes[at];
         let read = read_record(&bytes[at..], rows, marks, count, last);
         if read.number != 0 {
             return End {
@@ -164,7 +166,7 @@ pub fn records(bytes: &[u8], rows: &mut [u32], marks: &mut [u16]) -> End
         }
         count = read.count;
         last = read.last;
-        at += stored::size(bytes[at]);
+        at += stored::size(kind);
     }
     End {
         number: 0,

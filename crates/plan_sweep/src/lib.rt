@@ -7,7 +7,7 @@ use plan_table::TableResult;
 use plan_table::fit;
 use plan_table::results;
 
-mod sweep;
+pub mod sweep;
 
 // Drops each row that is neither marked nor below a marked row; refused, the table is as it was handed in.
 pub fn sweep_table(table: Table) -> TableResult
@@ -17,11 +17,9 @@ pub fn sweep_table(table: Table) -> TableResult
     if !fit::fits(count, &table.rows, &table.marks) {
         return results::refused(Refusal::LINK, 0, table);
     }
-    let mut numbers = [0u16; Table::LINKS];
     let mut rows = [0u32; Table::ROWS];
-    let kept = sweep::rows(&table.rows, &table.marks, count, &mut numbers, &mut rows);
     let mut marks = table.marks;
-    sweep::renumber(&mut marks, &numbers);
+    let kept = sweep::fitting(count, &table.rows, &mut marks, &mut rows);
     results::accepted(Table {
         count: kept,
         rows,

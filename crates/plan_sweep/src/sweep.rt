@@ -4,11 +4,15 @@ ghost use mathlib.Core.Path.{_≡_};
 ghost use mathlib.Core.Bool.{cond};
 ghost use Prim.Native.Nat.{_<_};
 ghost use lib.Dec.{eqb};
-ghost use lib.ListN.{length, set};
+ghost use lib.ListN.{length, set, replicate};
+ghost use Rattle.model.specs.Limits.{maxRows};
+ghost use Rattle.model.specs.Sweep.{swept};
 ghost use Rattle.plan_sweep.specs.Sweeping.{FlagPre, Flagged, keeps, RowPre, RowPost, RowsPre, Sweeping, LinksPre, newLinks};
-ghost use Rattle.plan_table.specs.Packed.{decodeParts};
+ghost use Rattle.plan_table.specs.Fitting.{FittingParts};
+ghost use Rattle.plan_table.specs.Packed.{decodeParts, encode, tableOf};
 use plan_table::Link;
 use plan_table::RowNumber;
+use plan_table::Table;
 use plan_table::number;
 use plan_table::packed;
 
@@ -25,7 +29,7 @@ fn flag_one(numbers: &mut [u16], link: Link)
 }
 
 // Flags the marked rows.
-pub fn flag(numbers: &mut [u16], marks: &[u16])
+fn flag(numbers: &mut [u16], marks: &[u16])
     requires { ⌜ FlagPre (now numbers) (now marks) ⌝ }
     ensures { λ r. ⌜ Flagged (now (marks .entry)) (now (numbers .exit)) ⌝ }
 {
@@ -63,7 +67,7 @@ fn row(w: u32, row: RowNumber, next: usize, numbers: &mut [u16], out: &mut [u32]
 }
 
 // Every row below the count; how many are kept.
-pub fn rows<'a>(
+fn rows<'a>(
     rows: &'a [u32],
     marks: &'a [u16],
     count: usize,
@@ -85,7 +89,7 @@ pub fn rows<'a>(
 }
 
 // The marks' links, renumbered.
-pub fn renumber(marks: &mut [u16], numbers: &[u16])
+fn renumber(marks: &mut [u16], numbers: &[u16])
     requires { ⌜ LinksPre (now numbers) (now marks) ⌝ }
     ensures { λ r. ⌜ now (marks .exit) ≡ newLinks (now (numbers .entry)) (now (marks .entry)) ⌝ }
 {
@@ -94,4 +98,17 @@ pub fn renumber(marks: &mut [u16], numbers: &[u16])
         marks[d] = numbers[number::index(marks[d])];
         d += 1;
     }
+}
+
+// The rows of a table that fits, swept into a cleared area, and its marks renumbered; how many rows are kept.
+pub fn fitting(count: usize, packed: &[u32], links: &mut [u16], out: &mut [u32]) -> usize
+    requires { ⌜ FittingParts count (now packed) (now links) ⌝ }
+    requires { ⌜ now out ≡ replicate maxRows 0 ⌝ }
+    ensures { λ r. ⌜ tableOf r (now (out .exit)) (now (links .exit)) ≡
+        encode (swept (decodeParts count (now (packed .entry)) (now (links .entry)))) ⌝ }
+{
+    let mut numbers = [0u16; Table::LINKS];
+    let kept = rows(packed, links, count, &mut numbers, out);
+    renumber(links, &numbers);
+    kept
 }

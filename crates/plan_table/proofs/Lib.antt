@@ -4,4 +4,6 @@ pub mod FitCheckLaws
 pub mod FittedLaws
 pub mod EncodeLaws
 pub mod FlagLaws
+pub mod LinkLaws
 pub mod SizeLaws
+pub mod ByteLaws

@@ -87,13 +87,16 @@ module _ (w l : ℕ) (small : l < linkRoom) where
   kind-withLink : kindIn (withLink w l) ≡ kindIn w
   kind-withLink = omega arith
 
+  pub linkIn-withLink : linkIn (withLink w l) ≡ l
+  linkIn-withLink =
+      let d : withLink w l / 4 ≡ l + linkRoom * tagIn w = omega arith in
+      let e : (l + linkRoom * tagIn w) % linkRoom ≡ l = omega arith in
+      ap (λ (j : ℕ). j % linkRoom) d ∙ e
+
   pub rowOf-withLink : rowOf (withLink w l) ≡ model.withParent (rowOf w) (ofLink l)
   rowOf-withLink =
       let b : tagIn (withLink w l) ≡ tagIn w = omega arith in
-      let d : withLink w l / 4 ≡ l + linkRoom * tagIn w = omega arith in
-      let e : (l + linkRoom * tagIn w) % linkRoom ≡ l = omega arith in
-      let c : linkIn (withLink w l) ≡ l = ap (λ (j : ℕ). j % linkRoom) d ∙ e in
-      λ i. record { isLeaf = eqb (kind-withLink i) 2; tag = b i; parent = ofLink (c i) }
+      λ i. record { isLeaf = eqb (kind-withLink i) 2; tag = b i; parent = ofLink (linkIn-withLink i) }
 
   module _ (packed : isPackedRow w ≡ true) where
     isPackedRow-withLink : isPackedRow (withLink w l) ≡ true

@@ -8,12 +8,17 @@ use lib.ListN.{length, getD}
 use Rattle.model.specs.Limits.{maxRows, documents}
 use Rattle.model.specs.Base.{any, maxByte}
 use Rattle.model.specs.Table.{isThe}
-use Rattle.plan_table.specs.Packed.{ofLink, kindIn, linkIn, tagIn, leafBits, elementBits}
+use Rattle.plan_table.specs.Packed.{ofLink, kindIn, linkIn, tagIn, leafBits, elementBits, partsFit}
 
 -- rows and marks as they stand in a table
 pub record TableSizes (ws ms : List ℕ) : Type 0 where
   pub rows : length ws ≡ maxRows
   pub marks : length ms ≡ documents
+
+-- the parts of a table that fits, as they are lent
+pub record FittingParts (n : ℕ) (ws ms : List ℕ) : Type 0 where
+  pub size : TableSizes ws ms
+  pub fits : partsFit n ws ms ≡ true
 
 -- a packed row, with its name or value in range
 abbrev pub tagFits : (packed : ℕ) → Bool

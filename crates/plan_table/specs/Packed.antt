@@ -1,11 +1,12 @@
 -- How a table of the model stands in the type Table: rows packed into numbers, marks as links.
 use mathlib.Core.Path.{_≡_}
 use mathlib.Core.Bool.{Bool, _&&_, cond}
+use mathlib.Core.Logic.{_⊎_}
 use mathlib.Core.List.{List, _++_, map}
 use mathlib.Core.Option.{Option, none, some}
-use Prim.Native.Nat.{ℕ, _+_, _*_, _-_, _/_, _%_}
+use Prim.Native.Nat.{ℕ, _+_, _*_, _-_, _/_, _%_, _<_}
 use lib.Dec.{leb, eqb}
-use lib.ListN.{take, drop, replicate}
+use lib.ListN.{getD, take, drop, replicate}
 use Rattle.model.specs.Base.{isIn, all, maxByte}
 use Rattle.model.specs.Limits.{maxRows}
 use Rattle.model.specs.Table as model
@@ -80,6 +81,10 @@ rowsOf n ws = map rowOf (take n ws)
 abbrev pub decodeParts : (count : ℕ) → (packed marks : List ℕ) → model.Table
 decodeParts n ws ms = model.table (rowsOf n ws) (map ofLink ms)
 
+-- the same, as a table handed in
+abbrev pub tableOf : (count : ℕ) → (packed marks : List ℕ) → Table
+tableOf n ws ms = record { count = n; rows = ws; marks = ms }
+
 -- the table that its packed rows stand for
 abbrev pub decode : Table → model.Table
 decode t = decodeParts (t .count) (t .rows) (t .marks)
@@ -87,6 +92,10 @@ decode t = decodeParts (t .count) (t .rows) (t .marks)
 -- CANONICAL: packed rows that encode the rows that they decode to
 abbrev pub Canonical : (count : ℕ) → (packed : List ℕ) → Type 0
 Canonical n ws = packRows (rowsOf n ws) ≡ ws
+
+-- LINKS ONLY CUT: each of the first rows has the link that it had, or none
+pub record LinksCut (n : ℕ) (ws ws′ : List ℕ) : Type 0 where
+  pub each : (i : ℕ) → i < n → (linkIn (getD ws′ i 0) ≡ linkIn (getD ws i 0)) ⊎ (linkIn (getD ws′ i 0) ≡ 0)
 
 -- WELL FORMED as it is handed in: packed rows up to the count, zeros past it, and the table is well formed
 abbrev pub isZero : ℕ → Bool

@@ -4,14 +4,13 @@ ghost use mathlib.Core.List.{_∷_, map};
 ghost use Prim.Native.Nat.{ℕ, _+_, _*_, _≤_, _<_};
 ghost use lib.ListN.{length};
 ghost use Rattle.model.specs.Stored.{recordSize, parentBytes, rowBytes, rowsBytes, markBytes, marksBytes};
-ghost use mathlib.Core.Bool.{true};
 ghost use Rattle.model.specs.Limits.{maxRows, documents};
-ghost use Rattle.plan_table.specs.Packed.{ofLink, byteTags, rowOf, rowsOf, fits};
+ghost use Rattle.plan_table.specs.Packed.{ofLink, byteTags, rowOf, rowsOf, tableOf};
+ghost use Rattle.plan_table.specs.Fitting.{FittingParts};
 ghost use Rattle.plan_writer.specs.Writing.{planWritten, writtenOut, RowsPre, MarksPre};
 ghost use Rattle.model.specs.Base.{over};
 use plan_table::Link;
 use plan_table::Refusal;
-use plan_table::Table;
 use plan_table::Written;
 use plan_table::number;
 use plan_table::packed;
@@ -110,18 +109,17 @@ pub fn stored_length(count: usize, marks: &[u16]) -> usize
     n
 }
 
-// A table that fits, at the start of the area; 11 where that is too short.
-pub fn fitting(table: Table, out: &mut [u8]) -> Written
-    requires { ⌜ fits table ≡ true ⌝ }
-    ensures { λ r. ⌜ r ≡ planWritten table (now (out .entry)) ⌝ }
-    ensures { λ r. ⌜ now (out .exit) ≡ writtenOut table (now (out .entry)) ⌝ }
+// The rows and marks of a table that fits, at the start of the area; 11 where that is too short.
+pub fn fitting<'a>(count: usize, packed: &'a [u32], links: &'a [u16], out: &mut [u8]) -> Written
+    requires { ⌜ FittingParts count (now packed) (now links) ⌝ }
+    ensures { λ r. ⌜ r ≡ planWritten (tableOf count (now (packed .entry)) (now (links .entry))) (now (out .entry)) ⌝ }
+    ensures { λ r. ⌜ now (out .exit) ≡ writtenOut (tableOf count (now (packed .entry)) (now (links .entry))) (now (out .entry)) ⌝ }
 {
-    let count = table.count;
-    let length = stored_length(count, &table.marks);
+    let length = stored_length(count, links);
     if out.len() < length {
         return results::written(Refusal::LENT, 0);
     }
-    rows(out, &table.rows, count);
-    marks(out, &table.marks, stored::SIZE * count);
+    rows(out, packed, count);
+    marks(out, links, stored::SIZE * count);
     results::written(0, length)
 }

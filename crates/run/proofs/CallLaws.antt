@@ -1,6 +1,6 @@
 -- The public run: from the check's answer, the reader's and the evaluator's to what the call owes.
 use mathlib.Core.Path.{_≡_, refl, ap, sym, subst, _∙_}
-use mathlib.Core.Bool.{Bool, true, false}
+use mathlib.Core.Bool.{true, false}
 use mathlib.Core.List.{List, [], _++_}
 use mathlib.Core.Option.{some}
 use Prim.Native.Nat.{ℕ, zero, suc, _+_, _-_, _≤_}
@@ -15,29 +15,36 @@ use Rattle.model.specs.Script.{readScript}
 use Rattle.model.specs.History.{Record, isMade, isCut, times, historyBytes}
 use Rattle.model.specs.Run.{Out, refused, gives, run}
 use Rattle.model.specs.Call.{Ran, filled, areasFit, ranBy, refusedRun, runBy}
-use Rattle.model.proofs.BoolLaws.{cond-true, cond-false, and-both, cond-ne}
+use Rattle.model.proofs.BoolLaws.{cond-true, cond-false, and-both, cond-eq, cond-ne}
 use Rattle.model.proofs.TestLaws.{and-three}
 use Rattle.model.proofs.HistoryLaws.{made-or-cut}
 use Rattle.model.specs.Limits.{maxDepth, maxRows, answerNeed, maxBinders, maxItems, documents, historyNeed, workNeed}
 use Rattle.script_records.specs.Walk.{endAt, exprAt}
 use Rattle.script.specs.Reading.{scriptRead}
 use Rattle.script.proofs.ScriptLaws.{script-accepted, script-parsed, read-refused}
-use Rattle.plan_table.specs.Packed.{encode, decode, decodeParts, fits}
+use Rattle.plan_table.specs.Packed.{encode, decode, decodeParts, tableOf, fits}
 use Rattle.plan_table.specs.declared.Table.{Table}
 use Rattle.plan_table.specs.declared.Refusal.{Refusal}
 use Rattle.plan_table.proofs.PackedLaws.{encode-decode}
 use Rattle.plan_table.proofs.FittedLaws.{Fits, fits-at, fits-mark}
 use Rattle.run_updates.specs.State.{recordsIn, started, stateOf, Held}
+use Rattle.run_query.specs.Stepping.{RowsHeld}
 use Rattle.run_query.specs.Values.{valueAt}
 use Rattle.run_updates.proofs.StateLaws.{held-start, held-within, state-start}
 use Rattle.run_updates.specs.declared.state.Progress.{Progress}
-use Rattle.run.specs.Calls.{outcomeOf, ran, resultOf, runResult, refusedResult, RunPre, RunPost}
+use Rattle.run.specs.Calls.{outcomeOf, ran, resultOf, runResult, refusedResult, resultWith, resultIn, refusedEnd, RunPre}
+use Rattle.run.specs.Calls.{RunPost}
 use Rattle.run_operators.specs.Machine.{Machine, Frame, frame, machine, begun, stateIn, boundIn, valueIn}
 use Rattle.run_operators.specs.Evaluating.{Fine, EvalPre, EvalPost}
 use Rattle.run_operators.specs.declared.value.Span.{Span}
 use Rattle.run.specs.declared.RunResult.{RunResult}
+use Rattle.run.specs.declared.lent.Ended.{Ended}
 use Rattle.run_operators.proofs.ValueLaws.{length-value}
 use Rattle.run_operators.proofs.YieldLaws.{yields-gives, yields-refused}
+
+-- what is held of the rows, for the index
+pub index-asks : {ws h : List ℕ} {p : Progress} → Held ws h p → RowsHeld ws (p .count)
+index-asks held = record { rows = held .rows; few = held .few; lower = λ i p e. held .tree .parents i p e .0 }
 
 -- a cleared area behind what is written
 drop-zeros : (k n z : ℕ) → drop k (replicate n z) ≡ replicate (n - k) z
@@ -48,33 +55,33 @@ drop-zeros (suc k) (suc n) z =
     drop-zeros k n z ∙ ap (λ (j : ℕ). replicate j z) (sym e)
 
 -- REFUSED
+abbrev with-table : Refusal → Table → RunResult
+with-table f t = record { refusal = f; table = t; items = 0; bytes = 0; tally = record { made = 0; cut = 0; records = 0 } }
+
 module _ (t : Table) (b : List ℕ) (a h w : ℕ) (n i : ℕ) (some : n ≡ 0 → ⊥) (is : outcomeOf t b ≡ refused (refusal.refusal n i)) where
   leaves : ranBy (decode t) a h w (outcomeOf t b) ≡ refusedRun (refusal.refusal n i) (decode t) (replicate a 0) (replicate h 0) (replicate
       w 0)
   leaves = ap (ranBy (decode t) a h w) is
 
-  refused-result : refusedResult n i t ≡ resultOf t (ranBy (decode t) a h w (outcomeOf t b))
+  pub refused-result : refusedResult n i t ≡ resultOf t (ranBy (decode t) a h w (outcomeOf t b))
   refused-result =
-      ap (λ (u : Table). record {
-        refusal = record { number = n; place = i };
-        table = u;
-        items = 0;
-        bytes = 0;
-        tally = record { made = 0; cut = 0; records = 0 };
-      }) (sym (cond-ne (encode (decode t)) t some)) ∙ ap (resultOf t) (sym leaves)
+      ap (with-table (record { number = n; place = i })) (sym (cond-ne (encode (decode t)) t some)) ∙ ap (resultOf t) (sym leaves)
 
-  refused-answer : replicate a 0 ≡ ranBy (decode t) a h w (outcomeOf t b) .answer
+  refused-end : (ws : List ℕ) → resultIn t (refusedEnd n i) ws ≡ refusedResult n i t
+  refused-end ws = ap (with-table (record { number = n; place = i })) (cond-ne (tableOf 0 ws (t .marks)) t some)
+
+  pub refused-answer : replicate a 0 ≡ ranBy (decode t) a h w (outcomeOf t b) .answer
   refused-answer = ap (λ (r : Ran). r .answer) (sym leaves)
 
-  refused-history : replicate h 0 ≡ ranBy (decode t) a h w (outcomeOf t b) .history
+  pub refused-history : replicate h 0 ≡ ranBy (decode t) a h w (outcomeOf t b) .history
   refused-history = ap (λ (r : Ran). r .history) (sym leaves)
 
   -- in areas cleared before
-  pub refused-post : {zs hs ws zs′ hs′ : List ℕ} {r : RunResult} → length zs ≡ a → length hs ≡ h → length ws ≡ w → zs′ ≡ replicate a 0 →
-      hs′ ≡ replicate h 0 → r ≡ refusedResult n i t → RunPost t b zs hs ws zs′ hs′ r
-  refused-post {zs} {hs} {ws} la lh lw ea eh er =
+  pub refused-post : {zs hs ws rs zs′ hs′ : List ℕ} {r : Ended} → length zs ≡ a → length hs ≡ h → length ws ≡ w → zs′ ≡ replicate a 0 →
+      hs′ ≡ replicate h 0 → r ≡ refusedEnd n i → RunPost t b zs hs ws rs zs′ hs′ r
+  refused-post {zs} {hs} {ws} {rs} la lh lw ea eh er =
       record {
-        result = er ∙ refused-result ∙ ap (resultOf t) same;
+        result = ap (λ (e : Ended). resultIn t e rs) er ∙ refused-end rs ∙ refused-result ∙ ap (resultOf t) same;
         answer = ea ∙ refused-answer ∙ ap (λ (r : Ran). r .answer) same;
         history = eh ∙ refused-history ∙ ap (λ (r : Ran). r .history) same;
       }
@@ -128,6 +135,7 @@ module _ (t : Table) (b : List ℕ) (e : fits t ≡ true) where
             marks = record { size = marks; rows = fits-mark (t .count) (t .rows) (t .marks) fit (omega (arith, fit .few)) };
             scope = record { few = omega arith; size = size; spans = λ v l. absurd (omega arith); values = nothing };
             room = omega arith;
+            small = omega arith;
           })
 
       module _ {p : Progress} (is : p ≡ started (t .count)) {s : Machine} (ran : EvalPost b maxDepth whole (starting h w p env) s) where
@@ -188,18 +196,18 @@ module _ (t : Table) (b : List ℕ) (e : fits t ≡ true) where
           table-is = encode-decode (q .count) (s .rows) (t .marks) (held-within held) (held .canonical)
 
           -- what the call gives back
-          pub run-post : {a a′ : List ℕ} {r : RunResult} → RunPre a h w →
+          pub run-post : {a a′ : List ℕ} {r : Ended} → RunPre a h w →
               a′ ≡ atFront (valueAt (s .work) 0 (s .end)) a →
               r ≡ record {
                 refusal = record { number = 0; place = 0 };
-                table = record { count = s .progress .count; rows = s .rows; marks = t .marks };
+                count = s .progress .count;
                 items = s .end;
                 bytes = s .progress .bytes;
                 tally = s .progress .tally;
-              } → RunPost t b a h w a′ (s .history) r
+              } → RunPost t b a h w (s .rows) a′ (s .history) r
           run-post {a} {a′} {r} pre ea er =
               record {
-                result = er ∙
+                result = ap (λ (e : Ended). resultIn t e (s .rows)) er ∙
                     (λ i. record {
                       refusal = record { number = 0; place = 0 };
                       table = sym table-is i;
@@ -244,53 +252,86 @@ areas-long a h w e =
     let k = and-three (leb answerNeed (length a)) (leb historyNeed (length h)) (leb workNeed (length w)) e in
     (leb-true answerNeed (length a) (k .0), leb-true historyNeed (length h) (k .1), leb-true workNeed (length w) (k .2))
 
-module _ (t : Table) (b a h w : List ℕ) {z : Bool} (is : z ≡ areasFit a h w) where
-  pub short-result : z ≡ false → {r : RunResult} → r ≡ refusedResult 11 0 t →
-      (r ≡ runResult t b a h w) × (a ≡ ran t b a h w .answer) × (h ≡ ran t b a h w .history) × (w ≡ ran t b a h w .work)
+-- what the call gives back, and leaves in the areas
+abbrev Leaves : Table → (b a h w : List ℕ) → RunResult → (a′ h′ w′ : List ℕ) → Type 0
+Leaves t b a h w r a′ h′ w′ =
+    (r ≡ runResult t b a h w) × ((a′ ≡ ran t b a h w .answer) × ((h′ ≡ ran t b a h w .history) × (w′ ≡ ran t b a h w .work)))
+
+module _ (t : Table) (b a h w : List ℕ) where
+  pub short-result : areasFit a h w ≡ false → {r : RunResult} → r ≡ refusedResult 11 0 t → Leaves t b a h w r a h w
   short-result e er = (
     er ∙ ap (resultOf t) (sym leaves),
-    ap (λ (r : Ran). r .answer) (sym leaves),
-    ap (λ (r : Ran). r .history) (sym leaves),
-    ap (λ (r : Ran). r .work) (sym leaves),
+    (ap (λ (r : Ran). r .answer) (sym leaves), (ap (λ (r : Ran). r .history) (sym leaves), ap (λ (r : Ran). r .work) (sym leaves))),
   )
     where
       leaves : ran t b a h w ≡ refusedRun refusal.lentShort (decode t) a h w
-      leaves = cond-false (areasFit a h w) _ _ (sym is ∙ e)
+      leaves = cond-false (areasFit a h w) _ _ e
 
-  -- areas that fit, cleared first
-  module _ (fit : z ≡ true) {a′ h′ : List ℕ} (ea : a′ ≡ replicate (length a) 0) (eh : h′ ≡ replicate (length h) 0) where
-    sa : length a′ ≡ length a
-    sa = ap length ea ∙ length-replicate (length a) 0
+  -- areas that fit
+  module _ (fit : areasFit a h w ≡ true) where
+    same : ranBy (decode t) (length a) (length h) (length w) (outcomeOf t b) ≡ ran t b a h w
+    same = sym (cond-true (areasFit a h w) (ranBy (decode t) (length a) (length h) (length w) (outcomeOf t b)) _ fit)
 
-    sh : length h′ ≡ length h
-    sh = ap length eh ∙ length-replicate (length h) 0
+    works : (o : Out) → replicate (length w) 0 ≡ ranBy (decode t) (length a) (length h) (length w) o .work
+    works (refused f) = refl
+    works (gives v s) = refl
 
-    pub cleared-pre : RunPre a′ h′ w
-    cleared-pre =
-        let k = areas-long a h w (sym is ∙ fit) in
-        record {
-          answer = omega (arith, sa, k .0);
-          history = omega (arith, sh, k .1);
-          work = k .2;
-          answered = ea ∙ ap (λ (j : ℕ). replicate j 0) (sym sa);
-          recorded = eh ∙ ap (λ (j : ℕ). replicate j 0) (sym sh);
-        }
-
-    pub run-done : {a″ h″ w″ : List ℕ} {r : RunResult} → RunPost t b a′ h′ w a″ h″ r → w″ ≡ replicate (length w) 0 →
-        (r ≡ runResult t b a h w) × (a″ ≡ ran t b a h w .answer) × (h″ ≡ ran t b a h w .history) × (w″ ≡ ran t b a h w .work)
-    run-done {a″} {h″} {w″} {r} post ew = (
-      post .result ∙ ap (resultOf t) same,
-      post .answer ∙ ap (λ (r : Ran). r .answer) same,
-      post .history ∙ ap (λ (r : Ran). r .history) same,
-      ew ∙ works (outcomeOf t b) ∙ ap (λ (r : Ran). r .work) same,
+    all-done : {r : RunResult} {a″ h″ w″ : List ℕ} →
+        r ≡ resultOf t (ranBy (decode t) (length a) (length h) (length w) (outcomeOf t b)) →
+        a″ ≡ ranBy (decode t) (length a) (length h) (length w) (outcomeOf t b) .answer →
+        h″ ≡ ranBy (decode t) (length a) (length h) (length w) (outcomeOf t b) .history → w″ ≡ replicate (length w) 0 →
+        Leaves t b a h w r a″ h″ w″
+    all-done er ea eh ew = (
+      er ∙ ap (resultOf t) same,
+      (
+        ea ∙ ap (λ (r : Ran). r .answer) same,
+        (eh ∙ ap (λ (r : Ran). r .history) same, ew ∙ works (outcomeOf t b) ∙ ap (λ (r : Ran). r .work) same),
+      ),
     )
-      where
-        same : ranBy (decode t) (length a′) (length h′) (length w) (outcomeOf t b) ≡ ran t b a h w
-        same =
-            ap (λ (j : ℕ). ranBy (decode t) j (length h′) (length w) (outcomeOf t b)) sa ∙
-            ap (λ (j : ℕ). ranBy (decode t) (length a) j (length w) (outcomeOf t b)) sh ∙
-            sym (cond-true (areasFit a h w) (ranBy (decode t) (length a) (length h) (length w) (outcomeOf t b)) _ (sym is ∙ fit))
 
-        works : (o : Out) → replicate (length w) 0 ≡ ranBy (decode t) (length a′) (length h′) (length w) o .work
-        works (refused f) = refl
-        works (gives v s) = refl
+    -- an ill-formed table: 6
+    pub ill-done : fits t ≡ false → {r : RunResult} {a″ h″ w″ : List ℕ} → r ≡ refusedResult 6 0 t → a″ ≡ replicate (length a) 0 →
+        h″ ≡ replicate (length h) 0 → w″ ≡ replicate (length w) 0 → Leaves t b a h w r a″ h″ w″
+    ill-done e er ea eh ew =
+        all-done (er ∙ refused-result t b (length a) (length h) (length w) 6 0 (λ z. omega arith) (ill-formed t b e))
+        (ea ∙ refused-answer t b (length a) (length h) (length w) 6 0 (λ z. omega arith) (ill-formed t b e))
+        (eh ∙ refused-history t b (length a) (length h) (length w) 6 0 (λ z. omega arith) (ill-formed t b e)) ew
+
+    -- cleared first
+    module _ {a′ h′ : List ℕ} (ea : a′ ≡ replicate (length a) 0) (eh : h′ ≡ replicate (length h) 0) where
+      sa : length a′ ≡ length a
+      sa = ap length ea ∙ length-replicate (length a) 0
+
+      sh : length h′ ≡ length h
+      sh = ap length eh ∙ length-replicate (length h) 0
+
+      pub cleared-pre : RunPre a′ h′ w
+      cleared-pre =
+          let k = areas-long a h w fit in
+          record {
+            answer = omega (arith, sa, k .0);
+            history = omega (arith, sh, k .1);
+            work = k .2;
+            answered = ea ∙ ap (λ (j : ℕ). replicate j 0) (sym sa);
+            recorded = eh ∙ ap (λ (j : ℕ). replicate j 0) (sym sh);
+          }
+
+      pub run-done : {ws a″ h″ w″ : List ℕ} {r : Ended} → RunPost t b a′ h′ w ws a″ h″ r → w″ ≡ replicate (length w) 0 →
+          Leaves t b a h w (resultIn t r ws) a″ h″ w″
+      run-done post ew =
+          all-done (post .result ∙ ap (resultOf t) lengths) (post .answer ∙ ap (λ (r : Ran). r .answer) lengths)
+          (post .history ∙ ap (λ (r : Ran). r .history) lengths) ew
+        where
+          lengths : ranBy (decode t) (length a′) (length h′) (length w) (outcomeOf t b) ≡
+              ranBy (decode t) (length a) (length h) (length w) (outcomeOf t b)
+          lengths =
+              ap (λ (j : ℕ). ranBy (decode t) j (length h′) (length w) (outcomeOf t b)) sa ∙
+              ap (λ (j : ℕ). ranBy (decode t) (length a) j (length w) (outcomeOf t b)) sh
+
+-- the table given back: refused, the one handed in; else the one that the rows hold
+module _ (t : Table) (e : Ended) (ws : List ℕ) where
+  pub back-refused : (e .refusal .number ≡ 0 → ⊥) → resultWith e t ≡ resultIn t e ws
+  back-refused z = ap (resultWith e) (sym (cond-ne (tableOf (e .count) ws (t .marks)) t z))
+
+  pub back-fine : e .refusal .number ≡ 0 → resultWith e (tableOf (e .count) ws (t .marks)) ≡ resultIn t e ws
+  back-fine z = ap (resultWith e) (sym (cond-eq (tableOf (e .count) ws (t .marks)) t z))

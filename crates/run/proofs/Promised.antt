@@ -15,13 +15,15 @@ use Rattle.model.specs.Call.{Ran, areasFit, ranBy, refusedRun, runBy, OrdersAgr
 use Rattle.model.proofs.BoolLaws.{by-cases, cond-true, cond-false}
 use Rattle.model.proofs.CallsCommute.{callsCommute}
 use Rattle.plan_table.specs.Results.{refusalOf}
-use Rattle.plan_table.specs.Packed.{encode, decode, fits}
+use Rattle.plan_table.specs.Packed.{encode, decode, tableOf, fits}
 use Rattle.plan_table.specs.declared.Table.{Table}
 use Rattle.plan_table.proofs.FittedLaws.{well-decode}
 use Rattle.plan_table.proofs.EncodeLaws.{decode-encode, fits-encode}
-use Rattle.run.specs.Calls.{outcomeOf, ran, resultOf, runResult}
+use Rattle.run.specs.Calls.{outcomeOf, ran, resultOf, runResult, resultIn}
 use Rattle.run.specs.Promise.{RunsAsCalled, RunsUnfit, RunsOn, RefusedGivesBack, RefusedLeaves, RunsCommute, ranIn, tableAfter}
 use Rattle.run.specs.declared.RunResult.{RunResult}
+use Rattle.run.specs.declared.lent.Ended.{Ended}
+use Rattle.run.proofs.CallLaws.{back-fine}
 use Rattle.run.proofs.OutcomeLaws.{Refuses, outcome-refuses}
 use Rattle.model.proofs.RunsBack.{runBy-back}
 
@@ -75,6 +77,12 @@ pub runsOn : RunsOn
 runsOn t b a h w bytes e =
     let s = ran-stands t e b a h w bytes in
     (s .0, s .1 ∙ ap (λ (r : Ran). r .plan) (runsAsCalled t b a h w e))
+
+-- so does the one that a run leaves in lent rows
+pub lent-fits : (t : Table) (b a h w ws : List ℕ) (e : Ended) → areBytes b ≡ true → fits t ≡ true →
+    resultIn t e ws ≡ runResult t b a h w → e .refusal .number ≡ 0 → fits (tableOf (e .count) ws (t .marks)) ≡ true
+lent-fits t b a h w ws e bytes f is z =
+    ap (λ (r : RunResult). fits (r .table)) (back-fine t e ws z ∙ is) ∙ runsOn t b a h w bytes f .0
 
 -- REFUSED
 pub refusedGivesBack : RefusedGivesBack

@@ -1,17 +1,16 @@
 // Runs a script on a plan.
 ghost use mathlib.Core.Path.{_≡_};
-ghost use Rattle.run.specs.Calls.{ran, runResult, refusedResult, RunPre, RunPost};
+ghost use Rattle.run.specs.Calls.{ran, runResult, refusedResult, resultWith};
+use crate::lent::Ended;
 use plan_table::Refusal;
 use plan_table::Table;
 use plan_table::fit;
 use run_areas::area;
-use run_eval::evaluate;
-use run_operators::value::Span;
-use run_updates::state::Progress;
 use run_updates::tally;
 use run_updates::tally::Tally;
 
 pub mod lengths;
+pub mod lent;
 
 // What a run needs of each lent area.
 pub const ANSWER: usize = Table::ITEMS;
@@ -43,62 +42,17 @@ fn refused(number: u8, place: usize, table: Table) -> RunResult
     }
 }
 
-// The run in areas that fit, answer and history cleared.
-fn run_in(
-    table: Table,
-    script: &[u8],
-    answer: &mut [u16],
-    history: &mut [u8],
-    work: &mut [u16],
-) -> RunResult
-    requires { ⌜ RunPre (now answer) (now history) (now work) ⌝ }
-    ensures { λ r. ⌜ RunPost table (now (script .entry)) (now (answer .entry)) (now (history .entry)) (now (work .entry))
-        (now (answer .exit)) (now (history .exit)) r ⌝ }
+// How a run ended, with the table that it gives back.
+fn given_back(ended: Ended, table: Table) -> RunResult
+    ensures { λ r. ⌜ r ≡ resultWith ended table ⌝ }
 {
-    let count = table.count;
-    if !fit::fits(count, &table.rows, &table.marks) {
-        return refused(Refusal::LINK, 0, table);
-    }
-    let read = script::read_script(script);
-    if read.number != 0 {
-        return refused(read.number, read.place, table);
-    }
-    let mut rows = table.rows;
-    let unbound = [Span { start: 0, len: 0 }; Table::BINDERS];
-    let x = evaluate::eval(
-        script,
-        0,
-        Table::DEPTH,
-        0,
-        unbound,
-        &table.marks,
-        &mut rows,
-        history,
-        work,
-        0,
-        Progress::start(count),
-    );
-    if x.progress.number != 0 {
-        area::clear_bytes(history);
-        return refused(x.progress.number, x.place, table);
-    }
-    let items = x.end;
-    area::put(answer, &work[0..items]);
-    let marks = table.marks;
-    let p = x.progress;
-    let tally = p.tally;
+    let refusal = ended.refusal;
+    let tally = ended.tally;
     RunResult {
-        refusal: Refusal {
-            number: 0,
-            place: 0,
-        },
-        table: Table {
-            count: p.count,
-            rows,
-            marks,
-        },
-        items,
-        bytes: p.bytes,
+        refusal,
+        table,
+        items: ended.items,
+        bytes: ended.bytes,
         tally,
     }
 }
@@ -123,9 +77,33 @@ pub fn run(
     if !lengths::fit(answer.len(), history.len(), work.len()) {
         return refused(Refusal::LENT, 0, table);
     }
-    area::clear_numbers(answer);
-    area::clear_bytes(history);
-    let result = run_in(table, script, answer, history, work);
-    area::clear_numbers(work);
-    result
+    let count = table.count;
+    if !fit::fits(count, &table.rows, &table.marks) {
+        area::clear_numbers(answer);
+        area::clear_bytes(history);
+        area::clear_numbers(work);
+        return refused(Refusal::LINK, 0, table);
+    }
+    let mut rows = table.rows;
+    let ended = lent::fitting(
+        &mut rows,
+        &table.marks,
+        count,
+        script,
+        answer,
+        history,
+        work,
+    );
+    if ended.refusal.number != 0 {
+        return given_back(ended, table);
+    }
+    let marks = table.marks;
+    given_back(
+        ended,
+        Table {
+            count: ended.count,
+            rows,
+            marks,
+        },
+    )
 }

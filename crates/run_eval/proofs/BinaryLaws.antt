@@ -16,7 +16,13 @@ use Rattle.run_eval.proofs.ScopeLaws.{bound-inside, bound-back, scope-i
 
 module _ {b : List ℕ} {kind left : ℕ} {f : Frame} {s : Machine} (pre : RestPre b kind left f s) where
   pub bind-asks : BindPre kind (s .env) (f .bound) (f .top) (s .end)
-  bind-asks = record { size = pre .value .spans; scope = pre .binder; order = pre .value .order }
+  bind-asks =
+      record {
+        size = pre .value .spans;
+        scope = pre .binder;
+        order = pre .value .order;
+        small = omega (arith, pre .small, pre .value .short);
+      }
 
   -- THE SECOND OPERAND
   module _ {inside : List Span} (bound : BindPost kind (s .env) (f .bound) (f .top) (s .end) inside) {m : ℕ}
@@ -31,6 +37,7 @@ module _ {b : List ℕ} {kind left : ℕ} {f : Frame} {s : Machine} (pre : RestP
           marks = pre .marks;
           scope = scope-inside (pre .scope) bound (s .end) (pre .binder) (v .order) (v .short) (omega arith) (v .order) (v .rows);
           room = omega (arith, pre .room, v .short);
+          small = omega (arith, pre .small, v .short);
         })
 
     module _ {s₁ : Machine} (ran : EvalPost b left (frame m (f .marks) (s .end)) (withEnv inside s) s₁) where

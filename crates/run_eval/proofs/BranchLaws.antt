@@ -22,7 +22,14 @@ use Rattle.run_eval.specs.Rests.{ifRest, RestPre, RestPost}
 module _ {b : List ℕ} {left : ℕ} {f : Frame} {s : Machine} (pre : RestPre b ifKind left f s) where
   asks : {i : ℕ} → Accepted b i left (f .bound) → EvalPre b left f (placedAt i (f .top) s)
   asks a =
-      record { accepted = a; held = pre .value .held; marks = pre .marks; scope = pre .scope; room = omega (arith, pre .room) }
+      record {
+        accepted = a;
+        held = pre .value .held;
+        marks = pre .marks;
+        scope = pre .scope;
+        room = omega (arith, pre .room);
+        small = omega (arith, pre .small);
+      }
 
   -- THE THIRD OPERAND, where the first is empty
   module _ {third : ℕ} (there : third ≡ endAt b (s .place)) where

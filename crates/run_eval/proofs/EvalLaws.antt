@@ -46,6 +46,7 @@ module _ {b : List ℕ} {left : ℕ} {f : Frame} {s : Machine} (pre : EvalPre b 
             marks = pre .marks;
             scope = pre .scope;
             room = omega (arith, pre .room, deep);
+            small = omega (arith, pre .small, deep);
           }
 
       pub first-fewer : recordsAt (left - 1) b start < recordsAt left b (s .place)
@@ -79,6 +80,7 @@ module _ {b : List ℕ} {left : ℕ} {f : Frame} {s : Machine} (pre : EvalPre b 
               marks = marks-more (pre .marks) (ok .after .rows);
               scope = scope-kept (pre .scope) (s₁ .work) (s₁ .env) (ok .below) (ok .scope) (ok .spans) (omega arith) (ok .after .rows);
               room = omega (arith, pre .room, deep, ok .size);
+              small = omega (arith, pre .small, deep);
             }
 
         -- what yields the rest yields the record

@@ -2,7 +2,7 @@
 use mathlib.Core.Path.{_≡_, refl, ap, sym, subst, _∙_}
 use mathlib.Core.Bool.{Bool, true, false, cond}
 use mathlib.Core.List.{List, [], _∷_, _++_}
-use Prim.Native.Nat.{ℕ, _+_, _-_, _/_, _≤_, _<_}
+use Prim.Native.Nat.{ℕ, _+_, _-_, _≤_, _<_}
 use native.Mathlib.Omega.{arith}
 use lib.Dec.{ltb}
 use lib.ListN.{length, getD, take}
@@ -95,6 +95,7 @@ module _ {b : List ℕ} {left : ℕ} {f : Frame} {s : Machine} (pre : RestPre b 
         short = omega arith;
         sofar = subst (AreRows (s .progress .count)) (sym (value-none (s .work) (s .end))) nothing;
         room = omega (arith, pre .room, v .short);
+        small = omega (arith, pre .small, v .short);
       }
 
   module _ (at : ℕ) {s₁ : Machine}
@@ -127,7 +128,13 @@ module _ {b : List ℕ} {left : ℕ} {l : Loop} {f : Frame} {s : Machine} (pre :
   body = bodyRun b (s .place) left (boundIn f s)
 
   pub item-asks : BindPre forKind (s .env) (f .bound) (l .from) (l .to)
-  item-asks = record { size = pre .scope .size; scope = λ t. pre .binder; order = omega (arith, pre .some) }
+  item-asks =
+      record {
+        size = pre .scope .size;
+        scope = λ t. pre .binder;
+        order = omega (arith, pre .some);
+        small = omega (arith, pre .small, pre .items);
+      }
 
   inner-for : inner forKind (f .bound) ≡ f .bound + 1
   unfolding inner
@@ -149,6 +156,7 @@ module _ {b : List ℕ} {left : ℕ} {l : Loop} {f : Frame} {s : Machine} (pre :
               (scope-inside (pre .scope) bound (s .end) (λ t. pre .binder) (omega (arith, pre .some)) (pre .many)
               (omega (arith, pre .items, pre .order)) (pre .order) (pre .rows));
           room = omega (arith, pre .room, pre .short);
+          small = omega (arith, pre .small, pre .short);
         }
 
     item : itemsIn l s ≡ getD (s .work) (l .from) 0 ∷ []
@@ -194,16 +202,10 @@ module _ {b : List ℕ} {left : ℕ} {l : Loop} {f : Frame} {s : Machine} (pre :
             ap (λ (v : List ℕ). joinItems (l .for) v (valueAt (s₁ .work) (s .end) (s₁ .end)) (stateIn f s₁))
             (sym (first-kept ok (f .top) (pre .order)))) back
 
-  -- one half after the other
-  module _ (many : l .to - l .from ≡ 1 → ⊥) where
-    abbrev half : ℕ
-    half = l .from + (l .to - l .from) / 2
-
-    cut : (l .from < half) × (half < l .to)
-    cut = (omega (arith, pre .some, many), omega (arith, pre .some, many))
-
+  -- those up to a place, and then the rest
+  module _ (half : ℕ) (low : l .from < half) (high : half ≤ l .to) where
     parts : valueAt (s .work) (l .from) half ++ valueAt (s .work) half (l .to) ≡ itemsIn l s
-    parts = value-append (s .work) (l .from) half (l .to) (omega (arith, cut .0)) (omega (arith, cut .1))
+    parts = value-append (s .work) (l .from) half (l .to) (omega (arith, low)) high
 
     pub half-asks : EachPre b left (loopOf (l .for) (l .from) half) f s
     half-asks =
@@ -213,15 +215,16 @@ module _ {b : List ℕ} {left : ℕ} {l : Loop} {f : Frame} {s : Machine} (pre :
           marks = pre .marks;
           scope = pre .scope;
           binder = pre .binder;
-          some = cut .0;
-          items = omega (arith, cut .1, pre .items);
-          many = omega (arith, cut .1, pre .many);
+          some = low;
+          items = omega (arith, high, pre .items);
+          many = omega (arith, high, pre .many);
           rows = all-front (valueAt (s .work) (l .from) half) (valueAt (s .work) half (l .to))
               (subst (AreRows (s .progress .count)) (sym parts) (pre .rows));
           order = pre .order;
           short = pre .short;
           sofar = pre .sofar;
           room = pre .room;
+          small = pre .small;
         }
 
     module _ {s₁ : Machine} (ran : EachPost b left (loopOf (l .for) (l .from) half) f s s₁) where
@@ -237,7 +240,11 @@ module _ {b : List ℕ} {left : ℕ} {l : Loop} {f : Frame} {s : Machine} (pre :
       pub half-refused : (s₁ .progress .number ≡ 0 → ⊥) → EachPost b left l f s s₁
       half-refused k = refused-yields k (halves ∙ ap goes-on (yields-refused ran k))
 
-      module _ (k : s₁ .progress .number ≡ 0) where
+      -- no more: these are all
+      pub half-all : half ≡ l .to → EachPost b left l f s s₁
+      half-all e = subst (λ (j : ℕ). EachPost b left (loopOf (l .for) (l .from) j) f s s₁) e ran
+
+      module _ (k : s₁ .progress .number ≡ 0) (more : half < l .to) where
         items-kept : valueAt (s₁ .work) half (l .to) ≡ valueAt (s .work) half (l .to)
         items-kept = value-same (s .work) (s₁ .work) (f .top) half (l .to) (ran .fine k .below) (pre .items)
 
@@ -250,9 +257,9 @@ module _ {b : List ℕ} {left : ℕ} {l : Loop} {f : Frame} {s : Machine} (pre :
               marks = marks-more (pre .marks) (ok .after .rows);
               scope = scope-kept (pre .scope) (s₁ .work) (s₁ .env) (ok .below) (ok .scope) (ok .spans) (omega arith) (ok .after .rows);
               binder = pre .binder;
-              some = cut .1;
+              some = more;
               items = pre .items;
-              many = omega (arith, cut .0, pre .many);
+              many = omega (arith, low, pre .many);
               rows = subst (AreRows (s₁ .progress .count)) (sym items-kept)
                   (areRows-more (ok .after .rows)
                   (all-back (valueAt (s .work) (l .from) half) (valueAt (s .work) half (l .to))
@@ -261,6 +268,7 @@ module _ {b : List ℕ} {left : ℕ} {l : Loop} {f : Frame} {s : Machine} (pre :
               short = ok .short;
               sofar = ok .rows;
               room = omega (arith, pre .room, ok .size);
+              small = pre .small;
             }
 
         pub rest-yields : {s′ : Machine} →
@@ -274,3 +282,7 @@ module _ {b : List ℕ} {left : ℕ} {l : Loop} {f : Frame} {s : Machine} (pre :
             (stateIn f s₁))
             (sym (bound-kept (pre .scope) (s₁ .work) (s₁ .env) (ok .below) (ok .scope))))
             (ok .scope)
+
+  -- the first
+  pub one-asks : EachPre b left (loopOf (l .for) (l .from) (l .from + 1)) f s
+  one-asks = half-asks (l .from + 1) (omega arith) (omega (arith, pre .some))

@@ -11,11 +11,13 @@ use Rattle.model.specs.Script.{isBinder}
 use Rattle.model.proofs.BoolLaws.{by-cases, eq-cases}
 use Rattle.model.proofs.ValueLaws.{areValues-more}
 use Rattle.model.proofs.All.{all-snoc}
-use Rattle.model.specs.Run.{AreRows, AreValues}
+use Rattle.model.specs.Run.{Out, AreRows, AreValues}
 use Rattle.script_records.specs.Walk.{withBound, inner}
 use Rattle.run_query.specs.Values.{valueAt}
-use Rattle.run_operators.specs.Machine.{noSpan, spanOf, spanValue, boundValues}
-use Rattle.run_operators.specs.Evaluating.{SpanFits, InScope, BindPost, MarksHeld}
+use Rattle.run_query.specs.Index.{IndexHeld}
+use Rattle.run_query.proofs.IndexLaws.{held-after}
+use Rattle.run_operators.specs.Machine.{Machine, Frame, noSpan, spanOf, spanValue, boundValues}
+use Rattle.run_operators.specs.Evaluating.{SpanFits, InScope, BindPost, MarksHeld, Yields}
 use Rattle.run_operators.specs.declared.value.Span.{Span}
 use Rattle.run_operators.proofs.ValueLaws.{value-same}
 use Rattle.script_records.proofs.BindLaws.{inner-more, inner-same}
@@ -23,6 +25,11 @@ use Rattle.script_records.proofs.BindLaws.{inner-more, inner-same}
 -- MARKS stay within a table that grows
 pub marks-more : {ms : List ℕ} {c d : ℕ} → MarksHeld ms c → c ≤ d → MarksHeld ms d
 marks-more m l = record { size = m .size; rows = λ d. omega (arith, m .rows d) }
+
+-- THE INDEX stays, while rows are added and links cut
+pub index-kept : {ix : List ℕ} {goal : Out} {next : ℕ} {f : Frame} {s s′ : Machine} → IndexHeld ix (s .rows) (s .progress .count) →
+    Yields goal next f s s′ → s′ .progress .number ≡ 0 → IndexHeld ix (s′ .rows) (s′ .progress .count)
+index-kept i y k = let a = y .fine k .after in held-after i (a .rows) (a .links)
 
 -- VALUES below top are kept
 span-same : (w w′ : List ℕ) (top : ℕ) (s : Span) → take top w′ ≡ take top w → SpanFits top s → spanValue w′ s ≡ spanValue w s

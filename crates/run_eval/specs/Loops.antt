@@ -7,7 +7,7 @@ use Rattle.model.specs.Run.{State, Out, loop, run, AreRows}
 use Rattle.script_records.specs.Walk.{endAt, exprAt}
 use Rattle.script.specs.Accepted.{Accepted}
 use Rattle.run_query.specs.Values.{valueAt}
-use Rattle.run_operators.specs.Machine.{Machine, Frame, stateIn, boundIn, valueIn}
+use Rattle.run_operators.specs.Machine.{maxPlace, Machine, Frame, stateIn, boundIn, valueIn}
 use Rattle.run_operators.specs.Evaluating.{ScopeIn, HeldIn, Yields, roomOf, MarksHeld}
 
 -- A LOOP under way: the items that remain
@@ -43,6 +43,7 @@ pub record EachPre (b : List ℕ) (left : ℕ) (l : Loop) (f : Frame) (s : Machi
   pub short : s .end ≤ f .top + maxItems
   pub sofar : AreRows (s .progress .count) (valueIn f s)
   pub room : f .top + maxItems + roomOf left ≤ length (s .work)
+  pub small : f .top + maxItems + roomOf left ≤ maxPlace
 
 -- come to the model's loop over them
 abbrev pub EachPost : (bytes : List ℕ) → (left : ℕ) → Loop → Frame → (before after : Machine) → Type 0

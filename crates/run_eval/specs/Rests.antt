@@ -10,7 +10,7 @@ use Rattle.model.specs.Script.{isBinder}
 use Rattle.model.specs.Run.{State, Out, andThen, loop, run}
 use Rattle.script_records.specs.Walk.{inner, withBound, endAt, exprAt}
 use Rattle.script.specs.Accepted.{Accepted}
-use Rattle.run_operators.specs.Machine.{Machine, Frame, stateIn, boundIn, valueIn}
+use Rattle.run_operators.specs.Machine.{maxPlace, Machine, Frame, stateIn, boundIn, valueIn}
 use Rattle.run_operators.specs.Evaluating.{ScopeIn, Yields, binaryOf, ValuePre, roomOf, MarksHeld}
 use Rattle.run_eval.specs.Loops.{bodyRun}
 
@@ -36,6 +36,7 @@ pub record RestPre (b : List ℕ) (kind left : ℕ) (f : Frame) (s : Machine) : 
   pub marks : MarksHeld (f .marks) (s .progress .count)
   pub scope : ScopeIn f s
   pub room : f .top + 2 * maxItems + roomOf left ≤ length (s .work)
+  pub small : f .top + 2 * maxItems + roomOf left ≤ maxPlace
 
 -- and what is left is run
 abbrev pub RestPost : Rest → (next : ℕ) → Frame → (before after : Machine) → Type 0

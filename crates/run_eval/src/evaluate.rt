@@ -2,6 +2,7 @@
 ghost use Rattle.model.specs.Script.{ifKind, forKind};
 ghost use Rattle.script_records.specs.Walk.{endAt};
 ghost use Rattle.script.specs.Accepted.{Accepted};
+ghost use Rattle.run_query.specs.Index.{IndexHeld};
 ghost use Rattle.run_operators.specs.Machine.{frame, machine, begun};
 ghost use Rattle.run_operators.specs.Evaluating.{EvalPre, EvalPost};
 ghost use Rattle.run_eval.specs.Loops.{loopOf, EachPre, EachPost};
@@ -23,6 +24,7 @@ fn binary(
     left: usize,
     bound: usize,
     marks: &[u16],
+    index: &[u16],
     rows: &mut [u32],
     history: &mut [u8],
     work: &mut [u16],
@@ -30,6 +32,7 @@ fn binary(
     x: Evaluated,
 ) -> Evaluated
     requires { ⌜ RestPre (now script) kind left (frame bound (now marks) top) (machine (now rows) (now history) (now work) x) ⌝ }
+    requires { ⌜ IndexHeld (now index) (now rows) (x .progress .count) ⌝ }
     ensures { λ r. ⌜ RestPost (binaryRest (now (script .entry)) kind at left) (endAt (now (script .entry)) (x .place))
         (frame bound (now (marks .entry)) top) (machine (now (rows .entry)) (now (history .entry)) (now (work .entry)) x)
         (machine (now (rows .exit)) (now (history .exit)) (now (work .exit)) r) ⌝ }
@@ -47,6 +50,7 @@ fn binary(
         n,
         inside,
         marks,
+        index,
         rows,
         history,
         work,
@@ -65,6 +69,7 @@ fn branch(
     left: usize,
     bound: usize,
     marks: &[u16],
+    index: &[u16],
     rows: &mut [u32],
     history: &mut [u8],
     work: &mut [u16],
@@ -73,6 +78,7 @@ fn branch(
 ) -> Evaluated
     requires { ⌜ RestPre (now script) ifKind left (frame bound (now marks) top) (machine (now rows) (now history) (now work) x) ⌝ }
     requires { ⌜ Accepted (now script) (endAt (now script) (x .place)) left bound ⌝ }
+    requires { ⌜ IndexHeld (now index) (now rows) (x .progress .count) ⌝ }
     ensures { λ r. ⌜ RestPost (ifRest (now (script .entry)) left)
         (endAt (now (script .entry)) (endAt (now (script .entry)) (x .place)))
         (frame bound (now (marks .entry)) top) (machine (now (rows .entry)) (now (history .entry)) (now (work .entry)) x)
@@ -89,6 +95,7 @@ fn branch(
             bound,
             scope,
             marks,
+            index,
             rows,
             history,
             work,
@@ -104,6 +111,7 @@ fn branch(
         bound,
         scope,
         marks,
+        index,
         rows,
         history,
         work,
@@ -123,6 +131,7 @@ fn iterate(
     left: usize,
     bound: usize,
     marks: &[u16],
+    index: &[u16],
     rows: &mut [u32],
     history: &mut [u8],
     work: &mut [u16],
@@ -130,6 +139,7 @@ fn iterate(
     x: Evaluated,
 ) -> Evaluated
     requires { ⌜ RestPre (now script) forKind left (frame bound (now marks) top) (machine (now rows) (now history) (now work) x) ⌝ }
+    requires { ⌜ IndexHeld (now index) (now rows) (x .progress .count) ⌝ }
     ensures { λ r. ⌜ RestPost (forRest (now (script .entry)) at left) (endAt (now (script .entry)) (x .place))
         (frame bound (now (marks .entry)) top) (machine (now (rows .entry)) (now (history .entry)) (now (work .entry)) x)
         (machine (now (rows .exit)) (now (history .exit)) (now (work .exit)) r) ⌝ }
@@ -148,6 +158,7 @@ fn iterate(
         bound,
         scope,
         marks,
+        index,
         rows,
         history,
         work,
@@ -163,7 +174,7 @@ fn iterate(
     record::combined(kinds::FOR, at, rows, history, work, top, mid, y)
 }
 
-// The items between two places, one after the other, by halves; the results so far stand from top to end. 8 is at the for's place.
+// The items between two places: the first, then the others by halves. The results so far stand from top to end. 8 is at the for's place.
 fn each(
     script: &[u8],
     place: usize,
@@ -172,6 +183,7 @@ fn each(
     bound: usize,
     env: [Span; Table::BINDERS],
     marks: &[u16],
+    index: &[u16],
     rows: &mut [u32],
     history: &mut [u8],
     work: &mut [u16],
@@ -183,50 +195,62 @@ fn each(
 ) -> Evaluated
     requires { ⌜ EachPre (now script) left (loopOf place from to) (frame bound (now marks) top)
         (machine (now rows) (now history) (now work) (begun p at end env)) ⌝ }
+    requires { ⌜ IndexHeld (now index) (now rows) (p .count) ⌝ }
     ensures { λ r. ⌜ EachPost (now (script .entry)) left (loopOf place from to) (frame bound (now (marks .entry)) top)
         (machine (now (rows .entry)) (now (history .entry)) (now (work .entry)) (begun p at end env))
         (machine (now (rows .exit)) (now (history .exit)) (now (work .exit)) r) ⌝ }
 {
-    let count = to - from;
-    if count == 1 {
-        let inside = value::bind(kinds::FOR, env, bound, from, to);
-        let n = bound + 1;
-        let y = eval(
-            script,
-            at,
-            left,
-            n,
-            inside,
-            marks,
-            rows,
-            history,
-            work,
-            end,
-            p,
-        );
-        if y.progress.number != 0 {
-            return y;
-        }
-        return record::limited(y, top, place);
+    let next = from + 1;
+    let inside = value::bind(kinds::FOR, env, bound, from, next);
+    let n = bound + 1;
+    let y = eval(
+        script,
+        at,
+        left,
+        n,
+        inside,
+        marks,
+        index,
+        rows,
+        history,
+        work,
+        end,
+        p,
+    );
+    if y.progress.number != 0 {
+        return y;
     }
-    let half = from + count / 2;
+    let first = record::limited(y, top, place);
+    if next == to {
+        return first;
+    }
+    if first.progress.number != 0 {
+        return first;
+    }
+    let inner = first.env;
+    let r = first.progress;
+    let half = next + (to - from) / 2;
     let x = each(
         script,
         place,
         at,
         left,
         bound,
-        env,
+        inner,
         marks,
+        index,
         rows,
         history,
         work,
-        from,
+        next,
         half,
         top,
-        end,
-        p,
+        first.end,
+        r,
     );
+    if half == to {
+        return x;
+    }
     if x.progress.number != 0 {
         return x;
     }
@@ -240,6 +264,7 @@ fn each(
         bound,
         scope,
         marks,
+        index,
         rows,
         history,
         work,
@@ -259,6 +284,7 @@ pub fn eval(
     bound: usize,
     env: [Span; Table::BINDERS],
     marks: &[u16],
+    index: &[u16],
     rows: &mut [u32],
     history: &mut [u8],
     work: &mut [u16],
@@ -267,6 +293,7 @@ pub fn eval(
 ) -> Evaluated
     requires { ⌜ EvalPre (now script) left (frame bound (now marks) top)
         (machine (now rows) (now history) (now work) (begun p at top env)) ⌝ }
+    requires { ⌜ IndexHeld (now index) (now rows) (p .count) ⌝ }
     ensures { λ r. ⌜ EvalPost (now (script .entry)) left (frame bound (now (marks .entry)) top)
         (machine (now (rows .entry)) (now (history .entry)) (now (work .entry)) (begun p at top env))
         (machine (now (rows .exit)) (now (history .exit)) (now (work .exit)) r) ⌝ }
@@ -290,18 +317,43 @@ pub fn eval(
     }
     let i = at + (1 + kinds::body_size(kind));
     let k = left - 1;
-    let x = eval(script, i, k, bound, env, marks, rows, history, work, top, p);
+    let x = eval(
+        script,
+        i,
+        k,
+        bound,
+        env,
+        marks,
+        index,
+        rows,
+        history,
+        work,
+        top,
+        p,
+    );
     if x.progress.number != 0 {
         return x;
     }
     if operands == 1 {
-        return record::applied(script, at, rows, history, work, top, x);
+        return record::applied(script, at, index, rows, history, work, top, x);
     }
     if kind == kinds::IF {
-        return branch(script, k, bound, marks, rows, history, work, top, x);
+        return branch(script, k, bound, marks, index, rows, history, work, top, x);
     }
     if kind == kinds::FOR {
-        return iterate(script, at, k, bound, marks, rows, history, work, top, x);
+        return iterate(
+            script,
+            at,
+            k,
+            bound,
+            marks,
+            index,
+            rows,
+            history,
+            work,
+            top,
+            x,
+        );
     }
     binary(
         script,
@@ -310,6 +362,7 @@ pub fn eval(
         k,
         bound,
         marks,
+        index,
         rows,
         history,
         work,

@@ -17,7 +17,7 @@ use Rattle.model.specs.Step.{parentIs, isBelowFrom, isBelow, collect}
 use Rattle.model.specs.Run.{State, Out, refused, gives, newRow, thenRow, Copied, copyOf, copyParent, copyRow, copyEach, descendantsFrom}
 use Rattle.model.proofs.BoolLaws.{by-cases, cond-true, cond-false, eq-cases}
 use Rattle.model.proofs.Collect.{collect-append, collect-none}
-use Rattle.model.proofs.Below.{Below, under, further, below-is}
+use Rattle.model.proofs.Below.{below-is, below-above}
 use Rattle.plan_table.specs.Packed.{ofLink}
 use Rattle.run_insert.specs.Inserting.{copiedIn, copyLink, copyBy, noCopy}
 
@@ -48,12 +48,8 @@ module _ (x : model.Table) (lower : (i p : ℕ) → model.rowAt x i .parent ≡ 
   below-child i p e =
       rw e (ap (λ (b : Bool). eqb p t || b) (let l = lower i p e in below-fuel i (suc p) p l (omega arith)))
 
-  below-above : {i : ℕ} → Below x t i → t < i
-  below-above {i} (under e) = lower i t e
-  below-above {i} (further {p = p} e b) = omega (arith, lower i p e, below-above b)
-
   below-low : (i : ℕ) → i ≤ t → isBelow x t i ≡ false
-  below-low i h = by-cases (isBelow x t i) (λ e. absurd (let k = below-above (below-is x t i e) in omega arith)) (λ e. e)
+  below-low i h = by-cases (isBelow x t i) (λ e. absurd (let k = below-above x lower (below-is x t i e) in omega arith)) (λ e. e)
 
   pub descendants-past : (n : ℕ) → t < n → descendantsFrom x t 0 n ≡ descendantsFrom x t (t + 1) (n - (t + 1))
   descendants-past n h =

@@ -1,5 +1,5 @@
 -- Records without operands: each way out of the code yields the run of the expression at the place.
-use mathlib.Core.Path.{_≡_, refl, ap, sym, subst, _∙_}
+use mathlib.Core.Path.{_≡_, refl, ap, ap₂, sym, subst, _∙_}
 use mathlib.Core.Bool.{Bool, true, false}
 use mathlib.Core.Logic.{inr}
 use mathlib.Core.Option.{Option, none, some}
@@ -32,7 +32,7 @@ use Rattle.run_updates.proofs.StateLaws.{outcome-gives, held-count}
 use Rattle.run_query.proofs.ValueLaws.{appended-none}
 use Rattle.run_updates.specs.declared.state.Progress.{Progress}
 use Rattle.run_operators.specs.Machine.{Machine, Frame, noSpan, spanValue, boundValues, machine, cameTo, stateIn, boundIn}
-use Rattle.run_operators.specs.Evaluating.{SpanFits, CopyPre, endedBy, madeValue, Yields, EvalPre, EvalPost}
+use Rattle.run_operators.specs.Evaluating.{CopyPre, endedBy, madeValue, Yields, EvalPre, EvalPost}
 use Rattle.run_operators.specs.declared.value.Span.{Span}
 use Rattle.run_operators.specs.declared.record.Evaluated.{Evaluated}
 use Rattle.run_operators.proofs.YieldLaws.{yields-updated, updated-none, yields-as}
@@ -130,11 +130,11 @@ module _ {b : List ℕ} {left : ℕ} {f : Frame} {s : Machine} (pre : EvalPre b 
         (λ q. marked-held (getD (f .marks) d 0) (s .progress .count) (pre .marks .rows d)) (pre .scope .size) eq))
 
     pub variable-yields : getD b (s .place) 0 ≡ variableKind → {v : ℕ} → v ≡ getD b (s .place + 1) 0 →
-        {x : Span} → x ≡ getD (s .env) v noSpan →
-        Appended (valueAt (s .work) (x .start) (x .start + x .len)) (s .work) (f .top) w′ e →
+        {from len : ℕ} → from ≡ getD (s .env) v noSpan .start → len ≡ getD (s .env) v noSpan .len →
+        Appended (valueAt (s .work) from (from + len)) (s .work) (f .top) w′ e →
         EvalPost b left f s (machine (s .rows) (s .history) w′ r)
     unfolding run scriptKinds
-    variable-yields k {v} i {x} g a =
+    variable-yields k {v} i {from} {len} g h a =
         from-record (var at (getD b (at + 1) 0)) 3 k (accepted-variable (pre .accepted) k)
         (yields-as (ap (λ (u : List ℕ). gives u (stateIn f s)) is) refl
         (yields-updated f s (updated-none (pre .held)) a (λ q. refl) size (omega (arith, nullary-room)) few
@@ -144,18 +144,21 @@ module _ {b : List ℕ} {left : ℕ} {f : Frame} {s : Machine} (pre : EvalPre b 
         low : getD b (at + 1) 0 < f .bound
         low = variable-number fits k
 
-        is : valueAt (s .work) (x .start) (x .start + x .len) ≡ getD (boundIn f s) (getD b (at + 1) 0) []
+        is : valueAt (s .work) from (from + len) ≡ getD (boundIn f s) (getD b (at + 1) 0) []
         is =
-            let m : (x .start + x .len) - x .start ≡ x .len = omega arith in
-            ap (λ (j : ℕ). take j (drop (x .start) (s .work))) m ∙
-            ap (spanValue (s .work)) (g ∙ ap (λ (j : ℕ). getD (s .env) j noSpan) i) ∙
+            let m : (from + len) - from ≡ len = omega arith in
+            ap (λ (j : ℕ). take j (drop from (s .work))) m ∙ ap₂ (λ (n j : ℕ). take n (drop j (s .work))) h g ∙
+            ap (λ (j : ℕ). spanValue (s .work) (getD (s .env) j noSpan)) i ∙
             sym (bound-at (s .work) (f .bound) (s .env) (getD b (at + 1) 0) low (omega (arith, pre .scope .few, pre .scope .size)))
 
-        few : length (valueAt (s .work) (x .start) (x .start + x .len)) ≤ maxItems
+        few : length (valueAt (s .work) from (from + len)) ≤ maxItems
         few =
-            let l : v < f .bound = omega (arith, low) in
-            let m : x .len ≤ maxItems = subst (λ (z : Span). z .len ≤ maxItems) (sym g) (pre .scope .spans v l .1) in
-            omega (arith, m, length-take ((x .start + x .len) - x .start) (drop (x .start) (s .work)))
+            omega (
+              arith,
+              h,
+              pre .scope .spans v (omega (arith, low)) .1,
+              length-take ((from + len) - from) (drop from (s .work)),
+            )
 
   -- new rows
   module _ {ws′ h′ w′ : List ℕ} {q : Progress} {e : ℕ} (size : length w′ ≡ length (s .work))
@@ -203,16 +206,16 @@ module _ {b : List ℕ} {left : ℕ} {f : Frame} {s : Machine} (pre : EvalPre b 
 
   -- a variable's value may be copied to top
   pub variable-asks : getD b (s .place) 0 ≡ variableKind → {v : ℕ} → v ≡ getD b (s .place + 1) 0 →
-      {x : Span} → x ≡ getD (s .env) v noSpan →
-      CopyPre (s .work) (x .start) (x .start + x .len) (f .top)
-  variable-asks k {v} i {x} g =
-      let l : v < f .bound = omega (arith, variable-number fits k) in
-      let z : SpanFits (f .top) x = subst (SpanFits (f .top)) (sym g) (pre .scope .spans v l) in
+      {from len : ℕ} → from ≡ getD (s .env) v noSpan .start → len ≡ getD (s .env) v noSpan .len →
+      CopyPre (s .work) from (from + len) (f .top)
+  variable-asks k {v} i {from} {len} g h =
+      let z = pre .scope .spans v (omega (arith, variable-number fits k)) in
+      let below : from + len ≤ f .top = omega (arith, z .0, g, h) in
       record {
         order = omega arith;
-        within = omega (arith, z .0, nullary-room);
-        room = omega (arith, z .1, nullary-room);
-        apart = inr (z .0);
+        within = omega (arith, below, nullary-room);
+        room = omega (arith, z .1, h, nullary-room);
+        apart = inr below;
       }
 
   pub variable-below : getD b (s .place) 0 ≡ variableKind → {v : ℕ} → v ≡ getD b (s .place + 1) 0 →

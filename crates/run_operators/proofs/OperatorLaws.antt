@@ -20,7 +20,8 @@ use Rattle.plan_table.specs.Packed.{decodeParts}
 use Rattle.run_updates.specs.State.{Held}
 use Rattle.run_updates.specs.Updating.{DeletePre, DeletePost}
 use Rattle.run_insert.specs.Inserting.{InsertPre, InsertPost}
-use Rattle.run_query.specs.Values.{valueAt, Appended, StepPre, StepPost, PickPre, PickPost}
+use Rattle.run_pick.specs.Picking.{PickPre, PickPost}
+use Rattle.run_query.specs.Values.{valueAt, Appended, StepPre, StepPost}
 use Rattle.run_updates.proofs.StateLaws.{held-count}
 use Rattle.run_query.proofs.ValueLaws.{appended-none, length-collect}
 use Rattle.run_updates.specs.declared.state.Progress.{Progress}

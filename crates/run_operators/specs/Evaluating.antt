@@ -18,7 +18,8 @@ use Rattle.run_query.specs.Values.{valueAt}
 use Rattle.run_updates.specs.declared.state.Progress.{Progress}
 use Rattle.run_operators.specs.declared.value.Span.{Span}
 use Rattle.run_operators.specs.declared.record.Evaluated.{Evaluated}
-use Rattle.run_operators.specs.Machine.{Machine, Frame, noSpan, spanOf, boundValues, frame, stateIn, boundIn, valueIn, outcomeIn}
+use Rattle.run_operators.specs.Machine.{maxPlace, noSpan, spanOf, boundValues}
+use Rattle.run_operators.specs.Machine.{Machine, Frame, frame, stateIn, boundIn, valueIn, outcomeIn}
 
 -- VARIABLES: a variable's value lies below top
 abbrev pub SpanFits : (top : ℕ) → Span → Type 0
@@ -40,6 +41,7 @@ pub record BindPre (kind : ℕ) (env : List Span) (n start end : ℕ) : Type 0 w
   pub size : length env ≡ maxBinders
   pub scope : isBinder kind ≡ true → n < maxBinders
   pub order : start ≤ end
+  pub small : end < maxPlace
 
 pub record BindPost (kind : ℕ) (env : List Span) (n start end : ℕ) (r : List Span) : Type 0 where
   pub size : length r ≡ maxBinders
@@ -161,6 +163,7 @@ pub record EvalPre (b : List ℕ) (left : ℕ) (f : Frame) (s : Machine) : Type 
   pub marks : MarksHeld (f .marks) (s .progress .count)
   pub scope : ScopeIn f s
   pub room : f .top + roomOf left ≤ length (s .work)
+  pub small : f .top + roomOf left ≤ maxPlace
 
 -- yields its run, and the place past it
 abbrev pub EvalPost : (bytes : List ℕ) → (left : ℕ) → Frame → (before after : Machine) → Type 0

@@ -9,6 +9,10 @@ use Rattle.run_updates.specs.declared.state.Progress.{Progress}
 use Rattle.run_operators.specs.declared.value.Span.{Span}
 use Rattle.run_operators.specs.declared.record.Evaluated.{Evaluated}
 
+-- PLACES in the work area that the evaluator uses are below this, so that two bytes hold one
+abbrev pub maxPlace : ℕ
+maxPlace = 65536
+
 -- VARIABLES: each is a start and a length in the work area
 abbrev pub noSpan : Span
 noSpan = record { start = 0; len = 0 }

@@ -4,6 +4,7 @@ ghost use Prim.Native.Nat.{_≤_};
 ghost use lib.ListN.{getD};
 ghost use Rattle.model.specs.Script.{arity};
 ghost use Rattle.script_records.specs.Walk.{endAt};
+ghost use Rattle.run_query.specs.Index.{IndexHeld};
 ghost use Rattle.run_operators.specs.Evaluating.{endedBy, limitedBy, movedTo, UnaryPre, UnaryPost, BinaryPre, BinaryPost};
 ghost use Rattle.run_operators.specs.Evaluating.{EvalPre, EvalPost};
 ghost use Rattle.run_operators.specs.Machine.{frame, machine, begun};
@@ -14,7 +15,7 @@ use plan_table::RowNumber;
 use plan_table::Table;
 use plan_table::number;
 use run_insert::insert;
-use run_query::pick;
+use run_pick::pick;
 use run_query::step;
 use run_query::step::StepBy;
 use run_updates::state::Progress;
@@ -111,8 +112,8 @@ pub fn nullary(
     if kind == kinds::VARIABLE {
         let v = number::byte(b);
         let s = env[v];
-        let from = s.start;
-        let to = from + s.len;
+        let from = number::index(s.start);
+        let to = from + number::index(s.len);
         let end = value::copied(work, from, to, top);
         return ended(p, at, at + 2, end, env);
     }
@@ -131,6 +132,7 @@ pub fn nullary(
 pub fn applied(
     script: &[u8],
     at: usize,
+    index: &[u16],
     rows: &mut [u32],
     history: &mut [u8],
     work: &mut [u16],
@@ -138,6 +140,7 @@ pub fn applied(
     x: Evaluated,
 ) -> Evaluated
     requires { ⌜ UnaryPre (now script) at top (machine (now rows) (now history) (now work) x) ⌝ }
+    requires { ⌜ IndexHeld (now index) (now rows) (x .progress .count) ⌝ }
     ensures { λ r. ⌜ UnaryPost (now (script .entry)) at top (machine (now (rows .entry)) (now (history .entry)) (now (work .entry)) x)
         (machine (now (rows .exit)) (now (history .exit)) (now (work .exit)) r) ⌝ }
 {
@@ -161,7 +164,7 @@ pub fn applied(
         test: b,
         name: number::name(script[at + 3]),
     };
-    let end = step::stepped(rows, p.count, by, work, top, to);
+    let end = step::stepped(rows, p.count, index, by, work, top, to);
     ended(p, at, next, end, env)
 }
 

@@ -10,10 +10,10 @@ use plan_table::Table;
 use run_updates::state::Progress;
 use script_records::kinds;
 
-// A bound variable's value in the work area.
+// A bound variable's value in the work area. Places there fit two bytes, so the eight spans that go from call to call are 32 bytes.
 pub struct Span {
-    pub start: usize,
-    pub len: usize,
+    pub start: u16,
+    pub len: u16,
 }
 
 // Copies the value between two places to another; the place past it.
@@ -71,8 +71,8 @@ pub fn bind(
     let mut inside = env;
     if kinds::is_binder(kind) {
         inside[bound] = Span {
-            start,
-            len: end - start,
+            start: start as u16,
+            len: (end - start) as u16,
         };
         return inside;
     }

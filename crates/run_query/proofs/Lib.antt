@@ -2,4 +2,5 @@ pub mod StepLaws
 pub mod ReachLaws
 pub mod PassLaws
 pub mod ValueLaws
-pub mod PickLaws
+pub mod ItemLaws
+pub mod IndexLaws

@@ -14,7 +14,7 @@ use Rattle.model.specs.Step.{parentIs, isBelow, reaches}
 use Rattle.model.proofs.BoolLaws.{or-swap, bool-iff, or-left, or-right, or-cases, and-left, and-right, and-both, true-false, eq-cases}
 use Rattle.model.proofs.ListLaws.{any-same, any-in, in-any, among-in, in-among}
 use Rattle.model.proofs.TableLaws.{isThe-at, isThe-by, parent-count}
-use Rattle.model.proofs.Below.{Below, under, further, below-is, is-below}
+use Rattle.model.proofs.Below.{Below, under, further, below-is, below-above, is-below}
 
 -- some row of those from i on
 unfoldable pub anyFrom : (ℕ → Bool) → (from : ℕ) → ℕ → Bool
@@ -27,6 +27,13 @@ upTo x d v j = any (λ (i : ℕ). reaches x (2 + bit d) i j) v
 
 abbrev pub childCounts : Table → (deep : Bool) → (v : List ℕ) → (row child : ℕ) → Bool
 childCounts x d v j k = parentIs x j k && (among k v || (d && upTo x d v k))
+
+-- reached by an axis that leads down, child or descendant; a row that counts for its children
+abbrev pub downTo : Table → (deep : Bool) → (v : List ℕ) → (row : ℕ) → Bool
+downTo x d v j = any (λ (i : ℕ). reaches x (bit d) i j) v
+
+abbrev pub countsDown : Table → (deep : Bool) → (v : List ℕ) → (row : ℕ) → Bool
+countsDown x d v j = among j v || (d && downTo x d v j)
 
 -- SOME ITEM, SOME ROW
 any-from : (f : ℕ → Bool) (i n : ℕ) → anyFrom f i n ≡ true → (k : ℕ) × (i ≤ k) × (f k ≡ true)
@@ -98,13 +105,8 @@ module _ (x : Table) (lower : (i p : ℕ) → rowAt x i .parent ≡ some p → p
           go (inl e) = is-below x lower t i (under (isThe-at t (rowAt x i .parent) e))
           go (inr e) = deeper (rowAt x i .parent) refl e
 
-  -- reached by the axis, child or descendant
-  abbrev pub downTo : (deep : Bool) → (v : List ℕ) → (row : ℕ) → Bool
-  downTo d v j = any (λ (i : ℕ). reaches x (bit d) i j) v
-
-  -- a row is reached where its parent is an item, or along a deep axis reached itself
-  pub down-parent : (d : Bool) (v : List ℕ) (j : ℕ) →
-      downTo d v j ≡ through (λ (p : ℕ). among p v || (d && downTo d v p)) (rowAt x j .parent)
+  -- a row is reached where its parent counts: is an item, or along a deep axis reached itself
+  pub down-parent : (d : Bool) (v : List ℕ) (j : ℕ) → downTo x d v j ≡ through (countsDown x d v) (rowAt x j .parent)
   down-parent false v j = any-isThe (rowAt x j .parent) v ∙ plain (rowAt x j .parent)
     where
       plain : (q : Option ℕ) → through (λ (p : ℕ). among p v) q ≡ through (λ (p : ℕ). among p v || false) q
@@ -119,7 +121,19 @@ module _ (x : Table) (lower : (i p : ℕ) → rowAt x i .parent ≡ some p → p
       .parent)) ∙
       through-or (λ (p : ℕ). among p v) (λ (p : ℕ). any (λ (i : ℕ). isBelow x i p) v) (rowAt x j .parent)
 
+  pub below-higher : (t i : ℕ) → isBelow x t i ≡ true → t < i
+  below-higher t i e = below-above x lower (below-is x t i e)
+
+  pub down-higher : (d : Bool) (i j : ℕ) → reaches x (bit d) i j ≡ true → i < j
+  down-higher false i j e = lower j i (isThe-at i (rowAt x j .parent) e)
+  down-higher true i j e = below-higher i j e
+
   -- UP
+  -- an axis that leads up reaches a row's parent, and along a deep axis what is above it
+  pub up-parent : (d : Bool) (i j : ℕ) → reaches x (2 + bit d) i j ≡ (parentIs x j i || (d && through (isBelow x j) (rowAt x i .parent)))
+  up-parent false i j = sym (or-false (parentIs x j i))
+  up-parent true i j = below-unrolled j i
+
   -- the way to a row below starts at a child
   first-child : (j i : ℕ) → Below x j i → (c : ℕ) × (rowAt x c .parent ≡ some j) × ((c ≡ i) ⊎ Below x c i)
   first-child j i (under e) = (i, e, inl refl)

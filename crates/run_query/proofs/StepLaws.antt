@@ -1,18 +1,26 @@
 -- A step's tests and flags, by the ways out of the code that makes them.
 use mathlib.Core.Path.{_≡_, ap, ap₂, sym, _∙_}
-use mathlib.Core.Bool.{Bool, true, false, _||_}
+use mathlib.Core.Bool.{Bool, true, false, _||_, not}
 use mathlib.Core.List.{List, [], _∷_, _++_}
-use Prim.Native.Nat.{ℕ, _+_}
+use Prim.Native.Nat.{ℕ, _+_, _<_}
 use native.Mathlib.Omega.{arith}
 use lib.Dec.{eqb}
 use borrow.Author.Tests.{ne-eqb}
-use Rattle.model.specs.Base.{among}
+use Rattle.model.specs.Base.{among, bit}
 use Rattle.model.specs.Script.{stepBy}
 use Rattle.model.specs.Step.{leafLetter, named, letterOf, admits}
-use Rattle.model.proofs.BoolLaws.{by-cases, eqb-iff}
+use Rattle.model.proofs.BoolLaws.{by-cases, eq-cases, eqb-iff}
 use Rattle.model.proofs.ListLaws.{any-snoc}
 use Rattle.plan_table.specs.Packed.{rowOf, kindIn, tagIn, leafBits}
 use Rattle.run_query.proofs.ReachLaws.{among-any}
+
+-- AXES: what is no other is the last
+pub last-axis : (a : ℕ) → a < 4 → (a ≡ 0 → ⊥) → (a ≡ 1 → ⊥) → (a ≡ 2 → ⊥) → 3 ≡ a
+last-axis a h x y z = omega (arith, x, y, z)
+
+-- an axis up by its depth
+pub up-axis : (a : ℕ) → a < 4 → (a ≡ 0 → ⊥) → (a ≡ 1 → ⊥) → 2 + bit (not (eqb a 2)) ≡ a
+up-axis a h x y = eq-cases a 2 (λ e. rw e) (λ z. rw (ne-eqb a 2 z) (last-axis a h x y z))
 
 -- TESTS
 module _ (w t n : ℕ) where
@@ -38,7 +46,8 @@ module _ (w t n : ℕ) where
         pass-no-leaf h = ap (admits (stepBy 0 t n)) (letter-element element) ∙ rw h
 
         pub pass-named : (t ≡ 2 → ⊥) → admits (stepBy 0 t n) (letterOf (rowOf w)) ≡ eqb (tagIn w) n
-        pass-named h = ap (admits (stepBy 0 t n)) (letter-element element) ∙ rw (ne-eqb t 0 some-test, ne-eqb t 1 no-element, ne-eqb t 2 h)
+        pass-named h = ap (admits (stepBy 0 t n)) (letter-element element) ∙ rw
+            (ne-eqb t 0 some-test, ne-eqb t 1 no-element, ne-eqb t 2 h)
 
 -- FLAGS: one item more
 pub among-snoc : (v : List ℕ) (j k : ℕ) → among k (v ++ (j ∷ [])) ≡ (among k v || eqb (j + 1) (k + 1))

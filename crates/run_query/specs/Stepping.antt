@@ -14,13 +14,19 @@ use Rattle.plan_table.specs.Flags.{Within, Flags}
 use Rattle.plan_table.specs.Packed.{decodeParts, linkIn}
 
 -- ITEMS flagged
-pub record FlagPre (fs v : List ℕ) : Type 0 where
+pub record FlagPre (fs v : List ℕ) (n : ℕ) : Type 0 where
   pub clear : fs ≡ replicate maxLinks 0
   pub low : Within v maxRows
+  pub few : n ≤ maxRows
 
 -- the flags are those of a value's rows
 abbrev pub Flagged : (value flags : List ℕ) → Type 0
 Flagged v fs = Flags (λ (k : ℕ). among k v) fs
+
+-- no row below a bound, at most the count, has a flag
+pub record ClearBelow (n low : ℕ) (fs : List ℕ) : Type 0 where
+  pub few : low ≤ n
+  pub clear : (k : ℕ) → k < low → getD fs (k + 1) 0 ≡ 0
 
 -- ONE ROW of a pass
 abbrev pub counted : (item reached : ℕ) → (deep : Bool) → Bool
@@ -32,9 +38,9 @@ pub record OnePre (w j : ℕ) (fs rs : List ℕ) : Type 0 where
   pub flags : length fs ≡ maxLinks
   pub reached : length rs ≡ maxLinks
 
--- a row on the way down: reached where its parent counts
-abbrev pub descended : (packed row : ℕ) → (deep : Bool) → (flags reached : List ℕ) → List ℕ
-descended w j d fs rs = cond (counted (getD fs (linkIn w) 0) (getD rs (linkIn w) 0) d) (set rs (j + 1) 1) rs
+-- a row on the way down: flagged where it counts by its parent's flag
+abbrev pub markedBy : (flags : List ℕ) → (row above : ℕ) → (deep : Bool) → List ℕ
+markedBy fs j a d = cond (counted 0 a d) (set fs (j + 1) 1) fs
 
 -- a row on the way up: where it counts, its parent is reached
 abbrev pub climbed : (packed row : ℕ) → (deep : Bool) → (flags reached : List ℕ) → List ℕ

@@ -1,3 +1,4 @@
-// What expressions find in a plan: steps to other rows, and picks among them.
-pub mod pick;
+// What steps find in a plan.
+pub mod index;
+pub mod item;
 pub mod step;

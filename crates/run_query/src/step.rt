@@ -8,8 +8,10 @@ ghost use Rattle.model.specs.Base.{bit};
 ghost use Rattle.model.specs.Script.{stepBy};
 ghost use Rattle.model.specs.Step.{admits, letterOf};
 ghost use Rattle.plan_table.specs.Packed.{rowOf};
-ghost use Rattle.run_query.specs.Stepping.{FlagPre, Flagged, counted, OnePre, descended, climbed, PassPre, Reached};
-ghost use Rattle.run_query.specs.Values.{kept, keptRows, CollectPre, Appended, StepPre, StepPost};
+ghost use Rattle.run_query.specs.Stepping.{FlagPre, Flagged, ClearBelow, counted, markedBy, OnePre, climbed, PassPre, Reached};
+ghost use Rattle.run_query.specs.Values.{kept, keptRows, CollectPre, Appended, DescendPre, DescendPost, StepPre, StepPost};
+ghost use Rattle.run_query.specs.Index.{IndexHeld};
+use crate::item;
 use plan_table::NameNumber;
 use plan_table::RowNumber;
 use plan_table::Table;
@@ -17,11 +19,11 @@ use plan_table::number;
 use plan_table::packed;
 
 // Axes; any other is the ancestors'.
-const CHILD: u8 = 0;
+pub const CHILD: u8 = 0;
 
 const DESCENDANT: u8 = 1;
 
-const PARENT: u8 = 2;
+pub const PARENT: u8 = 2;
 
 // Tests; any other is for the named element.
 const ANY_NODE: u8 = 0;
@@ -38,7 +40,7 @@ pub struct StepBy {
 }
 
 // The row's letter passes the test.
-fn passes(rows: &[u32], row: RowNumber, test: u8, name: NameNumber) -> bool
+pub fn passes(rows: &[u32], row: RowNumber, test: u8, name: NameNumber) -> bool
     requires { ⌜ row .0 < length (now rows) ⌝ }
     ensures { λ r. ⌜ r ≡ admits (stepBy 0 test (name .0)) (letterOf (rowOf (getD (now (rows .entry)) (row .0) 0))) ⌝ }
 {
@@ -59,17 +61,23 @@ fn passes(rows: &[u32], row: RowNumber, test: u8, name: NameNumber) -> bool
     packed::tag(w) == name.0 as u32
 }
 
-// Flags each item of a value.
-fn flag(flags: &mut [u8], items: &[u16])
-    requires { ⌜ FlagPre (now flags) (now items) ⌝ }
+// Flags each item of a value; no row below the answer, at most the count, has a flag.
+fn flag(flags: &mut [u8], items: &[u16], count: usize) -> usize
+    requires { ⌜ FlagPre (now flags) (now items) count ⌝ }
     ensures { λ r. ⌜ Flagged (now (items .entry)) (now (flags .exit)) ⌝ }
+    ensures { λ r. ⌜ ClearBelow count r (now (flags .exit)) ⌝ }
 {
+    let mut low = count;
     let mut k = 0;
     while k < items.len() {
         let at = number::index(items[k]);
         flags[at + 1] = 1;
+        if at < low {
+            low = at;
+        }
         k += 1;
     }
+    low
 }
 
 // Whether a row counts for the next: an item, or along a deep axis a row that is reached.
@@ -83,30 +91,6 @@ fn counts(flag: u8, reached: u8, deep: bool) -> bool
         return reached != 0;
     }
     false
-}
-
-// A row on the way down: reached where its parent counts.
-fn descend_one(w: u32, row: RowNumber, deep: bool, flags: &[u8], reached: &mut [u8])
-    requires { ⌜ OnePre w (row .0) (now flags) (now reached) ⌝ }
-    ensures { λ r. ⌜ now (reached .exit) ≡ descended w (row .0) deep (now (flags .entry)) (now (reached .entry)) ⌝ }
-{
-    let l = packed::link(w).0;
-    if !counts(flags[l], reached[l], deep) {
-        return;
-    }
-    reached[row.0 + 1] = 1;
-}
-
-// The rows below the items: children, or descendants along a deep axis. Parents are lower than their children.
-fn descend(rows: &[u32], count: usize, deep: bool, flags: &[u8], reached: &mut [u8])
-    requires { ⌜ PassPre (now rows) count (now flags) (now reached) ⌝ }
-    ensures { λ r. ⌜ Reached (now (rows .entry)) count (bit deep) (now (flags .entry)) (now (reached .exit)) ⌝ }
-{
-    let mut j = 0;
-    while j < count {
-        descend_one(rows[j], RowNumber(j), deep, flags, reached);
-        j += 1;
-    }
 }
 
 // A row on the way up: where it counts, its parent is reached.
@@ -134,27 +118,6 @@ fn climb(rows: &[u32], count: usize, deep: bool, flags: &[u8], reached: &mut [u8
     }
 }
 
-// The rows that an axis reaches from the flagged items.
-fn reach(rows: &[u32], count: usize, axis: u8, flags: &[u8], reached: &mut [u8])
-    requires { ⌜ axis < 4 ⌝ }
-    requires { ⌜ PassPre (now rows) count (now flags) (now reached) ⌝ }
-    ensures { λ r. ⌜ Reached (now (rows .entry)) count axis (now (flags .entry)) (now (reached .exit)) ⌝ }
-{
-    if axis == CHILD {
-        descend(rows, count, false, flags, reached);
-        return;
-    }
-    if axis == DESCENDANT {
-        descend(rows, count, true, flags, reached);
-        return;
-    }
-    if axis == PARENT {
-        climb(rows, count, false, flags, reached);
-        return;
-    }
-    climb(rows, count, true, flags, reached);
-}
-
 // A row is kept: it is reached and passes the test.
 fn keeps(rows: &[u32], row: RowNumber, flag: u8, test: u8, name: NameNumber) -> bool
     requires { ⌜ row .0 < length (now rows) ⌝ }
@@ -166,18 +129,19 @@ fn keeps(rows: &[u32], row: RowNumber, flag: u8, test: u8, name: NameNumber) -> 
     passes(rows, row, test, name)
 }
 
-// Appends an item to the value that ends at a place, if it is kept; the place past the value.
+// Appends an item to the value that ends at a place, if it is kept; the place past the value. It is stored in any case, so that no branch
+// is taken for it.
 pub fn append_if(keep: bool, item: RowNumber, work: &mut [u16], at: usize) -> usize
     requires { ⌜ item .0 < 65536 ⌝ }
     requires { ⌜ at < length (now work) ⌝ }
-    ensures { λ r. ⌜ now (work .exit) ≡ cond keep (set (now (work .entry)) at (item .0)) (now (work .entry)) ⌝ }
+    ensures { λ r. ⌜ now (work .exit) ≡ set (now (work .entry)) at (item .0) ⌝ }
     ensures { λ r. ⌜ r ≡ cond keep (at + 1) at ⌝ }
 {
-    if !keep {
-        return at;
-    }
     work[at] = item.0 as u16;
-    at + 1
+    if keep {
+        return at + 1;
+    }
+    at
 }
 
 // The rows that are reached and pass the test, in rising number, from a place on; the place past them.
@@ -204,24 +168,115 @@ fn collect(
     at
 }
 
+// Flags a row on the way down, where it counts for its children by its parent's flag `above`.
+fn mark(flags: &mut [u8], row: RowNumber, above: u8, deep: bool)
+    requires { ⌜ row .0 + 1 < length (now flags) ⌝ }
+    ensures { λ r. ⌜ now (flags .exit) ≡ markedBy (now (flags .entry)) (row .0) above deep ⌝ }
+{
+    if !counts(0, above, deep) {
+        return;
+    }
+    flags[row.0 + 1] = 1;
+}
+
+// The rows below the flagged items that pass the test: children, or descendants along a deep axis; the place past them. One pass, since
+// parents are lower than their children: a row that counts for its children is flagged before they are looked at.
+fn descend(
+    rows: &[u32],
+    count: usize,
+    deep: bool,
+    flags: &mut [u8],
+    low: usize,
+    test: u8,
+    name: NameNumber,
+    work: &mut [u16],
+    from: usize,
+) -> usize
+    requires { ⌜ DescendPre (now rows) count (now flags) low (now work) from ⌝ }
+    ensures { λ r. ⌜ DescendPost (now (rows .entry)) count (stepBy (bit deep) test (name .0)) (now (flags .entry)) (now (work .entry)) from
+        (now (work .exit)) r ⌝ }
+{
+    let mut at = from;
+    let mut j = low;
+    while j < count {
+        let l = packed::link(rows[j]).0;
+        let above = flags[l];
+        mark(flags, RowNumber(j), above, deep);
+        let keep = keeps(rows, RowNumber(j), above, test, name);
+        at = append_if(keep, RowNumber(j), work, at);
+        j += 1;
+    }
+    at
+}
+
+// A step down from the value at a place.
+fn rows_below(
+    rows: &[u32],
+    count: usize,
+    deep: bool,
+    test: u8,
+    name: NameNumber,
+    work: &mut [u16],
+    from: usize,
+    to: usize,
+) -> usize
+    requires { ⌜ StepPre (now rows) count (bit deep) (now work) from to ⌝ }
+    ensures { λ r. ⌜ StepPost (now (rows .entry)) count (stepBy (bit deep) test (name .0)) (now (work .entry)) from to
+        (now (work .exit)) r ⌝ }
+{
+    let mut flags = [0u8; Table::LINKS];
+    let low = flag(&mut flags, &work[from..to], count);
+    descend(rows, count, deep, &mut flags, low, test, name, work, from)
+}
+
+// A step up from the value at a place.
+fn rows_above(
+    rows: &[u32],
+    count: usize,
+    deep: bool,
+    test: u8,
+    name: NameNumber,
+    work: &mut [u16],
+    from: usize,
+    to: usize,
+) -> usize
+    requires { ⌜ StepPre (now rows) count (2 + bit deep) (now work) from to ⌝ }
+    ensures { λ r. ⌜ StepPost (now (rows .entry)) count (stepBy (2 + bit deep) test (name .0)) (now (work .entry)) from to
+        (now (work .exit)) r ⌝ }
+{
+    let mut flags = [0u8; Table::LINKS];
+    let mut reached = [0u8; Table::LINKS];
+    flag(&mut flags, &work[from..to], count);
+    climb(rows, count, deep, &flags, &mut reached);
+    collect(rows, count, &reached, test, name, work, from)
+}
+
 // A step from the value at a place, which its rows then take; the place past them.
 pub fn stepped(
     rows: &[u32],
     count: usize,
+    index: &[u16],
     by: StepBy,
     work: &mut [u16],
     from: usize,
     to: usize,
 ) -> usize
     requires { ⌜ StepPre (now rows) count (by .axis) (now work) from to ⌝ }
+    requires { ⌜ IndexHeld (now index) (now rows) count ⌝ }
     ensures { λ r. ⌜ StepPost (now (rows .entry)) count (stepBy (by .axis) (by .test) (by .name .0)) (now (work .entry)) from to
         (now (work .exit)) r ⌝ }
 {
-    let mut flags = [0u8; Table::LINKS];
-    let mut reached = [0u8; Table::LINKS];
-    flag(&mut flags, &work[from..to]);
-    reach(rows, count, by.axis, &flags, &mut reached);
     let test = by.test;
     let name = by.name;
-    collect(rows, count, &reached, test, name, work, from)
+    if by.axis == DESCENDANT {
+        return rows_below(rows, count, true, test, name, work, from, to);
+    }
+    if to - from == 1 {
+        let row = number::index(work[from]);
+        return item::from_one(rows, count, index, by, RowNumber(row), work, from);
+    }
+    if by.axis == CHILD {
+        return rows_below(rows, count, false, test, name, work, from, to);
+    }
+    rows_above(rows, count, by.axis != PARENT, test, name, work, from, to)
 }

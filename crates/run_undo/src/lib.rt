@@ -7,7 +7,7 @@ use plan_table::TableResult;
 use plan_table::fit;
 use plan_table::results;
 
-mod undoing;
+pub mod undoing;
 
 // Takes a run back by its history. An ill-formed table is 6; refused, the table is as it was.
 pub fn undo(table: Table, history: &[u8]) -> TableResult
@@ -17,13 +17,8 @@ pub fn undo(table: Table, history: &[u8]) -> TableResult
     if !fit::fits(count, &table.rows, &table.marks) {
         return results::refused(Refusal::LINK, 0, table);
     }
-    let mut places = [0u16; Table::HISTORY_RECORDS];
-    let form = undoing::form(history, &mut places);
-    if form.number != 0 {
-        return results::refused(form.number, form.place, table);
-    }
     let mut rows = table.rows;
-    let back = undoing::undo_all(&mut rows, &table.marks, count, history, &places, form.count);
+    let back = undoing::fitting(&mut rows, &table.marks, count, history);
     if back.number != 0 {
         return results::refused(back.number, back.place, table);
     }

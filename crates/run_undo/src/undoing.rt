@@ -7,8 +7,11 @@ ghost use Rattle.model.specs.History.{madeLeafKind, madeSize, cutSize};
 ghost use Rattle.model.specs.Limits.{maxHistory};
 ghost use Rattle.model.specs.Stored.{parentIn, numberAt};
 ghost use Rattle.model.specs.Undo.{sameBool, sameParent, madeFits, cutFits};
-ghost use Rattle.plan_table.specs.Packed.{kindIn, leafBits, ofLink, decodeParts};
+ghost use Rattle.plan_table.specs.Packed.{kindIn, leafBits, ofLink, decodeParts, tableOf};
+ghost use Rattle.plan_table.specs.Fitting.{FittingParts};
+ghost use Rattle.plan_table.specs.Results.{leftBy};
 ghost use Rattle.run_undo.specs.Undoing.{FormPost, PlacesPost, FitPre, rowMade, BackPre, BackPost, AllPre, AllPost};
+ghost use Rattle.run_undo.specs.Undoing.{planUndone};
 use plan_table::End;
 use plan_table::Link;
 use plan_table::Refusal;
@@ -45,7 +48,7 @@ fn form_refusal(s: &[u8], records: usize) -> u8
 }
 
 // The form of the whole history; the places of its records.
-pub fn form(bytes: &[u8], places: &mut [u16]) -> End
+fn form(bytes: &[u8], places: &mut [u16]) -> End
     requires { ⌜ length (now places) ≡ maxHistory ⌝ }
     ensures { λ r. ⌜ PlacesPost (now (bytes .entry)) (now (places .exit)) r ⌝ }
 {
@@ -174,7 +177,7 @@ fn undo_record(rows: &mut [u32], marks: &[u16], count: usize, s: &[u8]) -> End
 }
 
 // Every record undone, the last first.
-pub fn undo_all(
+fn undo_all(
     rows: &mut [u32],
     marks: &[u16],
     count: usize,
@@ -206,4 +209,18 @@ pub fn undo_all(
         place: 0,
         count: left,
     }
+}
+
+// Takes a run back on the rows of a table that fits; refused, what they then hold is not said.
+pub fn fitting(rows: &mut [u32], marks: &[u16], count: usize, bytes: &[u8]) -> End
+    requires { ⌜ FittingParts count (now rows) (now marks) ⌝ }
+    ensures { λ r. ⌜ leftBy (tableOf count (now (rows .entry)) (now (marks .entry))) r (now (rows .exit)) (now (marks .entry)) ≡
+        planUndone (tableOf count (now (rows .entry)) (now (marks .entry))) (now (bytes .entry)) ⌝ }
+{
+    let mut places = [0u16; Table::HISTORY_RECORDS];
+    let read = form(bytes, &mut places);
+    if read.number != 0 {
+        return read;
+    }
+    undo_all(rows, marks, count, bytes, &places, read.count)
 }

@@ -13,8 +13,9 @@ use Rattle.model.specs.Run.{State, state, Out, refused, gives, thenRow}
 use Rattle.model.proofs.BoolLaws.{cond-eq, cond-ne}
 use Rattle.model.specs.Table.{Tree}
 use Rattle.model.specs.Base.{nothing, over}
-use Rattle.plan_table.specs.Packed.{decodeParts, partsFit, Canonical}
+use Rattle.plan_table.specs.Packed.{decodeParts, partsFit, Canonical, LinksCut}
 use Rattle.plan_table.proofs.PackedLaws.{count-decode}
+use Rattle.plan_table.proofs.LinkLaws.{links-same, links-then}
 use Rattle.model.proofs.ListLaws.{length-over}
 use Rattle.model.specs.Limits.{maxRows, maxHistory, historyNeed}
 use Rattle.plan_table.proofs.FittedLaws.{fits-at}
@@ -48,9 +49,10 @@ module _ {ws h : List ℕ} {p : Progress} (held : Held ws h p) (r : Record) (n :
 
   -- beside it the rows are others, and no fewer
   pub append-after : {t : Tally} → Recorded (take (p .bytes) h ++ recordBytes r) t → t .records ≡ p .tally .records + 1 →
-      {ws′ : List ℕ} {c : ℕ} → length ws′ ≡ length ws → p .count ≤ c → c ≤ maxRows → Canonical c ws′ → Tree (decodeParts c ws′ []) →
+      {ws′ : List ℕ} {c : ℕ} → length ws′ ≡ length ws → p .count ≤ c → LinksCut (p .count) ws ws′ → c ≤ maxRows → Canonical c ws′ →
+      Tree (decodeParts c ws′ []) →
       After ws h p ws′ (over (p .bytes) (recordBytes r) h) (record { number = 0; count = c; bytes = p .bytes + n; tally = t })
-  append-after {t} recorded more rows grown few canonical tree =
+  append-after {t} recorded more rows grown links few canonical tree =
       record {
         held =
             record {
@@ -64,6 +66,7 @@ module _ {ws h : List ℕ} {p : Progress} (held : Held ws h p) (r : Record) (n :
               history = subst (λ (b : List ℕ). Recorded b t) (sym append-written) recorded;
             };
         rows = grown;
+        links = links;
         bytes = omega arith;
         area = append-area;
         rest = append-rest;
@@ -101,8 +104,8 @@ state-start n ws ms h = refl
 
 -- ONE AFTER THE OTHER
 pub after-self : {ws h : List ℕ} {p : Progress} → Held ws h p → After ws h p ws h p
-after-self a =
-    record { held = a; rows = omega arith; bytes = omega arith; area = refl; rest = λ k l. refl }
+after-self {ws} {h} {p} a =
+    record { held = a; rows = omega arith; links = links-same (p .count) ws; bytes = omega arith; area = refl; rest = λ k l. refl }
 
 pub after-then : {ws₀ h₀ : List ℕ} {p₀ : Progress} {ws h : List ℕ} {p : Progress} {ws′ h′ : List ℕ} {r : Progress} →
     After ws₀ h₀ p₀ ws h p → After ws h p ws′ h′ r → After ws₀ h₀ p₀ ws′ h′ r
@@ -110,6 +113,7 @@ after-then {p = p} a b =
     record {
       held = b .held;
       rows = omega (arith, a .rows, b .rows);
+      links = links-then (a .rows) (a .links) (b .links);
       bytes = omega (arith, a .bytes, b .bytes);
       area = b .area ∙ a .area;
       rest = λ k l. let g : p .bytes ≤ k = omega (arith, b .bytes) in b .rest k l ∙ a .rest k g;

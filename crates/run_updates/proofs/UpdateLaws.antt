@@ -24,6 +24,7 @@ use Rattle.plan_table.specs.Packed.{linkOf, rowOf, packRow, isPackedRow, withLi
 use Rattle.plan_table.proofs.PackedLaws.{linkOf-ofLink, rowOf-packRow, packRow-rowOf, isPackedRow-packRow, canonical-push}
 use Rattle.plan_table.proofs.PackedLaws.{decode-linked, canonical-linked}
 use Rattle.plan_table.proofs.DecodeLaws.{decode-row, parent-linked, parent-at}
+use Rattle.plan_table.proofs.LinkLaws.{links-set, links-cut}
 use Rattle.run_updates.specs.Tallying.{plusMade, plusCut}
 use Rattle.run_updates.specs.declared.tally.Tally.{Tally}
 use Rattle.run_updates.specs.State.{recordsIn, stateOf, outcome, Held, After, Updated, refusedWith}
@@ -108,7 +109,7 @@ module _ {ws h : List ℕ} {p : Progress} {w : ℕ} (pre : NewPre ws h p w) wher
     after-made =
         append-after (pre .held) entry madeSize entry-size (omega arith) m
         (recorded-made (take (p .bytes) h) (p .tally) (pre .held .history) entry entry-range refl m) refl
-        (length-set ws (p .count) w) (omega arith) (omega arith)
+        (length-set ws (p .count) w) (omega arith) (links-set (p .count) ws w) (omega arith)
         (subst (λ (j : ℕ). Canonical (p .count + 1) (set ws (p .count) j)) (packRow-rowOf w (pre .packed))
         (canonical-push (p .count) ws (rowOf w) l (pre .held .rows) new-link (pre .held .canonical)))
         (subst (λ (x : model.Table). Tree x) (sym (table-made []))
@@ -224,7 +225,8 @@ module _ {ws h : List ℕ} {p : Progress} {i : ℕ} (pre : CutPre ws h p i) wher
       after-cut =
           append-after (pre .held) cutEntry cutSize refl (omega arith) m
           (recorded-cut (take (p .bytes) h) (p .tally) (pre .held .history) cutEntry cutIn refl m) refl
-          (length-set ws i cutPacked) (omega arith) (pre .held .few)
+          (length-set ws i cutPacked) (omega arith) (links-cut (p .count) ws i (omega (arith, held-within (pre .held), pre .row)))
+          (pre .held .few)
           (canonical-linked (p .count) ws (pre .held .canonical) (held-within (pre .held)) i (pre .row) 0 (omega arith))
           (subst (λ (x : model.Table). Tree x) (sym (table-cut []))
           (tree-linked (decodeParts (p .count) ws []) i none (pre .held .tree)

@@ -10,7 +10,7 @@ use Rattle.model.specs.Refusal.{refusal}
 use Rattle.model.specs.History.{Record, isCut, times, AllInRange, historyBytes, historySize, recordIn, madeSize}
 use Rattle.model.specs.Run.{State, state, Out, refused, gives}
 use Rattle.model.specs.Table.{Tree}
-use Rattle.plan_table.specs.Packed.{decodeParts, Canonical}
+use Rattle.plan_table.specs.Packed.{decodeParts, Canonical, LinksCut}
 use Rattle.run_updates.specs.Tallying.{noneYet}
 use Rattle.run_updates.specs.declared.tally.Tally.{Tally}
 use Rattle.run_updates.specs.declared.state.Progress.{Progress}
@@ -58,10 +58,11 @@ pub record Held (ws h : List ℕ) (p : Progress) : Type 0 where
   pub size : p .bytes ≤ madeSize * p .tally .records
   pub history : Recorded (take (p .bytes) h) (p .tally)
 
--- AFTER some updates: rows and records are only added, and the area past the records is as it was
+-- AFTER some updates: rows and records are only added, links only cut, and the area past the records is as it was
 pub record After (ws h : List ℕ) (p : Progress) (ws′ h′ : List ℕ) (r : Progress) : Type 0 where
   pub held : Held ws′ h′ r
   pub rows : p .count ≤ r .count
+  pub links : LinksCut (p .count) ws ws′
   pub bytes : p .bytes ≤ r .bytes
   pub area : length h′ ≡ length h
   pub rest : (k : ℕ) → r .bytes ≤ k → drop k h′ ≡ drop k h

@@ -5,6 +5,7 @@ use mathlib.Core.List.{List}
 use Prim.Native.Nat.{ℕ, _≤_}
 use lib.ListN.{length, replicate}
 use borrow.Author.Tests.{eq-eqb, ne-eqb}
+use Rattle.model.specs.Call.{areasFit}
 use Rattle.model.specs.Refusal.{values}
 use Rattle.plan.specs.Calls as library
 use Rattle.plan_table.specs.declared.TableResult.{TableResult}
@@ -25,6 +26,10 @@ module _ (p s a h w o d : List ℕ) (b : Bool)
   -- where no area is too short, done takes six numbers
   pub six-fit : b ≡ true → doneNeed ≤ length d
   six-fit f = long-enough (length a) (length h) (length w) (length o) (length d) (sym fit ∙ f) .2
+
+  -- and the run's three areas are long enough
+  pub three-fit : b ≡ true → areasFit a h w ≡ true
+  three-fit f = long-enough (length a) (length h) (length w) (length o) (length d) (sym fit ∙ f) .0
 
   pub call-short : (c : ℕ) → c ≡ codeOf lentValues → b ≡ false → Leaves c a h w o d (runCalled p s a h w o d)
   call-short c e f = subst (Leaves c a h w o d) (sym (the-call (sym fit ∙ f))) (e, (refl, (refl, (refl, (refl, refl)))))

@@ -11,6 +11,11 @@ use c_codes::answer::SCRIPT;
 use c_lent::OUT;
 use c_lent::done;
 use paths::Analysis;
+use plan_reader::read;
+use plan_sweep::sweep;
+use plan_table::Table;
+use run::lent;
+use run_undo::undoing;
 
 // Reads a plan and writes it back to out, which needs room for any plan.
 #[no_mangle]
@@ -21,8 +26,13 @@ pub extern "C" fn yegnabit_plan(plan: &[u8], out: &mut [u8]) -> u64
     if out.len() < OUT {
         return answer::lent_short();
     }
-    let read = plan::read_plan(plan);
-    answer::finish(read, PLAN, out)
+    let mut rows = [0u32; Table::ROWS];
+    let mut marks = [0u16; Table::DOCUMENTS];
+    let read = read::records(plan, &mut rows, &mut marks);
+    if read.number != 0 {
+        return answer::code(read.number, PLAN, read.place);
+    }
+    answer::finish(read.count, &rows, &marks, out)
 }
 
 // Reads a plan, sweeps it, and writes it to out.
@@ -34,13 +44,15 @@ pub extern "C" fn yegnabit_sweep(plan: &[u8], out: &mut [u8]) -> u64
     if out.len() < OUT {
         return answer::lent_short();
     }
-    let read = plan::read_plan(plan);
-    let number = read.refusal.number;
-    if number != 0 {
-        return answer::code(number, PLAN, read.refusal.place);
+    let mut rows = [0u32; Table::ROWS];
+    let mut marks = [0u16; Table::DOCUMENTS];
+    let read = read::records(plan, &mut rows, &mut marks);
+    if read.number != 0 {
+        return answer::code(read.number, PLAN, read.place);
     }
-    let swept = plan_sweep::sweep_table(read.table);
-    answer::finish(swept, PLAN, out)
+    let mut swept = [0u32; Table::ROWS];
+    let kept = sweep::fitting(read.count, &rows, &mut marks, &mut swept);
+    answer::finish(kept, &swept, &marks, out)
 }
 
 // Reads a plan, takes a run back by its history, and writes it to out.
@@ -52,13 +64,17 @@ pub extern "C" fn yegnabit_undo(plan: &[u8], history: &[u8], out: &mut [u8]) -> 
     if out.len() < OUT {
         return answer::lent_short();
     }
-    let read = plan::read_plan(plan);
-    let number = read.refusal.number;
-    if number != 0 {
-        return answer::code(number, PLAN, read.refusal.place);
+    let mut rows = [0u32; Table::ROWS];
+    let mut marks = [0u16; Table::DOCUMENTS];
+    let read = read::records(plan, &mut rows, &mut marks);
+    if read.number != 0 {
+        return answer::code(read.number, PLAN, read.place);
     }
-    let undone = run_undo::undo(read.table, history);
-    answer::finish(undone, SCRIPT, out)
+    let back = undoing::fitting(&mut rows, &marks, read.count, history);
+    if back.number != 0 {
+        return answer::code(back.number, SCRIPT, back.place);
+    }
+    answer::finish(back.count, &rows, &marks, out)
 }
 
 // Reads a plan, runs a script on it in the lent areas, and writes the plan as it then is to out. done takes six numbers: items of the
@@ -96,17 +112,16 @@ pub extern "C" fn yegnabit_run(
     ) {
         return answer::lent_short();
     }
-    let read = plan::read_plan(plan);
-    let number = read.refusal.number;
-    let place = read.refusal.place;
-    if number != 0 {
+    let mut rows = [0u32; Table::ROWS];
+    let mut marks = [0u16; Table::DOCUMENTS];
+    let read = read::records(plan, &mut rows, &mut marks);
+    if read.number != 0 {
         done::clear(answer, history, work);
         done::put_done(done, 0, 0, 0, 0, 0, 0);
-        return answer::code(number, PLAN, place);
+        return answer::code(read.number, PLAN, read.place);
     }
-    let t = read.table;
-    let ran = run::run(t, script, answer, history, work);
-    done::end(ran, out, done)
+    let ended = lent::fitting(&mut rows, &marks, read.count, script, answer, history, work);
+    done::end(ended, &rows, &marks, out, done)
 }
 
 // Analyses two scripts: a refusal is the first's, which 1, or the second's, which 2; else which is the answer: 0 free, 1 upward, 2 meet.

@@ -35,7 +35,9 @@ const ONE: [u8; 2] = [kind::DOCUMENT, 0];
 pub fn test(random: &mut Random, volume: Volume) -> Result<(), Difference> {
     let wide = to_vec(&star(ROWS));
     let few = to_vec(&star(FEW_ROWS));
+    let tenth = tenth_leaf(&wide);
     let mut cases: Vec<(&[u8], Vec<u8>)> = deepest().map(|script| (&wide[..], script)).collect();
+    cases.push((&tenth, most_frames()));
     for _ in 0..volume.of(300) {
         let wanted = Wanted {
             names: 1,
@@ -59,6 +61,33 @@ pub fn test(random: &mut Random, volume: Volume) -> Result<(), Difference> {
         }
     }
     Ok(())
+}
+
+/// The plan with the value 1 in its tenth leaf, and 0 in the others.
+fn tenth_leaf(plan: &[u8]) -> Vec<u8> {
+    let mut plan = plan.to_vec();
+    for (number, row) in plan.chunks_mut(4).enumerate().take(ROWS).skip(1) {
+        row[1] = u8::from(number == 10);
+    }
+    plan
+}
+
+/// Eight loops inside one another, each with as many frames as a loop takes:
+/// it comes to the tenth of 512 items with most. There the next loop is over
+/// all leaves and the item once more, else over the item alone.
+fn most_frames() -> Vec<u8> {
+    let mut script = [&[kind::FOR][..], &ALL].concat();
+    for item in 0..BINDERS as u8 - 1 {
+        let from_tenth = [kind::PICK, 0, 1, kind::VARIABLE, item];
+        let below_root = [kind::STEP, 1, 0, 0, kind::STEP, 3, 0, 0];
+        script.extend([kind::FOR, kind::JOIN]);
+        script.extend(below_root.iter().chain(&from_tenth));
+        script.extend([kind::VARIABLE, item]);
+    }
+    script.extend([kind::DELETE; DEPTH - BINDERS - 2]);
+    script.extend([kind::INSERT, kind::EMPTY, kind::DOCUMENT, 0]);
+    assert!(read(&script).is_ok());
+    script
 }
 
 /// Eight binders, and below them records of one kind down to depth 16. Where

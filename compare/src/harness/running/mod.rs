@@ -2,6 +2,7 @@
 
 mod check;
 mod deep;
+mod loops;
 mod orders;
 mod shares;
 mod worked;
@@ -35,6 +36,9 @@ pub fn test(checker: &mut Checker, volume: Volume) -> Result<(), Difference> {
     for _ in 0..volume.of(120_000) {
         let Case { plan, script } = case(&mut random);
         runs.run_and_back(&to_vec(&plan), &script)?;
+    }
+    for _ in 0..volume.of(20_000) {
+        loops::test(&mut runs, &mut random)?;
     }
     for _ in 0..volume.of(7500) {
         refused(&mut runs, &mut random)?;

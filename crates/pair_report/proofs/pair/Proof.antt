@@ -1,5 +1,10 @@
 -- `pair` answers and leaves what `pairText` says: an area too short, a refused file, or three lines.
+use mathlib.Core.Path.{_∙_, ap}
 use native.Mathlib.Omega.{arith}
+use Rattle.plan_table.specs.Packed.{fits}
+use Rattle.plan_table.specs.declared.TableResult.{TableResult}
+use Rattle.plan_table.proofs.ByteLaws.{bytes-known}
+use Rattle.plan.proofs.ReadPlanLaws.{read-fits}
 use Rattle.pair_report.proofs.PairLaws.{area-short, plan-refused, plan-read}
 use borrow.Author.Needs.{needs}
 use Rattle.pair_report.proofs.pair.Statement.{statement}
@@ -43,7 +48,15 @@ analyse-requires : tie.Need-analyse-requires
 analyse-requires c κs = search needs
 
 answer-lines-requires : tie.Need-answer-lines-requires
-answer-lines-requires c κs = search needs
+answer-lines-requires c κs =
+    let c5 = c .before .before .before .before .before in
+    let c6 = c5 .before in
+    let c10 = c6 .before .before .before .before in
+    let c11 = c10 .before in (
+      omega (arith, c6 .if1 .left),
+      ap (λ (q : TableResult). fits (q .table)) (c5 .read-plan .ensures) ∙
+          read-fits (c11 .args .plan .now) (bytes-known (c11 .args .plan .now) (λ i. c10 .shared-slice-known .given i .fits)),
+    )
 
 written-requires-3 : tie.Need-written-requires-3
 written-requires-3 c κs = search needs

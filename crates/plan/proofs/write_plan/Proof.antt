@@ -2,9 +2,13 @@
 use mathlib.Core.Path.{_∙_, sym}
 use borrow.Author.Tests.{not-true, not-false}
 use borrow.Author.Needs.{needs}
+use Rattle.plan_table.specs.Fitting.{TableSizes}
 use Rattle.plan_writer.proofs.WritePlanLaws.{write-unfit}
 use Rattle.plan.proofs.write_plan.Statement.{statement}
 use Rattle.plan.proofs.write_plan.Tie as tie
+
+size : (c : tie.Start) → TableSizes (c .args .t1 .rows) (c .args .t1 .marks)
+size c = search needs
 
 fits-requires : tie.Need-fits-requires
 fits-requires c κs = search needs
@@ -21,7 +25,11 @@ returns c =
     (c .written .ensures ∙ refused .0, refused .1)
 
 fitting-requires : tie.Need-fitting-requires
-fitting-requires c κs = sym (c .before .before .fits2 .ensures) ∙ not-false (c .before .before .fits2 .result) (c .before .if1 .left)
+fitting-requires c κs =
+    let c6 = c .before .before .before .before .before .before in
+    let c7 = c6 .before in
+    let c14 = c7 .before .before .before .before .before .before .before in
+    record { size = size (c14); fits = sym (c7 .fits2 .ensures) ∙ not-false (c7 .fits2 .result) (c6 .if1 .left) }
 
 same-length : tie.Need-same-length
 same-length c = search needs
@@ -30,4 +38,6 @@ returns-2 : tie.Need-returns-2
 returns-2 c = search needs
 
 pub write-plan-spec : {M : Type 1} → statement M
-write-plan-spec = tie.close (tie.spec fits-requires written-requires returns fitting-requires same-length returns-2)
+write-plan-spec =
+    tie.close
+    (tie.spec fits-requires written-requires returns fitting-requires same-length returns-2)

@@ -1,12 +1,14 @@
--- `run`: 11 where an area is too short, else the run in cleared areas.
-use borrow.Author.Needs.{needs}
+-- `run`: 11 where an area is too short, 6 where the table is ill formed, else the run on the table's rows.
 use borrow.Author.Tests.{not-true, not-false}
+use mathlib.Core.Path.{sym, _∙_}
+use Rattle.plan_table.specs.Fitting.{TableSizes}
+use Rattle.run.proofs.CallLaws.{short-result, ill-done, back-refused, back-fine}
+use borrow.Author.Needs.{needs}
 use Rattle.run.proofs.run.Statement.{statement}
 use Rattle.run.proofs.run.Tie as tie
-use mathlib.Core.Path.{ap, _∙_}
-use Prim.Native.Nat.{ℕ}
-use lib.ListN.{replicate}
-use Rattle.run.proofs.CallLaws.{short-result, cleared-pre, run-done}
+
+size : (c : tie.Start) → TableSizes (c .args .t1 .rows) (c .args .t1 .marks)
+size c = search needs
 
 fit-requires : tie.Need-fit-requires
 fit-requires c κs = search needs
@@ -16,11 +18,13 @@ refused-requires c κs = search needs
 
 returns : tie.Need-returns
 returns c =
-    let c2 = c .before .before in
-    let x = c2 .before .before .before .before .before .args in
-    let r = short-result (x .table) (x .script .now) (x .answer .now) (x .history .now) (x .work .now) (c2 .fit .ensures)
-    (not-true (c2 .fit .result) (c .before .if1 .taken)) (c .refused .ensures) in
-    (r .0, (r .1, (r .2, r .3)))
+    let c7 = c .before .before .before .before .before .before .before in
+    let x = c7 .args in
+    short-result (x .t1) (x .script .now) (x .answer .now) (x .history .now) (x .work .now)
+    (sym (c .before .before .fit .ensures) ∙ not-true (c .before .before .fit .result) (c .before .if1 .taken)) (c .refused .ensures)
+
+fits-requires : tie.Need-fits-requires
+fits-requires c κs = search needs
 
 clear-numbers-requires : tie.Need-clear-numbers-requires
 clear-numbers-requires c κs = search needs
@@ -28,48 +32,93 @@ clear-numbers-requires c κs = search needs
 clear-bytes-requires : tie.Need-clear-bytes-requires
 clear-bytes-requires c κs = search needs
 
-run-in-requires : tie.Need-run-in-requires
-run-in-requires c κs =
-    let c5 = c .before .before .before .before .before in
-    let c9 = c5 .before .before .before .before in
-    let c11 = c9 .before .before in
-    let c12 = c11 .before in
-    let x = c12 .before .before .before .before .before .args in
-    cleared-pre (x .table) (x .script .now) (x .answer .now) (x .history .now) (x .work .now) (c12 .fit .ensures)
-    (not-false (c12 .fit .result) (c11 .if1 .left)) (c9 .clear-numbers .ensures) (c5 .clear-bytes .ensures)
-
 clear-numbers-requires-2 : tie.Need-clear-numbers-requires-2
 clear-numbers-requires-2 c κs = search needs
 
+refused-requires-2 : tie.Need-refused-requires-2
+refused-requires-2 c κs = search needs
+
 same-length : tie.Need-same-length
-same-length c =
-    let c10 = c .before .before .before .before .before .before .before .before .before .before in
-    let c20 = c10 .before .before .before .before .before .before .before .before .before .before in
-    c10 .run-in .kept .1 .1 .0 ∙ c20 .clear-numbers .kept .0
+same-length c = search needs
 
 same-length-2 : tie.Need-same-length-2
-same-length-2 c =
-    let c10 = c .before .before .before .before .before .before .before .before .before .before in
-    let c16 = c10 .before .before .before .before .before .before in
-    c10 .run-in .kept .1 .1 .1 .0 ∙ c16 .clear-bytes .kept .0
+same-length-2 c = search needs
 
 same-length-3 : tie.Need-same-length-3
-same-length-3 c =
-    let c10 = c .before .before .before .before .before .before .before .before .before .before in
-    c .before .before .clear-numbers2 .kept .0 ∙ c10 .run-in .kept .1 .1 .1 .1 .0
+same-length-3 c = search needs
 
 returns-2 : tie.Need-returns-2
 returns-2 c =
+    let c3 = c .before .before .before in
+    let c7 = c3 .before .before .before .before in
+    let c11 = c7 .before .before .before .before in
+    let c13 = c11 .before .before in
+    let c14 = c13 .before in
+    let c20 = c14 .before .before .before .before .before .before in
+    let c21 = c20 .before in
+    let c26 = c21 .before .before .before .before .before in
+    let x = c26 .args in
+    ill-done (x .t1) (x .script .now) (x .answer .now) (x .history .now) (x .work .now)
+    (sym (c21 .fit .ensures) ∙ not-false (c21 .fit .result) (c20 .if1 .left))
+    (sym (c14 .fits2 .ensures) ∙ not-true (c14 .fits2 .result) (c13 .if2 .taken))
+    (c .refused2 .ensures) (c11 .clear-numbers .ensures) (c7 .clear-bytes .ensures) (c3 .clear-numbers2 .ensures)
+
+slice-aggregate-fitting : tie.Need-slice-aggregate-fitting
+slice-aggregate-fitting c = search needs
+
+fitting-requires : tie.Need-fitting-requires
+fitting-requires c κs =
+    let c8 = c .before .before .before .before .before .before .before .before in
+    let c9 = c8 .before in
+    let c15 = c9 .before .before .before .before .before .before in
+    let c16 = c15 .before in
+    let c21 = c16 .before .before .before .before .before in (
+      record { size = size (c21); fits = sym (c9 .fits2 .ensures) ∙ not-false (c9 .fits2 .result) (c8 .if2 .left) },
+      sym (c16 .fit .ensures) ∙ not-false (c16 .fit .result) (c15 .if1 .left),
+    )
+
+given-back-requires : tie.Need-given-back-requires
+given-back-requires c κs = search needs
+
+same-length-4 : tie.Need-same-length-4
+same-length-4 c = search needs
+
+same-length-5 : tie.Need-same-length-5
+same-length-5 c = search needs
+
+same-length-6 : tie.Need-same-length-6
+same-length-6 c = search needs
+
+returns-3 : tie.Need-returns-3
+returns-3 c =
     let c10 = c .before .before .before .before .before .before .before .before .before .before in
-    let c16 = c10 .before .before .before .before .before .before in
-    let c20 = c16 .before .before .before .before in
-    let c22 = c20 .before .before in
-    let c23 = c22 .before in
-    let x = c23 .before .before .before .before .before .args in
-    let r = run-done (x .table) (x .script .now) (x .answer .now) (x .history .now) (x .work .now) (c23 .fit .ensures)
-    (not-false (c23 .fit .result) (c22 .if1 .left)) (c20 .clear-numbers .ensures) (c16 .clear-bytes .ensures) (c10 .run-in .ensures)
-    (c .before .before .clear-numbers2 .ensures ∙ ap (λ (j : ℕ). replicate j 0) (c10 .run-in .kept .1 .1 .1 .1 .0)) in
-    (r .0, (r .1, (r .2, r .3)))
+    let c24 = c10 .before .before .before .before .before .before .before .before .before .before .before .before .before .before in
+    let c32 = c24 .before .before .before .before .before .before .before .before in (
+      c .given-back .ensures ∙ back-refused (c32 .args .t1) (c10 .fitting .result) _ (c .before .if3 .taken) ∙ c10 .fitting .ensures .0,
+      c10 .fitting .ensures .1,
+    )
+
+given-back-requires-2 : tie.Need-given-back-requires-2
+given-back-requires-2 c κs = search needs
+
+same-length-7 : tie.Need-same-length-7
+same-length-7 c = search needs
+
+same-length-8 : tie.Need-same-length-8
+same-length-8 c = search needs
+
+same-length-9 : tie.Need-same-length-9
+same-length-9 c = search needs
+
+returns-4 : tie.Need-returns-4
+returns-4 c =
+    let c11 = c .before .before .before .before .before .before .before .before .before .before .before in
+    let c25 = c11 .before .before .before .before .before .before .before .before .before .before .before .before .before .before in
+    let c33 = c25 .before .before .before .before .before .before .before .before in (
+      c .given-back2 .ensures ∙ back-fine (c33 .args .t1) (c11 .fitting .result) _ (c .before .before .if3 .left) ∙
+          c11 .fitting .ensures .0,
+      c11 .fitting .ensures .1,
+    )
 
 pub run-spec : {M : Type 1} → statement M
 run-spec =
@@ -78,11 +127,24 @@ run-spec =
     fit-requires
     refused-requires
     returns
+    fits-requires
     clear-numbers-requires
     clear-bytes-requires
-    run-in-requires
     clear-numbers-requires-2
+    refused-requires-2
     same-length
     same-length-2
     same-length-3
-    returns-2)
+    returns-2
+    slice-aggregate-fitting
+    fitting-requires
+    given-back-requires
+    same-length-4
+    same-length-5
+    same-length-6
+    returns-3
+    given-back-requires-2
+    same-length-7
+    same-length-8
+    same-length-9
+    returns-4)

@@ -22,12 +22,15 @@ abbrev μ-loop : tie.MeasureT-loop
 
 loop-holds : tie.Need-loop-holds Inv-loop μ-loop
 loop-holds c =
-    let c3 = c .before .before .before in (
-      held-empty (c3 .args .rows .now) (c3 .args .marks .now) (c3 .pre),
+    let c3 = c .before .before .before in
+    let s = c3 in (
+      held-empty (s .args .rows .now) (s .args .marks .now) (s .pre),
       omega arith,
-      reading-all (c3 .args .rows .now) (c3 .args .marks
-          .now) (c3 .pre) (c3 .args .bytes .now),
+      reading-all (s .args .rows .now) (s .args .marks .now) (s .pre) (s .args .bytes .now),
     )
+
+shared-slice-read-kind : tie.Need-shared-slice-read-kind Inv-loop μ-loop
+shared-slice-read-kind c = search needs
 
 sub-read-record : tie.Need-sub-read-record Inv-loop μ-loop
 sub-read-record c = search needs
@@ -41,72 +44,72 @@ part-read-record-end c = search needs
 read-record-requires : tie.Need-read-record-requires Inv-loop μ-loop
 read-record-requires c κs =
     let c4 = c .before .before .before .before in
-    record {
-      nonempty = simp (length-take, length-drop) (omega arith);
-      held = c4
-          .loop .inv .0;
-    }
+    let c5 = c4 .before in
+    record { nonempty = simp (length-take, length-drop) (omega (arith, c4 .loop-test .taken)); held = c5 .loop .inv .0 }
 
 same-length : tie.Need-same-length Inv-loop μ-loop
 same-length c =
-    let c15 = c .before .before .before .before .before .before .before .before .before .before .before .before .before .before .before in
-    search (ap length (c15 .pre .rows), needs)
+    let c14 = c .before .before .before .before .before .before .before .before .before .before .before .before .before .before in
+    let c16 = c14 .before .before in
+    search (ap length (c16 .pre .rows), needs)
 
 same-length-2 : tie.Need-same-length-2 Inv-loop μ-loop
 same-length-2 c =
-    let c15 = c .before .before .before .before .before .before .before .before .before .before .before .before .before .before .before in
-    search (ap length (c15 .pre .marks), needs)
+    let c14 = c .before .before .before .before .before .before .before .before .before .before .before .before .before .before in
+    let c16 = c14 .before .before in
+    search (ap length (c16 .pre .marks), needs)
 
 returns : tie.Need-returns Inv-loop μ-loop
 returns c =
     let c6 = c .before .before .before .before .before .before in
-    let c10 = c6 .before .before .before .before in
-    let c11 = c10 .before in
-    let c15 = c11 .before .before .before .before in
+    let c11 = c6 .before .before .before .before .before in
+    let c12 = c11 .before in
+    let c16 = c12 .before .before .before .before in
+    let l = c12 .loop in
+    let r = c6 .read-record in
     record {
-      result = cond-ne _ (refused (refusal (c6 .read-record .result .number) (c11 .loop .at))) (c .if1 .taken) ∙
-          reading-refused (c15 .args .bytes .now) (c11 .loop .rows) (c11 .loop .marks) (c11 .loop .count) (c11 .loop .at)
-          (c10 .loop-test .taken) (c11 .loop .inv .2) (c6 .read-record .last .1 .0)
-          (c6 .read-record .last .1 .1 .0) (c6 .read-record .result) (c6 .read-record .ensures) (c .if1 .taken);
+      result = cond-ne _ (refused (refusal (r .result .number) (l .at))) (c .if1 .taken) ∙
+          reading-refused (c16 .args .bytes .now) (l .rows) (l .marks) (l .count) (l .at) (c11 .loop-test .taken) (l .inv .2)
+          (r .last .1 .0)
+          (r .last .1 .1 .0) (r .result) (r .ensures) (c .if1 .taken);
       canonical = λ z. absurd (c .if1 .taken z);
       room = λ z. absurd (c .if1 .taken z);
     }
-
-shared-slice-read-size : tie.Need-shared-slice-read-size Inv-loop μ-loop
-shared-slice-read-size c = search needs
 
 size-requires : tie.Need-size-requires Inv-loop μ-loop
 size-requires c κs = search needs
 
 -- the record was read, and the next one starts behind it
 next-at : (c : tie.After-size Inv-loop μ-loop) →
-    let c8 = c .before .before .before .before .before .before .before .before in
-    let c13 = c8 .before .before .before .before .before in
-    let b = c13 .before .before .before .before .args .bytes .now in
+    let c7 = c .before .before .before .before .before .before .before in
+    let c13 = c7 .before .before .before .before .before .before in
+    let c17 = c13 .before .before .before .before in
+    let b = c17 .args .bytes .now in
     let at = c13 .loop .at + c .size .result in
-    let x = decodeParts (c8 .read-record .result .count) (c8 .read-record .last .1 .0) (c8 .read-record .last .1 .1 .0) in
+    let x = decodeParts (c7 .read-record .result .count) (c7 .read-record .last .1 .0) (c7 .read-record .last .1 .1 .0) in
     (0 < c .size .result) × (at ≤ length b) × (readFrom (length b - at) x at (drop at b) ≡ readPlan b)
 next-at c =
-    let c8 = c .before .before .before .before .before .before .before .before in
-    let c12 = c8 .before .before .before .before in
+    let c7 = c .before .before .before .before .before .before .before in
+    let c12 = c7 .before .before .before .before .before in
     let c13 = c12 .before in
-    reading-on (c13 .before .before .before .before .args .bytes .now) (c13 .loop .rows) (c13 .loop .marks) (c13 .loop .count)
-    (c13 .loop .at) (c12 .loop-test .taken) (c13 .loop .inv .2) (c8 .read-record .last .1 .0) (c8 .read-record .last .1 .1 .0)
-    (c8 .read-record .result) (c8 .read-record .ensures) (search (c .before .before .if1 .left, needs)) (c .size .ensures)
+    let c17 = c13 .before .before .before .before in
+    let l = c13 .loop in
+    let r = c7 .read-record in
+    reading-on (c17 .args .bytes .now) (l .rows) (l .marks) (l .count) (l .at) (c12 .loop-test .taken) (l .inv .2) (r .last .1 .0)
+    (r .last .1 .1 .0) (r .result) (r .ensures) (search (c .before .if1 .left, needs)) (c .size .ensures)
 
 add-at : tie.Need-add-at Inv-loop μ-loop
-add-at c = let k = next-at c in search needs
+add-at c = let k = next-at (c) in search needs
 
 loop-less : tie.Need-loop-less Inv-loop μ-loop
 loop-less c =
-    let c8 = c .before .before .before .before .before .before .before .before in
-    omega (arith, next-at c .0, c8 .before .before .before .before .loop-test .taken)
+    let c12 = c .before .before .before .before .before .before .before .before .before .before .before .before in
+    omega (arith, next-at (c) .0, c12 .loop-test .taken)
 
 loop-again : tie.Need-loop-again Inv-loop μ-loop
 loop-again c =
-    let c8 = c .before .before .before .before .before .before .before .before in
-    let g = next-at c in
-    (c8 .read-record .ensures .fine (search (c .before .before .if1 .left, needs)) .held, g .1, g .2)
+    let c7 = c .before .before .before .before .before .before .before in
+    let g = next-at (c) in (c7 .read-record .ensures .fine (search (c .before .if1 .left, needs)) .held, g .1, g .2)
 
 same-length-3 : tie.Need-same-length-3 Inv-loop μ-loop
 same-length-3 c = search needs
@@ -117,16 +120,11 @@ same-length-4 c = search needs
 returns-2 : tie.Need-returns-2 Inv-loop μ-loop
 returns-2 c =
     let c5 = c .before .before .before .before .before in
+    let l = c .before .loop in
     record {
-      result = reading-end (c5 .args .bytes .now) (c .before .loop .rows) (c .before .loop .marks) (c .before .loop .count)
-          (c .before .loop .at) (omega arith) (c .before .loop .inv .2);
-      canonical = λ z. c .before .loop .inv .0 .canonical;
-      room = λ z. omega (
-        arith,
-        c .before .loop .inv .0 .room,
-        c .before .loop
-            .inv .0 .size,
-      );
+      result = reading-end (c5 .args .bytes .now) (l .rows) (l .marks) (l .count) (l .at) (omega arith) (l .inv .2);
+      canonical = λ z. l .inv .0 .canonical;
+      room = λ z. omega (arith, l .inv .0 .room, l .inv .0 .size);
     }
 
 pub records-spec : {M : Type 1} → statement M
@@ -136,6 +134,7 @@ records-spec =
     Inv-loop
     μ-loop
     loop-holds
+    shared-slice-read-kind
     sub-read-record
     part-read-record-start
     part-read-record-end
@@ -143,7 +142,6 @@ records-spec =
     same-length
     same-length-2
     returns
-    shared-slice-read-size
     size-requires
     add-at
     loop-less

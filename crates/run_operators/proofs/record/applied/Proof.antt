@@ -10,8 +10,8 @@ use Rattle.run_operators.proofs.record.applied.Tie as tie
 
 shared-slice-read-kind : tie.Need-shared-slice-read-kind
 shared-slice-read-kind c =
-    let c5 = c .before .before .before .before .before in
-    let a = c5 .pre .whole in
+    let c6 = c .before .before .before .before .before .before in
+    let a = c6 .pre .0 .whole in
     omega (arith, a)
 
 mul-delete : tie.Need-mul-delete
@@ -19,26 +19,26 @@ mul-delete c = search needs
 
 sub-delete : tie.Need-sub-delete
 sub-delete c =
-    let c10 = c .before .before .before .before .before .before .before .before .before .before in
-    c10 .pre .value .order
+    let c11 = c .before .before .before .before .before .before .before .before .before .before .before in
+    c11 .pre .0 .value .order
 
 part-delete-start : tie.Need-part-delete-start
 part-delete-start c =
-    let c11 = c .before .before .before .before .before .before .before .before .before .before .before in
-    let a = value-within (c11 .pre .value) in
-    let o = c11 .pre .value .order in
+    let c12 = c .before .before .before .before .before .before .before .before .before .before .before .before in
+    let a = value-within (c12 .pre .0 .value) in
+    let o = c12 .pre .0 .value .order in
     omega (arith, a, o)
 
 part-delete-end : tie.Need-part-delete-end
 part-delete-end c =
-    let c11 = c .before .before .before .before .before .before .before .before .before .before .before in
-    let a = value-within (c11 .pre .value) in
+    let c12 = c .before .before .before .before .before .before .before .before .before .before .before .before in
+    let a = value-within (c12 .pre .0 .value) in
     omega (arith, a)
 
 delete-requires : tie.Need-delete-requires
 delete-requires c κs =
-    let c12 = c .before .before .before .before .before .before .before .before .before .before .before .before in
-    delete-asks (c12 .pre)
+    let c13 = c .before .before .before .before .before .before .before .before .before .before .before .before .before in
+    delete-asks (c13 .pre .0)
 
 ended-requires : tie.Need-ended-requires
 ended-requires c κs = search needs
@@ -56,37 +56,37 @@ returns : tie.Need-returns
 returns c =
     let c5 = c .before .before .before .before .before in
     let c10 = c5 .before .before .before .before .before in
-    let c18 = c10 .before .before .before .before .before .before .before .before in
+    let c19 = c10 .before .before .before .before .before .before .before .before .before in
     delete-yields
-    (c18 .pre) (c10 .if1 .taken) (c5 .delete .ensures) (c .ended .ensures)
+    (c19 .pre .0) (c10 .if1 .taken) (c5 .delete .ensures) (c .ended .ensures)
 
 add-a : tie.Need-add-a
 add-a c =
-    let c8 = c .before .before .before .before .before .before .before .before in
-    let a = c8 .pre .whole in
+    let c9 = c .before .before .before .before .before .before .before .before .before in
+    let a = c9 .pre .0 .whole in
     omega (arith, a)
 
 shared-slice-read-a : tie.Need-shared-slice-read-a
 shared-slice-read-a c =
-    let c9 = c .before .before .before .before .before .before .before .before .before in
-    let a = unary-bytes (c9 .pre) (c .before .if1 .left) in
+    let c10 = c .before .before .before .before .before .before .before .before .before .before in
+    let a = unary-bytes (c10 .pre .0) (c .before .if1 .left) in
     omega (arith, a)
 
 add-b : tie.Need-add-b
 add-b c =
-    let c9 = c .before .before .before .before .before .before .before .before .before in
-    let a = unary-bytes (c9 .pre) (c .before .if1 .left) in
+    let c10 = c .before .before .before .before .before .before .before .before .before .before in
+    let a = unary-bytes (c10 .pre .0) (c .before .if1 .left) in
     omega (arith, a)
 
 shared-slice-read-b : tie.Need-shared-slice-read-b
 shared-slice-read-b c =
-    let c10 = c .before .before .before .before .before .before .before .before .before .before in
-    unary-bytes (c10 .pre) (c .before .before .if1 .left)
+    let c11 = c .before .before .before .before .before .before .before .before .before .before .before in
+    unary-bytes (c11 .pre .0) (c .before .before .if1 .left)
 
 picked-requires : tie.Need-picked-requires
 picked-requires c κs =
-    let c13 = c .before .before .before .before .before .before .before .before .before .before .before .before .before in
-    pick-asks (c13 .pre)
+    let c14 = c .before .before .before .before .before .before .before .before .before .before .before .before .before .before in
+    pick-asks (c14 .pre .0)
 
 ended-requires-2 : tie.Need-ended-requires-2
 ended-requires-2 c κs = search needs
@@ -101,24 +101,24 @@ returns-2 : tie.Need-returns-2
 returns-2 c =
     let c3 = c .before .before .before in
     let c6 = c3 .before .before .before in
-    let c17 = c6 .before .before .before .before .before .before .before .before .before .before .before in
+    let c18 = c6 .before .before .before .before .before .before .before .before .before .before .before .before in
     pick-yields
-    (c17 .pre) (c3 .picked .kept .1 .1 .1 .0) (c .ended2 .ensures) (c6 .if2 .taken) (c3 .picked .ensures)
+    (c18 .pre .0) (c3 .picked .kept .1 .1 .1 .0) (c .ended2 .ensures) (c6 .if2 .taken) (c3 .picked .ensures)
 
 add-name : tie.Need-add-name
 unfolding scriptKinds
 add-name c =
     let c3 = c .before .before .before in
-    let c11 = c3 .before .before .before .before .before .before .before .before in
-    let a = unary-body (c11 .pre) stepKind 3 (unary-step (c11 .pre) (c3 .if1 .left) (c .if2 .left)) refl in
+    let c12 = c3 .before .before .before .before .before .before .before .before .before in
+    let a = unary-body (c12 .pre .0) stepKind 3 (unary-step (c12 .pre .0) (c3 .if1 .left) (c .if2 .left)) refl in
     omega (arith, a)
 
 shared-slice-read-name : tie.Need-shared-slice-read-name
 unfolding scriptKinds
 shared-slice-read-name c =
     let c4 = c .before .before .before .before in
-    let c12 = c4 .before .before .before .before .before .before .before .before in
-    unary-body (c12 .pre) stepKind 3 (unary-step (c12 .pre) (c4 .if1 .left) (c .before .if2 .left)) refl
+    let c13 = c4 .before .before .before .before .before .before .before .before .before in
+    unary-body (c13 .pre .0) stepKind 3 (unary-step (c13 .pre .0) (c4 .if1 .left) (c .before .if2 .left)) refl
 
 name-requires : tie.Need-name-requires
 name-requires c κs = search needs
@@ -127,9 +127,8 @@ stepped-requires : tie.Need-stepped-requires
 stepped-requires c κs =
     let c4 = c .before .before .before .before in
     let c7 = c4 .before .before .before in
-    let c15 = c7 .before .before .before .before .before .before .before .before in
-    step-asks (c15 .pre) (unary-step (c15 .pre) (c7 .if1 .left)
-    (c4 .if2 .left))
+    let c16 = c7 .before .before .before .before .before .before .before .before .before in
+    (step-asks (c16 .pre .0) (unary-step (c16 .pre .0) (c7 .if1 .left) (c4 .if2 .left)), c16 .pre .1)
 
 ended-requires-3 : tie.Need-ended-requires-3
 ended-requires-3 c κs = search needs
@@ -146,8 +145,8 @@ returns-3 c =
     let c6 = c3 .before .before .before in
     let c8 = c6 .before .before in
     let c11 = c8 .before .before .before in
-    let c19 = c11 .before .before .before .before .before .before .before .before in
-    step-yields (c19 .pre) (c3 .stepped .kept .1 .1 .1 .0) (c .ended3 .ensures) (unary-step (c19 .pre)
+    let c20 = c11 .before .before .before .before .before .before .before .before .before in
+    step-yields (c20 .pre .0) (c3 .stepped .kept .1 .1 .1 .1 .0) (c .ended3 .ensures) (unary-step (c20 .pre .0)
     (c11 .if1 .left)
     (c8 .if2
     .left)) (c6 .name .ensures) (c3 .stepped .ensures)

@@ -1,6 +1,5 @@
 -- `nullary`: a record without operands, one law of NullaryLaws for each way out.
 use borrow.Author.Needs.{needs}
-use mathlib.Core.Path.{refl}
 use native.Mathlib.Omega.{arith}
 use Rattle.script.proofs.AcceptedLaws.{accepted-record}
 use Rattle.script.proofs.FieldLaws.{document-number, variable-number, element-name}
@@ -86,28 +85,33 @@ array-copy-out-s c =
     let e = c11 .pre .0 .scope .few in
     omega (arith, a, e, c .byte2 .ensures .0)
 
+index-requires : tie.Need-index-requires
+index-requires c κs = search needs
+
+index-requires-2 : tie.Need-index-requires-2
+index-requires-2 c κs = search needs
+
 add-to : tie.Need-add-to
 add-to c =
     let c3 = c .before .before .before in
-    let c13 = c3 .before .before .before .before .before .before .before .before .before .before in
-    let a = variable-below (c13 .pre .0) (c3 .if3 .taken) (c .before .before .byte2 .ensures .0) in
-    omega (arith, a, c13 .fits .top)
+    let c4 = c3 .before in
+    let c14 = c4 .before .before .before .before .before .before .before .before .before .before in
+    let a = variable-below (c14 .pre .0) (c4 .if3 .taken) (c3 .byte2 .ensures .0) in
+    omega (arith, a, c .before .index .ensures .0, c .index2 .ensures .0, c14 .fits .top)
 
 copied-requires : tie.Need-copied-requires
 copied-requires c κs =
-    let c3 = c .before .before .before in
-    let c4 = c3 .before in
-    let c14 = c4 .before .before .before .before .before .before .before .before .before .before in
-    variable-asks
-    (c14 .pre .0)
-    (c4 .if3 .taken) (c3 .byte2 .ensures .0) refl
+    let c4 = c .before .before .before .before in
+    let c5 = c4 .before in
+    let c15 = c5 .before .before .before .before .before .before .before .before .before .before in
+    variable-asks (c15 .pre .0) (c5 .if3 .taken) (c4 .byte2 .ensures .0) (c .before .before .index .ensures .0)
+    (c .before .index2 .ensures .0)
 
 add-ended-3 : tie.Need-add-ended-3
 add-ended-3 c =
-    let c10 = c .before .before .before .before .before .before .before .before .before .before in
-    let c17 = c10 .before .before .before .before .before .before .before in
-    let a = nullary-body (c17 .pre .0) (c17 .pre .1)
-    (c10 .if1 .left) in
+    let c11 = c .before .before .before .before .before .before .before .before .before .before .before in
+    let c18 = c11 .before .before .before .before .before .before .before in
+    let a = nullary-body (c18 .pre .0) (c18 .pre .1) (c11 .if1 .left) in
     omega (arith, a)
 
 ended-requires-3 : tie.Need-ended-requires-3
@@ -119,11 +123,14 @@ same-length-2 c = search needs
 returns-3 : tie.Need-returns-3
 returns-3 c =
     let c3 = c .before .before .before in
-    let c7 = c3 .before .before .before .before in
-    let c8 = c7 .before in
-    let c18 = c8 .before .before .before .before .before .before .before .before .before .before in
-    variable-yields (c18 .pre .0) (c3 .copied .kept .0) (c .ended3 .ensures) (c8 .if3 .taken) (c7 .byte2 .ensures .0) refl
-    (c3 .copied .ensures)
+    let c5 = c3 .before .before in
+    let c6 = c5 .before in
+    let c8 = c6 .before .before in
+    let c9 = c8 .before in
+    let c19 = c9 .before .before .before .before .before .before .before .before .before .before in
+    variable-yields (c19 .pre .0) (c3 .copied .kept .0) (c .ended3 .ensures) (c9 .if3 .taken) (c8 .byte2 .ensures .0)
+    (c6 .index .ensures .0)
+    (c5 .index2 .ensures .0) (c3 .copied .ensures)
 
 name-requires : tie.Need-name-requires
 name-requires c κs = search needs
@@ -239,6 +246,8 @@ nullary-spec =
     byte-requires-2
     mul-s
     array-copy-out-s
+    index-requires
+    index-requires-2
     add-to
     copied-requires
     add-ended-3

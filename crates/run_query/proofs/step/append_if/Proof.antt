@@ -1,20 +1,10 @@
--- `step::append_if` appends an item to a value where it is to be kept.
+-- `step::append_if` stores an item past a value, and passes it where it is to be kept.
 use Rattle.model.proofs.BoolLaws.{cond-true, cond-false}
-use borrow.Author.Tests.{not-true, not-false}
-use lib.ListN.{set}
 use Prim.Native.Nat.{_+_}
-use mathlib.Core.Path.{sym}
+use mathlib.Core.Path.{refl, sym}
 use borrow.Author.Needs.{needs}
 use Rattle.run_query.proofs.step.append_if.Statement.{statement}
 use Rattle.run_query.proofs.step.append_if.Tie as tie
-
-returns : tie.Need-returns
-returns c = (
-  sym (cond-false (c .before .args .keep) (set (c .before .args .work .now) (c .before .args .at) (c .before .args .item .0))
-      (c .before .args .work .now) (not-true (c .before .args .keep) (c .if1 .taken))),
-  sym (cond-false (c .before .args .keep) (c .before .args .at + 1) (c .before .args .at) (not-true (c .before .args .keep)
-      (c .if1 .taken))),
-)
 
 cast-work : tie.Need-cast-work
 cast-work c = search needs
@@ -31,16 +21,30 @@ add-result c = search needs
 same-length : tie.Need-same-length
 same-length c = search needs
 
+returns : tie.Need-returns
+returns c = (
+  refl,
+  sym (cond-true (c .before .before .args .keep) (c .before .before .args .at + 1) (c .before .before .args .at) (c .if1 .taken)),
+)
+
+same-length-2 : tie.Need-same-length-2
+same-length-2 c = search needs
+
 returns-2 : tie.Need-returns-2
 returns-2 c = (
-  sym (cond-true (c .before .before .args .keep) (set (c .before .before .args .work .now) (c .before .before .args .at)
-      (c .before .before .args .item .0)) (c .before .before .args .work .now) (not-false (c .before .before .args .keep)
-      (c .before .if1 .left))),
-  sym (cond-true (c .before .before .args .keep) (c .before .before .args .at + 1) (c .before .before .args .at) (not-false
-      (c .before .before .args .keep) (c .before .if1 .left))),
+  refl,
+  sym (cond-false (c .before .before .args .keep) (c .before .before .args .at + 1) (c .before .before .args .at) (c .if1 .left)),
 )
 
 pub append-if-spec : {M : Type 1} → statement M
 append-if-spec =
     tie.close
-    (tie.spec returns cast-work mul-work slice-write-work add-result same-length returns-2)
+    (tie.spec
+    cast-work
+    mul-work
+    slice-write-work
+    add-result
+    same-length
+    returns
+    same-length-2
+    returns-2)

@@ -1,4 +1,7 @@
 -- `step::flag` flags the items of a value. The loop's invariant: the flags are those of the items passed.
+use mathlib.Core.Logic.{⊎-elim}
+use Rattle.run_query.specs.Stepping.{ClearBelow}
+use Rattle.run_query.proofs.PassLaws.{clear-none, clear-next}
 use Rattle.run_query.proofs.StepLaws.{among-snoc}
 use Rattle.plan_table.proofs.FlagLaws.{flags-none, flags-more, flags-all}
 use Rattle.model.specs.Base.{among}
@@ -17,18 +20,19 @@ abbrev has : (items : List ℕ) → (row : ℕ) → Bool
 has v k = among k v
 
 abbrev Inv-loop : tie.InvT-loop
-Inv-loop flags₀ items k₀ flags k = (k ≤ length items) × Flagged (take k items) flags
+Inv-loop flags₀ items count low₀ k₀ flags low k = (k ≤ length items) × Flagged (take k items) flags × ClearBelow count low flags
 
 abbrev μ-loop : tie.MeasureT-loop
-μ-loop flags₀ items k₀ flags k = length items - k
+μ-loop flags₀ items count low₀ k₀ flags low k = length items - k
 
 loop-holds : tie.Need-loop-holds Inv-loop μ-loop
 unfolding among
-loop-holds c =
-    let c2 = c .before .before in (
-      omega arith,
-      flags-none has (c2 .args .flags .now) (c2 .args .items .now) (c2 .pre .clear) (λ k. refl),
-    )
+loop-holds c = (
+  omega arith,
+  flags-none has (c .before .before .args .flags .now) (c .before .before .args .items .now) (c .before .before .pre .clear) (λ k. refl),
+  clear-none (c .before .before .args .count) (c .before .before .args .flags .now) (c .before .before .pre .few)
+      (c .before .before .pre .clear),
+)
 
 mul-index : tie.Need-mul-index Inv-loop μ-loop
 mul-index c = search needs
@@ -57,13 +61,15 @@ loop-less c = omega arith
 loop-again : tie.Need-loop-again Inv-loop μ-loop
 loop-again c =
     let c3 = c .before .before .before in
-    let c6 = c3 .before .before .before in (
+    let c4 = c3 .before in
+    let c7 = c4 .before .before .before in (
       omega arith,
-      subst (λ (j : ℕ). Flagged (take (c3 .loop .k + 1) (c6 .args .items .now)) (set (c3 .loop .flags) (j + 1) 1))
-          (sym (c .index .ensures .0))
-          (flags-more has (c3 .loop .flags) (c6 .args .items .now) (λ (j : ℕ). j + 1) among-snoc (c3 .loop .k)
-          (c .before .before .loop-test .taken) (c3 .loop .inv .1) (λ e. omega arith)
-          (omega (arith, c6 .pre .low (c3 .loop .k) (c .before .before .loop-test .taken)))),
+      subst (λ (j : ℕ). Flagged (take (c4 .loop .k + 1) (c7 .args .items .now)) (set (c4 .loop .flags) (j + 1) 1))
+          (sym (c .before .index .ensures .0))
+          (flags-more has (c4 .loop .flags) (c7 .args .items .now) (λ (j : ℕ). j + 1) among-snoc (c4 .loop .k) (c3 .loop-test .taken)
+          (c4 .loop .inv .1) (λ e. omega arith) (omega (arith, c7 .pre .low (c4 .loop .k) (c3 .loop-test .taken)))),
+      clear-next (c4 .loop .inv .2) (c .before .index .result) (c .if1 .low) (⊎-elim (λ w. omega arith) (λ w. omega arith) (c .if1 .came))
+          (⊎-elim (λ w. omega arith) (λ w. omega arith) (c .if1 .came)),
     )
 
 same-length : tie.Need-same-length Inv-loop μ-loop
@@ -73,9 +79,10 @@ same-length c =
 
 returns : tie.Need-returns Inv-loop μ-loop
 returns c =
-    let c4 = c .before .before .before .before in
-    flags-all has (c .before .loop .flags) (c4 .args .items .now) (c .before .loop .k) (omega arith)
-    (c .before .loop .inv .1)
+    let c4 = c .before .before .before .before in (
+      flags-all has (c .before .loop .flags) (c4 .args .items .now) (c .before .loop .k) (omega arith) (c .before .loop .inv .1),
+      c .before .loop .inv .2,
+    )
 
 pub flag-spec : {M : Type 1} → statement M
 flag-spec =

@@ -36,72 +36,72 @@ abbrev pub perRecord : ℕ
 perRecord = 4 * maxItems
 
 -- the rest of a record weighs its other operands
-abbrev pub μ-binary : Measures 5 binary-kinds.ps ℕ
+abbrev pub μ-binary : Measures 6 binary-kinds.ps ℕ
 μ-binary κs a =
     let b = a .0 .now in
     let left = a .1 .1 .1 .0 in
-    let x = a .1 .1 .1 .1 .1 .1 .1 .1 .1 .1 .0 in
+    let x = a .1 .1 .1 .1 .1 .1 .1 .1 .1 .1 .1 .0 in
     perRecord * recordsAt left b (x .place) + 2
 
-abbrev pub μ-branch : Measures 5 branch-kinds.ps ℕ
+abbrev pub μ-branch : Measures 6 branch-kinds.ps ℕ
 μ-branch κs a =
     let b = a .0 .now in
     let left = a .1 .0 in
-    let x = a .1 .1 .1 .1 .1 .1 .1 .1 .0 in
+    let x = a .1 .1 .1 .1 .1 .1 .1 .1 .1 .0 in
     perRecord * (recordsAt left b (x .place) + recordsAt left b (endAt b (x .place))) + 2
 
-abbrev pub μ-each : Measures 5 each-kinds.ps ℕ
+abbrev pub μ-each : Measures 6 each-kinds.ps ℕ
 μ-each κs a =
     let b = a .0 .now in
     let at = a .1 .1 .0 in
     let left = a .1 .1 .1 .0 in
-    let from = a .1 .1 .1 .1 .1 .1 .1 .1 .1 .1 .0 in
-    let to = a .1 .1 .1 .1 .1 .1 .1 .1 .1 .1 .1 .0 in
+    let from = a .1 .1 .1 .1 .1 .1 .1 .1 .1 .1 .1 .0 in
+    let to = a .1 .1 .1 .1 .1 .1 .1 .1 .1 .1 .1 .1 .0 in
     perRecord * recordsAt left b at + 2 + (to - from)
 
-abbrev pub μ-eval : Measures 5 eval-kinds.ps ℕ
+abbrev pub μ-eval : Measures 6 eval-kinds.ps ℕ
 μ-eval κs a =
     let b = a .0 .now in
     let at = a .1 .0 in
     let left = a .1 .1 .0 in
     perRecord * recordsAt left b at + 1
 
-abbrev pub μ-iterate : Measures 5 iterate-kinds.ps ℕ
+abbrev pub μ-iterate : Measures 6 iterate-kinds.ps ℕ
 μ-iterate κs a =
     let b = a .0 .now in
     let left = a .1 .1 .0 in
-    let x = a .1 .1 .1 .1 .1 .1 .1 .1 .1 .0 in
+    let x = a .1 .1 .1 .1 .1 .1 .1 .1 .1 .1 .0 in
     perRecord * recordsAt left b (x .place) + 2 * maxItems
 
-abbrev pub binary-at : ℕ → In 5 binary-kinds.ps
-binary-at t = and 5 binary-kinds.ps (is 5 binary-kinds.ps μ-binary t) binary.Pre
+abbrev pub binary-at : ℕ → In 6 binary-kinds.ps
+binary-at t = and 6 binary-kinds.ps (is 6 binary-kinds.ps μ-binary t) binary.Pre
 
-abbrev binary-below : ℕ → In 5 binary-kinds.ps
-binary-below t = and 5 binary-kinds.ps (falls 5 binary-kinds.ps _<_ μ-binary t) binary.Pre
+abbrev binary-below : ℕ → In 6 binary-kinds.ps
+binary-below t = and 6 binary-kinds.ps (falls 6 binary-kinds.ps _<_ μ-binary t) binary.Pre
 
-abbrev pub branch-at : ℕ → In 5 branch-kinds.ps
-branch-at t = and 5 branch-kinds.ps (is 5 branch-kinds.ps μ-branch t) branch.Pre
+abbrev pub branch-at : ℕ → In 6 branch-kinds.ps
+branch-at t = and 6 branch-kinds.ps (is 6 branch-kinds.ps μ-branch t) branch.Pre
 
-abbrev branch-below : ℕ → In 5 branch-kinds.ps
-branch-below t = and 5 branch-kinds.ps (falls 5 branch-kinds.ps _<_ μ-branch t) branch.Pre
+abbrev branch-below : ℕ → In 6 branch-kinds.ps
+branch-below t = and 6 branch-kinds.ps (falls 6 branch-kinds.ps _<_ μ-branch t) branch.Pre
 
-abbrev pub each-at : ℕ → In 5 each-kinds.ps
-each-at t = and 5 each-kinds.ps (is 5 each-kinds.ps μ-each t) each.Pre
+abbrev pub each-at : ℕ → In 6 each-kinds.ps
+each-at t = and 6 each-kinds.ps (is 6 each-kinds.ps μ-each t) each.Pre
 
-abbrev each-below : ℕ → In 5 each-kinds.ps
-each-below t = and 5 each-kinds.ps (falls 5 each-kinds.ps _<_ μ-each t) each.Pre
+abbrev each-below : ℕ → In 6 each-kinds.ps
+each-below t = and 6 each-kinds.ps (falls 6 each-kinds.ps _<_ μ-each t) each.Pre
 
-abbrev pub eval-at : ℕ → In 5 eval-kinds.ps
-eval-at t = and 5 eval-kinds.ps (is 5 eval-kinds.ps μ-eval t) eval.Pre
+abbrev pub eval-at : ℕ → In 6 eval-kinds.ps
+eval-at t = and 6 eval-kinds.ps (is 6 eval-kinds.ps μ-eval t) eval.Pre
 
-abbrev eval-below : ℕ → In 5 eval-kinds.ps
-eval-below t = and 5 eval-kinds.ps (falls 5 eval-kinds.ps _<_ μ-eval t) eval.Pre
+abbrev eval-below : ℕ → In 6 eval-kinds.ps
+eval-below t = and 6 eval-kinds.ps (falls 6 eval-kinds.ps _<_ μ-eval t) eval.Pre
 
-abbrev pub iterate-at : ℕ → In 5 iterate-kinds.ps
-iterate-at t = and 5 iterate-kinds.ps (is 5 iterate-kinds.ps μ-iterate t) iterate.Pre
+abbrev pub iterate-at : ℕ → In 6 iterate-kinds.ps
+iterate-at t = and 6 iterate-kinds.ps (is 6 iterate-kinds.ps μ-iterate t) iterate.Pre
 
-abbrev iterate-below : ℕ → In 5 iterate-kinds.ps
-iterate-below t = and 5 iterate-kinds.ps (falls 5 iterate-kinds.ps _<_ μ-iterate t) iterate.Pre
+abbrev iterate-below : ℕ → In 6 iterate-kinds.ps
+iterate-below t = and 6 iterate-kinds.ps (falls 6 iterate-kinds.ps _<_ μ-iterate t) iterate.Pre
 
 abbrev pub binary-claims : ℕ → binary-lts.Claims
 binary-claims t = (

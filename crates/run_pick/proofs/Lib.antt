@@ -1,0 +1,2 @@
+pub mod PickLaws
+pub mod RankLaws

@@ -1,0 +1,2 @@
+// The values that a pick keeps.
+pub mod pick;
