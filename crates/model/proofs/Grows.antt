@@ -1,104 +1,121 @@
--- A run never makes the table smaller, and stops only with a refusal of its own, whose number is from 7 to 10.
-use mathlib.Core.Path.{_≡_, refl}
-use mathlib.Core.Bool.{true, _&&_, cond}
+-- A run of whatever expression does nothing but make rows and cut links, and stops only with a refusal of its own, whose number is from
+-- 7 to 10.
+use mathlib.Core.Path.{_≡_, refl, sym, ap, _∙_}
+use mathlib.Core.Bool.{true, _&&_, cond, false≢true}
 use mathlib.Core.List.{List, [], _∷_, _++_}
 use mathlib.Core.Option.{Option, none, some}
 use Prim.Native.Nat.{ℕ, _+_, _≤_}
-use native.Mathlib.Nat.{le-trans}
 use native.Mathlib.Omega.{arith}
 use lib.Dec.{ltb, eqb}
 use lib.ListN.{length, getD}
+use borrow.Author.Tests.{ltb-true, ltb-false}
 use Rattle.model.specs.Base.{isIn}
 use Rattle.model.specs.Limits.{maxRows, maxItems, maxHistory}
 use Rattle.model.specs.Refusal.{Refusal, isFine, unless, tableAt}
-use Rattle.model.specs.Table.{Row, Table, rowAt, count, isElement, linked}
+use Rattle.model.specs.Table.{Row, Table, rowAt, count, isElement}
 use Rattle.model.specs.Script.{Expr, nil, document, var, step, both, letIn, forIn, ifIn, element, leaf, delete, insert, pick}
 use Rattle.model.specs.Run.{State, Out, refused, gives, andThen, thenRow, joinItems, joinFor, withMade, newRow}
 use Rattle.model.specs.Run.{cutRow, cutBy, cutAll, Copied, copyRow, subtree, copyEach, copyAll, inserted, loop, run}
-use Rattle.model.proofs.BoolLaws.{cond-cases}
-use Rattle.model.proofs.GrowLaws.{count-withRow, count-linked}
+use Rattle.model.proofs.BoolLaws.{cond-cases, by-cases}
+use Rattle.model.proofs.RefusalLaws.{isFine-unless}
+use Rattle.model.proofs.RanLaws.{Leads, begun, rowMade, linkCut, leads-then}
 
-pub data Grows (c : ℕ) : Out → Type 0 where
-  refuses : {z : Refusal} → isIn 7 10 (z .number) ≡ true → Grows c (refused z)
-  keeps : {v : List ℕ} {s : State} → c ≤ count (s .plan) → Grows c (gives v s)
+-- any row
+abbrev pub AnyRow : Table → Row → Type 0
+AnyRow x r = Unit
 
-grows-less : {b c : ℕ} {o : Out} → b ≤ c → Grows c o → Grows b o
-grows-less h (refuses e) = refuses e
-grows-less h (keeps k) =
-    let l : _ ≤ _ = le-trans h k in
-    keeps l
+-- a history of so many records that one more is refused
+abbrev pub IsFull : State → Type 0
+IsFull a = (t : State) × (Leads AnyRow a t × (maxHistory ≤ length (t .history)))
 
-pub grows-gives : (v : List ℕ) (s : State) → Grows (count (s .plan)) (gives v s)
-grows-gives v s =
-    let k : count (s .plan) ≤ count (s .plan) = omega arith in
-    keeps k
+-- AN OUTCOME from the state a: a refusal of its own, 9 only with a full history; or a value and a state that a leads to
+pub data Grows (a : State) : Out → Type 0 where
+  refuses : {z : Refusal} → isIn 7 10 (z .number) ≡ true → (z .number ≡ 9 → IsFull a) → Grows a (refused z)
+  keeps : {v : List ℕ} {s : State} → Leads AnyRow a s → Grows a (gives v s)
 
-pub grows-then : {c : ℕ} {o : Out} (next : List ℕ → State → Out) → Grows c o →
-    ((v : List ℕ) (s : State) → Grows (count (s .plan)) (next v s)) →
-    Grows c (andThen o next)
-grows-then next (refuses e) h = refuses e
-grows-then next (keeps {v} {s} k) h = grows-less k (h v s)
+-- a refusal other than 9
+pub refuses-other : {a : State} {z : Refusal} → isIn 7 10 (z .number) ≡ true → (z .number ≡ 9 → ⊥) → Grows a (refused z)
+refuses-other h n = refuses h (λ e. absurd (n e))
 
-pub grows-row : {c : ℕ} {o : Out} (next : State → Out) → Grows c o → ((s : State) → Grows (count (s .plan)) (next s)) →
-    Grows c (thenRow o next)
-grows-row next (refuses e) h = refuses e
-grows-row next (keeps {s = s} k) h = grows-less k (h s)
+grows-from : {a b : State} {o : Out} → Leads AnyRow a b → Grows b o → Grows a o
+grows-from r (refuses e f) = refuses e (λ n. let (t, q) = f n in (t, (leads-then r (q .0), q .1)))
+grows-from r (keeps q) = keeps (leads-then r q)
 
-grows-for : {c : ℕ} {o : Out} (z : ℕ) (v : List ℕ) (next : List ℕ → State → Out) → Grows c o →
-    ((v : List ℕ) (s : State) → Grows (count (s .plan)) (next v s)) → Grows c (joinFor z v o next)
-grows-for z v next (refuses e) h = refuses e
-grows-for {c} z v next (keeps {v = w} {s} k) h =
-    cond-cases (Grows c) (ltb maxItems (length v + length w)) (λ e. refuses refl) (λ e. grows-less k (h (v ++ w) s))
+pub grows-gives : (v : List ℕ) (s : State) → Grows s (gives v s)
+grows-gives v s = keeps begun
 
-grows-new : (z : ℕ) (r : Row) (s : State) → Grows (count (s .plan)) (newRow z r s)
+pub grows-then : {a : State} {o : Out} (next : List ℕ → State → Out) → Grows a o → ((v : List ℕ) (s : State) → Grows s (next v s)) →
+    Grows a (andThen o next)
+grows-then next (refuses e f) h = refuses e f
+grows-then next (keeps {v} {s} r) h = grows-from r (h v s)
+
+pub grows-row : {a : State} {o : Out} (next : State → Out) → Grows a o → ((s : State) → Grows s (next s)) → Grows a (thenRow o next)
+grows-row next (refuses e f) h = refuses e f
+grows-row next (keeps {s = s} r) h = grows-from r (h s)
+
+grows-for : {a : State} {o : Out} (z : ℕ) (v : List ℕ) (next : List ℕ → State → Out) → Grows a o →
+    ((v : List ℕ) (s : State) → Grows s (next v s)) → Grows a (joinFor z v o next)
+grows-for z v next (refuses e f) h = refuses e f
+grows-for {a} z v next (keeps {v = w} {s} r) h =
+    cond-cases (Grows a) (ltb maxItems (length v + length w)) (λ e. refuses-other refl (λ n. omega arith))
+    (λ e. grows-from r (h (v ++ w) s))
+
+grows-new : (z : ℕ) (r : Row) (s : State) → Grows s (newRow z r s)
 grows-new z r s =
-    let k : count (s .plan) ≤ count (withMade s r .plan) = omega (arith, count-withRow (s .plan) r) in
-    let full = unless (ltb (count (s .plan)) maxRows) (tableAt z) in
-    cond-cases Unless (isFine full) (λ e. cond-cases Unless (ltb (length (s .history)) maxHistory) (λ e. keeps k) (λ e. refuses refl))
-    (λ e. cond-cases Unless (ltb (count (s .plan)) maxRows) (λ e. keeps k) (λ e. refuses refl))
+    cond-cases Unless (isFine full)
+    (λ e.
+    let l = ltb-true (count (s .plan)) maxRows (sym (isFine-unless (ltb (count (s .plan)) maxRows) 9 z) ∙ e) in
+    by-cases (ltb (length (s .history)) maxHistory) (λ f. rw f (keeps (rowMade s r begun l tt)))
+    (λ f. rw f (refuses refl (λ n. (s, (begun, ltb-false (length (s .history)) maxHistory f))))))
+    (λ e.
+    by-cases (ltb (count (s .plan)) maxRows) (λ f. absurd (false≢true (sym e ∙ ap (λ b. isFine (unless b (tableAt z))) f)))
+    (λ f. rw f (refuses-other refl (λ n. omega arith))))
   where
-    Unless : Refusal → Type 0
-    Unless f = Grows (count (s .plan)) (cond (isFine f) (gives (count (s .plan) ∷ []) (withMade s r)) (refused f))
+    full : Refusal
+    full = unless (ltb (count (s .plan)) maxRows) (tableAt z)
 
-pub grows-cut : (z : ℕ) (v : List ℕ) (s : State) → Grows (count (s .plan)) (cutAll z v s)
+    Unless : Refusal → Type 0
+    Unless f = Grows s (cond (isFine f) (gives (count (s .plan) ∷ []) (withMade s r)) (refused f))
+
+pub grows-cut : (z : ℕ) (v : List ℕ) (s : State) → Grows s (cutAll z v s)
 unfolding cutAll
 grows-cut z [] s = grows-gives [] s
-grows-cut z (i ∷ is) s = go (rowAt (s .plan) i .parent) (λ t. grows-cut z is t)
+grows-cut z (i ∷ is) s = go (rowAt (s .plan) i .parent) refl (λ t. grows-cut z is t)
   where
-    go : (q : Option ℕ) → ((t : State) → Grows (count (t .plan)) (cutAll z is t)) →
-        Grows (count (s .plan)) (cutBy z i s q (λ t. cutAll z is t))
-    go none h = h s
-    go (some p) h =
-        let k : count (s .plan) ≤ count (linked (s .plan) i none) = omega (arith, count-linked (s .plan) i none) in
-        cond-cases (Grows _) (ltb (length (s .history)) maxHistory) (λ e. grows-less k (h (cutRow s i p))) (λ e. refuses refl)
+    go : (q : Option ℕ) → rowAt (s .plan) i .parent ≡ q → ((t : State) → Grows t (cutAll z is t)) →
+        Grows s (cutBy z i s q (λ t. cutAll z is t))
+    go none e h = h s
+    go (some p) e h =
+        cond-cases (Grows s) (ltb (length (s .history)) maxHistory) (λ f. grows-from (linkCut s i p begun e) (h (cutRow s i p)))
+        (λ f. refuses refl (λ n. (s, (begun, ltb-false (length (s .history)) maxHistory f))))
 
 pub grows-each : (z : ℕ) (x : Table) (t g : ℕ) (is : List ℕ) (cs : List Copied) (s : State) →
-    Grows (count (s .plan)) (copyEach z x t g is cs s)
+    Grows s (copyEach z x t g is cs s)
 unfolding copyEach
 grows-each z x t g [] cs s = grows-gives [] s
 grows-each z x t g (i ∷ is) cs s = grows-row _ (grows-new z (copyRow x t g i cs) s) (λ u. grows-each z x t g is _ u)
 
-pub grows-copy : (z : ℕ) (x : Table) (v : List ℕ) (g : ℕ) (s : State) → Grows (count (s .plan)) (copyAll z x v g s)
+pub grows-copy : (z : ℕ) (x : Table) (v : List ℕ) (g : ℕ) (s : State) → Grows s (copyAll z x v g s)
 unfolding copyAll
 grows-copy z x [] g s = grows-gives [] s
 grows-copy z x (i ∷ is) g s = grows-row _ (grows-each z x i g (subtree x i) [] s) (λ u. grows-copy z x is g u)
 
-pub grows-insert : (z : ℕ) (v w : List ℕ) (s : State) → Grows (count (s .plan)) (inserted z v w s)
+pub grows-insert : (z : ℕ) (v w : List ℕ) (s : State) → Grows s (inserted z v w s)
 grows-insert z v w s =
     cond-cases (Grows _) (eqb (length w) 1 && isElement (s .plan) (getD w 0 0))
-    (λ e. grows-copy z (s .plan) v (getD w 0 0) s) (λ e. refuses refl)
+    (λ e. grows-copy z (s .plan) v (getD w 0 0) s) (λ e. refuses-other refl (λ n. omega arith))
 
-pub grows-loop : (z : ℕ) (f : ℕ → State → Out) → ((i : ℕ) (s : State) → Grows (count (s .plan)) (f i s)) → (v w : List ℕ) (s : State) →
-    Grows (count (s .plan)) (loop z f v w s)
+pub grows-loop : (z : ℕ) (f : ℕ → State → Out) → ((i : ℕ) (s : State) → Grows s (f i s)) → (v w : List ℕ) (s : State) →
+    Grows s (loop z f v w s)
 unfolding loop
 grows-loop z f h [] w s = grows-gives w s
 grows-loop z f h (i ∷ is) w s = grows-for z w _ (h i s) (λ w t. grows-loop z f h is w t)
 
-pub grows-join : (z : ℕ) (v w : List ℕ) (s : State) → Grows (count (s .plan)) (joinItems z v w s)
+pub grows-join : (z : ℕ) (v w : List ℕ) (s : State) → Grows s (joinItems z v w s)
 grows-join z v w s =
-    cond-cases (Grows _) (ltb maxItems (length v + length w)) (λ e. refuses refl) (λ e. grows-gives (v ++ w) s)
+    cond-cases (Grows _) (ltb maxItems (length v + length w)) (λ e. refuses-other refl (λ n. omega arith)) (λ e. grows-gives (v ++ w) s)
 
-pub run-grows : (e : Expr) (b : List (List ℕ)) (s : State) → Grows (count (s .plan)) (run e b s)
+pub run-grows : (e : Expr) (b : List (List ℕ)) (s : State) → Grows s (run e b s)
 unfolding run
 run-grows (nil z) b s = grows-gives _ s
 run-grows (document z d) b s = grows-gives _ s

@@ -57,6 +57,7 @@ pub mod Beside
 pub mod Matching
 pub mod Orders
 pub mod FreeCommutes
+pub mod HistoryFits
 pub mod RefusedRuns
 pub mod RefusedByTable
 pub mod CallsCommute

@@ -2,18 +2,17 @@
 use mathlib.Core.Path.{_≡_}
 use mathlib.Core.Bool.{true, false}
 use mathlib.Core.List.{[]}
-use Prim.Native.Nat.{ℕ}
 use borrow.Author.Tests.{ne-eqb}
 use Rattle.model.specs.Base.{isIn}
 use Rattle.model.specs.Refusal.{Refusal, isFine}
 use Rattle.model.specs.Table.{Table}
 use Rattle.model.specs.Script.{Expr}
-use Rattle.model.specs.Run.{refused, state, runOn}
+use Rattle.model.specs.Run.{State, refused, state, runOn}
 use Rattle.model.proofs.TestLaws.{isIn-some}
 use Rattle.model.proofs.Grows.{Grows, refuses, run-grows}
 
-grows-number : {c : ℕ} {f : Refusal} → Grows c (refused f) → isIn 7 10 (f .number) ≡ true
-grows-number (refuses e) = e
+grows-number : {a : State} {f : Refusal} → Grows a (refused f) → isIn 7 10 (f .number) ≡ true
+grows-number (refuses e n) = e
 
 pub refused-number : (e : Expr) (x : Table) (f : Refusal) → runOn x e ≡ refused f → isIn 7 10 (f .number) ≡ true
 refused-number e x f h = grows-number (rw h at (run-grows e [] (state x [])))

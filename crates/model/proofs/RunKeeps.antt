@@ -93,7 +93,7 @@ newRow-keeps x z r s q f g =
     cond-cases (Keeps x (s .plan)) (isFine (roomRefusal z s))
     (λ e.
     let l : count (s .plan) < count (withRow (s .plan) r) = omega (arith, count-withRow (s .plan) r) in
-    (rowMade s r q (roomRefusal-room z s e) f g, also l nothing, enlarged-withRow (s .plan) r))
+    (rowMade s r q (roomRefusal-room z s e) (f, g), also l nothing, enlarged-withRow (s .plan) r))
     (λ e. tt)
 
 -- DELETE
@@ -175,7 +175,7 @@ module _ (x y : Table) (ty : Tree y) (place t g : ℕ) where
           let f = enlarged-withRow (s .plan) w in
           keeps-from x (s .plan) (withRow (s .plan) w) (copyEach place y t g is ds (withMade s w)) f
           (next ds (withMade s w)
-          (rowMade s w r (roomRefusal-room place s e) (ty .tags i l) (copyParent-fits (s .plan) i cs c h))
+          (rowMade s w r (roomRefusal-room place s e) (ty .tags i l, copyParent-fits (s .plan) i cs c h))
           (copies-more y (s .plan) i w cs refl c) (enlarged-element g f h))
       go false e next = tt
 

@@ -12,6 +12,7 @@ use Rattle.model.specs.Paths.{Path}
 use Rattle.model.proofs.Words.{first}
 use Rattle.model.proofs.Labels.{Label, label, labelAt}
 use Rattle.model.proofs.All.{all-imp}
+use Rattle.model.proofs.RanLaws.{leads-more}
 use Rattle.model.proofs.Grows.{Grows, refuses, keeps}
 use Rattle.model.proofs.Twin.{World, Item, φ, ones, Twin, Valued, Vals, Full, isRefused, passed, Sim, both, alike, full}
 
@@ -72,18 +73,18 @@ module _ (W : World) where
   sim-more r news more alike = alike
   sim-more r news more (full k f) = full k f
 
-  pub full-grows : (c : ℕ) (o : Out) → maxRows < c + W .m → Grows c o → Full W o
-  full-grows c o h (refuses e) = isRefused
-  full-grows c o h (keeps {v} {s} k) =
-      let l : maxRows < count (s .plan) + W .m = omega arith in
+  pub full-grows : (a : State) (o : Out) → maxRows < count (a .plan) + W .m → Grows a o → Full W o
+  full-grows a o h (refuses e f) = isRefused
+  full-grows a o h (keeps {v} {s} r) =
+      let l : maxRows < count (s .plan) + W .m = omega (arith, leads-more r) in
       passed l
 
   pub sim-then : (q r : List Path) (news : List Label) (next : List ℕ → State → Out) (next′ : List ℕ → State → Out) {o o′ : Out} →
       Sim W q news o o′ →
       ((more : List Label) (v : List ℕ) (s t : State) → Twin W (news ++ more) s t → Vals W q (news ++ more) v →
       Sim W r (news ++ more) (next v s) (next′ (map (φ W) v) t)) →
-      ((v : List ℕ) (s : State) → Grows (count (s .plan)) (next v s)) → Sim W r news (andThen o next) (andThen o′ next′)
+      ((v : List ℕ) (s : State) → Grows s (next v s)) → Sim W r news (andThen o next) (andThen o′ next′)
   sim-then q r news next next′ (both {v} {s} {t} more T a) h g = sim-more r news more (h more v s t T a)
   sim-then q r news next next′ alike h g = alike
   sim-then q r news next next′ (full k isRefused) h g = full k isRefused
-  sim-then q r news next next′ (full k (passed {v} {s} l)) h g = full k (full-grows (count (s .plan)) (next v s) l (g v s))
+  sim-then q r news next next′ (full k (passed {v} {s} l)) h g = full k (full-grows s (next v s) l (g v s))

@@ -123,7 +123,7 @@ module _ (W : World) where
       Vals W r news v →
       ((more : List Label) (w : List ℕ) (s t : State) → Twin W (news ++ more) s t → Vals W r (news ++ more) w →
       Sim W r (news ++ more) (next w s) (next′ (map (φ W) w) t)) →
-      ((w : List ℕ) (s : State) → Grows (count (s .plan)) (next w s)) →
+      ((w : List ℕ) (s : State) → Grows s (next w s)) →
       Sim W r news (joinFor z v o next) (joinFor z (map (φ W) v) o′ next′)
   sim-for r z news v next next′ (both {v = w} {s} {t} more T a) k h g =
       sim-more W r news more
@@ -134,13 +134,13 @@ module _ (W : World) where
     where
       go : (b : Bool) → Full W (cond b (refused (itemsAt z)) (next (v ++ w) s))
       go true = isRefused
-      go false = full-grows W (count (s .plan)) (next (v ++ w) s) l (g (v ++ w) s)
+      go false = full-grows W s (next (v ++ w) s) l (g (v ++ w) s)
 
   -- K is what the loop's body needs of the labels, and keeps with more of them
   pub sim-loop : (K : List Label → Type 0) → ((news more : List Label) → K news → K (news ++ more)) → (q r : List Path) (z : ℕ)
       (f f′ : ℕ → State → Out) →
       ((news : List Label) (i : ℕ) (s t : State) → K news → Twin W news s t → Valued W q news i → Sim W r news (f i s) (f′ (φ W i) t)) →
-      ((i : ℕ) (s : State) → Grows (count (s .plan)) (f i s)) → (is : List ℕ) (news : List Label) (v : List ℕ) (s t : State) → K news →
+      ((i : ℕ) (s : State) → Grows s (f i s)) → (is : List ℕ) (news : List Label) (v : List ℕ) (s t : State) → K news →
       Twin W news s t → Vals W q news is → Vals W r news v →
       Sim W r news (loop z f is v s) (loop z f′ (map (φ W) is) (map (φ W) v) t)
   unfolding loop

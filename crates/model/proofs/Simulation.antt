@@ -101,7 +101,7 @@ module _ (W : World) where
       Inside (joinPaths (infer (W .script .owner) e b) (infer (W .script .owner) f b) []) → Env news b v → Twin W news s t →
       ((news : List Label) (w w′ : List ℕ) (s t : State) → Twin W news s t → Vals W (infer (W .script .owner) e b .result) news w →
       Vals W (infer (W .script .owner) f b .result) news w′ → Sim W r news (act w w′ s) (act (map (φ W) w) (map (φ W) w′) t)) →
-      ((w w′ : List ℕ) (q : State) → Grows (count (q .plan)) (act w w′ q)) →
+      ((w w′ : List ℕ) (q : State) → Grows q (act w w′ q)) →
       Sim W r news (andThen (run e v s) (λ w q. andThen (run f v q) (λ w′ q. act w w′ q)))
       (andThen (run e (φs v) t) (λ w q. andThen (run f (φs v) q) (λ w′ q. act w w′ q)))
   operands-sim e f E F r act b v news s t u h k T sim grows =

@@ -93,7 +93,7 @@ module _ (W : World) where
     each-sim : (t : ℕ) (is : List ℕ) → All (λ i. Alike W s₀ i (φ W i)) is → (news : List Label) (cs : List Copied) (u q : State) →
         Twin W news u q → Base W news u g → All (CopyFits news u) cs → (k k′ : State → Out) →
         ((news : List Label) (u q : State) → Twin W news u q → Base W news u g → Sim W [] news (k u) (k′ q)) →
-        ((u : State) → Grows (count (u .plan)) (k u)) →
+        ((u : State) → Grows u (k u)) →
         Sim W [] news (thenRow (copyEach z (s₀ .plan) t g is cs u) k)
         (thenRow (copyEach z (t₀ .plan) (φ W t) (φ W g) (map (φ W) is) (map shiftCopied cs) q) k′)
     unfolding copyEach

@@ -174,7 +174,7 @@ module _ (W : World) (news : List Label) (s t : State) (T : Twin W news s t) whe
         (Twin W (news ++ (l ∷ [])) (withMade s r) (withMade t (φRow W r)) →
         Sim W q news (f (gives (count (s .plan) ∷ []) (withMade s r)))
         (f′ (gives (count (t .plan) ∷ []) (withMade t (φRow W r))))) →
-        Grows (count (withMade s r .plan)) (f (gives (count (s .plan) ∷ []) (withMade s r))) →
+        Grows (withMade s r) (f (gives (count (s .plan) ∷ []) (withMade s r))) →
         Sim W q news (f (newRow z r s)) (f′ (newRow z (φRow W r) t))
     new-sim next g = go (room-cases z)
       where
@@ -188,7 +188,7 @@ module _ (W : World) (news : List Label) (s t : State) (T : Twin W news s t) whe
             Full W (f (newRow z r s))
         fills b (inl e) =
             subst (Full W) (ap f (sym (row-made z r s e)))
-            (full-grows W (count (withMade s r .plan)) (f (gives (count (s .plan) ∷ []) (withMade s r)))
+            (full-grows W (withMade s r) (f (gives (count (s .plan) ∷ []) (withMade s r)))
             (omega (arith, count-withRow (s .plan) r)) g)
         fills b (inr e) = subst (Full W) (sym (no-room e)) isRefused
 

@@ -107,7 +107,7 @@ undo-last x y rs r f h =
 ran-undone : (x : Table) → Well x → {s : State} → ComesTo x s → undoAll (s .plan) (backwards (placed 0 (s .history)) []) ≡ back x
 unfolding undoAll placed backwards
 ran-undone x w begun = refl
-ran-undone x w (rowMade s r q c f g) =
+ran-undone x w (rowMade s r q c f) =
     let v = ran-well x w q in
     undo-last (withRow (s .plan) r) x (s .history) (made (count (s .plan)) r) (made-fits (s .plan) v r)
     (ap (λ (y : Table). undoAll y (backwards (placed 0 (s .history)) [])) (made-undone (s .plan) v r) ∙ ran-undone x w q)
@@ -127,12 +127,12 @@ made-inRange x r l f g =
 
 ran-inRange : (x : Table) → Well x → {s : State} → ComesTo x s → AllInRange (s .history)
 ran-inRange x w begun = nothing
-ran-inRange x w (rowMade s r q c f g) = all-snoc (ran-inRange x w q) (made-inRange (s .plan) r c f g)
+ran-inRange x w (rowMade s r q c f) = all-snoc (ran-inRange x w q) (made-inRange (s .plan) r c (f .0) (f .1))
 ran-inRange x w (linkCut s i p q e) = all-snoc (ran-inRange x w q) cutIn
 
 pub ran-undo : (x : Table) → Well x → {s : State} → ComesTo x s → undo (s .plan) (historyBytes (s .history)) ≡ back x
 ran-undo x w {s} r =
     ap (undoFormed (s .plan))
     (formFrom-placed (length (historyBytes (s .history)) + 1) 0 0 (s .history) (ran-inRange x w r)
-    (omega (arith, ran-length x w r)) (omega arith)) ∙
+    (omega (arith, ran-length x (w .few) r)) (omega arith)) ∙
     ran-undone x w r

@@ -25,6 +25,15 @@ abbrev pub isCut : Record → Bool
 isCut (made i r) = false
 isCut (cut i p) = true
 
+-- of this row made, and of this row's link cut
+abbrev pub makes : (row : ℕ) → Record → Bool
+makes i (made j r) = eqb j i
+makes i (cut j p) = false
+
+abbrev pub cuts : (row : ℕ) → Record → Bool
+cuts i (made j r) = false
+cuts i (cut j p) = eqb j i
+
 -- how many pass a test
 unfoldable pub times : (Record → Bool) → List Record → ℕ
 times f [] = 0
