@@ -38,7 +38,7 @@ enum yegnabit_refusal {
     YEGNABIT_LINK = 6,     /* parent, mark or row order breaks the table's rules, or a history does not fit */
     YEGNABIT_TARGET = 7,   /* insert's target is not one element */
     YEGNABIT_ITEMS = 8,    /* a join or 'for' passes 512 items */
-    YEGNABIT_HISTORY = 9,  /* a run needs a 2,049th record */
+    /* 9 is retired, and its number is not used again */
     YEGNABIT_TABLE = 10,   /* new rows pass 512 */
     YEGNABIT_LENT = 11     /* a lent area is too short for its stated need */
 };
@@ -57,7 +57,7 @@ enum yegnabit_which {
 enum yegnabit_need {
     YEGNABIT_OUT = 2080,           /* bytes: 512 rows and 8 marks */
     YEGNABIT_ANSWER_AREA = 512,    /* row numbers */
-    YEGNABIT_HISTORY_AREA = 12288, /* bytes */
+    YEGNABIT_HISTORY_AREA = 12288, /* bytes; a run fills at most 5,632, in at most 1,024 records */
     YEGNABIT_WORK_AREA = 32768,    /* two-byte numbers */
     YEGNABIT_DONE = 6              /* numbers of 64 bits */
 };

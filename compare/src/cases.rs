@@ -2,6 +2,10 @@
 //! P, and some for each of a number of rules. The oracle's own tests ask them
 //! of the oracle, the comparisons of the library.
 
+mod longest;
+
+pub use longest::{longest, Longest};
+
 use crate::generate::document01::{CHILDREN_NAMED_2, CHILDREN_NAMED_3, PLAN_P, SCRIPT_A, SCRIPT_B};
 use crate::oracle::refusal::{Number, Refusal};
 

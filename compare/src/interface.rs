@@ -61,6 +61,13 @@ impl Answer {
         self.0 % WHICH_UNIT
     }
 
+    /// Is the number one of the table of refusals, or 0? It is not where the
+    /// number is 9, which is retired.
+    pub fn is_known(self) -> bool {
+        let mut numbers = Number::ALL.iter().map(|number| number.value());
+        self.number() == 0 || numbers.any(|number| u64::from(number) == self.number())
+    }
+
     pub const fn which(self) -> u64 {
         self.0 / WHICH_UNIT % (PLACE_UNIT / WHICH_UNIT)
     }
@@ -116,5 +123,18 @@ impl Areas {
             out: &mut self.out,
             done: &mut self.done,
         }
+    }
+}
+
+#[cfg(test)]
+mod tests {
+    use super::*;
+
+    /// The table of refusals as request (h) of document 02 leaves it.
+    #[test]
+    fn known_numbers() {
+        let known = |number: &u64| Answer(PLACE_UNIT + WHICH_UNIT + number).is_known();
+        let numbers: Vec<u64> = (0..WHICH_UNIT).filter(known).collect();
+        assert_eq!(numbers, [0, 1, 2, 3, 4, 5, 6, 7, 8, 10, 11]);
     }
 }

@@ -3,6 +3,7 @@
 
 use std::hint::black_box;
 
+use compare::generate::edges::{doubling, CUT_BELOW};
 use compare::generate::plans::star;
 use compare::interface::Areas;
 use compare::oracle::limits::ROWS;
@@ -79,6 +80,13 @@ pub fn measure_runs() {
         0,
         &forest,
         &insert,
+    ));
+    let most_records = doubling(9, &[&CUT_BELOW]);
+    measure(run_case(
+        "run, 512 rows made and 511 cut, the most records",
+        0,
+        &[],
+        &most_records,
     ));
     let late = [&[kind::JOIN][..], &delete, &no_target].concat();
     measure(run_case("run refused after 511 cuts", 7, &star, &late));

@@ -57,6 +57,23 @@ pub fn plans() -> Vec<Vec<u8>> {
     plans
 }
 
+/// Lets x, variable 0, be a new element, inserts it into itself so many times,
+/// and then does other things. Each insert doubles the rows of x's tree.
+pub fn doubling(inserts: usize, then: &[&[u8]]) -> Vec<u8> {
+    let insert = [kind::INSERT, kind::VARIABLE, 0, kind::VARIABLE, 0];
+    let parts = inserts + then.len();
+    [
+        &[kind::LET, kind::ELEMENT, 1][..],
+        &vec![kind::JOIN; parts - 1],
+        &insert.repeat(inserts),
+        &then.concat(),
+    ]
+    .concat()
+}
+
+/// Cuts all rows below x from their parents.
+pub const CUT_BELOW: [u8; 7] = [kind::DELETE, kind::STEP, 1, 0, 0, kind::VARIABLE, 0];
+
 /// Calls `check` with all sequences of `length` parts from an alphabet.
 pub fn sequences<E>(
     alphabet: &[impl AsRef<[u8]>],

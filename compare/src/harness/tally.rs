@@ -5,7 +5,8 @@ use std::fmt::Write;
 
 use super::Difference;
 
-/// Numbers of refusals run from 1 to 11; 0 counts what was accepted.
+/// Numbers of refusals run from 1 to 11, of which 9 is retired; 0 counts what
+/// was accepted.
 const NUMBERS: usize = 12;
 /// What the field `which` can be.
 const WHICHES: usize = 3;
@@ -65,7 +66,6 @@ impl Call {
                 (1, &[0, 1, 2, 3, 4, 5]),
                 (2, &[0, 1, 2, 3, 4, 5]),
             ],
-            // 9 cannot be: a row is made once and cut once at most.
             Call::Run => &[
                 (0, &[0, 11]),
                 (1, &[1, 2, 4, 5, 6]),

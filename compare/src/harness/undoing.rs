@@ -30,7 +30,7 @@ const STACK: usize = 32 * 1024;
 pub fn test(checker: &mut Checker, volume: Volume) -> Result<(), Difference> {
     let mut random = Random::new(SEED);
     worked(checker)?;
-    small_stack()?;
+    small_stack(checker)?;
     small_histories(checker)?;
     limits(checker)?;
     let mut areas = OwnedAreas::default();
@@ -59,9 +59,11 @@ pub fn test(checker: &mut Checker, volume: Volume) -> Result<(), Difference> {
 
 /// A long history taken back, and its plan read and swept, on a small stack:
 /// an overflow ends the program.
-fn small_stack() -> Result<(), Difference> {
+fn small_stack(checker: &mut Checker) -> Result<(), Difference> {
     let recorded = long(&mut Random::new(SEED));
     let after = to_vec(&recorded.after);
+    checker.plan(&after)?;
+    checker.undo(&after, &recorded.history)?;
     let calls = || {
         let mut outs = [(); 3].map(|()| vec![0; PLAN_BYTES]);
         let answers = [

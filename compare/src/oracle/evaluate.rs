@@ -1,7 +1,7 @@
 //! Document 01, 'The scripts': the evaluator. A value is a list of its own.
 
 use super::history::Record;
-use super::limits::{HISTORY_RECORDS, ITEMS, ROWS};
+use super::limits::{ITEMS, ROWS};
 use super::refusal::{Number, Refusal};
 use super::script::{Expression, Operation, Relation};
 use super::step::step;
@@ -84,7 +84,7 @@ impl Evaluator<'_> {
             // "delete 1": "its answer is empty"
             Operation::Delete => {
                 for item in self.value(&operands[0], variables)? {
-                    self.cut(item, place)?;
+                    self.cut(item);
                 }
                 Ok(Value::new())
             }
@@ -129,14 +129,13 @@ impl Evaluator<'_> {
 
     /// "Delete cuts each row of its value from its parent, and does nothing to
     /// a row without one."
-    fn cut(&mut self, number: u16, place: usize) -> Result<(), Refusal> {
+    fn cut(&mut self, number: u16) {
         let old = self.table.parent(number);
         if old.is_some() {
-            self.record(Record::Cut { number, old }, place)?;
+            self.history.push(Record::Cut { number, old });
             let row = &mut self.table.rows[usize::from(number)];
             *row = row.with_parent(None);
         }
-        Ok(())
     }
 
     /// "Insert needs a target value of exactly one item, an element, even when
@@ -178,18 +177,9 @@ impl Evaluator<'_> {
             return Err(Number::Table.at(place));
         }
         let number = self.table.rows.len() as u16;
-        self.record(Record::Made { number, row }, place)?;
+        self.history.push(Record::Made { number, row });
         self.table.rows.push(row);
         Ok(vec![number])
-    }
-
-    /// 9: "a run needs a 2,049th record".
-    fn record(&mut self, record: Record, place: usize) -> Result<(), Refusal> {
-        if self.history.len() == HISTORY_RECORDS {
-            return Err(Number::History.at(place));
-        }
-        self.history.push(record);
-        Ok(())
     }
 }
 

@@ -12,7 +12,7 @@ pub const DEPTH: usize = 16;
 pub const BINDERS: usize = 8;
 /// Items in a value.
 pub const ITEMS: usize = 512;
-/// Records in a history.
+/// Records in a history that is read; a run writes fewer, as `bound.rs` says.
 pub const HISTORY_RECORDS: usize = 2048;
 
 /// Two-byte numbers in the answer area of a run.

@@ -1,4 +1,5 @@
-//! The oracle: document 01 written from its text alone, and naive on purpose.
+//! The oracle: document 01, as request (h) of document 02 changes it, written
+//! from their text alone, and naive on purpose.
 //! Each rule stands beside the sentence that it is, in quotation marks, and is
 //! written in the way that is easiest to check against it, however slow: steps
 //! and the sweep walk up from each row, an insert copies by recursion, values
@@ -6,6 +7,7 @@
 //! the oracle and never the rival.
 
 pub mod analysis;
+pub mod bound;
 pub mod calls;
 pub mod evaluate;
 pub mod history;

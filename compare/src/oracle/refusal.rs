@@ -1,6 +1,7 @@
 //! Refusals: a number and a place.
 
-/// The numbers of document 01's table of refusals.
+/// The numbers of document 01's table of refusals. 9 is retired by request (h)
+/// of document 02, and its number is not used again.
 #[derive(Clone, Copy, Debug, PartialEq, Eq)]
 #[repr(u8)]
 pub enum Number {
@@ -20,8 +21,6 @@ pub enum Number {
     Target = 7,
     /// A join or 'for' passes the items of a value.
     Items = 8,
-    /// A run needs one history record too many.
-    History = 9,
     /// New rows pass the table's limit.
     Table = 10,
     /// A lent area is too short.
@@ -37,6 +36,20 @@ pub struct Refusal {
 }
 
 impl Number {
+    /// All of them.
+    pub const ALL: [Number; 10] = [
+        Number::Kind,
+        Number::Short,
+        Number::Tail,
+        Number::Field,
+        Number::Size,
+        Number::Link,
+        Number::Target,
+        Number::Items,
+        Number::Table,
+        Number::Lent,
+    ];
+
     /// The refusal with this number at `place`.
     pub const fn at(self, place: usize) -> Refusal {
         Refusal {

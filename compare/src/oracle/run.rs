@@ -66,7 +66,8 @@ pub struct Tally {
 }
 
 impl Tally {
-    fn of(history: &[Record]) -> Tally {
+    /// Counts the records of a history.
+    pub fn of(history: &[Record]) -> Tally {
         let is_made = |record: &&Record| matches!(record, Record::Made { .. });
         let is_cut = |record: &&Record| matches!(record, Record::Cut { .. });
         Tally {

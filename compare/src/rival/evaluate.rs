@@ -199,8 +199,8 @@ impl<'a> Evaluator<'a> {
         self.top = start + kept;
     }
 
-    /// Cuts each row of a value from its parent. There are never too many
-    /// records: a row is made at most once and cut at most once.
+    /// Cuts each row of a value from its parent. The history area has room for
+    /// the records: a row is made at most once and cut at most once.
     fn delete(&mut self, value: Span) {
         for &item in &self.stack[value.range()] {
             let row = &mut self.table.rows[at(item)];

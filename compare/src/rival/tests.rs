@@ -2,6 +2,7 @@
 //! content of each lent area.
 
 use super::calls;
+use crate::cases::longest;
 use crate::generate::histories::{long, of_changes, of_run};
 use crate::generate::pairs::{most_deletes, most_paths, most_steps, pair};
 use crate::generate::plans::{any_table, full_table};
@@ -171,6 +172,9 @@ fn runs() {
         assert!(ours == theirs, "{plan:02X?} {script:02X?}");
         counts.add(answer);
     };
+    for longest in longest() {
+        same(&longest.run.plan, &longest.run.script);
+    }
     for round in 0..6000 {
         let Case { plan, script } = case(&mut random);
         let plan = to_vec(&plan);

@@ -6,8 +6,8 @@ use Prim.Native.Nat.{ℕ, _≤_}
 use native.Mathlib.Omega.{arith}
 use lib.ListN.{length}
 use borrow.Author.Tests.{le-ltb, ne-eqb}
-use Rattle.model.specs.Base.{isIn, atFront, areBytes}
-use Rattle.model.specs.Call.{Ran, areasFit, ranBy, runBy}
+use Rattle.model.specs.Base.{atFront, areBytes}
+use Rattle.model.specs.Call.{Ran, areasFit, ranBy, runBy, isOfCall}
 use Rattle.model.specs.Refusal as refusal
 use Rattle.model.specs.Run.{Out, gives, refused, State}
 use Rattle.model.specs.Script.{readScript}
@@ -41,7 +41,7 @@ use Rattle.plan_table.proofs.EncodeLaws.{decode-encode, fits-encode}
 use Rattle.plan_writer.proofs.WritePlanLaws.{well-written, well-out}
 use Rattle.plan.proofs.Promised.{read-short, read-back}
 use Rattle.paths.proofs.Promised.{free-told}
-use Rattle.run.proofs.OutcomeLaws.{run-refuses, outcome-well}
+use Rattle.run.proofs.OutcomeLaws.{run-refuses, isOfCall-some, outcome-well}
 use Rattle.run.proofs.Promised.{runsCommute}
 use lib.Seq.{take-at}
 use Rattle.model.specs.History.{historyBytes}
@@ -123,12 +123,12 @@ call-of p s a h w o d x t well e g ok =
     called-on p s a h w o d x e ok ∙ ap (λ (l : Ran). ranCall (resultOf (encode x) l) l o d) left
 
 -- a run that is refused
-refused-called : (x : model.Table) (a h w : List ℕ) (f : refusal.Refusal) (o d : List ℕ) → isIn 1 10 (f .number) ≡ true →
+refused-called : (x : model.Table) (a h w : List ℕ) (f : refusal.Refusal) (o d : List ℕ) → isOfCall (f .number) ≡ true →
     ranCall (resultOf (encode x) (ranBy x (length a) (length h) (length w) (refused f)))
     (ranBy x (length a) (length h) (length w) (refused f))
     o d ≡
     refusedCall (refusal.values (f .number) 2 (f .place)) a h w o d
-refused-called x a h w f o d k = rw (ne-eqb (f .number) 0 (isIn-some 0 10 (f .number) k))
+refused-called x a h w f o d k = rw (ne-eqb (f .number) 0 (isOfCall-some (f .number) k))
 
 -- done: the areas, and the plan and the history that are left
 module _ (p s a h w o d : List ℕ) (x : model.Table) (well : isWell x ≡ true) (read : readPlan p ≡ got x)

@@ -10,7 +10,7 @@ use lib.ListN.{length, getD, take, replicate}
 use Rattle.model.specs.Base.{areBytes, atFront, isIn}
 use Rattle.model.specs.Call.{Areas, AllSuffice, filled, runBy, Ran, CallsEqual}
 use Rattle.model.specs.History.{isMade, isCut, times, historyBytes}
-use Rattle.model.specs.Refusal.{Refusal, fine, lentShort, Values, values}
+use Rattle.model.specs.Refusal.{Refusal, fine, isListed, Values, values}
 use Rattle.model.specs.Run.{State, gives, refused}
 use Rattle.model.specs.Script.{readScript}
 use Rattle.model.specs.Stored.{stored, refused, got, readPlan}
@@ -91,7 +91,7 @@ RunAreaShort =
 abbrev pub Decodes : Values → Type 0
 Decodes v =
     (decoded (codeOf v) .number ≡ v .number) × (decoded (codeOf v) .which ≡ v .which) ×
-    (v .place < placeLimit → decoded (codeOf v) .place ≡ v .place) × (isIn 0 (lentShort .number) (v .number) ≡ true) ×
+    (v .place < placeLimit → decoded (codeOf v) .place ≡ v .place) × (isListed (v .number) ≡ true) ×
     (isIn 0 2 (v .which) ≡ true)
 
 -- of every call: the five of the header, and the three for tests alone

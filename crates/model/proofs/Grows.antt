@@ -1,44 +1,29 @@
--- A run of whatever expression does nothing but make rows and cut links, and stops only with a refusal of its own, whose number is from
--- 7 to 10.
-use mathlib.Core.Path.{_≡_, refl, sym, ap, _∙_}
-use mathlib.Core.Bool.{true, _&&_, cond, false≢true}
+-- A run of whatever expression does nothing but make rows and cut links, and stops only with a refusal of its own, whose number is 7, 8
+-- or 10.
+use mathlib.Core.Path.{_≡_, refl}
+use mathlib.Core.Bool.{true, _&&_}
 use mathlib.Core.List.{List, [], _∷_, _++_}
-use mathlib.Core.Option.{Option, none, some}
-use Prim.Native.Nat.{ℕ, _+_, _≤_}
-use native.Mathlib.Omega.{arith}
+use Prim.Native.Nat.{ℕ, _+_}
 use lib.Dec.{ltb, eqb}
 use lib.ListN.{length, getD}
-use borrow.Author.Tests.{ltb-true, ltb-false}
-use Rattle.model.specs.Base.{isIn}
-use Rattle.model.specs.Limits.{maxRows, maxItems, maxHistory}
-use Rattle.model.specs.Refusal.{Refusal, isFine, unless, tableAt}
-use Rattle.model.specs.Table.{Row, Table, rowAt, count, isElement}
+use borrow.Author.Tests.{ltb-true}
+use Rattle.model.specs.Limits.{maxRows, maxItems}
+use Rattle.model.specs.Refusal.{Refusal, isOfRun}
+use Rattle.model.specs.Table.{Row, Table, count, isElement}
 use Rattle.model.specs.Script.{Expr, nil, document, var, step, both, letIn, forIn, ifIn, element, leaf, delete, insert, pick}
-use Rattle.model.specs.Run.{State, Out, refused, gives, andThen, thenRow, joinItems, joinFor, withMade, newRow}
-use Rattle.model.specs.Run.{cutRow, cutBy, cutAll, Copied, copyRow, subtree, copyEach, copyAll, inserted, loop, run}
-use Rattle.model.proofs.BoolLaws.{cond-cases, by-cases}
-use Rattle.model.proofs.RefusalLaws.{isFine-unless}
-use Rattle.model.proofs.RanLaws.{Leads, begun, rowMade, linkCut, leads-then}
+use Rattle.model.specs.Run.{State, Out, refused, gives, andThen, thenRow, joinItems, joinFor, newRow}
+use Rattle.model.specs.Run.{cutAll, Copied, copyRow, subtree, copyEach, copyAll, inserted, loop, run}
+use Rattle.model.specs.Leads.{Leads, begun, rowMade, AnyRow}
+use Rattle.model.proofs.BoolLaws.{cond-cases}
+use Rattle.model.proofs.LeadsLaws.{leads-then, cuts-lead}
 
--- any row
-abbrev pub AnyRow : Table → Row → Type 0
-AnyRow x r = Unit
-
--- a history of so many records that one more is refused
-abbrev pub IsFull : State → Type 0
-IsFull a = (t : State) × (Leads AnyRow a t × (maxHistory ≤ length (t .history)))
-
--- AN OUTCOME from the state a: a refusal of its own, 9 only with a full history; or a value and a state that a leads to
+-- AN OUTCOME from the state a: a refusal of the run's own, or a value and a state that a leads to
 pub data Grows (a : State) : Out → Type 0 where
-  refuses : {z : Refusal} → isIn 7 10 (z .number) ≡ true → (z .number ≡ 9 → IsFull a) → Grows a (refused z)
+  refuses : {z : Refusal} → isOfRun (z .number) ≡ true → Grows a (refused z)
   keeps : {v : List ℕ} {s : State} → Leads AnyRow a s → Grows a (gives v s)
 
--- a refusal other than 9
-pub refuses-other : {a : State} {z : Refusal} → isIn 7 10 (z .number) ≡ true → (z .number ≡ 9 → ⊥) → Grows a (refused z)
-refuses-other h n = refuses h (λ e. absurd (n e))
-
 grows-from : {a b : State} {o : Out} → Leads AnyRow a b → Grows b o → Grows a o
-grows-from r (refuses e f) = refuses e (λ n. let (t, q) = f n in (t, (leads-then r (q .0), q .1)))
+grows-from r (refuses e) = refuses e
 grows-from r (keeps q) = keeps (leads-then r q)
 
 pub grows-gives : (v : List ℕ) (s : State) → Grows s (gives v s)
@@ -46,48 +31,27 @@ grows-gives v s = keeps begun
 
 pub grows-then : {a : State} {o : Out} (next : List ℕ → State → Out) → Grows a o → ((v : List ℕ) (s : State) → Grows s (next v s)) →
     Grows a (andThen o next)
-grows-then next (refuses e f) h = refuses e f
+grows-then next (refuses e) h = refuses e
 grows-then next (keeps {v} {s} r) h = grows-from r (h v s)
 
 pub grows-row : {a : State} {o : Out} (next : State → Out) → Grows a o → ((s : State) → Grows s (next s)) → Grows a (thenRow o next)
-grows-row next (refuses e f) h = refuses e f
+grows-row next (refuses e) h = refuses e
 grows-row next (keeps {s = s} r) h = grows-from r (h s)
 
 grows-for : {a : State} {o : Out} (z : ℕ) (v : List ℕ) (next : List ℕ → State → Out) → Grows a o →
     ((v : List ℕ) (s : State) → Grows s (next v s)) → Grows a (joinFor z v o next)
-grows-for z v next (refuses e f) h = refuses e f
+grows-for z v next (refuses e) h = refuses e
 grows-for {a} z v next (keeps {v = w} {s} r) h =
-    cond-cases (Grows a) (ltb maxItems (length v + length w)) (λ e. refuses-other refl (λ n. omega arith))
+    cond-cases (Grows a) (ltb maxItems (length v + length w)) (λ e. refuses refl)
     (λ e. grows-from r (h (v ++ w) s))
 
-grows-new : (z : ℕ) (r : Row) (s : State) → Grows s (newRow z r s)
+pub grows-new : (z : ℕ) (r : Row) (s : State) → Grows s (newRow z r s)
 grows-new z r s =
-    cond-cases Unless (isFine full)
-    (λ e.
-    let l = ltb-true (count (s .plan)) maxRows (sym (isFine-unless (ltb (count (s .plan)) maxRows) 9 z) ∙ e) in
-    by-cases (ltb (length (s .history)) maxHistory) (λ f. rw f (keeps (rowMade s r begun l tt)))
-    (λ f. rw f (refuses refl (λ n. (s, (begun, ltb-false (length (s .history)) maxHistory f))))))
-    (λ e.
-    by-cases (ltb (count (s .plan)) maxRows) (λ f. absurd (false≢true (sym e ∙ ap (λ b. isFine (unless b (tableAt z))) f)))
-    (λ f. rw f (refuses-other refl (λ n. omega arith))))
-  where
-    full : Refusal
-    full = unless (ltb (count (s .plan)) maxRows) (tableAt z)
+    cond-cases (Grows s) (ltb (count (s .plan)) maxRows)
+    (λ e. keeps (rowMade s r begun (ltb-true (count (s .plan)) maxRows e) tt)) (λ e. refuses refl)
 
-    Unless : Refusal → Type 0
-    Unless f = Grows s (cond (isFine f) (gives (count (s .plan) ∷ []) (withMade s r)) (refused f))
-
-pub grows-cut : (z : ℕ) (v : List ℕ) (s : State) → Grows s (cutAll z v s)
-unfolding cutAll
-grows-cut z [] s = grows-gives [] s
-grows-cut z (i ∷ is) s = go (rowAt (s .plan) i .parent) refl (λ t. grows-cut z is t)
-  where
-    go : (q : Option ℕ) → rowAt (s .plan) i .parent ≡ q → ((t : State) → Grows t (cutAll z is t)) →
-        Grows s (cutBy z i s q (λ t. cutAll z is t))
-    go none e h = h s
-    go (some p) e h =
-        cond-cases (Grows s) (ltb (length (s .history)) maxHistory) (λ f. grows-from (linkCut s i p begun e) (h (cutRow s i p)))
-        (λ f. refuses refl (λ n. (s, (begun, ltb-false (length (s .history)) maxHistory f))))
+pub grows-cut : (v : List ℕ) (s : State) → Grows s (gives [] (cutAll v s))
+grows-cut v s = keeps (cuts-lead v s)
 
 pub grows-each : (z : ℕ) (x : Table) (t g : ℕ) (is : List ℕ) (cs : List Copied) (s : State) →
     Grows s (copyEach z x t g is cs s)
@@ -103,7 +67,7 @@ grows-copy z x (i ∷ is) g s = grows-row _ (grows-each z x i g (subtree x i) []
 pub grows-insert : (z : ℕ) (v w : List ℕ) (s : State) → Grows s (inserted z v w s)
 grows-insert z v w s =
     cond-cases (Grows _) (eqb (length w) 1 && isElement (s .plan) (getD w 0 0))
-    (λ e. grows-copy z (s .plan) v (getD w 0 0) s) (λ e. refuses-other refl (λ n. omega arith))
+    (λ e. grows-copy z (s .plan) v (getD w 0 0) s) (λ e. refuses refl)
 
 pub grows-loop : (z : ℕ) (f : ℕ → State → Out) → ((i : ℕ) (s : State) → Grows s (f i s)) → (v w : List ℕ) (s : State) →
     Grows s (loop z f v w s)
@@ -113,7 +77,7 @@ grows-loop z f h (i ∷ is) w s = grows-for z w _ (h i s) (λ w t. grows-loop z 
 
 pub grows-join : (z : ℕ) (v w : List ℕ) (s : State) → Grows s (joinItems z v w s)
 grows-join z v w s =
-    cond-cases (Grows _) (ltb maxItems (length v + length w)) (λ e. refuses-other refl (λ n. omega arith)) (λ e. grows-gives (v ++ w) s)
+    cond-cases (Grows _) (ltb maxItems (length v + length w)) (λ e. refuses refl) (λ e. grows-gives (v ++ w) s)
 
 pub run-grows : (e : Expr) (b : List (List ℕ)) (s : State) → Grows s (run e b s)
 unfolding run
@@ -131,7 +95,7 @@ run-grows (ifIn z e f g) b s =
     (λ v u. cond-cases (Grows _) (eqb (length v) 0) (λ e. run-grows g b u) (λ e. run-grows f b u))
 run-grows (element z n) b s = grows-new z _ s
 run-grows (leaf z v) b s = grows-new z _ s
-run-grows (delete z e) b s = grows-then _ (run-grows e b s) (λ v u. grows-cut z v u)
+run-grows (delete z e) b s = grows-then _ (run-grows e b s) (λ v u. grows-cut v u)
 run-grows (insert z e f) b s =
     grows-then _ (run-grows e b s) (λ v u. grows-then _ (run-grows f b u) (λ w q. grows-insert z v w q))
 run-grows (pick z r c e) b s = grows-then _ (run-grows e b s) (λ v u. grows-gives _ u)

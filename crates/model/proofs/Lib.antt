@@ -11,9 +11,10 @@ pub mod BytesLaws
 pub mod StoredBack
 pub mod SweepLaws
 pub mod SweepsWell
-pub mod RanLaws
-pub mod HistoryLaws
 pub mod FormLaws
+pub mod LeadsLaws
+pub mod HistoryLaws
+pub mod RanLaws
 pub mod UndoLaws
 pub mod ScriptLaws
 pub mod ValueLaws

@@ -9,19 +9,19 @@ use lib.Dec.{ltb, eqb}
 use lib.ListN.{length, getD}
 use borrow.Author.Tests.{ltb-true, eqb-true, lt-ltb}
 use Rattle.model.specs.Base.{nothing, also}
-use Rattle.model.specs.Limits.{maxRows, maxItems, maxHistory}
-use Rattle.model.specs.Refusal.{isFine, historyAt, unless}
+use Rattle.model.specs.Limits.{maxRows, maxItems}
+use Rattle.model.specs.Refusal.{tableAt}
 use Rattle.model.specs.Table.{Row, Table, rowAt, count, isElement, withRow, linked, tagFits, parentFits, Tree}
 use Rattle.model.specs.Script.{Expr, nil, document, var, step, both, letIn, forIn, ifIn, element, leaf, delete, insert, pick}
-use Rattle.model.specs.Run.{State, state, Out, refused, gives, andThen, joinItems, withMade, roomRefusal, newRow, loose, cutRow}
-use Rattle.model.specs.Run.{cutBy}
+use Rattle.model.specs.Run.{State, state, Out, refused, gives, andThen, joinItems, withMade, newRow, loose}
 use Rattle.model.specs.Run.{cutAll, Copied, copyOf, copyParent, copyRow, subtree, thenRow, copyEach, copyAll, inserted, joinFor}
 use Rattle.model.specs.Run.{loop, run, runOn, AreRows, AreValues}
-use Rattle.model.proofs.BoolLaws.{and-left, and-right, and-both, cond-cases}
-use Rattle.model.proofs.RefusalLaws.{isFine-check}
+use Rattle.model.specs.Leads.{Leads, begun, rowMade, linkCut}
+use Rattle.model.proofs.BoolLaws.{and-right, and-both, cond-cases}
 use Rattle.model.proofs.TableLaws.{isElement-at, isElement-by, parent-count, Well}
 use Rattle.model.proofs.GrowLaws.{count-withRow, rowAt-withRow-old, rowAt-withRow-new, count-linked, isLeaf-linked}
-use Rattle.model.proofs.RanLaws.{ComesTo, begun, rowMade, linkCut, ran-well}
+use Rattle.model.proofs.LeadsLaws.{leads-then, cuts-lead}
+use Rattle.model.proofs.RanLaws.{Fits, ComesTo, ran-well}
 use Rattle.model.proofs.ScriptLaws.{FieldsFit}
 use Rattle.model.proofs.ValueLaws.{areRows-more, areValues-more, collect-rows, marked-rows}
 use Rattle.model.proofs.All.{all-append, all-snoc, all-read, all-filtered}
@@ -57,6 +57,11 @@ enlarged-element {y} {z} i g h =
     let k = isElement-at y i h in
     isElement-by z i (omega (arith, g .more, k .0)) (g .kinds i (k .0) ∙ k .1)
 
+enlarged-leads : {a b : State} → Leads Fits a b → Enlarged (a .plan) (b .plan)
+enlarged-leads {a} begun = enlarged-self (a .plan)
+enlarged-leads (rowMade s r q c f) = enlarged-then (enlarged-leads q) (enlarged-withRow (s .plan) r)
+enlarged-leads (linkCut s i p q e) = enlarged-then (enlarged-leads q) (enlarged-cut (s .plan) i p e)
+
 -- AN OUTCOME from a state with table y: a refusal, or rows of an enlarged table that a run on x can come to
 abbrev pub Keeps : (x y : Table) → Out → Type 0
 Keeps x y (refused f) = Unit
@@ -81,36 +86,18 @@ gives-keeps : (x : Table) (v : List ℕ) (s : State) → ComesTo x s → AreRows
 gives-keeps x v s r a = (r, a, enlarged-self (s .plan))
 
 -- NEW ROWS
-roomRefusal-room : (z : ℕ) (s : State) → isFine (roomRefusal z s) ≡ true → count (s .plan) < maxRows
-roomRefusal-room z s h =
-    ltb-true (count (s .plan)) maxRows
-    (and-left _ _
-    (sym (isFine-check (ltb (count (s .plan)) maxRows) 9 z (unless (ltb (length (s .history)) maxHistory) (historyAt z))) ∙ h))
-
 newRow-keeps : (x : Table) (z : ℕ) (r : Row) (s : State) → ComesTo x s → tagFits r ≡ true →
     parentFits (s .plan) (count (s .plan)) (r .parent) ≡ true → Keeps x (s .plan) (newRow z r s)
 newRow-keeps x z r s q f g =
-    cond-cases (Keeps x (s .plan)) (isFine (roomRefusal z s))
+    cond-cases (Keeps x (s .plan)) (ltb (count (s .plan)) maxRows)
     (λ e.
     let l : count (s .plan) < count (withRow (s .plan) r) = omega (arith, count-withRow (s .plan) r) in
-    (rowMade s r q (roomRefusal-room z s e) (f, g), also l nothing, enlarged-withRow (s .plan) r))
+    (rowMade s r q (ltb-true (count (s .plan)) maxRows e) (f, g), also l nothing, enlarged-withRow (s .plan) r))
     (λ e. tt)
 
 -- DELETE
-cutAll-keeps : (x : Table) (z : ℕ) (is : List ℕ) (s : State) → ComesTo x s → Keeps x (s .plan) (cutAll z is s)
-unfolding cutAll
-cutAll-keeps x z [] s r = gives-keeps x [] s r nothing
-cutAll-keeps x z (i ∷ is) s r = go (rowAt (s .plan) i .parent) refl (λ t q. cutAll-keeps x z is t q)
-  where
-    go : (p : Option ℕ) → rowAt (s .plan) i .parent ≡ p → ((t : State) → ComesTo x t → Keeps x (t .plan) (cutAll z is t)) →
-        Keeps x (s .plan) (cutBy z i s p (λ (t : State). cutAll z is t))
-    go none e h = h s r
-    go (some p) e h =
-        cond-cases (Keeps x (s .plan)) (ltb (length (s .history)) maxHistory)
-        (λ q.
-        keeps-from x (s .plan) (linked (s .plan) i none) (cutAll z is (cutRow s i p)) (enlarged-cut (s .plan) i p e)
-        (h (cutRow s i p) (linkCut s i p r e)))
-        (λ q. tt)
+cutAll-keeps : (x : Table) (v : List ℕ) (s : State) → ComesTo x s → Keeps x (s .plan) (gives [] (cutAll v s))
+cutAll-keeps x v s r = (leads-then r (cuts-lead v s), nothing, enlarged-leads (cuts-lead {F = Fits} v s))
 
 -- INSERT. A copy stands at its new number, with the kind of what it copies; y: the table as it was before the insert
 abbrev CopiesWell : (y z : Table) → List Copied → Type 0
@@ -157,7 +144,7 @@ module _ (x y : Table) (ty : Tree y) (place t g : ℕ) where
       isElement (s .plan) g ≡ true → Keeps x (s .plan) (copyEach place y t g is cs s)
   unfolding copyEach
   copyEach-keeps nothing cs s r c h = gives-keeps x [] s r nothing
-  copyEach-keeps (also {a = i} {l = is} l a) cs s r c h = go (isFine (roomRefusal place s)) refl (copyEach-keeps a)
+  copyEach-keeps (also {a = i} {l = is} l a) cs s r c h = go (ltb (count (s .plan)) maxRows) refl (copyEach-keeps a)
     where
       w : Row
       w = copyRow y t g i cs
@@ -165,17 +152,17 @@ module _ (x y : Table) (ty : Tree y) (place t g : ℕ) where
       ds : List Copied
       ds = record { old = i; new = count (s .plan) } ∷ cs
 
-      go : (b : Bool) → isFine (roomRefusal place s) ≡ b →
+      go : (b : Bool) → ltb (count (s .plan)) maxRows ≡ b →
           ((cs : List Copied) (u : State) → ComesTo x u → CopiesWell y (u .plan) cs → isElement (u .plan) g ≡ true →
           Keeps x (u .plan) (copyEach place y t g is cs u)) →
           Keeps x (s .plan)
-          (thenRow (cond b (gives (count (s .plan) ∷ []) (withMade s w)) (refused (roomRefusal place s)))
+          (thenRow (cond b (gives (count (s .plan) ∷ []) (withMade s w)) (refused (tableAt place)))
           (λ (u : State). copyEach place y t g is ds u))
       go true e next =
           let f = enlarged-withRow (s .plan) w in
           keeps-from x (s .plan) (withRow (s .plan) w) (copyEach place y t g is ds (withMade s w)) f
           (next ds (withMade s w)
-          (rowMade s w r (roomRefusal-room place s e) (ty .tags i l, copyParent-fits (s .plan) i cs c h))
+          (rowMade s w r (ltb-true (count (s .plan)) maxRows e) (ty .tags i l, copyParent-fits (s .plan) i cs c h))
           (copies-more y (s .plan) i w cs refl c) (enlarged-element g f h))
       go false e next = tt
 
@@ -255,7 +242,7 @@ module _ (x : Table) (well : Well x) where
   run-keeps (element z n) t b s r a = newRow-keeps x z (loose false n) s r t refl
   run-keeps (leaf z v) t b s r a = newRow-keeps x z (loose true v) s r t refl
   run-keeps (delete z e) t b s r a =
-      andThen-keeps x (s .plan) (run e b s) _ (run-keeps e t b s r a) (λ v u w c g. cutAll-keeps x z v u w)
+      andThen-keeps x (s .plan) (run e b s) _ (run-keeps e t b s r a) (λ v u w c g. cutAll-keeps x v u w)
   run-keeps (insert z e f) t b s r a =
       andThen-keeps x (s .plan) (run e b s) _ (run-keeps e (t .0) b s r a)
       (λ v u w c g.

@@ -12,7 +12,7 @@ use Rattle.model.specs.Paths.{Path}
 use Rattle.model.proofs.Words.{first}
 use Rattle.model.proofs.Labels.{Label, label, labelAt}
 use Rattle.model.proofs.All.{all-imp}
-use Rattle.model.proofs.RanLaws.{leads-more}
+use Rattle.model.proofs.LeadsLaws.{leads-more}
 use Rattle.model.proofs.Grows.{Grows, refuses, keeps}
 use Rattle.model.proofs.Twin.{World, Item, φ, ones, Twin, Valued, Vals, Full, isRefused, passed, Sim, both, alike, full}
 
@@ -74,7 +74,7 @@ module _ (W : World) where
   sim-more r news more (full k f) = full k f
 
   pub full-grows : (a : State) (o : Out) → maxRows < count (a .plan) + W .m → Grows a o → Full W o
-  full-grows a o h (refuses e f) = isRefused
+  full-grows a o h (refuses e) = isRefused
   full-grows a o h (keeps {v} {s} r) =
       let l : maxRows < count (s .plan) + W .m = omega (arith, leads-more r) in
       passed l

@@ -6,7 +6,6 @@ use Prim.Native.Nat.{ℕ}
 use lib.Dec.{eqb}
 use lib.ListN.{length, getD, length-map, List·getD-map}
 use Rattle.model.specs.Base.{nothing, also}
-use Rattle.model.specs.Table.{count}
 use Rattle.model.specs.Script.{Step, Expr, nil, document, var, step, both, letIn, forIn, ifIn, element, leaf, delete, insert, pick}
 use Rattle.model.specs.Step.{stepped, picked}
 use Rattle.model.specs.Run.{State, Out, gives, andThen, joinItems, inserted, loop, cutAll, run}
@@ -231,7 +230,7 @@ module _ (W : World) where
   delete-simulated : (z : ℕ) (e : Expr) → Simulated e → Simulated (delete z e)
   unfolding run infer hasUp
   delete-simulated z e E b v news s t u h k T =
-      sim-then W (x .result) [] news (λ w q. cutAll z w q) (λ w q. cutAll z w q)
+      sim-then W (x .result) [] news (λ w q. gives [] (cutAll w q)) (λ w q. gives [] (cutAll w q))
       (E b v news s t u (inside-first x [] [] (x .result ++ withStep anyBelow (x .result)) h) k T)
       (λ more w s t T a.
       cut-sim W (news ++ more) (x .result)
@@ -239,8 +238,8 @@ module _ (W : World) where
         h .1 p (Memᴰ·append-right (x .modified) (Memᴰ·append-left (withStep anyBelow (x .result)) i)),
         h .1 (p ▸ anyBelow) (Memᴰ·append-right (x .modified) (Memᴰ·append-right (x .result) (in-step anyBelow i))),
       ))
-      z w s t T a)
-      (λ w q. grows-cut z w q)
+      w s t T a)
+      (λ w q. grows-cut w q)
     where
       x : Paths
       x = infer (W .script .owner) e b

@@ -1,20 +1,15 @@
 -- Cuts in both states of a twin: they stay a twin. And what a script may change, with all below it.
-use mathlib.Core.Path.{_≡_, refl, sym, _∙_, ap, subst, subst₂}
-use mathlib.Core.Bool.{Bool, true, false, cond}
+use mathlib.Core.Path.{_≡_, refl, sym, _∙_, ap, subst}
 use mathlib.Core.Logic.{inl, inr}
 use mathlib.Core.List.{List, [], _∷_, _++_, map, map-append, List·Memᴰ as In}
 use mathlib.Core.Option.{Option, none, some, Option·none-ne-some}
 use Prim.Native.Nat.{ℕ, _<_}
 use native.Mathlib.Omega.{arith}
-use lib.Dec.{ltb}
-use lib.ListN.{length}
 use Rattle.model.specs.Base.{nothing, also}
-use Rattle.model.specs.Limits.{maxHistory}
-use Rattle.model.specs.Refusal.{historyAt}
 use Rattle.model.specs.Table.{rowAt, count, linked, withParent}
 use Rattle.model.specs.History.{cut}
 use Rattle.model.specs.Step.{Letter}
-use Rattle.model.specs.Run.{State, refused, cutRow, cutBy, cutAll}
+use Rattle.model.specs.Run.{State, gives, cutRow, cutBy, cutAll}
 use Rattle.model.specs.Paths.{Path, _▸_, anyBelow}
 use Rattle.model.proofs.GrowLaws.{count-linked, rowAt-linked-same, rowAt-linked-other, linked-cases}
 use Rattle.model.proofs.Words.{same, more, grown-trans}
@@ -25,8 +20,8 @@ use Rattle.model.proofs.Reach.{any-admits}
 use Rattle.model.proofs.All.{all-append, all-imp}
 use Rattle.model.proofs.Shift.{shift-injective}
 use Rattle.model.proofs.Twin.{Side, Script, SideFits, World, Changed, Item, Kept, RunFrom, φ, Twin, Valued, Vals, Sim}
-use Rattle.model.proofs.Twin.{φRow, φParent, φRecord, alike}
-use Rattle.model.proofs.TwinLaws.{label-side, label-across, Alike, row-bound, same-length, valued-alike, named-more}
+use Rattle.model.proofs.Twin.{φRow, φParent, φRecord}
+use Rattle.model.proofs.TwinLaws.{label-side, label-across, Alike, row-bound, valued-alike, named-more}
 use Rattle.model.proofs.SimLaws.{sim-gives}
 
 -- CHANGED: a row on p is changed with all below it where p and what is below p are modified; rows below it where the latter is
@@ -116,39 +111,24 @@ module _ (W : World) (news : List Label) (r : List Path) (m : Cuttable (W .scrip
           rowAt-linked-other (t .plan) (φ W i) none (φ W j) (λ e. n (shift-injective (W .n) (W .m) j i e)) ∙ T .alike j h c)
           (λ h c. rowAt-linked-same (t .plan) (φ W i) none bound ∙ ap (λ r. withParent r none) (T .alike i (a .0) (a .1)))
 
-  -- THE OUTCOME of cutting a value's rows
-  pub cut-sim : (z : ℕ) (v : List ℕ) (s t : State) → Twin W news s t → Vals W r news v →
-      Sim W [] news (cutAll z v s) (cutAll z (map (φ W) v) t)
+  -- a value's rows cut, one after the other
+  cuts-twin : (v : List ℕ) (s t : State) → Twin W news s t → Vals W r news v → Twin W news (cutAll v s) (cutAll (map (φ W) v) t)
   unfolding cutAll
-  cut-sim z [] s t T nothing = sim-gives W [] news [] s t T nothing
-  cut-sim z (i ∷ is) s t T (also k a) =
-      go (rowAt (s .plan) i .parent) refl (λ u q U. cut-sim z is u q U a)
+  cuts-twin [] s t T nothing = T
+  cuts-twin (i ∷ is) s t T (also k a) = cuts-twin is _ _ (go (rowAt (s .plan) i .parent) refl) a
     where
       A : Alike W s i (φ W i)
       A = valued-alike W news s t T r i k
 
+      across : (o : Option ℕ) → rowAt (s .plan) i .parent ≡ o → rowAt (t .plan) (φ W i) .parent ≡ φParent W o
+      across o e = ap (λ r. r .parent) (T .alike i (A .0) (A .1)) ∙ ap (φParent W) e
+
       go : (o : Option ℕ) → rowAt (s .plan) i .parent ≡ o →
-          ((u q : State) → Twin W news u q → Sim W [] news (cutAll z is u) (cutAll z (map (φ W) is) q)) →
-          Sim W [] news (cutBy z i s (rowAt (s .plan) i .parent) (λ t. cutAll z is t))
-          (cutBy z (φ W i) t (rowAt (t .plan) (φ W i) .parent) (λ t. cutAll z (map (φ W) is) t))
-      go none e h =
-          subst₂
-          (λ o p.
-          Sim W [] news (cutBy z i s o (λ t. cutAll z is t)) (cutBy z (φ W i) t p (λ t. cutAll z (map (φ W) is) t)))
-          (sym e) (sym (ap (λ r. r .parent) (T .alike i (A .0) (A .1)) ∙ ap (φParent W) e)) (h s t T)
-      go (some p) e h =
-          subst₂
-          (λ o p.
-          Sim W [] news (cutBy z i s o (λ t. cutAll z is t)) (cutBy z (φ W i) t p (λ t. cutAll z (map (φ W) is) t)))
-          (sym e) (sym (ap (λ r. r .parent) (T .alike i (A .0) (A .1)) ∙ ap (φParent W) e))
-          (subst
-          (λ k.
-          Sim W [] news (cond (ltb (length (s .history)) maxHistory) (cutAll z is (cutRow s i p)) (refused (historyAt z)))
-          (cond (ltb k maxHistory) (cutAll z (map (φ W) is) (cutRow t (φ W i) (φ W p))) (refused (historyAt z))))
-          (sym (same-length W news s t T)) (by (ltb (length (s .history)) maxHistory)))
-        where
-          by : (b : Bool) →
-              Sim W [] news (cond b (cutAll z is (cutRow s i p)) (refused (historyAt z)))
-              (cond b (cutAll z (map (φ W) is) (cutRow t (φ W i) (φ W p))) (refused (historyAt z)))
-          by true = h (cutRow s i p) (cutRow t (φ W i) (φ W p)) (twin-cut s t T i p k e)
-          by false = alike
+          Twin W news (cutBy i s (rowAt (s .plan) i .parent)) (cutBy (φ W i) t (rowAt (t .plan) (φ W i) .parent))
+      go none e = rw (e, across none e) T
+      go (some p) e = rw (e, across (some p) e) (twin-cut s t T i p k e)
+
+  -- THE OUTCOME of cutting a value's rows
+  pub cut-sim : (v : List ℕ) (s t : State) → Twin W news s t → Vals W r news v →
+      Sim W [] news (gives [] (cutAll v s)) (gives [] (cutAll (map (φ W) v) t))
+  cut-sim v s t T a = sim-gives W [] news [] (cutAll v s) (cutAll (map (φ W) v) t) (cuts-twin v s t T a) nothing

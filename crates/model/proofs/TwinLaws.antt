@@ -6,7 +6,7 @@ use mathlib.Core.Option.{Option, none, some, Option·none-ne-some, Option·some-
 use Prim.Native.Nat.{ℕ, _+_, _-_, _<_, _≤_}
 use native.Mathlib.Omega.{arith}
 use native.Mathlib.Decide.{decLt}
-use lib.ListN.{length, length-append, length-map, List·getD-append}
+use lib.ListN.{length, length-append, List·getD-append}
 use lib.Seq.{getD-append-add}
 use Rattle.model.specs.Table.{rowAt, count}
 use Rattle.model.specs.History.{Record, made, cut}
@@ -22,7 +22,7 @@ use Rattle.model.proofs.All.{all-map, all-in}
 use Rattle.model.specs.Base.{All}
 use Rattle.model.proofs.Shift.{shift-low, shift-high, shift-cases}
 use Rattle.model.proofs.Twin.{Side, Script, SideFits, World, Touched, Item, RunFrom, φ, ones, twos, Twin, Valued, Vals, alike, φRow}
-use Rattle.model.proofs.Twin.{φParent, φRecord, Named}
+use Rattle.model.proofs.Twin.{φParent, Named}
 
 pub in-step : (s : Step) {p : Path} {r : List Path} → In p r → In (p ▸ s) (withStep s r)
 in-step s i = Memᴰ·map (λ (p : Path). p ▸ s) i
@@ -121,9 +121,6 @@ module _ (W : World) where
         go : ((i < W .n) × (φ W i ≡ i)) ⊎ ((W .n ≤ i) × (φ W i ≡ i + W .m)) → φ W i < count (t .plan)
         go (inl (a, e)) = omega (arith, one-count, two-count)
         go (inr (a, e)) = omega (arith, one-count, two-count)
-
-    pub same-length : length (t .history) ≡ length (s .history)
-    same-length = ap length (T .histories) ∙ length-map (s .history) (φRecord W)
 
     -- the label of the next row
     pub label-last : (l : Label) → labelAt (ones W (news ++ (l ∷ []))) (count (s .plan)) ≡ l

@@ -1,41 +1,33 @@
 -- A row more in both states of a twin: they stay a twin, or there is no room, or no room for the second alone.
 use mathlib.Core.Path.{_≡_, refl, sym, _∙_, ap, ap₂, subst, subst₂}
-use mathlib.Core.Bool.{Bool, true, false}
-use mathlib.Core.Logic.{_⊎_, inl, inr}
+use mathlib.Core.Bool.{false}
 use mathlib.Core.List.{List, [], _∷_, _++_, append-assoc, map-append}
 use mathlib.Core.Option.{Option, none, some, Option·none-ne-some, Option·some-injective}
 use Prim.Native.Nat.{ℕ, _+_, _<_, _≤_}
 use native.Mathlib.Omega.{arith}
-use lib.Dec.{ltb}
-use lib.ListN.{length, length-append}
-use borrow.Author.Tests.{ltb-true, ltb-false}
-use Rattle.model.specs.Limits.{maxRows, maxHistory}
-use Rattle.model.specs.Refusal.{Refusal, isFine, orElse, unless, tableAt, historyAt}
+use native.Mathlib.Decide.{decLt}
+use lib.ListN.{length-append}
+use Rattle.model.specs.Limits.{maxRows}
+use Rattle.model.specs.Refusal.{Refusal, tableAt}
 use Rattle.model.specs.Table.{Row, rowAt, count, withRow}
 use Rattle.model.specs.History.{made}
 use Rattle.model.specs.Step.{letterOf}
-use Rattle.model.specs.Run.{State, Out, refused, gives, withMade, roomRefusal, newRow}
+use Rattle.model.specs.Run.{State, Out, refused, gives, withMade, newRow}
 use Rattle.model.specs.Paths.{Path}
-use Rattle.model.proofs.BoolLaws.{bool-cases, cond-true, cond-false}
 use Rattle.model.proofs.TableLaws.{parent-count}
 use Rattle.model.proofs.GrowLaws.{withRow-cases, count-withRow, rowAt-withRow-new, rowAt-withRow-old}
 use Rattle.model.proofs.Labels.{Label, grow, labelAt, Fit, NewFit, fit-row}
 use Rattle.model.proofs.All.{all-append, all-imp}
 use Rattle.model.specs.Base.{nothing, also}
+use Rattle.model.proofs.LeadsLaws.{newRow-full, newRow-room}
 use Rattle.model.proofs.Grows.{Grows}
 use Rattle.model.proofs.Twin.{Side, Script, SideFits, World, Touched, Kept, RunFrom, φ, ones, twos, Twin, Full, Sim}
 use Rattle.model.proofs.Twin.{φRow, φParent, φRecord, isRefused, alike, full}
-use Rattle.model.proofs.TwinLaws.{label-across, Alike, one-count, two-count, count-across, row-bound, same-length, clear-two}
+use Rattle.model.proofs.TwinLaws.{label-across, Alike, one-count, two-count, count-across, row-bound, clear-two}
 use Rattle.model.proofs.TwinLaws.{alike-row, named-more}
 use Rattle.model.proofs.SimLaws.{full-grows}
 
 -- ONE STATE
-row-made : (z : ℕ) (r : Row) (s : State) → isFine (roomRefusal z s) ≡ true → newRow z r s ≡ gives (count (s .plan) ∷ []) (withMade s r)
-row-made z r s e = cond-true (isFine (roomRefusal z s)) _ _ e
-
-row-refused : (z : ℕ) (r : Row) (s : State) → isFine (roomRefusal z s) ≡ false → newRow z r s ≡ refused (roomRefusal z s)
-row-refused z r s e = cond-false (isFine (roomRefusal z s)) _ _ e
-
 runFrom-row : (c : Script) (d : Side) → SideFits c d → (news : List Label) (s : State) → RunFrom c d news s → (r : Row) (l : Label) →
     NewFit (d .labels ++ news) (s .plan) r l → ((p : ℕ) → r .parent ≡ some p → d .hidden p → ⊥) → count (s .plan) < maxRows →
     RunFrom c d (news ++ (l ∷ [])) (withMade s r)
@@ -120,51 +112,23 @@ module _ (W : World) (news : List Label) (s t : State) (T : Twin W news s t) whe
               sym (map-append (φRecord W) (s .history) (made (count (s .plan)) r ∷ []));
         }
 
-  -- ROOM: for both; for neither, with the same refusal; or for the first and not for m rows more
-  pub data Room (z : ℕ) : Type 0 where
-    roomy : isFine (roomRefusal z s) ≡ true → isFine (roomRefusal z t) ≡ true → count (s .plan) < maxRows → count (t .plan) < maxRows →
-        Room z
-    filled : isFine (roomRefusal z s) ≡ false → isFine (roomRefusal z t) ≡ false → roomRefusal z s ≡ roomRefusal z t → Room z
-    tight : isFine (roomRefusal z t) ≡ false → 0 < W .m → maxRows ≤ count (s .plan) + W .m → Room z
+  -- ROOM: for both; for neither; or for the first and not for m rows more
+  pub data Room : Type 0 where
+    roomy : count (s .plan) < maxRows → count (t .plan) < maxRows → Room
+    filled : maxRows ≤ count (s .plan) → maxRows ≤ count (t .plan) → Room
+    tight : maxRows ≤ count (t .plan) → 0 < W .m → maxRows ≤ count (s .plan) + W .m → Room
 
-  abbrev refusalBy : (place : ℕ) → (rows history : Bool) → Refusal
-  refusalBy z a b = orElse (unless a (tableAt z)) (unless b (historyAt z))
-
-  room-cases : (z : ℕ) → Room z
-  room-cases z =
-      go (ltb (count (s .plan)) maxRows) (ltb (count (t .plan)) maxRows) (ltb (length (s .history)) maxHistory) refl refl refl
-      (ap (λ k. ltb k maxHistory) (same-length W news s t T))
+  room-cases : Room
+  room-cases = go (decLt (count (s .plan)) maxRows) (decLt (count (t .plan)) maxRows)
     where
-      go : (a b h : Bool) → ltb (count (s .plan)) maxRows ≡ a → ltb (count (t .plan)) maxRows ≡ b →
-          ltb (length (s .history)) maxHistory ≡ h →
-          ltb (length (t .history)) maxHistory ≡ ltb (length (s .history)) maxHistory → Room z
-      go true true true e f g k =
-          roomy (ap₂ (λ a h. isFine (refusalBy z a h)) e g) (ap₂ (λ a h. isFine (refusalBy z a h)) f (k ∙ g))
-          (ltb-true (count (s .plan)) maxRows e) (ltb-true (count (t .plan)) maxRows f)
-      go true true false e f g k =
-          filled (ap₂ (λ a h. isFine (refusalBy z a h)) e g) (ap₂ (λ a h. isFine (refusalBy z a h)) f (k ∙ g))
-          (ap₂ (refusalBy z) (e ∙ sym f) (sym k))
-      go false false h e f g k =
-          filled (ap₂ (λ a h. isFine (refusalBy z a h)) e g) (ap₂ (λ a h. isFine (refusalBy z a h)) f (k ∙ g))
-          (ap₂ (refusalBy z) (e ∙ sym f) (sym k))
-      go true false h e f g k =
-          tight (ap₂ (λ a h. isFine (refusalBy z a h)) f (k ∙ g))
-          (omega (
-            arith,
-            ltb-true (count (s .plan)) maxRows e,
-            ltb-false (count (t .plan)) maxRows f,
-            one-count W news s t T,
-            two-count W news s t T,
-          ))
-          (omega (arith, ltb-false (count (t .plan)) maxRows f, one-count W news s t T, two-count W news s t T))
-      go false true h e f g k =
-          absurd (omega (
-            arith,
-            ltb-false (count (s .plan)) maxRows e,
-            ltb-true (count (t .plan)) maxRows f,
-            one-count W news s t T,
-            two-count W news s t T,
-          ))
+      go : Dec (count (s .plan) < maxRows) → Dec (count (t .plan) < maxRows) → Room
+      go (yes a) (yes b) = roomy a b
+      go (no a) (no b) = filled (omega arith) (omega arith)
+      go (yes a) (no b) =
+          let n = one-count W news s t T in
+          let m = two-count W news s t T in
+          tight (omega arith) (omega arith) (omega arith)
+      go (no a) (yes b) = absurd (omega (arith, one-count W news s t T, two-count W news s t T))
 
   -- THE OUTCOME of a row more, and of what is done next; f and f′ hand a refusal on
   module _ (q : List Path) (z : ℕ) (r : Row) (l : Label) (n : NewFit (ones W news) (s .plan) r l)
@@ -176,26 +140,25 @@ module _ (W : World) (news : List Label) (s t : State) (T : Twin W news s t) whe
         (f′ (gives (count (t .plan) ∷ []) (withMade t (φRow W r))))) →
         Grows (withMade s r) (f (gives (count (s .plan) ∷ []) (withMade s r))) →
         Sim W q news (f (newRow z r s)) (f′ (newRow z (φRow W r) t))
-    new-sim next g = go (room-cases z)
+    new-sim next g = go room-cases
       where
-        no-room : isFine (roomRefusal z s) ≡ false → f (newRow z r s) ≡ refused (roomRefusal z s)
-        no-room e = ap f (row-refused z r s e) ∙ hands (roomRefusal z s)
+        no-room : maxRows ≤ count (s .plan) → f (newRow z r s) ≡ refused (tableAt z)
+        no-room a = ap f (newRow-full z r s a) ∙ hands (tableAt z)
 
-        no-room′ : isFine (roomRefusal z t) ≡ false → f′ (newRow z (φRow W r) t) ≡ refused (roomRefusal z t)
-        no-room′ e = ap f′ (row-refused z (φRow W r) t e) ∙ hands′ (roomRefusal z t)
+        no-room′ : maxRows ≤ count (t .plan) → f′ (newRow z (φRow W r) t) ≡ refused (tableAt z)
+        no-room′ b = ap f′ (newRow-full z (φRow W r) t b) ∙ hands′ (tableAt z)
 
-        fills : maxRows ≤ count (s .plan) + W .m → (isFine (roomRefusal z s) ≡ true) ⊎ (isFine (roomRefusal z s) ≡ false) →
-            Full W (f (newRow z r s))
-        fills b (inl e) =
-            subst (Full W) (ap f (sym (row-made z r s e)))
+        fills : maxRows ≤ count (s .plan) + W .m → Dec (count (s .plan) < maxRows) → Full W (f (newRow z r s))
+        fills c (yes a) =
+            subst (Full W) (ap f (sym (newRow-room z r s a)))
             (full-grows W (withMade s r) (f (gives (count (s .plan) ∷ []) (withMade s r)))
             (omega (arith, count-withRow (s .plan) r)) g)
-        fills b (inr e) = subst (Full W) (sym (no-room e)) isRefused
+        fills c (no a) = subst (Full W) (sym (no-room (omega arith))) isRefused
 
-        go : Room z → Sim W q news (f (newRow z r s)) (f′ (newRow z (φRow W r) t))
-        go (roomy a b c d) =
-            subst₂ (Sim W q news) (ap f (sym (row-made z r s a))) (ap f′ (sym (row-made z (φRow W r) t b)))
-            (next (twin-row r l n clear k c d))
-        go (filled a b e) = subst₂ (Sim W q news) (sym (no-room a)) (sym (no-room′ b ∙ ap refused (sym e))) alike
-        go (tight a b c) =
-            subst (Sim W q news (f (newRow z r s))) (sym (no-room′ a)) (full b (fills c (bool-cases (isFine (roomRefusal z s)))))
+        go : Room → Sim W q news (f (newRow z r s)) (f′ (newRow z (φRow W r) t))
+        go (roomy a b) =
+            subst₂ (Sim W q news) (ap f (sym (newRow-room z r s a))) (ap f′ (sym (newRow-room z (φRow W r) t b)))
+            (next (twin-row r l n clear k a b))
+        go (filled a b) = subst₂ (Sim W q news) (sym (no-room a)) (sym (no-room′ b)) alike
+        go (tight b h c) =
+            subst (Sim W q news (f (newRow z r s))) (sym (no-room′ b)) (full h (fills c (decLt (count (s .plan)) maxRows)))

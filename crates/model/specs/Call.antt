@@ -1,13 +1,13 @@
 -- The calls on what callers see: bytes, a table and lent areas.
 use mathlib.Core.Path.{_≡_}
-use mathlib.Core.Bool.{Bool, true, false, _&&_, cond}
+use mathlib.Core.Bool.{Bool, true, false, _&&_, _||_, cond}
 use mathlib.Core.List.{List, _++_}
-use Prim.Native.Nat.{ℕ, _-_}
+use Prim.Native.Nat.{ℕ, _-_, _≤_}
 use lib.Dec.{leb}
 use lib.ListN.{length, take, replicate}
 use Rattle.model.specs.Base.{isIn, areBytes}
 use Rattle.model.specs.Limits.{answerNeed, historyNeed, workNeed}
-use Rattle.model.specs.Refusal.{Refusal, fine, isFine, linkAt, lentShort}
+use Rattle.model.specs.Refusal.{Refusal, fine, isFine, linkAt, lentShort, isOfRun}
 use Rattle.model.specs.Table.{Table, count, isWell}
 use Rattle.model.specs.Script.{Expr, Parsed, refused, parsed, readScript}
 use Rattle.model.specs.History.{Record, isMade, isCut, times, historyBytes, replayAll}
@@ -111,13 +111,26 @@ runCall x b a h w = inAreas x a h w (cond (isWell x) (runBy x (readScript b)) (r
 abbrev pub unfitRun : Table → (answer history work : List ℕ) → Ran
 unfitRun x a h w = inAreas x a h w (refused (linkAt 0))
 
--- DEMAND 1: a refusal has a number of the table: of a plan and of a history 1 to 6, of a script 1 to 5, of a run 7 to 10
+-- REQUEST (h), the tally and the bytes that a run tells of: at most 512 rows made and 512 links cut, 1,024 records of 5,632 bytes
+abbrev pub TallyFits : Ran → Type 0
+TallyFits r = (r .made ≤ 512) × (r .cut ≤ 512) × (r .records ≤ 1024) × (r .bytes ≤ 5632)
+
+-- of the call, whatever it is given
+abbrev pub CallFits : Type 0
+CallFits = (x : Table) (b a h w : List ℕ) → TallyFits (runCall x b a h w)
+
+-- in areas long enough a call of a run is refused with 1 to 6, or with a run's own number
+abbrev pub isOfCall : (number : ℕ) → Bool
+isOfCall n = isIn 1 6 n || isOfRun n
+
+-- DEMAND 1: a refusal has a number of the table: of a plan and of a history 1 to 6, of a script 1 to 5, of a run 7, 8
+-- or 10
 abbrev pub RefusedByTable : Type 0
 RefusedByTable =
     ((b : List ℕ) (f : Refusal) → readPlan b ≡ refused f → isIn 1 6 (f .number) ≡ true) ×
     ((b : List ℕ) (f : Refusal) → readScript b ≡ refused f → isIn 1 5 (f .number) ≡ true) ×
     ((x : Table) (b : List ℕ) (f : Refusal) → undo x b ≡ refused f → isIn 1 6 (f .number) ≡ true) ×
-    ((x : Table) (e : Expr) (f : Refusal) → runOn x e ≡ refused f → isIn 7 10 (f .number) ≡ true)
+    ((x : Table) (e : Expr) (f : Refusal) → runOn x e ≡ refused f → isOfRun (f .number) ≡ true)
 
 -- and on the call: a refused run leaves the table as it was
 abbrev pub RefusedKeeps : Type 0

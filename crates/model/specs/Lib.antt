@@ -9,6 +9,7 @@ pub mod Script
 pub mod Step
 pub mod History
 pub mod Run
+pub mod Leads
 pub mod Undo
 pub mod Paths
 pub mod Meeting

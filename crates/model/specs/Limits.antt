@@ -33,7 +33,7 @@ maxBinders = 8
 abbrev pub maxItems : ℕ
 maxItems = 512
 
--- records of a history
+-- records of a history that undo reads
 abbrev pub maxHistory : ℕ
 maxHistory = 2048
 

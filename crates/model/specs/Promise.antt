@@ -9,13 +9,12 @@ use lib.Dec.{ltb}
 use lib.ListN.{length, getD}
 use Rattle.model.specs.Base.{any, among, areBytes}
 use Rattle.model.specs.Limits.{documents, maxHistory, historyNeed}
-use Rattle.model.specs.Refusal.{Refusal}
 use Rattle.model.specs.Table.{Row, Table, empty, rowAt, count, hasParent, isThe, isMarked, isTree, isWell, withParent}
 use Rattle.model.specs.Stored.{got, readPlan, stored}
 use Rattle.model.specs.Sweep.{through, isKept, newNumber, renumbered, swept}
 use Rattle.model.specs.Script.{Expr, parsed, readScript}
 use Rattle.model.specs.Step.{stepped}
-use Rattle.model.specs.History.{Record, made, cut, makes, cuts, times, historyBytes, replayAll}
+use Rattle.model.specs.History.{Record, made, cut, isMade, isCut, makes, cuts, times, historyBytes, replayAll}
 use Rattle.model.specs.Run.{State, Out, refused, gives, runOn}
 use Rattle.model.specs.Undo.{back, undo}
 use Rattle.model.specs.Paths.{Place, documentPlace, Path, start, _▸_, pathsOf, traversed, hasUp}
@@ -55,17 +54,14 @@ RunsBack =
     (e : Expr) (x : Table) (v : List ℕ) (s : State) → IsScript e → isWell x ≡ true → runOn x e ≡ gives v s →
     (isWell (s .plan) ≡ true) × (replayAll x (s .history) ≡ s .plan) × (undo (s .plan) (historyBytes (s .history)) ≡ back x)
 
--- REQUEST (h), a run's history: no two of its records make the same row, no two cut the same row's link. So there are at most 1,024, of at
--- most 5,632 bytes: no more than undo reads, and no more than the lent area holds
+-- REQUEST (h), a run's history: no two of its records make the same row, and no two cut the same row's link. So it has at most 512 of
+-- each, 1,024 records in all, of 5,632 bytes: no more than undo reads, and no more than the lent area holds
 abbrev pub HistoryFits : Type 0
 HistoryFits =
     (e : Expr) (x : Table) (v : List ℕ) (s : State) → isWell x ≡ true → runOn x e ≡ gives v s →
     ((i : ℕ) → times (makes i) (s .history) ≤ 1) × ((i : ℕ) → times (cuts i) (s .history) ≤ 1) ×
+    (times isMade (s .history) ≤ 512) × (times isCut (s .history) ≤ 512) ×
     (length (s .history) ≤ 1024) × (1024 ≤ maxHistory) × (length (historyBytes (s .history)) ≤ 5632) × (5632 ≤ historyNeed)
-
--- so a run, of whatever expression, never stops with 9
-abbrev pub NeverNine : Type 0
-NeverNine = (e : Expr) (x : Table) (f : Refusal) → isWell x ≡ true → runOn x e ≡ refused f → f .number ≡ 9 → ⊥
 
 -- DEMAND 2, undo of any bytes that fit leaves a well-formed table
 abbrev pub UndoKeeps : Type 0

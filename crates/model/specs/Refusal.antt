@@ -1,7 +1,7 @@
--- Document 01's table of refusals: number, word and when it is given.
-use mathlib.Core.Bool.{Bool, cond}
+-- Document 01's table of refusals, as requests have changed it: number, word and when it is given.
+use mathlib.Core.Bool.{Bool, _||_, cond}
 use Prim.Native.Nat.{ℕ}
-use lib.Dec.{eqb}
+use lib.Dec.{leb, eqb}
 
 -- a refusal answers its number and place; number 0: nothing is refused
 pub record Refusal : Type 0 where
@@ -58,9 +58,7 @@ targetAt i = refusal 7 i
 abbrev pub itemsAt : (place : ℕ) → Refusal
 itemsAt i = refusal 8 i
 
--- 9 history: a run needs a 2,049th record
-abbrev pub historyAt : (place : ℕ) → Refusal
-historyAt i = refusal 9 i
+-- 9 is retired by request (h), and its number is not used again
 
 -- 10 table: new rows pass 512
 abbrev pub tableAt : (place : ℕ) → Refusal
@@ -69,6 +67,14 @@ tableAt i = refusal 10 i
 -- 11 lent: a lent area is too short for its stated need; always at place 0
 abbrev pub lentShort : Refusal
 lentShort = refusal 11 0
+
+-- the table's numbers, and 0
+abbrev pub isListed : (number : ℕ) → Bool
+isListed n = leb n 8 || eqb n 10 || eqb n 11
+
+-- the numbers of a run's own refusals
+abbrev pub isOfRun : (number : ℕ) → Bool
+isOfRun n = eqb n 7 || eqb n 8 || eqb n 10
 
 -- the refusal of a number at a place, 0 being none
 abbrev pub refusalAt : (number place : ℕ) → Refusal

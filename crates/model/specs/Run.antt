@@ -6,8 +6,8 @@ use Prim.Native.Nat.{ℕ, _+_, _<_}
 use lib.Dec.{ltb, eqb}
 use lib.ListN.{length, getD}
 use Rattle.model.specs.Base.{All}
-use Rattle.model.specs.Limits.{maxRows, maxItems, maxHistory}
-use Rattle.model.specs.Refusal.{Refusal, isFine, orElse, unless, targetAt, itemsAt, historyAt, tableAt}
+use Rattle.model.specs.Limits.{maxRows, maxItems}
+use Rattle.model.specs.Refusal.{Refusal, targetAt, itemsAt, tableAt}
 use Rattle.model.specs.Table.{Row, Table, rowAt, count, isElement, withRow, withParent, linked}
 use Rattle.model.specs.Script.{Expr, nil, document, var, step, both, letIn, forIn, ifIn, element, leaf, delete, insert, pick}
 use Rattle.model.specs.Step.{isBelow, collect, stepped, picked}
@@ -47,14 +47,9 @@ joinItems z v w s = cond (ltb maxItems (length v + length w)) (refused (itemsAt 
 abbrev pub withMade : State → Row → State
 withMade s r = state (withRow (s .plan) r) (s .history ++ (made (count (s .plan)) r ∷ []))
 
--- 10 before 9
-abbrev pub roomRefusal : (place : ℕ) → State → Refusal
-roomRefusal z s =
-    orElse (unless (ltb (count (s .plan)) maxRows) (tableAt z)) (unless (ltb (length (s .history)) maxHistory) (historyAt z))
-
--- a new row; the answer is its number
+-- a new row, 10 past 512; the answer is its number
 abbrev pub newRow : (place : ℕ) → Row → State → Out
-newRow z r s = cond (isFine (roomRefusal z s)) (gives (count (s .plan) ∷ []) (withMade s r)) (refused (roomRefusal z s))
+newRow z r s = cond (ltb (count (s .plan)) maxRows) (gives (count (s .plan) ∷ []) (withMade s r)) (refused (tableAt z))
 
 -- a row without parent
 abbrev pub loose : (isLeaf : Bool) → (tag : ℕ) → Row
@@ -64,15 +59,15 @@ loose z t = record { isLeaf = z; tag = t; parent = none }
 abbrev pub cutRow : State → (row parent : ℕ) → State
 cutRow s i p = state (linked (s .plan) i none) (s .history ++ (cut i p ∷ []))
 
--- what follows the cut of a row with this parent, or without one
-abbrev pub cutBy : (place row : ℕ) → State → Option ℕ → (State → Out) → Out
-cutBy z i s none next = next s
-cutBy z i s (some p) next = cond (ltb (length (s .history)) maxHistory) (next (cutRow s i p)) (refused (historyAt z))
+-- the state once a row with this parent, or without one, is cut
+abbrev pub cutBy : (row : ℕ) → State → Option ℕ → State
+cutBy i s none = s
+cutBy i s (some p) = cutRow s i p
 
--- row after row; its answer is empty
-unfoldable pub cutAll : (place : ℕ) → (items : List ℕ) → State → Out
-cutAll z [] s = gives [] s
-cutAll z (i ∷ is) s = cutBy z i s (rowAt (s .plan) i .parent) (λ (t : State). cutAll z is t)
+-- row after row; a delete's answer is empty
+unfoldable pub cutAll : (items : List ℕ) → State → State
+cutAll [] s = s
+cutAll (i ∷ is) s = cutAll is (cutBy i s (rowAt (s .plan) i .parent))
 
 -- INSERT copies each item in order, the item first and then its descendants in rising number, as the table was before the insert;
 -- the copy of an item is a child of the target. The rows copied so far, and their copies, newest first
@@ -155,7 +150,7 @@ run (ifIn z e f g) b s =
     andThen (run e b s) (λ (v : List ℕ) (u : State). cond (eqb (length v) 0) (run g b u) (run f b u))
 run (element z n) b s = newRow z (loose false n) s
 run (leaf z v) b s = newRow z (loose true v) s
-run (delete z e) b s = andThen (run e b s) (λ (v : List ℕ) (u : State). cutAll z v u)
+run (delete z e) b s = andThen (run e b s) (λ (v : List ℕ) (u : State). gives [] (cutAll v u))
 run (insert z e f) b s =
     andThen (run e b s) (λ (v : List ℕ) (u : State). andThen (run f b u) (λ (w : List ℕ) (q : State). inserted z v w q))
 run (pick z r c e) b s = andThen (run e b s) (λ (v : List ℕ) (u : State). gives (picked (u .plan) r c v) u)

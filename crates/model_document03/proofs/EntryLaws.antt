@@ -3,13 +3,14 @@ use mathlib.Core.Path.{_≡_, refl, sym, ap, _∙_, subst}
 use mathlib.Core.Bool.{Bool, true, false, _&&_, cond}
 use mathlib.Core.List.{List, [], _∷_, _++_}
 use mathlib.Core.Option.{Option, none, some}
-use Prim.Native.Nat.{ℕ, suc, _<_}
+use Prim.Native.Nat.{ℕ, suc, _<_, _≤_}
 use native.Mathlib.Omega.{arith}
 use lib.Dec.{leb, eqb}
 use lib.ListN.{length, getD, drop, replicate}
 use borrow.Author.Tests.{eqb-true, eq-eqb, ne-eqb, le-leb}
 use Rattle.model.specs.Base.{areBytes}
 use Rattle.model.specs.Refusal.{Refusal, isFine, orElse, linkAt, lentShort}
+use Rattle.model.specs.Limits.{maxRows}
 use Rattle.model.specs.Table.{Row, Table, table, noRow, count, isWell}
 use Rattle.model.specs.Stored.{IsStorable, parentIn, stored}
 use Rattle.model.specs.Sweep.{swept}
@@ -217,36 +218,44 @@ grid-stays : (z : Bool) (g : E.Grid) (o : R.Out) → E.ranGrid g (lent z false o
 grid-stays true g o = refl
 grid-stays false g o = refl
 
-script-runs : (x : Table) (s : List ℕ) → E.runBy x (D.readScript s) ≡ theirOut (runBy x (readScript s))
-script-runs x s = go (D.readScript s) ∙ ap (λ (p : Parsed). theirOut (runBy x p)) (read-same s)
+-- of a grid that does not fit, whatever a run would come to
+unfit-by : (z : Bool) (x : Table) (a h w : List ℕ) (o : R.Out) (q : Out) → LentRuns z false a h w o (called z false x a h w q)
+unfit-by true x a h w o q = (refl, refl, refl, refl)
+unfit-by false x a h w o q = (refl, refl, refl, refl)
+
+script-runs : (x : Table) → count x ≤ maxRows → (s : List ℕ) → E.runBy x (D.readScript s) ≡ theirOut (runBy x (readScript s))
+script-runs x few s = go (D.readScript s) ∙ ap (λ (p : Parsed). theirOut (runBy x p)) (read-same s)
   where
     go : (p : D.Parsed) → E.runBy x p ≡ theirOut (runBy x (oursRead p))
     go (D.ill f) = refl
-    go (D.parsed e i n b) = runOn-same x e
+    go (D.parsed e i n b) = runOn-same x few e
 
 -- our call, whether the table fits or not
 abbrev call : (fits : Bool) → Table → (script answer history work : List ℕ) → Ran
 call y x s a h w = called (areasFit a h w) y x a h w (runBy x (readScript s))
 
 module _ (g : E.Grid) (s a h w : List ℕ) where
-  runs-as : E.Runs g s a h w (call (E.gridFits g) (E.tableIn g) s a h w)
-  runs-as =
+  runs-as : count (E.tableIn g) ≤ maxRows → E.Runs g s a h w (call (E.gridFits g) (E.tableIn g) s a h w)
+  runs-as few =
       subst (λ (o : R.Out). LentRuns (areasFit a h w) (E.gridFits g) a h w o (call (E.gridFits g) (E.tableIn g) s a h w))
-      (sym (script-runs (E.tableIn g) s))
+      (sym (script-runs (E.tableIn g) few s))
       (runs-by (areasFit a h w) (E.gridFits g) (E.tableIn g) a h w (runBy (E.tableIn g) (readScript s)))
 
-  grid-as : (x : Table) → areBytes s ≡ true → E.Holds g x → E.Holds (E.runGrid g s a h w) (call (E.gridFits g) x s a h w .plan)
-  grid-as x b k =
-      let q = script-runs (E.tableIn g) s ∙ ap (λ (y : Table). theirOut (runBy y (readScript s))) (k .1) in
+  grid-as : (x : Table) → count (E.tableIn g) ≤ maxRows → areBytes s ≡ true → E.Holds g x →
+      E.Holds (E.runGrid g s a h w) (call (E.gridFits g) x s a h w .plan)
+  grid-as x few b k =
+      let q = script-runs (E.tableIn g) few s ∙ ap (λ (y : Table). theirOut (runBy y (readScript s))) (k .1) in
       subst (λ (o : R.Out). E.Holds (E.ranGrid g (lent (areasFit a h w) (E.gridFits g) o)) (call (E.gridFits g) x s a h w .plan)) (sym q)
       (grid-by (areasFit a h w) (E.gridFits g) g x a h w (runBy x (readScript s)) k
       (λ v t q. runBy-back x s b (gridBack .1 g x k .0) v t q .0))
 
 pub runsSame : E.RunsSame
 runsSame g x s a h w b (f, e) =
+    let few : count (E.tableIn g) ≤ maxRows =
+    subst (λ (y : Table). count y ≤ maxRows) (sym e) (isWell-at x (gridBack .1 g x (f, e) .0) .few) in
     subst (λ (y : Bool). E.Runs g s a h w (call y x s a h w) × E.Holds (E.runGrid g s a h w) (call y x s a h w .plan))
     (f ∙ sym (gridBack .1 g x (f, e) .0))
-    (subst (λ (y : Table). E.Runs g s a h w (call (E.gridFits g) y s a h w)) e (runs-as g s a h w), grid-as g s a h w x b (f, e))
+    (subst (λ (y : Table). E.Runs g s a h w (call (E.gridFits g) y s a h w)) e (runs-as g s a h w few), grid-as g s a h w x few b (f, e))
 
 -- ANALYSIS
 word-same : (e f : D.Expr) (a : Answer) → P.judged e f ≡ number a → E.wordOfTwo e f ≡ E.wordBy (C.answered a)
@@ -272,7 +281,10 @@ unfitRefused g f = (
   (cond-false (E.gridFits g) _ _ f, cond-false (E.gridFits g) _ _ f),
   λ h. (cond-false (E.gridFits g) _ _ f, cond-false (E.gridFits g) _ _ f),
   λ s a h w. (
-    subst (λ (y : Bool). E.Runs g s a h w (call y (E.tableIn g) s a h w)) f (runs-as g s a h w),
+    subst
+        (λ (y : Bool).
+        LentRuns (areasFit a h w) y a h w (E.runBy (E.tableIn g) (D.readScript s)) (call false (E.tableIn g) s a h w))
+        (sym f) (unfit-by (areasFit a h w) (E.tableIn g) a h w _ (runBy (E.tableIn g) (readScript s))),
     subst (λ (y : Bool). E.ranGrid g (lent (areasFit a h w) y (E.runBy (E.tableIn g) (D.readScript s))) ≡ g) (sym f)
         (grid-stays (areasFit a h w) g _),
   ),

@@ -15,7 +15,7 @@ use Rattle.model.specs.Run.{copyOf, Out, refused, gives, runOn}
 use Rattle.model.specs.Undo.{back}
 use Rattle.model.specs.Paths.{pathsOf, traversed, hasUp}
 use Rattle.model.specs.Meeting.{meets, anyMeet, pathsMeet, Answer, free, upward, meet, answer}
-use Rattle.model.specs.Promise.{Places, rowsOn, isOn, isTouched}
+use Rattle.model.specs.Promise.{Places, rowsOn, isOn, isTouched, tableOf}
 use Rattle.model_document03.specs.Script as D
 use Rattle.model_document03.specs.Run as R
 use Rattle.model_document03.specs.Paths as P
@@ -29,7 +29,7 @@ use Rattle.model.proofs.RunsBack.{runsBack}
 use Rattle.model.proofs.FreeMeans.{freeMeans}
 use Rattle.model.proofs.FreeCommutes.{freeCommutes}
 use Rattle.model_document03.proofs.ScriptLaws.{ours, isScript-ours}
-use Rattle.model_document03.proofs.RunLaws.{stored-same, runOn-same}
+use Rattle.model_document03.proofs.RunLaws.{stored-same, runOn-same, runOn-few}
 use Rattle.model_document03.proofs.BackLaws.{takenBack-same}
 use Rattle.model_document03.proofs.RecordLaws.{theirs, theirState, theirOut, tableOf-same, answerOf-same, historyOf-same, ends-same}
 use Rattle.model_document03.proofs.RecordLaws.{historyBytes-same, replayAll-same, matchedHistory-same}
@@ -104,7 +104,7 @@ pub sweepsWell03 : T.SweepsWell
 sweepsWell03 = sweepsWell
 
 pub runsBack03 : T.RunsBack
-runsBack03 e x v s i h q = go (runOn x (ours e)) refl (sym (runOn-same x e) ∙ q)
+runsBack03 e x v s i h q = go (runOn x (ours e)) refl (sym (runOn-same x (isWell-at x h .few) e) ∙ q)
   where
     Claim : R.State → Type 0
     Claim u =
@@ -141,7 +141,18 @@ freeMeans03 e f i j =
 pub freeCommutes03 : T.FreeCommutes
 freeCommutes03 e f x i j q h =
     let k = freeCommutes (ours e) (ours f) x (number-free _ (sym (judged-same e f i j) ∙ q)) h in
-    simp (runOn-same, tableOf-same, answerOf-same, historyOf-same, ends-same, matchedHistory-same) (
+    let few = isWell-at x h .few in
+    simp (
+      runOn-same x few e,
+      runOn-same x few f,
+      runOn-same (tableOf (runOn x (ours e))) (runOn-few x few (ours e)) f,
+      runOn-same (tableOf (runOn x (ours f))) (runOn-few x few (ours f)) e,
+      tableOf-same,
+      answerOf-same,
+      historyOf-same,
+      ends-same,
+      matchedHistory-same,
+    ) (
       k .0,
       λ z. let o = k .1 z in (o .0, o .1, o .2, o .3, ap (map theirs) (o .4), ap (map theirs) (o .5), o .6),
     )

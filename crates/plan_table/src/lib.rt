@@ -79,7 +79,7 @@ impl Refusal {
 
     pub const ITEMS: u8 = 8;
 
-    pub const HISTORY: u8 = 9;
+    // 9 is retired by request (h), and its number is not used again.
 
     pub const TABLE: u8 = 10;
 

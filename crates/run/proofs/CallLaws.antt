@@ -174,7 +174,7 @@ module _ (t : Table) (b : List ℕ) (e : fits t ≡ true) where
           records = recordsIn bytes
 
           bytes-within : q .bytes ≤ length (s .history)
-          bytes-within = omega (arith, held .size, held .history .limit, held .area)
+          bytes-within = held .written
 
           written : historyBytes (recordsIn bytes) ≡ bytes
           written = held .history .bytes

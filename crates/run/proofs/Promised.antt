@@ -6,13 +6,14 @@ use mathlib.Core.List.{List}
 use Prim.Native.Nat.{ℕ}
 use lib.ListN.{length, replicate}
 use borrow.Author.Tests.{ne-eqb}
-use Rattle.model.specs.Base.{isIn, areBytes}
+use Rattle.model.specs.Base.{areBytes}
 use Rattle.model.specs.Refusal as refusal
 use Rattle.model.specs.Table as model
 use Rattle.model.specs.Script.{readScript}
 use Rattle.model.specs.Run.{State, Out, refused, gives}
-use Rattle.model.specs.Call.{Ran, areasFit, ranBy, refusedRun, runBy, OrdersAgree, Areas, runIn}
+use Rattle.model.specs.Call.{Ran, areasFit, ranBy, TallyFits, isOfCall, refusedRun, runBy, OrdersAgree, Areas, runIn}
 use Rattle.model.proofs.BoolLaws.{by-cases, cond-true, cond-false}
+use Rattle.model.proofs.HistoryFits.{callFits, unfit-fits}
 use Rattle.model.proofs.CallsCommute.{callsCommute}
 use Rattle.plan_table.specs.Results.{refusalOf}
 use Rattle.plan_table.specs.Packed.{encode, decode, tableOf, fits}
@@ -20,7 +21,8 @@ use Rattle.plan_table.specs.declared.Table.{Table}
 use Rattle.plan_table.proofs.FittedLaws.{well-decode}
 use Rattle.plan_table.proofs.EncodeLaws.{decode-encode, fits-encode}
 use Rattle.run.specs.Calls.{outcomeOf, ran, resultOf, runResult, resultIn}
-use Rattle.run.specs.Promise.{RunsAsCalled, RunsUnfit, RunsOn, RefusedGivesBack, RefusedLeaves, RunsCommute, ranIn, tableAfter}
+use Rattle.run.specs.Promise.{RunsAsCalled, RunsUnfit, RunsOn, RunsFit, RefusedGivesBack, RefusedLeaves, RunsCommute, ranIn}
+use Rattle.run.specs.Promise.{tableAfter}
 use Rattle.run.specs.declared.RunResult.{RunResult}
 use Rattle.run.specs.declared.lent.Ended.{Ended}
 use Rattle.run.proofs.CallLaws.{back-fine}
@@ -43,6 +45,11 @@ runsAsCalled t b a h w e = ran-if t b a h w (model.isWell (decode t)) (e ∙ sym
 
 pub runsUnfit : RunsUnfit
 runsUnfit t b a h w e = ran-if t b a h w false e
+
+pub runsFit : RunsFit
+runsFit t b a h w =
+    by-cases (fits t) (λ e. subst TallyFits (sym (runsAsCalled t b a h w e)) (callFits (decode t) b a h w))
+    (λ e. subst TallyFits (sym (runsUnfit t b a h w e)) (unfit-fits (decode t) a h w))
 
 -- THE TABLE GIVEN BACK fits and stands for the plan
 abbrev Stands : (given : Table) → (plan : model.Table) → Type 0
@@ -93,7 +100,7 @@ refusedGivesBack t b a h w k =
 module _ (t : Table) (a h w : List ℕ) where
   abbrev Zeroed : RunResult → Ran → Type 0
   Zeroed q r =
-      (isIn 1 10 (q .refusal .number) ≡ true) × (r .answer ≡ replicate (length a) 0) × (r .history ≡ replicate (length h) 0) ×
+      (isOfCall (q .refusal .number) ≡ true) × (r .answer ≡ replicate (length a) 0) × (r .history ≡ replicate (length h) 0) ×
       (r .work ≡ replicate (length w) 0)
 
   outcome-zeroed : (o : Out) → Refuses o → (ranBy (decode t) (length a) (length h) (length w) o .refusal .number ≡ 0 → ⊥) →

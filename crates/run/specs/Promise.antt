@@ -4,10 +4,10 @@ use mathlib.Core.Bool.{true, false}
 use mathlib.Core.List.{List}
 use Prim.Native.Nat.{ℕ}
 use lib.ListN.{length, replicate}
-use Rattle.model.specs.Base.{isIn, areBytes}
+use Rattle.model.specs.Base.{areBytes}
 use Rattle.model.specs.Meeting.{free}
 use Rattle.model.specs.Refusal.{lentShort}
-use Rattle.model.specs.Call.{Ran, answered, analyse, areasFit, runCall, unfitRun, OrdersAgree, Areas, AllSuffice}
+use Rattle.model.specs.Call.{Ran, answered, analyse, areasFit, runCall, unfitRun, TallyFits, isOfCall, OrdersAgree, Areas, AllSuffice}
 use Rattle.plan_table.specs.Results.{refusalOf}
 use Rattle.plan_table.specs.Packed.{decode, fits}
 use Rattle.plan_table.specs.declared.Table.{Table}
@@ -27,12 +27,16 @@ RunsOn =
     (t : Table) (b a h w : List ℕ) → areBytes b ≡ true → fits t ≡ true →
     (fits (runResult t b a h w .table) ≡ true) × (decode (runResult t b a h w .table) ≡ runCall (decode t) b a h w .plan)
 
+-- REQUEST (h): whatever the call is given, the tally and the bytes that it tells of are within the bound
+abbrev pub RunsFit : Type 0
+RunsFit = (t : Table) (b a h w : List ℕ) → TallyFits (ran t b a h w)
+
 -- DEMAND 1: refused, the table is as it was handed in, well formed or not
 abbrev pub RefusedGivesBack : Type 0
 RefusedGivesBack = (t : Table) (b a h w : List ℕ) → (runResult t b a h w .refusal .number ≡ 0 → ⊥) → runResult t b a h w .table ≡ t
 
 -- in areas of which one is too short, the refusal is 11 at place 0 and the areas are as they were; else answer, history and work are zero,
--- and the refusal is another one of the table, 1 to 10
+-- and the refusal is another one of the table: 1 to 8, or 10
 abbrev pub RefusedLeaves : Type 0
 RefusedLeaves =
     (t : Table) (b a h w : List ℕ) →
@@ -40,7 +44,7 @@ RefusedLeaves =
     (runResult t b a h w .refusal ≡ refusalOf lentShort) ×
     (ran t b a h w .answer ≡ a) × (ran t b a h w .history ≡ h) × (ran t b a h w .work ≡ w)) ×
     (areasFit a h w ≡ true → (runResult t b a h w .refusal .number ≡ 0 → ⊥) →
-    (isIn 1 10 (runResult t b a h w .refusal .number) ≡ true) ×
+    (isOfCall (runResult t b a h w .refusal .number) ≡ true) ×
     (ran t b a h w .answer ≡ replicate (length a) 0) × (ran t b a h w .history ≡ replicate (length h) 0) ×
     (ran t b a h w .work ≡ replicate (length w) 0))
 

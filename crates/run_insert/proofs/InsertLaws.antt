@@ -16,7 +16,7 @@ use Rattle.model.specs.Run.{State, Out, refused, gives, newRow, withMade, thenR
 use Rattle.model.proofs.BoolLaws.{by-cases, and-both, eq-cases, cond-eq, cond-ne}
 use Rattle.model.proofs.TableLaws.{isElement-at, isElement-by}
 use Rattle.model.proofs.GrowLaws.{count-withRow, rowAt-withRow-old, rowAt-withRow-new}
-use Rattle.model.specs.Limits.{maxRows, maxHistory, maxLinks}
+use Rattle.model.specs.Limits.{maxRows, maxLinks}
 use Rattle.plan_table.specs.Packed.{ofLink, rowOf, rowsOf, isPackedRow, withLink, decodeParts, linkIn, linkRoom}
 use Rattle.plan_table.proofs.PackedLaws.{ofLink-linkOf, count-decode, rowAt-decode, rows-take, rowOf-withLink, packed-linked}
 use Rattle.plan_table.proofs.DecodeLaws.{parent-at, link-low}
@@ -25,7 +25,7 @@ use Rattle.run_updates.specs.Updating.{NewPre}
 use Rattle.run_insert.specs.Inserting.{copier, before, nextLink, copyBy, IsCopy, Mapped, NextPre, NextPost, noCopy}
 use Rattle.run_updates.specs.declared.state.Progress.{Progress}
 use Rattle.run_updates.proofs.StateLaws.{held-within, held-count, after-self, outcome-gives}
-use Rattle.run_updates.proofs.UpdateLaws.{newRow-full, newRow-over, newRow-room}
+use Rattle.model.proofs.LeadsLaws.{newRow-full, newRow-room}
 use Rattle.run_insert.proofs.InsertLawsScan.{linked-at}
 
 -- STATES after a new row
@@ -36,13 +36,7 @@ then-state (gives v s) u e = (v, (cc))
 pub made-state : (z : ℕ) (r : model.Row) (s u : State) (v : List ℕ) → newRow z r s ≡ gives v u → u ≡ withMade s r
 made-state z r s u v e =
     by-cases (ltb (model.count (s .plan)) maxRows)
-    (λ a.
-    by-cases (ltb (length (s .history)) maxHistory)
-    (λ b.
-    let q = newRow-room z r s (ltb-true (model.count (s .plan)) maxRows a) (ltb-true (length (s .history)) maxHistory b) in (cc))
-    (λ b.
-    let q = newRow-over z r s (ltb-true (model.count (s .plan)) maxRows a) (ltb-false (length (s .history)) maxHistory b) in
-    absurd (let y : _≡_ {A = ℕ} 0 1 = cc in omega arith)))
+    (λ a. let q = newRow-room z r s (ltb-true (model.count (s .plan)) maxRows a) in (cc))
     (λ a.
     let q = newRow-full z r s (ltb-false (model.count (s .plan)) maxRows a) in
     absurd (let y : _≡_ {A = ℕ} 0 1 = cc in omega arith))

@@ -251,7 +251,7 @@ module _ {ws h : List ℕ} {p : Progress} {v w : List ℕ} (pre : InsertPre ws h
   pub insert-many : (length w ≡ 1 → ⊥) → {ws′ h′ : List ℕ} {r : Progress} → r ≡ refusedWith p 7 →
       Updated (λ z s. inserted z v w s) [] ws h p ws′ h′ r
   insert-many n {ws′} {h′} {r} e =
-      updated-refused 6 e (λ z ms. rw (ne-eqb (length w) 1 n))
+      updated-refused 7 (omega arith) e (λ z ms. rw (ne-eqb (length w) 1 n))
 
   module _ (one : length w ≡ 1) {g : ℕ} (e : g ≡ getD w 0 0) where
     pub insert-low : g < p .count
@@ -268,7 +268,7 @@ module _ {ws h : List ℕ} {p : Progress} {v w : List ℕ} (pre : InsertPre ws h
         let packed = packed-linked (p .count) ws (pre .held .canonical) (held-within (pre .held)) g insert-low 0 (omega arith) in
         let l : kindIn (getD ws g 0) ≡ leafBits =
         omega (arith, n, isIn-at elementBits leafBits (kindIn (withLink (getD ws g 0) 0)) packed) in
-        updated-refused 6 f
+        updated-refused 7 (omega arith) f
         (λ z ms. let b : model.isElement (decodeParts (p .count) ws ms) (getD w 0 0) ≡ false = kind ms ∙ rw l in rw (one, b))
 
     module _ (l : kindIn (getD ws g 0) ≡ leafBits → ⊥) where

@@ -145,7 +145,7 @@ fn copy_items(
     now
 }
 
-// Insert of a value into a target value: 7 where that is not one element, then 10 before 9.
+// Insert of a value into a target value: 7 where that is not one element, then 10.
 pub fn insert(
     rows: &mut [u32],
     history: &mut [u8],

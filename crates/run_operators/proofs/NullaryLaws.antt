@@ -6,15 +6,14 @@ use mathlib.Core.Option.{Option, none, some}
 use mathlib.Core.List.{List, [], _∷_, map}
 use Prim.Native.Nat.{ℕ, zero, suc, _+_, _-_, _≤_, _<_}
 use native.Mathlib.Omega.{arith}
-use lib.Dec.{eqb}
+use lib.Dec.{ltb, eqb}
 use lib.ListN.{length, getD, take, drop, length-take, List·getD-map}
 use borrow.Author.Tests.{eqb-false}
 use Rattle.model.specs.Limits.{maxItems, maxRows}
-use Rattle.model.specs.Refusal.{isFine}
 use Rattle.model.specs.Table as model
 use Rattle.model.specs.Script.{nilKind, documentKind, variableKind, newElementKind, newLeafKind}
 use Rattle.model.specs.Script.{Expr, nil, document, var, element, leaf, scriptKinds, bodySize, arity}
-use Rattle.model.specs.Run.{Out, refused, gives, marked, roomRefusal, newRow, loose, run, AreRows}
+use Rattle.model.specs.Run.{Out, refused, gives, marked, newRow, loose, run, AreRows}
 use Rattle.model.proofs.BoolLaws.{by-cases, cond-true, cond-false, cond-eq, cond-cases}
 use Rattle.model.proofs.GrowLaws.{count-withRow}
 use Rattle.model.proofs.All.{all-read}
@@ -49,15 +48,14 @@ made-count {ws} {h} {p} {ws′} {h′} {q} {v} r held up k =
     let held′ = up .after k .held in
     let e : model.count (decodeParts (q .count) ws′ []) ≡ countOf (newRow 0 r (stateOf ws [] h p)) =
     ap countOf (sym (outcome-gives 0 v ws′ [] h′ q k) ∙ up .same 0 []) in
-    by-cases (isFine (roomRefusal 0 (stateOf ws [] h p)))
+    by-cases (ltb (model.count (decodeParts (p .count) ws [])) maxRows)
     (λ t.
     let g : model.count (decodeParts (q .count) ws′ []) ≡ model.count (model.withRow (decodeParts (p .count) ws []) r) =
-    e ∙ ap countOf (cond-true (isFine (roomRefusal 0 (stateOf ws [] h p))) _ _ t) in
+    e ∙ ap countOf (cond-true (ltb (model.count (decodeParts (p .count) ws [])) maxRows) _ _ t) in
     omega (arith, g, count-withRow (decodeParts (p .count) ws []) r, held-count held [], held-count held′ []))
     (λ t.
     let g : model.count (decodeParts (q .count) ws′ []) ≡ maxRows + 1 =
-    e ∙ ap countOf (cond-false (isFine (roomRefusal 0 (stateOf ws [] h p))) _ _
-    t) in
+    e ∙ ap countOf (cond-false (ltb (model.count (decodeParts (p .count) ws [])) maxRows) _ _ t) in
     omega (arith, g, held-count held′ [], held′ .few))
 
 -- a document's row is a row

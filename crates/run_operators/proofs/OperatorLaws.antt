@@ -29,6 +29,7 @@ use Rattle.run_operators.specs.Machine.{Machine, frame, machine, evaluat
 use Rattle.run_operators.specs.Evaluating.{CopyPre, endedBy, limitedBy, ValuePre, UnaryPre, UnaryPost, BinaryPre, BinaryPost}
 use Rattle.run_operators.specs.declared.record.Evaluated.{Evaluated}
 use Rattle.run_operators.proofs.ValueLaws.{length-value, rows-within}
+use Rattle.run_updates.proofs.UpdateLaws.{deleted-updated}
 use Rattle.run_operators.proofs.YieldLaws.{yields-updated, updated-none, yields-as, limited-yields}
 
 -- FEW: neither a pick nor a step passes maxItems items
@@ -105,10 +106,10 @@ module _ {b : List ℕ} {at top : ℕ} {s : Machine} (pre : UnaryPre b at top s)
   pub delete-yields : getD b at 0 ≡ deleteKind → {ws′ h′ : List ℕ} {q : Progress} →
       DeletePost (s .rows) (s .history) (s .progress) (valueAt (s .work) top (s .end)) ws′ h′ q →
       {r : Evaluated} → r ≡ endedBy q at (s .place) top (s .env) → UnaryPost b at top s (machine ws′ h′ (s .work) r)
-  delete-yields e up eq n ms =
+  delete-yields e post eq n ms =
       yields-as (rw e) refl
-      (yields-updated (frame n ms top) s up (appended-none (s .work) top) (λ q. refl) refl (omega (arith, pre .value .room)) (omega arith)
-      (λ q. nothing) (pre .value .spans) eq)
+      (yields-updated (frame n ms top) s (deleted-updated post) (appended-none (s .work) top) (λ q. refl) refl
+      (omega (arith, pre .value .room)) (omega arith) (λ q. nothing) (pre .value .spans) eq)
 
   module _ {w′ : List ℕ} {e : ℕ} (size : length w′ ≡ length (s .work)) {r : Evaluated}
       (eq : r ≡ endedBy (s .progress) at (s .place) e (s .env)) where

@@ -107,7 +107,7 @@ abbrev pub unaryOf : (bytes : List ℕ) → (at : ℕ) → (value : List ℕ) �
 unaryOf b i v s =
     cond (eqb (getD b i 0) stepKind)
     (gives (stepped (s .plan) (stepBy (getD b (i + 1) 0) (getD b (i + 2) 0) (getD b (i + 3) 0)) v) s)
-    (cond (eqb (getD b i 0) deleteKind) (cutAll i v s) (gives (picked (s .plan) (getD b (i + 1) 0) (getD b (i + 2) 0) v) s))
+    (cond (eqb (getD b i 0) deleteKind) (gives [] (cutAll v s)) (gives (picked (s .plan) (getD b (i + 1) 0) (getD b (i + 2) 0) v) s))
 
 abbrev pub binaryOf : (kind at : ℕ) → (first second : List ℕ) → State → Out
 binaryOf k i v w s = cond (eqb k joinKind) (joinItems i v w s) (cond (eqb k insertKind) (inserted i v w s) (gives w s))

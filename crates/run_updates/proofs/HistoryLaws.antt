@@ -2,7 +2,7 @@
 use mathlib.Core.Path.{_≡_, refl, ap, ap₂, sym, _∙_}
 use mathlib.Core.Bool.{true, false, cond}
 use mathlib.Core.List.{List, [], _∷_, _++_, append-nil, append-assoc}
-use Prim.Native.Nat.{ℕ, zero, suc, _+_, _-_, _≤_, _<_}
+use Prim.Native.Nat.{ℕ, zero, suc, _+_, _-_, _≤_}
 use native.Mathlib.Omega.{arith}
 use lib.ListN.{length, take, drop, length-append}
 use lib.Seq.{drop-at, take-at, drop-drop, length-take-le}
@@ -12,7 +12,6 @@ use Rattle.model.specs.History.{Record, made, isCut, times, IsInRange, AllInRan
 use Rattle.model.proofs.FormLaws.{recordBytes-some, size-back, recordIn-back}
 use Rattle.model.proofs.All.{all-snoc}
 use Rattle.model.proofs.HistoryLaws.{times-snoc}
-use Rattle.model.specs.Limits.{maxHistory}
 use Rattle.plan_table.specs.Packed.{rowOf, linkIn, tagIn}
 use Rattle.run_updates.specs.Tallying.{plusMade, plusCut}
 use Rattle.run_updates.specs.declared.tally.Tally.{Tally}
@@ -61,22 +60,28 @@ module _ (b : List ℕ) (t : Tally) (h : Recorded b t) (r : Record) (f : IsInRan
   recordsIn-push = ap recordsIn grown-bytes ∙ recordsIn-bytes (recordsIn b ++ (r ∷ [])) (all-snoc (h .ranges) f)
 
   recorded-more : (u : Tally) → u .records ≡ t .records + 1 → u .made + u .cut ≡ u .records → t .cut + cond (isCut r) 1 0 ≡ u .cut →
-      t .records < maxHistory → Recorded (b ++ recordBytes r) u
-  recorded-more u e s g l =
+      Recorded (b ++ recordBytes r) u
+  recorded-more u e s g =
       record {
         ranges = rw recordsIn-push (all-snoc (h .ranges) f);
         bytes = ap historyBytes recordsIn-push ∙ sym grown-bytes;
         records = ap length recordsIn-push ∙ omega (arith, length-append (recordsIn b) (r ∷ []), h .records);
         cuts = ap (times isCut) recordsIn-push ∙ omega (arith, times-snoc isCut (recordsIn b) r, h .cuts);
         sum = s;
-        limit = omega arith;
       }
 
-  pub recorded-made : isCut r ≡ false → t .records < maxHistory → Recorded (b ++ recordBytes r) (plusMade t)
-  recorded-made e l = recorded-more (plusMade t) refl (omega (arith, h .sum)) (rw e (omega arith)) l
+  pub recorded-made : isCut r ≡ false → Recorded (b ++ recordBytes r) (plusMade t)
+  recorded-made e = recorded-more (plusMade t) refl (omega (arith, h .sum)) (rw e (omega arith))
 
-  pub recorded-cut : isCut r ≡ true → t .records < maxHistory → Recorded (b ++ recordBytes r) (plusCut t)
-  recorded-cut e l = recorded-more (plusCut t) refl (omega (arith, h .sum)) (rw e (omega arith)) l
+  pub recorded-cut : isCut r ≡ true → Recorded (b ++ recordBytes r) (plusCut t)
+  recorded-cut e = recorded-more (plusCut t) refl (omega (arith, h .sum)) (rw e (omega arith))
+
+  -- how many bytes and records there are then
+  pub grown-length : length b + length (recordBytes r) ≡ length (historyBytes (recordsIn b ++ (r ∷ [])))
+  grown-length = omega (arith, length-append b (recordBytes r), ap length grown-bytes)
+
+  pub grown-records : t .records + 1 ≡ length (recordsIn b ++ (r ∷ []))
+  grown-records = omega (arith, length-append (recordsIn b) (r ∷ []), h .records)
 
 -- in its area
 module _ (h : List ℕ) (n : ℕ) (b : List ℕ) (room : n + length b ≤ length h) where

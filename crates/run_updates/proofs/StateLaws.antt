@@ -1,34 +1,49 @@
--- What is held, and how it goes on: the start, a record appended; updates one after the other, and refused.
-use mathlib.Core.Path.{_≡_, refl, ap, sym, _∙_, subst}
+-- What is held, and how it goes on: a record appended, the start; updates one after the other, and refused.
+use mathlib.Core.Path.{_≡_, refl, ap, ap₂, sym, _∙_, subst}
 use mathlib.Core.Bool.{true}
 use mathlib.Core.List.{List, [], _∷_, _++_}
 use mathlib.Core.Option.{Option·none-ne-some}
-use Prim.Native.Nat.{ℕ, suc, _+_, _≤_, _<_}
+use Prim.Native.Nat.{ℕ, _+_, _*_, _≤_, _<_}
 use native.Mathlib.Omega.{arith}
 use lib.ListN.{length, take, drop}
+use lib.Seq.{length-take-le}
 use Rattle.model.specs.Refusal.{refusal}
 use Rattle.model.specs.Table as model
-use Rattle.model.specs.History.{Record, recordBytes, historyBytes, IsInRange, times, madeSize}
+use Rattle.model.specs.History.{Record, recordBytes, historyBytes, IsInRange, times}
 use Rattle.model.specs.Run.{State, state, Out, refused, gives, thenRow}
 use Rattle.model.proofs.BoolLaws.{cond-eq, cond-ne}
+use Rattle.model.specs.Leads.{Attained}
+use Rattle.model.proofs.LeadsLaws.{attained-start}
+use Rattle.model.proofs.HistoryLaws.{attained-length, attained-bytes}
 use Rattle.model.specs.Table.{Tree}
 use Rattle.model.specs.Base.{nothing, over}
 use Rattle.plan_table.specs.Packed.{decodeParts, partsFit, Canonical, LinksCut}
 use Rattle.plan_table.proofs.PackedLaws.{count-decode}
 use Rattle.plan_table.proofs.LinkLaws.{links-same, links-then}
 use Rattle.model.proofs.ListLaws.{length-over}
-use Rattle.model.specs.Limits.{maxRows, maxHistory, historyNeed}
+use Rattle.model.specs.Limits.{maxRows, historyNeed}
 use Rattle.plan_table.proofs.FittedLaws.{fits-at}
 use Rattle.run_updates.specs.declared.tally.Tally.{Tally}
 use Rattle.run_updates.specs.State.{recordsFrom, recordsIn, started, refusedWith, stateOf, outcome, Recorded, Held, After, Updated}
 use Rattle.run_updates.specs.declared.state.Progress.{Progress}
-use Rattle.run_updates.proofs.HistoryLaws.{recordsIn-push, take-over, drop-over}
+use Rattle.run_updates.proofs.HistoryLaws.{recordsIn-push, grown-length, grown-records, take-over, drop-over}
 
--- A RECORD APPENDED to what is held
-module _ {ws h : List ℕ} {p : Progress} (held : Held ws h p) (r : Record) (n : ℕ) (size : length (recordBytes r) ≡ n)
-    (small : n ≤ madeSize) (m : p .tally .records < maxHistory) where
-  append-room : p .bytes + n ≤ length h
-  append-room = omega (arith, held .size, held .area)
+-- A RECORD APPENDED to what is held, where the state after it is one come to: so there is room for it
+module _ {ws h : List ℕ} {p : Progress} (held : Held ws h p) (r : Record) (f : IsInRange r) (n : ℕ)
+    (size : length (recordBytes r) ≡ n) {y : model.Table} (a : Attained (state y (recordsIn (take (p .bytes) h) ++ (r ∷ [])))) where
+  pub append-room : p .bytes + n ≤ length h
+  append-room =
+      omega (
+        arith,
+        held .area,
+        size,
+        length-take-le (p .bytes) h (held .written),
+        grown-length (take (p .bytes) h) (p .tally) (held .history) r f,
+        attained-bytes a,
+      )
+
+  pub append-few : p .tally .records < 2 * maxRows
+  append-few = omega (arith, grown-records (take (p .bytes) h) (p .tally) (held .history) r f, attained-length a)
 
   room : p .bytes + length (recordBytes r) ≤ length h
   room = omega (arith, append-room, size)
@@ -43,16 +58,15 @@ module _ {ws h : List ℕ} {p : Progress} (held : Held ws h p) (r : Record) (n :
   append-written =
       ap (λ (j : ℕ). take (p .bytes + j) (over (p .bytes) (recordBytes r) h)) (sym size) ∙ take-over h (p .bytes) (recordBytes r) room
 
-  pub append-records : IsInRange r →
-      recordsIn (take (p .bytes + n) (over (p .bytes) (recordBytes r) h)) ≡ recordsIn (take (p .bytes) h) ++ (r ∷ [])
-  append-records f = ap recordsIn append-written ∙ recordsIn-push (take (p .bytes) h) (p .tally) (held .history) r f
+  pub append-records : recordsIn (take (p .bytes + n) (over (p .bytes) (recordBytes r) h)) ≡ recordsIn (take (p .bytes) h) ++ (r ∷ [])
+  append-records = ap recordsIn append-written ∙ recordsIn-push (take (p .bytes) h) (p .tally) (held .history) r f
 
   -- beside it the rows are others, and no fewer
-  pub append-after : {t : Tally} → Recorded (take (p .bytes) h ++ recordBytes r) t → t .records ≡ p .tally .records + 1 →
-      {ws′ : List ℕ} {c : ℕ} → length ws′ ≡ length ws → p .count ≤ c → LinksCut (p .count) ws ws′ → c ≤ maxRows → Canonical c ws′ →
-      Tree (decodeParts c ws′ []) →
+  pub append-after : {t : Tally} → Recorded (take (p .bytes) h ++ recordBytes r) t → {ws′ : List ℕ} {c : ℕ} → length ws′ ≡ length ws →
+      p .count ≤ c → LinksCut (p .count) ws ws′ → c ≤ maxRows → Canonical c ws′ → Tree (decodeParts c ws′ []) →
+      decodeParts c ws′ [] ≡ y →
       After ws h p ws′ (over (p .bytes) (recordBytes r) h) (record { number = 0; count = c; bytes = p .bytes + n; tally = t })
-  append-after {t} recorded more rows grown links few canonical tree =
+  append-after {t} recorded rows grown links few canonical tree table =
       record {
         held =
             record {
@@ -62,7 +76,8 @@ module _ {ws h : List ℕ} {p : Progress} (held : Held ws h p) (r : Record) (n :
               few = few;
               canonical = canonical;
               tree = tree;
-              size = omega (arith, held .size);
+              attained = subst Attained (sym (ap₂ state table append-records)) a;
+              written = omega (arith, append-room, append-area);
               history = subst (λ (b : List ℕ). Recorded b t) (sym append-written) recorded;
             };
         rows = grown;
@@ -90,12 +105,13 @@ held-start n ws ms h f l a =
     record {
       fine = refl;
       rows = l;
-      area = a;
+      area = omega (arith, a);
       few = k .few;
       canonical = k .canonical l;
       tree = tree-rows n ws ms (k .well .tree);
-      size = omega arith;
-      history = record { ranges = nothing; bytes = refl; records = refl; cuts = refl; sum = refl; limit = omega arith };
+      attained = attained-start (decodeParts n ws []) (omega (arith, count-decode n ws [] (omega (arith, k .few, l)), k .few));
+      written = omega arith;
+      history = record { ranges = nothing; bytes = refl; records = refl; cuts = refl; sum = refl };
     }
 
 pub state-start : (n : ℕ) (ws ms h : List ℕ) → stateOf ws ms h (started n) ≡ state (decodeParts n ws ms) []
@@ -141,11 +157,10 @@ then-goes f z v ws ms h p n e = sym (ap (λ (o : Out). thenRow o f) (outcome-giv
 
 -- REFUSED, the areas may be anything
 module _ {f : ℕ → State → Out} {v ws h : List ℕ} {p : Progress} {ws′ h′ : List ℕ} {r : Progress} where
-  pub updated-refused : (n : ℕ) → r ≡ refusedWith p (suc n) →
-      ((z : ℕ) (ms : List ℕ) → refused (refusal (suc n) z) ≡ f z (stateOf ws ms h p)) →
-      Updated f v ws h p ws′ h′ r
-  updated-refused n e g =
-      let k : r .number ≡ suc n = ap (λ (q : Progress). q .number) e in
+  pub updated-refused : (n : ℕ) → 0 < n → r ≡ refusedWith p n →
+      ((z : ℕ) (ms : List ℕ) → refused (refusal n z) ≡ f z (stateOf ws ms h p)) → Updated f v ws h p ws′ h′ r
+  updated-refused n some e g =
+      let k : r .number ≡ n = ap (λ (q : Progress). q .number) e in
       let y : r .number ≡ 0 → ⊥ = λ q. omega arith in
       record {
         same = λ z ms. outcome-refused z v ws′ ms h′ r y ∙ ap (λ (j : ℕ). refused (refusal j z)) k ∙ g z ms;

@@ -2,13 +2,14 @@
 use mathlib.Core.Path.{_≡_}
 use mathlib.Core.Bool.{cond}
 use mathlib.Core.List.{List, [], _∷_}
-use Prim.Native.Nat.{ℕ, zero, suc, _+_, _*_, _≤_}
+use Prim.Native.Nat.{ℕ, zero, suc, _+_, _≤_}
 use lib.Dec.{eqb}
 use lib.ListN.{length, getD, take, drop}
-use Rattle.model.specs.Limits.{maxRows, maxHistory, historyNeed}
+use Rattle.model.specs.Limits.{maxRows, historyNeed}
 use Rattle.model.specs.Refusal.{refusal}
-use Rattle.model.specs.History.{Record, isCut, times, AllInRange, historyBytes, historySize, recordIn, madeSize}
+use Rattle.model.specs.History.{Record, isCut, times, AllInRange, historyBytes, historySize, recordIn}
 use Rattle.model.specs.Run.{State, state, Out, refused, gives}
+use Rattle.model.specs.Leads.{Attained}
 use Rattle.model.specs.Table.{Tree}
 use Rattle.plan_table.specs.Packed.{decodeParts, Canonical, LinksCut}
 use Rattle.run_updates.specs.Tallying.{noneYet}
@@ -45,9 +46,9 @@ pub record Recorded (b : List ℕ) (t : Tally) : Type 0 where
   pub records : length (recordsIn b) ≡ t .records
   pub cuts : times isCut (recordsIn b) ≡ t .cut
   pub sum : t .made + t .cut ≡ t .records
-  pub limit : t .records ≤ maxHistory
 
--- the areas have their sizes, the rows their form; the marks are not in question
+-- the areas have their sizes, the rows their form; rows and records are a state come to by making rows and cutting links, which
+-- bounds the records (the model's HistoryLaws); the marks are not in question
 pub record Held (ws h : List ℕ) (p : Progress) : Type 0 where
   pub fine : p .number ≡ 0
   pub rows : length ws ≡ maxRows
@@ -55,7 +56,8 @@ pub record Held (ws h : List ℕ) (p : Progress) : Type 0 where
   pub few : p .count ≤ maxRows
   pub canonical : Canonical (p .count) ws
   pub tree : Tree (decodeParts (p .count) ws [])
-  pub size : p .bytes ≤ madeSize * p .tally .records
+  pub attained : Attained (stateOf ws [] h p)
+  pub written : p .bytes ≤ length h
   pub history : Recorded (take (p .bytes) h) (p .tally)
 
 -- AFTER some updates: rows and records are only added, links only cut, and the area past the records is as it was

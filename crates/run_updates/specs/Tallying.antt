@@ -1,7 +1,7 @@
 -- The tally of a run: document 01's "One tally follows a run: rows made, links cut, records written".
 use mathlib.Core.Path.{_≡_}
-use Prim.Native.Nat.{_+_, _<_}
-use Rattle.model.specs.Limits.{maxHistory}
+use Prim.Native.Nat.{_+_, _*_, _<_}
+use Rattle.model.specs.Limits.{maxRows}
 use Rattle.run_updates.specs.declared.tally.Tally.{Tally}
 
 -- nothing is written yet
@@ -15,6 +15,6 @@ plusMade t = record { made = t .made + 1; cut = t .cut; records = t .records + 1
 abbrev pub plusCut : Tally → Tally
 plusCut t = record { made = t .made; cut = t .cut + 1; records = t .records + 1 }
 
--- the records are both together, and fewer than a history may have
+-- the records are both together, and a run can write one more
 abbrev pub HasRoom : Tally → Type 0
-HasRoom t = (t .made + t .cut ≡ t .records) × (t .records < maxHistory)
+HasRoom t = (t .made + t .cut ≡ t .records) × (t .records < 2 * maxRows)

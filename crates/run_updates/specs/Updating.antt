@@ -11,7 +11,7 @@ use Rattle.model.specs.History.{madeElementKind, madeLeafKind}
 use Rattle.model.specs.Limits.{maxName}
 use Rattle.plan_table.specs.Flags.{Within}
 use Rattle.plan_table.specs.Packed.{ofLink, isPackedRow, rowOf, decodeParts, kindIn, leafBits}
-use Rattle.run_updates.specs.State.{Held, Updated}
+use Rattle.run_updates.specs.State.{stateOf, Held, After, Updated}
 use Rattle.run_updates.specs.declared.state.Progress.{Progress}
 
 -- RECORDS as bytes
@@ -49,5 +49,7 @@ pub record DeletePre (ws h : List ℕ) (p : Progress) (v : List ℕ) : Type 0 wh
   pub held : Held ws h p
   pub items : Within v (p .count)
 
-abbrev pub DeletePost : (ws h : List ℕ) → (p : Progress) → (items : List ℕ) → (ws′ h′ : List ℕ) → (r : Progress) → Type 0
-DeletePost ws h p v ws′ h′ r = Updated (λ z s. cutAll z v s) [] ws h p ws′ h′ r
+-- it is never refused
+pub record DeletePost (ws h : List ℕ) (p : Progress) (v ws′ h′ : List ℕ) (r : Progress) : Type 0 where
+  pub state : (ms : List ℕ) → stateOf ws′ ms h′ r ≡ cutAll v (stateOf ws ms h p)
+  pub after : After ws h p ws′ h′ r

@@ -15,7 +15,7 @@ use plan_table::Table;
 use plan_table::number;
 use plan_table::packed;
 
-// Row w more, with its record: 10 when the table is full, then 9 when the history is.
+// Row w more, with its record: 10 when the table is full.
 pub fn new_row(rows: &mut [u32], history: &mut [u8], p: Progress, w: u32) -> Progress
     requires { ⌜ NewPre (now rows) (now history) p w ⌝ }
     ensures { λ r. ⌜ NewPost (now (rows .entry)) (now (history .entry)) p w (now (rows .exit)) (now (history .exit)) r ⌝ }
@@ -25,9 +25,6 @@ pub fn new_row(rows: &mut [u32], history: &mut [u8], p: Progress, w: u32) -> Pro
     let before = p.tally;
     if Table::ROWS <= count {
         return p.refused(Refusal::TABLE);
-    }
-    if Table::HISTORY_RECORDS <= before.records {
-        return p.refused(Refusal::HISTORY);
     }
     rows[count] = w;
     history::put_made(history, at, RowNumber(count), w);
@@ -55,7 +52,7 @@ pub fn new_leaf(rows: &mut [u32], history: &mut [u8], p: Progress, value: u8) ->
     new_row(rows, history, p, packed::leaf(value, Link(0)))
 }
 
-// A row cut from its parent, if it has one, with a record: 9 when the history is full.
+// A row cut from its parent, if it has one, with a record.
 fn cut_row(rows: &mut [u32], history: &mut [u8], p: Progress, row: RowNumber) -> Progress
     requires { ⌜ CutPre (now rows) (now history) p (row .0) ⌝ }
     ensures { λ r. ⌜ DeletePost (now (rows .entry)) (now (history .entry)) p (row .0 ∷ []) (now (rows .exit)) (now (history .exit)) r ⌝ }
@@ -67,9 +64,6 @@ fn cut_row(rows: &mut [u32], history: &mut [u8], p: Progress, row: RowNumber) ->
     let link = packed::link(w).0;
     if link == 0 {
         return p;
-    }
-    if Table::HISTORY_RECORDS <= before.records {
-        return p.refused(Refusal::HISTORY);
     }
     rows[i] = packed::relinked(w, Link(0));
     let parent = link - 1;
@@ -92,9 +86,6 @@ pub fn delete(rows: &mut [u32], history: &mut [u8], p: Progress, items: &[u16]) 
     let mut k = 0;
     while k < items.len() {
         now = cut_row(rows, history, now, RowNumber(number::index(items[k])));
-        if now.number != 0 {
-            return now;
-        }
         k += 1;
     }
     now

@@ -3,7 +3,9 @@
 use compare::interface::{Answer, Lent, DONE_NUMBERS};
 use compare::oracle::calls;
 use compare::oracle::limits::{ANSWER_NUMBERS, HISTORY_BYTES, PLAN_BYTES, WORK_NUMBERS};
+use compare::oracle::run::Tally;
 
+use super::histories::{tally, Histories};
 use super::shares::Shares;
 use crate::ffi;
 use crate::harness::area::Twin;
@@ -38,12 +40,13 @@ pub struct Left {
     pub answer: Vec<u16>,
     pub history: Vec<u8>,
     pub plan: Vec<u8>,
-    pub rows_made: usize,
+    pub tally: Tally,
 }
 
 pub struct Runs<'a> {
     pub checker: &'a mut Checker,
     pub shares: Shares,
+    pub histories: Histories,
     answer: Twin<u16>,
     history: Twin<u8>,
     work: Twin<u16>,
@@ -58,6 +61,7 @@ impl Runs<'_> {
         Runs {
             checker,
             shares: Shares::default(),
+            histories: Histories::default(),
             answer: Twin::new(),
             history: Twin::new(),
             work: Twin::new(),
@@ -72,8 +76,7 @@ impl Runs<'_> {
         self.run_in(plan, script, Lengths::NEED)
     }
 
-    /// Compares a run in areas of any lengths. The tally's records are its
-    /// rows made and links cut together.
+    /// Compares a run in areas of any lengths.
     pub fn run_in(
         &mut self,
         plan: &[u8],
@@ -115,10 +118,8 @@ impl Runs<'_> {
         if lengths.done >= DONE_NUMBERS {
             let done = &self.done.library()[..DONE_NUMBERS];
             self.shares.count(script, library, done);
-            if library.number() == 0 && done[1] + done[2] != done[3] {
-                let message = "law broken: the tally does not add up";
-                return Err(difference(Call::Run, &[plan, script], message));
-            }
+            let counted = self.histories.count(library, self.history.library(), done);
+            counted.map_err(|message| difference(Call::Run, &[plan, script], &message))?;
         }
         Ok(library)
     }
@@ -138,15 +139,15 @@ impl Runs<'_> {
         self.done.fill((0..lengths.done).map(long), u64::MAX);
     }
 
-    /// What the library's last run left, which was not refused.
+    /// What the library's last run left: nothing, where it was refused.
     pub fn left(&self) -> Left {
         let done = self.done.library();
-        let [items, made, _, _, bytes, length] = [0, 1, 2, 3, 4, 5].map(|at| done[at] as usize);
+        let [items, bytes, length] = [0, 4, 5].map(|at| done[at] as usize);
         Left {
             answer: self.answer.library()[..items].to_vec(),
             history: self.history.library()[..bytes].to_vec(),
             plan: self.out.library()[..length].to_vec(),
-            rows_made: made,
+            tally: tally(done),
         }
     }
 

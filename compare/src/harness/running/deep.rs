@@ -9,6 +9,7 @@ use compare::oracle::limits::{BINDERS, DEPTH, ROWS};
 use compare::oracle::plan::to_vec;
 use compare::oracle::script::{kind, read};
 
+use super::check::Runs;
 use crate::ffi;
 use crate::harness::checker::{compare, difference};
 use crate::harness::tally::Call;
@@ -32,7 +33,7 @@ const ALL: [u8; 9] = [
 ];
 const ONE: [u8; 2] = [kind::DOCUMENT, 0];
 
-pub fn test(random: &mut Random, volume: Volume) -> Result<(), Difference> {
+pub fn test(runs: &mut Runs<'_>, random: &mut Random, volume: Volume) -> Result<(), Difference> {
     let wide = to_vec(&star(ROWS));
     let few = to_vec(&star(FEW_ROWS));
     let tenth = tenth_leaf(&wide);
@@ -59,6 +60,8 @@ pub fn test(random: &mut Random, volume: Volume) -> Result<(), Difference> {
             let message = "the areas of a run on a small stack differ";
             return Err(difference(Call::Run, &[plan, script], message));
         }
+        let counted = runs.histories.count(answer, &areas.history, &areas.done);
+        counted.map_err(|message| difference(Call::Run, &[plan, script], &message))?;
     }
     Ok(())
 }

@@ -2,6 +2,7 @@
 
 mod check;
 mod deep;
+mod histories;
 mod loops;
 mod orders;
 mod shares;
@@ -32,7 +33,8 @@ pub fn test(checker: &mut Checker, volume: Volume) -> Result<(), Difference> {
     let mut random = Random::new(SEED);
     let mut runs = Runs::new(checker);
     worked::test(&mut runs)?;
-    deep::test(&mut random, volume)?;
+    let by_hand = std::mem::take(&mut runs.histories);
+    deep::test(&mut runs, &mut random, volume)?;
     for _ in 0..volume.of(120_000) {
         let Case { plan, script } = case(&mut random);
         runs.run_and_back(&to_vec(&plan), &script)?;
@@ -51,7 +53,11 @@ pub fn test(checker: &mut Checker, volume: Volume) -> Result<(), Difference> {
     }
     small_scripts(&mut runs)?;
     let counts = orders::test(&mut runs, &mut random, volume)?;
-    let notes = runs.shares.lines() + &counts;
+    let longest = format!(
+        "histories of worked runs: {by_hand}\nhistories of other runs: {}\n",
+        runs.histories
+    );
+    let notes = runs.shares.lines() + &counts + &longest;
     runs.shares
         .require()
         .map_err(|message| message + "\n" + &notes)?;

@@ -153,7 +153,7 @@ fn ended(first: &Left, second: &Left, plan: &[u8]) -> Result<Order, Difference> 
         Ok::<_, Difference>(Part {
             answer: left.answer.clone(),
             history: records,
-            rows_made: left.rows_made,
+            rows_made: left.tally.rows_made,
         })
     };
     let table = read(plan).map_err(|_| "a plan is ill formed".to_string())?;

@@ -1,7 +1,7 @@
 //! Cases with what document 01 says of each: those found by hand, and those at
 //! its limits.
 
-use compare::cases::{self, Given};
+use compare::cases::{self, Given, Run};
 use compare::generate::document01::PLAN_P;
 use compare::generate::edges::joins;
 use compare::generate::plans::star;
@@ -11,6 +11,7 @@ use compare::interface::{Answer, WHICH_SCRIPT};
 use compare::oracle::limits::{BINDERS, DEPTH, ITEMS, ROWS, SCRIPT_RECORDS};
 use compare::oracle::plan::to_vec;
 use compare::oracle::refusal::{Number, Refusal};
+use compare::oracle::run::Tally;
 use compare::oracle::script::kind;
 
 use super::check::Runs;
@@ -20,6 +21,7 @@ use crate::harness::Difference;
 
 pub fn test(runs: &mut Runs<'_>) -> Result<(), Difference> {
     by_hand(runs)?;
+    longest(runs)?;
     full_tables(runs)?;
     long_values(runs)?;
     limits_of_scripts(runs)
@@ -76,6 +78,33 @@ fn by_hand(runs: &mut Runs<'_>) -> Result<(), Difference> {
         ends(runs, &case.plan, &case.script, &case.end)
             .map_err(|message| format!("{}: {message}", case.rule))
     })
+}
+
+/// The longest histories, and the runs that are refused where one more row
+/// would be made. The numbers handed back are those counted by hand.
+fn longest(runs: &mut Runs<'_>) -> Result<(), Difference> {
+    for case in cases::longest() {
+        let Run {
+            rule,
+            plan,
+            script,
+            end,
+        } = &case.run;
+        ends(runs, plan, script, end).map_err(|message| format!("{rule}: {message}"))?;
+        let left = runs.left();
+        let Tally {
+            rows_made,
+            links_cut,
+            records_written,
+        } = left.tally;
+        let counts = [rows_made, links_cut, records_written, left.history.len()];
+        if counts != case.counts {
+            let expected = case.counts;
+            let message = format!("{rule}: counted by hand {expected:?}, not {counts:?}");
+            return Err(difference(Call::Run, &[plan, script], &message));
+        }
+    }
+    Ok(())
 }
 
 /// With 512 rows: an empty value is inserted, and a new row is 10. With 511

@@ -3,6 +3,7 @@
 mod brute;
 mod cases;
 mod lent;
+mod longest;
 mod meetings;
 mod methods;
 mod paths;

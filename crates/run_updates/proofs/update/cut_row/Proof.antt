@@ -1,5 +1,5 @@
 -- `update::cut_row` cuts a row from its parent, with its record, by the laws of UpdateLaws.
-use Rattle.run_updates.proofs.UpdateLaws.{cut-root, cut-low, cut-full, cut-done}
+use Rattle.run_updates.proofs.UpdateLaws.{cut-root, cut-low, cut-room, cut-few, cut-done}
 use lib.ListN.{getD}
 use mathlib.Core.Path.{_≡_, sym, _∙_}
 use native.Mathlib.Omega.{arith}
@@ -26,16 +26,6 @@ returns c =
     let c6 = c .before .before .before .before .before .before in
     cut-root (c6 .pre) (sym (c .before .link .ensures) ∙ c .if1 .taken)
 
-refused-requires : tie.Need-refused-requires
-refused-requires c κs = search needs
-
-returns-2 : tie.Need-returns-2
-returns-2 c =
-    let c3 = c .before .before .before in
-    let c9 = c3 .before .before .before .before .before .before in
-    cut-full (c9 .pre) (has-parent c3)
-    (c .before .if2 .taken) (c .refused .ensures)
-
 relinked-requires : tie.Need-relinked-requires
 relinked-requires c κs = search needs
 
@@ -50,19 +40,12 @@ sub-parent c = search needs
 
 put-cut-requires : tie.Need-put-cut-requires
 put-cut-requires c κs =
-    let c4 = c .before .before .before .before in
-    let c5 = c4 .before in
-    let c10 = c5 .before .before .before .before .before in (
-      omega (arith, c10 .pre .held .size, c10 .pre .held .area, c .before .before .if2 .left),
-      (
-        omega (arith, c10 .pre .row, c10 .pre .held .few),
-        omega (
-          arith,
-          c5 .link .ensures,
-          cut-low
-              (c10 .pre) (has-parent c4),
-        ),
-      ),
+    let c2 = c .before .before in
+    let c3 = c2 .before in
+    let c8 = c3 .before .before .before .before .before in
+    let n = has-parent c2 in (
+      cut-room (c8 .pre) n,
+      (omega (arith, c8 .pre .row, c8 .pre .held .few), omega (arith, c3 .link .ensures, cut-low (c8 .pre) n)),
     )
 
 add-t11 : tie.Need-add-t11
@@ -71,10 +54,8 @@ add-t11 c = search needs
 count-cut-requires : tie.Need-count-cut-requires
 count-cut-requires c κs =
     let c5 = c .before .before .before .before .before in
-    let c13 = c5 .before .before .before .before .before .before .before .before in (
-      c13 .pre .held .history .sum,
-      omega (arith, c5 .if2 .left),
-    )
+    let c11 = c5 .before .before .before .before .before .before in
+    (c11 .pre .held .history .sum, cut-few (c11 .pre) (has-parent c5))
 
 same-length : tie.Need-same-length
 same-length c = search needs
@@ -82,20 +63,14 @@ same-length c = search needs
 same-length-2 : tie.Need-same-length-2
 same-length-2 c = search needs
 
-returns-3 : tie.Need-returns-3
-returns-3 c =
+returns-2 : tie.Need-returns-2
+returns-2 c =
     let c3 = c .before .before .before in
     let c5 = c3 .before .before in
     let c6 = c5 .before in
-    let c8 = c6 .before .before in
-    let c9 = c8 .before in
-    let c14 = c9 .before .before .before .before .before in
-    cut-done (c14 .pre)
-    (has-parent c8) (omega
-    (arith, c6 .if2 .left))
-    (c5 .relinked .ensures)
-    (c9 .link .ensures)
-    (c3 .put-cut .ensures) (c .count-cut .ensures)
+    let c7 = c6 .before in
+    let c12 = c7 .before .before .before .before .before in
+    cut-done (c12 .pre) (has-parent c6) (c5 .relinked .ensures) (c7 .link .ensures) (c3 .put-cut .ensures) (c .count-cut .ensures)
 
 pub cut-row-spec : {M : Type 1} → statement M
 cut-row-spec =
@@ -105,8 +80,6 @@ cut-row-spec =
     slice-read-w
     link-requires
     returns
-    refused-requires
-    returns-2
     relinked-requires
     mul-rows
     slice-write-rows
@@ -116,4 +89,4 @@ cut-row-spec =
     count-cut-requires
     same-length
     same-length-2
-    returns-3)
+    returns-2)

@@ -1,8 +1,8 @@
 -- `update::delete` cuts every row of a value. The loop's invariant is `Deleting`.
-use Rattle.run_updates.proofs.UpdateLaws.{Deleting, delete-end, delete-refused, delete-again}
+use Rattle.run_updates.proofs.UpdateLaws.{Deleting, delete-end, delete-again}
 use Rattle.run_updates.proofs.StateLaws.{after-self}
 use lib.ListN.{length}
-use mathlib.Core.Path.{_≡_, refl}
+use mathlib.Core.Path.{refl}
 use Prim.Native.Nat.{_-_}
 use native.Mathlib.Omega.{arith}
 use borrow.Author.Needs.{needs}
@@ -18,7 +18,7 @@ abbrev μ-loop : tie.MeasureT-loop
 loop-holds : tie.Need-loop-holds Inv-loop μ-loop
 loop-holds c =
     let c3 = c .before .before .before in
-    record { after = after-self (c3 .pre .held); within = omega arith; rest = λ z ms. refl }
+    record { after = after-self (c3 .pre .held); within = omega arith; rest = λ ms. refl }
 
 mul-index : tie.Need-mul-index Inv-loop μ-loop
 mul-index c = search needs
@@ -45,23 +45,6 @@ cut-row-requires c κs =
       );
     }
 
-same-length : tie.Need-same-length Inv-loop μ-loop
-same-length c = search needs
-
-same-length-2 : tie.Need-same-length-2 Inv-loop μ-loop
-same-length-2 c = search needs
-
-returns : tie.Need-returns Inv-loop μ-loop
-returns c =
-    let c6 = c .before .before .before .before .before .before in
-    let c7 = c6 .before in
-    let c11 = c7 .before .before .before .before in
-    let c12 = c11 .before in
-    delete-refused (c12 .loop .inv)
-    (c11 .loop-test .taken)
-    (c7 .index .ensures .0)
-    (c6 .cut-row .ensures) (c .if1 .taken)
-
 add-k : tie.Need-add-k Inv-loop μ-loop
 add-k c = search needs
 
@@ -70,25 +53,19 @@ loop-less c = search needs
 
 loop-again : tie.Need-loop-again Inv-loop μ-loop
 loop-again c =
-    let c6 = c .before .before .before .before .before .before in
-    let c7 = c6 .before in
-    let c11 = c7 .before .before .before .before in
-    let c12 = c11 .before in
-    let n : c6 .cut-row .result .number ≡ 0 = search (c .if1 .left, needs) in
-    let g = delete-again (c12 .loop .inv)
-    (c11 .loop-test .taken)
-    (c7 .index .ensures .0)
-    (c6 .cut-row .ensures) n in
-    record { after = g .0; within = omega arith; rest = g .1 }
+    let c4 = c .before .before .before .before in
+    let c5 = c4 .before in
+    let c9 = c5 .before .before .before .before in
+    delete-again (c9 .before .loop .inv) (c9 .loop-test .taken) (c5 .index .ensures .0) (c4 .cut-row .ensures)
 
-same-length-3 : tie.Need-same-length-3 Inv-loop μ-loop
-same-length-3 c = search needs
+same-length : tie.Need-same-length Inv-loop μ-loop
+same-length c = search needs
 
-same-length-4 : tie.Need-same-length-4 Inv-loop μ-loop
-same-length-4 c = search needs
+same-length-2 : tie.Need-same-length-2 Inv-loop μ-loop
+same-length-2 c = search needs
 
-returns-2 : tie.Need-returns-2 Inv-loop μ-loop
-returns-2 c = delete-end (c .before .loop .inv) (omega (arith, c .loop-test .left))
+returns : tie.Need-returns Inv-loop μ-loop
+returns c = delete-end (c .before .loop .inv) (omega (arith, c .loop-test .left))
 
 pub delete-spec : {M : Type 1} → statement M
 delete-spec =
@@ -101,12 +78,9 @@ delete-spec =
     shared-slice-read-index
     index-requires
     cut-row-requires
-    same-length
-    same-length-2
-    returns
     add-k
     loop-less
     loop-again
-    same-length-3
-    same-length-4
-    returns-2)
+    same-length
+    same-length-2
+    returns)
