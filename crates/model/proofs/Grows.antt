@@ -1,5 +1,4 @@
--- A run of whatever expression does nothing but make rows and cut links, and stops only with a refusal of its own, whose number is 7, 8
--- or 10.
+-- A run of whatever expression does nothing but make rows and cut links, and stops only with a refusal of its own: 7, 8 or 10.
 use mathlib.Core.Path.{_≡_, refl}
 use mathlib.Core.Bool.{true, _&&_}
 use mathlib.Core.List.{List, [], _∷_, _++_}
@@ -42,8 +41,7 @@ grows-for : {a : State} {o : Out} (z : ℕ) (v : List ℕ) (next : List ℕ → 
     ((v : List ℕ) (s : State) → Grows s (next v s)) → Grows a (joinFor z v o next)
 grows-for z v next (refuses e) h = refuses e
 grows-for {a} z v next (keeps {v = w} {s} r) h =
-    cond-cases (Grows a) (ltb maxItems (length v + length w)) (λ e. refuses refl)
-    (λ e. grows-from r (h (v ++ w) s))
+    cond-cases (Grows a) (ltb maxItems (length v + length w)) (λ e. refuses refl) (λ e. grows-from r (h (v ++ w) s))
 
 pub grows-new : (z : ℕ) (r : Row) (s : State) → Grows s (newRow z r s)
 grows-new z r s =

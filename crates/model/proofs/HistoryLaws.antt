@@ -1,10 +1,10 @@
--- A run's history: no two of its records make the same row, and no two cut the same row's link. So it has at most one of each for a row,
--- which is 1,024 records, of 5,632 bytes.
+-- A run's history. No two of its records make the same row, and no two cut the same row's link; so it has at most one of each for a row,
+-- which is 1,024 records, of 5,632 bytes. It replays to what the run leaves; and where each row made fits, that is well formed.
 use mathlib.Core.Path.{_≡_, refl, sym, ap, _∙_}
 use mathlib.Core.Bool.{Bool, true, false, false≢true}
 use mathlib.Core.Logic.{_≢_}
 use mathlib.Core.List.{List, [], _∷_, _++_}
-use mathlib.Core.Option.{Option, none}
+use mathlib.Core.Option.{Option, none, some, Option·none-ne-some}
 use Prim.Native.Nat.{ℕ, zero, suc, _+_, _*_, _≤_, _<_}
 use native.Mathlib.Omega.{arith}
 use native.Mathlib.Decide.{decLt}
@@ -13,13 +13,15 @@ use lib.ListN.{length, length-append}
 use borrow.Author.Tests.{ltb-true, ltb-false, eqb-true, eqb-false, eq-eqb}
 use Rattle.model.specs.Base.{bit}
 use Rattle.model.specs.Limits.{maxRows}
-use Rattle.model.specs.Table.{Row, Table, rowAt, count, hasParent, withRow}
+use Rattle.model.specs.Table.{Row, Table, rowAt, count, hasParent, withRow, linked, tagFits, parentFits}
 use Rattle.model.specs.History.{Record, made, cut, isMade, isCut, makes, cuts, times, recordBytes, historyBytes, madeSize, cutSize}
+use Rattle.model.specs.History.{replayed, replayAll}
 use Rattle.model.specs.Run.{State, state, withMade, cutRow}
 use Rattle.model.specs.Leads.{Leads, begun, rowMade, linkCut, Attained}
 use Rattle.model.proofs.BoolLaws.{bit-le, by-cases, eq-cases}
-use Rattle.model.proofs.TableLaws.{parent-count}
+use Rattle.model.proofs.TableLaws.{parent-count, Well}
 use Rattle.model.proofs.GrowLaws.{count-withRow, rowAt-withRow-old, count-linked, rowAt-linked-same, rowAt-linked-other}
+use Rattle.model.proofs.GrowLaws.{well-withRow, well-linked}
 use Rattle.model.proofs.FormLaws.{length-recordBytes}
 use Rattle.model.proofs.LeadsLaws.{leads-few}
 
@@ -79,7 +81,8 @@ unfolding sum
 sum-plus g h zero = refl
 sum-plus g h (suc n) = omega (arith, sum-plus g h n)
 
--- records that pass g, where f i is g of the records of row i: at most one for each row, and none from row n on, is at most n
+-- f i is the test g, asked of the records of row i alone: if each row has at most one record that passes, and no row from n on has one,
+-- then at most n records pass
 module _ (g : Record → Bool) (f : ℕ → Record → Bool) (own : (r : Record) → g r ≡ true → f (recordRow r) r ≡ true) (n : ℕ) where
   own-row : (r : Record) → (n ≤ recordRow r → f (recordRow r) r ≡ false) → bit (g r) ≤ sum (λ i. bit (f i r)) n
   own-row r h =
@@ -234,3 +237,36 @@ module _ {s : State} (a : Attained s) where
 
   pub attained-bytes : length (historyBytes (s .history)) ≤ (madeSize + cutSize) * maxRows
   attained-bytes = let (x, q) = a in ran-bytes x (q .0) (q .1)
+
+-- REPLAYED: the history on the earlier table gives the later one
+replayAll-snoc : (x : Table) (rs : List Record) (r : Record) → replayAll x (rs ++ (r ∷ [])) ≡ replayed (replayAll x rs) r
+unfolding replayAll
+replayAll-snoc x [] r = refl
+replayAll-snoc x (q ∷ rs) r = replayAll-snoc (replayed x q) rs r
+
+module _ {F : Table → Row → Type 0} (x : Table) where
+  pub ran-replay : {s : State} → Leads F (state x []) s → replayAll x (s .history) ≡ s .plan
+  unfolding replayAll
+  ran-replay begun = refl
+  ran-replay (rowMade s r q c f) =
+      replayAll-snoc x (s .history) _ ∙ ap (λ (y : Table). withRow y r) (ran-replay q)
+  ran-replay (linkCut s i p q e) =
+      replayAll-snoc x (s .history) _ ∙ ap (λ (y : Table). linked y i none) (ran-replay q)
+
+-- rows that fit their table: its tag, and its parent
+abbrev pub Fits : Table → Row → Type 0
+Fits x r = (tagFits r ≡ true) × (parentFits x (count x) (r .parent) ≡ true)
+
+-- THE STATES that a script's run on x can come to
+abbrev pub ComesTo : Table → State → Type 0
+ComesTo x s = Leads Fits (state x []) s
+
+-- a cut keeps the table well formed
+well-cut : (x : Table) (i p : ℕ) → Well x → rowAt x i .parent ≡ some p → Well (linked x i none)
+well-cut x i p w e =
+    well-linked x i none (w .tree) (parent-count x i p e) (λ q h. absurd (Option·none-ne-some q h)) (λ d h. refl) w
+
+pub ran-well : (x : Table) → Well x → {s : State} → ComesTo x s → Well (s .plan)
+ran-well x w begun = w
+ran-well x w (rowMade s r q c f) = let v = ran-well x w q in well-withRow (s .plan) r (v .tree) (f .0) (f .1) v c
+ran-well x w (linkCut s i p q e) = well-cut (s .plan) i p (ran-well x w q) e

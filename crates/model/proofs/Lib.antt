@@ -14,7 +14,6 @@ pub mod SweepsWell
 pub mod FormLaws
 pub mod LeadsLaws
 pub mod HistoryLaws
-pub mod RanLaws
 pub mod UndoLaws
 pub mod ScriptLaws
 pub mod ValueLaws

@@ -21,7 +21,7 @@ use Rattle.model.proofs.BoolLaws.{and-right, and-both, cond-cases}
 use Rattle.model.proofs.TableLaws.{isElement-at, isElement-by, parent-count, Well}
 use Rattle.model.proofs.GrowLaws.{count-withRow, rowAt-withRow-old, rowAt-withRow-new, count-linked, isLeaf-linked}
 use Rattle.model.proofs.LeadsLaws.{leads-then, cuts-lead}
-use Rattle.model.proofs.RanLaws.{Fits, ComesTo, ran-well}
+use Rattle.model.proofs.HistoryLaws.{Fits, ComesTo, ran-well}
 use Rattle.model.proofs.ScriptLaws.{FieldsFit}
 use Rattle.model.proofs.ValueLaws.{areRows-more, areValues-more, collect-rows, marked-rows}
 use Rattle.model.proofs.All.{all-append, all-snoc, all-read, all-filtered}

@@ -13,7 +13,7 @@ use Rattle.model.specs.Undo.{back, undo}
 use Rattle.model.specs.Call.{runBy}
 use Rattle.model.specs.Promise.{IsScript, RunsBack}
 use Rattle.model.proofs.TableLaws.{Well, isWell-at, isWell-by}
-use Rattle.model.proofs.RanLaws.{ComesTo, ran-well, ran-replay}
+use Rattle.model.proofs.HistoryLaws.{ComesTo, ran-well, ran-replay}
 use Rattle.model.proofs.UndoLaws.{ran-undo}
 use Rattle.model.proofs.ScriptLaws.{isScript-fields}
 use Rattle.model.proofs.RunKeeps.{Keeps, runOn-keeps}

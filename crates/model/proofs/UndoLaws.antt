@@ -19,8 +19,7 @@ use Rattle.model.proofs.BoolLaws.{and-both}
 use Rattle.model.proofs.TableLaws.{any-at, isElement-by, parentFits-at, parent-count, Well}
 use Rattle.model.proofs.GrowLaws.{count-withRow, rowAt-withRow-new, count-linked, rowAt-linked-same, isLeaf-linked}
 use Rattle.model.specs.Leads.{begun, rowMade, linkCut}
-use Rattle.model.proofs.RanLaws.{ComesTo, ran-well}
-use Rattle.model.proofs.HistoryLaws.{ran-length}
+use Rattle.model.proofs.HistoryLaws.{ran-length, ComesTo, ran-well}
 use Rattle.model.proofs.FormLaws.{placed, formFrom-placed}
 use Rattle.model.proofs.All.{all-snoc}
 

@@ -123,8 +123,7 @@ CallFits = (x : Table) (b a h w : List ℕ) → TallyFits (runCall x b a h w)
 abbrev pub isOfCall : (number : ℕ) → Bool
 isOfCall n = isIn 1 6 n || isOfRun n
 
--- DEMAND 1: a refusal has a number of the table: of a plan and of a history 1 to 6, of a script 1 to 5, of a run 7, 8
--- or 10
+-- DEMAND 1: a refusal has a number of the table: of a plan and of a history 1 to 6, of a script 1 to 5, of a run 7, 8 or 10
 abbrev pub RefusedByTable : Type 0
 RefusedByTable =
     ((b : List ℕ) (f : Refusal) → readPlan b ≡ refused f → isIn 1 6 (f .number) ≡ true) ×

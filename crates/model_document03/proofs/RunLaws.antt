@@ -75,8 +75,8 @@ stepFrom-same x a t n v j (suc k) =
 pub stepped-same : (x : Table) (a t n : ℕ) (v : List ℕ) → R.stepped x a t n v ≡ stepped x (stepBy a t n) v
 stepped-same x a t n v = stepFrom-same x a t n v 0 (count x)
 
--- RUNS: an outcome is ours under the map; what follows it, by a choice or by the next part. No state that a run comes to has so many
--- records that document 03's run stops with 9, which ours no longer knows
+-- RUNS: an outcome is ours under the map; what follows it, by a choice or by the next part. Document 03's run also stops with 9; no
+-- state that a run comes to has so many records
 record Same (p : R.Out) (o : Out) : Type 0 where
   same : p ≡ theirOut o
 
@@ -88,7 +88,7 @@ same-cond true e f = e
 same-cond false e f = f
 
 -- an outcome from a state that a run comes to
-pub data Comes : Out → Type 0 where
+data Comes : Out → Type 0 where
   stops : {x : Refusal} → Comes (refused x)
   goes : {v : List ℕ} {s : State} → Attained s → Comes (gives v s)
 
