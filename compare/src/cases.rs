@@ -1,10 +1,12 @@
-//! Cases with what document 01 says of each, found by hand: its own runs on plan
-//! P, and some for each of a number of rules. The oracle's own tests ask them
-//! of the oracle, the comparisons of the library.
+//! Cases with what documents 01 and 02 say of each, found by hand: the runs on
+//! plan P of document 01, and some for each of a number of rules. The oracle's
+//! own tests ask them of the oracle, the comparisons of the library.
 
 mod longest;
+mod not_surveyed;
 
 pub use longest::{longest, Longest};
+use not_surveyed::not_surveyed;
 
 use crate::generate::document01::{CHILDREN_NAMED_2, CHILDREN_NAMED_3, PLAN_P, SCRIPT_A, SCRIPT_B};
 use crate::oracle::refusal::{Number, Refusal};
@@ -232,6 +234,8 @@ pub fn rules() -> Vec<Run> {
     runs.push(finds(rule, &[&[0x04, 0x01, 0x03, 0x02], ROOT], &[1]));
     runs.push(finds(rule, &[THREES], &[3]));
     runs.push(on_p(rule, &[&[0x04, 0x01, 0x03, 0xFE], ROOT], &[], &[]));
+
+    runs.extend(not_surveyed());
     runs
 }
 

@@ -1,12 +1,12 @@
-//! Document 01 a second and a third time, and what is needed to compare the
-//! library under test with them.
+//! Documents 01 and 02 a second and a third time, and what is needed to compare
+//! the library under test with them.
 //!
-//! - [`oracle`]: the rules of document 01, naive, for the differential tests.
+//! - [`oracle`]: the documents' rules, naive, for the differential tests.
 //! - [`rival`]: the same, fast, for the benchmarks.
 //! - [`raw`]: a table packed as the C interface passes it.
 //! - [`interface`]: the answers and lent areas of the C interface.
 //! - [`generate`]: plans, scripts and tables, sound and damaged.
-//! - [`cases`]: cases with what document 01 says of each, found by hand.
+//! - [`cases`]: cases with what the documents say of each, found by hand.
 
 pub mod cases;
 pub mod generate;

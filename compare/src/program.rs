@@ -282,11 +282,12 @@ fn for_runs(random: &mut Random) -> (Table, [Vec<u8>; 2]) {
     }
 }
 
-/// A plan, sometimes nearly full, and two scripts as analyses have them.
+/// A plan, sometimes nearly full or with one row too many, and two scripts as
+/// analyses have them.
 fn for_analyses(random: &mut Random) -> (Table, [Vec<u8>; 2]) {
     let rows = match random.below(10) {
         0 => plans::row_count(random),
-        1 => random.between(ROWS - 6, ROWS),
+        1 => random.between(ROWS - 6, ROWS + 1),
         _ => random.between(0, 30),
     };
     let shape = plans::Shape {

@@ -207,6 +207,8 @@ fn write_case(name: &'static str, table: &Table) -> Case<'static> {
 fn full_script(random: &mut Random) -> Vec<u8> {
     let wanted = Wanted {
         upward: 20,
+        unsurveyed: 0,
+        common: 0,
         names: 8,
         ..Wanted::AT_LIMITS
     };

@@ -4,9 +4,10 @@
 use std::hint::black_box;
 
 use compare::generate::edges::{doubling, CUT_BELOW};
-use compare::generate::plans::star;
+use compare::generate::plans::{star, star_of};
 use compare::interface::Areas;
 use compare::oracle::limits::ROWS;
+use compare::oracle::pick::NOT_SURVEYED;
 use compare::oracle::plan::to_vec;
 use compare::oracle::script::kind;
 use compare::oracle::table::{Row, Table};
@@ -62,6 +63,13 @@ pub fn measure_runs() {
         0,
         &star,
         &often,
+    ));
+    let less = [&[kind::PICK, 1, 127][..], &children].concat();
+    measure(run_case(
+        "run, pick of less over 511 leaves, some not surveyed",
+        0,
+        &to_vec(&mixed()),
+        &less,
     ));
     let each = [&[kind::FOR][..], &below, &step_of_item].concat();
     measure(run_case(
@@ -174,6 +182,14 @@ fn run_case<'a>(name: &'static str, number: u64, plan: &'a [u8], script: &'a [u8
             )
         }),
     }
+}
+
+/// 511 leaves of many values below a root; every fourth is not surveyed.
+fn mixed() -> Table {
+    star_of((1..ROWS).map(|number| match number % 4 {
+        0 => NOT_SURVEYED,
+        _ => (37 * number) as i8,
+    }))
 }
 
 /// Each row below the one before it.

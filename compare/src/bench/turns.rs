@@ -20,6 +20,7 @@ const PLANS: usize = 256;
 /// Plans of 512 rows, most of them below one root, half of them leaves.
 const TREE: Shape = Shape {
     leaves: 50,
+    unsurveyed: 0,
     roots: 0,
     near: 30,
     marked: 100,
@@ -30,8 +31,14 @@ pub fn measure_turns() {
     let random = &mut Random::new(SEED);
     let trees = plans(|| table(random, ROWS, TREE));
     let tables = plans(|| full_table(random));
+    let shape = Shape {
+        unsurveyed: 25,
+        ..TREE
+    };
+    let some_not_surveyed = plans(|| table(random, ROWS, shape));
     let below = [kind::STEP, 1, 0, 0, kind::DOCUMENT, 0];
     let pick = [&[kind::PICK, 2, 0][..], &below].concat();
+    let less = [&[kind::PICK, 1, 0][..], &below].concat();
     let cut_leaves = [kind::DELETE, kind::STEP, 1, 2, 0, kind::DOCUMENT, 0];
     measure(plan_case(
         "plan, 256 in turn",
@@ -51,6 +58,11 @@ pub fn measure_turns() {
     for (name, script) in runs {
         measure(run_case(name, &trees, script));
     }
+    measure(run_case(
+        "run, pick of less, some not surveyed, 256 plans in turn",
+        &some_not_surveyed,
+        &less,
+    ));
 }
 
 fn plans(mut table: impl FnMut() -> Table) -> Vec<Vec<u8>> {

@@ -1,6 +1,7 @@
 //! Short scripts on document 0 that often concern the same rows.
 
 use super::random::Random;
+use super::values;
 use crate::oracle::script::kind;
 
 /// Names are 1 to this.
@@ -49,5 +50,19 @@ pub fn script(random: &mut Random, most_steps: usize) -> Vec<u8> {
             chain(random, steps)
         }
         _ => update(random, most_steps),
+    }
+}
+
+/// A pick from what a chain of at most this many steps reaches, the last of
+/// which goes to leaves too. What is picked is read, deleted or inserted.
+pub fn picking(random: &mut Random, most_steps: usize) -> Vec<u8> {
+    let [steps, to_target] = [1, 0].map(|least| random.between(least, most_steps));
+    let pick = values::pick(random, values::COMMON);
+    let step = [kind::STEP, random.below(2) as u8, random.choose(&[0, 2]), 0];
+    let picked = [&pick[..], &step, &chain(random, steps - 1)].concat();
+    match random.below(4) {
+        0 => [&[kind::DELETE][..], &picked].concat(),
+        1 => [&[kind::INSERT][..], &picked, &chain(random, to_target)].concat(),
+        _ => picked,
     }
 }

@@ -2,6 +2,7 @@
 
 use super::random::Random;
 use super::runs::{most_loops, DOCUMENTS, NAMES};
+use super::values;
 use crate::oracle::limits::{BINDERS, DEPTH, SCRIPT_RECORDS};
 use crate::oracle::script::kind;
 
@@ -69,10 +70,7 @@ impl Writer<'_> {
                 self.below(&[from], height, scope);
             }
             kind::PICK => {
-                let any = self.random.byte();
-                let value = self.random.choose(&[0, 0x80, 0x7F, 0xFF, any, any, any]);
-                let relation = self.random.below(3) as u8;
-                self.bytes.extend([kind::PICK, relation, value]);
+                self.bytes.extend(values::pick(self.random, values::COMMON));
                 self.below(&[Role::Leaves], height, scope);
             }
             kind::DELETE => {
@@ -149,14 +147,18 @@ impl Writer<'_> {
                 (kind::DOCUMENT, 2),
                 (kind::VARIABLE, variable),
                 (kind::JOIN, 1),
-                (kind::PICK, 1),
+                (kind::PICK, 2),
                 (kind::LET, 1),
                 (kind::FOR, 1),
                 (kind::IF, 1),
                 (kind::ELEMENT, 1),
                 (kind::LEAF, 1),
             ],
-            Role::Below => &[(kind::STEP, 10), (kind::VARIABLE, variable)],
+            Role::Below => &[
+                (kind::STEP, 10),
+                (kind::VARIABLE, variable),
+                (kind::PICK, 2),
+            ],
             Role::Root => &[
                 (kind::DOCUMENT, 8),
                 (kind::VARIABLE, variable),
@@ -250,8 +252,8 @@ impl Writer<'_> {
                 self.bytes.extend([kind::ELEMENT, name]);
             }
             kind::LEAF => {
-                let value = self.random.byte();
-                self.bytes.extend([kind::LEAF, value]);
+                let value = values::leaf(self.random, values::UNSURVEYED);
+                self.bytes.extend([kind::LEAF, value as u8]);
             }
             _ => self.bytes.push(kind::EMPTY),
         }

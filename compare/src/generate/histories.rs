@@ -114,6 +114,7 @@ pub fn of_changes(random: &mut Random) -> Recorded {
 pub fn long(random: &mut Random) -> Recorded {
     let shape = Shape {
         leaves: 30,
+        unsurveyed: 0,
         marked: 100,
         ..Shape::random(random)
     };

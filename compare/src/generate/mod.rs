@@ -11,3 +11,4 @@ pub mod plans;
 pub mod random;
 pub mod runs;
 pub mod scripts;
+pub mod values;

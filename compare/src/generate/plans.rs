@@ -1,6 +1,7 @@
 //! Well-formed tables, and tables with one row too many.
 
 use super::random::Random;
+use super::values;
 use crate::oracle::limits::{DOCUMENTS, ROWS};
 use crate::oracle::table::{Row, Table};
 
@@ -12,6 +13,8 @@ const NEAR: usize = 4;
 #[derive(Clone, Copy, Debug)]
 pub struct Shape {
     pub leaves: usize,
+    /// Leaves that are not surveyed.
+    pub unsurveyed: usize,
     /// Rows without parent.
     pub roots: usize,
     /// Parents among the last few elements, which makes trees deep.
@@ -26,6 +29,7 @@ impl Shape {
     pub fn random(random: &mut Random) -> Shape {
         Shape {
             leaves: random.choose(&[0, 10, 40, 70]),
+            unsurveyed: values::UNSURVEYED,
             roots: random.choose(&[1, 5, 20, 60, PERCENT]),
             near: random.choose(&[0, 30, 90, PERCENT]),
             marked: random.choose(&[0, 30, 80, PERCENT]),
@@ -48,7 +52,7 @@ pub fn table(random: &mut Random, count: usize, shape: Shape) -> Table {
             Some(random.choose(&elements))
         };
         table.rows.push(if random.chance(shape.leaves) {
-            Row::leaf(random.byte() as i8, parent)
+            Row::leaf(values::leaf(random, shape.unsurveyed), parent)
         } else {
             elements.push(number);
             Row::element(name(random, shape.names), parent)
@@ -122,11 +126,15 @@ pub fn full_table(random: &mut Random) -> Table {
 /// A root with leaves, of which row 1 has the value 1 and the others 0;
 /// document 0 marks it.
 pub fn star(rows: usize) -> Table {
+    star_of((1..rows).map(|number| i8::from(number == 1)))
+}
+
+/// A root with leaves of these values; document 0 marks it.
+pub fn star_of(values: impl Iterator<Item = i8>) -> Table {
     let mut table = Table::default();
     table.rows.push(Row::element(1, None));
-    for number in 1..rows {
-        table.rows.push(Row::leaf(i8::from(number == 1), Some(0)));
-    }
+    let leaves = values.map(|value| Row::leaf(value, Some(0)));
+    table.rows.extend(leaves);
     table.marks[0] = Some(0);
     table
 }

@@ -7,6 +7,7 @@ use super::coherent::coherent;
 use super::plans::{self, Shape};
 use super::random::Random;
 use super::scripts::{self, Wanted};
+use super::values;
 use crate::oracle::limits::ROWS;
 use crate::oracle::script::{kind, read, Operation};
 use crate::oracle::table::Table;
@@ -91,7 +92,7 @@ pub fn plan(random: &mut Random) -> Table {
 }
 
 /// Lets document 0 mark the root with the most rows below it.
-fn mark_largest(table: &mut Table) {
+pub fn mark_largest(table: &mut Table) {
     let mut sizes = vec![1usize; table.rows.len()];
     for number in (0..table.rows.len()).rev() {
         if let Some(parent) = table.rows[number].parent() {
@@ -139,8 +140,9 @@ fn growing(random: &mut Random) -> Vec<u8> {
     }
 }
 
-/// Rows below a document are cut from their parents: all at once, one by one,
-/// after others, or bound and then used again, copied or walked from.
+/// Rows below a document, or leaves picked from them, are cut from their
+/// parents: all at once, one by one, after others, or bound and then used
+/// again, copied or walked from.
 fn cutting(random: &mut Random) -> Vec<u8> {
     let mut below = || {
         let test = random.choose(&[0, 0, 1, 2, 3]);
@@ -150,7 +152,12 @@ fn cutting(random: &mut Random) -> Vec<u8> {
             0
         };
         let axis = random.below(2) as u8;
-        [kind::STEP, axis, test, name as u8, kind::DOCUMENT, 0]
+        let step = [kind::STEP, axis, test, name as u8, kind::DOCUMENT, 0];
+        let leaves = matches!(test, 0 | 2);
+        match leaves && random.chance(40) {
+            true => [&values::pick(random, values::COMMON)[..], &step].concat(),
+            false => step.to_vec(),
+        }
     };
     let (rows, others) = (below(), below());
     let variable = [kind::VARIABLE, 0];

@@ -1,6 +1,7 @@
 //! Scripts of a wanted number of records, depth and nesting of binders.
 
 use super::random::Random;
+use super::values;
 use crate::oracle::limits::{BINDERS, DEPTH, DOCUMENTS, SCRIPT_RECORDS};
 use crate::oracle::script::kind;
 
@@ -16,6 +17,10 @@ pub struct Wanted {
     pub unbound: usize,
     /// Percent of steps that are upward.
     pub upward: usize,
+    /// Percent of new leaves that are not surveyed.
+    pub unsurveyed: usize,
+    /// Percent of picks that have a common constant.
+    pub common: usize,
     /// Names are 1 to this, documents 0 to one less.
     pub names: u8,
 }
@@ -28,6 +33,8 @@ impl Wanted {
         binders: BINDERS,
         unbound: 0,
         upward: 10,
+        unsurveyed: values::UNSURVEYED,
+        common: values::COMMON,
         names: 3,
     };
 
@@ -43,6 +50,8 @@ impl Wanted {
             binders: near(random, BINDERS, 0),
             unbound: random.choose(&[0, 0, 0, 0, 2]),
             upward: random.choose(&[0, 20]),
+            unsurveyed: values::UNSURVEYED,
+            common: values::COMMON,
             names: random.choose(&[1, 3, 8]),
         }
     }
@@ -55,6 +64,8 @@ impl Wanted {
             binders: random.between(0, 2),
             unbound: 0,
             upward: 0,
+            unsurveyed: values::UNSURVEYED,
+            common: values::COMMON,
             names: 2,
         }
     }
@@ -184,21 +195,18 @@ impl Writer<'_> {
         let kind =
             self.random
                 .choose(&[kind::STEP, kind::STEP, kind::STEP, kind::DELETE, kind::PICK]);
-        self.bytes.push(kind);
         match kind {
             kind::STEP => {
                 let upward = self.random.chance(self.wanted.upward);
                 let axis = self.random.below(2) as u8 + 2 * u8::from(upward);
                 let test = self.random.below(4) as u8;
                 let name = if test == 3 { self.name() } else { 0 };
-                self.bytes.extend([axis, test, name]);
+                self.bytes.extend([kind::STEP, axis, test, name]);
             }
-            kind::PICK => {
-                let relation = self.random.below(3) as u8;
-                let value = self.random.byte();
-                self.bytes.extend([relation, value]);
-            }
-            _ => {}
+            kind::PICK => self
+                .bytes
+                .extend(values::pick(self.random, self.wanted.common)),
+            _ => self.bytes.push(kind),
         }
         kind
     }
@@ -216,8 +224,8 @@ impl Writer<'_> {
                 self.bytes.extend([kind::ELEMENT, name]);
             }
             2 => {
-                let value = self.random.byte();
-                self.bytes.extend([kind::LEAF, value]);
+                let value = values::leaf(self.random, self.wanted.unsurveyed);
+                self.bytes.extend([kind::LEAF, value as u8]);
             }
             3..=7 => {
                 let documents = usize::from(self.wanted.names).min(DOCUMENTS);

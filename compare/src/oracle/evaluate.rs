@@ -2,6 +2,7 @@
 
 use super::history::Record;
 use super::limits::{ITEMS, ROWS};
+use super::pick::{is_surveyed, keeps, Pick};
 use super::refusal::{Number, Refusal};
 use super::script::{Expression, Operation, Relation};
 use super::step::step;
@@ -10,20 +11,33 @@ use super::table::{Kind, Row, Table};
 /// "A value is a list of row numbers."
 pub type Value = Vec<u16>;
 
-/// Runs a script on a well-formed table, which it changes, refused or not. The
-/// answer and the history come back.
-pub fn evaluate(script: &Expression, table: &mut Table) -> Result<(Value, Vec<Record>), Refusal> {
+/// What comes back of a script that is not refused.
+pub struct Evaluated {
+    pub answer: Value,
+    pub history: Vec<Record>,
+    pub picks: Vec<Pick>,
+}
+
+/// Runs a script on a well-formed table, which it changes, refused or not.
+pub fn evaluate(script: &Expression, table: &mut Table) -> Result<Evaluated, Refusal> {
     let mut evaluator = Evaluator {
         table,
         history: Vec::new(),
+        picks: Vec::new(),
     };
     let answer = evaluator.value(script, &mut Vec::new())?;
-    Ok((answer, evaluator.history))
+    Ok(Evaluated {
+        answer,
+        history: evaluator.history,
+        picks: evaluator.picks,
+    })
 }
 
 struct Evaluator<'a> {
     table: &'a mut Table,
     history: Vec<Record>,
+    /// The picks that ran so far.
+    picks: Vec<Pick>,
 }
 
 impl Evaluator<'_> {
@@ -116,13 +130,18 @@ impl Evaluator<'_> {
         answer
     }
 
-    /// "Pick keeps the leaves whose signed value stands in the relation to the
-    /// constant; elements are dropped."
-    fn picked(&self, value: &[u16], relation: Relation, constant: i8) -> Value {
-        let mut kept = value.to_vec();
-        kept.retain(|&item| {
-            let row = self.table.rows[usize::from(item)];
-            row.kind == Kind::Leaf && relation.holds(row.value(), constant)
+    /// "Pick keeps the leaves" that `pick.rs` says; "elements are dropped".
+    fn picked(&mut self, value: &[u16], relation: Relation, constant: i8) -> Value {
+        let row = |item: u16| self.table.rows[usize::from(item)];
+        let mut leaves = value.to_vec();
+        leaves.retain(|&item| row(item).kind == Kind::Leaf);
+        let mut kept = leaves.clone();
+        kept.retain(|&leaf| keeps(row(leaf).value(), relation, constant));
+        let over_unsurveyed = leaves.iter().any(|&leaf| !is_surveyed(row(leaf).value()));
+        self.picks.push(Pick {
+            relation,
+            constant,
+            over_unsurveyed,
         });
         kept
     }

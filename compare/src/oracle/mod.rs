@@ -1,5 +1,5 @@
-//! The oracle: document 01, as request (h) of document 02 changes it, written
-//! from their text alone, and naive on purpose.
+//! The oracle: document 01, as requests (a) and (h) of document 02 change it,
+//! written from their text alone, and naive on purpose.
 //! Each rule stands beside the sentence that it is, in quotation marks, and is
 //! written in the way that is easiest to check against it, however slow: steps
 //! and the sweep walk up from each row, an insert copies by recursion, values
@@ -16,6 +16,7 @@ pub mod meeting;
 pub mod orders;
 pub mod pair;
 pub mod path;
+pub mod pick;
 pub mod plan;
 pub mod refusal;
 pub mod run;

@@ -1,6 +1,6 @@
 //! A run with its lent areas.
 
-use super::evaluate::evaluate;
+use super::evaluate::{evaluate, Evaluated};
 use super::history::{self, Record};
 use super::limits::{ANSWER_NUMBERS, HISTORY_BYTES, WORK_NUMBERS};
 use super::refusal::{Number, Refusal};
@@ -103,7 +103,11 @@ pub fn run(table: &mut Table, script: &[u8], mut areas: Areas<'_>) -> Result<Ran
     }
     let script = script::read(script)?;
     let mut later = table.clone();
-    let (answer, records) = evaluate(&script, &mut later)?;
+    let Evaluated {
+        answer,
+        history: records,
+        ..
+    } = evaluate(&script, &mut later)?;
     *table = later;
     let history = history::to_vec(&records);
     areas.answer[..answer.len()].copy_from_slice(&answer);

@@ -6,6 +6,7 @@ use super::step::{step, Bits};
 use super::table::{at, is_element, pack, parent, Table, PARENT};
 use crate::oracle::history::{CUT_BYTES, ELEMENT_MADE, LINK_CUT, MADE_BYTES};
 use crate::oracle::limits::{BINDERS, ITEMS, NO_PARENT, ROWS};
+use crate::oracle::pick::NOT_SURVEYED;
 use crate::oracle::plan::{ELEMENT, LEAF};
 use crate::oracle::refusal::{Number, Refusal};
 use crate::oracle::script::kind;
@@ -176,7 +177,8 @@ impl<'a> Evaluator<'a> {
         self.top = start + step(self.table, axis, test, items, area);
     }
 
-    /// Keeps the leaves of the value on top whose value is in a range.
+    /// Keeps the leaves of the value on top whose value is in a range. Those
+    /// not surveyed are below all others.
     fn pick(&mut self, start: usize, items: usize, relation: u8, constant: i8) {
         // A row as a number: its kind, and its value from 0 on.
         let number = |low: u16| low.swap_bytes() ^ 0x80;
@@ -184,10 +186,11 @@ impl<'a> Evaluator<'a> {
         let constant = leaf(constant);
         let (least, past) = match relation {
             0 => (constant, constant + 1),
-            1 => (leaf(i8::MIN), constant),
+            1 => (leaf(NOT_SURVEYED) + 1, constant),
             _ => (constant + 1, leaf(i8::MAX) + 1),
         };
-        let span = past - least;
+        // Nothing is less than a leaf that is not surveyed.
+        let span = past.saturating_sub(least);
         let value = &mut self.stack[start..start + items];
         let mut kept = 0;
         for index in 0..value.len() {

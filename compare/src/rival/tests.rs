@@ -2,10 +2,10 @@
 //! content of each lent area.
 
 use super::calls;
-use crate::cases::longest;
+use crate::cases::{longest, rules};
 use crate::generate::histories::{long, of_changes, of_run};
 use crate::generate::pairs::{most_deletes, most_paths, most_steps, pair};
-use crate::generate::plans::{any_table, full_table};
+use crate::generate::plans::{any_table, full_table, star_of};
 use crate::generate::random::Random;
 use crate::generate::runs::{case, Case};
 use crate::generate::scripts::{script, Wanted};
@@ -13,9 +13,10 @@ use crate::generate::{damage, edges};
 use crate::interface::{Answer, Areas};
 use crate::oracle::calls as oracle;
 use crate::oracle::limits::{PLAN_BYTES, ROWS};
+use crate::oracle::pick;
 use crate::oracle::plan::to_vec;
 use crate::oracle::run::OwnedAreas;
-use crate::oracle::script::{Axis, Operation, Test};
+use crate::oracle::script::{kind, Axis, Operation, Test};
 use crate::raw::RawTable;
 
 /// How many inputs were refused, and how many were not.
@@ -160,35 +161,62 @@ fn undo() {
     counts.require_more_than(1000);
 }
 
+fn same_run(plan: &[u8], script: &[u8]) -> Answer {
+    let (mut ours, mut theirs) = (Areas::holding(7), Areas::holding(7));
+    let answer = calls::run(plan, script, ours.lend());
+    let expected = oracle::run(plan, script, theirs.lend());
+    assert_eq!(answer, expected, "{plan:02X?} {script:02X?}");
+    assert!(ours == theirs, "{plan:02X?} {script:02X?}");
+    answer
+}
+
 #[test]
 fn runs() {
     let mut random = Random::new(5);
     let mut counts = Counts::default();
-    let mut same = |plan: &[u8], script: &[u8]| {
-        let (mut ours, mut theirs) = (Areas::holding(7), Areas::holding(7));
-        let answer = calls::run(plan, script, ours.lend());
-        let expected = oracle::run(plan, script, theirs.lend());
-        assert_eq!(answer, expected, "{plan:02X?} {script:02X?}");
-        assert!(ours == theirs, "{plan:02X?} {script:02X?}");
-        counts.add(answer);
-    };
+    // Picks over a leaf that is not surveyed, with each relation.
+    let mut unsurveyed = [0; 3];
     for longest in longest() {
-        same(&longest.run.plan, &longest.run.script);
+        same_run(&longest.run.plan, &longest.run.script);
     }
     for round in 0..6000 {
         let Case { plan, script } = case(&mut random);
         let plan = to_vec(&plan);
-        same(&plan, &script);
+        counts.add(same_run(&plan, &script));
+        let picks = pick::of_run(&plan, &script).into_iter();
+        for pick in picks.filter(|pick| pick.over_unsurveyed) {
+            unsurveyed[pick.relation as usize] += 1;
+        }
         if round % 4 == 0 {
-            same(&plan, &damage::several(&script, &mut random));
-            same(&damage::several(&plan, &mut random), &script);
+            counts.add(same_run(&plan, &damage::several(&script, &mut random)));
+            counts.add(same_run(&damage::several(&plan, &mut random), &script));
         }
     }
     counts.require_more_than(1000);
+    assert!(
+        unsurveyed.iter().all(|&count| count > 100),
+        "{unsurveyed:?}"
+    );
     let mut areas = Areas::holding(7);
     areas.done.pop();
     assert_eq!(calls::run(&[], &[1], areas.lend()), Answer::lent());
     assert!(areas.work.iter().all(|&number| number == 7));
+}
+
+/// Each relation with each constant, over a leaf of each value.
+#[test]
+fn picks() {
+    let plan = to_vec(&star_of(i8::MIN..=i8::MAX));
+    for relation in 0..3 {
+        for constant in 0..=u8::MAX {
+            let pick = [kind::PICK, relation, constant];
+            let children = [kind::STEP, 0, 0, 0, kind::DOCUMENT, 0];
+            same_run(&plan, &[&pick[..], &children].concat());
+        }
+    }
+    for case in rules() {
+        same_run(&case.plan, &case.script);
+    }
 }
 
 #[test]

@@ -4,7 +4,7 @@ use mathlib.Core.Bool.{Bool}
 use mathlib.Core.List.{List, [], _∷_, _++_, map, List·Memᴰ as In, List·Memᴰ·head as here, List·Memᴰ·tail as there}
 use Prim.Native.Nat.{ℕ, zero, suc, _<_}
 use native.Mathlib.Nat.{not-suc-le-zero, le-of-suc-le-suc}
-use lib.ListN.{length, getD}
+use lib.ListN.{length, getD, set}
 use Rattle.model.specs.Base.{All, nothing, also, filtered}
 use Rattle.model.proofs.BoolLaws.{cond-cases}
 
@@ -12,6 +12,11 @@ module _ {A : Type 0} where
   pub all-append : {P : A → Type 0} {k l : List A} → All P k → All P l → All P (k ++ l)
   all-append nothing b = b
   all-append (also p a) b = also p (all-append a b)
+
+  -- a property that everything has
+  pub all-any : {P : A → Type 0} → ((a : A) → P a) → (l : List A) → All P l
+  all-any h [] = nothing
+  all-any h (x ∷ l) = also (h x) (all-any h l)
 
   pub all-imp : {P Q : A → Type 0} {l : List A} → ((a : A) → P a → Q a) → All P l → All Q l
   all-imp f nothing = nothing
@@ -39,6 +44,12 @@ module _ {A : Type 0} where
   -- one more
   pub all-snoc : {P : A → Type 0} {l : List A} {a : A} → All P l → P a → All P (l ++ (a ∷ []))
   all-snoc h p = all-append h (also p nothing)
+
+  -- one exchanged
+  pub all-set : {P : A → Type 0} {l : List A} {a : A} (i : ℕ) → All P l → P a → All P (set l i a)
+  all-set i nothing p = nothing
+  all-set zero (also q b) p = also p b
+  all-set (suc i) (also q b) p = also q (all-set i b p)
 
   -- parts
   pub all-front : {P : A → Type 0} (k l : List A) → All P (k ++ l) → All P k

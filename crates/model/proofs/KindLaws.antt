@@ -1,18 +1,18 @@
 -- A byte in a table of kinds; the kinds of a script, one by one and by their operands, and of a stored plan.
-use mathlib.Core.Path.{_≡_, refl, ap, sym, _∙_}
+use mathlib.Core.Path.{_≡_, refl}
 use mathlib.Core.Bool.{Bool, true, false, false≢true}
 use mathlib.Core.List.{List, [], _∷_}
 use mathlib.Core.Option.{Option, none, some}
 use Prim.Native.Nat.{ℕ, _≤_}
 use native.Mathlib.Omega.{arith}
 use lib.Dec.{eqb, leb}
-use borrow.Author.Tests.{eqb-true, eqb-false, eq-eqb, leb-true, ne-eqb}
+use borrow.Author.Tests.{eqb-true, eqb-false, eq-eqb, leb-true}
 use Rattle.model.specs.Base.{all}
-use Rattle.model.specs.Kinds.{Kind, kindOf, isFound, fieldBy, bodyBy, operandsBy}
+use Rattle.model.specs.Kinds.{Kind, kindOf, isFound, fieldBy, operandsBy}
 use Rattle.model.specs.Stored.{elementKind, leafKind, markKind, storedKinds, isStoredKind, storedSize, recordSize}
 use Rattle.model.specs.Script.{nilKind, documentKind, variableKind, stepKind, joinKind, letKind, forKind, ifKind, newElementKind}
 use Rattle.model.specs.Script.{newLeafKind, deleteKind, insertKind, pickKind, scriptKinds, isScriptKind, bodySize, arity}
-use Rattle.model.proofs.BoolLaws.{by-cases, true-false, and-left, and-right}
+use Rattle.model.proofs.BoolLaws.{by-cases, and-left, and-right}
 
 -- BY KIND: a case for each row of a table that passes a test
 abbrev also : Bool → (A B : Type 0) → Type 0
@@ -53,11 +53,6 @@ by-all P rs k h = by-each P (λ (r : Kind). true) rs k (go (kindOf rs k) h)
     go none e = absurd (false≢true e)
     go (some r) e = refl
 
--- a byte that is no kind has neither body nor operands
-pub none-body : (rs : List Kind) (k : ℕ) → isFound (kindOf rs k) ≡ false → bodyBy (kindOf rs k) ≡ 0
-none-body [] k h = refl
-none-body (r ∷ rs) k h = by-cases (eqb k (r .number)) (λ e. absurd (false≢true (sym h ∙ rw e))) (λ e. rw e (none-body rs k (rw e at h)))
-
 -- no row has more than the row with most: bytes of a body, or operands
 pub field-most : (f : Kind → ℕ) (rs : List Kind) (m k : ℕ) → all (λ (r : Kind). leb (f r) m) rs ≡ true → fieldBy f (kindOf rs k) ≤ m
 unfolding all
@@ -74,10 +69,6 @@ size-most k = field-most (λ (r : Kind). r .body) scriptKinds 3 k refl
 pub arity-most : (k : ℕ) → arity k ≤ 3
 unfolding scriptKinds all
 arity-most k = field-most (λ (r : Kind). r .operands) scriptKinds 3 k refl
-
--- no kind is one
-pub other-kind : (k m : ℕ) → isScriptKind k ≡ false → isScriptKind m ≡ true → eqb k m ≡ false
-other-kind k m h g = ne-eqb k m (λ e. true-false (isScriptKind m) g (sym (ap (λ (j : ℕ). isScriptKind j) e) ∙ h))
 
 by-arity : (P : Type 0) (k : ℕ) → isScriptKind k ≡ true → (n : ℕ) → arity k ≡ n → Each (λ (r : Kind). eqb (r .operands) n) scriptKinds k P
 by-arity P k h n z = by-each P (λ (r : Kind). eqb (r .operands) n) scriptKinds k (go (kindOf scriptKinds k) h z)

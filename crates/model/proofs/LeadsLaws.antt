@@ -38,6 +38,12 @@ module _ {F : Table → Row → Type 0} {a : State} where
   leads-few h (rowMade s w q l f) = omega (arith, count-withRow (s .plan) w)
   leads-few h (linkCut s i p q e) = omega (arith, leads-few h q, count-linked (s .plan) i none)
 
+-- what is admitted by one is admitted by the other
+pub leads-imp : {F G : Table → Row → Type 0} {a s : State} → ((x : Table) (r : Row) → F x r → G x r) → Leads F a s → Leads G a s
+leads-imp h begun = begun
+leads-imp h (rowMade s r q l f) = rowMade s r (leads-imp h q) l (h (s .plan) r f)
+leads-imp h (linkCut s i p q e) = linkCut s i p (leads-imp h q) e
+
 -- cuts lead on
 module _ {F : Table → Row → Type 0} where
   pub cut-leads : (i : ℕ) (s : State) (o : Option ℕ) → rowAt (s .plan) i .parent ≡ o → Leads F s (cutBy i s o)

@@ -19,6 +19,7 @@ pub mod ScriptLaws
 pub mod ValueLaws
 pub mod RunKeeps
 pub mod RunsBack
+pub mod PickLaws
 pub mod UndoKeeps
 pub mod RefusedKeeps
 pub mod PathLaws

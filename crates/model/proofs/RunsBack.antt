@@ -1,5 +1,5 @@
 -- A run keeps the table well formed; replaying its history on the earlier table gives the later one, and undo gives the earlier back.
-use mathlib.Core.Path.{_≡_, refl, subst}
+use mathlib.Core.Path.{_≡_, refl}
 use mathlib.Core.Bool.{true}
 use mathlib.Core.List.{List}
 use Prim.Native.Nat.{ℕ}
@@ -16,11 +16,14 @@ use Rattle.model.proofs.TableLaws.{Well, isWell-at, isWell-by}
 use Rattle.model.proofs.HistoryLaws.{ComesTo, ran-well, ran-replay}
 use Rattle.model.proofs.UndoLaws.{ran-undo}
 use Rattle.model.proofs.ScriptLaws.{isScript-fields}
-use Rattle.model.proofs.RunKeeps.{Keeps, runOn-keeps}
+use Rattle.model.proofs.All.{all-any}
+use Rattle.model.proofs.RunKeeps.{comes-to, runOn-comes}
 
 -- what a script's run does is making rows and cutting links
 runOn-ran : (e : Expr) (x : Table) (v : List ℕ) (s : State) → IsScript e → Well x → runOn x e ≡ gives v s → ComesTo x s
-runOn-ran e x v s i w q = subst (Keeps x x) q (runOn-keeps x w e (isScript-fields e i)) .0
+runOn-ran e x v s i w q =
+    comes-to (λ r. Unit) (λ r p u. tt) x
+    (runOn-comes (λ r. Unit) (λ r p u. tt) x w (all-any (λ r. tt) _) e (isScript-fields e i) (all-any (λ r. tt) _) v s q)
 
 pub runsBack : RunsBack
 runsBack e x v s i h q =

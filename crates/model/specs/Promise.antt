@@ -2,20 +2,21 @@
 use mathlib.Core.Path.{_≡_}
 use mathlib.Core.Logic.{_↔_}
 use mathlib.Core.Bool.{Bool, true, false, _&&_, _||_, cond}
-use mathlib.Core.List.{List, [], _∷_, map}
+use mathlib.Core.List.{List, [], _∷_, _++_, map}
 use mathlib.Core.Option.{Option, none, some}
 use Prim.Native.Nat.{ℕ, zero, suc, _+_, _-_, _≤_, _<_}
-use lib.Dec.{ltb}
+use lib.Dec.{ltb, eqb}
 use lib.ListN.{length, getD}
-use Rattle.model.specs.Base.{any, among, areBytes}
+use Rattle.model.specs.Base.{All, any, among, areBytes}
 use Rattle.model.specs.Limits.{documents, maxHistory, historyNeed}
 use Rattle.model.specs.Table.{Row, Table, empty, rowAt, count, hasParent, isThe, isMarked, isTree, isWell, withParent}
 use Rattle.model.specs.Stored.{got, readPlan, stored}
 use Rattle.model.specs.Sweep.{through, isKept, newNumber, renumbered, swept}
-use Rattle.model.specs.Script.{Expr, parsed, readScript}
-use Rattle.model.specs.Step.{stepped}
+use Rattle.model.specs.Script.{Expr, nil, document, var, step, both, letIn, forIn, ifIn, element, leaf, delete, insert, pick}
+use Rattle.model.specs.Script.{parsed, readScript}
+use Rattle.model.specs.Step.{stepped, compares, unsurveyed, isSurveyed, isPicked}
 use Rattle.model.specs.History.{Record, made, cut, isMade, isCut, makes, cuts, times, historyBytes, replayAll}
-use Rattle.model.specs.Run.{State, Out, refused, gives, runOn}
+use Rattle.model.specs.Run.{State, Out, refused, gives, loose, runOn}
 use Rattle.model.specs.Undo.{back, undo}
 use Rattle.model.specs.Paths.{Place, documentPlace, Path, start, _▸_, pathsOf, traversed, hasUp}
 use Rattle.model.specs.Meeting.{answer, free, upward, meet}
@@ -62,6 +63,49 @@ HistoryFits =
     ((i : ℕ) → times (makes i) (s .history) ≤ 1) × ((i : ℕ) → times (cuts i) (s .history) ≤ 1) ×
     (times isMade (s .history) ≤ 512) × (times isCut (s .history) ≤ 512) ×
     (length (s .history) ≤ 1024) × (1024 ≤ maxHistory) × (length (historyBytes (s .history)) ≤ 5632) × (5632 ≤ historyNeed)
+
+-- REQUEST (a), a leaf of −128: pick keeps it only for relation 0 with constant −128; so relations 1 and 2 never keep it
+abbrev pub UnsurveyedKept : Type 0
+UnsurveyedKept =
+    (x : Table) (r c i : ℕ) → rowAt x i .isLeaf ≡ true → isSurveyed (rowAt x i .tag) ≡ false →
+    isPicked x r c i ≡ (eqb r 0 && eqb c unsurveyed)
+
+-- REQUEST (a), a constant of −128: with relation 2 pick keeps every surveyed leaf, with relation 1 nothing
+abbrev pub SurveyedKept : Type 0
+SurveyedKept =
+    (x : Table) (i : ℕ) → (isPicked x 2 unsurveyed i ≡ (rowAt x i .isLeaf && isSurveyed (rowAt x i .tag))) ×
+    (isPicked x 1 unsurveyed i ≡ false)
+
+-- a row that is no leaf of −128
+abbrev pub Surveyed : Row → Type 0
+Surveyed r = r .isLeaf ≡ true → isSurveyed (r .tag) ≡ true
+
+-- REQUEST (a), every other row: pick keeps the leaves that compare so with the constant, as before
+abbrev pub PicksAsBefore : Type 0
+PicksAsBefore =
+    (x : Table) (r c i : ℕ) → Surveyed (rowAt x i) → isPicked x r c i ≡ (rowAt x i .isLeaf && compares r c (rowAt x i .tag))
+
+-- the rows that an expression's constructors make
+unfoldable pub constructed : Expr → List Row
+constructed (nil z) = []
+constructed (document z d) = []
+constructed (var z v) = []
+constructed (step z s e) = constructed e
+constructed (both z e f) = constructed e ++ constructed f
+constructed (letIn z e f) = constructed e ++ constructed f
+constructed (forIn z e f) = constructed e ++ constructed f
+constructed (ifIn z e f g) = constructed e ++ (constructed f ++ constructed g)
+constructed (element z n) = loose false n ∷ []
+constructed (leaf z v) = loose true v ∷ []
+constructed (delete z e) = constructed e
+constructed (insert z e f) = constructed e ++ constructed f
+constructed (pick z r c e) = constructed e
+
+-- REQUEST (a), old plans and scripts: where the table has no −128 and the constructors make none, the table that is left has none
+abbrev pub StaysSurveyed : Type 0
+StaysSurveyed =
+    (e : Expr) (x : Table) (v : List ℕ) (s : State) → IsScript e → isWell x ≡ true → All Surveyed (constructed e) →
+    All Surveyed (x .rows) → runOn x e ≡ gives v s → All Surveyed (s .plan .rows)
 
 -- DEMAND 2, undo of any bytes that fit leaves a well-formed table
 abbrev pub UndoKeeps : Type 0

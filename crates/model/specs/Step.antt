@@ -1,4 +1,4 @@
--- Document 01: what a test sees, which rows a step reaches, what pick keeps.
+-- Document 01: what a test sees, which rows a step reaches, what pick keeps; of a pick, request (a) too.
 use mathlib.Core.Bool.{Bool, false, _&&_, _||_, not, cond}
 use mathlib.Core.List.{List, [], _∷_}
 use Prim.Native.Nat.{ℕ, zero, suc, _+_, _-_}
@@ -58,9 +58,21 @@ abbrev pub signedKey : (value : ℕ) → ℕ
 signedKey v = cond (ltb v 128) (v + 128) (v - 128)
 
 -- Relation: 0 equal, 1 less, 2 greater
-abbrev pub relates : (relation constant value : ℕ) → Bool
-relates r c v =
+abbrev pub compares : (relation constant value : ℕ) → Bool
+compares r c v =
     cond (eqb r 0) (eqb v c) (cond (eqb r 1) (ltb (signedKey v) (signedKey c)) (ltb (signedKey c) (signedKey v)))
+
+-- Request (a): −128 stands for a leaf that nobody has measured
+abbrev pub unsurveyed : ℕ
+unsurveyed = 0x80
+
+-- any other value was measured
+abbrev pub isSurveyed : (value : ℕ) → Bool
+isSurveyed v = not (eqb v unsurveyed)
+
+-- Request (a): relations 1 and 2 never keep −128
+abbrev pub relates : (relation constant value : ℕ) → Bool
+relates r c v = (eqb r 0 || isSurveyed v) && compares r c v
 
 -- Pick keeps the leaves whose signed value stands in the relation to the constant; elements are dropped
 abbrev pub isPicked : Table → (relation constant row : ℕ) → Bool

@@ -1,12 +1,13 @@
 -- Ranks of packed rows: each relation's range has the ranks of the leaves whose value stands in it.
-use mathlib.Core.Path.{_≡_, refl, ap, _∙_}
+use mathlib.Core.Path.{_≡_, refl, sym, ap, _∙_}
 use mathlib.Core.Bool.{Bool, true, false, _&&_}
 use Prim.Native.Nat.{ℕ, _+_, _*_, _-_, _/_, _%_, _≤_, _<_}
 use native.Mathlib.Omega.{arith}
 use lib.Dec.{ltb, leb, eqb}
 use borrow.Author.Tests.{ltb-true, ltb-false, leb-true, eqb-true, eqb-false, lt-ltb, le-ltb, le-leb, eq-eqb}
-use Rattle.model.specs.Step.{signedKey}
+use Rattle.model.specs.Step.{signedKey, isSurveyed}
 use Rattle.model.proofs.BoolLaws.{and-left, and-right, and-both, by-cases, bool-iff}
+use Rattle.model.proofs.PickLaws.{surveyed-key}
 use Rattle.plan_table.specs.Packed.{leafBits, linkRoom, kindIn, tagIn}
 use Rattle.run_pick.specs.Picking.{leafRanks, halfRanks, rankIn, allRanks, keyBy, keyIn, KeepsRange}
 
@@ -105,24 +106,43 @@ equal-in w c h b =
     rw (e, z) (out-of-range (linkRoom * c) (rankIn w) (linkRoom * (c + 1)) leafRanks r (omega arith)))
 
 pub less-in : (w k : ℕ) → w < allRanks → k < 256 →
-    keyIn halfRanks 0 (linkRoom * k) (rankIn w) ≡ (eqb (kindIn w) leafBits && ltb (signedKey (tagIn w)) k)
+    keyIn halfRanks linkRoom (linkRoom * k) (rankIn w) ≡
+    (eqb (kindIn w) leafBits && (isSurveyed (tagIn w) && ltb (signedKey (tagIn w)) k))
 less-in w k h b =
-    keys-in w 0 (linkRoom * k) h (omega arith) (ltb (signedKey (tagIn w)) k) (λ e.
+    let v = tagIn w in
+    keys-in w linkRoom (linkRoom * k) h (omega arith) (isSurveyed v && ltb (signedKey v) k) (λ e.
     let l = leaf-key w h e in
-    bool-iff (keyIn halfRanks 0 (linkRoom * k) (rankIn w)) (ltb (signedKey (tagIn w)) k)
-    (λ t. lt-ltb (signedKey (tagIn w)) k (omega (arith, l .0, range-in 0 (keyBy halfRanks (rankIn w)) (linkRoom * k) t .1)))
-    (λ t. in-range 0 (keyBy halfRanks (rankIn w)) (linkRoom * k) (omega arith) (omega (arith, l .0, ltb-true (signedKey (tagIn w)) k t))))
+    bool-iff (keyIn halfRanks linkRoom (linkRoom * k) (rankIn w)) (isSurveyed v && ltb (signedKey v) k)
+    (λ t. let f = range-in linkRoom (keyBy halfRanks (rankIn w)) (linkRoom * k) t in
+    and-both (isSurveyed v) _ (surveyed-key v ∙ lt-ltb 0 (signedKey v) (omega (arith, l .0, f .0)))
+    (lt-ltb (signedKey v) k (omega (arith, l .0, f .1))))
+    (λ t. in-range linkRoom (keyBy halfRanks (rankIn w)) (linkRoom * k)
+    (omega (arith, l .0, ltb-true 0 (signedKey v) (sym (surveyed-key v) ∙ and-left (isSurveyed v) _ t)))
+    (omega (arith, l .0, ltb-true (signedKey v) k (and-right (isSurveyed v) _ t)))))
+
+-- nothing is less than −128, whose key is 0
+pub none-in : (w k : ℕ) → k ≡ 0 →
+    keyIn halfRanks linkRoom linkRoom (rankIn w) ≡
+    (eqb (kindIn w) leafBits && (isSurveyed (tagIn w) && ltb (signedKey (tagIn w)) k))
+none-in w k z =
+    let v = tagIn w in
+    by-cases (keyIn halfRanks linkRoom linkRoom (rankIn w))
+    (λ t. let f = range-in linkRoom (keyBy halfRanks (rankIn w)) linkRoom t in absurd (omega (arith, f .0, f .1)))
+    (λ t. t ∙ sym (and-none (eqb (kindIn w) leafBits) (and-none (isSurveyed v) (le-ltb (signedKey v) k (omega (arith, z))))))
 
 pub greater-in : (w k : ℕ) → w < allRanks → k < 256 →
-    keyIn halfRanks (linkRoom * (k + 1)) (leafRanks - halfRanks) (rankIn w) ≡ (eqb (kindIn w) leafBits && ltb k (signedKey (tagIn w)))
+    keyIn halfRanks (linkRoom * (k + 1)) (leafRanks - halfRanks) (rankIn w) ≡
+    (eqb (kindIn w) leafBits && (isSurveyed (tagIn w) && ltb k (signedKey (tagIn w))))
 greater-in w k h b =
-    keys-in w (linkRoom * (k + 1)) (leafRanks - halfRanks) h (omega arith) (ltb k (signedKey (tagIn w))) (λ e.
+    let v = tagIn w in
+    keys-in w (linkRoom * (k + 1)) (leafRanks - halfRanks) h (omega arith) (isSurveyed v && ltb k (signedKey v)) (λ e.
     let l = leaf-key w h e in
-    bool-iff (keyIn halfRanks (linkRoom * (k + 1)) (leafRanks - halfRanks) (rankIn w)) (ltb k (signedKey (tagIn w)))
-    (λ t. lt-ltb k (signedKey (tagIn w))
-    (omega (arith, l .0, range-in (linkRoom * (k + 1)) (keyBy halfRanks (rankIn w)) (leafRanks - halfRanks) t .0)))
+    bool-iff (keyIn halfRanks (linkRoom * (k + 1)) (leafRanks - halfRanks) (rankIn w)) (isSurveyed v && ltb k (signedKey v))
+    (λ t. let f = range-in (linkRoom * (k + 1)) (keyBy halfRanks (rankIn w)) (leafRanks - halfRanks) t in
+    let m : k < signedKey v = omega (arith, l .0, f .0) in
+    and-both (isSurveyed v) _ (surveyed-key v ∙ lt-ltb 0 (signedKey v) (omega (arith, m))) (lt-ltb k (signedKey v) m))
     (λ t. in-range (linkRoom * (k + 1)) (keyBy halfRanks (rankIn w)) (leafRanks - halfRanks)
-    (omega (arith, l .0, ltb-true k (signedKey (tagIn w)) t)) (l .1)))
+    (omega (arith, l .0, ltb-true k (signedKey v) (and-right (isSurveyed v) _ t))) (l .1)))
 
 -- ranks of packed rows are below all ranks
 pub rank-low : (w : ℕ) → w < allRanks → rankIn w < allRanks

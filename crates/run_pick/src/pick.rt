@@ -1,4 +1,5 @@
-// Pick keeps the leaves whose signed value stands in a relation to a constant.
+// Pick keeps the leaves whose signed value stands in a relation to a constant. A leaf of −128 is not surveyed: it is equal to −128, and
+// neither less nor greater than anything.
 ghost use mathlib.Core.Path.{_≡_};
 ghost use mathlib.Core.Bool.{cond};
 ghost use Prim.Native.Nat.{_+_, _≤_, _<_};
@@ -32,6 +33,9 @@ const RANKS_OF_VALUE: u32 = 1024;
 
 // Ranks of the values below 128. With these and as many that follow exchanged, leaves stand in the order of signed values.
 const HALF: u32 = 128 * RANKS_OF_VALUE;
+
+// In that order −128 comes first, and the surveyed values from here on.
+const SURVEYED: u32 = RANKS_OF_VALUE;
 
 // A packed row's rank: by its kind, which stands in the two low bits and from which a leaf's is taken, and then by the bits above.
 fn rank(w: u32) -> u32
@@ -82,7 +86,11 @@ fn related(relation: u8, constant: u8) -> Ranks
     let k = signed_key(c);
     let past = k + 1;
     if relation == LESS {
-        return between(HALF, 0, RANKS_OF_VALUE * k);
+        // the constant is −128, and nothing is less
+        if k == 0 {
+            return between(HALF, SURVEYED, SURVEYED);
+        }
+        return between(HALF, SURVEYED, RANKS_OF_VALUE * k);
     }
     between(HALF, RANKS_OF_VALUE * past, LEAF_RANKS - HALF)
 }

@@ -6,6 +6,7 @@ use compare::oracle::limits::{ANSWER_NUMBERS, HISTORY_BYTES, PLAN_BYTES, WORK_NU
 use compare::oracle::run::Tally;
 
 use super::histories::{tally, Histories};
+use super::picks::Picks;
 use super::shares::Shares;
 use crate::ffi;
 use crate::harness::area::Twin;
@@ -47,6 +48,7 @@ pub struct Runs<'a> {
     pub checker: &'a mut Checker,
     pub shares: Shares,
     pub histories: Histories,
+    pub picks: Picks,
     answer: Twin<u16>,
     history: Twin<u8>,
     work: Twin<u16>,
@@ -62,6 +64,7 @@ impl Runs<'_> {
             checker,
             shares: Shares::default(),
             histories: Histories::default(),
+            picks: Picks::default(),
             answer: Twin::new(),
             history: Twin::new(),
             work: Twin::new(),
@@ -115,6 +118,7 @@ impl Runs<'_> {
             .and_then(|()| self.done.compare().map_err(named("done")))
             .map_err(|message| difference(Call::Run, &[plan, script], &message))?;
         self.checker.tally.count(Call::Run, library);
+        self.picks.count(plan, script, library);
         if lengths.done >= DONE_NUMBERS {
             let done = &self.done.library()[..DONE_NUMBERS];
             self.shares.count(script, library, done);

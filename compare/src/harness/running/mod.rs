@@ -5,6 +5,7 @@ mod deep;
 mod histories;
 mod loops;
 mod orders;
+mod picks;
 mod shares;
 mod worked;
 
@@ -20,6 +21,7 @@ use compare::oracle::script::kind;
 use super::checker::Checker;
 use super::{Difference, Volume};
 use check::{Lengths, Runs};
+use picks::Picks;
 
 const SEED: u64 = 0x07;
 /// All scripts of at most so many records from a small alphabet are tried.
@@ -34,6 +36,7 @@ pub fn test(checker: &mut Checker, volume: Volume) -> Result<(), Difference> {
     let mut runs = Runs::new(checker);
     worked::test(&mut runs)?;
     let by_hand = std::mem::take(&mut runs.histories);
+    runs.picks = Picks::default();
     deep::test(&mut runs, &mut random, volume)?;
     for _ in 0..volume.of(120_000) {
         let Case { plan, script } = case(&mut random);
@@ -57,10 +60,9 @@ pub fn test(checker: &mut Checker, volume: Volume) -> Result<(), Difference> {
         "histories of worked runs: {by_hand}\nhistories of other runs: {}\n",
         runs.histories
     );
-    let notes = runs.shares.lines() + &counts + &longest;
-    runs.shares
-        .require()
-        .map_err(|message| message + "\n" + &notes)?;
+    let notes = runs.shares.lines() + &runs.picks.lines() + &counts + &longest;
+    let required = runs.shares.require().and_then(|()| runs.picks.require());
+    required.map_err(|message| message + "\n" + &notes)?;
     checker.notes += &notes;
     Ok(())
 }

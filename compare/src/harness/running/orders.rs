@@ -5,7 +5,7 @@ use compare::generate::coherent::coherent;
 use compare::generate::pairs;
 use compare::generate::plans::{self, Shape};
 use compare::generate::random::Random;
-use compare::generate::runs::loops;
+use compare::generate::runs::{loops, mark_largest};
 use compare::interface::Answer;
 use compare::oracle::analysis;
 use compare::oracle::history;
@@ -19,8 +19,9 @@ use crate::harness::checker::difference;
 use crate::harness::tally::{percent, Call};
 use crate::harness::{Difference, Volume};
 
-/// Of the free pairs in which both scripts change the plan, and of those that
-/// are refused, there are at least so many in a hundred free ones.
+/// Of the free pairs in which both scripts change the plan, of those that are
+/// refused, and of those that end and pick from leaves not surveyed, there are
+/// at least so many in a hundred free ones.
 const LEAST_PERCENT: f64 = 2.0;
 /// The rows of a plan on which loops may be nested.
 const FEW_ROWS: usize = 12;
@@ -30,6 +31,8 @@ struct Counts {
     free: u64,
     both_changed: u64,
     refused: u64,
+    /// Ended, with a pick over a leaf not surveyed.
+    unsurveyed: u64,
 }
 
 /// Tries many pairs, and answers a line on the free ones.
@@ -48,19 +51,21 @@ pub fn test(
         }
     }
     let free = counts.free;
-    let [changed, refused] =
-        [counts.both_changed, counts.refused].map(|count| percent(count, free));
-    if changed < LEAST_PERCENT || refused < LEAST_PERCENT {
-        return Err(format!(
-            "free pairs: changed {changed:.1}%, refused {refused:.1}%"
-        ));
+    let ended = counts.unsurveyed;
+    let percents = [counts.both_changed, counts.refused, ended].map(|count| percent(count, free));
+    let [changed, refused, unsurveyed] = percents;
+    let line = format!(
+        "of {free} free pairs in both orders, both changed: {changed:.1}%, refused: {refused:.1}%, \
+         ended with a pick over a leaf of -128: {ended} ({unsurveyed:.1}%)\n"
+    );
+    if percents.iter().any(|&percent| percent < LEAST_PERCENT) {
+        return Err(format!("too few of a kind: {line}"));
     }
-    Ok(format!(
-        "of {free} free pairs in both orders, both changed: {changed:.1}%, refused: {refused:.1}%\n"
-    ))
+    Ok(line)
 }
 
-/// A plan whose documents all mark rows, sometimes nearly full.
+/// A plan whose documents all mark rows, sometimes nearly full; in half of them
+/// document 0 has the largest tree.
 fn plan(random: &mut Random) -> Table {
     let count = match random.below(4) {
         0 => random.between(ROWS - 6, ROWS),
@@ -73,15 +78,20 @@ fn plan(random: &mut Random) -> Table {
         names: 3,
         ..Shape::random(random)
     };
-    plans::table(random, count, shape)
+    let mut table = plans::table(random, count, shape);
+    if random.chance(50) {
+        mark_largest(&mut table);
+    }
+    table
 }
 
 /// Two scripts that are often free, with few loops unless the plan is small.
 fn pair(random: &mut Random, rows: usize) -> [Vec<u8>; 2] {
     loop {
-        let scripts = match random.below(4) {
+        let scripts = match random.below(5) {
             0 => [(); 2].map(|()| coherent(random, rows)),
             1 => [(); 2].map(|()| chains::script(random, 3)),
+            2 => [chains::script(random, 3), chains::picking(random, 2)],
             _ => pairs::pair(random),
         };
         if scripts
@@ -103,6 +113,7 @@ fn both_orders(
     counts: &mut Counts,
 ) -> Result<(), Difference> {
     let plan = to_vec(table);
+    let over = runs.picks.over();
     let one_two = order(runs, &plan, first, second)?;
     let two_one = order(runs, &plan, second, first)?;
     counts.free += 1;
@@ -114,6 +125,7 @@ fn both_orders(
         (Some((one, two)), Some((two_first, one_second))) => {
             let changed = |left: &Left| !left.history.is_empty();
             counts.both_changed += u64::from(changed(one) && changed(two));
+            counts.unsurveyed += u64::from(runs.picks.over() > over);
             let one_two = ended(one, two, &two.plan)?;
             let two_one = ended(one_second, two_first, &one_second.plan)?;
             orders_are_equal(table.rows.len(), &one_two, &two_one)

@@ -1,10 +1,10 @@
-//! Cases with what document 01 says of each: those found by hand, and those at
-//! its limits.
+//! Cases with what the documents say of each: those found by hand, each value
+//! of a leaf with each pick, and those at the limits.
 
 use compare::cases::{self, Given, Run};
 use compare::generate::document01::PLAN_P;
 use compare::generate::edges::joins;
-use compare::generate::plans::star;
+use compare::generate::plans::{star, star_of};
 use compare::generate::random::Random;
 use compare::generate::scripts::{script, Wanted};
 use compare::interface::{Answer, WHICH_SCRIPT};
@@ -22,12 +22,13 @@ use crate::harness::Difference;
 pub fn test(runs: &mut Runs<'_>) -> Result<(), Difference> {
     by_hand(runs)?;
     longest(runs)?;
+    every_value(runs)?;
     full_tables(runs)?;
     long_values(runs)?;
     limits_of_scripts(runs)
 }
 
-/// Runs a script, and compares its end with what document 01 says.
+/// Runs a script, and compares its end with what the documents say.
 fn ends(
     runs: &mut Runs<'_>,
     plan: &[u8],
@@ -43,7 +44,7 @@ fn ends(
     let Ok(given) = end else { return Ok(()) };
     let left = runs.left();
     if left.answer != given.answer || left.plan != given.plan || left.history != given.history {
-        let message = format!("document 01 says {given:?}, not {left:?}");
+        let message = format!("the documents say {given:?}, not {left:?}");
         return Err(difference(Call::Run, &[plan, script], &message));
     }
     Ok(())
@@ -102,6 +103,22 @@ fn longest(runs: &mut Runs<'_>) -> Result<(), Difference> {
             let expected = case.counts;
             let message = format!("{rule}: counted by hand {expected:?}, not {counts:?}");
             return Err(difference(Call::Run, &[plan, script], &message));
+        }
+    }
+    Ok(())
+}
+
+/// Each relation with each constant, over a leaf of each value: the leaf with
+/// value v is row v + 129, so that row 1 is the one that is not surveyed.
+fn every_value(runs: &mut Runs<'_>) -> Result<(), Difference> {
+    let plan = to_vec(&star_of(i8::MIN..=i8::MAX));
+    for constant in i8::MIN..=i8::MAX {
+        let row = (i16::from(constant) + 129) as u16;
+        let kept = [row..row + 1, 2..row, row + 1..257];
+        for (relation, kept) in (0..).zip(kept) {
+            let pick = [kind::PICK, relation, constant as u8];
+            let script = [&pick[..], &[kind::STEP, 0, 0, 0, kind::DOCUMENT, 0]].concat();
+            gives(runs, &plan, &script, &kept.collect::<Vec<_>>(), &[])?;
         }
     }
     Ok(())

@@ -1,4 +1,4 @@
-//! Tests of the oracle. Expected values come from document 01 by hand.
+//! Tests of the oracle. Expected values come from the documents by hand.
 
 mod brute;
 mod cases;

@@ -6,6 +6,7 @@ use super::*;
 use crate::generate::chains;
 use crate::generate::plans::{any_table, table, Shape};
 use crate::generate::random::Random;
+use crate::generate::runs::mark_largest;
 use crate::generate::scripts::{script, Wanted};
 use crate::oracle::analysis::{analyse_read, Answer};
 use crate::oracle::bound::count;
@@ -13,6 +14,7 @@ use crate::oracle::history::Record;
 use crate::oracle::limits::ROWS;
 use crate::oracle::orders::{orders_are_equal, run_order};
 use crate::oracle::path::{count_at_most, infer, Which};
+use crate::oracle::pick;
 use crate::oracle::script::read;
 use crate::oracle::undo::undo;
 
@@ -154,12 +156,16 @@ fn small_pair(random: &mut Random, round: usize) -> (Vec<u8>, Vec<u8>, Table) {
         };
         script(random, wanted)
     };
-    let (first, second) = (next(), next());
+    let (first, mut second) = (next(), next());
     // Full tables too, where new rows are refused.
     let most = if round % 4 < 2 { 20 } else { ROWS };
     let mut table = random_table(random, most);
     if table.marks[0].is_none() {
         table.marks.rotate_left(1);
+    }
+    if round % 8 == 0 {
+        second = chains::picking(random, 2);
+        mark_largest(&mut table);
     }
     (first, second, table)
 }
@@ -170,7 +176,9 @@ fn free_scripts_commute() {
     let mut random = Random::new(5);
     let mut areas = OwnedAreas::default();
     let (mut free, mut ended, mut edited, mut unequal) = (0, 0, 0, 0);
-    for round in 0..8000 {
+    // Free and ended, with a pick over a leaf that is not surveyed.
+    let mut unsurveyed = 0;
+    for round in 0..10_000 {
         let (first, second, table) = small_pair(&mut random, round);
         let (Ok(first_read), Ok(second_read)) = (read(&first), read(&second)) else {
             continue;
@@ -180,7 +188,13 @@ fn free_scripts_commute() {
         let two_one = run_order(&table, &first, &second, Which::Second, &mut areas);
         let equal = match (&one_two, &two_one) {
             (Ok(one_two), Ok(two_one)) => {
-                ended += usize::from(answer == Answer::Free);
+                if answer == Answer::Free {
+                    let plan = plan::to_vec(&table);
+                    let picks = [&first, &second].map(|script| pick::of_run(&plan, script));
+                    let over = picks.iter().flatten().any(|pick| pick.over_unsurveyed);
+                    ended += 1;
+                    unsurveyed += usize::from(over);
+                }
                 orders_are_equal(table.rows.len(), one_two, two_one)
             }
             (Err(_), Err(_)) => true,
@@ -195,7 +209,7 @@ fn free_scripts_commute() {
         }
     }
     assert!(
-        free > 1000 && ended > 1000 && edited > 500 && unequal > 100,
-        "{free} free, {ended} ended, {edited} edited, {unequal} unequal"
+        free > 1000 && ended > 1000 && edited > 500 && unequal > 100 && unsurveyed > 50,
+        "{free} free, {ended} ended, {edited} edited, {unequal} unequal, {unsurveyed} unsurveyed"
     );
 }
