@@ -8,7 +8,7 @@ use lib.Dec.{ltb, eqb}
 use borrow.Author.Tests.{ltb-true, ltb-false, lt-ltb, le-ltb, ne-eqb}
 use Rattle.model.specs.Table.{rowAt}
 use Rattle.model.specs.Step.{signedKey, unsurveyed, isSurveyed}
-use Rattle.model.specs.Promise.{Surveyed, UnsurveyedKept, SurveyedKept, PicksAsBefore, StaysSurveyed}
+use Rattle.model.specs.Promise.{Surveyed, UnsurveyedKept, UnsurveyedConstant, PicksAsBefore, StaysSurveyed}
 use Rattle.model.proofs.BoolLaws.{or-right, by-cases, eq-cases, eqb-iff}
 use Rattle.model.proofs.TableLaws.{isWell-at}
 use Rattle.model.proofs.ScriptLaws.{isScript-fields}
@@ -33,8 +33,8 @@ unsurveyedKept x r c i l u =
     (λ z. rw (l, z) (eqb-iff v c c unsurveyed (λ k. sym k ∙ e) (λ k. e ∙ sym k)))
     (λ z. rw (l, z, u))
 
-pub surveyedKept : SurveyedKept
-surveyedKept x i =
+pub unsurveyedConstant : UnsurveyedConstant
+unsurveyedConstant x i =
     let l = rowAt x i .isLeaf in
     let v = rowAt x i .tag in (
       ap (λ (t : Bool). l && (isSurveyed v && t)) (sym (surveyed-key v)) ∙ ap (λ (t : Bool). l && t) (and-self (isSurveyed v)),

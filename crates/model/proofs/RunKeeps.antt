@@ -82,7 +82,7 @@ module _ (Q : Row → Type 0) (moved : (r : Row) (p : Option ℕ) → Q r → Q 
       all-set i b (moved (rowAt (s .plan) i) none (all-at noRow i b (parent-count (s .plan) i p e)))
 
   -- AN OUTCOME from a state with table y: a refusal, or rows of an enlarged table that a run on x can come to
-  abbrev pub Keeps : (x y : Table) → Out → Type 0
+  abbrev Keeps : (x y : Table) → Out → Type 0
   Keeps x y (refused f) = Unit
   Keeps x y (gives v u) = ComesBy x u × AreRows (count (u .plan)) v × Enlarged y (u .plan)
 

@@ -71,8 +71,8 @@ UnsurveyedKept =
     isPicked x r c i ≡ (eqb r 0 && eqb c unsurveyed)
 
 -- REQUEST (a), a constant of −128: with relation 2 pick keeps every surveyed leaf, with relation 1 nothing
-abbrev pub SurveyedKept : Type 0
-SurveyedKept =
+abbrev pub UnsurveyedConstant : Type 0
+UnsurveyedConstant =
     (x : Table) (i : ℕ) → (isPicked x 2 unsurveyed i ≡ (rowAt x i .isLeaf && isSurveyed (rowAt x i .tag))) ×
     (isPicked x 1 unsurveyed i ≡ false)
 
