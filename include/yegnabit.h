@@ -8,7 +8,7 @@
  * A lent area too short is 11 at place 0, before all else, and nothing is touched; then the plan is read, then the call's own work is
  * done. A refused call leaves `out` as it was. On success the bytes of the plan stand at the start of `out`, and the rest stays.
  *
- * Stack: yegnabit_run needs 256 KiB (89 KiB were measured with the deepest script), yegnabit_analyse 64 KiB (30 KiB at the worst pair),
+ * Stack: yegnabit_run needs 256 KiB (89 KiB were measured with the deepest script), yegnabit_analyse 128 KiB (102 KiB at the worst pair),
  * each other call 32 KiB (7 KiB). tests/stack.c measures it.
  *
  * Time: every call ends, but yegnabit_run can take very long: no rule limits the turns of a script's loops. Two loops inside one another

@@ -122,5 +122,5 @@ int main(void) {
     memcpy(first, history, first_length = done[YEGNABIT_DONE_HISTORY]);
     measure(&others, call_undo);
     if (refused) printf("a call was refused\n");
-    return refused + is_more("run", run, 89) + is_more("analyse", analyse, 30) + is_more("others", others, 7);
+    return refused + is_more("run", run, 89) + is_more("analyse", analyse, 102) + is_more("others", others, 7);
 }

@@ -8,6 +8,7 @@ pub mod edges;
 pub mod histories;
 pub mod pairs;
 pub mod plans;
+pub mod positions;
 pub mod random;
 pub mod runs;
 pub mod scripts;

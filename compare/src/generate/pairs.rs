@@ -199,8 +199,13 @@ pub fn small_scripts(records: usize) -> Vec<Vec<u8>> {
         Operation::Insert,
     ];
     alphabet.extend(steps.map(|(axis, test)| Operation::Step(axis, test)));
+    scripts_of(&alphabet, records)
+}
+
+/// All scripts of at most `records` records of an alphabet that are accepted.
+pub fn scripts_of(alphabet: &[Operation], records: usize) -> Vec<Vec<u8>> {
     let mut found = Vec::new();
-    extend_small(&alphabet, records, 1, &mut Vec::new(), &mut found);
+    extend_small(alphabet, records, 1, &mut Vec::new(), &mut found);
     found
 }
 

@@ -29,7 +29,7 @@ const TREE_ROWS: usize = 4;
 /// Rows of the trees tried for random scripts.
 const LARGE_TREE_ROWS: usize = 5;
 /// An analysis needs no more stack than this, in bytes.
-const STACK: usize = 64 * 1024;
+pub const STACK: usize = 128 * 1024;
 
 pub fn test(checker: &mut Checker, volume: Volume) -> Result<(), Difference> {
     let mut random = Random::new(SEED);

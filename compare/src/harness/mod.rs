@@ -4,6 +4,7 @@ mod analysis;
 mod area;
 mod checker;
 mod plans;
+mod positions;
 mod running;
 mod scripts;
 mod tables;
@@ -71,6 +72,7 @@ const GROUPS: [&[Part]; 2] = [
         ("tables", tables::test),
         ("undo", undoing::test),
         ("analysis", analysis::test),
+        ("positions", positions::test),
     ],
     &[("runs", running::test)],
 ];

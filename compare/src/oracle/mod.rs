@@ -3,8 +3,8 @@
 //! Each rule stands beside the sentence that it is, in quotation marks, and is
 //! written in the way that is easiest to check against it, however slow: steps
 //! and the sweep walk up from each row, an insert copies by recursion, values
-//! are lists of their own, paths are explicit sets. The differential tests use
-//! the oracle and never the rival.
+//! are lists of their own, paths are explicit sets. All differential tests use
+//! the oracle, and never the rival in place of it.
 
 pub mod analysis;
 pub mod bound;

@@ -1,7 +1,8 @@
 //! The rival for benchmarks: the documents' rules as fast as plain safe Rust can
-//! be made. The differential tests do not use it; its own tests hold it to the
-//! oracle, so that it does the same work. From the oracle it takes names of
-//! numbers, and the types of refusals and answers.
+//! be made. Of the differential tests only those of pairs of path positions ask
+//! it, beside the oracle; its own tests hold it to the oracle, so that it does the
+//! same work. From the oracle it takes names of numbers, and the types of refusals
+//! and answers.
 
 use crate::oracle::refusal::Number;
 

@@ -1,18 +1,18 @@
 -- Cells join as a commutative monoid, and every step between cells respects that; so the cells of two lists of paths obey the
 -- equations of the cells of two paths.
 use mathlib.Core.Path.{_≡_, refl, ap, sym, _∙_}
-use mathlib.Core.Bool.{Bool, false, _&&_, _||_, and-false, or-false, or-assoc, and-or-distrib-left, and-or-distrib-right}
+use mathlib.Core.Bool.{Bool, true, false, _&&_, _||_, and-false, or-false, or-assoc, and-or-distrib-left, and-or-distrib-right}
 use mathlib.Core.List.{List, [], _∷_, _++_}
 use Prim.Native.Nat.{ℕ}
 use lib.Dec.{eqb}
 use Rattle.model.specs.Base.{any}
 use Rattle.model.specs.Script.{Step}
 use Rattle.model.specs.Paths.{Place, Path, start, _▸_, withStep, documentPlace}
-use Rattle.model.specs.Meeting.{Cell, onCell, joinCell, isDeep, isParent, admitsElement, admitsLeaf, shareElement, shareLeaf}
+use Rattle.model.specs.Meeting.{Cell, onCell, downCell, upCell, joinCell, isDeep, isParent, admitsElement, shareElement, shareLeaf}
 use Rattle.model.specs.Meeting.{onStep, downStep, upStep, startCell, startCells, stepCells, cell, isMet, meets, anyMeet}
 use Rattle.model.proofs.BoolLaws.{or-neither, or-swap}
 use Rattle.model.proofs.MirrorLaws.{cell-equal}
-use Rattle.model.specs.Meeting.{noCell, sum, between}
+use Rattle.model.specs.Meeting.{noCell, sum, between, samePlace}
 
 -- DOCUMENTS: their root, if they are one
 pub roots-are : (d e : ℕ) → onCell (eqb d e) false ≡ startCell (documentPlace d) (documentPlace e)
@@ -21,8 +21,7 @@ roots-are d e = ap (onCell (eqb d e)) (sym (and-false (eqb d e)))
 -- JOINING
 pub join-none : (c : Cell) → joinCell c noCell ≡ c
 join-none c =
-    cell-equal (joinCell c noCell) c (or-false (c .onElement)) (or-false (c .onLeaf)) (or-false (c .downElement)) (or-false (c .downLeaf))
-    (or-false (c .upElement)) (or-false (c .upLeaf))
+    cell-equal (joinCell c noCell) c (or-false (c .onElement)) (or-false (c .onLeaf)) (or-false (c .downElement)) (or-false (c .upElement))
 
 -- what joins to nothing is nothing
 pub join-nothing : (c d : Cell) → joinCell c d ≡ noCell → (c ≡ noCell) × (d ≡ noCell)
@@ -30,12 +29,8 @@ join-nothing c d e =
     let a = or-neither (c .onElement) (d .onElement) (ap (λ (x : Cell). x .onElement) e) in
     let b = or-neither (c .onLeaf) (d .onLeaf) (ap (λ (x : Cell). x .onLeaf) e) in
     let f = or-neither (c .downElement) (d .downElement) (ap (λ (x : Cell). x .downElement) e) in
-    let g = or-neither (c .downLeaf) (d .downLeaf) (ap (λ (x : Cell). x .downLeaf) e) in
-    let h = or-neither (c .upElement) (d .upElement) (ap (λ (x : Cell). x .upElement) e) in
-    let i = or-neither (c .upLeaf) (d .upLeaf) (ap (λ (x : Cell). x .upLeaf) e) in (
-      cell-equal c noCell (a .0) (b .0) (f .0) (g .0) (h .0) (i .0),
-      cell-equal d noCell (a .1) (b .1) (f .1) (g .1) (h .1) (i .1),
-    )
+    let g = or-neither (c .upElement) (d .upElement) (ap (λ (x : Cell). x .upElement) e) in
+    (cell-equal c noCell (a .0) (b .0) (f .0) (g .0), cell-equal d noCell (a .1) (b .1) (f .1) (g .1))
 
 join-assoc : (c d e : Cell) → joinCell (joinCell c d) e ≡ joinCell c (joinCell d e)
 join-assoc c d e =
@@ -43,9 +38,7 @@ join-assoc c d e =
     (or-assoc (c .onElement) (d .onElement) (e .onElement))
     (or-assoc (c .onLeaf) (d .onLeaf) (e .onLeaf))
     (or-assoc (c .downElement) (d .downElement) (e .downElement))
-    (or-assoc (c .downLeaf) (d .downLeaf) (e .downLeaf))
     (or-assoc (c .upElement) (d .upElement) (e .upElement))
-    (or-assoc (c .upLeaf) (d .upLeaf) (e .upLeaf))
 
 join-swap : (a b c d : Cell) → joinCell (joinCell a b) (joinCell c d) ≡ joinCell (joinCell a c) (joinCell b d)
 join-swap a b c d =
@@ -53,9 +46,7 @@ join-swap a b c d =
     (or-swap (a .onElement) (b .onElement) (c .onElement) (d .onElement))
     (or-swap (a .onLeaf) (b .onLeaf) (c .onLeaf) (d .onLeaf))
     (or-swap (a .downElement) (b .downElement) (c .downElement) (d .downElement))
-    (or-swap (a .downLeaf) (b .downLeaf) (c .downLeaf) (d .downLeaf))
     (or-swap (a .upElement) (b .upElement) (c .upElement) (d .upElement))
-    (or-swap (a .upLeaf) (b .upLeaf) (c .upLeaf) (d .upLeaf))
 
 -- a map of cells that respects joining
 pub record Respects (h : Cell → Cell) : Type 0 where
@@ -81,21 +72,17 @@ admit-none e t = ap (λ (x : Bool). e && x) (past-none t) ∙ and-false e
 pub down-respects : (s : Step) → Respects (downStep s)
 down-respects s =
     record {
-      none = cell-equal (downStep s noCell) noCell refl refl (admit-none (admitsElement s) (isDeep s))
-          (admit-none (admitsLeaf s) (isDeep s)) refl refl;
-      join = λ c d. cell-equal (downStep s (joinCell c d)) (joinCell (downStep s c) (downStep s d)) refl refl
-          (admit-join (admitsElement s) (isDeep s) (c .downElement) (d .downElement) (c .upElement) (d .upElement))
-          (admit-join (admitsLeaf s) (isDeep s) (c .downElement) (d .downElement) (c .upElement) (d .upElement)) refl refl;
+      none = ap downCell (admit-none (admitsElement s) (isDeep s));
+      join = λ c d.
+          ap downCell (admit-join (admitsElement s) (isDeep s) (c .downElement) (d .downElement) (c .upElement) (d .upElement));
     }
 
 pub up-respects : (t : Step) → Respects (upStep t)
 up-respects t =
     record {
-      none = cell-equal (upStep t noCell) noCell refl refl refl refl (admit-none (admitsElement t) (isDeep t))
-          (admit-none (admitsLeaf t) (isDeep t));
-      join = λ c d. cell-equal (upStep t (joinCell c d)) (joinCell (upStep t c) (upStep t d)) refl refl refl refl
-          (admit-join (admitsElement t) (isDeep t) (c .upElement) (d .upElement) (c .downElement) (d .downElement))
-          (admit-join (admitsLeaf t) (isDeep t) (c .upElement) (d .upElement) (c .downElement) (d .downElement));
+      none = ap upCell (admit-none (admitsElement t) (isDeep t));
+      join = λ c d.
+          ap upCell (admit-join (admitsElement t) (isDeep t) (c .upElement) (d .upElement) (c .downElement) (d .downElement));
     }
 
 parent-join : (s t : Step) (c d : Cell) → isParent s t (joinCell c d) ≡ (isParent s t c || isParent s t d)
@@ -230,6 +217,44 @@ module _ (s t : Step) where
       ap (λ (c : Cell). joinCell (onStep s t (between ps qs)) (joinCell (downStep s (between ps (withStep t qs))) c))
       (sum-through (upStep t) (up-respects t) (λ (p : Path). row qs (p ▸ s)) ps ∙
       ap (upStep t) (sym (sum-steps (λ (p : Path). sum (cell p) qs) s ps)))
+
+-- AN ELEMENT ON BOTH is also up
+abbrev OnUp : Cell → Type 0
+OnUp c = (c .onElement || c .upElement) ≡ c .upElement
+
+or-same : (x : Bool) → (x || x) ≡ x
+or-same true = refl
+or-same false = refl
+
+join-onUp : (c d : Cell) → OnUp c → OnUp d → OnUp (joinCell c d)
+join-onUp c d e f =
+    or-swap (c .onElement) (d .onElement) (c .upElement) (d .upElement) ∙
+    ap (λ (x : Bool). x || (d .onElement || d .upElement)) e ∙ ap (λ (x : Bool). c .upElement || x) f
+
+start-onUp : (p : Place) (q : Path) → OnUp (startCells p q)
+unfolding startCells
+start-onUp p (start q) = or-same (samePlace p q)
+start-onUp p (q ▸ t) = refl
+
+step-onUp : (s : Step) (f : Path → Cell) (q : Path) → OnUp (stepCells s f q)
+unfolding stepCells
+step-onUp s f (start q) = refl
+step-onUp s f (q ▸ t) =
+    join-onUp (onStep s t (f q)) (joinCell (downStep s (f (q ▸ t))) (upStep t (stepCells s f q)))
+    (or-same (isParent s t (f q) && shareElement s t)) (join-onUp (downStep s (f (q ▸ t))) (upStep t (stepCells s f q)) refl refl)
+
+cell-onUp : (p q : Path) → OnUp (cell p q)
+unfolding cell
+cell-onUp (start p) q = start-onUp p q
+cell-onUp (p ▸ s) q = step-onUp s (cell p) q
+
+sum-onUp : {A : Type 0} (f : A → Cell) → ((a : A) → OnUp (f a)) → (l : List A) → OnUp (sum f l)
+unfolding sum
+sum-onUp f h [] = refl
+sum-onUp f h (x ∷ xs) = join-onUp (f x) (sum f xs) (h x) (sum-onUp f h xs)
+
+pub between-onUp : (ps qs : List Path) → (between ps qs .onElement || between ps qs .upElement) ≡ between ps qs .upElement
+between-onUp ps qs = sum-onUp (λ (p : Path). sum (cell p) qs) (λ p. sum-onUp (cell p) (cell-onUp p) qs) ps
 
 -- MEETING of lists is that of their cell
 pub isMet-join : (c d : Cell) → isMet (joinCell c d) ≡ (isMet c || isMet d)

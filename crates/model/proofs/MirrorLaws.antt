@@ -13,21 +13,12 @@ use Rattle.model.proofs.BoolLaws.{eqb-iff, and-left}
 
 -- cells are equal test by test
 pub cell-equal : (c d : Cell) → c .onElement ≡ d .onElement → c .onLeaf ≡ d .onLeaf → c .downElement ≡ d .downElement →
-    c .downLeaf ≡ d .downLeaf → c .upElement ≡ d .upElement → c .upLeaf ≡ d .upLeaf → c ≡ d
-cell-equal x y a b c d e f =
-    λ i. record { onElement = a i; onLeaf = b i; downElement = c i; downLeaf = d i; upElement = e i; upLeaf = f i }
+    c .upElement ≡ d .upElement → c ≡ d
+cell-equal x y a b c d = λ i. record { onElement = a i; onLeaf = b i; downElement = c i; upElement = d i }
 
 -- up for down
 abbrev pub mirror : Cell → Cell
-mirror c =
-    record {
-      onElement = c .onElement;
-      onLeaf = c .onLeaf;
-      downElement = c .upElement;
-      downLeaf = c .upLeaf;
-      upElement = c .downElement;
-      upLeaf = c .downLeaf;
-    }
+mirror c = record { onElement = c .onElement; onLeaf = c .onLeaf; downElement = c .upElement; upElement = c .downElement }
 
 -- TESTS the other way round
 or-last : (a b c : Bool) → (a || b || c) ≡ (a || c || b)
@@ -40,8 +31,7 @@ eqb-comm m n = eqb-iff m n n m (λ e. sym e) (λ e. sym e)
 join-comm : (c d : Cell) → joinCell c d ≡ joinCell d c
 join-comm c d =
     cell-equal (joinCell c d) (joinCell d c) (or-comm (c .onElement) (d .onElement)) (or-comm (c .onLeaf) (d .onLeaf))
-    (or-comm (c .downElement) (d .downElement)) (or-comm (c .downLeaf) (d .downLeaf)) (or-comm (c .upElement) (d .upElement))
-    (or-comm (c .upLeaf) (d .upLeaf))
+    (or-comm (c .downElement) (d .downElement)) (or-comm (c .upElement) (d .upElement))
 
 -- PLACES
 samePlace-comm : (p q : Place) → samePlace p q ≡ samePlace q p

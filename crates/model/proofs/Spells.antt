@@ -1,6 +1,6 @@
--- Words spelled by a path's steps, wherever its place is; and the letters that a step, or two steps at once, let through.
+-- Words spelled by a path's steps, wherever its place is; and the letters that two steps at once let through.
 use mathlib.Core.Path.{_≡_, refl}
-use mathlib.Core.Bool.{Bool, true, false, _&&_, _||_, not, cond}
+use mathlib.Core.Bool.{Bool, true, false, _&&_, _||_, not}
 use mathlib.Core.Logic.{inl, inr}
 use mathlib.Core.List.{[], _∷_}
 use Prim.Native.Nat.{ℕ}
@@ -11,7 +11,7 @@ use Rattle.model.specs.Script.{Step}
 use Rattle.model.specs.Step.{Letter, leafLetter, named, admits}
 use Rattle.model.specs.Paths.{Place, Path, start, _▸_}
 use Rattle.model.specs.Meeting.{admitsElement, admitsLeaf, isNamed, shareElement, shareLeaf}
-use Rattle.model.proofs.BoolLaws.{and-left, and-right, true-false}
+use Rattle.model.proofs.BoolLaws.{and-left, and-right, and-both, or-right, true-false}
 use Rattle.model.proofs.TestLaws.{and-three}
 use Rattle.model.proofs.Words.{Word, Grown, same}
 use Rattle.model.proofs.PathLaws.{down-axis, StepFits}
@@ -39,24 +39,10 @@ pub data WordTo : (isLeaf : Bool) → Word → Type 0 where
 pub wordTo-elements : {w : Word} → WordTo false w → Elements w
 wordTo-elements (toElement e) = e
 
--- LETTERS: one of the kind z that a step lets through
-abbrev pub admitsKind : Bool → Step → Bool
-admitsKind z s = cond z (admitsLeaf s) (admitsElement s)
-
-abbrev pub shareKind : Bool → Step → Step → Bool
-shareKind z s t = cond z (shareLeaf s t) (shareElement s t)
-
-abbrev pub Ends : Bool → Letter → Type 0
-Ends z a = (w : Word) → Elements w → WordTo z (a ∷ w)
-
-pub record LetterFor (z : Bool) (s : Step) : Type 0 where
-  pub letter : Letter
-  pub ends : Ends z letter
-  pub passes : admits s letter ≡ true
-
+-- LETTERS: one of the kind z that two steps let through
 pub record LetterForBoth (z : Bool) (s t : Step) : Type 0 where
   pub letter : Letter
-  pub ends : Ends z letter
+  pub ends : (w : Word) → Elements w → WordTo z (letter ∷ w)
   pub passes : admits s letter ≡ true
   pub passesToo : admits t letter ≡ true
 
@@ -72,24 +58,13 @@ admits-named : (s : Step) (n : ℕ) → admitsElement s ≡ true → (isNamed s 
 admits-named s n e h =
     name-passes (eqb (s .test) 0) (eqb (s .test) 1) (eqb (s .test) 2) (eqb n (s .name)) e (λ k. eq-eqb n (s .name) (h k))
 
-element-ends : (n : ℕ) → isName n ≡ true → Ends false (named n)
-element-ends n h w e = toElement (below h e)
-
--- the step's own name, or 1
-pub letter-for : (z : Bool) (s : Step) → StepFits s → admitsKind z s ≡ true → LetterFor z s
-letter-for true s f e = record { letter = leafLetter; ends = λ w h. toLeaf h; passes = e }
-letter-for false s f e = go (isNamed s) refl
-  where
-    go : (t : Bool) → isNamed s ≡ t → LetterFor false s
-    go true k =
-        record { letter = named (s .name); ends = element-ends (s .name) (f .nameIn k); passes = admits-named s (s .name) e (λ q. refl) }
-    go false k =
-        record { letter = named 1; ends = element-ends 1 refl; passes = admits-named s 1 e (λ q. absurd (true-false _ q k)) }
-
-pub letter-for-both : (z : Bool) (s t : Step) → StepFits s → StepFits t → shareKind z s t ≡ true → LetterForBoth z s t
-letter-for-both true s t f g e =
+pub leaf-for-both : (s t : Step) → shareLeaf s t ≡ true → LetterForBoth true s t
+leaf-for-both s t e =
     record { letter = leafLetter; ends = λ w h. toLeaf h; passes = and-left _ (admitsLeaf t) e; passesToo = and-right (admitsLeaf s) _ e }
-letter-for-both false s t f g e = go (isNamed s) (isNamed t) refl refl
+
+-- a step's own name, or 1
+pub element-for-both : (s t : Step) → StepFits s → StepFits t → shareElement s t ≡ true → LetterForBoth false s t
+element-for-both s t f g e = go (isNamed s) (isNamed t) refl refl
   where
     parts : (admitsElement s ≡ true) × (admitsElement t ≡ true) × ((not (isNamed s && isNamed t) || eqb (s .name) (t .name)) ≡ true)
     parts = and-three (admitsElement s) (admitsElement t) (not (isNamed s && isNamed t) || eqb (s .name) (t .name)) e
@@ -98,7 +73,7 @@ letter-for-both false s t f g e = go (isNamed s) (isNamed t) refl refl
     by n h k l =
         record {
           letter = named n;
-          ends = element-ends n h;
+          ends = λ w e. toElement (below h e);
           passes = admits-named s n (parts .0) k;
           passesToo = admits-named t n (parts .1) l;
         }
@@ -109,3 +84,9 @@ letter-for-both false s t f g e = go (isNamed s) (isNamed t) refl refl
     go true false k l = by (s .name) (f .nameIn k) (λ q. refl) (λ q. absurd (true-false _ q l))
     go false true k l = by (t .name) (g .nameIn l) (λ q. absurd (true-false _ q k)) (λ q. refl)
     go false false k l = by 1 refl (λ q. absurd (true-false _ q k)) (λ q. absurd (true-false _ q l))
+
+-- one step, taken for both
+pub element-for : (s : Step) → StepFits s → admitsElement s ≡ true → LetterForBoth false s s
+element-for s f e =
+    element-for-both s s f f
+    (and-both _ _ (and-both _ _ e e) (or-right (not (isNamed s && isNamed s)) _ (eq-eqb (s .name) (s .name) refl)))

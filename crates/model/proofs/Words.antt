@@ -1,5 +1,5 @@
 -- Words: the letters from a root down to a node. When a word is grown from another.
-use mathlib.Core.Path.{_≡_, refl}
+use mathlib.Core.Path.{_≡_}
 use mathlib.Core.Bool.{Bool, true, false, false≢true}
 use mathlib.Core.Logic.{_⊎_, inl, inr}
 use mathlib.Core.List.{List, [], _∷_}
@@ -39,15 +39,7 @@ grown-compare same h = inr h
 grown-compare (more g) same = inl (more g)
 grown-compare (more g) (more h) = grown-compare g h
 
--- ELEMENTS: every letter of a word but the node's own is an element's
-abbrev pub isLeafLetter : Letter → Bool
-isLeafLetter leafLetter = true
-isLeafLetter (named n) = false
-
-abbrev pub endsInLeaf : Word → Bool
-endsInLeaf [] = false
-endsInLeaf (a ∷ w) = isLeafLetter a
-
+-- ELEMENTS: every letter of a word is an element's, or every letter but the node's own
 unfoldable pub areElements : Word → Bool
 areElements [] = true
 areElements (leafLetter ∷ w) = false
@@ -57,20 +49,10 @@ abbrev pub isProper : Word → Bool
 isProper [] = true
 isProper (a ∷ w) = areElements w
 
-pub elements-end : (w : Word) → areElements w ≡ true → endsInLeaf w ≡ false
-unfolding areElements
-elements-end [] e = refl
-elements-end (leafLetter ∷ w) e = absurd (false≢true e)
-elements-end (named n ∷ w) e = refl
-
 elements-tail : (a : Letter) (w : Word) → areElements (a ∷ w) ≡ true → areElements w ≡ true
 unfolding areElements
 elements-tail leafLetter w e = absurd (false≢true e)
 elements-tail (named n) w e = e
-
-pub elements-proper : (w : Word) → areElements w ≡ true → isProper w ≡ true
-elements-proper [] e = refl
-elements-proper (a ∷ w) e = elements-tail a w e
 
 pub elements-grown : {u w : Word} → Grown u w → areElements w ≡ true → areElements u ≡ true
 elements-grown same e = e

@@ -30,28 +30,26 @@ shareLeaf s t = admitsLeaf s && admitsLeaf t
 abbrev pub isDeep : Step → Bool
 isDeep s = eqb (s .axis) 1
 
--- CELLS: what two paths p and q can have in common, over plans of any size, for an element and for a leaf.
--- on: such a node on p and on q. down: such a node on p, at or below a node on q. up: such a node on q, at or below a node on p
+-- CELLS: what two paths p and q can have in common, over plans of any size. on: an element, or a leaf, on p and on q.
+-- down: an element on p, at or below a node on q. up: an element on q, at or below a node on p. Neither is said of a leaf: only an element
+-- has nodes below it
 pub record Cell : Type 0 where
   pub onElement : Bool
   pub onLeaf : Bool
   pub downElement : Bool
-  pub downLeaf : Bool
   pub upElement : Bool
-  pub upLeaf : Bool
 
--- a node on both is also down and up
+-- an element on both is also down and up
 abbrev pub onCell : (element leaf : Bool) → Cell
-onCell e l = record { onElement = e; onLeaf = l; downElement = e; downLeaf = l; upElement = e; upLeaf = l }
+onCell e l = record { onElement = e; onLeaf = l; downElement = e; upElement = e }
 
 -- down alone
-abbrev pub downCell : (element leaf : Bool) → Cell
-downCell e l =
-    record { onElement = false; onLeaf = false; downElement = e; downLeaf = l; upElement = false; upLeaf = false }
+abbrev pub downCell : (element : Bool) → Cell
+downCell e = record { onElement = false; onLeaf = false; downElement = e; upElement = false }
 
 -- up alone
-abbrev pub upCell : (element leaf : Bool) → Cell
-upCell e l = record { onElement = false; onLeaf = false; downElement = false; downLeaf = false; upElement = e; upLeaf = l }
+abbrev pub upCell : (element : Bool) → Cell
+upCell e = record { onElement = false; onLeaf = false; downElement = false; upElement = e }
 
 -- what either has in common
 abbrev pub joinCell : Cell → Cell → Cell
@@ -60,9 +58,7 @@ joinCell c d =
       onElement = c .onElement || d .onElement;
       onLeaf = c .onLeaf || d .onLeaf;
       downElement = c .downElement || d .downElement;
-      downLeaf = c .downLeaf || d .downLeaf;
       upElement = c .upElement || d .upElement;
-      upLeaf = c .upLeaf || d .upLeaf;
     }
 
 -- nothing in common
@@ -95,18 +91,14 @@ isParent s t c = c .onElement || (isDeep t && c .downElement) || (isDeep s && c 
 abbrev pub onStep : Step → Step → Cell → Cell
 onStep s t c = onCell (isParent s t c && shareElement s t) (isParent s t c && shareLeaf s t)
 
--- from the cell of p and q to that of p ▸ s and q, a node on p ▸ s below a node on q: its parent on p is at or below one, or the step
+-- from the cell of p and q to that of p ▸ s and q, an element on p ▸ s below a node on q: its parent on p is at or below one, or the step
 -- leads down past one
 abbrev pub downStep : Step → Cell → Cell
-downStep s c =
-    downCell (admitsElement s && (c .downElement || (isDeep s && c .upElement)))
-    (admitsLeaf s && (c .downElement || (isDeep s && c .upElement)))
+downStep s c = downCell (admitsElement s && (c .downElement || (isDeep s && c .upElement)))
 
 -- the mirror image: from the cell of p and q to that of p and q ▸ t
 abbrev pub upStep : Step → Cell → Cell
-upStep t c =
-    upCell (admitsElement t && (c .upElement || (isDeep t && c .downElement)))
-    (admitsLeaf t && (c .upElement || (isDeep t && c .downElement)))
+upStep t c = upCell (admitsElement t && (c .upElement || (isDeep t && c .downElement)))
 
 -- the cells of a place, and of p ▸ s from those of p, with every path
 unfoldable pub startCells : Place → Path → Cell

@@ -2,9 +2,10 @@
 use mathlib.Core.Path.{_≡_, ap, sym, _∙_, subst}
 use mathlib.Core.Bool.{Bool, true, false, _||_, cond}
 use mathlib.Core.List.{List, [], _∷_, map}
-use Prim.Native.Nat.{ℕ, _-_, _≤_}
+use Prim.Native.Nat.{ℕ, _*_, _-_, _≤_}
+use native.Mathlib.Nat.{mul-comm, mul-assoc, mul-le-mul-left}
 use native.Mathlib.Omega.{arith}
-use lib.ListN.{length, take}
+use lib.ListN.{length, getD, take}
 use lib.Seq.{take-suc, length-take-le}
 use Rattle.model.specs.Script.{Expr, Parsed, readScript}
 use Rattle.model.specs.Paths.{hasUp}
@@ -18,13 +19,15 @@ use Rattle.script.proofs.ScriptLaws.{script-accepted, script-parsed, read-refus
 use Rattle.paths_positions.specs.Positions.{Entry, Emitted, emit, AreLower, entriesBefore, entriesOf, pathsFrom, pathsOn}
 use Rattle.paths_positions.specs.Answer.{positionsMeet}
 use Rattle.paths_positions.specs.Packed.{entryOf, entriesIn, entriesBy, someLeadsUp}
-use Rattle.paths_cells.specs.Pairs.{HasRows}
+use Rattle.paths_cells.specs.Pairs.{relations, HasRows, cleared}
+use Rattle.paths_cells.proofs.MarkLaws.{has-rows, cleared-at}
+use Rattle.paths_positions.specs.Steps.{maxPositions}
 use Rattle.paths_fill.specs.Filling.{TablePre}
 use Rattle.paths_emit.specs.Emitting.{emitter, EmitPre, EmitPost}
-use Rattle.paths.specs.Analysis.{byAnswer, analysisOf, analysed, ScriptPre, ScriptPost, AnswerPre, AnswerPost, FrontPre}
+use Rattle.paths.specs.Analysis.{byAnswer, analysisOf, analysed, ScriptPre, ScriptPost, AnswerPre, AnswerPost, FrontPre, FrontsPre}
 use Rattle.paths.specs.declared.Analysis.{Analysis}
 use Rattle.paths.specs.declared.Analysis.the-variants.{Refused, Upward}
-use Rattle.paths_positions.proofs.AnswerLaws.{emitted-right, answer-by}
+use Rattle.paths_positions.proofs.AnswerLaws.{emitted-right, answer-by, answer-turned}
 use Rattle.paths_positions.proofs.UpLaws.{someLeadsUp-is}
 use Rattle.paths_positions.proofs.PackedLaws.{entriesIn-length}
 use Rattle.paths_emit.proofs.SizeLaws.{script-records}
@@ -66,16 +69,36 @@ front-asks b {ws} {n} post =
       size = post .size;
       few = post .few;
       positions = record {
-        some = omega (arith, length-take-le n ws within, entriesIn-length ws n within, ap length (post .entries), right .more);
         few = omega (arith, length-take-le n ws within, post .few);
-        nothing = ap (λ (es : List Entry). pathsOn es 0) (post .entries) ∙ right .keeps 0 (omega arith);
         lower = subst AreLower (sym (post .entries)) (right .lower);
       };
     }
 
-pub answer-asks : (b c : List ℕ) {ws : List ℕ} {n : ℕ} {us : List ℕ} {m : ℕ} → ScriptPost b ws n → ScriptPost c us m → (t : List ℕ) →
-    HasRows t n → AnswerPre ws n us m t
-answer-asks b c one two t room = record { first = front-asks b one; second = front-asks c two; table = room }
+-- room for all pairs, and how many these are at most
+pairs-are : (m n : ℕ) → m * (relations * n) ≡ n * m * relations
+pairs-are m n =
+    ap (λ (x : ℕ). m * x) (mul-comm relations n) ∙ sym (mul-assoc m n relations) ∙ ap (λ (x : ℕ). x * relations) (mul-comm m n)
+
+pub pairs-most : {ws : List ℕ} {n : ℕ} {us : List ℕ} {m : ℕ} → FrontsPre ws n us m → n * m ≤ maxPositions * maxPositions
+pairs-most {n = n} {m = m} fronts =
+    let e : n * m ≤ n * maxPositions = mul-le-mul-left n (fronts .second .few) in
+    let f : maxPositions * n ≤ maxPositions * maxPositions = mul-le-mul-left maxPositions (fronts .first .few) in
+    omega (arith, e, f, mul-comm n maxPositions)
+
+pub clear-all : (t : List ℕ) {t′ : List ℕ} → t′ ≡ cleared t → (i : ℕ) → getD t′ i 0 ≡ 0
+clear-all t e i = ap (λ (x : List ℕ). getD x i 0) e ∙ cleared-at t i
+
+pub fronts-asks : (b c : List ℕ) {ws : List ℕ} {n : ℕ} {us : List ℕ} {m : ℕ} → ScriptPost b ws n → ScriptPost c us m → FrontsPre ws n us m
+fronts-asks b c one two = record { first = front-asks b one; second = front-asks c two }
+
+pub answer-asks : {ws : List ℕ} {n : ℕ} {us : List ℕ} {m : ℕ} → FrontsPre ws n us m → (t : List ℕ) → n * m * relations ≤ length t →
+    ((i : ℕ) → getD t i 0 ≡ 0) → AnswerPre ws n us m t
+answer-asks {n = n} {m = m} fronts t room clear =
+    record { fronts = fronts; room = has-rows t m n (omega (arith, pairs-are m n)); clear = clear }
+
+-- the answer is that of the scripts in the other order
+pub answer-swapped : {ws : List ℕ} {n : ℕ} {us : List ℕ} {m : ℕ} {r : Analysis} → AnswerPost us m ws n r → AnswerPost ws n us m r
+answer-swapped post = record { is = λ e f g h. post .is f e h g ∙ ap byAnswer (answer-turned e f) }
 
 upward-is : (e f : Expr) → (hasUp e || hasUp f) ≡ true → Upward ≡ byAnswer (answer e f)
 upward-is e f h = rw h
@@ -96,9 +119,13 @@ module _ {ws : List ℕ} {n : ℕ} {us : List ℕ} {m : ℕ} {t : List ℕ} (pre
       parts : TablePre (take n ws) (take m us) t
       parts =
           record {
-            first = pre .first .positions;
-            second = pre .second .positions;
-            room = subst (HasRows t) (sym (length-take-le n ws (omega (arith, pre .first .size, pre .first .few)))) (pre .table);
+            first = pre .fronts .first .positions;
+            second = pre .fronts .second .positions;
+            room = subst (HasRows t (length (take m us)))
+                (sym (length-take-le n ws (omega (arith, pre .fronts .first .size, pre .fronts .first .few))))
+                (subst (λ (x : ℕ). HasRows t x n)
+                (sym (length-take-le m us (omega (arith, pre .fronts .second .size, pre .fronts .second .few)))) (pre .room));
+            clear = pre .clear;
           }
 
   module _ {x : Bool} (up : x ≡ someLeadsUp (part ws n)) where

@@ -66,11 +66,15 @@ pub record FrontPre (ws : List ℕ) (n : ℕ) : Type 0 where
   pub few : n ≤ maxPositions
   pub positions : PositionsPre (take n ws)
 
--- THE ANSWER from the positions of two expressions
-pub record AnswerPre (ws : List ℕ) (n : ℕ) (us : List ℕ) (m : ℕ) (t : List ℕ) : Type 0 where
+-- THE ANSWER from the positions of two expressions, and in a table
+pub record FrontsPre (ws : List ℕ) (n : ℕ) (us : List ℕ) (m : ℕ) : Type 0 where
   pub first : FrontPre ws n
   pub second : FrontPre us m
-  pub table : HasRows t n
+
+pub record AnswerPre (ws : List ℕ) (n : ℕ) (us : List ℕ) (m : ℕ) (t : List ℕ) : Type 0 where
+  pub fronts : FrontsPre ws n us m
+  pub room : HasRows t m n
+  pub clear : (i : ℕ) → getD t i 0 ≡ 0
 
 pub record AnswerPost (ws : List ℕ) (n : ℕ) (us : List ℕ) (m : ℕ) (r : Analysis) : Type 0 where
   pub is : (e f : Expr) → entriesIn ws n ≡ entriesOf e → entriesIn us m ≡ entriesOf f → r ≡ byAnswer (answer e f)

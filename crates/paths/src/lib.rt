@@ -1,13 +1,31 @@
 // The path analysis: whether two scripts can touch the same node of some plan.
 ghost use mathlib.Core.Path.{_≡_};
-ghost use Rattle.paths.specs.Analysis.{analysed, ScriptPre, ScriptPost, AnswerPre, AnswerPost};
+ghost use Rattle.paths.specs.Analysis.{analysed, ScriptPre, ScriptPost, FrontsPre, AnswerPre, AnswerPost};
 use paths_cells::pairs;
-use paths_cells::pairs::Marks;
 use paths_emit::emit;
 use paths_fill::meet;
 use paths_positions::POSITIONS;
 use plan_table::Refusal;
 use plan_table::Table;
+
+// Tables for so many pairs of positions, and for all: less to clear. A typical pair of scripts has 16, two of 48 steps 4,356.
+const FEW: usize = 64;
+
+const FEW_MARKS: usize = pairs::RELATIONS * FEW;
+
+const SOME: usize = 1280;
+
+const SOME_MARKS: usize = pairs::RELATIONS * SOME;
+
+const MANY: usize = 2560;
+
+const MANY_MARKS: usize = pairs::RELATIONS * MANY;
+
+const MOST: usize = 4608;
+
+const MOST_MARKS: usize = pairs::RELATIONS * MOST;
+
+const ALL_MARKS: usize = pairs::RELATIONS * POSITIONS * POSITIONS;
 
 // What the analysis answers: the script refused, 1 or 2, with its refusal; or whether the two are free of one another.
 pub enum Analysis {
@@ -38,7 +56,7 @@ fn positions_of(bytes: &[u8], positions: &mut [usize; POSITIONS]) -> usize
 }
 
 // The answer from the positions of two scripts. An upward step anywhere, even in a branch never run, comes first.
-fn answer(first: &[usize], n: usize, second: &[usize], m: usize, table: &mut [Marks]) -> Analysis
+fn answer(first: &[usize], n: usize, second: &[usize], m: usize, table: &mut [u8]) -> Analysis
     requires { ⌜ AnswerPre (now first) n (now second) m (now table) ⌝ }
     ensures { λ r. ⌜ AnswerPost (now (first .entry)) n (now (second .entry)) m r ⌝ }
 {
@@ -54,7 +72,34 @@ fn answer(first: &[usize], n: usize, second: &[usize], m: usize, table: &mut [Ma
     Analysis::Free
 }
 
-// The analysis of two scripts: the first refused, else whether they are free, hold an upward step, or meet.
+// The answer in a table for many pairs. These tables stand in a frame of their own, since a frame is paid for by its size.
+fn in_table(first: &[usize], n: usize, second: &[usize], m: usize) -> Analysis
+    requires { ⌜ FrontsPre (now first) n (now second) m ⌝ }
+    ensures { λ r. ⌜ AnswerPost (now (first .entry)) n (now (second .entry)) m r ⌝ }
+{
+    let size = n * m;
+    if size <= SOME {
+        let mut some = [0u8; SOME_MARKS];
+        pairs::clear(&mut some);
+        return answer(first, n, second, m, &mut some);
+    }
+    if size <= MANY {
+        let mut many = [0u8; MANY_MARKS];
+        pairs::clear(&mut many);
+        return answer(first, n, second, m, &mut many);
+    }
+    if size <= MOST {
+        let mut most = [0u8; MOST_MARKS];
+        pairs::clear(&mut most);
+        return answer(first, n, second, m, &mut most);
+    }
+    let mut all = [0u8; ALL_MARKS];
+    pairs::clear(&mut all);
+    answer(first, n, second, m, &mut all)
+}
+
+// The analysis of two scripts: the first refused, else whether they are free, hold an upward step, or meet. That does not depend on their
+// order, so the longer one is laid along the rows of the table: fewer rows, and longer ones.
 pub fn analyse(first: &[u8], second: &[u8]) -> Analysis
     ensures { λ r. ⌜ r ≡ analysed (now (first .entry)) (now (second .entry)) ⌝ }
 {
@@ -73,14 +118,14 @@ pub fn analyse(first: &[u8], second: &[u8]) -> Analysis
     let n = positions_of(first, &mut positions);
     let mut others = [0usize; POSITIONS];
     let m = positions_of(second, &mut others);
-    if n <= pairs::FEW {
-        let mut small = [pairs::NONE; pairs::FEW_PAIRS];
-        return answer(&positions, n, &others, m, &mut small);
+    let size = n * m;
+    if size <= FEW {
+        let mut few = [0u8; FEW_MARKS];
+        pairs::clear(&mut few);
+        return answer(&positions, n, &others, m, &mut few);
     }
-    if n <= pairs::HALF {
-        let mut half = [pairs::NONE; pairs::HALF_PAIRS];
-        return answer(&positions, n, &others, m, &mut half);
+    if m < n {
+        return in_table(&others, m, &positions, n);
     }
-    let mut table = [pairs::NONE; pairs::PAIRS];
-    answer(&positions, n, &others, m, &mut table)
+    in_table(&positions, n, &others, m)
 }

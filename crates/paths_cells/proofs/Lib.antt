@@ -1,2 +1,2 @@
-pub mod BitLaws
-pub mod PairLaws
+pub mod MarkLaws
+pub mod MarksKept

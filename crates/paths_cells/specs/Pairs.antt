@@ -1,34 +1,61 @@
--- The marks of pairs of positions. Each pair has six, the tests of its cell. How they are held, a byte for each pair, is known here, in
--- PairLaws and in the proofs of `pairs`; everywhere else `marks` and `HasRows` stay shut.
+-- Marks on pairs of positions: each is a byte of the table, one for each relation and pair.
 use mathlib.Core.Path.{_≡_}
-use mathlib.Core.List.{List}
-use Prim.Native.Nat.{ℕ, _+_, _*_, _≤_, _<_}
-use lib.ListN.{length, getD}
-use Rattle.model.specs.Meeting.{joinCell, noCell}
-use Rattle.paths_positions.specs.Steps.{maxPositions}
-use Rattle.paths_positions.specs.Sources.{Cells}
-use Rattle.paths_cells.specs.Decoded.{cellBits, cellOf}
-use Rattle.paths_cells.specs.declared.cells.Cell.{Cell}
+use mathlib.Core.Bool.{Bool, false, cond}
+use mathlib.Core.List.{List, map}
+use Prim.Native.Nat.{ℕ, _+_, _*_, _%_, _≤_, _<_}
+use lib.Dec.{eqb}
+use lib.ListN.{length, getD, set}
 
--- what is marked of each pair
-unfoldable pub marks : (table : List ℕ) → Cells
-marks t k l = cellBits (getD t (maxPositions * k + l) 0)
+-- THE RELATIONS of two positions: an element on both, an element down, an element up, a leaf on both
+abbrev pub onElement : ℕ
+onElement = 0
 
--- room for the pairs of so many positions with those of any script
-unfoldable pub HasRows : (table : List ℕ) → (rows : ℕ) → Type 0
-HasRows t n = maxPositions * n ≤ length t
+abbrev pub down : ℕ
+down = 1
 
--- CLEAR: nothing is marked in these rows
-pub record ClearPost (t : List ℕ) (rows : ℕ) (t′ : List ℕ) : Type 0 where
-  pub room : (n : ℕ) → HasRows t n → HasRows t′ n
-  pub clear : (i j : ℕ) → i < rows → j < maxPositions → marks t′ i j ≡ noCell
+abbrev pub up : ℕ
+up = 2
 
--- MARK: a pair's marks, with those of a cell; every other pair's stay
-pub record PairPre (t : List ℕ) (k l : ℕ) : Type 0 where
-  pub room : HasRows t (k + 1)
-  pub column : l < maxPositions
+abbrev pub onLeaf : ℕ
+onLeaf = 3
 
-pub record MarkPost (t : List ℕ) (k l : ℕ) (c : Cell) (t′ : List ℕ) : Type 0 where
-  pub room : (n : ℕ) → HasRows t n → HasRows t′ n
-  pub here : marks t′ k l ≡ joinCell (marks t k l) (cellOf c)
-  pub others : (i j : ℕ) → j < maxPositions → (i ≡ k → j ≡ l → ⊥) → marks t′ i j ≡ marks t i j
+abbrev pub relations : ℕ
+relations = 4
+
+-- WHERE the mark of a relation and a pair stands, with so many columns: the second script's positions
+abbrev pub placeOf : (columns relation k l : ℕ) → ℕ
+placeOf m r k l = m * (relations * k + r) + l
+
+-- its byte, and whether it is marked
+abbrev pub markAt : (table : List ℕ) → (columns relation k l : ℕ) → ℕ
+markAt t m r k l = getD t (placeOf m r k l) 0
+
+abbrev pub isMarked : (table : List ℕ) → (columns relation k l : ℕ) → Bool
+isMarked t m r k l = eqb (markAt t m r k l % 2) 1
+
+-- room for so many rows: the first script's positions
+unfoldable pub HasRows : (table : List ℕ) → (columns rows : ℕ) → Type 0
+HasRows t m n = m * (relations * n) ≤ length t
+
+-- CLEAR: nothing is marked
+unfoldable pub cleared : (table : List ℕ) → List ℕ
+cleared t = map (λ (b : ℕ). 0) t
+
+-- MARK: the byte of a relation and a pair is 1
+abbrev pub marked : (table : List ℕ) → (columns relation k l : ℕ) → List ℕ
+marked t m r k l = set t (placeOf m r k l) 1
+
+-- where it holds; else nothing changes
+abbrev pub markedWhere : (holds : Bool) → (table : List ℕ) → (columns relation k l : ℕ) → List ℕ
+markedWhere h t m r k l = cond h (marked t m r k l) t
+
+-- a relation and a pair of the table
+pub record PairPre (t : List ℕ) (m r k l : ℕ) : Type 0 where
+  pub room : HasRows t m (k + 1)
+  pub relation : r < relations
+  pub column : l < m
+
+-- to be marked where it holds, else not marked yet
+pub record MarkPre (t : List ℕ) (m r k l : ℕ) (holds : Bool) : Type 0 where
+  pub pair : PairPre t m r k l
+  pub free : holds ≡ false → markAt t m r k l ≡ 0

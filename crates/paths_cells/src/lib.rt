@@ -1,3 +1,2 @@
-// Cells: what two positions can have in common; and the table of them, one for each pair.
-pub mod cells;
+// The table of pairs of positions: which relations of a pair are marked.
 pub mod pairs;

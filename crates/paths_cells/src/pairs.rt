@@ -1,56 +1,66 @@
-// The marks of pairs of positions: which of a cell's six tests hold. Nothing else knows how they are held: a byte for each pair, a row of
-// them for each position of the first script.
+// Marks on pairs of positions: a byte for each relation and pair, 1 where it is marked, else 0. Nothing else knows where it stands: the
+// rows of the first script's positions, in each a row for each relation, in each a byte for each of the second script's positions.
 ghost use mathlib.Core.Path.{_≡_};
-ghost use Rattle.paths_cells.specs.Decoded.{cellOf};
-ghost use Rattle.paths_cells.specs.Pairs.{marks, HasRows, ClearPost, PairPre, MarkPost};
-use crate::cells::Cell;
-use paths_positions::POSITIONS;
+ghost use Rattle.model.specs.Base.{bit};
+ghost use Prim.Native.Nat.{_<_};
+ghost use Rattle.paths_cells.specs.Pairs.{placeOf, isMarked, markedWhere, cleared, PairPre, MarkPre};
 
-// How the marks of one pair are held, and none of them.
-pub type Marks = u8;
+// The relations: an element on both, an element on the first at or below one on the second, an element on the second at or below one on
+// the first, a leaf on both.
+pub const ON_ELEMENT: usize = 0;
 
-pub const NONE: Marks = 0;
+pub const DOWN: usize = 1;
 
-// Pairs of a table with room for all.
-pub const PAIRS: usize = POSITIONS * POSITIONS;
+pub const UP: usize = 2;
 
-// Tables for scripts of few positions, and of half as many as there can be: less to set to zero.
-pub const FEW: usize = 16;
+pub const ON_LEAF: usize = 3;
 
-pub const FEW_PAIRS: usize = POSITIONS * FEW;
+pub const RELATIONS: usize = 4;
 
-pub const HALF: usize = 64;
-
-pub const HALF_PAIRS: usize = POSITIONS * HALF;
-
-// Unmarks all pairs of the first `rows` positions.
-pub fn clear(table: &mut [Marks], rows: usize)
-    requires { ⌜ HasRows (now table) rows ⌝ }
-    ensures { λ r. ⌜ ClearPost (now (table .entry)) rows (now (table .exit)) ⌝ }
+// 1 for true.
+pub fn bit(b: bool) -> u8
+    ensures { λ r. ⌜ r ≡ bit b ⌝ }
+    ensures { λ r. ⌜ r < 2 ⌝ }
 {
-    let end = POSITIONS * rows;
+    if b {
+        return 1;
+    }
+    0
+}
+
+// Where a mark stands.
+fn place(table: &[u8], columns: usize, relation: usize, k: usize, l: usize) -> usize
+    requires { ⌜ PairPre (now table) columns relation k l ⌝ }
+    ensures { λ r. ⌜ r ≡ placeOf columns relation k l ⌝ }
+{
+    columns * (RELATIONS * k + relation) + l
+}
+
+// Unmarks all pairs.
+pub fn clear(table: &mut [u8])
+    ensures { λ r. ⌜ now (table .exit) ≡ cleared (now (table .entry)) ⌝ }
+{
     let mut i = 0;
-    while i < end {
-        table[i] = NONE;
+    while i < table.len() {
+        table[i] = 0;
         i += 1;
     }
 }
 
-// Marks a pair with a cell's tests, beside those marked before.
-pub fn mark(table: &mut [Marks], k: usize, l: usize, c: Cell)
-    requires { ⌜ PairPre (now table) k l ⌝ }
-    ensures { λ r. ⌜ MarkPost (now (table .entry)) k l c (now (table .exit)) ⌝ }
+// Marks a pair, where it holds. Where it does not, the pair is one not marked yet: so the byte is written either way, without a branch.
+pub fn mark(table: &mut [u8], columns: usize, relation: usize, k: usize, l: usize, holds: bool)
+    requires { ⌜ MarkPre (now table) columns relation k l holds ⌝ }
+    ensures { λ r. ⌜ now (table .exit) ≡ markedWhere holds (now (table .entry)) columns relation k l ⌝ }
 {
-    let at = POSITIONS * k + l;
-    table[at] = table[at] | c.bits;
+    let at = place(table, columns, relation, k, l);
+    table[at] = bit(holds);
 }
 
-// What is marked of a pair.
-pub fn marked(table: &[Marks], k: usize, l: usize) -> Cell
-    requires { ⌜ PairPre (now table) k l ⌝ }
-    ensures { λ r. ⌜ cellOf r ≡ marks (now (table .entry)) k l ⌝ }
+// Whether a pair is marked.
+pub fn is_marked(table: &[u8], columns: usize, relation: usize, k: usize, l: usize) -> bool
+    requires { ⌜ PairPre (now table) columns relation k l ⌝ }
+    ensures { λ r. ⌜ r ≡ isMarked (now (table .entry)) columns relation k l ⌝ }
 {
-    Cell {
-        bits: table[POSITIONS * k + l],
-    }
+    let at = place(table, columns, relation, k, l);
+    table[at] % 2 == 1
 }

@@ -1,2 +1,2 @@
-// Whether the positions of two scripts meet: the table of cells for their pairs, filled row by row.
+// Fills the table of pairs and answers whether two scripts' positions meet.
 pub mod meet;

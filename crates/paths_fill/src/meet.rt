@@ -1,18 +1,21 @@
-// Whether the positions of two scripts meet: fills the table of pairs row by row, each cell from those of lower pairs.
+// Whether the positions of two scripts meet: fills the table of pairs row by row, each row from lower ones.
 ghost use mathlib.Core.Path.{_≡_};
-ghost use Rattle.paths_positions.specs.Sources.{sourcesOf, sourcesCell, cellBy};
-ghost use Rattle.paths_positions.specs.Answer.{isTested, positionsMeet};
-ghost use Rattle.paths_cells.specs.Decoded.{cellOf};
-ghost use Rattle.paths_positions.specs.Packed.{positionBy, entryBy, rootSource, stepSource, entriesBy, someLeadsUp};
-ghost use mathlib.Core.List.{[], _∷_};
-ghost use Rattle.paths_cells.specs.Pairs.{marks};
-ghost use Rattle.paths_fill.specs.Filling.{CellPre, FromStepPre, MeetPre, MeetPost, RowPre, RowPost, TablePre};
-ghost use Rattle.paths_fill.specs.Filling.{UnionRowPre, UnionRowPost};
-use paths_cells::cells::Cell;
+ghost use mathlib.Core.Bool.{true};
+ghost use Prim.Native.Nat.{_<_};
+ghost use lib.ListN.{length};
+ghost use Rattle.paths_positions.specs.Answer.{anyUpTo, positionsMeet, rowMeets};
+ghost use Rattle.paths_positions.specs.Packed.{entriesBy, someLeadsUp, rootKind, overKind, unionKind};
+ghost use Rattle.paths_cells.specs.Pairs.{onElement, onLeaf, relations};
+ghost use Rattle.paths_rows.specs.Rows.{RowMarked, OnPre};
+ghost use Rattle.paths_fill.specs.Filling.{stepElements, stepLeaves, sourceBy, UnionsPre, UnionsPost, RestPre, LeftPre, LeftPost};
+ghost use Rattle.paths_fill.specs.Filling.{RestPost, KindRowPre, RowPre, RowPost, MeetsPre, TablePre};
 use paths_cells::pairs;
-use paths_cells::pairs::Marks;
+use paths_positions::POSITIONS;
 use paths_positions::packed;
 use paths_positions::packed::Position;
+use paths_rows::columns;
+use paths_rows::rows;
+use plan_table::number;
 
 // Some position leads up.
 pub fn some_leads_up(positions: &[usize]) -> bool
@@ -28,132 +31,255 @@ pub fn some_leads_up(positions: &[usize]) -> bool
     false
 }
 
-// From a document, number k of the first script, to the sources of q, number l of the second.
-fn from_root(table: &[Marks], k: usize, l: usize, p: Position, q: Position) -> Cell
-    requires { ⌜ CellPre (now table) k l p q ⌝ }
-    ensures { λ r. ⌜ cellOf r ≡ sourcesCell k l (marks (now (table .entry))) (rootSource p ∷ []) (sourcesOf (positionBy q)) ⌝ }
+// A pair with a union, number l of the second script: each relation is that of its parts a and b.
+fn unions(table: &mut [u8], m: usize, k: usize, l: usize, a: usize, b: usize)
+    requires { ⌜ UnionsPre (now table) m k l a b ⌝ }
+    ensures { λ r. ⌜ UnionsPost (now (table .entry)) m k l a b (now (table .exit)) ⌝ }
 {
-    if q.kind == packed::ROOT {
-        return Cell::roots(p.label, q.label);
+    let mut r = 0;
+    while r < pairs::RELATIONS {
+        let holds = pairs::is_marked(table, m, r, k, a) | pairs::is_marked(table, m, r, k, b);
+        pairs::mark(table, m, r, k, l, holds);
+        r += 1;
     }
-    if q.kind == packed::OVER {
-        return pairs::marked(table, k, q.first).up_step(q.step());
-    }
-    Cell::none()
 }
 
-// From a step, number k of the first script, to the sources of q, number l of the second.
-fn from_step(table: &[Marks], k: usize, l: usize, p: Position, q: Position) -> Cell
-    requires { ⌜ FromStepPre (now table) k l p q ⌝ }
-    ensures { λ r. ⌜ cellOf r ≡ sourcesCell k l (marks (now (table .entry))) (stepSource p ∷ []) (sourcesOf (positionBy q)) ⌝ }
+// What is left of the pair k, l: all of it where l is a union, else the element up.
+fn pair(first: &[usize], second: &[usize], columns: &[u8], table: &mut [u8], k: usize, l: usize)
+    requires { ⌜ LeftPre (now first) (now second) (now columns) (now table) k l ⌝ }
+    ensures { λ r. ⌜ LeftPost (now (first .entry)) (now (second .entry)) (now (table .entry)) k l (now (table .exit)) ⌝ }
 {
-    if q.kind == packed::ROOT {
-        return pairs::marked(table, p.first, l).down_step(p.step());
+    let m = second.len();
+    let j = number::byte(columns::at(columns, columns::FIRST, l));
+    if number::byte(columns::at(columns, columns::KIND, l)) == packed::UNION {
+        unions(
+            table,
+            m,
+            k,
+            l,
+            j,
+            number::byte(columns::at(columns, columns::SECOND, l)),
+        );
+        return;
     }
-    if q.kind == packed::OVER {
-        let both = pairs::marked(table, p.first, q.first);
-        let first = pairs::marked(table, p.first, l);
-        let second = pairs::marked(table, k, q.first);
-        if both.join(first.join(second)).is_none() {
-            return Cell::none();
-        }
-        let s = p.step();
-        let t = q.step();
-        return both.on_step(s, t)
-            .join(first.down_step(s).join(second.up_step(t)));
-    }
-    Cell::none()
+    let past = columns::is_set(columns, columns::DEEP, l);
+    let above = pairs::is_marked(table, m, pairs::UP, k, j)
+        | (past & pairs::is_marked(table, m, pairs::DOWN, k, j));
+    let holds = pairs::is_marked(table, m, pairs::ON_ELEMENT, k, l)
+        | (columns::is_set(columns, columns::ELEMENT, l) & above);
+    pairs::mark(table, m, pairs::UP, k, l, holds);
 }
 
-// The cell of p, number k of the first script, and q, number l of the second: a union's from its parts, any other's from its source.
-fn cell(table: &[Marks], k: usize, l: usize, p: Position, q: Position) -> Cell
-    requires { ⌜ CellPre (now table) k l p q ⌝ }
-    ensures { λ r. ⌜ cellOf r ≡ cellBy k l (marks (now (table .entry))) (positionBy p) (positionBy q) ⌝ }
+// What is left of row k once an element or a leaf on both and an element down are marked.
+fn rest(first: &[usize], second: &[usize], columns: &[u8], table: &mut [u8], k: usize)
+    requires { ⌜ RestPre (now first) (now second) (now columns) (now table) k ⌝ }
+    ensures { λ r. ⌜ RestPost (now (first .entry)) (now (second .entry)) (now (table .entry)) k (now (table .exit)) ⌝ }
 {
-    if p.kind == packed::UNION {
-        return pairs::marked(table, p.first, l).join(pairs::marked(table, p.second, l));
+    let mut l = 0;
+    while l < second.len() {
+        pair(first, second, columns, table, k, l);
+        l += 1;
     }
-    if q.kind == packed::UNION {
-        return pairs::marked(table, k, q.first).join(pairs::marked(table, k, q.second));
-    }
-    if p.kind == packed::ROOT {
-        return from_root(table, k, l, p, q);
-    }
-    if p.kind == packed::OVER {
-        return from_step(table, k, l, p, q);
-    }
-    Cell::none()
 }
 
-// One of the two is modified, the other accessed.
-fn is_tested(p: Position, q: Position) -> bool
-    ensures { λ r. ⌜ r ≡ isTested (entryBy p) (entryBy q) ⌝ }
+// An element on both, of a step that may let none pass.
+fn on_elements(table: &mut [u8], m: usize, columns: &[u8], parents: &[u8], k: usize, p: Position)
+    requires { ⌜ OnPre (now table) m onElement k (now columns) (now parents) ⌝ }
+    ensures { λ r. ⌜ RowMarked (now (table .entry)) m onElement k (stepElements p (now (columns .entry)) (now (parents .entry))) m
+        (now (table .exit)) ⌝ }
 {
-    ((p.role == packed::MODIFIED) & (q.role == packed::ACCESSED))
-        | ((p.role == packed::ACCESSED) & (q.role == packed::MODIFIED))
+    let s = p.step();
+    if s.admits_element() {
+        rows::on_elements(
+            table,
+            m,
+            columns,
+            parents,
+            k,
+            s.is_named(),
+            (p.label % 256) as u8,
+            (p.label / 256) as u8,
+        );
+    }
 }
 
-// Fills in the pair k, l, p being position k, and says whether it meets.
-fn pair(
-    first: &[usize],
-    second: &[usize],
-    table: &mut [Marks],
+// A leaf on both, of a step that may let none pass. Whether there is any.
+fn on_leaves(
+    table: &mut [u8],
+    m: usize,
+    columns: &[u8],
+    parents: &[u8],
     k: usize,
-    l: usize,
     p: Position,
 ) -> bool
-    requires { ⌜ MeetPre (now first) (now second) (now table) k l p ⌝ }
-    ensures { λ r. ⌜ MeetPost (now (first .entry)) (now (second .entry)) k l (now (table .exit)) r ⌝ }
+    requires { ⌜ OnPre (now table) m onLeaf k (now columns) (now parents) ⌝ }
+    ensures { λ r. ⌜ RowMarked (now (table .entry)) m onLeaf k (stepLeaves p (now (columns .entry)) (now (parents .entry))) m
+        (now (table .exit)) ⌝ }
+    ensures { λ r. ⌜ r ≡ anyUpTo (stepLeaves p (now (columns .entry)) (now (parents .entry))) m ⌝ }
 {
-    let q = Position::unpacked(second[l]);
-    let c = cell(table, k, l, p, q);
-    pairs::mark(table, k, l, c);
-    is_tested(p, q) & c.is_met()
+    if p.step().admits_leaf() {
+        return rows::on_leaves(table, m, columns, parents, k);
+    }
+    false
 }
 
-// Fills in row k, p being position k, a union: from the rows of its parts.
-fn union_row(first: &[usize], second: &[usize], table: &mut [Marks], k: usize, p: Position)
-    requires { ⌜ UnionRowPre (now first) (now second) (now table) k p ⌝ }
-    ensures { λ r. ⌜ UnionRowPost (now (first .entry)) (now (second .entry)) k (now (table .exit)) ⌝ }
+// The relation with an operand that a step needs, beside an element down: an element up from a descendant step, else one on both.
+fn source(deep: bool) -> usize
+    ensures { λ r. ⌜ r ≡ sourceBy deep ⌝ }
+    ensures { λ r. ⌜ r < relations ⌝ }
 {
-    let mut l = 1;
-    while l < second.len() {
-        let c = pairs::marked(table, p.first, l).join(pairs::marked(table, p.second, l));
-        pairs::mark(table, k, l, c);
-        l += 1;
+    if deep {
+        return pairs::UP;
+    }
+    pairs::ON_ELEMENT
+}
+
+// Row k, p being position k, a step: whether it has anything in common with any.
+fn step_row(
+    first: &[usize],
+    second: &[usize],
+    columns: &[u8],
+    table: &mut [u8],
+    k: usize,
+    p: Position,
+) -> bool
+    requires { ⌜ KindRowPre (now first) (now second) (now columns) (now table) k p overKind ⌝ }
+    ensures { λ r. ⌜ RowPost (now (first .entry)) (now (second .entry)) (now (table .entry)) k (now (table .exit)) r ⌝ }
+{
+    let m = second.len();
+    let i = p.first;
+    let s = p.step();
+    let mut above = [0u8; POSITIONS];
+    rows::parents(table, m, columns, i, source(s.is_deep()), &mut above);
+    on_elements(table, m, columns, &above, k, p);
+    let leaves = on_leaves(table, m, columns, &above, k, p);
+    let elements = rows::down(table, m, columns, i, k, s.admits_element(), s.is_deep());
+    rest(first, second, columns, table, k);
+    leaves | elements
+}
+
+// Row k, p being position k, a document's root.
+fn root_row(
+    first: &[usize],
+    second: &[usize],
+    columns: &[u8],
+    table: &mut [u8],
+    k: usize,
+    p: Position,
+) -> bool
+    requires { ⌜ KindRowPre (now first) (now second) (now columns) (now table) k p rootKind ⌝ }
+    ensures { λ r. ⌜ RowPost (now (first .entry)) (now (second .entry)) (now (table .entry)) k (now (table .exit)) r ⌝ }
+{
+    let m = second.len();
+    rows::on_roots(
+        table,
+        m,
+        columns,
+        k,
+        (p.label % 256) as u8,
+        (p.label / 256) as u8,
+    );
+    let seen = rows::down(table, m, columns, k, k, false, false);
+    if seen {
+        rest(first, second, columns, table, k);
+        return true;
+    }
+    false
+}
+
+// Row k, a union: each relation is that of its parts.
+fn union_row(
+    first: &[usize],
+    second: &[usize],
+    columns: &[u8],
+    table: &mut [u8],
+    k: usize,
+    p: Position,
+)
+    requires { ⌜ KindRowPre (now first) (now second) (now columns) (now table) k p unionKind ⌝ }
+    ensures { λ r. ⌜ RowPost (now (first .entry)) (now (second .entry)) (now (table .entry)) k (now (table .exit)) true ⌝ }
+{
+    let m = second.len();
+    let mut r = 0;
+    while r < pairs::RELATIONS {
+        rows::union(table, m, r, k, p.first, p.second);
+        r += 1;
     }
 }
 
-// Fills in row k up to a pair that meets, and says whether there is one. Position 0 is nothing: its pairs stay clear. A union that
-// is neither accessed nor modified meets none.
-fn row(first: &[usize], second: &[usize], table: &mut [Marks], k: usize) -> bool
-    requires { ⌜ RowPre (now first) (now second) (now table) k ⌝ }
-    ensures { λ r. ⌜ RowPost (now (first .entry)) (now (second .entry)) k (now (table .exit)) r ⌝ }
+// Row k: whether it has anything in common with any. `live` says so of lower rows: a step from a row without has nothing either.
+fn row(
+    first: &[usize],
+    second: &[usize],
+    columns: &[u8],
+    live: &[u8],
+    table: &mut [u8],
+    k: usize,
+) -> bool
+    requires { ⌜ RowPre (now first) (now second) (now columns) (now live) (now table) k ⌝ }
+    ensures { λ r. ⌜ RowPost (now (first .entry)) (now (second .entry)) (now (table .entry)) k (now (table .exit)) r ⌝ }
 {
     let p = Position::unpacked(first[k]);
-    if (p.kind == packed::UNION) & (p.role == packed::PLAIN) {
-        union_row(first, second, table, k, p);
+    if p.kind == packed::ROOT {
+        return root_row(first, second, columns, table, k, p);
+    }
+    let i = p.first;
+    if p.kind == packed::OVER {
+        if live[i] == 0 {
+            return false;
+        }
+        return step_row(first, second, columns, table, k, p);
+    }
+    if p.kind == packed::UNION {
+        let j = p.second;
+        if (live[i] == 0) & (live[j] == 0) {
+            return false;
+        }
+        union_row(first, second, columns, table, k, p);
+        return true;
+    }
+    false
+}
+
+// Position k meets one of the second script: one of the two is modified, the other accessed. A row with nothing in common, not `seen`,
+// meets none.
+fn row_meets(
+    first: &[usize],
+    second: &[usize],
+    columns: &[u8],
+    table: &[u8],
+    k: usize,
+    seen: bool,
+) -> bool
+    requires { ⌜ MeetsPre (now first) (now second) (now columns) (now table) k seen ⌝ }
+    ensures { λ r. ⌜ r ≡ rowMeets (entriesBy (now (first .entry))) (entriesBy (now (second .entry))) k (length (now (second .entry))) ⌝ }
+{
+    if !seen {
         return false;
     }
-    let mut l = 1;
-    while l < second.len() {
-        if pair(first, second, table, k, l, p) {
-            return true;
-        }
-        l += 1;
+    let role = Position::unpacked(first[k]).role;
+    if role == packed::ACCESSED {
+        return rows::meets(table, second.len(), columns, k, packed::MODIFIED);
+    }
+    if role == packed::MODIFIED {
+        return rows::meets(table, second.len(), columns, k, packed::ACCESSED);
     }
     false
 }
 
 // Some position that one script modifies meets one that the other accesses.
-pub fn positions_meet(first: &[usize], second: &[usize], table: &mut [Marks]) -> bool
+pub fn positions_meet(first: &[usize], second: &[usize], table: &mut [u8]) -> bool
     requires { ⌜ TablePre (now first) (now second) (now table) ⌝ }
     ensures { λ r. ⌜ r ≡ positionsMeet (entriesBy (now (first .entry))) (entriesBy (now (second .entry))) ⌝ }
 {
-    pairs::clear(table, first.len());
-    let mut k = 1;
+    let mut columns = [0u8; columns::SIZE];
+    columns::spread(second, &mut columns);
+    let mut live = [0u8; POSITIONS];
+    let mut k = 0;
     while k < first.len() {
-        if row(first, second, table, k) {
+        let seen = row(first, second, &columns, &live, table, k);
+        live[k] = pairs::bit(seen);
+        if row_meets(first, second, &columns, table, k, seen) {
             return true;
         }
         k += 1;

@@ -1,6 +1,6 @@
 -- The answer by positions is the model's answer, for every two expressions.
 use mathlib.Core.Path.{_≡_, refl, ap, sym, _∙_}
-use mathlib.Core.Bool.{Bool, true, false, _&&_, _||_, cond}
+use mathlib.Core.Bool.{Bool, true, false, _&&_, _||_, and-comm, or-comm, cond}
 use mathlib.Core.Logic.{inl, inr}
 use mathlib.Core.List.{List, [], _∷_, _++_}
 use Prim.Native.Nat.{ℕ, zero, suc, _<_, _≤_}
@@ -17,10 +17,10 @@ use Rattle.model.proofs.Pointwise.{ended}
 use Rattle.model.proofs.ListLaws.{any-append, any-same}
 use Rattle.paths_positions.specs.Positions.{Entry, plain, nowhere, entryAt, AreLower, emit, entriesBefore, entriesOf, pathsFrom}
 use Rattle.paths_positions.specs.Positions.{pathsOn}
-use Rattle.paths_positions.specs.Answer.{anyUpTo, isTested, positionsMeet, answerBy}
+use Rattle.paths_positions.specs.Answer.{anyUpTo, isTested, meetAt, positionsMeet, answerBy}
 use Rattle.model.proofs.CellLaws.{isMet-between, isMet-join, between-second}
 use Rattle.model.proofs.BetweenLaws.{anyMeet-mirror}
-use Rattle.paths_positions.proofs.AnyUpToLaws.{anyUpTo-same, anyUpTo-or, anyUpTo-and}
+use Rattle.paths_positions.proofs.AnyUpToLaws.{anyUpTo-same, anyUpTo-or, anyUpTo-and, anyUpTo-swap}
 use Rattle.paths_positions.proofs.PositionLaws.{pathsOn-split}
 use Rattle.paths_positions.proofs.DocumentLaws.{fromDocuments, owners-apart}
 use Rattle.paths_positions.proofs.EmitLaws.{pathsWithFrom, pathsWith, isAccessed, isModified, pathsWith-push, Ready, Right, emits}
@@ -181,3 +181,27 @@ paths-meet e f =
 
 pub answer-by : (e f : Expr) → answerBy e f ≡ answer e f
 answer-by e f = ap (λ (t : Bool). cond (hasUp e || hasUp f) upward (cond t meet free)) (sym (paths-meet e f))
+
+-- IN EITHER ORDER: two scripts' answer does not depend on which is the first
+tested-turned : (a b c d : Bool) → ((a && b) || (c && d)) ≡ ((d && c) || (b && a))
+tested-turned a b c d =
+    ap (λ (t : Bool). t || (c && d)) (and-comm a b) ∙ ap (λ (t : Bool). (b && a) || t) (and-comm c d) ∙ or-comm (b && a) (d && c)
+
+meet-turned : (es fs : List Entry) (k l : ℕ) → meetAt es fs k l ≡ meetAt fs es l k
+meet-turned es fs k l =
+    ap (λ (t : Bool). t && isMet (between (pathsOn es k) (pathsOn fs l)))
+    (tested-turned (entryAt es k .modified) (entryAt fs l .accessed) (entryAt es k .accessed) (entryAt fs l .modified)) ∙
+    ap (λ (t : Bool). isTested (entryAt fs l) (entryAt es k) && t)
+    (isMet-between (pathsOn es k) (pathsOn fs l) ∙ anyMeet-mirror (pathsOn fs l) (pathsOn es k) ∙
+    sym (isMet-between (pathsOn fs l) (pathsOn es k)))
+
+positions-turned : (es fs : List Entry) → positionsMeet es fs ≡ positionsMeet fs es
+positions-turned es fs =
+    anyUpTo-swap (meetAt es fs) (length es) (length fs) ∙
+    anyUpTo-same _ _ (length fs) (λ l. anyUpTo-same _ _ (length es) (λ k. meet-turned es fs k l))
+
+pub answer-turned : (e f : Expr) → answer f e ≡ answer e f
+answer-turned e f =
+    sym (answer-by f e) ∙ ap (λ (t : Bool). cond t upward (cond (positionsMeet (entriesOf f) (entriesOf e)) meet free))
+    (or-comm (hasUp f) (hasUp e)) ∙
+    ap (λ (t : Bool). cond (hasUp e || hasUp f) upward (cond t meet free)) (positions-turned (entriesOf f) (entriesOf e)) ∙ answer-by e f

@@ -57,6 +57,14 @@ anyUpTo-and true f zero = refl
 anyUpTo-and false f zero = refl
 anyUpTo-and a f (suc n) = and-or-distrib-left a (anyUpTo f n) (f n) ∙ ap (λ (t : Bool). t || (a && f n)) (anyUpTo-and a f n)
 
+-- OF TWO NUMBERS, in either order
+pub anyUpTo-swap : (f : ℕ → ℕ → Bool) (n m : ℕ) →
+    anyUpTo (λ (k : ℕ). anyUpTo (f k) m) n ≡ anyUpTo (λ (l : ℕ). anyUpTo (λ (k : ℕ). f k l) n) m
+unfolding anyUpTo
+anyUpTo-swap f zero m = sym (anyUpTo-none (λ (l : ℕ). false) (λ l. refl) m)
+anyUpTo-swap f (suc n) m =
+    ap (λ (t : Bool). t || anyUpTo (f n) m) (anyUpTo-swap f n m) ∙ anyUpTo-or (λ (l : ℕ). anyUpTo (λ (k : ℕ). f k l) n) (f n) m
+
 -- OF ENTRIES: some entry of the first n
 pub anyUpTo-any : (f : Entry → Bool) (es : List Entry) (n : ℕ) → n ≤ length es →
     anyUpTo (λ (k : ℕ). f (entryAt es k)) n ≡ any f (take n es)

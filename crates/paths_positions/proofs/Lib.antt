@@ -1,5 +1,6 @@
 pub mod AnyUpToLaws
 pub mod PositionLaws
+pub mod RelationLaws
 pub mod DocumentLaws
 pub mod EmitLaws
 pub mod TraverseLaws

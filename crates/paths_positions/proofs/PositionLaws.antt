@@ -1,19 +1,20 @@
 -- A position's paths are those that its operands' paths give, and its cell with another is what the cells of lower pairs give.
 use mathlib.Core.Path.{_≡_, refl, ap, sym, _∙_}
+use mathlib.Core.Bool.{false}
 use mathlib.Core.List.{List, [], _∷_, _++_}
 use Prim.Native.Nat.{ℕ, suc, _+_, _<_}
 use native.Mathlib.Omega.{arith}
+use lib.Dec.{eqb}
 use lib.ListN.{length, getD, take, drop, length-append, List·getD-append}
 use lib.Seq.{split-at, length-take-le, getD-at}
 use Rattle.model.specs.Script.{Step}
 use Rattle.model.specs.Paths.{Path, start, documentPlace, withStep}
-use Rattle.model.specs.Meeting.{Cell, joinCell, onStep, downStep, upStep, noCell, sum, between}
+use Rattle.model.specs.Meeting.{onCell, joinCell, onStep, downStep, upStep, noCell, sum, between}
 use Rattle.paths_positions.specs.Positions.{Position, nowhere, root, over, union, Entry, plain, entryAt, IsLower, AreLower}
 use Rattle.paths_positions.specs.Positions.{pathsAt, pathsFrom, pathsBy, pathsOn}
-use Rattle.paths_positions.specs.Sources.{Cells, Source, fromRoot, fromStep, sourceCell, sourcesCell, cellTo, cellBy}
-use Rattle.paths_positions.specs.Filled.{Filled}
-use Rattle.model.proofs.CellLaws.{between-none, between-first, between-second, between-starts, between-up, between-down}
-use Rattle.model.proofs.CellLaws.{between-steps, join-none}
+use Rattle.paths_positions.specs.Answer.{cellAt}
+use Rattle.model.proofs.CellLaws.{roots-are, between-none, between-first, between-second, between-starts, between-up, between-down}
+use Rattle.model.proofs.CellLaws.{between-steps}
 
 -- PATHS of more positions
 pathsFrom-append : (ps : List (List Path)) (es fs : List Entry) → pathsFrom ps (es ++ fs) ≡ pathsFrom (pathsFrom ps es) fs
@@ -82,88 +83,55 @@ pathsOn-at es lower k h =
     len : length (take k es) ≡ k
     len = length-take-le k es (omega arith)
 
--- ONE SOURCE on either side, or none
-module _ (k l : ℕ) (t : Cells) where
-  pub one-source : (x y : Source) → sourcesCell k l t (x ∷ []) (y ∷ []) ≡ sourceCell k l t x y
+-- THE CELL of two positions, from those of lower pairs
+module _ (es fs : List Entry) (lower : AreLower es) (lower₂ : AreLower fs) (k l : ℕ) (low : k < length es) (low₂ : l < length fs) where
+  first-paths : {p : Position} → entryAt es k .position ≡ p → pathsOn es k ≡ pathsAt (pathsBy es) p
+  first-paths e = pathsOn-at es lower k low ∙ ap (pathsAt (pathsBy es)) e
+
+  second-paths : {q : Position} → entryAt fs l .position ≡ q → pathsOn fs l ≡ pathsAt (pathsBy fs) q
+  second-paths e = pathsOn-at fs lower₂ l low₂ ∙ ap (pathsAt (pathsBy fs)) e
+
+  -- by the paths of both
+  by-paths : {p q : Position} → entryAt es k .position ≡ p → entryAt fs l .position ≡ q →
+      cellAt es fs k l ≡ between (pathsAt (pathsBy es) p) (pathsAt (pathsBy fs) q)
+  by-paths {p} e f =
+      ap (λ (v : List Path). between v (pathsOn fs l)) (first-paths e) ∙ ap (between (pathsAt (pathsBy es) p)) (second-paths f)
+
+  pub first-nowhere : entryAt es k .position ≡ nowhere → cellAt es fs k l ≡ noCell
   unfolding sum
-  one-source x y = join-none (joinCell (sourceCell k l t x y) noCell) ∙ join-none (sourceCell k l t x y)
+  first-nowhere e = ap (λ (v : List Path). between v (pathsOn fs l)) (first-paths e)
 
-  pub no-source : (x : Source) → sourcesCell k l t (x ∷ []) [] ≡ noCell
-  unfolding sum
-  no-source x = refl
+  pub second-nowhere : entryAt fs l .position ≡ nowhere → cellAt es fs k l ≡ noCell
+  second-nowhere e = ap (between (pathsOn es k)) (second-paths e) ∙ between-none (pathsOn es k)
 
--- THE CELL of two positions
-module _ (es fs : List Entry) (k l : ℕ) (t : Cells) where
-  module _ (low : l < length fs) (filled : Filled es fs k l t) where
-    -- two positions at l
-    unionAt : (a b : ℕ) → (a < l) × (b < l) → pathsOn fs l ≡ pathsOn fs a ++ pathsOn fs b →
-        joinCell (t k a) (t k b) ≡ between (pathsOn es k) (pathsOn fs l)
-    unionAt a b h e =
-        ap (λ (c : Cell). joinCell c (t k b)) (filled .row a (h .0)) ∙ ap (joinCell (between (pathsOn es k) (pathsOn fs a)))
-        (filled .row b (h .1)) ∙
-        sym (between-second (pathsOn es k) (pathsOn fs a) (pathsOn fs b)) ∙ ap (between (pathsOn es k)) (sym e)
+  pub first-union : {a b : ℕ} → entryAt es k .position ≡ union a b → cellAt es fs k l ≡ joinCell (cellAt es fs a l) (cellAt es fs b l)
+  first-union {a} {b} e =
+      ap (λ (v : List Path). between v (pathsOn fs l)) (first-paths e) ∙ between-first (pathsOn es a) (pathsOn es b) (pathsOn fs l)
 
-    nowhereAt : pathsOn fs l ≡ [] → noCell ≡ between (pathsOn es k) (pathsOn fs l)
-    nowhereAt e = sym (ap (between (pathsOn es k)) e ∙ between-none (pathsOn es k))
+  pub second-union : {a b : ℕ} → entryAt fs l .position ≡ union a b → cellAt es fs k l ≡ joinCell (cellAt es fs k a) (cellAt es fs k b)
+  second-union {a} {b} e = ap (between (pathsOn es k)) (second-paths e) ∙ between-second (pathsOn es k) (pathsOn fs a) (pathsOn fs b)
 
-    -- from nothing, from a document, from a step
-    fromNowhere-is : (q : Position) → pathsOn es k ≡ [] → IsLower l q → pathsOn fs l ≡ pathsAt (pathsBy fs) q →
-        cellTo k l t [] q ≡ between (pathsOn es k) (pathsOn fs l)
-    unfolding sum
-    fromNowhere-is nowhere e h f = sym (ap (λ (v : List Path). between v (pathsOn fs l)) e)
-    fromNowhere-is (root c) e h f = sym (ap (λ (v : List Path). between v (pathsOn fs l)) e)
-    fromNowhere-is (over u j) e h f = sym (ap (λ (v : List Path). between v (pathsOn fs l)) e)
-    fromNowhere-is (union a b) e h f = unionAt a b h f
+  pub root-root : {d e : ℕ} → entryAt es k .position ≡ root d → entryAt fs l .position ≡ root e → cellAt es fs k l ≡ onCell (eqb d e) false
+  root-root {d} {e} f g = by-paths f g ∙ between-starts (documentPlace d) (documentPlace e) ∙ sym (roots-are d e)
 
-    fromRoot-is : (d : ℕ) (q : Position) → pathsOn es k ≡ start (documentPlace d) ∷ [] → IsLower l q →
-        pathsOn fs l ≡ pathsAt (pathsBy fs) q →
-        cellTo k l t (fromRoot d ∷ []) q ≡ between (pathsOn es k) (pathsOn fs l)
-    fromRoot-is d nowhere e h f = no-source k l t (fromRoot d) ∙ nowhereAt f
-    fromRoot-is d (root c) e h f =
-        one-source k l t (fromRoot d) (fromRoot c) ∙
-        sym (ap (λ (v : List Path). between v (pathsOn fs l)) e ∙ ap (between (start (documentPlace d) ∷ [])) f ∙
-        between-starts (documentPlace d) (documentPlace c))
-    fromRoot-is d (over u j) e h f =
-        one-source k l t (fromRoot d) (fromStep u j) ∙
-        ap (upStep u) (filled .row j h ∙ ap (λ (v : List Path). between v (pathsOn fs j)) e) ∙
-        sym (ap (λ (v : List Path). between v (pathsOn fs l)) e ∙ ap (between (start (documentPlace d) ∷ [])) f ∙
-        between-up (documentPlace d) u (pathsOn fs j))
-    fromRoot-is d (union a b) e h f = unionAt a b h f
+  pub root-step : {d : ℕ} {u : Step} {j : ℕ} → entryAt es k .position ≡ root d → entryAt fs l .position ≡ over u j →
+      cellAt es fs k l ≡ upStep u (cellAt es fs k j)
+  root-step {d} {u} {j} f g =
+      by-paths f g ∙ between-up (documentPlace d) u (pathsOn fs j) ∙
+      ap (λ (v : List Path). upStep u (between v (pathsOn fs j))) (sym (first-paths f))
 
-    fromStep-is : (s : Step) (i : ℕ) (q : Position) → i < k → pathsOn es k ≡ withStep s (pathsOn es i) → IsLower l q →
-        pathsOn fs l ≡ pathsAt (pathsBy fs) q → cellTo k l t (fromStep s i ∷ []) q ≡ between (pathsOn es k) (pathsOn fs l)
-    fromStep-is s i nowhere g e h f = no-source k l t (fromStep s i) ∙ nowhereAt f
-    fromStep-is s i (root c) g e h f =
-        one-source k l t (fromStep s i) (fromRoot c) ∙
-        ap (downStep s) (filled .rows i l g low ∙ ap (between (pathsOn es i)) f) ∙
-        sym (ap (λ (v : List Path). between v (pathsOn fs l)) e ∙ ap (between (withStep s (pathsOn es i))) f ∙
-        between-down s (pathsOn es i) (documentPlace c))
-    fromStep-is s i (over u j) g e h f =
-        one-source k l t (fromStep s i) (fromStep u j) ∙
-        ap (λ (c : Cell). joinCell (onStep s u c) (joinCell (downStep s (t i l)) (upStep u (t k j)))) (filled .rows i j g (omega arith)) ∙
-        ap (λ (c : Cell). joinCell (onStep s u (between (pathsOn es i) (pathsOn fs j))) (joinCell (downStep s c) (upStep u (t k j))))
-        (filled .rows i l g low ∙ ap (between (pathsOn es i)) f) ∙
-        ap (λ (c : Cell). joinCell (onStep s u (between (pathsOn es i) (pathsOn fs j)))
-        (joinCell (downStep s (between (pathsOn es i) (withStep u (pathsOn fs j)))) (upStep u c)))
-        (filled .row j h ∙ ap (λ (v : List Path). between v (pathsOn fs j)) e) ∙
-        sym (ap (λ (v : List Path). between v (pathsOn fs l)) e ∙ ap (between (withStep s (pathsOn es i))) f ∙
-        between-steps s u (pathsOn es i) (pathsOn fs j))
-    fromStep-is s i (union a b) g e h f = unionAt a b h f
+  pub step-root : {s : Step} {i e : ℕ} → entryAt es k .position ≡ over s i → entryAt fs l .position ≡ root e →
+      cellAt es fs k l ≡ downStep s (cellAt es fs i l)
+  step-root {s} {i} {e} f g =
+      by-paths f g ∙ between-down s (pathsOn es i) (documentPlace e) ∙
+      ap (λ (v : List Path). downStep s (between (pathsOn es i) v)) (sym (second-paths g))
 
-    cellBy-is : (p q : Position) → IsLower k p → pathsOn es k ≡ pathsAt (pathsBy es) p → IsLower l q →
-        pathsOn fs l ≡ pathsAt (pathsBy fs) q →
-        cellBy k l t p q ≡ between (pathsOn es k) (pathsOn fs l)
-    cellBy-is nowhere q g e h f = fromNowhere-is q e h f
-    cellBy-is (root d) q g e h f = fromRoot-is d q e h f
-    cellBy-is (over s i) q g e h f = fromStep-is s i q g e h f
-    cellBy-is (union a b) q g e h f =
-        ap (λ (c : Cell). joinCell c (t b l)) (filled .rows a l (g .0) low) ∙
-        ap (joinCell (between (pathsOn es a) (pathsOn fs l))) (filled .rows b l (g .1) low) ∙
-        sym (ap (λ (v : List Path). between v (pathsOn fs l)) e ∙ between-first (pathsOn es a) (pathsOn es b) (pathsOn fs l))
-
-  -- by positions, it is the join over all pairs of their paths
-  pub cell-by : AreLower es → AreLower fs → k < length es → l < length fs → Filled es fs k l t →
-      cellBy k l t (entryAt es k .position) (entryAt fs l .position) ≡ between (pathsOn es k) (pathsOn fs l)
-  cell-by e f h low filled =
-      cellBy-is low filled (entryAt es k .position) (entryAt fs l .position) (e k h) (pathsOn-at es e k h) (f l low)
-      (pathsOn-at fs f l low)
+  pub step-step : {s : Step} {i : ℕ} {u : Step} {j : ℕ} → entryAt es k .position ≡ over s i → entryAt fs l .position ≡ over u j →
+      cellAt es fs k l ≡
+      joinCell (onStep s u (cellAt es fs i j)) (joinCell (downStep s (cellAt es fs i l)) (upStep u (cellAt es fs k j)))
+  step-step {s} {i} {u} {j} f g =
+      by-paths f g ∙ between-steps s u (pathsOn es i) (pathsOn fs j) ∙
+      ap (λ (v : List Path). joinCell (onStep s u (cellAt es fs i j)) (joinCell (downStep s (between (pathsOn es i) v))
+      (upStep u (between (withStep s (pathsOn es i)) (pathsOn fs j))))) (sym (second-paths g)) ∙
+      ap (λ (v : List Path). joinCell (onStep s u (cellAt es fs i j)) (joinCell (downStep s (cellAt es fs i l))
+      (upStep u (between v (pathsOn fs j))))) (sym (first-paths f))

@@ -1,11 +1,12 @@
 -- The answer by positions.
+use mathlib.Core.Path.{_≡_}
 use mathlib.Core.Bool.{Bool, false, _&&_, _||_, cond}
 use mathlib.Core.List.{List}
 use Prim.Native.Nat.{ℕ, zero, suc}
 use lib.ListN.{length}
 use Rattle.model.specs.Script.{Expr}
 use Rattle.model.specs.Paths.{hasUp}
-use Rattle.model.specs.Meeting.{between, isMet, Answer, free, upward, meet}
+use Rattle.model.specs.Meeting.{Cell, between, isMet, Answer, free, upward, meet}
 use Rattle.paths_positions.specs.Positions.{Entry, entryAt, entriesOf, pathsOn}
 
 -- MEETING: some position that one modifies meets one that the other accesses. A test of some number below the count
@@ -17,9 +18,19 @@ anyUpTo f (suc n) = anyUpTo f n || f n
 abbrev pub isTested : Entry → Entry → Bool
 isTested x y = (x .modified && y .accessed) || (x .accessed && y .modified)
 
--- positions k and l are tested, and meet
+-- what positions k and l have in common
+abbrev pub cellAt : (first second : List Entry) → (k l : ℕ) → Cell
+cellAt es fs k l = between (pathsOn es k) (pathsOn fs l)
+
+-- no element in common: none on both, down or up
+pub record NoElement (c : Cell) : Type 0 where
+  pub on : c .onElement ≡ false
+  pub down : c .downElement ≡ false
+  pub up : c .upElement ≡ false
+
+-- they are tested, and meet
 abbrev pub meetAt : (first second : List Entry) → (k l : ℕ) → Bool
-meetAt es fs k l = isTested (entryAt es k) (entryAt fs l) && isMet (between (pathsOn es k) (pathsOn fs l))
+meetAt es fs k l = isTested (entryAt es k) (entryAt fs l) && isMet (cellAt es fs k l)
 
 -- a position with any of those below n
 abbrev pub rowMeets : (first second : List Entry) → (k n : ℕ) → Bool

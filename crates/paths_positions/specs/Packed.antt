@@ -8,7 +8,6 @@ use lib.ListN.{length, take}
 use Rattle.model.specs.Script as model
 use Rattle.model.specs.Script.{stepBy}
 use Rattle.paths_positions.specs.Positions as positions
-use Rattle.paths_positions.specs.Sources.{Source, fromRoot, fromStep}
 use Rattle.paths_positions.specs.Answer.{anyUpTo}
 use Rattle.paths_positions.specs.declared.packed.Position.{Position}
 use Rattle.paths_positions.specs.Steps.{maxPositions}
@@ -44,13 +43,6 @@ positionBy p =
     cond (eqb (p .kind) 0) positions.nowhere
     (cond (eqb (p .kind) rootKind) (positions.root (p .label))
     (cond (eqb (p .kind) overKind) (positions.over (stepIn p) (p .first)) (positions.union (p .first) (p .second))))
-
--- the source of a document, and of a step
-abbrev pub rootSource : Position → Source
-rootSource p = fromRoot (p .label)
-
-abbrev pub stepSource : Position → Source
-stepSource p = fromStep (stepIn p) (p .first)
 
 -- a position with its role
 abbrev pub withRole : (role : ℕ) → positions.Position → positions.Entry

@@ -41,7 +41,7 @@ impl Step {
     }
 
     // The test is for the named element.
-    fn is_named(self) -> bool
+    pub fn is_named(self) -> bool
         ensures { λ r. ⌜ r ≡ isNamed (stepOf self) ⌝ }
     {
         !(self.test == ANY_NODE) & !(self.test == ANY_ELEMENT) & !(self.test == ANY_LEAF)

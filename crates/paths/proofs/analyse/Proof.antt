@@ -2,12 +2,19 @@
 use mathlib.Core.Path.{_≡_, refl, ap, sym, _∙_}
 use Rattle.plan_table.specs.declared.Refusal.{Refusal}
 use Rattle.script.specs.Reading.{scriptRead}
-use Rattle.paths.proofs.AnalysisLaws.{answer-asks, first-refused, second-refused, both-accepted}
+use Rattle.paths.proofs.AnalysisLaws.{pairs-most, fronts-asks, answer-asks, answer-swapped, clear-all, first-refused}
+use Rattle.paths.proofs.AnalysisLaws.{second-refused, both-accepted}
 use native.Mathlib.Omega.{arith}
-use Rattle.paths_cells.proofs.PairLaws.{has-rows}
 use borrow.Author.Needs.{needs}
 use Rattle.paths.proofs.analyse.Statement.{statement}
 use Rattle.paths.proofs.analyse.Tie as tie
+use Rattle.paths.proofs.analyse.Reads as reads
+use Rattle.paths.proofs.analyse.Lts as lts
+use Rattle.paths.proofs.answer.Reads as answer-reads
+use Rattle.paths.proofs.in_table.Reads as in-table-reads
+use Rattle.paths.proofs.positions_of.Reads as positions-of-reads
+use Rattle.paths_cells.proofs.pairs.clear.Reads as clear-reads
+use Rattle.script.proofs.read_script.Reads as read-script-reads
 
 -- the scripts are accepted
 first-accepted : (c : tie.Else1) → scriptRead (c .before .before .before .before .before .args .first .now) .number ≡ 0
@@ -46,6 +53,22 @@ positions-of-requires c κs = record { accepted = first-accepted (c .before .bef
 positions-of-requires-2 : tie.Need-positions-of-requires-2
 positions-of-requires-2 c κs = record { accepted = second-accepted (c .before .before .before); size = refl; zero = refl }
 
+mul-size : tie.Need-mul-size
+mul-size c =
+    let c2 = c .before .before in
+    let c12 = c2 .before .before .before .before .before .before .before .before .before .before in
+    omega (
+      arith,
+      pairs-most
+          (fronts-asks (c12 .args .first .now) (c12 .args .second .now) (c2 .positions-of .ensures) (c .positions-of2 .ensures)),
+    )
+
+slice-aggregate-clear : tie.Need-slice-aggregate-clear
+slice-aggregate-clear c = search needs
+
+clear-requires : tie.Need-clear-requires
+clear-requires c κs = search needs
+
 slice-aggregate-answer : tie.Need-slice-aggregate-answer
 slice-aggregate-answer c = search needs
 
@@ -57,77 +80,69 @@ slice-aggregate-answer-3 c = search needs
 
 answer-requires : tie.Need-answer-requires
 answer-requires c κs =
-    let c3 = c .before .before .before in
-    let c4 = c3 .before in
+    let c4 = c .before .before .before .before in
     let c6 = c4 .before .before in
-    let c16 = c6 .before .before .before .before .before .before .before .before .before .before in
-    answer-asks (c16 .args .first .now) (c16 .args .second .now) (c6 .positions-of .ensures) (c4 .positions-of2 .ensures) _
-    (has-rows _ _ (omega (arith, c3 .if3 .taken)))
+    let c7 = c6 .before in
+    let c9 = c7 .before .before in
+    let c19 = c9 .before .before .before .before .before .before .before .before .before .before in
+    answer-asks (fronts-asks (c19 .args .first .now) (c19 .args .second .now) (c9 .positions-of .ensures) (c7 .positions-of2 .ensures))
+    _ (omega (arith, c6 .if3 .taken)) (clear-all _ (c4 .clear .ensures))
 
 returns-3 : tie.Need-returns-3
 returns-3 c =
-    let c6 = c .before .before .before .before .before .before in
-    let c8 = c6 .before .before in
-    let c10 = c8 .before .before in
-    let c13 = c10 .before .before .before in
-    let c18 = c13 .before .before .before .before .before in
-    both-accepted (c18 .args .first .now) (c18 .args .second .now) (first-accepted c13) (second-accepted c10)
-    (c8 .positions-of .ensures) (c6 .positions-of2 .ensures) (c .before .answer .ensures)
+    let c9 = c .before .before .before .before .before .before .before .before .before in
+    let c11 = c9 .before .before in
+    let c13 = c11 .before .before in
+    let c16 = c13 .before .before .before in
+    let c21 = c16 .before .before .before .before .before in
+    both-accepted (c21 .args .first .now) (c21 .args .second .now) (first-accepted c16) (second-accepted c13)
+    (c11 .positions-of .ensures) (c9 .positions-of2 .ensures) (c .before .answer .ensures)
 
-slice-aggregate-answer-4 : tie.Need-slice-aggregate-answer-4
-slice-aggregate-answer-4 c = search needs
+slice-aggregate-in-table : tie.Need-slice-aggregate-in-table
+slice-aggregate-in-table c = search needs
 
-slice-aggregate-answer-5 : tie.Need-slice-aggregate-answer-5
-slice-aggregate-answer-5 c = search needs
+slice-aggregate-in-table-2 : tie.Need-slice-aggregate-in-table-2
+slice-aggregate-in-table-2 c = search needs
 
-slice-aggregate-answer-6 : tie.Need-slice-aggregate-answer-6
-slice-aggregate-answer-6 c = search needs
-
-answer-requires-2 : tie.Need-answer-requires-2
-answer-requires-2 c κs =
-    let c3 = c .before .before .before in
-    let c5 = c3 .before .before in
-    let c7 = c5 .before .before in
-    let c17 = c7 .before .before .before .before .before .before .before .before .before .before in
-    answer-asks (c17 .args .first .now) (c17 .args .second .now) (c7 .positions-of .ensures) (c5 .positions-of2 .ensures) _
-    (has-rows _ _ (omega (arith, c3 .if4 .taken)))
+in-table-requires : tie.Need-in-table-requires
+in-table-requires c κs =
+    let c4 = c .before .before .before .before in
+    let c6 = c4 .before .before in
+    let c16 = c6 .before .before .before .before .before .before .before .before .before .before in
+    fronts-asks (c16 .args .second .now) (c16 .args .first .now) (c4 .positions-of2 .ensures) (c6 .positions-of .ensures)
 
 returns-4 : tie.Need-returns-4
 returns-4 c =
-    let c7 = c .before .before .before .before .before .before .before in
-    let c9 = c7 .before .before in
-    let c11 = c9 .before .before in
-    let c14 = c11 .before .before .before in
-    let c19 = c14 .before .before .before .before .before in
-    both-accepted (c19 .args .first .now) (c19 .args .second .now) (first-accepted c14) (second-accepted c11)
-    (c9 .positions-of .ensures) (c7 .positions-of2 .ensures) (c .before .answer2 .ensures)
-
-slice-aggregate-answer-7 : tie.Need-slice-aggregate-answer-7
-slice-aggregate-answer-7 c = search needs
-
-slice-aggregate-answer-8 : tie.Need-slice-aggregate-answer-8
-slice-aggregate-answer-8 c = search needs
-
-slice-aggregate-answer-9 : tie.Need-slice-aggregate-answer-9
-slice-aggregate-answer-9 c = search needs
-
-answer-requires-3 : tie.Need-answer-requires-3
-answer-requires-3 c κs =
     let c5 = c .before .before .before .before .before in
     let c7 = c5 .before .before in
-    let c17 = c7 .before .before .before .before .before .before .before .before .before .before in
-    answer-asks (c17 .args .first .now) (c17 .args .second .now) (c7 .positions-of .ensures) (c5 .positions-of2 .ensures) _
-    (has-rows _ _ (omega (arith, c7 .positions-of .ensures .few)))
+    let c9 = c7 .before .before in
+    let c12 = c9 .before .before .before in
+    let c17 = c12 .before .before .before .before .before in
+    both-accepted (c17 .args .first .now) (c17 .args .second .now) (first-accepted c12) (second-accepted c9)
+    (c7 .positions-of .ensures) (c5 .positions-of2 .ensures) (answer-swapped (c .in-table .ensures))
+
+slice-aggregate-in-table-3 : tie.Need-slice-aggregate-in-table-3
+slice-aggregate-in-table-3 c = search needs
+
+slice-aggregate-in-table-4 : tie.Need-slice-aggregate-in-table-4
+slice-aggregate-in-table-4 c = search needs
+
+in-table-requires-2 : tie.Need-in-table-requires-2
+in-table-requires-2 c κs =
+    let c4 = c .before .before .before .before in
+    let c6 = c4 .before .before in
+    let c16 = c6 .before .before .before .before .before .before .before .before .before .before in
+    fronts-asks (c16 .args .first .now) (c16 .args .second .now) (c6 .positions-of .ensures) (c4 .positions-of2 .ensures)
 
 returns-5 : tie.Need-returns-5
 returns-5 c =
-    let c7 = c .before .before .before .before .before .before .before in
+    let c5 = c .before .before .before .before .before in
+    let c7 = c5 .before .before in
     let c9 = c7 .before .before in
-    let c11 = c9 .before .before in
-    let c14 = c11 .before .before .before in
-    let c19 = c14 .before .before .before .before .before in
-    both-accepted (c19 .args .first .now) (c19 .args .second .now) (first-accepted c14) (second-accepted c11)
-    (c9 .positions-of .ensures) (c7 .positions-of2 .ensures) (c .before .answer3 .ensures)
+    let c12 = c9 .before .before .before in
+    let c17 = c12 .before .before .before .before .before in
+    both-accepted (c17 .args .first .now) (c17 .args .second .now) (first-accepted c12) (second-accepted c9)
+    (c7 .positions-of .ensures) (c5 .positions-of2 .ensures) (c .in-table2 .ensures)
 
 pub analyse-spec : {M : Type 1} → statement M
 analyse-spec =
@@ -139,18 +154,19 @@ analyse-spec =
     returns-2
     positions-of-requires
     positions-of-requires-2
+    mul-size
+    slice-aggregate-clear
+    clear-requires
     slice-aggregate-answer
     slice-aggregate-answer-2
     slice-aggregate-answer-3
     answer-requires
     returns-3
-    slice-aggregate-answer-4
-    slice-aggregate-answer-5
-    slice-aggregate-answer-6
-    answer-requires-2
+    slice-aggregate-in-table
+    slice-aggregate-in-table-2
+    in-table-requires
     returns-4
-    slice-aggregate-answer-7
-    slice-aggregate-answer-8
-    slice-aggregate-answer-9
-    answer-requires-3
+    slice-aggregate-in-table-3
+    slice-aggregate-in-table-4
+    in-table-requires-2
     returns-5)

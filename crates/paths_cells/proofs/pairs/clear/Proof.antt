@@ -1,44 +1,37 @@
--- `pairs::clear`. The invariant: the bytes below i are zero.
+-- `pairs::clear`. The invariant: the bytes below i are zero, those from there on as they were.
 use mathlib.Core.Path.{_≡_, refl, _∙_}
-use Prim.Native.Nat.{ℕ, _*_, _-_, _≤_, _<_}
+use Prim.Native.Nat.{ℕ, _-_, _≤_, _<_}
 use native.Mathlib.Omega.{arith}
 use lib.ListN.{length, getD, length-set}
-use Rattle.paths_cells.proofs.PairLaws.{rows-fit, zeroed, cleared}
+use Rattle.paths_cells.proofs.MarkLaws.{zeroed, all-zero}
 use borrow.Author.Needs.{needs}
 use Rattle.paths_cells.proofs.pairs.clear.Statement.{statement}
 use Rattle.paths_cells.proofs.pairs.clear.Tie as tie
-use Rattle.paths_positions.specs.Steps.{maxPositions}
 
 abbrev Inv-loop : tie.InvT-loop
-Inv-loop table₀ rows end i₀ table i = (i ≤ maxPositions * rows) × (length table ≡ length table₀) × ((j : ℕ) → j < i → getD table j 0 ≡ 0)
+Inv-loop table₀ i₀ table i = (i ≤ length table) × (length table ≡ length table₀) × ((j : ℕ) → j < i → getD table j 0 ≡ 0)
 
 abbrev μ-loop : tie.MeasureT-loop
-μ-loop table₀ rows end i₀ table i = maxPositions * rows - i
-
-mul-end : tie.Need-mul-end Inv-loop μ-loop
-mul-end c = omega (arith, rows-fit (c .args .table .now) (c .args .rows) (c .pre))
+μ-loop table₀ i₀ table i = length table - i
 
 loop-holds : tie.Need-loop-holds Inv-loop μ-loop
 loop-holds c = (omega arith, refl, λ j h. absurd (omega arith))
 
 slice-write-table : tie.Need-slice-write-table Inv-loop μ-loop
-slice-write-table c =
-    let c2 = c .before .before in
-    omega (arith, rows-fit (c2 .args .table .now) (c2 .args .rows) (c2 .pre))
+slice-write-table c = search needs
 
 add-i : tie.Need-add-i Inv-loop μ-loop
-add-i c = search (rows-fit (c .before .before .args .table .now) (c .before .before .args .rows) (c .before .before .pre), needs)
+add-i c = search needs
 
 loop-less : tie.Need-loop-less Inv-loop μ-loop
-loop-less c = search needs
+loop-less c = omega (arith, length-set (c .before .loop .table) (c .before .loop .i) 0)
 
 loop-again : tie.Need-loop-again Inv-loop μ-loop
 loop-again c =
-    let c2 = c .before .before in (
-      omega arith,
-      length-set (c .before .loop .table) (c .before .loop .i) _ ∙ c .before .loop .inv .1,
-      zeroed
-          (c .before .loop .table) (c .before .loop .i) (omega (arith, rows-fit (c2 .args .table .now) (c2 .args .rows) (c2 .pre)))
+    let e = length-set (c .before .loop .table) (c .before .loop .i) 0 in (
+      omega (arith, e),
+      e ∙ c .before .loop .inv .1,
+      zeroed (c .before .loop .table) (c .before .loop .i) (omega arith)
           (c .before .loop .inv .2),
     )
 
@@ -48,20 +41,7 @@ same-length c = search needs
 returns : tie.Need-returns Inv-loop μ-loop
 returns c =
     let c2 = c .before .before in
-    cleared (c2 .args .table .now) (c2 .args .rows) (c .before .loop .table) (c .before .loop .inv .1) (λ i h. c .before .loop .inv .2
-    i (omega arith))
+    all-zero (c2 .args .table .now) (c .before .loop .table) (c .before .loop .inv .1) (λ i h. c .before .loop .inv .2 i (omega arith))
 
 pub clear-spec : {M : Type 1} → statement M
-clear-spec =
-    tie.close
-    (tie.spec
-    Inv-loop
-    μ-loop
-    mul-end
-    loop-holds
-    slice-write-table
-    add-i
-    loop-less
-    loop-again
-    same-length
-    returns)
+clear-spec = tie.close (tie.spec Inv-loop μ-loop loop-holds slice-write-table add-i loop-less loop-again same-length returns)

@@ -1,78 +1,79 @@
--- `meet::positions_meet`. The invariant: the rows below k are filled, and none of them meets.
-use mathlib.Core.Path.{_≡_, refl, ap, sym, _∙_}
-use mathlib.Core.Bool.{Bool, false}
-use mathlib.Core.List.{List}
-use Prim.Native.Nat.{ℕ, _-_, _≤_}
+-- `meet::positions_meet` fills row after row, up to one that meets.
+use mathlib.Core.Path.{_≡_, refl, _∙_}
+use Prim.Native.Nat.{_-_, _≤_}
 use native.Mathlib.Omega.{arith}
-use lib.ListN.{length, length-map}
-use Rattle.paths_positions.specs.Answer.{rowMeets, anyUpTo}
-use Rattle.paths_positions.specs.Filled.{Filled}
-use Rattle.paths_positions.specs.Packed.{entryOf, entriesBy}
-use Rattle.paths_cells.specs.Pairs.{marks, HasRows}
-use Rattle.paths_positions.proofs.AnyUpToLaws.{anyUpTo-one, anyUpTo-next, anyUpTo-found}
-use Rattle.paths_fill.proofs.FillLaws.{first-nothing, none-filled}
+use lib.ListN.{length, length-set}
+use Rattle.paths_positions.specs.Steps.{maxPositions}
+use Rattle.paths_fill.proofs.TableLaws.{RowsTo, rows-none, row-asked, meets-asked, rows-next, one-meets, none-meets}
 use borrow.Author.Needs.{needs}
 use Rattle.paths_fill.proofs.meet.positions_meet.Statement.{statement}
 use Rattle.paths_fill.proofs.meet.positions_meet.Tie as tie
-
--- whether a row meets
-abbrev meetsRow : (first second : List ℕ) → ℕ → Bool
-meetsRow ws us i = rowMeets (entriesBy ws) (entriesBy us) i (length (entriesBy us))
+use Rattle.paths_fill.proofs.meet.positions_meet.Reads as reads
+use Rattle.paths_fill.proofs.meet.positions_meet.Lts as lts
+use Rattle.paths_cells.proofs.pairs.bit.Reads as bit-reads
+use Rattle.paths_fill.proofs.meet.row.Reads as row-reads
+use Rattle.paths_fill.proofs.meet.row_meets.Reads as row-meets-reads
+use Rattle.paths_rows.proofs.columns.spread.Reads as spread-reads
 
 abbrev Inv-loop : tie.InvT-loop
-Inv-loop first second table₀ k₀ table k =
-    (k ≤ length first) × (length table ≡ length table₀) × HasRows table (length first) × Filled (entriesBy first) (entriesBy second) k
-    0 (marks table) × (anyUpTo (meetsRow first second) k ≡ false)
+Inv-loop first second table₀ columns live₀ k₀ table live k =
+    (k ≤ length first) × (length live ≡ maxPositions) × (length table ≡ length table₀) × RowsTo first second k live table
 
 abbrev μ-loop : tie.MeasureT-loop
-μ-loop first second table₀ k₀ table k = length first - k
+μ-loop first second table₀ columns live₀ k₀ table live k = length first - k
 
-clear-requires : tie.Need-clear-requires Inv-loop μ-loop
-clear-requires c κs =
-    let c4 = c .before .before .before .before in
-    c4 .pre .room
+slice-aggregate-spread : tie.Need-slice-aggregate-spread Inv-loop μ-loop
+slice-aggregate-spread c = search needs
+
+spread-requires : tie.Need-spread-requires Inv-loop μ-loop
+spread-requires c κs = record { few = c .before .before .before .before .pre .second .few; size = search needs }
 
 loop-holds : tie.Need-loop-holds Inv-loop μ-loop
-loop-holds c =
-    let c2 = c .before .before in
-    let c7 = c2 .before .before .before .before .before in (
-      c7 .pre .first .some,
-      refl,
-      c2 .clear .ensures .room (length (c7 .args .first .now)) (c7 .pre .room),
-      none-filled
-          (c7 .args .first .now) (c7 .args .second .now) (c7 .args .table .now) (c2 .clear .last .0) (c7 .pre .first) (c7 .pre .second)
-          (c2 .clear .ensures),
-      anyUpTo-one (meetsRow (c7 .args .first .now) (c7 .args .second .now)) (first-nothing
-          (entriesBy (c7 .args .first .now)) (entriesBy (c7 .args .second .now)) (c7 .pre .first .nothing)
-          (length (entriesBy (c7 .args .second .now)))),
-    )
+loop-holds c = (omega arith, refl, refl, rows-none _ (c .before .before .before .before .before .before .pre))
+
+slice-aggregate-row : tie.Need-slice-aggregate-row Inv-loop μ-loop
+slice-aggregate-row c = search needs
+
+slice-aggregate-row-2 : tie.Need-slice-aggregate-row-2 Inv-loop μ-loop
+slice-aggregate-row-2 c = search needs
 
 row-requires : tie.Need-row-requires Inv-loop μ-loop
 row-requires c κs =
-    let c10 = c .before .before .before .before .before .before .before .before .before .before in
-    record {
-      first = c10 .pre .first;
-      second = c10 .pre .second;
-      room = c .before .before .loop .inv .2;
-      row = c .before .loop-test .taken;
-      filled =
-          c .before .before .loop .inv .3;
-    }
+    let c4 = c .before .before .before .before in
+    let c6 = c4 .before .before in
+    let c11 = c6 .before .before .before .before .before in
+    row-asked (c11 .pre) (c6 .spread .ensures) (omega arith) (c4 .loop .inv .1) (c4 .loop .inv .3)
+
+bit-requires : tie.Need-bit-requires Inv-loop μ-loop
+bit-requires c κs = search needs
+
+array-write-live : tie.Need-array-write-live Inv-loop μ-loop
+array-write-live c =
+    let c15 = c .before .before .before .before .before .before .before .before .before .before .before .before .before .before .before in
+    omega (arith, c15 .pre .first .few)
+
+slice-aggregate-row-meets : tie.Need-slice-aggregate-row-meets Inv-loop μ-loop
+slice-aggregate-row-meets c = search needs
+
+row-meets-requires : tie.Need-row-meets-requires Inv-loop μ-loop
+row-meets-requires c κs =
+    let c5 = c .before .before .before .before .before in
+    let c12 = c5 .before .before .before .before .before .before .before in
+    let c17 = c12 .before .before .before .before .before in
+    meets-asked (c17 .pre) (c12 .spread .ensures) (omega arith) (c5 .row .ensures)
 
 same-length : tie.Need-same-length Inv-loop μ-loop
 same-length c =
-    let c3 = c .before .before .before in
-    let c6 = c3 .before .before .before in
-    let c9 = c6 .before .before .before in
-    c3 .row .kept .1 .1 .0 ∙ c6 .loop .inv .1 ∙ c9 .clear .kept .0
+    let c7 = c .before .before .before .before .before .before .before in
+    let c12 = c7 .before .before .before .before .before in
+    c7 .row .ensures .size ∙ c12 .loop .inv .2
 
 returns : tie.Need-returns Inv-loop μ-loop
 returns c =
-    let c3 = c .before .before .before in
-    let c6 = c3 .before .before .before in
-    let c14 = c6 .before .before .before .before .before .before .before .before in
-    anyUpTo-found (meetsRow (c14 .args .first .now) (c14 .args .second .now)) (c6 .loop .k) (length (entriesBy (c14 .args .first .now)))
-    (omega (arith, length-map (c14 .args .first .now) entryOf)) (sym (c3 .row .ensures .met) ∙ c .if1 .taken)
+    let c12 = c .before .before .before .before .before .before .before .before .before .before .before .before in
+    let c19 = c12 .before .before .before .before .before .before .before in
+    one-meets (c19 .args .first .now) (c19 .args .second .now) (c12 .loop .k) (omega arith) (c .before .row-meets .ensures)
+    (c .if1 .taken)
 
 add-k : tie.Need-add-k Inv-loop μ-loop
 add-k c = search needs
@@ -82,28 +83,28 @@ loop-less c = search needs
 
 loop-again : tie.Need-loop-again Inv-loop μ-loop
 loop-again c =
-    let c3 = c .before .before .before in
-    let c6 = c3 .before .before .before in
-    let c14 = c6 .before .before .before .before .before .before .before .before in (
+    let c4 = c .before .before .before .before in
+    let c7 = c4 .before .before .before in
+    let c12 = c7 .before .before .before .before .before in
+    let c14 = c12 .before .before in
+    let c19 = c14 .before .before .before .before .before in (
       omega arith,
-      c3 .row .kept .1 .1 .0 ∙ c6 .loop .inv .1,
-      c3 .row .ensures .room,
-      c3 .row .ensures .filled (c .if1 .left),
-      anyUpTo-next (meetsRow (c14 .args .first .now) (c14 .args .second .now)) (c6 .loop .k) (c3 .row .result) (c6 .loop .inv .4)
-          (c3 .row .ensures .met) (c .if1 .left),
+      length-set (c12 .loop .live) (c12 .loop .k) (c4 .bit .result) ∙ c12 .loop .inv .1,
+      c7 .row .ensures .size ∙
+          c12 .loop .inv .2,
+      rows-next (c19 .pre) (c14 .spread .ensures) (omega arith) (c7 .row .ensures) (c12 .loop .inv .3)
+          (c12 .loop .inv .1) (c4 .bit .result) (c4 .bit .ensures .0) (c .before .row-meets .result) (c .before .row-meets .ensures)
+          (c .if1 .left),
     )
 
 same-length-2 : tie.Need-same-length-2 Inv-loop μ-loop
-same-length-2 c =
-    let c4 = c .before .before .before .before in
-    c .before .loop .inv .1 ∙ c4 .clear .kept .0
+same-length-2 c = c .before .loop .inv .2
 
 returns-2 : tie.Need-returns-2 Inv-loop μ-loop
 returns-2 c =
-    let c9 = c .before .before .before .before .before .before .before .before .before in
-    let e : length (c9 .args .first .now) ≡ c .before .loop .k = omega (arith, c .before .loop .inv .0) in
-    sym (ap (anyUpTo (meetsRow (c9 .args .first .now) (c9 .args .second .now))) (length-map (c9 .args .first .now) entryOf ∙ e) ∙
-    c .before .loop .inv .4)
+    let c8 = c .before .before .before .before .before .before .before .before in
+    none-meets (c8 .args .first .now) (c8 .args .second .now) (c .before .loop .live) (c .before .loop .table) (c .before .loop .k)
+    (c .before .loop .inv .3) (omega arith)
 
 pub positions-meet-spec : {M : Type 1} → statement M
 positions-meet-spec =
@@ -111,9 +112,16 @@ positions-meet-spec =
     (tie.spec
     Inv-loop
     μ-loop
-    clear-requires
+    slice-aggregate-spread
+    spread-requires
     loop-holds
+    slice-aggregate-row
+    slice-aggregate-row-2
     row-requires
+    bit-requires
+    array-write-live
+    slice-aggregate-row-meets
+    row-meets-requires
     same-length
     returns
     add-k

@@ -1,163 +1,138 @@
--- `meet::row`. The invariant: the row is filled up to l, and none of its pairs so far meets.
-use mathlib.Core.Path.{_≡_, refl, ap, sym, _∙_}
-use mathlib.Core.Bool.{false, true≢false}
-use Prim.Native.Nat.{_-_, _≤_}
+-- `meet::row`: each kind of position.
+use mathlib.Core.Path.{_≡_, ap}
 use native.Mathlib.Omega.{arith}
 use lib.Dec.{eqb}
-use lib.ListN.{length, length-map}
+use lib.ListN.{getD}
 use borrow.Author.Tests.{eqb-true}
 use Rattle.model.proofs.BoolLaws.{and-left, and-right}
-use Rattle.paths_positions.specs.Answer.{meetAt, rowMeets}
-use Rattle.paths_positions.specs.Filled.{Filled}
-use Rattle.paths_positions.specs.Packed.{entryOf, unionKind, plainRole, entriesBy}
-use Rattle.paths_cells.specs.Pairs.{marks, HasRows}
-use Rattle.paths_positions.proofs.AnyUpToLaws.{anyUpTo-one, anyUpTo-next, anyUpTo-found}
-use Rattle.paths_fill.proofs.FillLaws.{meet-asks, plain-row, second-nothing, row-started, row-filled}
+use Rattle.paths_positions.specs.declared.packed.Position.{Position}
+use Rattle.paths_positions.specs.Packed.{rootKind, overKind, unionKind}
+use Rattle.paths_fill.proofs.RowLaws.{row-none}
+use Rattle.paths_fill.proofs.StepLaws.{operand-low, dead-row}
+use Rattle.paths_fill.proofs.TableLaws.{parts, union-apart, of-kind, live-within, nothing-apart}
 use borrow.Author.Needs.{needs}
 use Rattle.paths_fill.proofs.meet.row.Statement.{statement}
 use Rattle.paths_fill.proofs.meet.row.Tie as tie
 
-abbrev Inv-loop : tie.InvT-loop
-Inv-loop first second table₀ k p l₀ table l =
-    (l ≤ length second) × (length table ≡ length table₀) × HasRows table (length first) × Filled (entriesBy first) (entriesBy second)
-    k l (marks table) × (rowMeets (entriesBy first) (entriesBy second) k l ≡ false)
-
-abbrev μ-loop : tie.MeasureT-loop
-μ-loop first second table₀ k p l₀ table l = length second - l
-
-mul-unpacked : tie.Need-mul-unpacked Inv-loop μ-loop
+mul-unpacked : tie.Need-mul-unpacked
 mul-unpacked c = search needs
 
-shared-slice-read-unpacked : tie.Need-shared-slice-read-unpacked Inv-loop μ-loop
-shared-slice-read-unpacked c = search needs
+shared-slice-read-unpacked : tie.Need-shared-slice-read-unpacked
+shared-slice-read-unpacked c = search (c .before .before .before .before .before .before .pre .fill .row, needs)
 
-unpacked-requires : tie.Need-unpacked-requires Inv-loop μ-loop
+unpacked-requires : tie.Need-unpacked-requires
 unpacked-requires c κs = search needs
 
-union-row-requires : tie.Need-union-row-requires Inv-loop μ-loop
-union-row-requires c κs =
-    let c4 = c .before .before .before .before in
-    let c9 = c4 .before .before .before .before .before in
-    record {
-      row = c9 .pre;
-      position = c4 .unpacked .ensures;
-      union = eqb-true (c4 .unpacked .result .kind) unionKind (and-left
-          (eqb (c4 .unpacked .result .kind) unionKind) _ (c .before .if1 .taken));
-    }
+root-row-requires : tie.Need-root-row-requires
+root-row-requires c κs =
+    let c3 = c .before .before .before in
+    let c10 = c3 .before .before .before .before .before .before .before in
+    of-kind (c10 .pre) (c3 .unpacked .result) rootKind (c3 .unpacked .ensures) (c .before .if1 .taken)
 
-same-length : tie.Need-same-length Inv-loop μ-loop
-same-length c = c .before .before .union-row .kept .1 .1 .0
+same-length : tie.Need-same-length
+same-length c = c .before .before .root-row .ensures .size
 
-returns : tie.Need-returns Inv-loop μ-loop
-returns c =
-    let c2 = c .before .before in
-    let c4 = c2 .before .before in
-    let c7 = c4 .before .before .before in
-    let c12 = c7 .before .before .before .before .before in
-    record {
-      room = c2 .union-row .ensures .room;
-      filled = λ e. c2 .union-row .ensures .filled;
-      met = plain-row
-          (c12 .args .first .now) (c12 .args .second .now) (c12 .args .k) (c7 .unpacked .result) (c7 .unpacked .ensures) (eqb-true
-          (c7 .unpacked .result .role) plainRole
-          (and-right (eqb (c7 .unpacked .result .kind) unionKind) (eqb (c7 .unpacked .result .role) plainRole) (c4 .if1 .taken)))
-          (length (entriesBy (c12 .args .second .now)));
-    }
+returns : tie.Need-returns
+returns c = c .before .before .root-row .ensures
 
-loop-holds : tie.Need-loop-holds Inv-loop μ-loop
-loop-holds c =
-    let c8 = c .before .before .before .before .before .before .before .before in (
-      c8 .pre .second .some,
-      refl,
-      c8 .pre .room,
-      row-started (c8 .args .first .now) (c8 .args .second .now) (c8 .args .table .now)
-          (c8 .args .k) (c8 .pre .row) (c8 .pre .second) (c8 .pre .filled),
-      anyUpTo-one (meetAt (entriesBy (c8 .args .first .now))
-          (entriesBy (c8 .args .second .now)) (c8 .args .k)) (second-nothing (entriesBy (c8 .args .first .now))
-          (entriesBy (c8 .args .second .now)) (c8 .pre .second .nothing) (c8 .args .k)),
-    )
+shared-slice-read-if3 : tie.Need-shared-slice-read-if3
+shared-slice-read-if3 c =
+    let c5 = c .before .before .before .before .before in
+    let c12 = c5 .before .before .before .before .before .before .before in
+    live-within (c12 .pre)
+    (operand-low (of-kind (c12 .pre) (c5 .unpacked .result) overKind (c5 .unpacked .ensures) (c .before .if2 .taken)))
 
-pair-requires : tie.Need-pair-requires Inv-loop μ-loop
-pair-requires c κs =
+returns-2 : tie.Need-returns-2
+returns-2 c =
     let c2 = c .before .before in
     let c6 = c2 .before .before .before .before in
-    let c11 = c6 .before .before .before .before .before in
-    meet-asks (c11 .pre) (c6 .unpacked .ensures) (c2 .loop .inv .2) (c .before .loop-test .taken) (c2 .loop .inv .3)
+    let c13 = c6 .before .before .before .before .before .before .before in
+    let at = of-kind (c13 .pre) (c6 .unpacked .result) overKind (c6 .unpacked .ensures) (c2 .if2 .taken) in
+    row-none (c13 .pre .filled) (c13 .pre .fill .row)
+    (dead-row at (c13 .pre .apart (c6 .unpacked .result .first) (operand-low at) (c .if3 .taken)))
 
-same-length-2 : tie.Need-same-length-2 Inv-loop μ-loop
-same-length-2 c =
+step-row-requires : tie.Need-step-row-requires
+step-row-requires c κs =
     let c3 = c .before .before .before in
-    let c6 = c3 .before .before .before in
-    c3 .pair .kept .1 .1 .0 ∙ c6 .loop .inv .1
+    let c7 = c3 .before .before .before .before in
+    let c14 = c7 .before .before .before .before .before .before .before in
+    of-kind (c14 .pre) (c7 .unpacked .result) overKind (c7 .unpacked .ensures) (c3 .if2 .taken)
 
-returns-2 : tie.Need-returns-2 Inv-loop μ-loop
-returns-2 c =
+same-length-2 : tie.Need-same-length-2
+same-length-2 c = c .before .before .step-row .ensures .size
+
+returns-3 : tie.Need-returns-3
+returns-3 c = c .before .before .step-row .ensures
+
+shared-slice-read-if5 : tie.Need-shared-slice-read-if5
+shared-slice-read-if5 c =
+    let c7 = c .before .before .before .before .before .before .before in
+    let c14 = c7 .before .before .before .before .before .before .before in
+    live-within (c14 .pre)
+    (parts (of-kind (c14 .pre) (c7 .unpacked .result) unionKind (c7 .unpacked .ensures) (c .before .if4 .taken)) .0)
+
+shared-slice-read-if5-2 : tie.Need-shared-slice-read-if5-2
+shared-slice-read-if5-2 c =
+    let c2 = c .before .before in
+    let c8 = c2 .before .before .before .before .before .before in
+    let c15 = c8 .before .before .before .before .before .before .before in
+    live-within (c15 .pre) (parts (of-kind (c15 .pre) (c8 .unpacked .result) unionKind (c8 .unpacked .ensures) (c2 .if4 .taken)) .1)
+
+returns-4 : tie.Need-returns-4
+returns-4 c =
     let c3 = c .before .before .before in
-    let c6 = c3 .before .before .before in
-    let c15 = c6 .before .before .before .before .before .before .before .before .before in
-    record {
-      room = c3 .pair .ensures .room;
-      filled = λ e. absurd (true≢false e);
-      met = anyUpTo-found (meetAt
-          (entriesBy (c15 .args .first .now)) (entriesBy (c15 .args .second .now)) (c15 .args .k)) (c6 .loop .l)
-          (length (entriesBy (c15 .args .second .now))) (omega (arith, length-map (c15 .args .second .now) entryOf))
-          (sym (c3 .pair .ensures .met) ∙ c .if2 .taken);
-    }
+    let c9 = c3 .before .before .before .before .before .before in
+    let c16 = c9 .before .before .before .before .before .before .before in
+    let at = of-kind (c16 .pre) (c9 .unpacked .result) unionKind (c9 .unpacked .ensures) (c3 .if4 .taken) in
+    let one = eqb (getD (c16 .args .live .now) (c9 .unpacked .result .first) 0) 0 in
+    let two = eqb (getD (c16 .args .live .now) (c9 .unpacked .result .second) 0) 0 in
+    row-none (c16 .pre .filled) (c16 .pre .fill .row)
+    (union-apart at (c16 .pre .apart (c9 .unpacked .result .first) (parts at .0) (eqb-true _ 0 (and-left one two (c .if5 .taken))))
+    (c16 .pre .apart (c9 .unpacked .result .second) (parts at .1) (eqb-true _ 0 (and-right one two (c .if5 .taken)))))
 
-add-l : tie.Need-add-l Inv-loop μ-loop
-add-l c = search needs
+union-row-requires : tie.Need-union-row-requires
+union-row-requires c κs =
+    let c4 = c .before .before .before .before in
+    let c10 = c4 .before .before .before .before .before .before in
+    let c17 = c10 .before .before .before .before .before .before .before in
+    of-kind (c17 .pre) (c10 .unpacked .result) unionKind (c10 .unpacked .ensures) (c4 .if4 .taken)
 
-loop-less : tie.Need-loop-less Inv-loop μ-loop
-loop-less c = search needs
+same-length-3 : tie.Need-same-length-3
+same-length-3 c = c .before .before .union-row .ensures .size
 
-loop-again : tie.Need-loop-again Inv-loop μ-loop
-loop-again c =
-    let c3 = c .before .before .before in
-    let c6 = c3 .before .before .before in
-    let c15 = c6 .before .before .before .before .before .before .before .before .before in (
-      omega arith,
-      c3 .pair .kept .1 .1 .0 ∙ c6 .loop .inv .1,
-      c3 .pair .ensures .room,
-      c3 .pair .ensures .filled,
-      anyUpTo-next (meetAt
-          (entriesBy (c15 .args .first .now)) (entriesBy (c15 .args .second .now)) (c15 .args .k)) (c6 .loop .l) (c3 .pair .result)
-          (c6 .loop .inv .4) (c3 .pair .ensures .met) (c .if2 .left),
-    )
+returns-5 : tie.Need-returns-5
+returns-5 c = c .before .before .union-row .ensures
 
-same-length-3 : tie.Need-same-length-3 Inv-loop μ-loop
-same-length-3 c = c .before .loop .inv .1
-
-returns-3 : tie.Need-returns-3 Inv-loop μ-loop
-returns-3 c =
-    let c10 = c .before .before .before .before .before .before .before .before .before .before in
-    let e : length (c10 .args .second .now) ≡ c .before .loop .l = omega (arith, c .before .loop .inv .0) in
-    record {
-      room = c .before .loop .inv .2;
-      filled = λ q. row-filled (c10 .args .first .now) (c10 .args .second .now)
-          (c .before .loop .table) (c10 .args .k) (c .before .loop .l) e (c .before .loop .inv .3);
-      met = sym (ap (rowMeets
-          (entriesBy (c10 .args .first .now)) (entriesBy (c10 .args .second .now)) (c10 .args .k))
-          (length-map (c10 .args .second .now) entryOf ∙ e) ∙ c .before .loop .inv .4);
-    }
+returns-6 : tie.Need-returns-6
+returns-6 c =
+    let c2 = c .before .before in
+    let c4 = c2 .before .before in
+    let c6 = c4 .before .before in
+    let c13 = c6 .before .before .before .before .before .before .before in
+    let e : c6 .unpacked .result .kind ≡ 0 = omega
+    (arith, c4 .if1 .left, c2 .if2 .left, c .if4 .left, ap (λ (x : Position). x .kind) (c6 .unpacked .ensures)) in
+    row-none (c13 .pre .filled) (c13 .pre .fill .row)
+    (nothing-apart (of-kind (c13 .pre) (c6 .unpacked .result) 0 (c6 .unpacked .ensures) e))
 
 pub row-spec : {M : Type 1} → statement M
 row-spec =
     tie.close
     (tie.spec
-    Inv-loop
-    μ-loop
     mul-unpacked
     shared-slice-read-unpacked
     unpacked-requires
-    union-row-requires
+    root-row-requires
     same-length
     returns
-    loop-holds
-    pair-requires
-    same-length-2
+    shared-slice-read-if3
     returns-2
-    add-l
-    loop-less
-    loop-again
+    step-row-requires
+    same-length-2
+    returns-3
+    shared-slice-read-if5
+    shared-slice-read-if5-2
+    returns-4
+    union-row-requires
     same-length-3
-    returns-3)
+    returns-5
+    returns-6)
