@@ -2,14 +2,14 @@
 //! shapes.
 
 use compare::generate::pairs::{with_bodies, Bodies};
-use compare::generate::positions;
+use compare::generate::positions::{self, MOST};
 use compare::generate::random::Random;
 use compare::oracle::analysis::Answer::{Free, Meet};
 use compare::oracle::limits::SCRIPT_RECORDS;
 use compare::oracle::script::{kind, read};
 
-use super::limits::{bodies, has_shape, Scripts};
-use super::{document, of, Counts, ALL_BELOW, DELETE, IF, LEAVES};
+use super::limits::{bodies, has_shape, small_stack, Scripts, OWN, SHARED};
+use super::{document, of, Counts, ALL_BELOW, CHILDREN, DELETE, IF, INSERT, LEAVES};
 use crate::harness::Difference;
 
 /// Records of a filler, which leaves room for a corner's; and the most positions
@@ -115,4 +115,42 @@ fn corner(
         [&part, &filler]
     };
     Some(of(&IF, &[one, two, &[kind::EMPTY]]))
+}
+
+/// The ifs of a script of the most positions.
+const MOST_IFS: usize = 15;
+
+/// The same in the largest table. One script modifies what is below a document by
+/// its last position alone, and the other reads the children of one, by an early
+/// position or a late one.
+pub fn of_largest() -> Result<Counts, Difference> {
+    let mut counts = Counts::default();
+    let [first, second] = OWN.map(|number| rich(MOST_IFS, number));
+    let insert = of(&INSERT, &[&of(&CHILDREN, &[&first]), &document(SHARED)]);
+    let early = second.iter().position(|&byte| byte == kind::DOCUMENT);
+    let early = early.expect("there are documents");
+    let late = second.len() - document(0).len();
+    for place in [early, late] {
+        for (number, expected) in [(SHARED, Meet), (OWN[1], Free)] {
+            let children = of(&CHILDREN, &[&document(number)]);
+            let after = &second[place + document(0).len()..];
+            let second = [&second[..place], &children, after].concat();
+            let delete = of(&DELETE, &[&of(&CHILDREN, &[&second])]);
+            for pair in [[insert.clone(), delete.clone()], [delete, insert.clone()]] {
+                has_shape(&pair, [MOST, MOST])?;
+                counts.compare_with(&pair[0], &pair[1], expected)?;
+                small_stack(&[pair])?;
+            }
+        }
+    }
+    Ok(counts)
+}
+
+/// An expression of so many ifs, with five positions for each, in four records.
+fn rich(ifs: usize, number: u8) -> Vec<u8> {
+    let Some(rest) = ifs.checked_sub(1) else {
+        return document(number).to_vec();
+    };
+    let [one, two, three] = [rest + 2, rest + 1, rest].map(|ifs| rich(ifs / 3, number));
+    of(&IF, &[&of(&DELETE, &[&one]), &two, &three])
 }

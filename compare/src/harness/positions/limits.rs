@@ -20,10 +20,8 @@ use crate::harness::{on_stack, Difference, Volume};
 const SEED: u64 = 0xE;
 /// The table of pairs has a size for at most so many pairs each, and one for all.
 const SIZES: [usize; 4] = [64, 1280, 2560, 4608];
-/// Scripts made for each number of positions, and for the most; their bodies
-/// change with each use.
+/// Scripts made for each number of positions; their bodies change with each use.
 const SCRIPTS: usize = 4;
-const LARGEST_SCRIPTS: usize = 16;
 /// Free pairs for each size and side, at the usual volume and at the least.
 const FREE_PAIRS: (usize, usize) = (300, 90);
 /// At least so many crossings are free, and so many meet.
@@ -32,15 +30,15 @@ const LEAST_CROSSINGS: u64 = 100;
 const LEAST_HELD: f64 = 20.0;
 /// Free pairs with the largest table, and pairs that are crossed.
 const LARGEST: usize = 40;
-const LARGEST_CROSSED: usize = 4;
+const LARGEST_CROSSED: usize = 2;
 /// So many pairs are tried for one that meets, from which a free one is made.
 const MEETING_TRIES: usize = 20;
 /// Of each free pair so many that meet are tried, one record apart from it.
 const APART: usize = 2;
 /// Documents that only one of the scripts of a pair holds. The others are lower.
-const OWN: [u8; 2] = [6, 7];
+pub const OWN: [u8; 2] = [6, 7];
 /// A document that two scripts both hold.
-const SHARED: u8 = 0;
+pub const SHARED: u8 = 0;
 /// Documents of two scripts: the first of each and how many.
 const DOCUMENTS: [[(u8, u8); 2]; 5] = [
     [(0, 1), (0, 1)],
@@ -49,6 +47,8 @@ const DOCUMENTS: [[(u8, u8); 2]; 5] = [
     [(0, 4), (3, 3)],
     [(0, 3), (2, 1)],
 ];
+
+pub type Pair = [Vec<u8>; 2];
 
 /// On which side of a size a number of pairs is.
 #[derive(Clone, Copy)]
@@ -83,13 +83,7 @@ pub struct Scripts(Vec<Vec<Vec<u8>>>);
 
 impl Scripts {
     pub fn new(most: usize, mut script: impl FnMut(usize) -> Vec<u8>) -> Scripts {
-        let mut scripts = |positions| {
-            let count = match positions {
-                MOST => LARGEST_SCRIPTS,
-                _ => SCRIPTS,
-            };
-            (0..count).map(|_| script(positions)).collect()
-        };
+        let mut scripts = |positions| (0..SCRIPTS).map(|_| script(positions)).collect();
         Scripts((1..=most).map(&mut scripts).collect())
     }
 
@@ -118,12 +112,11 @@ pub fn test(volume: Volume) -> Result<String, Difference> {
             let shapes = shapes(size, side);
             let [first, second] = nearest(&shapes, size);
             let table = format!("{name} {size} pairs of positions, nearest {first} by {second}");
-            let mut edges = Counts::default();
-            for index in 0..pairs {
-                let shape = shapes[index % shapes.len()];
-                held.count(&edge(&mut edges, &mut random, &scripts, shape)?);
-            }
+            let shapes_in_turn = shapes.iter().copied().cycle().take(pairs);
+            let (edges, compared) = edges(&mut random, &scripts, shapes_in_turn)?;
             edges.require_at_least(pairs as u64 / 3, &table)?;
+            small_stack(&compared)?;
+            held.count(&compared);
             let corners = corners::test(&mut random, &fillers, &shapes, &table)?;
             let crossings = crossed(&mut random, &scripts, [first, second])?;
             all_crossings.add(crossings);
@@ -131,12 +124,11 @@ pub fn test(volume: Volume) -> Result<String, Difference> {
         }
     }
     all_crossings.require_at_least(LEAST_CROSSINGS, "crossings")?;
-    let mut largest = Counts::default();
-    for _ in 0..LARGEST {
-        for shape in [[MOST, MOST], [MOST, 1], [1, MOST]] {
-            edge(&mut largest, &mut random, &scripts, shape)?;
-        }
-    }
+    let mut largest = corners::of_largest()?;
+    let shapes = [[MOST, MOST], [MOST, 1], [1, MOST]].repeat(LARGEST);
+    let (more, compared) = edges(&mut random, &scripts, shapes)?;
+    small_stack(&compared)?;
+    largest.add(more);
     for _ in 0..LARGEST_CROSSED {
         largest.add(crossed(&mut random, &scripts, [MOST, MOST])?);
     }
@@ -172,8 +164,8 @@ const HELD: [(&str, Holds); 6] = [
 ];
 
 impl Held {
-    fn count(&mut self, pair: &[Vec<u8>; 2]) {
-        for bytes in pair {
+    fn count(&mut self, pairs: &[Pair]) {
+        for bytes in pairs.iter().flatten() {
             let script = read(bytes).expect("within the limits");
             let records = script.records();
             self.scripts += 1;
@@ -207,32 +199,34 @@ fn nearest(shapes: &[[usize; 2]], size: usize) -> [usize; 2] {
     *shapes.iter().min_by_key(key).expect("there are shapes")
 }
 
-/// Compares a free pair of so many positions, and some pairs that meet and have
-/// one document other than it. So these meet by few positions, any of the table.
-/// Answers the free one.
-fn edge(
-    counts: &mut Counts,
+/// Compares a free pair of each shape, and some pairs that meet and have one
+/// document other than it. So these meet by few positions, any of the table.
+/// Answers the pairs too.
+fn edges(
     random: &mut Random,
     scripts: &Scripts,
-    shape: [usize; 2],
-) -> Result<[Vec<u8>; 2], Difference> {
-    let mut pair = meeting(random, scripts, shape);
-    let mut apart = make_free(random, &mut pair);
-    has_shape(&pair, shape)?;
-    counts.compare(&pair[0], &pair[1])?;
-    small_stack(&pair)?;
-    apart.truncate(APART);
-    for document in apart {
-        document.put_back(&mut pair);
-        counts.compare(&pair[0], &pair[1])?;
-        small_stack(&pair)?;
-        document.replace(&mut pair, OWN[document.which]);
+    shapes: impl IntoIterator<Item = [usize; 2]>,
+) -> Result<(Counts, Vec<Pair>), Difference> {
+    let (mut counts, mut compared) = (Counts::default(), Vec::new());
+    for shape in shapes {
+        let mut pair = meeting(random, scripts, shape);
+        let apart = make_free(random, &mut pair);
+        has_shape(&pair, shape)?;
+        compared.push(pair.clone());
+        compared.extend(apart.iter().take(APART).map(|document| {
+            let mut pair = pair.clone();
+            document.put_back(&mut pair);
+            pair
+        }));
     }
-    Ok(pair)
+    for [first, second] in &compared {
+        counts.compare(first, second)?;
+    }
+    Ok((counts, compared))
 }
 
 /// A pair of scripts of so many positions each that meets, if one is found.
-fn meeting(random: &mut Random, scripts: &Scripts, shape: [usize; 2]) -> [Vec<u8>; 2] {
+fn meeting(random: &mut Random, scripts: &Scripts, shape: [usize; 2]) -> Pair {
     let mut pair = dressed(random, scripts, shape);
     for _ in 0..MEETING_TRIES {
         if !is_free(&pair) {
@@ -244,7 +238,7 @@ fn meeting(random: &mut Random, scripts: &Scripts, shape: [usize; 2]) -> [Vec<u8
 }
 
 /// A pair of scripts of so many positions each, with random bodies.
-fn dressed(random: &mut Random, scripts: &Scripts, shape: [usize; 2]) -> [Vec<u8>; 2] {
+fn dressed(random: &mut Random, scripts: &Scripts, shape: [usize; 2]) -> Pair {
     let documents = random.choose(&DOCUMENTS);
     [0, 1].map(|which| {
         let script = scripts.one_of(random, shape[which]);
@@ -253,7 +247,7 @@ fn dressed(random: &mut Random, scripts: &Scripts, shape: [usize; 2]) -> [Vec<u8
     })
 }
 
-fn is_free([first, second]: &[Vec<u8>; 2]) -> bool {
+fn is_free([first, second]: &Pair) -> bool {
     rival::analyse(first, second) == Answer::analysed(Free)
 }
 
@@ -278,18 +272,18 @@ struct Document {
 }
 
 impl Document {
-    fn replace(self, pair: &mut [Vec<u8>; 2], number: u8) {
+    fn replace(self, pair: &mut Pair, number: u8) {
         pair[self.which][self.place] = number;
     }
 
-    fn put_back(self, pair: &mut [Vec<u8>; 2]) {
+    fn put_back(self, pair: &mut Pair) {
         self.replace(pair, self.number);
     }
 }
 
 /// Puts documents of the scripts' own for others, just as many as make the pair
 /// free, in random order. Answers what was there: any of them makes it meet.
-fn make_free(random: &mut Random, pair: &mut [Vec<u8>; 2]) -> Vec<Document> {
+fn make_free(random: &mut Random, pair: &mut Pair) -> Vec<Document> {
     let mut documents = documents(pair);
     for index in 1..documents.len() {
         documents.swap(index, random.below(index + 1));
@@ -342,7 +336,7 @@ fn crossed(
 }
 
 /// The documents of a pair of sound scripts.
-fn documents(pair: &[Vec<u8>; 2]) -> Vec<Document> {
+fn documents(pair: &Pair) -> Vec<Document> {
     let mut documents = Vec::new();
     for (which, bytes) in pair.iter().enumerate() {
         let script = read(bytes).expect("within the limits");
@@ -360,7 +354,7 @@ fn documents(pair: &[Vec<u8>; 2]) -> Vec<Document> {
 }
 
 /// Have the scripts of a pair as many positions as meant?
-pub fn has_shape(pair: &[Vec<u8>; 2], shape: [usize; 2]) -> Result<(), Difference> {
+pub fn has_shape(pair: &Pair, shape: [usize; 2]) -> Result<(), Difference> {
     let counts = [0, 1].map(|which| read(&pair[which]).map(|script| count(&script)));
     match counts == shape.map(Ok) {
         true => Ok(()),
@@ -371,12 +365,15 @@ pub fn has_shape(pair: &[Vec<u8>; 2], shape: [usize; 2]) -> Result<(), Differenc
     }
 }
 
-/// The answer is the same on a stack of the size allowed.
-fn small_stack([first, second]: &[Vec<u8>; 2]) -> Result<(), Difference> {
-    let small = on_stack(STACK, || ffi::analyse(first, second));
-    if small != ffi::analyse(first, second) {
-        let message = "another answer on a small stack";
-        return Err(difference(Call::Analyse, &[first, second], message));
+/// The answers are the same on a stack of the size allowed.
+pub fn small_stack(pairs: &[Pair]) -> Result<(), Difference> {
+    let analyse = |[first, second]: &Pair| ffi::analyse(first, second);
+    let small: Vec<Answer> = on_stack(STACK, || pairs.iter().map(analyse).collect());
+    for (pair, small) in pairs.iter().zip(small) {
+        if small != analyse(pair) {
+            let message = "another answer on a small stack";
+            return Err(difference(Call::Analyse, &[&pair[0], &pair[1]], message));
+        }
     }
     Ok(())
 }
