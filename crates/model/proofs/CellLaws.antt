@@ -10,7 +10,7 @@ use Rattle.model.specs.Script.{Step}
 use Rattle.model.specs.Paths.{Place, Path, start, _▸_, withStep, documentPlace}
 use Rattle.model.specs.Meeting.{Cell, onCell, downCell, upCell, joinCell, isDeep, isParent, admitsElement, shareElement, shareLeaf}
 use Rattle.model.specs.Meeting.{onStep, downStep, upStep, startCell, startCells, stepCells, cell, isMet, meets, anyMeet}
-use Rattle.model.proofs.BoolLaws.{or-neither, or-swap}
+use Rattle.model.proofs.BoolLaws.{or-swap}
 use Rattle.model.proofs.MirrorLaws.{cell-equal}
 use Rattle.model.specs.Meeting.{noCell, sum, between, samePlace}
 
@@ -19,18 +19,9 @@ pub roots-are : (d e : ℕ) → onCell (eqb d e) false ≡ startCell (documentPl
 roots-are d e = ap (onCell (eqb d e)) (sym (and-false (eqb d e)))
 
 -- JOINING
-pub join-none : (c : Cell) → joinCell c noCell ≡ c
+join-none : (c : Cell) → joinCell c noCell ≡ c
 join-none c =
     cell-equal (joinCell c noCell) c (or-false (c .onElement)) (or-false (c .onLeaf)) (or-false (c .downElement)) (or-false (c .upElement))
-
--- what joins to nothing is nothing
-pub join-nothing : (c d : Cell) → joinCell c d ≡ noCell → (c ≡ noCell) × (d ≡ noCell)
-join-nothing c d e =
-    let a = or-neither (c .onElement) (d .onElement) (ap (λ (x : Cell). x .onElement) e) in
-    let b = or-neither (c .onLeaf) (d .onLeaf) (ap (λ (x : Cell). x .onLeaf) e) in
-    let f = or-neither (c .downElement) (d .downElement) (ap (λ (x : Cell). x .downElement) e) in
-    let g = or-neither (c .upElement) (d .upElement) (ap (λ (x : Cell). x .upElement) e) in
-    (cell-equal c noCell (a .0) (b .0) (f .0) (g .0), cell-equal d noCell (a .1) (b .1) (f .1) (g .1))
 
 join-assoc : (c d e : Cell) → joinCell (joinCell c d) e ≡ joinCell c (joinCell d e)
 join-assoc c d e =

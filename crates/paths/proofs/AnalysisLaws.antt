@@ -16,7 +16,7 @@ use Rattle.plan_table.specs.declared.Refusal.{Refusal}
 use Rattle.script_records.specs.Walk.{exprAt}
 use Rattle.script.specs.Reading.{scriptRead}
 use Rattle.script.proofs.ScriptLaws.{script-accepted, script-parsed, read-refused}
-use Rattle.paths_positions.specs.Positions.{Entry, Emitted, emit, AreLower, entriesBefore, entriesOf, pathsFrom, pathsOn}
+use Rattle.paths_positions.specs.Positions.{Entry, Emitted, emit, AreLower, entriesBefore, entriesOf, pathsFrom}
 use Rattle.paths_positions.specs.Answer.{positionsMeet}
 use Rattle.paths_positions.specs.Packed.{entryOf, entriesIn, entriesBy, someLeadsUp}
 use Rattle.paths_cells.specs.Pairs.{relations, HasRows, cleared}
@@ -29,7 +29,6 @@ use Rattle.paths.specs.declared.Analysis.{Analysis}
 use Rattle.paths.specs.declared.Analysis.the-variants.{Refused, Upward}
 use Rattle.paths_positions.proofs.AnswerLaws.{emitted-right, answer-by, answer-turned}
 use Rattle.paths_positions.proofs.UpLaws.{someLeadsUp-is}
-use Rattle.paths_positions.proofs.PackedLaws.{entriesIn-length}
 use Rattle.paths_emit.proofs.SizeLaws.{script-records}
 
 -- THE POSITIONS of an accepted script

@@ -72,7 +72,8 @@ fn answer(first: &[usize], n: usize, second: &[usize], m: usize, table: &mut [u8
     Analysis::Free
 }
 
-// The answer in a table for many pairs. These tables stand in a frame of their own, since a frame is paid for by its size.
+// The answer in a table for many pairs. These tables are not in the frame of `analyse`, since all pages of a frame are touched when it is
+// entered.
 fn in_table(first: &[usize], n: usize, second: &[usize], m: usize) -> Analysis
     requires { ⌜ FrontsPre (now first) n (now second) m ⌝ }
     ensures { λ r. ⌜ AnswerPost (now (first .entry)) n (now (second .entry)) m r ⌝ }
@@ -99,7 +100,7 @@ fn in_table(first: &[usize], n: usize, second: &[usize], m: usize) -> Analysis
 }
 
 // The analysis of two scripts: the first refused, else whether they are free, hold an upward step, or meet. That does not depend on their
-// order, so the longer one is laid along the rows of the table: fewer rows, and longer ones.
+// order, so where there are many pairs the longer one is laid along the rows of the table: fewer rows, and longer ones.
 pub fn analyse(first: &[u8], second: &[u8]) -> Analysis
     ensures { λ r. ⌜ r ≡ analysed (now (first .entry)) (now (second .entry)) ⌝ }
 {

@@ -85,7 +85,7 @@ pub marksKept : MarksKept
 marksKept t m n cs room inside = (
   λ r k l h _ g. (at-pair r k l h g, marked-is (after m (cleared t) cs) m r k l (at-pair r k l h g)),
   after-length m (cleared t) cs ∙ cleared-length t,
-  λ i e. at-place i ∙ ap bit e ∙ sym (cleared-at t i),
+  at-place,
 )
   where
     at-place : (i : ℕ) → getD (after m (cleared t) cs) i 0 ≡ bit (any (sets m i) cs)

@@ -40,7 +40,7 @@ abbrev pub sets : (columns place : ℕ) → Call → Bool
 sets m i c = c .holds && eqb i (placeOf m (c .relation) (c .first) (c .second))
 
 -- REQUEST (e), the marks: after any calls from cleared marks the byte of a relation and a pair is 1 if one of the calls marked it, else 0,
--- and `is_marked` reads just that; the table is as long as it was; a byte that no call sets is as `clear` left it
+-- and `is_marked` reads just that; the table is as long as it was, and every byte of it that no call sets is the 0 that `clear` left
 abbrev pub MarksKept : Type 0
 MarksKept =
     (t : List ℕ) (m n : ℕ) (cs : List Call) → HasRows t m n → All (InTable m n) cs →
@@ -48,7 +48,7 @@ MarksKept =
     (markAt (after m (cleared t) cs) m r k l ≡ bit (any (marks r k l) cs)) ×
     (isMarked (after m (cleared t) cs) m r k l ≡ any (marks r k l) cs)) ×
     (length (after m (cleared t) cs) ≡ length t) ×
-    ((i : ℕ) → any (sets m i) cs ≡ false → getD (after m (cleared t) cs) i 0 ≡ getD (cleared t) i 0)
+    ((i : ℕ) → getD (after m (cleared t) cs) i 0 ≡ bit (any (sets m i) cs))
 
 -- REQUEST (e), which lists of calls these are: of a relation and a pair of the table `mark` requires exactly that, at a call that does not
 -- hold, no call before it marked the pair. The promise above needs no such premise: there a call that does not hold changes nothing

@@ -88,12 +88,12 @@ module _ {us c : List ℕ} (columns : Columns us c) (l : ℕ) (low : l < length 
   pub named-at : isSetAt c namedField l ≡ isNamed (stepIn q)
   named-at = ap (λ (x : ℕ). eqb (x % 2) 1) (columns .at namedField l (omega arith) low) ∙ bit-set (isNamed (stepIn q))
 
-  pub element-at : isSetAt c elementField l ≡ (eqb (q .kind) overKind && admitsElement (stepIn q))
+  element-at : isSetAt c elementField l ≡ (eqb (q .kind) overKind && admitsElement (stepIn q))
   element-at =
       ap (λ (x : ℕ). eqb (x % 2) 1) (columns .at elementField l (omega arith) low) ∙
       bit-set (eqb (q .kind) overKind && admitsElement (stepIn q))
 
-  pub leaf-at : isSetAt c leafField l ≡ (eqb (q .kind) overKind && admitsLeaf (stepIn q))
+  leaf-at : isSetAt c leafField l ≡ (eqb (q .kind) overKind && admitsLeaf (stepIn q))
   leaf-at =
       ap (λ (x : ℕ). eqb (x % 2) 1) (columns .at leafField l (omega arith) low) ∙
       bit-set (eqb (q .kind) overKind && admitsLeaf (stepIn q))
@@ -126,9 +126,6 @@ module _ {us c : List ℕ} (columns : Columns us c) (l : ℕ) (low : l < length 
   no-leaf-at n = leaf-at ∙ ap (λ (x : Bool). x && admitsLeaf (stepIn q)) (ne-eqb (q .kind) overKind n)
 
   -- whether it is a union
-  pub union-at : eqb (columnAt c kindField l) unionKind ≡ eqb (q .kind) unionKind
-  union-at = ap (λ (x : ℕ). eqb x unionKind) kind-at
-
   pub is-union : q .kind ≡ unionKind → eqb (columnAt c kindField l) unionKind ≡ true
   is-union e = eq-eqb (columnAt c kindField l) unionKind (kind-at ∙ e)
 

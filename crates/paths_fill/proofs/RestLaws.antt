@@ -6,7 +6,7 @@ use Prim.Native.Nat.{ℕ, _+_, _≤_, _<_}
 use native.Mathlib.Omega.{arith}
 use lib.Dec.{eqb}
 use lib.ListN.{length, getD}
-use borrow.Author.Tests.{ne-eqb, eq-eqb}
+use borrow.Author.Tests.{ne-eqb}
 use Rattle.model.specs.Base.{bit}
 use Rattle.model.specs.Meeting.{Cell, joinCell, admitsElement, isDeep}
 use Rattle.model.proofs.BoolLaws.{eq-cases}
@@ -16,13 +16,14 @@ use Rattle.paths_positions.specs.Answer.{cellAt}
 use Rattle.paths_positions.specs.Packed.{stepIn, positionBy, fieldsOf, entriesBy, overKind, unionKind}
 use Rattle.paths_positions.specs.declared.packed.Position.{Position}
 use Rattle.paths_positions.proofs.RelationLaws.{IsSingle, IsStart, passes, up-step, up-start, union-of}
-use Rattle.paths_cells.specs.Pairs.{onElement, down, up, relations, markAt, isMarked, marked, HasRows, PairPre, MarkPre}
+use Rattle.paths_cells.specs.Pairs.{onElement, down, up, relations, markAt, isMarked, marked, PairPre, MarkPre}
 use Rattle.paths_cells.proofs.MarkLaws.{same-rows, fewer-rows, marked-is, mark-length, mark-here, mark-others}
 use Rattle.paths_rows.specs.Columns.{columnAt, isSetAt, firstField, secondField, kindField, deepField, elementField}
-use Rattle.paths_fill.specs.Filling.{heldBy, holdsAt, beforeRest, UnionsPre, UnionsPost, LeftPre, LeftPost, RestPre, RestPost}
+use Rattle.paths_fill.specs.Filling.{heldBy, holdsAt, UnionsPre, UnionsPost, LeftPre, LeftPost, RestPre, RestPost}
 use Rattle.paths_fill.proofs.KindLaws.{KindOf, isNowhere, isRoot, isOver, isUnion, kind-of, kind-low, position-at, entries-length}
 use Rattle.paths_fill.proofs.KindLaws.{lower-at, over-first, union-first, second-at, deep-at, over-element, no-element-at}
 use Rattle.paths_fill.proofs.KindLaws.{kind-at, is-union, not-union, first-low}
+use Rattle.paths_fill.proofs.RowLaws.{at-union, at-single, at-up}
 
 -- a relation of two cells together
 pub held-join : (r : ℕ) (c d : Cell) → heldBy r (joinCell c d) ≡ (heldBy r c || heldBy r d)
@@ -97,9 +98,7 @@ module _ {ws us c t : List ℕ} {k l : ℕ} (pre : LeftPre ws us c t k l) where
           column = pre .column;
           first = omega (arith, union-first (pre .fill .columns) l (pre .column) kind, parts .0);
           second = omega (arith, second-at (pre .fill .columns) l (pre .column), parts .1);
-          clear = λ r h. pre .here r h ∙
-              ap (λ (x : Bool). bit (cond (x || eqb r up) false (holdsAt ws us r k l)))
-              (is-union (pre .fill .columns) l (pre .column) kind);
+          clear = λ r h. pre .here r h ∙ ap bit (at-union ws us c r k l (is-union (pre .fill .columns) l (pre .column) kind));
         }
 
     pub unions-asks : (a b : ℕ) → a ≡ columnAt c firstField l → b ≡ columnAt c secondField l → UnionsPre t m k l a b
@@ -140,21 +139,15 @@ module _ {ws us c t : List ℕ} {k l : ℕ} (pre : LeftPre ws us c t k l) where
 
     marked-before : (r : ℕ) → r < relations → eqb r up ≡ false → markAt t m r k l ≡ bit (holdsAt ws us r k l)
     marked-before r h n =
-        pre .here r h ∙
-        ap (λ (x : Bool). bit (cond (x || eqb r up) false (holdsAt ws us r k l)))
-        (not-union (pre .fill .columns) l (pre .column) not-kind) ∙
-        ap (λ (x : Bool). bit (cond x false (holdsAt ws us r k l))) n
+        pre .here r h ∙ ap bit (at-single ws us c r k l (not-union (pre .fill .columns) l (pre .column) not-kind) n)
 
     not-up : markAt t m up k l ≡ 0
-    not-up =
-        pre .here up (omega arith) ∙
-        ap (λ (x : Bool). bit (cond (x || true) false (holdsAt ws us up k l)))
-        (not-union (pre .fill .columns) l (pre .column) not-kind)
+    not-up = pre .here up (omega arith) ∙ ap bit (at-up ws us c k l)
 
     pub up-asks : (holds : Bool) → MarkPre t m up k l holds
     up-asks holds = record { pair = left-asks up l (omega arith) (omega arith); free = λ e. not-up }
 
-    abbrev pub upBy : Bool
+    abbrev upBy : Bool
     upBy =
         isMarked t m onElement k l || (isSetAt c elementField l && (isMarked t m up k (columnAt c firstField l) ||
         (isSetAt c deepField l && isMarked t m down k (columnAt c firstField l))))

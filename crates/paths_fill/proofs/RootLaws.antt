@@ -9,15 +9,17 @@ use lib.ListN.{length, getD}
 use borrow.Author.Tests.{ne-eqb, eq-eqb}
 use Rattle.model.specs.Base.{bit}
 use Rattle.model.specs.Meeting.{Cell}
+use Rattle.model.proofs.BoolLaws.{eq-cases}
 use Rattle.paths_positions.specs.Positions as positions
 use Rattle.paths_positions.specs.Positions.{entryAt}
 use Rattle.paths_positions.specs.Answer.{anyUpTo}
 use Rattle.paths_positions.specs.Packed.{stepIn, positionBy, fieldsOf, entriesBy, rootKind, unionKind}
 use Rattle.paths_positions.specs.declared.packed.Position.{Position}
 use Rattle.paths_positions.proofs.PositionLaws.{second-nowhere}
+use Rattle.paths_positions.proofs.AnyUpToLaws.{anyUpTo-false}
 use Rattle.paths_positions.proofs.RelationLaws.{IsSingle, on-roots, on-root-step, down-root, root-leaf, apart, leafless}
 use Rattle.paths_cells.specs.Pairs.{onElement, down, up, onLeaf, relations, markAt, isMarked}
-use Rattle.paths_cells.proofs.MarkLaws.{same-rows, marked-is}
+use Rattle.paths_cells.proofs.MarkLaws.{marked-is}
 use Rattle.paths_rows.specs.Columns.{columnAt, kindField}
 use Rattle.paths_rows.specs.Rows.{RowMarked, PassPre, labelIs, rootBy, DownPre, downBy}
 use Rattle.paths_fill.specs.Filling.{holdsAt, beforeRest, RestPre, RestPost, KindRowPre, Apart, RowPost}
@@ -25,7 +27,7 @@ use Rattle.paths_fill.proofs.KindLaws.{KindOf, isNowhere, isRoot, isOve
 use Rattle.paths_fill.proofs.KindLaws.{kind-at, is-union, not-union, labels-at}
 use Rattle.paths_fill.proofs.RestLaws.{single-at}
 use Rattle.paths_fill.proofs.RowLaws.{by-relation, Kept, kept-row, kept-rest, kept-then, filled-next, row-room, clear, pass}
-use Rattle.paths_fill.proofs.RowLaws.{single-kind, at-union, at-single, at-up, before-none, any-false}
+use Rattle.paths_fill.proofs.RowLaws.{rest-asked, none-holds, single-kind, at-union, at-single, at-up, before-none}
 
 module _ {ws us c t : List ℕ} {k : ℕ} {p : Position} (pre : KindRowPre ws us c t k p rootKind) where
   abbrev m : ℕ
@@ -107,18 +109,15 @@ module _ {ws us c t : List ℕ} {k : ℕ} {p : Position} (pre : KindRowPre ws us
         (positionBy (fieldsOf (getD us l 0))) (position-at us l) (single-at (getD us l 0) n)
 
     down-is : (l : ℕ) → l < m → downs l ≡ beforeRest ws us c down k l
-    down-is l h = down-before l h ∙ go (kind-of (fieldsOf (getD us l 0)) (kind-low (getD us l 0)))
+    down-is l h = down-before l h ∙ eq-cases (fieldsOf (getD us l 0) .kind) unionKind union single
       where
         single : (fieldsOf (getD us l 0) .kind ≡ unionKind → ⊥) → beforeRest ws us c onElement k l ≡ beforeRest ws us c down k l
         single n =
             let z = not-union (pre .fill .columns) l h n in
             at-single ws us c onElement k l z refl ∙ sym (down-single l h n) ∙ sym (at-single ws us c down k l z refl)
 
-        go : KindOf (fieldsOf (getD us l 0)) → beforeRest ws us c onElement k l ≡ beforeRest ws us c down k l
-        go (isNowhere e f) = single (λ g. omega arith)
-        go (isRoot e f) = single (λ g. omega arith)
-        go (isOver e f) = single (λ g. omega arith)
-        go (isUnion e f) =
+        union : fieldsOf (getD us l 0) .kind ≡ unionKind → beforeRest ws us c onElement k l ≡ beforeRest ws us c down k l
+        union e =
             let z = is-union (pre .fill .columns) l h e in
             at-union ws us c onElement k l z ∙ sym (at-union ws us c down k l z)
 
@@ -149,12 +148,8 @@ module _ {ws us c t : List ℕ} {k : ℕ} {p : Position} (pre : KindRowPre ws us
 
       pub rest-asks : RestPre ws us c t₂ k
       rest-asks =
-          record {
-            fill = pre .fill;
-            single = λ e. omega (arith, ap (λ (x : Position). x .kind) (pre .position), pre .kind);
-            room = same-rows t t₂ m (length ws) (kept .size) (pre .filled .room);
-            started = λ r l h g. started l g r h;
-          }
+          rest-asked (pre .fill) (pre .filled)
+          (λ e. omega (arith, ap (λ (x : Position). x .kind) (pre .position), pre .kind)) kept started
 
       pub root-done : {t₃ : List ℕ} → RestPost ws us t₂ k t₃ → RowPost ws us t k t₃ true
       root-done post =
@@ -181,7 +176,7 @@ module _ {ws us c t : List ℕ} {k : ℕ} {p : Position} (pre : KindRowPre ws us
               let h : l < m = omega (arith, entries-length us) in
               let n = single-kind us l x e g in
               let d : holdsAt ws us down k l ≡ false =
-              sym (at-single ws us c down k l (not-union (pre .fill .columns) l h n) refl) ∙ sym (down-is l h) ∙ any-false downs m none
+              sym (at-single ws us c down k l (not-union (pre .fill .columns) l h n) refl) ∙ sym (down-is l h) ∙ anyUpTo-false downs m none
               l h in
               (sym (down-single l h n) ∙ d, d)
 
@@ -189,4 +184,4 @@ module _ {ws us c t : List ℕ} {k : ℕ} {p : Position} (pre : KindRowPre ws us
           root-apart r l h g =
               let n = apart (entriesBy ws) (entriesBy us) (pre .fill .first .lower) (pre .fill .second .lower) k low
               (positions.root (p .label)) at-k tt not-down l (cells l g) in
-              by-relation (λ (x : ℕ). holdsAt ws us x k l ≡ false) (n .on) (n .down) (n .up) (no-leaf l (cells l g)) r h
+              none-holds ws us k l n (no-leaf l (cells l g)) r h

@@ -1,6 +1,6 @@
 -- A row of the table: what its loops ask, what is marked before the rest, and when one row more is filled.
 use mathlib.Core.Path.{_≡_, refl, ap, sym, _∙_, subst}
-use mathlib.Core.Bool.{Bool, true, false, _||_, false≢true, or-true, cond}
+use mathlib.Core.Bool.{Bool, true, false, _||_, or-true, cond}
 use mathlib.Core.List.{List}
 use Prim.Native.Nat.{ℕ, _+_, _≤_, _<_}
 use native.Mathlib.Omega.{arith}
@@ -10,15 +10,14 @@ use Rattle.model.specs.Base.{bit}
 use Rattle.model.proofs.BoolLaws.{eq-cases}
 use Rattle.paths_positions.specs.Positions as positions
 use Rattle.paths_positions.specs.Positions.{entryAt}
-use Rattle.paths_positions.specs.Answer.{anyUpTo}
+use Rattle.paths_positions.specs.Answer.{NoElement, cellAt}
 use Rattle.paths_positions.specs.Packed.{positionBy, fieldsOf, entriesBy, unionKind}
-use Rattle.paths_positions.proofs.AnyUpToLaws.{anyUpTo-found}
 use Rattle.paths_positions.proofs.RelationLaws.{IsSingle}
 use Rattle.paths_cells.specs.Pairs.{onElement, down, up, onLeaf, relations, markAt, HasRows}
 use Rattle.paths_cells.proofs.MarkLaws.{same-rows, fewer-rows}
 use Rattle.paths_rows.specs.Columns.{columnAt, kindField}
 use Rattle.paths_rows.specs.Rows.{RowMarked, PassPre}
-use Rattle.paths_fill.specs.Filling.{holdsAt, Filled, FillPre, beforeRest, RestPost, Apart, RowPost}
+use Rattle.paths_fill.specs.Filling.{holdsAt, Filled, FillPre, beforeRest, RestPre, RestPost, Apart, RowPost}
 use Rattle.paths_fill.proofs.KindLaws.{position-at}
 
 -- RELATIONS, one by one
@@ -114,10 +113,20 @@ before-none ws us c r k l e = go (eqb (columnAt c kindField l) unionKind || eqb 
     go true = sym e
     go false = refl
 
--- NONE of them
-pub any-false : (f : ℕ → Bool) (n : ℕ) → anyUpTo f n ≡ false → (l : ℕ) → l < n → f l ≡ false
-any-false f n e l h = go (f l) refl
-  where
-    go : (b : Bool) → f l ≡ b → b ≡ false
-    go true g = absurd (false≢true (sym e ∙ sym (anyUpTo-found f l n h g)))
-    go false g = refl
+-- so the rest of the row can be marked
+pub rest-asked : {ws us c t t₁ : List ℕ} {k : ℕ} → FillPre ws us c k → Filled ws us k t → (fieldsOf (getD ws k 0) .kind ≡ unionKind → ⊥) →
+    Kept t (length us) k t₁ →
+    ((l : ℕ) → l < length us → (r : ℕ) → r < relations → markAt t₁ (length us) r k l ≡ bit (beforeRest ws us c r k l)) →
+    RestPre ws us c t₁ k
+rest-asked {ws} {us} {c} {t} {t₁} fill filled single kept started =
+    record {
+      fill = fill;
+      single = single;
+      room = same-rows t t₁ (length us) (length ws) (kept .size) (filled .room);
+      started = λ r l h g. started l g r h;
+    }
+
+-- NOTHING in common: no element and no leaf
+pub none-holds : (ws us : List ℕ) (k l : ℕ) → NoElement (cellAt (entriesBy ws) (entriesBy us) k l) → holdsAt ws us onLeaf k l ≡ false →
+    (r : ℕ) → r < relations → holdsAt ws us r k l ≡ false
+none-holds ws us k l n leaf = by-relation (λ (r : ℕ). holdsAt ws us r k l ≡ false) (n .on) (n .down) (n .up) leaf

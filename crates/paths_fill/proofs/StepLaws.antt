@@ -1,36 +1,36 @@
 -- A step's row: what its loops mark before the rest, from the row of its operand, is what it has in common with each position.
 use mathlib.Core.Path.{_≡_, refl, ap, sym, _∙_, subst}
-use mathlib.Core.Bool.{Bool, true, false, _&&_, _||_, not, false≢true, and-false, and-true, or-false, or-true, or-comm, cond}
+use mathlib.Core.Bool.{Bool, true, false, _&&_, _||_, not, false≢true, and-false, and-true, or-false, or-comm}
 use mathlib.Core.List.{List}
-use Prim.Native.Nat.{ℕ, _+_, _/_, _%_, _≤_, _<_}
+use Prim.Native.Nat.{ℕ, _/_, _%_, _<_}
 use native.Mathlib.Omega.{arith}
 use lib.Dec.{eqb}
 use lib.ListN.{length, getD}
 use Rattle.model.specs.Base.{bit}
 use Rattle.model.specs.Script.{Step}
-use Rattle.model.specs.Meeting.{Cell, isParent, shareElement, shareLeaf, admitsElement, admitsLeaf, isNamed, isDeep}
-use Rattle.model.proofs.BoolLaws.{or-neither}
+use Rattle.model.specs.Meeting.{Cell, isParent, admitsElement, admitsLeaf, isNamed, isDeep}
+use Rattle.model.proofs.BoolLaws.{eq-cases, or-neither}
 use Rattle.model.proofs.CellLaws.{between-onUp}
 use Rattle.paths_positions.specs.Positions as positions
 use Rattle.paths_positions.specs.Positions.{entryAt, pathsOn}
-use Rattle.paths_positions.specs.Answer.{anyUpTo, NoElement, cellAt}
+use Rattle.paths_positions.specs.Answer.{anyUpTo, cellAt}
 use Rattle.paths_positions.specs.Packed.{stepIn, positionBy, fieldsOf, entriesBy, overKind, unionKind}
 use Rattle.paths_positions.specs.Steps.{maxPositions}
 use Rattle.paths_positions.specs.declared.packed.Position.{Position}
+use Rattle.paths_positions.proofs.AnyUpToLaws.{anyUpTo-false}
 use Rattle.paths_positions.proofs.RelationLaws.{IsSingle, IsStart, on-steps, on-step-start, down-step, apart, leafless, below-apart}
-use Rattle.paths_cells.specs.Pairs.{onElement, down, up, onLeaf, relations, markAt, isMarked, HasRows}
-use Rattle.paths_cells.proofs.MarkLaws.{bit-set, same-rows, fewer-rows, marked-is}
-use Rattle.paths_rows.specs.Columns.{columnAt, isSetAt, firstField, kindField, deepField, elementField, leafField, namedField}
-use Rattle.paths_rows.specs.Columns.{lowField, highField}
-use Rattle.paths_rows.specs.Rows.{RowMarked, PassPre, isYes, parentBy, ParentsPre, ParentsPost, OnPre, labelIs, DownPre, downBy}
-use Rattle.paths_fill.specs.Filling.{heldBy, holdsAt, Filled, beforeRest, RestPre, RestPost, stepElements, stepLeaves, sourceBy}
+use Rattle.paths_cells.specs.Pairs.{onElement, down, up, onLeaf, relations, markAt, isMarked}
+use Rattle.paths_cells.proofs.MarkLaws.{bit-set, marked-is}
+use Rattle.paths_rows.specs.Columns.{columnAt, isSetAt, kindField, deepField, elementField, leafField, namedField}
+use Rattle.paths_rows.specs.Rows.{RowMarked, isYes, parentBy, ParentsPre, ParentsPost, OnPre, labelIs, DownPre, downBy}
+use Rattle.paths_fill.specs.Filling.{heldBy, holdsAt, beforeRest, RestPre, RestPost, stepElements, stepLeaves, sourceBy}
 use Rattle.paths_fill.specs.Filling.{KindRowPre, Apart, RowPost}
 use Rattle.paths_fill.proofs.KindLaws.{KindOf, isNowhere, isRoot, isOver, isUnion, kind-of, kind-low, position-at, entries-length}
 use Rattle.paths_fill.proofs.KindLaws.{lower-at, over-first, deep-at, named-at, over-element, over-leaf, no-element-at}
 use Rattle.paths_fill.proofs.KindLaws.{no-leaf-at, is-union, not-union, first-low, labels-at}
 use Rattle.paths_fill.proofs.RestLaws.{single-at}
 use Rattle.paths_fill.proofs.RowLaws.{by-relation, Kept, kept-row, kept-rest, kept-then, filled-next, row-room, clear, pass}
-use Rattle.paths_fill.proofs.RowLaws.{single-kind, at-union, at-single, at-up, any-false}
+use Rattle.paths_fill.proofs.RowLaws.{rest-asked, none-holds, single-kind, at-union, at-single, at-up}
 
 -- TESTS of a pair, in another order
 absorbed : (a x u : Bool) → (a || u) ≡ u → (u || x) ≡ ((a || x) || u)
@@ -259,7 +259,7 @@ module _ {ws us c t : List ℕ} {k : ℕ} {p : Position} (pre : KindRowPre ws us
           ap isYes (kept .others r i l g h n) ∙ read r l g h
 
       down-is : (l : ℕ) → l < m → downs l ≡ beforeRest ws us c down k l
-      down-is l h = go (kind-of (fieldsOf (getD us l 0)) (kind-low (getD us l 0)))
+      down-is l h = eq-cases (fieldsOf (getD us l 0) .kind) unionKind union single
         where
           below : Bool
           below = isMarked t₂ m down i l || (isDeep s && isMarked t₂ m up i l)
@@ -284,11 +284,8 @@ module _ {ws us c t : List ℕ} {k : ℕ} {p : Position} (pre : KindRowPre ws us
               operand-low at-k (positionBy (fieldsOf (getD us l 0))) (position-at us l) (single-at (getD us l 0) n)) ∙
               sym (at-single ws us c down k l z refl)
 
-          go : KindOf (fieldsOf (getD us l 0)) → downs l ≡ beforeRest ws us c down k l
-          go (isNowhere e f) = single (λ g. omega arith)
-          go (isRoot e f) = single (λ g. omega arith)
-          go (isOver e f) = single (λ g. omega arith)
-          go (isUnion e f) =
+          union : fieldsOf (getD us l 0) .kind ≡ unionKind → downs l ≡ beforeRest ws us c down k l
+          union e =
               let z = is-union (pre .fill .columns) l h e in
               ap (λ (x : Bool). x || (admitsElement s && not (eqb (columnAt c kindField l) unionKind) &&
               (isMarked t₂ m down i l || (isDeep s && isMarked t₂ m up i l)))) (on-read ∙ at-union ws us c onElement k l z) ∙
@@ -318,12 +315,8 @@ module _ {ws us c t : List ℕ} {k : ℕ} {p : Position} (pre : KindRowPre ws us
 
         pub rest-asks : RestPre ws us c t₃ k
         rest-asks =
-            record {
-              fill = pre .fill;
-              single = λ e. omega (arith, ap (λ (x : Position). x .kind) (pre .position), pre .kind);
-              room = same-rows t t₃ m (length ws) (all-kept .size) (pre .filled .room);
-              started = λ r l h g. started l g r h;
-            }
+            rest-asked (pre .fill) (pre .filled)
+            (λ e. omega (arith, ap (λ (x : Position). x .kind) (pre .position), pre .kind)) all-kept started
 
         -- nothing seen: nothing in common
         module _ (no-leaf : anyUpTo (stepLeaves p c ps) m ≡ false) (no-down : anyUpTo downs m ≡ false) where
@@ -334,7 +327,7 @@ module _ {ws us c t : List ℕ} {k : ℕ} {p : Position} (pre : KindRowPre ws us
               let h : l < m = omega (arith, entries-length us) in
               let z = not-union (pre .fill .columns) l h (single-kind us l x e g) in
               let d : holdsAt ws us down k l ≡ false =
-              sym (at-single ws us c down k l z refl) ∙ sym (down-is l h) ∙ any-false downs m no-down l h in (
+              sym (at-single ws us c down k l z refl) ∙ sym (down-is l h) ∙ anyUpTo-false downs m no-down l h in (
                 or-neither _ _ (sym (down-step (entriesBy ws) (entriesBy us) (pre .fill .first .lower) (pre .fill .second .lower) k l low
                     (cells l h) s i operand-low at-k x e g) ∙ d) .0,
                 d,
@@ -346,13 +339,13 @@ module _ {ws us c t : List ℕ} {k : ℕ} {p : Position} (pre : KindRowPre ws us
           not-leaf l a x e g =
               let h : l < m = omega (arith, entries-length us) in
               let z = not-union (pre .fill .columns) l h (single-kind us l x e g) in
-              sym (at-single ws us c onLeaf k l z refl) ∙ sym (both-on l h .1) ∙ any-false (stepLeaves p c ps) m no-leaf l h
+              sym (at-single ws us c onLeaf k l z refl) ∙ sym (both-on l h .1) ∙ anyUpTo-false (stepLeaves p c ps) m no-leaf l h
 
           step-apart : Apart ws us k
           step-apart r l h g =
               let n = apart (entriesBy ws) (entriesBy us) (pre .fill .first .lower) (pre .fill .second .lower) k low
               (positions.over s i) at-k tt not-down l (cells l g) in
-              by-relation (λ (x : ℕ). holdsAt ws us x k l ≡ false) (n .on) (n .down) (n .up)
+              none-holds ws us k l n
               (leafless (entriesBy ws) (entriesBy us) (pre .fill .first .lower) (pre .fill .second .lower) k low (positions.over s i)
               at-k tt not-leaf l (cells l g)) r h
 
@@ -374,4 +367,4 @@ module _ {ws us c t : List ℕ} {k : ℕ} {p : Position} (pre : KindRowPre ws us
       (λ j a. let b : j < m = omega (arith, entries-length us) in
       record { on = none onElement j (omega arith) b; down = none down j (omega arith) b; up = none up j (omega arith) b }) l
       (cells l g) in
-      by-relation (λ (x : ℕ). holdsAt ws us x k l ≡ false) (n .0 .on) (n .0 .down) (n .0 .up) (n .1) r h
+      none-holds ws us k l (n .0) (n .1) r h

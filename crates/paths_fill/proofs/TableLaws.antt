@@ -2,12 +2,12 @@
 use mathlib.Core.Path.{_≡_, refl, ap, sym, _∙_, subst}
 use mathlib.Core.Bool.{Bool, true, false, _&&_, _||_, not, false≢true, and-false, or-false, cond}
 use mathlib.Core.List.{List}
-use Prim.Native.Nat.{ℕ, zero, suc, _+_, _%_, _≤_, _<_}
+use Prim.Native.Nat.{ℕ, _+_, _≤_, _<_}
 use native.Mathlib.Omega.{arith}
 use lib.Dec.{eqb}
 use lib.ListN.{length, getD, set}
 use lib.Seq.{getD-set-same, getD-set-other}
-use borrow.Author.Tests.{ne-eqb, eq-eqb}
+use borrow.Author.Tests.{ne-eqb, not-true}
 use Rattle.model.specs.Base.{bit}
 use Rattle.model.specs.Meeting.{isMet, noCell}
 use Rattle.model.proofs.BoolLaws.{eq-cases}
@@ -17,11 +17,11 @@ use Rattle.paths_positions.specs.Answer.{anyUpTo, isTested, cellAt, meetAt, row
 use Rattle.paths_positions.specs.Packed.{positionBy, entryBy, fieldsOf, entriesBy, accessedRole, modifiedRole, unionKind}
 use Rattle.paths_positions.specs.Steps.{maxPositions}
 use Rattle.paths_positions.specs.declared.packed.Position.{Position}
-use Rattle.paths_positions.proofs.AnyUpToLaws.{anyUpTo-none, anyUpTo-found, anyUpTo-next, anyUpTo-zero}
+use Rattle.paths_positions.proofs.AnyUpToLaws.{anyUpTo-none, anyUpTo-below, anyUpTo-found, anyUpTo-next, anyUpTo-zero}
 use Rattle.paths_positions.proofs.PositionLaws.{first-nowhere, first-union}
-use Rattle.paths_cells.specs.Pairs.{onElement, onLeaf, relations, placeOf, markAt, isMarked, marked, HasRows, PairPre, MarkPre}
+use Rattle.paths_cells.specs.Pairs.{onElement, onLeaf, relations, placeOf, markAt, isMarked, marked, PairPre, MarkPre}
 use Rattle.paths_cells.proofs.MarkLaws.{same-rows, fewer-rows, marked-is, mark-length, mark-here, mark-others}
-use Rattle.paths_rows.specs.Columns.{Columns, columnAt, roleField}
+use Rattle.paths_rows.specs.Columns.{Columns, roleField}
 use Rattle.paths_rows.specs.Rows.{RowMarked, isYes, UnionPre, eitherBy, MetPre, metBy}
 use Rattle.paths_fill.specs.Filling.{heldBy, holdsAt, Filled, FillPre, UnionsPre, UnionsPost, KindRowPre, Apart, RowPre, RowPost}
 use Rattle.paths_fill.specs.Filling.{MeetsPre, TablePre}
@@ -167,16 +167,6 @@ nothing-apart {ws} {us} {c} {t} {k} {p} pre r l h g =
     is = ap positionBy (sym (pre .position)) ∙ rw (pre .kind)
 
 -- MEETING
-anyUpTo-below : (f g : ℕ → Bool) (n : ℕ) → ((l : ℕ) → l < n → f l ≡ g l) → anyUpTo f n ≡ anyUpTo g n
-unfolding anyUpTo
-anyUpTo-below f g zero h = refl
-anyUpTo-below f g (suc n) h =
-    ap (λ (t : Bool). t || f n) (anyUpTo-below f g n (λ l a. h l (omega arith))) ∙ ap (λ (t : Bool). anyUpTo g n || t) (h n (omega arith))
-
-not-true : (b : Bool) → not b ≡ true → b ≡ false
-not-true true e = absurd (false≢true e)
-not-true false e = refl
-
 module _ {ws us c t : List ℕ} {k : ℕ} {seen : Bool} (pre : MeetsPre ws us c t k seen) where
   abbrev role : ℕ
   role = fieldsOf (getD ws k 0) .role
@@ -263,7 +253,7 @@ rows-none {ws} {us} {t} live pre =
     }
 
 -- one row more, its place among the live ones written
-pub live-next : (live : List ℕ) {ws us t₀ t : List ℕ} {k v : ℕ} {seen : Bool} → ((i : ℕ) → i < k → getD live i 0 ≡ 0 → Apart ws us i) →
+live-next : (live : List ℕ) {ws us t₀ t : List ℕ} {k v : ℕ} {seen : Bool} → ((i : ℕ) → i < k → getD live i 0 ≡ 0 → Apart ws us i) →
     k < length live →
     RowPost ws us t₀ k t seen → v ≡ bit seen → (i : ℕ) → i < k + 1 → getD (set live k v) i 0 ≡ 0 → Apart ws us i
 live-next live {ws} {us} {t₀} {t} {k} {v} {seen} before low post e i h g =

@@ -35,7 +35,7 @@ pub record Filled (ws us : List ℕ) (k : ℕ) (t : List ℕ) : Type 0 where
   pub rows : (r i l : ℕ) → r < relations → i < k → l < length us → markAt t (length us) r i l ≡ bit (holdsAt ws us r i l)
   pub rest : (r i l : ℕ) → r < relations → k ≤ i → i < length ws → l < length us → markAt t (length us) r i l ≡ 0
 
--- what every function here is given
+-- what the functions of a row are given: the positions of both scripts, the columns of the second's, and which row
 pub record FillPre (ws us c : List ℕ) (k : ℕ) : Type 0 where
   pub first : PositionsPre ws
   pub second : PositionsPre us

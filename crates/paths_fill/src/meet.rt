@@ -179,6 +179,7 @@ fn root_row(
         (p.label % 256) as u8,
         (p.label / 256) as u8,
     );
+    // no step leads to a root, so an element is down where it is on both
     let seen = rows::down(table, m, columns, k, k, false, false);
     if seen {
         rest(first, second, columns, table, k);

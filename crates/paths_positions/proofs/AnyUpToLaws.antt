@@ -1,6 +1,6 @@
 -- Laws of `anyUpTo`: a test of some number below a count.
 use mathlib.Core.Path.{_≡_, refl, ap, sym, _∙_}
-use mathlib.Core.Bool.{Bool, true, false, _&&_, _||_, and-or-distrib-left, or-true}
+use mathlib.Core.Bool.{Bool, true, false, _&&_, _||_, false≢true, and-or-distrib-left, or-true}
 use mathlib.Core.List.{List}
 use Prim.Native.Nat.{ℕ, zero, suc, _+_, _<_, _≤_}
 use native.Mathlib.Omega.{arith}
@@ -13,14 +13,10 @@ use Rattle.model.proofs.ListLaws.{any-snoc}
 use Rattle.paths_positions.specs.Positions.{Entry, plain, nowhere, entryAt}
 use Rattle.paths_positions.specs.Answer.{anyUpTo}
 
--- NONE: of no number; of the first alone; of one number more; of any
+-- NONE: of no number; of one number more; of any
 pub anyUpTo-zero : (f : ℕ → Bool) → anyUpTo f 0 ≡ false
 unfolding anyUpTo
 anyUpTo-zero f = refl
-
-pub anyUpTo-one : (f : ℕ → Bool) → f 0 ≡ false → anyUpTo f 1 ≡ false
-unfolding anyUpTo
-anyUpTo-one f h = h
 
 pub anyUpTo-next : (f : ℕ → Bool) (n : ℕ) (b : Bool) → anyUpTo f n ≡ false → b ≡ f n → b ≡ false → anyUpTo f (n + 1) ≡ false
 unfolding anyUpTo
@@ -39,11 +35,22 @@ anyUpTo-found f k (suc n) h e =
     eq-cases k n (λ s. sym (ap (λ (x : Bool). anyUpTo f n || x) (ap f (sym s) ∙ e) ∙ or-true (anyUpTo f n)))
     (λ s. ap (λ (x : Bool). x || f n) (anyUpTo-found f k n (omega (arith, s)) e))
 
+pub anyUpTo-false : (f : ℕ → Bool) (n : ℕ) → anyUpTo f n ≡ false → (k : ℕ) → k < n → f k ≡ false
+anyUpTo-false f n e k h = go (f k) refl
+  where
+    go : (b : Bool) → f k ≡ b → b ≡ false
+    go true g = absurd (false≢true (sym e ∙ sym (anyUpTo-found f k n h g)))
+    go false g = refl
+
 -- THE SAME TEST, two tests, and a test under a condition
-pub anyUpTo-same : (f g : ℕ → Bool) (n : ℕ) → ((k : ℕ) → f k ≡ g k) → anyUpTo f n ≡ anyUpTo g n
+pub anyUpTo-below : (f g : ℕ → Bool) (n : ℕ) → ((k : ℕ) → k < n → f k ≡ g k) → anyUpTo f n ≡ anyUpTo g n
 unfolding anyUpTo
-anyUpTo-same f g zero h = refl
-anyUpTo-same f g (suc n) h = ap (λ (t : Bool). t || f n) (anyUpTo-same f g n h) ∙ ap (λ (t : Bool). anyUpTo g n || t) (h n)
+anyUpTo-below f g zero h = refl
+anyUpTo-below f g (suc n) h =
+    ap (λ (t : Bool). t || f n) (anyUpTo-below f g n (λ k l. h k (omega arith))) ∙ ap (λ (t : Bool). anyUpTo g n || t) (h n (omega arith))
+
+pub anyUpTo-same : (f g : ℕ → Bool) (n : ℕ) → ((k : ℕ) → f k ≡ g k) → anyUpTo f n ≡ anyUpTo g n
+anyUpTo-same f g n h = anyUpTo-below f g n (λ k l. h k)
 
 pub anyUpTo-or : (f g : ℕ → Bool) (n : ℕ) → (anyUpTo f n || anyUpTo g n) ≡ anyUpTo (λ (k : ℕ). f k || g k) n
 unfolding anyUpTo

@@ -8,7 +8,7 @@ use lib.Dec.{eqb}
 use lib.ListN.{length, getD, take, drop, length-append, List·getD-append}
 use lib.Seq.{split-at, length-take-le, getD-at}
 use Rattle.model.specs.Script.{Step}
-use Rattle.model.specs.Paths.{Path, start, documentPlace, withStep}
+use Rattle.model.specs.Paths.{Path, documentPlace, withStep}
 use Rattle.model.specs.Meeting.{onCell, joinCell, onStep, downStep, upStep, noCell, sum, between}
 use Rattle.paths_positions.specs.Positions.{Position, nowhere, root, over, union, Entry, plain, entryAt, IsLower, AreLower}
 use Rattle.paths_positions.specs.Positions.{pathsAt, pathsFrom, pathsBy, pathsOn}

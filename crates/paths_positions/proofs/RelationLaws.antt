@@ -8,9 +8,7 @@ use native.Mathlib.Omega.{arith}
 use lib.Dec.{eqb}
 use lib.ListN.{length}
 use Rattle.model.specs.Script.{Step}
-use Rattle.model.specs.Meeting.{Cell, noCell, onCell, joinCell, isParent, shareElement, shareLeaf, isDeep, admitsElement}
-use Rattle.model.specs.Meeting.{onStep, downStep, upStep}
-use Rattle.model.proofs.BoolLaws.{or-neither}
+use Rattle.model.specs.Meeting.{Cell, noCell, joinCell, isParent, shareElement, shareLeaf, isDeep, admitsElement}
 use Rattle.paths_positions.specs.Positions.{Position, nowhere, root, over, union, Entry, entryAt, IsLower, AreLower}
 use Rattle.paths_positions.specs.Answer.{NoElement, cellAt}
 use Rattle.paths_positions.proofs.PositionLaws.{first-nowhere, second-nowhere, second-union, root-root, root-step, step-root}

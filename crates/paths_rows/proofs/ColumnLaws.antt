@@ -34,7 +34,7 @@ field-last f q h₀ h₁ h₂ h₃ h₄ h₅ h₆ h₇ h₈ =
     cond-ne _ _ h₇ ∙ cond-ne _ _ h₈)
 
 -- WITHIN the columns
-pub field-within : {c : List ℕ} {f l : ℕ} → AtPre c f l → maxPositions * f + l < length c
+field-within : {c : List ℕ} {f l : ℕ} → AtPre c f l → maxPositions * f + l < length c
 field-within pre = omega (arith, pre .size, pre .field, pre .column)
 
 -- what a field of a position asks

@@ -8,13 +8,6 @@ use native.Mathlib.Omega.{arith}
 use borrow.Author.Needs.{needs}
 use Rattle.paths.proofs.analyse.Statement.{statement}
 use Rattle.paths.proofs.analyse.Tie as tie
-use Rattle.paths.proofs.analyse.Reads as reads
-use Rattle.paths.proofs.analyse.Lts as lts
-use Rattle.paths.proofs.answer.Reads as answer-reads
-use Rattle.paths.proofs.in_table.Reads as in-table-reads
-use Rattle.paths.proofs.positions_of.Reads as positions-of-reads
-use Rattle.paths_cells.proofs.pairs.clear.Reads as clear-reads
-use Rattle.script.proofs.read_script.Reads as read-script-reads
 
 -- the scripts are accepted
 first-accepted : (c : tie.Else1) → scriptRead (c .before .before .before .before .before .args .first .now) .number ≡ 0

@@ -5,7 +5,6 @@ use native.Mathlib.Omega.{arith}
 use lib.Dec.{eqb}
 use lib.ListN.{getD}
 use Rattle.paths_cells.proofs.MarkLaws.{pair-within}
-use borrow.Author.Needs.{needs}
 use Rattle.paths_cells.proofs.pairs.is_marked.Statement.{statement}
 use Rattle.paths_cells.proofs.pairs.is_marked.Tie as tie
 

@@ -1,6 +1,5 @@
 -- `pairs::place` is where a mark stands.
 use mathlib.Core.Path.{refl}
-use native.Mathlib.Omega.{arith}
 use Rattle.paths_cells.proofs.MarkLaws.{pair-within, row-within}
 use borrow.Author.Needs.{needs}
 use Rattle.paths_cells.proofs.pairs.place.Statement.{statement}

@@ -3,7 +3,6 @@ use mathlib.Core.Path.{_≡_, sym, _∙_}
 use Rattle.paths_positions.specs.Packed.{unionKind}
 use Rattle.paths_rows.specs.Columns.{columnAt, kindField}
 use native.Mathlib.Omega.{arith}
-use Rattle.paths_cells.proofs.MarkLaws.{mark-length}
 use Rattle.paths_rows.proofs.ColumnLaws.{at-asks}
 use Rattle.paths_fill.proofs.RestLaws.{left-asks, first-within, unions-asks, union-left, up-asks, up-by, up-left}
 use borrow.Author.Needs.{needs}

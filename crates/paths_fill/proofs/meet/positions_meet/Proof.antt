@@ -8,12 +8,6 @@ use Rattle.paths_fill.proofs.TableLaws.{RowsTo, rows-none, row-asked, m
 use borrow.Author.Needs.{needs}
 use Rattle.paths_fill.proofs.meet.positions_meet.Statement.{statement}
 use Rattle.paths_fill.proofs.meet.positions_meet.Tie as tie
-use Rattle.paths_fill.proofs.meet.positions_meet.Reads as reads
-use Rattle.paths_fill.proofs.meet.positions_meet.Lts as lts
-use Rattle.paths_cells.proofs.pairs.bit.Reads as bit-reads
-use Rattle.paths_fill.proofs.meet.row.Reads as row-reads
-use Rattle.paths_fill.proofs.meet.row_meets.Reads as row-meets-reads
-use Rattle.paths_rows.proofs.columns.spread.Reads as spread-reads
 
 abbrev Inv-loop : tie.InvT-loop
 Inv-loop first second table₀ columns live₀ k₀ table live k =

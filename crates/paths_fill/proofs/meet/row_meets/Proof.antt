@@ -1,15 +1,10 @@
 -- `meet::row_meets`: by the role of position k.
 use mathlib.Core.Path.{ap, sym, _∙_}
-use native.Mathlib.Omega.{arith}
 use Rattle.paths_positions.specs.declared.packed.Position.{Position}
 use Rattle.paths_fill.proofs.TableLaws.{meets-asks, apart-meets, accessed-meets, modified-meets, plain-meets}
 use borrow.Author.Needs.{needs}
 use Rattle.paths_fill.proofs.meet.row_meets.Statement.{statement}
 use Rattle.paths_fill.proofs.meet.row_meets.Tie as tie
-use Rattle.paths_fill.proofs.meet.row_meets.Reads as reads
-use Rattle.paths_fill.proofs.meet.row_meets.Lts as lts
-use Rattle.paths_positions.proofs.packed.Position.unpacked.Reads as unpacked-reads
-use Rattle.paths_rows.proofs.rows.meets.Reads as meets-reads
 
 returns : tie.Need-returns
 returns c = apart-meets (c .before .before .before .before .before .pre) (c .if1 .taken)

@@ -1,5 +1,5 @@
 -- `meet::step_row`: parents, a node on both, an element down, then the rest.
-use mathlib.Core.Path.{_≡_, ap, sym, _∙_, subst}
+use mathlib.Core.Path.{ap, _∙_}
 use Rattle.model.specs.Meeting.{isDeep, admitsElement}
 use Rattle.paths_fill.specs.Filling.{sourceBy}
 use Rattle.paths_fill.proofs.StepLaws.{parents-asks, elements-asks, leaves-asks, down-asks, rest-asks, step-done}

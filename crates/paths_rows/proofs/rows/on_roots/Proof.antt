@@ -1,4 +1,4 @@
--- `rows::on_roots` marks, column by column, the roots of the same name.
+-- `rows::on_roots` marks, column by column, the roots of the same document.
 use Prim.Native.Nat.{_-_, _≤_}
 use mathlib.Core.Path.{_∙_}
 use native.Mathlib.Omega.{arith}
