@@ -1,4 +1,5 @@
-/* The C interface of Yegnabit (crates/yegnabit; archive target/staticlib/libyegnabit.a, by `rt staticlib yegnabit`).
+/* The C interface of Yegnabit: the calls of crates/yegnabit, which crates/yegnabit_c exports. `bash .ci/archives` writes the archive,
+ * target/staticlib/libyegnabit.a.
  *
  * Every slice is a pointer and a length, counted in elements. Nothing is kept between calls and no memory is allocated. A pointer must
  * be valid for its length, also where that is 0 (then any aligned pointer but NULL); what a call writes to must overlap nothing else.
@@ -9,7 +10,7 @@
  * done. A refused call leaves `out` as it was. On success the bytes of the plan stand at the start of `out`, and the rest stays.
  *
  * Stack: yegnabit_run needs 256 KiB (89 KiB were measured with the deepest script), yegnabit_analyse 128 KiB (102 KiB at the worst pair),
- * each other call 32 KiB (7 KiB). tests/stack.c measures it.
+ * each other call 32 KiB (7 KiB). tests/stack.c measures it. These figures and the times below were measured with the older kit.
  *
  * Time: every call ends, but yegnabit_run can take very long: no rule limits the turns of a script's loops. Two loops inside one another
  * over 512 items take some 11 ms with an empty body, three some 6 seconds; with a body of many steps and picks two take seconds, and

@@ -19,7 +19,7 @@ use compare::oracle::table::Table;
 /// The environment variable that names the program, and where it is otherwise,
 /// from the folder of this crate.
 const PROGRAM_VARIABLE: &str = "YEGNABIT_PAIR";
-const DEFAULT_PROGRAM: &str = "../target/bin/pair";
+const DEFAULT_PROGRAM: &str = "../crates/pair/out/pair";
 
 const SEED: u64 = 0x7061_6972;
 const RANDOM_FOLDERS: usize = 3000;

@@ -78,27 +78,28 @@ module _ (n : ℕ) (ws ms : List ℕ) where
   pub sweep_not : (c : ℕ) → c ≡ code_of lent_values → is_given ws ms ≡ false → Left c ws ms
   sweep_not c e z = (e ∙ rw z, (rw z, rw z))
 
-  module _ (t : Table) (same : t ≡ table_of n ws ms) (r : TableResult) (h : is_given ws ms ≡ true) (swept : r ≡ sweeping.plan_swept t) where
-    result : r ≡ swept_table n ws ms
-    result = swept ∙ ap sweeping.plan_swept same
+  module _ (t : Table) (same : t ≡ table_of n ws ms) (r : TableResult) (h : is_given ws ms ≡ true) (swept : r ≡ sweeping.plan_swept t)
+    where
+      result : r ≡ swept_table n ws ms
+      result = swept ∙ ap sweeping.plan_swept same
 
-    pub sweep_refused : (c : ℕ) → c ≡ code_of (values r.refusal.number 1 0) → (r.refusal.number ≡ 0 → ⊥) → Left c ws ms
-    sweep_refused c e z =
-        let k : (swept_table n ws ms).refusal.number ≡ 0 → ⊥ = λ q. z (ap (λ (v : TableResult). v.refusal.number) result ∙ q) in
-        let f : eqb (swept_table n ws ms).refusal.number 0 ≡ false = ne_eqb (swept_table n ws ms).refusal.number 0 k in
-        (e ∙ ap (λ (v : TableResult). code_of (values v.refusal.number 1 0)) result ∙ rw (h, f), (rw (h, f), rw (h, f)))
+      pub sweep_refused : (c : ℕ) → c ≡ code_of (values r.refusal.number 1 0) → (r.refusal.number ≡ 0 → ⊥) → Left c ws ms
+      sweep_refused c e z =
+          let k : (swept_table n ws ms).refusal.number ≡ 0 → ⊥ = λ q. z (ap (λ (v : TableResult). v.refusal.number) result ∙ q) in
+          let f : eqb (swept_table n ws ms).refusal.number 0 ≡ false = ne_eqb (swept_table n ws ms).refusal.number 0 k in
+          (e ∙ ap (λ (v : TableResult). code_of (values v.refusal.number 1 0)) result ∙ rw (h, f), (rw (h, f), rw (h, f)))
 
-    pub sweep_done : (c : ℕ) (vs us : List ℕ) → c ≡ code_of (values 0 0 r.table.count) → vs ≡ r.table.rows → us ≡ r.table.marks →
-        r.refusal.number ≡ 0 → Left c vs us
-    sweep_done c vs us e p q z =
-        let k : eqb (swept_table n ws ms).refusal.number 0 ≡ true =
-        eq-eqb (swept_table n ws ms).refusal.number 0 (sym (ap (λ (v : TableResult). v.refusal.number) result) ∙ z) in (
-          e ∙ ap (λ (v : TableResult). code_of (values 0 0 v.table.count)) result ∙ rw (h, k),
-          (
-            p ∙ ap (λ (v : TableResult). v.table.rows) result ∙ rw (h, k),
-            q ∙ ap (λ (v : TableResult). v.table.marks) result ∙ rw (
-              h,
-              k,
+      pub sweep_done : (c : ℕ) (vs us : List ℕ) → c ≡ code_of (values 0 0 r.table.count) → vs ≡ r.table.rows → us ≡ r.table.marks →
+          r.refusal.number ≡ 0 → Left c vs us
+      sweep_done c vs us e p q z =
+          let k : eqb (swept_table n ws ms).refusal.number 0 ≡ true =
+          eq-eqb (swept_table n ws ms).refusal.number 0 (sym (ap (λ (v : TableResult). v.refusal.number) result) ∙ z) in (
+            e ∙ ap (λ (v : TableResult). code_of (values 0 0 v.table.count)) result ∙ rw (h, k),
+            (
+              p ∙ ap (λ (v : TableResult). v.table.rows) result ∙ rw (h, k),
+              q ∙ ap (λ (v : TableResult). v.table.marks) result ∙ rw (
+                h,
+                k,
+              ),
             ),
-          ),
-        )
+          )

@@ -1,5 +1,7 @@
-// C calls that tests need and a site does not: a script read alone, and writing and sweeping on any table, well formed or not.
-// Answers are numbers as in the C interface (crates/yegnabit).
+// Calls that tests need and a site does not: a script read alone, and writing and sweeping on any table, well formed or not.
+// Answers are numbers as in the C interface (crates/yegnabit). crates/c_probe_c exports these calls to C.
+#![tactic(auto)]
+
 ghost use Rattle.std.specs.Prelude.{◌≡◌};
 ghost use Rattle.c_codes.specs.Codes.{code_of};
 ghost use Rattle.c_probe.specs.Probes.{write_values, write_out, swept_values, rows_left, marks_left, script_values};
@@ -11,13 +13,7 @@ use plan_table::{Refusal, Table};
 mod copy;
 
 // Writes a table given as 512 packed rows and 8 marks: the call of the library on any table, well formed or not.
-#[unsafe(no_mangle)]
-pub extern "C" fn yegnabit_write_table(
-    count: usize,
-    rows: &[u32],
-    marks: &[u16],
-    out: &mut [u8],
-) -> u64
+pub fn yegnabit_write_table(count: usize, rows: &[u32], marks: &[u16], out: &mut [u8]) -> u64
     ensures value { result ≡ code_of (write_values count rows.now marks.now out.old) }
     ensures out_after { out.new ≡ write_out count rows.now marks.now out.old }
 {
@@ -37,8 +33,7 @@ pub extern "C" fn yegnabit_write_table(
 }
 
 // Sweeps a table given as 512 packed rows and 8 marks, in place.
-#[unsafe(no_mangle)]
-pub extern "C" fn yegnabit_sweep_table(count: usize, rows: &mut [u32], marks: &mut [u16]) -> u64
+pub fn yegnabit_sweep_table(count: usize, rows: &mut [u32], marks: &mut [u16]) -> u64
     ensures value { result ≡ code_of (swept_values count rows.old marks.old) }
     ensures rows_after { rows.new ≡ rows_left count rows.old marks.old }
     ensures marks_after { marks.new ≡ marks_left count rows.old marks.old }
@@ -61,8 +56,7 @@ pub extern "C" fn yegnabit_sweep_table(count: usize, rows: &mut [u32], marks: &m
 }
 
 // Reads a script: its refusal, or 0.
-#[unsafe(no_mangle)]
-pub extern "C" fn yegnabit_script(bytes: &[u8]) -> u64
+pub fn yegnabit_script(bytes: &[u8]) -> u64
     ensures { result ≡ code_of (script_values bytes.now) }
 {
     let refusal = script::read_script(bytes);

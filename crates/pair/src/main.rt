@@ -1,33 +1,53 @@
 // The program `pair`: reads the files plan, first and second of the current folder, and prints the report on them.
-ghost use Rattle.io.specs.Counts.{IsPrefixLen};
+#![tactic(auto)]
 
-use libc::STDOUT_FILENO;
+ghost use Rattle.std.specs.Prelude.{take};
+ghost use Rattle.std.specs.Io.KnownBytes.{Consumes};
+ghost use Rattle.pair_report.specs.Pair.{Counted};
+
+use std::fs::File;
+use std::io;
+use std::io::{Read, Write};
+use std::rt::Files;
+
+// Reads until the buffer is full, the input ends or a read fails, and counts the bytes.
+fn read_full<R: Read>(input: &mut R, buffer: &mut [u8]) -> usize
+    ensures counted { Counted result buffer.new }
+    ensures bytes { Consumes (R.remaining input.old) (R.remaining input.new) (take result buffer.new) }
+{
+    let mut done = 0;
+    while done < buffer.len() {
+        let Ok(n) = input.read(&mut buffer[done..]) else {
+            break;
+        };
+        if n == 0 {
+            break;
+        }
+        done += n;
+    }
+    done
+}
 
 // Reads a file until the buffer is full, the file ends or a read fails; a file that cannot be opened counts as empty.
-fn read_file(name: &[u8], buffer: &mut [u8]) -> usize
-    ensures { IsPrefixLen result buffer.new }
+fn read_file(rt: &impl Files, name: &str, buffer: &mut [u8]) -> usize
+    ensures { Counted result buffer.new }
 {
-    let file = os::open_read(name);
-    if file < 0 {
+    let Ok(mut file) = File::open(rt, name) else {
         return 0;
-    }
-    let count = io::read_full(file, buffer);
-    libc::close(file);
-    count
+    };
+    read_full(&mut file, buffer)
 }
 
 // A buffer has 4,096 bytes, which is enough to refuse any longer file.
-fn main() {
-    let mut plan = io::buffer();
-    let n = read_file(b"plan", &mut plan);
-    let mut first = io::buffer();
-    let m = read_file(b"first", &mut first);
-    let mut second = io::buffer();
-    let k = read_file(b"second", &mut second);
+fn main(rt: HostRuntime) -> io::Result<()> {
+    let mut plan = [0u8; 4096];
+    let n = read_file(&rt, "plan", &mut plan);
+    let mut first = [0u8; 4096];
+    let m = read_file(&rt, "first", &mut first);
+    let mut second = [0u8; 4096];
+    let k = read_file(&rt, "second", &mut second);
     let mut out = [0u8; pair_report::ROOM];
     let written = pair_report::pair(&plan[..n], &first[..m], &second[..k], &mut out);
     let bytes = written.bytes;
-    if !io::write_all(STDOUT_FILENO, &out[..bytes]) {
-        os::fail(b"write");
-    }
+    rt.stdout().write_all(&out[..bytes])
 }

@@ -60,10 +60,10 @@ module _ (p s a h w o d : List ℕ) (b : Bool)
         (at-answer : a' ≡ (ran q.table s a h w).answer) (at-history : h' ≡ (ran q.table s a h w).history)
         (at-work : w' ≡ (ran q.table s a h w).work) where
       run_called_lem : run_called p s a h w o d ≡ ran_call r (ran q.table s a h w) o d
-      run_called_lem = called ∙ the-run ∙ ap (λ (t : RunResult). ran_call t (ran q.table s a h w) o d) (sym result)
+      run_called_lem = called ∙ the_run ∙ ap (λ (t : RunResult). ran_call t (ran q.table s a h w) o d) (sym result)
         where
-          the-run : read_call q s a h w o d ≡ ran_call (run_result q.table s a h w) (ran q.table s a h w) o d
-          the-run = rw (eq-eqb q.refusal.number 0 z)
+          the_run : read_call q s a h w o d ≡ ran_call (run_result q.table s a h w) (ran q.table s a h w) o d
+          the_run = rw (eq-eqb q.refusal.number 0 z)
 
       -- the run is over
       pub call_ended : (c : ℕ) (o' d' : List ℕ) → c ≡ code_of (end_values r o) → o' ≡ end_out r o → d' ≡ end_done r o d →

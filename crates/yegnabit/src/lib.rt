@@ -1,6 +1,8 @@
-// The C interface: every slice is a pointer and a length, nothing is kept. Each call answers number + 256 × which + 65,536 × place,
+// The calls of the C interface, which crates/yegnabit_c exports; nothing is kept. Each answers number + 256 × which + 65,536 × place,
 // number 0 where nothing is refused; which says whose refusal it is: 0 a lent area's, 1 the plan's,
 // 2 the script's, the run's or the history's.
+#![tactic(auto)]
+
 ghost use Rattle.std.specs.Prelude.{◌≡◌};
 ghost use Rattle.c_codes.specs.Codes.{code_of};
 ghost use Rattle.yegnabit.specs.Calls.{plan_values, plan_out, sweep_values, sweep_out, undo_values, undo_out, analyse_values};
@@ -17,8 +19,7 @@ use run::lent;
 use run_undo::undoing;
 
 // Reads a plan and writes it back to out, which needs room for any plan.
-#[unsafe(no_mangle)]
-pub extern "C" fn yegnabit_plan(plan: &[u8], out: &mut [u8]) -> u64
+pub fn yegnabit_plan(plan: &[u8], out: &mut [u8]) -> u64
     ensures value { result ≡ code_of (plan_values plan.now out.old) }
     ensures out_after { out.new ≡ plan_out plan.now out.old }
 {
@@ -35,8 +36,7 @@ pub extern "C" fn yegnabit_plan(plan: &[u8], out: &mut [u8]) -> u64
 }
 
 // Reads a plan, sweeps it, and writes it to out.
-#[unsafe(no_mangle)]
-pub extern "C" fn yegnabit_sweep(plan: &[u8], out: &mut [u8]) -> u64
+pub fn yegnabit_sweep(plan: &[u8], out: &mut [u8]) -> u64
     ensures value { result ≡ code_of (sweep_values plan.now out.old) }
     ensures out_after { out.new ≡ sweep_out plan.now out.old }
 {
@@ -55,8 +55,7 @@ pub extern "C" fn yegnabit_sweep(plan: &[u8], out: &mut [u8]) -> u64
 }
 
 // Reads a plan, takes a run back by its history, and writes it to out.
-#[unsafe(no_mangle)]
-pub extern "C" fn yegnabit_undo(plan: &[u8], history: &[u8], out: &mut [u8]) -> u64
+pub fn yegnabit_undo(plan: &[u8], history: &[u8], out: &mut [u8]) -> u64
     ensures value { result ≡ code_of (undo_values plan.now history.now out.old) }
     ensures out_after { out.new ≡ undo_out plan.now history.now out.old }
 {
@@ -79,8 +78,7 @@ pub extern "C" fn yegnabit_undo(plan: &[u8], history: &[u8], out: &mut [u8]) -> 
 // Reads a plan, runs a script on it in the lent areas, and writes the plan as it then is to out. done takes six numbers: items of the
 // answer, rows made, links cut, records written, history bytes, bytes in out. An area too short is 11 before all else and nothing is
 // touched; refused after that, out is as it was, and answer, history, work and the six numbers are zero.
-#[unsafe(no_mangle)]
-pub extern "C" fn yegnabit_run(
+pub fn yegnabit_run(
     plan: &[u8],
     script: &[u8],
     answer: &mut [u16],
@@ -124,8 +122,7 @@ pub extern "C" fn yegnabit_run(
 }
 
 // Analyses two scripts: a refusal is the first's, which 1, or the second's, which 2; else which is the answer: 0 free, 1 upward, 2 meet.
-#[unsafe(no_mangle)]
-pub extern "C" fn yegnabit_analyse(first: &[u8], second: &[u8]) -> u64
+pub fn yegnabit_analyse(first: &[u8], second: &[u8]) -> u64
     ensures { result ≡ code_of (analyse_values first.now second.now) }
 {
     let analysis = paths::analyse(first, second);
