@@ -13,7 +13,7 @@ import sys
 
 NAME = r'[^\s(){}.;,@"«»]+'
 DECLARED = re.compile(r"( *)(?:abbrev |unfoldable )?(?:pub )?(?:record |data )?((?:[^\s(){}.;,@\"«»:λ]+ )+):(?: |$)")
-GOAL = re.compile(r"\S+ : tie\.")
+GOAL = re.compile(r"\S+ : (?:tie|goal)\.|(?:pub )?\S+ : goal\.")
 
 
 def snake(name):
@@ -40,7 +40,7 @@ for f in laws + walks:
         m = DECLARED.match(code)
         if code[:1].strip():
             in_record = bool(re.match(r"(?:pub )?record ", code))
-        if not m or "→" in m[2] or f in walks and (m[1] or GOAL.match(code)) or len(m[1]) > 8:
+        if not m or "→" in m[2] or f in walks and (m[1] or GOAL.match(code)) or len(m[1]) > 14:
             continue
         for name in m[2].split():
             if not re.match(r"[a-z]", name) or name in ("pub", "abbrev"):
@@ -61,7 +61,7 @@ def turned(path, text):
     def name(m, comment):
         word, before = m[0], m.string[: m.start()]
         new = own.get(word, word)
-        if "-" in word and (comment or not antt):
+        if "-" in word and comment or not antt and word == word.lower():  # in Rust code that is a dash or a name of Rust's
             new = word
         elif before.endswith("."):
             behind = re.search(rf"({NAME})\.$", before)
@@ -79,7 +79,7 @@ def turned(path, text):
         else:
             at = line.find("//")
             code, comment = (line, "") if at < 0 else (line[:at], line[at:])
-        code = re.sub(NAME, lambda m: name(m, False), code)
+        code = re.sub(rf'"[^"]*"|{NAME}', lambda m: m[0] if m[0][0] == '"' else name(m, False), code)
         comment = re.sub(r"[\w′'₀-₉-]+", lambda m: name(m, True), comment)
         out.append(code + comment)
     return "\n".join(out), became

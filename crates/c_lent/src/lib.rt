@@ -1,4 +1,6 @@
 // The areas lent to the C calls.
+#![tactic(auto)]
+
 use plan_table::{Table, stored};
 
 pub mod done;

@@ -89,7 +89,8 @@ swept_back p o x b e room =
     )
 
 -- a well-formed table undone
-pub undone_back_lem : (p h o : List ℕ) (x y : model.Table) → is_well x ≡ true → read_plan p ≡ got x → undo x h ≡ back y → out_need ≤ length o →
+pub undone_back_lem : (p h o : List ℕ) (x y : model.Table) → is_well x ≡ true → read_plan p ≡ got x → undo x h ≡ back y →
+    out_need ≤ length o →
     (undo_values p h o ≡ refusal.values 0 0 (length (stored y))) × (undo_out p h o ≡ at_front (stored y) o)
 undone_back_lem p h o x y w e u room =
     let v : is_well y ≡ true = undo_keeps x y h w u in

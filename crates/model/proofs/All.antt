@@ -35,6 +35,7 @@ module _ {A : Type 0} where
   all_filtered {P} f (also {a = x} p a) = let b = all_filtered f a in cond_cases (All P) (f x) (λ e. also p b) (λ e. b)
 
   pub all_in : {P : A → Type 0} {l : List A} {a : A} → All P l → In a l → P a
+  all_in nothing i = elim i [ ]
   all_in {P} (also p b) (here e) = subst P (sym e) p
   all_in (also p b) (there i) = all_in b i
 

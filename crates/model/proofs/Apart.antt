@@ -48,7 +48,8 @@ pub record Apart (e f : Expr) : Type 0 where
 pub free_apart : (e f : Expr) → answer e f ≡ free → Apart e f
 free_apart e f h = go (has_up e || has_up f) (paths_meet (paths_of 1 e) (paths_of 2 f)) refl refl h
   where
-    go : (u m : Bool) → (has_up e || has_up f) ≡ u → paths_meet (paths_of 1 e) (paths_of 2 f) ≡ m → cond u upward (cond m meet free) ≡ free →
+    go : (u m : Bool) → (has_up e || has_up f) ≡ u → paths_meet (paths_of 1 e) (paths_of 2 f) ≡ m →
+        cond u upward (cond m meet free) ≡ free →
         Apart e f
     go true m a b c =
         let z : ◌≡◌ {A = ℕ} 0 1 = cc in

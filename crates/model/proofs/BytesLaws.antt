@@ -81,7 +81,8 @@ pub row_bytes_back : (b : List ℕ) → are_bytes b ≡ true → 4 ≤ length b 
 row_bytes_back b h l q m =
     let p : parent_bytes (parent_in (number_at b 2)) ≡ get_or b 2 0 ∷ get_or b 3 0 ∷ [] =
     parent_bytes_back (get_or b 2 0) (get_or b 3 0) (are_bytes_at b h 2) (are_bytes_at b h 3) in
-    let k : cond (eqb (get_or b 0 0) leaf_kind) leaf_kind element_kind ≡ get_or b 0 0 = row_kind (get_or b 0 0) q m (λ e. rw e) (λ e. rw e) in
+    let k : cond (eqb (get_or b 0 0) leaf_kind) leaf_kind element_kind ≡ get_or b 0 0 =
+    row_kind (get_or b 0 0) q m (λ e. rw e) (λ e. rw e) in
     cc (take_four b l)
 
 pub rows_bytes_snoc : (rs : List Row) (r : Row) → rows_bytes (rs ++ (r ∷ [])) ≡ rows_bytes rs ++ row_bytes r

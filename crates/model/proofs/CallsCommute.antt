@@ -161,7 +161,8 @@ well_after e i x w g = go (run_on x e) refl
 
 -- THE ANALYSIS says free of two scripts that are read
 pub free_scripts : {P : Type 0} (b c : List ℕ) → analyse b c ≡ answered free →
-    ((e f : Expr) (i n j m : ℕ) (r q : List ℕ) → read_script b ≡ parsed e i n r → read_script c ≡ parsed f j m q → answer e f ≡ free → P) → P
+    ((e f : Expr) (i n j m : ℕ) (r q : List ℕ) → read_script b ≡ parsed e i n r → read_script c ≡ parsed f j m q → answer e f ≡ free → P) →
+    P
 free_scripts {P} b c h k = go (read_script b) (read_script c) refl refl h
   where
     go : (p q : Parsed) → read_script b ≡ p → read_script c ≡ q → first_by p q ≡ answered free → P

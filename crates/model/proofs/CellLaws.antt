@@ -8,7 +8,8 @@ use lib.Dec.{eqb}
 use Rattle.model.specs.Base.{any}
 use Rattle.model.specs.Script.{Step}
 use Rattle.model.specs.Paths.{Place, Path, start, ◌▸◌, with_step, document_place}
-use Rattle.model.specs.Meeting.{Cell, on_cell, down_cell, up_cell, join_cell, is_deep, is_parent, admits_element, share_element, share_leaf}
+use Rattle.model.specs.Meeting.{Cell, on_cell, down_cell, up_cell, join_cell, is_deep, is_parent, admits_element, share_element}
+use Rattle.model.specs.Meeting.{share_leaf}
 use Rattle.model.specs.Meeting.{on_step, down_step, up_step, start_cell, start_cells, step_cells, cell, is_met, meets, any_meet}
 use Rattle.model.proofs.BoolLaws.{or_swap}
 use Rattle.model.proofs.MirrorLaws.{cell_equal}
@@ -86,14 +87,16 @@ parent_join s t c d =
 parent_none : (s t : Step) → is_parent s t no_cell ≡ false
 parent_none s t = ap (λ (x : Bool). x || (is_deep s && false)) (past_none (is_deep t)) ∙ past_none (is_deep s)
 
-share_join : (s t : Step) (e : Bool) (c d : Cell) → (is_parent s t (join_cell c d) && e) ≡ ((is_parent s t c && e) || (is_parent s t d && e))
+share_join : (s t : Step) (e : Bool) (c d : Cell) →
+    (is_parent s t (join_cell c d) && e) ≡ ((is_parent s t c && e) || (is_parent s t d && e))
 share_join s t e c d = ap (λ (x : Bool). x && e) (parent_join s t c d) ∙ and-or_distrib_right (is_parent s t c) (is_parent s t d) e
 
 pub on_respects : (s t : Step) → Respects (on_step s t)
 on_respects s t =
     record {
       none = ap (λ (x : Bool). on_cell (x && share_element s t) (x && share_leaf s t)) (parent_none s t);
-      join = λ c d. ap (λ (x : Bool). on_cell x (is_parent s t (join_cell c d) && share_leaf s t)) (share_join s t (share_element s t) c d) ∙
+      join = λ c d. ap (λ (x : Bool). on_cell x (is_parent s t (join_cell c d) && share_leaf s t))
+          (share_join s t (share_element s t) c d) ∙
           ap (λ (x : Bool). on_cell ((is_parent s t c && share_element s t) || (is_parent s t d && share_element s t)) x)
           (share_join s t (share_leaf s t) c d);
     }
@@ -171,7 +174,8 @@ row qs p = sum (cell p) qs
 module _ (s t : Step) where
   -- one path more, with a list
   row_steps : (p : Path) (qs : List Path) → sum (cell (p ▸ s)) (with_step t qs) ≡
-      join_cell (on_step s t (sum (cell p) qs)) (join_cell (down_step s (sum (cell p) (with_step t qs))) (up_step t (sum (cell (p ▸ s)) qs)))
+      join_cell (on_step s t (sum (cell p) qs))
+      (join_cell (down_step s (sum (cell p) (with_step t qs))) (up_step t (sum (cell (p ▸ s)) qs)))
   unfolding cell step_cells
   row_steps p qs =
       sum_steps (cell (p ▸ s)) t qs ∙
@@ -189,7 +193,8 @@ module _ (s t : Step) where
       (sum_through (up_step t) (up_respects t) (cell (p ▸ s)) qs)
 
   pub between_steps : (ps qs : List Path) → between (with_step s ps) (with_step t qs) ≡
-      join_cell (on_step s t (between ps qs)) (join_cell (down_step s (between ps (with_step t qs))) (up_step t (between (with_step s ps) qs)))
+      join_cell (on_step s t (between ps qs))
+      (join_cell (down_step s (between ps (with_step t qs))) (up_step t (between (with_step s ps) qs)))
   between_steps ps qs =
       sum_steps (λ (p : Path). sum (cell p) (with_step t qs)) s ps ∙
       sum_same (λ (p : Path). sum (cell (p ▸ s)) (with_step t qs))

@@ -121,7 +121,8 @@ chain_fits d {w} e =
 chain_elements : (d : ℕ) {w : Word} → Elements w → Tree (chain d w)
 unfolding chain
 chain_elements d root = chain_tree_root d
-chain_elements d (below {n} {w} h e) = tree_with_row (chain d w) (row_of (named n) (some (length w))) (chain_elements d e) h (chain_fits d e)
+chain_elements d (below {n} {w} h e) =
+    tree_with_row (chain d w) (row_of (named n) (some (length w))) (chain_elements d e) h (chain_fits d e)
 
 pub chain_tree : (d : ℕ) {z : Bool} {w : Word} → WordTo z w → Tree (chain d w)
 unfolding chain
@@ -166,7 +167,8 @@ module _ (d : ℕ) (w : Word) (t : Tree (chain d w)) where
   abbrev rows_on_chain : Path → List ℕ
   rows_on_chain p = rows_on (chain d w) (by_marks (chain d w).marks) p
 
-  chain_reached : (p : Path) (s : Step) (a : Letter) (u : Word) → Grown (a ∷ u) w → Reach (chain d w) s (rows_on_chain p) (suc (length u)) →
+  chain_reached : (p : Path) (s : Step) (a : Letter) (u : Word) → Grown (a ∷ u) w →
+      Reach (chain d w) s (rows_on_chain p) (suc (length u)) →
       In (suc (length u)) (rows_on_chain (p ▸ s))
   chain_reached p s a u g r =
       subst (In (suc (length u))) (sym (step_rows (chain d w) (by_marks (chain d w).marks) p s))

@@ -22,7 +22,8 @@ use Rattle.model.proofs.BytesLaws.{number_back, parent_in_back, length_parent_by
 
 -- BY KIND: what holds of each form holds of the kind's, which is none if the byte is no kind
 pub form_cases : (P : Form → Type 0) (k : ℕ) → (k ≡ made_element_kind → P (made_form false)) → (k ≡ made_leaf_kind → P (made_form true)) →
-    (k ≡ cut_kind → P cut_form) → ((k ≡ made_element_kind → ⊥) → (k ≡ made_leaf_kind → ⊥) → (k ≡ cut_kind → ⊥) → P no_form) → P (history_form k)
+    (k ≡ cut_kind → P cut_form) → ((k ≡ made_element_kind → ⊥) → (k ≡ made_leaf_kind → ⊥) → (k ≡ cut_kind → ⊥) → P no_form) →
+    P (history_form k)
 form_cases P k e l c n =
     cond_cases P (eqb k made_element_kind) (λ h. e (eqb-true _ _ h))
     (λ h. cond_cases P (eqb k made_leaf_kind) (λ i. l (eqb-true _ _ i))

@@ -75,7 +75,8 @@ module _ {ls : List Label} (x : Table) (S : Started ls x) (h : Places) (a : AreP
       let u = row_on x S h a g i z in
       meets_apart p q (label_at ls i).word (placed_once a v.root u.root) e (fit_proper S.fit i l) v.spells u.spells
 
-  is_on_apart : {n o : ℕ} {ps qs : List Path} → All (PathFits n) ps → All (PathFits o) qs → any_meet ps qs ≡ false → (i : ℕ) → i < count x →
+  is_on_apart : {n o : ℕ} {ps qs : List Path} → All (PathFits n) ps → All (PathFits o) qs → any_meet ps qs ≡ false → (i : ℕ) →
+      i < count x →
       (is_on x h i ps && is_on x h i qs) ≡ true → ⊥
   is_on_apart {ps} {qs} f g e i l k =
       let b = and_parts (is_on x h i ps) (is_on x h i qs) k in

@@ -11,7 +11,8 @@ use lib.ListN.{length, get_or, set, length-append, length-set, get_or-append}
 use lib.Seq.{get_or-append_seam, get_or-set_same, get_or-set_other}
 use borrow.Author.Tests.{ltb-true, ltb-false, eqb-true, eqb-false}
 use Rattle.model.specs.Limits.{max_rows}
-use Rattle.model.specs.Table.{Row, Table, no_row, row_at, count, is_marked, with_row, with_parent, linked, with_mark, tag_fits, parent_fits}
+use Rattle.model.specs.Table.{Row, Table, no_row, row_at, count, is_marked, with_row, with_parent, linked, with_mark, tag_fits}
+use Rattle.model.specs.Table.{parent_fits}
 use Rattle.model.proofs.BoolLaws.{true_false}
 use Rattle.model.proofs.TableLaws.{any_by, parent_fits_at, is_element_at, parent_count, Well}
 use Rattle.model.specs.Table.{ParentLower, IsRoot, Tree}

@@ -138,7 +138,7 @@ any_in {A} f (b ∷ l) e = go (or_cases (f b) (any f l) e) (λ h. any_in f l h)
         let (a, i, g) = k h in
         (a, there i, g)
 
-pub in_any : {A : Type 0} (f : A → Bool) {l : List A} {a : A} → In a l → f a ≡ true → any f l ≡ true
+pub in_any : {A : Type 0} (f : A → Bool) {a : A} {l : List A} → In a l → f a ≡ true → any f l ≡ true
 unfolding any
 in_any f (here {x = b} {xs = l} e) h = or_left (f b) (any f l) (ap f (sym e) ∙ h)
 in_any f (there {x = b} {xs = l} i) h = or_right (f b) (any f l) (in_any f i h)

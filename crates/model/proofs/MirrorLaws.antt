@@ -41,7 +41,8 @@ same_place_comm p q =
 
 start_mirror : (p q : Place) → start_cell q p ≡ start_cell p q
 start_mirror p q =
-    ap (λ (t : Bool). on_cell t (t && is_constructor q)) (same_place_comm q p) ∙ ap (on_cell (same_place p q)) (same_kind (same_place p q) refl)
+    ap (λ (t : Bool). on_cell t (t && is_constructor q)) (same_place_comm q p) ∙
+    ap (on_cell (same_place p q)) (same_kind (same_place p q) refl)
   where
     same_kind : (t : Bool) → same_place p q ≡ t → (t && is_constructor q) ≡ (t && is_constructor p)
     same_kind true e = ap (λ (o : ℕ). not (eqb o 0)) (sym (eqb-true p.owner q.owner (and_left _ (eqb p.number q.number) e)))
@@ -66,7 +67,8 @@ unfolding cell start_cells step_cells
 start_cells_lem p (start q) = start_mirror p q
 start_cells_lem p (q ▸ t) = ap (down_step t) (start_cells_lem p q)
 
-step_cells_lem : (s : Step) (p : Path) → ((q : Path) → cell q p ≡ mirror (cell p q)) → (q : Path) → cell q (p ▸ s) ≡ mirror (cell (p ▸ s) q)
+step_cells_lem : (s : Step) (p : Path) → ((q : Path) → cell q p ≡ mirror (cell p q)) → (q : Path) →
+    cell q (p ▸ s) ≡ mirror (cell (p ▸ s) q)
 unfolding cell start_cells step_cells
 step_cells_lem s p h (start q) = ap (up_step s) (h (start q))
 step_cells_lem s p h (q ▸ t) =
@@ -74,8 +76,10 @@ step_cells_lem s p h (q ▸ t) =
     ap (λ (c : Cell). join_cell c (join_cell (down_step t (cell q (p ▸ s))) (up_step s (cell (q ▸ t) p)))) (on_mirror s t (cell p q)) ∙
     ap (λ (c : Cell). join_cell (mirror (on_step s t (cell p q))) (join_cell (down_step t c) (up_step s (cell (q ▸ t) p))))
     (step_cells_lem s p h q) ∙
-    ap (λ (c : Cell). join_cell (mirror (on_step s t (cell p q))) (join_cell (mirror (up_step t (cell (p ▸ s) q))) (up_step s c))) (h (q ▸ t)) ∙
-    ap (join_cell (mirror (on_step s t (cell p q)))) (join_comm (mirror (up_step t (cell (p ▸ s) q))) (mirror (down_step s (cell p (q ▸ t)))))
+    ap (λ (c : Cell). join_cell (mirror (on_step s t (cell p q))) (join_cell (mirror (up_step t (cell (p ▸ s) q))) (up_step s c)))
+    (h (q ▸ t)) ∙
+    ap (join_cell (mirror (on_step s t (cell p q))))
+    (join_comm (mirror (up_step t (cell (p ▸ s) q))) (mirror (down_step s (cell p (q ▸ t)))))
 
 pub cell_mirror : (p q : Path) → cell q p ≡ mirror (cell p q)
 cell_mirror (start p) q = start_cells_lem p q

@@ -73,7 +73,8 @@ form_known (suc k) i n b f e = go (eqb (length b) 0) (is_fine (form_refusal i n 
     placed (formed ps) h p = let z : ◌≡◌ {A = ℕ} 0 1 = cc in absurd (omega arith)
 
     go : (t u : Bool) → is_fine (form_refusal i n b) ≡ u → (rest ≡ refused f → Known f) →
-        cond t (formed []) (cond u (with_placed (record { at = i; entry = record_in b }) rest) (refused (form_refusal i n b))) ≡ refused f →
+        cond t (formed []) (cond u (with_placed (record { at = i; entry = record_in b }) rest) (refused (form_refusal i n b))) ≡
+        refused f →
         Known f
     go true u m h q = let y : formed [] ≡ refused f = q in let z : ◌≡◌ {A = ℕ} 0 1 = cc in absurd (omega arith)
     go false true m h q = placed rest h q

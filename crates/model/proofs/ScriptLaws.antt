@@ -173,7 +173,8 @@ module _ (i n d v : ℕ) (b : List ℕ) where
       }
 
   fails : is_fine (expr_refusal i n d v b) ≡ false → is_in 1 5 (expr_refusal i n d v b).number ≡ true
-  fails = tests_refuse (ltb 0 (length b)) (is_script_kind (get_or b 0 0)) has_room (leb (1 + body_size (get_or b 0 0)) (length b)) (body_fits v b) i
+  fails = tests_refuse (ltb 0 (length b)) (is_script_kind (get_or b 0 0)) has_room (leb (1 + body_size (get_or b 0 0)) (length b))
+      (body_fits v b) i
 
 -- THE READER
 parse_from_well : (k d : ℕ) → ReaderWell (parse_from k d)

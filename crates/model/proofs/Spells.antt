@@ -60,7 +60,13 @@ admits_named s n e h =
 
 pub leaf_for_both : (s t : Step) → share_leaf s t ≡ true → LetterForBoth true s t
 leaf_for_both s t e =
-    record { letter = leaf_letter; ends = λ w h. to_leaf h; passes = and_left _ (admits_leaf t) e; passes_too = and_right (admits_leaf s) _ e }
+    record {
+      letter = leaf_letter;
+      ends = λ w h. to_leaf h;
+      passes = and_left _ (admits_leaf t) e;
+      passes_too =
+          and_right (admits_leaf s) _ e;
+    }
 
 -- a step's own name, or 1
 pub element_for_both : (s t : Step) → StepFits s → StepFits t → share_element s t ≡ true → LetterForBoth false s t

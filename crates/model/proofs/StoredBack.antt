@@ -28,7 +28,8 @@ use Rattle.model.proofs.BytesLaws.{row_bytes_back, row_in_back, rows_bytes_snoc,
 use Rattle.model.proofs.BytesLaws.{marks_bytes_set}
 
 -- BYTES TO TABLE TO BYTES: a fine record adds its own four bytes to what is stored
-stored_row : (x : Table) (b : List ℕ) → are_bytes b ≡ true → IsRowRecord x b → stored (with_row x (row_in b)) ≡ stored x ++ take record_size b
+stored_row : (x : Table) (b : List ℕ) → are_bytes b ≡ true → IsRowRecord x b →
+    stored (with_row x (row_in b)) ≡ stored x ++ take record_size b
 stored_row x b h r =
     rw (marks_bytes_none 0 x.marks (λ k. last_marked_at 0 x.marks 0 (omega (arith, r.before)) k (omega arith)))
     (simp append-nil

@@ -12,7 +12,8 @@ use borrow.Author.Tests.{ltb-true, leb-true, eqb-true, eqb-false, not-true, lt-l
 use Rattle.model.specs.Limits.{max_rows, documents}
 use Rattle.model.specs.Refusal.{Refusal, is_fine, unless, or_else, field_at, link_at}
 use Rattle.model.specs.Table.{Table, row_at, count, is_element, is_marked, has_parent, with_row, with_mark, tag_fits, parent_fits, IsRoot}
-use Rattle.model.specs.Stored.{Read, refused, got, number_at, row_in, is_mark, last_marked, row_links, mark_links, record_refusal, recorded}
+use Rattle.model.specs.Stored.{Read, refused, got, number_at, row_in, is_mark, last_marked, row_links, mark_links, record_refusal}
+use Rattle.model.specs.Stored.{recorded}
 use Rattle.model.specs.Stored.{read_from, mark_kind, stored_kinds, is_stored_kind, stored_size, record_size}
 use Rattle.model.proofs.BoolLaws.{and_left, and_both, or_left, or_right}
 use Rattle.model.proofs.KindLaws.{stored_size_lem, stored_most}
@@ -112,7 +113,8 @@ mark_fine x b = ltb (get_or b 1 0) documents && mark_links x (get_or b 1 0) (num
 abbrev pub record_fine : Table → List ℕ → Bool
 record_fine x b =
     is_stored_kind (get_or b 0 0) &&
-    ((is_mark b || ltb (count x) max_rows) && (leb (stored_size (get_or b 0 0)) (length b) && cond (is_mark b) (mark_fine x b) (row_fine x b)))
+    ((is_mark b || ltb (count x) max_rows) &&
+    (leb (stored_size (get_or b 0 0)) (length b) && cond (is_mark b) (mark_fine x b) (row_fine x b)))
 
 is_fine_record : (x : Table) (i : ℕ) (b : List ℕ) → is_fine (record_refusal x i b) ≡ record_fine x b
 is_fine_record x i b =

@@ -27,7 +27,8 @@ kept_from_fuel x t (suc n) (suc m) i h k =
     (go (row_at x i).parent
     (λ p e. let l = (t.parents i p e).0 in kept_from_fuel x t n m p (omega arith) (omega arith)))
   where
-    go : (q : Option ℕ) → ((p : ℕ) → q ≡ some p → kept_from n x p ≡ kept_from m x p) → through (kept_from n x) q ≡ through (kept_from m x) q
+    go : (q : Option ℕ) → ((p : ℕ) → q ≡ some p → kept_from n x p ≡ kept_from m x p) →
+        through (kept_from n x) q ≡ through (kept_from m x) q
     go none r = refl
     go (some p) r = r p refl
 
@@ -47,7 +48,8 @@ module _ (x : Table) (t : Tree x) where
   is_kept_below i p e h =
       is_kept_unrolled x t i ∙ or_right (is_marked x i) _ (subst (λ (q : Option ℕ). through (is_kept x) q ≡ true) (sym e) h)
 
-  pub is_kept_cases : (i : ℕ) → is_kept x i ≡ true → (is_marked x i ≡ true) ⊎ ((p : ℕ) × (((row_at x i).parent ≡ some p) × (is_kept x p ≡ true)))
+  pub is_kept_cases : (i : ℕ) → is_kept x i ≡ true → (is_marked x i ≡ true) ⊎
+      ((p : ℕ) × (((row_at x i).parent ≡ some p) × (is_kept x p ≡ true)))
   is_kept_cases i h = elim (or_cases (is_marked x i) _ (sym (is_kept_unrolled x t i) ∙ h)) [
     | inl m ↦ inl m
     | inr m ↦ inr (go (row_at x i).parent refl m)
@@ -138,7 +140,8 @@ swept_rows_at x i (r ∷ rs) (suc k) l h =
     go (is_kept x i) refl
     (swept_rows_at x (suc i) rs k (omega arith) (subst (λ (j : ℕ). is_kept x j ≡ true) (omega arith) h))
   where
-    go : (t : Bool) → is_kept x i ≡ t → get_or (swept_rows x (suc i) rs) (kept_before x (suc i) k) no_row ≡ swept_row x (get_or rs k no_row) →
+    go : (t : Bool) → is_kept x i ≡ t →
+        get_or (swept_rows x (suc i) rs) (kept_before x (suc i) k) no_row ≡ swept_row x (get_or rs k no_row) →
         get_or (swept_rows x i (r ∷ rs)) (kept_before x i (suc k)) no_row ≡ swept_row x (get_or rs k no_row)
     go true e q = rw (e, one-add) q
     go false e q = rw (e, zero-add) q

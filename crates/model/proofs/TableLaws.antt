@@ -24,7 +24,8 @@ pub record RowFits (x : Table) (i : ℕ) (r : Row) : Type 0 where
   pub tag_in : tag_fits r ≡ true
   pub parent_in : parent_fits x i r.parent ≡ true
 
-rows_fit_at : (x : Table) (i : ℕ) (rs : List Row) → rows_fit x i rs ≡ true → (k : ℕ) → k < length rs → RowFits x (i + k) (get_or rs k no_row)
+rows_fit_at : (x : Table) (i : ℕ) (rs : List Row) → rows_fit x i rs ≡ true → (k : ℕ) → k < length rs →
+    RowFits x (i + k) (get_or rs k no_row)
 unfolding rows_fit
 rows_fit_at x i [] h k l = absurd (not-suc-le-zero l)
 rows_fit_at x i (r ∷ rs) h zero l =
@@ -60,7 +61,8 @@ get_d_some (m ∷ ms) (suc d) i e = omega (arith, get_d_some ms d i e)
 pub any_at : (i : ℕ) (ms : List (Option ℕ)) → any (is_the i) ms ≡ true → (d : ℕ) × (get_or ms d none ≡ some i)
 unfolding any
 any_at i [] h = absurd (true_false false h refl)
-any_at i (m ∷ ms) h = elim (or_cases (is_the i m) (any (is_the i) ms) h) [ inl e ↦ (zero, is_the_at i m e) | inr e ↦ later (any_at i ms e) ]
+any_at i (m ∷ ms) h =
+    elim (or_cases (is_the i m) (any (is_the i) ms) h) [ inl e ↦ (zero, is_the_at i m e) | inr e ↦ later (any_at i ms e) ]
   where
     later : (d : ℕ) × (get_or ms d none ≡ some i) → (d : ℕ) × (get_or (m ∷ ms) d none ≡ some i)
     later w = (suc w.0, w.1)
@@ -87,7 +89,8 @@ none_twice_at (some j ∷ ms) h (suc d) zero i p q = absurd (twice_never ms i j 
 none_twice_at (some j ∷ ms) h (suc d) (suc e) i p q =
     ap suc (none_twice_at ms (and_right (not (any (is_the j) ms)) _ h) d e i p q)
 
-none_twice_by : (ms : List (Option ℕ)) → ((d e i : ℕ) → get_or ms d none ≡ some i → get_or ms e none ≡ some i → d ≡ e) → none_twice ms ≡ true
+none_twice_by : (ms : List (Option ℕ)) → ((d e i : ℕ) → get_or ms d none ≡ some i → get_or ms e none ≡ some i → d ≡ e) →
+    none_twice ms ≡ true
 unfolding none_twice
 none_twice_by [] h = refl
 none_twice_by (none ∷ ms) h = none_twice_by ms (λ d e i p q. omega (arith, h (suc d) (suc e) i p q))

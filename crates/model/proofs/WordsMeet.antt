@@ -46,7 +46,8 @@ admits_name s n e f =
 share_element_lem : (s t : Step) (n : ℕ) → admits s (named n) ≡ true → admits t (named n) ≡ true → share_element s t ≡ true
 share_element_lem s t n e f =
     and_both (admits_element s && admits_element t) (not (is_named s && is_named t) || eqb s.name t.name)
-    (and_both (admits_element s) (admits_element t) (admits_element_lem s n e) (admits_element_lem t n f)) (go (is_named s && is_named t) refl)
+    (and_both (admits_element s) (admits_element t) (admits_element_lem s n e) (admits_element_lem t n f))
+    (go (is_named s && is_named t) refl)
   where
     go : (z : Bool) → (is_named s && is_named t) ≡ z → (not z || eqb s.name t.name) ≡ true
     go false g = refl

@@ -132,8 +132,10 @@ after_itself = table_of (run_on plan_p into_itself)
 -- every script here is accepted
 abbrev pub AllAccepted : Type 0
 AllAccepted =
-    accepted bytes_a × accepted bytes_twin × accepted bytes_b × accepted bytes_delete_twos × accepted bytes_leaves_below × accepted bytes_let_x ×
-    accepted bytes_copy_twos × accepted bytes_delete_leaves × accepted bytes_delete_root × accepted bytes_twice × accepted bytes_into_itself
+    accepted bytes_a × accepted bytes_twin × accepted bytes_b × accepted bytes_delete_twos × accepted bytes_leaves_below ×
+    accepted bytes_let_x ×
+    accepted bytes_copy_twos × accepted bytes_delete_leaves × accepted bytes_delete_root × accepted bytes_twice ×
+    accepted bytes_into_itself
 
 -- the cases, in the order of document 01; three more beside them
 abbrev pub Cases : Type 0
@@ -145,7 +147,8 @@ Cases =
     (answer delete_twos script_a ≡ meet) × (answer delete_twos leaves_below ≡ meet) × (answer copy_twos delete_leaves ≡ meet) ×
     (answer script_b script_b ≡ free) × (answer script_a script_b ≡ free) × (answer_of (run_on plan_p let_x) ≡ 2 ∷ []) ×
     ((history_of (run_on plan_p delete_root) ≡ []) × (ends (run_on plan_p delete_root) ≡ true)) ×
-    ((count after_twice ≡ 8) × (parent_at after_twice 4 ≡ some 3) × (parent_at after_twice 5 ≡ some 4) × (parent_at after_twice 6 ≡ some 3) ×
+    ((count after_twice ≡ 8) × (parent_at after_twice 4 ≡ some 3) × (parent_at after_twice 5 ≡ some 4) ×
+    (parent_at after_twice 6 ≡ some 3) ×
     (parent_at after_twice 7 ≡ some 6)) ×
     ((count after_itself ≡ 6) × (parent_at after_itself 4 ≡ some 3) × (parent_at after_itself 5 ≡ some 3)) ×
     (refusal_by (read_script []) ≡ short_at 0) × (read_plan [] ≡ got empty)

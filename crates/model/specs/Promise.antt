@@ -1,5 +1,6 @@
 -- What is promised of every plan and every two scripts. Each promise is a type; a term of that type in proofs/ is its proof.
-use Rattle.std.specs.Prelude.{◌≡◌, ◌↔◌, Bool, true, false, ◌&&◌, ◌||◌, cond, List, [], ◌∷◌, ◌++◌, map, ℕ, zero, suc, ◌+◌, ◌-◌, ◌≤◌, ◌<◌, ltb, eqb, length, get_or}
+use Rattle.std.specs.Prelude.{◌≡◌, ◌↔◌, Bool, true, false, ◌&&◌, ◌||◌, cond, List, [], ◌∷◌, ◌++◌, map, ℕ, zero, suc, ◌+◌, ◌-◌, ◌≤◌, ◌<◌}
+use Rattle.std.specs.Prelude.{ltb, eqb, length, get_or}
 use Rattle.std.proofs.Math.Option.{Option, none, some}
 use Rattle.model.specs.Base.{All, any, among, are_bytes}
 use Rattle.model.specs.Limits.{documents, max_history, history_need}
@@ -37,7 +38,8 @@ SweepKeeps =
     (x : Table) → is_well x ≡ true →
     ((i : ℕ) → is_kept x i ≡ (is_marked x i || through (is_kept x) (row_at x i).parent)) ×
     ((i : ℕ) → i < count x → is_kept x i ≡ true →
-    (new_number x i < count (swept x)) × (row_at (swept x) (new_number x i) ≡ with_parent (row_at x i) (renumbered x (row_at x i).parent))) ×
+    (new_number x i < count (swept x)) ×
+    (row_at (swept x) (new_number x i) ≡ with_parent (row_at x i) (renumbered x (row_at x i).parent))) ×
     ((i p : ℕ) → (row_at x i).parent ≡ some p → is_kept x i ≡ true → is_kept x p ≡ true) ×
     ((j : ℕ) → j < count (swept x) → (i : ℕ) × ((i < count x) × (is_kept x i ≡ true) × (new_number x i ≡ j))) ×
     ((i j : ℕ) → is_kept x i ≡ true → i < j → new_number x i < new_number x j) ×

@@ -1,5 +1,6 @@
 -- Document 01, 'Stored plan': written, and read with number and place of a refusal.
-use Rattle.std.specs.Prelude.{◌≡◌, Bool, ◌&&◌, ◌||◌, not, cond, List, [], ◌∷◌, ◌++◌, ℕ, zero, suc, ◌+◌, ◌*◌, ◌/◌, ◌%◌, ◌<◌, ltb, leb, eqb, length, get_or, drop}
+use Rattle.std.specs.Prelude.{◌≡◌, Bool, ◌&&◌, ◌||◌, not, cond, List, [], ◌∷◌, ◌++◌, ℕ, zero, suc, ◌+◌, ◌*◌, ◌/◌, ◌%◌, ◌<◌, ltb, leb, eqb}
+use Rattle.std.specs.Prelude.{length, get_or, drop}
 use Rattle.std.proofs.Math.Option.{Option, none, some}
 use Rattle.model.specs.Limits.{max_rows, documents}
 use Rattle.model.specs.Refusal.{Refusal, is_fine, or_else, unless, kind_at, short_at, field_at, size_at, link_at}
@@ -126,7 +127,8 @@ abbrev pub record_refusal : Table → (place : ℕ) → (bytes : List ℕ) → R
 record_refusal x i b =
     or_else (unless (is_stored_kind (get_or b 0 0)) (kind_at i))
     (or_else (unless (is_mark b || ltb (count x) max_rows) (size_at i))
-    (or_else (unless (leb (stored_size (get_or b 0 0)) (length b)) (short_at i)) (cond (is_mark b) (mark_refusal x i b) (row_refusal x i b))))
+    (or_else (unless (leb (stored_size (get_or b 0 0)) (length b)) (short_at i))
+    (cond (is_mark b) (mark_refusal x i b) (row_refusal x i b))))
 
 -- the table with the record at the front
 abbrev pub recorded : Table → (bytes : List ℕ) → Table

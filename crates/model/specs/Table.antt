@@ -1,5 +1,6 @@
 -- Document 01, 'The table': rows, marks, and when a table is well formed.
-use Rattle.std.specs.Prelude.{◌≡◌, Bool, true, false, ◌&&◌, not, cond, List, [], ◌∷◌, ◌++◌, ℕ, suc, ◌<◌, ltb, leb, eqb, length, get_or, set, replicate}
+use Rattle.std.specs.Prelude.{◌≡◌, Bool, true, false, ◌&&◌, not, cond, List, [], ◌∷◌, ◌++◌, ℕ, suc, ◌<◌, ltb, leb, eqb, length, get_or}
+use Rattle.std.specs.Prelude.{set, replicate}
 use Rattle.std.proofs.Math.Option.{Option, none, some}
 use Rattle.model.specs.Base.{is_in, all, any, max_byte}
 use Rattle.model.specs.Limits.{max_rows, documents, max_name}

@@ -1,2 +1,4 @@
 // The lines that `pair` prints, each written to a lent area.
+#![tactic(auto)]
+
 pub mod line;

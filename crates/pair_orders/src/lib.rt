@@ -1,2 +1,4 @@
 // Two scripts run one after the other on a plan.
+#![tactic(auto)]
+
 pub mod orders;

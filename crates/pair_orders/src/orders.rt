@@ -8,7 +8,7 @@ use plan_table::Table;
 use run::lent;
 
 // How a run ended: the number of its refusal, or 0; the items of its answer; the table after it.
-#[derive(Drop)]
+#[derive(Clone, Copy)]
 struct Ending {
     number: u8,
     items: usize,
@@ -16,7 +16,7 @@ struct Ending {
 }
 
 // How an order ended: the script refused, 1 or 2, and the number; or the items of the two answers and the rows at the end.
-#[derive(Drop)]
+#[derive(Clone, Copy)]
 pub enum Order {
     Refused {
         script: u8,

@@ -15,7 +15,8 @@ use Rattle.pair_report.specs.Pair.{three_lines, pair_text}
 use Rattle.pair_report.specs.Examples.{Examples}
 
 pub examples_hold : Examples
-unfolding any all among filtered rows_fit none_twice stored_kinds read_from last_marked script_kinds parse_from is_below_from collect run loop
+unfolding any all among filtered rows_fit none_twice stored_kinds read_from last_marked script_kinds parse_from is_below_from collect run
+    loop
     cut_all copy_all copy_each
     copy_of infer prefixed prefixes_of has_up cell start_cells step_cells digits ending order file_line answer_line
     order_line three_lines pair_text

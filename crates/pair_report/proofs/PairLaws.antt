@@ -27,8 +27,8 @@ use Rattle.pair_text.proofs.TextLaws.{placed_then}
 
 -- THREE LINES
 pub three_placed : (t : Table) (w b c : List ℕ) {o o₁ o₂ o₃ : List ℕ} {n m r : ℕ} {x y z : Order} → x ≡ order t b c → y ≡ order t c b →
-    z ≡ swap y → Placed o 0 (answer_line w) o₁ n → Placed o₁ n (order_line (ascii "one_two") x) o₂ m →
-    Placed o₂ m (order_line (ascii "two_one") z) o₃ r → Placed o 0 (three_lines t w b c) o₃ r
+    z ≡ swap y → Placed o 0 (answer_line w) o₁ n → Placed o₁ n (order_line (ascii "one-two") x) o₂ m →
+    Placed o₂ m (order_line (ascii "two-one") z) o₃ r → Placed o 0 (three_lines t w b c) o₃ r
 unfolding three_lines
 three_placed t w b c e f g p q s =
     placed_then (omega arith) (placed_then (omega arith) p (rw e at q)) (rw (g ∙ ap swap f) at s)

@@ -21,7 +21,7 @@ room = 160
 
 -- THREE LINES: the answer, and both orders
 abbrev pub lines_of : (answer : List ℕ) → (oneTwo twoOne : Order) → List ℕ
-lines_of w x y = answer_line w ++ order_line (ascii "one_two") x ++ order_line (ascii "two_one") y
+lines_of w x y = answer_line w ++ order_line (ascii "one-two") x ++ order_line (ascii "two-one") y
 
 -- each from the plan read
 unfoldable pub three_lines : Table → (answer first second : List ℕ) → List ℕ

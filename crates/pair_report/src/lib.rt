@@ -1,4 +1,6 @@
 // The report of the program `pair`: two scripts analysed and run in both orders on a plan, as lines of text.
+#![tactic(auto)]
+
 ghost use Rattle.std.specs.Prelude.{◌≡◌, true, ◌≤◌, length};
 ghost use Rattle.plan_table.specs.Packed.{fits};
 ghost use Rattle.pair_report.specs.Pair.{room, three_lines, text_by, Report, Counted, pair_written, pair_out};

@@ -1,4 +1,6 @@
 // The path analysis: whether two scripts can touch the same node of some plan.
+#![tactic(auto)]
+
 ghost use Rattle.std.specs.Prelude.{◌≡◌};
 ghost use Rattle.paths.specs.Analysis.{analysed, ScriptPre, ScriptPost, FrontsPre, AnswerPre, AnswerPost};
 
@@ -28,7 +30,7 @@ const MOST_MARKS: usize = pairs::RELATIONS * MOST;
 const ALL_MARKS: usize = pairs::RELATIONS * POSITIONS * POSITIONS;
 
 // What the analysis answers: the script refused, 1 or 2, with its refusal; or whether the two are free of one another.
-#[derive(Drop)]
+#[derive(Clone, Copy)]
 pub enum Analysis {
     Refused { script: u8, refusal: Refusal },
     Free,

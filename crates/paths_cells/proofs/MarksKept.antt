@@ -39,12 +39,12 @@ unfolding after
 after_length m t [] = refl
 after_length m t (c ∷ cs) = after_length m (called m t c) cs ∙ call_length m t c
 
-after_at : (t : List ℕ) (m n i : ℕ) (b : Bool) {cs : List Call} → All (InTable m n) cs → HasRows t m n → get_or t i 0 ≡ bit b →
+after_at : (m n i : ℕ) (t : List ℕ) (b : Bool) {cs : List Call} → All (InTable m n) cs → HasRows t m n → get_or t i 0 ≡ bit b →
     get_or (after m t cs) i 0 ≡ bit (b || any (sets m i) cs)
 unfolding after any
-after_at t m n i b nothing room e = e ∙ ap bit (sym (or-false b))
-after_at t m n i b (also {a = c} {l = cs} h hs) room e =
-    after_at (called m t c) m n i (b || sets m i c) hs (same_rows t (called m t c) m n (call_length m t c) room)
+after_at m n i t b nothing room e = e ∙ ap bit (sym (or-false b))
+after_at m n i t b (also {a = c} {l = cs} h hs) room e =
+    after_at m n i (called m t c) (b || sets m i c) hs (same_rows t (called m t c) m n (call_length m t c) room)
     (call_at t m n c room h i b e c.holds (eqb i (placed m c)) refl) ∙
     ap bit (or_assoc b (sets m i c) (any (sets m i) cs))
 
@@ -89,7 +89,7 @@ marks_kept t m n cs room inside = (
 )
   where
     at_place : (i : ℕ) → get_or (after m (cleared t) cs) i 0 ≡ bit (any (sets m i) cs)
-    at_place i = after_at (cleared t) m n i false inside (same_rows t (cleared t) m n (cleared_length t) room) (cleared_at t i)
+    at_place i = after_at m n i (cleared t) false inside (same_rows t (cleared t) m n (cleared_length t) room) (cleared_at t i)
 
     at_pair : (r k l : ℕ) → r < relations → l < m → mark_at (after m (cleared t) cs) m r k l ≡ bit (any (marks r k l) cs)
     at_pair r k l h g = at_place (place_of m r k l) ∙ ap bit (same_any m n r k l h g inside)

@@ -34,7 +34,8 @@ module _ (b : List ℕ) (at left v : ℕ) (a : Accepted b at left v) where
     pub ends : end_at b at ≡ first_at b at
     pub size : records_of (expr_at left b at) ≡ 1
 
-  zero_of : (e : Expr) → Nullary b at left e → ((ns : List ℕ) (es : List Entry) → emit e ns es ≡ nullary_of b at ns es) → records_of e ≡ 1 →
+  zero_of : (e : Expr) → Nullary b at left e → ((ns : List ℕ) (es : List Entry) → emit e ns es ≡ nullary_of b at ns es) →
+      records_of e ≡ 1 →
       Zero
   zero_of e n f s =
       record {
@@ -87,7 +88,8 @@ module _ (b : List ℕ) (at left v : ℕ) (a : Accepted b at left v) where
     pub second : Accepted b (second_at b at) (left - 1) (inner (get_or b at 0) v)
     pub emits : (ns : List ℕ) (es : List Entry) → emit (expr_at left b at) ns es ≡
         binary_of (get_or b at 0) (emit (expr_at (left - 1) b (first_at b at)) ns es).result
-        (emit (expr_at (left - 1) b (second_at b at)) (with_bound (get_or b at 0) ns (emit (expr_at (left - 1) b (first_at b at)) ns es).result)
+        (emit (expr_at (left - 1) b (second_at b at))
+        (with_bound (get_or b at 0) ns (emit (expr_at (left - 1) b (first_at b at)) ns es).result)
         (emit (expr_at (left - 1) b (first_at b at)) ns es).entries)
     pub ends : end_at b at ≡ third_at b at
     pub size : records_of (expr_at left b at) ≡ 1 + records_of (expr_at (left - 1) b (first_at b at)) + records_of
@@ -95,7 +97,8 @@ module _ (b : List ℕ) (at left v : ℕ) (a : Accepted b at left v) where
 
   two_of : (w : ℕ) (make : Expr → Expr → Expr) → Binary b at left v w make → w ≡ inner (get_or b at 0) v →
       ((x y : Expr) (ns : List ℕ) (es : List Entry) → emit (make x y) ns es ≡
-      binary_of (get_or b at 0) (emit x ns es).result (emit y (with_bound (get_or b at 0) ns (emit x ns es).result) (emit x ns es).entries)) →
+      binary_of (get_or b at 0) (emit x ns es).result
+      (emit y (with_bound (get_or b at 0) ns (emit x ns es).result) (emit x ns es).entries)) →
       ((x y : Expr) → records_of (make x y) ≡ 1 + records_of x + records_of y) → Two
   two_of w make u scope f s =
       record {

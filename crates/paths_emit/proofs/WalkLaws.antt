@@ -75,7 +75,8 @@ module _ {b : List ℕ} {at left v : ℕ} {env ws : List ℕ} {n : ℕ} (pre : E
       let o = no_operand b at left v pre.accepted z in
       record {
         size = post.size;
-        is = post.is ∙ by_cases (eqb (get_or b at 0) variable_kind) (λ t. variable (eqb-true (get_or b at 0) variable_kind t)) (λ t. rw t) ∙
+        is = post.is ∙ by_cases (eqb (get_or b at 0) variable_kind) (λ t. variable (eqb-true (get_or b at 0) variable_kind t))
+            (λ t. rw t) ∙
             sym (o.emits (take v env) (entries_in ws n));
         place = e ∙ sym o.ends;
         low = post.low;

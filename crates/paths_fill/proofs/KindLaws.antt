@@ -14,7 +14,8 @@ use Rattle.paths_positions.specs.Positions.{Entry, entry_at, IsLower}
 use Rattle.paths_positions.specs.Packed.{step_in, position_by, fields_of, entry_of, entries_by, root_kind, over_kind, union_kind, kinds}
 use Rattle.paths_positions.specs.declared.packed.Position.{Position}
 use Rattle.paths_cells.proofs.MarkLaws.{bit_set}
-use Rattle.paths_rows.specs.Columns.{Columns, column_at, is_set_at, first_field, second_field, kind_field, deep_field, element_field, leaf_field}
+use Rattle.paths_rows.specs.Columns.{Columns, column_at, is_set_at, first_field, second_field, kind_field, deep_field, element_field}
+use Rattle.paths_rows.specs.Columns.{leaf_field}
 use Rattle.paths_rows.specs.Columns.{named_field, low_field, high_field, operand_of}
 use Rattle.paths_rows.specs.Rows.{label_is}
 use Rattle.paths_fill.specs.Filling.{PositionsPre}

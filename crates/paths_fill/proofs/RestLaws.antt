@@ -152,7 +152,8 @@ module _ {ws us c t : List ℕ} {k l : ℕ} (pre : LeftPre ws us c t k l) where
         is_marked t m on_element k l || (is_set_at c element_field l && (is_marked t m up k (column_at c first_field l) ||
         (is_set_at c deep_field l && is_marked t m down k (column_at c first_field l))))
 
-    pub up_by_lem : (j : ℕ) {o e u d n : Bool} → j ≡ column_at c first_field l → o ≡ is_marked t m on_element k l → e ≡ is_set_at c element_field l →
+    pub up_by_lem : (j : ℕ) {o e u d n : Bool} → j ≡ column_at c first_field l → o ≡ is_marked t m on_element k l →
+        e ≡ is_set_at c element_field l →
         u ≡ is_marked t m up k j → d ≡ is_set_at c deep_field l → n ≡ is_marked t m down k j → (o || (e && (u || (d && n)))) ≡ up_by
     up_by_lem j a b d e f g = cc
 
@@ -160,7 +161,8 @@ module _ {ws us c t : List ℕ} {k l : ℕ} (pre : LeftPre ws us c t k l) where
     on_here = marked_is t m on_element k l (marked_before on_element (omega arith) refl)
 
     -- without a step that lets elements pass
-    up_by_none : (q.kind ≡ over_kind → ⊥) → (z : Bool) → (is_marked t m on_element k l || (is_set_at c element_field l && z)) ≡ holds_at ws us
+    up_by_none : (q.kind ≡ over_kind → ⊥) → (z : Bool) →
+        (is_marked t m on_element k l || (is_set_at c element_field l && z)) ≡ holds_at ws us
         on_element k l
     up_by_none n z =
         ap (λ (x : Bool). is_marked t m on_element k l || (x && z)) (no_element_at pre.fill.columns l pre.column n) ∙
@@ -187,9 +189,11 @@ module _ {ws us c t : List ℕ} {k l : ℕ} (pre : LeftPre ws us c t k l) where
             ap (λ (x : Bool). holds_at ws us on_element k l || (x && (is_marked t m up k (column_at c first_field l) ||
             (is_set_at c deep_field l && is_marked t m down k (column_at c first_field l)))))
             (over_element pre.fill.columns l pre.column e) ∙
-            ap (λ (x : Bool). holds_at ws us on_element k l || (admits_element (step_in q) && (is_marked t m up k (column_at c first_field l) ||
+            ap (λ (x : Bool). holds_at ws us on_element k l ||
+            (admits_element (step_in q) && (is_marked t m up k (column_at c first_field l) ||
             (x && is_marked t m down k (column_at c first_field l))))) (deep_at pre.fill.columns l pre.column) ∙
-            ap (λ (x : ℕ). holds_at ws us on_element k l || passes (admits_element (step_in q)) (is_deep (step_in q)) (is_marked t m up k x)
+            ap (λ (x : ℕ). holds_at ws us on_element k l ||
+            passes (admits_element (step_in q)) (is_deep (step_in q)) (is_marked t m up k x)
             (is_marked t m down k x)) (over_first pre.fill.columns l pre.column e) ∙
             ap (λ (x : Bool). holds_at ws us on_element k l || passes (admits_element (step_in q)) (is_deep (step_in q)) x
             (is_marked t m down k q.first)) (read_before up q.first (omega arith) b) ∙

@@ -103,7 +103,8 @@ module _ {ws us c t : List ℕ} {k : ℕ} {p : Position} (pre : KindRowPre ws us
     down_before l h =
         or-false (is_marked t₁ m on_element k l) ∙ marked_is t₁ m on_element k l (one.here l h ∙ ap bit (on_is l h))
 
-    down_single : (l : ℕ) → l < m → ((fields_of (get_or us l 0)).kind ≡ union_kind → ⊥) → holds_at ws us down k l ≡ holds_at ws us on_element k l
+    down_single : (l : ℕ) → l < m → ((fields_of (get_or us l 0)).kind ≡ union_kind → ⊥) →
+        holds_at ws us down k l ≡ holds_at ws us on_element k l
     down_single l h n =
         down_root (entries_by ws) (entries_by us) pre.fill.first.lower pre.fill.second.lower k l low (cells l h) p.label at_k
         (position_by (fields_of (get_or us l 0))) (position_at us l) (single_at (get_or us l 0) n)
@@ -165,8 +166,8 @@ module _ {ws us c t : List ℕ} {k : ℕ} {p : Position} (pre : KindRowPre ws us
           record {
             size = kept.size;
             filled = filled_next pre.filled kept
-                (λ r l h g. started l g r h ∙ ap bit (before_none ws us c r k l (root-apart r l h g)));
-            apart = λ e. root-apart;
+                (λ r l h g. started l g r h ∙ ap bit (before_none ws us c r k l (root_apart r l h g)));
+            apart = λ e. root_apart;
           }
         where
           not_down : (l : ℕ) → l < length (entries_by us) → (x : positions.Position) → (entry_at (entries_by us) l).position ≡ x → IsSingle
@@ -180,8 +181,8 @@ module _ {ws us c t : List ℕ} {k : ℕ} {p : Position} (pre : KindRowPre ws us
               l h in
               (sym (down_single l h n) ∙ d, d)
 
-          root-apart : Apart ws us k
-          root-apart r l h g =
+          root_apart : Apart ws us k
+          root_apart r l h g =
               let n = apart (entries_by ws) (entries_by us) pre.fill.first.lower pre.fill.second.lower k low
               (positions.root p.label) at_k tt not_down l (cells l g) in
               none_holds ws us k l n (no_leaf l (cells l g)) r h

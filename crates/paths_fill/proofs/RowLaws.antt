@@ -114,7 +114,8 @@ before_none ws us c r k l e = go (eqb (column_at c kind_field l) union_kind || e
     go false = refl
 
 -- so the rest of the row can be marked
-pub rest_asked : {ws us c t t₁ : List ℕ} {k : ℕ} → FillPre ws us c k → Filled ws us k t → ((fields_of (get_or ws k 0)).kind ≡ union_kind → ⊥) →
+pub rest_asked : {ws us c t t₁ : List ℕ} {k : ℕ} → FillPre ws us c k → Filled ws us k t →
+    ((fields_of (get_or ws k 0)).kind ≡ union_kind → ⊥) →
     Kept t (length us) k t₁ →
     ((l : ℕ) → l < length us → (r : ℕ) → r < relations → mark_at t₁ (length us) r k l ≡ bit (before_rest ws us c r k l)) →
     RestPre ws us c t₁ k
@@ -127,6 +128,7 @@ rest_asked {ws} {us} {c} {t} {t₁} fill filled single kept started =
     }
 
 -- NOTHING in common: no element and no leaf
-pub none_holds : (ws us : List ℕ) (k l : ℕ) → NoElement (cell_at (entries_by ws) (entries_by us) k l) → holds_at ws us on_leaf k l ≡ false →
+pub none_holds : (ws us : List ℕ) (k l : ℕ) → NoElement (cell_at (entries_by ws) (entries_by us) k l) →
+    holds_at ws us on_leaf k l ≡ false →
     (r : ℕ) → r < relations → holds_at ws us r k l ≡ false
 none_holds ws us k l n leaf = by_relation (λ (r : ℕ). holds_at ws us r k l ≡ false) n.on n.down n.up leaf

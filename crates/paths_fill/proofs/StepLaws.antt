@@ -136,7 +136,8 @@ module _ {ws us c t : List ℕ} {k : ℕ} {p : Position} (pre : KindRowPre ws us
           ap (λ (x : Bool). is_marked t m (source_by (is_deep s)) i q.first || (x && is_marked t m down i q.first))
           (deep_at pre.fill.columns l h) ∙
           ap (λ (x : Bool). x || (is_deep (step_in q) && is_marked t m down i q.first)) (source (is_deep s)) ∙
-          ap (λ (x : Bool). held_by (source_by (is_deep s)) (cell_at (entries_by ws) (entries_by us) i q.first) || (is_deep (step_in q) && x))
+          ap (λ (x : Bool). held_by (source_by (is_deep s)) (cell_at (entries_by ws) (entries_by us) i q.first) ||
+          (is_deep (step_in q) && x))
           (read down q.first (omega arith) g) ∙
           by_source (is_deep s) (cell_at (entries_by ws) (entries_by us) i q.first)
           (is_deep (step_in q) && (cell_at (entries_by ws) (entries_by us) i q.first).down_element)
@@ -333,10 +334,10 @@ module _ {ws us c t : List ℕ} {k : ℕ} {p : Position} (pre : KindRowPre ws us
                 d,
               )
 
-          not-leaf : (l : ℕ) → l < length (entries_by us) → (x : positions.Position) → (entry_at (entries_by us) l).position ≡ x → IsSingle
+          not_leaf : (l : ℕ) → l < length (entries_by us) → (x : positions.Position) → (entry_at (entries_by us) l).position ≡ x → IsSingle
               x →
               holds_at ws us on_leaf k l ≡ false
-          not-leaf l a x e g =
+          not_leaf l a x e g =
               let h : l < m = omega (arith, entries_length us) in
               let z = not_union pre.fill.columns l h (single_kind us l x e g) in
               sym (at_single ws us c on_leaf k l z refl) ∙ sym (both_on l h).1 ∙ any_up_to_false (step_leaves p c ps) m no_leaf l h
@@ -347,7 +348,7 @@ module _ {ws us c t : List ℕ} {k : ℕ} {p : Position} (pre : KindRowPre ws us
               (positions.over s i) at_k tt not_down l (cells l g) in
               none_holds ws us k l n
               (leafless (entries_by ws) (entries_by us) pre.fill.first.lower pre.fill.second.lower k low (positions.over s i)
-              at_k tt not-leaf l (cells l g)) r h
+              at_k tt not_leaf l (cells l g)) r h
 
         pub step_done : {t₄ : List ℕ} → RestPost ws us t₃ k t₄ → (x y : Bool) → x ≡ any_up_to (step_leaves p c ps) m →
             y ≡ any_up_to (down_by t₂ m c i k a d) m → RowPost ws us t k t₄ (x || y)

@@ -191,7 +191,8 @@ module _ {ws us c t : List ℕ} {k : ℕ} {seen : Bool} (pre : MeetsPre ws us c 
       (pre.fill.columns.at role_field l (omega arith) h) ∙
       ap (λ (b : Bool). eqb (fields_of (get_or us l 0)).role x && (b || is_marked t (length us) on_leaf k l))
       (on_read on_element l (omega arith) h) ∙
-      ap (λ (b : Bool). eqb (fields_of (get_or us l 0)).role x && (holds_at ws us on_element k l || b)) (on_read on_leaf l (omega arith) h) ∙
+      ap (λ (b : Bool). eqb (fields_of (get_or us l 0)).role x && (holds_at ws us on_element k l || b))
+      (on_read on_leaf l (omega arith) h) ∙
       ap (λ (b : Bool). b && is_met (cell_at (entries_by ws) (entries_by us) k l)) (sym e)
 
   tested : (l : ℕ) → is_tested (entry_at (entries_by ws) k) (entry_at (entries_by us) l) ≡
@@ -215,7 +216,8 @@ module _ {ws us c t : List ℕ} {k : ℕ} {seen : Bool} (pre : MeetsPre ws us c 
       ap (λ (x : ℕ). (eqb x modified_role && eqb (fields_of (get_or us l 0)).role accessed_role) ||
       (eqb x accessed_role && eqb (fields_of (get_or us l 0)).role modified_role)) e ∙ or-false _))
 
-  pub plain_meets : (role ≡ accessed_role → ⊥) → (role ≡ modified_role → ⊥) → false ≡ row_meets (entries_by ws) (entries_by us) k (length us)
+  pub plain_meets : (role ≡ accessed_role → ⊥) → (role ≡ modified_role → ⊥) →
+      false ≡ row_meets (entries_by ws) (entries_by us) k (length us)
   plain_meets n o =
       sym (any_up_to_none (meet_at (entries_by ws) (entries_by us) k) (λ l.
       ap (λ (b : Bool). b && is_met (cell_at (entries_by ws) (entries_by us) k l)) (tested l ∙

@@ -32,7 +32,8 @@ module _ (h : List Path → Bool) (none : h [] ≡ false) (append : (ps qs : Lis
   paths_with_next : (k : ℕ) → k < length es →
       h (paths_with f (take (suc k) es)) ≡ (h (paths_with f (take k es)) || (f (entry_at es k) && h (paths_on es k)))
   paths_with_next k l =
-      ap (λ (v : List Entry). h (paths_with f v)) (take-suc es k (plain nowhere) l) ∙ ap h (paths_with_push f (take k es) (entry_at es k)) ∙
+      ap (λ (v : List Entry). h (paths_with f v)) (take-suc es k (plain nowhere) l) ∙
+      ap h (paths_with_push f (take k es) (entry_at es k)) ∙
       append (paths_with f (take k es)) _ ∙
       ap (λ (v : List Path). h (paths_with f (take k es)) || h (cond (f (entry_at es k)) v [])) (sym (paths_on_split es k l)) ∙
       ap (λ (t : Bool). h (paths_with f (take k es)) || t) (chosen (f (entry_at es k)))
@@ -41,7 +42,8 @@ module _ (h : List Path → Bool) (none : h [] ≡ false) (append : (ps qs : Lis
       chosen true = refl
       chosen false = none
 
-  paths_with_take : (n : ℕ) → n ≤ length es → h (paths_with f (take n es)) ≡ any_up_to (λ (k : ℕ). f (entry_at es k) && h (paths_on es k)) n
+  paths_with_take : (n : ℕ) → n ≤ length es →
+      h (paths_with f (take n es)) ≡ any_up_to (λ (k : ℕ). f (entry_at es k) && h (paths_on es k)) n
   unfolding any_up_to paths_with_from
   paths_with_take zero l = none
   paths_with_take (suc n) l =
@@ -64,7 +66,8 @@ any_meet_append ps qs qs' =
 -- two roles: some position with one meets some position with the other
 module _ (es fs : List Entry) where
   roles_meet : (f g : Entry → Bool) → any_meet (paths_with f es) (paths_with g fs) ≡
-      any_up_to (λ (k : ℕ). any_up_to (λ (l : ℕ). f (entry_at es k) && (g (entry_at fs l) && any_meet (paths_on es k) (paths_on fs l))) (length fs))
+      any_up_to (λ (k : ℕ). any_up_to (λ (l : ℕ). f (entry_at es k) && (g (entry_at fs l) && any_meet (paths_on es k) (paths_on fs l)))
+      (length fs))
       (length es)
   unfolding any
   roles_meet f g =
@@ -86,7 +89,8 @@ module _ (es fs : List Entry) where
   tested false b false d t = refl
 
   pub positions_meet_lem :
-      (any_meet (paths_with is_modified es) (paths_with is_accessed fs) || any_meet (paths_with is_modified fs) (paths_with is_accessed es)) ≡
+      (any_meet (paths_with is_modified es) (paths_with is_accessed fs) ||
+      any_meet (paths_with is_modified fs) (paths_with is_accessed es)) ≡
       positions_meet es fs
   positions_meet_lem =
       ap (λ (t : Bool). t || any_meet (paths_with is_modified fs) (paths_with is_accessed es)) (roles_meet is_modified is_accessed) ∙
@@ -119,7 +123,8 @@ module _ (o o' : ℕ) (first : o ≡ 0 → ⊥) (second : o' ≡ 0 → ⊥) (oth
       any_traversed (meets p) o' (λ z. own_apart p h (start (place o' z)) refl) f ∙
       any_documents (meets p) o' (own_apart p h) (paths_of o' f).accessed (accessed_own o' f)
 
-  any_false : (p : Path) → (place_of p).owner ≡ o → {qs : List Path} → All (λ (q : Path). (place_of q).owner ≡ 0) qs → any (meets p) qs ≡ false
+  any_false : (p : Path) → (place_of p).owner ≡ o → {qs : List Path} → All (λ (q : Path). (place_of q).owner ≡ 0) qs →
+      any (meets p) qs ≡ false
   unfolding any
   any_false p e nothing = refl
   any_false p e (also {a} {l} h all) =
@@ -204,4 +209,5 @@ pub answer_turned : (e f : Expr) → answer f e ≡ answer e f
 answer_turned e f =
     sym (answer_by_lem f e) ∙ ap (λ (t : Bool). cond t upward (cond (positions_meet (entries_of f) (entries_of e)) meet free))
     (or_comm (has_up f) (has_up e)) ∙
-    ap (λ (t : Bool). cond (has_up e || has_up f) upward (cond t meet free)) (positions_turned (entries_of f) (entries_of e)) ∙ answer_by_lem e f
+    ap (λ (t : Bool). cond (has_up e || has_up f) upward (cond t meet free)) (positions_turned (entries_of f) (entries_of e)) ∙
+    answer_by_lem e f

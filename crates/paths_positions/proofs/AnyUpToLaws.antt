@@ -47,7 +47,8 @@ pub any_up_to_below : (f g : ℕ → Bool) (n : ℕ) → ((k : ℕ) → k < n �
 unfolding any_up_to
 any_up_to_below f g zero h = refl
 any_up_to_below f g (suc n) h =
-    ap (λ (t : Bool). t || f n) (any_up_to_below f g n (λ k l. h k (omega arith))) ∙ ap (λ (t : Bool). any_up_to g n || t) (h n (omega arith))
+    ap (λ (t : Bool). t || f n) (any_up_to_below f g n (λ k l. h k (omega arith))) ∙
+    ap (λ (t : Bool). any_up_to g n || t) (h n (omega arith))
 
 pub any_up_to_same : (f g : ℕ → Bool) (n : ℕ) → ((k : ℕ) → f k ≡ g k) → any_up_to f n ≡ any_up_to g n
 any_up_to_same f g n h = any_up_to_below f g n (λ k l. h k)

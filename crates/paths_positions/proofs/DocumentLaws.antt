@@ -6,7 +6,8 @@ use lib.Dec.{eqb}
 use Rattle.model.specs.Base.{filtered}
 use Rattle.model.specs.Script.{Step}
 use Rattle.model.specs.Paths.{place_of, Place, Path, start, ◌▸◌, with_step}
-use Rattle.model.specs.Meeting.{Cell, on_cell, join_cell, same_place, is_constructor, on_step, down_step, up_step, start_cells, step_cells, cell}
+use Rattle.model.specs.Meeting.{Cell, on_cell, join_cell, same_place, is_constructor, on_step, down_step, up_step, start_cells}
+use Rattle.model.specs.Meeting.{step_cells, cell}
 use Rattle.model.specs.Meeting.{is_met, meets, no_cell}
 use Rattle.model.proofs.ListLaws.{filtered_append, filtered_map}
 use Rattle.model.proofs.CellLaws.{on_respects, down_respects, up_respects}

@@ -104,14 +104,17 @@ module _ (es fs : List Entry) (lower : AreLower es) (lower₂ : AreLower fs) (k 
   pub second_nowhere : (entry_at fs l).position ≡ nowhere → cell_at es fs k l ≡ no_cell
   second_nowhere e = ap (between (paths_on es k)) (second_paths e) ∙ between_none (paths_on es k)
 
-  pub first_union : {a b : ℕ} → (entry_at es k).position ≡ union a b → cell_at es fs k l ≡ join_cell (cell_at es fs a l) (cell_at es fs b l)
+  pub first_union : {a b : ℕ} → (entry_at es k).position ≡ union a b →
+      cell_at es fs k l ≡ join_cell (cell_at es fs a l) (cell_at es fs b l)
   first_union {a} {b} e =
       ap (λ (v : List Path). between v (paths_on fs l)) (first_paths e) ∙ between_first (paths_on es a) (paths_on es b) (paths_on fs l)
 
-  pub second_union : {a b : ℕ} → (entry_at fs l).position ≡ union a b → cell_at es fs k l ≡ join_cell (cell_at es fs k a) (cell_at es fs k b)
+  pub second_union : {a b : ℕ} → (entry_at fs l).position ≡ union a b →
+      cell_at es fs k l ≡ join_cell (cell_at es fs k a) (cell_at es fs k b)
   second_union {a} {b} e = ap (between (paths_on es k)) (second_paths e) ∙ between_second (paths_on es k) (paths_on fs a) (paths_on fs b)
 
-  pub root_root : {d e : ℕ} → (entry_at es k).position ≡ root d → (entry_at fs l).position ≡ root e → cell_at es fs k l ≡ on_cell (eqb d e) false
+  pub root_root : {d e : ℕ} → (entry_at es k).position ≡ root d → (entry_at fs l).position ≡ root e →
+      cell_at es fs k l ≡ on_cell (eqb d e) false
   root_root {d} {e} f g = by_paths f g ∙ between_starts (document_place d) (document_place e) ∙ sym (roots_are d e)
 
   pub root_step : {d : ℕ} {u : Step} {j : ℕ} → (entry_at es k).position ≡ root d → (entry_at fs l).position ≡ over u j →

@@ -149,7 +149,8 @@ module _ (es fs : List Entry) (lower : AreLower es) (lower₂ : AreLower fs) whe
         let r = step_step es fs lower lower₂ k l low low₂ e f in
         (ap (λ (c : Cell). c.on_element) r ∙ or-false _, ap (λ (c : Cell). c.on_leaf) r ∙ or-false _)
 
-    pub on_step_start : (s : Step) (i : ℕ) → (entry_at es k).position ≡ over s i → (q : Position) → (entry_at fs l).position ≡ q → IsStart q →
+    pub on_step_start : (s : Step) (i : ℕ) → (entry_at es k).position ≡ over s i → (q : Position) → (entry_at fs l).position ≡ q →
+        IsStart q →
         (here.on_element ≡ false) × (here.on_leaf ≡ false)
     on_step_start s i e nowhere f h =
         let r = second_nowhere es fs lower lower₂ k l low low₂ f in (ap (λ (c : Cell). c.on_element) r, ap (λ (c : Cell). c.on_leaf) r)

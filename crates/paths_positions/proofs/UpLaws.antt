@@ -52,7 +52,8 @@ leads x = leads_up x.position
 
 some_leads_up_any : (ws : List ℕ) → some_leads_up ws ≡ any leads (entries_by ws)
 some_leads_up_any ws =
-    ap (any_up_to (leads_up_at ws)) (sym (length-map ws entry_of)) ∙ any_up_to_any leads (entries_by ws) (length (entries_by ws)) (omega arith) ∙
+    ap (any_up_to (leads_up_at ws)) (sym (length-map ws entry_of)) ∙
+    any_up_to_any leads (entries_by ws) (length (entries_by ws)) (omega arith) ∙
     ap (any leads) (take_all (length (entries_by ws)) (entries_by ws) (omega arith))
 
 any_plain : (es : List Entry) (x : Entry) → leads x ≡ false → any leads (es ++ (x ∷ [])) ≡ any leads es

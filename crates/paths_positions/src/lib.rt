@@ -1,4 +1,6 @@
 // Positions: the paths of a script's expressions, numbered and packed.
+#![tactic(auto)]
+
 pub mod packed;
 pub mod step;
 

@@ -35,7 +35,7 @@ const TESTS: usize = 4;
 const LABELS: usize = 65536;
 
 // The fields of a position; those that its kind does not have are 0. The label is the name of its step, or its document.
-#[derive(Drop)]
+#[derive(Clone, Copy)]
 pub struct Position {
     pub kind: usize,
     pub role: usize,

@@ -20,7 +20,7 @@ const ANY_ELEMENT: usize = 1;
 const ANY_LEAF: usize = 2;
 
 // A step: its axis, its test, and the name where the test has one.
-#[derive(Drop)]
+#[derive(Clone, Copy)]
 pub struct Step {
     pub axis: usize,
     pub test: usize,

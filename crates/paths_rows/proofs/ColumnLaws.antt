@@ -73,7 +73,8 @@ pub record ColumnsTo (us : List ℕ) (l : ℕ) (c : List ℕ) : Type 0 where
   pub at : (f j : ℕ) → f < fields → j < l → column_at c f j ≡ field_by f (fields_of (get_or us j 0))
 
 -- one column more
-pub column_written : {us c c' : List ℕ} {l : ℕ} {q : Position} → length us ≤ max_positions → l < length us → q ≡ fields_of (get_or us l 0) →
+pub column_written : {us c c' : List ℕ} {l : ℕ} {q : Position} → length us ≤ max_positions → l < length us →
+    q ≡ fields_of (get_or us l 0) →
     ColumnPost c l q c' → ColumnsTo us l c → ColumnsTo us (l + 1) c'
 column_written {us} {c} {c'} {l} {q} few low is post to =
     record {

@@ -101,7 +101,8 @@ module _ (c : List ℕ) (l : ℕ) where
   pub leaf_by_lem : (ps : List ℕ) {p a : Bool} → p ≡ is_yes (get_or ps l 0) → a ≡ is_set_at c leaf_field l → (p && a) ≡ leaf_by c ps l
   leaf_by_lem ps e f = cc
 
-  pub root_by_lem : (low high : ℕ) {x y z : ℕ} → x ≡ column_at c low_field l → y ≡ column_at c high_field l → z ≡ column_at c kind_field l →
+  pub root_by_lem : (low high : ℕ) {x y z : ℕ} → x ≡ column_at c low_field l → y ≡ column_at c high_field l →
+      z ≡ column_at c kind_field l →
       (eqb z root_kind && (eqb x low && eqb y high)) ≡ root_by c low high l
   root_by_lem low high e f g = cc
 
@@ -122,7 +123,8 @@ module _ (c : List ℕ) (l : ℕ) where
       let v = o ∙ reads w on_element k (omega arith) h in
       cc
 
-pub either_by_lem : {t t₁ : List ℕ} {m r k l : ℕ} {holds : ℕ → Bool} (x y : ℕ) {a b : Bool} → RowMarked t m r k holds l t₁ → r < relations →
+pub either_by_lem : {t t₁ : List ℕ} {m r k l : ℕ} {holds : ℕ → Bool} (x y : ℕ) {a b : Bool} → RowMarked t m r k holds l t₁ →
+    r < relations →
     l < m → a ≡ is_marked t₁ m r x l → b ≡ is_marked t₁ m r y l → (a || b) ≡ either_by t m r x y l
 either_by_lem {t} {t₁} {m} {r} x y w g h e f =
     let u = e ∙ reads w r x g h in

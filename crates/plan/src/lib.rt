@@ -1,4 +1,6 @@
 // The stored form of a plan: read into a table, and written from one.
+#![tactic(auto)]
+
 ghost use Rattle.std.specs.Prelude.{◌≡◌};
 ghost use Rattle.plan.specs.Calls.{plan_read};
 ghost use Rattle.plan_writer.specs.Writing.{plan_written, written_out};

@@ -194,7 +194,8 @@ module _ (s ws ms : List ℕ) (n last : ℕ) (pre : RecordPre s ws ms n last) (w
                 };
           }
 
-  pub row_record : is_stored_kind (get_or s 0 0) ≡ true → is_mark s ≡ false → n < max_rows → (ws' : List ℕ) (r : ℕ) → RowPost s ws n last ws' r →
+  pub row_record : is_stored_kind (get_or s 0 0) ≡ true → is_mark s ≡ false → n < max_rows → (ws' : List ℕ) (r : ℕ) →
+      RowPost s ws n last ws' r →
       RecordPost s ws ms n ws' ms (record { number = r; count = n + 1; last = last })
   row_record kind row room ws' r post =
       record {

@@ -7,7 +7,7 @@ ghost use Rattle.plan_reader.specs.Reading.{RowPre, RowPost, MarkPre, MarkPost, 
 use plan_table::{End, Link, Refusal, RowNumber, Table, fit, marks, number, packed, stored};
 
 // After a record: its refusal's number, or 0; rows so far; one more than the last document that marks a row.
-#[derive(Drop)]
+#[derive(Clone, Copy)]
 pub struct RecordRead {
     pub number: u8,
     pub count: usize,

@@ -16,7 +16,8 @@ use Rattle.model.specs.Table as model
 use Rattle.model.specs.Sweep.{is_kept, new_number, kept_before, renumbered, swept_rows, swept_marks, swept, through}
 use Rattle.model.proofs.BoolLaws.{by_cases, cond_true, cond_false, or_neither, eq_cases}
 use Rattle.model.proofs.ListLaws.{take_next, drop_next}
-use Rattle.plan_table.specs.Packed.{link_of, of_link, pack_row, row_of, rows_of, pack_rows, decode_parts, decode, encode, link_in, link_room}
+use Rattle.plan_table.specs.Packed.{link_of, of_link, pack_row, row_of, rows_of, pack_rows, decode_parts, decode, encode, link_in}
+use Rattle.plan_table.specs.Packed.{link_room}
 use Rattle.plan_table.specs.Packed as packed
 use Rattle.plan_sweep.specs.Sweeping.{plan_swept, Flagged, keeps_row, relinked, RowPost, number_of, Sweeping, new_links}
 use Rattle.plan_table.specs.declared.Table.{Table}
@@ -31,7 +32,8 @@ use Rattle.plan_table.specs.Results.{with_table}
 use Rattle.model.specs.Refusal.{link_at}
 
 -- ROWS: the start
-pub sweeping_none : (ws ms ns out : List ℕ) (n : ℕ) → Flagged ms ns → out ≡ replicate max_rows 0 → Sweeping (decode_parts n ws ms) 0 0 ns out
+pub sweeping_none : (ws ms ns out : List ℕ) (n : ℕ) → Flagged ms ns → out ≡ replicate max_rows 0 →
+    Sweeping (decode_parts n ws ms) 0 0 ns out
 unfolding swept_rows
 sweeping_none ws ms ns out n f e =
     record {
@@ -240,7 +242,8 @@ module _ (ws ms : List ℕ) (n i : ℕ) (fits : Fits n ws ms) (size : length ws 
 pub links_next : (ns ms : List ℕ) (d : ℕ) → d < length ms →
     set (new_links ns (take d ms) ++ drop d ms) d (get_or ns (get_or ms d 0) 0) ≡ new_links ns (take (d + 1) ms) ++ drop (d + 1) ms
 links_next ns ms d h =
-    let l : length (new_links ns (take d ms)) ≡ d = length-map (take d ms) (λ (m : ℕ). get_or ns m 0) ∙ length-take-le d ms (omega arith) in
+    let l : length (new_links ns (take d ms)) ≡ d = length-map (take d ms) (λ (m : ℕ). get_or ns m 0) ∙
+    length-take-le d ms (omega arith) in
     ap (λ (v : List ℕ). set (new_links ns (take d ms) ++ v) d (get_or ns (get_or ms d 0) 0)) (drop_next ms d 0 h) ∙
     set_at (new_links ns (take d ms)) (get_or ms d 0) (drop (d + 1) ms) (get_or ns (get_or ms d 0) 0) d l ∙
     sym (append_snoc (new_links ns (take d ms)) (get_or ns (get_or ms d 0) 0) (drop (d + 1) ms)) ∙
@@ -249,7 +252,8 @@ links_next ns ms d h =
 
 pub links_at : (ns ms : List ℕ) (d : ℕ) → d < length ms → get_or (new_links ns (take d ms) ++ drop d ms) d 0 ≡ get_or ms d 0
 links_at ns ms d h =
-    let l : length (new_links ns (take d ms)) ≡ d = length-map (take d ms) (λ (m : ℕ). get_or ns m 0) ∙ length-take-le d ms (omega arith) in
+    let l : length (new_links ns (take d ms)) ≡ d = length-map (take d ms) (λ (m : ℕ). get_or ns m 0) ∙
+    length-take-le d ms (omega arith) in
     ap (λ (v : List ℕ). get_or (new_links ns (take d ms) ++ v) d 0) (drop_next ms d 0 h) ∙
     get_or_at (new_links ns (take d ms)) (get_or ms d 0) (drop (d + 1) ms) 0 d l
 
@@ -281,9 +285,11 @@ module _ (ws ms : List ℕ) (n : ℕ) (fits : Fits n ws ms) (size : length ws �
       same_length : length (new_links ns ms) ≡ length (map link_of (swept_marks plan (map of_link ms)))
       same_length =
           length-map ms (λ (m : ℕ). get_or ns m 0) ∙
-          sym (length-map (swept_marks plan (map of_link ms)) link_of ∙ length-map (map of_link ms) (renumbered plan) ∙ length-map ms of_link)
+          sym (length-map (swept_marks plan (map of_link ms)) link_of ∙ length-map (map of_link ms) (renumbered plan) ∙
+          length-map ms of_link)
 
-      same_at : (d : ℕ) → d < length (new_links ns ms) → get_or (new_links ns ms) d 0 ≡ get_or (map link_of (swept_marks plan (map of_link ms))) d 0
+      same_at : (d : ℕ) → d < length (new_links ns ms) →
+          get_or (new_links ns ms) d 0 ≡ get_or (map link_of (swept_marks plan (map of_link ms))) d 0
       same_at d h =
           ap (get_or (new_links ns ms) d) (sym s.none) ∙ get_or-map (λ (m : ℕ). get_or ns m 0) ms d 0 ∙ mark_new d ∙
           sym (get_or-map link_of (swept_marks plan (map of_link ms)) d none ∙

@@ -1,4 +1,6 @@
 // The sweep: drops the rows that no document reaches.
+#![tactic(auto)]
+
 ghost use Rattle.std.specs.Prelude.{◌≡◌};
 ghost use Rattle.plan_sweep.specs.Sweeping.{plan_swept};
 

@@ -23,7 +23,8 @@ use Rattle.plan_table.proofs.DecodeLaws.{element_below, root_below}
 -- TURNS
 pub rows_turn : (ws : List ℕ) (i n : ℕ) → i < n → rows_fit ws i (n - i) ≡ (row_fits ws i && rows_fit ws (i + 1) (n - (i + 1)))
 unfolding rows_fit
-rows_turn ws i n h = let e : n - i ≡ suc (n - (i + 1)) = omega arith in ap (rows_fit ws i) e ∙ ap (λ (j : ℕ). row_fits ws i && rows_fit ws j
+rows_turn ws i n h = let e : n - i ≡ suc (n - (i + 1)) = omega arith in ap (rows_fit ws i) e ∙
+    ap (λ (j : ℕ). row_fits ws i && rows_fit ws j
     (n - (i + 1))) (sym (add-one i))
 
 pub rows_end : (ws : List ℕ) (i n : ℕ) → n ≤ i → rows_fit ws i (n - i) ≡ true
@@ -39,7 +40,8 @@ unfolding all
 all_end f ws i h = ap (all f) (drop_of_length-le ws h)
 
 pub marks_turn : (ws : List ℕ) (n : ℕ) (ms : List ℕ) (d : ℕ) → d < length ms →
-    marks_fit ws n (drop d ms) ≡ (mark_fits ws n (get_or ms d 0) && not (is_repeated (get_or ms d 0) (drop (d + 1) ms)) && marks_fit ws n (drop
+    marks_fit ws n (drop d ms) ≡
+    (mark_fits ws n (get_or ms d 0) && not (is_repeated (get_or ms d 0) (drop (d + 1) ms)) && marks_fit ws n (drop
     (d + 1) ms))
 unfolding marks_fit
 marks_turn ws n ms d h = ap (marks_fit ws n) (drop_next ms d 0 h)
@@ -82,7 +84,8 @@ module _ (n : ℕ) (ws ms : List ℕ) (within : n ≤ length ws) where
 
   -- the rows from i on
   rows_packed : (i k : ℕ) → i + k ≡ n →
-      (all is_packed_row (take k (drop i ws)) && model.rows_fit (decode_parts n ws ms) i (map row_of (take k (drop i ws)))) ≡ rows_fit ws i k
+      (all is_packed_row (take k (drop i ws)) && model.rows_fit (decode_parts n ws ms) i (map row_of (take k (drop i ws)))) ≡
+      rows_fit ws i k
   unfolding all model.rows_fit rows_fit
   rows_packed i zero e = refl
   rows_packed i (suc k) e =
@@ -93,10 +96,12 @@ module _ (n : ℕ) (ws ms : List ℕ) (within : n ≤ length ws) where
       (model.parent_fits (decode_parts n ws ms) i (of_link (link_in (get_or ws i 0))))
       (model.rows_fit (decode_parts n ws ms) (suc i) (map row_of (take k (drop (suc i) ws)))) ∙
       ap (λ (t : Bool). t && model.parent_fits (decode_parts n ws ms) i (of_link (link_in (get_or ws i 0))) &&
-      (all is_packed_row (take k (drop (suc i) ws)) && model.rows_fit (decode_parts n ws ms) (suc i) (map row_of (take k (drop (suc i) ws)))))
+      (all is_packed_row (take k (drop (suc i) ws)) &&
+      model.rows_fit (decode_parts n ws ms) (suc i) (map row_of (take k (drop (suc i) ws)))))
       (tag_packed (get_or ws i 0)) ∙
       ap (λ (t : Bool). tag_fits (get_or ws i 0) && t &&
-      (all is_packed_row (take k (drop (suc i) ws)) && model.rows_fit (decode_parts n ws ms) (suc i) (map row_of (take k (drop (suc i) ws)))))
+      (all is_packed_row (take k (drop (suc i) ws)) &&
+      model.rows_fit (decode_parts n ws ms) (suc i) (map row_of (take k (drop (suc i) ws)))))
       (link_packed i (link_in (get_or ws i 0)) h) ∙
       ap (λ (t : Bool). tag_fits (get_or ws i 0) && link_fits ws i (link_in (get_or ws i 0)) && t) (rows_packed (suc i) k (omega arith)))
     where
@@ -143,7 +148,8 @@ parts_fit_lem n ws ms size h =
     rw (le-leb n max_rows h, le-leb (model.count (decode_parts n ws ms)) max_rows k, eq-eqb (length (map of_link ms)) documents d)
     (shuffle (all is_packed_row (take n ws)) (all is_zero (drop n ws)) (model.rows_fit (decode_parts n ws ms) 0 (rows_of n ws))
     (all (model.mark_fits (decode_parts n ws ms)) (map of_link ms)) (model.none_twice (map of_link ms)) ∙
-    ap (λ (t : Bool). t && all is_zero (drop n ws) && (all (model.mark_fits (decode_parts n ws ms)) (map of_link ms) && model.none_twice (map
+    ap (λ (t : Bool). t && all is_zero (drop n ws) &&
+    (all (model.mark_fits (decode_parts n ws ms)) (map of_link ms) && model.none_twice (map
     of_link ms)))
     (rows_packed n ws ms w 0 n z) ∙
     ap (λ (t : Bool). rows_fit ws 0 n && all is_zero (drop n ws) && t) (marks_links n ws ms w ms))

@@ -19,7 +19,8 @@ use Rattle.model.proofs.BoolLaws.{and_left, and_right, by_cases, cond_ne}
 use Rattle.model.proofs.TestLaws.{is_in_at, is_in_by}
 use Rattle.model.proofs.ListLaws.{map_set, map_back, take_next, take_set, all_get_d}
 use Rattle.plan_table.specs.Packed.{element_bits, leaf_bits, link_room}
-use Rattle.plan_table.specs.Packed.{link_of, of_link, pack_row, row_of, is_packed_row, with_link, is_zero, rows_of, decode_parts, pack_rows}
+use Rattle.plan_table.specs.Packed.{link_of, of_link, pack_row, row_of, is_packed_row, with_link, is_zero, rows_of, decode_parts}
+use Rattle.plan_table.specs.Packed.{pack_rows}
 use Rattle.plan_table.specs.Packed.{encode, Canonical, kind_in, link_in, tag_in}
 
 -- LINKS
@@ -79,7 +80,8 @@ pub tag_byte : (w : ℕ) → model.tag_fits (row_of w) ≡ true → tag_in w < 2
 tag_byte w h =
     omega (
       arith,
-      by_cases (eqb (kind_in w) leaf_bits) (λ e. leb-true (tag_in w) max_byte (rw e at h)) (λ e. (is_in_at 1 max_name (tag_in w) (rw e at h)).1),
+      by_cases (eqb (kind_in w) leaf_bits) (λ e. leb-true (tag_in w) max_byte (rw e at h))
+          (λ e. (is_in_at 1 max_name (tag_in w) (rw e at h)).1),
     )
 
 -- another link is another parent
@@ -132,7 +134,8 @@ take_rows i n ws w h =
     ap (λ (rs : List model.Row). rs ++ (row_of (get_or ws i 0) ∷ [])) (sym (rows_take i n ws (omega arith)))
 
 -- a row more is one more packed
-pub rows_of_push : (n : ℕ) (ws : List ℕ) (r : model.Row) → n < length ws → link_of r.parent < link_room → rows_of (n + 1) (set ws n (pack_row
+pub rows_of_push : (n : ℕ) (ws : List ℕ) (r : model.Row) → n < length ws → link_of r.parent < link_room →
+    rows_of (n + 1) (set ws n (pack_row
     r)) ≡ rows_of n ws ++ (r ∷ [])
 rows_of_push n ws r h f =
     ap (map row_of) (take_set ws n (pack_row r) h) ∙ map-append row_of (take n ws) (pack_row r ∷ []) ∙
@@ -142,7 +145,8 @@ rows_of_push n ws r h f =
 replicate_less : (m n : ℕ) → n < m → replicate {A = ℕ} (m - n) 0 ≡ 0 ∷ replicate (m - (n + 1)) 0
 replicate_less m n h = let e : m - n ≡ suc (m - (n + 1)) = omega arith in rw e
 
-pub pack_rows_snoc : (rs : List model.Row) (r : model.Row) → length rs < max_rows → pack_rows (rs ++ (r ∷ [])) ≡ set (pack_rows rs) (length rs)
+pub pack_rows_snoc : (rs : List model.Row) (r : model.Row) → length rs < max_rows →
+    pack_rows (rs ++ (r ∷ [])) ≡ set (pack_rows rs) (length rs)
     (pack_row r)
 pack_rows_snoc rs r h =
     ap (λ (l : List ℕ). l ++ replicate (max_rows - length (rs ++ (r ∷ []))) 0) (map-append pack_row rs (r ∷ [])) ∙
@@ -173,7 +177,8 @@ module _ (n : ℕ) (ws : List ℕ) (canonical : Canonical n ws) (within : n ≤ 
 
     pub packed_linked : is_packed_row w ≡ true
     packed_linked =
-        is_packed_row_with_link (get_or ws i 0) link small (ap is_packed_row (sym packed_back) ∙ is_packed_row_pack_row (row_of (get_or ws i 0)))
+        is_packed_row_with_link (get_or ws i 0) link small
+        (ap is_packed_row (sym packed_back) ∙ is_packed_row_pack_row (row_of (get_or ws i 0)))
 
     rows_of_linked : rows_of n (set ws i w) ≡ set (rows_of n ws) i (row_of w)
     rows_of_linked = ap (map row_of) (take-set-lt n ws i w l) ∙ map_set row_of (take n ws) i w
@@ -226,7 +231,8 @@ module _ (n : ℕ) (ws : List ℕ) (canonical : Canonical n ws) (size : length w
   zero_there : get_or (pack_rows less) (n - 1) 0 ≡ 0
   zero_there =
       let m : length (map pack_row less) + 0 ≡ n - 1 = omega (arith, length-map less pack_row, counted_less) in
-      ap (λ (j : ℕ). get_or (pack_rows less) j 0) (sym m) ∙ get_or-append-add (map pack_row less) (replicate (max_rows - length less) 0) 0 0 ∙
+      ap (λ (j : ℕ). get_or (pack_rows less) j 0) (sym m) ∙
+      get_or-append-add (map pack_row less) (replicate (max_rows - length less) 0) 0 0 ∙
       get_or-replicate (max_rows - length less) 0 0 0 (omega (arith, counted_less))
 
   put_back : set (pack_rows less) (n - 1) (pack_row (row_of (get_or ws (n - 1) 0))) ≡ ws
@@ -240,7 +246,8 @@ module _ (n : ℕ) (ws : List ℕ) (canonical : Canonical n ws) (size : length w
       sym (set-set (pack_rows less) (n - 1) (pack_row (row_of (get_or ws (n - 1) 0))) 0) ∙ ap (λ (v : List ℕ). set v (n - 1) 0) put_back
 
   pub decode_pop : (ms : List ℕ) →
-      decode_parts (n - 1) (set ws (n - 1) 0) ms ≡ model.table (take (model.count (decode_parts n ws ms) - 1) (rows_of n ws)) (map of_link ms)
+      decode_parts (n - 1) (set ws (n - 1) 0) ms ≡
+      model.table (take (model.count (decode_parts n ws ms) - 1) (rows_of n ws)) (map of_link ms)
   decode_pop ms =
       let e : model.count (decode_parts n ws ms) - 1 ≡ n - 1 = omega (arith, count_decode n ws ms (omega arith)) in
       ap (λ (rs : List model.Row). model.table rs (map of_link ms))

@@ -2,7 +2,8 @@
 ghost use Rattle.std.specs.Prelude.{◌≡◌, ◌≤◌, ◌<◌, length, drop};
 ghost use Rattle.model.specs.Base.{all};
 ghost use Rattle.plan_table.specs.Packed.{is_zero, parts_fit};
-ghost use Rattle.plan_table.specs.Fitting.{TableSizes, tag_fits, is_element_below, is_root_below, link_fits, row_fits, rows_fit, mark_fits};
+ghost use Rattle.plan_table.specs.Fitting.{TableSizes, tag_fits, is_element_below, is_root_below, link_fits, row_fits, rows_fit};
+ghost use Rattle.plan_table.specs.Fitting.{mark_fits};
 ghost use Rattle.plan_table.specs.Fitting.{marks_fit};
 
 use crate::{Link, RowNumber, Table, marks, number, packed};

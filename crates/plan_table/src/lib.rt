@@ -1,4 +1,6 @@
 // The plan table: its type with its limits, the check of a table handed in, the kinds and size of its stored records.
+#![tactic(auto)]
+
 ghost use Rattle.std.specs.Prelude.{◌≡◌};
 ghost use Rattle.model.specs.Table.{empty};
 ghost use Rattle.plan_table.specs.Packed.{encode};
@@ -12,17 +14,17 @@ pub mod stored;
 
 // Three types, so that none stands for another: a row's number; an element's name; a link, which is a row's number plus one, or 0 for
 // none.
-#[derive(Drop)]
+#[derive(Clone, Copy)]
 pub struct RowNumber(pub usize);
 
-#[derive(Drop)]
+#[derive(Clone, Copy)]
 pub struct NameNumber(pub u16);
 
-#[derive(Drop)]
+#[derive(Clone, Copy)]
 pub struct Link(pub usize);
 
 // A plan: rows packed into numbers (packed.rt), zero past the count; a document's mark is its row's link.
-#[derive(Drop)]
+#[derive(Clone, Copy)]
 pub struct Table {
     pub count: usize,
     pub rows: [u32; Table::ROWS],
@@ -61,7 +63,7 @@ impl Table {
 }
 
 // A refusal: document 01's number, 0 where nothing is refused, and the place.
-#[derive(Drop)]
+#[derive(Clone, Copy)]
 pub struct Refusal {
     pub number: u8,
     pub place: usize,
@@ -93,7 +95,7 @@ impl Refusal {
 
 // How a pass over records ends: a refusal's number and place, or 0 and the place reached (0 if the pass has none); and how many rows or
 // records were counted.
-#[derive(Drop)]
+#[derive(Clone, Copy)]
 pub struct End {
     pub number: u8,
     pub place: usize,
@@ -101,14 +103,14 @@ pub struct End {
 }
 
 // What a call that gives a table back answers.
-#[derive(Drop)]
+#[derive(Clone, Copy)]
 pub struct TableResult {
     pub refusal: Refusal,
     pub table: Table,
 }
 
 // What a call that writes answers: the refusal, or the bytes written.
-#[derive(Drop)]
+#[derive(Clone, Copy)]
 pub struct Written {
     pub refusal: Refusal,
     pub bytes: usize,

@@ -63,7 +63,8 @@ module _ (n : ℕ) (ws ms : List ℕ) (within : n ≤ length ws) where
       over (4 * n) (marks_bytes 0 (map of_link ms)) (over 0 (rows_bytes (rows_of n ws)) o) ≡
       at_front (stored (decode_parts n ws ms)) o
   stored_over o h =
-      let l : 4 * n ≡ 0 + length (rows_bytes (rows_of n ws)) = omega (arith, length_rows_bytes (rows_of n ws), count_decode n ws ms within) in
+      let l : 4 * n ≡ 0 + length (rows_bytes (rows_of n ws)) =
+      omega (arith, length_rows_bytes (rows_of n ws), count_decode n ws ms within) in
       ap (λ (j : ℕ). over j (marks_bytes 0 (map of_link ms)) (over 0 (rows_bytes (rows_of n ws)) o)) l ∙
       over_over 0 (rows_bytes (rows_of n ws)) (marks_bytes 0 (map of_link ms)) o (omega arith) ∙
       ap (λ (j : ℕ). stored (decode_parts n ws ms) ++ drop j o) (zero-add (length (stored (decode_parts n ws ms))))

@@ -9,7 +9,8 @@ use lib.ListN.{length, get_or, take, length-append, length-map}
 use lib.Seq.{take_all, length-take-le}
 use borrow.Author.Tests.{ne_eqb}
 use Rattle.model.specs.Table as model
-use Rattle.model.specs.Stored.{number_bytes, parent_bytes, row_bytes, rows_bytes, mark_bytes, marks_bytes, element_kind, leaf_kind, mark_kind}
+use Rattle.model.specs.Stored.{number_bytes, parent_bytes, row_bytes, rows_bytes, mark_bytes, marks_bytes, element_kind, leaf_kind}
+use Rattle.model.specs.Stored.{mark_kind}
 use Rattle.model.proofs.BytesLaws.{length_parent_bytes, rows_bytes_snoc}
 use Rattle.plan_table.specs.Packed.{leaf_bits, of_link, row_of, rows_of, kind_in, link_in, tag_in}
 use Rattle.model.specs.Base.{over}
@@ -20,12 +21,14 @@ use Rattle.model.proofs.ListLaws.{take_next, over_over, over_nil}
 pub row_leaf : (w : ℕ) → kind_in w ≡ leaf_bits → row_bytes (row_of w) ≡ leaf_kind ∷ tag_in w ∷ parent_bytes (of_link (link_in w))
 row_leaf w h = rw h
 
-pub row_element : (w : ℕ) → (kind_in w ≡ leaf_bits → ⊥) → row_bytes (row_of w) ≡ element_kind ∷ tag_in w ∷ parent_bytes (of_link (link_in w))
+pub row_element : (w : ℕ) → (kind_in w ≡ leaf_bits → ⊥) →
+    row_bytes (row_of w) ≡ element_kind ∷ tag_in w ∷ parent_bytes (of_link (link_in w))
 row_element w h = rw (ne_eqb (kind_in w) leaf_bits h)
 
 pub row_bytes_lem : (w k t l : ℕ) → t ≡ tag_in w → l ≡ link_in w →
     k ∷ t ∷ parent_bytes (of_link l) ≡ k ∷ tag_in w ∷ parent_bytes (of_link (link_in w))
-row_bytes_lem w k t l e f = ap (λ (j : ℕ). k ∷ t ∷ parent_bytes (of_link j)) f ∙ ap (λ (j : ℕ). k ∷ j ∷ parent_bytes (of_link (link_in w))) e
+row_bytes_lem w k t l e f = ap (λ (j : ℕ). k ∷ t ∷ parent_bytes (of_link j)) f ∙
+    ap (λ (j : ℕ). k ∷ j ∷ parent_bytes (of_link (link_in w))) e
 
 -- ROWS, one more
 length_row_bytes : (r : model.Row) → length (row_bytes r) ≡ 4
@@ -66,9 +69,11 @@ marks_bytes_snoc from (k ∷ ms) m =
     total = omega arith
 
 module _ (ms : List ℕ) (d : ℕ) (h : d < length ms) where
-  marks_next : marks_bytes 0 (map of_link (take (d + 1) ms)) ≡ marks_bytes 0 (map of_link (take d ms)) ++ mark_bytes d (of_link (get_or ms d 0))
+  marks_next : marks_bytes 0 (map of_link (take (d + 1) ms)) ≡ marks_bytes 0 (map of_link (take d ms)) ++
+      mark_bytes d (of_link (get_or ms d 0))
   marks_next =
-      let k : 0 + length (map of_link (take d ms)) ≡ d = omega (arith, length-map (take d ms) of_link, length-take-le d ms (omega arith)) in
+      let k : 0 + length (map of_link (take d ms)) ≡ d =
+      omega (arith, length-map (take d ms) of_link, length-take-le d ms (omega arith)) in
       ap (λ (v : List ℕ). marks_bytes 0 (map of_link v)) (take_next ms d 0 h) ∙
       ap (marks_bytes 0) (map-append of_link (take d ms) (get_or ms d 0 ∷ [])) ∙
       marks_bytes_snoc 0 (map of_link (take d ms)) (of_link (get_or ms d 0)) ∙
@@ -97,7 +102,8 @@ length_mark d none = omega arith
 length_mark d (some i) = omega arith
 
 -- the marks so far are a front of all marks
-pub marks_front : (from k : ℕ) (ms : List ℕ) → length (marks_bytes from (map of_link (take k ms))) ≤ length (marks_bytes from (map of_link ms))
+pub marks_front : (from k : ℕ) (ms : List ℕ) →
+    length (marks_bytes from (map of_link (take k ms))) ≤ length (marks_bytes from (map of_link ms))
 unfolding marks_bytes
 marks_front from zero ms = omega arith
 marks_front from (suc k) [] = omega arith

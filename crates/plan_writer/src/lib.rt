@@ -1,2 +1,4 @@
 // Writing a table that fits in its stored form.
+#![tactic(auto)]
+
 pub mod write;

@@ -59,7 +59,8 @@ abbrev with_table : Refusal → Table → RunResult
 with_table f t = record { refusal = f; table = t; items = 0; bytes = 0; tally = record { made = 0; cut = 0; records = 0 } }
 
 module _ (t : Table) (b : List ℕ) (a h w : ℕ) (n i : ℕ) (some : n ≡ 0 → ⊥) (is : outcome_of t b ≡ refused (refusal.refusal n i)) where
-  leaves : ran_by (decode t) a h w (outcome_of t b) ≡ refused_run (refusal.refusal n i) (decode t) (replicate a 0) (replicate h 0) (replicate
+  leaves : ran_by (decode t) a h w (outcome_of t b) ≡
+      refused_run (refusal.refusal n i) (decode t) (replicate a 0) (replicate h 0) (replicate
       w 0)
   leaves = ap (ran_by (decode t) a h w) is
 
@@ -103,7 +104,8 @@ module _ (t : Table) (b : List ℕ) (e : fits t ≡ true) where
   formed : outcome_of t b ≡ run_by (decode t) (read_script b)
   formed = cond_true (fits t) (run_by (decode t) (read_script b)) (refused (refusal.link_at 0)) e
 
-  script_refuses : ((script_read b).number ≡ 0 → ⊥) → outcome_of t b ≡ refused (refusal.refusal (script_read b).number (script_read b).place)
+  script_refuses : ((script_read b).number ≡ 0 → ⊥) →
+      outcome_of t b ≡ refused (refusal.refusal (script_read b).number (script_read b).place)
   script_refuses k = formed ∙ ap (run_by (decode t)) (read_refused b k)
 
   pub refuses_by : {f : Refusal} → f ≡ script_read b → (f.number ≡ 0 → ⊥) →
@@ -161,11 +163,11 @@ module _ (t : Table) (b : List ℕ) (e : fits t ≡ true) where
           pub few : s.end ≤ max_items
           few = fine.short
 
-          pub put-asks : (a : List ℕ) → answer_need ≤ length a → length (value_at s.work 0 s.end) ≤ length a
-          put-asks a m = omega (arith, length-take (s.end - 0) (drop 0 s.work), few)
+          pub put_asks : (a : List ℕ) → answer_need ≤ length a → length (value_at s.work 0 s.end) ≤ length a
+          put_asks a m = omega (arith, length-take (s.end - 0) (drop 0 s.work), few)
 
-          gives-it : outcome_of t b ≡ gives (value_in whole s) (state_in whole s)
-          gives-it = goes ∙ yields_gives ran l
+          gives_it : outcome_of t b ≡ gives (value_in whole s) (state_in whole s)
+          gives_it = goes ∙ yields_gives ran l
 
           abbrev bytes : List ℕ
           bytes = take s.progress.bytes s.history
@@ -173,14 +175,14 @@ module _ (t : Table) (b : List ℕ) (e : fits t ≡ true) where
           abbrev records : List Record
           records = records_in bytes
 
-          bytes-within : q.bytes ≤ length s.history
-          bytes-within = held.written
+          bytes_within : q.bytes ≤ length s.history
+          bytes_within = held.written
 
           written : history_bytes (records_in bytes) ≡ bytes
           written = held.history.bytes
 
-          size-written : length (history_bytes (records_in bytes)) ≡ q.bytes
-          size-written = ap length written ∙ length-take-le q.bytes s.history bytes-within
+          size_written : length (history_bytes (records_in bytes)) ≡ q.bytes
+          size_written = ap length written ∙ length-take-le q.bytes s.history bytes_within
 
           value_size : work_need ≤ length w → length (value_in whole s) ≡ s.end
           value_size m =
@@ -196,7 +198,7 @@ module _ (t : Table) (b : List ℕ) (e : fits t ≡ true) where
           table_is = encode_decode q.count s.rows t.marks (held_within held) held.canonical
 
           -- what the call gives back
-          pub run-post : {a a' : List ℕ} {r : Ended} → RunPre a h w →
+          pub run_post : {a a' : List ℕ} {r : Ended} → RunPre a h w →
               a' ≡ at_front (value_at s.work 0 s.end) a →
               r ≡ record {
                 refusal = record { number = 0; place = 0 };
@@ -205,41 +207,41 @@ module _ (t : Table) (b : List ℕ) (e : fits t ≡ true) where
                 bytes = s.progress.bytes;
                 tally = s.progress.tally;
               } → RunPost t b a h w s.rows a' s.history r
-          run-post {a} {a'} {r} pre ea er =
+          run_post {a} {a'} {r} pre ea er =
               record {
                 result = ap (λ (e : Ended). result_in t e s.rows) er ∙
                     (λ i. record {
                       refusal = record { number = 0; place = 0 };
                       table = sym table_is i;
                       items = sym (value_size pre.work) i;
-                      bytes = sym size-written i;
-                      tally = tally-is i;
-                    }) ∙ ap (λ (o : Out). result_of t (ran_by (decode t) (length a) (length h) (length w) o)) (sym gives-it);
-                answer = ea ∙ filled-answer ∙
-                    ap (λ (o : Out). (ran_by (decode t) (length a) (length h) (length w) o).answer) (sym gives-it);
-                history = filled-history ∙
-                    ap (λ (o : Out). (ran_by (decode t) (length a) (length h) (length w) o).history) (sym gives-it);
+                      bytes = sym size_written i;
+                      tally = tally_is i;
+                    }) ∙ ap (λ (o : Out). result_of t (ran_by (decode t) (length a) (length h) (length w) o)) (sym gives_it);
+                answer = ea ∙ filled_answer ∙
+                    ap (λ (o : Out). (ran_by (decode t) (length a) (length h) (length w) o).answer) (sym gives_it);
+                history = filled_history ∙
+                    ap (λ (o : Out). (ran_by (decode t) (length a) (length h) (length w) o).history) (sym gives_it);
               }
             where
-              tally-is : q.tally ≡ record {
+              tally_is : q.tally ≡ record {
                 made = times is_made records;
                 cut = times is_cut records;
                 records = length records;
               }
-              tally-is =
+              tally_is =
                   λ i. record { made = sym rows_made i; cut = sym held.history.cuts i; records = sym held.history.records i }
 
-              filled-answer : at_front (value_in whole s) a ≡ filled (length a) (value_in whole s)
-              filled-answer =
+              filled_answer : at_front (value_in whole s) a ≡ filled (length a) (value_in whole s)
+              filled_answer =
                   ap (at_front (value_in whole s)) pre.answered ∙
                   ap (λ (v : List ℕ). value_in whole s ++ v) (drop_zeros (length (value_in whole s)) (length a) 0)
 
-              filled-history : s.history ≡ filled (length h) (history_bytes (records_in bytes))
-              filled-history =
+              filled_history : s.history ≡ filled (length h) (history_bytes (records_in bytes))
+              filled_history =
                   sym (take-append-drop q.bytes s.history) ∙
                   ap (λ (v : List ℕ). bytes ++ v)
                   (fine.after.rest q.bytes (omega arith) ∙ ap (drop q.bytes) pre.recorded ∙ drop_zeros q.bytes (length h) 0 ∙
-                  ap (λ (j : ℕ). replicate (length h - j) 0) (sym size-written)) ∙
+                  ap (λ (j : ℕ). replicate (length h - j) 0) (sym size_written)) ∙
                   ap (λ (v : List ℕ). v ++ replicate (length h - length (history_bytes (records_in bytes))) 0) (sym written)
 
 -- THE CALL: 11 first

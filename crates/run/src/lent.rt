@@ -22,7 +22,7 @@ use run_updates::tally::Tally;
 use script_records::kinds;
 
 // How a run ended: the refusal; the rows then, the items of the answer, the bytes of the history, the tally.
-#[derive(Drop)]
+#[derive(Clone, Copy)]
 pub struct Ended {
     pub refusal: Refusal,
     pub count: usize,

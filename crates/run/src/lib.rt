@@ -1,4 +1,6 @@
 // Runs a script on a plan.
+#![tactic(auto)]
+
 ghost use Rattle.std.specs.Prelude.{◌≡◌};
 ghost use Rattle.run.specs.Calls.{ran, run_result, refused_result, result_with};
 
@@ -19,7 +21,7 @@ pub const HISTORY: usize = 12288;
 pub const WORK: usize = 32768;
 
 // What a run gives back: the refusal, the table, the items of the answer, the bytes of the history, the tally.
-#[derive(Drop)]
+#[derive(Clone, Copy)]
 pub struct RunResult {
     pub refusal: Refusal,
     pub table: Table,

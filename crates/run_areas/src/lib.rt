@@ -1,2 +1,4 @@
 // The areas lent to a run: cleared, and filled.
+#![tactic(auto)]
+
 pub mod area;

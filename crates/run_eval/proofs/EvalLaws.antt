@@ -108,34 +108,34 @@ module _ {b : List ℕ} {left : ℕ} {f : Frame} {s : Machine} (pre : EvalPre b 
                 axis = step_axis fits;
               }
 
-          pub unary-yields : {s' : Machine} → UnaryPost b s.place f.top s₁ s' → EvalPost b left f s s'
-          unary-yields post =
+          pub unary_yields : {s' : Machine} → UnaryPost b s.place f.top s₁ s' → EvalPost b left f s s'
+          unary_yields post =
               let o = one_operand pre.accepted count z in
               first_yields o.first (ok.place ∙ sym o.ends) (post f.bound f.marks)
 
         -- a second
         module _ {kind : ℕ} {rest : Rest} (e : get_or b s.place 0 ≡ kind)
             (o : Two b s.place left f.bound (inner kind f.bound) rest) where
-          pub two-asks : RestPre b kind (left - 1) f s₁
-          two-asks = rest_asks e o.second
+          pub two_asks : RestPre b kind (left - 1) f s₁
+          two_asks = rest_asks e o.second
 
-          pub two-fewer : records_at (left - 1) b s₁.place < records_at left b s.place
-          two-fewer = omega (arith, o.fewer, ap (records_at (left - 1) b) ok.place)
+          pub two_fewer : records_at (left - 1) b s₁.place < records_at left b s.place
+          two_fewer = omega (arith, o.fewer, ap (records_at (left - 1) b) ok.place)
 
-          pub two-yields : {s' : Machine} → RestPost rest (end_at b s₁.place) f s₁ s' → EvalPost b left f s s'
-          two-yields = first_yields o.first (ap (end_at b) ok.place ∙ sym o.ends)
+          pub two_yields : {s' : Machine} → RestPost rest (end_at b s₁.place) f s₁ s' → EvalPost b left f s s'
+          two_yields = first_yields o.first (ap (end_at b) ok.place ∙ sym o.ends)
 
         -- a second and a third
         module _ {rest : Rest} (e : get_or b s.place 0 ≡ if_kind) (o : Three b s.place left f.bound rest) where
           third_at_lem : end_at b s₁.place ≡ end_at b (second_at b at)
           third_at_lem = ap (end_at b) ok.place
 
-          pub three-asks : RestPre b if_kind (left - 1) f s₁ × Accepted b (end_at b s₁.place) (left - 1) f.bound
+          pub three_asks : RestPre b if_kind (left - 1) f s₁ × Accepted b (end_at b s₁.place) (left - 1) f.bound
           unfolding inner
-          three-asks = (rest_asks e o.second, accepted_at third_at_lem o.third)
+          three_asks = (rest_asks e o.second, accepted_at third_at_lem o.third)
 
-          pub three-fewer : records_at (left - 1) b s₁.place + records_at (left - 1) b (end_at b s₁.place) < records_at left b s.place
-          three-fewer = omega (arith, o.fewer, ap (records_at (left - 1) b) ok.place, ap (records_at (left - 1) b) third_at_lem)
+          pub three_fewer : records_at (left - 1) b s₁.place + records_at (left - 1) b (end_at b s₁.place) < records_at left b s.place
+          three_fewer = omega (arith, o.fewer, ap (records_at (left - 1) b) ok.place, ap (records_at (left - 1) b) third_at_lem)
 
-          pub three-yields : {s' : Machine} → RestPost rest (end_at b (end_at b s₁.place)) f s₁ s' → EvalPost b left f s s'
-          three-yields = first_yields o.first (ap (end_at b) third_at_lem ∙ sym o.ends)
+          pub three_yields : {s' : Machine} → RestPost rest (end_at b (end_at b s₁.place)) f s₁ s' → EvalPost b left f s s'
+          three_yields = first_yields o.first (ap (end_at b) third_at_lem ∙ sym o.ends)

@@ -80,7 +80,8 @@ module _ {b : List ℕ} {at left n : ℕ} (a : Accepted b at left n) where
 
   -- ONE OPERAND
   one_of : {make : Expr → Expr} → Unary b at left n make → records_of (make one) ≡ 1 + records_of one →
-      ((vs : List (List ℕ)) (s : State) → run (make one) vs s ≡ and_then (run one vs s) (unary_of b at)) → One b at left n (unary_rest b at)
+      ((vs : List (List ℕ)) (s : State) → run (make one) vs s ≡ and_then (run one vs s) (unary_of b at)) →
+      One b at left n (unary_rest b at)
   one_of u size r = record { first = first_of u.first u.expr (omega (arith, size)) r; ends = u.ends }
 
   pub one_operand : {q : ℕ} → q ≡ arity (get_or b at 0) → q ≡ 1 → One b at left n (unary_rest b at)

@@ -121,7 +121,8 @@ module _ {w : List ℕ} {n : ℕ} {env : List Span} {top i j c : ℕ} (scope : I
                 (bound_values w n env)) t)) (all_snoc scope.values rows);
           }
         where
-          bound_more : (v : ℕ) → get_or (with_bound k (take n env) (span_of i j)) v no_span ≡ get_or (take n env ++ (span_of i j ∷ [])) v no_span
+          bound_more : (v : ℕ) →
+              get_or (with_bound k (take n env) (span_of i j)) v no_span ≡ get_or (take n env ++ (span_of i j ∷ [])) v no_span
           bound_more v = ap (λ (b : Bool). get_or (cond b (take n env ++ (span_of i j ∷ [])) (take n env)) v no_span) t
 
           each : (v : ℕ) → v < n + 1 → SpanFits mid (get_or (take n env ++ (span_of i j ∷ [])) v no_span)

@@ -1,2 +1,4 @@
 // The evaluator of an accepted script.
+#![tactic(auto)]
+
 pub mod evaluate;

@@ -151,7 +151,8 @@ module _ {ws h m : List ℕ} {p : Progress} {old t g : ℕ} (pre : ItemPre old t
                         (before_decode old ws₁ ms h₁ p₁ (omega (arith, pre.room, after₁.rows)) ∙
                         ap (λ (rs : List model.Row). model.table rs (map of_link ms)) rows₁) ∙
                         ap (λ (cs : List Copied).
-                        copy_each z (decode_parts old ws ms) t g (descendants_from (decode_parts old ws ms) t (t + 1) (old - (t + 1))) cs s₁)
+                        copy_each z (decode_parts old ws ms) t g (descendants_from (decode_parts old ws ms) t (t + 1) (old - (t + 1)))
+                        cs s₁)
                         (copied_in_top m t p.count (omega (arith, pre.top, pre.room, pre.size, pre.held.few)) (omega (
                           arith,
                           pre.held.few,

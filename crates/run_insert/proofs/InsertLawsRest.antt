@@ -68,7 +68,8 @@ module _ {old t : ℕ} {ws₀ h₀ m₀ : List ℕ} {p₀ : Progress} (pre : Sca
         rest = λ g z ms.
             let e : t + 1 - t ≡ 1 = omega arith in
             ap (λ (i : ℕ).
-            copy_each z (decode_parts old ws₀ ms) t g (descendants_from (decode_parts old ws₀ ms) t (t + 1) (old - (t + 1))) (copied_in m₀ t i)
+            copy_each z (decode_parts old ws₀ ms) t g (descendants_from (decode_parts old ws₀ ms) t (t + 1) (old - (t + 1)))
+            (copied_in m₀ t i)
             (state_of ws₀ ms h₀ p₀)) e;
       }
 
@@ -126,7 +127,8 @@ module _ {old t : ℕ} {ws₀ h₀ m₀ : List ℕ} {p₀ : Progress} (pre : Sca
 
         turn : (g z : ℕ) (ms : List ℕ) →
             then_row (outcome z [] ws' ms h' r) (next g z ms) ≡
-            copy_each z (decode_parts old ws₀ ms) t g (descendants_from (decode_parts old ws₀ ms) t (t + 1) (old - (t + 1))) (copied_in m₀ t 1)
+            copy_each z (decode_parts old ws₀ ms) t g (descendants_from (decode_parts old ws₀ ms) t (t + 1) (old - (t + 1)))
+            (copied_in m₀ t 1)
             (state_of ws₀ ms h₀ p₀)
         turn g z ms =
             let x = decode_parts old ws₀ ms in

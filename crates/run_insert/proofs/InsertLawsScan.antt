@@ -14,7 +14,8 @@ use borrow.Author.Tests.{lt-ltb, le-ltb, eq-eqb, ne_eqb, ltb-true, ltb-false, eq
 use Rattle.model.specs.Table as model
 use Rattle.model.specs.Sweep.{through}
 use Rattle.model.specs.Step.{parent_is, is_below_from, is_below, collect}
-use Rattle.model.specs.Run.{State, Out, refused, gives, new_row, then_row, Copied, copy_of, copy_parent, copy_row, copy_each, descendants_from}
+use Rattle.model.specs.Run.{State, Out, refused, gives, new_row, then_row, Copied, copy_of, copy_parent, copy_row, copy_each}
+use Rattle.model.specs.Run.{descendants_from}
 use Rattle.model.proofs.BoolLaws.{by_cases, cond_true, cond_false, eq_cases}
 use Rattle.model.proofs.Collect.{collect_append, collect_none}
 use Rattle.model.proofs.Below.{below_is, below_above}
@@ -65,7 +66,8 @@ copied_in_set m t (suc n) j v h =
     let e : get_or (set m j v) (t + n) 0 ≡ get_or m (t + n) 0 = get_or-set_other m j (t + n) v 0 (λ q. omega arith) in
     rw (e, copied_in_set m t n j v (omega arith))
 
-copy_of_copied : (m : List ℕ) (t n q : ℕ) → t ≤ q → q < t + n → (get_or m q 0 ≡ no_copy → ⊥) → copy_of q (copied_in m t n) ≡ some (get_or m q 0)
+copy_of_copied : (m : List ℕ) (t n q : ℕ) → t ≤ q → q < t + n → (get_or m q 0 ≡ no_copy → ⊥) →
+    copy_of q (copied_in m t n) ≡ some (get_or m q 0)
 unfolding copy_of copied_in
 copy_of_copied m t zero q h l f = absurd (omega arith)
 copy_of_copied m t (suc n) q h l f = by_cases (eqb (t + n) q) (λ z. here (eqb-true (t + n) q z))
@@ -76,7 +78,8 @@ copy_of_copied m t (suc n) q h l f = by_cases (eqb (t + n) q) (λ z. here (eqb-t
         let y : get_or m (t + n) 0 ≡ no_copy → ⊥ = λ y. f (ap (λ (j : ℕ). get_or m j 0) (sym z) ∙ y) in
         rw (ne_eqb (get_or m (t + n) 0) no_copy y, eq-eqb (t + n) q z) (ap (λ (j : ℕ). some (get_or m j 0)) z)
 
-    there : eqb (t + n) q ≡ false → copy_of q (copied_in m t n) ≡ some (get_or m q 0) → copy_of q (copied_in m t (suc n)) ≡ some (get_or m q 0)
+    there : eqb (t + n) q ≡ false → copy_of q (copied_in m t n) ≡ some (get_or m q 0) →
+        copy_of q (copied_in m t (suc n)) ≡ some (get_or m q 0)
     there z e = by_cases (eqb (get_or m (t + n) 0) no_copy) (λ w. rw w e) (λ w. rw (w, z) e)
 
 -- THE LINK to the parent's copy, by the tests
@@ -144,7 +147,8 @@ module _ (x : model.Table) (lower : (i p : ℕ) → (model.row_at x i).parent �
       (sym (known (l - 1) k.low (lower j (l - 1) (parent_some k.parent))) ∙ ne_eqb (get_or m (l - 1) 0) no_copy k.copied) ∙
       sym (ap (λ (n : ℕ). not (eqb n 0)) k.is ∙ ap not (ne_eqb (get_or m (l - 1) 0 + 1) 0 z)))
 
-  copy_row_lem : (g : ℕ) → (copy_link m t l ≡ 0 → ⊥) → copy_row x t g j (copied_in m t (j - t)) ≡ model.with_parent (model.row_at x j) (of_link
+  copy_row_lem : (g : ℕ) → (copy_link m t l ≡ 0 → ⊥) →
+      copy_row x t g j (copied_in m t (j - t)) ≡ model.with_parent (model.row_at x j) (of_link
       (copy_link m t l))
   copy_row_lem g n =
       let k = linked_at m t l n in
@@ -196,7 +200,8 @@ module _ (x : model.Table) (lower : (i p : ℕ) → (model.row_at x i).parent �
       where
         old : (k ≡ j → ⊥) → eqb (get_or map' k 0) no_copy ≡ not (eqb k t || is_below x t k)
         old f =
-            ap (λ (n : ℕ). eqb n no_copy) (get_or-set_other m j k (cond (eqb (copy_link m t l) 0) no_copy c) 0 f) ∙ known k a (omega (arith, f))
+            ap (λ (n : ℕ). eqb n no_copy) (get_or-set_other m j k (cond (eqb (copy_link m t l) 0) no_copy c) 0 f) ∙
+            known k a (omega (arith, f))
 
         at : k ≡ j → eqb (get_or map' k 0) no_copy ≡ not (eqb k t || is_below x t k)
         at e =
@@ -223,7 +228,8 @@ module _ (x : model.Table) (lower : (i p : ℕ) → (model.row_at x i).parent �
         (ap (λ (i : ℕ). copy_each z x t g (descendants_from x t i (n - (j + 1))) (copied_in m t (j - t)) s) (sym (add-one j)) ∙
         ap (λ (cs : List Copied). copy_each z x t g (descendants_from x t (j + 1) (n - (j + 1))) cs s)
         (sym (ap (λ (v : List ℕ). copied_in v t (j + 1 - t)) f ∙ copied_out (eqb-true (copy_link m t l) 0 y))) ∙
-        sym (ap (λ (o : Out). then_row o next) (cond_true (eqb (copy_link m t l) 0) (gives [] s) (then_row made (λ (u : State). gives [] u))
+        sym (ap (λ (o : Out). then_row o next)
+        (cond_true (eqb (copy_link m t l) 0) (gives [] s) (then_row made (λ (u : State). gives [] u))
         y))))
         (λ y.
         let w = eqb-false (copy_link m t l) 0 y in
@@ -244,7 +250,8 @@ module _ (x : model.Table) (lower : (i p : ℕ) → (model.row_at x i).parent �
         (ap (λ (i : ℕ). record { old = j; new = i } ∷ copied_in m t (j - t)) count ∙
         sym (ap (λ (v : List ℕ). copied_in v t (j + 1 - t)) f ∙ copied_in_lem w)) ∙
         sym (then_row_gives made next) ∙
-        sym (ap (λ (o : Out). then_row o next) (cond_false (eqb (copy_link m t l) 0) (gives [] s) (then_row made (λ (u : State). gives [] u))
+        sym (ap (λ (o : Out). then_row o next)
+        (cond_false (eqb (copy_link m t l) 0) (gives [] s) (then_row made (λ (u : State). gives [] u))
         y))))
       where
         made : Out

@@ -135,7 +135,8 @@ module _ {b : List ℕ} {at top : ℕ} {s : Machine} (pre : UnaryPre b at top s)
         let few : length (stepped t d v) ≤ max_items = stepped_few pre.value.held ms v (get_or b (at + 1) 0) (get_or b (at + 2) 0) name in
         let l : 0 + model.count t ≤ c = omega (arith, held_count pre.value.held ms) in
         yields_as
-        (ap (λ (j : ℕ). gives (stepped t (step_by (get_or b (at + 1) 0) (get_or b (at + 2) 0) j) v) (state_in (frame n ms top) s)) i ∙ rw k)
+        (ap (λ (j : ℕ). gives (stepped t (step_by (get_or b (at + 1) 0) (get_or b (at + 2) 0) j) v) (state_in (frame n ms top) s)) i ∙
+        rw k)
         refl
         (yields_updated (frame n ms top) s (updated_none pre.value.held) (post.value ms) (λ q. refl) size
         (omega (arith, pre.value.room)) few (λ q. collect_rows _ 0 (model.count t) c l) pre.value.spans eq)

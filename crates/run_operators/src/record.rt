@@ -19,7 +19,7 @@ use run_updates::update;
 use script_records::{kinds, walk};
 
 // After an expression: how far the run has come; the place past it, or of the refusal; the end of its value; the variables.
-#[derive(Drop)]
+#[derive(Clone, Copy)]
 pub struct Evaluated {
     pub progress: Progress,
     pub place: usize,

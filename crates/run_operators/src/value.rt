@@ -10,7 +10,7 @@ use run_updates::state::Progress;
 use script_records::kinds;
 
 // A bound variable's value in the work area. Places there fit two bytes, so the eight spans that go from call to call are 32 bytes.
-#[derive(Drop)]
+#[derive(Clone, Copy)]
 pub struct Span {
     pub start: u16,
     pub len: u16,

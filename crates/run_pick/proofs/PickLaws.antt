@@ -1,5 +1,6 @@
 -- Pick over the work area: one item more, and that what is kept is what the model keeps.
-use Rattle.std.proofs.Common.{◌≡◌, ℕ, suc, ◌+◌, ◌-◌, ◌<◌, ◌≤◌, Bool, cond, ◌&&◌, List, [], ◌∷◌, ◌++◌, length, get_or, take, drop, set, sym, refl, ap, ◌∙◌, subst, arith, length-drop, get_or-drop, take-suc, drop-drop, drop-set-lt}
+use Rattle.std.proofs.Common.{◌≡◌, ℕ, suc, ◌+◌, ◌-◌, ◌<◌, ◌≤◌, Bool, cond, ◌&&◌, List, [], ◌∷◌, ◌++◌, length, get_or, take, drop, set}
+use Rattle.std.proofs.Common.{sym, refl, ap, ◌∙◌, subst, arith, length-drop, get_or-drop, take-suc, drop-drop, drop-set-lt}
 use Rattle.model.specs.Base.{filtered}
 use Rattle.model.specs.Table as model
 use Rattle.model.specs.Step.{relates, is_picked, picked}
@@ -47,7 +48,8 @@ rest_kept w w' k r a l e =
 pub rest_at : (w w' : List ℕ) (k : ℕ) → drop k w' ≡ drop k w → get_or w' k 0 ≡ get_or w k 0
 rest_at w w' k e =
     let z : k + 0 ≡ k = omega arith in
-    ap (λ (j : ℕ). get_or w' j 0) (sym z) ∙ sym (get_or-drop k w' 0 0) ∙ ap (λ (l : List ℕ). get_or l 0 0) e ∙ get_or-drop k w 0 0 ∙ ap (λ (j :
+    ap (λ (j : ℕ). get_or w' j 0) (sym z) ∙ sym (get_or-drop k w' 0 0) ∙ ap (λ (l : List ℕ). get_or l 0 0) e ∙ get_or-drop k w 0 0 ∙
+    ap (λ (j :
     ℕ). get_or w j 0) z
 
 -- the model's pick

@@ -1,5 +1,6 @@
 -- Ranks of packed rows: each relation's range has the ranks of the leaves whose value stands in it.
-use Rattle.std.proofs.Common.{◌≡◌, ℕ, ◌+◌, ◌-◌, ◌*◌, ◌/◌, ◌%◌, ◌<◌, ◌≤◌, Bool, true, false, ◌&&◌, eqb, ltb, leb, sym, refl, ap, ◌∙◌, arith, ltb-false, ltb-true, le-ltb, lt-ltb, eq-eqb, eqb-true, le-leb, leb-true}
+use Rattle.std.proofs.Common.{◌≡◌, ℕ, ◌+◌, ◌-◌, ◌*◌, ◌/◌, ◌%◌, ◌<◌, ◌≤◌, Bool, true, false, ◌&&◌, eqb, ltb, leb, sym, refl, ap, ◌∙◌}
+use Rattle.std.proofs.Common.{arith, ltb-false, ltb-true, le-ltb, lt-ltb, eq-eqb, eqb-true, le-leb, leb-true}
 use borrow.Author.Tests.{eqb-false}
 use Rattle.model.specs.Step.{signed_key, is_surveyed}
 use Rattle.model.proofs.BoolLaws.{and_left, and_right, and_both, by_cases, bool_iff}
@@ -80,7 +81,8 @@ other_key w h k =
 
 -- a range of keys of leaves, by the values' keys
 keys_in : (w low high : ℕ) → w < all_ranks → high ≤ leaf_ranks - half_ranks → (t : Bool) →
-    (kind_in w ≡ leaf_bits → key_in half_ranks low high (rank_in w) ≡ t) → key_in half_ranks low high (rank_in w) ≡ (eqb (kind_in w) leaf_bits && t)
+    (kind_in w ≡ leaf_bits → key_in half_ranks low high (rank_in w) ≡ t) →
+    key_in half_ranks low high (rank_in w) ≡ (eqb (kind_in w) leaf_bits && t)
 keys_in w low high h u t f =
     by_cases (eqb (kind_in w) leaf_bits)
     (λ e. rw e (f (eqb-true (kind_in w) leaf_bits e)))

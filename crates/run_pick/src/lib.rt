@@ -1,2 +1,4 @@
 // The values that a pick keeps.
+#![tactic(auto)]
+
 pub mod pick;

@@ -43,7 +43,7 @@ fn rank(w: u32) -> u32
 
 // Ranks that are kept: those that come to less than `many`, modulo 2^32, when `lower` is added to those below `half` and `upper` to the
 // others.
-#[derive(Drop)]
+#[derive(Clone, Copy)]
 struct Ranks {
     half: u32,
     lower: u32,

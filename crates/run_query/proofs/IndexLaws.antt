@@ -86,7 +86,8 @@ module _ (ws : List ℕ) (n j : ℕ) (ix : List ℕ) (few : n ≤ max_rows) (low
       next_here : (i : ℕ) → i ≡ j →
           Leads ws n (link_in (get_or ws i 0)) (i + 1) (get_or (set (set ix (next_at j) after) link j) (next_at i) 0)
       next_here i e =
-          subst (λ (i : ℕ). Leads ws n (link_in (get_or ws i 0)) (i + 1) (get_or (set (set ix (next_at j) after) link j) (next_at i) 0)) (sym e)
+          subst (λ (i : ℕ). Leads ws n (link_in (get_or ws i 0)) (i + 1) (get_or (set (set ix (next_at j) after) link j) (next_at i) 0))
+          (sym e)
           (subst (λ (r : ℕ). Leads ws n link (j + 1) r)
           (sym (get_or-set_other (set ix (next_at j) after) link (next_at j) j 0 (λ q. omega arith) ∙
           get_or-set_same ix (next_at j) after 0 (omega (arith, s.size))))

@@ -47,7 +47,8 @@ module _ (ws : List ℕ) (n : ℕ) (held : RowsHeld ws n) (test name : ℕ) (ms 
   not_child : (i j : ℕ) → j < n → (link_in (get_or ws j 0) ≡ i + 1 → ⊥) → is_reached x (step_by 0 test name) (i ∷ []) j ≡ false
   not_child i j h z =
       sym (child_row i j h) ∙
-      ap (λ (t : Bool). t && admits (step_by 0 test name) (letter_of (row_of (get_or ws j 0)))) (ne_eqb (link_in (get_or ws j 0)) (i + 1) z)
+      ap (λ (t : Bool). t && admits (step_by 0 test name) (letter_of (row_of (get_or ws j 0))))
+      (ne_eqb (link_in (get_or ws j 0)) (i + 1) z)
 
   -- rows passed over are no children
   pub collected_past : (i : ℕ) (w : List ℕ) (from : ℕ) (w' : List ℕ) (r j j' : ℕ) → Skipped ws n (i + 1) j j' →
@@ -111,7 +112,8 @@ module _ (ws : List ℕ) (n : ℕ) (held : RowsHeld ws n) (test name : ℕ) (ms 
 
       -- they are below it, so any bound from there on serves
       way_from : (m : ℕ) → link_in (get_or ws i 0) ≤ m →
-          collect (λ (j : ℕ). admits s (letter_of (model.row_at x j)) && reaches x (2 + bit d) i j) 0 m ≡ way_up x d s (link_in (get_or ws i 0))
+          collect (λ (j : ℕ). admits s (letter_of (model.row_at x j)) && reaches x (2 + bit d) i j) 0 m ≡
+          way_up x d s (link_in (get_or ws i 0))
       unfolding collect
       way_from m b = eq_cases (link_in (get_or ws i 0)) 0 nothing something
         where
@@ -129,10 +131,10 @@ module _ (ws : List ℕ) (n : ℕ) (held : RowsHeld ws n) (test name : ℕ) (ms 
           past : (j : ℕ) → l ≤ j → is_on_way x d s l j ≡ false
           past j p =
               ap (λ (t : Bool). passing j && (t || (d && is_below x j (l - 1)))) (ne_eqb l (j + 1) (λ q. omega arith)) ∙
-              ap (λ (t : Bool). passing j && (d && t)) not-above ∙ ap (λ (t : Bool). passing j && t) (and-false d) ∙ and-false (passing j)
+              ap (λ (t : Bool). passing j && (d && t)) not_above ∙ ap (λ (t : Bool). passing j && t) (and-false d) ∙ and-false (passing j)
             where
-              not-above : is_below x j (l - 1) ≡ false
-              not-above =
+              not_above : is_below x j (l - 1) ≡ false
+              not_above =
                   by_cases (is_below x j (l - 1)) (λ e. absurd (let k = below_higher x held.lower j (l - 1) e in omega arith)) (λ e. e)
 
           something : (l ≡ 0 → ⊥) → collect reached 0 m ≡ way_up x d s l
@@ -144,7 +146,8 @@ module _ (ws : List ℕ) (n : ℕ) (held : RowsHeld ws n) (test name : ℕ) (ms 
               append-nil (way_up x d s l)
 
     -- the way by a link: what is on it below its row, and the row
-    way_last : (l : ℕ) → (l ≡ 0 → ⊥) → (t : Bool) → l - 1 < n → t ≡ admits (step_by 0 test name) (letter_of (row_of (get_or ws (l - 1) 0))) →
+    way_last : (l : ℕ) → (l ≡ 0 → ⊥) → (t : Bool) → l - 1 < n →
+        t ≡ admits (step_by 0 test name) (letter_of (row_of (get_or ws (l - 1) 0))) →
         way_up x d s l ≡ collect (is_on_way x d s l) 0 (l - 1) ++ cond t ((l - 1) ∷ []) []
     way_last l z t h e =
         let k : l ≡ l - 1 + 1 = omega (arith, z) in
@@ -160,7 +163,8 @@ module _ (ws : List ℕ) (n : ℕ) (held : RowsHeld ws n) (test name : ℕ) (ms 
 
   -- what a step up answers from an item
   pub step_way : (d : Bool) (i : ℕ) → i < n →
-      collect (is_reached x (step_by (2 + bit d) test name) (i ∷ [])) 0 n ≡ way_up x d (step_by (2 + bit d) test name) (link_in (get_or ws i 0))
+      collect (is_reached x (step_by (2 + bit d) test name) (i ∷ [])) 0 n ≡
+      way_up x d (step_by (2 + bit d) test name) (link_in (get_or ws i 0))
   step_way d i h =
       collect_same (is_reached x (step_by (2 + bit d) test name) (i ∷ []))
       (λ (j : ℕ). admits (step_by (2 + bit d) test name) (letter_of (model.row_at x j)) && reaches x (2 + bit d) i j) 0 n

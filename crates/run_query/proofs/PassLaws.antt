@@ -102,26 +102,26 @@ module _ (ws : List ℕ) (n : ℕ) (held : RowsHeld ws n) where
     module _ (j : ℕ) (h : j < n) (gs : List ℕ) (s : Descending ws n d fs j gs) where
       -- the flag of a row's parent says whether the row is reached
       pub above_is : (ms v : List ℕ) → Flagged v fs → get_or gs (link_in (get_or ws j 0)) 0 ≡ bit (down_to (decode_parts n ws ms) d v j)
-      above_is ms v f = eq_cases l 0 no_parent a-parent
+      above_is ms v f = eq_cases l 0 no_parent a_parent
         where
           l : ℕ
           l = link_in (get_or ws j 0)
 
-          by-parent : (q : Option ℕ) → of_link l ≡ q → down_to (decode_parts n ws ms) d v j ≡ through
+          by_parent : (q : Option ℕ) → of_link l ≡ q → down_to (decode_parts n ws ms) d v j ≡ through
               (counts_down (decode_parts n ws ms) d v) q
-          by-parent q e =
+          by_parent q e =
               down_parent (decode_parts n ws ms) held.lower d v j ∙
               ap (through (counts_down (decode_parts n ws ms) d v)) (parent_linked n ws ms within j h ∙ e)
 
           no_parent : l ≡ 0 → get_or gs l 0 ≡ bit (down_to (decode_parts n ws ms) d v j)
           no_parent z =
-              ap (λ (a : ℕ). get_or gs a 0) z ∙ s.none ∙ f.none ∙ ap bit (sym (by-parent none (ap of_link z)))
+              ap (λ (a : ℕ). get_or gs a 0) z ∙ s.none ∙ f.none ∙ ap bit (sym (by_parent none (ap of_link z)))
 
-          a-parent : (l ≡ 0 → ⊥) → get_or gs l 0 ≡ bit (down_to (decode_parts n ws ms) d v j)
-          a-parent z =
+          a_parent : (l ≡ 0 → ⊥) → get_or gs l 0 ≡ bit (down_to (decode_parts n ws ms) d v j)
+          a_parent z =
               let low : l - 1 < j = omega (arith, link_below j h, z) in
               let k : l ≡ l - 1 + 1 = omega (arith, z) in
-              ap (λ (a : ℕ). get_or gs a 0) k ∙ s.done ms v f (l - 1) low ∙ ap bit (sym (by-parent (some (l - 1)) (of_link_some l z)))
+              ap (λ (a : ℕ). get_or gs a 0) k ∙ s.done ms v f (l - 1) low ∙ ap bit (sym (by_parent (some (l - 1)) (of_link_some l z)))
 
       -- whether the row counts by its parent's flag, and what it then counts as
       counts_down_lem : (ms v : List ℕ) → Flagged v fs → (t : Bool) → counted 0 (get_or gs (link_in (get_or ws j 0)) 0) d ≡ t →
@@ -133,7 +133,7 @@ module _ (ws : List ℕ) (n : ℕ) (held : RowsHeld ws n) where
       pub descending_next : (l : ℕ) → l ≡ link_in (get_or ws j 0) → Descending ws n d fs (j + 1) (marked_by gs j (get_or gs l 0) d)
       descending_next l q =
           subst (λ (a : ℕ). Descending ws n d fs (j + 1) (marked_by gs j (get_or gs a 0) d)) (sym q)
-          (cond_cases (Descending ws n d fs (j + 1)) (counted 0 (get_or gs (link_in (get_or ws j 0)) 0) d) counting not-counting)
+          (cond_cases (Descending ws n d fs (j + 1)) (counted 0 (get_or gs (link_in (get_or ws j 0)) 0) d) counting not_counting)
         where
           counting : counted 0 (get_or gs (link_in (get_or ws j 0)) 0) d ≡ true → Descending ws n d fs (j + 1) (set gs (j + 1) 1)
           counting e =
@@ -150,8 +150,8 @@ module _ (ws : List ℕ) (n : ℕ) (held : RowsHeld ws n) where
                 rest = λ k b. get_or-set_other gs (j + 1) (k + 1) 1 0 (λ z. omega arith) ∙ s.rest k (omega arith);
               }
 
-          not-counting : counted 0 (get_or gs (link_in (get_or ws j 0)) 0) d ≡ false → Descending ws n d fs (j + 1) gs
-          not-counting e =
+          not_counting : counted 0 (get_or gs (link_in (get_or ws j 0)) 0) d ≡ false → Descending ws n d fs (j + 1) gs
+          not_counting e =
               record {
                 size = s.size;
                 none = s.none;
@@ -199,13 +199,14 @@ module _ (ws : List ℕ) (n : ℕ) (held : RowsHeld ws n) where
       one_more ms v j =
           let e : n - k ≡ suc (n - (k + 1)) = omega arith in
           ap (any_from (child_counts (decode_parts n ws ms) d v j) k) e ∙
-          ap (λ (a : ℕ). child_counts (decode_parts n ws ms) d v j k || any_from (child_counts (decode_parts n ws ms) d v j) a (n - (k + 1)))
+          ap (λ (a : ℕ). child_counts (decode_parts n ws ms) d v j k ||
+          any_from (child_counts (decode_parts n ws ms) d v j) a (n - (k + 1)))
           (sym (add-one k))
 
       pub climbing_next : Climbing ws n d fs k (climbed (get_or ws k 0) k d fs rs)
       climbing_next =
           by_cases test (λ e. subst (Climbing ws n d fs k) (sym (cond_true test (set rs l 1) rs e)) (counting e))
-          (λ e. subst (Climbing ws n d fs k) (sym (cond_false test (set rs l 1) rs e)) (not-counting e))
+          (λ e. subst (Climbing ws n d fs k) (sym (cond_false test (set rs l 1) rs e)) (not_counting e))
         where
           l : ℕ
           l = link_in (get_or ws k 0)
@@ -243,8 +244,8 @@ module _ (ws : List ℕ) (n : ℕ) (held : RowsHeld ws n) where
                   ap (λ (t : Bool). t || any_from (child_counts (decode_parts n ws ms) d v j) (k + 1) (n - (k + 1))) (child ms v f j true e
                   ∙ ap (λ (a : Bool). a && true) q)))
 
-          not-counting : test ≡ false → Climbing ws n d fs k rs
-          not-counting e =
+          not_counting : test ≡ false → Climbing ws n d fs k rs
+          not_counting e =
               record {
                 size = s.size;
                 flags = λ ms v f j u.

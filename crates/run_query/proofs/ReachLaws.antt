@@ -139,7 +139,8 @@ module _ (x : Table) (lower : (i p : ℕ) → (row_at x i).parent ≡ some p →
   first_child j i (under e) = (i, e, inl refl)
   first_child j i (further {p = p} e b) = go (first_child j p b)
     where
-      go : (c : ℕ) × ((row_at x c).parent ≡ some j) × ((c ≡ p) ⊎ Below x c p) → (c : ℕ) × ((row_at x c).parent ≡ some j) × ((c ≡ i) ⊎ Below x
+      go : (c : ℕ) × ((row_at x c).parent ≡ some j) × ((c ≡ p) ⊎ Below x c p) → (c : ℕ) × ((row_at x c).parent ≡ some j) ×
+          ((c ≡ i) ⊎ Below x
           c i)
       go (c, f, inl q) = (c, f, inr (under (e ∙ ap some (sym q))))
       go (c, f, inr q) = (c, f, inr (further e q))
@@ -148,7 +149,8 @@ module _ (x : Table) (lower : (i p : ℕ) → (row_at x i).parent ≡ some p →
   below_child j k i e (under f) = further f (under e)
   below_child j k i e (further {p = p} f b) = further f (below_child j k p e b)
 
-  child_there : (d : Bool) (v : List ℕ) (j t k : ℕ) → t ≤ j + 1 → (row_at x k).parent ≡ some j → (among k v || (d && up_to x d v k)) ≡ true →
+  child_there : (d : Bool) (v : List ℕ) (j t k : ℕ) → t ≤ j + 1 → (row_at x k).parent ≡ some j →
+      (among k v || (d && up_to x d v k)) ≡ true →
       any_from (child_counts x d v j) t (count x - t) ≡ true
   child_there d v j t k low e h =
       from_any (child_counts x d v j) t (count x - t) k (omega (arith, lower k j e)) (omega (arith, lower k j e, parent_count x k j e))
@@ -178,13 +180,15 @@ module _ (x : Table) (lower : (i p : ℕ) → (row_at x i).parent ≡ some p →
           go (e, inl m) = in_any (λ (i : ℕ). parent_is x j i) (among_in k v m) (is_the_by j (row_at x k).parent e)
           go (e, inr m) = absurd (true_false false m refl)
   up_children true v j t low =
-      bool_iff (up_to x true v j) (any_from (child_counts x true v j) t (count x - t)) (λ e. there (any_in (λ (i : ℕ). is_below x j i) v e))
+      bool_iff (up_to x true v j) (any_from (child_counts x true v j) t (count x - t))
+      (λ e. there (any_in (λ (i : ℕ). is_below x j i) v e))
       (λ e. back (any_from_lem (child_counts x true v j) t (count x - t) e))
     where
       there : (i : ℕ) × In i v × (is_below x j i ≡ true) → any_from (child_counts x true v j) t (count x - t) ≡ true
       there (i, m, e) = go (first_child j i (below_is x j i e))
         where
-          go : (c : ℕ) × ((row_at x c).parent ≡ some j) × ((c ≡ i) ⊎ Below x c i) → any_from (child_counts x true v j) t (count x - t) ≡ true
+          go : (c : ℕ) × ((row_at x c).parent ≡ some j) × ((c ≡ i) ⊎ Below x c i) →
+              any_from (child_counts x true v j) t (count x - t) ≡ true
           go (c, f, inl q) =
               child_there true v j t c low f (or_left (among c v) (up_to x true v c) (ap (λ (a : ℕ). among a v) q ∙ in_among m))
           go (c, f, inr q) =

@@ -101,7 +101,8 @@ module _ (ws : List ℕ) (n axis test name : ℕ) (v ms : List ℕ) (within : n 
   any_reaches j = any (λ (i : ℕ). reaches (decode_parts n ws ms) axis i j) v
 
   pub reached_row : (j : ℕ) → j < n → (t : Bool) → t ≡ any_reaches j →
-      (t && admits (step_by 0 test name) (letter_of (row_of (get_or ws j 0)))) ≡ is_reached (decode_parts n ws ms) (step_by axis test name) v j
+      (t && admits (step_by 0 test name) (letter_of (row_of (get_or ws j 0)))) ≡
+      is_reached (decode_parts n ws ms) (step_by axis test name) v j
   reached_row j h t e =
       and_comm t (admits (step_by 0 test name) (letter_of (row_of (get_or ws j 0)))) ∙
       ap (λ (r : model.Row). admits (step_by 0 test name) (letter_of r) && t) (sym (row_at_decode n ws ms within j h)) ∙
@@ -115,7 +116,8 @@ module _ (ws : List ℕ) (n axis test name : ℕ) (v ms : List ℕ) (within : n 
   pub step_rows : (fs rs : List ℕ) → Flagged v fs → Reached ws n axis fs rs →
       kept_rows ws rs test name n ≡ stepped (decode_parts n ws ms) (step_by axis test name) v
   step_rows fs rs f s =
-      collect_same (λ (j : ℕ). kept ws j (get_or rs (j + 1) 0) test name) (is_reached (decode_parts n ws ms) (step_by axis test name) v) 0 n
+      collect_same (λ (j : ℕ). kept ws j (get_or rs (j + 1) 0) test name) (is_reached (decode_parts n ws ms) (step_by axis test name) v)
+      0 n
       (λ j h. kept_row j (omega arith) (get_or rs (j + 1) 0) (s.flags ms v f j (omega arith))) ∙
       ap (collect (is_reached (decode_parts n ws ms) (step_by axis test name) v) 0) (sym (count_decode n ws ms within))
 
@@ -126,7 +128,8 @@ pub step_post : (ws : List ℕ) (n : ℕ) (s : Step) (v w : List ℕ) (from to :
 step_post ws n s v w from to w' r within e h =
     record {
       value = λ ms. subst (λ (u : List ℕ). Appended (stepped (decode_parts n ws ms) s u) w from w' r) e
-          (subst (λ (k : ℕ). Appended (collect (is_reached (decode_parts n ws ms) s v) 0 k) w from w' r) (sym (count_decode n ws ms within))
+          (subst (λ (k : ℕ). Appended (collect (is_reached (decode_parts n ws ms) s v) 0 k) w from w' r)
+          (sym (count_decode n ws ms within))
           (h ms));
     }
 
@@ -147,7 +150,8 @@ collected_grown f n w w' from r s t e {w''} {r''} g =
     (ap (λ (u : Bool). collect f 0 n ++ cond u (n ∷ []) []) e ∙ sym (collect_next f n)) (g.value (collect f 0 n) w from s)
 
 pub collected_by : (f : ℕ → Bool) (n : ℕ) (w w' : List ℕ) (from r : ℕ) → r < length w' → Appended (collect f 0 n) w from w' r →
-    (t : Bool) (w'' : List ℕ) (r'' : ℕ) → t ≡ f n → w'' ≡ set w' r n → r'' ≡ cond t (r + 1) r → Appended (collect f 0 (n + 1)) w from w'' r''
+    (t : Bool) (w'' : List ℕ) (r'' : ℕ) → t ≡ f n → w'' ≡ set w' r n → r'' ≡ cond t (r + 1) r →
+    Appended (collect f 0 (n + 1)) w from w'' r''
 collected_by f n w w' from r h s t w'' r'' e a b =
     rw (a, b, e, collect_next f n) (appended_if (f n) n (collect f 0 n) w w' from r h s)
 

@@ -1,5 +1,6 @@
 -- Values in the work area: a value stands from a place up to another. Contracts of the operators on values.
-use Rattle.std.specs.Prelude.{◌≡◌, Bool, true, ◌&&◌, ◌||◌, not, cond, List, [], ◌∷◌, ◌++◌, ℕ, ◌+◌, ◌-◌, ◌≤◌, ◌<◌, eqb, length, get_or, take, drop}
+use Rattle.std.specs.Prelude.{◌≡◌, Bool, true, ◌&&◌, ◌||◌, not, cond, List, [], ◌∷◌, ◌++◌, ℕ, ◌+◌, ◌-◌, ◌≤◌, ◌<◌, eqb, length, get_or}
+use Rattle.std.specs.Prelude.{take, drop}
 use Rattle.model.specs.Limits.{max_items, max_links, max_rows}
 use Rattle.model.specs.Script.{Step, step_by}
 use Rattle.model.specs.Table.{Table, row_at}

@@ -27,7 +27,7 @@ const ANY_ELEMENT: u8 = 1;
 const ANY_LEAF: u8 = 2;
 
 // A script's step.
-#[derive(Drop)]
+#[derive(Clone, Copy)]
 pub struct StepBy {
     pub axis: u8,
     pub test: u8,

@@ -92,7 +92,8 @@ abbrev undo_from : model.Table → List Placed → Formed → Undo
 undo_from x ps (refused f) = refused f
 undo_from x ps (formed qs) = undo_all x (backwards qs ps)
 
-undo_from_placed : (x : model.Table) (ps : List Placed) (p : Placed) (f : Formed) → undo_from x ps (with_placed p f) ≡ undo_from x (p ∷ ps) f
+undo_from_placed : (x : model.Table) (ps : List Placed) (p : Placed) (f : Formed) →
+    undo_from x ps (with_placed p f) ≡ undo_from x (p ∷ ps) f
 unfolding backwards
 undo_from_placed x ps p (refused f) = refl
 undo_from_placed x ps p (formed qs) = refl
@@ -176,7 +177,8 @@ module _ {b m : List ℕ} {at n : ℕ} (c : Forming b m at n) where
             let w : form_from (suc (length b - n)) at n (drop at b) ≡ refused (form_refusal at n (drop at b)) =
             rw (ne_eqb (length (drop at b)) 0 there, y) in
             ap (λ (f : Rattle.model.specs.Refusal.Refusal). refused f) (sym e) ∙
-            sym (ap (undo_from x (undoing b m n)) w) ∙ ap (λ (k : ℕ). undo_from x (undoing b m n) (form_from k at n (drop at b))) (sym fuel)
+            sym (ap (undo_from x (undoing b m n)) w) ∙
+            ap (λ (k : ℕ). undo_from x (undoing b m n) (form_from k at n (drop at b))) (sym fuel)
             ∙ c.rest x
 
     module _ (z : r ≡ 0) where
@@ -227,7 +229,8 @@ module _ {b m : List ℕ} {at n : ℕ} (c : Forming b m at n) where
           entry = record { at = at; entry = record_in (drop at b) }
 
           turn : form_from (suc (length b - n)) at n (drop at b) ≡
-              with_placed entry (form_from (length b - n) (at + history_size (get_or (drop at b) 0 0)) (n + 1) (drop (history_size (get_or (drop
+              with_placed entry (form_from (length b - n) (at + history_size (get_or (drop at b) 0 0)) (n + 1)
+              (drop (history_size (get_or (drop
               at b) 0 0)) (drop at b)))
           turn =
               let y : is_fine (form_refusal at n (drop at b)) ≡ true = ap is_fine (refusals ∙ cond_eq fine (refusal r at) z) in
@@ -246,12 +249,15 @@ module _ {b m : List ℕ} {at n : ℕ} (c : Forming b m at n) where
               ap (λ (ps : List Placed). undo_from x ps (form_from (length b + 1 - (n + 1)) at' (n + 1) (drop at' b))) grown ∙
               ap (λ (k : ℕ). undo_from x (entry ∷ undoing b m n) (form_from k at' (n + 1) (drop at' b))) f ∙
               ap (λ (j : ℕ). undo_from x (entry ∷ undoing b m n) (form_from (length b - n) j (n + 1) (drop j b))) e ∙
-              ap (λ (d : List ℕ). undo_from x (entry ∷ undoing b m n) (form_from (length b - n) (at + step) (n + 1) d)) (sym (drop-drop step
+              ap (λ (d : List ℕ). undo_from x (entry ∷ undoing b m n) (form_from (length b - n) (at + step) (n + 1) d))
+              (sym (drop-drop step
               at b)) ∙
-              ap (λ (k : ℕ). undo_from x (entry ∷ undoing b m n) (form_from (length b - n) (at + history_size k) (n + 1) (drop (history_size
+              ap (λ (k : ℕ). undo_from x (entry ∷ undoing b m n)
+              (form_from (length b - n) (at + history_size k) (n + 1) (drop (history_size
               k) (drop at b)))) (sym (drop_first b at)) ∙
               sym (undo_from_placed x (undoing b m n) entry
-              (form_from (length b - n) (at + history_size (get_or (drop at b) 0 0)) (n + 1) (drop (history_size (get_or (drop at b) 0 0)) (drop
+              (form_from (length b - n) (at + history_size (get_or (drop at b) 0 0)) (n + 1)
+              (drop (history_size (get_or (drop at b) 0 0)) (drop
               at b)))) ∙
               sym (ap (undo_from x (undoing b m n)) turn) ∙
               ap (λ (k : ℕ). undo_from x (undoing b m n) (form_from k at n (drop at b))) (sym fuel) ∙ c.rest x
@@ -280,75 +286,77 @@ parent_some l v e = rw (ne_eqb v no_parent e) (by_cases (eqb l 0) (λ z. root z 
         (λ q. q ∙ sym (ne_eqb (l - 1) v (λ k. eqb-false l (v + 1) q (omega (arith, y))))))
 
 -- A ROW MADE, by the tests
-module _ {ws : List ℕ} {n : ℕ} {s : List ℕ} {size : ℕ} (pre : FitPre ws n s size) (ms : List ℕ) {row : ℕ} (here : row ≡ number_at s 1) where
-  within : n ≤ length ws
-  within = omega (arith, pre.rows, pre.few)
+module _ {ws : List ℕ} {n : ℕ} {s : List ℕ} {size : ℕ} (pre : FitPre ws n s size) (ms : List ℕ) {row : ℕ} (here : row ≡ number_at s 1)
+  where
+    within : n ≤ length ws
+    within = omega (arith, pre.rows, pre.few)
 
-  abbrev x : model.Table
-  x = decode_parts n ws ms
+    abbrev x : model.Table
+    x = decode_parts n ws ms
 
-  abbrev w : ℕ
-  w = get_or ws row 0
+    abbrev w : ℕ
+    w = get_or ws row 0
 
-  counted : model.count x ≡ n
-  counted = count_decode n ws ms within
+    counted : model.count x ≡ n
+    counted = count_decode n ws ms within
 
-  made_row : made_fits x (number_at s 1) (row_made s) ≡ made_fits x row (row_made s)
-  made_row = ap (λ (j : ℕ). made_fits x j (row_made s)) (sym here)
+    made_row : made_fits x (number_at s 1) (row_made s) ≡ made_fits x row (row_made s)
+    made_row = ap (λ (j : ℕ). made_fits x j (row_made s)) (sym here)
 
-  pub made_last : (row + 1 ≡ n → ⊥) → made_fits x (number_at s 1) (row_made s) ≡ false
-  made_last f =
-      let g : row + 1 ≡ model.count x → ⊥ = λ q. f (q ∙ counted) in
-      made_row ∙ rw (ne_eqb (row + 1) (model.count x) g)
+    pub made_last : (row + 1 ≡ n → ⊥) → made_fits x (number_at s 1) (row_made s) ≡ false
+    made_last f =
+        let g : row + 1 ≡ model.count x → ⊥ = λ q. f (q ∙ counted) in
+        made_row ∙ rw (ne_eqb (row + 1) (model.count x) g)
 
-  module _ (last : row + 1 ≡ n) where
-    made_tests : made_fits x (number_at s 1) (row_made s) ≡
-        (not (any (model.is_the row) (map of_link ms)) && same_bool (eqb (kind_in w) leaf_bits) (row_made s).is_leaf &&
-        eqb (tag_in w) (get_or s 3 0) && same_parent (of_link (link_in w)) (parent_in (number_at s 4)))
-    made_tests =
-        let k : row < n = omega arith in
-        made_row ∙ rw (eq-eqb (row + 1) (model.count x) (last ∙ sym counted), row_at_decode n ws ms within row k)
+    module _ (last : row + 1 ≡ n) where
+      made_tests : made_fits x (number_at s 1) (row_made s) ≡
+          (not (any (model.is_the row) (map of_link ms)) && same_bool (eqb (kind_in w) leaf_bits) (row_made s).is_leaf &&
+          eqb (tag_in w) (get_or s 3 0) && same_parent (of_link (link_in w)) (parent_in (number_at s 4)))
+      made_tests =
+          let k : row < n = omega arith in
+          made_row ∙ rw (eq-eqb (row + 1) (model.count x) (last ∙ sym counted), row_at_decode n ws ms within row k)
 
-    pub made_marked : any (model.is_the row) (map of_link ms) ≡ true → made_fits x (number_at s 1) (row_made s) ≡ false
-    made_marked e = made_tests ∙ rw e
+      pub made_marked : any (model.is_the row) (map of_link ms) ≡ true → made_fits x (number_at s 1) (row_made s) ≡ false
+      made_marked e = made_tests ∙ rw e
 
-    module _ (free : any (model.is_the row) (map of_link ms) ≡ false) where
-      pub made_kind : same_bool (eqb (kind_in w) leaf_bits) (row_made s).is_leaf ≡ false → made_fits x (number_at s 1) (row_made s) ≡ false
-      made_kind e = made_tests ∙ rw (free, e)
+      module _ (free : any (model.is_the row) (map of_link ms) ≡ false) where
+        pub made_kind : same_bool (eqb (kind_in w) leaf_bits) (row_made s).is_leaf ≡ false →
+            made_fits x (number_at s 1) (row_made s) ≡ false
+        made_kind e = made_tests ∙ rw (free, e)
 
-      module _ (same : same_bool (eqb (kind_in w) leaf_bits) (row_made s).is_leaf ≡ true) where
-        pub made_tag : (tag_in w ≡ get_or s 3 0 → ⊥) → made_fits x (number_at s 1) (row_made s) ≡ false
-        made_tag e = made_tests ∙ rw (free, same, ne_eqb (tag_in w) (get_or s 3 0) e)
+        module _ (same : same_bool (eqb (kind_in w) leaf_bits) (row_made s).is_leaf ≡ true) where
+          pub made_tag : (tag_in w ≡ get_or s 3 0 → ⊥) → made_fits x (number_at s 1) (row_made s) ≡ false
+          made_tag e = made_tests ∙ rw (free, same, ne_eqb (tag_in w) (get_or s 3 0) e)
 
-        pub made_parent : tag_in w ≡ get_or s 3 0 →
-            made_fits x (number_at s 1) (row_made s) ≡ same_parent (of_link (link_in w)) (parent_in (number_at s 4))
-        made_parent e = made_tests ∙ rw (free, same, eq-eqb (tag_in w) (get_or s 3 0) e)
+          pub made_parent : tag_in w ≡ get_or s 3 0 →
+              made_fits x (number_at s 1) (row_made s) ≡ same_parent (of_link (link_in w)) (parent_in (number_at s 4))
+          made_parent e = made_tests ∙ rw (free, same, eq-eqb (tag_in w) (get_or s 3 0) e)
 
-  -- A LINK CUT, by the tests
-  cut_row : cut_fits x (number_at s 1) (number_at s 3) ≡ cut_fits x row (number_at s 3)
-  cut_row = ap (λ (j : ℕ). cut_fits x j (number_at s 3)) (sym here)
+    -- A LINK CUT, by the tests
+    cut_row : cut_fits x (number_at s 1) (number_at s 3) ≡ cut_fits x row (number_at s 3)
+    cut_row = ap (λ (j : ℕ). cut_fits x j (number_at s 3)) (sym here)
 
-  pub cut_high : n ≤ row → cut_fits x (number_at s 1) (number_at s 3) ≡ false
-  cut_high h = let k : model.count x ≤ row = omega (arith, counted) in cut_row ∙ rw (le-ltb row (model.count x) k)
+    pub cut_high : n ≤ row → cut_fits x (number_at s 1) (number_at s 3) ≡ false
+    cut_high h = let k : model.count x ≤ row = omega (arith, counted) in cut_row ∙ rw (le-ltb row (model.count x) k)
 
-  module _ (low : row < n) where
-    cut_tests : cut_fits x (number_at s 1) (number_at s 3) ≡
-        (not (model.has_parent (of_link (link_in w))) && not (any (model.is_the row) (map of_link ms)) &&
-        model.is_lower_element x row (number_at s 3))
-    cut_tests =
-        let k : row < model.count x = omega (arith, counted) in
-        cut_row ∙ rw (lt-ltb row (model.count x) k, row_at_decode n ws ms within row low)
+    module _ (low : row < n) where
+      cut_tests : cut_fits x (number_at s 1) (number_at s 3) ≡
+          (not (model.has_parent (of_link (link_in w))) && not (any (model.is_the row) (map of_link ms)) &&
+          model.is_lower_element x row (number_at s 3))
+      cut_tests =
+          let k : row < model.count x = omega (arith, counted) in
+          cut_row ∙ rw (lt-ltb row (model.count x) k, row_at_decode n ws ms within row low)
 
-    pub cut_child : (link_in w ≡ 0 → ⊥) → cut_fits x (number_at s 1) (number_at s 3) ≡ false
-    cut_child e = cut_tests ∙ rw (ne_eqb (link_in w) 0 e)
+      pub cut_child : (link_in w ≡ 0 → ⊥) → cut_fits x (number_at s 1) (number_at s 3) ≡ false
+      cut_child e = cut_tests ∙ rw (ne_eqb (link_in w) 0 e)
 
-    module _ (root : link_in w ≡ 0) where
-      pub cut_marked : any (model.is_the row) (map of_link ms) ≡ true → cut_fits x (number_at s 1) (number_at s 3) ≡ false
-      cut_marked e = cut_tests ∙ rw (eq-eqb (link_in w) 0 root, e)
+      module _ (root : link_in w ≡ 0) where
+        pub cut_marked : any (model.is_the row) (map of_link ms) ≡ true → cut_fits x (number_at s 1) (number_at s 3) ≡ false
+        cut_marked e = cut_tests ∙ rw (eq-eqb (link_in w) 0 root, e)
 
-      pub cut_element : any (model.is_the row) (map of_link ms) ≡ false → {v : ℕ} → v ≡ number_at s 3 →
-          cut_fits x (number_at s 1) (number_at s 3) ≡ is_element_below ws row v
-      cut_element free {v} there =
-          cut_tests ∙
-          rw (eq-eqb (link_in w) 0 root, free)
-          (ap (model.is_lower_element x row) (sym there) ∙ element_below n ws ms within v row (omega arith))
+        pub cut_element : any (model.is_the row) (map of_link ms) ≡ false → {v : ℕ} → v ≡ number_at s 3 →
+            cut_fits x (number_at s 1) (number_at s 3) ≡ is_element_below ws row v
+        cut_element free {v} there =
+            cut_tests ∙
+            rw (eq-eqb (link_in w) 0 root, free)
+            (ap (model.is_lower_element x row) (sym there) ∙ element_below n ws ms within v row (omega arith))

@@ -62,7 +62,8 @@ module _ {ws : List ℕ} {n : ℕ} {s : List ℕ} (pre : BackPre ws n s) (ms : L
         let e : history_size (get_or s 0 0) ≡ cut_size = ap history_size kind in
         record { rows = pre.rows; few = pre.few; whole = omega (arith, pre.whole.1) }
 
-    pub cut_refused : cut_fits x (number_at s 1) (number_at s 3) ≡ false → BackPost ws ms n s ws (record { number = 6; place = 0; count = n })
+    pub cut_refused : cut_fits x (number_at s 1) (number_at s 3) ≡ false →
+        BackPost ws ms n s ws (record { number = 6; place = 0; count = n })
     cut_refused e = refused_record (ap (undo_fits x) (record_cut s kind) ∙ e)
 
     module _ (fit : cut_fits x (number_at s 1) (number_at s 3) ≡ true) where
@@ -110,7 +111,8 @@ module _ {ws : List ℕ} {n : ℕ} {s : List ℕ} (pre : BackPre ws n s) (ms : L
     made_pre =
         record { rows = pre.rows; few = pre.few; whole = omega (arith, pre.whole.1, size_made s kind pre.whole.0) }
 
-    pub made_refused : made_fits x (number_at s 1) (row_made s) ≡ false → BackPost ws ms n s ws (record { number = 6; place = 0; count = n })
+    pub made_refused : made_fits x (number_at s 1) (row_made s) ≡ false →
+        BackPost ws ms n s ws (record { number = 6; place = 0; count = n })
     made_refused e = refused_record (ap (undo_fits x) (record_made s kind pre.whole.0) ∙ e)
 
     module _ (fit : made_fits x (number_at s 1) (row_made s) ≡ true) where

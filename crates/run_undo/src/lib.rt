@@ -1,4 +1,6 @@
 // Takes a run back by its history.
+#![tactic(auto)]
+
 ghost use Rattle.std.specs.Prelude.{◌≡◌};
 ghost use Rattle.run_undo.specs.Undoing.{plan_undone};
 

@@ -49,7 +49,8 @@ history_bytes_snoc : (rs : List Record) (r : Record) → history_bytes (rs ++ (r
 unfolding history_bytes
 history_bytes_snoc [] r = append-nil (record_bytes r)
 history_bytes_snoc (q ∷ rs) r =
-    ap (λ (b : List ℕ). record_bytes q ++ b) (history_bytes_snoc rs r) ∙ sym (append_assoc (record_bytes q) (history_bytes rs) (record_bytes r))
+    ap (λ (b : List ℕ). record_bytes q ++ b) (history_bytes_snoc rs r) ∙
+    sym (append_assoc (record_bytes q) (history_bytes rs) (record_bytes r))
 
 -- ONE RECORD MORE
 module _ (b : List ℕ) (t : Tally) (h : Recorded b t) (r : Record) (f : IsInRange r) where

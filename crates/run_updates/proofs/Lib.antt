@@ -1,5 +1,3 @@
-pub mod Raising
-pub mod Lending
 pub mod StateLaws
 pub mod HistoryLaws
 pub mod UpdateLaws

@@ -6,7 +6,7 @@ use crate::tally;
 use crate::tally::Tally;
 
 // The refusal's number, or 0; rows now; history bytes written; the tally so far.
-#[derive(Drop)]
+#[derive(Clone, Copy)]
 pub struct Progress {
     pub number: u8,
     pub count: usize,

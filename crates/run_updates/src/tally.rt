@@ -1,9 +1,9 @@
 // The tally that follows a run: rows made, links cut, records written. The two functions that compute the new numbers take it by value;
-// the two that raise it are lent it by &mut, and the two that callers use lend it to them. The last four are proved by hand.
+// the two that raise it are lent it by &mut, and the two that callers use lend it to them.
 ghost use Rattle.std.specs.Prelude.{◌≡◌};
 ghost use Rattle.run_updates.specs.Tallying.{none_yet, HasRoom, plus_made, plus_cut};
 
-#[derive(Drop)]
+#[derive(Clone, Copy)]
 pub struct Tally {
     pub made: usize,
     pub cut: usize,

@@ -116,7 +116,8 @@ module _ {b : List ℕ} {i left n v : ℕ} {r : End} (f : FirstRead b i left n v
       record {
         read =
             then_last (parse_at b (first_at b i) (left - 1) (n + 1) v) (after_first (left - 1) (get_or b i 0) b i v)
-            (λ (e : Expr). expr_of (get_or b i 0) b i e (expr_at (left - 1) b (second_at b i)) (expr_at (left - 1) b (third_at b i))) r f.read
+            (λ (e : Expr). expr_of (get_or b i 0) b i e (expr_at (left - 1) b (second_at b i)) (expr_at (left - 1) b (third_at b i)))
+            r f.read
             (λ e j m c. after_one (left - 1) (get_or b i 0) b i v j m c e a) ∙ sym (ap end_of after_record_read);
       }
 

@@ -9,7 +9,8 @@ use lib.ListN.{length, length-drop, get_or, drop}
 use borrow.Author.Tests.{lt-ltb, le-ltb, le-leb, lt-leb, ne_eqb, leb-false}
 use Rattle.model.specs.Limits.{documents, max_name, max_records, max_depth, max_binders}
 use Rattle.model.specs.Refusal.{is_fine, unless, field_at}
-use Rattle.model.specs.Script.{document_kind, variable_kind, step_kind, new_element_kind, pick_kind, is_script_kind, body_size, body_fits, test_fits}
+use Rattle.model.specs.Script.{document_kind, variable_kind, step_kind, new_element_kind, pick_kind, is_script_kind, body_size, body_fits}
+use Rattle.model.specs.Script.{test_fits}
 use Rattle.model.specs.Script.{is_binder, expr_refusal}
 use Rattle.model.proofs.ListLaws.{drop_first}
 use Rattle.model.proofs.ScriptLaws.{Passed, passed}
@@ -110,8 +111,8 @@ module _ {s : List ℕ} {left n v : ℕ} where
             }
 
         module _ (scope : (is_binder (get_or s 0 0) && leb max_binders v) ≡ false) where
-          pub head-short : length s < 1 + body_size (get_or s 0 0) → HeadPost s left n v 2
-          head-short h =
+          pub head_short : length s < 1 + body_size (get_or s 0 0) → HeadPost s left n v 2
+          head_short h =
               let d : leb (max_depth + 1 - left) max_depth ≡ true = le-leb (max_depth + 1 - left) max_depth (omega arith) in
               let w : leb (1 + body_size (get_or s 0 0)) (length s) ≡ false = lt-leb (1 + body_size (get_or s 0 0)) (length s) h in
               record {
@@ -126,15 +127,15 @@ module _ {s : List ℕ} {left n v : ℕ} where
               }
 
           module _ (whole : 1 + body_size (get_or s 0 0) ≤ length s) where
-            pub head-fine : {r : Bool} → BodyPost s v r → r ≡ true → HeadPost s left n v 0
-            head-fine f e =
+            pub head_fine : {r : Bool} → BodyPost s v r → r ≡ true → HeadPost s left n v 0
+            head_fine f e =
                 record {
                   refusal = λ i. body_left s left n v i some kind room depth scope whole ∙
                       ap (λ (z : Bool). unless z (field_at i)) (sym f.fits ∙ e);
                 }
 
-            pub head-field : {r : Bool} → BodyPost s v r → r ≡ false → HeadPost s left n v 4
-            head-field f e =
+            pub head_field : {r : Bool} → BodyPost s v r → r ≡ false → HeadPost s left n v 4
+            head_field f e =
                 record {
                   refusal = λ i. body_left s left n v i some kind room depth scope whole ∙
                       ap (λ (z : Bool). unless z (field_at i)) (sym f.fits ∙ e);

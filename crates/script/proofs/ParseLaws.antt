@@ -101,7 +101,8 @@ parse_fine k d i n v s e = rw e
 deeper : (k i j n v : ℕ) (s c : List ℕ) → k < max_depth →
     operands (parse_from (suc (suc k)) (max_depth + 1 - suc k + 1)) i j n v s c ≡ operands (reader k) i j n v s c
 deeper k i j n v s c h =
-    let e : max_depth + 1 - suc k + 1 ≡ max_depth + 1 - k = omega arith in ap (λ (d : ℕ). operands (parse_from (suc (suc k)) d) i j n v s c) e
+    let e : max_depth + 1 - suc k + 1 ≡ max_depth + 1 - k =
+    omega arith in ap (λ (d : ℕ). operands (parse_from (suc (suc k)) d) i j n v s c) e
 
 pub parse_operands : (b : List ℕ) (i k n v : ℕ) → k < max_depth → is_fine (expr_refusal i n (max_depth + 1 - suc k) v (drop i b)) ≡ true →
     parse_at b i (suc k) n v ≡ after_record k (get_or b i 0) b i v (first_at b i) (n + 1) (drop (first_at b i) b)
@@ -110,7 +111,8 @@ parse_operands b i k n v shallow e =
     parse_fine (suc (suc k)) (max_depth + 1 - suc k) i n v (drop i b) e ∙
     deeper k i (i + (1 + body_size (get_or (drop i b) 0 0))) (n + 1) v (drop i b) (drop (1 + body_size (get_or (drop i b) 0 0)) (drop i b))
     shallow ∙
-    ap (λ (q : ℕ). operands (reader k) i (i + (1 + body_size q)) (n + 1) v (drop i b) (drop (1 + body_size q) (drop i b))) (drop_first b i) ∙
+    ap (λ (q : ℕ). operands (reader k) i (i + (1 + body_size q)) (n + 1) v (drop i b) (drop (1 + body_size q) (drop i b)))
+    (drop_first b i) ∙
     ap (operands (reader k) i (first_at b i) (n + 1) v (drop i b)) (drop-drop (1 + body_size (get_or b i 0)) i b) ∙
     operands_by k b i (first_at b i) (n + 1) v (drop (first_at b i) b) f.kind
 

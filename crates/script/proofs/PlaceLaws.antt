@@ -115,7 +115,8 @@ module _ (b : List ℕ) (i k n v : ℕ) (shallow : k < max_depth) (known : Known
   read_none : arity (get_or b i 0) ≡ 0 → Reads b i (suc k) e j c
   unfolding expr_at
   read_none a =
-      reads_same (sym (after_none k (get_or b i 0) b i v (first_at b i) (n + 1) (drop (first_at b i) b) a) ∙ after) (reads_none b i k whole a)
+      reads_same (sym (after_none k (get_or b i 0) b i v (first_at b i) (n + 1) (drop (first_at b i) b) a) ∙ after)
+      (reads_none b i k whole a)
 
   pub first_operand : 0 < arity (get_or b i 0) → Then (parse_at b (first_at b i) k (n + 1) v) (after_first k (get_or b i 0) b i v) e j m c
   first_operand a =

@@ -1,4 +1,6 @@
 // Reads a script from any bytes.
+#![tactic(auto)]
+
 ghost use Rattle.std.specs.Prelude.{◌≡◌};
 ghost use Rattle.script.specs.Reading.{script_read};
 

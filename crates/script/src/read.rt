@@ -131,10 +131,10 @@ pub fn expression(
     if operands == 1 {
         return first;
     }
-    let second_at_lem = *place;
+    let second_at = *place;
     let second = expression(
         bytes,
-        second_at_lem,
+        second_at,
         left - 1,
         kinds::inner(kind, bound),
         place,
@@ -146,6 +146,6 @@ pub fn expression(
     if operands == 2 {
         return second;
     }
-    let third_at_lem = *place;
-    expression(bytes, third_at_lem, left - 1, bound, place, records)
+    let third_at = *place;
+    expression(bytes, third_at, left - 1, bound, place, records)
 }

@@ -21,7 +21,8 @@ arm e h = h ∙ ap kind_read (sym e)
 
 -- no arm: it is none of them
 pub no_arm : (k : ℕ) → (k ≡ nil_kind → ⊥) → (k ≡ document_kind → ⊥) → (k ≡ variable_kind → ⊥) → (k ≡ step_kind → ⊥) → (k ≡ join_kind → ⊥) →
-    (k ≡ let_kind → ⊥) → (k ≡ for_kind → ⊥) → (k ≡ if_kind → ⊥) → (k ≡ new_element_kind → ⊥) → (k ≡ new_leaf_kind → ⊥) → (k ≡ delete_kind → ⊥) →
+    (k ≡ let_kind → ⊥) → (k ≡ for_kind → ⊥) → (k ≡ if_kind → ⊥) → (k ≡ new_element_kind → ⊥) → (k ≡ new_leaf_kind → ⊥) →
+    (k ≡ delete_kind → ⊥) →
     (k ≡ insert_kind → ⊥) → (k ≡ pick_kind → ⊥) → kind_with false 0 0 ≡ kind_read k
 unfolding script_kinds
 no_arm k f1 f2 f3 f4 f5 f6 f7 f8 f9 f10 f11 f12 f13 =

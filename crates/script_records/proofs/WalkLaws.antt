@@ -63,7 +63,8 @@ module _ (b : List ℕ) (p at : ℕ) (pending : 0 < p) (here : at < length b) wh
 
   past_short : length b < at + p + (body_size (get_or b at 0) + arity (get_or b at 0)) → past p b at ≡ length b
   past_short h =
-      let l : length (drop (suc at) b) < p - 1 + arity (get_or b at 0) + body_size (get_or b at 0) = omega (arith, length-drop (suc at) b) in
+      let l : length (drop (suc at) b) < p - 1 + arity (get_or b at 0) + body_size (get_or b at 0) =
+      omega (arith, length-drop (suc at) b) in
       omega (
         arith,
         span_record,

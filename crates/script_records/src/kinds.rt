@@ -32,7 +32,7 @@ pub const INSERT: u8 = 0x0C;
 pub const PICK: u8 = 0x0D;
 
 // What a kind byte says of its record: that it is a kind, the bytes of its body, its operands.
-#[derive(Drop)]
+#[derive(Clone, Copy)]
 pub struct Kind {
     pub known: bool,
     pub body: usize,

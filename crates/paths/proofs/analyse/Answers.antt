@@ -1,0 +1,61 @@
+-- `analyse` answers what the model does: one law of AnalysisLaws for each way out.
+use Rattle.std.proofs.Common.{◌≡◌, ap, sym, ◌∙◌, arith, rules}
+use Rattle.plan_table.specs.declared.Refusal.{Refusal}
+use Rattle.script.specs.Reading.{script_read}
+use Rattle.paths.proofs.AnalysisLaws.{fronts_asks, answer_asks, answer_swapped, clear_all}
+use Rattle.paths.proofs.AnalysisLaws.{second_refused, both_accepted}
+use Rattle.paths.proofs.analyse.Goals as goal
+
+pub returns-then-other-ne0 : goal.returns-then-other-ne0
+returns-then-other-ne0 c =
+    let first_accepted : (script_read c.args.first.now).number ≡ 0 = let zero : c.read_script-refusal.result.number ≡ 0 =
+    search (c.if-refusal-ne0.false, rules) in
+    sym (ap (λ (x : Refusal). x.number) c.read_script-refusal.ensures) ∙ zero in
+    second_refused c.args.first.now c.args.second.now (first_accepted) c.read_script-other.result
+    c.read_script-other.ensures c.if-other-ne0.true
+
+pub answer-requires : goal.answer-requires
+answer-requires c =
+    answer_asks (fronts_asks c.args.first.now c.args.second.now c.positions_of-n.ensures c.positions_of-m.ensures)
+    _ (omega (arith, c.if-size-le-FEW.true)) (clear_all _ c.clear.ensures)
+
+pub returns-then-size-le-FEW : goal.returns-then-size-le-FEW
+returns-then-size-le-FEW c =
+    let first_accepted : (script_read c.args.first.now).number ≡ 0 = let zero : c.read_script-refusal.result.number ≡ 0 =
+    search (c.if-refusal-ne0.false, rules) in
+    sym (ap (λ (x : Refusal). x.number) c.read_script-refusal.ensures) ∙ zero in
+    let second_accepted : (script_read c.args.second.now).number ≡ 0 = let zero : c.read_script-other.result.number ≡ 0 =
+    search (c.if-other-ne0.false, rules) in
+    sym (ap (λ (x : Refusal). x.number) c.read_script-other.ensures) ∙ zero in
+    both_accepted c.args.first.now c.args.second.now (first_accepted) (second_accepted)
+    c.positions_of-n.ensures c.positions_of-m.ensures c.answer.ensures
+
+pub in_table-requires : goal.in_table-requires
+in_table-requires c =
+    fronts_asks c.args.second.now c.args.first.now c.positions_of-m.ensures c.positions_of-n.ensures
+
+pub returns-then-m-n : goal.returns-then-m-n
+returns-then-m-n c =
+    let first_accepted : (script_read c.args.first.now).number ≡ 0 = let zero : c.read_script-refusal.result.number ≡ 0 =
+    search (c.if-refusal-ne0.false, rules) in
+    sym (ap (λ (x : Refusal). x.number) c.read_script-refusal.ensures) ∙ zero in
+    let second_accepted : (script_read c.args.second.now).number ≡ 0 = let zero : c.read_script-other.result.number ≡ 0 =
+    search (c.if-other-ne0.false, rules) in
+    sym (ap (λ (x : Refusal). x.number) c.read_script-other.ensures) ∙ zero in
+    both_accepted c.args.first.now c.args.second.now (first_accepted) (second_accepted)
+    c.positions_of-n.ensures c.positions_of-m.ensures (answer_swapped c.in_table.ensures)
+
+pub in_table-requires-2 : goal.in_table-requires-2
+in_table-requires-2 c =
+    fronts_asks c.args.first.now c.args.second.now c.positions_of-n.ensures c.positions_of-m.ensures
+
+pub returns : goal.returns
+returns c =
+    let first_accepted : (script_read c.args.first.now).number ≡ 0 = let zero : c.read_script-refusal.result.number ≡ 0 =
+    search (c.if-refusal-ne0.false, rules) in
+    sym (ap (λ (x : Refusal). x.number) c.read_script-refusal.ensures) ∙ zero in
+    let second_accepted : (script_read c.args.second.now).number ≡ 0 = let zero : c.read_script-other.result.number ≡ 0 =
+    search (c.if-other-ne0.false, rules) in
+    sym (ap (λ (x : Refusal). x.number) c.read_script-other.ensures) ∙ zero in
+    both_accepted c.args.first.now c.args.second.now (first_accepted) (second_accepted)
+    c.positions_of-n.ensures c.positions_of-m.ensures c.in_table-2.ensures

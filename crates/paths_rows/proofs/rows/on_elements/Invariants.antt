@@ -1,0 +1,12 @@
+-- `rows::on_elements` marks, column by column, where an element of both can stand.
+use Rattle.std.proofs.Common.{◌-◌, ◌≤◌}
+use Rattle.paths_cells.specs.Pairs.{on_element}
+use Rattle.paths_rows.specs.Rows.{element_by, RowMarked}
+use Rattle.paths_rows.proofs.rows.on_elements.Given as goal
+
+abbrev pub invariant-loop-l : goal.invariant-loop-l
+invariant-loop-l l =
+    (l.l ≤ l.m) × RowMarked l.initial.table l.m on_element l.k (element_by l.columns l.parents l.named l.low l.high) l.l l.table
+
+abbrev pub decreases-loop-l : goal.decreases-loop-l
+decreases-loop-l l = l.m - l.l

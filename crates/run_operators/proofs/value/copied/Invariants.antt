@@ -1,0 +1,10 @@
+-- `copied`: the loop copies item by item; what it has not reached is as it was.
+use Rattle.std.proofs.Common.{◌-◌}
+use Rattle.run_operators.proofs.ValueLaws.{Copying}
+use Rattle.run_operators.proofs.value.copied.Given as goal
+
+abbrev pub invariant-loop-k : goal.invariant-loop-k
+invariant-loop-k l = Copying l.initial.work l.from l.to l.top l.work l.k l.at
+
+abbrev pub decreases-loop-k : goal.decreases-loop-k
+decreases-loop-k l = l.to - l.k

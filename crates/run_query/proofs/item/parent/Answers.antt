@@ -1,0 +1,47 @@
+-- `item::parent` appends the item's parent, if there is one that passes the test.
+use Rattle.std.proofs.Common.{false, List, ap, sym, ◌∙◌, subst, ℕ, ◌-◌, arith}
+use Rattle.model.specs.Script.{step_by}
+use Rattle.plan_table.specs.Packed.{decode_parts}
+use Rattle.run_query.specs.Values.{Appended, way_up}
+use Rattle.run_query.proofs.PassLaws.{link_below}
+use Rattle.run_query.proofs.ValueLaws.{appended_none, appended_by}
+use Rattle.run_query.proofs.ItemLaws.{step_way, way_none, way_one}
+use Rattle.run_query.proofs.item.parent.Goals as goal
+
+pub returns-then-l-eq0 : goal.returns-then-l-eq0
+returns-then-l-eq0 c =
+    λ ms. subst (λ (v : List ℕ). Appended v c.args.work.now c.args.from c.args.work.now c.args.from)
+    (sym (step_way c.args.rows.now c.args.count c.requires.held c.args.test c.args.name.0 ms false
+    c.args.item.0 c.requires.low ∙
+    way_none c.args.rows.now c.args.count c.requires.held c.args.test c.args.name.0 ms false 2 _
+    (sym c.link-l.ensures ∙ c.if-l-eq0.true))) (appended_none c.args.work.now c.args.from)
+
+pub passes-keep-requires : goal.passes-keep-requires
+passes-keep-requires c =
+    omega (
+      arith,
+      c.link-l.ensures,
+      link_below c.args.rows.now c.args.count c.requires.held c.args.item.0 c.requires.low,
+      c.requires.low,
+      c.requires.held.rows,
+      c.requires.held.few,
+    )
+
+pub returns : goal.returns
+returns c =
+    λ ms. appended_by _ c.passes-keep.result (c.link-l.result.0 - 1)
+    (step_way c.args.rows.now c.args.count c.requires.held c.args.test c.args.name.0 ms false
+    c.args.item.0 c.requires.low ∙
+    ap (way_up (decode_parts c.args.count c.args.rows.now ms) false (step_by 2 c.args.test c.args.name.0))
+    (sym c.link-l.ensures) ∙
+    way_one c.args.rows.now c.args.count c.requires.held c.args.test c.args.name.0 ms
+    c.link-l.result.0 c.if-l-eq0.false
+    (omega (
+      arith,
+      c.link-l.ensures,
+      link_below c.args.rows.now c.args.count c.requires.held c.args.item.0
+          c.requires.low,
+      c.requires.low,
+    )) c.passes-keep.result c.passes-keep.ensures 2)
+    c.args.work.now c.args.from (omega (arith, c.requires.room)) _ c.append_if.result
+    c.append_if.ensures.work_after c.append_if.ensures.value

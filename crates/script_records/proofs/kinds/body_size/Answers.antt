@@ -1,0 +1,13 @@
+-- `kinds::body_size` meets its contract: it asks the table.
+use Rattle.std.proofs.Common.{ap, arith}
+use Rattle.script_records.specs.declared.kinds.Kind.{Kind}
+use Rattle.model.proofs.KindLaws.{size_most}
+use Rattle.script_records.proofs.kinds.body_size.Goals as goal
+
+pub returns : goal.returns
+returns c =
+    let e = ap (λ (k : Kind). k.body) c.kind_of.ensures in
+    record {
+      value = e;
+      upper_bound = omega (arith, e, size_most c.args.kind);
+    }
