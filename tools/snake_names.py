@@ -13,7 +13,7 @@ import sys
 
 NAME = r'[^\s(){}.;,@"«»]+'
 DECLARED = re.compile(r"( *)(?:abbrev |unfoldable )?(?:pub )?(?:record |data )?((?:[^\s(){}.;,@\"«»:λ]+ )+):(?: |$)")
-GOAL = re.compile(r"\S+ : (?:tie|goal)\.|(?:pub )?\S+ : goal\.")
+GOAL = re.compile(r"\S+ : tie\.|(?:abbrev )?(?:pub )?\S+ : goal\.")
 
 
 def snake(name):
