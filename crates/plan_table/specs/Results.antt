@@ -1,17 +1,33 @@
--- Refusals and results of calls, from the model's.
-use Rattle.std.specs.Prelude.{cond, List, ℕ, eqb}
+-- What calls answer, from the model's refusals: each answer as a number, 0 where nothing is refused, and what comes with it.
+use Rattle.std.specs.Prelude.{cond, List, ℕ, eqb, Result, Ok, Err}
 use Rattle.model.specs.Refusal as refusal
 use Rattle.model.specs.Table as model
 use Rattle.plan_table.specs.Packed.{encode, table_of}
+use Rattle.plan_table.specs.Refusals.{number_of, refusal_in}
+use Rattle.plan_table.specs.declared.Reason.{Reason}
 use Rattle.plan_table.specs.declared.Refusal.{Refusal}
 use Rattle.plan_table.specs.declared.Table.{Table}
-use Rattle.plan_table.specs.declared.TableResult.{TableResult}
-use Rattle.plan_table.specs.declared.Written.{Written}
-use Rattle.plan_table.specs.declared.End.{End}
+
+-- THE ANSWER of a call that gives a table back: the refusal or none, and the table
+pub record TableResult : Type 0 where
+  pub refusal : refusal.Refusal
+  pub table : Table
+
+-- of a call that writes: the refusal or none, and the bytes written
+pub record Written : Type 0 where
+  pub refusal : refusal.Refusal
+  pub bytes : ℕ
+
+-- of a pass over records: a refusal's number and place, or 0 and the place reached (0 if the pass has none), and how many rows or records
+-- were counted
+pub record End : Type 0 where
+  pub number : ℕ
+  pub place : ℕ
+  pub count : ℕ
 
 -- a refusal as a call answers it
-abbrev pub refusal_of : refusal.Refusal → Refusal
-refusal_of x = record { number = x.number; place = x.place }
+abbrev pub refusal_of : refusal.Refusal → refusal.Refusal
+refusal_of x = refusal.refusal x.number x.place
 
 -- a refusal or none, and the table given back
 abbrev pub with_table : refusal.Refusal → Table → TableResult
@@ -29,3 +45,28 @@ left_by t e ws ms =
 -- writing: refused at place 0, or number 0 and the bytes written
 abbrev pub written_by : (number bytes : ℕ) → Written
 written_by n b = record { refusal = record { number = n; place = 0 }; bytes = b }
+
+-- WHAT A RESULT SAYS. The number of the reason, 0 where there is none
+abbrev pub number_by : {A : Type 0} → Result A Reason → ℕ
+number_by (Ok x) = 0
+number_by (Err r) = number_of r
+
+-- the refusal, or none
+abbrev pub refusal_by : {A : Type 0} → Result A Refusal → refusal.Refusal
+refusal_by (Ok x) = refusal.fine
+refusal_by (Err e) = refusal_in e
+
+-- the table; refused, another one
+abbrev pub table_by : Table → Result Table Refusal → TableResult
+table_by t (Ok u) = with_table refusal.fine u
+table_by t (Err e) = with_table (refusal_in e) t
+
+-- the bytes written, none where it is refused
+abbrev pub bytes_by : Result ℕ Refusal → Written
+bytes_by (Ok n) = record { refusal = refusal.fine; bytes = n }
+bytes_by (Err e) = record { refusal = refusal_in e; bytes = 0 }
+
+-- the rows or records counted
+abbrev pub end_by : Result ℕ Refusal → End
+end_by (Ok n) = record { number = 0; place = 0; count = n }
+end_by (Err e) = record { number = number_of e.reason; place = e.place; count = 0 }

@@ -4,12 +4,12 @@
 ghost use Rattle.std.specs.Prelude.{◌≡◌};
 ghost use Rattle.model.specs.Table.{empty};
 ghost use Rattle.plan_table.specs.Packed.{encode};
+ghost use Rattle.plan_table.specs.Refusals.{number_of};
 
 pub mod fit;
 pub mod marks;
 pub mod number;
 pub mod packed;
-pub mod results;
 pub mod stored;
 
 // Three types, so that none stands for another: a row's number; an element's name; a link, which is a row's number plus one, or 0 for
@@ -62,56 +62,33 @@ impl Table {
     }
 }
 
-// A refusal: document 01's number, 0 where nothing is refused, and the place.
-#[derive(Clone, Copy)]
+// Why something is refused, by document 01's numbers. 9 is retired, and its number is not used again.
+#[derive(Clone, Copy, Debug, PartialEq, Eq)]
+pub enum Reason {
+    Kind = 1,
+    Short = 2,
+    Tail = 3,
+    Field = 4,
+    Size = 5,
+    Link = 6,
+    Target = 7,
+    Items = 8,
+    Table = 10,
+    Lent = 11,
+}
+
+impl From<Reason> for u8 {
+    ghost from_gives = { λ reason number. number ≡ number_of reason };
+
+    // Its number.
+    fn from(reason: Reason) -> u8 {
+        reason as u8
+    }
+}
+
+// A refusal: why, and at which place.
+#[derive(Clone, Copy, Debug, PartialEq, Eq)]
 pub struct Refusal {
-    pub number: u8,
+    pub reason: Reason,
     pub place: usize,
-}
-
-impl Refusal {
-    pub const KIND: u8 = 1;
-
-    pub const SHORT: u8 = 2;
-
-    pub const TAIL: u8 = 3;
-
-    pub const FIELD: u8 = 4;
-
-    pub const SIZE: u8 = 5;
-
-    pub const LINK: u8 = 6;
-
-    pub const TARGET: u8 = 7;
-
-    pub const ITEMS: u8 = 8;
-
-    // 9 is retired by request (h), and its number is not used again.
-
-    pub const TABLE: u8 = 10;
-
-    pub const LENT: u8 = 11;
-}
-
-// How a pass over records ends: a refusal's number and place, or 0 and the place reached (0 if the pass has none); and how many rows or
-// records were counted.
-#[derive(Clone, Copy)]
-pub struct End {
-    pub number: u8,
-    pub place: usize,
-    pub count: usize,
-}
-
-// What a call that gives a table back answers.
-#[derive(Clone, Copy)]
-pub struct TableResult {
-    pub refusal: Refusal,
-    pub table: Table,
-}
-
-// What a call that writes answers: the refusal, or the bytes written.
-#[derive(Clone, Copy)]
-pub struct Written {
-    pub refusal: Refusal,
-    pub bytes: usize,
 }
