@@ -14,7 +14,7 @@ use Rattle.plan_table.specs.Packed.{decode_parts, encode, fits}
 use Rattle.plan_reader.specs.Reading.{ReadPost}
 use Rattle.plan.specs.Calls.{read_by, plan_read}
 use Rattle.plan_table.specs.declared.Table.{Table}
-use Rattle.plan_table.specs.declared.End.{End}
+use Rattle.plan_table.specs.Results.{End}
 use Rattle.plan_table.proofs.EncodeLaws.{fits_encode}
 use Rattle.plan_table.proofs.PackedLaws.{encode_decode}
 use Rattle.plan_table.specs.Results.{with_table}

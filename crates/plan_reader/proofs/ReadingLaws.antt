@@ -17,7 +17,7 @@ use Rattle.model.proofs.StoredLaws.{read_from_end, read_from_fine, read_from_ref
 use Rattle.plan_table.specs.Packed.{of_link, decode_parts}
 use Rattle.plan_table.specs.StoredKinds.{size_read}
 use Rattle.plan_reader.specs.Reading.{last_of, RecordPost, Held, ReadPre}
-use Rattle.plan_reader.specs.declared.read.RecordRead.{RecordRead}
+use Rattle.plan_reader.specs.Reading.{RecordRead}
 
 -- reading goes on from what is held, at a place
 module _ (b ws ms : List ℕ) (n at : ℕ) (h : at < length b)

@@ -21,7 +21,7 @@ use Rattle.model.proofs.TestLaws.{and_four, and_five}
 use Rattle.plan_table.specs.Packed.{with_link, decode_parts, Canonical, link_room}
 use Rattle.plan_table.proofs.PackedLaws.{of_link_link_of, count_decode, decode_linked, canonical_linked, canonical_pop, decode_pop}
 use Rattle.run_undo.specs.Undoing.{IsWhole, undoing, FitPre, row_made, BackPre, BackPost, AllPre, AllPost}
-use Rattle.plan_table.specs.declared.End.{End}
+use Rattle.plan_table.specs.Results.{End}
 
 -- THE RECORD at the front, by its kind
 record_cut : (s : List ℕ) → get_or s 0 0 ≡ cut_kind → record_in s ≡ cut (number_at s 1) (number_at s 3)
