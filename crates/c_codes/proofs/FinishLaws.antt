@@ -6,7 +6,7 @@ use Prim.Native.Nat.{ℕ}
 use lib.Dec.{eqb}
 use borrow.Author.Tests.{ne_eqb}
 use Rattle.model.specs.Refusal.{values}
-use Rattle.plan_table.specs.declared.TableResult.{TableResult}
+use Rattle.plan_table.specs.Results.{TableResult}
 use Rattle.c_codes.specs.Codes.{code_of, finished_values, finished_out}
 
 module _ (r : TableResult) (w : ℕ) (o : List ℕ) where

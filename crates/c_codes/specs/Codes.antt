@@ -2,9 +2,13 @@
 use Rattle.std.specs.Prelude.{cond, List, ℕ, ◌+◌, ◌*◌, ◌/◌, ◌%◌, eqb}
 use Rattle.model.specs.Refusal.{Values, values, lent_short}
 use Rattle.plan_writer.specs.Writing.{plan_written, written_out}
-use Rattle.plan_table.specs.declared.Refusal.{Refusal}
-use Rattle.plan_table.specs.declared.TableResult.{TableResult}
-use Rattle.plan_table.specs.declared.Written.{Written}
+use Rattle.model.specs.Refusal.{Refusal}
+use Rattle.plan_table.specs.declared.Refusal as declared
+use Rattle.plan_table.specs.Refusals.{number_of}
+use Rattle.c_codes.specs.declared.answer.Whose.{Whose}
+use Rattle.c_codes.specs.declared.answer.Whose.TheVariants.{Area, Plan, Script}
+use Rattle.plan_table.specs.Results.{TableResult}
+use Rattle.plan_table.specs.Results.{Written}
 
 -- a place of 2^48 or more, past any memory, is taken modulo that
 abbrev pub place_limit : ℕ
@@ -17,6 +21,16 @@ code_of v = v.number + 256 * v.which + 65536 * (v.place % place_limit)
 -- and back: the three that a number carries
 abbrev pub decoded : ℕ → Values
 decoded c = values (c % 256) (c / 256 % 256) (c / 65536)
+
+-- whose refusal it is, as `which`
+abbrev pub which_of : Whose → ℕ
+which_of Area = 0
+which_of Plan = 1
+which_of Script = 2
+
+-- a refusal that a call answers, and whose it is
+abbrev pub refused_values : (which : ℕ) → declared.Refusal → Values
+refused_values w x = values (number_of x.reason) w x.place
 
 -- 11 at place 0 for an area too short
 abbrev pub lent_values : Values

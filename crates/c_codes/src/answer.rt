@@ -4,17 +4,18 @@ ghost use Rattle.plan_table.specs.Fitting.{FittingParts};
 ghost use Rattle.plan_table.specs.Packed.{table_of};
 ghost use Rattle.plan_writer.specs.Writing.{plan_written, written_out};
 ghost use Rattle.model.specs.Refusal.{values};
-ghost use Rattle.c_codes.specs.Codes.{code_of, lent_values, written_values};
+ghost use Rattle.c_codes.specs.Codes.{code_of, lent_values, written_values, which_of, refused_values};
 
-use plan_table::Refusal;
+use plan_table::{Reason, Refusal};
 use plan_writer::write;
 
 // Whose refusal it is: a lent area's; the plan's; the script's, the run's or the history's.
-pub const AREA: u8 = 0;
-
-pub const PLAN: u8 = 1;
-
-pub const SCRIPT: u8 = 2;
+#[derive(Clone, Copy, Debug, PartialEq, Eq)]
+pub enum Whose {
+    Area = 0,
+    Plan = 1,
+    Script = 2,
+}
 
 // A place takes 48 bits: more than any memory has bytes.
 const PLACES: u64 = 0x1_0000_0000_0000;
@@ -26,11 +27,18 @@ pub fn code(number: u8, which: u8, place: usize) -> u64
     (number as u64) + 256 * (which as u64) + 65536 * (place as u64 % PLACES)
 }
 
+// A refusal, and whose it is.
+pub fn refused(whose: Whose, refusal: Refusal) -> u64
+    ensures { result ≡ code_of (refused_values (which_of whose) refusal) }
+{
+    code(u8::from(refusal.reason), whose as u8, refusal.place)
+}
+
 // A lent area is too short.
 pub fn lent_short() -> u64
     ensures { result ≡ code_of lent_values }
 {
-    code(Refusal::LENT, AREA, 0)
+    code(u8::from(Reason::Lent), Whose::Area as u8, 0)
 }
 
 // The end of a call that gives a table that fits: it is written, and how many bytes.
@@ -40,6 +48,8 @@ pub fn finish<'a>(count: usize, rows: &'a [u32], marks: &'a [u16], out: &mut [u8
         code_of (written_values (plan_written (table_of count rows.now marks.now) out.old)) }
     ensures out_after { out.new ≡ written_out (table_of count rows.now marks.now) out.old }
 {
-    let written = write::fitting(count, rows, marks, out);
-    code(written.refusal.number, AREA, written.bytes)
+    match write::fitting(count, rows, marks, out) {
+        Ok(bytes) => code(0, 0, bytes),
+        Err(refusal) => code(u8::from(refusal.reason), Whose::Area as u8, 0),
+    }
 }

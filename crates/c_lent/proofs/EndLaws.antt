@@ -6,12 +6,12 @@ use Prim.Native.Nat.{ℕ, ◌≤◌}
 use lib.Dec.{eqb, leb}
 use borrow.Author.Tests.{eq-eqb, ne_eqb, leb-true}
 use Rattle.plan_writer.specs.Writing.{plan_written, written_out}
-use Rattle.plan_table.specs.declared.Written.{Written}
+use Rattle.plan_table.specs.Results.{Written}
 use Rattle.plan_table.specs.Packed.{table_of}
 use Rattle.plan_table.specs.declared.Table.{Table}
 use Rattle.run.specs.Calls.{result_in}
-use Rattle.run.specs.declared.RunResult.{RunResult}
-use Rattle.run.specs.declared.lent.Ended.{Ended}
+use Rattle.run.specs.Calls.{RunResult}
+use Rattle.run.specs.Calls.{Ended}
 use Rattle.c_codes.specs.Codes.{code_of}
 use Rattle.model.specs.Refusal.{values}
 use Rattle.c_lent.specs.Done.{out_need, done_need, lent_fit, done_over, left_in, end_values, end_out, end_done}

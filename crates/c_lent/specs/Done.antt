@@ -9,8 +9,8 @@ use Rattle.plan_writer.specs.Writing.{plan_written}
 use Rattle.plan_table.specs.Fitting.{FittingParts}
 use Rattle.plan_table.specs.Packed.{table_of}
 use Rattle.run.specs.Calls.{result_with}
-use Rattle.run.specs.declared.RunResult.{RunResult}
-use Rattle.run.specs.declared.lent.Ended.{Ended}
+use Rattle.run.specs.Calls.{RunResult}
+use Rattle.run.specs.Calls.{Ended}
 use Rattle.c_codes.specs.Codes.{values_unless, area_unless, finished_out}
 
 -- what out needs, 2,080 bytes: a record for each row and mark of the longest plan

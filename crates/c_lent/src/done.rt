@@ -1,16 +1,20 @@
 // The areas lent to the C call for a run: whether each is long enough, and what they hold when the plan is refused or the run is over.
 ghost use Rattle.std.specs.Prelude.{◌≡◌, ◌≤◌, length, replicate};
 ghost use Rattle.c_codes.specs.Codes.{code_of};
-ghost use Rattle.c_lent.specs.Done.{done_need, lent_fit, done_over, EndPre, left_in, end_values, end_out, end_done};
+ghost use Rattle.model.specs.Base.{at_front};
+ghost use Rattle.run.specs.Calls.{ended_by};
+ghost use Rattle.c_lent.specs.Done.{done_need, lent_fit, EndPre, left_in, end_values, end_out, end_done};
 
 use c_codes::answer;
+use c_codes::answer::Whose;
+use plan_table::Refusal;
 use plan_writer::write;
 use run::lengths;
 use run::lent::Ended;
 use run_areas::area;
 
 // The numbers that done needs.
-const DONE: usize = 6;
+pub const DONE: usize = 6;
 
 // Each of the five areas is as long as its need.
 pub fn fit(answer: usize, history: usize, work: usize, out: usize, done: usize) -> bool
@@ -19,25 +23,12 @@ pub fn fit(answer: usize, history: usize, work: usize, out: usize, done: usize) 
     lengths::fit(answer, history, work) & (out >= crate::OUT) & (done >= DONE)
 }
 
-// The six numbers over the front of done.
-pub fn put_done(
-    done: &mut [u64],
-    items: usize,
-    made: usize,
-    cut: usize,
-    records: usize,
-    bytes: usize,
-    written: usize,
-)
+// Six numbers over the front of done.
+pub fn put_done(done: &mut [u64], numbers: [u64; DONE])
     requires { done_need ≤ length done.old }
-    ensures { done.new ≡ done_over items made cut records bytes written done.old }
+    ensures { done.new ≡ at_front numbers done.old }
 {
-    done[0] = items as u64;
-    done[1] = made as u64;
-    done[2] = cut as u64;
-    done[3] = records as u64;
-    done[4] = bytes as u64;
-    done[5] = written as u64;
+    done[..DONE].copy_from_slice(&numbers);
 }
 
 // The plan is refused, so nothing runs: the areas of the run are zero.
@@ -53,33 +44,41 @@ pub fn clear(answer: &mut [u16], history: &mut [u8], work: &mut [u16])
 
 // The run is over: refused, out stays and done is zero; else the plan as it then is stands in out, and done has its six numbers.
 pub fn end<'a>(
-    ended: Ended,
+    ended: Result<Ended, Refusal>,
     rows: &'a [u32],
     marks: &'a [u16],
     out: &mut [u8],
     done: &mut [u64],
 ) -> u64
-    requires { EndPre ended rows.now marks.now done.old }
-    ensures value { result ≡ code_of (end_values (left_in ended rows.now marks.now) out.old) }
-    ensures out_after { out.new ≡ end_out (left_in ended rows.now marks.now) out.old }
+    requires { EndPre (ended_by ended) rows.now marks.now done.old }
+    ensures value { result ≡
+        code_of (end_values (left_in (ended_by ended) rows.now marks.now) out.old) }
+    ensures out_after { out.new ≡ end_out (left_in (ended_by ended) rows.now marks.now) out.old }
     ensures done_after { done.new ≡
-        end_done (left_in ended rows.now marks.now) out.old done.old }
+        end_done (left_in (ended_by ended) rows.now marks.now) out.old done.old }
 {
-    let refused = ended.refusal.number;
-    if refused != 0 {
-        put_done(done, 0, 0, 0, 0, 0, 0);
-        return answer::code(refused, answer::SCRIPT, ended.refusal.place);
-    }
+    let ended = match ended {
+        Ok(ended) => ended,
+        Err(refusal) => {
+            put_done(done, [0; DONE]);
+            return answer::refused(Whose::Script, refusal);
+        }
+    };
+    let (number, bytes) = match write::fitting(ended.count, rows, marks, out) {
+        Ok(bytes) => (0, bytes),
+        Err(refusal) => (u8::from(refusal.reason), 0),
+    };
     let tally = ended.tally;
-    let written = write::fitting(ended.count, rows, marks, out);
     put_done(
         done,
-        ended.items,
-        tally.made,
-        tally.cut,
-        tally.records,
-        ended.bytes,
-        written.bytes,
+        [
+            ended.items as u64,
+            tally.made as u64,
+            tally.cut as u64,
+            tally.records as u64,
+            ended.bytes as u64,
+            bytes as u64,
+        ],
     );
-    answer::code(written.refusal.number, answer::AREA, 0)
+    answer::code(number, Whose::Area as u8, 0)
 }

@@ -9,10 +9,10 @@ use borrow.Author.Tests.{eq-eqb, ne_eqb}
 use Rattle.plan_writer.specs.Writing as library
 use Rattle.plan_sweep.specs.Sweeping as sweeping
 use Rattle.script.specs.Reading.{script_read}
-use Rattle.plan_table.specs.declared.Refusal.{Refusal}
+use Rattle.model.specs.Refusal.{Refusal}
 use Rattle.plan_table.specs.declared.Table.{Table}
-use Rattle.plan_table.specs.declared.TableResult.{TableResult}
-use Rattle.plan_table.specs.declared.Written.{Written}
+use Rattle.plan_table.specs.Results.{TableResult}
+use Rattle.plan_table.specs.Results.{Written}
 use Rattle.c_probe.specs.Probes.{write_values, write_out, swept_table, swept_values, rows_left, marks_left, script_values}
 use Rattle.plan_table.specs.Packed.{table_of}
 use Rattle.c_probe.specs.Raw.{is_given}

@@ -5,7 +5,7 @@ use Rattle.c_codes.specs.Codes.{lent_values, values_unless, written_values}
 use Rattle.plan_writer.specs.Writing as library
 use Rattle.plan_sweep.specs.Sweeping as sweeping
 use Rattle.script.specs.Reading.{script_read}
-use Rattle.plan_table.specs.declared.TableResult.{TableResult}
+use Rattle.plan_table.specs.Results.{TableResult}
 use Rattle.plan_table.specs.Packed.{table_of}
 use Rattle.c_probe.specs.Raw.{is_given}
 

@@ -7,8 +7,8 @@ ghost use Rattle.c_codes.specs.Codes.{code_of};
 ghost use Rattle.c_probe.specs.Probes.{write_values, write_out, swept_values, rows_left, marks_left, script_values};
 
 use c_codes::answer;
-use c_codes::answer::{AREA, PLAN, SCRIPT};
-use plan_table::{Refusal, Table};
+use c_codes::answer::Whose;
+use plan_table::{Reason, Table};
 
 mod copy;
 
@@ -23,13 +23,16 @@ pub fn yegnabit_write_table(count: usize, rows: &[u32], marks: &[u16], out: &mut
     if marks.len() != Table::DOCUMENTS {
         return answer::lent_short();
     }
-    let t = copy::table_of(count, rows, marks);
-    let written = plan::write_plan(t, out);
-    let number = written.refusal.number;
-    if number == Refusal::LINK {
-        return answer::code(number, PLAN, 0);
+    match plan::write_plan(copy::table_of(count, rows, marks), out) {
+        Ok(bytes) => answer::code(0, 0, bytes),
+        Err(refusal) => {
+            let whose = match refusal.reason {
+                Reason::Link => Whose::Plan,
+                _ => Whose::Area,
+            };
+            answer::code(u8::from(refusal.reason), whose as u8, 0)
+        }
     }
-    answer::code(number, AREA, written.bytes)
 }
 
 // Sweeps a table given as 512 packed rows and 8 marks, in place.
@@ -45,25 +48,21 @@ pub fn yegnabit_sweep_table(count: usize, rows: &mut [u32], marks: &mut [u16]) -
         return answer::lent_short();
     }
     let t = copy::table_of(count, rows, marks);
-    let swept = plan_sweep::sweep_table(t);
-    let number = swept.refusal.number;
-    if number != 0 {
-        return answer::code(number, PLAN, 0);
+    match plan_sweep::sweep_table(t) {
+        Ok(swept) => {
+            copy::put_table(swept, rows, marks);
+            answer::code(0, 0, swept.count)
+        }
+        Err(refusal) => answer::code(u8::from(refusal.reason), Whose::Plan as u8, 0),
     }
-    let new_count = swept.table.count;
-    copy::put_table(swept.table, rows, marks);
-    answer::code(0, AREA, new_count)
 }
 
 // Reads a script: its refusal, or 0.
 pub fn yegnabit_script(bytes: &[u8]) -> u64
     ensures { result ≡ code_of (script_values bytes.now) }
 {
-    let refusal = script::read_script(bytes);
-    let number = refusal.number;
-    let place = refusal.place;
-    if number == 0 {
-        return answer::code(0, AREA, 0);
+    match script::read_script(bytes) {
+        Ok(()) => answer::code(0, 0, 0),
+        Err(refusal) => answer::refused(Whose::Script, refusal),
     }
-    answer::code(number, SCRIPT, place)
 }

@@ -20,9 +20,9 @@ use Rattle.model.proofs.RefusalLaws.{is_listed_low, is_listed_high}
 use Rattle.model.proofs.TestLaws.{is_in_at, is_in_by}
 use Rattle.plan_table.specs.Results.{refusal_of}
 use Rattle.plan_table.specs.Packed.{fits, decode, table_of}
-use Rattle.plan_table.specs.declared.Refusal.{Refusal}
+use Rattle.model.specs.Refusal.{Refusal}
 use Rattle.plan_table.specs.declared.Table.{Table}
-use Rattle.plan_table.specs.declared.TableResult.{TableResult}
+use Rattle.plan_table.specs.Results.{TableResult}
 use Rattle.plan.specs.Calls.{read_by, plan_read}
 use Rattle.plan_writer.specs.Writing.{plan_written}
 use Rattle.plan_sweep.specs.Sweeping.{plan_swept}

@@ -28,7 +28,7 @@ use Rattle.plan.specs.Calls as library
 use Rattle.plan_writer.specs.Writing.{plan_written, written_out}
 use Rattle.plan_table.specs.Results as results
 use Rattle.plan_sweep.specs.Sweeping as sweeping
-use Rattle.plan_table.specs.declared.TableResult.{TableResult}
+use Rattle.plan_table.specs.Results.{TableResult}
 use Rattle.run_undo.specs.Undoing.{plan_undone, undone_by}
 use Rattle.run.specs.Calls.{ran, result_of, outcome_of}
 use Rattle.yegnabit.specs.Calls.{values_if_long, out_if_long, on_plan, out_on_plan, undo_values, undo_out}

@@ -8,13 +8,13 @@ use lib.ListN.{length}
 use borrow.Author.Tests.{lt-ltb, le-ltb, ne_eqb}
 use Rattle.plan_table.specs.Results.{with_table}
 use Rattle.plan_table.specs.declared.Table.{Table}
-use Rattle.plan_table.specs.declared.TableResult.{TableResult}
+use Rattle.plan_table.specs.Results.{TableResult}
 use Rattle.yegnabit.specs.Calls.{values_if_long, out_if_long}
 use Rattle.model.specs.Refusal.{Values, values, fine}
 use Rattle.c_codes.specs.Codes.{code_of, lent_values, values_unless, area_unless}
 use Rattle.c_lent.specs.Done.{out_need}
 use Rattle.paths.specs.Analysis.{values_of}
-use Rattle.paths.specs.declared.Analysis.{Analysis}
+use Rattle.paths.specs.Analysis.{Analysis}
 
 -- what a call answers and leaves, with v and b where out is long enough
 abbrev Answers : (out : List ℕ) → (v : Values) → (b : List ℕ) → (code : ℕ) → (left : List ℕ) → Type 0

@@ -19,9 +19,9 @@ use Rattle.plan_table.specs.Fitting.{FittingParts}
 use Rattle.plan_table.specs.Results.{with_table, left_by}
 use Rattle.plan.specs.Calls.{plan_read}
 use Rattle.plan.proofs.ReadPlanLaws.{plan_refused, plan_read_lem, read_fits}
-use Rattle.plan_table.specs.declared.End.{End}
+use Rattle.plan_table.specs.Results.{End}
 use Rattle.plan_table.specs.declared.Table.{Table}
-use Rattle.plan_table.specs.declared.TableResult.{TableResult}
+use Rattle.plan_table.specs.Results.{TableResult}
 use Rattle.plan_table.proofs.EncodeLaws.{fits_encode}
 use Rattle.plan_table.proofs.FittedLaws.{well_decode}
 use Rattle.run_undo.specs.Undoing.{plan_undone, undone_by}

@@ -8,9 +8,9 @@ use borrow.Author.Tests.{eq-eqb, ne_eqb}
 use Rattle.model.specs.Call.{areas_fit}
 use Rattle.model.specs.Refusal.{values}
 use Rattle.plan.specs.Calls as library
-use Rattle.plan_table.specs.declared.TableResult.{TableResult}
+use Rattle.plan_table.specs.Results.{TableResult}
 use Rattle.run.specs.Calls.{ran, run_result}
-use Rattle.run.specs.declared.RunResult.{RunResult}
+use Rattle.run.specs.Calls.{RunResult}
 use Rattle.c_codes.specs.Codes.{code_of, lent_values}
 use Rattle.yegnabit.specs.Running.{Called, untouched_call, refused_call, ran_call, read_call, run_called}
 use Rattle.c_lent.specs.Done.{done_need, lent_fit, done_over, end_values, end_out, end_done}

@@ -8,7 +8,7 @@ use Rattle.c_lent.specs.Done.{out_need}
 use Rattle.plan_sweep.specs.Sweeping.{plan_swept}
 use Rattle.paths.specs.Analysis.{analysed, values_of}
 use Rattle.run_undo.specs.Undoing.{plan_undone}
-use Rattle.plan_table.specs.declared.TableResult.{TableResult}
+use Rattle.plan_table.specs.Results.{TableResult}
 
 -- PLAN, SWEEP AND UNDO: 11 where out has less than 2,080 bytes, before all else
 abbrev pub values_if_long : (out : List ℕ) → (rest : Values) → Values

@@ -3,9 +3,9 @@ use Rattle.std.specs.Prelude.{cond, List, ℕ, eqb, length, replicate}
 use Rattle.model.specs.Call.{Ran}
 use Rattle.model.specs.Refusal.{Values, values}
 use Rattle.plan.specs.Calls as library
-use Rattle.plan_table.specs.declared.TableResult.{TableResult}
+use Rattle.plan_table.specs.Results.{TableResult}
 use Rattle.run.specs.Calls.{ran, run_result}
-use Rattle.run.specs.declared.RunResult.{RunResult}
+use Rattle.run.specs.Calls.{RunResult}
 use Rattle.c_codes.specs.Codes.{lent_values}
 use Rattle.c_lent.specs.Done.{lent_fit, done_over, end_values, end_out, end_done}
 

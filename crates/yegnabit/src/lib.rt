@@ -4,19 +4,27 @@
 #![tactic(auto)]
 
 ghost use Rattle.std.specs.Prelude.{◌≡◌};
-ghost use Rattle.c_codes.specs.Codes.{code_of};
+ghost use Rattle.c_codes.specs.Codes.{code_of, refused_values};
 ghost use Rattle.yegnabit.specs.Calls.{plan_values, plan_out, sweep_values, sweep_out, undo_values, undo_out, analyse_values};
 ghost use Rattle.yegnabit.specs.Running.{run_called};
 
 use c_codes::answer;
-use c_codes::answer::{PLAN, SCRIPT};
+use c_codes::answer::Whose;
+use c_lent::done::DONE;
 use c_lent::{OUT, done};
-use paths::Analysis;
+use paths::Answer;
 use plan_reader::read;
 use plan_sweep::sweep;
-use plan_table::Table;
+use plan_table::{Refusal, Table};
 use run::lent;
 use run_undo::undoing;
+
+// The plan's refusal.
+fn plan_refused(refusal: Refusal) -> u64
+    ensures { result ≡ code_of (refused_values 1 refusal) }
+{
+    answer::refused(Whose::Plan, refusal)
+}
 
 // Reads a plan and writes it back to out, which needs room for any plan.
 pub fn yegnabit_plan(plan: &[u8], out: &mut [u8]) -> u64
@@ -28,11 +36,11 @@ pub fn yegnabit_plan(plan: &[u8], out: &mut [u8]) -> u64
     }
     let mut rows = [0u32; Table::ROWS];
     let mut marks = [0u16; Table::DOCUMENTS];
-    let read = read::records(plan, &mut rows, &mut marks);
-    if read.number != 0 {
-        return answer::code(read.number, PLAN, read.place);
-    }
-    answer::finish(read.count, &rows, &marks, out)
+    let count = match read::records(plan, &mut rows, &mut marks) {
+        Ok(count) => count,
+        Err(refusal) => return plan_refused(refusal),
+    };
+    answer::finish(count, &rows, &marks, out)
 }
 
 // Reads a plan, sweeps it, and writes it to out.
@@ -45,12 +53,12 @@ pub fn yegnabit_sweep(plan: &[u8], out: &mut [u8]) -> u64
     }
     let mut rows = [0u32; Table::ROWS];
     let mut marks = [0u16; Table::DOCUMENTS];
-    let read = read::records(plan, &mut rows, &mut marks);
-    if read.number != 0 {
-        return answer::code(read.number, PLAN, read.place);
-    }
+    let count = match read::records(plan, &mut rows, &mut marks) {
+        Ok(count) => count,
+        Err(refusal) => return plan_refused(refusal),
+    };
     let mut swept = [0u32; Table::ROWS];
-    let kept = sweep::fitting(read.count, &rows, &mut marks, &mut swept);
+    let kept = sweep::fitting(count, &rows, &mut marks, &mut swept);
     answer::finish(kept, &swept, &marks, out)
 }
 
@@ -64,15 +72,14 @@ pub fn yegnabit_undo(plan: &[u8], history: &[u8], out: &mut [u8]) -> u64
     }
     let mut rows = [0u32; Table::ROWS];
     let mut marks = [0u16; Table::DOCUMENTS];
-    let read = read::records(plan, &mut rows, &mut marks);
-    if read.number != 0 {
-        return answer::code(read.number, PLAN, read.place);
+    let count = match read::records(plan, &mut rows, &mut marks) {
+        Ok(count) => count,
+        Err(refusal) => return plan_refused(refusal),
+    };
+    match undoing::fitting(&mut rows, &marks, count, history) {
+        Ok(back) => answer::finish(back, &rows, &marks, out),
+        Err(refusal) => answer::refused(Whose::Script, refusal),
     }
-    let back = undoing::fitting(&mut rows, &marks, read.count, history);
-    if back.number != 0 {
-        return answer::code(back.number, SCRIPT, back.place);
-    }
-    answer::finish(back.count, &rows, &marks, out)
 }
 
 // Reads a plan, runs a script on it in the lent areas, and writes the plan as it then is to out. done takes six numbers: items of the
@@ -111,13 +118,15 @@ pub fn yegnabit_run(
     }
     let mut rows = [0u32; Table::ROWS];
     let mut marks = [0u16; Table::DOCUMENTS];
-    let read = read::records(plan, &mut rows, &mut marks);
-    if read.number != 0 {
-        done::clear(answer, history, work);
-        done::put_done(done, 0, 0, 0, 0, 0, 0);
-        return answer::code(read.number, PLAN, read.place);
-    }
-    let ended = lent::fitting(&mut rows, &marks, read.count, script, answer, history, work);
+    let count = match read::records(plan, &mut rows, &mut marks) {
+        Ok(count) => count,
+        Err(refusal) => {
+            done::clear(answer, history, work);
+            done::put_done(done, [0; DONE]);
+            return plan_refused(refusal);
+        }
+    };
+    let ended = lent::fitting(&mut rows, &marks, count, script, answer, history, work);
     done::end(ended, &rows, &marks, out, done)
 }
 
@@ -125,15 +134,14 @@ pub fn yegnabit_run(
 pub fn yegnabit_analyse(first: &[u8], second: &[u8]) -> u64
     ensures { result ≡ code_of (analyse_values first.now second.now) }
 {
-    let analysis = paths::analyse(first, second);
-    match analysis {
-        Analysis::Refused { script, refusal } => answer::code(
-            refusal.number,
-            script,
-            refusal.place,
+    match paths::analyse(first, second) {
+        Ok(Answer::Free) => answer::code(0, 0, 0),
+        Ok(Answer::Upward) => answer::code(0, 1, 0),
+        Ok(Answer::Meet) => answer::code(0, 2, 0),
+        Err(refused) => answer::code(
+            u8::from(refused.refusal.reason),
+            u8::from(refused.script),
+            refused.refusal.place,
         ),
-        Analysis::Free => answer::code(0, 0, 0),
-        Analysis::Upward => answer::code(0, 1, 0),
-        Analysis::Meet => answer::code(0, 2, 0),
     }
 }

@@ -5,7 +5,7 @@ use Rattle.plan_table.specs.declared.Table.{Table}
 use Rattle.plan_table.proofs.ByteLaws.{bytes_known}
 use Rattle.yegnabit.proofs.CallLaws.{area_short, plan_refused, plan_done}
 use Rattle.plan_table.specs.Packed.{table_of}
-use Rattle.plan_table.specs.declared.TableResult.{TableResult}
+use Rattle.plan_table.specs.Results.{TableResult}
 use Rattle.plan_sweep.specs.Sweeping.{plan_swept}
 use Rattle.plan_sweep.proofs.SweepLaws.{sweep_done}
 use Rattle.c_codes.specs.Codes.{code_of, finished_values, finished_out}

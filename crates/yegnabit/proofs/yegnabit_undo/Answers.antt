@@ -6,7 +6,7 @@ use Rattle.plan_table.proofs.ByteLaws.{bytes_known}
 use Rattle.yegnabit.proofs.CallLaws.{area_short, plan_refused, plan_done}
 use Rattle.plan_table.specs.Packed.{table_of}
 use Rattle.plan_table.specs.Results.{with_table}
-use Rattle.plan_table.specs.declared.TableResult.{TableResult}
+use Rattle.plan_table.specs.Results.{TableResult}
 use Rattle.model.specs.Refusal.{refusal}
 use Rattle.run_undo.specs.Undoing.{plan_undone}
 use Rattle.run_undo.proofs.UndoLawsCall.{undo_refused, undo_done}
