@@ -1,4 +1,4 @@
-use Rattle.std.proofs.Common.{get_or, refl, ◌∙◌, sym, ap, ◌-◌, ◌*◌, arith, rules}
+use Rattle.std.proofs.Common.{get_or, refl, ◌∙◌, sym, ap, ◌*◌, arith, rules}
 use Rattle.plan_writer.proofs.WriteRecordLaws.{rows_start, rows_grown}
 use Rattle.model.specs.Base.{over}
 use Rattle.plan_table.specs.Packed.{row_of, rows_of}

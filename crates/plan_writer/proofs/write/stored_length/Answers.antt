@@ -1,4 +1,4 @@
-use Rattle.std.proofs.Common.{length, get_or, ◌≡◌, ap, ◌-◌, arith}
+use Rattle.std.proofs.Common.{length, get_or, ◌≡◌, ap, arith}
 use Rattle.plan_writer.proofs.WriteRecordLaws.{length_mark, length_marks, marks_start}
 use Rattle.plan_table.specs.Packed.{of_link}
 use Rattle.model.specs.Stored.{mark_bytes}
