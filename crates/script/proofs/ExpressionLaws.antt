@@ -13,7 +13,7 @@ use Rattle.model.proofs.ScriptLaws.{Sound, sound_numbered, parse_sound}
 use Rattle.script_records.specs.Walk.{inner, first_at, second_at, third_at, expr_of, expr_at}
 use Rattle.script.specs.Reading.{parse_at, end_of, expression_read, HeadPost, ExpressionPre, ExpressionPost}
 use Rattle.script.specs.Accepted.{RecordFits}
-use Rattle.plan_table.specs.declared.End.{End}
+use Rattle.plan_table.specs.Results.{End}
 use Rattle.script.proofs.HeadLaws.{fine_fits, fine_records}
 use Rattle.script.proofs.ParseLaws.{reader, after_record, after_first, after_second, after_third, parse_refused, parse_operands}
 use Rattle.script.proofs.ParseLaws.{after_none, after_record_lem, after_one, after_first_lem, after_two, after_second_lem}
