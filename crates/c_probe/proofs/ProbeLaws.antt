@@ -1,11 +1,16 @@
 -- The calls for tests, by their ways out.
-use mathlib.Core.Path.{◌≡◌, ap, sym, ◌∙◌}
+use mathlib.Core.Path.{◌≡◌, refl, ap, sym, ◌∙◌}
 use mathlib.Core.Bool.{true, false}
 use mathlib.Core.List.{List}
 use Prim.Native.Nat.{ℕ}
 use lib.Dec.{eqb}
 use lib.ListN.{length}
 use borrow.Author.Tests.{eq-eqb, ne_eqb}
+use native.Mathlib.Omega.{arith}
+use Rattle.plan_table.specs.Refusals.{number_of}
+use Rattle.plan_table.specs.declared.Reason as declared
+use Rattle.plan_table.specs.declared.Reason.TheVariants.{Kind, Short, Tail, Field, Size, Link, Target, Items, Lent}
+use Rattle.plan_table.specs.declared.Reason.TheVariants as reason
 use Rattle.plan_writer.specs.Writing as library
 use Rattle.plan_sweep.specs.Sweeping as sweeping
 use Rattle.script.specs.Reading.{script_read}
@@ -19,6 +24,19 @@ use Rattle.c_probe.specs.Raw.{is_given}
 use Rattle.c_codes.specs.Codes.{code_of, lent_values, written_values}
 use Rattle.model.specs.Limits.{max_rows, documents}
 use Rattle.model.specs.Refusal.{values}
+
+-- 6 is the number of one reason alone
+pub link_alone : (r : declared.Reason) → (r ≡ Link → ⊥) → number_of r ≡ 6 → ⊥
+link_alone Kind z e = omega arith
+link_alone Short z e = omega arith
+link_alone Tail z e = omega arith
+link_alone Field z e = omega arith
+link_alone Size z e = omega arith
+link_alone Link z e = z refl
+link_alone Target z e = omega arith
+link_alone Items z e = omega arith
+link_alone reason.Table z e = omega arith
+link_alone Lent z e = omega arith
 
 -- a script's refusal, or none
 pub script_read_lem : (b : List ℕ) (f : Refusal) (c : ℕ) → f ≡ script_read b → f.number ≡ 0 → c ≡ code_of (values 0 0 0) →

@@ -25,13 +25,10 @@ pub fn yegnabit_write_table(count: usize, rows: &[u32], marks: &[u16], out: &mut
     }
     match plan::write_plan(copy::table_of(count, rows, marks), out) {
         Ok(bytes) => answer::code(0, 0, bytes),
-        Err(refusal) => {
-            let whose = match refusal.reason {
-                Reason::Link => Whose::Plan,
-                _ => Whose::Area,
-            };
-            answer::code(u8::from(refusal.reason), whose as u8, 0)
-        }
+        Err(refusal) => match refusal.reason {
+            Reason::Link => answer::code(u8::from(Reason::Link), Whose::Plan as u8, 0),
+            _ => answer::code(u8::from(refusal.reason), Whose::Area as u8, 0),
+        },
     }
 }
 
