@@ -20,11 +20,10 @@ use Rattle.model.specs.Limits.{max_rows}
 use Rattle.plan_table.specs.Packed.{of_link, row_of, rows_of, with_link, decode_parts, kind_in, leaf_bits, element_bits}
 use Rattle.plan_table.proofs.PackedLaws.{count_decode, row_at_decode, packed_linked}
 use Rattle.plan_table.proofs.DecodeLaws.{element_kind}
-use Rattle.run_updates.specs.State.{state_of, outcome, After, Updated, refused_with}
+use Rattle.run_updates.specs.State.{Progress, state_of, outcome, After, Updated, refused_with}
 use Rattle.run_updates.specs.Updating.{NewPre}
 use Rattle.run_insert.specs.Inserting.{before, copied_in, IsCopy, ScanPre, ScanPost, ItemPre, ItemPost, ItemsPre, ItemsPost, no_copy}
 use Rattle.run_insert.specs.Inserting.{Copier, copier, InsertPre}
-use Rattle.run_updates.specs.declared.state.Progress.{Progress}
 use Rattle.run_updates.proofs.StateLaws.{held_within, held_count, after_self, after_then, outcome_gives, then_goes, then_refused}
 use Rattle.run_updates.proofs.StateLaws.{updated_refused}
 use Rattle.run_insert.proofs.InsertLawsScan.{descendants_past}

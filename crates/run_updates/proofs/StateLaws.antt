@@ -24,8 +24,7 @@ use Rattle.model.proofs.ListLaws.{length_over}
 use Rattle.model.specs.Limits.{max_rows, history_need}
 use Rattle.plan_table.proofs.FittedLaws.{fits_at}
 use Rattle.run_updates.specs.declared.tally.Tally.{Tally}
-use Rattle.run_updates.specs.State.{records_from, records_in, started, refused_with, state_of, outcome, Recorded, Held, After, Updated}
-use Rattle.run_updates.specs.declared.state.Progress.{Progress}
+use Rattle.run_updates.specs.State.{Progress, records_from, records_in, started, refused_with, state_of, outcome, Recorded, Held, After, Updated}
 use Rattle.run_updates.proofs.HistoryLaws.{records_in_push, grown_length, grown_records, take_over, drop_over}
 
 -- A RECORD APPENDED to what is held, where the state after it is one come to: so there is room for it

@@ -25,9 +25,8 @@ use Rattle.plan_table.proofs.DecodeLaws.{decode_row, parent_linked, parent_at}
 use Rattle.plan_table.proofs.LinkLaws.{links_set, links_cut}
 use Rattle.run_updates.specs.Tallying.{plus_made, plus_cut}
 use Rattle.run_updates.specs.declared.tally.Tally.{Tally}
-use Rattle.run_updates.specs.State.{records_in, state_of, Held, After, Updated, refused_with}
+use Rattle.run_updates.specs.State.{Progress, records_in, state_of, Held, After, Updated, refused_with}
 use Rattle.run_updates.specs.Updating.{NewPre, CutPre, DeletePost}
-use Rattle.run_updates.specs.declared.state.Progress.{Progress}
 use Rattle.run_updates.proofs.HistoryLaws.{recorded_made, recorded_cut}
 use Rattle.run_updates.proofs.StateLaws.{append_room, append_few, append_records, append_after, held_within, held_count}
 use Rattle.run_updates.proofs.StateLaws.{updated_refused, after_self, after_then, outcome_gives}
