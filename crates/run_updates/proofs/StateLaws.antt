@@ -28,7 +28,7 @@ use Rattle.model.proofs.ListLaws.{length_over}
 use Rattle.model.specs.Limits.{max_rows, history_need}
 use Rattle.plan_table.proofs.FittedLaws.{fits_at}
 use Rattle.run_updates.specs.declared.tally.Tally.{Tally}
-use Rattle.run_updates.specs.State.{Progress, records_from, records_in, started, refused_with, state_of, outcome, Recorded, Held, After, Updated}
+use Rattle.run_updates.specs.State.{Progress, records_from, records_in, started, state_of, outcome, Recorded, Held, After, Updated}
 use Rattle.run_updates.proofs.HistoryLaws.{records_in_push, grown_length, grown_records, take_over, drop_over}
 
 -- A RECORD APPENDED to what is held, where the state after it is one come to: so there is room for it
@@ -173,16 +173,6 @@ then_goes f z v ws ms h p n e = sym (ap (λ (o : Out). then_row o f) (outcome_gi
 
 -- REFUSED, the areas may be anything
 module _ {f : ℕ → State → Out} {v ws h : List ℕ} {p : Progress} {ws' h' : List ℕ} {r : Progress} where
-  pub updated_refused : (n : ℕ) → 0 < n → r ≡ refused_with p n →
-      ((z : ℕ) (ms : List ℕ) → refused (refusal n z) ≡ f z (state_of ws ms h p)) → Updated f v ws h p ws' h' r
-  updated_refused n some e g =
-      let k : r.number ≡ n = ap (λ (q : Progress). q.number) e in
-      let y : r.number ≡ 0 → ⊥ = λ q. omega arith in
-      record {
-        same = λ z ms. outcome_refused z v ws' ms h' r y ∙ ap (λ (j : ℕ). refused (refusal j z)) k ∙ g z ms;
-        after = λ q. absurd (y q);
-      }
-
   -- then the rest is not reached
   pub then_refused : (g : ℕ → List ℕ → State → Out) (u : List ℕ) → (r.number ≡ 0 → ⊥) →
       ((z : ℕ) (ms : List ℕ) → then_row (outcome z u ws' ms h' r) (g z ms) ≡ f z (state_of ws ms h p)) → Updated f v ws h p ws' h' r
