@@ -14,13 +14,10 @@ use Rattle.model.specs.Run.{State, Out, refused, gives, join_items, AreRows}
 use Rattle.model.proofs.BoolLaws.{by_cases, cond_true, cond_false, cond_eq, cond_ne, eq_cases}
 use Rattle.model.proofs.ValueLaws.{are_rows_more}
 use Rattle.model.proofs.All.{all_append}
-use Rattle.plan_table.specs.Refusals.{number_of}
 use Rattle.plan_table.specs.declared.Reason.{Reason}
-use Rattle.plan_table.specs.declared.Reason.TheVariants.{Kind, Short, Tail, Field, Size, Link, Target, Items, Lent}
-use Rattle.plan_table.specs.declared.Reason.TheVariants as reason
 use Rattle.run_updates.specs.State.{Progress, came, Held, Updated}
 use Rattle.run_query.specs.Values.{value_at, Appended}
-use Rattle.run_updates.proofs.StateLaws.{after_self, after_then, outcome_gives, outcome_refused}
+use Rattle.run_updates.proofs.StateLaws.{after_self, after_then, outcome_gives, outcome_refused, number_some}
 use Rattle.run_operators.specs.Machine.{Evaluated, came_out, Machine, Frame, frame, machine, begun, evaluated, came_to}
 use Rattle.run_operators.specs.Machine.{state_in, value_in, outcome_in}
 use Rattle.run_operators.specs.Evaluating.{ended_by, limited_by, moved_to, HeldIn, AfterIn, Fine, Yields, ValuePre, BinaryPre}
@@ -76,20 +73,7 @@ refused_yields {f = f} {s' = s'} k e =
       fine = λ q. absurd (k q);
     }
 
--- A REASON is a refusal
-pub number_some : (r : Reason) → number_of r ≡ 0 → ⊥
-number_some Kind e = omega arith
-number_some Short e = omega arith
-number_some Tail e = omega arith
-number_some Field e = omega arith
-number_some Size e = omega arith
-number_some Link e = omega arith
-number_some Target e = omega arith
-number_some Items e = omega arith
-number_some reason.Table e = omega arith
-number_some Lent e = omega arith
-
--- an update refused: at its place, whatever the areas are then
+-- AN UPDATE REFUSED: at its place, whatever the areas are then
 pub refused_updated : (f : Frame) (s : Machine) {g : ℕ → State → Out} {v ws' h' : List ℕ} (r : Reason) →
     Updated g v s.rows s.history s.progress ws' h' (came (Err r)) → (w' : List ℕ) {at next : ℕ} →
     Yields (g at (state_in f s)) next f s (machine ws' h' w' (came_out (Err (record { reason = r; place = at }))))

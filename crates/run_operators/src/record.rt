@@ -112,8 +112,10 @@ pub fn nullary(
     }
     let row = RowNumber(p.count);
     if kind == kinds::NEW_ELEMENT {
-        let q = update::new_element(rows, history, p, number::name(b))
-            .map_err(|reason| Refusal { reason, place: at })?;
+        let q = update::new_element(rows, history, p, number::name(b)).map_err(|reason| Refusal {
+            reason,
+            place: at,
+        })?;
         let end = value::put_row(row, work, top);
         return Ok(Evaluated {
             progress: q,
@@ -210,8 +212,9 @@ pub fn combined(
     let next = y.place;
     let to = y.end;
     if kind == kinds::INSERT {
-        let q = insert::insert(rows, history, p, &work[top..mid], &work[mid..to])
-            .map_err(|reason| Refusal { reason, place: at })?;
+        let q = insert::insert(rows, history, p, &work[top..mid], &work[mid..to]).map_err(
+            |reason| Refusal { reason, place: at },
+        )?;
         return Ok(Evaluated {
             progress: q,
             place: next,
