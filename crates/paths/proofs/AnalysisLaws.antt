@@ -12,7 +12,7 @@ use Rattle.model.specs.Paths.{has_up}
 use Rattle.model.specs.Meeting.{free, meet, answer}
 use Rattle.model.specs.Call.{first_by, second_by}
 use Rattle.model.specs.Limits.{max_depth, max_binders}
-use Rattle.plan_table.specs.declared.Refusal.{Refusal}
+use Rattle.model.specs.Refusal.{Refusal}
 use Rattle.script_records.specs.Walk.{expr_at}
 use Rattle.script.specs.Reading.{script_read}
 use Rattle.script.proofs.ScriptLaws.{script_accepted, script_parsed, read_refused}
@@ -24,9 +24,7 @@ use Rattle.paths_cells.proofs.MarkLaws.{has_rows, cleared_at}
 use Rattle.paths_positions.specs.Steps.{max_positions}
 use Rattle.paths_fill.specs.Filling.{TablePre}
 use Rattle.paths_emit.specs.Emitting.{emitter, EmitPre, EmitPost}
-use Rattle.paths.specs.Analysis.{by_answer, analysis_of, analysed, ScriptPre, ScriptPost, AnswerPre, AnswerPost, FrontPre, FrontsPre}
-use Rattle.paths.specs.declared.Analysis.{Analysis}
-use Rattle.paths.specs.declared.Analysis.TheVariants.{Refused, Upward}
+use Rattle.paths.specs.Analysis.{Analysis, Refused, Upward, by_answer, analysis_of, analysed, ScriptPre, ScriptPost, AnswerPre, AnswerPost, FrontPre, FrontsPre}
 use Rattle.paths_positions.proofs.AnswerLaws.{emitted_right, answer_by_lem, answer_turned}
 use Rattle.paths_positions.proofs.UpLaws.{some_leads_up_is}
 use Rattle.paths_emit.proofs.SizeLaws.{script_records}

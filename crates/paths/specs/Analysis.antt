@@ -1,11 +1,12 @@
 -- What the analysis of two scripts answers, for every input.
-use Rattle.std.specs.Prelude.{◌≡◌, List, ℕ, ◌≤◌, length, get_or, take}
+use Rattle.std.specs.Prelude.{◌≡◌, List, ℕ, ◌≤◌, length, get_or, take, Result, Ok, Err}
 use Prim.Native.String.{String}
 use Rattle.model.specs.Limits.{max_depth}
 use Rattle.model.specs.Script.{Expr}
 use Rattle.model.specs.Meeting.{Answer, free, upward, meet, answer}
 use Rattle.model.specs.Call as model
-use Rattle.model.specs.Refusal.{Values, values}
+use Rattle.model.specs.Refusal.{Refusal, Values, values}
+use Rattle.plan_table.specs.Refusals.{refusal_in, script_number}
 use Rattle.plan_table.specs.Results.{refusal_of}
 use Rattle.script_records.specs.Walk.{expr_at}
 use Rattle.script.specs.Reading.{script_read}
@@ -13,9 +14,28 @@ use Rattle.paths_positions.specs.Positions.{entries_of}
 use Rattle.paths_positions.specs.Packed.{entries_in}
 use Rattle.paths_positions.specs.Steps.{max_positions}
 use Rattle.paths_cells.specs.Pairs.{HasRows}
-use Rattle.paths.specs.declared.Analysis.{Analysis}
-use Rattle.paths.specs.declared.Analysis.TheVariants.{Refused, Free, Upward, Meet}
+use Rattle.paths.specs.declared.Answer as said
+use Rattle.paths.specs.declared.Answer.TheVariants as said
+use Rattle.paths.specs.declared.ScriptRefused.{ScriptRefused}
 use Rattle.paths_fill.specs.Filling.{PositionsPre}
+
+-- WHAT THE CALL SAYS: the script refused, 1 or 2, with its refusal; or whether the two are free of one another
+pub data Analysis : Type 0 where
+  Refused : (script : ℕ) → Refusal → Analysis
+  Free : Analysis
+  Upward : Analysis
+  Meet : Analysis
+
+-- by the answer that the code gives
+abbrev pub answer_by : said.Answer → Analysis
+answer_by said.Free = Free
+answer_by said.Upward = Upward
+answer_by said.Meet = Meet
+
+-- by its result
+abbrev pub analysis_by : Result said.Answer ScriptRefused → Analysis
+analysis_by (Ok a) = answer_by a
+analysis_by (Err x) = Refused (script_number x.script) (refusal_in x.refusal)
 
 -- the case of each answer
 abbrev pub by_answer : Answer → Analysis

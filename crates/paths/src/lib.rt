@@ -2,13 +2,13 @@
 #![tactic(auto)]
 
 ghost use Rattle.std.specs.Prelude.{◌≡◌};
-ghost use Rattle.paths.specs.Analysis.{analysed, ScriptPre, ScriptPost, FrontsPre, AnswerPre, AnswerPost};
+ghost use Rattle.paths.specs.Analysis.{analysed, answer_by, analysis_by, ScriptPre, ScriptPost, FrontsPre, AnswerPre, AnswerPost};
 
 use paths_cells::pairs;
 use paths_emit::emit;
 use paths_fill::meet;
 use paths_positions::POSITIONS;
-use plan_table::{Refusal, Table};
+use plan_table::{Refusal, Script, Table};
 
 // Tables for so many pairs of positions, and for all: less to clear. A typical pair of scripts has 16, two of 48 steps 4,356.
 const FEW: usize = 64;
@@ -29,13 +29,19 @@ const MOST_MARKS: usize = pairs::RELATIONS * MOST;
 
 const ALL_MARKS: usize = pairs::RELATIONS * POSITIONS * POSITIONS;
 
-// What the analysis answers: the script refused, 1 or 2, with its refusal; or whether the two are free of one another.
-#[derive(Clone, Copy)]
-pub enum Analysis {
-    Refused { script: u8, refusal: Refusal },
+// What the analysis answers: whether two scripts are free of one another.
+#[derive(Clone, Copy, Debug, PartialEq, Eq)]
+pub enum Answer {
     Free,
     Upward,
     Meet,
+}
+
+// A script refused: which of the two, and its refusal.
+#[derive(Clone, Copy, Debug, PartialEq, Eq)]
+pub struct ScriptRefused {
+    pub script: Script,
+    pub refusal: Refusal,
 }
 
 // Puts the positions of an accepted script into an area of which the first is zero; how many there are.
@@ -59,65 +65,62 @@ fn positions_of(bytes: &[u8], positions: &mut [usize; POSITIONS]) -> usize
 }
 
 // The answer from the positions of two scripts. An upward step anywhere, even in a branch never run, comes first.
-fn answer(first: &[usize], n: usize, second: &[usize], m: usize, table: &mut [u8]) -> Analysis
+fn answer_in(first: &[usize], n: usize, second: &[usize], m: usize, table: &mut [u8]) -> Answer
     requires { AnswerPre first.now n second.now m table.old }
-    ensures { AnswerPost first.now n second.now m result }
+    ensures { AnswerPost first.now n second.now m (answer_by result) }
 {
     if meet::some_leads_up(&first[0..n]) {
-        return Analysis::Upward;
+        return Answer::Upward;
     }
     if meet::some_leads_up(&second[0..m]) {
-        return Analysis::Upward;
+        return Answer::Upward;
     }
     if meet::positions_meet(&first[0..n], &second[0..m], table) {
-        return Analysis::Meet;
+        return Answer::Meet;
     }
-    Analysis::Free
+    Answer::Free
 }
 
 // The answer in a table for many pairs. These tables are not in the frame of `analyse`, since all pages of a frame are touched when it is
 // entered.
-fn in_table(first: &[usize], n: usize, second: &[usize], m: usize) -> Analysis
+fn in_table(first: &[usize], n: usize, second: &[usize], m: usize) -> Answer
     requires { FrontsPre first.now n second.now m }
-    ensures { AnswerPost first.now n second.now m result }
+    ensures { AnswerPost first.now n second.now m (answer_by result) }
 {
     let size = n * m;
     if size <= SOME {
         let mut some = [0u8; SOME_MARKS];
         pairs::clear(&mut some);
-        return answer(first, n, second, m, &mut some);
+        return answer_in(first, n, second, m, &mut some);
     }
     if size <= MANY {
         let mut many = [0u8; MANY_MARKS];
         pairs::clear(&mut many);
-        return answer(first, n, second, m, &mut many);
+        return answer_in(first, n, second, m, &mut many);
     }
     if size <= MOST {
         let mut most = [0u8; MOST_MARKS];
         pairs::clear(&mut most);
-        return answer(first, n, second, m, &mut most);
+        return answer_in(first, n, second, m, &mut most);
     }
     let mut all = [0u8; ALL_MARKS];
     pairs::clear(&mut all);
-    answer(first, n, second, m, &mut all)
+    answer_in(first, n, second, m, &mut all)
 }
 
 // The analysis of two scripts: the first refused, else whether they are free, hold an upward step, or meet. That does not depend on their
 // order, so where there are many pairs the longer one is laid along the rows of the table: fewer rows, and longer ones.
-pub fn analyse(first: &[u8], second: &[u8]) -> Analysis
-    ensures { result ≡ analysed first.now second.now }
+pub fn analyse(first: &[u8], second: &[u8]) -> Result<Answer, ScriptRefused>
+    ensures { analysis_by result ≡ analysed first.now second.now }
 {
-    let refusal = script::read_script(first);
-    if refusal.number != 0 {
-        return Analysis::Refused { script: 1, refusal };
-    }
-    let other = script::read_script(second);
-    if other.number != 0 {
-        return Analysis::Refused {
-            script: 2,
-            refusal: other,
-        };
-    }
+    script::read_script(first).map_err(|refusal| ScriptRefused {
+        script: Script::First,
+        refusal,
+    })?;
+    script::read_script(second).map_err(|refusal| ScriptRefused {
+        script: Script::Second,
+        refusal,
+    })?;
     let mut positions = [0usize; POSITIONS];
     let n = positions_of(first, &mut positions);
     let mut others = [0usize; POSITIONS];
@@ -126,10 +129,10 @@ pub fn analyse(first: &[u8], second: &[u8]) -> Analysis
     if size <= FEW {
         let mut few = [0u8; FEW_MARKS];
         pairs::clear(&mut few);
-        return answer(&positions, n, &others, m, &mut few);
+        return Ok(answer_in(&positions, n, &others, m, &mut few));
     }
     if m < n {
-        return in_table(&others, m, &positions, n);
+        return Ok(in_table(&others, m, &positions, n));
     }
-    in_table(&positions, n, &others, m)
+    Ok(in_table(&positions, n, &others, m))
 }

@@ -7,3 +7,4 @@ pub mod FlagLaws
 pub mod LinkLaws
 pub mod SizeLaws
 pub mod ByteLaws
+pub mod ReasonLaws

@@ -4,7 +4,7 @@
 ghost use Rattle.std.specs.Prelude.{◌≡◌};
 ghost use Rattle.model.specs.Table.{empty};
 ghost use Rattle.plan_table.specs.Packed.{encode};
-ghost use Rattle.plan_table.specs.Refusals.{number_of};
+ghost use Rattle.plan_table.specs.Refusals.{number_of, script_number, other_script};
 
 pub mod fit;
 pub mod marks;
@@ -91,4 +91,32 @@ impl From<Reason> for u8 {
 pub struct Refusal {
     pub reason: Reason,
     pub place: usize,
+}
+
+// One of two scripts, by document 01's numbers.
+#[derive(Clone, Copy, Debug, PartialEq, Eq)]
+pub enum Script {
+    First = 1,
+    Second = 2,
+}
+
+impl From<Script> for u8 {
+    ghost from_gives = { λ script number. number ≡ script_number script };
+
+    // Its number.
+    fn from(script: Script) -> u8 {
+        script as u8
+    }
+}
+
+impl Script {
+    // The other of the two.
+    pub fn other(self) -> Script
+        ensures { result ≡ other_script self }
+    {
+        match self {
+            Script::First => Script::Second,
+            Script::Second => Script::First,
+        }
+    }
 }

@@ -1,19 +1,29 @@
 -- The expression at a place, from what is read of its record and operands: one law for each way out of the reader.
 use mathlib.Core.Path.{◌≡◌, refl, ap, sym, ◌∙◌}
-use mathlib.Core.Bool.{true}
+use mathlib.Core.Bool.{true, false≢true}
 use mathlib.Core.List.{List}
 use Prim.Native.Nat.{ℕ, suc, ◌+◌, ◌-◌, ◌≤◌, ◌<◌}
 use native.Mathlib.Omega.{arith}
 use lib.ListN.{length, get_or, take, drop}
+use Rattle.std.specs.Prelude.{Result, Ok, Err}
+use Rattle.std.specs.Result.{is_ok}
 use Rattle.model.specs.Limits.{max_records, max_depth}
 use Rattle.model.specs.Refusal.{is_fine, refusal_at}
 use Rattle.model.specs.Script.{Expr, nil, Parsed, refused, parsed, then_parse, expr_refusal, arity}
 use Rattle.model.proofs.ListLaws.{drop_all}
 use Rattle.model.proofs.ScriptLaws.{Sound, sound_numbered, parse_sound}
 use Rattle.script_records.specs.Walk.{inner, first_at, second_at, third_at, expr_of, expr_at}
-use Rattle.script.specs.Reading.{parse_at, end_of, expression_read, HeadPost, ExpressionPre, ExpressionPost}
+use Rattle.script_records.specs.KindsRead.{kind_read}
+use Rattle.script_records.specs.declared.kinds.Kind.{Kind}
+use Rattle.script_records.proofs.KindLaws.{body_of, operands_of}
+use Rattle.script.specs.Reading.{parse_at, end_by, end_of, expression_read, parsed_by, HeadPost, ExpressionPre, ExpressionPost}
 use Rattle.script.specs.Accepted.{RecordFits}
-use Rattle.plan_table.specs.declared.End.{End}
+use Rattle.plan_table.specs.Refusals.{number_of}
+use Rattle.plan_table.specs.Results.{End, number_by}
+use Rattle.plan_table.specs.declared.Reason.{Reason}
+use Rattle.plan_table.specs.declared.Refusal as error
+use Rattle.plan_table.proofs.ReasonLaws.{some_number}
+use Rattle.script.specs.declared.read.Parsed as found
 use Rattle.script.proofs.HeadLaws.{fine_fits, fine_records}
 use Rattle.script.proofs.ParseLaws.{reader, after_record, after_first, after_second, after_third, parse_refused, parse_operands}
 use Rattle.script.proofs.ParseLaws.{after_none, after_record_lem, after_one, after_first_lem, after_two, after_second_lem}
@@ -57,10 +67,11 @@ pub record Headed (b : List ℕ) (i left n v : ℕ) : Type 0 where
   pub deep : left ≤ max_depth
   pub fine : is_fine (expr_refusal i n (max_depth + 1 - left) v (drop i b)) ≡ true
 
-pub headed : {b : List ℕ} {i left n v r : ℕ} → ExpressionPre b i left → HeadPost (take (length b - i) (drop i b)) left n v r →
-    r ≡ 0 → Headed b i left n v
-headed {b} {i} {left} {n} {v} {r} pre p z =
-    record { deep = pre.depth; fine = ap is_fine (head_refusal b i left n v r pre.within p) ∙ rw z }
+pub headed : {b : List ℕ} {i left n v : ℕ} {A : Type 0} (x : Result A Reason) → ExpressionPre b i left →
+    HeadPost (take (length b - i) (drop i b)) left n v (number_by x) → true ≡ is_ok x → Headed b i left n v
+headed {b} {i} {left} {n} {v} (Ok a) pre p t =
+    record { deep = pre.depth; fine = ap is_fine (head_refusal b i left n v 0 pre.within p) }
+headed (Err r) pre p t = absurd (false≢true (sym t))
 
 module _ {b : List ℕ} {i left n v : ℕ} (h : Headed b i left n v) where
   pub record_fits : RecordFits b i left v
@@ -76,14 +87,19 @@ module _ {b : List ℕ} {i left n v : ℕ} (h : Headed b i left n v) where
       parse_operands b i (left - 1) n v (omega (arith, record_fits.depth, h.deep))
       (ap (λ (q : ℕ). is_fine (expr_refusal i n (max_depth + 1 - q) v (drop i b))) (sym e) ∙ h.fine)
 
-  pub ends_none : {p : ℕ} → p ≡ first_at b i → arity (get_or b i 0) ≡ 0 →
-      ExpressionPost b i left n v (record { number = 0; place = p; count = n + 1 })
+  pub ends_none : {q : Kind} → q ≡ kind_read (get_or b i 0) → q.operands ≡ 0 →
+      ExpressionPost b i left n v (end_by 0 (i + (1 + q.body)) (n + 1))
   ends_none e a =
+      let z : arity (get_or b i 0) ≡ 0 = omega (arith, ap operands_of e, a) in
       record {
         read =
-            ap (λ (q : ℕ). end_of (parsed (nil i) q (n + 1) b)) e ∙
-            sym (ap end_of (operands_at ∙ after_none (left - 1) (get_or b i 0) b i v (first_at b i) (n + 1) (drop (first_at b i) b) a));
+            ap (λ (s : ℕ). end_of (parsed (nil i) (i + (1 + s)) (n + 1) b)) (ap body_of e) ∙
+            sym (ap end_of (operands_at ∙ after_none (left - 1) (get_or b i 0) b i v (first_at b i) (n + 1) (drop (first_at b i) b) z));
       }
+
+-- the reader's answer where it is refused
+abbrev failed : error.Refusal → End
+failed e = end_by (number_of e.reason) e.place 0
 
 -- AFTER THE FIRST OPERAND
 pub record FirstRead (b : List ℕ) (i left n v : ℕ) (r : End) : Type 0 where
@@ -91,10 +107,14 @@ pub record FirstRead (b : List ℕ) (i left n v : ℕ) (r : End) : Type 0 where
   pub some : 0 < arity (get_or b i 0)
   pub read : r ≡ expression_read b (first_at b i) (left - 1) (n + 1) v
 
-pub first_read : {b : List ℕ} {i left n v p : ℕ} {r : End} → Headed b i left n v → 0 < arity (get_or b i 0) → p ≡ first_at b i →
-    ExpressionPost b p (left - 1) (n + 1) v r → FirstRead b i left n v r
-first_read {b} {i} {left} {n} {v} h a e p =
-    record { head = h; some = a; read = p.read ∙ ap (λ (q : ℕ). expression_read b q (left - 1) (n + 1) v) e }
+pub first_read : {b : List ℕ} {i left n v : ℕ} {q : Kind} {r : End} → Headed b i left n v → q ≡ kind_read (get_or b i 0) →
+    0 < q.operands → ExpressionPost b (i + (1 + q.body)) (left - 1) (n + 1) v r → FirstRead b i left n v r
+first_read {b} {i} {left} {n} {v} h e a p =
+    record {
+      head = h;
+      some = omega (arith, ap operands_of e, a);
+      read = p.read ∙ ap (λ (s : ℕ). expression_read b (i + (1 + s)) (left - 1) (n + 1) v) (ap body_of e);
+    }
 
 module _ {b : List ℕ} {i left n v : ℕ} {r : End} (f : FirstRead b i left n v r) where
   after_record_read : parse_at b i left n v ≡
@@ -102,14 +122,6 @@ module _ {b : List ℕ} {i left n v : ℕ} {r : End} (f : FirstRead b i left n v
   after_record_read =
       operands_at f.head ∙
       after_record_lem (left - 1) (get_or b i 0) b i v (first_at b i) (n + 1) (drop (first_at b i) b) f.some
-
-  pub first_refused : (r.number ≡ 0 → ⊥) → ExpressionPost b i left n v r
-  first_refused g =
-      record {
-        read =
-            then_refused (parse_at b (first_at b i) (left - 1) (n + 1) v) (after_first (left - 1) (get_or b i 0) b i v) r f.read g ∙
-            sym (ap end_of after_record_read);
-      }
 
   pub ends_first : arity (get_or b i 0) ≡ 1 → ExpressionPost b i left n v r
   ends_first a =
@@ -121,92 +133,105 @@ module _ {b : List ℕ} {i left n v : ℕ} {r : End} (f : FirstRead b i left n v
             (λ e j m c. after_one (left - 1) (get_or b i 0) b i v j m c e a) ∙ sym (ap end_of after_record_read);
       }
 
-  module _ (z : r.number ≡ 0) where
-    first_ended : Ended (parse_at b (first_at b i) (left - 1) (n + 1) v) r
-    first_ended =
-        ended (parse_at b (first_at b i) (left - 1) (n + 1) v) r
-        (parse_sound (suc (suc (left - 1))) (max_depth + 1 - (left - 1)) (first_at b i) (n + 1) v (drop (first_at b i) b)) f.read z
+pub first_failed : {b : List ℕ} {i left n v : ℕ} {e : error.Refusal} {y : Result found.Parsed error.Refusal} →
+    FirstRead b i left n v (failed e) → y ≡ Err e → ExpressionPost b i left n v (parsed_by y)
+first_failed {b} {i} {left} {n} {v} {e} f h =
+    rw h
+    (record {
+      read =
+          then_refused (parse_at b (first_at b i) (left - 1) (n + 1) v) (after_first (left - 1) (get_or b i 0) b i v) (failed e) f.read
+          (some_number e.reason) ∙ sym (ap end_of (after_record_read f));
+    })
 
-    first_reads : Reads b (first_at b i) (left - 1) first_ended.expr r.place first_ended.bytes
-    first_reads =
-        reads b (left - 1) (omega (arith, f.head.deep)) (first_at b i) (n + 1) v first_ended.expr r.place r.count
-        first_ended.bytes first_ended.is
+module _ {b : List ℕ} {i left n v p m : ℕ} (f : FirstRead b i left n v (end_by 0 p m)) where
+  first_ended : Ended (parse_at b (first_at b i) (left - 1) (n + 1) v) (end_by 0 p m)
+  first_ended =
+      ended (parse_at b (first_at b i) (left - 1) (n + 1) v) (end_by 0 p m)
+      (parse_sound (suc (suc (left - 1))) (max_depth + 1 - (left - 1)) (first_at b i) (n + 1) v (drop (first_at b i) b)) f.read refl
 
-    pub first_within : r.place ≤ length b
-    first_within = first_reads.within
+  first_reads : Reads b (first_at b i) (left - 1) first_ended.expr p first_ended.bytes
+  first_reads =
+      reads b (left - 1) (omega (arith, f.head.deep)) (first_at b i) (n + 1) v first_ended.expr p m
+      first_ended.bytes first_ended.is
+
+  pub first_within : p ≤ length b
+  first_within = first_reads.within
 
 -- AFTER THE SECOND
-pub record SecondRead (b : List ℕ) (i left n v : ℕ) (r s : End) : Type 0 where
-  pub first : FirstRead b i left n v r
-  pub accepted : r.number ≡ 0
+pub record SecondRead (b : List ℕ) (i left n v p m : ℕ) (s : End) : Type 0 where
+  pub first : FirstRead b i left n v (end_by 0 p m)
   pub more : 1 < arity (get_or b i 0)
-  pub read : s ≡ expression_read b r.place (left - 1) r.count (inner (get_or b i 0) v)
+  pub read : s ≡ expression_read b p (left - 1) m (inner (get_or b i 0) v)
 
-pub second_read : {b : List ℕ} {i left n v w : ℕ} {r s : End} → FirstRead b i left n v r → r.number ≡ 0 → 1 < arity (get_or b i 0) →
-    w ≡ inner (get_or b i 0) v → ExpressionPost b r.place (left - 1) r.count w s → SecondRead b i left n v r s
-second_read {b} {left = left} {r = r} f z a e p =
-    record { first = f; accepted = z; more = a; read = p.read ∙ ap (expression_read b r.place (left - 1) r.count) e }
+pub second_read : {b : List ℕ} {i left n v p m w : ℕ} {q : Kind} {s : End} → FirstRead b i left n v (end_by 0 p m) →
+    q ≡ kind_read (get_or b i 0) → 1 < q.operands → w ≡ inner (get_or b i 0) v → ExpressionPost b p (left - 1) m w s →
+    SecondRead b i left n v p m s
+second_read {b} {left = left} {p = p} {m = m} f k a e post =
+    record { first = f; more = omega (arith, ap operands_of k, a); read = post.read ∙ ap (expression_read b p (left - 1) m) e }
 
-module _ {b : List ℕ} {i left n v : ℕ} {r s : End} (f : SecondRead b i left n v r s) where
+module _ {b : List ℕ} {i left n v p m : ℕ} {s : End} (f : SecondRead b i left n v p m s) where
   abbrev x : Expr
-  x = (first_ended f.first f.accepted).expr
+  x = (first_ended f.first).expr
 
   after_first_read : parse_at b i left n v ≡
-      then_parse (parse_at b r.place (left - 1) r.count (inner (get_or b i 0) v)) (after_second (left - 1) (get_or b i 0) b i v x)
+      then_parse (parse_at b p (left - 1) m (inner (get_or b i 0) v)) (after_second (left - 1) (get_or b i 0) b i v x)
   after_first_read =
-      let e = first_ended f.first f.accepted in
+      let e = first_ended f.first in
       after_record_read f.first ∙ ap (λ (q : Parsed). then_parse q (after_first (left - 1) (get_or b i 0) b i v)) e.is ∙
-      after_first_lem (left - 1) (get_or b i 0) b i v r.place r.count e.bytes x f.more ∙
-      ap (λ (c : List ℕ). then_parse (reader (left - 1) r.place r.count (inner (get_or b i 0) v) c)
+      after_first_lem (left - 1) (get_or b i 0) b i v p m e.bytes x f.more ∙
+      ap (λ (c : List ℕ). then_parse (reader (left - 1) p m (inner (get_or b i 0) v) c)
       (after_second (left - 1) (get_or b i 0) b i v x))
-      (first_reads f.first f.accepted).rest
-
-  pub second_refused : (s.number ≡ 0 → ⊥) → ExpressionPost b i left n v s
-  second_refused g =
-      record {
-        read =
-            then_refused (parse_at b r.place (left - 1) r.count (inner (get_or b i 0) v))
-            (after_second (left - 1) (get_or b i 0) b i v x) s f.read g ∙ sym (ap end_of after_first_read);
-      }
+      (first_reads f.first).rest
 
   pub ends_second : arity (get_or b i 0) ≡ 2 → ExpressionPost b i left n v s
   ends_second a =
       record {
         read =
-            then_last (parse_at b r.place (left - 1) r.count (inner (get_or b i 0) v)) (after_second (left - 1) (get_or b i 0) b i v x)
+            then_last (parse_at b p (left - 1) m (inner (get_or b i 0) v)) (after_second (left - 1) (get_or b i 0) b i v x)
             (λ (e : Expr). expr_of (get_or b i 0) b i x e (expr_at (left - 1) b (third_at b i))) s f.read
             (λ e j m c. after_two (left - 1) (get_or b i 0) b i v j m c x e a) ∙ sym (ap end_of after_first_read);
       }
 
-  module _ (z : s.number ≡ 0) where
-    second_ended : Ended (parse_at b r.place (left - 1) r.count (inner (get_or b i 0) v)) s
-    second_ended =
-        ended (parse_at b r.place (left - 1) r.count (inner (get_or b i 0) v)) s
-        (parse_sound (suc (suc (left - 1))) (max_depth + 1 - (left - 1)) r.place r.count (inner (get_or b i 0) v) (drop r.place b))
-        f.read z
+pub second_failed : {b : List ℕ} {i left n v p m : ℕ} {e : error.Refusal} {y : Result found.Parsed error.Refusal} →
+    SecondRead b i left n v p m (failed e) → y ≡ Err e → ExpressionPost b i left n v (parsed_by y)
+second_failed {b} {i} {left} {n} {v} {p} {m} {e} f h =
+    rw h
+    (record {
+      read =
+          then_refused (parse_at b p (left - 1) m (inner (get_or b i 0) v)) (after_second (left - 1) (get_or b i 0) b i v (x f)) (failed e)
+          f.read
+          (some_number e.reason) ∙ sym (ap end_of (after_first_read f));
+    })
 
-    second_reads : Reads b r.place (left - 1) second_ended.expr s.place second_ended.bytes
-    second_reads =
-        reads b (left - 1) (omega (arith, f.first.head.deep)) r.place r.count (inner (get_or b i 0) v) second_ended.expr
-        s.place s.count second_ended.bytes second_ended.is
+module _ {b : List ℕ} {i left n v p m j l : ℕ} (f : SecondRead b i left n v p m (end_by 0 j l)) where
+  second_ended : Ended (parse_at b p (left - 1) m (inner (get_or b i 0) v)) (end_by 0 j l)
+  second_ended =
+      ended (parse_at b p (left - 1) m (inner (get_or b i 0) v)) (end_by 0 j l)
+      (parse_sound (suc (suc (left - 1))) (max_depth + 1 - (left - 1)) p m (inner (get_or b i 0) v) (drop p b))
+      f.read refl
 
-    pub second_within : s.place ≤ length b
-    second_within = second_reads.within
+  second_reads : Reads b p (left - 1) second_ended.expr j second_ended.bytes
+  second_reads =
+      reads b (left - 1) (omega (arith, f.first.head.deep)) p m (inner (get_or b i 0) v) second_ended.expr
+      j l second_ended.bytes second_ended.is
 
-    after_second_read : 2 < arity (get_or b i 0) → parse_at b i left n v ≡
-        then_parse (parse_at b s.place (left - 1) s.count v) (after_third (get_or b i 0) b i x second_ended.expr)
-    after_second_read a =
-        after_first_read ∙ ap (λ (q : Parsed). then_parse q (after_second (left - 1) (get_or b i 0) b i v x)) second_ended.is ∙
-        after_second_lem (left - 1) (get_or b i 0) b i v s.place s.count second_ended.bytes x second_ended.expr a ∙
-        ap (λ (c : List ℕ). then_parse (reader (left - 1) s.place s.count v c) (after_third (get_or b i 0) b i x second_ended.expr))
-        second_reads.rest
+  pub second_within : j ≤ length b
+  second_within = second_reads.within
 
-    -- AFTER THE THIRD
-    pub ends_third : 2 < arity (get_or b i 0) → {t : End} → ExpressionPost b s.place (left - 1) s.count v t →
-        ExpressionPost b i left n v t
-    ends_third a {t} p =
-        record {
-          read =
-              then_last (parse_at b s.place (left - 1) s.count v) (after_third (get_or b i 0) b i x second_ended.expr)
-              (expr_of (get_or b i 0) b i x second_ended.expr) t p.read (λ e j m c. refl) ∙ sym (ap end_of (after_second_read a));
-        }
+  after_second_read : 2 < arity (get_or b i 0) → parse_at b i left n v ≡
+      then_parse (parse_at b j (left - 1) l v) (after_third (get_or b i 0) b i (x f) second_ended.expr)
+  after_second_read a =
+      after_first_read f ∙ ap (λ (q : Parsed). then_parse q (after_second (left - 1) (get_or b i 0) b i v (x f))) second_ended.is ∙
+      after_second_lem (left - 1) (get_or b i 0) b i v j l second_ended.bytes (x f) second_ended.expr a ∙
+      ap (λ (c : List ℕ). then_parse (reader (left - 1) j l v c) (after_third (get_or b i 0) b i (x f) second_ended.expr))
+      second_reads.rest
+
+  -- AFTER THE THIRD
+  pub ends_third : 2 < arity (get_or b i 0) → {t : End} → ExpressionPost b j (left - 1) l v t →
+      ExpressionPost b i left n v t
+  ends_third a {t} post =
+      record {
+        read =
+            then_last (parse_at b j (left - 1) l v) (after_third (get_or b i 0) b i (x f) second_ended.expr)
+            (expr_of (get_or b i 0) b i (x f) second_ended.expr) t post.read (λ e j m c. refl) ∙ sym (ap end_of (after_second_read a));
+      }

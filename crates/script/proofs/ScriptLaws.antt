@@ -9,15 +9,14 @@ use lib.ListN.{length, length-drop, drop_of_length-le}
 use borrow.Author.Tests.{eq-eqb, ne_eqb, eqb-true}
 use Rattle.model.specs.Limits.{max_depth}
 use Rattle.model.specs.Refusal as refusal
+use Rattle.model.specs.Refusal.{Refusal}
 use Rattle.model.specs.Script.{Expr, Parsed, refused, parsed, whole, read_script, refusal_by}
 use Rattle.model.proofs.BoolLaws.{by_cases}
 use Rattle.model.proofs.ScriptLaws.{Sound, sound_numbered, parse_sound}
-use Rattle.plan_table.specs.Results.{refusal_of}
-use Rattle.plan_table.specs.declared.Refusal.{Refusal}
+use Rattle.plan_table.specs.Results.{End, refusal_of}
 use Rattle.script_records.specs.Walk.{expr_at}
 use Rattle.script.specs.Reading.{script_read, parse_at, end_of, ExpressionPost}
 use Rattle.script.specs.Accepted.{Accepted}
-use Rattle.plan_table.specs.declared.End.{End}
 use Rattle.script.proofs.PlaceLaws.{reads}
 use Rattle.script.proofs.ExpressionLaws.{Ended, ended}
 

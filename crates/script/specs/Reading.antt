@@ -1,11 +1,13 @@
 -- What reading a script answers, and the contracts of the reader's parts.
-use Rattle.std.specs.Prelude.{◌≡◌, Bool, List, ℕ, suc, ◌+◌, ◌-◌, ◌≤◌, length, get_or, drop}
+use Rattle.std.specs.Prelude.{◌≡◌, Bool, List, ℕ, suc, ◌+◌, ◌-◌, ◌≤◌, length, get_or, drop, Result, Ok, Err}
 use Rattle.model.specs.Limits.{max_depth}
 use Rattle.model.specs.Refusal as refusal
+use Rattle.model.specs.Refusal.{Refusal}
 use Rattle.model.specs.Script.{Parsed, refused, parsed, parse_from, read_script, expr_refusal, body_size, body_fits, refusal_by}
-use Rattle.plan_table.specs.Results.{refusal_of}
-use Rattle.plan_table.specs.declared.Refusal.{Refusal}
-use Rattle.plan_table.specs.declared.End.{End}
+use Rattle.plan_table.specs.Refusals.{number_of}
+use Rattle.plan_table.specs.Results.{End, refusal_of}
+use Rattle.plan_table.specs.declared.Refusal as error
+use Rattle.script.specs.declared.read.Parsed as found
 
 -- READING a script: its refusal, or none
 abbrev pub script_read : (bytes : List ℕ) → Refusal
@@ -18,6 +20,11 @@ parse_at b i k n v = parse_from (suc (suc k)) (max_depth + 1 - k) i n v (drop i 
 -- how it ends: the refusal's number, or 0, and place, or the place past the expression; the records so far, 0 where it is refused
 abbrev pub end_by : (number place records : ℕ) → End
 end_by n i m = record { number = n; place = i; count = m }
+
+-- of what the reader answers
+abbrev pub parsed_by : Result found.Parsed error.Refusal → End
+parsed_by (Ok x) = end_by 0 x.place x.records
+parsed_by (Err e) = end_by (number_of e.reason) e.place 0
 
 -- of what is parsed
 abbrev pub end_of : Parsed → End

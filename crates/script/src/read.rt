@@ -2,9 +2,10 @@
 ghost use Rattle.std.specs.Prelude.{◌≡◌, ◌&&◌, ◌≤◌, leb};
 ghost use Rattle.model.specs.Limits.{max_name, max_binders};
 ghost use Rattle.model.specs.Script.{is_binder, test_fits};
-ghost use Rattle.script.specs.Reading.{BodyPre, BodyPost, HeadPost, ExpressionPre, ExpressionPost, end_by};
+ghost use Rattle.plan_table.specs.Results.{number_by};
+ghost use Rattle.script.specs.Reading.{BodyPre, BodyPost, HeadPost, ExpressionPre, ExpressionPost, parsed_by};
 
-use plan_table::{NameNumber, Refusal, Table, number};
+use plan_table::{NameNumber, Reason, Refusal, Table, number};
 use script_records::kinds;
 
 const AXES: u8 = 4;
@@ -65,87 +66,75 @@ fn is_ninth(kind: u8, bound: usize) -> bool
     false
 }
 
-// The number of the refusal of the record at the front, or 0.
-fn head(s: &[u8], left: usize, records: usize, bound: usize) -> u8
-    ensures { HeadPost s.now left records bound result }
+// Why the record at the front is refused, if it is.
+fn head(s: &[u8], left: usize, records: usize, bound: usize) -> Result<(), Reason>
+    ensures { HeadPost s.now left records bound (number_by result) }
 {
     if s.len() == 0 {
-        return Refusal::SHORT;
+        return Err(Reason::Short);
     }
     let kind = s[0];
     if !kinds::is_kind(kind) {
-        return Refusal::KIND;
+        return Err(Reason::Kind);
     }
     if Table::SCRIPT_RECORDS <= records {
-        return Refusal::SIZE;
+        return Err(Reason::Size);
     }
     if left == 0 {
-        return Refusal::SIZE;
+        return Err(Reason::Size);
     }
     if is_ninth(kind, bound) {
-        return Refusal::SIZE;
+        return Err(Reason::Size);
     }
     if s.len() < 1 + kinds::body_size(kind) {
-        return Refusal::SHORT;
+        return Err(Reason::Short);
     }
     if body_fits(s, bound) {
-        return 0;
+        return Ok(());
     }
-    Refusal::FIELD
+    Err(Reason::Field)
 }
 
-// Reads the expression at a place: its refusal's number, or 0. `place` takes the refusal's place, or the place past the expression;
-// `records` has the records before it, and takes those with it, or 0 where it is refused. `left` is how deep it may be.
+// An expression that is read: the place past it, and the records so far, its own with them.
+#[derive(Clone, Copy)]
+pub struct Parsed {
+    pub place: usize,
+    pub records: usize,
+}
+
+// Reads the expression at a place; `records` stand before it. `left` is how deep it may be.
 pub fn expression(
     bytes: &[u8],
     at: usize,
     left: usize,
     bound: usize,
-    place: &mut usize,
-    records: &mut usize,
-) -> u8
+    records: usize,
+) -> Result<Parsed, Refusal>
     requires { ExpressionPre bytes.now at left }
-    ensures { ExpressionPost bytes.now at left records.old bound
-        (end_by result place.new records.new) }
+    ensures { ExpressionPost bytes.now at left records bound (parsed_by result) }
 {
-    let before = *records;
-    let number = head(&bytes[at..], left, before, bound);
-    if number != 0 {
-        *place = at;
-        *records = 0;
-        return number;
-    }
+    head(&bytes[at..], left, records, bound).map_err(|reason| Refusal { reason, place: at })?;
     let kind = bytes[at];
     let found = kinds::kind_of(kind);
     let operands = found.operands;
-    let first_at = at + (1 + found.body);
-    *place = first_at;
-    *records = before + 1;
+    let place = at + (1 + found.body);
+    let records = records + 1;
     if operands == 0 {
-        return 0;
+        return Ok(Parsed { place, records });
     }
-    let first = expression(bytes, first_at, left - 1, bound, place, records);
-    if first != 0 {
-        return first;
-    }
+    let first = expression(bytes, place, left - 1, bound, records)?;
     if operands == 1 {
-        return first;
+        return Ok(first);
     }
-    let second_at = *place;
     let second = expression(
         bytes,
-        second_at,
+        first.place,
         left - 1,
         kinds::inner(kind, bound),
-        place,
-        records,
-    );
-    if second != 0 {
-        return second;
-    }
+        first.records,
+    )?;
     if operands == 2 {
-        return second;
+        return Ok(second);
     }
-    let third_at = *place;
-    expression(bytes, third_at, left - 1, bound, place, records)
+    expression(bytes, second.place, left - 1, bound, second.records)
 }

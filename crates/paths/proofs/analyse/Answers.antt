@@ -14,8 +14,8 @@ returns-then-other-ne0 c =
     second_refused c.args.first.now c.args.second.now (first_accepted) c.read_script-other.result
     c.read_script-other.ensures c.if-other-ne0.true
 
-pub answer-requires : goal.answer-requires
-answer-requires c =
+pub answer_in-requires : goal.answer_in-requires
+answer_in-requires c =
     answer_asks (fronts_asks c.args.first.now c.args.second.now c.positions_of-n.ensures c.positions_of-m.ensures)
     _ (omega (arith, c.if-size-le-FEW.true)) (clear_all _ c.clear.ensures)
 

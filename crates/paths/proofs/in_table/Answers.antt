@@ -3,18 +3,18 @@ use Rattle.std.proofs.Common.{arith}
 use Rattle.paths.proofs.AnalysisLaws.{pairs_most, answer_asks, clear_all}
 use Rattle.paths.proofs.in_table.Goals as goal
 
-pub answer-requires : goal.answer-requires
-answer-requires c =
+pub answer_in-requires : goal.answer_in-requires
+answer_in-requires c =
     answer_asks c.requires _ (omega (arith, c.if-size-le-SOME.true)) (clear_all _ c.clear.ensures)
 
-pub answer-requires-then-size-le-MANY : goal.answer-requires-then-size-le-MANY
-answer-requires-then-size-le-MANY c =
+pub answer_in-requires-then-size-le-MANY : goal.answer_in-requires-then-size-le-MANY
+answer_in-requires-then-size-le-MANY c =
     answer_asks c.requires _ (omega (arith, c.if-size-le-MANY.true)) (clear_all _ c.clear-then-size-le-MANY.ensures)
 
-pub answer-requires-then-size-le-MOST : goal.answer-requires-then-size-le-MOST
-answer-requires-then-size-le-MOST c =
+pub answer_in-requires-then-size-le-MOST : goal.answer_in-requires-then-size-le-MOST
+answer_in-requires-then-size-le-MOST c =
     answer_asks c.requires _ (omega (arith, c.if-size-le-MOST.true)) (clear_all _ c.clear-then-size-le-MOST.ensures)
 
-pub answer-requires-2 : goal.answer-requires-2
-answer-requires-2 c =
+pub answer_in-requires-2 : goal.answer_in-requires-2
+answer_in-requires-2 c =
     answer_asks c.requires _ (omega (arith, pairs_most c.requires)) (clear_all _ c.clear-2.ensures)

@@ -1,10 +1,13 @@
-use Rattle.std.proofs.Common.{◌≡◌, ap, List, ℕ, ◌+◌, ◌-◌, ◌≤◌, ◌<◌, length, get_or, arith, rules}
+-- `read::expression`: each answer cites one law of ExpressionLaws.
+use Rattle.std.proofs.Common.{◌≡◌, ap, ◌∙◌, Err, List, ℕ, ◌-◌, ◌≤◌, ◌<◌, length, get_or, arith}
+use Rattle.std.proofs.lemmas.Result.{err_from_is_err_and}
 use Rattle.model.proofs.KindLaws.{size_most}
+use Rattle.plan_table.proofs.ReasonLaws.{some_number}
 use Rattle.script_records.proofs.KindLaws.{body_of, operands_of}
-use Rattle.script.specs.Reading.{ExpressionPre, end_by}
+use Rattle.script.specs.Reading.{ExpressionPre}
 use Rattle.script.proofs.ExpressionLaws.{record_refused, Headed, headed, record_fits, record_room, ends_none}
-use Rattle.script.proofs.ExpressionLaws.{FirstRead, first_read, first_refused, ends_first, first_within}
-use Rattle.script.proofs.ExpressionLaws.{SecondRead, second_read, second_refused, ends_second, second_within, ends_third}
+use Rattle.script.proofs.ExpressionLaws.{first_read, first_failed, ends_first, first_within}
+use Rattle.script.proofs.ExpressionLaws.{second_read, second_failed, ends_second, second_within, ends_third}
 use Rattle.script.proofs.read.+expression.Goals as goal
 
 -- an operand of the record, one level below
@@ -12,217 +15,115 @@ operand_asks : {b : List ℕ} {at left n v p t : ℕ} → Headed b at left n v �
     (left - 1 < t) × ExpressionPre b p (left - 1)
 operand_asks h e w = (omega (arith, (record_fits h).depth), record { within = w; depth = omega (arith, h.deep) })
 
-pub returns-then-number-ne0 : goal.returns-then-number-ne0
-returns-then-number-ne0 t c =
-    record_refused c.requires c.head-number.ensures c.if-number-ne0.true
+pub returns-in_err-map_err : goal.returns-in_err-map_err
+returns-in_err-map_err t c =
+    let p = err_from_is_err_and c.from_residual.result c.from_residual.ensures.1 in
+    let f = c.in_err-map_err.field-0.0 in
+    let e : c.head.result ≡ Err f.reason = grind arith in
+    let a : f.place ≡ c.args.at = grind arith in
+    rw (p.1, p.2, a) (record_refused c.requires (rw e at c.head.ensures) (some_number f.reason))
 
 pub bounds-bytes-at : goal.bounds-bytes-at
 bounds-bytes-at t c =
-    let headed_at : let a = c.args in Headed a.bytes.now a.at a.left a.records.now a.bound =
-    headed c.requires c.head-number.ensures (search (c.if-number-ne0.false, rules)) in
-    omega (arith, (record_fits (headed_at)).whole)
+    let h = headed c.head.result c.requires c.head.ensures c.in_ok-map_err.ensures.variant in
+    omega (arith, (record_fits h).whole)
 
-pub overflow_add-first_at : goal.overflow_add-first_at
-overflow_add-first_at t c =
+pub overflow_add-place : goal.overflow_add-place
+overflow_add-place t c =
     let a = c.args in
     omega (arith, ap body_of c.kind_of-found.ensures, size_most (get_or a.bytes.now a.at 0))
 
-pub overflow_add-first_at-2 : goal.overflow_add-first_at-2
-overflow_add-first_at-2 t c =
-    let headed_at : let a = c.args in Headed a.bytes.now a.at a.left a.records.now a.bound =
-    headed c.requires c.head-number.ensures (search (c.if-number-ne0.false, rules)) in
-    omega (arith, (record_fits (headed_at)).whole, ap body_of c.kind_of-found.ensures)
+pub overflow_add-place-2 : goal.overflow_add-place-2
+overflow_add-place-2 t c =
+    let h = headed c.head.result c.requires c.head.ensures c.in_ok-map_err.ensures.variant in
+    omega (arith, (record_fits h).whole, ap body_of c.kind_of-found.ensures)
 
 pub overflow_add-records : goal.overflow_add-records
 overflow_add-records t c =
-    let headed_at : let a = c.args in Headed a.bytes.now a.at a.left a.records.now a.bound =
-    headed c.requires c.head-number.ensures (search (c.if-number-ne0.false, rules)) in
-    omega (arith, record_room (headed_at))
+    let h = headed c.head.result c.requires c.head.ensures c.in_ok-map_err.ensures.variant in
+    omega (arith, record_room h)
 
 pub returns-then-operands-eq0 : goal.returns-then-operands-eq0
 returns-then-operands-eq0 t c =
-    let headed_at : let a = c.args in Headed a.bytes.now a.at a.left a.records.now a.bound =
-    headed c.requires c.head-number.ensures (search (c.if-number-ne0.false, rules)) in
-    let a = c.args in
-    ends_none (headed_at) (ap (λ (s : ℕ). a.at + (1 + s)) (ap body_of c.kind_of-found.ensures))
-    (omega (arith, ap operands_of c.kind_of-found.ensures, c.if-operands-eq0.true))
+    let h = headed c.head.result c.requires c.head.ensures c.in_ok-map_err.ensures.variant in
+    ends_none h c.kind_of-found.ensures (omega (arith, c.if-operands-eq0.true))
 
 pub overflow_sub-left : goal.overflow_sub-left
 overflow_sub-left t c =
-    let headed_at : let a = c.args in Headed a.bytes.now a.at a.left a.records.now a.bound =
-    headed c.requires c.head-number.ensures (search (c.if-number-ne0.false, rules)) in
-    (record_fits (headed_at)).depth
-
-pub expression-first-requires : goal.expression-first-requires
-expression-first-requires t c =
-    let headed_at : let a = c.args in Headed a.bytes.now a.at a.left a.records.now a.bound =
-    headed c.requires c.head-number.ensures (search (c.if-number-ne0.false, rules)) in
-    let h = headed_at in
-    let s = ap body_of c.kind_of-found.ensures in
-    operand_asks h c.decreases (omega (arith, (record_fits h).whole, s))
-
-pub returns-then-first-ne0 : goal.returns-then-first-ne0
-returns-then-first-ne0 t c =
-    let first_at_lem : let a = c.args in
-    FirstRead a.bytes.now a.at a.left a.records.now a.bound
-    (end_by c.expression-first.result c.expression-first.new.place c.expression-first.new.records) = let headed_at : let a =
-    c.args in Headed a.bytes.now a.at a.left a.records.now a.bound =
-    headed c.requires c.head-number.ensures (search (c.if-number-ne0.false, rules)) in
-    let a = c.args in
-    first_read (headed_at) (omega (arith, ap operands_of c.kind_of-found.ensures, c.if-operands-eq0.false))
-    (ap (λ (s : ℕ). a.at + (1 + s)) (ap body_of c.kind_of-found.ensures)) c.expression-first.ensures in
-    first_refused (first_at_lem) c.if-first-ne0.true
-
-pub returns-then-operands-eq1 : goal.returns-then-operands-eq1
-returns-then-operands-eq1 t c =
-    let first_at_lem : let a = c.args in
-    FirstRead a.bytes.now a.at a.left a.records.now a.bound
-    (end_by c.expression-first.result c.expression-first.new.place c.expression-first.new.records) = let headed_at : let a =
-    c.args in Headed a.bytes.now a.at a.left a.records.now a.bound =
-    headed c.requires c.head-number.ensures (search (c.if-number-ne0.false, rules)) in
-    let a = c.args in
-    first_read (headed_at) (omega (arith, ap operands_of c.kind_of-found.ensures, c.if-operands-eq0.false))
-    (ap (λ (s : ℕ). a.at + (1 + s)) (ap body_of c.kind_of-found.ensures)) c.expression-first.ensures in
-    ends_first (first_at_lem)
-    (omega (arith, ap operands_of c.kind_of-found.ensures, c.if-operands-eq1.true))
-
-pub overflow_sub-left-2 : goal.overflow_sub-left-2
-overflow_sub-left-2 t c =
-    let first_at_lem : let a = c.args in
-    FirstRead a.bytes.now a.at a.left a.records.now a.bound
-    (end_by c.expression-first.result c.expression-first.new.place c.expression-first.new.records) = let headed_at : let a =
-    c.args in Headed a.bytes.now a.at a.left a.records.now a.bound =
-    headed c.requires c.head-number.ensures (search (c.if-number-ne0.false, rules)) in
-    let a = c.args in
-    first_read (headed_at) (omega (arith, ap operands_of c.kind_of-found.ensures, c.if-operands-eq0.false))
-    (ap (λ (s : ℕ). a.at + (1 + s)) (ap body_of c.kind_of-found.ensures)) c.expression-first.ensures in
-    (record_fits (first_at_lem).head).depth
-
-pub inner-requires : goal.inner-requires
-inner-requires t c =
-    let first_at_lem : let a = c.args in
-    FirstRead a.bytes.now a.at a.left a.records.now a.bound
-    (end_by c.expression-first.result c.expression-first.new.place c.expression-first.new.records) = let headed_at : let a =
-    c.args in Headed a.bytes.now a.at a.left a.records.now a.bound =
-    headed c.requires c.head-number.ensures (search (c.if-number-ne0.false, rules)) in
-    let a = c.args in
-    first_read (headed_at) (omega (arith, ap operands_of c.kind_of-found.ensures, c.if-operands-eq0.false))
-    (ap (λ (s : ℕ). a.at + (1 + s)) (ap body_of c.kind_of-found.ensures)) c.expression-first.ensures in
-    let h = (first_at_lem).head in λ b. omega (arith, (record_fits h).scope b)
-
-pub expression-second-requires : goal.expression-second-requires
-expression-second-requires t c =
-    let first_at_lem : let a = c.args in
-    FirstRead a.bytes.now a.at a.left a.records.now a.bound
-    (end_by c.expression-first.result c.expression-first.new.place c.expression-first.new.records) = let headed_at : let a =
-    c.args in Headed a.bytes.now a.at a.left a.records.now a.bound =
-    headed c.requires c.head-number.ensures (search (c.if-number-ne0.false, rules)) in
-    let a = c.args in
-    first_read (headed_at) (omega (arith, ap operands_of c.kind_of-found.ensures, c.if-operands-eq0.false))
-    (ap (λ (s : ℕ). a.at + (1 + s)) (ap body_of c.kind_of-found.ensures)) c.expression-first.ensures in
-    let f = first_at_lem in
-    operand_asks f.head c.decreases (first_within f (search (c.if-first-ne0.false, rules)))
-
-pub returns-then-second-ne0 : goal.returns-then-second-ne0
-returns-then-second-ne0 t c =
-    let second_at_lem : let a = c.args in
-    SecondRead a.bytes.now a.at a.left a.records.now a.bound
-    (end_by c.expression-first.result c.expression-first.new.place c.expression-first.new.records)
-    (end_by c.expression-second.result c.expression-second.new.place c.expression-second.new.records) = let first_at_lem : let a =
-    c.args in
-    FirstRead a.bytes.now a.at a.left a.records.now a.bound
-    (end_by c.expression-first.result c.expression-first.new.place c.expression-first.new.records) = let headed_at : let a =
-    c.args in Headed a.bytes.now a.at a.left a.records.now a.bound =
-    headed c.requires c.head-number.ensures (search (c.if-number-ne0.false, rules)) in
-    let a = c.args in
-    first_read (headed_at) (omega (arith, ap operands_of c.kind_of-found.ensures, c.if-operands-eq0.false))
-    (ap (λ (s : ℕ). a.at + (1 + s)) (ap body_of c.kind_of-found.ensures)) c.expression-first.ensures in
-    let a = ap operands_of c.kind_of-found.ensures in
-    second_read (first_at_lem) (search (c.if-first-ne0.false, rules))
-    (omega (arith, a, c.if-operands-eq0.false, c.if-operands-eq1.false)) c.inner.ensures
-    c.expression-second.ensures in
-    second_refused (second_at_lem) c.if-second-ne0.true
-
-pub returns-then-operands-eq2 : goal.returns-then-operands-eq2
-returns-then-operands-eq2 t c =
-    let second_at_lem : let a = c.args in
-    SecondRead a.bytes.now a.at a.left a.records.now a.bound
-    (end_by c.expression-first.result c.expression-first.new.place c.expression-first.new.records)
-    (end_by c.expression-second.result c.expression-second.new.place c.expression-second.new.records) = let first_at_lem : let a =
-    c.args in
-    FirstRead a.bytes.now a.at a.left a.records.now a.bound
-    (end_by c.expression-first.result c.expression-first.new.place c.expression-first.new.records) = let headed_at : let a =
-    c.args in Headed a.bytes.now a.at a.left a.records.now a.bound =
-    headed c.requires c.head-number.ensures (search (c.if-number-ne0.false, rules)) in
-    let a = c.args in
-    first_read (headed_at) (omega (arith, ap operands_of c.kind_of-found.ensures, c.if-operands-eq0.false))
-    (ap (λ (s : ℕ). a.at + (1 + s)) (ap body_of c.kind_of-found.ensures)) c.expression-first.ensures in
-    let a = ap operands_of c.kind_of-found.ensures in
-    second_read (first_at_lem) (search (c.if-first-ne0.false, rules))
-    (omega (arith, a, c.if-operands-eq0.false, c.if-operands-eq1.false)) c.inner.ensures
-    c.expression-second.ensures in
-    ends_second (second_at_lem) (omega (arith, ap operands_of c.kind_of-found.ensures, c.if-operands-eq2.true))
-
-pub overflow_sub-left-3 : goal.overflow_sub-left-3
-overflow_sub-left-3 t c =
-    let second_at_lem : let a = c.args in
-    SecondRead a.bytes.now a.at a.left a.records.now a.bound
-    (end_by c.expression-first.result c.expression-first.new.place c.expression-first.new.records)
-    (end_by c.expression-second.result c.expression-second.new.place c.expression-second.new.records) = let first_at_lem : let a =
-    c.args in
-    FirstRead a.bytes.now a.at a.left a.records.now a.bound
-    (end_by c.expression-first.result c.expression-first.new.place c.expression-first.new.records) = let headed_at : let a =
-    c.args in Headed a.bytes.now a.at a.left a.records.now a.bound =
-    headed c.requires c.head-number.ensures (search (c.if-number-ne0.false, rules)) in
-    let a = c.args in
-    first_read (headed_at) (omega (arith, ap operands_of c.kind_of-found.ensures, c.if-operands-eq0.false))
-    (ap (λ (s : ℕ). a.at + (1 + s)) (ap body_of c.kind_of-found.ensures)) c.expression-first.ensures in
-    let a = ap operands_of c.kind_of-found.ensures in
-    second_read (first_at_lem) (search (c.if-first-ne0.false, rules))
-    (omega (arith, a, c.if-operands-eq0.false, c.if-operands-eq1.false)) c.inner.ensures
-    c.expression-second.ensures in
-    (record_fits (second_at_lem).first.head).depth
+    let h = headed c.head.result c.requires c.head.ensures c.in_ok-map_err.ensures.variant in
+    (record_fits h).depth
 
 pub expression-requires : goal.expression-requires
 expression-requires t c =
-    let second_at_lem : let a = c.args in
-    SecondRead a.bytes.now a.at a.left a.records.now a.bound
-    (end_by c.expression-first.result c.expression-first.new.place c.expression-first.new.records)
-    (end_by c.expression-second.result c.expression-second.new.place c.expression-second.new.records) = let first_at_lem : let a =
-    c.args in
-    FirstRead a.bytes.now a.at a.left a.records.now a.bound
-    (end_by c.expression-first.result c.expression-first.new.place c.expression-first.new.records) = let headed_at : let a =
-    c.args in Headed a.bytes.now a.at a.left a.records.now a.bound =
-    headed c.requires c.head-number.ensures (search (c.if-number-ne0.false, rules)) in
-    let a = c.args in
-    first_read (headed_at) (omega (arith, ap operands_of c.kind_of-found.ensures, c.if-operands-eq0.false))
-    (ap (λ (s : ℕ). a.at + (1 + s)) (ap body_of c.kind_of-found.ensures)) c.expression-first.ensures in
-    let a = ap operands_of c.kind_of-found.ensures in
-    second_read (first_at_lem) (search (c.if-first-ne0.false, rules))
-    (omega (arith, a, c.if-operands-eq0.false, c.if-operands-eq1.false)) c.inner.ensures
-    c.expression-second.ensures in
-    let s = second_at_lem in
-    operand_asks s.first.head c.decreases (second_within s (search (c.if-second-ne0.false, rules)))
+    let h = headed c.head.result c.requires c.head.ensures c.in_ok-map_err.ensures.variant in
+    let s = ap body_of c.kind_of-found.ensures in
+    operand_asks h c.decreases (omega (arith, (record_fits h).whole, s))
+
+pub returns-in_err-first : goal.returns-in_err-first
+returns-in_err-first t c =
+    let h = headed c.head.result c.requires c.head.ensures c.in_ok-map_err.ensures.variant in
+    let f = first_read h c.kind_of-found.ensures (omega (arith, c.if-operands-eq0.false)) c.in_err-first.ensures in
+    let p = err_from_is_err_and c.from_residual-in_err-first.result c.from_residual-in_err-first.ensures.1 in
+    first_failed f (p.1 ∙ ap Err p.2)
+
+pub returns-then-operands-eq1 : goal.returns-then-operands-eq1
+returns-then-operands-eq1 t c =
+    let h = headed c.head.result c.requires c.head.ensures c.in_ok-map_err.ensures.variant in
+    let f = first_read h c.kind_of-found.ensures (omega (arith, c.if-operands-eq0.false)) c.in_ok-first.ensures in
+    ends_first f (omega (arith, ap operands_of c.kind_of-found.ensures, c.if-operands-eq1.true))
+
+pub overflow_sub-left-2 : goal.overflow_sub-left-2
+overflow_sub-left-2 t c =
+    let h = headed c.head.result c.requires c.head.ensures c.in_ok-map_err.ensures.variant in
+    (record_fits h).depth
+
+pub inner-requires : goal.inner-requires
+inner-requires t c =
+    let h = headed c.head.result c.requires c.head.ensures c.in_ok-map_err.ensures.variant in
+    λ b. omega (arith, (record_fits h).scope b)
+
+pub expression-requires-2 : goal.expression-requires-2
+expression-requires-2 t c =
+    let h = headed c.head.result c.requires c.head.ensures c.in_ok-map_err.ensures.variant in
+    let f = first_read h c.kind_of-found.ensures (omega (arith, c.if-operands-eq0.false)) c.in_ok-first.ensures in
+    operand_asks h c.decreases (first_within f)
+
+pub returns-in_err-second : goal.returns-in_err-second
+returns-in_err-second t c =
+    let h = headed c.head.result c.requires c.head.ensures c.in_ok-map_err.ensures.variant in
+    let f = first_read h c.kind_of-found.ensures (omega (arith, c.if-operands-eq0.false)) c.in_ok-first.ensures in
+    let g = second_read f c.kind_of-found.ensures (omega (arith, c.if-operands-eq0.false, c.if-operands-eq1.false))
+    c.inner.ensures c.in_err-second.ensures in
+    let p = err_from_is_err_and c.from_residual-in_err-second.result c.from_residual-in_err-second.ensures.1 in
+    second_failed g (p.1 ∙ ap Err p.2)
+
+pub returns-then-operands-eq2 : goal.returns-then-operands-eq2
+returns-then-operands-eq2 t c =
+    let h = headed c.head.result c.requires c.head.ensures c.in_ok-map_err.ensures.variant in
+    let f = first_read h c.kind_of-found.ensures (omega (arith, c.if-operands-eq0.false)) c.in_ok-first.ensures in
+    let g = second_read f c.kind_of-found.ensures (omega (arith, c.if-operands-eq0.false, c.if-operands-eq1.false))
+    c.inner.ensures c.in_ok-second.ensures in
+    ends_second g (omega (arith, ap operands_of c.kind_of-found.ensures, c.if-operands-eq2.true))
+
+pub overflow_sub-left-3 : goal.overflow_sub-left-3
+overflow_sub-left-3 t c =
+    let h = headed c.head.result c.requires c.head.ensures c.in_ok-map_err.ensures.variant in
+    (record_fits h).depth
+
+pub expression-requires-3 : goal.expression-requires-3
+expression-requires-3 t c =
+    let h = headed c.head.result c.requires c.head.ensures c.in_ok-map_err.ensures.variant in
+    let f = first_read h c.kind_of-found.ensures (omega (arith, c.if-operands-eq0.false)) c.in_ok-first.ensures in
+    let g = second_read f c.kind_of-found.ensures (omega (arith, c.if-operands-eq0.false, c.if-operands-eq1.false))
+    c.inner.ensures c.in_ok-second.ensures in
+    operand_asks h c.decreases (second_within g)
 
 pub returns : goal.returns
 returns t c =
-    let second_at_lem : let a = c.args in
-    SecondRead a.bytes.now a.at a.left a.records.now a.bound
-    (end_by c.expression-first.result c.expression-first.new.place c.expression-first.new.records)
-    (end_by c.expression-second.result c.expression-second.new.place c.expression-second.new.records) = let first_at_lem : let a =
-    c.args in
-    FirstRead a.bytes.now a.at a.left a.records.now a.bound
-    (end_by c.expression-first.result c.expression-first.new.place c.expression-first.new.records) = let headed_at : let a =
-    c.args in Headed a.bytes.now a.at a.left a.records.now a.bound =
-    headed c.requires c.head-number.ensures (search (c.if-number-ne0.false, rules)) in
-    let a = c.args in
-    first_read (headed_at) (omega (arith, ap operands_of c.kind_of-found.ensures, c.if-operands-eq0.false))
-    (ap (λ (s : ℕ). a.at + (1 + s)) (ap body_of c.kind_of-found.ensures)) c.expression-first.ensures in
-    let a = ap operands_of c.kind_of-found.ensures in
-    second_read (first_at_lem) (search (c.if-first-ne0.false, rules))
-    (omega (arith, a, c.if-operands-eq0.false, c.if-operands-eq1.false)) c.inner.ensures
-    c.expression-second.ensures in
-    let a = ap operands_of c.kind_of-found.ensures in
-    ends_third (second_at_lem) (search (c.if-second-ne0.false, rules))
-    (omega (arith, a, c.if-operands-eq0.false, c.if-operands-eq1.false, c.if-operands-eq2.false))
-    c.expression.ensures
+    let h = headed c.head.result c.requires c.head.ensures c.in_ok-map_err.ensures.variant in
+    let f = first_read h c.kind_of-found.ensures (omega (arith, c.if-operands-eq0.false)) c.in_ok-first.ensures in
+    let g = second_read f c.kind_of-found.ensures (omega (arith, c.if-operands-eq0.false, c.if-operands-eq1.false))
+    c.inner.ensures c.in_ok-second.ensures in
+    let o = ap operands_of c.kind_of-found.ensures in
+    ends_third g (omega (arith, o, c.if-operands-eq0.false, c.if-operands-eq1.false, c.if-operands-eq2.false))
+    c.expression-3.ensures

@@ -1,6 +1,6 @@
--- `answer` from two lists of positions: its ways out by the laws of AnalysisLaws.
+-- `answer_in` from two lists of positions: its ways out by the laws of AnalysisLaws.
 use Rattle.paths.proofs.AnalysisLaws.{answer_first, answer_second, answer_last}
-use Rattle.paths.proofs.answer.Goals as goal
+use Rattle.paths.proofs.answer_in.Goals as goal
 
 pub returns-then-some_leads_up : goal.returns-then-some_leads_up
 returns-then-some_leads_up c =
