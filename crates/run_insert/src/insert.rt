@@ -68,13 +68,11 @@ fn copy_rest(
         (copier rows.new history.new map.new result) }
 {
     let mut now = p;
-    let mut j = top.0 + 1;
-    while j < old {
+    for j in top.0 + 1..old {
         now = copy_next(rows, history, map, now, top, RowNumber(j));
         if now.number != 0 {
             return now;
         }
-        j += 1;
     }
     now
 }
@@ -120,21 +118,19 @@ fn copy_items(
 {
     let old = p.count;
     let mut now = p;
-    let mut k = 0;
-    while k < items.len() {
+    for item in items {
         now = copy_item(
             rows,
             history,
             map,
             now,
             old,
-            RowNumber(number::index(items[k])),
+            RowNumber(number::index(*item)),
             target,
         );
         if now.number != 0 {
             return now;
         }
-        k += 1;
     }
     now
 }

@@ -75,10 +75,8 @@ pub fn delete(rows: &mut [u32], history: &mut [u8], p: Progress, items: &[u16]) 
         rows.new history.new result }
 {
     let mut now = p;
-    let mut k = 0;
-    while k < items.len() {
-        now = cut_row(rows, history, now, RowNumber(number::index(items[k])));
-        k += 1;
+    for item in items {
+        now = cut_row(rows, history, now, RowNumber(number::index(*item)));
     }
     now
 }

@@ -1,4 +1,4 @@
-use Rattle.std.proofs.Common.{◌-◌, arith, rules}
+use Rattle.std.proofs.Common.{rules}
 use Rattle.run_insert.proofs.InsertLawsRest.{copying_end, copying_refused, copying_again}
 use Rattle.run_insert.proofs.insert.copy_rest.Goals as goal
 
@@ -14,4 +14,4 @@ loop-j-preserved c =
 
 pub returns : goal.returns
 returns c =
-    copying_end c.requires c.loop-j.invariant (omega (arith, c.loop-j-test.false))
+    copying_end c.requires c.loop-j.invariant c.loop-j-test.false
