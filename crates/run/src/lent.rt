@@ -15,7 +15,6 @@ use run_operators::record::Evaluated;
 use run_operators::value::Span;
 use run_query::index;
 use run_updates::state::Progress;
-use run_updates::tally;
 use run_updates::tally::Tally;
 use script_records::kinds;
 
@@ -33,13 +32,12 @@ pub struct Ended {
 fn refused(number: u8, place: usize) -> Ended
     ensures { result ≡ refused_end number place }
 {
-    let none = tally::none();
     Ended {
         refusal: Refusal { number, place },
         count: 0,
         items: 0,
         bytes: 0,
-        tally: none,
+        tally: Tally::none(),
     }
 }
 

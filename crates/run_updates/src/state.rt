@@ -2,7 +2,6 @@
 ghost use Rattle.std.specs.Prelude.{◌≡◌};
 ghost use Rattle.run_updates.specs.State.{started, refused_with};
 
-use crate::tally;
 use crate::tally::Tally;
 
 // The refusal's number, or 0; rows now; history bytes written; the tally so far.
@@ -19,12 +18,11 @@ impl Progress {
     pub fn start(count: usize) -> Progress
         ensures { result ≡ started count }
     {
-        let none = tally::none();
         Progress {
             number: 0,
             count,
             bytes: 0,
-            tally: none,
+            tally: Tally::none(),
         }
     }
 
@@ -32,12 +30,6 @@ impl Progress {
     pub fn refused(self, number: u8) -> Progress
         ensures { result ≡ refused_with self number }
     {
-        let tally = self.tally;
-        Progress {
-            number,
-            count: self.count,
-            bytes: self.bytes,
-            tally,
-        }
+        Progress { number, ..self }
     }
 }

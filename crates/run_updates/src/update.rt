@@ -3,8 +3,8 @@ ghost use Rattle.std.specs.Prelude.{[], ◌∷◌, ◌+◌, ◌<◌, true, false
 ghost use Rattle.run_updates.specs.State.{Held};
 ghost use Rattle.run_updates.specs.Updating.{NewPre, NewPost, ElementPre, LoosePost, CutPre, DeletePre, DeletePost};
 
+use crate::history;
 use crate::state::Progress;
-use crate::{history, tally};
 use plan_table::{Link, NameNumber, Refusal, RowNumber, Table, number, packed};
 
 // Row w more, with its record: 10 when the table is full.
@@ -14,17 +14,18 @@ pub fn new_row(rows: &mut [u32], history: &mut [u8], p: Progress, w: u32) -> Pro
 {
     let count = p.count;
     let at = p.bytes;
-    let before = p.tally;
+    let mut tally = p.tally;
     if Table::ROWS <= count {
         return p.refused(Refusal::TABLE);
     }
     rows[count] = w;
     history::put_made(history, at, RowNumber(count), w);
+    tally.raise_made();
     Progress {
         number: 0,
         count: count + 1,
         bytes: at + history::MADE_SIZE,
-        tally: tally::count_made(before),
+        tally,
     }
 }
 
@@ -50,7 +51,7 @@ fn cut_row(rows: &mut [u32], history: &mut [u8], p: Progress, row: RowNumber) ->
     ensures { DeletePost rows.old history.old p (row.0 ∷ []) rows.new history.new result }
 {
     let at = p.bytes;
-    let before = p.tally;
+    let mut tally = p.tally;
     let i = row.0;
     let w = rows[i];
     let link = packed::link(w).0;
@@ -60,11 +61,12 @@ fn cut_row(rows: &mut [u32], history: &mut [u8], p: Progress, row: RowNumber) ->
     rows[i] = packed::relinked(w, Link(0));
     let parent = link - 1;
     history::put_cut(history, at, row, RowNumber(parent));
+    tally.raise_cut();
     Progress {
         number: 0,
         count: p.count,
         bytes: at + history::CUT_SIZE,
-        tally: tally::count_cut(before),
+        tally,
     }
 }
 

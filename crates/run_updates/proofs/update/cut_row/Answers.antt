@@ -18,8 +18,8 @@ put_cut-requires c =
       parent_lt_max_rows = omega (arith, c.link-link.ensures, cut_low c.requires n);
     }
 
-pub count_cut-requires : goal.count_cut-requires
-count_cut-requires c =
+pub raise_cut-requires : goal.raise_cut-requires
+raise_cut-requires c =
     let has_parent : link_in (get_or c.args.rows.now
     c.args.row.0 0) ≡ 0 → ⊥ = λ q. c.if-link-eq0.false (c.link-link.ensures ∙ q) in
     (c.requires.held.history.sum, cut_few c.requires (has_parent))
@@ -28,4 +28,4 @@ pub returns : goal.returns
 returns c =
     let has_parent : link_in (get_or c.args.rows.now
     c.args.row.0 0) ≡ 0 → ⊥ = λ q. c.if-link-eq0.false (c.link-link.ensures ∙ q) in
-    cut_done c.requires (has_parent) c.relinked.ensures c.link-link.ensures c.put_cut.ensures c.count_cut.ensures
+    cut_done c.requires (has_parent) c.relinked.ensures c.link-link.ensures c.put_cut.ensures c.raise_cut.ensures
