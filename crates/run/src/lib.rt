@@ -7,7 +7,6 @@ ghost use Rattle.run.specs.Calls.{ran, run_result, refused_result, result_with};
 use crate::lent::Ended;
 use plan_table::{Refusal, Table, fit};
 use run_areas::area;
-use run_updates::tally;
 use run_updates::tally::Tally;
 
 pub mod lengths;
@@ -34,13 +33,12 @@ pub struct RunResult {
 fn refused(number: u8, place: usize, table: Table) -> RunResult
     ensures { result ≡ refused_result number place table }
 {
-    let none = tally::none();
     RunResult {
         refusal: Refusal { number, place },
         table,
         items: 0,
         bytes: 0,
-        tally: none,
+        tally: Tally::none(),
     }
 }
 

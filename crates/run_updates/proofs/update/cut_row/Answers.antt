@@ -15,10 +15,10 @@ put_cut-requires c =
       parent_lt_max_rows = cut_low c.requires c.link-link.ensures c.if-link-eq0.false;
     }
 
-pub count_cut-requires : goal.count_cut-requires
-count_cut-requires c =
+pub raise_cut-requires : goal.raise_cut-requires
+raise_cut-requires c =
     (c.requires.held.history.sum, cut_few c.requires c.link-link.ensures c.if-link-eq0.false)
 
 pub returns : goal.returns
 returns c =
-    cut_done c.requires c.link-link.ensures c.if-link-eq0.false c.relinked.ensures c.put_cut.ensures c.count_cut.ensures
+    cut_done c.requires c.link-link.ensures c.if-link-eq0.false c.relinked.ensures c.put_cut.ensures c.raise_cut.ensures
