@@ -1,9 +1,7 @@
 // A run on the lent rows of a table that fits, in areas that are long enough.
-ghost use Rattle.std.specs.Prelude.{◌≡◌, true, ℕ, eqb};
-ghost use Rattle.model.specs.Base.{any};
+ghost use Rattle.std.specs.Prelude.{◌≡◌, true};
 ghost use Rattle.model.specs.Call.{areas_fit};
 ghost use Rattle.model.specs.Limits.{max_depth};
-ghost use Rattle.model.specs.Script.{for_kind};
 ghost use Rattle.plan_table.specs.Fitting.{FittingParts};
 ghost use Rattle.plan_table.specs.Packed.{table_of};
 ghost use Rattle.run_operators.specs.Evaluating.{EvalPre, EvalPost};
@@ -29,21 +27,8 @@ pub struct Ended {
     pub tally: Tally,
 }
 
-// Some byte of the script is a for's kind.
-fn may_loop(script: &[u8]) -> bool
-    ensures { result ≡ any (λ (b : ℕ). eqb b for_kind) script.now }
-{
-    let mut k = 0;
-    while k < script.len() {
-        if script[k] == kinds::FOR {
-            return true;
-        }
-        k += 1;
-    }
-    false
-}
-
-// Evaluates an accepted script. The index of the rows is built where the script may loop: without a loop it takes longer than it saves.
+// Evaluates an accepted script. The index of the rows is built where the script may loop, as some byte of it is a for's kind: without a
+// loop it takes longer than it saves.
 fn evaluated(
     script: &[u8],
     env: [Span; Table::BINDERS],
@@ -59,7 +44,7 @@ fn evaluated(
         (machine rows.old history.old work.old (begun (going p) 0 0 env))
         (machine rows.new history.new work.new (came_out result)) }
 {
-    if !may_loop(script) {
+    if !script.contains(&kinds::FOR) {
         let none = [0u16; 1];
         return evaluate::eval(
             script,

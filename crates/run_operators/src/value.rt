@@ -20,14 +20,8 @@ pub fn copied(work: &mut [u16], from: usize, to: usize, top: usize) -> usize
     requires { CopyPre work.old from to top }
     ensures { Appended (value_at work.old from to) work.old top work.new result }
 {
-    let mut k = from;
-    let mut at = top;
-    while k < to {
-        work[at] = work[k];
-        at += 1;
-        k += 1;
-    }
-    at
+    work.copy_within(from..to, top);
+    top + (to - from)
 }
 
 // A document's marked row, as a value from top on.

@@ -2,7 +2,6 @@
 ghost use Rattle.std.specs.Prelude.{◌≡◌};
 ghost use Rattle.run_updates.specs.State.{started, going};
 
-use crate::tally;
 use crate::tally::Tally;
 
 // Rows now; history bytes written; the tally so far.
@@ -18,11 +17,10 @@ impl Progress {
     pub fn start(count: usize) -> Progress
         ensures { going result ≡ started count }
     {
-        let none = tally::none();
         Progress {
             count,
             bytes: 0,
-            tally: none,
+            tally: Tally::none(),
         }
     }
 }

@@ -3,8 +3,8 @@ ghost use Rattle.std.specs.Prelude.{[], ◌∷◌, ◌+◌, ◌<◌, true, false
 ghost use Rattle.run_updates.specs.State.{going, came, Held};
 ghost use Rattle.run_updates.specs.Updating.{NewPre, NewPost, ElementPre, LoosePost, CutPre, DeletePre, DeletePost};
 
+use crate::history;
 use crate::state::Progress;
-use crate::{history, tally};
 use plan_table::{Link, NameNumber, Reason, RowNumber, Table, number, packed};
 
 // Row w more, with its record: 10 when the table is full.
@@ -19,16 +19,17 @@ pub fn new_row(
 {
     let count = p.count;
     let at = p.bytes;
-    let before = p.tally;
+    let mut tally = p.tally;
     if Table::ROWS <= count {
         return Err(Reason::Table);
     }
     rows[count] = w;
     history::put_made(history, at, RowNumber(count), w);
+    tally.raise_made();
     Ok(Progress {
         count: count + 1,
         bytes: at + history::MADE_SIZE,
-        tally: tally::count_made(before),
+        tally,
     })
 }
 
@@ -64,7 +65,7 @@ fn cut_row(rows: &mut [u32], history: &mut [u8], p: Progress, row: RowNumber) ->
     ensures { DeletePost rows.old history.old (going p) (row.0 ∷ []) rows.new history.new (going result) }
 {
     let at = p.bytes;
-    let before = p.tally;
+    let mut tally = p.tally;
     let i = row.0;
     let w = rows[i];
     let link = packed::link(w).0;
@@ -74,10 +75,11 @@ fn cut_row(rows: &mut [u32], history: &mut [u8], p: Progress, row: RowNumber) ->
     rows[i] = packed::relinked(w, Link(0));
     let parent = link - 1;
     history::put_cut(history, at, row, RowNumber(parent));
+    tally.raise_cut();
     Progress {
         count: p.count,
         bytes: at + history::CUT_SIZE,
-        tally: tally::count_cut(before),
+        tally,
     }
 }
 
