@@ -1,14 +1,13 @@
 // A run on the lent rows of a table that fits, in areas that are long enough.
-ghost use Rattle.std.specs.Prelude.{◌≡◌, true, ℕ, eqb};
-ghost use Rattle.model.specs.Base.{any};
+ghost use Rattle.std.specs.Prelude.{◌≡◌, true};
 ghost use Rattle.model.specs.Call.{areas_fit};
 ghost use Rattle.model.specs.Limits.{max_depth};
-ghost use Rattle.model.specs.Script.{for_kind};
 ghost use Rattle.plan_table.specs.Fitting.{FittingParts};
 ghost use Rattle.plan_table.specs.Packed.{table_of};
 ghost use Rattle.run_operators.specs.Evaluating.{EvalPre, EvalPost};
-ghost use Rattle.run_operators.specs.Machine.{frame, machine, begun};
-ghost use Rattle.run.specs.Calls.{ran, run_result, refused_end, result_in, RunPre, RunPost};
+ghost use Rattle.run_operators.specs.Machine.{came_out, frame, machine, begun};
+ghost use Rattle.run_updates.specs.State.{going};
+ghost use Rattle.run.specs.Calls.{ended_by, ran, run_result, result_in, RunPre, RunPost};
 
 use plan_table::{Refusal, Table};
 use run_eval::evaluate;
@@ -16,49 +15,20 @@ use run_operators::record::Evaluated;
 use run_operators::value::Span;
 use run_query::index;
 use run_updates::state::Progress;
-use run_updates::tally;
 use run_updates::tally::Tally;
 use script_records::kinds;
 
-// How a run ended: the refusal; the rows then, the items of the answer, the bytes of the history, the tally.
+// How a run ended that is not refused: the rows then, the items of the answer, the bytes of the history, the tally.
 #[derive(Clone, Copy)]
 pub struct Ended {
-    pub refusal: Refusal,
     pub count: usize,
     pub items: usize,
     pub bytes: usize,
     pub tally: Tally,
 }
 
-// Refused: all else is zero.
-fn refused(number: u8, place: usize) -> Ended
-    ensures { result ≡ refused_end number place }
-{
-    let none = tally::none();
-    Ended {
-        refusal: Refusal { number, place },
-        count: 0,
-        items: 0,
-        bytes: 0,
-        tally: none,
-    }
-}
-
-// Some byte of the script is a for's kind.
-fn may_loop(script: &[u8]) -> bool
-    ensures { result ≡ any (λ (b : ℕ). eqb b for_kind) script.now }
-{
-    let mut k = 0;
-    while k < script.len() {
-        if script[k] == kinds::FOR {
-            return true;
-        }
-        k += 1;
-    }
-    false
-}
-
-// Evaluates an accepted script. The index of the rows is built where the script may loop: without a loop it takes longer than it saves.
+// Evaluates an accepted script. The index of the rows is built where the script may loop, as some byte of it is a for's kind: without a
+// loop it takes longer than it saves.
 fn evaluated(
     script: &[u8],
     env: [Span; Table::BINDERS],
@@ -67,14 +37,14 @@ fn evaluated(
     history: &mut [u8],
     work: &mut [u16],
     p: Progress,
-) -> Evaluated
+) -> Result<Evaluated, Refusal>
     requires { EvalPre script.now max_depth (frame 0 marks.now 0)
-        (machine rows.old history.old work.old (begun p 0 0 env)) }
+        (machine rows.old history.old work.old (begun (going p) 0 0 env)) }
     ensures { EvalPost script.now max_depth (frame 0 marks.now 0)
-        (machine rows.old history.old work.old (begun p 0 0 env))
-        (machine rows.new history.new work.new result) }
+        (machine rows.old history.old work.old (begun (going p) 0 0 env))
+        (machine rows.new history.new work.new (came_out result)) }
 {
-    if !may_loop(script) {
+    if !script.contains(&kinds::FOR) {
         let none = [0u16; 1];
         return evaluate::eval(
             script,
@@ -118,18 +88,15 @@ fn run_in(
     answer: &mut [u16],
     history: &mut [u8],
     work: &mut [u16],
-) -> Ended
+) -> Result<Ended, Refusal>
     requires fitting_parts { FittingParts count rows.old marks.now }
     requires run_pre { RunPre answer.old history.old work.old }
     ensures { RunPost (table_of count rows.old marks.now) script.now answer.old
-        history.old work.old rows.new answer.new history.new result }
+        history.old work.old rows.new answer.new history.new (ended_by result) }
 {
-    let read = script::read_script(script);
-    if read.number != 0 {
-        return refused(read.number, read.place);
-    }
+    script::read_script(script)?;
     let unbound = [Span { start: 0, len: 0 }; Table::BINDERS];
-    let x = evaluated(
+    let x = match evaluated(
         script,
         unbound,
         marks,
@@ -137,25 +104,23 @@ fn run_in(
         history,
         work,
         Progress::start(count),
-    );
-    if x.progress.number != 0 {
-        history.fill(0);
-        return refused(x.progress.number, x.place);
-    }
+    ) {
+        Ok(x) => x,
+        Err(refusal) => {
+            history.fill(0);
+            return Err(refusal);
+        }
+    };
     let items = x.end;
     answer[..items].copy_from_slice(&work[..items]);
     let p = x.progress;
     let tally = p.tally;
-    Ended {
-        refusal: Refusal {
-            number: 0,
-            place: 0,
-        },
+    Ok(Ended {
         count: p.count,
         items,
         bytes: p.bytes,
         tally,
-    }
+    })
 }
 
 // Runs a script on the rows; refused, what they then hold is not said. The areas are left as by the call `run`.
@@ -167,10 +132,10 @@ pub fn fitting(
     answer: &mut [u16],
     history: &mut [u8],
     work: &mut [u16],
-) -> Ended
+) -> Result<Ended, Refusal>
     requires fitting_parts { FittingParts count rows.old marks.now }
     requires work_value { areas_fit answer.old history.old work.old ≡ true }
-    ensures rows_after { result_in (table_of count rows.old marks.now) result rows.new ≡
+    ensures rows_after { result_in (table_of count rows.old marks.now) (ended_by result) rows.new ≡
         run_result (table_of count rows.old marks.now) script.now answer.old
         history.old work.old }
     ensures answer_after { answer.new ≡ (ran (table_of count rows.old marks.now) script.now

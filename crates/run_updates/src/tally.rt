@@ -1,82 +1,60 @@
-// The tally that follows a run: rows made, links cut, records written. The two functions that compute the new numbers take it by value;
-// the two that raise it are lent it by &mut, and the two that callers use lend it to them.
+// The tally that follows a run: rows made, links cut, records written. A run's is lent by &mut to the two thin methods that raise it; they
+// go over the two that compute the new numbers and take it by value: the form that the scope asks for.
 ghost use Rattle.std.specs.Prelude.{◌≡◌};
 ghost use Rattle.run_updates.specs.Tallying.{none_yet, HasRoom, plus_made, plus_cut};
 
-#[derive(Clone, Copy)]
+#[derive(Clone, Copy, Default)]
 pub struct Tally {
     pub made: usize,
     pub cut: usize,
     pub records: usize,
 }
 
-// Nothing is written yet.
-pub fn none() -> Tally
-    ensures { result ≡ none_yet }
-{
-    Tally {
-        made: 0,
-        cut: 0,
-        records: 0,
+impl Tally {
+    // Nothing is written yet.
+    pub fn none() -> Tally
+        ensures { result ≡ none_yet }
+    {
+        Tally::default()
     }
-}
 
-// The numbers after one more row, with its record.
-fn plus_made(tally: Tally) -> Tally
-    requires { HasRoom tally }
-    ensures { result ≡ plus_made tally }
-{
-    Tally {
-        made: tally.made + 1,
-        cut: tally.cut,
-        records: tally.records + 1,
+    // The tally once a row is made, with its record.
+    pub fn count_made(self) -> Tally
+        requires { HasRoom self }
+        ensures { result ≡ plus_made self }
+    {
+        Tally {
+            made: self.made + 1,
+            records: self.records + 1,
+            ..self
+        }
     }
-}
 
-// The numbers after one more cut, with its record.
-fn plus_cut(tally: Tally) -> Tally
-    requires { HasRoom tally }
-    ensures { result ≡ plus_cut tally }
-{
-    Tally {
-        made: tally.made,
-        cut: tally.cut + 1,
-        records: tally.records + 1,
+    // The tally once a link is cut, with its record.
+    pub fn count_cut(self) -> Tally
+        requires { HasRoom self }
+        ensures { result ≡ plus_cut self }
+    {
+        Tally {
+            cut: self.cut + 1,
+            records: self.records + 1,
+            ..self
+        }
     }
-}
 
-// Raises the tally by a row made.
-fn raise_made(tally: &mut Tally)
-    requires { HasRoom tally.old }
-    ensures { tally.new ≡ plus_made tally.old }
-{
-    *tally = plus_made(*tally);
-}
+    // Raises the tally by a row made.
+    pub(crate) fn raise_made(&mut self)
+        requires { HasRoom self.old }
+        ensures { self.new ≡ plus_made self.old }
+    {
+        *self = self.count_made();
+    }
 
-// Raises the tally by a link cut.
-fn raise_cut(tally: &mut Tally)
-    requires { HasRoom tally.old }
-    ensures { tally.new ≡ plus_cut tally.old }
-{
-    *tally = plus_cut(*tally);
-}
-
-// The tally once a row is made.
-pub fn count_made(tally: Tally) -> Tally
-    requires { HasRoom tally }
-    ensures { result ≡ plus_made tally }
-{
-    let mut raised = tally;
-    raise_made(&mut raised);
-    raised
-}
-
-// The tally once a link is cut.
-pub fn count_cut(tally: Tally) -> Tally
-    requires { HasRoom tally }
-    ensures { result ≡ plus_cut tally }
-{
-    let mut raised = tally;
-    raise_cut(&mut raised);
-    raised
+    // Raises the tally by a link cut.
+    pub(crate) fn raise_cut(&mut self)
+        requires { HasRoom self.old }
+        ensures { self.new ≡ plus_cut self.old }
+    {
+        *self = self.count_cut();
+    }
 }

@@ -14,10 +14,10 @@ put_made-requires c =
       w_bound = tag_byte c.args.w c.requires.tag;
     }
 
-pub count_made-requires : goal.count_made-requires
-count_made-requires c =
+pub raise_made-requires : goal.raise_made-requires
+raise_made-requires c =
     (c.requires.held.history.sum, new_few c.requires (omega (arith, c.if-count-ge-ROWS.false)))
 
 pub returns : goal.returns
 returns c =
-    new_made c.requires (omega (arith, c.if-count-ge-ROWS.false)) c.put_made.ensures c.count_made.ensures
+    new_made c.requires (omega (arith, c.if-count-ge-ROWS.false)) c.put_made.ensures c.raise_made.ensures
