@@ -26,7 +26,7 @@ pub fn yegnabit_write_table(count: usize, rows: &[u32], marks: &[u16], out: &mut
     match plan::write_plan(copy::table_of(count, rows, marks), out) {
         Ok(bytes) => answer::code(0, 0, bytes),
         Err(refusal) => match refusal.reason {
-            Reason::Link => answer::code(u8::from(Reason::Link), Whose::Plan as u8, 0),
+            Reason::Link => answer::code(u8::from(refusal.reason), Whose::Plan as u8, 0),
             _ => answer::code(u8::from(refusal.reason), Whose::Area as u8, 0),
         },
     }
