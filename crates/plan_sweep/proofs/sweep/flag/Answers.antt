@@ -1,4 +1,4 @@
-use Rattle.std.proofs.Common.{Bool, List, map, take, refl, sym, subst, ℕ, ◌+◌, arith}
+use Rattle.std.proofs.Common.{Bool, List, map, take, refl, sym, subst, ℕ, ◌-◌, ◌+◌, arith}
 use Rattle.plan_table.proofs.DecodeLaws.{marked_snoc}
 use Rattle.plan_table.proofs.FlagLaws.{flags_none, flags_next}
 use Rattle.plan_table.specs.Packed.{of_link}

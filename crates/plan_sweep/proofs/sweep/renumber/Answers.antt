@@ -1,4 +1,4 @@
-use Rattle.std.proofs.Common.{length-set, get_or, take, drop, set, ℕ, List, ◌++◌, ◌≡◌, ◌∙◌, ap, arith}
+use Rattle.std.proofs.Common.{length-set, get_or, take, drop, set, ℕ, ◌-◌, List, ◌++◌, ◌≡◌, ◌∙◌, ap, arith}
 use Rattle.plan_sweep.proofs.SweepLaws.{links_next, links_at}
 use Rattle.plan_sweep.specs.Sweeping.{new_links}
 use Rattle.plan_sweep.proofs.sweep.renumber.Goals as goal

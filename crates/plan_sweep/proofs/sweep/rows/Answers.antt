@@ -1,4 +1,4 @@
-use Rattle.std.proofs.Common.{length, ap, ◌≤◌, arith, rules}
+use Rattle.std.proofs.Common.{length, ap, ◌≤◌, ◌-◌, arith, rules}
 use Rattle.plan_sweep.proofs.SweepLaws.{sweeping_none, sweeping_next, next_low, link_in_lem, entry_low}
 use Rattle.plan_table.proofs.FittedLaws.{Fits, fits_at, fits_mark}
 use Rattle.plan_sweep.proofs.sweep.rows.Goals as goal
