@@ -2,11 +2,10 @@
 use mathlib.Core.Path.{◌≡◌, refl, ap, sym, subst, ◌∙◌}
 use mathlib.Core.Bool.{true, false}
 use mathlib.Core.List.{List, [], ◌++◌}
-use mathlib.Core.Option.{some}
-use Prim.Native.Nat.{ℕ, zero, suc, ◌+◌, ◌-◌, ◌≤◌}
+use Prim.Native.Nat.{ℕ, zero, suc, ◌-◌, ◌≤◌}
 use native.Mathlib.Omega.{arith}
 use lib.Dec.{leb}
-use lib.ListN.{length, take, drop, replicate, length-take, length-replicate, take-append-drop}
+use lib.ListN.{length, take, drop, replicate, length-replicate, take-append-drop}
 use lib.Seq.{length-take-le}
 use borrow.Author.Tests.{le-leb, leb-true}
 use Rattle.model.specs.Base.{at_front, nothing}
@@ -163,9 +162,6 @@ module _ (t : Table) (b : List ℕ) (e : fits t ≡ true) where
           pub few : s.end ≤ max_items
           few = fine.short
 
-          pub put_asks : (a : List ℕ) → answer_need ≤ length a → length (value_at s.work 0 s.end) ≤ length a
-          put_asks a m = omega (arith, length-take (s.end - 0) (drop 0 s.work), few)
-
           gives_it : outcome_of t b ≡ gives (value_in whole s) (state_in whole s)
           gives_it = goes ∙ yields_gives ran l
 
@@ -189,6 +185,14 @@ module _ (t : Table) (b : List ℕ) (e : fits t ≡ true) where
               let n : s.end ≤ length s.work = omega (arith, fine.size, fine.short) in
               let o : s.end - 0 ≡ s.end = omega arith in
               length_value s.work 0 s.end (omega arith) n ∙ o
+
+          -- the value copied over the answer's front
+          pub put_front : {v : List ℕ} (a : List ℕ) → work_need ≤ length w → v ≡ take s.end s.work →
+              v ++ drop s.end a ≡ at_front (value_at s.work 0 s.end) a
+          put_front a m e =
+              let o : s.end ≡ s.end - 0 = omega arith in
+              ap (λ (u : List ℕ). u ++ drop s.end a) (e ∙ ap (λ (j : ℕ). take j s.work) o) ∙
+              ap (λ (j : ℕ). value_at s.work 0 s.end ++ drop j a) (sym (value_size m))
 
           rows_made : times is_made records ≡ q.tally.made
           rows_made = omega (arith, made_or_cut records, held.history.records, held.history.cuts, held.history.sum)

@@ -11,7 +11,6 @@ ghost use Rattle.run_operators.specs.Machine.{frame, machine, begun};
 ghost use Rattle.run.specs.Calls.{ran, run_result, refused_end, result_in, RunPre, RunPost};
 
 use plan_table::{Refusal, Table};
-use run_areas::area;
 use run_eval::evaluate;
 use run_operators::record::Evaluated;
 use run_operators::value::Span;
@@ -140,11 +139,11 @@ fn run_in(
         Progress::start(count),
     );
     if x.progress.number != 0 {
-        area::clear_bytes(history);
+        history.fill(0);
         return refused(x.progress.number, x.place);
     }
     let items = x.end;
-    area::put(answer, &work[0..items]);
+    answer[..items].copy_from_slice(&work[..items]);
     let p = x.progress;
     let tally = p.tally;
     Ended {
@@ -181,9 +180,9 @@ pub fn fitting(
     ensures work_after { work.new ≡ (ran (table_of count rows.old marks.now) script.now
         answer.old history.old work.old).work }
 {
-    area::clear_numbers(answer);
-    area::clear_bytes(history);
+    answer.fill(0);
+    history.fill(0);
     let ended = run_in(rows, marks, count, script, answer, history, work);
-    area::clear_numbers(work);
+    work.fill(0);
     ended
 }

@@ -6,7 +6,6 @@ ghost use Rattle.run.specs.Calls.{ran, run_result, refused_result, result_with};
 
 use crate::lent::Ended;
 use plan_table::{Refusal, Table, fit};
-use run_areas::area;
 use run_updates::tally;
 use run_updates::tally::Tally;
 
@@ -81,9 +80,9 @@ pub fn run(
     }
     let count = table.count;
     if !fit::fits(count, &table.rows, &table.marks) {
-        area::clear_numbers(answer);
-        area::clear_bytes(history);
-        area::clear_numbers(work);
+        answer.fill(0);
+        history.fill(0);
+        work.fill(0);
         return refused(Refusal::LINK, 0, table);
     }
     let mut rows = table.rows;
