@@ -11,7 +11,7 @@ use Rattle.model.specs.Table as model
 use Rattle.model.specs.History.{Record, made, cut, IsInRange, cut_in, record_bytes, made_size, cut_size}
 use Rattle.model.specs.Run.{State, state, gives, new_row, loose, with_made, cut_row, cut_by, cut_all}
 use Rattle.model.specs.Leads.{Attained}
-use Rattle.model.proofs.LeadsLaws.{new_row_full, new_row_room, attained_row, attained_cut}
+use Rattle.model.proofs.LeadsLaws.{new_row_room, attained_row, attained_cut}
 use Rattle.model.proofs.ListLaws.{drop_next}
 use Rattle.model.specs.Table.{Tree}
 use Rattle.model.proofs.GrowLaws.{tree_with_row, tree_linked}
@@ -25,23 +25,16 @@ use Rattle.plan_table.proofs.DecodeLaws.{decode_row, parent_linked, parent_at}
 use Rattle.plan_table.proofs.LinkLaws.{links_set, links_cut}
 use Rattle.run_updates.specs.Tallying.{plus_made, plus_cut}
 use Rattle.run_updates.specs.declared.tally.Tally.{Tally}
-use Rattle.run_updates.specs.State.{records_in, state_of, Held, After, Updated, refused_with}
+use Rattle.run_updates.specs.State.{Progress, records_in, state_of, Held, After, Updated}
 use Rattle.run_updates.specs.Updating.{NewPre, CutPre, DeletePost}
-use Rattle.run_updates.specs.declared.state.Progress.{Progress}
 use Rattle.run_updates.proofs.HistoryLaws.{recorded_made, recorded_cut}
 use Rattle.run_updates.proofs.StateLaws.{append_room, append_few, append_records, append_after, held_within, held_count}
-use Rattle.run_updates.proofs.StateLaws.{updated_refused, after_self, after_then, outcome_gives}
+use Rattle.run_updates.proofs.StateLaws.{after_self, after_then, outcome_gives}
 
 -- A ROW MADE
 module _ {ws h : List ℕ} {p : Progress} {w : ℕ} (pre : NewPre ws h p w) where
   new_link : link_of (row_of w).parent < link_room
   new_link = omega (arith, link_of_of_link (link_in w))
-
-  pub new_full : max_rows ≤ p.count → {ws' h' : List ℕ} {r : Progress} → r ≡ refused_with p 10 →
-      Updated (λ z s. new_row z (row_of w) s) (p.count ∷ []) ws h p ws' h' r
-  new_full l e =
-      updated_refused 10 (omega arith) e
-      (λ z ms. sym (new_row_full z (row_of w) (state_of ws ms h p) (omega (arith, held_count pre.held ms))))
 
   module _ (l : p.count < max_rows) where
     abbrev entry : Record
@@ -162,12 +155,16 @@ module _ {ws h : List ℕ} {p : Progress} {i : ℕ} (pre : CutPre ws h p i) wher
         after = after_self pre.held;
       }
 
-  module _ (n : link ≡ 0 → ⊥) where
+  -- it has a parent, by the link that the code comes to
+  module _ {l : ℕ} (f : l ≡ link) (some_link : l ≡ 0 → ⊥) where
+    n : link ≡ 0 → ⊥
+    n q = some_link (f ∙ q)
+
     parent_here : (ms : List ℕ) → (model.row_at (decode_parts p.count ws ms) i).parent ≡ some (link - 1)
     parent_here ms = parent_at p.count ws ms (held_within pre.held) i pre.row n
 
-    pub cut_low : link - 1 < max_rows
-    cut_low = omega (arith, (pre.held.tree.parents i (link - 1) (parent_here [])).0, pre.row, pre.held.few)
+    pub cut_low : l - 1 < max_rows
+    cut_low = omega (arith, f, (pre.held.tree.parents i (link - 1) (parent_here [])).0, pre.row, pre.held.few)
 
     abbrev cut_entry : Record
     cut_entry = cut i (link - 1)
@@ -222,12 +219,12 @@ module _ {ws h : List ℕ} {p : Progress} {i : ℕ} (pre : CutPre ws h p i) wher
           after = after_cut;
         }
 
-    pub cut_done : {w' l : ℕ} → w' ≡ cut_packed → l ≡ link → {h' : List ℕ} → h' ≡ over p.bytes (record_bytes (cut i (l - 1))) h →
+    pub cut_done : {w' : ℕ} → w' ≡ cut_packed → {h' : List ℕ} → h' ≡ over p.bytes (record_bytes (cut i (l - 1))) h →
         {t : Tally} → t ≡ plus_cut p.tally → DeletePost ws h p (i ∷ []) (set ws i w') h' (cut_with t)
-    cut_done e f {h'} g {t} n =
+    cut_done e {h'} g {t} m =
         subst (λ (j : ℕ). DeletePost ws h p (i ∷ []) (set ws i j) h' (cut_with t)) (sym e)
         (subst₂ (λ (v : List ℕ) (t : Tally). DeletePost ws h p (i ∷ []) cut_rows v (cut_with t))
-        (sym (g ∙ ap (λ (j : ℕ). over p.bytes (record_bytes (cut i (j - 1))) h) f)) (sym n) deleted_cut)
+        (sym (g ∙ ap (λ (j : ℕ). over p.bytes (record_bytes (cut i (j - 1))) h) f)) (sym m) deleted_cut)
 
 -- A VALUE, row by row: the rest from where it is comes to the whole from the start
 pub record Deleting (ws₀ h₀ : List ℕ) (p₀ : Progress) (v ws h : List ℕ) (p : Progress) (k : ℕ) : Type 0 where
