@@ -1,8 +1,4 @@
-<<<<<<< HEAD
-use Rattle.std.proofs.Common.{length, get_or, take, List, map, ◌≡◌, refl, ◌∙◌, sym, ap, ℕ, ◌+◌, ◌≤◌, arith, rules}
-=======
 use Rattle.std.proofs.Common.{length, get_or, take, List, map, ◌≡◌, ◌∙◌, sym, ap, ℕ, ◌+◌, ◌≤◌, arith}
->>>>>>> h1_main
 use Rattle.plan_writer.proofs.WriteRecordLaws.{length_marks, marks_start, marks_front, marks_grown}
 use Rattle.model.proofs.ListLaws.{over_nil}
 use Rattle.model.specs.Base.{over}
