@@ -1,12 +1,12 @@
 -- `read::row` refuses the row at the front or adds it to the table, by one law of ReadRecordLaws for each way out.
-use Rattle.std.proofs.Common.{List, ℕ, ◌≤◌, ◌<◌, ◌+◌, ◌*◌, eqb, get_or, set, true, false, cond, refl, ◌≡◌, ap, ◌∙◌, sym, arith, rules}
+use Rattle.std.proofs.Common.{List, ℕ, ◌≤◌, ◌+◌, ◌*◌, eqb, get_or, set, true, false, cond, refl, ◌≡◌, ap, ◌∙◌, sym, arith, rules}
 use Rattle.plan_reader.proofs.ReadRecordLaws.{not_accepted, packed_none, packed_some, row_order, row_none, row_child}
 use Rattle.plan_reader.specs.Reading.{last_of}
-use Rattle.plan_table.specs.Packed.{element_bits, leaf_bits, pack_row}
+use Rattle.plan_table.specs.Packed.{element_bits, leaf_bits}
 use Rattle.plan_table.specs.Fitting.{is_element_below}
 use Rattle.plan_table.proofs.DecodeLaws.{below_bound}
 use Rattle.model.specs.Base.{max_byte}
-use Rattle.model.specs.Stored.{element_kind, leaf_kind, no_parent, row_in, number_at}
+use Rattle.model.specs.Stored.{element_kind, leaf_kind, no_parent, number_at}
 use Rattle.plan_reader.proofs.ReadRecordLaws.{link_none, link_some}
 use Rattle.plan_reader.proofs.read.row.Goals as goal
 use Rattle.plan_reader.proofs.read.row.Goals.{Joined-kind-eq-ELEMENT, Else-last-ne0, After-is_lower_element}

@@ -24,4 +24,4 @@ pub returns : goal.returns
 returns c =
     let given : Table = table_of c.args.count c.args.rows.now c.args.marks.now in
     undo_left given c.args.bytes.now c.requires.fits c.in_ok-records.ensures refl c.undo_all.ensures
-    (c.undo_all.auto.rows ∙ c.requires.size.rows)
+    (c.undo_all.auto.rows ∙ c.requires.size.rows) c.form.auto.places
