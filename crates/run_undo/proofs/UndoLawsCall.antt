@@ -36,7 +36,8 @@ module _ (t : Table) (b : List ℕ) where
       form_refused ws z = stops ws r z (form.refused z (decode t))
 
       module _ (z : r.number ≡ 0) where
-        pub undo_pre : length t.rows ≡ max_rows → length m ≡ max_history → AllPre t.rows t.count b (take r.count m) (length (take r.count m))
+        pub undo_pre : length t.rows ≡ max_rows → length m ≡ max_history →
+            AllPre t.rows t.count b (take r.count m) (length (take r.count m))
         undo_pre l p =
             let f = fits_at t.count t.rows t.marks e in
             record {
