@@ -124,6 +124,7 @@ pub fn records(bytes: &[u8], rows: &mut [u32], marks: &mut [u16]) -> Result<usiz
     let mut at = 0;
     let mut count = 0;
     let mut last = 0;
+    // A while: how far on the next record stands is told by this one's kind, which no range or chunk says plainer.
     while at < bytes.len() {
         // Taken before the rows are written: after that the compiler would load it again.
         let kind = bytes[at];

@@ -8,7 +8,7 @@ use native.Mathlib.Numerals.{add-one}
 use native.Mathlib.Omega.{arith}
 use lib.Dec.{eqb}
 use lib.ListN.{length, get_or, take, drop, set, length-set, length-drop, drop_of_length-le}
-use lib.Seq.{get_or-set_same, get_or-set_other, drop-drop}
+use lib.Seq.{get_or-set_same, get_or-set_other, drop-drop, length-take-le, get_or-take}
 use borrow.Author.Tests.{lt-ltb, le-ltb, le-leb, lt-leb, eq-eqb, ne_eqb, eqb-true, eqb-false}
 use Rattle.model.specs.Limits.{max_history, max_name}
 use Rattle.model.specs.Base.{any}
@@ -105,6 +105,22 @@ undoing_set b m n (suc k) v h =
     let e : get_or (set m n v) k 0 ≡ get_or m k 0 = get_or-set_other m n k v 0 (λ q. omega arith) in
     rw (e, undoing_set b m n k v (omega arith))
 
+-- they are told by the places cut off after them
+undoing_front : (b m : List ℕ) (n k : ℕ) → k ≤ n → undoing b (take n m) k ≡ undoing b m k
+unfolding undoing
+undoing_front b m n zero h = refl
+undoing_front b m n (suc j) h =
+    let e : get_or (take n m) j 0 ≡ get_or m j 0 = get_or-take n m j 0 (omega arith) in
+    rw (e, undoing_front b m n j (omega arith))
+
+pub undoing_taken : (b m : List ℕ) (n : ℕ) → n ≤ length m → undoing b (take n m) (length (take n m)) ≡ undoing b m n
+undoing_taken b m n h = ap (undoing b (take n m)) (length-take-le n m h) ∙ undoing_front b m n n (omega arith)
+
+pub whole_taken : (b m : List ℕ) (n : ℕ) → n ≤ length m → Whole b m n → Whole b (take n m) (length (take n m))
+whole_taken b m n h w j l =
+    let f : j < n = omega (arith, length-take-le n m h) in
+    subst (λ (i : ℕ). (i ≤ length b) × IsWhole (drop i b)) (sym (get_or-take n m j 0 f)) (w j f)
+
 pub record Forming (b m : List ℕ) (at n : ℕ) : Type 0 where
   pub within : at ≤ length b
   pub low : cut_size * n ≤ at
@@ -161,7 +177,7 @@ module _ {b m : List ℕ} {at n : ℕ} (c : Forming b m at n) where
     refusals : form_refusal at n (drop at b) ≡ refusal_at r at
     refusals = ap (form_refusal at n) (sym (drop_all b at)) ∙ post.refusal at
 
-    pub forming_refused : (r ≡ 0 → ⊥) → PlacesPost b m (record { number = r; place = at; count = n })
+    pub forming_refused : (r ≡ 0 → ⊥) → PlacesPost b m (record { number = r; place = at; count = 0 })
     unfolding form_from
     forming_refused z =
         record {

@@ -4,17 +4,18 @@ use mathlib.Core.Bool.{true, false}
 use mathlib.Core.List.{List}
 use Prim.Native.Nat.{ℕ}
 use native.Mathlib.Omega.{arith}
-use lib.ListN.{length}
+use lib.ListN.{length, take}
 use Rattle.model.specs.Limits.{max_rows, max_history}
 use Rattle.model.specs.Refusal.{refusal, fine, link_at}
-use Rattle.model.specs.Undo.{Undo, refused, undo}
+use Rattle.model.specs.Undo.{Undo, refused, undo, undo_all}
 use Rattle.model.proofs.BoolLaws.{cond_true, cond_false, cond_eq, cond_ne, eq_cases}
 use Rattle.plan_table.specs.Packed.{decode, fits, table_of}
 use Rattle.plan_table.specs.Results.{with_table, left_by}
 use Rattle.plan_table.specs.declared.Table.{Table}
 use Rattle.plan_table.proofs.PackedLaws.{encode_decode}
 use Rattle.plan_table.proofs.FittedLaws.{fits_at}
-use Rattle.run_undo.specs.Undoing.{undone_by, plan_undone, PlacesPost, AllPre, AllPost}
+use Rattle.run_undo.specs.Undoing.{undone_by, plan_undone, undoing, PlacesPost, AllPre, AllPost}
+use Rattle.run_undo.proofs.UndoLaws.{undoing_taken, whole_taken}
 use Rattle.plan_table.specs.Results.{End}
 
 module _ (t : Table) (b : List ℕ) where
@@ -35,27 +36,28 @@ module _ (t : Table) (b : List ℕ) where
       form_refused ws z = stops ws r z (form.refused z (decode t))
 
       module _ (z : r.number ≡ 0) where
-        pub undo_pre : length t.rows ≡ max_rows → length m ≡ max_history → AllPre t.rows t.count b m r.count
+        pub undo_pre : length t.rows ≡ max_rows → length m ≡ max_history →
+            AllPre t.rows t.count b (take r.count m) (length (take r.count m))
         undo_pre l p =
             let f = fits_at t.count t.rows t.marks e in
             record {
               rows = l;
               few = f.few;
               canonical = f.canonical l;
-              places = p;
-              records = form.few z;
-              whole = form.whole z;
+              whole = whole_taken b m r.count (omega (arith, p, form.few z)) (form.whole z);
             }
 
-        pub undo_left : {ws : List ℕ} {q : End} → AllPost t.rows t.marks t.count b m r.count ws q → length ws ≡ max_rows →
-            left_by t q ws t.marks ≡ plan_undone t b
-        undo_left {ws} {q} post l =
+        pub undo_left : {ws : List ℕ} {q : End} → AllPost t.rows t.marks t.count b (take r.count m) (length (take r.count m)) ws q →
+            length ws ≡ max_rows → length m ≡ max_history → left_by t q ws t.marks ≡ plan_undone t b
+        undo_left {ws} {q} post l p =
+            let taken : undo_all (decode t) (undoing b (take r.count m) (length (take r.count m))) ≡ undo (decode t) b =
+            ap (undo_all (decode t)) (undoing_taken b m r.count (omega (arith, p, form.few z))) ∙ form.fine z (decode t) in
             eq_cases q.number 0
             (λ y.
             cond_eq (with_table fine (table_of q.count ws t.marks)) _ y ∙
             ap (with_table fine) (sym (encode_decode q.count ws t.marks (omega (arith, post.few y)) (post.canonical y))) ∙
-            by_model _ (post.fine y ∙ form.fine z (decode t)))
-            (λ y. stops ws q y (post.refused y ∙ form.fine z (decode t)))
+            by_model _ (post.fine y ∙ taken))
+            (λ y. stops ws q y (post.refused y ∙ taken))
 
   -- and the call that wraps it
   module _ (ws : List ℕ) (q : End) (left : left_by t q ws t.marks ≡ plan_undone t b) where

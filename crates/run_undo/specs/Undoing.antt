@@ -81,8 +81,6 @@ pub record AllPre (ws : List ℕ) (n : ℕ) (b m : List ℕ) (k : ℕ) : Type 0 
   pub rows : length ws ≡ max_rows
   pub few : n ≤ max_rows
   pub canonical : Canonical n ws
-  pub places : length m ≡ max_history
-  pub records : k ≤ max_history
   pub whole : Whole b m k
 
 pub record AllPost (ws ms : List ℕ) (n : ℕ) (b m : List ℕ) (k : ℕ) (ws' : List ℕ) (r : End) : Type 0 where

@@ -44,6 +44,7 @@ fn form(bytes: &[u8], places: &mut [u16]) -> Result<usize, Refusal>
 {
     let mut at = 0;
     let mut records = 0;
+    // A while: how far on the next record stands is told by this one's kind, which no range or chunk says plainer.
     while at < bytes.len() {
         form_refusal(&bytes[at..], records).map_err(|reason| Refusal { reason, place: at })?;
         places[records] = at as u16;
@@ -146,15 +147,14 @@ fn undo_all(
     count: usize,
     bytes: &[u8],
     places: &[u16],
-    records: usize,
 ) -> Result<usize, Refusal>
-    requires { AllPre rows.old count bytes.now places.now records }
-    ensures { AllPost rows.old marks.now count bytes.now places.now records
+    requires { AllPre rows.old count bytes.now places.now (length places.now) }
+    ensures { AllPost rows.old marks.now count bytes.now places.now (length places.now)
         rows.new (end_by result) }
 {
     let mut left = count;
-    for k in (0..records).rev() {
-        let at = number::index(places[k]);
+    for place in places.iter().rev() {
+        let at = number::index(*place);
         left = undo_record(rows, marks, left, &bytes[at..]).map_err(|reason| Refusal {
             reason,
             place: at,
@@ -176,5 +176,5 @@ pub fn fitting(
 {
     let mut places = [0u16; Table::HISTORY_RECORDS];
     let records = form(bytes, &mut places)?;
-    undo_all(rows, marks, count, bytes, &places, records)
+    undo_all(rows, marks, count, bytes, &places[..records])
 }

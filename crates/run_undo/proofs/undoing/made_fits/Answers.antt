@@ -1,12 +1,11 @@
 -- `undoing::made_fits` is the model's test of a made row's record, by one law of UndoLaws for each way out.
-use Rattle.std.proofs.Common.{map, ◌≡◌, sym, ◌∙◌, ap, ℕ, ◌+◌, ◌-◌, rules}
+use Rattle.std.proofs.Common.{map, ◌≡◌, sym, ◌∙◌, ap, ℕ, ◌+◌, rules}
 use Rattle.run_undo.proofs.UndoLaws.{made_parent}
 use Rattle.model.specs.Base.{any}
 use Rattle.model.specs.Table.{is_the}
 use Rattle.model.specs.Stored.{parent_in, number_at}
 use Rattle.model.specs.Undo.{same_parent}
 use Rattle.plan_table.specs.Packed.{of_link}
-use borrow.Author.Tests.{not-false}
 use Rattle.run_undo.proofs.undoing.made_fits.Goals as goal
 
 pub returns : goal.returns
@@ -17,5 +16,5 @@ returns c =
     let x = c.args in
     c.same_parent.ensures ∙ ap (λ (j : ℕ). same_parent (of_link j) (parent_in (number_at x.s.now 4))) c.link.ensures ∙
     sym (made_parent c.requires x.marks.now c.number_at-row.ensures.value (is_last) (marked_by ∙ c.if-is_marked.false)
-    (sym c.same_kind.ensures ∙ not-false c.same_kind.result c.if-not-same_kind.false-raw)
+    (sym c.same_kind.ensures ∙ c.if-not-same_kind.false)
     (sym c.tag.ensures ∙ search (c.if-tag-wide.false, rules) ∙ c.wide.ensures.value))
