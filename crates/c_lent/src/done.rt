@@ -7,7 +7,6 @@ use c_codes::answer;
 use plan_writer::write;
 use run::lengths;
 use run::lent::Ended;
-use run_areas::area;
 
 // The numbers that done needs.
 const DONE: usize = 6;
@@ -46,9 +45,9 @@ pub fn clear(answer: &mut [u16], history: &mut [u8], work: &mut [u16])
     ensures history_after { history.new ≡ replicate (length history.old) 0 }
     ensures work_after { work.new ≡ replicate (length work.old) 0 }
 {
-    area::clear_numbers(answer);
-    area::clear_bytes(history);
-    area::clear_numbers(work);
+    answer.fill(0);
+    history.fill(0);
+    work.fill(0);
 }
 
 // The run is over: refused, out stays and done is zero; else the plan as it then is stands in out, and done has its six numbers.

@@ -26,10 +26,8 @@ fn flag(numbers: &mut [u16], marks: &[u16])
     requires { FlagPre numbers.old marks.now }
     ensures { Flagged marks.now numbers.new }
 {
-    let mut d = 0;
-    while d < marks.len() {
-        flag_one(numbers, Link(number::index(marks[d])));
-        d += 1;
+    for m in marks {
+        flag_one(numbers, Link(number::index(*m)));
     }
 }
 
@@ -73,10 +71,8 @@ fn rows<'a>(
 {
     flag(numbers, marks);
     let mut next = 0;
-    let mut i = 0;
-    while i < count {
+    for i in 0..count {
         next = row(rows[i], RowNumber(i), next, numbers, out);
-        i += 1;
     }
     next
 }
@@ -86,10 +82,8 @@ fn renumber(marks: &mut [u16], numbers: &[u16])
     requires { LinksPre numbers.now marks.old }
     ensures { marks.new ≡ new_links numbers.now marks.old }
 {
-    let mut d = 0;
-    while d < marks.len() {
-        marks[d] = numbers[number::index(marks[d])];
-        d += 1;
+    for m in marks.iter_mut() {
+        *m = numbers[number::index(*m)];
     }
 }
 

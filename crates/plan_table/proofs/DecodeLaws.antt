@@ -1,13 +1,14 @@
 -- What the table decoded from packed rows has: its elements, parents and marks; one mark or one row more.
-use mathlib.Core.Path.{◌≡◌, ap, sym, ◌∙◌}
-use mathlib.Core.Bool.{Bool, true, false, ◌&&◌, ◌||◌, not}
+use mathlib.Core.Path.{◌≡◌, refl, ap, sym, ◌∙◌}
+use mathlib.Core.Bool.{Bool, true, ◌&&◌, ◌||◌, not}
 use mathlib.Core.List.{List, [], ◌∷◌, ◌++◌, map, map-append}
 use mathlib.Core.Option.{some, none}
 use Prim.Native.Nat.{ℕ, ◌+◌, ◌-◌, ◌≤◌, ◌<◌}
 use native.Mathlib.Omega.{arith}
 use lib.Dec.{ltb, eqb}
-use lib.ListN.{length, get_or, set, drop, drop_of_length-le, get_or-map}
+use lib.ListN.{length, get_or, set, get_or-map}
 use borrow.Author.Tests.{lt-ltb, ltb-true, ne_eqb}
+use Rattle.std.specs.List.{list_any}
 use Rattle.model.specs.Base.{any}
 use Rattle.model.specs.Table as model
 use Rattle.model.specs.Stored.{number_bytes, parent_bytes, no_parent}
@@ -15,7 +16,7 @@ use Rattle.model.proofs.BoolLaws.{and_left, by_cases, eq_cases, eqb_iff}
 use Rattle.plan_table.specs.Packed.{link_of, of_link, pack_row, rows_of, decode_parts, kind_in, link_in, leaf_bits, link_room}
 use Rattle.plan_table.specs.Fitting.{is_element_below, is_root_below}
 use Rattle.plan_table.proofs.PackedLaws.{of_link_link_of, count_decode, row_at_decode, rows_of_push, of_link_some}
-use Rattle.model.proofs.ListLaws.{map_set, any_snoc, drop_next}
+use Rattle.model.proofs.ListLaws.{map_set, any_snoc}
 
 -- an element below a bound is below it
 pub below_bound : (ws : List ℕ) (n p : ℕ) → is_element_below ws n p ≡ true → p < n
@@ -67,14 +68,11 @@ is_the_linked k m =
     eq_cases m 0 (λ e. rw e (sym (ne_eqb 0 (k + 1) (λ q. omega arith))))
     (λ z. ap (model.is_the k) (of_link_some m z) ∙ eqb_iff (m - 1) k m (k + 1) (λ e. omega (arith, z)) (λ e. omega arith))
 
-pub marked_turn : (ms : List ℕ) (d k : ℕ) → d < length ms →
-    any (model.is_the k) (map of_link (drop d ms)) ≡ (eqb (get_or ms d 0) (k + 1) || any (model.is_the k) (map of_link (drop (d + 1) ms)))
+pub marked_listed : (ms : List ℕ) (k : ℕ) → list_any (λ m. eqb m (k + 1)) ms ≡ any (model.is_the k) (map of_link ms)
 unfolding any
-marked_turn ms d k h = rw (drop_next ms d 0 h, is_the_linked k (get_or ms d 0))
-
-pub marked_none : (ms : List ℕ) (d k : ℕ) → length ms ≤ d → any (model.is_the k) (map of_link (drop d ms)) ≡ false
-unfolding any
-marked_none ms d k h = rw (drop_of_length-le ms h)
+marked_listed [] k = refl
+marked_listed (m ∷ ms) k =
+    rw (is_the_linked k m) (ap (λ (t : Bool). eqb m (k + 1) || t) (marked_listed ms k))
 
 pub marked_snoc : (ms : List ℕ) (m k : ℕ) →
     any (model.is_the k) (map of_link (ms ++ (m ∷ []))) ≡ (any (model.is_the k) (map of_link ms) || eqb m (k + 1))

@@ -6,9 +6,11 @@ use Prim.Native.Nat.{ℕ, zero, suc, ◌+◌, ◌-◌, ◌≤◌, ◌<◌}
 use native.Mathlib.Omega.{arith}
 use native.Mathlib.Numerals.{add-one}
 use lib.Dec.{ltb, leb, eqb}
-use lib.ListN.{length, get_or, take, drop, drop_of_length-le, length-map}
+use lib.ListN.{length, get_or, take, drop, drop_of_length-le, length-map, length-drop}
 use lib.Seq.{drop-cons}
+use Rattle.std.proofs.Common.{take_all}
 use borrow.Author.Tests.{le-leb, eq-eqb, ne_eqb}
+use Rattle.std.specs.List.{list_all}
 use Rattle.model.specs.Limits.{max_rows, documents}
 use Rattle.model.specs.Base.{is_in, all, any, max_byte}
 use Rattle.model.specs.Table as model
@@ -31,15 +33,12 @@ pub rows_end : (ws : List ℕ) (i n : ℕ) → n ≤ i → rows_fit ws i (n - i)
 unfolding rows_fit
 rows_end ws i n h = let e : n - i ≡ 0 = omega arith in ap (rows_fit ws i) e
 
-pub all_turn : (f : ℕ → Bool) (ws : List ℕ) (i : ℕ) → i < length ws → all f (drop i ws) ≡ (f (get_or ws i 0) && all f (drop (i + 1) ws))
+pub all_listed : (f : ℕ → Bool) (ws : List ℕ) → list_all f ws ≡ all f ws
 unfolding all
-all_turn f ws i h = ap (all f) (drop_next ws i 0 h)
+all_listed f [] = refl
+all_listed f (w ∷ ws) = ap (λ (t : Bool). f w && t) (all_listed f ws)
 
-pub all_end : (f : ℕ → Bool) (ws : List ℕ) (i : ℕ) → length ws ≤ i → all f (drop i ws) ≡ true
-unfolding all
-all_end f ws i h = ap (all f) (drop_of_length-le ws h)
-
-pub marks_turn : (ws : List ℕ) (n : ℕ) (ms : List ℕ) (d : ℕ) → d < length ms →
+marks_turn : (ws : List ℕ) (n : ℕ) (ms : List ℕ) (d : ℕ) → d < length ms →
     marks_fit ws n (drop d ms) ≡
     (mark_fits ws n (get_or ms d 0) && not (is_repeated (get_or ms d 0) (drop (d + 1) ms)) && marks_fit ws n (drop
     (d + 1) ms))
@@ -51,18 +50,41 @@ unfolding marks_fit
 marks_end ws n ms d h = ap (marks_fit ws n) (drop_of_length-le ms h)
 
 -- a mark that stands again behind it, or not
-pub repeated_none : (m : ℕ) (ms : List ℕ) → m ≡ 0 → is_repeated m ms ≡ false
+repeated_none : (m : ℕ) (ms : List ℕ) → m ≡ 0 → is_repeated m ms ≡ false
 repeated_none m ms h = rw h
 
-pub repeated_some : (m : ℕ) (ms : List ℕ) → (m ≡ 0 → ⊥) → is_repeated m ms ≡ any (model.is_the (m - 1)) (map of_link ms)
+repeated_some : (m : ℕ) (ms : List ℕ) → (m ≡ 0 → ⊥) → is_repeated m ms ≡ any (model.is_the (m - 1)) (map of_link ms)
 repeated_some m ms h = rw (ne_eqb m 0 h)
 
-pub marks_go : (ws : List ℕ) (n : ℕ) (ms : List ℕ) (d : ℕ) (z : Bool) → d < length ms → mark_fits ws n (get_or ms d 0) ≡ true →
-    is_repeated (get_or ms d 0) (drop (d + 1) ms) ≡ z → marks_fit ws n (drop d ms) ≡ (not z && marks_fit ws n (drop (d + 1) ms))
-marks_go ws n ms d z h f e =
-    marks_turn ws n ms d h ∙
-    ap (λ (t : Bool). t && not (is_repeated (get_or ms d 0) (drop (d + 1) ms)) && marks_fit ws n (drop (d + 1) ms)) f ∙
-    ap (λ (t : Bool). not t && marks_fit ws n (drop (d + 1) ms)) e
+-- one turn of the check, from what the checks of a mark and of those behind it answer
+module _ (ws : List ℕ) (n : ℕ) (ms : List ℕ) (d : ℕ) (h : d < length ms) (link : ℕ) (here : link ≡ get_or ms d 0) where
+  fitted : (z : Bool) → z ≡ mark_fits ws n link → mark_fits ws n (get_or ms d 0) ≡ z
+  fitted z e = ap (mark_fits ws n) (sym here) ∙ sym e
+
+  turned : (z : Bool) → true ≡ mark_fits ws n link → is_repeated (get_or ms d 0) (drop (d + 1) ms) ≡ z →
+      marks_fit ws n (drop d ms) ≡ (not z && marks_fit ws n (drop (d + 1) ms))
+  turned z f e =
+      marks_turn ws n ms d h ∙
+      ap (λ (t : Bool). t && not (is_repeated (get_or ms d 0) (drop (d + 1) ms)) && marks_fit ws n (drop (d + 1) ms)) (fitted true f) ∙
+      ap (λ (t : Bool). not t && marks_fit ws n (drop (d + 1) ms)) e
+
+  pub marks_unfit : false ≡ mark_fits ws n link → marks_fit ws n (drop d ms) ≡ false
+  marks_unfit f =
+      marks_turn ws n ms d h ∙
+      ap (λ (t : Bool). t && not (is_repeated (get_or ms d 0) (drop (d + 1) ms)) && marks_fit ws n (drop (d + 1) ms)) (fitted false f)
+
+  pub marks_go : (z : Bool) → true ≡ mark_fits ws n link → (link ≡ 0 → ⊥) →
+      z ≡ any (model.is_the (link - 1)) (map of_link (take (length ms - (d + 1)) (drop (d + 1) ms))) →
+      marks_fit ws n (drop d ms) ≡ (not z && marks_fit ws n (drop (d + 1) ms))
+  marks_go z f some e =
+      turned z f
+      (repeated_some (get_or ms d 0) (drop (d + 1) ms) (λ q. some (here ∙ q)) ∙
+      ap (λ (m : ℕ). any (model.is_the (m - 1)) (map of_link (drop (d + 1) ms))) (sym here) ∙
+      ap (λ (l : List ℕ). any (model.is_the (link - 1)) (map of_link l))
+      (sym (take_all (length ms - (d + 1)) (drop (d + 1) ms) (omega (arith, length-drop (d + 1) ms)))) ∙ sym e)
+
+  pub marks_pass : true ≡ mark_fits ws n link → link ≡ 0 → marks_fit ws n (drop d ms) ≡ marks_fit ws n (drop (d + 1) ms)
+  marks_pass f none = turned false f (repeated_none (get_or ms d 0) (drop (d + 1) ms) (sym here ∙ none))
 
 -- ONE ROW: the tag
 tag_kind : (k t : ℕ) → k < 4 →

@@ -85,28 +85,20 @@ fn rows_fit(rows: &[u32], count: usize) -> bool
     requires { count ≤ length rows.now }
     ensures { result ≡ rows_fit rows.now 0 count }
 {
-    let mut i = 0;
-    while i < count {
+    for i in 0..count {
         if !row_fits(rows, RowNumber(i)) {
             return false;
         }
-        i += 1;
     }
     true
 }
 
 // What stands past the count is zero.
 fn rest_zero(rows: &[u32], count: usize) -> bool
+    requires { count ≤ length rows.now }
     ensures { result ≡ all is_zero (drop count rows.now) }
 {
-    let mut i = count;
-    while i < rows.len() {
-        if rows[i] != 0 {
-            return false;
-        }
-        i += 1;
-    }
-    true
+    rows[count..].iter().all(|w| *w == 0)
 }
 
 // A mark fits: none, or an element without parent.
@@ -126,16 +118,14 @@ fn marks_fit(rows: &[u32], count: usize, marks: &[u16]) -> bool
     requires { count ≤ length rows.now }
     ensures { result ≡ marks_fit rows.now count marks.now }
 {
-    let mut d = 0;
-    while d < marks.len() {
-        let link = number::index(marks[d]);
+    for (d, mark) in marks.iter().enumerate() {
+        let link = number::index(*mark);
         if !mark_fits(rows, count, Link(link)) {
             return false;
         }
-        d += 1;
         if link != 0 {
             let row = link - 1;
-            if marks::is_marked(&marks[d..], RowNumber(row)) {
+            if marks::is_marked(&marks[d + 1..], RowNumber(row)) {
                 return false;
             }
         }

@@ -13,12 +13,5 @@ pub fn is_marked(marks: &[u16], row: RowNumber) -> bool
     ensures { result ≡ any (is_the row.0) (map of_link marks.now) }
 {
     let link = (row.0 + 1) as u16;
-    let mut d = 0;
-    while d < marks.len() {
-        if marks[d] == link {
-            return true;
-        }
-        d += 1;
-    }
-    false
+    marks.contains(&link)
 }

@@ -42,10 +42,8 @@ pub fn rows(out: &mut [u8], rows: &[u32], count: usize)
     requires { RowsPre rows.now out.old count }
     ensures { out.new ≡ over 0 (rows_bytes (rows_of count rows.now)) out.old }
 {
-    let mut i = 0;
-    while i < count {
+    for i in 0..count {
         row(out, stored::SIZE * i, rows[i]);
-        i += 1;
     }
 }
 
@@ -76,13 +74,11 @@ pub fn marks(out: &mut [u8], marks: &[u16], start: usize)
     requires { MarksPre marks.now out.old start }
     ensures { out.new ≡ over start (marks_bytes 0 (map of_link marks.now)) out.old }
 {
-    let mut d = 0;
     let mut at = start;
-    while d < marks.len() {
-        let link = number::index(marks[d]);
+    for (d, m) in marks.iter().enumerate() {
+        let link = number::index(*m);
         mark(out, at, d as u8, Link(link));
         at += mark_length(Link(link));
-        d += 1;
     }
 }
 
@@ -92,11 +88,8 @@ pub fn stored_length(count: usize, marks: &[u16]) -> usize
     ensures { result ≡ record_size * count + length (marks_bytes 0 (map of_link marks.now)) }
 {
     let mut n = stored::SIZE * count;
-    let mut d = 0;
-    while d < marks.len() {
-        let link = number::index(marks[d]);
-        n += mark_length(Link(link));
-        d += 1;
+    for m in marks {
+        n += mark_length(Link(number::index(*m)));
     }
     n
 }

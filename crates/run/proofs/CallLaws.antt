@@ -2,11 +2,10 @@
 use mathlib.Core.Path.{◌≡◌, refl, ap, sym, subst, ◌∙◌}
 use mathlib.Core.Bool.{true, false}
 use mathlib.Core.List.{List, [], ◌++◌}
-use mathlib.Core.Option.{some}
-use Prim.Native.Nat.{ℕ, zero, suc, ◌+◌, ◌-◌, ◌≤◌}
+use Prim.Native.Nat.{ℕ, zero, suc, ◌-◌, ◌≤◌}
 use native.Mathlib.Omega.{arith}
 use lib.Dec.{leb}
-use lib.ListN.{length, take, drop, replicate, length-take, length-replicate, take-append-drop}
+use lib.ListN.{length, take, drop, replicate, length-replicate, take-append-drop}
 use lib.Seq.{length-take-le}
 use borrow.Author.Tests.{le-leb, leb-true}
 use Rattle.model.specs.Base.{at_front, nothing}
@@ -24,21 +23,17 @@ use Rattle.script.specs.Reading.{script_read}
 use Rattle.script.proofs.ScriptLaws.{script_accepted, script_parsed, read_refused}
 use Rattle.plan_table.specs.Packed.{encode, decode, decode_parts, table_of, fits}
 use Rattle.plan_table.specs.declared.Table.{Table}
-use Rattle.plan_table.specs.declared.Refusal.{Refusal}
 use Rattle.plan_table.proofs.PackedLaws.{encode_decode}
 use Rattle.plan_table.proofs.FittedLaws.{Fits, fits_at, fits_mark}
-use Rattle.run_updates.specs.State.{records_in, started, state_of, Held}
+use Rattle.run_updates.specs.State.{Progress, records_in, started, state_of, Held}
 use Rattle.run_query.specs.Stepping.{RowsHeld}
 use Rattle.run_query.specs.Values.{value_at}
 use Rattle.run_updates.proofs.StateLaws.{held_start, held_within, state_start}
-use Rattle.run_updates.specs.declared.state.Progress.{Progress}
-use Rattle.run.specs.Calls.{outcome_of, ran, result_of, run_result, refused_result, result_with, result_in, refused_end, RunPre}
+use Rattle.run.specs.Calls.{RunResult, Ended, outcome_of, ran, result_of, run_result, refused_result, result_with, result_in, refused_end, RunPre}
 use Rattle.run.specs.Calls.{RunPost}
 use Rattle.run_operators.specs.Machine.{Machine, Frame, frame, machine, begun, state_in, bound_in, value_in}
 use Rattle.run_operators.specs.Evaluating.{Fine, EvalPre, EvalPost}
 use Rattle.run_operators.specs.declared.value.Span.{Span}
-use Rattle.run.specs.declared.RunResult.{RunResult}
-use Rattle.run.specs.declared.lent.Ended.{Ended}
 use Rattle.run_operators.proofs.ValueLaws.{length_value}
 use Rattle.run_operators.proofs.YieldLaws.{yields_gives, yields_refused}
 
@@ -55,7 +50,7 @@ drop_zeros (suc k) (suc n) z =
     drop_zeros k n z ∙ ap (λ (j : ℕ). replicate j z) (sym e)
 
 -- REFUSED
-abbrev with_table : Refusal → Table → RunResult
+abbrev with_table : refusal.Refusal → Table → RunResult
 with_table f t = record { refusal = f; table = t; items = 0; bytes = 0; tally = record { made = 0; cut = 0; records = 0 } }
 
 module _ (t : Table) (b : List ℕ) (a h w : ℕ) (n i : ℕ) (some : n ≡ 0 → ⊥) (is : outcome_of t b ≡ refused (refusal.refusal n i)) where
@@ -94,8 +89,8 @@ module _ (t : Table) (b : List ℕ) (a h w : ℕ) (n i : ℕ) (some : n ≡ 0 �
           ap (λ (j : ℕ). ran_by (decode t) (length zs) (length hs) j (outcome_of t b)) (sym lw)
 
 -- 6, and the script's own refusal
-pub accepted_by : (b : List ℕ) {f : Refusal} → f ≡ script_read b → f.number ≡ 0 → (script_read b).number ≡ 0
-accepted_by b is k = ap (λ (x : Refusal). x.number) (sym is) ∙ k
+pub accepted_by : (b : List ℕ) {f : refusal.Refusal} → f ≡ script_read b → f.number ≡ 0 → (script_read b).number ≡ 0
+accepted_by b is k = ap (λ (x : refusal.Refusal). x.number) (sym is) ∙ k
 
 pub ill_formed : (t : Table) (b : List ℕ) → fits t ≡ false → outcome_of t b ≡ refused (refusal.refusal 6 0)
 ill_formed t b e = cond_false (fits t) (run_by (decode t) (read_script b)) (refused (refusal.link_at 0)) e
@@ -108,11 +103,11 @@ module _ (t : Table) (b : List ℕ) (e : fits t ≡ true) where
       outcome_of t b ≡ refused (refusal.refusal (script_read b).number (script_read b).place)
   script_refuses k = formed ∙ ap (run_by (decode t)) (read_refused b k)
 
-  pub refuses_by : {f : Refusal} → f ≡ script_read b → (f.number ≡ 0 → ⊥) →
+  pub refuses_by : {f : refusal.Refusal} → f ≡ script_read b → (f.number ≡ 0 → ⊥) →
       outcome_of t b ≡ refused (refusal.refusal f.number f.place)
   refuses_by is k =
-      script_refuses (λ e. k (ap (λ (x : Refusal). x.number) is ∙ e)) ∙
-      ap (λ (x : Refusal). refused (refusal.refusal x.number x.place)) (sym is)
+      script_refuses (λ e. k (ap (λ (x : refusal.Refusal). x.number) is ∙ e)) ∙
+      ap (λ (x : refusal.Refusal). refused (refusal.refusal x.number x.place)) (sym is)
 
   -- THE EVALUATOR on an accepted script
   module _ (k : (script_read b).number ≡ 0) where
@@ -163,9 +158,6 @@ module _ (t : Table) (b : List ℕ) (e : fits t ≡ true) where
           pub few : s.end ≤ max_items
           few = fine.short
 
-          pub put_asks : (a : List ℕ) → answer_need ≤ length a → length (value_at s.work 0 s.end) ≤ length a
-          put_asks a m = omega (arith, length-take (s.end - 0) (drop 0 s.work), few)
-
           gives_it : outcome_of t b ≡ gives (value_in whole s) (state_in whole s)
           gives_it = goes ∙ yields_gives ran l
 
@@ -189,6 +181,14 @@ module _ (t : Table) (b : List ℕ) (e : fits t ≡ true) where
               let n : s.end ≤ length s.work = omega (arith, fine.size, fine.short) in
               let o : s.end - 0 ≡ s.end = omega arith in
               length_value s.work 0 s.end (omega arith) n ∙ o
+
+          -- the value copied over the answer's front
+          pub put_front : {v : List ℕ} (a : List ℕ) → work_need ≤ length w → v ≡ take s.end s.work →
+              v ++ drop s.end a ≡ at_front (value_at s.work 0 s.end) a
+          put_front a m e =
+              let o : s.end ≡ s.end - 0 = omega arith in
+              ap (λ (u : List ℕ). u ++ drop s.end a) (e ∙ ap (λ (j : ℕ). take j s.work) o) ∙
+              ap (λ (j : ℕ). value_at s.work 0 s.end ++ drop j a) (sym (value_size m))
 
           rows_made : times is_made records ≡ q.tally.made
           rows_made = omega (arith, made_or_cut records, held.history.records, held.history.cuts, held.history.sum)

@@ -20,11 +20,9 @@ use Rattle.plan_table.specs.Packed.{encode, decode, table_of, fits}
 use Rattle.plan_table.specs.declared.Table.{Table}
 use Rattle.plan_table.proofs.FittedLaws.{well_decode}
 use Rattle.plan_table.proofs.EncodeLaws.{decode_encode, fits_encode}
-use Rattle.run.specs.Calls.{outcome_of, ran, result_of, run_result, result_in}
+use Rattle.run.specs.Calls.{RunResult, Ended, outcome_of, ran, result_of, run_result, result_in}
 use Rattle.run.specs.Promise.{RunsAsCalled, RunsUnfit, RunsOn, RunsFit, RefusedGivesBack, RefusedLeaves, RunsCommute, ran_in}
 use Rattle.run.specs.Promise.{table_after}
-use Rattle.run.specs.declared.RunResult.{RunResult}
-use Rattle.run.specs.declared.lent.Ended.{Ended}
 use Rattle.run.proofs.CallLaws.{back_fine}
 use Rattle.run.proofs.OutcomeLaws.{Refuses, outcome_refuses}
 use Rattle.model.proofs.RunsBack.{run_by_back}

@@ -1,21 +1,40 @@
 -- What a run answers, for every input, and leaves in the lent areas.
-use Rattle.std.specs.Prelude.{◌≡◌, cond, List, ℕ, ◌≤◌, eqb, length, replicate}
+use Rattle.std.specs.Prelude.{◌≡◌, cond, List, ℕ, ◌≤◌, eqb, length, replicate, Result, Ok, Err}
 use Rattle.model.specs.Limits.{answer_need, history_need, work_need}
 use Rattle.model.specs.Refusal as refusal
 use Rattle.model.specs.Script.{read_script}
 use Rattle.model.specs.Run.{Out, refused}
-use Rattle.model.specs.Call.{Ran, ran_by, in_areas, run_by}
+use Rattle.model.specs.Call.{Ran, ran_by, in_areas}
+use Rattle.model.specs.Call as call
 use Rattle.plan_table.specs.Packed.{encode, decode, table_of, fits}
 use Rattle.plan_table.specs.Results.{refusal_of}
+use Rattle.plan_table.specs.Refusals.{number_of}
+use Rattle.plan_table.specs.declared.Refusal.{Refusal}
 use Rattle.plan_table.specs.declared.Table.{Table}
 use Rattle.run_updates.specs.Tallying.{none_yet}
 use Rattle.run_updates.specs.declared.tally.Tally.{Tally}
-use Rattle.run.specs.declared.RunResult.{RunResult}
-use Rattle.run.specs.declared.lent.Ended.{Ended}
+use Rattle.run.specs.declared.RunResult as whole
+use Rattle.run.specs.declared.lent.Ended as lent
+
+-- WHAT A RUN GIVES BACK: the refusal or none, the table, the items of the answer, the bytes of the history, the tally
+pub record RunResult : Type 0 where
+  pub refusal : refusal.Refusal
+  pub table : Table
+  pub items : ℕ
+  pub bytes : ℕ
+  pub tally : Tally
+
+-- HOW IT ENDED on lent rows: the refusal or none; the rows then, the items of the answer, the bytes of the history, the tally
+pub record Ended : Type 0 where
+  pub refusal : refusal.Refusal
+  pub count : ℕ
+  pub items : ℕ
+  pub bytes : ℕ
+  pub tally : Tally
 
 -- THE RUN on a table handed in: 6 at place 0; then the script's own refusal; then the run's
 abbrev pub outcome_of : Table → (script : List ℕ) → Out
-outcome_of t b = cond (fits t) (run_by (decode t) (read_script b)) (refused (refusal.link_at 0))
+outcome_of t b = cond (fits t) (call.run_by (decode t) (read_script b)) (refused (refusal.link_at 0))
 
 -- 11 comes first, and nothing is touched
 abbrev pub ran : Table → (script answer history work : List ℕ) → Ran
@@ -55,6 +74,15 @@ result_in t e ws = result_with e (cond (eqb e.refusal.number 0) (table_of e.coun
 -- refused before or in the run
 abbrev pub refused_end : (number place : ℕ) → Ended
 refused_end n i = record { refusal = record { number = n; place = i }; count = 0; items = 0; bytes = 0; tally = none_yet }
+
+-- what the calls answer, told so: refused, all else is zero, and the table another one
+abbrev pub run_by : Table → Result whole.RunResult Refusal → RunResult
+run_by t (Ok r) = record { refusal = refusal.fine; table = r.table; items = r.items; bytes = r.bytes; tally = r.tally }
+run_by t (Err x) = refused_result (number_of x.reason) x.place t
+
+abbrev pub ended_by : Result lent.Ended Refusal → Ended
+ended_by (Ok e) = record { refusal = refusal.fine; count = e.count; items = e.items; bytes = e.bytes; tally = e.tally }
+ended_by (Err x) = refused_end (number_of x.reason) x.place
 
 -- IN AREAS that fit, answer and history cleared
 pub record RunPre (a h w : List ℕ) : Type 0 where

@@ -7,42 +7,26 @@ ghost use Rattle.model.specs.Script.{for_kind};
 ghost use Rattle.plan_table.specs.Fitting.{FittingParts};
 ghost use Rattle.plan_table.specs.Packed.{table_of};
 ghost use Rattle.run_operators.specs.Evaluating.{EvalPre, EvalPost};
-ghost use Rattle.run_operators.specs.Machine.{frame, machine, begun};
-ghost use Rattle.run.specs.Calls.{ran, run_result, refused_end, result_in, RunPre, RunPost};
+ghost use Rattle.run_operators.specs.Machine.{came_out, frame, machine, begun};
+ghost use Rattle.run_updates.specs.State.{going};
+ghost use Rattle.run.specs.Calls.{ended_by, ran, run_result, result_in, RunPre, RunPost};
 
 use plan_table::{Refusal, Table};
-use run_areas::area;
 use run_eval::evaluate;
 use run_operators::record::Evaluated;
 use run_operators::value::Span;
 use run_query::index;
 use run_updates::state::Progress;
-use run_updates::tally;
 use run_updates::tally::Tally;
 use script_records::kinds;
 
-// How a run ended: the refusal; the rows then, the items of the answer, the bytes of the history, the tally.
+// How a run ended that is not refused: the rows then, the items of the answer, the bytes of the history, the tally.
 #[derive(Clone, Copy)]
 pub struct Ended {
-    pub refusal: Refusal,
     pub count: usize,
     pub items: usize,
     pub bytes: usize,
     pub tally: Tally,
-}
-
-// Refused: all else is zero.
-fn refused(number: u8, place: usize) -> Ended
-    ensures { result ≡ refused_end number place }
-{
-    let none = tally::none();
-    Ended {
-        refusal: Refusal { number, place },
-        count: 0,
-        items: 0,
-        bytes: 0,
-        tally: none,
-    }
 }
 
 // Some byte of the script is a for's kind.
@@ -68,12 +52,12 @@ fn evaluated(
     history: &mut [u8],
     work: &mut [u16],
     p: Progress,
-) -> Evaluated
+) -> Result<Evaluated, Refusal>
     requires { EvalPre script.now max_depth (frame 0 marks.now 0)
-        (machine rows.old history.old work.old (begun p 0 0 env)) }
+        (machine rows.old history.old work.old (begun (going p) 0 0 env)) }
     ensures { EvalPost script.now max_depth (frame 0 marks.now 0)
-        (machine rows.old history.old work.old (begun p 0 0 env))
-        (machine rows.new history.new work.new result) }
+        (machine rows.old history.old work.old (begun (going p) 0 0 env))
+        (machine rows.new history.new work.new (came_out result)) }
 {
     if !may_loop(script) {
         let none = [0u16; 1];
@@ -119,18 +103,15 @@ fn run_in(
     answer: &mut [u16],
     history: &mut [u8],
     work: &mut [u16],
-) -> Ended
+) -> Result<Ended, Refusal>
     requires fitting_parts { FittingParts count rows.old marks.now }
     requires run_pre { RunPre answer.old history.old work.old }
     ensures { RunPost (table_of count rows.old marks.now) script.now answer.old
-        history.old work.old rows.new answer.new history.new result }
+        history.old work.old rows.new answer.new history.new (ended_by result) }
 {
-    let read = script::read_script(script);
-    if read.number != 0 {
-        return refused(read.number, read.place);
-    }
+    script::read_script(script)?;
     let unbound = [Span { start: 0, len: 0 }; Table::BINDERS];
-    let x = evaluated(
+    let x = match evaluated(
         script,
         unbound,
         marks,
@@ -138,25 +119,23 @@ fn run_in(
         history,
         work,
         Progress::start(count),
-    );
-    if x.progress.number != 0 {
-        area::clear_bytes(history);
-        return refused(x.progress.number, x.place);
-    }
+    ) {
+        Ok(x) => x,
+        Err(refusal) => {
+            history.fill(0);
+            return Err(refusal);
+        }
+    };
     let items = x.end;
-    area::put(answer, &work[0..items]);
+    answer[..items].copy_from_slice(&work[..items]);
     let p = x.progress;
     let tally = p.tally;
-    Ended {
-        refusal: Refusal {
-            number: 0,
-            place: 0,
-        },
+    Ok(Ended {
         count: p.count,
         items,
         bytes: p.bytes,
         tally,
-    }
+    })
 }
 
 // Runs a script on the rows; refused, what they then hold is not said. The areas are left as by the call `run`.
@@ -168,10 +147,10 @@ pub fn fitting(
     answer: &mut [u16],
     history: &mut [u8],
     work: &mut [u16],
-) -> Ended
+) -> Result<Ended, Refusal>
     requires fitting_parts { FittingParts count rows.old marks.now }
     requires work_value { areas_fit answer.old history.old work.old ≡ true }
-    ensures rows_after { result_in (table_of count rows.old marks.now) result rows.new ≡
+    ensures rows_after { result_in (table_of count rows.old marks.now) (ended_by result) rows.new ≡
         run_result (table_of count rows.old marks.now) script.now answer.old
         history.old work.old }
     ensures answer_after { answer.new ≡ (ran (table_of count rows.old marks.now) script.now
@@ -181,9 +160,9 @@ pub fn fitting(
     ensures work_after { work.new ≡ (ran (table_of count rows.old marks.now) script.now
         answer.old history.old work.old).work }
 {
-    area::clear_numbers(answer);
-    area::clear_bytes(history);
+    answer.fill(0);
+    history.fill(0);
     let ended = run_in(rows, marks, count, script, answer, history, work);
-    area::clear_numbers(work);
+    work.fill(0);
     ended
 }

@@ -2,12 +2,9 @@
 #![tactic(auto)]
 
 ghost use Rattle.std.specs.Prelude.{◌≡◌};
-ghost use Rattle.run.specs.Calls.{ran, run_result, refused_result, result_with};
+ghost use Rattle.run.specs.Calls.{ran, run_by, run_result};
 
-use crate::lent::Ended;
-use plan_table::{Refusal, Table, fit};
-use run_areas::area;
-use run_updates::tally;
+use plan_table::{Reason, Refusal, Table, fit};
 use run_updates::tally::Tally;
 
 pub mod lengths;
@@ -20,43 +17,13 @@ pub const HISTORY: usize = 12288;
 
 pub const WORK: usize = 32768;
 
-// What a run gives back: the refusal, the table, the items of the answer, the bytes of the history, the tally.
+// What a run gives back that is not refused: the table, the items of the answer, the bytes of the history, the tally.
 #[derive(Clone, Copy)]
 pub struct RunResult {
-    pub refusal: Refusal,
     pub table: Table,
     pub items: usize,
     pub bytes: usize,
     pub tally: Tally,
-}
-
-// Refused: the table as it was, and a tally of zeros.
-fn refused(number: u8, place: usize, table: Table) -> RunResult
-    ensures { result ≡ refused_result number place table }
-{
-    let none = tally::none();
-    RunResult {
-        refusal: Refusal { number, place },
-        table,
-        items: 0,
-        bytes: 0,
-        tally: none,
-    }
-}
-
-// How a run ended, with the table that it gives back.
-fn given_back(ended: Ended, table: Table) -> RunResult
-    ensures { result ≡ result_with ended table }
-{
-    let refusal = ended.refusal;
-    let tally = ended.tally;
-    RunResult {
-        refusal,
-        table,
-        items: ended.items,
-        bytes: ended.bytes,
-        tally,
-    }
 }
 
 // Runs a script on a table in lent areas. Refused, the table is as it was and all areas are zero, but untouched on 11;
@@ -67,8 +34,8 @@ pub fn run(
     answer: &mut [u16],
     history: &mut [u8],
     work: &mut [u16],
-) -> RunResult
-    ensures value { result ≡ run_result table script.now answer.old history.old work.old }
+) -> Result<RunResult, Refusal>
+    ensures value { run_by table result ≡ run_result table script.now answer.old history.old work.old }
     ensures answer_after { answer.new ≡
         (ran table script.now answer.old history.old work.old).answer }
     ensures history_after { history.new ≡
@@ -77,14 +44,20 @@ pub fn run(
         (ran table script.now answer.old history.old work.old).work }
 {
     if !lengths::fit(answer.len(), history.len(), work.len()) {
-        return refused(Refusal::LENT, 0, table);
+        return Err(Refusal {
+            reason: Reason::Lent,
+            place: 0,
+        });
     }
     let count = table.count;
     if !fit::fits(count, &table.rows, &table.marks) {
-        area::clear_numbers(answer);
-        area::clear_bytes(history);
-        area::clear_numbers(work);
-        return refused(Refusal::LINK, 0, table);
+        answer.fill(0);
+        history.fill(0);
+        work.fill(0);
+        return Err(Refusal {
+            reason: Reason::Link,
+            place: 0,
+        });
     }
     let mut rows = table.rows;
     let ended = lent::fitting(
@@ -95,17 +68,16 @@ pub fn run(
         answer,
         history,
         work,
-    );
-    if ended.refusal.number != 0 {
-        return given_back(ended, table);
-    }
-    let marks = table.marks;
-    given_back(
-        ended,
-        Table {
+    )?;
+    let tally = ended.tally;
+    Ok(RunResult {
+        table: Table {
             count: ended.count,
             rows,
-            marks,
+            marks: table.marks,
         },
-    )
+        items: ended.items,
+        bytes: ended.bytes,
+        tally,
+    })
 }

@@ -11,9 +11,8 @@ use Rattle.script_records.specs.Walk.{inner, end_at, expr_at}
 use Rattle.script.specs.Accepted.{Accepted}
 use Rattle.script.proofs.AcceptedLaws.{accepted_at}
 use Rattle.run_query.specs.Values.{value_at}
-use Rattle.run_operators.specs.Machine.{Machine, Frame, evaluated, came_to, state_in, bound_in, value_in}
+use Rattle.run_operators.specs.Machine.{Evaluated, Machine, Frame, evaluated, came_to, state_in, bound_in, value_in}
 use Rattle.run_operators.specs.Evaluating.{moved_to, EvalPre, EvalPost}
-use Rattle.run_operators.specs.declared.record.Evaluated.{Evaluated}
 use Rattle.run_query.proofs.ValueLaws.{value_none}
 use Rattle.run_operators.proofs.ValueLaws.{length_value}
 use Rattle.run_operators.proofs.YieldLaws.{yields_as, yields_refused, refused_yields, moved_yields, placed_at, yields_from}

@@ -15,12 +15,11 @@ use Rattle.model.proofs.ValueLaws.{are_rows_more}
 use Rattle.model.proofs.All.{all_front, all_back}
 use Rattle.script_records.specs.Walk.{inner, end_at, expr_at}
 use Rattle.run_query.specs.Values.{value_at}
-use Rattle.run_operators.specs.Machine.{Machine, Frame, bound_values, frame, evaluated, came_to, state_in, bound_in, value_in}
+use Rattle.run_operators.specs.Machine.{Evaluated, Machine, Frame, bound_values, frame, evaluated, came_to, state_in, bound_in, value_in}
 use Rattle.run_operators.specs.Evaluating.{InScope, BindPre, BindPost, limited_by, moved_to, BinaryPre, BinaryPost, EvalPre, EvalPost}
 use Rattle.run_eval.specs.Loops.{Loop, loop_of, items_in, body_run, EachPre, EachPost}
 use Rattle.run_eval.specs.Rests.{for_rest, RestPre, RestPost}
 use Rattle.run_operators.specs.declared.value.Span.{Span}
-use Rattle.run_operators.specs.declared.record.Evaluated.{Evaluated}
 use Rattle.run_query.proofs.ValueLaws.{value_none}
 use Rattle.run_operators.proofs.ValueLaws.{value_same, value_one, value_append}
 use Rattle.run_operators.proofs.YieldLaws.{yields_as, yields_gives, yields_refused, refused_yields, moved_yields}

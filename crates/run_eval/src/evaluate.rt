@@ -3,12 +3,13 @@ ghost use Rattle.model.specs.Script.{if_kind, for_kind};
 ghost use Rattle.script_records.specs.Walk.{end_at};
 ghost use Rattle.script.specs.Accepted.{Accepted};
 ghost use Rattle.run_query.specs.Index.{IndexHeld};
-ghost use Rattle.run_operators.specs.Machine.{frame, machine, begun};
+ghost use Rattle.run_updates.specs.State.{going};
+ghost use Rattle.run_operators.specs.Machine.{going_on, came_out, frame, machine, begun};
 ghost use Rattle.run_operators.specs.Evaluating.{EvalPre, EvalPost};
 ghost use Rattle.run_eval.specs.Loops.{loop_of, EachPre, EachPost};
 ghost use Rattle.run_eval.specs.Rests.{binary_rest, for_rest, if_rest, RestPre, RestPost};
 
-use plan_table::Table;
+use plan_table::{Refusal, Table};
 use run_operators::record::Evaluated;
 use run_operators::value::Span;
 use run_operators::{record, value};
@@ -30,12 +31,12 @@ fn binary(
     work: &mut [u16],
     top: usize,
     x: Evaluated,
-) -> Evaluated
-    requires rest_pre { RestPre script.now kind left (frame bound marks.now top) (machine rows.old history.old work.old x) }
+) -> Result<Evaluated, Refusal>
+    requires rest_pre { RestPre script.now kind left (frame bound marks.now top) (machine rows.old history.old work.old (going_on x)) }
     requires index_held { IndexHeld index.now rows.old x.progress.count }
     ensures { RestPost (binary_rest script.now kind at left) (end_at script.now x.place)
-        (frame bound marks.now top) (machine rows.old history.old work.old x)
-        (machine rows.new history.new work.new result) }
+        (frame bound marks.now top) (machine rows.old history.old work.old (going_on x))
+        (machine rows.new history.new work.new (came_out result)) }
 {
     let mid = x.end;
     let scope = x.env;
@@ -45,10 +46,7 @@ fn binary(
     let n = kinds::inner(kind, bound);
     let y = eval(
         script, j, left, n, inside, marks, index, rows, history, work, mid, q,
-    );
-    if y.progress.number != 0 {
-        return y;
-    }
+    )?;
     record::combined(kind, at, rows, history, work, top, mid, y)
 }
 
@@ -65,14 +63,14 @@ fn branch(
     work: &mut [u16],
     top: usize,
     x: Evaluated,
-) -> Evaluated
-    requires rest_pre { RestPre script.now if_kind left (frame bound marks.now top) (machine rows.old history.old work.old x) }
+) -> Result<Evaluated, Refusal>
+    requires rest_pre { RestPre script.now if_kind left (frame bound marks.now top) (machine rows.old history.old work.old (going_on x)) }
     requires accepted { Accepted script.now (end_at script.now x.place) left bound }
     requires index_held { IndexHeld index.now rows.old x.progress.count }
     ensures { RestPost (if_rest script.now left)
         (end_at script.now (end_at script.now x.place))
-        (frame bound marks.now top) (machine rows.old history.old work.old x)
-        (machine rows.new history.new work.new result) }
+        (frame bound marks.now top) (machine rows.old history.old work.old (going_on x))
+        (machine rows.new history.new work.new (came_out result)) }
 {
     let scope = x.env;
     let q = x.progress;
@@ -85,11 +83,8 @@ fn branch(
     let j = x.place;
     let y = eval(
         script, j, left, bound, scope, marks, index, rows, history, work, top, q,
-    );
-    if y.progress.number != 0 {
-        return y;
-    }
-    record::past(script, y)
+    )?;
+    Ok(record::past(script, y))
 }
 
 // A for after its first operand, x: its items stand from top on, its results behind them.
@@ -106,26 +101,23 @@ fn iterate(
     work: &mut [u16],
     top: usize,
     x: Evaluated,
-) -> Evaluated
-    requires rest_pre { RestPre script.now for_kind left (frame bound marks.now top) (machine rows.old history.old work.old x) }
+) -> Result<Evaluated, Refusal>
+    requires rest_pre { RestPre script.now for_kind left (frame bound marks.now top) (machine rows.old history.old work.old (going_on x)) }
     requires index_held { IndexHeld index.now rows.old x.progress.count }
     ensures { RestPost (for_rest script.now at left) (end_at script.now x.place)
-        (frame bound marks.now top) (machine rows.old history.old work.old x)
-        (machine rows.new history.new work.new result) }
+        (frame bound marks.now top) (machine rows.old history.old work.old (going_on x))
+        (machine rows.new history.new work.new (came_out result)) }
 {
     let mid = x.end;
     let scope = x.env;
     let q = x.progress;
     if mid == top {
-        return record::past(script, x);
+        return Ok(record::past(script, x));
     }
     let y = each(
         script, at, x.place, left, bound, scope, marks, index, rows, history, work, top, mid, mid,
         mid, q,
-    );
-    if y.progress.number != 0 {
-        return y;
-    }
+    )?;
     record::combined(kinds::FOR, at, rows, history, work, top, mid, y)
 }
 
@@ -148,29 +140,23 @@ fn each(
     top: usize,
     end: usize,
     p: Progress,
-) -> Evaluated
+) -> Result<Evaluated, Refusal>
     requires each_pre { EachPre script.now left (loop_of place from to) (frame bound marks.now top)
-        (machine rows.old history.old work.old (begun p at end env)) }
+        (machine rows.old history.old work.old (begun (going p) at end env)) }
     requires index_held { IndexHeld index.now rows.old p.count }
     ensures { EachPost script.now left (loop_of place from to) (frame bound marks.now top)
-        (machine rows.old history.old work.old (begun p at end env))
-        (machine rows.new history.new work.new result) }
+        (machine rows.old history.old work.old (begun (going p) at end env))
+        (machine rows.new history.new work.new (came_out result)) }
 {
     let next = from + 1;
     let inside = value::bind(kinds::FOR, env, bound, from, next);
     let n = bound + 1;
     let y = eval(
         script, at, left, n, inside, marks, index, rows, history, work, end, p,
-    );
-    if y.progress.number != 0 {
-        return y;
-    }
-    let first = record::limited(y, top, place);
+    )?;
+    let first = record::limited(y, top, place)?;
     if next == to {
-        return first;
-    }
-    if first.progress.number != 0 {
-        return first;
+        return Ok(first);
     }
     let inner = first.env;
     let r = first.progress;
@@ -178,12 +164,9 @@ fn each(
     let x = each(
         script, place, at, left, bound, inner, marks, index, rows, history, work, next, half, top,
         first.end, r,
-    );
+    )?;
     if half == to {
-        return x;
-    }
-    if x.progress.number != 0 {
-        return x;
+        return Ok(x);
     }
     let scope = x.env;
     let q = x.progress;
@@ -208,13 +191,13 @@ pub fn eval(
     work: &mut [u16],
     top: usize,
     p: Progress,
-) -> Evaluated
+) -> Result<Evaluated, Refusal>
     requires eval_pre { EvalPre script.now left (frame bound marks.now top)
-        (machine rows.old history.old work.old (begun p at top env)) }
+        (machine rows.old history.old work.old (begun (going p) at top env)) }
     requires index_held { IndexHeld index.now rows.old p.count }
     ensures { EvalPost script.now left (frame bound marks.now top)
-        (machine rows.old history.old work.old (begun p at top env))
-        (machine rows.new history.new work.new result) }
+        (machine rows.old history.old work.old (begun (going p) at top env))
+        (machine rows.new history.new work.new (came_out result)) }
 {
     let kind = script[at];
     let operands = kinds::arity(kind);
@@ -227,12 +210,9 @@ pub fn eval(
     let k = left - 1;
     let x = eval(
         script, i, k, bound, env, marks, index, rows, history, work, top, p,
-    );
-    if x.progress.number != 0 {
-        return x;
-    }
+    )?;
     if operands == 1 {
-        return record::applied(script, at, index, rows, history, work, top, x);
+        return Ok(record::applied(script, at, index, rows, history, work, top, x));
     }
     if kind == kinds::IF {
         return branch(script, k, bound, marks, index, rows, history, work, top, x);

@@ -20,10 +20,9 @@ use Rattle.model.specs.Limits.{max_rows, max_links}
 use Rattle.plan_table.specs.Packed.{of_link, row_of, rows_of, is_packed_row, with_link, decode_parts, link_in, link_room}
 use Rattle.plan_table.proofs.PackedLaws.{of_link_link_of, count_decode, row_at_decode, rows_take, row_of_with_link, packed_linked}
 use Rattle.plan_table.proofs.DecodeLaws.{parent_at, link_low}
-use Rattle.run_updates.specs.State.{state_of, outcome, Held, Updated}
+use Rattle.run_updates.specs.State.{Progress, state_of, outcome, Held, Updated}
 use Rattle.run_updates.specs.Updating.{NewPre}
 use Rattle.run_insert.specs.Inserting.{copier, before, next_link, copy_by, IsCopy, Mapped, NextPre, NextPost, no_copy}
-use Rattle.run_updates.specs.declared.state.Progress.{Progress}
 use Rattle.run_updates.proofs.StateLaws.{held_within, held_count, after_self, outcome_gives}
 use Rattle.model.proofs.LeadsLaws.{new_row_full, new_row_room}
 use Rattle.run_insert.proofs.InsertLawsScan.{linked_at}

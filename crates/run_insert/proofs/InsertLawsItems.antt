@@ -1,6 +1,6 @@
 -- Insert's parts: an item with its descendants, all items, and the target's check.
 use mathlib.Core.Path.{◌≡◌, refl, ap, sym, ◌∙◌, subst}
-use mathlib.Core.Bool.{Bool, true, false, ◌&&◌, not}
+use mathlib.Core.Bool.{Bool, true, ◌&&◌, not}
 use mathlib.Core.List.{List, [], ◌∷◌, map}
 use mathlib.Core.Option.{some}
 use Prim.Native.Nat.{ℕ, ◌+◌, ◌-◌, ◌≤◌, ◌<◌}
@@ -13,20 +13,17 @@ use Rattle.model.specs.Table as model
 use Rattle.model.specs.Run.{State, Out, new_row, with_made, then_row, Copied, copy_parent, copy_each}
 use Rattle.model.specs.Run.{descendants_from, subtree, copy_all, inserted}
 use Rattle.model.proofs.BoolLaws.{and_both, cond_true}
-use Rattle.model.proofs.TestLaws.{is_in_at}
 use Rattle.model.proofs.ListLaws.{drop_next}
 use Rattle.model.proofs.TableLaws.{is_element_at, is_element_by}
 use Rattle.model.specs.Limits.{max_rows}
-use Rattle.plan_table.specs.Packed.{of_link, row_of, rows_of, with_link, decode_parts, kind_in, leaf_bits, element_bits}
-use Rattle.plan_table.proofs.PackedLaws.{count_decode, row_at_decode, packed_linked}
+use Rattle.plan_table.specs.Packed.{of_link, row_of, rows_of, with_link, decode_parts, kind_in, leaf_bits}
+use Rattle.plan_table.proofs.PackedLaws.{count_decode, row_at_decode}
 use Rattle.plan_table.proofs.DecodeLaws.{element_kind}
-use Rattle.run_updates.specs.State.{state_of, outcome, After, Updated, refused_with}
+use Rattle.run_updates.specs.State.{Progress, state_of, outcome, After, Updated}
 use Rattle.run_updates.specs.Updating.{NewPre}
 use Rattle.run_insert.specs.Inserting.{before, copied_in, IsCopy, ScanPre, ScanPost, ItemPre, ItemPost, ItemsPre, ItemsPost, no_copy}
 use Rattle.run_insert.specs.Inserting.{Copier, copier, InsertPre}
-use Rattle.run_updates.specs.declared.state.Progress.{Progress}
 use Rattle.run_updates.proofs.StateLaws.{held_within, held_count, after_self, after_then, outcome_gives, then_goes, then_refused}
-use Rattle.run_updates.proofs.StateLaws.{updated_refused}
 use Rattle.run_insert.proofs.InsertLawsScan.{descendants_past}
 use Rattle.run_insert.proofs.InsertLaws.{made_state, made_old, made_copy, target_low, copy_row_lem, copy_pre}
 use Rattle.run_insert.proofs.InsertLaws.{before_decode, row_before, rows_kept}
@@ -249,11 +246,6 @@ module _ {ws₀ h₀ m₀ : List ℕ} {p₀ : Progress} {v : List ℕ} {g : ℕ}
 
 -- THE TARGET, by the tests
 module _ {ws h : List ℕ} {p : Progress} {v w : List ℕ} (pre : InsertPre ws h p v w) where
-  pub insert_many : (length w ≡ 1 → ⊥) → {ws' h' : List ℕ} {r : Progress} → r ≡ refused_with p 7 →
-      Updated (λ z s. inserted z v w s) [] ws h p ws' h' r
-  insert_many n {ws'} {h'} {r} e =
-      updated_refused 7 (omega arith) e (λ z ms. rw (ne_eqb (length w) 1 n))
-
   module _ (one : length w ≡ 1) {g : ℕ} (e : g ≡ get_or w 0 0) where
     pub insert_low : g < p.count
     insert_low = subst (λ (j : ℕ). j < p.count) (sym e) (pre.targets 0 (omega arith))
@@ -262,15 +254,6 @@ module _ {ws h : List ℕ} {p : Progress} {v w : List ℕ} (pre : InsertPre ws h
     kind ms =
         ap (model.is_element (decode_parts p.count ws ms)) (sym e) ∙
         element_kind p.count ws ms (held_within pre.held) g insert_low
-
-    pub insert_leaf : (kind_in (get_or ws g 0) ≡ element_bits → ⊥) → {ws' h' : List ℕ} {r : Progress} → r ≡ refused_with p 7 →
-        Updated (λ z s. inserted z v w s) [] ws h p ws' h' r
-    insert_leaf n {ws'} {h'} {r} f =
-        let packed = packed_linked p.count ws pre.held.canonical (held_within pre.held) g insert_low 0 (omega arith) in
-        let l : kind_in (get_or ws g 0) ≡ leaf_bits =
-        omega (arith, n, is_in_at element_bits leaf_bits (kind_in (with_link (get_or ws g 0) 0)) packed) in
-        updated_refused 7 (omega arith) f
-        (λ z ms. let b : model.is_element (decode_parts p.count ws ms) (get_or w 0 0) ≡ false = kind ms ∙ rw l in rw (one, b))
 
     module _ (l : kind_in (get_or ws g 0) ≡ leaf_bits → ⊥) where
       pub insert_items : {m : List ℕ} → length m ≡ max_rows → ItemsPre v g (copier ws h m p)

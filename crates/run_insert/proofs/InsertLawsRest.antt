@@ -16,10 +16,9 @@ use Rattle.model.proofs.TableLaws.{parent_count}
 use Rattle.model.specs.Limits.{max_rows}
 use Rattle.plan_table.specs.Packed.{of_link, row_of, rows_of, decode_parts, link_in}
 use Rattle.plan_table.proofs.PackedLaws.{count_decode, row_at_decode}
-use Rattle.run_updates.specs.State.{state_of, outcome, Held, After}
-use Rattle.run_insert.specs.Inserting.{Copier, copier, before, copied_in, next_link, copy_by, IsCopy, Mapped, no_copy}
+use Rattle.run_updates.specs.State.{Progress, state_of, outcome, Held, After}
+use Rattle.run_insert.specs.Inserting.{Copier, copier, copied_in, next_link, copy_by, IsCopy, Mapped, no_copy}
 use Rattle.run_insert.specs.Inserting.{NextPre, NextPost, ScanPre, ScanPost}
-use Rattle.run_updates.specs.declared.state.Progress.{Progress}
 use Rattle.run_updates.proofs.StateLaws.{held_within, held_count, after_self, after_then, outcome_gives, then_goes, then_refused}
 use Rattle.run_insert.proofs.InsertLawsScan.{known_next, copy_turn}
 use Rattle.run_insert.proofs.InsertLaws.{before_decode, row_before, rows_kept, next_old, next_mapped}

@@ -5,8 +5,7 @@ use Rattle.model.specs.Table as model
 use Rattle.model.specs.Run.{State, Out, gives, new_row, then_row, Copied, copy_each, descendants_from, subtree, copy_all, inserted}
 use Rattle.plan_table.specs.Flags.{Within}
 use Rattle.plan_table.specs.Packed.{of_link, row_of, rows_of, decode_parts, link_in}
-use Rattle.run_updates.specs.State.{Held, Updated}
-use Rattle.run_updates.specs.declared.state.Progress.{Progress}
+use Rattle.run_updates.specs.State.{Progress, Held, Updated}
 
 -- THE TABLE BEFORE: the first rows of a state's table
 abbrev pub before : (old : ℕ) → State → model.Table

@@ -1,9 +1,10 @@
 // Insert: copies of rows with all their descendants, as the table was before, under a target.
 ghost use Rattle.std.specs.Prelude.{◌≡◌, ◌≤◌, ◌<◌, length};
+ghost use Rattle.run_updates.specs.State.{going, came};
 ghost use Rattle.run_insert.specs.Inserting.{copier, copy_link, NextPre, NextPost, ScanPre, ScanPost, ItemPre, ItemPost};
 ghost use Rattle.run_insert.specs.Inserting.{ItemsPre, ItemsPost, InsertPre, InsertPost};
 
-use plan_table::{Link, Refusal, RowNumber, Table, number, packed};
+use plan_table::{Link, Reason, RowNumber, Table, number, packed};
 use run_updates::state::Progress;
 use run_updates::update;
 
@@ -37,17 +38,17 @@ fn copy_next(
     p: Progress,
     top: RowNumber,
     row: RowNumber,
-) -> Progress
-    requires { NextPre top.0 row.0 (copier rows.old history.old map.old p) }
-    ensures { NextPost top.0 row.0 (copier rows.old history.old map.old p)
-        (copier rows.new history.new map.new result) }
+) -> Result<Progress, Reason>
+    requires { NextPre top.0 row.0 (copier rows.old history.old map.old (going p)) }
+    ensures { NextPost top.0 row.0 (copier rows.old history.old map.old (going p))
+        (copier rows.new history.new map.new (came result)) }
 {
     let j = row.0;
     let w = rows[j];
     let link = copy_link(map, top, packed::link(w));
     if link.0 == 0 {
         map[j] = NO_COPY;
-        return p;
+        return Ok(p);
     }
     let count = p.count;
     map[j] = count as u16;
@@ -62,21 +63,16 @@ fn copy_rest(
     p: Progress,
     old: usize,
     top: RowNumber,
-) -> Progress
-    requires { ScanPre old top.0 (copier rows.old history.old map.old p) }
-    ensures { ScanPost old top.0 (copier rows.old history.old map.old p)
-        (copier rows.new history.new map.new result) }
+) -> Result<Progress, Reason>
+    requires { ScanPre old top.0 (copier rows.old history.old map.old (going p)) }
+    ensures { ScanPost old top.0 (copier rows.old history.old map.old (going p))
+        (copier rows.new history.new map.new (came result)) }
 {
     let mut now = p;
-    let mut j = top.0 + 1;
-    while j < old {
-        now = copy_next(rows, history, map, now, top, RowNumber(j));
-        if now.number != 0 {
-            return now;
-        }
-        j += 1;
+    for j in top.0 + 1..old {
+        now = copy_next(rows, history, map, now, top, RowNumber(j))?;
     }
-    now
+    Ok(now)
 }
 
 // The item top under the target, then its descendants below old.
@@ -88,20 +84,17 @@ fn copy_item(
     old: usize,
     top: RowNumber,
     target: RowNumber,
-) -> Progress
-    requires { ItemPre old top.0 target.0 (copier rows.old history.old map.old p) }
-    ensures { ItemPost old top.0 target.0 (copier rows.old history.old map.old p)
-        (copier rows.new history.new map.new result) }
+) -> Result<Progress, Reason>
+    requires { ItemPre old top.0 target.0 (copier rows.old history.old map.old (going p)) }
+    ensures { ItemPost old top.0 target.0 (copier rows.old history.old map.old (going p))
+        (copier rows.new history.new map.new (came result)) }
 {
     let count = p.count;
     let i = top.0;
     map[i] = count as u16;
     let link = target.0 + 1;
     let w = packed::relinked(rows[i], Link(link));
-    let next = update::new_row(rows, history, p, w);
-    if next.number != 0 {
-        return next;
-    }
+    let next = update::new_row(rows, history, p, w)?;
     copy_rest(rows, history, map, next, old, top)
 }
 
@@ -113,30 +106,25 @@ fn copy_items(
     p: Progress,
     items: &[u16],
     target: RowNumber,
-) -> Progress
-    requires { ItemsPre items.now target.0 (copier rows.old history.old map.old p) }
-    ensures { ItemsPost items.now target.0 (copier rows.old history.old map.old p)
-        (copier rows.new history.new map.new result) }
+) -> Result<Progress, Reason>
+    requires { ItemsPre items.now target.0 (copier rows.old history.old map.old (going p)) }
+    ensures { ItemsPost items.now target.0 (copier rows.old history.old map.old (going p))
+        (copier rows.new history.new map.new (came result)) }
 {
     let old = p.count;
     let mut now = p;
-    let mut k = 0;
-    while k < items.len() {
+    for item in items {
         now = copy_item(
             rows,
             history,
             map,
             now,
             old,
-            RowNumber(number::index(items[k])),
+            RowNumber(number::index(*item)),
             target,
-        );
-        if now.number != 0 {
-            return now;
-        }
-        k += 1;
+        )?;
     }
-    now
+    Ok(now)
 }
 
 // Insert of a value into a target value: 7 where that is not one element, then 10.
@@ -146,17 +134,17 @@ pub fn insert(
     p: Progress,
     items: &[u16],
     targets: &[u16],
-) -> Progress
-    requires { InsertPre rows.old history.old p items.now targets.now }
-    ensures { InsertPost rows.old history.old p items.now targets.now
-        rows.new history.new result }
+) -> Result<Progress, Reason>
+    requires { InsertPre rows.old history.old (going p) items.now targets.now }
+    ensures { InsertPost rows.old history.old (going p) items.now targets.now
+        rows.new history.new (came result) }
 {
     if targets.len() != 1 {
-        return p.refused(Refusal::TARGET);
+        return Err(Reason::Target);
     }
     let target = number::index(targets[0]);
     if packed::kind(rows[target]) == packed::LEAF {
-        return p.refused(Refusal::TARGET);
+        return Err(Reason::Target);
     }
     let mut map = [0u16; Table::ROWS];
     copy_items(rows, history, &mut map, p, items, RowNumber(target))

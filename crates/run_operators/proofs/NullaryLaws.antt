@@ -9,6 +9,7 @@ use native.Mathlib.Omega.{arith}
 use lib.Dec.{ltb, eqb}
 use lib.ListN.{length, get_or, take, drop, length-take, get_or-map}
 use borrow.Author.Tests.{eqb-false}
+use Rattle.std.specs.Prelude.{Err}
 use Rattle.model.specs.Limits.{max_items, max_rows}
 use Rattle.model.specs.Table as model
 use Rattle.model.specs.Script.{nil_kind, document_kind, variable_kind, new_element_kind, new_leaf_kind}
@@ -24,17 +25,17 @@ use Rattle.script.proofs.AcceptedLaws.{accepted_record, accepted_nil, accepted_d
 use Rattle.script.proofs.AcceptedLaws.{accepted_variable, accepted_element, accepted_leaf}
 use Rattle.script.proofs.FieldLaws.{variable_number}
 use Rattle.plan_table.specs.Packed.{of_link, decode_parts}
-use Rattle.run_updates.specs.State.{state_of, Held, Updated}
+use Rattle.plan_table.specs.declared.Reason.{Reason}
+use Rattle.run_updates.specs.State.{Progress, came, state_of, Held, Updated}
 use Rattle.run_updates.specs.Updating.{LoosePost}
 use Rattle.run_query.specs.Values.{value_at, Appended}
 use Rattle.run_updates.proofs.StateLaws.{outcome_gives, held_count}
 use Rattle.run_query.proofs.ValueLaws.{appended_none}
-use Rattle.run_updates.specs.declared.state.Progress.{Progress}
-use Rattle.run_operators.specs.Machine.{Machine, Frame, no_span, span_value, bound_values, machine, came_to, state_in, bound_in}
-use Rattle.run_operators.specs.Evaluating.{CopyPre, ended_by, made_value, Yields, EvalPre, EvalPost}
+use Rattle.run_operators.specs.Machine.{Evaluated, came_out, Machine, Frame, no_span, span_value, bound_values, machine, came_to}
+use Rattle.run_operators.specs.Machine.{state_in, bound_in}
+use Rattle.run_operators.specs.Evaluating.{CopyPre, ended_by, Yields, EvalPre, EvalPost}
 use Rattle.run_operators.specs.declared.value.Span.{Span}
-use Rattle.run_operators.specs.declared.record.Evaluated.{Evaluated}
-use Rattle.run_operators.proofs.YieldLaws.{yields_updated, updated_none, yields_as}
+use Rattle.run_operators.proofs.YieldLaws.{yields_updated, refused_updated, updated_none, yields_as}
 
 -- A NEW ROW has the number next to the rows so far
 count_of : Out → ℕ
@@ -158,42 +159,57 @@ module _ {b : List ℕ} {left : ℕ} {f : Frame} {s : Machine} (pre : EvalPre b 
               length-take ((from + len) - from) (drop from s.work),
             )
 
-  -- new rows
-  module _ {ws' h' w' : List ℕ} {q : Progress} {e : ℕ} (size : length w' ≡ length s.work)
-      (a : Appended (made_value q s.progress.count) s.work f.top w' e) {r : Evaluated}
-      (eq : r ≡ ended_by q s.place (s.place + 2) e s.env) where
-    row_yields : (x : Expr) (k : ℕ) → get_or b at 0 ≡ k → Nullary b at left x → body_size k ≡ 1 → (t : Bool) (tag : ℕ) →
-        LoosePost s.rows s.history s.progress t tag ws' h' q →
-        run x (bound_in f s) (state_in f s) ≡ new_row at (loose t tag) (state_in f s) → EvalPost b left f s (machine ws' h' w' r)
-    row_yields x k is o body t tag up g =
+  -- NEW ROWS
+  module _ {x : Expr} {k : ℕ} (is : get_or b s.place 0 ≡ k) (o : Nullary b s.place left x) (r : model.Row)
+      (runs : run x (bound_in f s) (state_in f s) ≡ new_row s.place r (state_in f s)) {ws' h' w' : List ℕ} where
+    row_refused : (q : Reason) →
+        Updated (λ z s. new_row z r s) (s.progress.count ∷ []) s.rows s.history s.progress ws' h' (came (Err q)) →
+        EvalPost b left f s (machine ws' h' w' (came_out (Err (record { reason = q; place = s.place }))))
+    row_refused q up = from_record x k is o (yields_as (sym runs) refl (refused_updated f s q up w'))
+
+    row_yields : body_size k ≡ 1 → {q : Progress} → q.number ≡ 0 →
+        Updated (λ z s. new_row z r s) (s.progress.count ∷ []) s.rows s.history s.progress ws' h' q → length w' ≡ length s.work →
+        {e : ℕ} → Appended (s.progress.count ∷ []) s.work f.top w' e → {y : Evaluated} →
+        y ≡ ended_by q s.place (s.place + 2) e s.env →
+        EvalPost b left f s (machine ws' h' w' y)
+    row_yields body {q} z up size a eq =
+        let l : s.progress.count < q.count = made_count r pre.held up z in
         from_record x k is o
-        (yields_as (sym g) (ap (λ (j : ℕ). at + (1 + j)) (sym body))
-        (yields_updated f s up a made size (omega (arith, nullary_room)) few rows pre.scope.size eq))
-      where
-        made : q.number ≡ 0 → made_value q s.progress.count ≡ s.progress.count ∷ []
-        made z = cond_eq _ _ z
+        (yields_as (sym runs) (ap (λ (j : ℕ). at + (1 + j)) (sym body))
+        (yields_updated f s up a (λ k. refl) size (omega (arith, nullary_room)) (omega arith) (λ k. also l nothing) pre.scope.size eq))
 
-        few : length (made_value q s.progress.count) ≤ max_items
-        few = cond_cases (λ (v : List ℕ). length v ≤ max_items) (eqb q.number 0) (λ z. omega arith) (λ z. omega arith)
+  module _ (k : get_or b s.place 0 ≡ new_element_kind) {tag : ℕ} (i : tag ≡ get_or b (s.place + 1) 0) where
+    element_runs : run (element at (get_or b (at + 1) 0)) (bound_in f s) (state_in f s) ≡ new_row at (loose false tag) (state_in f s)
+    unfolding run
+    element_runs = ap (λ (j : ℕ). new_row at (loose false j) (state_in f s)) (sym i)
 
-        rows : q.number ≡ 0 → AreRows q.count (made_value q s.progress.count)
-        rows z =
-            let l : s.progress.count < q.count = made_count (loose t tag) pre.held up z in
-            subst (AreRows q.count) (sym (made z)) (also l nothing)
+    module _ {ws' h' w' : List ℕ} where
+      pub element_refused : (q : Reason) → LoosePost s.rows s.history s.progress false tag ws' h' (came (Err q)) →
+          EvalPost b left f s (machine ws' h' w' (came_out (Err (record { reason = q; place = s.place }))))
+      element_refused = row_refused k (accepted_element pre.accepted k) (loose false tag) element_runs
 
-    pub element_yields : get_or b s.place 0 ≡ new_element_kind → {tag : ℕ} → tag ≡ get_or b (s.place + 1) 0 →
-        LoosePost s.rows s.history s.progress false tag ws' h' q → EvalPost b left f s (machine ws' h' w' r)
-    unfolding run script_kinds
-    element_yields k {tag} i up =
-        row_yields (element at (get_or b (at + 1) 0)) new_element_kind k (accepted_element pre.accepted k) refl false tag up
-        (ap (λ (j : ℕ). new_row at (loose false j) (state_in f s)) (sym i))
+      pub element_yields : {q : Progress} → q.number ≡ 0 → LoosePost s.rows s.history s.progress false tag ws' h' q →
+          length w' ≡ length s.work → {e : ℕ} → Appended (s.progress.count ∷ []) s.work f.top w' e → {y : Evaluated} →
+          y ≡ ended_by q s.place (s.place + 2) e s.env → EvalPost b left f s (machine ws' h' w' y)
+      unfolding script_kinds
+      element_yields = row_yields k (accepted_element pre.accepted k) (loose false tag) element_runs refl
 
-    pub leaf_yields : get_or b s.place 0 ≡ new_leaf_kind →
-        LoosePost s.rows s.history s.progress true (get_or b (s.place + 1) 0) ws' h' q →
-        EvalPost b left f s (machine ws' h' w' r)
-    unfolding run script_kinds
-    leaf_yields k up =
-        row_yields (leaf at (get_or b (at + 1) 0)) new_leaf_kind k (accepted_leaf pre.accepted k) refl true (get_or b (at + 1) 0) up refl
+  module _ (k : get_or b s.place 0 ≡ new_leaf_kind) where
+    leaf_runs : run (leaf at (get_or b (at + 1) 0)) (bound_in f s) (state_in f s) ≡
+        new_row at (loose true (get_or b (at + 1) 0)) (state_in f s)
+    unfolding run
+    leaf_runs = refl
+
+    module _ {ws' h' w' : List ℕ} where
+      pub leaf_refused : (q : Reason) → LoosePost s.rows s.history s.progress true (get_or b (s.place + 1) 0) ws' h' (came (Err q)) →
+          EvalPost b left f s (machine ws' h' w' (came_out (Err (record { reason = q; place = s.place }))))
+      leaf_refused = row_refused k (accepted_leaf pre.accepted k) (loose true (get_or b (s.place + 1) 0)) leaf_runs
+
+      pub leaf_yields : {q : Progress} → q.number ≡ 0 → LoosePost s.rows s.history s.progress true (get_or b (s.place + 1) 0) ws' h' q →
+          length w' ≡ length s.work → {e : ℕ} → Appended (s.progress.count ∷ []) s.work f.top w' e → {y : Evaluated} →
+          y ≡ ended_by q s.place (s.place + 2) e s.env → EvalPost b left f s (machine ws' h' w' y)
+      unfolding script_kinds
+      leaf_yields = row_yields k (accepted_leaf pre.accepted k) (loose true (get_or b (s.place + 1) 0)) leaf_runs refl
 
   -- none of the others: a new leaf
   pub last_kind : arity (get_or b s.place 0) ≡ 0 → (get_or b s.place 0 ≡ nil_kind → ⊥) → (get_or b s.place 0 ≡ document_kind → ⊥) →

@@ -6,6 +6,7 @@ use Prim.Native.Nat.{ℕ, suc, ◌+◌, ◌-◌, ◌≤◌, ◌<◌}
 use native.Mathlib.Omega.{arith}
 use lib.ListN.{length, get_or}
 use borrow.Author.Tests.{ne_eqb}
+use Rattle.std.specs.Prelude.{Err}
 use Rattle.model.specs.Limits.{max_items}
 use Rattle.model.specs.Base.{nothing, filtered}
 use Rattle.model.specs.Table as model
@@ -17,20 +18,19 @@ use Rattle.model.proofs.ValueLaws.{collect_rows}
 use Rattle.model.proofs.All.{all_filtered}
 use Rattle.model.proofs.KindLaws.{unary_kind}
 use Rattle.plan_table.specs.Packed.{decode_parts}
-use Rattle.run_updates.specs.State.{Held}
+use Rattle.plan_table.specs.declared.Reason.{Reason}
+use Rattle.run_updates.specs.State.{Progress, came, Held}
 use Rattle.run_updates.specs.Updating.{DeletePre, DeletePost}
 use Rattle.run_insert.specs.Inserting.{InsertPre, InsertPost}
 use Rattle.run_pick.specs.Picking.{PickPre, PickPost}
 use Rattle.run_query.specs.Values.{value_at, Appended, StepPre, StepPost}
 use Rattle.run_updates.proofs.StateLaws.{held_count}
 use Rattle.run_query.proofs.ValueLaws.{appended_none, length_collect}
-use Rattle.run_updates.specs.declared.state.Progress.{Progress}
-use Rattle.run_operators.specs.Machine.{Machine, frame, machine, evaluated, came_to, state_in}
+use Rattle.run_operators.specs.Machine.{Evaluated, came_out, Machine, frame, machine, evaluated, came_to, state_in}
 use Rattle.run_operators.specs.Evaluating.{CopyPre, ended_by, limited_by, ValuePre, UnaryPre, UnaryPost, BinaryPre, BinaryPost}
-use Rattle.run_operators.specs.declared.record.Evaluated.{Evaluated}
 use Rattle.run_operators.proofs.ValueLaws.{length_value, rows_within}
 use Rattle.run_updates.proofs.UpdateLaws.{deleted_updated}
-use Rattle.run_operators.proofs.YieldLaws.{yields_updated, updated_none, yields_as, limited_yields}
+use Rattle.run_operators.proofs.YieldLaws.{yields_updated, refused_updated, updated_none, yields_as, limited_yields}
 
 -- FEW: neither a pick nor a step passes max_items items
 picked_few : (x : model.Table) (r c : ℕ) (v : List ℕ) → length (picked x r c v) ≤ length v
@@ -170,6 +170,11 @@ module _ {top mid : ℕ} {s : Machine} (pre : BinaryPre top mid s) where
       yields_as (rw e) refl
       (yields_updated (frame n ms top) s up (appended_none s.work top) (λ q. refl) refl (omega (arith, pre.order, pre.value.room))
       (omega arith) (λ q. nothing) pre.value.spans eq)
+
+  pub insert_refused : (k at : ℕ) → k ≡ insert_kind → {ws' h' : List ℕ} (q : Reason) →
+      InsertPost s.rows s.history s.progress (value_at s.work top mid) (value_at s.work mid s.end) ws' h' (came (Err q)) →
+      BinaryPost k at top mid s (machine ws' h' s.work (came_out (Err (record { reason = q; place = at }))))
+  insert_refused k at e q up n ms = yields_as (rw e) refl (refused_updated (frame n ms top) s q up s.work)
 
   pub body_yields : (k at : ℕ) → (k ≡ join_kind → ⊥) → (k ≡ insert_kind → ⊥) → {w' : List ℕ} {e : ℕ} → length w' ≡ length s.work →
       Appended (value_at s.work mid s.end) s.work top w' e →

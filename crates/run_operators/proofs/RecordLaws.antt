@@ -1,4 +1,4 @@
--- The small parts of an answer: past a record or refused at it, one item written, a variable bound.
+-- The small parts of an answer: the limit of items, one item written, a variable bound.
 use mathlib.Core.Path.{◌≡◌, ap, sym, subst, ◌∙◌}
 use mathlib.Core.Bool.{true, false}
 use mathlib.Core.Option.{Option, none, some}
@@ -8,36 +8,24 @@ use native.Mathlib.Omega.{arith}
 use lib.Dec.{ltb}
 use lib.ListN.{length, set, length-set}
 use borrow.Author.Tests.{lt-ltb, le-ltb}
+use Rattle.std.specs.Prelude.{Err}
 use Rattle.model.specs.Limits.{max_items}
 use Rattle.model.specs.Script.{is_binder}
 use Rattle.model.specs.Run.{marked}
 use Rattle.model.proofs.BoolLaws.{cond_true, cond_false, cond_eq, cond_ne}
 use Rattle.script_records.proofs.BindLaws.{with_bound_set, with_bound_same}
 use Rattle.plan_table.specs.Packed.{of_link}
-use Rattle.run_updates.specs.State.{refused_with}
+use Rattle.plan_table.specs.declared.Reason.TheVariants.{Items}
 use Rattle.run_query.specs.Values.{Appended}
 use Rattle.run_query.proofs.ValueLaws.{appended_none, appended_if}
-use Rattle.run_updates.specs.declared.state.Progress.{Progress}
-use Rattle.run_operators.specs.Machine.{span_of}
-use Rattle.run_operators.specs.Evaluating.{BindPre, BindPost, ended_by, limited_by, made_value}
+use Rattle.run_operators.specs.Machine.{Evaluated, came_out, span_of}
+use Rattle.run_operators.specs.Evaluating.{BindPre, BindPost, limited_by}
 use Rattle.run_operators.specs.declared.value.Span.{Span}
-use Rattle.run_operators.specs.declared.record.Evaluated.{Evaluated}
-
--- ENDED: refused at the record, or past it
-module _ (p : Progress) (at next end : ℕ) (env : List Span) where
-  abbrev placed : ℕ → Evaluated
-  placed i = record { progress = p; place = i; end = end; env = env }
-
-  pub ended_refused : (p.number ≡ 0 → ⊥) → placed at ≡ ended_by p at next end env
-  ended_refused h = ap placed (sym (cond_ne next at h))
-
-  pub ended_past : p.number ≡ 0 → placed next ≡ ended_by p at next end env
-  ended_past h = ap placed (sym (cond_eq next at h))
 
 -- LIMITED to max_items items
 module _ (x : Evaluated) (top at : ℕ) where
   abbrev over : Evaluated
-  over = record { progress = refused_with x.progress 8; place = at; end = x.end; env = x.env }
+  over = came_out (Err (record { reason = Items; place = at }))
 
   pub limited_few : x.end - top ≤ max_items → limited_by x top at ≡ x
   limited_few h = cond_false (ltb max_items (x.end - top)) over x (le-ltb max_items (x.end - top) h)
@@ -46,7 +34,7 @@ module _ (x : Evaluated) (top at : ℕ) where
   limited_many h = cond_true (ltb max_items (x.end - top)) over x (lt-ltb max_items (x.end - top) h)
 
 -- ONE ITEM written, or none
-appended_one : (w : List ℕ) (top a : ℕ) → top < length w → Appended (a ∷ []) w top (set w top a) (top + 1)
+pub appended_one : (w : List ℕ) (top a : ℕ) → top < length w → Appended (a ∷ []) w top (set w top a) (top + 1)
 appended_one w top a l = appended_if true a [] w w top top l (appended_none w top)
 
 module _ (w : List ℕ) (top : ℕ) where
@@ -58,14 +46,6 @@ module _ (w : List ℕ) (top : ℕ) where
   document_some m h l =
       subst (λ (o : Option ℕ). Appended (marked o) w top (set w top (m - 1)) (top + 1))
       (sym (cond_ne none (some (m - 1)) h)) (appended_one w top (m - 1) l)
-
-  pub made_none : (q : Progress) (row : ℕ) → (q.number ≡ 0 → ⊥) → Appended (made_value q row) w top w top
-  made_none q row h =
-      subst (λ (v : List ℕ). Appended v w top w top) (sym (cond_ne (row ∷ []) [] h)) (appended_none w top)
-
-  pub made_one : (q : Progress) (row : ℕ) → q.number ≡ 0 → top < length w → Appended (made_value q row) w top (set w top row) (top + 1)
-  made_one q row h l =
-      subst (λ (v : List ℕ). Appended v w top (set w top row) (top + 1)) (sym (cond_eq (row ∷ []) [] h)) (appended_one w top row l)
 
 -- BOUND: a binder's first value is one variable more
 module _ (k : ℕ) (env : List Span) (n i j : ℕ) (p : BindPre k env n i j) where

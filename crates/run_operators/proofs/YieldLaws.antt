@@ -6,20 +6,22 @@ use native.Mathlib.Omega.{arith}
 use lib.Dec.{ltb}
 use lib.ListN.{length, take}
 use borrow.Author.Tests.{lt-ltb, le-ltb, ltb-true, ltb-false}
+use Rattle.std.specs.Prelude.{Result, Ok, Err}
+use Rattle.std.specs.Result.{MatchResult, IsErrAnd}
 use Rattle.model.specs.Limits.{max_items, max_binders}
 use Rattle.model.specs.Refusal.{refusal}
 use Rattle.model.specs.Run.{State, Out, refused, gives, join_items, AreRows}
 use Rattle.model.proofs.BoolLaws.{by_cases, cond_true, cond_false, cond_eq, cond_ne, eq_cases}
 use Rattle.model.proofs.ValueLaws.{are_rows_more}
 use Rattle.model.proofs.All.{all_append}
-use Rattle.run_updates.specs.State.{Held, Updated}
+use Rattle.plan_table.specs.declared.Reason.{Reason}
+use Rattle.run_updates.specs.State.{Progress, came, Held, Updated}
 use Rattle.run_query.specs.Values.{value_at, Appended}
-use Rattle.run_updates.proofs.StateLaws.{after_self, after_then, outcome_gives, outcome_refused}
-use Rattle.run_updates.specs.declared.state.Progress.{Progress}
-use Rattle.run_operators.specs.Machine.{Machine, Frame, frame, machine, begun, evaluated, came_to, state_in, value_in, outcome_in}
+use Rattle.run_updates.proofs.StateLaws.{after_self, after_then, outcome_gives, outcome_refused, number_some}
+use Rattle.run_operators.specs.Machine.{Evaluated, came_out, Machine, Frame, frame, machine, begun, evaluated, came_to}
+use Rattle.run_operators.specs.Machine.{state_in, value_in, outcome_in}
 use Rattle.run_operators.specs.Evaluating.{ended_by, limited_by, moved_to, HeldIn, AfterIn, Fine, Yields, ValuePre, BinaryPre}
 use Rattle.run_operators.specs.declared.value.Span.{Span}
-use Rattle.run_operators.specs.declared.record.Evaluated.{Evaluated}
 use Rattle.run_operators.proofs.ValueLaws.{value_same, value_append, length_value, below_same, appended_value, appended_below}
 use Rattle.run_operators.proofs.RecordLaws.{limited_few, limited_many}
 
@@ -62,6 +64,34 @@ module _ (f : Frame) (s : Machine) {g : ℕ → State → Out} {v u ws' h' w' : 
           ap (λ (z : ℕ). refused (refusal q.number z)) (cond_ne next at k) ∙
           sym (outcome_refused at v ws' f.marks h' q k) ∙ up.same at f.marks
 
+-- REFUSED, the areas may be anything
+pub refused_yields : {goal : Out} {next : ℕ} {f : Frame} {s s' : Machine} → (s'.progress.number ≡ 0 → ⊥) →
+    goal ≡ refused (refusal s'.progress.number s'.place) → Yields goal next f s s'
+refused_yields {f = f} {s' = s'} k e =
+    record {
+      same = outcome_refused s'.place (value_in f s') s'.rows f.marks s'.history s'.progress k ∙ sym e;
+      fine = λ q. absurd (k q);
+    }
+
+-- AN UPDATE REFUSED: at its place, whatever the areas are then
+pub refused_updated : (f : Frame) (s : Machine) {g : ℕ → State → Out} {v ws' h' : List ℕ} (r : Reason) →
+    Updated g v s.rows s.history s.progress ws' h' (came (Err r)) → (w' : List ℕ) {at next : ℕ} →
+    Yields (g at (state_in f s)) next f s (machine ws' h' w' (came_out (Err (record { reason = r; place = at }))))
+refused_updated f s {g} {v} {ws'} {h'} r up w' {at} {next} =
+    refused_yields (number_some r)
+    (sym (up.same at f.marks) ∙ outcome_refused at v ws' f.marks h' (came (Err r)) (number_some r))
+
+-- AN ERROR TOLD otherwise, by a closure: what the call returned, from what was made of it
+module _ {A D E : Type 0} (P : D → E → Type 0) where
+  pub told_ok : (r : Result A D) {m : Result A E} {q : A} → MatchResult r (λ x. m ≡ Ok x) (λ e. IsErrAnd m (P e)) → m ≡ Ok q → r ≡ Ok q
+  told_ok (Ok x) h e = cc
+  told_ok (Err y) h e = absurd (subst (λ (m : Result A E). IsErrAnd m (P y)) e h)
+
+  pub told_err : (r : Result A D) {m : Result A E} {e : E} → MatchResult r (λ x. m ≡ Ok x) (λ e. IsErrAnd m (P e)) → m ≡ Err e →
+      (y : D) × (r ≡ Err y) × P y e
+  told_err (Ok x) h e = absurd (subst (λ (m : Result A E). MatchResult m (λ _. Unit {0}) (λ _. ⊥)) (sym h ∙ e) tt)
+  told_err (Err y) h e = (y, refl, subst (λ (m : Result A E). IsErrAnd m (P y)) e h)
+
 -- no update at all
 pub updated_none : {v ws h : List ℕ} {p : Progress} → Held ws h p → Updated (λ z s. gives v s) v ws h p ws h p
 updated_none {v} {ws} {h} {p} held =
@@ -80,15 +110,6 @@ module _ {goal : Out} {next : ℕ} {f : Frame} {s s' : Machine} (y : Yields goal
 
   pub yields_refused : (s'.progress.number ≡ 0 → ⊥) → goal ≡ refused (refusal s'.progress.number s'.place)
   yields_refused k = sym y.same ∙ outcome_refused s'.place (value_in f s') s'.rows f.marks s'.history s'.progress k
-
--- REFUSED, the areas may be anything
-pub refused_yields : {goal : Out} {next : ℕ} {f : Frame} {s s' : Machine} → (s'.progress.number ≡ 0 → ⊥) →
-    goal ≡ refused (refusal s'.progress.number s'.place) → Yields goal next f s s'
-refused_yields {f = f} {s' = s'} k e =
-    record {
-      same = outcome_refused s'.place (value_in f s') s'.rows f.marks s'.history s'.progress k ∙ sym e;
-      fine = λ q. absurd (k q);
-    }
 
 -- MOVED past what follows
 pub moved_yields : {goal : Out} {next : ℕ} {f : Frame} {s s₁ : Machine} (j : ℕ) {r : Evaluated} → Yields goal next f s s₁ →

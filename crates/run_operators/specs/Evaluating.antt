@@ -1,18 +1,16 @@
 -- The evaluator's contracts: what a value in the work area, the variables and the lent areas stand for in the model's run.
-use Rattle.std.specs.Prelude.{◌≡◌, true, cond, ◌⊎◌, List, [], ◌∷◌, ℕ, ◌+◌, ◌*◌, ◌-◌, ◌≤◌, ◌<◌, ltb, eqb, length, get_or, take}
+use Rattle.std.specs.Prelude.{◌≡◌, true, cond, ◌⊎◌, List, [], ◌∷◌, ℕ, ◌+◌, ◌*◌, ◌-◌, ◌≤◌, ◌<◌, ltb, eqb, length, get_or, take, Err}
 use Rattle.model.specs.Limits.{max_items, max_binders, documents}
-use Rattle.model.specs.Refusal.{items_at}
 use Rattle.model.specs.Script.{step_by, step_kind, delete_kind, join_kind, insert_kind, is_script_kind, body_size, arity, is_binder}
 use Rattle.model.specs.Step.{stepped, picked}
 use Rattle.model.specs.Run.{State, Out, gives, cut_all, join_items, inserted, run, AreRows, AreValues}
 use Rattle.script_records.specs.Walk.{inner, with_bound, end_at, expr_at}
 use Rattle.script.specs.Accepted.{Accepted}
-use Rattle.run_updates.specs.State.{refused_with, Held, After}
+use Rattle.plan_table.specs.declared.Reason.TheVariants.{Items}
+use Rattle.run_updates.specs.State.{Progress, Held, After}
 use Rattle.run_query.specs.Values.{value_at}
-use Rattle.run_updates.specs.declared.state.Progress.{Progress}
 use Rattle.run_operators.specs.declared.value.Span.{Span}
-use Rattle.run_operators.specs.declared.record.Evaluated.{Evaluated}
-use Rattle.run_operators.specs.Machine.{max_place, no_span, span_of, bound_values}
+use Rattle.run_operators.specs.Machine.{max_place, no_span, span_of, bound_values, Evaluated, came_out}
 use Rattle.run_operators.specs.Machine.{Machine, Frame, frame, state_in, bound_in, value_in, outcome_in}
 
 -- VARIABLES: a variable's value lies below top
@@ -54,18 +52,13 @@ ended_by p i j e ss = record { progress = p; place = cond (eqb p.number 0) j i; 
 
 -- 8, past the limit of items
 abbrev pub limited_by : Evaluated → (top at : ℕ) → Evaluated
-limited_by x t i =
-    cond (ltb max_items (x.end - t))
-    (record { progress = refused_with x.progress (items_at i).number; place = i; end = x.end; env = x.env }) x
+limited_by x t i = cond (ltb max_items (x.end - t)) (came_out (Err (record { reason = Items; place = i }))) x
 
 -- the same at another place
 abbrev pub moved_to : (place : ℕ) → Evaluated → Evaluated
 moved_to i x = record { progress = x.progress; place = i; end = x.end; env = x.env }
 
--- the value of a new row, where it is not refused
-abbrev pub made_value : Progress → (row : ℕ) → List ℕ
-made_value q i = cond (eqb q.number 0) (i ∷ []) []
-
+-- a value of one row
 pub record PutPre (w : List ℕ) (top row : ℕ) : Type 0 where
   pub room : top < length w
   pub small : row < 65536

@@ -1,11 +1,11 @@
 -- The evaluator as an abstract machine: what it works in, what stays while an expression runs, and what both stand for in the model.
-use Rattle.std.specs.Prelude.{List, map, ℕ, ◌-◌, take, drop}
+use Rattle.std.specs.Prelude.{List, [], map, ℕ, ◌-◌, take, drop, Result, Ok, Err}
 use Rattle.model.specs.Run.{State, Out}
-use Rattle.run_updates.specs.State.{state_of, outcome}
+use Rattle.plan_table.specs.declared.Refusal.{Refusal}
+use Rattle.run_updates.specs.State.{Progress, going, came, state_of, outcome}
 use Rattle.run_query.specs.Values.{value_at}
-use Rattle.run_updates.specs.declared.state.Progress.{Progress}
 use Rattle.run_operators.specs.declared.value.Span.{Span}
-use Rattle.run_operators.specs.declared.record.Evaluated.{Evaluated}
+use Rattle.run_operators.specs.declared.record.Evaluated as declared
 
 -- PLACES in the work area that the evaluator uses are below this, so that two bytes hold one
 abbrev pub max_place : ℕ
@@ -26,6 +26,21 @@ span_value w s = take s.len (drop s.start w)
 -- the values of the variables in scope, the outermost first
 abbrev pub bound_values : (work : List ℕ) → (bound : ℕ) → List Span → List (List ℕ)
 bound_values w n env = map (span_value w) (take n env)
+
+-- AFTER AN EXPRESSION: how far the run has come; the place past it, or of the refusal; the end of its value; the variables
+pub record Evaluated : Type 0 where
+  pub progress : Progress
+  pub place : ℕ
+  pub end : ℕ
+  pub env : List Span
+
+-- as the functions tell it: refused nothing, or for a reason at a place, and then the rest is not known
+abbrev pub going_on : declared.Evaluated → Evaluated
+going_on x = record { progress = going x.progress; place = x.place; end = x.end; env = x.env }
+
+abbrev pub came_out : Result declared.Evaluated Refusal → Evaluated
+came_out (Ok x) = going_on x
+came_out (Err e) = record { progress = came (Err e.reason); place = e.place; end = 0; env = [] }
 
 -- THE MACHINE at one moment: the areas lent to be written, and how far the evaluator has come
 pub record Machine : Type 0 where

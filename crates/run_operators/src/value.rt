@@ -1,12 +1,11 @@
 // Values in the work area: a value stands from a place up to another, a bound variable's is a start and a length.
-ghost use Rattle.std.specs.Prelude.{◌<◌, length, get_or};
+ghost use Rattle.std.specs.Prelude.{[], ◌∷◌, ◌<◌, length, get_or};
 ghost use Rattle.model.specs.Run.{marked};
 ghost use Rattle.plan_table.specs.Packed.{of_link};
 ghost use Rattle.run_query.specs.Values.{Appended, value_at};
-ghost use Rattle.run_operators.specs.Evaluating.{CopyPre, BindPre, BindPost, made_value, PutPre};
+ghost use Rattle.run_operators.specs.Evaluating.{CopyPre, BindPre, BindPost, PutPre};
 
 use plan_table::{RowNumber, Table};
-use run_updates::state::Progress;
 use script_records::kinds;
 
 // A bound variable's value in the work area. Places there fit two bytes, so the eight spans that go from call to call are 32 bytes.
@@ -45,14 +44,11 @@ pub fn document(marks: &[u16], d: usize, work: &mut [u16], top: usize) -> usize
     top + 1
 }
 
-// A new row's number, as a value from top on, where it is not refused.
-pub fn put_row(q: Progress, row: RowNumber, work: &mut [u16], top: usize) -> usize
+// A new row's number, as a value from top on.
+pub fn put_row(row: RowNumber, work: &mut [u16], top: usize) -> usize
     requires { PutPre work.old top row.0 }
-    ensures { Appended (made_value q row.0) work.old top work.new result }
+    ensures { Appended (row.0 ∷ []) work.old top work.new result }
 {
-    if q.number != 0 {
-        return top;
-    }
     work[top] = row.0 as u16;
     top + 1
 }

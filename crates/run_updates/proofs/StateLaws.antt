@@ -19,13 +19,16 @@ use Rattle.model.specs.Table.{Tree}
 use Rattle.model.specs.Base.{nothing, over}
 use Rattle.plan_table.specs.Packed.{decode_parts, parts_fit, Canonical, LinksCut}
 use Rattle.plan_table.proofs.PackedLaws.{count_decode}
+use Rattle.plan_table.specs.Refusals.{number_of}
+use Rattle.plan_table.specs.declared.Reason.{Reason}
+use Rattle.plan_table.specs.declared.Reason.TheVariants.{Kind, Short, Tail, Field, Size, Link, Target, Items, Lent}
+use Rattle.plan_table.specs.declared.Reason.TheVariants as reason
 use Rattle.plan_table.proofs.LinkLaws.{links_same, links_then}
 use Rattle.model.proofs.ListLaws.{length_over}
 use Rattle.model.specs.Limits.{max_rows, history_need}
 use Rattle.plan_table.proofs.FittedLaws.{fits_at}
 use Rattle.run_updates.specs.declared.tally.Tally.{Tally}
-use Rattle.run_updates.specs.State.{records_from, records_in, started, refused_with, state_of, outcome, Recorded, Held, After, Updated}
-use Rattle.run_updates.specs.declared.state.Progress.{Progress}
+use Rattle.run_updates.specs.State.{Progress, records_from, records_in, started, state_of, outcome, Recorded, Held, After, Updated}
 use Rattle.run_updates.proofs.HistoryLaws.{records_in_push, grown_length, grown_records, take_over, drop_over}
 
 -- A RECORD APPENDED to what is held, where the state after it is one come to: so there is room for it
@@ -150,6 +153,19 @@ pub outcome_refused : (z : ℕ) (v ws ms h : List ℕ) (p : Progress) → (p.num
     outcome z v ws ms h p ≡ refused (refusal p.number z)
 outcome_refused z v ws ms h p e = cond_ne _ _ e
 
+-- a reason's number is not that of none
+pub number_some : (r : Reason) → number_of r ≡ 0 → ⊥
+number_some Kind q = omega arith
+number_some Short q = omega arith
+number_some Tail q = omega arith
+number_some Field q = omega arith
+number_some Size q = omega arith
+number_some Link q = omega arith
+number_some Target q = omega arith
+number_some Items q = omega arith
+number_some reason.Table q = omega arith
+number_some Lent q = omega arith
+
 -- an outcome, and then the rest: as the rest goes on from the state
 pub then_goes : (f : State → Out) (z : ℕ) (v ws ms h : List ℕ) (p : Progress) → p.number ≡ 0 → {y : Out} →
     then_row (outcome z v ws ms h p) f ≡ y → f (state_of ws ms h p) ≡ y
@@ -157,16 +173,6 @@ then_goes f z v ws ms h p n e = sym (ap (λ (o : Out). then_row o f) (outcome_gi
 
 -- REFUSED, the areas may be anything
 module _ {f : ℕ → State → Out} {v ws h : List ℕ} {p : Progress} {ws' h' : List ℕ} {r : Progress} where
-  pub updated_refused : (n : ℕ) → 0 < n → r ≡ refused_with p n →
-      ((z : ℕ) (ms : List ℕ) → refused (refusal n z) ≡ f z (state_of ws ms h p)) → Updated f v ws h p ws' h' r
-  updated_refused n some e g =
-      let k : r.number ≡ n = ap (λ (q : Progress). q.number) e in
-      let y : r.number ≡ 0 → ⊥ = λ q. omega arith in
-      record {
-        same = λ z ms. outcome_refused z v ws' ms h' r y ∙ ap (λ (j : ℕ). refused (refusal j z)) k ∙ g z ms;
-        after = λ q. absurd (y q);
-      }
-
   -- then the rest is not reached
   pub then_refused : (g : ℕ → List ℕ → State → Out) (u : List ℕ) → (r.number ≡ 0 → ⊥) →
       ((z : ℕ) (ms : List ℕ) → then_row (outcome z u ws' ms h' r) (g z ms) ≡ f z (state_of ws ms h p)) → Updated f v ws h p ws' h' r

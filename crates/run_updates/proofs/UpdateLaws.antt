@@ -11,7 +11,7 @@ use Rattle.model.specs.Table as model
 use Rattle.model.specs.History.{Record, made, cut, IsInRange, cut_in, record_bytes, made_size, cut_size}
 use Rattle.model.specs.Run.{State, state, gives, new_row, loose, with_made, cut_row, cut_by, cut_all}
 use Rattle.model.specs.Leads.{Attained}
-use Rattle.model.proofs.LeadsLaws.{new_row_full, new_row_room, attained_row, attained_cut}
+use Rattle.model.proofs.LeadsLaws.{new_row_room, attained_row, attained_cut}
 use Rattle.model.proofs.ListLaws.{drop_next}
 use Rattle.model.specs.Table.{Tree}
 use Rattle.model.proofs.GrowLaws.{tree_with_row, tree_linked}
@@ -25,23 +25,16 @@ use Rattle.plan_table.proofs.DecodeLaws.{decode_row, parent_linked, parent_at}
 use Rattle.plan_table.proofs.LinkLaws.{links_set, links_cut}
 use Rattle.run_updates.specs.Tallying.{plus_made, plus_cut}
 use Rattle.run_updates.specs.declared.tally.Tally.{Tally}
-use Rattle.run_updates.specs.State.{records_in, state_of, Held, After, Updated, refused_with}
+use Rattle.run_updates.specs.State.{Progress, records_in, state_of, Held, After, Updated}
 use Rattle.run_updates.specs.Updating.{NewPre, CutPre, DeletePost}
-use Rattle.run_updates.specs.declared.state.Progress.{Progress}
 use Rattle.run_updates.proofs.HistoryLaws.{recorded_made, recorded_cut}
 use Rattle.run_updates.proofs.StateLaws.{append_room, append_few, append_records, append_after, held_within, held_count}
-use Rattle.run_updates.proofs.StateLaws.{updated_refused, after_self, after_then, outcome_gives}
+use Rattle.run_updates.proofs.StateLaws.{after_self, after_then, outcome_gives}
 
 -- A ROW MADE
 module _ {ws h : List ℕ} {p : Progress} {w : ℕ} (pre : NewPre ws h p w) where
   new_link : link_of (row_of w).parent < link_room
   new_link = omega (arith, link_of_of_link (link_in w))
-
-  pub new_full : max_rows ≤ p.count → {ws' h' : List ℕ} {r : Progress} → r ≡ refused_with p 10 →
-      Updated (λ z s. new_row z (row_of w) s) (p.count ∷ []) ws h p ws' h' r
-  new_full l e =
-      updated_refused 10 (omega arith) e
-      (λ z ms. sym (new_row_full z (row_of w) (state_of ws ms h p) (omega (arith, held_count pre.held ms))))
 
   module _ (l : p.count < max_rows) where
     abbrev entry : Record

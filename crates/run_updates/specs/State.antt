@@ -1,5 +1,5 @@
 -- What the updates pass on, and the model's state that it stands for.
-use Rattle.std.specs.Prelude.{◌≡◌, cond, List, [], ◌∷◌, ℕ, zero, suc, ◌+◌, ◌≤◌, eqb, length, get_or, take, drop}
+use Rattle.std.specs.Prelude.{◌≡◌, cond, List, [], ◌∷◌, ℕ, zero, suc, ◌+◌, ◌≤◌, eqb, length, get_or, take, drop, Result, Ok, Err}
 use Rattle.model.specs.Limits.{max_rows, history_need}
 use Rattle.model.specs.Refusal.{refusal}
 use Rattle.model.specs.History.{Record, is_cut, times, AllInRange, history_bytes, history_size, record_in}
@@ -7,9 +7,11 @@ use Rattle.model.specs.Run.{State, state, Out, refused, gives}
 use Rattle.model.specs.Leads.{Attained}
 use Rattle.model.specs.Table.{Tree}
 use Rattle.plan_table.specs.Packed.{decode_parts, Canonical, LinksCut}
+use Rattle.plan_table.specs.Refusals.{number_of}
+use Rattle.plan_table.specs.declared.Reason.{Reason}
 use Rattle.run_updates.specs.Tallying.{none_yet}
 use Rattle.run_updates.specs.declared.tally.Tally.{Tally}
-use Rattle.run_updates.specs.declared.state.Progress.{Progress}
+use Rattle.run_updates.specs.declared.state.Progress as declared
 
 -- RECORDS read off bytes, one after the other; fuel: as many as there are bytes
 unfoldable pub records_from : ℕ → (bytes : List ℕ) → List Record
@@ -19,12 +21,27 @@ records_from (suc k) b = cond (eqb (length b) 0) [] (record_in b ∷ records_fro
 abbrev pub records_in : (bytes : List ℕ) → List Record
 records_in b = records_from (length b) b
 
--- PROGRESS at a run's start, and with a refusal
+-- PROGRESS: the refusal's number, or 0; rows now; history bytes written; the tally so far
+pub record Progress : Type 0 where
+  pub number : ℕ
+  pub count : ℕ
+  pub bytes : ℕ
+  pub tally : Tally
+
+-- at a run's start, and with a refusal
 abbrev pub started : (count : ℕ) → Progress
 started n = record { number = 0; count = n; bytes = 0; tally = none_yet }
 
 abbrev pub refused_with : Progress → (number : ℕ) → Progress
 refused_with p n = record { number = n; count = p.count; bytes = p.bytes; tally = p.tally }
+
+-- as the functions pass it on: refused nothing, or for a reason, and then the rest is not known
+abbrev pub going : declared.Progress → Progress
+going p = record { number = 0; count = p.count; bytes = p.bytes; tally = p.tally }
+
+abbrev pub came : Result declared.Progress Reason → Progress
+came (Ok p) = going p
+came (Err r) = refused_with (started 0) (number_of r)
 
 -- THE STATE that rows, marks and history stand for
 abbrev pub state_of : (rows marks history : List ℕ) → Progress → State

@@ -7,8 +7,7 @@ use Rattle.model.specs.History.{made_element_kind, made_leaf_kind}
 use Rattle.model.specs.Limits.{max_name}
 use Rattle.plan_table.specs.Flags.{Within}
 use Rattle.plan_table.specs.Packed.{of_link, is_packed_row, row_of, decode_parts, kind_in, leaf_bits}
-use Rattle.run_updates.specs.State.{state_of, Held, After, Updated}
-use Rattle.run_updates.specs.declared.state.Progress.{Progress}
+use Rattle.run_updates.specs.State.{Progress, state_of, Held, After, Updated}
 
 -- RECORDS as bytes
 abbrev pub made_kind : (packed : ℕ) → ℕ

@@ -1,14 +1,13 @@
 // How far a run has come: what the updates pass on beside the lent rows and history.
 ghost use Rattle.std.specs.Prelude.{◌≡◌};
-ghost use Rattle.run_updates.specs.State.{started, refused_with};
+ghost use Rattle.run_updates.specs.State.{started, going};
 
 use crate::tally;
 use crate::tally::Tally;
 
-// The refusal's number, or 0; rows now; history bytes written; the tally so far.
+// Rows now; history bytes written; the tally so far.
 #[derive(Clone, Copy)]
 pub struct Progress {
-    pub number: u8,
     pub count: usize,
     pub bytes: usize,
     pub tally: Tally,
@@ -17,27 +16,13 @@ pub struct Progress {
 impl Progress {
     // The start of a run on a table of so many rows.
     pub fn start(count: usize) -> Progress
-        ensures { result ≡ started count }
+        ensures { going result ≡ started count }
     {
         let none = tally::none();
         Progress {
-            number: 0,
             count,
             bytes: 0,
             tally: none,
-        }
-    }
-
-    // The same, with a refusal.
-    pub fn refused(self, number: u8) -> Progress
-        ensures { result ≡ refused_with self number }
-    {
-        let tally = self.tally;
-        Progress {
-            number,
-            count: self.count,
-            bytes: self.bytes,
-            tally,
         }
     }
 }

@@ -1,4 +1,4 @@
-use Rattle.std.proofs.Common.{length, ap, ◌≤◌, ◌-◌, arith, rules}
+use Rattle.std.proofs.Common.{length, ap, ◌≤◌, arith, rules}
 use Rattle.plan_sweep.proofs.SweepLaws.{sweeping_none, sweeping_next, next_low, link_in_lem, entry_low}
 use Rattle.plan_table.proofs.FittedLaws.{Fits, fits_at, fits_mark}
 use Rattle.plan_sweep.proofs.sweep.rows.Goals as goal
@@ -20,12 +20,9 @@ flag-requires c =
     }
 
 pub loop-i-init : goal.loop-i-init
-loop-i-init c = (
-  omega arith,
-  sweeping_none c.args.rows.now c.args.marks.now c.flag.new.numbers c.args.out.now c.args.count
-      c.flag.ensures c.requires.rows,
-  ap length c.requires.rows,
-)
+loop-i-init c =
+    sweeping_none c.args.rows.now c.args.marks.now c.flag.new.numbers c.args.out.now c.args.count
+    c.flag.ensures c.requires.rows
 
 pub row-next-requires : goal.row-next-requires
 row-next-requires c =
@@ -38,23 +35,20 @@ row-next-requires c =
       );
       link = link_in_lem c.args.rows.now c.args.marks.now c.args.count c.loop-i.i (fitting) c.requires.size
           c.loop-i-test.true c.loop-i.next c.loop-i.numbers
-          c.loop-i.out c.loop-i.invariant.1;
+          c.loop-i.out c.loop-i.invariant;
       below = next_low c.args.rows.now c.args.marks.now c.args.count c.loop-i.i
-          (fitting) c.requires.size c.loop-i-test.true c.loop-i.next c.loop-i.numbers c.loop-i.out c.loop-i.invariant.1;
-      numbers = c.loop-i.invariant.1.size;
-      rows = c.loop-i.invariant.2;
+          (fitting) c.requires.size c.loop-i-test.true c.loop-i.next c.loop-i.numbers c.loop-i.out c.loop-i.invariant;
+      numbers = c.loop-i.invariant.size;
+      rows = search (ap length c.requires.rows, rules);
       parent = entry_low c.args.rows.now c.args.marks.now c.args.count c.loop-i.i (fitting)
-          c.requires.size c.loop-i-test.true c.loop-i.next c.loop-i.numbers c.loop-i.out c.loop-i.invariant.1;
+          c.requires.size c.loop-i-test.true c.loop-i.next c.loop-i.numbers c.loop-i.out c.loop-i.invariant;
     }
 
 pub loop-i-preserved : goal.loop-i-preserved
 loop-i-preserved c =
     let fitting : Fits c.args.count c.args.rows.now c.args.marks.now =
-    fits_at c.args.count c.args.rows.now c.args.marks.now c.requires.fits in (
-      omega arith,
-      sweeping_next c.args.rows.now c.args.marks.now c.args.count c.loop-i.i (fitting) c.requires.size
-          c.loop-i-test.true c.loop-i.next c.loop-i.numbers
-          c.loop-i.out c.loop-i.invariant.1
-          c.row-next.new.numbers c.row-next.new.out c.row-next.result c.row-next.ensures,
-      search (c.loop-i.invariant.2, rules),
-    )
+    fits_at c.args.count c.args.rows.now c.args.marks.now c.requires.fits in
+    sweeping_next c.args.rows.now c.args.marks.now c.args.count c.loop-i.i (fitting) c.requires.size
+    c.loop-i-test.true c.loop-i.next c.loop-i.numbers
+    c.loop-i.out c.loop-i.invariant
+    c.row-next.new.numbers c.row-next.new.out c.row-next.result c.row-next.ensures

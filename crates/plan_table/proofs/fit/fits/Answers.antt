@@ -4,7 +4,6 @@ use Rattle.plan_table.proofs.FitCheckLaws.{parts_fit_lem}
 use Rattle.plan_table.specs.Fitting.{marks_fit}
 use Rattle.plan_table.specs.Packed.{is_zero}
 use Rattle.model.specs.Base.{all}
-use borrow.Author.Tests.{not-true, not-false}
 use Rattle.plan_table.proofs.fit.fits.Goals as goal
 
 pub returns-then-not-rows_fit : goal.returns-then-not-rows_fit
@@ -12,7 +11,7 @@ returns-then-not-rows_fit c =
     sym (parts_fit_lem c.args.count c.args.rows.now c.args.marks.now c.requires (omega
     (arith, c.if-count-gt-ROWS.false)) ∙
     ap (λ (t : Bool). t && all is_zero (drop c.args.count c.args.rows.now) && marks_fit c.args.rows.now c.args.count c.args.marks.now)
-    (sym c.rows_fit.ensures ∙ not-true c.rows_fit.result c.if-not-rows_fit.true-raw))
+    (sym c.rows_fit.ensures ∙ c.if-not-rows_fit.true))
 
 pub returns : goal.returns
 returns c =
@@ -21,6 +20,6 @@ returns c =
       c.if-count-gt-ROWS.false,
     )) ∙ ap (λ (t : Bool). t && all is_zero (drop c.args.count c.args.rows.now) &&
     marks_fit c.args.rows.now c.args.count c.args.marks.now)
-    (sym c.rows_fit.ensures ∙ not-false c.rows_fit.result c.if-not-rows_fit.false-raw) ∙ ap
+    (sym c.rows_fit.ensures ∙ c.if-not-rows_fit.false) ∙ ap
     (λ (t : Bool). t && marks_fit c.args.rows.now c.args.count c.args.marks.now)
-    (sym c.rest_zero.ensures ∙ not-false c.rest_zero.result c.if-not-rest_zero.false-raw))
+    (sym c.rest_zero.ensures ∙ c.if-not-rest_zero.false))

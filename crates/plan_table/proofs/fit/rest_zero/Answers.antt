@@ -1,21 +1,14 @@
-use Rattle.std.proofs.Common.{get_or, drop, eq-eqb, ne_eqb, Bool, ◌&&◌, ◌∙◌, sym, ap, ◌+◌, ◌-◌, arith, rules}
-use Rattle.plan_table.proofs.FitCheckLaws.{all_turn, all_end}
+-- `fit::rest_zero`: what stands past the count is zero.
+use Rattle.std.proofs.Common.{length-drop, take_all, drop, length, ◌-◌, arith, ◌∙◌, rules, tests}
+use Rattle.std.proofs.lemmas.Iterator.{YieldsList-from_slice}
+use Rattle.std.proofs.lemmas.Iterator.Search.{all_from_yields_List}
+use Rattle.plan_table.proofs.FitCheckLaws.{all_listed}
 use Rattle.plan_table.specs.Packed.{is_zero}
-use Rattle.model.specs.Base.{all}
 use Rattle.plan_table.proofs.fit.rest_zero.Goals as goal
-
-pub returns-then-rows-i-ne0 : goal.returns-then-rows-i-ne0
-returns-then-rows-i-ne0 c =
-    sym (c.loop-i.invariant ∙ all_turn is_zero c.args.rows.now c.loop-i.i c.loop-i-test.true ∙ ap
-    (λ (z : Bool). z && all is_zero (drop (c.loop-i.i + 1) c.args.rows.now))
-    (ne_eqb (get_or c.args.rows.now c.loop-i.i 0) 0 c.if-rows-i-ne0.true))
-
-pub loop-i-preserved : goal.loop-i-preserved
-loop-i-preserved c =
-    c.loop-i.invariant ∙ all_turn is_zero c.args.rows.now c.loop-i.i c.loop-i-test.true ∙ ap
-    (λ (z : Bool). z && all is_zero (drop (c.loop-i.i + 1) c.args.rows.now))
-    (eq-eqb (get_or c.args.rows.now c.loop-i.i 0) 0 (search (c.if-rows-i-ne0.false, rules)))
 
 pub returns : goal.returns
 returns c =
-    sym (c.loop-i.invariant ∙ all_end is_zero c.args.rows.now c.loop-i.i (omega arith))
+    let rest = drop c.args.count c.args.rows.now in
+    all_from_yields_List is_zero _ _ _ c.all.ensures.ran (YieldsList-from_slice rest
+    (c.iter.ensures.rest ∙ take_all (length c.args.rows.now - c.args.count) rest (omega (arith, length-drop c.args.count c.args.rows.now))))
+    (λ x b q k. search (rules, tests)) ∙ all_listed is_zero rest

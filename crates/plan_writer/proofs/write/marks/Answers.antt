@@ -1,4 +1,4 @@
-use Rattle.std.proofs.Common.{length, get_or, take, List, map, ◌≡◌, refl, ◌∙◌, sym, ap, ℕ, ◌+◌, ◌-◌, ◌≤◌, arith, rules}
+use Rattle.std.proofs.Common.{length, get_or, take, List, map, ◌≡◌, ◌∙◌, sym, ap, ℕ, ◌+◌, ◌≤◌, arith}
 use Rattle.plan_writer.proofs.WriteRecordLaws.{length_marks, marks_start, marks_front, marks_grown}
 use Rattle.model.proofs.ListLaws.{over_nil}
 use Rattle.model.specs.Base.{over}
@@ -8,12 +8,10 @@ use Rattle.plan_writer.proofs.write.marks.Goals as goal
 
 pub loop-d-init : goal.loop-d-init
 loop-d-init c = (
-  omega arith,
   omega (arith, ap length (marks_start c.args.marks.now)),
   sym (ap (λ (b : List ℕ). over
       c.args.start b c.args.out.now) (marks_start c.args.marks.now) ∙
       over_nil c.args.start c.args.out.now),
-  refl,
 )
 
 pub mark-requires : goal.mark-requires
@@ -22,14 +20,14 @@ mark-requires c =
     c.loop-d.at + length (mark_bytes c.loop-d.d (of_link (get_or a.marks.now c.loop-d.d 0))) ≤ length
     a.out.now = omega (
       arith,
-      c.loop-d.invariant.1,
+      c.loop-d.invariant.0,
       c.requires.room,
       length_marks c.args.marks.now c.loop-d.d c.loop-d-test.true,
       marks_front 0 (c.loop-d.d + 1) c.args.marks.now,
     ) in
     record {
       link_bound = c.index-link.ensures.upper_bound;
-      link_in_bounds = rw c.index-link.ensures.value (omega (arith, room, c.loop-d.invariant.3));
+      link_in_bounds = rw c.index-link.ensures.value (omega (arith, room));
     }
 
 pub loop-d-preserved : goal.loop-d-preserved
@@ -38,7 +36,7 @@ loop-d-preserved c =
     c.loop-d.at + length (mark_bytes c.loop-d.d (of_link (get_or a.marks.now c.loop-d.d 0))) ≤ length
     a.out.now = omega (
       arith,
-      c.loop-d.invariant.1,
+      c.loop-d.invariant.0,
       c.requires.room,
       length_marks c.args.marks.now c.loop-d.d c.loop-d-test.true,
       marks_front 0 (c.loop-d.d + 1) c.args.marks.now,
@@ -48,19 +46,17 @@ loop-d-preserved c =
     (get_or a.marks.now c.loop-d.d 0))) = rw c.index-link.ensures.value at (c.mark_length-at.ensures
     c.loop-d.d) in
     let m = get_or c.args.marks.now c.loop-d.d 0 in (
-      omega arith,
       omega (
         arith,
-        c.loop-d.invariant.1,
+        c.loop-d.invariant.0,
         length_marks c.args.marks.now c.loop-d.d c.loop-d-test.true,
         told,
       ),
       rw c.index-link.ensures.value at c.mark.ensures ∙
-          ap (λ (i : ℕ). over i (mark_bytes c.loop-d.d (of_link m)) c.loop-d.out) c.loop-d.invariant.1 ∙
+          ap (λ (i : ℕ). over i (mark_bytes c.loop-d.d (of_link m)) c.loop-d.out) c.loop-d.invariant.0 ∙
           ap (over (c.args.start + length (marks_bytes 0 (map of_link (take c.loop-d.d c.args.marks.now)))) (mark_bytes
           c.loop-d.d (of_link m)))
-          c.loop-d.invariant.2 ∙
+          c.loop-d.invariant.1 ∙
           marks_grown c.args.marks.now c.loop-d.d c.loop-d-test.true c.args.out.now c.args.start
-          (omega (arith, room, c.loop-d.invariant.1)),
-      search (c.loop-d.invariant.3, rules),
+          (omega (arith, room, c.loop-d.invariant.0)),
     )

@@ -1,6 +1,6 @@
 use Rattle.std.proofs.Common.{arith, ◌+◌, ◌-◌, ◌/◌, refl}
 use Rattle.run_eval.proofs.BinaryLaws.{second_asks, combine_asks, combine_yields}
-use Rattle.run_eval.proofs.BranchLaws.{then_asks, then_yields}
+use Rattle.run_eval.proofs.BranchLaws.{then_asks, then_refused, then_yields}
 use Rattle.run_eval.proofs.LoopLaws.{one_asks, body_asks, item_refused, item_yields}
 use Rattle.run_eval.proofs.LoopLaws.{half_asks, half_all, half_refused, rest_asks, rest_yields}
 use Rattle.run_eval.proofs.ScopeLaws.{index_kept}
@@ -9,118 +9,133 @@ use Rattle.run_eval.proofs.OperandLaws.{two_operands, for_operands, if_operands}
 use Rattle.run_eval.proofs.EvalLaws.{deep, first_asks, first_fewer, first_refused, unary_asks, unary_yields}
 use Rattle.run_eval.proofs.EvalLaws.{two_asks, two_fewer, two_yields, three_asks, three_fewer, three_yields}
 use Rattle.run_eval.proofs.LoopLaws.{for_none, each_asks, close_asks, close_yields}
+use Rattle.std.proofs.lemmas.Result.{err_from_is_err_and}
+use Rattle.run_updates.proofs.StateLaws.{number_some}
 use Rattle.run_eval.proofs.evaluate.+binary_branch_each_eval_iterate.Goals as goal
 
-pub binary-eval-y-requires : goal.binary-eval-y-requires
-binary-eval-y-requires t c =
+pub binary-eval-requires : goal.binary-eval-requires
+binary-eval-requires t c =
     let m = c.decreases in
     (omega (arith, m), (second_asks c.requires.rest_pre c.bind-inside.ensures c.inner-n.ensures, c.requires.index_held))
 
 pub binary-combined-requires : goal.binary-combined-requires
 binary-combined-requires t c =
-    combine_asks c.requires.rest_pre c.bind-inside.ensures c.inner-n.ensures c.eval-y.ensures c.if-y-ne0.false
+    combine_asks c.requires.rest_pre c.bind-inside.ensures c.inner-n.ensures c.in_ok-y.ensures refl
 
 pub binary-returns : goal.binary-returns
 binary-returns t c =
-    combine_yields c.requires.rest_pre c.bind-inside.ensures c.inner-n.ensures c.eval-y.ensures c.if-y-ne0.false c.args.at
+    combine_yields c.requires.rest_pre c.bind-inside.ensures c.inner-n.ensures c.in_ok-y.ensures refl c.args.at
     c.combined.ensures
 
-pub branch-eval-y-requires : goal.branch-eval-y-requires
-branch-eval-y-requires t c =
+pub branch-eval-requires-2 : goal.branch-eval-requires-2
+branch-eval-requires-2 t c =
     let m = c.decreases in
     (omega (arith, m), (then_asks c.requires.rest_pre, c.requires.index_held))
 
+pub branch-returns-in_err-y : goal.branch-returns-in_err-y
+branch-returns-in_err-y t c =
+    let out = err_from_is_err_and c.from_residual.result c.from_residual.ensures.1 in
+    rw (out.1, out.2) (then_refused c.requires.rest_pre c.if-x-top.false c.in_err-y.ensures (number_some c.in_err-y.field-0.0.reason))
+
 pub branch-returns : goal.branch-returns
 branch-returns t c =
-    then_yields c.requires.rest_pre c.if-x-top.false c.eval-y.ensures c.if-y-ne0.false c.past.ensures
+    then_yields c.requires.rest_pre c.if-x-top.false c.in_ok-y.ensures refl c.past.ensures
 
-pub each-eval-y-requires : goal.each-eval-y-requires
-each-eval-y-requires t c =
+pub each-eval-requires : goal.each-eval-requires
+each-eval-requires t c =
     (omega (arith, c.decreases), (body_asks (one_asks c.requires.each_pre) (omega arith) c.bind-inside.ensures, c.requires.index_held))
 
-pub each-returns-then-y-ne0 : goal.each-returns-then-y-ne0
-each-returns-then-y-ne0 t c =
-    half_refused c.requires.each_pre (c.args.from + 1) (omega arith) (omega (arith, c.requires.each_pre.some))
-    (item_refused (one_asks c.requires.each_pre) (omega arith) c.bind-inside.ensures c.eval-y.ensures c.if-y-ne0.true) c.if-y-ne0.true
+pub each-returns-in_err-y : goal.each-returns-in_err-y
+each-returns-in_err-y t c =
+    let out = err_from_is_err_and c.from_residual.result c.from_residual.ensures.1 in
+    let k = number_some c.in_err-y.field-0.0.reason in
+    rw (out.1, out.2)
+    (half_refused c.requires.each_pre (c.args.from + 1) (omega arith) (omega (arith, c.requires.each_pre.some))
+    (item_refused (one_asks c.requires.each_pre) (omega arith) c.bind-inside.ensures c.in_err-y.ensures k) k)
 
 pub each-returns-then-next-to : goal.each-returns-then-next-to
 each-returns-then-next-to t c =
-    let first = item_yields (one_asks c.requires.each_pre) (omega arith) c.bind-inside.ensures c.eval-y.ensures
-    c.if-y-ne0.false c.limited-first.ensures in
+    let first = item_yields (one_asks c.requires.each_pre) (omega arith) c.bind-inside.ensures c.in_ok-y.ensures
+    refl c.in_ok-first.ensures in
     half_all c.requires.each_pre (c.args.from + 1) (omega arith) (omega (arith, c.requires.each_pre.some)) first c.if-next-to.true
 
-pub each-returns-then-first-ne0 : goal.each-returns-then-first-ne0
-each-returns-then-first-ne0 t c =
-    let first = item_yields (one_asks c.requires.each_pre) (omega arith) c.bind-inside.ensures c.eval-y.ensures c.if-y-ne0.false
-    c.limited-first.ensures in
-    half_refused c.requires.each_pre (c.args.from + 1) (omega arith) (omega (arith, c.requires.each_pre.some)) first c.if-first-ne0.true
+pub each-returns-in_err-first : goal.each-returns-in_err-first
+each-returns-in_err-first t c =
+    let out = err_from_is_err_and c.from_residual-in_err-first.result c.from_residual-in_err-first.ensures.1 in
+    let first = item_yields (one_asks c.requires.each_pre) (omega arith) c.bind-inside.ensures c.in_ok-y.ensures refl
+    c.in_err-first.ensures in
+    rw (out.1, out.2)
+    (half_refused c.requires.each_pre (c.args.from + 1) (omega arith) (omega (arith, c.requires.each_pre.some)) first
+    (number_some c.in_err-first.field-0.0.reason))
 
-pub each-each-x-requires : goal.each-each-x-requires
-each-each-x-requires t c =
-    let first = item_yields (one_asks c.requires.each_pre) (omega arith) c.bind-inside.ensures c.eval-y.ensures c.if-y-ne0.false
-    c.limited-first.ensures in
+pub each-each-requires : goal.each-each-requires
+each-each-requires t c =
+    let first = item_yields (one_asks c.requires.each_pre) (omega arith) c.bind-inside.ensures c.in_ok-y.ensures refl
+    c.in_ok-first.ensures in
     let rest = rest_asks c.requires.each_pre (c.args.from + 1) (omega arith) (omega (arith, c.requires.each_pre.some)) first
-    c.if-first-ne0.false (omega (arith, c.requires.each_pre.some, c.if-next-to.false)) in (
+    refl (omega (arith, c.requires.each_pre.some, c.if-next-to.false)) in (
       omega (arith, c.decreases, c.requires.each_pre.some, c.if-next-to.false),
       (
         half_asks rest (c.args.from + 1 + (c.args.to - c.args.from) / 2)
             (omega (arith, c.requires.each_pre.some, c.if-next-to.false)) (omega (arith, c.requires.each_pre.some, c.if-next-to.false)),
         index_kept
-            c.requires.index_held first c.if-first-ne0.false,
+            c.requires.index_held first refl,
       ),
     )
 
 pub each-returns-then-half-to : goal.each-returns-then-half-to
 each-returns-then-half-to t c =
-    let first = item_yields (one_asks c.requires.each_pre) (omega arith) c.bind-inside.ensures c.eval-y.ensures c.if-y-ne0.false
-    c.limited-first.ensures in
+    let first = item_yields (one_asks c.requires.each_pre) (omega arith) c.bind-inside.ensures c.in_ok-y.ensures refl
+    c.in_ok-first.ensures in
     let rest = rest_asks c.requires.each_pre (c.args.from + 1) (omega arith) (omega (arith, c.requires.each_pre.some)) first
-    c.if-first-ne0.false (omega (arith, c.requires.each_pre.some, c.if-next-to.false)) in
-    rest_yields c.requires.each_pre (c.args.from + 1) (omega arith) (omega (arith, c.requires.each_pre.some)) first c.if-first-ne0.false
+    refl (omega (arith, c.requires.each_pre.some, c.if-next-to.false)) in
+    rest_yields c.requires.each_pre (c.args.from + 1) (omega arith) (omega (arith, c.requires.each_pre.some)) first refl
     (omega (arith, c.requires.each_pre.some, c.if-next-to.false))
     (half_all rest (c.args.from + 1 + (c.args.to - c.args.from) / 2)
     (omega (arith, c.requires.each_pre.some, c.if-next-to.false)) (omega (arith, c.requires.each_pre.some, c.if-next-to.false))
-    c.each-x.ensures c.if-half-to.true)
+    c.in_ok-x.ensures c.if-half-to.true)
 
-pub each-returns-then-x-ne0 : goal.each-returns-then-x-ne0
-each-returns-then-x-ne0 t c =
-    let first = item_yields (one_asks c.requires.each_pre) (omega arith) c.bind-inside.ensures c.eval-y.ensures c.if-y-ne0.false
-    c.limited-first.ensures in
+pub each-returns-in_err-x : goal.each-returns-in_err-x
+each-returns-in_err-x t c =
+    let out = err_from_is_err_and c.from_residual-in_err-x.result c.from_residual-in_err-x.ensures.1 in
+    let first = item_yields (one_asks c.requires.each_pre) (omega arith) c.bind-inside.ensures c.in_ok-y.ensures refl
+    c.in_ok-first.ensures in
     let rest = rest_asks c.requires.each_pre (c.args.from + 1) (omega arith) (omega (arith, c.requires.each_pre.some)) first
-    c.if-first-ne0.false (omega (arith, c.requires.each_pre.some, c.if-next-to.false)) in
-    rest_yields c.requires.each_pre (c.args.from + 1) (omega arith) (omega (arith, c.requires.each_pre.some)) first c.if-first-ne0.false
+    refl (omega (arith, c.requires.each_pre.some, c.if-next-to.false)) in
+    rw (out.1, out.2)
+    (rest_yields c.requires.each_pre (c.args.from + 1) (omega arith) (omega (arith, c.requires.each_pre.some)) first refl
     (omega (arith, c.requires.each_pre.some, c.if-next-to.false))
     (half_refused rest (c.args.from + 1 + (c.args.to - c.args.from) / 2)
     (omega (arith, c.requires.each_pre.some, c.if-next-to.false)) (omega (arith, c.requires.each_pre.some, c.if-next-to.false))
-    c.each-x.ensures c.if-x-ne0.true)
+    c.in_err-x.ensures (number_some c.in_err-x.field-0.0.reason)))
 
-pub each-each-requires : goal.each-each-requires
-each-each-requires t c =
-    let first = item_yields (one_asks c.requires.each_pre) (omega arith) c.bind-inside.ensures c.eval-y.ensures c.if-y-ne0.false
-    c.limited-first.ensures in
+pub each-each-requires-2 : goal.each-each-requires-2
+each-each-requires-2 t c =
+    let first = item_yields (one_asks c.requires.each_pre) (omega arith) c.bind-inside.ensures c.in_ok-y.ensures refl
+    c.in_ok-first.ensures in
     let rest = rest_asks c.requires.each_pre (c.args.from + 1) (omega arith) (omega (arith, c.requires.each_pre.some)) first
-    c.if-first-ne0.false (omega (arith, c.requires.each_pre.some, c.if-next-to.false)) in (
+    refl (omega (arith, c.requires.each_pre.some, c.if-next-to.false)) in (
       omega (arith, c.decreases, c.requires.each_pre.some, c.if-next-to.false),
       (
         rest_asks rest (c.args.from + 1 + (c.args.to - c.args.from) / 2)
             (omega (arith, c.requires.each_pre.some, c.if-next-to.false)) (omega (arith, c.requires.each_pre.some, c.if-next-to.false))
-            c.each-x.ensures c.if-x-ne0.false (omega (arith, c.requires.each_pre.some, c.if-next-to.false, c.if-half-to.false)),
+            c.in_ok-x.ensures refl (omega (arith, c.requires.each_pre.some, c.if-next-to.false, c.if-half-to.false)),
         index_kept
-            (index_kept c.requires.index_held first c.if-first-ne0.false) c.each-x.ensures c.if-x-ne0.false,
+            (index_kept c.requires.index_held first refl) c.in_ok-x.ensures refl,
       ),
     )
 
 pub each-returns : goal.each-returns
 each-returns t c =
-    let first = item_yields (one_asks c.requires.each_pre) (omega arith) c.bind-inside.ensures c.eval-y.ensures c.if-y-ne0.false
-    c.limited-first.ensures in
+    let first = item_yields (one_asks c.requires.each_pre) (omega arith) c.bind-inside.ensures c.in_ok-y.ensures refl
+    c.in_ok-first.ensures in
     let rest = rest_asks c.requires.each_pre (c.args.from + 1) (omega arith) (omega (arith, c.requires.each_pre.some)) first
-    c.if-first-ne0.false (omega (arith, c.requires.each_pre.some, c.if-next-to.false)) in
-    rest_yields c.requires.each_pre (c.args.from + 1) (omega arith) (omega (arith, c.requires.each_pre.some)) first c.if-first-ne0.false
+    refl (omega (arith, c.requires.each_pre.some, c.if-next-to.false)) in
+    rest_yields c.requires.each_pre (c.args.from + 1) (omega arith) (omega (arith, c.requires.each_pre.some)) first refl
     (omega (arith, c.requires.each_pre.some, c.if-next-to.false))
     (rest_yields rest (c.args.from + 1 + (c.args.to - c.args.from) / 2)
     (omega (arith, c.requires.each_pre.some, c.if-next-to.false)) (omega (arith, c.requires.each_pre.some, c.if-next-to.false))
-    c.each-x.ensures c.if-x-ne0.false (omega (arith, c.requires.each_pre.some, c.if-next-to.false, c.if-half-to.false)) c.each.ensures)
+    c.in_ok-x.ensures refl (omega (arith, c.requires.each_pre.some, c.if-next-to.false, c.if-half-to.false)) c.each-2.ensures)
 
 pub eval-bounds-script-at : goal.eval-bounds-script-at
 eval-bounds-script-at t c =
@@ -136,63 +151,65 @@ pub eval-overflow_sub-k : goal.eval-overflow_sub-k
 eval-overflow_sub-k t c =
     deep c.requires.eval_pre
 
-pub eval-eval-x-requires : goal.eval-eval-x-requires
-eval-eval-x-requires t c =
+pub eval-eval-requires : goal.eval-eval-requires
+eval-eval-requires t c =
     let l = first_fewer c.requires.eval_pre c.body_size.ensures.value c.arity-operands.ensures.value c.if-operands-eq0.false in
     let m = c.decreases in
     let a = first_asks c.requires.eval_pre c.body_size.ensures.value c.arity-operands.ensures.value c.if-operands-eq0.false in
     (omega (arith, l, m), (a, c.requires.index_held))
 
-pub eval-returns-then-x-ne0 : goal.eval-returns-then-x-ne0
-eval-returns-then-x-ne0 t c =
-    first_refused c.requires.eval_pre c.body_size.ensures.value c.eval-x.ensures c.arity-operands.ensures.value c.if-operands-eq0.false
-    c.if-x-ne0.true
+pub eval-returns-in_err-x : goal.eval-returns-in_err-x
+eval-returns-in_err-x t c =
+    let out = err_from_is_err_and c.from_residual.result c.from_residual.ensures.1 in
+    rw (out.1, out.2)
+    (first_refused c.requires.eval_pre c.body_size.ensures.value c.in_err-x.ensures c.arity-operands.ensures.value
+    c.if-operands-eq0.false (number_some c.in_err-x.field-0.0.reason))
 
 pub eval-applied-requires : goal.eval-applied-requires
 eval-applied-requires t c =
     record {
-      unary_pre = unary_asks c.requires.eval_pre c.body_size.ensures.value c.eval-x.ensures c.if-x-ne0.false c.arity-operands.ensures.value
+      unary_pre = unary_asks c.requires.eval_pre c.body_size.ensures.value c.in_ok-x.ensures refl c.arity-operands.ensures.value
           c.if-operands-eq1.true;
-      index_held = index_kept c.requires.index_held c.eval-x.ensures c.if-x-ne0.false;
+      index_held = index_kept c.requires.index_held c.in_ok-x.ensures refl;
     }
 
 pub eval-returns-then-operands-eq1 : goal.eval-returns-then-operands-eq1
 eval-returns-then-operands-eq1 t c =
-    unary_yields c.requires.eval_pre c.body_size.ensures.value c.eval-x.ensures c.if-x-ne0.false c.arity-operands.ensures.value
+    unary_yields c.requires.eval_pre c.body_size.ensures.value c.in_ok-x.ensures refl c.arity-operands.ensures.value
     c.if-operands-eq1.true c.applied.ensures
 
 pub eval-branch-script-requires : goal.eval-branch-script-requires
 eval-branch-script-requires t c =
     let three = if_operands c.requires.eval_pre.accepted c.if-kind-eq-IF.true in
-    let l = three_fewer c.requires.eval_pre c.body_size.ensures.value c.eval-x.ensures c.if-x-ne0.false c.if-kind-eq-IF.true three in
-    let a = three_asks c.requires.eval_pre c.body_size.ensures.value c.eval-x.ensures c.if-x-ne0.false c.if-kind-eq-IF.true three in
+    let l = three_fewer c.requires.eval_pre c.body_size.ensures.value c.in_ok-x.ensures refl c.if-kind-eq-IF.true three in
+    let a = three_asks c.requires.eval_pre c.body_size.ensures.value c.in_ok-x.ensures refl c.if-kind-eq-IF.true three in
     let m = c.decreases in (
       omega (arith, l, m),
-      (a.0, (a.1, index_kept c.requires.index_held c.eval-x.ensures c.if-x-ne0.false)),
+      (a.0, (a.1, index_kept c.requires.index_held c.in_ok-x.ensures refl)),
     )
 
 pub eval-returns-then-kind-eq-IF : goal.eval-returns-then-kind-eq-IF
 eval-returns-then-kind-eq-IF t c =
     let three = if_operands c.requires.eval_pre.accepted c.if-kind-eq-IF.true in
-    three_yields c.requires.eval_pre c.body_size.ensures.value c.eval-x.ensures c.if-x-ne0.false c.if-kind-eq-IF.true three
+    three_yields c.requires.eval_pre c.body_size.ensures.value c.in_ok-x.ensures refl c.if-kind-eq-IF.true three
     c.branch-script.ensures
 
 pub eval-iterate-requires : goal.eval-iterate-requires
 eval-iterate-requires t c =
     let two = for_operands c.requires.eval_pre.accepted c.if-kind-eq-FOR.true in
-    let l = two_fewer c.requires.eval_pre c.body_size.ensures.value c.eval-x.ensures c.if-x-ne0.false c.if-kind-eq-FOR.true two in
+    let l = two_fewer c.requires.eval_pre c.body_size.ensures.value c.in_ok-x.ensures refl c.if-kind-eq-FOR.true two in
     let m = c.decreases in (
       omega (arith, l, m),
       (
-        two_asks c.requires.eval_pre c.body_size.ensures.value c.eval-x.ensures c.if-x-ne0.false c.if-kind-eq-FOR.true two,
-        index_kept c.requires.index_held c.eval-x.ensures c.if-x-ne0.false,
+        two_asks c.requires.eval_pre c.body_size.ensures.value c.in_ok-x.ensures refl c.if-kind-eq-FOR.true two,
+        index_kept c.requires.index_held c.in_ok-x.ensures refl,
       ),
     )
 
 pub eval-returns-then-kind-eq-FOR : goal.eval-returns-then-kind-eq-FOR
 eval-returns-then-kind-eq-FOR t c =
     let two = for_operands c.requires.eval_pre.accepted c.if-kind-eq-FOR.true in
-    two_yields c.requires.eval_pre c.body_size.ensures.value c.eval-x.ensures c.if-x-ne0.false c.if-kind-eq-FOR.true two
+    two_yields c.requires.eval_pre c.body_size.ensures.value c.in_ok-x.ensures refl c.if-kind-eq-FOR.true two
     c.iterate.ensures
 
 pub eval-binary-requires : goal.eval-binary-requires
@@ -200,12 +217,12 @@ eval-binary-requires t c =
     let two = two_operands c.requires.eval_pre.accepted c.arity-operands.ensures.value c.if-operands-eq0.false c.if-operands-eq1.false
     c.if-kind-eq-IF.false
     c.if-kind-eq-FOR.false in
-    let l = two_fewer c.requires.eval_pre c.body_size.ensures.value c.eval-x.ensures c.if-x-ne0.false refl two in
+    let l = two_fewer c.requires.eval_pre c.body_size.ensures.value c.in_ok-x.ensures refl refl two in
     let m = c.decreases in (
       omega (arith, l, m),
       (
-        two_asks c.requires.eval_pre c.body_size.ensures.value c.eval-x.ensures c.if-x-ne0.false refl two,
-        index_kept c.requires.index_held c.eval-x.ensures c.if-x-ne0.false,
+        two_asks c.requires.eval_pre c.body_size.ensures.value c.in_ok-x.ensures refl refl two,
+        index_kept c.requires.index_held c.in_ok-x.ensures refl,
       ),
     )
 
@@ -214,22 +231,22 @@ eval-returns t c =
     let two = two_operands c.requires.eval_pre.accepted c.arity-operands.ensures.value c.if-operands-eq0.false c.if-operands-eq1.false
     c.if-kind-eq-IF.false
     c.if-kind-eq-FOR.false in
-    two_yields c.requires.eval_pre c.body_size.ensures.value c.eval-x.ensures c.if-x-ne0.false refl two c.binary.ensures
+    two_yields c.requires.eval_pre c.body_size.ensures.value c.in_ok-x.ensures refl refl two c.binary.ensures
 
 pub iterate-returns-then-mid-top : goal.iterate-returns-then-mid-top
 iterate-returns-then-mid-top t c =
     for_none c.requires.rest_pre c.args.at c.if-mid-top.true c.past.ensures
 
-pub iterate-each-y-requires : goal.iterate-each-y-requires
-iterate-each-y-requires t c =
+pub iterate-each-requires : goal.iterate-each-requires
+iterate-each-requires t c =
     let m = c.decreases in
     let s = c.requires.rest_pre.value.short in
     (omega (arith, m, s), (each_asks c.requires.rest_pre c.args.at c.if-mid-top.false, c.requires.index_held))
 
 pub iterate-combined-requires : goal.iterate-combined-requires
 iterate-combined-requires t c =
-    close_asks c.requires.rest_pre c.args.at c.each-y.ensures c.if-y-ne0.false
+    close_asks c.requires.rest_pre c.args.at c.in_ok-y.ensures refl
 
 pub iterate-returns : goal.iterate-returns
 iterate-returns t c =
-    close_yields c.requires.rest_pre c.args.at c.each-y.ensures c.if-y-ne0.false c.combined.ensures
+    close_yields c.requires.rest_pre c.args.at c.in_ok-y.ensures refl c.combined.ensures

@@ -1,26 +1,26 @@
-use Rattle.std.proofs.Common.{◌∙◌, ◌-◌, arith, rules}
+use Rattle.std.proofs.Common.{refl, ◌∙◌}
+use Rattle.std.proofs.lemmas.Result.{err_from_is_err_and}
+use Rattle.run_updates.proofs.StateLaws.{number_some}
 use Rattle.run_insert.proofs.InsertLawsItems.{inserting_item, inserting_end}
 use Rattle.run_insert.proofs.InsertLawsItems.{inserting_refused, inserting_again}
 use Rattle.run_insert.proofs.insert.copy_items.Goals as goal
 
-pub copy_item-now-requires : goal.copy_item-now-requires
-copy_item-now-requires c =
-    inserting_item c.requires
-    c.loop-k.invariant c.loop-k-test.true
-    c.index.ensures.value
+pub copy_item-requires : goal.copy_item-requires
+copy_item-requires c =
+    inserting_item c.requires c.loop-item.invariant c.loop-item-test.true c.index.ensures.value
 
-pub returns-then-now-ne0 : goal.returns-then-now-ne0
-returns-then-now-ne0 c =
-    inserting_refused
-    c.requires c.loop-k.invariant c.loop-k-test.true c.index.ensures.value c.copy_item-now.ensures
-    c.if-now-ne0.true
+pub returns-in_err-now : goal.returns-in_err-now
+returns-in_err-now c =
+    let p = err_from_is_err_and c.from_residual.result c.from_residual.ensures.1 in
+    rw (p.1, p.2)
+    (inserting_refused c.requires c.loop-item.invariant c.loop-item-test.true c.index.ensures.value c.in_err-now.ensures
+    (number_some c.in_err-now.field-0.0))
 
-pub loop-k-preserved : goal.loop-k-preserved
-loop-k-preserved c =
-    inserting_again
-    c.requires c.loop-k.invariant c.loop-k-test.true c.index.ensures.value c.copy_item-now.ensures
-    (search (c.if-now-ne0.false, rules)) (c.copy_item-now.auto.map ∙ c.loop-k.invariant.size)
+pub loop-item-preserved : goal.loop-item-preserved
+loop-item-preserved c =
+    inserting_again c.requires c.loop-item.invariant c.loop-item-test.true c.index.ensures.value c.in_ok-now.ensures refl
+    (c.copy_item.auto.map ∙ c.loop-item.invariant.size)
 
 pub returns : goal.returns
 returns c =
-    inserting_end c.requires c.loop-k.invariant (omega (arith, c.loop-k-test.false))
+    inserting_end c.requires c.loop-item.invariant c.loop-item-test.false

@@ -12,7 +12,7 @@ delete-q-requires c =
 pub returns-then-kind-eq-DELETE : goal.returns-then-kind-eq-DELETE
 returns-then-kind-eq-DELETE c =
     delete_yields
-    c.requires.unary_pre c.if-kind-eq-DELETE.true c.delete-q.ensures c.ended.ensures
+    c.requires.unary_pre c.if-kind-eq-DELETE.true c.delete-q.ensures refl
 
 pub bounds-script-at-2 : goal.bounds-script-at-2
 bounds-script-at-2 c =
@@ -30,7 +30,7 @@ picked-end-requires c =
 pub returns-then-kind-eq-PICK : goal.returns-then-kind-eq-PICK
 returns-then-kind-eq-PICK c =
     pick_yields
-    c.requires.unary_pre c.picked-end.auto.work c.ended-then-kind-eq-PICK.ensures c.if-kind-eq-PICK.true c.picked-end.ensures
+    c.requires.unary_pre c.picked-end.auto.work refl c.if-kind-eq-PICK.true c.picked-end.ensures
 
 pub bounds-script-at-4 : goal.bounds-script-at-4
 unfolding script_kinds
@@ -46,6 +46,6 @@ stepped-end-requires c =
 
 pub returns : goal.returns
 returns c =
-    step_yields c.requires.unary_pre c.stepped-end.auto.work c.ended-2.ensures (unary_step c.requires.unary_pre
+    step_yields c.requires.unary_pre c.stepped-end.auto.work refl (unary_step c.requires.unary_pre
     c.if-kind-eq-DELETE.false
     c.if-kind-eq-PICK.false) c.name.ensures c.stepped-end.ensures

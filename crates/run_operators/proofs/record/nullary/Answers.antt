@@ -1,9 +1,11 @@
 -- `nullary`: a record without operands, one law of NullaryLaws for each way out.
-use Rattle.std.proofs.Common.{arith}
+use Rattle.std.proofs.Common.{refl, arith, rules, ◌≡◌}
+use Rattle.std.proofs.lemmas.Result.{err_from_is_err_and}
 use Rattle.script.proofs.AcceptedLaws.{accepted_record}
 use Rattle.script.proofs.FieldLaws.{document_number, variable_number, element_name}
 use Rattle.run_operators.proofs.NullaryLaws.{nullary_room, nullary_body, nil_yields, document_yields, variable_yields}
-use Rattle.run_operators.proofs.NullaryLaws.{element_yields, leaf_yields, variable_asks, last_kind}
+use Rattle.run_operators.proofs.NullaryLaws.{element_refused, element_yields, leaf_refused, leaf_yields, variable_asks, last_kind}
+use Rattle.run_operators.proofs.YieldLaws.{told_ok, told_err}
 use Rattle.run_operators.proofs.record.nullary.Goals as goal
 
 pub bounds-script-at : goal.bounds-script-at
@@ -13,7 +15,7 @@ bounds-script-at c =
 
 pub returns-then-kind-eq-NIL : goal.returns-then-kind-eq-NIL
 returns-then-kind-eq-NIL c =
-    nil_yields c.requires.eval_pre c.if-kind-eq-NIL.true c.ended.ensures
+    nil_yields c.requires.eval_pre c.if-kind-eq-NIL.true refl
 
 pub overflow_add-b : goal.overflow_add-b
 overflow_add-b c =
@@ -36,7 +38,7 @@ document-end-requires c =
 
 pub returns-then-kind-eq-DOCUMENT : goal.returns-then-kind-eq-DOCUMENT
 returns-then-kind-eq-DOCUMENT c =
-    document_yields c.requires.eval_pre c.document-end.auto.work c.ended-then-kind-eq-DOCUMENT.ensures c.if-kind-eq-DOCUMENT.true
+    document_yields c.requires.eval_pre c.document-end.auto.work refl c.if-kind-eq-DOCUMENT.true
     c.byte.ensures.value
     c.document-end.ensures
 
@@ -53,30 +55,48 @@ copied-end-requires c =
 
 pub returns-then-kind-eq-VARIABLE : goal.returns-then-kind-eq-VARIABLE
 returns-then-kind-eq-VARIABLE c =
-    variable_yields c.requires.eval_pre c.copied-end.auto.work c.ended-then-kind-eq-VARIABLE.ensures c.if-kind-eq-VARIABLE.true
+    variable_yields c.requires.eval_pre c.copied-end.auto.work refl c.if-kind-eq-VARIABLE.true
     c.byte-v.ensures.value
     c.index-from.ensures.value
     c.index.ensures.value c.copied-end.ensures
 
-pub new_element-q-requires : goal.new_element-q-requires
-new_element-q-requires c =
+pub new_element-requires : goal.new_element-requires
+new_element-requires c =
     let l = element_name (accepted_record c.requires.eval_pre.accepted) c.if-kind-eq-NEW_ELEMENT.true in
     record { held = c.requires.eval_pre.held; low = omega (arith, l.0, c.name.ensures); high = omega (arith, l.1, c.name.ensures) }
 
-pub returns-then-kind-eq-NEW_ELEMENT : goal.returns-then-kind-eq-NEW_ELEMENT
-returns-then-kind-eq-NEW_ELEMENT c =
-    element_yields c.requires.eval_pre c.put_row-end.auto.work c.put_row-end.ensures c.ended-then-kind-eq-NEW_ELEMENT.ensures
-    c.if-kind-eq-NEW_ELEMENT.true
-    c.name.ensures c.new_element-q.ensures
-
-pub overflow_add-at-2 : goal.overflow_add-at-2
-overflow_add-at-2 c =
+pub overflow_add-next : goal.overflow_add-next
+overflow_add-next c =
     let a = nullary_body c.requires.eval_pre c.requires.at_value
     c.if-kind-eq-NIL.false in
     omega (arith, a)
 
+pub returns-in_err-q : goal.returns-in_err-q
+returns-in_err-q c =
+    let told = told_err _ c.new_element.result c.map_err.ensures.cases c.in_err-q.was in
+    let k : c.in_err-q.field-0.0 ≡ record { reason = told.0; place = c.args.at } = search (told.2, rules) in
+    let out = err_from_is_err_and c.from_residual.result c.from_residual.ensures.1 in
+    rw (out.1, out.2, k)
+    (element_refused c.requires.eval_pre c.if-kind-eq-NEW_ELEMENT.true c.name.ensures told.0 (rw told.1 at c.new_element.ensures))
+
+pub returns-then-kind-eq-NEW_ELEMENT : goal.returns-then-kind-eq-NEW_ELEMENT
+returns-then-kind-eq-NEW_ELEMENT c =
+    let told = told_ok _ c.new_element.result c.map_err.ensures.cases c.in_ok-q.was in
+    element_yields c.requires.eval_pre c.if-kind-eq-NEW_ELEMENT.true c.name.ensures refl (rw told at c.new_element.ensures)
+    c.put_row-end.auto.work c.put_row-end.ensures refl
+
+pub returns-in_err-q-2 : goal.returns-in_err-q-2
+returns-in_err-q-2 c =
+    let told = told_err _ c.new_leaf.result c.map_err-2.ensures.cases c.in_err-q-2.was in
+    let k : c.in_err-q-2.field-0.0 ≡ record { reason = told.0; place = c.args.at } = search (told.2, rules) in
+    let out = err_from_is_err_and c.from_residual-in_err-q-2.result c.from_residual-in_err-q-2.ensures.1 in
+    let kind = last_kind c.requires.eval_pre c.requires.at_value c.if-kind-eq-NIL.false c.if-kind-eq-DOCUMENT.false
+    c.if-kind-eq-VARIABLE.false c.if-kind-eq-NEW_ELEMENT.false in
+    rw (out.1, out.2, k) (leaf_refused c.requires.eval_pre kind told.0 (rw told.1 at c.new_leaf.ensures))
+
 pub returns : goal.returns
 returns c =
-    leaf_yields c.requires.eval_pre c.put_row-end-2.auto.work c.put_row-end-2.ensures c.ended-2.ensures
-    (last_kind c.requires.eval_pre c.requires.at_value c.if-kind-eq-NIL.false c.if-kind-eq-DOCUMENT.false c.if-kind-eq-VARIABLE.false
-    c.if-kind-eq-NEW_ELEMENT.false) c.new_leaf-q.ensures
+    let told = told_ok _ c.new_leaf.result c.map_err-2.ensures.cases c.in_ok-q-2.was in
+    let kind = last_kind c.requires.eval_pre c.requires.at_value c.if-kind-eq-NIL.false c.if-kind-eq-DOCUMENT.false
+    c.if-kind-eq-VARIABLE.false c.if-kind-eq-NEW_ELEMENT.false in
+    leaf_yields c.requires.eval_pre kind refl (rw told at c.new_leaf.ensures) c.put_row-end-2.auto.work c.put_row-end-2.ensures refl

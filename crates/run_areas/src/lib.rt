@@ -1,4 +1,0 @@
-// The areas lent to a run: cleared, and filled.
-#![tactic(auto)]
-
-pub mod area;
