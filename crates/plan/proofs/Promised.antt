@@ -17,7 +17,7 @@ use Rattle.model.specs.Limits.{max_rows}
 use Rattle.plan_table.specs.Results.{refusal_of}
 use Rattle.plan_table.specs.Packed.{encode, decode, fits}
 use Rattle.plan_table.specs.declared.Table.{Table}
-use Rattle.plan_table.specs.declared.Written.{Written}
+use Rattle.plan_table.specs.Results.{Written}
 use Rattle.plan_table.proofs.FittedLaws.{well_decode, fits_at}
 use Rattle.plan_table.proofs.PackedLaws.{encode_decode}
 use Rattle.plan_writer.specs.Writing.{plan_written, written_out}

@@ -14,15 +14,14 @@ use Rattle.plan_table.specs.Packed.{decode_parts, encode, fits}
 use Rattle.plan_reader.specs.Reading.{ReadPost}
 use Rattle.plan.specs.Calls.{read_by, plan_read}
 use Rattle.plan_table.specs.declared.Table.{Table}
-use Rattle.plan_table.specs.declared.End.{End}
+use Rattle.plan_table.specs.Results.{End}
 use Rattle.plan_table.proofs.EncodeLaws.{fits_encode}
 use Rattle.plan_table.proofs.PackedLaws.{encode_decode}
 use Rattle.plan_table.specs.Results.{with_table}
 
 module _ (b ws ms : List ℕ) (r : End) (post : ReadPost b ws ms r) where
-  pub plan_refused : (t : Table) → (r.number ≡ 0 → ⊥) → t ≡ encode model.empty → with_table (refusal r.number r.place) t ≡ plan_read b
-  plan_refused t z e =
-      ap (with_table (refusal r.number r.place)) e ∙
+  pub plan_refused : (r.number ≡ 0 → ⊥) → with_table (refusal r.number r.place) (encode model.empty) ≡ plan_read b
+  plan_refused z =
       ap read_by
       (sym (cond_ne (got (decode_parts r.count ws ms)) (refused (refusal r.number r.place)) z) ∙ post.result)
 

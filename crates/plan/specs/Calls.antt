@@ -3,8 +3,7 @@ use Rattle.std.specs.Prelude.{List, ℕ}
 use Rattle.model.specs.Refusal as refusal
 use Rattle.model.specs.Table as model
 use Rattle.model.specs.Stored.{Read, refused, got, read_plan}
-use Rattle.plan_table.specs.declared.TableResult.{TableResult}
-use Rattle.plan_table.specs.Results.{result}
+use Rattle.plan_table.specs.Results.{TableResult, result}
 
 -- READING: refused, the table is the empty one
 abbrev pub read_by : Read → TableResult

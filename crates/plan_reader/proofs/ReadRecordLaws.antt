@@ -1,9 +1,9 @@
 -- What the model says of the record at the front, from the tests that the reader makes: one law for each way out.
-use mathlib.Core.Path.{◌≡◌, ap, sym, ◌∙◌}
+use mathlib.Core.Path.{◌≡◌, refl, ap, sym, ◌∙◌}
 use mathlib.Core.Bool.{Bool, true, false, ◌&&◌, not, cond}
 use mathlib.Core.List.{List, [], ◌∷◌, map}
 use mathlib.Core.Option.{Option, none, some}
-use Prim.Native.Nat.{ℕ, zero, suc, ◌+◌, ◌*◌, ◌-◌, ◌≤◌, ◌<◌}
+use Prim.Native.Nat.{ℕ, zero, suc, ◌+◌, ◌*◌, ◌≤◌, ◌<◌}
 use native.Mathlib.Omega.{arith}
 use lib.Dec.{eqb}
 use lib.ListN.{length, length-map, length-set, get_or, set}
@@ -167,18 +167,26 @@ last_of_set ms d i h l =
 
 -- what a mark's or a row's reader leaves is what a record's reader owes
 module _ (s ws ms : List ℕ) (n last : ℕ) (pre : RecordPre s ws ms n last) (whole : record_size ≤ length s) where
-  pub mark_record : get_or s 0 0 ≡ mark_kind → (ms' : List ℕ) (r d : ℕ) → MarkPost s ws ms n last ms' r → d ≡ get_or s 1 0 →
-      RecordPost s ws ms n ws ms' (record { number = r; count = n; last = d + 1 })
-  mark_record kind ms' r d post same =
+  pub mark_refused : get_or s 0 0 ≡ mark_kind → (ms' : List ℕ) (r : ℕ) → (r ≡ 0 → ⊥) → MarkPost s ws ms n last ms' r →
+      RecordPost s ws ms n ws ms' (record { number = r; count = 0; last = 0 })
+  mark_refused kind ms' r z post =
       record {
         refusal = λ i. record_mark (decode_parts n ws ms) i s kind whole ∙ post.refusal i pre.held.latest;
-        fine = λ z. held z (post.marks ∙ cond_eq (set ms (get_or s 1 0) (number_at s 2 + 1)) ms z);
+        fine = λ e. absurd (z e);
+      }
+
+  pub mark_record : get_or s 0 0 ≡ mark_kind → (ms' : List ℕ) (d : ℕ) → MarkPost s ws ms n last ms' 0 → d ≡ get_or s 1 0 →
+      RecordPost s ws ms n ws ms' (record { number = 0; count = n; last = d + 1 })
+  mark_record kind ms' d post same =
+      record {
+        refusal = λ i. record_mark (decode_parts n ws ms) i s kind whole ∙ post.refusal i pre.held.latest;
+        fine = λ z. held post.marks;
       }
     where
-      held : r ≡ 0 → ms' ≡ set ms (get_or s 1 0) (number_at s 2 + 1) → Recorded s ws ms n ws ms' n (d + 1)
-      held z e =
-          let f : get_or s 1 0 < length ms = omega (arith, post.document z, pre.held.documents) in
-          let o : last_of ms ≤ get_or s 1 0 = omega (arith, post.order z, pre.held.latest) in
+      held : ms' ≡ set ms (get_or s 1 0) (number_at s 2 + 1) → Recorded s ws ms n ws ms' n (d + 1)
+      held e =
+          let f : get_or s 1 0 < length ms = omega (arith, post.document refl, pre.held.documents) in
+          let o : last_of ms ≤ get_or s 1 0 = omega (arith, post.order refl, pre.held.latest) in
           record {
             whole = whole;
             table =
@@ -194,25 +202,34 @@ module _ (s ws ms : List ℕ) (n last : ℕ) (pre : RecordPre s ws ms n last) (w
                 };
           }
 
-  pub row_record : is_stored_kind (get_or s 0 0) ≡ true → is_mark s ≡ false → n < max_rows → (ws' : List ℕ) (r : ℕ) →
-      RowPost s ws n last ws' r →
-      RecordPost s ws ms n ws' ms (record { number = r; count = n + 1; last = last })
-  row_record kind row room ws' r post =
+  counted : n < max_rows → model.count (decode_parts n ws ms) < max_rows
+  counted room = omega (arith, room, count_decode n ws ms (omega (arith, pre.held.room, pre.held.size)))
+
+  pub row_refused : is_stored_kind (get_or s 0 0) ≡ true → is_mark s ≡ false → n < max_rows → (ws' : List ℕ) (r : ℕ) →
+      (r ≡ 0 → ⊥) → RowPost s ws n last ws' r → RecordPost s ws ms n ws' ms (record { number = r; count = 0; last = 0 })
+  row_refused kind row room ws' r z post =
       record {
-        refusal = λ i. record_row (decode_parts n ws ms) i s kind row counted whole ∙ post.refusal ms i pre.held.latest;
-        fine = λ z. held z (post.rows ∙ cond_eq (set ws n (pack_row (row_in s))) ws z);
+        refusal = λ i.
+            record_row (decode_parts n ws ms) i s kind row (counted room) whole ∙ post.refusal ms i pre.held.latest;
+        fine = λ e. absurd (z e);
+      }
+
+  pub row_record : is_stored_kind (get_or s 0 0) ≡ true → is_mark s ≡ false → n < max_rows → (ws' : List ℕ) →
+      RowPost s ws n last ws' 0 → RecordPost s ws ms n ws' ms (record { number = 0; count = n + 1; last = last })
+  row_record kind row room ws' post =
+      record {
+        refusal = λ i.
+            record_row (decode_parts n ws ms) i s kind row (counted room) whole ∙ post.refusal ms i pre.held.latest;
+        fine = λ z. held post.rows;
       }
     where
-      counted : model.count (decode_parts n ws ms) < max_rows
-      counted = omega (arith, room, count_decode n ws ms (omega (arith, pre.held.room, pre.held.size)))
-
-      held : r ≡ 0 → ws' ≡ set ws n (pack_row (row_in s)) → Recorded s ws ms n ws' ms (n + 1) last
-      held z e =
+      held : ws' ≡ set ws n (pack_row (row_in s)) → Recorded s ws ms n ws' ms (n + 1) last
+      held e =
           let h : n < length ws = omega (arith, room, pre.held.size) in
           record {
             whole = whole;
             table =
-                ap (λ (v : List ℕ). decode_parts (n + 1) v ms) e ∙ decode_row n (row_in s) ws ms h (post.link z) ∙
+                ap (λ (v : List ℕ). decode_parts (n + 1) v ms) e ∙ decode_row n (row_in s) ws ms h (post.link refl) ∙
                 sym (cond_false (is_mark s) _ _ row);
             held =
                 record {
@@ -221,7 +238,7 @@ module _ (s ws ms : List ℕ) (n last : ℕ) (pre : RecordPre s ws ms n last) (w
                   documents = pre.held.documents;
                   canonical =
                       ap (λ (v : List ℕ). pack_rows (rows_of (n + 1) v)) e ∙
-                      canonical_push n ws (row_in s) room pre.held.size (post.link z) pre.held.canonical ∙ sym e;
+                      canonical_push n ws (row_in s) room pre.held.size (post.link refl) pre.held.canonical ∙ sym e;
                   latest = pre.held.latest;
                 };
           }

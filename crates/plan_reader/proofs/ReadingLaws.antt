@@ -10,14 +10,13 @@ use borrow.Author.Tests.{ne_eqb}
 use Rattle.model.specs.Refusal.{refusal, fine, is_fine, refusal_at}
 use Rattle.model.specs.Table as model
 use Rattle.model.specs.Stored.{is_stored_kind, record_size, last_marked, record_refusal, recorded, read_from, read_plan, refused, got}
-use Rattle.model.proofs.BoolLaws.{cond_true}
+use Rattle.model.proofs.BoolLaws.{cond_true, cond_ne}
 use Rattle.model.proofs.KindLaws.{stored_size_lem}
 use Rattle.model.proofs.ListLaws.{drop_all, drop_first}
 use Rattle.model.proofs.StoredLaws.{read_from_end, read_from_fine, read_from_refused, read_from_fuel, fine_kind}
 use Rattle.plan_table.specs.Packed.{of_link, decode_parts}
 use Rattle.plan_table.specs.StoredKinds.{size_read}
-use Rattle.plan_reader.specs.Reading.{last_of, RecordPost, Held, ReadPre}
-use Rattle.plan_reader.specs.declared.read.RecordRead.{RecordRead}
+use Rattle.plan_reader.specs.Reading.{last_of, RecordRead, RecordPost, Held, ReadPre, ReadPost}
 
 -- reading goes on from what is held, at a place
 module _ (b ws ms : List ℕ) (n at : ℕ) (h : at < length b)
@@ -32,12 +31,19 @@ module _ (b ws ms : List ℕ) (n at : ℕ) (h : at < length b)
     refusals : record_refusal (decode_parts n ws ms) at (drop at b) ≡ refusal_at r.number at
     refusals = ap (record_refusal (decode_parts n ws ms) at) (sym (drop_all b at)) ∙ post.refusal at
 
-    pub reading_refused : (r.number ≡ 0 → ⊥) → refused (refusal r.number at) ≡ read_plan b
+    pub reading_refused : (r.number ≡ 0 → ⊥) → ReadPost b ws' ms' (record { number = r.number; place = at; count = 0 })
     reading_refused z =
         let e : record_refusal (decode_parts n ws ms) at (drop at b) ≡ refusal r.number at = refusals ∙ rw (ne_eqb r.number 0 z) in
-        sym (read_from_refused (length b - at - 1) (decode_parts n ws ms) at (drop at b) more (ap is_fine e ∙ ne_eqb r.number 0 z) ∙
-        ap refused e) ∙
-        ap (λ (j : ℕ). read_from j (decode_parts n ws ms) at (drop at b)) (sym fuel) ∙ held
+        record {
+          result =
+              cond_ne (got (decode_parts 0 ws' ms')) (refused (refusal r.number at)) z ∙
+              sym (read_from_refused (length b - at - 1) (decode_parts n ws ms) at (drop at b) more (ap is_fine e ∙ ne_eqb r.number 0
+              z) ∙
+              ap refused e) ∙
+              ap (λ (j : ℕ). read_from j (decode_parts n ws ms) at (drop at b)) (sym fuel) ∙ held;
+          canonical = λ k. absurd (z k);
+          room = λ k. absurd (z k);
+        }
 
     pub reading_on : r.number ≡ 0 → {size : ℕ} → size ≡ size_read (get_or b at 0) → (0 < size) × (at + size ≤ length b) ×
         (read_from (length b - (at + size)) (decode_parts r.count ws' ms') (at + size) (drop (at + size) b) ≡ read_plan b)

@@ -1,12 +1,14 @@
 -- Contracts of the reader's parts: what each asks and what it leaves.
-use Rattle.std.specs.Prelude.{◌≡◌, true, false, cond, List, map, ℕ, ◌+◌, ◌≤◌, ◌<◌, eqb, length, get_or, set, replicate}
+use Rattle.std.specs.Prelude.{◌≡◌, true, false, cond, List, map, ℕ, ◌+◌, ◌≤◌, ◌<◌, eqb, length, get_or, set, replicate, Result, Ok, Err}
 use Rattle.model.specs.Limits.{max_rows, documents}
 use Rattle.model.specs.Refusal.{refusal, refusal_at}
 use Rattle.model.specs.Stored.{is_stored_kind, record_size, Read, refused, got, read_plan, number_at, row_in, last_marked}
 use Rattle.model.specs.Stored.{is_mark, row_refusal, mark_refusal, record_refusal, recorded}
 use Rattle.plan_table.specs.Packed.{link_of, of_link, pack_row, decode_parts, Canonical, link_room}
-use Rattle.plan_reader.specs.declared.read.RecordRead.{RecordRead}
-use Rattle.plan_table.specs.declared.End.{End}
+use Rattle.plan_table.specs.Refusals.{number_of}
+use Rattle.plan_table.specs.Results.{End}
+use Rattle.plan_table.specs.declared.Reason.{Reason}
+use Rattle.plan_reader.specs.declared.read.RecordRead as declared
 
 -- the last document that marks a row, and one
 abbrev pub last_of : (marks : List ℕ) → ℕ
@@ -53,6 +55,17 @@ pub record Recorded (s ws ms : List ℕ) (n : ℕ) (ws' ms' : List ℕ) (n' last
   pub whole : record_size ≤ length s
   pub table : decode_parts n' ws' ms' ≡ recorded (decode_parts n ws ms) s
   pub held : Held ws' ms' n' last'
+
+-- after a record: its refusal's number, or 0; rows so far; one more than the last document that marks a row
+pub record RecordRead : Type 0 where
+  pub number : ℕ
+  pub count : ℕ
+  pub last : ℕ
+
+-- as a result says it
+abbrev pub record_by : Result declared.RecordRead Reason → RecordRead
+record_by (Ok r) = record { number = 0; count = r.count; last = r.last }
+record_by (Err r) = record { number = number_of r; count = 0; last = 0 }
 
 pub record RecordPost (s ws ms : List ℕ) (n : ℕ) (ws' ms' : List ℕ) (r : RecordRead) : Type 0 where
   pub refusal : (i : ℕ) → record_refusal (decode_parts n ws ms) i s ≡ refusal_at r.number i

@@ -2,14 +2,14 @@
 ghost use Rattle.std.specs.Prelude.{◌≡◌, cond, ◌+◌, ◌*◌, ◌<◌, eqb};
 ghost use Rattle.model.specs.Stored.{leaf_kind};
 ghost use Rattle.plan_table.specs.Packed.{element_bits, leaf_bits, link_room};
-ghost use Rattle.plan_reader.specs.Reading.{RowPre, RowPost, MarkPre, MarkPost, RecordPre, RecordPost, ReadPre, ReadPost};
+ghost use Rattle.plan_table.specs.Results.{end_by, number_by};
+ghost use Rattle.plan_reader.specs.Reading.{RowPre, RowPost, MarkPre, MarkPost, RecordPre, RecordPost, ReadPre, ReadPost, record_by};
 
-use plan_table::{End, Link, Refusal, RowNumber, Table, fit, marks, number, packed, stored};
+use plan_table::{Link, Reason, Refusal, RowNumber, Table, fit, marks, number, packed, stored};
 
-// After a record: its refusal's number, or 0; rows so far; one more than the last document that marks a row.
+// After a record: rows so far; one more than the last document that marks a row.
 #[derive(Clone, Copy)]
 pub struct RecordRead {
-    pub number: u8,
     pub count: usize,
     pub last: usize,
 }
@@ -25,55 +25,55 @@ fn packed_row(kind: u8, tag: u8, parent: Link) -> u32
     packed::element(number::name(tag), parent)
 }
 
-// The row at the front of s: its refusal's number, or 0 and the table has it.
-fn row(s: &[u8], rows: &mut [u32], count: usize, last: usize) -> u8
+// The row at the front of s; not refused, the table has it.
+fn row(s: &[u8], rows: &mut [u32], count: usize, last: usize) -> Result<(), Reason>
     requires { RowPre s.now rows.old count }
-    ensures { RowPost s.now rows.old count last rows.new result }
+    ensures { RowPost s.now rows.old count last rows.new (number_by result) }
 {
     let kind = s[0];
     let tag = s[1];
     if kind == stored::ELEMENT {
         if tag == 0 {
-            return Refusal::FIELD;
+            return Err(Reason::Field);
         }
     }
     if last != 0 {
-        return Refusal::LINK;
+        return Err(Reason::Link);
     }
     let parent = number::number_at(s, 2);
     if parent == number::NONE {
         rows[count] = packed_row(kind, tag, Link(0));
-        return 0;
+        return Ok(());
     }
     if !fit::is_lower_element(rows, RowNumber(count), RowNumber(parent)) {
-        return Refusal::LINK;
+        return Err(Reason::Link);
     }
     let link = parent + 1;
     rows[count] = packed_row(kind, tag, Link(link));
-    0
+    Ok(())
 }
 
-// The mark at the front of s: its refusal's number, or 0 and the table has it.
-fn mark(s: &[u8], rows: &[u32], marks: &mut [u16], count: usize, last: usize) -> u8
+// The mark at the front of s; not refused, the table has it.
+fn mark(s: &[u8], rows: &[u32], marks: &mut [u16], count: usize, last: usize) -> Result<(), Reason>
     requires { MarkPre s.now rows.now marks.old count }
-    ensures { MarkPost s.now rows.now marks.old count last marks.new result }
+    ensures { MarkPost s.now rows.now marks.old count last marks.new (number_by result) }
 {
     let document = number::byte(s[1]);
     if Table::DOCUMENTS <= document {
-        return Refusal::FIELD;
+        return Err(Reason::Field);
     }
     if document < last {
-        return Refusal::LINK;
+        return Err(Reason::Link);
     }
     let row = number::number_at(s, 2);
     if !fit::is_root_below(rows, count, RowNumber(row)) {
-        return Refusal::LINK;
+        return Err(Reason::Link);
     }
     if marks::is_marked(marks, RowNumber(row)) {
-        return Refusal::LINK;
+        return Err(Reason::Link);
     }
     marks[document] = (row + 1) as u16;
-    0
+    Ok(())
 }
 
 // The record at the front of s.
@@ -83,62 +83,43 @@ fn read_record(
     marks: &mut [u16],
     count: usize,
     last: usize,
-) -> RecordRead
+) -> Result<RecordRead, Reason>
     requires { RecordPre s.now rows.old marks.old count last }
     ensures { RecordPost s.now rows.old marks.old count
-        rows.new marks.new result }
+        rows.new marks.new (record_by result) }
 {
     let kind = s[0];
     let size = stored::size(kind);
     if size == 0 {
-        return RecordRead {
-            number: Refusal::KIND,
-            count,
-            last,
-        };
+        return Err(Reason::Kind);
     }
-    if kind == stored::MARK {
-        if s.len() < size {
-            return RecordRead {
-                number: Refusal::SHORT,
-                count,
-                last,
-            };
+    if kind != stored::MARK {
+        if Table::ROWS <= count {
+            return Err(Reason::Size);
         }
-        let number = mark(s, rows, marks, count, last);
-        let document = number::byte(s[1]);
-        return RecordRead {
-            number,
-            count,
-            last: document + 1,
-        };
-    }
-    if Table::ROWS <= count {
-        return RecordRead {
-            number: Refusal::SIZE,
-            count,
-            last,
-        };
     }
     if s.len() < size {
-        return RecordRead {
-            number: Refusal::SHORT,
-            count,
-            last,
-        };
+        return Err(Reason::Short);
     }
-    let number = row(s, rows, count, last);
-    RecordRead {
-        number,
+    if kind == stored::MARK {
+        mark(s, rows, marks, count, last)?;
+        let document = number::byte(s[1]);
+        return Ok(RecordRead {
+            count,
+            last: document + 1,
+        });
+    }
+    row(s, rows, count, last)?;
+    Ok(RecordRead {
         count: count + 1,
         last,
-    }
+    })
 }
 
-// Every record, into an empty table.
-pub fn records(bytes: &[u8], rows: &mut [u32], marks: &mut [u16]) -> End
+// Every record, into an empty table; how many rows they are.
+pub fn records(bytes: &[u8], rows: &mut [u32], marks: &mut [u16]) -> Result<usize, Refusal>
     requires { ReadPre rows.old marks.old }
-    ensures { ReadPost bytes.now rows.new marks.new result }
+    ensures { ReadPost bytes.now rows.new marks.new (end_by result) }
 {
     let mut at = 0;
     let mut count = 0;
@@ -146,21 +127,13 @@ pub fn records(bytes: &[u8], rows: &mut [u32], marks: &mut [u16]) -> End
     while at < bytes.len() {
         // Taken before the rows are written: after that the compiler would load it again.
         let kind = bytes[at];
-        let read = read_record(&bytes[at..], rows, marks, count, last);
-        if read.number != 0 {
-            return End {
-                number: read.number,
-                place: at,
-                count,
-            };
-        }
+        let read = read_record(&bytes[at..], rows, marks, count, last).map_err(|reason| Refusal {
+            reason,
+            place: at,
+        })?;
         count = read.count;
         last = read.last;
         at += stored::size(kind);
     }
-    End {
-        number: 0,
-        place: 0,
-        count,
-    }
+    Ok(count)
 }

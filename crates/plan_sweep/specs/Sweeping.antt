@@ -7,9 +7,8 @@ use Rattle.model.specs.Refusal as refusal
 use Rattle.model.specs.Sweep.{swept, is_kept, new_number, swept_rows}
 use Rattle.plan_table.specs.Flags.{Flags}
 use Rattle.plan_table.specs.Packed.{of_link, with_link, pack_rows, decode, parts_fit, fits, link_in, link_room}
-use Rattle.plan_table.specs.Results.{result, with_table}
+use Rattle.plan_table.specs.Results.{TableResult, result, with_table}
 use Rattle.plan_table.specs.declared.Table.{Table}
-use Rattle.plan_table.specs.declared.TableResult.{TableResult}
 
 -- SWEEPING a table handed in: refused, it is as it was
 abbrev pub plan_swept : Table → TableResult

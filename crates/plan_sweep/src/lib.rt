@@ -2,26 +2,26 @@
 #![tactic(auto)]
 
 ghost use Rattle.std.specs.Prelude.{◌≡◌};
+ghost use Rattle.plan_table.specs.Results.{table_by};
 ghost use Rattle.plan_sweep.specs.Sweeping.{plan_swept};
 
-use plan_table::{Refusal, Table, TableResult, fit, results};
+use plan_table::{Reason, Refusal, Table, fit};
 
 pub mod sweep;
 
-// Drops each row that is neither marked nor below a marked row; refused, the table is as it was handed in.
-pub fn sweep_table(table: Table) -> TableResult
-    ensures { result ≡ plan_swept table }
+// Drops each row that is neither marked nor below a marked row.
+pub fn sweep_table(table: Table) -> Result<Table, Refusal>
+    ensures { table_by table result ≡ plan_swept table }
 {
     let count = table.count;
     if !fit::fits(count, &table.rows, &table.marks) {
-        return results::refused(Refusal::LINK, 0, table);
+        return Err(Refusal {
+            reason: Reason::Link,
+            place: 0,
+        });
     }
     let mut rows = [0u32; Table::ROWS];
     let mut marks = table.marks;
-    let kept = sweep::fitting(count, &table.rows, &mut marks, &mut rows);
-    results::accepted(Table {
-        count: kept,
-        rows,
-        marks,
-    })
+    let count = sweep::fitting(count, &table.rows, &mut marks, &mut rows);
+    Ok(Table { count, rows, marks })
 }

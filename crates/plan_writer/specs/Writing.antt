@@ -4,10 +4,9 @@ use Rattle.model.specs.Base.{at_front}
 use Rattle.model.specs.Limits.{max_rows, documents}
 use Rattle.model.specs.Refusal as refusal
 use Rattle.model.specs.Stored.{record_size, marks_bytes, stored}
-use Rattle.plan_table.specs.Results.{refusal_of}
+use Rattle.plan_table.specs.Results.{refusal_of, Written}
 use Rattle.plan_table.specs.Packed.{of_link, byte_tags, decode, fits}
 use Rattle.plan_table.specs.declared.Table.{Table}
-use Rattle.plan_table.specs.declared.Written.{Written}
 
 -- WRITING: 6 before 11; bytes past the stored length stay; refused, nothing is written
 abbrev pub write_refusal : Table → (room : ℕ) → refusal.Refusal

@@ -22,7 +22,7 @@ use Rattle.plan_table.proofs.PackedLaws.{of_link_link_of, count_decode, row_at_d
 use Rattle.plan_table.proofs.DecodeLaws.{parent_at, link_low}
 use Rattle.run_updates.specs.State.{Progress, state_of, outcome, Held, Updated}
 use Rattle.run_updates.specs.Updating.{NewPre}
-use Rattle.run_insert.specs.Inserting.{copier, before, next_link, copy_by, IsCopy, Mapped, NextPre, NextPost, no_copy}
+use Rattle.run_insert.specs.Inserting.{copier, before, copy_link, next_link, copy_by, IsCopy, Mapped, NextPre, NextPost, no_copy}
 use Rattle.run_updates.proofs.StateLaws.{held_within, held_count, after_self, outcome_gives}
 use Rattle.model.proofs.LeadsLaws.{new_row_full, new_row_room}
 use Rattle.run_insert.proofs.InsertLawsScan.{linked_at}
@@ -197,6 +197,29 @@ module _ {ws h m : List ℕ} {p : Progress} {t j : ℕ} (pre : NextPre t j (copi
                 };
             map = ap (set m j) (sym (cond_ne no_copy p.count n));
           }
+
+  -- the same of the link as the code comes to it
+  module _ {k i : ℕ} (e : k ≡ l) (f : i ≡ copy_link m t k) where
+    link_is : i ≡ link
+    link_is = f ∙ ap (copy_link m t) e
+
+    module _ (n : i ≡ 0 → ⊥) where
+      has_link : link ≡ 0 → ⊥
+      has_link q = n (link_is ∙ q)
+
+      pub link_small : i < link_room
+      link_small = omega (arith, link_is, next_small has_link)
+
+      module _ {v : ℕ} (packed : v ≡ with_link w i) where
+        linked_is : v ≡ with_link w link
+        linked_is = packed ∙ ap (with_link w) link_is
+
+        pub link_pre : NewPre ws h p v
+        link_pre = next_pre has_link linked_is
+
+        pub link_made : {ws' h' : List ℕ} {r : Progress} → Updated (λ z s. new_row z (row_of v) s) (p.count ∷ []) ws h p ws' h' r →
+            NextPost t j (copier ws h m p) (copier ws' h' (set m j p.count) r)
+        link_made u = next_made has_link linked_is u
 
   -- the rows after it: those that were there, and the copy
   module _ {ws' h' m' : List ℕ} {r : Progress} (post : NextPost t j (copier ws h m p) (copier ws' h' m' r)) (fine : r.number ≡ 0) where

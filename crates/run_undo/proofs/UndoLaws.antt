@@ -161,7 +161,7 @@ module _ {b m : List ℕ} {at n : ℕ} (c : Forming b m at n) where
     refusals : form_refusal at n (drop at b) ≡ refusal_at r at
     refusals = ap (form_refusal at n) (sym (drop_all b at)) ∙ post.refusal at
 
-    pub forming_refused : (r ≡ 0 → ⊥) → PlacesPost b m (record { number = r; place = at; count = n })
+    pub forming_refused : (r ≡ 0 → ⊥) → PlacesPost b m (record { number = r; place = at; count = 0 })
     unfolding form_from
     forming_refused z =
         record {

@@ -9,7 +9,7 @@ use lib.Dec.{ltb, eqb}
 use lib.ListN.{length, get_or, take, drop, set}
 use borrow.Author.Tests.{ltb-true, eqb-true}
 use Rattle.model.specs.Limits.{max_rows}
-use Rattle.model.specs.Refusal.{refusal, fine, link_at}
+use Rattle.model.specs.Refusal.{refusal, link_at}
 use Rattle.model.specs.Table as model
 use Rattle.model.specs.Stored.{number_at}
 use Rattle.model.specs.History.{made, cut, history_form, history_size, record_in, cut_kind, made_size, cut_size}
@@ -21,7 +21,7 @@ use Rattle.model.proofs.TestLaws.{and_four, and_five}
 use Rattle.plan_table.specs.Packed.{with_link, decode_parts, Canonical, link_room}
 use Rattle.plan_table.proofs.PackedLaws.{of_link_link_of, count_decode, decode_linked, canonical_linked, canonical_pop, decode_pop}
 use Rattle.run_undo.specs.Undoing.{IsWhole, undoing, FitPre, row_made, BackPre, BackPost, AllPre, AllPost}
-use Rattle.plan_table.specs.declared.End.{End}
+use Rattle.plan_table.specs.Results.{End}
 
 -- THE RECORD at the front, by its kind
 record_cut : (s : List ℕ) → get_or s 0 0 ≡ cut_kind → record_in s ≡ cut (number_at s 1) (number_at s 3)
@@ -46,7 +46,7 @@ module _ {ws : List ℕ} {n : ℕ} {s : List ℕ} (pre : BackPre ws n s) (ms : L
   within : n ≤ length ws
   within = omega (arith, pre.rows, pre.few)
 
-  refused_record : undo_fits x (record_in s) ≡ false → BackPost ws ms n s ws (record { number = 6; place = 0; count = n })
+  refused_record : undo_fits x (record_in s) ≡ false → BackPost ws ms n s ws (record { number = 6; place = 0; count = 0 })
   refused_record e =
       record {
         fit = e;
@@ -63,7 +63,7 @@ module _ {ws : List ℕ} {n : ℕ} {s : List ℕ} (pre : BackPre ws n s) (ms : L
         record { rows = pre.rows; few = pre.few; whole = omega (arith, pre.whole.1) }
 
     pub cut_refused : cut_fits x (number_at s 1) (number_at s 3) ≡ false →
-        BackPost ws ms n s ws (record { number = 6; place = 0; count = n })
+        BackPost ws ms n s ws (record { number = 6; place = 0; count = 0 })
     cut_refused e = refused_record (ap (undo_fits x) (record_cut s kind) ∙ e)
 
     module _ (fit : cut_fits x (number_at s 1) (number_at s 3) ≡ true) where
@@ -112,7 +112,7 @@ module _ {ws : List ℕ} {n : ℕ} {s : List ℕ} (pre : BackPre ws n s) (ms : L
         record { rows = pre.rows; few = pre.few; whole = omega (arith, pre.whole.1, size_made s kind pre.whole.0) }
 
     pub made_refused : made_fits x (number_at s 1) (row_made s) ≡ false →
-        BackPost ws ms n s ws (record { number = 6; place = 0; count = n })
+        BackPost ws ms n s ws (record { number = 6; place = 0; count = 0 })
     made_refused e = refused_record (ap (undo_fits x) (record_made s kind pre.whole.0) ∙ e)
 
     module _ (fit : made_fits x (number_at s 1) (row_made s) ≡ true) where
@@ -192,7 +192,7 @@ module _ {ws₀ : List ℕ} {n₀ : ℕ} {b m : List ℕ} {k₀ : ℕ} (pre : Al
             ap (λ (j : ℕ). undo_all y (record { at = j; entry = record_in (drop j b) } ∷ undoing b m (k - 1))) place ∙
             ap (λ (j : ℕ). undo_all y (undoing b m j)) (sym e) ∙ c.rest
 
-        pub backing_refused : (r.number ≡ 0 → ⊥) → AllPost ws₀ ms n₀ b m k₀ ws' (record { number = r.number; place = at; count = n })
+        pub backing_refused : (r.number ≡ 0 → ⊥) → AllPost ws₀ ms n₀ b m k₀ ws' (record { number = r.number; place = at; count = 0 })
         backing_refused z =
             record {
               fine = λ f. absurd (z f);

@@ -15,7 +15,7 @@ use Rattle.plan_table.specs.declared.Table.{Table}
 use Rattle.plan_table.proofs.PackedLaws.{encode_decode}
 use Rattle.plan_table.proofs.FittedLaws.{fits_at}
 use Rattle.run_undo.specs.Undoing.{undone_by, plan_undone, PlacesPost, AllPre, AllPost}
-use Rattle.plan_table.specs.declared.End.{End}
+use Rattle.plan_table.specs.Results.{End}
 
 module _ (t : Table) (b : List ℕ) where
   pub undo_unfit : fits t ≡ false → with_table (link_at 0) t ≡ plan_undone t b

@@ -1,5 +1,5 @@
 -- What undo answers, for every input, and the contracts of its parts.
-use Rattle.std.specs.Prelude.{◌≡◌, cond, List, [], ◌∷◌, ℕ, zero, suc, ◌≤◌, ◌<◌, eqb, length, get_or, drop}
+use Rattle.std.specs.Prelude.{◌≡◌, cond, List, [], ◌∷◌, ℕ, zero, suc, ◌≤◌, ◌<◌, eqb, length, get_or, drop, Result, Ok, Err}
 use Rattle.model.specs.Limits.{max_history, max_rows}
 use Rattle.model.specs.Refusal as refusal
 use Rattle.model.specs.Table as model
@@ -7,10 +7,10 @@ use Rattle.model.specs.History.{made_leaf_kind, made_row, history_size, record_i
 use Rattle.model.specs.Undo.{Placed, form_refusal, undo_fits, undone, Undo, refused, back, undo_all, undo}
 use Rattle.plan_table.specs.Packed.{decode, decode_parts, Canonical, fits}
 use Rattle.model.specs.Refusal.{refusal_at}
-use Rattle.plan_table.specs.Results.{result, with_table}
+use Rattle.plan_table.specs.Refusals.{number_of}
+use Rattle.plan_table.specs.Results.{TableResult, End, result, with_table}
+use Rattle.plan_table.specs.declared.Reason.{Reason}
 use Rattle.plan_table.specs.declared.Table.{Table}
-use Rattle.plan_table.specs.declared.TableResult.{TableResult}
-use Rattle.plan_table.specs.declared.End.{End}
 
 -- UNDO of a table handed in: 6 where it is ill formed; refused, the table is as it was
 abbrev pub undone_by : Table → Undo → TableResult
@@ -63,6 +63,11 @@ pub record BackPre (ws : List ℕ) (n : ℕ) (s : List ℕ) : Type 0 where
   pub few : n ≤ max_rows
   pub canonical : Canonical n ws
   pub whole : IsWhole s
+
+-- what a result says of it: a refusal's number, or 0 and how many rows there are then
+abbrev pub back_by : Result ℕ Reason → End
+back_by (Ok n) = record { number = 0; place = 0; count = n }
+back_by (Err r) = record { number = number_of r; place = 0; count = 0 }
 
 pub record BackPost (ws ms : List ℕ) (n : ℕ) (s ws' : List ℕ) (r : End) : Type 0 where
   pub fit : undo_fits (decode_parts n ws ms) (record_in s) ≡ eqb r.number 0

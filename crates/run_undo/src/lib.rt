@@ -2,28 +2,29 @@
 #![tactic(auto)]
 
 ghost use Rattle.std.specs.Prelude.{◌≡◌};
+ghost use Rattle.plan_table.specs.Results.{table_by};
 ghost use Rattle.run_undo.specs.Undoing.{plan_undone};
 
-use plan_table::{Refusal, Table, TableResult, fit, results};
+use plan_table::{Reason, Refusal, Table, fit};
 
 pub mod undoing;
 
-// Takes a run back by its history. An ill-formed table is 6; refused, the table is as it was.
-pub fn undo(table: Table, history: &[u8]) -> TableResult
-    ensures { result ≡ plan_undone table history.now }
+// Takes a run back by its history. An ill-formed table is 6.
+pub fn undo(table: Table, history: &[u8]) -> Result<Table, Refusal>
+    ensures { table_by table result ≡ plan_undone table history.now }
 {
     let count = table.count;
     if !fit::fits(count, &table.rows, &table.marks) {
-        return results::refused(Refusal::LINK, 0, table);
+        return Err(Refusal {
+            reason: Reason::Link,
+            place: 0,
+        });
     }
     let mut rows = table.rows;
-    let back = undoing::fitting(&mut rows, &table.marks, count, history);
-    if back.number != 0 {
-        return results::refused(back.number, back.place, table);
-    }
+    let left = undoing::fitting(&mut rows, &table.marks, count, history)?;
     let marks = table.marks;
-    results::accepted(Table {
-        count: back.count,
+    Ok(Table {
+        count: left,
         rows,
         marks,
     })

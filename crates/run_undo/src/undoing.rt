@@ -6,62 +6,51 @@ ghost use Rattle.model.specs.Stored.{parent_in, number_at};
 ghost use Rattle.model.specs.Undo.{same_bool, same_parent, made_fits, cut_fits};
 ghost use Rattle.plan_table.specs.Packed.{kind_in, leaf_bits, of_link, decode_parts, table_of};
 ghost use Rattle.plan_table.specs.Fitting.{FittingParts};
-ghost use Rattle.plan_table.specs.Results.{left_by};
+ghost use Rattle.plan_table.specs.Results.{end_by, left_by, number_by};
 ghost use Rattle.run_undo.specs.Undoing.{FormPost, PlacesPost, FitPre, row_made, BackPre, BackPost, AllPre, AllPost};
-ghost use Rattle.run_undo.specs.Undoing.{plan_undone};
+ghost use Rattle.run_undo.specs.Undoing.{plan_undone, back_by};
 
-use plan_table::{End, Link, Refusal, RowNumber, Table, fit, marks, number, packed};
+use plan_table::{Link, Reason, Refusal, RowNumber, Table, fit, marks, number, packed};
 use run_updates::history;
 
-// The refusal of the record at the front of s, past so many records, or 0: 1, 5, 2, 4.
-fn form_refusal(s: &[u8], records: usize) -> u8
+// The refusal of the record at the front of s, past so many records: 1, 5, 2, 4.
+fn form_refusal(s: &[u8], records: usize) -> Result<(), Reason>
     requires { 0 < length s.now }
-    ensures { FormPost s.now records result }
+    ensures { FormPost s.now records (number_by result) }
 {
     let kind = s[0];
     let size = history::size(kind);
     if size == 0 {
-        return Refusal::KIND;
+        return Err(Reason::Kind);
     }
     if Table::HISTORY_RECORDS <= records {
-        return Refusal::SIZE;
+        return Err(Reason::Size);
     }
     if s.len() < size {
-        return Refusal::SHORT;
+        return Err(Reason::Short);
     }
     if kind == history::ELEMENT {
         if s[3] == 0 {
-            return Refusal::FIELD;
+            return Err(Reason::Field);
         }
     }
-    0
+    Ok(())
 }
 
-// The form of the whole history; the places of its records.
-fn form(bytes: &[u8], places: &mut [u16]) -> End
+// The form of the whole history; the places of its records, and how many they are.
+fn form(bytes: &[u8], places: &mut [u16]) -> Result<usize, Refusal>
     requires { length places.old ≡ max_history }
-    ensures { PlacesPost bytes.now places.new result }
+    ensures { PlacesPost bytes.now places.new (end_by result) }
 {
     let mut at = 0;
     let mut records = 0;
     while at < bytes.len() {
-        let number = form_refusal(&bytes[at..], records);
-        if number != 0 {
-            return End {
-                number,
-                place: at,
-                count: records,
-            };
-        }
+        form_refusal(&bytes[at..], records).map_err(|reason| Refusal { reason, place: at })?;
         places[records] = at as u16;
         records += 1;
         at += history::size(bytes[at]);
     }
-    End {
-        number: 0,
-        place: 0,
-        count: records,
-    }
+    Ok(records)
 }
 
 // A packed row and the kind of a record of a row made say the same.
@@ -129,44 +118,28 @@ fn cut_fits(rows: &[u32], marks: &[u16], count: usize, s: &[u8]) -> bool
     fit::is_lower_element(rows, RowNumber(row), RowNumber(parent))
 }
 
-// The record s undone: the link is back, or the last row is gone.
-fn undo_record(rows: &mut [u32], marks: &[u16], count: usize, s: &[u8]) -> End
+// The record s undone: the link is back, or the last row is gone. How many rows there are then.
+fn undo_record(rows: &mut [u32], marks: &[u16], count: usize, s: &[u8]) -> Result<usize, Reason>
     requires { BackPre rows.old count s.now }
-    ensures { BackPost rows.old marks.now count s.now rows.new result }
+    ensures { BackPost rows.old marks.now count s.now rows.new (back_by result) }
 {
     if s[0] == history::CUT {
         if !cut_fits(rows, marks, count, s) {
-            return End {
-                number: Refusal::LINK,
-                place: 0,
-                count,
-            };
+            return Err(Reason::Link);
         }
         let row = number::number_at(s, 1);
         let link = number::number_at(s, 3) + 1;
         rows[row] = packed::relinked(rows[row], Link(link));
-        return End {
-            number: 0,
-            place: 0,
-            count,
-        };
+        return Ok(count);
     }
     if !made_fits(rows, marks, count, s) {
-        return End {
-            number: Refusal::LINK,
-            place: 0,
-            count,
-        };
+        return Err(Reason::Link);
     }
     rows[count - 1] = 0;
-    End {
-        number: 0,
-        place: 0,
-        count: count - 1,
-    }
+    Ok(count - 1)
 }
 
-// Every record undone, the last first.
+// Every record undone, the last first. How many rows there are then.
 fn undo_all(
     rows: &mut [u32],
     marks: &[u16],
@@ -174,43 +147,34 @@ fn undo_all(
     bytes: &[u8],
     places: &[u16],
     records: usize,
-) -> End
+) -> Result<usize, Refusal>
     requires { AllPre rows.old count bytes.now places.now records }
     ensures { AllPost rows.old marks.now count bytes.now places.now records
-        rows.new result }
+        rows.new (end_by result) }
 {
     let mut left = count;
-    let mut k = records;
-    while 0 < k {
-        k -= 1;
+    for k in (0..records).rev() {
         let at = number::index(places[k]);
-        let step = undo_record(rows, marks, left, &bytes[at..]);
-        if step.number != 0 {
-            return End {
-                number: step.number,
-                place: at,
-                count: left,
-            };
-        }
-        left = step.count;
+        left = undo_record(rows, marks, left, &bytes[at..]).map_err(|reason| Refusal {
+            reason,
+            place: at,
+        })?;
     }
-    End {
-        number: 0,
-        place: 0,
-        count: left,
-    }
+    Ok(left)
 }
 
 // Takes a run back on the rows of a table that fits; refused, what they then hold is not said.
-pub fn fitting(rows: &mut [u32], marks: &[u16], count: usize, bytes: &[u8]) -> End
+pub fn fitting(
+    rows: &mut [u32],
+    marks: &[u16],
+    count: usize,
+    bytes: &[u8],
+) -> Result<usize, Refusal>
     requires { FittingParts count rows.old marks.now }
-    ensures { left_by (table_of count rows.old marks.now) result rows.new marks.now ≡
+    ensures { left_by (table_of count rows.old marks.now) (end_by result) rows.new marks.now ≡
         plan_undone (table_of count rows.old marks.now) bytes.now }
 {
     let mut places = [0u16; Table::HISTORY_RECORDS];
-    let read = form(bytes, &mut places);
-    if read.number != 0 {
-        return read;
-    }
-    undo_all(rows, marks, count, bytes, &places, read.count)
+    let records = form(bytes, &mut places)?;
+    undo_all(rows, marks, count, bytes, &places, records)
 }

@@ -155,12 +155,16 @@ module _ {ws h : List ℕ} {p : Progress} {i : ℕ} (pre : CutPre ws h p i) wher
         after = after_self pre.held;
       }
 
-  module _ (n : link ≡ 0 → ⊥) where
+  -- it has a parent, by the link that the code comes to
+  module _ {l : ℕ} (f : l ≡ link) (some_link : l ≡ 0 → ⊥) where
+    n : link ≡ 0 → ⊥
+    n q = some_link (f ∙ q)
+
     parent_here : (ms : List ℕ) → (model.row_at (decode_parts p.count ws ms) i).parent ≡ some (link - 1)
     parent_here ms = parent_at p.count ws ms (held_within pre.held) i pre.row n
 
-    pub cut_low : link - 1 < max_rows
-    cut_low = omega (arith, (pre.held.tree.parents i (link - 1) (parent_here [])).0, pre.row, pre.held.few)
+    pub cut_low : l - 1 < max_rows
+    cut_low = omega (arith, f, (pre.held.tree.parents i (link - 1) (parent_here [])).0, pre.row, pre.held.few)
 
     abbrev cut_entry : Record
     cut_entry = cut i (link - 1)
@@ -215,12 +219,12 @@ module _ {ws h : List ℕ} {p : Progress} {i : ℕ} (pre : CutPre ws h p i) wher
           after = after_cut;
         }
 
-    pub cut_done : {w' l : ℕ} → w' ≡ cut_packed → l ≡ link → {h' : List ℕ} → h' ≡ over p.bytes (record_bytes (cut i (l - 1))) h →
+    pub cut_done : {w' : ℕ} → w' ≡ cut_packed → {h' : List ℕ} → h' ≡ over p.bytes (record_bytes (cut i (l - 1))) h →
         {t : Tally} → t ≡ plus_cut p.tally → DeletePost ws h p (i ∷ []) (set ws i w') h' (cut_with t)
-    cut_done e f {h'} g {t} n =
+    cut_done e {h'} g {t} m =
         subst (λ (j : ℕ). DeletePost ws h p (i ∷ []) (set ws i j) h' (cut_with t)) (sym e)
         (subst₂ (λ (v : List ℕ) (t : Tally). DeletePost ws h p (i ∷ []) cut_rows v (cut_with t))
-        (sym (g ∙ ap (λ (j : ℕ). over p.bytes (record_bytes (cut i (j - 1))) h) f)) (sym n) deleted_cut)
+        (sym (g ∙ ap (λ (j : ℕ). over p.bytes (record_bytes (cut i (j - 1))) h) f)) (sym m) deleted_cut)
 
 -- A VALUE, row by row: the rest from where it is comes to the whole from the start
 pub record Deleting (ws₀ h₀ : List ℕ) (p₀ : Progress) (v ws h : List ℕ) (p : Progress) (k : ℕ) : Type 0 where

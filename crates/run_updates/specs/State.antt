@@ -35,7 +35,7 @@ started n = record { number = 0; count = n; bytes = 0; tally = none_yet }
 abbrev pub refused_with : Progress → (number : ℕ) → Progress
 refused_with p n = record { number = n; count = p.count; bytes = p.bytes; tally = p.tally }
 
--- as the functions pass it on: refused nothing, or for a reason, and then the rest is not known
+-- as the functions pass it on and answer it: nothing refused; or a reason, and for the rest the numbers of a start
 abbrev pub going : declared.Progress → Progress
 going p = record { number = 0; count = p.count; bytes = p.bytes; tally = p.tally }
 

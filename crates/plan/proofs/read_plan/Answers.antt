@@ -1,10 +1,20 @@
--- `read_plan` answers the plan read, or its refusal and the empty table.
-use Rattle.std.proofs.Common.{◌∙◌, rules}
-use Rattle.plan.proofs.ReadPlanLaws.{plan_read_lem}
+-- `read_plan` answers the plan read, or its refusal.
+use Rattle.std.proofs.Common.{Ok, Err, refl}
+use Rattle.std.proofs.lemmas.Result.{err_from_is_err_and}
+use Rattle.plan_table.specs.Results.{end_by}
+use Rattle.plan_table.proofs.ReasonLaws.{some_number}
+use Rattle.plan.proofs.ReadPlanLaws.{plan_refused, plan_read_lem}
 use Rattle.plan.proofs.read_plan.Goals as goal
+
+pub returns-in_err-count : goal.returns-in_err-count
+returns-in_err-count c =
+    let r = c.records in
+    let f = c.in_err-count.field-0.0 in
+    let p = err_from_is_err_and c.from_residual.result c.from_residual.ensures.1 in
+    rw (p.1, p.2)
+    (plan_refused c.args.bytes.now r.new.rows r.new.marks (end_by (Err f)) c.in_err-count.ensures (some_number f.reason))
 
 pub returns : goal.returns
 returns c =
-    c.accepted.ensures ∙
-    plan_read_lem c.args.bytes.now c.records-end.new.rows c.records-end.new.marks c.records-end.result c.records-end.ensures
-    (search (c.if-end-ne0.false, rules))
+    let r = c.records in
+    plan_read_lem c.args.bytes.now r.new.rows r.new.marks (end_by (Ok c.in_ok-count.count)) c.in_ok-count.ensures refl

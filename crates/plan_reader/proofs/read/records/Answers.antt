@@ -1,9 +1,10 @@
-use Rattle.std.proofs.Common.{length, drop, ◌≡◌, ◌∙◌, ◌+◌, ◌-◌, ◌≤◌, ◌<◌, arith, rules}
-use Rattle.plan_reader.proofs.ReadingLaws.{held_empty, reading_all, reading_on, reading_refused, reading_end}
+use Rattle.std.proofs.Common.{Ok, Err, refl, take, length, drop, ◌≡◌, ◌+◌, ◌-◌, ◌≤◌, ◌<◌, arith, rules}
+use Rattle.std.proofs.lemmas.Result.{err_from_is_err_and}
+use Rattle.plan_table.proofs.ReasonLaws.{some_number}
 use Rattle.plan_table.specs.Packed.{decode_parts}
-use Rattle.model.proofs.BoolLaws.{cond_ne}
-use Rattle.model.specs.Stored.{read_from, read_plan, refused}
-use Rattle.model.specs.Refusal.{refusal}
+use Rattle.plan_reader.specs.Reading.{RecordPost, record_by}
+use Rattle.plan_reader.proofs.ReadingLaws.{held_empty, reading_all, reading_on, reading_refused, reading_end}
+use Rattle.model.specs.Stored.{read_from, read_plan}
 use Rattle.plan_reader.proofs.read.records.Goals as goal
 
 pub loop-at-init : goal.loop-at-init
@@ -13,51 +14,49 @@ loop-at-init c = (
   reading_all c.args.rows.now c.args.marks.now c.requires c.args.bytes.now,
 )
 
-pub returns-then-read-ne0 : goal.returns-then-read-ne0
-returns-then-read-ne0 c =
+pub returns-in_err-read : goal.returns-in_err-read
+returns-in_err-read c =
     let l = c.loop-at in
-    let r = c.read_record-read in
-    record {
-      result = cond_ne _ (refused (refusal r.result.number l.at)) c.if-read-ne0.true ∙
-          reading_refused c.args.bytes.now l.rows l.marks l.count l.at c.loop-at-test.true l.invariant.2
-          r.new.rows
-          r.new.marks r.result r.ensures c.if-read-ne0.true;
-      canonical = λ z. absurd (c.if-read-ne0.true z);
-      room = λ z. absurd (c.if-read-ne0.true z);
-    }
+    let r = c.read_record in
+    let f = c.in_err-read.field-0.0 in
+    let e : r.result ≡ Err f.reason = grind arith in
+    let a : f.place ≡ l.at = grind arith in
+    let p = err_from_is_err_and c.from_residual.result c.from_residual.ensures.1 in
+    rw (p.1, p.2, a)
+    (reading_refused c.args.bytes.now l.rows l.marks l.count l.at c.loop-at-test.true l.invariant.2 r.new.rows r.new.marks
+    (record_by (Err f.reason)) (rw e at r.ensures) (some_number f.reason))
+
+-- the record is read, and reading goes on after it
+abbrev Goes : goal.After-size → Type 0
+Goes c =
+    let b = c.args.bytes.now in
+    let at = c.loop-at.at + c.size.result in
+    let x = decode_parts c.in_ok-read.read.count c.read_record.new.rows c.read_record.new.marks in
+    (0 < c.size.result) × (at ≤ length b) × (read_from (length b - at) x at (drop at b) ≡ read_plan b)
+
+goes : (c : goal.After-size) → Goes c
+goes c =
+    let l = c.loop-at in
+    let r = c.read_record in
+    let e : r.result ≡ Ok c.in_ok-read.read = search rules in
+    reading_on c.args.bytes.now l.rows l.marks l.count l.at c.loop-at-test.true l.invariant.2 r.new.rows r.new.marks
+    (record_by (Ok c.in_ok-read.read)) (rw e at r.ensures) refl c.size.ensures
 
 pub overflow_add-at : goal.overflow_add-at
-overflow_add-at c =
-    let next_at : let b = c.args.bytes.now in
-    let at = c.loop-at.at + c.size-at.result in
-    let x = decode_parts c.read_record-read.result.count c.read_record-read.new.rows c.read_record-read.new.marks in
-    (0 < c.size-at.result) × (at ≤ length b) × (read_from (length b - at) x at (drop at b) ≡ read_plan b) = let l = c.loop-at in
-    let r = c.read_record-read in
-    reading_on c.args.bytes.now l.rows l.marks l.count l.at c.loop-at-test.true l.invariant.2 r.new.rows
-    r.new.marks r.result r.ensures (search (c.if-read-ne0.false, rules)) c.size-at.ensures in
-    let k = next_at in search rules
+overflow_add-at c = let k = goes c in search rules
 
 pub loop-at-smaller : goal.loop-at-smaller
-loop-at-smaller c =
-    let next_at : let b = c.args.bytes.now in
-    let at = c.loop-at.at + c.size-at.result in
-    let x = decode_parts c.read_record-read.result.count c.read_record-read.new.rows c.read_record-read.new.marks in
-    (0 < c.size-at.result) × (at ≤ length b) × (read_from (length b - at) x at (drop at b) ≡ read_plan b) = let l = c.loop-at in
-    let r = c.read_record-read in
-    reading_on c.args.bytes.now l.rows l.marks l.count l.at c.loop-at-test.true l.invariant.2 r.new.rows
-    r.new.marks r.result r.ensures (search (c.if-read-ne0.false, rules)) c.size-at.ensures in
-    omega (arith, (next_at).0, c.loop-at-test.true)
+loop-at-smaller c = omega (arith, (goes c).0, c.loop-at-test.true)
 
 pub loop-at-preserved : goal.loop-at-preserved
 loop-at-preserved c =
-    let next_at : let b = c.args.bytes.now in
-    let at = c.loop-at.at + c.size-at.result in
-    let x = decode_parts c.read_record-read.result.count c.read_record-read.new.rows c.read_record-read.new.marks in
-    (0 < c.size-at.result) × (at ≤ length b) × (read_from (length b - at) x at (drop at b) ≡ read_plan b) = let l = c.loop-at in
-    let r = c.read_record-read in
-    reading_on c.args.bytes.now l.rows l.marks l.count l.at c.loop-at-test.true l.invariant.2 r.new.rows
-    r.new.marks r.result r.ensures (search (c.if-read-ne0.false, rules)) c.size-at.ensures in
-    let g = next_at in ((c.read_record-read.ensures.fine (search (c.if-read-ne0.false, rules))).held, g.1, g.2)
+    let l = c.loop-at in
+    let r = c.read_record in
+    let e : r.result ≡ Ok c.in_ok-read.read = search rules in
+    let b = c.args.bytes.now in
+    let post : RecordPost (take (length b - l.at) (drop l.at b)) l.rows l.marks l.count r.new.rows r.new.marks
+    (record_by (Ok c.in_ok-read.read)) = rw e at r.ensures in
+    let g = goes c in ((post.fine refl).held, g.1, g.2)
 
 pub returns : goal.returns
 returns c =

@@ -1,5 +1,5 @@
 -- `read::row` refuses the row at the front or adds it to the table, by one law of ReadRecordLaws for each way out.
-use Rattle.std.proofs.Common.{List, ℕ, ◌≤◌, ◌<◌, ◌+◌, ◌*◌, ◌-◌, eqb, get_or, set, true, false, cond, ⊎_elim, refl, ◌≡◌, ap, ◌∙◌, sym}
+use Rattle.std.proofs.Common.{List, ℕ, ◌≤◌, ◌<◌, ◌+◌, ◌*◌, eqb, get_or, set, true, false, cond, ⊎_elim, refl, ◌≡◌, ap, ◌∙◌, sym}
 use Rattle.std.proofs.Common.{arith, rules}
 use Rattle.plan_reader.proofs.ReadRecordLaws.{not_accepted, packed_none, packed_some, row_order, row_none, row_child}
 use Rattle.plan_reader.specs.Reading.{last_of}

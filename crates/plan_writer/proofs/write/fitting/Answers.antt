@@ -18,7 +18,7 @@ returns-then-out-length c =
     let t = table_of c.args.count c.args.packed.now c.args.links.now in
     let short = write_short t c.args.out.now c.requires.fits (omega (arith, long, c.if-out-length.true)) in
     record {
-      value = c.written.ensures ∙ short.0;
+      value = short.0;
       out_after = short.1;
     }
 
@@ -50,7 +50,7 @@ returns c =
     let x = c.args in
     let t = table_of x.count x.packed.now x.links.now in
     let h = long in record {
-      value = c.written-2.ensures ∙
+      value =
           write_fine t x.out.now c.requires.fits c.stored_length-length.result (omega (arith, h, c.if-out-length.false)) h;
       out_after = c.marks.ensures ∙
           ap (over (4 * x.count) (marks_bytes 0 (map of_link x.links.now))) c.rows.ensures ∙

@@ -1,5 +1,5 @@
 -- `undoing::cut_fits` is the model's test of a cut link's record, by one law of UndoLaws for each way out.
-use Rattle.std.proofs.Common.{get_or, map, ◌≡◌, sym, ◌∙◌, ◌-◌, arith, rules}
+use Rattle.std.proofs.Common.{get_or, map, ◌≡◌, sym, ◌∙◌, arith, rules}
 use Rattle.run_undo.proofs.UndoLaws.{cut_child, cut_element}
 use Rattle.model.specs.Base.{any}
 use Rattle.model.specs.Table.{is_the}

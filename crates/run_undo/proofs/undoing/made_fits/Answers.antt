@@ -1,5 +1,5 @@
 -- `undoing::made_fits` is the model's test of a made row's record, by one law of UndoLaws for each way out.
-use Rattle.std.proofs.Common.{map, ◌≡◌, sym, ◌∙◌, ap, ℕ, ◌+◌, ◌-◌, rules}
+use Rattle.std.proofs.Common.{map, ◌≡◌, sym, ◌∙◌, ap, ℕ, ◌+◌, rules}
 use Rattle.run_undo.proofs.UndoLaws.{made_parent}
 use Rattle.model.specs.Base.{any}
 use Rattle.model.specs.Table.{is_the}

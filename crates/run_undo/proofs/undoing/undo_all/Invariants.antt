@@ -4,6 +4,3 @@ use Rattle.run_undo.proofs.undoing.undo_all.Given as goal
 
 abbrev pub invariant-loop-k : goal.invariant-loop-k
 invariant-loop-k l = Backing l.initial.rows l.marks l.initial.left l.bytes l.places l.initial.k l.rows l.left l.k
-
-abbrev pub decreases-loop-k : goal.decreases-loop-k
-decreases-loop-k l = l.k
