@@ -4,11 +4,10 @@ use mathlib.Core.List.{List}
 use Prim.Native.Nat.{ℕ, ◌≤◌}
 use native.Mathlib.Omega.{arith}
 use lib.ListN.{length}
-use Rattle.plan_table.specs.declared.Refusal.{Refusal}
+use Rattle.model.specs.Refusal.{Refusal}
 use Rattle.pair_text.specs.Text.{ascii, Placed, Field}
 use Rattle.pair_lines.specs.Lines.{newline, file_line, answer_line, order_line, NamePre, FileLine, AnswerLine, OrderLine}
-use Rattle.pair_orders.specs.declared.orders.Order.{Order}
-use Rattle.pair_orders.specs.declared.orders.Order.TheVariants.{Refused, Ended}
+use Rattle.pair_orders.specs.Orders.{Order, Refused, Ended}
 use Rattle.pair_text.proofs.TextLaws.{placed_then}
 
 -- a refused file

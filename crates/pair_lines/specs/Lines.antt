@@ -1,9 +1,8 @@
 -- Document 01, 'The program `pair`': its lines. Every line ends with 0x0A.
 use Rattle.std.specs.Prelude.{List, [], ◌∷◌, ◌++◌, ℕ, ◌+◌, ◌≤◌, length}
-use Rattle.plan_table.specs.declared.Refusal.{Refusal}
+use Rattle.model.specs.Refusal.{Refusal}
 use Rattle.pair_text.specs.Text.{ascii, field, Placed}
-use Rattle.pair_orders.specs.declared.orders.Order.{Order}
-use Rattle.pair_orders.specs.declared.orders.Order.TheVariants.{Refused, Ended}
+use Rattle.pair_orders.specs.Orders.{Order, Refused, Ended}
 
 -- Every line ends with 0x0A
 abbrev pub newline : List ℕ

@@ -1,18 +1,20 @@
 // The lines of `pair`. Each ends with 0x0A.
+ghost use Rattle.plan_table.specs.Refusals.{refusal_in};
+ghost use Rattle.pair_orders.specs.Orders.{order_told};
 ghost use Rattle.pair_lines.specs.Lines.{FileLine, AnswerLine, OrderLine, NamePre};
 
-use pair_orders::orders::Order;
+use pair_orders::orders::{Ended, Refused};
 use pair_text::{number, text};
 use plan_table::Refusal;
 
 // A refused file: its name, number and place. The only line, at the start of the area.
 pub fn put_file(out: &mut [u8], name: &[u8], refusal: Refusal) -> usize
     requires { NamePre out.old 0 name.now }
-    ensures { FileLine out.old name.now refusal out.new result }
+    ensures { FileLine out.old name.now (refusal_in refusal) out.new result }
 {
     let n = text::put(out, 0, b"file ");
     let m = text::put(out, n, name);
-    let k = number::put_field(out, m, refusal.number as usize);
+    let k = number::put_field(out, m, u8::from(refusal.reason) as usize);
     let j = number::put_field(out, k, refusal.place);
     text::put(out, j, b"\n")
 }
@@ -28,26 +30,22 @@ pub fn put_answer(out: &mut [u8], answer: &[u8]) -> usize
 }
 
 // How an order ended.
-pub fn put_order(out: &mut [u8], at: usize, name: &[u8], order: Order) -> usize
+pub fn put_order(out: &mut [u8], at: usize, name: &[u8], order: Result<Ended, Refused>) -> usize
     requires { NamePre out.old at name.now }
-    ensures { OrderLine out.old at name.now order out.new result }
+    ensures { OrderLine out.old at name.now (order_told order) out.new result }
 {
     let n = text::put(out, at, name);
     match order {
-        Order::Refused { script, number } => {
-            let m = text::put(out, n, b" refused");
-            let k = number::put_field(out, m, script as usize);
-            let j = number::put_field(out, k, number as usize);
+        Ok(ended) => {
+            let m = number::put_field(out, n, ended.first);
+            let k = number::put_field(out, m, ended.second);
+            let j = number::put_field(out, k, ended.rows);
             text::put(out, j, b"\n")
         }
-        Order::Ended {
-            first,
-            second,
-            rows,
-        } => {
-            let m = number::put_field(out, n, first);
-            let k = number::put_field(out, m, second);
-            let j = number::put_field(out, k, rows);
+        Err(refused) => {
+            let m = text::put(out, n, b" refused");
+            let k = number::put_field(out, m, u8::from(refused.script) as usize);
+            let j = number::put_field(out, k, u8::from(refused.reason) as usize);
             text::put(out, j, b"\n")
         }
     }

@@ -18,11 +18,8 @@ use Rattle.model.proofs.StoredBack.{stored_back}
 use Rattle.model.proofs.CallsCommute.{length_matched_all, free_scripts}
 use Rattle.model.proofs.FreeCommutes.{free_commutes}
 use Rattle.plan_table.specs.Packed.{encode}
-use Rattle.pair_orders.specs.Orders.{ending_by, ending, order_then, order_from, order, swap}
+use Rattle.pair_orders.specs.Orders.{Ending, Order, Refused, Ended, ending_by, ending, order_then, order_from, order, swap}
 use Rattle.pair_orders.specs.Promise.{has_ended, FreeOrders}
-use Rattle.pair_orders.specs.declared.orders.Ending.{Ending}
-use Rattle.pair_orders.specs.declared.orders.Order.{Order}
-use Rattle.pair_orders.specs.declared.orders.Order.TheVariants.{Refused, Ended}
 use Rattle.run.proofs.OutcomeLaws.{outcome_well}
 use Rattle.model.proofs.BoolLaws.{cond_false}
 

@@ -4,7 +4,6 @@ use mathlib.Core.Bool.{Bool, cond}
 use mathlib.Core.List.{List}
 use Prim.Native.Nat.{ℕ, ◌≤◌}
 use lib.ListN.{length}
-use borrow.Author.Tests.{eq-eqb, ne_eqb}
 use Rattle.model.specs.Refusal.{is_fine, lent_short}
 use Rattle.model.specs.Run.{Out, refused, gives}
 use Rattle.model.specs.Call.{Ran, ran_by, refused_run}
@@ -12,12 +11,8 @@ use Rattle.model.proofs.BoolLaws.{cond_eq, cond_ne}
 use Rattle.model.specs.Limits.{answer_need, history_need, work_need}
 use Rattle.plan_table.specs.Packed.{encode, decode}
 use Rattle.plan_table.specs.declared.Table.{Table}
-use Rattle.run.specs.Calls.{outcome_of, ran, run_result}
-use Rattle.run.specs.declared.RunResult.{RunResult}
-use Rattle.pair_orders.specs.Orders.{ending_by, ending, order_then, order_from, order, swap}
-use Rattle.pair_orders.specs.declared.orders.Ending.{Ending}
-use Rattle.pair_orders.specs.declared.orders.Order.{Order}
-use Rattle.pair_orders.specs.declared.orders.Order.TheVariants.{Refused, Ended}
+use Rattle.run.specs.Calls.{RunResult, outcome_of, ran, run_result}
+use Rattle.pair_orders.specs.Orders.{Ending, Refused, Ended, ending_by, ending, order_then, order_from, order}
 use Rattle.run.proofs.CallLaws.{areas_fit_lem}
 use Rattle.run.proofs.OutcomeLaws.{Refuses, refuses_fine, outcome_refuses}
 
@@ -66,13 +61,3 @@ module _ (t : Table) (b c : List ℕ) {one : Ending} (e : one ≡ ending t b) wh
 
     pub both_ended : two.number ≡ 0 → Ended one.items two.items two.table.count ≡ order t b c
     both_ended z = sym (cond_eq (Ended one.items two.items two.table.count) (Refused 2 two.number) z) ∙ then_order
-
--- EACH SCRIPT under its own number
-pub swap_first : {o : Order} {s n : ℕ} → o ≡ Refused s n → s ≡ 1 → Refused 2 n ≡ swap o
-swap_first {n = n} e h = sym (ap swap e ∙ ap (λ (z : Bool). Refused (cond z 2 1) n) (eq-eqb _ 1 h))
-
-pub swap_second : {o : Order} {s n : ℕ} → o ≡ Refused s n → (s ≡ 1 → ⊥) → Refused 1 n ≡ swap o
-swap_second {n = n} e h = sym (ap swap e ∙ ap (λ (z : Bool). Refused (cond z 2 1) n) (ne_eqb _ 1 h))
-
-pub swap_ended : {o : Order} {i j r : ℕ} → o ≡ Ended i j r → Ended j i r ≡ swap o
-swap_ended e = sym (ap swap e)

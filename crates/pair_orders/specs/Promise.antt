@@ -6,9 +6,7 @@ use Rattle.model.specs.Stored.{got, read_plan}
 use Rattle.model.specs.Meeting.{free}
 use Rattle.model.specs.Call.{analyse, answered}
 use Rattle.plan_table.specs.Packed.{encode}
-use Rattle.pair_orders.specs.Orders.{order, swap}
-use Rattle.pair_orders.specs.declared.orders.Order.{Order}
-use Rattle.pair_orders.specs.declared.orders.Order.TheVariants.{Refused, Ended}
+use Rattle.pair_orders.specs.Orders.{Order, Refused, Ended, order, swap}
 
 -- no script of the order is refused
 abbrev pub has_ended : Order → Bool

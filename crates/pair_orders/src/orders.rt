@@ -1,139 +1,96 @@
 // Two scripts run one after the other.
-ghost use Rattle.std.specs.Prelude.{◌≡◌, true, length};
-ghost use Rattle.model.specs.Limits.{answer_need, history_need, work_need};
+ghost use Rattle.std.specs.Prelude.{◌≡◌, true};
 ghost use Rattle.plan_table.specs.Packed.{fits};
-ghost use Rattle.pair_orders.specs.Orders.{ending, order, swap};
+ghost use Rattle.pair_orders.specs.Orders.{ending, ending_told, order, order_told, swap};
 
-use plan_table::Table;
+use plan_table::{Reason, Script, Table};
 use run::lent;
 
-// How a run ended: the number of its refusal, or 0; the items of its answer; the table after it.
+// How a run ended that is not refused: the items of its answer; the table after it.
 #[derive(Clone, Copy)]
 struct Ending {
-    number: u8,
     items: usize,
     table: Table,
 }
 
-// How an order ended: the script refused, 1 or 2, and the number; or the items of the two answers and the rows at the end.
+// How an order ended that is not refused: the items of the two answers and the rows at the end.
 #[derive(Clone, Copy)]
-pub enum Order {
-    Refused {
-        script: u8,
-        number: u8,
-    },
-    Ended {
-        first: usize,
-        second: usize,
-        rows: usize,
-    },
+pub struct Ended {
+    pub first: usize,
+    pub second: usize,
+    pub rows: usize,
 }
 
-// The areas of a run, of the lengths that it needs.
-fn answer_area() -> [u16; run::ANSWER]
-    ensures { length result ≡ answer_need }
-{
-    [0; run::ANSWER]
-}
-
-fn history_area() -> [u8; run::HISTORY]
-    ensures { length result ≡ history_need }
-{
-    [0; run::HISTORY]
-}
-
-fn work_area() -> [u16; run::WORK]
-    ensures { length result ≡ work_need }
-{
-    [0; run::WORK]
+// An order refused: which script, and why.
+#[derive(Clone, Copy, Debug, PartialEq, Eq)]
+pub struct Refused {
+    pub script: Script,
+    pub reason: Reason,
 }
 
 // Runs a script on a table that fits, in areas of its own; so does the table after it.
-fn run_alone(table: Table, script: &[u8]) -> Ending
+fn run_alone(table: Table, script: &[u8]) -> Result<Ending, Reason>
     requires { fits table ≡ true }
-    ensures value { result ≡ ending table script.now }
-    ensures table_value { fits result.table ≡ true }
+    ensures value { ending_told table result ≡ ending table script.now }
+    ensures table_value { fits (ending_told table result).table ≡ true }
 {
-    let mut answer = answer_area();
-    let mut history = history_area();
-    let mut work = work_area();
-    let count = table.count;
+    let mut answer = [0; run::ANSWER];
+    let mut history = [0; run::HISTORY];
+    let mut work = [0; run::WORK];
     let mut rows = table.rows;
     let ended = lent::fitting(
         &mut rows,
         &table.marks,
-        count,
+        table.count,
         script,
         &mut answer,
         &mut history,
         &mut work,
-    );
-    let number = ended.refusal.number;
-    if number != 0 {
-        return Ending {
-            number,
-            items: ended.items,
-            table,
-        };
-    }
-    let marks = table.marks;
-    Ending {
-        number,
+    )
+    .map_err(|refusal| refusal.reason)?;
+    Ok(Ending {
         items: ended.items,
         table: Table {
             count: ended.count,
             rows,
-            marks,
+            marks: table.marks,
         },
-    }
+    })
 }
 
 // Runs two scripts on a table that fits, the second on the table as the first left it; after a refusal no script runs.
-pub fn in_order(table: Table, leads: &[u8], follows: &[u8]) -> Order
+pub fn in_order(table: Table, leads: &[u8], follows: &[u8]) -> Result<Ended, Refused>
     requires { fits table ≡ true }
-    ensures { result ≡ order table leads.now follows.now }
+    ensures { order_told result ≡ order table leads.now follows.now }
 {
-    let one = run_alone(table, leads);
-    if one.number != 0 {
-        return Order::Refused {
-            script: 1,
-            number: one.number,
-        };
-    }
-    let between = one.table;
-    let two = run_alone(between, follows);
-    if two.number != 0 {
-        return Order::Refused {
-            script: 2,
-            number: two.number,
-        };
-    }
-    Order::Ended {
+    let one = run_alone(table, leads).map_err(|reason| Refused {
+        script: Script::First,
+        reason,
+    })?;
+    let two = run_alone(one.table, follows).map_err(|reason| Refused {
+        script: Script::Second,
+        reason,
+    })?;
+    Ok(Ended {
         first: one.items,
         second: two.items,
         rows: two.table.count,
-    }
+    })
 }
 
 // An order whose leading script is the second: each script under its own number.
-pub fn swapped(order: Order) -> Order
-    ensures { result ≡ swap order }
+pub fn swapped(order: Result<Ended, Refused>) -> Result<Ended, Refused>
+    ensures { order_told result ≡ swap (order_told order) }
 {
     match order {
-        Order::Refused { script, number } => {
-            if script == 1 {
-                return Order::Refused { script: 2, number };
-            }
-            Order::Refused { script: 1, number }
-        }
-        Order::Ended {
-            first,
-            second,
-            rows,
-        } => Order::Ended {
-            first: second,
-            second: first,
-            rows,
-        },
+        Ok(ended) => Ok(Ended {
+            first: ended.second,
+            second: ended.first,
+            rows: ended.rows,
+        }),
+        Err(refused) => Err(Refused {
+            script: refused.script.other(),
+            reason: refused.reason,
+        }),
     }
 }

@@ -6,9 +6,7 @@ use lib.ListN.{take}
 use Rattle.pair_files.proofs.FrontLaws.{read_by_front}
 use Rattle.plan_table.specs.declared.Table.{Table}
 use Rattle.plan.specs.Calls.{plan_read}
-use Rattle.paths.specs.Analysis.{analysed}
-use Rattle.paths.specs.declared.Analysis.{Analysis}
-use Rattle.paths.specs.declared.Analysis.TheVariants.{Refused, Free, Upward, Meet}
+use Rattle.paths.specs.Analysis.{Analysis, Refused, Free, Upward, Meet, analysed}
 use Rattle.pair_orders.specs.Orders.{ending, order}
 use Rattle.pair_report.specs.Pair.{three_lines, text_by, pair_text}
 use Rattle.pair_files.specs.Promise.{file_bytes}

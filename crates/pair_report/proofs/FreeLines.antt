@@ -13,9 +13,7 @@ use Rattle.plan_table.specs.Packed.{encode}
 use Rattle.plan.specs.Calls.{read_by}
 use Rattle.paths.specs.Analysis.{analysis_of}
 use Rattle.paths.proofs.Promised.{free_told}
-use Rattle.pair_orders.specs.declared.orders.Order.{Order}
-use Rattle.pair_orders.specs.declared.orders.Order.TheVariants.{Refused, Ended}
-use Rattle.pair_orders.specs.Orders.{order, swap}
+use Rattle.pair_orders.specs.Orders.{Order, Refused, Ended, order, swap}
 use Rattle.pair_orders.specs.Promise.{has_ended}
 use Rattle.pair_orders.proofs.FreeOrders.{free_orders}
 use Rattle.pair_report.specs.Pair.{three_lines, text_by, plan_text, pair_text}

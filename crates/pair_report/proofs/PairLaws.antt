@@ -10,19 +10,14 @@ use lib.Seq.{length-take-le}
 use borrow.Author.Tests.{lt-ltb, le-ltb, eq-eqb, ne_eqb}
 use Rattle.model.proofs.BoolLaws.{cond_eq, cond_ne}
 use Rattle.plan.specs.Calls.{plan_read}
-use Rattle.plan_table.specs.Results.{written_by}
-use Rattle.plan_table.specs.declared.Refusal.{Refusal}
+use Rattle.model.specs.Refusal.{Refusal}
+use Rattle.plan_table.specs.Results.{TableResult, Written, written_by}
 use Rattle.plan_table.specs.declared.Table.{Table}
-use Rattle.plan_table.specs.declared.TableResult.{TableResult}
-use Rattle.plan_table.specs.declared.Written.{Written}
-use Rattle.paths.specs.Analysis.{analysed}
-use Rattle.paths.specs.declared.Analysis.{Analysis}
-use Rattle.paths.specs.declared.Analysis.TheVariants.{Refused}
+use Rattle.paths.specs.Analysis.{Analysis, Refused, analysed}
 use Rattle.pair_text.specs.Text.{ascii, Placed}
-use Rattle.pair_orders.specs.Orders.{order, swap}
+use Rattle.pair_orders.specs.Orders.{Order, order, swap}
 use Rattle.pair_lines.specs.Lines.{file_line, answer_line, order_line, FileLine}
 use Rattle.pair_report.specs.Pair.{three_lines, text_by, plan_text, pair_text, Report, Counted, pair_written, pair_out}
-use Rattle.pair_orders.specs.declared.orders.Order.{Order}
 use Rattle.pair_text.proofs.TextLaws.{placed_then}
 
 -- THREE LINES

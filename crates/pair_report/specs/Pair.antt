@@ -3,17 +3,12 @@ use Rattle.std.specs.Prelude.{◌≡◌, cond, List, ◌++◌, ℕ, ◌≤◌, l
 use Rattle.model.specs.Base.{at_front}
 use Rattle.plan.specs.Calls.{plan_read}
 use Rattle.plan_table.specs.declared.Table.{Table}
-use Rattle.plan_table.specs.declared.TableResult.{TableResult}
-use Rattle.plan_table.specs.declared.Written.{Written}
-use Rattle.paths.specs.Analysis.{analysed, answer_text}
-use Rattle.paths.specs.declared.Analysis.{Analysis}
-use Rattle.paths.specs.declared.Analysis.TheVariants.{Refused, Free, Upward, Meet}
+use Rattle.plan_table.specs.Results.{TableResult, Written, refusal_of}
+use Rattle.paths.specs.Analysis.{Analysis, Refused, Free, Upward, Meet, analysed, answer_text}
 use Rattle.pair_text.specs.Text.{ascii, Placed}
-use Rattle.pair_orders.specs.Orders.{order, swap}
+use Rattle.pair_orders.specs.Orders.{Order, order, swap}
 use Rattle.pair_lines.specs.Lines.{file_line, answer_line, order_line}
-use Rattle.pair_orders.specs.declared.orders.Order.{Order}
 use Rattle.model.specs.Refusal.{fine, lent_short}
-use Rattle.plan_table.specs.Results.{refusal_of}
 
 -- the bytes that the lines take at most
 abbrev pub room : ℕ

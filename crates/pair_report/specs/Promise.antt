@@ -4,12 +4,10 @@ use Rattle.model.specs.Base.{are_bytes}
 use Rattle.model.specs.Refusal.{values}
 use Rattle.model.specs.Stored.{got, read_plan}
 use Rattle.model.specs.Table.{Table}
-use Rattle.paths.specs.Analysis.{analysed, values_of, answer_text}
-use Rattle.paths.specs.declared.Analysis.TheVariants.{Free}
+use Rattle.paths.specs.Analysis.{Free, analysed, values_of, answer_text}
 use Rattle.pair_text.specs.Text.{ascii}
 use Rattle.pair_files.specs.Promise.{file_bytes}
-use Rattle.pair_orders.specs.declared.orders.Order.{Order}
-use Rattle.pair_orders.specs.declared.orders.Order.TheVariants.{Refused, Ended}
+use Rattle.pair_orders.specs.Orders.{Order, Refused, Ended}
 use Rattle.pair_report.specs.Pair.{lines_of, pair_text}
 
 -- It reads at most 4,096 bytes of each file, which is enough: the lines are those for the whole files

@@ -1,12 +1,16 @@
 -- The whole analysis: what each call asks is there, and each way out is the model's answer.
 use mathlib.Core.Path.{◌≡◌, ap, sym, ◌∙◌, subst}
-use mathlib.Core.Bool.{Bool, true, false, ◌||◌, cond}
+use mathlib.Core.Bool.{Bool, true, false, ◌||◌, cond, false≢true}
 use mathlib.Core.List.{List, [], ◌∷◌, map}
 use Prim.Native.Nat.{ℕ, ◌*◌, ◌-◌, ◌≤◌}
 use native.Mathlib.Nat.{mul_comm, mul_assoc, mul-le-mul_left}
 use native.Mathlib.Omega.{arith}
 use lib.ListN.{length, get_or, take}
 use lib.Seq.{take-suc, length-take-le}
+use Rattle.std.specs.Prelude.{Result, Ok, Err}
+use Rattle.std.specs.Result.{is_ok}
+use Rattle.plan_table.specs.Results.{refusal_by}
+use Rattle.plan_table.specs.declared.Refusal as error
 use Rattle.model.specs.Script.{Expr, Parsed, read_script}
 use Rattle.model.specs.Paths.{has_up}
 use Rattle.model.specs.Meeting.{free, meet, answer}
@@ -24,7 +28,8 @@ use Rattle.paths_cells.proofs.MarkLaws.{has_rows, cleared_at}
 use Rattle.paths_positions.specs.Steps.{max_positions}
 use Rattle.paths_fill.specs.Filling.{TablePre}
 use Rattle.paths_emit.specs.Emitting.{emitter, EmitPre, EmitPost}
-use Rattle.paths.specs.Analysis.{Analysis, Refused, Upward, by_answer, analysis_of, analysed, ScriptPre, ScriptPost, AnswerPre, AnswerPost, FrontPre, FrontsPre}
+use Rattle.paths.specs.Analysis.{Analysis, Refused, Upward, by_answer, analysis_of, analysed}
+use Rattle.paths.specs.Analysis.{ScriptPre, ScriptPost, AnswerPre, AnswerPost, FrontPre, FrontsPre}
 use Rattle.paths_positions.proofs.AnswerLaws.{emitted_right, answer_by_lem, answer_turned}
 use Rattle.paths_positions.proofs.UpLaws.{some_leads_up_is}
 use Rattle.paths_emit.proofs.SizeLaws.{script_records}
@@ -149,7 +154,12 @@ module _ {ws : List ℕ} {n : ℕ} {us : List ℕ} {m : ℕ} {t : List ℕ} (pre
         answer_last h =
             record { is = λ e f g i. rw (← answer_by_lem e f, ups e f g i, neither, ← g, ← i, ← part_is ws n, ← part_is us m, ← meets, h) }
 
--- THE CALL
+-- THE CALL. A script that its reader does not refuse is accepted
+pub accepted : {A : Type 0} (x : Result A error.Refusal) (b : List ℕ) → refusal_by x ≡ script_read b → true ≡ is_ok x →
+    (script_read b).number ≡ 0
+accepted (Ok a) b e t = sym (ap (λ (y : Refusal). y.number) e)
+accepted (Err r) b e t = absurd (false≢true (sym t))
+
 module _ (b c : List ℕ) where
   pub first_refused : (x : Refusal) → x ≡ script_read b → (x.number ≡ 0 → ⊥) → Refused 1 x ≡ analysed b c
   first_refused x e h =

@@ -14,7 +14,7 @@ use Rattle.paths_positions.specs.Positions.{entries_of}
 use Rattle.paths_positions.specs.Packed.{entries_in}
 use Rattle.paths_positions.specs.Steps.{max_positions}
 use Rattle.paths_cells.specs.Pairs.{HasRows}
-use Rattle.paths.specs.declared.Answer as said
+use Rattle.paths.specs.declared.Answer as declared
 use Rattle.paths.specs.declared.Answer.TheVariants as said
 use Rattle.paths.specs.declared.ScriptRefused.{ScriptRefused}
 use Rattle.paths_fill.specs.Filling.{PositionsPre}
@@ -27,13 +27,13 @@ pub data Analysis : Type 0 where
   Meet : Analysis
 
 -- by the answer that the code gives
-abbrev pub answer_by : said.Answer → Analysis
+abbrev pub answer_by : declared.Answer → Analysis
 answer_by said.Free = Free
 answer_by said.Upward = Upward
 answer_by said.Meet = Meet
 
 -- by its result
-abbrev pub analysis_by : Result said.Answer ScriptRefused → Analysis
+abbrev pub analysis_by : Result declared.Answer ScriptRefused → Analysis
 analysis_by (Ok a) = answer_by a
 analysis_by (Err x) = Refused (script_number x.script) (refusal_in x.refusal)
 

@@ -1,18 +1,32 @@
 -- `analyse` answers what the model does: one law of AnalysisLaws for each way out.
-use Rattle.std.proofs.Common.{◌≡◌, ap, sym, ◌∙◌, arith, rules}
-use Rattle.plan_table.specs.declared.Refusal.{Refusal}
-use Rattle.script.specs.Reading.{script_read}
+use Rattle.std.proofs.Common.{◌≡◌, Err, arith}
+use Rattle.std.proofs.lemmas.Result.{err_from_is_err_and}
+use Rattle.plan_table.specs.Refusals.{refusal_in}
+use Rattle.plan_table.specs.declared.Script.TheVariants.{First, Second}
+use Rattle.plan_table.proofs.ReasonLaws.{some_number}
 use Rattle.paths.proofs.AnalysisLaws.{fronts_asks, answer_asks, answer_swapped, clear_all}
-use Rattle.paths.proofs.AnalysisLaws.{second_refused, both_accepted}
+use Rattle.paths.proofs.AnalysisLaws.{accepted, first_refused, second_refused, both_accepted}
 use Rattle.paths.proofs.analyse.Goals as goal
 
-pub returns-then-other-ne0 : goal.returns-then-other-ne0
-returns-then-other-ne0 c =
-    let first_accepted : (script_read c.args.first.now).number ≡ 0 = let zero : c.read_script-refusal.result.number ≡ 0 =
-    search (c.if-refusal-ne0.false, rules) in
-    sym (ap (λ (x : Refusal). x.number) c.read_script-refusal.ensures) ∙ zero in
-    second_refused c.args.first.now c.args.second.now (first_accepted) c.read_script-other.result
-    c.read_script-other.ensures c.if-other-ne0.true
+pub returns-in_err-map_err : goal.returns-in_err-map_err
+returns-in_err-map_err c =
+    let f = c.in_err-map_err.field-0.0 in
+    let e : c.read_script.result ≡ Err f.refusal = grind arith in
+    let s : f.script ≡ First = grind arith in
+    let p = err_from_is_err_and c.from_residual.result c.from_residual.ensures.1 in
+    rw (p.1, p.2, s)
+    (first_refused c.args.first.now c.args.second.now (refusal_in f.refusal) (rw e at c.read_script.ensures) (some_number f.refusal.reason))
+
+pub returns-in_err-map_err-2 : goal.returns-in_err-map_err-2
+returns-in_err-map_err-2 c =
+    let f = c.in_err-map_err-2.field-0.0 in
+    let e : c.read_script-2.result ≡ Err f.refusal = grind arith in
+    let s : f.script ≡ Second = grind arith in
+    let p = err_from_is_err_and c.from_residual-in_err-map_err-2.result c.from_residual-in_err-map_err-2.ensures.1 in
+    let one = accepted c.read_script.result c.args.first.now c.read_script.ensures c.in_ok-map_err.ensures.variant in
+    rw (p.1, p.2, s)
+    (second_refused c.args.first.now c.args.second.now one (refusal_in f.refusal) (rw e at c.read_script-2.ensures)
+    (some_number f.refusal.reason))
 
 pub answer_in-requires : goal.answer_in-requires
 answer_in-requires c =
@@ -21,14 +35,9 @@ answer_in-requires c =
 
 pub returns-then-size-le-FEW : goal.returns-then-size-le-FEW
 returns-then-size-le-FEW c =
-    let first_accepted : (script_read c.args.first.now).number ≡ 0 = let zero : c.read_script-refusal.result.number ≡ 0 =
-    search (c.if-refusal-ne0.false, rules) in
-    sym (ap (λ (x : Refusal). x.number) c.read_script-refusal.ensures) ∙ zero in
-    let second_accepted : (script_read c.args.second.now).number ≡ 0 = let zero : c.read_script-other.result.number ≡ 0 =
-    search (c.if-other-ne0.false, rules) in
-    sym (ap (λ (x : Refusal). x.number) c.read_script-other.ensures) ∙ zero in
-    both_accepted c.args.first.now c.args.second.now (first_accepted) (second_accepted)
-    c.positions_of-n.ensures c.positions_of-m.ensures c.answer.ensures
+    let one = accepted c.read_script.result c.args.first.now c.read_script.ensures c.in_ok-map_err.ensures.variant in
+    let two = accepted c.read_script-2.result c.args.second.now c.read_script-2.ensures c.in_ok-map_err-2.ensures.variant in
+    both_accepted c.args.first.now c.args.second.now one two c.positions_of-n.ensures c.positions_of-m.ensures c.answer_in.ensures
 
 pub in_table-requires : goal.in_table-requires
 in_table-requires c =
@@ -36,14 +45,10 @@ in_table-requires c =
 
 pub returns-then-m-n : goal.returns-then-m-n
 returns-then-m-n c =
-    let first_accepted : (script_read c.args.first.now).number ≡ 0 = let zero : c.read_script-refusal.result.number ≡ 0 =
-    search (c.if-refusal-ne0.false, rules) in
-    sym (ap (λ (x : Refusal). x.number) c.read_script-refusal.ensures) ∙ zero in
-    let second_accepted : (script_read c.args.second.now).number ≡ 0 = let zero : c.read_script-other.result.number ≡ 0 =
-    search (c.if-other-ne0.false, rules) in
-    sym (ap (λ (x : Refusal). x.number) c.read_script-other.ensures) ∙ zero in
-    both_accepted c.args.first.now c.args.second.now (first_accepted) (second_accepted)
-    c.positions_of-n.ensures c.positions_of-m.ensures (answer_swapped c.in_table.ensures)
+    let one = accepted c.read_script.result c.args.first.now c.read_script.ensures c.in_ok-map_err.ensures.variant in
+    let two = accepted c.read_script-2.result c.args.second.now c.read_script-2.ensures c.in_ok-map_err-2.ensures.variant in
+    both_accepted c.args.first.now c.args.second.now one two c.positions_of-n.ensures c.positions_of-m.ensures
+    (answer_swapped c.in_table.ensures)
 
 pub in_table-requires-2 : goal.in_table-requires-2
 in_table-requires-2 c =
@@ -51,11 +56,6 @@ in_table-requires-2 c =
 
 pub returns : goal.returns
 returns c =
-    let first_accepted : (script_read c.args.first.now).number ≡ 0 = let zero : c.read_script-refusal.result.number ≡ 0 =
-    search (c.if-refusal-ne0.false, rules) in
-    sym (ap (λ (x : Refusal). x.number) c.read_script-refusal.ensures) ∙ zero in
-    let second_accepted : (script_read c.args.second.now).number ≡ 0 = let zero : c.read_script-other.result.number ≡ 0 =
-    search (c.if-other-ne0.false, rules) in
-    sym (ap (λ (x : Refusal). x.number) c.read_script-other.ensures) ∙ zero in
-    both_accepted c.args.first.now c.args.second.now (first_accepted) (second_accepted)
-    c.positions_of-n.ensures c.positions_of-m.ensures c.in_table-2.ensures
+    let one = accepted c.read_script.result c.args.first.now c.read_script.ensures c.in_ok-map_err.ensures.variant in
+    let two = accepted c.read_script-2.result c.args.second.now c.read_script-2.ensures c.in_ok-map_err-2.ensures.variant in
+    both_accepted c.args.first.now c.args.second.now one two c.positions_of-n.ensures c.positions_of-m.ensures c.in_table-2.ensures
