@@ -30,7 +30,7 @@ use Rattle.run_undo.proofs.UndoLawsCall.{undo_done}
 -- READ: the refusal, or the parts of a table that fits
 module _ (p ws ms : List ℕ) (r : End) (post : ReadPost p ws ms r) where
   pub read_refused : (r.number ≡ 0 → ⊥) → with_table (refusal r.number r.place) (encode model.empty) ≡ plan_read p
-  read_refused z = plan_refused p ws ms r post (encode model.empty) z refl
+  read_refused z = plan_refused p ws ms r post z
 
   module _ (z : r.number ≡ 0) where
     pub read_fine : with_table fine (table_of r.count ws ms) ≡ plan_read p

@@ -1,9 +1,11 @@
 -- `yegnabit_run` answers and leaves what `run_called` says, by its three ways out: an area too short, the plan refused, the run over.
-use Rattle.std.proofs.Common.{refl, ◌∙◌, rules}
+use Rattle.std.proofs.Common.{refl, ◌∙◌}
 use borrow.Author.Tests.{not-true, not-false}
 use Rattle.plan_table.specs.Fitting.{FittingParts}
 use Rattle.plan_table.specs.Packed.{table_of}
 use Rattle.plan_table.proofs.ByteLaws.{bytes_known}
+use Rattle.plan_table.proofs.ReasonLaws.{some_number}
+use Rattle.run.specs.Calls.{ended_by}
 use Rattle.run.proofs.Promised.{lent_fits}
 use Rattle.c_lent.proofs.EndLaws.{left_ends}
 use Rattle.yegnabit.proofs.FittingLaws.{read_refused, read_fine, parts_fit_lem}
@@ -25,8 +27,8 @@ returns-then-not-fit c =
       done_after = all.1.1.1.1.1;
     }
 
-pub records-read-requires : goal.records-read-requires
-records-read-requires c =
+pub records-requires : goal.records-requires
+records-requires c =
     record { rows = refl; marks = refl }
 
 pub put_done-requires : goal.put_done-requires
@@ -35,14 +37,14 @@ put_done-requires c =
     six_fit x.plan.now x.script.now x.answer.now x.history.now x.work.now x.out.now x.done.now
     c.fit.result c.fit.ensures (not-false c.fit.result c.if-not-fit.false-raw)
 
-pub returns-then-read-ne0 : goal.returns-then-read-ne0
-returns-then-read-ne0 c =
+pub returns-in-Err : goal.returns-in-Err
+returns-in-Err c =
     let x = c.args in
     let all = call_plan_refused x.plan.now x.script.now x.answer.now x.history.now x.work.now x.out.now x.done.now
     c.fit.result c.fit.ensures (not-false c.fit.result c.if-not-fit.false-raw) _
-    (read_refused x.plan.now _ _ c.records-read.result c.records-read.ensures c.if-read-ne0.true) c.code.result _ _ _ _
-    c.if-read-ne0.true
-    c.code.ensures c.clear.ensures.answer_after c.clear.ensures.history_after c.clear.ensures.work_after c.put_done.ensures in
+    (read_refused x.plan.now _ _ _ c.in-Err.ensures (some_number c.in-Err.refusal.reason)) c.plan_refused.result _ _ _ _
+    (some_number c.in-Err.refusal.reason)
+    c.plan_refused.ensures c.clear.ensures.answer_after c.clear.ensures.history_after c.clear.ensures.work_after c.put_done.ensures in
     record {
       value = all.0;
       answer_after = all.1.0;
@@ -54,10 +56,9 @@ returns-then-read-ne0 c =
 
 pub fitting-ended-requires : goal.fitting-ended-requires
 fitting-ended-requires c =
-    let parts : FittingParts c.records-read.result.count c.records-read.new.rows c.records-read.new.marks =
-    parts_fit_lem c.args.plan.now _ _ c.records-read.result c.records-read.ensures (search (c.if-read-ne0.false, rules))
-    (bytes_known c.args.plan.now (λ i. (c.type_inv.plan i).fits)) c.records-read.auto.rows
-    c.records-read.auto.marks in
+    let parts : FittingParts c.in-Ok.count c.records.new.rows c.records.new.marks =
+    parts_fit_lem c.args.plan.now _ _ _ c.in-Ok.ensures refl
+    (bytes_known c.args.plan.now (λ i. (c.type_inv.plan i).fits)) c.records.auto.rows c.records.auto.marks in
     let x = c.args in record {
       fitting_parts = parts;
       work_value = three_fit x.plan.now x.script.now x.answer.now x.history.now x.work.now x.out.now x.done.now
@@ -66,18 +67,17 @@ fitting-ended-requires c =
 
 pub end-requires : goal.end-requires
 end-requires c =
-    let parts : FittingParts c.records-read.result.count c.records-read.new.rows c.records-read.new.marks =
-    parts_fit_lem c.args.plan.now _ _ c.records-read.result c.records-read.ensures (search (c.if-read-ne0.false, rules))
-    (bytes_known c.args.plan.now (λ i. (c.type_inv.plan i).fits)) c.records-read.auto.rows
-    c.records-read.auto.marks in
+    let parts : FittingParts c.in-Ok.count c.records.new.rows c.records.new.marks =
+    parts_fit_lem c.args.plan.now _ _ _ c.in-Ok.ensures refl
+    (bytes_known c.args.plan.now (λ i. (c.type_inv.plan i).fits)) c.records.auto.rows c.records.auto.marks in
     let x = c.args in
     let f = parts in
-    let t = table_of c.records-read.result.count c.records-read.new.rows c.records-read.new.marks in
+    let t = table_of c.in-Ok.count c.records.new.rows c.records.new.marks in
     record {
       table = λ z.
           record {
             size = record { rows = c.fitting-ended.auto.rows ∙ f.size.rows; marks = f.size.marks };
-            fits = lent_fits t x.script.now x.answer.now x.history.now x.work.now _ c.fitting-ended.result
+            fits = lent_fits t x.script.now x.answer.now x.history.now x.work.now _ (ended_by c.fitting-ended.result)
                 (bytes_known x.script.now (λ i. (c.type_inv.script i).fits)) f.fits c.fitting-ended.ensures.rows_after z;
           };
       room = six_fit x.plan.now x.script.now x.answer.now x.history.now x.work.now x.out.now x.done.now
@@ -87,12 +87,12 @@ end-requires c =
 pub returns : goal.returns
 returns c =
     let x = c.args in
-    let t = table_of c.records-read.result.count c.records-read.new.rows c.records-read.new.marks in
-    let over = left_ends t c.fitting-ended.result _ x.out.now x.done.now
+    let t = table_of c.in-Ok.count c.records.new.rows c.records.new.marks in
+    let over = left_ends t (ended_by c.fitting-ended.result) _ x.out.now x.done.now
     (c.end.ensures.value, (c.end.ensures.out_after, c.end.ensures.done_after)) in
     let all = call_ended x.plan.now x.script.now x.answer.now x.history.now x.work.now x.out.now x.done.now
     c.fit.result c.fit.ensures (not-false c.fit.result c.if-not-fit.false-raw) _
-    (read_fine x.plan.now _ _ c.records-read.result c.records-read.ensures (search (c.if-read-ne0.false, rules))) refl _ _ _ _
+    (read_fine x.plan.now _ _ _ c.in-Ok.ensures refl) refl _ _ _ _
     c.fitting-ended.ensures.rows_after c.fitting-ended.ensures.answer_after c.fitting-ended.ensures.history_after
     c.fitting-ended.ensures.work_after
     c.end.result _ _

@@ -1,8 +1,9 @@
 -- `yegnabit_sweep` answers and leaves what reading, sweeping and writing owe, by its three ways out.
-use Rattle.std.proofs.Common.{refl, ap, ◌∙◌, arith, rules}
+use Rattle.std.proofs.Common.{refl, ap, ◌∙◌, arith}
 use Rattle.plan_table.specs.Fitting.{FittingParts}
 use Rattle.plan_table.specs.declared.Table.{Table}
 use Rattle.plan_table.proofs.ByteLaws.{bytes_known}
+use Rattle.plan_table.proofs.ReasonLaws.{some_number}
 use Rattle.yegnabit.proofs.CallLaws.{area_short, plan_refused, plan_done}
 use Rattle.plan_table.specs.Packed.{table_of}
 use Rattle.plan_table.specs.Results.{TableResult}
@@ -17,53 +18,44 @@ returns-then-out-lt-OUT c =
     let all = area_short c.args.out.now _ _ c.lent_short.ensures c.if-out-lt-OUT.true in
     record { value = all.0; out_after = all.1 }
 
-pub records-read-requires : goal.records-read-requires
-records-read-requires c =
+pub records-requires : goal.records-requires
+records-requires c =
     record { rows = refl; marks = refl }
 
-pub returns-then-read-ne0 : goal.returns-then-read-ne0
-returns-then-read-ne0 c =
+pub returns-in-Err : goal.returns-in-Err
+returns-in-Err c =
+    let z = some_number c.in-Err.refusal.reason in
     let all = plan_refused c.args.out.now _ _ (omega (arith, c.if-out-lt-OUT.false))
-    (read_refused c.args.plan.now _ _ c.records-read.result c.records-read.ensures c.if-read-ne0.true) c.code.ensures
-    c.if-read-ne0.true in
+    (read_refused c.args.plan.now _ _ _ c.in-Err.ensures z) c.plan_refused.ensures z in
     record { value = all.0; out_after = all.1 }
 
 pub fitting-kept-requires : goal.fitting-kept-requires
 fitting-kept-requires c =
-    let fit : FittingParts c.records-read.result.count c.records-read.new.rows c.records-read.new.marks =
-    parts_fit_lem c.args.plan.now _ _ c.records-read.result c.records-read.ensures (search (c.if-read-ne0.false, rules))
-    (bytes_known c.args.plan.now (λ i. (c.type_inv.plan i).fits)) c.records-read.auto.rows
-    c.records-read.auto.marks in
     record {
-      fitting_parts = fit;
+      fitting_parts = (parts_fit_lem c.args.plan.now _ _ _ c.in-Ok.ensures refl (bytes_known c.args.plan.now (λ i. (c.type_inv.plan i).fits))
+          c.records.auto.rows c.records.auto.marks);
       out_value = refl;
     }
 
 pub finish-requires : goal.finish-requires
 finish-requires c =
-    let fit : FittingParts c.records-read.result.count c.records-read.new.rows c.records-read.new.marks =
-    parts_fit_lem c.args.plan.now _ _ c.records-read.result c.records-read.ensures (search (c.if-read-ne0.false, rules))
-    (bytes_known c.args.plan.now (λ i. (c.type_inv.plan i).fits)) c.records-read.auto.rows
-    c.records-read.auto.marks in
-    let f = fit in
+    let f : FittingParts c.in-Ok.count c.records.new.rows c.records.new.marks =
+    (parts_fit_lem c.args.plan.now _ _ _ c.in-Ok.ensures refl (bytes_known c.args.plan.now (λ i. (c.type_inv.plan i).fits))
+    c.records.auto.rows c.records.auto.marks) in
     record {
       size = record { rows = c.fitting-kept.auto.out; marks = c.fitting-kept.auto.links ∙ f.size.marks };
-      fits = swept_fits (table_of c.records-read.result.count c.records-read.new.rows c.records-read.new.marks) f.fits _
-          c.fitting-kept.ensures;
+      fits = swept_fits (table_of c.in-Ok.count c.records.new.rows c.records.new.marks) f.fits _ c.fitting-kept.ensures;
     }
 
 pub returns : goal.returns
 returns c =
-    let fit : FittingParts c.records-read.result.count c.records-read.new.rows c.records-read.new.marks =
-    parts_fit_lem c.args.plan.now _ _ c.records-read.result c.records-read.ensures (search (c.if-read-ne0.false, rules))
-    (bytes_known c.args.plan.now (λ i. (c.type_inv.plan i).fits)) c.records-read.auto.rows
-    c.records-read.auto.marks in
+    let f : FittingParts c.in-Ok.count c.records.new.rows c.records.new.marks =
+    (parts_fit_lem c.args.plan.now _ _ _ c.in-Ok.ensures refl (bytes_known c.args.plan.now (λ i. (c.type_inv.plan i).fits))
+    c.records.auto.rows c.records.auto.marks) in
     let x = c.args in
     let o = x.out.now in
-    let done = sweep_done (table_of c.records-read.result.count c.records-read.new.rows c.records-read.new.marks) _
-    (fit).fits c.fitting-kept.ensures in
-    let all = plan_done o (omega (arith, c.if-out-lt-OUT.false))
-    (read_fine x.plan.now _ _ c.records-read.result c.records-read.ensures (search (c.if-read-ne0.false, rules)))
+    let done = sweep_done (table_of c.in-Ok.count c.records.new.rows c.records.new.marks) _ f.fits c.fitting-kept.ensures in
+    let all = plan_done o (omega (arith, c.if-out-lt-OUT.false)) (read_fine x.plan.now _ _ _ c.in-Ok.ensures refl)
     (λ (t : Table). finished_values (plan_swept t) 1 o) (λ (t : Table). finished_out (plan_swept t) o)
     (c.finish.ensures.value ∙ ap (λ (r : TableResult). code_of (finished_values r 1 o)) done)
     (c.finish.ensures.out_after ∙ ap (λ (r : TableResult). finished_out r o) done) in
