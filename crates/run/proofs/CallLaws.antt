@@ -29,8 +29,8 @@ use Rattle.run_updates.specs.State.{Progress, records_in, started, state_of, Hel
 use Rattle.run_query.specs.Stepping.{RowsHeld}
 use Rattle.run_query.specs.Values.{value_at}
 use Rattle.run_updates.proofs.StateLaws.{held_start, held_within, state_start}
-use Rattle.run.specs.Calls.{RunResult, Ended, outcome_of, ran, result_of, run_result, refused_result, result_with, result_in, refused_end, RunPre}
-use Rattle.run.specs.Calls.{RunPost}
+use Rattle.run.specs.Calls.{RunResult, Ended, outcome_of, ran, result_of, run_result, refused_result, result_with, result_in}
+use Rattle.run.specs.Calls.{refused_end, RunPre, RunPost}
 use Rattle.run_operators.specs.Machine.{Machine, Frame, frame, machine, begun, state_in, bound_in, value_in}
 use Rattle.run_operators.specs.Evaluating.{Fine, EvalPre, EvalPost}
 use Rattle.run_operators.specs.declared.value.Span.{Span}

@@ -96,6 +96,7 @@ fn run_in(
 {
     script::read_script(script)?;
     let unbound = [Span { start: 0, len: 0 }; Table::BINDERS];
+    // Not '?': a refusal clears the history first.
     let x = match evaluated(
         script,
         unbound,

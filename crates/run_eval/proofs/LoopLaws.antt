@@ -2,7 +2,7 @@
 use mathlib.Core.Path.{◌≡◌, refl, ap, sym, subst, ◌∙◌}
 use mathlib.Core.Bool.{Bool, true, false, cond}
 use mathlib.Core.List.{List, [], ◌∷◌, ◌++◌}
-use Prim.Native.Nat.{ℕ, ◌+◌, ◌-◌, ◌≤◌, ◌<◌}
+use Prim.Native.Nat.{ℕ, ◌+◌, ◌-◌, ◌/◌, ◌≤◌, ◌<◌}
 use native.Mathlib.Omega.{arith}
 use lib.Dec.{ltb}
 use lib.ListN.{length, get_or, take}
@@ -285,3 +285,65 @@ module _ {b : List ℕ} {left : ℕ} {l : Loop} {f : Frame} {s : Machine} (pre :
   -- the first
   pub one_asks : EachPre b left (loop_of l.for l.from (l.from + 1)) f s
   one_asks = half_asks (l.from + 1) (omega arith) (omega (arith, pre.some))
+
+  pub one_refused : {s₁ : Machine} → EachPost b left (loop_of l.for l.from (l.from + 1)) f s s₁ → (s₁.progress.number ≡ 0 → ⊥) →
+      EachPost b left l f s s₁
+  one_refused = half_refused (l.from + 1) (omega arith) (omega (arith, pre.some))
+
+  pub one_all : {s₁ : Machine} → EachPost b left (loop_of l.for l.from (l.from + 1)) f s s₁ → l.from + 1 ≡ l.to →
+      EachPost b left l f s s₁
+  one_all = half_all (l.from + 1) (omega arith) (omega (arith, pre.some))
+
+-- THE FIRST of them
+module _ {b : List ℕ} {left : ℕ} {l : Loop} {f : Frame} {s : Machine} (pre : EachPre b left l f s) {inside : List Span}
+    (bound : BindPost for_kind s.env f.bound l.from (l.from + 1) inside) {s₁ : Machine}
+    (ran : EvalPost b left (frame (f.bound + 1) f.marks s.end) (with_env inside s) s₁) where
+  pub begin_refused : (s₁.progress.number ≡ 0 → ⊥) → EachPost b left l f s s₁
+  begin_refused k = one_refused pre (item_refused (one_asks pre) (omega arith) bound ran k) k
+
+  pub begin_yields : s₁.progress.number ≡ 0 → {r : Evaluated} → r ≡ limited_by (evaluated s₁) f.top l.for →
+      EachPost b left (loop_of l.for l.from (l.from + 1)) f s (came_to r s₁)
+  begin_yields = item_yields (one_asks pre) (omega arith) bound ran
+
+-- AFTER IT, with more to come: those near it, up to half of the way, and then the others
+module _ {b : List ℕ} {left : ℕ} {l : Loop} {f : Frame} {s : Machine} (pre : EachPre b left l f s) {s₁ : Machine}
+    (ran : EachPost b left (loop_of l.for l.from (l.from + 1)) f s s₁) (k : s₁.progress.number ≡ 0)
+    (more : l.from + 1 ≡ l.to → ⊥) where
+  abbrev half : ℕ
+  half = l.from + 1 + (l.to - l.from) / 2
+
+  others : EachPre b left (loop_of l.for (l.from + 1) l.to) f (placed_at s.place s₁.end s₁)
+  others = rest_asks pre (l.from + 1) (omega arith) (omega (arith, pre.some)) ran k (omega (arith, pre.some, more))
+
+  others_yield : {s' : Machine} → EachPost b left (loop_of l.for (l.from + 1) l.to) f (placed_at s.place s₁.end s₁) s' →
+      EachPost b left l f s s'
+  others_yield = rest_yields pre (l.from + 1) (omega arith) (omega (arith, pre.some)) ran k (omega (arith, pre.some, more))
+
+  low : l.from + 1 < half
+  low = omega (arith, pre.some, more)
+
+  high : half ≤ l.to
+  high = omega (arith, pre.some, more)
+
+  pub near_asks : EachPre b left (loop_of l.for (l.from + 1) (l.from + 1 + (l.to - l.from) / 2)) f (placed_at s.place s₁.end s₁)
+  near_asks = half_asks others half low high
+
+  module _ {s₂ : Machine} (near : EachPost b left (loop_of l.for (l.from + 1) (l.from + 1 + (l.to - l.from) / 2)) f
+      (placed_at s.place s₁.end s₁) s₂) where
+    pub near_refused : (s₂.progress.number ≡ 0 → ⊥) → EachPost b left l f s s₂
+    near_refused z = others_yield (half_refused others half low high near z)
+
+    pub near_all : l.from + 1 + (l.to - l.from) / 2 ≡ l.to → EachPost b left l f s s₂
+    near_all e = others_yield (half_all others half low high near e)
+
+    module _ (z : s₂.progress.number ≡ 0) (far : l.from + 1 + (l.to - l.from) / 2 ≡ l.to → ⊥) where
+      left_over : half < l.to
+      left_over = omega (arith, high, far)
+
+      pub far_asks : EachPre b left (loop_of l.for (l.from + 1 + (l.to - l.from) / 2) l.to) f (placed_at s.place s₂.end s₂)
+      far_asks = rest_asks others half low high near z left_over
+
+      pub far_yields : {s' : Machine} →
+          EachPost b left (loop_of l.for (l.from + 1 + (l.to - l.from) / 2) l.to) f (placed_at s.place s₂.end s₂) s' →
+          EachPost b left l f s s'
+      far_yields post = others_yield (rest_yields others half low high near z left_over post)

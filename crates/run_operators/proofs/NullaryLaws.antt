@@ -1,6 +1,6 @@
 -- Records without operands: each way out of the code yields the run of the expression at the place.
 use mathlib.Core.Path.{◌≡◌, refl, ap, ap₂, sym, subst, ◌∙◌}
-use mathlib.Core.Bool.{Bool, true, false}
+use mathlib.Core.Bool.{true, false}
 use mathlib.Core.Logic.{inr}
 use mathlib.Core.Option.{Option, none, some}
 use mathlib.Core.List.{List, [], ◌∷◌, map}
@@ -15,7 +15,7 @@ use Rattle.model.specs.Table as model
 use Rattle.model.specs.Script.{nil_kind, document_kind, variable_kind, new_element_kind, new_leaf_kind}
 use Rattle.model.specs.Script.{Expr, nil, document, var, element, leaf, script_kinds, body_size, arity}
 use Rattle.model.specs.Run.{Out, refused, gives, marked, new_row, loose, run, AreRows}
-use Rattle.model.proofs.BoolLaws.{by_cases, cond_true, cond_false, cond_eq, cond_cases}
+use Rattle.model.proofs.BoolLaws.{by_cases, cond_true, cond_false, cond_cases}
 use Rattle.model.proofs.GrowLaws.{count_with_row}
 use Rattle.model.proofs.All.{all_read}
 use Rattle.model.specs.Base.{nothing, also}

@@ -15,9 +15,10 @@ use Rattle.model.proofs.BoolLaws.{by_cases, cond_true, cond_false, cond_eq, cond
 use Rattle.model.proofs.ValueLaws.{are_rows_more}
 use Rattle.model.proofs.All.{all_append}
 use Rattle.plan_table.specs.declared.Reason.{Reason}
+use Rattle.plan_table.proofs.ReasonLaws.{some_number}
 use Rattle.run_updates.specs.State.{Progress, came, Held, Updated}
 use Rattle.run_query.specs.Values.{value_at, Appended}
-use Rattle.run_updates.proofs.StateLaws.{after_self, after_then, outcome_gives, outcome_refused, number_some}
+use Rattle.run_updates.proofs.StateLaws.{after_self, after_then, outcome_gives, outcome_refused}
 use Rattle.run_operators.specs.Machine.{Evaluated, came_out, Machine, Frame, frame, machine, begun, evaluated, came_to}
 use Rattle.run_operators.specs.Machine.{state_in, value_in, outcome_in}
 use Rattle.run_operators.specs.Evaluating.{ended_by, limited_by, moved_to, HeldIn, AfterIn, Fine, Yields, ValuePre, BinaryPre}
@@ -78,8 +79,8 @@ pub refused_updated : (f : Frame) (s : Machine) {g : ℕ → State → Out} {v w
     Updated g v s.rows s.history s.progress ws' h' (came (Err r)) → (w' : List ℕ) {at next : ℕ} →
     Yields (g at (state_in f s)) next f s (machine ws' h' w' (came_out (Err (record { reason = r; place = at }))))
 refused_updated f s {g} {v} {ws'} {h'} r up w' {at} {next} =
-    refused_yields (number_some r)
-    (sym (up.same at f.marks) ∙ outcome_refused at v ws' f.marks h' (came (Err r)) (number_some r))
+    refused_yields (some_number r)
+    (sym (up.same at f.marks) ∙ outcome_refused at v ws' f.marks h' (came (Err r)) (some_number r))
 
 -- AN ERROR TOLD otherwise, by a closure: what the call returned, from what was made of it
 module _ {A D E : Type 0} (P : D → E → Type 0) where

@@ -1,5 +1,5 @@
 -- The evaluator's contracts: what a value in the work area, the variables and the lent areas stand for in the model's run.
-use Rattle.std.specs.Prelude.{◌≡◌, true, cond, ◌⊎◌, List, [], ◌∷◌, ℕ, ◌+◌, ◌*◌, ◌-◌, ◌≤◌, ◌<◌, ltb, eqb, length, get_or, take, Err}
+use Rattle.std.specs.Prelude.{◌≡◌, true, cond, ◌⊎◌, List, [], ℕ, ◌+◌, ◌*◌, ◌-◌, ◌≤◌, ◌<◌, ltb, eqb, length, get_or, take, Err}
 use Rattle.model.specs.Limits.{max_items, max_binders, documents}
 use Rattle.model.specs.Script.{step_by, step_kind, delete_kind, join_kind, insert_kind, is_script_kind, body_size, arity, is_binder}
 use Rattle.model.specs.Step.{stepped, picked}

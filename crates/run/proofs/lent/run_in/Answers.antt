@@ -3,7 +3,7 @@ use Rattle.std.proofs.Common.{refl, ap, ◌∙◌, ℕ, length, replicate}
 use Rattle.plan_table.specs.Packed.{table_of}
 use Rattle.plan_table.specs.Refusals.{number_of}
 use Rattle.plan_table.specs.declared.Table.{Table}
-use Rattle.run_updates.proofs.StateLaws.{number_some}
+use Rattle.plan_table.proofs.ReasonLaws.{some_number}
 use Rattle.run.proofs.CallLaws.{refused_post, accepted_by, eval_asks, put_front, run_refused_lem, run_post}
 use Rattle.run.proofs.lent.run_in.Goals as goal
 
@@ -18,7 +18,7 @@ evaluated-requires c =
 pub returns-in-Err : goal.returns-in-Err
 returns-in-Err c =
     let given : Table = table_of c.args.count c.args.rows.now c.args.marks.now in
-    let some = number_some c.in-Err.refusal.reason in
+    let some = some_number c.in-Err.refusal.reason in
     refused_post (given) c.args.script.now (length c.args.answer.now) (length c.args.history.now)
     (length c.args.work.now) (number_of c.in-Err.refusal.reason) c.in-Err.refusal.place some
     (run_refused_lem (given) c.args.script.now c.requires.fitting_parts.fits

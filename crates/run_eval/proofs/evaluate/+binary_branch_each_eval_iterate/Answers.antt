@@ -1,8 +1,8 @@
-use Rattle.std.proofs.Common.{arith, ◌+◌, ◌-◌, ◌/◌, refl}
+use Rattle.std.proofs.Common.{arith, refl}
 use Rattle.run_eval.proofs.BinaryLaws.{second_asks, combine_asks, combine_yields}
 use Rattle.run_eval.proofs.BranchLaws.{then_asks, then_refused, then_yields}
-use Rattle.run_eval.proofs.LoopLaws.{one_asks, body_asks, item_refused, item_yields}
-use Rattle.run_eval.proofs.LoopLaws.{half_asks, half_all, half_refused, rest_asks, rest_yields}
+use Rattle.run_eval.proofs.LoopLaws.{one_asks, body_asks}
+use Rattle.run_eval.proofs.LoopLaws.{one_refused, one_all, begin_refused, begin_yields, near_asks, near_refused, near_all, far_asks, far_yields}
 use Rattle.run_eval.proofs.ScopeLaws.{index_kept}
 use Rattle.script.proofs.AcceptedLaws.{accepted_record}
 use Rattle.run_eval.proofs.OperandLaws.{two_operands, for_operands, if_operands}
@@ -10,7 +10,7 @@ use Rattle.run_eval.proofs.EvalLaws.{deep, first_asks, first_fewer, first_refuse
 use Rattle.run_eval.proofs.EvalLaws.{two_asks, two_fewer, two_yields, three_asks, three_fewer, three_yields}
 use Rattle.run_eval.proofs.LoopLaws.{for_none, each_asks, close_asks, close_yields}
 use Rattle.std.proofs.lemmas.Result.{err_from_is_err_and}
-use Rattle.run_updates.proofs.StateLaws.{number_some}
+use Rattle.plan_table.proofs.ReasonLaws.{some_number}
 use Rattle.run_eval.proofs.evaluate.+binary_branch_each_eval_iterate.Goals as goal
 
 pub binary-eval-requires : goal.binary-eval-requires
@@ -35,7 +35,7 @@ branch-eval-requires-2 t c =
 pub branch-returns-in_err-y : goal.branch-returns-in_err-y
 branch-returns-in_err-y t c =
     let out = err_from_is_err_and c.from_residual.result c.from_residual.ensures.1 in
-    rw (out.1, out.2) (then_refused c.requires.rest_pre c.if-x-top.false c.in_err-y.ensures (number_some c.in_err-y.field-0.0.reason))
+    rw (out.1, out.2) (then_refused c.requires.rest_pre c.if-x-top.false c.in_err-y.ensures (some_number c.in_err-y.field-0.0.reason))
 
 pub branch-returns : goal.branch-returns
 branch-returns t c =
@@ -48,94 +48,53 @@ each-eval-requires t c =
 pub each-returns-in_err-y : goal.each-returns-in_err-y
 each-returns-in_err-y t c =
     let out = err_from_is_err_and c.from_residual.result c.from_residual.ensures.1 in
-    let k = number_some c.in_err-y.field-0.0.reason in
     rw (out.1, out.2)
-    (half_refused c.requires.each_pre (c.args.from + 1) (omega arith) (omega (arith, c.requires.each_pre.some))
-    (item_refused (one_asks c.requires.each_pre) (omega arith) c.bind-inside.ensures c.in_err-y.ensures k) k)
-
-pub each-returns-then-next-to : goal.each-returns-then-next-to
-each-returns-then-next-to t c =
-    let first = item_yields (one_asks c.requires.each_pre) (omega arith) c.bind-inside.ensures c.in_ok-y.ensures
-    refl c.in_ok-first.ensures in
-    half_all c.requires.each_pre (c.args.from + 1) (omega arith) (omega (arith, c.requires.each_pre.some)) first c.if-next-to.true
+    (begin_refused c.requires.each_pre c.bind-inside.ensures c.in_err-y.ensures (some_number c.in_err-y.field-0.0.reason))
 
 pub each-returns-in_err-first : goal.each-returns-in_err-first
 each-returns-in_err-first t c =
     let out = err_from_is_err_and c.from_residual-in_err-first.result c.from_residual-in_err-first.ensures.1 in
-    let first = item_yields (one_asks c.requires.each_pre) (omega arith) c.bind-inside.ensures c.in_ok-y.ensures refl
-    c.in_err-first.ensures in
-    rw (out.1, out.2)
-    (half_refused c.requires.each_pre (c.args.from + 1) (omega arith) (omega (arith, c.requires.each_pre.some)) first
-    (number_some c.in_err-first.field-0.0.reason))
+    let first = begin_yields c.requires.each_pre c.bind-inside.ensures c.in_ok-y.ensures refl c.in_err-first.ensures in
+    rw (out.1, out.2) (one_refused c.requires.each_pre first (some_number c.in_err-first.field-0.0.reason))
+
+pub each-returns-then-next-to : goal.each-returns-then-next-to
+each-returns-then-next-to t c =
+    let first = begin_yields c.requires.each_pre c.bind-inside.ensures c.in_ok-y.ensures refl c.in_ok-first.ensures in
+    one_all c.requires.each_pre first c.if-next-to.true
 
 pub each-each-requires : goal.each-each-requires
 each-each-requires t c =
-    let first = item_yields (one_asks c.requires.each_pre) (omega arith) c.bind-inside.ensures c.in_ok-y.ensures refl
-    c.in_ok-first.ensures in
-    let rest = rest_asks c.requires.each_pre (c.args.from + 1) (omega arith) (omega (arith, c.requires.each_pre.some)) first
-    refl (omega (arith, c.requires.each_pre.some, c.if-next-to.false)) in (
+    let first = begin_yields c.requires.each_pre c.bind-inside.ensures c.in_ok-y.ensures refl c.in_ok-first.ensures in (
       omega (arith, c.decreases, c.requires.each_pre.some, c.if-next-to.false),
-      (
-        half_asks rest (c.args.from + 1 + (c.args.to - c.args.from) / 2)
-            (omega (arith, c.requires.each_pre.some, c.if-next-to.false)) (omega (arith, c.requires.each_pre.some, c.if-next-to.false)),
-        index_kept
-            c.requires.index_held first refl,
-      ),
+      (near_asks c.requires.each_pre first refl c.if-next-to.false, index_kept c.requires.index_held first refl),
     )
-
-pub each-returns-then-half-to : goal.each-returns-then-half-to
-each-returns-then-half-to t c =
-    let first = item_yields (one_asks c.requires.each_pre) (omega arith) c.bind-inside.ensures c.in_ok-y.ensures refl
-    c.in_ok-first.ensures in
-    let rest = rest_asks c.requires.each_pre (c.args.from + 1) (omega arith) (omega (arith, c.requires.each_pre.some)) first
-    refl (omega (arith, c.requires.each_pre.some, c.if-next-to.false)) in
-    rest_yields c.requires.each_pre (c.args.from + 1) (omega arith) (omega (arith, c.requires.each_pre.some)) first refl
-    (omega (arith, c.requires.each_pre.some, c.if-next-to.false))
-    (half_all rest (c.args.from + 1 + (c.args.to - c.args.from) / 2)
-    (omega (arith, c.requires.each_pre.some, c.if-next-to.false)) (omega (arith, c.requires.each_pre.some, c.if-next-to.false))
-    c.in_ok-x.ensures c.if-half-to.true)
 
 pub each-returns-in_err-x : goal.each-returns-in_err-x
 each-returns-in_err-x t c =
     let out = err_from_is_err_and c.from_residual-in_err-x.result c.from_residual-in_err-x.ensures.1 in
-    let first = item_yields (one_asks c.requires.each_pre) (omega arith) c.bind-inside.ensures c.in_ok-y.ensures refl
-    c.in_ok-first.ensures in
-    let rest = rest_asks c.requires.each_pre (c.args.from + 1) (omega arith) (omega (arith, c.requires.each_pre.some)) first
-    refl (omega (arith, c.requires.each_pre.some, c.if-next-to.false)) in
+    let first = begin_yields c.requires.each_pre c.bind-inside.ensures c.in_ok-y.ensures refl c.in_ok-first.ensures in
     rw (out.1, out.2)
-    (rest_yields c.requires.each_pre (c.args.from + 1) (omega arith) (omega (arith, c.requires.each_pre.some)) first refl
-    (omega (arith, c.requires.each_pre.some, c.if-next-to.false))
-    (half_refused rest (c.args.from + 1 + (c.args.to - c.args.from) / 2)
-    (omega (arith, c.requires.each_pre.some, c.if-next-to.false)) (omega (arith, c.requires.each_pre.some, c.if-next-to.false))
-    c.in_err-x.ensures (number_some c.in_err-x.field-0.0.reason)))
+    (near_refused c.requires.each_pre first refl c.if-next-to.false c.in_err-x.ensures (some_number c.in_err-x.field-0.0.reason))
+
+pub each-returns-then-half-to : goal.each-returns-then-half-to
+each-returns-then-half-to t c =
+    let first = begin_yields c.requires.each_pre c.bind-inside.ensures c.in_ok-y.ensures refl c.in_ok-first.ensures in
+    near_all c.requires.each_pre first refl c.if-next-to.false c.in_ok-x.ensures c.if-half-to.true
 
 pub each-each-requires-2 : goal.each-each-requires-2
 each-each-requires-2 t c =
-    let first = item_yields (one_asks c.requires.each_pre) (omega arith) c.bind-inside.ensures c.in_ok-y.ensures refl
-    c.in_ok-first.ensures in
-    let rest = rest_asks c.requires.each_pre (c.args.from + 1) (omega arith) (omega (arith, c.requires.each_pre.some)) first
-    refl (omega (arith, c.requires.each_pre.some, c.if-next-to.false)) in (
+    let first = begin_yields c.requires.each_pre c.bind-inside.ensures c.in_ok-y.ensures refl c.in_ok-first.ensures in (
       omega (arith, c.decreases, c.requires.each_pre.some, c.if-next-to.false),
       (
-        rest_asks rest (c.args.from + 1 + (c.args.to - c.args.from) / 2)
-            (omega (arith, c.requires.each_pre.some, c.if-next-to.false)) (omega (arith, c.requires.each_pre.some, c.if-next-to.false))
-            c.in_ok-x.ensures refl (omega (arith, c.requires.each_pre.some, c.if-next-to.false, c.if-half-to.false)),
-        index_kept
-            (index_kept c.requires.index_held first refl) c.in_ok-x.ensures refl,
+        far_asks c.requires.each_pre first refl c.if-next-to.false c.in_ok-x.ensures refl c.if-half-to.false,
+        index_kept (index_kept c.requires.index_held first refl) c.in_ok-x.ensures refl,
       ),
     )
 
 pub each-returns : goal.each-returns
 each-returns t c =
-    let first = item_yields (one_asks c.requires.each_pre) (omega arith) c.bind-inside.ensures c.in_ok-y.ensures refl
-    c.in_ok-first.ensures in
-    let rest = rest_asks c.requires.each_pre (c.args.from + 1) (omega arith) (omega (arith, c.requires.each_pre.some)) first
-    refl (omega (arith, c.requires.each_pre.some, c.if-next-to.false)) in
-    rest_yields c.requires.each_pre (c.args.from + 1) (omega arith) (omega (arith, c.requires.each_pre.some)) first refl
-    (omega (arith, c.requires.each_pre.some, c.if-next-to.false))
-    (rest_yields rest (c.args.from + 1 + (c.args.to - c.args.from) / 2)
-    (omega (arith, c.requires.each_pre.some, c.if-next-to.false)) (omega (arith, c.requires.each_pre.some, c.if-next-to.false))
-    c.in_ok-x.ensures refl (omega (arith, c.requires.each_pre.some, c.if-next-to.false, c.if-half-to.false)) c.each-2.ensures)
+    let first = begin_yields c.requires.each_pre c.bind-inside.ensures c.in_ok-y.ensures refl c.in_ok-first.ensures in
+    far_yields c.requires.each_pre first refl c.if-next-to.false c.in_ok-x.ensures refl c.if-half-to.false c.each-2.ensures
 
 pub eval-bounds-script-at : goal.eval-bounds-script-at
 eval-bounds-script-at t c =
@@ -163,7 +122,7 @@ eval-returns-in_err-x t c =
     let out = err_from_is_err_and c.from_residual.result c.from_residual.ensures.1 in
     rw (out.1, out.2)
     (first_refused c.requires.eval_pre c.body_size.ensures.value c.in_err-x.ensures c.arity-operands.ensures.value
-    c.if-operands-eq0.false (number_some c.in_err-x.field-0.0.reason))
+    c.if-operands-eq0.false (some_number c.in_err-x.field-0.0.reason))
 
 pub eval-applied-requires : goal.eval-applied-requires
 eval-applied-requires t c =
