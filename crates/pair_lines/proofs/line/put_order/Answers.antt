@@ -11,5 +11,6 @@ returns-in-Ok c =
 
 pub returns-in-Err : goal.returns-in-Err
 returns-in-Err c =
-    refused_placed c.requires (ap order_told c.in-Err.is) c.put-n.ensures c.put-m.ensures (rw c.from.ensures at c.put_field-k-in-Err.ensures)
+    refused_placed c.requires (ap order_told c.in-Err.is) c.put-n.ensures c.put-m.ensures
+    (rw c.from.ensures at c.put_field-k-in-Err.ensures)
     (rw c.from-in-Err.ensures at c.put_field-j-in-Err.ensures) c.put-in-Err.ensures
