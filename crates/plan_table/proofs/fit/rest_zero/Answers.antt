@@ -9,6 +9,8 @@ use Rattle.plan_table.proofs.fit.rest_zero.Goals as goal
 pub returns : goal.returns
 returns c =
     let rest = drop c.args.count c.args.rows.now in
-    all_from_yields_List is_zero _ _ _ c.all.ensures.ran (YieldsList-from_slice rest
-    (c.iter.ensures.rest ∙ take_all (length c.args.rows.now - c.args.count) rest (omega (arith, length-drop c.args.count c.args.rows.now))))
+    all_from_yields_List is_zero _ _ _ c.all.ensures.ran
+    (YieldsList-from_slice rest
+    (c.iter.ensures.rest ∙
+    take_all (length c.args.rows.now - c.args.count) rest (omega (arith, length-drop c.args.count c.args.rows.now))))
     (λ x b q k. search (rules, tests)) ∙ all_listed is_zero rest
