@@ -1,5 +1,6 @@
 // Numbers of one byte and of two: widened, as a name, read from a record, and stored for a parent.
 ghost use Rattle.std.specs.Prelude.{◌≡◌, ◌+◌, ◌<◌, length};
+ghost use Rattle.model.specs.Base.{over};
 ghost use Rattle.model.specs.Stored.{number_at, number_bytes, parent_bytes};
 ghost use Rattle.plan_table.specs.Packed.{of_link};
 
@@ -45,7 +46,16 @@ pub fn number_at(s: &[u8], at: usize) -> usize
     ensures value { result ≡ number_at s.now at }
     ensures upper_bound { result < 65536 }
 {
-    byte(s[at]) + 256 * byte(s[at + 1])
+    u16::from_le_bytes([s[at], s[at + 1]]) as usize
+}
+
+// Writes a two-byte number at a place.
+pub fn put(out: &mut [u8], at: usize, n: usize)
+    requires in_bounds { at + 1 < length out.old }
+    requires n_bound { n < 65536 }
+    ensures { out.new ≡ over at (number_bytes n) out.old }
+{
+    out[at..at + 2].copy_from_slice(&(n as u16).to_le_bytes());
 }
 
 // The number stored for the row with this link.

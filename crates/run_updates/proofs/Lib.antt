@@ -1,3 +1,4 @@
 pub mod StateLaws
 pub mod HistoryLaws
 pub mod UpdateLaws
+pub mod PutLaws

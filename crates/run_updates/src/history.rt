@@ -1,5 +1,5 @@
 // The history's records: their kinds and sizes, and how they are written.
-ghost use Rattle.std.specs.Prelude.{◌≡◌, ◌+◌, ◌/◌, ◌%◌, ◌≤◌, ◌<◌, length};
+ghost use Rattle.std.specs.Prelude.{◌≡◌, ◌+◌, ◌≤◌, ◌<◌, length};
 ghost use Rattle.model.specs.Limits.{max_rows};
 ghost use Rattle.model.specs.History.{record_bytes, made, cut, made_size, cut_size, history_size};
 ghost use Rattle.plan_table.specs.Packed.{tag_in, row_of, link_room};
@@ -50,11 +50,9 @@ fn put_six(history: &mut [u8], at: usize, kind: u8, row: RowNumber, tag: u8, par
 {
     let number = number::parent(parent);
     history[at] = kind;
-    history[at + 1] = (row.0 % 256) as u8;
-    history[at + 2] = (row.0 / 256) as u8;
+    number::put(history, at + 1, row.0);
     history[at + 3] = tag;
-    history[at + 4] = (number % 256) as u8;
-    history[at + 5] = (number / 256) as u8;
+    number::put(history, at + 4, number);
 }
 
 // The record of row w made, at a place.
@@ -76,8 +74,6 @@ pub fn put_cut(history: &mut [u8], at: usize, row: RowNumber, parent: RowNumber)
     ensures { history.new ≡ over at (record_bytes (cut row.0 parent.0)) history.old }
 {
     history[at] = CUT;
-    history[at + 1] = (row.0 % 256) as u8;
-    history[at + 2] = (row.0 / 256) as u8;
-    history[at + 3] = (parent.0 % 256) as u8;
-    history[at + 4] = (parent.0 / 256) as u8;
+    number::put(history, at + 1, row.0);
+    number::put(history, at + 3, parent.0);
 }
