@@ -124,12 +124,10 @@ pub fn picked(
 {
     let ranks = related(relation, constant);
     let mut at = from;
-    let mut k = from;
-    while k < to {
+    for k in from..to {
         let row = number::index(work[k]);
         let keep = is_picked(rows[row], ranks);
         at = step::append_if(keep, RowNumber(row), work, at);
-        k += 1;
     }
     at
 }

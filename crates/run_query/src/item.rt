@@ -53,10 +53,8 @@ fn scanned(
     let i = item.0;
     let link = i + 1;
     let mut at = from;
-    let mut j = low;
-    while j < count {
+    for j in low..count {
         at = append_child(rows, RowNumber(j), Link(link), test, name, work, at);
-        j += 1;
     }
     at
 }

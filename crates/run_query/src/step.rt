@@ -63,14 +63,12 @@ fn flag(flags: &mut [u8], items: &[u16], count: usize) -> usize
     ensures clear_below { ClearBelow count result flags.new }
 {
     let mut low = count;
-    let mut k = 0;
-    while k < items.len() {
-        let at = number::index(items[k]);
+    for item in items {
+        let at = number::index(*item);
         flags[at + 1] = 1;
         if at < low {
             low = at;
         }
-        k += 1;
     }
     low
 }
@@ -106,9 +104,7 @@ fn climb(rows: &[u32], count: usize, deep: bool, flags: &[u8], reached: &mut [u8
     requires { PassPre rows.now count flags.now reached.old }
     ensures { Reached rows.now count (2 + bit deep) flags.now reached.new }
 {
-    let mut j = count;
-    while 0 < j {
-        j -= 1;
+    for j in (0..count).rev() {
         climb_one(rows[j], RowNumber(j), deep, flags, reached);
     }
 }
@@ -154,11 +150,9 @@ fn collect(
         work.new result }
 {
     let mut at = from;
-    let mut j = 0;
-    while j < count {
+    for j in 0..count {
         let keep = keeps(rows, RowNumber(j), reached[j + 1], test, name);
         at = append_if(keep, RowNumber(j), work, at);
-        j += 1;
     }
     at
 }
@@ -192,14 +186,12 @@ fn descend(
         work.new result }
 {
     let mut at = from;
-    let mut j = low;
-    while j < count {
+    for j in low..count {
         let l = packed::link(rows[j]).0;
         let above = flags[l];
         mark(flags, RowNumber(j), above, deep);
         let keep = keeps(rows, RowNumber(j), above, test, name);
         at = append_if(keep, RowNumber(j), work, at);
-        j += 1;
     }
     at
 }

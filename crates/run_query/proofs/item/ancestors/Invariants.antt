@@ -1,5 +1,5 @@
 -- `item::ancestors` writes the rows above an item from the end. The loop's invariant: those passed stand, and there is room for the rest.
-use Rattle.std.proofs.Common.{get_or, ℕ, ◌-◌, ◌≤◌, List}
+use Rattle.std.proofs.Common.{get_or, ℕ, ◌≤◌, List}
 use Rattle.plan_table.specs.Packed.{link_in}
 use Rattle.run_query.specs.Values.{way_from}
 use Rattle.run_query.proofs.ItemLaws.{Rising}

@@ -1,4 +1,4 @@
-use Rattle.std.proofs.Common.{ℕ, ◌+◌, ◌-◌, ◌<◌, [], ◌∷◌, ◌≡◌, refl, subst, arith, rules}
+use Rattle.std.proofs.Common.{ℕ, ◌+◌, ◌<◌, [], ◌∷◌, ◌≡◌, refl, subst, arith, rules}
 use Rattle.run_query.proofs.ItemLaws.{collected_next, collected_past, no_child}
 use Rattle.run_query.proofs.IndexLaws.{led_first, led_next}
 use Rattle.run_query.proofs.ValueLaws.{collected_above}

@@ -1,4 +1,4 @@
-use Rattle.std.proofs.Common.{true, cond, ⊎_elim, ◌<◌, length, get_or, ℕ, ◌+◌, ◌-◌, ◌≤◌, ◌≡◌, ap, sym, ◌∙◌, arith}
+use Rattle.std.proofs.Common.{true, cond, ◌<◌, length, get_or, ℕ, ◌+◌, ◌-◌, ◌≤◌, ◌≡◌, ap, sym, ◌∙◌, arith}
 use Rattle.model.proofs.BoolLaws.{cond_true, cond_false}
 use Rattle.run_query.proofs.ValueLaws.{cond_low}
 use Rattle.run_query.proofs.ItemLaws.{counted_way}

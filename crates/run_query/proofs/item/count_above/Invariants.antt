@@ -1,5 +1,5 @@
 -- `item::count_above` counts the rows above an item that pass the test. The loop's invariant: those passed and those to come are all.
-use Rattle.std.proofs.Common.{length, get_or, ℕ, ◌+◌, ◌-◌, ◌≤◌, List, ◌≡◌}
+use Rattle.std.proofs.Common.{length, get_or, ℕ, ◌+◌, ◌≤◌, List, ◌≡◌}
 use Rattle.plan_table.specs.Packed.{link_in}
 use Rattle.run_query.specs.Values.{way_from}
 use Rattle.run_query.proofs.item.count_above.Given as goal
