@@ -21,14 +21,9 @@ loop-j-init c =
     (λ l h. get_or_append_left c.fill.new.self (drop max_links c.args.index.now) 0 l (omega arith) ∙
     ap (λ (w : List ℕ). get_or w l 0) v ∙ get_or-replicate max_links l c.args.count 0 h)
 
-pub enter-requires : goal.enter-requires
-enter-requires c =
-    record {
-      row_in_bounds = omega (arith, c.requires.held.rows, c.requires.held.few);
-      row_lt_max_rows = omega (arith, c.requires.held.few);
-      index_len = c.loop-j.invariant.size;
-      row_bound = omega (arith, link_in_lem c.args.rows.now c.args.count c.requires.held (c.loop-j.j - 1) (omega arith));
-    }
+pub enter-requires-clause-row_bound : goal.enter-requires-clause-row_bound
+enter-requires-clause-row_bound c =
+    omega (arith, link_in_lem c.args.rows.now c.args.count c.requires.held (c.loop-j.j - 1) (omega arith))
 
 pub loop-j-preserved : goal.loop-j-preserved
 loop-j-preserved c =

@@ -6,8 +6,8 @@ use Rattle.run_query.proofs.item.count_above.Given as goal
 
 abbrev pub invariant-loop-l : goal.invariant-loop-l
 invariant-loop-l l = (l.l ≤ l.count) ×
-    ((ms : List ℕ) → l.n + length (way_from l.rows l.count l.test l.name.0 l.l ms) ≡ length
-    (way_from l.rows l.count l.test l.name.0 (link_in (get_or l.rows l.i 0)) ms)) ×
+    ((ms : List ℕ) → l.n + length (way_from l.rows l.count l.test.kind l.test.name.0 l.l ms) ≡ length
+    (way_from l.rows l.count l.test.kind l.test.name.0 (link_in (get_or l.rows l.fn.item.0 0)) ms)) ×
     (l.n + l.l ≤ l.count)
 
 abbrev pub decreases-loop-l : goal.decreases-loop-l

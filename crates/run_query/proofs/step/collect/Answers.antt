@@ -10,7 +10,7 @@ room c =
     omega (
       arith,
       c.loop-j.invariant.end,
-      length_collect (λ (i : ℕ). kept c.args.rows.now i (get_or c.args.reached.now (i + 1) 0) c.args.test c.args.name.0) 0 c.loop-j.j,
+      length_collect (λ (i : ℕ). kept c.args.rows.now i (get_or c.args.reached.now (i + 1) 0) c.args.test.kind c.args.test.name.0) 0 c.loop-j.j,
       c.requires.room,
       c.requires.few,
     )
@@ -18,16 +18,12 @@ room c =
 pub loop-j-init : goal.loop-j-init
 loop-j-init c = collected_none c.args.work.now c.args.from _
 
-pub append_if-at-requires : goal.append_if-at-requires
-append_if-at-requires c =
-    record {
-      item_bound = omega (arith, c.requires.few);
-      at_in_bounds = room (goal.at.append_if-at-requires c).In-loop-j;
-    }
+pub append_if-at-requires-clause-at_in_bounds : goal.append_if-at-requires-clause-at_in_bounds
+append_if-at-requires-clause-at_in_bounds c = room (goal.at.append_if-at-requires-clause-at_in_bounds c).In-loop-j
 
 pub loop-j-preserved : goal.loop-j-preserved
 loop-j-preserved c =
-    collected_by (λ (i : ℕ). kept c.args.rows.now i (get_or c.args.reached.now (i + 1) 0) c.args.test c.args.name.0)
+    collected_by (λ (i : ℕ). kept c.args.rows.now i (get_or c.args.reached.now (i + 1) 0) c.args.test.kind c.args.test.name.0)
     c.loop-j.j c.args.work.now c.loop-j.work c.args.from c.loop-j.at (room (goal.at.loop-j-preserved c).In-loop-j)
     c.loop-j.invariant c.keeps-keep.result c.append_if-at.new.work c.append_if-at.result c.keeps-keep.ensures
     c.append_if-at.ensures.work_after c.append_if-at.ensures.value

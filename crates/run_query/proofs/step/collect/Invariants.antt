@@ -3,5 +3,5 @@ use Rattle.run_query.specs.Values.{Appended, kept_rows}
 use Rattle.run_query.proofs.step.collect.Given as goal
 
 abbrev pub invariant-loop-j : goal.invariant-loop-j
-invariant-loop-j l = Appended (kept_rows l.rows l.reached l.test l.name.0 l.j) l.initial.work
+invariant-loop-j l = Appended (kept_rows l.rows l.reached l.test.kind l.test.name.0 l.j) l.initial.work
     l.from l.work l.at
