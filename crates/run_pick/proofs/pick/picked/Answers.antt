@@ -35,7 +35,7 @@ pub loop-k-preserved : goal.loop-k-preserved
 loop-k-preserved c =
     let past_low : c.append_if-at.result ≤
     c.loop-k.k + 1 = let l = c.loop-k in
-    omega (arith, c.append_if-at.ensures.value, cond_low c.is_picked-keep.result l.at, l.invariant.0) in
+    omega (arith, c.append_if-at.ensures.value, cond_low c.picks-keep.result l.at, l.invariant.0) in
     let a = c.args in
     let p = c.requires in
     let l = c.loop-k in
@@ -45,11 +45,11 @@ loop-k-preserved c =
     let known = c.type_inv.rows i.result in
     let kept = c.related-ranks.ensures
     (get_or a.rows.now i.result 0) (omega (arith, known)) in
-    let is = c.is_picked-keep.ensures ∙ kept in (
+    let is = c.picks-keep.ensures ∙ kept in (
       past_low,
       filtered_by (picked_row a.rows.now a.relation a.constant) a.work.now l.work a.from
           l.k l.at (omega arith) (omega (arith, p.within)) (omega (arith, l.invariant.0, p.within)) l.invariant.1
-          c.is_picked-keep.result i.result s.new.work s.result here
+          c.picks-keep.result i.result s.new.work s.result here
           (is ∙ ap (picked_row a.rows.now a.relation a.constant) here) s.ensures.work_after s.ensures.value,
       ap (drop (l.k + 1)) s.ensures.work_after ∙
           rest_kept a.work.now l.work l.k l.at i.result l.invariant.0 l.invariant.2,
