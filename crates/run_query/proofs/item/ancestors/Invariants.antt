@@ -7,8 +7,8 @@ use Rattle.run_query.proofs.item.ancestors.Given as goal
 
 abbrev pub invariant-loop-l : goal.invariant-loop-l
 invariant-loop-l l = (l.l ≤ l.count) ×
-    ((ms : List ℕ) → Rising (way_from l.rows l.count l.test.kind l.test.name.0 (link_in (get_or l.rows l.fn.item.0 0)) ms) l.initial.work l.from
-    (way_from l.rows l.count l.test.kind l.test.name.0 l.l ms) l.work l.at)
+    ((ms : List ℕ) → Rising (way_from l.rows l.count l.test.kind l.test.name.0 (link_in (get_or l.rows l.fn.item.0 0)) ms) l.initial.work
+    l.from (way_from l.rows l.count l.test.kind l.test.name.0 l.l ms) l.work l.at)
 
 abbrev pub decreases-loop-l : goal.decreases-loop-l
 decreases-loop-l l = l.l

@@ -7,4 +7,5 @@ use Rattle.run_query.proofs.item.scanned.Given as goal
 abbrev pub invariant-loop-j : goal.invariant-loop-j
 invariant-loop-j l = ((u : List ℕ) (start : ℕ) →
     SteppedTo l.rows l.count (step_by 0 l.test.kind l.test.name.0) (l.fn.item.0 ∷ []) l.low u start l.initial.work l.from →
-    SteppedTo l.rows l.count (step_by 0 l.test.kind l.test.name.0) (l.fn.item.0 ∷ []) l.j u start l.work l.at) × (l.at ≤ l.from + (l.j - l.low))
+    SteppedTo l.rows l.count (step_by 0 l.test.kind l.test.name.0) (l.fn.item.0 ∷ []) l.j u start l.work l.at) ×
+    (l.at ≤ l.from + (l.j - l.low))

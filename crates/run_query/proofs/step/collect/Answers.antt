@@ -10,7 +10,8 @@ room c =
     omega (
       arith,
       c.loop-j.invariant.end,
-      length_collect (λ (i : ℕ). kept c.args.rows.now i (get_or c.args.reached.now (i + 1) 0) c.args.test.kind c.args.test.name.0) 0 c.loop-j.j,
+      length_collect
+          (λ (i : ℕ). kept c.args.rows.now i (get_or c.args.reached.now (i + 1) 0) c.args.test.kind c.args.test.name.0) 0 c.loop-j.j,
       c.requires.room,
       c.requires.few,
     )
