@@ -14,10 +14,7 @@ fn signed_key(v: u32) -> u32
     ensures value { result ≡ signed_key v }
     ensures upper_bound { result < 256 }
 {
-    if v < 128 {
-        return v + 128;
-    }
-    v - 128
+    if v < 128 { v + 128 } else { v - 128 }
 }
 
 // A pick tells its rows by their ranks, by one comparison and with no branch that depends on a row. Leaves come first, with ranks below
@@ -51,6 +48,27 @@ struct Ranks {
     many: u32,
 }
 
+impl Ranks {
+    // What is added to a rank.
+    fn shift(self, r: u32) -> u32
+        ensures { result ≡ (if nat_lt r self.half then self.lower else self.upper) }
+    {
+        if r < self.half {
+            self.lower
+        } else {
+            self.upper
+        }
+    }
+
+    // A packed row is picked: its rank is kept.
+    fn picks(self, w: u32) -> bool
+        ensures { result ≡ is_kept self.half self.lower self.upper self.many (rank_in w) }
+    {
+        let r = rank(w);
+        num::wrapping_add_u32(r, self.shift(r)) < self.many
+    }
+}
+
 // Ranks that lie in a range, from `low` to below `high`, once the halves of a size are exchanged, or as they are where it is 0.
 fn between(half: u32, low: u32, high: u32) -> Ranks
     requires high_bound { half + high ≤ leaf_ranks }
@@ -60,9 +78,9 @@ fn between(half: u32, low: u32, high: u32) -> Ranks
     let lower = num::wrapping_sub_u32(half, low);
     let upper = num::wrapping_sub_u32(0, half + low);
     Ranks {
-        half: half,
-        lower: lower,
-        upper: upper,
+        half,
+        lower,
+        upper,
         many: high - low,
     }
 }
@@ -77,37 +95,15 @@ fn related(relation: u8, constant: u8) -> Ranks
     ensures { KeepsRelated relation constant result.half result.lower result.upper result.many }
 {
     let c = number::wide(constant);
-    if relation == EQUAL {
-        return between(0, RANKS_OF_VALUE * c, RANKS_OF_VALUE * (c + 1));
-    }
     let k = signed_key(c);
     let past = k + 1;
-    if relation == LESS {
+    match relation {
+        EQUAL => between(0, RANKS_OF_VALUE * c, RANKS_OF_VALUE * (c + 1)),
         // the constant is −128, and nothing is less
-        if k == 0 {
-            return between(HALF, SURVEYED, SURVEYED);
-        }
-        return between(HALF, SURVEYED, RANKS_OF_VALUE * k);
+        LESS if k == 0 => between(HALF, SURVEYED, SURVEYED),
+        LESS => between(HALF, SURVEYED, RANKS_OF_VALUE * k),
+        _ => between(HALF, RANKS_OF_VALUE * past, LEAF_RANKS - HALF),
     }
-    between(HALF, RANKS_OF_VALUE * past, LEAF_RANKS - HALF)
-}
-
-// What is added to a rank.
-fn shift(ranks: Ranks, r: u32) -> u32
-    ensures { result ≡ (if nat_lt r ranks.half then ranks.lower else ranks.upper) }
-{
-    if r < ranks.half {
-        return ranks.lower;
-    }
-    ranks.upper
-}
-
-// A row is picked: its rank is kept.
-fn is_picked(w: u32, ranks: Ranks) -> bool
-    ensures { result ≡ is_kept ranks.half ranks.lower ranks.upper ranks.many (rank_in w) }
-{
-    let r = rank(w);
-    num::wrapping_add_u32(r, shift(ranks, r)) < ranks.many
 }
 
 // Picks from the value at a place, which the kept items then take; the place past them.
@@ -124,12 +120,10 @@ pub fn picked(
 {
     let ranks = related(relation, constant);
     let mut at = from;
-    let mut k = from;
-    while k < to {
+    for k in from..to {
         let row = number::index(work[k]);
-        let keep = is_picked(rows[row], ranks);
+        let keep = ranks.picks(rows[row]);
         at = step::append_if(keep, RowNumber(row), work, at);
-        k += 1;
     }
     at
 }

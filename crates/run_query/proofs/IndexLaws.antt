@@ -15,13 +15,6 @@ use Rattle.run_query.specs.Values.{Skipped}
 use Rattle.run_query.specs.Index.{count_at, next_at, index_size, Leads, IndexOf, IndexHeld, Cleared, entered}
 use Rattle.run_query.proofs.ItemLaws.{skipped_none}
 
--- CLEARED up to a link
-pub cleared_next : (ix : List ℕ) (n k : ℕ) → k < length ix → ((l : ℕ) → l < k → get_or ix l 0 ≡ n) → (l : ℕ) → l < k + 1 →
-    get_or (set ix k n) l 0 ≡ n
-cleared_next ix n k h f l q =
-    eq_cases l k (λ e. ap (λ (j : ℕ). get_or (set ix k n) j 0) e ∙ get_or-set_same ix k n 0 h)
-    (λ e. get_or-set_other ix k l n 0 e ∙ f l (omega (arith, e)))
-
 -- BUILDING: the rows from j on are entered
 pub record Entering (ix : List ℕ) (n : ℕ) (ws : List ℕ) (j : ℕ) : Type 0 where
   pub size : length ix ≡ index_size

@@ -3,7 +3,7 @@
 ghost use Rattle.std.specs.Prelude.{◌≡◌, ◌<◌, length, get_or};
 ghost use Rattle.model.specs.Limits.{max_rows, max_links};
 ghost use Rattle.plan_table.specs.Packed.{link_in};
-ghost use Rattle.run_query.specs.Index.{index_size, Cleared, entered, IndexOf, BuildPre};
+ghost use Rattle.run_query.specs.Index.{index_size, entered, IndexOf, BuildPre};
 
 use plan_table::{RowNumber, Table, packed};
 
@@ -16,20 +16,6 @@ pub const COUNT: usize = 0;
 
 // From here on, by a row's number, the next row with its link.
 pub const NEXT: usize = Table::LINKS;
-
-// No link has a row yet.
-fn clear(index: &mut [u16], count: usize)
-    requires index_len { length index.old ≡ index_size }
-    requires count_bound { count < 65536 }
-    ensures { Cleared count index.new }
-{
-    let n = count as u16;
-    let mut link = 0;
-    while link < NEXT {
-        index[link] = n;
-        link += 1;
-    }
-}
 
 // Enters a row below all that are in the index: it is now the first with its link.
 fn enter(rows: &[u32], row: RowNumber, index: &mut [u16])
@@ -45,16 +31,15 @@ fn enter(rows: &[u32], row: RowNumber, index: &mut [u16])
     index[link] = j as u16;
 }
 
-// The index of the rows of a table, in an area of its size.
+// The index of the rows of a table, in an area of its size: no link has a row yet, and the rows are entered from the highest down.
 pub fn build(rows: &[u32], count: usize, index: &mut [u16])
     requires { BuildPre rows.now count index.old }
     ensures { IndexOf index.new count rows.now }
 {
-    clear(index, count);
-    let mut j = count;
-    while 0 < j {
-        j -= 1;
+    let n = count as u16;
+    index[..NEXT].fill(n);
+    for j in (0..count).rev() {
         enter(rows, RowNumber(j), index);
     }
-    index[COUNT] = count as u16;
+    index[COUNT] = n;
 }

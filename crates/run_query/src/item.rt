@@ -1,14 +1,14 @@
 // Steps from one item to its children, parent or ancestors, as a loop's body takes them: no flags. Where there is an index, only rows made
 // since are passed over, else the rows above the item, and for parent and ancestors none.
-ghost use Rattle.std.specs.Prelude.{◌≡◌, true, cond, ◌+◌, ◌-◌, ◌≤◌, ◌<◌, length, set};
+ghost use Rattle.std.specs.Prelude.{◌≡◌, ◌≢◌, true, cond, ◌+◌, ◌-◌, ◌≤◌, ◌<◌, length, set};
 ghost use Rattle.model.specs.Script.{step_by};
 ghost use Rattle.run_query.specs.Values.{ItemPre, ItemPost, Grown, is_child, CountPre, CountPost};
 ghost use Rattle.run_query.specs.Values.{ScanPre, ScanPost};
 ghost use Rattle.run_query.specs.Index.{IndexHeld};
 
-use crate::step::StepBy;
+use crate::step::Test;
 use crate::{index, step};
-use plan_table::{Link, NameNumber, RowNumber, number, packed};
+use plan_table::{Link, RowNumber, number, packed};
 
 // Appends a row to the value that ends at a place, if it is a child, by its parent's link, and passes the test; the place past the value.
 // Few rows are children, so a branch for those that are not costs least.
@@ -16,23 +16,21 @@ fn append_child(
     rows: &[u32],
     row: RowNumber,
     link: Link,
-    test: u8,
-    name: NameNumber,
+    test: Test,
     work: &mut [u16],
     at: usize,
 ) -> usize
     requires row_in_bounds { row.0 < length rows.now }
     requires row_bound { row.0 < 65536 }
     requires at_in_bounds { at < length work.old }
-    ensures { Grown (is_child rows.now row.0 link.0 test name.0) row.0 work.old at
+    ensures { Grown (is_child rows.now row.0 link.0 test.kind test.name.0) row.0 work.old at
         work.new result }
 {
-    let i = row.0;
-    if packed::link(rows[i]).0 != link.0 {
+    let w = rows[row.0];
+    if packed::link(w).0 != link.0 {
         return at;
     }
-    let keep = step::passes(rows, row, test, name);
-    step::append_if(keep, row, work, at)
+    step::append_if(test.admits(w), row, work, at)
 }
 
 // The children of an item from a row on, appended to the value that ends at a place; the place past them.
@@ -40,23 +38,19 @@ fn scanned(
     rows: &[u32],
     count: usize,
     item: RowNumber,
-    test: u8,
-    name: NameNumber,
+    test: Test,
     low: usize,
     work: &mut [u16],
     from: usize,
 ) -> usize
     requires { ScanPre rows.now count item.0 low work.old from }
-    ensures { ScanPost rows.now count (step_by 0 test name.0) item.0 low work.old from
+    ensures { ScanPost rows.now count (step_by 0 test.kind test.name.0) item.0 low work.old from
         work.new result }
 {
-    let i = item.0;
-    let link = i + 1;
+    let link = item.0 + 1;
     let mut at = from;
-    let mut j = low;
-    while j < count {
-        at = append_child(rows, RowNumber(j), Link(link), test, name, work, at);
-        j += 1;
+    for j in low..count {
+        at = append_child(rows, RowNumber(j), Link(link), test, work, at);
     }
     at
 }
@@ -68,28 +62,27 @@ fn children(
     count: usize,
     index: &[u16],
     item: RowNumber,
-    test: u8,
-    name: NameNumber,
+    test: Test,
     work: &mut [u16],
     from: usize,
 ) -> usize
     requires item_pre { ItemPre rows.now count item.0 work.old from }
     requires index_held { IndexHeld index.now rows.now count }
-    ensures { ItemPost rows.now count (step_by 0 test name.0) item.0 work.old from
+    ensures { ItemPost rows.now count (step_by 0 test.kind test.name.0) item.0 work.old from
         work.new result }
 {
     let link = item.0 + 1;
     let many = number::index(index[index::COUNT]);
     if many < link {
-        return scanned(rows, count, item, test, name, link, work, from);
+        return scanned(rows, count, item, test, link, work, from);
     }
     let mut at = from;
     let mut j = number::index(index[link]);
     while j < many {
-        at = append_child(rows, RowNumber(j), Link(link), test, name, work, at);
+        at = append_child(rows, RowNumber(j), Link(link), test, work, at);
         j = number::index(index[index::NEXT + j]);
     }
-    scanned(rows, count, item, test, name, many, work, at)
+    scanned(rows, count, item, test, many, work, at)
 }
 
 // An item's parent, if it passes the test; the place past it.
@@ -97,38 +90,35 @@ fn parent(
     rows: &[u32],
     count: usize,
     item: RowNumber,
-    test: u8,
-    name: NameNumber,
+    test: Test,
     work: &mut [u16],
     from: usize,
 ) -> usize
     requires { ItemPre rows.now count item.0 work.old from }
-    ensures { ItemPost rows.now count (step_by 2 test name.0) item.0 work.old from
+    ensures { ItemPost rows.now count (step_by 2 test.kind test.name.0) item.0 work.old from
         work.new result }
 {
-    let i = item.0;
-    let l = packed::link(rows[i]).0;
+    let l = packed::link(rows[item.0]).0;
     if l == 0 {
         return from;
     }
-    let keep = step::passes(rows, RowNumber(l - 1), test, name);
-    step::append_if(keep, RowNumber(l - 1), work, from)
+    let row = l - 1;
+    step::append_if(test.admits(rows[row]), RowNumber(row), work, from)
 }
 
 // How many rows above an item pass the test.
-fn count_above(rows: &[u32], count: usize, item: RowNumber, test: u8, name: NameNumber) -> usize
+fn count_above(rows: &[u32], count: usize, item: RowNumber, test: Test) -> usize
     requires { CountPre rows.now count item.0 }
-    ensures { CountPost rows.now count item.0 test name.0 result }
+    ensures { CountPost rows.now count item.0 test.kind test.name.0 result }
 {
-    let i = item.0;
     let mut n = 0;
-    let mut l = packed::link(rows[i]).0;
+    let mut l = packed::link(rows[item.0]).0;
     while 0 < l {
-        let row = l - 1;
-        if step::passes(rows, RowNumber(row), test, name) {
+        let w = rows[l - 1];
+        if test.admits(w) {
             n += 1;
         }
-        l = packed::link(rows[row]).0;
+        l = packed::link(w).0;
     }
     n
 }
@@ -153,52 +143,48 @@ fn ancestors(
     rows: &[u32],
     count: usize,
     item: RowNumber,
-    test: u8,
-    name: NameNumber,
+    test: Test,
     work: &mut [u16],
     from: usize,
 ) -> usize
     requires { ItemPre rows.now count item.0 work.old from }
-    ensures { ItemPost rows.now count (step_by 3 test name.0) item.0 work.old from
+    ensures { ItemPost rows.now count (step_by 3 test.kind test.name.0) item.0 work.old from
         work.new result }
 {
-    let i = item.0;
-    let end = from + count_above(rows, count, item, test, name);
+    let end = from + count_above(rows, count, item, test);
     let mut at = end;
-    let mut l = packed::link(rows[i]).0;
+    let mut l = packed::link(rows[item.0]).0;
     while 0 < l {
         let row = l - 1;
-        let keep = step::passes(rows, RowNumber(row), test, name);
+        let w = rows[row];
+        let keep = test.admits(w);
         at = prepend_if(keep, RowNumber(row), work, at);
-        l = packed::link(rows[row]).0;
+        l = packed::link(w).0;
     }
     end
 }
 
 // A step to children, parent or ancestors from one item.
-pub fn from_one(
+pub(crate) fn from_one(
     rows: &[u32],
     count: usize,
     index: &[u16],
-    by: StepBy,
+    axis: u8,
+    test: Test,
     item: RowNumber,
     work: &mut [u16],
     from: usize,
 ) -> usize
     requires item_pre { ItemPre rows.now count item.0 work.old from }
     requires index_held { IndexHeld index.now rows.now count }
-    requires axis_bound { by.axis < 4 }
-    requires fact { by.axis ≡ 1 → ⊥ }
-    ensures { ItemPost rows.now count (step_by by.axis by.test by.name.0) item.0 work.old from
+    requires axis_bound { axis < 4 }
+    requires not_descendant { axis ≢ 1 }
+    ensures { ItemPost rows.now count (step_by axis test.kind test.name.0) item.0 work.old from
         work.new result }
 {
-    let test = by.test;
-    let name = by.name;
-    if by.axis == step::CHILD {
-        return children(rows, count, index, item, test, name, work, from);
+    match axis {
+        step::CHILD => children(rows, count, index, item, test, work, from),
+        step::PARENT => parent(rows, count, item, test, work, from),
+        _ => ancestors(rows, count, item, test, work, from),
     }
-    if by.axis == step::PARENT {
-        return parent(rows, count, item, test, name, work, from);
-    }
-    ancestors(rows, count, item, test, name, work, from)
 }

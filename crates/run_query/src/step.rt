@@ -34,26 +34,27 @@ pub struct StepBy {
     pub name: NameNumber,
 }
 
-// The row's letter passes the test.
-pub fn passes(rows: &[u32], row: RowNumber, test: u8, name: NameNumber) -> bool
-    requires { row.0 < length rows.now }
-    ensures { result ≡ admits (step_by 0 test name.0) (letter_of (row_of (get_or rows.now row.0 0))) }
-{
-    let at = row.0;
-    let w = rows[at];
-    if test == ANY_NODE {
-        return true;
+// What a step asks of a row.
+#[derive(Clone, Copy)]
+pub(crate) struct Test {
+    pub(crate) kind: u8,
+    pub(crate) name: NameNumber,
+}
+
+impl Test {
+    // The letter of a packed row passes the test. One arm asks whether it is a leaf: with that asked in each, steps from one item took
+    // a quarter longer.
+    pub(crate) fn admits(self, w: u32) -> bool
+        ensures { result ≡ admits (step_by 0 self.kind self.name.0) (letter_of (row_of w)) }
+    {
+        match self.kind {
+            ANY_NODE => true,
+            kind if packed::kind(w) == packed::LEAF => kind == ANY_LEAF,
+            ANY_ELEMENT => true,
+            ANY_LEAF => false,
+            _ => packed::tag(w) == self.name.0 as u32,
+        }
     }
-    if packed::kind(w) == packed::LEAF {
-        return test == ANY_LEAF;
-    }
-    if test == ANY_ELEMENT {
-        return true;
-    }
-    if test == ANY_LEAF {
-        return false;
-    }
-    packed::tag(w) == name.0 as u32
 }
 
 // Flags each item of a value; no row below the answer, at most the count, has a flag.
@@ -63,14 +64,12 @@ fn flag(flags: &mut [u8], items: &[u16], count: usize) -> usize
     ensures clear_below { ClearBelow count result flags.new }
 {
     let mut low = count;
-    let mut k = 0;
-    while k < items.len() {
-        let at = number::index(items[k]);
+    for item in items {
+        let at = number::index(*item);
         flags[at + 1] = 1;
         if at < low {
             low = at;
         }
-        k += 1;
     }
     low
 }
@@ -79,13 +78,7 @@ fn flag(flags: &mut [u8], items: &[u16], count: usize) -> usize
 fn counts(flag: u8, reached: u8, deep: bool) -> bool
     ensures { result ≡ counted flag reached deep }
 {
-    if flag != 0 {
-        return true;
-    }
-    if deep {
-        return reached != 0;
-    }
-    false
+    flag != 0 || deep && reached != 0
 }
 
 // A row on the way up: where it counts, its parent is reached.
@@ -94,11 +87,9 @@ fn climb_one(w: u32, row: RowNumber, deep: bool, flags: &[u8], reached: &mut [u8
     ensures { reached.new ≡ climbed w row.0 deep flags.now reached.old }
 {
     let at = row.0 + 1;
-    if !counts(flags[at], reached[at], deep) {
-        return;
+    if counts(flags[at], reached[at], deep) {
+        reached[packed::link(w).0] = 1;
     }
-    let l = packed::link(w).0;
-    reached[l] = 1;
 }
 
 // The rows above the items: parents, or ancestors along a deep axis.
@@ -106,22 +97,17 @@ fn climb(rows: &[u32], count: usize, deep: bool, flags: &[u8], reached: &mut [u8
     requires { PassPre rows.now count flags.now reached.old }
     ensures { Reached rows.now count (2 + bit deep) flags.now reached.new }
 {
-    let mut j = count;
-    while 0 < j {
-        j -= 1;
+    for j in (0..count).rev() {
         climb_one(rows[j], RowNumber(j), deep, flags, reached);
     }
 }
 
 // A row is kept: it is reached and passes the test.
-fn keeps(rows: &[u32], row: RowNumber, flag: u8, test: u8, name: NameNumber) -> bool
+fn keeps(rows: &[u32], row: RowNumber, flag: u8, test: Test) -> bool
     requires { row.0 < length rows.now }
-    ensures { result ≡ kept rows.now row.0 flag test name.0 }
+    ensures { result ≡ kept rows.now row.0 flag test.kind test.name.0 }
 {
-    if flag == 0 {
-        return false;
-    }
-    passes(rows, row, test, name)
+    flag != 0 && test.admits(rows[row.0])
 }
 
 // Appends an item to the value that ends at a place, if it is kept; the place past the value. It is stored in any case, so that no branch
@@ -133,10 +119,7 @@ pub fn append_if(keep: bool, item: RowNumber, work: &mut [u16], at: usize) -> us
     ensures value { result ≡ cond keep (at + 1) at }
 {
     work[at] = item.0 as u16;
-    if keep {
-        return at + 1;
-    }
-    at
+    if keep { at + 1 } else { at }
 }
 
 // The rows that are reached and pass the test, in rising number, from a place on; the place past them.
@@ -144,21 +127,18 @@ fn collect(
     rows: &[u32],
     count: usize,
     reached: &[u8],
-    test: u8,
-    name: NameNumber,
+    test: Test,
     work: &mut [u16],
     from: usize,
 ) -> usize
     requires { CollectPre rows.now count reached.now work.old from }
-    ensures { Appended (kept_rows rows.now reached.now test name.0 count) work.old from
+    ensures { Appended (kept_rows rows.now reached.now test.kind test.name.0 count) work.old from
         work.new result }
 {
     let mut at = from;
-    let mut j = 0;
-    while j < count {
-        let keep = keeps(rows, RowNumber(j), reached[j + 1], test, name);
+    for j in 0..count {
+        let keep = keeps(rows, RowNumber(j), reached[j + 1], test);
         at = append_if(keep, RowNumber(j), work, at);
-        j += 1;
     }
     at
 }
@@ -168,10 +148,9 @@ fn mark(flags: &mut [u8], row: RowNumber, above: u8, deep: bool)
     requires { row.0 + 1 < length flags.old }
     ensures { flags.new ≡ marked_by flags.old row.0 above deep }
 {
-    if !counts(0, above, deep) {
-        return;
+    if counts(0, above, deep) {
+        flags[row.0 + 1] = 1;
     }
-    flags[row.0 + 1] = 1;
 }
 
 // The rows below the flagged items that pass the test: children, or descendants along a deep axis; the place past them. One pass, since
@@ -182,24 +161,21 @@ fn descend(
     deep: bool,
     flags: &mut [u8],
     low: usize,
-    test: u8,
-    name: NameNumber,
+    test: Test,
     work: &mut [u16],
     from: usize,
 ) -> usize
     requires { DescendPre rows.now count flags.old low work.old from }
-    ensures { DescendPost rows.now count (step_by (bit deep) test name.0) flags.old work.old from
+    ensures { DescendPost rows.now count (step_by (bit deep) test.kind test.name.0) flags.old work.old from
         work.new result }
 {
     let mut at = from;
-    let mut j = low;
-    while j < count {
+    for j in low..count {
         let l = packed::link(rows[j]).0;
         let above = flags[l];
         mark(flags, RowNumber(j), above, deep);
-        let keep = keeps(rows, RowNumber(j), above, test, name);
+        let keep = keeps(rows, RowNumber(j), above, test);
         at = append_if(keep, RowNumber(j), work, at);
-        j += 1;
     }
     at
 }
@@ -209,19 +185,18 @@ fn rows_below(
     rows: &[u32],
     count: usize,
     deep: bool,
-    test: u8,
-    name: NameNumber,
+    test: Test,
     work: &mut [u16],
     from: usize,
     to: usize,
 ) -> usize
     requires { StepPre rows.now count (bit deep) work.old from to }
-    ensures { StepPost rows.now count (step_by (bit deep) test name.0) work.old from to
+    ensures { StepPost rows.now count (step_by (bit deep) test.kind test.name.0) work.old from to
         work.new result }
 {
     let mut flags = [0u8; Table::LINKS];
     let low = flag(&mut flags, &work[from..to], count);
-    descend(rows, count, deep, &mut flags, low, test, name, work, from)
+    descend(rows, count, deep, &mut flags, low, test, work, from)
 }
 
 // A step up from the value at a place.
@@ -229,21 +204,20 @@ fn rows_above(
     rows: &[u32],
     count: usize,
     deep: bool,
-    test: u8,
-    name: NameNumber,
+    test: Test,
     work: &mut [u16],
     from: usize,
     to: usize,
 ) -> usize
     requires { StepPre rows.now count (2 + bit deep) work.old from to }
-    ensures { StepPost rows.now count (step_by (2 + bit deep) test name.0) work.old from to
+    ensures { StepPost rows.now count (step_by (2 + bit deep) test.kind test.name.0) work.old from to
         work.new result }
 {
     let mut flags = [0u8; Table::LINKS];
     let mut reached = [0u8; Table::LINKS];
     flag(&mut flags, &work[from..to], count);
     climb(rows, count, deep, &flags, &mut reached);
-    collect(rows, count, &reached, test, name, work, from)
+    collect(rows, count, &reached, test, work, from)
 }
 
 // A step from the value at a place, which its rows then take; the place past them.
@@ -261,17 +235,28 @@ pub fn stepped(
     ensures { StepPost rows.now count (step_by by.axis by.test by.name.0) work.old from to
         work.new result }
 {
-    let test = by.test;
-    let name = by.name;
+    let test = Test {
+        kind: by.test,
+        name: by.name,
+    };
     if by.axis == DESCENDANT {
-        return rows_below(rows, count, true, test, name, work, from, to);
+        return rows_below(rows, count, true, test, work, from, to);
     }
     if to - from == 1 {
         let row = number::index(work[from]);
-        return item::from_one(rows, count, index, by, RowNumber(row), work, from);
+        return item::from_one(
+            rows,
+            count,
+            index,
+            by.axis,
+            test,
+            RowNumber(row),
+            work,
+            from,
+        );
     }
     if by.axis == CHILD {
-        return rows_below(rows, count, false, test, name, work, from, to);
+        return rows_below(rows, count, false, test, work, from, to);
     }
-    rows_above(rows, count, by.axis != PARENT, test, name, work, from, to)
+    rows_above(rows, count, by.axis != PARENT, test, work, from, to)
 }

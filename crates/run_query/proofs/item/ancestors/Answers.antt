@@ -12,7 +12,7 @@ overflow_add-end c =
       arith,
       c.count_above.ensures [],
       c.requires.room,
-      short c.args.rows.now c.args.count c.requires.held c.args.test c.args.name.0 [] true 3
+      short c.args.rows.now c.args.count c.requires.held c.args.test.kind c.args.test.name.0 [] true 3
           (link_in (get_or c.args.rows.now c.args.item.0 0)),
       link_below c.args.rows.now c.args.count c.requires.held c.args.item.0 c.requires.low,
       c.requires.low,
@@ -28,36 +28,36 @@ loop-l-init c = (
     link_below c.args.rows.now c.args.count c.requires.held
         c.args.item.0 c.requires.low,
   ),
-  (λ ms. rising_by c.args.work.now c.args.from (way_from c.args.rows.now c.args.count c.args.test
-      c.args.name.0 (link_in (get_or c.args.rows.now c.args.item.0 0)) ms)
-      (way_from c.args.rows.now c.args.count c.args.test c.args.name.0 c.link-l.result.0 ms)
-      (ap (λ (k : ℕ). (way_from c.args.rows.now c.args.count c.args.test c.args.name.0 k ms))
+  (λ ms. rising_by c.args.work.now c.args.from (way_from c.args.rows.now c.args.count c.args.test.kind
+      c.args.test.name.0 (link_in (get_or c.args.rows.now c.args.item.0 0)) ms)
+      (way_from c.args.rows.now c.args.count c.args.test.kind c.args.test.name.0 c.link-l.result.0 ms)
+      (ap (λ (k : ℕ). (way_from c.args.rows.now c.args.count c.args.test.kind c.args.test.name.0 k ms))
       c.link-l.ensures) (c.args.from + c.count_above.result)
       (ap (λ (k : ℕ). c.args.from + k) (c.count_above.ensures ms))),
 )
 
-pub prepend_if-at-requires : goal.prepend_if-at-requires
-prepend_if-at-requires c =
-    record {
-      item_bound = omega (arith, c.loop-l.invariant.0, c.requires.held.few);
-      at_in_bounds = omega (
-        arith,
-        c.loop-l.invariant.0,
-        (c.loop-l.invariant.1 []).place,
-        (c.loop-l.invariant.1 []).size,
-        short c.args.rows.now
-            c.args.count c.requires.held c.args.test c.args.name.0 [] true 3 c.loop-l.l,
-        c.requires.room,
-        c.requires.held.few,
-      );
-      at_nonzero = (λ q. some_before c.passes-keep.result (c.loop-l.l - 1) (way_from c.args.rows.now c.args.count c.args.test
-          c.args.name.0 (link_in (get_or c.args.rows.now (c.loop-l.l - 1) 0)) []) q
-          (way_more c.args.rows.now c.args.count c.requires.held c.args.test c.args.name.0 [] c.loop-l.l
-          (λ z. omega (arith, c.loop-l-test.true))
-          (omega (arith, c.loop-l.invariant.0, c.loop-l-test.true))
-          c.passes-keep.result c.passes-keep.ensures 3 (link_in (get_or c.args.rows.now (c.loop-l.l - 1) 0)) refl)
-          (c.loop-l.invariant.1 []));
-    }
+pub prepend_if-at-requires-clause-at_in_bounds : goal.prepend_if-at-requires-clause-at_in_bounds
+prepend_if-at-requires-clause-at_in_bounds c =
+    omega (
+      arith,
+      c.loop-l.invariant.0,
+      (c.loop-l.invariant.1 []).place,
+      (c.loop-l.invariant.1 []).size,
+      short c.args.rows.now
+          c.args.count c.requires.held c.args.test.kind c.args.test.name.0 [] true 3 c.loop-l.l,
+      c.requires.room,
+      c.requires.held.few,
+    )
+
+pub prepend_if-at-requires-clause-at_nonzero : goal.prepend_if-at-requires-clause-at_nonzero
+prepend_if-at-requires-clause-at_nonzero c =
+    λ q. some_before c.admits-keep.result (c.loop-l.l - 1) (way_from c.args.rows.now c.args.count c.args.test.kind
+    c.args.test.name.0 (link_in (get_or c.args.rows.now (c.loop-l.l - 1) 0)) []) q
+    (way_more c.args.rows.now c.args.count c.requires.held c.args.test.kind c.args.test.name.0 [] c.loop-l.l
+    (λ z. omega (arith, c.loop-l-test.true))
+    (omega (arith, c.loop-l.invariant.0, c.loop-l-test.true))
+    c.admits-keep.result c.admits-keep.ensures 3 (link_in (get_or c.args.rows.now (c.loop-l.l - 1) 0)) refl)
+    (c.loop-l.invariant.1 [])
 
 pub loop-l-smaller : goal.loop-l-smaller
 loop-l-smaller c =
@@ -77,24 +77,24 @@ loop-l-preserved c = (
         (omega (arith, c.loop-l.invariant.0, c.loop-l-test.true)),
     c.loop-l.invariant.0,
   ),
-  (λ ms. rising_more c.passes-keep.result (way_from c.args.rows.now c.args.count c.args.test c.args.name.0
+  (λ ms. rising_more c.admits-keep.result (way_from c.args.rows.now c.args.count c.args.test.kind c.args.test.name.0
       (link_in (get_or c.args.rows.now c.args.item.0 0)) ms) c.args.work.now c.args.from
-      (way_from c.args.rows.now c.args.count c.args.test c.args.name.0 c.link-l-in-loop-l.result.0 ms)
-      (way_from c.args.rows.now c.args.count c.args.test c.args.name.0 c.loop-l.l ms)
+      (way_from c.args.rows.now c.args.count c.args.test.kind c.args.test.name.0 c.link-l-in-loop-l.result.0 ms)
+      (way_from c.args.rows.now c.args.count c.args.test.kind c.args.test.name.0 c.loop-l.l ms)
       c.loop-l.work c.loop-l.at (c.loop-l.l - 1)
       (omega (
         arith,
         c.requires.room,
-        short c.args.rows.now c.args.count c.requires.held c.args.test
-            c.args.name.0 ms true 3 (link_in (get_or c.args.rows.now c.args.item.0 0)),
+        short c.args.rows.now c.args.count c.requires.held c.args.test.kind
+            c.args.test.name.0 ms true 3 (link_in (get_or c.args.rows.now c.args.item.0 0)),
         link_below
             c.args.rows.now c.args.count c.requires.held c.args.item.0 c.requires.low,
         c.requires.low,
         c.requires.held.few,
       ))
-      (way_more c.args.rows.now c.args.count c.requires.held c.args.test c.args.name.0 ms c.loop-l.l
-      (λ z. omega (arith, c.loop-l-test.true)) (omega (arith, c.loop-l.invariant.0, c.loop-l-test.true)) c.passes-keep.result
-      c.passes-keep.ensures 3 c.link-l-in-loop-l.result.0
+      (way_more c.args.rows.now c.args.count c.requires.held c.args.test.kind c.args.test.name.0 ms c.loop-l.l
+      (λ z. omega (arith, c.loop-l-test.true)) (omega (arith, c.loop-l.invariant.0, c.loop-l-test.true)) c.admits-keep.result
+      c.admits-keep.ensures 3 c.link-l-in-loop-l.result.0
       c.link-l-in-loop-l.ensures) (c.loop-l.invariant.1 ms) _ c.prepend_if-at.result c.prepend_if-at.ensures.work_after
       c.prepend_if-at.ensures.value),
 )
@@ -103,14 +103,14 @@ pub returns : goal.returns
 returns c =
     λ ms. subst (λ (v : List ℕ). Appended v c.args.work.now c.args.from c.loop-l.work
     (c.args.from + c.count_above.result))
-    (sym (step_way c.args.rows.now c.args.count c.requires.held c.args.test c.args.name.0 ms true
+    (sym (step_way c.args.rows.now c.args.count c.requires.held c.args.test.kind c.args.test.name.0 ms true
     c.args.item.0 c.requires.low))
-    (rising_all (way_from c.args.rows.now c.args.count c.args.test c.args.name.0
+    (rising_all (way_from c.args.rows.now c.args.count c.args.test.kind c.args.test.name.0
     (link_in (get_or c.args.rows.now c.args.item.0 0)) ms) c.args.work.now c.args.from
     c.loop-l.work c.loop-l.at
     (c.args.from + c.count_above.result) (ap (λ (k : ℕ). c.args.from + k) (c.count_above.ensures ms))
-    (subst (λ (u : List ℕ). Rising (way_from c.args.rows.now c.args.count c.args.test c.args.name.0
+    (subst (λ (u : List ℕ). Rising (way_from c.args.rows.now c.args.count c.args.test.kind c.args.test.name.0
     (link_in (get_or c.args.rows.now c.args.item.0 0)) ms) c.args.work.now c.args.from u
     c.loop-l.work c.loop-l.at)
-    (way_none c.args.rows.now c.args.count c.requires.held c.args.test c.args.name.0 ms true 3
+    (way_none c.args.rows.now c.args.count c.requires.held c.args.test.kind c.args.test.name.0 ms true 3
     c.loop-l.l (omega (arith, c.loop-l-test.false))) (c.loop-l.invariant.1 ms)))

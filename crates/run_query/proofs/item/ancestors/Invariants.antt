@@ -1,5 +1,5 @@
 -- `item::ancestors` writes the rows above an item from the end. The loop's invariant: those passed stand, and there is room for the rest.
-use Rattle.std.proofs.Common.{get_or, ℕ, ◌-◌, ◌≤◌, List}
+use Rattle.std.proofs.Common.{get_or, ℕ, ◌≤◌, List}
 use Rattle.plan_table.specs.Packed.{link_in}
 use Rattle.run_query.specs.Values.{way_from}
 use Rattle.run_query.proofs.ItemLaws.{Rising}
@@ -7,8 +7,8 @@ use Rattle.run_query.proofs.item.ancestors.Given as goal
 
 abbrev pub invariant-loop-l : goal.invariant-loop-l
 invariant-loop-l l = (l.l ≤ l.count) ×
-    ((ms : List ℕ) → Rising (way_from l.rows l.count l.test l.name.0 (link_in (get_or l.rows l.i 0)) ms) l.initial.work l.from
-    (way_from l.rows l.count l.test l.name.0 l.l ms) l.work l.at)
+    ((ms : List ℕ) → Rising (way_from l.rows l.count l.test.kind l.test.name.0 (link_in (get_or l.rows l.fn.item.0 0)) ms) l.initial.work
+    l.from (way_from l.rows l.count l.test.kind l.test.name.0 l.l ms) l.work l.at)
 
 abbrev pub decreases-loop-l : goal.decreases-loop-l
 decreases-loop-l l = l.l

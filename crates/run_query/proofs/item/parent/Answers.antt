@@ -11,13 +11,13 @@ use Rattle.run_query.proofs.item.parent.Goals as goal
 pub returns-then-l-eq0 : goal.returns-then-l-eq0
 returns-then-l-eq0 c =
     λ ms. subst (λ (v : List ℕ). Appended v c.args.work.now c.args.from c.args.work.now c.args.from)
-    (sym (step_way c.args.rows.now c.args.count c.requires.held c.args.test c.args.name.0 ms false
+    (sym (step_way c.args.rows.now c.args.count c.requires.held c.args.test.kind c.args.test.name.0 ms false
     c.args.item.0 c.requires.low ∙
-    way_none c.args.rows.now c.args.count c.requires.held c.args.test c.args.name.0 ms false 2 _
+    way_none c.args.rows.now c.args.count c.requires.held c.args.test.kind c.args.test.name.0 ms false 2 _
     (sym c.link-l.ensures ∙ c.if-l-eq0.true))) (appended_none c.args.work.now c.args.from)
 
-pub passes-keep-requires : goal.passes-keep-requires
-passes-keep-requires c =
+pub bounds-rows-row : goal.bounds-rows-row
+bounds-rows-row c =
     omega (
       arith,
       c.link-l.ensures,
@@ -29,12 +29,12 @@ passes-keep-requires c =
 
 pub returns : goal.returns
 returns c =
-    λ ms. appended_by _ c.passes-keep.result (c.link-l.result.0 - 1)
-    (step_way c.args.rows.now c.args.count c.requires.held c.args.test c.args.name.0 ms false
+    λ ms. appended_by _ c.admits.result (c.link-l.result.0 - 1)
+    (step_way c.args.rows.now c.args.count c.requires.held c.args.test.kind c.args.test.name.0 ms false
     c.args.item.0 c.requires.low ∙
-    ap (way_up (decode_parts c.args.count c.args.rows.now ms) false (step_by 2 c.args.test c.args.name.0))
+    ap (way_up (decode_parts c.args.count c.args.rows.now ms) false (step_by 2 c.args.test.kind c.args.test.name.0))
     (sym c.link-l.ensures) ∙
-    way_one c.args.rows.now c.args.count c.requires.held c.args.test c.args.name.0 ms
+    way_one c.args.rows.now c.args.count c.requires.held c.args.test.kind c.args.test.name.0 ms
     c.link-l.result.0 c.if-l-eq0.false
     (omega (
       arith,
@@ -42,6 +42,6 @@ returns c =
       link_below c.args.rows.now c.args.count c.requires.held c.args.item.0
           c.requires.low,
       c.requires.low,
-    )) c.passes-keep.result c.passes-keep.ensures 2)
+    )) c.admits.result c.admits.ensures 2)
     c.args.work.now c.args.from (omega (arith, c.requires.room)) _ c.append_if.result
     c.append_if.ensures.work_after c.append_if.ensures.value

@@ -1,14 +1,11 @@
 -- `item::scanned` appends an item's children from a row on. The loop's invariant: those passed are appended.
-use Rattle.std.proofs.Common.{length, ℕ, ◌+◌, ◌-◌, ◌≤◌, List, [], ◌∷◌, ◌≡◌}
+use Rattle.std.proofs.Common.{ℕ, ◌+◌, ◌-◌, ◌≤◌, List, [], ◌∷◌}
 use Rattle.run_query.specs.Values.{SteppedTo}
 use Rattle.model.specs.Script.{step_by}
 use Rattle.run_query.proofs.item.scanned.Given as goal
 
 abbrev pub invariant-loop-j : goal.invariant-loop-j
-invariant-loop-j l = (l.low ≤ l.j) × (l.j ≤ l.count) × ((u : List ℕ) (start : ℕ) →
-    SteppedTo l.rows l.count (step_by 0 l.test l.name.0) (l.i ∷ []) l.low u start l.initial.work l.from →
-    SteppedTo l.rows l.count (step_by 0 l.test l.name.0) (l.i ∷ []) l.j u start l.work l.at) × (l.at ≤ l.from + (l.j - l.low)) ×
-    (length l.work ≡ length l.initial.work)
-
-abbrev pub decreases-loop-j : goal.decreases-loop-j
-decreases-loop-j l = l.count - l.j
+invariant-loop-j l = ((u : List ℕ) (start : ℕ) →
+    SteppedTo l.rows l.count (step_by 0 l.test.kind l.test.name.0) (l.fn.item.0 ∷ []) l.low u start l.initial.work l.from →
+    SteppedTo l.rows l.count (step_by 0 l.test.kind l.test.name.0) (l.fn.item.0 ∷ []) l.j u start l.work l.at) ×
+    (l.at ≤ l.from + (l.j - l.low))

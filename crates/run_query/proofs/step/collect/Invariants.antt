@@ -1,11 +1,7 @@
 -- `step::collect` appends the rows kept. The loop's invariant: those passed are appended.
-use Rattle.std.proofs.Common.{length, ◌-◌, ◌≤◌, ◌≡◌}
 use Rattle.run_query.specs.Values.{Appended, kept_rows}
 use Rattle.run_query.proofs.step.collect.Given as goal
 
 abbrev pub invariant-loop-j : goal.invariant-loop-j
-invariant-loop-j l = (l.j ≤ l.count) × Appended (kept_rows l.rows l.reached l.test l.name.0 l.j) l.initial.work
-    l.from l.work l.at × (length l.work ≡ length l.initial.work)
-
-abbrev pub decreases-loop-j : goal.decreases-loop-j
-decreases-loop-j l = l.count - l.j
+invariant-loop-j l = Appended (kept_rows l.rows l.reached l.test.kind l.test.name.0 l.j) l.initial.work
+    l.from l.work l.at

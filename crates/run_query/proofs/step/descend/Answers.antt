@@ -1,4 +1,4 @@
-use Rattle.std.proofs.Common.{sym, get_or, ℕ, ◌+◌, ◌-◌, refl, ap, ◌∙◌, subst, arith, rules}
+use Rattle.std.proofs.Common.{sym, get_or, ℕ, ◌+◌, ap, ◌∙◌, subst, arith}
 use Rattle.model.specs.Base.{bit}
 use Rattle.model.specs.Script.{step_by}
 use Rattle.model.specs.Step.{is_reached}
@@ -10,16 +10,13 @@ use Rattle.run_query.proofs.step.descend.Goals as goal
 
 pub loop-j-init : goal.loop-j-init
 loop-j-init c = (
-  c.requires.flags.few,
   descending_none c.args.rows.now c.args.count c.requires.held c.args.deep c.args.flags.now c.args.low
       c.requires.flags c.requires.size,
   (λ v f ms. collected_above c.args.work.now c.args.from _ c.args.low
       (λ j h. not_yet c.args.rows.now c.args.count
-      c.requires.held c.args.deep c.args.flags.now c.args.low c.requires.flags c.args.test c.args.name.0
+      c.requires.held c.args.deep c.args.flags.now c.args.low c.requires.flags c.args.test.kind c.args.test.name.0
       ms v f j h)),
   omega arith,
-  omega arith,
-  refl,
 )
 
 pub bounds-flags-l : goal.bounds-flags-l
@@ -27,33 +24,30 @@ bounds-flags-l c =
     omega (
       arith,
       c.link-l.ensures,
-      c.loop-j.invariant.1.size,
+      c.loop-j.invariant.0.size,
       link_in_lem c.args.rows.now c.args.count c.requires.held
           c.loop-j.j c.loop-j-test.true,
     )
 
 pub loop-j-preserved : goal.loop-j-preserved
 loop-j-preserved c = (
-  omega arith,
   subst (Descending c.args.rows.now c.args.count c.args.deep c.args.flags.now (c.loop-j.j + 1))
       (sym c.mark.ensures)
       (descending_next c.args.rows.now c.args.count c.requires.held c.args.deep c.args.flags.now
       c.loop-j.j c.loop-j-test.true
-      c.loop-j.flags c.loop-j.invariant.1 c.link-l.result.0 c.link-l.ensures),
+      c.loop-j.flags c.loop-j.invariant.0 c.link-l.result.0 c.link-l.ensures),
   (λ v f ms. collected_by (is_reached (decode_parts c.args.count c.args.rows.now ms)
-      (step_by (bit c.args.deep) c.args.test
-      c.args.name.0) v) c.loop-j.j c.args.work.now c.loop-j.work c.args.from c.loop-j.at
-      (omega (arith, c.loop-j.invariant.3, c.loop-j.invariant.5, c.requires.room, c.requires.held.few)) (c.loop-j.invariant.2 v f ms)
+      (step_by (bit c.args.deep) c.args.test.kind
+      c.args.test.name.0) v) c.loop-j.j c.args.work.now c.loop-j.work c.args.from c.loop-j.at
+      (omega (arith, c.loop-j.invariant.2, c.requires.room, c.requires.held.few)) (c.loop-j.invariant.1 v f ms)
       c.keeps-keep.result
       _ c.append_if-at.result (c.keeps-keep.ensures ∙ kept_row c.args.rows.now c.args.count
-      (bit c.args.deep) c.args.test
-      c.args.name.0 v ms (within c.args.rows.now c.args.count c.requires.held) c.loop-j.j
+      (bit c.args.deep) c.args.test.kind
+      c.args.test.name.0 v ms (within c.args.rows.now c.args.count c.requires.held) c.loop-j.j
       c.loop-j-test.true (get_or c.loop-j.flags c.link-l.result.0 0)
       (ap (λ (a : ℕ). get_or c.loop-j.flags a 0) c.link-l.ensures ∙ above_is c.args.rows.now c.args.count
       c.requires.held c.args.deep c.args.flags.now c.loop-j.j c.loop-j-test.true
-      c.loop-j.flags c.loop-j.invariant.1 ms v f)) c.append_if-at.ensures.work_after
+      c.loop-j.flags c.loop-j.invariant.0 ms v f)) c.append_if-at.ensures.work_after
       c.append_if-at.ensures.value),
   omega (arith, c.append_if-at.ensures.value, cond_low c.keeps-keep.result c.loop-j.at),
-  omega arith,
-  search (c.loop-j.invariant.5, rules),
 )

@@ -1,6 +1,6 @@
 -- `step::descend` appends the rows below the flagged items. The loop's invariant: rows passed are flagged where they count, and
 -- those reached that pass the test are appended.
-use Rattle.std.proofs.Common.{length, ℕ, ◌+◌, ◌-◌, ◌≤◌, List, ◌≡◌}
+use Rattle.std.proofs.Common.{ℕ, ◌+◌, ◌≤◌, List}
 use Rattle.model.specs.Base.{bit}
 use Rattle.model.specs.Script.{step_by}
 use Rattle.run_query.specs.Stepping.{Flagged}
@@ -9,11 +9,7 @@ use Rattle.run_query.proofs.PassLaws.{Descending}
 use Rattle.run_query.proofs.step.descend.Given as goal
 
 abbrev pub invariant-loop-j : goal.invariant-loop-j
-invariant-loop-j l = (l.j ≤ l.count) × Descending l.rows l.count l.deep l.initial.flags l.j
-    l.flags ×
+invariant-loop-j l = Descending l.rows l.count l.deep l.initial.flags l.j l.flags ×
     ((v : List ℕ) → Flagged v l.initial.flags →
-    SteppedTo l.rows l.count (step_by (bit l.deep) l.test l.name.0) v l.j l.initial.work l.from l.work l.at) ×
-    (l.at + l.low ≤ l.from + l.j) × (l.low ≤ l.j) × (length l.work ≡ length l.initial.work)
-
-abbrev pub decreases-loop-j : goal.decreases-loop-j
-decreases-loop-j l = l.count - l.j
+    SteppedTo l.rows l.count (step_by (bit l.deep) l.test.kind l.test.name.0) v l.j l.initial.work l.from l.work l.at) ×
+    (l.at + l.low ≤ l.from + l.j)

@@ -11,7 +11,7 @@ returns c =
       value = λ ms. subst (λ (v : List ℕ). Appended v c.args.work.now c.args.from
           c.collect.new.work
           c.collect.result) (step_rows c.args.rows.now c.args.count (2 + bit c.args.deep)
-          c.args.test c.args.name.0
+          c.args.test.kind c.args.test.name.0
           (value_at c.args.work.now c.args.from c.args.to) ms
           (omega (arith, c.requires.held.rows, c.requires.held.few)) c.flag.new.flags
           c.climb.new.reached c.flag.ensures.flagged c.climb.ensures) c.collect.ensures;
