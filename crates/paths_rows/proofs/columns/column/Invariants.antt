@@ -6,6 +6,3 @@ use Rattle.paths_rows.proofs.columns.column.Given as goal
 
 abbrev pub invariant-loop-f : goal.invariant-loop-f
 invariant-loop-f l = ColumnTo l.initial.columns l.l l.q l.f l.columns
-
-abbrev pub decreases-loop-f : goal.decreases-loop-f
-decreases-loop-f l = fields - l.f

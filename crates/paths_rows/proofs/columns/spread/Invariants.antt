@@ -5,6 +5,3 @@ use Rattle.paths_rows.proofs.columns.spread.Given as goal
 
 abbrev pub invariant-loop-l : goal.invariant-loop-l
 invariant-loop-l l = ColumnsTo l.positions l.l l.columns
-
-abbrev pub decreases-loop-l : goal.decreases-loop-l
-decreases-loop-l l = length l.positions - l.l

@@ -6,6 +6,3 @@ use Rattle.paths_rows.proofs.rows.meets.Given as goal
 
 abbrev pub invariant-loop-l : goal.invariant-loop-l
 invariant-loop-l l = (l.l ≤ l.m) × (l.seen ≡ any_up_to (met_by l.table l.m l.columns l.k l.role) l.l)
-
-abbrev pub decreases-loop-l : goal.decreases-loop-l
-decreases-loop-l l = l.m - l.l

@@ -8,6 +8,3 @@ abbrev pub invariant-loop-l : goal.invariant-loop-l
 invariant-loop-l l =
     (l.l ≤ l.m) × (length l.parents ≡ length l.initial.parents) ×
     ((j : ℕ) → j < l.l → get_or l.parents j 0 ≡ bit (parent_by l.table l.m l.columns l.i l.source j))
-
-abbrev pub decreases-loop-l : goal.decreases-loop-l
-decreases-loop-l l = l.m - l.l
