@@ -2,7 +2,7 @@
 use Rattle.std.proofs.Common.{◌≡◌, ap, sym, ◌∙◌, arith, rules}
 use Rattle.plan_table.specs.declared.Refusal.{Refusal}
 use Rattle.script.specs.Reading.{script_read}
-use Rattle.paths.proofs.AnalysisLaws.{fronts_asks, answer_asks, answer_swapped, clear_all}
+use Rattle.paths.proofs.AnalysisLaws.{fronts_asks, few_pairs, answer_swapped}
 use Rattle.paths.proofs.AnalysisLaws.{second_refused, both_accepted}
 use Rattle.paths.proofs.analyse.Goals as goal
 
@@ -14,13 +14,17 @@ returns-then-other-ne0 c =
     second_refused c.args.first.now c.args.second.now (first_accepted) c.read_script-other.result
     c.read_script-other.ensures c.if-other-ne0.true
 
-pub answer-requires : goal.answer-requires
-answer-requires c =
-    answer_asks (fronts_asks c.args.first.now c.args.second.now c.positions_of-n.ensures c.positions_of-m.ensures)
-    _ (omega (arith, c.if-size-le-FEW.true)) (clear_all _ c.clear.ensures)
+pub in_marks-requires : goal.in_marks-requires
+in_marks-requires c =
+    record {
+      first = fronts_asks c.args.first.now c.positions_of-n.ensures;
+      second = fronts_asks c.args.second.now c.positions_of-m.ensures;
+      room = omega (arith, few_pairs c.args.first.now c.args.second.now c.positions_of-n.ensures c.positions_of-m.ensures);
+      size = omega arith;
+    }
 
-pub returns-then-size-le-FEW : goal.returns-then-size-le-FEW
-returns-then-size-le-FEW c =
+pub returns-then-n-m-le-FEW : goal.returns-then-n-m-le-FEW
+returns-then-n-m-le-FEW c =
     let first_accepted : (script_read c.args.first.now).number ≡ 0 = let zero : c.read_script-refusal.result.number ≡ 0 =
     search (c.if-refusal-ne0.false, rules) in
     sym (ap (λ (x : Refusal). x.number) c.read_script-refusal.ensures) ∙ zero in
@@ -28,11 +32,14 @@ returns-then-size-le-FEW c =
     search (c.if-other-ne0.false, rules) in
     sym (ap (λ (x : Refusal). x.number) c.read_script-other.ensures) ∙ zero in
     both_accepted c.args.first.now c.args.second.now (first_accepted) (second_accepted)
-    c.positions_of-n.ensures c.positions_of-m.ensures c.answer.ensures
+    c.positions_of-n.ensures c.positions_of-m.ensures c.in_marks.ensures
 
 pub in_table-requires : goal.in_table-requires
 in_table-requires c =
-    fronts_asks c.args.second.now c.args.first.now c.positions_of-m.ensures c.positions_of-n.ensures
+    record {
+      first = fronts_asks c.args.second.now c.positions_of-m.ensures;
+      second = fronts_asks c.args.first.now c.positions_of-n.ensures;
+    }
 
 pub returns-then-m-n : goal.returns-then-m-n
 returns-then-m-n c =
@@ -47,7 +54,10 @@ returns-then-m-n c =
 
 pub in_table-requires-2 : goal.in_table-requires-2
 in_table-requires-2 c =
-    fronts_asks c.args.first.now c.args.second.now c.positions_of-n.ensures c.positions_of-m.ensures
+    record {
+      first = fronts_asks c.args.first.now c.positions_of-n.ensures;
+      second = fronts_asks c.args.second.now c.positions_of-m.ensures;
+    }
 
 pub returns : goal.returns
 returns c =
