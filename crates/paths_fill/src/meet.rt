@@ -17,9 +17,7 @@ use plan_table::number;
 pub fn some_leads_up(positions: &[usize]) -> bool
     ensures { result ≡ some_leads_up positions.now }
 {
-    positions
-        .iter()
-        .any(|p| Position::unpacked(*p).leads_up())
+    positions.iter().any(|p| Position::unpacked(*p).leads_up())
 }
 
 // A pair with a union, number l of the second script: each relation is that of its parts a and b.

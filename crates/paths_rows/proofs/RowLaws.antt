@@ -1,24 +1,21 @@
 -- A row marked column by column: at the start nothing is, each mark adds a column, and one not reached reads as at the start.
 use mathlib.Core.Path.{◌≡◌, refl, ap, sym, ◌∙◌, subst}
-use mathlib.Core.Bool.{Bool, false, ◌&&◌, ◌||◌, not, cond}
+use mathlib.Core.Bool.{Bool, false, ◌&&◌, ◌||◌, cond}
 use mathlib.Core.List.{List}
 use Prim.Native.Nat.{ℕ, ◌+◌, ◌%◌, ◌≤◌, ◌<◌}
 use native.Mathlib.Numerals.{add-one}
 use native.Mathlib.Omega.{arith}
 use lib.Dec.{eqb}
-use lib.ListN.{length, get_or, set}
-use lib.Seq.{get_or-set_same, get_or-set_other}
+use lib.ListN.{length}
 use Rattle.std.specs.Borrow.{Bor}
 use Rattle.model.specs.Base.{bit}
 use Rattle.model.proofs.BoolLaws.{eq_cases}
 use Rattle.paths_positions.specs.Answer.{any_up_to}
-use Rattle.paths_positions.specs.Packed.{root_kind, union_kind}
 use Rattle.paths_cells.specs.Pairs.{on_element, down, up, on_leaf, relations, mark_at, is_marked, marked, HasRows, PairPre, MarkPre}
 use Rattle.paths_cells.proofs.MarkLaws.{same_rows, mark_length, mark_here, mark_others}
-use Rattle.paths_rows.specs.Columns.{column_at, is_set_at, first_field, kind_field, role_field, deep_field, element_field, leaf_field}
-use Rattle.paths_rows.specs.Columns.{named_field, low_field, high_field}
-use Rattle.paths_rows.specs.Rows.{is_yes, parent_by, element_by, leaf_by, root_by, down_by, either_by, met_by}
-use Rattle.paths_rows.specs.Rows.{RowMarked, Computes, MarkRowPre, MarkRowPost, ParentsPre}
+use Rattle.paths_rows.specs.Columns.{column_at, role_field}
+use Rattle.paths_rows.specs.Rows.{down_by, either_by, met_by}
+use Rattle.paths_rows.specs.Rows.{RowMarked, Computes, MarkRowPre, MarkRowPost}
 
 -- AT THE START nothing is marked
 pub row_start : (t : List ℕ) (m r k : ℕ) (holds : ℕ → Bool) → RowMarked t m r k holds 0 t
@@ -101,20 +98,11 @@ pub pair_asks : (t t₁ : List ℕ) {m i l : ℕ} (s : ℕ) → length t₁ ≡ 
     PairPre t₁ m s i l
 pair_asks t t₁ {m} {i} s e h g a = record { room = same_rows t t₁ m (i + 1) e h; relation = g; column = a }
 
--- A PARENT: the first operand of column l, to read a mark
-pub operand_asks : {t c ps : List ℕ} {m i source j : ℕ} (l s : ℕ) → ParentsPre t m c i source ps → l < m → s < relations →
-    j ≡ column_at c first_field l → PairPre t m s i j
-operand_asks l s pre h g e = record { room = pre.room; relation = g; column = omega (arith, e, pre.lower l h) }
-
 -- WHAT HOLDS of column l, from what the calls return
 module _ (c : List ℕ) (l : ℕ) where
   pub met_by_lem : (t : List ℕ) (m k role : ℕ) {z : ℕ} {a b : Bool} → z ≡ column_at c role_field l → a ≡ is_marked t m on_element k l →
       b ≡ is_marked t m on_leaf k l → (eqb z role && (a || b)) ≡ met_by t m c k role l
   met_by_lem t m k role e f g = cc
-
-  pub parent_by_lem : (t : List ℕ) (m i j s : ℕ) {p a b : Bool} → j ≡ column_at c first_field l → p ≡ is_set_at c deep_field l →
-      a ≡ is_marked t m s i j → b ≡ is_marked t m down i j → (a || (p && b)) ≡ parent_by t m c i s l
-  parent_by_lem t m i j s e f g h = cc
 
 -- what a test reads of the table as it is marked until then, it reads as at the start
 pub down_same : {t t₁ : List ℕ} {m k l : ℕ} {holds : ℕ → Bool} (c : List ℕ) (i : ℕ) (e d : Bool) → RowMarked t m down k holds l t₁ → l < m →
@@ -131,11 +119,3 @@ either_same {t} {t₁} {m} {r} a b w g h =
     let x = reads w r a g h in
     let y = reads w r b g h in
     cc
-
--- BYTES written in order, each a test
-pub bytes_step : (ps : List ℕ) (l : ℕ) (holds : ℕ → Bool) {v : ℕ} → l < length ps → v ≡ bit (holds l) →
-    ((j : ℕ) → j < l → get_or ps j 0 ≡ bit (holds j)) → (j : ℕ) → j < l + 1 → get_or (set ps l v) j 0 ≡ bit (holds j)
-bytes_step ps l holds {v} h e is j g =
-    eq_cases j l
-    (λ s. ap (λ (x : ℕ). get_or (set ps l v) x 0) s ∙ get_or-set_same ps l v 0 h ∙ e ∙ ap (λ (x : ℕ). bit (holds x)) (sym s))
-    (λ s. get_or-set_other ps l j v 0 s ∙ is j (omega (arith, s)))

@@ -97,9 +97,7 @@ pub fn on_leaves(table: &mut [u8], m: usize, columns: &[u8], parents: &[u8], k: 
         requires test { TestPre columns.now l }
         requires space { length parents.now ≡ max_positions }
         ensures { result ≡ leaf_by columns.entry.now parents.entry.now l }
-    {
-        is_yes(parents[l]) & columns::is_set(columns, columns::LEAF, l)
-    };
+    { is_yes(parents[l]) & columns::is_set(columns, columns::LEAF, l) };
     mark_row(table, m, pairs::ON_LEAF, k, holds)
 }
 
@@ -158,9 +156,7 @@ pub fn union(table: &mut [u8], m: usize, relation: usize, k: usize, a: usize, b:
         requires first { PairPre marks.now m relation a l }
         requires second { PairPre marks.now m relation b l }
         ensures { result ≡ either_by marks.now m relation a b l }
-    {
-        pairs::is_marked(marks, m, relation, a, l) | pairs::is_marked(marks, m, relation, b, l)
-    };
+    { pairs::is_marked(marks, m, relation, a, l) | pairs::is_marked(marks, m, relation, b, l) };
     mark_row(table, m, relation, k, holds);
 }
 

@@ -1,6 +1,4 @@
 -- `columns::column` writes one field after the other. The invariant: those below f are the position's, the other columns as they were.
-use Rattle.std.proofs.Common.{◌-◌}
-use Rattle.paths_rows.specs.Columns.{fields}
 use Rattle.paths_rows.proofs.ColumnLaws.{ColumnTo}
 use Rattle.paths_rows.proofs.columns.column.Given as goal
 

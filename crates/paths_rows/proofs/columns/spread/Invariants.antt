@@ -1,5 +1,4 @@
 -- `columns::spread` writes one column after the other. The invariant: those below l are their positions'.
-use Rattle.std.proofs.Common.{◌-◌, length}
 use Rattle.paths_rows.proofs.ColumnLaws.{ColumnsTo}
 use Rattle.paths_rows.proofs.columns.spread.Given as goal
 
