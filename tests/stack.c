@@ -87,17 +87,6 @@ static size_t deep_script(uint8_t *to, size_t level) {
     return PUT(to, at, "\x01");
 }
 
-/* A script with the most positions known: 55 deletes, in five chains of eleven. Two of these take the largest table. */
-static size_t most_deletes(uint8_t *to) {
-    size_t at = 0;
-    for (size_t chain = 0; chain < 5; chain++) {
-        if (chain < 4) at = PUT(to, at, "\x05");
-        for (size_t i = 0; i < 11; i++) at = PUT(to, at, "\x0B");
-        at = PUT(to, at, "\x02\x00");
-    }
-    return at;
-}
-
 static int is_more(const char *name, size_t bytes, size_t kibibytes) {
     printf("%-8s %6zu bytes of stack; the header says %zu KiB\n", name, bytes, kibibytes);
     return bytes > kibibytes * 1024;
@@ -118,9 +107,6 @@ int main(void) {
             second_length = deep_script(second, other);
             measure(&analyse, call_analyse);
         }
-    first_length = most_deletes(first);
-    second_length = most_deletes(second);
-    measure(&analyse, call_analyse);
     for (size_t level = 0; level < LEVELS; level++) {
         size_t times = DEPTH - BINDERS - 2, left = RECORDS - 5 - 7 * (BINDERS - 1) - 3; /* but for the loops and the innermost insert */
         if (levels[level].bytes[0] == 0x06 || levels[level].bytes[0] == 0x07) continue; /* a ninth binder */

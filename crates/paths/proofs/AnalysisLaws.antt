@@ -123,7 +123,10 @@ module _ (ws us : List ℕ) {x : Bool} (up : x ≡ some_leads_up ws) where
       pub answer_last : {q : Bool} → z ≡ q → AnswerPost ws us (by_answer (cond q meet free))
       answer_last h = record { is = λ e f g i. rw (← answer_by_lem e f, ups e f g i, neither, ← g, ← i, ← meets, h) }
 
--- THE CALL
+-- THE CALL: a script that is not refused is accepted
+pub accepted_by : (b : List ℕ) {x : Refusal} → x ≡ script_read b → x.number ≡ 0 → (script_read b).number ≡ 0
+accepted_by b e h = sym (ap (λ (y : Refusal). y.number) e) ∙ h
+
 module _ (b c : List ℕ) where
   pub first_refused : (x : Refusal) → x ≡ script_read b → (x.number ≡ 0 → ⊥) → Refused 1 x ≡ analysed b c
   first_refused x e h =

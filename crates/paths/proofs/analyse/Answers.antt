@@ -1,18 +1,14 @@
 -- `analyse` answers what the model does: one law of AnalysisLaws for each way out.
-use Rattle.std.proofs.Common.{◌≡◌, ap, sym, ◌∙◌, arith, rules}
-use Rattle.plan_table.specs.declared.Refusal.{Refusal}
-use Rattle.script.specs.Reading.{script_read}
-use Rattle.paths.proofs.AnalysisLaws.{fronts_asks, few_pairs, answer_swapped}
+use Rattle.std.proofs.Common.{arith, rules}
+use Rattle.paths.proofs.AnalysisLaws.{fronts_asks, few_pairs, answer_swapped, accepted_by}
 use Rattle.paths.proofs.AnalysisLaws.{second_refused, both_accepted}
 use Rattle.paths.proofs.analyse.Goals as goal
 
 pub returns-then-other-ne0 : goal.returns-then-other-ne0
 returns-then-other-ne0 c =
-    let first_accepted : (script_read c.args.first.now).number ≡ 0 = let zero : c.read_script-refusal.result.number ≡ 0 =
-    search (c.if-refusal-ne0.false, rules) in
-    sym (ap (λ (x : Refusal). x.number) c.read_script-refusal.ensures) ∙ zero in
-    second_refused c.args.first.now c.args.second.now (first_accepted) c.read_script-other.result
-    c.read_script-other.ensures c.if-other-ne0.true
+    second_refused c.args.first.now c.args.second.now
+    (accepted_by c.args.first.now c.read_script-refusal.ensures (search (c.if-refusal-ne0.false, rules)))
+    c.read_script-other.result c.read_script-other.ensures c.if-other-ne0.true
 
 pub in_marks-requires : goal.in_marks-requires
 in_marks-requires c =
@@ -25,13 +21,9 @@ in_marks-requires c =
 
 pub returns-then-n-m-le-FEW : goal.returns-then-n-m-le-FEW
 returns-then-n-m-le-FEW c =
-    let first_accepted : (script_read c.args.first.now).number ≡ 0 = let zero : c.read_script-refusal.result.number ≡ 0 =
-    search (c.if-refusal-ne0.false, rules) in
-    sym (ap (λ (x : Refusal). x.number) c.read_script-refusal.ensures) ∙ zero in
-    let second_accepted : (script_read c.args.second.now).number ≡ 0 = let zero : c.read_script-other.result.number ≡ 0 =
-    search (c.if-other-ne0.false, rules) in
-    sym (ap (λ (x : Refusal). x.number) c.read_script-other.ensures) ∙ zero in
-    both_accepted c.args.first.now c.args.second.now (first_accepted) (second_accepted)
+    both_accepted c.args.first.now c.args.second.now
+    (accepted_by c.args.first.now c.read_script-refusal.ensures (search (c.if-refusal-ne0.false, rules)))
+    (accepted_by c.args.second.now c.read_script-other.ensures (search (c.if-other-ne0.false, rules)))
     c.positions_of-n.ensures c.positions_of-m.ensures c.in_marks.ensures
 
 pub in_table-requires : goal.in_table-requires
@@ -43,13 +35,9 @@ in_table-requires c =
 
 pub returns-then-m-n : goal.returns-then-m-n
 returns-then-m-n c =
-    let first_accepted : (script_read c.args.first.now).number ≡ 0 = let zero : c.read_script-refusal.result.number ≡ 0 =
-    search (c.if-refusal-ne0.false, rules) in
-    sym (ap (λ (x : Refusal). x.number) c.read_script-refusal.ensures) ∙ zero in
-    let second_accepted : (script_read c.args.second.now).number ≡ 0 = let zero : c.read_script-other.result.number ≡ 0 =
-    search (c.if-other-ne0.false, rules) in
-    sym (ap (λ (x : Refusal). x.number) c.read_script-other.ensures) ∙ zero in
-    both_accepted c.args.first.now c.args.second.now (first_accepted) (second_accepted)
+    both_accepted c.args.first.now c.args.second.now
+    (accepted_by c.args.first.now c.read_script-refusal.ensures (search (c.if-refusal-ne0.false, rules)))
+    (accepted_by c.args.second.now c.read_script-other.ensures (search (c.if-other-ne0.false, rules)))
     c.positions_of-n.ensures c.positions_of-m.ensures (answer_swapped c.in_table.ensures)
 
 pub in_table-requires-2 : goal.in_table-requires-2
@@ -61,11 +49,7 @@ in_table-requires-2 c =
 
 pub returns : goal.returns
 returns c =
-    let first_accepted : (script_read c.args.first.now).number ≡ 0 = let zero : c.read_script-refusal.result.number ≡ 0 =
-    search (c.if-refusal-ne0.false, rules) in
-    sym (ap (λ (x : Refusal). x.number) c.read_script-refusal.ensures) ∙ zero in
-    let second_accepted : (script_read c.args.second.now).number ≡ 0 = let zero : c.read_script-other.result.number ≡ 0 =
-    search (c.if-other-ne0.false, rules) in
-    sym (ap (λ (x : Refusal). x.number) c.read_script-other.ensures) ∙ zero in
-    both_accepted c.args.first.now c.args.second.now (first_accepted) (second_accepted)
+    both_accepted c.args.first.now c.args.second.now
+    (accepted_by c.args.first.now c.read_script-refusal.ensures (search (c.if-refusal-ne0.false, rules)))
+    (accepted_by c.args.second.now c.read_script-other.ensures (search (c.if-other-ne0.false, rules)))
     c.positions_of-n.ensures c.positions_of-m.ensures c.in_table-2.ensures
