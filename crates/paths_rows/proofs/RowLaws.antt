@@ -59,7 +59,8 @@ any_step f n {a} {b} e g = ap (λ (x : Bool). x || b) e ∙ ap (λ (x : Bool). a
 pub any_end : (f : ℕ → Bool) {n m : ℕ} {a : Bool} → a ≡ any_up_to f n → n ≡ m → a ≡ any_up_to f m
 any_end f e g = e ∙ ap (any_up_to f) g
 
--- THE PASS of `mark_row`, as far as column l: those from there on are not marked yet, and any test that the closure computes is marked below
+-- THE PASS of `mark_row`, as far as column l: those from there on are not marked yet, and any test that the closure computes is marked
+-- below
 pub record RowTo (post : Bor (List ℕ) → ℕ → Bool → Type 0) (t : List ℕ) (m r k l : ℕ) (t₁ : List ℕ) (seen : Bool) : Type 0 where
   pub size : length t₁ ≡ length t
   pub clear : (j : ℕ) → l ≤ j → j < m → mark_at t₁ m r k j ≡ 0

@@ -15,7 +15,7 @@ pub record RowMarked (t : List ℕ) (m r k : ℕ) (holds : ℕ → Bool) (n : �
   pub here : (l : ℕ) → l < n → mark_at t' m r k l ≡ bit (holds l)
   pub others : (s i j : ℕ) → s < relations → j < m → (s ≡ r → i ≡ k → j < n → ⊥) → mark_at t' m s i j ≡ mark_at t m s i j
 
--- ONE RELATION of a row, by a closure of the predicates pre and post, which is asked of the table as it is marked until then and of a column
+-- ONE RELATION of a row, by a closure of the predicates pre and post, which is asked of the table as marked until then and of a column
 abbrev pub Computes : (post : Bor (List ℕ) → ℕ → Bool → Type 0) → (t : List ℕ) → (m r k : ℕ) → (holds : ℕ → Bool) → Type 0
 Computes post t m r k holds =
     (x : Bor (List ℕ)) (l : ℕ) (b : Bool) → l < m → RowMarked t m r k holds l x.now → post x l b → b ≡ holds l

@@ -8,14 +8,15 @@ returns-then-some_leads_up c =
 
 pub returns-then-some_leads_up-2 : goal.returns-then-some_leads_up-2
 returns-then-some_leads_up-2 c =
-    answer_second c.args.first.now c.args.second.now c.some_leads_up.ensures c.if-some_leads_up.false c.some_leads_up-2.ensures c.if-some_leads_up-2.true
+    answer_second c.args.first.now c.args.second.now c.some_leads_up.ensures c.if-some_leads_up.false
+    c.some_leads_up-2.ensures c.if-some_leads_up-2.true
 
 pub returns-then-positions_meet : goal.returns-then-positions_meet
 returns-then-positions_meet c =
-    answer_last c.args.first.now c.args.second.now c.some_leads_up.ensures c.if-some_leads_up.false c.some_leads_up-2.ensures c.if-some_leads_up-2.false
-    c.positions_meet.ensures c.if-positions_meet.true
+    answer_last c.args.first.now c.args.second.now c.some_leads_up.ensures c.if-some_leads_up.false
+    c.some_leads_up-2.ensures c.if-some_leads_up-2.false c.positions_meet.ensures c.if-positions_meet.true
 
 pub returns : goal.returns
 returns c =
-    answer_last c.args.first.now c.args.second.now c.some_leads_up.ensures c.if-some_leads_up.false c.some_leads_up-2.ensures c.if-some_leads_up-2.false
-    c.positions_meet.ensures c.if-positions_meet.false
+    answer_last c.args.first.now c.args.second.now c.some_leads_up.ensures c.if-some_leads_up.false
+    c.some_leads_up-2.ensures c.if-some_leads_up-2.false c.positions_meet.ensures c.if-positions_meet.false
