@@ -106,8 +106,8 @@ module _ (c : List ℕ) (l : ℕ) where
   met_by_lem t m k role e f g = cc
 
 -- what a test reads of the table as it is marked until then, it reads as at the start
-pub down_same : {t t₁ : List ℕ} {m k l : ℕ} {holds : ℕ → Bool} (c : List ℕ) (i : ℕ) (e d : Bool) → RowMarked t m down k holds l t₁ → l < m →
-    down_by t₁ m c i k e d l ≡ down_by t m c i k e d l
+pub down_same : {t t₁ : List ℕ} {m k l : ℕ} {holds : ℕ → Bool} (c : List ℕ) (i : ℕ) (e d : Bool) → RowMarked t m down k holds l t₁ →
+    l < m → down_by t₁ m c i k e d l ≡ down_by t m c i k e d l
 down_same {t} {t₁} {m} {k} {l} c i e d w h =
     let x = reads w down i (omega arith) h in
     let y = reads w up i (omega arith) h in
