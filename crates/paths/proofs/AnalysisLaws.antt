@@ -2,7 +2,7 @@
 use mathlib.Core.Path.{◌≡◌, ap, sym, ◌∙◌, subst}
 use mathlib.Core.Bool.{Bool, true, false, ◌||◌, cond, false≢true}
 use mathlib.Core.List.{List, [], ◌∷◌, map}
-use Prim.Native.Nat.{ℕ, ◌*◌, ◌-◌, ◌≤◌}
+use Prim.Native.Nat.{ℕ, ◌*◌, ◌≤◌}
 use native.Mathlib.Nat.{mul_comm, mul_assoc, mul-le-mul_left}
 use native.Mathlib.Omega.{arith}
 use lib.ListN.{length, get_or, take}
@@ -23,13 +23,12 @@ use Rattle.script.proofs.ScriptLaws.{script_accepted, script_parsed, read_refuse
 use Rattle.paths_positions.specs.Positions.{Entry, Emitted, emit, AreLower, entries_before, entries_of, paths_from}
 use Rattle.paths_positions.specs.Answer.{positions_meet}
 use Rattle.paths_positions.specs.Packed.{entry_of, entries_in, entries_by, some_leads_up}
-use Rattle.paths_cells.specs.Pairs.{relations, HasRows, cleared}
+use Rattle.paths_cells.specs.Pairs.{relations, cleared}
 use Rattle.paths_cells.proofs.MarkLaws.{has_rows, cleared_at}
 use Rattle.paths_positions.specs.Steps.{max_positions}
-use Rattle.paths_fill.specs.Filling.{TablePre}
+use Rattle.paths_fill.specs.Filling.{PositionsPre, TablePre}
 use Rattle.paths_emit.specs.Emitting.{emitter, EmitPre, EmitPost}
-use Rattle.paths.specs.Analysis.{Analysis, Refused, Upward, by_answer, analysis_of, analysed}
-use Rattle.paths.specs.Analysis.{ScriptPre, ScriptPost, AnswerPre, AnswerPost, FrontPre, FrontsPre}
+use Rattle.paths.specs.Analysis.{Analysis, Refused, Upward, by_answer, analysis_of, analysed, ScriptPre, ScriptPost, AnswerPost}
 use Rattle.paths_positions.proofs.AnswerLaws.{emitted_right, answer_by_lem, answer_turned}
 use Rattle.paths_positions.proofs.UpLaws.{some_leads_up_is}
 use Rattle.paths_emit.proofs.SizeLaws.{script_records}
@@ -62,18 +61,14 @@ module _ {b ws : List ℕ} (pre : ScriptPre b ws) {env : List ℕ} where
           ap (map entry_of) (take-suc ws 0 0 (omega (arith, pre.size))) ∙ ap (λ (w : ℕ). entry_of w ∷ []) pre.zero
 
 -- what the answer asks of them
-front_asks : (b : List ℕ) {ws : List ℕ} {n : ℕ} → ScriptPost b ws n → FrontPre ws n
+pub fronts_asks : (b : List ℕ) {ws : List ℕ} {n : ℕ} → ScriptPost b ws n → PositionsPre (take n ws)
 unfolding paths_from
-front_asks b {ws} {n} post =
+fronts_asks b {ws} {n} post =
     let right = emitted_right 1 (λ q. omega arith) (expr_at max_depth b 0) in
     let within : n ≤ length ws = omega (arith, post.size, post.few) in
     record {
-      size = post.size;
-      few = post.few;
-      positions = record {
-        few = omega (arith, length-take-le n ws within, post.few);
-        lower = subst AreLower (sym post.entries) right.lower;
-      };
+      few = omega (arith, length-take-le n ws within, post.few);
+      lower = subst AreLower (sym post.entries) right.lower;
     }
 
 -- room for all pairs, and how many these are at most
@@ -81,78 +76,54 @@ pairs_are : (m n : ℕ) → m * (relations * n) ≡ n * m * relations
 pairs_are m n =
     ap (λ (x : ℕ). m * x) (mul_comm relations n) ∙ sym (mul_assoc m n relations) ∙ ap (λ (x : ℕ). x * relations) (mul_comm m n)
 
-pub pairs_most : {ws : List ℕ} {n : ℕ} {us : List ℕ} {m : ℕ} → FrontsPre ws n us m → n * m ≤ max_positions * max_positions
-pairs_most {n = n} {m = m} fronts =
-    let e : n * m ≤ n * max_positions = mul-le-mul_left n fronts.second.few in
-    let f : max_positions * n ≤ max_positions * max_positions = mul-le-mul_left max_positions fronts.first.few in
-    omega (arith, e, f, mul_comm n max_positions)
+pub pairs_most : {ws us : List ℕ} → PositionsPre ws → PositionsPre us → length ws * length us ≤ max_positions * max_positions
+pairs_most {ws} {us} one two =
+    let e : length ws * length us ≤ length ws * max_positions = mul-le-mul_left (length ws) two.few in
+    let f : max_positions * length ws ≤ max_positions * max_positions = mul-le-mul_left max_positions one.few in
+    omega (arith, e, f, mul_comm (length ws) max_positions)
+
+pub few_pairs : (b c : List ℕ) {ws : List ℕ} {n : ℕ} {us : List ℕ} {m : ℕ} → ScriptPost b ws n → ScriptPost c us m →
+    length (take n ws) * length (take m us) ≡ n * m
+few_pairs b c {ws} {n} {us} {m} one two =
+    rw (length-take-le n ws (omega (arith, one.size, one.few)), length-take-le m us (omega (arith, two.size, two.few)))
 
 pub clear_all : (t : List ℕ) {t' : List ℕ} → t' ≡ cleared t → (i : ℕ) → get_or t' i 0 ≡ 0
 clear_all t e i = ap (λ (x : List ℕ). get_or x i 0) e ∙ cleared_at t i
 
-pub fronts_asks : (b c : List ℕ) {ws : List ℕ} {n : ℕ} {us : List ℕ} {m : ℕ} → ScriptPost b ws n → ScriptPost c us m → FrontsPre ws n us m
-fronts_asks b c one two = record { first = front_asks b one; second = front_asks c two }
-
-pub answer_asks : {ws : List ℕ} {n : ℕ} {us : List ℕ} {m : ℕ} → FrontsPre ws n us m → (t : List ℕ) → n * m * relations ≤ length t →
-    ((i : ℕ) → get_or t i 0 ≡ 0) → AnswerPre ws n us m t
-answer_asks {n = n} {m = m} fronts t room clear =
-    record { fronts = fronts; room = has_rows t m n (omega (arith, pairs_are m n)); clear = clear }
+pub table_asks : {ws us : List ℕ} → PositionsPre ws → PositionsPre us → (t : List ℕ) → length ws * length us * relations ≤ length t →
+    ((i : ℕ) → get_or t i 0 ≡ 0) → TablePre ws us t
+table_asks {ws} {us} one two t room clear =
+    record {
+      first = one;
+      second = two;
+      room = has_rows t (length us) (length ws) (omega (arith, pairs_are (length us) (length ws)));
+      clear = clear;
+    }
 
 -- the answer is that of the scripts in the other order
-pub answer_swapped : {ws : List ℕ} {n : ℕ} {us : List ℕ} {m : ℕ} {r : Analysis} → AnswerPost us m ws n r → AnswerPost ws n us m r
+pub answer_swapped : {ws us : List ℕ} {r : Analysis} → AnswerPost us ws r → AnswerPost ws us r
 answer_swapped post = record { is = λ e f g h. post.is f e h g ∙ ap by_answer (answer_turned e f) }
 
 upward_is : (e f : Expr) → (has_up e || has_up f) ≡ true → Upward ≡ by_answer (answer e f)
 upward_is e f h = rw h
 
 -- THE ANSWER, from the packed positions of each script
-abbrev part : List ℕ → ℕ → List ℕ
-part ws n = take (n - 0) ws
+module _ (ws us : List ℕ) {x : Bool} (up : x ≡ some_leads_up ws) where
+  pub answer_first : x ≡ true → AnswerPost ws us Upward
+  answer_first h =
+      record { is = λ e f g i. upward_is e f (ap (λ (y : Bool). y || has_up f) (sym (some_leads_up_is ws e g) ∙ sym up ∙ h)) }
 
-part_is : (ws : List ℕ) (n : ℕ) → part ws n ≡ take n ws
-part_is ws n = let e : n - 0 ≡ n = omega arith in ap (λ (k : ℕ). take k ws) e
+  module _ (not : x ≡ false) {y : Bool} (up₂ : y ≡ some_leads_up us) where
+    ups : (e f : Expr) → entries_by ws ≡ entries_of e → entries_by us ≡ entries_of f → (has_up e || has_up f) ≡ y
+    ups e f g i =
+        ap (λ (z : Bool). z || has_up f) (sym (some_leads_up_is ws e g) ∙ sym up ∙ not) ∙ sym (some_leads_up_is us f i) ∙ sym up₂
 
-module _ {ws : List ℕ} {n : ℕ} {us : List ℕ} {m : ℕ} {t : List ℕ} (pre : AnswerPre ws n us m t) where
-  pub table_asks : TablePre (part ws n) (part us m) t
-  table_asks =
-      subst (λ (x : List ℕ). TablePre x (part us m) t) (sym (part_is ws n))
-      (subst (λ (y : List ℕ). TablePre (take n ws) y t) (sym (part_is us m)) parts)
-    where
-      parts : TablePre (take n ws) (take m us) t
-      parts =
-          record {
-            first = pre.fronts.first.positions;
-            second = pre.fronts.second.positions;
-            room = subst (HasRows t (length (take m us)))
-                (sym (length-take-le n ws (omega (arith, pre.fronts.first.size, pre.fronts.first.few))))
-                (subst (λ (x : ℕ). HasRows t x n)
-                (sym (length-take-le m us (omega (arith, pre.fronts.second.size, pre.fronts.second.few)))) pre.room);
-            clear = pre.clear;
-          }
+    pub answer_second : y ≡ true → AnswerPost ws us Upward
+    answer_second h = record { is = λ e f g i. upward_is e f (ups e f g i ∙ h) }
 
-  module _ {x : Bool} (up : x ≡ some_leads_up (part ws n)) where
-    first_up : x ≡ some_leads_up (take n ws)
-    first_up = up ∙ ap some_leads_up (part_is ws n)
-
-    pub answer_first : x ≡ true → AnswerPost ws n us m Upward
-    answer_first h =
-        record {
-          is = λ e f g i. upward_is e f (ap (λ (y : Bool). y || has_up f) (sym (some_leads_up_is (take n ws) e g) ∙ sym first_up ∙ h));
-        }
-
-    module _ (not : x ≡ false) {y : Bool} (up₂ : y ≡ some_leads_up (part us m)) where
-      ups : (e f : Expr) → entries_in ws n ≡ entries_of e → entries_in us m ≡ entries_of f → (has_up e || has_up f) ≡ y
-      ups e f g i =
-          ap (λ (z : Bool). z || has_up f) (sym (some_leads_up_is (take n ws) e g) ∙ sym first_up ∙ not) ∙
-          sym (some_leads_up_is (take m us) f i) ∙ sym (up₂ ∙ ap some_leads_up (part_is us m))
-
-      pub answer_second : y ≡ true → AnswerPost ws n us m Upward
-      answer_second h = record { is = λ e f g i. upward_is e f (ups e f g i ∙ h) }
-
-      module _ (neither : y ≡ false) {z : Bool} (meets : z ≡ positions_meet (entries_by (part ws n)) (entries_by (part us m))) where
-        pub answer_last : {q : Bool} → z ≡ q → AnswerPost ws n us m (by_answer (cond q meet free))
-        answer_last h =
-            record { is = λ e f g i. rw (← answer_by_lem e f, ups e f g i, neither, ← g, ← i, ← part_is ws n, ← part_is us m, ← meets, h) }
+    module _ (neither : y ≡ false) {z : Bool} (meets : z ≡ positions_meet (entries_by ws) (entries_by us)) where
+      pub answer_last : {q : Bool} → z ≡ q → AnswerPost ws us (by_answer (cond q meet free))
+      answer_last h = record { is = λ e f g i. rw (← answer_by_lem e f, ups e f g i, neither, ← g, ← i, ← meets, h) }
 
 -- THE CALL. A script that its reader does not refuse is accepted
 pub accepted : {A : Type 0} (x : Result A error.Refusal) (b : List ℕ) → refusal_by x ≡ script_read b → true ≡ is_ok x →
@@ -175,8 +146,7 @@ module _ (b c : List ℕ) where
         (read_refused c (λ q. h (ap (λ (y : Refusal). y.number) e ∙ q))))
 
     pub both_accepted : (script_read c).number ≡ 0 → {ws : List ℕ} {n : ℕ} {us : List ℕ} {m : ℕ} {r : Analysis} → ScriptPost b ws n →
-        ScriptPost c us m →
-        AnswerPost ws n us m r → r ≡ analysed b c
+        ScriptPost c us m → AnswerPost (take n ws) (take m us) r → r ≡ analysed b c
     both_accepted h one two post =
         post.is (expr_at max_depth b 0) (expr_at max_depth c 0) one.entries two.entries ∙
         sym (ap (λ (p : Parsed). analysis_of (first_by p (read_script c))) (script_parsed b accepted).1 ∙

@@ -1,5 +1,5 @@
 -- What the analysis of two scripts answers, for every input.
-use Rattle.std.specs.Prelude.{◌≡◌, List, ℕ, ◌≤◌, length, get_or, take, Result, Ok, Err}
+use Rattle.std.specs.Prelude.{◌≡◌, List, ℕ, ◌≤◌, length, get_or, Result, Ok, Err}
 use Prim.Native.String.{String}
 use Rattle.model.specs.Limits.{max_depth}
 use Rattle.model.specs.Script.{Expr}
@@ -11,13 +11,11 @@ use Rattle.plan_table.specs.Results.{refusal_of}
 use Rattle.script_records.specs.Walk.{expr_at}
 use Rattle.script.specs.Reading.{script_read}
 use Rattle.paths_positions.specs.Positions.{entries_of}
-use Rattle.paths_positions.specs.Packed.{entries_in}
+use Rattle.paths_positions.specs.Packed.{entries_in, entries_by}
 use Rattle.paths_positions.specs.Steps.{max_positions}
-use Rattle.paths_cells.specs.Pairs.{HasRows}
 use Rattle.paths.specs.declared.Answer as declared
 use Rattle.paths.specs.declared.Answer.TheVariants as said
 use Rattle.paths.specs.declared.ScriptRefused.{ScriptRefused}
-use Rattle.paths_fill.specs.Filling.{PositionsPre}
 
 -- WHAT THE CALL SAYS: the script refused, 1 or 2, with its refusal; or whether the two are free of one another
 pub data Analysis : Type 0 where
@@ -77,21 +75,6 @@ pub record ScriptPost (b ws' : List ℕ) (n : ℕ) : Type 0 where
   pub few : n ≤ max_positions
   pub entries : entries_in ws' n ≡ entries_of (expr_at max_depth b 0)
 
--- positions at the front
-pub record FrontPre (ws : List ℕ) (n : ℕ) : Type 0 where
-  pub size : length ws ≡ max_positions
-  pub few : n ≤ max_positions
-  pub positions : PositionsPre (take n ws)
-
--- THE ANSWER from the positions of two expressions, and in a table
-pub record FrontsPre (ws : List ℕ) (n : ℕ) (us : List ℕ) (m : ℕ) : Type 0 where
-  pub first : FrontPre ws n
-  pub second : FrontPre us m
-
-pub record AnswerPre (ws : List ℕ) (n : ℕ) (us : List ℕ) (m : ℕ) (t : List ℕ) : Type 0 where
-  pub fronts : FrontsPre ws n us m
-  pub room : HasRows t m n
-  pub clear : (i : ℕ) → get_or t i 0 ≡ 0
-
-pub record AnswerPost (ws : List ℕ) (n : ℕ) (us : List ℕ) (m : ℕ) (r : Analysis) : Type 0 where
-  pub is : (e f : Expr) → entries_in ws n ≡ entries_of e → entries_in us m ≡ entries_of f → r ≡ by_answer (answer e f)
+-- THE ANSWER from the positions of two expressions
+pub record AnswerPost (ws us : List ℕ) (r : Analysis) : Type 0 where
+  pub is : (e f : Expr) → entries_by ws ≡ entries_of e → entries_by us ≡ entries_of f → r ≡ by_answer (answer e f)

@@ -1,8 +1,11 @@
 // The path analysis: whether two scripts can touch the same node of some plan.
 #![tactic(auto)]
 
-ghost use Rattle.std.specs.Prelude.{◌≡◌};
-ghost use Rattle.paths.specs.Analysis.{analysed, answer_by, analysis_by, ScriptPre, ScriptPost, FrontsPre, AnswerPre, AnswerPost};
+ghost use Rattle.std.specs.Prelude.{◌≡◌, ◌*◌, ◌≤◌, length};
+ghost use Rattle.paths_positions.specs.Steps.{max_positions};
+ghost use Rattle.paths_cells.specs.Pairs.{relations};
+ghost use Rattle.paths_fill.specs.Filling.{PositionsPre, TablePre};
+ghost use Rattle.paths.specs.Analysis.{analysed, answer_by, analysis_by, ScriptPre, ScriptPost, AnswerPost};
 
 use paths_cells::pairs;
 use paths_emit::emit;
@@ -65,47 +68,53 @@ fn positions_of(bytes: &[u8], positions: &mut [usize; POSITIONS]) -> usize
 }
 
 // The answer from the positions of two scripts. An upward step anywhere, even in a branch never run, comes first.
-fn answer_in(first: &[usize], n: usize, second: &[usize], m: usize, table: &mut [u8]) -> Answer
-    requires { AnswerPre first.now n second.now m table.old }
-    ensures { AnswerPost first.now n second.now m (answer_by result) }
+fn answer_in(first: &[usize], second: &[usize], table: &mut [u8]) -> Answer
+    requires { TablePre first.now second.now table.old }
+    ensures { AnswerPost first.now second.now (answer_by result) }
 {
-    if meet::some_leads_up(&first[0..n]) {
+    if meet::some_leads_up(first) {
         return Answer::Upward;
     }
-    if meet::some_leads_up(&second[0..m]) {
+    if meet::some_leads_up(second) {
         return Answer::Upward;
     }
-    if meet::positions_meet(&first[0..n], &second[0..m], table) {
+    if meet::positions_meet(first, second, table) {
         return Answer::Meet;
     }
     Answer::Free
 }
 
-// The answer in a table for many pairs. These tables are not in the frame of `analyse`, since all pages of a frame are touched when it is
-// entered.
-fn in_table(first: &[usize], n: usize, second: &[usize], m: usize) -> Answer
-    requires { FrontsPre first.now n second.now m }
-    ensures { AnswerPost first.now n second.now m (answer_by result) }
+// The answer in a table of so many marks, which stands in a frame of its own: all pages of a frame are touched when it is entered.
+#[inline(never)]
+fn in_marks<const MARKS: usize>(first: &[usize], second: &[usize]) -> Answer
+    requires first { PositionsPre first.now }
+    requires second { PositionsPre second.now }
+    requires room { length first.now * length second.now * relations ≤ MARKS }
+    requires size { MARKS ≤ max_positions * max_positions * relations }
+    ensures { AnswerPost first.now second.now (answer_by result) }
 {
-    let size = n * m;
+    let mut table = [0u8; MARKS];
+    pairs::clear(&mut table);
+    answer_in(first, second, &mut table)
+}
+
+// The answer in a table for many pairs.
+fn in_table(first: &[usize], second: &[usize]) -> Answer
+    requires first { PositionsPre first.now }
+    requires second { PositionsPre second.now }
+    ensures { AnswerPost first.now second.now (answer_by result) }
+{
+    let size = first.len() * second.len();
     if size <= SOME {
-        let mut some = [0u8; SOME_MARKS];
-        pairs::clear(&mut some);
-        return answer_in(first, n, second, m, &mut some);
+        return in_marks::<SOME_MARKS>(first, second);
     }
     if size <= MANY {
-        let mut many = [0u8; MANY_MARKS];
-        pairs::clear(&mut many);
-        return answer_in(first, n, second, m, &mut many);
+        return in_marks::<MANY_MARKS>(first, second);
     }
     if size <= MOST {
-        let mut most = [0u8; MOST_MARKS];
-        pairs::clear(&mut most);
-        return answer_in(first, n, second, m, &mut most);
+        return in_marks::<MOST_MARKS>(first, second);
     }
-    let mut all = [0u8; ALL_MARKS];
-    pairs::clear(&mut all);
-    answer_in(first, n, second, m, &mut all)
+    in_marks::<ALL_MARKS>(first, second)
 }
 
 // The analysis of two scripts: the first refused, else whether they are free, hold an upward step, or meet. That does not depend on their
@@ -125,14 +134,13 @@ pub fn analyse(first: &[u8], second: &[u8]) -> Result<Answer, ScriptRefused>
     let n = positions_of(first, &mut positions);
     let mut others = [0usize; POSITIONS];
     let m = positions_of(second, &mut others);
-    let size = n * m;
-    if size <= FEW {
-        let mut few = [0u8; FEW_MARKS];
-        pairs::clear(&mut few);
-        return Ok(answer_in(&positions, n, &others, m, &mut few));
+    let firsts = &positions[..n];
+    let seconds = &others[..m];
+    if n * m <= FEW {
+        return Ok(in_marks::<FEW_MARKS>(firsts, seconds));
     }
     if m < n {
-        return Ok(in_table(&others, m, &positions, n));
+        return Ok(in_table(seconds, firsts));
     }
-    Ok(in_table(&positions, n, &others, m))
+    Ok(in_table(firsts, seconds))
 }

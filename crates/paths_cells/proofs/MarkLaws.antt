@@ -112,18 +112,3 @@ cleared_at (b ∷ t) (suc i) = cleared_at t i
 pub cleared_length : (t : List ℕ) → length (cleared t) ≡ length t
 unfolding cleared
 cleared_length t = length-map t (λ (b : ℕ). 0)
-
--- byte by byte
-pub zeroed : (t : List ℕ) (i : ℕ) → i < length t → ((j : ℕ) → j < i → get_or t j 0 ≡ 0) → (j : ℕ) → j < i + 1 → get_or (set t i 0) j 0 ≡ 0
-zeroed t i h z j l =
-    eq_cases j i
-    (λ e. ap (λ (k : ℕ). get_or (set t i 0) k 0) e ∙ get_or-set_same t i 0 0 h)
-    (λ e. get_or-set_other t i j 0 0 e ∙ z j (omega (arith, e)))
-
-pub all_zero : (t t' : List ℕ) → length t' ≡ length t → ((i : ℕ) → i < length t' → get_or t' i 0 ≡ 0) → t' ≡ cleared t
-unfolding cleared
-all_zero [] [] e h = refl
-all_zero [] (b ∷ t') e h = absurd (omega arith)
-all_zero (a ∷ t) [] e h = absurd (omega arith)
-all_zero (a ∷ t) (b ∷ t') e h =
-    ap (λ (x : ℕ). x ∷ t') (h 0 (omega arith)) ∙ ap (λ (l : List ℕ). 0 ∷ l) (all_zero t t' (omega arith) (λ i l. h (suc i) (omega arith)))

@@ -39,11 +39,7 @@ fn place(table: &[u8], columns: usize, relation: usize, k: usize, l: usize) -> u
 pub fn clear(table: &mut [u8])
     ensures { table.new ≡ cleared table.old }
 {
-    let mut i = 0;
-    while i < table.len() {
-        table[i] = 0;
-        i += 1;
-    }
+    table.fill(0);
 }
 
 // Marks a pair, where it holds. Where it does not, the pair is one not marked yet: so the byte is written either way, without a branch.

@@ -17,14 +17,7 @@ use plan_table::number;
 pub fn some_leads_up(positions: &[usize]) -> bool
     ensures { result ≡ some_leads_up positions.now }
 {
-    let mut i = 0;
-    while i < positions.len() {
-        if Position::unpacked(positions[i]).leads_up() {
-            return true;
-        }
-        i += 1;
-    }
-    false
+    positions.iter().any(|p| Position::unpacked(*p).leads_up())
 }
 
 // A pair with a union, number l of the second script: each relation is that of its parts a and b.
@@ -32,11 +25,9 @@ fn unions(table: &mut [u8], m: usize, k: usize, l: usize, a: usize, b: usize)
     requires { UnionsPre table.old m k l a b }
     ensures { UnionsPost table.old m k l a b table.new }
 {
-    let mut r = 0;
-    while r < pairs::RELATIONS {
+    for r in 0..pairs::RELATIONS {
         let holds = pairs::is_marked(table, m, r, k, a) | pairs::is_marked(table, m, r, k, b);
         pairs::mark(table, m, r, k, l, holds);
-        r += 1;
     }
 }
 
@@ -71,10 +62,8 @@ fn rest(first: &[usize], second: &[usize], columns: &[u8], table: &mut [u8], k: 
     requires { RestPre first.now second.now columns.now table.old k }
     ensures { RestPost first.now second.now table.old k table.new }
 {
-    let mut l = 0;
-    while l < second.len() {
+    for l in 0..second.len() {
         pair(first, second, columns, table, k, l);
-        l += 1;
     }
 }
 
@@ -197,10 +186,8 @@ fn union_row(
     ensures { RowPost first.now second.now table.old k table.new true }
 {
     let m = second.len();
-    let mut r = 0;
-    while r < pairs::RELATIONS {
+    for r in 0..pairs::RELATIONS {
         rows::union(table, m, r, k, p.first, p.second);
-        r += 1;
     }
 }
 
@@ -272,14 +259,12 @@ pub fn positions_meet(first: &[usize], second: &[usize], table: &mut [u8]) -> bo
     let mut columns = [0u8; columns::SIZE];
     columns::spread(second, &mut columns);
     let mut live = [0u8; POSITIONS];
-    let mut k = 0;
-    while k < first.len() {
+    for k in 0..first.len() {
         let seen = row(first, second, &columns, &live, table, k);
         live[k] = pairs::bit(seen);
         if row_meets(first, second, &columns, table, k, seen) {
             return true;
         }
-        k += 1;
     }
     false
 }

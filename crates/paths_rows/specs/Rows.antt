@@ -1,6 +1,8 @@
 -- The marks of a row, relation by relation: what each loop marks, from the marks and the columns that it reads.
 use Rattle.std.specs.Prelude.{◌≡◌, Bool, ◌&&◌, ◌||◌, not, List, ℕ, ◌+◌, ◌*◌, ◌%◌, ◌≤◌, ◌<◌, eqb, length, get_or}
+use Rattle.std.specs.Borrow.{Bor}
 use Rattle.model.specs.Base.{bit}
+use Rattle.paths_positions.specs.Answer.{any_up_to}
 use Rattle.paths_positions.specs.Packed.{root_kind, union_kind}
 use Rattle.paths_positions.specs.Steps.{max_positions}
 use Rattle.paths_cells.specs.Pairs.{on_element, down, up, on_leaf, relations, mark_at, is_marked, HasRows}
@@ -12,6 +14,28 @@ pub record RowMarked (t : List ℕ) (m r k : ℕ) (holds : ℕ → Bool) (n : �
   pub size : length t' ≡ length t
   pub here : (l : ℕ) → l < n → mark_at t' m r k l ≡ bit (holds l)
   pub others : (s i j : ℕ) → s < relations → j < m → (s ≡ r → i ≡ k → j < n → ⊥) → mark_at t' m s i j ≡ mark_at t m s i j
+
+-- ONE RELATION of a row, by a closure of the predicates pre and post, which is asked of the table as marked until then and of a column
+abbrev pub Computes : (post : Bor (List ℕ) → ℕ → Bool → Type 0) → (t : List ℕ) → (m r k : ℕ) → (holds : ℕ → Bool) → Type 0
+Computes post t m r k holds =
+    (x : Bor (List ℕ)) (l : ℕ) (b : Bool) → l < m → RowMarked t m r k holds l x.now → post x l b → b ≡ holds l
+
+abbrev pub CallsPre : (pre : Bor (List ℕ) → ℕ → Type 0) → (t : List ℕ) → (m : ℕ) → Type 0
+CallsPre pre t m = (x : Bor (List ℕ)) (l : ℕ) → l < m → length x.now ≡ length t → pre x l
+
+-- it marks room for the row, not marked yet, where the closure says yes, whatever test this computes, and says whether there is any
+pub record MarkRowPre (t : List ℕ) (m r k : ℕ) : Type 0 where
+  pub room : HasRows t m (k + 1)
+  pub relation : r < relations
+  pub clear : (l : ℕ) → l < m → mark_at t m r k l ≡ 0
+
+pub record MarkRowPost (post : Bor (List ℕ) → ℕ → Bool → Type 0) (t : List ℕ) (m r k : ℕ) (t' : List ℕ) (seen : Bool) : Type 0 where
+  pub is : (holds : ℕ → Bool) → Computes post t m r k holds → RowMarked t m r k holds m t' × (seen ≡ any_up_to holds m)
+
+-- what a test of column l asks of the columns
+pub record TestPre (c : List ℕ) (l : ℕ) : Type 0 where
+  pub size : length c ≡ fields * max_positions
+  pub column : l < max_positions
 
 -- what a row is marked from: room for it, columns, and the relation not marked yet
 pub record PassPre (t : List ℕ) (m r k : ℕ) (c : List ℕ) : Type 0 where

@@ -77,10 +77,8 @@ fn column(columns: &mut [u8], l: usize, q: Position)
     requires { ColumnPre columns.old l q }
     ensures { ColumnPost columns.old l q columns.new }
 {
-    let mut f = 0;
-    while f < FIELDS {
+    for f in 0..FIELDS {
         columns[POSITIONS * f + l] = field(f, q);
-        f += 1;
     }
 }
 
@@ -89,10 +87,8 @@ pub fn spread(positions: &[usize], columns: &mut [u8])
     requires { ColumnsPre positions.now columns.old }
     ensures { Columns positions.now columns.new }
 {
-    let mut l = 0;
-    while l < positions.len() {
-        column(columns, l, Position::unpacked(positions[l]));
-        l += 1;
+    for (l, p) in positions.iter().enumerate() {
+        column(columns, l, Position::unpacked(*p));
     }
 }
 

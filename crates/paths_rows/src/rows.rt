@@ -1,10 +1,12 @@
-// The marks of a row: what position k of the first script has in common with each of the second's. Each loop marks one relation from
-// others, so that the compiler can do many pairs at once.
-ghost use Rattle.std.specs.Prelude.{◌≡◌};
+// The marks of a row: what position k of the first script has in common with each of the second's. One loop, `mark_row`, marks a relation
+// from others by a closure without a branch, so that the compiler can do many pairs at once.
+ghost use Rattle.std.specs.Prelude.{◌≡◌, length};
 ghost use Rattle.paths_positions.specs.Answer.{any_up_to};
-ghost use Rattle.paths_cells.specs.Pairs.{on_element, down, on_leaf};
+ghost use Rattle.paths_positions.specs.Steps.{max_positions};
+ghost use Rattle.paths_cells.specs.Pairs.{on_element, down, on_leaf, PairPre};
 ghost use Rattle.paths_rows.specs.Rows.{is_yes, element_by, leaf_by, root_by, down_by, either_by, met_by, RowMarked};
 ghost use Rattle.paths_rows.specs.Rows.{ParentsPre, ParentsPost, PassPre, OnPre, DownPre, UnionPre, MetPre};
+ghost use Rattle.paths_rows.specs.Rows.{TestPre, MarkRowPre, CallsPre, MarkRowPost};
 
 use crate::columns;
 use paths_cells::pairs;
@@ -17,16 +19,36 @@ pub fn parents(table: &[u8], m: usize, columns: &[u8], i: usize, source: usize, 
     requires { ParentsPre table.now m columns.now i source parents.old }
     ensures { ParentsPost table.now m columns.now i source parents.old parents.new }
 {
-    let mut l = 0;
-    while l < m {
+    for l in 0..m {
         let j = number::byte(columns::at(columns, columns::FIRST, l));
         let past = columns::is_set(columns, columns::DEEP, l);
         parents[l] = pairs::bit(
             pairs::is_marked(table, m, source, i, j)
                 | (past & pairs::is_marked(table, m, pairs::DOWN, i, j)),
         );
-        l += 1;
     }
+}
+
+// Marks one relation of row k where `holds` says so, of the table as it is marked until then and of each column. Whether it says so of
+// any.
+fn mark_row<F: Fn(&[u8], usize) -> bool>(
+    table: &mut [u8],
+    m: usize,
+    relation: usize,
+    k: usize,
+    holds: F,
+) -> bool
+    requires row { MarkRowPre table.old m relation k }
+    requires calls { CallsPre (F.pre holds) table.old m }
+    ensures { MarkRowPost (F.post holds) table.old m relation k table.new result }
+{
+    let mut seen = false;
+    for l in 0..m {
+        let marked = holds(table, l);
+        pairs::mark(table, m, relation, k, l, marked);
+        seen = seen | marked;
+    }
+    seen
 }
 
 // A byte that says yes.
@@ -51,17 +73,17 @@ pub fn on_elements(
     ensures { RowMarked table.old m on_element k (element_by columns.now parents.now named low high)
         m table.new }
 {
-    let mut l = 0;
-    while l < m {
+    let holds = |_: &[u8], l: usize| -> bool
+        requires test { TestPre columns.now l }
+        requires space { length parents.now ≡ max_positions }
+        ensures { result ≡ element_by columns.entry.now parents.entry.now named low high l }
+    {
         let same = (columns::at(columns, columns::LOW, l) == low)
             & (columns::at(columns, columns::HIGH, l) == high);
         let both = named & columns::is_set(columns, columns::NAMED, l);
-        let holds = is_yes(parents[l])
-            & columns::is_set(columns, columns::ELEMENT, l)
-            & (!both | same);
-        pairs::mark(table, m, pairs::ON_ELEMENT, k, l, holds);
-        l += 1;
-    }
+        is_yes(parents[l]) & columns::is_set(columns, columns::ELEMENT, l) & (!both | same)
+    };
+    mark_row(table, m, pairs::ON_ELEMENT, k, holds);
 }
 
 // A leaf on both, from their parents, where the first one's step lets leaves pass. Whether there is any.
@@ -71,15 +93,12 @@ pub fn on_leaves(table: &mut [u8], m: usize, columns: &[u8], parents: &[u8], k: 
         table.new }
     ensures value { result ≡ any_up_to (leaf_by columns.now parents.now) m }
 {
-    let mut seen = false;
-    let mut l = 0;
-    while l < m {
-        let holds = is_yes(parents[l]) & columns::is_set(columns, columns::LEAF, l);
-        pairs::mark(table, m, pairs::ON_LEAF, k, l, holds);
-        seen = seen | holds;
-        l += 1;
-    }
-    seen
+    let holds = |_: &[u8], l: usize| -> bool
+        requires test { TestPre columns.now l }
+        requires space { length parents.now ≡ max_positions }
+        ensures { result ≡ leaf_by columns.entry.now parents.entry.now l }
+    { is_yes(parents[l]) & columns::is_set(columns, columns::LEAF, l) };
+    mark_row(table, m, pairs::ON_LEAF, k, holds)
 }
 
 // An element on both, of a document's root and each root of the second's.
@@ -87,14 +106,15 @@ pub fn on_roots(table: &mut [u8], m: usize, columns: &[u8], k: usize, low: u8, h
     requires { PassPre table.old m on_element k columns.now }
     ensures { RowMarked table.old m on_element k (root_by columns.now low high) m table.new }
 {
-    let mut l = 0;
-    while l < m {
+    let holds = |_: &[u8], l: usize| -> bool
+        requires { TestPre columns.now l }
+        ensures { result ≡ root_by columns.entry.now low high l }
+    {
         let same = (columns::at(columns, columns::LOW, l) == low)
             & (columns::at(columns, columns::HIGH, l) == high);
-        let holds = (number::byte(columns::at(columns, columns::KIND, l)) == packed::ROOT) & same;
-        pairs::mark(table, m, pairs::ON_ELEMENT, k, l, holds);
-        l += 1;
-    }
+        (number::byte(columns::at(columns, columns::KIND, l)) == packed::ROOT) & same
+    };
+    mark_row(table, m, pairs::ON_ELEMENT, k, holds);
 }
 
 // An element down: one on both, or, where the step from position i lets elements pass, one below what is down from i. Not yet of unions.
@@ -113,19 +133,18 @@ pub fn down(
         table.new }
     ensures value { result ≡ any_up_to (down_by table.old m columns.now i k element deep) m }
 {
-    let mut seen = false;
-    let mut l = 0;
-    while l < m {
+    let holds = |marks: &[u8], l: usize| -> bool
+        requires test { TestPre columns.now l }
+        requires source { PairPre marks.now m down i l }
+        requires own { PairPre marks.now m down k l }
+        ensures { result ≡ down_by marks.now m columns.entry.now i k element deep l }
+    {
         let union = number::byte(columns::at(columns, columns::KIND, l)) == packed::UNION;
-        let below = pairs::is_marked(table, m, pairs::DOWN, i, l)
-            | (deep & pairs::is_marked(table, m, pairs::UP, i, l));
-        let holds = pairs::is_marked(table, m, pairs::ON_ELEMENT, k, l)
-            | (element & !union & below);
-        pairs::mark(table, m, pairs::DOWN, k, l, holds);
-        seen = seen | holds;
-        l += 1;
-    }
-    seen
+        let below = pairs::is_marked(marks, m, pairs::DOWN, i, l)
+            | (deep & pairs::is_marked(marks, m, pairs::UP, i, l));
+        pairs::is_marked(marks, m, pairs::ON_ELEMENT, k, l) | (element & !union & below)
+    };
+    mark_row(table, m, pairs::DOWN, k, holds)
 }
 
 // A relation of a union: that of its parts a and b.
@@ -133,13 +152,12 @@ pub fn union(table: &mut [u8], m: usize, relation: usize, k: usize, a: usize, b:
     requires { UnionPre table.old m relation k a b }
     ensures { RowMarked table.old m relation k (either_by table.old m relation a b) m table.new }
 {
-    let mut l = 0;
-    while l < m {
-        let holds = pairs::is_marked(table, m, relation, a, l)
-            | pairs::is_marked(table, m, relation, b, l);
-        pairs::mark(table, m, relation, k, l, holds);
-        l += 1;
-    }
+    let holds = |marks: &[u8], l: usize| -> bool
+        requires first { PairPre marks.now m relation a l }
+        requires second { PairPre marks.now m relation b l }
+        ensures { result ≡ either_by marks.now m relation a b l }
+    { pairs::is_marked(marks, m, relation, a, l) | pairs::is_marked(marks, m, relation, b, l) };
+    mark_row(table, m, relation, k, holds);
 }
 
 // Position k meets one of this role.
@@ -148,13 +166,11 @@ pub fn meets(table: &[u8], m: usize, columns: &[u8], k: usize, role: usize) -> b
     ensures { result ≡ any_up_to (met_by table.now m columns.now k role) m }
 {
     let mut seen = false;
-    let mut l = 0;
-    while l < m {
+    for l in 0..m {
         let tested = number::byte(columns::at(columns, columns::ROLE, l)) == role;
         let met = pairs::is_marked(table, m, pairs::ON_ELEMENT, k, l)
             | pairs::is_marked(table, m, pairs::ON_LEAF, k, l);
         seen = seen | (tested & met);
-        l += 1;
     }
     seen
 }

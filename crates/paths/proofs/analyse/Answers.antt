@@ -4,7 +4,7 @@ use Rattle.std.proofs.lemmas.Result.{err_from_is_err_and}
 use Rattle.plan_table.specs.Refusals.{refusal_in}
 use Rattle.plan_table.specs.declared.Script.TheVariants.{First, Second}
 use Rattle.plan_table.proofs.ReasonLaws.{some_number}
-use Rattle.paths.proofs.AnalysisLaws.{fronts_asks, answer_asks, answer_swapped, clear_all}
+use Rattle.paths.proofs.AnalysisLaws.{fronts_asks, few_pairs, answer_swapped}
 use Rattle.paths.proofs.AnalysisLaws.{accepted, first_refused, second_refused, both_accepted}
 use Rattle.paths.proofs.analyse.Goals as goal
 
@@ -28,20 +28,27 @@ returns-in_err-map_err-2 c =
     (second_refused c.args.first.now c.args.second.now one (refusal_in f.refusal) (rw e at c.read_script-2.ensures)
     (some_number f.refusal.reason))
 
-pub answer_in-requires : goal.answer_in-requires
-answer_in-requires c =
-    answer_asks (fronts_asks c.args.first.now c.args.second.now c.positions_of-n.ensures c.positions_of-m.ensures)
-    _ (omega (arith, c.if-size-le-FEW.true)) (clear_all _ c.clear.ensures)
+pub in_marks-requires : goal.in_marks-requires
+in_marks-requires c =
+    record {
+      first = fronts_asks c.args.first.now c.positions_of-n.ensures;
+      second = fronts_asks c.args.second.now c.positions_of-m.ensures;
+      room = omega (arith, few_pairs c.args.first.now c.args.second.now c.positions_of-n.ensures c.positions_of-m.ensures);
+      size = omega arith;
+    }
 
-pub returns-then-size-le-FEW : goal.returns-then-size-le-FEW
-returns-then-size-le-FEW c =
+pub returns-then-n-m-le-FEW : goal.returns-then-n-m-le-FEW
+returns-then-n-m-le-FEW c =
     let one = accepted c.read_script.result c.args.first.now c.read_script.ensures c.in_ok-map_err.ensures.variant in
     let two = accepted c.read_script-2.result c.args.second.now c.read_script-2.ensures c.in_ok-map_err-2.ensures.variant in
-    both_accepted c.args.first.now c.args.second.now one two c.positions_of-n.ensures c.positions_of-m.ensures c.answer_in.ensures
+    both_accepted c.args.first.now c.args.second.now one two c.positions_of-n.ensures c.positions_of-m.ensures c.in_marks.ensures
 
 pub in_table-requires : goal.in_table-requires
 in_table-requires c =
-    fronts_asks c.args.second.now c.args.first.now c.positions_of-m.ensures c.positions_of-n.ensures
+    record {
+      first = fronts_asks c.args.second.now c.positions_of-m.ensures;
+      second = fronts_asks c.args.first.now c.positions_of-n.ensures;
+    }
 
 pub returns-then-m-n : goal.returns-then-m-n
 returns-then-m-n c =
@@ -52,7 +59,10 @@ returns-then-m-n c =
 
 pub in_table-requires-2 : goal.in_table-requires-2
 in_table-requires-2 c =
-    fronts_asks c.args.first.now c.args.second.now c.positions_of-n.ensures c.positions_of-m.ensures
+    record {
+      first = fronts_asks c.args.first.now c.positions_of-n.ensures;
+      second = fronts_asks c.args.second.now c.positions_of-m.ensures;
+    }
 
 pub returns : goal.returns
 returns c =

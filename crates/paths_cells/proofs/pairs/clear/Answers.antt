@@ -1,7 +1,9 @@
-use Rattle.std.proofs.Common.{◌-◌, arith}
-use Rattle.paths_cells.proofs.MarkLaws.{all_zero}
+use Rattle.std.proofs.Common.{◌∙◌, refl}
+use Rattle.std.proofs.lemmas.Simd.{splat_is_map}
+use Rattle.paths_cells.specs.Pairs.{cleared}
 use Rattle.paths_cells.proofs.pairs.clear.Goals as goal
 
 pub returns : goal.returns
+unfolding cleared
 returns c =
-    all_zero c.args.table.now c.loop-i.table c.loop-i.invariant.1 (λ i h. c.loop-i.invariant.2 i (omega arith))
+    c.fill.ensures.after (λ y e. e) ∙ splat_is_map c.args.table.now _ 0 refl

@@ -1,4 +1,4 @@
-use Rattle.std.proofs.Common.{◌∙◌, ◌-◌, arith}
+use Rattle.std.proofs.Common.{◌∙◌, arith}
 use Rattle.paths_rows.proofs.ColumnLaws.{field_written}
 use Rattle.paths_rows.proofs.columns.column.Goals as goal
 

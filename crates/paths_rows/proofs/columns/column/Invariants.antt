@@ -1,11 +1,6 @@
 -- `columns::column` writes one field after the other. The invariant: those below f are the position's, the other columns as they were.
-use Rattle.std.proofs.Common.{◌-◌}
-use Rattle.paths_rows.specs.Columns.{fields}
 use Rattle.paths_rows.proofs.ColumnLaws.{ColumnTo}
 use Rattle.paths_rows.proofs.columns.column.Given as goal
 
 abbrev pub invariant-loop-f : goal.invariant-loop-f
 invariant-loop-f l = ColumnTo l.initial.columns l.l l.q l.f l.columns
-
-abbrev pub decreases-loop-f : goal.decreases-loop-f
-decreases-loop-f l = fields - l.f

@@ -1,34 +1,21 @@
-use Rattle.std.proofs.Common.{◌-◌, ◌<◌, ◌∙◌, arith}
-use Rattle.paths_rows.proofs.RowLaws.{row_start, pair_asks, pass_asks, pass_step, any_none, any_step, down_by_lem}
+use Rattle.std.proofs.Common.{◌∙◌, arith}
+use Rattle.paths_rows.specs.Rows.{down_by}
+use Rattle.paths_rows.proofs.RowLaws.{pair_asks, down_same}
 use Rattle.paths_rows.proofs.rows.down.Goals as goal
 
-pub loop-l-init : goal.loop-l-init
-loop-l-init c =
-    (omega arith, row_start _ _ _ _ _, any_none _)
+pub mark_row-requires-clause-calls : goal.mark_row-requires-clause-calls
+mark_row-requires-clause-calls c =
+    λ x l h e. (
+      record { size = c.requires.pass.size; column = omega (arith, c.requires.pass.few) },
+      (
+        pair_asks c.args.table.now x.now _ e c.requires.source (omega arith) h,
+        pair_asks c.args.table.now x.now _ e c.requires.pass.room (omega arith) h,
+      ),
+    )
 
-pub is_marked-requires : goal.is_marked-requires
-is_marked-requires c =
-    pair_asks c.loop-l.invariant.1 _ c.requires.source (omega arith) (omega arith)
-
-pub is_marked-requires-in-loop-l : goal.is_marked-requires-in-loop-l
-is_marked-requires-in-loop-l c =
-    pair_asks c.loop-l.invariant.1 _ c.requires.source (omega arith) (omega arith)
-
-pub is_marked-requires-in-loop-l-2 : goal.is_marked-requires-in-loop-l-2
-is_marked-requires-in-loop-l-2 c =
-    pair_asks c.loop-l.invariant.1 _ c.requires.pass.room (omega arith) (omega arith)
-
-pub mark-requires : goal.mark-requires
-mark-requires c =
-    pass_asks c.loop-l.invariant.1 _ c.requires.pass (omega arith)
-
-pub loop-l-preserved : goal.loop-l-preserved
-loop-l-preserved c =
-    let h : c.loop-l.l < c.args.m = omega (arith, c.loop-l-test.true) in
-    let e = down_by_lem c.args.columns.now c.loop-l.l c.args.i c.args.element c.args.deep c.loop-l.invariant.1 h
-    (c.byte-union.ensures.value ∙
-    c.at.ensures)
-    c.is_marked.ensures
-    c.is_marked-in-loop-l.ensures
-    c.is_marked-in-loop-l-2.ensures in
-    (omega arith, pass_step c.loop-l.invariant.1 c.requires.pass h e c.mark.ensures, any_step _ _ c.loop-l.invariant.2 e)
+pub returns : goal.returns
+returns c =
+    let all = c.mark_row.ensures.is
+    (down_by c.args.table.now c.args.m c.args.columns.now c.args.i c.args.k c.args.element c.args.deep)
+    (λ x l b h w p. p ∙ down_same c.args.columns.now c.args.i c.args.element c.args.deep w h) in
+    record { row_marked = all.0; value = all.1 }

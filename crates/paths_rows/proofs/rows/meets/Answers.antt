@@ -1,10 +1,10 @@
-use Rattle.std.proofs.Common.{◌-◌, ◌∙◌, arith}
+use Rattle.std.proofs.Common.{◌∙◌}
 use Rattle.paths_rows.proofs.RowLaws.{any_none, any_step, met_by_lem}
 use Rattle.paths_rows.proofs.rows.meets.Goals as goal
 
 pub loop-l-init : goal.loop-l-init
 loop-l-init c =
-    (omega arith, any_none _)
+    any_none _
 
 pub loop-l-preserved : goal.loop-l-preserved
 loop-l-preserved c =
@@ -12,4 +12,4 @@ loop-l-preserved c =
     (c.byte.ensures.value ∙ c.at.ensures)
     c.is_marked.ensures
     c.is_marked-in-loop-l.ensures in
-    (omega arith, any_step _ _ c.loop-l.invariant.1 e)
+    any_step _ _ c.loop-l.invariant e

@@ -1,23 +1,16 @@
-use Rattle.std.proofs.Common.{◌-◌, ◌<◌, arith}
-use Rattle.paths_rows.proofs.RowLaws.{pair_asks, union_asks, union_step, either_by_lem}
+use Rattle.std.proofs.Common.{◌∙◌}
+use Rattle.paths_rows.specs.Rows.{either_by}
+use Rattle.paths_rows.proofs.RowLaws.{pair_asks, either_same}
 use Rattle.paths_rows.proofs.rows.union.Goals as goal
 
-pub is_marked-requires : goal.is_marked-requires
-is_marked-requires c =
-    pair_asks c.loop-l.invariant.1 _ c.requires.first c.requires.relation (omega arith)
+pub mark_row-requires-clause-calls : goal.mark_row-requires-clause-calls
+mark_row-requires-clause-calls c =
+    λ x l h e. (
+      pair_asks c.args.table.now x.now _ e c.requires.first c.requires.relation h,
+      pair_asks c.args.table.now x.now _ e c.requires.second c.requires.relation h,
+    )
 
-pub is_marked-requires-in-loop-l : goal.is_marked-requires-in-loop-l
-is_marked-requires-in-loop-l c =
-    pair_asks c.loop-l.invariant.1 _ c.requires.second c.requires.relation (omega arith)
-
-pub mark-requires : goal.mark-requires
-mark-requires c =
-    union_asks c.loop-l.invariant.1 _ c.requires (omega arith)
-
-pub loop-l-preserved : goal.loop-l-preserved
-loop-l-preserved c =
-    let h : c.loop-l.l < c.args.m = omega arith in
-    let e = either_by_lem c.args.a c.args.b c.loop-l.invariant.1 c.requires.relation h
-    c.is_marked.ensures
-    c.is_marked-in-loop-l.ensures in
-    (omega arith, union_step c.loop-l.invariant.1 c.requires h e c.mark.ensures)
+pub returns : goal.returns
+returns c =
+    (c.mark_row.ensures.is (either_by c.args.table.now c.args.m c.args.relation c.args.a c.args.b)
+    (λ x l b h w p. p ∙ either_same c.args.a c.args.b w c.requires.relation h)).0
