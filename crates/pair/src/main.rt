@@ -47,7 +47,6 @@ fn main(rt: HostRuntime) -> io::Result<()> {
     let mut second = [0u8; 4096];
     let k = read_file(&rt, "second", &mut second);
     let mut out = [0u8; pair_report::ROOM];
-    let written = pair_report::pair(&plan[..n], &first[..m], &second[..k], &mut out);
-    let bytes = written.bytes;
+    let bytes = pair_report::pair(&plan[..n], &first[..m], &second[..k], &mut out).unwrap();
     rt.stdout().write_all(&out[..bytes])
 }

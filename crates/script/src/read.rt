@@ -122,19 +122,20 @@ pub fn expression(
     if operands == 0 {
         return Ok(Parsed { place, records });
     }
-    let first = expression(bytes, place, left - 1, bound, records)?;
+    let left = left - 1;
+    let first = expression(bytes, place, left, bound, records)?;
     if operands == 1 {
         return Ok(first);
     }
     let second = expression(
         bytes,
         first.place,
-        left - 1,
+        left,
         kinds::inner(kind, bound),
         first.records,
     )?;
     if operands == 2 {
         return Ok(second);
     }
-    expression(bytes, second.place, left - 1, bound, second.records)
+    expression(bytes, second.place, left, bound, second.records)
 }

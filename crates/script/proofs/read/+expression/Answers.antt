@@ -72,11 +72,6 @@ returns-then-operands-eq1 t c =
     let f = first_read h c.kind_of-found.ensures (omega (arith, c.if-operands-eq0.false)) c.in_ok-first.ensures in
     ends_first f (omega (arith, ap operands_of c.kind_of-found.ensures, c.if-operands-eq1.true))
 
-pub overflow_sub-left-2 : goal.overflow_sub-left-2
-overflow_sub-left-2 t c =
-    let h = headed c.head.result c.requires c.head.ensures c.in_ok-map_err.ensures.variant in
-    (record_fits h).depth
-
 pub inner-requires : goal.inner-requires
 inner-requires t c =
     let h = headed c.head.result c.requires c.head.ensures c.in_ok-map_err.ensures.variant in
@@ -104,11 +99,6 @@ returns-then-operands-eq2 t c =
     let g = second_read f c.kind_of-found.ensures (omega (arith, c.if-operands-eq0.false, c.if-operands-eq1.false))
     c.inner.ensures c.in_ok-second.ensures in
     ends_second g (omega (arith, ap operands_of c.kind_of-found.ensures, c.if-operands-eq2.true))
-
-pub overflow_sub-left-3 : goal.overflow_sub-left-3
-overflow_sub-left-3 t c =
-    let h = headed c.head.result c.requires c.head.ensures c.in_ok-map_err.ensures.variant in
-    (record_fits h).depth
 
 pub expression-requires-3 : goal.expression-requires-3
 expression-requires-3 t c =
