@@ -19,10 +19,6 @@ use Rattle.model.specs.Table.{Tree}
 use Rattle.model.specs.Base.{nothing, over}
 use Rattle.plan_table.specs.Packed.{decode_parts, parts_fit, Canonical, LinksCut}
 use Rattle.plan_table.proofs.PackedLaws.{count_decode}
-use Rattle.plan_table.specs.Refusals.{number_of}
-use Rattle.plan_table.specs.declared.Reason.{Reason}
-use Rattle.plan_table.specs.declared.Reason.TheVariants.{Kind, Short, Tail, Field, Size, Link, Target, Items, Lent}
-use Rattle.plan_table.specs.declared.Reason.TheVariants as reason
 use Rattle.plan_table.proofs.LinkLaws.{links_same, links_then}
 use Rattle.model.proofs.ListLaws.{length_over}
 use Rattle.model.specs.Limits.{max_rows, history_need}
@@ -152,19 +148,6 @@ outcome_gives z v ws ms h p e = cond_eq _ _ e
 pub outcome_refused : (z : ℕ) (v ws ms h : List ℕ) (p : Progress) → (p.number ≡ 0 → ⊥) →
     outcome z v ws ms h p ≡ refused (refusal p.number z)
 outcome_refused z v ws ms h p e = cond_ne _ _ e
-
--- a reason's number is not that of none
-pub number_some : (r : Reason) → number_of r ≡ 0 → ⊥
-number_some Kind q = omega arith
-number_some Short q = omega arith
-number_some Tail q = omega arith
-number_some Field q = omega arith
-number_some Size q = omega arith
-number_some Link q = omega arith
-number_some Target q = omega arith
-number_some Items q = omega arith
-number_some reason.Table q = omega arith
-number_some Lent q = omega arith
 
 -- an outcome, and then the rest: as the rest goes on from the state
 pub then_goes : (f : State → Out) (z : ℕ) (v ws ms h : List ℕ) (p : Progress) → p.number ≡ 0 → {y : Out} →

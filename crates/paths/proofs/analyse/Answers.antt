@@ -15,7 +15,8 @@ returns-in_err-map_err c =
     let s : f.script ≡ First = grind arith in
     let p = err_from_is_err_and c.from_residual.result c.from_residual.ensures.1 in
     rw (p.1, p.2, s)
-    (first_refused c.args.first.now c.args.second.now (refusal_in f.refusal) (rw e at c.read_script.ensures) (some_number f.refusal.reason))
+    (first_refused c.args.first.now c.args.second.now (refusal_in f.refusal) (rw e at c.read_script.ensures)
+    (some_number f.refusal.reason))
 
 pub returns-in_err-map_err-2 : goal.returns-in_err-map_err-2
 returns-in_err-map_err-2 c =

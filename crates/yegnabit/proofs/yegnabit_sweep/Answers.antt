@@ -32,8 +32,8 @@ returns-in-Err c =
 pub fitting-kept-requires : goal.fitting-kept-requires
 fitting-kept-requires c =
     record {
-      fitting_parts = (parts_fit_lem c.args.plan.now _ _ _ c.in-Ok.ensures refl (bytes_known c.args.plan.now (λ i. (c.type_inv.plan i).fits))
-          c.records.auto.rows c.records.auto.marks);
+      fitting_parts = parts_fit_lem c.args.plan.now _ _ _ c.in-Ok.ensures refl
+          (bytes_known c.args.plan.now (λ i. (c.type_inv.plan i).fits)) c.records.auto.rows c.records.auto.marks;
       out_value = refl;
     }
 

@@ -2,7 +2,8 @@ use Rattle.std.proofs.Common.{arith, refl}
 use Rattle.run_eval.proofs.BinaryLaws.{second_asks, combine_asks, combine_yields}
 use Rattle.run_eval.proofs.BranchLaws.{then_asks, then_refused, then_yields}
 use Rattle.run_eval.proofs.LoopLaws.{one_asks, body_asks}
-use Rattle.run_eval.proofs.LoopLaws.{one_refused, one_all, begin_refused, begin_yields, near_asks, near_refused, near_all, far_asks, far_yields}
+use Rattle.run_eval.proofs.LoopLaws.{one_refused, one_all, begin_refused, begin_yields}
+use Rattle.run_eval.proofs.LoopLaws.{near_asks, near_refused, near_all, far_asks, far_yields}
 use Rattle.run_eval.proofs.ScopeLaws.{index_kept}
 use Rattle.script.proofs.AcceptedLaws.{accepted_record}
 use Rattle.run_eval.proofs.OperandLaws.{two_operands, for_operands, if_operands}

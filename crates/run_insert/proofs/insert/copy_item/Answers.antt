@@ -1,7 +1,7 @@
 -- `insert::copy_item` copies an item under the target and then its descendants, by the laws of InsertLawsItems.
 use Rattle.std.proofs.Common.{refl}
 use Rattle.std.proofs.lemmas.Result.{err_from_is_err_and}
-use Rattle.run_updates.proofs.StateLaws.{number_some}
+use Rattle.plan_table.proofs.ReasonLaws.{some_number}
 use Rattle.run_insert.proofs.InsertLawsItems.{item_pre, item_refused, item_rest, item_done}
 use Rattle.run_insert.proofs.insert.copy_item.Goals as goal
 
@@ -13,7 +13,7 @@ pub returns-in_err-next : goal.returns-in_err-next
 returns-in_err-next c =
     let p = err_from_is_err_and c.from_residual.result c.from_residual.ensures.1 in
     rw (p.1, p.2)
-    (item_refused c.requires c.relinked-w.ensures c.in_err-next.ensures (number_some c.in_err-next.field-0.0))
+    (item_refused c.requires c.relinked-w.ensures c.in_err-next.ensures (some_number c.in_err-next.field-0.0))
 
 pub copy_rest-requires : goal.copy_rest-requires
 copy_rest-requires c =

@@ -1,6 +1,6 @@
 use Rattle.std.proofs.Common.{refl, ◌∙◌}
 use Rattle.std.proofs.lemmas.Result.{err_from_is_err_and}
-use Rattle.run_updates.proofs.StateLaws.{number_some}
+use Rattle.plan_table.proofs.ReasonLaws.{some_number}
 use Rattle.run_insert.proofs.InsertLawsItems.{inserting_item, inserting_end}
 use Rattle.run_insert.proofs.InsertLawsItems.{inserting_refused, inserting_again}
 use Rattle.run_insert.proofs.insert.copy_items.Goals as goal
@@ -14,7 +14,7 @@ returns-in_err-now c =
     let p = err_from_is_err_and c.from_residual.result c.from_residual.ensures.1 in
     rw (p.1, p.2)
     (inserting_refused c.requires c.loop-item.invariant c.loop-item-test.true c.index.ensures.value c.in_err-now.ensures
-    (number_some c.in_err-now.field-0.0))
+    (some_number c.in_err-now.field-0.0))
 
 pub loop-item-preserved : goal.loop-item-preserved
 loop-item-preserved c =
