@@ -1,5 +1,6 @@
-// The tally that follows a run: rows made, links cut, records written. A run's is lent by &mut to the two thin methods that raise it; they
-// go over the two that compute the new numbers and take it by value: the form that the scope asks for.
+// The tally that follows a run: rows made, links cut, records written. The form is document 01's, a struct "lent by &mut, raised by few
+// thin functions over covered ones; first by value": so both pairs stay, `raise_` over `count_`. Made and cut have two methods each, as
+// they differ in the field that they raise, and a parameter that says which is no plainer.
 ghost use Rattle.std.specs.Prelude.{◌≡◌};
 ghost use Rattle.run_updates.specs.Tallying.{none_yet, HasRoom, plus_made, plus_cut};
 
