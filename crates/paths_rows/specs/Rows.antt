@@ -23,7 +23,8 @@ Computes post t m r k holds =
 abbrev pub CallsPre : (pre : Bor (List ℕ) → ℕ → Type 0) → (t : List ℕ) → (m : ℕ) → Type 0
 CallsPre pre t m = (x : Bor (List ℕ)) (l : ℕ) → l < m → length x.now ≡ length t → pre x l
 
--- it marks room for the row, not marked yet, where the closure says yes, whatever test this computes, and says whether there is any
+-- it asks for room for the row, not marked yet. Whatever test the closure computes, the row is marked where the test holds, and the answer
+-- is whether it holds of any column
 pub record MarkRowPre (t : List ℕ) (m r k : ℕ) : Type 0 where
   pub room : HasRows t m (k + 1)
   pub relation : r < relations

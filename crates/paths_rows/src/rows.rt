@@ -29,8 +29,8 @@ pub fn parents(table: &[u8], m: usize, columns: &[u8], i: usize, source: usize, 
     }
 }
 
-// Marks one relation of row k where `holds` says so, of the table as it is marked until then and of each column. Whether it says so of
-// any.
+// Marks one relation of row k, column by column, where `holds` says so of the table as marked until then and of the column. Whether it
+// says so of any.
 fn mark_row<F: Fn(&[u8], usize) -> bool>(
     table: &mut [u8],
     m: usize,
