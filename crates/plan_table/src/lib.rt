@@ -14,13 +14,13 @@ pub mod stored;
 
 // Three types, so that none stands for another: a row's number; an element's name; a link, which is a row's number plus one, or 0 for
 // none.
-#[derive(Clone, Copy)]
+#[derive(Clone, Copy, Debug, PartialEq, Eq)]
 pub struct RowNumber(pub usize);
 
-#[derive(Clone, Copy)]
+#[derive(Clone, Copy, Debug, PartialEq, Eq)]
 pub struct NameNumber(pub u16);
 
-#[derive(Clone, Copy)]
+#[derive(Clone, Copy, Debug, PartialEq, Eq)]
 pub struct Link(pub usize);
 
 // A plan: rows packed into numbers (packed.rt), zero past the count; a document's mark is its row's link.

@@ -1,2 +1,4 @@
 pub mod Walk
-pub mod KindsRead
+pub mod Kinds
+pub mod Steps
+pub mod Relations

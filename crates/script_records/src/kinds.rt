@@ -1,121 +1,100 @@
-// The kinds of a script's records: their numbers, and for each the bytes of its body and its operands.
+// The kinds of a script's records: their bytes, and for each the bytes of its body and its operands.
 ghost use Rattle.std.specs.Prelude.{◌≡◌, true, ◌≤◌, ◌<◌};
 ghost use Rattle.model.specs.Limits.{max_binders};
-ghost use Rattle.model.specs.Script.{is_script_kind, body_size, arity, is_binder};
+ghost use Rattle.model.specs.Script.{body_size, arity, is_binder};
 ghost use Rattle.script_records.specs.Walk.{inner};
-ghost use Rattle.script_records.specs.KindsRead.{kind_with, kind_read};
+ghost use Rattle.script_records.specs.Kinds.{byte_of, KindRead};
 
-pub const NIL: u8 = 0x01;
+use plan_table::Reason;
 
-pub const DOCUMENT: u8 = 0x02;
-
-pub const VARIABLE: u8 = 0x03;
-
-pub const STEP: u8 = 0x04;
-
-pub const JOIN: u8 = 0x05;
-
-pub const LET: u8 = 0x06;
-
-pub const FOR: u8 = 0x07;
-
-pub const IF: u8 = 0x08;
-
-pub const NEW_ELEMENT: u8 = 0x09;
-
-pub const NEW_LEAF: u8 = 0x0A;
-
-pub const DELETE: u8 = 0x0B;
-
-pub const INSERT: u8 = 0x0C;
-
-pub const PICK: u8 = 0x0D;
-
-// What a kind byte says of its record: that it is a kind, the bytes of its body, its operands.
-#[derive(Clone, Copy)]
-pub struct Kind {
-    pub known: bool,
-    pub body: usize,
-    pub operands: usize,
+#[derive(Clone, Copy, Debug, PartialEq, Eq)]
+pub enum Kind {
+    Nil = 0x01,
+    Document = 0x02,
+    Variable = 0x03,
+    Step = 0x04,
+    Join = 0x05,
+    Let = 0x06,
+    For = 0x07,
+    If = 0x08,
+    NewElement = 0x09,
+    NewLeaf = 0x0A,
+    Delete = 0x0B,
+    Insert = 0x0C,
+    Pick = 0x0D,
 }
 
-// A kind, with the bytes of its body and its operands.
-fn kind_with(body: usize, operands: usize) -> Kind
-    ensures { result ≡ kind_with true body operands }
-{
-    Kind {
-        known: true,
-        body,
-        operands,
+impl TryFrom<u8> for Kind {
+    type Error = Reason;
+
+    ghost try_from_gives = { KindRead };
+
+    // The kind that a byte is.
+    fn try_from(byte: u8) -> Result<Kind, Reason> {
+        match byte {
+            0x01 => Ok(Kind::Nil),
+            0x02 => Ok(Kind::Document),
+            0x03 => Ok(Kind::Variable),
+            0x04 => Ok(Kind::Step),
+            0x05 => Ok(Kind::Join),
+            0x06 => Ok(Kind::Let),
+            0x07 => Ok(Kind::For),
+            0x08 => Ok(Kind::If),
+            0x09 => Ok(Kind::NewElement),
+            0x0A => Ok(Kind::NewLeaf),
+            0x0B => Ok(Kind::Delete),
+            0x0C => Ok(Kind::Insert),
+            0x0D => Ok(Kind::Pick),
+            _ => Err(Reason::Kind),
+        }
     }
 }
 
-// The table of kinds; a byte that is no kind has neither body nor operands.
-pub fn kind_of(byte: u8) -> Kind
-    ensures { result ≡ kind_read byte }
-{
-    match byte {
-        NIL => kind_with(0, 0),
-        DOCUMENT => kind_with(1, 0),
-        VARIABLE => kind_with(1, 0),
-        STEP => kind_with(3, 1),
-        JOIN => kind_with(0, 2),
-        LET => kind_with(0, 2),
-        FOR => kind_with(0, 2),
-        IF => kind_with(0, 3),
-        NEW_ELEMENT => kind_with(1, 0),
-        NEW_LEAF => kind_with(1, 0),
-        DELETE => kind_with(0, 1),
-        INSERT => kind_with(0, 2),
-        PICK => kind_with(2, 1),
-        _ => Kind {
-            known: false,
-            body: 0,
-            operands: 0,
-        },
+impl Kind {
+    // Bytes of a body.
+    #[tactic(auto, unfolding(model::specs::Script::script_kinds))]
+    pub fn body_size(self) -> usize
+        ensures value { result ≡ body_size (byte_of self) }
+        ensures upper_bound { result < 4 }
+    {
+        match self {
+            Kind::Document | Kind::Variable | Kind::NewElement | Kind::NewLeaf => 1,
+            Kind::Pick => 2,
+            Kind::Step => 3,
+            Kind::Nil | Kind::Join | Kind::Let | Kind::For | Kind::If | Kind::Delete => 0,
+            Kind::Insert => 0,
+        }
     }
-}
 
-// The byte is a kind.
-pub fn is_kind(byte: u8) -> bool
-    ensures { result ≡ is_script_kind byte }
-{
-    kind_of(byte).known
-}
-
-// Bytes of a body.
-pub fn body_size(kind: u8) -> usize
-    ensures value { result ≡ body_size kind }
-    ensures upper_bound { result < 4 }
-{
-    kind_of(kind).body
-}
-
-// Operands of a record; none for a byte that is no kind.
-pub fn arity(kind: u8) -> usize
-    ensures value { result ≡ arity kind }
-    ensures upper_bound { result < 4 }
-{
-    kind_of(kind).operands
-}
-
-// Let and for bind a variable in their second operand.
-pub fn is_binder(kind: u8) -> bool
-    ensures { result ≡ is_binder kind }
-{
-    if kind == LET {
-        return true;
+    // Operands of a record.
+    #[tactic(auto, unfolding(model::specs::Script::script_kinds))]
+    pub fn arity(self) -> usize
+        ensures value { result ≡ arity (byte_of self) }
+        ensures upper_bound { result < 4 }
+    {
+        match self {
+            Kind::Nil | Kind::Document | Kind::Variable | Kind::NewElement | Kind::NewLeaf => 0,
+            Kind::Step | Kind::Delete | Kind::Pick => 1,
+            Kind::Join | Kind::Let | Kind::For | Kind::Insert => 2,
+            Kind::If => 3,
+        }
     }
-    kind == FOR
-}
 
-// Variables in scope in the second operand.
-pub fn inner(kind: u8, bound: usize) -> usize
-    requires { is_binder kind ≡ true → bound ≤ max_binders }
-    ensures { result ≡ inner kind bound }
-{
-    if is_binder(kind) {
-        return bound + 1;
+    // Let and for bind a variable in their second operand.
+    pub fn is_binder(self) -> bool
+        ensures { result ≡ is_binder (byte_of self) }
+    {
+        matches!(self, Kind::Let | Kind::For)
     }
-    bound
+
+    // Variables in scope in the second operand.
+    pub fn inner(self, bound: usize) -> usize
+        requires { is_binder (byte_of self) ≡ true → bound ≤ max_binders }
+        ensures { result ≡ inner (byte_of self) bound }
+    {
+        if self.is_binder() {
+            return bound + 1;
+        }
+        bound
+    }
 }

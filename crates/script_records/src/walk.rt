@@ -1,8 +1,19 @@
 // Walks a script in place.
 ghost use Rattle.std.specs.Prelude.{◌≡◌};
+ghost use Rattle.model.specs.Script.{body_size, arity};
 ghost use Rattle.script_records.specs.Walk.{end_at};
 
-use crate::kinds;
+use crate::kinds::Kind;
+
+// The bytes of the body and the operands of a record with this byte; none of either where it is no kind.
+fn sizes(byte: u8) -> (usize, usize)
+    ensures { (result.0 ≡ body_size byte) × (result.1 ≡ arity byte) }
+{
+    match Kind::try_from(byte) {
+        Ok(kind) => (kind.body_size(), kind.arity()),
+        Err(_) => (0, 0),
+    }
+}
 
 // The place past the expression at a place: the length where it is cut off, the place itself where nothing stands there.
 pub fn end_at(bytes: &[u8], at: usize) -> usize
@@ -14,10 +25,7 @@ pub fn end_at(bytes: &[u8], at: usize) -> usize
     let mut next = at;
     let mut pending = 1;
     while 0 < pending {
-        let kind = bytes[next];
-        let found = kinds::kind_of(kind);
-        let body = found.body;
-        let operands = found.operands;
+        let (body, operands) = sizes(bytes[next]);
         if bytes.len() - next - pending < body + operands {
             return bytes.len();
         }

@@ -1,6 +1,5 @@
-use Rattle.std.proofs.Common.{ap, sym, ◌-◌, arith, get_or}
+use Rattle.std.proofs.Common.{sym, ◌-◌, arith, get_or}
 use Rattle.model.proofs.KindLaws.{size_most, arity_most}
-use Rattle.script_records.proofs.KindLaws.{body_of, operands_of}
 use Rattle.script_records.proofs.WalkLaws.{past_empty, walk_ends, walk_short, walk_on}
 use Rattle.script_records.proofs.walk.end_at.Goals as goal
 
@@ -11,17 +10,17 @@ returns-then-bytes-at c =
 pub overflow_add-body : goal.overflow_add-body
 overflow_add-body c =
     let k = get_or c.args.bytes.now c.loop-pending.next 0 in
-    omega (arith, ap body_of c.kind_of-found.ensures, ap operands_of c.kind_of-found.ensures, size_most k, arity_most k)
+    omega (arith, c.sizes-body.ensures.0, c.sizes-body.ensures.1, size_most k, arity_most k)
 
 pub returns-then-bytes-next : goal.returns-then-bytes-next
 returns-then-bytes-next c =
-    walk_short c.loop-pending.invariant (omega arith) (ap body_of c.kind_of-found.ensures)
-    (ap operands_of c.kind_of-found.ensures) c.if-bytes-next.true
+    walk_short c.loop-pending.invariant (omega arith) c.sizes-body.ensures.0
+    c.sizes-body.ensures.1 c.if-bytes-next.true
 
 pub loop-pending-preserved : goal.loop-pending-preserved
 loop-pending-preserved c =
-    walk_on c.loop-pending.invariant (omega arith) (ap body_of c.kind_of-found.ensures)
-    (ap operands_of c.kind_of-found.ensures) (omega arith)
+    walk_on c.loop-pending.invariant (omega arith) c.sizes-body.ensures.0
+    c.sizes-body.ensures.1 (omega arith)
 
 pub returns : goal.returns
 returns c =

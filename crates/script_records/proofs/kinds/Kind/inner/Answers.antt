@@ -1,7 +1,7 @@
--- `kinds::inner` meets its contract: a binder binds one variable more, and there is room for it.
+-- `Kind::inner` meets its contract: a binder binds one variable more, and there is room for it.
 use Rattle.std.proofs.Common.{sym, ◌∙◌}
 use Rattle.script_records.specs.Walk.{inner}
-use Rattle.script_records.proofs.kinds.inner.Goals as goal
+use Rattle.script_records.proofs.kinds.Kind.inner.Goals as goal
 
 pub returns-then-is_binder : goal.returns-then-is_binder
 unfolding inner
