@@ -12,15 +12,15 @@ use crate::{Link, RowNumber, Table, marks, number, packed};
 fn tag_fits(w: u32) -> bool
     ensures { result ≡ tag_fits w }
 {
-    let kind = packed::kind(w);
     let tag = packed::tag(w);
     if 255 < tag {
         return false;
     }
-    if kind == packed::ELEMENT {
-        return 0 < tag;
+    match packed::kind(w) {
+        packed::ELEMENT => 0 < tag,
+        packed::LEAF => true,
+        _ => false,
     }
-    kind == packed::LEAF
 }
 
 // The row is one of the first rows, as many as the bound says, and an element.
@@ -32,7 +32,7 @@ fn is_element_below(rows: &[u32], bound: usize, row: RowNumber) -> bool
     if bound <= at {
         return false;
     }
-    packed::kind(rows[at]) != packed::LEAF
+    !packed::is_leaf(rows[at])
 }
 
 // The parent is an element with a lower number than the row.
