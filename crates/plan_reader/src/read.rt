@@ -40,16 +40,13 @@ fn row(kind: Kind, s: &[u8], rows: &mut [u32], count: usize, last: usize) -> Res
     if last != 0 {
         return Err(Reason::Link);
     }
-    let parent = number::number_at(s, 2);
-    if parent == number::NONE {
-        rows[count] = packed_row(kind, tag, Link(0));
-        return Ok(());
+    let stored = number::parent_at(s, 2);
+    if let Some(parent) = stored {
+        if !fit::is_lower_element(rows, RowNumber(count), parent) {
+            return Err(Reason::Link);
+        }
     }
-    if !fit::is_lower_element(rows, RowNumber(count), RowNumber(parent)) {
-        return Err(Reason::Link);
-    }
-    let link = parent + 1;
-    rows[count] = packed_row(kind, tag, Link(link));
+    rows[count] = packed_row(kind, tag, Link::to(stored));
     Ok(())
 }
 

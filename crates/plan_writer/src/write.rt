@@ -55,10 +55,10 @@ pub fn rows(out: &mut [u8], rows: &[u32], count: usize)
 fn mark_length(link: Link) -> usize
     ensures { (d : ℕ) → result ≡ length (mark_bytes d (of_link link.0)) }
 {
-    if link.0 == 0 {
-        return 0;
+    match link.row() {
+        None => 0,
+        Some(_) => stored::SIZE,
     }
-    stored::SIZE
 }
 
 // One mark's record at a place, if there is a mark.
@@ -67,7 +67,7 @@ fn mark(out: &mut [u8], at: usize, document: u8, link: Link)
     requires link_in_bounds { at + length (mark_bytes document (of_link link.0)) ≤ length out.old }
     ensures { out.new ≡ over at (mark_bytes document (of_link link.0)) out.old }
 {
-    if link.0 == 0 {
+    if link.row().is_none() {
         return;
     }
     put(out, at, Kind::Mark, document, link);

@@ -70,11 +70,7 @@ fn same_parent(link: Link, s: &[u8]) -> bool
     requires { made_size ≤ length s.now }
     ensures { result ≡ same_parent (of_link link.0) (parent_in (number_at s.now 4)) }
 {
-    let number = number::number_at(s, 4);
-    if number == number::NONE {
-        return link.0 == 0;
-    }
-    link.0 == number + 1
+    link.row() == number::parent_at(s, 4)
 }
 
 // The row made by the record s of a kind is the last, unmarked, and equal to it.
