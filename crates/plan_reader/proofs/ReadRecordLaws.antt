@@ -3,7 +3,7 @@ use mathlib.Core.Path.{◌≡◌, refl, ap, sym, ◌∙◌}
 use mathlib.Core.Bool.{Bool, true, false, ◌&&◌, not, cond}
 use mathlib.Core.List.{List, [], ◌∷◌, map}
 use mathlib.Core.Option.{Option, none, some}
-use Prim.Native.Nat.{ℕ, zero, suc, ◌+◌, ◌*◌, ◌≤◌, ◌<◌}
+use Prim.Native.Nat.{ℕ, zero, suc, ◌+◌, ◌≤◌, ◌<◌}
 use native.Mathlib.Omega.{arith}
 use lib.Dec.{eqb}
 use lib.ListN.{length, length-map, length-set, get_or, set}
@@ -12,12 +12,12 @@ use Rattle.model.specs.Base.{any, max_byte}
 use Rattle.model.specs.Limits.{max_rows, documents, max_name}
 use Rattle.model.specs.Refusal.{refusal, fine, link_at, unless}
 use Rattle.model.specs.Table as model
-use Rattle.model.specs.Stored.{element_kind, leaf_kind, mark_kind, stored_kinds, is_stored_kind, record_size, no_parent, is_mark}
+use Rattle.model.specs.Stored.{element_kind, mark_kind, stored_kinds, is_stored_kind, record_size, no_parent, is_mark}
 use Rattle.model.specs.Stored.{number_at, row_in, row_refusal, mark_refusal, last_marked, record_refusal}
 use Rattle.model.proofs.BoolLaws.{by_cases, eq_cases, cond_eq, cond_false}
 use Rattle.model.proofs.KindLaws.{row_kind, stored_size_lem}
 use Rattle.model.proofs.BytesLaws.{last_marked_above}
-use Rattle.plan_table.specs.Packed.{element_bits, leaf_bits, link_of, of_link, pack_row, rows_of, pack_rows, decode_parts, link_room}
+use Rattle.plan_table.specs.Packed.{link_of, of_link, pack_row, rows_of, pack_rows, decode_parts, link_room}
 use Rattle.plan_table.specs.Fitting.{is_element_below, is_root_below}
 use Rattle.plan_reader.specs.Reading.{last_of, RowPre, RowPost, MarkPre, MarkPost, RecordPre, RecordPost, Recorded}
 use Rattle.plan_table.proofs.PackedLaws.{of_link_link_of, count_decode, canonical_push}
@@ -35,16 +35,6 @@ tag_fits s kind row f b =
     row_kind (get_or s 0 0) kind row
     (λ e. let k : 1 ≤ get_or s 1 0 = omega (arith, f e) in rw (e, le-leb 1 (get_or s 1 0) k) (le-leb (get_or s 1 0) max_name b))
     (λ e. rw e (le-leb (get_or s 1 0) max_byte b))
-
--- the row at the front, packed
-module _ (s : List ℕ) where
-  pub packed_none : number_at s 2 ≡ no_parent →
-      cond (eqb (get_or s 0 0) leaf_kind) leaf_bits element_bits + 4 * 0 + 4096 * get_or s 1 0 ≡ pack_row (row_in s)
-  packed_none h = rw (eq-eqb (number_at s 2) no_parent h)
-
-  pub packed_some : (number_at s 2 ≡ no_parent → ⊥) →
-      cond (eqb (get_or s 0 0) leaf_kind) leaf_bits element_bits + 4 * (number_at s 2 + 1) + 4096 * get_or s 1 0 ≡ pack_row (row_in s)
-  packed_some h = rw (ne_eqb (number_at s 2) no_parent h)
 
 pub link_none : (s : List ℕ) → number_at s 2 ≡ no_parent → link_of (row_in s).parent < link_room
 link_none s h = rw (eq-eqb (number_at s 2) no_parent h) (omega arith)

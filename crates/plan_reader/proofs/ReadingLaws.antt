@@ -1,21 +1,18 @@
 -- Reading a plan, record by record: each turn, the start and the end.
 use mathlib.Core.Path.{◌≡◌, ap, sym, ◌∙◌}
 use mathlib.Core.List.{List, [], map}
-use mathlib.Core.Bool.{true}
 use Prim.Native.Nat.{ℕ, suc, ◌+◌, ◌-◌, ◌≤◌, ◌<◌}
 use native.Mathlib.Omega.{arith}
-use lib.ListN.{length, length-drop, get_or, take, drop}
+use lib.ListN.{length, length-drop, take, drop}
 use lib.Seq.{drop-drop}
 use borrow.Author.Tests.{ne_eqb}
 use Rattle.model.specs.Refusal.{refusal, fine, is_fine, refusal_at}
 use Rattle.model.specs.Table as model
-use Rattle.model.specs.Stored.{is_stored_kind, record_size, last_marked, record_refusal, recorded, read_from, read_plan, refused, got}
-use Rattle.model.proofs.BoolLaws.{cond_true, cond_ne}
-use Rattle.model.proofs.KindLaws.{stored_size_lem}
-use Rattle.model.proofs.ListLaws.{drop_all, drop_first}
-use Rattle.model.proofs.StoredLaws.{read_from_end, read_from_fine, read_from_refused, read_from_fuel, fine_kind}
+use Rattle.model.specs.Stored.{record_size, last_marked, record_refusal, recorded, read_from, read_plan, refused, got}
+use Rattle.model.proofs.BoolLaws.{cond_ne}
+use Rattle.model.proofs.ListLaws.{drop_all}
+use Rattle.model.proofs.StoredLaws.{read_from_end, read_from_fine, read_from_refused, read_from_fuel}
 use Rattle.plan_table.specs.Packed.{of_link, decode_parts}
-use Rattle.plan_table.specs.StoredKinds.{size_read}
 use Rattle.plan_reader.specs.Reading.{last_of, RecordRead, RecordPost, Held, ReadPre, ReadPost}
 
 -- reading goes on from what is held, at a place
@@ -45,30 +42,23 @@ module _ (b ws ms : List ℕ) (n at : ℕ) (h : at < length b)
           room = λ k. absurd (z k);
         }
 
-    pub reading_on : r.number ≡ 0 → {size : ℕ} → size ≡ size_read (get_or b at 0) → (0 < size) × (at + size ≤ length b) ×
-        (read_from (length b - (at + size)) (decode_parts r.count ws' ms') (at + size) (drop (at + size) b) ≡ read_plan b)
-    reading_on z {size} k =
+    pub reading_on : r.number ≡ 0 → (at + record_size ≤ length b) × (read_from (length b - (at + record_size))
+        (decode_parts r.count ws' ms') (at + record_size) (drop (at + record_size) b) ≡ read_plan b)
+    reading_on z =
         let w : record_size ≤ length (take (length b - at) (drop at b)) = (post.fine z).whole in
         let e : record_refusal (decode_parts n ws ms) at (drop at b) ≡ fine = refusals ∙ rw z in
-        let q : size ≡ record_size = k ∙ size_four (ap is_fine e) in
-        let l : at + record_size ≤ length b = omega (arith, ap length (drop_all b at), length-drop at b) in
-        let g : read_from (length b - (at + record_size)) (decode_parts r.count ws' ms') (at + record_size) (drop (at + record_size) b) ≡
-        read_plan b =
-        read_from_fuel (length b - (at + record_size)) (length b - at - 1) (decode_parts r.count ws' ms') (at + record_size)
-        (drop (at + record_size) b) (omega (arith, length-drop (at + record_size) b)) (omega (arith, length-drop (at + record_size) b)) ∙
-        ap (λ (x : model.Table). read_from (length b - at - 1) x (at + record_size) (drop (at + record_size) b))
-        ((post.fine z).table ∙ ap (recorded (decode_parts n ws ms)) (drop_all b at)) ∙
-        ap (read_from (length b - at - 1) (recorded (decode_parts n ws ms) (drop at b)) (at + record_size))
-        (sym (drop-drop record_size at b)) ∙
-        sym (read_from_fine (length b - at - 1) (decode_parts n ws ms) at (drop at b) more (ap is_fine e)) ∙
-        ap (λ (j : ℕ). read_from j (decode_parts n ws ms) at (drop at b)) (sym fuel) ∙ held in
-        (omega (arith, q), omega (arith, q, l), rw q g)
-      where
-        size_four : is_fine (record_refusal (decode_parts n ws ms) at (drop at b)) ≡ true → size_read (get_or b at 0) ≡ record_size
-        size_four f =
-            let k = fine_kind (decode_parts n ws ms) at (drop at b) f in
-            let h : is_stored_kind (get_or b at 0) ≡ true = sym (ap (λ (j : ℕ). is_stored_kind j) (drop_first b at)) ∙ k in
-            cond_true (is_stored_kind (get_or b at 0)) _ 0 h ∙ stored_size_lem (get_or b at 0) h
+        let l : at + record_size ≤ length b = omega (arith, ap length (drop_all b at), length-drop at b) in (
+          l,
+          read_from_fuel (length b - (at + record_size)) (length b - at - 1) (decode_parts r.count ws' ms') (at + record_size)
+              (drop (at + record_size) b) (omega (arith, length-drop (at + record_size) b))
+              (omega (arith, length-drop (at + record_size) b)) ∙
+              ap (λ (x : model.Table). read_from (length b - at - 1) x (at + record_size) (drop (at + record_size) b))
+              ((post.fine z).table ∙ ap (recorded (decode_parts n ws ms)) (drop_all b at)) ∙
+              ap (read_from (length b - at - 1) (recorded (decode_parts n ws ms) (drop at b)) (at + record_size))
+              (sym (drop-drop record_size at b)) ∙
+              sym (read_from_fine (length b - at - 1) (decode_parts n ws ms) at (drop at b) more (ap is_fine e)) ∙
+              ap (λ (j : ℕ). read_from j (decode_parts n ws ms) at (drop at b)) (sym fuel) ∙ held,
+        )
 
 -- the start: the empty table
 module _ (ws ms : List ℕ) (pre : ReadPre ws ms) where

@@ -1,10 +1,12 @@
 // Reads a stored plan, record by record: per record 1, 5, 2, 4, 6.
-ghost use Rattle.std.specs.Prelude.{◌≡◌, cond, ◌+◌, ◌*◌, ◌<◌, eqb};
+ghost use Rattle.std.specs.Prelude.{◌≡◌, cond, ◌+◌, ◌*◌, ◌<◌, eqb, get_or};
 ghost use Rattle.model.specs.Stored.{leaf_kind};
 ghost use Rattle.plan_table.specs.Packed.{element_bits, leaf_bits, link_room};
+ghost use Rattle.plan_table.specs.StoredKinds.{byte_of};
 ghost use Rattle.plan_table.specs.Results.{end_by, number_by};
 ghost use Rattle.plan_reader.specs.Reading.{RowPre, RowPost, MarkPre, MarkPost, RecordPre, RecordPost, ReadPre, ReadPost, record_by};
 
+use plan_table::stored::Kind;
 use plan_table::{Link, Reason, Refusal, RowNumber, Table, fit, marks, number, packed, stored};
 
 // After a record: rows so far; one more than the last document that marks a row.
@@ -15,41 +17,36 @@ pub struct RecordRead {
 }
 
 // A stored row, packed: its kind and its name or value as they are stored, its parent's link.
-fn packed_row(kind: u8, tag: u8, parent: Link) -> u32
+fn packed_row(kind: Kind, tag: u8, parent: Link) -> u32
     requires { parent.0 < link_room }
-    ensures { result ≡ cond (eqb kind leaf_kind) leaf_bits element_bits + 4 * parent.0 + 4096 * tag }
+    ensures { result ≡ cond (eqb (byte_of kind) leaf_kind) leaf_bits element_bits + 4 * parent.0 + 4096 * tag }
 {
-    if kind == stored::LEAF {
-        return packed::leaf(tag, parent);
+    match kind {
+        Kind::Leaf => packed::leaf(tag, parent),
+        Kind::Element | Kind::Mark => packed::element(number::name(tag), parent),
     }
-    packed::element(number::name(tag), parent)
 }
 
-// The row at the front of s; not refused, the table has it.
-fn row(s: &[u8], rows: &mut [u32], count: usize, last: usize) -> Result<(), Reason>
-    requires { RowPre s.now rows.old count }
+// The row at the front of s, of a kind; not refused, the table has it.
+fn row(kind: Kind, s: &[u8], rows: &mut [u32], count: usize, last: usize) -> Result<(), Reason>
+    requires front { byte_of kind ≡ get_or s.now 0 0 }
+    requires row { RowPre s.now rows.old count }
     ensures { RowPost s.now rows.old count last rows.new (number_by result) }
 {
-    let kind = s[0];
     let tag = s[1];
-    if kind == stored::ELEMENT {
-        if tag == 0 {
-            return Err(Reason::Field);
-        }
+    if kind == Kind::Element && tag == 0 {
+        return Err(Reason::Field);
     }
     if last != 0 {
         return Err(Reason::Link);
     }
-    let parent = number::number_at(s, 2);
-    if parent == number::NONE {
-        rows[count] = packed_row(kind, tag, Link(0));
-        return Ok(());
+    let stored = number::parent_at(s, 2);
+    if let Some(parent) = stored {
+        if !fit::is_lower_element(rows, RowNumber(count), parent) {
+            return Err(Reason::Link);
+        }
     }
-    if !fit::is_lower_element(rows, RowNumber(count), RowNumber(parent)) {
-        return Err(Reason::Link);
-    }
-    let link = parent + 1;
-    rows[count] = packed_row(kind, tag, Link(link));
+    rows[count] = packed_row(kind, tag, Link::to(stored));
     Ok(())
 }
 
@@ -88,32 +85,32 @@ fn read_record(
     ensures { RecordPost s.now rows.old marks.old count
         rows.new marks.new (record_by result) }
 {
-    let kind = s[0];
-    let size = stored::size(kind);
-    if size == 0 {
-        return Err(Reason::Kind);
-    }
-    if kind != stored::MARK {
-        if Table::ROWS <= count {
-            return Err(Reason::Size);
+    let kind = Kind::try_from(s[0])?;
+    match kind {
+        Kind::Mark => {
+            if s.len() < stored::SIZE {
+                return Err(Reason::Short);
+            }
+            mark(s, rows, marks, count, last)?;
+            Ok(RecordRead {
+                count,
+                last: number::byte(s[1]) + 1,
+            })
+        }
+        Kind::Element | Kind::Leaf => {
+            if Table::ROWS <= count {
+                return Err(Reason::Size);
+            }
+            if s.len() < stored::SIZE {
+                return Err(Reason::Short);
+            }
+            row(kind, s, rows, count, last)?;
+            Ok(RecordRead {
+                count: count + 1,
+                last,
+            })
         }
     }
-    if s.len() < size {
-        return Err(Reason::Short);
-    }
-    if kind == stored::MARK {
-        mark(s, rows, marks, count, last)?;
-        let document = number::byte(s[1]);
-        return Ok(RecordRead {
-            count,
-            last: document + 1,
-        });
-    }
-    row(s, rows, count, last)?;
-    Ok(RecordRead {
-        count: count + 1,
-        last,
-    })
 }
 
 // Every record, into an empty table; how many rows they are.
@@ -124,17 +121,14 @@ pub fn records(bytes: &[u8], rows: &mut [u32], marks: &mut [u16]) -> Result<usiz
     let mut at = 0;
     let mut count = 0;
     let mut last = 0;
-    // A while: how far on the next record stands is told by this one's kind, which no range or chunk says plainer.
     while at < bytes.len() {
-        // Taken before the rows are written: after that the compiler would load it again.
-        let kind = bytes[at];
         let read = read_record(&bytes[at..], rows, marks, count, last).map_err(|reason| Refusal {
             reason,
             place: at,
         })?;
         count = read.count;
         last = read.last;
-        at += stored::size(kind);
+        at += stored::SIZE;
     }
     Ok(count)
 }

@@ -5,6 +5,6 @@ pub mod FittedLaws
 pub mod EncodeLaws
 pub mod FlagLaws
 pub mod LinkLaws
-pub mod SizeLaws
+pub mod StoredKindLaws
 pub mod ByteLaws
 pub mod ReasonLaws

@@ -15,6 +15,7 @@ use borrow.Author.Tests.{eq-eqb, ne_eqb, leb-true, eqb-true, eqb-false}
 use Rattle.model.specs.Limits.{max_rows, max_name}
 use Rattle.model.specs.Base.{is_in, all, max_byte}
 use Rattle.model.specs.Table as model
+use Rattle.model.specs.Stored.{parent_in, no_parent}
 use Rattle.model.proofs.BoolLaws.{and_left, and_right, by_cases, cond_ne}
 use Rattle.model.proofs.TestLaws.{is_in_at, is_in_by}
 use Rattle.model.proofs.ListLaws.{map_set, map_back, take_next, take_set, all_get_d}
@@ -34,6 +35,26 @@ link_of_of_link (suc n) = rw (ne_eqb (suc n) 0 (λ e. omega arith)) (omega arith
 
 pub of_link_some : (l : ℕ) → (l ≡ 0 → ⊥) → of_link l ≡ some (l - 1)
 of_link_some l z = cond_ne none (some (l - 1)) z
+
+-- a stored parent that is there, and none
+pub stored_some : (n : ℕ) {r : ℕ} → some r ≡ parent_in n → (n ≡ no_parent → ⊥) × (r ≡ n)
+stored_some n {r} e =
+    by_cases (eqb n no_parent) (λ t. let f : some r ≡ none = rw t at e in absurd (grind (arith, f)))
+    (λ t. let f : some r ≡ some n = rw t at e in (eqb-false n no_parent t, grind (arith, f)))
+
+pub stored_none : (n : ℕ) → none ≡ parent_in n → n ≡ no_parent
+stored_none n e =
+    by_cases (eqb n no_parent) (λ t. eqb-true n no_parent t) (λ t. let f : none ≡ some n = rw t at e in absurd (grind (arith, f)))
+
+-- a link to a row, and to none
+pub linked : (link : ℕ) {r : ℕ} → some r ≡ of_link link → (link ≡ 0 → ⊥) × (r ≡ link - 1)
+linked link {r} e =
+    by_cases (eqb link 0) (λ t. let f : some r ≡ none = rw t at e in absurd (grind (arith, f)))
+    (λ t. let f : some r ≡ some (link - 1) = rw t at e in (eqb-false link 0 t, grind (arith, f)))
+
+pub unlinked : (link : ℕ) → none ≡ of_link link → link ≡ 0
+unlinked link e =
+    by_cases (eqb link 0) (λ t. eqb-true link 0 t) (λ t. let f : none ≡ some (link - 1) = rw t at e in absurd (grind (arith, f)))
 
 -- A ROW, packed, where there is room for its parent's link
 kind_packed : (r : model.Row) → link_of r.parent < link_room → eqb (kind_in (pack_row r)) leaf_bits ≡ r.is_leaf

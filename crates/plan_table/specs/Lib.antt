@@ -1,4 +1,5 @@
 pub mod Packed
+pub mod Links
 pub mod Refusals
 pub mod Results
 pub mod StoredKinds

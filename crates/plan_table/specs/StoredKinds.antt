@@ -1,7 +1,17 @@
--- What the code's table of stored kinds answers.
-use Rattle.std.specs.Prelude.{cond, ℕ}
-use Rattle.model.specs.Stored.{is_stored_kind, stored_size}
+-- The kinds of a stored plan's records in the code, and their bytes.
+use Rattle.std.specs.Prelude.{◌≡◌, false, ℕ, Result, MatchResult}
+use Rattle.model.specs.Stored.{element_kind, leaf_kind, mark_kind, is_stored_kind}
+use Rattle.plan_table.specs.declared.Reason as reason
+use Rattle.plan_table.specs.declared.Reason.TheVariants as reasons
+use Rattle.plan_table.specs.declared.stored.Kind.{Kind}
+use Rattle.plan_table.specs.declared.stored.Kind.TheVariants.{Element, Leaf, Mark}
 
--- bytes of a record, or 0 where the byte is no kind
-abbrev pub size_read : (kind : ℕ) → ℕ
-size_read k = cond (is_stored_kind k) (stored_size k) 0
+-- the byte of a kind
+abbrev pub byte_of : Kind → ℕ
+byte_of Element = element_kind
+byte_of Leaf = leaf_kind
+byte_of Mark = mark_kind
+
+-- a byte read: the kind that has it, or refused where it is none
+abbrev pub KindRead : (byte : ℕ) → Result Kind reason.Reason → Type 0
+KindRead b r = MatchResult r (λ k. byte_of k ≡ b) (λ x. (is_stored_kind b ≡ false) × (x ≡ reasons.Kind))

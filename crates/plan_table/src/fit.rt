@@ -12,15 +12,15 @@ use crate::{Link, RowNumber, Table, marks, number, packed};
 fn tag_fits(w: u32) -> bool
     ensures { result ≡ tag_fits w }
 {
-    let kind = packed::kind(w);
     let tag = packed::tag(w);
     if 255 < tag {
         return false;
     }
-    if kind == packed::ELEMENT {
-        return 0 < tag;
+    match packed::kind(w) {
+        packed::ELEMENT => 0 < tag,
+        packed::LEAF => true,
+        _ => false,
     }
-    kind == packed::LEAF
 }
 
 // The row is one of the first rows, as many as the bound says, and an element.
@@ -32,7 +32,7 @@ fn is_element_below(rows: &[u32], bound: usize, row: RowNumber) -> bool
     if bound <= at {
         return false;
     }
-    packed::kind(rows[at]) != packed::LEAF
+    !packed::is_leaf(rows[at])
 }
 
 // The parent is an element with a lower number than the row.
@@ -60,11 +60,10 @@ fn link_fits(rows: &[u32], row: RowNumber, link: Link) -> bool
     requires { row.0 < length rows.now }
     ensures { result ≡ link_fits rows.now row.0 link.0 }
 {
-    if link.0 == 0 {
-        return true;
+    match link.row() {
+        None => true,
+        Some(parent) => is_lower_element(rows, row, parent),
     }
-    let at = link.0 - 1;
-    is_lower_element(rows, row, RowNumber(at))
 }
 
 // A row fits.
@@ -106,11 +105,10 @@ fn mark_fits(rows: &[u32], count: usize, link: Link) -> bool
     requires { count ≤ length rows.now }
     ensures { result ≡ mark_fits rows.now count link.0 }
 {
-    if link.0 == 0 {
-        return true;
+    match link.row() {
+        None => true,
+        Some(row) => is_root_below(rows, count, row),
     }
-    let at = link.0 - 1;
-    is_root_below(rows, count, RowNumber(at))
 }
 
 // The marks fit, and no two are the same.
@@ -119,13 +117,12 @@ fn marks_fit(rows: &[u32], count: usize, marks: &[u16]) -> bool
     ensures { result ≡ marks_fit rows.now count marks.now }
 {
     for (d, mark) in marks.iter().enumerate() {
-        let link = number::index(*mark);
-        if !mark_fits(rows, count, Link(link)) {
+        let link = Link(number::index(*mark));
+        if !mark_fits(rows, count, link) {
             return false;
         }
-        if link != 0 {
-            let row = link - 1;
-            if marks::is_marked(&marks[d + 1..], RowNumber(row)) {
+        if let Some(row) = link.row() {
+            if marks::is_marked(&marks[d + 1..], row) {
                 return false;
             }
         }

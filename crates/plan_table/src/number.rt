@@ -1,10 +1,11 @@
 // Numbers of one byte and of two: widened, as a name, read from a record, and stored for a parent.
 ghost use Rattle.std.specs.Prelude.{◌≡◌, ◌+◌, ◌<◌, length};
 ghost use Rattle.model.specs.Base.{over};
-ghost use Rattle.model.specs.Stored.{number_at, number_bytes, parent_bytes};
+ghost use Rattle.model.specs.Stored.{number_at, number_bytes, parent_bytes, parent_in};
+ghost use Rattle.plan_table.specs.Links.{row_by};
 ghost use Rattle.plan_table.specs.Packed.{of_link};
 
-use crate::{Link, NameNumber};
+use crate::{Link, NameNumber, RowNumber};
 
 // Stored for the parent where there is none.
 pub const NONE: usize = 0xFFFF;
@@ -64,8 +65,20 @@ pub fn parent(link: Link) -> usize
     ensures result_value { number_bytes result ≡ parent_bytes (of_link link.0) }
     ensures upper_bound { result < 65536 }
 {
-    if link.0 == 0 {
-        return NONE;
+    match link.row() {
+        None => NONE,
+        Some(row) => row.0,
     }
-    link.0 - 1
+}
+
+// The parent's row stored at a place of a record, if it has one.
+pub fn parent_at(s: &[u8], at: usize) -> Option<RowNumber>
+    requires { at + 1 < length s.now }
+    ensures { row_by result ≡ parent_in (number_at s.now at) }
+{
+    let row = number_at(s, at);
+    if row == NONE {
+        return None;
+    }
+    Some(RowNumber(row))
 }

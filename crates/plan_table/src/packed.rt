@@ -1,5 +1,5 @@
 // A row packed into a number: kind in 2 bits, the parent's link in 10, name or value above.
-ghost use Rattle.std.specs.Prelude.{◌≡◌, ◌+◌, ◌*◌, ◌/◌, ◌%◌, ◌<◌};
+ghost use Rattle.std.specs.Prelude.{◌≡◌, ◌+◌, ◌*◌, ◌/◌, ◌%◌, ◌<◌, eqb};
 ghost use Rattle.plan_table.specs.Packed.{element_bits, leaf_bits, kind_in, link_in, tag_in, with_link, link_room};
 
 use crate::{Link, NameNumber};
@@ -12,6 +12,13 @@ pub fn kind(w: u32) -> u32
     ensures { result ≡ kind_in w }
 {
     w % 4
+}
+
+// Whether it is a leaf. Its kind stays a number: a table handed in may have any two bits there, which is_leaf and fits read as they are.
+pub fn is_leaf(w: u32) -> bool
+    ensures { result ≡ eqb (kind_in w) leaf_bits }
+{
+    kind(w) == LEAF
 }
 
 pub fn link(w: u32) -> Link

@@ -1,23 +1,30 @@
-// The records of a stored plan: their kinds and their sizes.
-ghost use Rattle.std.specs.Prelude.{◌≡◌};
-ghost use Rattle.plan_table.specs.StoredKinds.{size_read};
+// The records of a stored plan: their kinds and their size.
+ghost use Rattle.plan_table.specs.StoredKinds.{KindRead};
 
-pub const ELEMENT: u8 = 0x11;
+use crate::Reason;
 
-pub const LEAF: u8 = 0x12;
+#[derive(Clone, Copy, Debug, PartialEq, Eq)]
+pub enum Kind {
+    Element = 0x11,
+    Leaf = 0x12,
+    Mark = 0x13,
+}
 
-pub const MARK: u8 = 0x13;
-
+// The bytes of a record of any kind.
 pub const SIZE: usize = 4;
 
-// The table of kinds: bytes of a record, or 0 where the byte is no kind.
-pub fn size(kind: u8) -> usize
-    ensures { result ≡ size_read kind }
-{
-    match kind {
-        ELEMENT => SIZE,
-        LEAF => SIZE,
-        MARK => SIZE,
-        _ => 0,
+impl TryFrom<u8> for Kind {
+    type Error = Reason;
+
+    ghost try_from_gives = { KindRead };
+
+    // The kind that a byte is.
+    fn try_from(byte: u8) -> Result<Kind, Reason> {
+        match byte {
+            0x11 => Ok(Kind::Element),
+            0x12 => Ok(Kind::Leaf),
+            0x13 => Ok(Kind::Mark),
+            _ => Err(Reason::Kind),
+        }
     }
 }

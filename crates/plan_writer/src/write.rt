@@ -3,21 +3,23 @@ ghost use Rattle.std.specs.Prelude.{◌≡◌, ◌∷◌, map, ℕ, ◌+◌, ◌
 ghost use Rattle.model.specs.Stored.{record_size, parent_bytes, row_bytes, rows_bytes, mark_bytes, marks_bytes};
 ghost use Rattle.model.specs.Limits.{max_rows, documents};
 ghost use Rattle.plan_table.specs.Packed.{of_link, byte_tags, row_of, rows_of, table_of};
+ghost use Rattle.plan_table.specs.StoredKinds.{byte_of};
 ghost use Rattle.plan_table.specs.Fitting.{FittingParts};
 ghost use Rattle.plan_table.specs.Results.{bytes_by};
 ghost use Rattle.plan_writer.specs.Writing.{plan_written, written_out, RowsPre, MarksPre};
 ghost use Rattle.model.specs.Base.{over};
 
+use plan_table::stored::Kind;
 use plan_table::{Link, Reason, Refusal, number, packed, stored};
 
 // A record at a place: its kind, its first field, and the number stored for a link.
-fn put(out: &mut [u8], at: usize, kind: u8, field: u8, link: Link)
+fn put(out: &mut [u8], at: usize, kind: Kind, field: u8, link: Link)
     requires at_in_bounds { at + 4 ≤ length out.old }
     requires link_bound { link.0 < 65536 }
-    ensures { out.new ≡ over at (kind ∷ field ∷ parent_bytes (of_link link.0)) out.old }
+    ensures { out.new ≡ over at (byte_of kind ∷ field ∷ parent_bytes (of_link link.0)) out.old }
 {
     let number = number::parent(link);
-    out[at] = kind;
+    out[at] = kind as u8;
     out[at + 1] = field;
     out[at + 2] = (number % 256) as u8;
     out[at + 3] = (number / 256) as u8;
@@ -31,11 +33,12 @@ fn row(out: &mut [u8], at: usize, w: u32)
 {
     let link = packed::link(w);
     let field = packed::tag(w) as u8;
-    if packed::kind(w) == packed::LEAF {
-        put(out, at, stored::LEAF, field, link);
-        return;
-    }
-    put(out, at, stored::ELEMENT, field, link);
+    let kind = if packed::is_leaf(w) {
+        Kind::Leaf
+    } else {
+        Kind::Element
+    };
+    put(out, at, kind, field, link);
 }
 
 // The rows below the count, from the area's start on.
@@ -52,10 +55,10 @@ pub fn rows(out: &mut [u8], rows: &[u32], count: usize)
 fn mark_length(link: Link) -> usize
     ensures { (d : ℕ) → result ≡ length (mark_bytes d (of_link link.0)) }
 {
-    if link.0 == 0 {
-        return 0;
+    match link.row() {
+        None => 0,
+        Some(_) => stored::SIZE,
     }
-    stored::SIZE
 }
 
 // One mark's record at a place, if there is a mark.
@@ -64,10 +67,10 @@ fn mark(out: &mut [u8], at: usize, document: u8, link: Link)
     requires link_in_bounds { at + length (mark_bytes document (of_link link.0)) ≤ length out.old }
     ensures { out.new ≡ over at (mark_bytes document (of_link link.0)) out.old }
 {
-    if link.0 == 0 {
+    if link.row().is_none() {
         return;
     }
-    put(out, at, stored::MARK, document, link);
+    put(out, at, Kind::Mark, document, link);
 }
 
 // The marks, from a place on.

@@ -12,6 +12,10 @@ use Rattle.model.specs.Limits.{max_rows}
 use Rattle.model.specs.Refusal.{refusal, link_at}
 use Rattle.model.specs.Table as model
 use Rattle.model.specs.Stored.{number_at}
+use mathlib.Core.Logic.{◌⊎◌, inl, inr}
+use Rattle.run_updates.specs.HistoryKinds.{byte_of}
+use Rattle.run_updates.specs.declared.history.Kind.{Kind}
+use Rattle.run_updates.specs.declared.history.Kind.TheVariants.{Element, Leaf}
 use Rattle.model.specs.History.{made, cut, history_form, history_size, record_in, cut_kind, made_size, cut_size}
 use Rattle.model.specs.Undo.{made_fits, cut_fits, undo_fits, undone, refused, undo_all}
 use Rattle.model.proofs.FormLaws.{form_cases}
@@ -23,7 +27,11 @@ use Rattle.plan_table.proofs.PackedLaws.{of_link_link_of, count_decode, decode_l
 use Rattle.run_undo.specs.Undoing.{IsWhole, undoing, FitPre, row_made, BackPre, BackPost, AllPre, AllPost}
 use Rattle.plan_table.specs.Results.{End}
 
--- THE RECORD at the front, by its kind
+-- THE RECORD at the front, by its kind. The byte of a row made is no cut link's
+pub made_byte : {k : Kind} {b : ℕ} → byte_of k ≡ b → (k ≡ Element) ⊎ (k ≡ Leaf) → b ≡ cut_kind → ⊥
+made_byte e (inl h) q = let r = ap byte_of h in omega arith
+made_byte e (inr h) q = let r = ap byte_of h in omega arith
+
 record_cut : (s : List ℕ) → get_or s 0 0 ≡ cut_kind → record_in s ≡ cut (number_at s 1) (number_at s 3)
 record_cut s kind = ap (λ (k : ℕ). (history_form k).entry s) kind
 

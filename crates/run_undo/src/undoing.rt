@@ -1,5 +1,5 @@
 // Undo: a history's form front to back, then its records back to front.
-ghost use Rattle.std.specs.Prelude.{◌≡◌, ◌<◌, ◌≤◌, eqb, length};
+ghost use Rattle.std.specs.Prelude.{◌≡◌, ◌<◌, ◌≤◌, eqb, length, get_or, Ok};
 ghost use Rattle.model.specs.History.{made_leaf_kind, made_size, cut_size};
 ghost use Rattle.model.specs.Limits.{max_history};
 ghost use Rattle.model.specs.Stored.{parent_in, number_at};
@@ -9,32 +9,33 @@ ghost use Rattle.plan_table.specs.Fitting.{FittingParts};
 ghost use Rattle.plan_table.specs.Results.{end_by, left_by, number_by};
 ghost use Rattle.run_undo.specs.Undoing.{FormPost, PlacesPost, FitPre, row_made, BackPre, BackPost, AllPre, AllPost};
 ghost use Rattle.run_undo.specs.Undoing.{plan_undone, back_by};
+ghost use Rattle.run_updates.specs.HistoryKinds.{byte_of};
 
 use plan_table::{Link, Reason, Refusal, RowNumber, Table, fit, marks, number, packed};
-use run_updates::history;
+use run_updates::history::Kind;
 
-// The refusal of the record at the front of s, past so many records: 1, 5, 2, 4.
-fn form_refusal(s: &[u8], records: usize) -> Result<(), Reason>
+// The kind of the record at the front of s, past so many records, or its refusal: 1, 5, 2, 4.
+fn front(s: &[u8], records: usize) -> Result<Kind, Reason>
     requires { 0 < length s.now }
-    ensures { FormPost s.now records (number_by result) }
+    ensures form { FormPost s.now records (number_by result) }
+    ensures kind { (k : Kind) → result ≡ Ok k → byte_of k ≡ get_or s.now 0 0 }
 {
-    let kind = s[0];
-    let size = history::size(kind);
-    if size == 0 {
-        return Err(Reason::Kind);
-    }
+    let kind = Kind::try_from(s[0])?;
     if Table::HISTORY_RECORDS <= records {
         return Err(Reason::Size);
     }
-    if s.len() < size {
+    if s.len() < kind.size() {
         return Err(Reason::Short);
     }
-    if kind == history::ELEMENT {
-        if s[3] == 0 {
-            return Err(Reason::Field);
+    match kind {
+        Kind::Element => {
+            if s[3] == 0 {
+                return Err(Reason::Field);
+            }
         }
+        Kind::Leaf | Kind::Cut => {}
     }
-    Ok(())
+    Ok(kind)
 }
 
 // The form of the whole history; the places of its records, and how many they are.
@@ -46,22 +47,22 @@ fn form(bytes: &[u8], places: &mut [u16]) -> Result<usize, Refusal>
     let mut records = 0;
     // A while: how far on the next record stands is told by this one's kind, which no range or chunk says plainer.
     while at < bytes.len() {
-        form_refusal(&bytes[at..], records).map_err(|reason| Refusal { reason, place: at })?;
+        let kind = front(&bytes[at..], records).map_err(|reason| Refusal { reason, place: at })?;
         places[records] = at as u16;
         records += 1;
-        at += history::size(bytes[at]);
+        at += kind.size();
     }
     Ok(records)
 }
 
 // A packed row and the kind of a record of a row made say the same.
-fn same_kind(w: u32, kind: u8) -> bool
-    ensures { result ≡ same_bool (eqb (kind_in w) leaf_bits) (eqb kind made_leaf_kind) }
+fn same_kind(w: u32, kind: Kind) -> bool
+    ensures { result ≡ same_bool (eqb (kind_in w) leaf_bits) (eqb (byte_of kind) made_leaf_kind) }
 {
-    if packed::kind(w) == packed::LEAF {
-        return kind == history::LEAF;
+    match kind {
+        Kind::Leaf => packed::is_leaf(w),
+        Kind::Element | Kind::Cut => !packed::is_leaf(w),
     }
-    kind != history::LEAF
 }
 
 // A row's link and the parent in the record s of a row made say the same.
@@ -69,16 +70,13 @@ fn same_parent(link: Link, s: &[u8]) -> bool
     requires { made_size ≤ length s.now }
     ensures { result ≡ same_parent (of_link link.0) (parent_in (number_at s.now 4)) }
 {
-    let number = number::number_at(s, 4);
-    if number == number::NONE {
-        return link.0 == 0;
-    }
-    link.0 == number + 1
+    link.row() == number::parent_at(s, 4)
 }
 
-// The row made by the record s is the last, unmarked, and equal to it.
-fn made_fits(rows: &[u32], marks: &[u16], count: usize, s: &[u8]) -> bool
-    requires { FitPre rows.now count s.now made_size }
+// The row made by the record s of a kind is the last, unmarked, and equal to it.
+fn made_fits(rows: &[u32], marks: &[u16], count: usize, kind: Kind, s: &[u8]) -> bool
+    requires front { byte_of kind ≡ get_or s.now 0 0 }
+    requires fit { FitPre rows.now count s.now made_size }
     ensures { result ≡ made_fits (decode_parts count rows.now marks.now) (number_at s.now 1)
         (row_made s.now) }
 {
@@ -90,7 +88,7 @@ fn made_fits(rows: &[u32], marks: &[u16], count: usize, s: &[u8]) -> bool
         return false;
     }
     let w = rows[row];
-    if !same_kind(w, s[0]) {
+    if !same_kind(w, kind) {
         return false;
     }
     if packed::tag(w) != number::wide(s[3]) {
@@ -124,20 +122,25 @@ fn undo_record(rows: &mut [u32], marks: &[u16], count: usize, s: &[u8]) -> Resul
     requires { BackPre rows.old count s.now }
     ensures { BackPost rows.old marks.now count s.now rows.new (back_by result) }
 {
-    if s[0] == history::CUT {
-        if !cut_fits(rows, marks, count, s) {
-            return Err(Reason::Link);
+    let kind = Kind::try_from(s[0])?;
+    match kind {
+        Kind::Cut => {
+            if !cut_fits(rows, marks, count, s) {
+                return Err(Reason::Link);
+            }
+            let row = number::number_at(s, 1);
+            let link = number::number_at(s, 3) + 1;
+            rows[row] = packed::relinked(rows[row], Link(link));
+            Ok(count)
         }
-        let row = number::number_at(s, 1);
-        let link = number::number_at(s, 3) + 1;
-        rows[row] = packed::relinked(rows[row], Link(link));
-        return Ok(count);
+        Kind::Element | Kind::Leaf => {
+            if !made_fits(rows, marks, count, kind, s) {
+                return Err(Reason::Link);
+            }
+            rows[count - 1] = 0;
+            Ok(count - 1)
+        }
     }
-    if !made_fits(rows, marks, count, s) {
-        return Err(Reason::Link);
-    }
-    rows[count - 1] = 0;
-    Ok(count - 1)
 }
 
 // Every record undone, the last first. How many rows there are then.

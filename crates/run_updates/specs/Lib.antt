@@ -1,3 +1,4 @@
 pub mod Tallying
 pub mod State
+pub mod HistoryKinds
 pub mod Updating

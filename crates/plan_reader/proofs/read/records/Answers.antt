@@ -1,10 +1,10 @@
-use Rattle.std.proofs.Common.{Ok, Err, refl, take, length, drop, ◌≡◌, ◌+◌, ◌-◌, ◌≤◌, ◌<◌, arith, rules}
+use Rattle.std.proofs.Common.{Ok, Err, refl, take, length, drop, ◌≡◌, ◌+◌, ◌-◌, ◌≤◌, arith, rules}
 use Rattle.std.proofs.lemmas.Result.{err_from_is_err_and}
 use Rattle.plan_table.proofs.ReasonLaws.{some_number}
 use Rattle.plan_table.specs.Packed.{decode_parts}
-use Rattle.plan_reader.specs.Reading.{RecordPost, record_by}
+use Rattle.plan_reader.specs.Reading.{Held, RecordPost, record_by}
 use Rattle.plan_reader.proofs.ReadingLaws.{held_empty, reading_all, reading_on, reading_refused, reading_end}
-use Rattle.model.specs.Stored.{read_from, read_plan}
+use Rattle.model.specs.Stored.{record_size, read_from, read_plan}
 use Rattle.plan_reader.proofs.read.records.Goals as goal
 
 pub loop-at-init : goal.loop-at-init
@@ -27,36 +27,28 @@ returns-in_err-read c =
     (record_by (Err f.reason)) (rw e at r.ensures) (some_number f.reason))
 
 -- the record is read, and reading goes on after it
-abbrev Goes : goal.After-size → Type 0
-Goes c =
+goes : (c : goal.In_ok-read) → let r = c.read_record in
     let b = c.args.bytes.now in
-    let at = c.loop-at.at + c.size.result in
-    let x = decode_parts c.in_ok-read.read.count c.read_record.new.rows c.read_record.new.marks in
-    (0 < c.size.result) × (at ≤ length b) × (read_from (length b - at) x at (drop at b) ≡ read_plan b)
-
-goes : (c : goal.After-size) → Goes c
+    let at = c.loop-at.at + record_size in
+    let x = decode_parts c.in_ok-read.read.count r.new.rows r.new.marks in
+    Held r.new.rows r.new.marks c.in_ok-read.read.count c.in_ok-read.read.last × (at ≤ length b) ×
+    (read_from (length b - at) x at (drop at b) ≡ read_plan b)
 goes c =
-    let l = c.loop-at in
-    let r = c.read_record in
-    let e : r.result ≡ Ok c.in_ok-read.read = search rules in
-    reading_on c.args.bytes.now l.rows l.marks l.count l.at c.loop-at-test.true l.invariant.2 r.new.rows r.new.marks
-    (record_by (Ok c.in_ok-read.read)) (rw e at r.ensures) refl c.size.ensures
-
-pub overflow_add-at : goal.overflow_add-at
-overflow_add-at c = let k = goes c in search rules
-
-pub loop-at-smaller : goal.loop-at-smaller
-loop-at-smaller c = omega (arith, (goes c).0, c.loop-at-test.true)
-
-pub loop-at-preserved : goal.loop-at-preserved
-loop-at-preserved c =
     let l = c.loop-at in
     let r = c.read_record in
     let e : r.result ≡ Ok c.in_ok-read.read = search rules in
     let b = c.args.bytes.now in
     let post : RecordPost (take (length b - l.at) (drop l.at b)) l.rows l.marks l.count r.new.rows r.new.marks
     (record_by (Ok c.in_ok-read.read)) = rw e at r.ensures in
-    let g = goes c in ((post.fine refl).held, g.1, g.2)
+    let g = reading_on b l.rows l.marks l.count l.at c.loop-at-test.true l.invariant.2 r.new.rows r.new.marks
+    (record_by (Ok c.in_ok-read.read)) post refl in
+    ((post.fine refl).held, g.0, g.1)
+
+pub overflow_add-at : goal.overflow_add-at
+overflow_add-at c = let k = goes c in search rules
+
+pub loop-at-preserved : goal.loop-at-preserved
+loop-at-preserved c = goes c
 
 pub returns : goal.returns
 returns c =

@@ -15,6 +15,6 @@ returns c =
     c.args.marks.now) ≡ c.is_marked.result = sym c.is_marked.ensures in
     let x = c.args in
     c.same_parent.ensures ∙ ap (λ (j : ℕ). same_parent (of_link j) (parent_in (number_at x.s.now 4))) c.link.ensures ∙
-    sym (made_parent c.requires x.marks.now c.number_at-row.ensures.value (is_last) (marked_by ∙ c.if-is_marked.false)
-    (sym c.same_kind.ensures ∙ c.if-not-same_kind.false)
+    sym (made_parent c.requires.fit x.marks.now c.number_at-row.ensures.value (is_last) (marked_by ∙ c.if-is_marked.false)
+    (sym (rw c.requires.front at c.same_kind.ensures) ∙ c.if-not-same_kind.false)
     (sym c.tag.ensures ∙ search (c.if-tag-wide.false, rules) ∙ c.wide.ensures.value))
