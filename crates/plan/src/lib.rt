@@ -16,10 +16,9 @@ use plan_writer::write;
 pub fn read_plan(bytes: &[u8]) -> Result<Table, Refusal>
     ensures { table_by (encode empty) result ≡ plan_read bytes.now }
 {
-    let mut rows = [0u32; Table::ROWS];
-    let mut marks = [0u16; Table::DOCUMENTS];
-    let count = read::records(bytes, &mut rows, &mut marks)?;
-    Ok(Table { count, rows, marks })
+    let mut table = Table::empty();
+    table.count = read::records(bytes, &mut table.rows, &mut table.marks)?;
+    Ok(table)
 }
 
 // Writes a table in its stored form. 6 before 11; bytes past the stored length stay; refused, nothing is written.
@@ -27,12 +26,11 @@ pub fn write_plan(table: Table, out: &mut [u8]) -> Result<usize, Refusal>
     ensures value { bytes_by result ≡ plan_written table out.old }
     ensures out_after { out.new ≡ written_out table out.old }
 {
-    let count = table.count;
-    if !fit::fits(count, &table.rows, &table.marks) {
+    if !fit::fits(&table) {
         return Err(Refusal {
             reason: Reason::Link,
             place: 0,
         });
     }
-    write::fitting(count, &table.rows, &table.marks, out)
+    write::fitting(&table, out)
 }

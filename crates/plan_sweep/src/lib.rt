@@ -13,15 +13,11 @@ pub mod sweep;
 pub fn sweep_table(table: Table) -> Result<Table, Refusal>
     ensures { table_by table result ≡ plan_swept table }
 {
-    let count = table.count;
-    if !fit::fits(count, &table.rows, &table.marks) {
+    if !fit::fits(&table) {
         return Err(Refusal {
             reason: Reason::Link,
             place: 0,
         });
     }
-    let mut rows = [0u32; Table::ROWS];
-    let mut marks = table.marks;
-    let count = sweep::fitting(count, &table.rows, &mut marks, &mut rows);
-    Ok(Table { count, rows, marks })
+    Ok(sweep::fitting(&table))
 }

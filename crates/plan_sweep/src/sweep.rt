@@ -1,11 +1,9 @@
 // Drops each row that is neither marked nor below a marked row, and renumbers the others in rising order.
 // A row's entry among the numbers stands at its link: first 1 where it is marked, then its new number plus one where it is kept, else 0.
-ghost use Rattle.std.specs.Prelude.{◌≡◌, cond, ◌<◌, eqb, length, set, replicate};
-ghost use Rattle.model.specs.Limits.{max_rows};
+ghost use Rattle.std.specs.Prelude.{◌≡◌, true, cond, ◌<◌, eqb, length, set};
 ghost use Rattle.model.specs.Sweep.{swept};
 ghost use Rattle.plan_sweep.specs.Sweeping.{FlagPre, Flagged, keeps, RowPre, RowPost, RowsPre, Sweeping, LinksPre, new_links};
-ghost use Rattle.plan_table.specs.Fitting.{FittingParts};
-ghost use Rattle.plan_table.specs.Packed.{decode_parts, encode, table_of};
+ghost use Rattle.plan_table.specs.Packed.{decode, decode_parts, encode, fits};
 
 use plan_table::{Link, RowNumber, Table, number, packed};
 
@@ -87,15 +85,24 @@ fn renumber(marks: &mut [u16], numbers: &[u16])
     }
 }
 
-// The rows of a table that fits, swept into a cleared area, and its marks renumbered; how many rows are kept.
-pub fn fitting(count: usize, packed: &[u32], links: &mut [u16], out: &mut [u32]) -> usize
-    requires fitting_parts { FittingParts count packed.now links.old }
-    requires out_value { out.old ≡ replicate max_rows 0 }
-    ensures { table_of result out.new links.new ≡
-        encode (swept (decode_parts count packed.now links.old)) }
+// A table that fits, swept.
+pub fn fitting(table: &Table) -> Table
+    requires { fits table.now ≡ true }
+    ensures { result ≡ encode (swept (decode table.now)) }
 {
     let mut numbers = [0u16; Table::LINKS];
-    let kept = rows(packed, links, count, &mut numbers, out);
-    renumber(links, &numbers);
-    kept
+    let mut swept = Table {
+        count: 0,
+        rows: [0; Table::ROWS],
+        marks: table.marks,
+    };
+    swept.count = rows(
+        &table.rows,
+        &table.marks,
+        table.count,
+        &mut numbers,
+        &mut swept.rows,
+    );
+    renumber(&mut swept.marks, &numbers);
+    swept
 }

@@ -61,6 +61,11 @@ abbrev pub table_by : Table → Result Table Refusal → TableResult
 table_by t (Ok u) = with_table refusal.fine u
 table_by t (Err e) = with_table (refusal_in e) t
 
+-- of a call on a lent table: what it then holds; refused, another one
+abbrev pub lent_by : {A : Type 0} → (other lent : Table) → Result A Refusal → TableResult
+lent_by t u (Ok x) = with_table refusal.fine u
+lent_by t u (Err e) = with_table (refusal_in e) t
+
 -- the bytes written, none where it is refused
 abbrev pub bytes_by : Result ℕ Refusal → Written
 bytes_by (Ok n) = record { refusal = refusal.fine; bytes = n }

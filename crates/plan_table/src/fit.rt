@@ -1,8 +1,8 @@
 // The check of a table handed in: every rule of 'The table', rows past the count and fields not in use zero.
 ghost use Rattle.std.specs.Prelude.{◌≡◌, ◌≤◌, ◌<◌, length, drop};
 ghost use Rattle.model.specs.Base.{all};
-ghost use Rattle.plan_table.specs.Packed.{is_zero, parts_fit};
-ghost use Rattle.plan_table.specs.Fitting.{TableSizes, tag_fits, is_element_below, is_root_below, link_fits, row_fits, rows_fit};
+ghost use Rattle.plan_table.specs.Packed.{is_zero, fits};
+ghost use Rattle.plan_table.specs.Fitting.{tag_fits, is_element_below, is_root_below, link_fits, row_fits, rows_fit};
 ghost use Rattle.plan_table.specs.Fitting.{mark_fits};
 ghost use Rattle.plan_table.specs.Fitting.{marks_fit};
 
@@ -131,18 +131,19 @@ fn marks_fit(rows: &[u32], count: usize, marks: &[u16]) -> bool
 }
 
 // The whole table fits.
-pub fn fits<'a>(count: usize, rows: &'a [u32], marks: &'a [u16]) -> bool
-    requires { TableSizes rows.now marks.now }
-    ensures { result ≡ parts_fit count rows.now marks.now }
+pub fn fits(table: &Table) -> bool
+    ensures { result ≡ fits table.now }
 {
+    let count = table.count;
     if Table::ROWS < count {
         return false;
     }
+    let rows = &table.rows;
     if !rows_fit(rows, count) {
         return false;
     }
     if !rest_zero(rows, count) {
         return false;
     }
-    marks_fit(rows, count, marks)
+    marks_fit(rows, count, &table.marks)
 }

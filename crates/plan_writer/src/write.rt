@@ -1,16 +1,15 @@
 // Writes a table in its stored form: rows in number order, then marks with rising document.
-ghost use Rattle.std.specs.Prelude.{◌≡◌, ◌∷◌, map, ℕ, ◌+◌, ◌*◌, ◌≤◌, ◌<◌, length};
+ghost use Rattle.std.specs.Prelude.{◌≡◌, true, ◌∷◌, map, ℕ, ◌+◌, ◌*◌, ◌≤◌, ◌<◌, length};
 ghost use Rattle.model.specs.Stored.{record_size, parent_bytes, row_bytes, rows_bytes, mark_bytes, marks_bytes};
 ghost use Rattle.model.specs.Limits.{max_rows, documents};
-ghost use Rattle.plan_table.specs.Packed.{of_link, byte_tags, row_of, rows_of, table_of};
+ghost use Rattle.plan_table.specs.Packed.{of_link, byte_tags, fits, row_of, rows_of};
 ghost use Rattle.plan_table.specs.StoredKinds.{byte_of};
-ghost use Rattle.plan_table.specs.Fitting.{FittingParts};
 ghost use Rattle.plan_table.specs.Results.{bytes_by};
 ghost use Rattle.plan_writer.specs.Writing.{plan_written, written_out, RowsPre, MarksPre};
 ghost use Rattle.model.specs.Base.{over};
 
 use plan_table::stored::Kind;
-use plan_table::{Link, Reason, Refusal, number, packed, stored};
+use plan_table::{Link, Reason, Refusal, Table, number, packed, stored};
 
 // A record at a place: its kind, its first field, and the number stored for a link.
 fn put(out: &mut [u8], at: usize, kind: Kind, field: u8, link: Link)
@@ -99,24 +98,19 @@ pub fn stored_length(count: usize, marks: &[u16]) -> usize
 }
 
 // The rows and marks of a table that fits, at the start of the area; 11 where that is too short.
-pub fn fitting<'a>(
-    count: usize,
-    packed: &'a [u32],
-    links: &'a [u16],
-    out: &mut [u8],
-) -> Result<usize, Refusal>
-    requires { FittingParts count packed.now links.now }
-    ensures value { bytes_by result ≡ plan_written (table_of count packed.now links.now) out.old }
-    ensures out_after { out.new ≡ written_out (table_of count packed.now links.now) out.old }
+pub fn fitting(table: &Table, out: &mut [u8]) -> Result<usize, Refusal>
+    requires { fits table.now ≡ true }
+    ensures value { bytes_by result ≡ plan_written table.now out.old }
+    ensures out_after { out.new ≡ written_out table.now out.old }
 {
-    let length = stored_length(count, links);
+    let length = stored_length(table.count, &table.marks);
     if out.len() < length {
         return Err(Refusal {
             reason: Reason::Lent,
             place: 0,
         });
     }
-    rows(out, packed, count);
-    marks(out, links, stored::SIZE * count);
+    rows(out, &table.rows, table.count);
+    marks(out, &table.marks, stored::SIZE * table.count);
     Ok(length)
 }

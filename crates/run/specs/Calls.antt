@@ -80,9 +80,10 @@ abbrev pub run_by : Table → Result whole.RunResult Refusal → RunResult
 run_by t (Ok r) = record { refusal = refusal.fine; table = r.table; items = r.items; bytes = r.bytes; tally = r.tally }
 run_by t (Err x) = refused_result (number_of x.reason) x.place t
 
-abbrev pub ended_by : Result lent.Ended Refusal → Ended
-ended_by (Ok e) = record { refusal = refusal.fine; count = e.count; items = e.items; bytes = e.bytes; tally = e.tally }
-ended_by (Err x) = refused_end (number_of x.reason) x.place
+-- with the count of the lent table
+abbrev pub ended_by : (count : ℕ) → Result lent.Ended Refusal → Ended
+ended_by n (Ok e) = record { refusal = refusal.fine; count = n; items = e.items; bytes = e.bytes; tally = e.tally }
+ended_by n (Err x) = refused_end (number_of x.reason) x.place
 
 -- IN AREAS that fit, answer and history cleared
 pub record RunPre (a h w : List ℕ) : Type 0 where

@@ -1,9 +1,8 @@
-// A run on the lent rows of a table that fits, in areas that are long enough.
+// A run on a lent table that fits, in areas that are long enough.
 ghost use Rattle.std.specs.Prelude.{◌≡◌, true};
 ghost use Rattle.model.specs.Call.{areas_fit};
 ghost use Rattle.model.specs.Limits.{max_depth};
-ghost use Rattle.plan_table.specs.Fitting.{FittingParts};
-ghost use Rattle.plan_table.specs.Packed.{table_of};
+ghost use Rattle.plan_table.specs.Packed.{fits};
 ghost use Rattle.run_operators.specs.Evaluating.{EvalPre, EvalPost};
 ghost use Rattle.run_operators.specs.Machine.{came_out, frame, machine, begun};
 ghost use Rattle.run_updates.specs.State.{going};
@@ -18,10 +17,9 @@ use run_updates::state::Progress;
 use run_updates::tally::Tally;
 use script_records::kinds;
 
-// How a run ended that is not refused: the rows then, the items of the answer, the bytes of the history, the tally.
+// How a run ended that is not refused: the items of the answer, the bytes of the history, the tally.
 #[derive(Clone, Copy)]
 pub struct Ended {
-    pub count: usize,
     pub items: usize,
     pub bytes: usize,
     pub tally: Tally,
@@ -81,18 +79,17 @@ fn evaluated(
 
 // The run, answer and history cleared.
 fn run_in(
-    rows: &mut [u32],
-    marks: &[u16],
-    count: usize,
+    table: &mut Table,
     script: &[u8],
     answer: &mut [u16],
     history: &mut [u8],
     work: &mut [u16],
 ) -> Result<Ended, Refusal>
-    requires fitting_parts { FittingParts count rows.old marks.now }
+    requires fits { fits table.old ≡ true }
     requires run_pre { RunPre answer.old history.old work.old }
-    ensures { RunPost (table_of count rows.old marks.now) script.now answer.old
-        history.old work.old rows.new answer.new history.new (ended_by result) }
+    ensures run_post { RunPost table.old script.now answer.old history.old work.old
+        table.new.rows answer.new history.new (ended_by table.new.count result) }
+    ensures marks_after { table.new.marks ≡ table.old.marks }
 {
     script::read_script(script)?;
     let unbound = [Span { start: 0, len: 0 }; Table::BINDERS];
@@ -100,11 +97,11 @@ fn run_in(
     let x = match evaluated(
         script,
         unbound,
-        marks,
-        rows,
+        &table.marks,
+        &mut table.rows,
         history,
         work,
-        Progress::start(count),
+        Progress::start(table.count),
     ) {
         Ok(x) => x,
         Err(refusal) => {
@@ -116,39 +113,37 @@ fn run_in(
     answer[..items].copy_from_slice(&work[..items]);
     let p = x.progress;
     let tally = p.tally;
+    table.count = p.count;
     Ok(Ended {
-        count: p.count,
         items,
         bytes: p.bytes,
         tally,
     })
 }
 
-// Runs a script on the rows; refused, what they then hold is not said. The areas are left as by the call `run`.
+// Runs a script on a table that fits; refused, what its rows then hold is not said. The areas are left as by the call `run`.
 pub fn fitting(
-    rows: &mut [u32],
-    marks: &[u16],
-    count: usize,
+    table: &mut Table,
     script: &[u8],
     answer: &mut [u16],
     history: &mut [u8],
     work: &mut [u16],
 ) -> Result<Ended, Refusal>
-    requires fitting_parts { FittingParts count rows.old marks.now }
+    requires fits { fits table.old ≡ true }
     requires work_value { areas_fit answer.old history.old work.old ≡ true }
-    ensures rows_after { result_in (table_of count rows.old marks.now) (ended_by result) rows.new ≡
-        run_result (table_of count rows.old marks.now) script.now answer.old
-        history.old work.old }
-    ensures answer_after { answer.new ≡ (ran (table_of count rows.old marks.now) script.now
-        answer.old history.old work.old).answer }
-    ensures history_after { history.new ≡ (ran (table_of count rows.old marks.now) script.now
-        answer.old history.old work.old).history }
-    ensures work_after { work.new ≡ (ran (table_of count rows.old marks.now) script.now
-        answer.old history.old work.old).work }
+    ensures table_after { result_in table.old (ended_by table.new.count result) table.new.rows ≡
+        run_result table.old script.now answer.old history.old work.old }
+    ensures marks_after { table.new.marks ≡ table.old.marks }
+    ensures answer_after { answer.new ≡
+        (ran table.old script.now answer.old history.old work.old).answer }
+    ensures history_after { history.new ≡
+        (ran table.old script.now answer.old history.old work.old).history }
+    ensures work_after { work.new ≡
+        (ran table.old script.now answer.old history.old work.old).work }
 {
     answer.fill(0);
     history.fill(0);
-    let ended = run_in(rows, marks, count, script, answer, history, work);
+    let ended = run_in(table, script, answer, history, work);
     work.fill(0);
     ended
 }

@@ -29,7 +29,7 @@ pub struct RunResult {
 // Runs a script on a table in lent areas. Refused, the table is as it was and all areas are zero, but untouched on 11;
 // else answer and history stand at the front of their areas, the rest of these and all of the work area is zero.
 pub fn run(
-    table: Table,
+    mut table: Table,
     script: &[u8],
     answer: &mut [u16],
     history: &mut [u8],
@@ -49,8 +49,7 @@ pub fn run(
             place: 0,
         });
     }
-    let count = table.count;
-    if !fit::fits(count, &table.rows, &table.marks) {
+    if !fit::fits(&table) {
         answer.fill(0);
         history.fill(0);
         work.fill(0);
@@ -59,23 +58,10 @@ pub fn run(
             place: 0,
         });
     }
-    let mut rows = table.rows;
-    let ended = lent::fitting(
-        &mut rows,
-        &table.marks,
-        count,
-        script,
-        answer,
-        history,
-        work,
-    )?;
+    let ended = lent::fitting(&mut table, script, answer, history, work)?;
     let tally = ended.tally;
     Ok(RunResult {
-        table: Table {
-            count: ended.count,
-            rows,
-            marks: table.marks,
-        },
+        table,
         items: ended.items,
         bytes: ended.bytes,
         tally,

@@ -10,22 +10,15 @@ use plan_table::{Reason, Refusal, Table, fit};
 pub mod undoing;
 
 // Takes a run back by its history. An ill-formed table is 6.
-pub fn undo(table: Table, history: &[u8]) -> Result<Table, Refusal>
+pub fn undo(mut table: Table, history: &[u8]) -> Result<Table, Refusal>
     ensures { table_by table result ≡ plan_undone table history.now }
 {
-    let count = table.count;
-    if !fit::fits(count, &table.rows, &table.marks) {
+    if !fit::fits(&table) {
         return Err(Refusal {
             reason: Reason::Link,
             place: 0,
         });
     }
-    let mut rows = table.rows;
-    let left = undoing::fitting(&mut rows, &table.marks, count, history)?;
-    let marks = table.marks;
-    Ok(Table {
-        count: left,
-        rows,
-        marks,
-    })
+    undoing::fitting(&mut table, history)?;
+    Ok(table)
 }

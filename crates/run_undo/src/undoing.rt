@@ -1,12 +1,11 @@
 // Undo: a history's form front to back, then its records back to front.
-ghost use Rattle.std.specs.Prelude.{◌≡◌, ◌<◌, ◌≤◌, eqb, length, get_or, Ok};
+ghost use Rattle.std.specs.Prelude.{◌≡◌, true, ◌<◌, ◌≤◌, eqb, length, get_or, Ok};
 ghost use Rattle.model.specs.History.{made_leaf_kind, made_size, cut_size};
 ghost use Rattle.model.specs.Limits.{max_history};
 ghost use Rattle.model.specs.Stored.{parent_in, number_at};
 ghost use Rattle.model.specs.Undo.{same_bool, same_parent, made_fits, cut_fits};
-ghost use Rattle.plan_table.specs.Packed.{kind_in, leaf_bits, of_link, decode_parts, table_of};
-ghost use Rattle.plan_table.specs.Fitting.{FittingParts};
-ghost use Rattle.plan_table.specs.Results.{end_by, left_by, number_by};
+ghost use Rattle.plan_table.specs.Packed.{kind_in, leaf_bits, of_link, decode_parts, fits};
+ghost use Rattle.plan_table.specs.Results.{end_by, lent_by, number_by};
 ghost use Rattle.run_undo.specs.Undoing.{FormPost, PlacesPost, FitPre, row_made, BackPre, BackPost, AllPre, AllPost};
 ghost use Rattle.run_undo.specs.Undoing.{plan_undone, back_by};
 ghost use Rattle.run_updates.specs.HistoryKinds.{byte_of};
@@ -166,18 +165,20 @@ fn undo_all(
     Ok(left)
 }
 
-// Takes a run back on the rows of a table that fits; refused, what they then hold is not said.
-pub fn fitting(
-    rows: &mut [u32],
-    marks: &[u16],
-    count: usize,
-    bytes: &[u8],
-) -> Result<usize, Refusal>
-    requires { FittingParts count rows.old marks.now }
-    ensures { left_by (table_of count rows.old marks.now) (end_by result) rows.new marks.now ≡
-        plan_undone (table_of count rows.old marks.now) bytes.now }
+// Takes a run back on a table that fits; refused, what its rows then hold is not said.
+pub fn fitting(table: &mut Table, history: &[u8]) -> Result<(), Refusal>
+    requires { fits table.old ≡ true }
+    ensures table_after { lent_by table.old table.new result ≡ plan_undone table.old history.now }
+    ensures marks_after { table.new.marks ≡ table.old.marks }
 {
     let mut places = [0u16; Table::HISTORY_RECORDS];
-    let records = form(bytes, &mut places)?;
-    undo_all(rows, marks, count, bytes, &places[..records])
+    let records = form(history, &mut places)?;
+    table.count = undo_all(
+        &mut table.rows,
+        &table.marks,
+        table.count,
+        history,
+        &places[..records],
+    )?;
+    Ok(())
 }
