@@ -140,6 +140,7 @@ fn prepend_if(keep: bool, item: RowNumber, work: &mut [u16], at: usize) -> usize
 }
 
 // The rows above an item that pass the test; the place past them. The way up falls in number, so it is written from the end.
+#[inline(never)]
 pub(crate) fn ancestors(
     rows: &[u32],
     count: usize,
