@@ -118,17 +118,15 @@ pub fn records(bytes: &[u8], rows: &mut [u32], marks: &mut [u16]) -> Result<usiz
     requires { ReadPre rows.old marks.old }
     ensures { ReadPost bytes.now rows.new marks.new (end_by result) }
 {
-    let mut at = 0;
     let mut count = 0;
     let mut last = 0;
-    while at < bytes.len() {
+    for at in (0..bytes.len()).step_by(stored::SIZE) {
         let read = read_record(&bytes[at..], rows, marks, count, last).map_err(|reason| Refusal {
             reason,
             place: at,
         })?;
         count = read.count;
         last = read.last;
-        at += stored::SIZE;
     }
     Ok(count)
 }

@@ -68,13 +68,11 @@ fn cut_row(rows: &mut [u32], history: &mut [u8], p: Progress, row: RowNumber) ->
     let mut tally = p.tally;
     let i = row.0;
     let w = rows[i];
-    let link = packed::link(w).0;
-    if link == 0 {
+    let Some(parent) = packed::link(w).row() else {
         return p;
-    }
+    };
     rows[i] = packed::relinked(w, Link(0));
-    let parent = link - 1;
-    history::put_cut(history, at, row, RowNumber(parent));
+    history::put_cut(history, at, row, parent);
     tally.raise_cut();
     Progress {
         count: p.count,

@@ -1,24 +1,27 @@
 -- `update::cut_row` cuts a row from its parent, with its record, by the laws of UpdateLaws.
 use Rattle.std.proofs.Common.{sym, ◌∙◌, arith}
+use Rattle.plan_table.proofs.PackedLaws.{linked, unlinked}
 use Rattle.run_updates.proofs.UpdateLaws.{cut_root, cut_low, cut_room, cut_few, cut_done}
 use Rattle.run_updates.proofs.update.cut_row.Goals as goal
 
-pub returns-then-link-eq0 : goal.returns-then-link-eq0
-returns-then-link-eq0 c =
-    cut_root c.requires (sym c.link-link.ensures ∙ c.if-link-eq0.true)
+pub returns-in_default : goal.returns-in_default
+returns-in_default c =
+    cut_root c.requires (sym c.link.ensures ∙ unlinked c.link.result.0 c.in_default.ensures)
 
 pub put_cut-requires : goal.put_cut-requires
 put_cut-requires c =
+    let p = linked c.link.result.0 c.in-Some.ensures in
     record {
-      cut_size_in_bounds = cut_room c.requires c.link-link.ensures c.if-link-eq0.false;
+      cut_size_in_bounds = cut_room c.requires c.link.ensures p.0;
       row_lt_max_rows = omega (arith, c.requires.row, c.requires.held.few);
-      parent_lt_max_rows = cut_low c.requires c.link-link.ensures c.if-link-eq0.false;
+      parent_lt_max_rows = omega (arith, p.1, cut_low c.requires c.link.ensures p.0);
     }
 
 pub raise_cut-requires : goal.raise_cut-requires
 raise_cut-requires c =
-    (c.requires.held.history.sum, cut_few c.requires c.link-link.ensures c.if-link-eq0.false)
+    (c.requires.held.history.sum, cut_few c.requires c.link.ensures (linked c.link.result.0 c.in-Some.ensures).0)
 
 pub returns : goal.returns
 returns c =
-    cut_done c.requires c.link-link.ensures c.if-link-eq0.false c.relinked.ensures c.put_cut.ensures c.raise_cut.ensures
+    let p = linked c.link.result.0 c.in-Some.ensures in
+    cut_done c.requires c.link.ensures p.0 c.relinked.ensures (rw p.1 at c.put_cut.ensures) c.raise_cut.ensures
