@@ -59,6 +59,18 @@ expression-requires t c =
     let s = ap body_of c.kind_of-found.ensures in
     operand_asks h c.decreases (omega (arith, (record_fits h).whole, s))
 
+pub returns-then-operands-eq1 : goal.returns-then-operands-eq1
+returns-then-operands-eq1 t c =
+    let h = headed c.head.result c.requires c.head.ensures c.in_ok-map_err.ensures.variant in
+    let f = first_read h c.kind_of-found.ensures (omega (arith, c.if-operands-eq0.false)) c.expression.ensures in
+    ends_first f (omega (arith, ap operands_of c.kind_of-found.ensures, c.if-operands-eq1.true))
+
+pub expression-requires-2 : goal.expression-requires-2
+expression-requires-2 t c =
+    let h = headed c.head.result c.requires c.head.ensures c.in_ok-map_err.ensures.variant in
+    let s = ap body_of c.kind_of-found.ensures in
+    operand_asks h c.decreases (omega (arith, (record_fits h).whole, s))
+
 pub returns-in_err-first : goal.returns-in_err-first
 returns-in_err-first t c =
     let h = headed c.head.result c.requires c.head.ensures c.in_ok-map_err.ensures.variant in
@@ -66,19 +78,27 @@ returns-in_err-first t c =
     let p = err_from_is_err_and c.from_residual-in_err-first.result c.from_residual-in_err-first.ensures.1 in
     first_failed f (p.1 ∙ ap Err p.2)
 
-pub returns-then-operands-eq1 : goal.returns-then-operands-eq1
-returns-then-operands-eq1 t c =
-    let h = headed c.head.result c.requires c.head.ensures c.in_ok-map_err.ensures.variant in
-    let f = first_read h c.kind_of-found.ensures (omega (arith, c.if-operands-eq0.false)) c.in_ok-first.ensures in
-    ends_first f (omega (arith, ap operands_of c.kind_of-found.ensures, c.if-operands-eq1.true))
-
-pub inner-requires : goal.inner-requires
-inner-requires t c =
+pub inner-inside-requires : goal.inner-inside-requires
+inner-inside-requires t c =
     let h = headed c.head.result c.requires c.head.ensures c.in_ok-map_err.ensures.variant in
     λ b. omega (arith, (record_fits h).scope b)
 
-pub expression-requires-2 : goal.expression-requires-2
-expression-requires-2 t c =
+pub expression-requires-then-operands-eq2 : goal.expression-requires-then-operands-eq2
+expression-requires-then-operands-eq2 t c =
+    let h = headed c.head.result c.requires c.head.ensures c.in_ok-map_err.ensures.variant in
+    let f = first_read h c.kind_of-found.ensures (omega (arith, c.if-operands-eq0.false)) c.in_ok-first.ensures in
+    operand_asks h c.decreases (first_within f)
+
+pub returns-then-operands-eq2 : goal.returns-then-operands-eq2
+returns-then-operands-eq2 t c =
+    let h = headed c.head.result c.requires c.head.ensures c.in_ok-map_err.ensures.variant in
+    let f = first_read h c.kind_of-found.ensures (omega (arith, c.if-operands-eq0.false)) c.in_ok-first.ensures in
+    let g = second_read f c.kind_of-found.ensures (omega (arith, c.if-operands-eq0.false, c.if-operands-eq1.false))
+    c.inner-inside.ensures c.expression-then-operands-eq2.ensures in
+    ends_second g (omega (arith, ap operands_of c.kind_of-found.ensures, c.if-operands-eq2.true))
+
+pub expression-requires-3 : goal.expression-requires-3
+expression-requires-3 t c =
     let h = headed c.head.result c.requires c.head.ensures c.in_ok-map_err.ensures.variant in
     let f = first_read h c.kind_of-found.ensures (omega (arith, c.if-operands-eq0.false)) c.in_ok-first.ensures in
     operand_asks h c.decreases (first_within f)
@@ -88,24 +108,16 @@ returns-in_err-second t c =
     let h = headed c.head.result c.requires c.head.ensures c.in_ok-map_err.ensures.variant in
     let f = first_read h c.kind_of-found.ensures (omega (arith, c.if-operands-eq0.false)) c.in_ok-first.ensures in
     let g = second_read f c.kind_of-found.ensures (omega (arith, c.if-operands-eq0.false, c.if-operands-eq1.false))
-    c.inner.ensures c.in_err-second.ensures in
+    c.inner-inside.ensures c.in_err-second.ensures in
     let p = err_from_is_err_and c.from_residual-in_err-second.result c.from_residual-in_err-second.ensures.1 in
     second_failed g (p.1 ∙ ap Err p.2)
 
-pub returns-then-operands-eq2 : goal.returns-then-operands-eq2
-returns-then-operands-eq2 t c =
+pub expression-requires-4 : goal.expression-requires-4
+expression-requires-4 t c =
     let h = headed c.head.result c.requires c.head.ensures c.in_ok-map_err.ensures.variant in
     let f = first_read h c.kind_of-found.ensures (omega (arith, c.if-operands-eq0.false)) c.in_ok-first.ensures in
     let g = second_read f c.kind_of-found.ensures (omega (arith, c.if-operands-eq0.false, c.if-operands-eq1.false))
-    c.inner.ensures c.in_ok-second.ensures in
-    ends_second g (omega (arith, ap operands_of c.kind_of-found.ensures, c.if-operands-eq2.true))
-
-pub expression-requires-3 : goal.expression-requires-3
-expression-requires-3 t c =
-    let h = headed c.head.result c.requires c.head.ensures c.in_ok-map_err.ensures.variant in
-    let f = first_read h c.kind_of-found.ensures (omega (arith, c.if-operands-eq0.false)) c.in_ok-first.ensures in
-    let g = second_read f c.kind_of-found.ensures (omega (arith, c.if-operands-eq0.false, c.if-operands-eq1.false))
-    c.inner.ensures c.in_ok-second.ensures in
+    c.inner-inside.ensures c.in_ok-second.ensures in
     operand_asks h c.decreases (second_within g)
 
 pub returns : goal.returns
@@ -113,7 +125,7 @@ returns t c =
     let h = headed c.head.result c.requires c.head.ensures c.in_ok-map_err.ensures.variant in
     let f = first_read h c.kind_of-found.ensures (omega (arith, c.if-operands-eq0.false)) c.in_ok-first.ensures in
     let g = second_read f c.kind_of-found.ensures (omega (arith, c.if-operands-eq0.false, c.if-operands-eq1.false))
-    c.inner.ensures c.in_ok-second.ensures in
+    c.inner-inside.ensures c.in_ok-second.ensures in
     let o = ap operands_of c.kind_of-found.ensures in
     ends_third g (omega (arith, o, c.if-operands-eq0.false, c.if-operands-eq1.false, c.if-operands-eq2.false))
-    c.expression-3.ensures
+    c.expression-4.ensures
