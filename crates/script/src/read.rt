@@ -103,7 +103,7 @@ pub struct Parsed {
 }
 
 // Reads the expression at a place; `records` stand before it. `left` is how deep it may be. The last operand's result is its own, which is
-// twice as fast as looking at that result first (bytes of 48 records, measured).
+// twice as fast as looking at that result first (measured: 15 steps, each of the next one).
 pub fn expression(
     bytes: &[u8],
     at: usize,
