@@ -12,10 +12,9 @@ use Rattle.model.specs.Paths.{any_below, is_up}
 use Rattle.paths_positions.specs.Positions.{Entry, plain, accessing, modifying, over, union}
 use Rattle.paths_positions.specs.Positions as positions
 use Rattle.paths_positions.specs.Steps.{step_of, max_positions}
-use Rattle.paths_positions.specs.Packed.{with_role, entry_by, root_by, over_by, union_by, kinds, roles, axes, tests, labels, PositionFits}
+use Rattle.paths_positions.specs.Packed.{Position, with_role, entry_by, root_by, over_by, union_by, kinds, roles, axes, tests, labels, PositionFits}
 use Rattle.paths_positions.specs.Packed.{plain_role, accessed_role, modified_role, entries_in, PushPost}
 use Rattle.paths_emit.specs.Emitting.{out_of, GrowPre, Grown, BelowPre, BelowPost}
-use Rattle.paths_positions.specs.declared.packed.Position.{Position}
 use Rattle.paths_positions.specs.declared.step.Step.{Step}
 use Rattle.paths_positions.proofs.PackedLaws.{entries_in_length}
 

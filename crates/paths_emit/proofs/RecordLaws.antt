@@ -14,10 +14,9 @@ use Rattle.script_records.proofs.BindLaws.{with_bound_set, with_bound_same}
 use Rattle.script_records.specs.Walk.{inner}
 use Rattle.paths_positions.specs.Positions.{accessing, root}
 use Rattle.paths_positions.specs.Positions as positions
-use Rattle.paths_positions.specs.Packed.{entry_by, root_by, entries_in, PushPost}
+use Rattle.paths_positions.specs.Packed.{Position, entry_by, root_by, entries_in, PushPost}
 use Rattle.paths_emit.specs.Emitting.{out_of, nullary_of, unary_of, binary_of, UnaryPre, PairedPre, Grown, NullaryPre, NullaryPost}
 use Rattle.paths_emit.specs.Emitting.{BindPre, BindPost}
-use Rattle.paths_positions.specs.declared.packed.Position.{Position}
 use Rattle.paths_emit.proofs.GrowLaws.{pushed_is, grown_none}
 
 -- WITHOUT OPERANDS
