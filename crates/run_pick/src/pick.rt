@@ -2,10 +2,12 @@
 // neither less nor greater than anything.
 ghost use Rattle.std.specs.Prelude.{◌≡◌, ◌+◌, ◌<◌, ◌≤◌, if◌then◌else◌, nat_lt};
 ghost use Rattle.model.specs.Step.{signed_key};
+ghost use Rattle.script_records.specs.Relations.{relation_number};
 ghost use Rattle.run_pick.specs.Picking.{leaf_ranks, rank_in, is_kept, KeepsRange, KeepsRelated, PickPre, PickPost};
 
 use plan_table::{RowNumber, number, packed};
 use run_query::step;
+use script_records::pick::Relation;
 use std::num;
 
 // A value's rank among signed bytes.
@@ -85,38 +87,33 @@ fn between(half: u32, low: u32, high: u32) -> Ranks
     }
 }
 
-// Relations; any other is greater.
-const EQUAL: u8 = 0;
-
-const LESS: u8 = 1;
-
 // The ranks of the leaves whose value stands in the relation to the constant.
-fn related(relation: u8, constant: u8) -> Ranks
-    ensures { KeepsRelated relation constant result.half result.lower result.upper result.many }
+fn related(relation: Relation, constant: u8) -> Ranks
+    ensures { KeepsRelated (relation_number relation) constant result.half result.lower result.upper result.many }
 {
     let c = number::wide(constant);
     let k = signed_key(c);
     let past = k + 1;
     match relation {
-        EQUAL => between(0, RANKS_OF_VALUE * c, RANKS_OF_VALUE * (c + 1)),
+        Relation::Equal => between(0, RANKS_OF_VALUE * c, RANKS_OF_VALUE * (c + 1)),
         // the constant is −128, and nothing is less
-        LESS if k == 0 => between(HALF, SURVEYED, SURVEYED),
-        LESS => between(HALF, SURVEYED, RANKS_OF_VALUE * k),
-        _ => between(HALF, RANKS_OF_VALUE * past, LEAF_RANKS - HALF),
+        Relation::Less if k == 0 => between(HALF, SURVEYED, SURVEYED),
+        Relation::Less => between(HALF, SURVEYED, RANKS_OF_VALUE * k),
+        Relation::Greater => between(HALF, RANKS_OF_VALUE * past, LEAF_RANKS - HALF),
     }
 }
 
 // Picks from the value at a place, which the kept items then take; the place past them.
 pub fn picked(
     rows: &[u32],
-    relation: u8,
+    relation: Relation,
     constant: u8,
     work: &mut [u16],
     from: usize,
     to: usize,
 ) -> usize
     requires { PickPre rows.now work.old from to }
-    ensures { PickPost rows.now relation constant work.old from to work.new result }
+    ensures { PickPost rows.now (relation_number relation) constant work.old from to work.new result }
 {
     let ranks = related(relation, constant);
     let mut at = from;

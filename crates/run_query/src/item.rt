@@ -1,14 +1,15 @@
 // Steps from one item to its children, parent or ancestors, as a loop's body takes them: no flags. Where there is an index, only rows made
 // since are passed over, else the rows above the item, and for parent and ancestors none.
-ghost use Rattle.std.specs.Prelude.{◌≡◌, ◌≢◌, true, cond, ◌+◌, ◌-◌, ◌≤◌, ◌<◌, length, set};
+ghost use Rattle.std.specs.Prelude.{◌≡◌, true, cond, ◌+◌, ◌-◌, ◌≤◌, ◌<◌, length, set};
 ghost use Rattle.model.specs.Script.{step_by};
+ghost use Rattle.script_records.specs.Steps.{test_number, test_name};
 ghost use Rattle.run_query.specs.Values.{ItemPre, ItemPost, Grown, is_child, CountPre, CountPost};
 ghost use Rattle.run_query.specs.Values.{ScanPre, ScanPost};
 ghost use Rattle.run_query.specs.Index.{IndexHeld};
 
-use crate::step::Test;
 use crate::{index, step};
 use plan_table::{Link, RowNumber, number, packed};
+use script_records::step::Test;
 
 // Appends a row to the value that ends at a place, if it is a child, by its parent's link, and passes the test; the place past the value.
 // Few rows are children, so a branch for those that are not costs least.
@@ -23,7 +24,7 @@ fn append_child(
     requires row_in_bounds { row.0 < length rows.now }
     requires row_bound { row.0 < 65536 }
     requires at_in_bounds { at < length work.old }
-    ensures { Grown (is_child rows.now row.0 link.0 test.kind test.name.0) row.0 work.old at
+    ensures { Grown (is_child rows.now row.0 link.0 (test_number test) (test_name test)) row.0 work.old at
         work.new result }
 {
     let w = rows[row.0];
@@ -44,7 +45,7 @@ fn scanned(
     from: usize,
 ) -> usize
     requires { ScanPre rows.now count item.0 low work.old from }
-    ensures { ScanPost rows.now count (step_by 0 test.kind test.name.0) item.0 low work.old from
+    ensures { ScanPost rows.now count (step_by 0 (test_number test) (test_name test)) item.0 low work.old from
         work.new result }
 {
     let link = item.0 + 1;
@@ -57,7 +58,7 @@ fn scanned(
 
 // The children of an item that pass the test; the place past them. Those in the index follow each other there; the rows made since are
 // passed over, and where the item is one of them, those above it. Children are higher than their parent.
-fn children(
+pub(crate) fn children(
     rows: &[u32],
     count: usize,
     index: &[u16],
@@ -68,7 +69,7 @@ fn children(
 ) -> usize
     requires item_pre { ItemPre rows.now count item.0 work.old from }
     requires index_held { IndexHeld index.now rows.now count }
-    ensures { ItemPost rows.now count (step_by 0 test.kind test.name.0) item.0 work.old from
+    ensures { ItemPost rows.now count (step_by 0 (test_number test) (test_name test)) item.0 work.old from
         work.new result }
 {
     let link = item.0 + 1;
@@ -86,7 +87,7 @@ fn children(
 }
 
 // An item's parent, if it passes the test; the place past it.
-fn parent(
+pub(crate) fn parent(
     rows: &[u32],
     count: usize,
     item: RowNumber,
@@ -95,7 +96,7 @@ fn parent(
     from: usize,
 ) -> usize
     requires { ItemPre rows.now count item.0 work.old from }
-    ensures { ItemPost rows.now count (step_by 2 test.kind test.name.0) item.0 work.old from
+    ensures { ItemPost rows.now count (step_by 2 (test_number test) (test_name test)) item.0 work.old from
         work.new result }
 {
     let l = packed::link(rows[item.0]).0;
@@ -109,7 +110,7 @@ fn parent(
 // How many rows above an item pass the test.
 fn count_above(rows: &[u32], count: usize, item: RowNumber, test: Test) -> usize
     requires { CountPre rows.now count item.0 }
-    ensures { CountPost rows.now count item.0 test.kind test.name.0 result }
+    ensures { CountPost rows.now count item.0 (test_number test) (test_name test) result }
 {
     let mut n = 0;
     let mut l = packed::link(rows[item.0]).0;
@@ -139,7 +140,7 @@ fn prepend_if(keep: bool, item: RowNumber, work: &mut [u16], at: usize) -> usize
 }
 
 // The rows above an item that pass the test; the place past them. The way up falls in number, so it is written from the end.
-fn ancestors(
+pub(crate) fn ancestors(
     rows: &[u32],
     count: usize,
     item: RowNumber,
@@ -148,7 +149,7 @@ fn ancestors(
     from: usize,
 ) -> usize
     requires { ItemPre rows.now count item.0 work.old from }
-    ensures { ItemPost rows.now count (step_by 3 test.kind test.name.0) item.0 work.old from
+    ensures { ItemPost rows.now count (step_by 3 (test_number test) (test_name test)) item.0 work.old from
         work.new result }
 {
     let end = from + count_above(rows, count, item, test);
@@ -162,29 +163,4 @@ fn ancestors(
         l = packed::link(w).0;
     }
     end
-}
-
-// A step to children, parent or ancestors from one item.
-pub(crate) fn from_one(
-    rows: &[u32],
-    count: usize,
-    index: &[u16],
-    axis: u8,
-    test: Test,
-    item: RowNumber,
-    work: &mut [u16],
-    from: usize,
-) -> usize
-    requires item_pre { ItemPre rows.now count item.0 work.old from }
-    requires index_held { IndexHeld index.now rows.now count }
-    requires axis_bound { axis < 4 }
-    requires not_descendant { axis ≢ 1 }
-    ensures { ItemPost rows.now count (step_by axis test.kind test.name.0) item.0 work.old from
-        work.new result }
-{
-    match axis {
-        step::CHILD => children(rows, count, index, item, test, work, from),
-        step::PARENT => parent(rows, count, item, test, work, from),
-        _ => ancestors(rows, count, item, test, work, from),
-    }
 }

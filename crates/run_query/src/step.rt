@@ -3,59 +3,14 @@
 ghost use Rattle.std.specs.Prelude.{◌≡◌, cond, ◌+◌, ◌<◌, length, get_or, set};
 ghost use Rattle.model.specs.Base.{bit};
 ghost use Rattle.model.specs.Script.{step_by};
-ghost use Rattle.model.specs.Step.{admits, letter_of};
-ghost use Rattle.plan_table.specs.Packed.{row_of};
+ghost use Rattle.script_records.specs.Steps.{axis_number, test_number, test_name, step_of};
 ghost use Rattle.run_query.specs.Stepping.{FlagPre, Flagged, ClearBelow, counted, marked_by, OnePre, climbed, PassPre, Reached};
 ghost use Rattle.run_query.specs.Values.{kept, kept_rows, CollectPre, Appended, DescendPre, DescendPost, StepPre, StepPost};
 ghost use Rattle.run_query.specs.Index.{IndexHeld};
 
 use crate::item;
-use plan_table::{NameNumber, RowNumber, Table, number, packed};
-
-// Axes; any other is the ancestors'.
-pub const CHILD: u8 = 0;
-
-const DESCENDANT: u8 = 1;
-
-pub const PARENT: u8 = 2;
-
-// Tests; any other is for the named element.
-const ANY_NODE: u8 = 0;
-
-const ANY_ELEMENT: u8 = 1;
-
-const ANY_LEAF: u8 = 2;
-
-// A script's step.
-#[derive(Clone, Copy)]
-pub struct StepBy {
-    pub axis: u8,
-    pub test: u8,
-    pub name: NameNumber,
-}
-
-// What a step asks of a row.
-#[derive(Clone, Copy)]
-pub(crate) struct Test {
-    pub(crate) kind: u8,
-    pub(crate) name: NameNumber,
-}
-
-impl Test {
-    // The letter of a packed row passes the test. One arm asks whether it is a leaf: with that asked in each, steps from one item took
-    // a quarter longer.
-    pub(crate) fn admits(self, w: u32) -> bool
-        ensures { result ≡ admits (step_by 0 self.kind self.name.0) (letter_of (row_of w)) }
-    {
-        match self.kind {
-            ANY_NODE => true,
-            kind if packed::kind(w) == packed::LEAF => kind == ANY_LEAF,
-            ANY_ELEMENT => true,
-            ANY_LEAF => false,
-            _ => packed::tag(w) == self.name.0 as u32,
-        }
-    }
-}
+use plan_table::{RowNumber, Table, number, packed};
+use script_records::step::{Axis, Step, Test};
 
 // Flags each item of a value; no row below the answer, at most the count, has a flag.
 fn flag(flags: &mut [u8], items: &[u16], count: usize) -> usize
@@ -105,7 +60,7 @@ fn climb(rows: &[u32], count: usize, deep: bool, flags: &[u8], reached: &mut [u8
 // A row is kept: it is reached and passes the test.
 fn keeps(rows: &[u32], row: RowNumber, flag: u8, test: Test) -> bool
     requires { row.0 < length rows.now }
-    ensures { result ≡ kept rows.now row.0 flag test.kind test.name.0 }
+    ensures { result ≡ kept rows.now row.0 flag (test_number test) (test_name test) }
 {
     flag != 0 && test.admits(rows[row.0])
 }
@@ -132,7 +87,7 @@ fn collect(
     from: usize,
 ) -> usize
     requires { CollectPre rows.now count reached.now work.old from }
-    ensures { Appended (kept_rows rows.now reached.now test.kind test.name.0 count) work.old from
+    ensures { Appended (kept_rows rows.now reached.now (test_number test) (test_name test) count) work.old from
         work.new result }
 {
     let mut at = from;
@@ -166,7 +121,7 @@ fn descend(
     from: usize,
 ) -> usize
     requires { DescendPre rows.now count flags.old low work.old from }
-    ensures { DescendPost rows.now count (step_by (bit deep) test.kind test.name.0) flags.old work.old from
+    ensures { DescendPost rows.now count (step_by (bit deep) (test_number test) (test_name test)) flags.old work.old from
         work.new result }
 {
     let mut at = from;
@@ -191,7 +146,7 @@ fn rows_below(
     to: usize,
 ) -> usize
     requires { StepPre rows.now count (bit deep) work.old from to }
-    ensures { StepPost rows.now count (step_by (bit deep) test.kind test.name.0) work.old from to
+    ensures { StepPost rows.now count (step_by (bit deep) (test_number test) (test_name test)) work.old from to
         work.new result }
 {
     let mut flags = [0u8; Table::LINKS];
@@ -210,7 +165,7 @@ fn rows_above(
     to: usize,
 ) -> usize
     requires { StepPre rows.now count (2 + bit deep) work.old from to }
-    ensures { StepPost rows.now count (step_by (2 + bit deep) test.kind test.name.0) work.old from to
+    ensures { StepPost rows.now count (step_by (2 + bit deep) (test_number test) (test_name test)) work.old from to
         work.new result }
 {
     let mut flags = [0u8; Table::LINKS];
@@ -220,43 +175,38 @@ fn rows_above(
     collect(rows, count, &reached, test, work, from)
 }
 
-// A step from the value at a place, which its rows then take; the place past them.
+// A step from the value at a place, which its rows then take; the place past them. From one item there is a way without flags for each
+// axis but the descendants'.
 pub fn stepped(
     rows: &[u32],
     count: usize,
     index: &[u16],
-    by: StepBy,
+    step: Step,
     work: &mut [u16],
     from: usize,
     to: usize,
 ) -> usize
-    requires step_pre { StepPre rows.now count by.axis work.old from to }
+    requires step_pre { StepPre rows.now count (axis_number step.axis) work.old from to }
     requires index_held { IndexHeld index.now rows.now count }
-    ensures { StepPost rows.now count (step_by by.axis by.test by.name.0) work.old from to
-        work.new result }
+    ensures { StepPost rows.now count (step_of step) work.old from to work.new result }
 {
-    let test = Test {
-        kind: by.test,
-        name: by.name,
-    };
-    if by.axis == DESCENDANT {
-        return rows_below(rows, count, true, test, work, from, to);
+    let test = step.test;
+    match (step.axis, &work[from..to]) {
+        (Axis::Child, &[item]) => {
+            let row = RowNumber(usize::from(item));
+            item::children(rows, count, index, row, test, work, from)
+        }
+        (Axis::Child, _) => rows_below(rows, count, false, test, work, from, to),
+        (Axis::Descendant, _) => rows_below(rows, count, true, test, work, from, to),
+        (Axis::Parent, &[item]) => {
+            let row = RowNumber(usize::from(item));
+            item::parent(rows, count, row, test, work, from)
+        }
+        (Axis::Parent, _) => rows_above(rows, count, false, test, work, from, to),
+        (Axis::Ancestor, &[item]) => {
+            let row = RowNumber(usize::from(item));
+            item::ancestors(rows, count, row, test, work, from)
+        }
+        (Axis::Ancestor, _) => rows_above(rows, count, true, test, work, from, to),
     }
-    if to - from == 1 {
-        let row = number::index(work[from]);
-        return item::from_one(
-            rows,
-            count,
-            index,
-            by.axis,
-            test,
-            RowNumber(row),
-            work,
-            from,
-        );
-    }
-    if by.axis == CHILD {
-        return rows_below(rows, count, false, test, work, from, to);
-    }
-    rows_above(rows, count, by.axis != PARENT, test, work, from, to)
 }

@@ -1,22 +1,20 @@
 -- The expression at a place, from what is read of its record and operands: one law for each way out of the reader.
 use mathlib.Core.Path.{◌≡◌, refl, ap, sym, ◌∙◌}
-use mathlib.Core.Bool.{true, false≢true}
+use mathlib.Core.Bool.{true}
 use mathlib.Core.List.{List}
 use Prim.Native.Nat.{ℕ, suc, ◌+◌, ◌-◌, ◌≤◌, ◌<◌}
 use native.Mathlib.Omega.{arith}
 use lib.ListN.{length, get_or, take, drop}
 use Rattle.std.specs.Prelude.{Result, Ok, Err}
-use Rattle.std.specs.Result.{is_ok}
 use Rattle.model.specs.Limits.{max_records, max_depth}
 use Rattle.model.specs.Refusal.{is_fine, refusal_at}
-use Rattle.model.specs.Script.{Expr, nil, Parsed, refused, parsed, then_parse, expr_refusal, arity}
-use Rattle.model.proofs.ListLaws.{drop_all}
+use Rattle.model.specs.Script.{Expr, nil, Parsed, refused, parsed, then_parse, expr_refusal, body_size, arity}
+use Rattle.model.proofs.ListLaws.{drop_all, drop_first}
 use Rattle.model.proofs.ScriptLaws.{Sound, sound_numbered, parse_sound}
 use Rattle.script_records.specs.Walk.{inner, first_at, second_at, third_at, expr_of, expr_at}
-use Rattle.script_records.specs.KindsRead.{kind_read}
+use Rattle.script_records.specs.Kinds.{byte_of}
 use Rattle.script_records.specs.declared.kinds.Kind.{Kind}
-use Rattle.script_records.proofs.KindLaws.{body_of, operands_of}
-use Rattle.script.specs.Reading.{parse_at, end_by, end_of, expression_read, parsed_by, HeadPost, ExpressionPre, ExpressionPost}
+use Rattle.script.specs.Reading.{parse_at, end_by, end_of, expression_read, parsed_by, HeadKind, HeadPost, ExpressionPre, ExpressionPost}
 use Rattle.script.specs.Accepted.{RecordFits}
 use Rattle.plan_table.specs.Refusals.{number_of}
 use Rattle.plan_table.specs.Results.{End, number_by}
@@ -63,17 +61,22 @@ pub record_refused : {b : List ℕ} {i left n v r : ℕ} → ExpressionPre b i l
 record_refused {b} {i} {left} {n} {v} {r} pre p h =
     record { read = sym (ap end_of (parse_refused b i left n v r h (head_refusal b i left n v r pre.within p))) }
 
-pub record Headed (b : List ℕ) (i left n v : ℕ) : Type 0 where
+pub record Headed (b : List ℕ) (i left n v : ℕ) (k : Kind) : Type 0 where
   pub deep : left ≤ max_depth
   pub fine : is_fine (expr_refusal i n (max_depth + 1 - left) v (drop i b)) ≡ true
+  pub is : byte_of k ≡ get_or b i 0
 
-pub headed : {b : List ℕ} {i left n v : ℕ} {A : Type 0} (x : Result A Reason) → ExpressionPre b i left →
-    HeadPost (take (length b - i) (drop i b)) left n v (number_by x) → true ≡ is_ok x → Headed b i left n v
-headed {b} {i} {left} {n} {v} (Ok a) pre p t =
-    record { deep = pre.depth; fine = ap is_fine (head_refusal b i left n v 0 pre.within p) }
-headed (Err r) pre p t = absurd (false≢true (sym t))
+pub headed : {b : List ℕ} {i left n v : ℕ} {k : Kind} {x : Result Kind Reason} → ExpressionPre b i left →
+    HeadPost (take (length b - i) (drop i b)) left n v (number_by x) → HeadKind (take (length b - i) (drop i b)) x → x ≡ Ok k →
+    Headed b i left n v k
+headed {b} {i} {left} {n} {v} {k} pre p q e =
+    record {
+      deep = pre.depth;
+      fine = ap is_fine (head_refusal b i left n v 0 pre.within (rw e at p));
+      is = (rw e at q) ∙ ap (λ (c : List ℕ). get_or c 0 0) (drop_all b i) ∙ drop_first b i;
+    }
 
-module _ {b : List ℕ} {i left n v : ℕ} (h : Headed b i left n v) where
+module _ {b : List ℕ} {i left n v : ℕ} {k : Kind} (h : Headed b i left n v k) where
   pub record_fits : RecordFits b i left v
   record_fits = fine_fits b i left n v i h.fine
 
@@ -87,13 +90,20 @@ module _ {b : List ℕ} {i left n v : ℕ} (h : Headed b i left n v) where
       parse_operands b i (left - 1) n v (omega (arith, record_fits.depth, h.deep))
       (ap (λ (q : ℕ). is_fine (expr_refusal i n (max_depth + 1 - q) v (drop i b))) (sym e) ∙ h.fine)
 
-  pub ends_none : {q : Kind} → q ≡ kind_read (get_or b i 0) → q.operands ≡ 0 →
-      ExpressionPost b i left n v (end_by 0 (i + (1 + q.body)) (n + 1))
+  -- its body and its operands
+  pub body_is : body_size (byte_of k) ≡ body_size (get_or b i 0)
+  body_is = ap body_size h.is
+
+  pub arity_is : arity (byte_of k) ≡ arity (get_or b i 0)
+  arity_is = ap arity h.is
+
+  pub ends_none : {body : ℕ} → body ≡ body_size (byte_of k) → arity (byte_of k) ≡ 0 →
+      ExpressionPost b i left n v (end_by 0 (i + (1 + body)) (n + 1))
   ends_none e a =
-      let z : arity (get_or b i 0) ≡ 0 = omega (arith, ap operands_of e, a) in
+      let z : arity (get_or b i 0) ≡ 0 = omega (arith, arity_is, a) in
       record {
         read =
-            ap (λ (s : ℕ). end_of (parsed (nil i) (i + (1 + s)) (n + 1) b)) (ap body_of e) ∙
+            ap (λ (s : ℕ). end_of (parsed (nil i) (i + (1 + s)) (n + 1) b)) (e ∙ body_is) ∙
             sym (ap end_of (operands_at ∙ after_none (left - 1) (get_or b i 0) b i v (first_at b i) (n + 1) (drop (first_at b i) b) z));
       }
 
@@ -102,21 +112,21 @@ abbrev failed : error.Refusal → End
 failed e = end_by (number_of e.reason) e.place 0
 
 -- AFTER THE FIRST OPERAND
-pub record FirstRead (b : List ℕ) (i left n v : ℕ) (r : End) : Type 0 where
-  pub head : Headed b i left n v
+pub record FirstRead (b : List ℕ) (i left n v : ℕ) (k : Kind) (r : End) : Type 0 where
+  pub head : Headed b i left n v k
   pub some : 0 < arity (get_or b i 0)
   pub read : r ≡ expression_read b (first_at b i) (left - 1) (n + 1) v
 
-pub first_read : {b : List ℕ} {i left n v : ℕ} {q : Kind} {r : End} → Headed b i left n v → q ≡ kind_read (get_or b i 0) →
-    0 < q.operands → ExpressionPost b (i + (1 + q.body)) (left - 1) (n + 1) v r → FirstRead b i left n v r
+pub first_read : {b : List ℕ} {i left n v body : ℕ} {k : Kind} {r : End} → Headed b i left n v k → body ≡ body_size (byte_of k) →
+    0 < arity (byte_of k) → ExpressionPost b (i + (1 + body)) (left - 1) (n + 1) v r → FirstRead b i left n v k r
 first_read {b} {i} {left} {n} {v} h e a p =
     record {
       head = h;
-      some = omega (arith, ap operands_of e, a);
-      read = p.read ∙ ap (λ (s : ℕ). expression_read b (i + (1 + s)) (left - 1) (n + 1) v) (ap body_of e);
+      some = omega (arith, arity_is h, a);
+      read = p.read ∙ ap (λ (s : ℕ). expression_read b (i + (1 + s)) (left - 1) (n + 1) v) (e ∙ body_is h);
     }
 
-module _ {b : List ℕ} {i left n v : ℕ} {r : End} (f : FirstRead b i left n v r) where
+module _ {b : List ℕ} {i left n v : ℕ} {k : Kind} {r : End} (f : FirstRead b i left n v k r) where
   after_record_read : parse_at b i left n v ≡
       then_parse (parse_at b (first_at b i) (left - 1) (n + 1) v) (after_first (left - 1) (get_or b i 0) b i v)
   after_record_read =
@@ -133,9 +143,9 @@ module _ {b : List ℕ} {i left n v : ℕ} {r : End} (f : FirstRead b i left n v
             (λ e j m c. after_one (left - 1) (get_or b i 0) b i v j m c e a) ∙ sym (ap end_of after_record_read);
       }
 
-pub first_failed : {b : List ℕ} {i left n v : ℕ} {e : error.Refusal} {y : Result found.Parsed error.Refusal} →
-    FirstRead b i left n v (failed e) → y ≡ Err e → ExpressionPost b i left n v (parsed_by y)
-first_failed {b} {i} {left} {n} {v} {e} f h =
+pub first_failed : {b : List ℕ} {i left n v : ℕ} {k : Kind} {e : error.Refusal} {y : Result found.Parsed error.Refusal} →
+    FirstRead b i left n v k (failed e) → y ≡ Err e → ExpressionPost b i left n v (parsed_by y)
+first_failed {b} {i} {left} {n} {v} {e = e} f h =
     rw h
     (record {
       read =
@@ -143,7 +153,7 @@ first_failed {b} {i} {left} {n} {v} {e} f h =
           (some_number e.reason) ∙ sym (ap end_of (after_record_read f));
     })
 
-module _ {b : List ℕ} {i left n v p m : ℕ} (f : FirstRead b i left n v (end_by 0 p m)) where
+module _ {b : List ℕ} {i left n v p m : ℕ} {k : Kind} (f : FirstRead b i left n v k (end_by 0 p m)) where
   first_ended : Ended (parse_at b (first_at b i) (left - 1) (n + 1) v) (end_by 0 p m)
   first_ended =
       ended (parse_at b (first_at b i) (left - 1) (n + 1) v) (end_by 0 p m)
@@ -158,18 +168,22 @@ module _ {b : List ℕ} {i left n v p m : ℕ} (f : FirstRead b i left n v (end_
   first_within = first_reads.within
 
 -- AFTER THE SECOND
-pub record SecondRead (b : List ℕ) (i left n v p m : ℕ) (s : End) : Type 0 where
-  pub first : FirstRead b i left n v (end_by 0 p m)
+pub record SecondRead (b : List ℕ) (i left n v : ℕ) (k : Kind) (p m : ℕ) (s : End) : Type 0 where
+  pub first : FirstRead b i left n v k (end_by 0 p m)
   pub more : 1 < arity (get_or b i 0)
   pub read : s ≡ expression_read b p (left - 1) m (inner (get_or b i 0) v)
 
-pub second_read : {b : List ℕ} {i left n v p m w : ℕ} {q : Kind} {s : End} → FirstRead b i left n v (end_by 0 p m) →
-    q ≡ kind_read (get_or b i 0) → 1 < q.operands → w ≡ inner (get_or b i 0) v → ExpressionPost b p (left - 1) m w s →
-    SecondRead b i left n v p m s
-second_read {b} {left = left} {p = p} {m = m} f k a e post =
-    record { first = f; more = omega (arith, ap operands_of k, a); read = post.read ∙ ap (expression_read b p (left - 1) m) e }
+pub second_read : {b : List ℕ} {i left n v p m w : ℕ} {k : Kind} {s : End} → FirstRead b i left n v k (end_by 0 p m) →
+    1 < arity (byte_of k) → w ≡ inner (byte_of k) v → ExpressionPost b p (left - 1) m w s →
+    SecondRead b i left n v k p m s
+second_read {b} {left = left} {v = v} {p = p} {m = m} f a e post =
+    record {
+      first = f;
+      more = omega (arith, arity_is f.head, a);
+      read = post.read ∙ ap (expression_read b p (left - 1) m) (e ∙ ap (λ (k : ℕ). inner k v) f.head.is);
+    }
 
-module _ {b : List ℕ} {i left n v p m : ℕ} {s : End} (f : SecondRead b i left n v p m s) where
+module _ {b : List ℕ} {i left n v p m : ℕ} {k : Kind} {s : End} (f : SecondRead b i left n v k p m s) where
   abbrev x : Expr
   x = (first_ended f.first).expr
 
@@ -192,9 +206,9 @@ module _ {b : List ℕ} {i left n v p m : ℕ} {s : End} (f : SecondRead b i lef
             (λ e j m c. after_two (left - 1) (get_or b i 0) b i v j m c x e a) ∙ sym (ap end_of after_first_read);
       }
 
-pub second_failed : {b : List ℕ} {i left n v p m : ℕ} {e : error.Refusal} {y : Result found.Parsed error.Refusal} →
-    SecondRead b i left n v p m (failed e) → y ≡ Err e → ExpressionPost b i left n v (parsed_by y)
-second_failed {b} {i} {left} {n} {v} {p} {m} {e} f h =
+pub second_failed : {b : List ℕ} {i left n v p m : ℕ} {k : Kind} {e : error.Refusal} {y : Result found.Parsed error.Refusal} →
+    SecondRead b i left n v k p m (failed e) → y ≡ Err e → ExpressionPost b i left n v (parsed_by y)
+second_failed {b} {i} {left} {n} {v} {p} {m} {e = e} f h =
     rw h
     (record {
       read =
@@ -203,7 +217,7 @@ second_failed {b} {i} {left} {n} {v} {p} {m} {e} f h =
           (some_number e.reason) ∙ sym (ap end_of (after_first_read f));
     })
 
-module _ {b : List ℕ} {i left n v p m j l : ℕ} (f : SecondRead b i left n v p m (end_by 0 j l)) where
+module _ {b : List ℕ} {i left n v p m j l : ℕ} {k : Kind} (f : SecondRead b i left n v k p m (end_by 0 j l)) where
   second_ended : Ended (parse_at b p (left - 1) m (inner (get_or b i 0) v)) (end_by 0 j l)
   second_ended =
       ended (parse_at b p (left - 1) m (inner (get_or b i 0) v)) (end_by 0 j l)

@@ -4,68 +4,20 @@ use mathlib.Core.Bool.{Bool, true, false, ◌&&◌}
 use mathlib.Core.List.{List}
 use Prim.Native.Nat.{ℕ, ◌+◌, ◌-◌, ◌≤◌, ◌<◌}
 use native.Mathlib.Omega.{arith}
-use lib.Dec.{ltb, leb, eqb}
+use lib.Dec.{leb}
 use lib.ListN.{length, length-drop, get_or, drop}
-use borrow.Author.Tests.{lt-ltb, le-ltb, le-leb, lt-leb, ne_eqb, leb-false}
-use Rattle.model.specs.Limits.{documents, max_name, max_records, max_depth, max_binders}
+use borrow.Author.Tests.{lt-ltb, le-ltb, le-leb, lt-leb, leb-false}
+use Rattle.model.specs.Limits.{max_records, max_depth, max_binders}
 use Rattle.model.specs.Refusal.{is_fine, unless, field_at}
-use Rattle.model.specs.Script.{document_kind, variable_kind, step_kind, new_element_kind, pick_kind, is_script_kind, body_size, body_fits}
-use Rattle.model.specs.Script.{test_fits}
+use Rattle.model.specs.Script.{is_script_kind, body_size, body_fits}
 use Rattle.model.specs.Script.{is_binder, expr_refusal}
 use Rattle.model.proofs.ListLaws.{drop_first}
 use Rattle.model.proofs.ScriptLaws.{Passed, passed}
-use Rattle.model.proofs.BoolLaws.{by_cases}
+use Rattle.script_records.specs.Kinds.{byte_of}
+use Rattle.script_records.specs.declared.kinds.Kind.{Kind}
+use Rattle.script_records.proofs.KindLaws.{some_kind}
 use Rattle.script.specs.Accepted.{RecordFits}
-use Rattle.script.specs.Reading.{BodyPre, BodyPost, HeadPost}
-
--- THE TEST of a step and its name
-module _ (t n : ℕ) where
-  pub test_named : n ≤ max_name → t ≡ 3 → test_fits t n ≡ leb 1 n
-  test_named h e = rw (e, le-leb n max_name h) (by_cases (leb 1 n) (λ q. rw q) (λ q. rw q))
-
-  pub test_plain : t < 3 → test_fits t n ≡ eqb n 0
-  test_plain h = rw (ne_eqb t 3 (λ q. omega arith), lt-ltb t 3 h)
-
-  pub test_none : 3 < t → test_fits t n ≡ false
-  test_none h = rw (ne_eqb t 3 (λ q. omega arith), le-ltb t 3 (omega arith))
-
--- THE BODY of the record at the front, by its kind
-pub body_whole : {s : List ℕ} {k : ℕ} → BodyPre s → get_or s 0 0 ≡ k → (j : ℕ) → j ≤ body_size k → j < length s
-body_whole pre e j l = omega (arith, pre.whole, ap (λ (x : ℕ). body_size x) e)
-
-module _ {s : List ℕ} {v : ℕ} where
-  pub body_document : {j : ℕ} → get_or s 0 0 ≡ document_kind → j ≡ get_or s 1 0 → BodyPost s v (ltb j documents)
-  body_document e h = record { fits = rw (e, h) }
-
-  pub body_variable : {j : ℕ} → get_or s 0 0 ≡ variable_kind → j ≡ get_or s 1 0 → BodyPost s v (ltb j v)
-  body_variable e h = record { fits = rw (e, h) }
-
-  pub body_axis : get_or s 0 0 ≡ step_kind → 4 ≤ get_or s 1 0 → BodyPost s v false
-  body_axis e h = record { fits = rw (e, le-ltb (get_or s 1 0) 4 h) }
-
-  pub body_step : {r : Bool} → get_or s 0 0 ≡ step_kind → get_or s 1 0 < 4 → r ≡ test_fits (get_or s 2 0) (get_or s 3 0) → BodyPost s v r
-  body_step e h t = record { fits = t ∙ rw (e, lt-ltb (get_or s 1 0) 4 h) }
-
-  pub body_element : get_or s 0 0 ≡ new_element_kind → get_or s 1 0 ≤ max_name → BodyPost s v (leb 1 (get_or s 1 0))
-  body_element e h =
-      record { fits = rw (e, le-leb (get_or s 1 0) max_name h) (by_cases (leb 1 (get_or s 1 0)) (λ q. rw q) (λ q. rw q)) }
-
-  pub body_pick : get_or s 0 0 ≡ pick_kind → BodyPost s v (ltb (get_or s 1 0) 3)
-  body_pick e = record { fits = rw e }
-
-  pub body_none : (get_or s 0 0 ≡ document_kind → ⊥) → (get_or s 0 0 ≡ variable_kind → ⊥) → (get_or s 0 0 ≡ step_kind → ⊥) →
-      (get_or s 0 0 ≡ new_element_kind → ⊥) →
-      (get_or s 0 0 ≡ pick_kind → ⊥) → BodyPost s v true
-  body_none f g h i j =
-      record {
-        fits = rw (
-          ne_eqb (get_or s 0 0) document_kind f,
-          ne_eqb (get_or s 0 0) variable_kind g,
-          ne_eqb (get_or s 0 0) step_kind h,
-          ne_eqb (get_or s 0 0) new_element_kind i,
-          ne_eqb (get_or s 0 0) pick_kind j,
-        );
-      }
+use Rattle.script.specs.Reading.{BodyPost, HeadPost}
 
 -- THE REFUSAL of the record at the front, one law for each way out
 body_left : (s : List ℕ) (left n v i : ℕ) → 0 < length s → is_script_kind (get_or s 0 0) ≡ true → n < max_records → 0 < left →
@@ -81,6 +33,13 @@ body_left s left n v i some kind room depth scope whole =
       le-leb (1 + body_size (get_or s 0 0)) (length s) whole,
     )
 
+kind_of : (s : List ℕ) (k : Kind) → byte_of k ≡ get_or s 0 0 → is_script_kind (get_or s 0 0) ≡ true
+kind_of s k is = ap is_script_kind (sym is) ∙ some_kind k
+
+scope_of : (s : List ℕ) (v : ℕ) (k : Kind) → byte_of k ≡ get_or s 0 0 → {t : Bool} → (is_binder (byte_of k) && leb max_binders v) ≡ t →
+    (is_binder (get_or s 0 0) && leb max_binders v) ≡ t
+scope_of s v k is e = ap (λ (q : ℕ). is_binder q && leb max_binders v) (sym is) ∙ e
+
 module _ {s : List ℕ} {left n v : ℕ} where
   pub head_empty : length s ≡ 0 → HeadPost s left n v 2
   head_empty e = record { refusal = λ i. rw e }
@@ -90,54 +49,57 @@ module _ {s : List ℕ} {left n v : ℕ} where
       let m : 0 < length s = omega (arith, h) in
       record { refusal = λ i. rw (lt-ltb 0 (length s) m, k) }
 
-  module _ (some : 0 < length s) (kind : is_script_kind (get_or s 0 0) ≡ true) where
+  module _ (some : 0 < length s) (k : Kind) (is : byte_of k ≡ get_or s 0 0) where
     pub head_records : max_records ≤ n → HeadPost s left n v 5
     head_records h =
-        record { refusal = λ i. rw (lt-ltb 0 (length s) some, kind, le-ltb n max_records h) }
+        record { refusal = λ i. rw (lt-ltb 0 (length s) some, (kind_of s k is), le-ltb n max_records h) }
 
     module _ (room : n < max_records) where
       pub head_depth : left ≡ 0 → HeadPost s left n v 5
       head_depth e =
           record {
-            refusal = λ i. rw (lt-ltb 0 (length s) some, kind, lt-ltb n max_records room, e);
+            refusal = λ i. rw (lt-ltb 0 (length s) some, (kind_of s k is), lt-ltb n max_records room, e);
           }
 
       module _ (depth : 0 < left) where
-        pub head_ninth : (is_binder (get_or s 0 0) && leb max_binders v) ≡ true → HeadPost s left n v 5
+        pub head_ninth : (is_binder (byte_of k) && leb max_binders v) ≡ true → HeadPost s left n v 5
         head_ninth e =
             let d : leb (max_depth + 1 - left) max_depth ≡ true = le-leb (max_depth + 1 - left) max_depth (omega arith) in
             record {
-              refusal = λ i. rw (lt-ltb 0 (length s) some, kind, lt-ltb n max_records room, d, e);
+              refusal = λ i. rw (lt-ltb 0 (length s) some, (kind_of s k is), lt-ltb n max_records room, d, scope_of s v k is e);
             }
 
-        module _ (scope : (is_binder (get_or s 0 0) && leb max_binders v) ≡ false) where
-          pub head_short : length s < 1 + body_size (get_or s 0 0) → HeadPost s left n v 2
+        module _ (scope : (is_binder (byte_of k) && leb max_binders v) ≡ false) where
+          pub head_short : length s < 1 + body_size (byte_of k) → HeadPost s left n v 2
           head_short h =
               let d : leb (max_depth + 1 - left) max_depth ≡ true = le-leb (max_depth + 1 - left) max_depth (omega arith) in
-              let w : leb (1 + body_size (get_or s 0 0)) (length s) ≡ false = lt-leb (1 + body_size (get_or s 0 0)) (length s) h in
+              let w : leb (1 + body_size (get_or s 0 0)) (length s) ≡ false =
+              lt-leb (1 + body_size (get_or s 0 0)) (length s) (omega (arith, h, ap body_size is)) in
               record {
                 refusal = λ i. rw (
                   lt-ltb 0 (length s) some,
-                  kind,
+                  (kind_of s k is),
                   lt-ltb n max_records room,
                   d,
-                  scope,
+                  (scope_of s v k is scope),
                   w,
                 );
               }
 
-          module _ (whole : 1 + body_size (get_or s 0 0) ≤ length s) where
+          module _ (whole : 1 + body_size (byte_of k) ≤ length s) where
             pub head_fine : {r : Bool} → BodyPost s v r → r ≡ true → HeadPost s left n v 0
             head_fine f e =
                 record {
-                  refusal = λ i. body_left s left n v i some kind room depth scope whole ∙
+                  refusal = λ i. body_left s left n v i some (kind_of s k is) room depth (scope_of s v k is scope)
+                      (omega (arith, whole, ap body_size is)) ∙
                       ap (λ (z : Bool). unless z (field_at i)) (sym f.fits ∙ e);
                 }
 
             pub head_field : {r : Bool} → BodyPost s v r → r ≡ false → HeadPost s left n v 4
             head_field f e =
                 record {
-                  refusal = λ i. body_left s left n v i some kind room depth scope whole ∙
+                  refusal = λ i. body_left s left n v i some (kind_of s k is) room depth (scope_of s v k is scope)
+                      (omega (arith, whole, ap body_size is)) ∙
                       ap (λ (z : Bool). unless z (field_at i)) (sym f.fits ∙ e);
                 }
 

@@ -1,3 +1,4 @@
+pub mod ToldLaws
 pub mod HeadLaws
 pub mod ParseLaws
 pub mod PlaceLaws

@@ -1,5 +1,5 @@
 -- What reading a script answers, and the contracts of the reader's parts.
-use Rattle.std.specs.Prelude.{◌≡◌, Bool, List, ℕ, suc, ◌+◌, ◌-◌, ◌≤◌, length, get_or, drop, Result, Ok, Err}
+use Rattle.std.specs.Prelude.{◌≡◌, Bool, List, ℕ, suc, ◌+◌, ◌-◌, ◌≤◌, length, get_or, drop, Result, Ok, Err, IfOk}
 use Rattle.model.specs.Limits.{max_depth}
 use Rattle.model.specs.Refusal as refusal
 use Rattle.model.specs.Refusal.{Refusal}
@@ -7,6 +7,9 @@ use Rattle.model.specs.Script.{Parsed, refused, parsed, parse_from, read_script,
 use Rattle.plan_table.specs.Refusals.{number_of}
 use Rattle.plan_table.specs.Results.{End, refusal_of}
 use Rattle.plan_table.specs.declared.Refusal as error
+use Rattle.plan_table.specs.declared.Reason.{Reason}
+use Rattle.script_records.specs.Kinds.{byte_of}
+use Rattle.script_records.specs.declared.kinds.Kind.{Kind}
 use Rattle.script.specs.declared.read.Parsed as found
 
 -- READING a script: its refusal, or none
@@ -51,3 +54,7 @@ pub record ExpressionPost (b : List ℕ) (at left records bound : ℕ) (r : End)
 
 pub record HeadPost (s : List ℕ) (left records bound r : ℕ) : Type 0 where
   pub refusal : (i : ℕ) → expr_refusal i records (max_depth + 1 - left) bound s ≡ refusal.refusal_at r i
+
+-- the kind that is read is that of the byte at the front
+abbrev pub HeadKind : (s : List ℕ) → Result Kind Reason → Type 0
+HeadKind s r = IfOk r (λ k. byte_of k ≡ get_or s 0 0)

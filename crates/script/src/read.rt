@@ -1,96 +1,55 @@
 // Reads the expression at a place: per record 1, 5, 2, 4; then its operands, left to right.
-ghost use Rattle.std.specs.Prelude.{◌≡◌, ◌&&◌, ◌≤◌, leb};
-ghost use Rattle.model.specs.Limits.{max_name, max_binders};
-ghost use Rattle.model.specs.Script.{is_binder, test_fits};
+ghost use Rattle.std.specs.Prelude.{◌≡◌, get_or};
 ghost use Rattle.plan_table.specs.Results.{number_by};
-ghost use Rattle.script.specs.Reading.{BodyPre, BodyPost, HeadPost, ExpressionPre, ExpressionPost, parsed_by};
+ghost use Rattle.script_records.specs.Kinds.{byte_of};
+ghost use Rattle.script.specs.Reading.{BodyPre, BodyPost, HeadKind, HeadPost, ExpressionPre, ExpressionPost, parsed_by};
 
-use plan_table::{NameNumber, Reason, Refusal, Table, number};
-use script_records::kinds;
-
-const AXES: u8 = 4;
-
-const RELATIONS: u8 = 3;
-
-// The test for the named element.
-const NAMED: u8 = 3;
-
-// Name is 0 unless the test is 3, and then 1 to 255.
-fn test_fits(test: u8, name: NameNumber) -> bool
-    requires { name.0 ≤ max_name }
-    ensures { result ≡ test_fits test name.0 }
-{
-    if test == NAMED {
-        return 1 <= name.0;
-    }
-    if test < NAMED {
-        return name.0 == 0;
-    }
-    false
-}
+use plan_table::{Reason, Refusal, Table};
+use script_records::kinds::Kind;
+use script_records::pick::Relation;
+use script_records::step::Step;
 
 // The fields of the record at the front are in range, its variable is bound.
-fn body_fits(s: &[u8], bound: usize) -> bool
-    requires { BodyPre s.now }
+#[tactic(auto, unfolding(model::specs::Script::script_kinds))]
+fn body_fits(kind: Kind, s: &[u8], bound: usize) -> bool
+    requires body_pre { BodyPre s.now }
+    requires kind { byte_of kind ≡ get_or s.now 0 0 }
     ensures { BodyPost s.now bound result }
 {
-    let kind = s[0];
-    if kind == kinds::DOCUMENT {
-        return number::byte(s[1]) < Table::DOCUMENTS;
+    match kind {
+        Kind::Document => usize::from(s[1]) < Table::DOCUMENTS,
+        Kind::Variable => usize::from(s[1]) < bound,
+        Kind::Step => Step::read(&s[1..]).is_ok(),
+        Kind::NewElement => 1 <= s[1],
+        Kind::Pick => Relation::try_from(s[1]).is_ok(),
+        Kind::Nil | Kind::Join | Kind::Let | Kind::For | Kind::If => true,
+        Kind::NewLeaf | Kind::Delete | Kind::Insert => true,
     }
-    if kind == kinds::VARIABLE {
-        return number::byte(s[1]) < bound;
-    }
-    if kind == kinds::STEP {
-        if AXES <= s[1] {
-            return false;
-        }
-        return test_fits(s[2], number::name(s[3]));
-    }
-    if kind == kinds::NEW_ELEMENT {
-        return 1 <= s[1];
-    }
-    if kind == kinds::PICK {
-        return s[1] < RELATIONS;
-    }
-    true
 }
 
-// A binder inside as many binders as there may be.
-fn is_ninth(kind: u8, bound: usize) -> bool
-    ensures { result ≡ (is_binder kind && leb max_binders bound) }
-{
-    if kinds::is_binder(kind) {
-        return Table::BINDERS <= bound;
-    }
-    false
-}
-
-// Why the record at the front is refused, if it is.
-fn head(s: &[u8], left: usize, records: usize, bound: usize) -> Result<(), Reason>
-    ensures { HeadPost s.now left records bound (number_by result) }
+// The kind of the record at the front, or why it is refused.
+fn head(s: &[u8], left: usize, records: usize, bound: usize) -> Result<Kind, Reason>
+    ensures refusal { HeadPost s.now left records bound (number_by result) }
+    ensures kind { HeadKind s.now result }
 {
     if s.len() == 0 {
         return Err(Reason::Short);
     }
-    let kind = s[0];
-    if !kinds::is_kind(kind) {
-        return Err(Reason::Kind);
-    }
+    let kind = Kind::try_from(s[0])?;
     if Table::SCRIPT_RECORDS <= records {
         return Err(Reason::Size);
     }
     if left == 0 {
         return Err(Reason::Size);
     }
-    if is_ninth(kind, bound) {
+    if kind.is_binder() & (Table::BINDERS <= bound) {
         return Err(Reason::Size);
     }
-    if s.len() < 1 + kinds::body_size(kind) {
+    if s.len() < 1 + kind.body_size() {
         return Err(Reason::Short);
     }
-    if body_fits(s, bound) {
-        return Ok(());
+    if body_fits(kind, s, bound) {
+        return Ok(kind);
     }
     Err(Reason::Field)
 }
@@ -113,11 +72,12 @@ pub fn expression(
     requires { ExpressionPre bytes.now at left }
     ensures { ExpressionPost bytes.now at left records bound (parsed_by result) }
 {
-    head(&bytes[at..], left, records, bound).map_err(|reason| Refusal { reason, place: at })?;
-    let kind = bytes[at];
-    let found = kinds::kind_of(kind);
-    let operands = found.operands;
-    let place = at + (1 + found.body);
+    let kind = head(&bytes[at..], left, records, bound).map_err(|reason| Refusal {
+        reason,
+        place: at,
+    })?;
+    let operands = kind.arity();
+    let place = at + (1 + kind.body_size());
     let records = records + 1;
     if operands == 0 {
         return Ok(Parsed { place, records });
@@ -130,7 +90,7 @@ pub fn expression(
         bytes,
         first.place,
         left - 1,
-        kinds::inner(kind, bound),
+        kind.inner(bound),
         first.records,
     )?;
     if operands == 2 {

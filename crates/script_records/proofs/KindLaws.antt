@@ -1,10 +1,14 @@
--- A byte that is none of the kinds' is no kind.
-use mathlib.Core.Path.{◌≡◌}
-use mathlib.Core.Bool.{false}
+-- A byte that is none of the kinds' is no kind, and a kind's is one.
+use mathlib.Core.Path.{◌≡◌, refl}
+use mathlib.Core.Bool.{true, false}
 use Prim.Native.Nat.{ℕ}
 use borrow.Author.Tests.{ne_eqb}
 use Rattle.model.specs.Script.{nil_kind, document_kind, variable_kind, step_kind, join_kind, let_kind, for_kind, if_kind}
 use Rattle.model.specs.Script.{new_element_kind, new_leaf_kind, delete_kind, insert_kind, pick_kind, script_kinds, is_script_kind}
+use Rattle.script_records.specs.Kinds.{byte_of}
+use Rattle.script_records.specs.declared.kinds.Kind.{Kind}
+use Rattle.script_records.specs.declared.kinds.Kind.TheVariants.{Nil, Document, Variable, Step, Join, Let, For, If, NewElement, NewLeaf}
+use Rattle.script_records.specs.declared.kinds.Kind.TheVariants.{Delete, Insert, Pick}
 
 pub no_kind : (k : ℕ) → (k ≡ nil_kind → ⊥) × (k ≡ document_kind → ⊥) × (k ≡ variable_kind → ⊥) × (k ≡ step_kind → ⊥) × (k ≡ join_kind → ⊥) ×
     (k ≡ let_kind → ⊥) × (k ≡ for_kind → ⊥) × (k ≡ if_kind → ⊥) × (k ≡ new_element_kind → ⊥) × (k ≡ new_leaf_kind → ⊥) ×
@@ -26,3 +30,19 @@ no_kind k (f1, f2, f3, f4, f5, f6, f7, f8, f9, f10, f11, f12, f13) =
       ne_eqb k insert_kind f12,
       ne_eqb k pick_kind f13,
     )
+
+pub some_kind : (k : Kind) → is_script_kind (byte_of k) ≡ true
+unfolding script_kinds
+some_kind Nil = refl
+some_kind Document = refl
+some_kind Variable = refl
+some_kind Step = refl
+some_kind Join = refl
+some_kind Let = refl
+some_kind For = refl
+some_kind If = refl
+some_kind NewElement = refl
+some_kind NewLeaf = refl
+some_kind Delete = refl
+some_kind Insert = refl
+some_kind Pick = refl

@@ -1,3 +1,4 @@
 pub mod Walk
 pub mod Kinds
 pub mod Steps
+pub mod Relations

@@ -66,16 +66,16 @@ impl Test {
         }
     }
 
-    // A packed row passes.
+    // A packed row passes. One arm asks whether it is a leaf: with that asked in each, steps from one item took a quarter longer.
     pub fn admits(self, w: u32) -> bool
         ensures { result ≡ admits (test_of self) (letter_of (row_of w)) }
     {
-        let is_leaf = packed::kind(w) == packed::LEAF;
         match self {
             Test::Node => true,
-            Test::Element => !is_leaf,
-            Test::Leaf => is_leaf,
-            Test::Named(name) => !is_leaf & (packed::tag(w) == u32::from(name.0)),
+            _ if packed::kind(w) == packed::LEAF => matches!(self, Test::Leaf),
+            Test::Element => true,
+            Test::Leaf => false,
+            Test::Named(name) => packed::tag(w) == u32::from(name.0),
         }
     }
 }

@@ -5,13 +5,14 @@ use Rattle.run_query.proofs.ValueLaws.{cond_low}
 use Rattle.run_query.specs.Values.{Appended, value_at}
 use Rattle.model.specs.Base.{filtered}
 use Rattle.model.specs.Limits.{max_rows}
+use Rattle.script_records.specs.Relations.{relation_number}
 use Rattle.run_pick.proofs.pick.picked.Goals as goal
 
 pub loop-k-init : goal.loop-k-init
 loop-k-init c =
     let a = c.args in (
       omega arith,
-      filtered_none (picked_row a.rows.now a.relation a.constant) a.work.now a.from,
+      filtered_none (picked_row a.rows.now (relation_number a.relation) a.constant) a.work.now a.from,
       refl,
     )
 
@@ -47,10 +48,10 @@ loop-k-preserved c =
     (get_or a.rows.now i.result 0) (omega (arith, known)) in
     let is = c.picks-keep.ensures ∙ kept in (
       past_low,
-      filtered_by (picked_row a.rows.now a.relation a.constant) a.work.now l.work a.from
+      filtered_by (picked_row a.rows.now (relation_number a.relation) a.constant) a.work.now l.work a.from
           l.k l.at (omega arith) (omega (arith, p.within)) (omega (arith, l.invariant.0, p.within)) l.invariant.1
           c.picks-keep.result i.result s.new.work s.result here
-          (is ∙ ap (picked_row a.rows.now a.relation a.constant) here) s.ensures.work_after s.ensures.value,
+          (is ∙ ap (picked_row a.rows.now (relation_number a.relation) a.constant) here) s.ensures.work_after s.ensures.value,
       ap (drop (l.k + 1)) s.ensures.work_after ∙
           rest_kept a.work.now l.work l.k l.at i.result l.invariant.0 l.invariant.2,
     )
@@ -66,7 +67,7 @@ returns c =
     (omega (arith, p.within, p.order, length-drop a.from a.work.now)) in
     record {
       value = λ n ms few low. subst (λ (u : List ℕ). Appended u a.work.now a.from l.work l.at)
-          (picked_rows a.rows.now n a.relation a.constant v ms (omega (arith, p.rows)) (λ k b. low k (omega (arith, m))))
-          (subst (λ (j : ℕ). Appended (filtered (picked_row a.rows.now a.relation a.constant) (value_at a.work.now
+          (picked_rows a.rows.now n (relation_number a.relation) a.constant v ms (omega (arith, p.rows)) (λ k b. low k (omega (arith, m))))
+          (subst (λ (j : ℕ). Appended (filtered (picked_row a.rows.now (relation_number a.relation) a.constant) (value_at a.work.now
           a.from j)) a.work.now a.from l.work l.at) e l.invariant.1);
     }

@@ -4,13 +4,14 @@ use Rattle.run_query.proofs.IndexLaws.{led_first, led_next}
 use Rattle.run_query.proofs.ValueLaws.{collected_above}
 use Rattle.run_query.specs.Values.{SteppedTo}
 use Rattle.model.specs.Script.{step_by}
+use Rattle.script_records.specs.Steps.{test_number, test_name}
 use Rattle.run_query.proofs.item.children.Goals as goal
 
 pub returns-then-many-link : goal.returns-then-many-link
 returns-then-many-link c =
     c.scanned.ensures c.args.work.now c.args.from
     (λ ms. collected_above c.args.work.now c.args.from _ (c.args.item.0 + 1)
-    (λ j h. no_child c.args.rows.now c.args.count c.requires.item_pre.held c.args.test.kind c.args.test.name.0 ms
+    (λ j h. no_child c.args.rows.now c.args.count c.requires.item_pre.held (test_number c.args.test) (test_name c.args.test) ms
     c.args.item.0 j h))
 
 pub loop-j-init : goal.loop-j-init
@@ -21,7 +22,7 @@ loop-j-init c =
     c.index-j.result c.index-j.ensures.value in (
       l.high,
       l.there,
-      (λ ms. collected_past c.args.rows.now c.args.count c.requires.item_pre.held c.args.test.kind c.args.test.name.0 ms
+      (λ ms. collected_past c.args.rows.now c.args.count c.requires.item_pre.held (test_number c.args.test) (test_name c.args.test) ms
           c.args.item.0
           c.args.work.now c.args.from c.args.work.now c.args.from 0 c.index-j.result l.past
           (collected_above c.args.work.now c.args.from _ 0 (λ j h. absurd (omega arith)))),
@@ -43,7 +44,7 @@ loop-j-preserved c =
     ) in (
       l.high,
       l.there,
-      (λ ms. collected_next c.args.rows.now c.args.count c.requires.item_pre.held c.args.test.kind c.args.test.name.0 ms
+      (λ ms. collected_next c.args.rows.now c.args.count c.requires.item_pre.held (test_number c.args.test) (test_name c.args.test) ms
           c.args.item.0 c.loop-j.j
           c.index-j-in-loop-j.result h (c.loop-j.invariant.2 ms) c.append_child-at.ensures l.past),
       omega (arith, c.loop-j.invariant.3, c.append_child-at.ensures.short, l.past.low),
@@ -53,6 +54,6 @@ pub returns : goal.returns
 returns c =
     let e : c.loop-j.j ≡ c.index-many.result = omega (arith, c.loop-j.invariant.0) in
     c.scanned-2.ensures c.args.work.now c.args.from
-    (subst (λ (k : ℕ). SteppedTo c.args.rows.now c.args.count (step_by 0 c.args.test.kind c.args.test.name.0)
+    (subst (λ (k : ℕ). SteppedTo c.args.rows.now c.args.count (step_by 0 (test_number c.args.test) (test_name c.args.test))
     (c.args.item.0 ∷ []) k
     c.args.work.now c.args.from c.loop-j.work c.loop-j.at) e c.loop-j.invariant.2)

@@ -5,12 +5,13 @@ use Rattle.run_query.specs.Index.{IndexHeld}
 use Rattle.run_query.specs.Values.{SteppedTo}
 use Rattle.model.specs.Script.{step_by}
 use Rattle.plan_table.specs.Packed.{link_in}
+use Rattle.script_records.specs.Steps.{test_number, test_name}
 use Rattle.run_query.proofs.item.children.Given as goal
 
 abbrev pub invariant-loop-j : goal.invariant-loop-j
 invariant-loop-j l = (l.j ≤ l.many) ×
     ((s : IndexHeld l.index l.rows l.count) → l.j < l.many → link_in (get_or s.before l.j 0) ≡ l.link) ×
-    SteppedTo l.rows l.count (step_by 0 l.test.kind l.test.name.0) (l.item.0 ∷ []) l.j l.initial.work l.from l.work l.at ×
+    SteppedTo l.rows l.count (step_by 0 (test_number l.test) (test_name l.test)) (l.item.0 ∷ []) l.j l.initial.work l.from l.work l.at ×
     (l.at ≤ l.from + l.j)
 
 abbrev pub decreases-loop-j : goal.decreases-loop-j

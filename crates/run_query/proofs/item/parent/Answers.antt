@@ -6,14 +6,15 @@ use Rattle.run_query.specs.Values.{Appended, way_up}
 use Rattle.run_query.proofs.PassLaws.{link_below}
 use Rattle.run_query.proofs.ValueLaws.{appended_none, appended_by}
 use Rattle.run_query.proofs.ItemLaws.{step_way, way_none, way_one}
+use Rattle.script_records.specs.Steps.{test_number, test_name}
 use Rattle.run_query.proofs.item.parent.Goals as goal
 
 pub returns-then-l-eq0 : goal.returns-then-l-eq0
 returns-then-l-eq0 c =
     λ ms. subst (λ (v : List ℕ). Appended v c.args.work.now c.args.from c.args.work.now c.args.from)
-    (sym (step_way c.args.rows.now c.args.count c.requires.held c.args.test.kind c.args.test.name.0 ms false
+    (sym (step_way c.args.rows.now c.args.count c.requires.held (test_number c.args.test) (test_name c.args.test) ms false
     c.args.item.0 c.requires.low ∙
-    way_none c.args.rows.now c.args.count c.requires.held c.args.test.kind c.args.test.name.0 ms false 2 _
+    way_none c.args.rows.now c.args.count c.requires.held (test_number c.args.test) (test_name c.args.test) ms false 2 _
     (sym c.link-l.ensures ∙ c.if-l-eq0.true))) (appended_none c.args.work.now c.args.from)
 
 pub bounds-rows-row : goal.bounds-rows-row
@@ -30,11 +31,11 @@ bounds-rows-row c =
 pub returns : goal.returns
 returns c =
     λ ms. appended_by _ c.admits.result (c.link-l.result.0 - 1)
-    (step_way c.args.rows.now c.args.count c.requires.held c.args.test.kind c.args.test.name.0 ms false
+    (step_way c.args.rows.now c.args.count c.requires.held (test_number c.args.test) (test_name c.args.test) ms false
     c.args.item.0 c.requires.low ∙
-    ap (way_up (decode_parts c.args.count c.args.rows.now ms) false (step_by 2 c.args.test.kind c.args.test.name.0))
+    ap (way_up (decode_parts c.args.count c.args.rows.now ms) false (step_by 2 (test_number c.args.test) (test_name c.args.test)))
     (sym c.link-l.ensures) ∙
-    way_one c.args.rows.now c.args.count c.requires.held c.args.test.kind c.args.test.name.0 ms
+    way_one c.args.rows.now c.args.count c.requires.held (test_number c.args.test) (test_name c.args.test) ms
     c.link-l.result.0 c.if-l-eq0.false
     (omega (
       arith,
