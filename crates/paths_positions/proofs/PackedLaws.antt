@@ -85,7 +85,7 @@ module _ (p : declared.Position) (f : PositionFits (fields_in p)) where
   fields_packed : fields_of (pack_position (fields_in p)) ≡ fields_in p
   fields_packed = ap cleaned (digits_packed (fields_in p) f) ∙ cleaned_in p
 
-  pub position_pushed : (ws : List ℕ) (n : ℕ) → n < length ws → PushPost ws n (fields_in p) (set ws n (pack_position (fields_in p)))
+  pub position_pushed : (ws : List ℕ) (n : ℕ) → n < length ws → PushPost ws n (fields_in p) (set ws n (pack_position (fields_in p))) (n + 1) n
   position_pushed ws n h =
       let w = pack_position (fields_in p) in
       record {
@@ -93,6 +93,8 @@ module _ (p : declared.Position) (f : PositionFits (fields_in p)) where
         entries =
             ap (map entry_of) (take_set ws n w h) ∙ map-append entry_of (take n ws) (w ∷ []) ∙
             ap (λ (q : Position). entries_in ws n ++ (entry_by q ∷ [])) fields_packed;
+        count = refl;
+        result = refl;
       }
 
 -- FIELDS of any number fit their room

@@ -169,14 +169,16 @@ entry_of w = entry_by (fields_of w)
 abbrev pub entries_in : (packed : List ℕ) → (count : ℕ) → List positions.Entry
 entries_in ws n = map entry_of (take n ws)
 
--- one packed position more
+-- one packed position more: how many there are then, and its number
 pub record PushPre (ws : List ℕ) (n : ℕ) (p : declared.Position) : Type 0 where
   pub room : n < length ws
   pub fits : OperandsFit p
 
-pub record PushPost (ws : List ℕ) (n : ℕ) (p : Position) (ws' : List ℕ) : Type 0 where
+pub record PushPost (ws : List ℕ) (n : ℕ) (p : Position) (ws' : List ℕ) (n' r : ℕ) : Type 0 where
   pub size : length ws' ≡ length ws
   pub entries : entries_in ws' (n + 1) ≡ entries_in ws n ++ (entry_by p ∷ [])
+  pub count : n' ≡ n + 1
+  pub result : r ≡ n
 
 -- the entries that packed positions are
 abbrev pub entries_by : (packed : List ℕ) → List positions.Entry

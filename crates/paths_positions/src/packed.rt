@@ -1,5 +1,6 @@
 // Positions of a script, each packed into a number: kind, role, axis, test, label, first operand, second operand, the kind lowest.
-ghost use Rattle.std.specs.Prelude.{◌≡◌, ◌<◌};
+ghost use Rattle.std.specs.Prelude.{◌≡◌, ◌<◌, length, get_or};
+ghost use Rattle.paths_positions.specs.Steps.{max_positions};
 ghost use Rattle.paths_positions.specs.Positions.{leads_up};
 ghost use Rattle.paths_positions.specs.Packed.{role_number, known_role, fields_in, position_by, pack_position, fields_of, known_name};
 ghost use Rattle.paths_positions.specs.Packed.{step_number, OperandsFit, PositionFits, PushPre, PushPost};
@@ -190,10 +191,34 @@ impl Position {
     }
 }
 
-// One position more, behind the first `count`.
-pub fn push(positions: &mut [usize], count: usize, p: Position)
-    requires { PushPre positions.old count p }
-    ensures { PushPost positions.old count (fields_in p) positions.new }
-{
-    positions[count] = p.packed();
+// The positions of a script so far, each packed, by their numbers.
+#[derive(Drop)]
+pub struct Positions {
+    pub items: [usize; POSITIONS],
+    pub count: usize,
+}
+
+impl Positions {
+    // Position 0 alone: nothing.
+    pub fn new() -> Positions
+        ensures size { length result.items ≡ max_positions }
+        ensures zero { get_or result.items 0 0 ≡ 0 }
+        ensures count { result.count ≡ 1 }
+    {
+        Positions {
+            items: [0; POSITIONS],
+            count: 1,
+        }
+    }
+
+    // One position more; its number.
+    pub fn push(&mut self, p: Position) -> usize
+        requires { PushPre self.old.items self.old.count p }
+        ensures { PushPost self.old.items self.old.count (fields_in p) self.new.items self.new.count result }
+    {
+        let number = self.count;
+        self.items[number] = p.packed();
+        self.count = number + 1;
+        number
+    }
 }
