@@ -34,10 +34,10 @@ use Rattle.paths_positions.proofs.UpLaws.{some_leads_up_is}
 use Rattle.paths_emit.proofs.SizeLaws.{script_records}
 
 -- THE POSITIONS of an accepted script
-module _ {b ws : List ℕ} (pre : ScriptPre b ws) {env : List ℕ} where
-  pub positions_asks : length env ≡ max_binders → EmitPre b max_depth 0 env (emitter 0 ws 1)
+module _ {b ws : List ℕ} {n₀ : ℕ} (pre : ScriptPre b ws n₀) {env : List ℕ} where
+  pub positions_asks : length env ≡ max_binders → EmitPre b max_depth 0 env (emitter 0 ws n₀)
   positions_asks e =
-      record {
+      rw pre.count (record {
         accepted = script_accepted b pre.accepted;
         scope = omega arith;
         size = pre.size;
@@ -45,20 +45,20 @@ module _ {b ws : List ℕ} (pre : ScriptPre b ws) {env : List ℕ} where
         some = omega arith;
         room = omega (arith, script_records b pre.accepted);
         low = λ v h. absurd (omega arith);
-      }
+      })
 
-  pub positions_done : {p : ℕ} {ws' : List ℕ} {n r : ℕ} → EmitPost b max_depth 0 env (emitter 0 ws 1) (emitter p ws' n) r →
+  pub positions_done : {p : ℕ} {ws' : List ℕ} {n r : ℕ} → EmitPost b max_depth 0 env (emitter 0 ws n₀) (emitter p ws' n) r →
       ScriptPost b ws' n
   positions_done post =
       record {
         size = post.size;
-        few = omega (arith, post.few, script_records b pre.accepted);
+        few = omega (arith, pre.count, post.few, script_records b pre.accepted);
         entries = ap (λ (x : Emitted). x.entries) post.is ∙ ap (λ (es : List Entry). (emit (expr_at max_depth b 0) [] es).entries) before;
       }
     where
-      before : entries_in ws 1 ≡ entries_before
+      before : entries_in ws n₀ ≡ entries_before
       before =
-          ap (map entry_of) (take-suc ws 0 0 (omega (arith, pre.size))) ∙ ap (λ (w : ℕ). entry_of w ∷ []) pre.zero
+          ap (entries_in ws) pre.count ∙ ap (map entry_of) (take-suc ws 0 0 (omega (arith, pre.size))) ∙ ap (λ (w : ℕ). entry_of w ∷ []) pre.zero
 
 -- what the answer asks of them
 pub fronts_asks : (b : List ℕ) {ws : List ℕ} {n : ℕ} → ScriptPost b ws n → PositionsPre (take n ws)

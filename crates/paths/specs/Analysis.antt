@@ -64,11 +64,12 @@ answer_text Free = "free"
 answer_text Upward = "upward"
 answer_text Meet = "meet"
 
--- THE POSITIONS of an accepted script, packed, where the first was zero
-pub record ScriptPre (b ws : List ℕ) : Type 0 where
+-- THE POSITIONS of an accepted script, packed, where only the first was there, zero
+pub record ScriptPre (b ws : List ℕ) (n : ℕ) : Type 0 where
   pub accepted : (script_read b).number ≡ 0
   pub size : length ws ≡ max_positions
   pub zero : get_or ws 0 0 ≡ 0
+  pub count : n ≡ 1
 
 pub record ScriptPost (b ws' : List ℕ) (n : ℕ) : Type 0 where
   pub size : length ws' ≡ max_positions

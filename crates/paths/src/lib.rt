@@ -11,6 +11,7 @@ use paths_cells::pairs;
 use paths_emit::emit;
 use paths_fill::meet;
 use paths_positions::POSITIONS;
+use paths_positions::packed::Positions;
 use plan_table::{Refusal, Script, Table};
 
 // Tables for so many pairs of positions, and for all: less to clear. A typical pair of scripts has 16, two of 48 steps 4,356.
@@ -47,24 +48,14 @@ pub struct ScriptRefused {
     pub refusal: Refusal,
 }
 
-// Puts the positions of an accepted script into an area of which the first is zero; how many there are.
-fn positions_of(bytes: &[u8], positions: &mut [usize; POSITIONS]) -> usize
-    requires { ScriptPre bytes.now positions.old }
-    ensures { ScriptPost bytes.now positions.new result }
+// Puts the positions of an accepted script behind position 0, which alone is there.
+fn positions_of(bytes: &[u8], positions: &mut Positions)
+    requires { ScriptPre bytes.now positions.old.items positions.old.count }
+    ensures { ScriptPost bytes.now positions.new.items positions.new.count }
 {
     let variables = [0u8; Table::BINDERS];
     let mut place = 0;
-    let mut count = 1;
-    emit::emit(
-        bytes,
-        &mut place,
-        Table::DEPTH,
-        0,
-        variables,
-        positions,
-        &mut count,
-    );
-    count
+    emit::emit(bytes, &mut place, Table::DEPTH, 0, variables, positions);
 }
 
 // The answer from the positions of two scripts. An upward step anywhere, even in a branch never run, comes first.
@@ -130,12 +121,13 @@ pub fn analyse(first: &[u8], second: &[u8]) -> Result<Answer, ScriptRefused>
         script: Script::Second,
         refusal,
     })?;
-    let mut positions = [0usize; POSITIONS];
-    let n = positions_of(first, &mut positions);
-    let mut others = [0usize; POSITIONS];
-    let m = positions_of(second, &mut others);
-    let firsts = &positions[..n];
-    let seconds = &others[..m];
+    let mut positions = Positions::new();
+    positions_of(first, &mut positions);
+    let mut others = Positions::new();
+    positions_of(second, &mut others);
+    let (n, m) = (positions.count, others.count);
+    let firsts = &positions.items[..n];
+    let seconds = &others.items[..m];
     if n * m <= FEW {
         return Ok(in_marks::<FEW_MARKS>(firsts, seconds));
     }

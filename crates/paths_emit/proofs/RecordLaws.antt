@@ -14,24 +14,23 @@ use Rattle.script_records.proofs.BindLaws.{with_bound_set, with_bound_same}
 use Rattle.script_records.specs.Walk.{inner}
 use Rattle.paths_positions.specs.Positions.{accessing, root}
 use Rattle.paths_positions.specs.Positions as positions
-use Rattle.paths_positions.specs.Packed.{entry_by, root_by, entries_in, PushPost}
+use Rattle.paths_positions.specs.Packed.{root_by, entries_in, PushPost}
 use Rattle.paths_emit.specs.Emitting.{out_of, nullary_of, unary_of, binary_of, UnaryPre, PairedPre, Grown, NullaryPre, NullaryPost}
 use Rattle.paths_emit.specs.Emitting.{BindPre, BindPost}
-use Rattle.paths_positions.specs.declared.packed.Position.{Position}
 use Rattle.paths_emit.proofs.GrowLaws.{pushed_is, grown_none}
 
 -- WITHOUT OPERANDS
 module _ {b : List ℕ} {at : ℕ} {env ws : List ℕ} {n : ℕ} (pre : NullaryPre b at env ws n) where
-  pub nullary_document : get_or b at 0 ≡ document_kind → {p : Position} {d : ℕ} {ws' : List ℕ} → p ≡ root_by d → d ≡ get_or b (at + 1) 0 →
-      PushPost ws n p ws' → NullaryPost b at env ws n ws' (n + 1) n
-  nullary_document k {p = p} {ws' = ws'} e f post =
+  pub nullary_document : get_or b at 0 ≡ document_kind → {d : ℕ} {ws' : List ℕ} {n' r : ℕ} → d ≡ get_or b (at + 1) 0 →
+      PushPost ws n (root_by d) ws' n' r → NullaryPost b at env ws n ws' n' r
+  nullary_document k f post =
       record {
         size = post.size ∙ pre.size;
-        is = pushed_is ws ws' n p (accessing (root (get_or b (at + 1) 0))) (omega (arith, pre.size, pre.room)) post
-            (ap entry_by e ∙ ap (λ (x : ℕ). accessing (root x)) f) ∙ rw k;
-        low = omega arith;
-        more = omega arith;
-        few = omega arith;
+        is = pushed_is post (accessing (root (get_or b (at + 1) 0))) (omega (arith, pre.size, pre.room))
+            (ap (λ (x : ℕ). accessing (root x)) f) ∙ rw k;
+        low = omega (arith, post.count, post.result);
+        more = omega (arith, post.count);
+        few = omega (arith, post.count);
       }
 
   unchanged : (r : ℕ) → r < n → out_of ws n r ≡ nullary_of b at env (entries_in ws n) → NullaryPost b at env ws n ws n r

@@ -1,17 +1,15 @@
 -- Emission from a script's bytes: what each call asks is there, and each way out is the emission of the expression at the place.
 use mathlib.Core.Path.{◌≡◌, ap, sym, ◌∙◌, subst}
-use mathlib.Core.Bool.{Bool, true, ◌&&◌, cond}
 use mathlib.Core.List.{List}
 use Prim.Native.Nat.{ℕ, ◌+◌, ◌-◌, ◌*◌, ◌≤◌, ◌<◌}
 use native.Mathlib.Omega.{arith}
-use lib.Dec.{ltb, eqb}
+use lib.Dec.{eqb}
 use lib.ListN.{length, get_or, take}
 use lib.Seq.{get_or-take}
-use borrow.Author.Tests.{eqb-true, ltb-true}
+use borrow.Author.Tests.{eqb-true}
 use Rattle.model.specs.Limits.{max_binders}
-use Rattle.model.specs.Table.{is_name}
-use Rattle.model.specs.Script.{arity, test_fits, variable_kind, is_binder, records_of}
-use Rattle.model.proofs.BoolLaws.{by_cases, and_left, eq_cases}
+use Rattle.model.specs.Script.{arity, variable_kind, is_binder, records_of}
+use Rattle.model.proofs.BoolLaws.{by_cases, eq_cases}
 use Rattle.script_records.specs.Walk.{with_bound, inner, first_at, second_at, third_at, expr_at}
 use Rattle.script.specs.Accepted.{Accepted, RecordFits}
 use Rattle.script.proofs.AcceptedLaws.{accepted_record}
@@ -23,13 +21,6 @@ use Rattle.paths_positions.specs.Steps.{max_positions}
 use Rattle.paths_emit.specs.Emitting.{out_of, nullary_of, unary_of, binary_of, PairedPre, UnaryPre, Grown}
 use Rattle.paths_emit.specs.Emitting.{NullaryPre, NullaryPost, BindPre, BindPost, emitter, EmitPre, EmitPost}
 use Rattle.paths_emit.proofs.OperandLaws.{no_operand, one_operand, two_operands, Three, three_operands}
-
--- a test that fits is one of four
-test_low : (t n : ℕ) → test_fits t n ≡ true → t < 4
-test_low t n h =
-    by_cases (eqb t 3) (λ e. omega (arith, eqb-true t 3 e))
-    (λ e. omega
-    (arith, ltb-true t 3 (and_left (ltb t 3) (eqb n 0) (sym (ap (λ (x : Bool). cond x (is_name n) (ltb t 3 && eqb n 0)) e) ∙ h))))
 
 -- AFTER AN OPERAND: the first was emitted; and the second, of two or three
 pub record First (b : List ℕ) (at left v : ℕ) (env ws : List ℕ) (n p₁ : ℕ) (ws₁ : List ℕ) (n₁ r₁ : ℕ) : Type 0 where
@@ -138,7 +129,7 @@ module _ {b : List ℕ} {at left v : ℕ} {env ws : List ℕ} {n p₁ : ℕ} {ws
         grow = record { size = f.post.size; room = omega (arith, f.pre.room, o.size, f.post.few); low = f.post.low };
         whole = (fits f.pre).whole;
         axis = step_axis (fits f.pre);
-        test = λ e. test_low (get_or b (at + 2) 0) (get_or b (at + 3) 0) (step_test (fits f.pre) e);
+        test = step_test (fits f.pre);
       }
 
   pub unary_emits : arity (get_or b at 0) ≡ 1 → {ws' : List ℕ} {n' r : ℕ} → Grown (unary_of b at (out_of ws₁ n₁ r₁)) n₁ ws' n' r →

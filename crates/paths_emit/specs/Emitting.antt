@@ -2,13 +2,12 @@
 use Rattle.std.specs.Prelude.{◌≡◌, true, cond, List, ℕ, ◌+◌, ◌*◌, ◌≤◌, ◌<◌, eqb, length, get_or, take}
 use Rattle.model.specs.Limits.{max_binders}
 use Rattle.model.specs.Script.{document_kind, variable_kind, step_kind, join_kind, delete_kind}
-use Rattle.model.specs.Script.{insert_kind, step_by, records_of, is_binder, body_size}
+use Rattle.model.specs.Script.{insert_kind, step_by, test_fits, records_of, is_binder, body_size}
 use Rattle.script_records.specs.Walk.{with_bound, inner, end_at, expr_at}
 use Rattle.script.specs.Accepted.{Accepted}
 use Rattle.paths_positions.specs.Positions as positions
-use Rattle.paths_positions.specs.Packed.{with_role, roles, axes, tests, labels, entries_in}
+use Rattle.paths_positions.specs.Packed.{with_role, entries_in}
 use Rattle.paths_positions.specs.Steps.{max_positions}
-use Rattle.paths_positions.specs.declared.step.Step.{Step}
 
 -- what packed positions, how many there are so far and the number answered say together
 abbrev pub out_of : (packed : List ℕ) → (count result : ℕ) → positions.Emitted
@@ -35,21 +34,14 @@ pub record GrowPre (ws : List ℕ) (n x : ℕ) : Type 0 where
   pub room : n + 2 ≤ max_positions
   pub low : x < n
 
-pub record StepPre (ws : List ℕ) (n : ℕ) (s : Step) (x : ℕ) : Type 0 where
-  pub grow : GrowPre ws n x
-  pub axis : s.axis < axes
-  pub test : s.test < tests
-  pub name : s.name.0 < labels
-
 pub record PairedPre (ws : List ℕ) (n x y : ℕ) : Type 0 where
   pub grow : GrowPre ws n y
   pub low : x < n
 
 -- all below a position, in a role
-pub record BelowPre (ws : List ℕ) (n role x : ℕ) : Type 0 where
+pub record BelowPre (ws : List ℕ) (n x : ℕ) : Type 0 where
   pub size : length ws ≡ max_positions
   pub room : n < max_positions
-  pub known : role < roles
   pub low : x < n
 
 pub record BelowPost (ws : List ℕ) (n role x : ℕ) (ws' : List ℕ) (n' : ℕ) : Type 0 where
@@ -62,7 +54,7 @@ pub record UnaryPre (b : List ℕ) (at : ℕ) (ws : List ℕ) (n x : ℕ) : Type
   pub grow : GrowPre ws n x
   pub whole : at + body_size (get_or b at 0) < length b
   pub axis : get_or b at 0 ≡ step_kind → get_or b (at + 1) 0 < 4
-  pub test : get_or b at 0 ≡ step_kind → get_or b (at + 2) 0 < 4
+  pub test : get_or b at 0 ≡ step_kind → test_fits (get_or b (at + 2) 0) (get_or b (at + 3) 0) ≡ true
 
 pub record NullaryPre (b : List ℕ) (at : ℕ) (env ws : List ℕ) (n : ℕ) : Type 0 where
   pub size : length ws ≡ max_positions

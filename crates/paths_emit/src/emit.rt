@@ -1,58 +1,51 @@
 // Emission: one pass over an accepted script in place numbers the positions of its expressions, operands first. A function that
-// answers a position answers its number, 0 for nothing; `count`, the positions so far, is raised by those that are added.
-ghost use Rattle.std.specs.Prelude.{◌≡◌, ◌<◌};
+// answers a position answers its number, 0 for nothing.
+ghost use Rattle.std.specs.Prelude.{◌≡◌, ◌<◌, true, length, get_or};
+ghost use Rattle.model.specs.Script.{is_script_kind};
 ghost use Rattle.model.specs.Paths.{any_below};
+ghost use Rattle.script_records.specs.Kinds.{byte_of};
+ghost use Rattle.script_records.specs.Steps.{step_of};
 ghost use Rattle.paths_positions.specs.Positions.{push_step, push_union, push_delete, push_insert};
-ghost use Rattle.paths_positions.specs.Packed.{labels};
-ghost use Rattle.paths_positions.specs.Steps.{step_of};
-ghost use Rattle.paths_emit.specs.Emitting.{out_of, unary_of, binary_of, GrowPre, StepPre, PairedPre, UnaryPre, Grown, BindPre};
+ghost use Rattle.paths_positions.specs.Packed.{role_number};
+ghost use Rattle.paths_emit.specs.Emitting.{out_of, unary_of, binary_of, GrowPre, PairedPre, UnaryPre, Grown, BindPre};
 ghost use Rattle.paths_emit.specs.Emitting.{BindPost, BelowPre, BelowPost, NullaryPre, NullaryPost, emitter, EmitPre, EmitPost};
 
-use paths_positions::packed::Position;
-use paths_positions::step::{ANY_NODE, DESCENDANT, Step};
-use paths_positions::{POSITIONS, packed};
-use plan_table::{NameNumber, Table, number};
-use script_records::kinds;
-
-// A byte as a document.
-fn document(b: u8) -> u16
-    ensures value { result ≡ b }
-    ensures upper_bound { result < labels }
-{
-    b as u16
-}
+use paths_positions::packed::{Position, Positions, Role};
+use plan_table::Table;
+use script_records::kinds::Kind;
+use script_records::step::{Axis, Step, Test};
 
 // The step to every node below.
 fn any_below() -> Step
     ensures { step_of result ≡ any_below }
 {
     Step {
-        axis: DESCENDANT,
-        test: ANY_NODE,
-        name: NameNumber(0),
+        axis: Axis::Descendant,
+        test: Test::Node,
     }
 }
 
 // A step over x, accessed. From nothing it is nothing, with a position only where it leads up.
-fn step(positions: &mut [usize; POSITIONS], count: &mut usize, s: Step, x: usize) -> usize
-    requires { StepPre positions.old count.old s x }
-    ensures { Grown (push_step (step_of s) (out_of positions.old count.old x)) count.old
-        positions.new count.new result }
+fn step(positions: &mut Positions, step: Step, x: usize) -> usize
+    requires { GrowPre positions.old.items positions.old.count x }
+    ensures { Grown (push_step (step_of step) (out_of positions.old.items positions.old.count x))
+        positions.old.count positions.new.items positions.new.count result }
 {
-    if (x == 0) & !s.is_up() {
+    if (x == 0) & !step.is_up() {
         return x;
     }
-    let n = *count;
-    packed::push(positions, n, Position::over(packed::ACCESSED, s, x));
-    *count = n + 1;
-    n
+    positions.push(Position::Over {
+        role: Role::Accessed,
+        step,
+        operand: x,
+    })
 }
 
 // Two results together; with nothing it is the other.
-fn union(positions: &mut [usize; POSITIONS], count: &mut usize, x: usize, y: usize) -> usize
-    requires { PairedPre positions.old count.old x y }
-    ensures { Grown (push_union x (out_of positions.old count.old y)) count.old
-        positions.new count.new result }
+fn union(positions: &mut Positions, x: usize, y: usize) -> usize
+    requires { PairedPre positions.old.items positions.old.count x y }
+    ensures { Grown (push_union x (out_of positions.old.items positions.old.count y))
+        positions.old.count positions.new.items positions.new.count result }
 {
     if x == 0 {
         return y;
@@ -60,132 +53,132 @@ fn union(positions: &mut [usize; POSITIONS], count: &mut usize, x: usize, y: usi
     if y == 0 {
         return x;
     }
-    let n = *count;
-    packed::push(positions, n, Position::union(packed::PLAIN, x, y));
-    *count = n + 1;
-    n
+    positions.push(Position::Union {
+        role: Role::Plain,
+        first: x,
+        second: y,
+    })
 }
 
 // All below x, and x with that, modified; the result is nothing.
-fn delete(positions: &mut [usize; POSITIONS], count: &mut usize, x: usize) -> usize
-    requires { GrowPre positions.old count.old x }
-    ensures { Grown (push_delete (out_of positions.old count.old x)) count.old
-        positions.new count.new result }
+fn delete(positions: &mut Positions, x: usize) -> usize
+    requires { GrowPre positions.old.items positions.old.count x }
+    ensures { Grown (push_delete (out_of positions.old.items positions.old.count x))
+        positions.old.count positions.new.items positions.new.count result }
 {
     if x == 0 {
         return x;
     }
-    let n = *count;
-    packed::push(positions, n, Position::over(packed::PLAIN, any_below(), x));
-    packed::push(positions, n + 1, Position::union(packed::MODIFIED, x, n));
-    *count = n + 2;
+    let below = positions.push(Position::Over {
+        role: Role::Plain,
+        step: any_below(),
+        operand: x,
+    });
+    positions.push(Position::Union {
+        role: Role::Modified,
+        first: x,
+        second: below,
+    });
     0
 }
 
 // All below a position, in a role, unless it is nothing.
-fn below(positions: &mut [usize; POSITIONS], count: &mut usize, role: usize, x: usize)
-    requires { BelowPre positions.old count.old role x }
-    ensures { BelowPost positions.old count.old role x positions.new count.new }
+fn below(positions: &mut Positions, role: Role, x: usize)
+    requires { BelowPre positions.old.items positions.old.count x }
+    ensures { BelowPost positions.old.items positions.old.count (role_number role) x
+        positions.new.items positions.new.count }
 {
     if x != 0 {
-        let n = *count;
-        packed::push(positions, n, Position::over(role, any_below(), x));
-        *count = n + 1;
+        positions.push(Position::Over {
+            role,
+            step: any_below(),
+            operand: x,
+        });
     }
 }
 
 // All below x, accessed, and all below y, modified; the result is nothing.
-fn insert(positions: &mut [usize; POSITIONS], count: &mut usize, x: usize, y: usize) -> usize
-    requires { PairedPre positions.old count.old x y }
-    ensures { Grown (push_insert x (out_of positions.old count.old y)) count.old
-        positions.new count.new result }
+fn insert(positions: &mut Positions, x: usize, y: usize) -> usize
+    requires { PairedPre positions.old.items positions.old.count x y }
+    ensures { Grown (push_insert x (out_of positions.old.items positions.old.count y))
+        positions.old.count positions.new.items positions.new.count result }
 {
-    below(positions, count, packed::ACCESSED, x);
-    below(positions, count, packed::MODIFIED, y);
+    below(positions, Role::Accessed, x);
+    below(positions, Role::Modified, y);
     0
+}
+
+// The kind of the record at a place of an accepted script.
+fn kind_at(bytes: &[u8], at: usize) -> Kind
+    requires in_bounds { at < length bytes.now }
+    requires known { is_script_kind (get_or bytes.now at 0) ≡ true }
+    ensures { byte_of result ≡ get_or bytes.now at 0 }
+{
+    Kind::try_from(bytes[at]).unwrap()
 }
 
 // A record without operands: a document, a variable, or nothing.
+#[tactic(auto, unfolding(model::specs::Script::script_kinds))]
 fn nullary(
+    kind: Kind,
     bytes: &[u8],
     at: usize,
     env: [u8; Table::BINDERS],
-    positions: &mut [usize; POSITIONS],
-    count: &mut usize,
+    positions: &mut Positions,
 ) -> usize
-    requires { NullaryPre bytes.now at env positions.old count.old }
-    ensures { NullaryPost bytes.now at env positions.old count.old
-        positions.new count.new result }
+    requires is { byte_of kind ≡ get_or bytes.now at 0 }
+    requires nullary_pre { NullaryPre bytes.now at env positions.old.items positions.old.count }
+    ensures { NullaryPost bytes.now at env positions.old.items positions.old.count
+        positions.new.items positions.new.count result }
 {
-    let kind = bytes[at];
-    if kind == kinds::DOCUMENT {
-        let n = *count;
-        packed::push(positions, n, Position::root(document(bytes[at + 1])));
-        *count = n + 1;
-        return n;
+    match kind {
+        Kind::Document => positions.push(Position::Root {
+            document: u16::from(bytes[at + 1]),
+        }),
+        Kind::Variable => usize::from(env[usize::from(bytes[at + 1])]),
+        Kind::Nil | Kind::NewElement | Kind::NewLeaf => 0,
+        Kind::Step | Kind::Join | Kind::Let | Kind::For | Kind::If => 0,
+        Kind::Delete | Kind::Insert | Kind::Pick => 0,
     }
-    if kind == kinds::VARIABLE {
-        let v = number::byte(bytes[at + 1]);
-        return number::byte(env[v]);
-    }
-    0
 }
 
 // A record with one operand: a step, a delete, or a pick.
-fn unary(
-    bytes: &[u8],
-    at: usize,
-    positions: &mut [usize; POSITIONS],
-    count: &mut usize,
-    x: usize,
-) -> usize
-    requires { UnaryPre bytes.now at positions.old count.old x }
-    ensures { Grown (unary_of bytes.now at (out_of positions.old count.old x)) count.old
-        positions.new count.new result }
+#[tactic(auto, unfolding(model::specs::Script::script_kinds))]
+fn unary(kind: Kind, bytes: &[u8], at: usize, positions: &mut Positions, x: usize) -> usize
+    requires is { byte_of kind ≡ get_or bytes.now at 0 }
+    requires unary_pre { UnaryPre bytes.now at positions.old.items positions.old.count x }
+    ensures { Grown (unary_of bytes.now at (out_of positions.old.items positions.old.count x))
+        positions.old.count positions.new.items positions.new.count result }
 {
-    let kind = bytes[at];
-    if kind == kinds::STEP {
-        let s = Step {
-            axis: number::byte(bytes[at + 1]),
-            test: number::byte(bytes[at + 2]),
-            name: number::name(bytes[at + 3]),
-        };
-        return step(positions, count, s, x);
+    match kind {
+        Kind::Step => step(positions, Step::read(&bytes[at + 1..]).unwrap(), x),
+        Kind::Delete => delete(positions, x),
+        Kind::Nil | Kind::Document | Kind::Variable | Kind::Join | Kind::Let => x,
+        Kind::For | Kind::If | Kind::NewElement | Kind::NewLeaf | Kind::Insert | Kind::Pick => x,
     }
-    if kind == kinds::DELETE {
-        return delete(positions, count, x);
-    }
-    x
 }
 
 // A record with two operands: a join, an insert, or a binder.
-fn binary(
-    kind: u8,
-    positions: &mut [usize; POSITIONS],
-    count: &mut usize,
-    x: usize,
-    y: usize,
-) -> usize
-    requires { PairedPre positions.old count.old x y }
-    ensures { Grown (binary_of kind x (out_of positions.old count.old y)) count.old
-        positions.new count.new result }
+fn binary(kind: Kind, positions: &mut Positions, x: usize, y: usize) -> usize
+    requires { PairedPre positions.old.items positions.old.count x y }
+    ensures { Grown (binary_of (byte_of kind) x (out_of positions.old.items positions.old.count y))
+        positions.old.count positions.new.items positions.new.count result }
 {
-    if kind == kinds::JOIN {
-        return union(positions, count, x, y);
+    match kind {
+        Kind::Join => union(positions, x, y),
+        Kind::Insert => insert(positions, x, y),
+        Kind::Nil | Kind::Document | Kind::Variable | Kind::Step | Kind::Let | Kind::For => y,
+        Kind::If | Kind::NewElement | Kind::NewLeaf | Kind::Delete | Kind::Pick => y,
     }
-    if kind == kinds::INSERT {
-        return insert(positions, count, x, y);
-    }
-    y
 }
 
 // The positions of the variables in the second operand: a binder's first result is one more.
-fn bind(kind: u8, env: [u8; Table::BINDERS], bound: usize, res: usize) -> [u8; Table::BINDERS]
-    requires { BindPre kind env bound res }
-    ensures { BindPost kind env bound res result }
+fn bind(kind: Kind, env: [u8; Table::BINDERS], bound: usize, res: usize) -> [u8; Table::BINDERS]
+    requires { BindPre (byte_of kind) env bound res }
+    ensures { BindPost (byte_of kind) env bound res result }
 {
     let mut inside = env;
-    if kinds::is_binder(kind) {
+    if kind.is_binder() {
         inside[bound] = res as u8;
         return inside;
     }
@@ -199,39 +192,31 @@ pub fn emit(
     left: usize,
     bound: usize,
     env: [u8; Table::BINDERS],
-    positions: &mut [usize; POSITIONS],
-    count: &mut usize,
+    positions: &mut Positions,
 ) -> usize
-    requires { EmitPre bytes.now left bound env (emitter place.old positions.old count.old) }
+    requires { EmitPre bytes.now left bound env
+        (emitter place.old positions.old.items positions.old.count) }
     ensures { EmitPost bytes.now left bound env
-        (emitter place.old positions.old count.old)
-        (emitter place.new positions.new count.new) result }
+        (emitter place.old positions.old.items positions.old.count)
+        (emitter place.new positions.new.items positions.new.count) result }
 {
     let at = *place;
-    let kind = bytes[at];
-    let operands = kinds::arity(kind);
-    *place = at + (1 + kinds::body_size(kind));
+    let kind = kind_at(bytes, at);
+    let operands = kind.arity();
+    *place = at + (1 + kind.body_size());
     if operands == 1 {
-        let x = emit(bytes, place, left - 1, bound, env, positions, count);
-        return unary(bytes, at, positions, count, x);
+        let x = emit(bytes, place, left - 1, bound, env, positions);
+        return unary(kind, bytes, at, positions, x);
     }
     if operands == 0 {
-        return nullary(bytes, at, env, positions, count);
+        return nullary(kind, bytes, at, env, positions);
     }
-    let x = emit(bytes, place, left - 1, bound, env, positions, count);
+    let x = emit(bytes, place, left - 1, bound, env, positions);
     let inside = bind(kind, env, bound, x);
-    let y = emit(
-        bytes,
-        place,
-        left - 1,
-        kinds::inner(kind, bound),
-        inside,
-        positions,
-        count,
-    );
+    let y = emit(bytes, place, left - 1, kind.inner(bound), inside, positions);
     if operands == 2 {
-        return binary(kind, positions, count, x, y);
+        return binary(kind, positions, x, y);
     }
-    let z = emit(bytes, place, left - 1, bound, env, positions, count);
-    union(positions, count, y, z)
+    let z = emit(bytes, place, left - 1, bound, env, positions);
+    union(positions, y, z)
 }

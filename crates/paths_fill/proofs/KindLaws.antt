@@ -11,8 +11,8 @@ use Rattle.model.specs.Meeting.{admits_element, admits_leaf, is_named, is_deep}
 use Rattle.model.proofs.BoolLaws.{eq_cases}
 use Rattle.paths_positions.specs.Positions as positions
 use Rattle.paths_positions.specs.Positions.{Entry, entry_at, IsLower}
-use Rattle.paths_positions.specs.Packed.{step_in, position_by, fields_of, entry_of, entries_by, root_kind, over_kind, union_kind, kinds}
-use Rattle.paths_positions.specs.declared.packed.Position.{Position}
+use Rattle.paths_positions.specs.Packed.{Position, step_in, position_by, fields_of, entry_of, entries_by, root_kind, over_kind, union_kind, kinds}
+use Rattle.paths_positions.proofs.PackedLaws.{fields_low}
 use Rattle.paths_cells.proofs.MarkLaws.{bit_set}
 use Rattle.paths_rows.specs.Columns.{Columns, column_at, is_set_at, first_field, second_field, kind_field, deep_field, element_field}
 use Rattle.paths_rows.specs.Columns.{leaf_field}
@@ -35,7 +35,7 @@ kind_of q h =
     (λ g. let z : q.kind ≡ 0 = omega (arith, e, f, g) in is_nowhere z (rw z))))
 
 pub kind_low : (w : ℕ) → (fields_of w).kind < kinds
-kind_low w = omega arith
+kind_low w = (fields_low w).kind
 
 -- THE POSITION at a number
 pub entry_at_lem : (ws : List ℕ) (k : ℕ) → entry_at (entries_by ws) k ≡ entry_of (get_or ws k 0)

@@ -13,8 +13,7 @@ use Rattle.model.proofs.BoolLaws.{eq_cases}
 use Rattle.paths_positions.specs.Positions as positions
 use Rattle.paths_positions.specs.Positions.{entry_at}
 use Rattle.paths_positions.specs.Answer.{cell_at}
-use Rattle.paths_positions.specs.Packed.{step_in, position_by, fields_of, entries_by, over_kind, union_kind}
-use Rattle.paths_positions.specs.declared.packed.Position.{Position}
+use Rattle.paths_positions.specs.Packed.{Position, step_in, position_by, fields_of, entries_by, over_kind, union_kind}
 use Rattle.paths_positions.proofs.RelationLaws.{IsSingle, IsStart, passes, up_step, up_start, union_of}
 use Rattle.paths_cells.specs.Pairs.{on_element, down, up, relations, mark_at, is_marked, marked, PairPre, MarkPre}
 use Rattle.paths_cells.proofs.MarkLaws.{same_rows, fewer_rows, marked_is, mark_length, mark_here, mark_others}

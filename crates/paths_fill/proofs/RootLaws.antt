@@ -13,8 +13,7 @@ use Rattle.model.proofs.BoolLaws.{eq_cases}
 use Rattle.paths_positions.specs.Positions as positions
 use Rattle.paths_positions.specs.Positions.{entry_at}
 use Rattle.paths_positions.specs.Answer.{any_up_to}
-use Rattle.paths_positions.specs.Packed.{step_in, position_by, fields_of, entries_by, root_kind, union_kind}
-use Rattle.paths_positions.specs.declared.packed.Position.{Position}
+use Rattle.paths_positions.specs.Packed.{Position, step_in, position_by, fields_of, entries_by, root_kind, union_kind}
 use Rattle.paths_positions.proofs.PositionLaws.{second_nowhere}
 use Rattle.paths_positions.proofs.AnyUpToLaws.{any_up_to_false}
 use Rattle.paths_positions.proofs.RelationLaws.{IsSingle, on_roots, on_root_step, down_root, root_leaf, apart, leafless}

@@ -14,9 +14,8 @@ use Rattle.model.proofs.CellLaws.{between_on_up}
 use Rattle.paths_positions.specs.Positions as positions
 use Rattle.paths_positions.specs.Positions.{entry_at, paths_on}
 use Rattle.paths_positions.specs.Answer.{any_up_to, cell_at}
-use Rattle.paths_positions.specs.Packed.{step_in, position_by, fields_of, entries_by, over_kind, union_kind}
+use Rattle.paths_positions.specs.Packed.{Position, step_in, position_by, fields_of, entries_by, over_kind, union_kind}
 use Rattle.paths_positions.specs.Steps.{max_positions}
-use Rattle.paths_positions.specs.declared.packed.Position.{Position}
 use Rattle.paths_positions.proofs.AnyUpToLaws.{any_up_to_false}
 use Rattle.paths_positions.proofs.RelationLaws.{IsSingle, IsStart, on_steps, on_step_start, down_step, apart, leafless, below_apart}
 use Rattle.paths_cells.specs.Pairs.{on_element, down, up, on_leaf, relations, mark_at, is_marked}
@@ -148,7 +147,7 @@ module _ {ws us c t : List ℕ} {k : ℕ} {p : Position} (pre : KindRowPre ws us
           source false = read on_element q.first (omega arith) g
 
       -- ON BOTH
-      elements_over : q.kind ≡ over_kind → step_elements p c ps l ≡ holds_at ws us on_element k l
+      elements_over : q.kind ≡ over_kind → step_elements s c ps l ≡ holds_at ws us on_element k l
       elements_over e =
           let f : position_by q ≡ positions.over (step_in q) q.first = rw e in
           let b : q.first < l = lower_at us pre.fill.second l h f in
@@ -167,13 +166,13 @@ module _ {ws us c t : List ℕ} {k : ℕ} {p : Position} (pre : KindRowPre ws us
           sym (on_steps (entries_by ws) (entries_by us) pre.fill.first.lower pre.fill.second.lower k l low (cells l h) s i at_k
           (step_in q) q.first (position_at us l ∙ f)).0
 
-      elements_none : (q.kind ≡ over_kind → ⊥) → step_elements p c ps l ≡ false
+      elements_none : (q.kind ≡ over_kind → ⊥) → step_elements s c ps l ≡ false
       elements_none n =
           ap (λ (x : Bool). admits_element s && (is_yes (get_or ps l 0) && x && (not (is_named s && is_set_at c named_field l) ||
           label_is c (p.label % 256) (p.label / 256) l))) (no_element_at pre.fill.columns l h n) ∙
           none_passes (admits_element s) (is_yes (get_or ps l 0)) _
 
-      leaves_over : q.kind ≡ over_kind → step_leaves p c ps l ≡ holds_at ws us on_leaf k l
+      leaves_over : q.kind ≡ over_kind → step_leaves s c ps l ≡ holds_at ws us on_leaf k l
       leaves_over e =
           let f : position_by q ≡ positions.over (step_in q) q.first = rw e in
           let b : q.first < l = lower_at us pre.fill.second l h f in
@@ -184,7 +183,7 @@ module _ {ws us c t : List ℕ} {k : ℕ} {p : Position} (pre : KindRowPre ws us
           sym (on_steps (entries_by ws) (entries_by us) pre.fill.first.lower pre.fill.second.lower k l low (cells l h) s i at_k
           (step_in q) q.first (position_at us l ∙ f)).1
 
-      leaves_none : (q.kind ≡ over_kind → ⊥) → step_leaves p c ps l ≡ false
+      leaves_none : (q.kind ≡ over_kind → ⊥) → step_leaves s c ps l ≡ false
       leaves_none n =
           ap (λ (x : Bool). admits_leaf s && (is_yes (get_or ps l 0) && x)) (no_leaf_at pre.fill.columns l h n) ∙
           no_leaf (admits_leaf s) (is_yes (get_or ps l 0))
@@ -195,18 +194,18 @@ module _ {ws us c t : List ℕ} {k : ℕ} {p : Position} (pre : KindRowPre ws us
           on_step_start (entries_by ws) (entries_by us) pre.fill.first.lower pre.fill.second.lower k l low (cells l h) s i at_k
           x (position_at us l ∙ f) g
 
-      both_on : (step_elements p c ps l ≡ before_rest ws us c on_element k l) × (step_leaves p c ps l ≡ before_rest ws us c on_leaf k l)
+      both_on : (step_elements s c ps l ≡ before_rest ws us c on_element k l) × (step_leaves s c ps l ≡ before_rest ws us c on_leaf k l)
       both_on = go (kind_of q (kind_low (get_or us l 0)))
         where
-          single : (q.kind ≡ union_kind → ⊥) → step_elements p c ps l ≡ holds_at ws us on_element k l →
-              step_leaves p c ps l ≡ holds_at ws us on_leaf k l →
-              (step_elements p c ps l ≡ before_rest ws us c on_element k l) × (step_leaves p c ps l ≡ before_rest ws us c on_leaf k l)
+          single : (q.kind ≡ union_kind → ⊥) → step_elements s c ps l ≡ holds_at ws us on_element k l →
+              step_leaves s c ps l ≡ holds_at ws us on_leaf k l →
+              (step_elements s c ps l ≡ before_rest ws us c on_element k l) × (step_leaves s c ps l ≡ before_rest ws us c on_leaf k l)
           single n e f =
               let z = not_union pre.fill.columns l h n in
               (e ∙ sym (at_single ws us c on_element k l z refl), f ∙ sym (at_single ws us c on_leaf k l z refl))
 
-          go : KindOf q → (step_elements p c ps l ≡ before_rest ws us c on_element k l) ×
-              (step_leaves p c ps l ≡ before_rest ws us c on_leaf k l)
+          go : KindOf q → (step_elements s c ps l ≡ before_rest ws us c on_element k l) ×
+              (step_leaves s c ps l ≡ before_rest ws us c on_leaf k l)
           go (is_nowhere e f) =
               let n : q.kind ≡ over_kind → ⊥ = λ g. omega arith in
               let o = start positions.nowhere f tt in
@@ -222,7 +221,7 @@ module _ {ws us c t : List ℕ} {k : ℕ} {p : Position} (pre : KindRowPre ws us
               (elements_none n ∙ sym (at_union ws us c on_element k l z), leaves_none n ∙ sym (at_union ws us c on_leaf k l z))
 
     -- what a leaf on both asks, after an element on both
-    pub leaves_asks : {t₁ : List ℕ} → RowMarked t m on_element k (step_elements p c ps) m t₁ → OnPre t₁ m on_leaf k c ps
+    pub leaves_asks : {t₁ : List ℕ} → RowMarked t m on_element k (step_elements s c ps) m t₁ → OnPre t₁ m on_leaf k c ps
     leaves_asks one =
         record {
           pass = pass pre.fill pre.filled on_leaf (omega arith) one.size
@@ -231,8 +230,8 @@ module _ {ws us c t : List ℕ} {k : ℕ} {p : Position} (pre : KindRowPre ws us
         }
 
     -- DOWN, after both
-    module _ {t₁ t₂ : List ℕ} (one : RowMarked t m on_element k (step_elements p c ps) m t₁)
-        (two : RowMarked t₁ m on_leaf k (step_leaves p c ps) m t₂) where
+    module _ {t₁ t₂ : List ℕ} (one : RowMarked t m on_element k (step_elements s c ps) m t₁)
+        (two : RowMarked t₁ m on_leaf k (step_leaves s c ps) m t₂) where
       kept : Kept t m k t₂
       kept = kept_then (kept_row one) (kept_row two)
 
@@ -320,7 +319,7 @@ module _ {ws us c t : List ℕ} {k : ℕ} {p : Position} (pre : KindRowPre ws us
             (λ e. omega (arith, ap (λ (x : Position). x.kind) pre.position, pre.kind)) all_kept started
 
         -- nothing seen: nothing in common
-        module _ (no_leaf : any_up_to (step_leaves p c ps) m ≡ false) (no-down : any_up_to downs m ≡ false) where
+        module _ (no_leaf : any_up_to (step_leaves s c ps) m ≡ false) (no-down : any_up_to downs m ≡ false) where
           not_down : (l : ℕ) → l < length (entries_by us) → (x : positions.Position) → (entry_at (entries_by us) l).position ≡ x → IsSingle
               x →
               (holds_at ws us on_element k l ≡ false) × (holds_at ws us down k l ≡ false)
@@ -340,7 +339,7 @@ module _ {ws us c t : List ℕ} {k : ℕ} {p : Position} (pre : KindRowPre ws us
           not_leaf l a x e g =
               let h : l < m = omega (arith, entries_length us) in
               let z = not_union pre.fill.columns l h (single_kind us l x e g) in
-              sym (at_single ws us c on_leaf k l z refl) ∙ sym (both_on l h).1 ∙ any_up_to_false (step_leaves p c ps) m no_leaf l h
+              sym (at_single ws us c on_leaf k l z refl) ∙ sym (both_on l h).1 ∙ any_up_to_false (step_leaves s c ps) m no_leaf l h
 
           step_apart : Apart ws us k
           step_apart r l h g =
@@ -350,7 +349,7 @@ module _ {ws us c t : List ℕ} {k : ℕ} {p : Position} (pre : KindRowPre ws us
               (leafless (entries_by ws) (entries_by us) pre.fill.first.lower pre.fill.second.lower k low (positions.over s i)
               at_k tt not_leaf l (cells l g)) r h
 
-        pub step_done : {t₄ : List ℕ} → RestPost ws us t₃ k t₄ → (x y : Bool) → x ≡ any_up_to (step_leaves p c ps) m →
+        pub step_done : {t₄ : List ℕ} → RestPost ws us t₃ k t₄ → (x y : Bool) → x ≡ any_up_to (step_leaves s c ps) m →
             y ≡ any_up_to (down_by t₂ m c i k a d) m → RowPost ws us t k t₄ (x || y)
         step_done {t₄} post x y e f =
             record {

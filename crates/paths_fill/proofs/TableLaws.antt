@@ -14,16 +14,15 @@ use Rattle.model.proofs.BoolLaws.{eq_cases}
 use Rattle.paths_positions.specs.Positions as positions
 use Rattle.paths_positions.specs.Positions.{Entry, entry_at}
 use Rattle.paths_positions.specs.Answer.{any_up_to, is_tested, cell_at, meet_at, row_meets, positions_meet}
-use Rattle.paths_positions.specs.Packed.{position_by, entry_by, fields_of, entries_by, accessed_role, modified_role, union_kind}
+use Rattle.paths_positions.specs.Packed.{Position, position_by, entry_by, fields_of, entries_by, accessed_role, modified_role, union_kind}
 use Rattle.paths_positions.specs.Steps.{max_positions}
-use Rattle.paths_positions.specs.declared.packed.Position.{Position}
 use Rattle.paths_positions.proofs.AnyUpToLaws.{any_up_to_none, any_up_to_below, any_up_to_found, any_up_to_next, any_up_to_zero}
 use Rattle.paths_positions.proofs.PositionLaws.{first_nowhere, first_union}
 use Rattle.paths_cells.specs.Pairs.{on_element, on_leaf, relations, place_of, mark_at, is_marked, marked, PairPre, MarkPre}
 use Rattle.paths_cells.proofs.MarkLaws.{same_rows, fewer_rows, marked_is, mark_length, mark_here, mark_others}
 use Rattle.paths_rows.specs.Columns.{Columns, role_field}
 use Rattle.paths_rows.specs.Rows.{RowMarked, is_yes, UnionPre, either_by, MetPre, met_by}
-use Rattle.paths_fill.specs.Filling.{held_by, holds_at, Filled, FillPre, UnionsPre, UnionsPost, KindRowPre, Apart, RowPre, RowPost}
+use Rattle.paths_fill.specs.Filling.{roleless, held_by, holds_at, Filled, FillPre, UnionsPre, UnionsPost, KindRowPre, Apart, RowPre, RowPost}
 use Rattle.paths_fill.specs.Filling.{MeetsPre, TablePre}
 use Rattle.paths_fill.proofs.KindLaws.{entry_at_lem, position_at, entries_length, lower_at}
 use Rattle.paths_fill.proofs.RestLaws.{held_join}
@@ -148,7 +147,7 @@ module _ {ws us c t : List ℕ} {k : ℕ} {p : Position} (pre : KindRowPre ws us
       }
 
 -- A ROW of any kind
-pub of_kind : {ws us c live t : List ℕ} {k : ℕ} → RowPre ws us c live t k → (p : Position) (n : ℕ) → p ≡ fields_of (get_or ws k 0) →
+pub of_kind : {ws us c live t : List ℕ} {k : ℕ} → RowPre ws us c live t k → (p : Position) (n : ℕ) → roleless p ≡ roleless (fields_of (get_or ws k 0)) →
     p.kind ≡ n →
     KindRowPre ws us c t k p n
 of_kind pre p n e f = record { fill = pre.fill; filled = pre.filled; position = e; kind = f }

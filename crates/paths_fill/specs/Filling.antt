@@ -1,12 +1,12 @@
 -- Contracts of what fills the table of pairs and answers whether two scripts' positions meet.
 use Rattle.std.specs.Prelude.{◌≡◌, Bool, false, ◌&&◌, ◌||◌, cond, List, ℕ, ◌+◌, ◌/◌, ◌%◌, ◌≤◌, ◌<◌, eqb, length, get_or}
 use Rattle.model.specs.Base.{bit}
+use Rattle.model.specs.Script.{Step}
 use Rattle.model.specs.Meeting.{Cell, admits_element, admits_leaf, is_named}
 use Rattle.paths_positions.specs.Positions.{AreLower}
 use Rattle.paths_positions.specs.Answer.{cell_at}
-use Rattle.paths_positions.specs.Packed.{step_in, fields_of, entries_by, union_kind}
+use Rattle.paths_positions.specs.Packed.{Position, fields_of, entries_by, plain_role, union_kind}
 use Rattle.paths_positions.specs.Steps.{max_positions}
-use Rattle.paths_positions.specs.declared.packed.Position.{Position}
 use Rattle.paths_cells.specs.Pairs.{on_element, down, up, relations, mark_at, is_marked, HasRows}
 use Rattle.paths_rows.specs.Columns.{Columns, column_at, kind_field}
 use Rattle.paths_rows.specs.Rows.{element_by, leaf_by}
@@ -81,21 +81,25 @@ pub record LeftPost (ws us t : List ℕ) (k l : ℕ) (t' : List ℕ) : Type 0 wh
       mark_at t' (length us) r i j ≡ mark_at t (length us) r i j
 
 -- ON BOTH, of a step that may let none pass
-abbrev pub step_elements : Position → (columns parents : List ℕ) → (l : ℕ) → Bool
-step_elements p c ps l = admits_element (step_in p) && element_by c ps (is_named (step_in p)) (p.label % 256) (p.label / 256) l
+abbrev pub step_elements : Step → (columns parents : List ℕ) → (l : ℕ) → Bool
+step_elements s c ps l = admits_element s && element_by c ps (is_named s) (s.name % 256) (s.name / 256) l
 
-abbrev pub step_leaves : Position → (columns parents : List ℕ) → (l : ℕ) → Bool
-step_leaves p c ps l = admits_leaf (step_in p) && leaf_by c ps l
+abbrev pub step_leaves : Step → (columns parents : List ℕ) → (l : ℕ) → Bool
+step_leaves s c ps l = admits_leaf s && leaf_by c ps l
 
 -- the relation that a step's parents are read from
 abbrev pub source_by : (deep : Bool) → ℕ
 source_by d = cond d up on_element
 
--- A ROW, p being position k, of a kind; and of any kind, where `live` says which lower rows may have something in common with some
+-- the fields of a position but its role
+abbrev pub roleless : Position → Position
+roleless p = record p { role = plain_role }
+
+-- A ROW, p being position k but for its role, of a kind; and of any kind, where `live` says which lower rows may have something in common with some
 pub record KindRowPre (ws us c t : List ℕ) (k : ℕ) (p : Position) (n : ℕ) : Type 0 where
   pub fill : FillPre ws us c k
   pub filled : Filled ws us k t
-  pub position : p ≡ fields_of (get_or ws k 0)
+  pub position : roleless p ≡ roleless (fields_of (get_or ws k 0))
   pub kind : p.kind ≡ n
 
 abbrev pub Apart : (ws us : List ℕ) → (k : ℕ) → Type 0

@@ -2,16 +2,19 @@
 ghost use Rattle.std.specs.Prelude.{◌≡◌, true, ◌<◌, length};
 ghost use Rattle.paths_positions.specs.Answer.{any_up_to, positions_meet, row_meets};
 ghost use Rattle.paths_positions.specs.Packed.{entries_by, some_leads_up, root_kind, over_kind, union_kind};
+ghost use Rattle.paths_positions.specs.Packed.{plain_role, root_by, over_by, union_by};
+ghost use Rattle.script_records.specs.Steps.{step_of};
 ghost use Rattle.paths_cells.specs.Pairs.{on_element, on_leaf, relations};
 ghost use Rattle.paths_rows.specs.Rows.{RowMarked, OnPre};
 ghost use Rattle.paths_fill.specs.Filling.{step_elements, step_leaves, source_by, UnionsPre, UnionsPost, RestPre, LeftPre, LeftPost};
 ghost use Rattle.paths_fill.specs.Filling.{RestPost, KindRowPre, RowPre, RowPost, MeetsPre, TablePre};
 
 use paths_cells::pairs;
-use paths_positions::packed::Position;
-use paths_positions::{POSITIONS, packed};
+use paths_positions::POSITIONS;
+use paths_positions::packed::{Position, Role};
 use paths_rows::{columns, rows};
 use plan_table::number;
+use script_records::step::Step;
 
 // Some position leads up.
 pub fn some_leads_up(positions: &[usize]) -> bool
@@ -38,7 +41,7 @@ fn pair(first: &[usize], second: &[usize], columns: &[u8], table: &mut [u8], k: 
 {
     let m = second.len();
     let j = number::byte(columns::at(columns, columns::FIRST, l));
-    if number::byte(columns::at(columns, columns::KIND, l)) == packed::UNION {
+    if columns::at(columns, columns::KIND, l) == columns::UNION {
         unions(
             table,
             m,
@@ -68,22 +71,23 @@ fn rest(first: &[usize], second: &[usize], columns: &[u8], table: &mut [u8], k: 
 }
 
 // An element on both, of a step that may let none pass.
-fn on_elements(table: &mut [u8], m: usize, columns: &[u8], parents: &[u8], k: usize, p: Position)
+fn on_elements(table: &mut [u8], m: usize, columns: &[u8], parents: &[u8], k: usize, step: Step)
     requires { OnPre table.old m on_element k columns.now parents.now }
-    ensures { RowMarked table.old m on_element k (step_elements p columns.now parents.now) m
+    ensures { RowMarked table.old m on_element k
+        (step_elements (step_of step) columns.now parents.now) m
         table.new }
 {
-    let s = p.step();
-    if s.admits_element() {
+    if step.admits_element() {
+        let name = step.test.name().0;
         rows::on_elements(
             table,
             m,
             columns,
             parents,
             k,
-            s.is_named(),
-            (p.label % 256) as u8,
-            (p.label / 256) as u8,
+            step.is_named(),
+            (name % 256) as u8,
+            (name / 256) as u8,
         );
     }
 }
@@ -95,14 +99,15 @@ fn on_leaves(
     columns: &[u8],
     parents: &[u8],
     k: usize,
-    p: Position,
+    step: Step,
 ) -> bool
     requires { OnPre table.old m on_leaf k columns.now parents.now }
-    ensures row_marked { RowMarked table.old m on_leaf k (step_leaves p columns.now parents.now) m
+    ensures row_marked { RowMarked table.old m on_leaf k
+        (step_leaves (step_of step) columns.now parents.now) m
         table.new }
-    ensures value { result ≡ any_up_to (step_leaves p columns.now parents.now) m }
+    ensures value { result ≡ any_up_to (step_leaves (step_of step) columns.now parents.now) m }
 {
-    if p.step().admits_leaf() {
+    if step.admits_leaf() {
         return rows::on_leaves(table, m, columns, parents, k);
     }
     false
@@ -119,40 +124,48 @@ fn source(deep: bool) -> usize
     pairs::ON_ELEMENT
 }
 
-// Row k, p being position k, a step: whether it has anything in common with any.
+// Row k, of a step from position i: whether it has anything in common with any.
 fn step_row(
     first: &[usize],
     second: &[usize],
     columns: &[u8],
     table: &mut [u8],
     k: usize,
-    p: Position,
+    step: Step,
+    i: usize,
 ) -> bool
-    requires { KindRowPre first.now second.now columns.now table.old k p over_kind }
+    requires { KindRowPre first.now second.now columns.now table.old k
+        (over_by plain_role (step_of step) i) over_kind }
     ensures { RowPost first.now second.now table.old k table.new result }
 {
     let m = second.len();
-    let i = p.first;
-    let s = p.step();
     let mut above = [0u8; POSITIONS];
-    rows::parents(table, m, columns, i, source(s.is_deep()), &mut above);
-    on_elements(table, m, columns, &above, k, p);
-    let leaves = on_leaves(table, m, columns, &above, k, p);
-    let elements = rows::down(table, m, columns, i, k, s.admits_element(), s.is_deep());
+    rows::parents(table, m, columns, i, source(step.is_deep()), &mut above);
+    on_elements(table, m, columns, &above, k, step);
+    let leaves = on_leaves(table, m, columns, &above, k, step);
+    let elements = rows::down(
+        table,
+        m,
+        columns,
+        i,
+        k,
+        step.admits_element(),
+        step.is_deep(),
+    );
     rest(first, second, columns, table, k);
     leaves | elements
 }
 
-// Row k, p being position k, a document's root.
+// Row k, of a document's root.
 fn root_row(
     first: &[usize],
     second: &[usize],
     columns: &[u8],
     table: &mut [u8],
     k: usize,
-    p: Position,
+    document: u16,
 ) -> bool
-    requires { KindRowPre first.now second.now columns.now table.old k p root_kind }
+    requires { KindRowPre first.now second.now columns.now table.old k (root_by document) root_kind }
     ensures { RowPost first.now second.now table.old k table.new result }
 {
     let m = second.len();
@@ -161,8 +174,8 @@ fn root_row(
         m,
         columns,
         k,
-        (p.label % 256) as u8,
-        (p.label / 256) as u8,
+        (document % 256) as u8,
+        (document / 256) as u8,
     );
     // no step leads to a root, so an element is down where it is on both
     let seen = rows::down(table, m, columns, k, k, false, false);
@@ -173,21 +186,23 @@ fn root_row(
     false
 }
 
-// Row k, a union: each relation is that of its parts.
+// Row k, of positions i and j together: each relation is that of its parts.
 fn union_row(
     first: &[usize],
     second: &[usize],
     columns: &[u8],
     table: &mut [u8],
     k: usize,
-    p: Position,
+    i: usize,
+    j: usize,
 )
-    requires { KindRowPre first.now second.now columns.now table.old k p union_kind }
+    requires { KindRowPre first.now second.now columns.now table.old k
+        (union_by plain_role i j) union_kind }
     ensures { RowPost first.now second.now table.old k table.new true }
 {
     let m = second.len();
     for r in 0..pairs::RELATIONS {
-        rows::union(table, m, r, k, p.first, p.second);
+        rows::union(table, m, r, k, i, j);
     }
 }
 
@@ -203,26 +218,31 @@ fn row(
     requires { RowPre first.now second.now columns.now live.now table.old k }
     ensures { RowPost first.now second.now table.old k table.new result }
 {
-    let p = Position::unpacked(first[k]);
-    if p.kind == packed::ROOT {
-        return root_row(first, second, columns, table, k, p);
-    }
-    let i = p.first;
-    if p.kind == packed::OVER {
-        if live[i] == 0 {
-            return false;
+    match Position::unpacked(first[k]) {
+        Position::Nothing => false,
+        Position::Root { document } => root_row(first, second, columns, table, k, document),
+        Position::Over {
+            role: _,
+            step,
+            operand: i,
+        } => {
+            if live[i] == 0 {
+                return false;
+            }
+            step_row(first, second, columns, table, k, step, i)
         }
-        return step_row(first, second, columns, table, k, p);
-    }
-    if p.kind == packed::UNION {
-        let j = p.second;
-        if (live[i] == 0) & (live[j] == 0) {
-            return false;
+        Position::Union {
+            role: _,
+            first: i,
+            second: j,
+        } => {
+            if (live[i] == 0) & (live[j] == 0) {
+                return false;
+            }
+            union_row(first, second, columns, table, k, i, j);
+            true
         }
-        union_row(first, second, columns, table, k, p);
-        return true;
     }
-    false
 }
 
 // Position k meets one of the second script: one of the two is modified, the other accessed. A row with nothing in common, not `seen`,
@@ -241,14 +261,11 @@ fn row_meets(
     if !seen {
         return false;
     }
-    let role = Position::unpacked(first[k]).role;
-    if role == packed::ACCESSED {
-        return rows::meets(table, second.len(), columns, k, packed::MODIFIED);
+    match Position::unpacked(first[k]).role() {
+        Role::Plain => false,
+        Role::Accessed => rows::meets(table, second.len(), columns, k, Role::Modified),
+        Role::Modified => rows::meets(table, second.len(), columns, k, Role::Accessed),
     }
-    if role == packed::MODIFIED {
-        return rows::meets(table, second.len(), columns, k, packed::ACCESSED);
-    }
-    false
 }
 
 // Some position that one script modifies meets one that the other accesses.

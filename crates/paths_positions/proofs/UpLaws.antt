@@ -1,46 +1,27 @@
 -- A script holds a step that leads up when one of its positions is such a step.
 use mathlib.Core.Path.{◌≡◌, refl, ap, sym, ◌∙◌}
-use mathlib.Core.Bool.{Bool, true, false, ◌&&◌, ◌||◌, not, true≢false, or-false, or_assoc, or_comm, cond}
+use mathlib.Core.Bool.{Bool, false, ◌&&◌, ◌||◌, not, or-false, or_assoc, or_comm}
 use mathlib.Core.List.{List, [], ◌∷◌, ◌++◌}
 use Prim.Native.Nat.{ℕ}
 use native.Mathlib.Omega.{arith}
-use lib.Dec.{leb, eqb}
+use lib.Dec.{eqb}
 use lib.ListN.{length, get_or, length-map, get_or-map}
 use lib.Seq.{take_all}
-use borrow.Author.Tests.{eqb-true, not-true}
+use borrow.Author.Tests.{not-true}
 use Rattle.model.specs.Base.{any}
-use Rattle.model.specs.Script.{Step, step_by, Expr, nil, document, var, step, both, let_in, for_in, if_in, element, leaf, delete}
+use Rattle.model.specs.Script.{Step, Expr, nil, document, var, step, both, let_in, for_in, if_in, element, leaf, delete}
 use Rattle.model.specs.Script.{insert, pick}
 use Rattle.model.specs.Paths.{any_below, is_up, has_up}
-use Rattle.model.proofs.BoolLaws.{by_cases, and_right, cond_cases}
+use Rattle.model.proofs.BoolLaws.{and_right, cond_cases}
 use Rattle.model.proofs.ListLaws.{any_snoc}
 use Rattle.paths_positions.specs.Positions as positions
 use Rattle.paths_positions.specs.Positions.{nowhere, root, over, union, Entry, accessing, modifying, leads_up, Emitted}
 use Rattle.paths_positions.specs.Positions.{push_step, push_union, push_delete, push_below, emit, entries_before, entries_of}
 use Rattle.paths_positions.specs.Answer.{any_up_to}
-use Rattle.paths_positions.specs.Packed.{position_by, fields_of, entry_of, entries_by, leads_up_at, some_leads_up, root_kind, over_kind}
-use Rattle.paths_positions.specs.declared.packed.Position.{Position}
+use Rattle.paths_positions.specs.Packed.{Position, position_by, fields_of, entry_of, entries_by, leads_up_at, some_leads_up}
 use Rattle.paths_positions.proofs.AnyUpToLaws.{any_up_to_any}
 
--- ONE POSITION, by its fields
-pub leads_up_is : (p : Position) (t : Bool) → t ≡ (eqb p.kind over_kind && leb 2 p.axis) → t ≡ leads_up (position_by p)
-leads_up_is p t e =
-    by_cases (eqb p.kind over_kind)
-    (λ q. e ∙ ap (λ (x : Bool). x && leb 2 p.axis) q ∙ up_kind (eqb-true p.kind over_kind q))
-    (λ q. e ∙ ap (λ (x : Bool). x && leb 2 p.axis) q ∙ others (eqb p.kind 0) (eqb p.kind root_kind) (eqb p.kind over_kind) q)
-  where
-    up_kind : p.kind ≡ over_kind → leb 2 p.axis ≡ leads_up (position_by p)
-    up_kind k = rw k
-
-    others : (x y z : Bool) → z ≡ false →
-        false ≡ leads_up
-        (cond x nowhere
-        (cond y (root p.label) (cond z (over (step_by p.axis p.test p.label) p.first) (union p.first p.second))))
-    others true y z h = refl
-    others false true z h = refl
-    others false false true h = absurd (true≢false h)
-    others false false false h = refl
-
+-- ONE POSITION of a list
 pub leads_up_at_lem : (ws : List ℕ) (k : ℕ) (p : Position) (t : Bool) → p ≡ fields_of (get_or ws k 0) →
     t ≡ leads_up (position_by p) → t ≡ leads_up_at ws k
 leads_up_at_lem ws k p t e h =

@@ -2,11 +2,25 @@
 use Rattle.std.specs.Prelude.{◌≡◌, Bool, cond, List, [], ◌∷◌, ◌++◌, map, ℕ, ◌+◌, ◌*◌, ◌/◌, ◌%◌, ◌<◌, eqb, length, take}
 use Rattle.model.specs.Script as model
 use Rattle.model.specs.Script.{step_by}
+use Rattle.script_records.specs.Steps.{axis_number, test_number, test_name, step_of}
+use Rattle.script_records.specs.declared.step.Step.{Step}
 use Rattle.paths_positions.specs.Positions as positions
 use Rattle.paths_positions.specs.Answer.{any_up_to}
-use Rattle.paths_positions.specs.declared.packed.Position.{Position}
+use Rattle.paths_positions.specs.declared.packed.Role.{Role}
+use Rattle.paths_positions.specs.declared.packed.Role.TheVariants.{Plain, Accessed, Modified}
+use Rattle.paths_positions.specs.declared.packed.Position as declared
+use Rattle.paths_positions.specs.declared.packed.Position.TheVariants.{Nothing, Root, Over, Union}
 use Rattle.paths_positions.specs.Steps.{max_positions}
-use Rattle.paths_positions.specs.declared.step.Step.{Step}
+
+-- THE FIELDS of a position; those that its kind does not have are 0. The label is the name of its step, or its document
+pub record Position : Type 0 where
+  pub kind : ℕ
+  pub role : ℕ
+  pub axis : ℕ
+  pub test : ℕ
+  pub label : ℕ
+  pub first : ℕ
+  pub second : ℕ
 
 -- the step of a position
 abbrev pub step_in : Position → model.Step
@@ -50,11 +64,27 @@ entry_by p = with_role p.role (position_by p)
 abbrev pub root_by : (document : ℕ) → Position
 root_by d = record { kind = root_kind; role = accessed_role; axis = 0; test = 0; label = d; first = 0; second = 0 }
 
-abbrev pub over_by : (role : ℕ) → Step → (operand : ℕ) → Position
-over_by m s i = record { kind = over_kind; role = m; axis = s.axis; test = s.test; label = s.name.0; first = i; second = 0 }
+abbrev pub over_by : (role : ℕ) → model.Step → (operand : ℕ) → Position
+over_by m s i = record { kind = over_kind; role = m; axis = s.axis; test = s.test; label = s.name; first = i; second = 0 }
 
 abbrev pub union_by : (role first second : ℕ) → Position
 union_by m i j = record { kind = union_kind; role = m; axis = 0; test = 0; label = 0; first = i; second = j }
+
+-- nothing, only there for others to refer to
+abbrev pub no_fields : Position
+no_fields = record { kind = 0; role = plain_role; axis = 0; test = 0; label = 0; first = 0; second = 0 }
+
+-- THE CODE's roles and positions, as fields
+abbrev pub role_number : Role → ℕ
+role_number Plain = plain_role
+role_number Accessed = accessed_role
+role_number Modified = modified_role
+
+abbrev pub fields_in : declared.Position → Position
+fields_in Nothing = no_fields
+fields_in (Root d) = root_by d
+fields_in (Over m s i) = over_by (role_number m) (step_of s) i
+fields_in (Union m i j) = union_by (role_number m) i j
 
 -- PACKED: how many numbers each field has room for; an operand has max_positions
 abbrev pub kinds : ℕ
@@ -78,9 +108,13 @@ pack_position p =
     p.kind + kinds * (p.role + roles * (p.axis + axes * (p.test + tests *
     (p.label + labels * (p.first + max_positions * p.second)))))
 
--- and taken out again
-abbrev pub fields_of : (packed : ℕ) → Position
-fields_of w =
+-- the fields of a step among them
+abbrev pub step_number : Step → ℕ
+step_number s = axis_number s.axis + axes * (test_number s.test + tests * test_name s.test)
+
+-- and taken out again, each as it stands there
+abbrev pub digits_of : (packed : ℕ) → Position
+digits_of w =
     record {
       kind = w % kinds;
       role = w / kinds % roles;
@@ -90,6 +124,32 @@ fields_of w =
       first = w / kinds / roles / axes / tests / labels % max_positions;
       second = w / kinds / roles / axes / tests / labels / max_positions % max_positions;
     }
+
+-- a role of the three, and a name where the test is for one
+abbrev pub known_role : (role : ℕ) → ℕ
+known_role m = cond (eqb m accessed_role) accessed_role (cond (eqb m modified_role) modified_role plain_role)
+
+abbrev pub known_name : (test label : ℕ) → ℕ
+known_name t n = cond (eqb t 3) n 0
+
+-- only those that their kind has
+abbrev pub cleaned : Position → Position
+cleaned p =
+    cond (eqb p.kind 0) no_fields
+    (cond (eqb p.kind root_kind) (root_by p.label)
+    (cond (eqb p.kind over_kind) (over_by (known_role p.role) (step_by p.axis p.test (known_name p.test p.label)) p.first)
+    (union_by (known_role p.role) p.first p.second)))
+
+-- THE FIELDS of a packed position
+abbrev pub fields_of : (packed : ℕ) → Position
+fields_of w = cleaned (digits_of w)
+
+-- operands that are numbers of positions
+abbrev pub OperandsFit : declared.Position → Type 0
+OperandsFit Nothing = Unit
+OperandsFit (Root d) = Unit
+OperandsFit (Over m s i) = i < max_positions
+OperandsFit (Union m i j) = (i < max_positions) × (j < max_positions)
 
 -- fields that fit their room
 pub record PositionFits (p : Position) : Type 0 where
@@ -109,14 +169,16 @@ entry_of w = entry_by (fields_of w)
 abbrev pub entries_in : (packed : List ℕ) → (count : ℕ) → List positions.Entry
 entries_in ws n = map entry_of (take n ws)
 
--- one packed position more
-pub record PushPre (ws : List ℕ) (n : ℕ) (p : Position) : Type 0 where
+-- one packed position more: how many there are then, and its number
+pub record PushPre (ws : List ℕ) (n : ℕ) (p : declared.Position) : Type 0 where
   pub room : n < length ws
-  pub fits : PositionFits p
+  pub fits : OperandsFit p
 
-pub record PushPost (ws : List ℕ) (n : ℕ) (p : Position) (ws' : List ℕ) : Type 0 where
+pub record PushPost (ws : List ℕ) (n : ℕ) (p : Position) (ws' : List ℕ) (n' r : ℕ) : Type 0 where
   pub size : length ws' ≡ length ws
   pub entries : entries_in ws' (n + 1) ≡ entries_in ws n ++ (entry_by p ∷ [])
+  pub count : n' ≡ n + 1
+  pub result : r ≡ n
 
 -- the entries that packed positions are
 abbrev pub entries_by : (packed : List ℕ) → List positions.Entry

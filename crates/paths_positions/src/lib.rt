@@ -2,7 +2,6 @@
 #![tactic(auto)]
 
 pub mod packed;
-pub mod step;
 
 // Positions of a script, at most.
 pub const POSITIONS: usize = 128;

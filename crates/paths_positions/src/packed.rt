@@ -1,27 +1,14 @@
 // Positions of a script, each packed into a number: kind, role, axis, test, label, first operand, second operand, the kind lowest.
-ghost use Rattle.std.specs.Prelude.{◌≡◌};
-ghost use Rattle.paths_positions.specs.Steps.{step_of};
+ghost use Rattle.std.specs.Prelude.{◌≡◌, ◌<◌, length, get_or};
+ghost use Rattle.paths_positions.specs.Steps.{max_positions};
 ghost use Rattle.paths_positions.specs.Positions.{leads_up};
-ghost use Rattle.paths_positions.specs.Packed.{position_by, step_in, root_by, over_by, union_by, pack_position, fields_of};
-ghost use Rattle.paths_positions.specs.Packed.{PositionFits, PushPre, PushPost};
+ghost use Rattle.paths_positions.specs.Packed.{role_number, known_role, fields_in, position_by, pack_position, fields_of, known_name};
+ghost use Rattle.paths_positions.specs.Packed.{step_number, OperandsFit, PositionFits, PushPre, PushPost};
+ghost use Rattle.script_records.specs.Steps.{axis_number, test_number, test_name};
 
 use crate::POSITIONS;
-use crate::step::Step;
 use plan_table::NameNumber;
-
-// Kinds; 0 is nothing.
-pub const ROOT: usize = 1;
-
-pub const OVER: usize = 2;
-
-pub const UNION: usize = 3;
-
-// Roles: none, accessed, modified.
-pub const PLAIN: usize = 0;
-
-pub const ACCESSED: usize = 1;
-
-pub const MODIFIED: usize = 2;
+use script_records::step::{Axis, Step, Test};
 
 // How many numbers each field has room for; an operand has POSITIONS.
 const KINDS: usize = 4;
@@ -34,118 +21,204 @@ const TESTS: usize = 4;
 
 const LABELS: usize = 65536;
 
-// The fields of a position; those that its kind does not have are 0. The label is the name of its step, or its document.
-#[derive(Clone, Copy)]
-pub struct Position {
-    pub kind: usize,
-    pub role: usize,
-    pub axis: usize,
-    pub test: usize,
-    pub label: u16,
-    pub first: usize,
-    pub second: usize,
+// An axis and a test; with a label as well.
+const SHAPES: usize = AXES * TESTS;
+
+const STEPS: usize = SHAPES * LABELS;
+
+// What a script does with the rows of a position: nothing itself, reads them, or changes them.
+#[derive(Clone, Copy, Debug, PartialEq, Eq)]
+pub enum Role {
+    Plain = 0,
+    Accessed = 1,
+    Modified = 2,
+}
+
+impl From<Role> for u8 {
+    ghost from_gives = { λ role number. number ≡ role_number role };
+
+    // Its number.
+    fn from(role: Role) -> u8 {
+        role as u8
+    }
+}
+
+// A position: nothing, a document's root, accessed, a step over another position, or two positions together.
+#[derive(Clone, Copy, Debug, PartialEq, Eq)]
+pub enum Position {
+    Nothing,
+    Root {
+        document: u16,
+    },
+    Over {
+        role: Role,
+        step: Step,
+        operand: usize,
+    },
+    Union {
+        role: Role,
+        first: usize,
+        second: usize,
+    },
+}
+
+// The role of a number.
+fn role_of(number: usize) -> Role
+    ensures { role_number result ≡ known_role number }
+{
+    match number {
+        1 => Role::Accessed,
+        2 => Role::Modified,
+        _ => Role::Plain,
+    }
+}
+
+// The axis of a number.
+fn axis_of(number: usize) -> Axis
+    requires { number < 4 }
+    ensures { axis_number result ≡ number }
+{
+    match number {
+        0 => Axis::Child,
+        1 => Axis::Descendant,
+        2 => Axis::Parent,
+        _ => Axis::Ancestor,
+    }
+}
+
+// The test of a number, with a label that is its name where it is for one.
+fn test_of(number: usize, label: u16) -> Test
+    requires { number < 4 }
+    ensures number { test_number result ≡ number }
+    ensures name { test_name result ≡ known_name number label }
+{
+    match number {
+        0 => Test::Node,
+        1 => Test::Element,
+        2 => Test::Leaf,
+        _ => Test::Named(NameNumber(label)),
+    }
+}
+
+// A step's fields in their bits.
+fn packed_step(step: Step) -> usize
+    ensures value { result ≡ step_number step }
+    ensures upper_bound { result < 1048576 }
+{
+    let test = match step.test {
+        Test::Node => 0,
+        Test::Element => 1,
+        Test::Leaf => 2,
+        Test::Named(_) => 3,
+    };
+    step.axis as usize + AXES * (test + TESTS * usize::from(step.test.name().0))
 }
 
 impl Position {
-    // A document's root, accessed.
-    pub fn root(document: u16) -> Position
-        ensures { result ≡ root_by document }
+    // What the script does with its rows.
+    pub fn role(self) -> Role
+        ensures { role_number result ≡ (fields_in self).role }
     {
-        Position {
-            kind: ROOT,
-            role: ACCESSED,
-            axis: 0,
-            test: 0,
-            label: document,
-            first: 0,
-            second: 0,
-        }
-    }
-
-    // A step over a position.
-    pub fn over(role: usize, step: Step, operand: usize) -> Position
-        ensures { result ≡ over_by role step operand }
-    {
-        Position {
-            kind: OVER,
-            role,
-            axis: step.axis,
-            test: step.test,
-            label: step.name.0,
-            first: operand,
-            second: 0,
-        }
-    }
-
-    // Two positions together.
-    pub fn union(role: usize, first: usize, second: usize) -> Position
-        ensures { result ≡ union_by role first second }
-    {
-        Position {
-            kind: UNION,
-            role,
-            axis: 0,
-            test: 0,
-            label: 0,
-            first,
-            second,
-        }
-    }
-
-    // The step of a position over another.
-    pub fn step(self) -> Step
-        ensures { step_of result ≡ step_in self }
-    {
-        Step {
-            axis: self.axis,
-            test: self.test,
-            name: NameNumber(self.label),
+        match self {
+            Position::Nothing => Role::Plain,
+            Position::Root { .. } => Role::Accessed,
+            Position::Over { role, .. } | Position::Union { role, .. } => role,
         }
     }
 
     // A position by a step that leads up.
     pub fn leads_up(self) -> bool
-        ensures { result ≡ leads_up (position_by self) }
+        ensures { result ≡ leads_up (position_by (fields_in self)) }
     {
-        (self.kind == OVER) & self.step().is_up()
+        match self {
+            Position::Over { step, .. } => step.is_up(),
+            Position::Nothing | Position::Root { .. } | Position::Union { .. } => false,
+        }
     }
 
     // Each field in its bits.
     fn packed(self) -> usize
-        requires { PositionFits self }
-        ensures { result ≡ pack_position self }
+        requires { OperandsFit self }
+        ensures value { result ≡ pack_position (fields_in self) }
+        ensures fits { PositionFits (fields_in self) }
     {
-        let operands = self.first + POSITIONS * self.second;
-        let labelled = (self.label as usize) + LABELS * operands;
-        let step = self.axis + AXES * (self.test + TESTS * labelled);
-        self.kind + KINDS * (self.role + ROLES * step)
+        let (kind, role, step, operands) = match self {
+            Position::Nothing => (0, Role::Plain, 0, 0),
+            Position::Root { document } => (1, Role::Accessed, SHAPES * usize::from(document), 0),
+            Position::Over {
+                role,
+                step,
+                operand,
+            } => (2, role, packed_step(step), operand),
+            Position::Union {
+                role,
+                first,
+                second,
+            } => (3, role, 0, first + POSITIONS * second),
+        };
+        kind + KINDS * (role as usize + ROLES * (step + STEPS * operands))
     }
 
     // The position that a packed one is.
     pub fn unpacked(packed: usize) -> Position
-        ensures { result ≡ fields_of packed }
+        ensures { fields_in result ≡ fields_of packed }
     {
         let roles = packed / KINDS;
         let axes = roles / ROLES;
         let tests = axes / AXES;
         let labels = tests / TESTS;
         let operands = labels / LABELS;
-        Position {
-            kind: packed % KINDS,
-            role: roles % ROLES,
-            axis: axes % AXES,
-            test: tests % TESTS,
-            label: (labels % LABELS) as u16,
-            first: operands % POSITIONS,
-            second: operands / POSITIONS % POSITIONS,
+        let role = role_of(roles % ROLES);
+        let label = (labels % LABELS) as u16;
+        let first = operands % POSITIONS;
+        match packed % KINDS {
+            0 => Position::Nothing,
+            1 => Position::Root { document: label },
+            2 => Position::Over {
+                role,
+                step: Step {
+                    axis: axis_of(axes % AXES),
+                    test: test_of(tests % TESTS, label),
+                },
+                operand: first,
+            },
+            _ => Position::Union {
+                role,
+                first,
+                second: operands / POSITIONS % POSITIONS,
+            },
         }
     }
 }
 
-// One position more, behind the first `count`.
-pub fn push(positions: &mut [usize], count: usize, p: Position)
-    requires { PushPre positions.old count p }
-    ensures { PushPost positions.old count p positions.new }
-{
-    positions[count] = p.packed();
+// The positions of a script so far, each packed, by their numbers.
+#[derive(Drop)]
+pub struct Positions {
+    pub items: [usize; POSITIONS],
+    pub count: usize,
+}
+
+impl Positions {
+    // Position 0 alone: nothing.
+    pub fn new() -> Positions
+        ensures size { length result.items ≡ max_positions }
+        ensures zero { get_or result.items 0 0 ≡ 0 }
+        ensures count { result.count ≡ 1 }
+    {
+        Positions {
+            items: [0; POSITIONS],
+            count: 1,
+        }
+    }
+
+    // One position more; its number.
+    pub fn push(&mut self, p: Position) -> usize
+        requires { PushPre self.old.items self.old.count p }
+        ensures { PushPost self.old.items self.old.count (fields_in p) self.new.items self.new.count result }
+    {
+        let number = self.count;
+        self.items[number] = p.packed();
+        self.count = number + 1;
+        number
+    }
 }

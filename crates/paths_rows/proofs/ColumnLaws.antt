@@ -1,37 +1,15 @@
 -- Where the fields stand: each in its column's byte and no other's, so a byte written is one field more and leaves the others.
-use mathlib.Core.Path.{◌≡◌, ap, sym, ◌∙◌}
-use mathlib.Core.Bool.{true, false, ◌||◌}
+use mathlib.Core.Path.{◌≡◌, ap, sym, ◌∙◌, subst}
 use mathlib.Core.List.{List}
-use Prim.Native.Nat.{ℕ, ◌+◌, ◌*◌, ◌/◌, ◌≤◌, ◌<◌}
+use Prim.Native.Nat.{ℕ, ◌+◌, ◌*◌, ◌≤◌, ◌<◌}
 use native.Mathlib.Omega.{arith}
-use lib.Dec.{eqb}
 use lib.ListN.{length, get_or, set, length-set}
 use lib.Seq.{get_or-set_same, get_or-set_other}
-use Rattle.model.proofs.BoolLaws.{eq_cases, cond_true, cond_false, cond_ne}
-use Rattle.paths_positions.specs.Packed.{fields_of, over_kind, union_kind}
+use Rattle.model.proofs.BoolLaws.{eq_cases}
+use Rattle.paths_positions.specs.Packed.{Position, fields_of}
 use Rattle.paths_positions.specs.Steps.{max_positions}
-use Rattle.paths_positions.specs.declared.packed.Position.{Position}
-use Rattle.paths_rows.specs.Columns.{fields, field_by, operand_of, column_at, FieldPre, AtPre, ColumnPost}
-
--- A FIELD by its number
-pub field_is : {f n v : ℕ} (q : Position) → f ≡ n → v ≡ field_by n q → v ≡ field_by f q
-field_is q e h = h ∙ ap (λ (i : ℕ). field_by i q) (sym e)
-
--- the first operand where the kind has one, and where not
-pub operand_is : (q : Position) → (eqb q.kind over_kind || eqb q.kind union_kind) ≡ true → q.first ≡ operand_of q
-operand_is q e = sym (cond_true _ q.first 0 e)
-
-pub operand_none : (q : Position) → (eqb q.kind over_kind || eqb q.kind union_kind) ≡ false → 0 ≡ operand_of q
-operand_none q e = sym (cond_false _ q.first 0 e)
-
--- the last one
-pub field_last : (f : ℕ) (q : Position) →
-    (f ≡ 0 → ⊥) → (f ≡ 1 → ⊥) → (f ≡ 2 → ⊥) → (f ≡ 3 → ⊥) → (f ≡ 4 → ⊥) → (f ≡ 5 → ⊥) → (f ≡ 6 → ⊥) → (f ≡ 7 → ⊥) → (f ≡ 8 → ⊥) →
-    q.label / 256 ≡ field_by f q
-field_last f q h₀ h₁ h₂ h₃ h₄ h₅ h₆ h₇ h₈ =
-    sym
-    (cond_ne _ _ h₀ ∙ cond_ne _ _ h₁ ∙ cond_ne _ _ h₂ ∙ cond_ne _ _ h₃ ∙ cond_ne _ _ h₄ ∙ cond_ne _ _ h₅ ∙ cond_ne _ _ h₆ ∙
-    cond_ne _ _ h₇ ∙ cond_ne _ _ h₈)
+use Rattle.paths_positions.proofs.PackedLaws.{fields_low}
+use Rattle.paths_rows.specs.Columns.{fields, field_by, column_at, FieldPre, AtPre, ColumnPost}
 
 -- WITHIN the columns
 field_within : {c : List ℕ} {f l : ℕ} → AtPre c f l → max_positions * f + l < length c
@@ -91,10 +69,12 @@ column_written {us} {c} {c'} {l} {q} few low is post to =
 -- the fields of a packed position fit a byte
 pub fields_fit : {q : Position} (w : ℕ) → q ≡ fields_of w → FieldPre q
 fields_fit {q} w is =
-    record {
-      kind = omega (arith, ap (λ (p : Position). p.kind) is);
-      role = omega (arith, ap (λ (p : Position). p.role) is);
-      first = omega (arith, ap (λ (p : Position). p.first) is);
-      second = omega (arith, ap (λ (p : Position). p.second) is);
-      label = omega (arith, ap (λ (p : Position). p.label) is);
-    }
+    let f = fields_low w in
+    subst FieldPre (sym is)
+    (record {
+      kind = omega (arith, f.kind);
+      role = omega (arith, f.role);
+      first = omega (arith, f.first);
+      second = omega (arith, f.second);
+      label = f.label;
+    })

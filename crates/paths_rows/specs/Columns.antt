@@ -1,10 +1,9 @@
 -- Columns: what the filling needs of the second script's positions, a byte for each field of each position.
-use Rattle.std.specs.Prelude.{◌≡◌, Bool, ◌&&◌, ◌||◌, cond, List, ℕ, ◌+◌, ◌*◌, ◌/◌, ◌%◌, ◌≤◌, ◌<◌, eqb, length, get_or}
+use Rattle.std.specs.Prelude.{◌≡◌, Bool, ◌&&◌, ◌||◌, cond, List, [], ◌∷◌, ℕ, ◌+◌, ◌*◌, ◌/◌, ◌%◌, ◌≤◌, ◌<◌, eqb, length, get_or}
 use Rattle.model.specs.Base.{bit}
 use Rattle.model.specs.Meeting.{admits_element, admits_leaf, is_named, is_deep}
-use Rattle.paths_positions.specs.Packed.{step_in, fields_of, over_kind, union_kind}
+use Rattle.paths_positions.specs.Packed.{Position, step_in, fields_of, over_kind, union_kind}
 use Rattle.paths_positions.specs.Steps.{max_positions}
-use Rattle.paths_positions.specs.declared.packed.Position.{Position}
 
 -- THE FIELDS by number: the first and the second operand, the kind, the role, whether the step leads past its parent, lets elements
 -- pass, lets leaves pass and has a name, and the label's two bytes
@@ -45,18 +44,14 @@ fields = 10
 abbrev pub operand_of : Position → ℕ
 operand_of q = cond (eqb q.kind over_kind || eqb q.kind union_kind) q.first 0
 
--- a field of a position
+-- the fields of a position in their order, and one of them
+abbrev pub fields_by : Position → List ℕ
+fields_by q =
+    operand_of q ∷ q.second ∷ q.kind ∷ q.role ∷ bit (is_deep (step_in q)) ∷ bit (eqb q.kind over_kind && admits_element (step_in q)) ∷
+    bit (eqb q.kind over_kind && admits_leaf (step_in q)) ∷ bit (is_named (step_in q)) ∷ (q.label % 256) ∷ (q.label / 256) ∷ []
+
 abbrev pub field_by : (field : ℕ) → Position → ℕ
-field_by f q =
-    cond (eqb f first_field) (operand_of q)
-    (cond (eqb f second_field) q.second
-    (cond (eqb f kind_field) q.kind
-    (cond (eqb f role_field) q.role
-    (cond (eqb f deep_field) (bit (is_deep (step_in q)))
-    (cond (eqb f element_field) (bit (eqb q.kind over_kind && admits_element (step_in q)))
-    (cond (eqb f leaf_field) (bit (eqb q.kind over_kind && admits_leaf (step_in q)))
-    (cond (eqb f named_field) (bit (is_named (step_in q)))
-    (cond (eqb f low_field) (q.label % 256) (q.label / 256)))))))))
+field_by f q = get_or (fields_by q) f 0
 
 -- WHERE it stands: the fields of one number behind one another
 abbrev pub column_at : (columns : List ℕ) → (field l : ℕ) → ℕ

@@ -1,10 +1,11 @@
 // Columns: what the filling needs of the second script's positions, a byte for each field of each, made once.
 ghost use Rattle.std.specs.Prelude.{◌≡◌};
-ghost use Rattle.paths_rows.specs.Columns.{field_by, column_at, is_set_at, FieldPre, AtPre, ColumnPre, ColumnPost, ColumnsPre, Columns};
+ghost use Rattle.paths_positions.specs.Packed.{fields_in};
+ghost use Rattle.paths_rows.specs.Columns.{fields_by, column_at, is_set_at, FieldPre, AtPre, ColumnPre, ColumnPost, ColumnsPre, Columns};
 
 use paths_cells::pairs;
-use paths_positions::packed::Position;
-use paths_positions::{POSITIONS, packed};
+use paths_positions::POSITIONS;
+use paths_positions::packed::{Position, Role};
 
 // The fields: the number of the first and the second operand, the kind, the role; then yes or no: a descendant step, one that some
 // element passes, one that some leaf passes, one with a name; then the two bytes of the label.
@@ -30,55 +31,79 @@ pub const HIGH: usize = 9;
 
 const FIELDS: usize = 10;
 
+// What the field of the kind says: a byte, which the loops compare without a branch; 0 is nothing.
+pub const ROOT: u8 = 1;
+
+const OVER: u8 = 2;
+
+pub const UNION: u8 = 3;
+
 // The bytes of all columns.
 pub const SIZE: usize = FIELDS * POSITIONS;
 
-// A field of a position. An operand's number is 0 where there is none.
-fn field(f: usize, q: Position) -> u8
-    requires { FieldPre q }
-    ensures { result ≡ field_by f q }
+// The fields of a position, in their order. An operand's number is 0 where there is none.
+fn fields(q: Position) -> [u8; FIELDS]
+    requires { FieldPre (fields_in q) }
+    ensures { result ≡ fields_by (fields_in q) }
 {
-    let over = q.kind == packed::OVER;
-    if f == FIRST {
-        if over | (q.kind == packed::UNION) {
-            return q.first as u8;
+    match q {
+        Position::Nothing => [0; FIELDS],
+        Position::Root { document } => {
+            let (low, high) = ((document % 256) as u8, (document / 256) as u8);
+            [0, 0, ROOT, u8::from(Role::Accessed), 0, 0, 0, 0, low, high]
         }
-        return 0;
+        Position::Over {
+            role,
+            step,
+            operand,
+        } => {
+            let deep = pairs::bit(step.is_deep());
+            let element = pairs::bit(step.admits_element());
+            let leaf = pairs::bit(step.admits_leaf());
+            let named = pairs::bit(step.is_named());
+            let name = step.test.name().0;
+            let (low, high) = ((name % 256) as u8, (name / 256) as u8);
+            let role = u8::from(role);
+            [
+                operand as u8,
+                0,
+                OVER,
+                role,
+                deep,
+                element,
+                leaf,
+                named,
+                low,
+                high,
+            ]
+        }
+        Position::Union {
+            role,
+            first,
+            second,
+        } => [
+            first as u8,
+            second as u8,
+            UNION,
+            u8::from(role),
+            0,
+            0,
+            0,
+            0,
+            0,
+            0,
+        ],
     }
-    if f == SECOND {
-        return q.second as u8;
-    }
-    if f == KIND {
-        return q.kind as u8;
-    }
-    if f == ROLE {
-        return q.role as u8;
-    }
-    if f == DEEP {
-        return pairs::bit(q.step().is_deep());
-    }
-    if f == ELEMENT {
-        return pairs::bit(over & q.step().admits_element());
-    }
-    if f == LEAF {
-        return pairs::bit(over & q.step().admits_leaf());
-    }
-    if f == NAMED {
-        return pairs::bit(q.step().is_named());
-    }
-    if f == LOW {
-        return (q.label % 256) as u8;
-    }
-    (q.label / 256) as u8
 }
 
 // The fields of one position, number l.
 fn column(columns: &mut [u8], l: usize, q: Position)
-    requires { ColumnPre columns.old l q }
-    ensures { ColumnPost columns.old l q columns.new }
+    requires { ColumnPre columns.old l (fields_in q) }
+    ensures { ColumnPost columns.old l (fields_in q) columns.new }
 {
+    let fields = fields(q);
     for f in 0..FIELDS {
-        columns[POSITIONS * f + l] = field(f, q);
+        columns[POSITIONS * f + l] = fields[f];
     }
 }
 

@@ -2,6 +2,7 @@
 // from others by a closure without a branch, so that the compiler can do many pairs at once.
 ghost use Rattle.std.specs.Prelude.{◌≡◌, length};
 ghost use Rattle.paths_positions.specs.Answer.{any_up_to};
+ghost use Rattle.paths_positions.specs.Packed.{role_number};
 ghost use Rattle.paths_positions.specs.Steps.{max_positions};
 ghost use Rattle.paths_cells.specs.Pairs.{on_element, down, on_leaf, PairPre};
 ghost use Rattle.paths_rows.specs.Rows.{is_yes, element_by, leaf_by, root_by, down_by, either_by, met_by, RowMarked};
@@ -10,7 +11,7 @@ ghost use Rattle.paths_rows.specs.Rows.{TestPre, MarkRowPre, CallsPre, MarkRowPo
 
 use crate::columns;
 use paths_cells::pairs;
-use paths_positions::packed;
+use paths_positions::packed::Role;
 use plan_table::number;
 
 // Whether an element can be the parent of a node on both positions, the first one a step from position i, for each of the second's: one
@@ -112,7 +113,7 @@ pub fn on_roots(table: &mut [u8], m: usize, columns: &[u8], k: usize, low: u8, h
     {
         let same = (columns::at(columns, columns::LOW, l) == low)
             & (columns::at(columns, columns::HIGH, l) == high);
-        (number::byte(columns::at(columns, columns::KIND, l)) == packed::ROOT) & same
+        (columns::at(columns, columns::KIND, l) == columns::ROOT) & same
     };
     mark_row(table, m, pairs::ON_ELEMENT, k, holds);
 }
@@ -139,7 +140,7 @@ pub fn down(
         requires own { PairPre marks.now m down k l }
         ensures { result ≡ down_by marks.now m columns.entry.now i k element deep l }
     {
-        let union = number::byte(columns::at(columns, columns::KIND, l)) == packed::UNION;
+        let union = columns::at(columns, columns::KIND, l) == columns::UNION;
         let below = pairs::is_marked(marks, m, pairs::DOWN, i, l)
             | (deep & pairs::is_marked(marks, m, pairs::UP, i, l));
         pairs::is_marked(marks, m, pairs::ON_ELEMENT, k, l) | (element & !union & below)
@@ -161,13 +162,14 @@ pub fn union(table: &mut [u8], m: usize, relation: usize, k: usize, a: usize, b:
 }
 
 // Position k meets one of this role.
-pub fn meets(table: &[u8], m: usize, columns: &[u8], k: usize, role: usize) -> bool
+pub fn meets(table: &[u8], m: usize, columns: &[u8], k: usize, role: Role) -> bool
     requires { MetPre table.now m k columns.now }
-    ensures { result ≡ any_up_to (met_by table.now m columns.now k role) m }
+    ensures { result ≡ any_up_to (met_by table.now m columns.now k (role_number role)) m }
 {
+    let number = u8::from(role);
     let mut seen = false;
     for l in 0..m {
-        let tested = number::byte(columns::at(columns, columns::ROLE, l)) == role;
+        let tested = columns::at(columns, columns::ROLE, l) == number;
         let met = pairs::is_marked(table, m, pairs::ON_ELEMENT, k, l)
             | pairs::is_marked(table, m, pairs::ON_LEAF, k, l);
         seen = seen | (tested & met);

@@ -4,7 +4,7 @@ ghost use Rattle.model.specs.Meeting.{admits_element, admits_leaf, is_named, is_
 ghost use Rattle.model.specs.Paths.{is_up};
 ghost use Rattle.model.specs.Step.{admits, letter_of};
 ghost use Rattle.plan_table.specs.Packed.{row_of};
-ghost use Rattle.script_records.specs.Steps.{step_of, test_of, AxisRead, TestRead, StepRead};
+ghost use Rattle.script_records.specs.Steps.{step_of, test_of, test_name, AxisRead, TestRead, StepRead};
 
 use plan_table::{NameNumber, Reason, number, packed};
 
@@ -53,6 +53,16 @@ impl Test {
             (2, 0) => Ok(Test::Leaf),
             (3, 1..) => Ok(Test::Named(number::name(name))),
             _ => Err(Reason::Field),
+        }
+    }
+
+    // Its name, 0 where it has none.
+    pub fn name(self) -> NameNumber
+        ensures { result.0 ≡ test_name self }
+    {
+        match self {
+            Test::Node | Test::Element | Test::Leaf => NameNumber(0),
+            Test::Named(name) => name,
         }
     }
 

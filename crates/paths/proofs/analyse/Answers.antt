@@ -32,9 +32,9 @@ returns-in_err-map_err-2 c =
 pub in_marks-requires : goal.in_marks-requires
 in_marks-requires c =
     record {
-      first = fronts_asks c.args.first.now c.positions_of-n.ensures;
-      second = fronts_asks c.args.second.now c.positions_of-m.ensures;
-      room = omega (arith, few_pairs c.args.first.now c.args.second.now c.positions_of-n.ensures c.positions_of-m.ensures);
+      first = fronts_asks c.args.first.now c.positions_of.ensures;
+      second = fronts_asks c.args.second.now c.positions_of-2.ensures;
+      room = omega (arith, few_pairs c.args.first.now c.args.second.now c.positions_of.ensures c.positions_of-2.ensures);
       size = omega arith;
     }
 
@@ -42,31 +42,31 @@ pub returns-then-n-m-le-FEW : goal.returns-then-n-m-le-FEW
 returns-then-n-m-le-FEW c =
     let one = accepted c.read_script.result c.args.first.now c.read_script.ensures c.in_ok-map_err.ensures.variant in
     let two = accepted c.read_script-2.result c.args.second.now c.read_script-2.ensures c.in_ok-map_err-2.ensures.variant in
-    both_accepted c.args.first.now c.args.second.now one two c.positions_of-n.ensures c.positions_of-m.ensures c.in_marks.ensures
+    both_accepted c.args.first.now c.args.second.now one two c.positions_of.ensures c.positions_of-2.ensures c.in_marks.ensures
 
 pub in_table-requires : goal.in_table-requires
 in_table-requires c =
     record {
-      first = fronts_asks c.args.second.now c.positions_of-m.ensures;
-      second = fronts_asks c.args.first.now c.positions_of-n.ensures;
+      first = fronts_asks c.args.second.now c.positions_of-2.ensures;
+      second = fronts_asks c.args.first.now c.positions_of.ensures;
     }
 
 pub returns-then-m-n : goal.returns-then-m-n
 returns-then-m-n c =
     let one = accepted c.read_script.result c.args.first.now c.read_script.ensures c.in_ok-map_err.ensures.variant in
     let two = accepted c.read_script-2.result c.args.second.now c.read_script-2.ensures c.in_ok-map_err-2.ensures.variant in
-    both_accepted c.args.first.now c.args.second.now one two c.positions_of-n.ensures c.positions_of-m.ensures
+    both_accepted c.args.first.now c.args.second.now one two c.positions_of.ensures c.positions_of-2.ensures
     (answer_swapped c.in_table.ensures)
 
 pub in_table-requires-2 : goal.in_table-requires-2
 in_table-requires-2 c =
     record {
-      first = fronts_asks c.args.first.now c.positions_of-n.ensures;
-      second = fronts_asks c.args.second.now c.positions_of-m.ensures;
+      first = fronts_asks c.args.first.now c.positions_of.ensures;
+      second = fronts_asks c.args.second.now c.positions_of-2.ensures;
     }
 
 pub returns : goal.returns
 returns c =
     let one = accepted c.read_script.result c.args.first.now c.read_script.ensures c.in_ok-map_err.ensures.variant in
     let two = accepted c.read_script-2.result c.args.second.now c.read_script-2.ensures c.in_ok-map_err-2.ensures.variant in
-    both_accepted c.args.first.now c.args.second.now one two c.positions_of-n.ensures c.positions_of-m.ensures c.in_table-2.ensures
+    both_accepted c.args.first.now c.args.second.now one two c.positions_of.ensures c.positions_of-2.ensures c.in_table-2.ensures

@@ -7,13 +7,13 @@ use Rattle.paths_fill.proofs.meet.pair.Goals as goal
 
 pub unions-requires : goal.unions-requires
 unions-requires c =
-    unions_asks c.requires (sym (c.byte.ensures.value ∙ c.at-2.ensures) ∙ c.if-byte-eq-UNION.true) _ _
-    (c.byte-j.ensures.value ∙ c.at.ensures) (c.byte-then-byte-eq-UNION.ensures.value ∙ c.at-then-byte-eq-UNION.ensures)
+    unions_asks c.requires (sym c.at-2.ensures ∙ c.if-at-eq-UNION.true) _ _
+    (c.byte-j.ensures.value ∙ c.at.ensures) (c.byte.ensures.value ∙ c.at-then-at-eq-UNION.ensures)
 
-pub returns-then-byte-eq-UNION : goal.returns-then-byte-eq-UNION
-returns-then-byte-eq-UNION c =
-    union_left c.requires (sym (c.byte.ensures.value ∙ c.at-2.ensures) ∙ c.if-byte-eq-UNION.true) _ _ _
-    (c.byte-j.ensures.value ∙ c.at.ensures) (c.byte-then-byte-eq-UNION.ensures.value ∙ c.at-then-byte-eq-UNION.ensures) c.unions.ensures
+pub returns-then-at-eq-UNION : goal.returns-then-at-eq-UNION
+returns-then-at-eq-UNION c =
+    union_left c.requires (sym c.at-2.ensures ∙ c.if-at-eq-UNION.true) _ _ _
+    (c.byte-j.ensures.value ∙ c.at.ensures) (c.byte.ensures.value ∙ c.at-then-at-eq-UNION.ensures) c.unions.ensures
 
 pub is_marked-requires : goal.is_marked-requires
 is_marked-requires c =
@@ -29,12 +29,12 @@ is_marked-requires-3 c =
 
 pub mark-requires : goal.mark-requires
 mark-requires c =
-    up_asks c.requires (λ e. c.if-byte-eq-UNION.false (c.byte.ensures.value ∙ c.at-2.ensures ∙ e)) _
+    up_asks c.requires (λ e. c.if-at-eq-UNION.false (c.at-2.ensures ∙ e)) _
 
 pub returns : goal.returns
 returns c =
-    let n : column_at c.args.columns.now kind_field c.args.l ≡ union_kind → ⊥ = λ e. c.if-byte-eq-UNION.false
-    (c.byte.ensures.value ∙ c.at-2.ensures ∙ e) in
+    let n : column_at c.args.columns.now kind_field c.args.l ≡ union_kind → ⊥ = λ e. c.if-at-eq-UNION.false
+    (c.at-2.ensures ∙ e) in
     up_left c.requires n _
     (up_by_lem c.requires n c.byte-j.result (c.byte-j.ensures.value ∙ c.at.ensures) c.is_marked-3.ensures c.is_set.ensures
     c.is_marked.ensures c.is_set-past.ensures c.is_marked-2.ensures) c.mark.ensures

@@ -1,6 +1,6 @@
 -- `meet::row_meets`: by the role of position k.
-use Rattle.std.proofs.Common.{ap, sym, ◌∙◌}
-use Rattle.paths_positions.specs.declared.packed.Position.{Position}
+use Rattle.std.proofs.Common.{ap, sym, ◌∙◌, arith}
+use Rattle.paths_positions.specs.Packed.{Position, role_number}
 use Rattle.paths_fill.proofs.TableLaws.{meets_asks, apart_meets, accessed_meets, modified_meets, plain_meets}
 use Rattle.paths_fill.proofs.meet.row_meets.Goals as goal
 
@@ -12,20 +12,22 @@ pub meets-requires : goal.meets-requires
 meets-requires c =
     meets_asks c.requires
 
-pub returns-then-role-eq-ACCESSED : goal.returns-then-role-eq-ACCESSED
-returns-then-role-eq-ACCESSED c =
-    accessed_meets c.requires (ap (λ (x : Position). x.role) (sym c.unpacked-role.ensures) ∙ c.if-role-eq-ACCESSED.true) c.meets.ensures
-
-pub meets-requires-then-role-eq-MODIFIED : goal.meets-requires-then-role-eq-MODIFIED
-meets-requires-then-role-eq-MODIFIED c =
+pub meets-requires-in-Modified : goal.meets-requires-in-Modified
+meets-requires-in-Modified c =
     meets_asks c.requires
 
-pub returns-then-role-eq-MODIFIED : goal.returns-then-role-eq-MODIFIED
-returns-then-role-eq-MODIFIED c =
-    modified_meets c.requires (ap (λ (x : Position). x.role) (sym c.unpacked-role.ensures) ∙ c.if-role-eq-MODIFIED.true)
-    c.meets-then-role-eq-MODIFIED.ensures
+pub returns-in-Plain : goal.returns-in-Plain
+returns-in-Plain c =
+    let is = ap (λ (x : Position). x.role) (sym c.unpacked.ensures) ∙ sym c.role.ensures ∙ ap role_number c.in-Plain.is in
+    plain_meets c.requires (λ e. omega (arith, is, e)) (λ e. omega (arith, is, e))
 
-pub returns : goal.returns
-returns c =
-    plain_meets c.requires (λ e. c.if-role-eq-ACCESSED.false (ap (λ (x : Position). x.role) c.unpacked-role.ensures ∙ e))
-    (λ e. c.if-role-eq-MODIFIED.false (ap (λ (x : Position). x.role) c.unpacked-role.ensures ∙ e))
+pub returns-in-Accessed : goal.returns-in-Accessed
+returns-in-Accessed c =
+    accessed_meets c.requires
+    (ap (λ (x : Position). x.role) (sym c.unpacked.ensures) ∙ sym c.role.ensures ∙ ap role_number c.in-Accessed.is) c.meets.ensures
+
+pub returns-in-Modified : goal.returns-in-Modified
+returns-in-Modified c =
+    modified_meets c.requires
+    (ap (λ (x : Position). x.role) (sym c.unpacked.ensures) ∙ sym c.role.ensures ∙ ap role_number c.in-Modified.is)
+    c.meets-in-Modified.ensures

@@ -1,4 +1,3 @@
-use Rattle.std.proofs.Common.{◌∙◌}
 use Rattle.paths_rows.proofs.RowLaws.{any_none, any_step, met_by_lem}
 use Rattle.paths_rows.proofs.rows.meets.Goals as goal
 
@@ -8,8 +7,6 @@ loop-l-init c =
 
 pub loop-l-preserved : goal.loop-l-preserved
 loop-l-preserved c =
-    let e = met_by_lem c.args.columns.now c.loop-l.l c.args.table.now c.args.m c.args.k c.args.role
-    (c.byte.ensures.value ∙ c.at.ensures)
-    c.is_marked.ensures
-    c.is_marked-in-loop-l.ensures in
-    any_step _ _ c.loop-l.invariant e
+    any_step _ _ c.loop-l.invariant
+    (met_by_lem c.args.columns.now c.loop-l.l c.args.table.now c.args.m c.args.k c.from-number.result c.at.ensures c.is_marked.ensures
+    c.is_marked-in-loop-l.ensures)

@@ -1,4 +1,4 @@
-use Rattle.std.proofs.Common.{sym, ◌-◌, arith, get_or}
+use Rattle.std.proofs.Common.{sym, arith, get_or}
 use Rattle.model.proofs.KindLaws.{size_most, arity_most}
 use Rattle.script_records.proofs.WalkLaws.{past_empty, walk_ends, walk_short, walk_on}
 use Rattle.script_records.proofs.walk.end_at.Goals as goal
