@@ -34,7 +34,8 @@ fn binary(
     top: usize,
     x: Evaluated,
 ) -> Result<Evaluated, Refusal>
-    requires rest_pre { RestPre script.now (byte_of kind) left (frame bound marks.now top) (machine rows.old history.old work.old (going_on x)) }
+    requires rest_pre { RestPre script.now (byte_of kind) left (frame bound marks.now top)
+        (machine rows.old history.old work.old (going_on x)) }
     requires index_held { IndexHeld index.now rows.old x.progress.count }
     ensures { RestPost (binary_rest script.now (byte_of kind) at left) (end_at script.now x.place)
         (frame bound marks.now top) (machine rows.old history.old work.old (going_on x))

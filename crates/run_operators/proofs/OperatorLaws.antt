@@ -175,11 +175,14 @@ module _ {top mid : ℕ} {s : Machine} (pre : BinaryPre top mid s) where
       BinaryPost k at top mid s (machine ws' h' s.work (came_out (Err (record { reason = q; place = at }))))
   insert_refused k at e q up n ms = yields_as (rw e) refl (refused_updated (frame n ms top) s q up s.work)
 
-  pub body_yields : (k : Kind) (at : ℕ) → (k ≡ kinds.Join → ⊥) → (k ≡ kinds.Insert → ⊥) → {w' : List ℕ} {e : ℕ} → length w' ≡ length s.work →
+  pub body_yields : (k : Kind) (at : ℕ) → (k ≡ kinds.Join → ⊥) → (k ≡ kinds.Insert → ⊥) →
+      {w' : List ℕ} {e : ℕ} → length w' ≡ length s.work →
       Appended (value_at s.work mid s.end) s.work top w' e →
       {r : Evaluated} → r ≡ ended_by s.progress at s.place e s.env →
       BinaryPost (byte_of k) at top mid s (machine s.rows s.history w' r)
   body_yields k at f g size a eq n ms =
-      yields_as (rw (ne_eqb (byte_of k) join_kind (other_byte k kinds.Join f), ne_eqb (byte_of k) insert_kind (other_byte k kinds.Insert g))) refl
+      let j = ne_eqb (byte_of k) join_kind (other_byte k kinds.Join f) in
+      let i = ne_eqb (byte_of k) insert_kind (other_byte k kinds.Insert g) in
+      yields_as (rw (j, i)) refl
       (yields_updated (frame n ms top) s (updated_none pre.value.held) a (λ q. refl) size (omega (arith, pre.order, pre.value.room))
       (value_few pre.value) (λ q. pre.value.rows) pre.value.spans eq)

@@ -4,8 +4,8 @@ use Rattle.std.specs.Result.{IsOk}
 use Rattle.run_eval.proofs.BinaryLaws.{second_asks, combine_asks, combine_yields}
 use Rattle.run_eval.proofs.BranchLaws.{then_asks, then_refused, then_yields}
 use Rattle.run_eval.proofs.LoopLaws.{one_asks, body_asks}
-use Rattle.run_eval.proofs.LoopLaws.{one_refused, one_all, begin_refused, begin_yields}
-use Rattle.run_eval.proofs.LoopLaws.{near_asks, near_refused, near_all, far_asks, far_yields}
+use Rattle.run_eval.proofs.LoopLaws.{one_refused, one_all, begin_refused, begin_yields, near_asks, near_refused, near_all}
+use Rattle.run_eval.proofs.LoopLaws.{far_asks, far_yields}
 use Rattle.run_eval.proofs.ScopeLaws.{index_kept}
 use Rattle.script.proofs.AcceptedLaws.{accepted_record}
 use Rattle.run_eval.proofs.OperandLaws.{kind_operands, for_operands, if_operands}
@@ -24,9 +24,9 @@ use Rattle.run_eval.proofs.evaluate.+binary_branch_each_eval_iterate.Goals as go
 kind_is : {b : ℕ} {x : Result Kind Reason} {k : Kind} → KindRead b x → x ≡ Ok k → byte_of k ≡ b
 kind_is r e = rw e at r
 
-some_read : {b : ℕ} (x : Result Kind Reason) → KindRead b x → is_script_kind b ≡ true → IsOk x
-some_read (Ok k) r e = tt
-some_read (Err y) r e = absurd (false≢true (sym r.0 ∙ e))
+some_read : (b : ℕ) (x : Result Kind Reason) → KindRead b x → is_script_kind b ≡ true → IsOk x
+some_read b (Ok k) r e = refl
+some_read b (Err y) r e = absurd (false≢true (sym r.0 ∙ e))
 
 pub binary-eval-requires : goal.binary-eval-requires
 binary-eval-requires t c =
@@ -119,8 +119,9 @@ eval-bounds-script-at t c =
 pub eval-overflow_add-i-2 : goal.eval-overflow_add-i-2
 eval-overflow_add-i-2 t c =
     let is = kind_is c.try_from.ensures c.unwrap-kind.ensures in
+    let size = c.body_size.ensures.value ∙ ap body_size is in
     let a = (accepted_record c.requires.eval_pre.accepted).whole in
-    omega (arith, a, (c.body_size.ensures.value ∙ ap body_size is))
+    omega (arith, a, size)
 
 pub eval-overflow_sub-k : goal.eval-overflow_sub-k
 eval-overflow_sub-k t c =
@@ -128,29 +129,35 @@ eval-overflow_sub-k t c =
 
 pub eval-unwrap-kind-requires : goal.eval-unwrap-kind-requires
 eval-unwrap-kind-requires t c =
-    some_read c.try_from.result c.try_from.ensures (accepted_record c.requires.eval_pre.accepted).kind
+    some_read _ c.try_from.result c.try_from.ensures (accepted_record c.requires.eval_pre.accepted).kind
 
 pub eval-eval-requires : goal.eval-eval-requires
 eval-eval-requires t c =
     let is = kind_is c.try_from.ensures c.unwrap-kind.ensures in
-    let l = first_fewer c.requires.eval_pre (c.body_size.ensures.value ∙ ap body_size is) (c.arity-operands.ensures.value ∙ ap arity is) c.if-operands-eq0.false in
+    let size = c.body_size.ensures.value ∙ ap body_size is in
+    let count = c.arity-operands.ensures.value ∙ ap arity is in
+    let l = first_fewer c.requires.eval_pre size count c.if-operands-eq0.false in
     let m = c.decreases in
-    let a = first_asks c.requires.eval_pre (c.body_size.ensures.value ∙ ap body_size is) (c.arity-operands.ensures.value ∙ ap arity is) c.if-operands-eq0.false in
+    let a = first_asks c.requires.eval_pre size count c.if-operands-eq0.false in
     (omega (arith, l, m), (a, c.requires.index_held))
 
 pub eval-returns-in_err-x : goal.eval-returns-in_err-x
 eval-returns-in_err-x t c =
     let is = kind_is c.try_from.ensures c.unwrap-kind.ensures in
+    let size = c.body_size.ensures.value ∙ ap body_size is in
+    let count = c.arity-operands.ensures.value ∙ ap arity is in
     let out = err_from_is_err_and c.from_residual.result c.from_residual.ensures.1 in
     rw (out.1, out.2)
-    (first_refused c.requires.eval_pre (c.body_size.ensures.value ∙ ap body_size is) c.in_err-x.ensures (c.arity-operands.ensures.value ∙ ap arity is)
+    (first_refused c.requires.eval_pre size c.in_err-x.ensures count
     c.if-operands-eq0.false (some_number c.in_err-x.field-0.0.reason))
 
 pub eval-applied-requires : goal.eval-applied-requires
 eval-applied-requires t c =
     let is = kind_is c.try_from.ensures c.unwrap-kind.ensures in
+    let size = c.body_size.ensures.value ∙ ap body_size is in
+    let count = c.arity-operands.ensures.value ∙ ap arity is in
     record {
-      value_pre = unary_asks c.requires.eval_pre (c.body_size.ensures.value ∙ ap body_size is) c.in_ok-x.ensures refl (c.arity-operands.ensures.value ∙ ap arity is)
+      value_pre = unary_asks c.requires.eval_pre size c.in_ok-x.ensures refl count
           c.if-operands-eq1.true;
       index_held = index_kept c.requires.index_held c.in_ok-x.ensures refl;
     }
@@ -158,15 +165,18 @@ eval-applied-requires t c =
 pub eval-returns-then-operands-eq1 : goal.eval-returns-then-operands-eq1
 eval-returns-then-operands-eq1 t c =
     let is = kind_is c.try_from.ensures c.unwrap-kind.ensures in
-    unary_yields c.requires.eval_pre (c.body_size.ensures.value ∙ ap body_size is) c.in_ok-x.ensures refl (c.arity-operands.ensures.value ∙ ap arity is)
+    let size = c.body_size.ensures.value ∙ ap body_size is in
+    let count = c.arity-operands.ensures.value ∙ ap arity is in
+    unary_yields c.requires.eval_pre size c.in_ok-x.ensures refl count
     c.if-operands-eq1.true c.read-operator.ensures c.applied.ensures
 
 pub eval-branch-script-requires : goal.eval-branch-script-requires
 eval-branch-script-requires t c =
     let is = kind_is c.try_from.ensures c.unwrap-kind.ensures in
+    let size = c.body_size.ensures.value ∙ ap body_size is in
     let three = if_operands c.requires.eval_pre.accepted (sym is ∙ ap byte_of c.in-If.is) in
-    let l = three_fewer c.requires.eval_pre (c.body_size.ensures.value ∙ ap body_size is) c.in_ok-x.ensures refl (sym is ∙ ap byte_of c.in-If.is) three in
-    let a = three_asks c.requires.eval_pre (c.body_size.ensures.value ∙ ap body_size is) c.in_ok-x.ensures refl (sym is ∙ ap byte_of c.in-If.is) three in
+    let l = three_fewer c.requires.eval_pre size c.in_ok-x.ensures refl (sym is ∙ ap byte_of c.in-If.is) three in
+    let a = three_asks c.requires.eval_pre size c.in_ok-x.ensures refl (sym is ∙ ap byte_of c.in-If.is) three in
     let m = c.decreases in (
       omega (arith, l, m),
       (a.0, (a.1, index_kept c.requires.index_held c.in_ok-x.ensures refl)),
@@ -175,19 +185,21 @@ eval-branch-script-requires t c =
 pub eval-returns-in-If : goal.eval-returns-in-If
 eval-returns-in-If t c =
     let is = kind_is c.try_from.ensures c.unwrap-kind.ensures in
+    let size = c.body_size.ensures.value ∙ ap body_size is in
     let three = if_operands c.requires.eval_pre.accepted (sym is ∙ ap byte_of c.in-If.is) in
-    three_yields c.requires.eval_pre (c.body_size.ensures.value ∙ ap body_size is) c.in_ok-x.ensures refl (sym is ∙ ap byte_of c.in-If.is) three
+    three_yields c.requires.eval_pre size c.in_ok-x.ensures refl (sym is ∙ ap byte_of c.in-If.is) three
     c.branch-script.ensures
 
 pub eval-iterate-requires : goal.eval-iterate-requires
 eval-iterate-requires t c =
     let is = kind_is c.try_from.ensures c.unwrap-kind.ensures in
+    let size = c.body_size.ensures.value ∙ ap body_size is in
     let two = for_operands c.requires.eval_pre.accepted (sym is ∙ ap byte_of c.in-For.is) in
-    let l = two_fewer c.requires.eval_pre (c.body_size.ensures.value ∙ ap body_size is) c.in_ok-x.ensures refl (sym is ∙ ap byte_of c.in-For.is) two in
+    let l = two_fewer c.requires.eval_pre size c.in_ok-x.ensures refl (sym is ∙ ap byte_of c.in-For.is) two in
     let m = c.decreases in (
       omega (arith, l, m),
       (
-        two_asks c.requires.eval_pre (c.body_size.ensures.value ∙ ap body_size is) c.in_ok-x.ensures refl (sym is ∙ ap byte_of c.in-For.is) two,
+        two_asks c.requires.eval_pre size c.in_ok-x.ensures refl (sym is ∙ ap byte_of c.in-For.is) two,
         index_kept c.requires.index_held c.in_ok-x.ensures refl,
       ),
     )
@@ -195,20 +207,22 @@ eval-iterate-requires t c =
 pub eval-returns-in-For : goal.eval-returns-in-For
 eval-returns-in-For t c =
     let is = kind_is c.try_from.ensures c.unwrap-kind.ensures in
+    let size = c.body_size.ensures.value ∙ ap body_size is in
     let two = for_operands c.requires.eval_pre.accepted (sym is ∙ ap byte_of c.in-For.is) in
-    two_yields c.requires.eval_pre (c.body_size.ensures.value ∙ ap body_size is) c.in_ok-x.ensures refl (sym is ∙ ap byte_of c.in-For.is) two
+    two_yields c.requires.eval_pre size c.in_ok-x.ensures refl (sym is ∙ ap byte_of c.in-For.is) two
     c.iterate.ensures
 
 pub eval-binary-requires : goal.eval-binary-requires
 eval-binary-requires t c =
     let is = kind_is c.try_from.ensures c.unwrap-kind.ensures in
+    let size = c.body_size.ensures.value ∙ ap body_size is in
     let two = kind_operands c.requires.eval_pre.accepted c.unwrap-kind.result is c.arity-operands.ensures.value
     c.if-operands-eq0.false c.if-operands-eq1.false c.in_default.not-If c.in_default.not-For in
-    let l = two_fewer c.requires.eval_pre (c.body_size.ensures.value ∙ ap body_size is) c.in_ok-x.ensures refl (sym is) two in
+    let l = two_fewer c.requires.eval_pre size c.in_ok-x.ensures refl (sym is) two in
     let m = c.decreases in (
       omega (arith, l, m),
       (
-        two_asks c.requires.eval_pre (c.body_size.ensures.value ∙ ap body_size is) c.in_ok-x.ensures refl (sym is) two,
+        two_asks c.requires.eval_pre size c.in_ok-x.ensures refl (sym is) two,
         index_kept c.requires.index_held c.in_ok-x.ensures refl,
       ),
     )
@@ -216,14 +230,16 @@ eval-binary-requires t c =
 pub eval-returns-in_default : goal.eval-returns-in_default
 eval-returns-in_default t c =
     let is = kind_is c.try_from.ensures c.unwrap-kind.ensures in
+    let size = c.body_size.ensures.value ∙ ap body_size is in
     let two = kind_operands c.requires.eval_pre.accepted c.unwrap-kind.result is c.arity-operands.ensures.value
     c.if-operands-eq0.false c.if-operands-eq1.false c.in_default.not-If c.in_default.not-For in
-    two_yields c.requires.eval_pre (c.body_size.ensures.value ∙ ap body_size is) c.in_ok-x.ensures refl (sym is) two c.binary.ensures
+    two_yields c.requires.eval_pre size c.in_ok-x.ensures refl (sym is) two c.binary.ensures
 
 pub eval-read-operator-requires-clause-operator_pre : goal.eval-read-operator-requires-clause-operator_pre
 eval-read-operator-requires-clause-operator_pre t c =
     let is = kind_is c.try_from.ensures c.unwrap-kind.ensures in
-    operator_asks c.requires.eval_pre (c.arity-operands.ensures.value ∙ ap arity is) c.if-operands-eq1.true
+    let count = c.arity-operands.ensures.value ∙ ap arity is in
+    operator_asks c.requires.eval_pre count c.if-operands-eq1.true
 
 pub iterate-returns-then-mid-top : goal.iterate-returns-then-mid-top
 iterate-returns-then-mid-top t c =

@@ -22,7 +22,8 @@ bounds-script-at c =
 
 pub document-end-requires-clause-d_in_bounds : goal.document-end-requires-clause-d_in_bounds
 document-end-requires-clause-d_in_bounds c =
-    omega (arith, document_number (accepted_record c.requires.eval_pre.accepted) (sym c.requires.is ∙ ap byte_of c.in-Document.is), c.requires.eval_pre.marks.size, c.from.ensures)
+    let d = document_number (accepted_record c.requires.eval_pre.accepted) (sym c.requires.is ∙ ap byte_of c.in-Document.is) in
+    omega (arith, d, c.requires.eval_pre.marks.size, c.from.ensures)
 
 pub returns-in-Document : goal.returns-in-Document
 returns-in-Document c =
@@ -36,8 +37,12 @@ bounds-script-at-in-Variable c =
 
 pub bounds-env-from : goal.bounds-env-from
 bounds-env-from c =
-    omega (arith, variable_number (accepted_record c.requires.eval_pre.accepted) (sym c.requires.is ∙ ap byte_of c.in-Variable.is), c.requires.eval_pre.scope.few,
-    c.from-in-Variable.ensures)
+    omega (
+      arith,
+      variable_number (accepted_record c.requires.eval_pre.accepted) (sym c.requires.is ∙ ap byte_of c.in-Variable.is),
+      c.requires.eval_pre.scope.few,
+      c.from-in-Variable.ensures,
+    )
 
 pub overflow_add-to : goal.overflow_add-to
 overflow_add-to c =
@@ -62,7 +67,8 @@ bounds-script-at-in-NewElement c =
 pub new_element-requires : goal.new_element-requires
 new_element-requires c =
     let l = element_name (accepted_record c.requires.eval_pre.accepted) (sym c.requires.is ∙ ap byte_of c.in-NewElement.is) in
-    record { held = c.requires.eval_pre.held; low = omega (arith, l.0, c.name-name.ensures); high = omega (arith, l.1, c.name-name.ensures) }
+    let n = c.name-name.ensures in
+    record { held = c.requires.eval_pre.held; low = omega (arith, l.0, n); high = omega (arith, l.1, n) }
 
 pub returns-in_err-q-in-NewElement : goal.returns-in_err-q-in-NewElement
 returns-in_err-q-in-NewElement c =
@@ -89,7 +95,8 @@ returns-in_err-q-in-NewLeaf c =
     let told = told_err _ c.new_leaf.result c.map_err-in-NewLeaf.ensures.cases c.in_err-q-in-NewLeaf.was in
     let k : c.in_err-q-in-NewLeaf.field-0.0 ≡ record { reason = told.0; place = c.args.at } = search (told.2, rules) in
     let out = err_from_is_err_and c.from_residual-in_err-q-in-NewLeaf.result c.from_residual-in_err-q-in-NewLeaf.ensures.1 in
-    rw (out.1, out.2, k) (leaf_refused c.requires.eval_pre (sym c.requires.is ∙ ap byte_of c.in-NewLeaf.is) told.0 (rw told.1 at c.new_leaf.ensures))
+    rw (out.1, out.2, k)
+    (leaf_refused c.requires.eval_pre (sym c.requires.is ∙ ap byte_of c.in-NewLeaf.is) told.0 (rw told.1 at c.new_leaf.ensures))
 
 pub returns-in_ok-q-in-NewLeaf : goal.returns-in_ok-q-in-NewLeaf
 returns-in_ok-q-in-NewLeaf c =
