@@ -16,7 +16,7 @@ use run_operators::value::Span;
 use run_query::index;
 use run_updates::state::Progress;
 use run_updates::tally::Tally;
-use script_records::kinds;
+use script_records::kinds::Kind;
 
 // How a run ended that is not refused: the rows then, the items of the answer, the bytes of the history, the tally.
 #[derive(Clone, Copy)]
@@ -44,7 +44,7 @@ fn evaluated(
         (machine rows.old history.old work.old (begun (going p) 0 0 env))
         (machine rows.new history.new work.new (came_out result)) }
 {
-    if !script.contains(&kinds::FOR) {
+    if !script.contains(&(Kind::For as u8)) {
         let none = [0u16; 1];
         return evaluate::eval(
             script,

@@ -9,9 +9,10 @@ use Rattle.model.specs.Run.{Out, and_then, run}
 use Rattle.script_records.specs.Walk.{inner, end_at, first_at, second_at, expr_at}
 use Rattle.script.specs.Accepted.{Accepted, RecordFits}
 use Rattle.script.proofs.AcceptedLaws.{accepted_record, accepted_at}
-use Rattle.script.proofs.FieldLaws.{step_axis}
+use Rattle.script.proofs.FieldLaws.{step_axis, step_test, pick_relation}
 use Rattle.run_operators.specs.Machine.{Machine, Frame, state_in, bound_in, value_in}
-use Rattle.run_operators.specs.Evaluating.{Fine, Yields, UnaryPre, UnaryPost, EvalPre, EvalPost}
+use Rattle.run_operators.specs.Evaluating.{Fine, Yields, ValuePre, OperatorPre, OperatorPost, UnaryPost, EvalPre, EvalPost}
+use Rattle.run_operators.specs.declared.record.Operator.{Operator}
 use Rattle.run_operators.proofs.YieldLaws.{yields_as, yields_gives, yields_refused, refused_yields, fine_between, yields_after, value_asks}
 use Rattle.run_operators.proofs.YieldLaws.{placed_at, yields_from}
 use Rattle.run_eval.specs.Rests.{Rest, RestPre, RestPost}
@@ -27,6 +28,17 @@ module _ {b : List ℕ} {left : ℕ} {f : Frame} {s : Machine} (pre : EvalPre b 
 
   pub deep : 0 < left
   deep = fits.depth
+
+  -- what its operator is read from
+  pub operator_asks : {q : ℕ} → q ≡ arity (get_or b s.place 0) → q ≡ 1 → OperatorPre b s.place
+  operator_asks count z =
+      record {
+        whole = fits.whole;
+        unary = sym count ∙ z;
+        axis = step_axis fits;
+        test = step_test fits;
+        relation = pick_relation fits;
+      }
 
   -- its operands start behind a body of so many bytes
   module _ {size : ℕ} (body : size ≡ body_size (get_or b s.place 0)) where
@@ -98,20 +110,14 @@ module _ {b : List ℕ} {left : ℕ} {f : Frame} {s : Machine} (pre : EvalPre b 
 
         -- no other operand
         module _ {q : ℕ} (count : q ≡ arity (get_or b s.place 0)) (z : q ≡ 1) where
-          pub unary_asks : UnaryPre b s.place f.top s₁
-          unary_asks =
-              record {
-                value = value_asks ok (omega (arith, pre.room));
-                whole = fits.whole;
-                kind = fits.kind;
-                unary = sym count ∙ z;
-                axis = step_axis fits;
-              }
+          pub unary_asks : ValuePre f.top s₁
+          unary_asks = value_asks ok (omega (arith, pre.room))
 
-          pub unary_yields : {s' : Machine} → UnaryPost b s.place f.top s₁ s' → EvalPost b left f s s'
-          unary_yields post =
+          pub unary_yields : {o : Operator} → OperatorPost b s.place o → {s' : Machine} → UnaryPost o f.top s₁ s' → EvalPost b left f s s'
+          unary_yields read post =
               let o = one_operand pre.accepted count z in
-              first_yields o.first (ok.place ∙ sym o.ends) (post f.bound f.marks)
+              let y = yields_as (read.same (value_in f s₁) (state_in f s₁)) refl (post f.bound f.marks) in
+              first_yields o.first (ok.place ∙ sym o.ends) y
 
         -- a second
         module _ {kind : ℕ} {rest : Rest} (e : get_or b s.place 0 ≡ kind)

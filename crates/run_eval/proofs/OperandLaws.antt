@@ -9,6 +9,10 @@ use Rattle.model.specs.Run.{State, Out, refused, gives, and_then, run}
 use Rattle.model.proofs.BoolLaws.{eq_cases}
 use Rattle.model.proofs.ValueLaws.{then_same}
 use Rattle.script_records.specs.Walk.{inner, end_at, first_at, second_at, third_at, expr_at}
+use Rattle.script_records.specs.Kinds.{byte_of}
+use Rattle.script_records.specs.declared.kinds.Kind.{Kind}
+use Rattle.script_records.specs.declared.kinds.Kind.TheVariants.{If, For}
+use Rattle.script_records.proofs.KindLaws.{other_byte}
 use Rattle.script.specs.Accepted.{Accepted, RecordFits, Unary, Binary}
 use Rattle.model.proofs.KindLaws.{unary_kind, binary_kind, two_left}
 use Rattle.script.proofs.AcceptedLaws.{accepted_record, accepted_step, accepted_delete, accepted_pick, accepted_join, accepted_let}
@@ -105,7 +109,7 @@ module _ {b : List ℕ} {at left n : ℕ} (a : Accepted b at left n) where
         fewer = omega (arith, ap records_of u.expr, size);
       }
 
-  pub two_operands : {q : ℕ} → q ≡ arity (get_or b at 0) → (q ≡ 0 → ⊥) → (q ≡ 1 → ⊥) → (get_or b at 0 ≡ if_kind → ⊥) →
+  two_operands : {q : ℕ} → q ≡ arity (get_or b at 0) → (q ≡ 0 → ⊥) → (q ≡ 1 → ⊥) → (get_or b at 0 ≡ if_kind → ⊥) →
       (get_or b at 0 ≡ for_kind → ⊥) →
       Two b at left n (inner (get_or b at 0) n) (binary_rest b (get_or b at 0) at (left - 1))
   unfolding run inner records_of
@@ -117,6 +121,12 @@ module _ {b : List ℕ} {at left n : ℕ} (a : Accepted b at left n) where
       (λ vs s. then_same (run one vs s) refl (λ v u. sym (then_gives (run two (vs ++ (v ∷ [])) u)) ∙ rw e)))
       (λ e. absurd (l e))
       (λ e. two_of (accepted_insert a e) (rw e) refl (λ vs s. then_same (run one vs s) refl (λ v u. rw e)))
+
+  pub kind_operands : (k : Kind) → byte_of k ≡ get_or b at 0 → {q : ℕ} → q ≡ arity (byte_of k) → (q ≡ 0 → ⊥) → (q ≡ 1 → ⊥) →
+      (k ≡ If → ⊥) → (k ≡ For → ⊥) → Two b at left n (inner (byte_of k) n) (binary_rest b (byte_of k) at (left - 1))
+  kind_operands k is count f g i l =
+      subst (λ (j : ℕ). Two b at left n (inner j n) (binary_rest b j at (left - 1))) (sym is)
+      (two_operands (count ∙ ap arity is) f g (λ e. other_byte k If i (is ∙ e)) (λ e. other_byte k For l (is ∙ e)))
 
   pub for_operands : get_or b at 0 ≡ for_kind → Two b at left n (inner for_kind n) (for_rest b at (left - 1))
   unfolding run inner records_of

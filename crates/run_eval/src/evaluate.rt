@@ -1,5 +1,6 @@
 // The evaluator: runs an accepted script in place. The work area is a stack of values; what is below top belongs to the callers.
 ghost use Rattle.model.specs.Script.{if_kind, for_kind};
+ghost use Rattle.script_records.specs.Kinds.{byte_of};
 ghost use Rattle.script_records.specs.Walk.{end_at};
 ghost use Rattle.script.specs.Accepted.{Accepted};
 ghost use Rattle.run_query.specs.Index.{IndexHeld};
@@ -10,17 +11,18 @@ ghost use Rattle.run_eval.specs.Loops.{loop_of, EachPre, EachPost};
 ghost use Rattle.run_eval.specs.Rests.{binary_rest, for_rest, if_rest, RestPre, RestPost};
 
 use plan_table::{Refusal, Table};
-use run_operators::record::Evaluated;
+use run_operators::record::{Evaluated, Operator};
 use run_operators::value::Span;
 use run_operators::{record, value};
 use run_updates::state::Progress;
-use script_records::{kinds, walk};
+use script_records::kinds::Kind;
+use script_records::walk;
 
 // A join, an insert or a let after its first operand, x: the second value stands behind the first.
 #[cycle(binary_branch_each_eval_iterate)]
 fn binary(
     script: &[u8],
-    kind: u8,
+    kind: Kind,
     at: usize,
     left: usize,
     bound: usize,
@@ -32,9 +34,10 @@ fn binary(
     top: usize,
     x: Evaluated,
 ) -> Result<Evaluated, Refusal>
-    requires rest_pre { RestPre script.now kind left (frame bound marks.now top) (machine rows.old history.old work.old (going_on x)) }
+    requires rest_pre { RestPre script.now (byte_of kind) left (frame bound marks.now top)
+        (machine rows.old history.old work.old (going_on x)) }
     requires index_held { IndexHeld index.now rows.old x.progress.count }
-    ensures { RestPost (binary_rest script.now kind at left) (end_at script.now x.place)
+    ensures { RestPost (binary_rest script.now (byte_of kind) at left) (end_at script.now x.place)
         (frame bound marks.now top) (machine rows.old history.old work.old (going_on x))
         (machine rows.new history.new work.new (came_out result)) }
 {
@@ -43,7 +46,7 @@ fn binary(
     let q = x.progress;
     let inside = value::bind(kind, scope, bound, top, mid);
     let j = x.place;
-    let n = kinds::inner(kind, bound);
+    let n = kind.inner(bound);
     let y = eval(
         script, j, left, n, inside, marks, index, rows, history, work, mid, q,
     )?;
@@ -118,7 +121,7 @@ fn iterate(
         script, at, x.place, left, bound, scope, marks, index, rows, history, work, top, mid, mid,
         mid, q,
     )?;
-    record::combined(kinds::FOR, at, rows, history, work, top, mid, y)
+    record::combined(Kind::For, at, rows, history, work, top, mid, y)
 }
 
 // The items between two places: the first, then the others by halves. The results so far stand from top to end. 8 is at the for's place.
@@ -149,7 +152,7 @@ fn each(
         (machine rows.new history.new work.new (came_out result)) }
 {
     let next = from + 1;
-    let inside = value::bind(kinds::FOR, env, bound, from, next);
+    let inside = value::bind(Kind::For, env, bound, from, next);
     let n = bound + 1;
     let y = eval(
         script, at, left, n, inside, marks, index, rows, history, work, end, p,
@@ -199,30 +202,30 @@ pub fn eval(
         (machine rows.old history.old work.old (begun (going p) at top env))
         (machine rows.new history.new work.new (came_out result)) }
 {
-    let kind = script[at];
-    let operands = kinds::arity(kind);
+    let kind = Kind::try_from(script[at]).unwrap();
+    let operands = kind.arity();
     if operands == 0 {
         return record::nullary(
-            script, at, left, bound, env, marks, rows, history, work, top, p,
+            kind, script, at, left, bound, env, marks, rows, history, work, top, p,
         );
     }
-    let i = at + (1 + kinds::body_size(kind));
+    let i = at + (1 + kind.body_size());
     let k = left - 1;
     let x = eval(
         script, i, k, bound, env, marks, index, rows, history, work, top, p,
     )?;
     if operands == 1 {
-        return Ok(record::applied(script, at, index, rows, history, work, top, x));
+        let operator = Operator::read(kind, script, at);
+        return Ok(record::applied(operator, index, rows, history, work, top, x));
     }
-    if kind == kinds::IF {
-        return branch(script, k, bound, marks, index, rows, history, work, top, x);
-    }
-    if kind == kinds::FOR {
-        return iterate(
+    match kind {
+        Kind::If => branch(script, k, bound, marks, index, rows, history, work, top, x),
+        Kind::For => iterate(
             script, at, k, bound, marks, index, rows, history, work, top, x,
-        );
+        ),
+        // A join, a let or an insert.
+        _ => binary(
+            script, kind, at, k, bound, marks, index, rows, history, work, top, x,
+        ),
     }
-    binary(
-        script, kind, at, k, bound, marks, index, rows, history, work, top, x,
-    )
 }

@@ -13,14 +13,13 @@ use Rattle.std.specs.Prelude.{Err}
 use Rattle.model.specs.Limits.{max_items, max_rows}
 use Rattle.model.specs.Table as model
 use Rattle.model.specs.Script.{nil_kind, document_kind, variable_kind, new_element_kind, new_leaf_kind}
-use Rattle.model.specs.Script.{Expr, nil, document, var, element, leaf, script_kinds, body_size, arity}
+use Rattle.model.specs.Script.{Expr, nil, document, var, element, leaf, script_kinds, body_size}
 use Rattle.model.specs.Run.{Out, refused, gives, marked, new_row, loose, run, AreRows}
 use Rattle.model.proofs.BoolLaws.{by_cases, cond_true, cond_false, cond_cases}
 use Rattle.model.proofs.GrowLaws.{count_with_row}
 use Rattle.model.proofs.All.{all_read}
 use Rattle.model.specs.Base.{nothing, also}
 use Rattle.script.specs.Accepted.{RecordFits, Nullary}
-use Rattle.model.proofs.KindLaws.{nullary_kind}
 use Rattle.script.proofs.AcceptedLaws.{accepted_record, accepted_nil, accepted_document}
 use Rattle.script.proofs.AcceptedLaws.{accepted_variable, accepted_element, accepted_leaf}
 use Rattle.script.proofs.FieldLaws.{variable_number}
@@ -87,15 +86,9 @@ module _ {b : List ℕ} {left : ℕ} {f : Frame} {s : Machine} (pre : EvalPre b 
   pub nullary_room : f.top + max_items ≤ length s.work
   nullary_room = omega (arith, pre.room)
 
-  -- the byte behind a kind that is not nil
-  pub nullary_body : arity (get_or b s.place 0) ≡ 0 → (get_or b s.place 0 ≡ nil_kind → ⊥) → s.place + 1 < length b
-  unfolding script_kinds
-  nullary_body z g =
-      nullary_kind (get_or b at 0) fits.kind z (λ e. absurd (g e)) (λ e. body document_kind e refl) (λ e. body variable_kind e refl)
-      (λ e. body new_element_kind e refl) (λ e. body new_leaf_kind e refl)
-    where
-      body : (k : ℕ) → get_or b at 0 ≡ k → body_size k ≡ 1 → at + 1 < length b
-      body k e one = subst (λ (j : ℕ). at + j < length b) (ap (λ (j : ℕ). body_size j) e ∙ one) fits.whole
+  -- the byte behind a kind that has a body
+  pub body_within : {k : ℕ} → get_or b s.place 0 ≡ k → body_size k ≡ 1 → s.place + 1 < length b
+  body_within e one = omega (arith, fits.whole, ap body_size e, one)
 
   -- the expression is e, and ends past its record
   from_record : (e : Expr) (k : ℕ) → get_or b at 0 ≡ k → Nullary b at left e → {s' : Machine} →
@@ -210,13 +203,6 @@ module _ {b : List ℕ} {left : ℕ} {f : Frame} {s : Machine} (pre : EvalPre b 
           y ≡ ended_by q s.place (s.place + 2) e s.env → EvalPost b left f s (machine ws' h' w' y)
       unfolding script_kinds
       leaf_yields = row_yields k (accepted_leaf pre.accepted k) (loose true (get_or b (s.place + 1) 0)) leaf_runs refl
-
-  -- none of the others: a new leaf
-  pub last_kind : arity (get_or b s.place 0) ≡ 0 → (get_or b s.place 0 ≡ nil_kind → ⊥) → (get_or b s.place 0 ≡ document_kind → ⊥) →
-      (get_or b s.place 0 ≡ variable_kind → ⊥) → (get_or b s.place 0 ≡ new_element_kind → ⊥) → get_or b s.place 0 ≡ new_leaf_kind
-  last_kind z f1 f2 f3 f9 =
-      nullary_kind (get_or b at 0) fits.kind z (λ e. absurd (f1 e)) (λ e. absurd (f2 e)) (λ e. absurd (f3 e))
-      (λ e. absurd (f9 e)) (λ e. e)
 
   -- a variable's value may be copied to top
   pub variable_asks : get_or b s.place 0 ≡ variable_kind → {v : ℕ} → v ≡ get_or b (s.place + 1) 0 →

@@ -6,8 +6,7 @@ use native.Mathlib.Omega.{arith}
 use lib.Dec.{ltb}
 use lib.ListN.{length, take}
 use borrow.Author.Tests.{lt-ltb, le-ltb, ltb-true, ltb-false}
-use Rattle.std.specs.Prelude.{Result, Ok, Err}
-use Rattle.std.specs.Result.{MatchResult, IsErrAnd}
+use Rattle.std.specs.Prelude.{Err}
 use Rattle.model.specs.Limits.{max_items, max_binders}
 use Rattle.model.specs.Refusal.{refusal}
 use Rattle.model.specs.Run.{State, Out, refused, gives, join_items, AreRows}
@@ -81,17 +80,6 @@ pub refused_updated : (f : Frame) (s : Machine) {g : ℕ → State → Out} {v w
 refused_updated f s {g} {v} {ws'} {h'} r up w' {at} {next} =
     refused_yields (some_number r)
     (sym (up.same at f.marks) ∙ outcome_refused at v ws' f.marks h' (came (Err r)) (some_number r))
-
--- AN ERROR TOLD otherwise, by a closure: what the call returned, from what was made of it
-module _ {A D E : Type 0} (P : D → E → Type 0) where
-  pub told_ok : (r : Result A D) {m : Result A E} {q : A} → MatchResult r (λ x. m ≡ Ok x) (λ e. IsErrAnd m (P e)) → m ≡ Ok q → r ≡ Ok q
-  told_ok (Ok x) h e = cc
-  told_ok (Err y) h e = absurd (subst (λ (m : Result A E). IsErrAnd m (P y)) e h)
-
-  pub told_err : (r : Result A D) {m : Result A E} {e : E} → MatchResult r (λ x. m ≡ Ok x) (λ e. IsErrAnd m (P e)) → m ≡ Err e →
-      (y : D) × (r ≡ Err y) × P y e
-  told_err (Ok x) h e = absurd (subst (λ (m : Result A E). MatchResult m (λ _. Unit {0}) (λ _. ⊥)) (sym h ∙ e) tt)
-  told_err (Err y) h e = (y, refl, subst (λ (m : Result A E). IsErrAnd m (P y)) e h)
 
 -- no update at all
 pub updated_none : {v ws h : List ℕ} {p : Progress} → Held ws h p → Updated (λ z s. gives v s) v ws h p ws h p

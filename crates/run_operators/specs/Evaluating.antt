@@ -1,15 +1,19 @@
 -- The evaluator's contracts: what a value in the work area, the variables and the lent areas stand for in the model's run.
 use Rattle.std.specs.Prelude.{◌≡◌, true, cond, ◌⊎◌, List, [], ℕ, ◌+◌, ◌*◌, ◌-◌, ◌≤◌, ◌<◌, ltb, eqb, length, get_or, take, Err}
 use Rattle.model.specs.Limits.{max_items, max_binders, documents}
-use Rattle.model.specs.Script.{step_by, step_kind, delete_kind, join_kind, insert_kind, is_script_kind, body_size, arity, is_binder}
+use Rattle.model.specs.Script.{step_by, step_kind, delete_kind, join_kind, insert_kind, pick_kind, test_fits, body_size, arity, is_binder}
 use Rattle.model.specs.Step.{stepped, picked}
 use Rattle.model.specs.Run.{State, Out, gives, cut_all, join_items, inserted, run, AreRows, AreValues}
+use Rattle.script_records.specs.Steps.{step_of}
+use Rattle.script_records.specs.Relations.{relation_number}
 use Rattle.script_records.specs.Walk.{inner, with_bound, end_at, expr_at}
 use Rattle.script.specs.Accepted.{Accepted}
 use Rattle.plan_table.specs.declared.Reason.TheVariants.{Items}
 use Rattle.run_updates.specs.State.{Progress, Held, After}
 use Rattle.run_query.specs.Values.{value_at}
 use Rattle.run_operators.specs.declared.value.Span.{Span}
+use Rattle.run_operators.specs.declared.record.Operator.{Operator}
+use Rattle.run_operators.specs.declared.record.Operator.TheVariants.{Step, Delete, Pick}
 use Rattle.run_operators.specs.Machine.{max_place, no_span, span_of, bound_values, Evaluated, came_out}
 use Rattle.run_operators.specs.Machine.{Machine, Frame, frame, state_in, bound_in, value_in, outcome_in}
 
@@ -108,19 +112,28 @@ pub record ValuePre (top : ℕ) (s : Machine) : Type 0 where
   pub rows : AreRows s.progress.count (value_at s.work top s.end)
   pub spans : length s.env ≡ max_binders
 
--- ONE OPERAND: the record at a place is whole, and its operand's value stands
-pub record UnaryPre (b : List ℕ) (at top : ℕ) (s : Machine) : Type 0 where
-  pub value : ValuePre top s
+-- ONE OPERAND: the record at a place is whole, and its fields are in range
+pub record OperatorPre (b : List ℕ) (at : ℕ) : Type 0 where
   pub whole : at + body_size (get_or b at 0) < length b
-  pub kind : is_script_kind (get_or b at 0) ≡ true
   pub unary : arity (get_or b at 0) ≡ 1
   pub axis : get_or b at 0 ≡ step_kind → get_or b (at + 1) 0 < 4
+  pub test : get_or b at 0 ≡ step_kind → test_fits (get_or b (at + 2) 0) (get_or b (at + 3) 0) ≡ true
+  pub relation : get_or b at 0 ≡ pick_kind → get_or b (at + 1) 0 < 3
+
+-- what it does with its value
+abbrev pub unary_by : Operator → (value : List ℕ) → State → Out
+unary_by (Step t) v s = gives (stepped s.plan (step_of t) v) s
+unary_by Delete v s = gives [] (cut_all v s)
+unary_by (Pick r c) v s = gives (picked s.plan (relation_number r) c v) s
+
+-- read, it does what the record does
+pub record OperatorPost (b : List ℕ) (at : ℕ) (o : Operator) : Type 0 where
+  pub same : (v : List ℕ) (s : State) → unary_by o v s ≡ unary_of b at v s
 
 -- whatever the variables in scope and the marks are
-abbrev pub UnaryPost : (bytes : List ℕ) → (at top : ℕ) → (before after : Machine) → Type 0
-UnaryPost b i t s s' =
-    (n : ℕ) (ms : List ℕ) →
-    Yields (unary_of b i (value_in (frame n ms t) s) (state_in (frame n ms t) s)) s.place (frame n ms t) s s'
+abbrev pub UnaryPost : Operator → (top : ℕ) → (before after : Machine) → Type 0
+UnaryPost o t s s' =
+    (n : ℕ) (ms : List ℕ) → Yields (unary_by o (value_in (frame n ms t) s) (state_in (frame n ms t) s)) s.place (frame n ms t) s s'
 
 -- TWO OPERANDS: the first one's value stands from top up to mid, the second's from there on
 pub record BinaryPre (top mid : ℕ) (s : Machine) : Type 0 where

@@ -1,11 +1,12 @@
 // What a record does with the values of its operands.
 ghost use Rattle.std.specs.Prelude.{◌≡◌, ◌≤◌, get_or};
 ghost use Rattle.model.specs.Script.{arity};
+ghost use Rattle.script_records.specs.Kinds.{byte_of};
 ghost use Rattle.script_records.specs.Walk.{end_at};
 ghost use Rattle.run_query.specs.Index.{IndexHeld};
 ghost use Rattle.run_updates.specs.State.{going};
-ghost use Rattle.run_operators.specs.Evaluating.{limited_by, moved_to, UnaryPre, UnaryPost, BinaryPre, BinaryPost};
-ghost use Rattle.run_operators.specs.Evaluating.{EvalPre, EvalPost};
+ghost use Rattle.run_operators.specs.Evaluating.{limited_by, moved_to, OperatorPre, OperatorPost, ValuePre, UnaryPost};
+ghost use Rattle.run_operators.specs.Evaluating.{BinaryPre, BinaryPost, EvalPre, EvalPost};
 ghost use Rattle.run_operators.specs.Machine.{going_on, came_out, frame, machine, begun};
 
 use crate::value;
@@ -14,10 +15,12 @@ use plan_table::{Reason, Refusal, RowNumber, Table, number};
 use run_insert::insert;
 use run_pick::pick;
 use run_query::step;
-use run_query::step::StepBy;
 use run_updates::state::Progress;
 use run_updates::update;
-use script_records::{kinds, walk};
+use script_records::kinds::Kind;
+use script_records::pick::Relation;
+use script_records::step::Step;
+use script_records::walk;
 
 // After an expression: how far the run has come; the place past it; the end of its value; the variables.
 #[derive(Clone, Copy)]
@@ -57,7 +60,9 @@ pub fn past(script: &[u8], x: Evaluated) -> Evaluated
 }
 
 // An expression without operands.
+#[tactic(auto, unfolding(model::specs::Script::script_kinds))]
 pub fn nullary(
+    kind: Kind,
     script: &[u8],
     at: usize,
     left: usize,
@@ -72,72 +77,108 @@ pub fn nullary(
 ) -> Result<Evaluated, Refusal>
     requires eval_pre { EvalPre script.now left (frame bound marks.now top)
         (machine rows.old history.old work.old (begun (going p) at top env)) }
-    requires at_value { arity (get_or script.now at 0) ≡ 0 }
+    requires is { byte_of kind ≡ get_or script.now at 0 }
+    requires at_value { arity (byte_of kind) ≡ 0 }
     ensures { EvalPost script.now left (frame bound marks.now top)
         (machine rows.old history.old work.old (begun (going p) at top env))
         (machine rows.new history.new work.new (came_out result)) }
 {
-    let kind = script[at];
-    if kind == kinds::NIL {
-        return Ok(Evaluated {
+    match kind {
+        Kind::Nil => Ok(Evaluated {
             progress: p,
             place: at + 1,
             end: top,
             env,
-        });
+        }),
+        Kind::Document => {
+            let end = value::document(marks, usize::from(script[at + 1]), work, top);
+            Ok(Evaluated {
+                progress: p,
+                place: at + 2,
+                end,
+                env,
+            })
+        }
+        Kind::Variable => {
+            let s = env[usize::from(script[at + 1])];
+            let from = usize::from(s.start);
+            let to = from + usize::from(s.len);
+            let end = value::copied(work, from, to, top);
+            Ok(Evaluated {
+                progress: p,
+                place: at + 2,
+                end,
+                env,
+            })
+        }
+        Kind::NewElement => {
+            let name = number::name(script[at + 1]);
+            let row = RowNumber(p.count);
+            let q = update::new_element(rows, history, p, name).map_err(|reason| Refusal {
+                reason,
+                place: at,
+            })?;
+            let end = value::put_row(row, work, top);
+            Ok(Evaluated {
+                progress: q,
+                place: at + 2,
+                end,
+                env,
+            })
+        }
+        Kind::NewLeaf => {
+            let value = script[at + 1];
+            let row = RowNumber(p.count);
+            let q = update::new_leaf(rows, history, p, value).map_err(|reason| Refusal {
+                reason,
+                place: at,
+            })?;
+            let end = value::put_row(row, work, top);
+            Ok(Evaluated {
+                progress: q,
+                place: at + 2,
+                end,
+                env,
+            })
+        }
+        Kind::Step | Kind::Join | Kind::Let | Kind::For | Kind::If => unreachable!(),
+        Kind::Delete | Kind::Insert | Kind::Pick => unreachable!(),
     }
-    let b = script[at + 1];
-    let next = at + 2;
-    if kind == kinds::DOCUMENT {
-        let end = value::document(marks, number::byte(b), work, top);
-        return Ok(Evaluated {
-            progress: p,
-            place: next,
-            end,
-            env,
-        });
+}
+
+// A record with one operand, with the fields of its body.
+#[derive(Clone, Copy)]
+pub enum Operator {
+    Step(Step),
+    Delete,
+    Pick(Relation, u8),
+}
+
+impl Operator {
+    // That of the record at a place, whose fields are in range.
+    #[tactic(auto, unfolding(model::specs::Script::script_kinds))]
+    pub fn read(kind: Kind, script: &[u8], at: usize) -> Operator
+        requires is { byte_of kind ≡ get_or script.now at 0 }
+        requires operator_pre { OperatorPre script.now at }
+        ensures { OperatorPost script.now at result }
+    {
+        match kind {
+            Kind::Step => Operator::Step(Step::read(&script[at + 1..]).unwrap()),
+            Kind::Delete => Operator::Delete,
+            Kind::Pick => {
+                let relation = Relation::try_from(script[at + 1]).unwrap();
+                Operator::Pick(relation, script[at + 2])
+            }
+            Kind::Nil | Kind::Document | Kind::Variable | Kind::Join | Kind::Let => unreachable!(),
+            Kind::For | Kind::If | Kind::NewElement | Kind::NewLeaf | Kind::Insert =>
+                unreachable!(),
+        }
     }
-    if kind == kinds::VARIABLE {
-        let v = number::byte(b);
-        let s = env[v];
-        let from = number::index(s.start);
-        let to = from + number::index(s.len);
-        let end = value::copied(work, from, to, top);
-        return Ok(Evaluated {
-            progress: p,
-            place: next,
-            end,
-            env,
-        });
-    }
-    let row = RowNumber(p.count);
-    if kind == kinds::NEW_ELEMENT {
-        let q = update::new_element(rows, history, p, number::name(b)).map_err(|reason| Refusal {
-            reason,
-            place: at,
-        })?;
-        let end = value::put_row(row, work, top);
-        return Ok(Evaluated {
-            progress: q,
-            place: next,
-            end,
-            env,
-        });
-    }
-    let q = update::new_leaf(rows, history, p, b).map_err(|reason| Refusal { reason, place: at })?;
-    let end = value::put_row(row, work, top);
-    Ok(Evaluated {
-        progress: q,
-        place: next,
-        end,
-        env,
-    })
 }
 
 // What a record with one operand does with its value, which stands from top on: none of them refuses.
 pub fn applied(
-    script: &[u8],
-    at: usize,
+    operator: Operator,
     index: &[u16],
     rows: &mut [u32],
     history: &mut [u8],
@@ -145,53 +186,39 @@ pub fn applied(
     top: usize,
     x: Evaluated,
 ) -> Evaluated
-    requires unary_pre { UnaryPre script.now at top (machine rows.old history.old work.old (going_on x)) }
+    requires value_pre { ValuePre top (machine rows.old history.old work.old (going_on x)) }
     requires index_held { IndexHeld index.now rows.old x.progress.count }
-    ensures { UnaryPost script.now at top (machine rows.old history.old work.old (going_on x))
+    ensures { UnaryPost operator top (machine rows.old history.old work.old (going_on x))
         (machine rows.new history.new work.new (going_on result)) }
 {
-    let kind = script[at];
     let p = x.progress;
     let env = x.env;
-    let next = x.place;
     let to = x.end;
-    if kind == kinds::DELETE {
-        let q = update::delete(rows, history, p, &work[top..to]);
-        return Evaluated {
-            progress: q,
-            place: next,
+    match operator {
+        Operator::Step(step) => Evaluated {
+            progress: p,
+            place: x.place,
+            end: step::stepped(rows, p.count, index, step, work, top, to),
+            env,
+        },
+        Operator::Delete => Evaluated {
+            progress: update::delete(rows, history, p, &work[top..to]),
+            place: x.place,
             end: top,
             env,
-        };
-    }
-    let a = script[at + 1];
-    let b = script[at + 2];
-    if kind == kinds::PICK {
-        let end = pick::picked(rows, a, b, work, top, to);
-        return Evaluated {
+        },
+        Operator::Pick(relation, constant) => Evaluated {
             progress: p,
-            place: next,
-            end,
+            place: x.place,
+            end: pick::picked(rows, relation, constant, work, top, to),
             env,
-        };
-    }
-    let by = StepBy {
-        axis: a,
-        test: b,
-        name: number::name(script[at + 3]),
-    };
-    let end = step::stepped(rows, p.count, index, by, work, top, to);
-    Evaluated {
-        progress: p,
-        place: next,
-        end,
-        env,
+        },
     }
 }
 
 // What a record with two operands does with their values, which stand from top and from mid on.
 pub fn combined(
-    kind: u8,
+    kind: Kind,
     at: usize,
     rows: &mut [u32],
     history: &mut [u8],
@@ -201,32 +228,34 @@ pub fn combined(
     y: Evaluated,
 ) -> Result<Evaluated, Refusal>
     requires { BinaryPre top mid (machine rows.old history.old work.old (going_on y)) }
-    ensures { BinaryPost kind at top mid (machine rows.old history.old work.old (going_on y))
+    ensures { BinaryPost (byte_of kind) at top mid (machine rows.old history.old work.old (going_on y))
         (machine rows.new history.new work.new (came_out result)) }
 {
-    if kind == kinds::JOIN {
-        return limited(y, top, at);
-    }
     let p = y.progress;
     let env = y.env;
-    let next = y.place;
     let to = y.end;
-    if kind == kinds::INSERT {
-        let q = insert::insert(rows, history, p, &work[top..mid], &work[mid..to]).map_err(
-            |reason| Refusal { reason, place: at },
-        )?;
-        return Ok(Evaluated {
-            progress: q,
-            place: next,
-            end: top,
-            env,
-        });
+    match kind {
+        Kind::Join => limited(y, top, at),
+        Kind::Insert => {
+            let q = insert::insert(rows, history, p, &work[top..mid], &work[mid..to]).map_err(
+                |reason| Refusal { reason, place: at },
+            )?;
+            Ok(Evaluated {
+                progress: q,
+                place: y.place,
+                end: top,
+                env,
+            })
+        }
+        // A let, or a for.
+        _ => {
+            let end = value::copied(work, mid, to, top);
+            Ok(Evaluated {
+                progress: p,
+                place: y.place,
+                end,
+                env,
+            })
+        }
     }
-    let end = value::copied(work, mid, to, top);
-    Ok(Evaluated {
-        progress: p,
-        place: next,
-        end,
-        env,
-    })
 }

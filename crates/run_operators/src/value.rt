@@ -2,11 +2,12 @@
 ghost use Rattle.std.specs.Prelude.{[], ◌∷◌, ◌<◌, length, get_or};
 ghost use Rattle.model.specs.Run.{marked};
 ghost use Rattle.plan_table.specs.Packed.{of_link};
+ghost use Rattle.script_records.specs.Kinds.{byte_of};
 ghost use Rattle.run_query.specs.Values.{Appended, value_at};
 ghost use Rattle.run_operators.specs.Evaluating.{CopyPre, BindPre, BindPost, PutPre};
 
 use plan_table::{RowNumber, Table};
-use script_records::kinds;
+use script_records::kinds::Kind;
 
 // A bound variable's value in the work area. Places there fit two bytes, so the eight spans that go from call to call are 32 bytes.
 #[derive(Clone, Copy)]
@@ -49,22 +50,21 @@ pub fn put_row(row: RowNumber, work: &mut [u16], top: usize) -> usize
 
 // The variables of the second operand: a binder's first value is one more.
 pub fn bind(
-    kind: u8,
+    kind: Kind,
     env: [Span; Table::BINDERS],
     bound: usize,
     start: usize,
     end: usize,
 ) -> [Span; Table::BINDERS]
-    requires { BindPre kind env bound start end }
-    ensures { BindPost kind env bound start end result }
+    requires { BindPre (byte_of kind) env bound start end }
+    ensures { BindPost (byte_of kind) env bound start end result }
 {
     let mut inside = env;
-    if kinds::is_binder(kind) {
+    if kind.is_binder() {
         inside[bound] = Span {
             start: start as u16,
             len: (end - start) as u16,
         };
-        return inside;
     }
     inside
 }

@@ -8,7 +8,7 @@ use lib.ListN.{get_or}
 use lib.Seq.{get_or-drop}
 use borrow.Author.Tests.{ltb-true}
 use Rattle.model.specs.Limits.{documents, max_name}
-use Rattle.model.specs.Script.{document_kind, variable_kind, step_kind, new_element_kind, test_fits}
+use Rattle.model.specs.Script.{document_kind, variable_kind, step_kind, new_element_kind, pick_kind, test_fits}
 use Rattle.model.proofs.ListLaws.{drop_first}
 use Rattle.model.proofs.BoolLaws.{and_left, and_right}
 use Rattle.model.proofs.TestLaws.{is_in_at}
@@ -35,3 +35,6 @@ module _ {b : List ℕ} {at left v : ℕ} (f : RecordFits b at left v) where
 
   pub element_name : get_or b at 0 ≡ new_element_kind → (1 ≤ get_or b (at + 1) 0) × (get_or b (at + 1) 0 ≤ max_name)
   element_name e = is_in_at 1 max_name (get_or b (at + 1) 0) (rw (drop_first b at, e, get_or-drop at b 1 0) at f.fields)
+
+  pub pick_relation : get_or b at 0 ≡ pick_kind → get_or b (at + 1) 0 < 3
+  pick_relation e = ltb-true (get_or b (at + 1) 0) 3 (rw (drop_first b at, e, get_or-drop at b 1 0) at f.fields)

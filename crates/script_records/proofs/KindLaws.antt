@@ -1,6 +1,7 @@
 -- A byte that is none of the kinds' is no kind, and a kind's is one.
-use mathlib.Core.Path.{◌≡◌, refl}
-use mathlib.Core.Bool.{true, false}
+use mathlib.Core.Path.{◌≡◌, refl, ap, sym, ◌∙◌}
+use mathlib.Core.Bool.{true, false, cond}
+use lib.Dec.{eqb}
 use Prim.Native.Nat.{ℕ}
 use borrow.Author.Tests.{ne_eqb}
 use Rattle.model.specs.Script.{nil_kind, document_kind, variable_kind, step_kind, join_kind, let_kind, for_kind, if_kind}
@@ -46,3 +47,29 @@ some_kind NewLeaf = refl
 some_kind Delete = refl
 some_kind Insert = refl
 some_kind Pick = refl
+
+-- KINDS ARE TOLD APART by their bytes
+abbrev kind_at : ℕ → Kind
+kind_at n =
+    cond (eqb n nil_kind) Nil (cond (eqb n document_kind) Document (cond (eqb n variable_kind) Variable (cond (eqb n step_kind) Step
+    (cond (eqb n join_kind) Join (cond (eqb n let_kind) Let (cond (eqb n for_kind) For (cond (eqb n if_kind) If
+    (cond (eqb n new_element_kind) NewElement (cond (eqb n new_leaf_kind) NewLeaf (cond (eqb n delete_kind) Delete
+    (cond (eqb n insert_kind) Insert Pick)))))))))))
+
+kind_back : (k : Kind) → kind_at (byte_of k) ≡ k
+kind_back Nil = refl
+kind_back Document = refl
+kind_back Variable = refl
+kind_back Step = refl
+kind_back Join = refl
+kind_back Let = refl
+kind_back For = refl
+kind_back If = refl
+kind_back NewElement = refl
+kind_back NewLeaf = refl
+kind_back Delete = refl
+kind_back Insert = refl
+kind_back Pick = refl
+
+pub other_byte : (k j : Kind) → (k ≡ j → ⊥) → byte_of k ≡ byte_of j → ⊥
+other_byte k j f e = f (sym (kind_back k) ∙ ap kind_at e ∙ kind_back j)

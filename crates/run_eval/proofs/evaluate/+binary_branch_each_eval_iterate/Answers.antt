@@ -1,17 +1,32 @@
-use Rattle.std.proofs.Common.{arith, refl}
+use Rattle.std.proofs.Common.{◌≡◌, ap, sym, ◌∙◌, arith, refl, ℕ, true, Result, Ok, Err}
+use mathlib.Core.Bool.{false≢true}
+use Rattle.std.specs.Result.{IsOk}
 use Rattle.run_eval.proofs.BinaryLaws.{second_asks, combine_asks, combine_yields}
 use Rattle.run_eval.proofs.BranchLaws.{then_asks, then_refused, then_yields}
 use Rattle.run_eval.proofs.LoopLaws.{one_asks, body_asks}
-use Rattle.run_eval.proofs.LoopLaws.{one_refused, one_all, begin_refused, begin_yields, near_asks, near_refused, near_all, far_asks, far_yields}
+use Rattle.run_eval.proofs.LoopLaws.{one_refused, one_all, begin_refused, begin_yields, near_asks, near_refused, near_all}
+use Rattle.run_eval.proofs.LoopLaws.{far_asks, far_yields}
 use Rattle.run_eval.proofs.ScopeLaws.{index_kept}
 use Rattle.script.proofs.AcceptedLaws.{accepted_record}
-use Rattle.run_eval.proofs.OperandLaws.{two_operands, for_operands, if_operands}
-use Rattle.run_eval.proofs.EvalLaws.{deep, first_asks, first_fewer, first_refused, unary_asks, unary_yields}
+use Rattle.run_eval.proofs.OperandLaws.{kind_operands, for_operands, if_operands}
+use Rattle.run_eval.proofs.EvalLaws.{deep, first_asks, first_fewer, first_refused, operator_asks, unary_asks, unary_yields}
 use Rattle.run_eval.proofs.EvalLaws.{two_asks, two_fewer, two_yields, three_asks, three_fewer, three_yields}
 use Rattle.run_eval.proofs.LoopLaws.{for_none, each_asks, close_asks, close_yields}
 use Rattle.std.proofs.lemmas.Result.{err_from_is_err_and}
 use Rattle.plan_table.proofs.ReasonLaws.{some_number}
+use Rattle.model.specs.Script.{is_script_kind, body_size, arity}
+use Rattle.plan_table.specs.declared.Reason.{Reason}
+use Rattle.script_records.specs.declared.kinds.Kind.{Kind}
+use Rattle.script_records.specs.Kinds.{byte_of, KindRead}
 use Rattle.run_eval.proofs.evaluate.+binary_branch_each_eval_iterate.Goals as goal
+
+-- the kind that is read of an accepted record
+kind_is : {b : ℕ} {x : Result Kind Reason} {k : Kind} → KindRead b x → x ≡ Ok k → byte_of k ≡ b
+kind_is r e = rw e at r
+
+some_read : (b : ℕ) (x : Result Kind Reason) → KindRead b x → is_script_kind b ≡ true → IsOk x
+some_read b (Ok k) r e = refl
+some_read b (Err y) r e = absurd (false≢true (sym r.0 ∙ e))
 
 pub binary-eval-requires : goal.binary-eval-requires
 binary-eval-requires t c =
@@ -103,94 +118,128 @@ eval-bounds-script-at t c =
 
 pub eval-overflow_add-i-2 : goal.eval-overflow_add-i-2
 eval-overflow_add-i-2 t c =
+    let is = kind_is c.try_from.ensures c.unwrap-kind.ensures in
+    let size = c.body_size.ensures.value ∙ ap body_size is in
     let a = (accepted_record c.requires.eval_pre.accepted).whole in
-    omega (arith, a, c.body_size.ensures.value)
+    omega (arith, a, size)
 
 pub eval-overflow_sub-k : goal.eval-overflow_sub-k
 eval-overflow_sub-k t c =
     deep c.requires.eval_pre
 
+pub eval-unwrap-kind-requires : goal.eval-unwrap-kind-requires
+eval-unwrap-kind-requires t c =
+    some_read _ c.try_from.result c.try_from.ensures (accepted_record c.requires.eval_pre.accepted).kind
+
 pub eval-eval-requires : goal.eval-eval-requires
 eval-eval-requires t c =
-    let l = first_fewer c.requires.eval_pre c.body_size.ensures.value c.arity-operands.ensures.value c.if-operands-eq0.false in
+    let is = kind_is c.try_from.ensures c.unwrap-kind.ensures in
+    let size = c.body_size.ensures.value ∙ ap body_size is in
+    let count = c.arity-operands.ensures.value ∙ ap arity is in
+    let l = first_fewer c.requires.eval_pre size count c.if-operands-eq0.false in
     let m = c.decreases in
-    let a = first_asks c.requires.eval_pre c.body_size.ensures.value c.arity-operands.ensures.value c.if-operands-eq0.false in
+    let a = first_asks c.requires.eval_pre size count c.if-operands-eq0.false in
     (omega (arith, l, m), (a, c.requires.index_held))
 
 pub eval-returns-in_err-x : goal.eval-returns-in_err-x
 eval-returns-in_err-x t c =
+    let is = kind_is c.try_from.ensures c.unwrap-kind.ensures in
+    let size = c.body_size.ensures.value ∙ ap body_size is in
+    let count = c.arity-operands.ensures.value ∙ ap arity is in
     let out = err_from_is_err_and c.from_residual.result c.from_residual.ensures.1 in
     rw (out.1, out.2)
-    (first_refused c.requires.eval_pre c.body_size.ensures.value c.in_err-x.ensures c.arity-operands.ensures.value
+    (first_refused c.requires.eval_pre size c.in_err-x.ensures count
     c.if-operands-eq0.false (some_number c.in_err-x.field-0.0.reason))
 
 pub eval-applied-requires : goal.eval-applied-requires
 eval-applied-requires t c =
+    let is = kind_is c.try_from.ensures c.unwrap-kind.ensures in
+    let size = c.body_size.ensures.value ∙ ap body_size is in
+    let count = c.arity-operands.ensures.value ∙ ap arity is in
     record {
-      unary_pre = unary_asks c.requires.eval_pre c.body_size.ensures.value c.in_ok-x.ensures refl c.arity-operands.ensures.value
+      value_pre = unary_asks c.requires.eval_pre size c.in_ok-x.ensures refl count
           c.if-operands-eq1.true;
       index_held = index_kept c.requires.index_held c.in_ok-x.ensures refl;
     }
 
 pub eval-returns-then-operands-eq1 : goal.eval-returns-then-operands-eq1
 eval-returns-then-operands-eq1 t c =
-    unary_yields c.requires.eval_pre c.body_size.ensures.value c.in_ok-x.ensures refl c.arity-operands.ensures.value
-    c.if-operands-eq1.true c.applied.ensures
+    let is = kind_is c.try_from.ensures c.unwrap-kind.ensures in
+    let size = c.body_size.ensures.value ∙ ap body_size is in
+    let count = c.arity-operands.ensures.value ∙ ap arity is in
+    unary_yields c.requires.eval_pre size c.in_ok-x.ensures refl count
+    c.if-operands-eq1.true c.read-operator.ensures c.applied.ensures
 
 pub eval-branch-script-requires : goal.eval-branch-script-requires
 eval-branch-script-requires t c =
-    let three = if_operands c.requires.eval_pre.accepted c.if-kind-eq-IF.true in
-    let l = three_fewer c.requires.eval_pre c.body_size.ensures.value c.in_ok-x.ensures refl c.if-kind-eq-IF.true three in
-    let a = three_asks c.requires.eval_pre c.body_size.ensures.value c.in_ok-x.ensures refl c.if-kind-eq-IF.true three in
+    let is = kind_is c.try_from.ensures c.unwrap-kind.ensures in
+    let size = c.body_size.ensures.value ∙ ap body_size is in
+    let three = if_operands c.requires.eval_pre.accepted (sym is ∙ ap byte_of c.in-If.is) in
+    let l = three_fewer c.requires.eval_pre size c.in_ok-x.ensures refl (sym is ∙ ap byte_of c.in-If.is) three in
+    let a = three_asks c.requires.eval_pre size c.in_ok-x.ensures refl (sym is ∙ ap byte_of c.in-If.is) three in
     let m = c.decreases in (
       omega (arith, l, m),
       (a.0, (a.1, index_kept c.requires.index_held c.in_ok-x.ensures refl)),
     )
 
-pub eval-returns-then-kind-eq-IF : goal.eval-returns-then-kind-eq-IF
-eval-returns-then-kind-eq-IF t c =
-    let three = if_operands c.requires.eval_pre.accepted c.if-kind-eq-IF.true in
-    three_yields c.requires.eval_pre c.body_size.ensures.value c.in_ok-x.ensures refl c.if-kind-eq-IF.true three
+pub eval-returns-in-If : goal.eval-returns-in-If
+eval-returns-in-If t c =
+    let is = kind_is c.try_from.ensures c.unwrap-kind.ensures in
+    let size = c.body_size.ensures.value ∙ ap body_size is in
+    let three = if_operands c.requires.eval_pre.accepted (sym is ∙ ap byte_of c.in-If.is) in
+    three_yields c.requires.eval_pre size c.in_ok-x.ensures refl (sym is ∙ ap byte_of c.in-If.is) three
     c.branch-script.ensures
 
 pub eval-iterate-requires : goal.eval-iterate-requires
 eval-iterate-requires t c =
-    let two = for_operands c.requires.eval_pre.accepted c.if-kind-eq-FOR.true in
-    let l = two_fewer c.requires.eval_pre c.body_size.ensures.value c.in_ok-x.ensures refl c.if-kind-eq-FOR.true two in
+    let is = kind_is c.try_from.ensures c.unwrap-kind.ensures in
+    let size = c.body_size.ensures.value ∙ ap body_size is in
+    let two = for_operands c.requires.eval_pre.accepted (sym is ∙ ap byte_of c.in-For.is) in
+    let l = two_fewer c.requires.eval_pre size c.in_ok-x.ensures refl (sym is ∙ ap byte_of c.in-For.is) two in
     let m = c.decreases in (
       omega (arith, l, m),
       (
-        two_asks c.requires.eval_pre c.body_size.ensures.value c.in_ok-x.ensures refl c.if-kind-eq-FOR.true two,
+        two_asks c.requires.eval_pre size c.in_ok-x.ensures refl (sym is ∙ ap byte_of c.in-For.is) two,
         index_kept c.requires.index_held c.in_ok-x.ensures refl,
       ),
     )
 
-pub eval-returns-then-kind-eq-FOR : goal.eval-returns-then-kind-eq-FOR
-eval-returns-then-kind-eq-FOR t c =
-    let two = for_operands c.requires.eval_pre.accepted c.if-kind-eq-FOR.true in
-    two_yields c.requires.eval_pre c.body_size.ensures.value c.in_ok-x.ensures refl c.if-kind-eq-FOR.true two
+pub eval-returns-in-For : goal.eval-returns-in-For
+eval-returns-in-For t c =
+    let is = kind_is c.try_from.ensures c.unwrap-kind.ensures in
+    let size = c.body_size.ensures.value ∙ ap body_size is in
+    let two = for_operands c.requires.eval_pre.accepted (sym is ∙ ap byte_of c.in-For.is) in
+    two_yields c.requires.eval_pre size c.in_ok-x.ensures refl (sym is ∙ ap byte_of c.in-For.is) two
     c.iterate.ensures
 
 pub eval-binary-requires : goal.eval-binary-requires
 eval-binary-requires t c =
-    let two = two_operands c.requires.eval_pre.accepted c.arity-operands.ensures.value c.if-operands-eq0.false c.if-operands-eq1.false
-    c.if-kind-eq-IF.false
-    c.if-kind-eq-FOR.false in
-    let l = two_fewer c.requires.eval_pre c.body_size.ensures.value c.in_ok-x.ensures refl refl two in
+    let is = kind_is c.try_from.ensures c.unwrap-kind.ensures in
+    let size = c.body_size.ensures.value ∙ ap body_size is in
+    let two = kind_operands c.requires.eval_pre.accepted c.unwrap-kind.result is c.arity-operands.ensures.value
+    c.if-operands-eq0.false c.if-operands-eq1.false c.in_default.not-If c.in_default.not-For in
+    let l = two_fewer c.requires.eval_pre size c.in_ok-x.ensures refl (sym is) two in
     let m = c.decreases in (
       omega (arith, l, m),
       (
-        two_asks c.requires.eval_pre c.body_size.ensures.value c.in_ok-x.ensures refl refl two,
+        two_asks c.requires.eval_pre size c.in_ok-x.ensures refl (sym is) two,
         index_kept c.requires.index_held c.in_ok-x.ensures refl,
       ),
     )
 
-pub eval-returns : goal.eval-returns
-eval-returns t c =
-    let two = two_operands c.requires.eval_pre.accepted c.arity-operands.ensures.value c.if-operands-eq0.false c.if-operands-eq1.false
-    c.if-kind-eq-IF.false
-    c.if-kind-eq-FOR.false in
-    two_yields c.requires.eval_pre c.body_size.ensures.value c.in_ok-x.ensures refl refl two c.binary.ensures
+pub eval-returns-in_default : goal.eval-returns-in_default
+eval-returns-in_default t c =
+    let is = kind_is c.try_from.ensures c.unwrap-kind.ensures in
+    let size = c.body_size.ensures.value ∙ ap body_size is in
+    let two = kind_operands c.requires.eval_pre.accepted c.unwrap-kind.result is c.arity-operands.ensures.value
+    c.if-operands-eq0.false c.if-operands-eq1.false c.in_default.not-If c.in_default.not-For in
+    two_yields c.requires.eval_pre size c.in_ok-x.ensures refl (sym is) two c.binary.ensures
+
+pub eval-read-operator-requires-clause-operator_pre : goal.eval-read-operator-requires-clause-operator_pre
+eval-read-operator-requires-clause-operator_pre t c =
+    let is = kind_is c.try_from.ensures c.unwrap-kind.ensures in
+    let count = c.arity-operands.ensures.value ∙ ap arity is in
+    operator_asks c.requires.eval_pre count c.if-operands-eq1.true
 
 pub iterate-returns-then-mid-top : goal.iterate-returns-then-mid-top
 iterate-returns-then-mid-top t c =
