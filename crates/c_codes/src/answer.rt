@@ -1,12 +1,11 @@
 // The number that a C call answers, and the end of one that gives a table.
-ghost use Rattle.std.specs.Prelude.{◌≡◌};
-ghost use Rattle.plan_table.specs.Fitting.{FittingParts};
-ghost use Rattle.plan_table.specs.Packed.{table_of};
+ghost use Rattle.std.specs.Prelude.{◌≡◌, true};
+ghost use Rattle.plan_table.specs.Packed.{fits};
 ghost use Rattle.plan_writer.specs.Writing.{plan_written, written_out};
 ghost use Rattle.model.specs.Refusal.{values};
 ghost use Rattle.c_codes.specs.Codes.{code_of, lent_values, written_values, which_of, refused_values};
 
-use plan_table::{Reason, Refusal};
+use plan_table::{Reason, Refusal, Table};
 use plan_writer::write;
 
 // Whose refusal it is: a lent area's; the plan's; the script's, the run's or the history's.
@@ -42,13 +41,12 @@ pub fn lent_short() -> u64
 }
 
 // The end of a call that gives a table that fits: it is written, and how many bytes.
-pub fn finish<'a>(count: usize, rows: &'a [u32], marks: &'a [u16], out: &mut [u8]) -> u64
-    requires { FittingParts count rows.now marks.now }
-    ensures value { result ≡
-        code_of (written_values (plan_written (table_of count rows.now marks.now) out.old)) }
-    ensures out_after { out.new ≡ written_out (table_of count rows.now marks.now) out.old }
+pub fn finish(table: &Table, out: &mut [u8]) -> u64
+    requires { fits table.now ≡ true }
+    ensures value { result ≡ code_of (written_values (plan_written table.now out.old)) }
+    ensures out_after { out.new ≡ written_out table.now out.old }
 {
-    match write::fitting(count, rows, marks, out) {
+    match write::fitting(table, out) {
         Ok(bytes) => code(0, 0, bytes),
         Err(refusal) => code(u8::from(refusal.reason), Whose::Area as u8, 0),
     }

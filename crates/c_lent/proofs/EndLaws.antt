@@ -7,7 +7,6 @@ use lib.Dec.{eqb, leb}
 use borrow.Author.Tests.{eq-eqb, ne_eqb, leb-true}
 use Rattle.plan_writer.specs.Writing.{plan_written, written_out}
 use Rattle.plan_table.specs.Results.{Written}
-use Rattle.plan_table.specs.Packed.{table_of}
 use Rattle.plan_table.specs.declared.Table.{Table}
 use Rattle.run.specs.Calls.{result_in}
 use Rattle.run.specs.Calls.{RunResult}
@@ -37,17 +36,16 @@ module _ (r : RunResult) (o d : List ℕ) where
       told : Written → List ℕ
       told t = done_over r.items r.tally.made r.tally.cut r.tally.records r.bytes t.bytes d
 
--- REFUSED, the table does not matter: the one handed in gives the same end as what the rows hold
-module _ (t : Table) (e : Ended) (ws o : List ℕ) where
+-- REFUSED, the table does not matter: the one handed in gives the same end as the lent one
+module _ (t : Table) (e : Ended) (u : Table) (o : List ℕ) where
   only_fine : {A : Type 0} (f : Table → A) (x : Table) (y : A) (z : Bool) → cond z (f x) y ≡ cond z (f (cond z x t)) y
   only_fine f x y true = refl
   only_fine f x y false = refl
 
-  pub left_ends : (d : List ℕ) {c : ℕ} {o' d' : List ℕ} → Ends (left_in e ws t.marks) o d c o' d' →
-      Ends (result_in t e ws) o d c o' d'
+  pub left_ends : (d : List ℕ) {c : ℕ} {o' d' : List ℕ} → Ends (left_in e u) o d c o' d' →
+      Ends (result_in t e u) o d c o' d'
   left_ends d k =
-      let z = eqb e.refusal.number 0 in
-      let u = table_of e.count ws t.marks in (
+      let z = eqb e.refusal.number 0 in (
         k.0 ∙ ap code_of (only_fine (λ (x : Table). values (plan_written x o).refusal.number 0 0) u _ z),
         (
           k.1.0 ∙ only_fine (λ (x : Table). written_out x o) u _ z,

@@ -1,13 +1,13 @@
 -- The areas lent to a run through C: what each needs, and what they hold once the run is over.
-use Rattle.std.specs.Prelude.{◌≡◌, Bool, ◌&&◌, List, [], ◌∷◌, ℕ, ◌+◌, ◌*◌, ◌≤◌, leb, length}
+use Rattle.std.specs.Prelude.{◌≡◌, Bool, true, ◌&&◌, List, [], ◌∷◌, ℕ, ◌+◌, ◌*◌, ◌≤◌, leb, length}
 use Rattle.model.specs.Base.{at_front}
 use Rattle.model.specs.Call.{lengths_fit}
 use Rattle.model.specs.Limits.{max_rows, documents}
 use Rattle.model.specs.Refusal.{Values, values}
 use Rattle.model.specs.Stored.{record_size}
 use Rattle.plan_writer.specs.Writing.{plan_written}
-use Rattle.plan_table.specs.Fitting.{FittingParts}
-use Rattle.plan_table.specs.Packed.{table_of}
+use Rattle.plan_table.specs.Packed.{fits}
+use Rattle.plan_table.specs.declared.Table.{Table}
 use Rattle.run.specs.Calls.{result_with}
 use Rattle.run.specs.Calls.{RunResult}
 use Rattle.run.specs.Calls.{Ended}
@@ -44,11 +44,11 @@ end_done r o d =
     (done_over r.items r.tally.made r.tally.cut r.tally.records r.bytes (plan_written r.table o).bytes d)
     (done_over 0 0 0 0 0 0 d)
 
--- how a run ended, with the table that the lent rows and marks then hold
-abbrev pub left_in : Ended → (rows marks : List ℕ) → RunResult
-left_in e ws ms = result_with e (table_of e.count ws ms)
+-- how a run ended, with what the lent table then holds
+abbrev pub left_in : Ended → (lent : Table) → RunResult
+left_in e u = result_with e u
 
 -- a run that is not refused leaves a table that fits
-pub record EndPre (e : Ended) (rows marks done : List ℕ) : Type 0 where
-  pub table : e.refusal.number ≡ 0 → FittingParts e.count rows marks
+pub record EndPre (e : Ended) (u : Table) (done : List ℕ) : Type 0 where
+  pub table : e.refusal.number ≡ 0 → fits u ≡ true
   pub room : done_need ≤ length done

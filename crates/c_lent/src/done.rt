@@ -7,7 +7,7 @@ ghost use Rattle.c_lent.specs.Done.{done_need, lent_fit, EndPre, left_in, end_va
 
 use c_codes::answer;
 use c_codes::answer::Whose;
-use plan_table::Refusal;
+use plan_table::{Refusal, Table};
 use plan_writer::write;
 use run::lengths;
 use run::lent::Ended;
@@ -42,19 +42,19 @@ pub fn clear(answer: &mut [u16], history: &mut [u8], work: &mut [u16])
 }
 
 // The run is over: refused, out stays and done is zero; else the plan as it then is stands in out, and done has its six numbers.
-pub fn end<'a>(
+pub fn end(
     ended: Result<Ended, Refusal>,
-    rows: &'a [u32],
-    marks: &'a [u16],
+    table: &Table,
     out: &mut [u8],
     done: &mut [u64],
 ) -> u64
-    requires { EndPre (ended_by ended) rows.now marks.now done.old }
+    requires { EndPre (ended_by ended) table.now done.old }
     ensures value { result ≡
-        code_of (end_values (left_in (ended_by ended) rows.now marks.now) out.old) }
-    ensures out_after { out.new ≡ end_out (left_in (ended_by ended) rows.now marks.now) out.old }
+        code_of (end_values (left_in (ended_by ended) table.now) out.old) }
+    ensures out_after { out.new ≡
+        end_out (left_in (ended_by ended) table.now) out.old }
     ensures done_after { done.new ≡
-        end_done (left_in (ended_by ended) rows.now marks.now) out.old done.old }
+        end_done (left_in (ended_by ended) table.now) out.old done.old }
 {
     let ended = match ended {
         Ok(ended) => ended,
@@ -63,7 +63,7 @@ pub fn end<'a>(
             return answer::refused(Whose::Script, refusal);
         }
     };
-    let (number, bytes) = match write::fitting(ended.count, rows, marks, out) {
+    let (number, bytes) = match write::fitting(table, out) {
         Ok(bytes) => (0, bytes),
         Err(refusal) => (u8::from(refusal.reason), 0),
     };

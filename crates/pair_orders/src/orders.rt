@@ -29,7 +29,7 @@ pub struct Refused {
 }
 
 // Runs a script on a table that fits, in areas of its own; so does the table after it.
-fn run_alone(table: Table, script: &[u8]) -> Result<Ending, Reason>
+fn run_alone(mut table: Table, script: &[u8]) -> Result<Ending, Reason>
     requires { fits table ≡ true }
     ensures value { ending_told table result ≡ ending table script.now }
     ensures table_value { fits (ending_told table result).table ≡ true }
@@ -37,24 +37,11 @@ fn run_alone(table: Table, script: &[u8]) -> Result<Ending, Reason>
     let mut answer = [0; run::ANSWER];
     let mut history = [0; run::HISTORY];
     let mut work = [0; run::WORK];
-    let mut rows = table.rows;
-    let ended = lent::fitting(
-        &mut rows,
-        &table.marks,
-        table.count,
-        script,
-        &mut answer,
-        &mut history,
-        &mut work,
-    )
-    .map_err(|refusal| refusal.reason)?;
+    let ended = lent::fitting(&mut table, script, &mut answer, &mut history, &mut work)
+        .map_err(|refusal| refusal.reason)?;
     Ok(Ending {
         items: ended.items,
-        table: Table {
-            count: ended.count,
-            rows,
-            marks: table.marks,
-        },
+        table,
     })
 }
 

@@ -63,8 +63,8 @@ module _ (t : Table) (b : List ℕ) (a h w : ℕ) (n i : ℕ) (some : n ≡ 0 �
   refused_result_lem =
       ap (with_table (record { number = n; place = i })) (sym (cond_ne (encode (decode t)) t some)) ∙ ap (result_of t) (sym leaves)
 
-  refused_end_lem : (ws : List ℕ) → result_in t (refused_end n i) ws ≡ refused_result n i t
-  refused_end_lem ws = ap (with_table (record { number = n; place = i })) (cond_ne (table_of 0 ws t.marks) t some)
+  refused_end_lem : (u : Table) → result_in t (refused_end n i) u ≡ refused_result n i t
+  refused_end_lem u = ap (with_table (record { number = n; place = i })) (cond_ne u t some)
 
   pub refused_answer : replicate a 0 ≡ (ran_by (decode t) a h w (outcome_of t b)).answer
   refused_answer = ap (λ (r : Ran). r.answer) (sym leaves)
@@ -73,11 +73,11 @@ module _ (t : Table) (b : List ℕ) (a h w : ℕ) (n i : ℕ) (some : n ≡ 0 �
   refused_history = ap (λ (r : Ran). r.history) (sym leaves)
 
   -- in areas cleared before
-  pub refused_post : {zs hs ws rs zs' hs' : List ℕ} {r : Ended} → length zs ≡ a → length hs ≡ h → length ws ≡ w → zs' ≡ replicate a 0 →
-      hs' ≡ replicate h 0 → r ≡ refused_end n i → RunPost t b zs hs ws rs zs' hs' r
-  refused_post {zs} {hs} {ws} {rs} la lh lw ea eh er =
+  pub refused_post : {zs hs ws zs' hs' : List ℕ} {u : Table} {r : Ended} → length zs ≡ a → length hs ≡ h → length ws ≡ w →
+      zs' ≡ replicate a 0 → hs' ≡ replicate h 0 → r ≡ refused_end n i → RunPost t b zs hs ws u zs' hs' r
+  refused_post {zs} {hs} {ws} {u = u} la lh lw ea eh er =
       record {
-        result = ap (λ (e : Ended). result_in t e rs) er ∙ refused_end_lem rs ∙ refused_result_lem ∙ ap (result_of t) same;
+        result = ap (λ (e : Ended). result_in t e u) er ∙ refused_end_lem u ∙ refused_result_lem ∙ ap (result_of t) same;
         answer = ea ∙ refused_answer ∙ ap (λ (r : Ran). r.answer) same;
         history = eh ∙ refused_history ∙ ap (λ (r : Ran). r.history) same;
       }
@@ -202,14 +202,13 @@ module _ (t : Table) (b : List ℕ) (e : fits t ≡ true) where
               a' ≡ at_front (value_at s.work 0 s.end) a →
               r ≡ record {
                 refusal = record { number = 0; place = 0 };
-                count = s.progress.count;
                 items = s.end;
                 bytes = s.progress.bytes;
                 tally = s.progress.tally;
-              } → RunPost t b a h w s.rows a' s.history r
+              } → RunPost t b a h w (table_of s.progress.count s.rows t.marks) a' s.history r
           run_post {a} {a'} {r} pre ea er =
               record {
-                result = ap (λ (e : Ended). result_in t e s.rows) er ∙
+                result = ap (λ (e : Ended). result_in t e (table_of s.progress.count s.rows t.marks)) er ∙
                     (λ i. record {
                       refusal = record { number = 0; place = 0 };
                       table = sym table_is i;
@@ -318,8 +317,8 @@ module _ (t : Table) (b a h w : List ℕ) where
             recorded = eh ∙ ap (λ (j : ℕ). replicate j 0) (sym sh);
           }
 
-      pub run_done_lem : {ws a'' h'' w'' : List ℕ} {r : Ended} → RunPost t b a' h' w ws a'' h'' r → w'' ≡ replicate (length w) 0 →
-          Leaves t b a h w (result_in t r ws) a'' h'' w''
+      pub run_done_lem : {u : Table} {a'' h'' w'' : List ℕ} {r : Ended} → RunPost t b a' h' w u a'' h'' r → w'' ≡ replicate (length w) 0 →
+          Leaves t b a h w (result_in t r u) a'' h'' w''
       run_done_lem post ew =
           all_done (post.result ∙ ap (result_of t) lengths) (post.answer ∙ ap (λ (r : Ran). r.answer) lengths)
           (post.history ∙ ap (λ (r : Ran). r.history) lengths) ew
@@ -330,10 +329,10 @@ module _ (t : Table) (b a h w : List ℕ) where
               ap (λ (j : ℕ). ran_by (decode t) j (length h') (length w) (outcome_of t b)) sa ∙
               ap (λ (j : ℕ). ran_by (decode t) (length a) j (length w) (outcome_of t b)) sh
 
--- the table given back: refused, the one handed in; else the one that the rows hold
-module _ (t : Table) (e : Ended) (ws : List ℕ) where
-  pub back_refused : (e.refusal.number ≡ 0 → ⊥) → result_with e t ≡ result_in t e ws
-  back_refused z = ap (result_with e) (sym (cond_ne (table_of e.count ws t.marks) t z))
+-- the table given back: refused, the one handed in; else the lent one
+module _ (t : Table) (e : Ended) (u : Table) where
+  pub back_refused : (e.refusal.number ≡ 0 → ⊥) → result_with e t ≡ result_in t e u
+  back_refused z = ap (result_with e) (sym (cond_ne u t z))
 
-  pub back_fine : e.refusal.number ≡ 0 → result_with e (table_of e.count ws t.marks) ≡ result_in t e ws
-  back_fine z = ap (result_with e) (sym (cond_eq (table_of e.count ws t.marks) t z))
+  pub back_fine : e.refusal.number ≡ 0 → result_with e u ≡ result_in t e u
+  back_fine z = ap (result_with e) (sym (cond_eq u t z))

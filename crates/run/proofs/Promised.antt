@@ -16,7 +16,7 @@ use Rattle.model.proofs.BoolLaws.{by_cases, cond_true, cond_false}
 use Rattle.model.proofs.HistoryFits.{call_fits, unfit_fits}
 use Rattle.model.proofs.CallsCommute.{calls_commute}
 use Rattle.plan_table.specs.Results.{refusal_of}
-use Rattle.plan_table.specs.Packed.{encode, decode, table_of, fits}
+use Rattle.plan_table.specs.Packed.{encode, decode, fits}
 use Rattle.plan_table.specs.declared.Table.{Table}
 use Rattle.plan_table.proofs.FittedLaws.{well_decode}
 use Rattle.plan_table.proofs.EncodeLaws.{decode_encode, fits_encode}
@@ -83,11 +83,11 @@ runs_on t b a h w bytes e =
     let s = ran_stands t e b a h w bytes in
     (s.0, s.1 ∙ ap (λ (r : Ran). r.plan) (runs_as_called t b a h w e))
 
--- so does the one that a run leaves in lent rows
-pub lent_fits : (t : Table) (b a h w ws : List ℕ) (e : Ended) → are_bytes b ≡ true → fits t ≡ true →
-    result_in t e ws ≡ run_result t b a h w → e.refusal.number ≡ 0 → fits (table_of e.count ws t.marks) ≡ true
-lent_fits t b a h w ws e bytes f is z =
-    ap (λ (r : RunResult). fits r.table) (back_fine t e ws z ∙ is) ∙ (runs_on t b a h w bytes f).0
+-- so does the lent one after a run
+pub lent_fits : (t : Table) (b a h w : List ℕ) (u : Table) (e : Ended) → are_bytes b ≡ true → fits t ≡ true →
+    result_in t e u ≡ run_result t b a h w → e.refusal.number ≡ 0 → fits u ≡ true
+lent_fits t b a h w u e bytes f is z =
+    ap (λ (r : RunResult). fits r.table) (back_fine t e u z ∙ is) ∙ (runs_on t b a h w bytes f).0
 
 -- REFUSED
 pub refused_gives_back : RefusedGivesBack

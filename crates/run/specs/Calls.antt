@@ -6,7 +6,7 @@ use Rattle.model.specs.Script.{read_script}
 use Rattle.model.specs.Run.{Out, refused}
 use Rattle.model.specs.Call.{Ran, ran_by, in_areas}
 use Rattle.model.specs.Call as call
-use Rattle.plan_table.specs.Packed.{encode, decode, table_of, fits}
+use Rattle.plan_table.specs.Packed.{encode, decode, fits}
 use Rattle.plan_table.specs.Results.{refusal_of}
 use Rattle.plan_table.specs.Refusals.{number_of}
 use Rattle.plan_table.specs.declared.Refusal.{Refusal}
@@ -24,10 +24,9 @@ pub record RunResult : Type 0 where
   pub bytes : ℕ
   pub tally : Tally
 
--- HOW IT ENDED on lent rows: the refusal or none; the rows then, the items of the answer, the bytes of the history, the tally
+-- HOW IT ENDED on a lent table: the refusal or none, the items of the answer, the bytes of the history, the tally
 pub record Ended : Type 0 where
   pub refusal : refusal.Refusal
-  pub count : ℕ
   pub items : ℕ
   pub bytes : ℕ
   pub tally : Tally
@@ -63,27 +62,26 @@ run_result t b a h w = result_of t (ran t b a h w)
 abbrev pub refused_result : (number place : ℕ) → Table → RunResult
 refused_result n i t = record { refusal = record { number = n; place = i }; table = t; items = 0; bytes = 0; tally = none_yet }
 
--- ON LENT ROWS: how a run ended, with a table
+-- ON A LENT TABLE: how a run ended, with a table
 abbrev pub result_with : Ended → Table → RunResult
 result_with e t = record { refusal = e.refusal; table = t; items = e.items; bytes = e.bytes; tally = e.tally }
 
--- with the table that the rows then hold; refused, with the one handed in
-abbrev pub result_in : (given : Table) → Ended → (rows : List ℕ) → RunResult
-result_in t e ws = result_with e (cond (eqb e.refusal.number 0) (table_of e.count ws t.marks) t)
+-- with the lent table as it then is; refused, with the one handed in
+abbrev pub result_in : (given : Table) → Ended → (lent : Table) → RunResult
+result_in t e u = result_with e (cond (eqb e.refusal.number 0) u t)
 
 -- refused before or in the run
 abbrev pub refused_end : (number place : ℕ) → Ended
-refused_end n i = record { refusal = record { number = n; place = i }; count = 0; items = 0; bytes = 0; tally = none_yet }
+refused_end n i = record { refusal = record { number = n; place = i }; items = 0; bytes = 0; tally = none_yet }
 
 -- what the calls answer, told so: refused, all else is zero, and the table another one
 abbrev pub run_by : Table → Result whole.RunResult Refusal → RunResult
 run_by t (Ok r) = record { refusal = refusal.fine; table = r.table; items = r.items; bytes = r.bytes; tally = r.tally }
 run_by t (Err x) = refused_result (number_of x.reason) x.place t
 
--- with the count of the lent table
-abbrev pub ended_by : (count : ℕ) → Result lent.Ended Refusal → Ended
-ended_by n (Ok e) = record { refusal = refusal.fine; count = n; items = e.items; bytes = e.bytes; tally = e.tally }
-ended_by n (Err x) = refused_end (number_of x.reason) x.place
+abbrev pub ended_by : Result lent.Ended Refusal → Ended
+ended_by (Ok e) = record { refusal = refusal.fine; items = e.items; bytes = e.bytes; tally = e.tally }
+ended_by (Err x) = refused_end (number_of x.reason) x.place
 
 -- IN AREAS that fit, answer and history cleared
 pub record RunPre (a h w : List ℕ) : Type 0 where
@@ -93,7 +91,7 @@ pub record RunPre (a h w : List ℕ) : Type 0 where
   pub answered : a ≡ replicate (length a) 0
   pub recorded : h ≡ replicate (length h) 0
 
-pub record RunPost (t : Table) (b a h w ws' a' h' : List ℕ) (r : Ended) : Type 0 where
-  pub result : result_in t r ws' ≡ result_of t (ran_by (decode t) (length a) (length h) (length w) (outcome_of t b))
+pub record RunPost (t : Table) (b a h w : List ℕ) (u : Table) (a' h' : List ℕ) (r : Ended) : Type 0 where
+  pub result : result_in t r u ≡ result_of t (ran_by (decode t) (length a) (length h) (length w) (outcome_of t b))
   pub answer : a' ≡ (ran_by (decode t) (length a) (length h) (length w) (outcome_of t b)).answer
   pub history : h' ≡ (ran_by (decode t) (length a) (length h) (length w) (outcome_of t b)).history

@@ -88,7 +88,7 @@ fn run_in(
     requires fits { fits table.old ≡ true }
     requires run_pre { RunPre answer.old history.old work.old }
     ensures run_post { RunPost table.old script.now answer.old history.old work.old
-        table.new.rows answer.new history.new (ended_by table.new.count result) }
+        table.new answer.new history.new (ended_by result) }
     ensures marks_after { table.new.marks ≡ table.old.marks }
 {
     script::read_script(script)?;
@@ -131,7 +131,7 @@ pub fn fitting(
 ) -> Result<Ended, Refusal>
     requires fits { fits table.old ≡ true }
     requires work_value { areas_fit answer.old history.old work.old ≡ true }
-    ensures table_after { result_in table.old (ended_by table.new.count result) table.new.rows ≡
+    ensures table_after { result_in table.old (ended_by result) table.new ≡
         run_result table.old script.now answer.old history.old work.old }
     ensures marks_after { table.new.marks ≡ table.old.marks }
     ensures answer_after { answer.new ≡

@@ -3,9 +3,7 @@ use mathlib.Core.Path.{◌≡◌, refl, ap, ◌∙◌}
 use mathlib.Core.Bool.{true}
 use mathlib.Core.List.{List}
 use Prim.Native.Nat.{ℕ}
-use lib.ListN.{length}
 use Rattle.model.specs.Base.{are_bytes}
-use Rattle.model.specs.Limits.{max_rows, documents}
 use Rattle.model.specs.Refusal.{refusal, fine}
 use Rattle.model.specs.Sweep.{swept}
 use Rattle.model.specs.Table as model
@@ -15,8 +13,7 @@ use Rattle.model.proofs.SweepsWell.{sweeps_well}
 use Rattle.model.proofs.UndoKeeps.{undo_keeps}
 use Rattle.plan_reader.specs.Reading.{ReadPost}
 use Rattle.plan_table.specs.Packed.{encode, decode, fits, table_of}
-use Rattle.plan_table.specs.Fitting.{FittingParts}
-use Rattle.plan_table.specs.Results.{with_table, left_by}
+use Rattle.plan_table.specs.Results.{with_table}
 use Rattle.plan.specs.Calls.{plan_read}
 use Rattle.plan.proofs.ReadPlanLaws.{plan_refused, plan_read_lem, read_fits}
 use Rattle.plan_table.specs.Results.{End}
@@ -25,9 +22,8 @@ use Rattle.plan_table.specs.Results.{TableResult}
 use Rattle.plan_table.proofs.EncodeLaws.{fits_encode}
 use Rattle.plan_table.proofs.FittedLaws.{well_decode}
 use Rattle.run_undo.specs.Undoing.{plan_undone, undone_by}
-use Rattle.run_undo.proofs.UndoLawsCall.{undo_done}
 
--- READ: the refusal, or the parts of a table that fits
+-- READ: the refusal, or a table that fits
 module _ (p ws ms : List ℕ) (r : End) (post : ReadPost p ws ms r) where
   pub read_refused : (r.number ≡ 0 → ⊥) → with_table (refusal r.number r.place) (encode model.empty) ≡ plan_read p
   read_refused z = plan_refused p ws ms r post z
@@ -36,12 +32,8 @@ module _ (p ws ms : List ℕ) (r : End) (post : ReadPost p ws ms r) where
     pub read_fine : with_table fine (table_of r.count ws ms) ≡ plan_read p
     read_fine = plan_read_lem p ws ms r post z
 
-    pub parts_fit_lem : are_bytes p ≡ true → length ws ≡ max_rows → length ms ≡ documents → FittingParts r.count ws ms
-    parts_fit_lem b rows marks =
-        record {
-          size = record { rows = rows; marks = marks };
-          fits = ap (λ (q : TableResult). fits q.table) read_fine ∙ read_fits p b;
-        }
+    pub table_fits : are_bytes p ≡ true → fits (table_of r.count ws ms) ≡ true
+    table_fits b = ap (λ (q : TableResult). fits q.table) read_fine ∙ read_fits p b
 
 -- SWEPT, UNDONE
 module _ (t : Table) (f : fits t ≡ true) where
@@ -55,6 +47,5 @@ module _ (t : Table) (f : fits t ≡ true) where
       go (refused g) e = ap (λ (q : Undo). fits (undone_by t q).table) e ∙ f
       go (back x) e = ap (λ (q : Undo). fits (undone_by t q).table) e ∙ fits_encode x (undo_keeps (decode t) x h (well_decode t f) e)
 
-  pub left_fits : (h ws : List ℕ) (e : End) → left_by t e ws t.marks ≡ plan_undone t h → e.number ≡ 0 →
-      fits (table_of e.count ws t.marks) ≡ true
-  left_fits h ws e left z = ap (λ (r : TableResult). fits r.table) (undo_done t h ws e left z) ∙ undone_fits h
+  pub left_fits : (h : List ℕ) {u : Table} → with_table fine u ≡ plan_undone t h → fits u ≡ true
+  left_fits h e = ap (λ (r : TableResult). fits r.table) e ∙ undone_fits h

@@ -34,13 +34,12 @@ pub fn yegnabit_plan(plan: &[u8], out: &mut [u8]) -> u64
     if out.len() < OUT {
         return answer::lent_short();
     }
-    let mut rows = [0u32; Table::ROWS];
-    let mut marks = [0u16; Table::DOCUMENTS];
-    let count = match read::records(plan, &mut rows, &mut marks) {
+    let mut table = Table::empty();
+    table.count = match read::records(plan, &mut table.rows, &mut table.marks) {
         Ok(count) => count,
         Err(refusal) => return plan_refused(refusal),
     };
-    answer::finish(count, &rows, &marks, out)
+    answer::finish(&table, out)
 }
 
 // Reads a plan, sweeps it, and writes it to out.
@@ -51,15 +50,13 @@ pub fn yegnabit_sweep(plan: &[u8], out: &mut [u8]) -> u64
     if out.len() < OUT {
         return answer::lent_short();
     }
-    let mut rows = [0u32; Table::ROWS];
-    let mut marks = [0u16; Table::DOCUMENTS];
-    let count = match read::records(plan, &mut rows, &mut marks) {
+    let mut table = Table::empty();
+    table.count = match read::records(plan, &mut table.rows, &mut table.marks) {
         Ok(count) => count,
         Err(refusal) => return plan_refused(refusal),
     };
-    let mut swept = [0u32; Table::ROWS];
-    let kept = sweep::fitting(count, &rows, &mut marks, &mut swept);
-    answer::finish(kept, &swept, &marks, out)
+    let swept = sweep::fitting(&table);
+    answer::finish(&swept, out)
 }
 
 // Reads a plan, takes a run back by its history, and writes it to out.
@@ -70,14 +67,13 @@ pub fn yegnabit_undo(plan: &[u8], history: &[u8], out: &mut [u8]) -> u64
     if out.len() < OUT {
         return answer::lent_short();
     }
-    let mut rows = [0u32; Table::ROWS];
-    let mut marks = [0u16; Table::DOCUMENTS];
-    let count = match read::records(plan, &mut rows, &mut marks) {
+    let mut table = Table::empty();
+    table.count = match read::records(plan, &mut table.rows, &mut table.marks) {
         Ok(count) => count,
         Err(refusal) => return plan_refused(refusal),
     };
-    match undoing::fitting(&mut rows, &marks, count, history) {
-        Ok(back) => answer::finish(back, &rows, &marks, out),
+    match undoing::fitting(&mut table, history) {
+        Ok(()) => answer::finish(&table, out),
         Err(refusal) => answer::refused(Whose::Script, refusal),
     }
 }
@@ -116,9 +112,8 @@ pub fn yegnabit_run(
     ) {
         return answer::lent_short();
     }
-    let mut rows = [0u32; Table::ROWS];
-    let mut marks = [0u16; Table::DOCUMENTS];
-    let count = match read::records(plan, &mut rows, &mut marks) {
+    let mut table = Table::empty();
+    table.count = match read::records(plan, &mut table.rows, &mut table.marks) {
         Ok(count) => count,
         Err(refusal) => {
             done::clear(answer, history, work);
@@ -126,8 +121,8 @@ pub fn yegnabit_run(
             return plan_refused(refusal);
         }
     };
-    let ended = lent::fitting(&mut rows, &marks, count, script, answer, history, work);
-    done::end(ended, &rows, &marks, out, done)
+    let ended = lent::fitting(&mut table, script, answer, history, work);
+    done::end(ended, &table, out, done)
 }
 
 // Analyses two scripts: a refusal is the first's, which 1, or the second's, which 2; else which is the answer: 0 free, 1 upward, 2 meet.

@@ -6,17 +6,13 @@ use Rattle.plan_table.proofs.ReasonLaws.{some_number}
 use Rattle.yegnabit.proofs.CallLaws.{area_short, plan_refused, plan_done}
 use Rattle.plan_writer.specs.Writing.{plan_written, written_out}
 use Rattle.c_codes.specs.Codes.{written_values}
-use Rattle.yegnabit.proofs.FittingLaws.{read_refused, read_fine, parts_fit_lem}
+use Rattle.yegnabit.proofs.FittingLaws.{read_refused, read_fine, table_fits}
 use Rattle.yegnabit.proofs.yegnabit_plan.Goals as goal
 
 pub returns-then-out-lt-OUT : goal.returns-then-out-lt-OUT
 returns-then-out-lt-OUT c =
     let all = area_short c.args.out.now _ _ c.lent_short.ensures c.if-out-lt-OUT.true in
     record { value = all.0; out_after = all.1 }
-
-pub records-requires : goal.records-requires
-records-requires c =
-    record { rows = refl; marks = refl }
 
 pub returns-in-Err : goal.returns-in-Err
 returns-in-Err c =
@@ -27,8 +23,7 @@ returns-in-Err c =
 
 pub finish-requires : goal.finish-requires
 finish-requires c =
-    parts_fit_lem c.args.plan.now _ _ _ c.in-Ok.ensures refl (bytes_known c.args.plan.now (λ i. (c.type_inv.plan i).fits))
-    c.records.auto.rows c.records.auto.marks
+    table_fits c.args.plan.now _ _ _ c.in-Ok.ensures refl (bytes_known c.args.plan.now (λ i. (c.type_inv.plan i).fits))
 
 pub returns : goal.returns
 returns c =

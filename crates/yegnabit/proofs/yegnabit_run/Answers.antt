@@ -1,14 +1,13 @@
 -- `yegnabit_run` answers and leaves what `run_called` says, by its three ways out: an area too short, the plan refused, the run over.
 use Rattle.std.proofs.Common.{refl, ◌∙◌}
 use borrow.Author.Tests.{not-true, not-false}
-use Rattle.plan_table.specs.Fitting.{FittingParts}
 use Rattle.plan_table.specs.Packed.{table_of}
 use Rattle.plan_table.proofs.ByteLaws.{bytes_known}
 use Rattle.plan_table.proofs.ReasonLaws.{some_number}
 use Rattle.run.specs.Calls.{ended_by}
 use Rattle.run.proofs.Promised.{lent_fits}
 use Rattle.c_lent.proofs.EndLaws.{left_ends}
-use Rattle.yegnabit.proofs.FittingLaws.{read_refused, read_fine, parts_fit_lem}
+use Rattle.yegnabit.proofs.FittingLaws.{read_refused, read_fine, table_fits}
 use Rattle.yegnabit.proofs.RunLaws.{six_fit, three_fit, call_short, call_plan_refused, call_ended}
 use Rattle.yegnabit.proofs.yegnabit_run.Goals as goal
 
@@ -26,10 +25,6 @@ returns-then-not-fit c =
       out_after = all.1.1.1.1.0;
       done_after = all.1.1.1.1.1;
     }
-
-pub records-requires : goal.records-requires
-records-requires c =
-    record { rows = refl; marks = refl }
 
 pub put_done-requires : goal.put_done-requires
 put_done-requires c =
@@ -56,30 +51,22 @@ returns-in-Err c =
 
 pub fitting-ended-requires : goal.fitting-ended-requires
 fitting-ended-requires c =
-    let parts : FittingParts c.in-Ok.count c.records.new.rows c.records.new.marks =
-    parts_fit_lem c.args.plan.now _ _ _ c.in-Ok.ensures refl
-    (bytes_known c.args.plan.now (λ i. (c.type_inv.plan i).fits)) c.records.auto.rows c.records.auto.marks in
-    let x = c.args in record {
-      fitting_parts = parts;
+    let x = c.args in
+    record {
+      fits = table_fits x.plan.now _ _ _ c.in-Ok.ensures refl (bytes_known x.plan.now (λ i. (c.type_inv.plan i).fits));
       work_value = three_fit x.plan.now x.script.now x.answer.now x.history.now x.work.now x.out.now x.done.now
           c.fit.result c.fit.ensures (not-false c.fit.result c.if-not-fit.false-raw);
     }
 
 pub end-requires : goal.end-requires
 end-requires c =
-    let parts : FittingParts c.in-Ok.count c.records.new.rows c.records.new.marks =
-    parts_fit_lem c.args.plan.now _ _ _ c.in-Ok.ensures refl
-    (bytes_known c.args.plan.now (λ i. (c.type_inv.plan i).fits)) c.records.auto.rows c.records.auto.marks in
     let x = c.args in
-    let f = parts in
     let t = table_of c.in-Ok.count c.records.new.rows c.records.new.marks in
     record {
-      table = λ z.
-          record {
-            size = record { rows = c.fitting-ended.auto.rows ∙ f.size.rows; marks = f.size.marks };
-            fits = lent_fits t x.script.now x.answer.now x.history.now x.work.now _ (ended_by c.fitting-ended.result)
-                (bytes_known x.script.now (λ i. (c.type_inv.script i).fits)) f.fits c.fitting-ended.ensures.rows_after z;
-          };
+      table = lent_fits t x.script.now x.answer.now x.history.now x.work.now _ (ended_by c.fitting-ended.result)
+          (bytes_known x.script.now (λ i. (c.type_inv.script i).fits))
+          (table_fits x.plan.now _ _ _ c.in-Ok.ensures refl (bytes_known x.plan.now (λ i. (c.type_inv.plan i).fits)))
+          c.fitting-ended.ensures.table_after;
       room = six_fit x.plan.now x.script.now x.answer.now x.history.now x.work.now x.out.now x.done.now
           c.fit.result c.fit.ensures (not-false c.fit.result c.if-not-fit.false-raw);
     }
@@ -93,7 +80,7 @@ returns c =
     let all = call_ended x.plan.now x.script.now x.answer.now x.history.now x.work.now x.out.now x.done.now
     c.fit.result c.fit.ensures (not-false c.fit.result c.if-not-fit.false-raw) _
     (read_fine x.plan.now _ _ _ c.in-Ok.ensures refl) refl _ _ _ _
-    c.fitting-ended.ensures.rows_after c.fitting-ended.ensures.answer_after c.fitting-ended.ensures.history_after
+    c.fitting-ended.ensures.table_after c.fitting-ended.ensures.answer_after c.fitting-ended.ensures.history_after
     c.fitting-ended.ensures.work_after
     c.end.result _ _
     over.0 over.1.0 over.1.1 in

@@ -1,26 +1,21 @@
 -- `yegnabit_sweep` answers and leaves what reading, sweeping and writing owe, by its three ways out.
-use Rattle.std.proofs.Common.{refl, ap, ◌∙◌, arith}
-use Rattle.plan_table.specs.Fitting.{FittingParts}
+use Rattle.std.proofs.Common.{refl, ap, ◌≡◌, ◌∙◌, true, arith}
 use Rattle.plan_table.specs.declared.Table.{Table}
 use Rattle.plan_table.proofs.ByteLaws.{bytes_known}
 use Rattle.plan_table.proofs.ReasonLaws.{some_number}
 use Rattle.yegnabit.proofs.CallLaws.{area_short, plan_refused, plan_done}
-use Rattle.plan_table.specs.Packed.{table_of}
+use Rattle.plan_table.specs.Packed.{fits, table_of}
 use Rattle.plan_table.specs.Results.{TableResult}
 use Rattle.plan_sweep.specs.Sweeping.{plan_swept}
 use Rattle.plan_sweep.proofs.SweepLaws.{sweep_done}
 use Rattle.c_codes.specs.Codes.{code_of, finished_values, finished_out}
-use Rattle.yegnabit.proofs.FittingLaws.{read_refused, read_fine, parts_fit_lem, swept_fits}
+use Rattle.yegnabit.proofs.FittingLaws.{read_refused, read_fine, table_fits, swept_fits}
 use Rattle.yegnabit.proofs.yegnabit_sweep.Goals as goal
 
 pub returns-then-out-lt-OUT : goal.returns-then-out-lt-OUT
 returns-then-out-lt-OUT c =
     let all = area_short c.args.out.now _ _ c.lent_short.ensures c.if-out-lt-OUT.true in
     record { value = all.0; out_after = all.1 }
-
-pub records-requires : goal.records-requires
-records-requires c =
-    record { rows = refl; marks = refl }
 
 pub returns-in-Err : goal.returns-in-Err
 returns-in-Err c =
@@ -29,32 +24,25 @@ returns-in-Err c =
     (read_refused c.args.plan.now _ _ _ c.in-Err.ensures z) c.plan_refused.ensures z in
     record { value = all.0; out_after = all.1 }
 
-pub fitting-kept-requires : goal.fitting-kept-requires
-fitting-kept-requires c =
-    record {
-      fitting_parts = parts_fit_lem c.args.plan.now _ _ _ c.in-Ok.ensures refl
-          (bytes_known c.args.plan.now (λ i. (c.type_inv.plan i).fits)) c.records.auto.rows c.records.auto.marks;
-      out_value = refl;
-    }
+pub fitting-swept-requires : goal.fitting-swept-requires
+fitting-swept-requires c =
+    table_fits c.args.plan.now _ _ _ c.in-Ok.ensures refl (bytes_known c.args.plan.now (λ i. (c.type_inv.plan i).fits))
 
 pub finish-requires : goal.finish-requires
 finish-requires c =
-    let f : FittingParts c.in-Ok.count c.records.new.rows c.records.new.marks =
-    (parts_fit_lem c.args.plan.now _ _ _ c.in-Ok.ensures refl (bytes_known c.args.plan.now (λ i. (c.type_inv.plan i).fits))
-    c.records.auto.rows c.records.auto.marks) in
-    record {
-      size = record { rows = c.fitting-kept.auto.out; marks = c.fitting-kept.auto.links ∙ f.size.marks };
-      fits = swept_fits (table_of c.in-Ok.count c.records.new.rows c.records.new.marks) f.fits _ c.fitting-kept.ensures;
-    }
+    let t = table_of c.in-Ok.count c.records.new.rows c.records.new.marks in
+    let f : fits t ≡ true =
+    table_fits c.args.plan.now _ _ _ c.in-Ok.ensures refl (bytes_known c.args.plan.now (λ i. (c.type_inv.plan i).fits)) in
+    swept_fits t f _ c.fitting-swept.ensures
 
 pub returns : goal.returns
 returns c =
-    let f : FittingParts c.in-Ok.count c.records.new.rows c.records.new.marks =
-    (parts_fit_lem c.args.plan.now _ _ _ c.in-Ok.ensures refl (bytes_known c.args.plan.now (λ i. (c.type_inv.plan i).fits))
-    c.records.auto.rows c.records.auto.marks) in
+    let t = table_of c.in-Ok.count c.records.new.rows c.records.new.marks in
+    let f : fits t ≡ true =
+    table_fits c.args.plan.now _ _ _ c.in-Ok.ensures refl (bytes_known c.args.plan.now (λ i. (c.type_inv.plan i).fits)) in
     let x = c.args in
     let o = x.out.now in
-    let done = sweep_done (table_of c.in-Ok.count c.records.new.rows c.records.new.marks) _ f.fits c.fitting-kept.ensures in
+    let done = sweep_done t _ f c.fitting-swept.ensures in
     let all = plan_done o (omega (arith, c.if-out-lt-OUT.false)) (read_fine x.plan.now _ _ _ c.in-Ok.ensures refl)
     (λ (t : Table). finished_values (plan_swept t) 1 o) (λ (t : Table). finished_out (plan_swept t) o)
     (c.finish.ensures.value ∙ ap (λ (r : TableResult). code_of (finished_values r 1 o)) done)

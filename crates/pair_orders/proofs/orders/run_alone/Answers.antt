@@ -32,7 +32,7 @@ returns-in_err-ended-clause-value c =
     rw (p.1, p.2, k)
     (run_given x.table x.script.now (replicate answer_need 0) (replicate history_need 0) (replicate work_need 0)
     (length_is answer_need) (length_is history_need) (length_is work_need)
-    (back_refused x.table (ended_by (Err told.0)) _ (some_number told.0.reason) ∙ rw told.1 at c.fitting.ensures.rows_after))
+    (back_refused x.table (ended_by (Err told.0)) _ (some_number told.0.reason) ∙ rw told.1 at c.fitting.ensures.table_after))
 
 pub returns-clause-value : goal.returns-clause-value
 returns-clause-value c =
@@ -40,7 +40,7 @@ returns-clause-value c =
     let e : c.fitting.result ≡ Ok c.in_ok-ended.ended = grind arith in
     run_given x.table x.script.now (replicate answer_need 0) (replicate history_need 0) (replicate work_need 0)
     (length_is answer_need) (length_is history_need) (length_is work_need)
-    (back_fine x.table (ended_by (Ok c.in_ok-ended.ended)) _ refl ∙ rw e at c.fitting.ensures.rows_after)
+    (back_fine x.table (ended_by (Ok c.in_ok-ended.ended)) _ refl ∙ rw e at c.fitting.ensures.table_after)
 
 pub returns-clause-table_value : goal.returns-clause-table_value
 returns-clause-table_value c =
@@ -48,4 +48,4 @@ returns-clause-table_value c =
     let e : c.fitting.result ≡ Ok c.in_ok-ended.ended = grind arith in
     lent_fits x.table x.script.now (replicate answer_need 0) (replicate history_need 0) (replicate work_need 0) _
     (ended_by (Ok c.in_ok-ended.ended)) (bytes_known x.script.now (λ i. (c.type_inv.script i).fits))
-    c.requires (rw e at c.fitting.ensures.rows_after) refl
+    c.requires (rw e at c.fitting.ensures.table_after) refl
