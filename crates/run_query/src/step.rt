@@ -154,8 +154,8 @@ fn rows_below(
     descend(rows, count, deep, &mut flags, low, test, work, from)
 }
 
-// A step up from the value at a place. It and item::ancestors stay calls, since with their loops in `stepped` a step down took half as long
-// again: LLVM no longer made a loop for each test.
+// A step up from the value at a place. It and item::ancestors stay calls: with their loops in `stepped` a step down took half as long
+// again, since LLVM no longer made a loop for each test.
 #[inline(never)]
 fn rows_above(
     rows: &[u32],
