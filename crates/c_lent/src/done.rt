@@ -42,12 +42,7 @@ pub fn clear(answer: &mut [u16], history: &mut [u8], work: &mut [u16])
 }
 
 // The run is over: refused, out stays and done is zero; else the plan as it then is stands in out, and done has its six numbers.
-pub fn end(
-    ended: Result<Ended, Refusal>,
-    table: &Table,
-    out: &mut [u8],
-    done: &mut [u64],
-) -> u64
+pub fn end(ended: Result<Ended, Refusal>, table: &Table, out: &mut [u8], done: &mut [u64]) -> u64
     requires { EndPre (ended_by ended) table.now done.old }
     ensures value { result ≡
         code_of (end_values (left_in (ended_by ended) table.now) out.old) }

@@ -1,4 +1,4 @@
-// Packed rows to a table and back.
+// Packed rows to a table and back. C hands in count, rows and marks one by one, so here they stay three.
 ghost use Rattle.std.specs.Prelude.{◌≡◌};
 ghost use Rattle.plan_table.specs.Fitting.{TableSizes};
 ghost use Rattle.plan_table.specs.Packed.{table_of};

@@ -37,8 +37,9 @@ fn run_alone(mut table: Table, script: &[u8]) -> Result<Ending, Reason>
     let mut answer = [0; run::ANSWER];
     let mut history = [0; run::HISTORY];
     let mut work = [0; run::WORK];
-    let ended = lent::fitting(&mut table, script, &mut answer, &mut history, &mut work)
-        .map_err(|refusal| refusal.reason)?;
+    let ended = lent::fitting(&mut table, script, &mut answer, &mut history, &mut work).map_err(
+        |refusal| refusal.reason,
+    )?;
     Ok(Ending {
         items: ended.items,
         table,

@@ -3,17 +3,12 @@ use Rattle.std.specs.Prelude.{◌≡◌, Bool, true, ◌&&◌, ◌||◌, not, co
 use Rattle.model.specs.Limits.{max_rows, documents}
 use Rattle.model.specs.Base.{any, max_byte}
 use Rattle.model.specs.Table.{is_the}
-use Rattle.plan_table.specs.Packed.{of_link, kind_in, link_in, tag_in, leaf_bits, element_bits, parts_fit}
+use Rattle.plan_table.specs.Packed.{of_link, kind_in, link_in, tag_in, leaf_bits, element_bits}
 
 -- rows and marks as they stand in a table
 pub record TableSizes (ws ms : List ℕ) : Type 0 where
   pub rows : length ws ≡ max_rows
   pub marks : length ms ≡ documents
-
--- the parts of a table that fits, as they are lent
-pub record FittingParts (n : ℕ) (ws ms : List ℕ) : Type 0 where
-  pub size : TableSizes ws ms
-  pub fits : parts_fit n ws ms ≡ true
 
 -- a packed row, with its name or value in range
 abbrev pub tag_fits : (packed : ℕ) → Bool

@@ -1,5 +1,5 @@
 -- `yegnabit_run` answers and leaves what `run_called` says, by its three ways out: an area too short, the plan refused, the run over.
-use Rattle.std.proofs.Common.{refl, ◌∙◌}
+use Rattle.std.proofs.Common.{refl}
 use borrow.Author.Tests.{not-true, not-false}
 use Rattle.plan_table.specs.Packed.{table_of}
 use Rattle.plan_table.proofs.ByteLaws.{bytes_known}

@@ -1,5 +1,5 @@
 -- `undoing::fitting` takes a table that fits back as the model does.
-use Rattle.std.proofs.Common.{Ok, Err, refl, ◌∙◌, arith}
+use Rattle.std.proofs.Common.{Ok, Err, refl, arith}
 use Rattle.std.proofs.lemmas.Result.{err_from_is_err_and}
 use Rattle.run_undo.proofs.UndoLawsCall.{form_refused, undo_pre, undo_left, undo_refused, undo_done}
 use Rattle.plan_table.proofs.ReasonLaws.{some_number}
