@@ -1,3 +1,4 @@
 pub mod WalkLaws
 pub mod BindLaws
 pub mod KindLaws
+pub mod AnyLaws
