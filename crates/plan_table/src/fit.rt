@@ -6,7 +6,7 @@ ghost use Rattle.plan_table.specs.Fitting.{tag_fits, is_element_below, is_root_b
 ghost use Rattle.plan_table.specs.Fitting.{mark_fits};
 ghost use Rattle.plan_table.specs.Fitting.{marks_fit};
 
-use crate::{Link, RowNumber, Table, marks, number, packed};
+use crate::{Link, RowNumber, Table, marks, packed};
 
 // A packed row, with its name or value in range.
 fn tag_fits(w: u32) -> bool
@@ -52,7 +52,7 @@ pub fn is_root_below(rows: &[u32], bound: usize, row: RowNumber) -> bool
         return false;
     }
     let at = row.0;
-    packed::link(rows[at]).0 == 0
+    packed::link(rows[at]).row().is_none()
 }
 
 // A parent's link fits at a row: none, or a lower element.
@@ -117,7 +117,7 @@ fn marks_fit(rows: &[u32], count: usize, marks: &[u16]) -> bool
     ensures { result ≡ marks_fit rows.now count marks.now }
 {
     for (d, mark) in marks.iter().enumerate() {
-        let link = Link(number::index(*mark));
+        let link = Link(usize::from(*mark));
         if !mark_fits(rows, count, link) {
             return false;
         }

@@ -15,7 +15,7 @@ pub fn byte(b: u8) -> usize
     ensures value { result ≡ b }
     ensures upper_bound { result < 256 }
 {
-    b as usize
+    usize::from(b)
 }
 
 // A byte widened, to be compared with the name or value that a packed row holds.
@@ -23,14 +23,14 @@ pub fn wide(b: u8) -> u32
     ensures value { result ≡ b }
     ensures upper_bound { result < 256 }
 {
-    b as u32
+    u32::from(b)
 }
 
 // A byte as an element's name.
 pub fn name(b: u8) -> NameNumber
     ensures { result.0 ≡ b }
 {
-    NameNumber(b as u16)
+    NameNumber(u16::from(b))
 }
 
 // A two-byte number as a size.
@@ -38,7 +38,7 @@ pub fn index(n: u16) -> usize
     ensures value { result ≡ n }
     ensures upper_bound { result < 65536 }
 {
-    n as usize
+    usize::from(n)
 }
 
 // The two-byte number at a place of a record.
@@ -47,7 +47,7 @@ pub fn number_at(s: &[u8], at: usize) -> usize
     ensures value { result ≡ number_at s.now at }
     ensures upper_bound { result < 65536 }
 {
-    u16::from_le_bytes([s[at], s[at + 1]]) as usize
+    usize::from(u16::from_le_bytes([s[at], s[at + 1]]))
 }
 
 // Writes a two-byte number at a place.

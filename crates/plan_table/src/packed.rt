@@ -38,7 +38,7 @@ pub fn element(name: NameNumber, parent: Link) -> u32
     requires { parent.0 < link_room }
     ensures { result ≡ element_bits + 4 * parent.0 + 4096 * name.0 }
 {
-    ELEMENT + 4 * (parent.0 as u32) + 4096 * (name.0 as u32)
+    ELEMENT + 4 * (parent.0 as u32) + 4096 * u32::from(name.0)
 }
 
 // A leaf, packed.
@@ -46,7 +46,7 @@ pub fn leaf(value: u8, parent: Link) -> u32
     requires { parent.0 < link_room }
     ensures { result ≡ leaf_bits + 4 * parent.0 + 4096 * value }
 {
-    LEAF + 4 * (parent.0 as u32) + 4096 * (value as u32)
+    LEAF + 4 * (parent.0 as u32) + 4096 * u32::from(value)
 }
 
 // A packed row with another link to the parent.
