@@ -137,7 +137,7 @@ impl Step {
         ensures { result ≡ share_element (step_of self) (step_of other) }
     {
         match (self.test, other.test) {
-            (Test::Named(name), Test::Named(of_other)) => name.0 == of_other.0,
+            (Test::Named(name), Test::Named(of_other)) => name == of_other,
             _ => self.admits_element() & other.admits_element(),
         }
     }
