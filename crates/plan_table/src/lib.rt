@@ -1,14 +1,13 @@
 // The plan table: its type with its limits, the check of a table handed in, the kinds and size of its stored records.
 #![tactic(auto)]
 
-ghost use Rattle.std.specs.Prelude.{◌≡◌, ◌≤◌};
+ghost use Rattle.std.specs.Prelude.{◌≡◌};
 ghost use Rattle.model.specs.Table.{empty};
-ghost use Rattle.model.specs.Stored.{no_parent};
-ghost use Rattle.plan_table.specs.Links.{row_by};
-ghost use Rattle.plan_table.specs.Packed.{encode, link_of, of_link};
+ghost use Rattle.plan_table.specs.Packed.{encode};
 ghost use Rattle.plan_table.specs.Refusals.{number_of, script_number, other_script};
 
 pub mod fit;
+pub mod links;
 pub mod marks;
 pub mod number;
 pub mod packed;
@@ -24,30 +23,6 @@ pub struct NameNumber(pub u16);
 
 #[derive(Clone, Copy, Debug, PartialEq, Eq)]
 pub struct Link(pub usize);
-
-// A link stays a number, as packed rows and marks hold it; row and to tell it as a row or none.
-impl Link {
-    // The row, if there is one.
-    pub fn row(self) -> Option<RowNumber>
-        ensures { row_by result ≡ of_link self.0 }
-    {
-        if self.0 == 0 {
-            return None;
-        }
-        Some(RowNumber(self.0 - 1))
-    }
-
-    // The link to a row, or to none.
-    pub fn to(row: Option<RowNumber>) -> Link
-        requires { link_of (row_by row) ≤ no_parent }
-        ensures { result.0 ≡ link_of (row_by row) }
-    {
-        match row {
-            None => Link(0),
-            Some(row) => Link(row.0 + 1),
-        }
-    }
-}
 
 // A plan: rows packed into numbers (packed.rt), zero past the count; a document's mark is its row's link.
 #[derive(Clone, Copy)]

@@ -43,15 +43,15 @@ pub enum Test {
 }
 
 impl Test {
-    // The test of a number, with a name only where it is for one.
-    pub fn read(number: u8, name: u8) -> Result<Test, Reason>
-        ensures { TestRead number name result }
+    // The test of a number, and of the name in the field behind it: 0 unless the test is for one.
+    pub fn read(number: u8, field: u8) -> Result<Test, Reason>
+        ensures { TestRead number field result }
     {
-        match (number, name) {
+        match (number, field) {
             (0, 0) => Ok(Test::Node),
             (1, 0) => Ok(Test::Element),
             (2, 0) => Ok(Test::Leaf),
-            (3, 1..) => Ok(Test::Named(number::name(name))),
+            (3, 1..) => Ok(Test::Named(number::name(field))),
             _ => Err(Reason::Field),
         }
     }
