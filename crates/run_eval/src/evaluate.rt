@@ -26,6 +26,7 @@ fn binary(
     at: usize,
     left: usize,
     bound: usize,
+    env: &[Span; Table::BINDERS],
     marks: &[u16],
     index: &[u16],
     rows: &mut [u32],
@@ -34,21 +35,20 @@ fn binary(
     top: usize,
     x: Evaluated,
 ) -> Result<Evaluated, Refusal>
-    requires rest_pre { RestPre script.now (byte_of kind) left (frame bound marks.now top)
+    requires rest_pre { RestPre script.now (byte_of kind) left (frame bound env.now marks.now top)
         (machine rows.old history.old work.old (going_on x)) }
     requires index_held { IndexHeld index.now rows.old x.progress.count }
     ensures { RestPost (binary_rest script.now (byte_of kind) at left) (end_at script.now x.place)
-        (frame bound marks.now top) (machine rows.old history.old work.old (going_on x))
+        (frame bound env.now marks.now top) (machine rows.old history.old work.old (going_on x))
         (machine rows.new history.new work.new (came_out result)) }
 {
     let mid = x.end;
-    let scope = x.env;
     let q = x.progress;
-    let inside = value::bind(kind, scope, bound, top, mid);
+    let inside = value::bind(kind, env, bound, top, mid);
     let j = x.place;
     let n = kind.inner(bound);
     let y = eval(
-        script, j, left, n, inside, marks, index, rows, history, work, mid, q,
+        script, j, left, n, &inside, marks, index, rows, history, work, mid, q,
     )?;
     record::combined(kind, at, rows, history, work, top, mid, y)
 }
@@ -59,6 +59,7 @@ fn branch(
     script: &[u8],
     left: usize,
     bound: usize,
+    env: &[Span; Table::BINDERS],
     marks: &[u16],
     index: &[u16],
     rows: &mut [u32],
@@ -67,25 +68,25 @@ fn branch(
     top: usize,
     x: Evaluated,
 ) -> Result<Evaluated, Refusal>
-    requires rest_pre { RestPre script.now if_kind left (frame bound marks.now top) (machine rows.old history.old work.old (going_on x)) }
+    requires rest_pre { RestPre script.now if_kind left (frame bound env.now marks.now top)
+        (machine rows.old history.old work.old (going_on x)) }
     requires accepted { Accepted script.now (end_at script.now x.place) left bound }
     requires index_held { IndexHeld index.now rows.old x.progress.count }
     ensures { RestPost (if_rest script.now left)
         (end_at script.now (end_at script.now x.place))
-        (frame bound marks.now top) (machine rows.old history.old work.old (going_on x))
+        (frame bound env.now marks.now top) (machine rows.old history.old work.old (going_on x))
         (machine rows.new history.new work.new (came_out result)) }
 {
-    let scope = x.env;
     let q = x.progress;
     if x.end == top {
         let j = walk::end_at(script, x.place);
         return eval(
-            script, j, left, bound, scope, marks, index, rows, history, work, top, q,
+            script, j, left, bound, env, marks, index, rows, history, work, top, q,
         );
     }
     let j = x.place;
     let y = eval(
-        script, j, left, bound, scope, marks, index, rows, history, work, top, q,
+        script, j, left, bound, env, marks, index, rows, history, work, top, q,
     )?;
     Ok(record::past(script, y))
 }
@@ -97,6 +98,7 @@ fn iterate(
     at: usize,
     left: usize,
     bound: usize,
+    env: &[Span; Table::BINDERS],
     marks: &[u16],
     index: &[u16],
     rows: &mut [u32],
@@ -105,20 +107,20 @@ fn iterate(
     top: usize,
     x: Evaluated,
 ) -> Result<Evaluated, Refusal>
-    requires rest_pre { RestPre script.now for_kind left (frame bound marks.now top) (machine rows.old history.old work.old (going_on x)) }
+    requires rest_pre { RestPre script.now for_kind left (frame bound env.now marks.now top)
+        (machine rows.old history.old work.old (going_on x)) }
     requires index_held { IndexHeld index.now rows.old x.progress.count }
     ensures { RestPost (for_rest script.now at left) (end_at script.now x.place)
-        (frame bound marks.now top) (machine rows.old history.old work.old (going_on x))
+        (frame bound env.now marks.now top) (machine rows.old history.old work.old (going_on x))
         (machine rows.new history.new work.new (came_out result)) }
 {
     let mid = x.end;
-    let scope = x.env;
     let q = x.progress;
     if mid == top {
         return Ok(record::past(script, x));
     }
     let y = each(
-        script, at, x.place, left, bound, scope, marks, index, rows, history, work, top, mid, mid,
+        script, at, x.place, left, bound, env, marks, index, rows, history, work, top, mid, mid,
         mid, q,
     )?;
     record::combined(Kind::For, at, rows, history, work, top, mid, y)
@@ -132,7 +134,7 @@ fn each(
     at: usize,
     left: usize,
     bound: usize,
-    env: [Span; Table::BINDERS],
+    env: &[Span; Table::BINDERS],
     marks: &[u16],
     index: &[u16],
     rows: &mut [u32],
@@ -144,37 +146,35 @@ fn each(
     end: usize,
     p: Progress,
 ) -> Result<Evaluated, Refusal>
-    requires each_pre { EachPre script.now left (loop_of place from to) (frame bound marks.now top)
-        (machine rows.old history.old work.old (begun (going p) at end env)) }
+    requires each_pre { EachPre script.now left (loop_of place from to) (frame bound env.now marks.now top)
+        (machine rows.old history.old work.old (begun (going p) at end)) }
     requires index_held { IndexHeld index.now rows.old p.count }
-    ensures { EachPost script.now left (loop_of place from to) (frame bound marks.now top)
-        (machine rows.old history.old work.old (begun (going p) at end env))
+    ensures { EachPost script.now left (loop_of place from to) (frame bound env.now marks.now top)
+        (machine rows.old history.old work.old (begun (going p) at end))
         (machine rows.new history.new work.new (came_out result)) }
 {
     let next = from + 1;
     let inside = value::bind(Kind::For, env, bound, from, next);
     let n = bound + 1;
     let y = eval(
-        script, at, left, n, inside, marks, index, rows, history, work, end, p,
+        script, at, left, n, &inside, marks, index, rows, history, work, end, p,
     )?;
     let first = record::limited(y, top, place)?;
     if next == to {
         return Ok(first);
     }
-    let inner = first.env;
     let r = first.progress;
     let half = next + (to - from) / 2;
     let x = each(
-        script, place, at, left, bound, inner, marks, index, rows, history, work, next, half, top,
+        script, place, at, left, bound, env, marks, index, rows, history, work, next, half, top,
         first.end, r,
     )?;
     if half == to {
         return Ok(x);
     }
-    let scope = x.env;
     let q = x.progress;
     each(
-        script, place, at, left, bound, scope, marks, index, rows, history, work, half, to, top,
+        script, place, at, left, bound, env, marks, index, rows, history, work, half, to, top,
         x.end, q,
     )
 }
@@ -186,7 +186,7 @@ pub fn eval(
     at: usize,
     left: usize,
     bound: usize,
-    env: [Span; Table::BINDERS],
+    env: &[Span; Table::BINDERS],
     marks: &[u16],
     index: &[u16],
     rows: &mut [u32],
@@ -195,11 +195,11 @@ pub fn eval(
     top: usize,
     p: Progress,
 ) -> Result<Evaluated, Refusal>
-    requires eval_pre { EvalPre script.now left (frame bound marks.now top)
-        (machine rows.old history.old work.old (begun (going p) at top env)) }
+    requires eval_pre { EvalPre script.now left (frame bound env.now marks.now top)
+        (machine rows.old history.old work.old (begun (going p) at top)) }
     requires index_held { IndexHeld index.now rows.old p.count }
-    ensures { EvalPost script.now left (frame bound marks.now top)
-        (machine rows.old history.old work.old (begun (going p) at top env))
+    ensures { EvalPost script.now left (frame bound env.now marks.now top)
+        (machine rows.old history.old work.old (begun (going p) at top))
         (machine rows.new history.new work.new (came_out result)) }
 {
     let kind = Kind::try_from(script[at]).unwrap();
@@ -219,13 +219,15 @@ pub fn eval(
         return Ok(record::applied(operator, index, rows, history, work, top, x));
     }
     match kind {
-        Kind::If => branch(script, k, bound, marks, index, rows, history, work, top, x),
+        Kind::If => branch(
+            script, k, bound, env, marks, index, rows, history, work, top, x,
+        ),
         Kind::For => iterate(
-            script, at, k, bound, marks, index, rows, history, work, top, x,
+            script, at, k, bound, env, marks, index, rows, history, work, top, x,
         ),
         // A join, a let or an insert.
         _ => binary(
-            script, kind, at, k, bound, marks, index, rows, history, work, top, x,
+            script, kind, at, k, bound, env, marks, index, rows, history, work, top, x,
         ),
     }
 }

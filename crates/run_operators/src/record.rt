@@ -22,13 +22,12 @@ use script_records::pick::Relation;
 use script_records::step::Step;
 use script_records::walk;
 
-// After an expression: how far the run has come; the place past it; the end of its value; the variables.
+// After an expression: how far the run has come; the place past it; the end of its value.
 #[derive(Clone, Copy)]
 pub struct Evaluated {
     pub progress: Progress,
     pub place: usize,
     pub end: usize,
-    pub env: [Span; Table::BINDERS],
 }
 
 // 8 at a place where the value from top on has passed the limit.
@@ -50,12 +49,10 @@ pub fn past(script: &[u8], x: Evaluated) -> Evaluated
     ensures { going_on result ≡ moved_to (end_at script.now x.place) (going_on x) }
 {
     let p = x.progress;
-    let env = x.env;
     Evaluated {
         progress: p,
         place: walk::end_at(script, x.place),
         end: x.end,
-        env,
     }
 }
 
@@ -67,7 +64,7 @@ pub fn nullary(
     at: usize,
     left: usize,
     bound: usize,
-    env: [Span; Table::BINDERS],
+    env: &[Span; Table::BINDERS],
     marks: &[u16],
     rows: &mut [u32],
     history: &mut [u8],
@@ -75,12 +72,12 @@ pub fn nullary(
     top: usize,
     p: Progress,
 ) -> Result<Evaluated, Refusal>
-    requires eval_pre { EvalPre script.now left (frame bound marks.now top)
-        (machine rows.old history.old work.old (begun (going p) at top env)) }
+    requires eval_pre { EvalPre script.now left (frame bound env.now marks.now top)
+        (machine rows.old history.old work.old (begun (going p) at top)) }
     requires is { byte_of kind ≡ get_or script.now at 0 }
     requires at_value { arity (byte_of kind) ≡ 0 }
-    ensures { EvalPost script.now left (frame bound marks.now top)
-        (machine rows.old history.old work.old (begun (going p) at top env))
+    ensures { EvalPost script.now left (frame bound env.now marks.now top)
+        (machine rows.old history.old work.old (begun (going p) at top))
         (machine rows.new history.new work.new (came_out result)) }
 {
     match kind {
@@ -88,7 +85,6 @@ pub fn nullary(
             progress: p,
             place: at + 1,
             end: top,
-            env,
         }),
         Kind::Document => {
             let end = value::document(marks, usize::from(script[at + 1]), work, top);
@@ -96,7 +92,6 @@ pub fn nullary(
                 progress: p,
                 place: at + 2,
                 end,
-                env,
             })
         }
         Kind::Variable => {
@@ -108,7 +103,6 @@ pub fn nullary(
                 progress: p,
                 place: at + 2,
                 end,
-                env,
             })
         }
         Kind::NewElement => {
@@ -123,7 +117,6 @@ pub fn nullary(
                 progress: q,
                 place: at + 2,
                 end,
-                env,
             })
         }
         Kind::NewLeaf => {
@@ -138,7 +131,6 @@ pub fn nullary(
                 progress: q,
                 place: at + 2,
                 end,
-                env,
             })
         }
         Kind::Step | Kind::Join | Kind::Let | Kind::For | Kind::If => unreachable!(),
@@ -192,26 +184,22 @@ pub fn applied(
         (machine rows.new history.new work.new (going_on result)) }
 {
     let p = x.progress;
-    let env = x.env;
     let to = x.end;
     match operator {
         Operator::Step(step) => Evaluated {
             progress: p,
             place: x.place,
             end: step::stepped(rows, p.count, index, step, work, top, to),
-            env,
         },
         Operator::Delete => Evaluated {
             progress: update::delete(rows, history, p, &work[top..to]),
             place: x.place,
             end: top,
-            env,
         },
         Operator::Pick(relation, constant) => Evaluated {
             progress: p,
             place: x.place,
             end: pick::picked(rows, relation, constant, work, top, to),
-            env,
         },
     }
 }
@@ -232,7 +220,6 @@ pub fn combined(
         (machine rows.new history.new work.new (came_out result)) }
 {
     let p = y.progress;
-    let env = y.env;
     let to = y.end;
     match kind {
         Kind::Join => limited(y, top, at),
@@ -244,7 +231,6 @@ pub fn combined(
                 progress: q,
                 place: y.place,
                 end: top,
-                env,
             })
         }
         // A let, or a for.
@@ -254,7 +240,6 @@ pub fn combined(
                 progress: p,
                 place: y.place,
                 end,
-                env,
             })
         }
     }
