@@ -5,7 +5,7 @@ use mathlib.Core.List.{List, [], ◌∷◌, ◌++◌, map, map-append}
 use Prim.Native.Nat.{ℕ, zero, suc, ◌+◌, ◌-◌, ◌≤◌, ◌<◌}
 use native.Mathlib.Omega.{arith}
 use lib.ListN.{length, get_or, take, drop, get_or-append}
-use lib.Seq.{get_or-take, get_or-append_seam, take_at, take-take, length-take-le}
+use lib.Seq.{get_or-take, get_or-append_seam, length-take-le}
 use Rattle.model.specs.Limits.{max_items, max_binders}
 use Rattle.model.specs.Script.{is_binder}
 use Rattle.model.proofs.BoolLaws.{by_cases, eq_cases}

@@ -68,7 +68,8 @@ fn branch(
     top: usize,
     x: Evaluated,
 ) -> Result<Evaluated, Refusal>
-    requires rest_pre { RestPre script.now if_kind left (frame bound env.now marks.now top) (machine rows.old history.old work.old (going_on x)) }
+    requires rest_pre { RestPre script.now if_kind left (frame bound env.now marks.now top)
+        (machine rows.old history.old work.old (going_on x)) }
     requires accepted { Accepted script.now (end_at script.now x.place) left bound }
     requires index_held { IndexHeld index.now rows.old x.progress.count }
     ensures { RestPost (if_rest script.now left)
@@ -106,7 +107,8 @@ fn iterate(
     top: usize,
     x: Evaluated,
 ) -> Result<Evaluated, Refusal>
-    requires rest_pre { RestPre script.now for_kind left (frame bound env.now marks.now top) (machine rows.old history.old work.old (going_on x)) }
+    requires rest_pre { RestPre script.now for_kind left (frame bound env.now marks.now top)
+        (machine rows.old history.old work.old (going_on x)) }
     requires index_held { IndexHeld index.now rows.old x.progress.count }
     ensures { RestPost (for_rest script.now at left) (end_at script.now x.place)
         (frame bound env.now marks.now top) (machine rows.old history.old work.old (going_on x))
