@@ -11,7 +11,9 @@ use lib.ListN.{length, get_or, set, length-set, length-map}
 use lib.Seq.{get_or-set_same, get_or-set_other, set-get_or}
 use Rattle.model.specs.Base.{bit}
 use Rattle.model.proofs.BoolLaws.{eq_cases}
-use Rattle.paths_cells.specs.Pairs.{relations, place_of, mark_at, is_marked, HasRows, cleared, marked, PairPre, MarkPre}
+use Rattle.paths_cells.specs.declared.pairs.Relation.{Relation}
+use Rattle.paths_cells.specs.declared.pairs.Relation.TheVariants.{OnElement, Down, Up, OnLeaf}
+use Rattle.paths_cells.specs.Pairs.{relations, relation_number, place_of, mark_at, is_marked, HasRows, cleared, marked, PairPre, MarkPre}
 
 -- ROOM
 pub has_rows : (t : List ℕ) (m n : ℕ) → m * (relations * n) ≤ length t → HasRows t m n
@@ -28,6 +30,13 @@ fewer_rows t m n k h l =
     let e : relations * (k + 1) ≤ relations * n = omega arith in
     let f : m * (relations * (k + 1)) ≤ m * (relations * n) = mul-le-mul_left m e in
     omega (arith, f, h)
+
+-- THE NUMBER of a relation is one of four
+pub relation_low : (r : Relation) → relation_number r < relations
+relation_low OnElement = omega arith
+relation_low Down = omega arith
+relation_low Up = omega arith
+relation_low OnLeaf = omega arith
 
 -- WITHIN the rows
 row_end : (m r k l : ℕ) → r < relations → l < m → place_of m r k l < m * (relations * (k + 1))

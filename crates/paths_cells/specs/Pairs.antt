@@ -1,5 +1,7 @@
 -- Marks on pairs of positions: each is a byte of the table, one for each relation and pair.
 use Rattle.std.specs.Prelude.{◌≡◌, Bool, false, cond, List, map, ℕ, ◌+◌, ◌*◌, ◌%◌, ◌≤◌, ◌<◌, eqb, length, get_or, set}
+use Rattle.paths_cells.specs.declared.pairs.Relation.{Relation}
+use Rattle.paths_cells.specs.declared.pairs.Relation.TheVariants.{OnElement, Down, Up, OnLeaf}
 
 -- THE RELATIONS of two positions: an element on both, an element down, an element up, a leaf on both
 abbrev pub on_element : ℕ
@@ -16,6 +18,13 @@ on_leaf = 3
 
 abbrev pub relations : ℕ
 relations = 4
+
+-- the number of one
+abbrev pub relation_number : Relation → ℕ
+relation_number OnElement = on_element
+relation_number Down = down
+relation_number Up = up
+relation_number OnLeaf = on_leaf
 
 -- WHERE the mark of a relation and a pair stands, with so many columns: the second script's positions
 abbrev pub place_of : (columns relation k l : ℕ) → ℕ

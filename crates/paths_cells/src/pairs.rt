@@ -2,17 +2,27 @@
 // rows of the first script's positions, in each a row for each relation, in each a byte for each of the second script's positions.
 ghost use Rattle.std.specs.Prelude.{◌≡◌, ◌<◌};
 ghost use Rattle.model.specs.Base.{bit};
-ghost use Rattle.paths_cells.specs.Pairs.{place_of, is_marked, marked_where, cleared, PairPre, MarkPre};
+ghost use Rattle.paths_cells.specs.Pairs.{relation_number, place_of, is_marked, marked_where, cleared, PairPre, MarkPre};
 
 // The relations: an element on both, an element on the first at or below one on the second, an element on the second at or below one on
 // the first, a leaf on both.
-pub const ON_ELEMENT: usize = 0;
+#[derive(Clone, Copy, Debug, PartialEq, Eq)]
+pub enum Relation {
+    OnElement = 0,
+    Down = 1,
+    Up = 2,
+    OnLeaf = 3,
+}
 
-pub const DOWN: usize = 1;
-
-pub const UP: usize = 2;
-
-pub const ON_LEAF: usize = 3;
+impl Relation {
+    // Each of them, in the order of its numbers.
+    pub const ALL: [Relation; 4] = [
+        Relation::OnElement,
+        Relation::Down,
+        Relation::Up,
+        Relation::OnLeaf,
+    ];
+}
 
 pub const RELATIONS: usize = 4;
 
@@ -28,11 +38,11 @@ pub fn bit(b: bool) -> u8
 }
 
 // Where a mark stands.
-fn place(table: &[u8], columns: usize, relation: usize, k: usize, l: usize) -> usize
-    requires { PairPre table.now columns relation k l }
-    ensures { result ≡ place_of columns relation k l }
+fn place(table: &[u8], columns: usize, relation: Relation, k: usize, l: usize) -> usize
+    requires { PairPre table.now columns (relation_number relation) k l }
+    ensures { result ≡ place_of columns (relation_number relation) k l }
 {
-    columns * (RELATIONS * k + relation) + l
+    columns * (RELATIONS * k + relation as usize) + l
 }
 
 // Unmarks all pairs.
@@ -43,18 +53,18 @@ pub fn clear(table: &mut [u8])
 }
 
 // Marks a pair, where it holds. Where it does not, the pair is one not marked yet: so the byte is written either way, without a branch.
-pub fn mark(table: &mut [u8], columns: usize, relation: usize, k: usize, l: usize, holds: bool)
-    requires { MarkPre table.old columns relation k l holds }
-    ensures { table.new ≡ marked_where holds table.old columns relation k l }
+pub fn mark(table: &mut [u8], columns: usize, relation: Relation, k: usize, l: usize, holds: bool)
+    requires { MarkPre table.old columns (relation_number relation) k l holds }
+    ensures { table.new ≡ marked_where holds table.old columns (relation_number relation) k l }
 {
     let at = place(table, columns, relation, k, l);
     table[at] = bit(holds);
 }
 
 // Whether a pair is marked.
-pub fn is_marked(table: &[u8], columns: usize, relation: usize, k: usize, l: usize) -> bool
-    requires { PairPre table.now columns relation k l }
-    ensures { result ≡ is_marked table.now columns relation k l }
+pub fn is_marked(table: &[u8], columns: usize, relation: Relation, k: usize, l: usize) -> bool
+    requires { PairPre table.now columns (relation_number relation) k l }
+    ensures { result ≡ is_marked table.now columns (relation_number relation) k l }
 {
     let at = place(table, columns, relation, k, l);
     table[at] % 2 == 1

@@ -1,13 +1,14 @@
 -- Unions, whether a row meets, and the table row by row: one law for each loop and each way out.
 use mathlib.Core.Path.{◌≡◌, refl, ap, sym, ◌∙◌, subst}
 use mathlib.Core.Bool.{Bool, true, false, ◌&&◌, ◌||◌, not, false≢true, and-false, or-false, cond}
-use mathlib.Core.List.{List}
+use mathlib.Core.List.{List, [], ◌∷◌}
 use Prim.Native.Nat.{ℕ, ◌+◌, ◌≤◌, ◌<◌}
 use native.Mathlib.Omega.{arith}
 use lib.Dec.{eqb}
 use lib.ListN.{length, get_or, set}
 use lib.Seq.{get_or-set_same, get_or-set_other}
 use borrow.Author.Tests.{ne_eqb, not-true}
+use Rattle.std.specs.Prelude.{slice_index_or}
 use Rattle.model.specs.Base.{bit}
 use Rattle.model.specs.Meeting.{is_met, no_cell}
 use Rattle.model.proofs.BoolLaws.{eq_cases}
@@ -18,7 +19,8 @@ use Rattle.paths_positions.specs.Packed.{Position, position_by, entry_by, fields
 use Rattle.paths_positions.specs.Steps.{max_positions}
 use Rattle.paths_positions.proofs.AnyUpToLaws.{any_up_to_none, any_up_to_below, any_up_to_found, any_up_to_next, any_up_to_zero}
 use Rattle.paths_positions.proofs.PositionLaws.{first_nowhere, first_union}
-use Rattle.paths_cells.specs.Pairs.{on_element, on_leaf, relations, place_of, mark_at, is_marked, marked, PairPre, MarkPre}
+use Rattle.paths_cells.specs.declared.pairs.Relation.TheVariants.{OnElement, Down, Up, OnLeaf}
+use Rattle.paths_cells.specs.Pairs.{relation_number, on_element, on_leaf, relations, place_of, mark_at, is_marked, marked, PairPre, MarkPre}
 use Rattle.paths_cells.proofs.MarkLaws.{same_rows, fewer_rows, marked_is, mark_length, mark_here, mark_others}
 use Rattle.paths_rows.specs.Columns.{Columns, role_field}
 use Rattle.paths_rows.specs.Rows.{RowMarked, is_yes, UnionPre, either_by, MetPre, met_by}
@@ -27,6 +29,11 @@ use Rattle.paths_fill.specs.Filling.{MeetsPre, TablePre}
 use Rattle.paths_fill.proofs.KindLaws.{entry_at_lem, position_at, entries_length, lower_at}
 use Rattle.paths_fill.proofs.RestLaws.{held_join}
 use Rattle.paths_fill.proofs.RowLaws.{by_relation, Kept, kept_row, kept_then, filled_next, row_room, clear}
+
+-- THE RELATIONS in the order of their numbers
+pub relation_at : (i : ℕ) → i < relations → relation_number (slice_index_or (OnElement ∷ Down ∷ Up ∷ OnLeaf ∷ []) i OnElement) ≡ i
+relation_at =
+    by_relation (λ (i : ℕ). relation_number (slice_index_or (OnElement ∷ Down ∷ Up ∷ OnLeaf ∷ []) i OnElement) ≡ i) refl refl refl refl
 
 -- A PAIR WITH A UNION, its relations below r
 pub record UnionsTo (t₀ : List ℕ) (m k l a b r : ℕ) (t : List ℕ) : Type 0 where

@@ -4,12 +4,12 @@ ghost use Rattle.paths_positions.specs.Answer.{any_up_to, positions_meet, row_me
 ghost use Rattle.paths_positions.specs.Packed.{entries_by, some_leads_up, root_kind, over_kind, union_kind};
 ghost use Rattle.paths_positions.specs.Packed.{plain_role, root_by, over_by, union_by};
 ghost use Rattle.script_records.specs.Steps.{step_of};
-ghost use Rattle.paths_cells.specs.Pairs.{on_element, on_leaf, relations};
+ghost use Rattle.paths_cells.specs.Pairs.{on_element, on_leaf, relation_number};
 ghost use Rattle.paths_rows.specs.Rows.{RowMarked, OnPre};
 ghost use Rattle.paths_fill.specs.Filling.{step_elements, step_leaves, source_by, UnionsPre, UnionsPost, RestPre, LeftPre, LeftPost};
 ghost use Rattle.paths_fill.specs.Filling.{RestPost, KindRowPre, RowPre, RowPost, MeetsPre, TablePre};
 
-use paths_cells::pairs;
+use paths_cells::pairs::{self, Relation};
 use paths_positions::POSITIONS;
 use paths_positions::packed::{Position, Role};
 use paths_rows::{columns, rows};
@@ -28,7 +28,7 @@ fn unions(table: &mut [u8], m: usize, k: usize, l: usize, a: usize, b: usize)
     requires { UnionsPre table.old m k l a b }
     ensures { UnionsPost table.old m k l a b table.new }
 {
-    for r in 0..pairs::RELATIONS {
+    for r in Relation::ALL {
         let holds = pairs::is_marked(table, m, r, k, a) | pairs::is_marked(table, m, r, k, b);
         pairs::mark(table, m, r, k, l, holds);
     }
@@ -53,11 +53,11 @@ fn pair(first: &[usize], second: &[usize], columns: &[u8], table: &mut [u8], k: 
         return;
     }
     let past = columns::is_set(columns, columns::DEEP, l);
-    let above = pairs::is_marked(table, m, pairs::UP, k, j)
-        | (past & pairs::is_marked(table, m, pairs::DOWN, k, j));
-    let holds = pairs::is_marked(table, m, pairs::ON_ELEMENT, k, l)
+    let above = pairs::is_marked(table, m, Relation::Up, k, j)
+        | (past & pairs::is_marked(table, m, Relation::Down, k, j));
+    let holds = pairs::is_marked(table, m, Relation::OnElement, k, l)
         | (columns::is_set(columns, columns::ELEMENT, l) & above);
-    pairs::mark(table, m, pairs::UP, k, l, holds);
+    pairs::mark(table, m, Relation::Up, k, l, holds);
 }
 
 // What is left of row k once an element or a leaf on both and an element down are marked.
@@ -114,14 +114,13 @@ fn on_leaves(
 }
 
 // The relation with an operand that a step needs, beside an element down: an element up from a descendant step, else one on both.
-fn source(deep: bool) -> usize
-    ensures value { result ≡ source_by deep }
-    ensures upper_bound { result < relations }
+fn source(deep: bool) -> Relation
+    ensures { relation_number result ≡ source_by deep }
 {
     if deep {
-        return pairs::UP;
+        return Relation::Up;
     }
-    pairs::ON_ELEMENT
+    Relation::OnElement
 }
 
 // Row k, of a step from position i: whether it has anything in common with any.
@@ -201,7 +200,7 @@ fn union_row(
     ensures { RowPost first.now second.now table.old k table.new true }
 {
     let m = second.len();
-    for r in 0..pairs::RELATIONS {
+    for r in Relation::ALL {
         rows::union(table, m, r, k, i, j);
     }
 }

@@ -4,28 +4,35 @@ ghost use Rattle.std.specs.Prelude.{◌≡◌, length};
 ghost use Rattle.paths_positions.specs.Answer.{any_up_to};
 ghost use Rattle.paths_positions.specs.Packed.{role_number};
 ghost use Rattle.paths_positions.specs.Steps.{max_positions};
-ghost use Rattle.paths_cells.specs.Pairs.{on_element, down, on_leaf, PairPre};
+ghost use Rattle.paths_cells.specs.Pairs.{on_element, down, on_leaf, relation_number, PairPre};
 ghost use Rattle.paths_rows.specs.Rows.{is_yes, element_by, leaf_by, root_by, down_by, either_by, met_by, RowMarked};
 ghost use Rattle.paths_rows.specs.Rows.{ParentsPre, ParentsPost, PassPre, OnPre, DownPre, UnionPre, MetPre};
 ghost use Rattle.paths_rows.specs.Rows.{TestPre, MarkRowPre, CallsPre, MarkRowPost};
 
 use crate::columns;
-use paths_cells::pairs;
+use paths_cells::pairs::{self, Relation};
 use paths_positions::packed::Role;
 use plan_table::number;
 
 // Whether an element can be the parent of a node on both positions, the first one a step from position i, for each of the second's: one
 // in the relation `source` with the operand there, or, where a descendant step leads there, one down from it.
-pub fn parents(table: &[u8], m: usize, columns: &[u8], i: usize, source: usize, parents: &mut [u8])
-    requires { ParentsPre table.now m columns.now i source parents.old }
-    ensures { ParentsPost table.now m columns.now i source parents.old parents.new }
+pub fn parents(
+    table: &[u8],
+    m: usize,
+    columns: &[u8],
+    i: usize,
+    source: Relation,
+    parents: &mut [u8],
+)
+    requires { ParentsPre table.now m columns.now i (relation_number source) parents.old }
+    ensures { ParentsPost table.now m columns.now i (relation_number source) parents.old parents.new }
 {
     for l in 0..m {
         let j = number::byte(columns::at(columns, columns::FIRST, l));
         let past = columns::is_set(columns, columns::DEEP, l);
         parents[l] = pairs::bit(
             pairs::is_marked(table, m, source, i, j)
-                | (past & pairs::is_marked(table, m, pairs::DOWN, i, j)),
+                | (past & pairs::is_marked(table, m, Relation::Down, i, j)),
         );
     }
 }
@@ -35,13 +42,13 @@ pub fn parents(table: &[u8], m: usize, columns: &[u8], i: usize, source: usize, 
 fn mark_row<F: Fn(&[u8], usize) -> bool>(
     table: &mut [u8],
     m: usize,
-    relation: usize,
+    relation: Relation,
     k: usize,
     holds: F,
 ) -> bool
-    requires row { MarkRowPre table.old m relation k }
+    requires row { MarkRowPre table.old m (relation_number relation) k }
     requires calls { CallsPre (F.pre holds) table.old m }
-    ensures { MarkRowPost (F.post holds) table.old m relation k table.new result }
+    ensures { MarkRowPost (F.post holds) table.old m (relation_number relation) k table.new result }
 {
     let mut seen = false;
     for l in 0..m {
@@ -84,7 +91,7 @@ pub fn on_elements(
         let both = named & columns::is_set(columns, columns::NAMED, l);
         is_yes(parents[l]) & columns::is_set(columns, columns::ELEMENT, l) & (!both | same)
     };
-    mark_row(table, m, pairs::ON_ELEMENT, k, holds);
+    mark_row(table, m, Relation::OnElement, k, holds);
 }
 
 // A leaf on both, from their parents, where the first one's step lets leaves pass. Whether there is any.
@@ -99,7 +106,7 @@ pub fn on_leaves(table: &mut [u8], m: usize, columns: &[u8], parents: &[u8], k: 
         requires space { length parents.now ≡ max_positions }
         ensures { result ≡ leaf_by columns.entry.now parents.entry.now l }
     { is_yes(parents[l]) & columns::is_set(columns, columns::LEAF, l) };
-    mark_row(table, m, pairs::ON_LEAF, k, holds)
+    mark_row(table, m, Relation::OnLeaf, k, holds)
 }
 
 // An element on both, of a document's root and each root of the second's.
@@ -115,7 +122,7 @@ pub fn on_roots(table: &mut [u8], m: usize, columns: &[u8], k: usize, low: u8, h
             & (columns::at(columns, columns::HIGH, l) == high);
         (columns::at(columns, columns::KIND, l) == columns::ROOT) & same
     };
-    mark_row(table, m, pairs::ON_ELEMENT, k, holds);
+    mark_row(table, m, Relation::OnElement, k, holds);
 }
 
 // An element down: one on both, or, where the step from position i lets elements pass, one below what is down from i. Not yet of unions.
@@ -141,22 +148,22 @@ pub fn down(
         ensures { result ≡ down_by marks.now m columns.entry.now i k element deep l }
     {
         let union = columns::at(columns, columns::KIND, l) == columns::UNION;
-        let below = pairs::is_marked(marks, m, pairs::DOWN, i, l)
-            | (deep & pairs::is_marked(marks, m, pairs::UP, i, l));
-        pairs::is_marked(marks, m, pairs::ON_ELEMENT, k, l) | (element & !union & below)
+        let below = pairs::is_marked(marks, m, Relation::Down, i, l)
+            | (deep & pairs::is_marked(marks, m, Relation::Up, i, l));
+        pairs::is_marked(marks, m, Relation::OnElement, k, l) | (element & !union & below)
     };
-    mark_row(table, m, pairs::DOWN, k, holds)
+    mark_row(table, m, Relation::Down, k, holds)
 }
 
 // A relation of a union: that of its parts a and b.
-pub fn union(table: &mut [u8], m: usize, relation: usize, k: usize, a: usize, b: usize)
-    requires { UnionPre table.old m relation k a b }
-    ensures { RowMarked table.old m relation k (either_by table.old m relation a b) m table.new }
+pub fn union(table: &mut [u8], m: usize, relation: Relation, k: usize, a: usize, b: usize)
+    requires { UnionPre table.old m (relation_number relation) k a b }
+    ensures { RowMarked table.old m (relation_number relation) k (either_by table.old m (relation_number relation) a b) m table.new }
 {
     let holds = |marks: &[u8], l: usize| -> bool
-        requires first { PairPre marks.now m relation a l }
-        requires second { PairPre marks.now m relation b l }
-        ensures { result ≡ either_by marks.now m relation a b l }
+        requires first { PairPre marks.now m (relation_number relation) a l }
+        requires second { PairPre marks.now m (relation_number relation) b l }
+        ensures { result ≡ either_by marks.now m (relation_number relation) a b l }
     { pairs::is_marked(marks, m, relation, a, l) | pairs::is_marked(marks, m, relation, b, l) };
     mark_row(table, m, relation, k, holds);
 }
@@ -170,8 +177,8 @@ pub fn meets(table: &[u8], m: usize, columns: &[u8], k: usize, role: Role) -> bo
     let mut seen = false;
     for l in 0..m {
         let tested = columns::at(columns, columns::ROLE, l) == number;
-        let met = pairs::is_marked(table, m, pairs::ON_ELEMENT, k, l)
-            | pairs::is_marked(table, m, pairs::ON_LEAF, k, l);
+        let met = pairs::is_marked(table, m, Relation::OnElement, k, l)
+            | pairs::is_marked(table, m, Relation::OnLeaf, k, l);
         seen = seen | (tested & met);
     }
     seen

@@ -3,4 +3,4 @@ use Rattle.paths_fill.proofs.TableLaws.{UnionTo}
 use Rattle.paths_fill.proofs.meet.union_row.Given as goal
 
 abbrev pub invariant-loop-r : goal.invariant-loop-r
-invariant-loop-r l = UnionTo l.first l.second l.initial.table l.k l.r l.table
+invariant-loop-r l = UnionTo l.first l.second l.initial.table l.k l.r-index l.table

@@ -1,4 +1,5 @@
 use Rattle.std.proofs.Common.{◌∙◌}
+use Rattle.paths_cells.specs.Pairs.{relation_number}
 use Rattle.paths_rows.specs.Rows.{either_by}
 use Rattle.paths_rows.proofs.RowLaws.{pair_asks, either_same}
 use Rattle.paths_rows.proofs.rows.union.Goals as goal
@@ -12,5 +13,5 @@ mark_row-requires-clause-calls c =
 
 pub returns : goal.returns
 returns c =
-    (c.mark_row.ensures.is (either_by c.args.table.now c.args.m c.args.relation c.args.a c.args.b)
+    (c.mark_row.ensures.is (either_by c.args.table.now c.args.m (relation_number c.args.relation) c.args.a c.args.b)
     (λ x l b h w p. p ∙ either_same c.args.a c.args.b w c.requires.relation h)).0
