@@ -55,7 +55,7 @@ fn mark(s: &[u8], rows: &[u32], marks: &mut [u16], count: usize, last: usize) ->
     requires { MarkPre s.now rows.now marks.old count }
     ensures { MarkPost s.now rows.now marks.old count last marks.new (number_by result) }
 {
-    let document = number::byte(s[1]);
+    let document = usize::from(s[1]);
     if Table::DOCUMENTS <= document {
         return Err(Reason::Field);
     }
@@ -94,7 +94,7 @@ fn read_record(
             mark(s, rows, marks, count, last)?;
             Ok(RecordRead {
                 count,
-                last: number::byte(s[1]) + 1,
+                last: usize::from(s[1]) + 1,
             })
         }
         Kind::Element | Kind::Leaf => {

@@ -5,7 +5,7 @@ ghost use Rattle.model.specs.Sweep.{swept};
 ghost use Rattle.plan_sweep.specs.Sweeping.{FlagPre, Flagged, keeps, RowPre, RowPost, RowsPre, Sweeping, LinksPre, new_links};
 ghost use Rattle.plan_table.specs.Packed.{decode, decode_parts, encode, fits};
 
-use plan_table::{Link, RowNumber, Table, number, packed};
+use plan_table::{Link, RowNumber, Table, packed};
 
 // Flags the row with this link, if there is one.
 fn flag_one(numbers: &mut [u16], link: Link)
@@ -25,7 +25,7 @@ fn flag(numbers: &mut [u16], marks: &[u16])
     ensures { Flagged marks.now numbers.new }
 {
     for m in marks {
-        flag_one(numbers, Link(number::index(*m)));
+        flag_one(numbers, Link(usize::from(*m)));
     }
 }
 
@@ -36,7 +36,7 @@ fn is_kept(flag: u16, parent: Link) -> bool
     if flag != 0 {
         return true;
     }
-    parent.0 != 0
+    parent.row().is_some()
 }
 
 // One row, after `next` that are kept: kept, it is the next of them. How many are kept then.
@@ -45,7 +45,7 @@ fn row(w: u32, row: RowNumber, next: usize, numbers: &mut [u16], out: &mut [u32]
     ensures { RowPost w row.0 next numbers.old out.old numbers.new out.new result }
 {
     let old = packed::link(w).0;
-    let parent = Link(number::index(numbers[old]));
+    let parent = Link(usize::from(numbers[old]));
     let i = row.0;
     if !is_kept(numbers[i + 1], parent) {
         return next;
@@ -81,7 +81,7 @@ fn renumber(marks: &mut [u16], numbers: &[u16])
     ensures { marks.new ≡ new_links numbers.now marks.old }
 {
     for m in marks.iter_mut() {
-        *m = numbers[number::index(*m)];
+        *m = numbers[usize::from(*m)];
     }
 }
 

@@ -17,11 +17,9 @@ fn put(out: &mut [u8], at: usize, kind: Kind, field: u8, link: Link)
     requires link_bound { link.0 < 65536 }
     ensures { out.new ≡ over at (byte_of kind ∷ field ∷ parent_bytes (of_link link.0)) out.old }
 {
-    let number = number::parent(link);
     out[at] = kind as u8;
     out[at + 1] = field;
-    out[at + 2] = (number % 256) as u8;
-    out[at + 3] = (number / 256) as u8;
+    number::put(out, at + 2, number::parent(link));
 }
 
 // One row's record at a place.
@@ -79,7 +77,7 @@ pub fn marks(out: &mut [u8], marks: &[u16], start: usize)
 {
     let mut at = start;
     for (d, m) in marks.iter().enumerate() {
-        let link = number::index(*m);
+        let link = usize::from(*m);
         mark(out, at, d as u8, Link(link));
         at += mark_length(Link(link));
     }
@@ -92,7 +90,7 @@ pub fn stored_length(count: usize, marks: &[u16]) -> usize
 {
     let mut n = stored::SIZE * count;
     for m in marks {
-        n += mark_length(Link(number::index(*m)));
+        n += mark_length(Link(usize::from(*m)));
     }
     n
 }

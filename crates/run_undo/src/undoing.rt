@@ -90,7 +90,7 @@ fn made_fits(rows: &[u32], marks: &[u16], count: usize, kind: Kind, s: &[u8]) ->
     if !same_kind(w, kind) {
         return false;
     }
-    if packed::tag(w) != number::wide(s[3]) {
+    if packed::tag(w) != u32::from(s[3]) {
         return false;
     }
     same_parent(packed::link(w), s)
@@ -106,7 +106,7 @@ fn cut_fits(rows: &[u32], marks: &[u16], count: usize, s: &[u8]) -> bool
     if count <= row {
         return false;
     }
-    if packed::link(rows[row]).0 != 0 {
+    if packed::link(rows[row]).row().is_some() {
         return false;
     }
     if marks::is_marked(marks, RowNumber(row)) {
@@ -156,7 +156,7 @@ fn undo_all(
 {
     let mut left = count;
     for place in places.iter().rev() {
-        let at = number::index(*place);
+        let at = usize::from(*place);
         left = undo_record(rows, marks, left, &bytes[at..]).map_err(|reason| Refusal {
             reason,
             place: at,

@@ -47,8 +47,8 @@ pub returns-in_ok-mark-in-Mark : goal.returns-in_ok-mark-in-Mark
 returns-in_ok-mark-in-Mark c =
     let x = c.args in
     mark_record x.s.now x.rows.now x.marks.now x.count x.last c.requires (omega (arith, c.if-s-lt-SIZE.false))
-    (mark_here (goal.at.returns-in_ok-mark-in-Mark c).In-Mark) c.mark.new.marks c.byte.result c.in_ok-mark-in-Mark.ensures
-    c.byte.ensures.value
+    (mark_here (goal.at.returns-in_ok-mark-in-Mark c).In-Mark) c.mark.new.marks c.from.result c.in_ok-mark-in-Mark.ensures
+    c.from.ensures
 
 pub returns-then-count-ge-ROWS : goal.returns-then-count-ge-ROWS
 returns-then-count-ge-ROWS c =

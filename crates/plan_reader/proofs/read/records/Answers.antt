@@ -45,12 +45,6 @@ goes c =
     (record_by (Ok c.in_ok-read.read)) post refl in
     ((post.fine refl).held, g.0, g.1)
 
-pub overflow_step-at : goal.overflow_step-at
-overflow_step-at c = let k = goes (goal.at.overflow_step-at c).In_ok-read in search rules
-
-pub loop-at-smaller : goal.loop-at-smaller
-loop-at-smaller c = omega (arith, (goes (goal.at.loop-at-smaller c).In_ok-read).1)
-
 pub loop-at-preserved : goal.loop-at-preserved
 loop-at-preserved c = goes (goal.at.loop-at-preserved c).In_ok-read
 

@@ -8,6 +8,3 @@ use Rattle.plan_reader.proofs.read.records.Given as goal
 abbrev pub invariant-loop-at : goal.invariant-loop-at
 invariant-loop-at l = Held l.rows l.marks l.count l.last × (l.at-counter ≤ length l.bytes) × (read_from
     (length l.bytes - l.at-counter) (decode_parts l.count l.rows l.marks) l.at-counter (drop l.at-counter l.bytes) ≡ read_plan l.bytes)
-
-abbrev pub decreases-loop-at : goal.decreases-loop-at
-decreases-loop-at l = length l.bytes - l.at-counter

@@ -1,6 +1,6 @@
 -- `read::row` refuses the row at the front or adds it to the table, by one law of ReadRecordLaws for each way out.
 use Rattle.std.proofs.Common.{List, ℕ, ◌≤◌, get_or, set, true, false, refl, ◌≡◌, ap, ◌∙◌, sym, arith, rules}
-use Rattle.plan_reader.proofs.ReadRecordLaws.{not_accepted, row_order, row_none, row_child}
+use Rattle.plan_reader.proofs.ReadRecordLaws.{not_accepted, row_none, row_child}
 use Rattle.plan_reader.specs.Reading.{last_of}
 use Rattle.plan_table.specs.Packed.{link_of, pack_row}
 use Rattle.plan_table.specs.Links.{row_by}
@@ -21,16 +21,6 @@ tag c = (omega (arith, c.type_inv.s 1), λ k t. grind arith)
 -- no document marks a row yet
 first : (c : Else-last-ne0) → (ms : List ℕ) → c.args.last ≡ last_of ms → last_of ms ≡ 0
 first c ms e = sym e ∙ search (c.if-last-ne0.false, rules)
-
-pub returns-then-last-ne0 : goal.returns-then-last-ne0
-returns-then-last-ne0 c =
-    let t = tag (goal.at.returns-then-last-ne0 c).Joined-else-eq in
-    record {
-      refusal = λ ms i e.
-          row_order c.args.s.now c.args.rows.now ms c.args.count i c.requires.row t.1 t.0 (λ z. c.if-last-ne0.true (e ∙ z));
-      rows = refl;
-      link = λ z. not_accepted _ z;
-    }
 
 pub returns-then-not-is_lower_element : goal.returns-then-not-is_lower_element
 returns-then-not-is_lower_element c =

@@ -16,7 +16,7 @@ loop-m-init c = flags_none has c.args.numbers.now c.args.marks.now c.requires.cl
 
 pub loop-m-preserved : goal.loop-m-preserved
 loop-m-preserved c =
-    subst (Flagged (take (c.loop-m.m-index + 1) c.args.marks.now)) (sym (rw c.index.ensures.value at
+    subst (Flagged (take (c.loop-m.m-index + 1) c.args.marks.now)) (sym (rw c.from.ensures at
     c.flag_one.ensures))
     (flags_next has c.loop-m.numbers c.args.marks.now (λ (m : ℕ). m) marked_snoc c.loop-m.m-index
     c.loop-m-test.true

@@ -27,7 +27,7 @@ mark-requires c =
     ) in
     record {
       link_bound = c.index-link.ensures.upper_bound;
-      link_in_bounds = rw c.index-link.ensures.value (omega (arith, room));
+      link_in_bounds = rw c.from-link.ensures (omega (arith, room));
     }
 
 pub loop-d-preserved : goal.loop-d-preserved
@@ -43,7 +43,7 @@ loop-d-preserved c =
     ) in
     let told : let a = c.args in
     c.mark_length-at.result ≡ length (mark_bytes c.loop-d.d (of_link
-    (get_or a.marks.now c.loop-d.d 0))) = rw c.index-link.ensures.value at (c.mark_length-at.ensures
+    (get_or a.marks.now c.loop-d.d 0))) = rw c.from-link.ensures at (c.mark_length-at.ensures
     c.loop-d.d) in
     let m = get_or c.args.marks.now c.loop-d.d 0 in (
       omega (
@@ -52,7 +52,7 @@ loop-d-preserved c =
         length_marks c.args.marks.now c.loop-d.d c.loop-d-test.true,
         told,
       ),
-      rw c.index-link.ensures.value at c.mark.ensures ∙
+      rw c.from-link.ensures at c.mark.ensures ∙
           ap (λ (i : ℕ). over i (mark_bytes c.loop-d.d (of_link m)) c.loop-d.out) c.loop-d.invariant.0 ∙
           ap (over (c.args.start + length (marks_bytes 0 (map of_link (take c.loop-d.d c.args.marks.now)))) (mark_bytes
           c.loop-d.d (of_link m)))

@@ -12,7 +12,7 @@ pub overflow_add-n : goal.overflow_add-n
 overflow_add-n c =
     let told : let a = c.args in
     c.mark_length-n.result ≡ length (mark_bytes c.loop-m.m-index (of_link (get_or a.marks.now
-    c.loop-m.m-index 0))) = rw c.index.ensures.value at (c.mark_length-n.ensures c.loop-m.m-index) in
+    c.loop-m.m-index 0))) = rw c.from.ensures at (c.mark_length-n.ensures c.loop-m.m-index) in
     record {
       fits = omega (
         arith,
@@ -27,7 +27,7 @@ pub loop-m-preserved : goal.loop-m-preserved
 loop-m-preserved c =
     let told : let a = c.args in
     c.mark_length-n.result ≡ length (mark_bytes c.loop-m.m-index (of_link (get_or a.marks.now
-    c.loop-m.m-index 0))) = rw c.index.ensures.value at (c.mark_length-n.ensures c.loop-m.m-index) in (
+    c.loop-m.m-index 0))) = rw c.from.ensures at (c.mark_length-n.ensures c.loop-m.m-index) in (
       omega (
         arith,
         c.loop-m.invariant.0,

@@ -17,4 +17,4 @@ returns c =
     c.same_parent.ensures ∙ ap (λ (j : ℕ). same_parent (of_link j) (parent_in (number_at x.s.now 4))) c.link.ensures ∙
     sym (made_parent c.requires.fit x.marks.now c.number_at-row.ensures.value (is_last) (marked_by ∙ c.if-is_marked.false)
     (sym (rw c.requires.front at c.same_kind.ensures) ∙ c.if-not-same_kind.false)
-    (sym c.tag.ensures ∙ search (c.if-tag-wide.false, rules) ∙ c.wide.ensures.value))
+    (sym c.tag.ensures ∙ search (c.if-tag-from.false, rules) ∙ c.from.ensures))

@@ -36,10 +36,10 @@ returns-in_err-left c =
     let r = c.undo_record in
     let f = c.in_err-left.field-0.0 in
     let e : r.result ≡ Err f.reason = grind arith in
-    let a : f.place ≡ c.index-at.result = grind arith in
+    let a : f.place ≡ c.from-at.result = grind arith in
     let p = err_from_is_err_and c.from_residual.result c.from_residual.ensures.1 in
     rw (p.1, p.2, a)
-    (backing_refused c.requires c.args.marks.now c.loop-place.invariant t.0 (c.index-at.ensures.value ∙ t.1) (rw e at r.ensures)
+    (backing_refused c.requires c.args.marks.now c.loop-place.invariant t.0 (c.from-at.ensures ∙ t.1) (rw e at r.ensures)
     (some_number f.reason))
 
 pub loop-place-preserved : goal.loop-place-preserved
@@ -52,7 +52,7 @@ loop-place-preserved c =
     let k : length m - length (ys ++ c.in-Some.place ∷ []) ≡ length m - length ys - 1 =
     omega (arith, length-append ys (c.in-Some.place ∷ [])) in
     rw k
-    (backing_again c.requires c.args.marks.now c.loop-place.invariant t.0 (c.index-at.ensures.value ∙ t.1) (rw e at r.ensures) refl
+    (backing_again c.requires c.args.marks.now c.loop-place.invariant t.0 (c.from-at.ensures ∙ t.1) (rw e at r.ensures) refl
     r.auto.rows)
 
 pub returns : goal.returns
