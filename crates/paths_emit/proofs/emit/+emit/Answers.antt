@@ -62,7 +62,8 @@ returns-then-operands-eq0 t c =
     let place_at : let a = c.args in
     a.place.now + (1 + c.body_size.result) ≡ first_at a.bytes.now a.place.now =
     ap (λ (s : ℕ). c.args.place.now + (1 + s)) (c.body_size.ensures.value ∙ ap body_size c.kind_at-kind.ensures) in
-    nullary_emits c.requires (sym (c.arity-operands.ensures.value ∙ ap arity c.kind_at-kind.ensures) ∙ c.if-operands-eq0.true) (place_at) c.nullary.ensures
+    nullary_emits c.requires
+    (sym (c.arity-operands.ensures.value ∙ ap arity c.kind_at-kind.ensures) ∙ c.if-operands-eq0.true) (place_at) c.nullary.ensures
 
 pub overflow_sub-left-2 : goal.overflow_sub-left-2
 overflow_sub-left-2 t c =
@@ -115,7 +116,8 @@ emit-y-requires t c =
     a.place.now + (1 + c.body_size.result) ≡ first_at a.bytes.now a.place.now =
     ap (λ (s : ℕ). c.args.place.now + (1 + s)) (c.body_size.ensures.value ∙ ap body_size c.kind_at-kind.ensures) in
     first_emitted c.requires (place_at) c.emit-x-2.ensures in
-    (deeper c.requires c.decreases, second_asks (first_at_lem) (many_at) (rw c.kind_at-kind.ensures at c.bind-inside.ensures) (rw c.kind_at-kind.ensures at c.inner.ensures))
+    (deeper c.requires c.decreases, second_asks (first_at_lem) (many_at) (rw c.kind_at-kind.ensures at c.bind-inside.ensures)
+    (rw c.kind_at-kind.ensures at c.inner.ensures))
 
 pub binary-requires : goal.binary-requires
 binary-requires t c =
@@ -132,7 +134,8 @@ binary-requires t c =
     a.place.now + (1 + c.body_size.result) ≡ first_at a.bytes.now a.place.now =
     ap (λ (s : ℕ). c.args.place.now + (1 + s)) (c.body_size.ensures.value ∙ ap body_size c.kind_at-kind.ensures) in
     first_emitted c.requires (place_at) c.emit-x-2.ensures in
-    second_emitted (first_at_lem) (many_at) (rw c.kind_at-kind.ensures at c.bind-inside.ensures) (rw c.kind_at-kind.ensures at c.inner.ensures) c.emit-y.ensures in
+    second_emitted (first_at_lem) (many_at) (rw c.kind_at-kind.ensures at c.bind-inside.ensures)
+    (rw c.kind_at-kind.ensures at c.inner.ensures) c.emit-y.ensures in
     binary_asks (second_at_lem) (sym (c.arity-operands.ensures.value ∙ ap arity c.kind_at-kind.ensures) ∙ c.if-operands-eq2.true)
 
 pub returns-then-operands-eq2 : goal.returns-then-operands-eq2
@@ -150,8 +153,11 @@ returns-then-operands-eq2 t c =
     a.place.now + (1 + c.body_size.result) ≡ first_at a.bytes.now a.place.now =
     ap (λ (s : ℕ). c.args.place.now + (1 + s)) (c.body_size.ensures.value ∙ ap body_size c.kind_at-kind.ensures) in
     first_emitted c.requires (place_at) c.emit-x-2.ensures in
-    second_emitted (first_at_lem) (many_at) (rw c.kind_at-kind.ensures at c.bind-inside.ensures) (rw c.kind_at-kind.ensures at c.inner.ensures) c.emit-y.ensures in
-    binary_emits (second_at_lem) (sym (c.arity-operands.ensures.value ∙ ap arity c.kind_at-kind.ensures) ∙ c.if-operands-eq2.true) (rw c.kind_at-kind.ensures at c.binary.ensures)
+    second_emitted (first_at_lem) (many_at) (rw c.kind_at-kind.ensures at c.bind-inside.ensures)
+    (rw c.kind_at-kind.ensures at c.inner.ensures) c.emit-y.ensures in
+    binary_emits (second_at_lem)
+    (sym (c.arity-operands.ensures.value ∙ ap arity c.kind_at-kind.ensures) ∙ c.if-operands-eq2.true)
+    (rw c.kind_at-kind.ensures at c.binary.ensures)
 
 pub overflow_sub-left-4 : goal.overflow_sub-left-4
 overflow_sub-left-4 t c =
@@ -168,7 +174,8 @@ overflow_sub-left-4 t c =
     a.place.now + (1 + c.body_size.result) ≡ first_at a.bytes.now a.place.now =
     ap (λ (s : ℕ). c.args.place.now + (1 + s)) (c.body_size.ensures.value ∙ ap body_size c.kind_at-kind.ensures) in
     first_emitted c.requires (place_at) c.emit-x-2.ensures in
-    second_emitted (first_at_lem) (many_at) (rw c.kind_at-kind.ensures at c.bind-inside.ensures) (rw c.kind_at-kind.ensures at c.inner.ensures) c.emit-y.ensures in
+    second_emitted (first_at_lem) (many_at) (rw c.kind_at-kind.ensures at c.bind-inside.ensures)
+    (rw c.kind_at-kind.ensures at c.inner.ensures) c.emit-y.ensures in
     (accepted_record (second_at_lem).pre.accepted).depth
 
 pub emit-z-requires : goal.emit-z-requires
@@ -191,7 +198,8 @@ emit-z-requires t c =
     a.place.now + (1 + c.body_size.result) ≡ first_at a.bytes.now a.place.now =
     ap (λ (s : ℕ). c.args.place.now + (1 + s)) (c.body_size.ensures.value ∙ ap body_size c.kind_at-kind.ensures) in
     first_emitted c.requires (place_at) c.emit-x-2.ensures in
-    second_emitted (first_at_lem) (many_at) (rw c.kind_at-kind.ensures at c.bind-inside.ensures) (rw c.kind_at-kind.ensures at c.inner.ensures) c.emit-y.ensures in
+    second_emitted (first_at_lem) (many_at) (rw c.kind_at-kind.ensures at c.bind-inside.ensures)
+    (rw c.kind_at-kind.ensures at c.inner.ensures) c.emit-y.ensures in
     let s = second_at_lem in
     (deeper s.pre c.decreases, third_asks s (three_at))
 
@@ -215,7 +223,8 @@ union-requires t c =
     a.place.now + (1 + c.body_size.result) ≡ first_at a.bytes.now a.place.now =
     ap (λ (s : ℕ). c.args.place.now + (1 + s)) (c.body_size.ensures.value ∙ ap body_size c.kind_at-kind.ensures) in
     first_emitted c.requires (place_at) c.emit-x-2.ensures in
-    second_emitted (first_at_lem) (many_at) (rw c.kind_at-kind.ensures at c.bind-inside.ensures) (rw c.kind_at-kind.ensures at c.inner.ensures) c.emit-y.ensures in
+    second_emitted (first_at_lem) (many_at) (rw c.kind_at-kind.ensures at c.bind-inside.ensures)
+    (rw c.kind_at-kind.ensures at c.inner.ensures) c.emit-y.ensures in
     union_asks (second_at_lem) (three_at) c.emit-z.ensures
 
 pub returns : goal.returns
@@ -238,5 +247,6 @@ returns t c =
     a.place.now + (1 + c.body_size.result) ≡ first_at a.bytes.now a.place.now =
     ap (λ (s : ℕ). c.args.place.now + (1 + s)) (c.body_size.ensures.value ∙ ap body_size c.kind_at-kind.ensures) in
     first_emitted c.requires (place_at) c.emit-x-2.ensures in
-    second_emitted (first_at_lem) (many_at) (rw c.kind_at-kind.ensures at c.bind-inside.ensures) (rw c.kind_at-kind.ensures at c.inner.ensures) c.emit-y.ensures in
+    second_emitted (first_at_lem) (many_at) (rw c.kind_at-kind.ensures at c.bind-inside.ensures)
+    (rw c.kind_at-kind.ensures at c.inner.ensures) c.emit-y.ensures in
     union_emits (second_at_lem) (three_at) c.emit-z.ensures c.union.ensures
