@@ -4,11 +4,11 @@ ghost use Rattle.run_updates.specs.State.{going, came};
 ghost use Rattle.run_insert.specs.Inserting.{copier, copy_link, NextPre, NextPost, ScanPre, ScanPost, ItemPre, ItemPost};
 ghost use Rattle.run_insert.specs.Inserting.{ItemsPre, ItemsPost, InsertPre, InsertPost};
 
-use plan_table::{Link, Reason, RowNumber, Table, number, packed};
+use plan_table::{Link, Reason, RowNumber, Table, packed};
 use run_updates::state::Progress;
 use run_updates::update;
 
-// A row that has no copy.
+// A row that has no copy; a number, since a map of Option<u16> would take twice the 1,024 bytes of stack that yegnabit.h's figures bound.
 const NO_COPY: u16 = 0xFFFF;
 
 // The link to the copy of this parent; none if the parent was not copied since top.
@@ -16,18 +16,13 @@ fn copy_link(map: &[u16], top: RowNumber, link: Link) -> Link
     requires { link.0 ≤ length map.now }
     ensures { result.0 ≡ copy_link map.now top.0 link.0 }
 {
-    if link.0 == 0 {
+    let Some(parent) = link.row() else {
+        return Link(0);
+    };
+    if parent.0 < top.0 || map[parent.0] == NO_COPY {
         return Link(0);
     }
-    let parent = link.0 - 1;
-    if parent < top.0 {
-        return Link(0);
-    }
-    if map[parent] == NO_COPY {
-        return Link(0);
-    }
-    let copy = number::index(map[parent]) + 1;
-    Link(copy)
+    Link::to(Some(RowNumber(usize::from(map[parent.0]))))
 }
 
 // A row of the scan from top: a copy under its parent's copy, if there is one.
@@ -92,8 +87,7 @@ fn copy_item(
     let count = p.count;
     let i = top.0;
     map[i] = count as u16;
-    let link = target.0 + 1;
-    let w = packed::relinked(rows[i], Link(link));
+    let w = packed::relinked(rows[i], Link::to(Some(target)));
     let next = update::new_row(rows, history, p, w)?;
     copy_rest(rows, history, map, next, old, top)
 }
@@ -120,7 +114,7 @@ fn copy_items(
             map,
             now,
             old,
-            RowNumber(number::index(*item)),
+            RowNumber(usize::from(*item)),
             target,
         )?;
     }
@@ -142,7 +136,7 @@ pub fn insert(
     if targets.len() != 1 {
         return Err(Reason::Target);
     }
-    let target = number::index(targets[0]);
+    let target = usize::from(targets[0]);
     if packed::kind(rows[target]) == packed::LEAF {
         return Err(Reason::Target);
     }

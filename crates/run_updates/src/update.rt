@@ -5,7 +5,7 @@ ghost use Rattle.run_updates.specs.Updating.{NewPre, NewPost, ElementPre, LooseP
 
 use crate::history;
 use crate::state::Progress;
-use plan_table::{Link, NameNumber, Reason, RowNumber, Table, number, packed};
+use plan_table::{Link, NameNumber, Reason, RowNumber, Table, packed};
 
 // Row w more, with its record: 10 when the table is full.
 pub fn new_row(
@@ -89,7 +89,7 @@ pub fn delete(rows: &mut [u32], history: &mut [u8], p: Progress, items: &[u16]) 
 {
     let mut now = p;
     for item in items {
-        now = cut_row(rows, history, now, RowNumber(number::index(*item)));
+        now = cut_row(rows, history, now, RowNumber(usize::from(*item)));
     }
     now
 }

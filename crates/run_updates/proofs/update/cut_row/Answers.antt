@@ -8,14 +8,13 @@ pub returns-in_default : goal.returns-in_default
 returns-in_default c =
     cut_root c.requires (sym c.link.ensures ∙ unlinked c.link.result.0 c.in_default.ensures)
 
-pub put_cut-requires : goal.put_cut-requires
-put_cut-requires c =
-    let p = linked c.link.result.0 c.in-Some.ensures in
-    record {
-      cut_size_in_bounds = cut_room c.requires c.link.ensures p.0;
-      row_lt_max_rows = omega (arith, c.requires.row, c.requires.held.few);
-      parent_lt_max_rows = omega (arith, p.1, cut_low c.requires c.link.ensures p.0);
-    }
+pub put_cut-requires-clause-cut_size_in_bounds : goal.put_cut-requires-clause-cut_size_in_bounds
+put_cut-requires-clause-cut_size_in_bounds c =
+    cut_room c.requires c.link.ensures (linked c.link.result.0 c.in-Some.ensures).0
+
+pub put_cut-requires-clause-parent_lt_max_rows : goal.put_cut-requires-clause-parent_lt_max_rows
+put_cut-requires-clause-parent_lt_max_rows c =
+    let p = linked c.link.result.0 c.in-Some.ensures in omega (arith, p.1, cut_low c.requires c.link.ensures p.0)
 
 pub raise_cut-requires : goal.raise_cut-requires
 raise_cut-requires c =

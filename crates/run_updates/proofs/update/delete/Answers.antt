@@ -3,7 +3,7 @@ use Rattle.run_updates.proofs.update.delete.Goals as goal
 
 pub loop-item-preserved : goal.loop-item-preserved
 loop-item-preserved c =
-    delete_again c.loop-item.invariant c.loop-item-test.true c.index.ensures.value c.cut_row-now.ensures
+    delete_again c.loop-item.invariant c.loop-item-test.true c.from.ensures c.cut_row-now.ensures
 
 pub returns : goal.returns
 returns c =
