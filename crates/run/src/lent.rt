@@ -9,7 +9,7 @@ ghost use Rattle.run_updates.specs.State.{going};
 ghost use Rattle.run.specs.Calls.{ended_by, ran, run_result, result_in, RunPre, RunPost};
 
 use plan_table::{Refusal, Table};
-use run_eval::evaluate;
+use run_eval::evaluate::{self, Program};
 use run_operators::record::Evaluated;
 use run_operators::value::Span;
 use run_query::index;
@@ -44,37 +44,21 @@ fn evaluated(
 {
     if !script.contains(&(Kind::For as u8)) {
         let none = [0u16; 1];
-        return evaluate::eval(
+        let program = Program {
             script,
-            0,
-            Table::DEPTH,
-            0,
-            env,
             marks,
-            &none,
-            rows,
-            history,
-            work,
-            0,
-            p,
-        );
+            index: &none,
+        };
+        return evaluate::eval(program, 0, Table::DEPTH, 0, env, rows, history, work, 0, p);
     }
     let mut index = [0u16; index::SIZE];
     index::build(rows, p.count, &mut index);
-    evaluate::eval(
+    let program = Program {
         script,
-        0,
-        Table::DEPTH,
-        0,
-        env,
         marks,
-        &index,
-        rows,
-        history,
-        work,
-        0,
-        p,
-    )
+        index: &index,
+    };
+    evaluate::eval(program, 0, Table::DEPTH, 0, env, rows, history, work, 0, p)
 }
 
 // The run, answer and history cleared.

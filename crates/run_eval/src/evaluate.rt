@@ -18,28 +18,34 @@ use run_updates::state::Progress;
 use script_records::kinds::Kind;
 use script_records::walk;
 
+// What a run reads and never changes: an accepted script, the marks and the index.
+#[derive(Clone, Copy)]
+pub struct Program<'a> {
+    pub script: &'a [u8],
+    pub marks: &'a [u16],
+    pub index: &'a [u16],
+}
+
 // A join, an insert or a let after its first operand, x: the second value stands behind the first.
 #[cycle(binary_branch_each_eval_iterate)]
 fn binary(
-    script: &[u8],
+    program: Program<'_>,
     kind: Kind,
     at: usize,
     left: usize,
     bound: usize,
     env: &[Span; Table::BINDERS],
-    marks: &[u16],
-    index: &[u16],
     rows: &mut [u32],
     history: &mut [u8],
     work: &mut [u16],
     top: usize,
     x: Evaluated,
 ) -> Result<Evaluated, Refusal>
-    requires rest_pre { RestPre script.now (byte_of kind) left (frame bound env.now marks.now top)
+    requires rest_pre { RestPre program.script.now (byte_of kind) left (frame bound env.now program.marks.now top)
         (machine rows.old history.old work.old (going_on x)) }
-    requires index_held { IndexHeld index.now rows.old x.progress.count }
-    ensures { RestPost (binary_rest script.now (byte_of kind) at left) (end_at script.now x.place)
-        (frame bound env.now marks.now top) (machine rows.old history.old work.old (going_on x))
+    requires index_held { IndexHeld program.index.now rows.old x.progress.count }
+    ensures { RestPost (binary_rest program.entry.script.now (byte_of kind) at left) (end_at program.entry.script.now x.place)
+        (frame bound env.now program.entry.marks.now top) (machine rows.old history.old work.old (going_on x))
         (machine rows.new history.new work.new (came_out result)) }
 {
     let mid = x.end;
@@ -47,81 +53,70 @@ fn binary(
     let inside = value::bind(kind, env, bound, top, mid);
     let j = x.place;
     let n = kind.inner(bound);
-    let y = eval(
-        script, j, left, n, &inside, marks, index, rows, history, work, mid, q,
-    )?;
+    let y = eval(program, j, left, n, &inside, rows, history, work, mid, q)?;
     record::combined(kind, at, rows, history, work, top, mid, y)
 }
 
 // An if after its first operand, x: the second operand where x is not empty, else the third.
 #[cycle(binary_branch_each_eval_iterate)]
 fn branch(
-    script: &[u8],
+    program: Program<'_>,
     left: usize,
     bound: usize,
     env: &[Span; Table::BINDERS],
-    marks: &[u16],
-    index: &[u16],
     rows: &mut [u32],
     history: &mut [u8],
     work: &mut [u16],
     top: usize,
     x: Evaluated,
 ) -> Result<Evaluated, Refusal>
-    requires rest_pre { RestPre script.now if_kind left (frame bound env.now marks.now top)
+    requires rest_pre { RestPre program.script.now if_kind left (frame bound env.now program.marks.now top)
         (machine rows.old history.old work.old (going_on x)) }
-    requires accepted { Accepted script.now (end_at script.now x.place) left bound }
-    requires index_held { IndexHeld index.now rows.old x.progress.count }
-    ensures { RestPost (if_rest script.now left)
-        (end_at script.now (end_at script.now x.place))
-        (frame bound env.now marks.now top) (machine rows.old history.old work.old (going_on x))
+    requires accepted { Accepted program.script.now (end_at program.script.now x.place) left bound }
+    requires index_held { IndexHeld program.index.now rows.old x.progress.count }
+    ensures { RestPost (if_rest program.entry.script.now left)
+        (end_at program.entry.script.now (end_at program.entry.script.now x.place))
+        (frame bound env.now program.entry.marks.now top) (machine rows.old history.old work.old (going_on x))
         (machine rows.new history.new work.new (came_out result)) }
 {
     let q = x.progress;
     if x.end == top {
-        let j = walk::end_at(script, x.place);
-        return eval(
-            script, j, left, bound, env, marks, index, rows, history, work, top, q,
-        );
+        let j = walk::end_at(program.script, x.place);
+        return eval(program, j, left, bound, env, rows, history, work, top, q);
     }
     let j = x.place;
-    let y = eval(
-        script, j, left, bound, env, marks, index, rows, history, work, top, q,
-    )?;
-    Ok(record::past(script, y))
+    let y = eval(program, j, left, bound, env, rows, history, work, top, q)?;
+    Ok(record::past(program.script, y))
 }
 
 // A for after its first operand, x: its items stand from top on, its results behind them.
 #[cycle(binary_branch_each_eval_iterate)]
 fn iterate(
-    script: &[u8],
+    program: Program<'_>,
     at: usize,
     left: usize,
     bound: usize,
     env: &[Span; Table::BINDERS],
-    marks: &[u16],
-    index: &[u16],
     rows: &mut [u32],
     history: &mut [u8],
     work: &mut [u16],
     top: usize,
     x: Evaluated,
 ) -> Result<Evaluated, Refusal>
-    requires rest_pre { RestPre script.now for_kind left (frame bound env.now marks.now top)
+    requires rest_pre { RestPre program.script.now for_kind left (frame bound env.now program.marks.now top)
         (machine rows.old history.old work.old (going_on x)) }
-    requires index_held { IndexHeld index.now rows.old x.progress.count }
-    ensures { RestPost (for_rest script.now at left) (end_at script.now x.place)
-        (frame bound env.now marks.now top) (machine rows.old history.old work.old (going_on x))
+    requires index_held { IndexHeld program.index.now rows.old x.progress.count }
+    ensures { RestPost (for_rest program.entry.script.now at left) (end_at program.entry.script.now x.place)
+        (frame bound env.now program.entry.marks.now top) (machine rows.old history.old work.old (going_on x))
         (machine rows.new history.new work.new (came_out result)) }
 {
     let mid = x.end;
     let q = x.progress;
     if mid == top {
-        return Ok(record::past(script, x));
+        return Ok(record::past(program.script, x));
     }
     let y = each(
-        script, at, x.place, left, bound, env, marks, index, rows, history, work, top, mid, mid,
-        mid, q,
+        program, at, x.place, left, bound, env, rows, history, work, top, mid, mid, mid, q,
     )?;
     record::combined(Kind::For, at, rows, history, work, top, mid, y)
 }
@@ -129,14 +124,12 @@ fn iterate(
 // The items between two places: the first, then the others by halves. The results so far stand from top to end. 8 is at the for's place.
 #[cycle(binary_branch_each_eval_iterate)]
 fn each(
-    script: &[u8],
+    program: Program<'_>,
     place: usize,
     at: usize,
     left: usize,
     bound: usize,
     env: &[Span; Table::BINDERS],
-    marks: &[u16],
-    index: &[u16],
     rows: &mut [u32],
     history: &mut [u8],
     work: &mut [u16],
@@ -146,19 +139,17 @@ fn each(
     end: usize,
     p: Progress,
 ) -> Result<Evaluated, Refusal>
-    requires each_pre { EachPre script.now left (loop_of place from to) (frame bound env.now marks.now top)
+    requires each_pre { EachPre program.script.now left (loop_of place from to) (frame bound env.now program.marks.now top)
         (machine rows.old history.old work.old (begun (going p) at end)) }
-    requires index_held { IndexHeld index.now rows.old p.count }
-    ensures { EachPost script.now left (loop_of place from to) (frame bound env.now marks.now top)
+    requires index_held { IndexHeld program.index.now rows.old p.count }
+    ensures { EachPost program.entry.script.now left (loop_of place from to) (frame bound env.now program.entry.marks.now top)
         (machine rows.old history.old work.old (begun (going p) at end))
         (machine rows.new history.new work.new (came_out result)) }
 {
     let next = from + 1;
     let inside = value::bind(Kind::For, env, bound, from, next);
     let n = bound + 1;
-    let y = eval(
-        script, at, left, n, &inside, marks, index, rows, history, work, end, p,
-    )?;
+    let y = eval(program, at, left, n, &inside, rows, history, work, end, p)?;
     let first = record::limited(y, top, place)?;
     if next == to {
         return Ok(first);
@@ -166,68 +157,69 @@ fn each(
     let r = first.progress;
     let half = next + (to - from) / 2;
     let x = each(
-        script, place, at, left, bound, env, marks, index, rows, history, work, next, half, top,
-        first.end, r,
+        program, place, at, left, bound, env, rows, history, work, next, half, top, first.end, r,
     )?;
     if half == to {
         return Ok(x);
     }
     let q = x.progress;
     each(
-        script, place, at, left, bound, env, marks, index, rows, history, work, half, to, top,
-        x.end, q,
+        program, place, at, left, bound, env, rows, history, work, half, to, top, x.end, q,
     )
 }
 
 // The expression at a place, its value to stand from top on.
 #[cycle(binary_branch_each_eval_iterate)]
 pub fn eval(
-    script: &[u8],
+    program: Program<'_>,
     at: usize,
     left: usize,
     bound: usize,
     env: &[Span; Table::BINDERS],
-    marks: &[u16],
-    index: &[u16],
     rows: &mut [u32],
     history: &mut [u8],
     work: &mut [u16],
     top: usize,
     p: Progress,
 ) -> Result<Evaluated, Refusal>
-    requires eval_pre { EvalPre script.now left (frame bound env.now marks.now top)
+    requires eval_pre { EvalPre program.script.now left (frame bound env.now program.marks.now top)
         (machine rows.old history.old work.old (begun (going p) at top)) }
-    requires index_held { IndexHeld index.now rows.old p.count }
-    ensures { EvalPost script.now left (frame bound env.now marks.now top)
+    requires index_held { IndexHeld program.index.now rows.old p.count }
+    ensures { EvalPost program.entry.script.now left (frame bound env.now program.entry.marks.now top)
         (machine rows.old history.old work.old (begun (going p) at top))
         (machine rows.new history.new work.new (came_out result)) }
 {
-    let kind = Kind::try_from(script[at]).unwrap();
+    let kind = Kind::try_from(program.script[at]).unwrap();
     let operands = kind.arity();
     if operands == 0 {
         return record::nullary(
-            kind, script, at, left, bound, env, marks, rows, history, work, top, p,
+            kind,
+            program.script,
+            at,
+            left,
+            bound,
+            env,
+            program.marks,
+            rows,
+            history,
+            work,
+            top,
+            p,
         );
     }
     let i = at + (1 + kind.body_size());
     let k = left - 1;
-    let x = eval(
-        script, i, k, bound, env, marks, index, rows, history, work, top, p,
-    )?;
+    let x = eval(program, i, k, bound, env, rows, history, work, top, p)?;
     if operands == 1 {
-        let operator = Operator::read(kind, script, at);
-        return Ok(record::applied(operator, index, rows, history, work, top, x));
+        let operator = Operator::read(kind, program.script, at);
+        return Ok(record::applied(operator, program.index, rows, history, work, top, x));
     }
     match kind {
-        Kind::If => branch(
-            script, k, bound, env, marks, index, rows, history, work, top, x,
-        ),
-        Kind::For => iterate(
-            script, at, k, bound, env, marks, index, rows, history, work, top, x,
-        ),
+        Kind::If => branch(program, k, bound, env, rows, history, work, top, x),
+        Kind::For => iterate(program, at, k, bound, env, rows, history, work, top, x),
         // A join, a let or an insert.
         _ => binary(
-            script, kind, at, k, bound, env, marks, index, rows, history, work, top, x,
+            program, kind, at, k, bound, env, rows, history, work, top, x,
         ),
     }
 }

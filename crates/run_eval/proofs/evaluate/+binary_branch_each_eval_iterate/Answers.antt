@@ -111,8 +111,8 @@ each-returns t c =
     let first = begin_yields c.requires.each_pre c.bind-inside.ensures c.in_ok-y.ensures refl c.in_ok-first.ensures in
     far_yields c.requires.each_pre first refl c.if-next-to.false c.in_ok-x.ensures refl c.if-half-to.false c.each-2.ensures
 
-pub eval-bounds-script-at : goal.eval-bounds-script-at
-eval-bounds-script-at t c =
+pub eval-bounds-program-at : goal.eval-bounds-program-at
+eval-bounds-program-at t c =
     let a = (accepted_record c.requires.eval_pre.accepted).whole in
     omega (arith, a)
 
@@ -170,8 +170,8 @@ eval-returns-then-operands-eq1 t c =
     unary_yields c.requires.eval_pre size c.in_ok-x.ensures refl count
     c.if-operands-eq1.true c.read-operator.ensures c.applied.ensures
 
-pub eval-branch-script-requires : goal.eval-branch-script-requires
-eval-branch-script-requires t c =
+pub eval-branch-program-requires : goal.eval-branch-program-requires
+eval-branch-program-requires t c =
     let is = kind_is c.try_from.ensures c.unwrap-kind.ensures in
     let size = c.body_size.ensures.value ∙ ap body_size is in
     let three = if_operands c.requires.eval_pre.accepted (sym is ∙ ap byte_of c.in-If.is) in
@@ -188,7 +188,7 @@ eval-returns-in-If t c =
     let size = c.body_size.ensures.value ∙ ap body_size is in
     let three = if_operands c.requires.eval_pre.accepted (sym is ∙ ap byte_of c.in-If.is) in
     three_yields c.requires.eval_pre size c.in_ok-x.ensures refl (sym is ∙ ap byte_of c.in-If.is) three
-    c.branch-script.ensures
+    c.branch-program.ensures
 
 pub eval-iterate-requires : goal.eval-iterate-requires
 eval-iterate-requires t c =
