@@ -14,8 +14,8 @@ loop-d-init c = (
       over_nil c.args.start c.args.out.now),
 )
 
-pub mark-requires : goal.mark-requires
-mark-requires c =
+pub mark-requires-clause-link_in_bounds : goal.mark-requires-clause-link_in_bounds
+mark-requires-clause-link_in_bounds c =
     let room : let a = c.args in
     c.loop-d.at + length (mark_bytes c.loop-d.d (of_link (get_or a.marks.now c.loop-d.d 0))) ≤ length
     a.out.now = omega (
@@ -25,10 +25,7 @@ mark-requires c =
       length_marks c.args.marks.now c.loop-d.d c.loop-d-test.true,
       marks_front 0 (c.loop-d.d + 1) c.args.marks.now,
     ) in
-    record {
-      link_bound = c.index-link.ensures.upper_bound;
-      link_in_bounds = rw c.from-link.ensures (omega (arith, room));
-    }
+    rw c.from-link.ensures (omega (arith, room))
 
 pub loop-d-preserved : goal.loop-d-preserved
 loop-d-preserved c =
