@@ -106,7 +106,7 @@ fn cut_fits(rows: &[u32], marks: &[u16], count: usize, s: &[u8]) -> bool
     if count <= row {
         return false;
     }
-    if packed::link(rows[row]).row().is_some() {
+    if packed::link(rows[row]).0 != 0 {
         return false;
     }
     if marks::is_marked(marks, RowNumber(row)) {
