@@ -14,7 +14,7 @@ pub fn put_file(out: &mut [u8], name: &[u8], refusal: Refusal) -> usize
 {
     let n = text::put(out, 0, b"file ");
     let m = text::put(out, n, name);
-    let k = number::put_field(out, m, u8::from(refusal.reason) as usize);
+    let k = number::put_field(out, m, usize::from(u8::from(refusal.reason)));
     let j = number::put_field(out, k, refusal.place);
     text::put(out, j, b"\n")
 }
@@ -44,8 +44,8 @@ pub fn put_order(out: &mut [u8], at: usize, name: &[u8], order: Result<Ended, Re
         }
         Err(refused) => {
             let m = text::put(out, n, b" refused");
-            let k = number::put_field(out, m, u8::from(refused.script) as usize);
-            let j = number::put_field(out, k, u8::from(refused.reason) as usize);
+            let k = number::put_field(out, m, usize::from(u8::from(refused.script)));
+            let j = number::put_field(out, k, usize::from(u8::from(refused.reason)));
             text::put(out, j, b"\n")
         }
     }

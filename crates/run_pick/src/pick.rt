@@ -5,7 +5,7 @@ ghost use Rattle.model.specs.Step.{signed_key};
 ghost use Rattle.script_records.specs.Relations.{relation_number};
 ghost use Rattle.run_pick.specs.Picking.{leaf_ranks, rank_in, is_kept, KeepsRange, KeepsRelated, PickPre, PickPost};
 
-use plan_table::{RowNumber, number, packed};
+use plan_table::{RowNumber, packed};
 use run_query::step;
 use script_records::pick::Relation;
 use std::num;
@@ -91,7 +91,7 @@ fn between(half: u32, low: u32, high: u32) -> Ranks
 fn related(relation: Relation, constant: u8) -> Ranks
     ensures { KeepsRelated (relation_number relation) constant result.half result.lower result.upper result.many }
 {
-    let c = number::wide(constant);
+    let c = u32::from(constant);
     let k = signed_key(c);
     let past = k + 1;
     match relation {
@@ -118,7 +118,7 @@ pub fn picked(
     let ranks = related(relation, constant);
     let mut at = from;
     for k in from..to {
-        let row = number::index(work[k]);
+        let row = usize::from(work[k]);
         let keep = ranks.picks(rows[row]);
         at = step::append_if(keep, RowNumber(row), work, at);
     }

@@ -8,7 +8,7 @@ ghost use Rattle.run_query.specs.Values.{ScanPre, ScanPost};
 ghost use Rattle.run_query.specs.Index.{IndexHeld};
 
 use crate::{index, step};
-use plan_table::{Link, RowNumber, number, packed};
+use plan_table::{Link, RowNumber, packed};
 use script_records::step::Test;
 
 // Appends a row to the value that ends at a place, if it is a child, by its parent's link, and passes the test; the place past the value.
@@ -28,7 +28,7 @@ fn append_child(
         work.new result }
 {
     let w = rows[row.0];
-    if packed::link(w).0 != link.0 {
+    if packed::link(w) != link {
         return at;
     }
     step::append_if(test.admits(w), row, work, at)
@@ -48,10 +48,10 @@ fn scanned(
     ensures { ScanPost rows.now count (step_by 0 (test_number test) (test_name test)) item.0 low work.old from
         work.new result }
 {
-    let link = item.0 + 1;
+    let link = Link::to(Some(item));
     let mut at = from;
     for j in low..count {
-        at = append_child(rows, RowNumber(j), Link(link), test, work, at);
+        at = append_child(rows, RowNumber(j), link, test, work, at);
     }
     at
 }
@@ -72,16 +72,16 @@ pub(crate) fn children(
     ensures { ItemPost rows.now count (step_by 0 (test_number test) (test_name test)) item.0 work.old from
         work.new result }
 {
-    let link = item.0 + 1;
-    let many = number::index(index[index::COUNT]);
-    if many < link {
-        return scanned(rows, count, item, test, link, work, from);
+    let link = Link::to(Some(item));
+    let many = usize::from(index[index::COUNT]);
+    if many < link.0 {
+        return scanned(rows, count, item, test, link.0, work, from);
     }
     let mut at = from;
-    let mut j = number::index(index[link]);
+    let mut j = usize::from(index[link.0]);
     while j < many {
-        at = append_child(rows, RowNumber(j), Link(link), test, work, at);
-        j = number::index(index[index::NEXT + j]);
+        at = append_child(rows, RowNumber(j), link, test, work, at);
+        j = usize::from(index[index::NEXT + j]);
     }
     scanned(rows, count, item, test, many, work, at)
 }
@@ -99,12 +99,10 @@ pub(crate) fn parent(
     ensures { ItemPost rows.now count (step_by 2 (test_number test) (test_name test)) item.0 work.old from
         work.new result }
 {
-    let l = packed::link(rows[item.0]).0;
-    if l == 0 {
+    let Some(row) = packed::link(rows[item.0]).row() else {
         return from;
-    }
-    let row = l - 1;
-    step::append_if(test.admits(rows[row]), RowNumber(row), work, from)
+    };
+    step::append_if(test.admits(rows[row.0]), row, work, from)
 }
 
 // How many rows above an item pass the test.

@@ -9,7 +9,7 @@ ghost use Rattle.run_query.specs.Values.{kept, kept_rows, CollectPre, Appended, 
 ghost use Rattle.run_query.specs.Index.{IndexHeld};
 
 use crate::item;
-use plan_table::{RowNumber, Table, number, packed};
+use plan_table::{RowNumber, Table, packed};
 use script_records::step::{Axis, Step, Test};
 
 // Flags each item of a value; no row below the answer, at most the count, has a flag.
@@ -20,7 +20,7 @@ fn flag(flags: &mut [u8], items: &[u16], count: usize) -> usize
 {
     let mut low = count;
     for item in items {
-        let at = number::index(*item);
+        let at = usize::from(*item);
         flags[at + 1] = 1;
         if at < low {
             low = at;

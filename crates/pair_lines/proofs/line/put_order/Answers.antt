@@ -1,5 +1,5 @@
 -- `lines::put_order` places the line of an order, ended or refused.
-use Rattle.std.proofs.Common.{ap}
+use Rattle.std.proofs.Common.{ap, ◌∙◌}
 use Rattle.pair_orders.specs.Orders.{order_told}
 use Rattle.pair_lines.proofs.LineLaws.{refused_placed, ended_placed}
 use Rattle.pair_lines.proofs.line.put_order.Goals as goal
@@ -12,5 +12,5 @@ returns-in-Ok c =
 pub returns-in-Err : goal.returns-in-Err
 returns-in-Err c =
     refused_placed c.requires (ap order_told c.in-Err.is) c.put-n.ensures c.put-m.ensures
-    (rw c.from.ensures at c.put_field-k-in-Err.ensures)
-    (rw c.from-in-Err.ensures at c.put_field-j-in-Err.ensures) c.put-in-Err.ensures
+    (rw (c.from-in-Err.ensures ∙ c.from.ensures) at c.put_field-k-in-Err.ensures)
+    (rw (c.from-in-Err-3.ensures ∙ c.from-in-Err-2.ensures) at c.put_field-j-in-Err.ensures) c.put-in-Err.ensures

@@ -18,13 +18,13 @@ loop-k-init c =
 
 pub bounds-rows-row : goal.bounds-rows-row
 bounds-rows-row c =
-    let item_low : c.index-row.result < max_rows = let a = c.args in
+    let item_low : c.from-row.result < max_rows = let a = c.args in
     let l = c.loop-k in
     let k : l.k - a.from < a.to - a.from = omega arith in
     let e : a.from + (l.k - a.from) ≡ l.k = omega arith in
     omega (
       arith,
-      c.index-row.ensures.value,
+      c.from-row.ensures,
       rest_at a.work.now l.work l.k l.invariant.2,
       c.requires.low (l.k - a.from) k,
       get_or-take (a.to - a.from) (drop a.from a.work.now) (l.k - a.from) 0 k,
@@ -40,9 +40,9 @@ loop-k-preserved c =
     let a = c.args in
     let p = c.requires in
     let l = c.loop-k in
-    let i = c.index-row in
+    let i = c.from-row in
     let s = c.append_if-at in
-    let here = i.ensures.value ∙ rest_at a.work.now l.work l.k l.invariant.2 in
+    let here = i.ensures ∙ rest_at a.work.now l.work l.k l.invariant.2 in
     let known = c.type_inv.rows i.result in
     let kept = c.related-ranks.ensures
     (get_or a.rows.now i.result 0) (omega (arith, known)) in

@@ -10,7 +10,7 @@ use Rattle.run_query.proofs.item.children.Given as goal
 
 abbrev pub invariant-loop-j : goal.invariant-loop-j
 invariant-loop-j l = (l.j ≤ l.many) ×
-    ((s : IndexHeld l.index l.rows l.count) → l.j < l.many → link_in (get_or s.before l.j 0) ≡ l.link) ×
+    ((s : IndexHeld l.index l.rows l.count) → l.j < l.many → link_in (get_or s.before l.j 0) ≡ l.item.0 + 1) ×
     SteppedTo l.rows l.count (step_by 0 (test_number l.test) (test_name l.test)) (l.item.0 ∷ []) l.j l.initial.work l.from l.work l.at ×
     (l.at ≤ l.from + l.j)
 

@@ -10,7 +10,7 @@ loop-j-preserved c = (
   (λ u start a ms.
       collected_next c.args.rows.now c.args.count c.requires.held (test_number c.args.test) (test_name c.args.test) ms
       c.args.item.0 c.loop-j.j
-      (c.loop-j.j + 1) c.loop-j-test.true (c.loop-j.invariant.0 u start a ms) c.append_child-at.ensures
+      (c.loop-j.j + 1) c.loop-j-test.true (c.loop-j.invariant.0 u start a ms) (rw c.to-link.ensures at c.append_child-at.ensures)
       (skipped_none c.args.rows.now c.args.count (c.args.item.0 + 1) (c.loop-j.j + 1) (omega arith))),
   omega (arith, c.loop-j.invariant.1, c.append_child-at.ensures.short),
 )

@@ -20,9 +20,9 @@ loop-item-init c = (
 pub loop-item-preserved : goal.loop-item-preserved
 loop-item-preserved c = (
   subst (λ (j : ℕ). Flagged (take (c.loop-item.item-index + 1) c.args.items.now) (set c.loop-item.flags (j + 1) 1))
-      (sym c.index-at.ensures.value)
+      (sym c.from-at.ensures)
       (flags_more has c.loop-item.flags c.args.items.now (λ (j : ℕ). j + 1) among_snoc c.loop-item.item-index c.loop-item-test.true
       c.loop-item.invariant.0 (λ e. omega arith) (omega (arith, c.requires.low c.loop-item.item-index c.loop-item-test.true))),
-  clear_next c.loop-item.invariant.1 c.index-at.result c.if-at-low.low
+  clear_next c.loop-item.invariant.1 c.from-at.result c.if-at-low.low
       (omega arith) (omega arith),
 )
