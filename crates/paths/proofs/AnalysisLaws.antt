@@ -58,7 +58,8 @@ module _ {b ws : List ℕ} {n₀ : ℕ} (pre : ScriptPre b ws n₀) {env : List 
     where
       before : entries_in ws n₀ ≡ entries_before
       before =
-          ap (entries_in ws) pre.count ∙ ap (map entry_of) (take-suc ws 0 0 (omega (arith, pre.size))) ∙ ap (λ (w : ℕ). entry_of w ∷ []) pre.zero
+          ap (entries_in ws) pre.count ∙ ap (map entry_of) (take-suc ws 0 0 (omega (arith, pre.size))) ∙ ap (λ (w : ℕ). entry_of w ∷ [])
+          pre.zero
 
 -- what the answer asks of them
 pub fronts_asks : (b : List ℕ) {ws : List ℕ} {n : ℕ} → ScriptPost b ws n → PositionsPre (take n ws)

@@ -11,7 +11,8 @@ use Rattle.model.specs.Meeting.{admits_element, admits_leaf, is_named, is_deep}
 use Rattle.model.proofs.BoolLaws.{eq_cases}
 use Rattle.paths_positions.specs.Positions as positions
 use Rattle.paths_positions.specs.Positions.{Entry, entry_at, IsLower}
-use Rattle.paths_positions.specs.Packed.{Position, step_in, position_by, fields_of, entry_of, entries_by, root_kind, over_kind, union_kind, kinds}
+use Rattle.paths_positions.specs.Packed.{Position, step_in, position_by, fields_of, entry_of, entries_by, root_kind, over_kind}
+use Rattle.paths_positions.specs.Packed.{union_kind, kinds}
 use Rattle.paths_positions.proofs.PackedLaws.{fields_low}
 use Rattle.paths_cells.proofs.MarkLaws.{bit_set}
 use Rattle.paths_rows.specs.Columns.{Columns, column_at, is_set_at, first_field, second_field, kind_field, deep_field, element_field}

@@ -20,11 +20,13 @@ use Rattle.paths_positions.specs.Steps.{max_positions}
 use Rattle.paths_positions.proofs.AnyUpToLaws.{any_up_to_none, any_up_to_below, any_up_to_found, any_up_to_next, any_up_to_zero}
 use Rattle.paths_positions.proofs.PositionLaws.{first_nowhere, first_union}
 use Rattle.paths_cells.specs.declared.pairs.Relation.TheVariants.{OnElement, Down, Up, OnLeaf}
-use Rattle.paths_cells.specs.Pairs.{relation_number, on_element, on_leaf, relations, place_of, mark_at, is_marked, marked, PairPre, MarkPre}
+use Rattle.paths_cells.specs.Pairs.{relation_number, on_element, on_leaf, relations, place_of, mark_at, is_marked, marked}
+use Rattle.paths_cells.specs.Pairs.{PairPre, MarkPre}
 use Rattle.paths_cells.proofs.MarkLaws.{same_rows, fewer_rows, marked_is, mark_length, mark_here, mark_others}
 use Rattle.paths_rows.specs.Columns.{Columns, role_field}
 use Rattle.paths_rows.specs.Rows.{RowMarked, is_yes, UnionPre, either_by, MetPre, met_by}
-use Rattle.paths_fill.specs.Filling.{roleless, held_by, holds_at, Filled, FillPre, UnionsPre, UnionsPost, KindRowPre, Apart, RowPre, RowPost}
+use Rattle.paths_fill.specs.Filling.{roleless, held_by, holds_at, Filled, FillPre, UnionsPre, UnionsPost, KindRowPre, Apart}
+use Rattle.paths_fill.specs.Filling.{RowPre, RowPost}
 use Rattle.paths_fill.specs.Filling.{MeetsPre, TablePre}
 use Rattle.paths_fill.proofs.KindLaws.{entry_at_lem, position_at, entries_length, lower_at}
 use Rattle.paths_fill.proofs.RestLaws.{held_join}
@@ -154,7 +156,8 @@ module _ {ws us c t : List ℕ} {k : ℕ} {p : Position} (pre : KindRowPre ws us
       }
 
 -- A ROW of any kind
-pub of_kind : {ws us c live t : List ℕ} {k : ℕ} → RowPre ws us c live t k → (p : Position) (n : ℕ) → roleless p ≡ roleless (fields_of (get_or ws k 0)) →
+pub of_kind : {ws us c live t : List ℕ} {k : ℕ} → RowPre ws us c live t k → (p : Position) (n : ℕ) → roleless p ≡ roleless
+    (fields_of (get_or ws k 0)) →
     p.kind ≡ n →
     KindRowPre ws us c t k p n
 of_kind pre p n e f = record { fill = pre.fill; filled = pre.filled; position = e; kind = f }

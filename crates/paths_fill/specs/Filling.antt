@@ -95,7 +95,8 @@ source_by d = cond d up on_element
 abbrev pub roleless : Position → Position
 roleless p = record p { role = plain_role }
 
--- A ROW, p being position k but for its role, of a kind; and of any kind, where `live` says which lower rows may have something in common with some
+-- A ROW, p being position k but for its role, of a kind; and of any kind, where `live` says which lower rows may have something in
+-- common with some
 pub record KindRowPre (ws us c t : List ℕ) (k : ℕ) (p : Position) (n : ℕ) : Type 0 where
   pub fill : FillPre ws us c k
   pub filled : Filled ws us k t

@@ -12,7 +12,8 @@ use Rattle.model.proofs.BoolLaws.{cond_cases}
 use Rattle.model.proofs.ListLaws.{take_set}
 use Rattle.paths_positions.specs.Steps.{max_positions}
 use Rattle.paths_positions.specs.Packed.{Position, entry_by, kinds, roles, axes, tests, labels, pack_position, digits_of, PositionFits}
-use Rattle.paths_positions.specs.Packed.{root_kind, over_kind, accessed_role, modified_role, known_role, fields_in, fields_of, cleaned, entry_of, entries_in, PushPost}
+use Rattle.paths_positions.specs.Packed.{root_kind, over_kind, accessed_role, modified_role, known_role, fields_in, fields_of}
+use Rattle.paths_positions.specs.Packed.{cleaned, entry_of, entries_in, PushPost}
 use Rattle.paths_positions.specs.declared.packed.Role.{Role}
 use Rattle.paths_positions.specs.declared.packed.Role.TheVariants.{Plain, Accessed, Modified}
 use Rattle.paths_positions.specs.declared.packed.Position as declared
@@ -85,7 +86,8 @@ module _ (p : declared.Position) (f : PositionFits (fields_in p)) where
   fields_packed : fields_of (pack_position (fields_in p)) ≡ fields_in p
   fields_packed = ap cleaned (digits_packed (fields_in p) f) ∙ cleaned_in p
 
-  pub position_pushed : (ws : List ℕ) (n : ℕ) → n < length ws → PushPost ws n (fields_in p) (set ws n (pack_position (fields_in p))) (n + 1) n
+  pub position_pushed : (ws : List ℕ) (n : ℕ) → n < length ws → PushPost ws n (fields_in p) (set ws n (pack_position (fields_in p)))
+      (n + 1) n
   position_pushed ws n h =
       let w = pack_position (fields_in p) in
       record {

@@ -75,8 +75,8 @@ HeldIn s = Held s.rows s.history s.progress
 abbrev pub AfterIn : (before after : Machine) → Type 0
 AfterIn s s' = After s.rows s.history s.progress s'.rows s'.history s'.progress
 
--- FINE: where nothing is refused, rows and records are only added, the value stands from top on, the area below is as it was, and the place
--- is next, past the expression
+-- FINE: where nothing is refused, rows and records are only added, the value stands from top on, the area below is as it was, and the
+-- place is next, past the expression
 pub record Fine (next : ℕ) (f : Frame) (s s' : Machine) : Type 0 where
   pub after : AfterIn s s'
   pub size : length s'.work ≡ length s.work

@@ -1,5 +1,5 @@
--- A test or a relation of a number that no type has is as the last one of them: a test of 3 or more is the named element's, a relation of 2 or
--- more is greater.
+-- A test or a relation of a number that no type has is as the last one of them: a test of 3 or more is the named element's, a relation
+-- of 2 or more is greater.
 use mathlib.Core.Path.{◌≡◌}
 use Prim.Native.Nat.{ℕ, ◌+◌}
 use native.Mathlib.Omega.{arith}

@@ -11,7 +11,8 @@ use Rattle.script_records.specs.declared.kinds.Kind.{Kind}
 use Rattle.script_records.specs.declared.kinds.Kind.TheVariants.{Nil, Document, Variable, Step, Join, Let, For, If, NewElement, NewLeaf}
 use Rattle.script_records.specs.declared.kinds.Kind.TheVariants.{Delete, Insert, Pick}
 
-pub no_kind : (k : ℕ) → (k ≡ nil_kind → ⊥) × (k ≡ document_kind → ⊥) × (k ≡ variable_kind → ⊥) × (k ≡ step_kind → ⊥) × (k ≡ join_kind → ⊥) ×
+pub no_kind : (k : ℕ) → (k ≡ nil_kind → ⊥) × (k ≡ document_kind → ⊥) × (k ≡ variable_kind → ⊥) × (k ≡ step_kind → ⊥) × (k ≡ join_kind → ⊥)
+    ×
     (k ≡ let_kind → ⊥) × (k ≡ for_kind → ⊥) × (k ≡ if_kind → ⊥) × (k ≡ new_element_kind → ⊥) × (k ≡ new_leaf_kind → ⊥) ×
     (k ≡ delete_kind → ⊥) × (k ≡ insert_kind → ⊥) × (k ≡ pick_kind → ⊥) → is_script_kind k ≡ false
 unfolding script_kinds

@@ -8,7 +8,8 @@ use Rattle.run_query.proofs.item.ancestors.Given as goal
 
 abbrev pub invariant-loop-l : goal.invariant-loop-l
 invariant-loop-l l = (l.l ≤ l.count) ×
-    ((ms : List ℕ) → Rising (way_from l.rows l.count (test_number l.test) (test_name l.test) (link_in (get_or l.rows l.fn.item.0 0)) ms) l.initial.work
+    ((ms : List ℕ) → Rising (way_from l.rows l.count (test_number l.test) (test_name l.test) (link_in (get_or l.rows l.fn.item.0 0)) ms)
+    l.initial.work
     l.from (way_from l.rows l.count (test_number l.test) (test_name l.test) l.l ms) l.work l.at)
 
 abbrev pub decreases-loop-l : goal.decreases-loop-l

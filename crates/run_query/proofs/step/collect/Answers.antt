@@ -12,7 +12,8 @@ room c =
       arith,
       c.loop-j.invariant.end,
       length_collect
-          (λ (i : ℕ). kept c.args.rows.now i (get_or c.args.reached.now (i + 1) 0) (test_number c.args.test) (test_name c.args.test)) 0 c.loop-j.j,
+          (λ (i : ℕ). kept c.args.rows.now i (get_or c.args.reached.now (i + 1) 0) (test_number c.args.test) (test_name c.args.test)) 0
+          c.loop-j.j,
       c.requires.room,
       c.requires.few,
     )
@@ -25,7 +26,8 @@ append_if-at-requires-clause-at_in_bounds c = room (goal.at.append_if-at-require
 
 pub loop-j-preserved : goal.loop-j-preserved
 loop-j-preserved c =
-    collected_by (λ (i : ℕ). kept c.args.rows.now i (get_or c.args.reached.now (i + 1) 0) (test_number c.args.test) (test_name c.args.test))
+    collected_by (λ (i : ℕ). kept c.args.rows.now i (get_or c.args.reached.now (i + 1) 0) (test_number c.args.test)
+    (test_name c.args.test))
     c.loop-j.j c.args.work.now c.loop-j.work c.args.from c.loop-j.at (room (goal.at.loop-j-preserved c).In-loop-j)
     c.loop-j.invariant c.keeps-keep.result c.append_if-at.new.work c.append_if-at.result c.keeps-keep.ensures
     c.append_if-at.ensures.work_after c.append_if-at.ensures.value
