@@ -2,33 +2,18 @@
 use mathlib.Core.Path.{◌≡◌, refl, ap, sym, ◌∙◌}
 use mathlib.Core.List.{List, [], ◌∷◌, ◌++◌, map, map-append, append_assoc, append-nil}
 use mathlib.Core.Option.{Option, none, some}
-use Prim.Native.Nat.{ℕ, zero, suc, ◌+◌, ◌*◌, ◌-◌, ◌≤◌, ◌<◌}
+use Prim.Native.Nat.{ℕ, zero, suc, ◌+◌, ◌*◌, ◌≤◌, ◌<◌}
 use native.Mathlib.Omega.{arith}
 use native.Mathlib.Nat.{add-zero}
 use lib.ListN.{length, get_or, take, length-append, length-map}
 use lib.Seq.{take_all, length-take-le}
-use borrow.Author.Tests.{ne_eqb}
 use Rattle.model.specs.Table as model
-use Rattle.model.specs.Stored.{number_bytes, parent_bytes, row_bytes, rows_bytes, mark_bytes, marks_bytes, element_kind, leaf_kind}
-use Rattle.model.specs.Stored.{mark_kind}
+use Rattle.model.specs.Stored.{row_bytes, rows_bytes, mark_bytes, marks_bytes}
 use Rattle.model.proofs.BytesLaws.{length_parent_bytes, rows_bytes_snoc}
-use Rattle.plan_table.specs.Packed.{leaf_bits, of_link, row_of, rows_of, kind_in, link_in, tag_in}
+use Rattle.plan_table.specs.Packed.{of_link, row_of, rows_of}
 use Rattle.model.specs.Base.{over}
 use Rattle.plan_table.proofs.PackedLaws.{count_decode, take_rows}
 use Rattle.model.proofs.ListLaws.{take_next, over_over, over_nil}
-
--- ONE PACKED ROW, as bytes
-pub row_leaf : (w : ℕ) → kind_in w ≡ leaf_bits → row_bytes (row_of w) ≡ leaf_kind ∷ tag_in w ∷ parent_bytes (of_link (link_in w))
-row_leaf w h = rw h
-
-pub row_element : (w : ℕ) → (kind_in w ≡ leaf_bits → ⊥) →
-    row_bytes (row_of w) ≡ element_kind ∷ tag_in w ∷ parent_bytes (of_link (link_in w))
-row_element w h = rw (ne_eqb (kind_in w) leaf_bits h)
-
-pub row_bytes_lem : (w k t l : ℕ) → t ≡ tag_in w → l ≡ link_in w →
-    k ∷ t ∷ parent_bytes (of_link l) ≡ k ∷ tag_in w ∷ parent_bytes (of_link (link_in w))
-row_bytes_lem w k t l e f = ap (λ (j : ℕ). k ∷ t ∷ parent_bytes (of_link j)) f ∙
-    ap (λ (j : ℕ). k ∷ j ∷ parent_bytes (of_link (link_in w))) e
 
 -- ROWS, one more
 length_row_bytes : (r : model.Row) → length (row_bytes r) ≡ 4
@@ -91,12 +76,6 @@ module _ (ms : List ℕ) (d : ℕ) (h : d < length ms) where
       ap (λ (b : List ℕ). over start b o) (sym marks_next)
 
 -- a mark's record
-pub mark_none : (d l : ℕ) → l ≡ 0 → mark_bytes d (of_link l) ≡ []
-mark_none d l e = rw e
-
-pub mark_some : (d l : ℕ) → (l ≡ 0 → ⊥) → mark_bytes d (of_link l) ≡ mark_kind ∷ d ∷ number_bytes (l - 1)
-mark_some d l z = rw (ne_eqb l 0 z)
-
 pub length_mark : (d : ℕ) (m : Option ℕ) → length (mark_bytes d m) ≤ 4
 length_mark d none = omega arith
 length_mark d (some i) = omega arith
