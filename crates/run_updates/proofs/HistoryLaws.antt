@@ -18,10 +18,6 @@ use Rattle.run_updates.specs.declared.tally.Tally.{Tally}
 use Rattle.run_updates.specs.State.{records_from, records_in, Recorded}
 use Rattle.run_updates.specs.Updating.{made_kind, six_bytes}
 
--- BYTES of a record
-pub made_six : (w i k t l : ℕ) → k ≡ made_kind w → t ≡ tag_in w → l ≡ link_in w → six_bytes k i t l ≡ record_bytes (made i (row_of w))
-made_six w i k t l e f g = rw (e, f, g)
-
 -- RECORDS written and read back
 records_from_step : (k : ℕ) (r : Record) (c : List ℕ) → IsInRange r → records_from (suc k) (record_bytes r ++ c) ≡ r ∷ records_from k c
 unfolding records_from
