@@ -132,9 +132,10 @@ fn nullary(
         positions.new.items positions.new.count result }
 {
     match kind {
-        Kind::Document => positions.push(Position::Root {
-            document: u16::from(bytes[at + 1]),
-        }),
+        Kind::Document => {
+            let (role, document) = (Role::Accessed, u16::from(bytes[at + 1]));
+            positions.push(Position::Root { role, document })
+        }
         Kind::Variable => usize::from(env[usize::from(bytes[at + 1])]),
         Kind::Nil | Kind::NewElement | Kind::NewLeaf => 0,
         Kind::Step | Kind::Join | Kind::Let | Kind::For | Kind::If => 0,

@@ -219,7 +219,7 @@ fn row(
 {
     match Position::unpacked(first[k]) {
         Position::Nothing => false,
-        Position::Root { document } => root_row(first, second, columns, table, k, document),
+        Position::Root { document, .. } => root_row(first, second, columns, table, k, document),
         Position::Over {
             role: _,
             step,

@@ -7,3 +7,4 @@ pub mod TraverseLaws
 pub mod AnswerLaws
 pub mod PackedLaws
 pub mod UpLaws
+pub mod CleanLaws

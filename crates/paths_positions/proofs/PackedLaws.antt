@@ -76,7 +76,9 @@ over_clean Modified a (Named n) i = refl
 
 cleaned_in : (p : declared.Position) → cleaned (fields_in p) ≡ fields_in p
 cleaned_in Nothing = refl
-cleaned_in (Root d) = refl
+cleaned_in (Root Plain d) = refl
+cleaned_in (Root Accessed d) = refl
+cleaned_in (Root Modified d) = refl
 cleaned_in (Over m s i) = over_clean m s.axis s.test i
 cleaned_in (Union Plain i j) = refl
 cleaned_in (Union Accessed i j) = refl
@@ -109,7 +111,7 @@ cleaned_fits : (p : Position) → PositionFits p → PositionFits (cleaned p)
 cleaned_fits p f =
     cond_cases PositionFits (eqb p.kind 0) (λ _. fitting (omega arith) (omega arith) (omega arith) (omega arith) (omega arith)
     (omega arith) (omega arith))
-    (λ _. cond_cases PositionFits (eqb p.kind root_kind) (λ _. fitting (omega arith) (omega arith) (omega arith) (omega arith) f.label
+    (λ _. cond_cases PositionFits (eqb p.kind root_kind) (λ _. fitting (omega arith) (role_fits p.role) (omega arith) (omega arith) f.label
     (omega arith) (omega arith))
     (λ _. cond_cases PositionFits (eqb p.kind over_kind) (λ _. fitting (omega arith) (role_fits p.role) f.axis f.test
     (cond_cases (λ x. x < labels) (eqb p.test 3) (λ _. f.label) (λ _. omega arith)) f.first (omega arith))

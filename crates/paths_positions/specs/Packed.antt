@@ -60,9 +60,12 @@ with_role m p = record { position = p; accessed = eqb m accessed_role; modified 
 abbrev pub entry_by : Position → positions.Entry
 entry_by p = with_role p.role (position_by p)
 
--- the fields of a document's root, accessed; of a step over a position, and of two positions, in a role
+-- the fields of a document's root, accessed; of a root, of a step over a position, and of two positions, in a role
 abbrev pub root_by : (document : ℕ) → Position
 root_by d = record { kind = root_kind; role = accessed_role; axis = 0; test = 0; label = d; first = 0; second = 0 }
+
+abbrev pub root_as : (role document : ℕ) → Position
+root_as m d = record { kind = root_kind; role = m; axis = 0; test = 0; label = d; first = 0; second = 0 }
 
 abbrev pub over_by : (role : ℕ) → model.Step → (operand : ℕ) → Position
 over_by m s i = record { kind = over_kind; role = m; axis = s.axis; test = s.test; label = s.name; first = i; second = 0 }
@@ -82,7 +85,7 @@ role_number Modified = modified_role
 
 abbrev pub fields_in : declared.Position → Position
 fields_in Nothing = no_fields
-fields_in (Root d) = root_by d
+fields_in (Root m d) = root_as (role_number m) d
 fields_in (Over m s i) = over_by (role_number m) (step_of s) i
 fields_in (Union m i j) = union_by (role_number m) i j
 
@@ -136,7 +139,7 @@ known_name t n = cond (eqb t 3) n 0
 abbrev pub cleaned : Position → Position
 cleaned p =
     cond (eqb p.kind 0) no_fields
-    (cond (eqb p.kind root_kind) (root_by p.label)
+    (cond (eqb p.kind root_kind) (root_as (known_role p.role) p.label)
     (cond (eqb p.kind over_kind) (over_by (known_role p.role) (step_by p.axis p.test (known_name p.test p.label)) p.first)
     (union_by (known_role p.role) p.first p.second)))
 
@@ -147,7 +150,7 @@ fields_of w = cleaned (digits_of w)
 -- operands that are numbers of positions
 abbrev pub OperandsFit : declared.Position → Type 0
 OperandsFit Nothing = Unit
-OperandsFit (Root d) = Unit
+OperandsFit (Root m d) = Unit
 OperandsFit (Over m s i) = i < max_positions
 OperandsFit (Union m i j) = (i < max_positions) × (j < max_positions)
 

@@ -43,11 +43,12 @@ impl From<Role> for u8 {
     }
 }
 
-// A position: nothing, a document's root, accessed, a step over another position, or two positions together.
+// A position: nothing, a document's root, a step over another position, or two positions together.
 #[derive(Clone, Copy, Debug, PartialEq, Eq)]
 pub enum Position {
     Nothing,
     Root {
+        role: Role,
         document: u16,
     },
     Over {
@@ -121,8 +122,9 @@ impl Position {
     {
         match self {
             Position::Nothing => Role::Plain,
-            Position::Root { .. } => Role::Accessed,
-            Position::Over { role, .. } | Position::Union { role, .. } => role,
+            Position::Root { role, .. }
+            | Position::Over { role, .. }
+            | Position::Union { role, .. } => role,
         }
     }
 
@@ -144,7 +146,7 @@ impl Position {
     {
         let (kind, role, step, operands) = match self {
             Position::Nothing => (0, Role::Plain, 0, 0),
-            Position::Root { document } => (1, Role::Accessed, SHAPES * usize::from(document), 0),
+            Position::Root { role, document } => (1, role, SHAPES * usize::from(document), 0),
             Position::Over {
                 role,
                 step,
@@ -173,7 +175,10 @@ impl Position {
         let first = operands % POSITIONS;
         match packed % KINDS {
             0 => Position::Nothing,
-            1 => Position::Root { document: label },
+            1 => Position::Root {
+                role,
+                document: label,
+            },
             2 => Position::Over {
                 role,
                 step: Step {

@@ -5,7 +5,7 @@ ghost use Rattle.paths_rows.specs.Columns.{fields_by, column_at, is_set_at, Fiel
 
 use paths_cells::pairs;
 use paths_positions::POSITIONS;
-use paths_positions::packed::{Position, Role};
+use paths_positions::packed::Position;
 
 // The fields: the number of the first and the second operand, the kind, the role; then yes or no: a descendant step, one that some
 // element passes, one that some leaf passes, one with a name; then the two bytes of the label.
@@ -48,9 +48,9 @@ fn fields(q: Position) -> [u8; FIELDS]
 {
     match q {
         Position::Nothing => [0; FIELDS],
-        Position::Root { document } => {
+        Position::Root { role, document } => {
             let (low, high) = ((document % 256) as u8, (document / 256) as u8);
-            [0, 0, ROOT, u8::from(Role::Accessed), 0, 0, 0, 0, low, high]
+            [0, 0, ROOT, u8::from(role), 0, 0, 0, 0, low, high]
         }
         Position::Over {
             role,

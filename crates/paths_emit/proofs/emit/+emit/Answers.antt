@@ -115,9 +115,11 @@ emit-y-requires t c =
     e.positions.items e.positions.count c.emit-x-2.result = let place_at : let a = c.args in
     a.place.now + (1 + c.body_size.result) ≡ first_at a.bytes.now a.place.now =
     ap (λ (s : ℕ). c.args.place.now + (1 + s)) (c.body_size.ensures.value ∙ ap body_size c.kind_at-kind.ensures) in
-    first_emitted c.requires (place_at) c.emit-x-2.ensures in
-    (deeper c.requires c.decreases, second_asks (first_at_lem) (many_at) (rw c.kind_at-kind.ensures at c.bind-inside.ensures)
-    (rw c.kind_at-kind.ensures at c.inner.ensures))
+    first_emitted c.requires (place_at) c.emit-x-2.ensures in (
+      deeper c.requires c.decreases,
+      second_asks (first_at_lem) (many_at) (rw c.kind_at-kind.ensures at c.bind-inside.ensures)
+          (rw c.kind_at-kind.ensures at c.inner.ensures),
+    )
 
 pub binary-requires : goal.binary-requires
 binary-requires t c =
