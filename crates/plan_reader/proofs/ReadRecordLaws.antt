@@ -47,15 +47,9 @@ module _ (s ws ms : List ℕ) (n i : ℕ) (pre : RowPre s ws n) where
   in_rows : n ≤ length ws
   in_rows = omega (arith, pre.room, pre.size)
 
-  pub row_field : get_or s 0 0 ≡ element_kind → get_or s 1 0 ≡ 0 → row_refusal (decode_parts n ws ms) i s ≡ refusal 4 i
-  row_field k t = rw (k, t)
-
   module _ (tag : get_or s 0 0 ≡ element_kind → get_or s 1 0 ≡ 0 → ⊥) (byte : get_or s 1 0 ≤ max_byte) where
     fits : model.tag_fits (row_in s) ≡ true
     fits = tag_fits s pre.kind pre.row tag byte
-
-    pub row_order : (last_of ms ≡ 0 → ⊥) → row_refusal (decode_parts n ws ms) i s ≡ refusal 6 i
-    row_order h = rw (fits, ne_eqb (last_of ms) 0 h)
 
     module _ (first : last_of ms ≡ 0) where
       pub row_none : number_at s 2 ≡ no_parent → row_refusal (decode_parts n ws ms) i s ≡ fine
