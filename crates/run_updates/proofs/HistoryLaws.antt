@@ -8,15 +8,13 @@ use lib.ListN.{length, take, drop, length-append}
 use lib.Seq.{drop_at, take_at, drop-drop, length-take-le}
 use borrow.Author.Tests.{ne_eqb}
 use Rattle.model.specs.Base.{over, also}
-use Rattle.model.specs.History.{Record, made, is_cut, times, IsInRange, AllInRange, record_bytes, history_bytes}
+use Rattle.model.specs.History.{Record, is_cut, times, IsInRange, AllInRange, record_bytes, history_bytes}
 use Rattle.model.proofs.FormLaws.{record_bytes_some, size_back, record_in_back}
 use Rattle.model.proofs.All.{all_snoc}
 use Rattle.model.proofs.HistoryLaws.{times_snoc}
-use Rattle.plan_table.specs.Packed.{row_of, link_in, tag_in}
 use Rattle.run_updates.specs.Tallying.{plus_made, plus_cut}
 use Rattle.run_updates.specs.declared.tally.Tally.{Tally}
 use Rattle.run_updates.specs.State.{records_from, records_in, Recorded}
-use Rattle.run_updates.specs.Updating.{made_kind, six_bytes}
 
 -- RECORDS written and read back
 records_from_step : (k : ℕ) (r : Record) (c : List ℕ) → IsInRange r → records_from (suc k) (record_bytes r ++ c) ≡ r ∷ records_from k c

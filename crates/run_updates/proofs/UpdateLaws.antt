@@ -1,6 +1,6 @@
 -- A new row and a cut link, from the tests on each way out: the model's update, and what is held after it.
 use mathlib.Core.Path.{◌≡◌, refl, ap, ap₂, sym, ◌∙◌, subst, subst₂}
-use mathlib.Core.Bool.{Bool, true}
+use mathlib.Core.Bool.{true}
 use mathlib.Core.List.{List, [], ◌∷◌, ◌++◌}
 use mathlib.Core.Option.{none, some, none-ne-some}
 use Prim.Native.Nat.{ℕ, ◌+◌, ◌*◌, ◌-◌, ◌≤◌, ◌<◌}
@@ -9,7 +9,7 @@ use lib.ListN.{length, get_or, take, drop, set, length-set, drop_of_length-le}
 use Rattle.model.specs.Base.{over}
 use Rattle.model.specs.Table as model
 use Rattle.model.specs.History.{Record, made, cut, IsInRange, cut_in, record_bytes, made_size, cut_size}
-use Rattle.model.specs.Run.{State, state, gives, new_row, loose, with_made, cut_row, cut_by, cut_all}
+use Rattle.model.specs.Run.{State, state, gives, new_row, with_made, cut_row, cut_by, cut_all}
 use Rattle.model.specs.Leads.{Attained}
 use Rattle.model.proofs.LeadsLaws.{new_row_room, attained_row, attained_cut}
 use Rattle.model.proofs.ListLaws.{drop_next}
@@ -18,14 +18,14 @@ use Rattle.model.proofs.GrowLaws.{tree_with_row, tree_linked}
 use Rattle.model.proofs.FormLaws.{length_record_bytes}
 use Rattle.model.proofs.UndoLaws.{made_in_range}
 use Rattle.model.specs.Limits.{max_rows}
-use Rattle.plan_table.specs.Packed.{link_of, row_of, pack_row, is_packed_row, with_link, decode_parts, Canonical, link_in, link_room}
-use Rattle.plan_table.proofs.PackedLaws.{link_of_of_link, row_of_pack_row, pack_row_row_of, is_packed_row_pack_row, canonical_push}
+use Rattle.plan_table.specs.Packed.{link_of, row_of, with_link, decode_parts, Canonical, link_in, link_room}
+use Rattle.plan_table.proofs.PackedLaws.{link_of_of_link, pack_row_row_of, canonical_push}
 use Rattle.plan_table.proofs.PackedLaws.{decode_linked, canonical_linked}
 use Rattle.plan_table.proofs.DecodeLaws.{decode_row, parent_linked, parent_at}
 use Rattle.plan_table.proofs.LinkLaws.{links_set, links_cut}
 use Rattle.run_updates.specs.Tallying.{plus_made, plus_cut}
 use Rattle.run_updates.specs.declared.tally.Tally.{Tally}
-use Rattle.run_updates.specs.State.{Progress, records_in, state_of, Held, After, Updated}
+use Rattle.run_updates.specs.State.{Progress, records_in, state_of, After, Updated}
 use Rattle.run_updates.specs.Updating.{NewPre, CutPre, DeletePost}
 use Rattle.run_updates.proofs.HistoryLaws.{recorded_made, recorded_cut}
 use Rattle.run_updates.proofs.StateLaws.{append_room, append_few, append_records, append_after, held_within, held_count}
@@ -114,27 +114,6 @@ module _ {ws h : List ℕ} {p : Progress} {w : ℕ} (pre : NewPre ws h p w) wher
               sym (new_row_room z (row_of w) (state_of ws ms h p) (omega (arith, held_count pre.held ms)));
           after = λ z. after_made;
         })
-
--- WITHOUT PARENT: an element with a name, or a leaf with a value
-module _ (b : Bool) (t : ℕ) {w : ℕ} (e : w ≡ pack_row (loose b t)) where
-  loose_row : row_of w ≡ loose b t
-  loose_row = ap row_of e ∙ row_of_pack_row (loose b t) (omega arith)
-
-  loose_packed : is_packed_row w ≡ true
-  loose_packed = ap is_packed_row e ∙ is_packed_row_pack_row (loose b t)
-
-  pub loose_pre : {ws h : List ℕ} {p : Progress} → Held ws h p → model.tag_fits (loose b t) ≡ true → NewPre ws h p w
-  loose_pre {ws} {h} {p} held f =
-      record {
-        held = held;
-        packed = loose_packed;
-        tag = ap model.tag_fits loose_row ∙ f;
-        parent = ap (λ (r : model.Row). model.parent_fits (decode_parts p.count ws []) p.count r.parent) loose_row;
-      }
-
-  pub loose_made : {v ws h : List ℕ} {p : Progress} {ws' h' : List ℕ} {r : Progress} →
-      Updated (λ z s. new_row z (row_of w) s) v ws h p ws' h' r → Updated (λ z s. new_row z (loose b t) s) v ws h p ws' h' r
-  loose_made {v} {ws} {h} {p} {ws'} {h'} {r} u = subst (λ (q : model.Row). Updated (λ z s. new_row z q s) v ws h p ws' h' r) loose_row u
 
 -- A LINK CUT
 module _ {ws h : List ℕ} {p : Progress} {i : ℕ} (pre : CutPre ws h p i) where

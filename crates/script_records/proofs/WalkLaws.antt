@@ -84,9 +84,6 @@ pub record Walked (b : List ℕ) (at next pending : ℕ) : Type 0 where
   pub within : next + pending ≤ length b
   pub ends : past pending b next ≡ end_at b at
 
-pub walk_starts : {b : List ℕ} {at : ℕ} → at < length b → Walked b at at 1
-walk_starts h = record { within = omega arith; ends = refl }
-
 module _ {b : List ℕ} {at i p : ℕ} (w : Walked b at i p) where
   pub walk_ends : p ≡ 0 → i ≡ end_at b at
   walk_ends e = sym (past_none b i) ∙ ap (λ (q : ℕ). past q b i) (sym e) ∙ w.ends
