@@ -115,17 +115,17 @@ module _ (t : Table) (b : List ℕ) (e : fits t ≡ true) where
     fit = fits_at t.count t.rows t.marks e
 
     -- no variable yet, and the table's rows
-    abbrev whole : List Span → Frame
-    whole env = frame 0 env t.marks 0
+    abbrev whole : Frame
+    whole = frame 0 t.marks 0
 
-    abbrev starting : (history work : List ℕ) → Progress → Machine
-    starting h w p = machine t.rows h w (begun p 0 0)
+    abbrev starting : (history work : List ℕ) → Progress → List Span → Machine
+    starting h w p env = machine t.rows h w (begun p 0 0 env)
 
     module _ (rows : length t.rows ≡ max_rows) (marks : length t.marks ≡ documents) {h w : List ℕ} {env : List Span} where
       pub eval_asks : history_need ≤ length h → work_need ≤ length w → length env ≡ max_binders → {p : Progress} → p ≡ started t.count →
-          EvalPre b max_depth (whole env) (starting h w p)
+          EvalPre b max_depth whole (starting h w p env)
       eval_asks lh lw size {p} is =
-          subst (λ (q : Progress). EvalPre b max_depth (whole env) (starting h w q)) (sym is)
+          subst (λ (q : Progress). EvalPre b max_depth whole (starting h w q env)) (sym is)
           (record {
             accepted = script_accepted b k;
             held = held_start t.count t.rows t.marks h e rows lh;
@@ -135,8 +135,8 @@ module _ (t : Table) (b : List ℕ) (e : fits t ≡ true) where
             small = omega arith;
           })
 
-      module _ {p : Progress} (is : p ≡ started t.count) {s : Machine} (ran : EvalPost b max_depth (whole env) (starting h w p) s) where
-        goes : outcome_of t b ≡ run (expr_at max_depth b 0) (bound_in (whole env) (starting h w p)) (state_in (whole env) (starting h w p))
+      module _ {p : Progress} (is : p ≡ started t.count) {s : Machine} (ran : EvalPost b max_depth whole (starting h w p env) s) where
+        goes : outcome_of t b ≡ run (expr_at max_depth b 0) (bound_in whole (starting h w p env)) (state_in whole (starting h w p env))
         goes =
             formed ∙ ap (run_by (decode t)) (script_parsed b k).1 ∙
             ap (run (expr_at max_depth b 0) []) (sym (state_start t.count t.rows t.marks h)) ∙
@@ -146,7 +146,7 @@ module _ (t : Table) (b : List ℕ) (e : fits t ≡ true) where
         run_refused_lem l = goes ∙ yields_refused ran l
 
         module _ (l : s.progress.number ≡ 0) where
-          fine : Fine (end_at b 0) (whole env) (starting h w p) s
+          fine : Fine (end_at b 0) whole (starting h w p env) s
           fine = ran.fine l
 
           abbrev q : Progress
@@ -158,7 +158,7 @@ module _ (t : Table) (b : List ℕ) (e : fits t ≡ true) where
           pub few : s.end ≤ max_items
           few = fine.short
 
-          gives_it : outcome_of t b ≡ gives (value_in (whole env) s) (state_in (whole env) s)
+          gives_it : outcome_of t b ≡ gives (value_in whole s) (state_in whole s)
           gives_it = goes ∙ yields_gives ran l
 
           abbrev bytes : List ℕ
@@ -176,7 +176,7 @@ module _ (t : Table) (b : List ℕ) (e : fits t ≡ true) where
           size_written : length (history_bytes (records_in bytes)) ≡ q.bytes
           size_written = ap length written ∙ length-take-le q.bytes s.history bytes_within
 
-          value_size : work_need ≤ length w → length (value_in (whole env) s) ≡ s.end
+          value_size : work_need ≤ length w → length (value_in whole s) ≡ s.end
           value_size m =
               let n : s.end ≤ length s.work = omega (arith, fine.size, fine.short) in
               let o : s.end - 0 ≡ s.end = omega arith in
@@ -230,10 +230,10 @@ module _ (t : Table) (b : List ℕ) (e : fits t ≡ true) where
               tally_is =
                   λ i. record { made = sym rows_made i; cut = sym held.history.cuts i; records = sym held.history.records i }
 
-              filled_answer : at_front (value_in (whole env) s) a ≡ filled (length a) (value_in (whole env) s)
+              filled_answer : at_front (value_in whole s) a ≡ filled (length a) (value_in whole s)
               filled_answer =
-                  ap (at_front (value_in (whole env) s)) pre.answered ∙
-                  ap (λ (v : List ℕ). value_in (whole env) s ++ v) (drop_zeros (length (value_in (whole env) s)) (length a) 0)
+                  ap (at_front (value_in whole s)) pre.answered ∙
+                  ap (λ (v : List ℕ). value_in whole s ++ v) (drop_zeros (length (value_in whole s)) (length a) 0)
 
               filled_history : s.history ≡ filled (length h) (history_bytes (records_in bytes))
               filled_history =

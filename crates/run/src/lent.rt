@@ -29,17 +29,17 @@ pub struct Ended {
 // loop it takes longer than it saves.
 fn evaluated(
     script: &[u8],
-    env: &[Span; Table::BINDERS],
+    env: [Span; Table::BINDERS],
     marks: &[u16],
     rows: &mut [u32],
     history: &mut [u8],
     work: &mut [u16],
     p: Progress,
 ) -> Result<Evaluated, Refusal>
-    requires { EvalPre script.now max_depth (frame 0 env.now marks.now 0)
-        (machine rows.old history.old work.old (begun (going p) 0 0)) }
-    ensures { EvalPost script.now max_depth (frame 0 env.now marks.now 0)
-        (machine rows.old history.old work.old (begun (going p) 0 0))
+    requires { EvalPre script.now max_depth (frame 0 marks.now 0)
+        (machine rows.old history.old work.old (begun (going p) 0 0 env)) }
+    ensures { EvalPost script.now max_depth (frame 0 marks.now 0)
+        (machine rows.old history.old work.old (begun (going p) 0 0 env))
         (machine rows.new history.new work.new (came_out result)) }
 {
     if !script.contains(&(Kind::For as u8)) {
@@ -80,7 +80,7 @@ fn run_in(
     // Not '?': a refusal clears the history first.
     let x = match evaluated(
         script,
-        &unbound,
+        unbound,
         &table.marks,
         &mut table.rows,
         history,

@@ -9,25 +9,25 @@ use Rattle.run_query.specs.Values.{value_at}
 use Rattle.run_operators.specs.Machine.{Machine, Frame, bound_values, frame, state_in, bound_in, value_in}
 use Rattle.run_operators.specs.Evaluating.{BindPre, BindPost, binary_of, BinaryPre, BinaryPost, EvalPre, EvalPost}
 use Rattle.run_operators.specs.declared.value.Span.{Span}
-use Rattle.run_operators.proofs.YieldLaws.{yields_as, yields_gives, yields_refused, refused_yields, fine_between, yields_after}
+use Rattle.run_operators.proofs.YieldLaws.{yields_as, yields_gives, yields_refused, refused_yields, with_env, fine_between, yields_after}
 use Rattle.run_operators.proofs.YieldLaws.{first_kept, pair_asks}
 use Rattle.run_eval.specs.Rests.{binary_rest, RestPre, RestPost}
-use Rattle.run_eval.proofs.ScopeLaws.{bound_inside, scope_inside}
+use Rattle.run_eval.proofs.ScopeLaws.{bound_inside, bound_back, scope_inside}
 
 module _ {b : List ℕ} {kind left : ℕ} {f : Frame} {s : Machine} (pre : RestPre b kind left f s) where
-  pub bind_asks : BindPre kind f.env f.bound f.top s.end
+  pub bind_asks : BindPre kind s.env f.bound f.top s.end
   bind_asks =
       record {
-        size = pre.scope.size;
+        size = pre.value.spans;
         scope = pre.binder;
         order = pre.value.order;
         small = omega (arith, pre.small, pre.value.short);
       }
 
   -- THE SECOND OPERAND
-  module _ {inside : List Span} (bound : BindPost kind f.env f.bound f.top s.end inside) {m : ℕ}
+  module _ {inside : List Span} (bound : BindPost kind s.env f.bound f.top s.end inside) {m : ℕ}
       (scope : m ≡ inner kind f.bound) where
-    pub second_asks : EvalPre b left (frame m inside f.marks s.end) s
+    pub second_asks : EvalPre b left (frame m f.marks s.end) (with_env inside s)
     second_asks =
         let v = pre.value in
         rw scope
@@ -40,8 +40,8 @@ module _ {b : List ℕ} {kind left : ℕ} {f : Frame} {s : Machine} (pre : RestP
           small = omega (arith, pre.small, v.short);
         })
 
-    module _ {s₁ : Machine} (ran : EvalPost b left (frame m inside f.marks s.end) s s₁) where
-      second : EvalPost b left (frame (inner kind f.bound) inside f.marks s.end) s s₁
+    module _ {s₁ : Machine} (ran : EvalPost b left (frame m f.marks s.end) (with_env inside s) s₁) where
+      second : EvalPost b left (frame (inner kind f.bound) f.marks s.end) (with_env inside s) s₁
       second = rw scope at ran
 
       -- what is left, from its run
@@ -66,7 +66,8 @@ module _ {b : List ℕ} {kind left : ℕ} {f : Frame} {s : Machine} (pre : RestP
             RestPost (binary_rest b kind at left) (end_at b s.place) f s s'
         combine_yields at post =
             let ok = second.fine k in
-            yields_after (fine_between s pre.value.order ok) (yields_as refl ok.place (post f.bound f.env f.marks))
+            yields_after (fine_between s pre.value.order ok) (yields_as refl ok.place (post f.bound f.marks))
             (runs at ∙ ap (goes_on at) (yields_gives second k) ∙
             ap (λ (v : List ℕ). binary_of kind at v (value_at s₁.work s.end s₁.end) (state_in f s₁))
             (sym (first_kept ok f.top pre.value.order)))
+            (bound_back pre.scope bound s₁.env ok.scope)

@@ -90,7 +90,7 @@ module _ {b : List ℕ} {left : ℕ} {f : Frame} {s : Machine} (pre : EvalPre b 
               binder = λ q. fits.scope (ap is_binder e ∙ q);
               value = value_asks ok (omega (arith, pre.room));
               marks = marks_more pre.marks ok.after.rows;
-              scope = scope_kept pre.scope s₁.work ok.below (omega arith) ok.after.rows;
+              scope = scope_kept pre.scope s₁.work s₁.env ok.below ok.scope ok.spans (omega arith) ok.after.rows;
               room = omega (arith, pre.room, deep, ok.size);
               small = omega (arith, pre.small, deep);
             }
@@ -98,7 +98,7 @@ module _ {b : List ℕ} {left : ℕ} {f : Frame} {s : Machine} (pre : EvalPre b 
         -- what yields the rest yields the record
         first_yields : {rest : Rest} {next : ℕ} {s' : Machine} → First b at left f.bound rest → next ≡ end_at b at →
             RestPost rest next f s₁ s' → EvalPost b left f s s'
-        first_yields {rest} o g y = yields_after (fine_between s (omega arith) ok) (yields_as refl g y) runs
+        first_yields {rest} o g y = yields_after (fine_between s (omega arith) ok) (yields_as refl g y) runs ok.scope
           where
             runs : run (expr_at left b at) (bound_in f s) (state_in f s) ≡ rest s₁.place (bound_in f s₁) (value_in f s₁) (state_in f s₁)
             runs =
@@ -106,7 +106,7 @@ module _ {b : List ℕ} {left : ℕ} {f : Frame} {s : Machine} (pre : EvalPre b 
                 ap (λ (q : Out). and_then q (rest (second_at b at) (bound_in f s))) (yields_gives first k) ∙
                 ap (λ (i : ℕ). rest i (bound_in f s) (value_in f s₁) (state_in f s₁)) (sym ok.place) ∙
                 ap (λ (vs : List (List ℕ)). rest s₁.place vs (value_in f s₁) (state_in f s₁))
-                (sym (bound_kept pre.scope s₁.work ok.below))
+                (sym (bound_kept pre.scope s₁.work s₁.env ok.below ok.scope))
 
         -- no other operand
         module _ {q : ℕ} (count : q ≡ arity (get_or b s.place 0)) (z : q ≡ 1) where
@@ -116,7 +116,7 @@ module _ {b : List ℕ} {left : ℕ} {f : Frame} {s : Machine} (pre : EvalPre b 
           pub unary_yields : {o : Operator} → OperatorPost b s.place o → {s' : Machine} → UnaryPost o f.top s₁ s' → EvalPost b left f s s'
           unary_yields read post =
               let o = one_operand pre.accepted count z in
-              let y = yields_as (read.same (value_in f s₁) (state_in f s₁)) refl (post f.bound f.env f.marks) in
+              let y = yields_as (read.same (value_in f s₁) (state_in f s₁)) refl (post f.bound f.marks) in
               first_yields o.first (ok.place ∙ sym o.ends) y
 
         -- a second

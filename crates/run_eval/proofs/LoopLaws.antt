@@ -5,7 +5,7 @@ use mathlib.Core.List.{List, [], ◌∷◌, ◌++◌}
 use Prim.Native.Nat.{ℕ, ◌+◌, ◌-◌, ◌/◌, ◌≤◌, ◌<◌}
 use native.Mathlib.Omega.{arith}
 use lib.Dec.{ltb}
-use lib.ListN.{length, get_or}
+use lib.ListN.{length, get_or, take}
 use Rattle.model.specs.Base.{nothing}
 use Rattle.model.specs.Limits.{max_items}
 use Rattle.model.specs.Refusal.{items_at}
@@ -24,8 +24,8 @@ use Rattle.run_query.proofs.ValueLaws.{value_none}
 use Rattle.run_operators.proofs.ValueLaws.{value_same, value_one, value_append}
 use Rattle.run_operators.proofs.YieldLaws.{yields_as, yields_gives, yields_refused, refused_yields, moved_yields}
 use Rattle.run_operators.proofs.YieldLaws.{fine_between, yields_after, value_yields, first_kept, pair_asks, limited_yields, placed_at}
-use Rattle.run_operators.proofs.YieldLaws.{yields_from}
-use Rattle.run_eval.proofs.ScopeLaws.{marks_more, bound_kept, scope_kept, bound_inside, scope_inside}
+use Rattle.run_operators.proofs.YieldLaws.{with_env, yields_from}
+use Rattle.run_eval.proofs.ScopeLaws.{marks_more, bound_kept, scope_kept, bound_inside, bound_back, scope_inside}
 
 -- THE LOOP of the model: no item, one, and one part after another
 loop_none : (z : ℕ) (f : ℕ → State → Out) (v : List ℕ) (s : State) → loop z f [] v s ≡ gives v s
@@ -76,7 +76,7 @@ module _ {b : List ℕ} {left : ℕ} {f : Frame} {s : Machine} (pre : RestPre b 
 
   -- its items stand from top on, its results behind them
   pub each_asks : (at : ℕ) → (s.end ≡ f.top → ⊥) →
-      EachPre b left (loop_of at f.top s.end) (frame f.bound f.env f.marks s.end) s
+      EachPre b left (loop_of at f.top s.end) (frame f.bound f.marks s.end) s
   unfolding inner
   each_asks at some =
       let v = pre.value in
@@ -84,7 +84,7 @@ module _ {b : List ℕ} {left : ℕ} {f : Frame} {s : Machine} (pre : RestPre b 
         accepted = pre.accepted;
         held = v.held;
         marks = pre.marks;
-        scope = scope_kept pre.scope s.work refl v.order (omega arith);
+        scope = scope_kept pre.scope s.work s.env refl refl v.spans v.order (omega arith);
         binder = pre.binder refl;
         some = omega (arith, v.order, some);
         items = omega arith;
@@ -98,7 +98,7 @@ module _ {b : List ℕ} {left : ℕ} {f : Frame} {s : Machine} (pre : RestPre b 
       }
 
   module _ (at : ℕ) {s₁ : Machine}
-      (ran : EachPost b left (loop_of at f.top s.end) (frame f.bound f.env f.marks s.end) s s₁) where
+      (ran : EachPost b left (loop_of at f.top s.end) (frame f.bound f.marks s.end) s s₁) where
     abbrev items : List ℕ → Out
     items v = loop at (body_run b s.place left (bound_in f s)) (value_in f s) v (state_in f s)
 
@@ -118,15 +118,15 @@ module _ {b : List ℕ} {left : ℕ} {f : Frame} {s : Machine} (pre : RestPre b 
           RestPost (for_rest b at left) (end_at b s.place) f s s'
       close_yields post =
           let ok = ran.fine k in
-          yields_after (fine_between s pre.value.order ok) (yields_as refl ok.place (post f.bound f.env f.marks))
-          (begins ∙ yields_gives ran k)
+          yields_after (fine_between s pre.value.order ok) (yields_as refl ok.place (post f.bound f.marks))
+          (begins ∙ yields_gives ran k) ok.scope
 
 -- THE REMAINING ITEMS
 module _ {b : List ℕ} {left : ℕ} {l : Loop} {f : Frame} {s : Machine} (pre : EachPre b left l f s) where
   abbrev body : ℕ → State → Out
   body = body_run b s.place left (bound_in f s)
 
-  pub item_asks : BindPre for_kind f.env f.bound l.from l.to
+  pub item_asks : BindPre for_kind s.env f.bound l.from l.to
   item_asks =
       record {
         size = pre.scope.size;
@@ -141,11 +141,11 @@ module _ {b : List ℕ} {left : ℕ} {l : Loop} {f : Frame} {s : Machine} (pre :
 
   -- one item
   module _ (single : l.to - l.from ≡ 1) {inside : List Span}
-      (bound : BindPost for_kind f.env f.bound l.from l.to inside) where
+      (bound : BindPost for_kind s.env f.bound l.from l.to inside) where
     abbrev one : Frame
-    one = frame (f.bound + 1) inside f.marks s.end
+    one = frame (f.bound + 1) f.marks s.end
 
-    pub body_asks : EvalPre b left one s
+    pub body_asks : EvalPre b left one (with_env inside s)
     body_asks =
         record {
           accepted = pre.accepted;
@@ -161,17 +161,17 @@ module _ {b : List ℕ} {left : ℕ} {l : Loop} {f : Frame} {s : Machine} (pre :
     item : items_in l s ≡ get_or s.work l.from 0 ∷ []
     item = value_one s.work l.from l.to single (omega (arith, pre.some, pre.items, pre.room))
 
-    values : bound_in one s ≡ bound_in f s ++ ((get_or s.work l.from 0 ∷ []) ∷ [])
+    values : bound_in one (with_env inside s) ≡ bound_in f s ++ ((get_or s.work l.from 0 ∷ []) ∷ [])
     values =
         ap (λ (m : ℕ). bound_values s.work m inside) (sym inner_for) ∙ bound_inside pre.scope bound ∙
         ap (λ (v : List ℕ). bound_in f s ++ (v ∷ [])) item
 
-    module _ {s₁ : Machine} (ran : EvalPost b left one s s₁) where
+    module _ {s₁ : Machine} (ran : EvalPost b left one (with_env inside s) s₁) where
       abbrev joins : Out → Out
       joins o = and_then o (λ (u : List ℕ) (t : State). join_items l.for (value_in f s) u t)
 
       item_is : loop l.for body (items_in l s) (value_in f s) (state_in f s) ≡
-          joins (run (expr_at left b s.place) (bound_in one s) (state_in f s))
+          joins (run (expr_at left b s.place) (bound_in one (with_env inside s)) (state_in f s))
       item_is =
           ap (λ (is : List ℕ). loop l.for body is (value_in f s) (state_in f s)) item ∙
           loop_one l.for body (get_or s.work l.from 0) (value_in f s) (state_in f s) ∙
@@ -184,6 +184,11 @@ module _ {b : List ℕ} {left : ℕ} {l : Loop} {f : Frame} {s : Machine} (pre :
         pub limit_asks : f.top ≤ s₁.end
         limit_asks = omega (arith, pre.order, (ran.fine k).order)
 
+        back : take f.bound s₁.env ≡ take f.bound s.env
+        back =
+            bound_back pre.scope bound s₁.env
+            (ap (λ (m : ℕ). take m s₁.env) inner_for ∙ (ran.fine k).scope ∙ ap (λ (m : ℕ). take m inside) (sym inner_for))
+
         pub item_yields : {r : Evaluated} → r ≡ limited_by (evaluated s₁) f.top l.for →
             EachPost b left l f s (came_to r s₁)
         item_yields eq =
@@ -194,7 +199,7 @@ module _ {b : List ℕ} {left : ℕ} {l : Loop} {f : Frame} {s : Machine} (pre :
             (yields_as refl ok.place (limited_yields pair (omega (arith, ok.short, pre.short, pre.room, ok.size)) l.for eq))
             (item_is ∙ ap joins (yields_gives ran k) ∙
             ap (λ (v : List ℕ). join_items l.for v (value_at s₁.work s.end s₁.end) (state_in f s₁))
-            (sym (first_kept ok f.top pre.order)))
+            (sym (first_kept ok f.top pre.order))) back
 
   -- those up to a place, and then the rest
   module _ (half : ℕ) (low : l.from < half) (high : half ≤ l.to) where
@@ -249,7 +254,7 @@ module _ {b : List ℕ} {left : ℕ} {l : Loop} {f : Frame} {s : Machine} (pre :
               accepted = pre.accepted;
               held = ok.after.held;
               marks = marks_more pre.marks ok.after.rows;
-              scope = scope_kept pre.scope s₁.work ok.below (omega arith) ok.after.rows;
+              scope = scope_kept pre.scope s₁.work s₁.env ok.below ok.scope ok.spans (omega arith) ok.after.rows;
               binder = pre.binder;
               some = more;
               items = pre.items;
@@ -274,7 +279,8 @@ module _ {b : List ℕ} {left : ℕ} {l : Loop} {f : Frame} {s : Machine} (pre :
             ap (λ (is : List ℕ). loop l.for body is (value_in f s₁) (state_in f s₁)) (sym items_kept) ∙
             ap (λ (vs : List (List ℕ)). loop l.for (body_run b s.place left vs) (value_at s₁.work half l.to) (value_in f s₁)
             (state_in f s₁))
-            (sym (bound_kept pre.scope s₁.work ok.below)))
+            (sym (bound_kept pre.scope s₁.work s₁.env ok.below ok.scope)))
+            ok.scope
 
   -- the first
   pub one_asks : EachPre b left (loop_of l.for l.from (l.from + 1)) f s
@@ -290,8 +296,8 @@ module _ {b : List ℕ} {left : ℕ} {l : Loop} {f : Frame} {s : Machine} (pre :
 
 -- THE FIRST of them
 module _ {b : List ℕ} {left : ℕ} {l : Loop} {f : Frame} {s : Machine} (pre : EachPre b left l f s) {inside : List Span}
-    (bound : BindPost for_kind f.env f.bound l.from (l.from + 1) inside) {s₁ : Machine}
-    (ran : EvalPost b left (frame (f.bound + 1) inside f.marks s.end) s s₁) where
+    (bound : BindPost for_kind s.env f.bound l.from (l.from + 1) inside) {s₁ : Machine}
+    (ran : EvalPost b left (frame (f.bound + 1) f.marks s.end) (with_env inside s) s₁) where
   pub begin_refused : (s₁.progress.number ≡ 0 → ⊥) → EachPost b left l f s s₁
   begin_refused k = one_refused pre (item_refused (one_asks pre) (omega arith) bound ran k) k
 

@@ -5,7 +5,7 @@ use mathlib.Core.List.{List, [], ◌∷◌, ◌++◌, map, map-append}
 use Prim.Native.Nat.{ℕ, zero, suc, ◌+◌, ◌-◌, ◌≤◌, ◌<◌}
 use native.Mathlib.Omega.{arith}
 use lib.ListN.{length, get_or, take, drop, get_or-append}
-use lib.Seq.{get_or-take, get_or-append_seam, length-take-le}
+use lib.Seq.{get_or-take, get_or-append_seam, take_at, take-take, length-take-le}
 use Rattle.model.specs.Limits.{max_items, max_binders}
 use Rattle.model.specs.Script.{is_binder}
 use Rattle.model.proofs.BoolLaws.{by_cases, eq_cases}
@@ -48,18 +48,24 @@ values_same w w' top (suc n) (s ∷ ss) e f l =
     ap (λ (xs : List (List ℕ)). span_value w s ∷ xs)
     (values_same w w' top n ss e (λ v m. f (suc v) (omega arith)) (omega arith))
 
-module _ {w : List ℕ} {n : ℕ} {env : List Span} {top c : ℕ} (scope : InScope w n env top c) (w' : List ℕ)
-    (below : take top w' ≡ take top w) where
-  pub bound_kept : bound_values w' n env ≡ bound_values w n env
+module _ {w : List ℕ} {n : ℕ} {env : List Span} {top c : ℕ} (scope : InScope w n env top c) (w' : List ℕ) (env' : List Span)
+    (below : take top w' ≡ take top w) (back : take n env' ≡ take n env) where
+  pub bound_kept : bound_values w' n env' ≡ bound_values w n env
   bound_kept =
+      ap (map (span_value w')) back ∙
       values_same w w' top n env below scope.spans (omega (arith, scope.few, scope.size))
 
-  pub scope_kept : {mid d : ℕ} → top ≤ mid → c ≤ d → InScope w' n env mid d
-  scope_kept {mid} {d} l m =
+  pub scope_kept : {mid d : ℕ} → length env' ≡ max_binders → top ≤ mid → c ≤ d → InScope w' n env' mid d
+  scope_kept {mid} {d} size l m =
       record {
         few = scope.few;
-        size = scope.size;
-        spans = λ v k. let f = scope.spans v k in (omega (arith, f.0), f.1);
+        size = size;
+        spans = λ v k.
+            let e : get_or env' v no_span ≡ get_or env v no_span =
+            sym (get_or-take n env' v no_span k) ∙ ap (λ (x : List Span). get_or x v no_span) back ∙ get_or-take n env v no_span k in
+            let f = scope.spans v k in
+            let g : SpanFits mid (get_or env v no_span) = (omega (arith, f.0), f.1) in
+            subst (SpanFits mid) (sym e) g;
         values = subst (AreValues d) (sym bound_kept) (are_values_more m scope.values);
       }
 
@@ -77,6 +83,22 @@ module _ {w : List ℕ} {n : ℕ} {env : List Span} {top i j c : ℕ} (scope : I
 
   front_size : length (take n env) ≡ n
   front_size = length-take-le n env (omega (arith, scope.few, scope.size))
+
+  -- the variables around it are handed back
+  pub bound_back : (env' : List Span) → take (inner k n) env' ≡ take (inner k n) inside → take n env' ≡ take n env
+  bound_back env' e = by_cases (is_binder k) more same
+    where
+      more : is_binder k ≡ true → take n env' ≡ take n env
+      more t =
+          let l : n ≤ inner k n = omega (arith, inner_more k n t) in
+          sym (take-take n (inner k n) env' l) ∙
+          ap (take n) (e ∙ post.is ∙ ap (λ (b : Bool). cond b (take n env ++ (span_of i j ∷ [])) (take n env)) t) ∙
+          take_at (take n env) (span_of i j ∷ []) n front_size
+
+      same : is_binder k ≡ false → take n env' ≡ take n env
+      same t =
+          ap (λ (m : ℕ). take m env') (inner_same k n t) ∙ e ∙ post.is ∙
+          ap (λ (b : Bool). cond b (take n env ++ (span_of i j ∷ [])) (take n env)) t
 
   pub scope_inside : (mid : ℕ) → (is_binder k ≡ true → n < max_binders) → i ≤ j → j ≤ i + max_items → j ≤ mid → top ≤ mid →
       AreRows c (value_at w i j) →

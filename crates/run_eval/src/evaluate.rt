@@ -34,26 +34,26 @@ fn binary(
     at: usize,
     left: usize,
     bound: usize,
-    env: &[Span; Table::BINDERS],
     rows: &mut [u32],
     history: &mut [u8],
     work: &mut [u16],
     top: usize,
     x: Evaluated,
 ) -> Result<Evaluated, Refusal>
-    requires rest_pre { RestPre program.script.now (byte_of kind) left (frame bound env.now program.marks.now top)
+    requires rest_pre { RestPre program.script.now (byte_of kind) left (frame bound program.marks.now top)
         (machine rows.old history.old work.old (going_on x)) }
     requires index_held { IndexHeld program.index.now rows.old x.progress.count }
     ensures { RestPost (binary_rest program.entry.script.now (byte_of kind) at left) (end_at program.entry.script.now x.place)
-        (frame bound env.now program.entry.marks.now top) (machine rows.old history.old work.old (going_on x))
+        (frame bound program.entry.marks.now top) (machine rows.old history.old work.old (going_on x))
         (machine rows.new history.new work.new (came_out result)) }
 {
     let mid = x.end;
+    let scope = x.env;
     let q = x.progress;
-    let inside = value::bind(kind, env, bound, top, mid);
+    let inside = value::bind(kind, scope, bound, top, mid);
     let j = x.place;
     let n = kind.inner(bound);
-    let y = eval(program, j, left, n, &inside, rows, history, work, mid, q)?;
+    let y = eval(program, j, left, n, inside, rows, history, work, mid, q)?;
     record::combined(kind, at, rows, history, work, top, mid, y)
 }
 
@@ -63,29 +63,29 @@ fn branch(
     program: Program<'_>,
     left: usize,
     bound: usize,
-    env: &[Span; Table::BINDERS],
     rows: &mut [u32],
     history: &mut [u8],
     work: &mut [u16],
     top: usize,
     x: Evaluated,
 ) -> Result<Evaluated, Refusal>
-    requires rest_pre { RestPre program.script.now if_kind left (frame bound env.now program.marks.now top)
+    requires rest_pre { RestPre program.script.now if_kind left (frame bound program.marks.now top)
         (machine rows.old history.old work.old (going_on x)) }
     requires accepted { Accepted program.script.now (end_at program.script.now x.place) left bound }
     requires index_held { IndexHeld program.index.now rows.old x.progress.count }
     ensures { RestPost (if_rest program.entry.script.now left)
         (end_at program.entry.script.now (end_at program.entry.script.now x.place))
-        (frame bound env.now program.entry.marks.now top) (machine rows.old history.old work.old (going_on x))
+        (frame bound program.entry.marks.now top) (machine rows.old history.old work.old (going_on x))
         (machine rows.new history.new work.new (came_out result)) }
 {
+    let scope = x.env;
     let q = x.progress;
     if x.end == top {
         let j = walk::end_at(program.script, x.place);
-        return eval(program, j, left, bound, env, rows, history, work, top, q);
+        return eval(program, j, left, bound, scope, rows, history, work, top, q);
     }
     let j = x.place;
-    let y = eval(program, j, left, bound, env, rows, history, work, top, q)?;
+    let y = eval(program, j, left, bound, scope, rows, history, work, top, q)?;
     Ok(record::past(program.script, y))
 }
 
@@ -96,27 +96,27 @@ fn iterate(
     at: usize,
     left: usize,
     bound: usize,
-    env: &[Span; Table::BINDERS],
     rows: &mut [u32],
     history: &mut [u8],
     work: &mut [u16],
     top: usize,
     x: Evaluated,
 ) -> Result<Evaluated, Refusal>
-    requires rest_pre { RestPre program.script.now for_kind left (frame bound env.now program.marks.now top)
+    requires rest_pre { RestPre program.script.now for_kind left (frame bound program.marks.now top)
         (machine rows.old history.old work.old (going_on x)) }
     requires index_held { IndexHeld program.index.now rows.old x.progress.count }
     ensures { RestPost (for_rest program.entry.script.now at left) (end_at program.entry.script.now x.place)
-        (frame bound env.now program.entry.marks.now top) (machine rows.old history.old work.old (going_on x))
+        (frame bound program.entry.marks.now top) (machine rows.old history.old work.old (going_on x))
         (machine rows.new history.new work.new (came_out result)) }
 {
     let mid = x.end;
+    let scope = x.env;
     let q = x.progress;
     if mid == top {
         return Ok(record::past(program.script, x));
     }
     let y = each(
-        program, at, x.place, left, bound, env, rows, history, work, top, mid, mid, mid, q,
+        program, at, x.place, left, bound, scope, rows, history, work, top, mid, mid, mid, q,
     )?;
     record::combined(Kind::For, at, rows, history, work, top, mid, y)
 }
@@ -129,7 +129,7 @@ fn each(
     at: usize,
     left: usize,
     bound: usize,
-    env: &[Span; Table::BINDERS],
+    env: [Span; Table::BINDERS],
     rows: &mut [u32],
     history: &mut [u8],
     work: &mut [u16],
@@ -139,32 +139,34 @@ fn each(
     end: usize,
     p: Progress,
 ) -> Result<Evaluated, Refusal>
-    requires each_pre { EachPre program.script.now left (loop_of place from to) (frame bound env.now program.marks.now top)
-        (machine rows.old history.old work.old (begun (going p) at end)) }
+    requires each_pre { EachPre program.script.now left (loop_of place from to) (frame bound program.marks.now top)
+        (machine rows.old history.old work.old (begun (going p) at end env)) }
     requires index_held { IndexHeld program.index.now rows.old p.count }
-    ensures { EachPost program.entry.script.now left (loop_of place from to) (frame bound env.now program.entry.marks.now top)
-        (machine rows.old history.old work.old (begun (going p) at end))
+    ensures { EachPost program.entry.script.now left (loop_of place from to) (frame bound program.entry.marks.now top)
+        (machine rows.old history.old work.old (begun (going p) at end env))
         (machine rows.new history.new work.new (came_out result)) }
 {
     let next = from + 1;
     let inside = value::bind(Kind::For, env, bound, from, next);
     let n = bound + 1;
-    let y = eval(program, at, left, n, &inside, rows, history, work, end, p)?;
+    let y = eval(program, at, left, n, inside, rows, history, work, end, p)?;
     let first = record::limited(y, top, place)?;
     if next == to {
         return Ok(first);
     }
+    let inner = first.env;
     let r = first.progress;
     let half = next + (to - from) / 2;
     let x = each(
-        program, place, at, left, bound, env, rows, history, work, next, half, top, first.end, r,
+        program, place, at, left, bound, inner, rows, history, work, next, half, top, first.end, r,
     )?;
     if half == to {
         return Ok(x);
     }
+    let scope = x.env;
     let q = x.progress;
     each(
-        program, place, at, left, bound, env, rows, history, work, half, to, top, x.end, q,
+        program, place, at, left, bound, scope, rows, history, work, half, to, top, x.end, q,
     )
 }
 
@@ -175,18 +177,18 @@ pub fn eval(
     at: usize,
     left: usize,
     bound: usize,
-    env: &[Span; Table::BINDERS],
+    env: [Span; Table::BINDERS],
     rows: &mut [u32],
     history: &mut [u8],
     work: &mut [u16],
     top: usize,
     p: Progress,
 ) -> Result<Evaluated, Refusal>
-    requires eval_pre { EvalPre program.script.now left (frame bound env.now program.marks.now top)
-        (machine rows.old history.old work.old (begun (going p) at top)) }
+    requires eval_pre { EvalPre program.script.now left (frame bound program.marks.now top)
+        (machine rows.old history.old work.old (begun (going p) at top env)) }
     requires index_held { IndexHeld program.index.now rows.old p.count }
-    ensures { EvalPost program.entry.script.now left (frame bound env.now program.entry.marks.now top)
-        (machine rows.old history.old work.old (begun (going p) at top))
+    ensures { EvalPost program.entry.script.now left (frame bound program.entry.marks.now top)
+        (machine rows.old history.old work.old (begun (going p) at top env))
         (machine rows.new history.new work.new (came_out result)) }
 {
     let kind = Kind::try_from(program.script[at]).unwrap();
@@ -215,11 +217,9 @@ pub fn eval(
         return Ok(record::applied(operator, program.index, rows, history, work, top, x));
     }
     match kind {
-        Kind::If => branch(program, k, bound, env, rows, history, work, top, x),
-        Kind::For => iterate(program, at, k, bound, env, rows, history, work, top, x),
+        Kind::If => branch(program, k, bound, rows, history, work, top, x),
+        Kind::For => iterate(program, at, k, bound, rows, history, work, top, x),
         // A join, a let or an insert.
-        _ => binary(
-            program, kind, at, k, bound, env, rows, history, work, top, x,
-        ),
+        _ => binary(program, kind, at, k, bound, rows, history, work, top, x),
     }
 }

@@ -98,16 +98,16 @@ module _ {b : List ℕ} {left : ℕ} {f : Frame} {s : Machine} (pre : EvalPre b 
       (sym (o.ends ∙ ap (λ (j : ℕ). at + (1 + body_size j)) is)) y
 
   pub nil_yields : get_or b s.place 0 ≡ nil_kind → {r : Evaluated} →
-      r ≡ ended_by s.progress s.place (s.place + 1) f.top →
+      r ≡ ended_by s.progress s.place (s.place + 1) f.top s.env →
       EvalPost b left f s (came_to r s)
   unfolding run script_kinds
   nil_yields k eq =
       from_record (nil at) 1 k (accepted_nil pre.accepted k)
       (yields_updated f s (updated_none pre.held) (appended_none s.work f.top) (λ q. refl) refl (omega (arith, nullary_room))
-      (omega arith) (λ q. nothing) eq)
+      (omega arith) (λ q. nothing) pre.scope.size eq)
 
   module _ {w' : List ℕ} {e : ℕ} (size : length w' ≡ length s.work) {r : Evaluated}
-      (eq : r ≡ ended_by s.progress s.place (s.place + 2) e) where
+      (eq : r ≡ ended_by s.progress s.place (s.place + 2) e s.env) where
     pub document_yields : get_or b s.place 0 ≡ document_kind → {d : ℕ} → d ≡ get_or b (s.place + 1) 0 →
         Appended (marked (of_link (get_or f.marks d 0))) s.work f.top w' e →
         EvalPost b left f s (machine s.rows s.history w' r)
@@ -119,10 +119,10 @@ module _ {b : List ℕ} {left : ℕ} {f : Frame} {s : Machine} (pre : EvalPre b 
         (sym (get_or-map of_link f.marks d 0) ∙ ap (λ (j : ℕ). get_or (map of_link f.marks) j none) i)) refl
         (yields_updated f s (updated_none pre.held) a (λ q. refl) size (omega (arith, nullary_room))
         (omega (arith, marked_few (of_link (get_or f.marks d 0))))
-        (λ q. marked_held (get_or f.marks d 0) s.progress.count (pre.marks.rows d)) eq))
+        (λ q. marked_held (get_or f.marks d 0) s.progress.count (pre.marks.rows d)) pre.scope.size eq))
 
     pub variable_yields : get_or b s.place 0 ≡ variable_kind → {v : ℕ} → v ≡ get_or b (s.place + 1) 0 →
-        {from len : ℕ} → from ≡ (get_or f.env v no_span).start → len ≡ (get_or f.env v no_span).len →
+        {from len : ℕ} → from ≡ (get_or s.env v no_span).start → len ≡ (get_or s.env v no_span).len →
         Appended (value_at s.work from (from + len)) s.work f.top w' e →
         EvalPost b left f s (machine s.rows s.history w' r)
     unfolding run script_kinds
@@ -131,7 +131,7 @@ module _ {b : List ℕ} {left : ℕ} {f : Frame} {s : Machine} (pre : EvalPre b 
         (yields_as (ap (λ (u : List ℕ). gives u (state_in f s)) is) refl
         (yields_updated f s (updated_none pre.held) a (λ q. refl) size (omega (arith, nullary_room)) few
         (λ q. subst (AreRows s.progress.count) (sym is) (all_read [] nothing pre.scope.values (get_or b (at + 1) 0)))
-        eq))
+        pre.scope.size eq))
       where
         low : get_or b (at + 1) 0 < f.bound
         low = variable_number fits k
@@ -140,8 +140,8 @@ module _ {b : List ℕ} {left : ℕ} {f : Frame} {s : Machine} (pre : EvalPre b 
         is =
             let m : (from + len) - from ≡ len = omega arith in
             ap (λ (j : ℕ). take j (drop from s.work)) m ∙ ap₂ (λ (n j : ℕ). take n (drop j s.work)) h g ∙
-            ap (λ (j : ℕ). span_value s.work (get_or f.env j no_span)) i ∙
-            sym (bound_at s.work f.bound f.env (get_or b (at + 1) 0) low (omega (arith, pre.scope.few, pre.scope.size)))
+            ap (λ (j : ℕ). span_value s.work (get_or s.env j no_span)) i ∙
+            sym (bound_at s.work f.bound s.env (get_or b (at + 1) 0) low (omega (arith, pre.scope.few, pre.scope.size)))
 
         few : length (value_at s.work from (from + len)) ≤ max_items
         few =
@@ -163,13 +163,13 @@ module _ {b : List ℕ} {left : ℕ} {f : Frame} {s : Machine} (pre : EvalPre b 
     row_yields : body_size k ≡ 1 → {q : Progress} → q.number ≡ 0 →
         Updated (λ z s. new_row z r s) (s.progress.count ∷ []) s.rows s.history s.progress ws' h' q → length w' ≡ length s.work →
         {e : ℕ} → Appended (s.progress.count ∷ []) s.work f.top w' e → {y : Evaluated} →
-        y ≡ ended_by q s.place (s.place + 2) e →
+        y ≡ ended_by q s.place (s.place + 2) e s.env →
         EvalPost b left f s (machine ws' h' w' y)
     row_yields body {q} z up size a eq =
         let l : s.progress.count < q.count = made_count r pre.held up z in
         from_record x k is o
         (yields_as (sym runs) (ap (λ (j : ℕ). at + (1 + j)) (sym body))
-        (yields_updated f s up a (λ k. refl) size (omega (arith, nullary_room)) (omega arith) (λ k. also l nothing) eq))
+        (yields_updated f s up a (λ k. refl) size (omega (arith, nullary_room)) (omega arith) (λ k. also l nothing) pre.scope.size eq))
 
   module _ (k : get_or b s.place 0 ≡ new_element_kind) {tag : ℕ} (i : tag ≡ get_or b (s.place + 1) 0) where
     element_runs : run (element at (get_or b (at + 1) 0)) (bound_in f s) (state_in f s) ≡ new_row at (loose false tag) (state_in f s)
@@ -183,7 +183,7 @@ module _ {b : List ℕ} {left : ℕ} {f : Frame} {s : Machine} (pre : EvalPre b 
 
       pub element_yields : {q : Progress} → q.number ≡ 0 → LoosePost s.rows s.history s.progress false tag ws' h' q →
           length w' ≡ length s.work → {e : ℕ} → Appended (s.progress.count ∷ []) s.work f.top w' e → {y : Evaluated} →
-          y ≡ ended_by q s.place (s.place + 2) e → EvalPost b left f s (machine ws' h' w' y)
+          y ≡ ended_by q s.place (s.place + 2) e s.env → EvalPost b left f s (machine ws' h' w' y)
       unfolding script_kinds
       element_yields = row_yields k (accepted_element pre.accepted k) (loose false tag) element_runs refl
 
@@ -200,13 +200,13 @@ module _ {b : List ℕ} {left : ℕ} {f : Frame} {s : Machine} (pre : EvalPre b 
 
       pub leaf_yields : {q : Progress} → q.number ≡ 0 → LoosePost s.rows s.history s.progress true (get_or b (s.place + 1) 0) ws' h' q →
           length w' ≡ length s.work → {e : ℕ} → Appended (s.progress.count ∷ []) s.work f.top w' e → {y : Evaluated} →
-          y ≡ ended_by q s.place (s.place + 2) e → EvalPost b left f s (machine ws' h' w' y)
+          y ≡ ended_by q s.place (s.place + 2) e s.env → EvalPost b left f s (machine ws' h' w' y)
       unfolding script_kinds
       leaf_yields = row_yields k (accepted_leaf pre.accepted k) (loose true (get_or b (s.place + 1) 0)) leaf_runs refl
 
   -- a variable's value may be copied to top
   pub variable_asks : get_or b s.place 0 ≡ variable_kind → {v : ℕ} → v ≡ get_or b (s.place + 1) 0 →
-      {from len : ℕ} → from ≡ (get_or f.env v no_span).start → len ≡ (get_or f.env v no_span).len →
+      {from len : ℕ} → from ≡ (get_or s.env v no_span).start → len ≡ (get_or s.env v no_span).len →
       CopyPre s.work from (from + len) f.top
   variable_asks k {v} i {from} {len} g h =
       let z = pre.scope.spans v (omega (arith, variable_number fits k)) in
@@ -219,5 +219,5 @@ module _ {b : List ℕ} {left : ℕ} {f : Frame} {s : Machine} (pre : EvalPre b 
       }
 
   pub variable_below : get_or b s.place 0 ≡ variable_kind → {v : ℕ} → v ≡ get_or b (s.place + 1) 0 →
-      (get_or f.env v no_span).start + (get_or f.env v no_span).len ≤ f.top
+      (get_or s.env v no_span).start + (get_or s.env v no_span).len ≤ f.top
   variable_below k {v} i = (pre.scope.spans v (omega (arith, variable_number fits k))).0

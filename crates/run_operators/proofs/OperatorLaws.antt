@@ -108,37 +108,37 @@ module _ {top : ℕ} {s : Machine} (pre : ValuePre top s) where
 
   pub delete_yields : {o : Operator} → o ≡ Delete → {ws' h' : List ℕ} {q : Progress} →
       DeletePost s.rows s.history s.progress (value_at s.work top s.end) ws' h' q →
-      {r : Evaluated} → r ≡ ended_by q s.place s.place top → UnaryPost o top s (machine ws' h' s.work r)
-  delete_yields is post eq n env ms =
+      {r : Evaluated} → r ≡ ended_by q s.place s.place top s.env → UnaryPost o top s (machine ws' h' s.work r)
+  delete_yields is post eq n ms =
       rw is
-      (yields_updated (frame n env ms top) s (deleted_updated post) (appended_none s.work top) (λ q. refl) refl
-      (omega (arith, pre.room)) (omega arith) (λ q. nothing) eq)
+      (yields_updated (frame n ms top) s (deleted_updated post) (appended_none s.work top) (λ q. refl) refl
+      (omega (arith, pre.room)) (omega arith) (λ q. nothing) pre.spans eq)
 
   module _ {w' : List ℕ} {e : ℕ} (size : length w' ≡ length s.work) {r : Evaluated}
-      (eq : r ≡ ended_by s.progress s.place s.place e) where
+      (eq : r ≡ ended_by s.progress s.place s.place e s.env) where
     pub pick_yields : {o : Operator} {d : Relation} {k : ℕ} → o ≡ Pick d k →
         PickPost s.rows (relation_number d) k s.work top s.end w' e →
         UnaryPost o top s (machine s.rows s.history w' r)
-    pick_yields {d = d} {k = k} is post n env ms =
+    pick_yields {d = d} {k = k} is post n ms =
         let c = s.progress.count in
         let v = value_at s.work top s.end in
         rw is
-        (yields_updated (frame n env ms top) s (updated_none pre.held)
+        (yields_updated (frame n ms top) s (updated_none pre.held)
         (post.value c ms pre.held.few (value_low pre)) (λ q. refl) size (omega (arith, pre.room))
         (omega (arith, picked_few (decode_parts c s.rows ms) (relation_number d) k v, value_few pre))
-        (λ q. all_filtered _ pre.rows) eq)
+        (λ q. all_filtered _ pre.rows) pre.spans eq)
 
     pub step_yields : {o : Operator} {d : step.Step} → o ≡ Step d → StepPost s.rows s.progress.count (step_of d) s.work top s.end w' e →
         UnaryPost o top s (machine s.rows s.history w' r)
-    step_yields {d = d} is post n env ms =
+    step_yields {d = d} is post n ms =
         let c = s.progress.count in
         let v = value_at s.work top s.end in
         let t = decode_parts c s.rows ms in
         let few : length (stepped t (step_of d) v) ≤ max_items = stepped_few pre.held ms v (step_of d) in
         let l : 0 + model.count t ≤ c = omega (arith, held_count pre.held ms) in
         rw is
-        (yields_updated (frame n env ms top) s (updated_none pre.held) (post.value ms) (λ q. refl) size
-        (omega (arith, pre.room)) few (λ q. collect_rows _ 0 (model.count t) c l) eq)
+        (yields_updated (frame n ms top) s (updated_none pre.held) (post.value ms) (λ q. refl) size
+        (omega (arith, pre.room)) few (λ q. collect_rows _ 0 (model.count t) c l) pre.spans eq)
 
 -- WITH TWO OPERANDS
 module _ {top mid : ℕ} {s : Machine} (pre : BinaryPre top mid s) where
@@ -160,29 +160,29 @@ module _ {top mid : ℕ} {s : Machine} (pre : BinaryPre top mid s) where
 
   pub join_yields : (k at : ℕ) → k ≡ join_kind → {r : Evaluated} → r ≡ limited_by (evaluated s) top at →
       BinaryPost k at top mid s (came_to r s)
-  join_yields k at e eq n env ms = yields_as (rw e) refl (limited_yields pre binary_within at eq)
+  join_yields k at e eq n ms = yields_as (rw e) refl (limited_yields pre binary_within at eq)
 
   pub insert_yields : (k at : ℕ) → k ≡ insert_kind → {ws' h' : List ℕ} {q : Progress} →
       InsertPost s.rows s.history s.progress (value_at s.work top mid) (value_at s.work mid s.end) ws' h' q →
-      {r : Evaluated} → r ≡ ended_by q at s.place top → BinaryPost k at top mid s (machine ws' h' s.work r)
-  insert_yields k at e up eq n env ms =
+      {r : Evaluated} → r ≡ ended_by q at s.place top s.env → BinaryPost k at top mid s (machine ws' h' s.work r)
+  insert_yields k at e up eq n ms =
       yields_as (rw e) refl
-      (yields_updated (frame n env ms top) s up (appended_none s.work top) (λ q. refl) refl (omega (arith, pre.order, pre.value.room))
-      (omega arith) (λ q. nothing) eq)
+      (yields_updated (frame n ms top) s up (appended_none s.work top) (λ q. refl) refl (omega (arith, pre.order, pre.value.room))
+      (omega arith) (λ q. nothing) pre.value.spans eq)
 
   pub insert_refused : (k at : ℕ) → k ≡ insert_kind → {ws' h' : List ℕ} (q : Reason) →
       InsertPost s.rows s.history s.progress (value_at s.work top mid) (value_at s.work mid s.end) ws' h' (came (Err q)) →
       BinaryPost k at top mid s (machine ws' h' s.work (came_out (Err (record { reason = q; place = at }))))
-  insert_refused k at e q up n env ms = yields_as (rw e) refl (refused_updated (frame n env ms top) s q up s.work)
+  insert_refused k at e q up n ms = yields_as (rw e) refl (refused_updated (frame n ms top) s q up s.work)
 
   pub body_yields : (k : Kind) (at : ℕ) → (k ≡ kinds.Join → ⊥) → (k ≡ kinds.Insert → ⊥) →
       {w' : List ℕ} {e : ℕ} → length w' ≡ length s.work →
       Appended (value_at s.work mid s.end) s.work top w' e →
-      {r : Evaluated} → r ≡ ended_by s.progress at s.place e →
+      {r : Evaluated} → r ≡ ended_by s.progress at s.place e s.env →
       BinaryPost (byte_of k) at top mid s (machine s.rows s.history w' r)
-  body_yields k at f g size a eq n env ms =
+  body_yields k at f g size a eq n ms =
       let j = ne_eqb (byte_of k) join_kind (other_byte k kinds.Join f) in
       let i = ne_eqb (byte_of k) insert_kind (other_byte k kinds.Insert g) in
       yields_as (rw (j, i)) refl
-      (yields_updated (frame n env ms top) s (updated_none pre.value.held) a (λ q. refl) size (omega (arith, pre.order, pre.value.room))
-      (value_few pre.value) (λ q. pre.value.rows) eq)
+      (yields_updated (frame n ms top) s (updated_none pre.value.held) a (λ q. refl) size (omega (arith, pre.order, pre.value.room))
+      (value_few pre.value) (λ q. pre.value.rows) pre.value.spans eq)

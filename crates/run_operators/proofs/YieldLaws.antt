@@ -7,7 +7,7 @@ use lib.Dec.{ltb}
 use lib.ListN.{length, take}
 use borrow.Author.Tests.{lt-ltb, le-ltb, ltb-true, ltb-false}
 use Rattle.std.specs.Prelude.{Err}
-use Rattle.model.specs.Limits.{max_items}
+use Rattle.model.specs.Limits.{max_items, max_binders}
 use Rattle.model.specs.Refusal.{refusal}
 use Rattle.model.specs.Run.{State, Out, refused, gives, join_items, AreRows}
 use Rattle.model.proofs.BoolLaws.{by_cases, cond_true, cond_false, cond_eq, cond_ne, eq_cases}
@@ -30,9 +30,9 @@ module _ (f : Frame) (s : Machine) {g : ℕ → State → Out} {v u ws' h' w' : 
     (up : Updated g v s.rows s.history s.progress ws' h' q) (a : Appended u s.work f.top w' e)
     (is : q.number ≡ 0 → u ≡ v) (size : length w' ≡ length s.work) (room : f.top ≤ length s.work) (few : length u ≤ max_items)
     (rows : q.number ≡ 0 → AreRows q.count u) where
-  pub yields_updated : {at next : ℕ} {r : Evaluated} → r ≡ ended_by q at next e →
+  pub yields_updated : {at next : ℕ} {r : Evaluated} → length s.env ≡ max_binders → r ≡ ended_by q at next e s.env →
       Yields (g at (state_in f s)) next f s (machine ws' h' w' r)
-  yields_updated {at} {next} {r} eq =
+  yields_updated {at} {next} {r} spans eq =
       subst (λ (x : Evaluated). Yields (g at (state_in f s)) next f s (machine ws' h' w' x)) (sym eq)
       (record {
         same = eq_cases q.number 0 good not_good;
@@ -44,11 +44,13 @@ module _ (f : Frame) (s : Machine) {g : ℕ → State → Out} {v u ws' h' w' : 
           short = omega (arith, a.end, few);
           rows = subst (AreRows q.count) (sym (appended_value a room)) (rows k);
           place = cond_eq next at k;
+          spans = spans;
+          scope = refl;
         };
       })
     where
       left : Machine
-      left = machine ws' h' w' (ended_by q at next e)
+      left = machine ws' h' w' (ended_by q at next e s.env)
 
       good : q.number ≡ 0 → outcome_in f left ≡ g at (state_in f s)
       good k =
@@ -114,6 +116,8 @@ moved_yields {goal} {f = f} {s = s} {s₁ = s₁} j y k e =
         short = o.short;
         rows = o.rows;
         place = refl;
+        spans = o.spans;
+        scope = o.scope;
       };
     })
 
@@ -123,13 +127,18 @@ pub record Between (top : ℕ) (s s₁ : Machine) : Type 0 where
   pub size : length s₁.work ≡ length s.work
   pub below : take top s₁.work ≡ take top s.work
 
-pub fine_between : (s : Machine) {next : ℕ} {f : Frame} {s₁ : Machine} {top : ℕ} → top ≤ f.top → Fine next f s s₁ → Between top s s₁
+-- the first part may have had other variables
+abbrev pub with_env : List Span → Machine → Machine
+with_env env s = came_to (begun s.progress s.place s.end env) s
+
+pub fine_between : (s : Machine) {env : List Span} {next : ℕ} {f : Frame} {s₁ : Machine} {top : ℕ} → top ≤ f.top →
+    Fine next f (with_env env s) s₁ → Between top s s₁
 fine_between s {f = f} {s₁ = s₁} {top = top} l o =
     record { after = o.after; size = o.size; below = below_same s.work s₁.work f.top top o.below l }
 
 pub yields_after : {goal goal' : Out} {next : ℕ} {f : Frame} {s s₁ s' : Machine} → Between f.top s s₁ → Yields goal' next f s₁ s' →
-    goal ≡ goal' → Yields goal next f s s'
-yields_after a y e =
+    goal ≡ goal' → take f.bound s₁.env ≡ take f.bound s.env → Yields goal next f s s'
+yields_after a y e b =
     record {
       same = y.same ∙ sym e;
       fine = λ k.
@@ -142,16 +151,18 @@ yields_after a y e =
             short = o.short;
             rows = o.rows;
             place = o.place;
+            spans = o.spans;
+            scope = o.scope ∙ b;
           };
     }
 
 -- where it starts does not matter: the machine at another place, with another end
 abbrev pub placed_at : (place end : ℕ) → Machine → Machine
-placed_at i j s = came_to (begun s.progress i j) s
+placed_at i j s = came_to (begun s.progress i j s.env) s
 
 pub yields_from : {goal : Out} {next i j : ℕ} {f : Frame} {s s' : Machine} → HeldIn s →
     Yields goal next f (placed_at i j s) s' → Yields goal next f s s'
-yields_from held y = yields_after (record { after = after_self held; size = refl; below = refl }) y refl
+yields_from held y = yields_after (record { after = after_self held; size = refl; below = refl }) y refl refl
 
 -- A VALUE that stands is yielded as it is
 pub value_yields : {f : Frame} {s : Machine} → ValuePre f.top s → Yields (gives (value_in f s) (state_in f s)) s.place f s s
@@ -166,6 +177,8 @@ value_yields {f} {s} pre =
         short = pre.short;
         rows = pre.rows;
         place = refl;
+        spans = pre.spans;
+        scope = refl;
       };
     }
 
@@ -182,6 +195,7 @@ module _ {next : ℕ} {f : Frame} {s s₁ : Machine} (fine : Fine next f s s₁)
         short = fine.short;
         room = omega (arith, room, fine.size);
         rows = fine.rows;
+        spans = fine.spans;
       }
 
   -- behind a first value, from top on
@@ -218,15 +232,15 @@ module _ {top mid : ℕ} {s : Machine} (pre : BinaryPre top mid s) (within : s.e
         length_value s.work mid s.end pre.value.order within,
       )
 
-  pub limited_yields : (at : ℕ) {n : ℕ} {env : List Span} {ms : List ℕ} {r : Evaluated} → r ≡ limited_by (evaluated s) top at →
-      Yields (join_items at (value_at s.work top mid) (value_at s.work mid s.end) (state_in (frame n env ms top) s)) s.place
-      (frame n env ms top) s (came_to r s)
-  limited_yields at {n} {env} {ms} {r} e =
+  pub limited_yields : (at : ℕ) {n : ℕ} {ms : List ℕ} {r : Evaluated} → r ≡ limited_by (evaluated s) top at →
+      Yields (join_items at (value_at s.work top mid) (value_at s.work mid s.end) (state_in (frame n ms top) s)) s.place
+      (frame n ms top) s (came_to r s)
+  limited_yields at {n} {ms} {r} e =
       by_cases (ltb max_items (s.end - top)) (λ t. many (ltb-true max_items (s.end - top) t))
       (λ t. few (ltb-false max_items (s.end - top) t))
     where
       f : Frame
-      f = frame n env ms top
+      f = frame n ms top
 
       Goal : Evaluated → Type 0
       Goal x = Yields (join_items at first second (state_in f s)) s.place f s (came_to x s)
@@ -248,6 +262,8 @@ module _ {top mid : ℕ} {s : Machine} (pre : BinaryPre top mid s) (within : s.e
               short = omega arith;
               rows = subst (AreRows s.progress.count) j (all_append pre.rows pre.value.rows);
               place = refl;
+              spans = pre.value.spans;
+              scope = refl;
             };
           })
 

@@ -30,7 +30,7 @@ pub record InScope (w : List ℕ) (n : ℕ) (env : List Span) (top count : ℕ) 
 
 -- those of a frame in a machine
 abbrev pub ScopeIn : Frame → Machine → Type 0
-ScopeIn f s = InScope s.work f.bound f.env f.top s.progress.count
+ScopeIn f s = InScope s.work f.bound s.env f.top s.progress.count
 
 -- a binder's first value is one variable more in its second operand
 pub record BindPre (kind : ℕ) (env : List Span) (n start end : ℕ) : Type 0 where
@@ -51,8 +51,8 @@ pub record CopyPre (w : List ℕ) (from to top : ℕ) : Type 0 where
   pub apart : (top ≤ from) ⊎ (to ≤ top)
 
 -- ANSWERS made of parts
-abbrev pub ended_by : Progress → (at next end : ℕ) → Evaluated
-ended_by p i j e = record { progress = p; place = cond (eqb p.number 0) j i; end = e }
+abbrev pub ended_by : Progress → (at next end : ℕ) → List Span → Evaluated
+ended_by p i j e ss = record { progress = p; place = cond (eqb p.number 0) j i; end = e; env = ss }
 
 -- 8, past the limit of items
 abbrev pub limited_by : Evaluated → (top at : ℕ) → Evaluated
@@ -60,7 +60,7 @@ limited_by x t i = cond (ltb max_items (x.end - t)) (came_out (Err (record { rea
 
 -- the same at another place
 abbrev pub moved_to : (place : ℕ) → Evaluated → Evaluated
-moved_to i x = record { progress = x.progress; place = i; end = x.end }
+moved_to i x = record { progress = x.progress; place = i; end = x.end; env = x.env }
 
 -- a value of one row
 pub record PutPre (w : List ℕ) (top row : ℕ) : Type 0 where
@@ -75,8 +75,8 @@ HeldIn s = Held s.rows s.history s.progress
 abbrev pub AfterIn : (before after : Machine) → Type 0
 AfterIn s s' = After s.rows s.history s.progress s'.rows s'.history s'.progress
 
--- FINE: where nothing is refused, rows and records are only added, the value stands from top on, the area below is as it was, and the
--- place is next, past the expression
+-- FINE: where nothing is refused, rows and records are only added, the value stands from top on, the area below is as it was, the place is
+-- next, past the expression, and the variables in scope are handed back
 pub record Fine (next : ℕ) (f : Frame) (s s' : Machine) : Type 0 where
   pub after : AfterIn s s'
   pub size : length s'.work ≡ length s.work
@@ -85,6 +85,8 @@ pub record Fine (next : ℕ) (f : Frame) (s s' : Machine) : Type 0 where
   pub short : s'.end ≤ f.top + max_items
   pub rows : AreRows s'.progress.count (value_in f s')
   pub place : s'.place ≡ next
+  pub spans : length s'.env ≡ max_binders
+  pub scope : take f.bound s'.env ≡ take f.bound s.env
 
 -- YIELDS: what an expression or a part of one leaves of a machine is, in the model, the goal
 pub record Yields (goal : Out) (next : ℕ) (f : Frame) (s s' : Machine) : Type 0 where
@@ -108,6 +110,7 @@ pub record ValuePre (top : ℕ) (s : Machine) : Type 0 where
   pub short : s.end ≤ top + max_items
   pub room : top + max_items ≤ length s.work
   pub rows : AreRows s.progress.count (value_at s.work top s.end)
+  pub spans : length s.env ≡ max_binders
 
 -- ONE OPERAND: the record at a place is whole, and its fields are in range
 pub record OperatorPre (b : List ℕ) (at : ℕ) : Type 0 where
@@ -130,8 +133,7 @@ pub record OperatorPost (b : List ℕ) (at : ℕ) (o : Operator) : Type 0 where
 -- whatever the variables in scope and the marks are
 abbrev pub UnaryPost : Operator → (top : ℕ) → (before after : Machine) → Type 0
 UnaryPost o t s s' =
-    (n : ℕ) (env : List Span) (ms : List ℕ) →
-    Yields (unary_by o (value_in (frame n env ms t) s) (state_in (frame n env ms t) s)) s.place (frame n env ms t) s s'
+    (n : ℕ) (ms : List ℕ) → Yields (unary_by o (value_in (frame n ms t) s) (state_in (frame n ms t) s)) s.place (frame n ms t) s s'
 
 -- TWO OPERANDS: the first one's value stands from top up to mid, the second's from there on
 pub record BinaryPre (top mid : ℕ) (s : Machine) : Type 0 where
@@ -142,9 +144,8 @@ pub record BinaryPre (top mid : ℕ) (s : Machine) : Type 0 where
 
 abbrev pub BinaryPost : (kind at top mid : ℕ) → (before after : Machine) → Type 0
 BinaryPost k i t m s s' =
-    (n : ℕ) (env : List Span) (ms : List ℕ) →
-    Yields (binary_of k i (value_at s.work t m) (value_at s.work m s.end) (state_in (frame n env ms t) s)) s.place
-    (frame n env ms t) s s'
+    (n : ℕ) (ms : List ℕ) →
+    Yields (binary_of k i (value_at s.work t m) (value_at s.work m s.end) (state_in (frame n ms t) s)) s.place (frame n ms t) s s'
 
 -- the room that an expression so deep may take: each level keeps a value, and a loop its items and its results so far
 abbrev pub room_of : (left : ℕ) → ℕ

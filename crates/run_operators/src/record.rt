@@ -22,12 +22,13 @@ use script_records::pick::Relation;
 use script_records::step::Step;
 use script_records::walk;
 
-// After an expression: how far the run has come; the place past it; the end of its value.
+// After an expression: how far the run has come; the place past it; the end of its value; the variables.
 #[derive(Clone, Copy)]
 pub struct Evaluated {
     pub progress: Progress,
     pub place: usize,
     pub end: usize,
+    pub env: [Span; Table::BINDERS],
 }
 
 // 8 at a place where the value from top on has passed the limit.
@@ -49,10 +50,12 @@ pub fn past(script: &[u8], x: Evaluated) -> Evaluated
     ensures { going_on result ≡ moved_to (end_at script.now x.place) (going_on x) }
 {
     let p = x.progress;
+    let env = x.env;
     Evaluated {
         progress: p,
         place: walk::end_at(script, x.place),
         end: x.end,
+        env,
     }
 }
 
@@ -64,7 +67,7 @@ pub fn nullary(
     at: usize,
     left: usize,
     bound: usize,
-    env: &[Span; Table::BINDERS],
+    env: [Span; Table::BINDERS],
     marks: &[u16],
     rows: &mut [u32],
     history: &mut [u8],
@@ -72,12 +75,12 @@ pub fn nullary(
     top: usize,
     p: Progress,
 ) -> Result<Evaluated, Refusal>
-    requires eval_pre { EvalPre script.now left (frame bound env.now marks.now top)
-        (machine rows.old history.old work.old (begun (going p) at top)) }
+    requires eval_pre { EvalPre script.now left (frame bound marks.now top)
+        (machine rows.old history.old work.old (begun (going p) at top env)) }
     requires is { byte_of kind ≡ get_or script.now at 0 }
     requires at_value { arity (byte_of kind) ≡ 0 }
-    ensures { EvalPost script.now left (frame bound env.now marks.now top)
-        (machine rows.old history.old work.old (begun (going p) at top))
+    ensures { EvalPost script.now left (frame bound marks.now top)
+        (machine rows.old history.old work.old (begun (going p) at top env))
         (machine rows.new history.new work.new (came_out result)) }
 {
     match kind {
@@ -85,6 +88,7 @@ pub fn nullary(
             progress: p,
             place: at + 1,
             end: top,
+            env,
         }),
         Kind::Document => {
             let end = value::document(marks, usize::from(script[at + 1]), work, top);
@@ -92,6 +96,7 @@ pub fn nullary(
                 progress: p,
                 place: at + 2,
                 end,
+                env,
             })
         }
         Kind::Variable => {
@@ -103,6 +108,7 @@ pub fn nullary(
                 progress: p,
                 place: at + 2,
                 end,
+                env,
             })
         }
         Kind::NewElement => {
@@ -117,6 +123,7 @@ pub fn nullary(
                 progress: q,
                 place: at + 2,
                 end,
+                env,
             })
         }
         Kind::NewLeaf => {
@@ -131,6 +138,7 @@ pub fn nullary(
                 progress: q,
                 place: at + 2,
                 end,
+                env,
             })
         }
         Kind::Step | Kind::Join | Kind::Let | Kind::For | Kind::If => unreachable!(),
@@ -184,22 +192,26 @@ pub fn applied(
         (machine rows.new history.new work.new (going_on result)) }
 {
     let p = x.progress;
+    let env = x.env;
     let to = x.end;
     match operator {
         Operator::Step(step) => Evaluated {
             progress: p,
             place: x.place,
             end: step::stepped(rows, p.count, index, step, work, top, to),
+            env,
         },
         Operator::Delete => Evaluated {
             progress: update::delete(rows, history, p, &work[top..to]),
             place: x.place,
             end: top,
+            env,
         },
         Operator::Pick(relation, constant) => Evaluated {
             progress: p,
             place: x.place,
             end: pick::picked(rows, relation, constant, work, top, to),
+            env,
         },
     }
 }
@@ -220,6 +232,7 @@ pub fn combined(
         (machine rows.new history.new work.new (came_out result)) }
 {
     let p = y.progress;
+    let env = y.env;
     let to = y.end;
     match kind {
         Kind::Join => limited(y, top, at),
@@ -231,6 +244,7 @@ pub fn combined(
                 progress: q,
                 place: y.place,
                 end: top,
+                env,
             })
         }
         // A let, or a for.
@@ -240,6 +254,7 @@ pub fn combined(
                 progress: p,
                 place: y.place,
                 end,
+                env,
             })
         }
     }

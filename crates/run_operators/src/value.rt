@@ -51,15 +51,15 @@ pub fn put_row(row: RowNumber, work: &mut [u16], top: usize) -> usize
 // The variables of the second operand: a binder's first value is one more.
 pub fn bind(
     kind: Kind,
-    env: &[Span; Table::BINDERS],
+    env: [Span; Table::BINDERS],
     bound: usize,
     start: usize,
     end: usize,
 ) -> [Span; Table::BINDERS]
-    requires { BindPre (byte_of kind) env.now bound start end }
-    ensures { BindPost (byte_of kind) env.now bound start end result }
+    requires { BindPre (byte_of kind) env bound start end }
+    ensures { BindPost (byte_of kind) env bound start end result }
 {
-    let mut inside = *env;
+    let mut inside = env;
     if kind.is_binder() {
         inside[bound] = Span {
             start: start as u16,

@@ -15,8 +15,8 @@ decreases-binary l = per_record * records_at l.left l.program.script.now l.x.pla
 
 abbrev pub decreases-branch : goal.decreases-branch
 decreases-branch l =
-    per_record * (records_at l.left l.program.script.now l.x.place + records_at l.left l.program.script.now
-    (end_at l.program.script.now l.x.place)) + 2
+    let b = l.program.script.now in
+    per_record * (records_at l.left b l.x.place + records_at l.left b (end_at b l.x.place)) + 2
 
 abbrev pub decreases-each : goal.decreases-each
 decreases-each l = per_record * records_at l.left l.program.script.now l.at + 2 + (l.to - l.from)
