@@ -22,7 +22,8 @@ use script_records::pick::Relation;
 use script_records::step::Step;
 use script_records::walk;
 
-// After an expression: how far the run has come; the place past it; the end of its value; the variables.
+// After an expression: how far the run has come; the place past it; the end of its value; the variables, an array by value that is handed
+// back, since document 01 names this form.
 #[derive(Clone, Copy)]
 pub struct Evaluated {
     pub progress: Progress,
